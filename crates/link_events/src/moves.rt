@@ -113,7 +113,7 @@ impl<P: Peer> Ledger<P> {
             (planned P.cmp self.new)) }
         ensures joins { OnOk result ((message : AnyMessage P)
             × (first_of P.cmp (planned P.cmp self.old).waiting origin.now recipient.now ≡ Some (message_of message))
-            × Joins now message self.old.flights self.new.flights) }
+            × Joins self.old.next_id now message self.old.flights self.new.flights) }
         ensures stale { OnOk result (self.new.stale ≡ self.old.stale) }
         ensures refused { IfErr result (λ e. e ≡ Error.OutOfMemory) }
     {
@@ -127,7 +127,7 @@ impl<P: Peer> Ledger<P> {
             self.idle = IdlePairs::new();
             return Err(error);
         }
-        if let Err(error) = self.flights.push(message, now) {
+        if let Err(error) = self.flights.push(self.next_id, message, now) {
             // What stopped half-way is given up.
             self.waiting = Waiting::new();
             self.idle = IdlePairs::new();
@@ -148,7 +148,7 @@ impl<P: Peer> Ledger<P> {
         ensures refused { IfErr result (λ e. e ≡ Error.OutOfMemory) }
     {
         let message = Rc::new(self.alloc, message)?;
-        self.flights.push(message, now)?;
+        self.flights.push(self.next_id, message, now)?;
         self.next_id += 1;
         Ok(())
     }

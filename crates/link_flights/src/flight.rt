@@ -24,6 +24,8 @@ pub(crate) struct Flight<P> {
     pub(crate) rate: Option<Rc<Natural>>,
     /// The units that were left at the moment `since`.
     pub(crate) left: Natural,
+    /// Its flow id.
+    pub(crate) id: u64,
 }
 
 impl<P: Peer> Flight<P> {
@@ -97,6 +99,7 @@ impl<P: Peer> Flight<P> {
     /// The same message, with what is left at the moment of the last account, and `now` in the
     /// place of that moment.
     pub(crate) fn brought_to(&self, at: u64, now: u64) -> Result<Flight<P>, Error>
+        ensures id { IfOk result (λ one. one.id ≡ self.now.id) }
         ensures message { IfOk result (λ one. one.message.value ≡ self.now.message.value) }
         ensures left { IfOk result (λ one. one.left ≡ (flight_at at self.now).left) }
         ensures rate { IfOk result (λ one. rate_of one.rate ≡ rate_of self.now.rate) }
@@ -105,6 +108,7 @@ impl<P: Peer> Flight<P> {
         ensures refused { IfErr result (λ e. e ≡ Error.OutOfMemory) }
     {
         Ok(Flight {
+            id: self.id,
             message: self.message.clone()?,
             left: self.left_at(at)?,
             rate: self.rate.clone()?,
@@ -138,6 +142,7 @@ impl<P: Peer> Flight<P> {
         now: u64,
     ) -> Result<(), Error>
         requires left { (flight_at now self.old).left * product growth.now ≢ 0 }
+        ensures id { OnOk result (self.new.id ≡ self.old.id) }
         ensures message { OnOk result (self.new.message.value ≡ self.old.message.value) }
         ensures left { OnOk result (self.new.left ≡ (flight_at now self.old).left * product growth.now) }
         ensures rate { OnOk result (rate_of self.new.rate ≡ rate_of rate) }
@@ -171,6 +176,7 @@ impl<P: Peer> Flight<P> {
         now: u64,
     ) -> Result<Flight<P>, Error>
         requires { (flight_at now self.now).left * product growth.now ≢ 0 }
+        ensures id { IfOk result (λ one. one.id ≡ self.now.id) }
         ensures message { IfOk result (λ one. one.message.value ≡ self.now.message.value) }
         ensures left { IfOk result (λ one. one.left ≡ (flight_at now self.now).left * product growth.now) }
         ensures rate { IfOk result (λ one. rate_of one.rate ≡ rate_of rate) }
@@ -183,6 +189,7 @@ impl<P: Peer> Flight<P> {
         grow(&mut left, growth)?;
         let finish = finish_of(&left, &rate, now);
         Ok(Flight {
+            id: self.id,
             message: self.message.clone()?,
             left,
             rate,

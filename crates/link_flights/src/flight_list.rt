@@ -101,7 +101,8 @@ impl<P: Peer> Flights<P> {
 
     /// No message is in flight.
     pub fn new(alloc: Global) -> Self
-        ensures { result.list.items ≡ [] }
+        ensures list { result.list.items ≡ [] }
+        ensures at { result.at ≡ 0 }
     {
         Flights {
             alloc,
@@ -132,10 +133,12 @@ impl<P: Peer> Flights<P> {
         is_sent_by_any(origin, recipient, &self.list)
     }
 
-    /// The message is in flight from now on. It gets its rate at the account that follows.
-    pub fn push(&mut self, message: Rc<Message<P>>, now: u64) -> Result<(), Error>
+    /// The message is in flight under that flow id from now on. It gets its rate at the account that
+    /// follows.
+    pub fn push(&mut self, id: u64, message: Rc<Message<P>>, now: u64) -> Result<(), Error>
         ensures sending { OnOk result (in_flight self.new ≡ in_flight self.old
             ++ record {
+              id = id;
               message = message_of message.value;
               left = whole (length message.value.bytes);
               rate = Some (whole 0);
@@ -145,13 +148,14 @@ impl<P: Peer> Flights<P> {
         ensures floor { self.new.floor ≡ self.old.floor }
         ensures rated { rated_ones (in_units self.new) ≡ rated_ones (in_units self.old) }
         ensures timed { AreTimed self.old.list.items → AreTimed self.new.list.items }
-        ensures joined { OnOk result (Joins now message.value self.old self.new) }
+        ensures joined { OnOk result (Joins id now message.value self.old self.new) }
         ensures kept { OnErr result (in_flight self.new ≡ in_flight self.old) }
         ensures refused { IfErr result (λ e. e ≡ Error.OutOfMemory) }
     {
         let units = message.bytes.len() as u128 * UNITS_A_BYTE;
         let left = self.scale.product(units)?;
         let flight = Flight {
+            id,
             message,
             left,
             rate: None,

@@ -146,6 +146,7 @@ module _ {P : Type 0} (cmp : P → P → Ordering) where
         accounts_keep cmp t (launched cmp t old m) new leavers a in
         let more : length (launched cmp t old m).sending ≡ length old.sending + 1
         = length-append old.sending (record {
+          id = old.next_id;
           message = m;
           left = whole (length m.bytes);
           rate = Some (whole 0);

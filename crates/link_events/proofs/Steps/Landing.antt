@@ -94,8 +94,8 @@ module _ {P : Type 0} (cmp : P → P → Ordering) (order : IsTotalOrder cmp) wh
   -- the one planned world to the other
   pub leaves_landing : (t : ℕ) (old new : Planned P) (stay : List (RatedFlight P)) (arrivals : P → P → Option ℕ)
       (done : List (Message P)) (deliver_at since : Option ℕ)
-      → Leaves cmp t old done (record old { sending = stay })
-      → new ≡ record old { sending = stay; last_arrival = arrivals }
+      → Leaves cmp t old done (record old { sending = stay; accounted = t })
+      → new ≡ record old { sending = stay; last_arrival = arrivals; accounted = t }
       → FirstLands cmp t done old.last_arrival arrivals deliver_at → since ≡ since_of_first cmp new done
       → LeavesLanding cmp t old done deliver_at since new
   leaves_landing t old new stay arrivals [] deliver_at since leaves new_is lands idle =
@@ -103,18 +103,18 @@ module _ {P : Type 0} (cmp : P → P → Ordering) (order : IsTotalOrder cmp) wh
         leaves =
             subst (Leaves cmp t old [])
             (sym
-            (new_is ∙ ap (λ (l : P → P → Option ℕ). record old { sending = stay; last_arrival = l }) lands.0))
+            (new_is ∙ ap (λ (l : P → P → Option ℕ). record old { sending = stay; last_arrival = l; accounted = t }) lands.0))
             leaves;
         no_arrival = lands.1;
         no_next = idle;
       }
   leaves_landing t old new stay arrivals (m ∷ ms) deliver_at since leaves new_is lands idle =
       record {
-        here = record old { sending = stay };
+        here = record old { sending = stay; accounted = t };
         leaves = leaves;
         lands =
-            landed_so cmp t (record old { sending = stay }) new m lands.at lands.moment
-            (new_is ∙ ap (λ (l : P → P → Option ℕ). record old { sending = stay; last_arrival = l }) lands.raised);
+            landed_so cmp t (record old { sending = stay; accounted = t }) new m lands.at lands.moment
+            (new_is ∙ ap (λ (l : P → P → Option ℕ). record old { sending = stay; last_arrival = l; accounted = t }) lands.raised);
         in_time = lands.in_time;
         completion = lands.completion;
         idle = idle;

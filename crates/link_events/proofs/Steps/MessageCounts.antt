@@ -55,7 +55,7 @@ module _ {P : Type 0} (cmp : P → P → Ordering) where
       let left : length leavers ≡ length (filter (is_spent cmp old.caps) here) =
       ap length a.left ∙ length-map (filter (is_spent cmp old.caps) here) (λ (f : RatedFlight P). f.message) in
       let stayed : length (filter (λ f. not (is_spent cmp old.caps f)) here) ≡ length new.sending
-      = zip-length (λ (f g : RatedFlight P). (g.message ≡ f.message) × (g.left ≡ f.left)
+      = zip-length (λ (f g : RatedFlight P). (g.id ≡ f.id) × (g.message ≡ f.message) × (g.left ≡ f.left)
       × (g.updated ≡ t)) _ new.sending a.stayed in
       let both : length (filter (is_spent cmp old.caps) here) + length
       (filter (λ f. not (is_spent cmp old.caps f)) here) ≡ length here
@@ -85,6 +85,7 @@ module _ {P : Type 0} (cmp : P → P → Ordering) where
         accounts_keep t (launched cmp t old m) q ls a in
         let more : length (launched cmp t old m).sending ≡ length old.sending + 1
         = length-append old.sending (record {
+          id = old.next_id;
           message = m;
           left = whole (length m.bytes);
           rate = Some (whole 0);

@@ -1,10 +1,9 @@
 -- The rates of an account, once a message that is done has landed, and the next one of its pair starts or waits.
-use Rattle.std.proofs.Common.{◌≡◌, ℕ, ◌<◌, true, false, not, List, [], length, Some, refl}
+use Rattle.std.proofs.Common.{◌≡◌, ℕ, ◌<◌, true, false, not, List, [], Some, refl}
 use Rattle.std.proofs.Common.{sym, ap, ◌∙◌, subst}
 use Rattle.std.specs.List.{filter}
 use Rattle.std.specs.declared.cmp.Ordering.{Ordering}
 use Rattle.std.specs.Cmp.{IsTotalOrder}
-use Rattle.fair_rates.specs.Numbers.Amount.{whole}
 use Rattle.fair_rates.specs.declared.error.Error.{Error}
 use Rattle.link_simulation.specs.Simulation.Messages.{Message}
 use Rattle.link_simulation.specs.Simulation.World.{Course, goes, meets, last_moment}
@@ -15,7 +14,7 @@ use Rattle.link_simulation.specs.Rule.Events.{Accounts, Launches, landed, launch
 use Rattle.link_simulation.specs.Rule.Leaving.{Leaves}
 use Rattle.link_simulation.proofs.Laws.Orderly.{stayed_messages}
 use Rattle.link_simulation.proofs.Rule.Following.{lands, none_leaves_again, follows}
-use Rattle.link_simulation.proofs.Rule.OneAccount.{AreLowest}
+use Rattle.link_simulation.proofs.Rule.OneAccount.{AreLowest, starting}
 use Rattle.link_simulation.proofs.Simulation.RefusalCauses.{refused_more}
 use Rattle.link_pairs.specs.Pairs.Entries.{first_of}
 use Rattle.link_waiting.specs.Idle.Index.{idle_from}
@@ -78,43 +77,38 @@ module _ {P : Type 0} (cmp : P → P → Ordering) (order : IsTotalOrder cmp) (t
   module _ (old here there : Planned P) (m next : Message P) (ls : List (Message P)) (scale : ℕ)
       (us : List (UnitFlight P)) (some : 0 < scale) (read : there.sending ≡ sending_of scale us)
       (is : there ≡ landed cmp t here m) (lv : Leaves cmp t old ls here)
-      (stays : is_spent cmp there.caps
-      (record { message = next; left = whole (length next.bytes); rate = Some (whole 0); updated = t }) ≡ false)
-    where
-      kept : here.sending ≡ sending_of scale us
-      kept = sym (ap (λ (p : Planned P). p.sending) is) ∙ read
+      (stays : is_spent cmp there.caps (starting cmp order there.next_id t next) ≡ false) where
+    kept : here.sending ≡ sending_of scale us
+    kept = sym (ap (λ (p : Planned P). p.sending) is) ∙ read
 
-      still : drained_to t here.sending ≡ here.sending
-      still =
-          subst (λ (fs : List (RatedFlight P)). drained_to t fs ≡ fs) (sym kept)
-          (still_as_read scale t us some
-          (left_updated scale t (λ f. not (is_spent cmp old.caps f)) us old.sending
-          (sym kept ∙ ap (λ (p : Planned P). p.sending) lv.is)))
+    still : drained_to t here.sending ≡ here.sending
+    still =
+        subst (λ (fs : List (RatedFlight P)). drained_to t fs ≡ fs) (sym kept)
+        (still_as_read scale t us some
+        (left_updated scale t (λ f. not (is_spent cmp old.caps f)) us old.sending
+        (sym kept ∙ ap (λ (p : Planned P). p.sending) lv.is)))
 
-      stays_here : is_spent cmp here.caps
-          (record { message = next; left = whole (length next.bytes); rate = Some (whole 0); updated = t }) ≡ false
-      stays_here =
-          subst (λ (p : Planned P). is_spent cmp p.caps
-          (record { message = next; left = whole (length next.bytes); rate = Some (whole 0); updated = t }) ≡ false)
-          is stays
+    stays_here : is_spent cmp here.caps (starting cmp order here.next_id t next) ≡ false
+    stays_here =
+        subst (λ (p : Planned P). is_spent cmp p.caps (starting cmp order p.next_id t next) ≡ false) is stays
 
-      -- nothing more leaves
-      pub leaves_started : (started : Planned P) → started ≡ launched cmp t there next
-          → Leaves cmp t (launched cmp t (landed cmp t here m) next) [] started
-      leaves_started started e =
-          subst (Leaves cmp t (launched cmp t (landed cmp t here m) next) [])
-          (sym (e ∙ ap (λ (p : Planned P). launched cmp t p next) is))
-          (none_leaves_again cmp order t old here m next ls lv still stays_here)
+    -- nothing more leaves
+    pub leaves_started : (started : Planned P) → started ≡ launched cmp t there next
+        → Leaves cmp t (launched cmp t (landed cmp t here m) next) [] started
+    leaves_started started e =
+        subst (Leaves cmp t (launched cmp t (landed cmp t here m) next) [])
+        (sym (e ∙ ap (λ (p : Planned P). launched cmp t p next) is))
+        (none_leaves_again cmp order t old here m next ls lv still stays_here)
 
-      -- and the account is one of those that left, and of the start
-      pub started_rated : (new : Planned P) → first_of cmp there.waiting m.origin m.recipient ≡ Some next
-          → may_launch cmp t there next ≡ true → there.next_id < last_moment
-          → Accounts cmp t (launched cmp t (landed cmp t here m) next) [] new
-          → (mid : Planned P) × Accounts cmp t old ls mid
-          × Launches cmp t (landed cmp t mid m) (next_of cmp mid m) (goes [] new)
-      started_rated new found may id a =
-          follows cmp order t old here new m next ls lv
-          (subst (λ (fs : List (RatedFlight P)). AreLowest fs) (sym kept) (read_lowest scale us some)) still
-          (subst (λ (p : Planned P). next_of cmp p m ≡ Some next) is found)
-          (subst (λ (p : Planned P). may_launch cmp t p next ≡ true) is may)
-          (subst (λ (p : Planned P). p.next_id < last_moment) is id) stays_here a
+    -- and the account is one of those that left, and of the start
+    pub started_rated : (new : Planned P) → first_of cmp there.waiting m.origin m.recipient ≡ Some next
+        → may_launch cmp t there next ≡ true → there.next_id < last_moment
+        → Accounts cmp t (launched cmp t (landed cmp t here m) next) [] new
+        → (mid : Planned P) × Accounts cmp t old ls mid
+        × Launches cmp t (landed cmp t mid m) (next_of cmp mid m) (goes [] new)
+    started_rated new found may id a =
+        follows cmp order t old here new m next ls lv
+        (subst (λ (fs : List (RatedFlight P)). AreLowest fs) (sym kept) (read_lowest scale us some)) still
+        (subst (λ (p : Planned P). next_of cmp p m ≡ Some next) is found)
+        (subst (λ (p : Planned P). may_launch cmp t p next ≡ true) is may)
+        (subst (λ (p : Planned P). p.next_id < last_moment) is id) stays_here a

@@ -80,7 +80,9 @@ module _ {P : Type 0} (cmp : P → P → Ordering) (order : IsTotalOrder cmp) wh
         fair = a.fair;
         rated = a.rated;
         finish = a.finish;
-        same = refl;
+        same =
+            let at : here.accounted ≡ now = ap (λ (q : Planned P). q.accounted) a.same in
+            λ i. record (with_queued cmp here m) { accounted = at i; start = next.start };
       })
 
   waits_due : (now : ℕ) (m : Message P) (here next w : Planned P) → here.limited ≡ true
@@ -152,7 +154,7 @@ module _ {P : Type 0} (cmp : P → P → Ordering) (order : IsTotalOrder cmp) wh
   starts_from now m here mid next w h is looks positive a =
       let so = starts_so now here m h.starts in
       one_starts cmp order now m here next w a positive so.limited (found_alone here m so.alone) so.may h.id
-      (starts_unspent cmp here.caps m now h.some_bytes h.capped)
+      (starts_unspent cmp here.caps m here.next_id now h.some_bytes h.capped)
       (subst (λ (q : Planned P). PlansStart cmp now q next) is looks)
 
   pub goes_starting : (now : ℕ) (m : Message P) (standing : Standing) (here mid next w : Planned P)

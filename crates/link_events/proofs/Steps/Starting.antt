@@ -29,10 +29,10 @@ use Rattle.link_events.specs.Steps.Starting.{WouldStay, StartsNext}
 
 module _ {P : Type 0} (cmp : P → P → Ordering) where
   -- a message with bytes that uses a capped side is not done as it starts
-  pub starts_unspent : (caps : Caps P) (m : Message P) (t : ℕ) → length m.bytes ≢ 0 → is_unlimited cmp caps m ≡ false
+  pub starts_unspent : (caps : Caps P) (m : Message P) (id t : ℕ) → length m.bytes ≢ 0 → is_unlimited cmp caps m ≡ false
       → is_spent cmp caps
-      (record { message = m; left = whole (length m.bytes); rate = Some (whole 0); updated = t }) ≡ false
-  starts_unspent caps m t some_bytes capped =
+      (record { id = id; message = m; left = whole (length m.bytes); rate = Some (whole 0); updated = t }) ≡ false
+  starts_unspent caps m id t some_bytes capped =
       or_from (length m.bytes == 0) (is_unlimited cmp caps m) (not_none (length m.bytes == 0) refl) capped
     where
       not_none : (b : Bool) → (length m.bytes == 0) ≡ b → b ≡ false
@@ -50,12 +50,12 @@ module _ {P : Type 0} (cmp : P → P → Ordering) where
         → may_launch_first cmp t (planned cmp old) (first_of cmp (planned cmp old).waiting o r) ≡ true
         → HasDeparted cmp t (planned cmp old) o r (planned cmp new)
         → first_of cmp (planned cmp old).waiting o r ≡ Some (message_of joined)
-        → Joins t joined old.flights new.flights → StartsNext cmp t o r old new
+        → Joins old.next_id t joined old.flights new.flights → StartsNext cmp t o r old new
     starts_next old new m joined found would may departed first joins =
         let p : Planned P = planned cmp old in
         let n : Message P = message_of joined in
         let stay : WouldStay cmp p n = subst (WouldStay cmp p) (the_same found first) would in
-        let unspent = starts_unspent p.caps n t stay.some_bytes stay.capped in
+        let unspent = starts_unspent p.caps n p.next_id t stay.some_bytes stay.capped in
         let is : planned cmp new ≡ launched cmp t p n =
         departed.is ∙ pushed_is cmp order t p o r departed.message departed.first
         ∙ ap (launched cmp t p) (the_same departed.first first) in
@@ -69,7 +69,7 @@ module _ {P : Type 0} (cmp : P → P → Ordering) where
           at = joins.at;
           fair = λ done had.
               subst (λ caps. HadFairRates cmp caps new.flights done) (sym (ap (λ (q : Planned P). q.caps) is))
-              (fair_with cmp p.caps t joined old.flights new.flights done joins unspent had);
+              (fair_with cmp p.caps p.next_id t joined old.flights new.flights done joins unspent had);
         }
 
 -- a pair that is listed is idle from that moment on

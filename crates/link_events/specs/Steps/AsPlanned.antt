@@ -17,6 +17,7 @@ planned cmp w = record {
   waiting = map message_of w.waiting.messages;
   last_arrival = arrival_of cmp w.pairs.entries;
   next_id = w.next_id;
+  accounted = w.flights.at;
   finish = w.finish;
   start = w.start;
 }

@@ -28,7 +28,13 @@ pub record StartsNext {P : Type 0} {a : _} {b : _} {c : _} (cmp : P → P → Or
   pub may : may_launch cmp t (planned cmp old) next ≡ true
   pub id : old.next_id < last_moment
   pub stays : is_spent cmp (planned cmp old).caps
-      (record { message = next; left = whole (length next.bytes); rate = Some (whole 0); updated = t }) ≡ false
+      (record {
+        id = old.next_id;
+        message = next;
+        left = whole (length next.bytes);
+        rate = Some (whole 0);
+        updated = t;
+      }) ≡ false
   pub is : planned cmp new ≡ launched cmp t (planned cmp old) next
   pub at : new.flights.at ≡ old.flights.at
   pub fair : (done : List (Message P))

@@ -29,13 +29,14 @@ use Rattle.link_flights.proofs.Flights.Units.{grown_left, units_positive, nothin
 -- each stays, and what is left of it is worth the same in smaller units
 stayed_so : {P : Type 0} (now scale grown times : ℕ) → 0 < scale → 0 < grown → grown ≡ scale * times
     → (us vs : List (UnitFlight P)) → AllZip (IsRatedFrom now times) us vs
-    → AllZip (λ f g. (g.message ≡ f.message) × (g.left ≡ f.left) × (g.updated ≡ now)) (sending_of scale us)
-    (sending_of grown vs)
+    → AllZip (λ f g. (g.id ≡ f.id) × (g.message ≡ f.message) × (g.left ≡ f.left) × (g.updated ≡ now))
+    (sending_of scale us) (sending_of grown vs)
 stayed_so now scale grown times some more is [] [] each = tt
 stayed_so now scale grown times some more is [] (v ∷ vs) each = absurd each
 stayed_so now scale grown times some more is (u ∷ us) [] each = absurd each
 stayed_so now scale grown times some more is (u ∷ us) (v ∷ vs) each = (
   (
+    each.0.id,
     ap message_of each.0.message,
     ap (λ n. reduced n (grown * billion)) each.0.left ∙ grown_left scale times grown u.left some more is,
     each.0.updated,
@@ -122,7 +123,7 @@ pub accounts_so : {P : Type 0} (cmp : P → P → Ordering) (now : ℕ) (old : P
     → (leavers : List (Message P)) (finish : Option ℕ)
     → leavers ≡ rated_messages (filter (is_spent cmp old.caps) (drained_to now old.sending))
     → IsLeastMoment (λ s. SomeSpentAt (sending_of grown vs) s) finish
-    → Accounts cmp now old leavers (record old { sending = sending_of grown vs; finish = finish })
+    → Accounts cmp now old leavers (record old { sending = sending_of grown vs; accounted = now; finish = finish })
 accounts_so {P} cmp now old scale grown times some more is us vs rest each fair leavers finish left least =
     let parts : ℕ → ℕ = slice_index (rates_of vs) in
     let ms : List (Message P) = rated_messages (sending_of grown vs) in
@@ -138,7 +139,8 @@ accounts_so {P} cmp now old scale grown times some more is us vs rest each fair 
       stayed =
           subst
           (λ (stay : List (RatedFlight P)). AllZip
-          (λ f g. (g.message ≡ f.message) × (g.left ≡ f.left) × (g.updated ≡ now)) stay (sending_of grown vs))
+          (λ f g. (g.id ≡ f.id) × (g.message ≡ f.message) × (g.left ≡ f.left) × (g.updated ≡ now)) stay
+          (sending_of grown vs))
           rest
           (stayed_so now scale grown times some more is us vs each);
       fair =

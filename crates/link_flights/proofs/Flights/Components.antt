@@ -359,7 +359,7 @@ module _ {P : Type 0} (cmp : P → P → Ordering) (component : Component P) whe
             → AllZip (IsRatedFrom now times) (u ∷ us)
             (cond b (anew rate u ∷ again rates us) (u ∷ again (rate ∷ rates) us))
         by_test true is ih = (
-          record { message = refl; left = refl; updated = refl; rated = refl },
+          record { id = refl; message = refl; left = refl; updated = refl; rated = refl },
           ih rates (omega (arith, one_each, ap length (filter_yes (is_of cmp component) u us is))),
         )
         by_test false is ih =
@@ -564,6 +564,7 @@ module _ {P : Type 0} (cmp : P → P → Ordering) (component : Component P) whe
         → AllZip (IsRatedFrom now times) us (rerated cmp component now times rates us)
     component_rerated now times rates one updated one_each =
         rated_each now times rates us one_each (λ u among out. record {
+          id = refl;
           message = refl;
           left = as_much u.left;
           updated = All-contains (λ u. u.updated ≡ now) us u updated (contains_from_in us u among);

@@ -100,6 +100,7 @@ module _ {P : Type 0} where
     where
       as_record : ℕ → UnitFlight P
       as_record n = record {
+        id = f.id;
         message = f.message.value;
         left = n;
         rate = rate_of f.rate;
@@ -108,19 +109,20 @@ module _ {P : Type 0} where
       }
 
   -- one that is brought to an earlier moment, or that has no rate yet, drains to that moment
-  pub brought : (at now : ℕ) (f g : Flight P) → now ≤ at ⊎ f.rated ≡ false → g.message.value ≡ f.message.value
-      → g.left ≡ (flight_at at f).left → rate_of g.rate ≡ rate_of f.rate → g.since ≡ now → g.rated ≡ f.rated
-      → DrainsTo now (flight_at at f) (flight_at now g)
-  brought at now f g back message left rate since rated = by_flag f.rated refl
+  pub brought : (at now : ℕ) (f g : Flight P) → now ≤ at ⊎ f.rated ≡ false → g.id ≡ f.id
+      → g.message.value ≡ f.message.value → g.left ≡ (flight_at at f).left → rate_of g.rate ≡ rate_of f.rate
+      → g.since ≡ now → g.rated ≡ f.rated → DrainsTo now (flight_at at f) (flight_at now g)
+  brought at now f g back id message left rate since rated = by_flag f.rated refl
     where
       r : ℕ
       r = rate_of f.rate
 
       by_flag : (b : Bool) → f.rated ≡ b → DrainsTo now (flight_at at f) (flight_at now g)
-      by_flag true is = rw (rated, message, rate, since, is) (ap as_record rest)
+      by_flag true is = rw (rated, id, message, rate, since, is) (ap as_record rest)
         where
           as_record : ℕ → UnitFlight P
           as_record n = record {
+            id = f.id;
             message = f.message.value;
             left = n;
             rate = r;
@@ -142,10 +144,11 @@ module _ {P : Type 0} where
 
           rest : g.left - r * (now - now) ≡ left_by at f - r * (now - at)
           rest = ap (λ k. g.left - r * k) none ∙ ap (λ n. n - r * 0) all ∙ ap (λ k. left_by at f - r * k) (sym none_too)
-      by_flag false is = rw (rated, message, since, is) (ap as_record rest)
+      by_flag false is = rw (rated, id, message, since, is) (ap as_record rest)
         where
           as_record : ℕ → UnitFlight P
           as_record n = record {
+            id = f.id;
             message = f.message.value;
             left = n;
             rate = 0;
@@ -206,12 +209,12 @@ module _ {P : Type 0} where
 
   -- one that is brought to another moment
   pub is_brought : (at now : ℕ) (f g : Rc (Flight P) Global) → now < at ⊎ f.value.rated ≡ false
-      → g.value.message.value ≡ f.value.message.value → g.value.left ≡ (flight_at at f.value).left
-      → rate_of g.value.rate ≡ rate_of f.value.rate → g.value.since ≡ now → g.value.rated ≡ f.value.rated
-      → IsBrought at now f g
-  is_brought at now f g back message left rate since rated = record {
+      → g.value.id ≡ f.value.id → g.value.message.value ≡ f.value.message.value
+      → g.value.left ≡ (flight_at at f.value).left → rate_of g.value.rate ≡ rate_of f.value.rate
+      → g.value.since ≡ now → g.value.rated ≡ f.value.rated → IsBrought at now f g
+  is_brought at now f g back id message left rate since rated = record {
     drains =
-        brought at now f.value g.value (elim back [ inl lt ↦ inl (omega arith) | inr none ↦ inr none ]) message left
+        brought at now f.value g.value (elim back [ inl lt ↦ inl (omega arith) | inr none ↦ inr none ]) id message left
         rate
         since rated;
     past_now = so_past now g (omega (arith, since));
@@ -232,13 +235,14 @@ module _ {P : Type 0} where
       (is : x ≡ get_or so_far i x) where
     pub next_brought : (f : Flight P) (new : List (Rc (Flight P) Global)) → IsPutAt i f so_far new
         → now < at ⊎ x.value.rated ≡ false
-        → f.message.value ≡ x.value.message.value → f.left ≡ (flight_at at x.value).left
+        → f.id ≡ x.value.id → f.message.value ≡ x.value.message.value → f.left ≡ (flight_at at x.value).left
         → rate_of f.rate ≡ rate_of x.value.rate → f.since ≡ now → f.rated ≡ x.value.rated
         → IsChangedUpTo (IsBrought at now) old new (i + 1)
-    next_brought f new put back message left rate since rated =
+    next_brought f new put back id message left rate since rated =
         subst (λ l. IsChangedUpTo (IsBrought at now) old l (i + 1)) (sym put.others)
         (one_more (IsBrought at now) old so_far i h x put.one lt is
-        (is_brought at now x put.one back (ap (λ (y : Flight P). y.message.value) put.is ∙ message)
+        (is_brought at now x put.one back (ap (λ (y : Flight P). y.id) put.is ∙ id)
+        (ap (λ (y : Flight P). y.message.value) put.is ∙ message)
         (ap (λ (y : Flight P). y.left) put.is ∙ left)
         (ap (λ (y : Flight P). rate_of y.rate) put.is ∙ rate) (ap (λ (y : Flight P). y.since) put.is ∙ since)
         (ap (λ (y : Flight P). y.rated) put.is ∙ rated)))
@@ -254,7 +258,7 @@ module _ {P : Type 0} where
     next_stands true rated since past later = next_counted_on rated past later
     next_stands false none since past later =
         one_same (IsBrought at now) old so_far i x h lt is
-        (is_brought at now x x (inr none) refl
+        (is_brought at now x x (inr none) refl refl
         (sym (ap (λ b. if b then left_by at x.value else x.value.left) none)) refl (since none) refl)
 
   -- ---- all of them

@@ -98,12 +98,13 @@ module _ {P : Type 0} (cmp : P → P → Ordering) (caps : Caps P) where
   -- ---- one that joins
 
   -- the others had fair rates with those that left, as before
-  pub fair_with : {a : _} {b : _} {c : _} (now : ℕ) (m : code.Message P) (old new : Flights P a b c)
-      (done : List (Message P)) → Joins now m old new
+  pub fair_with : {a : _} {b : _} {c : _} (id now : ℕ) (m : code.Message P) (old new : Flights P a b c)
+      (done : List (Message P)) → Joins id now m old new
       → is_spent cmp caps
-      (record { message = message_of m; left = whole (length m.bytes); rate = Some (whole 0); updated = now }) ≡ false
+      (record { id = id; message = message_of m; left = whole (length m.bytes); rate = Some (whole 0); updated = now })
+      ≡ false
       → HadFairRates cmp caps old done → HadFairRates cmp caps new done
-  fair_with {a} {b} {c} now m old new done j stays h =
+  fair_with {a} {b} {c} id now m old new done j stays h =
       let out : UnitFlight P → Bool = is_out cmp caps new.scale in
       let in_it : out j.unit ≡ false = ap (is_spent cmp caps) j.is ∙ stays in
       let before : List (UnitFlight P) = h.before ++ j.unit ∷ [] in

@@ -93,14 +93,14 @@ module _ {P : Type 0} where
 -- ---- one that is rated anew, or goes on
 
 module _ {P : Type 0} (now times rate : ℕ) where
-  abbrev as_record : Message P → ℕ → UnitFlight P
-  as_record m n = record { message = m; left = n; rate = rate; updated = now; rated = true }
+  abbrev as_record : ℕ → Message P → ℕ → UnitFlight P
+  as_record id m n = record { id = id; message = m; left = n; rate = rate; updated = now; rated = true }
 
-  anew_is : (f x : Flight P) → f.message.value ≡ x.message.value → f.left ≡ (flight_at now x).left * times
-      → rate_of f.rate ≡ rate → f.since ≡ now → f.rated ≡ true
+  anew_is : (f x : Flight P) → f.id ≡ x.id → f.message.value ≡ x.message.value
+      → f.left ≡ (flight_at now x).left * times → rate_of f.rate ≡ rate → f.since ≡ now → f.rated ≡ true
       → flight_at now f ≡ rated_anew now times rate (flight_at now x)
-  anew_is f x message left at_rate since rated =
-      rw (rated, message, at_rate, since) (ap (as_record x.message.value) rest)
+  anew_is f x id message left at_rate since rated =
+      rw (rated, id, message, at_rate, since) (ap (as_record x.id x.message.value) rest)
     where
       none : now - now ≡ 0
       none = omega arith
@@ -114,7 +114,7 @@ module _ {P : Type 0} (now times rate : ℕ) where
   same_is : (x : Flight P) → x.rated ≡ true → rate_of x.rate ≡ rate → times ≡ 1
       → flight_at now x ≡ rated_anew now times rate (flight_at now x)
   same_is x rated at_rate once =
-      rw (rated, at_rate, once) (ap (as_record x.message.value) (omega arith))
+      rw (rated, at_rate, once) (ap (as_record x.id x.message.value) (omega arith))
 
   module _ (fs : List (Rc (Flight P) Global)) (at : ℕ) (x : Rc (Flight P) Global) (there : at < length fs)
       (is : x ≡ get_or fs at x) where
@@ -123,13 +123,13 @@ module _ {P : Type 0} (now times rate : ℕ) where
 
     -- another one is put in its place
     pub put_anew : (f : Flight P) (new : List (Rc (Flight P) Global)) → IsPutAt at f fs new
-        → f.message.value ≡ x.value.message.value → f.left ≡ (flight_at now x.value).left * times
+        → f.id ≡ x.value.id → f.message.value ≡ x.value.message.value → f.left ≡ (flight_at now x.value).left * times
         → rate_of f.rate ≡ rate → f.since ≡ now → f.rated ≡ true → IsTimed f
         → IsReratedAt now at times rate fs new
-    put_anew f new put message left at_rate since rated timed = record {
+    put_anew f new put id message left at_rate since rated timed = record {
       one = put.one;
       others = put.others;
-      unit = λ d. ap (flight_at now) put.is ∙ anew_is f x.value message left at_rate since rated
+      unit = λ d. ap (flight_at now) put.is ∙ anew_is f x.value id message left at_rate since rated
           ∙ ap (λ (y : Rc (Flight P) Global). rated_anew now times rate (flight_at now y.value)) (read d);
       timed = subst IsTimed (sym put.is) timed;
     }
@@ -614,6 +614,7 @@ module _ {P : Type 0} (scale : ℕ) (some : 0 < scale) where
   module _ (at : ℕ) (here : at ≤ last_moment) (f : Flight P) (r : RunsOn at f) where
     abbrev unit : UnitFlight P
     unit = record {
+      id = f.id;
       message = f.message.value;
       left = left_by at f;
       rate = rate_of f.rate;
@@ -626,6 +627,7 @@ module _ {P : Type 0} (scale : ℕ) (some : 0 < scale) where
       where
         flagged : Bool → UnitFlight P
         flagged b = record {
+          id = f.id;
           message = f.message.value;
           left = if b then left_by at f else f.left;
           rate = if b then rate_of f.rate else 0;

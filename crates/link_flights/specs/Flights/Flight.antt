@@ -17,9 +17,10 @@ rate_of (Some rate) = rate.value
 abbrev pub left_by : {P : Type 0} → ℕ → Flight P → ℕ
 left_by now f = f.left - rate_of f.rate * (now - f.since)
 
--- a message in flight with the units that were left at a moment, and those that drain in a nanosecond from then on; and
--- whether an account has given it this rate
+-- a message in flight under its flow id, with the units that were left at a moment, and those that drain in a
+-- nanosecond from then on; and whether an account has given it this rate
 pub record UnitFlight (P : Type 0) : Type 0 where
+  pub id : ℕ
   pub message : Message P
   pub left : ℕ
   pub rate : ℕ
@@ -29,6 +30,7 @@ pub record UnitFlight (P : Type 0) : Type 0 where
 -- a message in flight as it stands at the moment of the last account; one that has started since has no rate yet
 abbrev pub flight_at : {P : Type 0} → ℕ → Flight P → UnitFlight P
 flight_at at f = record {
+  id = f.id;
   message = f.message.value;
   left = if f.rated then left_by at f else f.left;
   rate = if f.rated then rate_of f.rate else 0;

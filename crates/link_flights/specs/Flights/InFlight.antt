@@ -25,13 +25,13 @@ pub record IsSameFlights {P : Type 0} {a : _} {b : _} {c : _} (flights copy : Fl
   pub at : copy.at ≡ flights.at
   pub counted : copy.rated_anew ≡ flights.rated_anew
 
--- a message is in flight from a moment on, with no rate yet, and the others are as they were
-pub record Joins {P : Type 0} {a : _} {b : _} {c : _} (now : ℕ) (m : code.Message P) (old new : Flights P a b c)
+-- a message is in flight under that id from a moment on, with no rate yet, and the others are as they were
+pub record Joins {P : Type 0} {a : _} {b : _} {c : _} (id now : ℕ) (m : code.Message P) (old new : Flights P a b c)
     : Type 0 where
   pub unit : UnitFlight P
   pub joins : in_units new ≡ in_units old ++ unit ∷ []
   pub is : rated_flight_of new.scale unit
-      ≡ record { message = message_of m; left = whole (length m.bytes); rate = Some (whole 0); updated = now }
+      ≡ record { id = id; message = message_of m; left = whole (length m.bytes); rate = Some (whole 0); updated = now }
   pub unrated : unit.rated ≡ false
   pub scale : new.scale ≡ old.scale
   pub floor : new.floor ≡ old.floor

@@ -227,9 +227,10 @@ abbrev pub none_is_rated : {P : Type 0} → (P → P → Ordering) → Component
 none_is_rated cmp component list =
     list_all (λ f. not (is_of cmp component (flight_at 0 f.value))) (those_near cmp component list)
 
--- it is of the same message, of which as much is left, in units of which so many times as many are needed, from a
--- moment on at a rate
+-- it is of the same message under the same id, of which as much is left, in units of which so many times as many are
+-- needed, from a moment on at a rate
 pub record IsRatedFrom {P : Type 0} (now times : ℕ) (old new : UnitFlight P) : Type 0 where
+  pub id : new.id ≡ old.id
   pub message : new.message ≡ old.message
   pub left : new.left ≡ old.left * times
   pub updated : new.updated ≡ now

@@ -14,6 +14,7 @@ use Rattle.link_simulation.specs.Rule.Planned.{RatedFlight}
 -- which as many billions are one byte
 abbrev pub rated_flight_of : {P : Type 0} → ℕ → UnitFlight P → RatedFlight P
 rated_flight_of scale u = record {
+  id = u.id;
   message = message_of u.message;
   left = reduced u.left (scale * billion);
   rate = Some (reduced u.rate scale);

@@ -134,6 +134,7 @@ module _ {P : Type 0} (cmp : P → P → Ordering) (order : IsTotalOrder cmp) (p
   rated_flight caps shares t place [] = []
   rated_flight caps shares t place (f ∷ fs) =
       record {
+        id = f.id;
         message = f.message;
         left = f.left;
         rate = rate_of shares.per (if is_unlimited cmp caps f.message then None else Some (shares.parts place));
@@ -157,7 +158,7 @@ module _ {P : Type 0} (cmp : P → P → Ordering) (order : IsTotalOrder cmp) (p
   account t p =
       given (is_fair (shares_of t p).per (shares_of t p).parts
       (capped_sides cmp p.caps (rated_messages (rated_at t p))))
-      (bind (finish_from t (rated_at t p)) (λ o. Some (record p { sending = rated_at t p; finish = o })))
+      (bind (finish_from t (rated_at t p)) (λ o. Some (record p { sending = rated_at t p; accounted = t; finish = o })))
 
   spent_if_so : (s : ℕ) (fs : List (RatedFlight P)) → list_any (is_spent_at s) fs ≡ true → SomeSpentAt fs s
   spent_if_so s [] e = cc
@@ -249,10 +250,10 @@ module _ {P : Type 0} (cmp : P → P → Ordering) (order : IsTotalOrder cmp) (p
   no_flight (f ∷ fs) s e some = cc
 
   stayed_so : (caps : Caps P) (shares : Shares) (t place : ℕ) (fs : List (RatedFlight P))
-      → AllZip (λ f g. (g.message ≡ f.message) × (g.left ≡ f.left) × (g.updated ≡ t)) fs
+      → AllZip (λ f g. (g.id ≡ f.id) × (g.message ≡ f.message) × (g.left ≡ f.left) × (g.updated ≡ t)) fs
       (rated_flight caps shares t place fs)
   stayed_so caps shares t place [] = tt
-  stayed_so caps shares t place (f ∷ fs) = ((refl, refl, refl), stayed_so caps shares t (place + 1) fs)
+  stayed_so caps shares t place (f ∷ fs) = ((refl, refl, refl, refl), stayed_so caps shares t (place + 1) fs)
 
   rated_so : (caps : Caps P) (shares : Shares) (t place : ℕ) (fs : List (RatedFlight P))
       → AllZip (λ rate f. f.rate ≡ rate_of shares.per rate)
@@ -266,14 +267,15 @@ module _ {P : Type 0} (cmp : P → P → Ordering) (order : IsTotalOrder cmp) (p
       let sending : List (RatedFlight P) = rated_at t p in
       let shares : Shares = shares_of t p in
       let two : (is_fair shares.per shares.parts (capped_sides cmp p.caps (rated_messages sending)) ≡ true)
-      × (bind (finish_from t sending) (λ o. Some (record p { sending = sending; finish = o })) ≡ Some q)
+      × (bind (finish_from t sending) (λ o. Some (record p { sending = sending; accounted = t; finish = o })) ≡ Some q)
       = given_so (is_fair shares.per shares.parts (capped_sides cmp p.caps (rated_messages sending)))
-      (bind (finish_from t sending) (λ o. Some (record p { sending = sending; finish = o }))) q e in
+      (bind (finish_from t sending) (λ o. Some (record p { sending = sending; accounted = t; finish = o }))) q e in
       let found : (o : Option ℕ) × (finish_from t sending ≡ Some o) × (Some (record p {
         sending = sending;
+        accounted = t;
         finish = o;
       }) ≡ Some q)
-      = bound (finish_from t sending) (λ o. Some (record p { sending = sending; finish = o })) q two.1 in
+      = bound (finish_from t sending) (λ o. Some (record p { sending = sending; accounted = t; finish = o })) q two.1 in
       let from : ℕ = hint t (rated_messages sending) in
       let skip : (may_skip t from sending ≡ true)
       × (sought (is_none_of sending) (λ s. list_any (is_spent_at s) sending) n from ≡ Some found.0)
@@ -283,7 +285,7 @@ module _ {P : Type 0} (cmp : P → P → Ordering) (order : IsTotalOrder cmp) (p
       λ s some. let at : some.1.updated ≡ t = updated_at p.caps shares t 0 (staying t p) some.0 some.1 some.2 in
       let le : some.1.updated ≤ s = some.3 in
       omega arith in
-      let same : record p { sending = sending; finish = found.0 } ≡ q = the_same found.2 in
+      let same : record p { sending = sending; accounted = t; finish = found.0 } ≡ q = the_same found.2 in
       subst (Accounts cmp t p (leavers_of t p)) same record {
         per = shares.per;
         rates = rates_from cmp p.caps shares.parts 0 (rated_messages sending);

@@ -63,7 +63,8 @@ module _ {P : Type 0} (cmp : P → P → Ordering) (order : IsTotalOrder cmp) wh
       let out : length leavers ≡ length (filter (is_spent cmp old.caps) all) =
       ap (λ (ms : List (Message P)). length ms) account.left ∙ map_length (filter (is_spent cmp old.caps) all) in
       let stay : length (filter (λ (f : RatedFlight P). not (is_spent cmp old.caps f)) all) ≡ length new.sending
-      = zip-length (λ (f g : RatedFlight P). (g.message ≡ f.message) × (g.left ≡ f.left) × (g.updated ≡ t))
+      = zip-length
+      (λ (f g : RatedFlight P). (g.id ≡ f.id) × (g.message ≡ f.message) × (g.left ≡ f.left) × (g.updated ≡ t))
       (filter (λ (f : RatedFlight P). not (is_spent cmp old.caps f)) all) new.sending account.stayed in
       let both : length (filter (is_spent cmp old.caps) all)
       + length (filter (λ (f : RatedFlight P). not (is_spent cmp old.caps f)) all)

@@ -43,14 +43,14 @@ drained_messages t (f ∷ fs) = ap (λ ms. f.message ∷ ms) (drained_messages t
 
 -- how a message that stays was drained
 abbrev pub Stays : {P : Type 0} → ℕ → RatedFlight P → RatedFlight P → Type 0
-Stays t f g = (g.message ≡ f.message) × (g.left ≡ f.left) × (g.updated ≡ t)
+Stays t f g = (g.id ≡ f.id) × (g.message ≡ f.message) × (g.left ≡ f.left) × (g.updated ≡ t)
 
 pub stayed_messages : {P : Type 0} (t : ℕ) (fs gs : List (RatedFlight P)) → AllZip (Stays t) fs gs
     → rated_messages gs ≡ rated_messages fs
 stayed_messages t [] [] all = refl
 stayed_messages t [] (g ∷ gs) all = absurd all
 stayed_messages t (f ∷ fs) [] all = absurd all
-stayed_messages t (f ∷ fs) (g ∷ gs) all = rw (all.0.0, stayed_messages t fs gs all.1) refl
+stayed_messages t (f ∷ fs) (g ∷ gs) all = rw (all.0.1, stayed_messages t fs gs all.1) refl
 
 none_stays : {P : Type 0} (t : ℕ) (gs : List (RatedFlight P)) → AllZip (Stays t) [] gs → gs ≡ []
 none_stays t [] all = refl

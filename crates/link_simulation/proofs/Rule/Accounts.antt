@@ -79,7 +79,7 @@ module _ {P : Type 0} (cmp : P → P → Ordering) (order : IsTotalOrder cmp) wh
   -- draining again for no time changes nothing
   rated_flights : (t per : ℕ) (rates : Parts) (ss ns : List (RatedFlight P)) (gs : List (Flight P)) → 0 < per
       → AllZip IsDrawn ss gs
-      → AllZip (λ f g. (g.message ≡ f.message) × (g.left ≡ f.left) × (g.updated ≡ t)) ss ns
+      → AllZip (λ f g. (g.id ≡ f.id) × (g.message ≡ f.message) × (g.left ≡ f.left) × (g.updated ≡ t)) ss ns
       → AllZip (λ rate f. f.rate ≡ rate_of per rate) rates ns → ((i : ℕ) → slice_get rates i ≡ Some None → ⊥)
       → AllZip (IsSameFlight cmp t) ns gs
   rated_flights t per rates [] [] [] some all stayed rated none = tt
@@ -92,17 +92,17 @@ module _ {P : Type 0} (cmp : P → P → Ordering) (order : IsTotalOrder cmp) wh
   rated_flights t per (Some a ∷ rates) (s ∷ ss) (n ∷ ns) (g ∷ gs) some all stayed rated none =
       let rate : Amount = reduced a per in
       let positive : 0 < rate.den = reduced_positive a per some in
-      let low : IsLowest n.left = subst IsLowest (sym stayed.0.1) all.0.lowest in
+      let low : IsLowest n.left = subst IsLowest (sym stayed.0.2) all.0.lowest in
       let no_time : t - n.updated ≡ 0 = omega arith in
       let left : left_at t n ≡ n.left
       = ap (λ (r : Option Amount). drained_by r (t - n.updated) n.left) rated.0
       ∙ ap (λ (k : ℕ). drained n.left rate k) no_time ∙ drained_none n.left rate low positive in (
         record {
-          message = subst (λ (m : Message P). SameMessage cmp m g.message) (sym stayed.0.0) all.0.message;
+          message = subst (λ (m : Message P). SameMessage cmp m g.message) (sym stayed.0.1) all.0.message;
           updated = omega arith;
           lowest = low;
           rate = subst (λ (r : Option Amount). IfSome r (λ x. 0 < x.den)) (sym rated.0) positive;
-          left = all.0.left ∙ sym stayed.0.1 ∙ sym left;
+          left = all.0.left ∙ sym stayed.0.2 ∙ sym left;
         },
         rated_flights t per rates ss ns gs some all.1 stayed.1 rated.1 (λ i. none (suc i)),
       )
@@ -110,7 +110,7 @@ module _ {P : Type 0} (cmp : P → P → Ordering) (order : IsTotalOrder cmp) wh
   -- what stays uses a capped side
   each_limited : (p : Planned P) (t : ℕ) (ss ns : List (RatedFlight P))
       → Each (λ f. not (is_spent cmp p.caps f) ≡ true) ss
-      → AllZip (λ f g. (g.message ≡ f.message) × (g.left ≡ f.left) × (g.updated ≡ t)) ss ns
+      → AllZip (λ f g. (g.id ≡ f.id) × (g.message ≡ f.message) × (g.left ≡ f.left) × (g.updated ≡ t)) ss ns
       → Each (λ m. is_unlimited cmp p.caps m ≡ false) (rated_messages ns)
   each_limited p t [] [] stay stayed = tt
   each_limited p t [] (n ∷ ns) stay stayed = absurd stayed
@@ -118,7 +118,7 @@ module _ {P : Type 0} (cmp : P → P → Ordering) (order : IsTotalOrder cmp) wh
   each_limited p t (s ∷ ss) (n ∷ ns) stay stayed =
       let parts : ((s.left.num == 0) ≡ false) × (is_unlimited cmp p.caps s.message ≡ false) =
       or_parts (s.left.num == 0) (is_unlimited cmp p.caps s.message) (not-true (is_spent cmp p.caps s) stay.0) in (
-        subst (λ (m : Message P). is_unlimited cmp p.caps m ≡ false) (sym stayed.0.0) parts.1,
+        subst (λ (m : Message P). is_unlimited cmp p.caps m ≡ false) (sym stayed.0.1) parts.1,
         each_limited p t ss ns stay.1 stayed.1,
       )
 
@@ -197,10 +197,10 @@ module _ {P : Type 0} (cmp : P → P → Ordering) (order : IsTotalOrder cmp) wh
       still_empty : (old.sending ≡ []) × (old.waiting ≡ []) → (new.sending ≡ []) × (new.waiting ≡ [])
       still_empty (sends, waits) = (
         none_matched {X = RatedFlight P} {Y = RatedFlight P}
-            (λ f g. (g.message ≡ f.message) × (g.left ≡ f.left) × (g.updated ≡ t)) new.sending
+            (λ f g. (g.id ≡ f.id) × (g.message ≡ f.message) × (g.left ≡ f.left) × (g.updated ≡ t)) new.sending
             (subst
             (λ (fs : List (RatedFlight P)). AllZip
-            (λ f g. (g.message ≡ f.message) × (g.left ≡ f.left) × (g.updated ≡ t))
+            (λ f g. (g.id ≡ f.id) × (g.message ≡ f.message) × (g.left ≡ f.left) × (g.updated ≡ t))
             (filter (λ (f : RatedFlight P). not (is_spent cmp old.caps f)) (drained_to t fs)) new.sending)
             sends account.stayed),
         ap (λ (q : Planned P). q.waiting) account.same ∙ waits,

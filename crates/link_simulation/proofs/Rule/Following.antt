@@ -1,13 +1,12 @@
 -- A message that is done lands, and the next one of its pair may start, before the others get their rates: one account
 -- does for both.
-use Rattle.std.proofs.Common.{◌≡◌, ℕ, ◌+◌, ◌<◌, List, [], ◌∷◌, ◌++◌, length, true, false, Option, Some, refl, sym}
+use Rattle.std.proofs.Common.{◌≡◌, ℕ, ◌+◌, ◌<◌, List, [], ◌∷◌, ◌++◌, true, false, Option, Some, refl, sym}
 use Rattle.std.proofs.Common.{ap, ◌∙◌, subst, not}
 use Rattle.std.specs.Prelude.{◌&&◌}
 use Rattle.std.specs.List.{filter, list_any, AllZip}
 use Rattle.std.specs.declared.cmp.Ordering.{Ordering}
 use Rattle.std.specs.Cmp.{IsTotalOrder}
 use Rattle.std.proofs.lemmas.Bool.{not-true}
-use Rattle.fair_rates.specs.Numbers.Amount.{whole}
 use Rattle.fair_rates.proofs.Lists.Each.{Each, each_map}
 use Rattle.fair_rates.proofs.Lists.Zips.{zip-append}
 use Rattle.link_simulation.specs.Simulation.Messages.{Message, same_pair}
@@ -82,15 +81,17 @@ module _ {P : Type 0} (cmp : P → P → Ordering) (order : IsTotalOrder cmp) wh
   -- what stands at a moment stays as it is, and so does a message that starts at it
   pub none_leaves_again : (t : ℕ) (old here : Planned P) (m next : Message P) (ls : List (Message P))
       → Leaves cmp t old ls here → drained_to t here.sending ≡ here.sending
-      → is_spent cmp here.caps
-      (record { message = next; left = whole (length next.bytes); rate = Some (whole 0); updated = t }) ≡ false
+      → is_spent cmp here.caps (starting cmp order here.next_id t next) ≡ false
       → Leaves cmp t (launched cmp t (landed cmp t here m) next) [] (launched cmp t (landed cmp t here m) next)
   none_leaves_again t old here m next ls leaves still stays =
       let none = none_done t old here ls leaves in
       record {
-        left = sym (ap rated_messages (none_and_one_leave cmp order t here.caps here.sending next stays still none));
-        is = ap (λ (fs : List (RatedFlight P)). record (launched cmp t (landed cmp t here m) next) { sending = fs })
-            (sym (all_and_one_stay cmp order t here.caps here.sending next stays still none));
+        left = sym (ap rated_messages
+            (none_and_one_leave cmp order here.next_id t here.caps here.sending next stays still none));
+        is =
+            let all = all_and_one_stay cmp order here.next_id t here.caps here.sending next stays still none in
+            let at : here.accounted ≡ t = ap (λ (q : Planned P). q.accounted) leaves.is in
+            λ i. record (launched cmp t (landed cmp t here m) next) { sending = sym all i; accounted = at i };
       }
 
   -- ---- the next message starts
@@ -98,36 +99,38 @@ module _ {P : Type 0} (cmp : P → P → Ordering) (order : IsTotalOrder cmp) wh
   -- in one world what is in flight stands with what was left of it at t, and in the other it has its rates as well
   module _ (t : ℕ) (m next : Message P) (here new : Planned P) (fs : List (RatedFlight P)) (o : Option ℕ)
       (may : may_launch cmp t (landed cmp t here m) next ≡ true) (id : here.next_id < last_moment)
-      (stays : is_spent cmp here.caps (starting cmp order t next) ≡ false)
+      (stays : is_spent cmp here.caps (starting cmp order here.next_id t next) ≡ false)
       (still_here : drained_to t here.sending ≡ here.sending)
       (none_here : filter (is_spent cmp here.caps) here.sending ≡ [])
       (stayed : AllZip (Stays t) here.sending fs)
       (still_there : drained_to t fs ≡ fs) (none_there : filter (is_spent cmp here.caps) fs ≡ [])
       (a : Accounts cmp t (launched cmp t (landed cmp t here m) next) [] new) where
     abbrev there : Planned P
-    there = record here { sending = fs; finish = o }
+    there = record here { sending = fs; accounted = t; finish = o }
 
     -- the two have the same messages in flight with the same left, and so what follows from both is the same
     left_alike : AllZip (Stays t)
-        (filter (λ f. not (is_spent cmp here.caps f)) (drained_to t (fs ++ starting cmp order t next ∷ [])))
+        (filter (λ f. not (is_spent cmp here.caps f))
+        (drained_to t (fs ++ starting cmp order here.next_id t next ∷ [])))
         new.sending
     left_alike =
         subst (λ (l : List (RatedFlight P)). AllZip (Stays t) l new.sending)
-        (sym (all_and_one_stay cmp order t here.caps fs next stays still_there none_there))
+        (sym (all_and_one_stay cmp order here.next_id t here.caps fs next stays still_there none_there))
         (zip_beside (Stays t) (Stays t) (Stays t)
-        (λ f g k one other. (other.0 ∙ sym one.0, other.1 ∙ sym one.1, other.2))
-        (here.sending ++ starting cmp order t next ∷ []) (fs ++ starting cmp order t next ∷ []) new.sending
-        (zip-append (Stays t) here.sending (starting cmp order t next ∷ []) fs (starting cmp order t next ∷ []) stayed
-        ((refl, refl, refl), tt))
+        (λ f g k one other. (other.0 ∙ sym one.0, other.1 ∙ sym one.1, other.2 ∙ sym one.2, other.3))
+        (here.sending ++ starting cmp order here.next_id t next ∷ [])
+        (fs ++ starting cmp order here.next_id t next ∷ []) new.sending
+        (zip-append (Stays t) here.sending (starting cmp order here.next_id t next ∷ []) fs
+        (starting cmp order here.next_id t next ∷ []) stayed ((refl, refl, refl, refl), tt))
         (subst (λ (l : List (RatedFlight P)). AllZip (Stays t) l new.sending)
-        (all_and_one_stay cmp order t here.caps here.sending next stays still_here none_here) a.stayed))
+        (all_and_one_stay cmp order here.next_id t here.caps here.sending next stays still_here none_here) a.stayed))
 
     accounts_there : Accounts cmp t (launched cmp t (landed cmp t there m) next) [] new
     accounts_there = record {
       per = a.per;
       rates = a.rates;
       left = sym (ap rated_messages
-          (none_and_one_leave cmp order t here.caps fs next stays still_there none_there));
+          (none_and_one_leave cmp order here.next_id t here.caps fs next stays still_there none_there));
       stayed = left_alike;
       fair = a.fair;
       rated = a.rated;
@@ -148,26 +151,25 @@ module _ {P : Type 0} (cmp : P → P → Ordering) (order : IsTotalOrder cmp) wh
       → Leaves cmp t old ls here → AreLowest here.sending → drained_to t here.sending ≡ here.sending
       → next_of cmp here m ≡ Some next → may_launch cmp t (landed cmp t here m) next ≡ true
       → here.next_id < last_moment
-      → is_spent cmp here.caps
-      (record { message = next; left = whole (length next.bytes); rate = Some (whole 0); updated = t }) ≡ false
+      → is_spent cmp here.caps (starting cmp order here.next_id t next) ≡ false
       → Accounts cmp t (launched cmp t (landed cmp t here m) next) [] new
       → (mid : Planned P) × Accounts cmp t old ls mid
       × Launches cmp t (landed cmp t mid m) (next_of cmp mid m) (goes [] new)
   follows t old here new m next ls leaves lowest still found may id stays a =
       let made = account_of t old here ls leaves in
-      let there : made.0 ≡ record here { sending = made.0.sending; finish = made.0.finish } =
+      let there : made.0 ≡ record here { sending = made.0.sending; accounted = t; finish = made.0.finish } =
       made.1.same
-      ∙ sym (ap (λ (q : Planned P). record q { sending = made.0.sending; finish = made.0.finish }) leaves.is) in
+      ∙ sym (ap (λ (q : Planned P). record q { sending = made.0.sending; accounted = t; finish = made.0.finish }) leaves.is) in
       let accounted_there : IsAccountedAt cmp order t made.0 = accounted cmp order t old made.0 ls made.1 in
       let stayed : AllZip (Stays t) here.sending made.0.sending =
       subst (λ (q : Planned P). AllZip (Stays t) q.sending made.0.sending) (sym leaves.is) made.1.stayed in
       let low : AreLowest made.0.sending =
       zip_each (Stays t) (λ f. IsLowest f.left) (λ g. IsLowest g.left)
-      (λ f g same low. subst IsLowest (sym same.1) low) here.sending made.0.sending stayed lowest in
+      (λ f g same low. subst IsLowest (sym same.2) low) here.sending made.0.sending stayed lowest in
       let none_there : filter (is_spent cmp here.caps) made.0.sending ≡ [] =
       subst (λ (q : Planned P). filter (is_spent cmp q.caps) made.0.sending ≡ []) there
       (none_leave cmp order t made.0 accounted_there) in
-      let launch : Launches cmp t (landed cmp t (record here { sending = made.0.sending; finish = made.0.finish }) m)
+      let launch : Launches cmp t (landed cmp t (record here { sending = made.0.sending; accounted = t; finish = made.0.finish }) m)
       (Some next) (goes [] new) =
       starts_beside t m next here new made.0.sending made.0.finish may id stays still
       (none_done t old here ls leaves) stayed (drained_still cmp order t made.0 accounted_there low) none_there a in (
@@ -175,7 +177,7 @@ module _ {P : Type 0} (cmp : P → P → Ordering) (order : IsTotalOrder cmp) wh
         made.1,
         subst (λ (q : Planned P). Launches cmp t (landed cmp t q m) (next_of cmp q m) (goes [] new)) (sym there)
             (subst (λ (first : Option (Message P)). Launches cmp t
-            (landed cmp t (record here { sending = made.0.sending; finish = made.0.finish }) m) first (goes [] new))
+            (landed cmp t (record here { sending = made.0.sending; accounted = t; finish = made.0.finish }) m) first (goes [] new))
             (sym found) launch),
       )
 

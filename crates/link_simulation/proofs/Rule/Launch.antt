@@ -179,10 +179,11 @@ module _ {P : Type 0} (cmp : P → P → Ordering) (order : IsTotalOrder cmp) wh
 
   -- ---- a message starts
 
-  started_flight : (t : ℕ) (x y : Message P) → SameMessage cmp x y
-      → IsSameFlight cmp t (record { message = x; left = whole (length x.bytes); rate = Some (whole 0); updated = t })
+  started_flight : (t id : ℕ) (x y : Message P) → SameMessage cmp x y
+      → IsSameFlight cmp t
+      (record { id = id; message = x; left = whole (length x.bytes); rate = Some (whole 0); updated = t })
       (flight_of y)
-  started_flight t x y same =
+  started_flight t id x y same =
       let no_time : t - t ≡ 0 = omega arith in
       record {
         message = same;
@@ -223,8 +224,8 @@ module _ {P : Type 0} (cmp : P → P → Ordering) (order : IsTotalOrder cmp) wh
     pair_order = pair_order_without (same_pair cmp x) p.waiting same.pair_order;
     sending =
         all_zipped_more (IsSameFlight cmp t) p.sending w.sending
-        (record { message = x; left = whole (length x.bytes); rate = Some (whole 0); updated = t }) (flight_of y)
-        same.sending (started_flight t x y alike);
+        (record { id = p.next_id; message = x; left = whole (length x.bytes); rate = Some (whole 0); updated = t })
+        (flight_of y) same.sending (started_flight t p.next_id x y alike);
     one_each =
         subst (OneForEachPair cmp) (sym (map-append (λ (g : Flight P). g.message) w.sending (flight_of y ∷ [])))
         (one_pair_more cmp order (flows w) y same.one_each idle);

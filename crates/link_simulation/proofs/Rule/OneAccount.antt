@@ -117,7 +117,7 @@ abbrev pub ArePositive : {P : Type 0} → List (RatedFlight P) → Type 0
 ArePositive fs = Each (λ f. (0 < f.left.den) × IfSome f.rate (λ r. 0 < r.den)) fs
 
 abbrev Stays : {P : Type 0} → ℕ → RatedFlight P → RatedFlight P → Type 0
-Stays t f g = (g.message ≡ f.message) × (g.left ≡ f.left) × (g.updated ≡ t)
+Stays t f g = (g.id ≡ f.id) × (g.message ≡ f.message) × (g.left ≡ f.left) × (g.updated ≡ t)
 
 -- those that have drained to a moment, and drain for no time, stay as they are
 abbrev IsKept : {P : Type 0} → ℕ → RatedFlight P → Type 0
@@ -167,6 +167,7 @@ module _ {P : Type 0} (cmp : P → P → Ordering) (order : IsTotalOrder cmp) wh
     pub none_spent : Each (λ f. (f.updated ≡ t) × (is_spent cmp p.caps f ≡ false)) p.sending
     pub fair : AreFair cmp p.caps (rated_messages p.sending) per rates
     pub rated : AllZip (λ rate f. f.rate ≡ rate_of per rate) rates p.sending
+    pub at : p.accounted ≡ t
     pub finish : IsLeastMoment (SomeSpentAt p.sending) p.finish
 
   -- ---- what keeps it
@@ -175,9 +176,9 @@ module _ {P : Type 0} (cmp : P → P → Ordering) (order : IsTotalOrder cmp) wh
       → not (is_spent cmp caps f) ≡ true → (g.updated ≡ t) × (is_spent cmp caps g ≡ false)
   stayed_unspent caps t f g stays test =
       let same : is_spent cmp caps g ≡ is_spent cmp caps f =
-      ap (λ (a : Amount). (a.num == 0) || is_unlimited cmp caps g.message) stays.1
-      ∙ ap (λ (m : Message P). (f.left.num == 0) || is_unlimited cmp caps m) stays.0 in
-      (stays.2, same ∙ turned (is_spent cmp caps f) test)
+      ap (λ (a : Amount). (a.num == 0) || is_unlimited cmp caps g.message) stays.2
+      ∙ ap (λ (m : Message P). (f.left.num == 0) || is_unlimited cmp caps m) stays.1 in
+      (stays.3, same ∙ turned (is_spent cmp caps f) test)
     where
       turned : (b : Bool) → not b ≡ true → b ≡ false
       turned true e = cc
@@ -198,6 +199,7 @@ module _ {P : Type 0} (cmp : P → P → Ordering) (order : IsTotalOrder cmp) wh
             (each_passes (λ f. not (is_spent cmp old.caps f)) (drained_to t old.sending)));
         fair = subst (λ (c : Caps P). AreFair cmp c (rated_messages new.sending) a.per a.rates) (sym caps) a.fair;
         rated = a.rated;
+        at = ap (λ (q : Planned P). q.accounted) a.same;
         finish = a.finish;
       }
 
@@ -209,6 +211,7 @@ module _ {P : Type 0} (cmp : P → P → Ordering) (order : IsTotalOrder cmp) wh
         none_spent = h.none_spent;
         fair = h.fair;
         rated = h.rated;
+        at = h.at;
         finish = h.finish;
       })
 
@@ -230,6 +233,7 @@ module _ {P : Type 0} (cmp : P → P → Ordering) (order : IsTotalOrder cmp) wh
         none_spent = h.none_spent;
         fair = h.fair;
         rated = h.rated;
+        at = h.at;
         finish = h.finish;
       }
 
@@ -251,6 +255,7 @@ module _ {P : Type 0} (cmp : P → P → Ordering) (order : IsTotalOrder cmp) wh
         none_spent = h.none_spent;
         fair = h.fair;
         rated = h.rated;
+        at = h.at;
         finish = h.finish;
       }
 
@@ -271,6 +276,7 @@ module _ {P : Type 0} (cmp : P → P → Ordering) (order : IsTotalOrder cmp) wh
         none_spent = h.none_spent;
         fair = h.fair;
         rated = h.rated;
+        at = h.at;
         finish = h.finish;
       }
 
@@ -364,7 +370,7 @@ module _ {P : Type 0} (cmp : P → P → Ordering) (order : IsTotalOrder cmp) wh
   stay_as_they_are : (t : ℕ) (fs : List (RatedFlight P)) (caps : Caps P)
       → Each (λ f. (f.updated ≡ t) × (is_spent cmp caps f ≡ false)) fs → AllZip (Stays t) fs fs
   stay_as_they_are t [] caps h = tt
-  stay_as_they_are t (f ∷ fs) caps h = ((refl, refl, h.0.0), stay_as_they_are t fs caps h.1)
+  stay_as_they_are t (f ∷ fs) caps h = ((refl, refl, refl, h.0.0), stay_as_they_are t fs caps h.1)
 
   -- an account at that moment once more changes nothing
   pub account_again : (t : ℕ) (p : Planned P) → IsAccountedAt t p → AreLowest p.sending → Accounts cmp t p [] p
@@ -381,7 +387,7 @@ module _ {P : Type 0} (cmp : P → P → Ordering) (order : IsTotalOrder cmp) wh
         fair = h.fair;
         rated = h.rated;
         finish = h.finish;
-        same = refl;
+        same = λ i. record p { accounted = h.at i };
       }
 
   -- ---- an account can always be made
@@ -391,6 +397,7 @@ module _ {P : Type 0} (cmp : P → P → Ordering) (order : IsTotalOrder cmp) wh
   with_rates caps per parts t place [] = []
   with_rates caps per parts t place (f ∷ fs) =
       record {
+        id = f.id;
         message = f.message;
         left = f.left;
         rate = rate_of per (if is_unlimited cmp caps f.message then None else Some (parts place));
@@ -409,7 +416,7 @@ module _ {P : Type 0} (cmp : P → P → Ordering) (order : IsTotalOrder cmp) wh
   unfolding with_rates
   stay_with_rates caps per parts t place [] = tt
   stay_with_rates caps per parts t place (f ∷ fs) =
-      ((refl, refl, refl), stay_with_rates caps per parts t (place + 1) fs)
+      ((refl, refl, refl, refl), stay_with_rates caps per parts t (place + 1) fs)
 
   rated_so : (caps : Caps P) (per : ℕ) (parts : ℕ → ℕ) (t place : ℕ) (fs : List (RatedFlight P))
       → AllZip (λ rate f. f.rate ≡ rate_of per rate) (rates_from cmp caps parts place (rated_messages fs))
@@ -426,7 +433,7 @@ module _ {P : Type 0} (cmp : P → P → Ordering) (order : IsTotalOrder cmp) wh
       (fair : AreFair cmp p.caps (rated_messages (Staying t p)) per rates) (o : Option ℕ)
       → IsLeastMoment (SomeSpentAt (with_rates p.caps per fair.parts t 0 (Staying t p))) o
       → Accounts cmp t p (rated_messages (filter (is_spent cmp p.caps) (drained_to t p.sending)))
-      (record p { sending = with_rates p.caps per fair.parts t 0 (Staying t p); finish = o })
+      (record p { sending = with_rates p.caps per fair.parts t 0 (Staying t p); accounted = t; finish = o })
   account_with t p per rates fair o least = record {
     per = per;
     rates = rates;
@@ -447,44 +454,44 @@ module _ {P : Type 0} (cmp : P → P → Ordering) (order : IsTotalOrder cmp) wh
       let sending = with_rates p.caps f.0 f.2.parts t 0 (Staying t p) in
       let least = least_exists (SomeSpentAt sending) (spent_or_not sending) in (
         rated_messages (filter (is_spent cmp p.caps) (drained_to t p.sending)),
-        record p { sending = sending; finish = least.0 },
+        record p { sending = sending; accounted = t; finish = least.0 },
         account_with t p f.0 f.1 f.2 least.0 least.1,
       )
 
   -- ---- a message that starts, and the account that follows the last one
 
-  -- the message as it starts
-  abbrev pub starting : ℕ → Message P → RatedFlight P
-  starting t m = record { message = m; left = whole (length m.bytes); rate = Some (whole 0); updated = t }
+  -- the message as it starts under that flow id
+  abbrev pub starting : ℕ → ℕ → Message P → RatedFlight P
+  starting id t m = record { id = id; message = m; left = whole (length m.bytes); rate = Some (whole 0); updated = t }
 
-  starting_kept : (t : ℕ) (m : Message P) → drained_to t (starting t m ∷ []) ≡ starting t m ∷ []
-  starting_kept t m =
-      drained_kept t (starting t m ∷ [])
-      ((refl, no_time t (starting t m) (whole 0) refl refl (omega arith) (whole_lowest (length m.bytes))), tt)
+  starting_kept : (id t : ℕ) (m : Message P) → drained_to t (starting id t m ∷ []) ≡ starting id t m ∷ []
+  starting_kept id t m =
+      drained_kept t (starting id t m ∷ [])
+      ((refl, no_time t (starting id t m) (whole 0) refl refl (omega arith) (whole_lowest (length m.bytes))), tt)
 
   -- where none of the first leaves, and the message that starts does not
-  one_more_stays : (t : ℕ) (caps : Caps P) (fs : List (RatedFlight P)) (m : Message P)
-      → is_spent cmp caps (starting t m) ≡ false
-      → filter (λ f. not (is_spent cmp caps f)) (drained_to t (fs ++ starting t m ∷ []))
-      ≡ filter (λ f. not (is_spent cmp caps f)) (drained_to t fs) ++ starting t m ∷ []
-  one_more_stays t caps fs m limited =
+  one_more_stays : (id t : ℕ) (caps : Caps P) (fs : List (RatedFlight P)) (m : Message P)
+      → is_spent cmp caps (starting id t m) ≡ false
+      → filter (λ f. not (is_spent cmp caps f)) (drained_to t (fs ++ starting id t m ∷ []))
+      ≡ filter (λ f. not (is_spent cmp caps f)) (drained_to t fs) ++ starting id t m ∷ []
+  one_more_stays id t caps fs m limited =
       let test : RatedFlight P → Bool = λ f. not (is_spent cmp caps f) in
-      let alone : filter test (starting t m ∷ []) ≡ starting t m ∷ [] =
-      filter_all test (starting t m ∷ []) (ap not limited, tt) in
-      ap (filter test) (drained-append t fs (starting t m ∷ []))
-      ∙ ap (λ l. filter test (drained_to t fs ++ l)) (starting_kept t m)
-      ∙ filter-append test (drained_to t fs) (starting t m ∷ [])
+      let alone : filter test (starting id t m ∷ []) ≡ starting id t m ∷ [] =
+      filter_all test (starting id t m ∷ []) (ap not limited, tt) in
+      ap (filter test) (drained-append t fs (starting id t m ∷ []))
+      ∙ ap (λ l. filter test (drained_to t fs ++ l)) (starting_kept id t m)
+      ∙ filter-append test (drained_to t fs) (starting id t m ∷ [])
       ∙ ap (λ l. filter test (drained_to t fs) ++ l) alone
 
-  none_more_leaves : (t : ℕ) (caps : Caps P) (fs : List (RatedFlight P)) (m : Message P)
-      → is_spent cmp caps (starting t m) ≡ false → filter (is_spent cmp caps) (drained_to t fs) ≡ []
-      → filter (is_spent cmp caps) (drained_to t (fs ++ starting t m ∷ [])) ≡ []
-  none_more_leaves t caps fs m limited none =
-      ap (filter (is_spent cmp caps)) (drained-append t fs (starting t m ∷ []))
-      ∙ ap (λ l. filter (is_spent cmp caps) (drained_to t fs ++ l)) (starting_kept t m)
-      ∙ filter-append (is_spent cmp caps) (drained_to t fs) (starting t m ∷ [])
-      ∙ ap (λ l. l ++ filter (is_spent cmp caps) (starting t m ∷ [])) none
-      ∙ filter_none (is_spent cmp caps) (starting t m ∷ []) (limited, tt)
+  none_more_leaves : (id t : ℕ) (caps : Caps P) (fs : List (RatedFlight P)) (m : Message P)
+      → is_spent cmp caps (starting id t m) ≡ false → filter (is_spent cmp caps) (drained_to t fs) ≡ []
+      → filter (is_spent cmp caps) (drained_to t (fs ++ starting id t m ∷ [])) ≡ []
+  none_more_leaves id t caps fs m limited none =
+      ap (filter (is_spent cmp caps)) (drained-append t fs (starting id t m ∷ []))
+      ∙ ap (λ l. filter (is_spent cmp caps) (drained_to t fs ++ l)) (starting_kept id t m)
+      ∙ filter-append (is_spent cmp caps) (drained_to t fs) (starting id t m ∷ [])
+      ∙ ap (λ l. l ++ filter (is_spent cmp caps) (starting id t m ∷ [])) none
+      ∙ filter_none (is_spent cmp caps) (starting id t m ∷ []) (limited, tt)
 
   all_but_none : (test : RatedFlight P → Bool) (fs : List (RatedFlight P)) → filter test fs ≡ []
       → filter (λ f. not (test f)) fs ≡ fs
@@ -498,27 +505,27 @@ module _ {P : Type 0} (cmp : P → P → Ordering) (order : IsTotalOrder cmp) wh
       by_test false e ih = ap (λ l. f ∷ l) (ih e)
 
   -- where the first have drained and none of them is done, all stay, and so does the message that starts
-  pub all_and_one_stay : (t : ℕ) (caps : Caps P) (fs : List (RatedFlight P)) (m : Message P)
-      → is_spent cmp caps (starting t m) ≡ false → drained_to t fs ≡ fs → filter (is_spent cmp caps) fs ≡ []
-      → filter (λ f. not (is_spent cmp caps f)) (drained_to t (fs ++ starting t m ∷ [])) ≡ fs ++ starting t m ∷ []
-  all_and_one_stay t caps fs m limited still none =
-      one_more_stays t caps fs m limited
-      ∙ ap (λ l. filter (λ f. not (is_spent cmp caps f)) l ++ starting t m ∷ []) still
-      ∙ ap (λ l. l ++ starting t m ∷ []) (all_but_none (is_spent cmp caps) fs none)
+  pub all_and_one_stay : (id t : ℕ) (caps : Caps P) (fs : List (RatedFlight P)) (m : Message P)
+      → is_spent cmp caps (starting id t m) ≡ false → drained_to t fs ≡ fs → filter (is_spent cmp caps) fs ≡ []
+      → filter (λ f. not (is_spent cmp caps f)) (drained_to t (fs ++ starting id t m ∷ [])) ≡ fs ++ starting id t m ∷ []
+  all_and_one_stay id t caps fs m limited still none =
+      one_more_stays id t caps fs m limited
+      ∙ ap (λ l. filter (λ f. not (is_spent cmp caps f)) l ++ starting id t m ∷ []) still
+      ∙ ap (λ l. l ++ starting id t m ∷ []) (all_but_none (is_spent cmp caps) fs none)
 
   -- and nothing leaves
-  pub none_and_one_leave : (t : ℕ) (caps : Caps P) (fs : List (RatedFlight P)) (m : Message P)
-      → is_spent cmp caps (starting t m) ≡ false → drained_to t fs ≡ fs → filter (is_spent cmp caps) fs ≡ []
-      → filter (is_spent cmp caps) (drained_to t (fs ++ starting t m ∷ [])) ≡ []
-  none_and_one_leave t caps fs m limited still none =
-      none_more_leaves t caps fs m limited (ap (filter (is_spent cmp caps)) still ∙ none)
+  pub none_and_one_leave : (id t : ℕ) (caps : Caps P) (fs : List (RatedFlight P)) (m : Message P)
+      → is_spent cmp caps (starting id t m) ≡ false → drained_to t fs ≡ fs → filter (is_spent cmp caps) fs ≡ []
+      → filter (is_spent cmp caps) (drained_to t (fs ++ starting id t m ∷ [])) ≡ []
+  none_and_one_leave id t caps fs m limited still none =
+      none_more_leaves id t caps fs m limited (ap (filter (is_spent cmp caps)) still ∙ none)
 
   -- what is left after an account is in lowest terms
   pub account_lowest : (t : ℕ) (p q : Planned P) (ls : List (Message P)) → Accounts cmp t p ls q
       → ArePositive p.sending → AreLowest q.sending
   account_lowest t p q ls a positive =
       zip_each (Stays t) (λ f. IsLowest f.left) (λ g. IsLowest g.left)
-      (λ f g stays low. subst IsLowest (sym stays.1) low) (Staying t p) q.sending a.stayed
+      (λ f g stays low. subst IsLowest (sym stays.2) low) (Staying t p) q.sending a.stayed
       (each_filtered_too (λ f. IsLowest f.left) (λ f. not (is_spent cmp p.caps f)) (drained_to t p.sending)
       (all_lowest t p.sending positive))
 
@@ -563,31 +570,33 @@ module _ {P : Type 0} (cmp : P → P → Ordering) (order : IsTotalOrder cmp) wh
   module _ (t : ℕ) (m : Message P) (here next : Planned P) (fs : List (RatedFlight P)) (o : Option ℕ)
       (limited : here.limited ≡ true) (found : next_of cmp (with_queued cmp here m) m ≡ Some m)
       (may : may_launch cmp t here m ≡ true) (id : here.next_id < last_moment)
-      (stays : is_spent cmp here.caps (starting t m) ≡ false)
+      (stays : is_spent cmp here.caps (starting here.next_id t m) ≡ false)
       (looks : PlansStart cmp t (launched cmp t (with_queued cmp here m) m) next)
       (positive : ArePositive here.sending)
-      (a : Accounts cmp t here [] (record here { sending = fs; finish = o })) where
-    h : IsAccountedAt t (record here { sending = fs; finish = o })
-    h = accounted t here (record here { sending = fs; finish = o }) [] a
+      (a : Accounts cmp t here [] (record here { sending = fs; accounted = t; finish = o })) where
+    h : IsAccountedAt t (record here { sending = fs; accounted = t; finish = o })
+    h = accounted t here (record here { sending = fs; accounted = t; finish = o }) [] a
 
     low : AreLowest fs
-    low = account_lowest t here (record here { sending = fs; finish = o }) [] a positive
+    low = account_lowest t here (record here { sending = fs; accounted = t; finish = o }) [] a positive
 
     still : drained_to t fs ≡ fs
-    still = drained_still t (record here { sending = fs; finish = o }) h low
+    still = drained_still t (record here { sending = fs; accounted = t; finish = o }) h low
 
     flying : rated_messages fs ≡ rated_messages here.sending
-    flying = messages_stay t here (record here { sending = fs; finish = o }) a
+    flying = messages_stay t here (record here { sending = fs; accounted = t; finish = o }) a
 
     -- what stays in flight there
-    staying_there : filter (λ f. not (is_spent cmp here.caps f)) (drained_to t (fs ++ starting t m ∷ []))
-        ≡ fs ++ starting t m ∷ []
+    staying_there : filter (λ f. not (is_spent cmp here.caps f)) (drained_to t (fs ++ starting here.next_id t m ∷ []))
+        ≡ fs ++ starting here.next_id t m ∷ []
     staying_there =
-        all_and_one_stay t here.caps fs m stays still (none_leave t (record here { sending = fs; finish = o }) h)
+        all_and_one_stay here.next_id t here.caps fs m stays still
+        (none_leave t (record here { sending = fs; accounted = t; finish = o }) h)
 
-    none_there : filter (is_spent cmp here.caps) (drained_to t (fs ++ starting t m ∷ [])) ≡ []
+    none_there : filter (is_spent cmp here.caps) (drained_to t (fs ++ starting here.next_id t m ∷ [])) ≡ []
     none_there =
-        none_and_one_leave t here.caps fs m stays still (none_leave t (record here { sending = fs; finish = o }) h)
+        none_and_one_leave here.next_id t here.caps fs m stays still
+        (none_leave t (record here { sending = fs; accounted = t; finish = o }) h)
 
     none_here : filter (is_spent cmp here.caps) (drained_to t here.sending) ≡ []
     none_here = no_messages (filter (is_spent cmp here.caps) (drained_to t here.sending)) a.left
@@ -596,48 +605,49 @@ module _ {P : Type 0} (cmp : P → P → Ordering) (order : IsTotalOrder cmp) wh
     Starts w = (v : Planned P) × Enqueues cmp t m w (goes [] v) × Accounts cmp t next [] v
 
     enqueues_there : (x : Planned P)
-        → Accounts cmp t (launched cmp t (with_queued cmp (record here { sending = fs; finish = o }) m) m) [] x
-        → Enqueues cmp t m (record here { sending = fs; finish = o }) (goes [] (record x { start = next.start }))
+        → Accounts cmp t (launched cmp t (with_queued cmp (record here { sending = fs; accounted = t; finish = o }) m) m) [] x
+        → Enqueues cmp t m (record here { sending = fs; accounted = t; finish = o }) (goes [] (record x { start = next.start }))
     enqueues_there x ax =
-        let may_there : may_launch cmp t (record here { sending = fs; finish = o }) m ≡ true =
+        let may_there : may_launch cmp t (record here { sending = fs; accounted = t; finish = o }) m ≡ true =
         ap (λ (ms : List (Message P)). not (list_any (same_pair cmp m) ms)
         && is_in_order (here.last_arrival m.origin m.recipient) (t + m.latency)) flying ∙ may in
         let launch =
         subst (λ (first : Option (Message P)). Launches cmp t
-        (with_queued cmp (record here { sending = fs; finish = o }) m) first (goes [] x)) (sym found)
+        (with_queued cmp (record here { sending = fs; accounted = t; finish = o }) m) first (goes [] x)) (sym found)
         (starts may_there id ax) in
         let flies : rated_messages x.sending
         ≡ rated_messages (launched cmp t (with_queued cmp here m) m).sending =
-        messages_stay t (launched cmp t (with_queued cmp (record here { sending = fs; finish = o }) m) m) x ax
-        ∙ map-append (λ f. f.message) fs (starting t m ∷ [])
+        messages_stay t (launched cmp t (with_queued cmp (record here { sending = fs; accounted = t; finish = o }) m) m) x ax
+        ∙ map-append (λ f. f.message) fs (starting here.next_id t m ∷ [])
         ∙ ap (λ (ms : List (Message P)). ms ++ m ∷ []) flying
-        ∙ sym (map-append (λ f. f.message) here.sending (starting t m ∷ [])) in
+        ∙ sym (map-append (λ f. f.message) here.sending (starting here.next_id t m ∷ [])) in
         launches limited launch
         (all_completed (planned_alike t (launched cmp t (with_queued cmp here m) m) x next looks
         (ap (λ (q : Planned P). q.waiting) ax.same) (ap (λ (q : Planned P). q.last_arrival) ax.same) flies))
 
     stayed_here : (x : Planned P)
-        → Accounts cmp t (launched cmp t (with_queued cmp (record here { sending = fs; finish = o }) m) m) [] x
+        → Accounts cmp t (launched cmp t (with_queued cmp (record here { sending = fs; accounted = t; finish = o }) m) m) [] x
         → AllZip (Stays t)
-        (filter (λ f. not (is_spent cmp here.caps f)) (drained_to t (here.sending ++ starting t m ∷ []))) x.sending
+        (filter (λ f. not (is_spent cmp here.caps f)) (drained_to t (here.sending ++ starting here.next_id t m ∷ [])))
+        x.sending
     stayed_here x ax =
         subst (λ (l : List (RatedFlight P)). AllZip (Stays t) l x.sending)
-        (sym (one_more_stays t here.caps here.sending m stays))
+        (sym (one_more_stays here.next_id t here.caps here.sending m stays))
         (zip_chain (Stays t) (Stays t) (Stays t)
-        (λ f g k first second. (second.0 ∙ first.0, second.1 ∙ first.1, second.2))
-        (Staying t here ++ starting t m ∷ []) (fs ++ starting t m ∷ []) x.sending
-        (zip-append (Stays t) (Staying t here) (starting t m ∷ []) fs (starting t m ∷ []) a.stayed
-        ((refl, refl, refl), tt))
+        (λ f g k first second. (second.0 ∙ first.0, second.1 ∙ first.1, second.2 ∙ first.2, second.3))
+        (Staying t here ++ starting here.next_id t m ∷ []) (fs ++ starting here.next_id t m ∷ []) x.sending
+        (zip-append (Stays t) (Staying t here) (starting here.next_id t m ∷ []) fs (starting here.next_id t m ∷ [])
+        a.stayed ((refl, refl, refl, refl), tt))
         (subst (λ (l : List (RatedFlight P)). AllZip (Stays t) l x.sending) staying_there ax.stayed))
 
     accounts_here : (x : Planned P)
-        → Accounts cmp t (launched cmp t (with_queued cmp (record here { sending = fs; finish = o }) m) m) [] x
+        → Accounts cmp t (launched cmp t (with_queued cmp (record here { sending = fs; accounted = t; finish = o }) m) m) [] x
         → Accounts cmp t next [] (record x { start = next.start })
     accounts_here x ax =
         subst (λ (q : Planned P). Accounts cmp t q [] (record x { start = next.start })) (sym looks.same) (record {
           per = ax.per;
           rates = ax.rates;
-          left = sym (ap rated_messages (none_more_leaves t here.caps here.sending m stays none_here));
+          left = sym (ap rated_messages (none_more_leaves here.next_id t here.caps here.sending m stays none_here));
           stayed = stayed_here x ax;
           fair = ax.fair;
           rated = ax.rated;
@@ -646,18 +656,18 @@ module _ {P : Type 0} (cmp : P → P → Ordering) (order : IsTotalOrder cmp) wh
         })
 
     one_start : (ls : List (Message P)) (x : Planned P)
-        → Accounts cmp t (launched cmp t (with_queued cmp (record here { sending = fs; finish = o }) m) m) ls x
-        → Starts (record here { sending = fs; finish = o })
+        → Accounts cmp t (launched cmp t (with_queued cmp (record here { sending = fs; accounted = t; finish = o }) m) m) ls x
+        → Starts (record here { sending = fs; accounted = t; finish = o })
     one_start ls x ax =
         let none : ls ≡ [] = ax.left ∙ ap rated_messages none_there in
         let there = subst (λ (l : List (Message P)). Accounts cmp t
-        (launched cmp t (with_queued cmp (record here { sending = fs; finish = o }) m) m) l x) none ax in
+        (launched cmp t (with_queued cmp (record here { sending = fs; accounted = t; finish = o }) m) m) l x) none ax in
         (record x { start = next.start }, enqueues_there x there, accounts_here x there)
 
-    pub starts_there : Starts (record here { sending = fs; finish = o })
+    pub starts_there : Starts (record here { sending = fs; accounted = t; finish = o })
     starts_there =
         let x =
-        account_exists t (launched cmp t (with_queued cmp (record here { sending = fs; finish = o }) m) m) in
+        account_exists t (launched cmp t (with_queued cmp (record here { sending = fs; accounted = t; finish = o }) m) m) in
         one_start x.0 x.1 x.2
 
   -- where the planned world w is the other one after an account at which nothing leaves, a message that starts leads to
@@ -665,8 +675,7 @@ module _ {P : Type 0} (cmp : P → P → Ordering) (order : IsTotalOrder cmp) wh
   pub one_starts : (t : ℕ) (m : Message P) (here next w : Planned P) → Accounts cmp t here [] w
       → ArePositive here.sending → here.limited ≡ true → next_of cmp (with_queued cmp here m) m ≡ Some m
       → may_launch cmp t here m ≡ true → here.next_id < last_moment
-      → is_spent cmp here.caps
-      (record { message = m; left = whole (length m.bytes); rate = Some (whole 0); updated = t }) ≡ false
+      → is_spent cmp here.caps (starting here.next_id t m) ≡ false
       → PlansStart cmp t (launched cmp t (with_queued cmp here m) m) next
       → (v : Planned P) × Enqueues cmp t m w (goes [] v) × Accounts cmp t next [] v
   one_starts t m here next w a positive limited found may id stays looks =

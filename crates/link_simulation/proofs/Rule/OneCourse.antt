@@ -42,7 +42,7 @@ least_is_one Q (Some s) (Some t) e f =
 -- ---- an account
 
 abbrev Stay : {P : Type 0} → ℕ → RatedFlight P → RatedFlight P → Type 0
-Stay t f g = (g.message ≡ f.message) × (g.left ≡ f.left) × (g.updated ≡ t)
+Stay t f g = (g.id ≡ f.id) × (g.message ≡ f.message) × (g.left ≡ f.left) × (g.updated ≡ t)
 
 rate_is_one : (x y : Option ℕ) (d e : ℕ) → 0 < d → 0 < e
     → ((a : ℕ) → x ≡ Some a → (b : ℕ) × (y ≡ Some b) × (a * e ≡ b * d))
@@ -74,11 +74,12 @@ sending_is_one {P} t (x ∷ xs) (y ∷ ys) d e (b ∷ bs) (f ∷ fs) (g ∷ gs) 
     (λ c is. head y x c d e (from 0 c (ap Some is))) in
     let rest : fs ≡ gs =
     sending_is_one t xs ys d e bs fs gs i j h.1 k.1 r.1 s.1 (λ n. to (suc n)) (λ n. from (suc n)) in
-    let message : f.message ≡ g.message = h.0.0 ∙ sym k.0.0 in
-    let left : f.left ≡ g.left = h.0.1 ∙ sym k.0.1 in
+    let id : f.id ≡ g.id = h.0.0 ∙ sym k.0.0 in
+    let message : f.message ≡ g.message = h.0.1 ∙ sym k.0.1 in
+    let left : f.left ≡ g.left = h.0.2 ∙ sym k.0.2 in
     let own : f.rate ≡ g.rate = r.0 ∙ rate ∙ sym s.0 in
-    let updated : f.updated ≡ g.updated = h.0.2 ∙ sym k.0.2 in
-    λ n. record { message = message n; left = left n; rate = own n; updated = updated n } ∷ rest n
+    let updated : f.updated ≡ g.updated = h.0.3 ∙ sym k.0.3 in
+    λ n. record { id = id n; message = message n; left = left n; rate = own n; updated = updated n } ∷ rest n
   where
     head : (x z : Option ℕ) (a p q : ℕ) → (b : ℕ) × (Some z ≡ Some (Some b)) × (a * p ≡ b * q) → (b : ℕ) × (z ≡ Some b)
         × (a * p ≡ b * q)
@@ -89,7 +90,7 @@ stays_flows : {P : Type 0} (t : ℕ) (bs fs : List (RatedFlight P)) → AllZip (
 stays_flows t [] [] all = refl
 stays_flows t [] (f ∷ fs) all = absurd all
 stays_flows t (b ∷ bs) [] all = absurd all
-stays_flows t (b ∷ bs) (f ∷ fs) all = rw (all.0.0, stays_flows t bs fs all.1) refl
+stays_flows t (b ∷ bs) (f ∷ fs) all = rw (all.0.1, stays_flows t bs fs all.1) refl
 
 module _ {P : Type 0} (cmp : P → P → Ordering) (order : IsTotalOrder cmp) where
   pub account_is_one : (t : ℕ) (old new other : Planned P) (ls ms : List (Message P)) → Accounts cmp t old ls new
@@ -115,9 +116,9 @@ module _ {P : Type 0} (cmp : P → P → Ordering) (order : IsTotalOrder cmp) wh
       =
       least_is_one (SomeSpentAt new.sending) new.finish other.finish f.finish
       (subst (λ (fs : List (RatedFlight P)). IsLeastMoment (SomeSpentAt fs) other.finish) (sym sending) g.finish) in
-      let here : record old { sending = new.sending; finish = new.finish } ≡ record old
-      { sending = other.sending; finish = other.finish }
-      = λ i. record old { sending = sending i; finish = finish i } in
+      let here : record old { sending = new.sending; accounted = t; finish = new.finish } ≡ record old
+      { sending = other.sending; accounted = t; finish = other.finish }
+      = λ i. record old { sending = sending i; accounted = t; finish = finish i } in
       let world : new ≡ other = f.same ∙ here ∙ sym g.same in
       let left : ls ≡ ms = f.left ∙ sym g.left in
       λ i. goes (left i) (world i)

@@ -40,13 +40,13 @@ drained_near t [] near = tt
 drained_near t (f ∷ fs) near = (near.0, drained_near t fs near.1)
 
 stays_near : {P : Type 0} (t : ℕ) (fs gs : List (RatedFlight P))
-    → AllZip (λ f g. (g.message ≡ f.message) × (g.left ≡ f.left) × (g.updated ≡ t)) fs gs
+    → AllZip (λ f g. (g.id ≡ f.id) × (g.message ≡ f.message) × (g.left ≡ f.left) × (g.updated ≡ t)) fs gs
     → Each IsNearFlight fs → Each IsNearFlight gs
 stays_near t [] [] all near = tt
 stays_near t [] (g ∷ gs) all near = absurd all
 stays_near t (f ∷ fs) [] all near = absurd all
 stays_near {P} t (f ∷ fs) (g ∷ gs) all near =
-    (subst (λ (m : Message P). IsNear m) (sym all.0.0) near.0, stays_near t fs gs all.1 near.1)
+    (subst (λ (m : Message P). IsNear m) (sym all.0.1) near.0, stays_near t fs gs all.1 near.1)
 
 leavers_near : {P : Type 0} (fs : List (RatedFlight P)) → Each IsNearFlight fs → Each IsNear (rated_messages fs)
 leavers_near [] near = tt
@@ -103,6 +103,7 @@ module _ {P : Type 0} (cmp : P → P → Ordering) (order : IsTotalOrder cmp) (m
       record {
         sending =
             each_joined IsNearFlight p.sending (record {
+              id = p.next_id;
               message = m;
               left = whole (length m.bytes);
               rate = Some

@@ -47,7 +47,7 @@ module _ {P : Type 0} (cmp : P → P → Ordering) (order : IsTotalOrder cmp) wh
   rerated t (n ∷ ns) (g ∷ gs) = record g { rate = n.rate; updated = t } ∷ rerated t ns gs
 
   abbrev Stays : ℕ → RatedFlight P → RatedFlight P → Type 0
-  Stays t f g = (g.message ≡ f.message) × (g.left ≡ f.left) × (g.updated ≡ t)
+  Stays t f g = (g.id ≡ f.id) × (g.message ≡ f.message) × (g.left ≡ f.left) × (g.updated ≡ t)
 
   rerated_same : (t : ℕ) (fs ns gs : List (RatedFlight P)) → AllZip (Stays t) fs ns
       → AllZip (IsSameRatedFlight cmp) fs gs → AllZip (IsSameRatedFlight cmp) ns (rerated t ns gs)
@@ -57,10 +57,11 @@ module _ {P : Type 0} (cmp : P → P → Ordering) (order : IsTotalOrder cmp) wh
   rerated_same t (f ∷ fs) (n ∷ ns) [] stays all = absurd all
   rerated_same t (f ∷ fs) (n ∷ ns) (g ∷ gs) stays all = (
     record {
-      message = subst (λ (m : Message P). SameMessage cmp m g.message) (sym stays.0.0) all.0.message;
-      left = stays.0.1 ∙ all.0.left;
+      id = stays.0.0 ∙ all.0.id;
+      message = subst (λ (m : Message P). SameMessage cmp m g.message) (sym stays.0.1) all.0.message;
+      left = stays.0.2 ∙ all.0.left;
       rate = refl;
-      updated = stays.0.2;
+      updated = stays.0.3;
     },
     rerated_same t fs ns gs stays.1 all.1,
   )
@@ -72,7 +73,8 @@ module _ {P : Type 0} (cmp : P → P → Ordering) (order : IsTotalOrder cmp) wh
   rerated_stays t [] (n ∷ ns) gs stays all = absurd stays
   rerated_stays t (f ∷ fs) [] gs stays all = absurd stays
   rerated_stays t (f ∷ fs) (n ∷ ns) [] stays all = absurd all
-  rerated_stays t (f ∷ fs) (n ∷ ns) (g ∷ gs) stays all = ((refl, refl, refl), rerated_stays t fs ns gs stays.1 all.1)
+  rerated_stays t (f ∷ fs) (n ∷ ns) (g ∷ gs) stays all =
+      ((refl, refl, refl, refl), rerated_stays t fs ns gs stays.1 all.1)
 
   pub rated_so : (per : ℕ) (rates : Parts) (ns gs : List (RatedFlight P)) → AllZip (IsSameRatedFlight cmp) ns gs
       → AllZip (λ rate f. f.rate ≡ rate_of per rate) rates ns
@@ -106,7 +108,7 @@ module _ {P : Type 0} (cmp : P → P → Ordering) (order : IsTotalOrder cmp) wh
       let stays : List (RatedFlight P) = filter (λ f. not (is_spent cmp p.caps f)) (drained_to t p.sending) in
       let stay : List (RatedFlight P) = filter (λ f. not (is_spent cmp q.caps f)) (drained_to t q.sending) in
       let gs : List (RatedFlight P) = rerated t new.sending stay in
-      let n : Planned P = record q { sending = gs; finish = new.finish } in
+      let n : Planned P = record q { sending = gs; accounted = t; finish = new.finish } in
       let alike : AllZip (IsSameRatedFlight cmp) stays stay = staying_same cmp order p q same t in
       let sending : AllZip (IsSameRatedFlight cmp) new.sending gs =
       rerated_same t stays new.sending stay accounts.stayed alike in (
@@ -131,7 +133,7 @@ module _ {P : Type 0} (cmp : P → P → Ordering) (order : IsTotalOrder cmp) wh
             (flows_same cmp order (filter (is_spent cmp p.caps) (drained_to t p.sending))
             (filter (is_spent cmp q.caps) (drained_to t q.sending)) (leaving_same cmp order p q same t)),
         subst (λ (z : Planned P). IsSamePlanned cmp z n) (sym accounts.same)
-            (accounted_same cmp order p q same new.sending gs new.finish sending),
+            (accounted_same cmp order p q same t new.sending gs new.finish sending),
       )
 
   -- ---- the start, launches and finishes

@@ -84,11 +84,13 @@ module _ {P : Type 0} (cmp : P → P → Ordering) (order : IsTotalOrder cmp) wh
   -- ---- what is in flight
 
   paced_itself : (f : RatedFlight P) → IsSameRatedFlight cmp f f
-  paced_itself f = record { message = message_itself cmp order f.message; left = refl; rate = refl; updated = refl }
+  paced_itself f =
+      record { id = refl; message = message_itself cmp order f.message; left = refl; rate = refl; updated = refl }
 
   pub paced_turned : (f g : RatedFlight P) → IsSameRatedFlight cmp f g → IsSameRatedFlight cmp g f
   paced_turned f g e =
       record {
+        id = sym e.id;
         message = message_turned f.message g.message e.message;
         left = sym e.left;
         rate = sym e.rate;
@@ -99,6 +101,7 @@ module _ {P : Type 0} (cmp : P → P → Ordering) (order : IsTotalOrder cmp) wh
       → IsSameRatedFlight cmp f h
   paced_chain f g h d e =
       record {
+        id = d.id ∙ e.id;
         message = message_chain f.message g.message h.message d.message e.message;
         left = d.left ∙ e.left;
         rate = d.rate ∙ e.rate;
@@ -116,6 +119,7 @@ module _ {P : Type 0} (cmp : P → P → Ordering) (order : IsTotalOrder cmp) wh
     waiting = zip-same (SameMessage cmp) (message_itself cmp order) p.waiting;
     last_arrival = arrivals;
     next_id = refl;
+    accounted = refl;
     finish = refl;
     start = refl;
   }
@@ -128,6 +132,7 @@ module _ {P : Type 0} (cmp : P → P → Ordering) (order : IsTotalOrder cmp) wh
     waiting = zip_turned (SameMessage cmp) (SameMessage cmp) message_turned p.waiting q.waiting same.waiting;
     last_arrival = pairs_turned p.last_arrival q.last_arrival same.last_arrival;
     next_id = sym same.next_id;
+    accounted = sym same.accounted;
     finish = sym same.finish;
     start = sym same.start;
   }
@@ -144,6 +149,7 @@ module _ {P : Type 0} (cmp : P → P → Ordering) (order : IsTotalOrder cmp) wh
         first.waiting second.waiting;
     last_arrival = pairs_chain p.last_arrival q.last_arrival r.last_arrival first.last_arrival second.last_arrival;
     next_id = first.next_id ∙ second.next_id;
+    accounted = first.accounted ∙ second.accounted;
     finish = first.finish ∙ second.finish;
     start = first.start ∙ second.start;
   }

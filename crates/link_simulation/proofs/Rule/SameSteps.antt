@@ -199,7 +199,7 @@ module _ {P : Type 0} (cmp : P → P → Ordering) (order : IsTotalOrder cmp) wh
   drained_same t [] (g ∷ gs) all = absurd all
   drained_same t (f ∷ fs) [] all = absurd all
   drained_same t (f ∷ fs) (g ∷ gs) all = (
-    record { message = all.0.message; left = left_same t f g all.0; rate = all.0.rate; updated = refl },
+    record { id = all.0.id; message = all.0.message; left = left_same t f g all.0; rate = all.0.rate; updated = refl },
     drained_same t fs gs all.1,
   )
 
@@ -215,12 +215,13 @@ module _ {P : Type 0} (cmp : P → P → Ordering) (order : IsTotalOrder cmp) wh
         ap (λ (a : Amount). a.num) (sym (left_same t f found.0 found.2)) ∙ spent,
       )
 
-  abbrev launching : ℕ → Message P → RatedFlight P
-  launching t m = record { message = m; left = whole (length m.bytes); rate = Some (whole 0); updated = t }
+  abbrev launching : ℕ → ℕ → Message P → RatedFlight P
+  launching id t m = record { id = id; message = m; left = whole (length m.bytes); rate = Some (whole 0); updated = t }
 
-  launching_same : (t : ℕ) (m n : Message P) → SameMessage cmp m n
-      → IsSameRatedFlight cmp (launching t m) (launching t n)
-  launching_same t m n e = record { message = e; left = rw e.bytes refl; rate = refl; updated = refl }
+  launching_same : (i j t : ℕ) (m n : Message P) → i ≡ j → SameMessage cmp m n
+      → IsSameRatedFlight cmp (launching i t m) (launching j t n)
+  launching_same i j t m n same e =
+      record { id = same; message = e; left = rw e.bytes refl; rate = refl; updated = refl }
 
   -- when a message lands that completes as it is enqueued, and when it is delivered
   abbrev landing : ℕ → Planned P → Message P → ℕ
@@ -304,20 +305,24 @@ module _ {P : Type 0} (cmp : P → P → Ordering) (order : IsTotalOrder cmp) wh
       waiting = same.waiting;
       last_arrival = same.last_arrival;
       next_id = same.next_id;
+      accounted = same.accounted;
       finish = same.finish;
       start = same.start;
     }
 
-    -- with other flows, and another moment when the first of them is done
-    pub accounted_same : (fs gs : List (RatedFlight P)) (finish : Option ℕ) → AllZip (IsSameRatedFlight cmp) fs gs
-        → IsSamePlanned cmp (record p { sending = fs; finish = finish }) (record q { sending = gs; finish = finish })
-    accounted_same fs gs finish sending = record {
+    -- with other flows, accounted for at a moment, and another moment when the first of them is done
+    pub accounted_same : (t : ℕ) (fs gs : List (RatedFlight P)) (finish : Option ℕ)
+        → AllZip (IsSameRatedFlight cmp) fs gs
+        → IsSamePlanned cmp (record p { sending = fs; accounted = t; finish = finish })
+        (record q { sending = gs; accounted = t; finish = finish })
+    accounted_same t fs gs finish sending = record {
       caps = same.caps;
       limited = same.limited;
       sending = sending;
       waiting = same.waiting;
       last_arrival = same.last_arrival;
       next_id = same.next_id;
+      accounted = refl;
       finish = refl;
       start = same.start;
     }
@@ -331,12 +336,23 @@ module _ {P : Type 0} (cmp : P → P → Ordering) (order : IsTotalOrder cmp) wh
       waiting = same.waiting;
       last_arrival = same.last_arrival;
       next_id = same.next_id;
+      accounted = same.accounted;
       finish = same.finish;
       start = refl;
     }
 
     pub no_finish_same : IsSamePlanned cmp (record p { finish = None }) (record q { finish = None })
-    no_finish_same = accounted_same p.sending q.sending None same.sending
+    no_finish_same = record {
+      caps = same.caps;
+      limited = same.limited;
+      sending = same.sending;
+      waiting = same.waiting;
+      last_arrival = same.last_arrival;
+      next_id = same.next_id;
+      accounted = same.accounted;
+      finish = refl;
+      start = same.start;
+    }
 
     pub no_start_same : IsSamePlanned cmp (record p { start = None }) (record q { start = None })
     no_start_same = planned_same None
@@ -347,13 +363,14 @@ module _ {P : Type 0} (cmp : P → P → Ordering) (order : IsTotalOrder cmp) wh
       caps = same.caps;
       limited = same.limited;
       sending =
-          zip-append (IsSameRatedFlight cmp) p.sending (launching t m ∷ []) q.sending (launching t n ∷ []) same.sending
-          (launching_same t m n e, tt);
+          zip-append (IsSameRatedFlight cmp) p.sending (launching p.next_id t m ∷ []) q.sending
+          (launching q.next_id t n ∷ []) same.sending (launching_same p.next_id q.next_id t m n same.next_id e, tt);
       waiting =
           without_same (SameMessage cmp) (same_pair cmp m) (same_pair cmp n)
           (λ k l f. pairs_alike cmp order m n k l e f) p.waiting q.waiting same.waiting;
       last_arrival = same.last_arrival;
       next_id = ap (λ (k : ℕ). k + 1) same.next_id;
+      accounted = same.accounted;
       finish = same.finish;
       start = same.start;
     }
@@ -367,6 +384,7 @@ module _ {P : Type 0} (cmp : P → P → Ordering) (order : IsTotalOrder cmp) wh
       waiting = same.waiting;
       last_arrival = alike;
       next_id = same.next_id;
+      accounted = same.accounted;
       finish = same.finish;
       start = same.start;
     }
@@ -388,6 +406,7 @@ module _ {P : Type 0} (cmp : P → P → Ordering) (order : IsTotalOrder cmp) wh
       waiting = queued_same m n p.waiting q.waiting e same.waiting;
       last_arrival = same.last_arrival;
       next_id = same.next_id;
+      accounted = same.accounted;
       finish = same.finish;
       start = same.start;
     }

@@ -52,9 +52,9 @@ is_gone m = completion_of m None
 abbrev pub a_byte_a_nanosecond : Option ℕ
 a_byte_a_nanosecond = Some 1_000_000_000
 
--- as it is planned: the message has just started at moment 0, and has that rate
+-- as it is planned: the message has just started at moment 0 under flow id 0, and has that rate
 abbrev pub rated_flight : Message ℕ → Option Amount → RatedFlight ℕ
-rated_flight m rate = record { message = m; left = whole (length m.bytes); rate = rate; updated = 0 }
+rated_flight m rate = record { id = 0; message = m; left = whole (length m.bytes); rate = rate; updated = 0 }
 
 -- at moment 0, the first peer has that egress cap, and the message has just started
 abbrev pub flying : ℕ → Message ℕ → World ℕ

@@ -27,12 +27,12 @@ module _ {P : Type 0} (cmp : P → P → Ordering) where
     pub per : ℕ
     pub rates : Parts
     pub left : leavers ≡ rated_messages (filter (is_spent cmp old.caps) (drained_to t old.sending))
-    pub stayed : AllZip (λ f g. (g.message ≡ f.message) × (g.left ≡ f.left) × (g.updated ≡ t))
+    pub stayed : AllZip (λ f g. (g.id ≡ f.id) × (g.message ≡ f.message) × (g.left ≡ f.left) × (g.updated ≡ t))
         (filter (λ f. not (is_spent cmp old.caps f)) (drained_to t old.sending)) new.sending
     pub fair : AreFair cmp old.caps (rated_messages new.sending) per rates
     pub rated : AllZip (λ rate f. f.rate ≡ rate_of per rate) rates new.sending
     pub finish : IsLeastMoment (SomeSpentAt new.sending) new.finish
-    pub same : new ≡ record old { sending = new.sending; finish = new.finish }
+    pub same : new ≡ record old { sending = new.sending; accounted = t; finish = new.finish }
 
   -- the start is planned anew: the least moment from t on at which a pair is ready
   pub record PlansStart (t : ℕ) (old new : Planned P) : Type 0 where
@@ -43,6 +43,7 @@ module _ {P : Type 0} (cmp : P → P → Ordering) where
   abbrev pub launched : ℕ → Planned P → Message P → Planned P
   launched t p m = record p {
     sending = p.sending ++ record {
+      id = p.next_id;
       message = m;
       left = whole (length m.bytes);
       rate = Some (whole 0);

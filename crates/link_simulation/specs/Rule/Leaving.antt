@@ -9,4 +9,7 @@ use Rattle.link_simulation.specs.Rule.Planned.{Planned, rated_messages, drained_
 pub record Leaves {P : Type 0} (cmp : P → P → Ordering) (t : ℕ) (old : Planned P) (leavers : List (Message P))
     (new : Planned P) : Type 0 where
   pub left : leavers ≡ rated_messages (filter (is_spent cmp old.caps) (drained_to t old.sending))
-  pub is : new ≡ record old { sending = filter (λ f. not (is_spent cmp old.caps f)) (drained_to t old.sending) }
+  pub is : new ≡ record old {
+    sending = filter (λ f. not (is_spent cmp old.caps f)) (drained_to t old.sending);
+    accounted = t;
+  }

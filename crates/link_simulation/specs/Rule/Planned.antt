@@ -8,15 +8,18 @@ use Rattle.link_simulation.specs.Simulation.Messages.{Message, Caps, no_caps, sa
 use Rattle.link_simulation.specs.Simulation.Rates.{Parts, rate_of, drained_by, is_unlimited, AreFair}
 use Rattle.link_simulation.specs.Simulation.World.{last_moment, is_in_order}
 
--- a message in flight, with what was left of it at a moment, and the rate that it has had since; none is without limit
+-- a message in flight under its flow id, with what was left of it at a moment, and the rate that it has had since; none
+-- is without limit
 pub record RatedFlight (P : Type 0) : Type 0 where
+  pub id : ℕ
   pub message : Message P
   pub left : Amount
   pub rate : Option Amount
   pub updated : ℕ
 
 -- the messages in flight stand in order of start, and the waiting ones in the order of pairs, those of a pair in
--- order of enqueue; some message finishes next at one moment, and some starts next at another
+-- order of enqueue; what is in flight was accounted for last at one moment, some message finishes next at another, and
+-- some starts next at a third one
 pub record Planned (P : Type 0) : Type 0 where
   pub caps : Caps P
   pub limited : Bool
@@ -24,6 +27,7 @@ pub record Planned (P : Type 0) : Type 0 where
   pub waiting : List (Message P)
   pub last_arrival : P → P → Option ℕ
   pub next_id : ℕ
+  pub accounted : ℕ
   pub finish : Option ℕ
   pub start : Option ℕ
 
@@ -36,6 +40,7 @@ new_planned id = record {
   waiting = [];
   last_arrival = λ p q. None;
   next_id = id;
+  accounted = 0;
   finish = None;
   start = None;
 }

@@ -14,6 +14,7 @@ use Rattle.link_simulation.specs.Rule.Events.{Advances, Obeys}
 module _ {P : Type 0} (cmp : P → P → Ordering) where
   -- the same message in flight
   pub record IsSameRatedFlight (f g : RatedFlight P) : Type 0 where
+    pub id : f.id ≡ g.id
     pub message : SameMessage cmp f.message g.message
     pub left : f.left ≡ g.left
     pub rate : f.rate ≡ g.rate
@@ -27,6 +28,7 @@ module _ {P : Type 0} (cmp : P → P → Ordering) where
     pub waiting : AllZip (SameMessage cmp) p.waiting q.waiting
     pub last_arrival : PairsAlike cmp p.last_arrival q.last_arrival
     pub next_id : p.next_id ≡ q.next_id
+    pub accounted : p.accounted ≡ q.accounted
     pub finish : p.finish ≡ q.finish
     pub start : p.start ≡ q.start
 

@@ -81,8 +81,13 @@ module _ {P : Type 0} (cmp : P → P → Ordering) (order : IsTotalOrder cmp) wh
   -- the planned world once the first waiting message of a pair is taken and in flight
   abbrev pub pushed : ℕ → Planned P → P → P → Message P → Planned P
   pushed t p o r m = record p {
-    sending =
-        p.sending ++ record { message = m; left = whole (length m.bytes); rate = Some (whole 0); updated = t } ∷ [];
+    sending = p.sending ++ record {
+      id = p.next_id;
+      message = m;
+      left = whole (length m.bytes);
+      rate = Some (whole 0);
+      updated = t;
+    } ∷ [];
     waiting = without_first (λ (n : Message P). same_peer cmp o n.origin && same_peer cmp r n.recipient) p.waiting;
     next_id = p.next_id + 1;
   }

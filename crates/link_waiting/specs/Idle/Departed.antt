@@ -20,6 +20,7 @@ pub record HasDeparted {P : Type 0} (cmp : P → P → Ordering) (t : ℕ) (p : 
   pub first : first_of cmp p.waiting o r ≡ Some message
   pub is : q ≡ record p {
     sending = p.sending ++ record {
+      id = p.next_id;
       message = message;
       left = whole (length message.bytes);
       rate = Some (whole 0);

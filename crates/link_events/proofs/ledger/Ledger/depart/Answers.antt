@@ -27,7 +27,13 @@ invariant_of-self-2 g c =
     let r = c.args.recipient.now in
     let m : Message g.row.P.Denot = message_of c.in-Some.message.value in
     let f : RatedFlight g.row.P.Denot =
-    record { message = m; left = whole (length m.bytes); rate = Some (whole 0); updated = c.args.now } in
+    record {
+      id = old.next_id;
+      message = m;
+      left = whole (length m.bytes);
+      rate = Some (whole 0);
+      updated = c.args.now;
+    } in
     let found : first_of cmp (map message_of old.waiting.messages) o r ≡ Some m =
     sym c.in_ok-message.ensures.taken ∙ ap (option_map (λ x. message_of x.value)) c.in-Some.is in
     let taken = c.in_ok-message.ensures.rest in
@@ -73,6 +79,7 @@ returns-clause-departed g c =
         waiting = taken i;
         last_arrival = arrival_of cmp old.pairs.entries;
         next_id = old.next_id + 1;
+        accounted = c.in_default-push.ensures.joined.at i;
         finish = old.finish;
         start = old.start;
       };

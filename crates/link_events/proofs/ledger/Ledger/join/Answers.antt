@@ -46,6 +46,7 @@ returns-clause-queued g c =
       waiting = joined i;
       last_arrival = arrival_of cmp old.pairs.entries;
       next_id = old.next_id;
+      accounted = old.flights.at;
       finish = old.finish;
       start = old.start;
     }

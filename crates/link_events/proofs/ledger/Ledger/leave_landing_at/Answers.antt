@@ -31,6 +31,7 @@ returns-in-Ok-clause-lands g c =
       caps = caps_of cmp old.peers.entries known;
       sending = in_flight flights;
       last_arrival = arrival_of cmp known;
+      accounted = flights.at;
     } in
     leaves_landing cmp g.met.P.Ord.total c.args.now (planned cmp old) new
     (filter (λ f. not (is_spent cmp caps f)) (drained_to c.args.now (in_flight old.flights))) (arrival_of cmp known)
@@ -45,6 +46,7 @@ returns-in-Ok-clause-lands g c =
           };
       sending = left.parted.stays i;
       last_arrival = arrival_of cmp known;
+      accounted = left.parted.moment i;
     })
     left.lands
     (left.idle
@@ -74,6 +76,7 @@ returns-in-Err-clause-refused g c =
           others = late.1.others;
           here = record (planned cmp old) {
             sending = filter (λ f. not (is_spent cmp caps f)) (drained_to c.args.now (in_flight old.flights));
+            accounted = c.args.now;
           };
           leaves = record { left = sym late.1.done_is; is = refl };
           late = late.1.is;

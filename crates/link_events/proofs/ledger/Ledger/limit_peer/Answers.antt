@@ -18,6 +18,7 @@ returns-clause-limited g c =
       waiting = map message_of c.args.self.now.waiting.messages;
       last_arrival = arrival_of g.P.Ord.cmp c.args.self.now.pairs.entries;
       next_id = c.args.self.now.next_id;
+      accounted = c.args.self.now.flights.at;
       finish = c.args.self.now.finish;
       start = c.args.self.now.start;
     })

@@ -73,6 +73,7 @@ returns-clause-raised g c =
       waiting = map message_of old.waiting.messages;
       last_arrival = c.in_ok-last.ensures.arrival i;
       next_id = old.next_id;
+      accounted = old.flights.at;
       finish = old.finish;
       start = old.start;
     }

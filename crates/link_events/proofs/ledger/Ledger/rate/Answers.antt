@@ -113,8 +113,9 @@ returns-in-Ok-clause-accounts g c = λ old leavers lv.
     let h = c.in-Ok.ensures.rated in
     let moment : flying.at ≡ c.args.now = c.renew_units.ensures.at ∙ c.requires.moment in
     let caps = ap (λ (p : Planned g.row.P.Denot). p.caps) lv.is in
+    let at : new.at ≡ c.args.now = h.at ∙ moment in
     subst (λ (p : Planned g.row.P.Denot). Accounts cmp c.args.now old leavers p)
-    (sym (ap (λ (p : Planned g.row.P.Denot). record p { sending = in_flight new; finish = c.in-Ok.finish }) lv.is))
+    (sym (λ i. record (lv.is i) { sending = in_flight new; accounted = at i; finish = c.in-Ok.finish }))
     (accounts_so cmp c.args.now old flying.scale new.scale h.times flying.scaled new.scaled h.scale (in_units flying)
     (in_units new)
     (c.renew_units.ensures.sending ∙ ap (λ (p : Planned g.row.P.Denot). p.sending) lv.is)

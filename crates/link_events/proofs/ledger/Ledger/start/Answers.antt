@@ -23,7 +23,13 @@ invariant_of-self-2 g c =
     let old = c.args.self.now in
     let m : Message g.row.P.Denot = message_of c.in_ok-message.message.value in
     let f : RatedFlight g.row.P.Denot =
-    record { message = m; left = whole (length m.bytes); rate = Some (whole 0); updated = c.args.now } in
+    record {
+      id = old.next_id;
+      message = m;
+      left = whole (length m.bytes);
+      rate = Some (whole 0);
+      updated = c.args.now;
+    } in
     let same : c.in_ok-message.message.value ≡ c.args.message = search rules in
     record {
       one_each =
@@ -48,11 +54,18 @@ returns-clause-started g c =
     let same : c.in_ok-message.message.value ≡ c.args.message = search rules in
     let sending : in_flight c.push.new.self
     ≡ in_flight old.flights
-    ++ record { message = m; left = whole (length m.bytes); rate = Some (whole 0); updated = c.args.now } ∷ [] =
+    ++ record {
+      id = old.next_id;
+      message = m;
+      left = whole (length m.bytes);
+      rate = Some (whole 0);
+      updated = c.args.now;
+    } ∷ [] =
     c.in_ok-push.ensures.sending
     ∙ ap
     (λ (v : code.Message g.row.P.Denot). in_flight old.flights
     ++ record {
+      id = old.next_id;
       message = message_of v;
       left = whole (length v.bytes);
       rate = Some (whole 0);
@@ -67,6 +80,7 @@ returns-clause-started g c =
       waiting = sym (without_joined cmp g.met.P.Ord.total m (map message_of old.waiting.messages) c.requires.alone) i;
       last_arrival = arrival_of cmp old.pairs.entries;
       next_id = old.next_id + 1;
+      accounted = c.in_ok-push.ensures.joined.at i;
       finish = old.finish;
       start = old.start;
     }

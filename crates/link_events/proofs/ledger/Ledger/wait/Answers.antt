@@ -26,6 +26,7 @@ returns-clause-enqueues g c =
       waiting = c.in_ok-push.ensures.waiting i;
       last_arrival = arrival_of cmp old.pairs.entries;
       next_id = old.next_id;
+      accounted = old.flights.at;
       finish = old.finish;
       start = old.start;
     }) c.plan_start.ensures
@@ -42,6 +43,7 @@ returns-clause-waits g c =
       waiting = c.in_ok-push.ensures.waiting i;
       last_arrival = arrival_of cmp old.pairs.entries;
       next_id = old.next_id;
+      accounted = old.flights.at;
       finish = old.finish;
       start = old.start;
     }) c.plan_start.ensures

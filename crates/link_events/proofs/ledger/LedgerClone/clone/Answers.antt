@@ -43,6 +43,7 @@ returns g c =
         waiting = map message_of (c.in_ok-peers.ensures.waiting i);
         last_arrival = arrival_of cmp (c.in_ok-peers.ensures.pairs i);
         next_id = old.next_id;
+        accounted = c.in_ok-idle.ensures.flights.at i;
         finish = old.finish;
         start = old.start;
       };

@@ -62,6 +62,7 @@ loop-at-preserved g c =
                 (sym w.self-is)
                 (next_brought old.at c.args.now old.list.items so_far.list.items c.loop-at.at c.loop-at.invariant.0 x lt
                 is w.in_ok-one.one w.put.new.self.list.items w.in_ok-put.ensures.list back
+                (w.in_ok-one.ensures.id ∙ ap (λ (f : Flight g.row.P.Denot). f.id) value)
                 (w.in_ok-one.ensures.message ∙ ap (λ (f : Flight g.row.P.Denot). f.message.value) value)
                 (w.in_ok-one.ensures.left ∙ ap (λ (f : Flight g.row.P.Denot). (flight_at so_far.at f).left) value
                 ∙ ap (λ n. (flight_at n x.value).left) at_is)

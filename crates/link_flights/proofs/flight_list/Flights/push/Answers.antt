@@ -17,6 +17,7 @@ use Rattle.link_flights.proofs.flight_list.Flights.push.Goals.{In_ok-push}
 abbrev started : (g : _) (c : In_ok-push g) → Flight g.row.P.Denot
 started g c =
     record {
+      id = c.args.id;
       message = c.args.message;
       left = c.in_ok-left.left;
       rate = None;
@@ -29,6 +30,7 @@ started g c =
 abbrev unit_of : (g : _) (c : In_ok-push g) → UnitFlight g.row.P.Denot
 unit_of g c =
     record {
+      id = c.args.id;
       message = c.args.message.value;
       left = c.in_ok-left.left;
       rate = 0;
@@ -49,6 +51,7 @@ joins_so g c =
 -- as it is read
 read_so : (g : _) (c : In_ok-push g) → rated_flight_of c.args.self.now.scale (unit_of g c)
     ≡ record {
+      id = c.args.id;
       message = message_of c.args.message.value;
       left = whole (length c.args.message.value.bytes);
       rate = Some (whole 0);
@@ -61,6 +64,7 @@ read_so g c =
     let left : c.in_ok-left.left ≡ old.scale * (length m.value.bytes * billion) =
     c.in_ok-left.ensures.value ∙ ap (λ n. old.scale * (n * billion)) bytes in
     λ i. record {
+      id = c.args.id;
       message = message_of m.value;
       left = units_of_bytes old.scale (length m.value.bytes) c.in_ok-left.left old.scaled left i;
       rate = Some (no_units old.scale old.scaled i);

@@ -13,6 +13,7 @@ returns-clause-rerated g c =
     let value : c.deref.result.now ≡ x.value = c.deref.ensures in
     put_anew old.at (product c.args.growth.now) (rate_of c.args.rate) old.list.items c.args.at x
     c.requires.place c.index.ensures one.one c.put.new.self.list.items c.in_ok-put.ensures.list
+    (one.ensures.id ∙ ap (λ (f : Flight g.row.P.Denot). f.id) value)
     (one.ensures.message ∙ ap (λ (f : Flight g.row.P.Denot). f.message.value) value)
     (one.ensures.left
     ∙ ap (λ (f : Flight g.row.P.Denot). (flight_at old.at f).left * product c.args.growth.now) value)

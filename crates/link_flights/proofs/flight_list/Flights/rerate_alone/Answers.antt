@@ -67,6 +67,7 @@ returns-clause-rerated g c so =
     let rate : rate_of c.in_ok-rate.rate ≡ rate_of c.args.rate.now = search rules in
     put_anew old.at (product c.args.growth.now) (rate_of c.args.rate.now) old.list.items c.args.at x c.requires.place c.index_mut.ensures.value
     c.rerate.new.self (set old.list.items c.args.at one) (record { one = one; is = refl; others = refl })
+    (e.id ∙ ap (λ (f : Flight g.row.P.Denot). f.id) value)
     (e.message ∙ ap (λ (f : Flight g.row.P.Denot). f.message.value) value)
     (e.left ∙ ap (λ (f : Flight g.row.P.Denot). (flight_at old.at f).left * product c.args.growth.now) value)
     (e.rate ∙ rate) e.since e.rated e.timed
