@@ -1,4 +1,5 @@
 pub mod Examples
+pub mod Groups
 pub mod Laws
 pub mod Rule
 pub mod Simulation

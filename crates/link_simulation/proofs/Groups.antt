@@ -1,0 +1,20 @@
+-- What the event rule does to a group of peers alone, it does to them beside the others.
+pub mod Accounts
+pub mod Advances
+pub mod Beside
+pub mod Calls
+pub mod Draining
+pub mod Finishes
+pub mod Flights
+pub mod Launches
+pub mod LeastMoments
+pub mod Lists
+pub mod Merging
+pub mod Moments
+pub mod Onward
+pub mod OthersDrain
+pub mod PairOrder
+pub mod Part
+pub mod Rates
+pub mod Rising
+pub mod Wakes
