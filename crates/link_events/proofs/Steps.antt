@@ -2,8 +2,10 @@
 pub mod Advancing
 pub mod Answered
 pub mod Batch
+pub mod Drained
 pub mod FewerEvents
 pub mod Finishing
+pub mod Joined
 pub mod Landing
 pub mod Limits
 pub mod MessageCounts

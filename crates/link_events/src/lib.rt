@@ -9,6 +9,7 @@ mod answers;
 mod batch;
 mod event;
 mod events;
+mod joining;
 mod leave;
 pub mod ledger;
 mod moves;
