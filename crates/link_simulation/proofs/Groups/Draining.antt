@@ -16,10 +16,10 @@ gcd_none : (n : ℕ) → gcd n 0 ≡ n
 unfolding gcd_within
 gcd_none n = refl
 
-none_over_none : reduced 0 0 ≡ record { num = 0; den = 0 }
+pub none_over_none : reduced 0 0 ≡ record { num = 0; den = 0 }
 none_over_none = reduced_is 0 0 0 (gcd_none 0) ∙ amount_is (zero-div 0) (zero-div 0)
 
-some_over_none : (n : ℕ) → 0 < n → reduced n 0 ≡ record { num = 1; den = 0 }
+pub some_over_none : (n : ℕ) → 0 < n → reduced n 0 ≡ record { num = 1; den = 0 }
 some_over_none n h = reduced_is n 0 n (gcd_none n) ∙ amount_is (div_self h) (zero-div n)
 
 -- at a rate over zero

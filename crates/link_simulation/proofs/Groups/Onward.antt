@@ -7,11 +7,12 @@ use Rattle.std.specs.List.{filter}
 use Rattle.std.specs.declared.cmp.Ordering.{Ordering}
 use Rattle.std.specs.Cmp.{IsTotalOrder}
 use Rattle.fair_rates.proofs.Lists.Each.{each_map}
+use Rattle.fair_rates.specs.declared.error.Error.{Error}
 use Rattle.link_simulation.specs.Simulation.Messages.{Message, same_pair}
 use Rattle.link_simulation.specs.Simulation.World.{Completed, Course, goes, meets, last_moment, preceded, fronts}
 use Rattle.link_simulation.specs.Simulation.World.{EndsWith}
 use Rattle.link_simulation.specs.Simulation.World.{completed}
-use Rattle.link_simulation.specs.Rule.Planned.{Planned, IsLeastMoment, SomeReadyAt, next_of, may_launch}
+use Rattle.link_simulation.specs.Rule.Planned.{Planned, IsLeastMoment, SomeReadyAt, next_of, may_launch, next_event}
 use Rattle.link_simulation.specs.Rule.Events.{PlansStart, Finishes, all_completed, late, stopped, completes, WakesEach}
 use Rattle.link_simulation.specs.Rule.Events.{all_started, no_start, no_finish, starts_one, Wakes, Settles, settling}
 use Rattle.link_simulation.specs.Rule.Events.{Advances, no_more, at_finish, at_start, finish_stops, start_stops}
@@ -62,7 +63,7 @@ module _ {P : Type 0} (cmp : P → P → Ordering) (order : IsTotalOrder cmp) wh
   woken_none (no_finish launch finishes) e = cc
   woken_none (starts_one launch finishes wakes) e = cc
 
-  none_wakes : (t from : ℕ) (p : Planned P) → t ≤ last_moment → from ≤ t → StartsFrom from p
+  pub none_wakes : (t from : ℕ) (p : Planned P) → t ≤ last_moment → from ≤ t → StartsFrom from p
       → IfSome p.start (λ s. t < s) → filter (may_launch cmp t p) (fronts cmp p.waiting) ≡ []
   none_wakes t from p within le planned later =
       filter_none (may_launch cmp t p) (fronts cmp p.waiting)
@@ -94,6 +95,62 @@ module _ {P : Type 0} (cmp : P → P → Ordering) (order : IsTotalOrder cmp) wh
       least_is_one (λ s. (t ≤ s) × SomeReadyAt cmp p s) p.start woken.0.start still woken.1.start in
       let same : p ≡ woken.0 = ap (λ (o : Option ℕ). record p { start = o }) start ∙ sym woken.1.same in
       ap (goes []) same ∙ sym woken.2
+
+  -- ---- what comes after an advance
+
+  -- nothing comes any more up to its moment
+  pub advance_past : {t n : ℕ} {p : Planned P} {c : Course (Completed P) (Planned P)} → Advances cmp t p n c
+      → t ≤ last_moment → (from : ℕ) → from ≤ t → StartsFrom from p
+      → EndsWith (λ q. IfSome (next_event q) (λ s. t < s)) c
+  advance_past {t = t} (no_more {p = p} {course = course} before wakes) within from le planned = by_course course wakes
+    where
+      by_course : (c : Course (Completed P) (Planned P)) → Wakes cmp t p c
+          → EndsWith (λ q. IfSome (next_event q) (λ s. t < s)) c
+      by_course (meets fault) wakes = tt
+      by_course (goes cs q) wakes =
+          let same : ◌≡◌ {A = Course (Completed P) (Planned P)} (goes [] p) (goes cs q) =
+          wake_stays t from p q cs within le planned (both_before p.finish p.start t before).1 wakes in
+          let world : p ≡ q = cc in
+          subst (λ (r : Planned P). IfSome (next_event r) (λ s. t < s)) world before
+  advance_past {t = t} (at_finish {t = event} {cs = cs} {rest = rest} finish next due settles more) within from le
+      planned =
+      ends_preceded (λ q. IfSome (next_event q) (λ s. t < s)) cs rest
+      (advance_past more within event due (settle_plans settles))
+  advance_past {t = t} (at_start {t = event} {cs = cs} {rest = rest} not_finish next due wakes more) within from le
+      planned =
+      ends_preceded (λ q. IfSome (next_event q) (λ s. t < s)) cs rest
+      (advance_past more within event due (wake_plans wakes))
+  advance_past (finish_stops finish next due settles) within from le planned = tt
+  advance_past (start_stops not_finish next due wakes) within from le planned = tt
+
+  fault_of : (cs : List (Completed P)) (c : Course (Completed P) (Planned P)) (fault : Error)
+      → preceded cs c ≡ meets fault → c ≡ meets fault
+  fault_of cs (goes ds q) fault e = cc
+  fault_of cs (meets other) fault e = e
+
+  -- the fault that it meets is met up to a later moment as well
+  pub fault_later : {t n : ℕ} {p : Planned P} {c : Course (Completed P) (Planned P)} → Advances cmp t p n c
+      → t ≤ last_moment → (from : ℕ) → from ≤ t → StartsFrom from p → (fault : Error) → c ≡ meets fault
+      → (now : ℕ) → t ≤ now → Advances cmp now p n (meets fault)
+  fault_later {t = t} (no_more {p = p} before wakes) within from le planned fault e now later =
+      let woken = woken_none wakes
+      (none_wakes t from p within le planned (both_before p.finish p.start t before).1) in
+      let wrong : ◌≡◌ {A = Course (Completed P) (Planned P)} (meets fault) (goes [] woken.0) = sym e ∙ woken.2 in
+      cc
+  fault_later (at_finish {t = event} {cs = cs} {rest = rest} finish next due settles more) within from le planned
+      fault e now later =
+      at_finish {rest = meets fault} finish next (omega arith) settles
+      (fault_later more within event due (settle_plans settles) fault (fault_of cs rest fault e) now later)
+  fault_later (at_start {t = event} {cs = cs} {rest = rest} not_finish next due wakes more) within from le planned
+      fault e now later =
+      at_start {rest = meets fault} not_finish next (omega arith) wakes
+      (fault_later more within event due (wake_plans wakes) fault (fault_of cs rest fault e) now later)
+  fault_later {p = p} (finish_stops {t = event} finish next due settles) within from le planned fault e now later =
+      subst (λ (c : Course (Completed P) (Planned P)). Advances cmp now p 1 c) e
+      (finish_stops finish next (omega arith) settles)
+  fault_later {p = p} (start_stops {t = event} not_finish next due wakes) within from le planned fault e now later =
+      subst (λ (c : Course (Completed P) (Planned P)). Advances cmp now p 1 c) e
+      (start_stops not_finish next (omega arith) wakes)
 
   -- ---- one advance and then another
 
@@ -166,3 +223,41 @@ module _ {P : Type 0} (cmp : P → P → Ordering) (order : IsTotalOrder cmp) wh
       → Advances cmp now p (n + m) (preceded cs course)
   advances_on t now from n m p q cs course within later le planned first second =
       advance_on first within from le planned cs q refl now m course later second
+
+  -- and where the first one had events, whatever was planned before
+  events_on : {t n : ℕ} {p : Planned P} {c : Course (Completed P) (Planned P)} → Advances cmp t p n c
+      → t ≤ last_moment → 0 < n → (cs : List (Completed P)) (q : Planned P) → c ≡ goes cs q
+      → (now m : ℕ) (course : Course (Completed P) (Planned P)) → t ≤ now → Advances cmp now q m course
+      → Advances cmp now p (n + m) (preceded cs course)
+  events_on (no_more before wakes) within some cs q e now m course later advances = absurd (omega arith)
+  events_on {t = t} (at_finish {p = p} {q = mid} {t = event} {n = n} {cs = ds} {rest = rest} finish next due settles
+      more) within some cs q e now m course later advances =
+      let parts : (es : List (Completed P)) × (rest ≡ goes es q) × (cs ≡ ds ++ es) = parts_of ds cs rest q e in
+      joined now n m p ds parts.0 cs course parts.2
+      (at_finish {q = mid} {rest = preceded parts.0 course} finish next (omega arith) settles
+      (advance_on more within event due (settle_plans settles) parts.0 q parts.1 now m course later advances))
+  events_on {t = t} (at_start {p = p} {q = mid} {t = event} {n = n} {cs = ds} {rest = rest} not_finish next due wakes
+      more) within some cs q e now m course later advances =
+      let parts : (es : List (Completed P)) × (rest ≡ goes es q) × (cs ≡ ds ++ es) = parts_of ds cs rest q e in
+      joined now n m p ds parts.0 cs course parts.2
+      (at_start {q = mid} {rest = preceded parts.0 course} not_finish next (omega arith) wakes
+      (advance_on more within event due (wake_plans wakes) parts.0 q parts.1 now m course later advances))
+  events_on (finish_stops finish next due settles) within some cs q e now m course later advances = cc
+  events_on (start_stops not_finish next due wakes) within some cs q e now m course later advances = cc
+
+  pub advances_after : (t now n m : ℕ) (p q : Planned P) (cs : List (Completed P))
+      (course : Course (Completed P) (Planned P))
+      → t ≤ last_moment → t ≤ now → 0 < n → Advances cmp t p n (goes cs q) → Advances cmp now q m course
+      → Advances cmp now p (n + m) (preceded cs course)
+  advances_after t now n m p q cs course within later some first second =
+      events_on first within some cs q refl now m course later second
+
+  -- where an event is due there is one
+  pub some_event : {t n : ℕ} {p : Planned P} {c : Course (Completed P) (Planned P)} → Advances cmp t p n c
+      → (event : ℕ) → next_event p ≡ Some event → event ≤ t → 0 < n
+  some_event {t = t} (no_more {p = p} before wakes) event next due =
+      let late : t < event = subst (λ (o : Option ℕ). IfSome o (λ s. t < s)) next before in absurd (omega arith)
+  some_event (at_finish {n = n} finish next due settles more) event first le = omega arith
+  some_event (at_start {n = n} not_finish next due wakes more) event first le = omega arith
+  some_event (finish_stops finish next due settles) event first le = omega arith
+  some_event (start_stops not_finish next due wakes) event first le = omega arith

@@ -12,7 +12,7 @@ use Rattle.link_simulation.proofs.Groups.Draining.{drained_by_on}
 use Rattle.link_simulation.proofs.Groups.Part.{OthersRest, OthersStay, others_sending, others_waiting}
 
 -- draining to a moment and then to a later one is draining to the later one
-drained_later : {P : Type 0} (t s : ℕ) (fs : List (RatedFlight P)) → t ≤ s → Each (λ f. f.updated ≤ t) fs
+pub drained_later : {P : Type 0} (t s : ℕ) (fs : List (RatedFlight P)) → t ≤ s → Each (λ f. f.updated ≤ t) fs
     → drained_to s (drained_to t fs) ≡ drained_to s fs
 drained_later t s [] le updated = refl
 drained_later {P} t s (f ∷ fs) le updated =
