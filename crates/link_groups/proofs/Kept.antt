@@ -1,0 +1,4 @@
+-- Places of peers, and moments of next events.
+pub mod Moments
+pub mod Places
+pub mod Trees

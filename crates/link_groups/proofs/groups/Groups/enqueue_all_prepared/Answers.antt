@@ -1,0 +1,25 @@
+use Rattle.std.proofs.Common.{map, subst}
+use Rattle.std.specs.Prelude.{IfOk, IfErr}
+use Rattle.link_simulation.specs.Simulation.Calls.{call_enqueue_all}
+use Rattle.link_simulation.specs.Rule.Planned.{Planned}
+use Rattle.link_simulation.specs.Rule.Refusals.{MayBeRefused}
+use Rattle.link_pairs.specs.Pairs.Messages.{completed_of}
+use Rattle.link_events.specs.Steps.Answered.{IsAnswered}
+use Rattle.link_events.specs.Steps.Outgoing.{outgoing}
+use Rattle.link_groups.specs.Together.AsPlanned.{planned_together}
+use Rattle.link_groups.proofs.groups.Groups.enqueue_all_prepared.Goals as goal
+
+pub returns-clause-answered : goal.returns-clause-answered
+returns-clause-answered g c =
+    subst
+    (λ (p : Planned g.row.P.Denot). IfOk c.enqueue_all_at.result (λ done. IsAnswered g.P.Ord.cmp p
+    (call_enqueue_all c.args.now (map outgoing c.args.messages.items)) (map completed_of done.items)
+    (planned_together g.P.Ord.cmp c.enqueue_all_at.new.self)))
+    c.prepare_all.ensures.planned.planned c.enqueue_all_at.ensures.answered
+
+pub returns-clause-refused : goal.returns-clause-refused
+returns-clause-refused g c =
+    subst
+    (λ (p : Planned g.row.P.Denot). IfErr c.enqueue_all_at.result (MayBeRefused g.P.Ord.cmp p
+    (call_enqueue_all c.args.now (map outgoing c.args.messages.items))))
+    c.prepare_all.ensures.planned.planned c.enqueue_all_at.ensures.refused
