@@ -5,4 +5,5 @@ pub mod Calling
 pub mod OneByOne
 pub mod Promises
 pub mod Replay
+pub mod Same
 pub mod SameIsPlanned

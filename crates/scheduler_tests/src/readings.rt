@@ -141,9 +141,23 @@ fn what_does_not_fit_is_rounded_down(rt: HostRuntime) -> Result<(), Fail> {
     Ok(())
 }
 
+/// Each account is one of all that is in flight: of a message of another group, of a new peer's caps.
+#[test]
+fn an_account_drains_other_groups_too(rt: HostRuntime) -> Result<(), Fail> {
+    let beside = "limit 0 1 1000 -\nlimit 0 2 500 -\nsend 0 1 3 1000 0\nsend 250ms 2 4 500 0\n";
+    let readings = flying(&rt, beside)?;
+    expect(&rt, readings.get(0), 3, (750, 1), (1000, 1), 250_000_000);
+    let readings = flying(
+        &rt,
+        "limit 0 1 1000 -\nsend 0 1 3 1000 0\nlimit 500ms 5 10 -\nflying 1\n",
+    )?;
+    expect(&rt, readings.get(0), 3, (500, 1), (1000, 1), 500_000_000);
+    Ok(())
+}
+
 /// Eight messages are in flight, each of a pair of its own. One
 /// that starts alone is rated alone, and one of a sender that has another one with that. Where one
-/// ends alone none is, and where a cap changes all are.
+/// ends alone none is, and where a cap changes those are that its peer shares a group with.
 #[test]
 fn an_event_rates_what_it_touches(rt: HostRuntime) -> Result<(), Fail> {
     let _readings = flying(
@@ -173,7 +187,7 @@ done 0 1s
 flying 8
 rated 0
 limit 1500ms 3 2000 -
-rated 8
+rated 1
 ",
     )?;
     Ok(())

@@ -4,6 +4,7 @@ mod batches;
 pub(crate) mod calls;
 mod clones;
 mod ends;
+mod groups;
 mod idle;
 mod kept;
 mod lists;

@@ -1,0 +1,210 @@
+//! Peers that exchange messages among themselves alone, side by side.
+use super::{play, play_both};
+use std::test::Fail;
+
+/// Messages of groups that share no peer, done at one moment, come in the order in which they started.
+const TIES: &str = "\
+limit 0 1 1000 -
+limit 0 3 2000 -
+send 0 3 4 2000 0
+send 0 1 2 1000 0
+next 1s
+advance 2s
+done 0 1s
+done 1 1s
+next -
+send 2s 3 4 2000 5
+send 2s 1 2 1000 5
+send 2s 1 2 500 5
+advance 4s
+done 2 3000000005
+done 3 3000000005
+done 4 3500000005
+next -
+";
+
+/// A message from a peer of one group to one of another shares the caps of both from then on.
+const ONE_GROUP: &str = "\
+limit 0 1 1000 -
+limit 0 2 1000 -
+limit 0 4 - 600
+send 0 1 3 1000 0
+send 0 2 4 900 0
+next 1s
+send 500ms 2 3 700 0
+send 500ms 1 4 300 0
+next 1214285715
+advance 1s
+next 1214285715
+advance 2s
+done 0 1214285715
+done 2 1500ms
+done 3 1500ms
+done 1 2s
+next -
+advance 3s
+next -
+";
+
+/// The cap of a link between two groups, and the message that goes there.
+const A_LINK: &str = "\
+limit 0 1 1000 -
+limit 0 2 1000 -
+send 0 1 3 1000 0
+send 0 2 4 1000 0
+link 250ms 1 4 100
+send 250ms 1 4 50 0
+next 750ms
+advance 750ms
+done 2 750ms
+advance 1250ms
+done 1 1s
+done 0 1050ms
+next -
+";
+
+/// Calls at a moment at which another group has an event still, and after one.
+const STILL_DUE: &str = "\
+limit 0 1 1000 -
+limit 0 2 1000 -
+send 0 2 4 1000 0
+send 0 1 3 500 0
+send 0 1 3 500 0
+next 500ms
+send 500ms 2 5 100 0
+done 1 500ms
+next 700ms
+advance 600ms
+next 700ms
+limit 1s 1 2000 -
+done 3 1s
+done 2 1s
+advance 1300ms
+done 0 1250ms
+next -
+";
+
+/// Moments that go back beside another group: nothing is lost, and what was planned stands.
+const BACK: &str = "\
+limit 0 1 1000 -
+limit 0 2 1000 -
+send 0 1 3 1000 0
+send 0 2 4 3000 0
+send 0 2 4 1000 100
+advance 500ms
+send 200ms 1 3 1000 0
+next 1s
+advance 100ms
+next 1s
+limit 300ms 2 500 -
+next 1s
+advance 2s
+done 0 1s
+done 3 2s
+next 5700ms
+advance 1500ms
+next 5700ms
+send 1600ms 5 6 10 0
+done 4 1600ms
+advance 20s
+done 1 5300ms
+done 2 7300000100
+next -
+";
+
+/// Before the first limit all peers are one group; messages of no length start under limits as their pairs may.
+const LATER_LIMITS: &str = "\
+send 0 1 2 100 10
+done 0 10
+send 0 3 4 100 20
+done 1 20
+limit 0 1 1000 -
+limit 0 3 1000 -
+send 0 1 2 0 0
+send 0 3 4 0 0
+send 0 5 6 7 0
+done 4 0
+send 0 7 8 7 3
+done 5 3
+next 10
+advance 10
+done 2 10
+next 20
+advance 30
+done 3 20
+next -
+limit 30 7 10 -
+send 30 7 8 1 0
+send 30 5 6 1 0
+done 7 30
+advance 1s
+done 6 100000030
+next -
+";
+
+#[test]
+fn groups_that_finish_at_one_moment_keep_the_order_of_start(rt: HostRuntime) -> Result<(), Fail> {
+    play_both::<u64>(&rt, TIES)?;
+    play_both::<char>(&rt, TIES)
+}
+
+#[test]
+fn a_message_between_two_groups_shares_their_caps(rt: HostRuntime) -> Result<(), Fail> {
+    play_both::<u64>(&rt, ONE_GROUP)?;
+    play_both::<char>(&rt, ONE_GROUP)
+}
+
+#[test]
+fn a_link_between_two_groups_holds(rt: HostRuntime) -> Result<(), Fail> {
+    play_both::<u64>(&rt, A_LINK)?;
+    play_both::<char>(&rt, A_LINK)
+}
+
+#[test]
+fn a_call_comes_while_another_group_is_due(rt: HostRuntime) -> Result<(), Fail> {
+    play_both::<u64>(&rt, STILL_DUE)?;
+    play_both::<char>(&rt, STILL_DUE)
+}
+
+#[test]
+fn moments_go_back_beside_another_group(rt: HostRuntime) -> Result<(), Fail> {
+    play_both::<u64>(&rt, BACK)?;
+    play_both::<char>(&rt, BACK)
+}
+
+#[test]
+fn groups_begin_with_the_first_limit(rt: HostRuntime) -> Result<(), Fail> {
+    play_both::<u64>(&rt, LATER_LIMITS)?;
+    play_both::<char>(&rt, LATER_LIMITS)
+}
+
+/// One id is left: the message that waits for pair 1 to 3 takes it after one second, and there is none for the pair 2 to
+/// 4 half a second later. An advance past both is refused, and all stays as it was.
+#[test]
+fn a_refused_advance_leaves_all_groups(rt: HostRuntime) -> Result<(), Fail> {
+    play::<u64>(
+        &rt,
+        u64::MAX - 3,
+        "\
+limit 0 1 1000 -
+limit 0 2 1000 -
+send 0 1 3 1000 0
+send 0 2 4 1500 0
+send 0 1 3 1000 0
+send 0 2 4 1000 0
+next 1s
+advance 2s
+refused ids
+flying 2
+next 1s
+advance 1s
+done 0 1s
+flying 2
+next 1500ms
+advance 1500ms
+refused ids
+flying 2
+next 1500ms
+",
+    )
+}
