@@ -1,9 +1,10 @@
 //! Ledgers of groups of peers side by side: each is brought to the last account of all, and two become
 //! one.
-ghost use Rattle.std.specs.Prelude.{◌≡◌, ◌≤◌, true, IfOk, IfErr, OnOk};
-ghost use Rattle.link_simulation.specs.Rule.Planned.{new_planned};
+ghost use Rattle.std.specs.Prelude.{◌≡◌, ◌≤◌, true, All, IfOk, IfErr, OnOk};
+ghost use Rattle.link_simulation.specs.Rule.Planned.{new_planned, rated_messages};
 ghost use Rattle.link_simulation.specs.Rule.Groups.{brought as as_brought, joined as as_joined, AreApartWorlds};
 ghost use Rattle.link_events.specs.Steps.AsPlanned.{planned};
+ghost use Rattle.link_events.specs.Steps.Joining.{KnowsNoCap};
 
 use crate::ledger::Ledger;
 use fair_rates::error::Error;
@@ -57,10 +58,13 @@ impl<P: Peer> Ledger<P> {
         Ok(())
     }
 
-    /// Two ledgers as one, where of no peer and of no pair both know something. All that is in flight is
-    /// rated anew at the next account.
+    /// Two ledgers as one, where of no peer and of no pair both know something, and the other one knows no
+    /// cap that holds for what is in flight here. Where nothing is in flight there, the rates stay; else all
+    /// is rated anew at the next account.
     pub fn joined(&self, other: &Ledger<P>) -> Result<Ledger<P>, Error>
-        requires { AreApartWorlds P.cmp (planned P.cmp self.now) (planned P.cmp other.now) }
+        requires apart { AreApartWorlds P.cmp (planned P.cmp self.now) (planned P.cmp other.now) }
+        requires no_caps { All (KnowsNoCap (planned P.cmp other.now))
+            (rated_messages (planned P.cmp self.now).sending) }
         ensures joined { IfOk result (λ ledger. planned P.cmp ledger
             ≡ as_joined P.cmp (planned P.cmp self.now) (planned P.cmp other.now)) }
         ensures refused { IfErr result (λ e. e ≡ Error.OutOfMemory) }
@@ -81,7 +85,7 @@ impl<P: Peer> Ledger<P> {
             next_id: self.next_id.max(other.next_id),
             finish: earlier(self.finish, other.finish),
             start: earlier(self.start, other.start),
-            stale: true,
+            stale: self.stale || !other.flights.is_empty(),
         })
     }
 }

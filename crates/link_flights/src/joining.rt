@@ -4,11 +4,13 @@ ghost use Rattle.std.specs.Prelude.{slice_index_or, IfOk, IfErr, OnOk};
 ghost use Rattle.std.specs.List.{insert};
 ghost use Rattle.std.specs.declared.rc.Rc.{Rc as AnyRc};
 ghost use Rattle.std.specs.declared.alloc.Global.{Global as Allocator};
+ghost use Rattle.fair_rates.specs.Sides.Caps.{Caps};
 ghost use Rattle.link_simulation.specs.Rule.Planned.{drained_to};
 ghost use Rattle.link_simulation.specs.Rule.Groups.{put_all, started_before};
 ghost use Rattle.link_flights.specs.declared.flight.Flight.{Flight as AnyFlight};
 ghost use Rattle.link_flights.specs.Flights.Flight.{rate_of};
 ghost use Rattle.link_flights.specs.Flights.InFlight.{in_flight, PassesNowhere};
+ghost use Rattle.link_flights.specs.Flights.Rated.{AreRated};
 
 use crate::flight::Flight;
 use crate::flight_list::{Flights, earlier};
@@ -109,20 +111,39 @@ impl<P: Peer> Flights<P> {
     ghost use Rattle.link_flights.specs.Flights.RatedFlights.{rated_flight_of};
 
     /// The messages in flight of these and of others, in order of start, as they stand at the later of
-    /// the two moments up to which they are accounted for.
+    /// the two moments up to which they are accounted for. Where there are no others, these keep their rates.
     pub fn join(&self, others: &Flights<P>) -> Result<Flights<P>, Error>
         ensures sending { IfOk result (λ joined. in_flight joined ≡ put_all started_before
             (drained_to (max self.now.at others.now.at) (in_flight self.now))
             (drained_to (max self.now.at others.now.at) (in_flight others.now))) }
         ensures at { IfOk result (λ joined. joined.at ≡ max self.now.at others.now.at) }
+        ensures rated { IfOk result (λ joined. length others.now.list.items ≡ 0
+            → (caps : Caps P) → AreRated P.cmp caps self.now → AreRated P.cmp caps joined) }
         ensures refused { IfErr result (λ e. e ≡ Error.OutOfMemory) }
     {
         let now = self.at.max(others.at);
+        if others.is_empty() {
+            return self.kept_until(now);
+        }
         let mut joined = self.drained(now)?;
         let mut more = others.drained(now)?;
         joined.share_units(&mut more)?;
         joined.take_in(&more)?;
         Ok(joined)
+    }
+
+    /// As these stand at that moment, which is no earlier than the last account, at the rates that they have.
+    fn kept_until(&self, now: u64) -> Result<Flights<P>, Error>
+        requires { self.now.at ≤ now }
+        ensures sending { IfOk result (λ kept. in_flight kept ≡ drained_to now (in_flight self.now)) }
+        ensures at { IfOk result (λ kept. kept.at ≡ now) }
+        ensures rated { IfOk result (λ kept. (caps : Caps P)
+            → AreRated P.cmp caps self.now → AreRated P.cmp caps kept) }
+        ensures refused { IfErr result (λ e. e ≡ Error.OutOfMemory) }
+    {
+        let mut kept = self.clone()?;
+        kept.drain(now)?;
+        Ok(kept)
     }
 
     /// As these stand at that moment, with nothing noted of the last account. Where none is in flight,
