@@ -74,6 +74,7 @@ impl<P: Peer> Ledger<P> {
         let waiting = self.waiting.join(self.alloc, &other.waiting)?;
         let idle = self.idle.join(self.alloc, &other.idle)?;
         let flights = self.flights.join(&other.flights)?;
+        let stale = self.stale || !other.flights.is_empty();
         Ok(Ledger {
             alloc: self.alloc,
             peers,
@@ -85,7 +86,7 @@ impl<P: Peer> Ledger<P> {
             next_id: self.next_id.max(other.next_id),
             finish: earlier(self.finish, other.finish),
             start: earlier(self.start, other.start),
-            stale: self.stale || !other.flights.is_empty(),
+            stale,
         })
     }
 }

@@ -16,6 +16,7 @@ pub mod Known
 pub mod Merged
 pub mod Messages
 pub mod Newly
+pub mod NoCaps
 pub mod Onward
 pub mod Quiet
 pub mod Reading

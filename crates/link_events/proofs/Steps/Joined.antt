@@ -1,15 +1,16 @@
 -- What is known of pairs of two groups that become one.
 use Rattle.std.proofs.Common.{◌≡◌, ℕ, Bool, true, false, cond, ◌||◌, List, [], ◌∷◌, ◌++◌, map, None, refl, sym, ap, ◌∙◌}
-use Rattle.std.proofs.Common.{◌⊎◌, inl, inr}
+use Rattle.std.proofs.Common.{◌⊎◌, inl, inr, not, ◌==◌}
 use Rattle.std.specs.List.{filter, find, list_any}
 use Rattle.std.specs.declared.cmp.Ordering.{Ordering}
 use Rattle.std.specs.Cmp.{IsTotalOrder}
 use Rattle.std.specs.Ordering.{is_eq}
-use Rattle.std.proofs.lemmas.Bool.{and_from, or_from, or_parts}
+use Rattle.std.proofs.lemmas.Bool.{and_from, or_from, or_parts, false≢true, eqb-true}
 use Rattle.std.proofs.lemmas.Cmp.{tied_itself}
 use Rattle.std.proofs.lemmas.List.{append-nil}
 use Rattle.std.proofs.lemmas.List.Elements.{filter-append}
-use Rattle.fair_rates.proofs.Lists.Each.{Each}
+use Rattle.fair_rates.specs.Sides.Caps.{Caps}
+use Rattle.fair_rates.proofs.Lists.Each.{Each, each_map}
 use Rattle.fair_rates.proofs.Lists.Filters.{find_from_any}
 use Rattle.fair_rates.proofs.Lists.Members.{In, none_passes, in_map}
 use Rattle.fair_rates.specs.Sides.Subjects.{same_peer}
@@ -17,6 +18,8 @@ use Rattle.link_simulation.specs.Simulation.Messages.{Message, OneForEachPair, s
 use Rattle.link_simulation.specs.Rule.Planned.{Planned, RatedFlight, rated_messages, drained_to}
 use Rattle.link_simulation.specs.Rule.Groups.{put, put_all, started_before, either, KnowsNoPair}
 use Rattle.link_simulation.proofs.Groups.Homes.{by_pair}
+use Rattle.link_simulation.proofs.Groups.Joining.{either_first}
+use Rattle.link_simulation.proofs.Groups.Rates.{SeesSame}
 use Rattle.link_simulation.proofs.Groups.Sorted.{AreIn, kept_in_order, put_all_itself}
 use Rattle.link_simulation.proofs.Laws.Orderly.{drained_messages}
 use Rattle.link_simulation.proofs.Simulation.Queue.{pair_sym}
@@ -24,6 +27,7 @@ use Rattle.link_waiting.specs.Idle.Departed.{is_moment}
 use Rattle.link_waiting.specs.Idle.Index.{idle_from, is_of_pair}
 use Rattle.link_waiting.proofs.Idle.IndexChanges.{alike_from}
 use Rattle.link_pairs.proofs.Pairs.Joined.{either_none}
+use Rattle.link_events.specs.Steps.Joining.{KnowsNoCap}
 use Rattle.link_events.proofs.Steps.OneEach.{one_drained}
 
 -- ---- tests of lists that are put in order
@@ -81,6 +85,30 @@ any_read : {X Y : Type 0} (f : X → Y) (test : Y → Bool) (xs : List X)
     → list_any test (map f xs) ≡ list_any (λ x. test (f x)) xs
 any_read f test [] = refl
 any_read f test (x ∷ xs) = ap (λ b. test (f x) || b) (any_read f test xs)
+
+-- ---- rates that stay
+
+-- what is not stale afterwards has taken in nothing in flight
+pub nothing_more : (n : ℕ) (empty stale : Bool) → empty ≡ (n == 0) → stale ≡ not empty → stale ≡ false → n ≡ 0
+nothing_more n true stale is sets fresh = eqb-true n 0 (sym is)
+nothing_more n false stale is sets fresh = absurd (false≢true (sym fresh ∙ sets))
+
+-- caps of two groups together are for messages those of the first one, where the second one knows none that holds for
+-- them
+pub seen_joined : {P : Type 0} (cmp : P → P → Ordering) (own both : Caps P) (q : Planned P)
+    → ((x : P) → both.egress x ≡ either (own.egress x) (q.caps.egress x))
+    → ((x : P) → both.ingress x ≡ either (own.ingress x) (q.caps.ingress x))
+    → ((o r : P) → both.link o r ≡ either (own.link o r) (q.caps.link o r))
+    → (ms : List (Message P)) → Each (KnowsNoCap q) ms → Each (SeesSame cmp own both) ms
+seen_joined cmp own both q egress ingress link ms none =
+    each_map (KnowsNoCap q) (SeesSame cmp own both) ms
+    (λ m no. (
+      either_first (own.egress m.origin) (q.caps.egress m.origin) no.0 ∙ sym (egress m.origin),
+      either_first (own.ingress m.recipient) (q.caps.ingress m.recipient) no.1 ∙ sym (ingress m.recipient),
+      either_first (own.link m.origin m.recipient) (q.caps.link m.origin m.recipient) no.2
+          ∙ sym (link m.origin m.recipient),
+    ))
+    none
 
 module _ {P : Type 0} (cmp : P → P → Ordering) (order : IsTotalOrder cmp) where
   -- ---- the first message of a pair

@@ -140,6 +140,7 @@ module _ {P : Type 0} (cmp : P → P → Ordering) (caps : Caps P) where
   }
 
 module _ {P : Type 0} (cmp : P → P → Ordering) (caps others : Caps P) where
+  -- what is so for all is so for those that have got a rate
   seen_rated : (us : List (UnitFlight P)) → Each (SeesSame cmp caps others) (sent_messages us)
       → Each (SeesSame cmp caps others) (sent_messages (rated_ones us))
   seen_rated [] seen = tt
@@ -150,12 +151,14 @@ module _ {P : Type 0} (cmp : P → P → Ordering) (caps others : Caps P) where
       by_test true ih = (seen.0, ih)
       by_test false ih = ih
 
+  -- they are as limited under the other caps
   limited_seen : (us : List (UnitFlight P)) → Each (SeesSame cmp caps others) (sent_messages us)
       → are_limited cmp others us ≡ are_limited cmp caps us
   limited_seen [] seen = refl
   limited_seen (u ∷ us) seen =
       rw (unlimited_seen cmp caps others (message_of u.message) seen.0, limited_seen us seen.1) refl
 
+  -- and use the same sides
   sides_seen : (ms ks : List (Message P)) → Each (SeesSame cmp caps others) ks
       → flat_map (sides_for cmp caps ms) ks ≡ flat_map (sides_for cmp others ms) ks
   sides_seen ms [] seen = refl

@@ -1,7 +1,6 @@
 use Rattle.std.proofs.Common.{List, map, refl, sym, ap, ◌∙◌, subst}
 use Rattle.std.proofs.Math.Logic.{∥∥₁_map}
 use Rattle.std.specs.List.{list_any}
-use Rattle.fair_rates.proofs.Lists.Zips.{zip_weaker}
 use Rattle.link_simulation.specs.Simulation.Messages.{OneForEachPair}
 use Rattle.link_simulation.specs.Rule.Planned.{RatedFlight, rated_messages}
 use Rattle.link_simulation.proofs.Laws.Orderly.{drained_messages}
@@ -12,10 +11,8 @@ use Rattle.link_waiting.specs.Idle.AtRest.{of_pairs}
 use Rattle.link_waiting.specs.Idle.Departed.{is_moment}
 use Rattle.link_waiting.specs.Idle.Index.{is_of_pair}
 use Rattle.link_waiting.proofs.Idle.IndexChanges.{alike_from}
-use Rattle.link_flights.specs.Flights.Flight.{DrainsTo}
-use Rattle.link_flights.specs.Flights.InFlight.{in_flight, in_units}
-use Rattle.link_flights.specs.Flights.Rated.{IsAsRated, AreFairlyRated, rated_ones}
-use Rattle.link_flights.proofs.Flights.Rated.{drained_as_rated, still_fair_after, still_limited}
+use Rattle.link_flights.specs.Flights.InFlight.{in_flight}
+use Rattle.link_flights.proofs.Flights.Rated.{rated_drained}
 use Rattle.link_events.proofs.Steps.Drained.{drained_so}
 use Rattle.link_events.proofs.Steps.OneEach.{one_drained}
 use Rattle.link_events.proofs.ledger.Ledger.bring.Goals as goal
@@ -29,8 +26,6 @@ invariant_of-self-2 g c =
     let caps = caps_of cmp old.peers.entries old.pairs.entries in
     let pairs = of_pairs cmp old.pairs.entries old.waiting.messages in
     let drains = drained_so c.args.accounted flights new c.drain.ensures.scale c.in_default.ensures.drained in
-    let alike = zip_weaker (DrainsTo c.args.accounted) IsAsRated (drained_as_rated c.args.accounted) (in_units flights)
-    (in_units new) c.in_default.ensures.drained in
     record {
       indexed = λ t o r.
           old.indexed t o r
@@ -43,13 +38,10 @@ invariant_of-self-2 g c =
       one_each = ∥∥₁_map old.one_each (λ one.
           subst (λ (fs : List (RatedFlight g.row.P.Denot)). OneForEachPair cmp (rated_messages fs))
           (sym drains) (one_drained cmp g.met.P.Ord.total c.args.accounted (in_flight flights) one));
-      rated = λ e. ∥∥₁_map (old.rated e) (λ f. record {
-        fair =
-            subst (λ n. AreFairlyRated cmp caps n (rated_ones (in_units new))) (sym c.drain.ensures.scale)
-            (still_fair_after cmp caps flights.scale (in_units flights) (in_units new) alike f.fair);
-        limited = still_limited cmp caps (in_units flights) (in_units new) alike f.limited;
-        timed = c.in_default.ensures.timed c.requires f.timed;
-      });
+      rated = λ e.
+          ∥∥₁_map (old.rated e)
+          (rated_drained cmp caps c.args.accounted flights new c.drain.ensures.scale c.in_default.ensures.drained
+          (c.in_default.ensures.timed c.requires));
     }
 
 pub returns-clause-brought : goal.returns-clause-brought
