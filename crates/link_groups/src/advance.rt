@@ -1,32 +1,25 @@
 //! Time goes on over all groups.
-ghost use Rattle.std.specs.Prelude.{◌≡◌, ◌<◌, ◌≤◌, true, map, length, Some, slice_get, slice_set};
+ghost use Rattle.std.specs.Prelude.{◌≡◌, ◌<◌, ◌≤◌, true, map, length, Some, slice_get};
 ghost use Rattle.std.specs.Prelude.{IfOk, IfErr, IfSome, OnOk, OnErr};
 ghost use Rattle.link_simulation.specs.Simulation.Calls.{call_advance};
 ghost use Rattle.link_simulation.specs.Rule.Planned.{next_event as next_of_planned};
-ghost use Rattle.link_simulation.specs.Rule.Groups.{AreGroups, together};
-ghost use Rattle.link_simulation.specs.Rule.Refusals.{MayBeRefused};
-ghost use Rattle.link_pairs.specs.Pairs.Messages.{completed_of};
-ghost use Rattle.link_events.specs.Steps.Answered.{IsAnsweredIn};
-ghost use Rattle.link_events.specs.Steps.AsPlanned.{planned};
 ghost use Rattle.link_groups.specs.Together.Homes.{numbers};
-ghost use Rattle.link_groups.specs.Together.Joined.{NoneStartsBefore};
 
 use crate::groups::{Groups, is_due};
 use fair_rates::error::Error;
 use fair_rates::peer::Peer;
-use link_events::ledger::Ledger;
 use link_pairs::completion::Completion;
 
 impl<P: Peer> Groups<P> {
     ghost use Rattle.link_groups.specs.Together.AsPlanned.{planned_together, home, worlds_of, StaysPlanned};
+    ghost use Rattle.link_groups.specs.Together.Answered.{HaveAdvanced, MayRefuse};
     ghost use Rattle.link_groups.specs.Together.Ready.{IsReadyToAdvanceAt};
 
     /// Lets time go on to `now`, and answers what completes, with the number of events. Where it is refused, all stays.
     /// The groups are copied only where neither one group alone has events up to `now`, nor all have theirs apart.
     pub fn answer_advance(&mut self, now: u64) -> Result<(Vec<Completion<P>>, u128), Error>
-        ensures answered { IfOk result (λ answer. IsAnsweredIn P.cmp now (planned_together P.cmp self.old) answer.1
-            (map completed_of answer.0.items) (planned_together P.cmp self.new)) }
-        ensures refused { IfErr result (MayBeRefused P.cmp (planned_together P.cmp self.old) (call_advance now)) }
+        ensures answered { IfOk result (λ answer. HaveAdvanced P.cmp self.old now answer.1 answer.0.items self.new) }
+        ensures refused { IfErr result (MayRefuse P.cmp self.old (call_advance now)) }
         ensures unchanged { OnErr result (self.new ≡ self.old) }
     {
         if let Some(number) = self.ready_to_advance(now) {
@@ -57,9 +50,8 @@ impl<P: Peer> Groups<P> {
 
     /// As `answer_advance`, whatever the groups are like: those that have an event up to `now` become one.
     fn advance_joined(&mut self, now: u64) -> Result<(Vec<Completion<P>>, u128), Error>
-        ensures answered { IfOk result (λ answer. IsAnsweredIn P.cmp now (planned_together P.cmp self.old) answer.1
-            (map completed_of answer.0.items) (planned_together P.cmp self.new)) }
-        ensures refused { IfErr result (MayBeRefused P.cmp (planned_together P.cmp self.old) (call_advance now)) }
+        ensures answered { IfOk result (λ answer. HaveAdvanced P.cmp self.old now answer.1 answer.0.items self.new) }
+        ensures refused { IfErr result (MayRefuse P.cmp self.old (call_advance now)) }
     {
         if self.groups.len() == 0 {
             self.planned_from = now;
@@ -73,39 +65,14 @@ impl<P: Peer> Groups<P> {
     fn advance_at(&mut self, number: usize, now: u64) -> Result<(Vec<Completion<P>>, u128), Error>
         requires own { slice_get (numbers self.old.groups) number ≡ Some number }
         requires ready { IsReadyToAdvanceAt P.cmp self.old now number }
-        ensures answered { IfOk result (λ answer. IsAnsweredIn P.cmp now (planned_together P.cmp self.old) answer.1
-            (map completed_of answer.0.items) (planned_together P.cmp self.new)) }
-        ensures refused { IfErr result (MayBeRefused P.cmp (planned_together P.cmp self.old) (call_advance now)) }
+        ensures answered { IfOk result (λ answer. HaveAdvanced P.cmp self.old now answer.1 answer.0.items self.new) }
+        ensures refused { IfErr result (MayRefuse P.cmp self.old (call_advance now)) }
         ensures unchanged { OnErr result (self.new ≡ self.old) }
     {
         let mut ledger = self.brought(number)?;
         let answer = ledger.answer_advance(now)?;
-        self.put_advanced(number, ledger, now, answer.1);
+        self.put_after(number, ledger, now, answer.1);
         Ok(answer)
-    }
-
-    /// As `put`, after an advance of so many events: without an event and without a start there was no account.
-    fn put_advanced(&mut self, number: usize, ledger: Ledger<P>, now: u64, events: u128)
-        requires own { slice_get (numbers self.old.groups) number ≡ Some number }
-        requires kept { ∥ AreGroups P.cmp (home P.cmp self.old) (planned P.cmp ledger).limited
-            (planned P.cmp ledger).next_id (planned P.cmp ledger).accounted now
-            (slice_set (worlds_of P.cmp self.old) number (planned P.cmp ledger)) ∥₁ }
-        requires onward { NoneStartsBefore now (slice_set (worlds_of P.cmp self.old) number (planned P.cmp ledger)) }
-        requires sending { events ≡ 0 → (planned P.cmp ledger).next_id ≡ self.old.next_id
-            → length (planned_together P.cmp self.old).sending
-            ≤ length (together P.cmp (home P.cmp self.old) (planned P.cmp ledger).limited
-            (planned P.cmp ledger).next_id (planned P.cmp ledger).accounted
-            (slice_set (worlds_of P.cmp self.old) number (planned P.cmp ledger))).sending }
-        ensures together { planned_together P.cmp self.new ≡ together P.cmp (home P.cmp self.old)
-            (planned P.cmp ledger).limited (planned P.cmp ledger).next_id (planned P.cmp ledger).accounted
-            (slice_set (worlds_of P.cmp self.old) number (planned P.cmp ledger)) }
-    {
-        let (next_id, rated_anew) = (self.next_id, self.rated_anew);
-        let accounted = ledger.flights.at;
-        self.put(number, ledger, accounted, now);
-        if events == 0 && self.next_id == next_id {
-            self.rated_anew = rated_anew;
-        }
     }
 
     /// The groups that have an event up to `now` are one from now on, beside which the others rest, or which is alone;

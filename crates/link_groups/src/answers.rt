@@ -1,19 +1,15 @@
 //! Calls on the groups, with their answers.
 ghost use Rattle.std.specs.Prelude.{◌≡◌, ℕ, ◌<◌, ◌≤◌, ◌&&◌, true, [], map, length, All, Some, None, slice_get};
-ghost use Rattle.std.specs.Prelude.{slice_set, IfOk, IfErr, IfSome, OnOk, OnErr};
+ghost use Rattle.std.specs.Prelude.{IfOk, IfErr, IfSome, OnOk, OnErr};
 ghost use Rattle.fair_rates.specs.Sides.Subjects.{same_peer};
 ghost use Rattle.link_simulation.specs.Simulation.World.{goes};
 ghost use Rattle.link_simulation.specs.Simulation.Calls.{call_limit, call_limit_link, call_enqueue, call_enqueue_all};
 ghost use Rattle.link_simulation.specs.Rule.Planned.{Planned};
 ghost use Rattle.link_simulation.specs.Rule.Events.{Enqueues};
-ghost use Rattle.link_simulation.specs.Rule.Groups.{IsAtHome, AreGroups, IsAccountOfCaps, GoesOnward, together};
-ghost use Rattle.link_simulation.specs.Rule.Refusals.{MayBeRefused};
-ghost use Rattle.link_pairs.specs.Pairs.Messages.{message_of, completed_of};
-ghost use Rattle.link_events.specs.Steps.Answered.{IsAnswered};
+ghost use Rattle.link_simulation.specs.Rule.Groups.{IsAtHome, IsAccountOfCaps, GoesOnward};
+ghost use Rattle.link_pairs.specs.Pairs.Messages.{message_of};
 ghost use Rattle.link_events.specs.Steps.AsPlanned.{planned};
 ghost use Rattle.link_events.specs.Steps.Outgoing.{outgoing};
-ghost use Rattle.link_groups.specs.Together.Homes.{numbers};
-ghost use Rattle.link_groups.specs.Together.Joined.{NoneStartsBefore};
 ghost use Rattle.link_groups.specs.Together.Waiting.{HasToWait, IsFreeAt};
 
 use crate::groups::Groups;
@@ -34,6 +30,7 @@ fn are_between_same<P: Peer>(one: &Outgoing<P>, other: &Outgoing<P>) -> bool
 
 impl<P: Peer> Groups<P> {
     ghost use Rattle.link_groups.specs.Together.AsPlanned.{planned_together, home, worlds_of, StaysPlanned};
+    ghost use Rattle.link_groups.specs.Together.Answered.{HaveAnswered, MayRefuse};
     ghost use Rattle.link_groups.specs.Together.Ready.{IsReadyAt};
 
     /// Sets the caps of a peer, and answers what completes under them. Where it is refused, all stays.
@@ -44,11 +41,9 @@ impl<P: Peer> Groups<P> {
         egress: Option<usize>,
         ingress: Option<usize>,
     ) -> Result<Vec<Completion<P>>, Error>
-        ensures answered { IfOk result (λ done. IsAnswered P.cmp (planned_together P.cmp self.old)
-            (call_limit now peer.now egress ingress) (map completed_of done.items)
-            (planned_together P.cmp self.new)) }
-        ensures refused { IfErr result (MayBeRefused P.cmp (planned_together P.cmp self.old)
-            (call_limit now peer.now egress ingress)) }
+        ensures answered { IfOk result (λ done. HaveAnswered P.cmp self.old
+            (call_limit now peer.now egress ingress) done.items self.new) }
+        ensures refused { IfErr result (MayRefuse P.cmp self.old (call_limit now peer.now egress ingress)) }
         ensures unchanged { OnErr result (self.new ≡ self.old) }
     {
         if let Some(number) = self.ready(peer, peer, now) {
@@ -74,11 +69,9 @@ impl<P: Peer> Groups<P> {
     ) -> Result<Vec<Completion<P>>, Error>
         requires own { home P.cmp self.old peer.now ≡ Some number }
         requires ready { IsReadyAt P.cmp self.old now number }
-        ensures answered { IfOk result (λ done. IsAnswered P.cmp (planned_together P.cmp self.old)
-            (call_limit now peer.now egress ingress) (map completed_of done.items)
-            (planned_together P.cmp self.new)) }
-        ensures refused { IfErr result (MayBeRefused P.cmp (planned_together P.cmp self.old)
-            (call_limit now peer.now egress ingress)) }
+        ensures answered { IfOk result (λ done. HaveAnswered P.cmp self.old
+            (call_limit now peer.now egress ingress) done.items self.new) }
+        ensures refused { IfErr result (MayRefuse P.cmp self.old (call_limit now peer.now egress ingress)) }
         ensures unchanged { OnErr result (self.new ≡ self.old) }
     {
         let mut ledger = self.brought(number)?;
@@ -101,11 +94,9 @@ impl<P: Peer> Groups<P> {
         requires new { home P.cmp self.old peer.now ≡ None }
         requires ready { GoesOnward P.cmp (home P.cmp self.old) self.old.accounted self.old.planned_from now
             (length self.old.groups) (worlds_of P.cmp self.old) }
-        ensures answered { IfOk result (λ done. IsAnswered P.cmp (planned_together P.cmp self.old)
-            (call_limit now peer.now egress ingress) (map completed_of done.items)
-            (planned_together P.cmp self.new)) }
-        ensures refused { IfErr result (MayBeRefused P.cmp (planned_together P.cmp self.old)
-            (call_limit now peer.now egress ingress)) }
+        ensures answered { IfOk result (λ done. HaveAnswered P.cmp self.old
+            (call_limit now peer.now egress ingress) done.items self.new) }
+        ensures refused { IfErr result (MayRefuse P.cmp self.old (call_limit now peer.now egress ingress)) }
         ensures unchanged { OnErr result (self.new ≡ self.old) }
     {
         let mut ledger = Ledger::limited(self.alloc, self.next_id);
@@ -125,11 +116,9 @@ impl<P: Peer> Groups<P> {
         egress: Option<usize>,
         ingress: Option<usize>,
     ) -> Result<Vec<Completion<P>>, Error>
-        ensures answered { IfOk result (λ done. IsAnswered P.cmp (planned_together P.cmp self.old)
-            (call_limit now peer.now egress ingress) (map completed_of done.items)
-            (planned_together P.cmp self.new)) }
-        ensures refused { IfErr result (MayBeRefused P.cmp (planned_together P.cmp self.old)
-            (call_limit now peer.now egress ingress)) }
+        ensures answered { IfOk result (λ done. HaveAnswered P.cmp self.old
+            (call_limit now peer.now egress ingress) done.items self.new) }
+        ensures refused { IfErr result (MayRefuse P.cmp self.old (call_limit now peer.now egress ingress)) }
     {
         let number = self.prepare(now, peer, peer)?;
         self.limit_at(number, now, peer, egress, ingress)
@@ -161,11 +150,9 @@ impl<P: Peer> Groups<P> {
         recipient: &P,
         cap: Option<usize>,
     ) -> Result<Vec<Completion<P>>, Error>
-        ensures answered { IfOk result (λ done. IsAnswered P.cmp (planned_together P.cmp self.old)
-            (call_limit_link now origin.now recipient.now cap) (map completed_of done.items)
-            (planned_together P.cmp self.new)) }
-        ensures refused { IfErr result (MayBeRefused P.cmp (planned_together P.cmp self.old)
-            (call_limit_link now origin.now recipient.now cap)) }
+        ensures answered { IfOk result (λ done. HaveAnswered P.cmp self.old
+            (call_limit_link now origin.now recipient.now cap) done.items self.new) }
+        ensures refused { IfErr result (MayRefuse P.cmp self.old (call_limit_link now origin.now recipient.now cap)) }
         ensures unchanged { OnErr result (self.new ≡ self.old) }
     {
         if let Some(number) = self.ready(origin, recipient, now) {
@@ -189,11 +176,9 @@ impl<P: Peer> Groups<P> {
         requires origin { home P.cmp self.old origin.now ≡ Some number }
         requires recipient { home P.cmp self.old recipient.now ≡ Some number }
         requires ready { IsReadyAt P.cmp self.old now number }
-        ensures answered { IfOk result (λ done. IsAnswered P.cmp (planned_together P.cmp self.old)
-            (call_limit_link now origin.now recipient.now cap) (map completed_of done.items)
-            (planned_together P.cmp self.new)) }
-        ensures refused { IfErr result (MayBeRefused P.cmp (planned_together P.cmp self.old)
-            (call_limit_link now origin.now recipient.now cap)) }
+        ensures answered { IfOk result (λ done. HaveAnswered P.cmp self.old
+            (call_limit_link now origin.now recipient.now cap) done.items self.new) }
+        ensures refused { IfErr result (MayRefuse P.cmp self.old (call_limit_link now origin.now recipient.now cap)) }
         ensures unchanged { OnErr result (self.new ≡ self.old) }
     {
         let mut ledger = self.brought(number)?;
@@ -211,11 +196,9 @@ impl<P: Peer> Groups<P> {
         recipient: &P,
         cap: Option<usize>,
     ) -> Result<Vec<Completion<P>>, Error>
-        ensures answered { IfOk result (λ done. IsAnswered P.cmp (planned_together P.cmp self.old)
-            (call_limit_link now origin.now recipient.now cap) (map completed_of done.items)
-            (planned_together P.cmp self.new)) }
-        ensures refused { IfErr result (MayBeRefused P.cmp (planned_together P.cmp self.old)
-            (call_limit_link now origin.now recipient.now cap)) }
+        ensures answered { IfOk result (λ done. HaveAnswered P.cmp self.old
+            (call_limit_link now origin.now recipient.now cap) done.items self.new) }
+        ensures refused { IfErr result (MayRefuse P.cmp self.old (call_limit_link now origin.now recipient.now cap)) }
     {
         let number = self.prepare(now, origin, recipient)?;
         self.limit_link_at(number, now, origin, recipient, cap)
@@ -228,10 +211,9 @@ impl<P: Peer> Groups<P> {
         now: u64,
         message: Message<P>,
     ) -> Result<Vec<Completion<P>>, Error>
-        ensures answered { IfOk result (λ done. IsAnswered P.cmp (planned_together P.cmp self.old)
-            (call_enqueue now (message_of message)) (map completed_of done.items) (planned_together P.cmp self.new)) }
-        ensures refused { IfErr result (MayBeRefused P.cmp (planned_together P.cmp self.old)
-            (call_enqueue now (message_of message))) }
+        ensures answered { IfOk result (λ done. HaveAnswered P.cmp self.old
+            (call_enqueue now (message_of message)) done.items self.new) }
+        ensures refused { IfErr result (MayRefuse P.cmp self.old (call_enqueue now (message_of message))) }
         ensures unchanged { OnErr result (planned_together P.cmp self.new ≡ planned_together P.cmp self.old) }
         ensures counted { OnErr result (self.new.rated_anew ≡ self.old.rated_anew) }
     {
@@ -251,10 +233,9 @@ impl<P: Peer> Groups<P> {
     ) -> Result<Vec<Completion<P>>, Error>
         requires own { IsAtHome (home P.cmp self.old) number (message_of message) }
         requires ready { IsReadyAt P.cmp self.old now number }
-        ensures answered { IfOk result (λ done. IsAnswered P.cmp (planned_together P.cmp self.old)
-            (call_enqueue now (message_of message)) (map completed_of done.items) (planned_together P.cmp self.new)) }
-        ensures refused { IfErr result (MayBeRefused P.cmp (planned_together P.cmp self.old)
-            (call_enqueue now (message_of message))) }
+        ensures answered { IfOk result (λ done. HaveAnswered P.cmp self.old
+            (call_enqueue now (message_of message)) done.items self.new) }
+        ensures refused { IfErr result (MayRefuse P.cmp self.old (call_enqueue now (message_of message))) }
         ensures unchanged { OnErr result (planned_together P.cmp self.new ≡ planned_together P.cmp self.old) }
         ensures counted { OnErr result (self.new.rated_anew ≡ self.old.rated_anew) }
     {
@@ -296,40 +277,15 @@ impl<P: Peer> Groups<P> {
         requires own { IsAtHome (home P.cmp self.old) number (message_of message) }
         requires ready { IsReadyAt P.cmp self.old now number }
         requires free { IsFreeAt P.cmp (worlds_of P.cmp self.old) number message.origin message.recipient }
-        ensures answered { IfOk result (λ done. IsAnswered P.cmp (planned_together P.cmp self.old)
-            (call_enqueue now (message_of message)) (map completed_of done.items) (planned_together P.cmp self.new)) }
-        ensures refused { IfErr result (MayBeRefused P.cmp (planned_together P.cmp self.old)
-            (call_enqueue now (message_of message))) }
+        ensures answered { IfOk result (λ done. HaveAnswered P.cmp self.old
+            (call_enqueue now (message_of message)) done.items self.new) }
+        ensures refused { IfErr result (MayRefuse P.cmp self.old (call_enqueue now (message_of message))) }
         ensures unchanged { OnErr result (self.new ≡ self.old) }
     {
         let mut ledger = self.brought(number)?;
         let completions = ledger.answer_free(now, message)?;
-        self.put_sent(number, ledger, now);
+        self.put_after(number, ledger, now, 0);
         Ok(completions)
-    }
-
-    /// As `put`, after messages were sent: without a start there was no account.
-    fn put_sent(&mut self, number: usize, ledger: Ledger<P>, now: u64)
-        requires own { slice_get (numbers self.old.groups) number ≡ Some number }
-        requires kept { ∥ AreGroups P.cmp (home P.cmp self.old) (planned P.cmp ledger).limited
-            (planned P.cmp ledger).next_id (planned P.cmp ledger).accounted now
-            (slice_set (worlds_of P.cmp self.old) number (planned P.cmp ledger)) ∥₁ }
-        requires onward { NoneStartsBefore now (slice_set (worlds_of P.cmp self.old) number (planned P.cmp ledger)) }
-        requires sending { (planned P.cmp ledger).next_id ≡ self.old.next_id
-            → length (planned_together P.cmp self.old).sending
-            ≤ length (together P.cmp (home P.cmp self.old) (planned P.cmp ledger).limited
-            (planned P.cmp ledger).next_id (planned P.cmp ledger).accounted
-            (slice_set (worlds_of P.cmp self.old) number (planned P.cmp ledger))).sending }
-        ensures together { planned_together P.cmp self.new ≡ together P.cmp (home P.cmp self.old)
-            (planned P.cmp ledger).limited (planned P.cmp ledger).next_id (planned P.cmp ledger).accounted
-            (slice_set (worlds_of P.cmp self.old) number (planned P.cmp ledger)) }
-    {
-        let (next_id, rated_anew) = (self.next_id, self.rated_anew);
-        let accounted = ledger.flights.at;
-        self.put(number, ledger, accounted, now);
-        if self.next_id == next_id {
-            self.rated_anew = rated_anew;
-        }
     }
 
     /// Sends messages one after another, and answers what completes. Where one of them is refused, all stays.
@@ -338,11 +294,9 @@ impl<P: Peer> Groups<P> {
         now: u64,
         messages: Vec<Outgoing<P>>,
     ) -> Result<Vec<Completion<P>>, Error>
-        ensures answered { IfOk result (λ done. IsAnswered P.cmp (planned_together P.cmp self.old)
-            (call_enqueue_all now (map outgoing messages.items)) (map completed_of done.items)
-            (planned_together P.cmp self.new)) }
-        ensures refused { IfErr result (MayBeRefused P.cmp (planned_together P.cmp self.old)
-            (call_enqueue_all now (map outgoing messages.items))) }
+        ensures answered { IfOk result (λ done. HaveAnswered P.cmp self.old
+            (call_enqueue_all now (map outgoing messages.items)) done.items self.new) }
+        ensures refused { IfErr result (MayRefuse P.cmp self.old (call_enqueue_all now (map outgoing messages.items))) }
         ensures unchanged { OnErr result (self.new ≡ self.old) }
     {
         if messages.is_empty() {
@@ -395,16 +349,14 @@ impl<P: Peer> Groups<P> {
         requires some { 0 < length messages.items }
         requires own { All (IsAtHome (home P.cmp self.old) number) (map outgoing messages.items) }
         requires ready { IsReadyAt P.cmp self.old now number }
-        ensures answered { IfOk result (λ done. IsAnswered P.cmp (planned_together P.cmp self.old)
-            (call_enqueue_all now (map outgoing messages.items)) (map completed_of done.items)
-            (planned_together P.cmp self.new)) }
-        ensures refused { IfErr result (MayBeRefused P.cmp (planned_together P.cmp self.old)
-            (call_enqueue_all now (map outgoing messages.items))) }
+        ensures answered { IfOk result (λ done. HaveAnswered P.cmp self.old
+            (call_enqueue_all now (map outgoing messages.items)) done.items self.new) }
+        ensures refused { IfErr result (MayRefuse P.cmp self.old (call_enqueue_all now (map outgoing messages.items))) }
         ensures unchanged { OnErr result (self.new ≡ self.old) }
     {
         let mut ledger = self.brought(number)?;
         let completions = ledger.answer_enqueue_all(now, messages)?;
-        self.put_sent(number, ledger, now);
+        self.put_after(number, ledger, now, 0);
         Ok(completions)
     }
 
@@ -415,11 +367,9 @@ impl<P: Peer> Groups<P> {
         messages: Vec<Outgoing<P>>,
     ) -> Result<Vec<Completion<P>>, Error>
         requires some { 0 < length messages.items }
-        ensures answered { IfOk result (λ done. IsAnswered P.cmp (planned_together P.cmp self.old)
-            (call_enqueue_all now (map outgoing messages.items)) (map completed_of done.items)
-            (planned_together P.cmp self.new)) }
-        ensures refused { IfErr result (MayBeRefused P.cmp (planned_together P.cmp self.old)
-            (call_enqueue_all now (map outgoing messages.items))) }
+        ensures answered { IfOk result (λ done. HaveAnswered P.cmp self.old
+            (call_enqueue_all now (map outgoing messages.items)) done.items self.new) }
+        ensures refused { IfErr result (MayRefuse P.cmp self.old (call_enqueue_all now (map outgoing messages.items))) }
     {
         let number = self.prepare_all(&messages, now)?;
         self.enqueue_all_at(number, now, messages)

@@ -4,11 +4,9 @@ ghost use Rattle.std.specs.Prelude.{Some, slice_get, slice_set, All, IfOk, IfErr
 ghost use Rattle.std.specs.Vec.{vec_len, vec_capacity};
 ghost use Rattle.link_simulation.specs.Simulation.Calls.{call_advance};
 ghost use Rattle.link_simulation.specs.Rule.Planned.{Planned, next_event as next_of_planned};
-ghost use Rattle.link_simulation.specs.Rule.Groups.{earliest, AreGroups};
+ghost use Rattle.link_simulation.specs.Rule.Groups.{earliest};
 ghost use Rattle.link_simulation.specs.Rule.Homes.{restored};
 ghost use Rattle.link_simulation.specs.Rule.Refusals.{MayBeRefused};
-ghost use Rattle.link_pairs.specs.Pairs.Messages.{completed_of};
-ghost use Rattle.link_events.specs.Steps.Answered.{IsAnsweredIn};
 ghost use Rattle.link_events.specs.Steps.AsPlanned.{planned};
 ghost use Rattle.link_groups.specs.Together.Homes.{numbers, worlds};
 ghost use Rattle.link_groups.specs.Together.Joined.{NoneStartsBefore};
@@ -63,7 +61,8 @@ struct Shared {
 }
 
 impl<P: Peer> Groups<P> {
-    ghost use Rattle.link_groups.specs.Together.AsPlanned.{planned_together, home, worlds_of};
+    ghost use Rattle.link_groups.specs.Together.Answered.{HaveAdvanced, MayRefuse, StayGroupsWith, worlds_with};
+    ghost use Rattle.link_groups.specs.Together.AsPlanned.{planned_together};
 
     /// Lets time go on to `now`, each event in its group, and answers what completes, with the number of events. None
     /// where two groups have an event at the same moment, where time goes back, and where there are more events than
@@ -73,10 +72,9 @@ impl<P: Peer> Groups<P> {
         now: u64,
     ) -> Result<Option<(Vec<Completion<P>>, u128)>, Error>
         ensures answered { IfOk result (λ some. IfSome some (λ answer.
-            IsAnsweredIn P.cmp now (planned_together P.cmp self.old) answer.1 (map completed_of answer.0.items)
-            (planned_together P.cmp self.new))) }
+            HaveAdvanced P.cmp self.old now answer.1 answer.0.items self.new)) }
         ensures stays { IfOk result (λ some. IfNone some (self.new ≡ self.old)) }
-        ensures refused { IfErr result (MayBeRefused P.cmp (planned_together P.cmp self.old) (call_advance now)) }
+        ensures refused { IfErr result (MayRefuse P.cmp self.old (call_advance now)) }
         ensures unchanged { OnErr result (self.new ≡ self.old) }
     {
         if now < self.planned_from || !self.is_in_turn() {
@@ -137,10 +135,10 @@ impl<P: Peer> Groups<P> {
         requires none_yet { IsOnCourse P.cmp (planned_together P.cmp self.old) self.old course.old }
         requires none_kept { course.old.former.items ≡ [] }
         requires from { course.old.from ≡ self.old.planned_from }
-        ensures gone { IfOk result (λ all. all ≡ true → IsAnsweredIn P.cmp now (planned_together P.cmp self.old)
-            course.new.events (map completed_of course.new.completions.items) (planned_together P.cmp self.new)) }
+        ensures gone { IfOk result (λ all. all ≡ true → HaveAdvanced P.cmp self.old now course.new.events
+            course.new.completions.items self.new) }
         ensures before { WasBefore course.new.former.items self.old.planned_from self.old self.new }
-        ensures refused { IfErr result (MayBeRefused P.cmp (planned_together P.cmp self.old) (call_advance now)) }
+        ensures refused { IfErr result (MayRefuse P.cmp self.old (call_advance now)) }
     {
         while let Some(next) = self.next_alone(now) {
             let Some(until) = next.until else {
@@ -204,10 +202,8 @@ impl<P: Peer> Groups<P> {
     /// As `put`, with the ledger's own last account. Answers what was kept before.
     fn exchange(&mut self, number: usize, ledger: Ledger<P>, now: u64) -> Former<P>
         requires own { slice_get (numbers self.old.groups) number ≡ Some number }
-        requires kept { ∥ AreGroups P.cmp (home P.cmp self.old) (planned P.cmp ledger).limited
-            (planned P.cmp ledger).next_id (planned P.cmp ledger).accounted now
-            (slice_set (worlds_of P.cmp self.old) number (planned P.cmp ledger)) ∥₁ }
-        requires onward { NoneStartsBefore now (slice_set (worlds_of P.cmp self.old) number (planned P.cmp ledger)) }
+        requires kept { StayGroupsWith P.cmp self.old number ledger (planned P.cmp ledger).accounted now }
+        requires onward { NoneStartsBefore now (worlds_with P.cmp self.old number ledger) }
         ensures alloc { self.new.alloc ≡ self.old.alloc }
         ensures places { self.new.places ≡ self.old.places }
         ensures groups { self.new.groups

@@ -1,5 +1,5 @@
 //! The groups, side by side.
-ghost use Rattle.std.specs.Prelude.{◌≡◌, ◌<◌, ◌≤◌, [], true, false, map, length, slice_get, slice_set, Some};
+ghost use Rattle.std.specs.Prelude.{◌≡◌, ◌<◌, ◌≤◌, [], true, false, map, length, slice_get, Some};
 ghost use Rattle.std.specs.Prelude.{IfOk, IfErr, IfSome};
 ghost use Rattle.link_simulation.specs.Rule.Planned.{next_event as next_of_planned, new_planned};
 ghost use Rattle.link_simulation.specs.Rule.Groups.{AreGroups, together};
@@ -59,6 +59,7 @@ pub struct Groups<P: Peer> {
 impl<P: Peer> Groups<P> {
     ghost use Rattle.link_simulation.specs.Rule.Groups.{GoesOnward, brought as as_brought};
     ghost use Rattle.link_simulation.specs.Rule.Groups.{common as common_home};
+    ghost use Rattle.link_groups.specs.Together.Answered.{StayGroupsWith, together_with, worlds_with};
     ghost use Rattle.link_groups.specs.Together.AsPlanned.{planned_together, home, worlds_of};
 
     /// No peer has been named.
@@ -147,21 +148,17 @@ impl<P: Peer> Groups<P> {
     /// That is kept of the group from now on, after a call at that moment, with that moment as the last account of all.
     pub(crate) fn put(&mut self, number: usize, ledger: Ledger<P>, accounted: u64, now: u64)
         requires own { slice_get (numbers self.old.groups) number ≡ Some number }
-        requires kept { ∥ AreGroups P.cmp (home P.cmp self.old) (planned P.cmp ledger).limited
-            (planned P.cmp ledger).next_id accounted now
-            (slice_set (worlds_of P.cmp self.old) number (planned P.cmp ledger)) ∥₁ }
-        requires onward { NoneStartsBefore now (slice_set (worlds_of P.cmp self.old) number (planned P.cmp ledger)) }
+        requires kept { StayGroupsWith P.cmp self.old number ledger accounted now }
+        requires onward { NoneStartsBefore now (worlds_with P.cmp self.old number ledger) }
         ensures home { home P.cmp self.new ≡ home P.cmp self.old }
         ensures numbers { numbers self.new.groups ≡ numbers self.old.groups }
-        ensures worlds { worlds_of P.cmp self.new ≡ slice_set (worlds_of P.cmp self.old) number (planned P.cmp ledger) }
+        ensures worlds { worlds_of P.cmp self.new ≡ worlds_with P.cmp self.old number ledger }
         ensures limited { self.new.limited ≡ (planned P.cmp ledger).limited }
         ensures next_id { self.new.next_id ≡ (planned P.cmp ledger).next_id }
         ensures accounted { self.new.accounted ≡ accounted }
         ensures planned_from { self.new.planned_from ≡ now }
         ensures rated_anew { self.new.rated_anew ≡ ledger.flights.rated_anew }
-        ensures together { planned_together P.cmp self.new ≡ together P.cmp (home P.cmp self.old)
-            (planned P.cmp ledger).limited (planned P.cmp ledger).next_id accounted
-            (slice_set (worlds_of P.cmp self.old) number (planned P.cmp ledger)) }
+        ensures together { planned_together P.cmp self.new ≡ together_with P.cmp self.old number ledger accounted }
     {
         self.sends = self.may_send(&ledger);
         self.limited = ledger.is_limited();
@@ -171,6 +168,25 @@ impl<P: Peer> Groups<P> {
         self.rated_anew = ledger.flights.rated_anew;
         self.events.set(number, ledger.next_event());
         self.groups.replace_ledger(number, ledger);
+    }
+
+    /// As `put`, after a call with so many events: without an event and without a start there was no account.
+    pub(crate) fn put_after(&mut self, number: usize, ledger: Ledger<P>, now: u64, events: u128)
+        requires own { slice_get (numbers self.old.groups) number ≡ Some number }
+        requires kept { StayGroupsWith P.cmp self.old number ledger (planned P.cmp ledger).accounted now }
+        requires onward { NoneStartsBefore now (worlds_with P.cmp self.old number ledger) }
+        requires sending { events ≡ 0 → (planned P.cmp ledger).next_id ≡ self.old.next_id
+            → length (planned_together P.cmp self.old).sending
+            ≤ length (together_with P.cmp self.old number ledger (planned P.cmp ledger).accounted).sending }
+        ensures together { planned_together P.cmp self.new
+            ≡ together_with P.cmp self.old number ledger (planned P.cmp ledger).accounted }
+    {
+        let (next_id, rated_anew) = (self.next_id, self.rated_anew);
+        let accounted = ledger.flights.at;
+        self.put(number, ledger, accounted, now);
+        if events == 0 && self.next_id == next_id {
+            self.rated_anew = rated_anew;
+        }
     }
 
     /// Whether any group may send something, once that is kept of one of them.

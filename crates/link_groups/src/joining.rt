@@ -1,6 +1,6 @@
 //! Groups that become one.
-ghost use Rattle.std.specs.Prelude.{◌≡◌, ◌⊎◌, ℕ, ◌<◌, ◌==◌, [], ◌∷◌, ◌++◌, false, map, length, slice_get, Some, None};
-ghost use Rattle.std.specs.Prelude.{if◌then◌else◌, IfOk, IfErr, OnOk, OnErr};
+ghost use Rattle.std.specs.Prelude.{◌≡◌, ◌⊎◌, ℕ, ◌<◌, ◌==◌, [], ◌∷◌, ◌++◌, false};
+ghost use Rattle.std.specs.Prelude.{map, length, slice_get, Some, None, if◌then◌else◌, IfOk, IfErr, OnOk, OnErr};
 ghost use Rattle.std.specs.List.{AllZip};
 ghost use Rattle.link_simulation.specs.Rule.Planned.{Planned};
 ghost use Rattle.link_simulation.specs.Rule.Homes.{home_with, moved, new_group};

@@ -20,22 +20,22 @@ returns-in_err-answer-clause-refused g c =
     c.requires.ready (planned g.P.Ord.cmp c.in_ok-ledger.ledger) c.in_ok-ledger.ensures.brought _
     c.in_err-answer.ensures.refused)
 
-pub put_advanced-requires-clause-kept : goal.put_advanced-requires-clause-kept
-put_advanced-requires-clause-kept g c =
+pub put_after-requires-clause-kept : goal.put_after-requires-clause-kept
+put_after-requires-clause-kept g c =
     ∣ (all_advance g.met.P.Ord.total c.args.self.now c.args.number c.args.now (omega (arith, c.ranges.now.fits))
     c.requires.ready (planned g.P.Ord.cmp c.in_ok-ledger.ledger) c.in_ok-ledger.ensures.brought
     c.in_ok-answer.answer.1 (map completed_of c.in_ok-answer.answer.0.items)
     (planned g.P.Ord.cmp c.answer_advance.new.self) c.in_ok-answer.ensures.answered).1 ∣₁
 
-pub put_advanced-requires-clause-onward : goal.put_advanced-requires-clause-onward
-put_advanced-requires-clause-onward g c =
+pub put_after-requires-clause-onward : goal.put_after-requires-clause-onward
+put_after-requires-clause-onward g c =
     advanced_onward g.met.P.Ord.total c.args.self.now c.args.number c.args.now (omega (arith, c.ranges.now.fits))
     c.requires.ready (planned g.P.Ord.cmp c.in_ok-ledger.ledger) c.in_ok-ledger.ensures.brought
     c.in_ok-answer.answer.1 (map completed_of c.in_ok-answer.answer.0.items)
     (planned g.P.Ord.cmp c.answer_advance.new.self) c.in_ok-answer.ensures.answered
 
-pub put_advanced-requires-clause-sending : goal.put_advanced-requires-clause-sending
-put_advanced-requires-clause-sending g c =
+pub put_after-requires-clause-sending : goal.put_after-requires-clause-sending
+put_after-requires-clause-sending g c =
     advanced_sends g.met.P.Ord.total c.args.self.now c.args.number c.args.now (omega (arith, c.ranges.now.fits))
     c.requires.ready (planned g.P.Ord.cmp c.in_ok-ledger.ledger) c.in_ok-ledger.ensures.brought
     c.in_ok-answer.answer.1 (map completed_of c.in_ok-answer.answer.0.items)
@@ -46,7 +46,7 @@ returns-clause-answered g c =
     subst
     (λ (q : Planned g.row.P.Denot). IsAnsweredIn g.P.Ord.cmp c.args.now (planned_together g.P.Ord.cmp c.args.self.now)
     c.in_ok-answer.answer.1 (map completed_of c.in_ok-answer.answer.0.items) q)
-    (sym c.put_advanced.ensures.together)
+    (sym c.put_after.ensures.together)
     (all_advance g.met.P.Ord.total c.args.self.now c.args.number c.args.now (omega (arith, c.ranges.now.fits))
     c.requires.ready (planned g.P.Ord.cmp c.in_ok-ledger.ledger) c.in_ok-ledger.ensures.brought
     c.in_ok-answer.answer.1 (map completed_of c.in_ok-answer.answer.0.items)

@@ -32,15 +32,15 @@ returns-in_err-completions-clause-refused g c =
     outgoing c.args.messages.items)) (refl, c.requires.own)
     _ c.in_err-completions.ensures.refused)
 
-pub put_sent-requires-clause-own : goal.put_sent-requires-clause-own
-put_sent-requires-clause-own g c =
+pub put_after-requires-clause-own : goal.put_after-requires-clause-own
+put_after-requires-clause-own g c =
     home_own g.met.P.Ord.total c.args.self.now (some_home (home g.P.Ord.cmp c.args.self.now) c.args.number outgoing
     c.args.messages.items c.requires.some c.requires.own).0 c.args.number
     (some_home (home g.P.Ord.cmp c.args.self.now) c.args.number outgoing c.args.messages.items c.requires.some
     c.requires.own).1
 
-pub put_sent-requires-clause-kept : goal.put_sent-requires-clause-kept
-put_sent-requires-clause-kept g c =
+pub put_after-requires-clause-kept : goal.put_after-requires-clause-kept
+put_after-requires-clause-kept g c =
     (all_answer g.met.P.Ord.total c.args.self.now c.args.number c.args.now (omega (arith, c.ranges.now.fits))
     c.requires.ready (home_within g.met.P.Ord.total c.args.self.now (some_home (home g.P.Ord.cmp c.args.self.now)
     c.args.number outgoing c.args.messages.items c.requires.some c.requires.own).0 c.args.number
@@ -53,8 +53,8 @@ put_sent-requires-clause-kept g c =
     c.args.messages.items c.requires.some none)) (λ group t at is. sym is)
     c.in_ok-completions.ensures.answered).1
 
-pub put_sent-requires-clause-onward : goal.put_sent-requires-clause-onward
-put_sent-requires-clause-onward g c =
+pub put_after-requires-clause-onward : goal.put_after-requires-clause-onward
+put_after-requires-clause-onward g c =
     all_onward g.met.P.Ord.total c.args.self.now c.args.number c.args.now (omega (arith, c.ranges.now.fits))
     c.requires.ready (home_within g.met.P.Ord.total c.args.self.now (some_home (home g.P.Ord.cmp c.args.self.now)
     c.args.number outgoing c.args.messages.items c.requires.some c.requires.own).0 c.args.number
@@ -67,8 +67,9 @@ put_sent-requires-clause-onward g c =
     c.args.messages.items c.requires.some none)) (λ group t at is. sym is)
     (not_empty outgoing c.args.messages.items c.requires.some) c.in_ok-completions.ensures.answered
 
-pub put_sent-requires-clause-sending : goal.put_sent-requires-clause-sending
-put_sent-requires-clause-sending g c =
+pub put_after-requires-clause-sending : goal.put_after-requires-clause-sending
+put_after-requires-clause-sending g c =
+    λ none.
     let answered =
     (all_answer g.met.P.Ord.total c.args.self.now c.args.number c.args.now (omega (arith, c.ranges.now.fits))
     c.requires.ready (home_within g.met.P.Ord.total c.args.self.now (some_home (home g.P.Ord.cmp c.args.self.now)
@@ -89,7 +90,7 @@ returns-clause-answered g c =
     (λ (q : Planned g.row.P.Denot). IsAnswered g.P.Ord.cmp (planned_together g.P.Ord.cmp c.args.self.now)
     (call_enqueue_all c.args.now (map outgoing c.args.messages.items)) (map completed_of
     c.in_ok-completions.completions.items) q)
-    (sym c.put_sent.ensures.together)
+    (sym c.put_after.ensures.together)
     (all_answer g.met.P.Ord.total c.args.self.now c.args.number c.args.now (omega (arith, c.ranges.now.fits))
     c.requires.ready (home_within g.met.P.Ord.total c.args.self.now (some_home (home g.P.Ord.cmp c.args.self.now)
     c.args.number outgoing c.args.messages.items c.requires.some c.requires.own).0 c.args.number
