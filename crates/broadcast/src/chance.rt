@@ -10,6 +10,7 @@ pub struct Chance {
 }
 
 impl Chance {
+    /// The numbers that follow from a seed.
     pub fn new(seed: u64) -> Chance
         ensures { result.state ≡ seed }
     {

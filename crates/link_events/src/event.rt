@@ -13,6 +13,7 @@ pub(crate) enum Event {
 impl Event {
     ghost use Rattle.link_events.specs.Steps.Due.{event_moment};
 
+    /// When it happens.
     pub(crate) fn moment(&self) -> u64
         ensures { result ≡ event_moment self.now }
     {

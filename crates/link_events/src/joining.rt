@@ -39,7 +39,7 @@ impl<P: Peer> Ledger<P> {
     }
 
     /// All that is in flight drains to a moment that is no earlier than the last account, and the next
-    /// flow has that id.
+    /// flow has that id. Where memory is refused, nothing is promised of what is left.
     pub fn bring(&mut self, accounted: u64, next_id: u64) -> Result<(), Error>
         requires { (planned P.cmp self.old).accounted ≤ accounted }
         ensures brought { OnOk result (planned P.cmp self.new

@@ -47,6 +47,7 @@ impl<P: Peer> Ledger<P> {
     ghost use Rattle.link_simulation.specs.Rule.Planned.{new_planned, next_event as next_of_planned};
     ghost use Rattle.link_events.specs.Steps.AsPlanned.{planned};
 
+    /// An empty ledger before any limit, whose first flow has that id.
     pub fn new(alloc: Global, first: u64) -> Self
         ensures { planned P.cmp result ≡ new_planned first }
     {

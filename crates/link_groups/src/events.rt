@@ -1,4 +1,4 @@
-//! The moments of next events.
+//! The moments of next events. The numbers here are those of the groups.
 ghost use Rattle.std.specs.Prelude.{◌≡◌, ℕ, ◌+◌, ◌*◌, ◌<◌, [], ◌∷◌, ◌++◌, List, Option, Some, length};
 ghost use Rattle.std.specs.Prelude.{slice_get, slice_set, OnOk, OnErr, IfErr, IfSome, IfNone};
 ghost use Rattle.link_simulation.specs.Rule.Groups.{earliest, left_out};
@@ -9,7 +9,7 @@ use fair_rates::error::Error;
 use std::alloc::{AllocError, Global};
 use std::marker::Model;
 
-/// The moment of a number, and the first of this one and of those of the numbers below.
+/// The moment of a number, and the first among it and those of all numbers below this one in the tree of `Events`.
 #[derive(Drop, Clone, Copy)]
 struct Node {
     moment: Option<u64>,
@@ -88,7 +88,7 @@ fn mend(nodes: &mut [Node], at: usize)
     }
 }
 
-/// A number of that moment, which is the first of all.
+/// A number that has that moment, which is the first of all.
 fn number_of(nodes: &[Node], moment: u64) -> usize
     requires firsts { AreFirst nodes.now }
     requires first { first_at nodes.now 0 ≡ Some moment }

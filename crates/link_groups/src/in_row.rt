@@ -32,7 +32,7 @@ impl<P: Peer> Row<Group<P>> {
         false
     }
 
-    /// That is kept of the group at that place from now on, which keeps its number. No other group is moved.
+    /// The ledger is what is kept of the group at that place from now on. Its number stays, and so do the other groups.
     pub(crate) fn replace_ledger(&mut self, at: usize, ledger: Ledger<P>)
         requires { at < length self.old }
         ensures numbers { numbers self.new ≡ numbers self.old }
@@ -41,7 +41,8 @@ impl<P: Peer> Row<Group<P>> {
         self.items[at].ledger.replace_by(ledger);
     }
 
-    /// A message waits in a group behind the one of its pair that is in flight.
+    /// A message waits in a group behind the one of its pair that is in flight. Where memory is refused, what is
+    /// planned stays.
     pub(crate) fn wait(&mut self, number: usize, now: u64, message: Message<P>) -> Result<(), Error>
         requires within { number < length self.old }
         requires busy { HasToWait P.cmp (worlds P.cmp self.old) number message.origin message.recipient }
@@ -54,7 +55,7 @@ impl<P: Peer> Row<Group<P>> {
         self.items[number].ledger.wait(now, message)
     }
 
-    /// That is kept of the group from now on. Answers what was kept before.
+    /// The ledger is what is kept of the group from now on. Answers what was kept before.
     pub(crate) fn exchange(&mut self, number: usize, ledger: Ledger<P>) -> Ledger<P>
         requires { slice_get (numbers self.old) number ≡ Some number }
         ensures set { self.new ≡ slice_set self.old number (record { number = number; ledger = ledger }) }

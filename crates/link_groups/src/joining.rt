@@ -23,8 +23,8 @@ use std::alloc::{AllocError, Global};
 impl<P: Peer> Groups<P> {
     ghost use Rattle.link_groups.specs.Together.AsPlanned.{planned_together, home, worlds_of, StaysPlanned};
 
-    /// The peer is in a group from now on: in one of its own, if it was in none. Before any limit all are in one. Where
-    /// memory is refused, all stays.
+    /// The peer is in a group from now on: in one of its own, if it was in none. Before any limit all are in one.
+    /// Answers the group's number. Where memory is refused, all stays.
     pub(crate) fn settle_peer(&mut self, peer: &P) -> Result<usize, Error>
         ensures settled { IfOk result (λ number. home P.cmp self.new peer.now ≡ Some number) }
         ensures others { OnOk result ((p : P) (number : ℕ) → home P.cmp self.old p ≡ Some number
@@ -45,7 +45,7 @@ impl<P: Peer> Groups<P> {
         Ok(number)
     }
 
-    /// The places with that one of the peer, which had none.
+    /// The places, with that place for the peer, which had none.
     fn places_with(&self, peer: &P, place: usize) -> Result<Places<P>, Error>
         requires { place_of P.cmp self.now.places.entries peer.now ≡ None }
         ensures places { IfOk result (λ places. place_of P.cmp places.entries
@@ -126,7 +126,7 @@ impl<P: Peer> Groups<P> {
         one.joined(two)
     }
 
-    /// All groups become part of that one.
+    /// All groups become part of that one. What is planned stays, also where memory is refused on the way.
     pub(crate) fn gather(&mut self, number: usize) -> Result<(), Error>
         requires { slice_get (numbers self.old.groups) number ≡ Some number }
         ensures own { OnOk result (slice_get (numbers self.new.groups) number ≡ Some number) }
@@ -143,6 +143,7 @@ impl<P: Peer> Groups<P> {
     }
 
     /// The group at that place, if it has not become part of another one, becomes part of the group of that number.
+    /// What is planned stays.
     pub(crate) fn take_in(&mut self, number: usize, at: usize) -> Result<(), Error>
         requires own { slice_get (numbers self.old.groups) number ≡ Some number }
         requires there { at < length self.old.groups }
@@ -165,7 +166,7 @@ impl<P: Peer> Groups<P> {
         self.join(number, at)
     }
 
-    /// Both peers are in one group from now on. Answers its number.
+    /// Both peers are in one group from now on. Answers its number. What is planned stays.
     fn settle_both(&mut self, origin: &P, recipient: &P) -> Result<usize, Error>
         ensures origin { IfOk result (λ number. home P.cmp self.new origin.now ≡ Some number) }
         ensures recipient { IfOk result (λ number. home P.cmp self.new recipient.now ≡ Some number) }
@@ -182,7 +183,8 @@ impl<P: Peer> Groups<P> {
         Ok(larger)
     }
 
-    /// Both numbers, first that of the group which takes in the other one: the other one if it alone sends anything.
+    /// Both numbers, first that of the group which is to take in the other: the second one's, if it alone sends
+    /// anything, and else the first one's.
     fn larger_first(&self, one: usize, other: usize) -> (usize, usize)
         requires one { one < length self.now.groups }
         requires other { other < length self.now.groups }
@@ -198,7 +200,7 @@ impl<P: Peer> Groups<P> {
     }
 
     /// Both peers are in one group from now on, beside which the others rest up to that moment, or which is alone.
-    /// Answers its number.
+    /// Answers its number. What is planned stays.
     pub(crate) fn prepare(&mut self, now: u64, origin: &P, recipient: &P) -> Result<usize, Error>
         ensures origin { IfOk result (λ number. home P.cmp self.new origin.now ≡ Some number) }
         ensures recipient { IfOk result (λ number. home P.cmp self.new recipient.now ≡ Some number) }
@@ -215,7 +217,7 @@ impl<P: Peer> Groups<P> {
         Ok(number)
     }
 
-    /// Each message in flight as it is read, in order of start.
+    /// Each message in flight as it is read, in order of start. It is refused for memory alone, and changes nothing.
     pub fn in_flight(&self) -> Result<Vec<InFlight<P>>, Error>
         ensures read { IfOk result (λ readings.
             AllZip (IsReadAs P.cmp) (planned_together P.cmp self.now).sending readings.items) }

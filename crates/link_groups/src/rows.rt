@@ -58,7 +58,7 @@ impl<T: Drop> Row<T> {
         Ok(())
     }
 
-    /// That item comes to stand at that place.
+    /// That item comes to stand at that place, instead of the one there.
     pub(crate) fn put(&mut self, at: usize, item: T)
         requires { at < length self.old }
         ensures { self.new ≡ slice_set self.old at item }

@@ -16,6 +16,7 @@ pub struct Cap {
 }
 
 impl Cap {
+    /// The cap of the record, if there is one.
     pub fn get(self) -> Option<usize>
         ensures { result ≡ cap_of_record self }
     {
@@ -36,6 +37,7 @@ pub struct Moment {
 }
 
 impl Moment {
+    /// The record of a moment, or of none.
     pub fn of(moment: Option<u64>) -> Moment
         ensures record { result ≡ of_moment moment }
         ensures moment { moment_of_record result ≡ moment }
@@ -59,6 +61,7 @@ pub struct Wide {
 const HALF: u128 = 18446744073709551616;
 
 impl Wide {
+    /// The halves of a number.
     pub fn of(value: u128) -> Wide
         ensures record { result ≡ wide_of value }
         ensures value { value_of result ≡ value }
@@ -69,6 +72,7 @@ impl Wide {
         }
     }
 
+    /// The number of the halves.
     pub fn get(self) -> u128
         ensures { result ≡ value_of self }
     {
@@ -88,6 +92,7 @@ pub struct Done {
 }
 
 impl Done {
+    /// The record of a completion.
     pub fn of(completion: &Completion<u64>) -> Done
         ensures { result ≡ done_of completion.now }
     {
@@ -112,6 +117,7 @@ pub struct PlanFlow {
 }
 
 impl PlanFlow {
+    /// The flow of the record.
     pub fn get(self) -> Flow<u64>
         ensures { result ≡ flow_of self }
     {

@@ -20,10 +20,10 @@ abbrev pub IsFirstAt : List Node → ℕ → Type 0
 IsFirstAt nodes n =
     first_at nodes n ≡ earlier (moment_at nodes n) (earlier (first_at nodes (2 * n + 1)) (first_at nodes (2 * n + 2)))
 
--- so it is at all numbers
+-- what is kept as first is so at all numbers
 abbrev pub AreFirst : List Node → Type 0
 AreFirst nodes = (n : ℕ) → IsFirstAt nodes n
 
--- so it is at all numbers but one
+-- and at all but one
 abbrev pub AreFirstBut : List Node → ℕ → Type 0
 AreFirstBut nodes at = (n : ℕ) → (n ≡ at → ⊥) → IsFirstAt nodes n

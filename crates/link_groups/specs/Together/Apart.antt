@@ -51,7 +51,7 @@ module _ {P : Type 0} {a : _} {b : _} {c : _} where
     pub groups : restored (map kept_group (reverse former)) new.groups ≡ old.groups
     pub events : restored (map kept_event (reverse former)) new.events ≡ old.events
 
-  -- what gave back some groups from the old ones, with all that is kept gives them back from the new ones
+  -- if what was kept gave back some groups from the old ones, all that is kept by now gives them back from the new ones
   abbrev pub StillGivesBack : List (Former P a b c) → List (Former P a b c) → ℕ → Groups P a b c → Groups P a b c
       → Type 0
   StillGivesBack kept all from old new =

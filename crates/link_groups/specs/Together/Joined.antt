@@ -10,7 +10,8 @@ pub record IsVacant {P : Type 0} (world : Planned P) : Type 0 where
   pub finish : world.finish ≡ None
   pub start : world.start ≡ None
 
--- each group's number is that of a group whose number is its own place, and all others are vacant
+-- each group's number is the place of a group that has this number itself; a group whose number is not its own place
+-- has become part of that one, and is vacant
 pub record AreJoined {P : Type 0} (numbers : List ℕ) (worlds : List (Planned P)) : Type 0 where
   pub rooted : (place number : ℕ) → slice_get numbers place ≡ Some number → slice_get numbers number ≡ Some number
   pub vacant : (place number : ℕ) (world : Planned P) → slice_get numbers place ≡ Some number

@@ -1,7 +1,8 @@
 -- Groups of peers side by side: the peers of each exchange messages among themselves alone. What is planned of each,
 -- taken together, is what is planned of all.
-use Rattle.std.specs.Prelude.{⊤, ◌≡◌, ◌≢◌, ◌⊎◌, ℕ, zero, suc, max, ◌<◌, ◌≤◌, List, [], ◌∷◌, map, Bool, true, false}
-use Rattle.std.specs.Prelude.{nat_lt, ◌&&◌, if◌then◌else◌, Option, Some, None, ◌==◌, slice_get, All, IfSome}
+use Rattle.std.specs.Prelude.{⊤, ◌≡◌, ◌≢◌, ◌⊎◌, ℕ, zero, suc, max, ◌<◌, ◌≤◌, List, [], ◌∷◌, map}
+use Rattle.std.specs.Prelude.{Bool, true, false, nat_lt, ◌&&◌, if◌then◌else◌, Option, Some, None, ◌==◌, slice_get}
+use Rattle.std.specs.Prelude.{All, IfSome}
 use Rattle.std.specs.List.{flat_map, list_any}
 use Rattle.std.specs.declared.cmp.Ordering.{Ordering}
 use Rattle.fair_rates.specs.Sides.Subjects.{same_peer}
@@ -70,7 +71,8 @@ earliest (moment ∷ moments) = earlier moment (earliest moments)
 
 -- the groups together, accounted for at a moment: what is in flight in order of start, what waits in order of pairs,
 -- and the first finish and the first start of any
-abbrev pub together : {P : Type 0} → (P → P → Ordering) → (P → Option ℕ) → Bool → ℕ → ℕ → List (Planned P) → Planned P
+abbrev pub together : {P : Type 0} → (P → P → Ordering) → (P → Option ℕ) → Bool → ℕ → ℕ → List (Planned P)
+    → Planned P
 together cmp home limited next_id accounted groups = record {
   caps = record {
     egress = of_peer home (λ group. group.caps.egress) groups;
@@ -99,9 +101,10 @@ AreStrictlyIn before [] = ⊤
 AreStrictlyIn before (x ∷ xs) = All (λ y. before x y ≡ true) xs × AreStrictlyIn before xs
 
 module _ {P : Type 0} (cmp : P → P → Ordering) (home : P → Option ℕ) where
-  -- the group of that number knows of its own peers alone, and its plans are right, from some moment up to the last one
-  -- from which a start was planned, with a finish after the last account of all; each message in flight has its fair
-  -- rate, was updated by the group's own last account, and has a flow id below the next one
+  -- the group of that number knows of its own peers alone, and its plans are right: its start is the least from some
+  -- moment on, which is no later than the last one from which a start was planned, and its finish comes after the last
+  -- account of all; each message in flight has its fair rate, uses a capped side, and was updated by the group's own
+  -- last account, and they stand in the order of their flow ids, which are below the next one
   pub record IsGroup (limited : Bool) (next_id accounted moment number : ℕ) (group : Planned P) : Type 0 where
     pub sending : All (IsAtHome home number) (rated_messages group.sending)
     pub waiting : All (IsAtHome home number) group.waiting
@@ -122,6 +125,7 @@ module _ {P : Type 0} (cmp : P → P → Ordering) (home : P → Option ℕ) whe
     pub numbered : AreStrictlyIn started_before group.sending
     pub ids : All (λ f. f.id < next_id) group.sending
 
+  -- all are groups, with what they share
   pub record AreGroups (limited : Bool) (next_id accounted moment : ℕ) (groups : List (Planned P)) : Type 0 where
     pub each : (number : ℕ) (group : Planned P) → slice_get groups number ≡ Some group
         → IsGroup limited next_id accounted moment number group
@@ -175,14 +179,14 @@ abbrev pub MayLeaveStart : {P : Type 0} → ℕ → ℕ → Planned P → Call P
 MayLeaveStart moment now group (call_enqueue_all t ms) = ms ≡ [] → (moment ≤ now) ⊎ (group.waiting ≡ [])
 MayLeaveStart moment now group call = ⊤
 
--- the limits may begin where there is no other group
+-- limits hold already, or there is no other group, so that they may begin
 abbrev pub MayLimit : {P : Type 0} → Bool → ℕ → List (Planned P) → Type 0
 MayLimit {P} limited number groups =
     (limited ≡ true)
     ⊎ ((other : ℕ) (group : Planned P) → slice_get groups other ≡ Some group → other ≡ number)
 
--- the account of all after new caps for a group at now: that of the group, but now where it sends nothing and another
--- one does
+-- the moment of the last account of all after new caps for a group: that of the group's own, but the moment of the call
+-- where the group sends nothing and another one does
 pub record IsAccountOfCaps {P : Type 0} (now number : ℕ) (groups : List (Planned P)) (group after : Planned P)
     (account : ℕ) : Type 0 where
   pub own_sends : group.sending ≢ [] → account ≡ after.accounted
@@ -194,7 +198,7 @@ pub record IsAccountOfCaps {P : Type 0} (now number : ℕ) (groups : List (Plann
       → account ≡ now
   pub either : (account ≡ after.accounted) ⊎ ((group.sending ≡ []) × (account ≡ now))
 
--- the account of all after a call of a group
+-- the moment of the last account of all after a call of a group
 abbrev pub IsAccountAfter : {P : Type 0} → ℕ → ℕ → List (Planned P) → Planned P → Call P → Planned P → ℕ → Type 0
 IsAccountAfter now number groups group (call_limit t peer egress ingress) after account =
     IsAccountOfCaps now number groups group after account
@@ -261,17 +265,18 @@ joined cmp p q =
     }
 
 module _ {P : Type 0} (cmp : P → P → Ordering) where
-  -- nothing is known of the peer, or of the pair
+  -- no cap is known of the peer
   abbrev pub KnowsNoPeer : Planned P → P → Type 0
   KnowsNoPeer p x = (p.caps.egress x ≡ None) × (p.caps.ingress x ≡ None)
 
+  -- of the pair no message is in flight and none waits, and no arrival and no cap is known
   abbrev pub KnowsNoPair : Planned P → P → P → Type 0
   KnowsNoPair p o r =
       (list_any (λ m. same_peer cmp o m.origin && same_peer cmp r m.recipient) (rated_messages p.sending) ≡ false)
       × (list_any (λ m. same_peer cmp o m.origin && same_peer cmp r m.recipient) p.waiting ≡ false)
       × (p.last_arrival o r ≡ None) × (p.caps.link o r ≡ None)
 
-  -- of no peer and of no pair both know something
+  -- of no peer and of no pair both know something, and limits hold in both or in neither
   pub record AreApartWorlds (p q : Planned P) : Type 0 where
     pub peers : (x : P) → KnowsNoPeer p x ⊎ KnowsNoPeer q x
     pub pairs : (o r : P) → KnowsNoPair p o r ⊎ KnowsNoPair q o r

@@ -13,7 +13,7 @@ new_group limited next_id = record (new_planned next_id) { limited = limited }
 abbrev pub home_with : {P : Type 0} → (P → P → Ordering) → (P → Option ℕ) → P → ℕ → P → Option ℕ
 home_with cmp home peer number p = if same_peer cmp peer p then Some number else home p
 
--- the group of that number became part of another one
+-- the number of a home, once the group of the one number has become part of that of another
 abbrev pub moved_to : ℕ → ℕ → Option ℕ → Option ℕ
 moved_to other number None = None
 moved_to other number (Some n) = Some (if n == other then number else n)
@@ -26,7 +26,7 @@ moved home other number p = moved_to other number (home p)
 abbrev pub AreAmong : {P : Type 0} → (P → Option ℕ) → List (Planned P) → Type 0
 AreAmong {P} home groups = (p : P) (n : ℕ) → home p ≡ Some n → n < length groups
 
--- a list with former ones restored, the last of them first
+-- a list with former items at their places again, restored one after another: of two for one place the later one stays
 abbrev pub restored : {X : Type 0} → List (ℕ × X) → List X → List X
 restored [] xs = xs
 restored (former ∷ rest) xs = restored rest (slice_set xs former.0 former.1)

@@ -178,8 +178,8 @@ fn groups_begin_with_the_first_limit(rt: HostRuntime) -> Result<(), Fail> {
     play_both::<char>(&rt, LATER_LIMITS)
 }
 
-/// One id is left: the message that waits for pair 1 to 3 takes it after one second, and there is none for the pair 2 to
-/// 4 half a second later. An advance past both is refused, and all stays as it was.
+/// One id is left: the message that waits for pair 1 to 3 takes it after one second, and there is none for pair 2 to 4
+/// half a second later. An advance past both is refused, and all stays as it was.
 #[test]
 fn a_refused_advance_leaves_all_groups(rt: HostRuntime) -> Result<(), Fail> {
     play::<u64>(
