@@ -3,7 +3,7 @@ use Rattle.std.proofs.Common.{◌≡◌, ℕ, zero, suc, ◌+◌, ◌-◌, ◌*�
 use Rattle.std.proofs.Common.{sum_by, Option, Some, None, ◌∙◌, refl, sym, ap, subst, arith, add-mul, cond}
 use Rattle.std.specs.List.{filter, list_all}
 use Rattle.std.specs.Option.{is_none}
-use Rattle.std.specs.Prelude.{true, unwrap_or, option_map}
+use Rattle.std.specs.Prelude.{Bool, true, unwrap_or, option_map, if◌then◌else◌}
 use Rattle.std.specs.declared.alloc.Global.{Global}
 use Rattle.std.specs.declared.rc.Rc.{Rc}
 use Rattle.std.proofs.lemmas.List.Elements.{All-contains}
@@ -15,7 +15,7 @@ use Rattle.fair_rates.specs.Filling.FairParts.{flow_parts, kept_at, times_as_man
 use Rattle.fair_rates.specs.Filling.LeftSides.{left_beside}
 use Rattle.fair_rates.specs.declared.bandwidth.parts.FairParts.{FairParts}
 use Rattle.fair_rates.proofs.Fairness.MappedSides.{listed_on, listed_from}
-use Rattle.fair_rates.proofs.Lists.Members.{in_from_contains, contains_from_in, in_filter, from_filter}
+use Rattle.fair_rates.proofs.Lists.Members.{in_from_contains, contains_from_in, in_filter, from_filter, any_passes}
 
 -- what is left, and what is taken, are all
 all_parts : (cap scale taken times : ℕ) → taken ≤ cap * scale
@@ -76,14 +76,24 @@ module _ (kept : ℕ → Option ℕ) (times : ℕ) (parts : ℕ → ℕ) where
   module _ (sides : List Side) (scale : ℕ)
       (room : (side : Side) → Contains sides side → kept_load kept side ≤ side.cap * scale)
       (fair : IsFair (map (left_beside kept scale) sides) times parts) where
-    within : (side : Side) → Contains sides side → load all side ≤ side.cap * (scale * times)
-    within side listed =
+    -- where one is rated, what is left is what the others leave
+    left_cap : (side : Side) (flow : ℕ) → Contains side.users flow → kept flow ≡ None
+        → (left_beside kept scale side).cap ≡ side.cap * scale - kept_load kept side
+    left_cap side flow used none =
+        ap (λ (b : Bool). if b then side.cap * scale - kept_load kept side else 0)
+        (any_passes (λ flow. is_none (kept flow)) side.users flow (in_from_contains side.users flow used)
+        (ap is_none none))
+
+    within : (side : Side) (flow : ℕ) → Contains sides side → Contains side.users flow → kept flow ≡ None
+        → load all side ≤ side.cap * (scale * times)
+    within side flow listed used none =
         let left : load parts (left_beside kept scale side) ≤ (left_beside kept scale side).cap * times =
         All-contains (λ s. load parts s ≤ s.cap * times) (map (left_beside kept scale) sides)
         (left_beside kept scale side) fair.within (listed_on (left_beside kept scale) sides side listed) in
         omega (
           arith,
           left,
+          ap (λ n. n * times) (left_cap side flow used none),
           both_loads side.users,
           all_parts side.cap scale (kept_load kept side) times (room side listed),
         )
@@ -102,11 +112,13 @@ module _ (kept : ℕ → Option ℕ) (times : ℕ) (parts : ℕ → ℕ) where
         let own : Side = from.0 in
         let used : Contains (rated own.users) flow =
         subst (λ (s : Side). Contains s.users flow) (sym from.2) h.uses.used in
+        let both = from_rated own.users flow used in
         let full : sum_by parts (rated own.users) ≡ (own.cap * scale - kept_load kept own) * times =
-        subst (λ (s : Side). load parts s ≡ s.cap * times) (sym from.2) h.full in
+        subst (λ (s : Side). load parts s ≡ s.cap * times) (sym from.2) h.full
+        ∙ ap (λ n. n * times) (left_cap own flow both.0 both.1) in
         record {
           side = own;
-          uses = record { listed = from.1; used = (from_rated own.users flow used).0 };
+          uses = record { listed = from.1; used = both.0 };
           full =
               omega (
                 arith,
@@ -126,7 +138,7 @@ module _ (kept : ℕ → Option ℕ) (times : ℕ) (parts : ℕ → ℕ) where
         }
 
     pub fair_beside : IsFairBeside kept sides (scale * times) all
-    fair_beside = record { within = λ side listed flow used none. within side listed; held = held }
+    fair_beside = record { within = λ side listed flow used none. within side flow listed used none; held = held }
 
   -- the flows that are rated are limited by what is left
   pub limited_beside : (sides : List Side) (scale flow : ℕ) → kept flow ≡ None → IsLimited sides flow

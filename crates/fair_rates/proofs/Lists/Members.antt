@@ -1,7 +1,7 @@
 -- Members of lists, by recursion.
 use Rattle.std.proofs.Common.{◌≡◌, ℕ, zero, suc, ◌<◌, List, [], ◌∷◌, ◌++◌, map, length, Bool, true, false, cond, Some}
 use Rattle.std.proofs.Common.{refl, sym, ap, subst, arith, ◌⊎◌, inl, inr, Contains}
-use Rattle.std.specs.Prelude.{slice_get}
+use Rattle.std.specs.Prelude.{slice_get, ◌||◌}
 use Rattle.std.specs.List.{filter, flat_map, list_all, list_any}
 use Rattle.std.proofs.lemmas.Bool.{and_parts, and_from, or_parts, or_from}
 
@@ -102,6 +102,15 @@ any_passes test xs x h t = by_any (list_any test xs) refl
     by_any : (b : Bool) → list_any test xs ≡ b → list_any test xs ≡ true
     by_any true e = e
     by_any false e = let off : test x ≡ false = none_passes test xs e x h in cc
+
+pub filter_nothing : {X : Type 0} (p : X → Bool) (xs : List X) → list_any p xs ≡ false → filter p xs ≡ []
+filter_nothing p [] e = refl
+filter_nothing p (x ∷ xs) e = by_test (p x) e (filter_nothing p xs)
+  where
+    by_test : (b : Bool) → (b || list_any p xs) ≡ false → (list_any p xs ≡ false → filter p xs ≡ [])
+        → cond b (x ∷ filter p xs) (filter p xs) ≡ []
+    by_test true e ih = cc
+    by_test false e ih = ih e
 
 -- some member passes, or none does
 pub some_or_none : {X : Type 0} (test : X → Bool) (xs : List X)

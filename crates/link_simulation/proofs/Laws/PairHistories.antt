@@ -98,15 +98,6 @@ not_taken {X} {Y} p f test x (z ∷ zs) e off = by_test (test z) e (not_taken p 
     by_test true e ih = let same : z ≡ x = cc in let out : p (f z) ≡ false = ap (λ w. p (f w)) same ∙ off in rw out refl
     by_test false e ih = ap (λ ys. cond (p (f z)) (f z ∷ ys) ys) (ih e off)
 
-pub filter_nothing : {X : Type 0} (p : X → Bool) (xs : List X) → list_any p xs ≡ false → filter p xs ≡ []
-filter_nothing p [] e = refl
-filter_nothing p (x ∷ xs) e = by_test (p x) e (filter_nothing p xs)
-  where
-    by_test : (b : Bool) → (b || list_any p xs) ≡ false → (list_any p xs ≡ false → filter p xs ≡ [])
-        → cond b (x ∷ filter p xs) (filter p xs) ≡ []
-    by_test true e ih = cc
-    by_test false e ih = ih e
-
 module _ {P : Type 0} (cmp : P → P → Ordering) (order : IsTotalOrder cmp) (k : Message P) where
   -- what completed of the pair, what of it waits, what is in flight, and its last arrival
   abbrev pub told_of_k : List (Completed P) → List (Completed P)

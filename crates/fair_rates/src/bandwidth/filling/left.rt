@@ -1,5 +1,6 @@
 //! What is left of sides, in parts, for the flows that are rated.
-ghost use Rattle.std.specs.Prelude.{◌≡◌, ◌<◌, IfOk, All, map, length};
+ghost use Rattle.std.specs.Prelude.{◌≡◌, ◌<◌, true, IfOk, All, map, length};
+ghost use Rattle.std.specs.List.{list_any};
 ghost use Rattle.std.specs.Option.{is_none};
 ghost use Rattle.fair_rates.specs.Sides.SideOf.{side_of};
 ghost use Rattle.fair_rates.specs.Filling.FairParts.{kept_at};
@@ -51,18 +52,39 @@ pub(crate) fn sides_beside(
 {
     let mut left = Vec::with_capacity(alloc, sides.len())?;
     for side in sides {
-        left.push(side_beside(side, kept, scale)?)?;
+        left.push(side_beside(alloc, side, kept, scale)?)?;
     }
     Ok(left)
 }
 
-/// What the flows that keep their rates leave of the side, for the others.
+/// What the flows that keep their rates leave of the side, for the others. Where there are no others,
+/// nothing is reckoned.
 fn side_beside(
+    alloc: Global,
     side: Side,
     kept: &[Option<Rc<Natural>>],
     scale: &Natural,
 ) -> Result<LeftSide, AllocError>
     requires { All (λ flow. flow < length kept.now) side.users.items }
+    ensures { IfOk result (λ left. left_side_of left ≡ left_beside (kept_at kept.now) scale.now (side_of side)) }
+{
+    if any_is_rated(kept, &side.users) {
+        return side_shared(side, kept, scale);
+    }
+    Ok(LeftSide {
+        left: Natural::from_u64(alloc, 0),
+        users: Vec::new(alloc),
+    })
+}
+
+/// The same where there is another.
+fn side_shared(
+    side: Side,
+    kept: &[Option<Rc<Natural>>],
+    scale: &Natural,
+) -> Result<LeftSide, AllocError>
+    requires users { All (λ flow. flow < length kept.now) side.users.items }
+    requires shared { list_any (λ flow. is_none (kept_at kept.now flow)) side.users.items ≡ true }
     ensures { IfOk result (λ left. left_side_of left ≡ left_beside (kept_at kept.now) scale.now (side_of side)) }
 {
     let Side { cap, mut users } = side;
@@ -74,6 +96,13 @@ fn side_beside(
     }
     users.retain(|user| is_rated(kept, *user));
     Ok(LeftSide { left, users })
+}
+
+/// Whether any of the flows keeps no rate.
+fn any_is_rated(kept: &[Option<Rc<Natural>>], flows: &[usize]) -> bool
+    ensures { result ≡ list_any (λ flow. is_none (kept_at kept.now flow)) flows.now }
+{
+    flows.iter().any(|flow| is_rated(kept, *flow))
 }
 
 /// Whether the flow keeps no rate.

@@ -1,22 +1,22 @@
-use Rattle.std.proofs.Common.{rules, ℕ, ◌≡◌, ◌*◌, ◌-◌, sum_by, take, ◌∙◌, mul_comm, arith}
-use Rattle.std.specs.List.{filter}
+use Rattle.std.proofs.Common.{◌≡◌, ◌*◌, ◌-◌, ◌∙◌, sym, ap}
+use Rattle.std.specs.List.{list_any}
 use Rattle.std.specs.Option.{is_none}
-use Rattle.std.specs.Prelude.{unwrap_or}
-use Rattle.std.proofs.lemmas.Fn.{filter_same}
-use Rattle.std.proofs.lemmas.List.{take_all}
+use Rattle.std.specs.Prelude.{Bool, false, if◌then◌else◌}
+use Rattle.fair_rates.specs.Fairness.Beside.{kept_load}
 use Rattle.fair_rates.specs.Filling.FairParts.{kept_at}
+use Rattle.fair_rates.specs.Sides.SideOf.{side_of}
+use Rattle.fair_rates.proofs.Lists.Members.{filter_nothing}
 use Rattle.fair_rates.proofs.bandwidth.filling.left.side_beside.Goals as goal
 
 pub returns : goal.returns
 returns c =
     let kept = kept_at c.args.kept.now in
     let users = c.args.side.users.items in
-    let keeps : ℕ → ℕ = λ flow. unwrap_or (kept flow) 0 in
-    let all : take c.loop-user.user-index c.deref-user-items.result.now ≡ users =
-    take_all c.loop-user.user-index c.deref-user-items.result.now (omega (arith, c.loop-user-test.false))
-    ∙ c.deref-user-items.ensures.value in
-    let left : c.loop-user.left ≡ c.args.side.cap * c.args.scale.now - sum_by keeps users =
-    c.loop-user.invariant ∙ (λ i. mul_comm c.args.scale.now c.args.side.cap i - sum_by keeps (all i)) in
-    let rated : c.retain.new.self.items ≡ filter (λ flow. is_none (kept flow)) users =
-    filter_same _ (λ flow. is_none (kept flow)) _ (λ x b f' k. search rules) _ _ c.retain.ensures.filtered in
-    λ i. record { cap = left i; users = rated i }
+    let left = c.args.side.cap * c.args.scale.now - kept_load kept (side_of c.args.side) in
+    let none : list_any (λ flow. is_none (kept flow)) users ≡ false =
+    ap (list_any (λ flow. is_none (kept flow))) (sym c.deref.ensures.value) ∙ sym c.any_is_rated.ensures
+    ∙ c.if-any_is_rated.false in
+    λ i. record {
+      cap = (c.from_u64.ensures ∙ sym (ap (λ (b : Bool). if b then left else 0) none)) i;
+      users = (c.new.ensures.items ∙ sym (filter_nothing (λ flow. is_none (kept flow)) users none)) i;
+    }

@@ -1,7 +1,7 @@
 use Rattle.std.proofs.Common.{◌≡◌, ◌*◌, ◌-◌, sum_by, take}
 use Rattle.std.specs.Prelude.{unwrap_or}
 use Rattle.fair_rates.specs.Filling.FairParts.{kept_at}
-use Rattle.fair_rates.proofs.bandwidth.filling.left.side_beside.Given as goal
+use Rattle.fair_rates.proofs.bandwidth.filling.left.side_shared.Given as goal
 
 abbrev pub invariant-loop-user : goal.invariant-loop-user
 invariant-loop-user l = l.left
