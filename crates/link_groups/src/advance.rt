@@ -48,7 +48,8 @@ impl<P: Peer> Groups<P> {
         }
     }
 
-    /// As `answer_advance`, whatever the groups are like: those that have an event up to `now` become one.
+    /// As `answer_advance`, whatever the groups are like: those that have an event up to `now` become one, and all do
+    /// where an event is overdue or time goes back.
     fn advance_joined(&mut self, now: u64) -> Result<(Vec<Completion<P>>, u128), Error>
         ensures answered { IfOk result (λ answer. HaveAdvanced P.cmp self.old now answer.1 answer.0.items self.new) }
         ensures refused { IfErr result (MayRefuse P.cmp self.old (call_advance now)) }
@@ -119,7 +120,7 @@ impl<P: Peer> Groups<P> {
         Ok(())
     }
 
-    /// Whether no event comes before all was planned, and all was planned by the last account or later.
+    /// Whether no event comes before all was planned, and all was planned at the last account or later.
     pub(crate) fn is_in_turn(&self) -> bool
         ensures accounted { result ≡ true → self.now.accounted ≤ self.now.planned_from }
         ensures events { result ≡ true

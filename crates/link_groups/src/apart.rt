@@ -43,7 +43,7 @@ struct Former<P: Peer> {
 struct Course<P: Peer> {
     completions: Vec<Completion<P>>,
     events: u128,
-    /// What was kept before, in the order of events: of each group what it was first, if its account came up to `from`.
+    /// What was kept of each group before its first account in this advance, in the order of events.
     former: Vec<Former<P>>,
     /// All was accounted for up to here before. A later account is one of this advance.
     from: u64,
@@ -65,8 +65,8 @@ impl<P: Peer> Groups<P> {
     ghost use Rattle.link_groups.specs.Together.AsPlanned.{planned_together};
 
     /// Lets time go on to `now`, each event in its group, and answers what completes, with the number of events. None
-    /// where two groups have an event at the same moment, where time goes back, and where there are more events than
-    /// can be counted. Then, and where it is refused, all stays.
+    /// where two groups have an event at the same moment, where an event is overdue or time goes back, and where there
+    /// are more events than can be counted. Then, and where it is refused, all stays.
     pub(crate) fn advance_apart(
         &mut self,
         now: u64,
@@ -128,8 +128,8 @@ impl<P: Peer> Groups<P> {
         }
     }
 
-    /// All events up to `now` happen, each in its group. Answers whether they did: it stops where two groups have one at
-    /// the same moment, and where there are more than can be counted.
+    /// All events up to `now` happen, each in its group. Answers whether they did: it stops where two groups have one
+    /// at the same moment, and where there are more than can be counted.
     fn go_through(&mut self, now: u64, course: &mut Course<P>) -> Result<bool, Error>
         requires by_now { self.old.planned_from ≤ now }
         requires none_yet { IsOnCourse P.cmp (planned_together P.cmp self.old) self.old course.old }
@@ -182,7 +182,8 @@ impl<P: Peer> Groups<P> {
         ensures planned_from { IfOk result (λ went. went ≡ true → self.new.planned_from ≡ until) }
         ensures past { IfOk result (λ went. went ≡ true → IfSome (earliest self.new.events) (λ t. until < t)) }
         ensures from { course.new.from ≡ course.old.from }
-        ensures before { StillGivesBack course.old.former.items course.new.former.items course.old.from self.old self.new }
+        ensures before { StillGivesBack course.old.former.items course.new.former.items course.old.from
+            self.old self.new }
         ensures refused { IfErr result (λ e. (first : Planned P) (now : ℕ) → until ≤ now
             → IsOnCourse P.cmp first self.old course.old → MayBeRefused P.cmp first (call_advance now) e) }
     {
@@ -247,7 +248,8 @@ impl<P: Peer> Groups<P> {
     }
 }
 
-/// What was kept of a group before an event is kept, if the group's account came up to that moment. There is room.
+/// What a group was before an event is noted, if its last account was at that moment or earlier: else it has been
+/// noted already. There is room.
 fn keep<P: Peer>(kept: &mut Vec<Former<P>>, from: u64, former: Former<P>)
     requires { vec_len kept.old < vec_capacity kept.old }
     ensures first { former.ledger.flights.at ≤ from → kept.new.items ≡ kept.old.items ++ former ∷ [] }

@@ -18,7 +18,7 @@ use std::alloc::{AllocError, Global};
 /// One group. One that has become part of another is empty.
 #[derive(Drop)]
 pub(crate) struct Group<P: Peer> {
-    /// Where the group stands that its peers are in now.
+    /// The place of this group, or of the one that it has become part of.
     pub(crate) number: usize,
     pub(crate) ledger: Ledger<P>,
 }
@@ -145,7 +145,7 @@ impl<P: Peer> Groups<P> {
         Ok(ledger)
     }
 
-    /// That is kept of the group from now on, after a call at that moment, with that moment as the last account of all.
+    /// This is kept of the group from now on, after a call at `now`. The last account of all was at `accounted`.
     pub(crate) fn put(&mut self, number: usize, ledger: Ledger<P>, accounted: u64, now: u64)
         requires own { slice_get (numbers self.old.groups) number ≡ Some number }
         requires kept { StayGroupsWith P.cmp self.old number ledger accounted now }

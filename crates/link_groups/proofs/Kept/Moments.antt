@@ -33,11 +33,11 @@ left_out_map f zero (x ∷ xs) = refl
 left_out_map f (suc n) (x ∷ xs) = ap (λ l. f x ∷ l) (left_out_map f n xs)
 
 -- what all say, where another comes to stand at a number
-pub map_set : {X Y : Type 0} (f : X → Y) (xs : List X) (at : ℕ) (x : X)
+pub map_set : {X Y : Type 0} (f : X → Y) (at : ℕ) (xs : List X) (x : X)
     → map f (slice_set xs at x) ≡ slice_set (map f xs) at (f x)
-map_set f [] at x = refl
-map_set f (y ∷ ys) zero x = refl
-map_set f (y ∷ ys) (suc at) x = ap (λ l. f y ∷ l) (map_set f ys at x)
+map_set f at [] x = refl
+map_set f zero (y ∷ ys) x = refl
+map_set f (suc at) (y ∷ ys) x = ap (λ l. f y ∷ l) (map_set f at ys x)
 
 set_there : (ms : List (Option ℕ)) (at : ℕ) (m : Option ℕ) → at < length ms
     → slice_index_or (slice_set ms at m) at None ≡ m
@@ -139,18 +139,18 @@ module _ (nodes : List Node) (at : ℕ) (first : Option ℕ) (low : at < length 
   abbrev new : List Node
   new = slice_set nodes at (with_first nodes at first)
 
-  pub new_here : first_at new at ≡ first
+  new_here : first_at new at ≡ first
   new_here =
-      ap (λ ms. slice_index_or ms at None) (map_set (λ (node : Node). node.first) nodes at (with_first nodes at first))
+      ap (λ ms. slice_index_or ms at None) (map_set (λ (node : Node). node.first) at nodes (with_first nodes at first))
       ∙ set_there (map (λ (node : Node). node.first) nodes) at first
       (omega (arith, low, length-map nodes (λ (node : Node). node.first)))
 
-  pub new_beside : (n : ℕ) → (n ≡ at → ⊥) → first_at new n ≡ first_at nodes n
+  new_beside : (n : ℕ) → (n ≡ at → ⊥) → first_at new n ≡ first_at nodes n
   new_beside n apart =
-      ap (λ ms. slice_index_or ms n None) (map_set (λ (node : Node). node.first) nodes at (with_first nodes at first))
+      ap (λ ms. slice_index_or ms n None) (map_set (λ (node : Node). node.first) at nodes (with_first nodes at first))
       ∙ set_beside (map (λ (node : Node). node.first) nodes) at first n apart
 
-  pub right_but_above : (n : ℕ) → (2 * n + 1 ≡ at → ⊥) → (2 * n + 2 ≡ at → ⊥) → IsFirstAt new n
+  right_but_above : (n : ℕ) → (2 * n + 1 ≡ at → ⊥) → (2 * n + 2 ≡ at → ⊥) → IsFirstAt new n
   right_but_above n left other =
       mended_but_above (moment_at nodes) (first_at nodes) (first_at new) at new_beside
       (new_here ∙ right
@@ -186,7 +186,7 @@ right_but_there nodes at moment y there right n apart =
     ∙ right n
     ∙ ap₂ (λ m l. earlier m (earlier (slice_index_or l (2 * n + 1) None) (slice_index_or l (2 * n + 2) None)))
     (sym (set_beside (moments_of nodes) at moment n apart)
-    ∙ ap (λ ms. slice_index_or ms n None) (sym (map_set (λ (node : Node). node.moment) nodes at x))) (sym firsts)
+    ∙ ap (λ ms. slice_index_or ms n None) (sym (map_set (λ (node : Node). node.moment) at nodes x))) (sym firsts)
   where
     x : Node
     x = record { moment = moment; first = y.first }
@@ -197,7 +197,7 @@ right_but_there nodes at moment y there right n apart =
 -- no other moment changes
 pub one_changes : (nodes : List Node) (at : ℕ) (x : Node)
     → moments_of (slice_set nodes at x) ≡ slice_set (moments_of nodes) at x.moment
-one_changes nodes at x = map_set (λ (node : Node). node.moment) nodes at x
+one_changes nodes at x = map_set (λ (node : Node). node.moment) at nodes x
 
 -- what is written over a list of that length
 pub refilled : (written old : List Node) (n : ℕ) → length written ≡ n → length old ≡ n

@@ -3,24 +3,15 @@ use Rattle.std.proofs.Common.{◌≡◌, ℕ, zero, suc, ◌+◌, ◌*◌, ◌<�
 use Rattle.std.proofs.Common.{◌⊎◌, inl, inr, arith}
 use Rattle.std.proofs.lemmas.Bool.{cases_lt, cases_eq}
 use Rattle.link_simulation.specs.Rule.Planned.{earlier}
+use Rattle.link_simulation.proofs.Groups.Earliest.{earlier_none, earlier_joined}
 
 -- ---- the earlier of two moments
-
-pub earlier_none : (a : Option ℕ) → earlier a None ≡ a
-earlier_none None = refl
-earlier_none (Some a) = refl
 
 pub earlier_comm : (a b : Option ℕ) → earlier a b ≡ earlier b a
 earlier_comm None None = refl
 earlier_comm None (Some b) = refl
 earlier_comm (Some a) None = refl
 earlier_comm (Some a) (Some b) = ap Some (omega arith)
-
-pub earlier_assoc : (a b c : Option ℕ) → earlier (earlier a b) c ≡ earlier a (earlier b c)
-earlier_assoc None b c = refl
-earlier_assoc (Some a) None c = refl
-earlier_assoc (Some a) (Some b) None = refl
-earlier_assoc (Some a) (Some b) (Some c) = ap Some (omega arith)
 
 -- it is one of the two
 pub earlier_either : (a b : Option ℕ) (m : ℕ) → earlier a b ≡ Some m → (a ≡ Some m) ⊎ (b ≡ Some m)
@@ -38,9 +29,9 @@ earlier_either (Some a) (Some b) m h = by_order (cases_lt a b)
 one_down : (o x a b r : Option ℕ)
     → earlier (earlier o x) (earlier (earlier r a) b) ≡ earlier o (earlier (earlier x (earlier a b)) r)
 one_down o x a b r =
-    earlier_assoc o x (earlier (earlier r a) b)
-    ∙ ap (λ y. earlier o (earlier x y)) (earlier_assoc r a b ∙ earlier_comm r (earlier a b))
-    ∙ ap (earlier o) (sym (earlier_assoc x (earlier a b) r))
+    earlier_joined o x (earlier (earlier r a) b)
+    ∙ ap (λ y. earlier o (earlier x y)) (earlier_joined r a b ∙ earlier_comm r (earlier a b))
+    ∙ ap (earlier o) (sym (earlier_joined x (earlier a b) r))
 
 -- ---- the earliest of some in a row
 
@@ -54,7 +45,7 @@ one_more f n zero = let same : n ≡ n + 0 = omega arith in earlier_none (f n) �
 one_more f n (suc k) =
     let same : suc n + k ≡ n + suc k = omega arith in
     ap (earlier (f n)) (one_more f (suc n) k ∙ ap (λ i. earlier (earliest_from f (suc n) k) (f i)) same)
-    ∙ sym (earlier_assoc (f n) (earliest_from f (suc n) k) (f (n + suc k)))
+    ∙ sym (earlier_joined (f n) (earliest_from f (suc n) k) (f (n + suc k)))
 
 pub later_by_one : (f : ℕ → Option ℕ) (n k : ℕ) → earliest_from f (suc n) k ≡ earliest_from (λ i. f (suc i)) n k
 later_by_one f n zero = refl

@@ -94,8 +94,5 @@ joined_new {P} ns ws world same joined = record { rooted = rooted; vacant = vaca
 -- the one that found its home is there
 pub home_itself : {P : Type 0} (cmp : P → P → Ordering) → IsTotalOrder cmp → (home : P → Option ℕ) (peer : P)
     (number : ℕ) → home_with cmp home peer number peer ≡ Some number
-home_itself cmp order home peer number = by_test (same_peer cmp peer peer) (same_itself cmp order peer)
-  where
-    by_test : (b : Bool) → b ≡ true → (if b then Some number else home peer) ≡ Some number
-    by_test true is = refl
-    by_test false is = cc
+home_itself cmp order home peer number =
+    ap (λ (b : Bool). if b then Some number else home peer) (same_itself cmp order peer)

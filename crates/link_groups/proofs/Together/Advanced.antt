@@ -5,10 +5,10 @@ use Rattle.std.specs.Prelude.{slice_get, slice_set, IfSome}
 use Rattle.std.specs.declared.cmp.Ord.{Ghosts}
 use Rattle.std.specs.declared.cmp.Ordering.{Ordering}
 use Rattle.std.specs.Cmp.{IsTotalOrder}
-use Rattle.fair_rates.proofs.Lists.Members.{in_get}
+use Rattle.fair_rates.proofs.Lists.Members.{in_get, get_from_map}
 use Rattle.fair_rates.specs.declared.error.Error.{Error}
 use Rattle.fair_rates.specs.declared.error.Error.TheVariants.{OutOfMemory, NumberTooLarge, MomentTooLate, FlowIdsUsedUp}
-use Rattle.link_simulation.specs.Simulation.Calls.{Call, call_advance}
+use Rattle.link_simulation.specs.Simulation.Calls.{call_advance}
 use Rattle.link_simulation.specs.Simulation.World.{Completed, goes, last_moment}
 use Rattle.link_simulation.specs.Rule.Events.{Advances, no_more, all_started}
 use Rattle.link_simulation.specs.Rule.Groups.{AreGroups, together, IsReady, IsReadyToAdvance, GoesOnward, IsAlone}
@@ -25,7 +25,6 @@ use Rattle.link_groups.specs.declared.groups.Groups.{Groups}
 use Rattle.link_groups.specs.Together.AsPlanned.{home, worlds_of, planned_together}
 use Rattle.link_groups.specs.Together.Joined.{NoneStartsBefore}
 use Rattle.link_groups.specs.Together.Ready.{IsReadyToAdvanceAt}
-use Rattle.link_groups.proofs.Together.Answering.{got_from}
 use Rattle.link_groups.proofs.Together.Gathering.{nil_of_length}
 use Rattle.link_groups.proofs.Together.Known.{are_groups, homes_of}
 use Rattle.link_groups.proofs.Together.Onward.{onward_ready}
@@ -33,23 +32,6 @@ use Rattle.link_groups.proofs.Together.Reading.{length_worlds}
 use Rattle.link_groups.proofs.Together.Unstarted.{advance_still}
 
 -- ---- where there is no group
-
--- nothing stands in a list of none
-none_stands : {X : Type 0} (xs : List X) (n : ℕ) (x : X) → xs ≡ [] → slice_get xs n ≡ Some x → ⊥
-none_stands {X} xs n x none at =
-    let wrong : slice_get [] n ≡ Some x = ap (λ (ys : List X). slice_get ys n) (sym none) ∙ at in cc
-
--- no groups are groups at any moment
-pub no_groups : {P : Type 0} (cmp : P → P → Ordering) (home : P → Option ℕ) (limited : Bool) (next_id accounted now : ℕ)
-    (worlds : List (Planned P)) → worlds ≡ [] → AreGroups cmp home limited next_id accounted now worlds
-no_groups cmp home limited next_id accounted now worlds none = record {
-  each = λ number group at. absurd (none_stands worlds number group none at);
-  different = λ number other one two at. absurd (none_stands worlds number one none at);
-}
-
--- none of them starts anything
-pub no_starts : {P : Type 0} (now : ℕ) (worlds : List (Planned P)) → worlds ≡ [] → NoneStartsBefore now worlds
-no_starts now worlds none number start world at is = absurd (none_stands worlds number world none at)
 
 -- none of them has an event
 no_advances : {P : Type 0} (cmp : P → P → Ordering) (home : P → Option ℕ) (limited : Bool) (next_id accounted now : ℕ)
@@ -63,13 +45,8 @@ no_advances cmp home limited next_id accounted now =
       same = refl;
     }))
 
--- what is refused of one planned world is refused of one that is the same
-pub refused_alike : {P : Type 0} (cmp : P → P → Ordering) (p q : Planned P) → p ≡ q → (call : Call P) (why : Error)
-    → MayBeRefused cmp p call why → MayBeRefused cmp q call why
-refused_alike {P} cmp p q same call why refused = subst (λ (w : Planned P). MayBeRefused cmp w call why) same refused
-
 -- where no flow id was taken in an advance without an event, no fewer are in flight than before
-pub advance_sends : {P : Type 0} (cmp : P → P → Ordering) (now n : ℕ) (p q : Planned P) (answers : List (Completed P))
+advance_sends : {P : Type 0} (cmp : P → P → Ordering) (now n : ℕ) (p q : Planned P) (answers : List (Completed P))
     → IsAnsweredIn cmp now p n answers q → n ≡ 0 → q.next_id ≡ p.next_id → length p.sending ≤ length q.sending
 advance_sends cmp now n p q answers answered none same =
     let still : length q.sending ≡ length p.sending =
@@ -80,7 +57,7 @@ module _ {P : Type 0} {order : Ghosts P} {b : _} {c : _} (total : IsTotalOrder o
   abbrev groups : List (Planned P)
   groups = worlds_of order.cmp g
 
-  pub no_worlds : length g.groups ≡ 0 → worlds_of order.cmp g ≡ []
+  no_worlds : length g.groups ≡ 0 → worlds_of order.cmp g ≡ []
   no_worlds none = nil_of_length (worlds_of order.cmp g) (length_worlds order.cmp g.groups ∙ none)
 
   -- where there is no group, time goes on without an event
@@ -137,7 +114,7 @@ module _ {P : Type 0} {order : Ghosts P} {b : _} {c : _} (total : IsTotalOrder o
     -- the group, before it was brought to the last account
     abbrev found : (group : Planned P) × (slice_get groups number ≡ Some group)
         × (brought g.next_id g.accounted group ≡ part)
-    found = got_from (brought g.next_id g.accounted) groups number part from
+    found = get_from_map (brought g.next_id g.accounted) groups number part from
 
     advances_of : (n : ℕ) (answers : List (Completed P)) (after : Planned P)
         → (answered : IsAnsweredIn order.cmp now part n answers after)

@@ -254,7 +254,7 @@ module _ {P : Type 0} (cmp : P → P → Ordering) (order : IsTotalOrder cmp) (h
       )))
       (none_of_none cmp (flat_map drained groups))
 
-  pub all_orderly : IsOrderly cmp whole
+  all_orderly : IsOrderly cmp whole
   all_orderly = record {
     rated = all_rated;
     one_each = one_each;
@@ -304,7 +304,7 @@ module _ {P : Type 0} (cmp : P → P → Ordering) (order : IsTotalOrder cmp) (h
           (updated_by cmp home limited next_id accounted moment i group is) is.finish_later is.finish
 
   -- where no group starts anything before the moment from which starts were planned last
-  pub all_planned : NoneStartsBefore moment groups → IsPlanned cmp whole
+  all_planned : NoneStartsBefore moment groups → IsPlanned cmp whole
   all_planned onward = record {
     finish = all_finish;
     from = moment;
@@ -321,13 +321,13 @@ module _ {P : Type 0} (cmp : P → P → Ordering) (order : IsTotalOrder cmp) (h
 
 module _ {P : Type 0} {order : Ghosts P} {b : _} {c : _} (total : IsTotalOrder order.cmp) (g : Groups P order b c) where
   -- what is planned of all is right
-  pub right_together : IsPlanned order.cmp (planned_together order.cmp g)
+  right_together : IsPlanned order.cmp (planned_together order.cmp g)
   right_together =
       all_planned order.cmp total (home order.cmp g) (homes_of total g) g.limited g.next_id g.accounted g.planned_from
       (worlds_of order.cmp g) (are_groups total g) g.onward
 
   -- and in order
-  pub orderly_together : IsOrderly order.cmp (planned_together order.cmp g)
+  orderly_together : IsOrderly order.cmp (planned_together order.cmp g)
   orderly_together =
       all_orderly order.cmp total (home order.cmp g) (homes_of total g) g.limited g.next_id g.accounted g.planned_from
       (worlds_of order.cmp g) (are_groups total g)

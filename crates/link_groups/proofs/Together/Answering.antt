@@ -1,10 +1,11 @@
 -- A call that a ready group answers is answered by all groups.
-use Rattle.std.proofs.Common.{◌≡◌, ℕ, zero, suc, ◌≤◌, List, [], ◌∷◌, map, Bool, true, Option}
+use Rattle.std.proofs.Common.{◌≡◌, ℕ, ◌≤◌, List, map, Bool, true, Option}
 use Rattle.std.proofs.Common.{Some}
-use Rattle.std.proofs.Common.{refl, sym, subst}
+use Rattle.std.proofs.Common.{sym, subst}
 use Rattle.std.specs.Prelude.{slice_get, slice_set}
 use Rattle.std.specs.declared.cmp.Ordering.{Ordering}
 use Rattle.std.specs.Cmp.{IsTotalOrder}
+use Rattle.fair_rates.proofs.Lists.Members.{get_from_map}
 use Rattle.fair_rates.specs.declared.error.Error.{Error}
 use Rattle.fair_rates.specs.declared.error.Error.TheVariants.{OutOfMemory, NumberTooLarge, MomentTooLate, FlowIdsUsedUp}
 use Rattle.fair_rates.specs.Sides.Subjects.{same_peer}
@@ -25,13 +26,6 @@ pub refused_same : {P : Type 0} (cmp : P → P → Ordering) (call : Call P) (wh
 refused_same {P} cmp call why p q same refused =
     subst (λ (world : Planned P). MayBeRefused cmp world call why) same refused
 
--- what stands in a mapped list comes from what stands there
-pub got_from : {X Y : Type 0} (f : X → Y) (xs : List X) (n : ℕ) (y : Y) → slice_get (map f xs) n ≡ Some y
-    → (x : X) × (slice_get xs n ≡ Some x) × (f x ≡ y)
-got_from f [] n y e = cc
-got_from f (x ∷ xs) zero y e = let same : f x ≡ y = cc in (x, refl, same)
-got_from f (x ∷ xs) (suc n) y e = got_from f xs n y e
-
 module _ {P : Type 0} (cmp : P → P → Ordering) (order : IsTotalOrder cmp) (home : P → Option ℕ)
     (homes : (p q : P) → same_peer cmp p q ≡ true → home p ≡ home q) (limited : Bool)
     (next_id accounted moment : ℕ) (groups : List (Planned P))
@@ -40,7 +34,7 @@ module _ {P : Type 0} (cmp : P → P → Ordering) (order : IsTotalOrder cmp) (h
     (part : Planned P) (from : slice_get (map (brought next_id accounted) groups) number ≡ Some part) where
   -- the group, before it was brought to the last account
   abbrev found : (group : Planned P) × (slice_get groups number ≡ Some group) × (brought next_id accounted group ≡ part)
-  found = got_from (brought next_id accounted) groups number part from
+  found = get_from_map (brought next_id accounted) groups number part from
 
   abbrev whole : Planned P
   whole = together cmp home limited next_id accounted groups

@@ -9,7 +9,7 @@ use Rattle.std.proofs.lemmas.Bool.{cases_eq}
 use Rattle.std.proofs.lemmas.Option.{slice_get_within}
 use Rattle.fair_rates.specs.declared.error.Error.{Error}
 use Rattle.fair_rates.specs.declared.error.Error.TheVariants.{OutOfMemory, NumberTooLarge, MomentTooLate, FlowIdsUsedUp}
-use Rattle.fair_rates.proofs.Lists.Members.{in_get}
+use Rattle.fair_rates.proofs.Lists.Members.{in_get, get_from_map}
 use Rattle.link_simulation.specs.Simulation.World.{Completed, goes, meets, last_moment}
 use Rattle.link_simulation.specs.Simulation.Calls.{call_advance}
 use Rattle.link_simulation.specs.Rule.Advancing.{HaveCome}
@@ -20,16 +20,16 @@ use Rattle.link_simulation.specs.Rule.Refusals.{MayBeRefused}
 use Rattle.link_simulation.proofs.Groups.AllAdvance.{group_goes, past_after, group_stops, others_past}
 use Rattle.link_simulation.proofs.Groups.Moments.{from_each}
 use Rattle.link_simulation.proofs.Groups.NextOfAll.{each_from}
+use Rattle.link_simulation.proofs.Groups.Resting.{at_within}
+use Rattle.link_groups.proofs.Kept.Moments.{left_out_map}
 use Rattle.link_groups.specs.declared.groups.Groups.{Groups}
 use Rattle.link_groups.specs.Together.Apart.{ComesAlone}
 use Rattle.link_groups.specs.Together.AsPlanned.{home, worlds_of}
 use Rattle.link_groups.specs.Together.Homes.{numbers}
 use Rattle.link_groups.specs.Together.Joined.{NoneStartsBefore}
-use Rattle.link_groups.proofs.Together.Answering.{got_from}
 use Rattle.link_groups.proofs.Together.Known.{homes_of, as_many}
 use Rattle.link_groups.proofs.Together.Reading.{length_worlds}
-use Rattle.link_groups.proofs.Together.Resting.{map_left_out}
-use Rattle.link_groups.proofs.Together.Setting.{get_there, one_there}
+use Rattle.link_groups.proofs.Together.Setting.{one_there}
 
 -- ---- moments
 
@@ -90,7 +90,7 @@ module _ {P : Type 0} {order : Ghosts P} {b : _} {c : _} (total : IsTotalOrder o
   -- the group that goes
   abbrev going : (group : Planned P) × (slice_get ws number ≡ Some group) × (next_event group ≡ Some alone.moment)
   going =
-      got_from next_event ws number (Some alone.moment)
+      get_from_map next_event ws number (Some alone.moment)
       (ap (λ (es : List (Option ℕ)). slice_get es number) (sym g.foreseen) ∙ alone.event)
 
   pub goes_within : number < length g.groups
@@ -106,7 +106,7 @@ module _ {P : Type 0} {order : Ghosts P} {b : _} {c : _} (total : IsTotalOrder o
     where
       there : (n : ℕ) × (slice_get (numbers g.groups) number ≡ Some n)
       there =
-          get_there (numbers g.groups) number
+          at_within (numbers g.groups) number
           (let below = slice_get_within ws number going.0 going.1 in let size = as_many total g in omega arith)
 
       by_number : (there.0 ≡ number) ⊎ (there.0 ≡ number → ⊥) → slice_get (numbers g.groups) number ≡ Some number
@@ -120,7 +120,8 @@ module _ {P : Type 0} {order : Ghosts P} {b : _} {c : _} (total : IsTotalOrder o
     part_is : brought g.next_id g.accounted going.0 ≡ part
     part_is =
         let found : (group : Planned P) × (slice_get ws number ≡ Some group)
-        × (brought g.next_id g.accounted group ≡ part) = got_from (brought g.next_id g.accounted) ws number part from in
+        × (brought g.next_id g.accounted group ≡ part) =
+        get_from_map (brought g.next_id g.accounted) ws number part from in
         ap (brought g.next_id g.accounted) (one_there ws number going.0 found.0 going.1 found.1) ∙ found.2
 
     others : (other : ℕ) (one : Planned P) → slice_get ws other ≡ Some one → (other ≡ number → ⊥)
@@ -128,7 +129,7 @@ module _ {P : Type 0} {order : Ghosts P} {b : _} {c : _} (total : IsTotalOrder o
     others =
         others_past until number ws
         (subst (λ (es : List (Option ℕ)). IfSome (earliest es) (λ s. until < s))
-        (ap (left_out number) g.foreseen ∙ map_left_out next_event number ws) alone.others)
+        (ap (left_out number) g.foreseen ∙ sym (left_out_map next_event number ws)) alone.others)
 
     module _ (first : Planned P) (n : ℕ) (cs : List (Completed P))
         (so_far : HaveCome order.cmp (home order.cmp g) first g.planned_from n cs g.limited g.next_id g.accounted ws) where

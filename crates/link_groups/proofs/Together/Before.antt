@@ -20,7 +20,7 @@ use Rattle.link_groups.specs.Together.Apart.{WasBefore, kept_group, kept_event}
 -- ---- restored lists
 
 -- one more that is kept is restored first
-pub restored_first : {X Y : Type 0} (f : X → ℕ × Y) (kept : List X) (one : X) (ys : List Y)
+restored_first : {X Y : Type 0} (f : X → ℕ × Y) (kept : List X) (one : X) (ys : List Y)
     → restored (map f (reverse (kept ++ one ∷ []))) ys
     ≡ restored (map f (reverse kept)) (slice_set ys (f one).0 (f one).1)
 restored_first {X} f kept one ys =
@@ -45,7 +45,7 @@ still_within {X} place kept rest last ys news n y popped set within =
     (All-pop (λ (x : X). place x < length ys) kept rest last popped within).0
 
 -- what was set last is restored first
-pub restored_last : {X Y : Type 0} (f : X → ℕ × Y) (kept : List X) (one : X) (n : ℕ) (ys news : List Y) (y : Y)
+restored_last : {X Y : Type 0} (f : X → ℕ × Y) (kept : List X) (one : X) (n : ℕ) (ys news : List Y) (y : Y)
     → (f one).0 ≡ n → slice_get ys n ≡ Some (f one).1 → news ≡ slice_set ys n y
     → restored (map f (reverse (kept ++ one ∷ []))) news ≡ restored (map f (reverse kept)) ys
 restored_last {X} {Y} f kept one n ys news y place before set =

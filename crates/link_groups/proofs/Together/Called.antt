@@ -18,24 +18,19 @@ use Rattle.link_simulation.proofs.Groups.LeftOut.{set_here}
 use Rattle.link_events.specs.Steps.Answered.{IsAnswered}
 use Rattle.link_groups.specs.declared.groups.Groups.{Groups}
 use Rattle.link_groups.specs.Together.AsPlanned.{home, worlds_of, planned_together}
-use Rattle.link_groups.specs.Together.Homes.{numbers}
 use Rattle.link_groups.specs.Together.Joined.{NoneStartsBefore}
 use Rattle.link_groups.specs.Together.Ready.{IsReadyAt}
 use Rattle.link_groups.proofs.Together.Answering.{answered_by_all, refused_by_all}
 use Rattle.link_groups.proofs.Together.Known.{are_groups, homes_of, among_groups, world_at}
 use Rattle.link_groups.proofs.Together.Onward.{onward_ready}
-use Rattle.link_groups.proofs.Together.Reading.{length_worlds, home_rooted}
+use Rattle.link_groups.proofs.Together.Reading.{length_worlds}
 use Rattle.link_groups.proofs.Together.Starting.{SendsSome, replanned_later, call_replans}
 
 module _ {P : Type 0} {order : Ghosts P} {b : _} {c : _} (total : IsTotalOrder order.cmp) (g : Groups P order b c) where
   abbrev groups : List (Planned P)
   groups = worlds_of order.cmp g
 
-  -- a peer's home is a group that is there, whose number is its own place
-  pub home_own : (p : P) (number : ℕ) → home order.cmp g p ≡ Some number
-      → slice_get (numbers g.groups) number ≡ Some number
-  home_own p number at = home_rooted order.cmp g.places.entries (numbers g.groups) groups g.joined p number at
-
+  -- a peer's home is a group that is there
   pub home_within : (p : P) (number : ℕ) → home order.cmp g p ≡ Some number → number < length g.groups
   home_within p number at =
       subst (λ (size : ℕ). number < size) (length_worlds order.cmp g.groups) (among_groups total g p number at)

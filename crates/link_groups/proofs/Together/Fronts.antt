@@ -30,7 +30,7 @@ front (suc n) [] = []
 front (suc n) (x ∷ xs) = x ∷ front n xs
 
 module _ {X : Type 0} where
-  pub front_of_all : (n : ℕ) (xs : List X) → length xs ≡ n → front n xs ≡ xs
+  front_of_all : (n : ℕ) (xs : List X) → length xs ≡ n → front n xs ≡ xs
   front_of_all zero [] e = refl
   front_of_all zero (x ∷ xs) e = absurd (omega arith)
   front_of_all (suc n) [] e = refl

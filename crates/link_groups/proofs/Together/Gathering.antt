@@ -10,12 +10,13 @@ use Rattle.link_simulation.specs.Rule.Groups.{IsAlone}
 use Rattle.link_simulation.specs.Rule.Homes.{moved_to, moved}
 use Rattle.link_simulation.proofs.Groups.LeftOut.{set_other}
 use Rattle.link_simulation.proofs.Groups.Moved.{moved_stays, moved_there}
+use Rattle.link_simulation.proofs.Groups.Resting.{at_within}
 use Rattle.link_groups.specs.declared.places.Place.{Place}
 use Rattle.link_groups.specs.Kept.Places.{place_of}
 use Rattle.link_groups.specs.Together.Homes.{number_at, home_of}
 use Rattle.link_groups.specs.Together.Joined.{IsVacant, AreJoined}
 use Rattle.link_groups.proofs.Together.Reading.{home_rooted}
-use Rattle.link_groups.proofs.Together.Setting.{get_map, get_there}
+use Rattle.link_groups.proofs.Together.Setting.{get_map}
 
 -- the number that a number becomes
 abbrev pub renumbered : ℕ → ℕ → ℕ → ℕ
@@ -138,7 +139,7 @@ module _ {P : Type 0} (cmp : P → P → Ordering) (places : List (Place P)) (ns
       → IsAlone (home_of cmp places ns) number ws
   alone_of_numbers one other world there apart =
       let at : (n : ℕ) × (slice_get ns other ≡ Some n) =
-      get_there ns other (let below : other < length ws = slice_get_within ws other world there in omega arith) in
+      at_within ns other (let below : other < length ws = slice_get_within ws other world there in omega arith) in
       let is : at.0 ≡ number = one other at.0 at.1 in
       let vacant : IsVacant world =
       joined.vacant other at.0 world at.1 there (λ wrong. apart (sym wrong ∙ is)) in

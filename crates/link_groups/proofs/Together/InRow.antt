@@ -9,7 +9,8 @@ use Rattle.link_events.specs.declared.ledger.Ledger.{Ledger}
 use Rattle.link_events.specs.Steps.AsPlanned.{planned}
 use Rattle.link_groups.specs.declared.groups.Group.{Group}
 use Rattle.link_groups.specs.Together.Homes.{numbers, worlds}
-use Rattle.link_groups.proofs.Together.Setting.{get_map, map_set}
+use Rattle.link_groups.proofs.Kept.Moments.{map_set}
+use Rattle.link_groups.proofs.Together.Setting.{get_map}
 
 -- an item stands at its place
 pub there_is : {X : Type 0} (items all : List X) (number : ℕ) (x : X) → items ≡ all → number < length all

@@ -13,12 +13,12 @@ use Rattle.link_simulation.specs.Rule.Groups.{AreGroups, IsAtHome}
 use Rattle.link_simulation.specs.Rule.Homes.{AreAmong}
 use Rattle.link_simulation.specs.Simulation.Messages.{Message}
 use Rattle.link_simulation.proofs.Groups.Known.{groups_known}
+use Rattle.link_simulation.proofs.Groups.Resting.{at_within}
 use Rattle.link_groups.specs.declared.groups.Groups.{Groups}
 use Rattle.link_groups.specs.Together.AsPlanned.{home, worlds_of}
 use Rattle.link_groups.specs.Together.Homes.{numbers, number_at}
 use Rattle.link_groups.specs.Kept.Places.{place_of}
 use Rattle.link_groups.proofs.Together.Reading.{length_numbers, length_worlds, homes_alike, homes_among, home_rooted}
-use Rattle.link_groups.proofs.Together.Setting.{get_there}
 
 module _ {P : Type 0} {order : Ghosts P} {b : _} {c : _} (total : IsTotalOrder order.cmp) (g : Groups P order b c) where
   -- they are groups
@@ -63,7 +63,7 @@ module _ {P : Type 0} {order : Ghosts P} {b : _} {c : _} (total : IsTotalOrder o
       let size = length_numbers order.cmp g.groups in
       omega arith
 
-  pub as_many_events : length g.events ≡ length g.groups
+  as_many_events : length g.events ≡ length g.groups
   as_many_events =
       ap length g.foreseen ∙ length-map (worlds_of order.cmp g) next_event ∙ length_worlds order.cmp g.groups
 
@@ -74,7 +74,7 @@ module _ {P : Type 0} {order : Ghosts P} {b : _} {c : _} (total : IsTotalOrder o
   pub world_at : (place : ℕ) → place < length g.groups
       → (world : Planned P) × (slice_get (worlds_of order.cmp g) place ≡ Some world)
   world_at place below =
-      get_there (worlds_of order.cmp g) place
+      at_within (worlds_of order.cmp g) place
       (let size = length_worlds order.cmp g.groups in omega arith)
 
   -- the home of a peer is a group that stands at its own number
@@ -92,7 +92,7 @@ module _ {P : Type 0} {order : Ghosts P} {b : _} {c : _} (total : IsTotalOrder o
       by_place None at e = refl
       by_place (Some place) at e =
           let there : (n : ℕ) × (slice_get (numbers g.groups) place ≡ Some n) =
-          get_there (numbers g.groups) place
+          at_within (numbers g.groups) place
           (let below = g.placed p place at in let size = length_numbers order.cmp g.groups in omega arith) in
           let wrong : Some there.0 ≡ None = sym there.1 ∙ e in
           cc

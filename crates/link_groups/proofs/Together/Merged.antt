@@ -16,14 +16,14 @@ use Rattle.link_groups.specs.declared.groups.Groups.{Groups}
 use Rattle.link_groups.specs.Together.AsPlanned.{home, worlds_of, planned_together}
 use Rattle.link_groups.specs.Together.Homes.{numbers, worlds, home_of}
 use Rattle.link_groups.specs.Together.Joined.{IsVacant, AreJoined, NoneStartsBefore}
+use Rattle.link_groups.proofs.Kept.Moments.{map_set}
 use Rattle.link_groups.proofs.Together.Gathering.{renumbered, all_renumbered, home_moved, joined_after}
 use Rattle.link_groups.proofs.Together.Known.{are_groups, homes_of}
 use Rattle.link_groups.proofs.Together.Onward.{set_once}
 use Rattle.link_groups.proofs.Together.Reading.{length_numbers}
-use Rattle.link_groups.proofs.Together.Setting.{map_set}
 
 -- a start that is no earlier, said of each moment that it may be
-pub start_later : (o : Option ℕ) (moment : ℕ) → ((s : ℕ) → o ≡ Some s → moment ≤ s) → IfSome o (λ s. moment ≤ s)
+start_later : (o : Option ℕ) (moment : ℕ) → ((s : ℕ) → o ≡ Some s → moment ≤ s) → IfSome o (λ s. moment ≤ s)
 start_later None moment each = tt
 start_later (Some s) moment each = each s refl
 
@@ -40,7 +40,7 @@ earlier_is_later (Some a) (Some b) moment first second s e =
     some_same : {m n : ℕ} → Some m ≡ Some n → m ≡ n
     some_same e = cc
 
-pub new_is_vacant : {P : Type 0} (limited : Bool) (id : ℕ) → IsVacant (new_group {P = P} limited id)
+new_is_vacant : {P : Type 0} (limited : Bool) (id : ℕ) → IsVacant (new_group {P = P} limited id)
 new_is_vacant limited id = record {
   sends_none = refl;
   none_waits = refl;

@@ -1,9 +1,9 @@
 -- Messages one after another, whose peers are at home in one group.
-use Rattle.std.proofs.Common.{◌≡◌, ℕ, suc, ◌+◌, ◌<◌, ◌≤◌, List, [], ◌∷◌, length, Bool, true, false, Option}
-use Rattle.std.proofs.Common.{Some, None, refl, sym, ap, ◌∙◌, subst, ◌⊎◌, inl, inr, arith, All}
-use Rattle.std.specs.Prelude.{slice_get, if◌then◌else◌, ◌==◌}
+use Rattle.std.proofs.Common.{◌≡◌, ℕ, suc, ◌+◌, ◌<◌, ◌≤◌, List, [], ◌∷◌, length, Option}
+use Rattle.std.proofs.Common.{Some, refl, sym, ap, ◌∙◌, subst, ◌⊎◌, inl, inr, arith, All}
+use Rattle.std.specs.Prelude.{slice_get}
 use Rattle.std.specs.declared.cmp.Ordering.{Ordering}
-use Rattle.std.proofs.lemmas.Bool.{cases_lt, eqb-true}
+use Rattle.std.proofs.lemmas.Bool.{cases_lt}
 use Rattle.std.proofs.lemmas.Option.{slice_get_within}
 use Rattle.fair_rates.proofs.Lists.Each.{Each, each_map, each_of_all, all_of_each}
 use Rattle.link_simulation.specs.Simulation.Calls.{call_enqueue_all}
@@ -12,7 +12,7 @@ use Rattle.link_simulation.specs.Simulation.World.{Completed}
 use Rattle.link_simulation.specs.Rule.Events.{all_enqueued}
 use Rattle.link_simulation.specs.Rule.Planned.{Planned}
 use Rattle.link_events.specs.Steps.Answered.{IsAnswered}
-use Rattle.link_simulation.specs.Rule.Groups.{IsAtHome, common}
+use Rattle.link_simulation.specs.Rule.Groups.{IsAtHome}
 
 -- those of the first so many messages are at home there
 abbrev pub AreHomeUpTo : {P : Type 0} → (P → Option ℕ) → ℕ → ℕ → List (Message P) → Type 0
@@ -61,18 +61,6 @@ module _ {P : Type 0} (home new : P → Option ℕ) (number other : ℕ) where
       all_of_each (IsAtHome new other) ms
       (each_map (IsAtHome home number) (IsAtHome new other) ms (λ m was. (kept m.origin was.0, kept m.recipient was.1))
       (each_of_all (IsAtHome home number) ms all))
-
--- both are in the group that is common to them
-pub common_homes : (one two : Option ℕ) (number : ℕ) → common one two ≡ Some number
-    → (one ≡ Some number) × (two ≡ Some number)
-common_homes None two number e = cc
-common_homes (Some a) None number e = cc
-common_homes (Some a) (Some b) number e = by_test (a == b) refl e
-  where
-    by_test : (t : Bool) → (a == b) ≡ t → (if t then Some a else None) ≡ Some number
-        → (Some a ≡ Some number) × (Some b ≡ Some number)
-    by_test true same found = let equal : a ≡ b = eqb-true a b same in (found, ap Some (sym equal) ∙ found)
-    by_test false differ found = cc
 
 -- where there is no message to send, all stays
 pub none_to_send : {P : Type 0} (cmp : P → P → Ordering) (now : ℕ) (p : Planned P) (ms : List (Message P))

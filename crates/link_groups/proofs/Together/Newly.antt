@@ -22,21 +22,16 @@ use Rattle.link_groups.specs.declared.groups.Groups.{Groups}
 use Rattle.link_groups.specs.Together.AsPlanned.{home, worlds_of, planned_together, StaysPlanned}
 use Rattle.link_groups.specs.Together.Joined.{NoneStartsBefore}
 use Rattle.link_groups.specs.Together.Ready.{IsReadyAt}
+use Rattle.link_groups.proofs.Together.Adding.{home_itself}
 use Rattle.link_groups.proofs.Together.Answering.{refused_by_all}
 use Rattle.link_groups.proofs.Together.Called.{home_within, all_answer, all_onward}
 use Rattle.link_groups.proofs.Together.Known.{are_groups, homes_of, among_groups}
 use Rattle.link_groups.proofs.Together.Reading.{length_worlds}
 use Rattle.link_groups.proofs.Together.Setting.{get_map}
 
--- who comes home there is at home there
-pub with_itself : {P : Type 0} (cmp : P → P → Ordering) → IsTotalOrder cmp → (home : P → Option ℕ) (peer : P)
-    (number : ℕ) → home_with cmp home peer number peer ≡ Some number
-with_itself cmp order home peer number =
-    ap (λ (b : Bool). if b then Some number else home peer) (same_itself cmp order peer)
-
 module _ {P : Type 0} (cmp : P → P → Ordering) where
   -- the others rest still once a group has come in
-  pub onward_still : (home new_home : P → Option ℕ) (accounted moment now : ℕ) (groups : List (Planned P))
+  onward_still : (home new_home : P → Option ℕ) (accounted moment now : ℕ) (groups : List (Planned P))
       (one : Planned P) → GoesOnward cmp home accounted moment now (length groups) groups
       → GoesOnward cmp new_home accounted moment now (length groups) (groups ++ one ∷ [])
   onward_still home new_home accounted moment now groups one onward = record {
@@ -58,7 +53,7 @@ module _ {P : Type 0} (cmp : P → P → Ordering) (order : IsTotalOrder cmp) (h
     (none : home peer ≡ None) (now : ℕ) (within : now ≤ last_moment)
     (onward : GoesOnward cmp home accounted moment now (length groups) groups) (limits : limited ≡ true) where
   -- it is refused as all may be
-  pub refused_newly : (egress ingress : Option ℕ) (why : Error)
+  refused_newly : (egress ingress : Option ℕ) (why : Error)
       → MayBeRefused cmp (brought next_id accounted (new_group limited next_id)) (call_limit now peer egress ingress)
       why
       → MayBeRefused cmp (together cmp home limited next_id accounted groups) (call_limit now peer egress ingress) why
@@ -70,7 +65,7 @@ module _ {P : Type 0} (cmp : P → P → Ordering) (order : IsTotalOrder cmp) (h
       (new_are cmp home homes limited next_id accounted moment groups are peer none next_id) (length groups) now within
       (inl (onward_still cmp home (home_with cmp home peer (length groups)) accounted moment now groups
       (new_group limited next_id) onward)) (inl limits) (brought next_id accounted (new_group limited next_id)) there
-      (call_limit now peer egress ingress) why (refl, with_itself cmp order home peer (length groups)) refused)
+      (call_limit now peer egress ingress) why (refl, home_itself cmp order home peer (length groups)) refused)
     where
       new_alike : (p q : P) → same_peer cmp p q ≡ true
           → home_with cmp home peer (length groups) p ≡ home_with cmp home peer (length groups) q
@@ -129,7 +124,7 @@ module _ {P : Type 0} {order : Ghosts P} {b : _} {c : _} (total : IsTotalOrder o
     -- the peer is at home there
     pub newly_home : home order.cmp new peer ≡ Some number
     newly_home =
-        ap (λ (h : P → Option ℕ). h peer) home_is ∙ with_itself order.cmp total (home order.cmp g) peer number
+        ap (λ (h : P → Option ℕ). h peer) home_is ∙ home_itself order.cmp total (home order.cmp g) peer number
 
     -- the others rest beside it
     pub newly_ready : IsReadyAt order.cmp new now number

@@ -21,7 +21,7 @@ set_once (z ∷ zs) (suc k) x y e = set_once zs k x y e
 
 module _ {P : Type 0} (now number : ℕ) (ws : List (Planned P)) (world : Planned P) where
   -- the others do not, and the one that is set does not
-  pub onward_set : ((other start : ℕ) (one : Planned P) → slice_get ws other ≡ Some one → (other ≡ number → ⊥)
+  onward_set : ((other start : ℕ) (one : Planned P) → slice_get ws other ≡ Some one → (other ≡ number → ⊥)
       → one.start ≡ Some start → now ≤ start)
       → ((start : ℕ) → world.start ≡ Some start → now ≤ start)
       → NoneStartsBefore now (slice_set ws number world)

@@ -1,28 +1,28 @@
 -- Where nothing happens up to a moment, in each group and in all.
-use Rattle.std.proofs.Common.{◌≡◌, ℕ, suc, ◌<◌, ◌≤◌, List, [], Bool, true, false, Option, Some, refl, sym, ap, ◌∙◌}
+use Rattle.std.proofs.Common.{◌≡◌, ℕ, suc, ◌<◌, ◌≤◌, List, [], Bool, true, Option, Some, sym, ap, ◌∙◌}
 use Rattle.std.proofs.Common.{subst, arith, ◌+◌, length, ◌⊎◌, inl, inr}
 use Rattle.std.specs.Prelude.{slice_get, IfSome}
-use Rattle.std.specs.List.{filter}
 use Rattle.std.specs.declared.cmp.Ordering.{Ordering}
 use Rattle.std.specs.Cmp.{IsTotalOrder}
 use Rattle.std.proofs.lemmas.Bool.{cases_lt}
 use Rattle.std.proofs.lemmas.Option.{slice_get_within}
 use Rattle.fair_rates.specs.Sides.Subjects.{same_peer}
-use Rattle.fair_rates.proofs.Lists.Each.{each_map, each_find}
+use Rattle.fair_rates.proofs.Lists.Each.{each_find}
 use Rattle.fair_rates.proofs.Lists.Members.{In, in_get, get_in}
-use Rattle.link_simulation.specs.Simulation.Messages.{Message, same_pair}
-use Rattle.link_simulation.specs.Simulation.World.{Completed, Course, goes, fronts, last_moment}
-use Rattle.link_simulation.specs.Rule.Planned.{Planned, SomeReadyAt, next_event, next_of, may_launch}
-use Rattle.link_simulation.specs.Rule.Events.{PlansStart, WakesEach, all_started, no_start, no_finish, starts_one}
+use Rattle.link_simulation.specs.Simulation.Messages.{same_pair}
+use Rattle.link_simulation.specs.Simulation.World.{Completed, Course, goes, last_moment}
+use Rattle.link_simulation.specs.Rule.Planned.{Planned, SomeReadyAt, next_event}
+use Rattle.link_simulation.specs.Rule.Events.{PlansStart}
 use Rattle.link_simulation.specs.Rule.Events.{Advances, no_more, at_finish, at_start, finish_stops, start_stops}
 use Rattle.link_simulation.specs.Rule.Groups.{left_out, together, AreGroups}
 use Rattle.link_simulation.proofs.Groups.Homes.{elsewhere}
 use Rattle.link_simulation.proofs.Groups.LeftOut.{in_left_out, if_earliest}
 use Rattle.link_simulation.proofs.Groups.Moments.{no_earlier}
 use Rattle.link_simulation.proofs.Groups.NextOfAll.{each_past, next_of_all, all_start}
+use Rattle.link_simulation.proofs.Groups.Onward.{none_may}
 use Rattle.link_simulation.proofs.Groups.Resting.{Waits, all_wait, ready_in_all, ready_in_one}
-use Rattle.link_simulation.proofs.Rule.BeforeNext.{both_before, none_before, filter_none}
-use Rattle.link_simulation.proofs.Simulation.OtherPairs.{fronts_are_first}
+use Rattle.link_simulation.proofs.Rule.BeforeNext.{both_before, none_before}
+use Rattle.link_simulation.proofs.Rule.OneCourse.{no_wake_of}
 use Rattle.link_events.specs.Steps.AsPlanned.{HasNothingDue}
 use Rattle.link_groups.specs.Together.Quiet.{AreQuiet}
 
@@ -55,32 +55,12 @@ module _ {P : Type 0} (cmp : P → P → Ordering) (now : ℕ) (worlds : List (P
 module _ {P : Type 0} (cmp : P → P → Ordering) (order : IsTotalOrder cmp) where
   -- ---- one group
 
-  -- where no message may start, none starts
-  none_may : (now : ℕ) (p : Planned P) → (SomeReadyAt cmp p now → ⊥)
-      → filter (may_launch cmp now p) (fronts cmp p.waiting) ≡ []
-  none_may now p none =
-      filter_none (may_launch cmp now p) (fronts cmp p.waiting)
-      (each_map (λ m. next_of cmp p m ≡ Some m) (λ m. may_launch cmp now p m ≡ false) (fronts cmp p.waiting)
-      (λ m found. by_may m (may_launch cmp now p m) refl found) (fronts_are_first cmp order p.waiting))
-    where
-      by_may : (m : Message P) (b : Bool) → may_launch cmp now p m ≡ b → next_of cmp p m ≡ Some m → b ≡ false
-      by_may m true may found = absurd (none (m, found, may))
-      by_may m false may found = refl
-
-  woken_none : {t : ℕ} {ms : List (Message P)} {p : Planned P} {c : Course (Completed P) (Planned P)}
-      → WakesEach cmp t ms p c → ms ≡ []
-      → (q : Planned P) × PlansStart cmp t p q × (c ≡ goes [] q)
-  woken_none (all_started {q = q} plans) e = (q, plans, refl)
-  woken_none (no_start launch) e = cc
-  woken_none (no_finish launch finishes) e = cc
-  woken_none (starts_one launch finishes wakes) e = cc
-
   -- time that goes on where nothing happens plans the start anew
   pub rest_plans : {now n : ℕ} {p : Planned P} {c : Course (Completed P) (Planned P)} → Advances cmp now p n c → n ≡ 0
       → HasNothingDue cmp p now → (q : Planned P) → c ≡ goes [] q → PlansStart cmp now p q
   rest_plans {now = now} {p = p} {c = c} (no_more before wakes) count quiet q e =
       let woken : (r : Planned P) × PlansStart cmp now p r × (c ≡ goes [] r) =
-      woken_none wakes (none_may now p quiet.none_ready) in
+      no_wake_of cmp wakes (none_may cmp order now p quiet.none_ready) in
       let both : ◌≡◌ {A = Course (Completed P) (Planned P)} (goes [] woken.0) (goes [] q) = sym woken.2 ∙ e in
       let same : woken.0 ≡ q = cc in
       subst (PlansStart cmp now p) same woken.1

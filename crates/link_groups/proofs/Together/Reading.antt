@@ -23,7 +23,7 @@ module _ {P : Type 0} {a : _} {b : _} {c : _} (cmp : P → P → Ordering) where
   length_worlds groups = length-map groups _
 
 -- there are as many numbers as places
-pub number_at_home : (ns : List ℕ) (place : Option ℕ) (number : ℕ) → number_at ns place ≡ Some number
+number_at_home : (ns : List ℕ) (place : Option ℕ) (number : ℕ) → number_at ns place ≡ Some number
     → (at : ℕ) × (place ≡ Some at) × (slice_get ns at ≡ Some number)
 number_at_home ns None number e = cc
 number_at_home ns (Some at) number e = (at, refl, e)

@@ -2,13 +2,13 @@
 use Rattle.std.proofs.Common.{◌≡◌, ℕ, zero, suc, ◌≤◌, List, [], ◌∷◌, ◌++◌, map, length, Bool, true, All, Option}
 use Rattle.std.proofs.Common.{Some, None, refl, sym, ap, ◌∙◌, subst, arith}
 use Rattle.std.specs.Prelude.{slice_get, IfSome}
-use Rattle.std.specs.List.{find, flat_map, AllZip}
+use Rattle.std.specs.List.{flat_map, AllZip}
 use Rattle.std.specs.declared.cmp.Ordering.{Ordering}
 use Rattle.std.specs.Cmp.{IsTotalOrder}
 use Rattle.fair_rates.specs.Sides.Subjects.{same_peer}
 use Rattle.fair_rates.proofs.Lists.Members.{get_in}
 use Rattle.link_simulation.specs.Laws.Orderly.{IsOrderly}
-use Rattle.link_simulation.specs.Simulation.Messages.{pair_before, same_pair}
+use Rattle.link_simulation.specs.Simulation.Messages.{pair_before}
 use Rattle.link_simulation.specs.Simulation.World.{goes}
 use Rattle.link_simulation.specs.Rule.Events.{PlansStart, Advances}
 use Rattle.link_simulation.specs.Rule.Groups.{together, earliest, AreGroups, IsGroup, said, group_at, common, of_peer}
@@ -16,10 +16,12 @@ use Rattle.link_simulation.specs.Rule.Groups.{of_pair, put_all, started_before}
 use Rattle.link_simulation.specs.Rule.Planned.{Planned, IsLeastMoment, SomeReadyAt, drained_to}
 use Rattle.link_simulation.proofs.Groups.LeftOut.{if_earliest}
 use Rattle.link_simulation.proofs.Groups.NextOfAll.{all_start}
+use Rattle.link_simulation.proofs.Rule.AtOnce.{none_waits}
 use Rattle.link_events.specs.Steps.AsPlanned.{HasNothingDue}
 use Rattle.link_events.proofs.Steps.Advancing.{rests}
 use Rattle.link_groups.specs.Together.Joined.{IsVacant, AreJoined, NoneStartsBefore, NoneSends}
 use Rattle.link_groups.specs.Together.Quiet.{AreReplanned}
+use Rattle.link_groups.proofs.Together.Gathering.{nil_of_length}
 
 -- ---- moments
 
@@ -34,15 +36,11 @@ pub if_starts : (now : ℕ) (o : Option ℕ) → ((s : ℕ) → o ≡ Some s →
 if_starts now None by = tt
 if_starts now (Some s) by = by s refl
 
-none_there : {X : Type 0} (xs : List X) → length xs ≡ 0 → xs ≡ []
-none_there [] size = refl
-none_there (x ∷ xs) size = absurd (omega arith)
-
 -- ---- lists of groups
 
 module _ {P : Type 0} (cmp : P → P → Ordering) (now : ℕ) where
   -- what tells nothing of the start stays
-  pub tells_still : {Y : Type 0} (f : Planned P → Y)
+  tells_still : {Y : Type 0} (f : Planned P → Y)
       → ((p : Planned P) (o : Option ℕ) → f (record p { start = o }) ≡ f p)
       → (p q : Planned P) → PlansStart cmp now p q → f q ≡ f p
   tells_still f same p q plans = ap f plans.same ∙ same p q.start
@@ -77,7 +75,7 @@ module _ {P : Type 0} (cmp : P → P → Ordering) (now : ℕ) where
   said_still says same (p ∷ ps) (q ∷ qs) all (Some (suc i)) = said_still says same ps qs all.1 (Some i)
 
   -- what stands at a number was planned anew there
-  pub old_of : (ps qs : List (Planned P)) → AllZip (PlansStart cmp now) ps qs → (n : ℕ) (q : Planned P)
+  old_of : (ps qs : List (Planned P)) → AllZip (PlansStart cmp now) ps qs → (n : ℕ) (q : Planned P)
       → slice_get qs n ≡ Some q → (p : Planned P) × (slice_get ps n ≡ Some p) × PlansStart cmp now p q
   old_of [] [] all n q e = cc
   old_of [] (r ∷ rs) all n q e = absurd all
@@ -132,10 +130,7 @@ module _ {P : Type 0} (cmp : P → P → Ordering) (now : ℕ) where
   none_starts : (p : Planned P) → p.waiting ≡ [] → (o : Option ℕ)
       → IsLeastMoment (λ s. (now ≤ s) × SomeReadyAt cmp p s) o → o ≡ None
   none_starts p empty None least = refl
-  none_starts p empty (Some s) least =
-      let none : find (same_pair cmp least.1.1.0) p.waiting ≡ None = ap (find (same_pair cmp least.1.1.0)) empty in
-      let there : find (same_pair cmp least.1.1.0) p.waiting ≡ Some least.1.1.0 = least.1.1.1 in
-      cc
+  none_starts p empty (Some s) least = absurd (none_waits cmp p s empty least.1.1)
 
   -- groups that are vacant stay so
   pub joined_replanned : (ns : List ℕ) (ps qs : List (Planned P)) → AreReplanned cmp now ps qs → AreJoined ns ps
@@ -150,7 +145,7 @@ module _ {P : Type 0} (cmp : P → P → Ordering) (now : ℕ) where
           none_waits = ap length (tells_still (λ p. p.waiting) (λ p o. refl) old.0 q old.2) ∙ was.none_waits;
           accounted = tells_still (λ p. p.accounted) (λ p o. refl) old.0 q old.2 ∙ was.accounted;
           finish = tells_still (λ p. p.finish) (λ p o. refl) old.0 q old.2 ∙ was.finish;
-          start = none_starts old.0 (none_there old.0.waiting was.none_waits) q.start old.2.start;
+          start = none_starts old.0 (nil_of_length old.0.waiting was.none_waits) q.start old.2.start;
         };
   }
 

@@ -9,8 +9,8 @@ use Rattle.link_simulation.specs.Rule.Planned.{Planned, next_event}
 use Rattle.link_events.specs.Steps.AsPlanned.{planned}
 use Rattle.link_groups.specs.declared.groups.Group.{Group}
 use Rattle.link_groups.specs.Together.Homes.{worlds}
+use Rattle.link_groups.proofs.Kept.Moments.{map_set}
 use Rattle.link_groups.proofs.Together.InRow.{world_there, worlds_now}
-use Rattle.link_groups.proofs.Together.Setting.{map_set}
 
 -- the first so many are related to those that stood there, and the others stay
 abbrev pub AreFirstRelated : {X : Type 0} → (X → X → Type 0) → ℕ → List X → List X → Type 0
@@ -22,7 +22,7 @@ AreFirstRelated R (suc n) (x ∷ xs) (y ∷ ys) = R x y × AreFirstRelated R n x
 
 module _ {X : Type 0} (R : X → X → Type 0) where
   -- the next one still is what stood there
-  pub next_still : (n : ℕ) (xs ys : List X) → AreFirstRelated R n xs ys → slice_get xs n ≡ slice_get ys n
+  next_still : (n : ℕ) (xs ys : List X) → AreFirstRelated R n xs ys → slice_get xs n ≡ slice_get ys n
   next_still zero xs ys h = ap (λ (zs : List X). slice_get zs zero) (sym h)
   next_still (suc n) [] [] h = refl
   next_still (suc n) [] (y ∷ ys) h = absurd h
@@ -30,7 +30,7 @@ module _ {X : Type 0} (R : X → X → Type 0) where
   next_still (suc n) (x ∷ xs) (y ∷ ys) h = next_still n xs ys h.1
 
   -- one more
-  pub one_more_related : (n : ℕ) (xs ys : List X) (x y : X) → AreFirstRelated R n xs ys → slice_get xs n ≡ Some x
+  one_more_related : (n : ℕ) (xs ys : List X) (x y : X) → AreFirstRelated R n xs ys → slice_get xs n ≡ Some x
       → R x y → AreFirstRelated R (suc n) xs (slice_set ys n y)
   one_more_related zero [] ys x y h at r = cc
   one_more_related zero (z ∷ zs) [] x y h at r = cc

@@ -5,6 +5,7 @@ use Rattle.std.specs.Prelude.{slice_get, ◌&&◌}
 use Rattle.std.specs.List.{list_any}
 use Rattle.std.specs.declared.cmp.Ordering.{Ordering}
 use Rattle.fair_rates.specs.Sides.Subjects.{same_peer}
+use Rattle.fair_rates.proofs.Lists.Members.{get_from_map}
 use Rattle.link_simulation.specs.Simulation.Messages.{Message}
 use Rattle.link_simulation.specs.Simulation.World.{Completed}
 use Rattle.link_simulation.specs.Simulation.Calls.{call_enqueue, call_enqueue_all}
@@ -17,7 +18,6 @@ use Rattle.link_events.specs.Steps.Standing.{IsFree}
 use Rattle.link_waiting.specs.Idle.AtRest.{is_sending}
 use Rattle.fair_rates.proofs.Lists.Booleans.{first_of_both, second_of_both}
 use Rattle.link_groups.specs.Together.Waiting.{HasToWait, IsFreeAt}
-use Rattle.link_groups.proofs.Together.Answering.{got_from}
 use Rattle.link_groups.proofs.Together.Unstarted.{enqueue_still, each_still}
 
 module _ {P : Type 0} (cmp : P → P → Ordering) where
@@ -43,7 +43,7 @@ module _ {P : Type 0} (cmp : P → P → Ordering) where
       → IsFree cmp part o r
   free_part next_id accounted number groups part o r from free =
       let found : (group : Planned P) × (slice_get groups number ≡ Some group)
-      × (brought next_id accounted group ≡ part) = got_from (brought next_id accounted) groups number part from in
+      × (brought next_id accounted group ≡ part) = get_from_map (brought next_id accounted) groups number part from in
       subst (λ (p : Planned P). IsFree cmp p o r) found.2
       (λ limits.
       ap (list_any (λ m. same_peer cmp o m.origin && same_peer cmp r m.recipient))

@@ -9,6 +9,7 @@ use Rattle.link_simulation.specs.Rule.Planned.{Planned, RatedFlight, drained_to}
 use Rattle.link_simulation.specs.Rule.Groups.{AreGroups, put, put_all, started_before, together}
 use Rattle.link_simulation.proofs.Groups.LeftOut.{set_other}
 use Rattle.link_simulation.proofs.Groups.Restored.{set_itself}
+use Rattle.link_simulation.proofs.Groups.Resting.{at_within}
 use Rattle.std.proofs.lemmas.List.{length-map}
 use Rattle.link_flights.specs.Flights.Flight.{flight_at}
 use Rattle.link_flights.specs.Flights.InFlight.{in_units}
@@ -18,26 +19,16 @@ use Rattle.link_events.specs.Steps.AsPlanned.{planned}
 use Rattle.link_groups.specs.declared.groups.Group.{Group}
 use Rattle.link_groups.specs.Together.Homes.{numbers, worlds}
 use Rattle.link_groups.specs.Together.Joined.{IsVacant, AreJoined}
+use Rattle.link_groups.proofs.Kept.Moments.{map_set}
 use Rattle.link_groups.proofs.Together.Reading.{length_numbers}
 
 -- ---- lists
-
-pub map_set : {X Y : Type 0} (f : X → Y) (n : ℕ) (xs : List X) (x : X)
-    → map f (slice_set xs n x) ≡ slice_set (map f xs) n (f x)
-map_set f n [] x = refl
-map_set f zero (y ∷ ys) x = refl
-map_set f (suc n) (y ∷ ys) x = ap (λ zs. f y ∷ zs) (map_set f n ys x)
 
 pub get_map : {X Y : Type 0} (f : X → Y) (n : ℕ) (xs : List X) (x : X) → slice_get xs n ≡ Some x
     → slice_get (map f xs) n ≡ Some (f x)
 get_map f n [] x e = cc
 get_map f zero (y ∷ ys) x e = let same : y ≡ x = cc in ap (λ z. Some (f z)) same
 get_map f (suc n) (y ∷ ys) x e = get_map f n ys x e
-
-pub get_there : {X : Type 0} (xs : List X) (n : ℕ) → n < length xs → (x : X) × (slice_get xs n ≡ Some x)
-get_there [] n below = absurd (omega arith)
-get_there (x ∷ xs) zero below = (x, refl)
-get_there (x ∷ xs) (suc n) below = get_there xs n (omega arith)
 
 -- one item stands at a place
 pub one_there : {X : Type 0} (xs : List X) (n : ℕ) (x y : X) → slice_get xs n ≡ Some x → slice_get xs n ≡ Some y → x ≡ y
@@ -134,7 +125,7 @@ module _ {P : Type 0} where
       by_size (inr few) = few
       by_size (inl more) =
           let other : (other : ℕ) × (other < length ws) × (other ≡ number → ⊥) = another more in
-          let there : (w : Planned P) × (slice_get ws other.0 ≡ Some w) = get_there ws other.0 other.1 in
+          let there : (w : Planned P) × (slice_get ws other.0 ≡ Some w) = at_within ws other.0 other.1 in
           let old : there.0.limited ≡ limited = (are.each other.0 there.0 there.1).limited_is in
           let new : there.0.limited ≡ new_limited =
           (new_are.each other.0 there.0 (set_other number ws world other.0 other.2 ∙ there.1)).limited_is in

@@ -1,11 +1,9 @@
 -- After a call a group starts nothing before the moment of the call.
-use Rattle.std.proofs.Common.{◌≡◌, ℕ, ◌≤◌, List, [], Option, Some, None, sym, ap, ◌∙◌, subst, arith}
+use Rattle.std.proofs.Common.{◌≡◌, ℕ, ◌≤◌, List, [], Option, Some, None, subst, arith}
 use Rattle.std.proofs.Common.{inl, inr}
 use Rattle.std.specs.Prelude.{⊤}
-use Rattle.std.specs.List.{find}
 use Rattle.std.specs.declared.cmp.Ordering.{Ordering}
 use Rattle.std.specs.Cmp.{IsTotalOrder}
-use Rattle.link_simulation.specs.Simulation.Messages.{same_pair}
 use Rattle.link_simulation.specs.Simulation.World.{Completed, goes}
 use Rattle.link_simulation.specs.Simulation.Calls.{Call, call_limit, call_limit_link, call_enqueue, call_enqueue_all}
 use Rattle.link_simulation.specs.Simulation.Calls.{call_advance, call_next, limited_by, linked_by}
@@ -14,6 +12,7 @@ use Rattle.link_simulation.specs.Rule.Events.{Rebalances, Enqueues, EnqueuesEach
 use Rattle.link_simulation.specs.Rule.Groups.{IsCallAtHome, IsGroup}
 use Rattle.link_simulation.proofs.Groups.Onward.{StartsFrom}
 use Rattle.link_simulation.proofs.Groups.Replanned.{IsReplanned, rebalance_plans, enqueue_plans, each_plans}
+use Rattle.link_simulation.proofs.Rule.AtOnce.{none_waits}
 
 -- a call that enqueues messages has some
 abbrev pub SendsSome : {P : Type 0} → Call P → Type 0
@@ -29,13 +28,6 @@ module _ {P : Type 0} (cmp : P → P → Ordering) (order : IsTotalOrder cmp) wh
       by_start None least e = cc
       by_start (Some t) least e = let same : t ≡ s = cc in let by : now ≤ t = least.1.0 in omega arith
 
-  -- where nothing waits, nothing is ready
-  never_ready : (p : Planned P) → p.waiting ≡ [] → (s : ℕ) → SomeReadyAt cmp p s → ⊥
-  never_ready p none s some =
-      let gone : find (same_pair cmp some.0) p.waiting ≡ None = ap (find (same_pair cmp some.0)) none in
-      let both : None ≡ Some some.0 = sym gone ∙ some.1 in
-      cc
-
   -- and so where it was planned anew, since nothing waits before any limit
   pub replanned_later : (now : ℕ) (p : Planned P) (home : P → Option ℕ) (limited : _)
       (next_id accounted moment number : ℕ) → IsGroup cmp home limited next_id accounted moment number p
@@ -45,7 +37,7 @@ module _ {P : Type 0} (cmp : P → P → Ordering) (order : IsTotalOrder cmp) wh
     where
       by_start : (o : Option ℕ) → IsLeastMoment (λ t. (is.from ≤ t) × SomeReadyAt cmp p t) o → o ≡ Some s → now ≤ s
       by_start None least from = cc
-      by_start (Some t) least from = absurd (never_ready p (is.orderly.empty_at_first free).1 t least.1.1)
+      by_start (Some t) least from = absurd (none_waits cmp p t (is.orderly.empty_at_first free).1 least.1.1)
 
   -- each call plans the start anew
   pub call_replans : (home : P → Option ℕ) (number now : ℕ) (call : Call P) (p q : Planned P) (cs : List (Completed P))

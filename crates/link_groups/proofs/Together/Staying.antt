@@ -5,7 +5,7 @@ use Rattle.link_groups.specs.declared.groups.Groups.{Groups}
 use Rattle.link_groups.specs.Together.AsPlanned.{StaysPlanned}
 
 module _ {P : Type 0} {order : Ghosts P} {b : _} {c : _} where
-  pub stays_itself : (g : Groups P order b c) → StaysPlanned order.cmp g g
+  stays_itself : (g : Groups P order b c) → StaysPlanned order.cmp g g
   stays_itself g = record {
     planned = refl;
     limited = refl;

@@ -1,19 +1,18 @@
 -- Where a call takes no flow id, no message starts, and what is in flight stays as it was.
-use Rattle.std.proofs.Common.{◌≡◌, ℕ, ◌+◌, ◌<◌, ◌≤◌, List, [], ◌∷◌, Bool, true, false, cond, Option, Some, None}
+use Rattle.std.proofs.Common.{◌≡◌, ℕ, ◌+◌, ◌<◌, ◌≤◌, List, [], ◌∷◌, Option}
 use Rattle.std.proofs.Common.{refl, sym, ap, ◌∙◌, subst, ◌⊎◌, inl, inr, arith}
-use Rattle.std.specs.Prelude.{◌&&◌, nat_lt, if◌then◌else◌}
 use Rattle.std.specs.declared.cmp.Ordering.{Ordering}
-use Rattle.fair_rates.specs.declared.error.Error.TheVariants.{MomentTooLate}
 use Rattle.link_simulation.specs.Simulation.Messages.{Message}
-use Rattle.link_simulation.specs.Simulation.World.{Completed, Course, goes, meets, preceded, last_moment, raised}
-use Rattle.link_simulation.specs.Simulation.World.{later_of}
-use Rattle.link_simulation.specs.Simulation.World.{completion_of, completed, EndsWith}
+use Rattle.link_simulation.specs.Simulation.World.{Completed, Course, goes, meets, preceded}
+use Rattle.link_simulation.specs.Simulation.World.{completed, EndsWith}
 use Rattle.link_simulation.specs.Rule.Planned.{Planned}
 use Rattle.link_simulation.specs.Rule.Events.{PlansStart, Launches, nothing_waits, too_early, no_id, starts, Finishes}
 use Rattle.link_simulation.specs.Rule.Events.{all_completed, late, stopped, completes, Enqueues, at_once, no_launch}
 use Rattle.link_simulation.specs.Rule.Events.{launches, EnqueuesEach, all_enqueued, one_stops, enqueues_one, with_queued}
 use Rattle.link_simulation.specs.Rule.Events.{WakesEach, all_started, no_start, no_finish, starts_one, Advances, no_more}
 use Rattle.link_simulation.specs.Rule.Events.{at_finish, at_start, finish_stops, start_stops}
+use Rattle.link_simulation.proofs.Rule.AtOnce.{at_once_ends}
+use Rattle.link_simulation.proofs.Rule.OneCourse.{no_finish_of}
 use Rattle.link_simulation.proofs.Simulation.OnePair.{ends_so}
 use Rattle.link_simulation.proofs.Simulation.SettlingEnds.{ends_preceded}
 
@@ -61,31 +60,11 @@ module _ {P : Type 0} (cmp : P → P → Ordering) where
       ends_preceded (From p) (completed cmp t m ∷ []) rest
       (from_on p q (launch_ids launch) rest (finish_ids finishes))
 
-  -- where nothing is done, the start is planned anew
-  finish_none : {t : ℕ} {ms : List (Message P)} {p : Planned P} {c : Course (Completed P) (Planned P)}
-      → Finishes cmp t ms p c → ms ≡ []
-      → (q : Planned P) × PlansStart cmp t p q × (c ≡ goes [] q)
-  finish_none (all_completed {q = q} plans) e = (q, plans, refl)
-  finish_none (late is) e = cc
-  finish_none (stopped is launch) e = cc
-  finish_none (completes is launch finishes) e = cc
-
   -- ---- messages that are sent
 
   enqueue_ids : {t : ℕ} {m : Message P} {p : Planned P} {c : Course (Completed P) (Planned P)}
       → Enqueues cmp t m p c → EndsWith (From p) c
-  enqueue_ids {t = t} {m = m} {p = p} (at_once free) = by_late (m.should_deliver && nat_lt last_moment (t + m.latency))
-    where
-      at : ℕ
-      at = if m.should_deliver then later_of (p.last_arrival m.origin m.recipient) (t + m.latency) else t
-
-      by_late : (b : Bool)
-          → EndsWith (From p)
-          (cond b (meets MomentTooLate)
-          (goes (completion_of m (if m.should_deliver then Some at else None) ∷ [])
-          (record p { last_arrival = raised cmp p.last_arrival m at })))
-      by_late true = tt
-      by_late false = omega arith
+  enqueue_ids {t = t} {m = m} {p = p} (at_once free) = at_once_ends cmp (From p) t p m (λ at. omega arith)
   enqueue_ids (no_launch limits launch) = tt
   enqueue_ids {m = m} {p = p} {c = c} (launches {mid = mid} limits launch finishes) =
       from_on p mid (launch_ids launch) c (finish_ids finishes)
@@ -98,20 +77,8 @@ module _ {P : Type 0} (cmp : P → P → Ordering) where
       → Enqueues cmp t m p c
       → (cs : List (Completed P)) (q : Planned P) → c ≡ goes cs q → q.next_id ≡ p.next_id → q.sending ≡ p.sending
   enqueue_still {t = t} {m = m} {p = p} (at_once free) cs q e same =
-      by_late (m.should_deliver && nat_lt last_moment (t + m.latency)) e
-    where
-      at : ℕ
-      at = if m.should_deliver then later_of (p.last_arrival m.origin m.recipient) (t + m.latency) else t
-
-      by_late : (b : Bool)
-          → cond b (meets MomentTooLate)
-          (goes (completion_of m (if m.should_deliver then Some at else None) ∷ [])
-          (record p { last_arrival = raised cmp p.last_arrival m at })) ≡ goes cs q
-          → q.sending ≡ p.sending
-      by_late true is = cc
-      by_late false is =
-          let new : record p { last_arrival = raised cmp p.last_arrival m at } ≡ q = cc in
-          sym (ap (λ (z : Planned P). z.sending) new)
+      subst (EndsWith (λ (z : Planned P). z.sending ≡ p.sending)) e
+      (at_once_ends cmp (λ (z : Planned P). z.sending ≡ p.sending) t p m (λ at. refl))
   enqueue_still (no_launch limits launch) cs q e same = cc
   enqueue_still {t = t} {m = m} {p = p} {c = c} (launches {leavers = leavers} {mid = mid} limits launch finishes) cs q e
       same =
@@ -121,7 +88,7 @@ module _ {P : Type 0} (cmp : P → P → Ordering) where
       by_case (inl more) =
           let on : mid.next_id ≤ q.next_id = ends_at mid c cs q e (finish_ids finishes) in absurd (omega arith)
       by_case (inr rests) =
-          let end : (r : Planned P) × PlansStart cmp t mid r × (c ≡ goes [] r) = finish_none finishes rests.0 in
+          let end : (r : Planned P) × PlansStart cmp t mid r × (c ≡ goes [] r) = no_finish_of cmp finishes rests.0 in
           let both : goes cs q ≡ goes [] end.0 = sym e ∙ end.2 in
           let is : q ≡ end.0 = cc in
           ap (λ (z : Planned P). z.sending) is ∙ ap (λ (z : Planned P). z.sending) end.1.same
@@ -191,7 +158,8 @@ module _ {P : Type 0} (cmp : P → P → Ordering) where
           → (q.next_id ≡ r.next_id → q.sending ≡ r.sending) → q.sending ≡ p.sending
       by_case (inl more) on = absurd (omega (arith, second, third))
       by_case (inr rests) on =
-          let end : (z : Planned P) × PlansStart cmp t mid z × (goes ds r ≡ goes [] z) = finish_none finishes rests.0 in
+          let end : (z : Planned P) × PlansStart cmp t mid z × (goes ds r ≡ goes [] z) =
+          no_finish_of cmp finishes rests.0 in
           let is : r ≡ end.0 = cc in
           let start : r.sending ≡ p.sending =
           ap (λ (z : Planned P). z.sending) is ∙ ap (λ (z : Planned P). z.sending) end.1.same

@@ -19,13 +19,14 @@ use Rattle.link_groups.specs.Together.Homes.{numbers, worlds, home_of, ArePlaced
 use Rattle.link_groups.specs.Together.Joined.{AreJoined, NoneStartsBefore, NoneSends}
 use Rattle.link_groups.specs.Together.Ready.{IsReadyAt}
 use Rattle.link_groups.specs.Together.Waiting.{HasToWait, WaitsAt}
-use Rattle.link_groups.proofs.Together.Called.{home_own, home_within, may_limit}
-use Rattle.link_groups.proofs.Together.Known.{are_groups, homes_of}
+use Rattle.link_groups.proofs.Kept.Moments.{map_set}
+use Rattle.link_groups.proofs.Together.Called.{home_within, may_limit}
+use Rattle.link_groups.proofs.Together.Known.{are_groups, homes_of, home_own}
 use Rattle.link_groups.proofs.Together.Onward.{onward_ready}
 use Rattle.link_groups.proofs.Together.Reading.{length_numbers}
 use Rattle.link_groups.proofs.Together.Sending.{none_set}
 use Rattle.link_groups.proofs.Together.Sent.{enqueue_sends}
-use Rattle.link_groups.proofs.Together.Setting.{joined_set, get_map, map_set}
+use Rattle.link_groups.proofs.Together.Setting.{joined_set, get_map}
 use Rattle.link_groups.proofs.Together.Starting.{starts_later}
 use Rattle.link_groups.proofs.Together.Waits.{waits_together, groups_wait}
 

@@ -205,20 +205,11 @@ module _ {P : Type 0} (cmp : P → P → Ordering) (order : IsTotalOrder cmp) (i
       };
     }
 
-    account_beside : (q : Planned P) × Accounts cmp t whole leavers q × WentBeside cmp inside t whole after q
+    -- an account of the part is one of the whole beside the others, who rest
+    pub accounts_beside : (q : Planned P) × Accounts cmp t whole leavers q × WentBeside cmp inside t whole after q
         × FinishIs cmp inside finish after q × (q.start ≡ whole.start) × (after.start ≡ part.start)
-    account_beside =
+    accounts_beside =
         (whole_after, whole_accounts, went_beside, refl, refl, ap (λ (q : Planned P). q.start) account.same)
-
-  -- an account of the part is one of the whole beside the others, who rest
-  pub accounts_beside : (t : ℕ) (finish start : Option ℕ) (part whole after : Planned P) (leavers : List (Message P))
-      → t ≤ last_moment → IsPart cmp inside part whole → OthersRest cmp inside t finish start whole
-      → Accounts cmp t part leavers after
-      → (whole_after : Planned P) × Accounts cmp t whole leavers whole_after
-      × WentBeside cmp inside t whole after whole_after × FinishIs cmp inside finish after whole_after
-      × (whole_after.start ≡ whole.start) × (after.start ≡ part.start)
-  accounts_beside t finish start part whole after leavers within is rest account =
-      account_beside t finish start part whole after leavers within is rest account
 
   -- ---- steps at one moment
 

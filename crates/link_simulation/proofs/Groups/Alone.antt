@@ -15,6 +15,7 @@ use Rattle.link_simulation.specs.Simulation.Messages.{pair_before}
 use Rattle.link_simulation.specs.Rule.Planned.{Planned, RatedFlight, IsLeastMoment, SomeReadyAt, drained_to, earlier}
 use Rattle.link_simulation.specs.Rule.Groups.{put_all, started_before, group_at, said, common, of_peer, of_pair}
 use Rattle.link_simulation.specs.Rule.Groups.{earliest, together, IsGroup, AreGroups, IsEmptyGroup, IsAlone, brought}
+use Rattle.link_simulation.proofs.Groups.Earliest.{earlier_none}
 use Rattle.link_simulation.proofs.Groups.Homes.{by_id, by_pair, common_both, drained_strictly, pairs_in}
 use Rattle.link_simulation.proofs.Groups.LeftOut.{set_here, set_other}
 use Rattle.link_simulation.proofs.Groups.Numbered.{IsInOrder}
@@ -25,10 +26,6 @@ use Rattle.link_simulation.proofs.Groups.Together.{still_group}
 -- of nothing all holds
 all_of_none : {X : Type 0} (Q : X → Type 0) (xs : List X) → xs ≡ [] → All Q xs
 all_of_none {X} Q xs none = subst (λ (ys : List X). All Q ys) (sym none) (All-nil Q)
-
-earlier_none : (o : Option ℕ) → earlier o None ≡ o
-earlier_none None = refl
-earlier_none (Some t) = refl
 
 -- ---- one of a list, where the others have nothing
 
@@ -156,7 +153,7 @@ module _ {P : Type 0} (cmp : P → P → Ordering) (order : IsTotalOrder cmp) (h
 
   -- ---- the group changes
 
-  pub still_alone : (after : Planned P) → IsAlone home number (slice_set groups number after)
+  still_alone : (after : Planned P) → IsAlone home number (slice_set groups number after)
   still_alone after other one here apart =
       alone other one (sym (set_other number groups after other apart) ∙ here) apart
 

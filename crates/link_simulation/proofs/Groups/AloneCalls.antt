@@ -18,7 +18,8 @@ use Rattle.link_simulation.specs.Rule.Events.{Advances, Obeys}
 use Rattle.link_simulation.specs.Rule.Groups.{together, IsAtHome, AreGroups, IsAlone, IsCallAtHome, MayLeaveStart}
 use Rattle.link_simulation.specs.Rule.Groups.{MayLimit, brought}
 use Rattle.link_simulation.proofs.Groups.Alone.{together_alone, alone_is, alone_are}
-use Rattle.link_simulation.proofs.Groups.Keeping.{IsKept, rebalance_kept, enqueue_kept, enqueue_each_kept, advance_kept}
+use Rattle.link_simulation.proofs.Groups.Keeping.{IsKept, each_any, rebalance_kept, enqueue_kept}
+use Rattle.link_simulation.proofs.Groups.Keeping.{enqueue_each_kept, advance_kept}
 use Rattle.link_simulation.proofs.Groups.Numbered.{IsInOrder, in_order_kept, brought_in_order}
 use Rattle.link_simulation.proofs.Groups.Own.{KnowsOwn, IsAccounted, IsPlannedBy, own_kept, brought_planned, CapsOwn}
 use Rattle.link_simulation.proofs.Groups.Own.{limited_own, linked_own, own_recapped, accounted_recapped}
@@ -39,10 +40,6 @@ module _ {P : Type 0} (cmp : P → P → Ordering) where
 
   abbrev IsMode : Bool → Planned P → Type 0
   IsMode mode p = p.limited ≡ mode
-
-  each_any : (ms : List (Message P)) → Each (λ m. ⊤) ms
-  each_any [] = tt
-  each_any (m ∷ ms) = (tt, each_any ms)
 
   -- no step changes it
   mode_kept : (now : ℕ) (mode : Bool) → IsKept cmp now (λ m. ⊤) (IsMode mode) (IsMode mode) (IsMode mode)
@@ -151,11 +148,11 @@ module _ {P : Type 0} (cmp : P → P → Ordering) (order : IsTotalOrder cmp) (h
   enqueue_all_alone ms cs after own leaves enqueues =
       went_alone (λ p c. Obeys cmp p (call_enqueue_all now ms) c) cs after enqueues (planned ms own leaves enqueues)
       (enqueue_each_kept cmp now (λ m. ⊤) (IsInOrder cmp order next_id) (IsInOrder cmp order next_id)
-      (IsInOrder cmp order next_id) (in_order_kept cmp order next_id now) enqueues (omega arith) (each_any cmp ms)
+      (IsInOrder cmp order next_id) (in_order_kept cmp order next_id now) enqueues (omega arith) (each_any ms)
       part_in_order)
       (obeys_orderly cmp order part after (call_enqueue_all now ms) cs enqueues part_orderly)
       (λ i other here apart. sym (enqueue_each_kept cmp now (λ m. ⊤) (IsMode cmp limited) (IsMode cmp limited)
-      (IsMode cmp limited) (mode_kept cmp now limited) enqueues (omega arith) (each_any cmp ms) part_mode))
+      (IsMode cmp limited) (mode_kept cmp now limited) enqueues (omega arith) (each_any ms) part_mode))
     where
       planned : (ms : List (Message P)) → Each (IsAtHome home number) ms
           → (ms ≡ [] → (moment ≤ now) ⊎ (group.waiting ≡ [])) → EnqueuesEach cmp now ms part (goes cs after)

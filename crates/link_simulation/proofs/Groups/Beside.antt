@@ -44,7 +44,7 @@ module _ {P : Type 0} (cmp : P → P → Ordering) (order : IsTotalOrder cmp) (i
       set m.recipient n.recipient
       (and_parts (same_peer cmp m.origin n.origin) (same_peer cmp m.recipient n.recipient) e).1
 
-  pub own_of_pair : (m n : Message P) → same_pair cmp m n ≡ true → IsOwn inside m → IsOwn inside n
+  own_of_pair : (m n : Message P) → same_pair cmp m n ≡ true → IsOwn inside m → IsOwn inside n
   own_of_pair m n e h = (sym (own_alike m n e) ∙ h.0, sym (ends_alike m n e) ∙ h.1)
 
   pair_own : (m n : Message P) → inside m.origin ≡ true → same_pair cmp m n ≡ true → inside n.origin ≡ true
@@ -82,17 +82,6 @@ module _ {P : Type 0} (cmp : P → P → Ordering) (order : IsTotalOrder cmp) (i
 
   -- ---- the others stay
 
-  pub stay_so : (t : ℕ) (p : Planned P) → OthersStay cmp inside t p p
-  stay_so t p = record {
-    sending = inl (refl, refl);
-    waiting = refl;
-    limited = refl;
-    last_arrival = λ o r e. refl;
-    egress = λ q e. refl;
-    ingress = λ q e. refl;
-    link = λ o r e. refl;
-  }
-
   -- what is planned does not matter to them
   pub stay_replanned : (t : ℕ) (p : Planned P) (finish start : Option ℕ)
       → OthersStay cmp inside t p (record p { finish = finish; start = start })
@@ -106,6 +95,9 @@ module _ {P : Type 0} (cmp : P → P → Ordering) (order : IsTotalOrder cmp) (i
     link = λ o r e. refl;
   }
 
+  pub stay_so : (t : ℕ) (p : Planned P) → OthersStay cmp inside t p p
+  stay_so t p = stay_replanned t p p.finish p.start
+
   pub part_replanned : (part whole : Planned P) (finish start other_finish other_start : Option ℕ)
       → IsPart cmp inside part whole → IsPart cmp inside (record part { finish = finish; start = start })
       (record whole { finish = other_finish; start = other_start })
@@ -117,6 +109,21 @@ module _ {P : Type 0} (cmp : P → P → Ordering) (order : IsTotalOrder cmp) (i
     last_arrival = is.last_arrival;
     next_id = is.next_id;
     accounted = is.accounted;
+    sending_apart = is.sending_apart;
+    waiting_apart = is.waiting_apart;
+  }
+
+  -- it is part of the whole with the same account
+  pub part_accounted : (part whole : Planned P) → IsPart cmp inside part whole
+      → IsPart cmp inside (record part { accounted = whole.accounted }) whole
+  part_accounted part whole is = record {
+    caps = is.caps;
+    limited = is.limited;
+    sending = is.sending;
+    waiting = is.waiting;
+    last_arrival = is.last_arrival;
+    next_id = is.next_id;
+    accounted = refl;
     sending_apart = is.sending_apart;
     waiting_apart = is.waiting_apart;
   }

@@ -28,6 +28,7 @@ use Rattle.link_simulation.proofs.Groups.Lists.{IsOwn}
 use Rattle.link_simulation.proofs.Groups.Accounts.{accounts_beside, stay_chain}
 use Rattle.link_simulation.proofs.Groups.Beside.{next_beside, next_is_own, rest_after, raised_part, raised_stay}
 use Rattle.link_simulation.proofs.Groups.Beside.{queued_part, queued_stay, rest_limited, stay_so, part_replanned}
+use Rattle.link_simulation.proofs.Groups.Beside.{part_accounted}
 use Rattle.link_simulation.proofs.Groups.Launches.{launch_beside, KeepPlans, launch_leavers_own}
 use Rattle.link_simulation.proofs.Groups.Finishes.{finish_beside, PlansHold, LaunchWent, went_beside, met_beside}
 use Rattle.link_simulation.proofs.Groups.Finishes.{preceded_beside, from_beside, start_planned}
@@ -53,7 +54,7 @@ module _ {P : Type 0} (cmp : P → P → Ordering) (order : IsTotalOrder cmp) (i
   abbrev delivered : Message P → ℕ → List (Completed P)
   delivered m at = completion_of m (if m.should_deliver then Some at else None) ∷ []
 
-  pub at_once_beside : (now : ℕ) (part whole : Planned P) (m : Message P) → IsPart cmp inside part whole
+  at_once_beside : (now : ℕ) (part whole : Planned P) (m : Message P) → IsPart cmp inside part whole
       → IsOwn inside m
       → GoBeside cmp inside (PlansStay part whole) now whole (completed_at_once cmp now part m)
       (completed_at_once cmp now whole m)
@@ -104,7 +105,7 @@ module _ {P : Type 0} (cmp : P → P → Ordering) (order : IsTotalOrder cmp) (i
   -- ---- messages
 
   -- before any limit it does not matter whether the others rest
-  pub enqueue_beside : {now : ℕ} {m : Message P} {part : Planned P} {course : Course (Completed P) (Planned P)}
+  enqueue_beside : {now : ℕ} {m : Message P} {part : Planned P} {course : Course (Completed P) (Planned P)}
       → Enqueues cmp now m part course → (finish start : Option ℕ) (whole : Planned P)
       → now ≤ last_moment → IsPart cmp inside part whole
       → (part.limited ≡ true → OthersRest cmp inside now finish start whole) → IsOwn inside m
@@ -245,7 +246,7 @@ module _ {P : Type 0} (cmp : P → P → Ordering) (order : IsTotalOrder cmp) (i
     pub ingress : (p : P) → inside p ≡ false → new.ingress p ≡ old.ingress p
     pub link : (o r : P) → (inside o ≡ false) ⊎ (inside r ≡ false) → new.link o r ≡ old.link o r
 
-  pub limited_agree : (caps others : Caps P) (peer : P) (egress ingress : Option ℕ) → CapsAgree cmp inside caps others
+  limited_agree : (caps others : Caps P) (peer : P) (egress ingress : Option ℕ) → CapsAgree cmp inside caps others
       → CapsAgree cmp inside (limited_by cmp caps peer egress ingress) (limited_by cmp others peer egress ingress)
   limited_agree caps others peer egress ingress agree = record {
     egress = λ p e. (rw (agree.egress p e) refl);
@@ -253,7 +254,7 @@ module _ {P : Type 0} (cmp : P → P → Ordering) (order : IsTotalOrder cmp) (i
     link = agree.link;
   }
 
-  pub linked_agree : (caps others : Caps P) (origin recipient : P) (cap : Option ℕ) → CapsAgree cmp inside caps others
+  linked_agree : (caps others : Caps P) (origin recipient : P) (cap : Option ℕ) → CapsAgree cmp inside caps others
       → CapsAgree cmp inside (linked_by cmp caps origin recipient cap) (linked_by cmp others origin recipient cap)
   linked_agree caps others origin recipient cap agree = record {
     egress = agree.egress;
@@ -267,7 +268,7 @@ module _ {P : Type 0} (cmp : P → P → Ordering) (order : IsTotalOrder cmp) (i
       let both : true ≡ false = sym own ∙ same ∙ off in
       cc
 
-  pub limited_stay : (caps : Caps P) (peer : P) (egress ingress : Option ℕ) → inside peer ≡ true
+  limited_stay : (caps : Caps P) (peer : P) (egress ingress : Option ℕ) → inside peer ≡ true
       → CapsStay caps (limited_by cmp caps peer egress ingress)
   limited_stay caps peer egress ingress own = record {
     egress = λ p off. by_peer p (same_peer cmp peer p) refl off egress (caps.egress p);
@@ -280,7 +281,7 @@ module _ {P : Type 0} (cmp : P → P → Ordering) (order : IsTotalOrder cmp) (i
       by_peer p true e off new old = absurd (not_other peer p own off e)
       by_peer p false e off new old = refl
 
-  pub linked_stay : (caps : Caps P) (origin recipient : P) (cap : Option ℕ) → inside origin ≡ true
+  linked_stay : (caps : Caps P) (origin recipient : P) (cap : Option ℕ) → inside origin ≡ true
       → inside recipient ≡ true → CapsStay caps (linked_by cmp caps origin recipient cap)
   linked_stay caps origin recipient cap own_origin own_recipient = record {
     egress = λ p off. refl;
@@ -303,7 +304,7 @@ module _ {P : Type 0} (cmp : P → P → Ordering) (order : IsTotalOrder cmp) (i
   abbrev pub recapped : Planned P → Caps P → Planned P
   recapped p caps = record p { caps = caps; limited = true }
 
-  pub recapped_part : (part whole : Planned P) (caps others : Caps P) → IsPart cmp inside part whole
+  recapped_part : (part whole : Planned P) (caps others : Caps P) → IsPart cmp inside part whole
       → CapsAgree cmp inside caps others → IsPart cmp inside (recapped part caps) (recapped whole others)
   recapped_part part whole caps others is agree = record {
     caps = agree;
@@ -317,26 +318,13 @@ module _ {P : Type 0} (cmp : P → P → Ordering) (order : IsTotalOrder cmp) (i
     waiting_apart = is.waiting_apart;
   }
 
-  pub recapped_stay : (t : ℕ) (whole : Planned P) (caps : Caps P) → CapsStay whole.caps caps
+  recapped_stay : (t : ℕ) (whole : Planned P) (caps : Caps P) → CapsStay whole.caps caps
       → OthersStay cmp inside t (record whole { limited = true }) (recapped whole caps)
   recapped_stay t whole caps stay = record {
     sending = inl (refl, refl);
     waiting = refl;
     limited = refl;
     last_arrival = λ o r e. refl;
-    egress = stay.egress;
-    ingress = stay.ingress;
-    link = stay.link;
-  }
-
-  -- in a limited world the others stay as they were
-  pub stay_limited : (t : ℕ) (whole after : Planned P) → whole.limited ≡ true
-      → OthersStay cmp inside t (record whole { limited = true }) after → OthersStay cmp inside t whole after
-  stay_limited t whole after on stay = record {
-    sending = stay.sending;
-    waiting = stay.waiting;
-    limited = stay.limited ∙ sym on;
-    last_arrival = stay.last_arrival;
     egress = stay.egress;
     ingress = stay.ingress;
     link = stay.link;
@@ -369,20 +357,6 @@ module _ {P : Type 0} (cmp : P → P → Ordering) (order : IsTotalOrder cmp) (i
   RebalanceBeside now finish start part whole (meets fault) (goes ys q) = ⊥
   RebalanceBeside now finish start part whole (meets fault) (meets other) = fault ≡ other
 
-  part_accounted : (part whole : Planned P) → IsPart cmp inside part whole
-      → IsPart cmp inside (record part { accounted = whole.accounted }) whole
-  part_accounted part whole is = record {
-    caps = is.caps;
-    limited = is.limited;
-    sending = is.sending;
-    waiting = is.waiting;
-    last_arrival = is.last_arrival;
-    next_id = is.next_id;
-    accounted = refl;
-    sending_apart = is.sending_apart;
-    waiting_apart = is.waiting_apart;
-  }
-
   rebalanced_so : (now : ℕ) (finish start : Option ℕ) (part whole mid : Planned P)
       (x y : Course (Completed P) (Planned P))
       → OthersStay cmp inside now (record whole { limited = true }) mid
@@ -391,7 +365,7 @@ module _ {P : Type 0} (cmp : P → P → Ordering) (order : IsTotalOrder cmp) (i
   rebalanced_so now finish start part whole mid (goes xs p) (goes ys q) stay beside = (
     beside.0,
     record {
-      part = part_accounted p q beside.1.part;
+      part = part_accounted cmp order inside set p q beside.1.part;
       others = stay_chain cmp order inside set now (record whole { limited = true }) mid q stay beside.1.others;
       accounted = inl beside.1.part.accounted;
       finish = beside.2.0;
@@ -434,7 +408,8 @@ module _ {P : Type 0} (cmp : P → P → Ordering) (order : IsTotalOrder cmp) (i
         part_replanned cmp order inside set
         (record (recapped part caps) { accounted = q.accounted; finish = None; start = next })
         q part.finish next q.finish q.start
-        (part_accounted (record (recapped part caps) { accounted = now; finish = None; start = next }) q is);
+        (part_accounted cmp order inside set
+        (record (recapped part caps) { accounted = now; finish = None; start = next }) q is);
     others = stay;
     accounted = inr (none, refl, sym is.accounted);
     finish = plans.0 ∙ ap (λ (o : Option ℕ). earlier o finish) (sym unplanned);
@@ -494,7 +469,7 @@ module _ {P : Type 0} (cmp : P → P → Ordering) (order : IsTotalOrder cmp) (i
       a.2.part a.2.others rests)
       a.3
 
-  pub rebalance_beside : {now : ℕ} {caps : Caps P} {part : Planned P} {course : Course (Completed P) (Planned P)}
+  rebalance_beside : {now : ℕ} {caps : Caps P} {part : Planned P} {course : Course (Completed P) (Planned P)}
       → Rebalances cmp now caps part course → (finish start : Option ℕ) (whole : Planned P) (others : Caps P)
       → now ≤ last_moment → IsPart cmp inside part whole → OthersRest cmp inside now finish start whole
       → CapsAgree cmp inside caps others → CapsStay whole.caps others → (part.sending ≡ [] → part.finish ≡ None)

@@ -16,7 +16,7 @@ module _ {P : Type 0} where
       each_map (λ f. All (λ g. f.id ≡ g.id → ⊥) gs) (λ f. Each (IsNot f) gs) fs
       (λ f h. each_of_all (λ g. f.id ≡ g.id → ⊥) gs h) (each_of_all (λ f. All (λ g. f.id ≡ g.id → ⊥) gs) fs all)
 
-  pub all_distinct : (fs gs : List (RatedFlight P)) → Each (λ f. Each (IsNot f) gs) fs → AreDistinct fs gs
+  all_distinct : (fs gs : List (RatedFlight P)) → Each (λ f. Each (IsNot f) gs) fs → AreDistinct fs gs
   all_distinct fs gs each =
       all_of_each (λ f. All (λ g. f.id ≡ g.id → ⊥) gs) fs
       (each_map (λ f. Each (IsNot f) gs) (λ f. All (λ g. f.id ≡ g.id → ⊥) gs) fs

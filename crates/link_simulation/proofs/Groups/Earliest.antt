@@ -7,6 +7,10 @@ use Rattle.link_simulation.specs.Rule.Groups.{left_out, earliest}
 use Rattle.link_simulation.proofs.Groups.LeftOut.{left_out_in, earlier_swap, earliest_split, set_here}
 use Rattle.link_simulation.proofs.Groups.LeftOut.{set_other, set_left_out}
 
+pub earlier_none : (o : Option ℕ) → earlier o None ≡ o
+earlier_none None = refl
+earlier_none (Some t) = refl
+
 pub earlier_joined : (a b c : Option ℕ) → earlier (earlier a b) c ≡ earlier a (earlier b c)
 earlier_joined None b c = refl
 earlier_joined (Some a) None c = refl

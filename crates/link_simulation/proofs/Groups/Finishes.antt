@@ -160,12 +160,3 @@ module _ {P : Type 0} (cmp : P → P → Ordering) (order : IsTotalOrder cmp) (i
         preceded_beside (PlansHold finish start) t whole went.0 (completed cmp t m ∷ []) course later.0
             (stay_chain cmp order inside set t whole (landed cmp t whole m) went.0 stay went.2.others) later.2,
       )
-
-  pub finishes_beside : (t : ℕ) (finish start : Option ℕ) (ms : List (Message P)) (part whole : Planned P)
-      (course : Course (Completed P) (Planned P))
-      → t ≤ last_moment → IsPart cmp inside part whole → OthersRest cmp inside t finish start whole
-      → Each (IsOwn inside) ms → FinishIs cmp inside finish part whole → Finishes cmp t ms part course
-      → (c : Course (Completed P) (Planned P)) × Finishes cmp t ms whole c
-      × GoBeside cmp inside (PlansHold finish start) t whole course c
-  finishes_beside t finish start ms part whole course within is rest own planned finishes =
-      finish_beside finishes finish start whole within is rest own planned

@@ -103,7 +103,7 @@ module _ {P : Type 0} where
       by_test false ih = ih
 
   -- each has both ends in the set, or neither
-  pub ends_together : (inside : P → Bool) (fs : List (RatedFlight P)) → AreApart inside (rated_messages fs)
+  ends_together : (inside : P → Bool) (fs : List (RatedFlight P)) → AreApart inside (rated_messages fs)
       → Each (λ f. inside f.message.origin ≡ inside f.message.recipient) fs
   ends_together inside [] apart = tt
   ends_together inside (f ∷ fs) apart = (apart.0, ends_together inside fs apart.1)

@@ -38,7 +38,7 @@ pub home_at : (o : Option ℕ) (number : ℕ) → o ≡ Some number → is_at o 
 home_at None number e = cc
 home_at (Some home) number e = let same : home ≡ number = cc in eq-eqb home number same
 
-pub not_at : (o : Option ℕ) (number : ℕ) → (o ≡ Some number → ⊥) → is_at o number ≡ false
+not_at : (o : Option ℕ) (number : ℕ) → (o ≡ Some number → ⊥) → is_at o number ≡ false
 not_at None number other = refl
 not_at (Some home) number other = ne_eqb home number (λ same. other (ap Some same))
 

@@ -1,5 +1,5 @@
 -- Two groups become one, at the number of the one, and a new one takes the other's: all together stay the same.
-use Rattle.std.proofs.Common.{◌≡◌, ℕ, ◌<◌, ◌≤◌, List, [], length, map, Bool, true, false, Option, Some, None, refl, sym}
+use Rattle.std.proofs.Common.{◌≡◌, ℕ, ◌<◌, ◌≤◌, List, [], length, Bool, true, false, Option, Some, None, refl, sym}
 use Rattle.std.proofs.Common.{ap, ◌∙◌, subst, arith, ◌⊎◌, inl, inr, max}
 use Rattle.std.specs.Prelude.{slice_get, slice_set, IfSome}
 use Rattle.std.specs.List.{filter, flat_map}
@@ -11,10 +11,10 @@ use Rattle.fair_rates.specs.Sides.Subjects.{same_peer}
 use Rattle.fair_rates.proofs.Lists.Each.{each_map}
 use Rattle.fair_rates.proofs.Lists.Filters.{filter_stronger}
 use Rattle.link_simulation.specs.Simulation.Messages.{Message, pair_before, same_pair}
-use Rattle.link_simulation.specs.Rule.Planned.{Planned, RatedFlight, drained_to, next_event}
-use Rattle.link_simulation.specs.Rule.Groups.{started_before, group_at, said, common, of_peer, of_pair, earliest}
+use Rattle.link_simulation.specs.Rule.Planned.{Planned, RatedFlight, drained_to}
+use Rattle.link_simulation.specs.Rule.Groups.{started_before, group_at, said, common, of_peer, of_pair}
 use Rattle.link_simulation.specs.Rule.Groups.{together, IsAtHome, IsGroup, AreGroups, either, joined}
-use Rattle.link_simulation.specs.Rule.Homes.{new_group, moved, moved_to, AreAmong}
+use Rattle.link_simulation.specs.Rule.Homes.{new_group, moved, moved_to}
 use Rattle.link_simulation.proofs.Groups.Beside.{own_alike}
 use Rattle.link_simulation.proofs.Groups.Distinct.{AreDistinct, distinct_swap, distinct_put, none_distinct}
 use Rattle.link_simulation.proofs.Groups.Distinct.{distinct_none}
@@ -25,10 +25,9 @@ use Rattle.link_simulation.proofs.Groups.Homes.{whole_waiting_in}
 use Rattle.link_simulation.proofs.Groups.Joining.{both_is_group, all_of_one, all_of_two, waits_of_one, waits_of_two}
 use Rattle.link_simulation.proofs.Groups.Joining.{either_first, either_second, either_none}
 use Rattle.link_simulation.proofs.Groups.Kinds.{same_by_kinds, IsAmongKinds}
-use Rattle.link_simulation.proofs.Groups.LeftOut.{set_here, set_other, set_length, each_flat, all_kept}
+use Rattle.link_simulation.proofs.Groups.LeftOut.{set_here, set_other, each_flat, all_kept}
 use Rattle.link_simulation.proofs.Groups.Moved.{moved_stays, moved_there, moved_from}
 use Rattle.link_simulation.proofs.Groups.NewGroup.{new_is_group}
-use Rattle.link_simulation.proofs.Groups.NextOfAll.{earlier_both}
 use Rattle.link_simulation.proofs.Groups.Numbered.{together_in_order}
 use Rattle.link_simulation.proofs.Groups.Rehomed.{group_rehomed}
 use Rattle.link_simulation.proofs.Groups.Resting.{at_within}
@@ -56,18 +55,6 @@ module _ {P : Type 0} (cmp : P → P → Ordering) (order : IsTotalOrder cmp) (h
   away : (o : Option ℕ) → o ≡ Some number → o ≡ Some other → ⊥
   away o near far =
       let alike : Some number ≡ Some other = sym near ∙ far in let same : number ≡ other = cc in differ same
-
-  -- each home is one of the groups still
-  pub joined_among : AreAmong home groups → AreAmong new_home groups_joined
-  joined_among among p n at =
-      subst (λ (size : ℕ). n < size)
-      (sym (set_length other (slice_set groups number both) (new_group limited id) ∙ set_length number groups both))
-      (of_either (moved_from other number (home p) n at))
-    where
-      of_either : (home p ≡ Some n) ⊎ ((home p ≡ Some other) × (n ≡ number)) → n < length groups
-      of_either (inl same) = among p n same
-      of_either (inr came) =
-          let below : number < length groups = slice_get_within groups number one first in omega (arith, came.1)
 
   -- ---- which group is where
 
@@ -409,9 +396,3 @@ module _ {P : Type 0} (cmp : P → P → Ordering) (order : IsTotalOrder cmp) (h
           finish = finish i;
           start = start i;
         }
-
-  -- the next event of all stays the first of the groups' next events
-  pub joined_next : earliest (map next_event groups_joined) ≡ earliest (map next_event groups)
-  joined_next =
-      joined_earliest next_event number other groups one two both (new_group limited id) first second differ
-      (earlier_both one.finish two.finish one.start two.start) refl

@@ -56,7 +56,7 @@ either_second (Some n) b none = cc
 pub either_none : (a b : Option ℕ) → a ≡ None → b ≡ None → either a b ≡ None
 either_none a b first second = sym (either_first a b second) ∙ first
 
-pub either_same : (a b c d : Option ℕ) → a ≡ c → b ≡ d → either a b ≡ either c d
+either_same : (a b c d : Option ℕ) → a ≡ c → b ≡ d → either a b ≡ either c d
 either_same a b c d first second = ap (λ (o : Option ℕ). either o b) first ∙ ap (either c) second
 
 -- what is spent of a member is spent of some
@@ -102,16 +102,16 @@ module _ {P : Type 0} (cmp : P → P → Ordering) (order : IsTotalOrder cmp) (h
       (each_of_messages (IsAtHome home k) group.sending
       (each_of_all (IsAtHome home k) (rated_messages group.sending) is.sending))
 
-  pub one_home : Each (λ f. IsAtHome home number f.message) sent_one
+  one_home : Each (λ f. IsAtHome home number f.message) sent_one
   one_home = sent_home number one is_one
 
-  pub two_home : Each (λ f. IsAtHome home other f.message) sent_two
+  two_home : Each (λ f. IsAtHome home other f.message) sent_two
   two_home = sent_home other two is_two
 
-  pub one_waits : Each (IsAtHome home number) one.waiting
+  one_waits : Each (IsAtHome home number) one.waiting
   one_waits = each_of_all (IsAtHome home number) one.waiting is_one.waiting
 
-  pub two_waits : Each (IsAtHome home other) two.waiting
+  two_waits : Each (IsAtHome home other) two.waiting
   two_waits = each_of_all (IsAtHome home other) two.waiting is_two.waiting
 
   sent_at : (k : ℕ) (fs : List (RatedFlight P)) → Each (λ f. IsAtHome home k f.message) fs
@@ -145,13 +145,13 @@ module _ {P : Type 0} (cmp : P → P → Ordering) (order : IsTotalOrder cmp) (h
       strictly_in started_before by_id (drained_to account group.sending)
       (drained_strictly account group.sending is.numbered)
 
-  pub sent_of_one : own_sending cmp (inside home number) both ≡ sent_one
+  sent_of_one : own_sending cmp (inside home number) both ≡ sent_one
   sent_of_one =
       first_of_two started_before by_id (λ f. inside home number f.message.origin) sent_one sent_two
       (sent_in number one is_one) (sent_at number sent_one one_home)
       (sent_off other number sent_two (λ same. differ (sym same)) two_home)
 
-  pub sent_of_two : own_sending cmp (inside home other) both ≡ sent_two
+  sent_of_two : own_sending cmp (inside home other) both ≡ sent_two
   sent_of_two =
       second_of_two started_before by_id (λ f. inside home other f.message.origin) sent_one sent_two
       (sent_in number one is_one) (sent_in other two is_two) (sent_off number other sent_one differ one_home)
@@ -214,7 +214,7 @@ module _ {P : Type 0} (cmp : P → P → Ordering) (order : IsTotalOrder cmp) (h
   off_one : (p : P) → inside home other p ≡ true → home p ≡ Some number → ⊥
   off_one p e here = not_both (home p) here (at_home (home p) other e)
 
-  pub part_one : IsPart cmp (inside home number) (brought both.next_id account one) both
+  part_one : IsPart cmp (inside home number) (brought both.next_id account one) both
   part_one = record {
     caps =
         record {
@@ -234,7 +234,7 @@ module _ {P : Type 0} (cmp : P → P → Ordering) (order : IsTotalOrder cmp) (h
     waiting_apart = waiting_apart number;
   }
 
-  pub part_two : IsPart cmp (inside home other) (brought both.next_id account two) both
+  part_two : IsPart cmp (inside home other) (brought both.next_id account two) both
   part_two = record {
     caps =
         record {
@@ -326,7 +326,7 @@ module _ {P : Type 0} (cmp : P → P → Ordering) (order : IsTotalOrder cmp) (h
       is.finish_later)
       is.finish
 
-  pub both_finish : IsLeastMoment (SomeSpentAt both.sending) both.finish
+  both_finish : IsLeastMoment (SomeSpentAt both.sending) both.finish
   both_finish =
       earlier_is_least (SomeSpentAt sent_one) (SomeSpentAt sent_two) (SomeSpentAt both.sending) one.finish two.finish
       (λ s (i, f, at, le, spent). of_member s f le spent
@@ -410,7 +410,7 @@ module _ {P : Type 0} (cmp : P → P → Ordering) (order : IsTotalOrder cmp) (h
         (each_drained (λ id m. is_unlimited cmp group.caps m ≡ false) account group.sending
         (each_of_all (λ f. is_unlimited cmp group.caps f.message ≡ false) group.sending is.capped))
 
-  pub both_start : IfSome one.start (λ s. moment ≤ s) → IfSome two.start (λ s. moment ≤ s)
+  both_start : IfSome one.start (λ s. moment ≤ s) → IfSome two.start (λ s. moment ≤ s)
       → IsLeastMoment (λ s. (moment ≤ s) × SomeReadyAt cmp both s) both.start
   both_start one_later two_later =
       earlier_is_least (λ s. (moment ≤ s) × SomeReadyAt cmp one s) (λ s. (moment ≤ s) × SomeReadyAt cmp two s)
@@ -436,7 +436,7 @@ module _ {P : Type 0} (cmp : P → P → Ordering) (order : IsTotalOrder cmp) (h
       of_home s le m found may (inl here) = inl (le, ready_back number one is_one part_one s m here found may)
       of_home s le m found may (inr there) = inr (le, ready_back other two is_two part_two s m there found may)
 
-  pub both_rated : HaveFairRates cmp both.caps both.sending
+  both_rated : HaveFairRates cmp both.caps both.sending
   both_rated =
       let own : HaveFairRates cmp both.caps (own_sending cmp (inside home number) both) =
       subst (HaveFairRates cmp both.caps) (sym sent_of_one) (part_rated number one is_one part_one) in
@@ -454,7 +454,7 @@ module _ {P : Type 0} (cmp : P → P → Ordering) (order : IsTotalOrder cmp) (h
             own.rated others.fair others.rated;
       }
 
-  pub both_capped : Each (λ f. is_unlimited cmp both.caps f.message ≡ false) both.sending
+  both_capped : Each (λ f. is_unlimited cmp both.caps f.message ≡ false) both.sending
   both_capped =
       each_put_all started_before (λ f. is_unlimited cmp both.caps f.message ≡ false) sent_one sent_two
       (part_capped number one is_one part_one) (part_capped other two is_two part_two)

@@ -1,13 +1,12 @@
 -- What each step keeps of a planned world, the steps of calls keep.
-use Rattle.std.proofs.Common.{◌≡◌, ℕ, ◌+◌, ◌≤◌, List, [], ◌∷◌, Bool, true, false, cond, Option, Some, None, refl}
+use Rattle.std.proofs.Common.{◌≡◌, ℕ, ◌≤◌, List, [], ◌∷◌, true, false, Option, Some, None, refl}
 use Rattle.std.proofs.Common.{subst, sym, arith}
-use Rattle.std.specs.Prelude.{◌&&◌, nat_lt, if◌then◌else◌, IfSome}
+use Rattle.std.specs.Prelude.{IfSome}
 use Rattle.std.specs.declared.cmp.Ordering.{Ordering}
-use Rattle.fair_rates.specs.declared.error.Error.TheVariants.{MomentTooLate}
 use Rattle.fair_rates.proofs.Lists.Each.{Each, each_find}
 use Rattle.link_simulation.specs.Simulation.Messages.{Message, Caps, same_pair}
-use Rattle.link_simulation.specs.Simulation.World.{Completed, Course, goes, meets, last_moment, raised, later_of}
-use Rattle.link_simulation.specs.Simulation.World.{completion_of, completed, EndsWith}
+use Rattle.link_simulation.specs.Simulation.World.{Completed, Course, goes, raised}
+use Rattle.link_simulation.specs.Simulation.World.{completed, EndsWith}
 use Rattle.link_simulation.specs.Rule.Planned.{Planned, rated_messages, next_of, is_spent}
 use Rattle.link_simulation.specs.Rule.Events.{Accounts, PlansStart, Launches, nothing_waits, too_early, no_id, starts}
 use Rattle.link_simulation.specs.Rule.Events.{Finishes, all_completed, late, stopped, completes, WakesEach, all_started}
@@ -18,7 +17,13 @@ use Rattle.link_simulation.specs.Rule.Events.{at_finish, at_start, finish_stops,
 use Rattle.link_simulation.specs.Rule.Events.{launched, landed, with_queued}
 use Rattle.link_simulation.proofs.Groups.Finishes.{each_append}
 use Rattle.link_simulation.proofs.Groups.Lists.{each_leaves}
+use Rattle.link_simulation.proofs.Rule.AtOnce.{at_once_ends}
 use Rattle.link_simulation.proofs.Simulation.SettlingEnds.{ends_preceded}
+
+-- of messages of which nothing is asked, it holds of each
+pub each_any : {P : Type 0} (ms : List (Message P)) → Each (λ m. ⊤) ms
+each_any [] = tt
+each_any (m ∷ ms) = (tt, each_any ms)
 
 module _ {P : Type 0} (cmp : P → P → Ordering) where
   -- ---- what is kept
@@ -116,18 +121,7 @@ module _ {P : Type 0} (cmp : P → P → Ordering) where
     pub enqueue_kept : {t : ℕ} {m : Message P} {p : Planned P} {c : Course (Completed P) (Planned P)}
         → Enqueues cmp t m p c → t ≤ now → own m → AtCall p → EndsWith AtCall c
     enqueue_kept {t = t} {m = m} {p = p} (at_once free) le has h =
-        by_late (m.should_deliver && nat_lt last_moment (t + m.latency))
-      where
-        at : ℕ
-        at = if m.should_deliver then later_of (p.last_arrival m.origin m.recipient) (t + m.latency) else t
-
-        by_late : (b : Bool)
-            → EndsWith AtCall
-            (cond b (meets MomentTooLate)
-            (goes (completion_of m (if m.should_deliver then Some at else None) ∷ [])
-            (record p { last_arrival = raised cmp p.last_arrival m at })))
-        by_late true = tt
-        by_late false = kept.before_limits p m at has free h
+        at_once_ends cmp AtCall t p m (λ at. kept.before_limits p m at has free h)
     enqueue_kept (no_launch limits launch) le has h = tt
     enqueue_kept {m = m} {p = p} (launches {leavers = leavers} {mid = mid} limits launch finishes) le has h =
         let queued : AtStep (with_queued cmp p m) = kept.queues p m has limits h in

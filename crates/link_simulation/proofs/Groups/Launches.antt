@@ -49,7 +49,7 @@ module _ {P : Type 0} (cmp : P → P → Ordering) (order : IsTotalOrder cmp) (i
           each_apart [] h = tt
           each_apart (k ∷ ks) h = (h.0, each_apart ks h.1)
 
-  pub ready_in_whole : (part whole : Planned P) (s : ℕ) → IsPart cmp inside part whole → SomeReadyAt cmp part s
+  ready_in_whole : (part whole : Planned P) (s : ℕ) → IsPart cmp inside part whole → SomeReadyAt cmp part s
       → SomeReadyAt cmp whole s
   ready_in_whole part whole s is (m, found, may) =
       let h : IsOwn inside m = waits_own part whole m m is found in (
@@ -58,7 +58,7 @@ module _ {P : Type 0} (cmp : P → P → Ordering) (order : IsTotalOrder cmp) (i
         sym (may_beside cmp order inside set s part whole m is h) ∙ may,
       )
 
-  pub ready_of_either : (part whole : Planned P) (s : ℕ) → IsPart cmp inside part whole → SomeReadyAt cmp whole s
+  ready_of_either : (part whole : Planned P) (s : ℕ) → IsPart cmp inside part whole → SomeReadyAt cmp whole s
       → SomeReadyAt cmp part s ⊎ SomeOtherReadyAt cmp inside whole s
   ready_of_either part whole s is (m, found, may) = by_side (inside m.origin) refl
     where
@@ -163,15 +163,6 @@ module _ {P : Type 0} (cmp : P → P → Ordering) (order : IsTotalOrder cmp) (i
           (λ e. a.3, a.5, a.4),
         ),
       )
-
-  pub launches_beside : (t : ℕ) (finish start : Option ℕ) (part whole : Planned P) (next : Option (Message P))
-      (course : Course (Message P) (Planned P))
-      → t ≤ last_moment → IsPart cmp inside part whole → OthersRest cmp inside t finish start whole
-      → IfSome next (IsOwn inside) → Launches cmp t part next course
-      → (c : Course (Message P) (Planned P)) × Launches cmp t whole next c
-      × GoBeside cmp inside (KeepPlans finish part whole) t whole course c
-  launches_beside t finish start part whole next course within is rest own launch =
-      launch_beside launch finish start whole within is rest own
 
   -- ---- what leaves
 

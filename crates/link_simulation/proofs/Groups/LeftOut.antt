@@ -43,11 +43,11 @@ module _ {Y : Type 0} (keep : Y → Bool) where
   none_kept [] h = refl
   none_kept (y ∷ ys) h = let is : keep y ≡ false = h.0 in rw (is, none_kept ys h.1) refl
 
-  pub all_other : (ys : List Y) → Each (λ y. keep y ≡ false) ys → filter (λ y. not (keep y)) ys ≡ ys
+  all_other : (ys : List Y) → Each (λ y. keep y ≡ false) ys → filter (λ y. not (keep y)) ys ≡ ys
   all_other [] h = refl
   all_other (y ∷ ys) h = let is : keep y ≡ false = h.0 in rw (is, all_other ys h.1) refl
 
-  pub none_other : (ys : List Y) → Each (λ y. keep y ≡ true) ys → filter (λ y. not (keep y)) ys ≡ []
+  none_other : (ys : List Y) → Each (λ y. keep y ≡ true) ys → filter (λ y. not (keep y)) ys ≡ []
   none_other [] h = refl
   none_other (y ∷ ys) h = let is : keep y ≡ true = h.0 in rw (is, none_other ys h.1) refl
 

@@ -1,6 +1,6 @@
 -- A new group, and a peer that finds its home in it or in one that is there.
 use Rattle.std.proofs.Common.{◌≡◌, ℕ, zero, suc, ◌<◌, ◌≤◌, List, [], ◌∷◌, ◌++◌, length, map, Bool, true, false, Option}
-use Rattle.std.proofs.Common.{Some, None, refl, sym, ap, ◌∙◌, ◌⊎◌, inl, inr, subst, arith, length-append}
+use Rattle.std.proofs.Common.{Some, None, refl, sym, ap, ◌∙◌, ◌⊎◌, inl, inr, subst, arith}
 use Rattle.std.specs.Prelude.{slice_get, if◌then◌else◌}
 use Rattle.std.specs.List.{flat_map}
 use Rattle.std.specs.declared.cmp.Ordering.{Ordering}
@@ -10,8 +10,7 @@ use Rattle.fair_rates.proofs.Lists.Each.{all_of_each}
 use Rattle.link_simulation.specs.Laws.Orderly.{IsOrderly}
 use Rattle.link_simulation.specs.Simulation.Messages.{no_caps, pair_before}
 use Rattle.link_simulation.specs.Simulation.Rates.{is_unlimited}
-use Rattle.link_simulation.specs.Rule.Planned.{Planned, RatedFlight, new_planned, SomeSpentAt, drained_to, earlier}
-use Rattle.link_simulation.specs.Rule.Planned.{next_event}
+use Rattle.link_simulation.specs.Rule.Planned.{Planned, RatedFlight, SomeSpentAt, drained_to, earlier}
 use Rattle.link_simulation.specs.Rule.Groups.{group_at, said, common, of_peer, of_pair, together, earliest, IsAtHome}
 use Rattle.link_simulation.specs.Rule.Groups.{IsGroup, AreGroups, put_all, started_before}
 use Rattle.link_simulation.specs.Rule.Homes.{new_group, home_with, AreAmong}
@@ -58,34 +57,6 @@ module _ {P : Type 0} (cmp : P → P → Ordering) where
     numbered = tt;
     ids = all_of_each (λ (f : RatedFlight P). f.id < next_id) [] tt;
   }
-
-  -- ---- no group yet
-
-  pub none_are : (home : P → Option ℕ) (limited : Bool) (next_id accounted moment : ℕ)
-      → AreGroups cmp home limited next_id accounted moment []
-  none_are home limited next_id accounted moment = record {
-    each = λ number group at. let wrong : None ≡ Some group = at in cc;
-    different = λ number other one two first second apart. let wrong : None ≡ Some one = first in cc;
-  }
-
-  pub none_together : (home : P → Option ℕ) (first : ℕ) → together cmp home false first 0 [] ≡ new_planned first
-  none_together home first =
-      let egress : (p : P) → of_peer home (λ group. group.caps.egress) [] p ≡ None =
-      λ p. nothing (λ group. group.caps.egress p) (home p) in
-      let ingress : (p : P) → of_peer home (λ group. group.caps.ingress) [] p ≡ None =
-      λ p. nothing (λ group. group.caps.ingress p) (home p) in
-      let link : (o r : P) → of_pair home (λ group. group.caps.link) [] o r ≡ None =
-      λ o r. nothing (λ group. group.caps.link o r) (common (home o) (home r)) in
-      let last_arrival : (o r : P) → of_pair home (λ group. group.last_arrival) [] o r ≡ None =
-      λ o r. nothing (λ group. group.last_arrival o r) (common (home o) (home r)) in
-      λ i. record (new_planned first) {
-        caps = record { egress = λ p. egress p i; ingress = λ p. ingress p i; link = λ o r. link o r i };
-        last_arrival = λ o r. last_arrival o r i;
-      }
-    where
-      nothing : (says : Planned P → Option ℕ) (o : Option ℕ) → said says (group_at [] o) ≡ None
-      nothing says None = refl
-      nothing says (Some n) = refl
 
 -- ---- one more at the end of a list
 
@@ -263,15 +234,3 @@ module _ {P : Type 0} (cmp : P → P → Ordering) (home : P → Option ℕ)
       found_together cmp home limited next_id accounted moment with_new
       (with_new_are cmp home limited next_id accounted moment groups are id) peer none (length groups) homes
       ∙ with_new_together cmp home limited next_id accounted moment groups are id among
-
-  -- each home is one of the groups still
-  pub new_among : AreAmong home groups → AreAmong new_homes with_new
-  new_among among =
-      with_among cmp home limited next_id accounted moment groups are peer none (length groups) with_new
-      (λ p n at. let below : n < length groups = among p n at in
-      let more = length-append groups (new_group limited id ∷ []) in omega arith)
-      (let more = length-append groups (new_group limited id ∷ []) in omega arith)
-
-  -- the next event of all stays the first of the groups' next events
-  pub new_next : earliest (map next_event with_new) ≡ earliest (map next_event groups)
-  new_next = earliest_end next_event groups (new_group limited id) refl

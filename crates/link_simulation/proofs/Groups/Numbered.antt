@@ -17,7 +17,7 @@ use Rattle.link_simulation.specs.Rule.Events.{Accounts, launched}
 use Rattle.link_simulation.specs.Rule.Groups.{put, put_all, started_before, together, AreStrictlyIn, AreGroups, brought}
 use Rattle.link_simulation.proofs.Groups.Flights.{Stays}
 use Rattle.link_simulation.proofs.Groups.Homes.{each_drained, drained_strictly, whole_waiting_in}
-use Rattle.link_simulation.proofs.Groups.Keeping.{IsKept}
+use Rattle.link_simulation.proofs.Groups.Keeping.{IsKept, each_any}
 use Rattle.link_simulation.proofs.Groups.LeftOut.{each_flat}
 use Rattle.link_simulation.proofs.Groups.Sorted.{each_kept, each_put, each_put_all}
 use Rattle.link_simulation.proofs.Rule.Enqueue.{queued_in_order}
@@ -42,7 +42,7 @@ module _ {P : Type 0} where
       by_test false ih = ih
 
   -- what stays has its id
-  pub ids_stay : (Q : ℕ → Type 0) (t : ℕ) (fs gs : List (RatedFlight P)) → AllZip (Stays t) fs gs
+  ids_stay : (Q : ℕ → Type 0) (t : ℕ) (fs gs : List (RatedFlight P)) → AllZip (Stays t) fs gs
       → Each (λ f. Q f.id) fs → Each (λ g. Q g.id) gs
   ids_stay Q t [] [] all h = tt
   ids_stay Q t [] (g ∷ gs) all h = absurd all
@@ -210,8 +210,8 @@ module _ {P : Type 0} (cmp : P → P → Ordering) (order : IsTotalOrder cmp) wh
   pub in_order_kept : (low now : ℕ) → IsKept cmp now (λ m. ⊤) (IsInOrder low) (IsInOrder low) (IsInOrder low)
   in_order_kept low now = record {
     at_step = λ p h. h;
-    sends = λ p h. each_of_none (rated_messages p.sending);
-    waits = λ p h. each_of_none p.waiting;
+    sends = λ p h. each_any (rated_messages p.sending);
+    waits = λ p h. each_any p.waiting;
     accounts = λ t p q leavers h account. in_order_accounted low t p q leavers h account;
     launch = λ t p m own h. in_order_launched low t p m h;
     lands = λ t p m own h. record { numbered = h.numbered; ids = h.ids; pairs = h.pairs; low_by = h.low_by };
@@ -228,10 +228,6 @@ module _ {P : Type 0} (cmp : P → P → Ordering) (order : IsTotalOrder cmp) wh
     unfinished = λ p h. record { numbered = h.numbered; ids = h.ids; pairs = h.pairs; low_by = h.low_by };
     unstarted = λ p h. record { numbered = h.numbered; ids = h.ids; pairs = h.pairs; low_by = h.low_by };
   }
-    where
-      each_of_none : (ms : List (Message P)) → Each (λ m. ⊤) ms
-      each_of_none [] = tt
-      each_of_none (m ∷ ms) = (tt, each_of_none ms)
 
   module _ (home : P → Option ℕ) (homes : (p q : P) → same_peer cmp p q ≡ true → home p ≡ home q) (limited : Bool)
       (next_id accounted moment : ℕ) (groups : List (Planned P))

@@ -20,7 +20,7 @@ use Rattle.link_simulation.proofs.Simulation.Queue.{preceded_none}
 use Rattle.link_simulation.proofs.Simulation.SettlingEnds.{ends_preceded}
 use Rattle.link_simulation.proofs.Rule.BeforeNext.{IsFront, fronts_first, first_found, none_before, both_before}
 use Rattle.link_simulation.proofs.Rule.BeforeNext.{filter_none}
-use Rattle.link_simulation.proofs.Rule.OneCourse.{least_is_one}
+use Rattle.link_simulation.proofs.Rule.OneCourse.{least_is_one, no_wake_of}
 use Rattle.link_simulation.proofs.Groups.Moments.{least_from}
 
 module _ {P : Type 0} (cmp : P → P → Ordering) (order : IsTotalOrder cmp) where
@@ -55,17 +55,10 @@ module _ {P : Type 0} (cmp : P → P → Ordering) (order : IsTotalOrder cmp) wh
 
   -- ---- a wake with no event due
 
-  woken_none : {t : ℕ} {ms : List (Message P)} {p : Planned P} {c : Course (Completed P) (Planned P)}
-      → WakesEach cmp t ms p c → ms ≡ []
-      → (q : Planned P) × PlansStart cmp t p q × (c ≡ goes [] q)
-  woken_none (all_started {q = q} plans) e = (q, plans, refl)
-  woken_none (no_start launch) e = cc
-  woken_none (no_finish launch finishes) e = cc
-  woken_none (starts_one launch finishes wakes) e = cc
-
-  pub none_wakes : (t from : ℕ) (p : Planned P) → t ≤ last_moment → from ≤ t → StartsFrom from p
-      → IfSome p.start (λ s. t < s) → filter (may_launch cmp t p) (fronts cmp p.waiting) ≡ []
-  none_wakes t from p within le planned later =
+  -- where no message may start, none starts
+  pub none_may : (t : ℕ) (p : Planned P) → (SomeReadyAt cmp p t → ⊥)
+      → filter (may_launch cmp t p) (fronts cmp p.waiting) ≡ []
+  none_may t p none =
       filter_none (may_launch cmp t p) (fronts cmp p.waiting)
       (each_map (IsFront cmp order p.waiting) (λ m. may_launch cmp t p m ≡ false) (fronts cmp p.waiting)
       (λ m front. by_may m (may_launch cmp t p m) refl
@@ -73,10 +66,14 @@ module _ {P : Type 0} (cmp : P → P → Ordering) (order : IsTotalOrder cmp) wh
       (fronts_first cmp order p.waiting))
     where
       by_may : (m : Message P) (b : Bool) → may_launch cmp t p m ≡ b → next_of cmp p m ≡ Some m → b ≡ false
-      by_may m true may found =
-          absurd
-          (none_before (λ s. (from ≤ s) × SomeReadyAt cmp p s) p.start planned t within later (le, (m, found, may)))
+      by_may m true may found = absurd (none (m, found, may))
       by_may m false may found = refl
+
+  pub none_wakes : (t from : ℕ) (p : Planned P) → t ≤ last_moment → from ≤ t → StartsFrom from p
+      → IfSome p.start (λ s. t < s) → filter (may_launch cmp t p) (fronts cmp p.waiting) ≡ []
+  none_wakes t from p within le planned later =
+      none_may t p
+      (λ ready. none_before (λ s. (from ≤ s) × SomeReadyAt cmp p s) p.start planned t within later (le, ready))
 
   from_later : (o : Option ℕ) (t : ℕ) → IfSome o (λ s. t < s) → IfSome o (λ s. t ≤ s)
   from_later None t h = tt
@@ -88,7 +85,7 @@ module _ {P : Type 0} (cmp : P → P → Ordering) (order : IsTotalOrder cmp) wh
       → ◌≡◌ {A = Course (Completed P) (Planned P)} (goes [] p) (goes cs q)
   wake_stays t from p q cs within le planned later wakes =
       let woken : (r : Planned P) × PlansStart cmp t p r × (goes cs q ≡ goes [] r) =
-      woken_none wakes (none_wakes t from p within le planned later) in
+      no_wake_of cmp wakes (none_wakes t from p within le planned later) in
       let still : IsLeastMoment (λ s. (t ≤ s) × SomeReadyAt cmp p s) p.start =
       least_from (SomeReadyAt cmp p) from t p.start le (from_later p.start t later) planned in
       let start : p.start ≡ woken.0.start =
@@ -133,7 +130,7 @@ module _ {P : Type 0} (cmp : P → P → Ordering) (order : IsTotalOrder cmp) wh
       → t ≤ last_moment → (from : ℕ) → from ≤ t → StartsFrom from p → (fault : Error) → c ≡ meets fault
       → (now : ℕ) → t ≤ now → Advances cmp now p n (meets fault)
   fault_later {t = t} (no_more {p = p} before wakes) within from le planned fault e now later =
-      let woken = woken_none wakes
+      let woken = no_wake_of cmp wakes
       (none_wakes t from p within le planned (both_before p.finish p.start t before).1) in
       let wrong : ◌≡◌ {A = Course (Completed P) (Planned P)} (meets fault) (goes [] woken.0) = sym e ∙ woken.2 in
       cc

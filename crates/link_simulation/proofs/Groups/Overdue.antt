@@ -1,14 +1,13 @@
 -- What is planned after a call or an advance comes at its moment or later.
-use Rattle.std.proofs.Common.{◌≡◌, ℕ, ◌+◌, ◌<◌, ◌≤◌, List, [], ◌∷◌, Bool, true, false, cond, max, Option, Some, None}
+use Rattle.std.proofs.Common.{◌≡◌, ℕ, ◌<◌, ◌≤◌, List, [], ◌∷◌, true, max, Option, Some, None}
 use Rattle.std.proofs.Common.{sym, ap, ◌∙◌, subst, arith, ◌⊎◌, inl, inr}
-use Rattle.std.specs.Prelude.{◌&&◌, nat_lt, if◌then◌else◌, IfSome, slice_get, slice_set}
+use Rattle.std.specs.Prelude.{IfSome, slice_get, slice_set}
 use Rattle.std.specs.declared.cmp.Ordering.{Ordering}
 use Rattle.std.specs.Cmp.{IsTotalOrder}
 use Rattle.std.proofs.lemmas.Bool.{cases_eq}
-use Rattle.fair_rates.specs.declared.error.Error.TheVariants.{MomentTooLate}
 use Rattle.link_simulation.specs.Simulation.Messages.{Message, Caps}
-use Rattle.link_simulation.specs.Simulation.World.{Completed, Course, goes, meets, last_moment, raised, later_of}
-use Rattle.link_simulation.specs.Simulation.World.{completion_of, completed, EndsWith}
+use Rattle.link_simulation.specs.Simulation.World.{Completed, Course, goes}
+use Rattle.link_simulation.specs.Simulation.World.{completed, EndsWith}
 use Rattle.link_simulation.specs.Simulation.Calls.{Call, call_limit, call_limit_link, call_enqueue, call_enqueue_all}
 use Rattle.link_simulation.specs.Simulation.Calls.{call_advance, call_next}
 use Rattle.link_simulation.specs.Rule.Planned.{Planned, IsLeastMoment, SomeReadyAt, next_event}
@@ -26,6 +25,7 @@ use Rattle.link_simulation.proofs.Groups.Moments.{from_both, from_each, past_bot
 use Rattle.link_simulation.proofs.Groups.Onward.{StartsFrom, finish_plans}
 use Rattle.link_simulation.proofs.Groups.Replanned.{rebalance_plans, advance_plans}
 use Rattle.link_simulation.proofs.Groups.Resting.{if_weaker}
+use Rattle.link_simulation.proofs.Rule.AtOnce.{at_once_ends}
 use Rattle.link_simulation.proofs.Rule.BeforeNext.{both_before}
 use Rattle.link_simulation.proofs.Simulation.OnePair.{ends_so}
 use Rattle.link_simulation.proofs.Simulation.SettlingEnds.{ends_preceded}
@@ -89,18 +89,7 @@ module _ {P : Type 0} (cmp : P → P → Ordering) (order : IsTotalOrder cmp) wh
 
     enqueue_holds : {m : Message P} {p : Planned P} {c : Course (Completed P) (Planned P)}
         → Enqueues cmp t m p c → Holds p → EndsWith Holds c
-    enqueue_holds {m = m} {p = p} (at_once free) h = by_late (m.should_deliver && nat_lt last_moment (t + m.latency))
-      where
-        at : ℕ
-        at = if m.should_deliver then later_of (p.last_arrival m.origin m.recipient) (t + m.latency) else t
-
-        by_late : (b : Bool)
-            → EndsWith Holds
-            (cond b (meets MomentTooLate)
-            (goes (completion_of m (if m.should_deliver then Some at else None) ∷ [])
-            (record p { last_arrival = raised cmp p.last_arrival m at })))
-        by_late true = tt
-        by_late false = h
+    enqueue_holds {m = m} {p = p} (at_once free) h = at_once_ends cmp Holds t p m (λ at. h)
     enqueue_holds (no_launch limits launch) h = tt
     enqueue_holds (launches limits launch finishes) h = finish_holds finishes (launch_holds launch h)
 
@@ -121,19 +110,7 @@ module _ {P : Type 0} (cmp : P → P → Ordering) (order : IsTotalOrder cmp) wh
 
   enqueue_starts : {t : ℕ} {m : Message P} {p : Planned P} {c : Course (Completed P) (Planned P)}
       → Enqueues cmp t m p c → StartsBy t p → EndsWith (StartsBy t) c
-  enqueue_starts {t = t} {m = m} {p = p} (at_once free) h =
-      by_late (m.should_deliver && nat_lt last_moment (t + m.latency))
-    where
-      at : ℕ
-      at = if m.should_deliver then later_of (p.last_arrival m.origin m.recipient) (t + m.latency) else t
-
-      by_late : (b : Bool)
-          → EndsWith (StartsBy t)
-          (cond b (meets MomentTooLate)
-          (goes (completion_of m (if m.should_deliver then Some at else None) ∷ [])
-          (record p { last_arrival = raised cmp p.last_arrival m at })))
-      by_late true = tt
-      by_late false = h
+  enqueue_starts {t = t} {m = m} {p = p} (at_once free) h = at_once_ends cmp (StartsBy t) t p m (λ at. h)
   enqueue_starts (no_launch limits launch) h = tt
   enqueue_starts {t = t} {c = c} (launches limits launch finishes) h =
       ends_so (StartsFrom cmp order t) (StartsBy t) c (starts_by t) (finish_plans cmp order finishes)

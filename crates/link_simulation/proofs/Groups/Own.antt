@@ -2,7 +2,7 @@
 use Rattle.std.proofs.Common.{◌≡◌, ℕ, ◌<◌, ◌≤◌, List, [], ◌∷◌, Bool, true, false, cond, not}
 use Rattle.std.proofs.Common.{Option, Some, None, refl, sym, ap, ◌∙◌, subst, arith}
 use Rattle.std.specs.Prelude.{◌&&◌, IfSome, if◌then◌else◌, slice_get}
-use Rattle.std.specs.List.{filter, find}
+use Rattle.std.specs.List.{filter}
 use Rattle.std.specs.declared.cmp.Ordering.{Ordering}
 use Rattle.std.proofs.lemmas.Bool.{and_parts}
 use Rattle.std.proofs.lemmas.List.{map-append}
@@ -23,6 +23,7 @@ use Rattle.link_simulation.proofs.Groups.Flights.{messages_stay}
 use Rattle.link_simulation.proofs.Groups.Homes.{both_common, each_drained, may_brought, updated_by}
 use Rattle.link_simulation.proofs.Groups.Keeping.{IsKept}
 use Rattle.link_simulation.proofs.Groups.Lists.{each_leaves}
+use Rattle.link_simulation.proofs.Rule.AtOnce.{none_waits}
 use Rattle.link_simulation.proofs.Laws.Orderly.{drained_messages}
 use Rattle.link_simulation.proofs.Rule.SameSteps.{least_same}
 
@@ -177,10 +178,7 @@ module _ {P : Type 0} (cmp : P → P → Ordering) (home : P → Option ℕ) (nu
     }
 
     pub none_ready : (q : Planned P) → q.waiting ≡ [] → (s : ℕ) → SomeReadyAt cmp q s → ⊥
-    none_ready q empty s some =
-        let none : find (same_pair cmp some.0) q.waiting ≡ None = ap (find (same_pair cmp some.0)) empty in
-        let there : find (same_pair cmp some.0) q.waiting ≡ Some some.0 = some.1 in
-        cc
+    none_ready q empty s some = none_waits cmp q s empty some
 
     -- before any limit nothing starts
     planned_raised : (now : ℕ) (p : Planned P) (m : Message P) (at : ℕ) → IsAtHome home number m

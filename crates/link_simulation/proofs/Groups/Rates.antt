@@ -50,7 +50,7 @@ abbrev pub AreRated : {P : Type 0} → ℕ → Parts → List (RatedFlight P) �
 AreRated per rates fs = AllZip (λ rate f. f.rate ≡ rate_of per rate) rates fs
 
 -- each of both ends in the set, or neither
-pub apart_at : {P : Type 0} (inside : P → Bool) (ms : List (Message P)) → AreApart inside ms → (m : Message P) → In ms m
+apart_at : {P : Type 0} (inside : P → Bool) (ms : List (Message P)) → AreApart inside ms → (m : Message P) → In ms m
     → inside m.origin ≡ inside m.recipient
 apart_at inside [] apart m h = absurd h
 apart_at {P} inside (n ∷ ms) apart m (inl e) =

@@ -1,14 +1,12 @@
 -- A call that starts or finishes anything plans the start anew, from its moment on.
-use Rattle.std.proofs.Common.{◌≡◌, ℕ, ◌≤◌, List, [], ◌∷◌, Bool, true, false, cond, Option, Some, None, refl}
-use Rattle.std.proofs.Common.{◌⊎◌, ◌+◌, inl, inr, arith}
-use Rattle.std.specs.Prelude.{◌&&◌, nat_lt, if◌then◌else◌}
+use Rattle.std.proofs.Common.{◌≡◌, ℕ, ◌≤◌, List, [], true, false, Option, Some, None, refl}
+use Rattle.std.proofs.Common.{◌⊎◌, inl, inr, arith}
 use Rattle.std.specs.declared.cmp.Ordering.{Ordering}
 use Rattle.std.specs.Cmp.{IsTotalOrder}
-use Rattle.fair_rates.specs.declared.error.Error.TheVariants.{MomentTooLate}
 use Rattle.fair_rates.specs.Sides.Subjects.{same_peer}
 use Rattle.link_simulation.specs.Simulation.Messages.{Message, Caps}
-use Rattle.link_simulation.specs.Simulation.World.{Completed, Course, goes, meets, last_moment, raised, later_of}
-use Rattle.link_simulation.specs.Simulation.World.{completion_of, EndsWith}
+use Rattle.link_simulation.specs.Simulation.World.{Completed, Course}
+use Rattle.link_simulation.specs.Simulation.World.{EndsWith}
 use Rattle.link_simulation.specs.Rule.Planned.{Planned, IsLeastMoment, SomeReadyAt}
 use Rattle.link_simulation.specs.Rule.Events.{Rebalances, none_sending, some_sending}
 use Rattle.link_simulation.specs.Rule.Events.{Enqueues, at_once, no_launch, launches, EnqueuesEach}
@@ -16,6 +14,7 @@ use Rattle.link_simulation.specs.Rule.Events.{all_enqueued, one_stops, enqueues_
 use Rattle.link_simulation.specs.Rule.Events.{at_start, finish_stops, start_stops}
 use Rattle.link_simulation.proofs.Groups.Onward.{StartsFrom, plans_from, finish_plans, wake_plans, settle_plans}
 use Rattle.link_simulation.proofs.Groups.Own.{IsPlannedBy, none_ready}
+use Rattle.link_simulation.proofs.Rule.AtOnce.{at_once_ends}
 use Rattle.link_simulation.proofs.Simulation.OnePair.{ends_so}
 use Rattle.link_simulation.proofs.Simulation.SettlingEnds.{ends_preceded}
 
@@ -33,18 +32,7 @@ module _ {P : Type 0} (cmp : P → P → Ordering) (order : IsTotalOrder cmp) wh
   pub enqueue_plans : {t : ℕ} {m : Message P} {p : Planned P} {c : Course (Completed P) (Planned P)}
       → Enqueues cmp t m p c → EndsWith (IsReplanned t) c
   enqueue_plans {t = t} {m = m} {p = p} (at_once free) =
-      by_late (m.should_deliver && nat_lt last_moment (t + m.latency))
-    where
-      at : ℕ
-      at = if m.should_deliver then later_of (p.last_arrival m.origin m.recipient) (t + m.latency) else t
-
-      by_late : (b : Bool)
-          → EndsWith (IsReplanned t)
-          (cond b (meets MomentTooLate)
-          (goes (completion_of m (if m.should_deliver then Some at else None) ∷ [])
-          (record p { last_arrival = raised cmp p.last_arrival m at })))
-      by_late true = tt
-      by_late false = inl free
+      at_once_ends cmp (IsReplanned t) t p m (λ at. inl free)
   enqueue_plans (no_launch limits launch) = tt
   enqueue_plans {t = t} {c = c} (launches limits launch finishes) =
       ends_so (StartsFrom cmp order t) (IsReplanned t) c (λ q starts. inr starts) (finish_plans cmp order finishes)

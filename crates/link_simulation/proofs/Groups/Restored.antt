@@ -15,7 +15,7 @@ module _ {X : Type 0} where
   set_itself zero (z ∷ zs) x at = let same : x ≡ z = cc in ap (λ y. y ∷ zs) same
   set_itself (suc n) (z ∷ zs) x at = ap (λ ys. z ∷ ys) (set_itself n zs x at)
 
-  pub set_back : (n : ℕ) (xs : List X) (x y : X) → slice_get xs n ≡ Some x → slice_set (slice_set xs n y) n x ≡ xs
+  set_back : (n : ℕ) (xs : List X) (x y : X) → slice_get xs n ≡ Some x → slice_set (slice_set xs n y) n x ≡ xs
   set_back n xs x y at = set_again n xs x y ∙ set_itself n xs x at
 
   pub restored_set : (rest : List (ℕ × X)) (n : ℕ) (xs : List X) (x y : X) → slice_get xs n ≡ Some x

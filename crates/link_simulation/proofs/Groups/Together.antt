@@ -23,12 +23,13 @@ use Rattle.link_simulation.specs.Rule.Events.{settling, Enqueues, EnqueuesEach, 
 use Rattle.link_simulation.specs.Rule.Groups.{started_before, together, IsAtHome, IsGroup, AreGroups}
 use Rattle.link_simulation.specs.Rule.Groups.{OthersRestAt, OthersRestThrough, brought, earliest, left_out}
 use Rattle.link_simulation.proofs.Groups.Advances.{AdvanceBeside, advances_beside}
+use Rattle.link_simulation.proofs.Groups.Beside.{part_accounted}
 use Rattle.link_simulation.proofs.Groups.Calls.{enqueues_beside, each_beside, limits_beside, links_beside}
 use Rattle.link_simulation.proofs.Groups.Calls.{RebalanceBeside}
 use Rattle.link_simulation.proofs.Groups.Finishes.{PlansHold, went_beside, met_beside}
 use Rattle.link_simulation.proofs.Groups.Flights.{drained_updated, drained_rated}
 use Rattle.link_simulation.proofs.Groups.Homes.{inside, is_set, home_at, own_sent, part_of_together, whole_waiting_in}
-use Rattle.link_simulation.proofs.Groups.Keeping.{enqueue_kept, enqueue_each_kept, rebalance_kept}
+use Rattle.link_simulation.proofs.Groups.Keeping.{each_any, enqueue_kept, enqueue_each_kept, rebalance_kept}
 use Rattle.link_simulation.proofs.Groups.Keeping.{advance_kept}
 use Rattle.link_simulation.proofs.Groups.LeftOut.{in_left_out, each_flat, if_earliest}
 use Rattle.link_simulation.proofs.Groups.Lists.{IsOwn}
@@ -283,25 +284,6 @@ module _ {P : Type 0} (cmp : P → P → Ordering) (order : IsTotalOrder cmp) (h
   each_own : (ms : List (Message P)) → Each (IsAtHome home number) ms → Each (IsOwn (inside home number)) ms
   each_own ms h = each_map (IsAtHome home number) (IsOwn (inside home number)) ms (λ m at. own_message m at) h
 
-  each_anything : (ms : List (Message P)) → Each (λ m. ⊤) ms
-  each_anything [] = tt
-  each_anything (m ∷ ms) = (tt, each_anything ms)
-
-  -- the same account
-  part_accounted : (after whole_after : Planned P) → IsPart cmp (inside home number) after whole_after
-      → IsPart cmp (inside home number) (record after { accounted = whole_after.accounted }) whole_after
-  part_accounted after whole_after is = record {
-    caps = is.caps;
-    limited = is.limited;
-    sending = is.sending;
-    waiting = is.waiting;
-    last_arrival = is.last_arrival;
-    next_id = is.next_id;
-    accounted = refl;
-    sending_apart = is.sending_apart;
-    waiting_apart = is.waiting_apart;
-  }
-
   module _ (now : ℕ) (within : now ≤ last_moment) (by_moment : moment ≤ now) (by_now : accounted ≤ now) where
     rests : OthersRestAt cmp home now number groups
         → OthersRest cmp (inside home number) now finish_next start_next whole
@@ -324,7 +306,7 @@ module _ {P : Type 0} (cmp : P → P → Ordering) (order : IsTotalOrder cmp) (h
         let same : whole_after.accounted ≡ after.accounted = sym went.part.accounted in
         let s : (whole_after ≡ all_after after whole_after.accounted) × groups_after now after whole_after.accounted
         = set_beside accounted now limited after whole_after by_moment (omega arith) by_now rest
-        (part_accounted after whole_after went.part)
+        (part_accounted cmp order (inside home number) set after whole_after went.part)
         (go_of_stay cmp order (inside home number) set accounted now now whole whole_after by_now (omega arith)
         went.others)
         plans.0 plans.1 (inl (sym same)) (λ i other here apart. sym (went.part.limited ∙ went.others.limited)) planned
@@ -391,12 +373,12 @@ module _ {P : Type 0} (cmp : P → P → Ordering) (order : IsTotalOrder cmp) (h
           (brought_planned cmp home number limited next_id accounted moment now groups group are at by_moment))
           (enqueue_each_kept cmp now (λ m. ⊤) (IsInOrder cmp order next_id) (IsInOrder cmp order next_id)
           (IsInOrder cmp order next_id) (in_order_kept cmp order next_id now) enqueues (omega arith)
-          (each_anything ms)
+          (each_any ms)
           (brought_in_order cmp order home homes limited next_id accounted moment groups are number group at))
           (obeys_orderly cmp order part after (call_enqueue_all now ms) cs enqueues brought_orderly)
           (enqueue_each_kept cmp now (λ m. ⊤) (IsInOrder cmp order next_id) (IsInOrder cmp order next_id)
           (IsInOrder cmp order next_id) (in_order_kept cmp order next_id now) went.1 (omega arith)
-          (each_anything ms)
+          (each_any ms)
           (together_in_order cmp order home homes limited next_id accounted moment groups are)) in
           (subst (λ (q : Planned P). EnqueuesEach cmp now ms whole (goes cs q)) s.0 went.1, s.1)
 
@@ -663,7 +645,8 @@ module _ {P : Type 0} (cmp : P → P → Ordering) (order : IsTotalOrder cmp) (h
               let same : q.accounted ≡ after.accounted = sym beside.1.part.accounted in
               let s : (q ≡ all_after after q.accounted) × groups_after now after q.accounted
               = set_beside from now limited after q by_moment accounted_by by_now
-              (λ on. rest_by_then now (omega arith)) (part_accounted after q beside.1.part) beside.1.others
+              (λ on. rest_by_then now (omega arith))
+              (part_accounted cmp order (inside home number) set after q beside.1.part) beside.1.others
               beside.1.finish beside.1.start (inl (sym same))
               (λ i other here apart. sym (beside.1.part.limited ∙ beside.1.others.limited))
               (advance_kept cmp now (IsAtHome home number) (KnowsOwn cmp home number) (IsAccounted cmp home number)

@@ -74,7 +74,7 @@ module _ {P : Type 0} (cmp : P → P → Ordering) (order : IsTotalOrder cmp) (i
   front_is_next p m front = first_found cmp order (same_pair cmp m) m front.0 p.waiting front.1
 
   -- the pairs that are ready in the part are all that are ready in the whole
-  pub ready_beside : (t : ℕ) (finish start : Option ℕ) (part whole : Planned P) → t ≤ last_moment
+  ready_beside : (t : ℕ) (finish start : Option ℕ) (part whole : Planned P) → t ≤ last_moment
       → IsPart cmp inside part whole → OthersRest cmp inside t finish start whole → IfSome start (λ s. t < s)
       → filter (may_launch cmp t part) (fronts cmp part.waiting)
       ≡ filter (may_launch cmp t whole) (fronts cmp whole.waiting)
@@ -134,7 +134,7 @@ module _ {P : Type 0} (cmp : P → P → Ordering) (order : IsTotalOrder cmp) (i
       (q : Planned P) × Finishes cmp t ms whole (goes cs q) × WentBeside cmp inside t whole p q
       × PlansHold cmp order inside set finish start p q
 
-  pub wake_each_beside : {t : ℕ} {ms : List (Message P)} {part : Planned P} {course : Course (Completed P) (Planned P)}
+  wake_each_beside : {t : ℕ} {ms : List (Message P)} {part : Planned P} {course : Course (Completed P) (Planned P)}
       → WakesEach cmp t ms part course → (finish start : Option ℕ) (whole : Planned P)
       → t ≤ last_moment → IsPart cmp inside part whole → OthersRest cmp inside t finish start whole
       → Each (IsOwn inside) ms → FinishIs cmp inside finish part whole

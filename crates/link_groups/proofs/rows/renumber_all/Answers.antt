@@ -4,10 +4,11 @@ use Rattle.std.proofs.lemmas.Option.{slice_get-get_or}
 use Rattle.link_events.specs.Steps.AsPlanned.{planned}
 use Rattle.link_groups.specs.declared.groups.Group.{Group}
 use Rattle.link_groups.specs.Together.Homes.{numbers, worlds}
+use Rattle.link_groups.proofs.Kept.Moments.{map_set}
 use Rattle.link_groups.proofs.Together.Fronts.{front_mapped, front_all, front_next}
 use Rattle.link_groups.proofs.Together.Gathering.{renumbered}
 use Rattle.link_groups.proofs.Together.Reading.{length_numbers}
-use Rattle.link_groups.proofs.Together.Setting.{get_map, map_set}
+use Rattle.link_groups.proofs.Together.Setting.{get_map}
 use Rattle.link_simulation.proofs.Groups.Restored.{set_itself}
 use Rattle.link_groups.proofs.rows.renumber_all.Goals as goal
 

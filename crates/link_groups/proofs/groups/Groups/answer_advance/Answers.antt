@@ -2,7 +2,7 @@ use Rattle.std.proofs.Common.{◌≡◌, ap, ◌∙◌}
 use Rattle.std.proofs.lemmas.Result.{err_from_is_err_and}
 use Rattle.link_simulation.specs.Simulation.Calls.{call_advance}
 use Rattle.link_groups.specs.Together.AsPlanned.{planned_together}
-use Rattle.link_groups.proofs.Together.Advanced.{refused_alike}
+use Rattle.link_groups.proofs.Together.Answering.{refused_same}
 use Rattle.link_groups.proofs.Together.Results.{where_none}
 use Rattle.link_groups.proofs.groups.Groups.answer_advance.Goals as goal
 
@@ -13,7 +13,7 @@ returns-in_err-answer-2-clause-refused g c =
     where_none c.in_ok-answer.field-0 (c.advance_apart.new.self ≡ c.args.self.now) c.in_default-2.is
     c.in_ok-answer.ensures.stays in
     rw (p.1, p.2)
-    (refused_alike g.P.Ord.cmp (planned_together g.P.Ord.cmp c.in_ok-copy.copy)
+    (refused_same g.P.Ord.cmp (call_advance c.args.now) _ (planned_together g.P.Ord.cmp c.in_ok-copy.copy)
     (planned_together g.P.Ord.cmp c.args.self.now)
-    (c.in_ok-copy.ensures.cases.planned ∙ ap (planned_together g.P.Ord.cmp) stays) (call_advance c.args.now) _
+    (c.in_ok-copy.ensures.cases.planned ∙ ap (planned_together g.P.Ord.cmp) stays)
     c.in_err-answer-2.ensures.refused)

@@ -7,7 +7,8 @@ use Rattle.link_events.specs.Steps.Answered.{IsAnswered}
 use Rattle.link_events.specs.Steps.AsPlanned.{planned}
 use Rattle.link_events.specs.Steps.Outgoing.{outgoing}
 use Rattle.link_groups.specs.Together.AsPlanned.{planned_together, home}
-use Rattle.link_groups.proofs.Together.Called.{home_own, home_within, all_answer, all_onward, all_refuse}
+use Rattle.link_groups.proofs.Together.Called.{home_within, all_answer, all_onward, all_refuse}
+use Rattle.link_groups.proofs.Together.Known.{home_own}
 use Rattle.link_groups.proofs.Together.Sent.{enqueue_all_sends, some_home, not_empty}
 use Rattle.link_groups.proofs.groups.Groups.enqueue_all_at.Goals as goal
 

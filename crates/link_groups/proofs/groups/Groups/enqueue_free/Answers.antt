@@ -6,7 +6,8 @@ use Rattle.link_simulation.specs.Rule.Planned.{Planned}
 use Rattle.link_events.specs.Steps.Answered.{IsAnswered}
 use Rattle.link_events.specs.Steps.AsPlanned.{planned}
 use Rattle.link_groups.specs.Together.AsPlanned.{planned_together, worlds_of}
-use Rattle.link_groups.proofs.Together.Called.{home_own, home_within, all_answer, all_onward, all_refuse}
+use Rattle.link_groups.proofs.Together.Called.{home_within, all_answer, all_onward, all_refuse}
+use Rattle.link_groups.proofs.Together.Known.{home_own}
 use Rattle.link_groups.proofs.Together.Sent.{enqueue_sends, free_part}
 use Rattle.link_groups.proofs.groups.Groups.enqueue_free.Goals as goal
 

@@ -8,10 +8,11 @@ use Rattle.link_groups.specs.declared.groups.Group.{Group}
 use Rattle.link_groups.specs.Together.AsPlanned.{home, worlds_of}
 use Rattle.link_groups.specs.Together.Homes.{numbers, worlds, home_of, ArePlaced}
 use Rattle.link_groups.specs.Together.Joined.{NoneStartsBefore, NoneSends}
+use Rattle.link_groups.proofs.Kept.Moments.{map_set}
 use Rattle.link_groups.proofs.Together.Known.{are_groups, world_at, within_groups, within_events}
 use Rattle.link_groups.proofs.Together.Reading.{length_worlds}
 use Rattle.link_groups.proofs.Together.Sending.{none_set}
-use Rattle.link_groups.proofs.Together.Setting.{length_kept, map_set, joined_set, one_still, numbers_set, worlds_set}
+use Rattle.link_groups.proofs.Together.Setting.{length_kept, joined_set, one_still, numbers_set, worlds_set}
 use Rattle.link_groups.proofs.Together.Setting.{rated_within, sends_no_more}
 use Rattle.link_groups.proofs.groups.Groups.exchange.Goals as goal
 

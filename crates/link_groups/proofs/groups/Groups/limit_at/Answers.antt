@@ -6,7 +6,8 @@ use Rattle.link_pairs.specs.Pairs.Messages.{completed_of}
 use Rattle.link_events.specs.Steps.Answered.{IsAnswered}
 use Rattle.link_events.specs.Steps.AsPlanned.{planned}
 use Rattle.link_groups.specs.Together.AsPlanned.{planned_together}
-use Rattle.link_groups.proofs.Together.Called.{home_own, home_within, all_answer, all_onward, all_refuse}
+use Rattle.link_groups.proofs.Together.Called.{home_within, all_answer, all_onward, all_refuse}
+use Rattle.link_groups.proofs.Together.Known.{home_own}
 use Rattle.link_groups.proofs.groups.Groups.limit_at.Goals as goal
 
 pub brought-requires : goal.brought-requires

@@ -7,10 +7,10 @@ use Rattle.link_pairs.specs.Pairs.Messages.{completed_of}
 use Rattle.link_events.specs.Steps.Answered.{IsAnswered}
 use Rattle.link_events.specs.Steps.AsPlanned.{planned}
 use Rattle.link_groups.specs.Together.AsPlanned.{planned_together}
-use Rattle.link_groups.proofs.Together.Called.{home_own}
 use Rattle.link_groups.proofs.Together.Newly.{newly_refuse, newly_home, newly_within, newly_answer}
 use Rattle.link_groups.proofs.Together.Newly.{newly_kept, newly_onward}
 use Rattle.link_groups.proofs.groups.Groups.limit_new.Goals as goal
+use Rattle.link_groups.proofs.Together.Known.{home_own}
 
 pub bring-requires : goal.bring-requires
 bring-requires g c =
