@@ -1,7 +1,7 @@
 -- What each step keeps of a planned world, the steps of calls keep.
 use Rattle.std.proofs.Common.{◌≡◌, ℕ, ◌≤◌, List, [], ◌∷◌, true, false, Option, Some, None, refl}
 use Rattle.std.proofs.Common.{subst, sym, arith}
-use Rattle.std.specs.Prelude.{IfSome}
+use Rattle.std.specs.Prelude.{⊤, IfSome}
 use Rattle.std.specs.declared.cmp.Ordering.{Ordering}
 use Rattle.fair_rates.proofs.Lists.Each.{Each, each_find}
 use Rattle.link_simulation.specs.Simulation.Messages.{Message, Caps, same_pair}

@@ -108,7 +108,7 @@ module _ {P : Type 0} (cmp : P → P → Ordering) (order : IsTotalOrder cmp) wh
             record {
               none_done = none_done;
               none_ready = ap (λ (t : ℕ). ready cmp t landed_u) follows.tallies.moment
-                  ∙ none_ready_at cmp order now landed_p landed_u (tallied same) (none_waits landed_p now empty);
+                  ∙ none_ready_at cmp order now landed_p landed_u (tallied same) (none_waits cmp landed_p now empty);
             };
         start = start_kept p landed_p p.start empty empty least;
       }
