@@ -48,7 +48,8 @@ const SPARED: usize = 3;
 /// Where more than so many have started since the last account, no level is looked for.
 const FEW_NEW: usize = 4;
 
-/// Where so many are in flight, or more, and all were touched, a search would mostly join too much.
+/// Where so many are in flight, or more, and all were touched, a search would mostly join too much. For
+/// each so many, one search more is spared.
 const MANY: usize = 56;
 
 /// The caps of peers and of pairs.
@@ -384,7 +385,7 @@ impl<P: Peer> Flights<P> {
         } else if self.unsearched > 0 {
             self.unsearched - 1
         } else if self.list.len() >= MANY {
-            SPARED
+            SPARED + self.list.len() / MANY
         } else {
             0
         }

@@ -19,8 +19,8 @@ pub record WouldStay {P : Type 0} (cmp : P → P → Ordering) (p : Planned P) (
   pub some_bytes : length m.bytes ≢ 0
   pub capped : is_unlimited cmp p.caps m ≡ false
 
--- the first waiting message of a pair has started, of which something is left and which uses a capped side; and what was
--- said of the rates of those in flight holds as before
+-- the first waiting message of a pair has started, of which something is left and which uses a capped side; and what
+-- was said of the rates of those in flight holds as before
 pub record StartsNext {P : Type 0} {a : _} {b : _} {c : _} (cmp : P → P → Ordering) (t : ℕ) (origin recipient : P)
     (old new : Ledger P a b c) : Type 0 where
   pub next : Message P
