@@ -256,7 +256,7 @@ impl<P: Peer> Groups<P> {
         ensures enqueues { OnOk result (Enqueues P.cmp now (message_of message) (planned_together P.cmp self.old)
             (goes [] (planned_together P.cmp self.new))) }
         ensures unchanged { OnErr result (planned_together P.cmp self.new ≡ planned_together P.cmp self.old) }
-        ensures counted { OnErr result (self.new.rated_anew ≡ self.old.rated_anew) }
+        ensures counted { self.new.rated_anew ≡ self.old.rated_anew }
         ensures refused { IfErr result (λ e. e ≡ Error.OutOfMemory) }
     {
         self.groups.wait(number, now, message)?;

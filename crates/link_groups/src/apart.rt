@@ -215,6 +215,7 @@ impl<P: Peer> Groups<P> {
         ensures next_id { self.new.next_id ≡ (planned P.cmp ledger).next_id }
         ensures accounted { self.new.accounted ≡ (planned P.cmp ledger).accounted }
         ensures planned_from { self.new.planned_from ≡ now }
+        ensures rated_anew { self.new.rated_anew ≡ ledger.flights.rated_anew }
         ensures number { result.number ≡ number }
         ensures ledger { slice_get self.old.groups number
             ≡ Some (record { number = number; ledger = result.ledger }) }
@@ -240,7 +241,8 @@ impl<P: Peer> Groups<P> {
     /// copied. Where memory is refused, it stays late.
     fn put_in_place(&mut self, former: Vec<Former<P>>)
         requires { All (λ one. one.number < length self.old.groups) former.items }
-        ensures { planned_together P.cmp self.new ≡ planned_together P.cmp self.old }
+        ensures planned { planned_together P.cmp self.new ≡ planned_together P.cmp self.old }
+        ensures rated_anew { self.new.rated_anew ≡ self.old.rated_anew }
     {
         if let Ok(places) = places_of(self.alloc, former) {
             put_all_in_place(&mut self.groups, &places);

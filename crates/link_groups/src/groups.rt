@@ -1,6 +1,6 @@
 //! The groups, side by side.
 ghost use Rattle.std.specs.Prelude.{◌≡◌, ◌<◌, ◌≤◌, [], true, false, map, length, slice_get, Some};
-ghost use Rattle.std.specs.Prelude.{IfOk, IfErr, IfSome};
+ghost use Rattle.std.specs.Prelude.{IfOk, IfErr, IfSome, if◌then◌else◌, ◌==◌, ◌&&◌};
 ghost use Rattle.link_simulation.specs.Rule.Planned.{next_event as next_of_planned, new_planned};
 ghost use Rattle.link_simulation.specs.Rule.Groups.{AreGroups, together};
 ghost use Rattle.link_events.specs.Steps.AsPlanned.{planned};
@@ -180,6 +180,8 @@ impl<P: Peer> Groups<P> {
             ≤ length (together_with P.cmp self.old number ledger (planned P.cmp ledger).accounted).sending }
         ensures together { planned_together P.cmp self.new
             ≡ together_with P.cmp self.old number ledger (planned P.cmp ledger).accounted }
+        ensures rated_anew { self.new.rated_anew ≡ (if events == 0 && (planned P.cmp ledger).next_id == self.old.next_id
+            then self.old.rated_anew else ledger.flights.rated_anew) }
     {
         let (next_id, rated_anew) = (self.next_id, self.rated_anew);
         let accounted = ledger.flights.at;

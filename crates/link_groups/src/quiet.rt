@@ -40,7 +40,9 @@ impl<P: Peer> Groups<P> {
     /// stays as it was planned.
     pub fn rest(&mut self, now: u64)
         requires { HasNothingDue P.cmp (planned_together P.cmp self.old) now }
-        ensures { Advances P.cmp now (planned_together P.cmp self.old) 0 (goes [] (planned_together P.cmp self.new)) }
+        ensures advances { Advances P.cmp now (planned_together P.cmp self.old) 0
+            (goes [] (planned_together P.cmp self.new)) }
+        ensures counted { self.new.rated_anew ≡ self.old.rated_anew }
     {
         if now < self.planned_from {
             self.plan_anew(now);
@@ -52,7 +54,9 @@ impl<P: Peer> Groups<P> {
     /// As `rest`, where time may go back: each group plans its start anew.
     fn plan_anew(&mut self, now: u64)
         requires { HasNothingDue P.cmp (planned_together P.cmp self.old) now }
-        ensures { Advances P.cmp now (planned_together P.cmp self.old) 0 (goes [] (planned_together P.cmp self.new)) }
+        ensures advances { Advances P.cmp now (planned_together P.cmp self.old) 0
+            (goes [] (planned_together P.cmp self.new)) }
+        ensures counted { self.new.rated_anew ≡ self.old.rated_anew }
     {
         self.groups.rest(&mut self.events, now);
         self.planned_from = now;

@@ -141,6 +141,17 @@ fn what_does_not_fit_is_rounded_down(rt: HostRuntime) -> Result<(), Fail> {
     Ok(())
 }
 
+/// So it is once another group has joined, whose units are none of these.
+#[test]
+fn a_group_joins_many_shares(rt: HostRuntime) -> Result<(), Fail> {
+    let mut calls = hundred_shares(rt.alloc())?;
+    calls.read("limit 99 200 1000 -\nsend 99 200 201 1000 0\nflying 101\n")?;
+    calls.read("send 99 200 3 10 0\nflying 102\n")?;
+    let readings = read_after(&rt, calls);
+    expect_rounded(&rt, readings.get(0));
+    Ok(())
+}
+
 /// Each account is one of all that is in flight: of a message of another group, of a new peer's caps.
 #[test]
 fn an_account_drains_other_groups_too(rt: HostRuntime) -> Result<(), Fail> {

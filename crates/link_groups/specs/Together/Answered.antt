@@ -39,8 +39,8 @@ module _ {P : Type 0} {a : _} {b : _} {c : _} (cmp : P → P → Ordering) where
       together cmp (home cmp g) (planned cmp ledger).limited (planned cmp ledger).next_id accounted
       (worlds_with g number ledger)
 
-  -- they stay groups with it, after an account at the first moment, with nothing due before the second
-  -- (`∥ A ∥₁` reads: there is an `A`)
+  -- they stay groups with it: the first moment is that of the last account, the second is the last one from which a
+  -- start was planned (`∥ A ∥₁` reads: there is an `A`)
   abbrev pub StayGroupsWith : Groups P a b c → ℕ → Ledger P a b c → ℕ → ℕ → Type 0
   StayGroupsWith g number ledger accounted now =
       ∥ AreGroups cmp (home cmp g) (planned cmp ledger).limited (planned cmp ledger).next_id accounted now

@@ -208,3 +208,77 @@ next 1500ms
 ",
     )
 }
+
+/// Sends, lists and advances that meet nothing, of three groups, with the messages that the last account rated anew. One
+/// that only waits makes no account.
+const COUNTED: &str = "\
+limit 0 1 1000 -
+limit 0 2 1000 -
+limit 0 3 1000 -
+send 0 1 11 1000 1s
+rated 1
+send 0 2 12 1000 0
+send 0 1 11 500 0
+rated 1
+list 0 2
+send 0 2 13 3000 0
+send 0 2 14 5000 0
+rated 3
+advance 100ms
+rated 3
+send 100ms 3 15 5000 0
+rated 1
+advance 1200ms
+done 0 2s
+rated 0
+send 1200ms 3 16 10 0
+rated 2
+send 1200ms 1 11 100 0
+rated 2
+next 1220ms
+";
+
+/// An advance past events of two groups, which stay apart.
+const COUNTED_APART: &str = "\
+limit 0 1 1000 -
+limit 0 2 1000 -
+limit 0 3 1000 -
+send 0 1 11 900 0
+send 0 2 12 500 0
+send 0 2 13 3000 0
+send 0 3 14 9000 0
+rated 1
+advance 1200ms
+done 0 900ms
+done 1 1s
+rated 1
+send 1200ms 1 15 100 0
+rated 1
+send 1200ms 2 16 100 0
+rated 2
+limit 1200ms 2 2000 -
+rated 2
+";
+
+/// An advance past events of two groups at one moment.
+const COUNTED_TOGETHER: &str = "\
+limit 0 1 1000 -
+limit 0 2 1000 -
+limit 0 3 1000 -
+send 0 1 11 1000 0
+send 0 2 12 500 0
+send 0 2 13 3000 0
+send 0 3 14 9000 0
+rated 1
+advance 1200ms
+done 0 1s
+done 1 1s
+rated 1
+";
+
+#[test]
+fn what_is_rated_anew_is_counted_in_its_group(rt: HostRuntime) -> Result<(), Fail> {
+    play::<u64>(&rt, 0, COUNTED)?;
+    play::<u64>(&rt, 0, COUNTED_APART)?;
+    play::<u64>(&rt, 0, COUNTED_TOGETHER)
+}

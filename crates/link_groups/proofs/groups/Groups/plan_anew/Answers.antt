@@ -23,7 +23,7 @@ invariant_of-self g c =
       kept = rested_kept total old c.args.now items same replanned;
     }
 
-pub returns : goal.returns
-returns g c =
+pub returns-clause-advances : goal.returns-clause-advances
+returns-clause-advances g c =
     rested_on g.met.P.Ord.total c.args.self.now c.args.now c.rest.new.self c.rest.ensures.numbers
     c.rest.ensures.replanned c.requires

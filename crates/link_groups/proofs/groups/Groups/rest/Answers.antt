@@ -19,7 +19,7 @@ invariant_of-self g c =
       kept = still_kept total old c.args.now within c.if-now-self.false c.requires;
     }
 
-pub returns-else-now-self : goal.returns-else-now-self
-returns-else-now-self g c =
+pub returns-else-now-self-clause-advances : goal.returns-else-now-self-clause-advances
+returns-else-now-self-clause-advances g c =
     let within : c.args.now ≤ last_moment = omega (arith, c.ranges.now.fits) in
     still_rests g.met.P.Ord.total c.args.self.now c.args.now within c.if-now-self.false c.requires
