@@ -33,7 +33,7 @@ returns-then-is_quiet-clause-made g c =
     (planned_together g.P.Ord.cmp c.args.self.now.groups) (planned_together g.P.Ord.cmp c.rest.new.self) []
     (same_itself g.P.Ord.cmp g.met.P.Ord.total (planned_together g.P.Ord.cmp c.args.self.now.groups) c.args.self.now.caps
     c.args.self.now.arrivals)
-    c.rest.ensures in
+    c.rest.ensures.advances in
     rw (ap (map completed_of) c.new.ensures.items)
     (promised_if g.P.Ord.cmp g.met.P.Ord.total (planned_together g.P.Ord.cmp c.args.self.now.groups)
     (planned_together g.P.Ord.cmp c.rest.new.self) (call_advance c.args.now) c.args.now [] refl c.ranges.now.fits
@@ -49,7 +49,7 @@ returns-then-is_quiet-clause-advanced g c =
     (planned_together g.P.Ord.cmp c.args.self.now.groups) (planned_together g.P.Ord.cmp c.rest.new.self) []
     (same_itself g.P.Ord.cmp g.met.P.Ord.total (planned_together g.P.Ord.cmp c.args.self.now.groups) c.args.self.now.caps
     c.args.self.now.arrivals)
-    c.rest.ensures in
+    c.rest.ensures.advances in
     let went : GoesByRule g.P.Ord.cmp (planned_together g.P.Ord.cmp c.args.self.now.groups) (call_advance c.args.now) []
     (planned_together g.P.Ord.cmp c.rest.new.self) =
     counted_goes g.P.Ord.cmp g.met.P.Ord.total c.args.now 0 (planned_together g.P.Ord.cmp c.args.self.now.groups)
@@ -72,7 +72,7 @@ returns-then-is_quiet-clause-counted g c =
     (planned_together g.P.Ord.cmp c.args.self.now.groups) (planned_together g.P.Ord.cmp c.rest.new.self) []
     (same_itself g.P.Ord.cmp g.met.P.Ord.total (planned_together g.P.Ord.cmp c.args.self.now.groups) c.args.self.now.caps
     c.args.self.now.arrivals)
-    c.rest.ensures in
+    c.rest.ensures.advances in
     record {
       by_rule = rw (ap (map completed_of) c.new.ensures.items) rested;
       few = omega arith;
