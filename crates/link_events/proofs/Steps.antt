@@ -2,10 +2,8 @@
 pub mod Advancing
 pub mod Answered
 pub mod Batch
-pub mod Drained
 pub mod FewerEvents
 pub mod Finishing
-pub mod Joined
 pub mod Landing
 pub mod Limits
 pub mod MessageCounts

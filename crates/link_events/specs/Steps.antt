@@ -2,7 +2,6 @@
 pub mod Answered
 pub mod AsPlanned
 pub mod Due
-pub mod Joining
 pub mod Landing
 pub mod Outgoing
 pub mod Parting

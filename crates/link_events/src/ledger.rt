@@ -10,7 +10,7 @@ ghost use Rattle.link_simulation.specs.Simulation.Messages.{OneForEachPair};
 
 use fair_rates::error::Error;
 use fair_rates::peer::Peer;
-use link_flights::flight_list::{Flights, earlier};
+use link_flights::flight_list::Flights;
 use link_pairs::known_pairs::Pairs;
 use link_pairs::peers::Peers;
 use link_waiting::idle_pairs::IdlePairs;
@@ -110,19 +110,11 @@ impl<P: Peer> Ledger<P> {
     }
 
     /// The state after a call takes the place of this one. Once the old lists are gone, nothing is
-    /// shared, and what is late is put in its place without a copy.
+    /// shared, and what is known of pairs and which messages wait is put in its place without a copy.
     pub fn replace_by(&mut self, next: Ledger<P>)
         ensures { planned P.cmp self.new ≡ planned P.cmp next }
     {
         *self = next;
-        self.put_in_place();
-    }
-
-    /// What is known of pairs and which messages wait is put in its place. To be called once no other
-    /// state shares these lists: then nothing is copied.
-    pub fn put_in_place(&mut self)
-        ensures { planned P.cmp self.new ≡ planned P.cmp self.old }
-    {
         self.pairs.settle();
         self.waiting.settle();
     }
@@ -152,7 +144,11 @@ impl<P: Peer> Ledger<P> {
     pub fn next_event(&self) -> Option<u64>
         ensures { result ≡ next_of_planned (planned P.cmp self.now) }
     {
-        earlier(self.finish, self.start)
+        match (self.finish, self.start) {
+            (Some(finish), Some(start)) => Some(finish.min(start)),
+            (Some(finish), None) => Some(finish),
+            (None, start) => start,
+        }
     }
 }
 

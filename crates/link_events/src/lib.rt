@@ -9,7 +9,6 @@ mod answers;
 mod batch;
 mod event;
 mod events;
-mod joining;
 mod leave;
 pub mod ledger;
 mod moves;

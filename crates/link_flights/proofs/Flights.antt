@@ -12,7 +12,6 @@ pub mod FewNear
 pub mod Flight
 pub mod Floors
 pub mod InFlight
-pub mod Joined
 pub mod Joining
 pub mod Leaving
 pub mod Listed

@@ -32,10 +32,12 @@ use std::rc::Rc;
 /// So many messages a component has room for before their list has to move. Most join no more.
 const FEW_JOINED: usize = 8;
 
-/// So many messages a component may join. Where there are more, it pays to rate all that is in flight.
+/// So many messages a component may join, and half of all in flight if that is more. Where there are
+/// more, it pays to rate all that is in flight.
 const MOST_JOINED: usize = 48;
 
-/// So many in flight a component may have an end of. Where there are more, it mostly joins too many.
+/// So many in flight a component may have an end of, and half of all if that is more. Where there are
+/// more, it mostly joins too many.
 const MOST_NEAR: usize = 56;
 
 /// The senders and the receivers of some messages, or all of them. A message in flight whose rate is
@@ -150,11 +152,12 @@ impl<P: Peer> Component<P> {
         Ok(())
     }
 
-    /// Whether it has too many ends.
-    fn is_large(&self) -> bool
-        ensures { result ≡ false → length self.now.joined.items ≤ MOST_JOINED }
+    /// Whether it has too many ends, of so many in flight.
+    fn is_large(&self, in_flight: usize) -> bool
+        ensures { result ≡ false → length self.now.joined.items ≤ MOST_JOINED + in_flight }
     {
-        self.joined.len() > MOST_JOINED || self.near.len() > MOST_NEAR
+        let half = in_flight / 2;
+        self.joined.len() > MOST_JOINED.max(half) || self.near.len() > MOST_NEAR.max(half)
     }
 }
 
@@ -357,7 +360,7 @@ impl<P: Peer> Flights<P> {
         ensures whole { component.new.whole ≡ component.old.whole }
         ensures refused { IfErr result (λ e. e ≡ Error.OutOfMemory) }
     {
-        if component.is_large() {
+        if component.is_large(self.list.len()) {
             return Ok(false);
         }
         self.list_joined(component)?;
@@ -368,7 +371,7 @@ impl<P: Peer> Flights<P> {
         }
         while next < component.joined.len() {
             self.list_joining(next, component)?;
-            if component.is_large() {
+            if component.is_large(self.list.len()) {
                 return Ok(false);
             }
             next += 1;
@@ -419,7 +422,8 @@ impl<P: Peer> Flights<P> {
     fn join_near(&self, component: &mut Component<P>) -> Result<bool, Error>
         ensures suited { IfOk result (λ all. all ≡ true →
             AreSuited P.cmp component.new component.new.near.items self.now.list.items) }
-        ensures few { IfOk result (λ all. all ≡ true → length component.new.joined.items ≤ MOST_JOINED) }
+        ensures few { IfOk result (λ all. all ≡ true
+            → length component.new.joined.items ≤ MOST_JOINED + length self.now.list.items) }
         ensures joined { OnOk result (StartsWith component.old.joined.items component.new.joined.items) }
         ensures near { component.new.near.items ≡ component.old.near.items }
         ensures level { component.new.level ≡ component.old.level }
@@ -427,12 +431,12 @@ impl<P: Peer> Flights<P> {
         ensures refused { IfErr result (λ e. e ≡ Error.OutOfMemory) }
     {
         for number in 0..component.near.len() {
-            if component.is_large() {
+            if component.is_large(self.list.len()) {
                 return Ok(false);
             }
             self.join_one(component.near[number], component)?;
         }
-        Ok(!component.is_large())
+        Ok(!component.is_large(self.list.len()))
     }
 
     /// Takes in the ends of the one at that place, if it keeps no rate.

@@ -59,7 +59,7 @@ pub struct Flights<P: Peer> {
 }
 
 /// The earlier of two moments, where there are any.
-pub fn earlier(first: Option<u64>, second: Option<u64>) -> Option<u64>
+pub(crate) fn earlier(first: Option<u64>, second: Option<u64>) -> Option<u64>
     ensures { result ≡ earliest first second }
 {
     match (first, second) {

@@ -11,6 +11,5 @@ mod component;
 mod flight;
 pub mod flight_list;
 mod fraction;
-mod joining;
 mod rates;
 pub mod reading;

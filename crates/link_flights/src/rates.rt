@@ -45,11 +45,13 @@ const FEW: usize = 2;
 /// So many searches for what an event touches are spared after one that joined all, or too much.
 const SPARED: usize = 3;
 
+/// No search is spared where less than this part of all in flight was rated anew.
+const PART: usize = 4;
+
 /// Where more than so many have started since the last account, no level is looked for.
 const FEW_NEW: usize = 4;
 
-/// Where so many are in flight, or more, and all were touched, a search would mostly join too much. For
-/// each so many, one search more is spared.
+/// Where so many are in flight, or more, and all were touched, a search would mostly join too much.
 const MANY: usize = 56;
 
 /// The caps of peers and of pairs.
@@ -380,12 +382,14 @@ impl<P: Peer> Flights<P> {
     /// How many accounts more are made without a search, after one at which all were touched or a
     /// component was found, with so many to rate. Only time hangs on it.
     fn spared_after(&self, whole: bool, found: usize) -> usize {
-        if !whole {
+        if self.rated_anew < self.list.len().div_ceil(PART) {
+            0
+        } else if !whole {
             if found == self.list.len() { SPARED } else { 0 }
         } else if self.unsearched > 0 {
             self.unsearched - 1
         } else if self.list.len() >= MANY {
-            SPARED + self.list.len() / MANY
+            SPARED
         } else {
             0
         }

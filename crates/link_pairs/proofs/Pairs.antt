@@ -1,6 +1,5 @@
 -- Look-ups by peer and by ordered pair.
 pub mod Entries
-pub mod Joined
 pub mod Late
 pub mod LookedUp
 pub mod PairOrder

@@ -60,10 +60,9 @@ pub fn later_of(last: Option<u64>, moment: u64) -> u64
 }
 
 impl<P: Peer> Pairs<P> {
-    ghost use Rattle.std.specs.Prelude.{[], ◌∷◌, OnOk, OnErr};
+    ghost use Rattle.std.specs.Prelude.{[], OnOk, OnErr};
     ghost use Rattle.fair_rates.specs.Sides.Subjects.{same_peer};
     ghost use Rattle.link_simulation.specs.Simulation.Messages.{with_link};
-    ghost use Rattle.link_simulation.specs.Rule.Groups.{either};
     ghost use Rattle.link_pairs.specs.Pairs.Entries.{arrival_of, raised_at};
 
     /// No pair.
@@ -196,53 +195,6 @@ impl<P: Peer> Pairs<P> {
         };
         self.entries.replace(alloc, at, raised)?;
         Ok(last)
-    }
-
-    /// The cap of the pair, and its last arrival.
-    fn known(&self, origin: &P, recipient: &P) -> (Option<usize>, Option<u64>)
-        ensures link { result.0 ≡ link_of P.cmp self.now.entries origin.now recipient.now }
-        ensures arrival { result.1 ≡ arrival_of P.cmp self.now.entries origin.now recipient.now }
-    {
-        match self.find(origin, recipient) {
-            Some(pair) => (pair.cap, pair.last_arrival),
-            None => (None, None),
-        }
-    }
-
-    /// What is known of the pair is known here, too, where nothing was.
-    fn add(&mut self, alloc: Global, pair: &Pair<P>) -> Result<(), Error>
-        ensures link { OnOk result ((origin recipient : P) → link_of P.cmp self.new.entries origin recipient
-            ≡ either (link_of P.cmp self.old.entries origin recipient)
-            (link_of P.cmp (pair.now ∷ []) origin recipient)) }
-        ensures arrival { OnOk result ((origin recipient : P) → arrival_of P.cmp self.new.entries origin recipient
-            ≡ either (arrival_of P.cmp self.old.entries origin recipient)
-            (arrival_of P.cmp (pair.now ∷ []) origin recipient)) }
-        ensures refused { IfErr result (λ e. e ≡ Error.OutOfMemory) }
-    {
-        let (origin, recipient) = (&pair.key.origin, &pair.key.recipient);
-        let (cap, last) = self.known(origin, recipient);
-        let cap = cap.or(pair.cap);
-        let last = last.or(pair.last_arrival);
-        self.linked |= cap.is_some();
-        self.set(alloc, origin, recipient, cap, last)
-    }
-
-    /// What is known of these pairs, and of others, where nothing is known here.
-    pub fn join(&self, alloc: Global, others: &Pairs<P>) -> Result<Pairs<P>, Error>
-        ensures link { IfOk result (λ joined. (origin recipient : P) → link_of P.cmp joined.entries origin recipient
-            ≡ either (link_of P.cmp self.now.entries origin recipient)
-            (link_of P.cmp others.now.entries origin recipient)) }
-        ensures arrival { IfOk result (λ joined. (origin recipient : P)
-            → arrival_of P.cmp joined.entries origin recipient
-            ≡ either (arrival_of P.cmp self.now.entries origin recipient)
-            (arrival_of P.cmp others.now.entries origin recipient)) }
-        ensures refused { IfErr result (λ e. e ≡ Error.OutOfMemory) }
-    {
-        let mut joined = self.clone()?;
-        for at in 0..others.entries.len() {
-            joined.add(alloc, others.entries.at(at))?;
-        }
-        Ok(joined)
     }
 
     /// All is put in its place, where memory allows. To be called once no other list shares these pairs:

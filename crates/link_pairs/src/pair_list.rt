@@ -1,6 +1,6 @@
 //! Pairs in their order, of which one is put in its place late.
 ghost use Rattle.std.specs.Prelude.{◌≡◌, ◌<◌, ◌≤◌, [], length, map, true, if◌then◌else◌, is_ok, option_map};
-ghost use Rattle.std.specs.Prelude.{slice_get, slice_set, Some};
+ghost use Rattle.std.specs.Prelude.{slice_get, slice_set};
 ghost use Rattle.std.specs.List.{insert};
 ghost use Rattle.std.specs.Ordering.{is_lt};
 ghost use Rattle.shared_list.specs.Places.{are_parted, IsParting};
@@ -67,24 +67,6 @@ impl<P: Peer> PairList<P> {
         match &self.late {
             Some(late) if late.at == at => (at, Some(Rc::as_ref(&late.pair))),
             _ => (at, pair),
-        }
-    }
-
-    /// The number of pairs.
-    pub(crate) fn len(&self) -> usize
-        ensures { result ≡ length self.now }
-    {
-        self.settled.len()
-    }
-
-    /// What is known of the pair at that place.
-    pub(crate) fn at(&self, at: usize) -> &Pair<P>
-        requires { at < length self.now }
-        ensures { slice_get self.now at ≡ Some result.now }
-    {
-        match &self.late {
-            Some(late) if late.at == at => Rc::as_ref(&late.pair),
-            _ => self.settled.at(at),
         }
     }
 

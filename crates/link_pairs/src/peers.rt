@@ -39,9 +39,8 @@ impl<P: Peer> Seek<PeerCaps<P>> for PlaceOfPeer<'_, P> {
 }
 
 impl<P: Peer> Peers<P> {
-    ghost use Rattle.std.specs.Prelude.{[], ◌∷◌, OnOk};
+    ghost use Rattle.std.specs.Prelude.{[], OnOk};
     ghost use Rattle.link_simulation.specs.Simulation.Messages.{with_cap};
-    ghost use Rattle.link_simulation.specs.Rule.Groups.{either};
     ghost use Rattle.link_pairs.specs.Pairs.PeerCaps.{egress_of, ingress_of};
 
     /// No peer has caps.
@@ -118,46 +117,6 @@ impl<P: Peer> Peers<P> {
             Err(at) => self.entries.insert(alloc, at, caps)?,
         }
         Ok(())
-    }
-
-    /// Both caps of the peer.
-    fn caps(&self, peer: &P) -> (Option<usize>, Option<usize>)
-        ensures egress { result.0 ≡ egress_of P.cmp self.now.entries peer.now }
-        ensures ingress { result.1 ≡ ingress_of P.cmp self.now.entries peer.now }
-    {
-        match self.find(peer) {
-            Some(caps) => (caps.egress, caps.ingress),
-            None => (None, None),
-        }
-    }
-
-    /// The peer has those caps, too, where it has none.
-    fn add(&mut self, alloc: Global, caps: &PeerCaps<P>) -> Result<(), Error>
-        ensures egress { OnOk result ((peer : P) → egress_of P.cmp self.new.entries peer
-            ≡ either (egress_of P.cmp self.old.entries peer) (egress_of P.cmp (caps.now ∷ []) peer)) }
-        ensures ingress { OnOk result ((peer : P) → ingress_of P.cmp self.new.entries peer
-            ≡ either (ingress_of P.cmp self.old.entries peer) (ingress_of P.cmp (caps.now ∷ []) peer)) }
-        ensures refused { IfErr result (λ e. e ≡ Error.OutOfMemory) }
-    {
-        let (egress, ingress) = self.caps(&caps.peer);
-        let egress = egress.or(caps.egress);
-        let ingress = ingress.or(caps.ingress);
-        self.set(alloc, &caps.peer, egress, ingress)
-    }
-
-    /// The caps of these peers, and those of others, where these have none.
-    pub fn join(&self, alloc: Global, others: &Peers<P>) -> Result<Peers<P>, Error>
-        ensures egress { IfOk result (λ joined. (peer : P) → egress_of P.cmp joined.entries peer
-            ≡ either (egress_of P.cmp self.now.entries peer) (egress_of P.cmp others.now.entries peer)) }
-        ensures ingress { IfOk result (λ joined. (peer : P) → ingress_of P.cmp joined.entries peer
-            ≡ either (ingress_of P.cmp self.now.entries peer) (ingress_of P.cmp others.now.entries peer)) }
-        ensures refused { IfErr result (λ e. e ≡ Error.OutOfMemory) }
-    {
-        let mut joined = self.clone()?;
-        for at in 0..others.entries.len() {
-            joined.add(alloc, others.entries.at(at))?;
-        }
-        Ok(joined)
     }
 }
 

@@ -5,5 +5,4 @@ pub mod Calling
 pub mod OneByOne
 pub mod Promises
 pub mod Replay
-pub mod Same
 pub mod SameIsPlanned

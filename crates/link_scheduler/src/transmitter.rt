@@ -1,7 +1,7 @@
 //! When each message arrives: a scheduler of messages over capped peers.
 ghost use Rattle.std.specs.Prelude.{◌≡◌, ◌≤◌, length, IfOk, IfErr, IsOk, OnErr};
 ghost use Rattle.link_simulation.specs.Laws.Orderly.{IsOrderly};
-ghost use Rattle.link_groups.specs.Together.AsPlanned.{planned_together};
+ghost use Rattle.link_events.specs.Steps.AsPlanned.{planned};
 ghost use Rattle.link_simulation.specs.Simulation.Calls.{call_limit, call_limit_link, call_enqueue, call_advance};
 ghost use Rattle.link_simulation.specs.Simulation.Messages.{CapsAlike, PairsAlike};
 ghost use Rattle.link_simulation.specs.Rule.Planned.{IsPlanned};
@@ -9,9 +9,9 @@ ghost use Rattle.link_simulation.specs.Rule.Planned.{IsPlanned};
 use bytes::Bytes;
 use fair_rates::error::Error;
 use fair_rates::peer::Peer;
+use link_events::ledger::Ledger;
 pub use link_events::outgoing::Outgoing;
 pub use link_flights::reading::{InFlight, Reading};
-use link_groups::groups::Groups;
 pub use link_pairs::completion::Completion;
 use link_pairs::message::Message;
 use std::alloc::Global;
@@ -61,13 +61,12 @@ use std::alloc::Global;
 /// leaves the scheduler in the range (`made.in_range`).
 #[derive(Drop)]
 pub struct State<P: Peer> {
-    groups: Groups<P>,
-    pub ghost caps: { CapsAlike P.cmp (planned_together P.cmp groups).caps (planned_together P.cmp groups).caps },
-    pub ghost arrivals: { PairsAlike P.cmp (planned_together P.cmp groups).last_arrival
-        (planned_together P.cmp groups).last_arrival },
+    ledger: Ledger<P>,
+    pub ghost caps: { CapsAlike P.cmp (planned P.cmp ledger).caps (planned P.cmp ledger).caps },
+    pub ghost arrivals: { PairsAlike P.cmp (planned P.cmp ledger).last_arrival (planned P.cmp ledger).last_arrival },
     // Here and in the clauses `∥ A ∥₁` reads: there is an `A`.
-    pub ghost right: { ∥ IsPlanned P.cmp (planned_together P.cmp groups) ∥₁ },
-    pub ghost orderly: { ∥ IsOrderly P.cmp (planned_together P.cmp groups) ∥₁ },
+    pub ghost right: { ∥ IsPlanned P.cmp (planned P.cmp ledger) ∥₁ },
+    pub ghost orderly: { ∥ IsOrderly P.cmp (planned P.cmp ledger) ∥₁ },
 }
 
 impl<P: Peer> State<P> {
@@ -95,7 +94,7 @@ impl<P: Peer> State<P> {
         ensures new { IsNew result first }
     {
         State {
-            groups: Groups::new(alloc, first),
+            ledger: Ledger::new(alloc, first),
         }
     }
 
@@ -131,7 +130,10 @@ impl<P: Peer> State<P> {
         ensures refused { IfErr result (IsRefused self.old (call_limit now peer.now egress ingress)) }
         ensures unchanged { OnErr result (self.new ≡ self.old) }
     {
-        self.groups.answer_limit(now, peer, egress, ingress)
+        let mut ledger = self.ledger.clone()?;
+        let completions = ledger.answer_limit(now, peer, egress, ingress)?;
+        self.ledger.replace_by(ledger);
+        Ok(completions)
     }
 
     /// Sets the cap of an ordered pair of peers from `now` on, and answers what completes at that
@@ -165,7 +167,10 @@ impl<P: Peer> State<P> {
         ensures refused { IfErr result (IsRefused self.old (call_limit_link now origin.now recipient.now cap)) }
         ensures unchanged { OnErr result (self.new ≡ self.old) }
     {
-        self.groups.answer_limit_link(now, origin, recipient, cap)
+        let mut ledger = self.ledger.clone()?;
+        let completions = ledger.answer_limit_link(now, origin, recipient, cap)?;
+        self.ledger.replace_by(ledger);
+        Ok(completions)
     }
 
     /// Sends a message at `now`, and answers what completes at that moment.
@@ -221,14 +226,21 @@ impl<P: Peer> State<P> {
         self.send(now, message)
     }
 
-    /// Sends a message.
+    /// Sends a message. Where it only has to wait, nothing is copied.
     fn send(&mut self, now: u64, message: Message<P>) -> Result<Vec<Completion<P>>, Error>
         ensures made { IfOk result (λ done. IsMade self.old
             (call_enqueue now (message_of message)) done.items self.new) }
         ensures refused { IfErr result (IsRefused self.old (call_enqueue now (message_of message))) }
         ensures unchanged { OnErr result (planned_of self.new ≡ planned_of self.old) }
     {
-        self.groups.answer_enqueue(now, message)
+        if self.ledger.has_to_wait(&message.origin, &message.recipient) {
+            self.ledger.wait(now, message)?;
+            return Ok(Vec::new(self.ledger.alloc));
+        }
+        let mut ledger = self.ledger.clone()?;
+        let completions = ledger.answer_free(now, message)?;
+        self.ledger.replace_by(ledger);
+        Ok(completions)
     }
 
     /// Sends messages at `now`, one after another in their order, and answers what completes at that
@@ -267,9 +279,12 @@ impl<P: Peer> State<P> {
         ensures unchanged { OnErr result (self.new ≡ self.old) }
     {
         if messages.is_empty() {
-            return Ok(Vec::new(self.groups.alloc));
+            return Ok(Vec::new(self.ledger.alloc));
         }
-        self.groups.answer_enqueue_all(now, messages)
+        let mut ledger = self.ledger.clone()?;
+        let completions = ledger.answer_enqueue_all(now, messages)?;
+        self.ledger.replace_by(ledger);
+        Ok(completions)
     }
 
     /// Lets time go on to `now`, in nanoseconds since the start, and answers what completes up to
@@ -322,9 +337,9 @@ impl<P: Peer> State<P> {
         ensures refused { IfErr result (IsRefused self.old (call_advance now)) }
         ensures unchanged { OnErr result (self.new ≡ self.old) }
     {
-        if self.groups.is_quiet(now) {
-            self.groups.rest(now);
-            return Ok((Vec::new(self.groups.alloc), 0));
+        if self.ledger.is_quiet(now) {
+            self.ledger.rest(now);
+            return Ok((Vec::new(self.ledger.alloc), 0));
         }
         self.handle_events(now)
     }
@@ -337,7 +352,10 @@ impl<P: Peer> State<P> {
         ensures refused { IfErr result (IsRefused self.old (call_advance now)) }
         ensures unchanged { OnErr result (self.new ≡ self.old) }
     {
-        self.groups.answer_advance(now)
+        let mut ledger = self.ledger.clone()?;
+        let (completions, events) = ledger.answer_advance(now)?;
+        self.ledger.replace_by(ledger);
+        Ok((completions, events))
     }
 
     /// The moment of the next event, in nanoseconds since the start: the next at which a message
@@ -349,7 +367,7 @@ impl<P: Peer> State<P> {
     pub fn next(&self) -> Option<u64>
         ensures next { IsNextOf self.now result }
     {
-        self.groups.next_event()
+        self.ledger.next_event()
     }
 
     /// What is in flight, in order of start: of each message its pair, what is left of it in bytes,
@@ -370,25 +388,24 @@ impl<P: Peer> State<P> {
         ensures read { IfOk result (λ readings. AllZip (IsReadAs P.cmp) (planned_of self.now).sending readings.items) }
         ensures refused { IfErr result (λ e. e ≡ Error.OutOfMemory) }
     {
-        self.groups.in_flight()
+        self.ledger.flights.read()
     }
 
     /// How many messages in flight were rated anew when rates were last given, by the last call that
     /// brought rates or by the last event of an advance. Each of these drained to that moment and
     /// got a rate and a finish of its own; all others in flight were left as they were kept.
     ///
-    /// It counts work, and has no part in what is answered. None is rated but those of one group, of
-    /// peers that exchange messages among themselves alone. Where messages start or end there, those
-    /// that share a sender or a receiver with them, directly or through others, are looked for; but
-    /// one that is slower than all that ended, and than the least share that a new one may get, goes
-    /// on as it is, and is not looked through. Where these are found, no other is rated anew. All of
-    /// the group are rated where they are many, or few of it are in flight, or a cap has changed, and
-    /// mostly at the next three events after all were. It takes no memory, changes nothing and is
-    /// never refused.
+    /// It counts work, and has no part in what is answered. Where messages start or end, those that
+    /// share a sender or a receiver with them, directly or through others, are looked for; but one
+    /// that is slower than all that ended, and than the least share that a new one may get, goes on
+    /// as it is, and is not looked through. Where these are found, no other is rated anew. All are
+    /// rated where they are many, or few are in flight, or a cap has changed. Where a quarter of all or
+    /// more got another rate so, all are rated at the next three events, too, as a rule. It takes no
+    /// memory, changes nothing and is never refused.
     pub fn rated_anew(&self) -> usize
         ensures counted { result ≡ rated_at_last self.now }
         ensures at_most_all { result ≤ length (planned_of self.now).sending }
     {
-        self.groups.rated_anew
+        self.ledger.flights.rated_anew
     }
 }

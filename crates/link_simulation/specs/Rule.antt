@@ -1,8 +1,5 @@
 -- The event rule: the planned world, its steps, and how it stands for the simulation.
-pub mod Advancing
 pub mod Events
-pub mod Groups
-pub mod Homes
 pub mod Leaving
 pub mod Planned
 pub mod Range

@@ -4,7 +4,6 @@ pub mod DueCounts
 pub mod DueMessages
 pub mod FirstStart
 pub mod Index
-pub mod Joined
 pub mod IndexChanges
 pub mod Moved
 pub mod Places

@@ -76,7 +76,7 @@ impl<P: Peer> Seek<IdlePair<P>> for After {
 }
 
 impl<P: Peer> IdlePairs<P> {
-    ghost use Rattle.std.specs.Prelude.{IfOk, ◌||◌};
+    ghost use Rattle.std.specs.Prelude.{IfOk};
     ghost use Rattle.std.specs.List.{AllZip, filter};
     ghost use Rattle.link_waiting.specs.Idle.Due.{NamesIdlePair, AreDue};
 
@@ -209,20 +209,6 @@ impl<P: Peer> IdlePairs<P> {
             return Ok(());
         }
         self.put(alloc, moment, origin, recipient)
-    }
-
-    /// These pairs, and others, each under its moment.
-    pub fn join(&self, alloc: Global, others: &IdlePairs<P>) -> Result<IdlePairs<P>, Error>
-        ensures listed { IfOk result (λ joined. (t : ℕ) (o r : P) → is_listed P.cmp joined.entries t o r
-            ≡ (is_listed P.cmp self.now.entries t o r || is_listed P.cmp others.now.entries t o r)) }
-        ensures refused { IfErr result (λ e. e ≡ Error.OutOfMemory) }
-    {
-        let mut joined = self.clone()?;
-        for at in 0..others.entries.len() {
-            let pair = others.entries.at(at);
-            joined.add(alloc, &pair.origin, &pair.recipient, pair.moment)?;
-        }
-        Ok(joined)
     }
 
     /// The pair, which is listed under the old moment alone, is listed under the new one alone. Where

@@ -56,9 +56,7 @@ impl<P: Peer> Waiting<P> {
     ghost use Rattle.std.specs.Prelude.{[], ◌&&◌};
     ghost use Rattle.fair_rates.specs.Sides.Subjects.{same_peer};
     ghost use Rattle.fair_rates.specs.Lists.WithoutFirst.{without_first};
-    ghost use Rattle.link_simulation.specs.Simulation.Messages.{pair_before};
     ghost use Rattle.link_simulation.specs.Rule.Planned.{queued};
-    ghost use Rattle.link_simulation.specs.Rule.Groups.{put_all};
     ghost use Rattle.link_pairs.specs.Pairs.Messages.{message_of};
     ghost use Rattle.link_pairs.specs.Pairs.Entries.{first_of};
     ghost use Rattle.link_waiting.specs.Idle.Waiting.{IsFirstPlace};
@@ -121,40 +119,13 @@ impl<P: Peer> Waiting<P> {
         ensures kept { OnErr result (self.new.messages ≡ self.old.messages) }
         ensures refused { IfErr result (λ e. e ≡ Error.OutOfMemory) }
     {
-        let message = Rc::new(alloc, message)?;
-        self.push_shared(alloc, message)
-    }
-
-    /// As `push`, of a message that other lists may share.
-    fn push_shared(&mut self, alloc: Global, message: Rc<Message<P>>) -> Result<(), Error>
-        ensures waiting { OnOk result (map message_of self.new.messages
-            ≡ queued P.cmp (message_of message.value) (map message_of self.old.messages)) }
-        ensures kept { OnErr result (self.new.messages ≡ self.old.messages) }
-        ensures refused { IfErr result (λ e. e ≡ Error.OutOfMemory) }
-    {
-        let sent = Rc::as_ref(&message);
         let place = PlaceOfNext {
-            origin: &sent.origin,
-            recipient: &sent.recipient,
+            origin: &message.origin,
+            recipient: &message.recipient,
         };
         let at = self.messages.place(&place);
-        self.messages.insert_shared(alloc, at, message)?;
+        self.messages.insert(alloc, at, message)?;
         Ok(())
-    }
-
-    /// The messages of these, and those of others, each of which joins those of its pair as the last one.
-    pub fn join(&self, alloc: Global, others: &Waiting<P>) -> Result<Waiting<P>, Error>
-        ensures waiting { IfOk result (λ joined. map message_of joined.messages
-            ≡ put_all (pair_before P.cmp) (map message_of self.now.messages) (map message_of others.now.messages)) }
-        ensures refused { IfErr result (λ e. e ≡ Error.OutOfMemory) }
-    {
-        let mut joined = self.clone()?;
-        let mut rest = others.messages.clone()?;
-        while rest.len() > 0 {
-            let message = rest.remove(0)?;
-            joined.push_shared(alloc, message)?;
-        }
-        Ok(joined)
     }
 
     /// Where memory allows, no edit is late any more.

@@ -9,7 +9,6 @@ pub use Rattle.link_simulation.specs.Simulation
 pub use Rattle.link_simulation.specs.Rule
 pub use Rattle.link_simulation.specs.Examples
 pub use Rattle.link_scheduler.specs.Calls
-pub use Rattle.link_groups.specs.Together
 pub use Rattle.link_events.specs.Steps
 pub use Rattle.link_flights.specs.Flights
 pub use Rattle.link_waiting.specs.Idle

@@ -226,21 +226,6 @@ impl<T: Drop> LateList<T> {
         ensures items { self.new ≡ (if is_ok result then insert self.old at item else self.old) }
         ensures fits { OnOk result (length self.new < 2 ^ 64) }
     {
-        let item = Rc::new(alloc, item).map_err(|_refused| AllocError)?;
-        self.insert_shared(alloc, at, item)
-    }
-
-    /// A shared item comes to stand at that place, before those from there on.
-    ///
-    /// # Errors
-    ///
-    /// `AllocError` where memory is refused, or where the number of items would not fit. The list
-    /// stays.
-    pub fn insert_shared(&mut self, alloc: Global, at: usize, item: Rc<T>) -> Result<(), AllocError>
-        requires { at ≤ length self.old }
-        ensures items { self.new ≡ (if is_ok result then insert self.old at item.value else self.old) }
-        ensures fits { OnOk result (length self.new < 2 ^ 64) }
-    {
         if let Late::Edits(window) = &mut self.late {
             if window.has_room(at) {
                 window.len(&self.settled).checked_add(1).ok_or(AllocError)?;
@@ -254,13 +239,14 @@ impl<T: Drop> LateList<T> {
         self.pace.come(at, at.saturating_add(1));
         if !self.settled.is_shared() {
             if !self.pace.is_even() {
-                return self.settled.put(alloc, at, item);
+                return self.settled.insert(alloc, at, item);
             }
-            self.settled.put(alloc, at, item)?;
+            self.settled.insert(alloc, at, item)?;
             self.open(at);
             return Ok(());
         }
         self.settled.len().checked_add(1).ok_or(AllocError)?;
+        let item = Rc::new(alloc, item).map_err(|_refused| AllocError)?;
         self.late = Late::Insertion { alloc, at, item };
         Ok(())
     }

@@ -93,15 +93,15 @@ impl<T: Drop> Window<T> {
         self.at <= at && at - self.at < self.leaf.len()
     }
 
-    /// A shared item comes to stand at that place.
-    pub(crate) fn insert(&mut self, at: usize, item: Rc<T>) -> Result<(), AllocError>
+    /// An item comes to stand at that place.
+    pub(crate) fn insert(&mut self, at: usize, item: T) -> Result<(), AllocError>
         requires { (self.old.at ≤ at) × (at - self.old.at ≤ length (items_at self.old.leaf)) }
         ensures at { self.new.at ≡ self.old.at }
         ensures skip { self.new.skip ≡ self.old.skip }
         ensures items { (list : List T) → self.old.at + self.old.skip ≤ length list → seen_through self.new list
-            ≡ (if is_ok result then insert (seen_through self.old list) at item.value
-            else seen_through self.old list) }
+            ≡ (if is_ok result then insert (seen_through self.old list) at item else seen_through self.old list) }
     {
+        let item = Rc::new(self.leaf.alloc(), item).map_err(|_refused| AllocError)?;
         self.leaf.put(at - self.at, item)
     }
 

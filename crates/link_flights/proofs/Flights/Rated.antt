@@ -1,22 +1,17 @@
 -- Messages in flight that have got fair rates: what keeps them so, and how they are read.
 use Rattle.std.proofs.Common.{◌≡◌, ℕ, ◌-◌, ◌<◌, Bool, true, false, cond, not, List, [], ◌∷◌}
 use Rattle.std.proofs.Common.{slice_index, refl, sym, ap, ◌∙◌, subst}
-use Rattle.std.specs.List.{AllZip, filter, flat_map}
+use Rattle.std.specs.List.{AllZip, filter}
 use Rattle.std.specs.declared.cmp.Ordering.{Ordering}
 use Rattle.std.proofs.Math.Logic.{∥∥₁_elim, ∥∥₁_map}
 use Rattle.std.proofs.Props.{props}
 use Rattle.fair_rates.specs.Sides.Caps.{Caps}
-use Rattle.fair_rates.specs.Fairness.Fair.{Side, IsFair}
 use Rattle.fair_rates.proofs.Fairness.Decided.{fair_if_so}
-use Rattle.fair_rates.proofs.Lists.Each.{Each}
-use Rattle.fair_rates.proofs.Lists.Zips.{zip_weaker}
-use Rattle.link_simulation.specs.Simulation.Messages.{Message}
-use Rattle.link_simulation.specs.Simulation.Rates.{capped_sides, sides_for}
-use Rattle.link_simulation.proofs.Groups.Rates.{SeesSame, unlimited_seen}
+use Rattle.link_simulation.specs.Simulation.Rates.{capped_sides}
 use Rattle.link_simulation.specs.Rule.Planned.{rated_messages, left_at, drained_to, is_spent}
 use Rattle.link_flights.specs.declared.flight_list.Flights.{Flights}
-use Rattle.link_flights.specs.Flights.Flight.{UnitFlight, DrainsTo, AreTimed}
-use Rattle.link_flights.specs.Flights.InFlight.{in_flight, in_units}
+use Rattle.link_flights.specs.Flights.Flight.{UnitFlight, DrainsTo}
+use Rattle.link_flights.specs.Flights.InFlight.{in_units}
 use Rattle.link_flights.specs.Flights.Rated.{sent_messages, rates_of, rated_ones, is_out, are_limited, AreFairlyRated}
 use Rattle.link_flights.specs.Flights.Rated.{AreRated, IsAsRated}
 use Rattle.link_flights.specs.Flights.RatedFlights.{rated_flight_of, sending_of}
@@ -116,19 +111,6 @@ module _ {P : Type 0} (cmp : P → P → Ordering) (caps : Caps P) where
       by_messages (u ∷ us) [] z = absurd z
       by_messages (u ∷ us) (v ∷ vs) z = rw (z.0.message, by_messages us vs z.1) refl
 
-  -- once they have drained on, their rates are as good
-  pub rated_drained : {a : _} {b : _} {c : _} (now : ℕ) (old new : Flights P a b c) → new.scale ≡ old.scale
-      → AllZip (DrainsTo now) (in_units old) (in_units new) → (AreTimed old.list.items → AreTimed new.list.items)
-      → AreRated cmp caps old → AreRated cmp caps new
-  rated_drained now old new scale drains timed rated =
-      let alike = zip_weaker (DrainsTo now) IsAsRated (drained_as_rated now) (in_units old) (in_units new) drains in
-      record {
-        fair = subst (λ n. AreFairlyRated cmp caps n (rated_ones (in_units new))) (sym scale)
-            (still_fair_after old.scale (in_units old) (in_units new) alike rated.fair);
-        limited = still_limited (in_units old) (in_units new) alike rated.limited;
-        timed = timed rated.timed;
-      }
-
   -- what is known to be so is so
   pub rated_if_so : {a : _} {b : _} {c : _} (flights : Flights P a b c) → ∥ AreRated cmp caps flights ∥₁
       → AreRated cmp caps flights
@@ -138,44 +120,3 @@ module _ {P : Type 0} (cmp : P → P → Ordering) (caps : Caps P) where
     limited = ∥∥₁_elim so (hlevel props) (λ f. f.limited);
     timed = ∥∥₁_elim so (hlevel props) (λ f. f.timed);
   }
-
-module _ {P : Type 0} (cmp : P → P → Ordering) (caps others : Caps P) where
-  -- what is so for all is so for those that have got a rate
-  seen_rated : (us : List (UnitFlight P)) → Each (SeesSame cmp caps others) (sent_messages us)
-      → Each (SeesSame cmp caps others) (sent_messages (rated_ones us))
-  seen_rated [] seen = tt
-  seen_rated (u ∷ us) seen = by_test u.rated (seen_rated us seen.1)
-    where
-      by_test : (b : Bool) → Each (SeesSame cmp caps others) (sent_messages (rated_ones us))
-          → Each (SeesSame cmp caps others) (sent_messages (cond b (u ∷ rated_ones us) (rated_ones us)))
-      by_test true ih = (seen.0, ih)
-      by_test false ih = ih
-
-  -- they are as limited under the other caps
-  limited_seen : (us : List (UnitFlight P)) → Each (SeesSame cmp caps others) (sent_messages us)
-      → are_limited cmp others us ≡ are_limited cmp caps us
-  limited_seen [] seen = refl
-  limited_seen (u ∷ us) seen =
-      rw (unlimited_seen cmp caps others (message_of u.message) seen.0, limited_seen us seen.1) refl
-
-  -- and use the same sides
-  sides_seen : (ms ks : List (Message P)) → Each (SeesSame cmp caps others) ks
-      → flat_map (sides_for cmp caps ms) ks ≡ flat_map (sides_for cmp others ms) ks
-  sides_seen ms [] seen = refl
-  sides_seen ms (k ∷ ks) seen = rw (seen.0.0, seen.0.1, seen.0.2, sides_seen ms ks seen.1) refl
-
-  -- their rates are as good under other caps that are the same for each of them
-  pub rated_seen : {a : _} {b : _} {c : _} (flights : Flights P a b c)
-      → Each (SeesSame cmp caps others) (rated_messages (in_flight flights))
-      → AreRated cmp caps flights → AreRated cmp others flights
-  rated_seen flights seen rated =
-      let own = seen_rated (in_units flights)
-      (subst (Each (SeesSame cmp caps others)) (sent_as_read flights.scale (in_units flights)) seen) in
-      record {
-        fair =
-            subst (λ (sides : List Side). IsFair sides flights.scale
-            (slice_index (rates_of (rated_ones (in_units flights)))))
-            (sides_seen (sent_messages (rated_ones (in_units flights))) _ own) rated.fair;
-        limited = limited_seen (rated_ones (in_units flights)) own ∙ rated.limited;
-        timed = rated.timed;
-      }

@@ -393,7 +393,7 @@ module _ {P : Type 0} (cmp : P → P → Ordering) where
       : Type 0 where
     pub walked : IsWalked cmp n new list
     pub joined : StartsWith old.joined.items new.joined.items
-    pub few : length new.joined.items ≤ 48
+    pub few : length new.joined.items ≤ 48 + length list
     pub level : IfSome floor (λ floor. new.level ≤ floor)
     pub whole : new.whole ≡ old.whole
 

@@ -163,18 +163,21 @@ module _ {P : Type 0} (cmp : P → P → Ordering) where
       some_refused [] p why some h same orderly = absurd (some refl)
       some_refused (m ∷ ms) p why some h same orderly = one_refused m ms p why h same orderly
 
-      -- ---- as they are answered
+      -- ---- on a copy that is read as what it is of
 
-      pub all_promised : (ms : List (Message P)) (p q : Planned P) (cs ds : List (Completed P))
-          → EnqueuesEach cmp now ms p (goes cs q) → AllZip (SameCompletion cmp) ds cs → CapsAlike cmp p.caps p.caps
+      pub copies_promised : (ms : List (Message P)) (p copy q : Planned P) (cs ds : List (Completed P)) → copy ≡ p
+          → EnqueuesEach cmp now ms copy (goes cs q) → AllZip (SameCompletion cmp) ds cs → CapsAlike cmp p.caps p.caps
           → PairsAlike cmp p.last_arrival p.last_arrival → ∥ IsPlanned cmp p ∥₁ → ∥ IsOrderly cmp p ∥₁
           → EachMade p (map (λ m. call_enqueue now m) ms) ds q
-      all_promised ms p q cs ds h answers caps arrivals right orderly =
-          each_promised h (same_itself cmp order p caps arrivals) right orderly ds answers
+      copies_promised ms p copy q cs ds is h answers caps arrivals right orderly =
+          each_promised (subst (λ (r : Planned P). EnqueuesEach cmp now ms r (goes cs q)) is h)
+          (same_itself cmp order p caps arrivals) right orderly ds answers
 
-      pub all_refused : (ms : List (Message P)) (p : Planned P) (why : Error) → length ms ≢ 0
-          → IsRefusedFor (λ fault. EnqueuesEach cmp now ms p (meets fault)) why → CapsAlike cmp p.caps p.caps
+      pub copies_refused : (ms : List (Message P)) (p copy : Planned P) (why : Error) → copy ≡ p → length ms ≢ 0
+          → IsRefusedFor (λ fault. EnqueuesEach cmp now ms copy (meets fault)) why → CapsAlike cmp p.caps p.caps
           → PairsAlike cmp p.last_arrival p.last_arrival → ∥ IsOrderly cmp p ∥₁
           → RefusesOne cmp p (map (λ n. call_enqueue now n) ms) why
-      all_refused ms p why some h caps arrivals orderly =
-          some_refused ms p why some h (same_itself cmp order p caps arrivals) orderly
+      copies_refused ms p copy why is some h caps arrivals orderly =
+          some_refused ms p why some
+          (subst (λ (r : Planned P). IsRefusedFor (λ fault. EnqueuesEach cmp now ms r (meets fault)) why) is h)
+          (same_itself cmp order p caps arrivals) orderly

@@ -13,8 +13,7 @@ use Rattle.link_pairs.specs.Pairs.Messages.{completed_of}
 use Rattle.link_simulation.specs.Rule.SamePlanned.{GoesByRule, AdvancesByRule}
 use Rattle.link_simulation.specs.Rule.Simulated.{IsSimulated, KeepsRange, IsRefusedInSimulation, IsNextInSimulation}
 use Rattle.link_simulation.specs.Rule.Simulated.{IsSplitAnywhere, KeepsToCaps}
-use Rattle.link_events.specs.Steps.AsPlanned.{HasNothingDue}
-use Rattle.link_groups.specs.Together.AsPlanned.{planned_together}
+use Rattle.link_events.specs.Steps.AsPlanned.{planned, HasNothingDue}
 use Rattle.link_simulation.specs.Simulation.World.{Completed, new_world}
 use Rattle.link_simulation.specs.Simulation.Calls.{Call, call_enqueue}
 use Rattle.link_simulation.specs.Laws.PairCompletions.{enqueued}
@@ -68,7 +67,7 @@ module _ {P : Type 0} (cmp : P → P → Ordering) where
 module _ {P : Type 0} {order : Ghosts P} {b : _} {c : _} where
   -- the planned world that a scheduler is read as
   abbrev pub planned_of : State P order b c → Planned P
-  planned_of s = planned_together order.cmp s.groups
+  planned_of s = planned order.cmp s.ledger
 
   -- nothing is limited and nothing was sent; flow ids begin at `first`
   pub record IsNew (s : State P order b c) (first : ℕ) : Type 0 where
@@ -117,4 +116,4 @@ module _ {P : Type 0} {order : Ghosts P} {b : _} {c : _} where
 
   -- how many of the messages in flight were rated anew at the last account, as they were counted
   abbrev pub rated_at_last : State P order b c → ℕ
-  rated_at_last s = s.groups.rated_anew
+  rated_at_last s = s.ledger.flights.rated_anew

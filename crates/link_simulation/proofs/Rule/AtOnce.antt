@@ -6,7 +6,7 @@ use Rattle.std.specs.List.{find, list_any}
 use Rattle.std.specs.declared.cmp.Ordering.{Ordering}
 use Rattle.std.specs.Cmp.{IsTotalOrder}
 use Rattle.link_simulation.specs.Simulation.World.{Completed, Course, World, completion_of, goes, is_done, last_moment}
-use Rattle.link_simulation.specs.Simulation.World.{later_of, meets, raised, ready, EndsWith}
+use Rattle.link_simulation.specs.Simulation.World.{later_of, meets, raised, ready}
 use Rattle.link_simulation.specs.Simulation.Calls.{Runs, act, call_enqueue, complete_at_once}
 use Rattle.link_simulation.specs.Rule.Events.{completed_at_once}
 use Rattle.link_simulation.specs.Simulation.Messages.{Message, same_pair}
@@ -19,36 +19,18 @@ use Rattle.link_simulation.proofs.Rule.Settling.{raised_alike}
 use Rattle.link_simulation.proofs.Rule.Limit.{IsReached, reaches}
 use Rattle.link_simulation.proofs.Simulation.Queue.{preceded_none}
 
-module _ {P : Type 0} (cmp : P → P → Ordering) where
-  -- what holds whichever arrival is the last one holds once a message has completed at once
-  pub at_once_ends : (Q : Planned P → Type 0) (t : ℕ) (p : Planned P) (m : Message P)
-      → ((at : ℕ) → Q (record p { last_arrival = raised cmp p.last_arrival m at }))
-      → EndsWith Q (completed_at_once cmp t p m)
-  at_once_ends Q t p m holds = by_late (m.should_deliver && nat_lt last_moment (t + m.latency))
-    where
-      at : ℕ
-      at = if m.should_deliver then later_of (p.last_arrival m.origin m.recipient) (t + m.latency) else t
-
-      by_late : (b : Bool)
-          → EndsWith Q
-          (cond b (meets MomentTooLate)
-          (goes (completion_of m (if m.should_deliver then Some at else None) ∷ [])
-          (record p { last_arrival = raised cmp p.last_arrival m at })))
-      by_late true = tt
-      by_late false = holds at
-
+module _ {P : Type 0} (cmp : P → P → Ordering) (order : IsTotalOrder cmp) where
   -- with nothing waiting, nothing is ever ready
-  pub none_waits : (p : Planned P) (t : ℕ) → p.waiting ≡ [] → SomeReadyAt cmp p t → ⊥
+  none_waits : (p : Planned P) (t : ℕ) → p.waiting ≡ [] → SomeReadyAt cmp p t → ⊥
   none_waits p t empty some = absurd_some (ap (find (same_pair cmp some.0)) (sym empty) ∙ some.1)
     where
       absurd_some : None ≡ Some some.0 → ⊥
       absurd_some e = cc
 
-module _ {P : Type 0} (cmp : P → P → Ordering) (order : IsTotalOrder cmp) where
   start_kept : (p q : Planned P) (o : Option ℕ) → p.waiting ≡ [] → q.waiting ≡ [] → IsLeastMoment (SomeReadyAt cmp p) o
       → IsLeastMoment (SomeReadyAt cmp q) o
-  start_kept p q None empty bare least = λ t within some. none_waits cmp q t bare some
-  start_kept p q (Some e) empty bare least = absurd (none_waits cmp p e empty least.1)
+  start_kept p q None empty bare least = λ t within some. none_waits q t bare some
+  start_kept p q (Some e) empty bare least = absurd (none_waits p e empty least.1)
 
   at_once : (now : ℕ) (p : Planned P) (u : World P) (m : Message P) → Follows cmp now p u
       → list_any (is_done cmp u) u.sending ≡ false → p.waiting ≡ [] → IsLeastMoment (SomeReadyAt cmp p) p.start
@@ -108,7 +90,7 @@ module _ {P : Type 0} (cmp : P → P → Ordering) (order : IsTotalOrder cmp) wh
             record {
               none_done = none_done;
               none_ready = ap (λ (t : ℕ). ready cmp t landed_u) follows.tallies.moment
-                  ∙ none_ready_at cmp order now landed_p landed_u (tallied same) (none_waits cmp landed_p now empty);
+                  ∙ none_ready_at cmp order now landed_p landed_u (tallied same) (none_waits landed_p now empty);
             };
         start = start_kept p landed_p p.start empty empty least;
       }

@@ -77,11 +77,11 @@ least_from Q decide (suc n) from end first =
     by_case (inr le) (inl q) ih = (Some from, (le, q, first))
     by_case (inr le) (inr none) ih = ih (later none)
 
-pub least_exists : (Q : ℕ → Type 0) → ((t : ℕ) → Q t ⊎ (Q t → ⊥)) → (o : Option ℕ) × IsLeastMoment Q o
+least_exists : (Q : ℕ → Type 0) → ((t : ℕ) → Q t ⊎ (Q t → ⊥)) → (o : Option ℕ) × IsLeastMoment Q o
 least_exists Q decide = least_from Q decide (suc last_moment) 0 (omega arith) (λ s q. omega arith)
 
 -- whether something is spent can be told
-pub spent_or_not : {P : Type 0} (fs : List (RatedFlight P)) (t : ℕ) → SomeSpentAt fs t ⊎ (SomeSpentAt fs t → ⊥)
+spent_or_not : {P : Type 0} (fs : List (RatedFlight P)) (t : ℕ) → SomeSpentAt fs t ⊎ (SomeSpentAt fs t → ⊥)
 spent_or_not {P} [] t = inr (λ h. none h.0 h.1 h.2)
   where
     none : (i : ℕ) (f : RatedFlight P) → slice_get [] i ≡ Some f → ⊥
@@ -237,7 +237,7 @@ module _ {P : Type 0} (cmp : P → P → Ordering) (order : IsTotalOrder cmp) wh
         finish = h.finish;
       }
 
-  pub finish_accounted : {t : ℕ} {ms : List (Message P)} {p : Planned P} {c : Course (Completed P) (Planned P)}
+  finish_accounted : {t : ℕ} {ms : List (Message P)} {p : Planned P} {c : Course (Completed P) (Planned P)}
       → Finishes cmp t ms p c → IsAccountedAt t p → EndsWith (IsAccountedAt t) c
   finish_accounted {t = t} {p = p} (all_completed {q = q} looks) h = planned_accounted t p q looks h
   finish_accounted (late is) h = tt

@@ -92,24 +92,6 @@ stays_flows t [] (f ∷ fs) all = absurd all
 stays_flows t (b ∷ bs) [] all = absurd all
 stays_flows t (b ∷ bs) (f ∷ fs) all = rw (all.0.1, stays_flows t bs fs all.1) refl
 
-module _ {P : Type 0} (cmp : P → P → Ordering) where
-  -- where nothing is left to be done, the start is planned anew
-  pub no_finish_of : {t : ℕ} {ms : List (Message P)} {p : Planned P} {c : Course (Completed P) (Planned P)}
-      → Finishes cmp t ms p c → ms ≡ []
-      → (q : Planned P) × PlansStart cmp t p q × (c ≡ goes [] q)
-  no_finish_of (all_completed {q = q} looks) e = (q, looks, refl)
-  no_finish_of (late is) e = cc
-  no_finish_of (stopped in_time launch) e = cc
-  no_finish_of (completes in_time launch rest) e = cc
-
-  pub no_wake_of : {t : ℕ} {ms : List (Message P)} {p : Planned P} {c : Course (Completed P) (Planned P)}
-      → WakesEach cmp t ms p c → ms ≡ []
-      → (q : Planned P) × PlansStart cmp t p q × (c ≡ goes [] q)
-  no_wake_of (all_started {q = q} looks) e = (q, looks, refl)
-  no_wake_of (no_start launch) e = cc
-  no_wake_of (no_finish launch finishes) e = cc
-  no_wake_of (starts_one launch finishes rest) e = cc
-
 module _ {P : Type 0} (cmp : P → P → Ordering) (order : IsTotalOrder cmp) where
   pub account_is_one : (t : ℕ) (old new other : Planned P) (ls ms : List (Message P)) → Accounts cmp t old ls new
       → Accounts cmp t old ms other
@@ -227,6 +209,14 @@ module _ {P : Type 0} (cmp : P → P → Ordering) (order : IsTotalOrder cmp) wh
       ⊎ ((is_late cmp t m ≡ false) × ((l : Course (Message P) (Planned P))
       × Launches cmp t (landed cmp t p m) (next_of cmp p m) l × FinishOn t m ms l c))
 
+  no_finish_of : {t : ℕ} {ms : List (Message P)} {p : Planned P} {c : Course (Completed P) (Planned P)}
+      → Finishes cmp t ms p c → ms ≡ []
+      → (q : Planned P) × PlansStart cmp t p q × (c ≡ goes [] q)
+  no_finish_of (all_completed {q = q} looks) e = (q, looks, refl)
+  no_finish_of (late is) e = cc
+  no_finish_of (stopped in_time launch) e = cc
+  no_finish_of (completes in_time launch rest) e = cc
+
   finish_of : {t : ℕ} {ms : List (Message P)} {p : Planned P} {c : Course (Completed P) (Planned P)}
       → Finishes cmp t ms p c → (m : Message P) (ns : List (Message P)) → ms ≡ m ∷ ns
       → Finish t m ns p c
@@ -267,7 +257,7 @@ module _ {P : Type 0} (cmp : P → P → Ordering) (order : IsTotalOrder cmp) wh
       → Finishes cmp t ms p c
       → (d : Course (Completed P) (Planned P)) → Finishes cmp t ms p d → c ≡ d
   finish_is_one {t = t} {p = p} (all_completed {q = q} looks) d f =
-      let g : (r : Planned P) × PlansStart cmp t p r × (d ≡ goes [] r) = no_finish_of cmp f refl in
+      let g : (r : Planned P) × PlansStart cmp t p r × (d ≡ goes [] r) = no_finish_of f refl in
       ap (goes []) (look_is_one t p q g.0 looks g.1) ∙ sym g.2
   finish_is_one {t = t} {p = p} (late {m = m} {ms = ms} is) d f = by_case (finish_of f m ms refl)
     where
@@ -309,6 +299,14 @@ module _ {P : Type 0} (cmp : P → P → Ordering) (order : IsTotalOrder cmp) wh
   abbrev Wake : ℕ → Message P → List (Message P) → Planned P → Course (Completed P) (Planned P) → Type 0
   Wake t m ms p c = (l : Course (Message P) (Planned P)) × Launches cmp t p (next_of cmp p m) l × WakeFrom t ms l c
 
+  no_wake_of : {t : ℕ} {ms : List (Message P)} {p : Planned P} {c : Course (Completed P) (Planned P)}
+      → WakesEach cmp t ms p c → ms ≡ []
+      → (q : Planned P) × PlansStart cmp t p q × (c ≡ goes [] q)
+  no_wake_of (all_started {q = q} looks) e = (q, looks, refl)
+  no_wake_of (no_start launch) e = cc
+  no_wake_of (no_finish launch finishes) e = cc
+  no_wake_of (starts_one launch finishes rest) e = cc
+
   wake_of : {t : ℕ} {ms : List (Message P)} {p : Planned P} {c : Course (Completed P) (Planned P)}
       → WakesEach cmp t ms p c → (m : Message P) (ns : List (Message P)) → ms ≡ m ∷ ns
       → Wake t m ns p c
@@ -336,7 +334,7 @@ module _ {P : Type 0} (cmp : P → P → Ordering) (order : IsTotalOrder cmp) wh
       → WakesEach cmp t ms p c
       → (d : Course (Completed P) (Planned P)) → WakesEach cmp t ms p d → c ≡ d
   wake_is_one {t = t} {p = p} (all_started {q = q} looks) d w =
-      let g : (r : Planned P) × PlansStart cmp t p r × (d ≡ goes [] r) = no_wake_of cmp w refl in
+      let g : (r : Planned P) × PlansStart cmp t p r × (d ≡ goes [] r) = no_wake_of w refl in
       ap (goes []) (look_is_one t p q g.0 looks g.1) ∙ sym g.2
   wake_is_one {t = t} {p = p} (no_start {m = m} {ms = ms} {fault = fault} launch) d w =
       let h : Wake t m ms p d = wake_of w m ms refl in

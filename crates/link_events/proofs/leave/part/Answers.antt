@@ -1,5 +1,7 @@
-use Rattle.std.proofs.Common.{◌≡◌, not, Result, Ok, Err, IfOk, ap, sym, ◌∙◌, subst}
-use Rattle.std.specs.List.{filter}
+use Rattle.std.proofs.Common.{◌≡◌, ℕ, not, Result, Ok, Err, IfOk, ap, sym, ◌∙◌, subst}
+use Rattle.std.specs.List.{filter, AllZip}
+use Rattle.std.specs.declared.cmp.Ordering.{Ordering}
+use Rattle.link_flights.specs.declared.flight_list.Flights.{Flights}
 use Rattle.fair_rates.proofs.Lists.Zips.{zip_weaker}
 use Rattle.link_simulation.specs.Rule.Planned.{drained_to, is_spent, rated_messages}
 use Rattle.link_flights.specs.Flights.Flight.{DrainsTo}
@@ -8,11 +10,20 @@ use Rattle.link_flights.specs.Flights.Rated.{IsAsRated, is_out, ArePartedBy, IsF
 use Rattle.link_flights.specs.Flights.RatedFlights.{sending_of}
 use Rattle.link_pairs.specs.Pairs.Messages.{messages}
 use Rattle.link_pairs.specs.Pairs.CapsOf.{caps_of}
-use Rattle.link_flights.proofs.Flights.Rated.{drained_as_rated, still_fair_after, still_limited}
+use Rattle.link_flights.proofs.Flights.Rated.{drained_as_rated, drained_sending, still_fair_after, still_limited}
 use Rattle.link_flights.proofs.Flights.Rated.{out_as_read, stay_as_read}
-use Rattle.link_events.proofs.Steps.Drained.{drained_so}
 use Rattle.link_events.proofs.Steps.OneEach.{one_if_so, one_stays}
 use Rattle.link_events.proofs.leave.part.Goals as goal
+
+-- ---- what has drained
+
+module _ {P : Type 0} {a : _} {b : _} {c : _} (cmp : P → P → Ordering) (now : ℕ) (old drained : Flights P a b c)
+    (scale : drained.scale ≡ old.scale) (all : AllZip (DrainsTo now) (in_units old) (in_units drained)) where
+  -- as it is read
+  drained_so : in_flight drained ≡ drained_to now (in_flight old)
+  drained_so =
+      ap (λ n. sending_of n (in_units drained)) scale
+      ∙ drained_sending old.scale now (in_units old) (in_units drained) old.scaled all
 
 pub take_done-requires-clause-limited : goal.take_done-requires-clause-limited
 take_done-requires-clause-limited g c e =
@@ -41,7 +52,7 @@ returns-clause-parted g c =
     let drained = c.drain.new.self in
     let left = c.take_done.new.self in
     let scale = c.take_done.ensures.scale in
-    let drains = drained_so c.args.now old drained c.drain.ensures.scale c.in_ok-drain.ensures.drained in
+    let drains = drained_so cmp c.args.now old drained c.drain.ensures.scale c.in_ok-drain.ensures.drained in
     if_ok_both c.take_done.result (λ done parted floor.
     let stays : in_flight left ≡ filter (λ f. not (is_spent cmp caps f)) (drained_to c.args.now (in_flight old)) =
     ap (λ n. sending_of n (in_units left)) scale

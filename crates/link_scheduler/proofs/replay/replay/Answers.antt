@@ -3,7 +3,7 @@ use Rattle.std.specs.Result.{is_ok}
 use Rattle.std.specs.Vec.{vec_capacity, vec_len}
 use Rattle.std.proofs.lemmas.List.{length-map, get_or-map, map-append}
 use Rattle.link_simulation.specs.Rule.Planned.{new_planned}
-use Rattle.link_groups.specs.Together.AsPlanned.{planned_together}
+use Rattle.link_events.specs.Steps.AsPlanned.{planned}
 use Rattle.link_scheduler.specs.Calls.Replay.{call_of, reply_of}
 use Rattle.link_scheduler.proofs.Calls.Replay.{begins, has_room, goes_on, ends, one_for_each}
 use Rattle.link_simulation.specs.Simulation.World.{new_world}
@@ -18,7 +18,7 @@ use Rattle.link_scheduler.proofs.replay.replay.Goals as goal
 
 pub loop-call-init : goal.loop-call-init
 loop-call-init g c =
-    begins g.P.Ord.cmp g.met.P.Ord.total (new_planned 0) (planned_together g.P.Ord.cmp c.new-state.result.groups)
+    begins g.P.Ord.cmp g.met.P.Ord.total (new_planned 0) (planned g.P.Ord.cmp c.new-state.result.ledger)
     (map call_of c.args.calls.now) (map reply_of c.in_ok-replies.replies.items) (vec_len c.in_ok-replies.replies)
     (vec_capacity c.in_ok-replies.replies)
     (ap (map reply_of) c.in_ok-replies.ensures.items) c.in_ok-replies.ensures.len
@@ -29,7 +29,7 @@ pub unwrap-requires : goal.unwrap-requires
 unwrap-requires g c =
     c.push.ensures.succeeds (has_room g.P.Ord.cmp g.met.P.Ord.total (new_planned 0)
     (map call_of c.args.calls.now) c.loop-call.call-index (map reply_of c.loop-call.replies.items)
-    (vec_len c.loop-call.replies) (vec_capacity c.loop-call.replies) (planned_together g.P.Ord.cmp c.loop-call.state.groups)
+    (vec_len c.loop-call.replies) (vec_capacity c.loop-call.replies) (planned g.P.Ord.cmp c.loop-call.state.ledger)
     c.loop-call.invariant
     (subst (λ n. c.loop-call.call-index < n) (sym (length-map c.args.calls.now call_of)) c.loop-call-test.true))
 
@@ -46,7 +46,7 @@ loop-call-preserved g c =
     (goes_on g.P.Ord.cmp g.met.P.Ord.total (new_planned 0) (map call_of c.args.calls.now) c.loop-call.call-index
     (map reply_of c.loop-call.replies.items) (vec_len c.loop-call.replies) (vec_capacity c.loop-call.replies)
     (vec_capacity c.push.new.self)
-    (planned_together g.P.Ord.cmp c.loop-call.state.groups) (planned_together g.P.Ord.cmp c.answer.new.state.groups)
+    (planned g.P.Ord.cmp c.loop-call.state.ledger) (planned g.P.Ord.cmp c.answer.new.state.ledger)
     (call_of c.call-item.result) (reply_of c.answer.result) c.loop-call.invariant
     (subst (λ n. c.loop-call.call-index < n) (sym (length-map c.args.calls.now call_of)) c.loop-call-test.true)
     (ap call_of c.call-item.is ∙ sym (get_or-map call_of c.args.calls.now c.loop-call.call-index c.call-item.result
@@ -54,17 +54,17 @@ loop-call-preserved g c =
     c.answer.ensures.reply)
 
 -- all calls are replied to by the event rule, and come at moments
-replied : (g : _) (c : goal.After-drop-state-3 g)
+replied : (g : _) (c : goal.Joined-state-7 g)
     → Obeyed g.P.Ord.cmp (new_planned 0) (map call_of c.args.calls.now) (map reply_of c.loop-call.replies.items)
     × InTime (map call_of c.args.calls.now)
 replied g c =
     ends g.P.Ord.cmp g.met.P.Ord.total (new_planned 0) (map call_of c.args.calls.now) c.loop-call.call-index
     (map reply_of c.loop-call.replies.items) (vec_len c.loop-call.replies) (vec_capacity c.loop-call.replies)
-    (planned_together g.P.Ord.cmp c.loop-call.state.groups) c.loop-call.invariant
+    (planned g.P.Ord.cmp c.loop-call.state.ledger) c.loop-call.invariant
     (subst (λ n. n ≤ c.loop-call.call-index) (sym (length-map c.args.calls.now call_of)) c.loop-call-test.false)
 
 -- and so they are those of the simulation
-agreed : (g : _) (c : goal.After-drop-state-3 g)
+agreed : (g : _) (c : goal.Joined-state-7 g)
     → Agrees g.P.Ord.cmp (new_world 0) (map call_of c.args.calls.now) (map reply_of c.loop-call.replies.items)
 agreed g c =
     obeyed_agree g.P.Ord.cmp g.met.P.Ord.total (map call_of c.args.calls.now) (map reply_of c.loop-call.replies.items)

@@ -1,7 +1,7 @@
 use Rattle.std.proofs.Common.{map}
 use Rattle.std.specs.Vec.{vec_capacity, vec_len}
 use Rattle.link_simulation.specs.Rule.Planned.{new_planned}
-use Rattle.link_groups.specs.Together.AsPlanned.{planned_together}
+use Rattle.link_events.specs.Steps.AsPlanned.{planned}
 use Rattle.link_scheduler.specs.Calls.Replay.{call_of, reply_of}
 use Rattle.link_scheduler.proofs.Calls.Replay.{IsUnderway}
 use Rattle.link_scheduler.proofs.replay.replay.Given as goal
@@ -9,4 +9,4 @@ use Rattle.link_scheduler.proofs.replay.replay.Given as goal
 abbrev pub invariant-loop-call : goal.invariant-loop-call
 invariant-loop-call g l =
     IsUnderway g.P.Ord.cmp g.met.P.Ord.total (new_planned 0) (map call_of l.calls) l.call-index
-    (map reply_of l.replies.items) (vec_len l.replies) (vec_capacity l.replies) (planned_together g.P.Ord.cmp l.state.groups)
+    (map reply_of l.replies.items) (vec_len l.replies) (vec_capacity l.replies) (planned g.P.Ord.cmp l.state.ledger)

@@ -1,5 +1,5 @@
 use Rattle.std.proofs.Common.{[]}
-use Rattle.std.proofs.Common.{◌≡◌, ◌≤◌, ◌++◌, length, take, refl, sym, ap, ◌∙◌, subst, arith}
+use Rattle.std.proofs.Common.{◌≡◌, ◌≤◌, ◌+◌, ◌++◌, length, take, refl, sym, ap, ◌∙◌, subst, arith}
 use Rattle.std.specs.Prelude.{IfSome}
 use Rattle.std.proofs.Math.Seq.{take-append_seam}
 use Rattle.std.proofs.lemmas.List.{append-nil, take_all}
@@ -41,11 +41,13 @@ loop-next-preserved g c =
     let before = c.loop-next.invariant in
     let join = c.list_joining.ensures in
     let more = c.in_ok-list_joining.ensures in
+    let small : length c.list_joining.new.component.joined.items ≤ 48 + c.len-in-loop-next-2.result =
+    c.is_large-in-loop-next.ensures c.if-is_large-2.false in
     record {
       walked = more.walked;
       joined = starts_on c.join_near.new.component.joined.items c.loop-next.component.joined.items
           c.list_joining.new.component.joined.items before.joined more.joined;
-      few = c.is_large-in-loop-next.ensures c.if-is_large-2.false;
+      few = omega (arith, small, c.len-in-loop-next-2.ensures);
       level = subst (λ level. IfSome c.args.self.now.floor (λ floor. level ≤ floor)) (sym join.level) before.level;
       whole = join.whole ∙ before.whole;
     }

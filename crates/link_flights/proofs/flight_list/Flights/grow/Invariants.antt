@@ -1,4 +1,4 @@
-use Rattle.std.proofs.Common.{◌-◌}
+use Rattle.std.proofs.Common.{◌-◌, ◌+◌, length}
 use Rattle.link_flights.proofs.Flights.Search.{HasGrown}
 use Rattle.link_flights.proofs.flight_list.Flights.grow.Given as goal
 
@@ -6,4 +6,4 @@ abbrev pub invariant-loop-next : goal.invariant-loop-next
 invariant-loop-next g l = HasGrown g.P.Ord.cmp l.self.list.items l.self.floor l.next l.initial.component l.component
 
 abbrev pub decreases-loop-next : goal.decreases-loop-next
-decreases-loop-next g l = 48 - l.next
+decreases-loop-next g l = 48 + length l.self.list.items - l.next

@@ -1,4 +1,4 @@
-use Rattle.link_groups.specs.Together.AsPlanned.{planned_together}
+use Rattle.link_events.specs.Steps.AsPlanned.{planned}
 use Rattle.link_simulation.specs.Simulation.Replies.{reply_refused}
 use Rattle.link_scheduler.specs.Calls.Replay.{reply_of}
 use Rattle.link_scheduler.proofs.Calls.Replay.{reply_same, answered_by_rule, refused_by_rule}
@@ -7,17 +7,17 @@ use Rattle.link_scheduler.proofs.replay.Call+P.answer.Goals as goal
 
 pub returns-in-Err-make-clause-reply : goal.returns-in-Err-make-clause-reply
 returns-in-Err-make-clause-reply g c =
-    reply_same g.P.Ord.cmp g.met.P.Ord.total (planned_together g.P.Ord.cmp c.args.state.now.groups)
-    (planned_together g.P.Ord.cmp c.make.new.state.groups) (reply_refused c.in-Err-make.error)
+    reply_same g.P.Ord.cmp g.met.P.Ord.total (planned g.P.Ord.cmp c.args.state.now.ledger)
+    (planned g.P.Ord.cmp c.make.new.state.ledger) (reply_refused c.in-Err-make.error)
     (same_itself g.P.Ord.cmp g.met.P.Ord.total
-    (planned_together g.P.Ord.cmp c.args.state.now.groups) c.args.state.now.caps c.args.state.now.arrivals) c.in-Ok.ensures.same
+    (planned g.P.Ord.cmp c.args.state.now.ledger) c.args.state.now.caps c.args.state.now.arrivals) c.in-Ok.ensures.same
     (refused_by_rule c.args.state.now c.make.new.state _ c.in-Err-make.error c.in-Err-make.ensures.refused
     c.in-Err-make.ensures.unchanged)
 
 pub returns-in-Ok-make-clause-reply : goal.returns-in-Ok-make-clause-reply
 returns-in-Ok-make-clause-reply g c =
-    reply_same g.P.Ord.cmp g.met.P.Ord.total (planned_together g.P.Ord.cmp c.args.state.now.groups)
-    (planned_together g.P.Ord.cmp c.make.new.state.groups) (reply_of c.in-Ok-make.reply)
+    reply_same g.P.Ord.cmp g.met.P.Ord.total (planned g.P.Ord.cmp c.args.state.now.ledger)
+    (planned g.P.Ord.cmp c.make.new.state.ledger) (reply_of c.in-Ok-make.reply)
     (same_itself g.P.Ord.cmp g.met.P.Ord.total
-    (planned_together g.P.Ord.cmp c.args.state.now.groups) c.args.state.now.caps c.args.state.now.arrivals) c.in-Ok.ensures.same
+    (planned g.P.Ord.cmp c.args.state.now.ledger) c.args.state.now.caps c.args.state.now.arrivals) c.in-Ok.ensures.same
     (answered_by_rule c.args.state.now c.make.new.state _ c.in-Ok-make.reply c.in-Ok-make.ensures.made)

@@ -1,6 +1,6 @@
 use Rattle.std.proofs.Common.{map, rules}
 use Rattle.std.proofs.lemmas.Result.{err_from_is_err_and}
-use Rattle.link_groups.specs.Together.AsPlanned.{planned_together}
+use Rattle.link_events.specs.Steps.AsPlanned.{planned}
 use Rattle.link_events.specs.Steps.Outgoing.{outgoing}
 use Rattle.link_pairs.specs.Pairs.Messages.{completed_of}
 use Rattle.link_scheduler.proofs.Calls.AsOneCall.{made_as_one, refused_as_one}
@@ -22,7 +22,7 @@ returns-clause-made g c = elim c.match-self.branch [
   | in-EnqueueAll+in_ok-completions-in-EnqueueAll w ↦ rw (w.in-EnqueueAll.is, w.state-is, w.completions-is)
       (made_as_one g.P.Ord.cmp g.met.P.Ord.total w.in-EnqueueAll.now (search rules)
       (map outgoing w.in-EnqueueAll.messages.items)
-      (planned_together g.P.Ord.cmp c.args.state.now.groups) (planned_together g.P.Ord.cmp w.enqueue_all.new.self.groups)
+      (planned g.P.Ord.cmp c.args.state.now.ledger) (planned g.P.Ord.cmp w.enqueue_all.new.self.ledger)
       (map completed_of w.in_ok-completions-in-EnqueueAll.completions.items) c.args.state.now.caps
       c.args.state.now.arrivals
       c.args.state.now.orderly w.in_ok-completions-in-EnqueueAll.ensures.made)
@@ -44,5 +44,5 @@ returns-in_err-completions-in-EnqueueAll-clause-refused g c =
     c.from_residual-in_err-completions-in-EnqueueAll.ensures.1 in
     rw (c.in-EnqueueAll.is, p.1, p.2)
     (refused_as_one g.P.Ord.cmp g.met.P.Ord.total c.in-EnqueueAll.now (search rules)
-    (map outgoing c.in-EnqueueAll.messages.items) (planned_together g.P.Ord.cmp c.args.state.now.groups) _
+    (map outgoing c.in-EnqueueAll.messages.items) (planned g.P.Ord.cmp c.args.state.now.ledger) _
     c.in_err-completions-in-EnqueueAll.ensures.refused)

@@ -1,69 +1,82 @@
 use Rattle.std.proofs.Common.{map, refl}
+use Rattle.std.proofs.lemmas.Result.{err_from_is_err_and}
 use Rattle.link_simulation.specs.Simulation.Calls.{call_advance}
-use Rattle.link_groups.specs.Together.AsPlanned.{planned_together}
+use Rattle.link_events.specs.Steps.AsPlanned.{planned}
 use Rattle.link_pairs.specs.Pairs.Messages.{completed_of}
-use Rattle.link_groups.proofs.Together.AllPlanned.{caps_together, arrivals_together}
-use Rattle.link_groups.proofs.Together.AllPlanned.{is_right_together, is_orderly_together}
-use Rattle.link_scheduler.proofs.Calls.Answered.{advanced_on}
-use Rattle.link_scheduler.proofs.Calls.Answered.{answer_map, error_map}
+use Rattle.link_pairs.proofs.Pairs.LookedUp.{looked_up, arrivals_looked_up}
+use Rattle.link_scheduler.proofs.Calls.Answered.{advanced_on_copy, refused_on_copy}
 use Rattle.link_scheduler.proofs.Calls.Calling.{counted_goes}
-use Rattle.link_scheduler.proofs.Calls.Promises.{promised_if, split_on, within_caps_on, cause_of}
-use Rattle.link_scheduler.proofs.Calls.Same.{stays_if}
+use Rattle.link_scheduler.proofs.Calls.Promises.{promised_if, split_on, within_caps_on}
 use Rattle.link_scheduler.proofs.transmitter.State.handle_events.Goals as goal
 
+pub returns-in_err-completions-clause-refused : goal.returns-in_err-completions-clause-refused
+returns-in_err-completions-clause-refused g c =
+    let p =
+    err_from_is_err_and c.from_residual-in_err-completions.result c.from_residual-in_err-completions.ensures.1 in
+    rw (p.1, p.2)
+    (refused_on_copy g.P.Ord.cmp g.met.P.Ord.total (planned g.P.Ord.cmp c.args.self.now.ledger)
+    (planned g.P.Ord.cmp c.in_ok-ledger.ledger)
+    (call_advance c.args.now)
+    c.args.now _ refl c.ranges.now.fits
+    c.in_ok-ledger.ensures.cases c.in_err-completions.ensures.refused)
+
 pub invariant_of-self-clause-caps : goal.invariant_of-self-clause-caps
-invariant_of-self-clause-caps g c = caps_together g.met.P.Ord.total c.answer_advance.new.self
+invariant_of-self-clause-caps g c =
+    looked_up g.P.Ord.cmp g.met.P.Ord.total c.replace_by.new.self.peers.entries c.replace_by.new.self.pairs.entries
 
 pub invariant_of-self-clause-arrivals : goal.invariant_of-self-clause-arrivals
-invariant_of-self-clause-arrivals g c = arrivals_together g.met.P.Ord.total c.answer_advance.new.self
+invariant_of-self-clause-arrivals g c =
+    arrivals_looked_up g.P.Ord.cmp g.met.P.Ord.total c.replace_by.new.self.pairs.entries
 
 pub invariant_of-self-clause-right : goal.invariant_of-self-clause-right
-invariant_of-self-clause-right g c = is_right_together g.met.P.Ord.total c.answer_advance.new.self
+invariant_of-self-clause-right g c =
+    (advanced_on_copy g.P.Ord.cmp g.met.P.Ord.total c.args.now c.in_ok-completions.events
+    (planned g.P.Ord.cmp c.args.self.now.ledger) (planned g.P.Ord.cmp c.in_ok-ledger.ledger)
+    (planned g.P.Ord.cmp c.answer_advance.new.self) (planned g.P.Ord.cmp c.replace_by.new.self)
+    (map completed_of c.in_ok-completions.completions.items) c.in_ok-ledger.ensures.cases
+    c.in_ok-completions.ensures.answered c.replace_by.ensures c.args.self.now.caps c.args.self.now.arrivals
+    c.args.self.now.right c.args.self.now.orderly).right
 
 pub invariant_of-self-clause-orderly : goal.invariant_of-self-clause-orderly
-invariant_of-self-clause-orderly g c = is_orderly_together g.met.P.Ord.total c.answer_advance.new.self
+invariant_of-self-clause-orderly g c =
+    (advanced_on_copy g.P.Ord.cmp g.met.P.Ord.total c.args.now c.in_ok-completions.events
+    (planned g.P.Ord.cmp c.args.self.now.ledger) (planned g.P.Ord.cmp c.in_ok-ledger.ledger)
+    (planned g.P.Ord.cmp c.answer_advance.new.self) (planned g.P.Ord.cmp c.replace_by.new.self)
+    (map completed_of c.in_ok-completions.completions.items) c.in_ok-ledger.ensures.cases
+    c.in_ok-completions.ensures.answered c.replace_by.ensures c.args.self.now.caps c.args.self.now.arrivals
+    c.args.self.now.right c.args.self.now.orderly).orderly
 
 pub returns-clause-counted : goal.returns-clause-counted
 returns-clause-counted g c =
-    answer_map c.answer_advance.result _ _ c.answer_advance.ensures.answered (λ answer h.
-    let so = advanced_on g.P.Ord.cmp g.met.P.Ord.total c.args.now answer.1
-    (planned_together g.P.Ord.cmp c.args.self.now.groups) (planned_together g.P.Ord.cmp c.answer_advance.new.self)
-    (map completed_of answer.0.items) h c.args.self.now.caps c.args.self.now.arrivals
-    c.args.self.now.right in
-    record { by_rule = so.by_rule; few = so.few })
+    let so = advanced_on_copy g.P.Ord.cmp g.met.P.Ord.total c.args.now c.in_ok-completions.events
+    (planned g.P.Ord.cmp c.args.self.now.ledger) (planned g.P.Ord.cmp c.in_ok-ledger.ledger)
+    (planned g.P.Ord.cmp c.answer_advance.new.self) (planned g.P.Ord.cmp c.replace_by.new.self)
+    (map completed_of c.in_ok-completions.completions.items) c.in_ok-ledger.ensures.cases
+    c.in_ok-completions.ensures.answered c.replace_by.ensures c.args.self.now.caps c.args.self.now.arrivals
+    c.args.self.now.right c.args.self.now.orderly in
+    record { by_rule = so.by_rule; few = so.few }
 
 pub returns-clause-made : goal.returns-clause-made
 returns-clause-made g c =
-    answer_map c.answer_advance.result _ _ (returns-clause-counted g c) (λ answer counted.
-    promised_if g.P.Ord.cmp g.met.P.Ord.total (planned_together g.P.Ord.cmp c.args.self.now.groups)
-    (planned_together g.P.Ord.cmp c.answer_advance.new.self) (call_advance c.args.now) c.args.now
-    (map completed_of answer.0.items) refl c.ranges.now.fits c.args.self.now.orderly
-    (counted_goes g.P.Ord.cmp g.met.P.Ord.total c.args.now answer.1
-    (planned_together g.P.Ord.cmp c.args.self.now.groups) (planned_together g.P.Ord.cmp c.answer_advance.new.self)
-    (map completed_of answer.0.items) counted.by_rule))
+    promised_if g.P.Ord.cmp g.met.P.Ord.total (planned g.P.Ord.cmp c.args.self.now.ledger)
+    (planned g.P.Ord.cmp c.replace_by.new.self) (call_advance c.args.now) c.args.now
+    (map completed_of c.in_ok-completions.completions.items) refl c.ranges.now.fits c.args.self.now.orderly
+    (counted_goes g.P.Ord.cmp g.met.P.Ord.total c.args.now c.in_ok-completions.events
+    (planned g.P.Ord.cmp c.args.self.now.ledger) (planned g.P.Ord.cmp c.replace_by.new.self)
+    (map completed_of c.in_ok-completions.completions.items) (returns-clause-counted g c).by_rule)
 
 pub returns-clause-advanced : goal.returns-clause-advanced
 returns-clause-advanced g c =
-    answer_map c.answer_advance.result _ _ (returns-clause-counted g c) (λ answer counted.
-    let went = counted_goes g.P.Ord.cmp g.met.P.Ord.total c.args.now answer.1
-    (planned_together g.P.Ord.cmp c.args.self.now.groups) (planned_together g.P.Ord.cmp c.answer_advance.new.self)
-    (map completed_of answer.0.items) counted.by_rule in
+    let went = counted_goes g.P.Ord.cmp g.met.P.Ord.total c.args.now c.in_ok-completions.events
+    (planned g.P.Ord.cmp c.args.self.now.ledger) (planned g.P.Ord.cmp c.replace_by.new.self)
+    (map completed_of c.in_ok-completions.completions.items) (returns-clause-counted g c).by_rule in
     record {
       split =
-          split_on g.P.Ord.cmp g.met.P.Ord.total (planned_together g.P.Ord.cmp c.args.self.now.groups)
-          (planned_together g.P.Ord.cmp c.answer_advance.new.self) c.args.now
-          (map completed_of answer.0.items) c.ranges.now.fits went;
+          split_on g.P.Ord.cmp g.met.P.Ord.total (planned g.P.Ord.cmp c.args.self.now.ledger)
+          (planned g.P.Ord.cmp c.replace_by.new.self) c.args.now
+          (map completed_of c.in_ok-completions.completions.items) c.ranges.now.fits went;
       within_caps =
-          within_caps_on g.P.Ord.cmp g.met.P.Ord.total (planned_together g.P.Ord.cmp c.args.self.now.groups)
-          (planned_together g.P.Ord.cmp c.answer_advance.new.self) c.args.now
-          (map completed_of answer.0.items) c.ranges.now.fits went;
-    })
-
-pub returns-clause-refused : goal.returns-clause-refused
-returns-clause-refused g c =
-    error_map c.answer_advance.result _ _ c.answer_advance.ensures.refused (λ why h.
-    cause_of g.P.Ord.cmp g.met.P.Ord.total (planned_together g.P.Ord.cmp c.args.self.now.groups)
-    (call_advance c.args.now) c.args.now why refl c.ranges.now.fits h)
-
-pub returns-clause-unchanged : goal.returns-clause-unchanged
-returns-clause-unchanged g c = stays_if c.answer_advance.result _ c.args.self.now c.answer_advance.ensures.unchanged
+          within_caps_on g.P.Ord.cmp g.met.P.Ord.total (planned g.P.Ord.cmp c.args.self.now.ledger)
+          (planned g.P.Ord.cmp c.replace_by.new.self) c.args.now
+          (map completed_of c.in_ok-completions.completions.items) c.ranges.now.fits went;
+    }

@@ -1,40 +1,57 @@
 use Rattle.std.proofs.Common.{map, refl}
+use Rattle.std.proofs.lemmas.Result.{err_from_is_err_and}
 use Rattle.link_simulation.specs.Simulation.Calls.{call_limit}
-use Rattle.link_groups.specs.Together.AsPlanned.{planned_together}
+use Rattle.link_events.specs.Steps.AsPlanned.{planned}
 use Rattle.link_pairs.specs.Pairs.Messages.{completed_of}
-use Rattle.link_groups.proofs.Together.AllPlanned.{caps_together, arrivals_together}
-use Rattle.link_groups.proofs.Together.AllPlanned.{is_right_together, is_orderly_together}
-use Rattle.link_scheduler.proofs.Calls.Answered.{made_if, refused_if}
-use Rattle.link_scheduler.proofs.Calls.Same.{stays_if}
+use Rattle.link_pairs.proofs.Pairs.LookedUp.{looked_up, arrivals_looked_up}
+use Rattle.link_scheduler.proofs.Calls.Answered.{made_on_copy, refused_on_copy}
 use Rattle.link_scheduler.proofs.transmitter.State.limit.Goals as goal
 
+pub returns-in_err-completions-clause-refused : goal.returns-in_err-completions-clause-refused
+returns-in_err-completions-clause-refused g c =
+    let p =
+    err_from_is_err_and c.from_residual-in_err-completions.result c.from_residual-in_err-completions.ensures.1 in
+    rw (p.1, p.2)
+    (refused_on_copy g.P.Ord.cmp g.met.P.Ord.total (planned g.P.Ord.cmp c.args.self.now.ledger)
+    (planned g.P.Ord.cmp c.in_ok-ledger.ledger)
+    (call_limit c.args.now c.args.peer.now c.args.egress c.args.ingress)
+    c.args.now _ refl c.ranges.now.fits
+    c.in_ok-ledger.ensures.cases c.in_err-completions.ensures.refused)
+
 pub invariant_of-self-clause-caps : goal.invariant_of-self-clause-caps
-invariant_of-self-clause-caps g c = caps_together g.met.P.Ord.total c.answer_limit.new.self
+invariant_of-self-clause-caps g c =
+    looked_up g.P.Ord.cmp g.met.P.Ord.total c.replace_by.new.self.peers.entries c.replace_by.new.self.pairs.entries
 
 pub invariant_of-self-clause-arrivals : goal.invariant_of-self-clause-arrivals
-invariant_of-self-clause-arrivals g c = arrivals_together g.met.P.Ord.total c.answer_limit.new.self
+invariant_of-self-clause-arrivals g c =
+    arrivals_looked_up g.P.Ord.cmp g.met.P.Ord.total c.replace_by.new.self.pairs.entries
 
 pub invariant_of-self-clause-right : goal.invariant_of-self-clause-right
-invariant_of-self-clause-right g c = is_right_together g.met.P.Ord.total c.answer_limit.new.self
+invariant_of-self-clause-right g c =
+    (made_on_copy g.P.Ord.cmp g.met.P.Ord.total (planned g.P.Ord.cmp c.args.self.now.ledger)
+    (planned g.P.Ord.cmp c.in_ok-ledger.ledger) (planned g.P.Ord.cmp c.answer_limit.new.self)
+    (planned g.P.Ord.cmp c.replace_by.new.self)
+    (call_limit c.args.now c.args.peer.now c.args.egress c.args.ingress) c.args.now
+    (map completed_of c.in_ok-completions.completions.items) refl c.ranges.now.fits c.in_ok-ledger.ensures.cases
+    c.in_ok-completions.ensures.answered c.replace_by.ensures c.args.self.now.caps c.args.self.now.arrivals
+    c.args.self.now.right c.args.self.now.orderly).right
 
 pub invariant_of-self-clause-orderly : goal.invariant_of-self-clause-orderly
-invariant_of-self-clause-orderly g c = is_orderly_together g.met.P.Ord.total c.answer_limit.new.self
+invariant_of-self-clause-orderly g c =
+    (made_on_copy g.P.Ord.cmp g.met.P.Ord.total (planned g.P.Ord.cmp c.args.self.now.ledger)
+    (planned g.P.Ord.cmp c.in_ok-ledger.ledger) (planned g.P.Ord.cmp c.answer_limit.new.self)
+    (planned g.P.Ord.cmp c.replace_by.new.self)
+    (call_limit c.args.now c.args.peer.now c.args.egress c.args.ingress) c.args.now
+    (map completed_of c.in_ok-completions.completions.items) refl c.ranges.now.fits c.in_ok-ledger.ensures.cases
+    c.in_ok-completions.ensures.answered c.replace_by.ensures c.args.self.now.caps c.args.self.now.arrivals
+    c.args.self.now.right c.args.self.now.orderly).orderly
 
 pub returns-clause-made : goal.returns-clause-made
 returns-clause-made g c =
-    made_if g.P.Ord.cmp g.met.P.Ord.total (λ done. map completed_of done.items)
-    (planned_together g.P.Ord.cmp c.args.self.now.groups) (planned_together g.P.Ord.cmp c.answer_limit.new.self)
-    (call_limit c.args.now c.args.peer.now c.args.egress c.args.ingress) c.args.now refl c.ranges.now.fits
-    c.args.self.now.caps c.args.self.now.arrivals c.args.self.now.orderly c.answer_limit.result
-    c.answer_limit.ensures.answered
-
-pub returns-clause-refused : goal.returns-clause-refused
-returns-clause-refused g c =
-    refused_if g.P.Ord.cmp g.met.P.Ord.total (λ done. map completed_of done.items)
-    (planned_together g.P.Ord.cmp c.args.self.now.groups) (planned_together g.P.Ord.cmp c.answer_limit.new.self)
-    (call_limit c.args.now c.args.peer.now c.args.egress c.args.ingress) c.args.now refl c.ranges.now.fits
-    c.args.self.now.caps c.args.self.now.arrivals c.args.self.now.orderly c.answer_limit.result
-    c.answer_limit.ensures.refused
-
-pub returns-clause-unchanged : goal.returns-clause-unchanged
-returns-clause-unchanged g c = stays_if c.answer_limit.result _ c.args.self.now c.answer_limit.ensures.unchanged
+    (made_on_copy g.P.Ord.cmp g.met.P.Ord.total (planned g.P.Ord.cmp c.args.self.now.ledger)
+    (planned g.P.Ord.cmp c.in_ok-ledger.ledger) (planned g.P.Ord.cmp c.answer_limit.new.self)
+    (planned g.P.Ord.cmp c.replace_by.new.self)
+    (call_limit c.args.now c.args.peer.now c.args.egress c.args.ingress) c.args.now
+    (map completed_of c.in_ok-completions.completions.items) refl c.ranges.now.fits c.in_ok-ledger.ensures.cases
+    c.in_ok-completions.ensures.answered c.replace_by.ensures c.args.self.now.caps c.args.self.now.arrivals
+    c.args.self.now.right c.args.self.now.orderly).made

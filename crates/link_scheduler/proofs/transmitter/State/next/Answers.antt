@@ -1,4 +1,4 @@
-use Rattle.link_groups.specs.Together.AsPlanned.{planned_together}
+use Rattle.link_events.specs.Steps.AsPlanned.{planned}
 use Rattle.link_scheduler.proofs.Calls.Promises.{next_simulated}
 use Rattle.link_scheduler.proofs.transmitter.State.next.Goals as goal
 
@@ -7,7 +7,7 @@ returns g c =
     record {
       next = record {
         planned = c.next_event.ensures;
-        simulated = next_simulated g.P.Ord.cmp g.met.P.Ord.total (planned_together g.P.Ord.cmp c.args.self.now.groups)
+        simulated = next_simulated g.P.Ord.cmp g.met.P.Ord.total (planned g.P.Ord.cmp c.args.self.now.ledger)
             c.next_event.result c.next_event.ensures;
       };
     }

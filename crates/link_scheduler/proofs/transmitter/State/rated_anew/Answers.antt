@@ -1,5 +1,19 @@
-use Rattle.std.proofs.Common.{refl}
+use Rattle.std.proofs.Common.{refl, arith}
+use Rattle.std.proofs.lemmas.List.{length-map}
+use Rattle.link_flights.specs.Flights.Flight.{flight_at}
+use Rattle.link_flights.specs.Flights.InFlight.{in_units}
+use Rattle.link_flights.specs.Flights.RatedFlights.{rated_flight_of}
 use Rattle.link_scheduler.proofs.transmitter.State.rated_anew.Goals as goal
 
 pub returns : goal.returns
-returns g c = record { counted = refl; at_most_all = c.args.self.now.groups.counted }
+returns g c =
+    let flights = c.args.self.now.ledger.flights in
+    record {
+      counted = refl;
+      at_most_all = omega (
+        arith,
+        flights.counted,
+        length-map flights.list.items (λ f. flight_at flights.at f.value),
+        length-map (in_units flights) (rated_flight_of flights.scale),
+      );
+    }

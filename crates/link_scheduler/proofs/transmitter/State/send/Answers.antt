@@ -1,36 +1,101 @@
-use Rattle.std.proofs.Common.{map, refl}
+use Rattle.std.proofs.Common.{[], map, ap, refl}
+use Rattle.std.proofs.lemmas.Result.{err_from_is_err_and}
 use Rattle.link_simulation.specs.Simulation.Calls.{call_enqueue}
-use Rattle.link_groups.specs.Together.AsPlanned.{planned_together}
+use Rattle.link_events.specs.Steps.AsPlanned.{planned}
 use Rattle.link_pairs.specs.Pairs.Messages.{message_of, completed_of}
-use Rattle.link_groups.proofs.Together.AllPlanned.{caps_together, arrivals_together}
-use Rattle.link_groups.proofs.Together.AllPlanned.{is_right_together, is_orderly_together}
-use Rattle.link_scheduler.proofs.Calls.Answered.{made_if, refused_if}
+use Rattle.link_scheduler.proofs.Calls.Calling.{goes_on}
+use Rattle.link_scheduler.proofs.Calls.Answered.{made_on_copy, refused_on_copy}
+use Rattle.link_simulation.proofs.Rule.SamePlanned.{same_itself}
+use Rattle.link_pairs.proofs.Pairs.LookedUp.{looked_up, arrivals_looked_up}
+use Rattle.link_scheduler.proofs.Calls.Promises.{kept_at_once, promised_if}
 use Rattle.link_scheduler.proofs.transmitter.State.send.Goals as goal
 
+-- where the message waits
+
 pub invariant_of-self-clause-caps : goal.invariant_of-self-clause-caps
-invariant_of-self-clause-caps g c = caps_together g.met.P.Ord.total c.answer_enqueue.new.self
+invariant_of-self-clause-caps g c =
+    looked_up g.P.Ord.cmp g.met.P.Ord.total c.wait.new.self.peers.entries c.wait.new.self.pairs.entries
 
 pub invariant_of-self-clause-arrivals : goal.invariant_of-self-clause-arrivals
-invariant_of-self-clause-arrivals g c = arrivals_together g.met.P.Ord.total c.answer_enqueue.new.self
+invariant_of-self-clause-arrivals g c = arrivals_looked_up g.P.Ord.cmp g.met.P.Ord.total c.wait.new.self.pairs.entries
 
 pub invariant_of-self-clause-right : goal.invariant_of-self-clause-right
-invariant_of-self-clause-right g c = is_right_together g.met.P.Ord.total c.answer_enqueue.new.self
+invariant_of-self-clause-right g c =
+    (kept_at_once g.P.Ord.cmp g.met.P.Ord.total c.wait.result (planned g.P.Ord.cmp c.args.self.now.ledger)
+    (planned g.P.Ord.cmp c.wait.new.self) (call_enqueue c.args.now (message_of c.args.message)) []
+    c.wait.ensures.enqueues c.wait.ensures.unchanged c.args.self.now.right c.args.self.now.orderly).right
 
 pub invariant_of-self-clause-orderly : goal.invariant_of-self-clause-orderly
-invariant_of-self-clause-orderly g c = is_orderly_together g.met.P.Ord.total c.answer_enqueue.new.self
+invariant_of-self-clause-orderly g c =
+    (kept_at_once g.P.Ord.cmp g.met.P.Ord.total c.wait.result (planned g.P.Ord.cmp c.args.self.now.ledger)
+    (planned g.P.Ord.cmp c.wait.new.self) (call_enqueue c.args.now (message_of c.args.message)) []
+    c.wait.ensures.enqueues c.wait.ensures.unchanged c.args.self.now.right c.args.self.now.orderly).orderly
+
+pub returns-in_err-wait-clause-unchanged : goal.returns-in_err-wait-clause-unchanged
+returns-in_err-wait-clause-unchanged g c =
+    let p = err_from_is_err_and c.from_residual.result c.from_residual.ensures.1 in
+    rw p.1 c.in_err-wait.ensures.unchanged
+
+pub returns-then-has_to_wait-clause-made : goal.returns-then-has_to_wait-clause-made
+returns-then-has_to_wait-clause-made g c =
+    rw (ap (map completed_of) c.new.ensures.items)
+    (promised_if g.P.Ord.cmp g.met.P.Ord.total (planned g.P.Ord.cmp c.args.self.now.ledger)
+    (planned g.P.Ord.cmp c.wait.new.self)
+    (call_enqueue c.args.now (message_of c.args.message)) c.args.now [] refl c.ranges.now.fits c.args.self.now.orderly
+    (goes_on g.P.Ord.cmp g.met.P.Ord.total (planned g.P.Ord.cmp c.args.self.now.ledger)
+    (planned g.P.Ord.cmp c.args.self.now.ledger) (planned g.P.Ord.cmp c.wait.new.self)
+    (call_enqueue c.args.now (message_of c.args.message)) []
+    (same_itself g.P.Ord.cmp g.met.P.Ord.total (planned g.P.Ord.cmp c.args.self.now.ledger) c.args.self.now.caps
+    c.args.self.now.arrivals)
+    c.in_ok-wait.ensures.enqueues))
+
+-- where it goes on a copy
+
+pub returns-in_err-completions-clause-refused : goal.returns-in_err-completions-clause-refused
+returns-in_err-completions-clause-refused g c =
+    let p =
+    err_from_is_err_and c.from_residual-in_err-completions.result c.from_residual-in_err-completions.ensures.1 in
+    rw (p.1, p.2)
+    (refused_on_copy g.P.Ord.cmp g.met.P.Ord.total (planned g.P.Ord.cmp c.args.self.now.ledger)
+    (planned g.P.Ord.cmp c.in_ok-ledger.ledger)
+    (call_enqueue c.args.now (message_of c.args.message))
+    c.args.now _ refl c.ranges.now.fits
+    c.in_ok-ledger.ensures.cases c.in_err-completions.ensures.refused)
+
+pub invariant_of-self-2-clause-caps : goal.invariant_of-self-2-clause-caps
+invariant_of-self-2-clause-caps g c =
+    looked_up g.P.Ord.cmp g.met.P.Ord.total c.replace_by.new.self.peers.entries c.replace_by.new.self.pairs.entries
+
+pub invariant_of-self-2-clause-arrivals : goal.invariant_of-self-2-clause-arrivals
+invariant_of-self-2-clause-arrivals g c =
+    arrivals_looked_up g.P.Ord.cmp g.met.P.Ord.total c.replace_by.new.self.pairs.entries
+
+pub invariant_of-self-2-clause-right : goal.invariant_of-self-2-clause-right
+invariant_of-self-2-clause-right g c =
+    (made_on_copy g.P.Ord.cmp g.met.P.Ord.total (planned g.P.Ord.cmp c.args.self.now.ledger)
+    (planned g.P.Ord.cmp c.in_ok-ledger.ledger) (planned g.P.Ord.cmp c.answer_free.new.self)
+    (planned g.P.Ord.cmp c.replace_by.new.self)
+    (call_enqueue c.args.now (message_of c.args.message)) c.args.now
+    (map completed_of c.in_ok-completions.completions.items) refl c.ranges.now.fits c.in_ok-ledger.ensures.cases
+    c.in_ok-completions.ensures.answered c.replace_by.ensures c.args.self.now.caps c.args.self.now.arrivals
+    c.args.self.now.right c.args.self.now.orderly).right
+
+pub invariant_of-self-2-clause-orderly : goal.invariant_of-self-2-clause-orderly
+invariant_of-self-2-clause-orderly g c =
+    (made_on_copy g.P.Ord.cmp g.met.P.Ord.total (planned g.P.Ord.cmp c.args.self.now.ledger)
+    (planned g.P.Ord.cmp c.in_ok-ledger.ledger) (planned g.P.Ord.cmp c.answer_free.new.self)
+    (planned g.P.Ord.cmp c.replace_by.new.self)
+    (call_enqueue c.args.now (message_of c.args.message)) c.args.now
+    (map completed_of c.in_ok-completions.completions.items) refl c.ranges.now.fits c.in_ok-ledger.ensures.cases
+    c.in_ok-completions.ensures.answered c.replace_by.ensures c.args.self.now.caps c.args.self.now.arrivals
+    c.args.self.now.right c.args.self.now.orderly).orderly
 
 pub returns-clause-made : goal.returns-clause-made
 returns-clause-made g c =
-    made_if g.P.Ord.cmp g.met.P.Ord.total (λ done. map completed_of done.items)
-    (planned_together g.P.Ord.cmp c.args.self.now.groups) (planned_together g.P.Ord.cmp c.answer_enqueue.new.self)
-    (call_enqueue c.args.now (message_of c.args.message)) c.args.now refl c.ranges.now.fits
-    c.args.self.now.caps c.args.self.now.arrivals c.args.self.now.orderly c.answer_enqueue.result
-    c.answer_enqueue.ensures.answered
-
-pub returns-clause-refused : goal.returns-clause-refused
-returns-clause-refused g c =
-    refused_if g.P.Ord.cmp g.met.P.Ord.total (λ done. map completed_of done.items)
-    (planned_together g.P.Ord.cmp c.args.self.now.groups) (planned_together g.P.Ord.cmp c.answer_enqueue.new.self)
-    (call_enqueue c.args.now (message_of c.args.message)) c.args.now refl c.ranges.now.fits
-    c.args.self.now.caps c.args.self.now.arrivals c.args.self.now.orderly c.answer_enqueue.result
-    c.answer_enqueue.ensures.refused
+    (made_on_copy g.P.Ord.cmp g.met.P.Ord.total (planned g.P.Ord.cmp c.args.self.now.ledger)
+    (planned g.P.Ord.cmp c.in_ok-ledger.ledger) (planned g.P.Ord.cmp c.answer_free.new.self)
+    (planned g.P.Ord.cmp c.replace_by.new.self)
+    (call_enqueue c.args.now (message_of c.args.message)) c.args.now
+    (map completed_of c.in_ok-completions.completions.items) refl c.ranges.now.fits c.in_ok-ledger.ensures.cases
+    c.in_ok-completions.ensures.answered c.replace_by.ensures c.args.self.now.caps c.args.self.now.arrivals
+    c.args.self.now.right c.args.self.now.orderly).made

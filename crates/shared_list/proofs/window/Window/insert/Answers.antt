@@ -6,4 +6,4 @@ use Rattle.shared_list.proofs.window.Window.insert.Goals as goal
 pub returns-clause-items : goal.returns-clause-items
 returns-clause-items g c = λ list frames.
     seen_put list (items_at c.args.self.now.leaf) c.args.self.now.at c.args.self.now.skip frames _ c.args.at
-    c.args.item.value _ c.requires.0 c.requires.1 (search rules)
+    c.args.item _ c.requires.0 c.requires.1 (search rules)

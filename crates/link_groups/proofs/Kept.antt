@@ -1,4 +1,0 @@
--- Places of peers, and moments of next events.
-pub mod Moments
-pub mod Places
-pub mod Trees
