@@ -1,5 +1,5 @@
 -- Rows that come in anew, once those that stand in no chain are gone.
-use Rattle.std.proofs.Common.{◌≡◌, ℕ, zero, suc, ◌+◌, ◌<◌, ◌≤◌, Option, Some, None, refl, sym, ap, ap₂, ◌∙◌, subst, arith}
+use Rattle.std.proofs.Common.{◌≡◌, ℕ, zero, suc, ◌+◌, ◌<◌, ◌≤◌, Option, Some, None, refl, sym, ap, ◌∙◌, subst, arith}
 use Rattle.std.proofs.Common.{List, [], ◌∷◌, length, map, take, replicate, slice_set, slice_get, slice_index_or, filter, is_some, Bool, cond, true, false}
 use Rattle.std.proofs.lemmas.List.{get_or-take, take_more_set, length-take-le, get_or-replicate, length-replicate, length-map, take_all}
 use Rattle.std.proofs.lemmas.Option.{slice_get-get_or}
@@ -92,7 +92,7 @@ module _ (t : Table) (empty : t.ends ≡ replicate (length t.ends) no_end) where
   none_prev owner (Some n) within there = absurd (no_row owner n there)
 
   pub none_chained : IsChained (front 0 t)
-  none_chained = record { owned = λ owner n there. absurd (no_row owner n there); next = none_next; prev = none_prev; }
+  none_chained = record { owned = λ owner n there. absurd (no_row owner n there); next = none_next; prev = none_prev }
 
 -- ---- one row comes in
 

@@ -1,4 +1,4 @@
-use Rattle.std.proofs.Common.{◌≡◌, ap, ◌∙◌, List, filter, is_some, length, replicate, rules}
+use Rattle.std.proofs.Common.{◌≡◌, ap, ◌∙◌, filter, is_some, length, replicate, rules}
 use Rattle.std.proofs.lemmas.Fn.{filter_same}
 use Rattle.chains.specs.Tables.{Table, now_of, rows_in, no_end}
 use Rattle.chains.specs.declared.tables.Link.{Link}

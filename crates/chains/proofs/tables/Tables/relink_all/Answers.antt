@@ -1,6 +1,6 @@
-use Rattle.std.proofs.Common.{◌≡◌, ◌<◌, ◌+◌, Some, true, sym, ap, ◌∙◌, subst, length, slice_get, arith}
+use Rattle.std.proofs.Common.{◌<◌, ◌+◌, sym, ap, ◌∙◌, subst, length, arith}
 use Rattle.std.proofs.lemmas.Option.{get_or_from_slice_get}
-use Rattle.chains.specs.Tables.{Table, now_of, link_of, no_link, Stands, rows_in, IsChained}
+use Rattle.chains.specs.Tables.{Table, now_of, no_link, Stands, rows_in, IsChained}
 use Rattle.chains.specs.declared.tables.Link.{Link}
 use Rattle.chains.proofs.Closing.{front, front_all, same_lengths, flag_set, never_empty, owner_within, last_free, one_more, rows_still}
 use Rattle.chains.proofs.tables.Tables.relink_all.Goals as goal
