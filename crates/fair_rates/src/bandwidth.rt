@@ -233,9 +233,14 @@ where
     ensures counted { IfOk result (λ counted. IsCountedAllocation P.cmp (CalledAt E.FnMut) (CalledAt I.FnMut) NoLink
         (record { egress = egress_cap; ingress = ingress_cap; link = tt }) flows.now
         (get nat_cmp counted.0) counted.1) }
+    ensures under_caps { IfOk result (λ counted. IsFairUnderCaps P.cmp (CalledAt E.FnMut) (CalledAt I.FnMut) NoLink
+        (record { egress = egress_cap; ingress = ingress_cap; link = tt }) flows.now (get nat_cmp counted.0)) }
     ensures refused { IfErr result (λ e. (e ≡ Error.OutOfMemory)
         ⊎ ((e ≡ Error.NumberTooLarge) × IsTooLarge P.cmp (CalledAt E.FnMut) (CalledAt I.FnMut) NoLink
         (record { egress = egress_cap; ingress = ingress_cap; link = tt }) flows.now)) }
+    ensures refused_under_caps { IfErr result (λ e. e ≡ Error.NumberTooLarge
+        → AreTooLargeUnderCaps P.cmp (CalledAt E.FnMut) (CalledAt I.FnMut) NoLink
+        (record { egress = egress_cap; ingress = ingress_cap; link = tt }) flows.now) }
 {
     allocate_linked_counted(
         alloc,
@@ -270,9 +275,15 @@ where
         (CalledAt E.FnMut) (CalledAt I.FnMut) (CalledAtTwo L.FnMut)
         (record { egress = egress_cap; ingress = ingress_cap; link = link_cap }) flows.now
         (get nat_cmp counted.0) counted.1) }
+    ensures under_caps { IfOk result (λ counted. IsFairUnderCaps P.cmp
+        (CalledAt E.FnMut) (CalledAt I.FnMut) (CalledAtTwo L.FnMut)
+        (record { egress = egress_cap; ingress = ingress_cap; link = link_cap }) flows.now (get nat_cmp counted.0)) }
     ensures refused { IfErr result (λ e. (e ≡ Error.OutOfMemory)
         ⊎ ((e ≡ Error.NumberTooLarge) × IsTooLarge P.cmp (CalledAt E.FnMut) (CalledAt I.FnMut) (CalledAtTwo L.FnMut)
         (record { egress = egress_cap; ingress = ingress_cap; link = link_cap }) flows.now)) }
+    ensures refused_under_caps { IfErr result (λ e. e ≡ Error.NumberTooLarge
+        → AreTooLargeUnderCaps P.cmp (CalledAt E.FnMut) (CalledAt I.FnMut) (CalledAtTwo L.FnMut)
+        (record { egress = egress_cap; ingress = ingress_cap; link = link_cap }) flows.now) }
 {
     let sides = sides::sides(alloc, flows, egress_cap, ingress_cap, link_cap)?;
     let one = Natural::from_u64(alloc, 1);

@@ -1,5 +1,8 @@
 use Rattle.std.proofs.Common.{rules, of_calls}
+use Rattle.std.specs.BTreeMap.{get}
+use Rattle.std.specs.Ordering.{nat_cmp}
 use Rattle.std.proofs.lemmas.Result.{IfOk-weaker}
+use Rattle.fair_rates.proofs.Fairness.AnswersUnderCaps.{fair_under_caps, refused_under_caps}
 use Rattle.fair_rates.proofs.Sides.Callable.{callable_on_each_pair}
 use Rattle.fair_rates.proofs.Sides.NoLinks.{counted_without_links, refused_without_links}
 use Rattle.fair_rates.proofs.bandwidth.allocate_counted.Goals as goal
@@ -17,3 +20,11 @@ pub returns-clause-refused : goal.returns-clause-refused
 returns-clause-refused g c =
     refused_without_links _ _ _ (λ l p q a l' k. search rules) g.P.Ord.cmp _ _ c.allocate_linked_counted.result
     c.allocate_linked_counted.ensures.refused
+
+pub returns-clause-under_caps : goal.returns-clause-under_caps
+returns-clause-under_caps g c =
+    fair_under_caps g.P.Ord.cmp _ _ _ _ _ (λ counted. get nat_cmp counted.0) c.allocate_linked_counted.result
+    (IfOk-weaker c.allocate_linked_counted.result _ _ (λ counted h. h.allocation) (returns-clause-counted g c))
+
+pub returns-clause-refused_under_caps : goal.returns-clause-refused_under_caps
+returns-clause-refused_under_caps g c = refused_under_caps g.P.Ord.cmp _ _ _ _ _ _ (returns-clause-refused g c)

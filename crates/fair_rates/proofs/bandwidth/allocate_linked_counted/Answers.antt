@@ -5,6 +5,8 @@ use Rattle.fair_rates.specs.Fairness.Exists.{product}
 use Rattle.fair_rates.specs.Sides.SideOf.{side_of}
 use Rattle.fair_rates.specs.Fairness.Rates.{HasDifferentRates, last_rate}
 use Rattle.fair_rates.proofs.Fairness.AllocatedRates.{counted}
+use Rattle.fair_rates.proofs.Fairness.Allocation.{allocates_under_caps}
+use Rattle.fair_rates.proofs.Fairness.AnswersUnderCaps.{refused_under_caps}
 use Rattle.fair_rates.proofs.Filling.Frozen.{if_err}
 use Rattle.fair_rates.proofs.Filling.Rates.{rates_are_fair, rates_are_different, large_rate}
 use Rattle.fair_rates.proofs.Refusals.AnswersTooLarge.{too_large}
@@ -31,6 +33,11 @@ returns-in_err-rates-clause-refused g c =
       )
     ])
 
+pub returns-in_err-rates-clause-refused_under_caps : goal.returns-in_err-rates-clause-refused_under_caps
+returns-in_err-rates-clause-refused_under_caps g c =
+    refused_under_caps g.P.Ord.cmp _ _ _ _ _ c.from_residual-in_err-rates.result
+    (returns-in_err-rates-clause-refused g c)
+
 pub returns-clause-counted : goal.returns-clause-counted
 returns-clause-counted g c =
     let answers = c.in_ok-sides.ensures.sides in
@@ -43,3 +50,7 @@ returns-clause-counted g c =
     (subst (HasDifferentRates c.in_ok-rates.rates.items) (sym len) (rates_are_different _ _ _ _ _ filled rates))
     (omega (arith, len, filled.few, length-map c.in_ok-sides.sides.items side_of))
     (λ id. c.in_ok-by_id.ensures.by_id id ∙ ap (last_rate id c.args.flows.now) c.deref.ensures.value)
+
+pub returns-clause-under_caps : goal.returns-clause-under_caps
+returns-clause-under_caps g c = λ caps by.
+    allocates_under_caps g.P.Ord.cmp _ _ _ caps _ _ _ by (returns-clause-counted g c).allocation
