@@ -2,7 +2,7 @@
 script = examples/left_over.link
 seconds = 60
 
-.PHONY: run test examples pictures bindings bench hostile torture clean
+.PHONY: run test examples pictures bindings bench hostile hostile_tests names torture clean
 
 # Proves the library and the program, builds the program as bin/linkrun, and runs it on a script.
 run: bin/linkrun
@@ -63,10 +63,17 @@ bindings:
 bench: bin/linkrun bin/broadcast
 	python3 bench/run.py bin/linkrun bin/broadcast $(work)
 
-# Refuses allocations, reads and writes one by one, and runs bad scripts. Takes a minute or two (docs/HOSTILE.md).
-hostile: bin/linkrun bin/refuse.so
+# Refuses allocations, reads and writes one by one, and runs bad scripts. Takes a minute or two (docs/HOSTILE.md). After
+# the gate, `make hostile over=gate` takes the program and the tests that it built.
+hostile: bin/refuse.so $(if $(over),,bin/linkrun hostile_tests)
+	python3 tests/hostile.py crates/linkrun/out/linkrun bin/refuse.so crates/p2p_simulated_hostile/out/p2p_simulated_hostile_tests
+
+hostile_tests:
 	cd crates/p2p_simulated_hostile && rt test > /dev/null
-	python3 tests/hostile.py bin/linkrun bin/refuse.so crates/p2p_simulated_hostile/out/p2p_simulated_hostile_tests
+
+# Whether the documents name only what there is.
+names:
+	@python3 tests/names.py
 
 # Compares random scripts with a plain scheduler, for a minute. `make torture seconds=3600 seed=7` does so for an hour.
 torture: bin/linkrun bin/refuse.so

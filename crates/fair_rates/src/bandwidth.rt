@@ -126,9 +126,10 @@ pub enum Rate {
 /// - `OutOfMemory` where memory for a list or for the map was refused. The closures may then have
 ///   been called for no more than the first few of the flows.
 /// - `NumberTooLarge` exactly where the fair rate of some flow, in lowest terms, has a numerator or a
-///   denominator of 2^128 or more. That takes more than 16 flows or an answered cap of 2^64 or more.
-///   And it never comes where the rates fit: where some whole number above zero makes each finite
-///   rate whole and is, times the number of flows and the greatest cap of a side, below 2^128.
+///   denominator of 2^128 or more, also of a flow whose id a later one has, so that its rate would not
+///   be answered. That takes more than 16 flows or an answered cap of 2^64 or more. And it never comes
+///   where the rates fit: where some whole number above zero makes each finite rate whole and is, times
+///   the number of flows and the greatest cap of a side, below 2^128.
 pub fn allocate<P, E, I>(
     alloc: Global,
     flows: &[Flow<P>],

@@ -64,9 +64,9 @@ impl fmt::Display for Outcome {
 
 /// Runs the script that `input` gives, and prints its answers on `output`.
 ///
-/// The script is read as a stream, and what is kept of it are its flows and its caps. What is
-/// printed is written to `output` and flushed before `input` is asked for more, and before this
-/// returns, whatever the outcome. So who asks line by line has each answer before the next line.
+/// The script is read as a stream. What is kept of it are its flows and its caps, the scheduler, and
+/// the messages of one moment that are yet to be sent together. What is printed is written to `output`
+/// and flushed before `input` is asked for more, and before this returns, whatever the outcome. So who asks line by line has each answer before the next line.
 ///
 /// - `Whole` where the script was read to its end.
 /// - `BadLine` where a line is not of the language.

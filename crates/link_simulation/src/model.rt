@@ -1,8 +1,8 @@
 //! Laws about the definitions of the simulation and of the event rule.
 //!
-//! The definitions stand in `specs/`: `World` and `WorldTime` are the simulation, which goes
-//! nanosecond by nanosecond; `WorldPlanned` and `WorldEvents` are the event rule, which goes from
-//! event to event; `WorldStands` says when a state of the one stands for a state of the other.
+//! The definitions stand in `specs/`: `Simulation/World` and `Simulation/Time` are the simulation,
+//! which goes nanosecond by nanosecond; `Rule/Planned` and `Rule/Events` are the event rule, which goes
+//! from event to event; `Rule/StandsFor` says when a state of the one stands for a state of the other.
 //! Each function here does nothing: its contract is a law.
 
 pub mod alone;
