@@ -396,8 +396,9 @@ const FLOWS_OF_CHARACTERS: &str = "\
     1 A B true
     2 A B true
     3 B C true
-    4 A C false
-    5 C B true";
+    4 A C true
+    5 C B true
+    6 A C false";
 
 /// The clone of the flow has the same id, origin, recipient and delivery.
 struct FlowOfCharacters;
@@ -420,5 +421,5 @@ impl Case for FlowOfCharacters {
 
 #[test]
 fn clones_flows_of_characters(rt: HostRuntime) -> Result<(), Fail> {
-    all_hold::<FlowOfCharacters>(&rt, FLOWS_OF_CHARACTERS, 5)
+    all_hold::<FlowOfCharacters>(&rt, FLOWS_OF_CHARACTERS, 6)
 }

@@ -60,6 +60,21 @@ next -
     )
 }
 
+/// On a new scheduler, too, a message from one value of a peer to another is one to oneself.
+#[test]
+fn a_message_to_another_value_of_a_peer_does_not_arrive(rt: HostRuntime) -> Result<(), Fail> {
+    play::<Marked>(
+        &rt,
+        0,
+        "\
+limit 0 1 1000 -
+send 0 1 1 0 0
+done 0 -
+next -
+",
+    )
+}
+
 /// The calls after one that goes back are made, whatever it is: one that is refused, and those at
 /// later moments.
 #[test]
