@@ -2,11 +2,15 @@
 script = examples/left_over.link
 seconds = 60
 
-.PHONY: run test examples pictures bindings bench hostile hostile_tests names torture clean
+.PHONY: run try test examples pictures bindings bench hostile hostile_tests names torture clean
 
 # Proves the library and the program, builds the program as bin/linkrun, and runs it on a script.
 run: bin/linkrun
 	./bin/linkrun < $(script)
+
+# Runs a script without proofs, for whoever wants to see it first: about a minute of one core.
+try:
+	cd crates/linkrun && rt try < ../../$(script)
 
 bin/linkrun: FORCE
 	@mkdir -p bin
