@@ -1,8 +1,8 @@
 //! What comes back, at numbers and at texts.
-use undo_list::UndoList;
 use std::alloc::{AllocError, Global};
 use std::process::Abort;
 use std::test::Fail;
+use undo_list::UndoList;
 
 /// A list of these items, right after a mark.
 fn marked(alloc: Global, items: &[u64]) -> Result<UndoList<u64>, AllocError> {
