@@ -141,9 +141,9 @@ fn what_does_not_fit_is_rounded_down(rt: HostRuntime) -> Result<(), Fail> {
     Ok(())
 }
 
-/// So it is once another group has joined, whose units are none of these.
+/// So it is once messages of others start beside them, and meet them.
 #[test]
-fn a_group_joins_many_shares(rt: HostRuntime) -> Result<(), Fail> {
+fn others_come_to_many_shares(rt: HostRuntime) -> Result<(), Fail> {
     let mut calls = hundred_shares(rt.alloc())?;
     calls.read("limit 99 200 1000 -\nsend 99 200 201 1000 0\nflying 101\n")?;
     calls.read("send 99 200 3 10 0\nflying 102\n")?;
@@ -152,9 +152,9 @@ fn a_group_joins_many_shares(rt: HostRuntime) -> Result<(), Fail> {
     Ok(())
 }
 
-/// Each account is one of all that is in flight: of a message of another group, of a new peer's caps.
+/// Each account is one of all that is in flight: of a message of other peers, of a new peer's caps.
 #[test]
-fn an_account_drains_other_groups_too(rt: HostRuntime) -> Result<(), Fail> {
+fn an_account_drains_what_others_send(rt: HostRuntime) -> Result<(), Fail> {
     let beside = "limit 0 1 1000 -\nlimit 0 2 500 -\nsend 0 1 3 1000 0\nsend 250ms 2 4 500 0\n";
     let readings = flying(&rt, beside)?;
     expect(&rt, readings.get(0), 3, (750, 1), (1000, 1), 250_000_000);
@@ -168,7 +168,7 @@ fn an_account_drains_other_groups_too(rt: HostRuntime) -> Result<(), Fail> {
 
 /// Eight messages are in flight, each of a pair of its own. One
 /// that starts alone is rated alone, and one of a sender that has another one with that. Where one
-/// ends alone none is, and where a cap changes those are that its peer shares a group with.
+/// ends alone none is, and where a cap changes all are.
 #[test]
 fn an_event_rates_what_it_touches(rt: HostRuntime) -> Result<(), Fail> {
     let _readings = flying(
@@ -198,7 +198,7 @@ done 0 1s
 flying 8
 rated 0
 limit 1500ms 3 2000 -
-rated 1
+rated 8
 ",
     )?;
     Ok(())

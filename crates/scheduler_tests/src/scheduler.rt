@@ -1,10 +1,10 @@
 //! The scheduler: lists of calls, each made by itself and all of them by `replay`.
 mod answers;
+mod apart;
 mod batches;
 pub(crate) mod calls;
 mod clones;
 mod ends;
-mod groups;
 mod idle;
 mod kept;
 mod lists;

@@ -120,7 +120,7 @@ next -
 }
 
 /// Thirteen messages of one sender beside three of another one.
-const TWO_GROUPS: &str = "\
+const TWO_SENDERS: &str = "\
 limit 0 1 1000 -
 limit 0 20 1000 -
 send 0 1 2 1 0
@@ -161,8 +161,8 @@ next -
 ";
 
 #[test]
-fn two_groups_drain_apart(rt: HostRuntime) -> Result<(), Fail> {
-    play::<u64>(&rt, 0, TWO_GROUPS)
+fn two_senders_drain_apart(rt: HostRuntime) -> Result<(), Fail> {
+    play::<u64>(&rt, 0, TWO_SENDERS)
 }
 
 /// So many messages of a byte each, to as many peers, take a second together.

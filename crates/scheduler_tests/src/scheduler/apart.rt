@@ -1,8 +1,8 @@
-//! Peers that exchange messages among themselves alone, side by side.
+//! Messages of peers that share nothing, and what comes where they meet.
 use super::{play, play_both};
 use std::test::Fail;
 
-/// Messages of groups that share no peer, done at one moment, come in the order in which they started.
+/// Messages that share no peer, done at one moment, come in the order in which they started.
 const TIES: &str = "\
 limit 0 1 1000 -
 limit 0 3 2000 -
@@ -23,8 +23,8 @@ done 4 3500000005
 next -
 ";
 
-/// A message from a peer of one group to one of another shares the caps of both from then on.
-const ONE_GROUP: &str = "\
+/// A message from one of two senders to who receives from the other shares the caps of both from then on.
+const MEETING: &str = "\
 limit 0 1 1000 -
 limit 0 2 1000 -
 limit 0 4 - 600
@@ -46,7 +46,7 @@ advance 3s
 next -
 ";
 
-/// The cap of a link between two groups, and the message that goes there.
+/// The cap of a link between peers that shared nothing, and the message that goes there.
 const A_LINK: &str = "\
 limit 0 1 1000 -
 limit 0 2 1000 -
@@ -63,7 +63,7 @@ done 0 1050ms
 next -
 ";
 
-/// Calls at a moment at which another group has an event still, and after one.
+/// Calls at a moment at which an event of other peers is due still, and after one.
 const STILL_DUE: &str = "\
 limit 0 1 1000 -
 limit 0 2 1000 -
@@ -84,7 +84,7 @@ done 0 1250ms
 next -
 ";
 
-/// Moments that go back beside another group: nothing is lost, and what was planned stands.
+/// Moments that go back: nothing is lost, and what was planned for other peers stands.
 const BACK: &str = "\
 limit 0 1 1000 -
 limit 0 2 1000 -
@@ -112,7 +112,7 @@ done 2 7300000100
 next -
 ";
 
-/// Before the first limit all peers are one group; messages of no length start under limits as their pairs may.
+/// Before the first limit messages complete at once; under limits those of no length start as their pairs may.
 const LATER_LIMITS: &str = "\
 send 0 1 2 100 10
 done 0 10
@@ -143,37 +143,37 @@ next -
 ";
 
 #[test]
-fn groups_that_finish_at_one_moment_keep_the_order_of_start(rt: HostRuntime) -> Result<(), Fail> {
+fn what_is_done_at_one_moment_keeps_the_order_of_start(rt: HostRuntime) -> Result<(), Fail> {
     play_both::<u64>(&rt, TIES)?;
     play_both::<char>(&rt, TIES)
 }
 
 #[test]
-fn a_message_between_two_groups_shares_their_caps(rt: HostRuntime) -> Result<(), Fail> {
-    play_both::<u64>(&rt, ONE_GROUP)?;
-    play_both::<char>(&rt, ONE_GROUP)
+fn a_message_between_others_shares_their_caps(rt: HostRuntime) -> Result<(), Fail> {
+    play_both::<u64>(&rt, MEETING)?;
+    play_both::<char>(&rt, MEETING)
 }
 
 #[test]
-fn a_link_between_two_groups_holds(rt: HostRuntime) -> Result<(), Fail> {
+fn a_link_between_others_holds(rt: HostRuntime) -> Result<(), Fail> {
     play_both::<u64>(&rt, A_LINK)?;
     play_both::<char>(&rt, A_LINK)
 }
 
 #[test]
-fn a_call_comes_while_another_group_is_due(rt: HostRuntime) -> Result<(), Fail> {
+fn a_call_comes_while_others_are_due(rt: HostRuntime) -> Result<(), Fail> {
     play_both::<u64>(&rt, STILL_DUE)?;
     play_both::<char>(&rt, STILL_DUE)
 }
 
 #[test]
-fn moments_go_back_beside_another_group(rt: HostRuntime) -> Result<(), Fail> {
+fn moments_go_back_beside_others(rt: HostRuntime) -> Result<(), Fail> {
     play_both::<u64>(&rt, BACK)?;
     play_both::<char>(&rt, BACK)
 }
 
 #[test]
-fn groups_begin_with_the_first_limit(rt: HostRuntime) -> Result<(), Fail> {
+fn limits_come_after_messages(rt: HostRuntime) -> Result<(), Fail> {
     play_both::<u64>(&rt, LATER_LIMITS)?;
     play_both::<char>(&rt, LATER_LIMITS)
 }
@@ -181,7 +181,7 @@ fn groups_begin_with_the_first_limit(rt: HostRuntime) -> Result<(), Fail> {
 /// One id is left: the message that waits for pair 1 to 3 takes it after one second, and there is none for pair 2 to 4
 /// half a second later. An advance past both is refused, and all stays as it was.
 #[test]
-fn a_refused_advance_leaves_all_groups(rt: HostRuntime) -> Result<(), Fail> {
+fn a_refused_advance_leaves_all_peers(rt: HostRuntime) -> Result<(), Fail> {
     play::<u64>(
         &rt,
         u64::MAX - 3,
@@ -209,8 +209,9 @@ next 1500ms
     )
 }
 
-/// Sends, lists and advances that meet nothing, of three groups, with the messages that the last account rated anew. One
-/// that only waits makes no account.
+/// Sends, lists and advances that meet nothing, of three senders that share nothing, with the messages that the last
+/// account rated anew. One that only waits makes no account. Where three share a cap, no rate is whole in the units so
+/// far, so all four are rated in smaller ones.
 const COUNTED: &str = "\
 limit 0 1 1000 -
 limit 0 2 1000 -
@@ -223,9 +224,9 @@ rated 1
 list 0 2
 send 0 2 13 3000 0
 send 0 2 14 5000 0
-rated 3
+rated 4
 advance 100ms
-rated 3
+rated 4
 send 100ms 3 15 5000 0
 rated 1
 advance 1200ms
@@ -238,7 +239,7 @@ rated 2
 next 1220ms
 ";
 
-/// An advance past events of two groups, which stay apart.
+/// An advance past events of two senders at moments of their own. Where a cap changes, all are rated.
 const COUNTED_APART: &str = "\
 limit 0 1 1000 -
 limit 0 2 1000 -
@@ -257,10 +258,10 @@ rated 1
 send 1200ms 2 16 100 0
 rated 2
 limit 1200ms 2 2000 -
-rated 2
+rated 4
 ";
 
-/// An advance past events of two groups at one moment.
+/// An advance past events of two senders at one moment.
 const COUNTED_TOGETHER: &str = "\
 limit 0 1 1000 -
 limit 0 2 1000 -
@@ -277,7 +278,7 @@ rated 1
 ";
 
 #[test]
-fn what_is_rated_anew_is_counted_in_its_group(rt: HostRuntime) -> Result<(), Fail> {
+fn what_is_rated_anew_is_counted(rt: HostRuntime) -> Result<(), Fail> {
     play::<u64>(&rt, 0, COUNTED)?;
     play::<u64>(&rt, 0, COUNTED_APART)?;
     play::<u64>(&rt, 0, COUNTED_TOGETHER)
