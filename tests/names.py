@@ -3,9 +3,10 @@
     python3 tests/names.py
 
 Each word in backticks of `README.md` and of `docs/`, in a line or in a block, has to stand in the tree: as a file or a
-folder, or as a word of what is written there, comments left out. What comes from elsewhere is listed in
-`tests/names.txt`, a word a line. Prints each word that is missing, with its place, and ends with status 1 where there
-is one; and a word of that list that no document has, or that the repository has by now, is told, too.
+folder, or as a word of what is written there, comments left out; an edit of `must-fail/` also by the end of its name.
+What comes from elsewhere is listed in `tests/names.txt`, a word a line. Prints each word that is missing, with its
+place, and ends with status 1 where there is one; and a word of that list that no document has, or that the repository
+has by now, is told, too.
 """
 import os
 import re
@@ -59,6 +60,9 @@ def known_words(files):
         for part in path.split("/"):
             words.update(words_of(part))
             words.add(part.split(".")[0])
+        if path.endswith(".edit"):
+            parts = os.path.basename(path)[:-len(".edit")].split("-")
+            words.update("-".join(parts[begin:]) for begin in range(len(parts)))
         if not path.endswith((".md", ".txt", ".svg")) or path == "crates.txt":
             words.update(words_of(code_of(path)))
     return words
