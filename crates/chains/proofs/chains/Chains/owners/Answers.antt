@@ -1,0 +1,12 @@
+use Rattle.std.proofs.Common.{◌≡◌, ◌<◌, ◌∙◌, ℕ, Some, sym, ap, subst, length}
+use Rattle.chains.specs.Chains.{Versions, owner_of}
+use Rattle.chains.specs.Tables.{Table, now_of}
+use Rattle.chains.proofs.Views.{owner_is}
+use Rattle.chains.proofs.chains.Chains.owners.Goals as goal
+
+pub returns-clause-all : goal.returns-clause-all
+returns-clause-all c = λ owner row there.
+    let t : Table = now_of c.self.inside.tables in
+    subst (λ (n : ℕ). owner < n) (sym c.len.ensures.items)
+    (c.self.invariant.0.owned owner row
+    (sym (owner_is t row) ∙ ap (λ (v : Versions). owner_of v.now row) c.self.view_is ∙ there))
