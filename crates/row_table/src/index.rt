@@ -1,0 +1,129 @@
+//! How the rows of a table are found.
+ghost use Rattle.std.specs.Prelude.{◌≡◌, ◌<◌, ◌≤◌, ◌++◌, ◌∷◌, [], Some, None, length, map, slice_set, OnOk, OnErr, IfOk};
+ghost use Rattle.chains.specs.Chains.{owner_of};
+ghost use Rattle.row_table.specs.Rows.{live};
+ghost use Rattle.row_table.specs.Index.{moment_of, Finds, Found, IsSameMark};
+
+use super::row::Row;
+use chains::Chains;
+use least_moment::Moments;
+use std::alloc::{AllocError, Global};
+
+/// The rows of each sender and of each receiver, and the moments of all. It may stand in the middle of a change.
+#[derive(Drop)]
+pub(crate) struct Index {
+    pub(crate) sent: Chains,
+    pub(crate) received: Chains,
+    pub(crate) moments: Moments,
+}
+
+/// One more row, at the end of that owner's chain. Owners come as they are named.
+fn add(chains: &mut Chains, owner: usize) -> Result<(), AllocError>
+    ensures now { OnOk result (chains.new.now.stands ≡ chains.old.now.stands ++ Some owner ∷ []) }
+    ensures before { chains.new.before ≡ chains.old.before }
+{
+    while chains.owners() <= owner {
+        chains.add_owner()?;
+    }
+    chains.add(owner)?;
+    Ok(())
+}
+
+/// Each place has the moment of its row again.
+pub(crate) fn restore<T>(moments: &mut Moments, places: &[Option<Row<T>>])
+    requires { length places.now ≤ length moments.old }
+    ensures { moments.new ≡ map moment_of places.now }
+{
+    moments.truncate(places.len());
+    for at in 0..places.len() {
+        let moment = match &places[at] {
+            Some(row) => row.moment,
+            None => None,
+        };
+        moments.set(at, moment);
+    }
+}
+
+impl Index {
+    /// It finds no row.
+    pub(crate) fn new(alloc: Global) -> Index
+        ensures sent { result.sent.now.stands ≡ [] }
+        ensures received { result.received.now.stands ≡ [] }
+        ensures moments { result.moments ≡ [] }
+        ensures sent_before { result.sent.before.stands ≡ [] }
+        ensures received_before { result.received.before.stands ≡ [] }
+    {
+        Index {
+            sent: Chains::new(alloc),
+            received: Chains::new(alloc),
+            moments: Moments::new(alloc),
+        }
+    }
+
+    /// One more row. Where memory is refused, part of that is done, but no moment comes.
+    pub(crate) fn add(
+        &mut self,
+        sender: usize,
+        receiver: usize,
+        moment: Option<u64>,
+    ) -> Result<(), AllocError>
+        ensures sent { OnOk result (self.new.sent.now.stands ≡ self.old.sent.now.stands ++ Some sender ∷ []) }
+        ensures received { OnOk result (self.new.received.now.stands ≡ self.old.received.now.stands ++ Some receiver ∷ []) }
+        ensures moments { OnOk result (self.new.moments ≡ self.old.moments ++ moment ∷ []) }
+        ensures moments_kept { OnErr result (self.new.moments ≡ self.old.moments) }
+        ensures mark { IsSameMark self.old self.new }
+    {
+        add(&mut self.sent, sender)?;
+        add(&mut self.received, receiver)?;
+        self.moments.push(moment)
+    }
+
+    /// A row goes. Where memory is refused, part of that is done, but its moment stays.
+    pub(crate) fn take(
+        &mut self,
+        at: usize,
+        sender: usize,
+        receiver: usize,
+    ) -> Result<(), AllocError>
+        requires sent { owner_of self.old.sent.now at ≡ Some sender }
+        requires received { owner_of self.old.received.now at ≡ Some receiver }
+        requires within { at < length self.old.moments }
+        ensures sent { OnOk result (self.new.sent.now.stands ≡ slice_set self.old.sent.now.stands at None) }
+        ensures received { OnOk result (self.new.received.now.stands ≡ slice_set self.old.received.now.stands at None) }
+        ensures moments { OnOk result (self.new.moments ≡ slice_set self.old.moments at None) }
+        ensures moments_kept { OnErr result (self.new.moments ≡ self.old.moments) }
+        ensures mark { IsSameMark self.old self.new }
+    {
+        self.sent.take(sender, at)?;
+        self.received.take(receiver, at)?;
+        self.moments.set(at, None);
+        Ok(())
+    }
+
+    /// A mark is set.
+    pub(crate) fn commit(&mut self)
+        ensures sent { self.new.sent.now ≡ self.old.sent.now }
+        ensures received { self.new.received.now ≡ self.old.received.now }
+        ensures moments { self.new.moments ≡ self.old.moments }
+        ensures sent_before { self.new.sent.before ≡ self.old.sent.now }
+        ensures received_before { self.new.received.before ≡ self.old.received.now }
+    {
+        self.sent.commit();
+        self.received.commit();
+    }
+
+    /// It finds the rows that are there, as if there were no gaps between them, and a mark is set.
+    pub(crate) fn of<T>(alloc: Global, places: &[Option<Row<T>>]) -> Result<Index, AllocError>
+        ensures now { IfOk result (λ index. Finds index (map Some (live places.now))) }
+        ensures before { IfOk result (λ index. Found index (map Some (live places.now))) }
+    {
+        let mut index = Index::new(alloc);
+        for place in places {
+            if let Some(row) = place {
+                index.add(row.sender, row.receiver, row.moment)?;
+            }
+        }
+        index.commit();
+        Ok(index)
+    }
+}

@@ -1,0 +1,11 @@
+//! Rows in order of coming, each with an item, who sends it and who receives it, and a moment that may be missing.
+//! They are changed in place, and can be taken back as a whole to how they stood at the last mark.
+#![tactic(auto)]
+
+mod index;
+mod parts;
+mod row;
+mod table;
+
+pub use row::Row;
+pub use table::RowTable;

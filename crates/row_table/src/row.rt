@@ -1,0 +1,10 @@
+//! A row of a table.
+
+/// An item, with the owners who send and receive it, which are numbers, and a moment, if it has one.
+#[derive(Drop)]
+pub struct Row<T> {
+    pub item: T,
+    pub sender: usize,
+    pub receiver: usize,
+    pub moment: Option<u64>,
+}
