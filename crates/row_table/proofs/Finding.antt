@@ -1,7 +1,7 @@
 -- What finds the rows, where one comes, changes or leaves.
-use Rattle.std.proofs.Common.{◌≡◌, ℕ, zero, suc, ◌+◌, ◌<◌, ◌≤◌, ◌==◌, Bool, true, false, List, [], ◌∷◌, ◌++◌, Option, Some, None, length, map, take, drop, refl, sym, ap, ◌∙◌, arith}
-use Rattle.std.proofs.Common.{subst, IfSome, IfNone, Result, Ok, Err, OnOk, slice_set, slice_index_or, IsSome, option_map, eq-eqb, length-append, nat_le}
-use Rattle.std.specs.List.{list_any}
+use Rattle.std.proofs.Common.{◌≡◌, ℕ, suc, ◌+◌, ◌<◌, ◌≤◌, ◌==◌, true, List, [], ◌∷◌, ◌++◌, Option, Some, None, length, map, refl, sym, ap, ◌∙◌, arith}
+use Rattle.std.proofs.Common.{subst, is_some, IfSome, IfNone, Result, Ok, Err, OnOk, slice_set, slice_index_or, IsSome, option_map, eq-eqb, length-append}
+use Rattle.std.specs.List.{filter, list_any}
 use Rattle.std.proofs.lemmas.List.{map-set, map-append, length-map, length-set}
 use Rattle.std.proofs.lemmas.Bool.{eqb-true, le-leb, leb-true}
 use Rattle.std.proofs.Math.ListN.{get_or-map}
@@ -10,13 +10,13 @@ use Rattle.chains.specs.Chains.{Versions}
 use Rattle.chains.specs.Places.{IsFirst}
 use Rattle.chains.proofs.Places.{first_same}
 use Rattle.least_moment.specs.Moments.{HasCome, IsDue, moment_at, IsNextDue, NoneDue, IsLeast}
-use Rattle.row_table.specs.Rows.{live, entry_at, passes, Passes, IsNext, has_come, is_due_by, with_item_at}
-use Rattle.row_table.specs.Index.{sender_of, receiver_of, moment_of, Finds, Found, IsSameMark, AreGaps, Stands, Marked}
+use Rattle.row_table.specs.Rows.{live, entry_at, passes, Passes, IsNext, has_come, is_due_by}
+use Rattle.row_table.specs.Index.{sender_of, receiver_of, moment_of, Finds, Found, AreGaps, Stands, Marked}
 use Rattle.row_table.specs.declared.row.Row.{Row}
 use Rattle.row_table.specs.declared.index.Index.{Index}
 use Rattle.row_table.specs.declared.parts.Parts.{Parts}
 use Rattle.row_table.proofs.Live.{length-live_changed, length-live_taken, live_append, live_whole, the_entry}
-use Rattle.row_table.proofs.Nexts.{the_row, any_live, place_of_live, true_alike}
+use Rattle.row_table.proofs.Nexts.{any_live, place_of_live, true_alike}
 
 some_same : (a b : ℕ) → Some a ≡ Some b → a ≡ b
 some_same a b e = cc
@@ -101,6 +101,13 @@ module _ {T : Type 0} (places : List (Option (Row T))) (moments : List (Option �
 
 -- ---- one comes, changes or leaves
 
+-- owners are those of rows that are there
+owned_closed : {T : Type 0} (owner_in : Row T → ℕ) (places : List (Option (Row T)))
+    → filter is_some (map (option_map owner_in) places) ≡ map (option_map owner_in) (map Some (live places))
+owned_closed owner_in [] = refl
+owned_closed owner_in (None ∷ places) = owned_closed owner_in places
+owned_closed owner_in (Some row ∷ places) = ap (λ owners. Some (owner_in row) ∷ owners) (owned_closed owner_in places)
+
 module _ {T : Type 0} (index new : Index) (places : List (Option (Row T))) (found : Finds index places) where
   pub found_added : (row : Row T) → new.sent.now.stands ≡ index.sent.now.stands ++ Some row.sender ∷ []
       → new.received.now.stands ≡ index.received.now.stands ++ Some row.receiver ∷ []
@@ -129,6 +136,16 @@ module _ {T : Type 0} (index new : Index) (places : List (Option (Row T))) (foun
     received = ap (λ (chains : Versions). chains.now.stands) received ∙ found.received
         ∙ sym (map-set_same receiver_of places at (Some other) None (sym receiver));
     moments = moments ∙ ap (λ moments. slice_set moments at other.moment) found.moments ∙ sym (map-set moment_of places at (Some other));
+  }
+
+  -- without gaps
+  pub found_closed : new.sent.now.stands ≡ filter is_some index.sent.now.stands
+      → new.received.now.stands ≡ filter is_some index.received.now.stands
+      → new.moments ≡ map moment_of (map Some (live places)) → Finds new (map Some (live places))
+  found_closed sent received moments = record {
+    sent = sent ∙ ap (filter is_some) found.sent ∙ owned_closed (λ row. row.sender) places;
+    received = received ∙ ap (filter is_some) found.received ∙ owned_closed (λ row. row.receiver) places;
+    moments = moments;
   }
 
 -- ---- the table
@@ -205,16 +222,16 @@ module _ {T : Type 0} where
     gaps = subst (λ n. AreGaps n new.rows.items) (sym none) (subst (AreGaps 0) (sym e) (whole rows));
   }
 
-  pub marked_whole : (new : Parts T) (rows : List (Row T)) → new.rows.before ≡ map Some rows → Found new.index (map Some rows)
-      → new.index.moments ≡ map moment_of (map Some rows) → new.gaps_before ≡ 0 → Marked new
-  marked_whole new rows e found moments none = record {
-    found = subst (Found new.index) (sym e) found;
+  pub marked_whole : (new : Parts T) (rows : List (Row T)) → new.rows.before ≡ map Some rows → Finds new.index (map Some rows)
+      → new.index.sent.before.stands ≡ new.index.sent.now.stands → new.index.received.before.stands ≡ new.index.received.now.stands
+      → new.gaps_before ≡ 0 → Marked new
+  marked_whole new rows e found sent received none = record {
+    found = subst (Found new.index) (sym e) (record { sent = sent ∙ found.sent; received = received ∙ found.received });
     gaps = subst (λ n. AreGaps n new.rows.before) (sym none) (subst (AreGaps 0) (sym e) (whole rows));
     room = subst (λ (places : List (Option (Row T))). length places ≤ length new.index.moments) (sym e)
-        (subst (λ (moments : List (Option ℕ)). length (map Some rows) ≤ length moments) (sym moments) (long (map Some rows)));
-  } where
-    long : (places : List (Option (Row T))) → length places ≤ length (map moment_of places)
-    long places = let same : length (map moment_of places) ≡ length places = length-map places moment_of in omega (arith, same)
+        (let long : length new.index.moments ≡ length (map Some rows) = ap length found.moments ∙ length-map (map Some rows) moment_of in
+        omega (arith, long));
+  }
 
 pub on_all : {A E P Q R S : Type 0} (r : Result A E) → OnOk r P → OnOk r Q → OnOk r R → (P → Q → R → S) → OnOk r S
 on_all (Ok a) p q r f = f p q r

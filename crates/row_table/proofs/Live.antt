@@ -1,8 +1,7 @@
 -- The rows that are there, where one comes, changes or leaves.
-use Rattle.std.proofs.Common.{◌≡◌, ℕ, zero, suc, ◌+◌, ◌<◌, ◌≤◌, true, List, [], ◌∷◌, ◌++◌, Option, Some, None, length, map, take, drop, refl, sym, ap, ◌∙◌, arith}
-use Rattle.std.proofs.Common.{slice_get, unwrap_or, inl, inr, slice_set, IsSome, length-append, slice_index_or, is_some}
+use Rattle.std.proofs.Common.{◌≡◌, ℕ, zero, suc, ◌<◌, ◌≤◌, List, [], ◌∷◌, ◌++◌, Option, Some, None, length, map, take, drop, refl, sym, ap, ◌∙◌, arith}
+use Rattle.std.proofs.Common.{slice_get, unwrap_or, inl, inr, slice_set, IsSome, length-append, is_some}
 use Rattle.std.specs.List.{filter}
-use Rattle.std.proofs.lemmas.List.{take_more, map-append}
 use Rattle.std.proofs.lemmas.Option.{unwrap_or-slice_get}
 use Rattle.row_table.specs.Rows.{live, entry_at, IsClosed}
 use Rattle.row_table.specs.declared.row.Row.{Row}
@@ -90,13 +89,3 @@ module _ {T : Type 0} where
       let less = ap length (live_taken places at row e) ∙ length-append (live (take at places)) (live (drop (suc at) places)) in
       let all = ap length (live_split places at row e) ∙ length-append (live (take at places)) (row ∷ live (drop (suc at) places)) in
       omega (arith, less, all)
-
-  -- one place more of a list
-  pub live_more : (places : List (Option (Row T))) (at : ℕ) (place : Option (Row T)) → at < length places
-      → place ≡ slice_index_or places at place
-      → map Some (live (take (at + 1) places)) ≡ map Some (live (take at places)) ++ map Some (live (place ∷ []))
-  live_more places at place low e =
-      ap (λ (places : List (Option (Row T))). map Some (live places))
-      (take_more places at place low ∙ ap (λ place. take at places ++ place ∷ []) (sym e))
-      ∙ ap (map Some) (live_append (take at places) (place ∷ []))
-      ∙ map-append Some (live (take at places)) (live (place ∷ []))

@@ -1,8 +1,7 @@
 //! How the rows of a table are found.
-ghost use Rattle.std.specs.Prelude.{◌≡◌, ◌<◌, ◌≤◌, ◌++◌, ◌∷◌, [], Some, None, length, map, slice_set, OnOk, OnErr, IfOk};
+ghost use Rattle.std.specs.Prelude.{◌≡◌, ◌<◌, ◌≤◌, ◌++◌, ◌∷◌, [], Some, None, length, map, slice_set, OnOk, OnErr, filter, is_some};
 ghost use Rattle.chains.specs.Chains.{owner_of};
-ghost use Rattle.row_table.specs.Rows.{live};
-ghost use Rattle.row_table.specs.Index.{moment_of, Finds, Found, IsSameMark};
+ghost use Rattle.row_table.specs.Index.{moment_of, IsSameMark};
 
 use super::row::Row;
 use chains::Chains;
@@ -30,7 +29,7 @@ fn add(chains: &mut Chains, owner: usize) -> Result<(), AllocError>
 }
 
 /// Each place has the moment of its row again.
-pub(crate) fn restore<T>(moments: &mut Moments, places: &[Option<Row<T>>])
+fn restore<T>(moments: &mut Moments, places: &[Option<Row<T>>])
     requires { length places.now ≤ length moments.old }
     ensures { moments.new ≡ map moment_of places.now }
 {
@@ -112,18 +111,30 @@ impl Index {
         self.received.commit();
     }
 
-    /// It finds the rows that are there, as if there were no gaps between them, and a mark is set.
-    pub(crate) fn of<T>(alloc: Global, places: &[Option<Row<T>>]) -> Result<Index, AllocError>
-        ensures now { IfOk result (λ index. Finds index (map Some (live places.now))) }
-        ensures before { IfOk result (λ index. Found index (map Some (live places.now))) }
+    /// The rows that are there close up, and a mark is set: these are they.
+    pub(crate) fn close_gaps<T>(&mut self, places: &[Option<Row<T>>])
+        requires { length places.now ≤ length self.old.moments }
+        ensures sent { self.new.sent.now.stands ≡ filter is_some self.old.sent.now.stands }
+        ensures received { self.new.received.now.stands ≡ filter is_some self.old.received.now.stands }
+        ensures moments { self.new.moments ≡ map moment_of places.now }
+        ensures sent_before { self.new.sent.before ≡ self.new.sent.now }
+        ensures received_before { self.new.received.before ≡ self.new.received.now }
     {
-        let mut index = Index::new(alloc);
-        for place in places {
-            if let Some(row) = place {
-                index.add(row.sender, row.receiver, row.moment)?;
-            }
-        }
-        index.commit();
-        Ok(index)
+        self.sent.close_gaps();
+        self.received.close_gaps();
+        restore(&mut self.moments, places);
+    }
+
+    /// All is taken back to the mark, at which these rows stood.
+    pub(crate) fn undo<T>(&mut self, places: &[Option<Row<T>>])
+        requires { length places.now ≤ length self.old.moments }
+        ensures sent { self.new.sent.now ≡ self.old.sent.before }
+        ensures received { self.new.received.now ≡ self.old.received.before }
+        ensures moments { self.new.moments ≡ map moment_of places.now }
+        ensures mark { IsSameMark self.old self.new }
+    {
+        self.sent.undo();
+        self.received.undo();
+        restore(&mut self.moments, places);
     }
 }

@@ -3,7 +3,7 @@ ghost use Rattle.std.specs.Prelude.{◌≡◌, ◌++◌, ◌∷◌, [], Some, No
 ghost use Rattle.row_table.specs.Rows.{entry_at, with_item_at, IsClosed};
 ghost use Rattle.row_table.specs.Index.{sender_of, receiver_of, Stands, Marked};
 
-use super::index::{Index, restore};
+use super::index::Index;
 use super::row::Row;
 use std::alloc::{AllocError, Global};
 use undo_list::UndoList;
@@ -16,7 +16,6 @@ pub(crate) struct Parts<T> {
     // How many places have no row, as it is and as it was at the mark.
     pub(crate) gaps: usize,
     pub(crate) gaps_before: usize,
-    pub(crate) alloc: Global,
 }
 
 /// So many gaps are left in any case: closing them would cost more.
@@ -35,7 +34,6 @@ impl<T: Drop> Parts<T> {
             index: Index::new(alloc),
             gaps: 0,
             gaps_before: 0,
-            alloc,
         }
     }
 
@@ -119,7 +117,7 @@ impl<T: Drop> Parts<T> {
                 .saturating_add(FEW)
     }
 
-    /// A mark is set. Where there are many gaps, and there is memory for it, they are closed.
+    /// A mark is set. Where there are many gaps, they are closed.
     pub(crate) fn commit(&mut self)
         requires { Stands self.old }
         ensures closed { IsClosed self.old.rows.items self.new.rows.items }
@@ -128,13 +126,11 @@ impl<T: Drop> Parts<T> {
         ensures marked { Marked self.new }
     {
         if self.has_many_gaps() {
-            if let Ok(index) = Index::of(self.alloc, self.rows.as_slice()) {
-                self.rows.commit_kept(|place| place.is_some());
-                self.index = index;
-                self.gaps = 0;
-                self.gaps_before = 0;
-                return;
-            }
+            self.rows.commit_kept(|place| place.is_some());
+            self.index.close_gaps(self.rows.as_slice());
+            self.gaps = 0;
+            self.gaps_before = 0;
+            return;
         }
         self.rows.commit();
         self.index.commit();
@@ -150,9 +146,7 @@ impl<T: Drop> Parts<T> {
         ensures marked { Marked self.new }
     {
         self.rows.undo();
-        self.index.sent.undo();
-        self.index.received.undo();
-        restore(&mut self.index.moments, self.rows.as_slice());
+        self.index.undo(self.rows.as_slice());
         self.gaps = self.gaps_before;
     }
 }

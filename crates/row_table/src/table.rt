@@ -212,8 +212,8 @@ impl<T: Drop> RowTable<T> {
         self.parts.index.moments.least()
     }
 
-    /// A mark is set: the table can be taken back to how it stands. Where rows have left many gaps, and there is
-    /// memory for it, the gaps are closed, and the rows behind them come to stand at other places.
+    /// A mark is set: the table can be taken back to how it stands. Where rows have left many gaps, these are closed,
+    /// and the rows behind them come to stand at other places. It takes no memory.
     pub fn commit(&mut self)
         ensures rows { live self.new.now ≡ live self.old.now }
         ensures closed { IsClosed self.old.now self.new.now }

@@ -1,4 +1,4 @@
-use Rattle.std.proofs.Common.{◌≡◌, ◌<◌, None, ap, refl, length, slice_set, ◌∙◌, arith}
+use Rattle.std.proofs.Common.{None, ap, refl, length, ◌∙◌, arith}
 use Rattle.std.proofs.lemmas.List.{length-set}
 use Rattle.row_table.proofs.Finding.{stands_taken, gap_less}
 use Rattle.row_table.proofs.parts.Parts.take.Goals as goal

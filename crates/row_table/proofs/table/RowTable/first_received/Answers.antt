@@ -1,5 +1,5 @@
-use Rattle.std.proofs.Common.{◌≡◌, ◌<◌, ◌≤◌, None, subst, arith}
-use Rattle.row_table.specs.Rows.{Versions, IsNext, Passes, is_received_by}
+use Rattle.std.proofs.Common.{None, subst, arith}
+use Rattle.row_table.specs.Rows.{Versions, IsNext, is_received_by}
 use Rattle.row_table.specs.declared.row.Row.{Row}
 use Rattle.row_table.proofs.Finding.{next_of_owner, stands_if}
 use Rattle.row_table.proofs.table.RowTable.first_received.Goals as goal

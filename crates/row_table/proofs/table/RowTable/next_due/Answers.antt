@@ -1,4 +1,4 @@
-use Rattle.std.proofs.Common.{◌≡◌, subst}
+use Rattle.std.proofs.Common.{subst}
 use Rattle.row_table.specs.Rows.{Versions, IsNext, is_due_by}
 use Rattle.row_table.proofs.Finding.{next_due_is}
 use Rattle.row_table.proofs.table.RowTable.next_due.Goals as goal

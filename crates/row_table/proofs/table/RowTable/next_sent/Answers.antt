@@ -1,4 +1,4 @@
-use Rattle.std.proofs.Common.{◌≡◌, suc, sym, subst}
+use Rattle.std.proofs.Common.{suc, sym, subst}
 use Rattle.row_table.specs.Rows.{Versions, IsNext, Passes, is_sent_by}
 use Rattle.row_table.specs.declared.row.Row.{Row}
 use Rattle.row_table.proofs.Finding.{next_of_owner, stands_if}
