@@ -32,11 +32,11 @@ use std::rc::Rc;
 /// So many messages a component has room for before their list has to move. Most join no more.
 const FEW_JOINED: usize = 8;
 
-/// So many messages a component may join, and half of all in flight if that is more. Where there are
+/// So many messages a component may join, and a sixteenth of all in flight if that is more. Where there are
 /// more, it pays to rate all that is in flight.
 const MOST_JOINED: usize = 48;
 
-/// So many in flight a component may have an end of, and half of all if that is more. Where there are
+/// So many in flight a component may have an end of, and a sixteenth of all if that is more. Where there are
 /// more, it mostly joins too many.
 const MOST_NEAR: usize = 56;
 
@@ -156,8 +156,8 @@ impl<P: Peer> Component<P> {
     fn is_large(&self, in_flight: usize) -> bool
         ensures { result ≡ false → length self.now.joined.items ≤ MOST_JOINED + in_flight }
     {
-        let half = in_flight / 2;
-        self.joined.len() > MOST_JOINED.max(half) || self.near.len() > MOST_NEAR.max(half)
+        let part = in_flight / 16;
+        self.joined.len() > MOST_JOINED.max(part) || self.near.len() > MOST_NEAR.max(part)
     }
 }
 
