@@ -5,8 +5,7 @@
 Each word in backticks of `README.md` and of `docs/`, in a line or in a block, has to stand in the tree: as a file or a
 folder, or as a word of what is written there, comments left out; an edit of `must-fail/` also by the end of its name.
 What comes from elsewhere is listed in `tests/names.txt`, a word a line. Prints each word that is missing, with its
-place, and ends with status 1 where there is one; and a word of that list that no document has, or that the repository
-has by now, is told, too.
+place, and ends with status 1 where there is one.
 """
 import os
 import re
@@ -110,7 +109,7 @@ def main():
     documents = [path for path in files if path == "README.md" or path.startswith("docs/") and path.endswith(".md")]
     words, paths = known_words(files), known_paths(files)
     elsewhere = set(read("tests/names.txt").split())
-    missing, used = [], set()
+    missing = []
     for document in documents:
         for number, span in spans(read(document)):
             found = is_path(span, paths)
@@ -120,12 +119,8 @@ def main():
                 continue
             for word in WORD.findall(re.sub(r"(?<!\S)-[A-Z](?=\w)", " ", span)):
                 word = re.sub(r"-[A-Z]+$", "", word)
-                if word in elsewhere:
-                    used.add(word)
-                elif word not in words and not PLACEHOLDER.fullmatch(word):
+                if word not in words and word not in elsewhere and not PLACEHOLDER.fullmatch(word):
                     missing.append("%s:%d: `%s` is not in the tree" % (document, number, word))
-    missing += ["tests/names.txt: no document has `%s`" % word for word in sorted(elsewhere - used)]
-    missing += ["tests/names.txt: the tree has `%s`" % word for word in sorted(elsewhere & words)]
     for line in missing:
         print(line)
     print("%d documents, %d names missing" % (len(documents), len(missing)))
