@@ -98,7 +98,7 @@ def is_path(span, paths):
     path = span.strip("/")
     if re.search(r"[^A-Za-z0-9_./*-]", path) or path.startswith(MADE) or not ("/" in path or "*" in path):
         return None
-    if "*" in path or any(PLACEHOLDER.fullmatch(part.split(".")[0]) for part in path.split("/")):
+    if "*" in path or any(PLACEHOLDER.fullmatch(part) for part in path.split("/")):
         pattern = re.compile(re.sub(r"\\\*|\b[A-Z]+\b", "[^/]+", re.escape(path)))
         return any(pattern.fullmatch(one) for one in paths)
     return True if path in paths else None if path.rpartition(".")[0] in paths else False
