@@ -146,7 +146,11 @@ fn fill(
 
 /// The max-min fair rates of `count` flows on the sides, in parts of one byte a second, so many at
 /// `scale`. Where a rate is no whole number of parts, the scale grows.
-pub(crate) fn fair_parts(
+///
+/// # Errors
+///
+/// `AllocError` where memory was refused.
+pub fn fair_parts(
     alloc: Global,
     count: usize,
     sides: Vec<Side>,

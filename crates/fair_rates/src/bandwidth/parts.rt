@@ -97,8 +97,13 @@ impl FairParts {
         Ok(())
     }
 
-    /// The rate of each flow.
-    pub(crate) fn rates(&self, alloc: Global) -> Result<Vec<Rate>, Error>
+    /// The rate of each flow, where the parts of one byte a second are those that the scale has grown by.
+    ///
+    /// # Errors
+    ///
+    /// - `OutOfMemory` where memory was refused.
+    /// - `NumberTooLarge` where a level, in lowest terms, is no fraction of 128 bits.
+    pub fn rates(&self, alloc: Global) -> Result<Vec<Rate>, Error>
         requires scale { self.now.scale ≡ product self.now.growth.items }
         requires factors { All (λ factor. 0 < factor) self.now.growth.items }
         requires inside { AreInside self.now.levels.items self.now.level_of.items }

@@ -33,9 +33,11 @@ const MANY_SIDES: usize = 64;
 /// What limits some flows together: its cap in bytes a second, and the places of those flows in
 /// the list, in its order.
 #[derive(Debug, Drop)]
-pub(crate) struct Side {
-    pub(crate) cap: u128,
-    pub(crate) users: Vec<usize>,
+pub struct Side {
+    /// In bytes a second.
+    pub cap: u128,
+    /// Places of flows.
+    pub users: Vec<usize>,
 }
 
 /// What a side limits: all that one peer sends, all that one peer receives, or all that goes from
