@@ -6,6 +6,7 @@ ghost use Rattle.std.specs.Prelude.{IfOk, IfErr, map};
 ghost use Rattle.fair_routes.specs.Network.Allocation.{IsAllocated, IsCounted, IsRefusal};
 
 mod error;
+pub mod laws;
 mod sides;
 
 pub use error::RouteError;

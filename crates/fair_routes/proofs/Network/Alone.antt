@@ -1,0 +1,105 @@
+-- A flow alone.
+use Rattle.std.proofs.Common.{◌≡◌, ℕ, ◌*◌, ◌<◌, ◌≤◌, List, [], ◌∷◌, Bool, true, false, cond, Option, Some, None, get_or}
+use Rattle.std.proofs.Common.{Contains, sum_by, refl, sym, ap, ◌∙◌, inl, inr, arith}
+use Rattle.std.specs.Prelude.{◌||◌}
+use Rattle.std.proofs.Math.Nat.{eq_of_mul-eq-mul_right, le_of_mul-le-mul_right}
+use Rattle.std.proofs.lemmas.List.Elements.{All-contains}
+use Rattle.std.proofs.lemmas.List.Sums.{sum_by-cons}
+use Rattle.fair_rates.specs.Fairness.Fair.{Side, load, IsLimited, IsFair}
+use Rattle.fair_rates.specs.Fairness.Rates.{IsRateOf}
+use Rattle.fair_rates.specs.Numbers.Ratio.{IsWorth}
+use Rattle.fair_rates.specs.declared.bandwidth.Rate.{Rate}
+use Rattle.fair_rates.specs.declared.bandwidth.Rate.TheVariants.{Unlimited, Finite}
+use Rattle.fair_rates.specs.declared.ratio.Ratio.{Ratio}
+use Rattle.fair_rates.proofs.Filling.Frozen.{none_or_some}
+use Rattle.fair_routes.specs.Network.Laws.{IsLeastCap, IsLeastOfCaps, AloneIsTheLeastCap}
+use Rattle.fair_routes.specs.Network.Sides.{has_link, sides_over}
+use Rattle.fair_routes.proofs.Network.LinkSides.{link_side, side_listed}
+
+module _ (caps : List (Option ℕ)) (route : List ℕ) where
+  abbrev sides : List Side
+  sides = sides_over caps (route ∷ [])
+
+  side_with : ℕ → Side
+  side_with cap = record { cap = cap; users = 0 ∷ [] }
+
+  -- a link of the route with a cap makes a side
+  own : (link cap : ℕ) → has_link link route ≡ true → get_or caps link None ≡ Some cap
+      → Contains sides (record { cap = cap; users = 0 ∷ [] })
+  own link cap on capped =
+      side_listed caps (route ∷ []) (record { cap = cap; users = 0 ∷ [] }) (record {
+        link = link;
+        capped = capped;
+        used = rw on refl;
+        users = rw on refl;
+      })
+
+  limited : (link cap : ℕ) → has_link link route ≡ true → get_or caps link None ≡ Some cap → IsLimited sides 0
+  limited link cap on capped = (
+    record { cap = cap; users = 0 ∷ [] },
+    record { listed = own link cap on capped; used = (0, omega arith, refl) },
+  )
+
+  -- the flow uses the link of a side
+  on_route : (link : ℕ) (test : Bool) → has_link link route ≡ test → (cond test true false || false) ≡ true → test ≡ true
+  on_route link true is used = refl
+  on_route link false is used = cc
+
+  load_one : (parts : ℕ → ℕ) → sum_by parts (0 ∷ []) ≡ parts 0
+  load_one parts = omega (arith, sum_by-cons parts 0 [])
+
+  module _ (per : ℕ) (parts : ℕ → ℕ) (fair : IsFair sides per parts) where
+    at_most : (link more : ℕ) → has_link link route ≡ true → get_or caps link None ≡ Some more → parts 0 ≤ more * per
+    at_most link more on capped =
+        let small =
+        All-contains (λ (s : Side). load parts s ≤ s.cap * per) sides (record { cap = more; users = 0 ∷ [] }) fair.within
+        (own link more on capped) in
+        omega (arith, small, load_one parts)
+
+    least : (ratio : Ratio) → IsLimited sides 0 → IsWorth ratio (record { num = parts 0; den = per })
+        → (cap : ℕ) × IsLeastCap caps route cap × IsWorth ratio (record { num = cap; den = 1 })
+    least ratio some worth =
+        let b = fair.held 0 some in
+        let of = link_side caps (route ∷ []) b.side b.uses.listed in
+        let on : has_link of.link route ≡ true = on_route of.link (has_link of.link route) refl (used of.link of.used) in
+        let users : b.side.users ≡ 0 ∷ [] = of.users ∙ (rw on refl) in
+        let full : parts 0 ≡ b.side.cap * per = sym (ap (sum_by parts) users ∙ load_one parts) ∙ b.full in (
+          b.side.cap,
+          record {
+            link = of.link;
+            on_route = on;
+            capped = of.capped;
+            least = λ other more has capped. below b.side.cap more per fair.some_part
+                (omega (arith, at_most other more has capped, full));
+          },
+          worth_of ratio.numerator ratio.denominator b.side.cap per (parts 0) fair.some_part worth full,
+        )
+      where
+        used : (link : ℕ) → (has_link link route || false) ≡ true → (cond (has_link link route) true false || false) ≡ true
+        used link e = by_test (has_link link route) e
+          where
+            by_test : (t : Bool) → (t || false) ≡ true → (cond t true false || false) ≡ true
+            by_test true e = refl
+            by_test false e = e
+
+        below : (cap more per : ℕ) → 0 < per → cap * per ≤ more * per → cap ≤ more
+        below cap more per some le = le_of_mul-le-mul_right le some
+
+        worth_of : (num den cap per parts : ℕ) → 0 < per → num * per ≡ parts * den → parts ≡ cap * per
+            → num * 1 ≡ cap * den
+        worth_of num den cap per parts some worth full =
+            let same : num * per ≡ cap * den * per = omega (arith, worth, ap (λ n. n * den) full) in
+            let is = eq_of_mul-eq-mul_right per some num (cap * den) same in
+            omega (arith, is)
+
+  by_rate : (per : ℕ) (parts : ℕ → ℕ) → IsFair sides per parts → (rate : Rate) → IsRateOf sides per parts 0 rate
+      → IsLeastOfCaps caps route rate
+  by_rate per parts fair Unlimited none = λ link on. elim (none_or_some (get_or caps link None)) [
+    | inl is ↦ is
+    | inr (cap, is) ↦ absurd (none (limited link cap on is))
+  ]
+  by_rate per parts fair (Finite ratio) (some, worth) = least per parts fair ratio some worth
+
+pub a_flow_alone_has_the_least_cap : AloneIsTheLeastCap
+a_flow_alone_has_the_least_cap caps route rate fair =
+    by_rate caps route fair.per fair.parts fair.fair rate (fair.rated 0 rate (omega arith))

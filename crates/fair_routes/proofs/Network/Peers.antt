@@ -1,0 +1,158 @@
+-- Flows between peers are flows over three links.
+use Rattle.std.proofs.Common.{◌≡◌, ◌==◌, ℕ, List, [], ◌∷◌, Bool, true, false, cond, ◌&&◌, Option, None, get_or, map, length}
+use Rattle.std.proofs.Common.{refl, sym, ap, ◌∙◌, inl, inr}
+use Rattle.std.specs.Prelude.{◌||◌}
+use Rattle.std.specs.Cmp.{IsTotalOrder}
+use Rattle.std.specs.List.{AllZip, list_any}
+use Rattle.std.specs.declared.cmp.Ordering.{Ordering}
+use Rattle.std.proofs.Math.Bool.{or-false}
+use Rattle.std.proofs.lemmas.Bool.{eqb-true}
+use Rattle.fair_rates.specs.Fairness.Fair.{Side}
+use Rattle.fair_rates.specs.Fairness.UnderCaps.{AreOfPeers, IsCappedSide, limits, sides_under}
+use Rattle.fair_rates.specs.Lists.Places.{places_from}
+use Rattle.fair_rates.specs.Sides.Caps.{Caps}
+use Rattle.fair_rates.specs.Sides.Subjects.{Subject, sent_by, received_by, sent_between, same_peer}
+use Rattle.fair_rates.specs.declared.bandwidth.Flow.{Flow}
+use Rattle.fair_rates.proofs.Fairness.SameSides.{fairness_is_of_the_set}
+use Rattle.fair_rates.proofs.Lists.Members.{In, in_map, from_map, in_from_contains, contains_from_in, any_passes}
+use Rattle.fair_rates.proofs.Lists.Places.{places_alike}
+use Rattle.fair_rates.proofs.Sides.CapSides.{sides_are_of_the_caps}
+use Rattle.fair_routes.specs.Network.Laws.{IsLinkSide, AreLinks, route_of, LinkedIsOverThreeLinks}
+use Rattle.fair_routes.specs.Network.Sides.{has_link, users_of, sides_over}
+use Rattle.fair_routes.proofs.Network.LinkSides.{link_side, side_listed}
+use Rattle.fair_routes.proofs.Network.Said.{found}
+
+module _ {P : Type 0} (cmp : P → P → Ordering) (order : IsTotalOrder cmp) (caps : Caps P) (links : List (Option ℕ))
+    (number : Subject P → ℕ) (of : AreOfPeers cmp caps) (are : AreLinks cmp caps links number) where
+  -- a side of a subject limits the flow just where its link is on the flow's route
+  on_route : (s : Subject P) (f : Flow P) → limits cmp s f ≡ has_link (number s) (route_of cmp number f)
+  on_route (sent_by p) f = by_test f.delivered
+    where
+      own : Subject P
+      own = sent_by p
+
+      by_test : (b : Bool) → same_peer cmp p f.origin
+          ≡ ((number (sent_by f.origin) == number (sent_by p))
+          || ((number (sent_between f.origin f.recipient) == number (sent_by p))
+          || list_any (λ other. other == number (sent_by p)) (cond b (number (received_by f.recipient) ∷ []) [])))
+      by_test true =
+          rw (
+            are.apart (sent_by p) (sent_by f.origin),
+            are.apart (sent_by p) (sent_between f.origin f.recipient),
+            are.apart (sent_by p) (received_by f.recipient),
+          ) (sym (or-false (same_peer cmp p f.origin)))
+      by_test false =
+          rw (are.apart (sent_by p) (sent_by f.origin), are.apart (sent_by p) (sent_between f.origin f.recipient))
+          (sym (or-false (same_peer cmp p f.origin)))
+  on_route (received_by p) f = by_test f.delivered
+    where
+      by_test : (b : Bool) → (b && same_peer cmp p f.recipient)
+          ≡ ((number (sent_by f.origin) == number (received_by p))
+          || ((number (sent_between f.origin f.recipient) == number (received_by p))
+          || list_any (λ other. other == number (received_by p)) (cond b (number (received_by f.recipient) ∷ []) [])))
+      by_test true =
+          rw (
+            are.apart (received_by p) (sent_by f.origin),
+            are.apart (received_by p) (sent_between f.origin f.recipient),
+            are.apart (received_by p) (received_by f.recipient),
+          ) (sym (or-false (same_peer cmp p f.recipient)))
+      by_test false =
+          rw (are.apart (received_by p) (sent_by f.origin), are.apart (received_by p) (sent_between f.origin f.recipient))
+          refl
+  on_route (sent_between p q) f = by_test f.delivered
+    where
+      by_test : (b : Bool) → (same_peer cmp p f.origin && same_peer cmp q f.recipient)
+          ≡ ((number (sent_by f.origin) == number (sent_between p q))
+          || ((number (sent_between f.origin f.recipient) == number (sent_between p q))
+          || list_any (λ other. other == number (sent_between p q)) (cond b (number (received_by f.recipient) ∷ []) [])))
+      by_test true =
+          rw (
+            are.apart (sent_between p q) (sent_by f.origin),
+            are.apart (sent_between p q) (sent_between f.origin f.recipient),
+            are.apart (sent_between p q) (received_by f.recipient),
+          )
+          (sym (or-false (same_peer cmp p f.origin && same_peer cmp q f.recipient)))
+      by_test false =
+          rw (
+            are.apart (sent_between p q) (sent_by f.origin),
+            are.apart (sent_between p q) (sent_between f.origin f.recipient),
+          )
+          (sym (or-false (same_peer cmp p f.origin && same_peer cmp q f.recipient)))
+
+  -- a link of a route is that of a subject
+  of_subject : (f : Flow P) (link : ℕ) → In (route_of cmp number f) link → (s : Subject P) × (number s ≡ link)
+  of_subject f link (inl e) = (sent_by f.origin, e)
+  of_subject f link (inr (inl e)) = (sent_between f.origin f.recipient, e)
+  of_subject f link (inr (inr h)) = by_test f.delivered h
+    where
+      by_test : (b : Bool) → In (cond b (number (received_by f.recipient) ∷ []) []) link
+          → (s : Subject P) × (number s ≡ link)
+      by_test true (inl e) = (received_by f.recipient, e)
+      by_test true (inr g) = absurd g
+      by_test false g = absurd g
+
+  module _ (flows : List (Flow P)) where
+    abbrev routes : List (List ℕ)
+    routes = map (route_of cmp number) flows
+
+    abbrev IsRouteOf : Flow P → List ℕ → Type 0
+    IsRouteOf f route = (s : Subject P) → limits cmp s f ≡ has_link (number s) route
+
+    each : (fs : List (Flow P)) → AllZip IsRouteOf fs (map (route_of cmp number) fs)
+    each [] = tt
+    each (f ∷ fs) = ((λ s. on_route s f), each fs)
+
+    users_are : (s : Subject P) → places_from 0 (limits cmp s) flows ≡ users_of (number s) routes
+    users_are s =
+        places_alike IsRouteOf (limits cmp s) (has_link (number s)) (λ f route alike. alike s) 0 flows routes (each flows)
+
+    there : (side : Side) → IsCappedSide cmp caps flows side → IsLinkSide links routes side
+    there side of_caps = record {
+      link = number of_caps.subject;
+      capped = are.same_cap of_caps.subject ∙ of_caps.capped;
+      used =
+          any_passes (has_link (number of_caps.subject)) routes (route_of cmp number of_caps.flow)
+          (in_map (route_of cmp number) flows of_caps.flow (in_from_contains flows of_caps.flow of_caps.among))
+          (sym (on_route of_caps.subject of_caps.flow) ∙ of_caps.limited);
+      users = of_caps.users ∙ users_are of_caps.subject;
+    }
+
+    back_at : (side : Side) (link : IsLinkSide links routes side) (s : Subject P) (f : Flow P) → number s ≡ link.link
+        → In flows f → has_link link.link (route_of cmp number f) ≡ true → IsCappedSide cmp caps flows side
+    back_at side of_link s f is among on = record {
+      subject = s;
+      capped = sym (are.same_cap s) ∙ ap (λ n. get_or links n None) is ∙ of_link.capped;
+      flow = f;
+      among = contains_from_in flows f among;
+      limited = on_route s f ∙ ap (λ n. has_link n (route_of cmp number f)) is ∙ on;
+      users = of_link.users ∙ ap (λ n. users_of n routes) (sym is) ∙ sym (users_are s);
+    }
+
+    back : (side : Side) → IsLinkSide links routes side → IsCappedSide cmp caps flows side
+    back side of_link =
+        let some = found (has_link of_link.link) routes of_link.used in
+        let f = from_map (route_of cmp number) flows some.0 some.1 in
+        let on : has_link of_link.link (route_of cmp number f.0) ≡ true =
+        ap (has_link of_link.link) f.2 ∙ some.2 in
+        let x = found (λ other. other == of_link.link) (route_of cmp number f.0) on in
+        let s = of_subject f.0 x.0 x.1 in
+        back_at side of_link s.0 f.0 (s.1 ∙ eqb-true x.0 of_link.link x.2) f.1 on
+
+pub linked_is_over_three_links : {P : Type 0} (cmp : P → P → Ordering) → IsTotalOrder cmp → LinkedIsOverThreeLinks cmp
+linked_is_over_three_links cmp order caps links number flows rates of are =
+    let one = sides_under cmp caps flows in
+    let other = sides_over links (map (route_of cmp number) flows) in
+    let in_caps = sides_are_of_the_caps cmp order caps flows in (
+      (λ fair. fairness_is_of_the_set one other (length flows) rates (λ side. (
+        (λ listed. side_listed links (map (route_of cmp number) flows) side
+            (there cmp order caps links number of are flows side ((in_caps side of).0 listed))),
+        (λ listed. (in_caps side of).1 (back cmp order caps links number of are flows side
+            (link_side links (map (route_of cmp number) flows) side listed))),
+      )) fair),
+      (λ fair. fairness_is_of_the_set other one (length flows) rates (λ side. (
+        (λ listed. (in_caps side of).1 (back cmp order caps links number of are flows side
+            (link_side links (map (route_of cmp number) flows) side listed))),
+        (λ listed. side_listed links (map (route_of cmp number) flows) side
+            (there cmp order caps links number of are flows side ((in_caps side of).0 listed))),
+      )) fair),
+    )

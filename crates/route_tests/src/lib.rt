@@ -1,0 +1,7 @@
+//! Tests of the rates of flows over routes.
+#![tactic(auto)]
+
+#[cfg(test)]
+mod routes;
+#[cfg(test)]
+mod text;
