@@ -2,7 +2,7 @@
 script = examples/left_over.link
 seconds = 60
 
-.PHONY: run try test examples pictures bindings bench hostile hostile_tests names torture clean
+.PHONY: run try test examples pictures bindings bench networks hostile hostile_tests names torture clean
 
 # Proves the library and the program, builds the program as bin/linkrun, and runs it on a script.
 run: bin/linkrun
@@ -32,18 +32,26 @@ bin/broadcast: FORCE
 	cd crates/broadcast && rt run -- 2 > /dev/null
 	cp crates/broadcast/out/broadcast bin/broadcast
 
+bin/networks: FORCE
+	@mkdir -p bin
+	cd crates/networks && rt run > /dev/null
+	cp crates/networks/out/networks bin/networks
+
 # The gate: every proof from nothing, the edits that must fail, the tests and the program. What stood in out/ before, it
 # puts back: the libraries of a gate before this one, which have no stamp, go first, so that those of this one stay.
 test:
 	@for rlib in crates/*/out/rlib; do [ -e $$rlib/stamp ] || rm -rf $$rlib; done
 	rt ci
 
-# Runs each example and compares what it prints: scripts, the partner that asks line by line, traces and pictures.
-examples: bin/linkrun bin/linkcheck bin/linkdraw
+# Runs each example and compares what it prints: scripts, the partner that asks line by line, networks, traces and
+# pictures.
+examples: bin/linkrun bin/linkcheck bin/linkdraw bin/networks
 	@for script in examples/*.link examples/generated/*.link; do \
 		./bin/linkrun < $$script 2>/dev/null | cmp - $${script%.link}.out && echo $$script || exit 1; \
 	done
-	@python3 examples/partner.py | cmp - examples/partner.out && echo examples/partner.py
+	@for example in partner fat_tree trunks; do \
+		python3 examples/$$example.py | cmp - examples/$$example.out && echo examples/$$example.py || exit 1; \
+	done
 	@for trace in examples/traces/*.trace; do \
 		./bin/linkcheck < $$trace | cmp - $${trace%.trace}.out && echo $$trace || exit 1; \
 	done
@@ -64,8 +72,12 @@ bindings:
 	@bindings/check.sh
 
 # Times of one allocation and of one message beside those of the Rust original. `make bench work="NAME .."` runs those alone.
-bench: bin/linkrun bin/broadcast
-	python3 bench/run.py bin/linkrun bin/broadcast $(work)
+bench: bin/linkrun bin/broadcast bin/networks
+	python3 bench/run.py bin/linkrun bin/broadcast bin/networks $(work)
+
+# Compares the rates of 10,000 random networks with a plain reckoning by fractions. Takes half a minute.
+networks: bin/networks
+	python3 tests/networks.py bin/networks
 
 # Refuses allocations, reads and writes one by one, and runs bad scripts. Takes a minute or two (docs/HOSTILE.md). After
 # the gate, `make hostile over=gate` takes the program and the tests that it built.

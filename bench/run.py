@@ -4,7 +4,8 @@
     python3 bench/run.py bin/linkrun NAME..   those workloads, also long ones (`bench/workloads.py` tells what they are)
 
 Where `bin/broadcast`, with a slash, stands after `bin/linkrun`, each `broadcast-N` has a second row, `at once`: that
-program prints the same for N, and asks the scheduler by one call for all that is sent at one moment.
+program prints the same for N, and asks the scheduler by one call for all that is sent at one moment. Where
+`bin/networks` stands there, the networks `routes-N` are asked of it; without it they are left out.
 
 Each script is run three times (once where it takes more than ten seconds), and the least time is divided by the number
 of its allocations or messages, printing included. The original's figures were measured once, on a machine of four cores
@@ -30,6 +31,7 @@ ORIGINAL = {
 LONG = {"broadcast-64", "broadcast-100", "mixed-64", "mixed-100", "groups-256-20000"}
 BESIDE = {"idle-1000": "idle-100", "idle-10000": "idle-100", "kept-100000": "kept-10"}
 AT_ONCE = ", at once"
+ROUTES = "routes-"
 RUNS, SLOW = 3, 10
 
 
@@ -93,11 +95,13 @@ def memory_of(process):
 
 def pieces_in(name, lines):
     """How many allocations or messages the lines ask for."""
+    if name.startswith(ROUTES):
+        return int(lines[0].split()[0])
     wanted = "rates" if name.startswith(("whole", "any")) else "enqueue"
     return sum(line.startswith(wanted) for line in lines)
 
 
-def measured(program, at_once, name, folder):
+def measured(program, others, name, folder):
     """The parts of a workload: what each is called, its pieces, the least seconds that it took, and the memory."""
     lines, beginning = list(workloads.lines_of(name)), list(workloads.beginning_of(name))
     if beginning:
@@ -111,22 +115,27 @@ def measured(program, at_once, name, folder):
     script = os.path.join(folder, name)
     with open(script, "w") as file:
         file.writelines(line + "\n" for line in lines)
+    if name.startswith(ROUTES):
+        if "networks" in others:
+            yield name, pieces_in(name, lines), *run_again([others["networks"]], script)
+        return
     yield name, pieces_in(name, lines), *run_again([program], script)
-    if at_once and name.startswith("broadcast"):
+    if "broadcast" in others and name.startswith("broadcast"):
         peers = name.removeprefix("broadcast-")
-        yield name + AT_ONCE, pieces_in(name, lines), *run_again([at_once, peers], os.devnull)
+        yield name + AT_ONCE, pieces_in(name, lines), *run_again([others["broadcast"], peers], os.devnull)
 
 
 def main():
     program, *names = sys.argv[1:]
-    at_once = names.pop(0) if names and "/" in names[0] else None
+    others = {os.path.basename(name): name for name in names if "/" in name}
+    names = [name for name in names if "/" not in name]
     names = names or [name for name in workloads.SCRIPTS if name not in LONG]
     print(f"{'work':>22} {'pieces':>7} {'seconds':>8} {'us a piece':>11} "
           f"{'original':>9} {'times as fast':>14} {'MB':>6}")
     took = {}
     with tempfile.TemporaryDirectory() as folder:
         for name in names:
-            for part, pieces, least, memory in measured(program, at_once, name, folder):
+            for part, pieces, least, memory in measured(program, others, name, folder):
                 each = took[part] = least / pieces * 1e6
                 original = ORIGINAL.get(part.removesuffix(AT_ONCE))
                 beside = f"{original:>9} {original / each:>14.1f}" if original else f"{'-':>9} {'-':>14}"

@@ -12,6 +12,7 @@
 | `queue-M` | M messages of one pair wait behind a cap, and then the cap is lifted |
 | `broadcast-N` | a bench of a consensus protocol: one of N peers sends a block to all others, then all send a vote to all others, twice; all caps are equal. `crates/broadcast` does the same without a script |
 | `mixed-N` | the same under caps that differ |
+| `routes-N` | no script, but a network for `bin/networks`: N flows over four of N/4 + 8 links each, under any caps below 2^20, asked many times |
 | `idle-N` | 2000 messages of one pair, beside N pairs whose next message may start only far in the future |
 | `kept-N` | 100000 messages of one pair, each enqueued and done before the next, beside N caps and N last arrivals of others |
 """
@@ -56,6 +57,15 @@ def any_rates(flows, calls):
         recipient = chance.other(origin, peers)
         yield f"flow {flow} {origin} {recipient} {int(chance.below(8) > 0)}"
     yield from ["rates"] * calls
+
+
+def routes(flows, calls):
+    """A network of `crates/networks`: how many times to ask, the caps, and the routes."""
+    chance = Chance(0x9E3779B97F4A7C15 + flows)
+    links = flows // 4 + 8
+    caps = ",".join(str(chance.between(1, 2**20 - 1)) for _ in range(links))
+    paths = ";".join(",".join(str(chance.below(links)) for _ in range(4)) for _ in range(flows))
+    yield f"{calls} {caps} {paths}"
 
 
 def whole_rates(flows, calls):
@@ -170,6 +180,7 @@ PEERS = (8, 16, 24, 32, 64, 100)
 SCRIPTS = {
     **{f"whole-{flows}": (whole_rates, flows, calls) for flows, calls in CALLS.items()},
     **{f"any-{flows}": (any_rates, flows, calls) for flows, calls in CALLS.items()},
+    **{f"routes-{flows}": (routes, flows, calls) for flows, calls in CALLS.items()},
     **{f"groups-{peers}-{messages}": (groups, peers, messages)
        for peers, messages in ((4, 1000), (16, 5000), (64, 20000), (256, 20000))},
     **{f"pairs-{peers}-{messages}": (pairs, peers, messages)

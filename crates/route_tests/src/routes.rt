@@ -16,8 +16,8 @@ const HALF: u128 = 170141183460469231731687303715884105728;
 fn expect(rt: &(impl Abort + AllocGlobal), line: &str) -> Result<(), Fail> {
     let alloc = rt.alloc();
     let mut words = line.split_whitespace();
-    let caps = text::caps(alloc, words.next().ok_or("no caps")?)?;
-    let routes = text::routes(alloc, words.next().ok_or("no routes")?)?;
+    let caps = network_lines::caps(alloc, words.next().ok_or("no caps")?)?;
+    let routes = network_lines::routes(alloc, words.next().ok_or("no routes")?)?;
     let wanted = text::rates(alloc, words.next().ok_or("no rates")?)?;
     let rounds = words.next().ok_or("no rounds")?.parse::<u128>()?;
     assert_eq!(rt; allocate_routes(alloc, &routes, &caps)?.as_slice(), wanted.as_slice(), "{line}");
@@ -33,7 +33,7 @@ fn refusal(
     caps: &[Option<u128>],
     routes: &str,
 ) -> Result<Option<RouteError>, Fail> {
-    let routes = text::routes(alloc, routes)?;
+    let routes = network_lines::routes(alloc, routes)?;
     Ok(allocate_routes(alloc, &routes, caps).err())
 }
 

@@ -1,51 +1,8 @@
-//! Networks as text.
-//!
-//! A line has the caps of the links, with `-` for none, the routes of the flows, and the rates that
-//! they are to have. Links and caps are parted by commas, flows by semicolons. `.` is a route without
-//! links or a list without flows, and a rate is `N`, `N/D` or `unlimited`.
+//! Rates as text: a rate is `N`, `N/D` or `unlimited`, semicolons part them, and `none` is no rate.
 use fair_rates::bandwidth::Rate;
 use fair_rates::ratio::Ratio;
 use std::alloc::Global;
 use std::test::Fail;
-
-/// The cap that a word says.
-fn cap(word: &str) -> Result<Option<u128>, Fail> {
-    if word == "-" {
-        return Ok(None);
-    }
-    Ok(Some(word.parse::<u128>()?))
-}
-
-/// The caps that a text lists.
-pub(crate) fn caps(alloc: Global, text: &str) -> Result<Vec<Option<u128>>, Fail> {
-    let mut caps = Vec::new(alloc);
-    for word in text.split(',') {
-        caps.push(cap(word)?)?;
-    }
-    Ok(caps)
-}
-
-/// The links of one route.
-fn route(alloc: Global, text: &str) -> Result<Vec<usize>, Fail> {
-    let mut route = Vec::new(alloc);
-    if text != "." {
-        for word in text.split(',') {
-            route.push(word.parse::<usize>()?)?;
-        }
-    }
-    Ok(route)
-}
-
-/// The routes that a text lists.
-pub(crate) fn routes(alloc: Global, text: &str) -> Result<Vec<Vec<usize>>, Fail> {
-    let mut routes = Vec::new(alloc);
-    if text != "none" {
-        for word in text.split(';') {
-            routes.push(route(alloc, word)?)?;
-        }
-    }
-    Ok(routes)
-}
 
 /// The rate that a word says.
 fn rate(word: &str) -> Result<Rate, Fail> {

@@ -1,0 +1,29 @@
+//! What is printed of a network.
+use fair_rates::bandwidth::Rate;
+use fair_routes::routes::RouteError;
+use std::io;
+use std::io::Write;
+
+/// Prints the rates and the rounds, or the refusal.
+pub(crate) fn print<W: Write>(
+    output: &mut W,
+    answer: &Result<(Vec<Rate>, u128), RouteError>,
+) -> io::Result<()> {
+    match answer {
+        Ok((rates, rounds)) => {
+            for rate in rates {
+                print_rate(output, rate)?;
+            }
+            writeln!(output, " {rounds}")
+        }
+        Err(error) => writeln!(output, "refused: {error}"),
+    }
+}
+
+/// Prints one rate, and a semicolon.
+fn print_rate<W: Write>(output: &mut W, rate: &Rate) -> io::Result<()> {
+    match rate {
+        Rate::Unlimited => write!(output, "unlimited;"),
+        Rate::Finite(ratio) => write!(output, "{}/{};", ratio.numerator(), ratio.denominator()),
+    }
+}
