@@ -20,7 +20,11 @@ fn expect(rt: &(impl Abort + AllocGlobal), line: &str) -> Result<(), Fail> {
     let routes = network_lines::routes(alloc, words.next().ok_or("no routes")?)?;
     let wanted = text::rates(alloc, words.next().ok_or("no rates")?)?;
     let rounds = words.next().ok_or("no rounds")?.parse::<u128>()?;
-    assert_eq!(rt; allocate_routes(alloc, &routes, &caps)?.as_slice(), wanted.as_slice(), "{line}");
+    assert_eq!(rt;
+        allocate_routes(alloc, &routes, &caps)?.as_slice(),
+        wanted.as_slice(),
+        "{line}"
+    );
     let (rates, counted) = allocate_routes_counted(alloc, &routes, &caps)?;
     assert_eq!(rt; rates.as_slice(), wanted.as_slice(), "{line}");
     assert_eq!(rt; counted, rounds, "{line}");
@@ -28,11 +32,7 @@ fn expect(rt: &(impl Abort + AllocGlobal), line: &str) -> Result<(), Fail> {
 }
 
 /// What flows over those routes are refused for.
-fn refusal(
-    alloc: Global,
-    caps: &[Option<u128>],
-    routes: &str,
-) -> Result<Option<RouteError>, Fail> {
+fn refusal(alloc: Global, caps: &[Option<u128>], routes: &str) -> Result<Option<RouteError>, Fail> {
     let routes = network_lines::routes(alloc, routes)?;
     Ok(allocate_routes(alloc, &routes, caps).err())
 }
@@ -88,7 +88,10 @@ fn a_closed_link_gives_nothing(rt: HostRuntime) -> Result<(), Fail> {
 #[test]
 fn a_flow_alone_has_the_least_cap(rt: HostRuntime) -> Result<(), Fail> {
     expect(&rt, "9,7,8 2,0,1 7 1")?;
-    expect(&rt, "9,-,340282366920938463463374607431768211455 2,1 340282366920938463463374607431768211455 1")
+    expect(
+        &rt,
+        "9,-,340282366920938463463374607431768211455 2,1 340282366920938463463374607431768211455 1",
+    )
 }
 
 /// Five flows among three peers: what a peer sends is a link, and what it receives.
@@ -114,7 +117,10 @@ fn a_link_that_is_not_listed_is_named(rt: HostRuntime) -> Result<(), Fail> {
         Some(RouteError::NoSuchLink { flow: 0, link: 0 })
     );
     let text = format!(in rt.alloc(); "{}", RouteError::NoSuchLink { flow: 1, link: 7 })?;
-    assert_eq!(rt; text.as_str(), "flow 1 uses link 7, which has no entry in the list of caps");
+    assert_eq!(rt;
+        text.as_str(),
+        "flow 1 uses link 7, which has no entry in the list of caps"
+    );
     let memory = format!(in rt.alloc(); "{}", RouteError::Refused(Error::OutOfMemory))?;
     assert_eq!(rt; memory.as_str(), "out of memory");
     Ok(())
@@ -129,7 +135,11 @@ fn a_rate_that_is_no_fraction_is_refused(rt: HostRuntime) -> Result<(), Fail> {
         refusal(rt.alloc(), &caps, "0,1;1;0,2;2;2;0")?,
         Some(RouteError::Refused(Error::NumberTooLarge))
     );
-    let narrow = [Some(u128::from(u64::MAX)), Some(1), Some(u128::from(u64::MAX) - 2)];
+    let narrow = [
+        Some(u128::from(u64::MAX)),
+        Some(1),
+        Some(u128::from(u64::MAX) - 2),
+    ];
     assert_eq!(rt; refusal(rt.alloc(), &narrow, "0,1;1;0,2;2;2;0")?, None);
     Ok(())
 }
