@@ -116,6 +116,31 @@ fn all_is_taken_back(rt: HostRuntime) -> Result<(), Fail> {
     Ok(())
 }
 
+#[test]
+fn gaps_are_closed(rt: HostRuntime) -> Result<(), Fail> {
+    let mut chains = two_owners(rt.alloc())?;
+    take(&mut chains, 2)?;
+    take(&mut chains, 1)?;
+    chains.close_gaps();
+    assert_eq!(rt; chains.rows(), 4);
+    assert_eq!(rt;
+        listed(rt.alloc(), &chains, 0)?.as_slice(),
+        [0, 2].as_slice()
+    );
+    assert_eq!(rt;
+        listed(rt.alloc(), &chains, 1)?.as_slice(),
+        [1, 3].as_slice()
+    );
+    add(&mut chains, 0)?;
+    chains.undo();
+    add(&mut chains, 1)?;
+    assert_eq!(rt;
+        listed(rt.alloc(), &chains, 1)?.as_slice(),
+        [1, 3, 4].as_slice()
+    );
+    Ok(())
+}
+
 /// Whichever piece of memory is refused, the rows stand as they did at the mark.
 #[test]
 fn where_memory_is_refused_all_is_taken_back(rt: HostRuntime) -> Result<(), Fail> {

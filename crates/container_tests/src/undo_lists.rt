@@ -93,6 +93,29 @@ fn texts_come_back(rt: HostRuntime) -> Result<(), Fail> {
     Ok(())
 }
 
+#[test]
+fn without_a_mark_all_items_go(rt: HostRuntime) -> Result<(), Fail> {
+    let mut list = marked(rt.alloc(), &[1, 2, 3])?;
+    list.set(1, 20)?;
+    list.unmark();
+    assert!(rt; list.len() == 3 && list.is_saved(2));
+    assert_eq!(rt; list.saved_len(), 0);
+    assert_eq!(rt; list.as_slice(), [1, 20, 3].as_slice());
+    list.commit();
+    list.undo();
+    assert_eq!(rt; list.as_slice(), [1, 20, 3].as_slice());
+    list.unmark();
+    list.undo();
+    assert_eq!(rt; list.len(), 0);
+    let mut list = marked(rt.alloc(), &[4, 5])?;
+    list.clear();
+    list.push(6)?;
+    assert_eq!(rt; list.as_slice(), [6].as_slice());
+    list.undo();
+    assert_eq!(rt; list.len(), 0);
+    Ok(())
+}
+
 /// Whichever piece of memory is refused, all comes back.
 #[test]
 fn all_comes_back_where_memory_is_refused(rt: HostRuntime) -> Result<(), Fail> {
