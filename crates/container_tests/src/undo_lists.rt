@@ -96,6 +96,7 @@ fn texts_come_back(rt: HostRuntime) -> Result<(), Fail> {
 #[test]
 fn without_a_mark_all_items_go(rt: HostRuntime) -> Result<(), Fail> {
     let mut list = marked(rt.alloc(), &[1, 2, 3])?;
+    assert_eq!(rt; list.len(), 3);
     list.set(1, 20)?;
     list.unmark();
     assert!(rt; list.len() == 3 && list.is_saved(2));
