@@ -1,4 +1,4 @@
-use Rattle.std.proofs.Common.{◌≡◌, ◌<◌, ◌∙◌, ℕ, Some, sym, ap, subst, length}
+use Rattle.std.proofs.Common.{◌<◌, ◌∙◌, ℕ, sym, ap, subst}
 use Rattle.chains.specs.Chains.{Versions, owner_of}
 use Rattle.chains.specs.Tables.{Table, now_of}
 use Rattle.chains.proofs.Views.{owner_is}
