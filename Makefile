@@ -52,6 +52,7 @@ examples: bin/linkrun bin/linkcheck bin/linkdraw bin/networks
 	@for example in partner fat_tree trunks; do \
 		python3 examples/$$example.py | cmp - examples/$$example.out && echo examples/$$example.py || exit 1; \
 	done
+	@python3 examples/broadcast.py | ./bin/linkrun | cmp - examples/broadcast.out && echo examples/broadcast.py
 	@for trace in examples/traces/*.trace; do \
 		./bin/linkcheck < $$trace | cmp - $${trace%.trace}.out && echo $$trace || exit 1; \
 	done
