@@ -1,3 +1,3 @@
 pub mod Finding
-pub mod Live
 pub mod Nexts
+pub mod Slots

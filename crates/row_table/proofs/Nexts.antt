@@ -1,112 +1,199 @@
--- The next row that passes a test, and the rows that are there.
-use Rattle.std.proofs.Common.{◌≡◌, ℕ, zero, suc, ◌+◌, ◌≤◌, Bool, true, false, List, [], ◌∷◌, Option, Some, None, take, drop, refl, sym, ap, ◌∙◌, cond, arith}
-use Rattle.std.proofs.Common.{◌||◌, IfSome, IsSome}
-use Rattle.std.specs.List.{filter, list_any}
-use Rattle.std.proofs.lemmas.Bool.{cases_Bool, cond-true, cond-false}
-use Rattle.std.proofs.lemmas.List.{get_or-drop}
-use Rattle.std.proofs.Math.Seq.{take-nil}
-use Rattle.chains.proofs.Places.{by_cases}
-use Rattle.row_table.specs.Rows.{live, entry_at, passes, Passes, IsNext}
+-- The next row that passes a test, by places and by slots.
+use Rattle.std.proofs.Common.{◌≡◌, ℕ, zero, suc, ◌<◌, ◌≤◌, ◌==◌, Bool, true, false, List, [], ◌∷◌, Option, Some, None, length, map, refl, sym, ap, ◌∙◌, arith}
+use Rattle.std.proofs.Common.{◌||◌, IfSome, IfNone, IsSome, slice_get, slice_index_or, option_map, eq-eqb}
+use Rattle.std.specs.List.{list_any}
+use Rattle.std.proofs.lemmas.Bool.{cases_Bool, cases_lt, eqb-true, le-leb, leb-true}
+use Rattle.std.proofs.lemmas.Option.{slice_get_within}
+use Rattle.std.proofs.Math.ListN.{get_or-map}
+use Rattle.chains.specs.Places.{IsFirst}
+use Rattle.chains.proofs.Places.{by_cases, first_same}
+use Rattle.least_moment.specs.Moments.{HasCome, IsDue, moment_at, IsNextDue, NoneDue, IsLeast}
+use Rattle.row_table.specs.Rows.{passes, IsNext, has_come, is_due_by}
+use Rattle.row_table.specs.Slots.{live, held, filled_from, IsNextSlot, IsPlaceOf}
+use Rattle.row_table.specs.Index.{moment_of}
 use Rattle.row_table.specs.declared.row.Row.{Row}
-use Rattle.row_table.proofs.Live.{is_there}
+use Rattle.row_table.proofs.Slots.{IsSlot, slot_at, held_at, slot_of_row, slots_below, places_below, is_there, some_same}
 
 or_true : (a b : Bool) → b ≡ true → (a || b) ≡ true
 or_true true b e = refl
 or_true false b e = e
 
-not_true : (b : Bool) → (b ≡ true → ⊥) → b ≡ false
-not_true true never = absurd (never refl)
-not_true false never = refl
-
-pub true_alike : (a b : Bool) → (a ≡ true → b ≡ true) → (b ≡ true → a ≡ true) → a ≡ b
+true_alike : (a b : Bool) → (a ≡ true → b ≡ true) → (b ≡ true → a ≡ true) → a ≡ b
 true_alike true b f g = sym (f refl)
 true_alike false true f g = g refl
 true_alike false false f g = refl
 
-module _ {T : Type 0} (test : Row T → Bool) where
-  -- what passes is a row
-  pub the_row : (place : Option (Row T)) → passes test place ≡ true → (row : Row T) × (place ≡ Some row) × (test row ≡ true)
-  the_row None e = cc
-  the_row (Some row) e = (row, refl, e)
+-- what passes is a row
+the_row : {T : Type 0} (test : Row T → Bool) (o : Option (Row T)) → passes test o ≡ true
+    → (row : Row T) × (o ≡ Some row)
+the_row test None e = cc
+the_row test (Some row) e = (row, refl)
 
-  pub there_if : (places : List (Option (Row T))) (from : ℕ) (result : Option ℕ) → IsNext test places from result
-      → IfSome result (λ at. IsSome (entry_at places at))
-  there_if places from None next = tt
-  there_if places from (Some at) next =
-      let found = the_row (entry_at places at) next.there in
-      is_there (entry_at places at) found.0 found.1
+-- ---- from slots to places
 
-  -- a row that is there passes where one passes at some place
-  pub any_live : (places : List (Option (Row T))) (at : ℕ) → Passes test places at → list_any test (live places) ≡ true
-  any_live [] at e = cc
-  any_live (None ∷ places) zero e = cc
-  any_live (None ∷ places) (suc at) e = any_live places at e
-  any_live (Some row ∷ places) zero e = ap (λ b. b || list_any test (live places)) e
-  any_live (Some row ∷ places) (suc at) e = or_true (test row) (list_any test (live places)) (any_live places at e)
+-- rows from a place on are those of the slots from one on
+pub record AreFrom {T : Type 0} (slots : List (Option (Row T))) (from start : ℕ) : Type 0 where
+  pub slot : (at slot : ℕ) → IsSlot slots at slot → from ≤ at → start ≤ slot
+  pub place : (at slot : ℕ) → IsSlot slots at slot → start ≤ slot → from ≤ at
 
-  pub place_of_live : (places : List (Option (Row T))) → list_any test (live places) ≡ true → (at : ℕ) × Passes test places at
-  place_of_live [] e = cc
-  place_of_live (None ∷ places) e = let found = place_of_live places e in (suc found.0, found.1)
-  place_of_live (Some row ∷ places) e = by_cases (cases_Bool (test row)) (λ passed. (zero, passed))
-      (λ failed. let found = place_of_live places (sym (ap (λ b. b || list_any test (live places)) failed) ∙ e) in (suc found.0, found.1))
+module _ {T : Type 0} (slots : List (Option (Row T))) where
+  pub from_first : AreFrom slots 0 0
+  from_first = record { slot = λ at slot is on. omega arith; place = λ at slot is on. omega arith }
 
-  -- where none passes at any place, none that is there does
-  pub none_passes : (places : List (Option (Row T))) → ((at : ℕ) → Passes test places at → ⊥) → filter test (live places) ≡ []
-  none_passes [] none = refl
-  none_passes (None ∷ places) none = none_passes places (λ at. none (suc at))
-  none_passes (Some row ∷ places) none =
-      let failed : test row ≡ false = not_true (test row) (none zero) in
-      cond-false (test row) (row ∷ filter test (live places)) (filter test (live places)) failed ∙ none_passes places (λ at. none (suc at))
-
-  -- from a place on none passes, where none is next
-  pub next_none : (places : List (Option (Row T))) (from : ℕ) → IsNext test places from None → filter test (live (drop from places)) ≡ []
-  next_none places from none = none_passes (drop from places)
-      (λ at e. none (from + at) (omega arith) (sym (ap (passes test) (get_or-drop from places at None)) ∙ e))
-
-  -- without the first place
-  next_behind : (place : Option (Row T)) (places : List (Option (Row T))) (from at : ℕ) → IsNext test (place ∷ places) (suc from) (Some (suc at))
-      → IsNext test places from (Some at)
-  next_behind place places from at next = record {
-    on = let on : suc from ≤ suc at = next.on in omega (arith, on);
-    there = next.there;
-    first = λ n on low. next.first (suc n) (omega (arith, on)) (omega (arith, low));
+  pub from_behind : (from start : ℕ) → IsSlot slots from start → AreFrom slots (suc from) (suc start)
+  from_behind from start is = record {
+    slot = λ at slot there on. slots_below slots from start at slot is there on;
+    place = λ at slot there on. places_below slots from start at slot is there on;
   }
 
-  next_later : (place : Option (Row T)) (places : List (Option (Row T))) (at : ℕ) → IsNext test (place ∷ places) zero (Some (suc at))
-      → IsNext test places zero (Some at)
-  next_later place places at next = record {
-    on = omega arith;
-    there = next.there;
-    first = λ n on low. next.first (suc n) (omega arith) (omega (arith, low));
+  pub from_there : (from start : ℕ) → IsSlot slots from start → AreFrom slots from start
+  from_there from start is = record {
+    slot = λ at slot there on. by_cases (cases_lt slot start)
+        (λ less. let low = places_below slots at slot from start there is less in absurd (omega (arith, on, low)))
+        (λ le. le);
+    place = λ at slot there on. by_cases (cases_lt at from)
+        (λ less. let low = slots_below slots at slot from start there is less in absurd (omega (arith, on, low)))
+        (λ le. le);
   }
 
-  -- the first that passes from a place on is the next, and the others come behind it
-  pub next_some : (places : List (Option (Row T))) (from at : ℕ) (row : Row T) → IsNext test places from (Some at) → entry_at places at ≡ Some row
-      → filter test (live (drop from places)) ≡ row ∷ filter test (live (drop (suc at) places))
-  next_some [] from at row next e = cc
-  next_some (place ∷ places) zero zero row next e =
-      let passed : test row ≡ true = sym (ap (passes test) e) ∙ next.there in
-      ap (λ (place : Option (Row T)). filter test (live (place ∷ places))) e
-      ∙ cond-true (test row) (row ∷ filter test (live places)) (filter test (live places)) passed
-  next_some (None ∷ places) zero (suc at) row next e = next_some places zero at row (next_later None places at next) e
-  next_some (Some one ∷ places) zero (suc at) row next e =
-      let failed : test one ≡ false = not_true (test one) (next.first zero (omega arith) (omega arith)) in
-      cond-false (test one) (one ∷ filter test (live places)) (filter test (live places)) failed
-      ∙ next_some places zero at row (next_later (Some one) places at next) e
-  next_some (place ∷ places) (suc from) zero row next e = let on : suc from ≤ zero = next.on in absurd (omega (arith, on))
-  next_some (place ∷ places) (suc from) (suc at) row next e = next_some places from at row (next_behind place places from at next) e
+  module _ (test : Row T → Bool) where
+    pub held_if : (from : ℕ) (result : Option ℕ) → IsNextSlot test slots from result
+        → IfSome result (λ slot. IsSome (held slots slot))
+    held_if from None next = tt
+    held_if from (Some slot) next = let found = the_row test (held slots slot) next.there in
+        is_there (held slots slot) found.0 found.1
 
-  -- none passes from a place up to the next
-  pub next_front : (places : List (Option (Row T))) (from at : ℕ) → IsNext test places from (Some at)
-      → filter test (live (take at places)) ≡ filter test (live (take from places))
-  next_front [] from at next = ap (λ (places : List (Option (Row T))). filter test (live places)) (take-nil at ∙ sym (take-nil from))
-  next_front (place ∷ places) zero zero next = refl
-  next_front (None ∷ places) zero (suc at) next = next_front places zero at (next_later None places at next)
-  next_front (Some one ∷ places) zero (suc at) next =
-      let failed : test one ≡ false = not_true (test one) (next.first zero (omega arith) (omega arith)) in
-      let front : List (Row T) = filter test (live (take at places)) in
-      cond-false (test one) (one ∷ front) front failed ∙ next_front places zero at (next_later (Some one) places at next)
-  next_front (place ∷ places) (suc from) zero next = let on : suc from ≤ zero = next.on in absurd (omega (arith, on))
-  next_front (None ∷ places) (suc from) (suc at) next = next_front places from at (next_behind None places from at next)
-  next_front (Some one ∷ places) (suc from) (suc at) next =
-      ap (λ rows. cond (test one) (one ∷ rows) rows) (next_front places from at (next_behind (Some one) places from at next))
+    slot_of_passed : (at : ℕ) → passes test (slice_get (live slots) at) ≡ true
+        → (slot : ℕ) × IsSlot slots at slot × (passes test (held slots slot) ≡ true)
+    slot_of_passed at e =
+        let found = the_row test (slice_get (live slots) at) e in
+        let slot = slot_of_row slots at found.0 found.1 in
+        (slot.0, slot.1, ap (passes test) (sym (held_at slots at slot.0 slot.1)) ∙ e)
+
+    next_none : (from start : ℕ) → AreFrom slots from start → IsNextSlot test slots start None
+        → IsNext test (live slots) from None
+    next_none from start are none at on e =
+        let found = slot_of_passed at e in
+        none found.0 (are.slot at found.0 found.1 on) found.2
+
+    next_some : (from start at slot : ℕ) → AreFrom slots from start → IsSlot slots at slot
+        → IsNextSlot test slots start (Some slot)
+        → IsNext test (live slots) from (Some at)
+    next_some from start at slot are is next = record {
+      on = are.place at slot is next.on;
+      there = ap (passes test) (held_at slots at slot is) ∙ next.there;
+      first = λ n on low e.
+          let found = slot_of_passed n e in
+          next.first found.0 (are.slot n found.0 found.1 on)
+          (slots_below slots n found.0 at slot found.1 is low) found.2;
+    }
+
+    -- the place of the next slot is the next place
+    pub next_place : (filled : List ℕ) (from start : ℕ) (slot at : Option ℕ) → filled ≡ filled_from slots 0
+        → AreFrom slots from start
+        → IsPlaceOf filled slot at → IsNextSlot test slots start slot → IsNext test (live slots) from at
+    next_place filled from start None None e are is next = next_none from start are next
+    next_place filled from start None (Some at) e are is next = absurd is
+    next_place filled from start (Some slot) None e are is next = absurd is
+    next_place filled from start (Some slot) (Some at) e are is next =
+        next_some from start at slot are (slot_at slots filled at slot e is) next
+
+-- it is one of the places
+pub next_within : {T : Type 0} (test : Row T → Bool) (rows : List (Row T)) (from : ℕ) (result : Option ℕ)
+    → IsNext test rows from result
+    → IfSome result (λ at. at < length rows)
+next_within test rows from None next = tt
+next_within test rows from (Some at) next =
+    let found = the_row test (slice_get rows at) next.there in
+    slice_get_within rows at found.0 found.1
+
+-- ---- an owner's rows
+
+module _ {T : Type 0} (owner_in : Row T → ℕ) (slots : List (Option (Row T))) (stands : List (Option ℕ)) (owner : ℕ)
+    (e : stands ≡ map (option_map owner_in) slots) where
+  owned : (o : Option (Row T)) → option_map owner_in o ≡ Some owner → passes (λ row. owner_in row == owner) o ≡ true
+  owned None e = cc
+  owned (Some row) e = eq-eqb (owner_in row) owner (some_same (owner_in row) owner e)
+
+  owner_of_passed : (o : Option (Row T)) → passes (λ row. owner_in row == owner) o ≡ true
+      → option_map owner_in o ≡ Some owner
+  owner_of_passed None e = cc
+  owner_of_passed (Some row) e = ap Some (eqb-true (owner_in row) owner e)
+
+  pub stand_at : (slot : ℕ) → slice_index_or stands slot None ≡ option_map owner_in (held slots slot)
+  stand_at slot = ap (λ stands. slice_index_or stands slot None) e ∙ get_or-map (option_map owner_in) slots slot None
+
+  pub stands_if : (slot : ℕ) → passes (λ row. owner_in row == owner) (held slots slot) ≡ true
+      → slice_index_or stands slot None ≡ Some owner
+  stands_if slot there = stand_at slot ∙ owner_of_passed (held slots slot) there
+
+  -- what stands next in the owner's chain is the owner's next slot
+  pub next_of_owner : (from : ℕ) (result : Option ℕ)
+      → IsFirst (λ slot. slice_index_or stands slot None ≡ Some owner) from result
+      → IsNextSlot (λ row. owner_in row == owner) slots from result
+  next_of_owner = first_same (λ slot. slice_index_or stands slot None ≡ Some owner)
+      (λ slot. passes (λ row. owner_in row == owner) (held slots slot) ≡ true)
+      (λ slot there. owned (held slots slot) (sym (stand_at slot) ∙ there)) stands_if
+
+-- ---- moments
+
+comes : (time : ℕ) (moment : Option ℕ) → HasCome time moment → has_come time moment ≡ true
+comes time None come = absurd come
+comes time (Some moment) come = le-leb moment time come
+
+come_if : (time : ℕ) (moment : Option ℕ) → has_come time moment ≡ true → HasCome time moment
+come_if time None e = cc
+come_if time (Some moment) e = leb-true moment time e
+
+module _ {T : Type 0} (slots : List (Option (Row T))) (moments : List (Option ℕ))
+    (e : moments ≡ map moment_of slots) where
+  due_of : (time : ℕ) (o : Option (Row T)) → passes (is_due_by time) o ≡ has_come time (moment_of o)
+  due_of time None = refl
+  due_of time (Some row) = refl
+
+  moment_there : (slot : ℕ) → moment_at moments slot ≡ moment_of (held slots slot)
+  moment_there slot = ap (λ moments. slice_index_or moments slot None) e ∙ get_or-map moment_of slots slot None
+
+  due_at : (time slot : ℕ) → passes (is_due_by time) (held slots slot) ≡ has_come time (moment_at moments slot)
+  due_at time slot = due_of time (held slots slot) ∙ ap (has_come time) (sym (moment_there slot))
+
+  due_if : (time slot : ℕ) → IsDue moments time slot → passes (is_due_by time) (held slots slot) ≡ true
+  due_if time slot due = due_at time slot ∙ comes time (moment_at moments slot) due
+
+  is_due : (time slot : ℕ) → passes (is_due_by time) (held slots slot) ≡ true → IsDue moments time slot
+  is_due time slot e = come_if time (moment_at moments slot) (sym (due_at time slot) ∙ e)
+
+  pub next_due_is : (time from : ℕ) (result : Option ℕ) → IfSome result (IsNextDue moments time from)
+      → IfNone result (NoneDue moments time from) → IsNextSlot (is_due_by time) slots from result
+  next_due_is time from None some none = λ n on e. none n on (is_due time n e)
+  next_due_is time from (Some at) some none = record {
+    on = some.on;
+    there = due_if time at some.due;
+    first = λ n on low e. some.first n on low (is_due time n e);
+  }
+
+  any_live : (test : Row T → Bool) (slots : List (Option (Row T))) (slot : ℕ) → passes test (held slots slot) ≡ true
+      → list_any test (live slots) ≡ true
+  any_live test [] slot e = cc
+  any_live test (None ∷ slots) zero e = cc
+  any_live test (None ∷ slots) (suc slot) e = any_live test slots slot e
+  any_live test (Some row ∷ slots) zero e = ap (λ b. b || list_any test (live slots)) e
+  any_live test (Some row ∷ slots) (suc slot) e = or_true (test row) (list_any test (live slots))
+      (any_live test slots slot e)
+
+  slot_of_any : (test : Row T → Bool) (slots : List (Option (Row T))) → list_any test (live slots) ≡ true
+      → (slot : ℕ) × (passes test (held slots slot) ≡ true)
+  slot_of_any test [] e = cc
+  slot_of_any test (None ∷ slots) e = let found = slot_of_any test slots e in (suc found.0, found.1)
+  slot_of_any test (Some row ∷ slots) e = by_cases (cases_Bool (test row)) (λ passed. (zero, passed))
+      (λ failed. let found = slot_of_any test slots (sym (ap (λ b. b || list_any test (live slots)) failed) ∙ e) in
+      (suc found.0, found.1))
+
+  -- the least moment has come where one of those that are there has
+  pub least_of_live : (least : Option ℕ) → IsLeast moments least → (time : ℕ)
+      → has_come time least ≡ list_any (is_due_by time) (live slots)
+  least_of_live least is_least time = true_alike (has_come time least) (list_any (is_due_by time) (live slots))
+      (λ e. let found = (is_least time).1 (come_if time least e) in
+      any_live (is_due_by time) slots found.0 (due_if time found.0 found.1))
+      (λ e. let found = slot_of_any (is_due_by time) slots e in
+      comes time least ((is_least time).0 (found.0, is_due time found.0 found.1)))

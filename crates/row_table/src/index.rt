@@ -28,18 +28,18 @@ fn add(chains: &mut Chains, owner: usize) -> Result<(), AllocError>
     Ok(())
 }
 
-/// Each place has the moment of its row again.
-fn restore<T>(moments: &mut Moments, places: &[Option<Row<T>>])
-    requires { length places.now ≤ length moments.old }
-    ensures { moments.new ≡ map moment_of places.now }
+/// Each slot has the moment of its row again.
+fn restore<T>(moments: &mut Moments, slots: &[Option<Row<T>>])
+    requires { length slots.now ≤ length moments.old }
+    ensures { moments.new ≡ map moment_of slots.now }
 {
-    moments.truncate(places.len());
-    for at in 0..places.len() {
-        let moment = match &places[at] {
+    moments.truncate(slots.len());
+    for slot in 0..slots.len() {
+        let moment = match &slots[slot] {
             Some(row) => row.moment,
             None => None,
         };
-        moments.set(at, moment);
+        moments.set(slot, moment);
     }
 }
 
@@ -80,22 +80,22 @@ impl Index {
     /// A row goes. Where memory is refused, part of that is done, but its moment stays.
     pub(crate) fn take(
         &mut self,
-        at: usize,
+        slot: usize,
         sender: usize,
         receiver: usize,
     ) -> Result<(), AllocError>
-        requires sent { owner_of self.old.sent.now at ≡ Some sender }
-        requires received { owner_of self.old.received.now at ≡ Some receiver }
-        requires within { at < length self.old.moments }
-        ensures sent { OnOk result (self.new.sent.now.stands ≡ slice_set self.old.sent.now.stands at None) }
-        ensures received { OnOk result (self.new.received.now.stands ≡ slice_set self.old.received.now.stands at None) }
-        ensures moments { OnOk result (self.new.moments ≡ slice_set self.old.moments at None) }
+        requires sent { owner_of self.old.sent.now slot ≡ Some sender }
+        requires received { owner_of self.old.received.now slot ≡ Some receiver }
+        requires within { slot < length self.old.moments }
+        ensures sent { OnOk result (self.new.sent.now.stands ≡ slice_set self.old.sent.now.stands slot None) }
+        ensures received { OnOk result (self.new.received.now.stands ≡ slice_set self.old.received.now.stands slot None) }
+        ensures moments { OnOk result (self.new.moments ≡ slice_set self.old.moments slot None) }
         ensures moments_kept { OnErr result (self.new.moments ≡ self.old.moments) }
         ensures mark { IsSameMark self.old self.new }
     {
-        self.sent.take(sender, at)?;
-        self.received.take(receiver, at)?;
-        self.moments.set(at, None);
+        self.sent.take(sender, slot)?;
+        self.received.take(receiver, slot)?;
+        self.moments.set(slot, None);
         Ok(())
     }
 
@@ -112,29 +112,29 @@ impl Index {
     }
 
     /// The rows that are there close up, and a mark is set: these are they.
-    pub(crate) fn close_gaps<T>(&mut self, places: &[Option<Row<T>>])
-        requires { length places.now ≤ length self.old.moments }
+    pub(crate) fn close_gaps<T>(&mut self, slots: &[Option<Row<T>>])
+        requires { length slots.now ≤ length self.old.moments }
         ensures sent { self.new.sent.now.stands ≡ filter is_some self.old.sent.now.stands }
         ensures received { self.new.received.now.stands ≡ filter is_some self.old.received.now.stands }
-        ensures moments { self.new.moments ≡ map moment_of places.now }
+        ensures moments { self.new.moments ≡ map moment_of slots.now }
         ensures sent_before { self.new.sent.before ≡ self.new.sent.now }
         ensures received_before { self.new.received.before ≡ self.new.received.now }
     {
         self.sent.close_gaps();
         self.received.close_gaps();
-        restore(&mut self.moments, places);
+        restore(&mut self.moments, slots);
     }
 
     /// All is taken back to the mark, at which these rows stood.
-    pub(crate) fn undo<T>(&mut self, places: &[Option<Row<T>>])
-        requires { length places.now ≤ length self.old.moments }
+    pub(crate) fn undo<T>(&mut self, slots: &[Option<Row<T>>])
+        requires { length slots.now ≤ length self.old.moments }
         ensures sent { self.new.sent.now ≡ self.old.sent.before }
         ensures received { self.new.received.now ≡ self.old.received.before }
-        ensures moments { self.new.moments ≡ map moment_of places.now }
+        ensures moments { self.new.moments ≡ map moment_of slots.now }
         ensures mark { IsSameMark self.old self.new }
     {
         self.sent.undo();
         self.received.undo();
-        restore(&mut self.moments, places);
+        restore(&mut self.moments, slots);
     }
 }

@@ -2,6 +2,7 @@
 //! They are changed in place, and can be taken back as a whole to how they stood at the last mark.
 #![tactic(auto)]
 
+mod filled;
 mod index;
 mod parts;
 mod row;

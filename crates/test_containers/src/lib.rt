@@ -1,4 +1,5 @@
-//! Callers of lists that are taken back, of moments in a row and of chains, each short and proved, and tests.
+//! Callers of lists that are taken back, of moments in a row and of chains, each short and proved, and tests of these
+//! and of tables of rows.
 #![tactic(auto)]
 
 #[cfg(test)]
@@ -6,6 +7,8 @@ mod chained_rows;
 pub mod due_places;
 #[cfg(test)]
 mod moments;
+#[cfg(test)]
+mod row_tables;
 pub mod rows;
 pub mod store;
 #[cfg(test)]

@@ -1,39 +1,66 @@
-use Rattle.std.proofs.Common.{rules, ◌≡◌, ◌∙◌, inr, map, Some, List, Option, refl, ap}
+use Rattle.std.proofs.Common.{rules, ◌≡◌, ◌≤◌, ◌∙◌, map, Some, List, Option, refl, sym, subst, ap, length}
 use Rattle.std.specs.Option.{is_some}
+use Rattle.std.specs.Vec.{vec_capacity}
 use Rattle.std.proofs.lemmas.Fn.{filter_same}
-use Rattle.chains.specs.Chains.{Rows}
-use Rattle.row_table.specs.Rows.{live}
-use Rattle.row_table.specs.Index.{moment_of, Finds}
+use Rattle.row_table.specs.Slots.{live, filled_from}
+use Rattle.row_table.specs.Index.{moment_of, Finds, Stands}
 use Rattle.row_table.specs.declared.row.Row.{Row}
-use Rattle.row_table.proofs.Live.{live_filter}
-use Rattle.row_table.proofs.Finding.{found_closed, stands_whole, marked_whole}
+use Rattle.row_table.specs.declared.parts.Parts.{Parts}
+use Rattle.row_table.proofs.Slots.{live_filter, live_whole, room_for}
+use Rattle.row_table.proofs.Finding.{found_closed, stands_whole, marked_now}
 use Rattle.row_table.proofs.parts.Parts.commit.Given as given
 use Rattle.row_table.proofs.parts.Parts.commit.Goals as goal
 
-module _ (g : given.Over) (c : goal.After-self-then-has_many_gaps-1 g) where
-  closed_up : c.commit_kept.new.self.items ≡ map Some (live c.args.self.now.rows.items)
+module _ (g : given.Over) (c : goal.After-refill g) where
+  closed_up : c.commit_kept.new.self.items ≡ map Some (live c.args.self.now.slots.items)
   closed_up =
       filter_same _ is_some _ (λ x b f' k. search rules) _ _ c.commit_kept.ensures.items
-      ∙ live_filter c.args.self.now.rows.items
+      ∙ live_filter c.args.self.now.slots.items
 
-  moments_are : c.close_gaps.new.self.moments ≡ map moment_of (map Some (live c.args.self.now.rows.items))
-  moments_are =
-      c.close_gaps.ensures.moments
-      ∙ ap (λ (places : List (Option (Row g.row.T.Denot))). map moment_of places) (c.as_slice.ensures ∙ closed_up)
+  live_same : live c.commit_kept.new.self.items ≡ live c.args.self.now.slots.items
+  live_same = ap (λ (slots : List (Option (Row g.row.T.Denot))). live slots) closed_up
+      ∙ live_whole (live c.args.self.now.slots.items)
 
-  finds : Finds c.close_gaps.new.self (map Some (live c.args.self.now.rows.items))
-  finds = found_closed c.args.self.now.index c.close_gaps.new.self c.args.self.now.rows.items c.requires.found
-      c.close_gaps.ensures.sent c.close_gaps.ensures.received moments_are
+  finds : Finds c.close_gaps.new.self (map Some (live c.args.self.now.slots.items))
+  finds = found_closed c.args.self.now.index c.close_gaps.new.self c.args.self.now.slots.items c.requires.found
+      c.close_gaps.ensures.sent c.close_gaps.ensures.received
+      (c.close_gaps.ensures.moments
+      ∙ ap (λ (slots : List (Option (Row g.row.T.Denot))). map moment_of slots) (c.as_slice.ensures ∙ closed_up))
 
-pub returns-then-has_many_gaps-clause-closed : goal.returns-then-has_many_gaps-clause-closed
-returns-then-has_many_gaps-clause-closed g c = inr (closed_up g c)
+  filled_again : c.refill.new.filled.items ≡ filled_from c.commit_kept.new.self.items 0
+  filled_again = c.refill.ensures.items
+      ∙ ap (λ (slots : List (Option (Row g.row.T.Denot))). filled_from slots 0) c.as_slice-then-has_many_gaps.ensures
+
+pub refill-requires : goal.refill-requires
+refill-requires g c =
+    let slots : List (Option (Row g.row.T.Denot)) = c.args.self.now.slots.items in
+    let closed = filter_same _ is_some _ (λ x b f' k. search rules) _ _ c.commit_kept.ensures.items
+    ∙ live_filter slots in
+    subst (λ (rows : List (Row g.row.T.Denot)). length rows ≤ vec_capacity c.args.self.now.filled)
+    (sym (ap (λ (slots : List (Option (Row g.row.T.Denot))). live slots)
+    (c.as_slice-then-has_many_gaps.ensures ∙ closed)
+    ∙ live_whole (live slots)))
+    (room_for c.args.self.now.filled slots c.requires.filled)
+
+pub returns-then-has_many_gaps-clause-rows : goal.returns-then-has_many_gaps-clause-rows
+returns-then-has_many_gaps-clause-rows g c = live_same g c
 
 pub returns-then-has_many_gaps-clause-stands : goal.returns-then-has_many_gaps-clause-stands
 returns-then-has_many_gaps-clause-stands g c =
-    stands_whole _ (live c.args.self.now.rows.items) (closed_up g c) (finds g c) refl
+    stands_whole _ (live c.args.self.now.slots.items) (closed_up g c) (finds g c) (filled_again g c)
 
 pub returns-then-has_many_gaps-clause-marked : goal.returns-then-has_many_gaps-clause-marked
 returns-then-has_many_gaps-clause-marked g c =
-    marked_whole _ (live c.args.self.now.rows.items) (c.commit_kept.ensures.before ∙ closed_up g c) (finds g c)
-    (ap (λ (rows : Rows). rows.stands) c.close_gaps.ensures.sent_before)
-    (ap (λ (rows : Rows). rows.stands) c.close_gaps.ensures.received_before) refl
+    let new : Parts g.row.T.Denot = record {
+      slots = c.commit_kept.new.self;
+      filled = c.refill.new.filled;
+      index = c.close_gaps.new.self;
+    } in
+    marked_now new new (returns-then-has_many_gaps-clause-stands g c) c.commit_kept.ensures.before c.close_gaps.ensures.sent_before
+    c.close_gaps.ensures.received_before refl (room_for c.refill.new.filled c.commit_kept.new.self.items
+    (filled_again g c))
+
+pub returns-clause-marked : goal.returns-clause-marked
+returns-clause-marked g c =
+    marked_now c.args.self.now _ c.requires c.commit.ensures.before c.commit-2.ensures.sent_before c.commit-2.ensures.received_before
+    c.commit-2.ensures.moments (room_for c.args.self.now.filled c.args.self.now.slots.items c.requires.filled)

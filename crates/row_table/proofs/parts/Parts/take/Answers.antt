@@ -1,17 +1,22 @@
-use Rattle.std.proofs.Common.{None, ap, refl, length, ◌∙◌, arith}
-use Rattle.std.proofs.lemmas.List.{length-set}
-use Rattle.row_table.proofs.Finding.{stands_taken, gap_less}
+use Rattle.std.proofs.Common.{List, Option, ap, ◌∙◌}
+use Rattle.row_table.specs.Slots.{live}
+use Rattle.row_table.specs.declared.row.Row.{Row}
+use Rattle.row_table.proofs.Slots.{slot_at, live_taken}
+use Rattle.row_table.proofs.Finding.{stands_taken}
 use Rattle.row_table.proofs.parts.Parts.take.Goals as goal
 
-pub prove-unreachable-requires : goal.prove-unreachable-requires
-prove-unreachable-requires g c =
-    let places = c.args.self.now.rows.items in
-    let full = c.if-prove.true in
-    let less = gap_less c.args.self.now.gaps places c.args.at c.requires.stands.gaps c.requires.row in
-    let len = c.len-places.ensures.items ∙ ap length c.in_ok-set.ensures.items ∙ length-set places c.args.at None in
-    absurd (omega (arith, full, less, len))
+pub returns-clause-rows : goal.returns-clause-rows
+returns-clause-rows g c =
+    let slots = c.args.self.now.slots.items in
+    let slot = c.slot_at-slot.result in
+    ap (λ (slots : List (Option (Row g.row.T.Denot))). live slots) c.in_ok-set.ensures.items
+    ∙ live_taken slots c.args.at slot
+    (slot_at slots c.args.self.now.filled.items c.args.at slot c.requires.stands.filled c.slot_at-slot.ensures.slot)
 
 pub returns-clause-stands : goal.returns-clause-stands
 returns-clause-stands g c =
-    stands_taken c.args.self.now _ c.args.at c.requires.stands c.requires.row c.in_ok-set.ensures.items refl
-    c.in_ok-take.ensures.sent c.in_ok-take.ensures.received c.in_ok-take.ensures.moments
+    let slots = c.args.self.now.slots.items in
+    let slot = c.slot_at-slot.result in
+    stands_taken c.args.self.now _ c.args.at slot c.requires.stands
+    (slot_at slots c.args.self.now.filled.items c.args.at slot c.requires.stands.filled c.slot_at-slot.ensures.slot)
+    c.in_ok-set.ensures.items c.remove.ensures.items c.in_ok-take.ensures.sent c.in_ok-take.ensures.received c.in_ok-take.ensures.moments

@@ -1,11 +1,12 @@
 use Rattle.std.proofs.Common.{◌≡◌, subst}
 use Rattle.std.specs.List.{list_any}
-use Rattle.row_table.specs.Rows.{Versions, live, has_come, is_due_by}
-use Rattle.row_table.proofs.Finding.{least_of_live}
+use Rattle.row_table.specs.Rows.{Versions, has_come, is_due_by}
+use Rattle.row_table.proofs.Nexts.{least_of_live}
 use Rattle.row_table.proofs.table.RowTable.least.Goals as goal
 
 pub returns : goal.returns
 returns g c = λ time.
     let parts = c.self.inside.parts in
-    subst (λ (v : Versions g.row.T.Denot). has_come time c.least.result ≡ list_any (is_due_by time) (live v.now)) c.self.view_is
-    (least_of_live parts.rows.items parts.index.moments c.self.invariant.0.found.moments c.least.result c.least.ensures time)
+    subst (λ (v : Versions g.row.T.Denot). has_come time c.least.result ≡ list_any
+    (is_due_by time) v.now) c.self.view_is
+    (least_of_live parts.slots.items parts.index.moments c.self.invariant.0.found.moments c.least.result c.least.ensures time)

@@ -1,20 +1,42 @@
-use Rattle.std.proofs.Common.{suc, sym, subst}
-use Rattle.row_table.specs.Rows.{Versions, IsNext, Passes, is_sent_by}
+use Rattle.std.proofs.Common.{◌≡◌, ℕ, Some, suc, slice_get, subst, sym, ap, ◌∙◌}
+use Rattle.row_table.specs.Rows.{Versions, IsNext, is_sent_by}
+use Rattle.row_table.specs.Index.{sender_of}
 use Rattle.row_table.specs.declared.row.Row.{Row}
-use Rattle.row_table.proofs.Finding.{next_of_owner, stands_if}
+use Rattle.row_table.proofs.Slots.{IsSlot, slot_at, held_at, some_same}
+use Rattle.row_table.proofs.Nexts.{from_behind, next_of_owner, next_place, next_within}
+use Rattle.row_table.proofs.table.RowTable.next_sent.Given as given
 use Rattle.row_table.proofs.table.RowTable.next_sent.Goals as goal
 
-pub next-requires : goal.next-requires
-next-requires g c =
-    let parts = c.self.inside.parts in
-    stands_if (λ (row : Row g.row.T.Denot). row.sender) parts.rows.items parts.index.sent.now.stands c.args.owner
-    c.self.invariant.0.found.sent c.args.at
-    (subst (λ (v : Versions g.row.T.Denot). Passes (is_sent_by c.args.owner) v.now c.args.at) (sym c.self.view_is) c.requires)
+module _ (g : given.Over) (c : goal.After-place g) where
+  is_slot : IsSlot c.self.inside.parts.slots.items c.args.at c.slot_at-slot.result
+  is_slot =
+      let parts = c.self.inside.parts in
+      slot_at parts.slots.items parts.filled.items c.args.at c.slot_at-slot.result c.self.invariant.0.filled c.slot_at-slot.ensures.slot
+
+  next_is : IsNext (is_sent_by c.owners_in-sender.result.0) c.args.self.now.now (suc c.args.at) c.place.result
+  next_is =
+      let parts = c.self.inside.parts in
+      let owner = c.owners_in-sender.result.0 in
+      subst (λ (v : Versions g.row.T.Denot). IsNext (is_sent_by owner) v.now
+      (suc c.args.at) c.place.result) c.self.view_is
+      (next_place parts.slots.items (is_sent_by owner) parts.filled.items (suc c.args.at)
+      (suc c.slot_at-slot.result) c.next.result
+      c.place.result c.self.invariant.0.filled (from_behind parts.slots.items c.args.at c.slot_at-slot.result is_slot) c.place.ensures
+      (next_of_owner (λ (row : Row g.row.T.Denot). row.sender) parts.slots.items parts.index.sent.now.stands owner
+      c.self.invariant.0.found.sent (suc c.slot_at-slot.result) c.next.result c.next.ensures.first))
 
 pub returns-clause-next : goal.returns-clause-next
-returns-clause-next g c =
-    let parts = c.self.inside.parts in
-    let owner = c.args.owner in
-    subst (λ (v : Versions g.row.T.Denot). IsNext (is_sent_by owner) v.now (suc c.args.at) c.next.result) c.self.view_is
-    (next_of_owner (λ (row : Row g.row.T.Denot). row.sender) parts.rows.items parts.index.sent.now.stands owner
-    c.self.invariant.0.found.sent (suc c.args.at) c.next.result c.next.ensures.first)
+returns-clause-next g c = λ row e.
+    let slots = c.self.inside.parts.slots.items in
+    let owner = c.owners_in-sender.result.0 in
+    let there = sym (held_at slots c.args.at c.slot_at-slot.result (is_slot g c))
+    ∙ ap (λ (v : Versions g.row.T.Denot). slice_get v.now c.args.at) c.self.view_is ∙ e in
+    let same : owner ≡ row.sender = some_same owner row.sender
+    (sym c.owners_in-sender.ensures.sender ∙ ap sender_of there) in
+    subst (λ (owner : ℕ). IsNext (is_sent_by owner) c.args.self.now.now (suc c.args.at) c.place.result) same
+    (next_is g c)
+
+pub returns-clause-within : goal.returns-clause-within
+returns-clause-within g c =
+    next_within (is_sent_by c.owners_in-sender.result.0) c.args.self.now.now (suc c.args.at) c.place.result
+    (next_is g c)

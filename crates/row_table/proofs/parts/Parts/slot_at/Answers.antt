@@ -1,0 +1,24 @@
+use Rattle.std.proofs.Common.{length, ap, sym, ◌∙◌, arith}
+use Rattle.std.proofs.lemmas.Option.{slice_get_read}
+use Rattle.row_table.specs.Slots.{live}
+use Rattle.row_table.proofs.Slots.{len-filled, length-filled, slot_at, slot_holds}
+use Rattle.row_table.proofs.parts.Parts.slot_at.Goals as goal
+
+pub index-requires : goal.index-requires
+index-requires g c =
+    let len = len-filled c.args.self.now.filled c.args.self.now.slots.items c.requires.stands.filled in
+    let within = c.requires.within in
+    omega (arith, len, within)
+
+pub returns-clause-slot : goal.returns-clause-slot
+returns-clause-slot g c =
+    let slots = c.args.self.now.slots.items in
+    slice_get_read c.args.self.now.filled.items (length (live slots)) c.args.at c.index.result.now
+    (sym (ap length c.requires.stands.filled ∙ length-filled slots 0)) c.requires.within c.index.ensures
+
+pub returns-clause-row : goal.returns-clause-row
+returns-clause-row g c =
+    let slots = c.args.self.now.slots.items in
+    slot_holds slots c.args.at c.index.result.now
+    (slot_at slots c.args.self.now.filled.items c.args.at c.index.result.now c.requires.stands.filled
+    (returns-clause-slot g c))

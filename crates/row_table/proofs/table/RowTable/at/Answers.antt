@@ -1,0 +1,14 @@
+use Rattle.std.proofs.Common.{None, slice_get, sym, ap, ◌∙◌}
+use Rattle.std.proofs.lemmas.Option.{get_or_from_slice_get}
+use Rattle.row_table.specs.Rows.{Versions}
+use Rattle.row_table.proofs.Slots.{slot_at, held_at}
+use Rattle.row_table.proofs.table.RowTable.at.Goals as goal
+
+pub returns : goal.returns
+returns g c =
+    let parts = c.self.inside.parts in
+    let slot = c.slot_at.result in
+    ap (λ (v : Versions g.row.T.Denot). slice_get v.now c.args.at) (sym c.self.view_is)
+    ∙ held_at parts.slots.items c.args.at slot
+    (slot_at parts.slots.items parts.filled.items c.args.at slot c.self.invariant.0.filled c.slot_at.ensures.slot)
+    ∙ get_or_from_slice_get parts.slots.items slot c.at.result.now None c.at.ensures ∙ c.in-Some.is

@@ -1,0 +1,10 @@
+use Rattle.std.proofs.Common.{length, ap, ◌∙◌}
+use Rattle.row_table.specs.Rows.{Versions}
+use Rattle.row_table.proofs.Slots.{len-filled}
+use Rattle.row_table.proofs.table.RowTable.len.Goals as goal
+
+pub returns : goal.returns
+returns g c =
+    let parts = c.self.inside.parts in
+    c.len.ensures ∙ len-filled parts.filled parts.slots.items c.self.invariant.0.filled
+    ∙ ap (λ (v : Versions g.row.T.Denot). length v.now) c.self.view_is
