@@ -1,11 +1,11 @@
 -- What is in flight, accounted for at a moment.
 pub mod Accounted
 pub mod Accounts
+pub mod Alike
 pub mod Beside
 pub mod CappedFlows
 pub mod ComponentFlows
 pub mod Components
-pub mod Copies
 pub mod Done
 pub mod FairMessages
 pub mod FewNear
@@ -13,15 +13,16 @@ pub mod Flight
 pub mod Floors
 pub mod InFlight
 pub mod Joining
+pub mod LargerUnits
 pub mod Leaving
 pub mod Listed
 pub mod Near
-pub mod Passed
 pub mod Places
 pub mod Rated
 pub mod RatesGiven
 pub mod Rerating
 pub mod Restarting
+pub mod Rows
 pub mod Search
 pub mod Settled
 pub mod ShortTerms

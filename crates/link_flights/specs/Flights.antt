@@ -3,6 +3,9 @@ pub mod CappedFlows
 pub mod Components
 pub mod Flight
 pub mod InFlight
+pub mod LargerUnits
 pub mod Rated
 pub mod RatedFlights
 pub mod Readings
+pub mod Rows
+pub mod Table

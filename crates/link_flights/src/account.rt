@@ -6,14 +6,14 @@ ghost use Rattle.std.specs.declared.rc.Rc.{Rc as AnyRc};
 ghost use Rattle.std.specs.declared.alloc.Global.{Global as Allocator};
 ghost use Rattle.link_flights.specs.declared.flight.Flight.{Flight as AnyFlight};
 ghost use Rattle.link_flights.specs.Flights.Flight.{flight_at, has_come, AreTimed, DrainsTo};
-ghost use Rattle.link_flights.specs.Flights.InFlight.{in_flight, in_units, IsNextPlace, PassesNowhere, or_end};
+ghost use Rattle.link_flights.specs.Flights.InFlight.{in_flight, in_units, IsNextPlace, PassesNowhere};
 ghost use Rattle.link_flights.specs.Flights.Rated.{ArePartedBy, is_out, are_limited, rated_ones};
 ghost use Rattle.link_flights.specs.Flights.Rated.{IsFloorOf, IsNoMore};
 ghost use Rattle.link_pairs.specs.Pairs.Messages.{message_of, messages};
 ghost use Rattle.link_pairs.specs.Pairs.CapsOf.{caps_of};
 ghost use Rattle.link_simulation.specs.Simulation.Rates.{is_unlimited as is_free};
 
-use crate::flight_list::{Flights, Soonest};
+use crate::flight_list::Flights;
 use fair_rates::error::Error;
 use fair_rates::peer::Peer;
 use link_pairs::known_pairs::Pairs;
@@ -34,16 +34,6 @@ pub fn is_unlimited<P: Peer>(message: &Message<P>, peers: &Peers<P>, pairs: &Pai
 }
 
 impl<P: Peer> Flights<P> {
-    /// Whether a finish may have come by that moment.
-    fn may_have_finished_by(&self, now: u64) -> bool
-        ensures { result ≡ has_come now self.now.first }
-    {
-        match self.first {
-            Some(first) => first <= now,
-            None => false,
-        }
-    }
-
     /// All drain to that moment. Those that have a rate, or have started at it, are only counted from
     /// then on, unless the moment goes back.
     pub fn drain(&mut self, now: u64) -> Result<(), Error>
@@ -51,13 +41,15 @@ impl<P: Peer> Flights<P> {
         ensures scale { self.new.scale ≡ self.old.scale }
         ensures at { OnOk result (self.new.at ≡ now) }
         ensures timed { self.old.at ≤ now → AreTimed self.old.list.items → OnOk result (AreTimed self.new.list.items) }
+        ensures before { self.new.list.before ≡ self.old.list.before }
         ensures refused { IfErr result (λ e. e ≡ Error.OutOfMemory) }
     {
         let goes_back = now < self.at;
         let from = if goes_back { 0 } else { self.settled };
         for at in from..self.list.len() {
-            if goes_back || !self.list[at].stands_at(now) {
-                let one = self.list[at].brought_to(self.at, now)?;
+            let one = self.list.at(at);
+            if goes_back || !one.stands_at(now) {
+                let one = one.brought_to(self.at, now)?;
                 self.put(at, one)?;
             }
         }
@@ -76,7 +68,7 @@ impl<P: Peer> Flights<P> {
             (caps_of P.cmp peers.now.entries pairs.now.entries) self.now.scale
             (flight_at self.now.at (slice_index_or self.now.list.items at d).value) }
     {
-        let one = &self.list[at];
+        let one = self.list.at(at);
         if one.rated {
             if were_rated {
                 return one.has_finished_by(self.at);
@@ -87,22 +79,29 @@ impl<P: Peer> Flights<P> {
     }
 
     /// The message at that place is in flight no more.
-    fn remove(&mut self, at: usize)
+    fn remove(&mut self, at: usize) -> Result<(), Error>
         requires { at < length self.old.list.items }
-        ensures list { self.new.list.items ≡ remove self.old.list.items at }
-        ensures length { length self.new.list.items + 1 ≡ length self.old.list.items }
+        ensures list { OnOk result (self.new.list.items ≡ remove self.old.list.items at) }
+        ensures length { OnOk result (length self.new.list.items + 1 ≡ length self.old.list.items) }
         ensures floor { self.new.floor ≡ self.old.floor }
         ensures scale { self.new.scale ≡ self.old.scale }
         ensures at { self.new.at ≡ self.old.at }
+        ensures before { self.new.list.before ≡ self.old.list.before }
+        ensures refused { IfErr result (λ e. e ≡ Error.OutOfMemory) }
     {
         let settled = if at < self.settled {
             self.settled - 1
         } else {
             self.settled
         };
-        self.list.remove(at);
+        if let Err(error) = self.list.remove(at) {
+            self.settled = 0;
+            self.rated_anew = 0;
+            return Err(error);
+        }
         self.settled = settled;
         self.rated_anew = self.rated_anew.min(self.list.len());
+        Ok(())
     }
 
     /// The floor is no more than the rate of the message at that place, if that has got one.
@@ -115,10 +114,12 @@ impl<P: Peer> Flights<P> {
         ensures list { self.new.list.items ≡ self.old.list.items }
         ensures scale { self.new.scale ≡ self.old.scale }
         ensures at { self.new.at ≡ self.old.at }
+        ensures before { self.new.list.before ≡ self.old.list.before }
         ensures refused { IfErr result (λ e. e ≡ Error.OutOfMemory) }
     {
-        if self.list[at].rated {
-            let rate = self.list[at].rate_kept(self.alloc)?;
+        let one = self.list.at(at);
+        if one.rated {
+            let rate = one.rate_kept(self.alloc)?;
             let lower = match &self.floor {
                 Some(floor) => Rc::as_ref(&rate) < floor,
                 None => true,
@@ -147,90 +148,60 @@ impl<P: Peer> Flights<P> {
             (caps_of P.cmp peers.now.entries pairs.now.entries) self.old.scale) (in_units self.old) self.new.floor) }
         ensures scale { self.new.scale ≡ self.old.scale }
         ensures at { self.new.at ≡ self.old.at }
-        ensures timed { AreTimed self.old.list.items → AreTimed self.new.list.items }
+        ensures timed { AreTimed self.old.list.items → OnOk result (AreTimed self.new.list.items) }
+        ensures before { self.new.list.before ≡ self.old.list.before }
         ensures refused { IfErr result (λ e. e ≡ Error.OutOfMemory) }
     {
         self.floor = None;
         let mut done = VecDeque::new(self.alloc);
-        let mut at = if were_rated && !self.may_have_finished_by(self.at) {
-            self.settled
-        } else {
-            0
-        };
-        let start = at;
-        let mut passed = Soonest::of_none();
-        while let Some(next) = self.next_done(at, peers, pairs, were_rated, &mut passed) {
-            done.push_back(self.list[next].message.clone()?)?;
+        let mut at = 0;
+        while let Some(next) = self.next_done(at, peers, pairs, were_rated) {
+            done.push_back(self.list.at(next).message.clone()?)?;
             self.lower_floor(next)?;
-            self.remove(next);
+            self.remove(next)?;
             at = next;
         }
-        self.note_first(start == 0, passed);
         Ok(done)
     }
 
-    /// The first place from that one on at which a message is done, if there is one. Those that are
-    /// passed on the way are noted.
+    /// The first place from that one on at which a message is done, if there is one.
     fn next_done(
         &self,
         from: usize,
         peers: &Peers<P>,
         pairs: &Pairs<P>,
         were_rated: bool,
-        passed: &mut Soonest,
     ) -> Option<usize>
         requires limited { were_rated ≡ true → are_limited P.cmp (caps_of P.cmp peers.now.entries pairs.now.entries)
             (rated_ones (in_units self.now)) ≡ true }
         requires timed { were_rated ≡ true → AreTimed self.now.list.items }
         ensures next { IsNextPlace (λ one. is_out P.cmp (caps_of P.cmp peers.now.entries pairs.now.entries)
             self.now.scale (flight_at self.now.at one.value)) self.now.list.items from result }
-        ensures passed { (t : ℕ) → has_come t passed.new.finish ≡ false → (has_come t passed.old.finish ≡ false)
-            × PassesNowhere (λ one. has_come t one.value.finish) self.now.list.items from
-            (or_end result self.now.list.items) }
     {
-        let start = if were_rated {
-            self.pass(from, passed)
-        } else {
-            from
-        };
+        let mut start = from;
+        if were_rated && from < self.settled {
+            start = self.settled_finish(from);
+        }
         for at in start..self.list.len() {
             if self.is_done(at, peers, pairs, were_rated) {
                 return Some(at);
             }
-            passed.join(self.list[at].finish, at);
         }
         None
     }
 
-    /// Passes those from that place on that have got a rate and have not finished, and notes them. Answers
-    /// the place behind them.
-    fn pass(&self, from: usize, passed: &mut Soonest) -> usize
+    /// The first place from that one on at which one that has got a rate has finished, or the place behind all that
+    /// have got one.
+    fn settled_finish(&self, from: usize) -> usize
+        requires { from ≤ self.now.settled }
         ensures low { from ≤ result }
-        ensures rated { (i : ℕ) → from ≤ i → i < result → i < self.now.settled }
+        ensures rated { result ≤ self.now.settled }
         ensures go_on { PassesNowhere (λ one. has_come self.now.at one.value.finish) self.now.list.items from result }
-        ensures noted { (t : ℕ) → has_come t passed.new.finish ≡ false → (has_come t passed.old.finish ≡ false)
-            × PassesNowhere (λ one. has_come t one.value.finish) self.now.list.items from result }
     {
-        let mut least = passed.finish.unwrap_or(u64::MAX);
-        let mut front = passed.place;
-        let mut at = from;
-        while at < self.settled {
-            if let Some(finish) = self.list[at].finish {
-                if finish <= self.at {
-                    break;
-                }
-                if finish < least {
-                    least = finish;
-                    front = at;
-                }
-            }
-            at += 1;
+        match self.list.next_finished(from, self.at) {
+            Some(at) => at.min(self.settled),
+            None => self.settled,
         }
-        if at > from {
-            passed.finish = Some(least);
-            passed.place = front;
-        }
-        at
     }
 
     /// Where nothing is in flight, units begin anew: one is a byte a second.
@@ -241,6 +212,7 @@ impl<P: Peer> Flights<P> {
         ensures floor { self.new.floor ≡ self.old.floor }
         ensures one { length self.new.list.items ≡ 0 → self.new.scale ≡ 1 }
         ensures scale { length self.new.list.items ≢ 0 → self.new.scale ≡ self.old.scale }
+        ensures before { self.new.list.before ≡ self.old.list.before }
     {
         if self.list.is_empty() {
             self.scale = Natural::from_u64(self.alloc, 1);

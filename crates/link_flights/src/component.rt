@@ -11,14 +11,14 @@ ghost use Rattle.fair_rates.specs.Sides.Subjects.{same_peer};
 ghost use Rattle.link_flights.specs.Flights.Components.{is_sender, is_receiver, keeps, is_of, has_both, touches};
 ghost use Rattle.link_flights.specs.Flights.Components.{is_closed, AreNear};
 ghost use Rattle.link_flights.specs.Flights.Components.{StartsWith, AreStillListed, IsSameOrLonger};
-ghost use Rattle.link_flights.specs.Flights.Components.{AreListed, AreAllListed, AllNewTouch, place_of};
-ghost use Rattle.link_flights.specs.Flights.Components.{IsSuited, AreSuited, AreTouched, SharesAt, Ascends, IsWalked};
-ghost use Rattle.link_flights.specs.Flights.Components.{share_an_end as share_end};
+ghost use Rattle.link_flights.specs.Flights.Components.{AreListed, AreListedAt, AreAllListed, AllNewTouch, place_of};
+ghost use Rattle.link_flights.specs.Flights.Components.{IsSuited, AreSuited, AreTouched, SharesAt, SharesEndAt, Ascends, IsWalked};
 ghost use Rattle.link_flights.specs.Flights.Flight.{flight_at};
-ghost use Rattle.link_flights.specs.Flights.InFlight.{in_units, IsNextPlace};
+ghost use Rattle.link_flights.specs.Flights.InFlight.{in_units};
 
 use crate::flight::Flight;
 use crate::flight_list::Flights;
+use crate::table::End;
 use fair_rates::error::Error;
 use fair_rates::peer::Peer;
 use link_pairs::known_pairs::Pairs;
@@ -32,11 +32,11 @@ use std::rc::Rc;
 /// So many messages a component has room for before their list has to move. Most join no more.
 const FEW_JOINED: usize = 8;
 
-/// So many messages a component may join, and a sixteenth of all in flight if that is more. Where there are
+/// So many messages a component may join, and half of all in flight if that is more. Where there are
 /// more, it pays to rate all that is in flight.
 const MOST_JOINED: usize = 48;
 
-/// So many in flight a component may have an end of, and a sixteenth of all if that is more. Where there are
+/// So many in flight a component may have an end of, and half of all if that is more. Where there are
 /// more, it mostly joins too many.
 const MOST_NEAR: usize = 56;
 
@@ -156,7 +156,7 @@ impl<P: Peer> Component<P> {
     fn is_large(&self, in_flight: usize) -> bool
         ensures { result ≡ false → length self.now.joined.items ≤ MOST_JOINED + in_flight }
     {
-        let part = in_flight / 16;
+        let part = in_flight / 2;
         self.joined.len() > MOST_JOINED.max(part) || self.near.len() > MOST_NEAR.max(part)
     }
 }
@@ -177,13 +177,6 @@ fn receives_any<P: Peer>(peer: &P, messages: &[Rc<Message<P>>]) -> bool
     messages
         .iter()
         .any(|message| peer.cmp(&message.recipient).is_eq())
-}
-
-/// Whether two messages go from one sender or to one receiver.
-fn share_an_end<P: Peer>(one: &Message<P>, other: &Message<P>) -> bool
-    ensures { result ≡ share_end P.cmp one.now other.now }
-{
-    one.origin.cmp(&other.origin).is_eq() || one.recipient.cmp(&other.recipient).is_eq()
 }
 
 /// How many go from the sender of a message, and how many to its receiver.
@@ -259,7 +252,7 @@ impl<P: Peer> Flights<P> {
             None => None,
         };
         for at in self.settled..self.list.len() {
-            let share = self.share_of(&self.list[at].message, component, peers, pairs)?;
+            let share = self.share_of(&self.list.at(at).message, component, peers, pairs)?;
             level = Some(lesser(level, share));
         }
         Ok(level.unwrap_or(Natural::from_u64(self.alloc, 0)))
@@ -296,8 +289,8 @@ impl<P: Peer> Flights<P> {
             received: 0,
         };
         if component.whole {
-            for one in &self.list {
-                sharing.count(message, &one.message);
+            for at in 0..self.list.len() {
+                sharing.count(message, &self.list.at(at).message);
             }
         } else {
             for at in &component.near {
@@ -338,7 +331,7 @@ impl<P: Peer> Flights<P> {
             component.join(&done[at])?;
         }
         for at in self.settled..self.list.len() {
-            component.join(&self.list[at].message)?;
+            component.join(&self.list.at(at).message)?;
         }
         Ok(())
     }
@@ -408,11 +401,26 @@ impl<P: Peer> Flights<P> {
         ensures order { OnOk result (Ascends 0 near.new.items) }
         ensures refused { IfErr result (λ e. e ≡ Error.OutOfMemory) }
     {
-        let mut from = 0;
+        self.list_end(End::Origin, message, near)?;
+        self.list_end(End::Recipient, message, near)?;
+        Ok(())
+    }
+
+    /// Lists the places of those in flight that share that end with the message.
+    fn list_end(&self, end: End, message: &Message<P>, near: &mut Vec<usize>) -> Result<(), Error>
+        requires order { Ascends 0 near.old.items }
+        ensures listed { OnOk result (AreListedAt P.cmp end message.now near.new.items self.now.list.items) }
+        ensures more { OnOk result (AreStillListed near.old.items near.new.items) }
+        ensures only { OnOk result (All (λ p. Contains near.old.items p
+            ⊎ SharesEndAt P.cmp end message.now self.now.list.items p) near.new.items) }
+        ensures order { OnOk result (Ascends 0 near.new.items) }
+        ensures refused { IfErr result (λ e. e ≡ Error.OutOfMemory) }
+    {
+        let mut next = self.list.first_at(end, message);
         let mut place = 0;
-        while let Some(at) = self.next_sharing(message, from) {
+        while let Some(at) = next {
             place = list(near, place, at)?;
-            from = at + 1;
+            next = self.list.next_at(end, at);
         }
         Ok(())
     }
@@ -468,30 +476,44 @@ impl<P: Peer> Flights<P> {
         ensures refused { IfErr result (λ e. e ≡ Error.OutOfMemory) }
     {
         let message = component.joined[number].clone()?;
-        let mut from = 0;
+        self.join_end(End::Origin, &message, component)?;
+        self.join_end(End::Recipient, &message, component)?;
+        Ok(())
+    }
+
+    /// Lists the places of those in flight that share that end with the message, and takes in the ends of
+    /// those that were not listed before and keep no rate.
+    fn join_end(
+        &self,
+        end: End,
+        message: &Message<P>,
+        component: &mut Component<P>,
+    ) -> Result<(), Error>
+        requires order { Ascends 0 component.old.near.items }
+        requires suited { AreSuited P.cmp component.old component.old.near.items self.now.list.items }
+        ensures listed { OnOk result
+            (AreListedAt P.cmp end message.now component.new.near.items self.now.list.items) }
+        ensures more { OnOk result (AreStillListed component.old.near.items component.new.near.items) }
+        ensures only { OnOk result (All (λ p. Contains component.old.near.items p
+            ⊎ SharesEndAt P.cmp end message.now self.now.list.items p) component.new.near.items) }
+        ensures order { OnOk result (Ascends 0 component.new.near.items) }
+        ensures suited { OnOk result (AreSuited P.cmp component.new component.new.near.items self.now.list.items) }
+        ensures joined { OnOk result (StartsWith component.old.joined.items component.new.joined.items) }
+        ensures level { component.new.level ≡ component.old.level }
+        ensures whole { component.new.whole ≡ component.old.whole }
+        ensures refused { IfErr result (λ e. e ≡ Error.OutOfMemory) }
+    {
+        let mut next = self.list.first_at(end, message);
         let mut place = 0;
-        while let Some(at) = self.next_sharing(&message, from) {
+        while let Some(at) = next {
             let listed = component.near.len();
             place = list(&mut component.near, place, at)?;
             if component.near.len() > listed {
                 self.join_one(at, component)?;
             }
-            from = at + 1;
+            next = self.list.next_at(end, at);
         }
         Ok(())
-    }
-
-    /// The first place from that one on at which one shares an end with the message, if there is one.
-    fn next_sharing(&self, message: &Message<P>, from: usize) -> Option<usize>
-        ensures { IsNextPlace (λ one. share_end P.cmp message.now one.value.message.value) self.now.list.items
-            from result }
-    {
-        for at in from..self.list.len() {
-            if share_an_end(message, &self.list[at].message) {
-                return Some(at);
-            }
-        }
-        None
     }
 }
 

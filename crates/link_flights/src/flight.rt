@@ -1,7 +1,10 @@
 //! A message in flight.
-ghost use Rattle.std.specs.Prelude.{◌≡◌, ◌≢◌, ◌*◌, ◌==◌, IfOk, IfErr, OnOk, OnErr, true, false, not, nat_le};
+ghost use Rattle.std.specs.Int.{IsGcd};
+ghost use Rattle.std.specs.Prelude.{◌≡◌, ◌≢◌, ◌*◌, ◌/◌, ◌<◌, ◌==◌, IfOk, IfErr, OnOk, true, false, not, nat_le};
 ghost use Rattle.fair_rates.specs.Fairness.Exists.{product};
 ghost use Rattle.link_flights.specs.Flights.Flight.{rate_of, left_by, flight_at, has_come, IsTimed, IsFinishOf};
+ghost use Rattle.link_flights.specs.Flights.LargerUnits.{IsFactorOf, IsCountedBy};
+ghost use Prim.Native.Nat.{◌∣◌};
 
 use fair_rates::error::Error;
 use fair_rates::peer::Peer;
@@ -133,40 +136,6 @@ impl<P: Peer> Flight<P> {
         }
     }
 
-    /// Has that rate from `now` on, the moment of an account. What is left counts in smaller units, of
-    /// which so many times as many are needed. Where memory is refused, what is left is of no use.
-    pub(crate) fn rerate(
-        &mut self,
-        rate: Option<Rc<Natural>>,
-        growth: &[u64],
-        now: u64,
-    ) -> Result<(), Error>
-        requires left { (flight_at now self.old).left * product growth.now ≢ 0 }
-        ensures id { OnOk result (self.new.id ≡ self.old.id) }
-        ensures message { OnOk result (self.new.message.value ≡ self.old.message.value) }
-        ensures left { OnOk result (self.new.left ≡ (flight_at now self.old).left * product growth.now) }
-        ensures rate { OnOk result (rate_of self.new.rate ≡ rate_of rate) }
-        ensures since { OnOk result (self.new.since ≡ now) }
-        ensures rated { OnOk result (self.new.rated ≡ true) }
-        ensures timed { OnOk result (IsTimed self.new) }
-        ensures since_stays { OnErr result (self.new.since ≡ self.old.since) }
-        ensures finish_stays { OnErr result (self.new.finish ≡ self.old.finish) }
-        ensures rated_stays { OnErr result (self.new.rated ≡ self.old.rated) }
-        ensures refused { IfErr result (λ e. e ≡ Error.OutOfMemory) }
-    {
-        if self.rated {
-            if let Some(own) = &self.rate {
-                self.left.sub_times(own, now.saturating_sub(self.since));
-            }
-        }
-        grow(&mut self.left, growth)?;
-        self.finish = finish_of(&self.left, &rate, now);
-        self.rate = rate;
-        self.since = now;
-        self.rated = true;
-        Ok(())
-    }
-
     /// The same message at that rate from `now` on, the moment of an account.
     /// What is left counts in smaller units, of which so many times as many are needed.
     pub(crate) fn rerated(
@@ -198,6 +167,68 @@ impl<P: Peer> Flight<P> {
             rated: true,
         })
     }
+
+    /// The greatest factor of that number that divides what is left, and the rate.
+    pub(crate) fn factor_of(&self, most: u64) -> u64
+        requires { 0 < most }
+        ensures part { result ∣ most }
+        ensures factor { IsFactorOf self.now result }
+    {
+        let shared = common_factor(most, self.left.remainder(most));
+        match &self.rate {
+            Some(rate) => common_factor(shared, rate.remainder(shared)),
+            None => shared,
+        }
+    }
+
+    /// The same message, counted in units so many times as large.
+    pub(crate) fn counted_by(&self, alloc: Global, by: u64) -> Result<Flight<P>, Error>
+        requires { 0 < by }
+        ensures counted { IfOk result (IsCountedBy by self.now) }
+        ensures refused { IfErr result (λ e. e ≡ Error.OutOfMemory) }
+    {
+        let mut left = self.left.clone()?;
+        left.divide(by);
+        Ok(Flight {
+            id: self.id,
+            message: self.message.clone()?,
+            left,
+            rate: divided(alloc, &self.rate, by)?,
+            since: self.since,
+            finish: self.finish,
+            rated: self.rated,
+        })
+    }
+}
+
+/// The rate, divided. No rate stays none.
+fn divided(alloc: Global, rate: &Option<Rc<Natural>>, by: u64) -> Result<Option<Rc<Natural>>, Error>
+    requires { 0 < by }
+    ensures divided { IfOk result (λ new. rate_of new ≡ rate_of rate.now / by) }
+    ensures refused { IfErr result (λ e. e ≡ Error.OutOfMemory) }
+{
+    let Some(rate) = rate else {
+        return Ok(None);
+    };
+    let mut new = Rc::as_ref(rate).clone()?;
+    new.divide(by);
+    Ok(Some(Rc::new(alloc, new)?))
+}
+
+/// The greatest common divisor of two numbers, of which the first is above zero.
+pub(crate) fn common_factor(first: u64, second: u64) -> u64
+    requires { 0 < first }
+    ensures some { 0 < result }
+    ensures greatest { IsGcd first second result }
+{
+    let mut last = first;
+    let mut rest = second;
+    while rest != 0 {
+        let next = last % rest;
+        last = rest;
+        rest = next;
+    }
+    last
 }
 
 /// So many units, counted in smaller ones, of which so many times as many are needed.

@@ -25,7 +25,7 @@ ghost use Rattle.std.specs.declared.alloc.Global.{Global as Allocator};
 
 use crate::component::Component;
 use crate::flight::Flight;
-use crate::flight_list::{Flights, earlier};
+use crate::flight_list::Flights;
 use fair_rates::bandwidth::{
     Ends, FairParts, KnownCaps, fair_parts, fair_parts_beside, parts_alone,
 };
@@ -152,6 +152,12 @@ fn is_rated(kept: &[Option<Rc<Natural>>], number: usize) -> bool
     !matches!(kept.get(number), Some(Some(_)))
 }
 
+/// At how many accounts in a row the scale has not grown, after one at which it has grown by these factors. Only time
+/// hangs on it.
+fn stood_after(stood: usize, growth: &[u64]) -> usize {
+    if growth.is_empty() { stood } else { 0 }
+}
+
 impl<P: Peer> Flights<P> {
     /// Gives each its fair rate from the last account on, once some are done. Where they had fair
     /// rates before, those that are not touched by what is done or new keep them. Answers the first
@@ -174,6 +180,7 @@ impl<P: Peer> Flights<P> {
             self.old self.new) }
         ensures kept { OnOk result (AreKeptBut self.new.rated_anew self.old.list.items self.new.list.items) }
         ensures finish { IfOk result (IsLeastMoment (λ s. SomeSpentAt (in_flight self.new) s)) }
+        ensures before { self.new.list.before ≡ self.old.list.before }
         ensures refused { IfErr result (λ e. e ≡ Error.OutOfMemory) }
     {
         if were_rated && self.list.len() > FEW {
@@ -201,6 +208,7 @@ impl<P: Peer> Flights<P> {
             self.old self.new) }
         ensures kept { OnOk result (AreKeptBut self.new.rated_anew self.old.list.items self.new.list.items) }
         ensures finish { IfOk result (IsLeastMoment (λ s. SomeSpentAt (in_flight self.new) s)) }
+        ensures before { self.new.list.before ≡ self.old.list.before }
         ensures refused { IfErr result (λ e. e ≡ Error.OutOfMemory) }
     {
         let all = Component::whole(self.alloc);
@@ -215,6 +223,7 @@ impl<P: Peer> Flights<P> {
             were_timed,
         )?;
         self.scale = rates.scale;
+        self.stood = stood_after(self.stood, &rates.growth);
         let unsearched = self.spared_after(true, 0);
         Ok(self.settle(unsearched))
     }
@@ -229,13 +238,11 @@ impl<P: Peer> Flights<P> {
         ensures scale { self.new.scale ≡ self.old.scale }
         ensures at { self.new.at ≡ self.old.at }
         ensures counted { self.new.rated_anew ≡ self.old.rated_anew }
+        ensures before { self.new.list.before ≡ self.old.list.before }
     {
-        let (first, front) = self.first_finish();
         self.settled = self.list.len();
-        self.first = first;
-        self.front = front;
         self.unsearched = unsearched;
-        first
+        self.list.first_finish()
     }
 
     /// Gives what is touched its fair rates beside those that others keep, and answers how many it gave.
@@ -253,6 +260,7 @@ impl<P: Peer> Flights<P> {
         requires timed { AreTimed self.old.list.items }
         ensures gives { IfOk result (GivesBeside P.cmp (caps_of P.cmp peers.now.entries pairs.now.entries)
             touched.now self.old self.new) }
+        ensures before { self.new.list.before ≡ self.old.list.before }
         ensures refused { IfErr result (λ e. e ≡ Error.OutOfMemory) }
     {
         if !touched.whole {
@@ -273,7 +281,7 @@ impl<P: Peer> Flights<P> {
         ensures { result ≡ none_is_rated P.cmp component.now self.now.list.items }
     {
         for at in &component.near {
-            if component.has(&self.list[*at]) {
+            if component.has(self.list.at(*at)) {
                 return false;
             }
         }
@@ -300,6 +308,7 @@ impl<P: Peer> Flights<P> {
             → is_of P.cmp component.now (flight_at 0 (slice_index_or self.old.list.items at d).value) ≡ true }
         ensures gives { IfOk result (GivesBeside P.cmp (caps_of P.cmp peers.now.entries pairs.now.entries)
             component.now self.old self.new) }
+        ensures before { self.new.list.before ≡ self.old.list.before }
         ensures refused { IfErr result (λ e. e ≡ Error.OutOfMemory) }
     {
         let level = self.rate_alone(at, peers, pairs)?;
@@ -319,7 +328,7 @@ impl<P: Peer> Flights<P> {
             (message_of (slice_index_or self.now.list.items at d).value.message.value ∷ []) (parts ∷ [])) }
         ensures refused { IfErr result (λ e. e ≡ Error.OutOfMemory) }
     {
-        let one = &self.list[at];
+        let one = self.list.at(at);
         let ends = Ends {
             origin: &one.message.origin,
             recipient: &one.message.recipient,
@@ -342,6 +351,7 @@ impl<P: Peer> Flights<P> {
         requires timed { AreTimed self.old.list.items }
         ensures gives { IfOk result (GivesBeside P.cmp (caps_of P.cmp peers.now.entries pairs.now.entries)
             component.now self.old self.new) }
+        ensures before { self.new.list.before ≡ self.old.list.before }
         ensures refused { IfErr result (λ e. e ≡ Error.OutOfMemory) }
     {
         let (part, kept) = self.rates_beside(component, peers, pairs)?;
@@ -419,7 +429,7 @@ impl<P: Peer> Flights<P> {
         let count = self.count(component);
         let mut ends = Vec::with_capacity(self.alloc, count)?;
         for number in 0..count {
-            let one = &self.list[component.place(number)];
+            let one = self.list.at(component.place(number));
             ends.push(Ends {
                 origin: &one.message.origin,
                 recipient: &one.message.recipient,
@@ -440,7 +450,7 @@ impl<P: Peer> Flights<P> {
         let count = self.count(component);
         let mut kept = Vec::with_capacity(self.alloc, count)?;
         for number in 0..count {
-            let one = &self.list[component.place(number)];
+            let one = self.list.at(component.place(number));
             if component.has(one) {
                 kept.push(None)?;
             } else {
@@ -523,6 +533,7 @@ impl<P: Peer> Flights<P> {
         ensures kept { OnOk result (AreKeptBut self.new.rated_anew self.old.list.items self.new.list.items) }
         ensures counted { OnOk result
             (self.new.rated_anew ≤ length (those_of P.cmp component.now (in_units self.old))) }
+        ensures before { self.new.list.before ≡ self.old.list.before }
         ensures refused { IfErr result (λ e. e ≡ Error.OutOfMemory) }
     {
         self.rated_anew = 0;
@@ -556,13 +567,11 @@ impl<P: Peer> Flights<P> {
         ensures scale { self.new.scale ≡ self.old.scale }
         ensures at { self.new.at ≡ self.old.at }
         ensures counted { OnOk result (IsCountedAt at self.old self.new) }
+        ensures before { self.new.list.before ≡ self.old.list.before }
         ensures refused { IfErr result (λ e. e ≡ Error.OutOfMemory) }
     {
-        let one = &self.list[at];
+        let one = self.list.at(at);
         if were_timed && growth.is_empty() && one.goes_on(&rate) {
-            return Ok(());
-        }
-        if self.rerate_alone(at, &rate, growth)? {
             return Ok(());
         }
         self.put_rerated(at, rate, growth)
@@ -584,42 +593,14 @@ impl<P: Peer> Flights<P> {
         ensures scale { self.new.scale ≡ self.old.scale }
         ensures at { self.new.at ≡ self.old.at }
         ensures counted { OnOk result (IsCountedAt at self.old self.new) }
+        ensures before { self.new.list.before ≡ self.old.list.before }
         ensures refused { IfErr result (λ e. e ≡ Error.OutOfMemory) }
     {
-        let one = self.list[at].rerated(rate, growth, self.at)?;
+        let one = self.list.at(at).rerated(rate, growth, self.at)?;
         self.put(at, one)?;
+        let in_flight = self.list.len();
+        prove!(self.rated_anew < in_flight);
         self.rated_anew += 1;
         Ok(())
-    }
-
-    /// The message at that place has that rate from the last account on, and takes no other place in
-    /// memory for it, if no other list has it. Answers whether that was so.
-    fn rerate_alone(
-        &mut self,
-        at: usize,
-        rate: &Option<Rc<Natural>>,
-        growth: &[u64],
-    ) -> Result<bool, Error>
-        requires place { at < length self.old.list.items }
-        requires left { (d : AnyRc (AnyFlight P) Allocator) → (flight_at self.old.at
-            (slice_index_or self.old.list.items at d).value).left * product growth.now ≢ 0 }
-        requires counted { self.old.rated_anew ≤ at }
-        ensures rerated { IfOk result (λ alone. alone ≡ true → IsReratedAt self.old.at at (product growth.now)
-            (rate_of rate.now) self.old.list.items self.new.list.items) }
-        ensures counted { IfOk result (λ alone. alone ≡ true → IsCountedAt at self.old self.new) }
-        ensures shared { IfOk result (λ alone. alone ≡ false → (self.new.list.items ≡ self.old.list.items)
-            × (self.new.rated_anew ≡ self.old.rated_anew)) }
-        ensures scale { self.new.scale ≡ self.old.scale }
-        ensures at { self.new.at ≡ self.old.at }
-        ensures refused { IfErr result (λ e. e ≡ Error.OutOfMemory) }
-    {
-        let rate = rate.clone()?;
-        let Some(one) = Rc::get_mut(&mut self.list[at]) else {
-            return Ok(false);
-        };
-        one.rerate(rate, growth, self.at)?;
-        self.first = earlier(self.first, one.finish);
-        self.rated_anew += 1;
-        Ok(true)
     }
 }

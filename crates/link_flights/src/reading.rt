@@ -53,7 +53,8 @@ impl<P: Peer> Flights<P> {
     {
         let unit = self.scale.product(BILLION)?;
         let mut readings = Vec::with_capacity(self.alloc, self.list.len())?;
-        for one in &self.list {
+        for at in 0..self.list.len() {
+            let one = self.list.at(at);
             readings.push(read_one(one, self.at, &unit, &self.scale)?)?;
         }
         Ok(readings)

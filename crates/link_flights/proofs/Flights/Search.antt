@@ -1,6 +1,6 @@
 -- What an event touches, found one message in flight after another.
-use Rattle.std.proofs.Common.{◌≡◌, ℕ, zero, suc, ◌+◌, ◌<◌, ◌≤◌, Bool, true, false, not, ◌&&◌, ◌||◌}
-use Rattle.std.proofs.Common.{inl, inr, ◌⊎◌, List, [], ◌∷◌, ◌++◌, length, take, drop, get_or, All, Contains, Some, refl}
+use Rattle.std.proofs.Common.{◌≡◌, ℕ, zero, suc, ◌+◌, ◌-◌, ◌<◌, ◌≤◌, Bool, true, false, not, ◌&&◌, ◌||◌}
+use Rattle.std.proofs.Common.{inl, inr, ◌⊎◌, List, [], ◌∷◌, ◌++◌, length, take, drop, get_or, All, Contains, None, Some, refl}
 use Rattle.std.proofs.Common.{sym, ap, ◌∙◌, subst, arith, if◌then◌else◌}
 use Rattle.std.specs.Prelude.{slice_get, Option, IfSome, nat_le}
 use Rattle.std.specs.Cmp.{IsTotalOrder}
@@ -29,11 +29,14 @@ use Rattle.link_flights.specs.declared.flight.Flight.{Flight}
 use Rattle.link_flights.specs.Flights.Flight.{UnitFlight, flight_at, flights_at, HaveRates}
 use Rattle.link_flights.specs.Flights.Components.{keeps, has_both, touches, suits, is_closed}
 use Rattle.link_flights.specs.Flights.Components.{IsSuited, AreSuited, IsTouched, AreTouched, near_of, those_near}
-use Rattle.link_flights.specs.Flights.Components.{AreNear, Ascends, SharesAt, IsWalked}
+use Rattle.link_flights.specs.Flights.Components.{AreNear, Ascends, SharesAt, SharesEndAt, AreListedAt, IsWalked}
+use Rattle.link_flights.specs.Flights.Table.{share}
+use Rattle.link_flights.specs.declared.table.End.{End}
+use Rattle.link_flights.specs.declared.table.End.TheVariants.{Origin, Recipient}
 use Rattle.link_flights.specs.Flights.Components.{is_sender, is_receiver, share_an_end, StartsWith}
 use Rattle.link_flights.specs.Flights.Components.{AreStillListed, IsSameOrLonger, AreListed, AreAllListed}
 use Rattle.link_flights.specs.Flights.Components.{AllNewTouch}
-use Rattle.link_flights.specs.Flights.InFlight.{PassesNowhere, PassesFirstAt}
+use Rattle.link_flights.specs.Flights.InFlight.{PassesNowhere, PassesFirstAt, IsNextPlace}
 
 -- ---- places
 
@@ -113,6 +116,11 @@ any_more : {X : Type 0} (test : X → Bool) (xs ys : List X) → StartsWith xs y
 any_more test xs ys (more, is) any =
     ap (list_any test) is ∙ list_any-append test xs more ∙ or_first (list_any test xs) (list_any test more) any
 
+-- how many stand at a place and behind it
+abbrev pub behind : {X : Type 0} → List X → Option ℕ → ℕ
+behind xs None = 0
+behind xs (Some at) = length xs - at
+
 module _ {P : Type 0} (cmp : P → P → Ordering) where
   -- ---- an end of each of those that have come
 
@@ -123,86 +131,197 @@ module _ {P : Type 0} (cmp : P → P → Ordering) where
 
   -- ---- places that are listed
 
-  -- those before a place that share an end with the message are listed, and no others but what was listed before;
+  -- those before a place that share that end with the message are listed, and no others but what was listed before;
   -- they are in order, and the first so many stand before that place
-  pub record HasListed (m : Message P) (list : List (Rc (Flight P) Global)) (at first : ℕ) (before near : List ℕ)
+  pub record HasListed (end : End) (m : Message P) (list : List (Rc (Flight P) Global)) (at first : ℕ) (before near : List ℕ)
       : Type 0 where
     pub listed : (i : ℕ) (one : Rc (Flight P) Global) → i < at → slice_get list i ≡ Some one
-        → share_an_end cmp m one.value.message.value ≡ true → Contains near i
+        → share cmp end m one.value.message.value ≡ true → Contains near i
     pub more : AreStillListed before near
-    pub only : All (λ p. Contains before p ⊎ SharesAt cmp m list p) near
+    pub only : All (λ p. Contains before p ⊎ SharesEndAt cmp end m list p) near
     pub order : Ascends 0 near
     pub past : All (λ p. p < at) (take first near)
 
   -- nothing is yet
-  pub none_listed : (m : Message P) (list : List (Rc (Flight P) Global)) (before : List ℕ) → Ascends 0 before
-      → HasListed m list 0 0 before before
-  none_listed m list before order = record {
+  pub none_listed : (end : End) (m : Message P) (list : List (Rc (Flight P) Global)) (before : List ℕ) → Ascends 0 before
+      → HasListed end m list 0 0 before before
+  none_listed end m list before order = record {
     listed = λ i one below. absurd (omega (arith, below));
     more = λ i is. is;
-    only = All-weaker (Contains before) (λ p. Contains before p ⊎ SharesAt cmp m list p) (λ p is. inl is) before
+    only = All-weaker (Contains before) (λ p. Contains before p ⊎ SharesEndAt cmp end m list p) (λ p is. inl is) before
         (All-contains_itself before);
     order = order;
     past = All-nil (λ p. p < 0);
   }
 
-  module _ (m : Message P) (list : List (Rc (Flight P) Global)) (from first : ℕ) (before near : List ℕ)
-      (so_far : HasListed m list from first before near) where
-    apart_there : (to : ℕ) → PassesNowhere (λ one. share_an_end cmp m one.value.message.value) list from to
+  module _ (end : End) (m : Message P) (list : List (Rc (Flight P) Global)) (from first : ℕ) (before near : List ℕ)
+      (so_far : HasListed end m list from first before near) where
+    apart_there : (to : ℕ) → PassesNowhere (λ one. share cmp end m one.value.message.value) list from to
         → (i : ℕ) (one : Rc (Flight P) Global) → from ≤ i → i < to → slice_get list i ≡ Some one
-        → share_an_end cmp m one.value.message.value ≡ false
+        → share cmp end m one.value.message.value ≡ false
     apart_there to apart i one low high there =
-        subst (λ (y : Rc (Flight P) Global). share_an_end cmp m y.value.message.value ≡ false)
+        subst (λ (y : Rc (Flight P) Global). share cmp end m y.value.message.value ≡ false)
         (get_or_from_slice_get list i one one there) (apart i low high one)
 
-    -- the first so many stand before the next that shares an end
-    pub still_past : (at : ℕ) → PassesFirstAt (λ one. share_an_end cmp m one.value.message.value) list from at
+    -- the first so many stand before the next that shares that end
+    pub still_past : (at : ℕ) → PassesFirstAt (λ one. share cmp end m one.value.message.value) list from at
         → All (λ p. p < at) (take first near)
     still_past at next =
         All-weaker (λ p. p < from) (λ p. p < at) (λ p less. omega (arith, less, next.low)) (take first near) so_far.past
 
-    shares_there : (at : ℕ) → PassesFirstAt (λ one. share_an_end cmp m one.value.message.value) list from at
-        → SharesAt cmp m list at
+    shares_there : (at : ℕ) → PassesFirstAt (λ one. share cmp end m one.value.message.value) list from at
+        → SharesEndAt cmp end m list at
     shares_there at next =
         let there = one_there list at next.high in (
           there.0,
           there.1,
-          sym (ap (λ (y : Rc (Flight P) Global). share_an_end cmp m y.value.message.value)
+          sym (ap (λ (y : Rc (Flight P) Global). share cmp end m y.value.message.value)
               (get_or_from_slice_get list at there.0 there.0 there.1)) ∙ next.here there.0,
         )
 
-    -- one more is listed, the next that shares an end
+    -- one more is listed, the next that shares that end
     pub listed_more : (at place : ℕ) (next : List ℕ)
-        → PassesFirstAt (λ one. share_an_end cmp m one.value.message.value) list from at
+        → PassesFirstAt (λ one. share cmp end m one.value.message.value) list from at
         → Contains next at → AreStillListed near next → All (λ p. Contains near p ⊎ (p ≡ at)) next → Ascends 0 next
-        → All (λ p. p < at) (take place next) → HasListed m list (at + 1) place before next
+        → All (λ p. p < at) (take place next) → HasListed end m list (at + 1) place before next
     listed_more at place next first here still only order past = record {
       listed = each_more (λ i (one : Rc (Flight P) Global).
-          share_an_end cmp m one.value.message.value ≡ true → Contains next i) list at
+          share cmp end m one.value.message.value ≡ true → Contains next i) list at
           (λ i one below there shares. elim (cases_lt i from) [
             | inl less ↦ still i (so_far.listed i one less there shares)
             | inr past ↦ absurd (false≢true (sym (apart_there at first.before i one past below there) ∙ shares))
           ])
           (λ one there shares. here);
       more = λ i is. still i (so_far.more i is);
-      only = All-weaker (λ p. Contains near p ⊎ (p ≡ at)) (λ p. Contains before p ⊎ SharesAt cmp m list p)
+      only = All-weaker (λ p. Contains near p ⊎ (p ≡ at)) (λ p. Contains before p ⊎ SharesEndAt cmp end m list p)
           (λ p listed. elim listed [
-            | inl is ↦ All-contains (λ p. Contains before p ⊎ SharesAt cmp m list p) near p so_far.only is
-            | inr is ↦ inr (subst (SharesAt cmp m list) (sym is) (shares_there at first))
+            | inl is ↦ All-contains (λ p. Contains before p ⊎ SharesEndAt cmp end m list p) near p so_far.only is
+            | inr is ↦ inr (subst (SharesEndAt cmp end m list) (sym is) (shares_there at first))
           ])
           next only;
       order = order;
       past = All-weaker (λ p. p < at) (λ p. p < at + 1) (λ p less. omega (arith, less)) (take place next) past;
     }
 
-    -- no other shares an end
-    pub listed_all : PassesNowhere (λ one. share_an_end cmp m one.value.message.value) list from (length list)
-        → AreListed cmp m near list
+    -- no other shares that end
+    pub listed_all : PassesNowhere (λ one. share cmp end m one.value.message.value) list from (length list)
+        → AreListedAt cmp end m near list
     listed_all apart i one there shares = elim (cases_lt i from) [
       | inl less ↦ so_far.listed i one less there shares
       | inr past ↦ absurd (false≢true
           (sym (apart_there (length list) apart i one past (slice_get_within list i one there) there) ∙ shares))
     ]
+
+  -- the same before some place, and the first from that place on that shares that end is known
+  pub record HasWalked (end : End) (m : Message P) (list : List (Rc (Flight P) Global)) (next : Option ℕ) (first : ℕ)
+      (before near : List ℕ) : Type 0 where
+    pub from : ℕ
+    pub is_next : IsNextPlace (λ one. share cmp end m one.value.message.value) list from next
+    pub so_far : HasListed end m list from first before near
+
+  share_alike : IsTotalOrder cmp → (end : End) (m n other : Message P) → share cmp end m n ≡ true
+      → share cmp end m other ≡ share cmp end n other
+  share_alike order Origin m n other same = (eq_by_cmp_equiv order).congr m.origin n.origin other.origin same
+  share_alike order Recipient m n other same =
+      (eq_by_cmp_equiv order).congr m.recipient n.recipient other.recipient same
+
+  -- those that share an end with one which shares it with the message share it with the message
+  pub next_shared : IsTotalOrder cmp → (end : End) (m : Message P) (list : List (Rc (Flight P) Global)) (from : ℕ)
+      (next : Option ℕ) (n : Message P) → share cmp end m n ≡ true
+      → IsNextPlace (λ other. share cmp end n other.value.message.value) list from next
+      → IsNextPlace (λ other. share cmp end m other.value.message.value) list from next
+  next_shared order end m list from None n same is =
+      λ i low high d. share_alike order end m n (get_or list i d).value.message.value same ∙ is i low high d
+  next_shared order end m list from (Some at) n same is = record {
+    low = is.low;
+    high = is.high;
+    before = λ i low high d.
+        share_alike order end m n (get_or list i d).value.message.value same ∙ is.before i low high d;
+    here = λ d. share_alike order end m n (get_or list at d).value.message.value same ∙ is.here d;
+  }
+
+  module _ (end : End) (m : Message P) (list : List (Rc (Flight P) Global)) (next : Option ℕ) (first : ℕ)
+      (before near : List ℕ) (walked : HasWalked end m list next first before near) where
+    abbrev is_shared : Rc (Flight P) Global → Bool
+    is_shared one = share cmp end m one.value.message.value
+
+    first_there : (at : ℕ) → next ≡ Some at → PassesFirstAt is_shared list walked.from at
+    first_there at is = subst (IsNextPlace is_shared list walked.from) is walked.is_next
+
+    -- the first so many stand before the place that is known
+    pub past_there : (at : ℕ) → next ≡ Some at → All (λ p. p < at) (take first near)
+    past_there at is = still_past end m list walked.from first before near walked.so_far at (first_there at is)
+
+    -- the one there is listed, and the next one is known
+    pub walked_more : IsTotalOrder cmp → (at : ℕ) → next ≡ Some at → (following : Option ℕ)
+        → ((d : Rc (Flight P) Global) → IsNextPlace
+        (λ other. share cmp end (get_or list at d).value.message.value other.value.message.value) list (at + 1) following)
+        → (place : ℕ) (after : List ℕ) → Contains after at → AreStillListed near after
+        → All (λ p. Contains near p ⊎ (p ≡ at)) after → Ascends 0 after → All (λ p. p < at) (take place after)
+        → HasWalked end m list following place before after
+    walked_more order at is following further place after here still only ascends past =
+        let there = first_there at is in
+        let one = (one_there list at there.high).0 in
+        record {
+          from = at + 1;
+          is_next = next_shared order end m list (at + 1) following (get_or list at one).value.message.value
+              (there.here one) (further one);
+          so_far = listed_more end m list walked.from first before near walked.so_far at place after there here still only
+              ascends past;
+        }
+
+    -- where there is no next one, all are listed
+    pub walked_all : next ≡ None → AreListedAt cmp end m near list
+    walked_all is =
+        listed_all end m list walked.from first before near walked.so_far
+        (subst (IsNextPlace is_shared list walked.from) is walked.is_next)
+
+    -- fewer stand behind the next one
+    pub fewer_behind : (at : ℕ) → next ≡ Some at → (following : Option ℕ)
+        → ((d : Rc (Flight P) Global) → IsNextPlace
+        (λ other. share cmp end (get_or list at d).value.message.value other.value.message.value) list (at + 1) following)
+        → behind list following < behind list next
+    fewer_behind at is None further =
+        let there = first_there at is in omega (arith, there.high, ap (behind list) is)
+    fewer_behind at is (Some to) further =
+        let there = first_there at is in
+        let after = further (one_there list at there.high).0 in
+        omega (arith, there.high, ap (behind list) is, after.low, after.high)
+
+    pub next_inside : (at : ℕ) → next ≡ Some at → at < length list
+    next_inside at is = (first_there at is).high
+
+  -- each that shares an end with a message is listed, once those are that share the one and those that share the other
+  pub record HasListedBoth (m : Message P) (list : List (Rc (Flight P) Global)) (before near : List ℕ) : Type 0 where
+    pub listed : AreListed cmp m near list
+    pub more : AreStillListed before near
+    pub only : All (λ p. Contains before p ⊎ SharesAt cmp m list p) near
+
+  pub both_listed : (m : Message P) (list : List (Rc (Flight P) Global)) (before mid near : List ℕ)
+      → AreListedAt cmp Origin m mid list → AreStillListed before mid
+      → All (λ p. Contains before p ⊎ SharesEndAt cmp Origin m list p) mid
+      → AreListedAt cmp Recipient m near list → AreStillListed mid near
+      → All (λ p. Contains mid p ⊎ SharesEndAt cmp Recipient m list p) near
+      → HasListedBoth m list before near
+  both_listed m list before mid near sent more only received further others = record {
+    listed = λ at one there shares.
+        elim (or_cases (same_peer cmp m.origin one.value.message.value.origin)
+        (same_peer cmp m.recipient one.value.message.value.recipient) shares) [
+          | inl same ↦ further at (sent at one there same)
+          | inr same ↦ received at one there same
+        ];
+    more = λ at is. further at (more at is);
+    only = All-weaker (λ p. Contains mid p ⊎ SharesEndAt cmp Recipient m list p)
+        (λ p. Contains before p ⊎ SharesAt cmp m list p)
+        (λ p is. elim is [
+          | inl was ↦ elim (All-contains (λ p. Contains before p ⊎ SharesEndAt cmp Origin m list p) mid p only was) [
+            | inl first ↦ inl first
+            | inr shares ↦ inr (shares.0, shares.1, or_first _ _ shares.2)
+          ]
+          | inr shares ↦ inr (shares.0, shares.1, or_second _ _ shares.2)
+        ])
+        near others;
+  }
 
   -- ---- an end of each of those that are listed
 
@@ -344,11 +463,11 @@ module _ {P : Type 0} (cmp : P → P → Ordering) where
       ])
       after only
 
-  -- those before a place that share an end with the message are listed, and it has both ends of those listed that
+  -- those before some place that share that end with the message are listed, and it has both ends of those listed that
   -- keep no rate
-  pub record HasJoinedAll (m : Message P) (list : List (Rc (Flight P) Global)) (at first : ℕ) (old new : Component P)
-      : Type 0 where
-    pub listed : HasListed m list at first old.near.items new.near.items
+  pub record HasJoinedAll (end : End) (m : Message P) (list : List (Rc (Flight P) Global)) (next : Option ℕ)
+      (first : ℕ) (old new : Component P) : Type 0 where
+    pub walked : HasWalked end m list next first old.near.items new.near.items
     pub suited : AreSuited cmp new new.near.items list
     pub joined : StartsWith old.joined.items new.joined.items
     pub level : new.level ≡ old.level

@@ -1,4 +1,4 @@
--- How many messages in flight, at the beginning of the list, have got a rate; and before which moment none finishes.
+-- How many messages in flight, at the beginning of the list, have got a rate.
 use Rattle.std.proofs.Common.{◌≡◌, ℕ, zero, suc, ◌<◌, ◌≤◌, Bool, true, false, ◌||◌, List, [], ◌∷◌}
 use Rattle.std.proofs.Common.{length, take, drop, get_or, set, Option, Some, None, refl, sym, ap}
 use Rattle.std.proofs.Common.{◌∙◌, arith}
@@ -16,14 +16,11 @@ use Rattle.std.specs.Prelude.{slice_get}
 use Rattle.fair_rates.specs.Sides.Caps.{Caps}
 use Rattle.fair_rates.proofs.Lists.Booleans.{first_of_both, second_of_both}
 use Rattle.fair_rates.proofs.Lists.InPlace.{IsChangedUpTo}
-use Rattle.link_simulation.specs.Rule.Planned.{earlier}
 use Rattle.link_simulation.specs.Simulation.World.{last_moment}
 use Rattle.link_flights.specs.declared.flight.Flight.{Flight}
 use Rattle.link_flights.specs.Flights.Flight.{UnitFlight, flight_at, flights_at, has_come, AreTimed, HaveRates}
-use Rattle.link_flights.specs.Flights.Flight.{FinishFrom}
 use Rattle.link_flights.specs.Flights.InFlight.{PassesNowhere}
 use Rattle.link_flights.specs.Flights.Rated.{is_out, are_limited, rated_ones, IsRatedFrom}
-use Rattle.link_flights.proofs.Flights.Copies.{AreShared}
 use Rattle.link_flights.proofs.Flights.Done.{out_by_finish, limited_there}
 use Rattle.link_flights.proofs.Flights.Flight.{IsBrought, is_past, is_counted_on, past_so, all_there}
 use Rattle.link_flights.proofs.Flights.InFlight.{filter_yes}
@@ -62,40 +59,6 @@ module _ {X : Type 0} (test : X → Bool) where
       and_from (test x) _ (first_of_both (test x) _ all)
       (pass_still n xs at (omega arith) (second_of_both (test x) _ all))
 
--- ---- none of a list passes a test
-
-module _ {X : Type 0} (test : X → Bool) where
-  neither : (a b : Bool) → a ≡ false → b ≡ false → (a || b) ≡ false
-  neither a b first second = rw (first, second) refl
-
-  none_with : (xs : List X) (at : ℕ) (y : X) → list_any test xs ≡ false → test y ≡ false
-      → list_any test (set xs at y) ≡ false
-  none_with [] at y none fails = refl
-  none_with (x ∷ xs) zero y none fails = neither (test y) _ fails ((or_parts (test x) _ none).1)
-  none_with (x ∷ xs) (suc at) y none fails =
-      neither (test x) _ ((or_parts (test x) _ none).0) (none_with xs at y ((or_parts (test x) _ none).1) fails)
-
-  none_at : (xs : List X) (at : ℕ) (x : X) → list_any test xs ≡ false → at < length xs → x ≡ get_or xs at x
-      → test x ≡ false
-  none_at [] at x none lt is = absurd (omega arith)
-  none_at (y ∷ xs) zero x none lt is = ap test is ∙ (or_parts (test y) _ none).0
-  none_at (y ∷ xs) (suc at) x none lt is = none_at xs at x ((or_parts (test y) _ none).1) (omega arith) is
-
-  none_without : (xs : List X) (at : ℕ) → list_any test xs ≡ false → list_any test (remove xs at) ≡ false
-  none_without [] zero none = refl
-  none_without [] (suc at) none = refl
-  none_without (x ∷ xs) zero none = (or_parts (test x) _ none).1
-  none_without (x ∷ xs) (suc at) none =
-      neither (test x) _ ((or_parts (test x) _ none).0) (none_without xs at ((or_parts (test x) _ none).1))
-
--- none of two moments has come where the earlier one has not
-pub earlier_none : (a b : Option ℕ) (t : ℕ) → has_come t (earlier a b) ≡ false
-    → (has_come t a ≡ false) × (has_come t b ≡ false)
-earlier_none None b t e = (refl, e)
-earlier_none (Some a) None t e = (e, refl)
-earlier_none (Some a) (Some b) t e =
-    let later = leb-false _ t e in (lt-leb a t (omega (arith, later)), lt-leb b t (omega (arith, later)))
-
 module _ {P : Type 0} where
   -- ---- those at the beginning have rates
 
@@ -118,48 +81,6 @@ module _ {P : Type 0} where
     omega (arith, h.0, length-remove fs at inside, inside, beyond),
     pass_still (λ f. f.value.rated) n fs at beyond h.1,
   )
-
-  rated_alike : (n : ℕ) (fs gs : List (Rc (Flight P) Global)) → AreShared fs gs
-      → list_all (λ f. f.value.rated) (take n gs) ≡ list_all (λ f. f.value.rated) (take n fs)
-  rated_alike zero fs gs z = refl
-  rated_alike (suc n) [] [] z = refl
-  rated_alike (suc n) [] (g ∷ gs) z = absurd z
-  rated_alike (suc n) (f ∷ fs) [] z = absurd z
-  rated_alike (suc n) (f ∷ fs) (g ∷ gs) z = rw (z.0, rated_alike n fs gs z.1) refl
-
-  pub rates_alike : (n : ℕ) (fs gs : List (Rc (Flight P) Global)) → AreShared fs gs → HaveRates n fs → HaveRates n gs
-  rates_alike n fs gs z h = (omega (arith, h.0, length_all_zip _ fs gs z), rated_alike n fs gs z ∙ h.1)
-
-  -- ---- none finishes before a moment
-
-  pub finish_put : (first : Option ℕ) (fs : List (Rc (Flight P) Global)) (at : ℕ) (one : Rc (Flight P) Global)
-      → FinishFrom first fs → FinishFrom (earlier first one.value.finish) (set fs at one)
-  finish_put first fs at one h t e =
-      let both = earlier_none first one.value.finish t e in
-      none_with (λ f. has_come t f.value.finish) fs at one (h t both.0) both.1
-
-  pub finish_still : (first : Option ℕ) (fs : List (Rc (Flight P) Global)) (at : ℕ) (x one : Rc (Flight P) Global)
-      → FinishFrom first fs → at < length fs → x ≡ get_or fs at x → one.value.finish ≡ x.value.finish
-      → FinishFrom first (set fs at one)
-  finish_still first fs at x one h lt is same t e =
-      let none = h t e in
-      none_with (λ f. has_come t f.value.finish) fs at one none
-      (ap (has_come t) same ∙ none_at (λ f. has_come t f.value.finish) fs at x none lt is)
-
-  pub finish_without : (first : Option ℕ) (fs : List (Rc (Flight P) Global)) (at : ℕ) → FinishFrom first fs
-      → FinishFrom first (remove fs at)
-  finish_without first fs at h t e = none_without (λ f. has_come t f.value.finish) fs at (h t e)
-
-  finishes_alike : (t : ℕ) (fs gs : List (Rc (Flight P) Global)) → AreShared fs gs
-      → list_any (λ f. has_come t f.value.finish) gs ≡ list_any (λ f. has_come t f.value.finish) fs
-  finishes_alike t [] [] z = refl
-  finishes_alike t [] (g ∷ gs) z = absurd z
-  finishes_alike t (f ∷ fs) [] z = absurd z
-  finishes_alike t (f ∷ fs) (g ∷ gs) z = rw (z.0, finishes_alike t fs gs z.1) refl
-
-  pub finish_alike : (first : Option ℕ) (fs gs : List (Rc (Flight P) Global)) → AreShared fs gs
-      → FinishFrom first fs → FinishFrom first gs
-  finish_alike first fs gs z h t e = finishes_alike t fs gs z ∙ h t e
 
   -- ---- those that have rates are counted on
 
@@ -191,33 +112,7 @@ module _ {P : Type 0} where
       abbrev out : Rc (Flight P) Global → Bool
       out f = is_out cmp caps scale (flight_at at f.value)
 
-      -- so none of them leaves
-      pub none_out : (n : ℕ) (fs : List (Rc (Flight P) Global)) → HaveRates n fs → list_all (is_past at) fs ≡ true
-          → list_any (λ f. has_come at f.value.finish) fs ≡ false → AreTimed fs
-          → are_limited cmp caps (rated_ones (flights_at at fs)) ≡ true → PassesNowhere out fs 0 n
-      none_out zero fs h past none timed limited i after before d = absurd (omega (arith, before))
-      none_out (suc n) [] h past none timed limited i after before d = absurd (omega (arith, h.0))
-      none_out (suc n) (f ∷ fs) h past none timed limited zero after before d =
-          let is = first_of_both f.value.rated _ h.1 in
-          sym (out_by_finish cmp caps scale some at f.value is (past_so at f (first_of_both (is_past at f) _ past) is)
-          here (timed zero f refl is)
-          (limited_there cmp caps scale some at (f ∷ fs) zero f limited (omega arith) refl is))
-          ∙ (or_parts (has_come at f.value.finish) _ none).0
-      none_out (suc n) (f ∷ fs) h past none timed limited (suc i) after before d =
-          none_out n fs (omega (arith, h.0), second_of_both f.value.rated _ h.1)
-          (second_of_both (is_past at f) _ past) ((or_parts (has_come at f.value.finish) _ none).1)
-          (λ j g there. timed (suc j) g there)
-          (limited_rest (flight_at at f.value) (flights_at at fs) (first_of_both f.value.rated _ h.1) limited) i
-          (omega arith) (omega (arith, before)) d
-        where
-          limited_rest : (u : UnitFlight P) (us : List (UnitFlight P)) → u.rated ≡ true
-              → are_limited cmp caps (rated_ones (u ∷ us)) ≡ true
-              → are_limited cmp caps (rated_ones us) ≡ true
-          limited_rest u us is limited =
-              second_of_both _ (are_limited cmp caps (rated_ones us))
-              (sym (ap (are_limited cmp caps) (filter_yes (λ v. v.rated) u us is)) ∙ limited)
-
-      -- nor does one of those between two places that have got a rate, where their finishes have not come
+      -- so none of those between two places leaves, which have got a rate, where their finishes have not come
       pub none_out_between : (n : ℕ) (fs : List (Rc (Flight P) Global)) (from to : ℕ) → HaveRates n fs
           → list_all (is_past at) fs ≡ true → ((i : ℕ) → from ≤ i → i < to → i < n)
           → PassesNowhere (λ f. has_come at f.value.finish) fs from to → AreTimed fs

@@ -10,7 +10,9 @@ use Rattle.fair_rates.specs.Sides.Subjects.{same_peer}
 use Rattle.link_pairs.specs.declared.message.Message.{Message}
 use Rattle.link_flights.specs.Flights.Flight.{UnitFlight, flight_at}
 use Rattle.link_flights.specs.declared.flight.Flight.{Flight}
+use Rattle.link_flights.specs.Flights.Table.{share}
 use Rattle.link_flights.specs.declared.component.Component.{Component}
+use Rattle.link_flights.specs.declared.table.End.{End}
 
 -- whether a message in flight goes on at its rate, which is below the level
 abbrev pub keeps : {P : Type 0} → Component P → UnitFlight P → Bool
@@ -123,6 +125,17 @@ module _ {P : Type 0} (cmp : P → P → Ordering) where
   SharesAt m list at =
       (one : Rc (Flight P) Global) × (slice_get list at ≡ Some one)
       × (share_an_end cmp m one.value.message.value ≡ true)
+
+  -- the one at a place shares that end with the message
+  abbrev pub SharesEndAt : End → Message P → List (Rc (Flight P) Global) → ℕ → Type 0
+  SharesEndAt end m list at =
+      (one : Rc (Flight P) Global) × (slice_get list at ≡ Some one)
+      × (share cmp end m one.value.message.value ≡ true)
+
+  -- each in flight that shares that end with the message is listed
+  abbrev pub AreListedAt : End → Message P → List ℕ → List (Rc (Flight P) Global) → Type 0
+  AreListedAt end m near list = (at : ℕ) (one : Rc (Flight P) Global) → slice_get list at ≡ Some one
+      → share cmp end m one.value.message.value ≡ true → Contains near at
 
   -- each in flight that shares an end with the message is listed
   abbrev pub AreListed : Message P → List ℕ → List (Rc (Flight P) Global) → Type 0

@@ -64,11 +64,6 @@ AreTimed {P} fs = (i : ℕ) (f : Rc (Flight P) Global) → slice_get fs i ≡ So
 abbrev pub HaveRates : {P : Type 0} → ℕ → List (Rc (Flight P) Global) → Type 0
 HaveRates n fs = (n ≤ length fs) × (list_all (λ f. f.value.rated) (take n fs) ≡ true)
 
--- none of them finishes before a moment; or none at all, where it is missing
-abbrev pub FinishFrom : {P : Type 0} → Option ℕ → List (Rc (Flight P) Global) → Type 0
-FinishFrom first fs =
-    (t : ℕ) → has_come t first ≡ false → list_any (λ f. has_come t f.value.finish) fs ≡ false
-
 -- a flight has been put at a place, and the others are as they were
 pub record IsPutAt {P : Type 0} (at : ℕ) (f : Flight P) (old new : List (Rc (Flight P) Global)) : Type 0 where
   pub one : Rc (Flight P) Global

@@ -1,11 +1,11 @@
 -- What is in flight, as it is kept.
 use Rattle.std.specs.Prelude.{◌≡◌, ℕ, ◌<◌, ◌≤◌, Bool, true, false, List, [], ◌∷◌, ◌++◌, length, slice_index_or}
 use Rattle.std.specs.Prelude.{Option, Some, None}
-use Rattle.std.specs.List.{AllZip}
 use Rattle.fair_rates.specs.Numbers.Amount.{whole}
 use Rattle.link_pairs.specs.declared.message.Message as code
 use Rattle.link_pairs.specs.Pairs.Messages.{message_of}
 use Rattle.link_flights.specs.declared.flight_list.Flights.{Flights}
+use Rattle.link_flights.specs.declared.flight_list.Mark.{Mark}
 use Rattle.link_simulation.specs.Rule.Planned.{RatedFlight}
 use Rattle.link_flights.specs.Flights.Flight.{UnitFlight, flights_at, AreTimed}
 use Rattle.link_flights.specs.Flights.RatedFlights.{rated_flight_of, sending_of}
@@ -18,12 +18,25 @@ in_units flights = flights_at flights.at flights.list.items
 abbrev pub in_flight : {P : Type 0} {a : _} {b : _} {c : _} → Flights P a b c → List (RatedFlight P)
 in_flight flights = sending_of flights.scale (in_units flights)
 
--- the same flights
-pub record IsSameFlights {P : Type 0} {a : _} {b : _} {c : _} (flights copy : Flights P a b c) : Type 0 where
-  pub list : AllZip (λ one other. other.value ≡ one.value) flights.list.items copy.list.items
-  pub scale : copy.scale ≡ flights.scale
-  pub at : copy.at ≡ flights.at
-  pub counted : copy.rated_anew ≡ flights.rated_anew
+-- all beside the list stands so
+pub record IsMarkOf {P : Type 0} {a : _} {b : _} {c : _} (flights : Flights P a b c) (mark : Mark) : Type 0 where
+  pub scale : mark.scale ≡ flights.scale
+  pub at : mark.at ≡ flights.at
+  pub floor : mark.floor ≡ flights.floor
+  pub counted : mark.rated_anew ≡ flights.rated_anew
+  pub settled : mark.settled ≡ flights.settled
+  pub unsearched : mark.unsearched ≡ flights.unsearched
+  pub stood : mark.stood ≡ flights.stood
+
+-- with that mark they can be taken back to flights that stood so
+abbrev pub CanBeTakenBack : {P : Type 0} {a : _} {b : _} {c : _} → Flights P a b c → Mark → Type 0
+CanBeTakenBack {P} {a} {b} {c} old mark =
+    (flights : Flights P a b c) × IsMarkOf flights mark × (old.list.before ≡ flights.list.items)
+
+-- they are what they were at that mark, where they had been committed
+abbrev pub IsTakenBack : {P : Type 0} {a : _} {b : _} {c : _} → Flights P a b c → Mark → Flights P a b c → Type 0
+IsTakenBack {P} {a} {b} {c} old mark new = (flights : Flights P a b c) → IsMarkOf flights mark
+    → flights.list.items ≡ flights.list.before → old.list.before ≡ flights.list.before → new ≡ flights
 
 -- a message is in flight under that id from a moment on, with no rate yet, and the others are as they were
 pub record Joins {P : Type 0} {a : _} {b : _} {c : _} (id now : ℕ) (m : code.Message P) (old new : Flights P a b c)

@@ -4,7 +4,7 @@ use Rattle.link_flights.proofs.flight_list.Flights.count.Goals as goal
 
 pub returns-then-component : goal.returns-then-component
 returns-then-component g c =
-    c.len.ensures ∙ omega (arith, c.args.self.now.list.ok.0)
+    c.len.ensures
     ∙ count_whole g.P.Ord.cmp c.args.component.now c.args.self.now.list.items c.if-component.true
 
 pub returns-else-component : goal.returns-else-component

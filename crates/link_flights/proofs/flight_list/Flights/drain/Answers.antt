@@ -31,6 +31,7 @@ loop-at-init g c =
       ],
       refl,
       refl,
+      refl,
     )
 
 pub loop-at-preserved : goal.loop-at-preserved
@@ -46,14 +47,14 @@ loop-at-preserved g c =
     ) in
     elim c.if-goes_back-2.branch [
       | then-goes_back-2+in_ok-one+in_ok-put w ↦
-          let x = w.index-then-goes_back-2.result.now in
-          let is : x ≡ get_or so_far.list.items c.loop-at.at x = w.index-then-goes_back-2.ensures in
+          let x = c.at-one.result.now in
+          let is : x ≡ get_or so_far.list.items c.loop-at.at x = c.at-one.ensures in
           let value = w.deref-then-goes_back-2.ensures in
           let back : c.args.now < old.at ⊎ x.value.rated ≡ false = elim w.then-goes_back-2.branch [
             | then-goes_back-2-via-then-goes_back-2 v ↦ inl v.if-goes_back-2.true
             | then-goes_back-2-via-else-goes_back-2+then-not-stands_at v ↦ inr
                 (ap (λ r. r.value.rated)
-                (is ∙ get_or_default so_far.list.items c.loop-at.at x v.index.result.now lt ∙ sym v.index.ensures)
+                (is ∙ get_or_default so_far.list.items c.loop-at.at x c.at-one.result.now lt ∙ sym c.at-one.ensures)
                 ∙ sym (ap (λ (f : Flight g.row.P.Denot). f.rated) v.deref.ensures)
                 ∙ v.stands_at.ensures.unrated v.if-not-stands_at.true)
           ] in (
@@ -71,10 +72,11 @@ loop-at-preserved g c =
                 (w.in_ok-one.ensures.rated ∙ ap (λ (f : Flight g.row.P.Denot). f.rated) value)),
             ap (λ s. s.at) w.self-is ∙ w.put.ensures.at ∙ at_is,
             ap (λ s. s.scale) w.self-is ∙ w.put.ensures.scale ∙ c.loop-at.invariant.2,
+            ap (λ s. s.list.before) w.self-is ∙ w.put.ensures.before ∙ c.loop-at.invariant.3,
           )
       | else-goes_back-2+else-not-stands_at w ↦
-          let x = w.index.result.now in
-          let is : x ≡ get_or so_far.list.items c.loop-at.at x = w.index.ensures in
+          let x = c.at-one.result.now in
+          let is : x ≡ get_or so_far.list.items c.loop-at.at x = c.at-one.ensures in
           let value = w.deref.ensures in (
             subst
                 (λ (s : _). IsChangedUpTo (IsBrought old.at c.args.now) old.list.items s.list.items (c.loop-at.at + 1))
@@ -87,6 +89,7 @@ loop-at-preserved g c =
                 (ap (λ n. list_all (is_past n) so_far.list.items) (sym at_is) ∙ so_far.past) w.if-goes_back-2.false),
             ap (λ s. s.at) w.self-is ∙ at_is,
             ap (λ s. s.scale) w.self-is ∙ c.loop-at.invariant.2,
+            ap (λ s. s.list.before) w.self-is ∙ c.loop-at.invariant.3,
           )
     ]
 
@@ -103,7 +106,6 @@ invariant_of-self g c =
       scaled = now.scaled;
       counted = now.counted;
       have_rates = now.have_rates;
-      finish_from = now.finish_from;
     }
 
 pub returns-clause-drained : goal.returns-clause-drained

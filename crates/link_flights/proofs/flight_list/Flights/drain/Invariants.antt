@@ -8,3 +8,4 @@ invariant-loop-at g l =
     IsChangedUpTo (IsBrought l.initial.self.at l.now) l.initial.self.list.items l.self.list.items l.at
     × (l.self.at ≡ l.initial.self.at)
     × (l.self.scale ≡ l.initial.self.scale)
+    × (l.self.list.before ≡ l.initial.self.list.before)

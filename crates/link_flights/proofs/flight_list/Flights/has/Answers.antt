@@ -1,5 +1,4 @@
-use Rattle.std.proofs.Common.{◌&&◌, ap, sym, ◌∙◌}
-use Rattle.std.specs.List.{list_any}
+use Rattle.std.proofs.Common.{◌&&◌, sym, ◌∙◌}
 use Rattle.fair_rates.specs.Sides.Subjects.{same_peer}
 use Rattle.link_flights.proofs.Flights.Standing.{any_sent}
 use Rattle.link_flights.proofs.flight_list.Flights.has.Goals as goal
@@ -9,11 +8,7 @@ returns g c =
     let self = c.args.self.now in
     let origin = c.args.origin.now in
     let recipient = c.args.recipient.now in
-    c.is_sent_by_any.ensures
-    ∙ ap
-    (list_any (λ one. same_peer g.P.Ord.cmp origin one.value.message.value.origin
-    && same_peer g.P.Ord.cmp recipient one.value.message.value.recipient))
-    c.deref.ensures.value
+    c.has.ensures
     ∙ sym
     (any_sent self.scale self.at self.list.items
     (λ m. same_peer g.P.Ord.cmp origin m.origin && same_peer g.P.Ord.cmp recipient m.recipient))

@@ -17,13 +17,13 @@ loop-at-preserved g c k f lt there =
     let component = c.args.component.now in
     let list = c.args.self.now.list.items in
     let index = c.loop-at.at-index in
-    let one = c.index.result.now in
+    let one = c.at.result.now in
     elim (cases_lt k index) [
       | inl below ↦ c.loop-at.invariant k f below there
       | inr from ↦
           let here : k ≡ index = omega (arith, lt, from) in
           let same : one ≡ f = part_element cmp component list c.requires.near k f one there
-          (c.index.ensures
+          (c.at.ensures
           ∙ ap (λ l. get_or list (get_or l index 0) one) c.deref-at-items.ensures.value
           ∙ ap (λ i. get_or list (get_or component.near.items i 0) one) (sym here)) in
           ap not
@@ -32,8 +32,8 @@ loop-at-preserved g c k f lt there =
           ∙ sym c.has.ensures ∙ c.if-has.false)
     ]
 
-pub index-requires : goal.index-requires
-index-requires g c =
+pub at-requires : goal.at-requires
+at-requires g c =
     let component = c.args.component.now in
     let list = c.args.self.now.list.items in
     let near = c.deref-at-items.result.now in
@@ -43,7 +43,6 @@ index-requires g c =
       arith,
       ap (λ l. get_or l c.loop-at.at-index 0) same,
       part_within g.P.Ord.cmp component list c.requires.near c.loop-at.at-index lt,
-      c.args.self.now.list.ok.0,
     )
 
 pub returns-then-has : goal.returns-then-has
@@ -52,13 +51,13 @@ returns-then-has g c =
     let component = c.args.component.now in
     let list = c.args.self.now.list.items in
     let index = c.loop-at.at-index in
-    let one = c.index.result.now in
+    let one = c.at.result.now in
     let near = those_near cmp component list in
     let as_many = count_part cmp component list c.requires.near in
     let x = one_there near index
     (omega (arith, c.loop-at-test.true, ap length c.deref-at-items.ensures.value, as_many)) in
     let same : one ≡ x.0 = part_element cmp component list c.requires.near index x.0 one x.1
-    (c.index.ensures ∙ ap (λ l. get_or list (get_or l index 0) one) c.deref-at-items.ensures.value) in
+    (c.at.ensures ∙ ap (λ l. get_or list (get_or l index 0) one) c.deref-at-items.ensures.value) in
     sym (one_fails (λ f. not (is_of cmp component (flight_at 0 f.value))) near index x.0 x.1
     (ap not
     (sym (ap (λ (x : Rc (Flight g.row.P.Denot) Global). is_of cmp component (flight_at 0 x.value)) same)

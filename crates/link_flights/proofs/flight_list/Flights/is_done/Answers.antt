@@ -16,8 +16,8 @@ pub returns-then-were_rated : goal.returns-then-were_rated
 returns-then-were_rated g c d =
     let old = c.args.self.now in
     let caps = caps_of g.P.Ord.cmp c.args.peers.now.entries c.args.pairs.now.entries in
-    let x = c.index-one.result.now in
-    let is : x ≡ get_or old.list.items c.args.at x = c.index-one.ensures in
+    let x = c.at-one.result.now in
+    let is : x ≡ get_or old.list.items c.args.at x = c.at-one.ensures in
     let here : x ≡ get_or old.list.items c.args.at d =
     is ∙ get_or_default old.list.items c.args.at x d c.requires.place in
     let rated : x.value.rated ≡ true =
@@ -38,8 +38,8 @@ pub returns-then-is_spent_at : goal.returns-then-is_spent_at
 returns-then-is_spent_at g c d =
     let old = c.args.self.now in
     let caps = caps_of g.P.Ord.cmp c.args.peers.now.entries c.args.pairs.now.entries in
-    let x = c.index-one.result.now in
-    let is : x ≡ get_or old.list.items c.args.at x = c.index-one.ensures in
+    let x = c.at-one.result.now in
+    let is : x ≡ get_or old.list.items c.args.at x = c.at-one.ensures in
     let here : x ≡ get_or old.list.items c.args.at d =
     is ∙ get_or_default old.list.items c.args.at x d c.requires.place in
     let rated : x.value.rated ≡ true =
@@ -55,8 +55,8 @@ pub returns-else-is_spent_at : goal.returns-else-is_spent_at
 returns-else-is_spent_at g c d =
     let old = c.args.self.now in
     let caps = caps_of g.P.Ord.cmp c.args.peers.now.entries c.args.pairs.now.entries in
-    let x = c.index-one.result.now in
-    let is : x ≡ get_or old.list.items c.args.at x = c.index-one.ensures in
+    let x = c.at-one.result.now in
+    let is : x ≡ get_or old.list.items c.args.at x = c.at-one.ensures in
     let here : x ≡ get_or old.list.items c.args.at d =
     is ∙ get_or_default old.list.items c.args.at x d c.requires.place in
     let rated : x.value.rated ≡ true =
@@ -75,8 +75,8 @@ pub returns-then-is_zero : goal.returns-then-is_zero
 returns-then-is_zero g c d =
     let old = c.args.self.now in
     let caps = caps_of g.P.Ord.cmp c.args.peers.now.entries c.args.pairs.now.entries in
-    let x = c.index-one.result.now in
-    let is : x ≡ get_or old.list.items c.args.at x = c.index-one.ensures in
+    let x = c.at-one.result.now in
+    let is : x ≡ get_or old.list.items c.args.at x = c.at-one.ensures in
     let here : x ≡ get_or old.list.items c.args.at d =
     is ∙ get_or_default old.list.items c.args.at x d c.requires.place in
     let rated : x.value.rated ≡ false =
@@ -93,8 +93,8 @@ pub returns-else-is_zero : goal.returns-else-is_zero
 returns-else-is_zero g c d =
     let old = c.args.self.now in
     let caps = caps_of g.P.Ord.cmp c.args.peers.now.entries c.args.pairs.now.entries in
-    let x = c.index-one.result.now in
-    let is : x ≡ get_or old.list.items c.args.at x = c.index-one.ensures in
+    let x = c.at-one.result.now in
+    let is : x ≡ get_or old.list.items c.args.at x = c.at-one.ensures in
     let here : x ≡ get_or old.list.items c.args.at d =
     is ∙ get_or_default old.list.items c.args.at x d c.requires.place in
     let rated : x.value.rated ≡ false =

@@ -40,11 +40,11 @@ loop-at-2-preserved g c =
     let new = c.join-in-loop-at-2.new.self in
     let join = c.join-in-loop-at-2.ensures in
     let more = c.in_ok-join-2.ensures in
-    let read = c.index-in-loop-at-2.result.now in
+    let read = c.at.result.now in
     let (all, touches, near, level, whole) = c.loop-at-2.invariant in (
       still_has_all cmp mid new more.joined join.whole c.args.done.now.items all,
       touches_one_more cmp mid new more.joined join.whole c.args.self.now.settled c.loop-at-2.at list touches read
-          c.index-in-loop-at-2.ensures
+          c.at.ensures
           (ap (λ (f : Flight g.row.P.Denot). has_both cmp new f.message.value) (sym c.deref.ensures) ∙ more.has),
       join.near ∙ near,
       join.level ∙ level,

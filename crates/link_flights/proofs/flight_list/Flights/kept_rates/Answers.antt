@@ -16,8 +16,8 @@ place-requires g c part =
     let as_many = count_part g.P.Ord.cmp c.args.component.now c.args.self.now.list.items (c.requires.near part) in
     omega (arith, c.loop-number-test.true, c.count-count.ensures, as_many)
 
-pub index-one-requires : goal.index-one-requires
-index-one-requires g c =
+pub at-one-requires : goal.at-one-requires
+at-one-requires g c =
     let component = c.args.component.now in
     let list = c.args.self.now.list.items in
     let lt : c.loop-number.number < length (those_near g.P.Ord.cmp component list) =
@@ -26,7 +26,6 @@ index-one-requires g c =
       arith,
       c.place.ensures,
       place_within g.P.Ord.cmp component list c.requires.near c.loop-number.number lt,
-      c.args.self.now.list.ok.0,
     )
 
 pub loop-number-preserved : goal.loop-number-preserved
@@ -36,10 +35,10 @@ loop-number-preserved g c =
     let list = c.args.self.now.list.items in
     let near = those_near cmp component list in
     let number = c.loop-number.number in
-    let one = c.index-one.result.now in
+    let one = c.at-one.result.now in
     let lt : number < length near = omega (arith, c.loop-number-test.true, c.count-count.ensures) in
     let is : one ≡ get_or near number one = element cmp component list c.requires.near number one lt
-    (c.index-one.ensures ∙ ap (λ p. get_or list p one) c.place.ensures) in
+    (c.at-one.ensures ∙ ap (λ p. get_or list p one) c.place.ensures) in
     let u = flight_at 0 one.value in
     let test : c.has.result ≡ is_of cmp component u =
     c.has.ensures ∙ ap (λ (f : Flight g.row.P.Denot). is_of cmp component (flight_at 0 f)) c.deref.ensures in

@@ -1,16 +1,14 @@
-use Rattle.std.proofs.Common.{◌≡◌, ◌<◌, inl, inr, length, get_or, sym, ap, ◌∙◌, arith}
+use Rattle.std.proofs.Common.{◌≡◌, inl, inr, get_or, sym, ap, ◌∙◌, arith}
 use Rattle.std.specs.declared.rc.Rc.{Rc}
 use Rattle.std.specs.declared.alloc.Global.{Global}
 use Rattle.std.proofs.lemmas.Bool.{cases_lt}
-use Rattle.link_simulation.specs.Rule.Planned.{earlier}
 use Rattle.link_pairs.specs.Pairs.CapsOf.{caps_of}
 use Rattle.link_flights.specs.declared.flight.Flight.{Flight}
 use Rattle.link_flights.specs.Flights.Flight.{flight_at}
 use Rattle.link_flights.specs.Flights.Rated.{is_out}
-use Rattle.link_flights.proofs.Flights.Passed.{passed_one}
 use Rattle.link_flights.proofs.Flights.Settled.{none_out_between}
 use Rattle.link_flights.proofs.flight_list.Flights.next_done.Goals as goal
-use Rattle.link_flights.proofs.flight_list.Flights.next_done.Goals.{then-were_rated, else-were_rated}
+use Rattle.link_flights.proofs.flight_list.Flights.next_done.Goals.{then-were_rated+then-from-self, else-were_rated}
 
 pub loop-at-preserved : goal.loop-at-preserved
 loop-at-preserved g c =
@@ -20,34 +18,23 @@ loop-at-preserved g c =
     let caps = caps_of g.P.Ord.cmp c.args.peers.now.entries c.args.pairs.now.entries in
     let out = λ (f : Rc (Flight g.row.P.Denot) Global). is_out g.P.Ord.cmp caps self.scale (flight_at self.at f.value)
     in
-    let so_far = c.loop-at.invariant in
-    let inside : at < length list = omega (arith, c.loop-at-test.true, c.len-at-end.ensures, self.list.ok.0) in (
-      λ i low high d. elim (cases_lt i at) [
-        | inl less ↦ so_far.0 i low less d
-        | inr past ↦
-            let here : i ≡ at = omega (arith, past, high) in
-            ap (λ k. out (get_or list k d)) here ∙ sym (c.is_done.ensures d) ∙ c.if-is_done.false
-      ],
-      passed_one c.args.passed.now.finish c.loop-at.passed.finish c.join.new.self.finish list c.args.from at
-          c.index.result.now so_far.1 inside c.index.ensures
-          (c.join.ensures ∙ ap (λ (f : Flight g.row.P.Denot). earlier c.loop-at.passed.finish f.finish) c.deref.ensures),
-    )
+    λ i low high d. elim (cases_lt i at) [
+      | inl less ↦ c.loop-at.invariant i low less d
+      | inr past ↦
+          let here : i ≡ at = omega (arith, past, high) in
+          ap (λ k. out (get_or list k d)) here ∙ sym (c.is_done.ensures d) ∙ c.if-is_done.false
+    ]
 
 pub loop-at-init : goal.loop-at-init
 loop-at-init g c = elim c.if-were_rated.branch [
-  | then-were_rated w ↦
+  | then-were_rated+then-from-self w ↦
       let self = c.args.self.now in
       let caps = caps_of g.P.Ord.cmp c.args.peers.now.entries c.args.pairs.now.entries in
-      let passes = w.pass-start.ensures in
-      rw (w.start-is, w.passed-is) (
-        none_out_between g.P.Ord.cmp caps self.scale self.scaled self.at (omega arith) self.settled self.list.items
-            c.args.from w.pass-start.result self.have_rates self.past passes.rated passes.go_on
-            (c.requires.timed w.if-were_rated.true) (c.requires.limited w.if-were_rated.true),
-        passes.noted,
-      )
-  | else-were_rated w ↦
-      rw (w.start-is, w.passed-is) (
-        λ i low high d. absurd (omega (arith, low, high)),
-        λ t e. (e, λ i low high d. absurd (omega (arith, low, high))),
-      )
+      let passes = w.settled_finish-start.ensures in
+      rw w.start-is
+      (none_out_between g.P.Ord.cmp caps self.scale self.scaled self.at (omega arith) self.settled self.list.items
+      c.args.from w.settled_finish-start.result self.have_rates self.past
+      (λ i low high. omega (arith, high, passes.rated)) passes.go_on (c.requires.timed w.if-were_rated.true)
+      (c.requires.limited w.if-were_rated.true))
+  | else-were_rated w ↦ rw w.start-is (λ i low high d. absurd (omega (arith, low, high)))
 ]

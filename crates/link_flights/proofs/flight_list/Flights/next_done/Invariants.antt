@@ -2,11 +2,9 @@ use Rattle.link_flights.specs.Flights.Flight.{flight_at}
 use Rattle.link_flights.specs.Flights.InFlight.{PassesNowhere}
 use Rattle.link_flights.specs.Flights.Rated.{is_out}
 use Rattle.link_pairs.specs.Pairs.CapsOf.{caps_of}
-use Rattle.link_flights.proofs.Flights.Passed.{HasPassed}
 use Rattle.link_flights.proofs.flight_list.Flights.next_done.Given as goal
 
 abbrev pub invariant-loop-at : goal.invariant-loop-at
 invariant-loop-at g l =
     PassesNowhere (λ one. is_out g.P.Ord.cmp (caps_of g.P.Ord.cmp l.peers.entries l.pairs.entries) l.self.scale
     (flight_at l.self.at one.value)) l.self.list.items l.from l.at
-    × HasPassed l.fn.passed.finish l.passed.finish l.self.list.items l.from l.at

@@ -11,10 +11,10 @@ use Rattle.link_flights.specs.Flights.InFlight.{in_flight, in_units}
 use Rattle.link_flights.proofs.Flights.Standing.{timed_with}
 use Rattle.link_flights.proofs.Flights.Units.{units_of_bytes, no_units}
 use Rattle.link_flights.proofs.flight_list.Flights.push.Goals as goal
-use Rattle.link_flights.proofs.flight_list.Flights.push.Goals.{In_ok-push}
+use Rattle.link_flights.proofs.flight_list.Flights.push.Goals.{After-self-in_default-1}
 
 -- what is in flight from now on
-abbrev started : (g : _) (c : In_ok-push g) → Flight g.row.P.Denot
+abbrev started : (g : _) (c : After-self-in_default-1 g) → Flight g.row.P.Denot
 started g c =
     record {
       id = c.args.id;
@@ -27,7 +27,7 @@ started g c =
     }
 
 -- as it is kept
-abbrev unit_of : (g : _) (c : In_ok-push g) → UnitFlight g.row.P.Denot
+abbrev unit_of : (g : _) (c : After-self-in_default-1 g) → UnitFlight g.row.P.Denot
 unit_of g c =
     record {
       id = c.args.id;
@@ -38,18 +38,18 @@ unit_of g c =
       rated = false;
     }
 
-joins_so : (g : _) (c : In_ok-push g)
+joins_so : (g : _) (c : After-self-in_default-1 g)
     → flights_at c.args.self.now.at c.push.new.self.items ≡ in_units c.args.self.now ++ unit_of g c ∷ []
 joins_so g c =
     let old = c.args.self.now in
-    let one : c.in_ok-new.field-0.value ≡ started g c = search rules in
-    ap (flights_at old.at) c.in_ok-push.ensures.items
+    let one : c.in_ok-flight.flight.value ≡ started g c = search rules in
+    ap (flights_at old.at) c.in_default.ensures.items
     ∙ map-append (λ (f : Rc (Flight g.row.P.Denot) Global). flight_at old.at f.value) old.list.items
-    (c.in_ok-new.field-0 ∷ [])
+    (c.in_ok-flight.flight ∷ [])
     ∙ ap (λ (f : Flight g.row.P.Denot). in_units old ++ flight_at old.at f ∷ []) one
 
 -- as it is read
-read_so : (g : _) (c : In_ok-push g) → rated_flight_of c.args.self.now.scale (unit_of g c)
+read_so : (g : _) (c : After-self-in_default-1 g) → rated_flight_of c.args.self.now.scale (unit_of g c)
     ≡ record {
       id = c.args.id;
       message = message_of c.args.message.value;
@@ -80,10 +80,10 @@ returns-clause-sending g c =
 
 pub returns-clause-timed : goal.returns-clause-timed
 returns-clause-timed g c =
-    let one : c.in_ok-new.field-0.value ≡ started g c = search rules in
+    let one : c.in_ok-flight.flight.value ≡ started g c = search rules in
     λ timed.
-    subst AreTimed (sym c.in_ok-push.ensures.items)
-    (timed_with c.args.self.now.list.items c.in_ok-new.field-0 (ap (λ (f : Flight g.row.P.Denot). f.rated) one)
+    subst AreTimed (sym c.in_default.ensures.items)
+    (timed_with c.args.self.now.list.items c.in_ok-flight.flight (ap (λ (f : Flight g.row.P.Denot). f.rated) one)
     timed)
 
 pub returns-clause-joined : goal.returns-clause-joined

@@ -8,11 +8,11 @@ use Rattle.link_flights.proofs.flight_list.Flights.put_rerated.Goals as goal
 pub returns-clause-rerated : goal.returns-clause-rerated
 returns-clause-rerated g c =
     let old = c.args.self.now in
-    let x = c.index.result.now in
+    let x = c.at.result.now in
     let one = c.in_ok-one in
     let value : c.deref.result.now ≡ x.value = c.deref.ensures in
     put_anew old.at (product c.args.growth.now) (rate_of c.args.rate) old.list.items c.args.at x
-    c.requires.place c.index.ensures one.one c.put.new.self.list.items c.in_ok-put.ensures.list
+    c.requires.place c.at.ensures one.one c.put.new.self.list.items c.in_ok-put.ensures.list
     (one.ensures.id ∙ ap (λ (f : Flight g.row.P.Denot). f.id) value)
     (one.ensures.message ∙ ap (λ (f : Flight g.row.P.Denot). f.message.value) value)
     (one.ensures.left
@@ -22,4 +22,4 @@ returns-clause-rerated g c =
 pub returns-clause-counted : goal.returns-clause-counted
 returns-clause-counted g c =
     let put = c.in_ok-put.ensures.list in
-    inr (ap (λ n. n + 1) c.put.ensures.counted, (put.one, put.others))
+    inr (ap (λ n. n + 1) c.in_ok-put.ensures.counted, (put.one, put.others))

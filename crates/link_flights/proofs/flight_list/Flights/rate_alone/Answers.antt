@@ -21,7 +21,7 @@ returns-clause-fair g c d =
     let self = c.args.self.now in
     let caps = caps_of cmp c.args.peers.now.entries c.args.pairs.now.entries in
     let of = looked_up cmp g.met.P.Ord.total c.args.peers.now.entries c.args.pairs.now.entries in
-    let one = c.index-one.result.now in
+    let one = c.at-one.result.now in
     let parts = c.unwrap_or.result in
     let flow : Flow g.row.P.Denot = record {
       id = 0;
@@ -37,7 +37,7 @@ returns-clause-fair g c d =
     subst
     (λ (f : Rc (Flight g.row.P.Denot) Global). AreFairFor cmp caps self.scale (message_of f.value.message.value ∷ [])
     (parts ∷ []))
-    (c.index-one.ensures ∙ get_or_default self.list.items c.args.at one d c.requires.place)
+    (c.at-one.ensures ∙ get_or_default self.list.items c.args.at one d c.requires.place)
     (alone_fair cmp g.met.P.Ord.total caps of flow (message_of one.value.message.value) self.scale parts
     (ap (λ m. m.origin)
     (c.deref-2.ensures ∙ ap (λ (f : Flight g.row.P.Denot). f.message.value) c.deref.ensures))

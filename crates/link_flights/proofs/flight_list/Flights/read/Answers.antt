@@ -11,17 +11,16 @@ use Rattle.fair_rates.proofs.Lists.Copied.{copied_more, copied_all}
 use Rattle.link_flights.proofs.Flights.Standing.{length_in_flight, there_in_flight}
 use Rattle.link_flights.proofs.flight_list.Flights.read.Goals as goal
 
-pub loop-one-preserved : goal.loop-one-preserved
-loop-one-preserved g c =
+pub loop-at-preserved : goal.loop-at-preserved
+loop-at-preserved g c =
     let self = c.args.self.now in
-    let at = c.loop-one.one-index in
-    let one = c.one-item.result in
+    let at = c.loop-at.at in
+    let one = c.at-one.result.now in
     let reading = c.in_ok-read_one.field-0 in
     let read : RatedFlight g.row.P.Denot = rated_flight_of self.scale (flight_at self.at one.value) in
     let inside : at < length self.list.items =
-    omega (arith, c.loop-one-test.true, ap length c.deref-one-items.ensures.value) in
-    let one_is : one ≡ get_or self.list.items at one =
-    c.one-item.is ∙ ap (λ l. get_or l at one) c.deref-one-items.ensures.value in
+    omega (arith, c.loop-at-test.true, c.len-at-end.ensures) in
+    let one_is : one ≡ get_or self.list.items at one = c.at-one.ensures in
     let there : read ≡ get_or (in_flight self) at read =
     sym (there_in_flight self.scale self.at self.list.items at one read inside one_is) in
     let here : IsReadAs g.P.Ord.cmp read reading = record {
@@ -46,17 +45,17 @@ loop-one-preserved g c =
           ∙ ap (λ (f : Flight g.row.P.Denot). (flight_at self.at f).updated) c.deref.ensures;
     } in
     rw c.in_ok-push.ensures.items
-    (copied_more (IsReadAs g.P.Ord.cmp) (in_flight self) c.loop-one.readings.items at read reading
-    (omega (arith, inside, length_in_flight self.scale self.at self.list.items)) there c.loop-one.invariant here)
+    (copied_more (IsReadAs g.P.Ord.cmp) (in_flight self) c.loop-at.readings.items at read reading
+    (omega (arith, inside, length_in_flight self.scale self.at self.list.items)) there c.loop-at.invariant here)
 
 pub returns-clause-read : goal.returns-clause-read
 returns-clause-read g c =
     let self = c.args.self.now in
-    copied_all (IsReadAs g.P.Ord.cmp) (in_flight self) c.loop-one.readings.items c.loop-one.one-index
+    copied_all (IsReadAs g.P.Ord.cmp) (in_flight self) c.loop-at.readings.items c.loop-at.at
     (omega (
       arith,
       length_in_flight self.scale self.at self.list.items,
-      c.loop-one-test.false,
-      ap length c.deref-one-items.ensures.value,
+      c.loop-at-test.false,
+      c.len-at-end.ensures,
     ))
-    c.loop-one.invariant
+    c.loop-at.invariant

@@ -4,5 +4,5 @@ use Rattle.link_flights.specs.Flights.InFlight.{in_flight}
 use Rattle.link_flights.specs.Flights.Readings.{IsReadAs}
 use Rattle.link_flights.proofs.flight_list.Flights.read.Given as goal
 
-abbrev pub invariant-loop-one : goal.invariant-loop-one
-invariant-loop-one g l = AllZip (IsReadAs g.P.Ord.cmp) (take l.one-index (in_flight l.self)) l.readings.items
+abbrev pub invariant-loop-at : goal.invariant-loop-at
+invariant-loop-at g l = AllZip (IsReadAs g.P.Ord.cmp) (take l.at (in_flight l.self)) l.readings.items

@@ -27,20 +27,22 @@ loop-number-init g c =
     let rates = rates_of_levels c.args.levels.now level_of in
     let component = c.args.component.now in
     let times = product c.args.growth.now in
-    let one_each = length-map level_of (parts_of_level levels) ∙ c.requires.one_each in
-    record {
-      place = 0;
-      up_to = none_rerated g.P.Ord.cmp component old.at times rates old.list.items one_each
-          c.requires.left c.requires.others;
-      to_come = all_to_come g.P.Ord.cmp component old.at times rates old.list.items old.list.items
-          old.list.items one_each c.requires.left c.requires.others;
-      at = refl;
-      scale = refl;
-      timed = c.requires.timed;
-      kept = all_kept old.list.items;
-      counted = omega arith;
-      behind = omega arith;
-    }
+    let one_each = length-map level_of (parts_of_level levels) ∙ c.requires.one_each in (
+      record {
+        place = 0;
+        up_to = none_rerated g.P.Ord.cmp component old.at times rates old.list.items one_each
+            c.requires.left c.requires.others;
+        to_come = all_to_come g.P.Ord.cmp component old.at times rates old.list.items old.list.items
+            old.list.items one_each c.requires.left c.requires.others;
+        at = refl;
+        scale = refl;
+        timed = c.requires.timed;
+        kept = all_kept old.list.items;
+        counted = omega arith;
+        behind = omega arith;
+      },
+      refl,
+    )
 
 pub bounds-level_of-next : goal.bounds-level_of-next
 bounds-level_of-next g c =
@@ -53,7 +55,7 @@ bounds-level_of-next g c =
     let number = c.loop-number.number in
     let lt : number < length (those_near cmp component old.list.items) =
     omega (arith, c.loop-number-test.true, c.count-number-end.ensures) in
-    let h = c.loop-number.invariant in
+    let h = c.loop-number.invariant.0 in
     let n = next_in h lt in
     let of : is_of cmp component (flight_at old.at n.x.value) ≡ true =
     sym (c.is_rated.ensures ∙ c.requires.kept number n.x n.there) ∙ c.if-is_rated.true in
@@ -79,7 +81,7 @@ rerate-requires-clause-place g c =
     let number = c.loop-number.number in
     let lt : number < length (those_near cmp component old.list.items) =
     omega (arith, c.loop-number-test.true, c.count-number-end.ensures) in
-    let h = c.loop-number.invariant in
+    let h = c.loop-number.invariant.0 in
     let n = next_in h lt in
     let place : c.place.result ≡ n.at =
     c.place.ensures ∙ place_is cmp component old.list.items c.requires.near number lt ∙ n.place in
@@ -96,7 +98,7 @@ rerate-requires-clause-left g c d none =
     let number = c.loop-number.number in
     let lt : number < length (those_near cmp component old.list.items) =
     omega (arith, c.loop-number-test.true, c.count-number-end.ensures) in
-    let h = c.loop-number.invariant in
+    let h = c.loop-number.invariant.0 in
     let n = next_in h lt in
     let growth = product c.args.growth.now in
     let so_far = c.loop-number.self in
@@ -120,7 +122,7 @@ rerate-requires-clause-counted g c =
     let number = c.loop-number.number in
     let lt : number < length (those_near cmp component old.list.items) =
     omega (arith, c.loop-number-test.true, c.count-number-end.ensures) in
-    let h = c.loop-number.invariant in
+    let h = c.loop-number.invariant.0 in
     let n = next_in h lt in
     let place : c.place.result ≡ n.at =
     c.place.ensures ∙ place_is cmp component old.list.items c.requires.near number lt ∙ n.place in
@@ -137,7 +139,7 @@ loop-number-preserved g c =
     let number = c.loop-number.number in
     let lt : number < length (those_near cmp component old.list.items) =
     omega (arith, c.loop-number-test.true, c.count-number-end.ensures) in
-    let h = c.loop-number.invariant in
+    let h = c.loop-number.invariant.0 in
     let n = next_in h lt in
     let growth = product c.args.growth.now in
     let so_far = c.loop-number.self in
@@ -161,37 +163,41 @@ loop-number-preserved g c =
           w.in_ok-rerate.ensures.rerated) in
           let counted : IsCountedAt n.at so_far now =
           subst (λ m. IsCountedAt m so_far now) place w.in_ok-rerate.ensures.counted in
-          let here : n.x ≡ get_or so_far.list.items n.at n.x = stands_here n.up_to n.x n.stands n.x in
-          subst (λ s. SoFar s (number + 1) c.if-is_rated.next) (sym w.self-is)
-          (subst (λ m. SoFar now (number + 1) m) (sym w.next-is)
-          (record {
-            place = n.at + 1;
-            up_to = one_rerated n.up_to n.x n.stands is_rate new put here rate of;
-            to_come = rerated_to_come cmp component old.at growth rates old.list.items so_far.list.items
-                new number next h.place n is_rate put here rate of;
-            at = w.rerate.ensures.at ∙ h.at;
-            scale = w.rerate.ensures.scale ∙ h.scale;
-            timed = λ timed. timed_set put (h.timed timed);
-            kept = one_counted n.at so_far now old.list.items counted h.kept;
-            counted = omega (arith, h.counted, by_one n.at so_far now counted);
-            behind = omega (arith, n.after, h.behind);
-          }))
+          let here : n.x ≡ get_or so_far.list.items n.at n.x = stands_here n.up_to n.x n.stands n.x in (
+            subst (λ s. SoFar s (number + 1) c.if-is_rated.next) (sym w.self-is)
+                (subst (λ m. SoFar now (number + 1) m) (sym w.next-is)
+                (record {
+                  place = n.at + 1;
+                  up_to = one_rerated n.up_to n.x n.stands is_rate new put here rate of;
+                  to_come = rerated_to_come cmp component old.at growth rates old.list.items so_far.list.items
+                      new number next h.place n is_rate put here rate of;
+                  at = w.rerate.ensures.at ∙ h.at;
+                  scale = w.rerate.ensures.scale ∙ h.scale;
+                  timed = λ timed. timed_set put (h.timed timed);
+                  kept = one_counted n.at so_far now old.list.items counted h.kept;
+                  counted = omega (arith, h.counted, by_one n.at so_far now counted);
+                  behind = omega (arith, n.after, h.behind);
+                })),
+            ap (λ s. s.list.before) w.self-is ∙ w.rerate.ensures.before ∙ c.loop-number.invariant.1,
+          )
       | else-is_rated w ↦
-          let out = sym test ∙ w.if-is_rated.false in
-          subst (λ s. SoFar s (number + 1) c.if-is_rated.next) (sym w.self-is)
-          (subst (λ m. SoFar so_far (number + 1) m) (sym w.next-is)
-          (record {
-            place = n.at + 1;
-            up_to = passed n.up_to n.x n.stands out;
-            to_come = more_to_come cmp component old.at growth rates old.list.items so_far.list.items
-                number next h.place n out;
-            at = h.at;
-            scale = h.scale;
-            timed = h.timed;
-            kept = h.kept;
-            counted = h.counted;
-            behind = omega (arith, n.after, h.behind);
-          }))
+          let out = sym test ∙ w.if-is_rated.false in (
+            subst (λ s. SoFar s (number + 1) c.if-is_rated.next) (sym w.self-is)
+                (subst (λ m. SoFar so_far (number + 1) m) (sym w.next-is)
+                (record {
+                  place = n.at + 1;
+                  up_to = passed n.up_to n.x n.stands out;
+                  to_come = more_to_come cmp component old.at growth rates old.list.items so_far.list.items
+                      number next h.place n out;
+                  at = h.at;
+                  scale = h.scale;
+                  timed = h.timed;
+                  kept = h.kept;
+                  counted = h.counted;
+                  behind = omega (arith, n.after, h.behind);
+                })),
+            ap (λ s. s.list.before) w.self-is ∙ c.loop-number.invariant.1,
+          )
     ]
 
 pub returns-clause-rerated : goal.returns-clause-rerated
@@ -199,7 +205,7 @@ returns-clause-rerated g c =
     let old = c.args.self.now in
     let now = c.loop-number.self in
     let component = c.args.component.now in
-    let h = c.loop-number.invariant in
+    let h = c.loop-number.invariant.0 in
     let levels = map (λ (level : Rc ℕ Global). level.value) c.args.levels.now in
     let level_of = c.args.level_of.now in
     let rates = rates_of_levels c.args.levels.now level_of in
@@ -215,7 +221,7 @@ returns-clause-timed g c =
     let old = c.args.self.now in
     let now = c.loop-number.self in
     let component = c.args.component.now in
-    let h = c.loop-number.invariant in
+    let h = c.loop-number.invariant.0 in
     let levels = map (λ (level : Rc ℕ Global). level.value) c.args.levels.now in
     let level_of = c.args.level_of.now in
     let rates = rates_of_levels c.args.levels.now level_of in

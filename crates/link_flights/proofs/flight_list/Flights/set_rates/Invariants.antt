@@ -1,3 +1,4 @@
+use Rattle.std.proofs.Common.{◌≡◌}
 use Rattle.fair_rates.specs.Fairness.Exists.{product}
 use Rattle.link_flights.specs.Flights.Rated.{rates_of_levels}
 use Rattle.link_flights.proofs.Flights.Rerating.{IsSoFar}
@@ -7,3 +8,4 @@ abbrev pub invariant-loop-number : goal.invariant-loop-number
 invariant-loop-number g l =
     IsSoFar g.P.Ord.cmp l.component (product l.growth) (rates_of_levels l.levels l.level_of) l.were_timed
     l.initial.self.at l.initial.self.scale l.initial.self.list.items l.self l.number l.next
+    × (l.self.list.before ≡ l.initial.self.list.before)

@@ -16,46 +16,22 @@ use Rattle.link_flights.proofs.Flights.Floors.{all_over, floor_so}
 use Rattle.link_flights.proofs.Flights.InFlight.{HaveLeft, none_left, within, step_leaves, steps_stay}
 use Rattle.link_flights.proofs.Flights.InFlight.{all_looked_at}
 use Rattle.link_flights.proofs.Flights.Leaving.{timed_without, flights_limited_without, parted_so}
-use Rattle.link_flights.proofs.Flights.Passed.{passed_on, passed_all}
-use Rattle.link_flights.proofs.Flights.Settled.{none_out}
-use Rattle.std.proofs.lemmas.Bool.{eqb-true}
 use Rattle.link_flights.proofs.flight_list.Flights.take_done.Goals as goal
-use Rattle.link_flights.proofs.flight_list.Flights.take_done.Goals.{
-  then-were_rated+then-not-may_have_finished_by,
-  else-were_rated,
-}
 
 pub loop-next-init : goal.loop-next-init
 loop-next-init g c =
     let old = c.args.self.now in
     let caps = caps_of g.P.Ord.cmp c.args.peers.now.entries c.args.pairs.now.entries in
     let message = λ (f : Rc (Flight g.row.P.Denot) Global). message_of f.value.message.value in
-    let out = λ (f : Rc (Flight g.row.P.Denot) Global). is_out g.P.Ord.cmp caps old.scale (flight_at old.at f.value) in
-    let at = c.if-were_rated.at in
-    let stay : (at ≤ length old.list.items) × PassesNowhere out old.list.items 0 at =
-    elim c.if-were_rated.branch [
-      | then-were_rated+then-not-may_have_finished_by w ↦
-          subst (λ n. (n ≤ length old.list.items) × PassesNowhere out old.list.items 0 n) (sym w.at-is) (
-            old.have_rates.0,
-            none_out g.P.Ord.cmp caps old.scale old.scaled old.at (omega arith) old.settled old.list.items
-                old.have_rates old.past
-                (old.finish_from old.at (sym w.may_have_finished_by.ensures ∙ w.if-not-may_have_finished_by.true))
-                (c.requires.timed w.if-were_rated.true) (c.requires.limited w.if-were_rated.true),
-          )
-      | else-were_rated w ↦
-          subst (λ n. (n ≤ length old.list.items) × PassesNowhere out old.list.items 0 n) (sym w.at-is)
-          (omega arith, λ i after before d. absurd (omega (arith, before)))
-    ] in (
-      subst (λ l. HaveLeft message out old.list.items old.list.items (messages l) at) (sym c.new-done.ensures.items)
-          (steps_stay message out old.list.items old.list.items [] 0 at (none_left message out old.list.items)
-          (omega arith) stay.0 stay.1),
+    let out = λ (f : Rc (Flight g.row.P.Denot) Global). is_out g.P.Ord.cmp caps old.scale (flight_at old.at f.value) in (
+      subst (λ l. HaveLeft message out old.list.items old.list.items (messages l) 0) (sym c.new-done.ensures.items)
+          (none_left message out old.list.items),
       refl,
       refl,
       λ h. h,
       λ h. h,
-      over_stay out None old.list.items old.list.items 0 at (none_over out None old.list.items) (omega arith) stay.0
-          stay.1,
-      λ t e i low high d. absurd (omega (arith, low, high)),
+      none_over out None old.list.items,
+      refl,
     )
 
 pub loop-next-preserved : goal.loop-next-preserved
@@ -74,11 +50,11 @@ loop-next-preserved g c =
     λ i after before d. test (get_or now.list.items i d) ∙ next.before i after before d in
     let done = λ (d : Rc (Flight g.row.P.Denot) Global). sym (test (get_or now.list.items at d) ∙ next.here d) in
     let inside : at ≤ length now.list.items = omega (arith, next.high) in
-    let gone : message_of c.in_ok-clone.field-0.value ≡ message c.index.result.now =
+    let gone : message_of c.in_ok-clone.field-0.value ≡ message c.at.result.now =
     ap (λ (m : Message g.row.P.Denot). message_of m)
     (c.in_ok-clone.ensures.cases ∙ ap (λ (f : Flight g.row.P.Denot). f.message.value) c.deref.ensures) in
     let here = λ (d : Rc (Flight g.row.P.Denot) Global).
-    gone ∙ ap message (c.index.ensures ∙ get_or_default now.list.items at c.index.result.now d next.high) in
+    gone ∙ ap message (c.at.ensures ∙ get_or_default now.list.items at c.at.result.now d next.high) in
     let pushed : messages c.push_back.new.self.items
     ≡ messages c.loop-next.done.items ++ message_of c.in_ok-clone.field-0.value ∷ [] =
     ap messages c.in_ok-push_back.ensures.items
@@ -89,7 +65,7 @@ loop-next-preserved g c =
     (message_of c.in_ok-clone.field-0.value) true next.high refl done here in
     let lowered = c.lower_floor.new.self in
     let list : c.remove.new.self.list.items ≡ remove now.list.items at =
-    c.remove.ensures.list ∙ ap (λ l. remove l at) c.lower_floor.ensures.list in
+    c.in_ok-remove.ensures.list ∙ ap (λ l. remove l at) c.lower_floor.ensures.list in
     let over = over_leaves out now.floor old.list.items now.list.items at
     (over_stay out now.floor old.list.items now.list.items c.loop-next.at at h.5 next.low inside stay)
     next.high lowered.floor
@@ -102,15 +78,8 @@ loop-next-preserved g c =
           rw (list, c.remove.ensures.at, c.lower_floor.ensures.at)
           (flights_limited_without g.P.Ord.cmp caps now.at now.list.items at (h.4 all)),
       rw (list, c.remove.ensures.floor) over,
-      rw list
-          (passed_on c.loop-next.passed.finish c.next_done.new.passed.finish now.list.items c.if-were_rated.at
-          c.loop-next.at at h.6 c.in-Some.ensures.passed next.high),
+      c.remove.ensures.before ∙ c.lower_floor.ensures.before ∙ h.6,
     )
-
-pub note_first-requires : goal.note_first-requires
-note_first-requires g c all =
-    passed_all c.loop-next.passed.finish c.next_done.new.passed.finish c.loop-next.self.list.items c.if-were_rated.at
-    c.loop-next.at c.loop-next.invariant.6 c.in_default.ensures.passed (eqb-true c.if-were_rated.at 0 all)
 
 pub returns-clause-parted : goal.returns-clause-parted
 returns-clause-parted g c =
@@ -129,7 +98,7 @@ returns-clause-parted g c =
     all_looked_at message out old.list.items now.list.items done (length now.list.items)
     (steps_stay message out old.list.items now.list.items done c.loop-next.at (length now.list.items) h.0
     (within message out old.list.items now.list.items done c.loop-next.at h.0) (omega arith) stay) (omega arith) in
-    rw (c.note_first.ensures.list, c.note_first.ensures.at, h.2)
+    rw h.2
     (parted_so g.P.Ord.cmp caps old.scale old.at old.list.items now.list.items done all.leavers all.stay)
 
 pub returns-clause-floor : goal.returns-clause-floor
@@ -147,5 +116,5 @@ returns-clause-floor g c =
     let over = over_stay out now.floor old.list.items now.list.items c.loop-next.at (length now.list.items) h.5
     (within message out old.list.items now.list.items (messages c.loop-next.done.items) c.loop-next.at h.0)
     (omega arith) stay in
-    rw c.note_first.ensures.floor (floor_so out now.floor (is_out g.P.Ord.cmp caps old.scale) old.at old.list.items (λ f. refl)
-    (all_over out now.floor old.list.items now.list.items (length now.list.items) over (omega arith)))
+    floor_so out now.floor (is_out g.P.Ord.cmp caps old.scale) old.at old.list.items (λ f. refl)
+    (all_over out now.floor old.list.items now.list.items (length now.list.items) over (omega arith))

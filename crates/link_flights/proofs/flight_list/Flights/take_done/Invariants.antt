@@ -7,7 +7,6 @@ use Rattle.link_pairs.specs.Pairs.CapsOf.{caps_of}
 use Rattle.link_flights.proofs.Flights.InFlight.{HaveLeft}
 use Rattle.link_flights.proofs.Flights.Floors.{AreOver}
 use Rattle.link_flights.proofs.Flights.Leaving.{StayRated}
-use Rattle.link_flights.proofs.Flights.Passed.{ArePassed}
 use Rattle.link_flights.proofs.flight_list.Flights.take_done.Given as goal
 
 abbrev pub invariant-loop-next : goal.invariant-loop-next
@@ -22,7 +21,7 @@ invariant-loop-next g l =
     (in_units l.self)
     × AreOver (λ f. is_out g.P.Ord.cmp (caps_of g.P.Ord.cmp l.peers.entries l.pairs.entries) l.initial.self.scale
     (flight_at l.initial.self.at f.value)) l.self.floor l.initial.self.list.items l.self.list.items l.at
-    × ArePassed l.passed.finish l.self.list.items l.start l.at
+    × (l.self.list.before ≡ l.initial.self.list.before)
 
 abbrev pub decreases-loop-next : goal.decreases-loop-next
 decreases-loop-next g l = length l.self.list.items

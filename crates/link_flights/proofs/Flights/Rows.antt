@@ -1,0 +1,417 @@
+-- What is in flight as rows: what is found among rows is found among messages.
+use Rattle.std.proofs.Common.{add-one, ◌+◌, ◌≡◌, ℕ, zero, suc, ◌<◌, ◌≤◌, Bool, true, false, cond, ◌&&◌, ◌||◌, List, [], ◌∷◌, ◌++◌, length}
+use Rattle.std.proofs.Common.{eqb, ltb, ◌-◌, get_or, take, drop, Option, Some, None, IfSome, Result, Ok, Err, OnOk, OnErr, All, refl, sym, ap, ap₂, subst, ◌∙◌, arith}
+use Rattle.std.specs.List.{list_any, slice_get, remove}
+use Rattle.std.specs.Result.{is_err}
+use Rattle.std.specs.declared.cmp.Ordering.{Ordering}
+use Rattle.std.specs.declared.rc.Rc.{Rc}
+use Rattle.std.specs.declared.alloc.Global.{Global}
+use Rattle.std.specs.Cmp.{IsTotalOrder}
+use Rattle.std.proofs.lemmas.List.{map-append, length-map, take-map, drop-map}
+use Rattle.std.proofs.lemmas.List.Elements.{All-head, All-tail, All-append, All-take, All-drop, All-weaker}
+use Rattle.std.proofs.lemmas.List.Folds.{list_any_at, list_any_none}
+use Rattle.std.proofs.lemmas.Option.{get_or_from_slice_get}
+use Rattle.std.proofs.lemmas.Bool.{eqb-true, eqb-false, ltb-true, ltb-false}
+use Rattle.fair_rates.proofs.Lists.Booleans.{by_bool, first_of_both, second_of_both}
+use Rattle.fair_rates.specs.Sides.Subjects.{same_peer}
+use Rattle.peer_numbers.specs.Peers.{number_of, IsWithPeer}
+use Rattle.peer_numbers.proofs.Peers.{same_number, other_peer, number_stays}
+use Rattle.row_table.specs.Rows.{Versions, IsNext, passes, is_sent_by, is_received_by, is_due_by, with_item, has_come as row_has_come}
+use Rattle.row_table.specs.declared.row.Row.{Row}
+use Rattle.link_pairs.specs.declared.message.Message.{Message}
+use Rattle.link_flights.specs.declared.flight.Flight.{Flight}
+use Rattle.link_flights.specs.declared.table.End.{End}
+use Rattle.link_flights.specs.declared.table.End.TheVariants.{Origin, Recipient}
+use Rattle.link_flights.specs.Flights.Flight.{has_come}
+use Rattle.link_flights.specs.Flights.InFlight.{IsNextPlace, PassesNowhere}
+use Rattle.link_flights.specs.Flights.Rows.{items_of, line_of, IsRow, AreKept}
+use Rattle.link_flights.specs.Flights.Table.{Line, share}
+
+-- ---- rows and their items
+
+not_true : (b : Bool) → (b ≡ true → ⊥) → b ≡ false
+not_true true h = absurd (h refl)
+not_true false h = refl
+
+and_false : (b : Bool) → (b && false) ≡ false
+and_false true = refl
+and_false false = refl
+
+module _ {T : Type 0} where
+  -- a row and its item stand at that place
+  pub record IsAt (rows : List (Row T)) (at : ℕ) : Type 0 where
+    pub row : Row T
+    pub get : slice_get rows at ≡ Some row
+    pub row_or : (d : Row T) → get_or rows at d ≡ row
+    pub item_or : (d : T) → get_or (items_of rows) at d ≡ row.item
+
+  pub there : (rows : List (Row T)) (at : ℕ) → at < length rows → IsAt rows at
+  there [] at h = absurd (omega arith)
+  there (row ∷ rows) zero h = record { row = row; get = refl; row_or = λ d. refl; item_or = λ d. refl }
+  there (row ∷ rows) (suc at) h =
+      let it = there rows at (omega arith) in
+      record { row = it.row; get = it.get; row_or = it.row_or; item_or = it.item_or }
+
+  -- what all rows have, that row has
+  pub of_row : (Q : Row T → Type 0) (rows : List (Row T)) (at : ℕ) → at < length rows → (it : IsAt rows at) → All Q rows → Q it.row
+  of_row Q rows at h it all = subst Q (it.row_or it.row) (all at it.row h)
+
+  -- a test of rows answers what one of items does
+  abbrev pub Agree : (Row T → Bool) → (T → Bool) → List (Row T) → Type 0
+  Agree test told rows = All (λ row. test row ≡ told row.item) rows
+
+  pub nowhere : (told : T → Bool) (rows : List (Row T)) (from : ℕ) → All (λ row. told row.item ≡ false) rows
+      → PassesNowhere told (items_of rows) from (length (items_of rows))
+  nowhere told rows from all i low high d =
+      let within : i < length rows = omega (arith, high, length-map rows (λ (row : Row T). row.item)) in
+      let it = there rows i within in
+      ap told (it.item_or d) ∙ of_row (λ row. told row.item ≡ false) rows i within it all
+
+  module _ (test : Row T → Bool) (told : T → Bool) (rows : List (Row T)) (agree : Agree test told rows) where
+    passes-told : (at : ℕ) → at < length rows → (it : IsAt rows at)
+        → passes test (slice_get rows at) ≡ told it.row.item
+    passes-told at within it =
+        ap (passes test) it.get ∙ of_row (λ row. test row ≡ told row.item) rows at within it agree
+
+    fails : (at : ℕ) → at < length rows → (passes test (slice_get rows at) ≡ true → ⊥)
+        → (d : T) → told (get_or (items_of rows) at d) ≡ false
+    fails at within never d =
+        let it = there rows at within in
+        ap told (it.item_or d) ∙ not_true _ (λ passed. never (passes-told at within it ∙ passed))
+
+    -- the next row that passes has the next item
+    pub next-items : (from : ℕ) (next : Option ℕ) → IsNext test rows from next
+        → IfSome next (λ at. at < length rows) → IsNextPlace told (items_of rows) from next
+    next-items from None is within =
+        λ i low high d. fails i (omega (arith, high, length-map rows (λ (row : Row T). row.item))) (is i low) d
+    next-items from (Some at) is within =
+        let it = there rows at within in
+        record {
+          low = is.on;
+          high = omega (arith, within, length-map rows (λ (row : Row T). row.item));
+          before = λ i low high d. fails i (omega (arith, high, within)) (is.first i low high) d;
+          here = λ d. ap told (it.item_or d) ∙ sym (passes-told at within it) ∙ is.there;
+        }
+
+  pub any-items : (test : Row T → Bool) (told : T → Bool) (rows : List (Row T)) → Agree test told rows
+      → list_any test rows ≡ list_any told (items_of rows)
+  any-items test told [] agree = refl
+  any-items test told (row ∷ rows) agree =
+      ap₂ (λ a b. a || b) (All-head (λ row. test row ≡ told row.item) row rows agree)
+      (any-items test told rows (All-tail (λ row. test row ≡ told row.item) row rows agree))
+
+  pub none-items : (told : T → Bool) (rows : List (Row T)) → All (λ row. told row.item ≡ false) rows
+      → list_any told (items_of rows) ≡ false
+  none-items told [] all = refl
+  none-items told (row ∷ rows) all =
+      ap₂ (λ a b. a || b) (All-head (λ row. told row.item ≡ false) row rows all)
+      (none-items told rows (All-tail (λ row. told row.item ≡ false) row rows all))
+
+-- ---- one row of a pair
+
+module _ {T : Type 0} (rows : List (Row T)) (sender receiver : ℕ) where
+  -- the row has both
+  abbrev pub is_between : Row T → Bool
+  is_between row = is_sent_by sender row && is_received_by receiver row
+
+  abbrev IsPast : ℕ → Option ℕ → Type 0
+  IsPast i None = Unit {0}
+  IsPast i (Some next) = i < next
+
+  -- no row of the pair stands before the next of the sender
+  pub record IsWalk (next : Option ℕ) : Type 0 where
+    pub within : IfSome next (λ at. at < length rows)
+    pub sent : IfSome next (λ at. passes (is_sent_by sender) (slice_get rows at) ≡ true)
+    pub past : (i : ℕ) → IsPast i next → passes is_between (slice_get rows i) ≡ true → ⊥
+
+  -- how many rows are still ahead
+  abbrev pub ahead : Option ℕ → ℕ
+  ahead None = 0
+  ahead (Some at) = length rows - at
+
+  half : (o : Option (Row T)) → passes is_between o ≡ true → passes (is_sent_by sender) o ≡ true
+  half None h = h
+  half (Some row) h = first_of_both (is_sent_by sender row) _ h
+
+  after : (from : ℕ) (next : Option ℕ) → IsNext (is_sent_by sender) rows from next → (i : ℕ) → from ≤ i → IsPast i next
+      → passes is_between (slice_get rows i) ≡ true → ⊥
+  after from None is i low p passed = is i low (half _ passed)
+  after from (Some at) is i low p passed = is.first i low p (half _ passed)
+
+  sent_there : (from : ℕ) (next : Option ℕ) → IsNext (is_sent_by sender) rows from next
+      → IfSome next (λ at. passes (is_sent_by sender) (slice_get rows at) ≡ true)
+  sent_there from None is = tt
+  sent_there from (Some at) is = is.there
+
+  pub first_walk : (next : Option ℕ) → IsNext (is_sent_by sender) rows 0 next → IfSome next (λ at. at < length rows)
+      → IsWalk next
+  first_walk next is within = record {
+    within = within;
+    sent = sent_there 0 next is;
+    past = λ i p passed. after 0 next is i (omega arith) p passed;
+  }
+
+  pub next_walk : (at : ℕ) (row : Row T) (next : Option ℕ) → IsWalk (Some at) → slice_get rows at ≡ Some row
+      → eqb row.receiver receiver ≡ false → IsNext (is_sent_by row.sender) rows (suc at) next
+      → IfSome next (λ at. at < length rows) → IsWalk next
+  next_walk at row next walk get other behind within =
+      let same : row.sender ≡ sender = eqb-true row.sender sender (ap (passes (is_sent_by sender)) (sym get) ∙ walk.sent) in
+      let is = subst (λ owner. IsNext (is_sent_by owner) rows (suc at) next) same behind in
+      record {
+        within = within;
+        sent = sent_there (suc at) next is;
+        past = λ i p passed. by_bool (ltb i at) (λ low. walk.past i (ltb-true i at low) passed)
+            (λ high. by_bool (eqb i at)
+            (λ here. not_both row other
+            (ap (passes is_between) (sym get ∙ ap (slice_get rows) (sym (eqb-true i at here))) ∙ passed))
+            (λ there. after (suc at) next is i (omega (arith, ltb-false i at high, eqb-false i at there)) p passed));
+      }
+    where
+      not_both : (row : Row T) → eqb row.receiver receiver ≡ false → is_between row ≡ true → ⊥
+      not_both row unlike passed = cc (second_of_both (is_sent_by sender row) _ passed)
+
+  pub walk_found : (at : ℕ) (row : Row T) → IsWalk (Some at) → slice_get rows at ≡ Some row
+      → eqb row.receiver receiver ≡ true → list_any is_between rows ≡ true
+  walk_found at row walk get same =
+      list_any_at is_between rows at row walk.within
+      (ap is_between (get_or_from_slice_get rows at row row get)
+      ∙ ap₂ (λ a b. a && b) (ap (passes (is_sent_by sender)) (sym get) ∙ walk.sent) same)
+
+  pub walk_ends : IsWalk None → list_any is_between rows ≡ false
+  walk_ends walk =
+      list_any_none is_between rows
+      (λ i d within. let it = there rows i within in
+      ap is_between (it.row_or d)
+      ∙ not_true _ (λ passed. walk.past i tt (ap (passes is_between) it.get ∙ passed)))
+
+-- ---- rows with numbers
+
+module _ {P : Type 0} (cmp : P → P → Ordering) (total : IsTotalOrder cmp) where
+  abbrev Item : Type 0
+  Item = Rc (Flight P) Global
+
+  -- the end of a message, and the owner of a row at that end
+  abbrev end_of : End → Message P → P
+  end_of Origin m = m.origin
+  end_of Recipient m = m.recipient
+
+  abbrev is_owned_by : End → ℕ → Row Item → Bool
+  is_owned_by Origin = is_sent_by
+  is_owned_by Recipient = is_received_by
+
+  -- the rows of a number are the messages that share the end
+  pub owned : (end : End) (peers : List P) (m : Message P) (number : ℕ) (rows : List (Row Item)) → All (IsRow cmp peers) rows
+      → number_of cmp peers (end_of end m) ≡ Some number
+      → Agree (is_owned_by end number) (λ one. share cmp end m one.value.message.value) rows
+  owned Origin peers m number rows all is =
+      All-weaker (IsRow cmp peers) _ (λ row r. same_number cmp total peers m.origin _ number row.sender is r.sender) rows all
+  owned Recipient peers m number rows all is =
+      All-weaker (IsRow cmp peers) _ (λ row r. same_number cmp total peers m.recipient _ number row.receiver is r.receiver) rows all
+
+  -- a peer without a number is at the end of none
+  pub unowned : (end : End) (peers : List P) (m : Message P) (rows : List (Row Item)) → All (IsRow cmp peers) rows
+      → number_of cmp peers (end_of end m) ≡ None
+      → All (λ (row : Row Item). share cmp end m row.item.value.message.value ≡ false) rows
+  unowned Origin peers m rows all is =
+      All-weaker (IsRow cmp peers) _ (λ row r. other_peer cmp total peers m.origin _ row.sender is r.sender) rows all
+  unowned Recipient peers m rows all is =
+      All-weaker (IsRow cmp peers) _ (λ row r. other_peer cmp total peers m.recipient _ row.receiver is r.receiver) rows all
+
+  pub come : (t : ℕ) (moment : Option ℕ) → row_has_come t moment ≡ has_come t moment
+  come t None = refl
+  come t (Some moment) = refl
+
+  -- the rows that are due are the messages that have finished
+  pub due : (peers : List P) (t : ℕ) (rows : List (Row Item)) → All (IsRow cmp peers) rows
+      → Agree (is_due_by t) (λ one. has_come t one.value.finish) rows
+  due peers t rows all =
+      All-weaker (IsRow cmp peers) _ (λ row r. come t row.moment ∙ ap (has_come t) r.moment) rows all
+
+  -- whether a message goes from one peer to another
+  abbrev pub is_of_pair : P → P → Item → Bool
+  is_of_pair origin recipient one =
+      same_peer cmp origin one.value.message.value.origin && same_peer cmp recipient one.value.message.value.recipient
+
+  -- the rows of two numbers are the messages of the pair
+  pub of_pair : (peers : List P) (origin recipient : P) (sender receiver : ℕ) (rows : List (Row Item))
+      → All (IsRow cmp peers) rows → number_of cmp peers origin ≡ Some sender
+      → number_of cmp peers recipient ≡ Some receiver
+      → Agree (is_between rows sender receiver) (is_of_pair origin recipient) rows
+  of_pair peers origin recipient sender receiver rows all is are =
+      All-weaker (IsRow cmp peers) _
+      (λ row r. ap₂ (λ a b. a && b)
+      (same_number cmp total peers origin _ sender row.sender is r.sender)
+      (same_number cmp total peers recipient _ receiver row.receiver are r.receiver))
+      rows all
+
+  -- no message is of a pair without a number
+  pub no_origin : (peers : List P) (origin recipient : P) (rows : List (Row Item)) → All (IsRow cmp peers) rows
+      → number_of cmp peers origin ≡ None
+      → All (λ (row : Row Item). is_of_pair origin recipient row.item ≡ false) rows
+  no_origin peers origin recipient rows all is =
+      All-weaker (IsRow cmp peers) _
+      (λ row r. ap (λ a. a && same_peer cmp recipient row.item.value.message.value.recipient)
+      (other_peer cmp total peers origin _ row.sender is r.sender))
+      rows all
+
+  pub no_recipient : (peers : List P) (origin recipient : P) (rows : List (Row Item)) → All (IsRow cmp peers) rows
+      → number_of cmp peers recipient ≡ None
+      → All (λ (row : Row Item). is_of_pair origin recipient row.item ≡ false) rows
+  no_recipient peers origin recipient rows all is =
+      All-weaker (IsRow cmp peers) _
+      (λ row r. ap (λ b. same_peer cmp origin row.item.value.message.value.origin && b)
+      (other_peer cmp total peers recipient _ row.receiver is r.receiver)
+      ∙ and_false (same_peer cmp origin row.item.value.message.value.origin))
+      rows all
+
+-- ---- what is kept and what is seen
+
+pub on_ok : {T E Q : Type 0} (r : Result T E) → is_err r ≡ false → OnOk r Q → Q
+on_ok (Ok x) h q = q
+on_ok (Err e) h q = cc
+
+pub on_err : {T E Q : Type 0} (r : Result T E) → is_err r ≡ true → OnErr r Q → Q
+on_err (Ok x) h q = cc
+on_err (Err e) h q = q
+
+module _ {P : Type 0} (given_up : Bool) (rows : Versions (Rc (Flight P) Global)) (line : Line P)
+    (seen : line_of given_up rows ≡ line) where
+  -- what is not given up is seen
+  pub kept : given_up ≡ false → items_of rows.now ≡ line.items
+  kept h = ap (λ b. cond b [] (items_of rows.now)) (sym h) ∙ ap (λ l. l.items) seen
+
+  -- where one is seen, all is not given up
+  pub not_given_up : (at : ℕ) → at < length line.items → given_up ≡ false
+  not_given_up at h = by given_up (subst (λ (l : Line P). at < length l.items) (sym seen) h)
+    where
+      by : (b : Bool) → at < length (cond b [] (items_of rows.now)) → b ≡ false
+      by false h = refl
+      by true h = absurd (omega (arith, h))
+
+  -- and it stands in a row
+  pub row_seen : (at : ℕ) → at < length line.items → IsAt rows.now at × (at < length rows.now)
+  row_seen at h =
+      let all = kept (not_given_up at h) in
+      let within : at < length rows.now =
+      omega (arith, h, ap length all, length-map rows.now (λ (row : Row (Rc (Flight P) Global)). row.item)) in
+      (there rows.now at within, within)
+
+  module _ (cmp : P → P → Ordering) (total : IsTotalOrder cmp) (peers : List P) (all : All (IsRow cmp peers) rows.now) where
+    abbrev is_sharing : End → Message P → Rc (Flight P) Global → Bool
+    is_sharing end m one = share cmp end m one.value.message.value
+
+    -- the first row of a number is the first message that shares the end
+    pub first_shared : (end : End) (m : Message P) (number : ℕ) (next : Option ℕ) → given_up ≡ false
+        → number_of cmp peers (end_of cmp total end m) ≡ Some number
+        → IsNext (is_owned_by cmp total end number) rows.now 0 next → IfSome next (λ at. at < length rows.now)
+        → IsNextPlace (is_sharing end m) line.items 0 next
+    first_shared end m number next h is first within =
+        subst (λ items. IsNextPlace (is_sharing end m) items 0 next) (kept h)
+        (next-items (is_owned_by cmp total end number) (is_sharing end m) rows.now
+        (owned cmp total end peers m number rows.now all is) 0 next first within)
+
+    -- no message shares the end with a peer that has no number
+    pub none_shared : (end : End) (m : Message P) → given_up ≡ false → number_of cmp peers (end_of cmp total end m) ≡ None
+        → IsNextPlace (is_sharing end m) line.items 0 None
+    none_shared end m h is =
+        subst (λ items. IsNextPlace (is_sharing end m) items 0 None) (kept h)
+        (nowhere (is_sharing end m) rows.now 0 (unowned cmp total end peers m rows.now all is))
+
+    abbrev owner_at : End → Row (Rc (Flight P) Global) → ℕ
+    owner_at Origin row = row.sender
+    owner_at Recipient row = row.receiver
+
+    number_at : (end : End) (row : Row (Rc (Flight P) Global)) → IsRow cmp peers row
+        → number_of cmp peers (end_of cmp total end row.item.value.message.value) ≡ Some (owner_at end row)
+    number_at Origin row is = is.sender
+    number_at Recipient row is = is.receiver
+
+    -- the next row of its owner is the next message that shares the end
+    pub next_shared : (end : End) (at : ℕ) (next : Option ℕ) → at < length line.items
+        → ((row : Row (Rc (Flight P) Global)) → slice_get rows.now at ≡ Some row
+        → IsNext (is_owned_by cmp total end (owner_at end row)) rows.now (suc at) next)
+        → IfSome next (λ at. at < length rows.now) → (d : Rc (Flight P) Global)
+        → IsNextPlace (is_sharing end (get_or line.items at d).value.message.value) line.items (at + 1) next
+    next_shared end at next low ahead within d =
+        let here = row_seen at low in
+        let row = here.0.row in
+        let m = row.item.value.message.value in
+        let is = number_at end row (of_row (IsRow cmp peers) rows.now at here.1 here.0 all) in
+        let found = next-items (is_owned_by cmp total end (owner_at end row)) (is_sharing end m) rows.now
+        (owned cmp total end peers m (owner_at end row) rows.now all is) (suc at) next (ahead row here.0.get) within in
+        let same : items_of rows.now ≡ line.items = kept (not_given_up at low) in
+        rw add-one
+        (subst (λ items. IsNextPlace (is_sharing end (get_or items at d).value.message.value) items (suc at) next) same
+        (subst
+        (λ (one : Rc (Flight P) Global). IsNextPlace (is_sharing end one.value.message.value) (items_of rows.now) (suc at) next)
+        (sym (here.0.item_or d)) found))
+
+-- ---- rows that come, change and leave
+
+-- more peers have numbers: the rows stay
+pub rows_stay : {P : Type 0} (cmp : P → P → Ordering) (peers new : List P) (peer : P) (rows : List (Row (Rc (Flight P) Global))) → IsWithPeer cmp peers peer new
+    → All (IsRow cmp peers) rows → All (IsRow cmp new) rows
+rows_stay cmp peers new peer rows with all =
+    All-weaker (IsRow cmp peers) (IsRow cmp new)
+    (λ row r. record {
+      sender = number_stays cmp peers peer new with _ row.sender r.sender;
+      receiver = number_stays cmp peers peer new with _ row.receiver r.receiver;
+      moment = r.moment;
+    })
+    rows all
+
+module _ {P : Type 0} (cmp : P → P → Ordering) (peers : List P) where
+  abbrev pub AllRows : List (Row (Rc (Flight P) Global)) → Type 0
+  AllRows = All (IsRow cmp peers)
+
+  -- rows that stand as they did at the mark are kept
+  pub taken_back : (old new : Versions (Rc (Flight P) Global)) → AreKept cmp peers old → new.now ≡ old.before
+      → new.before ≡ old.before → AreKept cmp peers new
+  taken_back old new was now before = record {
+    now = subst AllRows (sym now) was.before;
+    before = subst AllRows (sym before) was.before;
+  }
+
+  -- so are rows at a new mark
+  pub committed : (old new : Versions (Rc (Flight P) Global)) → AreKept cmp peers old → new.now ≡ old.now
+      → new.before ≡ old.now → AreKept cmp peers new
+  committed old new was now before = record {
+    now = subst AllRows (sym now) was.now;
+    before = subst AllRows (sym before) was.now;
+  }
+
+  -- so are others, with the mark as it was
+  pub changed : (old new : Versions (Rc (Flight P) Global)) (rows : List (Row (Rc (Flight P) Global)))
+      → AreKept cmp peers old → AllRows rows → new.now ≡ rows → new.before ≡ old.before → AreKept cmp peers new
+  changed old new rows was all now before = record {
+    now = subst AllRows (sym now) all;
+    before = subst AllRows (sym before) was.before;
+  }
+
+  pub all_removed : (rows : List (Row (Rc (Flight P) Global))) (at : ℕ) → AllRows rows → AllRows (remove rows at)
+  all_removed rows at all =
+      All-append (IsRow cmp peers) (take at rows) (drop (suc at) rows) (All-take (IsRow cmp peers) at rows all)
+      (All-drop (IsRow cmp peers) (suc at) rows all)
+
+  -- another flight of the same message
+  pub row_changed : (row : Row (Rc (Flight P) Global)) (one : Rc (Flight P) Global) (moment : Option ℕ)
+      → IsRow cmp peers row → one.value.message.value ≡ row.item.value.message.value → moment ≡ one.value.finish
+      → IsRow cmp peers (with_item one moment row)
+  row_changed row one moment is same timed = record {
+    sender = ap (λ m. number_of cmp peers m.origin) same ∙ is.sender;
+    receiver = ap (λ m. number_of cmp peers m.recipient) same ∙ is.receiver;
+    moment = timed;
+  }
+
+  -- more peers have numbers
+  pub kept_more : (new : List P) (peer : P) (rows : Versions (Rc (Flight P) Global)) → IsWithPeer cmp peers peer new
+      → AreKept cmp peers rows → AreKept cmp new rows
+  kept_more new peer rows with was = record {
+    now = rows_stay cmp peers new peer rows.now with was.now;
+    before = rows_stay cmp peers new peer rows.before with was.before;
+  }
+
+pub items_removed : {T : Type 0} (rows : List (Row T)) (at : ℕ) → items_of (remove rows at) ≡ remove (items_of rows) at
+items_removed rows at =
+    map-append (λ row. row.item) (take at rows) (drop (suc at) rows)
+    ∙ ap₂ (λ xs ys. xs ++ ys) (sym (take-map (λ row. row.item) at rows)) (sym (drop-map (λ row. row.item) (suc at) rows))

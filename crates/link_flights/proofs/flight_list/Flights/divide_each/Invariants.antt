@@ -1,0 +1,13 @@
+use Rattle.std.proofs.Common.{◌≡◌}
+use Rattle.fair_rates.proofs.Lists.InPlace.{IsChangedUpTo}
+use Rattle.link_flights.specs.Flights.LargerUnits.{IsCountedBy}
+use Rattle.link_flights.proofs.flight_list.Flights.divide_each.Given as goal
+
+abbrev pub invariant-loop-at : goal.invariant-loop-at
+invariant-loop-at g l =
+    IsChangedUpTo (λ f h. IsCountedBy l.by f.value h.value) l.initial.self.list.items l.self.list.items l.at
+    × (l.self.at ≡ l.initial.self.at)
+    × (l.self.scale ≡ l.initial.self.scale)
+    × (l.self.floor ≡ l.initial.self.floor)
+    × (l.self.rated_anew ≡ l.initial.self.rated_anew)
+    × (l.self.list.before ≡ l.initial.self.list.before)

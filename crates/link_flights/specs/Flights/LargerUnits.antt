@@ -1,0 +1,39 @@
+-- What is in flight, counted in larger units.
+use Prim.Native.Nat.{◌∣◌}
+use Rattle.std.specs.Prelude.{◌≡◌, ℕ, ◌/◌, ◌<◌, List, Some, slice_get}
+use Rattle.std.specs.List.{AllZip}
+use Rattle.std.specs.declared.rc.Rc.{Rc}
+use Rattle.std.specs.declared.alloc.Global.{Global}
+use Rattle.link_flights.specs.declared.flight.Flight.{Flight}
+use Rattle.link_flights.specs.Flights.Flight.{rate_of}
+
+-- a number above zero that divides what is left of a message, and its rate
+pub record IsFactorOf {P : Type 0} (f : Flight P) (by : ℕ) : Type 0 where
+  pub some : 0 < by
+  pub left : by ∣ f.left
+  pub rate : by ∣ rate_of f.rate
+
+-- it divides so those of all messages
+abbrev pub IsFactorOfAll : {P : Type 0} → List (Rc (Flight P) Global) → ℕ → Type 0
+IsFactorOfAll {P} fs by =
+    (i : ℕ) (f : Rc (Flight P) Global) → slice_get fs i ≡ Some f → IsFactorOf f.value by
+
+-- it divides the scale and those of all messages
+pub record IsCommonFactor {P : Type 0} (scale : ℕ) (fs : List (Rc (Flight P) Global)) (by : ℕ) : Type 0 where
+  pub some : 0 < by
+  pub units : by ∣ scale
+  pub all : IsFactorOfAll fs by
+
+-- the same message, counted in units so many times as large
+pub record IsCountedBy {P : Type 0} (by : ℕ) (old new : Flight P) : Type 0 where
+  pub id : new.id ≡ old.id
+  pub message : new.message.value ≡ old.message.value
+  pub left : new.left ≡ old.left / by
+  pub rate : rate_of new.rate ≡ rate_of old.rate / by
+  pub since : new.since ≡ old.since
+  pub finish : new.finish ≡ old.finish
+  pub rated : new.rated ≡ old.rated
+
+-- the same messages, all counted so
+abbrev pub AreCountedBy : {P : Type 0} → ℕ → (old new : List (Rc (Flight P) Global)) → Type 0
+AreCountedBy by old new = AllZip (λ f g. IsCountedBy by f.value g.value) old new
