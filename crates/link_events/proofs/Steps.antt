@@ -6,6 +6,7 @@ pub mod FewerEvents
 pub mod Finishing
 pub mod Landing
 pub mod Limits
+pub mod Marks
 pub mod MessageCounts
 pub mod OneEach
 pub mod OnlyWaiting

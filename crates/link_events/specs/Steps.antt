@@ -3,6 +3,7 @@ pub mod Answered
 pub mod AsPlanned
 pub mod Due
 pub mod Landing
+pub mod Marks
 pub mod Outgoing
 pub mod Parting
 pub mod Standing

@@ -1,5 +1,5 @@
 //! Calls on the state that is worked on, with their answers.
-ghost use Rattle.std.specs.Prelude.{map, IfOk, IfErr};
+ghost use Rattle.std.specs.Prelude.{◌≡◌, map, IfOk, IfErr};
 ghost use Rattle.link_simulation.specs.Simulation.Calls.{call_limit, call_limit_link, call_enqueue, call_enqueue_all};
 ghost use Rattle.link_simulation.specs.Simulation.Calls.{call_advance};
 ghost use Rattle.link_simulation.specs.Rule.Refusals.{MayBeRefused};
@@ -28,6 +28,7 @@ impl<P: Peer> Ledger<P> {
     ) -> Result<Vec<Completion<P>>, Error>
         ensures answered { IfOk result (λ done. IsAnswered P.cmp (planned P.cmp self.old)
             (call_limit now peer.now egress ingress) (map completed_of done.items) (planned P.cmp self.new)) }
+        ensures before { self.new.flights.list.before ≡ self.old.flights.list.before }
         ensures refused { IfErr result (MayBeRefused P.cmp (planned P.cmp self.old)
             (call_limit now peer.now egress ingress)) }
     {
@@ -46,6 +47,7 @@ impl<P: Peer> Ledger<P> {
     ) -> Result<Vec<Completion<P>>, Error>
         ensures answered { IfOk result (λ done. IsAnswered P.cmp (planned P.cmp self.old)
             (call_limit_link now origin.now recipient.now cap) (map completed_of done.items) (planned P.cmp self.new)) }
+        ensures before { self.new.flights.list.before ≡ self.old.flights.list.before }
         ensures refused { IfErr result (MayBeRefused P.cmp (planned P.cmp self.old)
             (call_limit_link now origin.now recipient.now cap)) }
     {
@@ -63,6 +65,7 @@ impl<P: Peer> Ledger<P> {
         requires free { IsFree P.cmp (planned P.cmp self.old) message.origin message.recipient }
         ensures answered { IfOk result (λ done. IsAnswered P.cmp (planned P.cmp self.old)
             (call_enqueue now (message_of message)) (map completed_of done.items) (planned P.cmp self.new)) }
+        ensures before { self.new.flights.list.before ≡ self.old.flights.list.before }
         ensures refused { IfErr result (MayBeRefused P.cmp (planned P.cmp self.old)
             (call_enqueue now (message_of message))) }
     {
@@ -79,6 +82,7 @@ impl<P: Peer> Ledger<P> {
         ensures answered { IfOk result (λ done. IsAnswered P.cmp (planned P.cmp self.old)
             (call_enqueue_all now (map outgoing messages.items)) (map completed_of done.items)
             (planned P.cmp self.new)) }
+        ensures before { self.new.flights.list.before ≡ self.old.flights.list.before }
         ensures refused { IfErr result (MayBeRefused P.cmp (planned P.cmp self.old)
             (call_enqueue_all now (map outgoing messages.items))) }
     {
@@ -90,6 +94,7 @@ impl<P: Peer> Ledger<P> {
     pub fn answer_advance(&mut self, now: u64) -> Result<(Vec<Completion<P>>, u128), Error>
         ensures answered { IfOk result (λ answer. IsAnsweredIn P.cmp now (planned P.cmp self.old) answer.1
             (map completed_of answer.0.items) (planned P.cmp self.new)) }
+        ensures before { self.new.flights.list.before ≡ self.old.flights.list.before }
         ensures refused { IfErr result (MayBeRefused P.cmp (planned P.cmp self.old) (call_advance now)) }
     {
         let (ended, events) = self.advance(now)?;

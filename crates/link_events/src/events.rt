@@ -70,6 +70,7 @@ impl<P: Peer> Ledger<P> {
         ensures launches { IfOk result (λ leavers. Launches P.cmp now (planned P.cmp self.old)
             (first_of P.cmp (planned P.cmp self.old).waiting origin.now recipient.now)
             (goes (messages leavers.items) (planned P.cmp self.new))) }
+        ensures before { self.new.flights.list.before ≡ self.old.flights.list.before }
         ensures refused { IfErr result (IsRefusedFor (λ fault. Launches P.cmp now (planned P.cmp self.old)
             (first_of P.cmp (planned P.cmp self.old).waiting origin.now recipient.now) (meets fault))) }
     {
@@ -89,6 +90,7 @@ impl<P: Peer> Ledger<P> {
         ensures launches { IfOk result (λ leavers. Launches P.cmp now (planned P.cmp self.old)
             (first_of P.cmp (planned P.cmp self.old).waiting origin.now recipient.now)
             (goes (messages leavers.items) (planned P.cmp self.new))) }
+        ensures before { self.new.flights.list.before ≡ self.old.flights.list.before }
         ensures refused { IfErr result (IsRefusedFor (λ fault. Launches P.cmp now (planned P.cmp self.old)
             (first_of P.cmp (planned P.cmp self.old).waiting origin.now recipient.now) (meets fault))) }
     {
@@ -133,6 +135,7 @@ impl<P: Peer> Ledger<P> {
             (first_of P.cmp (with_queued P.cmp (planned P.cmp self.old) (message_of message)).waiting
             message.origin message.recipient)
             (goes (messages leavers.items) (planned P.cmp self.new))) }
+        ensures before { self.new.flights.list.before ≡ self.old.flights.list.before }
         ensures refused { IfErr result (IsRefusedFor (λ fault. Launches P.cmp now
             (with_queued P.cmp (planned P.cmp self.old) (message_of message))
             (first_of P.cmp (with_queued P.cmp (planned P.cmp self.old) (message_of message)).waiting
@@ -160,6 +163,7 @@ impl<P: Peer> Ledger<P> {
             (landed P.cmp now (planned P.cmp self.old) (message_of message.value))
             (next_of P.cmp (planned P.cmp self.old) (message_of message.value))
             (goes (messages more.items) (planned P.cmp self.new))) }
+        ensures before { self.new.flights.list.before ≡ self.old.flights.list.before }
         ensures refused { IfErr result (λ e. (ms : List (AnyMessage P)) →
             IsRefusedFor (λ fault. Finishes P.cmp now (message_of message.value ∷ ms) (planned P.cmp self.old)
             (meets fault)) e) }
@@ -185,6 +189,7 @@ impl<P: Peer> Ledger<P> {
         ensures finishes { IfOk result (λ done. (cs : List (Completed P))
             × (map ended_of ended.new.items ≡ map ended_of ended.old.items ++ cs)
             × Finishes P.cmp now (messages queue.items) (planned P.cmp self.old) (goes cs (planned P.cmp self.new))) }
+        ensures before { self.new.flights.list.before ≡ self.old.flights.list.before }
         ensures refused { IfErr result (IsRefusedFor
             (λ fault. Finishes P.cmp now (messages queue.items) (planned P.cmp self.old) (meets fault))) }
     {
@@ -201,6 +206,7 @@ impl<P: Peer> Ledger<P> {
         ensures wakes { IfOk result (λ done. (cs : List (Completed P))
             × (map ended_of ended.new.items ≡ map ended_of ended.old.items ++ cs)
             × Wakes P.cmp now (planned P.cmp self.old) (goes cs (planned P.cmp self.new))) }
+        ensures before { self.new.flights.list.before ≡ self.old.flights.list.before }
         ensures refused { IfErr result (IsRefusedFor (λ fault. Wakes P.cmp now (planned P.cmp self.old)
             (meets fault))) }
     {
@@ -219,6 +225,7 @@ impl<P: Peer> Ledger<P> {
         ensures rebalances { IfOk result (λ ended. Rebalances P.cmp now (planned P.cmp self.old).caps
             (planned P.cmp self.old)
             (goes (map ended_of ended.items) (planned P.cmp self.new))) }
+        ensures before { self.new.flights.list.before ≡ self.old.flights.list.before }
         ensures refused { IfErr result (IsRefusedFor
             (λ fault. Rebalances P.cmp now (planned P.cmp self.old).caps (planned P.cmp self.old) (meets fault))) }
     {
@@ -242,6 +249,7 @@ impl<P: Peer> Ledger<P> {
             → is_sending P.cmp (planned P.cmp self.old) message.origin message.recipient ≡ is_busy }
         ensures enqueues { IfOk result (λ ended. Enqueues P.cmp now (message_of message) (planned P.cmp self.old)
             (goes (map ended_of ended.items) (planned P.cmp self.new))) }
+        ensures before { self.new.flights.list.before ≡ self.old.flights.list.before }
         ensures refused { IfErr result (IsRefusedFor
             (λ fault. Enqueues P.cmp now (message_of message) (planned P.cmp self.old) (meets fault))) }
     {
@@ -303,6 +311,7 @@ impl<P: Peer> Ledger<P> {
             × (map ended_of ended.new.items ≡ map ended_of ended.old.items ++ c ∷ [])
             × (completed_at_once P.cmp now (planned P.cmp self.old) (message_of message)
             ≡ goes (c ∷ []) (planned P.cmp self.new))) }
+        ensures before { self.new.flights.list.before ≡ self.old.flights.list.before }
         ensures refused { IfErr result (IsRefusedFor
             (λ fault. completed_at_once P.cmp now (planned P.cmp self.old) (message_of message) ≡ meets fault)) }
     {
@@ -346,6 +355,7 @@ impl<P: Peer> Ledger<P> {
         ensures happens { IfOk result (λ done. (cs : List (Completed P))
             × (map ended_of ended.new.items ≡ map ended_of ended.old.items ++ cs)
             × Happens P.cmp event (planned P.cmp self.old) (goes cs (planned P.cmp self.new))) }
+        ensures before { self.new.flights.list.before ≡ self.old.flights.list.before }
         ensures refused { IfErr result (IsRefusedFor (λ fault. Happens P.cmp event (planned P.cmp self.old)
             (meets fault))) }
     {
@@ -371,7 +381,8 @@ impl<P: Peer> Ledger<P> {
     /// Time goes on to `now`, up to which nothing happens: the start is planned anew.
     pub fn rest(&mut self, now: u64)
         requires { HasNothingDue P.cmp (planned P.cmp self.old) now }
-        ensures { Advances P.cmp now (planned P.cmp self.old) 0 (goes [] (planned P.cmp self.new)) }
+        ensures advances { Advances P.cmp now (planned P.cmp self.old) 0 (goes [] (planned P.cmp self.new)) }
+        ensures flights { self.new.flights ≡ self.old.flights }
     {
         self.plan_start(now);
     }
@@ -381,10 +392,13 @@ impl<P: Peer> Ledger<P> {
     pub(crate) fn advance(&mut self, now: u64) -> Result<(Vec<Ended<P>>, u128), Error>
         ensures advances { IfOk result (λ answer. Advances P.cmp now (planned P.cmp self.old) answer.1
             (goes (map ended_of answer.0.items) (planned P.cmp self.new))) }
+        ensures before { self.new.flights.list.before ≡ self.old.flights.list.before }
         ensures refused { IfErr result (IsRefusedFor
             (λ fault. (n : ℕ) × Advances P.cmp now (planned P.cmp self.old) n (meets fault))) }
     {
         let mut ended = Vec::new(self.alloc);
+        // So few are in flight that their events can be counted.
+        let _sending = self.flights.len();
         let mut events = 0u128;
         while let Some(event) = self.due(now) {
             self.happen(event, &mut ended)?;

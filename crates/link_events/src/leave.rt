@@ -40,6 +40,7 @@ fn part<P: Peer>(
     ensures parted { IfOk result (λ done. IsParted P.cmp now
         (caps_of P.cmp peers.now.entries pairs.now.entries) were_fair flights.old flights.new
         (messages done.items)) }
+    ensures before { flights.new.list.before ≡ flights.old.list.before }
     ensures refused { IfErr result (λ e. e ≡ Error.OutOfMemory) }
 {
     flights.drain(now)?;
@@ -69,6 +70,7 @@ pub(crate) fn leave<P: Peer>(
         (messages done.items)) }
     ensures indexed { OnOk result (IsIndexOf P.cmp (of_pairs P.cmp pairs.now.entries waiting.now.messages
         (in_flight flights.new)) idle.new.entries) }
+    ensures before { flights.new.list.before ≡ flights.old.list.before }
     ensures refused { IfErr result (λ e. e ≡ Error.OutOfMemory) }
 {
     let done = part(now, flights, peers, pairs, were_fair)?;
@@ -136,6 +138,7 @@ pub(crate) fn leave_landing<P: Peer>(
         waiting.now.messages (in_flight flights.new)) (messages left.done.items)) }
     ensures indexed { OnOk result (IsIndexOf P.cmp (of_pairs P.cmp pairs.new.entries waiting.now.messages
         (in_flight flights.new)) idle.new.entries) }
+    ensures before { flights.new.list.before ≡ flights.old.list.before }
     ensures refused { IfErr result (λ e. (e ≡ Error.OutOfMemory) ⊎ ((e ≡ Error.MomentTooLate)
         × IsFirstLate P.cmp now
         (done_by P.cmp now (caps_of P.cmp peers.now.entries pairs.old.entries) flights.old))) }

@@ -1,7 +1,7 @@
 //! The state that a call works on.
-ghost use Rattle.std.specs.Prelude.{◌≡◌, true, false, OnOk, IfOk, IfErr};
+ghost use Rattle.std.specs.Prelude.{◌≡◌, true, false, OnOk, IfErr};
 ghost use Rattle.link_waiting.specs.Idle.Index.{IsIndexOf};
-ghost use Rattle.link_flights.specs.Flights.InFlight.{in_flight, IsSameFlights};
+ghost use Rattle.link_flights.specs.Flights.InFlight.{in_flight};
 ghost use Rattle.link_waiting.specs.Idle.AtRest.{of_pairs};
 ghost use Rattle.link_pairs.specs.Pairs.CapsOf.{caps_of};
 ghost use Rattle.link_flights.specs.Flights.Rated.{AreRated};
@@ -15,7 +15,7 @@ use link_pairs::known_pairs::Pairs;
 use link_pairs::peers::Peers;
 use link_waiting::idle_pairs::IdlePairs;
 use link_waiting::waiting::Waiting;
-use std::alloc::{AllocError, Global};
+use std::alloc::Global;
 
 /// All that is kept between calls.
 #[derive(Drop)]
@@ -46,10 +46,12 @@ impl<P: Peer> Ledger<P> {
     ghost use Rattle.link_simulation.specs.Simulation.Calls.{limited_by, linked_by};
     ghost use Rattle.link_simulation.specs.Rule.Planned.{new_planned, next_event as next_of_planned};
     ghost use Rattle.link_events.specs.Steps.AsPlanned.{planned};
+    ghost use Rattle.link_events.specs.Steps.Marks.{IsMarked};
 
     /// An empty ledger before any limit, whose first flow has that id.
     pub fn new(alloc: Global, first: u64) -> Self
-        ensures { planned P.cmp result ≡ new_planned first }
+        ensures planned { planned P.cmp result ≡ new_planned first }
+        ensures marked { IsMarked result.flights }
     {
         Ledger {
             alloc,
@@ -79,6 +81,7 @@ impl<P: Peer> Ledger<P> {
                   (planned P.cmp self.old).caps peer.now egress ingress;
               limited = true;
             }) }
+        ensures before { self.new.flights.list.before ≡ self.old.flights.list.before }
         ensures refused { IfErr result (λ e. e ≡ Error.OutOfMemory) }
     {
         self.limited = true;
@@ -99,6 +102,7 @@ impl<P: Peer> Ledger<P> {
                   (planned P.cmp self.old).caps origin.now recipient.now cap;
               limited = true;
             }) }
+        ensures before { self.new.flights.list.before ≡ self.old.flights.list.before }
         ensures refused { IfErr result (λ e. e ≡ Error.OutOfMemory) }
     {
         let mut pairs = self.pairs.clone()?;
@@ -107,37 +111,6 @@ impl<P: Peer> Ledger<P> {
         self.stale = true;
         self.pairs = pairs;
         Ok(())
-    }
-
-    /// The state after a call takes the place of this one. Once the old lists are gone, nothing is
-    /// shared, and what is known of pairs and which messages wait is put in its place without a copy.
-    pub fn replace_by(&mut self, next: Ledger<P>)
-        ensures { planned P.cmp self.new ≡ planned P.cmp next }
-    {
-        *self = next;
-        self.pairs.settle();
-        self.waiting.settle();
-    }
-
-    /// The same caps and last arrivals, and the same messages that wait.
-    fn clone_known(&self) -> Result<(Peers<P>, Pairs<P>, Waiting<P>), AllocError>
-        ensures peers { IfOk result (λ known. known.0.entries ≡ self.now.peers.entries) }
-        ensures pairs { IfOk result (λ known. known.1.entries ≡ self.now.pairs.entries) }
-        ensures waiting { IfOk result (λ known. known.2.messages ≡ self.now.waiting.messages) }
-    {
-        Ok((
-            self.peers.clone()?,
-            self.pairs.clone()?,
-            self.waiting.clone()?,
-        ))
-    }
-
-    /// The same messages in flight, and the same idle pairs.
-    fn clone_sending(&self) -> Result<(IdlePairs<P>, Flights<P>), AllocError>
-        ensures idle { IfOk result (λ sending. sending.0.entries ≡ self.now.idle.entries) }
-        ensures flights { IfOk result (λ sending. IsSameFlights self.now.flights sending.1) }
-    {
-        Ok((self.idle.clone()?, self.flights.clone()?))
     }
 
     /// The earlier of the planned finish and the planned start.
@@ -149,30 +122,5 @@ impl<P: Peer> Ledger<P> {
             (Some(finish), None) => Some(finish),
             (None, start) => start,
         }
-    }
-}
-
-impl<P: Peer> Clone for Ledger<P> {
-    ghost use Rattle.link_events.specs.Steps.AsPlanned.{planned};
-
-    ghost is_clone = { λ ledger copy. planned P.cmp copy ≡ planned P.cmp ledger };
-
-    /// The same state, the peers cloned.
-    fn clone(&self) -> Result<Ledger<P>, AllocError> {
-        let (peers, pairs, waiting) = self.clone_known()?;
-        let (idle, flights) = self.clone_sending()?;
-        Ok(Ledger {
-            alloc: self.alloc,
-            peers,
-            pairs,
-            waiting,
-            idle,
-            flights,
-            limited: self.limited,
-            next_id: self.next_id,
-            finish: self.finish,
-            start: self.start,
-            stale: self.stale,
-        })
     }
 }

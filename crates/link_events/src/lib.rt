@@ -1,8 +1,8 @@
 //! The event rule: what calls do, from one planned moment to the next, over all that is kept between calls.
 //!
-//! It serves `link_scheduler`, which makes each call on a copy of the ledger and puts it in its
-//! place. So where a contract does not say what stays after an error, the caller gives up what was
-//! worked on.
+//! It serves `link_scheduler`, which keeps at each call what the call may change, and puts it back
+//! where the call is refused. So where a contract does not say what stays after an error, the caller
+//! puts back what was kept.
 #![tactic(auto)]
 
 mod answers;
@@ -11,6 +11,7 @@ mod event;
 mod events;
 mod leave;
 pub mod ledger;
+pub mod marks;
 mod moves;
 pub mod outgoing;
 mod plans;

@@ -11,14 +11,13 @@ ghost use Rattle.link_waiting.specs.Idle.Departed.{HasDeparted};
 ghost use Rattle.link_waiting.specs.Idle.Index.{idle_from as idle_since};
 
 use crate::ledger::Ledger;
+use crate::marks::give_up;
 use crate::readiness::{idle_from, idle_latency, ready_from};
 use fair_rates::error::Error;
 use fair_rates::peer::Peer;
 use link_pairs::known_pairs::later_of;
 use link_pairs::message::Message;
 use link_pairs::pair::PeerPair;
-use link_waiting::idle_pairs::IdlePairs;
-use link_waiting::waiting::Waiting;
 use std::rc::Rc;
 
 impl<P: Peer> Ledger<P> {
@@ -45,6 +44,7 @@ impl<P: Peer> Ledger<P> {
             ≡ idle_since P.cmp (planned P.cmp self.new) origin.now recipient.now) }
         ensures flights { OnOk result (self.new.flights ≡ self.old.flights) }
         ensures stale { OnOk result (self.new.stale ≡ self.old.stale) }
+        ensures before { self.new.flights.list.before ≡ self.old.flights.list.before }
         ensures refused { IfErr result (λ e. e ≡ Error.OutOfMemory) }
     {
         let latency = idle_latency(is_busy, &self.waiting, origin, recipient);
@@ -55,9 +55,7 @@ impl<P: Peer> Ledger<P> {
             .idle
             .change(self.alloc, origin, recipient, before, moved);
         if let Err(error) = changed {
-            // What stopped half-way is given up.
-            self.waiting = Waiting::new();
-            self.idle = IdlePairs::new();
+            give_up(&mut self.flights, &mut self.waiting, &mut self.idle);
             self.stale = true;
             return Err(error);
         }
@@ -78,6 +76,7 @@ impl<P: Peer> Ledger<P> {
             ≡ with_queued P.cmp (planned P.cmp self.old) (message_of message)) }
         ensures idle { IfOk result (λ since. since
             ≡ idle_since P.cmp (planned P.cmp self.new) pair.now.origin pair.now.recipient) }
+        ensures before { self.new.flights.list.before ≡ self.old.flights.list.before }
         ensures refused { IfErr result (λ e. e ≡ Error.OutOfMemory) }
     {
         let (origin, recipient) = (&pair.origin, &pair.recipient);
@@ -88,9 +87,8 @@ impl<P: Peer> Ledger<P> {
             .idle
             .change(self.alloc, origin, recipient, before, after);
         if let Err(error) = changed {
-            // What stopped half-way is given up.
-            self.waiting = Waiting::new();
-            self.idle = IdlePairs::new();
+            give_up(&mut self.flights, &mut self.waiting, &mut self.idle);
+            self.stale = true;
             return Err(error);
         }
         Ok(after)
@@ -115,6 +113,7 @@ impl<P: Peer> Ledger<P> {
             × (first_of P.cmp (planned P.cmp self.old).waiting origin.now recipient.now ≡ Some (message_of message))
             × Joins self.old.next_id now message self.old.flights self.new.flights) }
         ensures stale { OnOk result (self.new.stale ≡ self.old.stale) }
+        ensures before { self.new.flights.list.before ≡ self.old.flights.list.before }
         ensures refused { IfErr result (λ e. e ≡ Error.OutOfMemory) }
     {
         let Some(message) = self.waiting.take_first(origin, recipient)? else {
@@ -122,15 +121,12 @@ impl<P: Peer> Ledger<P> {
         };
         let changed = self.idle.change(self.alloc, origin, recipient, since, None);
         if let Err(error) = changed {
-            // What stopped half-way is given up.
-            self.waiting = Waiting::new();
-            self.idle = IdlePairs::new();
+            give_up(&mut self.flights, &mut self.waiting, &mut self.idle);
+            self.stale = true;
             return Err(error);
         }
         if let Err(error) = self.flights.push(self.next_id, message, now) {
-            // What stopped half-way is given up.
-            self.waiting = Waiting::new();
-            self.idle = IdlePairs::new();
+            give_up(&mut self.flights, &mut self.waiting, &mut self.idle);
             self.stale = true;
             return Err(error);
         }
@@ -145,10 +141,15 @@ impl<P: Peer> Ledger<P> {
         requires id { self.old.next_id < 18446744073709551615 }
         ensures started { OnOk result (planned P.cmp self.new ≡ launched P.cmp now
             (with_queued P.cmp (planned P.cmp self.old) (message_of message)) (message_of message)) }
+        ensures before { self.new.flights.list.before ≡ self.old.flights.list.before }
         ensures refused { IfErr result (λ e. e ≡ Error.OutOfMemory) }
     {
         let message = Rc::new(self.alloc, message)?;
-        self.flights.push(self.next_id, message, now)?;
+        if let Err(error) = self.flights.push(self.next_id, message, now) {
+            give_up(&mut self.flights, &mut self.waiting, &mut self.idle);
+            self.stale = true;
+            return Err(error);
+        }
         self.next_id += 1;
         Ok(())
     }
@@ -162,6 +163,7 @@ impl<P: Peer> Ledger<P> {
         ensures waits { OnOk result (PlansStart P.cmp now
             (with_queued P.cmp (planned P.cmp self.old) (message_of message)) (planned P.cmp self.new)) }
         ensures unchanged { OnErr result (planned P.cmp self.new ≡ planned P.cmp self.old) }
+        ensures flights { self.new.flights ≡ self.old.flights }
         ensures refused { IfErr result (λ e. e ≡ Error.OutOfMemory) }
     {
         self.waiting.push(self.alloc, message)?;

@@ -12,13 +12,11 @@ ghost use Rattle.link_events.specs.Steps.Landing.{LeavesLanding, LandsLate};
 
 use crate::leave::{Left, leave, leave_landing};
 use crate::ledger::Ledger;
+use crate::marks::give_up;
 use fair_rates::error::Error;
 use fair_rates::peer::Peer;
-use link_flights::flight_list::Flights;
 use link_pairs::message::Message;
 use link_pairs::pair::PeerPair;
-use link_waiting::idle_pairs::IdlePairs;
-use link_waiting::waiting::Waiting;
 use std::collections::VecDeque;
 use std::rc::Rc;
 
@@ -32,6 +30,7 @@ impl<P: Peer> Ledger<P> {
     pub(crate) fn account(&mut self, now: u64) -> Result<VecDeque<Rc<Message<P>>>, Error>
         ensures accounts { IfOk result (λ leavers. Accounts P.cmp now (planned P.cmp self.old)
             (messages leavers.items) (planned P.cmp self.new)) }
+        ensures before { self.new.flights.list.before ≡ self.old.flights.list.before }
         ensures refused { IfErr result (λ e. e ≡ Error.OutOfMemory) }
     {
         let (done, were_fair) = self.leave_at(now)?;
@@ -56,6 +55,7 @@ impl<P: Peer> Ledger<P> {
             (caps_of P.cmp self.new.peers.entries self.new.pairs.entries) self.new.flights (messages left.0.items)) }
         ensures moment { OnOk result (self.new.flights.at ≡ now) }
         ensures stale { self.new.stale ≡ true }
+        ensures before { self.new.flights.list.before ≡ self.old.flights.list.before }
         ensures refused { IfErr result (λ e. e ≡ Error.OutOfMemory) }
     {
         let were_fair = self.were_fair_until(now);
@@ -73,10 +73,7 @@ impl<P: Peer> Ledger<P> {
         match left {
             Ok(done) => Ok((done, were_fair)),
             Err(error) => {
-                // What stopped half-way is given up.
-                self.flights = Flights::new(self.alloc);
-                self.waiting = Waiting::new();
-                self.idle = IdlePairs::new();
+                give_up(&mut self.flights, &mut self.waiting, &mut self.idle);
                 Err(error)
             }
         }
@@ -91,6 +88,7 @@ impl<P: Peer> Ledger<P> {
             (messages left.0.done.items)) }
         ensures moment { OnOk result (self.new.flights.at ≡ now) }
         ensures stale { self.new.stale ≡ true }
+        ensures before { self.new.flights.list.before ≡ self.old.flights.list.before }
         ensures refused { IfErr result (λ e. (e ≡ Error.OutOfMemory) ⊎ ((e ≡ Error.MomentTooLate)
             × LandsLate P.cmp now (planned P.cmp self.old))) }
     {
@@ -109,10 +107,7 @@ impl<P: Peer> Ledger<P> {
         match left {
             Ok(left) => Ok((left, were_fair)),
             Err(error) => {
-                // What stopped half-way is given up.
-                self.flights = Flights::new(self.alloc);
-                self.waiting = Waiting::new();
-                self.idle = IdlePairs::new();
+                give_up(&mut self.flights, &mut self.waiting, &mut self.idle);
                 Err(error)
             }
         }
@@ -135,6 +130,7 @@ impl<P: Peer> Ledger<P> {
         ensures accounts { OnOk result ((old : AnyPlanned P) (leavers : List (AnyMessage P))
             → Leaves P.cmp now old leavers (planned P.cmp self.old)
             → Accounts P.cmp now old leavers (planned P.cmp self.new)) }
+        ensures before { self.new.flights.list.before ≡ self.old.flights.list.before }
         ensures refused { IfErr result (λ e. e ≡ Error.OutOfMemory) }
     {
         let stay_fair = were_fair && !self.flights.is_empty();
@@ -144,21 +140,33 @@ impl<P: Peer> Ledger<P> {
             Ok(finish) => {
                 self.finish = finish;
                 self.stale = false;
-                Ok(())
+                self.enlarge_units()
             }
             Err(error) => {
-                // What stopped half-way is given up.
-                self.flights = Flights::new(self.alloc);
-                self.waiting = Waiting::new();
-                self.idle = IdlePairs::new();
+                give_up(&mut self.flights, &mut self.waiting, &mut self.idle);
                 Err(error)
             }
         }
     }
 
+    /// What is in flight counts in larger units, where that is due and can be. All are worth what they were.
+    fn enlarge_units(&mut self) -> Result<(), Error>
+        ensures same { OnOk result (planned P.cmp self.new ≡ planned P.cmp self.old) }
+        ensures before { self.new.flights.list.before ≡ self.old.flights.list.before }
+        ensures refused { IfErr result (λ e. e ≡ Error.OutOfMemory) }
+    {
+        if let Err(error) = self.flights.enlarge_units() {
+            self.stale = true;
+            give_up(&mut self.flights, &mut self.waiting, &mut self.idle);
+            return Err(error);
+        }
+        Ok(())
+    }
+
     /// Plans the start anew: the least moment from `now` on at which an idle pair is ready.
     pub(crate) fn plan_start(&mut self, now: u64)
-        ensures { PlansStart P.cmp now (planned P.cmp self.old) (planned P.cmp self.new) }
+        ensures plans { PlansStart P.cmp now (planned P.cmp self.old) (planned P.cmp self.new) }
+        ensures flights { self.new.flights ≡ self.old.flights }
     {
         self.start = self.idle.first().map(|moment| now.max(moment));
     }

@@ -46,6 +46,7 @@ impl<P: Peer> Ledger<P> {
             ≡ idle_since P.cmp (planned P.cmp self.new) message.now.origin message.now.recipient) }
         ensures flights { OnOk result (self.new.flights ≡ self.old.flights) }
         ensures stale { OnOk result (self.new.stale ≡ self.old.stale) }
+        ensures before { self.new.flights.list.before ≡ self.old.flights.list.before }
         ensures refused { IfErr result (λ e. ((e ≡ Error.MomentTooLate)
             × (is_late P.cmp now (message_of message.now) ≡ true)) ⊎ (e ≡ Error.OutOfMemory)) }
     {
@@ -79,6 +80,7 @@ impl<P: Peer> Ledger<P> {
         ensures starts { IfOk result (λ starts. starts ≡ true
             → StartsNext P.cmp now origin.now recipient.now self.old self.new) }
         ensures stale { OnOk result (self.new.stale ≡ self.old.stale) }
+        ensures before { self.new.flights.list.before ≡ self.old.flights.list.before }
         ensures refused { IfErr result (λ e. e ≡ Error.OutOfMemory) }
     {
         if !self.may_launch(since, origin, recipient, now) {
@@ -115,6 +117,7 @@ impl<P: Peer> Ledger<P> {
             → (mid : AnyPlanned P) × Accounts P.cmp now old leavers mid
             × Launches P.cmp now (landed_with P.cmp now mid (message_of message.now))
             (next_of P.cmp mid (message_of message.now)) (goes (messages more.items) (planned P.cmp self.new))) }
+        ensures before { self.new.flights.list.before ≡ self.old.flights.list.before }
         ensures refused { IfErr result (λ e. (old here : AnyPlanned P) (leavers : List (AnyMessage P))
             → Leaves P.cmp now old leavers here
             → planned P.cmp self.old ≡ landed_with P.cmp now here (message_of message.now)
@@ -142,6 +145,7 @@ impl<P: Peer> Ledger<P> {
             × ((course : Course (Completed P) (AnyPlanned P))
             → Finishes P.cmp now (messages queue.items) (planned P.cmp self.new) course
             → Settles P.cmp now (planned P.cmp self.old) (preceded cs course))) }
+        ensures before { self.new.flights.list.before ≡ self.old.flights.list.before }
         ensures refused { IfErr result (IsRefusedFor (λ fault. Settles P.cmp now (planned P.cmp self.old)
             (meets fault))) }
     {
@@ -173,6 +177,7 @@ impl<P: Peer> Ledger<P> {
         ensures settles { IfOk result (λ done. (cs : List (Completed P))
             × (map ended_of ended.new.items ≡ map ended_of ended.old.items ++ cs)
             × Settles P.cmp now (planned P.cmp self.old) (goes cs (planned P.cmp self.new))) }
+        ensures before { self.new.flights.list.before ≡ self.old.flights.list.before }
         ensures refused { IfErr result (IsRefusedFor (λ fault. Settles P.cmp now (planned P.cmp self.old)
             (meets fault))) }
     {

@@ -2,6 +2,7 @@
 pub mod Answered
 pub mod AsOneCall
 pub mod Calling
+pub mod Concluded
 pub mod OneByOne
 pub mod Promises
 pub mod Replay

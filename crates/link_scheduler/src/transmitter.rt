@@ -2,6 +2,7 @@
 ghost use Rattle.std.specs.Prelude.{◌≡◌, ◌≤◌, length, IfOk, IfErr, IsOk, OnErr};
 ghost use Rattle.link_simulation.specs.Laws.Orderly.{IsOrderly};
 ghost use Rattle.link_events.specs.Steps.AsPlanned.{planned};
+ghost use Rattle.link_events.specs.Steps.Marks.{IsMarked};
 ghost use Rattle.link_simulation.specs.Simulation.Calls.{call_limit, call_limit_link, call_enqueue, call_advance};
 ghost use Rattle.link_simulation.specs.Simulation.Messages.{CapsAlike, PairsAlike};
 ghost use Rattle.link_simulation.specs.Rule.Planned.{IsPlanned};
@@ -67,6 +68,7 @@ pub struct State<P: Peer> {
     // Here and in the clauses `∥ A ∥₁` reads: there is an `A`.
     pub ghost right: { ∥ IsPlanned P.cmp (planned P.cmp ledger) ∥₁ },
     pub ghost orderly: { ∥ IsOrderly P.cmp (planned P.cmp ledger) ∥₁ },
+    ghost marked: { IsMarked ledger.flights },
 }
 
 impl<P: Peer> State<P> {
@@ -75,6 +77,7 @@ impl<P: Peer> State<P> {
     ghost use Rattle.link_flights.specs.Flights.Readings.{IsReadAs};
     ghost use Rattle.link_scheduler.specs.Calls.State.{planned_of, IsNew, IsMade, IsRefused, IsAdvanced};
     ghost use Rattle.link_events.specs.Steps.Outgoing.{sent};
+    ghost use Rattle.link_events.specs.Steps.Standing.{IsFree};
     ghost use Rattle.link_scheduler.specs.Calls.State.{IsCounted, sends, AreMade, IsOneRefused};
     ghost use Rattle.link_scheduler.specs.Calls.State.{IsNextOf, IsQuietUntil, rated_at_last};
 
@@ -130,10 +133,9 @@ impl<P: Peer> State<P> {
         ensures refused { IfErr result (IsRefused self.old (call_limit now peer.now egress ingress)) }
         ensures unchanged { OnErr result (self.new ≡ self.old) }
     {
-        let mut ledger = self.ledger.clone()?;
-        let completions = ledger.answer_limit(now, peer, egress, ingress)?;
-        self.ledger.replace_by(ledger);
-        Ok(completions)
+        let kept = self.ledger.keep()?;
+        let answer = self.ledger.answer_limit(now, peer, egress, ingress);
+        self.ledger.conclude(kept, answer)
     }
 
     /// Sets the cap of an ordered pair of peers from `now` on, and answers what completes at that
@@ -167,10 +169,9 @@ impl<P: Peer> State<P> {
         ensures refused { IfErr result (IsRefused self.old (call_limit_link now origin.now recipient.now cap)) }
         ensures unchanged { OnErr result (self.new ≡ self.old) }
     {
-        let mut ledger = self.ledger.clone()?;
-        let completions = ledger.answer_limit_link(now, origin, recipient, cap)?;
-        self.ledger.replace_by(ledger);
-        Ok(completions)
+        let kept = self.ledger.keep()?;
+        let answer = self.ledger.answer_limit_link(now, origin, recipient, cap);
+        self.ledger.conclude(kept, answer)
     }
 
     /// Sends a message at `now`, and answers what completes at that moment.
@@ -226,7 +227,7 @@ impl<P: Peer> State<P> {
         self.send(now, message)
     }
 
-    /// Sends a message. Where it only has to wait, nothing is copied.
+    /// Sends a message. Where it only has to wait, nothing is kept.
     fn send(&mut self, now: u64, message: Message<P>) -> Result<Vec<Completion<P>>, Error>
         ensures made { IfOk result (λ done. IsMade self.old
             (call_enqueue now (message_of message)) done.items self.new) }
@@ -237,10 +238,20 @@ impl<P: Peer> State<P> {
             self.ledger.wait(now, message)?;
             return Ok(Vec::new(self.ledger.alloc));
         }
-        let mut ledger = self.ledger.clone()?;
-        let completions = ledger.answer_free(now, message)?;
-        self.ledger.replace_by(ledger);
-        Ok(completions)
+        self.send_free(now, message)
+    }
+
+    /// Sends a message that does not have to wait.
+    fn send_free(&mut self, now: u64, message: Message<P>) -> Result<Vec<Completion<P>>, Error>
+        requires { IsFree P.cmp (planned_of self.old) message.origin message.recipient }
+        ensures made { IfOk result (λ done. IsMade self.old
+            (call_enqueue now (message_of message)) done.items self.new) }
+        ensures refused { IfErr result (IsRefused self.old (call_enqueue now (message_of message))) }
+        ensures unchanged { OnErr result (self.new ≡ self.old) }
+    {
+        let kept = self.ledger.keep()?;
+        let answer = self.ledger.answer_free(now, message);
+        self.ledger.conclude(kept, answer)
     }
 
     /// Sends messages at `now`, one after another in their order, and answers what completes at that
@@ -281,10 +292,9 @@ impl<P: Peer> State<P> {
         if messages.is_empty() {
             return Ok(Vec::new(self.ledger.alloc));
         }
-        let mut ledger = self.ledger.clone()?;
-        let completions = ledger.answer_enqueue_all(now, messages)?;
-        self.ledger.replace_by(ledger);
-        Ok(completions)
+        let kept = self.ledger.keep()?;
+        let answer = self.ledger.answer_enqueue_all(now, messages);
+        self.ledger.conclude(kept, answer)
     }
 
     /// Lets time go on to `now`, in nanoseconds since the start, and answers what completes up to
@@ -352,10 +362,9 @@ impl<P: Peer> State<P> {
         ensures refused { IfErr result (IsRefused self.old (call_advance now)) }
         ensures unchanged { OnErr result (self.new ≡ self.old) }
     {
-        let mut ledger = self.ledger.clone()?;
-        let (completions, events) = ledger.answer_advance(now)?;
-        self.ledger.replace_by(ledger);
-        Ok((completions, events))
+        let kept = self.ledger.keep()?;
+        let answer = self.ledger.answer_advance(now);
+        self.ledger.conclude(kept, answer)
     }
 
     /// The moment of the next event, in nanoseconds since the start: the next at which a message

@@ -1,9 +1,8 @@
 -- The calls of a scheduler, which work on a planned world that is the same as the one kept.
-use Rattle.std.proofs.Common.{◌≡◌, ℕ, List, sym, subst}
+use Rattle.std.proofs.Common.{ℕ, List}
 use Rattle.std.specs.List.{AllZip}
 use Rattle.std.specs.declared.cmp.Ordering.{Ordering}
 use Rattle.std.specs.Cmp.{IsTotalOrder}
-use Rattle.link_simulation.specs.Simulation.Messages.{CapsAlike, PairsAlike}
 use Rattle.link_simulation.specs.Simulation.Replies.{SameCompletion}
 use Rattle.link_simulation.specs.Simulation.World.{Completed, Course, goes, meets}
 use Rattle.link_simulation.specs.Simulation.Calls.{Call, call_advance}
@@ -12,7 +11,7 @@ use Rattle.link_simulation.specs.Rule.Events.{Advances}
 use Rattle.link_simulation.specs.Rule.Events.{Obeys}
 use Rattle.link_simulation.specs.Rule.SamePlanned.{IsSamePlanned, IsSameCourse, GoesByRule, AdvancesByRule}
 use Rattle.link_simulation.proofs.Rule.Agreeing.{all_trans}
-use Rattle.link_simulation.proofs.Rule.SamePlanned.{same_itself, same_turned}
+use Rattle.link_simulation.proofs.Rule.SamePlanned.{same_turned}
 use Rattle.link_simulation.proofs.Rule.SameCourses.{obeys_same, advances_same}
 use Rattle.link_simulation.proofs.Rule.SameRefusals.{call_itself}
 

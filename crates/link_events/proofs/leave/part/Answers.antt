@@ -1,4 +1,4 @@
-use Rattle.std.proofs.Common.{◌≡◌, ℕ, not, Result, Ok, Err, IfOk, ap, sym, ◌∙◌, subst}
+use Rattle.std.proofs.Common.{◌≡◌, ℕ, not, Result, Ok, Err, IfOk, OnOk, ap, sym, ◌∙◌, subst}
 use Rattle.std.specs.List.{filter, AllZip}
 use Rattle.std.specs.declared.cmp.Ordering.{Ordering}
 use Rattle.link_flights.specs.declared.flight_list.Flights.{Flights}
@@ -38,11 +38,11 @@ take_done-requires-clause-timed g c e =
 
 -- ---- what is done
 
--- what two facts about an answer make of it
-if_ok_both : {X E : Type 0} {A B C : X → Type 0} (r : Result X E) → ((x : X) → A x → B x → C x) → IfOk r A → IfOk r B
-    → IfOk r C
-if_ok_both (Ok x) f a b = f x a b
-if_ok_both (Err e) f a b = tt
+-- what three facts about an answer make of it
+if_ok_all : {X E S T : Type 0} {A B C : X → Type 0} (r : Result X E) → ((x : X) → A x → B x → (S → T) → C x)
+    → IfOk r A → IfOk r B → (S → OnOk r T) → IfOk r C
+if_ok_all (Ok x) f a b c = f x a b c
+if_ok_all (Err e) f a b c = tt
 
 pub returns-clause-parted : goal.returns-clause-parted
 returns-clause-parted g c =
@@ -53,7 +53,7 @@ returns-clause-parted g c =
     let left = c.take_done.new.self in
     let scale = c.take_done.ensures.scale in
     let drains = drained_so cmp c.args.now old drained c.drain.ensures.scale c.in_ok-drain.ensures.drained in
-    if_ok_both c.take_done.result (λ done parted floor.
+    if_ok_all c.take_done.result (λ done parted floor timed.
     let stays : in_flight left ≡ filter (λ f. not (is_spent cmp caps f)) (drained_to c.args.now (in_flight old)) =
     ap (λ n. sending_of n (in_units left)) scale
     ∙ ap (sending_of drained.scale) parted.stay
@@ -81,7 +81,7 @@ returns-clause-parted g c =
                 (zip_weaker (DrainsTo c.args.now) IsAsRated (drained_as_rated c.args.now) (in_units old)
                 (in_units drained) c.in_ok-drain.ensures.drained) rated.fair);
             no_less = subst (λ n. IsFloorOf (is_out cmp caps n) (in_units drained) left.floor) (sym scale) floor;
-            timed = c.take_done.ensures.timed (c.in_ok-drain.ensures.timed (c.requires.later e) rated.timed);
+            timed = timed (c.in_ok-drain.ensures.timed (c.requires.later e) rated.timed);
           };
       moment = c.take_done.ensures.at ∙ c.in_ok-drain.ensures.at;
-    }) c.take_done.ensures.parted c.take_done.ensures.floor
+    }) c.take_done.ensures.parted c.take_done.ensures.floor c.take_done.ensures.timed

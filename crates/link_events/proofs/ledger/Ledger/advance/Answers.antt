@@ -1,4 +1,4 @@
-use Rattle.std.proofs.Common.{◌≡◌, ◌+◌, ◌<◌, ◌≤◌, map, length, arith}
+use Rattle.std.proofs.Common.{◌≡◌, ◌+◌, ◌<◌, ◌≤◌, map, length, arith, ◌∙◌}
 use Rattle.std.proofs.lemmas.List.{length-map}
 use Rattle.std.proofs.lemmas.Result.{err_from_is_err_and}
 use Rattle.link_events.specs.Steps.AsPlanned.{planned}
@@ -32,7 +32,7 @@ overflow_add-events g c =
     length_in_flight old.flights.scale old.flights.at old.flights.list.items in
     let all : events_left g.P.Ord.cmp (planned g.P.Ord.cmp old) < 340282366920938463463374607431768211456
     = events_few g.P.Ord.cmp (planned g.P.Ord.cmp old) (omega (arith, waits, old.waiting.few))
-    (omega (arith, sends, old.flights.list.small, old.flights.list.ok)) in
+    (omega (arith, sends, c.len-sending.ensures)) in
     omega (arith, fewer, few, all)
 
 pub loop-event-smaller : goal.loop-event-smaller
@@ -60,6 +60,7 @@ loop-event-preserved g c =
           (map ended_of c.happen.new.ended.items) h.0 c.loop-event.events c.in-Some.event c.loop-event.invariant.so
           c.in-Some.ensures h.2 h.1;
       few = omega (arith, fewer, few);
+      before = c.happen.ensures.before ∙ c.loop-event.invariant.before;
     }
 
 pub returns-in_err-wake-clause-refused : goal.returns-in_err-wake-clause-refused

@@ -1,4 +1,4 @@
-use Rattle.std.proofs.Common.{◌+◌, ◌≤◌, map}
+use Rattle.std.proofs.Common.{◌≡◌, ◌+◌, ◌≤◌, map}
 use Rattle.link_events.specs.Steps.AsPlanned.{planned}
 use Rattle.link_pairs.specs.Pairs.Messages.{ended_of}
 use Rattle.link_events.proofs.Steps.Advancing.{AdvancesSo}
@@ -11,6 +11,7 @@ invariant-loop-event g l = record {
       (map ended_of l.ended.items) l.events;
   few : l.events + events_left g.P.Ord.cmp (planned g.P.Ord.cmp l.self)
       ≤ events_left g.P.Ord.cmp (planned g.P.Ord.cmp l.initial.self);
+  before : l.self.flights.list.before ≡ l.initial.self.flights.list.before;
 }
 
 abbrev pub decreases-loop-event : goal.decreases-loop-event

@@ -1,4 +1,4 @@
-use Rattle.std.proofs.Common.{◌≡◌, List, [], ◌∷◌, map, sym, ap, ◌∙◌, subst, rules, length}
+use Rattle.std.proofs.Common.{◌≡◌, List, [], ◌∷◌, map, sym, ap, ◌∙◌, subst, rules, length, refl}
 use Rattle.std.proofs.lemmas.Result.{err_from_is_err_and}
 use Rattle.std.proofs.lemmas.Iterator.Adapters.{YieldsList-from_vec}
 use Rattle.std.proofs.lemmas.Iterator.Consumers.{YieldsList-end}
@@ -13,10 +13,12 @@ use Rattle.link_events.proofs.Steps.Standing.{StandsSo, stands_start, stands_ste
 use Rattle.link_events.proofs.ledger.Ledger.enqueue_all.Goals as goal
 
 pub loop-message-init : goal.loop-message-init
-loop-message-init g c =
-    rw (c.into_iter-message-iterator.ensures.into_iter_gives.0, c.new-ended.ensures.items)
-    (stands_start g.P.Ord.cmp g.met.P.Ord.total c.args.now (map outgoing c.args.messages.items)
-    (planned g.P.Ord.cmp c.args.self.now))
+loop-message-init g c = record {
+  before = refl;
+  so = rw (c.into_iter-message-iterator.ensures.into_iter_gives.0, c.new-ended.ensures.items)
+      (stands_start g.P.Ord.cmp g.met.P.Ord.total c.args.now (map outgoing c.args.messages.items)
+      (planned g.P.Ord.cmp c.args.self.now));
+}
 
 pub returns-in_err-standing-clause-refused : goal.returns-in_err-standing-clause-refused
 returns-in_err-standing-clause-refused g c =
@@ -26,7 +28,7 @@ returns-in_err-standing-clause-refused g c =
     (planned g.P.Ord.cmp c.loop-message.self) c.loop-message.standing (map ended_of c.loop-message.ended.items))
     (ap (map outgoing) c.in-Some.ensures.steps.0
     ∙ ap (λ (m : Message g.row.P.Denot). m ∷ map outgoing (into_iter_items c.next.new.self))
-    (sym c.into_message.ensures)) c.loop-message.invariant in
+    (sym c.into_message.ensures)) c.loop-message.invariant.so in
     rw (p.1, p.2)
     (stands_refused g.P.Ord.cmp g.met.P.Ord.total c.args.now (map outgoing c.args.messages.items)
     (planned g.P.Ord.cmp c.args.self.now) (message_of c.into_message.result)
@@ -40,13 +42,16 @@ loop-message-preserved g c =
     (planned g.P.Ord.cmp c.loop-message.self) c.loop-message.standing (map ended_of c.loop-message.ended.items))
     (ap (map outgoing) c.in-Some.ensures.steps.0
     ∙ ap (λ (m : Message g.row.P.Denot). m ∷ map outgoing (into_iter_items c.next.new.self))
-    (sym c.into_message.ensures)) c.loop-message.invariant in
-    stands_step g.P.Ord.cmp g.met.P.Ord.total c.args.now (map outgoing c.args.messages.items)
-    (planned g.P.Ord.cmp c.args.self.now) (message_of c.into_message.result)
-    (map outgoing (into_iter_items c.next.new.self)) (planned g.P.Ord.cmp c.loop-message.self)
-    (planned g.P.Ord.cmp c.enqueue_next.new.self) c.loop-message.standing c.in_ok-standing.standing
-    (map ended_of c.loop-message.ended.items) (map ended_of c.enqueue_next.new.ended.items) so
-    c.in_ok-standing.ensures.enqueues
+    (sym c.into_message.ensures)) c.loop-message.invariant.so in
+    record {
+      before = c.enqueue_next.ensures.before ∙ c.loop-message.invariant.before;
+      so = stands_step g.P.Ord.cmp g.met.P.Ord.total c.args.now (map outgoing c.args.messages.items)
+          (planned g.P.Ord.cmp c.args.self.now) (message_of c.into_message.result)
+          (map outgoing (into_iter_items c.next.new.self)) (planned g.P.Ord.cmp c.loop-message.self)
+          (planned g.P.Ord.cmp c.enqueue_next.new.self) c.loop-message.standing c.in_ok-standing.standing
+          (map ended_of c.loop-message.ended.items) (map ended_of c.enqueue_next.new.ended.items) so
+          c.in_ok-standing.ensures.enqueues;
+    }
 
 pub returns-clause-enqueues : goal.returns-clause-enqueues
 returns-clause-enqueues g c =
@@ -64,5 +69,5 @@ returns-clause-enqueues g c =
     stands_end g.P.Ord.cmp g.met.P.Ord.total c.args.now (map outgoing c.args.messages.items)
     (planned g.P.Ord.cmp c.args.self.now) (map outgoing (into_iter_items c.loop-message.message-iterator))
     (planned g.P.Ord.cmp c.loop-message.self) (planned g.P.Ord.cmp c.catch_up.new.self) c.loop-message.standing
-    (map ended_of c.loop-message.ended.items) c.loop-message.invariant (ap (map outgoing) none)
+    (map ended_of c.loop-message.ended.items) c.loop-message.invariant.so (ap (map outgoing) none)
     c.in_ok-catch_up.ensures.caught_up

@@ -73,7 +73,7 @@ returns-then-only_starts-clause-enqueues g c =
     goes_starting g.P.Ord.cmp g.met.P.Ord.total c.args.now (message_of c.args.message) c.args.standing
     (planned g.P.Ord.cmp c.args.self.now) (planned g.P.Ord.cmp c.start.new.self)
     (planned g.P.Ord.cmp c.plan_start.new.self) w (sym c.if-is_settled.ensures) (c.if-only_starts.ensures refl)
-    c.in_ok-start.ensures.started c.plan_start.ensures
+    c.in_ok-start.ensures.started c.plan_start.ensures.plans
     (read_positive c.args.self.now.flights.scale (in_units c.args.self.now.flights) c.args.self.now.flights.scaled) h in
     ([], go.0, sym (append-nil (map ended_of c.args.ended.now.items)), go.1, go.2)
 

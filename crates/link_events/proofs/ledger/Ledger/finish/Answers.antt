@@ -11,9 +11,12 @@ use Rattle.link_events.proofs.ledger.Ledger.finish.Goals as goal
 use Rattle.std.proofs.lemmas.List.{map-append, length-map}
 
 pub loop-message-init : goal.loop-message-init
-loop-message-init g c =
-    finishes_start g.P.Ord.cmp c.args.now (messages c.args.queue.items) (planned g.P.Ord.cmp c.args.self.now)
-    (map ended_of c.args.ended.now.items)
+loop-message-init g c = record {
+  so =
+      finishes_start g.P.Ord.cmp c.args.now (messages c.args.queue.items) (planned g.P.Ord.cmp c.args.self.now)
+      (map ended_of c.args.ended.now.items);
+  before = refl;
+}
 
 pub returns-in_err-more-clause-refused : goal.returns-in_err-more-clause-refused
 returns-in_err-more-clause-refused g c =
@@ -21,7 +24,7 @@ returns-in_err-more-clause-refused g c =
     let so = subst (λ (ms : List (Message g.row.P.Denot)). FinishesSo g.P.Ord.cmp c.args.now
     (messages c.args.queue.items) (planned g.P.Ord.cmp c.args.self.now) (map ended_of c.args.ended.now.items) ms
     (planned g.P.Ord.cmp c.loop-message.self) (map ended_of c.loop-message.ended.items))
-    (ap messages c.in-Some.ensures.items) c.loop-message.invariant in
+    (ap messages c.in-Some.ensures.items) c.loop-message.invariant.so in
     rw (p.1, p.2)
     (finishes_refused g.P.Ord.cmp c.args.now (messages c.args.queue.items) (planned g.P.Ord.cmp c.args.self.now)
     (map ended_of c.args.ended.now.items)
@@ -56,21 +59,24 @@ loop-message-preserved g c =
     let so = subst (λ (ms : List (Message g.row.P.Denot)). FinishesSo g.P.Ord.cmp c.args.now
     (messages c.args.queue.items) (planned g.P.Ord.cmp c.args.self.now) (map ended_of c.args.ended.now.items) ms
     (planned g.P.Ord.cmp c.loop-message.self) (map ended_of c.loop-message.ended.items))
-    (ap messages c.in-Some.ensures.items) c.loop-message.invariant in
+    (ap messages c.in-Some.ensures.items) c.loop-message.invariant.so in
     let joined : messages c.append.new.self.items ≡ messages c.pop_front.new.self.items
     ++ messages c.in_ok-more.more.items = ap messages c.in_ok-append.ensures.items
     ∙ map-append (λ m. message_of m.value) c.pop_front.new.self.items c.in_ok-more.more.items in
-    subst (λ (ms : List (Message g.row.P.Denot)). FinishesSo g.P.Ord.cmp c.args.now (messages c.args.queue.items)
-    (planned g.P.Ord.cmp c.args.self.now) (map ended_of c.args.ended.now.items) ms
-    (planned g.P.Ord.cmp c.complete.new.self) (map ended_of c.complete.new.ended.items))
-    (sym joined)
-    (finishes_step g.P.Ord.cmp c.args.now (messages c.args.queue.items) (planned g.P.Ord.cmp c.args.self.now)
-    (map ended_of c.args.ended.now.items) (message_of c.in-Some.message.value) (messages c.pop_front.new.self.items)
-    (messages c.in_ok-more.more.items)
-    (planned g.P.Ord.cmp c.loop-message.self) (planned g.P.Ord.cmp c.complete.new.self)
-    (map ended_of c.loop-message.ended.items)
-    (map ended_of c.complete.new.ended.items) so c.in_ok-more.ensures.in_time c.in_ok-more.ensures.completion
-    c.in_ok-more.ensures.launches)
+    record {
+      before = c.complete.ensures.before ∙ c.loop-message.invariant.before;
+      so = subst (λ (ms : List (Message g.row.P.Denot)). FinishesSo g.P.Ord.cmp c.args.now (messages c.args.queue.items)
+          (planned g.P.Ord.cmp c.args.self.now) (map ended_of c.args.ended.now.items) ms
+          (planned g.P.Ord.cmp c.complete.new.self) (map ended_of c.complete.new.ended.items))
+          (sym joined)
+          (finishes_step g.P.Ord.cmp c.args.now (messages c.args.queue.items) (planned g.P.Ord.cmp c.args.self.now)
+          (map ended_of c.args.ended.now.items) (message_of c.in-Some.message.value) (messages c.pop_front.new.self.items)
+          (messages c.in_ok-more.more.items)
+          (planned g.P.Ord.cmp c.loop-message.self) (planned g.P.Ord.cmp c.complete.new.self)
+          (map ended_of c.loop-message.ended.items)
+          (map ended_of c.complete.new.ended.items) so c.in_ok-more.ensures.in_time c.in_ok-more.ensures.completion
+          c.in_ok-more.ensures.launches);
+    }
 
 pub returns-clause-finishes : goal.returns-clause-finishes
 returns-clause-finishes g c =
@@ -79,5 +85,5 @@ returns-clause-finishes g c =
     (map ended_of c.args.ended.now.items) (messages c.loop-message.queue.items)
     (planned g.P.Ord.cmp c.loop-message.self) (planned g.P.Ord.cmp c.plan_start.new.self)
     (map ended_of c.loop-message.ended.items)
-    c.loop-message.invariant (ap messages none) c.plan_start.ensures in
+    c.loop-message.invariant.so (ap messages none) c.plan_start.ensures.plans in
     (w.done, w.out, w.finishes)

@@ -1,4 +1,4 @@
-use Rattle.std.proofs.Common.{◌+◌, map, length}
+use Rattle.std.proofs.Common.{◌≡◌, ◌+◌, map, length}
 use Rattle.link_events.specs.Steps.AsPlanned.{planned}
 use Rattle.link_pairs.specs.Pairs.Messages.{messages, ended_of}
 use Rattle.link_events.proofs.Steps.Finishing.{FinishesSo}
@@ -6,10 +6,12 @@ use Rattle.link_events.proofs.Steps.MessageCounts.{in_system}
 use Rattle.link_events.proofs.ledger.Ledger.finish.Given as goal
 
 abbrev pub invariant-loop-message : goal.invariant-loop-message
-invariant-loop-message g l =
-    FinishesSo g.P.Ord.cmp l.now (messages l.initial.queue.items) (planned g.P.Ord.cmp l.initial.self)
-    (map ended_of l.initial.ended.items)
-    (messages l.queue.items) (planned g.P.Ord.cmp l.self) (map ended_of l.ended.items)
+invariant-loop-message g l = record {
+  so : FinishesSo g.P.Ord.cmp l.now (messages l.initial.queue.items) (planned g.P.Ord.cmp l.initial.self)
+      (map ended_of l.initial.ended.items)
+      (messages l.queue.items) (planned g.P.Ord.cmp l.self) (map ended_of l.ended.items);
+  before : l.self.flights.list.before ≡ l.initial.self.flights.list.before;
+}
 
 abbrev pub decreases-loop-message : goal.decreases-loop-message
 decreases-loop-message g l = length (messages l.queue.items) + in_system (planned g.P.Ord.cmp l.self)

@@ -6,8 +6,8 @@ use Rattle.link_pairs.proofs.Pairs.LookedUp.{arrivals_looked_up}
 use Rattle.link_waiting.proofs.Idle.FirstStart.{looks_so}
 use Rattle.link_events.proofs.ledger.Ledger.plan_start.Goals as goal
 
-pub returns : goal.returns
-returns g c =
+pub returns-clause-plans : goal.returns-clause-plans
+returns-clause-plans g c =
     let old = c.args.self.now in
     let start : c.map-self.result ≡ option_map (λ t. max c.args.now t) c.first.result = search rules in
     let fits : IfSome c.map-self.result (λ t. t ≤ last_moment) = search rules in

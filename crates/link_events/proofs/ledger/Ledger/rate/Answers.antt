@@ -1,4 +1,5 @@
 use Rattle.std.proofs.Common.{◌≡◌, ◌≢◌, length, not, true, sym, ap, ap₂, ◌∙◌, subst, All}
+use Rattle.std.proofs.Common.{Result, Ok, Err, OnOk}
 use Rattle.std.specs.List.{AllZip}
 use Rattle.std.proofs.lemmas.Bool.{false≢true, eq-eqb}
 use Rattle.fair_rates.specs.Sides.Caps.{Caps}
@@ -17,6 +18,11 @@ use Rattle.link_flights.proofs.Flights.Standing.{messages_read, messages_kept}
 use Rattle.link_waiting.proofs.Idle.IndexChanges.{same_flights_index}
 use Rattle.link_events.proofs.ledger.Ledger.rate.Goals as goal
 use Rattle.link_events.proofs.ledger.Ledger.rate.Goals.{then-were_fair, else-were_fair}
+
+-- what follows from what an answer ensures
+if_ok : {X E A B : Type 0} (r : Result X E) → OnOk r A → (A → B) → OnOk r B
+if_ok (Ok x) a f = f a
+if_ok (Err e) a f = tt
 
 pub rate-rated-requires-clause-left : goal.rate-rated-requires-clause-left
 rate-rated-requires-clause-left g c =
@@ -105,20 +111,22 @@ invariant_of-self g c =
     }
 
 pub returns-in-Ok-clause-accounts : goal.returns-in-Ok-clause-accounts
-returns-in-Ok-clause-accounts g c = λ old leavers lv.
+returns-in-Ok-clause-accounts g c =
     let here = c.args.self.now in
     let cmp = g.P.Ord.cmp in
     let flying = c.renew_units.new.self in
     let new = c.rate-rated.new.self in
     let h = c.in-Ok.ensures.rated in
     let moment : flying.at ≡ c.args.now = c.renew_units.ensures.at ∙ c.requires.moment in
-    let caps = ap (λ (p : Planned g.row.P.Denot). p.caps) lv.is in
     let at : new.at ≡ c.args.now = h.at ∙ moment in
+    if_ok c.enlarge_units.result c.enlarge_units.ensures.same (λ same old leavers lv.
+    let caps = ap (λ (p : Planned g.row.P.Denot). p.caps) lv.is in
     subst (λ (p : Planned g.row.P.Denot). Accounts cmp c.args.now old leavers p)
-    (sym (λ i. record (lv.is i) { sending = in_flight new; accounted = at i; finish = c.in-Ok.finish }))
+    (sym (same
+    ∙ (λ i. record (lv.is i) { sending = in_flight new; accounted = at i; finish = c.in-Ok.finish })))
     (accounts_so cmp c.args.now old flying.scale new.scale h.times flying.scaled new.scaled h.scale (in_units flying)
     (in_units new)
     (c.renew_units.ensures.sending ∙ ap (λ (p : Planned g.row.P.Denot). p.sending) lv.is)
     (subst (λ n. AllZip (IsRatedFrom n h.times) (in_units flying) (in_units new)) moment h.each)
     (subst (λ (k : Caps g.row.P.Denot). AreFairlyRated cmp k new.scale (in_units new)) caps h.fair)
-    leavers c.in-Ok.finish lv.left c.in-Ok.ensures.finish)
+    leavers c.in-Ok.finish lv.left c.in-Ok.ensures.finish))

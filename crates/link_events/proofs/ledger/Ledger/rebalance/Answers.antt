@@ -28,7 +28,7 @@ returns-clause-rebalances g c =
           (rebalances_looked g.P.Ord.cmp c.args.now p (planned g.P.Ord.cmp w.plan_start.new.self) out c.requires
           (none_flies c.args.self.now.flights.scale c.args.self.now.flights.at c.args.self.now.flights.list.items
           (sym c.is_empty.ensures ∙ w.if-is_empty.true))
-          w.plan_start.ensures
+          w.plan_start.ensures.plans
           (ap (λ v. map ended_of v.items) w.ended-is ∙ ap (map ended_of) c.new-ended.ensures.items))
       | else-is_empty+in_ok-settle w ↦ subst
           (λ (q : Planned g.row.P.Denot). Rebalances g.P.Ord.cmp c.args.now p.caps p (goes out q))

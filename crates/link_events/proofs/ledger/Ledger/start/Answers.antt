@@ -1,9 +1,7 @@
-use Rattle.std.proofs.Common.{◌≡◌, ◌+◌, subst, [], ◌∷◌, ◌++◌, length, map, Some, sym, ap, ◌∙◌, rules}
-use Rattle.link_waiting.specs.Idle.AtRest.{of_pairs}
-use Rattle.link_waiting.specs.Idle.Index.{IsIndexOf}
+use Rattle.std.proofs.Common.{◌≡◌, ◌+◌, [], ◌∷◌, ◌++◌, length, map, Some, sym, ap, ◌∙◌, rules}
 use Rattle.std.proofs.Math.Logic.{∥∥₁_map}
 use Rattle.fair_rates.specs.Numbers.Amount.{whole}
-use Rattle.link_simulation.specs.Simulation.Messages.{Message, OneForEachPair}
+use Rattle.link_simulation.specs.Simulation.Messages.{Message}
 use Rattle.link_simulation.specs.Rule.Planned.{RatedFlight, rated_messages}
 use Rattle.link_pairs.specs.declared.message.Message as code
 use Rattle.link_flights.specs.Flights.InFlight.{in_flight}
@@ -35,15 +33,15 @@ invariant_of-self-2 g c =
       one_each =
           ∣ one_joins cmp g.met.P.Ord.total (in_flight old.flights) (in_flight c.push.new.self) f
           (one_if_so cmp (rated_messages (in_flight old.flights)) old.one_each) (rw same c.requires.idle)
-          c.in_ok-push.ensures.sending ∣₁;
+          c.in_default.ensures.sending ∣₁;
       rated = λ e.
           ∥∥₁_map (old.rated e)
           (still_rated cmp (caps_of cmp old.peers.entries old.pairs.entries) old.flights c.push.new.self
-          c.push.ensures.scale c.push.ensures.rated c.push.ensures.timed);
+          c.push.ensures.scale c.in_default.ensures.rated c.push.ensures.timed);
       indexed =
           started_index cmp g.met.P.Ord.total old.pairs.entries old.waiting.messages (in_flight old.flights)
           (in_flight c.push.new.self) f old.idle.entries (arrivals_looked_up cmp g.met.P.Ord.total old.pairs.entries)
-          (rw same c.requires.alone) c.in_ok-push.ensures.sending old.indexed;
+          (rw same c.requires.alone) c.in_default.ensures.sending old.indexed;
     }
 
 pub returns-clause-started : goal.returns-clause-started
@@ -61,7 +59,7 @@ returns-clause-started g c =
       rate = Some (whole 0);
       updated = c.args.now;
     } ∷ [] =
-    c.in_ok-push.ensures.sending
+    c.in_default.ensures.sending
     ∙ ap
     (λ (v : code.Message g.row.P.Denot). in_flight old.flights
     ++ record {
@@ -80,23 +78,7 @@ returns-clause-started g c =
       waiting = sym (without_joined cmp g.met.P.Ord.total m (map message_of old.waiting.messages) c.requires.alone) i;
       last_arrival = arrival_of cmp old.pairs.entries;
       next_id = old.next_id + 1;
-      accounted = c.in_ok-push.ensures.joined.at i;
+      accounted = c.in_default.ensures.joined.at i;
       finish = old.finish;
       start = old.start;
-    }
-
-pub invariant_of-self : goal.invariant_of-self
-invariant_of-self g c =
-    let cmp = g.P.Ord.cmp in
-    let old = c.args.self.now in
-    record {
-      one_each =
-          subst (λ fs. ∥ OneForEachPair cmp (rated_messages fs) ∥₁) (sym c.in_err-push.ensures.kept) old.one_each;
-      rated = λ e.
-          ∥∥₁_map (old.rated e)
-          (still_rated cmp (caps_of cmp old.peers.entries old.pairs.entries) old.flights c.push.new.self
-          c.push.ensures.scale c.push.ensures.rated c.push.ensures.timed);
-      indexed =
-          subst (λ fs. IsIndexOf cmp (of_pairs cmp old.pairs.entries old.waiting.messages fs) old.idle.entries)
-          (sym c.in_err-push.ensures.kept) old.indexed;
     }

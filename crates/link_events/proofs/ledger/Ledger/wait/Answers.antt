@@ -29,7 +29,7 @@ returns-clause-enqueues g c =
       accounted = old.flights.at;
       finish = old.finish;
       start = old.start;
-    }) c.plan_start.ensures
+    }) c.plan_start.ensures.plans
 
 pub returns-clause-waits : goal.returns-clause-waits
 returns-clause-waits g c =
@@ -46,7 +46,7 @@ returns-clause-waits g c =
       accounted = old.flights.at;
       finish = old.finish;
       start = old.start;
-    }) c.plan_start.ensures
+    }) c.plan_start.ensures.plans
 
 pub invariant_of-self : goal.invariant_of-self
 invariant_of-self g c =

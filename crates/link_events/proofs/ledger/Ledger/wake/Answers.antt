@@ -1,4 +1,4 @@
-use Rattle.std.proofs.Common.{map, List, Option, refl, sym, subst}
+use Rattle.std.proofs.Common.{map, List, Option, refl, sym, subst, ◌∙◌}
 use Rattle.std.specs.List.{AllZip}
 use Rattle.std.proofs.lemmas.Result.{err_from_is_err_and}
 use Rattle.link_pairs.specs.declared.pair.PeerPair.{PeerPair}
@@ -18,15 +18,18 @@ use Rattle.link_events.proofs.ledger.Ledger.wake.Goals as goal
 
 pub loop-pair-init : goal.loop-pair-init
 loop-pair-init g c = record {
-  rest = ready_messages g.P.Ord.cmp c.args.now (planned g.P.Ord.cmp c.args.self.now);
-  are_keys =
-      subst
-      (λ (keys : List (PeerPair g.row.P.Denot)). AllZip (NamesPairOf g.P.Ord.cmp) keys
-      (ready_messages g.P.Ord.cmp c.args.now (planned g.P.Ord.cmp c.args.self.now)))
-      (sym c.deref-pair-items.ensures.value) c.in_ok-ready.ensures.ready;
-  so =
-      wakes_start g.P.Ord.cmp c.args.now (ready_messages g.P.Ord.cmp c.args.now (planned g.P.Ord.cmp c.args.self.now))
-      (planned g.P.Ord.cmp c.args.self.now) (map ended_of c.args.ended.now.items);
+  at = record {
+    rest = ready_messages g.P.Ord.cmp c.args.now (planned g.P.Ord.cmp c.args.self.now);
+    are_keys =
+        subst
+        (λ (keys : List (PeerPair g.row.P.Denot)). AllZip (NamesPairOf g.P.Ord.cmp) keys
+        (ready_messages g.P.Ord.cmp c.args.now (planned g.P.Ord.cmp c.args.self.now)))
+        (sym c.deref-pair-items.ensures.value) c.in_ok-ready.ensures.ready;
+    so =
+        wakes_start g.P.Ord.cmp c.args.now (ready_messages g.P.Ord.cmp c.args.now (planned g.P.Ord.cmp c.args.self.now))
+        (planned g.P.Ord.cmp c.args.self.now) (map ended_of c.args.ended.now.items);
+  };
+  before = refl;
 }
 
 pub returns-in_err-queue-clause-refused : goal.returns-in_err-queue-clause-refused
@@ -37,7 +40,7 @@ returns-in_err-queue-clause-refused g c =
     next_at g.P.Ord.cmp c.args.now (ready_messages g.P.Ord.cmp c.args.now (planned g.P.Ord.cmp c.args.self.now))
     (planned g.P.Ord.cmp c.args.self.now) (map ended_of c.args.ended.now.items) c.deref-pair-items.result.now
     c.loop-pair.pair-index here (map ended_of c.loop-pair.ended.items)
-    c.pair-item.result c.loop-pair.invariant c.loop-pair-test.true c.pair-item.is in
+    c.pair-item.result c.loop-pair.invariant.at c.loop-pair-test.true c.pair-item.is in
     rw (p.1, p.2)
     (wakes_launch_refused g.P.Ord.cmp c.args.now
     (ready_messages g.P.Ord.cmp c.args.now (planned g.P.Ord.cmp c.args.self.now))
@@ -56,7 +59,7 @@ returns-in_err-finish-clause-refused g c =
     next_at g.P.Ord.cmp c.args.now (ready_messages g.P.Ord.cmp c.args.now (planned g.P.Ord.cmp c.args.self.now))
     (planned g.P.Ord.cmp c.args.self.now) (map ended_of c.args.ended.now.items) c.deref-pair-items.result.now
     c.loop-pair.pair-index here (map ended_of c.loop-pair.ended.items)
-    c.pair-item.result c.loop-pair.invariant c.loop-pair-test.true c.pair-item.is in
+    c.pair-item.result c.loop-pair.invariant.at c.loop-pair-test.true c.pair-item.is in
     rw (p.1, p.2)
     (wakes_finish_refused g.P.Ord.cmp c.args.now
     (ready_messages g.P.Ord.cmp c.args.now (planned g.P.Ord.cmp c.args.self.now))
@@ -76,22 +79,25 @@ loop-pair-preserved g c =
     next_at g.P.Ord.cmp c.args.now (ready_messages g.P.Ord.cmp c.args.now (planned g.P.Ord.cmp c.args.self.now))
     (planned g.P.Ord.cmp c.args.self.now) (map ended_of c.args.ended.now.items) c.deref-pair-items.result.now
     c.loop-pair.pair-index here (map ended_of c.loop-pair.ended.items)
-    c.pair-item.result c.loop-pair.invariant c.loop-pair-test.true c.pair-item.is in
+    c.pair-item.result c.loop-pair.invariant.at c.loop-pair-test.true c.pair-item.is in
     let h = c.in_ok-finish.ensures.finishes in
     record {
-      rest = n.rest;
-      are_keys = n.are_keys;
-      so =
-          wakes_step g.P.Ord.cmp c.args.now
-          (ready_messages g.P.Ord.cmp c.args.now (planned g.P.Ord.cmp c.args.self.now))
-          (planned g.P.Ord.cmp c.args.self.now) (map ended_of c.args.ended.now.items) n.message n.rest
-          (messages c.in_ok-queue.queue.items) here (planned g.P.Ord.cmp c.launch.new.self)
-          (planned g.P.Ord.cmp c.finish.new.self)
-          (map ended_of c.loop-pair.ended.items) (map ended_of c.finish.new.ended.items) h.0 n.so
-          (of_message g.P.Ord.cmp g.met.P.Ord.total
-          (λ (q : Planned g.row.P.Denot) (first : Option (Message g.row.P.Denot)). Launches g.P.Ord.cmp c.args.now q
-          first (goes (messages c.in_ok-queue.queue.items) (planned g.P.Ord.cmp c.launch.new.self)))
-          here here c.pair-item.result n.message refl n.is_key c.in_ok-queue.ensures.launches) h.2 h.1;
+      before = c.finish.ensures.before ∙ c.launch.ensures.before ∙ c.loop-pair.invariant.before;
+      at = record {
+        rest = n.rest;
+        are_keys = n.are_keys;
+        so =
+            wakes_step g.P.Ord.cmp c.args.now
+            (ready_messages g.P.Ord.cmp c.args.now (planned g.P.Ord.cmp c.args.self.now))
+            (planned g.P.Ord.cmp c.args.self.now) (map ended_of c.args.ended.now.items) n.message n.rest
+            (messages c.in_ok-queue.queue.items) here (planned g.P.Ord.cmp c.launch.new.self)
+            (planned g.P.Ord.cmp c.finish.new.self)
+            (map ended_of c.loop-pair.ended.items) (map ended_of c.finish.new.ended.items) h.0 n.so
+            (of_message g.P.Ord.cmp g.met.P.Ord.total
+            (λ (q : Planned g.row.P.Denot) (first : Option (Message g.row.P.Denot)). Launches g.P.Ord.cmp c.args.now q
+            first (goes (messages c.in_ok-queue.queue.items) (planned g.P.Ord.cmp c.launch.new.self)))
+            here here c.pair-item.result n.message refl n.is_key c.in_ok-queue.ensures.launches) h.2 h.1;
+      };
     }
 
 pub returns-clause-wakes : goal.returns-clause-wakes
@@ -99,11 +105,11 @@ returns-clause-wakes g c =
     let here = planned g.P.Ord.cmp c.loop-pair.self in
     let w =
     wakes_end g.P.Ord.cmp c.args.now (ready_messages g.P.Ord.cmp c.args.now (planned g.P.Ord.cmp c.args.self.now))
-    (planned g.P.Ord.cmp c.args.self.now) (map ended_of c.args.ended.now.items) c.loop-pair.invariant.rest here
+    (planned g.P.Ord.cmp c.args.self.now) (map ended_of c.args.ended.now.items) c.loop-pair.invariant.at.rest here
     (planned g.P.Ord.cmp c.plan_start.new.self) (map ended_of c.loop-pair.ended.items)
-    c.loop-pair.invariant.so
+    c.loop-pair.invariant.at.so
     (none_at g.P.Ord.cmp c.args.now (ready_messages g.P.Ord.cmp c.args.now (planned g.P.Ord.cmp c.args.self.now))
     (planned g.P.Ord.cmp c.args.self.now) (map ended_of c.args.ended.now.items) c.deref-pair-items.result.now
-    c.loop-pair.pair-index here (map ended_of c.loop-pair.ended.items) c.loop-pair.invariant c.loop-pair-test.false)
-    c.plan_start.ensures in
+    c.loop-pair.pair-index here (map ended_of c.loop-pair.ended.items) c.loop-pair.invariant.at c.loop-pair-test.false)
+    c.plan_start.ensures.plans in
     (w.done, w.out, w.wakes)

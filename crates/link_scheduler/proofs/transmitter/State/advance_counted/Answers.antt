@@ -25,7 +25,7 @@ invariant_of-self-clause-right g c =
     (planned g.P.Ord.cmp c.args.self.now.ledger) (planned g.P.Ord.cmp c.rest.new.self) (call_advance c.args.now) []
     (same_itself g.P.Ord.cmp g.met.P.Ord.total (planned g.P.Ord.cmp c.args.self.now.ledger) c.args.self.now.caps
     c.args.self.now.arrivals)
-    c.args.self.now.right (0, c.rest.ensures)
+    c.args.self.now.right (0, c.rest.ensures.advances)
 
 pub invariant_of-self-clause-orderly : goal.invariant_of-self-clause-orderly
 invariant_of-self-clause-orderly g c =
@@ -33,7 +33,7 @@ invariant_of-self-clause-orderly g c =
     (planned g.P.Ord.cmp c.args.self.now.ledger) (planned g.P.Ord.cmp c.rest.new.self) (call_advance c.args.now) []
     (same_itself g.P.Ord.cmp g.met.P.Ord.total (planned g.P.Ord.cmp c.args.self.now.ledger) c.args.self.now.caps
     c.args.self.now.arrivals)
-    c.args.self.now.orderly (0, c.rest.ensures)
+    c.args.self.now.orderly (0, c.rest.ensures.advances)
 
 pub returns-then-is_quiet-clause-made : goal.returns-then-is_quiet-clause-made
 returns-then-is_quiet-clause-made g c =
@@ -43,7 +43,7 @@ returns-then-is_quiet-clause-made g c =
     (planned g.P.Ord.cmp c.args.self.now.ledger) (planned g.P.Ord.cmp c.rest.new.self) []
     (same_itself g.P.Ord.cmp g.met.P.Ord.total (planned g.P.Ord.cmp c.args.self.now.ledger) c.args.self.now.caps
     c.args.self.now.arrivals)
-    c.rest.ensures in
+    c.rest.ensures.advances in
     rw (ap (map completed_of) c.new.ensures.items)
     (promised_if g.P.Ord.cmp g.met.P.Ord.total (planned g.P.Ord.cmp c.args.self.now.ledger)
     (planned g.P.Ord.cmp c.rest.new.self) (call_advance c.args.now) c.args.now [] refl c.ranges.now.fits
@@ -59,7 +59,7 @@ returns-then-is_quiet-clause-advanced g c =
     (planned g.P.Ord.cmp c.args.self.now.ledger) (planned g.P.Ord.cmp c.rest.new.self) []
     (same_itself g.P.Ord.cmp g.met.P.Ord.total (planned g.P.Ord.cmp c.args.self.now.ledger) c.args.self.now.caps
     c.args.self.now.arrivals)
-    c.rest.ensures in
+    c.rest.ensures.advances in
     let went : GoesByRule g.P.Ord.cmp (planned g.P.Ord.cmp c.args.self.now.ledger) (call_advance c.args.now) []
     (planned g.P.Ord.cmp c.rest.new.self) =
     counted_goes g.P.Ord.cmp g.met.P.Ord.total c.args.now 0 (planned g.P.Ord.cmp c.args.self.now.ledger)
@@ -82,7 +82,7 @@ returns-then-is_quiet-clause-counted g c =
     (planned g.P.Ord.cmp c.args.self.now.ledger) (planned g.P.Ord.cmp c.rest.new.self) []
     (same_itself g.P.Ord.cmp g.met.P.Ord.total (planned g.P.Ord.cmp c.args.self.now.ledger) c.args.self.now.caps
     c.args.self.now.arrivals)
-    c.rest.ensures in
+    c.rest.ensures.advances in
     record {
       by_rule = rw (ap (map completed_of) c.new.ensures.items) rested;
       few = omega arith;

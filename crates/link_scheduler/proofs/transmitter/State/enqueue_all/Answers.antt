@@ -5,68 +5,92 @@ use Rattle.fair_rates.specs.declared.error.Error.TheVariants.{OutOfMemory}
 use Rattle.link_events.specs.Steps.AsPlanned.{planned}
 use Rattle.link_events.specs.Steps.Outgoing.{outgoing}
 use Rattle.link_pairs.specs.Pairs.Messages.{completed_of}
-use Rattle.link_scheduler.proofs.Calls.OneByOne.{copies_promised, copies_refused}
 use Rattle.link_pairs.proofs.Pairs.LookedUp.{looked_up, arrivals_looked_up}
+use Rattle.link_scheduler.proofs.Calls.OneByOne.{copies_refused}
+use Rattle.link_scheduler.proofs.Calls.Concluded.{same_state, can_be_put_back, unchanged, sends_are}
 use Rattle.link_scheduler.proofs.transmitter.State.enqueue_all.Goals as goal
 
-pub returns-in_err-ledger-clause-refused : goal.returns-in_err-ledger-clause-refused
-returns-in_err-ledger-clause-refused g c =
+pub returns-in_err-kept-clause-refused : goal.returns-in_err-kept-clause-refused
+returns-in_err-kept-clause-refused g c =
     let p = err_from_is_err_and c.from_residual.result c.from_residual.ensures.1 in
     let some : length c.args.messages.items ≢ 0 = search rules in
     let sent : length (map outgoing c.args.messages.items) ≢ 0 =
     λ e. some (sym (length-map c.args.messages.items outgoing) ∙ e) in
-    rw (p.1, p.2)
+    rw (p.1, p.2, c.in_err-kept.ensures.refused)
     (copies_refused g.P.Ord.cmp g.met.P.Ord.total c.args.now c.ranges.now.fits (map outgoing c.args.messages.items)
     (planned g.P.Ord.cmp c.args.self.now.ledger) (planned g.P.Ord.cmp c.args.self.now.ledger) OutOfMemory refl sent tt
     c.args.self.now.caps c.args.self.now.arrivals c.args.self.now.orderly)
 
-pub returns-in_err-completions-clause-refused : goal.returns-in_err-completions-clause-refused
-returns-in_err-completions-clause-refused g c =
-    let p =
-    err_from_is_err_and c.from_residual-in_err-completions.result c.from_residual-in_err-completions.ensures.1 in
+pub conclude-requires : goal.conclude-requires
+conclude-requires g c =
+    can_be_put_back c.args.self.now.ledger c.keep.new.self c.answer_enqueue_all-answer.new.self c.in_ok-kept.kept
+    c.in_ok-kept.ensures.kept c.answer_enqueue_all-answer.ensures.before
+
+pub invariant_of-self : goal.invariant_of-self
+invariant_of-self g c =
+    let old = c.args.self.now in
+    rw c.in_err-kept.ensures.unchanged (record {
+      caps = old.caps;
+      arrivals = old.arrivals;
+      right = old.right;
+      orderly = old.orderly;
+      marked = old.marked;
+    })
+
+pub returns-in_err-kept-clause-unchanged : goal.returns-in_err-kept-clause-unchanged
+returns-in_err-kept-clause-unchanged g c =
+    let p = err_from_is_err_and c.from_residual.result c.from_residual.ensures.1 in
+    rw p.1 (same_state g.row.P.coded c.args.self.now _ c.in_err-kept.ensures.unchanged)
+
+pub invariant_of-self-2 : goal.invariant_of-self-2
+invariant_of-self-2 g c =
     let some : length c.args.messages.items ≢ 0 = search rules in
     let sent : length (map outgoing c.args.messages.items) ≢ 0 =
     λ e. some (sym (length-map c.args.messages.items outgoing) ∙ e) in
-    rw (p.1, p.2)
-    (copies_refused g.P.Ord.cmp g.met.P.Ord.total c.args.now c.ranges.now.fits (map outgoing c.args.messages.items)
-    (planned g.P.Ord.cmp c.args.self.now.ledger) (planned g.P.Ord.cmp c.in_ok-ledger.ledger) _
-    c.in_ok-ledger.ensures.cases sent c.in_err-completions.ensures.refused
-    c.args.self.now.caps c.args.self.now.arrivals c.args.self.now.orderly)
-
-pub invariant_of-self-clause-caps : goal.invariant_of-self-clause-caps
-invariant_of-self-clause-caps g c =
-    looked_up g.P.Ord.cmp g.met.P.Ord.total c.replace_by.new.self.peers.entries c.replace_by.new.self.pairs.entries
-
-pub invariant_of-self-clause-arrivals : goal.invariant_of-self-clause-arrivals
-invariant_of-self-clause-arrivals g c =
-    arrivals_looked_up g.P.Ord.cmp g.met.P.Ord.total c.replace_by.new.self.pairs.entries
-
-pub invariant_of-self-clause-right : goal.invariant_of-self-clause-right
-invariant_of-self-clause-right g c =
-    (copies_promised g.P.Ord.cmp g.met.P.Ord.total c.args.now c.ranges.now.fits (map outgoing c.args.messages.items)
-    (planned g.P.Ord.cmp c.args.self.now.ledger) (planned g.P.Ord.cmp c.in_ok-ledger.ledger)
-    (planned g.P.Ord.cmp c.replace_by.new.self)
-    c.in_ok-completions.ensures.answered.completed (map completed_of c.in_ok-completions.completions.items)
-    c.in_ok-ledger.ensures.cases (rw c.replace_by.ensures c.in_ok-completions.ensures.answered.obeys)
-    c.in_ok-completions.ensures.answered.same c.args.self.now.caps c.args.self.now.arrivals
-    c.args.self.now.right c.args.self.now.orderly).right
-
-pub invariant_of-self-clause-orderly : goal.invariant_of-self-clause-orderly
-invariant_of-self-clause-orderly g c =
-    (copies_promised g.P.Ord.cmp g.met.P.Ord.total c.args.now c.ranges.now.fits (map outgoing c.args.messages.items)
-    (planned g.P.Ord.cmp c.args.self.now.ledger) (planned g.P.Ord.cmp c.in_ok-ledger.ledger)
-    (planned g.P.Ord.cmp c.replace_by.new.self)
-    c.in_ok-completions.ensures.answered.completed (map completed_of c.in_ok-completions.completions.items)
-    c.in_ok-ledger.ensures.cases (rw c.replace_by.ensures c.in_ok-completions.ensures.answered.obeys)
-    c.in_ok-completions.ensures.answered.same c.args.self.now.caps c.args.self.now.arrivals
-    c.args.self.now.right c.args.self.now.orderly).orderly
+    let so =
+    sends_are g.met.P.Ord.total c.args.self.now c.in_ok-kept.kept c.keep.new.self c.answer_enqueue_all-answer.new.self
+    c.conclude.new.self c.in_ok-kept.ensures.kept c.in_ok-kept.ensures.same c.answer_enqueue_all-answer.ensures.before
+    c.answer_enqueue_all-answer.result c.conclude.ensures.made c.conclude.ensures.unchanged (λ done. map completed_of done.items)
+    c.args.now c.ranges.now.fits (map outgoing c.args.messages.items) sent
+    c.answer_enqueue_all-answer.ensures.answered c.answer_enqueue_all-answer.ensures.refused in
+    let new = c.conclude.new.self in
+    record {
+      caps = looked_up g.P.Ord.cmp g.met.P.Ord.total new.peers.entries new.pairs.entries;
+      arrivals = arrivals_looked_up g.P.Ord.cmp g.met.P.Ord.total new.pairs.entries;
+      right = so.right;
+      orderly = so.orderly;
+      marked = c.conclude.ensures.marked;
+    }
 
 pub returns-clause-made : goal.returns-clause-made
 returns-clause-made g c =
-    (copies_promised g.P.Ord.cmp g.met.P.Ord.total c.args.now c.ranges.now.fits (map outgoing c.args.messages.items)
-    (planned g.P.Ord.cmp c.args.self.now.ledger) (planned g.P.Ord.cmp c.in_ok-ledger.ledger)
-    (planned g.P.Ord.cmp c.replace_by.new.self)
-    c.in_ok-completions.ensures.answered.completed (map completed_of c.in_ok-completions.completions.items)
-    c.in_ok-ledger.ensures.cases (rw c.replace_by.ensures c.in_ok-completions.ensures.answered.obeys)
-    c.in_ok-completions.ensures.answered.same c.args.self.now.caps c.args.self.now.arrivals
-    c.args.self.now.right c.args.self.now.orderly).made
+    let some : length c.args.messages.items ≢ 0 = search rules in
+    let sent : length (map outgoing c.args.messages.items) ≢ 0 =
+    λ e. some (sym (length-map c.args.messages.items outgoing) ∙ e) in
+    let so =
+    sends_are g.met.P.Ord.total c.args.self.now c.in_ok-kept.kept c.keep.new.self c.answer_enqueue_all-answer.new.self
+    c.conclude.new.self c.in_ok-kept.ensures.kept c.in_ok-kept.ensures.same c.answer_enqueue_all-answer.ensures.before
+    c.answer_enqueue_all-answer.result c.conclude.ensures.made c.conclude.ensures.unchanged (λ done. map completed_of done.items)
+    c.args.now c.ranges.now.fits (map outgoing c.args.messages.items) sent
+    c.answer_enqueue_all-answer.ensures.answered c.answer_enqueue_all-answer.ensures.refused in
+    rw c.conclude.ensures.answer so.good
+
+pub returns-clause-refused : goal.returns-clause-refused
+returns-clause-refused g c =
+    let some : length c.args.messages.items ≢ 0 = search rules in
+    let sent : length (map outgoing c.args.messages.items) ≢ 0 =
+    λ e. some (sym (length-map c.args.messages.items outgoing) ∙ e) in
+    let so =
+    sends_are g.met.P.Ord.total c.args.self.now c.in_ok-kept.kept c.keep.new.self c.answer_enqueue_all-answer.new.self
+    c.conclude.new.self c.in_ok-kept.ensures.kept c.in_ok-kept.ensures.same c.answer_enqueue_all-answer.ensures.before
+    c.answer_enqueue_all-answer.result c.conclude.ensures.made c.conclude.ensures.unchanged (λ done. map completed_of done.items)
+    c.args.now c.ranges.now.fits (map outgoing c.args.messages.items) sent
+    c.answer_enqueue_all-answer.ensures.answered c.answer_enqueue_all-answer.ensures.refused in
+    rw c.conclude.ensures.answer so.bad
+
+pub returns-clause-unchanged : goal.returns-clause-unchanged
+returns-clause-unchanged g c =
+    rw c.conclude.ensures.answer
+    (unchanged g.met.P.Ord.total c.args.self.now c.in_ok-kept.kept c.keep.new.self c.answer_enqueue_all-answer.new.self
+    c.conclude.new.self c.in_ok-kept.ensures.kept c.in_ok-kept.ensures.same c.answer_enqueue_all-answer.ensures.before
+    c.answer_enqueue_all-answer.result c.conclude.ensures.made c.conclude.ensures.unchanged g.row.P.coded _ refl)

@@ -4,79 +4,112 @@ use Rattle.link_simulation.specs.Simulation.Calls.{call_advance}
 use Rattle.link_events.specs.Steps.AsPlanned.{planned}
 use Rattle.link_pairs.specs.Pairs.Messages.{completed_of}
 use Rattle.link_pairs.proofs.Pairs.LookedUp.{looked_up, arrivals_looked_up}
-use Rattle.link_scheduler.proofs.Calls.Answered.{advanced_on_copy, refused_on_copy}
 use Rattle.link_scheduler.proofs.Calls.Calling.{counted_goes}
+use Rattle.link_scheduler.proofs.Calls.Concluded.{same_state, can_be_put_back, unchanged, if_ok_map, advance_is}
 use Rattle.link_scheduler.proofs.Calls.Promises.{promised_if, split_on, within_caps_on}
 use Rattle.link_scheduler.proofs.transmitter.State.handle_events.Goals as goal
 
-pub returns-in_err-completions-clause-refused : goal.returns-in_err-completions-clause-refused
-returns-in_err-completions-clause-refused g c =
-    let p =
-    err_from_is_err_and c.from_residual-in_err-completions.result c.from_residual-in_err-completions.ensures.1 in
-    rw (p.1, p.2)
-    (refused_on_copy g.P.Ord.cmp g.met.P.Ord.total (planned g.P.Ord.cmp c.args.self.now.ledger)
-    (planned g.P.Ord.cmp c.in_ok-ledger.ledger)
-    (call_advance c.args.now)
-    c.args.now _ refl c.ranges.now.fits
-    c.in_ok-ledger.ensures.cases c.in_err-completions.ensures.refused)
+pub conclude-requires : goal.conclude-requires
+conclude-requires g c =
+    can_be_put_back c.args.self.now.ledger c.keep.new.self c.answer_advance-answer.new.self c.in_ok-kept.kept
+    c.in_ok-kept.ensures.kept c.answer_advance-answer.ensures.before
 
-pub invariant_of-self-clause-caps : goal.invariant_of-self-clause-caps
-invariant_of-self-clause-caps g c =
-    looked_up g.P.Ord.cmp g.met.P.Ord.total c.replace_by.new.self.peers.entries c.replace_by.new.self.pairs.entries
+pub invariant_of-self : goal.invariant_of-self
+invariant_of-self g c =
+    let old = c.args.self.now in
+    rw c.in_err-kept.ensures.unchanged (record {
+      caps = old.caps;
+      arrivals = old.arrivals;
+      right = old.right;
+      orderly = old.orderly;
+      marked = old.marked;
+    })
 
-pub invariant_of-self-clause-arrivals : goal.invariant_of-self-clause-arrivals
-invariant_of-self-clause-arrivals g c =
-    arrivals_looked_up g.P.Ord.cmp g.met.P.Ord.total c.replace_by.new.self.pairs.entries
+pub returns-in_err-kept-clause-unchanged : goal.returns-in_err-kept-clause-unchanged
+returns-in_err-kept-clause-unchanged g c =
+    let p = err_from_is_err_and c.from_residual.result c.from_residual.ensures.1 in
+    rw p.1 (same_state g.row.P.coded c.args.self.now _ c.in_err-kept.ensures.unchanged)
 
-pub invariant_of-self-clause-right : goal.invariant_of-self-clause-right
-invariant_of-self-clause-right g c =
-    (advanced_on_copy g.P.Ord.cmp g.met.P.Ord.total c.args.now c.in_ok-completions.events
-    (planned g.P.Ord.cmp c.args.self.now.ledger) (planned g.P.Ord.cmp c.in_ok-ledger.ledger)
-    (planned g.P.Ord.cmp c.answer_advance.new.self) (planned g.P.Ord.cmp c.replace_by.new.self)
-    (map completed_of c.in_ok-completions.completions.items) c.in_ok-ledger.ensures.cases
-    c.in_ok-completions.ensures.answered c.replace_by.ensures c.args.self.now.caps c.args.self.now.arrivals
-    c.args.self.now.right c.args.self.now.orderly).right
-
-pub invariant_of-self-clause-orderly : goal.invariant_of-self-clause-orderly
-invariant_of-self-clause-orderly g c =
-    (advanced_on_copy g.P.Ord.cmp g.met.P.Ord.total c.args.now c.in_ok-completions.events
-    (planned g.P.Ord.cmp c.args.self.now.ledger) (planned g.P.Ord.cmp c.in_ok-ledger.ledger)
-    (planned g.P.Ord.cmp c.answer_advance.new.self) (planned g.P.Ord.cmp c.replace_by.new.self)
-    (map completed_of c.in_ok-completions.completions.items) c.in_ok-ledger.ensures.cases
-    c.in_ok-completions.ensures.answered c.replace_by.ensures c.args.self.now.caps c.args.self.now.arrivals
-    c.args.self.now.right c.args.self.now.orderly).orderly
+pub invariant_of-self-2 : goal.invariant_of-self-2
+invariant_of-self-2 g c =
+    let so =
+    advance_is g.met.P.Ord.total c.args.self.now c.in_ok-kept.kept c.keep.new.self c.answer_advance-answer.new.self
+    c.conclude.new.self c.in_ok-kept.ensures.kept c.in_ok-kept.ensures.same c.answer_advance-answer.ensures.before
+    c.answer_advance-answer.result c.conclude.ensures.made c.conclude.ensures.unchanged (λ answer. answer.1)
+    (λ answer. map completed_of answer.0.items) c.args.now c.ranges.now.fits
+    c.answer_advance-answer.ensures.answered c.answer_advance-answer.ensures.refused in
+    let new = c.conclude.new.self in
+    record {
+      caps = looked_up g.P.Ord.cmp g.met.P.Ord.total new.peers.entries new.pairs.entries;
+      arrivals = arrivals_looked_up g.P.Ord.cmp g.met.P.Ord.total new.pairs.entries;
+      right = so.right;
+      orderly = so.orderly;
+      marked = c.conclude.ensures.marked;
+    }
 
 pub returns-clause-counted : goal.returns-clause-counted
 returns-clause-counted g c =
-    let so = advanced_on_copy g.P.Ord.cmp g.met.P.Ord.total c.args.now c.in_ok-completions.events
-    (planned g.P.Ord.cmp c.args.self.now.ledger) (planned g.P.Ord.cmp c.in_ok-ledger.ledger)
-    (planned g.P.Ord.cmp c.answer_advance.new.self) (planned g.P.Ord.cmp c.replace_by.new.self)
-    (map completed_of c.in_ok-completions.completions.items) c.in_ok-ledger.ensures.cases
-    c.in_ok-completions.ensures.answered c.replace_by.ensures c.args.self.now.caps c.args.self.now.arrivals
-    c.args.self.now.right c.args.self.now.orderly in
-    record { by_rule = so.by_rule; few = so.few }
+    let so =
+    advance_is g.met.P.Ord.total c.args.self.now c.in_ok-kept.kept c.keep.new.self c.answer_advance-answer.new.self
+    c.conclude.new.self c.in_ok-kept.ensures.kept c.in_ok-kept.ensures.same c.answer_advance-answer.ensures.before
+    c.answer_advance-answer.result c.conclude.ensures.made c.conclude.ensures.unchanged (λ answer. answer.1)
+    (λ answer. map completed_of answer.0.items) c.args.now c.ranges.now.fits
+    c.answer_advance-answer.ensures.answered c.answer_advance-answer.ensures.refused in
+    rw c.conclude.ensures.answer
+    (if_ok_map c.answer_advance-answer.result (λ answer h. record { by_rule = h.by_rule; few = h.few }) so.good)
 
 pub returns-clause-made : goal.returns-clause-made
 returns-clause-made g c =
-    promised_if g.P.Ord.cmp g.met.P.Ord.total (planned g.P.Ord.cmp c.args.self.now.ledger)
-    (planned g.P.Ord.cmp c.replace_by.new.self) (call_advance c.args.now) c.args.now
-    (map completed_of c.in_ok-completions.completions.items) refl c.ranges.now.fits c.args.self.now.orderly
-    (counted_goes g.P.Ord.cmp g.met.P.Ord.total c.args.now c.in_ok-completions.events
-    (planned g.P.Ord.cmp c.args.self.now.ledger) (planned g.P.Ord.cmp c.replace_by.new.self)
-    (map completed_of c.in_ok-completions.completions.items) (returns-clause-counted g c).by_rule)
+    let cmp = g.P.Ord.cmp in
+    let old = planned cmp c.args.self.now.ledger in
+    let new = planned cmp c.conclude.new.self in
+    let so =
+    advance_is g.met.P.Ord.total c.args.self.now c.in_ok-kept.kept c.keep.new.self c.answer_advance-answer.new.self
+    c.conclude.new.self c.in_ok-kept.ensures.kept c.in_ok-kept.ensures.same c.answer_advance-answer.ensures.before
+    c.answer_advance-answer.result c.conclude.ensures.made c.conclude.ensures.unchanged (λ answer. answer.1)
+    (λ answer. map completed_of answer.0.items) c.args.now c.ranges.now.fits
+    c.answer_advance-answer.ensures.answered c.answer_advance-answer.ensures.refused in
+    rw c.conclude.ensures.answer
+    (if_ok_map c.answer_advance-answer.result (λ answer h.
+    promised_if cmp g.met.P.Ord.total old new (call_advance c.args.now) c.args.now (map completed_of answer.0.items)
+    refl c.ranges.now.fits c.args.self.now.orderly
+    (counted_goes cmp g.met.P.Ord.total c.args.now answer.1 old new (map completed_of answer.0.items) h.by_rule))
+    so.good)
 
 pub returns-clause-advanced : goal.returns-clause-advanced
 returns-clause-advanced g c =
-    let went = counted_goes g.P.Ord.cmp g.met.P.Ord.total c.args.now c.in_ok-completions.events
-    (planned g.P.Ord.cmp c.args.self.now.ledger) (planned g.P.Ord.cmp c.replace_by.new.self)
-    (map completed_of c.in_ok-completions.completions.items) (returns-clause-counted g c).by_rule in
+    let cmp = g.P.Ord.cmp in
+    let old = planned cmp c.args.self.now.ledger in
+    let new = planned cmp c.conclude.new.self in
+    let so =
+    advance_is g.met.P.Ord.total c.args.self.now c.in_ok-kept.kept c.keep.new.self c.answer_advance-answer.new.self
+    c.conclude.new.self c.in_ok-kept.ensures.kept c.in_ok-kept.ensures.same c.answer_advance-answer.ensures.before
+    c.answer_advance-answer.result c.conclude.ensures.made c.conclude.ensures.unchanged (λ answer. answer.1)
+    (λ answer. map completed_of answer.0.items) c.args.now c.ranges.now.fits
+    c.answer_advance-answer.ensures.answered c.answer_advance-answer.ensures.refused in
+    rw c.conclude.ensures.answer
+    (if_ok_map c.answer_advance-answer.result (λ answer h.
+    let cs = map completed_of answer.0.items in
+    let went = counted_goes cmp g.met.P.Ord.total c.args.now answer.1 old new cs h.by_rule in
     record {
-      split =
-          split_on g.P.Ord.cmp g.met.P.Ord.total (planned g.P.Ord.cmp c.args.self.now.ledger)
-          (planned g.P.Ord.cmp c.replace_by.new.self) c.args.now
-          (map completed_of c.in_ok-completions.completions.items) c.ranges.now.fits went;
-      within_caps =
-          within_caps_on g.P.Ord.cmp g.met.P.Ord.total (planned g.P.Ord.cmp c.args.self.now.ledger)
-          (planned g.P.Ord.cmp c.replace_by.new.self) c.args.now
-          (map completed_of c.in_ok-completions.completions.items) c.ranges.now.fits went;
-    }
+      split = split_on cmp g.met.P.Ord.total old new c.args.now cs c.ranges.now.fits went;
+      within_caps = within_caps_on cmp g.met.P.Ord.total old new c.args.now cs c.ranges.now.fits went;
+    })
+    so.good)
+
+pub returns-clause-refused : goal.returns-clause-refused
+returns-clause-refused g c =
+    let so =
+    advance_is g.met.P.Ord.total c.args.self.now c.in_ok-kept.kept c.keep.new.self c.answer_advance-answer.new.self
+    c.conclude.new.self c.in_ok-kept.ensures.kept c.in_ok-kept.ensures.same c.answer_advance-answer.ensures.before
+    c.answer_advance-answer.result c.conclude.ensures.made c.conclude.ensures.unchanged (λ answer. answer.1)
+    (λ answer. map completed_of answer.0.items) c.args.now c.ranges.now.fits
+    c.answer_advance-answer.ensures.answered c.answer_advance-answer.ensures.refused in
+    rw c.conclude.ensures.answer so.bad
+
+pub returns-clause-unchanged : goal.returns-clause-unchanged
+returns-clause-unchanged g c =
+    rw c.conclude.ensures.answer
+    (unchanged g.met.P.Ord.total c.args.self.now c.in_ok-kept.kept c.keep.new.self c.answer_advance-answer.new.self
+    c.conclude.new.self c.in_ok-kept.ensures.kept c.in_ok-kept.ensures.same c.answer_advance-answer.ensures.before
+    c.answer_advance-answer.result c.conclude.ensures.made c.conclude.ensures.unchanged g.row.P.coded _ refl)

@@ -1,57 +1,72 @@
 use Rattle.std.proofs.Common.{map, refl}
 use Rattle.std.proofs.lemmas.Result.{err_from_is_err_and}
 use Rattle.link_simulation.specs.Simulation.Calls.{call_limit_link}
-use Rattle.link_events.specs.Steps.AsPlanned.{planned}
 use Rattle.link_pairs.specs.Pairs.Messages.{completed_of}
 use Rattle.link_pairs.proofs.Pairs.LookedUp.{looked_up, arrivals_looked_up}
-use Rattle.link_scheduler.proofs.Calls.Answered.{made_on_copy, refused_on_copy}
+use Rattle.link_scheduler.proofs.Calls.Concluded.{same_state, can_be_put_back, unchanged, call_is}
 use Rattle.link_scheduler.proofs.transmitter.State.limit_link.Goals as goal
 
-pub returns-in_err-completions-clause-refused : goal.returns-in_err-completions-clause-refused
-returns-in_err-completions-clause-refused g c =
-    let p =
-    err_from_is_err_and c.from_residual-in_err-completions.result c.from_residual-in_err-completions.ensures.1 in
-    rw (p.1, p.2)
-    (refused_on_copy g.P.Ord.cmp g.met.P.Ord.total (planned g.P.Ord.cmp c.args.self.now.ledger)
-    (planned g.P.Ord.cmp c.in_ok-ledger.ledger)
-    (call_limit_link c.args.now c.args.origin.now c.args.recipient.now c.args.cap)
-    c.args.now _ refl c.ranges.now.fits
-    c.in_ok-ledger.ensures.cases c.in_err-completions.ensures.refused)
+pub conclude-requires : goal.conclude-requires
+conclude-requires g c =
+    can_be_put_back c.args.self.now.ledger c.keep.new.self c.answer_limit_link-answer.new.self c.in_ok-kept.kept
+    c.in_ok-kept.ensures.kept c.answer_limit_link-answer.ensures.before
 
-pub invariant_of-self-clause-caps : goal.invariant_of-self-clause-caps
-invariant_of-self-clause-caps g c =
-    looked_up g.P.Ord.cmp g.met.P.Ord.total c.replace_by.new.self.peers.entries c.replace_by.new.self.pairs.entries
+pub invariant_of-self : goal.invariant_of-self
+invariant_of-self g c =
+    let old = c.args.self.now in
+    rw c.in_err-kept.ensures.unchanged (record {
+      caps = old.caps;
+      arrivals = old.arrivals;
+      right = old.right;
+      orderly = old.orderly;
+      marked = old.marked;
+    })
 
-pub invariant_of-self-clause-arrivals : goal.invariant_of-self-clause-arrivals
-invariant_of-self-clause-arrivals g c =
-    arrivals_looked_up g.P.Ord.cmp g.met.P.Ord.total c.replace_by.new.self.pairs.entries
+pub returns-in_err-kept-clause-unchanged : goal.returns-in_err-kept-clause-unchanged
+returns-in_err-kept-clause-unchanged g c =
+    let p = err_from_is_err_and c.from_residual.result c.from_residual.ensures.1 in
+    rw p.1 (same_state g.row.P.coded c.args.self.now _ c.in_err-kept.ensures.unchanged)
 
-pub invariant_of-self-clause-right : goal.invariant_of-self-clause-right
-invariant_of-self-clause-right g c =
-    (made_on_copy g.P.Ord.cmp g.met.P.Ord.total (planned g.P.Ord.cmp c.args.self.now.ledger)
-    (planned g.P.Ord.cmp c.in_ok-ledger.ledger) (planned g.P.Ord.cmp c.answer_limit_link.new.self)
-    (planned g.P.Ord.cmp c.replace_by.new.self)
-    (call_limit_link c.args.now c.args.origin.now c.args.recipient.now c.args.cap) c.args.now
-    (map completed_of c.in_ok-completions.completions.items) refl c.ranges.now.fits c.in_ok-ledger.ensures.cases
-    c.in_ok-completions.ensures.answered c.replace_by.ensures c.args.self.now.caps c.args.self.now.arrivals
-    c.args.self.now.right c.args.self.now.orderly).right
-
-pub invariant_of-self-clause-orderly : goal.invariant_of-self-clause-orderly
-invariant_of-self-clause-orderly g c =
-    (made_on_copy g.P.Ord.cmp g.met.P.Ord.total (planned g.P.Ord.cmp c.args.self.now.ledger)
-    (planned g.P.Ord.cmp c.in_ok-ledger.ledger) (planned g.P.Ord.cmp c.answer_limit_link.new.self)
-    (planned g.P.Ord.cmp c.replace_by.new.self)
-    (call_limit_link c.args.now c.args.origin.now c.args.recipient.now c.args.cap) c.args.now
-    (map completed_of c.in_ok-completions.completions.items) refl c.ranges.now.fits c.in_ok-ledger.ensures.cases
-    c.in_ok-completions.ensures.answered c.replace_by.ensures c.args.self.now.caps c.args.self.now.arrivals
-    c.args.self.now.right c.args.self.now.orderly).orderly
+pub invariant_of-self-2 : goal.invariant_of-self-2
+invariant_of-self-2 g c =
+    let so =
+    call_is g.met.P.Ord.total c.args.self.now c.in_ok-kept.kept c.keep.new.self c.answer_limit_link-answer.new.self
+    c.conclude.new.self c.in_ok-kept.ensures.kept c.in_ok-kept.ensures.same c.answer_limit_link-answer.ensures.before
+    c.answer_limit_link-answer.result c.conclude.ensures.made c.conclude.ensures.unchanged (λ done. map completed_of done.items)
+    (call_limit_link c.args.now c.args.origin.now c.args.recipient.now c.args.cap) c.args.now c.ranges.now.fits refl
+    c.answer_limit_link-answer.ensures.answered c.answer_limit_link-answer.ensures.refused in
+    let new = c.conclude.new.self in
+    record {
+      caps = looked_up g.P.Ord.cmp g.met.P.Ord.total new.peers.entries new.pairs.entries;
+      arrivals = arrivals_looked_up g.P.Ord.cmp g.met.P.Ord.total new.pairs.entries;
+      right = so.right;
+      orderly = so.orderly;
+      marked = c.conclude.ensures.marked;
+    }
 
 pub returns-clause-made : goal.returns-clause-made
 returns-clause-made g c =
-    (made_on_copy g.P.Ord.cmp g.met.P.Ord.total (planned g.P.Ord.cmp c.args.self.now.ledger)
-    (planned g.P.Ord.cmp c.in_ok-ledger.ledger) (planned g.P.Ord.cmp c.answer_limit_link.new.self)
-    (planned g.P.Ord.cmp c.replace_by.new.self)
-    (call_limit_link c.args.now c.args.origin.now c.args.recipient.now c.args.cap) c.args.now
-    (map completed_of c.in_ok-completions.completions.items) refl c.ranges.now.fits c.in_ok-ledger.ensures.cases
-    c.in_ok-completions.ensures.answered c.replace_by.ensures c.args.self.now.caps c.args.self.now.arrivals
-    c.args.self.now.right c.args.self.now.orderly).made
+    let so =
+    call_is g.met.P.Ord.total c.args.self.now c.in_ok-kept.kept c.keep.new.self c.answer_limit_link-answer.new.self
+    c.conclude.new.self c.in_ok-kept.ensures.kept c.in_ok-kept.ensures.same c.answer_limit_link-answer.ensures.before
+    c.answer_limit_link-answer.result c.conclude.ensures.made c.conclude.ensures.unchanged (λ done. map completed_of done.items)
+    (call_limit_link c.args.now c.args.origin.now c.args.recipient.now c.args.cap) c.args.now c.ranges.now.fits refl
+    c.answer_limit_link-answer.ensures.answered c.answer_limit_link-answer.ensures.refused in
+    rw c.conclude.ensures.answer so.good
+
+pub returns-clause-refused : goal.returns-clause-refused
+returns-clause-refused g c =
+    let so =
+    call_is g.met.P.Ord.total c.args.self.now c.in_ok-kept.kept c.keep.new.self c.answer_limit_link-answer.new.self
+    c.conclude.new.self c.in_ok-kept.ensures.kept c.in_ok-kept.ensures.same c.answer_limit_link-answer.ensures.before
+    c.answer_limit_link-answer.result c.conclude.ensures.made c.conclude.ensures.unchanged (λ done. map completed_of done.items)
+    (call_limit_link c.args.now c.args.origin.now c.args.recipient.now c.args.cap) c.args.now c.ranges.now.fits refl
+    c.answer_limit_link-answer.ensures.answered c.answer_limit_link-answer.ensures.refused in
+    rw c.conclude.ensures.answer so.bad
+
+pub returns-clause-unchanged : goal.returns-clause-unchanged
+returns-clause-unchanged g c =
+    rw c.conclude.ensures.answer
+    (unchanged g.met.P.Ord.total c.args.self.now c.in_ok-kept.kept c.keep.new.self c.answer_limit_link-answer.new.self
+    c.conclude.new.self c.in_ok-kept.ensures.kept c.in_ok-kept.ensures.same c.answer_limit_link-answer.ensures.before
+    c.answer_limit_link-answer.result c.conclude.ensures.made c.conclude.ensures.unchanged g.row.P.coded _ refl)

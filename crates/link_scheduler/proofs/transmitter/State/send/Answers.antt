@@ -4,7 +4,7 @@ use Rattle.link_simulation.specs.Simulation.Calls.{call_enqueue}
 use Rattle.link_events.specs.Steps.AsPlanned.{planned}
 use Rattle.link_pairs.specs.Pairs.Messages.{message_of, completed_of}
 use Rattle.link_scheduler.proofs.Calls.Calling.{goes_on}
-use Rattle.link_scheduler.proofs.Calls.Answered.{made_on_copy, refused_on_copy}
+use Rattle.link_scheduler.proofs.Calls.Concluded.{on_err_map}
 use Rattle.link_simulation.proofs.Rule.SamePlanned.{same_itself}
 use Rattle.link_pairs.proofs.Pairs.LookedUp.{looked_up, arrivals_looked_up}
 use Rattle.link_scheduler.proofs.Calls.Promises.{kept_at_once, promised_if}
@@ -31,6 +31,9 @@ invariant_of-self-clause-orderly g c =
     (planned g.P.Ord.cmp c.wait.new.self) (call_enqueue c.args.now (message_of c.args.message)) []
     c.wait.ensures.enqueues c.wait.ensures.unchanged c.args.self.now.right c.args.self.now.orderly).orderly
 
+pub invariant_of-self-clause-marked : goal.invariant_of-self-clause-marked
+invariant_of-self-clause-marked g c = rw c.wait.ensures.flights c.args.self.now.marked
+
 pub returns-in_err-wait-clause-unchanged : goal.returns-in_err-wait-clause-unchanged
 returns-in_err-wait-clause-unchanged g c =
     let p = err_from_is_err_and c.from_residual.result c.from_residual.ensures.1 in
@@ -49,53 +52,8 @@ returns-then-has_to_wait-clause-made g c =
     c.args.self.now.arrivals)
     c.in_ok-wait.ensures.enqueues))
 
--- where it goes on a copy
+-- where it does not wait
 
-pub returns-in_err-completions-clause-refused : goal.returns-in_err-completions-clause-refused
-returns-in_err-completions-clause-refused g c =
-    let p =
-    err_from_is_err_and c.from_residual-in_err-completions.result c.from_residual-in_err-completions.ensures.1 in
-    rw (p.1, p.2)
-    (refused_on_copy g.P.Ord.cmp g.met.P.Ord.total (planned g.P.Ord.cmp c.args.self.now.ledger)
-    (planned g.P.Ord.cmp c.in_ok-ledger.ledger)
-    (call_enqueue c.args.now (message_of c.args.message))
-    c.args.now _ refl c.ranges.now.fits
-    c.in_ok-ledger.ensures.cases c.in_err-completions.ensures.refused)
-
-pub invariant_of-self-2-clause-caps : goal.invariant_of-self-2-clause-caps
-invariant_of-self-2-clause-caps g c =
-    looked_up g.P.Ord.cmp g.met.P.Ord.total c.replace_by.new.self.peers.entries c.replace_by.new.self.pairs.entries
-
-pub invariant_of-self-2-clause-arrivals : goal.invariant_of-self-2-clause-arrivals
-invariant_of-self-2-clause-arrivals g c =
-    arrivals_looked_up g.P.Ord.cmp g.met.P.Ord.total c.replace_by.new.self.pairs.entries
-
-pub invariant_of-self-2-clause-right : goal.invariant_of-self-2-clause-right
-invariant_of-self-2-clause-right g c =
-    (made_on_copy g.P.Ord.cmp g.met.P.Ord.total (planned g.P.Ord.cmp c.args.self.now.ledger)
-    (planned g.P.Ord.cmp c.in_ok-ledger.ledger) (planned g.P.Ord.cmp c.answer_free.new.self)
-    (planned g.P.Ord.cmp c.replace_by.new.self)
-    (call_enqueue c.args.now (message_of c.args.message)) c.args.now
-    (map completed_of c.in_ok-completions.completions.items) refl c.ranges.now.fits c.in_ok-ledger.ensures.cases
-    c.in_ok-completions.ensures.answered c.replace_by.ensures c.args.self.now.caps c.args.self.now.arrivals
-    c.args.self.now.right c.args.self.now.orderly).right
-
-pub invariant_of-self-2-clause-orderly : goal.invariant_of-self-2-clause-orderly
-invariant_of-self-2-clause-orderly g c =
-    (made_on_copy g.P.Ord.cmp g.met.P.Ord.total (planned g.P.Ord.cmp c.args.self.now.ledger)
-    (planned g.P.Ord.cmp c.in_ok-ledger.ledger) (planned g.P.Ord.cmp c.answer_free.new.self)
-    (planned g.P.Ord.cmp c.replace_by.new.self)
-    (call_enqueue c.args.now (message_of c.args.message)) c.args.now
-    (map completed_of c.in_ok-completions.completions.items) refl c.ranges.now.fits c.in_ok-ledger.ensures.cases
-    c.in_ok-completions.ensures.answered c.replace_by.ensures c.args.self.now.caps c.args.self.now.arrivals
-    c.args.self.now.right c.args.self.now.orderly).orderly
-
-pub returns-clause-made : goal.returns-clause-made
-returns-clause-made g c =
-    (made_on_copy g.P.Ord.cmp g.met.P.Ord.total (planned g.P.Ord.cmp c.args.self.now.ledger)
-    (planned g.P.Ord.cmp c.in_ok-ledger.ledger) (planned g.P.Ord.cmp c.answer_free.new.self)
-    (planned g.P.Ord.cmp c.replace_by.new.self)
-    (call_enqueue c.args.now (message_of c.args.message)) c.args.now
-    (map completed_of c.in_ok-completions.completions.items) refl c.ranges.now.fits c.in_ok-ledger.ensures.cases
-    c.in_ok-completions.ensures.answered c.replace_by.ensures c.args.self.now.caps c.args.self.now.arrivals
-    c.args.self.now.right c.args.self.now.orderly).made
+pub returns-clause-unchanged : goal.returns-clause-unchanged
+returns-clause-unchanged g c =
+    on_err_map c.send_free.result (ap (λ s. planned g.P.Ord.cmp s.ledger)) c.send_free.ensures.unchanged

@@ -1,0 +1,61 @@
+-- What is the same after a mark is set, and once all is put back.
+use Rattle.std.proofs.Common.{◌≡◌, false}
+use Rattle.std.proofs.Props.{props}
+use mathlib.Core.HLevel.{is_prop→PathP}
+use Rattle.std.specs.declared.cmp.Ordering.{Ordering}
+use Rattle.fair_rates.specs.Sides.Caps.{Caps}
+use Rattle.link_flights.specs.declared.flight_list.Flights.{Flights}
+use Rattle.link_flights.specs.Flights.Flight.{flights_at}
+use Rattle.link_flights.specs.Flights.InFlight.{in_flight}
+use Rattle.link_flights.specs.Flights.Rated.{AreRated}
+use Rattle.link_flights.specs.Flights.RatedFlights.{sending_of}
+use Rattle.link_simulation.specs.Simulation.Messages.{OneForEachPair}
+use Rattle.link_simulation.specs.Rule.Planned.{rated_messages}
+use Rattle.link_pairs.specs.Pairs.CapsOf.{caps_of}
+use Rattle.link_waiting.specs.Idle.AtRest.{of_pairs}
+use Rattle.link_waiting.specs.Idle.Index.{IsIndexOf}
+use Rattle.link_events.specs.declared.ledger.Ledger.{Ledger}
+
+-- what is in flight as before, in the same units and at the same moment
+module _ {P : Type 0} {a : _} {b : _} {c : _} (old new : Flights P a b c) (list : new.list.items ≡ old.list.items)
+    (scale : new.scale ≡ old.scale) (at : new.at ≡ old.at) where
+  pub in_flight_still : in_flight new ≡ in_flight old
+  in_flight_still = λ i. sending_of (scale i) (flights_at (at i) (list i))
+
+  pub rated_still : (cmp : P → P → Ordering) (caps : Caps P) → AreRated cmp caps old → AreRated cmp caps new
+  rated_still cmp caps h = record {
+    fair = rw (list, scale, at) h.fair;
+    limited = rw (list, at) h.limited;
+    timed = rw list h.timed;
+  }
+
+-- ledgers are the same where all that they keep is
+pub same_ledger : {P : Type 0} {a : _} {b : _} {c : _} (old new : Ledger P a b c) → new.peers ≡ old.peers
+    → new.pairs ≡ old.pairs → new.waiting ≡ old.waiting → new.idle ≡ old.idle → new.flights ≡ old.flights
+    → new.limited ≡ old.limited → new.next_id ≡ old.next_id → new.finish ≡ old.finish → new.start ≡ old.start
+    → new.stale ≡ old.stale → new ≡ old
+same_ledger {P} {a} old new peers pairs waiting idle flights limited next_id finish start stale = λ i. record {
+  alloc = old.alloc;
+  peers = peers i;
+  pairs = pairs i;
+  waiting = waiting i;
+  idle = idle i;
+  flights = flights i;
+  limited = limited i;
+  next_id = next_id i;
+  finish = finish i;
+  start = start i;
+  stale = stale i;
+  indexed =
+      is_prop→PathP
+      (λ j. IsIndexOf a.cmp (of_pairs a.cmp (pairs j).entries (waiting j).messages (in_flight (flights j)))
+      (idle j).entries)
+      (λ j. hlevel props) new.indexed old.indexed i;
+  one_each =
+      is_prop→PathP (λ j. ∥ OneForEachPair a.cmp (rated_messages (in_flight (flights j))) ∥₁) (λ j. hlevel props)
+      new.one_each old.one_each i;
+  rated =
+      is_prop→PathP
+      (λ j. stale j ≡ false → ∥ AreRated a.cmp (caps_of a.cmp (peers j).entries (pairs j).entries) (flights j) ∥₁)
+      (λ j. hlevel props) new.rated old.rated i;
+}

@@ -1,0 +1,19 @@
+use Rattle.std.proofs.Math.Logic.{∥∥₁_map}
+use Rattle.link_pairs.specs.Pairs.CapsOf.{caps_of}
+use Rattle.link_events.proofs.Steps.Marks.{in_flight_still, rated_still}
+use Rattle.link_events.proofs.ledger.Ledger.commit.Goals as goal
+
+pub invariant_of-self : goal.invariant_of-self
+invariant_of-self g c =
+    let old = c.args.self.now in
+    let new = c.commit.new.self in
+    let at = c.commit.ensures in
+    let same = in_flight_still old.flights new at.list at.scale at.at in
+    record {
+      indexed = rw (c.settle.ensures, c.settle-2.ensures, same) old.indexed;
+      one_each = rw same old.one_each;
+      rated = λ e. rw c.settle.ensures
+          (∥∥₁_map (old.rated e)
+          (rated_still old.flights new at.list at.scale at.at g.P.Ord.cmp
+          (caps_of g.P.Ord.cmp old.peers.entries old.pairs.entries)));
+    }
