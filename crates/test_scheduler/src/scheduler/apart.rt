@@ -84,6 +84,36 @@ done 0 1250ms
 next -
 ";
 
+/// A message completes at a call at its moment, and the next one of its pair starts: it is no start to come.
+const STARTED: &str = "\
+limit 0 1 1000 -
+limit 0 2 1000 -
+send 0 2 4 1000 0
+send 0 1 3 500 0
+send 0 1 3 500 0
+send 500ms 2 5 100 0
+done 1 500ms
+next 700ms
+";
+
+/// Messages of two pairs are done at one moment, and arrive a second later. What waits behind each starts then.
+const TWO_WAIT: &str = "\
+limit 0 1 1000 -
+limit 0 2 1000 -
+send 0 1 3 1000 1s
+send 0 2 4 1000 1s
+send 0 1 3 500 0
+send 0 2 4 500 0
+event 1s
+done 0 2s
+done 1 2s
+event 2s
+event 2500ms
+done 2 2500ms
+done 3 2500ms
+next -
+";
+
 /// Moments that go back: nothing is lost, and what was planned for other peers stands.
 const BACK: &str = "\
 limit 0 1 1000 -
@@ -142,6 +172,51 @@ done 6 100000030
 next -
 ";
 
+/// Two messages end at one moment, one of them at a fifth of the other's rate. Who shared a cap with it goes on twice as
+/// fast.
+const ENDS_AT_TWO_RATES: &str = "\
+limit 0 1 2000 -
+limit 0 2 5000 -
+limit 0 3 700 -
+limit 0 4 700 -
+send 0 1 101 1000 0
+send 0 1 102 10000 0
+send 0 2 103 5000 0
+send 0 3 104 7000 0
+send 0 4 105 7000 0
+event 1s
+done 0 1s
+done 2 1s
+event 5500ms
+done 1 5500ms
+event 10s
+done 3 10s
+done 4 10s
+next -
+";
+
+/// Two of three that share a cap end at one moment, and the next message of a pair starts then. It and the third one
+/// have half of the cap each.
+const ENDS_AND_STARTS: &str = "\
+limit 0 1 3000 -
+limit 0 3 700 -
+limit 0 4 700 -
+send 0 1 101 1000 0
+send 0 1 102 1000 0
+send 0 1 103 10000 0
+send 0 1 101 5000 0
+send 0 3 104 7000 0
+send 0 4 105 7000 0
+event 1s
+done 0 1s
+done 1 1s
+event 4333333334
+done 3 4333333334
+event 5666666667
+done 2 5666666667
+next 10s
+";
+
 #[test]
 fn what_is_done_at_one_moment_keeps_the_order_of_start(rt: HostRuntime) -> Result<(), Fail> {
     play_both::<u64>(&rt, TIES)?;
@@ -167,9 +242,25 @@ fn a_call_comes_while_others_are_due(rt: HostRuntime) -> Result<(), Fail> {
 }
 
 #[test]
+fn what_starts_at_a_call_is_no_start_to_come(rt: HostRuntime) -> Result<(), Fail> {
+    play_both::<u64>(&rt, STARTED)
+}
+
+#[test]
+fn what_waits_behind_two_pairs_starts_as_they_arrive(rt: HostRuntime) -> Result<(), Fail> {
+    play_both::<u64>(&rt, TWO_WAIT)
+}
+
+#[test]
 fn moments_go_back_beside_others(rt: HostRuntime) -> Result<(), Fail> {
     play_both::<u64>(&rt, BACK)?;
     play_both::<char>(&rt, BACK)
+}
+
+#[test]
+fn what_ends_leaves_its_share_to_the_others(rt: HostRuntime) -> Result<(), Fail> {
+    play_both::<u64>(&rt, ENDS_AT_TWO_RATES)?;
+    play_both::<u64>(&rt, ENDS_AND_STARTS)
 }
 
 #[test]
