@@ -84,6 +84,27 @@ static void completions_are_read_in_their_order(void) {
     p2p_close(&s);
 }
 
+static void caps_hold_where_they_were_set(void) {
+    p2p_scheduler s = P2P_SCHEDULER_INIT;
+    size_t count;
+    p2p_moment next;
+    p2p_done done[1];
+    uint8_t sent[3] = {1, 2, 3};
+    CHECK(p2p_open(&s, 0) == P2P_OK);
+    CHECK(p2p_limit(&s, 0, 2, p2p_no_cap(), p2p_bytes(500), &count) == P2P_OK);
+    CHECK(p2p_limit_link(&s, 0, 1, 3, p2p_bytes(100), &count) == P2P_OK);
+    CHECK(p2p_enqueue_zeros(&s, 0, 1, 2, 8, 1000, 0, 1, &count) == P2P_OK && count == 0);
+    CHECK(p2p_enqueue_zeros(&s, 0, 1, 3, 9, 1000, 0, 1, &count) == P2P_OK && count == 0);
+    CHECK(p2p_enqueue_zeros(&s, 0, 3, 1, 10, 1000, 0, 1, &count) == P2P_OK && count == 1); /* no cap holds this way */
+    CHECK(p2p_next(&s, &next) == P2P_OK && next.is_some && next.at == 2000000000);
+    CHECK(p2p_advance(&s, 2000000000, &count) == P2P_OK && count == 1);
+    CHECK(p2p_completions(&s, 0, done, 1) == 1 && done[0].recipient == 2 && done[0].channel == 8);
+    CHECK(p2p_next(&s, &next) == P2P_OK && next.is_some && next.at == 10000000000);
+    CHECK(p2p_enqueue(&s, 2000000000, 4, 2, 11, sent, 3, 7, 0, &count) == P2P_OK && count == 1);
+    CHECK(p2p_completions(&s, 0, done, 1) == 1 && done[0].length == 3 && done[0].deliver_at.is_some == 0);
+    p2p_close(&s);
+}
+
 static void a_dropped_message_does_not_arrive(void) {
     p2p_scheduler s = P2P_SCHEDULER_INIT;
     size_t count;
@@ -130,6 +151,10 @@ static void rates_are_max_min_fair(void) {
     const p2p_peer_cap two[] = {{3, {2, 0}}, {1, {5, 0}}};
     CHECK(p2p_allocate(one_id, 3, two, 2, ingress, 0, links, 0, rates, 3, &rounds) == P2P_OK);
     CHECK(is_rate(&rates[0], 1, 1) && is_rate(&rates[2], 1, 1) && rounds.low == 2); /* the last of an id decides */
+    const p2p_flow both_ways[] = {{1, 1, 2, 1}, {2, 2, 1, 1}};
+    const p2p_link_cap one_way[] = {{1, 2, {5, 0}}};
+    CHECK(p2p_allocate(both_ways, 2, egress, 0, ingress, 0, one_way, 1, rates, 2, &rounds) == P2P_OK);
+    CHECK(is_rate(&rates[0], 5, 1) && rates[1].is_limited == 0 && rounds.low == 1);
 }
 
 static void a_rate_that_is_no_fraction_is_refused(void) {
@@ -160,6 +185,7 @@ static void a_script_prints_what_linkrun_prints(void) {
 int main(void) {
     a_handle_is_safe_whatever_its_state();
     two_messages_share_a_cap();
+    caps_hold_where_they_were_set();
     completions_are_read_in_their_order();
     a_dropped_message_does_not_arrive();
     a_refused_call_changes_nothing();

@@ -1,0 +1,147 @@
+/* Wrong bodies of the calls. Linked between test.c and the library, by `--wrap` of the linker, each call does what it
+ * should, but for the one body that the variable P2P_WRONG names; test.c has to tell each of them (bindings/check.sh).
+ * A body stands on a line of its own, which names it once. No more than 8 flows, links or completions are looked at. */
+#include "p2p_simulated.h"
+
+#include <stdlib.h>
+#include <string.h>
+
+static int is(const char *name) {
+    const char *body = getenv("P2P_WRONG");
+    return body != NULL && strcmp(body, name) == 0;
+}
+
+/* the call of that name in the library, and the one that takes its place */
+#define CALL(type, name, ...)            \
+    type __real_##name(__VA_ARGS__);     \
+    type __wrap_##name(__VA_ARGS__);     \
+    type __wrap_##name(__VA_ARGS__)
+
+CALL(size_t, p2p_completions, p2p_scheduler *s, size_t first, p2p_done *out, size_t room);
+
+/* what the last call completed, and the one before it */
+static p2p_done last[8], before[8];
+static size_t last_count, before_count;
+
+/* After each call: what it completed, and what is told of it. */
+static uint32_t told(p2p_scheduler *s, uint32_t status) {
+    memcpy(before, last, sizeof last);
+    before_count = last_count;
+    last_count = __real_p2p_completions(s, 0, last, 8);
+    if (is("a-closed-handle-is-open") && status == P2P_CLOSED) return P2P_OK;
+    if (is("late-is-told-as-out-of-ids") && status == P2P_MOMENT_TOO_LATE) return P2P_FLOW_IDS_USED_UP;
+    return status;
+}
+
+CALL(uint32_t, p2p_open, p2p_scheduler *s, uint64_t first_id) {
+    if (is("flow-ids-begin-at-zero")) first_id = 0;
+    return told(s, __real_p2p_open(s, first_id));
+}
+
+CALL(uint32_t, p2p_limit, p2p_scheduler *s, uint64_t now, uint64_t peer, p2p_cap egress, p2p_cap ingress,
+     size_t *count) {
+    p2p_cap sent = egress, received = ingress;
+    if (is("a-limit-is-refused")) return P2P_OUT_OF_MEMORY;
+    if (is("a-limit-swaps-its-caps")) sent = ingress, received = egress;
+    if (is("a-limit-drops-the-egress")) sent = p2p_no_cap();
+    if (is("a-limit-drops-the-ingress")) received = p2p_no_cap();
+    return told(s, __real_p2p_limit(s, now, peer, sent, received, count));
+}
+
+CALL(uint32_t, p2p_limit_link, p2p_scheduler *s, uint64_t now, uint64_t origin, uint64_t recipient, p2p_cap cap,
+     size_t *count) {
+    if (is("a-link-is-turned-round")) return told(s, __real_p2p_limit_link(s, now, recipient, origin, cap, count));
+    if (is("a-link-drops-its-cap")) cap = p2p_no_cap();
+    return told(s, __real_p2p_limit_link(s, now, origin, recipient, cap, count));
+}
+
+CALL(uint32_t, p2p_enqueue, p2p_scheduler *s, uint64_t now, uint64_t origin, uint64_t recipient, uint64_t channel,
+     const uint8_t *message, size_t length, uint64_t latency, uint8_t should_deliver, size_t *count) {
+    uint64_t from = origin, to = recipient;
+    if (is("a-message-is-turned-round")) from = recipient, to = origin;
+    if (is("a-message-loses-its-channel")) channel = 0;
+    if (is("a-message-loses-its-bytes")) length = 0;
+    if (is("a-message-loses-its-latency")) latency = 0;
+    if (is("a-message-always-arrives")) should_deliver = 1;
+    if (is("a-message-never-arrives")) should_deliver = 0;
+    return told(s, __real_p2p_enqueue(s, now, from, to, channel, message, length, latency, should_deliver, count));
+}
+
+CALL(uint32_t, p2p_enqueue_zeros, p2p_scheduler *s, uint64_t now, uint64_t origin, uint64_t recipient, uint64_t channel,
+     size_t length, uint64_t latency, uint8_t should_deliver, size_t *count) {
+    uint64_t from = origin, to = recipient;
+    if (is("zeros-are-turned-round")) from = recipient, to = origin;
+    if (is("zeros-lose-their-channel")) channel = 0;
+    if (is("zeros-lose-their-latency")) latency = 0;
+    if (is("zeros-always-arrive")) should_deliver = 1;
+    return told(s, __real_p2p_enqueue_zeros(s, now, from, to, channel, length, latency, should_deliver, count));
+}
+
+CALL(uint32_t, p2p_advance, p2p_scheduler *s, uint64_t now, size_t *count) {
+    uint32_t status = __real_p2p_advance(s, now, count);
+    if (is("an-advance-counts-no-completions")) *count = 0;
+    return told(s, status);
+}
+
+CALL(uint32_t, p2p_advance_counted, p2p_scheduler *s, uint64_t now, size_t *count, p2p_wide *events) {
+    uint32_t status = __real_p2p_advance_counted(s, now, count, events);
+    if (is("events-are-not-told")) *events = p2p_number(0);
+    return told(s, status);
+}
+
+CALL(uint32_t, p2p_next, p2p_scheduler *s, p2p_moment *next) {
+    uint32_t status = __real_p2p_next(s, next);
+    if (is("next-answers-none")) next->is_some = 0;
+    return is("next-of-a-closed-handle") ? P2P_OK : status;
+}
+
+size_t __wrap_p2p_completions(p2p_scheduler *s, size_t first, p2p_done *out, size_t room) {
+    size_t count = __real_p2p_completions(s, first, out, room);
+    if (is("completions-are-those-of-the-call-before")) {
+        for (count = 0; first + count < before_count && count < room; count++) out[count] = before[first + count];
+    }
+    for (size_t i = 0; i < count; i++) {
+        if (is("the-first-completion-for-each")) out[i] = last[0];
+    }
+    return count;
+}
+
+CALL(size_t, p2p_message, p2p_scheduler *s, size_t index, size_t from, uint8_t *out, size_t room) {
+    if (is("the-bytes-of-another")) index += 1;
+    if (is("the-bytes-from-the-first-on")) from = 0;
+    return __real_p2p_message(s, index, from, out, room);
+}
+
+CALL(uint32_t, p2p_allocate, const p2p_flow *flows, size_t flow_count, const p2p_peer_cap *egress, size_t egress_count,
+     const p2p_peer_cap *ingress, size_t ingress_count, const p2p_link_cap *links, size_t link_count, p2p_rate *rates,
+     size_t room, p2p_wide *rounds) {
+    p2p_flow flow[8];
+    p2p_link_cap link[8];
+    flow_count = flow_count < 8 ? flow_count : 8;
+    link_count = link_count < 8 ? link_count : 8;
+    for (size_t i = 0; i < flow_count; i++) {
+        flow[i] = flows[i];
+        if (is("each-flow-is-delivered")) flow[i].delivered = 1;
+        if (is("no-flow-is-delivered")) flow[i].delivered = 0;
+        if (is("flows-are-turned-round")) flow[i].origin = flows[i].recipient, flow[i].recipient = flows[i].origin;
+    }
+    for (size_t i = 0; i < link_count; i++) {
+        link[i] = links[i];
+        if (is("links-are-turned-round")) link[i].origin = links[i].recipient, link[i].recipient = links[i].origin;
+    }
+    if (is("ingress-is-egress")) ingress = egress, ingress_count = egress_count;
+    if (is("rates-forget-ingress")) ingress_count = 0;
+    if (is("rates-forget-links")) link_count = 0;
+    uint32_t status = __real_p2p_allocate(flow, flow_count, egress, egress_count, ingress, ingress_count, link,
+                                          link_count, rates, room, rounds);
+    if (is("rounds-are-not-told")) *rounds = p2p_number(0);
+    return is("too-large-is-told-as-out-of-memory") && status == P2P_NUMBER_TOO_LARGE ? P2P_OUT_OF_MEMORY : status;
+}
+
+CALL(uint32_t, p2p_run, const uint8_t *script, size_t length, uint8_t *out, size_t room, size_t *printed,
+     uint64_t *bad_line) {
+    uint32_t status = __real_p2p_run(script, length, out, room, printed, bad_line);
+    if (is("a-bad-line-is-hidden")) *bad_line = 0;
+    if (is("printed-is-what-was-copied") && *printed > room) *printed = room;
+    return is("a-script-always-ends-well") ? 0 : status;
+}
