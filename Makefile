@@ -2,13 +2,14 @@
 script = examples/left_over.link
 seconds = 60
 
-.PHONY: run try test examples pictures bindings bench networks hostile hostile_tests names torture clean
+.PHONY: run try test examples pictures bindings dist install bench networks hostile hostile_tests names torture clean
 
 # Proves the library and the program, builds the program as bin/linkrun, and runs it on a script.
 run: bin/linkrun
 	./bin/linkrun < $(script)
 
-# Runs a script without proofs, for whoever wants to see it first: about a minute of one core.
+# Runs a script without proofs, for whoever wants to see it first: 35 seconds where two cores are idle. `rt try` compiles
+# all sources, the standard library too, on one core, and on another one it looks for names that a check would refuse.
 try:
 	cd crates/linkrun && rt try < ../../$(script)
 
@@ -71,6 +72,15 @@ pictures: bin/linkdraw
 bindings:
 	@bindings/archive.sh $(over)
 	@bindings/check.sh
+
+# Packages of what `make bindings` left, in bin/dist: a tar for C and C++, a wheel and a crate; and a program of each
+# language from these alone. `make install PREFIX=/usr/local` installs what is in the tar.
+dist:
+	@bindings/dist.sh
+	@bindings/dist_check.sh
+
+install:
+	@bindings/dist.sh install $(or $(PREFIX),/usr/local)
 
 # Times of one allocation and of one message beside those of the Rust original. `make bench work="NAME .."` runs those alone.
 bench: bin/linkrun bin/broadcast bin/networks

@@ -1,7 +1,11 @@
-/* Memory for the library, from the C library. Where a program has an allocator of its own, it
+/* Memory for the library, from the C library, as C or as C++. Where a program has an allocator of its own, it
  * defines these three over that: blocks aligned to 16, and `ok` false where there is no memory. */
 #include <stdbool.h>
 #include <stdlib.h>
+
+#ifdef __cplusplus
+extern "C" {
+#endif
 
 typedef struct p2p_block {
     bool ok;
@@ -23,3 +27,7 @@ p2p_block rattle_realloc(void *at, size_t kept, size_t size, size_t align) {
 }
 
 void rattle_dealloc(void *at) { free(at); }
+
+#ifdef __cplusplus
+}
+#endif

@@ -139,7 +139,13 @@ P2P_ASSERT(sizeof(p2p_rate) == 40 && offsetof(p2p_rate, denominator) == 16 && of
  * What a call completes stays with the scheduler until the next call that is made: `count` is set
  * to how many messages that are (0 where the call is refused), and p2p_completions and p2p_message
  * copy them out. First advance to a moment, and then set caps and send messages at it: so each call
- * does what the nanosecond by nanosecond simulation does. */
+ * comes in its turn, and does what the nanosecond by nanosecond simulation does. A call that goes back
+ * in time, or that sets caps or sends where an event is due, is made all the same, by the rule from
+ * event to event alone.
+ *
+ * A message whose arrival lies past the last moment is refused only once it would be done, and then
+ * refuses each later call that comes to that moment. Where `now` and `latency` together are above
+ * 2^64 - 1 do not send it. */
 
 /* Opens a scheduler at moment 0, with no cap and nothing sent; what the handle had before is
  * closed first. Flow ids begin at first_id, which is 0 but in tests. P2P_OUT_OF_MEMORY leaves the

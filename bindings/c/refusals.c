@@ -2,64 +2,32 @@
  * the call then goes through. At the end all memory is given back. */
 #include "p2p_simulated.h"
 
-#include <stdbool.h>
 #include <stdio.h>
-#include <stdlib.h>
 
-typedef struct block {
-    bool ok;
-    void *at;
-} block;
-
-static char nowhere;
-static long until_refusal = -1; /* so many allocations still go through; none is refused below 0 */
-static long blocks;
-
-static bool is_refused(void) { return until_refusal >= 0 && until_refusal-- == 0; }
-
-static block block_of(void *at) {
-    block made = {at != NULL, at != NULL ? at : &nowhere};
-    return made;
-}
-
-block rattle_alloc(size_t size, size_t align) {
-    if (is_refused()) return block_of(NULL);
-    blocks++;
-    return block_of(malloc(size != 0 ? size : align));
-}
-
-block rattle_realloc(void *at, size_t kept, size_t size, size_t align) {
-    (void)kept;
-    return is_refused() ? block_of(NULL) : block_of(realloc(at, size != 0 ? size : align));
-}
-
-void rattle_dealloc(void *at) {
-    blocks--;
-    free(at);
-}
+extern long p2p_test_until_refusal, p2p_test_blocks; /* of refusing_heap.c */
 
 static p2p_scheduler s = P2P_SCHEDULER_INIT;
 static long refusals;
 
 /* Makes the call with its first allocation refused, then with its second, and so on until it goes
  * through. A refused one leaves the next event and what is kept of completions as they were. */
-#define EACH(call)                                                                                            \
-    for (long n = 0;; n++) {                                                                                  \
-        p2p_moment before, after;                                                                             \
-        p2p_done kept[64];                                                                                    \
-        size_t many = p2p_completions(&s, 0, kept, 64);                                                       \
-        p2p_next(&s, &before);                                                                                \
-        until_refusal = n;                                                                                    \
-        uint32_t status = (call);                                                                             \
-        until_refusal = -1;                                                                                   \
-        if (status == P2P_OK) break;                                                                          \
-        refusals++;                                                                                           \
-        p2p_next(&s, &after);                                                                                 \
-        if (status != P2P_OUT_OF_MEMORY || before.at != after.at || before.is_some != after.is_some ||        \
-            p2p_completions(&s, 0, kept, 64) != many) {                                                       \
-            fprintf(stderr, "refusals.c:%d: status %u at allocation %ld\n", __LINE__, (unsigned)status, n);   \
-            return 1;                                                                                         \
-        }                                                                                                     \
+#define EACH(call)                                                                                          \
+    for (long n = 0;; n++) {                                                                                \
+        p2p_moment before, after;                                                                           \
+        p2p_done kept[64];                                                                                  \
+        size_t many = p2p_completions(&s, 0, kept, 64);                                                     \
+        p2p_next(&s, &before);                                                                              \
+        p2p_test_until_refusal = n;                                                                         \
+        uint32_t status = (call);                                                                           \
+        p2p_test_until_refusal = -1;                                                                        \
+        if (status == P2P_OK) break;                                                                        \
+        refusals++;                                                                                         \
+        p2p_next(&s, &after);                                                                               \
+        if (status != P2P_OUT_OF_MEMORY || before.at != after.at || before.is_some != after.is_some ||      \
+            p2p_completions(&s, 0, kept, 64) != many) {                                                     \
+            fprintf(stderr, "refusals.c:%d: status %u at allocation %ld\n", __LINE__, (unsigned)status, n); \
+            return 1;                                                                                       \
+        }                                                                                                   \
     }
 
 int main(void) {
@@ -100,16 +68,18 @@ int main(void) {
     uint8_t out[100];
     size_t printed;
     uint64_t bad_line;
-    for (until_refusal = 0; until_refusal >= 0;) { /* a script may go on after a refusal, and never aborts */
-        long n = until_refusal;
+    /* a script may go on after a refusal, and never aborts */
+    for (p2p_test_until_refusal = 0; p2p_test_until_refusal >= 0;) {
+        long n = p2p_test_until_refusal;
         p2p_run((const uint8_t *)script, sizeof script - 1, out, sizeof out, &printed, &bad_line);
-        if (until_refusal >= 0) break;
-        until_refusal = n + 1;
+        if (p2p_test_until_refusal >= 0) break;
+        p2p_test_until_refusal = n + 1;
         refusals++;
     }
-    until_refusal = -1;
-    if (completed != sent || blocks != 0) {
-        fprintf(stderr, "refusals.c: %zu of %zu messages completed, %ld blocks were not given back\n", completed, sent, blocks);
+    p2p_test_until_refusal = -1;
+    if (completed != sent || p2p_test_blocks != 0) {
+        fprintf(stderr, "refusals.c: %zu of %zu messages completed, %ld blocks were not given back\n", completed, sent,
+                p2p_test_blocks);
         return 1;
     }
     printf("c: %ld allocations refused in turn, nothing lost, nothing leaked\n", refusals);

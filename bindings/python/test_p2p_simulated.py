@@ -1,16 +1,21 @@
 """What the module promises, call by call.  Run by `python3 -m unittest` in this folder."""
 
+import asyncio
 import copy
+import ctypes
 import doctest
+import itertools
+import multiprocessing.pool
 import pickle
 import threading
 import unittest
+from concurrent.futures import ThreadPoolExecutor
 from fractions import Fraction
 
 import p2p_simulated
-import planner
-from p2p_simulated import BadLine, Closed, Completion, Flow, FlowIdsUsedUp, MomentTooLate, NumberTooLarge, State
-from p2p_simulated import allocate, allocate_counted, run
+from p2p_simulated import BadLine, Closed, Completion, Flow, FlowIdsUsedUp, MomentTooLate, NumberTooLarge, OutOfTurn
+from p2p_simulated import State, UnknownPeer, Zeros, allocate, allocate_counted, arrivals, on_asyncio, planner, run
+from p2p_simulated._library import _lib
 
 
 class Scheduling(unittest.TestCase):
@@ -28,12 +33,12 @@ class Scheduling(unittest.TestCase):
         with State() as state:
             state.limit_link(0, 1, 2, 10)
             state.enqueue_zeros(0, 1, 2, 3, 10, should_deliver=False)
-            self.assertEqual(state.advance(state.next()), [Completion(1, 2, 3, bytes(10), None)])
-            self.assertEqual(state.limit_link(10**9, 1, 2), [])
+            self.assertEqual(state.advance(state.next()), [Completion(1, 2, 3, Zeros(10), None)])
+            self.assertEqual(state.limit_link(10**9, 1, 2, None), [])
             self.assertEqual(state.enqueue(10**9, 1, 2, 3, b""), [Completion(1, 2, 3, b"", 10**9)])
 
     def test_a_refused_call_changes_nothing(self):
-        with State(2**64 - 1) as state:
+        with State(first_id=2**64 - 1, strict=False) as state:
             with self.assertRaises(MomentTooLate):
                 state.enqueue(1, 1, 2, 3, b"late", latency=2**64 - 1)
             state.limit(0, 1, egress=1)
@@ -52,13 +57,83 @@ class Scheduling(unittest.TestCase):
                     lambda: state.enqueue(0, 1, wrong, 0, b""),
                     lambda: state.enqueue(0, 1, 2, 0, b"", latency=wrong),
                     lambda: state.enqueue_zeros(0, 1, 2, 0, wrong),
-                    lambda: State(wrong),
+                    lambda: State(first_id=wrong),
                 ):
                     self.assertRaises(OverflowError, call)
             for wrong in (1.5, "1", None, True):
                 self.assertRaises(TypeError, state.advance, wrong)
+                self.assertRaises(TypeError, state.enqueue, 0, wrong, 2, 0, b"")
+            for wrong in (0, 1, None, "no"):
+                self.assertRaises(TypeError, state.enqueue, 0, 1, 2, 0, b"", 0, wrong)
+            for wrong in ("text", 7, 1.5, None):
+                self.assertRaises(TypeError, state.enqueue, 0, 1, 2, 0, wrong)
             self.assertRaises(TypeError, state.enqueue, 0, 1, 2, 0, 7)
             self.assertRaises(MemoryError, state.enqueue_zeros, 0, 1, 2, 0, 2**64 - 1)
+
+    def test_a_message_is_any_object(self):
+        with State(["oslo", "lima", "rome", "oslo"]) as state:
+            block = object()
+            state.limit(0, "lima", egress=2000)
+            for to in ("oslo", "rome"):
+                self.assertEqual(state.enqueue(0, "lima", to, 7, block, 5, to != "rome", length=1000), [])
+            done = state.advance(state.next())
+            wanted = [("lima", "oslo", 7, block, 10**9 + 5), ("lima", "rome", 7, block, None)]
+            self.assertEqual(done, [Completion(*it) for it in wanted])
+            self.assertIs(done[0].message, block)
+            self.assertRaises(UnknownPeer, state.enqueue, 10**9, "lima", "quito", 7, b"")
+            self.assertEqual((state.next(), state._held), (None, {}))
+            self.assertEqual(arrivals(done)["deliver_at"], [10**9 + 5, None])
+            self.assertEqual(arrivals([Completion(1, 2, 3, Zeros(4), 5)])["length"], [4])
+
+    def test_a_call_out_of_turn_is_refused(self):
+        with State() as state:
+            state.limit(5, 1, egress=1000)
+            state.enqueue_zeros(5, 1, 2, 7, 1000)
+            due = 10**9 + 5
+            for call in (
+                lambda: state.limit(due, 1),
+                lambda: state.limit_link(due, 1, 2, None),
+                lambda: state.enqueue(due, 1, 2, 7, b""),
+            ):
+                with self.assertRaises(OutOfTurn) as caught:
+                    call()
+                self.assertEqual(str(caught.exception), f"out of turn: an event is due at {due}")
+            for call in (state.advance, state.advance_counted, lambda now: state.limit(now, 1)):
+                with self.assertRaises(OutOfTurn) as caught:
+                    call(4)
+                self.assertEqual(str(caught.exception), "out of turn: the last call was at 5")
+            self.assertRaises(MomentTooLate, state.enqueue, 6, 1, 2, 7, b"", 2**64 - 6)
+            self.assertEqual(state.enqueue(6, 1, 2, 8, b"", 2**64 - 6, False), [])
+            self.assertEqual([it.channel for it in state.advance(due)], [7, 8])
+        with State(strict=False) as state:
+            state.limit(5, 1, egress=1000)
+            self.assertEqual(state.limit(4, 1), [])
+
+    def test_limit_keeps_what_is_not_named(self):
+        with State() as state:
+            state.limit(0, 1, egress=1000)
+            state.limit(0, 1, ingress=5)
+            state.enqueue_zeros(0, 1, 2, 0, 1000)
+            self.assertEqual(state.next(), 10**9)
+            self.assertEqual(len(state.limit(0, 1, egress=None)), 1)
+            state.enqueue_zeros(0, 2, 1, 0, 10)
+            self.assertEqual(state.next(), 2 * 10**9)
+
+    def test_numbers_of_any_kind_pass(self):
+        class Five:
+            def __index__(self):
+                return 5
+
+        with State() as state:
+            self.assertEqual(state.enqueue(Five(), Five(), 2, 3, memoryview(b"abcd").cast("H"))[0].deliver_at, 5)
+        try:
+            import numpy
+        except ImportError:
+            self.skipTest("numpy is not installed")
+        with State() as state:
+            done = state.enqueue(numpy.int64(5), numpy.uint8(1), 2, 3, b"", numpy.int32(1), numpy.bool_(True))
+            self.assertEqual(done[0].deliver_at, 6)
+            self.assertRaises(TypeError, state.advance, numpy.bool_(True))
 
     def test_a_closed_scheduler_says_so(self):
         state = State()
@@ -83,12 +158,116 @@ class Scheduling(unittest.TestCase):
             self.assertEqual(len(state.advance(10**9)), 800)
 
 
+class Refusing(unittest.TestCase):
+    """Each allocation of each call is refused in turn, where the library has the memory of refusing_heap.c."""
+
+    def setUp(self):
+        try:
+            self.until_refusal = ctypes.c_long.in_dll(_lib, "p2p_test_until_refusal")
+            self.blocks = ctypes.c_long.in_dll(_lib, "p2p_test_blocks")
+        except ValueError:
+            self.skipTest("its memory cannot be refused")
+
+    def each(self, call):
+        for refused in itertools.count():
+            self.until_refusal.value = refused
+            try:
+                return call()
+            except MemoryError:
+                pass
+            finally:
+                self.until_refusal.value = -1
+
+    def test_refused_calls_change_nothing(self):
+        state = self.each(State)
+        now = sent = done = 0
+        for peer in range(4):
+            self.each(lambda: state.limit(now, peer, egress=1000))
+            self.each(lambda: state.limit(now, peer, ingress=700))
+        for turn, peer in itertools.product(range(10), range(4)):
+            if peer == 0:
+                now += 50_000_000
+                done += len(self.each(lambda: state.advance(now)))
+            next_event = state.next()
+            sent += 1
+
+            def send():
+                self.assertEqual(state.next(), next_event)
+                return state.enqueue(now, peer, (peer + turn) % 4, 7, bytes(100), 5, turn % 5 != 0)
+
+            done += len(self.each(send))
+            self.assertEqual(len(state._held), sent - done)
+        done += len(self.each(lambda: state.advance(now + 10**12)))
+        self.assertEqual((done, state._held), (sent, {}))
+        state.close()
+        self.assertEqual(self.each(lambda: allocate([Flow(1, 1, 2)], {1: 5})), {1: 5})
+        self.assertEqual(self.blocks.value, 0)
+
+
+class Waiting(unittest.TestCase):
+    """A network whose messages are waited for."""
+
+    def test_a_task_waits_for_its_message(self):
+        async def main():
+            net = on_asyncio.Network(speed=100)
+            net.limit(1, egress=1000)
+            first, second = net.send(1, 2, b"x" * 500), net.send(1, 3, b"y" * 1000, latency=10**8)
+            done = await first
+            self.assertEqual((done.recipient, done.message), (2, b"x" * 500))
+            done = await second
+            self.assertEqual(done.message, b"y" * 1000)
+            self.assertGreaterEqual(done.deliver_at, 1_600_000_000)
+            self.assertIsNone((await net.send(1, 2, b"", should_deliver=False)).deliver_at)
+
+        asyncio.run(main())
+
+    def test_a_process_waits_for_its_message(self):
+        try:
+            import simpy
+
+            simpy.Environment
+        except (ImportError, AttributeError):
+            self.skipTest("SimPy 3 or 4 is not installed")
+        from p2p_simulated import on_simpy
+
+        def sender(env, net, seen):
+            first = net.send(1, 2, b"x" * 500)
+            yield env.timeout(500_000_000)
+            second = net.send(1, 3, b"y" * 500, latency=7)
+            done = yield first
+            seen.append((env.now, done.recipient, done.message))
+            done = yield second
+            seen.append((env.now, done.deliver_at))
+            net.limit(1, egress=None)
+            done = yield net.send(1, 2, b"z", should_deliver=False)
+            seen.append((env.now, done.deliver_at))
+
+        env, seen = simpy.Environment(), []
+        net = on_simpy.Network(env, unit=1)
+        net.limit(1, egress=1000)
+        env.process(sender(env, net, seen))
+        env.run()
+        self.assertEqual(seen, [(500_000_000, 2, b"x" * 500), (10**9 + 7, 10**9 + 7), (10**9 + 7, None)])
+        env, seen = simpy.Environment(), []
+        net = on_simpy.Network(env)
+        net.limit(1, egress=3)
+
+        def seconds():
+            done = yield net.send(1, 2, b"x")
+            seen.append((env.now, done.deliver_at))
+
+        env.process(seconds())
+        env.run()
+        self.assertEqual(seen, [(0.333333334, 333_333_334)])
+
+
 class Scripts(unittest.TestCase):
     def test_a_script_prints_what_linkrun_prints(self):
         self.assertEqual(run("limit 0 1 1000 -\nenqueue 0 1 2 7 500 0 1\nnext\n"), "next 500000000\n")
         with self.assertRaises(BadLine) as caught:
             run("next\nnext 1\n")
         self.assertEqual((caught.exception.number, caught.exception.printed), (2, "next -\n"))
+        self.assertEqual((run(b""), run(b"next\n")), ("", "next -\n"))
         self.assertEqual(len(run("flow 1 1 2 1\nrates\n" * 1000)), 17000)
 
 
@@ -121,6 +300,30 @@ class Planning(unittest.TestCase):
         wanted = [planner.rates_of(scenario) for scenario in scenarios]
         self.assertEqual(planner.sweep(scenarios), wanted)
         self.assertEqual(planner.sweep(scenarios, map_over=map), wanted)
+        with ThreadPoolExecutor(2) as pool, multiprocessing.pool.ThreadPool(2) as threads:
+            self.assertEqual(planner.sweep(scenarios, map_over=pool), wanted)
+            self.assertEqual(planner.sweep(scenarios, map_over=threads), wanted)
+            submitted = planner.sweep(scenarios, map_over=lambda work, all: [pool.submit(work, it) for it in all])
+            self.assertEqual(submitted, wanted)
+        self.assertEqual(planner.doubled(plan, "egress", "nobody"), {})
+
+    def test_a_sweep_goes_over_schedules(self):
+        sent = [(10**9, "a", "c", 2, b"x" * 10), (0, "a", "b", 1, b"x" * 10)]
+        schedules = [planner.Schedule({"a": (cap, None)}, sent) for cap in (5, 10, None)]
+        done = planner.sweep(schedules, planner.completions_of, map)
+        arrivals = [{it.channel: it.deliver_at for it in each} for each in done]
+        self.assertEqual(arrivals, [{1: 3 * 10**9, 2: 4 * 10**9}, {1: 10**9, 2: 2 * 10**9}, {1: 0, 2: 10**9}])
+
+    def test_a_sweep_by_dask(self):
+        try:
+            from dask.distributed import Client, LocalCluster
+        except ImportError:
+            self.skipTest("dask.distributed is not installed")
+        plan = planner.example()
+        scenarios = [plan._replace(egress={**plan.egress, "lima": n}) for n in range(20)]
+        two = LocalCluster(n_workers=2, threads_per_worker=1, dashboard_address=None)
+        with two as cluster, Client(cluster) as client:
+            self.assertEqual(planner.sweep(scenarios, map_over=client), [planner.rates_of(it) for it in scenarios])
 
 
 def load_tests(loader, tests, pattern):

@@ -1,5 +1,5 @@
 //! Calls a second: messages under a cap, one after another.
-use p2p_simulated::{Error, State};
+use p2p_simulated::{Error, State, Zeros};
 use std::time::Instant;
 
 const MESSAGES: u64 = 200_000;
@@ -10,7 +10,7 @@ fn main() -> Result<(), Error> {
     let from = Instant::now();
     let mut now = 0;
     for _ in 0..MESSAGES {
-        state.enqueue_zeros(now, &1, &2, 3, 1000, 0, true)?;
+        state.enqueue(now, &1, &2, 3, Zeros(1000), 0, true)?;
         now = state.next().expect("a message is in flight");
         state.advance(now)?;
     }

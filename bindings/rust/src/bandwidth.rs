@@ -1,8 +1,8 @@
 //! Who sends how fast.
 use crate::error::{result_of, Error};
+use crate::ratio::Ratio;
 use crate::raw;
 use std::collections::BTreeMap;
-use std::fmt;
 
 /// Something that goes from one peer to another.
 #[derive(Debug, Clone, PartialEq, Eq)]
@@ -17,21 +17,6 @@ pub struct Flow<P> {
     pub delivered: bool,
 }
 
-/// A fraction in lowest terms.
-#[derive(Debug, Clone, Copy, PartialEq, Eq, Hash)]
-pub struct Ratio {
-    /// What is divided.
-    pub numerator: u128,
-    /// By what, never 0.
-    pub denominator: u128,
-}
-
-impl fmt::Display for Ratio {
-    fn fmt(&self, f: &mut fmt::Formatter<'_>) -> fmt::Result {
-        write!(f, "{}/{}", self.numerator, self.denominator)
-    }
-}
-
 /// How fast a flow may send.
 #[derive(Debug, Clone, Copy, PartialEq, Eq, Hash)]
 pub enum Rate {
@@ -44,8 +29,12 @@ pub enum Rate {
 /// The max-min fair rate of each flow, by its id, under the caps of the peers.
 ///
 /// The closures answer a peer's cap in bytes a second, or `None` where it has none, and are called
-/// once for each peer. `NumberTooLarge` comes where a rate is no fraction of 128 bits, for which
-/// there have to be more than sixteen flows or a cap of 2^64 or more.
+/// once for each peer.
+///
+/// # Errors
+///
+/// `NumberTooLarge` where a rate is no fraction of 128 bits, for which there have to be more than
+/// sixteen flows or a cap of 2^64 or more. `OutOfMemory` where no memory was left.
 ///
 /// ```
 /// use p2p_simulated::{allocate, Flow, Rate, Ratio};
@@ -57,7 +46,7 @@ pub enum Rate {
 /// let egress = |peer: &&str| if *peer == "lima" { Some(50000) } else { None };
 /// let ingress = |peer: &&str| if *peer == "oslo" { Some(1000) } else { None };
 /// let rates = allocate(&flows, egress, ingress)?;
-/// assert_eq!(rates[&2], Rate::Finite(Ratio { numerator: 49000, denominator: 1 }));
+/// assert_eq!(rates[&2], Rate::Finite(Ratio::from_whole(49000)));
 /// # Ok::<(), p2p_simulated::Error>(())
 /// ```
 pub fn allocate<P: Ord + Clone>(
@@ -69,6 +58,10 @@ pub fn allocate<P: Ord + Clone>(
 }
 
 /// As [`allocate`], with caps on what goes from one peer to another.
+///
+/// # Errors
+///
+/// Those of [`allocate`].
 pub fn allocate_linked<P: Ord + Clone>(
     flows: &[Flow<P>],
     egress_cap: impl FnMut(&P) -> Option<u128>,
@@ -80,6 +73,10 @@ pub fn allocate_linked<P: Ord + Clone>(
 }
 
 /// As [`allocate`], with the number of rounds of filling: how many different finite rates there are.
+///
+/// # Errors
+///
+/// Those of [`allocate`].
 pub fn allocate_counted<P: Ord + Clone>(
     flows: &[Flow<P>],
     egress_cap: impl FnMut(&P) -> Option<u128>,
@@ -89,6 +86,10 @@ pub fn allocate_counted<P: Ord + Clone>(
 }
 
 /// As [`allocate_linked`], with the number of rounds of filling.
+///
+/// # Errors
+///
+/// Those of [`allocate`].
 pub fn allocate_linked_counted<P: Ord + Clone>(
     flows: &[Flow<P>],
     egress_cap: impl FnMut(&P) -> Option<u128>,
@@ -200,8 +201,49 @@ fn rate_of(rate: &raw::Rate) -> Rate {
     if rate.is_limited == 0 {
         return Rate::Unlimited;
     }
-    Rate::Finite(Ratio {
-        numerator: rate.numerator.get(),
-        denominator: rate.denominator.get(),
-    })
+    Rate::Finite(Ratio::of(rate.numerator, rate.denominator))
+}
+
+/// Nanoseconds in a second.
+const BILLION: u128 = 1_000_000_000;
+
+/// In how many whole nanoseconds nothing of `remaining` bytes is left: the least number of them. At no
+/// limit that is zero. `None` stands for never, as at rate zero always, and for a time of 2^64 or more.
+///
+/// # Errors
+///
+/// `NumberTooLarge` where the time in seconds or in nanoseconds is no fraction of 128 bits.
+pub fn duration(rate: &Rate, remaining: &Ratio) -> Result<Option<u64>, Error> {
+    match *rate {
+        Rate::Unlimited => Ok(Some(0)),
+        Rate::Finite(rate) if rate.is_zero() => Ok(None),
+        Rate::Finite(rate) => {
+            let seconds = remaining.checked_div(rate).ok_or(Error::NumberTooLarge)?;
+            let time = seconds.checked_mul(Ratio::from_whole(BILLION));
+            Ok(u64::try_from(time.ok_or(Error::NumberTooLarge)?.ceil()).ok())
+        }
+    }
+}
+
+/// What is left of `remaining` bytes after `elapsed` nanoseconds at the rate, exactly. At no limit
+/// nothing is left, also after no time.
+///
+/// # Errors
+///
+/// `NumberTooLarge` where what is taken is no fraction of 128 bits, or cannot be taken off.
+pub fn transfer(rate: &Rate, elapsed: u64, remaining: Ratio) -> Result<Ratio, Error> {
+    let rate = match *rate {
+        Rate::Unlimited => return Ok(Ratio::zero()),
+        Rate::Finite(rate) => rate,
+    };
+    if remaining.is_zero() || rate.is_zero() || elapsed == 0 {
+        return Ok(remaining);
+    }
+    let taken = Ratio::new(elapsed.into(), BILLION)
+        .and_then(|seconds| rate.checked_mul(seconds))
+        .ok_or(Error::NumberTooLarge)?;
+    if remaining <= taken {
+        return Ok(Ratio::zero());
+    }
+    remaining.checked_sub(taken).ok_or(Error::NumberTooLarge)
 }

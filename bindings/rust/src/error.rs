@@ -14,6 +14,17 @@ pub enum Error {
     FlowIdsUsedUp,
     /// The peer is none of those that the scheduler was made with. Nothing was asked of it.
     UnknownPeer,
+    /// The call is out of turn, and the scheduler is strict. Nothing was asked of it.
+    OutOfTurn(Turn),
+}
+
+/// Why a call is out of turn.
+#[derive(Debug, Clone, Copy, PartialEq, Eq)]
+pub enum Turn {
+    /// An event is due at that moment, which has come: advance to it first.
+    EventDue(u64),
+    /// The last call that was made was at that moment, which is later.
+    GoneBy(u64),
 }
 
 impl fmt::Display for Error {
@@ -24,7 +35,17 @@ impl fmt::Display for Error {
             Error::MomentTooLate => "moment too late",
             Error::FlowIdsUsedUp => "flow ids used up",
             Error::UnknownPeer => "unknown peer",
+            Error::OutOfTurn(turn) => return write!(f, "out of turn: {turn}"),
         })
+    }
+}
+
+impl fmt::Display for Turn {
+    fn fmt(&self, f: &mut fmt::Formatter<'_>) -> fmt::Result {
+        match self {
+            Turn::EventDue(moment) => write!(f, "an event is due at {moment}"),
+            Turn::GoneBy(moment) => write!(f, "the last call was at {moment}"),
+        }
     }
 }
 

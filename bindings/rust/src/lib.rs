@@ -11,13 +11,19 @@
 
 mod bandwidth;
 mod error;
+mod held;
+mod payload;
+mod ratio;
 mod raw;
 mod script;
 mod transmitter;
 
 pub use bandwidth::{
-    allocate, allocate_counted, allocate_linked, allocate_linked_counted, Flow, Rate, Ratio,
+    allocate, allocate_counted, allocate_linked, allocate_linked_counted, duration, transfer, Flow,
+    Rate,
 };
-pub use error::Error;
+pub use error::{Error, Turn};
+pub use payload::{Payload, Zeros};
+pub use ratio::Ratio;
 pub use script::{run, Outcome};
 pub use transmitter::{Completion, State};

@@ -71,6 +71,18 @@ pub struct Rate {
     pub is_limited: u8,
 }
 
+impl Done {
+    pub fn none() -> Done {
+        Done {
+            origin: 0,
+            recipient: 0,
+            channel: 0,
+            length: 0,
+            deliver_at: Moment { at: 0, is_some: 0 },
+        }
+    }
+}
+
 impl Wide {
     pub fn of(value: u128) -> Wide {
         Wide {
@@ -114,18 +126,6 @@ extern "C" {
         cap: Cap,
         count: *mut usize,
     ) -> u32;
-    pub fn p2p_enqueue(
-        scheduler: *mut Scheduler,
-        now: u64,
-        origin: u64,
-        recipient: u64,
-        channel: u64,
-        message: *const u8,
-        length: usize,
-        latency: u64,
-        should_deliver: u8,
-        count: *mut usize,
-    ) -> u32;
     pub fn p2p_enqueue_zeros(
         scheduler: *mut Scheduler,
         now: u64,
@@ -149,13 +149,6 @@ extern "C" {
         scheduler: *mut Scheduler,
         first: usize,
         out: *mut Done,
-        room: usize,
-    ) -> usize;
-    pub fn p2p_message(
-        scheduler: *mut Scheduler,
-        index: usize,
-        from: usize,
-        out: *mut u8,
         room: usize,
     ) -> usize;
     pub fn p2p_allocate(

@@ -1,6 +1,6 @@
 """Who is the bottleneck, and what if a cap doubles?
 
-    python3 planner.py
+    python3 -m p2p_simulated.planner
 
 A plan is a list of flows and the caps of peers.  `bottlenecks` says which caps hold the flows, and
 `doubled` what each flow gains where one cap doubles.  `sweep` plans many scenarios in parallel.
@@ -13,7 +13,7 @@ from concurrent.futures import ProcessPoolExecutor
 from fractions import Fraction
 from typing import Any, Callable, Dict, Iterable, List, Mapping, NamedTuple, Optional, Tuple
 
-from p2p_simulated import Flow, Rates, allocate
+from . import Completion, Flow, Rates, State, allocate
 
 
 class Plan(NamedTuple):
@@ -45,27 +45,53 @@ def bottlenecks(plan: Plan) -> Dict[Tuple[str, Any], List[int]]:
 
 
 def doubled(plan: Plan, word: str, peer: Any) -> Rates:
-    """What each flow gains where that cap doubles."""
+    """What each flow gains where that cap doubles: nothing where there is no such cap."""
     caps = {"egress": dict(plan.egress), "ingress": dict(plan.ingress)}
+    if peer not in caps[word]:
+        return {}
     caps[word][peer] *= 2
     before, after = rates_of(plan), rates_of(Plan(plan.flows, caps["egress"], caps["ingress"]))
     return {flow: after[flow] - before[flow] for flow in before if after[flow] != before[flow]}
 
 
-def sweep(
-    scenarios: Iterable[Plan],
-    work: Callable[[Plan], Rates] = rates_of,
-    map_over: Optional[Callable[..., Iterable[Rates]]] = None,
-) -> List[Rates]:
-    """The work on each scenario, in order and in parallel.
+class Schedule(NamedTuple):
+    """Caps of peers from the start, and messages.
 
-    `map_over(work, scenarios)` is any engine that maps a function over machines, such as an
-    executor's `map`.  With none it is a pool of processes on this machine.
+    A peer has what it may send and what it may receive, and a message is the arguments of `State.enqueue`.
     """
-    if map_over is not None:
-        return list(map_over(work, scenarios))
-    with ProcessPoolExecutor(mp_context=multiprocessing.get_context("spawn")) as pool:
-        return list(pool.map(work, scenarios, chunksize=8))
+
+    caps: Mapping[Any, Tuple[Optional[int], Optional[int]]]
+    messages: List[Tuple[Any, ...]]
+
+
+def completions_of(schedule: Schedule) -> List[Completion]:
+    """What becomes of each message, in the order in which they are done."""
+    peers = {*schedule.caps, *(peer for it in schedule.messages for peer in it[1:3])}
+    with State(peers) as state:
+        done = []
+        for peer, (egress, ingress) in schedule.caps.items():
+            done += state.limit(0, peer, egress, ingress)
+        for message in sorted(schedule.messages, key=lambda it: it[0]):
+            done += state.advance(message[0])
+            done += state.enqueue(*message)
+        while (due := state.next()) is not None:
+            done += state.advance(due)
+        return done
+
+
+def sweep(scenarios: Iterable[Any], work: Callable[[Any], Any] = rates_of, map_over: Any = None) -> List[Any]:
+    """The work on each scenario, in order and in parallel: `rates_of` plans, or `completions_of` schedules.
+
+    `map_over` is what maps a function over machines: a pool, an executor, a client of Dask, or any
+    function such as an executor's `map`.  It may answer futures.  With none it is a pool of processes
+    on this machine.
+    """
+    if map_over is None:
+        with ProcessPoolExecutor(mp_context=multiprocessing.get_context("spawn")) as pool:
+            return list(pool.map(work, scenarios, chunksize=8))
+    engine = map_over if callable(map_over) else map_over.map
+    found = list(engine(work, list(scenarios)))
+    return [it.result() if callable(getattr(it, "result", None)) else it for it in found]
 
 
 def example() -> Plan:

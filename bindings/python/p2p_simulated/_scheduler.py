@@ -1,0 +1,262 @@
+"""The scheduler: when each message arrives."""
+
+from __future__ import annotations
+
+import threading
+from ctypes import byref, c_size_t
+from typing import Any, Dict, Iterable, List, NamedTuple, Optional, Tuple
+
+from ._library import MomentTooLate, OutOfTurn, UnknownPeer, _check, _flag, _lib, _number, _value
+from ._library import _Cap, _Done, _Moment, _Scheduler, _Wide
+
+_LAST_MOMENT = (1 << 64) - 1
+_AT_ONCE = 64  # so many completions are read by one call
+
+
+class Completion(NamedTuple):
+    """What became of a message.  It arrives at `deliver_at` nanoseconds, or never: None."""
+
+    origin: Any
+    recipient: Any
+    channel: int
+    message: Any
+    deliver_at: Optional[int]
+
+
+class Zeros:
+    """A message that is known by its length alone."""
+
+    __slots__ = ("length",)
+
+    def __init__(self, length: int) -> None:
+        self.length = _number(length, "length")
+
+    def __bytes__(self) -> bytes:
+        return bytes(self.length)
+
+    def __eq__(self, other: object) -> bool:
+        return isinstance(other, Zeros) and self.length == other.length
+
+    def __hash__(self) -> int:
+        return hash((Zeros, self.length))
+
+    def __repr__(self) -> str:
+        return f"Zeros({self.length})"
+
+
+class _Keep:
+    def __repr__(self) -> str:
+        return "KEEP"
+
+
+KEEP: Any = _Keep()  # a cap that stays as it is
+
+
+def _cap(value: Optional[int], name: str) -> _Cap:
+    return _Cap(0, 0) if value is None else _Cap(_number(value, name), 1)
+
+
+def _length(message: Any, length: Optional[int]) -> int:
+    """How many bytes a message has."""
+    if length is not None:
+        return _number(length, "length")
+    if isinstance(message, Zeros):
+        return message.length
+    if isinstance(message, str):
+        raise TypeError("the message is a text: encode it, or say its length=")
+    if isinstance(message, memoryview):
+        return message.nbytes
+    try:
+        return len(message)
+    except TypeError:
+        raise TypeError(f"the message has no len, so its length= has to be said: {message!r}") from None
+
+
+class State:
+    """A scheduler of messages between capped peers: it tells when each is done and when it arrives.
+
+    It has no clock.  Each call but `next` says its moment, in nanoseconds since the start, and
+    answers what completes, in order.  Let time go on to a moment by `advance` first, and then set
+    caps and send messages at it.  Caps are in bytes a second, and None is no cap.
+
+    Peers are whole numbers, or those of a list of any ordered type: `State(["lima", "oslo"])`.
+
+    A strict scheduler, as it is from the start, refuses a call out of turn with OutOfTurn: one that
+    goes back in time, or that sets caps or sends where an event is due.  With `strict=False` such a
+    call is made, by the rule from event to event, and no longer does what the simulation does.  And
+    a strict one refuses at once what could only arrive past the last moment, 2**64 - 1.  Else that
+    message is refused when it would be done, and with it each call that comes to that moment.
+
+    A call that is refused raises MemoryError or a subclass of Refused, and leaves the scheduler as
+    it was.  Calls from several threads take turns.
+    """
+
+    def __init__(self, peers: Optional[Iterable[Any]] = None, *, strict: bool = True, first_id: int = 0) -> None:
+        self._peers: Optional[List[Any]] = None
+        self._places: Dict[Any, int] = {}
+        if peers is not None:
+            self._peers = sorted(set(peers))
+            self._places = {peer: place for place, peer in enumerate(self._peers)}
+        self._strict = _flag(strict, "strict")
+        self._caps: Dict[int, Tuple[Optional[int], Optional[int]]] = {}
+        self._held: Dict[int, Tuple[Any, ...]] = {}  # by number
+        self._sent = 0
+        self._last = 0
+        self._handle, self._count, self._moment = _Scheduler(), c_size_t(), _Moment()
+        self._records = (_Done * _AT_ONCE)()
+        self._at, self._count_at, self._moment_at = byref(self._handle), byref(self._count), byref(self._moment)
+        self._turn = threading.Lock()
+        _check(_lib.p2p_open(self._at, _number(first_id, "first_id")))
+
+    def close(self) -> None:
+        """Frees the scheduler.  Closing twice does nothing."""
+        with self._turn:
+            _lib.p2p_close(self._at)
+            self._held.clear()
+
+    def __enter__(self) -> State:
+        return self
+
+    def __exit__(self, *_: object) -> None:
+        self.close()
+
+    def __del__(self) -> None:
+        if hasattr(self, "_turn") and _lib is not None:
+            _lib.p2p_close(byref(self._handle))
+
+    def __reduce__(self) -> Any:
+        raise TypeError("a State can neither be copied nor pickled")
+
+    def limit(self, now: int, peer: Any, egress: Any = KEEP, ingress: Any = KEEP) -> List[Completion]:
+        """Sets what a peer may send and what it may receive in all, from `now` on.
+
+        A cap that is not named stays as it is, and None takes it away.
+        """
+        now, number = _number(now, "now"), self._number(peer, "peer")
+        with self._turn:
+            before = self._caps.get(number, (None, None))
+            caps = before[0] if egress is KEEP else egress, before[1] if ingress is KEEP else ingress
+            done = self._call(_lib.p2p_limit, now, True, number, _cap(caps[0], "egress"), _cap(caps[1], "ingress"))
+            self._caps[number] = caps
+            return done
+
+    def limit_link(self, now: int, origin: Any, recipient: Any, cap: Optional[int]) -> List[Completion]:
+        """Sets what may go from one peer to another, from `now` on.  None takes the cap away."""
+        ends = self._number(origin, "origin"), self._number(recipient, "recipient")
+        now, most = _number(now, "now"), _cap(cap, "cap")
+        with self._turn:
+            return self._call(_lib.p2p_limit_link, now, True, *ends, most)
+
+    def enqueue(
+        self,
+        now: int,
+        origin: Any,
+        recipient: Any,
+        channel: int,
+        message: Any,
+        latency: int = 0,
+        should_deliver: bool = True,
+        *,
+        length: Optional[int] = None,
+    ) -> List[Completion]:
+        """Sends a message.  Where `should_deliver` is false it is dropped on the way.
+
+        The message is any object, which comes back in its completion and is not copied.  It is as
+        long as its `len` says, or `length`.
+        """
+        now, latency, wanted = _number(now, "now"), _number(latency, "latency"), _flag(should_deliver, "should_deliver")
+        if self._strict and wanted and now + latency > _LAST_MOMENT:
+            raise MomentTooLate("moment too late")
+        ends = self._number(origin, "origin"), self._number(recipient, "recipient")
+        held, octets = (origin, recipient, _number(channel, "channel"), message), _length(message, length)
+        with self._turn:
+            number = self._sent
+            self._sent = number + 1
+            self._held[number] = held
+            try:
+                return self._call(_lib.p2p_enqueue_zeros, now, True, *ends, number, octets, latency, wanted)
+            except BaseException:
+                self._held.pop(number, None)
+                raise
+
+    def enqueue_zeros(
+        self,
+        now: int,
+        origin: Any,
+        recipient: Any,
+        channel: int,
+        length: int,
+        latency: int = 0,
+        should_deliver: bool = True,
+    ) -> List[Completion]:
+        """Sends a message that is known by its length alone."""
+        return self.enqueue(now, origin, recipient, channel, Zeros(length), latency, should_deliver)
+
+    def advance(self, now: int) -> List[Completion]:
+        """Lets time go on to `now`, and answers what completes up to then and at it, in order."""
+        now = _number(now, "now")
+        with self._turn:
+            return self._call(_lib.p2p_advance, now, False)
+
+    def advance_counted(self, now: int) -> Tuple[List[Completion], int]:
+        """As `advance`, with the number of events on the way: finishes and starts of messages."""
+        now, events = _number(now, "now"), _Wide()
+
+        def advance(handle: Any, now: int, count: Any) -> int:
+            return _lib.p2p_advance_counted(handle, now, count, byref(events))
+
+        with self._turn:
+            return self._call(advance, now, False), _value(events)
+
+    def next(self) -> Optional[int]:
+        """The moment of the next event, unless a cap changes or a message is sent before."""
+        with self._turn:
+            return self._next()
+
+    def _number(self, peer: Any, name: str) -> int:
+        """The number of a peer: itself, or its place in the list."""
+        if self._peers is None:
+            return _number(peer, name)
+        try:
+            return self._places[peer]
+        except KeyError:
+            raise UnknownPeer(f"{name} is none of the peers: {peer!r}") from None
+
+    def _call(self, function: Any, now: int, acts: bool, *arguments: Any) -> List[Completion]:
+        """Makes a call in its turn, and answers what it completed."""
+        if self._strict:
+            if now < self._last:
+                _check(_lib.p2p_next(self._at, self._moment_at))  # a closed one says so
+                raise OutOfTurn(self._last, None)
+            if acts:
+                due = self._next()
+                if due is not None and due <= now:
+                    raise OutOfTurn(self._last, due)
+        _check(function(self._at, now, *arguments, self._count_at))
+        self._last = now
+        return self._completions(self._count.value) if self._count.value else []
+
+    def _next(self) -> Optional[int]:
+        _check(_lib.p2p_next(self._at, self._moment_at))
+        return self._moment.at if self._moment.is_some else None
+
+    def _completions(self, count: int) -> List[Completion]:
+        found: List[Completion] = []
+        while len(found) < count:
+            many = _lib.p2p_completions(self._at, len(found), self._records, _AT_ONCE)
+            for record in self._records[:many]:
+                held, at = self._held.pop(record.channel), record.deliver_at
+                found.append(Completion(held[0], held[1], held[2], held[3], at.at if at.is_some else None))
+        return found
+
+
+def arrivals(completions: Iterable[Completion]) -> Dict[str, List[Any]]:
+    """A table of completions, a list for each column, as `pandas.DataFrame(arrivals(done))` takes it.
+
+    Of a dropped message `deliver_at` is None, and `length` is what `len` says of it, or None.
+    """
+    rows = list(completions)
+    table = {name: [getattr(row, name) for row in rows] for name in ("origin", "recipient", "channel", "deliver_at")}
+    sized = [hasattr(row.message, "__len__") or isinstance(row.message, Zeros) for row in rows]
+    table["length"] = [_length(row.message, None) if is_sized else None for row, is_sized in zip(rows, sized)]
+    return table
