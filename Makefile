@@ -8,7 +8,7 @@ seconds = 60
 run: bin/linkrun
 	./bin/linkrun < $(script)
 
-# Runs a script without proofs, for whoever wants to see it first: 35 seconds where two cores are idle. `rt try` compiles
+# Runs a script without proofs, for whoever wants to see it first: some 70 processor seconds, in two processes. `rt try` compiles
 # all sources, the standard library too, on one core, and on another one it looks for names that a check would refuse.
 try:
 	cd crates/linkrun && rt try < ../../$(script)
