@@ -14,6 +14,7 @@ use super::status::{MADE, OUT_OF_MEMORY, number_of};
 use bytes::Bytes;
 use fair_rates::error::Error;
 use link_scheduler::transmitter::{Completion, State};
+use link_scripts::linkrun::zeros::Zeros;
 use std::alloc::Global;
 
 /// A scheduler of numbered peers, and the completions of the last call that was made on it.
@@ -21,6 +22,8 @@ use std::alloc::Global;
 pub struct Opened {
     pub state: State<u64>,
     pub completed: Vec<Completion<u64>>,
+    /// The messages without bytes of the caller's share these.
+    pub zeros: Zeros,
 }
 
 impl Opened {
@@ -32,6 +35,7 @@ impl Opened {
         Opened {
             state: State::with_first_id(alloc, first_id),
             completed: Vec::new(alloc),
+            zeros: Zeros::new(),
         }
     }
 
@@ -135,7 +139,7 @@ impl Opened {
         ensures { Ended (call_enqueue now (sent origin recipient channel (replicate length 0) latency should_deliver))
             result count.new self.old self.new }
     {
-        let Ok(bytes) = zeros(alloc, length) else {
+        let Ok(bytes) = self.zeros.part(alloc, length) else {
             *count = 0;
             return OUT_OF_MEMORY;
         };
@@ -221,13 +225,4 @@ pub fn copy(bytes: &[u8], from: usize, out: &mut [u8]) -> usize
     let count = rest.len().min(out.len());
     out[..count].copy_from_slice(&rest[..count]);
     count
-}
-
-/// So many zero bytes.
-fn zeros(alloc: Global, length: usize) -> Result<Bytes, Error>
-    ensures bytes { IfOk result (λ bytes. bytes ≡ replicate length 0) }
-    ensures refused { IfErr result (λ why. why ≡ Error.OutOfMemory) }
-{
-    let bytes = vec![in alloc; 0u8; length]?;
-    Ok(Bytes::from_vec(bytes)?)
 }

@@ -1,4 +1,4 @@
-//! Zero bytes that the messages of a script share.
+//! Zero bytes that the messages of a scheduler share.
 ghost use Rattle.std.specs.Prelude.{◌≡◌, ◌≢◌, length, map, replicate, IfOk, IfErr};
 ghost use Rattle.link_scheduler.specs.Calls.Replay.{call_of};
 ghost use Rattle.link_events.specs.Steps.Outgoing.{outgoing};
@@ -125,8 +125,11 @@ impl Zeros {
         })
     }
 
-    /// So many zero bytes.
-    fn part(&mut self, alloc: Global, length: usize) -> Result<Bytes, Error>
+    /// So many zero bytes. They share the memory of those before, and only where they are more than
+    /// ever before do they take any.
+    ///
+    /// Its only error is `OutOfMemory`.
+    pub fn part(&mut self, alloc: Global, length: usize) -> Result<Bytes, Error>
         ensures bytes { IfOk result (λ bytes. bytes ≡ replicate length 0) }
         ensures refused { IfErr result (λ e. e ≡ Error.OutOfMemory) }
     {

@@ -5,7 +5,7 @@ use Rattle.p2p_simulated_c.proofs.opened.Opened.advance.Goals as goal
 
 pub returns-clause-ended : goal.returns-clause-ended
 returns-clause-ended c =
-    let between : Opened = record { state = c.advance-answer.new.self; completed = c.args.self.now.completed } in
+    let between : Opened = record c.args.self.now { state = c.advance-answer.new.self } in
     ended (λ done. done.items) c.advance-answer.result _ c.keep.result c.keep.new.count c.args.self.now between
     c.keep.new.self
     c.keep.ensures.state c.keep.ensures.status c.keep.ensures.completed c.keep.ensures.counted refl
@@ -14,7 +14,7 @@ returns-clause-ended c =
 
 pub returns-clause-advanced : goal.returns-clause-advanced
 returns-clause-advanced c =
-    let between : Opened = record { state = c.advance-answer.new.self; completed = c.args.self.now.completed } in
+    let between : Opened = record c.args.self.now { state = c.advance-answer.new.self } in
     advanced (λ done. done.items) c.advance-answer.result c.args.now c.keep.result c.args.self.now between
     c.keep.new.self
     c.keep.ensures.state c.keep.ensures.status c.keep.ensures.completed c.advance-answer.ensures.advanced

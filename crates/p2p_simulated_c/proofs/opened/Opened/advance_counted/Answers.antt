@@ -6,7 +6,7 @@ use Rattle.p2p_simulated_c.proofs.opened.Opened.advance_counted.Goals as goal
 
 pub returns-in-Ok-clause-ended : goal.returns-in-Ok-clause-ended
 returns-in-Ok-clause-ended c =
-    let between : Opened = record { state = c.advance_counted.new.self; completed = c.args.self.now.completed } in
+    let between : Opened = record c.args.self.now { state = c.advance_counted.new.self } in
     ended (λ done. done.items) (Ok c.in-Ok.done) _ c.keep.result c.keep.new.count c.args.self.now between
     c.keep.new.self
     c.keep.ensures.state c.keep.ensures.status c.keep.ensures.completed c.keep.ensures.counted refl c.in-Ok.ensures.made
@@ -14,7 +14,7 @@ returns-in-Ok-clause-ended c =
 
 pub returns-in-Err-clause-ended : goal.returns-in-Err-clause-ended
 returns-in-Err-clause-ended c =
-    let between : Opened = record { state = c.advance_counted.new.self; completed = c.args.self.now.completed } in
+    let between : Opened = record c.args.self.now { state = c.advance_counted.new.self } in
     ended {V = List (Completion ℕ)} (λ done. done) (Err c.in-Err.why) _ c.keep-in-Err.result c.keep-in-Err.new.count
     c.args.self.now between c.keep-in-Err.new.self
     c.keep-in-Err.ensures.state c.keep-in-Err.ensures.status c.keep-in-Err.ensures.completed

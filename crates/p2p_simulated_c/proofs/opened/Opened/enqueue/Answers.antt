@@ -5,7 +5,7 @@ use Rattle.p2p_simulated_c.proofs.opened.Opened.enqueue.Goals as goal
 
 pub returns : goal.returns
 returns c =
-    let between : Opened = record { state = c.enqueue-answer.new.self; completed = c.args.self.now.completed } in
+    let between : Opened = record c.args.self.now { state = c.enqueue-answer.new.self } in
     rw (sym c.in-Ok.ensures)
     (ended (λ done. done.items) c.enqueue-answer.result _ c.keep.result c.keep.new.count c.args.self.now between
     c.keep.new.self
