@@ -28,14 +28,17 @@ extern "C" {
 #define P2P_ASSERT(holds) _Static_assert(holds, #holds)
 #endif
 
-/* How a call ended. 1 to 4 are the refusals that a script prints, under the same numbers. */
+/* How a call ended. 1 to 4 are the refusals that a script prints, under the same numbers, and 6 and 7
+ * are answers of p2p_in_turn. */
 enum {
     P2P_OK = 0,
     P2P_OUT_OF_MEMORY = 1,
     P2P_NUMBER_TOO_LARGE = 2, /* of the planner alone: a rate is no fraction of 128 bits */
     P2P_MOMENT_TOO_LATE = 3,  /* a message would arrive past the moment 2^64 - 1 */
     P2P_FLOW_IDS_USED_UP = 4, /* a message would start, and 2^64 - 1 flow ids were given */
-    P2P_CLOSED = 5            /* the scheduler is not open */
+    P2P_CLOSED = 5,           /* the scheduler is not open */
+    P2P_GONE_BY = 6,          /* the last call that was made was at a later moment */
+    P2P_EVENT_DUE = 7         /* the call sets caps or sends, and an event is due */
 };
 
 /* A scheduler, or none. Let it begin as P2P_SCHEDULER_INIT, and neither copy nor change it: the
@@ -141,7 +144,7 @@ P2P_ASSERT(sizeof(p2p_rate) == 40 && offsetof(p2p_rate, denominator) == 16 && of
  * copy them out. First advance to a moment, and then set caps and send messages at it: so each call
  * comes in its turn, and does what the nanosecond by nanosecond simulation does. A call that goes back
  * in time, or that sets caps or sends where an event is due, is made all the same, by the rule from
- * event to event alone.
+ * event to event alone: ask p2p_in_turn before.
  *
  * A message whose arrival lies past the last moment is refused only once it would be done, and then
  * refuses each later call that comes to that moment. Where `now` and `latency` together are above
@@ -182,6 +185,11 @@ uint32_t p2p_advance_counted(p2p_scheduler *scheduler, uint64_t now, size_t *cou
 
 /* The moment of the next event, if one comes. P2P_OK or P2P_CLOSED. */
 uint32_t p2p_next(p2p_scheduler *scheduler, p2p_moment *next);
+
+/* Whether a call at `now` would come in its turn; `acts` is 1 for one that sets caps or sends, and 0 for an
+ * advance. P2P_OK where it would, and P2P_GONE_BY or P2P_EVENT_DUE where not; `at` is then the moment of
+ * the last call that was made, or of the event, and else `now`. It changes nothing. */
+uint32_t p2p_in_turn(p2p_scheduler *scheduler, uint64_t now, uint8_t acts, uint64_t *at);
 
 /* Copies what the last call that was made completed, from the completion `first` on, as many as
  * there is room for, and answers how many; 0 where the scheduler is not open. */

@@ -10,21 +10,25 @@ static p2p_scheduler s = P2P_SCHEDULER_INIT;
 static long refusals;
 
 /* Makes the call with its first allocation refused, then with its second, and so on until it goes
- * through. A refused one leaves the next event and what is kept of completions as they were. */
+ * through. A refused one leaves the next event, the moment of the last call and what is kept of
+ * completions as they were. */
 #define EACH(call)                                                                                          \
     for (long n = 0;; n++) {                                                                                \
         p2p_moment before, after;                                                                           \
+        uint64_t last = 0, still = 0;                                                                       \
         p2p_done kept[64];                                                                                  \
         size_t many = p2p_completions(&s, 0, kept, 64);                                                     \
         p2p_next(&s, &before);                                                                              \
+        p2p_in_turn(&s, 0, 0, &last);                                                                       \
         p2p_test_until_refusal = n;                                                                         \
         uint32_t status = (call);                                                                           \
         p2p_test_until_refusal = -1;                                                                        \
         if (status == P2P_OK) break;                                                                        \
         refusals++;                                                                                         \
         p2p_next(&s, &after);                                                                               \
+        p2p_in_turn(&s, 0, 0, &still);                                                                      \
         if (status != P2P_OUT_OF_MEMORY || before.at != after.at || before.is_some != after.is_some ||      \
-            p2p_completions(&s, 0, kept, 64) != many) {                                                     \
+            last != still || p2p_completions(&s, 0, kept, 64) != many) {                                    \
             fprintf(stderr, "refusals.c:%d: status %u at allocation %ld\n", __LINE__, (unsigned)status, n); \
             return 1;                                                                                       \
         }                                                                                                   \

@@ -20,6 +20,7 @@ static void a_handle_is_safe_whatever_its_state(void) {
     p2p_moment next = {7, 1};
     p2p_wide events = {7, 7};
     p2p_done done;
+    uint64_t at = 7;
     uint8_t byte = 7;
     CHECK(p2p_limit(&s, 0, 1, p2p_no_cap(), p2p_no_cap(), &count) == P2P_CLOSED && count == 0);
     CHECK(p2p_limit_link(&s, 0, 1, 2, p2p_no_cap(), &count) == P2P_CLOSED);
@@ -28,6 +29,7 @@ static void a_handle_is_safe_whatever_its_state(void) {
     CHECK(p2p_advance(&s, 0, &count) == P2P_CLOSED);
     CHECK(p2p_advance_counted(&s, 0, &count, &events) == P2P_CLOSED && events.low == 0 && events.high == 0);
     CHECK(p2p_next(&s, &next) == P2P_CLOSED && next.is_some == 0);
+    CHECK(p2p_in_turn(&s, 9, 1, &at) == P2P_CLOSED && at == 9);
     CHECK(p2p_completions(&s, 0, &done, 1) == 0 && p2p_message(&s, 0, 0, &byte, 1) == 0 && byte == 7);
     p2p_close(&s);
     CHECK(p2p_open(&s, 0) == P2P_OK && s.is_open == 1);
@@ -128,6 +130,31 @@ static void a_refused_call_changes_nothing(void) {
     p2p_close(&s);
 }
 
+static void a_turn_is_told(void) {
+    p2p_scheduler s = P2P_SCHEDULER_INIT;
+    size_t count;
+    uint64_t at = 7;
+    CHECK(p2p_open(&s, UINT64_MAX - 1) == P2P_OK);
+    CHECK(p2p_in_turn(&s, 0, 1, &at) == P2P_OK && at == 0);
+    CHECK(p2p_limit(&s, 5, 1, p2p_bytes(1000), p2p_no_cap(), &count) == P2P_OK);
+    CHECK(p2p_in_turn(&s, 5, 1, &at) == P2P_OK && at == 5);
+    CHECK(p2p_in_turn(&s, 4, 1, &at) == P2P_GONE_BY && at == 5);
+    CHECK(p2p_in_turn(&s, 4, 0, &at) == P2P_GONE_BY && at == 5);
+    CHECK(p2p_enqueue_zeros(&s, 6, 1, 2, 7, 1000, 0, 1, &count) == P2P_OK);
+    CHECK(p2p_in_turn(&s, 1000000005, 1, &at) == P2P_OK && at == 1000000005);
+    CHECK(p2p_in_turn(&s, 1000000006, 1, &at) == P2P_EVENT_DUE && at == 1000000006);
+    CHECK(p2p_in_turn(&s, 1000000007, 1, &at) == P2P_EVENT_DUE && at == 1000000006);
+    CHECK(p2p_in_turn(&s, 1000000007, 0, &at) == P2P_OK && at == 1000000007);
+    CHECK(p2p_in_turn(&s, 5, 1, &at) == P2P_GONE_BY && at == 6);
+    CHECK(p2p_enqueue_zeros(&s, 9, 1, 3, 7, 1, 0, 1, &count) == P2P_FLOW_IDS_USED_UP); /* and is not the last call */
+    CHECK(p2p_in_turn(&s, 8, 1, &at) == P2P_OK && p2p_in_turn(&s, 5, 1, &at) == P2P_GONE_BY && at == 6);
+    CHECK(p2p_advance(&s, 1000000006, &count) == P2P_OK && count == 1);
+    CHECK(p2p_in_turn(&s, 1000000006, 1, &at) == P2P_OK);
+    CHECK(p2p_limit(&s, 3, 1, p2p_no_cap(), p2p_no_cap(), &count) == P2P_OK); /* out of turn, and made all the same */
+    CHECK(p2p_in_turn(&s, 2, 0, &at) == P2P_GONE_BY && at == 3);
+    p2p_close(&s);
+}
+
 static int is_rate(const p2p_rate *rate, uint64_t numerator, uint64_t denominator) {
     return rate->is_limited == 1 && rate->numerator.low == numerator && rate->numerator.high == 0 &&
            rate->denominator.low == denominator && rate->denominator.high == 0;
@@ -189,6 +216,7 @@ int main(void) {
     completions_are_read_in_their_order();
     a_dropped_message_does_not_arrive();
     a_refused_call_changes_nothing();
+    a_turn_is_told();
     rates_are_max_min_fair();
     a_rate_that_is_no_fraction_is_refused();
     a_script_prints_what_linkrun_prints();

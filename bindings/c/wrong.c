@@ -95,6 +95,17 @@ CALL(uint32_t, p2p_next, p2p_scheduler *s, p2p_moment *next) {
     return is("next-of-a-closed-handle") ? P2P_OK : status;
 }
 
+CALL(uint32_t, p2p_in_turn, p2p_scheduler *s, uint64_t now, uint8_t acts, uint64_t *at) {
+    if (is("an-advance-has-to-come-before-the-event")) acts = 1;
+    if (is("a-call-at-an-event-is-in-turn")) acts = 0;
+    uint32_t status = __real_p2p_in_turn(s, now, acts, at);
+    if (is("no-call-goes-back") && status == P2P_GONE_BY) return P2P_OK;
+    if (is("what-is-due-is-told-as-gone-by") && status == P2P_EVENT_DUE) return P2P_GONE_BY;
+    if (is("a-turn-tells-the-call-as-what-is-in-its-way")) *at = now;
+    if (is("a-turn-of-a-closed-handle")) return status == P2P_CLOSED ? P2P_OK : status;
+    return status;
+}
+
 size_t __wrap_p2p_completions(p2p_scheduler *s, size_t first, p2p_done *out, size_t room) {
     size_t count = __real_p2p_completions(s, first, out, room);
     if (is("completions-are-those-of-the-call-before")) {

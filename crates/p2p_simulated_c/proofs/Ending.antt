@@ -3,7 +3,7 @@ use Rattle.std.proofs.Common.{◌≡◌, arith, ℕ, List, length, Option, Some,
 use Rattle.std.proofs.Common.{MatchResult, inl, inr, refl, sym, ap, subst, ◌∙◌}
 use Rattle.fair_rates.specs.Refusals.ErrorTexts.{refusal_number}
 use Rattle.link_scheduler.specs.Calls.State.{IsMade, IsRefused, IsAdvanced, planned_of}
-use Rattle.link_simulation.specs.Simulation.Calls.{Call}
+use Rattle.link_simulation.specs.Simulation.Calls.{Call, moment_of}
 use Rattle.fair_rates.specs.declared.error.Error.{Error}
 use Rattle.fair_rates.specs.declared.error.Error.TheVariants.{OutOfMemory, NumberTooLarge, MomentTooLate}
 use Rattle.fair_rates.specs.declared.error.Error.TheVariants.{FlowIdsUsedUp}
@@ -25,18 +25,22 @@ same_plan (Ok done) old new same = same
 same_plan (Err why) old new same = ap (λ s. planned_of s) same
 
 -- the state answered, and the answer was kept
-pub ended : {V : Type 0} (items : V → List (Completion ℕ)) (answer : Result V Error) (call : Call ℕ) (status count : ℕ)
-    (old between new : Opened)
+pub ended : {V : Type 0} (items : V → List (Completion ℕ)) (answer : Result V Error) (call : Call ℕ) {now : ℕ}
+    (status count : ℕ) (old between new : Opened)
     → new.state ≡ between.state
     → MatchResult answer (λ done. status ≡ 0) (λ why. status ≡ refusal_number why)
     → MatchResult answer (λ done. new.completed.items ≡ items done) (λ why. new.completed ≡ between.completed)
     → MatchResult answer (λ done. count ≡ length (items done)) (λ why. count ≡ 0)
+    → MatchResult answer (λ done. new.last ≡ now) (λ why. new.last ≡ between.last)
     → between.completed ≡ old.completed
+    → between.last ≡ old.last
+    → moment_of call ≡ Some now
     → IfOk answer (λ done. IsMade old.state call (items done) between.state)
     → IfErr answer (IsRefused old.state call)
     → OnErr answer (planned_of between.state ≡ planned_of old.state)
     → Ended call status count old new
-ended items (Ok done) call status count old between new state number kept counted same made refused unchanged =
+ended items (Ok done) call status count old between new state number kept counted at same last moment made refused
+    unchanged =
     inl (
       number,
       record {
@@ -44,9 +48,11 @@ ended items (Ok done) call status count old between new state number kept counte
             subst (λ s. IsMade old.state call new.completed.items s) (sym state)
             (subst (λ cs. IsMade old.state call cs between.state) (sym kept) made);
         counted = counted ∙ ap length (sym kept);
+        moment = moment ∙ ap Some (sym at);
       },
     )
-ended items (Err why) call status count old between new state number kept counted same made refused unchanged =
+ended items (Err why) call status count old between new state number kept counted at same last moment made refused
+    unchanged =
     inr (
       why,
       number,
@@ -55,6 +61,7 @@ ended items (Err why) call status count old between new state number kept counte
         unchanged = ap (λ s. planned_of s) state ∙ unchanged;
         kept = kept ∙ same;
         counted = counted;
+        moment = at ∙ last;
       },
     )
 
@@ -82,6 +89,7 @@ no_memory call s =
         unchanged = refl;
         kept = refl;
         counted = refl;
+        moment = refl;
       },
     )
 

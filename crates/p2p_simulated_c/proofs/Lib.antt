@@ -2,3 +2,4 @@ pub mod Boxed
 pub mod Copying
 pub mod Ending
 pub mod Planning
+pub mod Turns

@@ -2,7 +2,7 @@
 use Rattle.std.specs.Prelude.{◌≡◌, ◌⊎◌, ℕ, length, Option, Some, None}
 use Rattle.fair_rates.specs.Refusals.ErrorTexts.{refusal_number}
 use Rattle.link_scheduler.specs.Calls.State.{IsMade, IsRefused, IsAdvanced, IsCounted, planned_of}
-use Rattle.link_simulation.specs.Simulation.Calls.{Call}
+use Rattle.link_simulation.specs.Simulation.Calls.{Call, moment_of}
 use Rattle.fair_rates.specs.declared.error.Error.{Error}
 use Rattle.p2p_simulated_c.specs.declared.opened.Opened.{Opened}
 
@@ -13,10 +13,11 @@ pub data OnHandle (if_closed : Type 0) (if_open : Opened → Opened → Type 0) 
   at_open : (before after : Opened) → old ≡ Some before → new ≡ Some after → if_open before after
       → OnHandle if_closed if_open old new
 
--- the call was made: the scheduler did it, and has what it completed, which is so many
+-- the call was made: the scheduler did it, and has what it completed, which is so many, and the call's moment
 pub record Made (call : Call ℕ) (count : ℕ) (old new : Opened) : Type 0 where
   pub made : IsMade old.state call new.completed.items new.state
   pub counted : count ≡ length new.completed.items
+  pub moment : moment_of call ≡ Some new.last
 
 -- the call was refused for that cause, and nothing changed
 pub record Refused (call : Call ℕ) (why : Error) (count : ℕ) (old new : Opened) : Type 0 where
@@ -24,6 +25,7 @@ pub record Refused (call : Call ℕ) (why : Error) (count : ℕ) (old new : Open
   pub unchanged : planned_of new.state ≡ planned_of old.state
   pub kept : new.completed ≡ old.completed
   pub counted : count ≡ 0
+  pub moment : new.last ≡ old.last
 
 -- it was made, and the status is 0; or it was refused, and the status is the number of the cause
 abbrev pub Ended : Call ℕ → ℕ → ℕ → Opened → Opened → Type 0

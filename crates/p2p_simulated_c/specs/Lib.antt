@@ -6,4 +6,5 @@ pub mod Plan
 pub mod Planning
 pub mod Ran
 pub mod Records
+pub mod Turns
 pub mod Written

@@ -5,6 +5,7 @@
 #![tactic(auto)]
 
 pub mod handle;
+pub mod in_turn;
 pub mod opened;
 pub mod place;
 pub mod planner;

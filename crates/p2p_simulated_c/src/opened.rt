@@ -17,11 +17,14 @@ use link_scheduler::transmitter::{Completion, State};
 use link_scripts::linkrun::zeros::Zeros;
 use std::alloc::Global;
 
-/// A scheduler of numbered peers, and the completions of the last call that was made on it.
+/// A scheduler of numbered peers, and of the last call that was made on it the completions and the
+/// moment.
 #[derive(Drop)]
 pub struct Opened {
     pub state: State<u64>,
     pub completed: Vec<Completion<u64>>,
+    /// In nanoseconds since the start, and 0 before any call.
+    pub last: u64,
     /// The messages without bytes of the caller's share these.
     pub zeros: Zeros,
 }
@@ -31,27 +34,36 @@ impl Opened {
     pub fn new(alloc: Global, first_id: u64) -> Opened
         ensures state { IsNew result.state first_id }
         ensures completed { result.completed.items ≡ [] }
+        ensures last { result.last ≡ 0 }
     {
         Opened {
             state: State::with_first_id(alloc, first_id),
             completed: Vec::new(alloc),
+            last: 0,
             zeros: Zeros::new(),
         }
     }
 
-    /// Keeps what a call answered, tells how many messages it completed, and answers its status. A
-    /// call that was refused leaves what is kept as it was.
-    fn keep(&mut self, answer: Result<Vec<Completion<u64>>, Error>, count: &mut usize) -> u32
+    /// Keeps what a call at `now` answered, tells how many messages it completed, and answers its
+    /// status. A call that was refused leaves what is kept as it was.
+    fn keep(
+        &mut self,
+        now: u64,
+        answer: Result<Vec<Completion<u64>>, Error>,
+        count: &mut usize,
+    ) -> u32
         ensures state { self.new.state ≡ self.old.state }
         ensures status { MatchResult answer (λ done. result ≡ 0) (λ why. result ≡ refusal_number why) }
         ensures completed { MatchResult answer (λ done. self.new.completed.items ≡ done.items)
             (λ why. self.new.completed ≡ self.old.completed) }
+        ensures moment { MatchResult answer (λ done. self.new.last ≡ now) (λ why. self.new.last ≡ self.old.last) }
         ensures counted { MatchResult answer (λ done. count.new ≡ length done.items) (λ why. count.new ≡ 0) }
     {
         match answer {
             Ok(done) => {
                 *count = done.len();
                 self.completed = done;
+                self.last = now;
                 MADE
             }
             Err(why) => {
@@ -73,7 +85,7 @@ impl Opened {
         ensures { Ended (call_limit now peer egress ingress) result count.new self.old self.new }
     {
         let answer = self.state.limit(now, &peer, egress, ingress);
-        self.keep(answer, count)
+        self.keep(now, answer, count)
     }
 
     /// `State::limit_link`.
@@ -88,7 +100,7 @@ impl Opened {
         ensures { Ended (call_limit_link now origin recipient cap) result count.new self.old self.new }
     {
         let answer = self.state.limit_link(now, &origin, &recipient, cap);
-        self.keep(answer, count)
+        self.keep(now, answer, count)
     }
 
     /// `State::enqueue`, with a copy of the bytes.
@@ -120,7 +132,7 @@ impl Opened {
             latency,
             should_deliver,
         );
-        self.keep(answer, count)
+        self.keep(now, answer, count)
     }
 
     /// `State::enqueue` of so many zero bytes.
@@ -152,7 +164,7 @@ impl Opened {
             latency,
             should_deliver,
         );
-        self.keep(answer, count)
+        self.keep(now, answer, count)
     }
 
     /// `State::advance`.
@@ -161,7 +173,7 @@ impl Opened {
         ensures advanced { Advanced now result self.old self.new }
     {
         let answer = self.state.advance(now);
-        self.keep(answer, count)
+        self.keep(now, answer, count)
     }
 
     /// `State::advance_counted`. After a refusal `events` is 0.
@@ -173,11 +185,11 @@ impl Opened {
         match self.state.advance_counted(now) {
             Ok((done, handled)) => {
                 *events = Wide::of(handled);
-                self.keep(Ok(done), count)
+                self.keep(now, Ok(done), count)
             }
             Err(why) => {
                 *events = Wide::of(0);
-                self.keep(Err(why), count)
+                self.keep(now, Err(why), count)
             }
         }
     }

@@ -9,7 +9,8 @@ returns-in-Ok-clause-ended c =
     let between : Opened = record c.args.self.now { state = c.advance_counted.new.self } in
     ended (λ done. done.items) (Ok c.in-Ok.done) _ c.keep.result c.keep.new.count c.args.self.now between
     c.keep.new.self
-    c.keep.ensures.state c.keep.ensures.status c.keep.ensures.completed c.keep.ensures.counted refl c.in-Ok.ensures.made
+    c.keep.ensures.state c.keep.ensures.status c.keep.ensures.completed c.keep.ensures.counted c.keep.ensures.moment refl
+    refl refl c.in-Ok.ensures.made
     tt tt
 
 pub returns-in-Err-clause-ended : goal.returns-in-Err-clause-ended
@@ -18,5 +19,5 @@ returns-in-Err-clause-ended c =
     ended {V = List (Completion ℕ)} (λ done. done) (Err c.in-Err.why) _ c.keep-in-Err.result c.keep-in-Err.new.count
     c.args.self.now between c.keep-in-Err.new.self
     c.keep-in-Err.ensures.state c.keep-in-Err.ensures.status c.keep-in-Err.ensures.completed
-    c.keep-in-Err.ensures.counted refl tt c.in-Err.ensures.refused
+    c.keep-in-Err.ensures.counted c.keep-in-Err.ensures.moment refl refl refl tt c.in-Err.ensures.refused
     (same_plan {V = List (Completion ℕ)} (Err c.in-Err.why) c.args.self.now between c.in-Err.ensures.unchanged)

@@ -9,5 +9,5 @@ returns c =
     rw (sym c.in-Ok.ensures)
     (ended (λ done. done.items) c.enqueue-answer.result _ c.keep.result c.keep.new.count c.args.self.now between
     c.keep.new.self
-    c.keep.ensures.state c.keep.ensures.status c.keep.ensures.completed c.keep.ensures.counted refl
+    c.keep.ensures.state c.keep.ensures.status c.keep.ensures.completed c.keep.ensures.counted c.keep.ensures.moment refl refl refl
     c.enqueue-answer.ensures.made c.enqueue-answer.ensures.refused c.enqueue-answer.ensures.unchanged)
