@@ -86,6 +86,24 @@ typedef struct p2p_done {
     p2p_moment deliver_at;
 } p2p_done;
 
+/* An amount in bytes, or in bytes a second, as a fraction in lowest terms. Where is_exact is 0 it is no
+ * fraction of 128 bits, and this is the greatest whole number of 128 bits that is not above it. */
+typedef struct p2p_amount {
+    p2p_wide numerator;
+    p2p_wide denominator;
+    uint8_t is_exact;
+} p2p_amount;
+
+/* A message in flight: at the moment `since` so much was left of it, and since then it has gone at its
+ * rate. */
+typedef struct p2p_flight {
+    uint64_t origin;
+    uint64_t recipient;
+    p2p_amount left;
+    p2p_amount rate;
+    uint64_t since;
+} p2p_flight;
+
 /* The number as a wide one: a cap of the planner below 2^64. */
 static inline p2p_wide p2p_number(uint64_t number) {
     p2p_wide wide = {number, 0};
@@ -127,6 +145,8 @@ P2P_ASSERT(sizeof(p2p_scheduler) == 16 && offsetof(p2p_scheduler, is_open) == 8)
 P2P_ASSERT(sizeof(p2p_cap) == 16 && offsetof(p2p_cap, is_some) == 8);
 P2P_ASSERT(sizeof(p2p_moment) == 16 && offsetof(p2p_moment, is_some) == 8);
 P2P_ASSERT(sizeof(p2p_wide) == 16 && offsetof(p2p_wide, high) == 8);
+P2P_ASSERT(sizeof(p2p_amount) == 40 && offsetof(p2p_amount, denominator) == 16 && offsetof(p2p_amount, is_exact) == 32);
+P2P_ASSERT(sizeof(p2p_flight) == 104 && offsetof(p2p_flight, rate) == 56 && offsetof(p2p_flight, since) == 96);
 P2P_ASSERT(sizeof(p2p_done) == 48 && offsetof(p2p_done, length) == 24 && offsetof(p2p_done, deliver_at) == 32);
 P2P_ASSERT(sizeof(p2p_flow) == 32 && offsetof(p2p_flow, recipient) == 16 && offsetof(p2p_flow, delivered) == 24);
 P2P_ASSERT(sizeof(p2p_peer_cap) == 24 && offsetof(p2p_peer_cap, cap) == 8);
@@ -190,6 +210,16 @@ uint32_t p2p_next(p2p_scheduler *scheduler, p2p_moment *next);
  * advance. P2P_OK where it would, and P2P_GONE_BY or P2P_EVENT_DUE where not; `at` is then the moment of
  * the last call that was made, or of the event, and else `now`. It changes nothing. */
 uint32_t p2p_in_turn(p2p_scheduler *scheduler, uint64_t now, uint8_t acts, uint64_t *at);
+
+/* Copies what is in flight, in order of start, as much as there is room for; `count` is how much all of it
+ * is. Of each ordered pair at most one message is in flight, the first that was sent of those that are not
+ * done: so who keeps what was sent knows which. P2P_OK, P2P_OUT_OF_MEMORY or P2P_CLOSED, and after the
+ * latter two nothing is written and `count` is 0. */
+uint32_t p2p_in_flight(p2p_scheduler *scheduler, p2p_flight *out, size_t room, size_t *count);
+
+/* How many of the messages in flight got their rate anew when rates were last given, or 0 where the
+ * scheduler is not open. It counts work, and has no part in what is answered. */
+size_t p2p_rated_anew(p2p_scheduler *scheduler);
 
 /* Copies what the last call that was made completed, from the completion `first` on, as many as
  * there is room for, and answers how many; 0 where the scheduler is not open. */

@@ -36,6 +36,7 @@ static long refusals;
 
 int main(void) {
     static uint8_t bytes[100];
+    p2p_flight flights[20];
     size_t count, completed = 0, sent = 0;
     uint64_t now = 0;
     EACH(p2p_open(&s, 0));
@@ -49,6 +50,7 @@ int main(void) {
             completed += count;
             sent += 2;
         }
+        EACH(p2p_in_flight(&s, flights, 20, &count));
         now += 50000000;
         EACH(p2p_advance(&s, now, &count));
         completed += count;

@@ -20,6 +20,7 @@ static void a_handle_is_safe_whatever_its_state(void) {
     p2p_moment next = {7, 1};
     p2p_wide events = {7, 7};
     p2p_done done;
+    p2p_flight flight;
     uint64_t at = 7;
     uint8_t byte = 7;
     CHECK(p2p_limit(&s, 0, 1, p2p_no_cap(), p2p_no_cap(), &count) == P2P_CLOSED && count == 0);
@@ -30,6 +31,8 @@ static void a_handle_is_safe_whatever_its_state(void) {
     CHECK(p2p_advance_counted(&s, 0, &count, &events) == P2P_CLOSED && events.low == 0 && events.high == 0);
     CHECK(p2p_next(&s, &next) == P2P_CLOSED && next.is_some == 0);
     CHECK(p2p_in_turn(&s, 9, 1, &at) == P2P_CLOSED && at == 9);
+    count = 7;
+    CHECK(p2p_in_flight(&s, &flight, 1, &count) == P2P_CLOSED && count == 0 && p2p_rated_anew(&s) == 0);
     CHECK(p2p_completions(&s, 0, &done, 1) == 0 && p2p_message(&s, 0, 0, &byte, 1) == 0 && byte == 7);
     p2p_close(&s);
     CHECK(p2p_open(&s, 0) == P2P_OK && s.is_open == 1);
@@ -155,6 +158,56 @@ static void a_turn_is_told(void) {
     p2p_close(&s);
 }
 
+static int is_amount(const p2p_amount *amount, uint64_t numerator, uint64_t denominator) {
+    return amount->is_exact == 1 && amount->numerator.low == numerator && amount->numerator.high == 0 &&
+           amount->denominator.low == denominator && amount->denominator.high == 0;
+}
+
+/* For a nanosecond each a message has a byte, half a byte, a third and so on: after 59 of them what is left has terms
+ * of more than 64 bits, and after 99 it is no fraction of 128 bits. */
+static void amounts_are_as_long_as_they_are(void) {
+    p2p_scheduler s = P2P_SCHEDULER_INIT;
+    size_t count;
+    p2p_flight flight;
+    CHECK(p2p_open(&s, 0) == P2P_OK);
+    CHECK(p2p_limit(&s, 0, 1, p2p_bytes(1000000000), p2p_no_cap(), &count) == P2P_OK);
+    for (uint64_t i = 0; i < 100; i++) {
+        CHECK(p2p_enqueue_zeros(&s, i, 1, i + 2, 7, 1000000, 0, 1, &count) == P2P_OK);
+        if (i != 59) continue;
+        CHECK(p2p_in_flight(&s, &flight, 1, &count) == P2P_OK && count == 60 && flight.left.is_exact == 1);
+        CHECK(flight.left.numerator.low == 460967740754176745u && flight.left.numerator.high == 175110703119);
+        CHECK(flight.left.denominator.low == 9586767723940608224u && flight.left.denominator.high == 175111);
+    }
+    CHECK(p2p_in_flight(&s, &flight, 1, &count) == P2P_OK && count == 100 && flight.recipient == 2);
+    CHECK(flight.left.is_exact == 0 && flight.left.numerator.low == 999994 && flight.left.denominator.low == 1);
+    CHECK(is_amount(&flight.rate, 10000000, 1) && flight.since == 99);
+    p2p_close(&s);
+}
+
+static void what_is_in_flight_is_told(void) {
+    p2p_scheduler s = P2P_SCHEDULER_INIT;
+    size_t count = 7;
+    p2p_flight flights[3];
+    memset(flights, 255, sizeof flights);
+    CHECK(p2p_open(&s, 0) == P2P_OK);
+    CHECK(p2p_in_flight(&s, flights, 3, &count) == P2P_OK && count == 0 && p2p_rated_anew(&s) == 0);
+    CHECK(p2p_limit(&s, 0, 1, p2p_bytes(1000), p2p_no_cap(), &count) == P2P_OK);
+    CHECK(p2p_enqueue_zeros(&s, 0, 1, 2, 7, 1000, 0, 1, &count) == P2P_OK);
+    CHECK(p2p_enqueue_zeros(&s, 0, 1, 3, 8, 500, 0, 1, &count) == P2P_OK);
+    CHECK(p2p_enqueue_zeros(&s, 0, 1, 3, 9, 700, 0, 1, &count) == P2P_OK); /* waits behind the other */
+    CHECK(p2p_rated_anew(&s) == 2);
+    CHECK(p2p_limit(&s, 400000001, 1, p2p_bytes(1001), p2p_no_cap(), &count) == P2P_OK);
+    CHECK(p2p_in_flight(&s, flights, 3, &count) == P2P_OK && count == 2 && flights[2].since == UINT64_MAX);
+    CHECK(flights[0].origin == 1 && flights[0].recipient == 2 && flights[1].origin == 1 && flights[1].recipient == 3);
+    CHECK(is_amount(&flights[0].left, 1599999999, 2000000) && is_amount(&flights[0].rate, 1001, 2));
+    CHECK(is_amount(&flights[1].left, 599999999, 2000000) && is_amount(&flights[1].rate, 1001, 2));
+    CHECK(flights[0].since == 400000001 && flights[1].since == 400000001);
+    memset(flights, 255, sizeof flights);
+    CHECK(p2p_in_flight(&s, flights, 1, &count) == P2P_OK && count == 2); /* there was room for one */
+    CHECK(flights[0].recipient == 2 && flights[1].since == UINT64_MAX);
+    p2p_close(&s);
+}
+
 static int is_rate(const p2p_rate *rate, uint64_t numerator, uint64_t denominator) {
     return rate->is_limited == 1 && rate->numerator.low == numerator && rate->numerator.high == 0 &&
            rate->denominator.low == denominator && rate->denominator.high == 0;
@@ -217,6 +270,8 @@ int main(void) {
     a_dropped_message_does_not_arrive();
     a_refused_call_changes_nothing();
     a_turn_is_told();
+    what_is_in_flight_is_told();
+    amounts_are_as_long_as_they_are();
     rates_are_max_min_fair();
     a_rate_that_is_no_fraction_is_refused();
     a_script_prints_what_linkrun_prints();

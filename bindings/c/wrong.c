@@ -106,6 +106,27 @@ CALL(uint32_t, p2p_in_turn, p2p_scheduler *s, uint64_t now, uint8_t acts, uint64
     return status;
 }
 
+CALL(uint32_t, p2p_in_flight, p2p_scheduler *s, p2p_flight *out, size_t room, size_t *count) {
+    uint32_t status = __real_p2p_in_flight(s, out, room, count);
+    if (is("what-is-in-flight-is-counted-by-the-room") && *count > room) *count = room;
+    if (is("nothing-is-in-flight")) *count = 0;
+    for (size_t i = 0; i < *count && i < room; i++) {
+        if (is("a-flight-is-turned-round")) out[i].origin = out[i].recipient, out[i].recipient = 1;
+        if (is("a-flight-tells-its-rate-as-what-is-left")) out[i].left = out[i].rate;
+        if (is("a-flight-tells-what-is-left-as-its-rate")) out[i].rate = out[i].left;
+        if (is("a-flight-is-since-the-start")) out[i].since = 0;
+        if (is("a-rounded-amount-is-told-as-exact")) out[i].left.is_exact = 1;
+        if (is("an-amount-loses-its-upper-half")) out[i].left.numerator.high = 0;
+        if (is("each-flight-is-the-first")) out[i] = out[0];
+    }
+    return status;
+}
+
+CALL(size_t, p2p_rated_anew, p2p_scheduler *s) {
+    size_t count = __real_p2p_rated_anew(s);
+    return is("none-is-rated-anew") ? 0 : count;
+}
+
 size_t __wrap_p2p_completions(p2p_scheduler *s, size_t first, p2p_done *out, size_t room) {
     size_t count = __real_p2p_completions(s, first, out, room);
     if (is("completions-are-those-of-the-call-before")) {

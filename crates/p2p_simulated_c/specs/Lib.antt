@@ -1,5 +1,6 @@
 pub mod Asked
 pub mod Completions
+pub mod Flights
 pub mod Opening
 pub mod Place
 pub mod Plan

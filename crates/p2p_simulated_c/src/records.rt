@@ -1,11 +1,12 @@
-//! What crosses to C by value: a cap, a moment, a wide number, a completion, and what a plan is made
-//! of.
+//! What crosses to C by value: a cap, a moment, a wide number, a completion, what is in flight, and
+//! what a plan is made of.
 ghost use Rattle.std.specs.Prelude.{◌≡◌, ◌<◌, ◌^◌, Option};
+ghost use Rattle.p2p_simulated_c.specs.Flights.{amount_read, flight_of};
 ghost use Rattle.p2p_simulated_c.specs.Plan.{flow_of, record_of_rate};
 ghost use Rattle.p2p_simulated_c.specs.Records.{cap_of_record, moment_of_record, of_moment, value_of, wide_of, done_of};
 
 use fair_rates::bandwidth::{Flow, Rate};
-use link_scheduler::transmitter::Completion;
+use link_scheduler::transmitter::{Completion, InFlight, Reading};
 
 /// A cap in bytes a second, or none where `is_some` is 0.
 #[repr(C)]
@@ -102,6 +103,56 @@ impl Done {
             channel: completion.channel,
             length: completion.message.len(),
             deliver_at: Moment::of(completion.deliver_at),
+        }
+    }
+}
+
+/// An amount of bytes, or of bytes a second, as a fraction in lowest terms. Where `is_exact` is 0 it
+/// is no fraction of 128 bits, and this one is rounded down to a whole number.
+#[repr(C)]
+#[derive(Clone, Copy)]
+pub struct Amount {
+    pub numerator: Wide,
+    pub denominator: Wide,
+    pub is_exact: u8,
+}
+
+impl Amount {
+    /// The record of an amount that was read.
+    pub fn of(reading: Reading) -> Amount
+        ensures { result ≡ amount_read reading }
+    {
+        Amount {
+            numerator: Wide::of(reading.amount.numerator()),
+            denominator: Wide::of(reading.amount.denominator()),
+            is_exact: reading.is_exact as u8,
+        }
+    }
+}
+
+/// A message in flight: its pair, and what was `left` of it at the moment `since`, from which on it
+/// has gone at its rate.
+#[repr(C)]
+#[derive(Clone, Copy)]
+pub struct Flight {
+    pub origin: u64,
+    pub recipient: u64,
+    pub left: Amount,
+    pub rate: Amount,
+    pub since: u64,
+}
+
+impl Flight {
+    /// The record of a message in flight that was read.
+    pub fn of(reading: &InFlight<u64>) -> Flight
+        ensures { result ≡ flight_of reading.now }
+    {
+        Flight {
+            origin: reading.origin,
+            recipient: reading.recipient,
+            left: Amount::of(reading.left),
+            rate: Amount::of(reading.rate),
+            since: reading.since,
         }
     }
 }

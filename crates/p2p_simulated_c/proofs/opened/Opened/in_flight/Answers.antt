@@ -1,0 +1,14 @@
+use Rattle.std.proofs.Common.{inl, map, refl, ap, ◌∙◌}
+use Rattle.p2p_simulated_c.specs.Flights.{flight_of}
+use Rattle.p2p_simulated_c.specs.Written.{written}
+use Rattle.p2p_simulated_c.proofs.opened.Opened.in_flight.Goals as goal
+
+pub returns-in-Ok : goal.returns-in-Ok
+returns-in-Ok c =
+    inl (
+      refl,
+      c.in-Ok.readings.items,
+      c.in-Ok.ensures.read,
+      c.len.ensures ∙ c.in-Ok.readings.ok.0,
+      c.write_flights.ensures ∙ ap (λ rs. written (map flight_of rs) c.args.out.now) c.deref.ensures.value,
+    )
