@@ -105,8 +105,9 @@ for script in examples/*.link examples/generated/*.link; do
     cmp $out/script.out "${script%.link}.out"
     [ $status = 2 ] && continue
     $out/script calls < "$script" | cmp - "${script%.link}.out"
+    $out/script lists < "$script" | cmp - "${script%.link}.out"
 done
-echo "c: each example prints what linkrun prints, by p2p_run and call by call"
+echo "c: each example prints what linkrun prints, by p2p_run, call by call and by lists of messages"
 
 if cargo --version > /dev/null 2>&1 && minor=$(rustc --version 2> /dev/null | sed 's/^rustc 1\.\([0-9]*\).*/\1/') && [ "$minor" -ge 63 ]; then
     if ! (cd bindings/rust && cargo test --quiet --offline --target-dir ../../$out/rust) > $out/rust.out 2>&1; then

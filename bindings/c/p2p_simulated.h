@@ -77,6 +77,18 @@ typedef struct p2p_wide {
     uint64_t high;
 } p2p_wide;
 
+/* A message to send with others: `length` bytes, from the byte `from` on of those that are given with
+ * the list, and zeros where these end before. */
+typedef struct p2p_parcel {
+    uint64_t origin;
+    uint64_t recipient;
+    uint64_t channel;
+    size_t from;
+    size_t length;
+    uint64_t latency;
+    uint8_t should_deliver;
+} p2p_parcel;
+
 /* A message that is done. It arrives at deliver_at, or not at all. */
 typedef struct p2p_done {
     uint64_t origin;
@@ -145,6 +157,7 @@ P2P_ASSERT(sizeof(p2p_scheduler) == 16 && offsetof(p2p_scheduler, is_open) == 8)
 P2P_ASSERT(sizeof(p2p_cap) == 16 && offsetof(p2p_cap, is_some) == 8);
 P2P_ASSERT(sizeof(p2p_moment) == 16 && offsetof(p2p_moment, is_some) == 8);
 P2P_ASSERT(sizeof(p2p_wide) == 16 && offsetof(p2p_wide, high) == 8);
+P2P_ASSERT(sizeof(p2p_parcel) == 56 && offsetof(p2p_parcel, from) == 24 && offsetof(p2p_parcel, latency) == 40);
 P2P_ASSERT(sizeof(p2p_amount) == 40 && offsetof(p2p_amount, denominator) == 16 && offsetof(p2p_amount, is_exact) == 32);
 P2P_ASSERT(sizeof(p2p_flight) == 104 && offsetof(p2p_flight, rate) == 56 && offsetof(p2p_flight, since) == 96);
 P2P_ASSERT(sizeof(p2p_done) == 48 && offsetof(p2p_done, length) == 24 && offsetof(p2p_done, deliver_at) == 32);
@@ -195,6 +208,13 @@ uint32_t p2p_enqueue(p2p_scheduler *scheduler, uint64_t now, uint64_t origin, ui
  * by a number of the caller's as its channel. */
 uint32_t p2p_enqueue_zeros(p2p_scheduler *scheduler, uint64_t now, uint64_t origin, uint64_t recipient, uint64_t channel,
                            size_t length, uint64_t latency, uint8_t should_deliver, size_t *count);
+
+/* Sends messages one after another, as a whole or not at all, in far less time than by a call for each:
+ * what is in flight is rated once for all of them. The messages have their parts of `bytes`, which are
+ * copied once: a broadcast has one message's, and a list of messages by their lengths has none. It does
+ * and completes what as many calls would, and is refused where one of them would be. */
+uint32_t p2p_enqueue_all(p2p_scheduler *scheduler, uint64_t now, const p2p_parcel *parcels, size_t parcel_count,
+                         const uint8_t *bytes, size_t length, size_t *count);
 
 /* Lets time go on to `now`. What completes up to then and at it is completed in order. */
 uint32_t p2p_advance(p2p_scheduler *scheduler, uint64_t now, size_t *count);

@@ -1,10 +1,11 @@
 /* Each allocation of each call is refused in turn: the call says so, the scheduler is as it was, and
- * the call then goes through. At the end all memory is given back. */
+ * the call then goes through. At the end all memory is given back. And zero bytes take none of their own. */
 #include "p2p_simulated.h"
 
 #include <stdio.h>
 
 extern long p2p_test_until_refusal, p2p_test_blocks; /* of refusing_heap.c */
+extern size_t p2p_test_largest;
 
 static p2p_scheduler s = P2P_SCHEDULER_INIT;
 static long refusals;
@@ -34,6 +35,26 @@ static long refusals;
         }                                                                                                   \
     }
 
+/* Whether zero bytes share one block: of up to 2^20 of them none is asked for, and of more once. */
+static int zeros_share(void) {
+    const p2p_parcel parcels[] = {{1, 8, 7, 0, 1 << 20, 0, 1}, {1, 9, 7, 5, 1 << 20, 0, 1}};
+    const uint8_t few[] = {1, 2};
+    const size_t long_one = 5 << 20;
+    size_t count, wrong = p2p_open(&s, 0) != P2P_OK;
+    wrong += p2p_limit(&s, 0, 1, p2p_bytes(1), p2p_no_cap(), &count) != P2P_OK;
+    p2p_test_largest = 0;
+    for (uint64_t to = 2; to < 8; to++) wrong += p2p_enqueue_zeros(&s, 0, 1, to, 7, 1 << 20, 0, 1, &count) != P2P_OK;
+    wrong += p2p_enqueue_all(&s, 0, parcels + 1, 1, few, sizeof few, &count) != P2P_OK;
+    wrong += p2p_enqueue_all(&s, 0, parcels, 2, few, 0, &count) != P2P_OK || p2p_test_largest > 100000;
+    for (int turn = 0; turn < 2; turn++) {
+        p2p_test_largest = 0;
+        wrong += p2p_enqueue_zeros(&s, 0, 1, 10, 7, long_one, 0, 1, &count) != P2P_OK;
+        wrong += turn == 0 ? p2p_test_largest < long_one : p2p_test_largest > 100000;
+    }
+    p2p_close(&s);
+    return wrong == 0;
+}
+
 int main(void) {
     static uint8_t bytes[100];
     p2p_flight flights[20];
@@ -50,6 +71,13 @@ int main(void) {
             completed += count;
             sent += 2;
         }
+        p2p_parcel parcels[4];
+        for (uint64_t peer = 0; peer < 4; peer++) {
+            parcels[peer] = (p2p_parcel){turn % 4, peer, 9, 30 * peer, 40, 5, peer != 1};
+        }
+        EACH(p2p_enqueue_all(&s, now, parcels, 4, bytes, sizeof bytes, &count));
+        completed += count;
+        sent += 4;
         EACH(p2p_in_flight(&s, flights, 20, &count));
         now += 50000000;
         EACH(p2p_advance(&s, now, &count));
@@ -83,6 +111,10 @@ int main(void) {
         refusals++;
     }
     p2p_test_until_refusal = -1;
+    if (!zeros_share()) {
+        fprintf(stderr, "refusals.c: zero bytes take memory of their own\n");
+        return 1;
+    }
     if (completed != sent || p2p_test_blocks != 0) {
         fprintf(stderr, "refusals.c: %zu of %zu messages completed, %ld blocks were not given back\n", completed, sent,
                 p2p_test_blocks);

@@ -21,12 +21,14 @@ static void a_handle_is_safe_whatever_its_state(void) {
     p2p_wide events = {7, 7};
     p2p_done done;
     p2p_flight flight;
+    p2p_parcel parcel = {1, 2, 3, 0, 1, 0, 1};
     uint64_t at = 7;
     uint8_t byte = 7;
     CHECK(p2p_limit(&s, 0, 1, p2p_no_cap(), p2p_no_cap(), &count) == P2P_CLOSED && count == 0);
     CHECK(p2p_limit_link(&s, 0, 1, 2, p2p_no_cap(), &count) == P2P_CLOSED);
     CHECK(p2p_enqueue(&s, 0, 1, 2, 3, &byte, 1, 0, 1, &count) == P2P_CLOSED);
     CHECK(p2p_enqueue_zeros(&s, 0, 1, 2, 3, 1, 0, 1, &count) == P2P_CLOSED);
+    CHECK(p2p_enqueue_all(&s, 0, &parcel, 1, &byte, 1, &count) == P2P_CLOSED && count == 0);
     CHECK(p2p_advance(&s, 0, &count) == P2P_CLOSED);
     CHECK(p2p_advance_counted(&s, 0, &count, &events) == P2P_CLOSED && events.low == 0 && events.high == 0);
     CHECK(p2p_next(&s, &next) == P2P_CLOSED && next.is_some == 0);
@@ -158,6 +160,40 @@ static void a_turn_is_told(void) {
     p2p_close(&s);
 }
 
+static void many_messages_go_by_one_call(void) {
+    p2p_scheduler s = P2P_SCHEDULER_INIT;
+    const uint8_t bytes[] = {1, 2, 3, 4};
+    const p2p_parcel parcels[] = {
+        {1, 2, 10, 0, 4, 5, 1}, {1, 3, 11, 1, 2, 0, 0}, {1, 4, 12, 3, 3, 0, 1}, {1, 5, 13, 9, 2, 0, 1}};
+    const p2p_parcel late[] = {{1, 6, 14, 0, 4, 0, 1}, {7, 8, 15, 0, 4, UINT64_MAX, 1}};
+    size_t count;
+    p2p_done done[5];
+    uint8_t got[5];
+    uint64_t at;
+    CHECK(p2p_open(&s, 0) == P2P_OK);
+    CHECK(p2p_limit(&s, 0, 1, p2p_bytes(4), p2p_no_cap(), &count) == P2P_OK);
+    CHECK(p2p_enqueue_all(&s, 1, parcels, 4, bytes, sizeof bytes, &count) == P2P_OK && count == 0);
+    CHECK(p2p_in_turn(&s, 0, 0, &at) == P2P_GONE_BY && at == 1);
+    CHECK(p2p_enqueue_all(&s, 1, late, 2, bytes, sizeof bytes, &count) == P2P_MOMENT_TOO_LATE && count == 0);
+    CHECK(p2p_advance(&s, 10000000000, &count) == P2P_OK && count == 4); /* the late list went as a whole */
+    CHECK(p2p_completions(&s, 0, done, 5) == 4);
+    for (size_t i = 0; i < 4; i++) {
+        memset(got, 255, sizeof got);
+        size_t length = p2p_message(&s, i, 0, got, sizeof got);
+        CHECK(done[i].origin == 1 && done[i].length == length && done[i].channel == done[i].recipient + 8);
+        CHECK(done[i].deliver_at.is_some == (done[i].recipient != 3));
+        switch (done[i].recipient) {
+        case 2: CHECK(length == 4 && memcmp(got, bytes, 4) == 0 && done[i].deliver_at.at == 2750000006); break;
+        case 3: CHECK(length == 2 && got[0] == 2 && got[1] == 3); break;
+        case 4: CHECK(length == 3 && got[0] == 4 && got[1] == 0 && got[2] == 0); break;
+        default: CHECK(length == 2 && got[0] == 0 && got[1] == 0);
+        }
+    }
+    CHECK(p2p_enqueue_all(&s, 10000000000, parcels, 0, bytes, 0, &count) == P2P_OK && count == 0);
+    CHECK(p2p_completions(&s, 0, done, 5) == 0);
+    p2p_close(&s);
+}
+
 static int is_amount(const p2p_amount *amount, uint64_t numerator, uint64_t denominator) {
     return amount->is_exact == 1 && amount->numerator.low == numerator && amount->numerator.high == 0 &&
            amount->denominator.low == denominator && amount->denominator.high == 0;
@@ -270,6 +306,7 @@ int main(void) {
     a_dropped_message_does_not_arrive();
     a_refused_call_changes_nothing();
     a_turn_is_told();
+    many_messages_go_by_one_call();
     what_is_in_flight_is_told();
     amounts_are_as_long_as_they_are();
     rates_are_max_min_fair();

@@ -1,6 +1,7 @@
 /* Wrong bodies of the calls. Linked between test.c and the library, by `--wrap` of the linker, each call does what it
  * should, but for the one body that the variable P2P_WRONG names; test.c has to tell each of them (bindings/check.sh).
- * A body stands on a line of its own, which names it once. No more than 8 flows, links or completions are looked at. */
+ * A body stands on a line of its own, which names it once. No more than 8 flows, links, parcels or completions are
+ * looked at. */
 #include "p2p_simulated.h"
 
 #include <stdlib.h>
@@ -75,6 +76,32 @@ CALL(uint32_t, p2p_enqueue_zeros, p2p_scheduler *s, uint64_t now, uint64_t origi
     if (is("zeros-lose-their-latency")) latency = 0;
     if (is("zeros-always-arrive")) should_deliver = 1;
     return told(s, __real_p2p_enqueue_zeros(s, now, from, to, channel, length, latency, should_deliver, count));
+}
+
+CALL(uint32_t, p2p_enqueue_all, p2p_scheduler *s, uint64_t now, const p2p_parcel *parcels, size_t parcel_count,
+     const uint8_t *bytes, size_t length, size_t *count) {
+    p2p_parcel parcel[8];
+    parcel_count = parcel_count < 8 ? parcel_count : 8;
+    for (size_t i = 0; i < parcel_count; i++) {
+        parcel[i] = parcels[i];
+        if (is("parcels-begin-where-they-end")) parcel[i].origin = parcels[i].recipient;
+        if (is("parcels-lose-their-channel")) parcel[i].channel = 0;
+        if (is("parcels-all-begin-at-the-front")) parcel[i].from = 0;
+        if (is("parcels-end-where-the-bytes-do") && parcel[i].from + parcel[i].length > length) parcel[i].length = 0;
+        if (is("parcels-lose-their-latency")) parcel[i].latency = 0;
+        if (is("parcels-always-arrive")) parcel[i].should_deliver = 1;
+    }
+    if (is("parcels-lose-their-bytes")) length = 0;
+    if (is("the-last-parcel-is-left-out") && parcel_count > 0) parcel_count--;
+    if (is("a-list-is-sent-up-to-a-refusal")) {
+        uint32_t status = P2P_OK;
+        *count = 0;
+        for (size_t i = 0; i < parcel_count && status == P2P_OK; i++) {
+            status = __real_p2p_enqueue_all(s, now, parcel + i, 1, bytes, length, count);
+        }
+        return told(s, status);
+    }
+    return told(s, __real_p2p_enqueue_all(s, now, parcel, parcel_count, bytes, length, count));
 }
 
 CALL(uint32_t, p2p_advance, p2p_scheduler *s, uint64_t now, size_t *count) {

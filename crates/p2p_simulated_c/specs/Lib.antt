@@ -2,6 +2,7 @@ pub mod Asked
 pub mod Completions
 pub mod Flights
 pub mod Opening
+pub mod Parcels
 pub mod Place
 pub mod Plan
 pub mod Planning

@@ -4,6 +4,7 @@
 //! library's own call does, and says so again in its contract.
 #![tactic(auto)]
 
+pub mod batch;
 pub mod flights;
 pub mod handle;
 pub mod in_turn;

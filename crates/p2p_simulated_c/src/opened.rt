@@ -46,7 +46,7 @@ impl Opened {
 
     /// Keeps what a call at `now` answered, tells how many messages it completed, and answers its
     /// status. A call that was refused leaves what is kept as it was.
-    fn keep(
+    pub(crate) fn keep(
         &mut self,
         now: u64,
         answer: Result<Vec<Completion<u64>>, Error>,

@@ -1,5 +1,5 @@
-//! What crosses to C by value: a cap, a moment, a wide number, a completion, what is in flight, and
-//! what a plan is made of.
+//! What crosses to C by value: a cap, a moment, a wide number, a message to send, a completion, what is
+//! in flight, and what a plan is made of.
 ghost use Rattle.std.specs.Prelude.{◌≡◌, ◌<◌, ◌^◌, Option};
 ghost use Rattle.p2p_simulated_c.specs.Flights.{amount_read, flight_of};
 ghost use Rattle.p2p_simulated_c.specs.Plan.{flow_of, record_of_rate};
@@ -79,6 +79,20 @@ impl Wide {
     {
         self.high as u128 * HALF + self.low as u128
     }
+}
+
+/// A message to send with others: `length` bytes, from the byte `from` on of those that are given with
+/// the list, and zeros where these end before. It is dropped where `should_deliver` is 0.
+#[repr(C)]
+#[derive(Clone, Copy)]
+pub struct Parcel {
+    pub origin: u64,
+    pub recipient: u64,
+    pub channel: u64,
+    pub from: usize,
+    pub length: usize,
+    pub latency: u64,
+    pub should_deliver: u8,
 }
 
 /// A message that is done, without its bytes.

@@ -1,0 +1,8 @@
+use Rattle.std.proofs.Common.{refl}
+use Rattle.p2p_simulated_c.proofs.Ending.{on_open}
+use Rattle.p2p_simulated_c.proofs.batch.p2p_enqueue_all.Goals as goal
+
+pub returns : goal.returns
+returns c =
+    on_open _ _ _ _ _ _ _ c.in-Some.ensures.taken c.deref_mut.ensures.value c.of.ensures refl
+    c.enqueue_all-status.ensures
