@@ -34,9 +34,11 @@ public:
     void has(std::uint64_t now, std::uint64_t peer, std::uint64_t block) {
         if (!known.insert({peer, block}).second) return;
         std::printf("%" PRIu64 " ns: peer %" PRIu64 " has block %" PRIu64 "\n", now, peer, block);
+        std::vector<p2p_parcel> parcels;
         for (std::uint64_t other = 0; other < peers; other++) {
-            if (other != peer) take(scheduler.enqueue(now, peer, other, block, std::size_t{300}, 1000000));
+            if (other != peer) parcels.push_back({peer, other, block, 0, 300, 1000000, 1});
         }
+        take(scheduler.enqueue_all(now, parcels));
     }
 
     void run() {
@@ -80,12 +82,17 @@ void refusals_are_exceptions() {
     other.enqueue(0, 1, 2, 7, std::size_t{1000});
     const std::array<std::uint8_t, 2> bytes = {8, 9};
     other.enqueue(0, 1, 3, 7, bytes, 5, false);
+    std::vector<p2p_flight> flights = other.in_flight();
+    expect(flights.size() == 2 && flights[1].recipient == 3, "both are in flight");
+    expect(flights[1].left.numerator.low == 2 && flights[1].rate.numerator.low == 500, "and share the cap");
+    expect(other.rated_anew() == 2 && other.in_turn(1) && !other.in_turn(*other.next()), "a call has its turn");
+    expect(other.in_turn(*other.next(), false), "and so has an advance to the next event");
     try {
         other.limit(*other.next(), 1, {}, {});
         expect(false, "a call out of turn is refused");
     } catch (const p2p::out_of_turn &why) {
         std::string wanted = "out of turn: an event is due at " + std::to_string(*other.next());
-        expect(why.what() == wanted, why.what());
+        expect(why.what() == wanted && why.status == P2P_EVENT_DUE, why.what());
     }
     try {
         other.enqueue(1, 1, 3, 7, bytes, UINT64_MAX);

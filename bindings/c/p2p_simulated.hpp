@@ -1,5 +1,5 @@
 // The scheduler and the planner for C++20, over p2p_simulated.h: what is opened is closed, refusals are
-// exceptions, and lists are spans. Nothing is allocated but the vectors that are answered.
+// exceptions, and lists are spans. Nothing is allocated but the vectors that are answered and texts of errors.
 #ifndef P2P_SIMULATED_HPP
 #define P2P_SIMULATED_HPP
 
@@ -18,7 +18,7 @@ namespace p2p {
 class refused : public std::runtime_error {
 public:
     explicit refused(std::uint32_t status) : runtime_error(text_of(status)), status(status) {}
-    const std::uint32_t status; // P2P_OUT_OF_MEMORY and so on
+    const std::uint32_t status; // P2P_OUT_OF_MEMORY and so on, of a call out of turn P2P_GONE_BY or P2P_EVENT_DUE
 
 protected:
     refused(std::uint32_t status, const std::string &text) : runtime_error(text), status(status) {}
@@ -34,7 +34,7 @@ private:
 // A call on a strict scheduler goes back in time, or sets caps or sends where an event is due.
 class out_of_turn : public refused {
 public:
-    explicit out_of_turn(const std::string &text) : refused(P2P_OK, "out of turn: " + text) {}
+    out_of_turn(std::uint32_t status, const std::string &text) : refused(status, "out of turn: " + text) {}
 };
 
 using cap = std::optional<std::size_t>;       // bytes a second
@@ -54,12 +54,10 @@ public:
     }
     ~scheduler() { p2p_close(&handle); }
     scheduler(scheduler &&other) noexcept
-        : handle(std::exchange(other.handle, p2p_scheduler P2P_SCHEDULER_INIT)), is_strict(other.is_strict),
-          last(other.last) {}
+        : handle(std::exchange(other.handle, p2p_scheduler P2P_SCHEDULER_INIT)), is_strict(other.is_strict) {}
     scheduler &operator=(scheduler &&other) noexcept {
         std::swap(handle, other.handle);
         std::swap(is_strict, other.is_strict);
-        std::swap(last, other.last);
         return *this;
     }
 
@@ -91,6 +89,14 @@ public:
             return p2p_enqueue_zeros(s, now, origin, recipient, channel, length, latency, should_deliver, count);
         });
     }
+    // Messages one after another, as a whole or not at all, as parts of the bytes and zeros after their end.
+    std::size_t enqueue_all(std::uint64_t now, std::span<const p2p_parcel> parcels,
+                            std::span<const std::uint8_t> bytes = {}) {
+        for (const p2p_parcel &parcel : parcels) check_arrival(now, parcel.latency, parcel.should_deliver != 0);
+        return call(now, true, [&](auto *s, auto *count) {
+            return p2p_enqueue_all(s, now, pointer(parcels), parcels.size(), pointer(bytes), bytes.size(), count);
+        });
+    }
     std::size_t advance(std::uint64_t now) {
         return call(now, false, [&](auto *s, auto *count) { return p2p_advance(s, now, count); });
     }
@@ -100,6 +106,28 @@ public:
         check(p2p_next(&handle, &next));
         return next.is_some != 0 ? moment(next.at) : std::nullopt;
     }
+    // Whether a call would come in its turn that sets caps or sends, or, where `acts` is false, an advance.
+    bool in_turn(std::uint64_t now, bool acts = true) {
+        std::uint64_t at;
+        std::uint32_t status = p2p_in_turn(&handle, now, acts, &at);
+        if (status == P2P_CLOSED) throw refused(status);
+        return status == P2P_OK;
+    }
+    // What is in flight, in order of start.
+    std::vector<p2p_flight> in_flight() {
+        std::vector<p2p_flight> flights(1);
+        std::size_t count = 0;
+        check(p2p_in_flight(&handle, flights.data(), flights.size(), &count));
+        if (count > 1) {
+            flights.resize(count);
+            check(p2p_in_flight(&handle, flights.data(), flights.size(), &count));
+        }
+        flights.resize(count);
+        return flights;
+    }
+    // How many of the messages in flight got their rate anew when rates were last given.
+    std::size_t rated_anew() { return p2p_rated_anew(&handle); }
+
     // The completions of the last call from `first` on, as many as there is room for.
     std::span<p2p_done> done(std::size_t first, std::span<p2p_done> room) {
         p2p_done none;
@@ -114,7 +142,6 @@ public:
 private:
     p2p_scheduler handle = P2P_SCHEDULER_INIT;
     bool is_strict;
-    std::uint64_t last = 0; // the moment of the last call that was made
 
     static void check(std::uint32_t status) {
         if (status != P2P_OK) throw refused(status);
@@ -129,15 +156,17 @@ private:
         if (is_strict && should_deliver && latency > UINT64_MAX - now) throw refused(P2P_MOMENT_TOO_LATE);
     }
     template <class Call> std::size_t call(std::uint64_t now, bool acts, Call make) {
-        if (is_strict && now < last) throw out_of_turn("the last call was at " + std::to_string(last));
-        if (is_strict && acts) {
-            moment due = next();
-            if (due && *due <= now) throw out_of_turn("an event is due at " + std::to_string(*due));
-        }
+        if (is_strict) check_turn(now, acts);
         std::size_t count;
         check(make(&handle, &count));
-        last = now;
         return count;
+    }
+    void check_turn(std::uint64_t now, bool acts) {
+        std::uint64_t at;
+        std::uint32_t status = p2p_in_turn(&handle, now, acts, &at);
+        if (status == P2P_GONE_BY) throw out_of_turn(status, "the last call was at " + std::to_string(at));
+        if (status == P2P_EVENT_DUE) throw out_of_turn(status, "an event is due at " + std::to_string(at));
+        check(status);
     }
 };
 

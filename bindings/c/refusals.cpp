@@ -53,6 +53,10 @@ void run() {
             done += each_of(s, [&] { return s.enqueue(now, peer, to, 7, 50 + turn); });
             sent += 2;
         }
+        const p2p_parcel parcels[] = {{0, 1, 7, 0, 60, 5, 1}, {0, 2, 7, 50, 60, 5, 0}};
+        done += each_of(s, [&] { return s.enqueue_all(now, parcels, bytes); });
+        sent += 2;
+        failures += each([&] { return s.in_flight(); }).size() > sent - done;
         now += 50000000;
         done += each_of(s, [&] { return s.advance(now); });
     }

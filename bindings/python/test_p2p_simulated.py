@@ -14,7 +14,8 @@ from fractions import Fraction
 
 import p2p_simulated
 from p2p_simulated import BadLine, Closed, Completion, Flow, FlowIdsUsedUp, MomentTooLate, NumberTooLarge, OutOfTurn
-from p2p_simulated import State, UnknownPeer, Zeros, allocate, allocate_counted, arrivals, on_asyncio, planner, run
+from p2p_simulated import InFlight, Outgoing, State, UnknownPeer, Zeros, allocate, allocate_counted, arrivals
+from p2p_simulated import on_asyncio, planner, run
 from p2p_simulated._library import _lib
 
 
@@ -98,16 +99,63 @@ class Scheduling(unittest.TestCase):
                 with self.assertRaises(OutOfTurn) as caught:
                     call()
                 self.assertEqual(str(caught.exception), f"out of turn: an event is due at {due}")
+                self.assertEqual((caught.exception.last, caught.exception.due), (5, due))
             for call in (state.advance, state.advance_counted, lambda now: state.limit(now, 1)):
                 with self.assertRaises(OutOfTurn) as caught:
                     call(4)
                 self.assertEqual(str(caught.exception), "out of turn: the last call was at 5")
+                self.assertEqual((caught.exception.last, caught.exception.due), (5, None))
+            turns = [state.in_turn(4), state.in_turn(due - 1), state.in_turn(due), state.in_turn(due, False)]
+            self.assertEqual(turns, [False, True, False, True])
             self.assertRaises(MomentTooLate, state.enqueue, 6, 1, 2, 7, b"", 2**64 - 6)
             self.assertEqual(state.enqueue(6, 1, 2, 8, b"", 2**64 - 6, False), [])
             self.assertEqual([it.channel for it in state.advance(due)], [7, 8])
         with State(strict=False) as state:
             state.limit(5, 1, egress=1000)
             self.assertEqual(state.limit(4, 1), [])
+
+    def test_many_messages_go_by_one_call(self):
+        with State(["lima", "oslo", "rome"]) as state:
+            block = object()
+            state.limit(0, "lima", egress=2000)
+            sent = [Outgoing("lima", "oslo", 7, block, 5, length=1000), ("lima", "rome", 8, b"x" * 1000, 0, False)]
+            self.assertEqual(state.enqueue_all(3, sent), [])
+            for wrong, why in (
+                (("lima", "quito", 7, b""), UnknownPeer),
+                (("lima", "oslo", 7, b"", 2**64 - 4), MomentTooLate),
+                (("lima", "oslo", 7, "text"), TypeError),
+                (("lima", "oslo", -1, b""), OverflowError),
+                (("lima", "oslo", 7, b"", 0, 1), TypeError),
+            ):
+                self.assertRaises(why, state.enqueue_all, 4, [*sent, wrong])
+            self.assertRaises(OutOfTurn, state.enqueue_all, 2, sent)
+            self.assertEqual(len(state._held), 2)
+            done = state.advance(state.next())
+            wanted = [("lima", "oslo", 7, block, 10**9 + 8), ("lima", "rome", 8, b"x" * 1000, None)]
+            self.assertEqual(done, [Completion(*it) for it in wanted])
+            self.assertEqual((state.enqueue_all(10**9 + 3, []), state.next(), state._held), ([], None, {}))
+
+    def test_what_is_in_flight_is_told(self):
+        with State(["a", "b", "c"]) as state:
+            block = object()
+            self.assertEqual((state.in_flight(), state.rated_anew()), ([], 0))
+            state.limit(0, "a", egress=1000)
+            sent = [("a", "b", 7, block, 0, True, 1000), ("a", "c", 8, b"x" * 500), ("a", "c", 9, b"behind")]
+            state.enqueue_all(0, sent)
+            self.assertEqual(state.rated_anew(), 2)
+            state.limit(400_000_001, "a", egress=1001)
+            left, rate = (Fraction(1599999999, 2000000), Fraction(599999999, 2000000)), Fraction(1001, 2)
+            wanted = [
+                InFlight("a", "b", 7, block, left[0], rate, 400_000_001, True),
+                InFlight("a", "c", 8, b"x" * 500, left[1], rate, 400_000_001, True),
+            ]
+            self.assertEqual(state.in_flight(), wanted)
+        with State() as state:
+            state.limit(0, 1, egress=10**9)
+            for to in range(100):
+                state.enqueue_zeros(to, 1, to + 2, 7, 10**6)
+            first = state.in_flight()[0]
+            self.assertEqual(first, InFlight(1, 2, 7, Zeros(10**6), Fraction(999994), Fraction(10**7), 99, False))
 
     def test_limit_keeps_what_is_not_named(self):
         with State() as state:
@@ -139,7 +187,9 @@ class Scheduling(unittest.TestCase):
         state = State()
         state.close()
         state.close()
-        for call in (state.next, lambda: state.advance(1), lambda: state.limit(0, 1)):
+        for call in (state.next, state.in_flight, state.rated_anew, lambda: state.in_turn(1), lambda: state.advance(1)):
+            self.assertRaises(Closed, call)
+        for call in (lambda: state.limit(0, 1), lambda: state.enqueue_all(0, [(1, 2, 3, b"")])):
             self.assertRaises(Closed, call)
 
     def test_a_scheduler_is_not_copied(self):
@@ -197,6 +247,10 @@ class Refusing(unittest.TestCase):
 
             done += len(self.each(send))
             self.assertEqual(len(state._held), sent - done)
+            sent += 2
+            both = [(peer, 1, 8, b"x" * 40, 5), (peer, 2, 9, b"x" * 60, 5, False)]
+            done += len(self.each(lambda: state.enqueue_all(now, both)))
+            self.assertLessEqual(len(self.each(state.in_flight)), sent - done)
         done += len(self.each(lambda: state.advance(now + 10**12)))
         self.assertEqual((done, state._held), (sent, {}))
         state.close()

@@ -17,7 +17,7 @@ with its length, and one call at a time uses a scheduler.
 
 from ._library import BadLine, Closed, FlowIdsUsedUp, MomentTooLate, NumberTooLarge, OutOfTurn, Refused, UnknownPeer
 from ._planner import Flow, Rates, allocate, allocate_counted
-from ._scheduler import KEEP, Completion, State, Zeros, arrivals
+from ._scheduler import KEEP, Completion, InFlight, Outgoing, State, Zeros, arrivals
 from ._scripts import run
 
 __version__ = "0.1.0"
@@ -29,9 +29,11 @@ __all__ = [
     "Completion",
     "Flow",
     "FlowIdsUsedUp",
+    "InFlight",
     "MomentTooLate",
     "NumberTooLarge",
     "OutOfTurn",
+    "Outgoing",
     "Rates",
     "Refused",
     "State",

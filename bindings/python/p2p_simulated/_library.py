@@ -76,6 +76,32 @@ class _Wide(Structure):
     _fields_ = [("low", c_uint64), ("high", c_uint64)]
 
 
+class _Parcel(Structure):
+    _fields_ = [
+        ("origin", c_uint64),
+        ("recipient", c_uint64),
+        ("channel", c_uint64),
+        ("start", c_size_t),
+        ("length", c_size_t),
+        ("latency", c_uint64),
+        ("should_deliver", c_uint8),
+    ]
+
+
+class _Amount(Structure):
+    _fields_ = [("numerator", _Wide), ("denominator", _Wide), ("is_exact", c_uint8)]
+
+
+class _Flight(Structure):
+    _fields_ = [
+        ("origin", c_uint64),
+        ("recipient", c_uint64),
+        ("left", _Amount),
+        ("rate", _Amount),
+        ("since", c_uint64),
+    ]
+
+
 class _Done(Structure):
     _fields_ = [
         ("origin", c_uint64),
@@ -103,6 +129,7 @@ class _Rate(Structure):
 
 
 _SIZES = {_Scheduler: 16, _Cap: 16, _Moment: 16, _Wide: 16, _Done: 48, _Flow: 32, _PeerCap: 24, _LinkCap: 32, _Rate: 40}
+_SIZES.update({_Parcel: 56, _Amount: 40, _Flight: 104})
 for _struct, _size in _SIZES.items():
     if ctypes.sizeof(_struct) != _size:
         raise ImportError(f"{_struct.__name__} is not of {_size} bytes on this machine")
@@ -134,9 +161,13 @@ _declare("p2p_close", None, _handle)
 _declare("p2p_limit", c_uint32, _handle, _u64, _u64, _Cap, _Cap, _size_out)
 _declare("p2p_limit_link", c_uint32, _handle, _u64, _u64, _u64, _Cap, _size_out)
 _declare("p2p_enqueue_zeros", c_uint32, _handle, _u64, _u64, _u64, _u64, c_size_t, _u64, c_uint8, _size_out)
+_declare("p2p_enqueue_all", c_uint32, _handle, _u64, POINTER(_Parcel), c_size_t, c_char_p, c_size_t, _size_out)
 _declare("p2p_advance", c_uint32, _handle, _u64, _size_out)
 _declare("p2p_advance_counted", c_uint32, _handle, _u64, _size_out, POINTER(_Wide))
 _declare("p2p_next", c_uint32, _handle, POINTER(_Moment))
+_declare("p2p_in_turn", c_uint32, _handle, _u64, c_uint8, POINTER(c_uint64))
+_declare("p2p_in_flight", c_uint32, _handle, POINTER(_Flight), c_size_t, _size_out)
+_declare("p2p_rated_anew", c_size_t, _handle)
 _declare("p2p_completions", c_size_t, _handle, c_size_t, POINTER(_Done), c_size_t)
 _declare(
     "p2p_allocate",
@@ -154,6 +185,8 @@ _declare(
     POINTER(_Wide),
 )
 _declare("p2p_run", c_uint32, c_char_p, c_size_t, c_void_p, c_size_t, _size_out, POINTER(c_uint64))
+
+GONE_BY, EVENT_DUE = 6, 7  # why a call would not be in its turn
 
 _REFUSALS = {
     2: NumberTooLarge("number too large"),

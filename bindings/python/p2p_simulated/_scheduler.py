@@ -3,11 +3,13 @@
 from __future__ import annotations
 
 import threading
-from ctypes import byref, c_size_t
+from ctypes import byref, c_size_t, c_uint64
+from fractions import Fraction
 from typing import Any, Dict, Iterable, List, NamedTuple, Optional, Tuple
 
-from ._library import MomentTooLate, OutOfTurn, UnknownPeer, _check, _flag, _lib, _number, _value
-from ._library import _Cap, _Done, _Moment, _Scheduler, _Wide
+from ._library import EVENT_DUE, GONE_BY, MomentTooLate, OutOfTurn, UnknownPeer
+from ._library import _array, _check, _flag, _fraction, _lib, _number, _value
+from ._library import _Cap, _Done, _Flight, _Moment, _Parcel, _Scheduler, _Wide
 
 _LAST_MOMENT = (1 << 64) - 1
 _AT_ONCE = 64  # so many completions are read by one call
@@ -21,6 +23,35 @@ class Completion(NamedTuple):
     channel: int
     message: Any
     deliver_at: Optional[int]
+
+
+class Outgoing(NamedTuple):
+    """A message to send with others, by `State.enqueue_all`: the arguments of `State.enqueue`."""
+
+    origin: Any
+    recipient: Any
+    channel: int
+    message: Any
+    latency: int = 0
+    should_deliver: bool = True
+    length: Optional[int] = None
+
+
+class InFlight(NamedTuple):
+    """A message in flight.  `left` bytes were left of it at `since`, and since then it goes at `rate`.
+
+    Where an amount is no fraction of two numbers below 2**128, it is rounded down to a whole number, and
+    `is_exact` is false.
+    """
+
+    origin: Any
+    recipient: Any
+    channel: int
+    message: Any
+    left: Fraction
+    rate: Fraction
+    since: int
+    is_exact: bool
 
 
 class Zeros:
@@ -101,10 +132,10 @@ class State:
         self._caps: Dict[int, Tuple[Optional[int], Optional[int]]] = {}
         self._held: Dict[int, Tuple[Any, ...]] = {}  # by number
         self._sent = 0
-        self._last = 0
-        self._handle, self._count, self._moment = _Scheduler(), c_size_t(), _Moment()
+        self._handle, self._count, self._moment, self._way = _Scheduler(), c_size_t(), _Moment(), c_uint64()
         self._records = (_Done * _AT_ONCE)()
         self._at, self._count_at, self._moment_at = byref(self._handle), byref(self._count), byref(self._moment)
+        self._way_at = byref(self._way)
         self._turn = threading.Lock()
         _check(_lib.p2p_open(self._at, _number(first_id, "first_id")))
 
@@ -168,7 +199,7 @@ class State:
         if self._strict and wanted and now + latency > _LAST_MOMENT:
             raise MomentTooLate("moment too late")
         ends = self._number(origin, "origin"), self._number(recipient, "recipient")
-        held, octets = (origin, recipient, _number(channel, "channel"), message), _length(message, length)
+        held, octets = (origin, recipient, _number(channel, "channel"), message, ends), _length(message, length)
         with self._turn:
             number = self._sent
             self._sent = number + 1
@@ -178,6 +209,49 @@ class State:
             except BaseException:
                 self._held.pop(number, None)
                 raise
+
+    def enqueue_all(self, now: int, messages: Iterable[Any]) -> List[Completion]:
+        """Sends messages one after another, as a whole or not at all, in far less time than one by one.
+
+        Each is an Outgoing, or a tuple of the same.  Where `enqueue` would refuse one of them, none is sent.
+        """
+        now, parcels, held = _number(now, "now"), [], []
+        for one in messages:
+            parcel, kept = self._parcel(now, *one)
+            parcels.append(parcel)
+            held.append(kept)
+        list_of_all = _array(_Parcel, parcels)
+        with self._turn:
+            first = self._sent
+            self._sent = first + len(held)
+            for place, kept in enumerate(held):
+                list_of_all[place].channel = first + place
+                self._held[first + place] = kept
+            try:
+                return self._call(_lib.p2p_enqueue_all, now, True, list_of_all, len(held), b"", 0)
+            except BaseException:
+                for number in range(first, first + len(held)):
+                    self._held.pop(number, None)
+                raise
+
+    def _parcel(
+        self,
+        now: int,
+        origin: Any,
+        recipient: Any,
+        channel: int,
+        message: Any,
+        latency: int = 0,
+        should_deliver: bool = True,
+        length: Optional[int] = None,
+    ) -> Tuple[_Parcel, Tuple[Any, ...]]:
+        """What the library is told of a message of a list, and what is kept of it."""
+        latency, wanted = _number(latency, "latency"), _flag(should_deliver, "should_deliver")
+        if self._strict and wanted and now + latency > _LAST_MOMENT:
+            raise MomentTooLate("moment too late")
+        ends = self._number(origin, "origin"), self._number(recipient, "recipient")
+        parcel = _Parcel(*ends, 0, 0, _length(message, length), latency, wanted)
+        return parcel, (origin, recipient, _number(channel, "channel"), message, ends)
 
     def enqueue_zeros(
         self,
@@ -213,6 +287,41 @@ class State:
         with self._turn:
             return self._next()
 
+    def in_turn(self, now: int, acts: bool = True) -> bool:
+        """Whether a call at `now` would come in its turn; `acts` says whether it sets caps or sends."""
+        now, acts = _number(now, "now"), _flag(acts, "acts")
+        with self._turn:
+            status = _lib.p2p_in_turn(self._at, now, acts, self._way_at)
+        if status not in (GONE_BY, EVENT_DUE):
+            _check(status)
+        return status == 0
+
+    def in_flight(self) -> List[InFlight]:
+        """What is in flight, in order of start.  At most one message of each ordered pair is."""
+        with self._turn:
+            room = _AT_ONCE
+            while True:
+                flights = (_Flight * room)()
+                _check(_lib.p2p_in_flight(self._at, flights, room, self._count_at))
+                if self._count.value <= room:
+                    break
+                room = self._count.value
+            first: Dict[Tuple[int, int], Tuple[Any, ...]] = {}
+            for held in self._held.values():  # in the order in which they were sent
+                first.setdefault(held[4], held)
+            return [self._flight(it, first[it.origin, it.recipient]) for it in flights[: self._count.value]]
+
+    @staticmethod
+    def _flight(it: _Flight, held: Tuple[Any, ...]) -> InFlight:
+        is_exact = bool(it.left.is_exact and it.rate.is_exact)
+        return InFlight(*held[:4], _fraction(it.left), _fraction(it.rate), it.since, is_exact)
+
+    def rated_anew(self) -> int:
+        """How many messages in flight got their rate anew when rates were last given: a count of work."""
+        with self._turn:
+            _check(_lib.p2p_next(self._at, self._moment_at))  # a closed one says so
+            return _lib.p2p_rated_anew(self._at)
+
     def _number(self, peer: Any, name: str) -> int:
         """The number of a peer: itself, or its place in the list."""
         if self._peers is None:
@@ -225,15 +334,14 @@ class State:
     def _call(self, function: Any, now: int, acts: bool, *arguments: Any) -> List[Completion]:
         """Makes a call in its turn, and answers what it completed."""
         if self._strict:
-            if now < self._last:
-                _check(_lib.p2p_next(self._at, self._moment_at))  # a closed one says so
-                raise OutOfTurn(self._last, None)
-            if acts:
-                due = self._next()
-                if due is not None and due <= now:
-                    raise OutOfTurn(self._last, due)
+            status = _lib.p2p_in_turn(self._at, now, acts, self._way_at)
+            if status in (GONE_BY, EVENT_DUE):
+                due = self._way.value if status == EVENT_DUE else None
+                # what would go back to moment 0 is told the moment of the last call
+                back = _lib.p2p_in_turn(self._at, 0, False, self._way_at) == GONE_BY
+                raise OutOfTurn(self._way.value if back else 0, due)
+            _check(status)
         _check(function(self._at, now, *arguments, self._count_at))
-        self._last = now
         return self._completions(self._count.value) if self._count.value else []
 
     def _next(self) -> Optional[int]:

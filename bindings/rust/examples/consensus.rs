@@ -4,7 +4,7 @@
 //!     consensus [PEERS [ROUNDS]]      24 peers and 5 rounds, where nothing is said
 //!
 //! It prints when each round ends for the first and for the last peer, and how many messages were sent.
-use p2p_simulated::{Completion, Error, Payload, State};
+use p2p_simulated::{Completion, Error, Outgoing, Payload, State};
 use std::cmp::Reverse;
 use std::collections::{BTreeSet, BinaryHeap};
 use std::sync::Arc;
@@ -65,14 +65,17 @@ impl Bench {
     /// A peer sends to all others.
     fn broadcast(&mut self, now: u64, origin: u64, message: Message) -> Result<(), Error> {
         let message = Arc::new(message);
-        for to in (0..self.count()).filter(|peer| *peer != origin) {
-            let latency = 20_000_000 + 1_000_000 * ((origin * 7 + to * 3) % 31);
-            let sent = message.clone();
-            let done = self
-                .state
-                .enqueue(now, &origin, &to, 0, sent, latency, true)?;
-            self.arrive(done);
-        }
+        let others = (0..self.count()).filter(|peer| *peer != origin);
+        let sent = others.map(|recipient| Outgoing {
+            origin,
+            recipient,
+            channel: 0,
+            message: message.clone(),
+            latency: 20_000_000 + 1_000_000 * ((origin * 7 + recipient * 3) % 31),
+            should_deliver: true,
+        });
+        let done = self.state.enqueue_all(now, sent)?;
+        self.arrive(done);
         Ok(())
     }
 

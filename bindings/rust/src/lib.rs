@@ -26,4 +26,4 @@ pub use error::{Error, Turn};
 pub use payload::{Payload, Zeros};
 pub use ratio::Ratio;
 pub use script::{run, Outcome};
-pub use transmitter::{Completion, State};
+pub use transmitter::{Completion, InFlight, Outgoing, Reading, State};

@@ -31,6 +31,36 @@ pub struct Wide {
 
 #[repr(C)]
 #[derive(Clone, Copy)]
+pub struct Parcel {
+    pub origin: u64,
+    pub recipient: u64,
+    pub channel: u64,
+    pub from: usize,
+    pub length: usize,
+    pub latency: u64,
+    pub should_deliver: u8,
+}
+
+#[repr(C)]
+#[derive(Clone, Copy)]
+pub struct Amount {
+    pub numerator: Wide,
+    pub denominator: Wide,
+    pub is_exact: u8,
+}
+
+#[repr(C)]
+#[derive(Clone, Copy)]
+pub struct Flight {
+    pub origin: u64,
+    pub recipient: u64,
+    pub left: Amount,
+    pub rate: Amount,
+    pub since: u64,
+}
+
+#[repr(C)]
+#[derive(Clone, Copy)]
 pub struct Done {
     pub origin: u64,
     pub recipient: u64,
@@ -71,6 +101,29 @@ pub struct Rate {
     pub is_limited: u8,
 }
 
+/// The last call that was made was at a later moment.
+pub const GONE_BY: u32 = 6;
+
+/// The call sets caps or sends, and an event is due.
+pub const EVENT_DUE: u32 = 7;
+
+impl Flight {
+    pub fn none() -> Flight {
+        let nothing = Amount {
+            numerator: Wide::of(0),
+            denominator: Wide::of(1),
+            is_exact: 1,
+        };
+        Flight {
+            origin: 0,
+            recipient: 0,
+            left: nothing,
+            rate: nothing,
+            since: 0,
+        }
+    }
+}
+
 impl Done {
     pub fn none() -> Done {
         Done {
@@ -101,6 +154,9 @@ const _: () = assert!(size_of::<Scheduler>() == 16);
 const _: () = assert!(size_of::<Cap>() == 16);
 const _: () = assert!(size_of::<Moment>() == 16);
 const _: () = assert!(size_of::<Wide>() == 16);
+const _: () = assert!(size_of::<Parcel>() == 56);
+const _: () = assert!(size_of::<Amount>() == 40);
+const _: () = assert!(size_of::<Flight>() == 104);
 const _: () = assert!(size_of::<Done>() == 48);
 const _: () = assert!(size_of::<Flow>() == 32);
 const _: () = assert!(size_of::<PeerCap>() == 24);
@@ -137,6 +193,15 @@ extern "C" {
         should_deliver: u8,
         count: *mut usize,
     ) -> u32;
+    pub fn p2p_enqueue_all(
+        scheduler: *mut Scheduler,
+        now: u64,
+        parcels: *const Parcel,
+        parcel_count: usize,
+        bytes: *const u8,
+        length: usize,
+        count: *mut usize,
+    ) -> u32;
     pub fn p2p_advance(scheduler: *mut Scheduler, now: u64, count: *mut usize) -> u32;
     pub fn p2p_advance_counted(
         scheduler: *mut Scheduler,
@@ -145,6 +210,14 @@ extern "C" {
         events: *mut Wide,
     ) -> u32;
     pub fn p2p_next(scheduler: *mut Scheduler, next: *mut Moment) -> u32;
+    pub fn p2p_in_turn(scheduler: *mut Scheduler, now: u64, acts: u8, at: *mut u64) -> u32;
+    pub fn p2p_in_flight(
+        scheduler: *mut Scheduler,
+        out: *mut Flight,
+        room: usize,
+        count: *mut usize,
+    ) -> u32;
+    pub fn p2p_rated_anew(scheduler: *mut Scheduler) -> usize;
     pub fn p2p_completions(
         scheduler: *mut Scheduler,
         first: usize,

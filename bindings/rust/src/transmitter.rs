@@ -2,6 +2,7 @@
 use crate::error::{result_of, Error, Turn};
 use crate::held::{Held, Message};
 use crate::payload::Payload;
+use crate::ratio::Ratio;
 use crate::raw;
 use std::ptr;
 
@@ -18,6 +19,53 @@ pub struct Completion<P, M = Vec<u8>> {
     pub message: M,
     /// The moment at which it arrives, in nanoseconds since the start, or `None` for a dropped message.
     pub deliver_at: Option<u64>,
+}
+
+/// A message to send with others, by [`State::enqueue_all`]. Its parts are the arguments of
+/// [`State::enqueue`].
+#[derive(Debug, Clone, PartialEq, Eq)]
+pub struct Outgoing<P, M = Vec<u8>> {
+    /// Who sends.
+    pub origin: P,
+    /// Who is to receive. It may be the origin.
+    pub recipient: P,
+    /// It comes back with the completion.
+    pub channel: u64,
+    /// What is sent, which comes back with the completion.
+    pub message: M,
+    /// From when it is done to its arrival, in nanoseconds.
+    pub latency: u64,
+    /// Whether it arrives; else it is dropped.
+    pub should_deliver: bool,
+}
+
+/// An amount of bytes, or of bytes a second, as it is read.
+#[derive(Debug, Clone, Copy, PartialEq, Eq)]
+pub struct Reading {
+    /// The amount itself where the reading is exact, and else the greatest whole number of 128 bits that
+    /// is not above it.
+    pub amount: Ratio,
+    /// Whether the amount is a fraction of two numbers of 128 bits, and so is read as it is.
+    pub is_exact: bool,
+}
+
+/// A message in flight, as it is read.
+#[derive(Debug, Clone, Copy, PartialEq, Eq)]
+pub struct InFlight<'a, P, M = Vec<u8>> {
+    /// Who sends it.
+    pub origin: &'a P,
+    /// To whom.
+    pub recipient: &'a P,
+    /// The channel that was given with it.
+    pub channel: u64,
+    /// What is sent.
+    pub message: &'a M,
+    /// What was left of it at the moment `since`, in bytes.
+    pub left: Reading,
+    /// What it has sent since then, in bytes a second.
+    pub rate: Reading,
+    /// In nanoseconds since the start.
+    pub since: u64,
 }
 
 /// How peers are numbered, in their order.
@@ -55,8 +103,6 @@ pub struct State<P, M = Vec<u8>> {
     handle: raw::Scheduler,
     /// The next event, as the last call left it.
     next: Option<u64>,
-    /// The moment of the last call that was made.
-    last: u64,
     is_strict: bool,
 }
 
@@ -65,6 +111,14 @@ unsafe impl<P: Send, M: Send> Send for State<P, M> {}
 
 // SAFETY: what takes `&self` reads fields of this crate alone, and makes no call of the library.
 unsafe impl<P: Sync, M: Sync> Sync for State<P, M> {}
+
+/// An amount, as the library answers it.
+fn reading_of(amount: raw::Amount) -> Reading {
+    Reading {
+        amount: Ratio::of(amount.numerator, amount.denominator),
+        is_exact: amount.is_exact != 0,
+    }
+}
 
 fn cap_of(cap: Option<usize>) -> raw::Cap {
     raw::Cap {
@@ -131,7 +185,6 @@ impl<P: Ord + Clone, M: Payload> State<P, M> {
                 is_open: 0,
             },
             next: None,
-            last: 0,
             is_strict: true,
         };
         // SAFETY: the handle is not open, and is lent for the call alone.
@@ -209,9 +262,7 @@ impl<P: Ord + Clone, M: Payload> State<P, M> {
         latency: u64,
         should_deliver: bool,
     ) -> Result<Vec<Completion<P, M>>, Error> {
-        if self.is_strict && should_deliver && now.checked_add(latency).is_none() {
-            return Err(Error::MomentTooLate);
-        }
+        self.check_arrival(now, latency, should_deliver)?;
         let (from, to) = (self.number(origin)?, self.number(recipient)?);
         let length = message.length();
         let number = self.held.put(Message {
@@ -219,6 +270,7 @@ impl<P: Ord + Clone, M: Payload> State<P, M> {
             recipient: recipient.clone(),
             channel,
             payload: message,
+            pair: (from, to),
         });
         let flag = should_deliver.into();
         let done = self.call(now, true, |handle, count| unsafe {
@@ -228,6 +280,56 @@ impl<P: Ord + Clone, M: Payload> State<P, M> {
             self.held.take(number);
         }
         done
+    }
+
+    /// Sends messages at `now`, one after another, as a whole or not at all. It does and answers what as
+    /// many calls of `enqueue` would, in far less time.
+    ///
+    /// # Errors
+    ///
+    /// Those of [`State::enqueue`], where one of the messages would have it. None of them is then sent.
+    pub fn enqueue_all(
+        &mut self,
+        now: u64,
+        messages: impl IntoIterator<Item = Outgoing<P, M>>,
+    ) -> Result<Vec<Completion<P, M>>, Error> {
+        let messages: Vec<_> = messages.into_iter().collect();
+        let parcels: Result<Vec<_>, Error> =
+            messages.iter().map(|one| self.parcel(now, one)).collect();
+        let mut parcels = parcels?;
+        for (parcel, one) in parcels.iter_mut().zip(messages) {
+            parcel.channel = self.held.put(Message {
+                origin: one.origin,
+                recipient: one.recipient,
+                channel: one.channel,
+                payload: one.message,
+                pair: (parcel.origin, parcel.recipient),
+            });
+        }
+        let (list, many, none) = (parcels.as_ptr(), parcels.len(), [0u8; 0]);
+        let done = self.call(now, true, |handle, count| unsafe {
+            raw::p2p_enqueue_all(handle, now, list, many, none.as_ptr(), 0, count)
+        });
+        if done.is_err() {
+            for parcel in parcels {
+                self.held.take(parcel.channel);
+            }
+        }
+        done
+    }
+
+    /// What the library is told of a message of a list.
+    fn parcel(&self, now: u64, one: &Outgoing<P, M>) -> Result<raw::Parcel, Error> {
+        self.check_arrival(now, one.latency, one.should_deliver)?;
+        Ok(raw::Parcel {
+            origin: self.number(&one.origin)?,
+            recipient: self.number(&one.recipient)?,
+            channel: 0,
+            from: 0,
+            length: one.message.length(),
+            latency: one.latency,
+            should_deliver: one.should_deliver.into(),
+        })
     }
 
     /// Lets time go on to `now`, and answers what completes up to then and at it, in order.
@@ -260,6 +362,69 @@ impl<P: Ord + Clone, M: Payload> State<P, M> {
         self.next
     }
 
+    /// Whether a call at `now` would come in its turn; `acts` says whether it sets caps or sends.
+    ///
+    /// # Errors
+    ///
+    /// Why it would not.
+    pub fn in_turn(&mut self, now: u64, acts: bool) -> Result<(), Turn> {
+        let mut at = 0;
+        // SAFETY: as in `call`. The scheduler is open.
+        match unsafe { raw::p2p_in_turn(&mut self.handle, now, acts.into(), &mut at) } {
+            raw::GONE_BY => Err(Turn::GoneBy(at)),
+            raw::EVENT_DUE => Err(Turn::EventDue(at)),
+            _ => Ok(()),
+        }
+    }
+
+    /// What is in flight, in order of start. At most one message of each ordered pair is.
+    ///
+    /// # Errors
+    ///
+    /// `OutOfMemory` where no memory was left.
+    pub fn in_flight(&mut self) -> Result<Vec<InFlight<'_, P, M>>, Error> {
+        let mut flights = vec![raw::Flight::none(); 16];
+        loop {
+            let (out, room, mut count) = (flights.as_mut_ptr(), flights.len(), 0);
+            // SAFETY: as in `call`; the pointer and the length are those of one list.
+            result_of(unsafe { raw::p2p_in_flight(&mut self.handle, out, room, &mut count) })?;
+            let is_all = count <= room;
+            flights.resize(count, raw::Flight::none());
+            if is_all {
+                break;
+            }
+        }
+        let first = self.held.first_of_each();
+        let read = flights.iter().map(|flight| {
+            let message = first[&(flight.origin, flight.recipient)];
+            InFlight {
+                origin: &message.origin,
+                recipient: &message.recipient,
+                channel: message.channel,
+                message: &message.payload,
+                left: reading_of(flight.left),
+                rate: reading_of(flight.rate),
+                since: flight.since,
+            }
+        });
+        Ok(read.collect())
+    }
+
+    /// How many of the messages in flight got their rate anew when rates were last given. It counts
+    /// work, and has no part in what is answered.
+    pub fn rated_anew(&mut self) -> usize {
+        // SAFETY: as in `call`.
+        unsafe { raw::p2p_rated_anew(&mut self.handle) }
+    }
+
+    /// Whether a message could still arrive, where that matters.
+    fn check_arrival(&self, now: u64, latency: u64, should_deliver: bool) -> Result<(), Error> {
+        if self.is_strict && should_deliver && now.checked_add(latency).is_none() {
+            return Err(Error::MomentTooLate);
+        }
+        Ok(())
+    }
+
     /// The number of a peer: its place in the order of its type, or what the function says.
     fn number(&self, peer: &P) -> Result<u64, Error> {
         match &self.numbering {
@@ -279,7 +444,7 @@ impl<P: Ord + Clone, M: Payload> State<P, M> {
         make: impl FnOnce(*mut raw::Scheduler, *mut usize) -> u32,
     ) -> Result<Vec<Completion<P, M>>, Error> {
         if self.is_strict {
-            self.check_turn(now, acts)?;
+            self.in_turn(now, acts).map_err(Error::OutOfTurn)?;
         }
         let mut count = 0;
         // SAFETY: the handle is as the last call left it, and it and `count` are lent for the call
@@ -289,18 +454,7 @@ impl<P: Ord + Clone, M: Payload> State<P, M> {
         // SAFETY: as above. The scheduler is open, so the status says nothing.
         let _open = unsafe { raw::p2p_next(&mut self.handle, &mut next) };
         self.next = (next.is_some != 0).then_some(next.at);
-        self.last = now;
         Ok(self.completions(count))
-    }
-
-    /// Whether a call comes in its turn: no earlier than the last one, and, where it sets caps or sends,
-    /// before the next event.
-    fn check_turn(&self, now: u64, acts: bool) -> Result<(), Error> {
-        match self.next {
-            _ if now < self.last => Err(Error::OutOfTurn(Turn::GoneBy(self.last))),
-            Some(due) if acts && due <= now => Err(Error::OutOfTurn(Turn::EventDue(due))),
-            _ => Ok(()),
-        }
     }
 
     /// What the last call that was made completed.

@@ -1,7 +1,7 @@
 //! What the scheduler, the planner and scripts answer through the crate.
 use p2p_simulated::{
     allocate, allocate_counted, allocate_linked, duration, run, transfer, Error, Flow, Outcome,
-    Payload, Rate, Ratio, State, Turn, Zeros,
+    Outgoing, Payload, Rate, Ratio, State, Turn, Zeros,
 };
 use std::sync::Arc;
 use std::thread;
@@ -84,6 +84,10 @@ fn a_call_out_of_turn_is_refused() {
         state.enqueue(6, &1, &2, 8, Zeros(1), u64::MAX, false),
         Ok(vec![])
     );
+    assert_eq!(state.in_turn(late - 1, true), Ok(()));
+    assert_eq!(state.in_turn(late, true), Err(Turn::EventDue(late)));
+    assert_eq!(state.in_turn(late, false), Ok(()));
+    assert_eq!(state.in_turn(5, false), Err(Turn::GoneBy(6)));
     assert_eq!(state.advance(late).unwrap()[0].deliver_at, Some(late + 3));
     state.set_strict(false);
     assert_eq!(state.limit(4, &1, None, None).unwrap()[0].channel, 8);
@@ -113,6 +117,84 @@ fn a_broadcast_shares_its_message() {
     let strange = state.enqueue(1_000_000_000, &1, &77, 0, block.clone(), 0, true);
     assert_eq!(strange, Err(Error::UnknownPeer));
     assert_eq!((state.next(), Arc::strong_count(&block)), (None, 1));
+}
+
+#[test]
+fn many_messages_go_by_one_call() {
+    let mut state = State::new(["a", "b", "c"]).unwrap();
+    let block = Arc::new(vec![7u8; 1000]);
+    let to = |recipient, channel, latency| Outgoing {
+        origin: "a",
+        recipient,
+        channel,
+        message: block.clone(),
+        latency,
+        should_deliver: recipient != "c",
+    };
+    state.limit(0, &"a", Some(2000), None).unwrap();
+    let sent = state.enqueue_all(3, [to("b", 7, 5), to("c", 8, 0)]);
+    assert_eq!(sent, Ok(vec![]));
+    for (wrong, why) in [
+        (to("d", 7, 0), Error::UnknownPeer),
+        (to("b", 7, u64::MAX - 3), Error::MomentTooLate),
+    ] {
+        assert_eq!(state.enqueue_all(4, [to("b", 9, 0), wrong]), Err(why));
+    }
+    let gone = Error::OutOfTurn(Turn::GoneBy(3));
+    assert_eq!(state.enqueue_all(2, [to("b", 9, 0)]), Err(gone));
+    assert_eq!(Arc::strong_count(&block), 3);
+    let done = state.advance(1_000_000_003).unwrap();
+    let told = |at: usize| (done[at].recipient, done[at].channel, done[at].deliver_at);
+    assert_eq!((done.len(), told(0)), (2, ("b", 7, Some(1_000_000_008))));
+    assert_eq!(told(1), ("c", 8, None));
+    assert!(Arc::ptr_eq(&done[0].message, &block));
+    assert_eq!(state.enqueue_all(1_000_000_003, []), Ok(vec![]));
+}
+
+#[test]
+fn what_is_in_flight_is_told() {
+    let mut state = State::new([1u64, 2, 3]).unwrap();
+    assert_eq!(state.in_flight(), Ok(vec![]));
+    state.limit(0, &1, Some(1000), None).unwrap();
+    for (to, channel, length) in [(2, 7, 1000), (3, 8, 500), (3, 9, 700)] {
+        let sent = state.enqueue(0, &1, &to, channel, Zeros(length), 0, true);
+        assert_eq!(sent, Ok(vec![]));
+    }
+    assert_eq!(state.rated_anew(), 2);
+    state.limit(400_000_001, &1, Some(1001), None).unwrap();
+    let flights = state.in_flight().unwrap();
+    let left = [
+        ratio(1_599_999_999, 2_000_000),
+        ratio(599_999_999, 2_000_000),
+    ];
+    assert_eq!(flights.len(), 2);
+    for (at, flight) in flights.iter().enumerate() {
+        let known = (*flight.origin, *flight.recipient, flight.channel);
+        assert_eq!(known, (1, at as u64 + 2, at as u64 + 7));
+        assert_eq!(flight.message.length(), [1000, 500][at]);
+        assert_eq!((flight.left.amount, flight.left.is_exact), (left[at], true));
+        assert_eq!(
+            (flight.rate.amount, flight.since),
+            (ratio(1001, 2), 400_000_001)
+        );
+    }
+    let done = state.advance(999_500_000).unwrap();
+    assert_eq!((done.len(), done[0].channel), (1, 8));
+    // this one comes after it, though it is held where the one that is done was
+    let sent = state.enqueue(999_500_000, &1, &3, 10, Zeros(5), 0, true);
+    assert_eq!(sent, Ok(vec![]));
+    let behind = state.in_flight().unwrap().pop().unwrap();
+    assert_eq!((behind.channel, *behind.message), (9, Zeros(700)));
+    let mut state = State::numbered().unwrap();
+    state.limit(0, &1u64, Some(1_000_000_000), None).unwrap();
+    for place in 0..100 {
+        let sent = state.enqueue(place, &1, &(place + 2), 7, Zeros(1_000_000), 0, true);
+        assert_eq!(sent, Ok(vec![]));
+    }
+    let flights = state.in_flight().unwrap();
+    assert_eq!((flights.len(), *flights[99].recipient), (100, 101));
+    assert_eq!(flights[0].left.amount, Ratio::from_whole(999_994));
+    assert!(!flights[0].left.is_exact && flights[0].rate.is_exact);
 }
 
 #[test]

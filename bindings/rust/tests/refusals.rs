@@ -1,6 +1,6 @@
 //! Each allocation of each call is refused in turn: the call says so, what comes next is as it was, and
 //! the call then goes through. It needs the memory of `bindings/c/refusing_heap.c`.
-use p2p_simulated::{allocate, Error, Flow, State};
+use p2p_simulated::{allocate, Error, Flow, Outgoing, State};
 use std::sync::Arc;
 
 extern "C" {
@@ -47,6 +47,24 @@ fn refused_calls_change_nothing() {
             refusals += refused;
             assert_eq!(Arc::strong_count(&block), 1 + sent - done + completed.len());
         }
+        let to = |recipient, should_deliver| Outgoing {
+            origin: turn % 4,
+            recipient,
+            channel: 8,
+            message: block.clone(),
+            latency: 5,
+            should_deliver,
+        };
+        let (completed, refused) =
+            each(|| state.enqueue_all(now, [to(1, true), to(2, false), to(1, true)]));
+        sent += 3;
+        done += completed.len();
+        refusals += refused;
+        drop(completed);
+        assert_eq!(Arc::strong_count(&block), 1 + sent - done);
+        let (flights, refused) = each(|| state.in_flight().map(|flights| flights.len()));
+        assert!(flights <= sent - done);
+        refusals += refused;
         now += 50_000_000;
         let (completed, refused) = each(|| state.advance(now));
         done += completed.len();
