@@ -8,6 +8,7 @@ pub mod Landing
 pub mod Limits
 pub mod Marks
 pub mod MessageCounts
+pub mod NewCaps
 pub mod OneEach
 pub mod OnlyWaiting
 pub mod RatedWithNext

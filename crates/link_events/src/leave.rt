@@ -5,7 +5,7 @@ ghost use Rattle.link_simulation.specs.Rule.Planned.{rated_messages};
 ghost use Rattle.link_waiting.specs.Idle.AtRest.{of_pairs};
 ghost use Rattle.link_waiting.specs.Idle.Index.{IsIndexOf};
 ghost use Rattle.link_flights.specs.Flights.InFlight.{in_flight};
-ghost use Rattle.link_flights.specs.Flights.Rated.{AreRated};
+ghost use Rattle.link_flights.specs.Flights.Rated.{WereRatedUnder};
 ghost use Rattle.link_pairs.specs.Pairs.Messages.{messages};
 ghost use Rattle.link_pairs.specs.Pairs.CapsOf.{caps_of};
 ghost use Rattle.link_pairs.specs.Pairs.Entries.{link_of, arrival_of};
@@ -36,7 +36,7 @@ fn part<P: Peer>(
     requires one_each { ∥ OneForEachPair P.cmp (rated_messages (in_flight flights.old)) ∥₁ }
     requires later { were_fair ≡ true → flights.old.at ≤ now }
     requires rated { were_fair ≡ true
-        → AreRated P.cmp (caps_of P.cmp peers.now.entries pairs.now.entries) flights.old }
+        → ∥ WereRatedUnder P.cmp (caps_of P.cmp peers.now.entries pairs.now.entries) flights.old ∥₁ }
     ensures parted { IfOk result (λ done. IsParted P.cmp now
         (caps_of P.cmp peers.now.entries pairs.now.entries) were_fair flights.old flights.new
         (messages done.items)) }
@@ -64,7 +64,7 @@ pub(crate) fn leave<P: Peer>(
     requires one_each { ∥ OneForEachPair P.cmp (rated_messages (in_flight flights.old)) ∥₁ }
     requires later { were_fair ≡ true → flights.old.at ≤ now }
     requires rated { were_fair ≡ true
-        → AreRated P.cmp (caps_of P.cmp peers.now.entries pairs.now.entries) flights.old }
+        → ∥ WereRatedUnder P.cmp (caps_of P.cmp peers.now.entries pairs.now.entries) flights.old ∥₁ }
     ensures parted { IfOk result (λ done. IsParted P.cmp now
         (caps_of P.cmp peers.now.entries pairs.now.entries) were_fair flights.old flights.new
         (messages done.items)) }
@@ -127,7 +127,7 @@ pub(crate) fn leave_landing<P: Peer>(
     requires one_each { ∥ OneForEachPair P.cmp (rated_messages (in_flight flights.old)) ∥₁ }
     requires later { were_fair ≡ true → flights.old.at ≤ now }
     requires rated { were_fair ≡ true
-        → AreRated P.cmp (caps_of P.cmp peers.now.entries pairs.old.entries) flights.old }
+        → ∥ WereRatedUnder P.cmp (caps_of P.cmp peers.now.entries pairs.old.entries) flights.old ∥₁ }
     ensures parted { IfOk result (λ left. IsParted P.cmp now
         (caps_of P.cmp peers.now.entries pairs.old.entries) were_fair flights.old flights.new
         (messages left.done.items)) }

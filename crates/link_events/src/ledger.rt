@@ -4,7 +4,7 @@ ghost use Rattle.link_waiting.specs.Idle.Index.{IsIndexOf};
 ghost use Rattle.link_flights.specs.Flights.InFlight.{in_flight};
 ghost use Rattle.link_waiting.specs.Idle.AtRest.{of_pairs};
 ghost use Rattle.link_pairs.specs.Pairs.CapsOf.{caps_of};
-ghost use Rattle.link_flights.specs.Flights.Rated.{AreRated};
+ghost use Rattle.link_flights.specs.Flights.Rated.{WereRatedUnder};
 ghost use Rattle.link_simulation.specs.Rule.Planned.{rated_messages};
 ghost use Rattle.link_simulation.specs.Simulation.Messages.{OneForEachPair};
 
@@ -34,12 +34,12 @@ pub struct Ledger<P: Peer> {
     pub(crate) finish: Option<u64>,
     /// The moment at which a waiting message starts next.
     pub(crate) start: Option<u64>,
-    /// Whether the caps have changed since the last account, or that one was refused.
+    /// Whether all have to be rated at the next account: it was refused, or what a changed cap was about is limited no more.
     pub(crate) stale: bool,
     pub ghost indexed: { IsIndexOf P.cmp (of_pairs P.cmp pairs.entries waiting.messages
         (in_flight flights)) idle.entries },
     pub ghost one_each: { ∥ OneForEachPair P.cmp (rated_messages (in_flight flights)) ∥₁ },
-    pub ghost rated: { stale ≡ false → ∥ AreRated P.cmp (caps_of P.cmp peers.entries pairs.entries) flights ∥₁ },
+    pub ghost rated: { stale ≡ false → ∥ WereRatedUnder P.cmp (caps_of P.cmp peers.entries pairs.entries) flights ∥₁ },
 }
 
 impl<P: Peer> Ledger<P> {
@@ -84,9 +84,13 @@ impl<P: Peer> Ledger<P> {
         ensures before { self.new.flights.list.before ≡ self.old.flights.list.before }
         ensures refused { IfErr result (λ e. e ≡ Error.OutOfMemory) }
     {
-        self.limited = true;
+        let stale = self.stale;
         self.stale = true;
-        self.peers.set(self.alloc, peer, egress, ingress)
+        self.limited = true;
+        self.flights.loosen_peer(peer)?;
+        self.peers.set(self.alloc, peer, egress, ingress)?;
+        self.stale = stale || !self.flights.loose_is_limited(&self.peers, &self.pairs);
+        Ok(())
     }
 
     /// Sets the cap of an ordered pair.
@@ -107,9 +111,12 @@ impl<P: Peer> Ledger<P> {
     {
         let mut pairs = self.pairs.clone()?;
         pairs.set_cap(self.alloc, origin, recipient, cap)?;
-        self.limited = true;
+        let stale = self.stale;
         self.stale = true;
+        self.limited = true;
+        self.flights.loosen_sent(origin)?;
         self.pairs = pairs;
+        self.stale = stale || !self.flights.loose_is_limited(&self.peers, &self.pairs);
         Ok(())
     }
 

@@ -19,7 +19,7 @@ pub struct Kept<P: Peer> {
     pairs: Pairs<P>,
     waiting: Waiting<P>,
     idle: IdlePairs<P>,
-    flights: Mark,
+    flights: Mark<P>,
     limited: bool,
     next_id: u64,
     finish: Option<u64>,

@@ -51,8 +51,8 @@ impl<P: Peer> Ledger<P> {
     pub(crate) fn leave_at(&mut self, now: u64) -> Result<(VecDeque<Rc<Message<P>>>, bool), Error>
         ensures leaves { IfOk result (λ left. Leaves P.cmp now (planned P.cmp self.old)
             (messages left.0.items) (planned P.cmp self.new)) }
-        ensures fair { IfOk result (λ left. left.1 ≡ true → HadFairRates P.cmp
-            (caps_of P.cmp self.new.peers.entries self.new.pairs.entries) self.new.flights (messages left.0.items)) }
+        ensures fair { IfOk result (λ left. left.1 ≡ true → ∥ HadFairRates P.cmp
+            (caps_of P.cmp self.new.peers.entries self.new.pairs.entries) self.new.flights (messages left.0.items) ∥₁) }
         ensures moment { OnOk result (self.new.flights.at ≡ now) }
         ensures stale { self.new.stale ≡ true }
         ensures before { self.new.flights.list.before ≡ self.old.flights.list.before }
@@ -83,9 +83,9 @@ impl<P: Peer> Ledger<P> {
     pub(crate) fn leave_landing_at(&mut self, now: u64) -> Result<(Left<P>, bool), Error>
         ensures lands { IfOk result (λ left. LeavesLanding P.cmp now (planned P.cmp self.old)
             (messages left.0.done.items) left.0.deliver_at left.0.since (planned P.cmp self.new)) }
-        ensures fair { IfOk result (λ left. left.1 ≡ true → HadFairRates P.cmp
+        ensures fair { IfOk result (λ left. left.1 ≡ true → ∥ HadFairRates P.cmp
             (caps_of P.cmp self.new.peers.entries self.new.pairs.entries) self.new.flights
-            (messages left.0.done.items)) }
+            (messages left.0.done.items) ∥₁) }
         ensures moment { OnOk result (self.new.flights.at ≡ now) }
         ensures stale { self.new.stale ≡ true }
         ensures before { self.new.flights.list.before ≡ self.old.flights.list.before }
@@ -125,8 +125,8 @@ impl<P: Peer> Ledger<P> {
         requires moment { self.old.flights.at ≡ now }
         requires leaves { (old : AnyPlanned P) × (leavers : List (AnyMessage P))
             × Leaves P.cmp now old leavers (planned P.cmp self.old) }
-        requires fair { were_fair ≡ true → HadFairRates P.cmp
-            (caps_of P.cmp self.old.peers.entries self.old.pairs.entries) self.old.flights (messages done.now.items) }
+        requires fair { were_fair ≡ true → ∥ HadFairRates P.cmp
+            (caps_of P.cmp self.old.peers.entries self.old.pairs.entries) self.old.flights (messages done.now.items) ∥₁ }
         ensures accounts { OnOk result ((old : AnyPlanned P) (leavers : List (AnyMessage P))
             → Leaves P.cmp now old leavers (planned P.cmp self.old)
             → Accounts P.cmp now old leavers (planned P.cmp self.new)) }

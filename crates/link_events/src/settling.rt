@@ -109,8 +109,8 @@ impl<P: Peer> Ledger<P> {
         requires left { (old here : AnyPlanned P) × (leavers : List (AnyMessage P)) × Leaves P.cmp now old leavers here
             × (planned P.cmp self.old ≡ landed_with P.cmp now here (message_of message.now)) }
         requires idle { since ≡ idle_since P.cmp (planned P.cmp self.old) message.now.origin message.now.recipient }
-        requires fair { were_fair ≡ true → HadFairRates P.cmp
-            (caps_of P.cmp self.old.peers.entries self.old.pairs.entries) self.old.flights (messages done.now.items) }
+        requires fair { were_fair ≡ true → ∥ HadFairRates P.cmp
+            (caps_of P.cmp self.old.peers.entries self.old.pairs.entries) self.old.flights (messages done.now.items) ∥₁ }
         ensures launches { IfOk result (λ more. (old here : AnyPlanned P) (leavers : List (AnyMessage P))
             → Leaves P.cmp now old leavers here
             → planned P.cmp self.old ≡ landed_with P.cmp now here (message_of message.now)

@@ -4,6 +4,7 @@ pub mod Accounts
 pub mod Alike
 pub mod Beside
 pub mod CappedFlows
+pub mod ChangedCaps
 pub mod ComponentFlows
 pub mod Components
 pub mod Done
@@ -16,7 +17,10 @@ pub mod Joining
 pub mod LargerUnits
 pub mod Leaving
 pub mod Listed
+pub mod Loose
+pub mod Loosened
 pub mod Near
+pub mod Noted
 pub mod Places
 pub mod Rated
 pub mod RatesGiven

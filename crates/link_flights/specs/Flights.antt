@@ -4,6 +4,7 @@ pub mod Components
 pub mod Flight
 pub mod InFlight
 pub mod LargerUnits
+pub mod Loose
 pub mod Rated
 pub mod RatedFlights
 pub mod Readings

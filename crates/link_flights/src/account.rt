@@ -40,6 +40,8 @@ impl<P: Peer> Flights<P> {
         ensures drained { OnOk result (AllZip (DrainsTo now) (in_units self.old) (in_units self.new)) }
         ensures scale { self.new.scale ≡ self.old.scale }
         ensures at { OnOk result (self.new.at ≡ now) }
+        ensures floor { self.new.floor ≡ self.old.floor }
+        ensures loose { self.new.loose ≡ self.old.loose }
         ensures timed { self.old.at ≤ now → AreTimed self.old.list.items → OnOk result (AreTimed self.new.list.items) }
         ensures before { self.new.list.before ≡ self.old.list.before }
         ensures refused { IfErr result (λ e. e ≡ Error.OutOfMemory) }
@@ -84,6 +86,7 @@ impl<P: Peer> Flights<P> {
         ensures list { OnOk result (self.new.list.items ≡ remove self.old.list.items at) }
         ensures length { OnOk result (length self.new.list.items + 1 ≡ length self.old.list.items) }
         ensures floor { self.new.floor ≡ self.old.floor }
+        ensures loose { self.new.loose ≡ self.old.loose }
         ensures scale { self.new.scale ≡ self.old.scale }
         ensures at { self.new.at ≡ self.old.at }
         ensures before { self.new.list.before ≡ self.old.list.before }
@@ -105,13 +108,14 @@ impl<P: Peer> Flights<P> {
     }
 
     /// The floor is no more than the rate of the message at that place, if that has got one.
-    fn lower_floor(&mut self, at: usize) -> Result<(), Error>
+    pub(crate) fn lower_floor(&mut self, at: usize) -> Result<(), Error>
         requires place { at < length self.old.list.items }
         ensures lowered { OnOk result ((d : AnyRc (AnyFlight P) Allocator) →
             (slice_index_or self.old.list.items at d).value.rated ≡ true → IsNoMore self.new.floor
             (flight_at self.old.at (slice_index_or self.old.list.items at d).value).rate) }
         ensures lower { OnOk result ((rate : ℕ) → IsNoMore self.old.floor rate → IsNoMore self.new.floor rate) }
         ensures list { self.new.list.items ≡ self.old.list.items }
+        ensures loose { self.new.loose ≡ self.old.loose }
         ensures scale { self.new.scale ≡ self.old.scale }
         ensures at { self.new.at ≡ self.old.at }
         ensures before { self.new.list.before ≡ self.old.list.before }
@@ -146,13 +150,14 @@ impl<P: Peer> Flights<P> {
             (in_units self.old) (messages done.items) (in_units self.new)) }
         ensures floor { IfOk result (λ done. IsFloorOf (is_out P.cmp
             (caps_of P.cmp peers.now.entries pairs.now.entries) self.old.scale) (in_units self.old) self.new.floor) }
+        ensures lower { OnOk result ((rate : ℕ) → IsNoMore self.old.floor rate → IsNoMore self.new.floor rate) }
+        ensures loose { self.new.loose ≡ self.old.loose }
         ensures scale { self.new.scale ≡ self.old.scale }
         ensures at { self.new.at ≡ self.old.at }
         ensures timed { AreTimed self.old.list.items → OnOk result (AreTimed self.new.list.items) }
         ensures before { self.new.list.before ≡ self.old.list.before }
         ensures refused { IfErr result (λ e. e ≡ Error.OutOfMemory) }
     {
-        self.floor = None;
         let mut done = VecDeque::new(self.alloc);
         let mut at = 0;
         while let Some(next) = self.next_done(at, peers, pairs, were_rated) {
@@ -210,6 +215,7 @@ impl<P: Peer> Flights<P> {
         ensures list { self.new.list.items ≡ self.old.list.items }
         ensures at { self.new.at ≡ self.old.at }
         ensures floor { self.new.floor ≡ self.old.floor }
+        ensures loose { self.new.loose ≡ self.old.loose }
         ensures one { length self.new.list.items ≡ 0 → self.new.scale ≡ 1 }
         ensures scale { length self.new.list.items ≢ 0 → self.new.scale ≡ self.old.scale }
         ensures before { self.new.list.before ≡ self.old.list.before }

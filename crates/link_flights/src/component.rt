@@ -5,16 +5,17 @@
 //! is, and passes nothing on: below the least rate of what is done, and below the least share that a
 //! cap leaves to each of its users with what is new, filling goes as it went before.
 ghost use Rattle.std.specs.Prelude.{◌≡◌, ℕ, ◌+◌, ◌<◌, ◌≤◌, ◌||◌, ◌⊎◌, true, false, not, [], length, take};
-ghost use Rattle.std.specs.Prelude.{All, IfOk, IfErr, IfSome, OnOk, nat_le, Contains};
+ghost use Rattle.std.specs.Prelude.{All, IfOk, IfErr, IfSome, OnOk, nat_le, Contains, slice_get, Some};
 ghost use Rattle.std.specs.List.{list_all, list_any};
 ghost use Rattle.fair_rates.specs.Sides.Subjects.{same_peer};
 ghost use Rattle.link_flights.specs.Flights.Components.{is_sender, is_receiver, keeps, is_of, has_both, touches};
 ghost use Rattle.link_flights.specs.Flights.Components.{is_closed, AreNear};
-ghost use Rattle.link_flights.specs.Flights.Components.{StartsWith, AreStillListed, IsSameOrLonger};
+ghost use Rattle.link_flights.specs.Flights.Components.{StartsWith, AreStillListed, AreNoted};
 ghost use Rattle.link_flights.specs.Flights.Components.{AreListed, AreListedAt, AreAllListed, AllNewTouch, place_of};
 ghost use Rattle.link_flights.specs.Flights.Components.{IsSuited, AreSuited, AreTouched, SharesAt, SharesEndAt, Ascends, IsWalked};
 ghost use Rattle.link_flights.specs.Flights.Flight.{flight_at};
 ghost use Rattle.link_flights.specs.Flights.InFlight.{in_units};
+ghost use Rattle.link_flights.specs.Flights.Table.{share};
 
 use crate::flight::Flight;
 use crate::flight_list::Flights;
@@ -39,6 +40,11 @@ const MOST_JOINED: usize = 48;
 /// So many in flight a component may have an end of, and half of all if that is more. Where there are
 /// more, it mostly joins too many.
 const MOST_NEAR: usize = 56;
+
+/// So many places are sorted, and so large a part of all; more are read off what is noted of each place.
+const FEW_LISTED: usize = 16;
+
+const LISTED_PART: usize = 16;
 
 /// The senders and the receivers of some messages, or all of them. A message in flight whose rate is
 /// below the level goes on as it is.
@@ -210,7 +216,7 @@ fn lesser(one: Option<Natural>, other: Natural) -> Natural
 }
 
 impl<P: Peer> Flights<P> {
-    /// The component of the messages that are done and of those that have got no rate yet. None
+    /// The component of the messages that are done or loose, and of those that have got no rate yet. None
     /// where it is large.
     pub(crate) fn component(
         &self,
@@ -221,6 +227,8 @@ impl<P: Peer> Flights<P> {
         ensures part { IfOk result (λ found. IfSome found (λ component. component.whole ≡ false)) }
         ensures closed { IfOk result (λ found. IfSome found (λ component.
             is_closed P.cmp component done.now.items (in_units self.now) ≡ true)) }
+        ensures loose { IfOk result (λ found. IfSome found (λ component.
+            All (λ m. has_both P.cmp component m ≡ true) self.now.loose)) }
         ensures level { IfOk result (λ found. IfSome found (λ component.
             IfSome self.now.floor (λ floor. component.level ≤ floor))) }
         ensures near { IfOk result (λ found. IfSome found (λ component.
@@ -235,8 +243,8 @@ impl<P: Peer> Flights<P> {
         Ok(Some(component))
     }
 
-    /// A level below which what goes on keeps its rate: the least rate of what is done, or the least
-    /// share of a cap for what is new, if that is less. It is no more than any of what is done had; the
+    /// A level below which what goes on keeps its rate: the least rate of what is done or loose, or the least
+    /// share of a cap for what is new or loose, if that is less. It is no more than any of what is done had; the
     /// rest is a guess, which the rates that are found have to reach.
     pub(crate) fn level(
         &self,
@@ -253,6 +261,10 @@ impl<P: Peer> Flights<P> {
         };
         for at in self.settled..self.list.len() {
             let share = self.share_of(&self.list.at(at).message, component, peers, pairs)?;
+            level = Some(lesser(level, share));
+        }
+        for message in self.loose.as_slice() {
+            let share = self.share_of(message, component, peers, pairs)?;
             level = Some(lesser(level, share));
         }
         Ok(level.unwrap_or(Natural::from_u64(self.alloc, 0)))
@@ -314,13 +326,14 @@ impl<P: Peer> Flights<P> {
         Ok(Some(part))
     }
 
-    /// The component has the ends of the messages that are done and of those that have got no rate yet.
+    /// The component has the ends of the messages that are done or loose, and of those that have got no rate yet.
     fn join_touched(
         &self,
         done: &VecDeque<Rc<Message<P>>>,
         component: &mut Component<P>,
     ) -> Result<(), Error>
         ensures done { OnOk result (All (λ m. has_both P.cmp component.new m.value ≡ true) done.now.items) }
+        ensures loose { OnOk result (All (λ m. has_both P.cmp component.new m ≡ true) self.now.loose) }
         ensures new { OnOk result (AllNewTouch P.cmp component.new self.now.settled self.now.list.items) }
         ensures near { component.new.near.items ≡ component.old.near.items }
         ensures level { component.new.level ≡ component.old.level }
@@ -332,6 +345,10 @@ impl<P: Peer> Flights<P> {
         }
         for at in self.settled..self.list.len() {
             component.join(&self.list.at(at).message)?;
+        }
+        let loose = self.loose.as_slice();
+        for at in 0..loose.len() {
+            component.join(&loose[at])?;
         }
         Ok(())
     }
@@ -349,6 +366,7 @@ impl<P: Peer> Flights<P> {
         ensures joined { OnOk result (StartsWith component.old.joined.items component.new.joined.items) }
         ensures walked { IfOk result (λ all. all ≡ true →
             IsWalked P.cmp (length component.new.joined.items) component.new self.now.list.items) }
+        ensures order { IfOk result (λ all. all ≡ true → Ascends 0 component.new.near.items) }
         ensures level { IfOk result (λ all. all ≡ true → IfSome self.now.floor (λ floor. component.new.level ≤ floor)) }
         ensures whole { component.new.whole ≡ component.old.whole }
         ensures refused { IfErr result (λ e. e ≡ Error.OutOfMemory) }
@@ -356,28 +374,33 @@ impl<P: Peer> Flights<P> {
         if component.is_large(self.list.len()) {
             return Ok(false);
         }
-        self.list_joined(component)?;
+        let mut noted = vec![in self.alloc; false; self.list.len()]?;
+        self.list_joined(component, &mut noted)?;
         component.level = self.level(component, peers, pairs)?;
         let mut next = component.joined.len();
         if !self.join_near(component)? {
             return Ok(false);
         }
         while next < component.joined.len() {
-            self.list_joining(next, component)?;
+            self.list_joining(next, component, &mut noted)?;
             if component.is_large(self.list.len()) {
                 return Ok(false);
             }
             next += 1;
         }
+        put_in_order(&mut component.near, &noted)?;
         Ok(true)
     }
 
     /// Lists the places of those in flight that share an end with one of the messages that have joined.
-    fn list_joined(&self, component: &mut Component<P>) -> Result<(), Error>
+    fn list_joined(&self, component: &mut Component<P>, noted: &mut Vec<bool>) -> Result<(), Error>
         requires none { component.old.near.items ≡ [] }
+        requires noted { AreNoted component.old.near.items noted.old.items }
+        requires each { length noted.old.items ≡ length self.now.list.items }
         ensures listed { OnOk result
             (AreAllListed P.cmp component.new.joined.items component.new.near.items self.now.list.items) }
-        ensures order { OnOk result (Ascends 0 component.new.near.items) }
+        ensures noted { OnOk result (AreNoted component.new.near.items noted.new.items) }
+        ensures each { length noted.new.items ≡ length noted.old.items }
         ensures touched { OnOk result
             (AreTouched P.cmp component.new component.new.near.items self.now.list.items) }
         ensures joined { component.new.joined.items ≡ component.old.joined.items }
@@ -386,40 +409,54 @@ impl<P: Peer> Flights<P> {
         ensures refused { IfErr result (λ e. e ≡ Error.OutOfMemory) }
     {
         for number in 0..component.joined.len() {
-            self.list_sharing(&component.joined[number], &mut component.near)?;
+            self.list_sharing(&component.joined[number], &mut component.near, noted)?;
         }
         Ok(())
     }
 
     /// Lists the places of those in flight that share an end with the message.
-    fn list_sharing(&self, message: &Message<P>, near: &mut Vec<usize>) -> Result<(), Error>
-        requires order { Ascends 0 near.old.items }
+    fn list_sharing(
+        &self,
+        message: &Message<P>,
+        near: &mut Vec<usize>,
+        noted: &mut Vec<bool>,
+    ) -> Result<(), Error>
+        requires noted { AreNoted near.old.items noted.old.items }
+        requires each { length noted.old.items ≡ length self.now.list.items }
         ensures listed { OnOk result (AreListed P.cmp message.now near.new.items self.now.list.items) }
         ensures more { OnOk result (AreStillListed near.old.items near.new.items) }
         ensures only { OnOk result (All (λ p. Contains near.old.items p
             ⊎ SharesAt P.cmp message.now self.now.list.items p) near.new.items) }
-        ensures order { OnOk result (Ascends 0 near.new.items) }
+        ensures noted { OnOk result (AreNoted near.new.items noted.new.items) }
+        ensures each { length noted.new.items ≡ length noted.old.items }
         ensures refused { IfErr result (λ e. e ≡ Error.OutOfMemory) }
     {
-        self.list_end(End::Origin, message, near)?;
-        self.list_end(End::Recipient, message, near)?;
+        self.list_end(End::Origin, message, near, noted)?;
+        self.list_end(End::Recipient, message, near, noted)?;
         Ok(())
     }
 
     /// Lists the places of those in flight that share that end with the message.
-    fn list_end(&self, end: End, message: &Message<P>, near: &mut Vec<usize>) -> Result<(), Error>
-        requires order { Ascends 0 near.old.items }
+    fn list_end(
+        &self,
+        end: End,
+        message: &Message<P>,
+        near: &mut Vec<usize>,
+        noted: &mut Vec<bool>,
+    ) -> Result<(), Error>
+        requires noted { AreNoted near.old.items noted.old.items }
+        requires each { length noted.old.items ≡ length self.now.list.items }
         ensures listed { OnOk result (AreListedAt P.cmp end message.now near.new.items self.now.list.items) }
         ensures more { OnOk result (AreStillListed near.old.items near.new.items) }
         ensures only { OnOk result (All (λ p. Contains near.old.items p
             ⊎ SharesEndAt P.cmp end message.now self.now.list.items p) near.new.items) }
-        ensures order { OnOk result (Ascends 0 near.new.items) }
+        ensures noted { OnOk result (AreNoted near.new.items noted.new.items) }
+        ensures each { length noted.new.items ≡ length noted.old.items }
         ensures refused { IfErr result (λ e. e ≡ Error.OutOfMemory) }
     {
         let mut next = self.list.first_at(end, message);
-        let mut place = 0;
         while let Some(at) = next {
-            place = list(near, place, at)?;
+            list(near, noted, at)?;
             next = self.list.next_at(end, at);
         }
         Ok(())
@@ -466,19 +503,63 @@ impl<P: Peer> Flights<P> {
 
     /// Lists the places of those in flight that share an end with the joined message of that number, and
     /// takes in the ends of those that were not listed before and keep no rate.
-    fn list_joining(&self, number: usize, component: &mut Component<P>) -> Result<(), Error>
+    fn list_joining(
+        &self,
+        number: usize,
+        component: &mut Component<P>,
+        noted: &mut Vec<bool>,
+    ) -> Result<(), Error>
         requires number { number < length component.old.joined.items }
         requires walked { IsWalked P.cmp number component.old self.now.list.items }
+        requires noted { AreNoted component.old.near.items noted.old.items }
+        requires each { length noted.old.items ≡ length self.now.list.items }
         ensures walked { OnOk result (IsWalked P.cmp (number + 1) component.new self.now.list.items) }
+        ensures noted { OnOk result (AreNoted component.new.near.items noted.new.items) }
+        ensures each { length noted.new.items ≡ length noted.old.items }
         ensures joined { OnOk result (StartsWith component.old.joined.items component.new.joined.items) }
         ensures level { component.new.level ≡ component.old.level }
         ensures whole { component.new.whole ≡ component.old.whole }
         ensures refused { IfErr result (λ e. e ≡ Error.OutOfMemory) }
     {
         let message = component.joined[number].clone()?;
-        self.join_end(End::Origin, &message, component)?;
-        self.join_end(End::Recipient, &message, component)?;
+        self.join_new_end(End::Origin, &message, number, component, noted)?;
+        self.join_new_end(End::Recipient, &message, number, component, noted)?;
         Ok(())
+    }
+
+    /// As [`Flights::join_end`], where the first so many of the messages that have joined were looked through:
+    /// what shares that end with one of these is listed.
+    fn join_new_end(
+        &self,
+        end: End,
+        message: &Message<P>,
+        number: usize,
+        component: &mut Component<P>,
+        noted: &mut Vec<bool>,
+    ) -> Result<(), Error>
+        requires number { number ≤ length component.old.joined.items }
+        requires before { AreAllListed P.cmp (take number component.old.joined.items) component.old.near.items
+            self.now.list.items }
+        requires noted { AreNoted component.old.near.items noted.old.items }
+        requires each { length noted.old.items ≡ length self.now.list.items }
+        requires suited { AreSuited P.cmp component.old component.old.near.items self.now.list.items }
+        ensures listed { OnOk result
+            (AreListedAt P.cmp end message.now component.new.near.items self.now.list.items) }
+        ensures more { OnOk result (AreStillListed component.old.near.items component.new.near.items) }
+        ensures only { OnOk result (All (λ p. Contains component.old.near.items p
+            ⊎ SharesEndAt P.cmp end message.now self.now.list.items p) component.new.near.items) }
+        ensures noted { OnOk result (AreNoted component.new.near.items noted.new.items) }
+        ensures each { length noted.new.items ≡ length noted.old.items }
+        ensures suited { OnOk result (AreSuited P.cmp component.new component.new.near.items self.now.list.items) }
+        ensures joined { OnOk result (StartsWith component.old.joined.items component.new.joined.items) }
+        ensures level { component.new.level ≡ component.old.level }
+        ensures whole { component.new.whole ≡ component.old.whole }
+        ensures refused { IfErr result (λ e. e ≡ Error.OutOfMemory) }
+    {
+        if shares_with_any(end, message, &component.joined[..number]) {
+            return Ok(());
+        }
+        self.join_end(end, message, component, noted)
     }
 
     /// Lists the places of those in flight that share that end with the message, and takes in the ends of
@@ -488,15 +569,18 @@ impl<P: Peer> Flights<P> {
         end: End,
         message: &Message<P>,
         component: &mut Component<P>,
+        noted: &mut Vec<bool>,
     ) -> Result<(), Error>
-        requires order { Ascends 0 component.old.near.items }
+        requires noted { AreNoted component.old.near.items noted.old.items }
+        requires each { length noted.old.items ≡ length self.now.list.items }
         requires suited { AreSuited P.cmp component.old component.old.near.items self.now.list.items }
         ensures listed { OnOk result
             (AreListedAt P.cmp end message.now component.new.near.items self.now.list.items) }
         ensures more { OnOk result (AreStillListed component.old.near.items component.new.near.items) }
         ensures only { OnOk result (All (λ p. Contains component.old.near.items p
             ⊎ SharesEndAt P.cmp end message.now self.now.list.items p) component.new.near.items) }
-        ensures order { OnOk result (Ascends 0 component.new.near.items) }
+        ensures noted { OnOk result (AreNoted component.new.near.items noted.new.items) }
+        ensures each { length noted.new.items ≡ length noted.old.items }
         ensures suited { OnOk result (AreSuited P.cmp component.new component.new.near.items self.now.list.items) }
         ensures joined { OnOk result (StartsWith component.old.joined.items component.new.joined.items) }
         ensures level { component.new.level ≡ component.old.level }
@@ -504,11 +588,9 @@ impl<P: Peer> Flights<P> {
         ensures refused { IfErr result (λ e. e ≡ Error.OutOfMemory) }
     {
         let mut next = self.list.first_at(end, message);
-        let mut place = 0;
         while let Some(at) = next {
-            let listed = component.near.len();
-            place = list(&mut component.near, place, at)?;
-            if component.near.len() > listed {
+            let is_new = list(&mut component.near, noted, at)?;
+            if is_new {
                 self.join_one(at, component)?;
             }
             next = self.list.next_at(end, at);
@@ -517,29 +599,79 @@ impl<P: Peer> Flights<P> {
     }
 }
 
-/// The place is listed from now on, among those that are, in order: at the place that is answered.
-/// Those before `from` are less.
-fn list(places: &mut Vec<usize>, from: usize, at: usize) -> Result<usize, Error>
-    requires order { Ascends 0 places.old.items }
-    requires past { All (λ p. p < at) (take from places.old.items) }
+/// Whether one of the messages shares that end with the message.
+fn shares_with_any<P: Peer>(end: End, message: &Message<P>, messages: &[Rc<Message<P>>]) -> bool
+    ensures { result ≡ list_any (λ m. share P.cmp end message.now m.value) messages.now }
+{
+    match end {
+        End::Origin => sends_any(&message.origin, messages),
+        End::Recipient => receives_any(&message.recipient, messages),
+    }
+}
+
+/// The place is listed from now on. Answers whether it was not before.
+fn list(places: &mut Vec<usize>, noted: &mut Vec<bool>, at: usize) -> Result<bool, Error>
+    requires noted { AreNoted places.old.items noted.old.items }
+    requires within { at < length noted.old.items }
     ensures here { OnOk result (Contains places.new.items at) }
     ensures others { OnOk result (AreStillListed places.old.items places.new.items) }
     ensures only { OnOk result (All (λ p. Contains places.old.items p ⊎ (p ≡ at)) places.new.items) }
-    ensures longer { OnOk result (IsSameOrLonger places.old.items places.new.items) }
-    ensures order { OnOk result (Ascends 0 places.new.items) }
-    ensures past { IfOk result (λ place. All (λ p. p < at) (take place places.new.items)) }
+    ensures same { IfOk result (λ new. new ≡ false → places.new.items ≡ places.old.items) }
+    ensures noted { OnOk result (AreNoted places.new.items noted.new.items) }
+    ensures each { length noted.new.items ≡ length noted.old.items }
     ensures refused { IfErr result (λ e. e ≡ Error.OutOfMemory) }
 {
-    let mut place = from.min(places.len());
-    while place < places.len() && places[place] < at {
-        place += 1;
+    if noted[at] {
+        return Ok(false);
     }
-    if place == places.len() {
-        places.push(at)?;
-    } else if places[place] != at {
-        places.insert(place, at)?;
+    places.push(at)?;
+    noted[at] = true;
+    Ok(true)
+}
+
+/// The places that are listed are put in order. Few are sorted; of many each place is looked at.
+fn put_in_order(places: &mut Vec<usize>, noted: &[bool]) -> Result<(), Error>
+    requires noted { AreNoted places.old.items noted.now }
+    ensures order { OnOk result (Ascends 0 places.new.items) }
+    ensures still { OnOk result (AreStillListed places.old.items places.new.items) }
+    ensures only { OnOk result (AreStillListed places.new.items places.old.items) }
+    ensures refused { IfErr result (λ e. e ≡ Error.OutOfMemory) }
+{
+    if places.len() <= FEW_LISTED.max(noted.len() / LISTED_PART) {
+        places.sort_unstable();
+        if ascend(places) {
+            return Ok(());
+        }
     }
-    Ok(place)
+    list_again(places, noted)
+}
+
+/// Whether each place is less than the next.
+fn ascend(places: &[usize]) -> bool
+    ensures { result ≡ true → Ascends 0 places.now }
+{
+    for next in 1..places.len() {
+        if places[next - 1] >= places[next] {
+            return false;
+        }
+    }
+    true
+}
+
+/// The places that are noted, and no others, are listed in order.
+fn list_again(places: &mut Vec<usize>, noted: &[bool]) -> Result<(), Error>
+    ensures order { OnOk result (Ascends 0 places.new.items) }
+    ensures listed { OnOk result ((at : ℕ) → slice_get noted.now at ≡ Some true → Contains places.new.items at) }
+    ensures only { OnOk result (All (λ at. slice_get noted.now at ≡ Some true) places.new.items) }
+    ensures refused { IfErr result (λ e. e ≡ Error.OutOfMemory) }
+{
+    places.clear();
+    for at in 0..noted.len() {
+        if noted[at] {
+            places.push(at)?;
+        }
+    }
+    Ok(())
 }
 
 /// The less of two parts, where there are any.

@@ -9,6 +9,7 @@ ghost use Rattle.link_flights.specs.Flights.Flight.{HaveRates};
 ghost use Rattle.fair_rates.specs.Sides.Subjects.{same_peer};
 
 use crate::flight::Flight;
+use crate::loose::Loose;
 use crate::table::Table;
 use fair_rates::error::Error;
 use fair_rates::peer::Peer;
@@ -35,9 +36,11 @@ pub struct Flights<P: Peer> {
     pub(crate) scale: Natural,
     /// The moment of the last account.
     pub at: u64,
-    /// The least rate of those that were done at the last account, if any of them had got one. It counts in the units
-    /// that there were when they left.
+    /// The least rate of those that are done or loose since rates were given, if any of them had got one. It counts in
+    /// the units that there were then.
     pub floor: Option<Natural>,
+    /// Those for which a cap has changed since rates were given.
+    pub(crate) loose: Loose<P>,
     /// How many were rated anew at the last account: each drained, with a rate and a finish of its
     /// own. The others went on as they were.
     pub rated_anew: usize,
@@ -76,6 +79,7 @@ impl<P: Peer> Flights<P> {
             scale: Natural::from_u64(alloc, 1),
             at: 0,
             floor: None,
+            loose: Loose::new(alloc),
             rated_anew: 0,
             settled: 0,
             unsearched: 0,
@@ -118,6 +122,7 @@ impl<P: Peer> Flights<P> {
             } ∷ []) }
         ensures scale { self.new.scale ≡ self.old.scale }
         ensures floor { self.new.floor ≡ self.old.floor }
+        ensures loose { self.new.loose ≡ self.old.loose }
         ensures rated { OnOk result (rated_ones (in_units self.new) ≡ rated_ones (in_units self.old)) }
         ensures timed { AreTimed self.old.list.items → AreTimed self.new.list.items }
         ensures joined { OnOk result (Joins id now message.value self.old self.new) }
@@ -156,6 +161,7 @@ impl<P: Peer> Flights<P> {
         ensures scale { self.new.scale ≡ self.old.scale }
         ensures at { self.new.at ≡ self.old.at }
         ensures floor { self.new.floor ≡ self.old.floor }
+        ensures loose { self.new.loose ≡ self.old.loose }
         ensures counted { OnOk result (self.new.rated_anew ≡ self.old.rated_anew) }
         ensures before { self.new.list.before ≡ self.old.list.before }
         ensures refused { IfErr result (λ e. e ≡ Error.OutOfMemory) }
@@ -180,7 +186,7 @@ impl<P: Peer> Flights<P> {
     }
 
     /// How all stands beside the list.
-    pub fn mark(&self) -> Result<Mark, AllocError>
+    pub fn mark(&self) -> Result<Mark<P>, AllocError>
         ensures { IfOk result (IsMarkOf self.now) }
     {
         let floor = match &self.floor {
@@ -191,6 +197,7 @@ impl<P: Peer> Flights<P> {
             scale: self.scale.clone()?,
             at: self.at,
             floor,
+            loose: self.loose.share(self.alloc)?,
             rated_anew: self.rated_anew,
             settled: self.settled,
             unsearched: self.unsearched,
@@ -205,6 +212,7 @@ impl<P: Peer> Flights<P> {
         ensures scale { self.new.scale ≡ self.old.scale }
         ensures at { self.new.at ≡ self.old.at }
         ensures floor { self.new.floor ≡ self.old.floor }
+        ensures loose { self.new.loose ≡ self.old.loose }
         ensures counted { self.new.rated_anew ≡ self.old.rated_anew }
     {
         self.list.commit();
@@ -212,7 +220,7 @@ impl<P: Peer> Flights<P> {
 
     /// All is taken back to how it stood when it was committed, and beside the list as at that mark. It takes no
     /// memory.
-    pub fn take_back(&mut self, mark: Mark)
+    pub fn take_back(&mut self, mark: Mark<P>)
         requires { CanBeTakenBack self.old mark }
         ensures list { self.new.list.items ≡ self.old.list.before }
         ensures back { IsTakenBack self.old mark self.new }
@@ -221,6 +229,7 @@ impl<P: Peer> Flights<P> {
             scale,
             at,
             floor,
+            loose,
             rated_anew,
             settled,
             unsearched,
@@ -230,6 +239,7 @@ impl<P: Peer> Flights<P> {
         self.scale = scale;
         self.at = at;
         self.floor = floor;
+        self.loose = loose;
         self.rated_anew = rated_anew;
         self.settled = settled;
         self.unsearched = unsearched;
@@ -239,10 +249,11 @@ impl<P: Peer> Flights<P> {
 
 /// How what is in flight stands beside the list.
 #[derive(Drop)]
-pub struct Mark {
+pub struct Mark<P: Peer> {
     scale: Natural,
     at: u64,
     floor: Option<Natural>,
+    loose: Loose<P>,
     rated_anew: usize,
     settled: usize,
     unsearched: usize,

@@ -11,6 +11,7 @@ mod component;
 mod flight;
 pub mod flight_list;
 mod fraction;
+pub mod loose;
 mod rates;
 pub mod reading;
 pub mod table;

@@ -9,11 +9,11 @@ ghost use Rattle.link_simulation.specs.Simulation.World.{last_moment};
 ghost use Rattle.link_pairs.specs.Pairs.Messages.{messages, message_of};
 ghost use Rattle.fair_rates.specs.Sides.Ends.{flow_of};
 ghost use Rattle.link_pairs.specs.Pairs.CapsOf.{caps_of};
-ghost use Rattle.link_flights.specs.Flights.Components.{those_of, is_of, is_closed, AreNear, those_near};
+ghost use Rattle.link_flights.specs.Flights.Components.{those_of, is_of, is_closed, has_both, AreNear, those_near};
 ghost use Rattle.link_flights.specs.Flights.Flight.{AreTimed, rate_of, flight_at, flights_at, has_come};
 ghost use Rattle.link_flights.specs.Flights.RatedFlights.{are_standing};
 ghost use Rattle.fair_rates.specs.Filling.FairParts.{parts_of_level};
-ghost use Rattle.link_flights.specs.Flights.InFlight.{in_units, in_flight};
+ghost use Rattle.link_flights.specs.Flights.InFlight.{in_units, in_flight, loose_in};
 ghost use Rattle.link_flights.specs.Flights.Rated.{WereRated, AreFairOf, AreFairBeside, HaveFairRates};
 ghost use Rattle.link_flights.specs.Flights.Rated.{rerated, rates_found, AreOthersTimed, IsReratedAt};
 ghost use Rattle.link_flights.specs.Flights.Rated.{AreFairFor, GivesBeside, none_is_rated, rates_of_levels};
@@ -26,6 +26,7 @@ ghost use Rattle.std.specs.declared.alloc.Global.{Global as Allocator};
 use crate::component::Component;
 use crate::flight::Flight;
 use crate::flight_list::Flights;
+use crate::loose::Loose;
 use fair_rates::bandwidth::{
     Ends, FairParts, KnownCaps, fair_parts, fair_parts_beside, parts_alone,
 };
@@ -160,7 +161,7 @@ fn stood_after(stood: usize, growth: &[u64]) -> usize {
 
 impl<P: Peer> Flights<P> {
     /// Gives each its fair rate from the last account on, once some are done. Where they had fair
-    /// rates before, those that are not touched by what is done or new keep them. Answers the first
+    /// rates before, those that are not touched by what is done, loose or new keep them. Answers the first
     /// moment at which nothing is left of one.
     pub fn rate(
         &mut self,
@@ -173,13 +174,14 @@ impl<P: Peer> Flights<P> {
         requires left { All (λ u. u.left ≢ 0) (in_units self.old) }
         requires updated { All (λ u. u.updated ≡ self.old.at) (in_units self.old) }
         requires before { were_rated ≡ true
-            → WereRated P.cmp (caps_of P.cmp peers.now.entries pairs.now.entries) self.old.scale
-            (in_units self.old) (messages done.now.items) self.old.floor }
+            → ∥ WereRated P.cmp (caps_of P.cmp peers.now.entries pairs.now.entries) self.old.scale (in_units self.old)
+            (messages done.now.items) (loose_in self.old) self.old.floor ∥₁ }
         requires timed { were_rated ≡ true → AreTimed self.old.list.items }
         ensures rated { OnOk result (HaveFairRates P.cmp (caps_of P.cmp peers.now.entries pairs.now.entries)
             self.old self.new) }
         ensures kept { OnOk result (AreKeptBut self.new.rated_anew self.old.list.items self.new.list.items) }
         ensures finish { IfOk result (IsLeastMoment (λ s. SomeSpentAt (in_flight self.new) s)) }
+        ensures loose { OnOk result (self.new.loose ≡ []) }
         ensures before { self.new.list.before ≡ self.old.list.before }
         ensures refused { IfErr result (λ e. e ≡ Error.OutOfMemory) }
     {
@@ -208,6 +210,7 @@ impl<P: Peer> Flights<P> {
             self.old self.new) }
         ensures kept { OnOk result (AreKeptBut self.new.rated_anew self.old.list.items self.new.list.items) }
         ensures finish { IfOk result (IsLeastMoment (λ s. SomeSpentAt (in_flight self.new) s)) }
+        ensures loose { OnOk result (self.new.loose ≡ []) }
         ensures before { self.new.list.before ≡ self.old.list.before }
         ensures refused { IfErr result (λ e. e ≡ Error.OutOfMemory) }
     {
@@ -228,8 +231,8 @@ impl<P: Peer> Flights<P> {
         Ok(self.settle(unsearched))
     }
 
-    /// Notes that all have got rates, and that so many accounts more are made without a search. Answers
-    /// the first moment at which nothing is left of one.
+    /// Notes that all have got rates, that nothing is loose any more, and that so many accounts more are made without a
+    /// search. Answers the first moment at which nothing is left of one.
     fn settle(&mut self, unsearched: usize) -> Option<u64>
         requires rated { list_all (λ one. one.value.rated) self.old.list.items ≡ true }
         ensures finish { (t : ℕ)
@@ -238,8 +241,11 @@ impl<P: Peer> Flights<P> {
         ensures scale { self.new.scale ≡ self.old.scale }
         ensures at { self.new.at ≡ self.old.at }
         ensures counted { self.new.rated_anew ≡ self.old.rated_anew }
+        ensures loose { self.new.loose ≡ [] }
         ensures before { self.new.list.before ≡ self.old.list.before }
     {
+        self.floor = None;
+        self.loose = Loose::new(self.alloc);
         self.settled = self.list.len();
         self.unsearched = unsearched;
         self.list.first_finish()
@@ -364,7 +370,7 @@ impl<P: Peer> Flights<P> {
         Ok(Some(found))
     }
 
-    /// What is touched: the component of what is done or new, or all from a level on.
+    /// What is touched: the component of what is done, loose or new, or all from a level on.
     fn touched(
         &self,
         done: &VecDeque<Rc<Message<P>>>,
@@ -372,6 +378,7 @@ impl<P: Peer> Flights<P> {
         pairs: &Pairs<P>,
     ) -> Result<Component<P>, Error>
         ensures closed { IfOk result (λ touched. is_closed P.cmp touched done.now.items (in_units self.now) ≡ true) }
+        ensures loose { IfOk result (λ touched. All (λ m. has_both P.cmp touched m ≡ true) self.now.loose) }
         ensures level { IfOk result (λ touched. IfSome self.now.floor (λ floor. touched.level ≤ floor)) }
         ensures near { IfOk result (λ touched. touched.whole ≡ false
             → AreNear P.cmp touched touched.near.items self.now.list.items) }

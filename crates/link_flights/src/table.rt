@@ -9,6 +9,7 @@ ghost use Rattle.fair_rates.specs.Sides.Subjects.{same_peer};
 ghost use Rattle.link_flights.specs.Flights.Flight.{has_come};
 ghost use Rattle.link_flights.specs.Flights.InFlight.{IsNextPlace};
 ghost use Rattle.link_flights.specs.Flights.Table.{share};
+ghost use Rattle.link_flights.specs.Flights.Loose.{is_at_end};
 ghost use Rattle.link_flights.specs.Flights.Rows.{items_of, AreKept};
 ghost use Rattle.row_table.specs.Rows.{is_sent_by, is_received_by};
 
@@ -195,6 +196,20 @@ impl<P: Peer> Table<P> {
         match (self.numbers.number(origin), self.numbers.number(recipient)) {
             (Some(sender), Some(receiver)) => has_row(&self.rows, sender, receiver),
             _ => false,
+        }
+    }
+
+    /// The first place at which one has the peer at that end, if there is one.
+    pub(crate) fn first_of(&self, end: End, peer: &P) -> Option<usize>
+        ensures { IsNextPlace (λ one. is_at_end P.cmp end peer.now one.value.message.value) self.now.items 0 result }
+    {
+        if self.given_up {
+            return None;
+        }
+        let number = self.numbers.number(peer)?;
+        match end {
+            End::Origin => self.rows.first_sent(number),
+            End::Recipient => self.rows.first_received(number),
         }
     }
 

@@ -1,9 +1,9 @@
 //! Larger units for what is in flight, once smaller ones are needed no more.
-ghost use Rattle.std.specs.Prelude.{◌≡◌, ◌/◌, ◌<◌, IfErr, OnOk};
+ghost use Rattle.std.specs.Prelude.{◌≡◌, ◌/◌, ◌<◌, [], IfErr, OnOk};
 ghost use Rattle.fair_rates.specs.Sides.Caps.{Caps as AnyCaps};
 ghost use Rattle.link_flights.specs.Flights.InFlight.{in_flight};
 ghost use Rattle.link_flights.specs.Flights.LargerUnits.{IsCommonFactor, AreCountedBy};
-ghost use Rattle.link_flights.specs.Flights.Rated.{AreRated};
+ghost use Rattle.link_flights.specs.Flights.Rated.{WereRatedUnder};
 
 use crate::flight::common_factor;
 use crate::flight_list::Flights;
@@ -14,19 +14,20 @@ use fair_rates::peer::Peer;
 const FACTORS: u64 = 9_419_588_158_802_421_600;
 
 impl<P: Peer> Flights<P> {
-    /// Once an account has given all their rates, units may become larger. That is tried where the scale has not grown
+    /// Once an account has given all their rates, so that nothing is loose, units may become larger. That is tried where the scale has not grown
     /// at as many accounts in a row as messages are in flight: so it takes the time of a message an account. What all
     /// are worth stays as it is.
     pub fn enlarge_units(&mut self) -> Result<(), Error>
         ensures sending { OnOk result (in_flight self.new ≡ in_flight self.old) }
-        ensures rated { OnOk result ((caps : AnyCaps P) → AreRated P.cmp caps self.old → AreRated P.cmp caps self.new) }
+        ensures rated { OnOk result ((caps : AnyCaps P)
+            → WereRatedUnder P.cmp caps self.old → WereRatedUnder P.cmp caps self.new) }
         ensures at { self.new.at ≡ self.old.at }
         ensures floor { self.new.floor ≡ self.old.floor }
         ensures counted { OnOk result (self.new.rated_anew ≡ self.old.rated_anew) }
         ensures before { self.new.list.before ≡ self.old.list.before }
         ensures refused { IfErr result (λ e. e ≡ Error.OutOfMemory) }
     {
-        if self.scale.to_u128() == Some(1) {
+        if self.scale.to_u128() == Some(1) || !self.loose.is_empty() {
             return Ok(());
         }
         self.stood = self.stood.saturating_add(1);
@@ -54,9 +55,11 @@ impl<P: Peer> Flights<P> {
 
     /// All count in units so many times as large.
     fn divide_units(&mut self, by: u64) -> Result<(), Error>
-        requires { IsCommonFactor self.old.scale self.old.list.items by }
+        requires factor { IsCommonFactor self.old.scale self.old.list.items by }
+        requires loose { self.old.loose ≡ [] }
         ensures sending { OnOk result (in_flight self.new ≡ in_flight self.old) }
-        ensures rated { OnOk result ((caps : AnyCaps P) → AreRated P.cmp caps self.old → AreRated P.cmp caps self.new) }
+        ensures rated { OnOk result ((caps : AnyCaps P)
+            → WereRatedUnder P.cmp caps self.old → WereRatedUnder P.cmp caps self.new) }
         ensures at { self.new.at ≡ self.old.at }
         ensures floor { self.new.floor ≡ self.old.floor }
         ensures counted { OnOk result (self.new.rated_anew ≡ self.old.rated_anew) }

@@ -404,13 +404,13 @@ impl<P: Peer> State<P> {
     /// brought rates or by the last event of an advance. Each of these drained to that moment and
     /// got a rate and a finish of its own; all others in flight were left as they were kept.
     ///
-    /// It counts work, and has no part in what is answered. Where messages start or end, those that
-    /// share a sender or a receiver with them, directly or through others, are looked for; but one
-    /// that is slower than all that ended, and than the least share that a new one may get, goes on
-    /// as it is, and is not looked through. Where these are found, no other is rated anew. All are
-    /// rated where they are many, or few are in flight, or a cap has changed. Where a quarter of all or
-    /// more got another rate so, all are rated at the next three events, too, as a rule. It takes no
-    /// memory, changes nothing and is never refused.
+    /// It counts work, and has no part in what is answered. Where messages start or end, or a cap of
+    /// theirs changes, those that share a sender or a receiver with them, directly or through others,
+    /// are looked for; but one that is slower than all of these were, and than the least share that one
+    /// may get, goes on as it is, and is not looked through. Where these are found, no other is rated
+    /// anew. All are rated where they are many, or few are in flight, or one loses its last cap. Where a
+    /// quarter of all or more got another rate so, all are rated at the next three events, too, as a
+    /// rule. It takes no memory, changes nothing and is never refused.
     pub fn rated_anew(&self) -> usize
         ensures counted { result ≡ rated_at_last self.now }
         ensures at_most_all { result ≤ length (planned_of self.now).sending }

@@ -7,7 +7,7 @@ use Rattle.fair_rates.specs.Sides.Caps.{Caps}
 use Rattle.link_flights.specs.declared.flight_list.Flights.{Flights}
 use Rattle.link_flights.specs.Flights.Flight.{flights_at}
 use Rattle.link_flights.specs.Flights.InFlight.{in_flight}
-use Rattle.link_flights.specs.Flights.Rated.{AreRated}
+use Rattle.link_flights.specs.Flights.Rated.{WereRatedUnder}
 use Rattle.link_flights.specs.Flights.RatedFlights.{sending_of}
 use Rattle.link_simulation.specs.Simulation.Messages.{OneForEachPair}
 use Rattle.link_simulation.specs.Rule.Planned.{rated_messages}
@@ -22,9 +22,13 @@ module _ {P : Type 0} {a : _} {b : _} {c : _} (old new : Flights P a b c) (list 
   pub in_flight_still : in_flight new ≡ in_flight old
   in_flight_still = λ i. sending_of (scale i) (flights_at (at i) (list i))
 
-  pub rated_still : (cmp : P → P → Ordering) (caps : Caps P) → AreRated cmp caps old → AreRated cmp caps new
-  rated_still cmp caps h = record {
+  pub rated_still : (cmp : P → P → Ordering) (caps : Caps P) → new.floor ≡ old.floor → new.loose ≡ old.loose
+      → WereRatedUnder cmp caps old → WereRatedUnder cmp caps new
+  rated_still cmp caps floor loose h = record {
+    was = h.was;
+    of_peers = h.of_peers;
     fair = rw (list, scale, at) h.fair;
+    differ = rw (list, at, floor, loose) h.differ;
     limited = rw (list, at) h.limited;
     timed = rw list h.timed;
   }
@@ -56,6 +60,6 @@ same_ledger {P} {a} old new peers pairs waiting idle flights limited next_id fin
       new.one_each old.one_each i;
   rated =
       is_prop→PathP
-      (λ j. stale j ≡ false → ∥ AreRated a.cmp (caps_of a.cmp (peers j).entries (pairs j).entries) (flights j) ∥₁)
+      (λ j. stale j ≡ false → ∥ WereRatedUnder a.cmp (caps_of a.cmp (peers j).entries (pairs j).entries) (flights j) ∥₁)
       (λ j. hlevel props) new.rated old.rated i;
 }

@@ -5,6 +5,7 @@ use Rattle.std.specs.Prelude.{◌≢◌, ◌==◌}
 use Rattle.std.specs.declared.cmp.Ordering.{Ordering}
 use Rattle.std.specs.Cmp.{IsTotalOrder}
 use Rattle.std.proofs.lemmas.Bool.{or_from, eqb-true, false≢true}
+use Rattle.std.proofs.Math.Logic.{∥∥₁_map}
 use Rattle.fair_rates.specs.Numbers.Amount.{whole}
 use Rattle.fair_rates.specs.Sides.Caps.{Caps}
 use Rattle.link_simulation.specs.Simulation.Messages.{Message}
@@ -68,8 +69,8 @@ module _ {P : Type 0} (cmp : P → P → Ordering) where
           is = is;
           at = joins.at;
           fair = λ done had.
-              subst (λ caps. HadFairRates cmp caps new.flights done) (sym (ap (λ (q : Planned P). q.caps) is))
-              (fair_with cmp p.caps p.next_id t joined old.flights new.flights done joins unspent had);
+              subst (λ caps. ∥ HadFairRates cmp caps new.flights done ∥₁) (sym (ap (λ (q : Planned P). q.caps) is))
+              (∥∥₁_map had (fair_with cmp p.caps p.next_id t joined old.flights new.flights done joins unspent));
         }
 
 -- a pair that is listed is idle from that moment on

@@ -21,5 +21,5 @@ pub record IsParted {P : Type 0} {a : _} {b : _} {c : _} (cmp : P → P → Orde
   pub left : done ≡ done_by cmp now caps old
   pub stays : in_flight new ≡ filter (λ f. not (is_spent cmp caps f)) (drained_to now (in_flight old))
   pub one_each : ∥ OneForEachPair cmp (rated_messages (in_flight new)) ∥₁
-  pub fair : were_fair ≡ true → HadFairRates cmp caps new done
+  pub fair : were_fair ≡ true → ∥ HadFairRates cmp caps new done ∥₁
   pub moment : new.at ≡ now

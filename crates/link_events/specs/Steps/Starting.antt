@@ -38,5 +38,5 @@ pub record StartsNext {P : Type 0} {a : _} {b : _} {c : _} (cmp : P → P → Or
   pub is : planned cmp new ≡ launched cmp t (planned cmp old) next
   pub at : new.flights.at ≡ old.flights.at
   pub fair : (done : List (Message P))
-      → HadFairRates cmp (caps_of cmp old.peers.entries old.pairs.entries) old.flights done
-      → HadFairRates cmp (caps_of cmp new.peers.entries new.pairs.entries) new.flights done
+      → ∥ HadFairRates cmp (caps_of cmp old.peers.entries old.pairs.entries) old.flights done ∥₁
+      → ∥ HadFairRates cmp (caps_of cmp new.peers.entries new.pairs.entries) new.flights done ∥₁

@@ -11,14 +11,16 @@ use Rattle.link_flights.specs.declared.flight_list.Flights.{Flights}
 -- they are, where all that is kept is the same
 pub same_flights : {P : Type 0} {a : _} {b : _} {c : _} (one other : Flights P a b c) → one.alloc ≡ other.alloc
     → one.list ≡ other.list → one.scale ≡ other.scale → one.at ≡ other.at → one.floor ≡ other.floor
+    → one.loose ≡ other.loose
     → one.rated_anew ≡ other.rated_anew → one.settled ≡ other.settled → one.unsearched ≡ other.unsearched
     → one.stood ≡ other.stood → one ≡ other
-same_flights one other alloc list scale at floor counted settled unsearched stood = λ i. record {
+same_flights one other alloc list scale at floor loose counted settled unsearched stood = λ i. record {
   alloc = alloc i;
   list = list i;
   scale = scale i;
   at = at i;
   floor = floor i;
+  loose = loose i;
   rated_anew = counted i;
   settled = settled i;
   unsearched = unsearched i;

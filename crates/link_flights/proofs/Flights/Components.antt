@@ -1,7 +1,7 @@
 -- Fair rates of a component, beside those that others keep.
 use Rattle.std.proofs.Common.{◌≡◌, ℕ, zero, suc, ◌+◌, ◌*◌, ◌≤◌, Bool, true, false, cond, if◌then◌else◌, not}
 use Rattle.std.proofs.Common.{◌&&◌, ◌||◌, List, [], ◌∷◌, Option, Some, None, Result, Ok, Err, IfOk, IfSome, All, map}
-use Rattle.std.proofs.Common.{length, sum_by, refl}
+use Rattle.std.proofs.Common.{length, sum_by, refl, ◌⊎◌}
 use Rattle.std.proofs.Common.{sym, ap, ap₂, ◌∙◌, subst, inl, inr, arith, zero-add}
 use Rattle.std.specs.Prelude.{slice_index, nat_le}
 use Rattle.std.specs.List.{AllZip, filter, list_all, list_any}
@@ -20,9 +20,9 @@ use Rattle.fair_rates.specs.declared.bandwidth.parts.FairParts.{FairParts}
 use Rattle.fair_rates.specs.Sides.Caps.{Caps}
 use Rattle.fair_rates.specs.Sides.Subjects.{Subject, sent_by, received_by, sent_between, same_peer}
 use Rattle.fair_rates.specs.Fairness.Fair.{Side, load, IsFair, HasBottleneck}
-use Rattle.fair_rates.specs.Fairness.UnderCaps.{AreOfPeers, limits, sides_under}
+use Rattle.fair_rates.specs.Fairness.UnderCaps.{AreOfPeers, cap_of, limits, sides_under}
 use Rattle.fair_rates.specs.Filling.FairParts.{flow_parts, parts_of_level}
-use Rattle.fair_rates.proofs.Lists.Members.{In, in_map, from_map, in_filter, contains_from_in, all_pass}
+use Rattle.fair_rates.proofs.Lists.Members.{In, in_map, from_map, in_filter, contains_from_in, in_from_contains, all_pass}
 use Rattle.fair_rates.proofs.Fairness.SameSides.{still_fair}
 use Rattle.fair_rates.proofs.Fairness.Sharing.{StandsAt, AreShared, shared_from, fair_from}
 use Rattle.link_simulation.specs.Simulation.Messages.{Message, is_delivered}
@@ -36,6 +36,7 @@ use Rattle.link_flights.specs.Flights.Components.{is_sender, is_receiver, keeps,
 use Rattle.link_flights.specs.Flights.Components.{is_closed}
 use Rattle.link_flights.specs.Flights.Rated.{sent_messages, rates_of, rated_ones, rates_found, rerated, rated_anew}
 use Rattle.link_flights.specs.Flights.Rated.{AreFairFor, AreFairlyRated, WereRated, AreFairOf, IsRatedFrom, IsNoMore}
+use Rattle.link_flights.specs.Flights.Rated.{IsLoose, flow_in_flight}
 use Rattle.link_flights.specs.Flights.RatedFlights.{are_standing}
 use Rattle.link_flights.proofs.Flights.FairMessages.{StandsForMessage, same_sides}
 use Rattle.link_flights.proofs.Flights.InFlight.{StandsForSent, standing_zip, standing_length, filter_yes, filter_no}
@@ -574,9 +575,23 @@ module _ {P : Type 0} (cmp : P → P → Ordering) (component : Component P) whe
         as_much : (n : ℕ) → n ≡ n * times
         as_much n = let same : n ≡ n * 1 = omega arith in same ∙ ap (λ m. n * m) (sym one)
 
-    module _ (caps : Caps P) (scale : ℕ) (floor : Option ℕ)
-        (were : WereRated cmp caps scale us (messages done) floor)
+    module _ (caps : Caps P) (scale : ℕ) (floor : Option ℕ) (loose : List (code.Message P))
+        (all_loose : All (λ m. has_both cmp component m ≡ true) loose)
+        (were : WereRated cmp caps scale us (messages done) (map (λ m. message_of m) loose) floor)
         (low : IfSome floor (λ f. component.level ≤ f)) where
+      -- it has both ends of one whose message it has both ends of
+      ends_of_message : (u : UnitFlight P) (m : code.Message P) → message_of m ≡ message_of u.message
+          → has_both cmp component m ≡ true
+          → (is_sender cmp component u.message.origin ≡ true) × (is_receiver cmp component u.message.recipient ≡ true)
+      ends_of_message u m is has =
+          let two =
+          subst
+          (λ (n : Message P). (is_sender cmp component n.origin && is_receiver cmp component n.recipient) ≡ true)
+          is has in (
+            first_of_both (is_sender cmp component u.message.origin) _ two,
+            second_of_both (is_sender cmp component u.message.origin) _ two,
+          )
+
       -- what is done has both ends in it
       both_ends : (u : UnitFlight P) → In were.before u → were.is_done u ≡ true
           → (is_sender cmp component u.message.origin ≡ true) × (is_receiver cmp component u.message.recipient ≡ true)
@@ -586,30 +601,38 @@ module _ {P : Type 0} (cmp : P → P → Ordering) (component : Component P) whe
           (in_map (λ (v : UnitFlight P). message_of v.message) (filter were.is_done were.before) u
           (in_filter were.is_done were.before u h is)) in
           let m = from_map (λ (m : Rc (code.Message P) Global). message_of m.value) done (message_of u.message) there in
-          let has =
-          all_pass (λ (m : Rc (code.Message P) Global). has_both cmp component m.value) done
-          (first_of_both _ (list_all (suits cmp component) us) closed) m.0 m.1 in
-          let two =
-          subst
-          (λ (n : Message P). (is_sender cmp component n.origin && is_receiver cmp component n.recipient) ≡ true)
-          m.2 has in (
-            first_of_both (is_sender cmp component u.message.origin) _ two,
-            second_of_both (is_sender cmp component u.message.origin) _ two,
-          )
+          ends_of_message u m.0.value m.2
+          (all_pass (λ (m : Rc (code.Message P) Global). has_both cmp component m.value) done
+          (first_of_both _ (list_all (suits cmp component) us) closed) m.0 m.1)
 
-      -- and is of it
-      done_of : (u : UnitFlight P) → In were.before u → were.is_done u ≡ true → is_of cmp component u ≡ true
-      done_of u h is = by_bool u.rated
+      -- one whose sender it has is of it, where it has no less than the floor
+      of_above : (u : UnitFlight P) → is_sender cmp component u.message.origin ≡ true
+          → (u.rated ≡ true → IsNoMore floor u.rate) → is_of cmp component u ≡ true
+      of_above u sends above = by_bool u.rated
           (λ rated.
-          sym (open_if_of u rated) ∙ ap₂ (λ a b. a && b) (both_ends u h is).0
-          (le-leb component.level u.rate (below floor low
-          (were.no_less u (contains_from_in were.before u h) is rated))))
-          (λ new. of_if_new u new ∙ (both_ends u h is).0)
+          sym (open_if_of u rated) ∙ ap₂ (λ a b. a && b) sends
+          (le-leb component.level u.rate (below floor low (above rated))))
+          (λ new. of_if_new u new ∙ sends)
         where
           below : (floor : Option ℕ) → IfSome floor (λ f. component.level ≤ f) → IsNoMore floor u.rate
               → component.level ≤ u.rate
           below None low no_more = absurd no_more
           below (Some f) low no_more = omega (arith, low, no_more)
+
+      -- what is done is of it
+      done_of : (u : UnitFlight P) → In were.before u → were.is_done u ≡ true → is_of cmp component u ≡ true
+      done_of u h is =
+          of_above u (both_ends u h is).0 (λ rated. were.no_less u (contains_from_in were.before u h) is rated)
+
+      -- and so is what is loose
+      loose_of : (u : UnitFlight P) → IsLoose (map (λ m. message_of m) loose) floor u → is_of cmp component u ≡ true
+      loose_of u (listed, above) =
+          let m = from_map (λ (m : code.Message P). message_of m) loose (message_of u.message)
+          (in_from_contains (map (λ m. message_of m) loose) (message_of u.message) listed) in
+          of_above u
+          (ends_of_message u m.0 m.2
+          (All-contains (λ m. has_both cmp component m ≡ true) loose m.0 all_loose (contains_from_in loose m.0 m.1))).0
+          (λ rated. above)
 
       stayed : (u : UnitFlight P) → In were.before u → were.is_done u ≡ false → In us u
       stayed u h is =
@@ -621,6 +644,17 @@ module _ {P : Type 0} (cmp : P → P → Ordering) (component : Component P) whe
           → (is_sender cmp component u.message.origin ≡ true) × (is_receiver cmp component u.message.recipient ≡ true)
       both_before u h is =
           by_bool (were.is_done u) (λ out. both_ends u h out) (λ stays. both_of u (stayed u h stays) is)
+
+      -- where the caps differ, all that a side limited which had got rates is of it
+      pub differ_of : (s : Subject P) → (cap_of were.was s ≡ cap_of caps s)
+          ⊎ ((u : UnitFlight P) → In were.before u → u.rated ≡ true → limits cmp s (flow_in_flight cmp u) ≡ true
+          → is_of cmp component u ≡ true)
+      differ_of s = elim (were.differ s) [
+        | inl same ↦ inl same
+        | inr all ↦ inr (λ u h rated l.
+            by_bool (were.is_done u) (λ is. done_of u h is)
+            (λ stays. loose_of u (all u (contains_from_in us u (stayed u h stays)) rated l)))
+      ]
 
       -- one that is not of it had a rate, and is not done
       kept_before : (u : UnitFlight P) → In were.before u → not (is_of cmp component u) ≡ true

@@ -1,7 +1,7 @@
 -- What stands in flight at the moment of an account, and what joins it.
 use Rattle.std.proofs.Common.{◌≡◌, ℕ, suc, ◌-◌, ◌*◌, ◌<◌, Bool, true, false, not, cond, List, [], ◌∷◌, ◌++◌, Some, All}
 use Rattle.std.proofs.Common.{sym, ap, ◌∙◌, subst, arith, inl, inr}
-use Rattle.std.specs.Prelude.{length, ◌||◌}
+use Rattle.std.specs.Prelude.{length, map, ◌||◌}
 use Rattle.std.specs.Bool.{◌==◌}
 use Rattle.std.specs.List.{AllZip, filter}
 use Rattle.std.specs.declared.cmp.Ordering.{Ordering}
@@ -20,10 +20,10 @@ use Rattle.link_pairs.specs.declared.message.Message as code
 use Rattle.link_pairs.specs.Pairs.Messages.{message_of}
 use Rattle.link_flights.specs.declared.flight_list.Flights.{Flights}
 use Rattle.link_flights.specs.Flights.Flight.{UnitFlight, DrainsTo}
-use Rattle.link_flights.specs.Flights.InFlight.{in_units, Joins}
+use Rattle.link_flights.specs.Flights.InFlight.{in_units, loose_in, Joins}
 use Rattle.link_flights.specs.Flights.RatedFlights.{rated_flight_of, sending_of}
 use Rattle.link_flights.specs.Flights.Rated.{is_out, are_limited, rated_ones, sent_messages, AreFairlyRated}
-use Rattle.link_flights.specs.Flights.Rated.{ArePartedBy, HadFairRates, IsNoMore}
+use Rattle.link_flights.specs.Flights.Rated.{ArePartedBy, HadFairRates, IsNoMore, IsLoose}
 use Rattle.link_flights.proofs.Flights.Rated.{drained_sending}
 
 module _ {X : Type 0} (test : X → Bool) (xs : List X) (x : X) where
@@ -118,10 +118,26 @@ module _ {P : Type 0} (cmp : P → P → Ordering) (caps : Caps P) where
               j.joins ∙ ap (λ us. us ++ j.unit ∷ []) parted.stay
               ∙ sym (one_more_in (λ u. not (out u)) h.before j.unit (ap not in_it));
         };
+        was = h.was;
+        of_peers = h.of_peers;
         fair =
-            subst (AreFairlyRated cmp caps new.scale)
+            subst (AreFairlyRated cmp h.was new.scale)
             (sym (one_more_out (λ u. u.rated) h.before j.unit j.unrated))
-            (subst (λ n. AreFairlyRated cmp caps n (rated_ones h.before)) (sym j.scale) h.fair);
+            (subst (λ n. AreFairlyRated cmp h.was n (rated_ones h.before)) (sym j.scale) h.fair);
+        differ = λ s. elim (h.differ s) [
+          | inl same ↦ inl same
+          | inr all ↦ inr (λ u has rated l.
+              subst (λ ms. IsLoose (map (λ m. message_of m) ms) new.floor u) (sym j.loose)
+              (subst (λ o. IsLoose (loose_in old) o u) (sym j.floor)
+              (elim (in_either (in_units old) (j.unit ∷ []) u
+              (subst (λ us. In us u) j.joins (in_from_contains (in_units new) u has))) [
+                | inl among ↦ all u (contains_from_in (in_units old) u among) rated l
+                | inr among ↦ elim among [
+                  | inl is ↦ absurd (false≢true (sym j.unrated ∙ ap (λ v. v.rated) is ∙ rated))
+                  | inr none ↦ absurd none
+                ]
+              ])))
+        ];
         no_less = λ u has leaves rated.
             subst (λ o. IsNoMore o u.rate) (sym j.floor)
             (elim (in_either h.before (j.unit ∷ []) u (in_from_contains before u has)) [

@@ -2,7 +2,7 @@
 use Prim.Native.Nat.{◌∣◌}
 use Rattle.std.proofs.Common.{◌≡◌, ℕ, zero, suc, ◌-◌, ◌*◌, ◌/◌, ◌%◌, ◌<◌, ◌≤◌, nat_le, Bool, true, false, cond}
 use Rattle.std.proofs.Common.{if◌then◌else◌, List, [], ◌∷◌, Some, slice_get, refl, sym, ap, ◌∙◌, subst, arith}
-use Rattle.std.proofs.Common.{inl, inr, ◌+◌, length, get_or}
+use Rattle.std.proofs.Common.{inl, inr, ◌⊎◌, ◌+◌, length, get_or, map, Option, Contains}
 use Rattle.std.specs.Prelude.{slice_index}
 use Rattle.std.specs.Int.{IsGcd}
 use Rattle.std.specs.List.{AllZip}
@@ -22,6 +22,10 @@ use Rattle.fair_rates.specs.Sides.Caps.{Caps}
 use Rattle.fair_rates.proofs.Lists.Sums.{sum_by_same}
 use Rattle.fair_rates.proofs.Lists.SumOrder.{sum_by-scaled, All-from_contains}
 use Rattle.link_pairs.specs.Pairs.Messages.{message_of}
+use Rattle.link_pairs.specs.declared.message.Message as code
+use Rattle.link_simulation.specs.Simulation.Messages.{is_delivered}
+use Rattle.fair_rates.specs.Fairness.UnderCaps.{limits}
+use Rattle.fair_rates.proofs.Lists.Members.{In, in_from_contains, contains_from_in}
 use Rattle.link_simulation.specs.Simulation.Rates.{capped_sides}
 use Rattle.link_flights.specs.declared.flight.Flight.{Flight}
 use Rattle.link_flights.specs.Flights.Flight.{UnitFlight, rate_of, left_by, flight_at, flights_at, IsTimed, AreTimed}
@@ -29,6 +33,7 @@ use Rattle.link_flights.specs.Flights.Flight.{has_come}
 use Rattle.link_flights.specs.Flights.LargerUnits.{IsFactorOf, IsFactorOfAll, IsCountedBy, AreCountedBy}
 use Rattle.link_flights.specs.Flights.LargerUnits.{IsCommonFactor}
 use Rattle.link_flights.specs.Flights.Rated.{sent_messages, rates_of, rated_ones, AreFairlyRated, are_limited}
+use Rattle.link_flights.specs.Flights.Rated.{DifferWhereLoose}
 use Rattle.link_flights.specs.Flights.RatedFlights.{rated_flight_of, sending_of}
 use Rattle.link_flights.proofs.Flights.Flight.{zip_there}
 use Rattle.link_flights.proofs.Flights.Units.{units_positive}
@@ -282,3 +287,33 @@ module _ {P : Type 0} (by : ℕ) where
         same [] (v ∷ vs) w = absurd w
         same (u ∷ us) [] w = absurd w
         same (u ∷ us) (v ∷ vs) w = rw (w.0.message, same us vs w.1) refl
+
+-- ---- where nothing is loose, caps that differ differ in nothing that they use
+
+larger_before : {P : Type 0} (by : ℕ) (us vs : List (UnitFlight P)) → AllZip (IsLarger by) us vs → (v : UnitFlight P)
+    → In vs v → (u : UnitFlight P) × In us u × IsLarger by u v
+larger_before by [] [] z v h = absurd h
+larger_before by [] (w ∷ vs) z v h = absurd z
+larger_before by (u ∷ us) [] z v h = absurd h
+larger_before by (u ∷ us) (w ∷ vs) z v (inl e) = (u, inl refl, subst (IsLarger by u) e z.0)
+larger_before by (u ∷ us) (w ∷ vs) z v (inr h) =
+    let r = larger_before by us vs z.1 v h in (r.0, inr r.1, r.2)
+
+pub differ_as_before : {P : Type 0} (by : ℕ) (cmp : P → P → Ordering) (was caps : Caps P) (us vs : List (UnitFlight P))
+    → AllZip (IsLarger by) us vs → (loose later : List (code.Message P)) → loose ≡ [] → (floor other : Option ℕ)
+    → DifferWhereLoose cmp was caps (map (λ m. message_of m) loose) floor us
+    → DifferWhereLoose cmp was caps (map (λ m. message_of m) later) other vs
+differ_as_before {P} by cmp was caps us vs z loose later none floor other differ s = elim (differ s) [
+  | inl same ↦ inl same
+  | inr all ↦ inr (λ v h rated l.
+      let b = larger_before by us vs z v (in_from_contains vs v h) in
+      let it = all b.0 (contains_from_in us b.0 b.1) (b.2.rated ∙ rated)
+      (ap (λ (m : code.Message P). limits cmp s (record {
+        id = 0;
+        origin = m.origin;
+        recipient = m.recipient;
+        delivered = is_delivered cmp (message_of m);
+      })) b.2.message ∙ l) in
+      absurd (in_from_contains [] (message_of b.0.message)
+      (subst (λ (ms : List (code.Message P)). Contains (map (λ m. message_of m) ms) (message_of b.0.message)) none it.0)))
+]

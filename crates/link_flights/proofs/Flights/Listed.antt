@@ -1,7 +1,6 @@
 -- Places that are listed in order are those at which a test passes.
 use Rattle.std.proofs.Common.{◌≡◌, ℕ, zero, suc, ◌+◌, ◌<◌, ◌≤◌, Bool, true, false, List, [], ◌∷◌, ◌++◌, length}
-use Rattle.std.proofs.Common.{Some, get_or, slice_get, All, take, refl, sym, ap, ◌∙◌, subst, arith, inl, inr}
-use Rattle.std.specs.List.{insert}
+use Rattle.std.proofs.Common.{Some, get_or, slice_get, All, refl, sym, ap, ◌∙◌, subst, arith, inl, inr}
 use Rattle.std.proofs.lemmas.Bool.{false≢true}
 use Rattle.std.proofs.lemmas.Option.{none-some, same_Some}
 use Rattle.fair_rates.proofs.Lists.Members.{In}
@@ -13,25 +12,25 @@ no_less first [] a p h = absurd h
 no_less first (q ∷ qs) (from, rest) p (inl e) = omega (arith, from, e)
 no_less first (q ∷ qs) (from, rest) p (inr h) = omega (arith, from, no_less (suc q) qs rest p h)
 
--- one more stands where all before are less, and all from there on are greater
-pub ascends_with_one : (first : ℕ) (ps : List ℕ) (to at : ℕ) → Ascends first ps → first ≤ at
-    → All (λ p. p < at) (take to ps) → (to < length ps → at < get_or ps to 0) → Ascends first (insert ps to at)
-ascends_with_one first [] zero at order from below above = (from, tt)
-ascends_with_one first [] (suc to) at order from below above = (from, tt)
-ascends_with_one first (p ∷ ps) zero at (low, rest) from below above = (from, (above (omega arith), rest))
-ascends_with_one first (p ∷ ps) (suc to) at (low, rest) from below above =
+-- one more comes to the end, where all are less
+pub ascends_at_end : (first : ℕ) (ps : List ℕ) (at : ℕ) → Ascends first ps → first ≤ at → All (λ p. p < at) ps
+    → Ascends first (ps ++ at ∷ [])
+ascends_at_end first [] at order from below = (from, tt)
+ascends_at_end first (p ∷ ps) at (low, rest) from below =
     let less : p < at = below 0 p (omega arith) in (
       low,
-      ascends_with_one (suc p) ps to at rest (omega (arith, less))
-          (λ k d inside. below (suc k) d (omega (arith, inside))) (λ inside. above (omega (arith, inside))),
+      ascends_at_end (suc p) ps at rest (omega (arith, less)) (λ k d inside. below (suc k) d (omega (arith, inside))),
     )
 
--- what comes to the end comes to stand there
-pub pushed_is_inserted : (ps : List ℕ) (to at : ℕ) → to ≡ length ps → ps ++ at ∷ [] ≡ insert ps to at
-pushed_is_inserted [] zero at is = refl
-pushed_is_inserted [] (suc to) at is = absurd (omega (arith, is))
-pushed_is_inserted (p ∷ ps) zero at is = absurd (omega (arith, is))
-pushed_is_inserted (p ∷ ps) (suc to) at is = ap (λ l. p ∷ l) (pushed_is_inserted ps to at (omega (arith, is)))
+-- where each is less than the next, they are in order
+pub ascends_by_pairs : (first : ℕ) (ps : List ℕ) → (0 < length ps → first ≤ get_or ps 0 0)
+    → ((k : ℕ) → suc k < length ps → get_or ps k 0 < get_or ps (suc k) 0) → Ascends first ps
+ascends_by_pairs first [] from rises = tt
+ascends_by_pairs first (p ∷ ps) from rises = (
+  from (omega arith),
+  ascends_by_pairs (suc p) ps (λ inside. rises 0 (omega (arith, inside)))
+      (λ k inside. rises (suc k) (omega (arith, inside))),
+)
 
 module _ {X : Type 0} (test : X → Bool) where
   -- the test passes at a place, where the first of the list has a place

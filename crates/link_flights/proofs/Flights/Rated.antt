@@ -1,19 +1,20 @@
 -- Messages in flight that have got fair rates: what keeps them so, and how they are read.
 use Rattle.std.proofs.Common.{◌≡◌, ℕ, ◌-◌, ◌<◌, Bool, true, false, cond, not, List, [], ◌∷◌}
-use Rattle.std.proofs.Common.{slice_index, refl, sym, ap, ◌∙◌, subst}
+use Rattle.std.proofs.Common.{Option, Contains, refl, sym, ap, ◌∙◌, subst, inl, inr}
 use Rattle.std.specs.List.{AllZip, filter}
 use Rattle.std.specs.declared.cmp.Ordering.{Ordering}
-use Rattle.std.proofs.Math.Logic.{∥∥₁_elim, ∥∥₁_map}
+use Rattle.std.proofs.Math.Logic.{∥∥₁_elim}
 use Rattle.std.proofs.Props.{props}
 use Rattle.fair_rates.specs.Sides.Caps.{Caps}
-use Rattle.fair_rates.proofs.Fairness.Decided.{fair_if_so}
-use Rattle.link_simulation.specs.Simulation.Rates.{capped_sides}
+use Rattle.fair_rates.specs.Fairness.UnderCaps.{AreOfPeers, limits}
+use Rattle.fair_rates.proofs.Lists.Members.{In, in_from_contains, contains_from_in}
+use Rattle.link_simulation.specs.Simulation.Messages.{Message, is_delivered}
 use Rattle.link_simulation.specs.Rule.Planned.{rated_messages, left_at, drained_to, is_spent}
 use Rattle.link_flights.specs.declared.flight_list.Flights.{Flights}
-use Rattle.link_flights.specs.Flights.Flight.{UnitFlight, DrainsTo}
+use Rattle.link_flights.specs.Flights.Flight.{UnitFlight, DrainsTo, AreTimed}
 use Rattle.link_flights.specs.Flights.InFlight.{in_units}
 use Rattle.link_flights.specs.Flights.Rated.{sent_messages, rates_of, rated_ones, is_out, are_limited, AreFairlyRated}
-use Rattle.link_flights.specs.Flights.Rated.{AreRated, IsAsRated}
+use Rattle.link_flights.specs.Flights.Rated.{AreRated, WereRatedUnder, IsAsRated, IsNoMore, IsLoose, DifferWhereLoose}
 use Rattle.link_flights.specs.Flights.RatedFlights.{rated_flight_of, sending_of}
 use Rattle.link_pairs.specs.Pairs.Messages.{message_of}
 use Rattle.link_flights.proofs.Flights.InFlight.{read_filter}
@@ -111,12 +112,54 @@ module _ {P : Type 0} (cmp : P → P → Ordering) (caps : Caps P) where
       by_messages (u ∷ us) [] z = absurd z
       by_messages (u ∷ us) (v ∷ vs) z = rw (z.0.message, by_messages us vs z.1) refl
 
-  -- what is known to be so is so
-  pub rated_if_so : {a : _} {b : _} {c : _} (flights : Flights P a b c) → ∥ AreRated cmp caps flights ∥₁
-      → AreRated cmp caps flights
-  rated_if_so flights so = record {
-    fair = fair_if_so (capped_sides cmp caps (sent_messages (rated_ones (in_units flights)))) flights.scale
-        (slice_index (rates_of (rated_ones (in_units flights)))) (∥∥₁_map so (λ f. f.fair));
-    limited = ∥∥₁_elim so (hlevel props) (λ f. f.limited);
-    timed = ∥∥₁_elim so (hlevel props) (λ f. f.timed);
+  -- those that got rates are limited
+  pub limited_if_so : {a : _} {b : _} {c : _} (flights : Flights P a b c) → ∥ WereRatedUnder cmp caps flights ∥₁
+      → are_limited cmp caps (rated_ones (in_units flights)) ≡ true
+  limited_if_so flights so = ∥∥₁_elim so (hlevel props) (λ f. f.limited)
+
+  -- and their finishes are right
+  pub timed_if_so : {a : _} {b : _} {c : _} (flights : Flights P a b c) → ∥ WereRatedUnder cmp caps flights ∥₁
+      → AreTimed flights.list.items
+  timed_if_so flights so = ∥∥₁_elim so (hlevel props) (λ f. f.timed)
+
+  -- what has got fair rates had them under the caps as they are
+  pub rated_under : {a : _} {b : _} {c : _} (flights : Flights P a b c) → AreOfPeers cmp caps
+      → AreRated cmp caps flights → WereRatedUnder cmp caps flights
+  rated_under flights of h = record {
+    was = caps;
+    of_peers = of;
+    fair = h.fair;
+    differ = λ s. inl refl;
+    limited = h.limited;
+    timed = h.timed;
   }
+
+  -- one that stands among those that stand as they are rated
+  one_before : (us vs : List (UnitFlight P)) → AllZip IsAsRated us vs → (v : UnitFlight P) → In vs v
+      → (u : UnitFlight P) × In us u × IsAsRated u v
+  one_before [] [] z v h = absurd h
+  one_before [] (w ∷ vs) z v h = absurd z
+  one_before (u ∷ us) [] z v h = absurd h
+  one_before (u ∷ us) (w ∷ vs) z v (inl e) = (u, inl refl, subst (IsAsRated u) e z.0)
+  one_before (u ∷ us) (w ∷ vs) z v (inr h) =
+      let r : (x : UnitFlight P) × In us x × IsAsRated x v = one_before us vs z.1 v h in (r.0, inr r.1, r.2)
+
+  -- where caps differ, those that stay loose with no greater floor are loose as before
+  pub still_differ : (was : Caps P) (us vs ws : List (UnitFlight P)) → AllZip IsAsRated us vs
+      → ((w : UnitFlight P) → In ws w → In vs w) → (loose : List (Message P)) (floor lower : Option ℕ)
+      → ((rate : ℕ) → IsNoMore floor rate → IsNoMore lower rate)
+      → DifferWhereLoose cmp was caps loose floor us → DifferWhereLoose cmp was caps loose lower ws
+  still_differ was us vs ws z among loose floor lower lowered differ s = elim (differ s) [
+    | inl same ↦ inl same
+    | inr all ↦ inr (λ w has rated l.
+        let o = one_before us vs z w (among w (in_from_contains ws w has)) in
+        let u = o.0 in
+        let alike = o.2 in
+        let h : IsLoose loose floor u =
+        all u (contains_from_in us u o.1) (sym alike.rated ∙ rated)
+        (ap (λ m. limits cmp s (record { id = 0; origin = m.origin; recipient = m.recipient; delivered = is_delivered cmp (message_of m) }))
+        (sym alike.message) ∙ l) in (
+          subst (λ m. Contains loose (message_of m)) (sym alike.message) h.0,
+          subst (IsNoMore lower) (sym alike.rate) (lowered u.rate h.1),
+        ))
+  ]

@@ -1,7 +1,7 @@
 -- Rates that are given to what is in flight.
 use Rattle.std.proofs.Common.{◌≡◌, ◌≢◌, ℕ, zero, suc, ◌*◌, ◌<◌, ◌≤◌, List, All, IfSome, length, refl}
 use Rattle.std.proofs.Common.{sym, ap}
-use Rattle.std.proofs.Common.{◌∙◌, subst, arith, true}
+use Rattle.std.proofs.Common.{◌∙◌, subst, arith, true, slice_index}
 use Rattle.std.specs.Prelude.{nat_le}
 use Rattle.std.specs.List.{AllZip}
 use Rattle.std.specs.Cmp.{IsTotalOrder}
@@ -9,6 +9,9 @@ use Rattle.std.specs.declared.cmp.Ordering.{Ordering}
 use Rattle.std.specs.declared.rc.Rc.{Rc}
 use Rattle.std.specs.declared.alloc.Global.{Global}
 use Rattle.std.proofs.lemmas.List.Elements.{All-contains}
+use Rattle.std.proofs.Math.Logic.{∥∥₁_map}
+use Rattle.fair_rates.proofs.Fairness.Decided.{fair_if_so}
+use Rattle.link_simulation.specs.Simulation.Rates.{capped_sides}
 use Rattle.fair_rates.specs.Fairness.Exists.{product}
 use Rattle.fair_rates.proofs.Lists.Members.{all_pass}
 use Rattle.fair_rates.proofs.Lists.SumOrder.{All-from_contains}
@@ -21,10 +24,10 @@ use Rattle.link_pairs.specs.declared.message.Message as code
 use Rattle.link_pairs.specs.Pairs.Messages.{messages}
 use Rattle.link_flights.specs.declared.flight_list.Flights.{Flights}
 use Rattle.link_flights.specs.Flights.Flight.{UnitFlight, AreTimed, flights_at}
-use Rattle.link_flights.specs.Flights.InFlight.{in_units}
-use Rattle.link_flights.specs.Flights.Components.{those_of, is_closed}
+use Rattle.link_flights.specs.Flights.InFlight.{in_units, loose_in}
+use Rattle.link_flights.specs.Flights.Components.{those_of, has_both, is_closed}
 use Rattle.link_flights.specs.Flights.Rated.{rates_found, rerated, AreFairlyRated, WereRated, AreFairOf, AreRatedBeside}
-use Rattle.link_flights.specs.Flights.Rated.{IsRatedFrom, HaveFairRates}
+use Rattle.link_flights.specs.Flights.Rated.{IsRatedFrom, HaveFairRates, sent_messages, rates_of}
 use Rattle.link_flights.proofs.Flights.Components.{found_each, whole_rerated, whole_fair}
 use Rattle.link_flights.proofs.Flights.Components.{component_rerated}
 use Rattle.link_flights.proofs.Flights.Restarting.{restart_fair, kept_within}
@@ -88,20 +91,24 @@ module _ {P : Type 0} (cmp : P → P → Ordering) (caps : Caps P) (component : 
   pub beside_given : {a : _} {b : _} {c : _} (old new : Flights P a b c)
       → AreRatedBeside cmp caps component old new → IsTotalOrder cmp → AreOfPeers cmp caps
       → (done : List (Rc (code.Message P) Global)) → is_closed cmp component done (in_units old) ≡ true
-      → WereRated cmp caps old.scale (in_units old) (messages done) old.floor
+      → All (λ m. has_both cmp component m ≡ true) old.loose
+      → ∥ WereRated cmp caps old.scale (in_units old) (messages done) (loose_in old) old.floor ∥₁
       → IfSome old.floor (λ f. component.level ≤ f)
       → All (λ u. u.updated ≡ old.at) (in_units old) → HaveFairRates cmp caps old new
-  beside_given old new r order of done closed were low updated =
+  beside_given old new r order of done closed loose were low updated =
       let us = in_units old in
       let reached = all_pass (λ rate. nat_le component.level rate) r.rates r.reach in
       let each : AllZip (IsRatedFrom old.at 1) us (rerated cmp component old.at 1 r.rates us) =
       component_rerated cmp component done us closed old.at 1 r.rates refl updated r.fair.one_each in
       let fairly : AreFairlyRated cmp caps old.scale (rerated cmp component old.at 1 r.rates us) =
-      restart_fair cmp component done us closed order caps of old.scale old.floor were low old.at 1 r.rates
+      fair_if_so (capped_sides cmp caps (sent_messages (rerated cmp component old.at 1 r.rates us))) old.scale
+      (slice_index (rates_of (rerated cmp component old.at 1 r.rates us)))
+      (∥∥₁_map were (λ w.
+      restart_fair cmp component done old.loose us closed loose order caps of old.scale old.floor w low old.at 1 r.rates
       r.fair.one_each reached
       (r.fair.fair
-      (kept_within cmp component done us closed order caps of old.scale old.floor were low old.at 1 r.rates
-      r.fair.one_each reached)) in
+      (kept_within cmp component done old.loose us closed loose order caps of old.scale old.floor w low old.at 1 r.rates
+      r.fair.one_each reached)))) in
       record {
         times = 1;
         scale = omega (arith, r.scale);

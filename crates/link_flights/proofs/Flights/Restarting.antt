@@ -1,6 +1,6 @@
 -- Filling goes on from a level: the fair rates of a component, beside those that others keep, are fair for all.
 use Rattle.std.proofs.Common.{◌≡◌, ℕ, zero, suc, ◌*◌, ◌≤◌, Bool, true, false, cond, if◌then◌else◌, not}
-use Rattle.std.proofs.Common.{◌||◌, List, [], ◌∷◌, Option, Some, None, IfSome, map, length, refl, sym, ap, ◌∙◌, subst}
+use Rattle.std.proofs.Common.{◌||◌, ◌⊎◌, List, [], ◌∷◌, All, Option, Some, None, IfSome, map, length, refl, sym, ap, ◌∙◌, subst}
 use Rattle.std.proofs.Common.{inl, inr}
 use Rattle.std.proofs.Common.{arith, zero-add, Contains}
 use Rattle.std.specs.Prelude.{slice_index, slice_get, nat_le, unwrap_or}
@@ -23,13 +23,13 @@ use Rattle.fair_rates.proofs.Fairness.SharedBeside.{AreSharedBeside, beside_shar
 use Rattle.fair_rates.proofs.Fairness.SharedBeside.{kept_fit}
 use Rattle.fair_rates.proofs.Lists.Filters.{filter_swap}
 use Rattle.fair_rates.proofs.Lists.Booleans.{by_bool, second_of_both}
-use Rattle.fair_rates.proofs.Lists.Members.{In, from_map, from_filter, in_get, get_from_map}
+use Rattle.fair_rates.proofs.Lists.Members.{In, from_map, from_filter, in_filter, in_get, get_from_map}
 use Rattle.link_simulation.specs.Simulation.Rates.{capped_sides}
 use Rattle.link_flights.specs.declared.component.Component.{Component}
 use Rattle.link_pairs.specs.declared.message.Message as code
-use Rattle.link_pairs.specs.Pairs.Messages.{messages}
+use Rattle.link_pairs.specs.Pairs.Messages.{messages, message_of}
 use Rattle.link_flights.specs.Flights.Flight.{UnitFlight}
-use Rattle.link_flights.specs.Flights.Components.{is_sender, is_receiver, is_of, those_of, near_of, touches, is_closed}
+use Rattle.link_flights.specs.Flights.Components.{is_sender, is_receiver, is_of, those_of, near_of, touches, has_both, is_closed}
 use Rattle.link_flights.specs.Flights.Rated.{sent_messages, rates_of, rated_ones, rerated, rated_anew, kept_by}
 use Rattle.link_flights.specs.Flights.Rated.{kept_rates, AreFairlyRated, WereRated}
 use Rattle.link_flights.proofs.Flights.FairMessages.{same_sides}
@@ -39,7 +39,8 @@ use Rattle.link_flights.proofs.Flights.Components.{Share, flow_of, parts_of, flo
 use Rattle.link_flights.proofs.Flights.Components.{stand_from, own, AreFairShares, shared, fair}
 use Rattle.link_flights.proofs.Flights.Components.{others_of, is_open, open_if_of, same_messages}
 use Rattle.link_flights.proofs.Flights.Components.{comes, others_kept, still_of, apart, meets, both_of, rated_outside}
-use Rattle.link_flights.proofs.Flights.Components.{none_outside, both_before, others_stay}
+use Rattle.link_flights.proofs.Flights.Components.{none_outside, both_before, others_stay, differ_of}
+use Rattle.link_flights.proofs.Flights.ChangedCaps.{kept_alone, not_not}
 
 -- ---- lists
 
@@ -49,6 +50,15 @@ filter_alike p q [] h = refl
 filter_alike p q (x ∷ xs) h =
     ap (λ b. cond b (x ∷ filter p xs) (filter p xs)) (h x (inl refl))
     ∙ ap (λ l. cond (q x) (x ∷ l) l) (filter_alike p q xs (λ y among. h y (inr among)))
+
+filter_twice : {X : Type 0} (p : X → Bool) (xs : List X) → filter p (filter p xs) ≡ filter p xs
+filter_twice p [] = refl
+filter_twice p (x ∷ xs) = by_test (p x) refl (filter_twice p xs)
+  where
+    by_test : (b : Bool) → p x ≡ b → filter p (filter p xs) ≡ filter p xs
+        → filter p (cond b (x ∷ filter p xs) (filter p xs)) ≡ cond b (x ∷ filter p xs) (filter p xs)
+    by_test true is ih = filter_yes p x (filter p xs) is ∙ ap (λ l. x ∷ l) ih
+    by_test false is ih = ih
 
 -- ---- what stands at a place
 
@@ -183,10 +193,10 @@ module _ {P : Type 0} (cmp : P → P → Ordering) (component : Component P) whe
 
   -- ---- the restart
 
-  module _ (done : List (Rc (code.Message P) Global)) (us : List (UnitFlight P))
-      (closed : is_closed cmp component done us ≡ true) (order : IsTotalOrder cmp) (caps : Caps P)
-      (of : AreOfPeers cmp caps) (scale : ℕ) (floor : Option ℕ)
-      (were : WereRated cmp caps scale us (messages done) floor)
+  module _ (done : List (Rc (code.Message P) Global)) (loose : List (code.Message P)) (us : List (UnitFlight P))
+      (closed : is_closed cmp component done us ≡ true) (all_loose : All (λ m. has_both cmp component m ≡ true) loose)
+      (order : IsTotalOrder cmp) (caps : Caps P) (of : AreOfPeers cmp caps) (scale : ℕ) (floor : Option ℕ)
+      (were : WereRated cmp caps scale us (messages done) (map (λ m. message_of m) loose) floor)
       (low : IfSome floor (λ f. component.level ≤ f)) (now times : ℕ) (rates : List ℕ)
       (one_each : length rates ≡ length (those_of cmp component us))
       (reach : (rate : ℕ) → In rates rate → nat_le component.level rate ≡ true) where
@@ -266,7 +276,7 @@ module _ {P : Type 0} (cmp : P → P → Ordering) (component : Component P) whe
     same_kept =
         keep_of olds (λ v h. (old_rated v h).1)
         ∙ ap (shares cmp)
-        (others_stay cmp component done us closed caps scale floor were low
+        (others_stay cmp component done us closed caps scale floor loose all_loose were low
         ∙ sym
         (others_kept cmp component now times (λ rate u at_least is. still_of cmp component now times rate u at_least is)
         rates us reach))
@@ -293,7 +303,7 @@ module _ {P : Type 0} (cmp : P → P → Ordering) (component : Component P) whe
         (λ (y : Share P). (is_sender cmp component y.flow.origin ≡ true)
         × (is_receiver cmp component y.flow.recipient ≡ true))
         w.2
-        (both_before cmp component done us closed caps scale floor were low w.0 o.0
+        (both_before cmp component done us closed caps scale floor loose all_loose were low w.0 o.0
         (sym (open_if_of cmp component w.0 o.1) ∙ ap rated w.2 ∙ on))
 
     none_of_share : (x : Share P) → In (shares cmp news) x → rated x ≡ false → component.level ≤ x.parts
@@ -319,23 +329,56 @@ module _ {P : Type 0} (cmp : P → P → Ordering) (component : Component P) whe
         ∙ apart cmp component order s k.flow x.flow (none.0 ∙ sym none.1) (both.0 ∙ sym both.1) l m ∙ both.0)))
         (λ e. e)
 
-    kept_apart : (k : Share P) → In (shares cmp news) k → rated k ≡ false → component.level ≤ k.parts
-        → (s : Subject P) (cap : ℕ) → cap_of caps s ≡ Some cap → limits cmp s k.flow ≡ true
-        → ((x : Share P) → In (shares cmp news) x → rated x ≡ true → limits cmp s x.flow ≡ false)
-        × ((y : Share P) → In (shares cmp olds) y → rated y ≡ true → limits cmp s y.flow ≡ false)
-    kept_apart k h off high s cap has l =
-        let none = none_of_share k h off high in (
-          λ x hx on. never_both s k x none (both_of_share x hx on) l,
-          λ y hy on. never_both s k y none (both_of_old y hy on) l,
-        )
-
     reaches : (x : Share P) → rated x ≡ true → component.level ≤ x.parts
     reaches x on =
         leb-true component.level x.parts
         (second_of_both (is_sender cmp component x.flow.origin) (nat_le component.level x.parts) on)
 
-    old_shared : AreFairShares cmp order caps of scale (shares cmp olds)
-    old_shared = shared cmp order caps of scale olds were.fair
+    old_shared : AreFairShares cmp order were.was were.of_peers scale (shares cmp olds)
+    old_shared = shared cmp order were.was were.of_peers scale olds were.fair
+
+    -- what the caps differ in is used by none that keeps its rate
+    differ : (s : Subject P) → (cap_of were.was s ≡ cap_of caps s)
+        ⊎ ((y : Share P) → In (shares cmp olds) y → limits cmp s y.flow ≡ true → rated y ≡ true)
+    differ s = elim (differ_of cmp component done us closed caps scale floor loose all_loose were low s) [
+      | inl same ↦ inl same
+      | inr all ↦ inr (λ y h l.
+          let w = whose olds y h in
+          let o = old_rated w.0 w.1 in
+          ap rated (sym w.2) ∙ open_if_of cmp component w.0 o.1
+          ∙ all w.0 o.0 o.1 (ap (λ (x : Share P). limits cmp s x.flow) w.2 ∙ l))
+    ]
+
+    -- those that keep their rates
+    abbrev kept_olds : List (Share P)
+    kept_olds = filter (λ x. not (rated x)) (shares cmp olds)
+
+    still_there : (k : Share P) → In (shares cmp olds) k → rated k ≡ false → In (shares cmp news) k
+    still_there k h off =
+        (from_filter (λ x. not (rated x)) (shares cmp news) k
+        (subst (λ (ks : List (Share P)). In ks k) same_kept
+        (in_filter (λ x. not (rated x)) (shares cmp olds) k h (ap not off)))).0
+
+    kept_shared : AreFairShares cmp order caps of scale kept_olds
+    kept_shared =
+        kept_alone cmp flow_of parts_of rated scale component.level were.was caps (shares cmp olds) old_shared
+        (λ y h on. reaches y on)
+        (λ k h off high s l y hy on.
+        never_both s k y (none_of_share k (still_there k h off) off high) (both_of_old y hy on) l)
+        differ
+
+    same_twice : filter (λ x. not (rated x)) kept_olds ≡ filter (λ x. not (rated x)) (shares cmp news)
+    same_twice = filter_twice (λ x. not (rated x)) (shares cmp olds) ∙ same_kept
+
+    kept_apart : (k : Share P) → In (shares cmp news) k → rated k ≡ false → component.level ≤ k.parts
+        → (s : Subject P) (cap : ℕ) → cap_of caps s ≡ Some cap → limits cmp s k.flow ≡ true
+        → ((x : Share P) → In (shares cmp news) x → rated x ≡ true → limits cmp s x.flow ≡ false)
+        × ((y : Share P) → In kept_olds y → rated y ≡ true → limits cmp s y.flow ≡ false)
+    kept_apart k h off high s cap has l = (
+      λ x hx on. never_both s k x (none_of_share k h off high) (both_of_share x hx on) l,
+      λ y hy on. absurd (false≢true (sym (not_not (rated y)
+          (from_filter (λ x. not (rated x)) (shares cmp olds) y hy).1) ∙ on)),
+    )
 
     -- ---- those near
 
@@ -402,9 +445,9 @@ module _ {P : Type 0} (cmp : P → P → Ordering) (component : Component P) whe
         (λ out. ap (λ b. unwrap_or (if b then None else Some r.u.rate) 0) out ∙ sym (r.kept out)
         ∙ sym (ap (λ b. cond b 0 x.parts) (r.same ∙ out)))
 
-    -- what those near take that keep their rates is no more than what all took before
+    -- what those near take that keep their rates is no more than what all took before that keep theirs
     kept_total : (s : Subject P)
-        → total_of s (filter (λ x. not (rated x)) (shares cmp near_news)) ≤ total_of s (shares cmp olds)
+        → total_of s (filter (λ x. not (rated x)) (shares cmp near_news)) ≤ total_of s kept_olds
     kept_total s =
         let few : filter (λ x. not (rated x)) (shares cmp near_news)
         ≡ filter is_near (filter (λ x. not (rated x)) (shares cmp olds)) =
@@ -414,8 +457,7 @@ module _ {P : Type 0} (cmp : P → P → Ordering) (component : Component P) whe
         omega (
           arith,
           ap (total_of s) few,
-          total_at_most cmp caps flow_of parts_of is_near s (filter (λ x. not (rated x)) (shares cmp olds)),
-          total_at_most cmp caps flow_of parts_of (λ x. not (rated x)) s (shares cmp olds),
+          total_at_most cmp caps flow_of parts_of is_near s kept_olds,
         )
 
     -- the sides of those near, and of their messages
@@ -441,7 +483,7 @@ module _ {P : Type 0} (cmp : P → P → Ordering) (component : Component P) whe
     -- what is kept is within the caps
     pub kept_within : (side : Side) → Contains message_sides side → kept_load kept side ≤ side.cap * scale
     kept_within side listed =
-        kept_fit cmp caps flow_of parts_of order of (shares cmp near_news) rated scale (shares cmp olds) old_shared kept
+        kept_fit cmp caps flow_of parts_of order of (shares cmp near_news) rated scale kept_olds kept_shared kept
         kept_parts kept_total side ((sides_alike side).1 listed)
 
     module _ (found : IsFairBeside kept message_sides scale
@@ -472,5 +514,5 @@ module _ {P : Type 0} (cmp : P → P → Ordering) (component : Component P) whe
       pub restart_fair : AreFairlyRated cmp caps scale news
       restart_fair =
           fair cmp order caps of scale news
-          (beside_shared cmp caps flow_of parts_of rated scale component.level (shares cmp olds) (shares cmp news)
-          old_shared same_kept (λ y h on. reaches y on) (λ x h on. reaches x on) kept_apart beside_all)
+          (beside_shared cmp caps flow_of parts_of rated scale component.level kept_olds (shares cmp news)
+          kept_shared same_twice (λ y h on. reaches y on) (λ x h on. reaches x on) kept_apart beside_all)

@@ -191,7 +191,7 @@ module _ {P : Type 0} (cmp : P → P → Ordering) (total : IsTotalOrder cmp) wh
   Item = Rc (Flight P) Global
 
   -- the end of a message, and the owner of a row at that end
-  abbrev end_of : End → Message P → P
+  abbrev pub end_of : End → Message P → P
   end_of Origin m = m.origin
   end_of Recipient m = m.recipient
 

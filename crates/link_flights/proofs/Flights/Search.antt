@@ -1,22 +1,22 @@
 -- What an event touches, found one message in flight after another.
 use Rattle.std.proofs.Common.{◌≡◌, ℕ, zero, suc, ◌+◌, ◌-◌, ◌<◌, ◌≤◌, Bool, true, false, not, ◌&&◌, ◌||◌}
-use Rattle.std.proofs.Common.{inl, inr, ◌⊎◌, List, [], ◌∷◌, ◌++◌, length, take, drop, get_or, All, Contains, None, Some, refl}
+use Rattle.std.proofs.Common.{inl, inr, ◌⊎◌, List, [], ◌∷◌, ◌++◌, length, take, get_or, All, Contains, None, Some, refl}
 use Rattle.std.proofs.Common.{sym, ap, ◌∙◌, subst, arith, if◌then◌else◌}
 use Rattle.std.specs.Prelude.{slice_get, Option, IfSome, nat_le}
 use Rattle.std.specs.Cmp.{IsTotalOrder}
-use Rattle.std.specs.List.{filter, insert, list_all, list_any}
+use Rattle.std.specs.List.{filter, list_all, list_any}
 use Rattle.std.specs.declared.cmp.Ordering.{Ordering}
 use Rattle.std.specs.declared.rc.Rc.{Rc}
+use Rattle.std.specs.declared.vec.Vec.{Vec}
 use Rattle.std.specs.declared.alloc.Global.{Global}
 use Rattle.std.proofs.lemmas.Bool.{cases_lt, false≢true, and_from, or_cases}
 use Rattle.std.proofs.lemmas.Cmp.{eq_by_cmp_equiv}
 use Rattle.link_flights.proofs.Flights.InFlight.{filter_yes, filter_no}
 use Rattle.link_flights.proofs.Flights.Places.{one_there, or_first, or_second}
-use Rattle.std.proofs.lemmas.List.{append_assoc, length-append, take-append-drop, take-append-le, take_all}
+use Rattle.std.proofs.lemmas.List.{append_assoc, take-append-le, take_all}
 use Rattle.std.proofs.lemmas.List.Elements.{All-more, All-contains, Contains-append_left, Contains-append_right}
-use Rattle.std.proofs.lemmas.List.Elements.{Contains-append_cases}
-use Rattle.std.proofs.lemmas.List.Elements.{All-append, All-cons, All-contains_itself, All-drop, All-nil}
-use Rattle.std.proofs.lemmas.List.Elements.{All-take, All-weaker}
+use Rattle.std.proofs.lemmas.List.Elements.{All-append, All-cons, All-contains_itself, All-nil}
+use Rattle.std.proofs.lemmas.List.Elements.{All-weaker}
 use Rattle.std.proofs.lemmas.List.Folds.{list_all-map, list_any-append, list_any_at, Any-from_list_any}
 use Rattle.std.proofs.lemmas.Option.{none-some, same_Some, get_or_from_slice_get, slice_get_within}
 use Rattle.fair_rates.specs.Sides.Subjects.{same_peer}
@@ -34,7 +34,7 @@ use Rattle.link_flights.specs.Flights.Table.{share}
 use Rattle.link_flights.specs.declared.table.End.{End}
 use Rattle.link_flights.specs.declared.table.End.TheVariants.{Origin, Recipient}
 use Rattle.link_flights.specs.Flights.Components.{is_sender, is_receiver, share_an_end, StartsWith}
-use Rattle.link_flights.specs.Flights.Components.{AreStillListed, IsSameOrLonger, AreListed, AreAllListed}
+use Rattle.link_flights.specs.Flights.Components.{AreStillListed, AreListed, AreAllListed}
 use Rattle.link_flights.specs.Flights.Components.{AllNewTouch}
 use Rattle.link_flights.specs.Flights.InFlight.{PassesNowhere, PassesFirstAt, IsNextPlace}
 
@@ -75,41 +75,19 @@ either : (a b : Bool) → b ≡ true → (a || b) ≡ true
 either true b h = refl
 either false b h = h
 
--- what is listed stays where more comes to stand between
-pub still_with_one : (before : List ℕ) (to at : ℕ) → AreStillListed before (insert before to at)
-still_with_one before to at p is =
-    elim (Contains-append_cases (take to before) (drop to before) p
-    (subst (λ l. Contains l p) (sym (take-append-drop to before)) is)) [
-      | inl low ↦ Contains-append_left (take to before) (at ∷ drop to before) p low
-      | inr high ↦ Contains-append_right (take to before) (at ∷ drop to before) p
-          (Contains-append_right (at ∷ []) (drop to before) p high)
-    ]
+-- what is listed still is, and no other, where one more comes to the end
+pub still_with_one : (before : List ℕ) (at : ℕ) → AreStillListed before (before ++ at ∷ [])
+still_with_one before at p is = Contains-append_left before (at ∷ []) p is
 
--- each is one of those before, or the one that comes to stand between
-pub only_with_one : (before : List ℕ) (to at : ℕ) → All (λ p. Contains before p ⊎ (p ≡ at)) (insert before to at)
-only_with_one before to at =
-    let was : (xs : List ℕ) → All (Contains before) xs → All (λ p. Contains before p ⊎ (p ≡ at)) xs = λ xs.
-    All-weaker (Contains before) (λ p. Contains before p ⊎ (p ≡ at)) (λ p is. inl is) xs in
-    All-append (λ p. Contains before p ⊎ (p ≡ at)) (take to before) (at ∷ drop to before)
-    (was (take to before) (All-take (Contains before) to before (All-contains_itself before)))
-    (All-cons (λ p. Contains before p ⊎ (p ≡ at)) at (drop to before) (inr refl)
-    (was (drop to before) (All-drop (Contains before) to before (All-contains_itself before))))
+pub only_with_one : (before : List ℕ) (at : ℕ) → All (λ p. Contains before p ⊎ (p ≡ at)) (before ++ at ∷ [])
+only_with_one before at =
+    All-append (λ p. Contains before p ⊎ (p ≡ at)) before (at ∷ [])
+    (All-weaker (Contains before) (λ p. Contains before p ⊎ (p ≡ at)) (λ p is. inl is) before
+    (All-contains_itself before))
+    (All-cons (λ p. Contains before p ⊎ (p ≡ at)) at [] (inr refl) (All-nil (λ p. Contains before p ⊎ (p ≡ at))))
 
--- with one more between they are longer
-pub longer_with_one : (before : List ℕ) (to at : ℕ) → IsSameOrLonger before (insert before to at)
-longer_with_one before to at =
-    inr (omega (
-      arith,
-      length-append (take to before) (at ∷ drop to before),
-      ap length (take-append-drop to before),
-      length-append (take to before) (drop to before),
-    ))
-
--- where there are no more, they are the same
-pub same_if_no_longer : (before after : List ℕ) → IsSameOrLonger before after → length after ≤ length before
-    → after ≡ before
-same_if_no_longer before after (inl e) short = e
-same_if_no_longer before after (inr more) short = absurd (omega (arith, more, short))
+pub one_is_listed : (before : List ℕ) (at : ℕ) → Contains (before ++ at ∷ []) at
+one_is_listed before at = Contains-append_right before (at ∷ []) at (0, omega arith, refl)
 
 any_more : {X : Type 0} (test : X → Bool) (xs ys : List X) → StartsWith xs ys → list_any test xs ≡ true
     → list_any test ys ≡ true
@@ -131,43 +109,32 @@ module _ {P : Type 0} (cmp : P → P → Ordering) where
 
   -- ---- places that are listed
 
-  -- those before a place that share that end with the message are listed, and no others but what was listed before;
-  -- they are in order, and the first so many stand before that place
-  pub record HasListed (end : End) (m : Message P) (list : List (Rc (Flight P) Global)) (at first : ℕ) (before near : List ℕ)
+  -- those before a place that share that end with the message are listed, and no others but what was listed before
+  pub record HasListed (end : End) (m : Message P) (list : List (Rc (Flight P) Global)) (at : ℕ) (before near : List ℕ)
       : Type 0 where
     pub listed : (i : ℕ) (one : Rc (Flight P) Global) → i < at → slice_get list i ≡ Some one
         → share cmp end m one.value.message.value ≡ true → Contains near i
     pub more : AreStillListed before near
     pub only : All (λ p. Contains before p ⊎ SharesEndAt cmp end m list p) near
-    pub order : Ascends 0 near
-    pub past : All (λ p. p < at) (take first near)
 
   -- nothing is yet
-  pub none_listed : (end : End) (m : Message P) (list : List (Rc (Flight P) Global)) (before : List ℕ) → Ascends 0 before
-      → HasListed end m list 0 0 before before
-  none_listed end m list before order = record {
+  pub none_listed : (end : End) (m : Message P) (list : List (Rc (Flight P) Global)) (before : List ℕ)
+      → HasListed end m list 0 before before
+  none_listed end m list before = record {
     listed = λ i one below. absurd (omega (arith, below));
     more = λ i is. is;
     only = All-weaker (Contains before) (λ p. Contains before p ⊎ SharesEndAt cmp end m list p) (λ p is. inl is) before
         (All-contains_itself before);
-    order = order;
-    past = All-nil (λ p. p < 0);
   }
 
-  module _ (end : End) (m : Message P) (list : List (Rc (Flight P) Global)) (from first : ℕ) (before near : List ℕ)
-      (so_far : HasListed end m list from first before near) where
+  module _ (end : End) (m : Message P) (list : List (Rc (Flight P) Global)) (from : ℕ) (before near : List ℕ)
+      (so_far : HasListed end m list from before near) where
     apart_there : (to : ℕ) → PassesNowhere (λ one. share cmp end m one.value.message.value) list from to
         → (i : ℕ) (one : Rc (Flight P) Global) → from ≤ i → i < to → slice_get list i ≡ Some one
         → share cmp end m one.value.message.value ≡ false
     apart_there to apart i one low high there =
         subst (λ (y : Rc (Flight P) Global). share cmp end m y.value.message.value ≡ false)
         (get_or_from_slice_get list i one one there) (apart i low high one)
-
-    -- the first so many stand before the next that shares that end
-    pub still_past : (at : ℕ) → PassesFirstAt (λ one. share cmp end m one.value.message.value) list from at
-        → All (λ p. p < at) (take first near)
-    still_past at next =
-        All-weaker (λ p. p < from) (λ p. p < at) (λ p less. omega (arith, less, next.low)) (take first near) so_far.past
 
     shares_there : (at : ℕ) → PassesFirstAt (λ one. share cmp end m one.value.message.value) list from at
         → SharesEndAt cmp end m list at
@@ -180,11 +147,11 @@ module _ {P : Type 0} (cmp : P → P → Ordering) where
         )
 
     -- one more is listed, the next that shares that end
-    pub listed_more : (at place : ℕ) (next : List ℕ)
+    pub listed_more : (at : ℕ) (next : List ℕ)
         → PassesFirstAt (λ one. share cmp end m one.value.message.value) list from at
-        → Contains next at → AreStillListed near next → All (λ p. Contains near p ⊎ (p ≡ at)) next → Ascends 0 next
-        → All (λ p. p < at) (take place next) → HasListed end m list (at + 1) place before next
-    listed_more at place next first here still only order past = record {
+        → Contains next at → AreStillListed near next → All (λ p. Contains near p ⊎ (p ≡ at)) next
+        → HasListed end m list (at + 1) before next
+    listed_more at next first here still only = record {
       listed = each_more (λ i (one : Rc (Flight P) Global).
           share cmp end m one.value.message.value ≡ true → Contains next i) list at
           (λ i one below there shares. elim (cases_lt i from) [
@@ -199,8 +166,6 @@ module _ {P : Type 0} (cmp : P → P → Ordering) where
             | inr is ↦ inr (subst (SharesEndAt cmp end m list) (sym is) (shares_there at first))
           ])
           next only;
-      order = order;
-      past = All-weaker (λ p. p < at) (λ p. p < at + 1) (λ p less. omega (arith, less)) (take place next) past;
     }
 
     -- no other shares that end
@@ -213,11 +178,11 @@ module _ {P : Type 0} (cmp : P → P → Ordering) where
     ]
 
   -- the same before some place, and the first from that place on that shares that end is known
-  pub record HasWalked (end : End) (m : Message P) (list : List (Rc (Flight P) Global)) (next : Option ℕ) (first : ℕ)
+  pub record HasWalked (end : End) (m : Message P) (list : List (Rc (Flight P) Global)) (next : Option ℕ)
       (before near : List ℕ) : Type 0 where
     pub from : ℕ
     pub is_next : IsNextPlace (λ one. share cmp end m one.value.message.value) list from next
-    pub so_far : HasListed end m list from first before near
+    pub so_far : HasListed end m list from before near
 
   share_alike : IsTotalOrder cmp → (end : End) (m n other : Message P) → share cmp end m n ≡ true
       → share cmp end m other ≡ share cmp end n other
@@ -240,40 +205,34 @@ module _ {P : Type 0} (cmp : P → P → Ordering) where
     here = λ d. share_alike order end m n (get_or list at d).value.message.value same ∙ is.here d;
   }
 
-  module _ (end : End) (m : Message P) (list : List (Rc (Flight P) Global)) (next : Option ℕ) (first : ℕ)
-      (before near : List ℕ) (walked : HasWalked end m list next first before near) where
+  module _ (end : End) (m : Message P) (list : List (Rc (Flight P) Global)) (next : Option ℕ)
+      (before near : List ℕ) (walked : HasWalked end m list next before near) where
     abbrev is_shared : Rc (Flight P) Global → Bool
     is_shared one = share cmp end m one.value.message.value
 
     first_there : (at : ℕ) → next ≡ Some at → PassesFirstAt is_shared list walked.from at
     first_there at is = subst (IsNextPlace is_shared list walked.from) is walked.is_next
 
-    -- the first so many stand before the place that is known
-    pub past_there : (at : ℕ) → next ≡ Some at → All (λ p. p < at) (take first near)
-    past_there at is = still_past end m list walked.from first before near walked.so_far at (first_there at is)
-
     -- the one there is listed, and the next one is known
     pub walked_more : IsTotalOrder cmp → (at : ℕ) → next ≡ Some at → (following : Option ℕ)
         → ((d : Rc (Flight P) Global) → IsNextPlace
         (λ other. share cmp end (get_or list at d).value.message.value other.value.message.value) list (at + 1) following)
-        → (place : ℕ) (after : List ℕ) → Contains after at → AreStillListed near after
-        → All (λ p. Contains near p ⊎ (p ≡ at)) after → Ascends 0 after → All (λ p. p < at) (take place after)
-        → HasWalked end m list following place before after
-    walked_more order at is following further place after here still only ascends past =
+        → (after : List ℕ) → Contains after at → AreStillListed near after
+        → All (λ p. Contains near p ⊎ (p ≡ at)) after → HasWalked end m list following before after
+    walked_more order at is following further after here still only =
         let there = first_there at is in
         let one = (one_there list at there.high).0 in
         record {
           from = at + 1;
           is_next = next_shared order end m list (at + 1) following (get_or list at one).value.message.value
               (there.here one) (further one);
-          so_far = listed_more end m list walked.from first before near walked.so_far at place after there here still only
-              ascends past;
+          so_far = listed_more end m list walked.from before near walked.so_far at after there here still only;
         }
 
     -- where there is no next one, all are listed
     pub walked_all : next ≡ None → AreListedAt cmp end m near list
     walked_all is =
-        listed_all end m list walked.from first before near walked.so_far
+        listed_all end m list walked.from before near walked.so_far
         (subst (IsNextPlace is_shared list walked.from) is walked.is_next)
 
     -- fewer stand behind the next one
@@ -410,6 +369,12 @@ module _ {P : Type 0} (cmp : P → P → Ordering) where
         All-weaker (λ m. has_both cmp old m.value ≡ true) (λ m. has_both cmp new m.value ≡ true)
         (λ m has. still_has_both m.value has) ms
 
+    -- and so of messages that are no longer shared
+    pub still_has_messages : (ms : List (Message P)) → All (λ m. has_both cmp old m ≡ true) ms
+        → All (λ m. has_both cmp new m ≡ true) ms
+    still_has_messages ms =
+        All-weaker (λ m. has_both cmp old m ≡ true) (λ m. has_both cmp new m ≡ true) still_has_both ms
+
     -- and of one more
     pub has_one_more : (ms : List (Rc (Message P) Global)) (n : ℕ) (m : Rc (Message P) Global) → n < length ms
         → m ≡ get_or ms n m → All (λ m. has_both cmp old m.value ≡ true) (take n ms) → has_both cmp new m.value ≡ true
@@ -466,8 +431,8 @@ module _ {P : Type 0} (cmp : P → P → Ordering) where
   -- those before some place that share that end with the message are listed, and it has both ends of those listed that
   -- keep no rate
   pub record HasJoinedAll (end : End) (m : Message P) (list : List (Rc (Flight P) Global)) (next : Option ℕ)
-      (first : ℕ) (old new : Component P) : Type 0 where
-    pub walked : HasWalked end m list next first old.near.items new.near.items
+      (old new : Component P) : Type 0 where
+    pub walked : HasWalked end m list next old.near.items new.near.items
     pub suited : AreSuited cmp new new.near.items list
     pub joined : StartsWith old.joined.items new.joined.items
     pub level : new.level ≡ old.level
@@ -501,7 +466,6 @@ module _ {P : Type 0} (cmp : P → P → Ordering) where
   -- so many of the messages that are joined have listed those that share an end with them
   pub record HasListedUpTo (list : List (Rc (Flight P) Global)) (n : ℕ) (old new : Component P) : Type 0 where
     pub listed : AreAllListed cmp (take n new.joined.items) new.near.items list
-    pub order : Ascends 0 new.near.items
     pub touched : AreTouched cmp new new.near.items list
     pub joined : new.joined.items ≡ old.joined.items
     pub level : new.level ≡ old.level
@@ -548,6 +512,44 @@ module _ {P : Type 0} (cmp : P → P → Ordering) where
   all_listed component list walked =
       subst (λ ms. AreAllListed cmp ms component.near.items list)
       (take_all (length component.joined.items) component.joined.items (omega arith)) walked.listed
+
+  ends_are_shared : (end : End) (m n : Message P) → share cmp end m n ≡ true → share_an_end cmp m n ≡ true
+  ends_are_shared Origin m n same = or_first _ _ same
+  ends_are_shared Recipient m n same = or_second _ _ same
+
+  -- what shares that end with a message is listed, once all are that share one with another that has it
+  pub listed_before : IsTotalOrder cmp → (end : End) (m : Message P) (list : List (Rc (Flight P) Global))
+      (ms : List (Rc (Message P) Global)) (near : List ℕ) → AreAllListed cmp ms near list
+      → list_any (λ n. share cmp end m n.value) ms ≡ true → AreListedAt cmp end m near list
+  listed_before order end m list ms near all any at one there shares =
+      let found = Any-from_list_any (λ n. share cmp end m n.value) ms any in
+      let other : Message P = one.value.message.value in
+      subst (λ (n : Rc (Message P) Global). share_an_end cmp n.value other ≡ true → Contains near at) found.3
+      (all found.0 found.1 found.2 at one there)
+      (ends_are_shared end found.1.value other (sym (share_alike order end m found.1.value other found.4) ∙ shares))
+
+  -- those that were looked through still are listed, where more have joined since
+  pub first_listed : (list : List (Rc (Flight P) Global)) (ms more : List (Rc (Message P) Global)) → StartsWith ms more
+      → (n : ℕ) (before after : List ℕ) → n ≤ length ms → AreAllListed cmp (take n ms) before list
+      → AreStillListed before after → AreAllListed cmp (take n more) after list
+  first_listed list ms more (rest, e) n before after inside all still =
+      subst (λ (l : List (Rc (Message P) Global)). AreAllListed cmp l after list)
+      (sym (ap (take n) e ∙ take-append-le n ms rest inside))
+      (still_listed list before after still (take n ms) all)
+
+  -- what was looked through still is, where the same places are listed in another order
+  pub walked_in_order : (n : ℕ) (component : Component P) (near : Vec ℕ Global) (list : List (Rc (Flight P) Global))
+      → AreStillListed component.near.items near.items → AreStillListed near.items component.near.items
+      → IsWalked cmp n component list → IsWalked cmp n (record component { near = near }) list
+  walked_in_order n component near list still only walked =
+      let each : (Q : ℕ → Type 0) → All Q component.near.items → All Q near.items = λ Q all.
+      All-weaker (Contains near.items) Q (λ p is. All-contains Q component.near.items p all (only p is)) near.items
+      (All-contains_itself near.items) in
+      record {
+        listed = still_listed list component.near.items near.items still (take n component.joined.items) walked.listed;
+        touched = each (IsTouched cmp component list) walked.touched;
+        suited = each (IsSuited cmp component list) walked.suited;
+      }
 
   -- one of which the component has an end is listed
   module _ (order : IsTotalOrder cmp) (list : List (Rc (Flight P) Global)) (near : List ℕ) (at : ℕ)

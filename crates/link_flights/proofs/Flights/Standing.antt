@@ -1,7 +1,8 @@
 -- Messages in flight as they stand at an account, in units.
 use Rattle.std.proofs.Common.{◌≡◌, ℕ, zero, suc, Bool, false, ◌||◌, List, [], ◌∷◌, ◌++◌, length, get_or, ◌<◌, refl}
 use Rattle.std.proofs.Common.{sym, ap, ◌∙◌}
-use Rattle.std.proofs.Common.{arith}
+use Rattle.std.proofs.Common.{arith, inl, inr, subst}
+use Rattle.fair_rates.proofs.Lists.Members.{In, from_filter, in_filter, in_from_contains, contains_from_in}
 use Rattle.std.proofs.lemmas.Option.{none-some, same_Some}
 use Rattle.std.proofs.lemmas.Bool.{false≢true}
 use Rattle.std.proofs.lemmas.List.{length-map}
@@ -14,7 +15,7 @@ use Rattle.link_simulation.specs.Simulation.Messages.{Message}
 use Rattle.link_simulation.specs.Rule.Planned.{RatedFlight, rated_messages}
 use Rattle.link_flights.specs.declared.flight.Flight.{Flight}
 use Rattle.link_flights.specs.Flights.Flight.{UnitFlight, flight_at, flights_at, AreTimed}
-use Rattle.link_flights.specs.Flights.Rated.{sent_messages, rated_ones, are_limited, AreRated, IsRatedFrom}
+use Rattle.link_flights.specs.Flights.Rated.{sent_messages, rated_ones, are_limited, WereRatedUnder, IsRatedFrom}
 use Rattle.link_flights.specs.Flights.RatedFlights.{rated_flight_of, sending_of}
 use Rattle.link_flights.specs.declared.flight_list.Flights.{Flights}
 use Rattle.link_flights.specs.Flights.InFlight.{in_units}
@@ -71,11 +72,22 @@ module _ {P : Type 0} where
       (omega (arith, lt, length-map fs (λ g. flight_at at g.value))) (sym kept)
 
 module _ {P : Type 0} (cmp : P → P → Ordering) (caps : Caps P) {a : _} {b : _} {c : _} (old new : Flights P a b c) where
-  -- the rates stay fair as long as they and their finishes are kept
+  -- the rates stay fair as long as they and their finishes are kept, and what is loose is
   pub still_rated : new.scale ≡ old.scale → rated_ones (in_units new) ≡ rated_ones (in_units old)
-      → (AreTimed old.list.items → AreTimed new.list.items) → AreRated cmp caps old → AreRated cmp caps new
-  still_rated scale ones timed rated = record {
+      → (AreTimed old.list.items → AreTimed new.list.items) → new.floor ≡ old.floor → new.loose ≡ old.loose
+      → WereRatedUnder cmp caps old → WereRatedUnder cmp caps new
+  still_rated scale ones timed floor loose rated = record {
+    was = rated.was;
+    of_peers = rated.of_peers;
     fair = rw (scale, ones) rated.fair;
+    differ = λ s. elim (rated.differ s) [
+      | inl same ↦ inl same
+      | inr all ↦ inr (λ u has got l.
+          let h = from_filter (λ v. v.rated) (in_units old) u
+          (subst (λ us. In us u) ones
+          (in_filter (λ v. v.rated) (in_units new) u (in_from_contains (in_units new) u has) got)) in
+          rw (floor, loose) (all u (contains_from_in (in_units old) u h.0) got l))
+    ];
     limited = ap (are_limited cmp caps) ones ∙ rated.limited;
     timed = timed rated.timed;
   }

@@ -1,6 +1,6 @@
 -- What an event touches: senders and receivers of messages in flight, and the level below which rates stay.
-use Rattle.std.specs.Prelude.{◌≡◌, ℕ, suc, ◌<◌, ◌≤◌, nat_le, Bool, true, not, ◌&&◌, ◌||◌, [], ◌∷◌, cond}
-use Rattle.std.specs.Prelude.{if◌then◌else◌, List, length, take, ◌⊎◌}
+use Rattle.std.specs.Prelude.{◌≡◌, ℕ, suc, ◌≤◌, nat_le, Bool, true, not, ◌&&◌, ◌||◌, [], ◌∷◌, cond}
+use Rattle.std.specs.Prelude.{if◌then◌else◌, List, take}
 use Rattle.std.specs.Prelude.{slice_get, slice_index, Some, ◌++◌, All, Contains}
 use Rattle.std.specs.List.{filter, list_all, list_any}
 use Rattle.std.specs.declared.cmp.Ordering.{Ordering}
@@ -110,9 +110,10 @@ StartsWith {X} xs ys = (more : List X) × (ys ≡ xs ++ more)
 abbrev pub AreStillListed : List ℕ → List ℕ → Type 0
 AreStillListed before after = (at : ℕ) → Contains before at → Contains after at
 
--- they are the same, or there are more
-abbrev pub IsSameOrLonger : List ℕ → List ℕ → Type 0
-IsSameOrLonger before after = (after ≡ before) ⊎ (length before < length after)
+-- it is noted at just the places that are listed
+pub record AreNoted (near : List ℕ) (noted : List Bool) : Type 0 where
+  pub listed : (at : ℕ) → slice_get noted at ≡ Some true → Contains near at
+  pub only : All (λ at. slice_get noted at ≡ Some true) near
 
 -- they are in order, from a place on
 abbrev pub Ascends : ℕ → List ℕ → Type 0
@@ -146,11 +147,10 @@ module _ {P : Type 0} (cmp : P → P → Ordering) where
   abbrev pub AreAllListed : List (Rc (Message P) Global) → List ℕ → List (Rc (Flight P) Global) → Type 0
   AreAllListed joined near list = All (λ m. AreListed m.value near list) joined
 
-  -- the first so many of the messages that have joined were looked through: what shares an end with one is listed, in
-  -- order, with an end in the component, and with both unless it keeps its rate
+  -- the first so many of the messages that have joined were looked through: what shares an end with one is listed, with
+  -- an end in the component, and with both unless it keeps its rate
   pub record IsWalked (n : ℕ) (component : Component P) (list : List (Rc (Flight P) Global)) : Type 0 where
     pub listed : AreAllListed (take n component.joined.items) component.near.items list
-    pub order : Ascends 0 component.near.items
     pub touched : AreTouched cmp component component.near.items list
     pub suited : AreSuited cmp component component.near.items list
 

@@ -1,11 +1,12 @@
 -- What is in flight, as it is kept.
-use Rattle.std.specs.Prelude.{◌≡◌, ℕ, ◌<◌, ◌≤◌, Bool, true, false, List, [], ◌∷◌, ◌++◌, length, slice_index_or}
+use Rattle.std.specs.Prelude.{◌≡◌, ℕ, ◌<◌, ◌≤◌, Bool, true, false, List, [], ◌∷◌, ◌++◌, length, map, slice_index_or}
 use Rattle.std.specs.Prelude.{Option, Some, None}
 use Rattle.fair_rates.specs.Numbers.Amount.{whole}
 use Rattle.link_pairs.specs.declared.message.Message as code
 use Rattle.link_pairs.specs.Pairs.Messages.{message_of}
 use Rattle.link_flights.specs.declared.flight_list.Flights.{Flights}
 use Rattle.link_flights.specs.declared.flight_list.Mark.{Mark}
+use Rattle.link_simulation.specs.Simulation.Messages.{Message}
 use Rattle.link_simulation.specs.Rule.Planned.{RatedFlight}
 use Rattle.link_flights.specs.Flights.Flight.{UnitFlight, flights_at, AreTimed}
 use Rattle.link_flights.specs.Flights.RatedFlights.{rated_flight_of, sending_of}
@@ -18,23 +19,28 @@ in_units flights = flights_at flights.at flights.list.items
 abbrev pub in_flight : {P : Type 0} {a : _} {b : _} {c : _} → Flights P a b c → List (RatedFlight P)
 in_flight flights = sending_of flights.scale (in_units flights)
 
+-- the messages that are loose
+abbrev pub loose_in : {P : Type 0} {a : _} {b : _} {c : _} → Flights P a b c → List (Message P)
+loose_in flights = map (λ m. message_of m) flights.loose
+
 -- all beside the list stands so
-pub record IsMarkOf {P : Type 0} {a : _} {b : _} {c : _} (flights : Flights P a b c) (mark : Mark) : Type 0 where
+pub record IsMarkOf {P : Type 0} {a : _} {b : _} {c : _} (flights : Flights P a b c) (mark : Mark P) : Type 0 where
   pub scale : mark.scale ≡ flights.scale
   pub at : mark.at ≡ flights.at
   pub floor : mark.floor ≡ flights.floor
+  pub loose : mark.loose ≡ flights.loose
   pub counted : mark.rated_anew ≡ flights.rated_anew
   pub settled : mark.settled ≡ flights.settled
   pub unsearched : mark.unsearched ≡ flights.unsearched
   pub stood : mark.stood ≡ flights.stood
 
 -- with that mark they can be taken back to flights that stood so
-abbrev pub CanBeTakenBack : {P : Type 0} {a : _} {b : _} {c : _} → Flights P a b c → Mark → Type 0
+abbrev pub CanBeTakenBack : {P : Type 0} {a : _} {b : _} {c : _} → Flights P a b c → Mark P → Type 0
 CanBeTakenBack {P} {a} {b} {c} old mark =
     (flights : Flights P a b c) × IsMarkOf flights mark × (old.list.before ≡ flights.list.items)
 
 -- they are what they were at that mark, where they had been committed
-abbrev pub IsTakenBack : {P : Type 0} {a : _} {b : _} {c : _} → Flights P a b c → Mark → Flights P a b c → Type 0
+abbrev pub IsTakenBack : {P : Type 0} {a : _} {b : _} {c : _} → Flights P a b c → Mark P → Flights P a b c → Type 0
 IsTakenBack {P} {a} {b} {c} old mark new = (flights : Flights P a b c) → IsMarkOf flights mark
     → flights.list.items ≡ flights.list.before → old.list.before ≡ flights.list.before → new ≡ flights
 
@@ -48,6 +54,7 @@ pub record Joins {P : Type 0} {a : _} {b : _} {c : _} (id now : ℕ) (m : code.M
   pub unrated : unit.rated ≡ false
   pub scale : new.scale ≡ old.scale
   pub floor : new.floor ≡ old.floor
+  pub loose : new.loose ≡ old.loose
   pub at : new.at ≡ old.at
   pub timed : AreTimed old.list.items → AreTimed new.list.items
 

@@ -9,12 +9,15 @@ use Rattle.std.specs.declared.cmp.Ordering.{Ordering}
 use Rattle.std.specs.declared.rc.Rc.{Rc}
 use Rattle.std.specs.declared.alloc.Global.{Global}
 use Rattle.fair_rates.specs.Sides.Caps.{Caps}
+use Rattle.fair_rates.specs.Sides.Subjects.{Subject}
+use Rattle.fair_rates.specs.declared.bandwidth.Flow.{Flow}
+use Rattle.fair_rates.specs.Fairness.UnderCaps.{AreOfPeers, cap_of, limits}
 use Rattle.fair_rates.specs.Fairness.Exists.{product}
 use Rattle.fair_rates.specs.Fairness.Fair.{Side, IsFair}
 use Rattle.fair_rates.specs.Fairness.Beside.{kept_load, IsFairBeside}
 use Rattle.fair_rates.specs.declared.bandwidth.parts.FairParts.{FairParts}
 use Rattle.fair_rates.specs.Filling.FairParts.{parts_of_level}
-use Rattle.link_simulation.specs.Simulation.Messages.{Message}
+use Rattle.link_simulation.specs.Simulation.Messages.{Message, is_delivered}
 use Rattle.link_simulation.specs.Simulation.Rates.{capped_sides, is_unlimited}
 use Rattle.link_flights.specs.declared.component.Component.{Component}
 use Rattle.link_flights.specs.declared.flight.Flight.{Flight}
@@ -22,7 +25,7 @@ use Rattle.link_flights.specs.declared.flight_list.Flights.{Flights}
 use Rattle.link_pairs.specs.Pairs.Messages.{message_of}
 use Rattle.link_flights.specs.Flights.Flight.{UnitFlight, flight_at, flights_at, IsTimed, AreTimed}
 use Rattle.link_flights.specs.Flights.Components.{is_of, those_of, near_of, those_near}
-use Rattle.link_flights.specs.Flights.InFlight.{in_units}
+use Rattle.link_flights.specs.Flights.InFlight.{in_units, loose_in}
 use Rattle.link_flights.specs.Flights.RatedFlights.{rated_flight_of}
 use Rattle.link_simulation.specs.Rule.Planned.{is_spent}
 
@@ -61,6 +64,43 @@ module _ {P : Type 0} (cmp : P → P → Ordering) (caps : Caps P) where
   abbrev pub is_out : ℕ → UnitFlight P → Bool
   is_out scale u = is_spent cmp caps (rated_flight_of scale u)
 
+-- what a message in flight asks for, as a flow
+abbrev pub flow_in_flight : {P : Type 0} → (P → P → Ordering) → UnitFlight P → Flow P
+flow_in_flight cmp u = record {
+  id = 0;
+  origin = u.message.origin;
+  recipient = u.message.recipient;
+  delivered = is_delivered cmp (message_of u.message);
+}
+
+-- so much is no more than a rate, and there is so much
+abbrev pub IsNoMore : Option ℕ → ℕ → Type 0
+IsNoMore None rate = ⊥
+IsNoMore (Some floor) rate = floor ≤ rate
+
+-- a cap may have changed that one uses: its message is among these, and it has no less than the floor
+abbrev pub IsLoose : {P : Type 0} → List (Message P) → Option ℕ → UnitFlight P → Type 0
+IsLoose loose floor u = Contains loose (message_of u.message) × IsNoMore floor u.rate
+
+-- caps differ only where all that have got rates and use what they are for are loose
+abbrev pub DifferWhereLoose : {P : Type 0} → (P → P → Ordering) → (was caps : Caps P) → List (Message P) → Option ℕ
+    → List (UnitFlight P) → Type 0
+DifferWhereLoose {P} cmp was caps loose floor us =
+    (s : Subject P) → (cap_of was s ≡ cap_of caps s)
+    ⊎ ((u : UnitFlight P) → Contains us u → u.rated ≡ true → limits cmp s (flow_in_flight cmp u) ≡ true
+    → IsLoose loose floor u)
+
+-- those that have got rates had fair ones under the caps that were, are limited under these, and their finishes are
+-- right
+pub record WereRatedUnder {P : Type 0} {a : _} {b : _} {c : _} (cmp : P → P → Ordering) (caps : Caps P)
+    (flights : Flights P a b c) : Type 0 where
+  pub was : Caps P
+  pub of_peers : AreOfPeers cmp was
+  pub fair : AreFairlyRated cmp was flights.scale (rated_ones (in_units flights))
+  pub differ : DifferWhereLoose cmp was caps (loose_in flights) flights.floor (in_units flights)
+  pub limited : are_limited cmp caps (rated_ones (in_units flights)) ≡ true
+  pub timed : AreTimed flights.list.items
+
 -- it is of the same message, at the same rate
 pub record IsAsRated {P : Type 0} (old new : UnitFlight P) : Type 0 where
   pub message : new.message ≡ old.message
@@ -73,32 +113,34 @@ pub record ArePartedBy {P : Type 0} (test : UnitFlight P → Bool) (before : Lis
   pub left : done ≡ sent_messages (filter test before)
   pub stay : us ≡ filter (λ u. not (test u)) before
 
--- so much is no more than a rate, and there is so much
-abbrev pub IsNoMore : Option ℕ → ℕ → Type 0
-IsNoMore None rate = ⊥
-IsNoMore (Some floor) rate = floor ≤ rate
-
 -- none of those that pass the test had a rate of less than the floor
 abbrev pub IsFloorOf : {P : Type 0} → (UnitFlight P → Bool) → List (UnitFlight P) → Option ℕ → Type 0
 IsFloorOf {P} test us floor =
     (u : UnitFlight P) → Contains us u → test u ≡ true → u.rated ≡ true → IsNoMore floor u.rate
 
--- those that had got a rate before some of them were done had fair rates, and none of these had less than the floor
+-- those that had got a rate before some of them were done had fair rates under the caps that were, none of these had
+-- less than the floor, and those that stay are loose where the caps differ
 pub record WereRated {P : Type 0} (cmp : P → P → Ordering) (caps : Caps P) (scale : ℕ)
-    (us : List (UnitFlight P)) (done : List (Message P)) (least : Option ℕ) : Type 0 where
+    (us : List (UnitFlight P)) (done loose : List (Message P)) (least : Option ℕ) : Type 0 where
   pub before : List (UnitFlight P)
   pub is_done : UnitFlight P → Bool
   pub parted : ArePartedBy is_done before done us
-  pub fair : AreFairlyRated cmp caps scale (rated_ones before)
+  pub was : Caps P
+  pub of_peers : AreOfPeers cmp was
+  pub fair : AreFairlyRated cmp was scale (rated_ones before)
+  pub differ : DifferWhereLoose cmp was caps loose least us
   pub no_less : IsFloorOf is_done before least
 
--- some messages have left those in flight, which had fair rates with them, and none of those that left had less than
--- the floor
+-- some messages have left those in flight, which had fair rates with them under the caps that were, and none of those
+-- that left had less than the floor; those that stay are loose where the caps differ
 pub record HadFairRates {P : Type 0} {a : _} {b : _} {c : _} (cmp : P → P → Ordering) (caps : Caps P)
     (flights : Flights P a b c) (done : List (Message P)) : Type 0 where
   pub before : List (UnitFlight P)
   pub parted : ArePartedBy (is_out cmp caps flights.scale) before done (in_units flights)
-  pub fair : AreFairlyRated cmp caps flights.scale (rated_ones before)
+  pub was : Caps P
+  pub of_peers : AreOfPeers cmp was
+  pub fair : AreFairlyRated cmp was flights.scale (rated_ones before)
+  pub differ : DifferWhereLoose cmp was caps (loose_in flights) flights.floor (in_units flights)
   pub no_less : IsFloorOf (is_out cmp caps flights.scale) before flights.floor
   pub timed : AreTimed flights.list.items
 

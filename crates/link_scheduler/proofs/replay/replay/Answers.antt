@@ -53,51 +53,50 @@ loop-call-preserved g c =
     (call_of c.call-item.result) c.loop-call-test.true)) c.push.ensures.capacity c.answer.ensures.in_time
     c.answer.ensures.reply)
 
--- all calls are replied to by the event rule, and come at moments
-replied : (g : _) (c : goal.Joined-state-7 g)
-    → Obeyed g.P.Ord.cmp (new_planned 0) (map call_of c.args.calls.now) (map reply_of c.loop-call.replies.items)
-    × InTime (map call_of c.args.calls.now)
-replied g c =
+pub returns-clause-obeyed : goal.returns-clause-obeyed
+returns-clause-obeyed g c =
+    (ends g.P.Ord.cmp g.met.P.Ord.total (new_planned 0) (map call_of c.args.calls.now) c.loop-call.call-index
+    (map reply_of c.loop-call.replies.items) (vec_len c.loop-call.replies) (vec_capacity c.loop-call.replies)
+    (planned g.P.Ord.cmp c.loop-call.state.ledger) c.loop-call.invariant
+    (subst (λ n. n ≤ c.loop-call.call-index) (sym (length-map c.args.calls.now call_of)) c.loop-call-test.false)).0
+
+pub returns-clause-agrees : goal.returns-clause-agrees
+returns-clause-agrees g c =
+    let replied =
     ends g.P.Ord.cmp g.met.P.Ord.total (new_planned 0) (map call_of c.args.calls.now) c.loop-call.call-index
     (map reply_of c.loop-call.replies.items) (vec_len c.loop-call.replies) (vec_capacity c.loop-call.replies)
     (planned g.P.Ord.cmp c.loop-call.state.ledger) c.loop-call.invariant
-    (subst (λ n. n ≤ c.loop-call.call-index) (sym (length-map c.args.calls.now call_of)) c.loop-call-test.false)
-
--- and so they are those of the simulation
-agreed : (g : _) (c : goal.Joined-state-7 g)
-    → Agrees g.P.Ord.cmp (new_world 0) (map call_of c.args.calls.now) (map reply_of c.loop-call.replies.items)
-agreed g c =
+    (subst (λ n. n ≤ c.loop-call.call-index) (sym (length-map c.args.calls.now call_of)) c.loop-call-test.false) in
     obeyed_agree g.P.Ord.cmp g.met.P.Ord.total (map call_of c.args.calls.now) (map reply_of c.loop-call.replies.items)
-    (replied g c).1 (replied g c).0
-
-pub returns-clause-obeyed : goal.returns-clause-obeyed
-returns-clause-obeyed g c = (replied g c).0
-
-pub returns-clause-agrees : goal.returns-clause-agrees
-returns-clause-agrees g c = agreed g c
+    replied.1 replied.0
 
 pub returns-clause-one_each : goal.returns-clause-one_each
 returns-clause-one_each g c =
     sym (length-map c.loop-call.replies.items reply_of)
     ∙ one_for_each g.P.Ord.cmp g.met.P.Ord.total (new_planned 0) (map call_of c.args.calls.now)
-    (map reply_of c.loop-call.replies.items) (replied g c).0 ∙ length-map c.args.calls.now call_of
+    (map reply_of c.loop-call.replies.items) (returns-clause-obeyed g c) ∙ length-map c.args.calls.now call_of
 
 pub returns-clause-in_range : goal.returns-clause-in_range
 returns-clause-in_range g c =
     refuses_for_memory g.P.Ord.cmp g.met.P.Ord.total (map call_of c.args.calls.now)
-    (map reply_of c.loop-call.replies.items) (replied g c).0
+    (map reply_of c.loop-call.replies.items) (returns-clause-obeyed g c)
 
 pub returns-clause-conserved : goal.returns-clause-conserved
 returns-clause-conserved g c =
     conserved_so_far g.P.Ord.cmp g.met.P.Ord.total 0 (map call_of c.args.calls.now)
-    (map reply_of c.loop-call.replies.items) (replied g c).0
+    (map reply_of c.loop-call.replies.items) (returns-clause-obeyed g c)
 
 pub returns-clause-order : goal.returns-clause-order
 returns-clause-order g c =
     pairs_complete_in_order g.P.Ord.cmp g.met.P.Ord.total (map call_of c.args.calls.now)
-    (map reply_of c.loop-call.replies.items) (agreed g c)
+    (map reply_of c.loop-call.replies.items) (returns-clause-agrees g c)
 
 pub returns-clause-isolation : goal.returns-clause-isolation
 returns-clause-isolation g c =
+    let replied =
+    ends g.P.Ord.cmp g.met.P.Ord.total (new_planned 0) (map call_of c.args.calls.now) c.loop-call.call-index
+    (map reply_of c.loop-call.replies.items) (vec_len c.loop-call.replies) (vec_capacity c.loop-call.replies)
+    (planned g.P.Ord.cmp c.loop-call.state.ledger) c.loop-call.invariant
+    (subst (λ n. n ≤ c.loop-call.call-index) (sym (length-map c.args.calls.now call_of)) c.loop-call-test.false) in
     sets_are_isolated g.P.Ord.cmp g.met.P.Ord.total (map call_of c.args.calls.now)
-    (map reply_of c.loop-call.replies.items) (replied g c).1 (agreed g c)
+    (map reply_of c.loop-call.replies.items) replied.1 (returns-clause-agrees g c)

@@ -15,5 +15,5 @@ invariant_of-self g c =
       rated = λ e. rw c.settle.ensures
           (∥∥₁_map (old.rated e)
           (rated_still old.flights new at.list at.scale at.at g.P.Ord.cmp
-          (caps_of g.P.Ord.cmp old.peers.entries old.pairs.entries)));
+          (caps_of g.P.Ord.cmp old.peers.entries old.pairs.entries) at.floor at.loose));
     }

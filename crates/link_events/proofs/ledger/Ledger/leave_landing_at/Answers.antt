@@ -6,7 +6,6 @@ use Rattle.link_pairs.specs.Pairs.PeerCaps.{egress_of, ingress_of}
 use Rattle.link_pairs.specs.Pairs.Messages.{messages}
 use Rattle.link_flights.specs.Flights.InFlight.{in_flight}
 use Rattle.link_flights.specs.Flights.Rated.{HadFairRates}
-use Rattle.link_flights.proofs.Flights.Rated.{rated_if_so}
 use Rattle.link_events.specs.Steps.AsPlanned.{planned}
 use Rattle.link_events.proofs.Steps.Landing.{leaves_landing, since_alike}
 use Rattle.link_pairs.specs.Pairs.Entries.{arrival_of}
@@ -16,8 +15,7 @@ use Rattle.link_events.proofs.ledger.Ledger.leave_landing_at.Goals as goal
 pub leave_landing-left-requires-clause-rated : goal.leave_landing-left-requires-clause-rated
 leave_landing-left-requires-clause-rated g c e =
     let old = c.args.self.now in
-    rated_if_so g.P.Ord.cmp (caps_of g.P.Ord.cmp old.peers.entries old.pairs.entries) old.flights
-    (old.rated (c.were_fair_until-were_fair.ensures.rated e))
+    old.rated (c.were_fair_until-were_fair.ensures.rated e)
 
 pub returns-in-Ok-clause-lands : goal.returns-in-Ok-clause-lands
 returns-in-Ok-clause-lands g c =
@@ -58,8 +56,8 @@ returns-in-Ok-clause-fair g c e =
     let cmp = g.P.Ord.cmp in
     let old = c.args.self.now in
     subst
-    (λ l. HadFairRates cmp (record (caps_of cmp old.peers.entries old.pairs.entries) { link = l })
-    c.leave_landing-left.new.flights (messages c.in-Ok.left.done.items))
+    (λ l. ∥ HadFairRates cmp (record (caps_of cmp old.peers.entries old.pairs.entries) { link = l })
+    c.leave_landing-left.new.flights (messages c.in-Ok.left.done.items) ∥₁)
     (sym c.in-Ok.ensures.link) (c.in-Ok.ensures.parted.fair e)
 
 pub returns-in-Err-clause-refused : goal.returns-in-Err-clause-refused

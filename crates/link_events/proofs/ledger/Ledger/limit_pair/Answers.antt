@@ -1,23 +1,78 @@
-use Rattle.std.proofs.Common.{map, sym, ap, ◌∙◌, subst}
+use Rattle.std.proofs.Common.{true, map, refl, sym, ap, ◌∙◌, subst}
+use Rattle.std.proofs.Math.Logic.{∥∥₁_map}
+use Rattle.std.proofs.lemmas.Bool.{false≢true}
 use Rattle.link_simulation.specs.Rule.Planned.{new_planned}
 use Rattle.link_waiting.specs.Idle.Index.{IsIndexOf}
-use Rattle.link_flights.specs.Flights.InFlight.{in_flight}
+use Rattle.fair_rates.specs.Sides.Caps.{with_link}
+use Rattle.link_pairs.specs.Pairs.Entries.{arrival_of, link_of}
+use Rattle.link_pairs.specs.Pairs.PeerCaps.{egress_of, ingress_of}
+use Rattle.link_pairs.specs.Pairs.CapsOf.{caps_of}
 use Rattle.link_pairs.specs.Pairs.Messages.{message_of}
-use Rattle.link_pairs.specs.Pairs.Entries.{arrival_of}
+use Rattle.link_flights.specs.Flights.InFlight.{in_flight}
+use Rattle.link_flights.proofs.Flights.Loosened.{rated_under_new}
+use Rattle.link_events.proofs.Steps.Marks.{in_flight_still}
+use Rattle.link_events.proofs.Steps.NewCaps.{sent_by_it, about_sender, leaves_others_alone, not_off}
+use Rattle.link_events.proofs.ledger.Ledger.limit_pair.Goals.{then-stale, else-stale}
 use Rattle.link_events.proofs.ledger.Ledger.limit_pair.Goals as goal
 
 -- the last arrivals stay, and so does when each pair may start
-pub invariant_of-self-clause-indexed : goal.invariant_of-self-clause-indexed
-invariant_of-self-clause-indexed g c =
+pub invariant_of-self-2 : goal.invariant_of-self-2
+invariant_of-self-2 g c =
     let cmp = g.P.Ord.cmp in
     let old = c.args.self.now in
+    let flights = c.loosen_sent.new.self in
+    let known = c.set_cap.new.self.entries in
+    let at = c.loosen_sent.ensures in
+    let same = in_flight_still old.flights flights at.list at.scale at.at in
+    let caps = caps_of cmp old.peers.entries old.pairs.entries in
+    let now = caps_of cmp old.peers.entries known in
     let last = c.in_ok-set_cap.ensures.arrival ∙ ap (arrival_of cmp) c.in_ok-pairs.ensures.cases in
-    subst
-    (λ l. IsIndexOf cmp
-    (record (new_planned 0) {
-      sending = in_flight old.flights;
+    let link = c.in_ok-set_cap.ensures.link ∙ ap (λ es. with_link cmp (link_of cmp es) c.args.origin.now c.args.recipient.now c.args.cap) c.in_ok-pairs.ensures.cases in
+    record {
+      indexed =
+          subst
+          (λ l. IsIndexOf cmp
+          (record (new_planned 0) {
+            sending = in_flight flights;
+            waiting = map message_of old.waiting.messages;
+            last_arrival = l;
+          })
+          old.idle.entries)
+          (sym last) (rw same old.indexed);
+      one_each = rw same old.one_each;
+      rated = λ e. elim c.if-stale.branch [
+        | then-stale w ↦ absurd (false≢true (sym e ∙ w.self-is ∙ w.if-stale.true))
+        | else-stale w ↦ ∥∥₁_map (old.rated w.if-stale.false)
+            (rated_under_new cmp (sent_by_it cmp g.met.P.Ord.total caps now c.args.origin.now c.args.recipient.now
+            c.args.cap refl refl link) old.flights flights
+            c.in_ok-loosen_sent.ensures.sent.loose c.in_ok-loosen_sent.ensures.sent.all caps now
+            (about_sender cmp g.met.P.Ord.total caps now c.args.origin.now c.args.recipient.now c.args.cap refl refl link)
+            (leaves_others_alone cmp g.met.P.Ord.total caps now c.args.origin.now c.args.recipient.now c.args.cap refl
+            refl link)
+            (sym w.loose_is_limited.ensures ∙ not_off w.loose_is_limited.result (sym w.self-is ∙ e)))
+      ];
+    }
+
+pub returns-clause-limited : goal.returns-clause-limited
+returns-clause-limited g c =
+    let cmp = g.P.Ord.cmp in
+    let old = c.args.self.now in
+    let at = c.loosen_sent.ensures in
+    let same = in_flight_still old.flights c.loosen_sent.new.self at.list at.scale at.at in
+    let last = c.in_ok-set_cap.ensures.arrival ∙ ap (arrival_of cmp) c.in_ok-pairs.ensures.cases in
+    let link = c.in_ok-set_cap.ensures.link ∙ ap (λ es. with_link cmp (link_of cmp es) c.args.origin.now c.args.recipient.now c.args.cap) c.in_ok-pairs.ensures.cases in
+    λ i. record {
+      caps = record {
+        egress = egress_of cmp old.peers.entries;
+        ingress = ingress_of cmp old.peers.entries;
+        link = link i;
+      };
+      limited = true;
+      sending = same i;
       waiting = map message_of old.waiting.messages;
-      last_arrival = l;
-    })
-    old.idle.entries)
-    (sym last) old.indexed
+      last_arrival = last i;
+      next_id = old.next_id;
+      accounted = at.at i;
+      finish = old.finish;
+      start = old.start;
+    }

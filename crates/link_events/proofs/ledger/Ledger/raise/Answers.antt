@@ -8,7 +8,7 @@ use Rattle.link_waiting.specs.Idle.Index.{IsIndexOf}
 use Rattle.link_flights.specs.Flights.InFlight.{in_flight}
 use Rattle.link_pairs.specs.Pairs.Messages.{message_of}
 use Rattle.link_pairs.specs.Pairs.CapsOf.{caps_of}
-use Rattle.link_flights.specs.Flights.Rated.{AreRated}
+use Rattle.link_flights.specs.Flights.Rated.{WereRatedUnder}
 use Rattle.link_pairs.specs.Pairs.PeerCaps.{egress_of, ingress_of}
 use Rattle.link_pairs.proofs.Pairs.LookedUp.{arrivals_looked_up}
 use Rattle.link_waiting.proofs.Idle.IndexChanges.{raised_index}
@@ -41,7 +41,7 @@ invariant_of-self-in_default g c =
       one_each = old.one_each;
       rated = λ e.
           subst
-          (λ l. ∥ AreRated g.P.Ord.cmp (record (caps_of g.P.Ord.cmp old.peers.entries old.pairs.entries) { link = l })
+          (λ l. ∥ WereRatedUnder g.P.Ord.cmp (record (caps_of g.P.Ord.cmp old.peers.entries old.pairs.entries) { link = l })
           old.flights ∥₁)
           (sym c.in_ok-last.ensures.link) (old.rated e);
       indexed =
@@ -86,7 +86,7 @@ invariant_of-self g c =
     record {
       one_each = old.one_each;
       rated = λ e.
-          subst (λ es. ∥ AreRated cmp (caps_of cmp old.peers.entries es) old.flights ∥₁) (sym kept) (old.rated e);
+          subst (λ es. ∥ WereRatedUnder cmp (caps_of cmp old.peers.entries es) old.flights ∥₁) (sym kept) (old.rated e);
       indexed =
           subst (λ es. IsIndexOf cmp (of_pairs cmp es old.waiting.messages (in_flight old.flights)) old.idle.entries)
           (sym kept) old.indexed;

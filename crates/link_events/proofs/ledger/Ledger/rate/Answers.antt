@@ -12,6 +12,10 @@ use Rattle.link_flights.specs.Flights.Rated.{AreFairlyRated, IsFloorOf, IsRatedF
 use Rattle.link_flights.specs.Flights.Rated.{rated_ones}
 use Rattle.link_pairs.specs.Pairs.CapsOf.{caps_of}
 use Rattle.link_flights.proofs.Flights.Accounted.{all_have_rates, rated_limited}
+use Rattle.link_flights.proofs.Flights.Rated.{rated_under}
+use Rattle.link_pairs.proofs.Pairs.LookedUp.{looked_up}
+use Rattle.std.proofs.Math.Logic.{∥∥₁_elim, ∥∥₁_map}
+use Rattle.std.proofs.Props.{props}
 use Rattle.link_flights.proofs.Flights.Accounts.{accounts_so, some_units_left}
 use Rattle.link_flights.proofs.Flights.Joining.{left_limited, left_updated}
 use Rattle.link_flights.proofs.Flights.Standing.{messages_read, messages_kept}
@@ -60,23 +64,26 @@ rate-rated-requires-clause-before g c e =
           (sym (ap length c.renew_units.ensures.list) ∙ none)))
           ∙ sym w.stay_fair-is ∙ e)) in
           let scale = c.renew_units.ensures.scale some in
-          let h = c.requires.fair w.if-were_fair.true in
-          record {
+          ∥∥₁_map (c.requires.fair w.if-were_fair.true) (λ h. record {
             before = h.before;
             is_done = is_out cmp caps old.flights.scale;
             parted = record { left = h.parted.left; stay = same ∙ h.parted.stay };
-            fair = subst (λ n. AreFairlyRated cmp caps n (rated_ones h.before)) (sym scale) h.fair;
+            was = h.was;
+            of_peers = h.of_peers;
+            fair = subst (λ n. AreFairlyRated cmp h.was n (rated_ones h.before)) (sym scale) h.fair;
+            differ = rw (c.renew_units.ensures.loose, c.renew_units.ensures.floor, same) h.differ;
             no_less =
                 subst (IsFloorOf (is_out cmp caps old.flights.scale) h.before) (sym c.renew_units.ensures.floor)
                 h.no_less;
-          }
+          })
       | else-were_fair w ↦ absurd (false≢true (sym w.if-were_fair.false ∙ sym w.stay_fair-is ∙ e))
     ]
 
 pub rate-rated-requires-clause-timed : goal.rate-rated-requires-clause-timed
 rate-rated-requires-clause-timed g c e =
     elim c.if-were_fair.branch [
-      | then-were_fair w ↦ rw c.renew_units.ensures.list (c.requires.fair w.if-were_fair.true).timed
+      | then-were_fair w ↦
+          rw c.renew_units.ensures.list (∥∥₁_elim (c.requires.fair w.if-were_fair.true) (hlevel props) (λ h. h.timed))
       | else-were_fair w ↦ absurd (false≢true (sym w.if-were_fair.false ∙ sym w.stay_fair-is ∙ e))
     ]
 
@@ -103,11 +110,12 @@ invariant_of-self g c =
           same_flights_index cmp g.met.P.Ord.total old.pairs.entries old.waiting.messages (in_flight old.flights)
           (in_flight new) old.idle.entries messages_same old.indexed;
       one_each = subst (λ ms. ∥ OneForEachPair cmp ms ∥₁) (sym messages_same) old.one_each;
-      rated = λ e. ∣ record {
-        fair = rw all h.fair;
-        limited = rw all (rated_limited cmp caps flying.at h.times (in_units flying) (in_units new) h.each limited);
-        timed = h.timed;
-      } ∣₁;
+      rated = λ e. ∣ rated_under cmp caps new (looked_up cmp g.met.P.Ord.total old.peers.entries old.pairs.entries)
+          (record {
+            fair = rw all h.fair;
+            limited = rw all (rated_limited cmp caps flying.at h.times (in_units flying) (in_units new) h.each limited);
+            timed = h.timed;
+          }) ∣₁;
     }
 
 pub returns-in-Ok-clause-accounts : goal.returns-in-Ok-clause-accounts

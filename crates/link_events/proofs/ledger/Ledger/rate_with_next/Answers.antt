@@ -51,7 +51,7 @@ rate-requires-clause-fair g c f =
     let had = c.requires.fair f in
     by_bool c.in_ok-starts.starts
     (λ e. (c.in_ok-starts.ensures.starts e).fair done had)
-    (λ e. subst (λ l. HadFairRates cmp (caps_of cmp l.peers.entries l.pairs.entries) l.flights done)
+    (λ e. subst (λ l. ∥ HadFairRates cmp (caps_of cmp l.peers.entries l.pairs.entries) l.flights done ∥₁)
     (sym (c.in_ok-starts.ensures.waits e)) had)
 
 pub launch_from-requires : goal.launch_from-requires

@@ -37,7 +37,8 @@ invariant_of-self-2 g c =
       rated = λ e.
           ∥∥₁_map (old.rated e)
           (still_rated cmp (caps_of cmp old.peers.entries old.pairs.entries) old.flights c.push.new.self
-          c.push.ensures.scale c.in_default.ensures.rated c.push.ensures.timed);
+          c.push.ensures.scale c.in_default.ensures.rated c.push.ensures.timed c.push.ensures.floor
+          c.push.ensures.loose);
       indexed =
           started_index cmp g.met.P.Ord.total old.pairs.entries old.waiting.messages (in_flight old.flights)
           (in_flight c.push.new.self) f old.idle.entries (arrivals_looked_up cmp g.met.P.Ord.total old.pairs.entries)

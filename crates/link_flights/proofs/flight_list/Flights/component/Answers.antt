@@ -1,6 +1,6 @@
 use Rattle.std.proofs.Common.{◌∙◌}
 use Rattle.link_flights.proofs.Flights.Search.{all_listed, closed_if_near, near_if_listed}
-use Rattle.link_flights.proofs.Flights.Search.{still_has_all, still_touches_new}
+use Rattle.link_flights.proofs.Flights.Search.{still_has_all, still_has_messages, still_touches_new}
 use Rattle.link_flights.proofs.flight_list.Flights.component.Goals as goal
 
 pub returns-clause-closed : goal.returns-clause-closed
@@ -26,4 +26,9 @@ returns-clause-near g c =
     let walked = c.in_ok-grow.ensures.walked c.if-not-branch.false in
     near_if_listed g.P.Ord.cmp g.met.P.Ord.total found
     (c.grow.ensures.whole ∙ c.join_touched.ensures.whole ∙ c.in_ok-component.ensures.part) list
-    (all_listed g.P.Ord.cmp found list walked) walked.order walked.touched
+    (all_listed g.P.Ord.cmp found list walked) (c.in_ok-grow.ensures.order c.if-not-branch.false) walked.touched
+
+pub returns-clause-loose : goal.returns-clause-loose
+returns-clause-loose g c =
+    still_has_messages g.P.Ord.cmp c.join_touched.new.component c.grow.new.component c.in_ok-grow.ensures.joined
+    c.grow.ensures.whole c.args.self.now.loose c.in_ok-join_touched.ensures.loose

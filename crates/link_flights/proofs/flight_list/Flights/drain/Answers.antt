@@ -32,6 +32,8 @@ loop-at-init g c =
       refl,
       refl,
       refl,
+      refl,
+      refl,
     )
 
 pub loop-at-preserved : goal.loop-at-preserved
@@ -73,6 +75,8 @@ loop-at-preserved g c =
             ap (λ s. s.at) w.self-is ∙ w.put.ensures.at ∙ at_is,
             ap (λ s. s.scale) w.self-is ∙ w.put.ensures.scale ∙ c.loop-at.invariant.2,
             ap (λ s. s.list.before) w.self-is ∙ w.put.ensures.before ∙ c.loop-at.invariant.3,
+            ap (λ s. s.floor) w.self-is ∙ w.put.ensures.floor ∙ c.loop-at.invariant.4,
+            ap (λ s. s.loose) w.self-is ∙ w.put.ensures.loose ∙ c.loop-at.invariant.5,
           )
       | else-goes_back-2+else-not-stands_at w ↦
           let x = c.at-one.result.now in
@@ -90,6 +94,8 @@ loop-at-preserved g c =
             ap (λ s. s.at) w.self-is ∙ at_is,
             ap (λ s. s.scale) w.self-is ∙ c.loop-at.invariant.2,
             ap (λ s. s.list.before) w.self-is ∙ c.loop-at.invariant.3,
+            ap (λ s. s.floor) w.self-is ∙ c.loop-at.invariant.4,
+            ap (λ s. s.loose) w.self-is ∙ c.loop-at.invariant.5,
           )
     ]
 

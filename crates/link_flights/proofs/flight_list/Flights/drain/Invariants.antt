@@ -9,3 +9,5 @@ invariant-loop-at g l =
     × (l.self.at ≡ l.initial.self.at)
     × (l.self.scale ≡ l.initial.self.scale)
     × (l.self.list.before ≡ l.initial.self.list.before)
+    × (l.self.floor ≡ l.initial.self.floor)
+    × (l.self.loose ≡ l.initial.self.loose)

@@ -1,10 +1,11 @@
 use Rattle.std.proofs.Common.{[]}
-use Rattle.std.proofs.Common.{◌≡◌, ◌≤◌, ◌+◌, ◌++◌, length, take, refl, sym, ap, ◌∙◌, subst, arith}
+use Rattle.std.proofs.Common.{◌≡◌, ◌≤◌, ◌+◌, ◌++◌, length, take, replicate, false, refl, sym, ap, ◌∙◌, subst, arith}
 use Rattle.std.specs.Prelude.{IfSome}
 use Rattle.std.proofs.Math.Seq.{take-append_seam}
 use Rattle.std.proofs.lemmas.List.{append-nil, take_all}
-use Rattle.link_flights.specs.Flights.Components.{AreAllListed, AreTouched, Ascends}
-use Rattle.link_flights.proofs.Flights.Search.{still_touched, starts_on}
+use Rattle.link_flights.specs.Flights.Components.{AreAllListed, AreTouched, AreNoted}
+use Rattle.link_flights.proofs.Flights.Noted.{none_noted}
+use Rattle.link_flights.proofs.Flights.Search.{HasGrown, still_touched, starts_on, walked_in_order}
 use Rattle.link_flights.proofs.flight_list.Flights.grow.Goals as goal
 
 pub loop-next-init : goal.loop-next-init
@@ -18,12 +19,12 @@ loop-next-init g c =
     let first : take c.len-next.result new.joined.items ≡ mid.joined.items =
     ap (take c.len-next.result) join.joined.1 ∙ ap (λ n. take n (mid.joined.items ++ join.joined.0)) as_many
     ∙ take-append_seam mid.joined.items join.joined.0 in
+    let first_grown : HasGrown cmp list c.args.self.now.floor c.len-next.result new new =
     record {
       walked = record {
         listed = subst (λ places. AreAllListed cmp (take c.len-next.result new.joined.items) places list)
             (sym c.join_near.ensures.near)
             (subst (λ ms. AreAllListed cmp ms mid.near.items list) (sym first) c.in_ok-list_joined.ensures.listed);
-        order = subst (Ascends 0) (sym c.join_near.ensures.near) c.in_ok-list_joined.ensures.order;
         touched = subst (λ places. AreTouched cmp new places list) (sym c.join_near.ensures.near)
             (still_touched cmp mid new join.joined c.join_near.ensures.whole list mid.near.items
             c.in_ok-list_joined.ensures.touched);
@@ -34,15 +35,22 @@ loop-next-init g c =
       level = subst (λ level. IfSome c.args.self.now.floor (λ floor. level ≤ floor)) (sym c.join_near.ensures.level)
           c.in_ok-component.ensures.level;
       whole = refl;
-    }
+    } in (
+      first_grown,
+      subst (λ places. AreNoted places c.list_joined.new.noted.items) (sym c.join_near.ensures.near)
+          c.in_ok-list_joined.ensures.noted,
+      omega (arith, c.list_joined.ensures.each, c.in_ok-noted.ensures.len, c.len-2.ensures),
+    )
 
 pub loop-next-preserved : goal.loop-next-preserved
 loop-next-preserved g c =
-    let before = c.loop-next.invariant in
+    let before = c.loop-next.invariant.0 in
     let join = c.list_joining.ensures in
     let more = c.in_ok-list_joining.ensures in
     let small : length c.list_joining.new.component.joined.items ≤ 48 + c.len-in-loop-next-2.result =
     c.is_large-in-loop-next.ensures c.if-is_large-2.false in
+    let grown : HasGrown g.P.Ord.cmp c.args.self.now.list.items c.args.self.now.floor (c.loop-next.next + 1)
+    c.join_near.new.component c.list_joining.new.component =
     record {
       walked = more.walked;
       joined = starts_on c.join_near.new.component.joined.items c.loop-next.component.joined.items
@@ -50,19 +58,28 @@ loop-next-preserved g c =
       few = omega (arith, small, c.len-in-loop-next-2.ensures);
       level = subst (λ level. IfSome c.args.self.now.floor (λ floor. level ≤ floor)) (sym join.level) before.level;
       whole = join.whole ∙ before.whole;
-    }
+    } in
+    (grown, more.noted, join.each ∙ c.loop-next.invariant.2)
 
 pub returns-clause-walked : goal.returns-clause-walked
 returns-clause-walked g c all =
     let found = c.loop-next.component in
     let done : length found.joined.items ≤ c.loop-next.next =
     omega (arith, c.loop-next-test.false, c.len.ensures) in
-    let walked = c.loop-next.invariant.walked in
-    record {
+    let walked = c.loop-next.invariant.0.walked in
+    walked_in_order g.P.Ord.cmp (length found.joined.items) found c.put_in_order.new.places
+    c.args.self.now.list.items c.in_ok-put_in_order.ensures.still c.in_ok-put_in_order.ensures.only
+    (record {
       listed = subst (λ ms. AreAllListed g.P.Ord.cmp ms found.near.items c.args.self.now.list.items)
           (take_all c.loop-next.next found.joined.items done
           ∙ sym (take_all (length found.joined.items) found.joined.items (omega arith))) walked.listed;
-      order = walked.order;
       touched = walked.touched;
       suited = walked.suited;
-    }
+    })
+
+pub list_joined-requires-clause-noted : goal.list_joined-requires-clause-noted
+list_joined-requires-clause-noted g c =
+    let places = c.args.component.now.near.items in
+    subst (AreNoted places)
+    (sym (c.in_ok-noted.ensures.items_if_clones_equal (λ y is. is) ∙ ap (λ n. replicate n false) c.len-2.ensures))
+    (none_noted places (length c.args.self.now.list.items) c.requires.none)

@@ -1,9 +1,12 @@
-use Rattle.std.proofs.Common.{◌-◌, ◌+◌, length}
+use Rattle.std.proofs.Common.{◌≡◌, ◌-◌, ◌+◌, length}
+use Rattle.link_flights.specs.Flights.Components.{AreNoted}
 use Rattle.link_flights.proofs.Flights.Search.{HasGrown}
 use Rattle.link_flights.proofs.flight_list.Flights.grow.Given as goal
 
 abbrev pub invariant-loop-next : goal.invariant-loop-next
-invariant-loop-next g l = HasGrown g.P.Ord.cmp l.self.list.items l.self.floor l.next l.initial.component l.component
+invariant-loop-next g l =
+    HasGrown g.P.Ord.cmp l.self.list.items l.self.floor l.next l.initial.component l.component
+    × AreNoted l.component.near.items l.noted.items × (length l.noted.items ≡ length l.self.list.items)
 
 abbrev pub decreases-loop-next : goal.decreases-loop-next
 decreases-loop-next g l = 48 + length l.self.list.items - l.next

@@ -1,41 +1,47 @@
-use Rattle.std.proofs.Common.{◌≡◌, [], refl, sym, ◌∙◌, subst, arith}
+use Rattle.std.proofs.Common.{◌≡◌, [], length, refl, sym, ◌∙◌, subst, arith}
 use Rattle.std.proofs.lemmas.List.{append-nil}
-use Rattle.link_flights.specs.Flights.Components.{AreSuited}
-use Rattle.link_flights.proofs.Flights.Search.{HasJoinedAll, HasWalked, none_listed, past_there, walked_more, walked_all}
-use Rattle.link_flights.proofs.Flights.Search.{fewer_behind, next_inside, starts_on, same_if_no_longer, suited_with_one}
-use Rattle.link_flights.proofs.flight_list.Flights.join_end.Goals.{then-len-listed+in_ok-join_one, else-len-listed}
+use Rattle.link_flights.specs.Flights.Components.{AreSuited, AreNoted}
+use Rattle.link_flights.specs.declared.component.Component.{Component}
+use Rattle.link_flights.proofs.Flights.Search.{HasJoinedAll, HasWalked, none_listed, walked_more, walked_all}
+use Rattle.link_flights.proofs.Flights.Search.{fewer_behind, next_inside, starts_on, suited_with_one}
+use Rattle.link_flights.proofs.flight_list.Flights.join_end.Goals.{then-is_new+in_ok-join_one, else-is_new}
 use Rattle.link_flights.proofs.flight_list.Flights.join_end.Goals as goal
 
 pub loop-next-init : goal.loop-next-init
-loop-next-init g c = record {
-  walked = record {
-    from = 0;
-    is_next = c.first_at-next.ensures;
-    so_far = none_listed g.P.Ord.cmp c.args.end c.args.message.now c.args.self.now.list.items
-        c.args.component.now.near.items c.requires.order;
-  };
-  suited = c.requires.suited;
-  joined = ([], sym (append-nil c.args.component.now.joined.items));
-  level = refl;
-  whole = refl;
-}
+loop-next-init g c = (
+  record {
+    walked = record {
+      from = 0;
+      is_next = c.first_at-next.ensures;
+      so_far = none_listed g.P.Ord.cmp c.args.end c.args.message.now c.args.self.now.list.items
+          c.args.component.now.near.items;
+    };
+    suited = c.requires.suited;
+    joined = ([], sym (append-nil c.args.component.now.joined.items));
+    level = refl;
+    whole = refl;
+  },
+  c.requires.noted,
+  refl,
+)
 
-pub list-requires-clause-past : goal.list-requires-clause-past
-list-requires-clause-past g c =
-    past_there g.P.Ord.cmp c.args.end c.args.message.now c.args.self.now.list.items c.loop-next.next c.loop-next.place
-    c.args.component.now.near.items c.loop-next.component.near.items c.loop-next.invariant.walked c.in-Some.at
-    c.in-Some.is
+pub list-requires-clause-within : goal.list-requires-clause-within
+list-requires-clause-within g c =
+    let inside = next_inside g.P.Ord.cmp c.args.end c.args.message.now c.args.self.now.list.items c.loop-next.next
+    c.args.component.now.near.items c.loop-next.component.near.items c.loop-next.invariant.0.walked c.in-Some.at
+    c.in-Some.is in
+    omega (arith, inside, c.loop-next.invariant.2, c.requires.each)
 
 pub next_at-next-requires : goal.next_at-next-requires
 next_at-next-requires g c =
     next_inside g.P.Ord.cmp c.args.end c.args.message.now c.args.self.now.list.items c.loop-next.next
-    c.loop-next.place c.args.component.now.near.items c.loop-next.component.near.items c.loop-next.invariant.walked
+    c.args.component.now.near.items c.loop-next.component.near.items c.loop-next.invariant.0.walked
     c.in-Some.at c.in-Some.is
 
 pub loop-next-smaller : goal.loop-next-smaller
 loop-next-smaller g c =
     fewer_behind g.P.Ord.cmp c.args.end c.args.message.now c.args.self.now.list.items c.loop-next.next
-    c.loop-next.place c.args.component.now.near.items c.loop-next.component.near.items c.loop-next.invariant.walked
+    c.args.component.now.near.items c.loop-next.component.near.items c.loop-next.invariant.0.walked
     c.in-Some.at c.in-Some.is c.next_at-next.result c.next_at-next.ensures
 
 pub loop-next-preserved : goal.loop-next-preserved
@@ -46,44 +52,52 @@ loop-next-preserved g c =
     let m = c.args.message.now in
     let old = c.args.component.now in
     let mid = c.loop-next.component in
-    let so_far = c.loop-next.invariant in
+    let so_far = c.loop-next.invariant.0 in
     let at = c.in-Some.at in
     let after = c.list.new.places.items in
-    let place = c.in_ok-place.ensures in
-    let first = c.in_ok-place.place in
+    let noted = c.list.new.noted.items in
+    let place = c.in_ok-is_new.ensures in
     let next = c.next_at-next.result in
-    let walked : HasWalked cmp end m list next first old.near.items after =
-    walked_more cmp end m list c.loop-next.next c.loop-next.place old.near.items mid.near.items so_far.walked
-    g.met.P.Ord.total at c.in-Some.is next c.next_at-next.ensures first after place.here place.others place.only
-    place.order place.past in
-    elim c.if-len-listed.branch [
-      | then-len-listed+in_ok-join_one w ↦
+    let walked : HasWalked cmp end m list next old.near.items after =
+    walked_more cmp end m list c.loop-next.next old.near.items mid.near.items so_far.walked
+    g.met.P.Ord.total at c.in-Some.is next c.next_at-next.ensures after place.here place.others place.only in
+    let each : length noted ≡ length c.args.noted.now.items = c.list.ensures.each ∙ c.loop-next.invariant.2 in
+    elim c.if-is_new.branch [
+      | then-is_new+in_ok-join_one w ↦
           let new = w.join_one.new.component in
           let join = w.join_one.ensures in
           let more = w.in_ok-join_one.ensures in
-          subst (HasJoinedAll cmp end m list next first old) (sym w.component-is) (record {
-            walked = subst (HasWalked cmp end m list next first old.near.items) (sym join.near) walked;
-            suited = subst (λ places. AreSuited cmp new places list) (sym join.near)
-                (suited_with_one cmp mid new more.joined join.level join.whole list at mid.near.items after place.only
-                so_far.suited more.suited);
-            joined = starts_on old.joined.items mid.joined.items new.joined.items so_far.joined more.joined;
-            level = join.level ∙ so_far.level;
-            whole = join.whole ∙ so_far.whole;
-          })
-      | else-len-listed w ↦
-          let same : after ≡ mid.near.items =
-          same_if_no_longer mid.near.items after place.longer
-          (omega (arith, w.if-len-listed.false, c.len.ensures, c.len-listed.ensures)) in
-          subst (HasJoinedAll cmp end m list next first old) (sym w.component-is) (record {
-            walked = walked;
-            suited = subst (λ places. AreSuited cmp mid places list) (sym same) so_far.suited;
-            joined = so_far.joined;
-            level = so_far.level;
-            whole = so_far.whole;
-          })
+          subst (λ (x : Component g.row.P.Denot). HasJoinedAll cmp end m list next old x × AreNoted x.near.items noted
+          × (length noted ≡ length c.args.noted.now.items)) (sym w.component-is) (
+            record {
+              walked = subst (HasWalked cmp end m list next old.near.items) (sym join.near) walked;
+              suited = subst (λ places. AreSuited cmp new places list) (sym join.near)
+                  (suited_with_one cmp mid new more.joined join.level join.whole list at mid.near.items after place.only
+                  so_far.suited more.suited);
+              joined = starts_on old.joined.items mid.joined.items new.joined.items so_far.joined more.joined;
+              level = join.level ∙ so_far.level;
+              whole = join.whole ∙ so_far.whole;
+            },
+            subst (λ places. AreNoted places noted) (sym join.near) place.noted,
+            each,
+          )
+      | else-is_new w ↦
+          let same : after ≡ mid.near.items = place.same w.if-is_new.false in
+          subst (λ (x : Component g.row.P.Denot). HasJoinedAll cmp end m list next old x × AreNoted x.near.items noted
+          × (length noted ≡ length c.args.noted.now.items)) (sym w.component-is) (
+            record {
+              walked = walked;
+              suited = subst (λ places. AreSuited cmp mid places list) (sym same) so_far.suited;
+              joined = so_far.joined;
+              level = so_far.level;
+              whole = so_far.whole;
+            },
+            place.noted,
+            each,
+          )
     ]
 
 pub returns-clause-listed : goal.returns-clause-listed
 returns-clause-listed g c =
-    walked_all g.P.Ord.cmp c.args.end c.args.message.now c.args.self.now.list.items c.loop-next.next c.loop-next.place
-    c.args.component.now.near.items c.loop-next.component.near.items c.loop-next.invariant.walked c.in_default.is
+    walked_all g.P.Ord.cmp c.args.end c.args.message.now c.args.self.now.list.items c.loop-next.next
+    c.args.component.now.near.items c.loop-next.component.near.items c.loop-next.invariant.0.walked c.in_default.is

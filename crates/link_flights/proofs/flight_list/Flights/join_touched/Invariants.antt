@@ -1,5 +1,5 @@
 use Rattle.std.proofs.Common.{◌≡◌, All, true, take}
-use Rattle.link_flights.specs.Flights.Components.{has_both}
+use Rattle.link_flights.specs.Flights.Components.{has_both, AllNewTouch}
 use Rattle.link_flights.proofs.Flights.Search.{AllTouchFrom}
 use Rattle.link_flights.proofs.flight_list.Flights.join_touched.Given as goal
 
@@ -13,5 +13,13 @@ abbrev pub invariant-loop-at-2 : goal.invariant-loop-at-2
 invariant-loop-at-2 g l =
     All (λ m. has_both g.P.Ord.cmp l.component m.value ≡ true) l.done.items
     × AllTouchFrom g.P.Ord.cmp l.component l.self.settled l.at l.self.list.items
+    × (l.component.near.items ≡ l.fn.component.near.items)
+    × (l.component.level ≡ l.fn.component.level) × (l.component.whole ≡ l.fn.component.whole)
+
+abbrev pub invariant-loop-at-3 : goal.invariant-loop-at-3
+invariant-loop-at-3 g l =
+    All (λ m. has_both g.P.Ord.cmp l.component m.value ≡ true) l.done.items
+    × AllNewTouch g.P.Ord.cmp l.component l.self.settled l.self.list.items
+    × All (λ m. has_both g.P.Ord.cmp l.component m.value ≡ true) (take l.at l.loose)
     × (l.component.near.items ≡ l.fn.component.near.items)
     × (l.component.level ≡ l.fn.component.level) × (l.component.whole ≡ l.fn.component.whole)

@@ -1,8 +1,8 @@
-use Rattle.std.proofs.Common.{All, Contains, ◌⊎◌, ◌≡◌, sym, ◌∙◌, subst}
+use Rattle.std.proofs.Common.{All, Contains, ◌⊎◌, ◌≡◌, sym, ◌∙◌, subst, arith}
 use Rattle.link_pairs.specs.declared.message.Message.{Message}
 use Rattle.link_flights.specs.Flights.Components.{StartsWith, AreListedAt, SharesEndAt}
 use Rattle.link_flights.specs.declared.table.End.TheVariants.{Recipient}
-use Rattle.link_flights.proofs.Flights.Search.{HasListedBoth, both_listed, all_listed_next, touched_with, starts_on}
+use Rattle.link_flights.proofs.Flights.Search.{HasListedBoth, both_listed, all_listed_next, first_listed, touched_with, starts_on}
 use Rattle.link_flights.proofs.flight_list.Flights.list_joining.Goals as goal
 
 pub returns-clause-walked : goal.returns-clause-walked
@@ -10,10 +10,10 @@ returns-clause-walked g c =
     let cmp = g.P.Ord.cmp in
     let list = c.args.self.now.list.items in
     let old = c.args.component.now in
-    let mid = c.join_end.new.component in
-    let new = c.join_end-2.new.component in
-    let first = c.in_ok-join_end.ensures in
-    let second = c.in_ok-join_end-2.ensures in
+    let mid = c.join_new_end.new.component in
+    let new = c.join_new_end-2.new.component in
+    let first = c.in_ok-join_new_end.ensures in
+    let second = c.in_ok-join_new_end-2.ensures in
     let walked = c.requires.walked in
     let m = c.in_ok-message.message.value in
     let as_read : c.deref-2.result.now ≡ c.deref.result.now = c.deref-2.ensures ∙ sym c.deref.ensures in
@@ -29,8 +29,15 @@ returns-clause-walked g c =
     record {
       listed = all_listed_next cmp list old.joined.items new.joined.items joined c.args.number old.near.items
           new.near.items c.requires.number walked.listed both.more c.index.result.now c.index.ensures both.listed;
-      order = second.order;
       touched = touched_with cmp g.met.P.Ord.total old new joined (second.whole ∙ first.whole) list c.args.number
           c.index.result.now c.requires.number c.index.ensures old.near.items new.near.items both.only walked.touched;
       suited = second.suited;
     }
+
+pub join_new_end-requires-2-clause-before : goal.join_new_end-requires-2-clause-before
+join_new_end-requires-2-clause-before g c =
+    let old = c.args.component.now in
+    let mid = c.join_new_end.new.component in
+    let first = c.in_ok-join_new_end.ensures in
+    first_listed g.P.Ord.cmp c.args.self.now.list.items old.joined.items mid.joined.items first.joined c.args.number
+    old.near.items mid.near.items (omega (arith, c.requires.number)) c.requires.walked.listed first.more

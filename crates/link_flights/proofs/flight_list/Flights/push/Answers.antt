@@ -95,6 +95,7 @@ returns-clause-joined g c =
       unrated = refl;
       scale = refl;
       floor = refl;
+      loose = refl;
       at = refl;
       timed = returns-clause-timed g c;
     }

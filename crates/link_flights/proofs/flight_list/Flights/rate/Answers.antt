@@ -20,7 +20,8 @@ settle-requires g c =
     let h =
     beside_given cmp caps component old mid r g.met.P.Ord.total
     (looked_up cmp g.met.P.Ord.total c.args.peers.now.entries c.args.pairs.now.entries) c.args.done.now.items
-    c.in_ok-touched.ensures.closed (c.requires.before c.if-were_rated.true) c.in_ok-touched.ensures.level
+    c.in_ok-touched.ensures.closed c.in_ok-touched.ensures.loose (c.requires.before c.if-were_rated.true)
+    c.in_ok-touched.ensures.level
     c.requires.updated in
     record { rated = all_have_got old.at h.times mid.at (in_units old) mid.list.items h.each }
 
@@ -35,7 +36,8 @@ returns-in-Some-clause-rated g c =
     let h =
     beside_given cmp caps component old mid r g.met.P.Ord.total
     (looked_up cmp g.met.P.Ord.total c.args.peers.now.entries c.args.pairs.now.entries) c.args.done.now.items
-    c.in_ok-touched.ensures.closed (c.requires.before c.if-were_rated.true) c.in_ok-touched.ensures.level
+    c.in_ok-touched.ensures.closed c.in_ok-touched.ensures.loose (c.requires.before c.if-were_rated.true)
+    c.in_ok-touched.ensures.level
     c.requires.updated in
     let e = c.settle.ensures in
     let last = c.settle.new.self in
@@ -60,7 +62,8 @@ returns-in-Some-clause-finish g c =
     let h =
     beside_given cmp caps component old mid r g.met.P.Ord.total
     (looked_up cmp g.met.P.Ord.total c.args.peers.now.entries c.args.pairs.now.entries) c.args.done.now.items
-    c.in_ok-touched.ensures.closed (c.requires.before c.if-were_rated.true) c.in_ok-touched.ensures.level
+    c.in_ok-touched.ensures.closed c.in_ok-touched.ensures.loose (c.requires.before c.if-were_rated.true)
+    c.in_ok-touched.ensures.level
     c.requires.updated in
     let e = c.settle.ensures in
     let last = c.settle.new.self in

@@ -30,7 +30,9 @@ loop-next-init g c =
       refl,
       λ h. h,
       λ h. h,
-      none_over out None old.list.items,
+      none_over out old.floor old.list.items,
+      refl,
+      λ rate h. h,
       refl,
     )
 
@@ -79,6 +81,8 @@ loop-next-preserved g c =
           (flights_limited_without g.P.Ord.cmp caps now.at now.list.items at (h.4 all)),
       rw (list, c.remove.ensures.floor) over,
       c.remove.ensures.before ∙ c.lower_floor.ensures.before ∙ h.6,
+      λ rate no_more. rw c.remove.ensures.floor (c.in_ok-lower_floor.ensures.lower rate (h.7 rate no_more)),
+      c.remove.ensures.loose ∙ c.lower_floor.ensures.loose ∙ h.8,
     )
 
 pub returns-clause-parted : goal.returns-clause-parted

@@ -1,7 +1,7 @@
-use Rattle.std.proofs.Common.{◌≡◌, length}
+use Rattle.std.proofs.Common.{◌≡◌, ℕ, length}
 use Rattle.link_flights.specs.Flights.Flight.{AreTimed, flight_at}
 use Rattle.link_flights.specs.Flights.InFlight.{in_units}
-use Rattle.link_flights.specs.Flights.Rated.{is_out}
+use Rattle.link_flights.specs.Flights.Rated.{is_out, IsNoMore}
 use Rattle.link_pairs.specs.Pairs.Messages.{message_of, messages}
 use Rattle.link_pairs.specs.Pairs.CapsOf.{caps_of}
 use Rattle.link_flights.proofs.Flights.InFlight.{HaveLeft}
@@ -22,6 +22,8 @@ invariant-loop-next g l =
     × AreOver (λ f. is_out g.P.Ord.cmp (caps_of g.P.Ord.cmp l.peers.entries l.pairs.entries) l.initial.self.scale
     (flight_at l.initial.self.at f.value)) l.self.floor l.initial.self.list.items l.self.list.items l.at
     × (l.self.list.before ≡ l.initial.self.list.before)
+    × ((rate : ℕ) → IsNoMore l.initial.self.floor rate → IsNoMore l.self.floor rate)
+    × (l.self.loose ≡ l.initial.self.loose)
 
 abbrev pub decreases-loop-next : goal.decreases-loop-next
 decreases-loop-next g l = length l.self.list.items

@@ -1,0 +1,246 @@
+-- What is loose, step by step.
+use Rattle.std.proofs.Common.{◌≡◌, ℕ, suc, ◌+◌, ◌<◌, ◌≤◌, Bool, true, false, List, [], ◌∷◌, Option, Some, None, length}
+use Rattle.std.proofs.Common.{get_or, ◌++◌, Contains, refl, sym, ap, ◌∙◌, subst, arith, inl, inr, map}
+use Rattle.std.specs.Prelude.{slice_get}
+use Rattle.std.specs.Cmp.{IsTotalOrder}
+use Rattle.std.specs.declared.cmp.Ordering.{Ordering}
+use Rattle.std.specs.declared.rc.Rc.{Rc}
+use Rattle.std.specs.declared.alloc.Global.{Global}
+use Rattle.std.proofs.lemmas.Bool.{false≢true, cases_lt}
+use Rattle.std.proofs.lemmas.Cmp.{eq_by_cmp_equiv}
+use Rattle.std.proofs.lemmas.Option.{slice_get-map}
+use Rattle.fair_rates.specs.Sides.Subjects.{same_peer}
+use Rattle.fair_rates.proofs.Lists.Members.{In, in_from_contains, contains_from_in, in_left, in_right, get_in, get_from_map}
+use Rattle.std.proofs.lemmas.List.{map-append}
+use Rattle.link_simulation.specs.Simulation.Messages.{Message}
+use Rattle.link_pairs.specs.declared.message.Message as code
+use Rattle.link_pairs.specs.Pairs.Messages.{message_of}
+use Rattle.link_flights.specs.declared.flight.Flight.{Flight}
+use Rattle.link_flights.specs.declared.flight_list.Flights.{Flights}
+use Rattle.link_flights.specs.declared.table.End.{End}
+use Rattle.link_flights.specs.declared.table.End.TheVariants.{Origin, Recipient}
+use Rattle.link_flights.specs.Flights.Flight.{UnitFlight, flight_at, flights_at}
+use Rattle.link_flights.specs.Flights.InFlight.{in_units, loose_in, IsNextPlace, PassesNowhere, PassesFirstAt}
+use Rattle.link_flights.specs.Flights.Rated.{IsLoose}
+use Rattle.link_flights.specs.Flights.Loose.{is_at_end, AreStillLoose, IsLooseAt, Loosens, LoosensAt}
+use Rattle.link_flights.specs.Flights.Table.{share}
+use Rattle.link_flights.proofs.Flights.Places.{one_there}
+use Rattle.link_flights.proofs.Flights.Rows.{end_of}
+use Rattle.peer_numbers.specs.Peers.{number_of}
+use Rattle.link_flights.proofs.Flights.Search.{each_more, behind}
+use Rattle.std.proofs.lemmas.Option.{slice_get_within, get_or_from_slice_get}
+
+-- a message that has the peer at both ends
+abbrev pub letter : {P : Type 0} → P → code.Message P
+letter p = record { origin = p; recipient = p; channel = 0; bytes = []; latency = 0; should_deliver = true }
+
+module _ {P : Type 0} (cmp : P → P → Ordering) where
+  -- who has the peer at an end shares it with such a message
+  pub shares_end : (end : End) (p : P) (m : code.Message P) → share cmp end (letter p) m ≡ is_at_end cmp end p m
+  shares_end Origin p m = refl
+  shares_end Recipient p m = refl
+
+  -- so the next place is the same
+  pub next_has_end : (end : End) (p : P) (list : List (Rc (Flight P) Global)) (from : ℕ) (next : Option ℕ)
+      → IsNextPlace (λ one. share cmp end (letter p) one.value.message.value) list from next
+      → IsNextPlace (λ one. is_at_end cmp end p one.value.message.value) list from next
+  next_has_end Origin p list from None is = is
+  next_has_end Origin p list from (Some at) is =
+      record { low = is.low; high = is.high; before = is.before; here = is.here }
+  next_has_end Recipient p list from None is = is
+  next_has_end Recipient p list from (Some at) is =
+      record { low = is.low; high = is.high; before = is.before; here = is.here }
+
+  end_alike : IsTotalOrder cmp → (end : End) (p : P) (n other : code.Message P) → is_at_end cmp end p n ≡ true
+      → is_at_end cmp end p other ≡ share cmp end n other
+  end_alike order Origin p n other same = (eq_by_cmp_equiv order).congr p n.origin other.origin same
+  end_alike order Recipient p n other same = (eq_by_cmp_equiv order).congr p n.recipient other.recipient same
+
+  -- those that share an end with one that has the peer there have it there
+  next_of_end : IsTotalOrder cmp → (end : End) (p : P) (list : List (Rc (Flight P) Global)) (from : ℕ)
+      (next : Option ℕ) (n : code.Message P) → is_at_end cmp end p n ≡ true
+      → IsNextPlace (λ other. share cmp end n other.value.message.value) list from next
+      → IsNextPlace (λ other. is_at_end cmp end p other.value.message.value) list from next
+  next_of_end order end p list from None n same is =
+      λ i low high d. end_alike order end p n (get_or list i d).value.message.value same ∙ is i low high d
+  next_of_end order end p list from (Some at) n same is = record {
+    low = is.low;
+    high = is.high;
+    before = λ i low high d.
+        end_alike order end p n (get_or list i d).value.message.value same ∙ is.before i low high d;
+    here = λ d. end_alike order end p n (get_or list at d).value.message.value same ∙ is.here d;
+  }
+
+-- the number of such a message's peer
+pub number_of_letter : {P : Type 0} (cmp : P → P → Ordering) (total : IsTotalOrder cmp) (peers : List P) (end : End) (p : P)
+    → number_of cmp peers (end_of cmp total end (letter p)) ≡ number_of cmp peers p
+number_of_letter cmp total peers Origin p = refl
+number_of_letter cmp total peers Recipient p = refl
+
+-- one more message is listed, and those that were still are
+module _ {P : Type 0} (loose new : List (code.Message P)) (m : code.Message P) (is : new ≡ loose ++ m ∷ []) where
+  abbrev messages : List (code.Message P) → List (Message P)
+  messages ms = map (λ n. message_of n) ms
+
+  read : messages new ≡ messages loose ++ message_of m ∷ []
+  read = ap messages is ∙ map-append (λ (n : code.Message P). message_of n) loose (m ∷ [])
+
+  pub listed_with : Contains (messages new) (message_of m)
+  listed_with =
+      contains_from_in (messages new) (message_of m)
+      (subst (λ (ms : List (Message P)). In ms (message_of m)) (sym read)
+      (in_right (messages loose) (message_of m ∷ []) (message_of m) (inl refl)))
+
+  pub still_listed : (n : Message P) → Contains (messages loose) n → Contains (messages new) n
+  still_listed n has =
+      contains_from_in (messages new) n
+      (subst (λ (ms : List (Message P)). In ms n) (sym read)
+      (in_left (messages loose) (message_of m ∷ []) n (in_from_contains (messages loose) n has)))
+
+module _ {P : Type 0} {a : _} {b : _} {c : _} where
+  pub still_all : (flights : Flights P a b c) → AreStillLoose flights flights
+  still_all flights = record { list = refl; scale = refl; at = refl; still = λ u h. h }
+
+  pub still_then : (old mid new : Flights P a b c) → AreStillLoose old mid → AreStillLoose mid new
+      → AreStillLoose old new
+  still_then old mid new s t = record {
+    list = t.list ∙ s.list;
+    scale = t.scale ∙ s.scale;
+    at = t.at ∙ s.at;
+    still = λ u h. t.still u (s.still u h);
+  }
+
+  -- what has been loosened stays so
+  pub loosens_then : (test : Message P → Bool) (old mid new : Flights P a b c) → Loosens test old mid
+      → AreStillLoose mid new → Loosens test old new
+  loosens_then test old mid new l t = record {
+    loose = still_then old mid new l.loose t;
+    all = λ u has rated passes.
+        t.still u (l.all u (subst (λ us. Contains us u) (λ i. flights_at (t.at i) (t.list i)) has) rated passes);
+  }
+
+  -- and what was so before
+  pub then_loosens : (test : Message P → Bool) (old mid new : Flights P a b c) → AreStillLoose old mid
+      → Loosens test mid new → Loosens test old new
+  then_loosens test old mid new s l = record { loose = still_then old mid new s l.loose; all = l.all }
+
+  module _ (cmp : P → P → Ordering) (end : End) (p : P) (old : Flights P a b c) where
+    -- those before some place that have the peer at that end are loose, and the next is known
+    pub record HasLoosened (now : Flights P a b c) (next : Option ℕ) : Type 0 where
+      pub from : ℕ
+      pub is_next : IsNextPlace (λ one. is_at_end cmp end p one.value.message.value) old.list.items from next
+      pub loose : AreStillLoose old now
+      pub so_far : (i : ℕ) (one : Rc (Flight P) Global) → i < from → slice_get old.list.items i ≡ Some one
+          → is_at_end cmp end p one.value.message.value ≡ true → one.value.rated ≡ true
+          → IsLoose (loose_in now) now.floor (flight_at old.at one.value)
+
+    pub none_loosened : (next : Option ℕ) → IsNextPlace (λ one. is_at_end cmp end p one.value.message.value) old.list.items 0 next
+        → HasLoosened old next
+    none_loosened next is = record {
+      from = 0;
+      is_next = is;
+      loose = still_all old;
+      so_far = λ i one below. absurd (omega (arith, below));
+    }
+
+    module _ (now : Flights P a b c) (next : Option ℕ) (has : HasLoosened now next) where
+      first_there : (at : ℕ) → next ≡ Some at
+          → PassesFirstAt (λ one. is_at_end cmp end p one.value.message.value) old.list.items has.from at
+      first_there at is =
+          subst (IsNextPlace (λ one. is_at_end cmp end p one.value.message.value) old.list.items has.from) is has.is_next
+
+      pub loosened_inside : (at : ℕ) → next ≡ Some at → at < length now.list.items
+      loosened_inside at is = rw has.loose.list (first_there at is).high
+
+      -- the next one that has the peer at that end
+      next_there : IsTotalOrder cmp → (at : ℕ) → next ≡ Some at → (following : Option ℕ) (new : Flights P a b c)
+          → ((d : Rc (Flight P) Global) → IsNextPlace
+          (λ other. share cmp end (get_or new.list.items at d).value.message.value other.value.message.value)
+          new.list.items (at + 1) following)
+          → AreStillLoose now new
+          → IsNextPlace (λ one. is_at_end cmp end p one.value.message.value) old.list.items (at + 1) following
+      next_there order at is following new further still =
+          let there = first_there at is in
+          let one = (one_there old.list.items at there.high).0 in
+          next_of_end cmp order end p old.list.items (at + 1) following (get_or old.list.items at one).value.message.value
+          (there.here one)
+          (subst (λ l. IsNextPlace (λ other. share cmp end (get_or l at one).value.message.value other.value.message.value)
+          l (at + 1) following) (still.list ∙ has.loose.list) (further one))
+
+      -- the one there is loose, too, and the next one is known
+      pub loosened_more : IsTotalOrder cmp → (at : ℕ) → next ≡ Some at → (following : Option ℕ) (new : Flights P a b c)
+          → ((d : Rc (Flight P) Global) → IsNextPlace
+          (λ other. share cmp end (get_or new.list.items at d).value.message.value other.value.message.value)
+          new.list.items (at + 1) following)
+          → AreStillLoose now new → IsLooseAt at new → HasLoosened new following
+      loosened_more order at is following new further still here =
+          let there = first_there at is in
+          let all = still_then old now new has.loose still in record {
+            from = at + 1;
+            is_next = next_there order at is following new further still;
+            loose = all;
+            so_far = each_more
+                (λ i f. is_at_end cmp end p f.value.message.value ≡ true → f.value.rated ≡ true
+                → IsLoose (loose_in new) new.floor (flight_at old.at f.value)) old.list.items at
+                (λ i f below get ends rated. elim (cases_lt i has.from) [
+                  | inl less ↦ still.still (flight_at old.at f.value) (has.so_far i f less get ends rated)
+                  | inr past ↦ absurd (false≢true
+                      (sym (there.before i past below f) ∙ ap (λ (g : Rc (Flight P) Global). is_at_end cmp end p g.value.message.value)
+                      (get_or_from_slice_get old.list.items i f f get) ∙ ends))
+                ])
+                (λ f get ends rated.
+                let same : get_or new.list.items at f ≡ f =
+                ap (λ l. get_or l at f) all.list ∙ get_or_from_slice_get old.list.items at f f get in
+                subst (λ n. IsLoose (loose_in new) new.floor (flight_at n f.value)) all.at
+                (subst (λ (g : Rc (Flight P) Global). IsLoose (loose_in new) new.floor (flight_at new.at g.value)) same
+                (here f (ap (λ (g : Rc (Flight P) Global). g.value.rated) same ∙ rated))));
+          }
+
+      -- fewer stand behind the next one
+      pub fewer_loosened : IsTotalOrder cmp → (at : ℕ) → next ≡ Some at → (following : Option ℕ) (new : Flights P a b c)
+          → ((d : Rc (Flight P) Global) → IsNextPlace
+          (λ other. share cmp end (get_or new.list.items at d).value.message.value other.value.message.value)
+          new.list.items (at + 1) following)
+          → AreStillLoose now new → behind new.list.items following < behind now.list.items next
+      fewer_loosened order at is following new further still =
+          let there = first_there at is in
+          by_next following (next_there order at is following new further still) (ap length (still.list ∙ has.loose.list)) (ap length has.loose.list) there.high
+        where
+          by_next : (following : Option ℕ)
+              → IsNextPlace (λ one. is_at_end cmp end p one.value.message.value) old.list.items (at + 1) following
+              → length new.list.items ≡ length old.list.items → length now.list.items ≡ length old.list.items
+              → at < length old.list.items → behind new.list.items following < behind now.list.items next
+          by_next None ahead same was high = omega (arith, same, was, high, ap (behind now.list.items) is)
+          by_next (Some to) ahead same was high =
+              omega (arith, same, was, high, ap (behind now.list.items) is, ahead.low, ahead.high)
+
+      all_so : next ≡ None → (u : UnitFlight P) → Contains (in_units now) u → u.rated ≡ true
+          → is_at_end cmp end p u.message ≡ true → IsLoose (loose_in now) now.floor u
+      all_so is u listed rated ends =
+          let units : in_units now ≡ in_units old = λ i. flights_at (has.loose.at i) (has.loose.list i) in
+          let h = in_from_contains (in_units old) u (subst (λ us. Contains us u) units listed) in
+          let at = get_in (in_units old) u h in
+          let f = get_from_map (λ (g : Rc (Flight P) Global). flight_at old.at g.value) old.list.items at.0 u at.1 in
+          let none = subst (IsNextPlace (λ one. is_at_end cmp end p one.value.message.value) old.list.items has.from) is has.is_next in
+          elim (cases_lt at.0 has.from) [
+            | inl less ↦ subst (IsLoose (loose_in now) now.floor) f.2
+                (has.so_far at.0 f.0 less f.1 (ap (λ (v : UnitFlight P). is_at_end cmp end p v.message) f.2 ∙ ends)
+                (ap (λ (v : UnitFlight P). v.rated) f.2 ∙ rated))
+            | inr past ↦ absurd (false≢true
+                (sym (none at.0 past (slice_get_within old.list.items at.0 f.0 f.1) f.0)
+                ∙ ap (λ (g : Rc (Flight P) Global). is_at_end cmp end p g.value.message.value)
+                (get_or_from_slice_get old.list.items at.0 f.0 f.0 f.1)
+                ∙ ap (λ (v : UnitFlight P). is_at_end cmp end p v.message) f.2 ∙ ends))
+          ]
+
+  -- where there is no next one, all are loose
+  pub loosened_all : (cmp : P → P → Ordering) (end : End) (p : P) (old now : Flights P a b c) (next : Option ℕ)
+      → HasLoosened cmp end p old now next → next ≡ None → LoosensAt cmp end p old now
+  loosened_all cmp Origin p old now next has is = record {
+    loose = has.loose;
+    all = λ u listed rated ends. all_so cmp Origin p old now next has is u listed rated ends;
+  }
+  loosened_all cmp Recipient p old now next has is = record {
+    loose = has.loose;
+    all = λ u listed rated ends. all_so cmp Recipient p old now next has is u listed rated ends;
+  }

@@ -1,0 +1,13 @@
+use Rattle.std.proofs.Common.{take, sym, ap, ◌∙◌}
+use Rattle.std.specs.List.{list_any}
+use Rattle.link_flights.specs.Flights.Table.{share}
+use Rattle.link_flights.proofs.Flights.Search.{listed_before}
+use Rattle.link_flights.proofs.flight_list.Flights.join_new_end.Goals as goal
+
+pub returns-then-shares_with_any-clause-listed : goal.returns-then-shares_with_any-clause-listed
+returns-then-shares_with_any-clause-listed g c =
+    let old = c.args.component.now in
+    listed_before g.P.Ord.cmp g.met.P.Ord.total c.args.end c.args.message.now c.args.self.now.list.items
+    (take c.args.number old.joined.items) old.near.items c.requires.before
+    (ap (λ ms. list_any (λ m. share g.P.Ord.cmp c.args.end c.args.message.now m.value) (take c.args.number ms))
+    (sym c.deref.ensures.value) ∙ sym c.if-shares_with_any.ensures)

@@ -1,0 +1,18 @@
+use Rattle.std.proofs.Common.{rules, tests, ◌∙◌, sym, ap, map, not}
+use Rattle.std.proofs.lemmas.Iterator.{YieldsList-from_slice}
+use Rattle.std.proofs.lemmas.Iterator.Search.{all_from_yields_List}
+use Rattle.std.proofs.lemmas.List.Folds.{list_all-map}
+use Rattle.std.specs.List.{list_all}
+use Rattle.link_simulation.specs.Simulation.Rates.{is_unlimited}
+use Rattle.link_pairs.specs.Pairs.Messages.{message_of}
+use Rattle.link_pairs.specs.Pairs.CapsOf.{caps_of}
+use Rattle.link_flights.proofs.flight_list.Flights.loose_is_limited.Goals as goal
+
+pub returns : goal.returns
+returns g c =
+    let caps = caps_of g.P.Ord.cmp c.args.peers.now.entries c.args.pairs.now.entries in
+    all_from_yields_List (λ m. not (is_unlimited g.P.Ord.cmp caps (message_of m.value))) _ _ c.all.result
+    c.all.ensures.ran (YieldsList-from_slice _ c.iter.ensures.rest)
+    (λ x b q k. search (rules, tests))
+    ∙ sym (list_all-map (λ m. not (is_unlimited g.P.Ord.cmp caps (message_of m))) (λ m. m.value) c.as_slice.result.now)
+    ∙ ap (list_all (λ m. not (is_unlimited g.P.Ord.cmp caps (message_of m)))) c.as_slice.ensures
