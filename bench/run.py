@@ -5,7 +5,7 @@
 
 Where `bin/broadcast`, with a slash, stands after `bin/linkrun`, each `broadcast-N` has a second row, `at once`: that
 program prints the same for N, and asks the scheduler by one call for all that is sent at one moment. Where
-`bin/networks` stands there, the networks `routes-N` are asked of it; without it they are left out.
+`bin/networks` stands there, the networks `routes-N` and `weights-N` are asked of it; without it they are left out.
 
 Each script is run three times (once where it takes more than ten seconds), and the least time is divided by the number
 of its allocations or messages, printing included. The original's figures were measured once, on a machine of four cores
@@ -31,7 +31,7 @@ ORIGINAL = {
 LONG = {"broadcast-64", "broadcast-100", "mixed-64", "mixed-100", "groups-256-20000"}
 BESIDE = {"idle-1000": "idle-100", "idle-10000": "idle-100", "kept-100000": "kept-10"}
 AT_ONCE = ", at once"
-ROUTES = "routes-"
+ROUTES = ("routes-", "weights-")
 RUNS, SLOW = 3, 10
 
 

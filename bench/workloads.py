@@ -13,6 +13,7 @@
 | `broadcast-N` | a bench of a consensus protocol: one of N peers sends a block to all others, then all send a vote to all others, twice; all caps are equal. `crates/broadcast` does the same without a script |
 | `mixed-N` | the same under caps that differ |
 | `routes-N` | no script, but a network for `bin/networks`: N flows over four of N/4 + 8 links each, under any caps below 2^20, asked many times |
+| `weights-N` | the same, each flow with a weight up to 16 |
 | `idle-N` | 2000 messages of one pair, beside N pairs whose next message may start only far in the future |
 | `kept-N` | 100000 messages of one pair, each enqueued and done before the next, beside N caps and N last arrivals of others |
 """
@@ -66,6 +67,13 @@ def routes(flows, calls):
     caps = ",".join(str(chance.between(1, 2**20 - 1)) for _ in range(links))
     paths = ";".join(",".join(str(chance.below(links)) for _ in range(4)) for _ in range(flows))
     yield f"{calls} {caps} {paths}"
+
+
+def weights(flows, calls):
+    """The same with a weight for each flow."""
+    chance = Chance(0xD1B54A32D192ED03 + flows)
+    weighed = ",".join(str(chance.between(1, 16)) for _ in range(flows))
+    yield from (f"{line} {weighed}" for line in routes(flows, calls))
 
 
 def whole_rates(flows, calls):
@@ -181,6 +189,7 @@ SCRIPTS = {
     **{f"whole-{flows}": (whole_rates, flows, calls) for flows, calls in CALLS.items()},
     **{f"any-{flows}": (any_rates, flows, calls) for flows, calls in CALLS.items()},
     **{f"routes-{flows}": (routes, flows, calls) for flows, calls in CALLS.items()},
+    **{f"weights-{flows}": (weights, flows, max(1, calls // 8)) for flows, calls in CALLS.items()},
     **{f"groups-{peers}-{messages}": (groups, peers, messages)
        for peers, messages in ((4, 1000), (16, 5000), (64, 20000), (256, 20000))},
     **{f"pairs-{peers}-{messages}": (pairs, peers, messages)

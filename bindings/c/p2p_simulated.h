@@ -38,7 +38,11 @@ enum {
     P2P_FLOW_IDS_USED_UP = 4, /* a message would start, and 2^64 - 1 flow ids were given */
     P2P_CLOSED = 5,           /* the scheduler is not open */
     P2P_GONE_BY = 6,          /* the last call that was made was at a later moment */
-    P2P_EVENT_DUE = 7         /* the call sets caps or sends, and an event is due */
+    P2P_EVENT_DUE = 7,        /* the call sets caps or sends, and an event is due */
+    P2P_NO_SUCH_LINK = 8,     /* of p2p_allocate_routes alone, as the next three: a link that has no cap's entry */
+    P2P_NO_SUCH_FLOW = 9,     /* a flow that has no weight's entry */
+    P2P_NO_WEIGHT = 10,       /* a weight is 0 */
+    P2P_TOO_MUCH_WEIGHT = 11  /* the flows of a link have a weight of 2^64 or more together */
 };
 
 /* A scheduler, or none. Let it begin as P2P_SCHEDULER_INIT, and neither copy nor change it: the
@@ -152,6 +156,18 @@ typedef struct p2p_rate {
     uint8_t is_limited;
 } p2p_rate;
 
+/* A flow uses a link; both are numbers, counted from 0. */
+typedef struct p2p_hop {
+    size_t flow;
+    size_t link;
+} p2p_hop;
+
+/* The cap of a link in bytes a second; none where is_some is 0. */
+typedef struct p2p_route_cap {
+    p2p_wide bytes;
+    uint8_t is_some;
+} p2p_route_cap;
+
 P2P_ASSERT(sizeof(size_t) == 8 && sizeof(void *) == 8);
 P2P_ASSERT(sizeof(p2p_scheduler) == 16 && offsetof(p2p_scheduler, is_open) == 8);
 P2P_ASSERT(sizeof(p2p_cap) == 16 && offsetof(p2p_cap, is_some) == 8);
@@ -165,6 +181,8 @@ P2P_ASSERT(sizeof(p2p_flow) == 32 && offsetof(p2p_flow, recipient) == 16 && offs
 P2P_ASSERT(sizeof(p2p_peer_cap) == 24 && offsetof(p2p_peer_cap, cap) == 8);
 P2P_ASSERT(sizeof(p2p_link_cap) == 32 && offsetof(p2p_link_cap, recipient) == 8 && offsetof(p2p_link_cap, cap) == 16);
 P2P_ASSERT(sizeof(p2p_rate) == 40 && offsetof(p2p_rate, denominator) == 16 && offsetof(p2p_rate, is_limited) == 32);
+P2P_ASSERT(sizeof(p2p_hop) == 16 && offsetof(p2p_hop, link) == 8);
+P2P_ASSERT(sizeof(p2p_route_cap) == 24 && offsetof(p2p_route_cap, is_some) == 16);
 
 /* ---- The scheduler.
  *
@@ -263,6 +281,18 @@ size_t p2p_message(p2p_scheduler *scheduler, size_t index, size_t from, uint8_t 
 uint32_t p2p_allocate(const p2p_flow *flows, size_t flow_count, const p2p_peer_cap *egress, size_t egress_count,
                       const p2p_peer_cap *ingress, size_t ingress_count, const p2p_link_cap *links, size_t link_count,
                       p2p_rate *rates, size_t room, p2p_wide *rounds);
+
+/* The same over any network. There are as many flows as weights, and as many links as caps; a hop says
+ * that a flow uses a link, in any order, and said more than once it counts once. A flow of weight w gets
+ * what w flows of weight 1 over its links get together; with all weights 1 the flows of a link share it
+ * as those of p2p_allocate do. Writes the rate of each flow in their order, as many as there is room for.
+ *
+ * P2P_OK, P2P_OUT_OF_MEMORY, P2P_NUMBER_TOO_LARGE just where a rate is no fraction of 128 bits, or one of
+ * the last four above. A refusal writes no rate, and `fault` is the flow and the link that it is for, or
+ * 0 and 0. */
+uint32_t p2p_allocate_routes(const uint64_t *weights, size_t flow_count, const p2p_hop *hops, size_t hop_count,
+                             const p2p_route_cap *caps, size_t link_count, p2p_rate *rates, size_t room,
+                             p2p_hop *fault);
 
 /* ---- Scripts.
  *

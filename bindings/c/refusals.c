@@ -97,6 +97,16 @@ int main(void) {
         links[peer] = (p2p_link_cap){peer, peer * peer % 20, p2p_number(500 + peer)};
     }
     EACH(p2p_allocate(flows, 20, caps, 20, caps, 20, links, 20, rates, 20, &rounds));
+    uint64_t weights[20];
+    p2p_hop hops[40], fault;
+    p2p_route_cap limits[20];
+    for (size_t flow = 0; flow < 20; flow++) {
+        weights[flow] = 1 + flow % 3;
+        hops[2 * flow] = (p2p_hop){flow, flow};
+        hops[2 * flow + 1] = (p2p_hop){flow, flow * flow % 20};
+        limits[flow] = (p2p_route_cap){p2p_number(1000 + flow), flow % 5 != 0};
+    }
+    EACH(p2p_allocate_routes(weights, 20, hops, 40, limits, 20, rates, 20, &fault));
     p2p_close(&s);
     static const char script[] = "flow 1 1 2 1\nrates\n";
     uint8_t out[100];

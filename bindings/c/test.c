@@ -286,6 +286,37 @@ static void a_rate_that_is_no_fraction_is_refused(void) {
     CHECK(rates[0].numerator.low == UINT64_MAX && rates[0].numerator.high == UINT64_MAX && rates[0].denominator.low == 1);
 }
 
+static void routes_are_shared_by_weight(void) {
+    const uint64_t weights[] = {3, 1, 2};
+    const p2p_hop hops[] = {{0, 0}, {1, 0}, {0, 1}, {0, 1}, {2, 2}};
+    const p2p_route_cap caps[] = {{{10, 0}, 1}, {{4, 0}, 1}, {{1, 0}, 0}};
+    p2p_rate rates[4] = {{{0, 0}, {0, 0}, 7}, {{0, 0}, {0, 0}, 7}, {{0, 0}, {0, 0}, 7}, {{0, 0}, {0, 0}, 7}};
+    p2p_hop fault = {7, 7};
+    CHECK(p2p_allocate_routes(weights, 3, hops, 5, caps, 3, rates, 4, &fault) == P2P_OK);
+    CHECK(is_rate(&rates[0], 4, 1) && is_rate(&rates[1], 6, 1) && rates[2].is_limited == 0 && rates[3].is_limited == 7);
+    CHECK(fault.flow == 0 && fault.link == 0);
+    CHECK(p2p_allocate_routes(weights, 2, hops, 2, caps, 1, rates, 1, &fault) == P2P_OK);
+    CHECK(is_rate(&rates[0], 15, 2) && is_rate(&rates[1], 6, 1)); /* there was room for one */
+}
+
+static void routes_that_are_none_are_told(void) {
+    const uint64_t weights[] = {3, 1, 0, UINT64_MAX};
+    const p2p_hop hops[] = {{0, 0}, {1, 5}, {3, 0}};
+    const p2p_route_cap caps[] = {{{10, 0}, 1}};
+    p2p_rate rates[4] = {{{0, 0}, {0, 0}, 7}};
+    p2p_hop fault = {7, 7};
+    CHECK(p2p_allocate_routes(weights, 2, hops, 2, caps, 1, rates, 4, &fault) == P2P_NO_SUCH_LINK);
+    CHECK(fault.flow == 1 && fault.link == 5 && rates[0].is_limited == 7);
+    CHECK(p2p_allocate_routes(weights, 1, hops, 2, caps, 1, rates, 4, &fault) == P2P_NO_SUCH_FLOW);
+    CHECK(fault.flow == 1 && fault.link == 5);
+    CHECK(p2p_allocate_routes(weights, 3, hops, 1, caps, 1, rates, 4, &fault) == P2P_NO_WEIGHT);
+    CHECK(fault.flow == 2 && fault.link == 0);
+    const uint64_t heavy[] = {3, 1, 1, UINT64_MAX};
+    const p2p_hop both[] = {{0, 0}, {3, 0}};
+    CHECK(p2p_allocate_routes(heavy, 4, both, 2, caps, 1, rates, 4, &fault) == P2P_TOO_MUCH_WEIGHT);
+    CHECK(fault.flow == 0 && fault.link == 0 && rates[0].is_limited == 7);
+}
+
 static void a_script_prints_what_linkrun_prints(void) {
     static const char script[] = "egress 1 50000\ningress 2 1000\nflow 1 1 2 1\nflow 2 1 3 1\nrates\nrates 7\n";
     static const char wanted[] = "rate 1 1000/1\nrate 2 49000/1\n";
@@ -311,6 +342,8 @@ int main(void) {
     amounts_are_as_long_as_they_are();
     rates_are_max_min_fair();
     a_rate_that_is_no_fraction_is_refused();
+    routes_are_shared_by_weight();
+    routes_that_are_none_are_told();
     a_script_prints_what_linkrun_prints();
     if (failures == 0) puts("c: calls as the header says");
     return failures != 0;

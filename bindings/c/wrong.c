@@ -197,6 +197,27 @@ CALL(uint32_t, p2p_allocate, const p2p_flow *flows, size_t flow_count, const p2p
     return is("too-large-is-told-as-out-of-memory") && status == P2P_NUMBER_TOO_LARGE ? P2P_OUT_OF_MEMORY : status;
 }
 
+CALL(uint32_t, p2p_allocate_routes, const uint64_t *weights, size_t flow_count, const p2p_hop *hops, size_t hop_count,
+     const p2p_route_cap *caps, size_t link_count, p2p_rate *rates, size_t room, p2p_hop *fault) {
+    uint64_t weight[8];
+    p2p_route_cap cap[8];
+    flow_count = flow_count < 8 ? flow_count : 8;
+    link_count = link_count < 8 ? link_count : 8;
+    for (size_t i = 0; i < flow_count; i++) {
+        weight[i] = weights[i];
+        if (is("weights-are-forgotten") && weights[i] != 0) weight[i] = 1;
+    }
+    for (size_t i = 0; i < link_count; i++) {
+        cap[i] = caps[i];
+        if (is("a-weight-widens-its-link")) cap[i].bytes.low *= weights[0];
+        if (is("each-link-has-a-cap")) cap[i].is_some = 1;
+    }
+    if (is("the-last-hops-are-forgotten") && hop_count > 4) hop_count = 2;
+    uint32_t status = __real_p2p_allocate_routes(weight, flow_count, hops, hop_count, cap, link_count, rates, room, fault);
+    if (is("a-fault-is-not-told")) fault->flow = fault->link = 0;
+    return is("no-weight-is-told-as-no-flow") && status == P2P_NO_WEIGHT ? P2P_NO_SUCH_FLOW : status;
+}
+
 CALL(uint32_t, p2p_run, const uint8_t *script, size_t length, uint8_t *out, size_t room, size_t *printed,
      uint64_t *bad_line) {
     uint32_t status = __real_p2p_run(script, length, out, room, printed, bad_line);

@@ -14,8 +14,8 @@ from fractions import Fraction
 
 import p2p_simulated
 from p2p_simulated import BadLine, Closed, Completion, Flow, FlowIdsUsedUp, MomentTooLate, NumberTooLarge, OutOfTurn
-from p2p_simulated import InFlight, Outgoing, State, UnknownPeer, Zeros, allocate, allocate_counted, arrivals
-from p2p_simulated import on_asyncio, planner, run
+from p2p_simulated import InFlight, Outgoing, State, UnknownPeer, Zeros, allocate, allocate_counted, allocate_routes
+from p2p_simulated import arrivals, on_asyncio, planner, run
 from p2p_simulated._library import _lib
 
 
@@ -335,6 +335,19 @@ class Planning(unittest.TestCase):
         self.assertEqual(allocate([Flow(1, 0, 0, False), Flow(2, 0, 1), Flow(2, 0, 2)], {0: 9}, {0: 0, 2: 1}), {1: 4, 2: 1})
         self.assertEqual(allocate_counted(flows, {"a": 50000}, {"b": 1000})[1], 2)
         self.assertRaises(OverflowError, allocate, flows, {"a": 2**128})
+
+    def test_routes_are_shared_by_weight(self):
+        self.assertEqual(allocate_routes([["trunk", "last mile"], ["trunk"], []], {"trunk": 10, "last mile": 4}), [4, 6, None])
+        self.assertEqual(allocate_routes([["a"], ["a", "a"]], {"a": 10}, [1, 2]), [Fraction(10, 3), Fraction(20, 3)])
+        self.assertEqual(allocate_routes([[1, 2], [1], [1]], {1: 12, 2: 3}, [5, 1, 2]), [3, 3, 6])
+        self.assertEqual(allocate_routes([], {}), [])
+        self.assertRaises(ValueError, allocate_routes, [[1], [1]], {1: 1}, [1])
+        self.assertRaises(ValueError, allocate_routes, [[1], [1]], {1: 1}, [1, 0])
+        self.assertRaises(OverflowError, allocate_routes, [[1], [1]], {1: 1}, [1, 2**64 - 1])
+        self.assertRaises(OverflowError, allocate_routes, [[1]], {1: 1}, [2**64])
+        most = 2**128 - 1
+        routes = [[0, 1], [1], [0, 2], [2], [2], [0]]
+        self.assertRaises(NumberTooLarge, allocate_routes, routes, {0: most, 1: 2**127 + 1, 2: 2**127 + 2})
 
     def test_rates_of_128_bits(self):
         most = 2**128 - 1

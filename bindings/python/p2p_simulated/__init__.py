@@ -17,6 +17,7 @@ with its length, and one call at a time uses a scheduler.
 
 from ._library import BadLine, Closed, FlowIdsUsedUp, MomentTooLate, NumberTooLarge, OutOfTurn, Refused, UnknownPeer
 from ._planner import Flow, Rates, allocate, allocate_counted
+from ._routes import allocate_routes
 from ._scheduler import KEEP, Completion, InFlight, Outgoing, State, Zeros, arrivals
 from ._scripts import run
 
@@ -41,6 +42,7 @@ __all__ = [
     "Zeros",
     "allocate",
     "allocate_counted",
+    "allocate_routes",
     "arrivals",
     "run",
 ]

@@ -128,8 +128,17 @@ class _Rate(Structure):
     _fields_ = [("numerator", _Wide), ("denominator", _Wide), ("is_limited", c_uint8)]
 
 
+class _Hop(Structure):
+    _fields_ = [("flow", c_size_t), ("link", c_size_t)]
+
+
+class _RouteCap(Structure):
+    _fields_ = [("bytes", _Wide), ("is_some", c_uint8)]
+
+
 _SIZES = {_Scheduler: 16, _Cap: 16, _Moment: 16, _Wide: 16, _Done: 48, _Flow: 32, _PeerCap: 24, _LinkCap: 32, _Rate: 40}
 _SIZES.update({_Parcel: 56, _Amount: 40, _Flight: 104})
+_SIZES.update({_Hop: 16, _RouteCap: 24})
 for _struct, _size in _SIZES.items():
     if ctypes.sizeof(_struct) != _size:
         raise ImportError(f"{_struct.__name__} is not of {_size} bytes on this machine")
@@ -183,6 +192,19 @@ _declare(
     POINTER(_Rate),
     c_size_t,
     POINTER(_Wide),
+)
+_declare(
+    "p2p_allocate_routes",
+    c_uint32,
+    POINTER(c_uint64),
+    c_size_t,
+    POINTER(_Hop),
+    c_size_t,
+    POINTER(_RouteCap),
+    c_size_t,
+    POINTER(_Rate),
+    c_size_t,
+    POINTER(_Hop),
 )
 _declare("p2p_run", c_uint32, c_char_p, c_size_t, c_void_p, c_size_t, _size_out, POINTER(c_uint64))
 

@@ -197,7 +197,7 @@ fn links_of(
         .collect()
 }
 
-fn rate_of(rate: &raw::Rate) -> Rate {
+pub(crate) fn rate_of(rate: &raw::Rate) -> Rate {
     if rate.is_limited == 0 {
         return Rate::Unlimited;
     }

@@ -2,7 +2,8 @@
 //! function is proved to meet its contract.
 //!
 //! - [`State`] schedules messages between capped peers, and tells when each arrives.
-//! - [`allocate`] and [`allocate_linked`] plan: who sends how fast.
+//! - [`allocate`] and [`allocate_linked`] plan: who sends how fast. [`allocate_routes`] does so over any
+//!   network, and [`allocate_weighted_routes`] by weight.
 //! - [`run`] runs a script, as the program `linkrun` does.
 //!
 //! The proofs end where C begins. This crate upholds what is owed there: each pointer goes with the
@@ -15,6 +16,7 @@ mod held;
 mod payload;
 mod ratio;
 mod raw;
+mod routes;
 mod script;
 mod transmitter;
 
@@ -25,5 +27,6 @@ pub use bandwidth::{
 pub use error::{Error, Turn};
 pub use payload::{Payload, Zeros};
 pub use ratio::Ratio;
+pub use routes::{allocate_routes, allocate_weighted_routes, RouteError};
 pub use script::{run, Outcome};
 pub use transmitter::{Completion, InFlight, Outgoing, Reading, State};

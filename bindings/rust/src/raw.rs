@@ -95,6 +95,20 @@ pub struct LinkCap {
 
 #[repr(C)]
 #[derive(Clone, Copy)]
+pub struct Hop {
+    pub flow: usize,
+    pub link: usize,
+}
+
+#[repr(C)]
+#[derive(Clone, Copy)]
+pub struct RouteCap {
+    pub bytes: Wide,
+    pub is_some: u8,
+}
+
+#[repr(C)]
+#[derive(Clone, Copy)]
 pub struct Rate {
     pub numerator: Wide,
     pub denominator: Wide,
@@ -161,6 +175,8 @@ const _: () = assert!(size_of::<Done>() == 48);
 const _: () = assert!(size_of::<Flow>() == 32);
 const _: () = assert!(size_of::<PeerCap>() == 24);
 const _: () = assert!(size_of::<LinkCap>() == 32);
+const _: () = assert!(size_of::<Hop>() == 16);
+const _: () = assert!(size_of::<RouteCap>() == 24);
 const _: () = assert!(size_of::<Rate>() == 40);
 
 extern "C" {
@@ -236,6 +252,17 @@ extern "C" {
         rates: *mut Rate,
         room: usize,
         rounds: *mut Wide,
+    ) -> u32;
+    pub fn p2p_allocate_routes(
+        weights: *const u64,
+        flow_count: usize,
+        hops: *const Hop,
+        hop_count: usize,
+        caps: *const RouteCap,
+        link_count: usize,
+        rates: *mut Rate,
+        room: usize,
+        fault: *mut Hop,
     ) -> u32;
     pub fn p2p_run(
         script: *const u8,

@@ -2,10 +2,15 @@
 pub mod Allocation
 pub mod Alone
 pub mod Apart
+pub mod ByWeight
+pub mod Copied
 pub mod LinkSides
 pub mod Peers
 pub mod Relabelled
 pub mod Reordered
+pub mod Rising
 pub mod Said
 pub mod Sides
 pub mod Users
+pub mod WeightLaws
+pub mod WeightedRates

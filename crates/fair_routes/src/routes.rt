@@ -8,11 +8,13 @@ ghost use Rattle.fair_routes.specs.Network.Allocation.{IsAllocated, IsCounted, I
 mod error;
 pub mod laws;
 mod sides;
+pub mod weighted;
 
 pub use error::RouteError;
 use fair_rates::bandwidth::{Rate, fair_parts_on};
 use natural::Natural;
 use std::alloc::Global;
+pub use weighted::{WeightError, allocate_weighted_routes};
 
 /// The max-min fair rate of each flow over its route, in the order of the flows.
 ///

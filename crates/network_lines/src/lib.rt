@@ -2,7 +2,7 @@
 //!
 //! A network is two words. The first has the caps of the links, parted by commas, with `-` for none. The
 //! second has the routes of the flows, parted by semicolons, and a route its links, parted by commas. `.`
-//! is a route without links, and `none` a network without flows.
+//! is a route without links, and `none` a network without flows. Weights are one more word, parted by commas.
 #![tactic(auto)]
 
 use std::alloc::{AllocError, Global};
@@ -56,4 +56,15 @@ pub fn routes(alloc: Global, text: &str) -> Result<Vec<Vec<usize>>, Fault> {
         }
     }
     Ok(routes)
+}
+
+/// The weights that a text lists.
+pub fn weights(alloc: Global, text: &str) -> Result<Vec<u64>, Fault> {
+    let mut weights = Vec::new(alloc);
+    if text != "none" {
+        for word in text.split(',') {
+            weights.push(word.parse::<u64>().ok().ok_or(Fault::Word)?)?;
+        }
+    }
+    Ok(weights)
 }

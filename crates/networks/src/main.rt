@@ -2,11 +2,12 @@
 //!
 //! A line has how many times to ask, the caps and the routes, as `network_lines` has them. To it comes
 //! a line with the rates, parted by semicolons, and the number of rounds, or why the flows were refused.
+//! Where weights stand behind the routes, there comes no number of rounds.
 #![tactic(auto)]
 
 mod printing;
 
-use fair_routes::routes::allocate_routes_counted;
+use fair_routes::routes::{allocate_routes_counted, allocate_weighted_routes};
 use network_lines::Fault as LineFault;
 use std::alloc::{AllocError, Global};
 use std::io;
@@ -55,6 +56,17 @@ fn answer<W: Write>(alloc: Global, line: &str, output: &mut W) -> Result<(), Fau
     let times = times.parse::<u32>().ok().ok_or(Fault::Line)?;
     let caps = network_lines::caps(alloc, words.next().ok_or(Fault::Line)?)?;
     let routes = network_lines::routes(alloc, words.next().ok_or(Fault::Line)?)?;
+    if let Some(word) = words.next() {
+        let weights = network_lines::weights(alloc, word)?;
+        for _ in 1..times {
+            let _ = allocate_weighted_routes(alloc, &routes, &weights, &caps);
+        }
+        printing::print_weighted(
+            output,
+            &allocate_weighted_routes(alloc, &routes, &weights, &caps),
+        )?;
+        return Ok(());
+    }
     for _ in 1..times {
         let _ = allocate_routes_counted(alloc, &routes, &caps);
     }

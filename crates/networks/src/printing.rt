@@ -1,6 +1,6 @@
 //! What is printed of a network.
 use fair_rates::bandwidth::Rate;
-use fair_routes::routes::RouteError;
+use fair_routes::routes::{RouteError, WeightError};
 use std::io;
 use std::io::Write;
 
@@ -15,6 +15,22 @@ pub(crate) fn print<W: Write>(
                 print_rate(output, rate)?;
             }
             writeln!(output, " {rounds}")
+        }
+        Err(error) => writeln!(output, "refused: {error}"),
+    }
+}
+
+/// Prints the rates by weight, or the refusal.
+pub(crate) fn print_weighted<W: Write>(
+    output: &mut W,
+    answer: &Result<Vec<Rate>, WeightError>,
+) -> io::Result<()> {
+    match answer {
+        Ok(rates) => {
+            for rate in rates {
+                print_rate(output, rate)?;
+            }
+            writeln!(output)
         }
         Err(error) => writeln!(output, "refused: {error}"),
     }

@@ -4,6 +4,7 @@ pub use Rattle.fair_rates.specs.Sides
 pub use Rattle.fair_rates.specs.Filling
 pub use Rattle.fair_rates.specs.Lists
 pub use Rattle.fair_rates.specs.Refusals
+pub use Rattle.fair_routes.specs.Network
 pub use Rattle.link_simulation.specs.Laws
 pub use Rattle.link_simulation.specs.Simulation
 pub use Rattle.link_simulation.specs.Rule

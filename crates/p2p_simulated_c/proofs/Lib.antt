@@ -1,6 +1,7 @@
 pub mod Boxed
 pub mod Copying
 pub mod Ending
+pub mod Hops
 pub mod Parcels
 pub mod Planning
 pub mod Turns

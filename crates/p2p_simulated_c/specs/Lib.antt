@@ -8,5 +8,6 @@ pub mod Plan
 pub mod Planning
 pub mod Ran
 pub mod Records
+pub mod Routes
 pub mod Turns
 pub mod Written

@@ -12,6 +12,7 @@ pub mod opened;
 pub mod place;
 pub mod planner;
 pub mod records;
+pub mod routes;
 pub mod scheduler;
 pub mod script;
 pub mod status;

@@ -5,3 +5,5 @@
 mod routes;
 #[cfg(test)]
 mod text;
+#[cfg(test)]
+mod weighted;

@@ -1,3 +1,4 @@
 pub mod Lists
 pub mod Senders
+pub mod Trunks
 pub mod Worlds

@@ -6,4 +6,5 @@ pub mod messages;
 pub mod peers;
 pub mod rates;
 pub mod replies;
+pub mod routes;
 pub mod worlds;

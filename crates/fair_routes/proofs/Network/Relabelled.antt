@@ -28,15 +28,21 @@ module _ (of : ℕ → ℕ) (flows : ℕ) (olds news : List Side) (are : AreRela
       All-contains (λ user. user < flows) side.users flow
       (All-contains (λ (s : Side). All (λ user. user < flows) s.users) news side are.below uses.listed) uses.used
 
-  old_limited : (flow : ℕ) → IsLimited news flow → IsLimited olds (of flow)
+  pub old_limited : (flow : ℕ) → IsLimited news flow → IsLimited olds (of flow)
   old_limited flow (side, uses) =
       let old = are.from side uses.listed in
       (old.0, record { listed = old.1; used = old.2.used flow uses.used })
 
-  new_limited : (flow : ℕ) → flow < flows → IsLimited olds (of flow) → IsLimited news flow
+  pub new_limited : (flow : ℕ) → flow < flows → IsLimited olds (of flow) → IsLimited news flow
   new_limited flow inside (side, uses) =
       let new = are.there side uses.listed in
       (new.0, record { listed = new.1; used = new.2.back flow inside uses.used })
+
+  -- a flow has the rate of the old one that it is
+  pub rate_on : (per : ℕ) (parts : ℕ → ℕ) (flow : ℕ) (rate : Rate) → flow < flows → IsRateOf olds per parts (of flow) rate
+      → IsRateOf news per (λ f. parts (of f)) flow rate
+  rate_on per parts flow Unlimited inside none = λ limited. none (old_limited flow limited)
+  rate_on per parts flow (Finite ratio) inside (limited, worth) = (new_limited flow inside limited, worth)
 
   module _ (per : ℕ) (parts : ℕ → ℕ) (fair : IsFair olds per parts) where
     held : (flow : ℕ) → IsLimited news flow → HasBottleneck news per (λ f. parts (of f)) flow

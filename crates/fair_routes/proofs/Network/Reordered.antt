@@ -55,7 +55,7 @@ shifted {X} g place test (x ∷ xs) = by_test (test x) (shifted g (place + 1) te
     by_test false ih = ih
 
 -- the users of a link, where the flows are those that stand at these places
-sum_at : {X : Type 0} (g : ℕ → ℕ) (test : X → Bool) (route : ℕ → X) (order : List ℕ)
+pub sum_at : {X : Type 0} (g : ℕ → ℕ) (test : X → Bool) (route : ℕ → X) (order : List ℕ)
     → sum_by (λ u. g (get_or order u 0)) (places_from 0 test (map route order))
     ≡ sum_by (λ i. cond (test (route i)) (g i) 0) order
 sum_at g test route [] = refl
@@ -105,7 +105,7 @@ sum_agree f g (x ∷ xs) h =
     (arith, sum_by-cons f x xs, sum_by-cons g x xs, h x (inl refl), sum_agree f g xs (λ y among. h y (inr among)))
 
 -- the users of a link, by all flows
-sum_all : {X : Type 0} (g : ℕ → ℕ) (test : X → Bool) (d : X) (xs : List X)
+pub sum_all : {X : Type 0} (g : ℕ → ℕ) (test : X → Bool) (d : X) (xs : List X)
     → sum_by g (places_from 0 test xs)
     ≡ sum_by (λ i. cond (test (get_or xs i d)) (g i) 0) (range_with_len 0 (length xs))
 sum_all {X} g test d xs =
@@ -136,7 +136,7 @@ module _ (caps : List (Option ℕ)) (routes : List (List ℕ)) (order : List ℕ
   abbrev news : List (List ℕ)
   news = map route order
 
-  inside : All (λ i. i < length routes) order
+  pub inside : All (λ i. i < length routes) order
   inside =
       All-permutation (λ i. i < length routes) range order permuted (λ k d within.
       let lt : k < length routes = omega (arith, within, length-range_with_len 0 (length routes)) in
@@ -216,7 +216,7 @@ module _ (caps : List (Option ℕ)) (routes : List (List ℕ)) (order : List ℕ
         side_for is.link old new refl is.users refl,
       )
 
-  relabelled : AreRelabelled of (length order) (sides_over caps routes) (sides_over caps news)
+  pub relabelled : AreRelabelled of (length order) (sides_over caps routes) (sides_over caps news)
   relabelled = record {
     below =
         subst (λ (n : ℕ). HaveUsersBelow n (sides_over caps news)) (length-map order route)

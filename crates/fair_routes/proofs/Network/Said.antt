@@ -5,6 +5,7 @@ use Rattle.std.specs.List.{AllZip, list_any}
 use Rattle.std.proofs.lemmas.Bool.{eqb-true, false≢true}
 use Rattle.std.proofs.lemmas.Bool.Decides.{eqb_tells}
 use Rattle.fair_rates.specs.Fairness.Fair.{Side}
+use Rattle.fair_rates.specs.Fairness.Laws.{AreTheSameSides}
 use Rattle.fair_rates.proofs.Fairness.SameSides.{fairness_is_of_the_set}
 use Rattle.fair_rates.proofs.Lists.Members.{In, from_map, some_or_none, any_fails}
 use Rattle.fair_rates.proofs.Lists.Places.{places_alike}
@@ -116,12 +117,17 @@ module _ (caps others : List (Option ℕ)) (name : ℕ → ℕ) (are : AreRename
         let at = from_map name route.0 on.0 (subst (λ (r : List ℕ). In r on.0) (sym route.2) on.1) in
         back_at side of.link at.0 (at.2 ∙ eqb-true on.0 of.link on.2) of.capped of.used of.users
 
+-- the sides are the same
+pub renamed_sides : (caps others : List (Option ℕ)) (name : ℕ → ℕ) (routes : List (List ℕ)) → AreRenamed caps others name
+    → AreTheSameSides (sides_over caps routes) (sides_over others (map (map name) routes))
+renamed_sides caps others name routes are side = (
+  (λ listed. side_listed others (map (map name) routes) side
+      (there caps others name are routes side (link_side caps routes side listed))),
+  (λ listed. side_listed caps routes side
+      (back caps others name are routes side (link_side others (map (map name) routes) side listed))),
+)
+
 pub the_order_of_links_does_not_matter : OrderOfLinksDoesNotMatter
 the_order_of_links_does_not_matter caps others name routes rates are fair =
     fairness_is_of_the_set (sides_over caps routes) (sides_over others (map (map name) routes)) (length routes) rates
-    (λ side. (
-      (λ listed. side_listed others (map (map name) routes) side
-          (there caps others name are routes side (link_side caps routes side listed))),
-      (λ listed. side_listed caps routes side
-          (back caps others name are routes side (link_side others (map (map name) routes) side listed))),
-    )) fair
+    (renamed_sides caps others name routes are) fair

@@ -1,0 +1,224 @@
+-- Flows are held, one after another, and what they have is multiplied and weighed.
+use Rattle.std.proofs.Common.{◌≡◌, ℕ, ◌+◌, ◌*◌, ◌<◌, ◌≤◌, List, [], ◌∷◌, ◌++◌, All, Contains, Option, Some, None, IsSome}
+use Rattle.std.proofs.Common.{cond, length, map, get_or, set, inl, inr, refl, sym, ap, ◌∙◌, subst, arith}
+use Rattle.std.proofs.Common.{get_or-set_other, get_or-set_same, length-append, mul-le-mul_right, le_of_mul-le-mul_right}
+use Rattle.std.specs.Prelude.{MatchOption, count_by, option_map, unwrap_or}
+use Rattle.std.specs.Option.{is_none}
+use Rattle.std.proofs.Math.ListN.{length-set, get_or-map as get_or_map}
+use Rattle.std.proofs.lemmas.Bool.{cases_eq}
+use Rattle.std.proofs.lemmas.List.{get_or_push, get_or_append_left}
+use Rattle.std.proofs.lemmas.List.Elements.{All-nil, All-push, All-weaker, Contains-push, Contains-append_left}
+use Rattle.std.proofs.lemmas.List.Sums.{sum_by-set}
+use Rattle.fair_rates.specs.Fairness.Fair.{Side}
+use Rattle.fair_rates.proofs.Filling.Growing.{AreScaled}
+use Rattle.fair_rates.proofs.Filling.Frozen.{none_or_some, some_is, not_some}
+use Rattle.fair_routes.specs.Network.Rising.{frozen_in, rising_weight, slack_of, AreAllHeld, HasLeastRoom, IsLesser, HasFrozen}
+use Rattle.fair_routes.specs.declared.routes.weighted.room.Room.{Room}
+
+-- nobody was to be held
+pub frozen_none : (parts : List (Option ℕ)) (share : ℕ) → HasFrozen [] parts parts share
+frozen_none parts share = record {
+  one_each = refl;
+  all = All-nil (λ user. IsSome (frozen_in parts user));
+  kept = λ flow p e. e;
+  fresh = λ flow p none e. cc;
+  fewer = λ flow none some. absurd (not_some (frozen_in parts flow) none some);
+}
+
+module _ (mid : List (Option ℕ)) (user share : ℕ) (inside : user < length mid) where
+  abbrev after : List (Option ℕ)
+  after = set mid user (Some (unwrap_or (frozen_in mid user) share))
+
+  there : frozen_in after user ≡ Some (unwrap_or (frozen_in mid user) share)
+  there = get_or-set_same mid user (Some (unwrap_or (frozen_in mid user) share)) None inside
+
+  there_none : frozen_in mid user ≡ None → frozen_in after user ≡ Some share
+  there_none e = there ∙ ap (λ o. Some (unwrap_or o share)) e
+
+  there_some : (parts : ℕ) → frozen_in mid user ≡ Some parts → frozen_in after user ≡ Some parts
+  there_some parts e = there ∙ ap (λ o. Some (unwrap_or o share)) e
+
+  elsewhere : (flow : ℕ) → ¬ (flow ≡ user) → frozen_in after flow ≡ frozen_in mid flow
+  elsewhere flow other =
+      get_or-set_other mid user flow (Some (unwrap_or (frozen_in mid user) share)) None other
+
+  counted : count_by is_none after + cond (is_none (frozen_in mid user)) 1 0 ≡ count_by is_none mid
+  counted = omega
+      (arith, sum_by-set (λ o. cond (is_none o) 1 0) mid user (Some (unwrap_or (frozen_in mid user) share)) None inside)
+
+  one_less : frozen_in mid user ≡ None → count_by is_none after < count_by is_none mid
+  one_less e = omega (arith, counted, ap {B = ℕ} (λ (o : Option ℕ). cond (is_none o) 1 0) e)
+
+  pub no_more_held : count_by is_none after ≤ count_by is_none mid
+  no_more_held = omega (arith, counted)
+
+  -- one more is held
+  module _ (before : List (Option ℕ)) (users : List ℕ) (frozen : HasFrozen users before mid share)
+      (no_more : count_by is_none mid ≤ count_by is_none before) where
+    all_held : (flow : ℕ) → IsSome (frozen_in mid flow) → IsSome (frozen_in after flow)
+    all_held flow some = elim (cases_eq flow user) [
+      | inl same ↦ subst (λ n. IsSome (frozen_in after n)) (sym same) (some_is _ _ there)
+      | inr other ↦ subst (λ o. IsSome o) (sym (elsewhere flow other)) some
+    ]
+
+    kept : (flow parts : ℕ) → frozen_in before flow ≡ Some parts → frozen_in after flow ≡ Some parts
+    kept flow parts e =
+        let was = frozen.kept flow parts e in
+        elim (cases_eq flow user) [
+          | inl same ↦ ap (frozen_in after) same ∙ there_some parts (sym (ap (frozen_in mid) same) ∙ was)
+          | inr other ↦ elsewhere flow other ∙ was
+        ]
+
+    fresh : (flow parts : ℕ) → frozen_in before flow ≡ None → frozen_in after flow ≡ Some parts
+        → (parts ≡ share) × Contains (users ++ user ∷ []) flow
+    fresh flow parts none e = elim (cases_eq flow user) [
+      | inr other ↦
+          let was = frozen.fresh flow parts none (sym (elsewhere flow other) ∙ e) in
+          (was.0, Contains-append_left users (user ∷ []) flow was.1)
+      | inl same ↦
+          let now : frozen_in after user ≡ Some parts = sym (ap (frozen_in after) same) ∙ e in
+          let has : Contains (users ++ user ∷ []) flow =
+          subst (λ n. Contains (users ++ user ∷ []) n) (sym same) (Contains-push users user) in
+          elim (none_or_some (frozen_in mid user)) [
+            | inl still ↦ let given = there_none still in (cc, has)
+            | inr (p, held) ↦
+                let given = there_some p held in
+                let was = frozen.fresh flow p none (ap (frozen_in mid) same ∙ held) in
+                let equal = was.0 in
+                (cc, has)
+          ]
+    ]
+
+    fewer : (flow : ℕ) → frozen_in before flow ≡ None → IsSome (frozen_in after flow)
+        → count_by is_none after < count_by is_none before
+    fewer flow none some = elim (none_or_some (frozen_in mid user)) [
+      | inl still ↦ omega (arith, one_less still, no_more)
+      | inr (p, held) ↦
+          let was : IsSome (frozen_in mid flow) = elim (cases_eq flow user) [
+            | inl same ↦ subst (λ n. IsSome (frozen_in mid n)) (sym same) (some_is _ _ held)
+            | inr other ↦ subst (λ o. IsSome o) (elsewhere flow other) some
+          ] in
+          omega (arith, frozen.fewer flow none was, no_more_held)
+    ]
+
+    pub frozen_more : HasFrozen (users ++ user ∷ []) before after share
+    frozen_more = record {
+      one_each = length-set mid user (Some (unwrap_or (frozen_in mid user) share)) ∙ frozen.one_each;
+      all = All-push (λ flow. IsSome (frozen_in after flow)) users user
+          (λ k d within. all_held (get_or users k d) (frozen.all k d within)) (some_is _ _ there);
+      kept = kept;
+      fresh = fresh;
+      fewer = fewer;
+    }
+
+-- no more than its weight rises
+pub no_more_weight : (o : Option ℕ) (weight : ℕ) → cond (is_none o) weight 0 ≤ weight
+no_more_weight None weight = omega arith
+no_more_weight (Some parts) weight = omega arith
+
+-- ---- all are multiplied
+
+-- by one all are what they were
+pub multiplied_once : (factor : ℕ) → factor ≡ 1 → (parts : List (Option ℕ))
+    → parts ≡ map (option_map (λ n. n * factor)) parts
+multiplied_once factor one [] = refl
+multiplied_once factor one (o ∷ parts) = λ i. same o i ∷ multiplied_once factor one parts i
+  where
+    same : (o : Option ℕ) → o ≡ option_map (λ n. n * factor) o
+    same None = refl
+    same (Some n) = ap Some (omega (arith, ap (λ k. n * k) one))
+
+-- each flow that is held has so many times as much
+pub all_multiplied : (factor : ℕ) (parts now : List (Option ℕ)) → now ≡ map (option_map (λ n. n * factor)) parts
+    → AreScaled factor (frozen_in parts) (frozen_in now)
+all_multiplied factor parts now are = record {
+  each = λ flow.
+      ap (λ xs. frozen_in xs flow) are
+      ∙ get_or_map (option_map (λ n. n * factor)) parts flow None;
+}
+
+-- ---- one after another is weighed
+
+-- what holds of each element, and of one more at the end
+pub pushed : {X : Type 0} (Holds : ℕ → X → Type 0) (d : X) (xs : List X) (x : X) (n : ℕ) → length xs ≡ n
+    → ((k : ℕ) → k < n → Holds k (get_or xs k d)) → Holds n x
+    → (k : ℕ) → k < n + 1 → Holds k (get_or (xs ++ x ∷ []) k d)
+pushed Holds d xs x n len all here k inside = elim (cases_eq k n) [
+  | inl same ↦ subst (λ j. Holds j (get_or (xs ++ x ∷ []) j d)) (sym same)
+      (subst (Holds n) (sym (get_or_push xs x d n len)) here)
+  | inr other ↦
+      let within : k < n = omega (arith, inside) in
+      subst (Holds k) (sym (get_or_append_left xs (x ∷ []) d k (omega (arith, within, len)))) (all k within)
+]
+
+-- ---- the least room of one side after another
+
+-- what is no more than another for each one of weight is no more than what that is no more than
+cross : (a p b q c u : ℕ) → 0 < q → a * q ≤ b * p → b * u ≤ c * q → a * u ≤ c * p
+cross a p b q c u some first second =
+    le_of_mul-le-mul_right (omega (arith, mul-le-mul_right u first, mul-le-mul_right p second)) some
+
+module _ (weights : List ℕ) (scale : ℕ) (frozen : ℕ → Option ℕ) where
+  abbrev pub IsLeastOf : List Side → Option Room → Type 0
+  IsLeastOf sides least =
+      MatchOption least (AreAllHeld weights frozen sides) (HasLeastRoom weights scale frozen sides)
+
+  module _ (passed : List Side) (side : Side) (room : Room) (place : room.place ≡ length passed)
+      (slack : room.slack ≡ slack_of weights scale frozen side)
+      (weight : room.weight ≡ rising_weight weights frozen side.users) where
+    abbrev Covers : Room → Side → Type 0
+    Covers least other =
+        least.slack * rising_weight weights frozen other.users ≤ slack_of weights scale frozen other * least.weight
+
+    itself : Covers room side
+    itself = omega (arith, ap (λ n. room.slack * n) weight, ap (λ n. n * room.weight) slack)
+
+    taken : 0 < room.weight → All (Covers room) passed → HasLeastRoom weights scale frozen (passed ++ side ∷ []) room
+    taken some covers = record {
+      inside = omega (arith, place, length-append {A = Side} passed (side ∷ []));
+      slack = λ d. slack ∙ sym (ap (slack_of weights scale frozen) (get_or_push passed side d room.place (sym place)));
+      weight = λ d. weight
+          ∙ sym (ap (λ (s : Side). rising_weight weights frozen s.users)
+          (get_or_push passed side d room.place (sym place)));
+      some = some;
+      least = All-push (Covers room) passed side covers itself;
+    }
+
+    stays : (least : Room) → HasLeastRoom weights scale frozen passed least
+        → least.slack * room.weight ≤ room.slack * least.weight
+        → HasLeastRoom weights scale frozen (passed ++ side ∷ []) least
+    stays least has less = record {
+      inside = omega (arith, has.inside, length-append {A = Side} passed (side ∷ []));
+      slack = λ d. has.slack d
+          ∙ sym (ap (slack_of weights scale frozen) (get_or_append_left passed (side ∷ []) d least.place has.inside));
+      weight = λ d. has.weight d
+          ∙ sym (ap (λ (s : Side). rising_weight weights frozen s.users)
+          (get_or_append_left passed (side ∷ []) d least.place has.inside));
+      some = has.some;
+      least = All-push (Covers least) passed side has.least
+          (omega (arith, less, ap (λ n. least.slack * n) weight, ap (λ n. n * least.weight) slack));
+    }
+
+    none_covers : AreAllHeld weights frozen passed → All (Covers room) passed
+    none_covers held =
+        All-weaker (λ (s : Side). rising_weight weights frozen s.users ≡ 0) (Covers room)
+        (λ s zero. omega (arith, ap (λ n. room.slack * n) zero)) passed held
+
+    less_covers : (least : Room) → HasLeastRoom weights scale frozen passed least
+        → room.slack * least.weight < least.slack * room.weight → All (Covers room) passed
+    less_covers least has less =
+        All-weaker (Covers least) (Covers room)
+        (λ s covers. cross room.slack room.weight least.slack least.weight (slack_of weights scale frozen s)
+        (rising_weight weights frozen s.users) has.some (omega (arith, less)) covers) passed has.least
+
+    pub least_more : (least result : Option Room) → IsLeastOf passed least → IsLesser least room result
+        → IsLeastOf (passed ++ side ∷ []) result
+    least_more None result was (inl (is, some, less)) =
+        subst (IsLeastOf (passed ++ side ∷ [])) (sym is) (taken some (none_covers was))
+    least_more (Some least) result was (inl (is, some, less)) =
+        subst (IsLeastOf (passed ++ side ∷ [])) (sym is) (taken some (less_covers least was less))
+    least_more None result was (inr (is, zero)) =
+        subst (IsLeastOf (passed ++ side ∷ [])) (sym is)
+        (All-push (λ (s : Side). rising_weight weights frozen s.users ≡ 0) passed side was (sym weight ∙ zero))
+    least_more (Some least) result was (inr (is, less)) =
+        subst (IsLeastOf (passed ++ side ∷ [])) (sym is) (stays least was less)

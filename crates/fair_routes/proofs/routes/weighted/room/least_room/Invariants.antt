@@ -1,0 +1,10 @@
+use Rattle.std.proofs.Common.{map, take}
+use Rattle.std.specs.Prelude.{MatchOption}
+use Rattle.fair_rates.specs.Sides.SideOf.{side_of}
+use Rattle.fair_routes.specs.Network.Rising.{frozen_in, AreAllHeld, HasLeastRoom}
+use Rattle.fair_routes.proofs.routes.weighted.room.least_room.Given as goal
+
+abbrev pub invariant-loop-place : goal.invariant-loop-place
+invariant-loop-place l = MatchOption l.least
+    (AreAllHeld l.weights (frozen_in l.parts) (map side_of (take l.place l.sides)))
+    (HasLeastRoom l.weights l.scale (frozen_in l.parts) (map side_of (take l.place l.sides)))

@@ -1,0 +1,9 @@
+use Rattle.std.proofs.Common.{◌≡◌, ◌<◌, ◌^◌, sum_by, take}
+use Rattle.fair_routes.specs.Network.Weights.{weight_at}
+use Rattle.fair_routes.proofs.routes.weighted.weight_together.Given as goal
+
+abbrev pub invariant-loop-user : goal.invariant-loop-user
+invariant-loop-user l = record {
+  sum : l.together ≡ sum_by (weight_at l.weights) (take l.user-index l.users);
+  fits : l.together < 2 ^ 64;
+}

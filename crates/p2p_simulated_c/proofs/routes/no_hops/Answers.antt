@@ -1,0 +1,23 @@
+use Rattle.std.proofs.Common.{[], ◌∷◌, ◌≡◌, ◌++◌, ℕ, List, ap, ◌∙◌, map, replicate, arith}
+use Rattle.std.specs.declared.alloc.Global.{Global}
+use Rattle.std.specs.declared.vec.Vec.{Vec}
+use Rattle.std.proofs.lemmas.List.{map-append, replicate-append-replicate}
+use Rattle.p2p_simulated_c.specs.Routes.{lists}
+use Rattle.p2p_simulated_c.proofs.Hops.{routes_none}
+use Rattle.p2p_simulated_c.proofs.routes.no_hops.Goals as goal
+
+pub loop-init : goal.loop-init
+loop-init c = ap (λ (vs : List (Vec ℕ Global)). lists vs) c.in_ok-routes.ensures.items
+
+pub loop-preserved : goal.loop-preserved
+loop-preserved c =
+    let items : Vec ℕ Global → List ℕ = λ v. v.items in
+    ap (map items) c.in_ok-push.ensures.items ∙ map-append items c.loop.routes.items (c.new.result ∷ [])
+    ∙ ap (λ xs. xs ++ c.new.result.items ∷ []) c.loop.invariant
+    ∙ ap (λ (x : List ℕ). replicate c.loop.counter [] ++ x ∷ []) c.new.ensures.items
+    ∙ replicate-append-replicate c.loop.counter 1 []
+
+pub returns : goal.returns
+returns c =
+    let all : c.loop.counter ≡ c.args.flows = omega arith in
+    c.loop.invariant ∙ ap (λ (n : ℕ). let none : List ℕ = [] in replicate n none) all ∙ routes_none c.args.flows
