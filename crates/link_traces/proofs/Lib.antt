@@ -1,2 +1,4 @@
 pub mod Ranges
+pub mod Reading
+pub mod Replying
 pub mod Tracing

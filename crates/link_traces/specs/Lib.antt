@@ -1,1 +1,5 @@
+pub mod Checker
+pub mod Lines
+pub mod Progress
 pub mod Trace
+pub mod Turns

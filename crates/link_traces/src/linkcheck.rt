@@ -1,32 +1,36 @@
 //! Whether a trace is what the simulation does: the calls of a scheduler, and the lines that
 //! another simulator answered to each.
-ghost use Rattle.std.specs.Prelude.{◌≡◌, IfOk, IfSome, OnOk, Some};
-ghost use Rattle.link_traces.specs.Trace.{IsTranscript, IsWithinTolerance, IsHeadedTranscript, IsClosed, IsAgreed};
-ghost use Rattle.link_traces.specs.Trace.{fault_text, verdict_status};
+ghost use Rattle.std.specs.Prelude.{◌≡◌, ℕ, [], IfOk, IfSome, Some, None, Ok};
+ghost use Rattle.std.specs.Io.Buffered.{reader_remaining};
+ghost use Rattle.std.specs.Io.KnownBytes.{Consumes, IsAtEnd};
+ghost use Rattle.link_traces.specs.Lines.{taken};
+ghost use Rattle.link_traces.specs.Checker.{IsUnderway};
+ghost use Rattle.link_traces.specs.Trace.{IsAgreed, IsAllowed, fault_text, verdict_status};
 
 mod asked;
-mod calls;
+mod checker;
 pub mod difference;
+pub mod in_turn;
+mod lines;
+mod progress;
+pub mod report;
 mod said;
 mod tolerance;
-mod transcript;
 
-use crate::linkcheck::difference::Difference;
-use fair_rates::error::Error;
-use link_scheduler::replay::{Reply, replay};
+use crate::linkcheck::checker::Checker;
+use crate::linkcheck::report::{Report, Verdict};
+use link_scripts::linkrun::line::{LineEnd, MOST_READ};
 use std::alloc::Global;
-use std::io::{Read, Write};
+use std::io::{BufReader, Read, Write};
 use std::{fmt, io};
 
-/// What is said of a trace.
-#[derive(Drop)]
-pub enum Verdict {
-    /// Each line that was said is what the simulation says.
-    Agrees,
-    /// Each is so, but that moments are off, by no more than so many nanoseconds.
-    Within(u64),
-    /// The first line that is off by more than the tolerance, or that is not said by both.
-    Differs(Difference),
+/// Which calls a trace may have.
+#[derive(Clone, Copy, Debug, PartialEq, Eq)]
+pub enum Turns {
+    /// Calls at any moments. From the first one out of turn on the event rule says what is right.
+    Any,
+    /// Calls in turn alone.
+    InTurn,
 }
 
 /// Why there is no verdict.
@@ -54,104 +58,91 @@ impl fmt::Display for Fault {
 }
 
 /// The status with which a program ends.
-pub fn status(verdict: &Result<Verdict, Fault>) -> u8
-    ensures { result ≡ verdict_status verdict.now }
+pub fn status(report: &Result<Report, Fault>) -> u8
+    ensures { result ≡ verdict_status report.now }
 {
-    match verdict {
-        Ok(Verdict::Agrees | Verdict::Within(_)) => 0,
-        Ok(Verdict::Differs(_)) => 3,
+    match report {
+        Ok(report) => report.verdict.status(),
         Err(Fault::InputOutput | Fault::NoMemory) => 1,
         Err(Fault::BadLine(_)) => 2,
     }
 }
 
-impl From<Error> for Fault {
-    fn from(_error: Error) -> Fault {
-        Fault::NoMemory
-    }
-}
-
-/// A list in memory is all that is written to.
-impl From<io::Error> for Fault {
-    fn from(_error: io::Error) -> Fault {
-        Fault::NoMemory
-    }
-}
-
-/// Compares a trace with what the simulation does. Each line of it ends with byte 10.
+/// Compares the trace that `input` gives with what the simulation does, line by line.
 ///
-/// The calls of the trace are made in order on a new scheduler, and each is answered as the
-/// simulation answers. Where a moment that was said is off by at most `tolerance` nanoseconds, the
-/// line is passed over.
+/// Each call of the trace is made in its order on a new scheduler, and the lines after it have to be
+/// what the simulation answers. Its first line may be `tolerance N`, with a number N of nanoseconds:
+/// a moment that is said may be off by so much, and without that line none may. The last line may lack
+/// its end byte. Of the trace no more is kept than a line, of the simulation its scheduler and what
+/// one call is answered.
 ///
-/// - `BadLine` where a line is neither a call of the scheduler nor a line that answers one, or
-///   where the last one lacks its end byte.
-/// - `NoMemory` where there is none for the calls, the replies or the verdict.
-pub fn check(alloc: Global, trace: &[u8], tolerance: u64) -> Result<Verdict, Fault>
-    ensures agrees { IfOk result (λ verdict. verdict ≡ Verdict.Agrees → IsTranscript trace.now) }
-    ensures within { IfOk result (λ verdict. IsWithinTolerance verdict tolerance) }
-{
-    let asked = asked::read_calls(alloc, trace)?;
-    let calls = calls::calls(alloc, &asked)?;
-    let replies = replay(alloc, &calls)?;
-    let simulated = transcript::transcript(alloc, &asked, &replies)?;
-    if trace == simulated.as_slice() {
-        return Ok(Verdict::Agrees);
-    }
-    if lacked_memory(&replies) {
-        return Err(Fault::NoMemory);
-    }
-    difference::compare(alloc, trace, &simulated, tolerance)
-}
-
-/// Reads the trace that `input` gives to its end, and prints the verdict on `output`, in one line.
-///
-/// Its first line may be `tolerance N`, with a number N of nanoseconds; without it there is none.
-/// The last line may lack its end byte. Lines are counted from the first one that is read.
+/// The verdict is `Agrees` or `Within` only where there is a call, and the trace says all that its
+/// calls are answered. `calls` and `completions` of the report say how much that is.
 ///
 /// - `BadLine` where a line is neither a call of the scheduler nor a line that answers one.
-/// - `InputOutput` where a read, a write or the flush failed.
-/// - `NoMemory` where there is none for the trace, the calls, the replies or the verdict.
-pub fn run<R: Read, W: Write>(
-    alloc: Global,
-    input: &mut R,
-    output: &mut W,
-) -> Result<Verdict, Fault>
-    ensures agrees { IfOk result (λ verdict.
-        verdict ≡ Verdict.Agrees → IfSome (R.remaining input.old) IsAgreed) }
+/// - `InputOutput` where a read failed. A read that was interrupted is made again. It comes also after
+///   2^64 - 1 lines or completions, which no trace has.
+/// - `NoMemory` where there is none for a line or for what a call is answered, or where the simulation
+///   was refused a call for want of memory and the trace says something else.
+pub fn check<R: Read>(alloc: Global, input: &mut R, turns: Turns) -> Result<Report, Fault>
+    ensures agrees { IfOk result (λ report. report.verdict ≡ Verdict.Agrees
+        → IfSome (R.remaining input.old) (λ bytes. IsAgreed bytes report)) }
+    ensures within { IfOk result (λ report. (off : ℕ) → report.verdict ≡ Verdict.Within off
+        → IfSome (R.remaining input.old) (λ bytes. IsAllowed bytes off)) }
+    ensures in_turn { IfOk result (λ report. turns ≡ Turns.InTurn → report.verdict ≡ Verdict.Agrees
+        → report.out_of_turn ≡ None) }
 {
-    let text = read(alloc, input)?;
-    let verdict = judge(alloc, &text)?;
-    match print(output, &verdict) {
-        Ok(()) => Ok(verdict),
-        Err(_) => Err(Fault::InputOutput),
-    }
+    let Ok(mut line) = Vec::with_capacity(alloc, MOST_READ) else {
+        return Err(Fault::NoMemory);
+    };
+    let Ok(mut reader) = BufReader::new(alloc, input) else {
+        return Err(Fault::NoMemory);
+    };
+    let mut checker = Checker::new(alloc, turns);
+    check_lines(&mut checker, &mut reader, &mut line)
 }
 
-/// Reads to the end. Where the last line lacks its end byte, that one is there too.
-#[tactic(auto, using(crate::proofs::Tracing::closed_of_known))]
-fn read<R: Read>(alloc: Global, input: &mut R) -> Result<Vec<u8>, Fault>
-    ensures { IfOk result (λ text. IfSome (R.remaining input.old) (IsClosed text.items)) }
+/// Compares the lines of a trace up to its end, or to the first that differs. `line` is room for one.
+fn check_lines<R: Read>(
+    checker: &mut Checker,
+    input: &mut BufReader<R>,
+    line: &mut Vec<u8>,
+) -> Result<Report, Fault>
+    requires { IsUnderway [] checker.old }
+    ensures agrees { IfOk result (λ report. report.verdict ≡ Verdict.Agrees
+        → IfSome (reader_remaining R.remaining input.old) (λ bytes. IsAgreed bytes report)) }
+    ensures within { IfOk result (λ report. (off : ℕ) → report.verdict ≡ Verdict.Within off
+        → IfSome (reader_remaining R.remaining input.old) (λ bytes. IsAllowed bytes off)) }
+    ensures in_turn { IfOk result (λ report. checker.old.turns ≡ Turns.InTurn → report.verdict ≡ Verdict.Agrees
+        → report.out_of_turn ≡ None) }
 {
-    let mut text = Vec::new(alloc);
-    match input.read_to_end(&mut text) {
-        Ok(_) => (),
-        Err(error) => return Err(fault_of(&error)),
+    for _ in 0..u64::MAX {
+        let end = read(input, line)?;
+        if end == LineEnd::TooLong {
+            return Err(Fault::BadLine(checker.next_number()));
+        }
+        if end == LineEnd::Input && line.is_empty() {
+            return checker.conclude();
+        }
+        if let Some(report) = checker.take(line)? {
+            return Ok(report);
+        }
+        if end == LineEnd::Input {
+            return checker.conclude();
+        }
     }
-    close(&mut text)?;
-    Ok(text)
+    Err(Fault::InputOutput)
 }
 
-/// Gives the last line its end byte, where it lacks that.
-fn close(text: &mut Vec<u8>) -> Result<(), Fault>
-    ensures { OnOk result (IsClosed text.new.items text.old.items) }
+/// Reads the next line.
+fn read<R: Read>(input: &mut BufReader<R>, line: &mut Vec<u8>) -> Result<LineEnd, Fault>
+    ensures taken { IfOk result (λ end. Consumes (reader_remaining R.remaining input.old)
+        (reader_remaining R.remaining input.new) (taken end line.new.items)) }
+    ensures end { result ≡ Ok LineEnd.Input → IsAtEnd (reader_remaining R.remaining input.new) }
 {
-    if text.is_empty() || text.ends_with(&[asked::NEWLINE]) {
-        return Ok(());
-    }
-    match text.push(asked::NEWLINE) {
-        Ok(()) => Ok(()),
-        Err(_) => Err(Fault::NoMemory),
+    match lines::next_line(input, line) {
+        Ok(end) => Ok(end),
+        Err(error) => Err(fault_of(&error)),
     }
 }
 
@@ -163,40 +154,26 @@ fn fault_of(error: &io::Error) -> Fault {
     }
 }
 
-/// Compares the trace with the simulation, within the tolerance that the first line may set.
-fn judge(alloc: Global, text: &[u8]) -> Result<Verdict, Fault>
-    ensures { IfOk result (λ verdict. verdict ≡ Verdict.Agrees → IsHeadedTranscript text.now) }
+/// Does what `check` does, and prints the report on `output`: one line, and before it one that names
+/// the first call out of turn, if there is one.
+///
+/// Its errors are those of `check`, and `InputOutput` where a write or the flush failed.
+pub fn run<R: Read, W: Write>(
+    alloc: Global,
+    input: &mut R,
+    output: &mut W,
+    turns: Turns,
+) -> Result<Report, Fault>
+    ensures agrees { IfOk result (λ report. report.verdict ≡ Verdict.Agrees
+        → IfSome (R.remaining input.old) (λ bytes. IsAgreed bytes report)) }
+    ensures within { IfOk result (λ report. (off : ℕ) → report.verdict ≡ Verdict.Within off
+        → IfSome (R.remaining input.old) (λ bytes. IsAllowed bytes off)) }
+    ensures in_turn { IfOk result (λ report. turns ≡ Turns.InTurn → report.verdict ≡ Verdict.Agrees
+        → report.out_of_turn ≡ None) }
 {
-    let (tolerance, trace) = tolerance::split(alloc, text)?;
-    let before = u64::from(tolerance.is_some());
-    match check(alloc, trace, tolerance.unwrap_or(0)) {
-        Ok(verdict) => Ok(after(verdict, before)),
-        Err(Fault::BadLine(line)) => Err(Fault::BadLine(line.saturating_add(before))),
-        Err(fault) => Err(fault),
+    let report = check(alloc, input, turns)?;
+    match report.print(output) {
+        Ok(()) => Ok(report),
+        Err(_) => Err(Fault::InputOutput),
     }
-}
-
-/// The same verdict, with so many lines before the trace.
-fn after(verdict: Verdict, lines: u64) -> Verdict
-    ensures { result ≡ Verdict.Agrees → verdict ≡ Verdict.Agrees }
-{
-    match verdict {
-        Verdict::Differs(difference) => Verdict::Differs(difference.after(lines)),
-        verdict => verdict,
-    }
-}
-
-/// Prints the verdict, and flushes it.
-fn print<W: Write>(output: &mut W, verdict: &Verdict) -> io::Result<()> {
-    match verdict {
-        Verdict::Agrees => writeln!(output, "agrees")?,
-        Verdict::Within(off) => writeln!(output, "agrees within {off}")?,
-        Verdict::Differs(difference) => difference.print(output)?,
-    }
-    output.flush()
-}
-
-/// Whether a call was refused for want of memory.
-fn lacked_memory(replies: &[Reply<u64>]) -> bool {
-    replies.iter().any(|reply| matches!(reply, Reply::Refused(Error::OutOfMemory)))
 }

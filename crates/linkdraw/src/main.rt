@@ -1,12 +1,66 @@
-//! Draws the run of the script on standard input, as one SVG on standard output.
+//! Draws the run of a script, as one SVG on standard output.
 #![tactic(auto)]
 
+mod arguments;
+
+use crate::arguments::{HELP, Task, VERSION, read_arguments};
 use link_pictures::linkdraw;
 use link_scripts::linkrun::Outcome;
+use std::fs::File;
+use std::io::{IsTerminal, Read};
 use std::process::ExitCode;
 
+/// The status after a word that is no option.
+const USAGE: u8 = 64;
+
 fn main(rt: HostRuntime) -> ExitCode {
-    let outcome = linkdraw::run(rt.alloc(), &mut rt.stdin(), &mut rt.stdout());
+    match read_arguments(&rt) {
+        Err(_) => {
+            let _ = rt.eprintln(Outcome::NoMemory);
+            ExitCode::FAILURE
+        }
+        Ok(Task::Help) => print(&rt, HELP),
+        Ok(Task::Version) => print(&rt, VERSION),
+        Ok(Task::Unknown(word)) => {
+            let _ = eprintln!(rt; "linkdraw: `{word}` is not known: see linkdraw --help");
+            ExitCode::from(USAGE)
+        }
+        Ok(Task::Standard) => draw_standard_input(&rt),
+        Ok(Task::File(name)) => draw_file(&rt, &name),
+    }
+}
+
+/// Prints a text.
+fn print(rt: &HostRuntime, text: &str) -> ExitCode {
+    match rt.println(text) {
+        Ok(()) => ExitCode::SUCCESS,
+        Err(_) => ExitCode::FAILURE,
+    }
+}
+
+/// Draws the script in a file.
+fn draw_file(rt: &HostRuntime, name: &str) -> ExitCode {
+    match File::open(rt, name) {
+        Ok(mut file) => draw(rt, &mut file),
+        Err(error) => {
+            let _ = eprintln!(rt; "linkdraw: {name}: {error}");
+            ExitCode::FAILURE
+        }
+    }
+}
+
+/// Draws the script on standard input. Says so where a terminal is that.
+fn draw_standard_input(rt: &HostRuntime) -> ExitCode {
+    let mut input = rt.stdin();
+    if input.is_terminal() {
+        let _ = rt.eprintln("linkdraw: reads a script from this terminal, to its end (Ctrl-D)");
+    }
+    draw(rt, &mut input)
+}
+
+/// Draws a script.
+fn draw<R: Read>(rt: &HostRuntime, input: &mut R) -> ExitCode {
+    let outcome = linkdraw::run(rt.alloc(), input, &mut rt.stdout());
     if outcome != Outcome::Whole {
         let _ = rt.eprintln(outcome);
     }

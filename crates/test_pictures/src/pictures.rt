@@ -41,6 +41,24 @@ fn a_row_for_each_pair_and_cap(rt: HostRuntime) {
     expect(&rt, script, Outcome::Whole, &parts);
 }
 
+/// The message is done after half a second, and nothing else happens up to the last moment.
+#[test]
+fn time_ends_at_the_last_arrival(rt: HostRuntime) {
+    let script =
+        "limit 0 1 1000 -\nenqueue 0 1 2 7 500 500000000 1\nadvance 18446744073709551615\n";
+    let parts = ["<svg", "M220 216V172H1020V216z", "1 message<", "</svg>"];
+    expect(&rt, script, Outcome::Whole, &parts);
+}
+
+/// No cap lets the message go on after a second: that stands for a quarter of the time before.
+#[test]
+fn what_is_in_flight_at_the_end_is_shown_for_a_while(rt: HostRuntime) {
+    let script = "limit 0 1 1000 -\nenqueue 0 1 2 7 5000 0 1\nlimit 1000000000 1 0 -\n\
+advance 18446744073709551615\n";
+    let parts = ["<svg", "M220 216V172H1500V216z", "1 message<", "</svg>"];
+    expect(&rt, script, Outcome::Whole, &parts);
+}
+
 #[test]
 fn a_bad_line_draws_nothing(rt: HostRuntime) {
     expect(&rt, "limit 0 1 1000 -\nrun 1\n", Outcome::BadLine(2), &[]);

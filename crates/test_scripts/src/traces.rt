@@ -1,5 +1,6 @@
 //! Traces that agree, and a fault in each kind of line.
-use link_traces::linkcheck::{Fault, Verdict, run, status};
+use link_traces::linkcheck::report::Verdict;
+use link_traces::linkcheck::{Fault, Turns, run, status};
 use std::alloc::{AllocError, Global};
 use std::io;
 use std::io::{ErrorKind, Read, Write};
@@ -27,16 +28,28 @@ next
 next -";
 
 /// Runs a trace over memory. Answers the status.
-fn status_of(alloc: Global, trace: &[u8], output: &mut Vec<u8>) -> u8 {
+fn status_of(alloc: Global, trace: &[u8], output: &mut Vec<u8>, turns: Turns) -> u8 {
     let mut input = trace;
-    let verdict = run(alloc, &mut input, output);
-    status(&verdict)
+    let report = run(alloc, &mut input, output, turns);
+    status(&report)
 }
 
 /// Runs a trace over memory, and compares what is printed and the status.
 fn expect(rt: &(impl Abort + AllocGlobal), trace: &str, printed: &str, wanted: u8) {
+    expect_of(rt, trace, Turns::Any, printed, wanted);
+}
+
+/// Runs a trace over memory, with the calls that it may have, and compares what is printed and the
+/// status.
+fn expect_of(
+    rt: &(impl Abort + AllocGlobal),
+    trace: &str,
+    turns: Turns,
+    printed: &str,
+    wanted: u8,
+) {
     let mut output = Vec::new(rt.alloc());
-    let ended = status_of(rt.alloc(), trace.as_bytes(), &mut output);
+    let ended = status_of(rt.alloc(), trace.as_bytes(), &mut output, turns);
     assert!(rt;
         output.as_slice() == printed.as_bytes(),
         "{output:?}, {trace:?}"
@@ -99,34 +112,143 @@ fn expect_changes(rt: &(impl Abort + AllocGlobal), changes: &str) -> Result<(), 
     Ok(())
 }
 
-/// Traces that agree.
-const AGREEING: &str = "=agrees
-;tolerance 0
-=agrees
-;next
+/// Traces that agree, and how many calls and completions they have.
+const AGREEING: &str = "next
 next -
-=agrees
+=agrees: 1 calls, 0 completions
 ;tolerance 18446744073709551615
 next
 next -
-=agrees
+=agrees: 1 calls, 0 completions
+;advance 5
+=agrees: 1 calls, 0 completions
+;enqueue 0 1 2 0 5 0 1
+done 1 2 0 5 0
+advance 0
+=agrees: 2 calls, 1 completions
+;enqueue 0 1 2 0 5 18446744073709551615 1
+done 1 2 0 5 18446744073709551615
+enqueue 1 1 2 0 5 18446744073709551615 1
+refused 3 moment too late
+=agrees: 2 calls, 1 completions
 ";
 
 #[test]
 fn the_simulations_own_answers_agree(rt: HostRuntime) -> Result<(), Fail> {
     let unchanged = changed(rt.alloc(), 0, "")?;
-    expect(&rt, &unchanged, "agrees\n", 0);
+    expect(&rt, &unchanged, "agrees: 11 calls, 3 completions\n", 0);
     expect_cases(&rt, AGREEING, 0);
     Ok(())
 }
 
+/// Traces without a call, and traces that end before all was said that the last call is answered.
+const ENDING_EARLY: &str = "=line 1 is missing: there is no call
+;tolerance 0
+=line 2 is missing: there is no call
+;next
+=line 2 is missing: the simulation says `next -`
+;next=line 2 is missing: the simulation says `next -`
+;tolerance 7
+next
+=line 3 is missing: the simulation says `next -`
+;enqueue 0 1 2 0 5 0 1
+=line 2 is missing: the simulation says `done 1 2 0 5 0`
+;limit 0 1 1000 -
+enqueue 0 1 2 0 500 0 1
+enqueue 0 1 3 0 500 0 1
+advance 1000000000
+done 1 2 0 500 1000000000
+=line 6 is missing: the simulation says `done 1 3 0 500 1000000000`
+";
+
+#[test]
+fn a_trace_that_ends_early_does_not_agree(rt: HostRuntime) {
+    expect_cases(&rt, ENDING_EARLY, 1);
+}
+
+/// Traces with a call out of turn, and what is printed for them.
+const OUT_OF_TURN: &str = "limit 0 1 1000 -
+enqueue 0 1 2 7 500 0 1
+limit 500000000 1 2000 -
+done 1 2 7 500 500000000
+=line 3 is out of turn: an event is due at 500000000
+agrees by the event rule: 3 calls, 1 completions
+;advance 5
+enqueue 4 1 2 7 1 0 1
+done 1 2 7 1 4
+advance 3
+=line 2 is out of turn: 5 was reached before
+agrees by the event rule: 3 calls, 1 completions
+;tolerance 1
+advance 5
+advance 4
+enqueue 4 1 2 7 1 0 1
+done 1 2 7 1 5
+=line 3 is out of turn: 5 was reached before
+agrees within 1 by the event rule: 3 calls, 1 completions
+";
+
+/// Of a trace with a call out of turn no more is told where all calls have to be in turn.
+fn first_line(case: &str) -> &str {
+    case.split('\n').next().unwrap_or("")
+}
+
+#[test]
+fn a_call_out_of_turn_is_named(rt: HostRuntime) {
+    expect_cases(&rt, OUT_OF_TURN, 0);
+}
+
+#[test]
+fn where_calls_have_to_be_in_turn_none_may_be_out_of_turn(rt: HostRuntime) -> Result<(), Fail> {
+    for case in OUT_OF_TURN.split(';') {
+        let (trace, printed) = case.split_once('=').expect(&rt, "a case has no `=`");
+        let named = first_line(printed);
+        let wanted = format!(in rt.alloc(); "{named}\n")?;
+        expect_of(&rt, trace, Turns::InTurn, &wanted, 3);
+    }
+    let unchanged = changed(rt.alloc(), 0, "")?;
+    expect_of(
+        &rt,
+        &unchanged,
+        Turns::InTurn,
+        "agrees: 11 calls, 3 completions\n",
+        0,
+    );
+    Ok(())
+}
+
+/// Calls in turn that come right after an event, at the moment that was reached.
+const JUST_IN_TURN: &str = "limit 0 1 1000 -
+enqueue 0 1 2 7 500 0 1
+advance 500000000
+done 1 2 7 500 500000000
+limit 500000000 1 2000 -
+enqueue 500000000 1 2 7 500 0 1
+next
+next 750000000
+limit 749999999 1 2000 -
+advance 900000000
+done 1 2 7 500 750000000
+";
+
+#[test]
+fn calls_at_the_moment_that_is_reached_are_in_turn(rt: HostRuntime) {
+    expect_of(
+        &rt,
+        JUST_IN_TURN,
+        Turns::InTurn,
+        "agrees: 8 calls, 2 completions\n",
+        0,
+    );
+}
+
 #[test]
 fn the_last_line_may_lack_its_end_byte(rt: HostRuntime) {
-    expect(&rt, "next\nnext -", "agrees\n", 0);
-    expect_cases(
+    expect(&rt, "next\nnext -", "agrees: 1 calls, 0 completions\n", 0);
+    expect(
         &rt,
-        "next\nnext 5=line 2 says `next 5`, the simulation says `next -`\n;\
-next=line 2 says nothing, the simulation says `next -`\n",
+        "next\nnext 5",
+        "line 2 says `next 5`, the simulation says `next -`\n",
         3,
     );
 }
@@ -210,9 +332,6 @@ done 1 2 0 5 0
 next
 next -
 =line 2 says `done 1 2 0 5 0`, the simulation says nothing
-;tolerance 7
-next
-=line 3 says nothing, the simulation says `next -`
 ";
 
 #[test]
@@ -248,8 +367,8 @@ fn expect_within(
 
 #[test]
 fn moments_may_be_off_within_the_tolerance(rt: HostRuntime) -> Result<(), Fail> {
-    expect_within(&rt, 2, "agrees within 2\n", 0)?;
-    expect_within(&rt, 100, "agrees within 2\n", 0)
+    expect_within(&rt, 2, "agrees within 2: 7 calls, 2 completions\n", 0)?;
+    expect_within(&rt, 100, "agrees within 2: 7 calls, 2 completions\n", 0)
 }
 
 #[test]
@@ -278,7 +397,7 @@ refused 3 out of memory;tolerance 5;tolerance -; next;next -\r";
 fn expect_bad(rt: &(impl Abort + AllocGlobal), line: &str) -> Result<(), Fail> {
     let trace = format!(in rt.alloc(); "tolerance 1\nnext\nnext -\n{line}\n")?;
     let mut output = Vec::new(rt.alloc());
-    let verdict = run(rt.alloc(), &mut trace.as_bytes(), &mut output);
+    let verdict = run(rt.alloc(), &mut trace.as_bytes(), &mut output, Turns::Any);
     assert!(rt; matches!(verdict, Err(Fault::BadLine(4))), "{line}");
     assert!(rt; status(&verdict) == 2, "{line}");
     assert!(rt; output.is_empty(), "{line}");
@@ -328,7 +447,7 @@ fn reads_that_fail_are_faults(rt: HostRuntime) {
         bytes: b"next\nnext -\n",
     };
     let mut output = Vec::new(rt.alloc());
-    let verdict = run(rt.alloc(), &mut input, &mut output);
+    let verdict = run(rt.alloc(), &mut input, &mut output, Turns::Any);
     assert!(rt; matches!(verdict, Err(Fault::InputOutput)));
     assert!(rt; status(&verdict) == 1);
     assert!(rt; output.is_empty());
@@ -336,9 +455,19 @@ fn reads_that_fail_are_faults(rt: HostRuntime) {
 
 #[test]
 fn writes_that_fail_are_faults(rt: HostRuntime) {
-    let verdict = run(rt.alloc(), &mut "next\nnext -\n".as_bytes(), &mut Full);
+    let verdict = run(
+        rt.alloc(),
+        &mut "next\nnext -\n".as_bytes(),
+        &mut Full,
+        Turns::Any,
+    );
     assert!(rt; matches!(verdict, Err(Fault::InputOutput)));
     let mut output = Vec::new(rt.alloc());
-    let agreed = run(rt.alloc(), &mut "next\nnext -\n".as_bytes(), &mut output);
-    assert!(rt; matches!(agreed, Ok(Verdict::Agrees)));
+    let agreed = run(
+        rt.alloc(),
+        &mut "next\nnext -\n".as_bytes(),
+        &mut output,
+        Turns::Any,
+    );
+    assert!(rt; agreed.is_ok_and(|report| matches!(report.verdict, Verdict::Agrees)));
 }

@@ -22,6 +22,9 @@ const MOST_PLACES: u64 = 40_000;
 /// The most messages that are told one by one.
 const MOST_MESSAGES: usize = 2000;
 
+/// What is in flight at the end is shown for this part of the time before it.
+const LATER_PART: u64 = 4;
+
 /// What happened in a run, up to a moment.
 #[derive(Drop)]
 pub(crate) struct History {
@@ -31,6 +34,7 @@ pub(crate) struct History {
     /// In nanoseconds since the start.
     first: Option<u64>,
     now: u64,
+    /// The last moment at which something was asked, started, was done or arrives.
     last: u64,
     /// What is in flight since `now`.
     flying: Vec<InFlight<u64>>,
@@ -70,11 +74,25 @@ impl History {
         let rows = self.tracks.len().saturating_add(self.caps.len()) as u64;
         let most = MOST_PLACES / rows.max(1);
         let first = self.first.unwrap_or(0);
-        let last = self.last.max(self.now);
+        let last = self.end(first);
         if self.is_detailed() {
             Frame::new(first, last, u64::MAX)
         } else {
             Frame::new(first, last, most)
+        }
+    }
+
+    /// The last moment of the picture. Where a message is still in flight at the last call, that is
+    /// shown for a part of the time before it.
+    fn end(&self, first: u64) -> u64 {
+        let passed = self.last.saturating_sub(first);
+        if self.flying.is_empty() {
+            self.last
+        } else if passed == 0 {
+            self.now.max(self.last)
+        } else {
+            let more = self.last.saturating_add(passed / LATER_PART);
+            self.now.min(more).max(self.last)
         }
     }
 
@@ -104,6 +122,7 @@ impl History {
     /// Makes a call that sets caps or sends messages, once time has gone on to its moment.
     fn change(&mut self, now: u64, call: &Call<u64, usize>) -> Result<(), Error> {
         self.pass(now)?;
+        self.last = self.last.max(self.now);
         match self.zeros.fill(self.alloc, call)?.make(&mut self.scheduler) {
             Ok(reply) => {
                 self.note(call)?;
@@ -190,6 +209,7 @@ impl History {
             match self.scheduler.next() {
                 Some(event) if event <= now => {
                     self.pass(event)?;
+                    self.last = self.last.max(self.now);
                     let answer = self.scheduler.advance(event);
                     if !self.take(answer)? {
                         return Ok(());

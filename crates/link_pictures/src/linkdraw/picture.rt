@@ -16,7 +16,7 @@ const HEAD: u64 = 150;
 const MOST_ROWS: usize = 500;
 
 /// The styles of the shapes.
-const STYLE: &str = r#"<style>text{font:22px sans-serif;fill:#333}
+const STYLE: &str = r#"<style>.b{fill:#fff}text{font:22px sans-serif;fill:#333}
 .n{text-anchor:end}.t{text-anchor:middle;fill:#666}
 path{fill:none}.g{stroke:#e4e4e4;stroke-width:2}
 .f{stroke:#999;stroke-width:2}.s{fill:#4c78a8}.i{stroke:#4c78a8;stroke-width:2;pointer-events:none}
@@ -25,7 +25,9 @@ path{fill:none}.g{stroke:#e4e4e4;stroke-width:2}
 .m{fill:#fff;fill-opacity:0;stroke:#fff;stroke-width:2}
 .k{stroke:#222;stroke-width:3}.u{stroke:#d03030;stroke-width:6}
 .c0{fill:#4c78a8}.c1{fill:#f2a65a}.c2{fill:#72b7b2}
-.c3{fill:#b279a2}.c4{fill:#86b958}.c5{fill:#d8b365}</style>"#;
+.c3{fill:#b279a2}.c4{fill:#86b958}.c5{fill:#d8b365}
+@media(prefers-color-scheme:dark){.b{fill:#181818}text{fill:#ddd}.t{fill:#aaa}
+.g{stroke:#383838}.f{stroke:#777}.k{stroke:#eee}.m{stroke:#181818}.w{stroke:#8a7d6c}}</style>"#;
 
 /// What the shapes mean.
 const LEGEND: &str = r#"<path class="w" d="M220 40H260"/><text x="270" y="48">waits</text>
@@ -65,15 +67,14 @@ pub(crate) fn draw<W: Write>(
 /// The head of the file, with the styles.
 fn open<W: Write>(out: &mut W, foot: u64) -> io::Result<()> {
     let height = foot.saturating_add(90);
-    let shown = height / 2;
     writeln!(
         out,
-        "<svg xmlns=\"http://www.w3.org/2000/svg\" width=\"1000\" height=\"{shown}\" viewBox=\"0 0 {WIDTH} {height}\">"
+        "<svg xmlns=\"http://www.w3.org/2000/svg\" width=\"100%\" viewBox=\"0 0 {WIDTH} {height}\">"
     )?;
     writeln!(out, "{STYLE}")?;
     writeln!(
         out,
-        "<rect width=\"{WIDTH}\" height=\"{height}\" fill=\"#fff\"/>"
+        "<rect class=\"b\" width=\"{WIDTH}\" height=\"{height}\"/>"
     )
 }
 
@@ -115,15 +116,24 @@ fn draw_notes<W: Write>(out: &mut W, history: &History, foot: u64) -> io::Result
     let refused = history.refused;
     let pairs = history.tracks.len().saturating_sub(MOST_ROWS);
     let sides = history.caps.len().saturating_sub(MOST_ROWS);
-    write!(out, "<text x=\"{LEFT}\" y=\"{y}\">{messages} messages")?;
+    let end = plural(messages as u64);
+    write!(out, "<text x=\"{LEFT}\" y=\"{y}\">{messages} message{end}")?;
     if refused > 0 {
-        write!(out, "; {refused} calls were refused")?;
+        let end = plural(refused);
+        write!(out, "; {refused} refused call{end}")?;
     }
     if pairs > 0 {
-        write!(out, "; {pairs} more pairs")?;
+        let end = plural(pairs as u64);
+        write!(out, "; {pairs} more pair{end}")?;
     }
     if sides > 0 {
-        write!(out, "; {sides} more caps")?;
+        let end = plural(sides as u64);
+        write!(out, "; {sides} more cap{end}")?;
     }
     writeln!(out, "</text>")
+}
+
+/// What the word of so many things ends with.
+fn plural(count: u64) -> &'static str {
+    if count == 1 { "" } else { "s" }
 }

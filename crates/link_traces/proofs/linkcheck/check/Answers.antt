@@ -1,22 +1,25 @@
-use Rattle.std.proofs.Common.{rules, ◌≡◌, ℕ, List, map, ap, ◌∙◌}
-use Rattle.link_scheduler.specs.Calls.Replay.{call_of}
-use Rattle.link_scheduler.specs.declared.replay.Call as replay_call
-use Rattle.link_scripts.specs.Schedule.{world_call}
-use Rattle.link_traces.specs.Trace.{call_in}
-use Rattle.link_traces.specs.declared.linkcheck.asked.Asked.{Asked}
-use Rattle.link_traces.proofs.Tracing.{told_of, agreed}
+use Rattle.std.proofs.Common.{◌≡◌, ℕ, IfOk, IfSome, ap, subst}
+use Rattle.link_traces.specs.declared.linkcheck.report.Verdict.TheVariants as verdicts
+use Rattle.link_traces.specs.Trace.{IsAgreed, IsAllowed}
+use Rattle.link_traces.proofs.Reading.{new_reader}
 use Rattle.link_traces.proofs.linkcheck.check.Goals as goal
 
-pub returns-then-eq-clause-agrees : goal.returns-then-eq-clause-agrees
-returns-then-eq-clause-agrees c =
-    let asked = c.in_ok-asked.asked.items in
-    let replies = c.in_ok-replies.replies.items in
-    let same : c.args.trace.now ≡ c.in_ok-simulated.simulated.items = search rules in
-    let told : c.in_ok-simulated.simulated.items ≡ told_of asked replies =
-    c.in_ok-simulated.ensures ∙ ap (λ (xs : List Asked). told_of xs c.deref-4.result.now) c.deref-3.ensures.value
-    ∙ ap (told_of asked) c.deref-4.ensures.value in
-    let made : map call_of c.deref-2.result.now ≡ map world_call (map call_in asked) =
-    ap (λ (cs : List (replay_call.Call ℕ (List ℕ))). map call_of cs) c.deref-2.ensures.value ∙ c.in_ok-calls.ensures
-    ∙ ap (λ (xs : List Asked). map world_call (map call_in xs)) c.deref.ensures.value in
-    λ yes. agreed asked c.deref-2.result.now replies c.args.trace.now c.in_ok-simulated.simulated.items same told made
-    c.in_ok-replies.ensures.agrees c.in_ok-replies.ensures.obeyed
+pub returns-clause-agrees : goal.returns-clause-agrees
+returns-clause-agrees g c =
+    let same =
+    new_reader (λ i. g.R.Read.remaining i.now) c.in-Ok-new.reader _
+    (ap (λ i. g.R.Read.remaining i.now) c.in-Ok-new.ensures.inner) c.in-Ok-new.ensures.empty
+    c.in-Ok-new.ensures.capacity in
+    subst
+    (λ k. IfOk c.check_lines.result (λ report. report.verdict ≡ verdicts.Agrees
+    → IfSome k (λ bytes. IsAgreed bytes report))) same c.check_lines.ensures.agrees
+
+pub returns-clause-within : goal.returns-clause-within
+returns-clause-within g c =
+    let same =
+    new_reader (λ i. g.R.Read.remaining i.now) c.in-Ok-new.reader _
+    (ap (λ i. g.R.Read.remaining i.now) c.in-Ok-new.ensures.inner) c.in-Ok-new.ensures.empty
+    c.in-Ok-new.ensures.capacity in
+    subst
+    (λ k. IfOk c.check_lines.result (λ report. (off : ℕ) → report.verdict ≡ verdicts.Within off
+    → IfSome k (λ bytes. IsAllowed bytes off))) same c.check_lines.ensures.within

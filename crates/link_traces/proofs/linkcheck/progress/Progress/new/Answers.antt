@@ -1,0 +1,7 @@
+use Rattle.std.proofs.Common.{refl}
+use Rattle.link_traces.proofs.Tracing.{told_nothing}
+use Rattle.link_traces.proofs.linkcheck.progress.Progress.new.Goals as goal
+
+pub returns-clause-told : goal.returns-clause-told
+returns-clause-told c =
+    told_nothing _ c.new-3.ensures.items c.new-2.ensures.new.planned c.new-2.ensures.new.stands refl refl refl
