@@ -55,16 +55,16 @@ examples: bin/linkrun bin/linkcheck bin/linkdraw bin/networks
 	done
 	@python3 examples/broadcast.py | ./bin/linkrun | cmp - examples/broadcast.out && echo examples/broadcast.py
 	@for trace in examples/traces/*.trace; do \
-		./bin/linkcheck < $$trace | cmp - $${trace%.trace}.out && echo $$trace || exit 1; \
+		./bin/linkcheck $$trace | cmp - $${trace%.trace}.out && echo $$trace || exit 1; \
 	done
 	@for picture in docs/pictures/*.svg; do \
-		./bin/linkdraw < examples/$$(basename $${picture%.svg}).link | cmp - $$picture && echo $$picture || exit 1; \
+		./bin/linkdraw examples/$$(basename $${picture%.svg}).link | cmp - $$picture && echo $$picture || exit 1; \
 	done
 
 # Draws the pictures of docs/ anew.
 pictures: bin/linkdraw
 	@for picture in docs/pictures/*.svg; do \
-		./bin/linkdraw < examples/$$(basename $${picture%.svg}).link > $$picture; \
+		./bin/linkdraw examples/$$(basename $${picture%.svg}).link > $$picture; \
 	done
 
 # The library for C, Rust and Python, in bin/bindings, and the tests of each language whose tools are there. After the
