@@ -168,7 +168,7 @@ fn an_account_drains_what_others_send(rt: HostRuntime) -> Result<(), Fail> {
 
 /// Eight messages are in flight, each of a pair of its own. One
 /// that starts alone is rated alone, and one of a sender that has another one with that. Where one
-/// ends alone none is, and where a cap changes all are.
+/// ends alone none is, and where a cap changes the one that uses it.
 #[test]
 fn an_event_rates_what_it_touches(rt: HostRuntime) -> Result<(), Fail> {
     let _readings = flying(
@@ -198,7 +198,7 @@ done 0 1s
 flying 8
 rated 0
 limit 1500ms 3 2000 -
-rated 8
+rated 1
 ",
     )?;
     Ok(())

@@ -330,7 +330,7 @@ rated 2
 next 1220ms
 ";
 
-/// An advance past events of two senders at moments of their own. Where a cap changes, all are rated.
+/// An advance past events of two senders at moments of their own. Where a cap changes, what uses it is rated.
 const COUNTED_APART: &str = "\
 limit 0 1 1000 -
 limit 0 2 1000 -
@@ -349,7 +349,7 @@ rated 1
 send 1200ms 2 16 100 0
 rated 2
 limit 1200ms 2 2000 -
-rated 4
+rated 2
 ";
 
 /// An advance past events of two senders at one moment.
