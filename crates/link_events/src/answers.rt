@@ -6,7 +6,6 @@ ghost use Rattle.link_simulation.specs.Rule.Refusals.{MayBeRefused};
 ghost use Rattle.link_pairs.specs.Pairs.Messages.{message_of, completed_of};
 ghost use Rattle.link_events.specs.Steps.Answered.{IsAnswered, IsAnsweredIn};
 ghost use Rattle.link_events.specs.Steps.Outgoing.{outgoing};
-ghost use Rattle.link_events.specs.Steps.Standing.{IsFree};
 
 use crate::ledger::Ledger;
 use crate::outgoing::Outgoing;
@@ -17,6 +16,7 @@ use link_pairs::message::Message;
 
 impl<P: Peer> Ledger<P> {
     ghost use Rattle.link_events.specs.Steps.AsPlanned.{planned};
+    ghost use Rattle.link_events.specs.Steps.Marks.{before_of};
 
     /// Sets the caps of a peer, and answers what completes under them.
     pub fn answer_limit(
@@ -28,7 +28,7 @@ impl<P: Peer> Ledger<P> {
     ) -> Result<Vec<Completion<P>>, Error>
         ensures answered { IfOk result (λ done. IsAnswered P.cmp (planned P.cmp self.old)
             (call_limit now peer.now egress ingress) (map completed_of done.items) (planned P.cmp self.new)) }
-        ensures before { self.new.flights.list.before ≡ self.old.flights.list.before }
+        ensures before { before_of self.new ≡ before_of self.old }
         ensures refused { IfErr result (MayBeRefused P.cmp (planned P.cmp self.old)
             (call_limit now peer.now egress ingress)) }
     {
@@ -47,7 +47,7 @@ impl<P: Peer> Ledger<P> {
     ) -> Result<Vec<Completion<P>>, Error>
         ensures answered { IfOk result (λ done. IsAnswered P.cmp (planned P.cmp self.old)
             (call_limit_link now origin.now recipient.now cap) (map completed_of done.items) (planned P.cmp self.new)) }
-        ensures before { self.new.flights.list.before ≡ self.old.flights.list.before }
+        ensures before { before_of self.new ≡ before_of self.old }
         ensures refused { IfErr result (MayBeRefused P.cmp (planned P.cmp self.old)
             (call_limit_link now origin.now recipient.now cap)) }
     {
@@ -56,20 +56,20 @@ impl<P: Peer> Ledger<P> {
         answers_of(self.alloc, &ended)
     }
 
-    /// Sends a message that does not have to wait, and answers what completes.
-    pub fn answer_free(
+    /// Sends a message, and answers what completes.
+    pub fn answer_enqueue(
         &mut self,
         now: u64,
         message: Message<P>,
     ) -> Result<Vec<Completion<P>>, Error>
-        requires free { IsFree P.cmp (planned P.cmp self.old) message.origin message.recipient }
         ensures answered { IfOk result (λ done. IsAnswered P.cmp (planned P.cmp self.old)
             (call_enqueue now (message_of message)) (map completed_of done.items) (planned P.cmp self.new)) }
-        ensures before { self.new.flights.list.before ≡ self.old.flights.list.before }
+        ensures before { before_of self.new ≡ before_of self.old }
         ensures refused { IfErr result (MayBeRefused P.cmp (planned P.cmp self.old)
             (call_enqueue now (message_of message))) }
     {
-        let ended = self.enqueue(now, message, false)?;
+        let is_busy = self.has_to_wait(&message.origin, &message.recipient);
+        let ended = self.enqueue(now, message, is_busy)?;
         answers_of(self.alloc, &ended)
     }
 
@@ -82,7 +82,7 @@ impl<P: Peer> Ledger<P> {
         ensures answered { IfOk result (λ done. IsAnswered P.cmp (planned P.cmp self.old)
             (call_enqueue_all now (map outgoing messages.items)) (map completed_of done.items)
             (planned P.cmp self.new)) }
-        ensures before { self.new.flights.list.before ≡ self.old.flights.list.before }
+        ensures before { before_of self.new ≡ before_of self.old }
         ensures refused { IfErr result (MayBeRefused P.cmp (planned P.cmp self.old)
             (call_enqueue_all now (map outgoing messages.items))) }
     {
@@ -94,7 +94,7 @@ impl<P: Peer> Ledger<P> {
     pub fn answer_advance(&mut self, now: u64) -> Result<(Vec<Completion<P>>, u128), Error>
         ensures answered { IfOk result (λ answer. IsAnsweredIn P.cmp now (planned P.cmp self.old) answer.1
             (map completed_of answer.0.items) (planned P.cmp self.new)) }
-        ensures before { self.new.flights.list.before ≡ self.old.flights.list.before }
+        ensures before { before_of self.new ≡ before_of self.old }
         ensures refused { IfErr result (MayBeRefused P.cmp (planned P.cmp self.old) (call_advance now)) }
     {
         let (ended, events) = self.advance(now)?;

@@ -53,6 +53,7 @@ impl Standing {
 
 impl<P: Peer> Ledger<P> {
     ghost use Rattle.link_events.specs.Steps.AsPlanned.{planned};
+    ghost use Rattle.link_events.specs.Steps.Marks.{before_of};
 
     /// Messages are sent one after another. Those that only start share one account.
     pub(crate) fn enqueue_all(
@@ -62,7 +63,7 @@ impl<P: Peer> Ledger<P> {
     ) -> Result<Vec<Ended<P>>, Error>
         ensures enqueues { IfOk result (λ ended. EnqueuesEach P.cmp now (map outgoing messages.items)
             (planned P.cmp self.old) (goes (map ended_of ended.items) (planned P.cmp self.new))) }
-        ensures before { self.new.flights.list.before ≡ self.old.flights.list.before }
+        ensures before { before_of self.new ≡ before_of self.old }
         ensures refused { IfErr result (IsRefusedFor (λ fault. EnqueuesEach P.cmp now (map outgoing messages.items)
             (planned P.cmp self.old) (meets fault))) }
     {
@@ -89,7 +90,7 @@ impl<P: Peer> Ledger<P> {
             × (map ended_of ended.new.items ≡ map ended_of ended.old.items ++ cs)
             × Enqueues P.cmp now (message_of message) w (goes cs v)
             × IsStanding P.cmp now next (planned P.cmp self.new) v) }
-        ensures before { self.new.flights.list.before ≡ self.old.flights.list.before }
+        ensures before { before_of self.new ≡ before_of self.old }
         ensures refused { IfErr result (λ e. (w : AnyPlanned P) →
             IsStanding P.cmp now standing (planned P.cmp self.old) w →
             IsRefusedFor (λ fault. Enqueues P.cmp now (message_of message) w (meets fault)) e) }
@@ -133,7 +134,7 @@ impl<P: Peer> Ledger<P> {
             IsStanding P.cmp now standing (planned P.cmp self.old) w → w ≡ planned P.cmp self.new) }
         ensures free { OnOk result ((origin recipient : P) → IsFree P.cmp (planned P.cmp self.old) origin recipient
             → IsFree P.cmp (planned P.cmp self.new) origin recipient) }
-        ensures before { self.new.flights.list.before ≡ self.old.flights.list.before }
+        ensures before { before_of self.new ≡ before_of self.old }
         ensures refused { IfErr result (λ e. e ≡ Error.OutOfMemory) }
     {
         if let Standing::Due = standing {

@@ -16,7 +16,7 @@ ghost use Rattle.link_events.specs.Steps.Due.{IsDue, Happens};
 
 use crate::event::Event;
 use crate::ledger::Ledger;
-use crate::readiness::{idle_from, ready_moment};
+use crate::readiness::ready_moment;
 use fair_rates::error::Error;
 use fair_rates::peer::Peer;
 use link_pairs::completion::Ended;
@@ -28,6 +28,7 @@ use std::rc::Rc;
 
 impl<P: Peer> Ledger<P> {
     ghost use Rattle.link_events.specs.Steps.AsPlanned.{planned};
+    ghost use Rattle.link_events.specs.Steps.Marks.{before_of, now_of};
     ghost use Rattle.link_pairs.specs.Pairs.Messages.{messages};
     ghost use Rattle.link_waiting.specs.Idle.Starting.{may_launch_first};
     ghost use Rattle.link_events.specs.Steps.AsPlanned.{HasNothingDue};
@@ -47,16 +48,11 @@ impl<P: Peer> Ledger<P> {
     }
 
     /// The moment from which on the first waiting message of the pair may start, if one waits and the
-    /// pair is not busy. Pairs mostly start when they are the first of those that are idle.
+    /// pair is not busy.
     fn idle_since(&self, origin: &P, recipient: &P) -> Option<u64>
         ensures { result ≡ idle_since P.cmp (planned P.cmp self.now) origin.now recipient.now }
     {
-        let first = self.idle.since_if_first(origin, recipient);
-        if first.is_some() {
-            return first;
-        }
-        let is_busy = self.flights.has(origin, recipient);
-        idle_from(is_busy, &self.waiting, &self.pairs, origin, recipient)
+        self.waiting.since(origin, recipient)
     }
 
     /// The first waiting message of the pair starts if it may, and an account follows, whose
@@ -70,7 +66,7 @@ impl<P: Peer> Ledger<P> {
         ensures launches { IfOk result (λ leavers. Launches P.cmp now (planned P.cmp self.old)
             (first_of P.cmp (planned P.cmp self.old).waiting origin.now recipient.now)
             (goes (messages leavers.items) (planned P.cmp self.new))) }
-        ensures before { self.new.flights.list.before ≡ self.old.flights.list.before }
+        ensures before { before_of self.new ≡ before_of self.old }
         ensures refused { IfErr result (IsRefusedFor (λ fault. Launches P.cmp now (planned P.cmp self.old)
             (first_of P.cmp (planned P.cmp self.old).waiting origin.now recipient.now) (meets fault))) }
     {
@@ -90,7 +86,7 @@ impl<P: Peer> Ledger<P> {
         ensures launches { IfOk result (λ leavers. Launches P.cmp now (planned P.cmp self.old)
             (first_of P.cmp (planned P.cmp self.old).waiting origin.now recipient.now)
             (goes (messages leavers.items) (planned P.cmp self.new))) }
-        ensures before { self.new.flights.list.before ≡ self.old.flights.list.before }
+        ensures before { before_of self.new ≡ before_of self.old }
         ensures refused { IfErr result (IsRefusedFor (λ fault. Launches P.cmp now (planned P.cmp self.old)
             (first_of P.cmp (planned P.cmp self.old).waiting origin.now recipient.now) (meets fault))) }
     {
@@ -100,7 +96,7 @@ impl<P: Peer> Ledger<P> {
         if self.next_id == u64::MAX {
             return Err(Error::FlowIdsUsedUp);
         }
-        self.depart(since, origin, recipient, now)?;
+        self.depart(origin, recipient, now)?;
         self.account(now)
     }
 
@@ -135,7 +131,7 @@ impl<P: Peer> Ledger<P> {
             (first_of P.cmp (with_queued P.cmp (planned P.cmp self.old) (message_of message)).waiting
             message.origin message.recipient)
             (goes (messages leavers.items) (planned P.cmp self.new))) }
-        ensures before { self.new.flights.list.before ≡ self.old.flights.list.before }
+        ensures before { before_of self.new ≡ before_of self.old }
         ensures refused { IfErr result (IsRefusedFor (λ fault. Launches P.cmp now
             (with_queued P.cmp (planned P.cmp self.old) (message_of message))
             (first_of P.cmp (with_queued P.cmp (planned P.cmp self.old) (message_of message)).waiting
@@ -163,7 +159,7 @@ impl<P: Peer> Ledger<P> {
             (landed P.cmp now (planned P.cmp self.old) (message_of message.value))
             (next_of P.cmp (planned P.cmp self.old) (message_of message.value))
             (goes (messages more.items) (planned P.cmp self.new))) }
-        ensures before { self.new.flights.list.before ≡ self.old.flights.list.before }
+        ensures before { before_of self.new ≡ before_of self.old }
         ensures refused { IfErr result (λ e. (ms : List (AnyMessage P)) →
             IsRefusedFor (λ fault. Finishes P.cmp now (message_of message.value ∷ ms) (planned P.cmp self.old)
             (meets fault)) e) }
@@ -189,7 +185,7 @@ impl<P: Peer> Ledger<P> {
         ensures finishes { IfOk result (λ done. (cs : List (Completed P))
             × (map ended_of ended.new.items ≡ map ended_of ended.old.items ++ cs)
             × Finishes P.cmp now (messages queue.items) (planned P.cmp self.old) (goes cs (planned P.cmp self.new))) }
-        ensures before { self.new.flights.list.before ≡ self.old.flights.list.before }
+        ensures before { before_of self.new ≡ before_of self.old }
         ensures refused { IfErr result (IsRefusedFor
             (λ fault. Finishes P.cmp now (messages queue.items) (planned P.cmp self.old) (meets fault))) }
     {
@@ -206,7 +202,7 @@ impl<P: Peer> Ledger<P> {
         ensures wakes { IfOk result (λ done. (cs : List (Completed P))
             × (map ended_of ended.new.items ≡ map ended_of ended.old.items ++ cs)
             × Wakes P.cmp now (planned P.cmp self.old) (goes cs (planned P.cmp self.new))) }
-        ensures before { self.new.flights.list.before ≡ self.old.flights.list.before }
+        ensures before { before_of self.new ≡ before_of self.old }
         ensures refused { IfErr result (IsRefusedFor (λ fault. Wakes P.cmp now (planned P.cmp self.old)
             (meets fault))) }
     {
@@ -225,7 +221,7 @@ impl<P: Peer> Ledger<P> {
         ensures rebalances { IfOk result (λ ended. Rebalances P.cmp now (planned P.cmp self.old).caps
             (planned P.cmp self.old)
             (goes (map ended_of ended.items) (planned P.cmp self.new))) }
-        ensures before { self.new.flights.list.before ≡ self.old.flights.list.before }
+        ensures before { before_of self.new ≡ before_of self.old }
         ensures refused { IfErr result (IsRefusedFor
             (λ fault. Rebalances P.cmp now (planned P.cmp self.old).caps (planned P.cmp self.old) (meets fault))) }
     {
@@ -249,7 +245,7 @@ impl<P: Peer> Ledger<P> {
             → is_sending P.cmp (planned P.cmp self.old) message.origin message.recipient ≡ is_busy }
         ensures enqueues { IfOk result (λ ended. Enqueues P.cmp now (message_of message) (planned P.cmp self.old)
             (goes (map ended_of ended.items) (planned P.cmp self.new))) }
-        ensures before { self.new.flights.list.before ≡ self.old.flights.list.before }
+        ensures before { before_of self.new ≡ before_of self.old }
         ensures refused { IfErr result (IsRefusedFor
             (λ fault. Enqueues P.cmp now (message_of message) (planned P.cmp self.old) (meets fault))) }
     {
@@ -311,7 +307,7 @@ impl<P: Peer> Ledger<P> {
             × (map ended_of ended.new.items ≡ map ended_of ended.old.items ++ c ∷ [])
             × (completed_at_once P.cmp now (planned P.cmp self.old) (message_of message)
             ≡ goes (c ∷ []) (planned P.cmp self.new))) }
-        ensures before { self.new.flights.list.before ≡ self.old.flights.list.before }
+        ensures before { before_of self.new ≡ before_of self.old }
         ensures refused { IfErr result (IsRefusedFor
             (λ fault. completed_at_once P.cmp now (planned P.cmp self.old) (message_of message) ≡ meets fault)) }
     {
@@ -355,7 +351,7 @@ impl<P: Peer> Ledger<P> {
         ensures happens { IfOk result (λ done. (cs : List (Completed P))
             × (map ended_of ended.new.items ≡ map ended_of ended.old.items ++ cs)
             × Happens P.cmp event (planned P.cmp self.old) (goes cs (planned P.cmp self.new))) }
-        ensures before { self.new.flights.list.before ≡ self.old.flights.list.before }
+        ensures before { before_of self.new ≡ before_of self.old }
         ensures refused { IfErr result (IsRefusedFor (λ fault. Happens P.cmp event (planned P.cmp self.old)
             (meets fault))) }
     {
@@ -382,7 +378,8 @@ impl<P: Peer> Ledger<P> {
     pub fn rest(&mut self, now: u64)
         requires { HasNothingDue P.cmp (planned P.cmp self.old) now }
         ensures advances { Advances P.cmp now (planned P.cmp self.old) 0 (goes [] (planned P.cmp self.new)) }
-        ensures flights { self.new.flights ≡ self.old.flights }
+        ensures now { now_of self.new ≡ now_of self.old }
+        ensures before { before_of self.new ≡ before_of self.old }
     {
         self.plan_start(now);
     }
@@ -392,13 +389,14 @@ impl<P: Peer> Ledger<P> {
     pub(crate) fn advance(&mut self, now: u64) -> Result<(Vec<Ended<P>>, u128), Error>
         ensures advances { IfOk result (λ answer. Advances P.cmp now (planned P.cmp self.old) answer.1
             (goes (map ended_of answer.0.items) (planned P.cmp self.new))) }
-        ensures before { self.new.flights.list.before ≡ self.old.flights.list.before }
+        ensures before { before_of self.new ≡ before_of self.old }
         ensures refused { IfErr result (IsRefusedFor
             (λ fault. (n : ℕ) × Advances P.cmp now (planned P.cmp self.old) n (meets fault))) }
     {
         let mut ended = Vec::new(self.alloc);
-        // So few are in flight that their events can be counted.
+        // So few are in flight, and wait, that their events can be counted.
         let _sending = self.flights.len();
+        let _waiting = self.waiting.len();
         let mut events = 0u128;
         while let Some(event) = self.due(now) {
             self.happen(event, &mut ended)?;

@@ -2,6 +2,7 @@
 ghost use Rattle.std.specs.Prelude.{◌≡◌, ◌≤◌, ◌⊎◌, true, IfOk, IfErr, OnOk};
 ghost use Rattle.link_simulation.specs.Simulation.Messages.{OneForEachPair};
 ghost use Rattle.link_simulation.specs.Rule.Planned.{rated_messages};
+ghost use Rattle.link_waiting.specs.Idle.Waits.{since_of};
 ghost use Rattle.link_waiting.specs.Idle.AtRest.{of_pairs};
 ghost use Rattle.link_waiting.specs.Idle.Index.{IsIndexOf};
 ghost use Rattle.link_flights.specs.Flights.InFlight.{in_flight};
@@ -19,9 +20,7 @@ use link_flights::flight_list::Flights;
 use link_pairs::known_pairs::Pairs;
 use link_pairs::message::Message;
 use link_pairs::peers::Peers;
-use link_waiting::idle_pairs::IdlePairs;
 use link_waiting::waiting::Waiting;
-use std::alloc::Global;
 use std::collections::VecDeque;
 use std::rc::Rc;
 
@@ -50,17 +49,15 @@ fn part<P: Peer>(
 /// All that is in flight drains to that moment. What is done leaves, in order of start, and its
 /// pairs are idle from now on.
 pub(crate) fn leave<P: Peer>(
-    alloc: Global,
     now: u64,
     flights: &mut Flights<P>,
-    idle: &mut IdlePairs<P>,
     peers: &Peers<P>,
     pairs: &Pairs<P>,
-    waiting: &Waiting<P>,
+    waiting: &mut Waiting<P>,
     were_fair: bool,
 ) -> Result<VecDeque<Rc<Message<P>>>, Error>
-    requires indexed { IsIndexOf P.cmp (of_pairs P.cmp pairs.now.entries waiting.now.messages
-        (in_flight flights.old)) idle.old.entries }
+    requires indexed { IsIndexOf P.cmp (of_pairs P.cmp pairs.now.entries waiting.old.messages
+        (in_flight flights.old)) (since_of P.cmp waiting.old.told) }
     requires one_each { ∥ OneForEachPair P.cmp (rated_messages (in_flight flights.old)) ∥₁ }
     requires later { were_fair ≡ true → flights.old.at ≤ now }
     requires rated { were_fair ≡ true
@@ -68,13 +65,15 @@ pub(crate) fn leave<P: Peer>(
     ensures parted { IfOk result (λ done. IsParted P.cmp now
         (caps_of P.cmp peers.now.entries pairs.now.entries) were_fair flights.old flights.new
         (messages done.items)) }
-    ensures indexed { OnOk result (IsIndexOf P.cmp (of_pairs P.cmp pairs.now.entries waiting.now.messages
-        (in_flight flights.new)) idle.new.entries) }
-    ensures before { flights.new.list.before ≡ flights.old.list.before }
+    ensures messages { OnOk result (waiting.new.messages ≡ waiting.old.messages) }
+    ensures indexed { OnOk result (IsIndexOf P.cmp (of_pairs P.cmp pairs.now.entries waiting.new.messages
+        (in_flight flights.new)) (since_of P.cmp waiting.new.told)) }
+    ensures flights_before { flights.new.list.before ≡ flights.old.list.before }
+    ensures waiting_before { waiting.new.before ≡ waiting.old.before }
     ensures refused { IfErr result (λ e. e ≡ Error.OutOfMemory) }
 {
     let done = part(now, flights, peers, pairs, were_fair)?;
-    rest_all(alloc, idle, waiting, pairs, &done)?;
+    rest_all(waiting, pairs, &done)?;
     Ok(done)
 }
 
@@ -91,7 +90,6 @@ pub(crate) struct Left<P> {
 /// The first of what is done lands: no later one of its pair arrives before it. Answers when it
 /// arrives, if it does.
 fn land_first<P: Peer>(
-    alloc: Global,
     now: u64,
     pairs: &mut Pairs<P>,
     done: &VecDeque<Rc<Message<P>>>,
@@ -99,6 +97,7 @@ fn land_first<P: Peer>(
     ensures link { OnOk result (link_of P.cmp pairs.new.entries ≡ link_of P.cmp pairs.old.entries) }
     ensures lands { IfOk result (λ deliver_at. FirstLands P.cmp now (messages done.now.items)
         (arrival_of P.cmp pairs.old.entries) (arrival_of P.cmp pairs.new.entries) deliver_at) }
+    ensures before { pairs.new.before ≡ pairs.old.before }
     ensures refused { IfErr result (λ e. (e ≡ Error.OutOfMemory)
         ⊎ ((e ≡ Error.MomentTooLate) × IsFirstLate P.cmp now (messages done.now.items))) }
 {
@@ -107,23 +106,21 @@ fn land_first<P: Peer>(
     };
     let first = Rc::as_ref(first);
     let arrival = first.arrival(now)?;
-    pairs.raise(alloc, &first.origin, &first.recipient, arrival)?;
+    pairs.raise(&first.origin, &first.recipient, arrival)?;
     Ok(first.is_delivered().then_some(arrival))
 }
 
 /// As `leave`; and the first of what is done lands before its pair is idle.
 pub(crate) fn leave_landing<P: Peer>(
-    alloc: Global,
     now: u64,
     flights: &mut Flights<P>,
-    idle: &mut IdlePairs<P>,
     peers: &Peers<P>,
     pairs: &mut Pairs<P>,
-    waiting: &Waiting<P>,
+    waiting: &mut Waiting<P>,
     were_fair: bool,
 ) -> Result<Left<P>, Error>
-    requires indexed { IsIndexOf P.cmp (of_pairs P.cmp pairs.old.entries waiting.now.messages
-        (in_flight flights.old)) idle.old.entries }
+    requires indexed { IsIndexOf P.cmp (of_pairs P.cmp pairs.old.entries waiting.old.messages
+        (in_flight flights.old)) (since_of P.cmp waiting.old.told) }
     requires one_each { ∥ OneForEachPair P.cmp (rated_messages (in_flight flights.old)) ∥₁ }
     requires later { were_fair ≡ true → flights.old.at ≤ now }
     requires rated { were_fair ≡ true
@@ -135,17 +132,20 @@ pub(crate) fn leave_landing<P: Peer>(
     ensures lands { IfOk result (λ left. FirstLands P.cmp now (messages left.done.items)
         (arrival_of P.cmp pairs.old.entries) (arrival_of P.cmp pairs.new.entries) left.deliver_at) }
     ensures idle { IfOk result (λ left. left.since ≡ since_of_first P.cmp (of_pairs P.cmp pairs.new.entries
-        waiting.now.messages (in_flight flights.new)) (messages left.done.items)) }
-    ensures indexed { OnOk result (IsIndexOf P.cmp (of_pairs P.cmp pairs.new.entries waiting.now.messages
-        (in_flight flights.new)) idle.new.entries) }
-    ensures before { flights.new.list.before ≡ flights.old.list.before }
+        waiting.new.messages (in_flight flights.new)) (messages left.done.items)) }
+    ensures messages { OnOk result (waiting.new.messages ≡ waiting.old.messages) }
+    ensures indexed { OnOk result (IsIndexOf P.cmp (of_pairs P.cmp pairs.new.entries waiting.new.messages
+        (in_flight flights.new)) (since_of P.cmp waiting.new.told)) }
+    ensures flights_before { flights.new.list.before ≡ flights.old.list.before }
+    ensures pairs_before { pairs.new.before ≡ pairs.old.before }
+    ensures waiting_before { waiting.new.before ≡ waiting.old.before }
     ensures refused { IfErr result (λ e. (e ≡ Error.OutOfMemory) ⊎ ((e ≡ Error.MomentTooLate)
         × IsFirstLate P.cmp now
         (done_by P.cmp now (caps_of P.cmp peers.now.entries pairs.old.entries) flights.old))) }
 {
     let done = part(now, flights, peers, pairs, were_fair)?;
-    let deliver_at = land_first(alloc, now, pairs, &done)?;
-    let since = rest_all(alloc, idle, waiting, pairs, &done)?;
+    let deliver_at = land_first(now, pairs, &done)?;
+    let since = rest_all(waiting, pairs, &done)?;
     Ok(Left {
         done,
         deliver_at,

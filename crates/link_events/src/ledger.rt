@@ -2,6 +2,7 @@
 ghost use Rattle.std.specs.Prelude.{◌≡◌, true, false, OnOk, IfErr};
 ghost use Rattle.link_waiting.specs.Idle.Index.{IsIndexOf};
 ghost use Rattle.link_flights.specs.Flights.InFlight.{in_flight};
+ghost use Rattle.link_waiting.specs.Idle.Waits.{since_of};
 ghost use Rattle.link_waiting.specs.Idle.AtRest.{of_pairs};
 ghost use Rattle.link_pairs.specs.Pairs.CapsOf.{caps_of};
 ghost use Rattle.link_flights.specs.Flights.Rated.{WereRatedUnder};
@@ -13,7 +14,6 @@ use fair_rates::peer::Peer;
 use link_flights::flight_list::Flights;
 use link_pairs::known_pairs::Pairs;
 use link_pairs::peers::Peers;
-use link_waiting::idle_pairs::IdlePairs;
 use link_waiting::waiting::Waiting;
 use std::alloc::Global;
 
@@ -24,7 +24,6 @@ pub struct Ledger<P: Peer> {
     pub(crate) peers: Peers<P>,
     pub(crate) pairs: Pairs<P>,
     pub(crate) waiting: Waiting<P>,
-    pub(crate) idle: IdlePairs<P>,
     pub flights: Flights<P>,
     /// Whether a limit has come.
     pub(crate) limited: bool,
@@ -37,7 +36,7 @@ pub struct Ledger<P: Peer> {
     /// Whether all have to be rated at the next account: it was refused, or what a changed cap was about is limited no more.
     pub(crate) stale: bool,
     pub ghost indexed: { IsIndexOf P.cmp (of_pairs P.cmp pairs.entries waiting.messages
-        (in_flight flights)) idle.entries },
+        (in_flight flights)) (since_of P.cmp waiting.told) },
     pub ghost one_each: { ∥ OneForEachPair P.cmp (rated_messages (in_flight flights)) ∥₁ },
     pub ghost rated: { stale ≡ false → ∥ WereRatedUnder P.cmp (caps_of P.cmp peers.entries pairs.entries) flights ∥₁ },
 }
@@ -46,19 +45,18 @@ impl<P: Peer> Ledger<P> {
     ghost use Rattle.link_simulation.specs.Simulation.Calls.{limited_by, linked_by};
     ghost use Rattle.link_simulation.specs.Rule.Planned.{new_planned, next_event as next_of_planned};
     ghost use Rattle.link_events.specs.Steps.AsPlanned.{planned};
-    ghost use Rattle.link_events.specs.Steps.Marks.{IsMarked};
+    ghost use Rattle.link_events.specs.Steps.Marks.{before_of, IsMarked};
 
     /// An empty ledger before any limit, whose first flow has that id.
     pub fn new(alloc: Global, first: u64) -> Self
         ensures planned { planned P.cmp result ≡ new_planned first }
-        ensures marked { IsMarked result.flights }
+        ensures marked { IsMarked result }
     {
         Ledger {
             alloc,
-            peers: Peers::new(),
-            pairs: Pairs::new(),
-            waiting: Waiting::new(),
-            idle: IdlePairs::new(),
+            peers: Peers::new(alloc),
+            pairs: Pairs::new(alloc),
+            waiting: Waiting::new(alloc),
             flights: Flights::new(alloc),
             limited: false,
             next_id: first,
@@ -81,14 +79,14 @@ impl<P: Peer> Ledger<P> {
                   (planned P.cmp self.old).caps peer.now egress ingress;
               limited = true;
             }) }
-        ensures before { self.new.flights.list.before ≡ self.old.flights.list.before }
+        ensures before { before_of self.new ≡ before_of self.old }
         ensures refused { IfErr result (λ e. e ≡ Error.OutOfMemory) }
     {
         let stale = self.stale;
         self.stale = true;
         self.limited = true;
         self.flights.loosen_peer(peer)?;
-        self.peers.set(self.alloc, peer, egress, ingress)?;
+        self.peers.set(peer, egress, ingress)?;
         self.stale = stale || !self.flights.loose_is_limited(&self.peers, &self.pairs);
         Ok(())
     }
@@ -106,16 +104,14 @@ impl<P: Peer> Ledger<P> {
                   (planned P.cmp self.old).caps origin.now recipient.now cap;
               limited = true;
             }) }
-        ensures before { self.new.flights.list.before ≡ self.old.flights.list.before }
+        ensures before { before_of self.new ≡ before_of self.old }
         ensures refused { IfErr result (λ e. e ≡ Error.OutOfMemory) }
     {
-        let mut pairs = self.pairs.clone()?;
-        pairs.set_cap(self.alloc, origin, recipient, cap)?;
         let stale = self.stale;
         self.stale = true;
         self.limited = true;
         self.flights.loosen_sent(origin)?;
-        self.pairs = pairs;
+        self.pairs.set_cap(origin, recipient, cap)?;
         self.stale = stale || !self.flights.loose_is_limited(&self.peers, &self.pairs);
         Ok(())
     }

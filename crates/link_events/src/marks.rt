@@ -1,24 +1,15 @@
 //! How a call begins at a mark, and how all is put back to it where the call is refused.
-ghost use Rattle.std.specs.Prelude.{◌≡◌, [], is_ok, true, false, IfOk, IfErr, OnOk, OnErr};
+ghost use Rattle.std.specs.Prelude.{◌≡◌, [], IfOk, IfErr, OnOk, OnErr};
 
 use crate::ledger::Ledger;
 use fair_rates::error::Error;
 use fair_rates::peer::Peer;
 use link_flights::flight_list::{Flights, Mark};
-use link_pairs::known_pairs::Pairs;
-use link_pairs::peers::Peers;
-use link_waiting::idle_pairs::IdlePairs;
 use link_waiting::waiting::Waiting;
-use std::alloc::AllocError;
-use std::mem;
 
-/// All that a call may change beside the list of what is in flight, as it was before the call.
+/// All that a call may change beside what is changed in place, as it was before the call.
 #[derive(Drop)]
 pub struct Kept<P: Peer> {
-    peers: Peers<P>,
-    pairs: Pairs<P>,
-    waiting: Waiting<P>,
-    idle: IdlePairs<P>,
     flights: Mark<P>,
     limited: bool,
     next_id: u64,
@@ -28,56 +19,29 @@ pub struct Kept<P: Peer> {
 }
 
 /// What stopped half-way is given up: nothing is in flight, and no message waits. All can still be put back.
-pub(crate) fn give_up<P: Peer>(
-    flights: &mut Flights<P>,
-    waiting: &mut Waiting<P>,
-    idle: &mut IdlePairs<P>,
-)
+pub(crate) fn give_up<P: Peer>(flights: &mut Flights<P>, waiting: &mut Waiting<P>)
     ensures flights { flights.new.list.items ≡ [] }
-    ensures before { flights.new.list.before ≡ flights.old.list.before }
-    ensures waiting { waiting.new.messages ≡ [] }
-    ensures idle { idle.new.entries ≡ [] }
+    ensures flights_before { flights.new.list.before ≡ flights.old.list.before }
+    ensures messages { waiting.new.messages ≡ [] }
+    ensures told { waiting.new.told ≡ [] }
+    ensures waiting_before { waiting.new.before ≡ waiting.old.before }
 {
     flights.give_up();
-    *waiting = Waiting::new();
-    *idle = IdlePairs::new();
+    waiting.give_up();
 }
 
 impl<P: Peer> Ledger<P> {
     ghost use Rattle.link_events.specs.Steps.AsPlanned.{planned};
-    ghost use Rattle.link_events.specs.Steps.Marks.{IsMarked, IsKeptOf, CanBePutBack, IsPutBack};
+    ghost use Rattle.link_events.specs.Steps.Marks.{before_of, IsMarked, IsKeptOf, CanBePutBack, IsPutBack};
 
-    /// The same caps and last arrivals, the same messages that wait, and the same idle pairs.
-    fn clone_known(&self) -> Result<(Peers<P>, Pairs<P>, Waiting<P>, IdlePairs<P>), AllocError>
-        ensures peers { IfOk result (λ known. known.0.entries ≡ self.now.peers.entries) }
-        ensures pairs { IfOk result (λ known. known.1.entries ≡ self.now.pairs.entries) }
-        ensures waiting { IfOk result (λ known. known.2.messages ≡ self.now.waiting.messages) }
-        ensures idle { IfOk result (λ known. known.3.entries ≡ self.now.idle.entries) }
-    {
-        Ok((
-            self.peers.clone()?,
-            self.pairs.clone()?,
-            self.waiting.clone()?,
-            self.idle.clone()?,
-        ))
-    }
-
-    /// What a call may change is put aside, and the call works on clones that share the lists. What is
-    /// in flight is changed in place.
-    pub fn keep(&mut self) -> Result<Kept<P>, Error>
-        requires { IsMarked self.old.flights }
-        ensures kept { IfOk result (λ kept. IsKeptOf self.old kept self.new.flights.list.before) }
-        ensures same { OnOk result (planned P.cmp self.new ≡ planned P.cmp self.old) }
-        ensures unchanged { OnErr result (self.new ≡ self.old) }
+    /// What a call may change is put aside, but for what is changed in place: that stands at its mark.
+    pub fn keep(&self) -> Result<Kept<P>, Error>
+        requires { IsMarked self.now }
+        ensures kept { IfOk result (λ kept. IsKeptOf self.now kept (before_of self.now)) }
         ensures refused { IfErr result (λ e. e ≡ Error.OutOfMemory) }
     {
         let flights = self.flights.mark()?;
-        let (peers, pairs, waiting, idle) = self.clone_known()?;
         Ok(Kept {
-            peers: mem::replace(&mut self.peers, peers),
-            pairs: mem::replace(&mut self.pairs, pairs),
-            waiting: mem::replace(&mut self.waiting, waiting),
-            idle: mem::replace(&mut self.idle, idle),
             flights,
             limited: self.limited,
             next_id: self.next_id,
@@ -93,10 +57,6 @@ impl<P: Peer> Ledger<P> {
         ensures { IsPutBack self.old kept self.new }
     {
         let Kept {
-            peers,
-            pairs,
-            waiting,
-            idle,
             flights,
             limited,
             next_id,
@@ -105,10 +65,9 @@ impl<P: Peer> Ledger<P> {
             stale,
         } = kept;
         self.flights.take_back(flights);
-        self.peers = peers;
-        self.pairs = pairs;
-        self.waiting = waiting;
-        self.idle = idle;
+        self.peers.undo();
+        self.pairs.undo();
+        self.waiting.undo();
         self.limited = limited;
         self.next_id = next_id;
         self.finish = finish;
@@ -116,15 +75,15 @@ impl<P: Peer> Ledger<P> {
         self.stale = stale;
     }
 
-    /// What has been done stays. Once the old lists are gone, nothing is shared, and what is known of
-    /// pairs and which messages wait is put in its place without a copy.
+    /// What has been done stays. It takes no memory.
     fn commit(&mut self)
         ensures same { planned P.cmp self.new ≡ planned P.cmp self.old }
-        ensures marked { IsMarked self.new.flights }
+        ensures marked { IsMarked self.new }
     {
         self.flights.commit();
-        self.pairs.settle();
-        self.waiting.settle();
+        self.peers.commit();
+        self.pairs.commit();
+        self.waiting.commit();
     }
 
     /// A call ends with that answer. Where it was made, what has been done stays; where it was refused,
@@ -134,7 +93,7 @@ impl<P: Peer> Ledger<P> {
         ensures answer { result ≡ answer }
         ensures made { OnOk answer (planned P.cmp self.new ≡ planned P.cmp self.old) }
         ensures unchanged { OnErr answer (IsPutBack self.old kept self.new) }
-        ensures marked { IsMarked self.new.flights }
+        ensures marked { IsMarked self.new }
     {
         if answer.is_ok() {
             drop(kept);

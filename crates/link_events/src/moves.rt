@@ -22,6 +22,7 @@ use std::rc::Rc;
 
 impl<P: Peer> Ledger<P> {
     ghost use Rattle.link_events.specs.Steps.AsPlanned.{planned};
+    ghost use Rattle.link_events.specs.Steps.Marks.{before_of};
     ghost use Rattle.link_waiting.specs.Idle.Starting.{may_launch_first};
     ghost use Rattle.link_waiting.specs.Idle.AtRest.{is_sending};
 
@@ -44,20 +45,18 @@ impl<P: Peer> Ledger<P> {
             ≡ idle_since P.cmp (planned P.cmp self.new) origin.now recipient.now) }
         ensures flights { OnOk result (self.new.flights ≡ self.old.flights) }
         ensures stale { OnOk result (self.new.stale ≡ self.old.stale) }
-        ensures before { self.new.flights.list.before ≡ self.old.flights.list.before }
+        ensures before { before_of self.new ≡ before_of self.old }
         ensures refused { IfErr result (λ e. e ≡ Error.OutOfMemory) }
     {
         let latency = idle_latency(is_busy, &self.waiting, origin, recipient);
-        let last = self.pairs.raise(self.alloc, origin, recipient, moment)?;
-        let before = ready_from(last, latency);
+        let last = self.pairs.raise(origin, recipient, moment)?;
         let moved = ready_from(Some(later_of(last, moment)), latency);
-        let changed = self
-            .idle
-            .change(self.alloc, origin, recipient, before, moved);
-        if let Err(error) = changed {
-            give_up(&mut self.flights, &mut self.waiting, &mut self.idle);
-            self.stale = true;
-            return Err(error);
+        if moved.is_some() {
+            if let Err(error) = self.waiting.set_since(origin, recipient, moved) {
+                give_up(&mut self.flights, &mut self.waiting);
+                self.stale = true;
+                return Err(error);
+            }
         }
         Ok(moved)
     }
@@ -76,34 +75,26 @@ impl<P: Peer> Ledger<P> {
             ≡ with_queued P.cmp (planned P.cmp self.old) (message_of message)) }
         ensures idle { IfOk result (λ since. since
             ≡ idle_since P.cmp (planned P.cmp self.new) pair.now.origin pair.now.recipient) }
-        ensures before { self.new.flights.list.before ≡ self.old.flights.list.before }
+        ensures before { before_of self.new ≡ before_of self.old }
         ensures refused { IfErr result (λ e. e ≡ Error.OutOfMemory) }
     {
         let (origin, recipient) = (&pair.origin, &pair.recipient);
-        let before = idle_from(is_busy, &self.waiting, &self.pairs, origin, recipient);
-        self.waiting.push(self.alloc, message)?;
-        let after = idle_from(is_busy, &self.waiting, &self.pairs, origin, recipient);
-        let changed = self
-            .idle
-            .change(self.alloc, origin, recipient, before, after);
-        if let Err(error) = changed {
-            give_up(&mut self.flights, &mut self.waiting, &mut self.idle);
+        if let Err(error) = self.waiting.push(message) {
+            give_up(&mut self.flights, &mut self.waiting);
             self.stale = true;
             return Err(error);
         }
-        Ok(after)
+        let since = idle_from(is_busy, &self.waiting, &self.pairs, origin, recipient);
+        if let Err(error) = self.waiting.set_since(origin, recipient, since) {
+            give_up(&mut self.flights, &mut self.waiting);
+            self.stale = true;
+            return Err(error);
+        }
+        Ok(since)
     }
 
     /// The first message that waits for the pair is in flight from now on, under the next flow id.
-    /// It may start from the moment `since` on.
-    pub(crate) fn depart(
-        &mut self,
-        since: Option<u64>,
-        origin: &P,
-        recipient: &P,
-        now: u64,
-    ) -> Result<(), Error>
-        requires idle { since ≡ idle_since P.cmp (planned P.cmp self.old) origin.now recipient.now }
+    pub(crate) fn depart(&mut self, origin: &P, recipient: &P, now: u64) -> Result<(), Error>
         requires ready { may_launch_first P.cmp now (planned P.cmp self.old)
             (first_of P.cmp (planned P.cmp self.old).waiting origin.now recipient.now) ≡ true }
         requires id { self.old.next_id < 18446744073709551615 }
@@ -113,20 +104,20 @@ impl<P: Peer> Ledger<P> {
             × (first_of P.cmp (planned P.cmp self.old).waiting origin.now recipient.now ≡ Some (message_of message))
             × Joins self.old.next_id now message self.old.flights self.new.flights) }
         ensures stale { OnOk result (self.new.stale ≡ self.old.stale) }
-        ensures before { self.new.flights.list.before ≡ self.old.flights.list.before }
+        ensures before { before_of self.new ≡ before_of self.old }
         ensures refused { IfErr result (λ e. e ≡ Error.OutOfMemory) }
     {
-        let Some(message) = self.waiting.take_first(origin, recipient)? else {
-            return Ok(());
+        let message = match self.waiting.take_first(origin, recipient) {
+            Ok(Some(message)) => message,
+            Ok(None) => return Ok(()),
+            Err(error) => {
+                give_up(&mut self.flights, &mut self.waiting);
+                self.stale = true;
+                return Err(error);
+            }
         };
-        let changed = self.idle.change(self.alloc, origin, recipient, since, None);
-        if let Err(error) = changed {
-            give_up(&mut self.flights, &mut self.waiting, &mut self.idle);
-            self.stale = true;
-            return Err(error);
-        }
         if let Err(error) = self.flights.push(self.next_id, message, now) {
-            give_up(&mut self.flights, &mut self.waiting, &mut self.idle);
+            give_up(&mut self.flights, &mut self.waiting);
             self.stale = true;
             return Err(error);
         }
@@ -141,12 +132,12 @@ impl<P: Peer> Ledger<P> {
         requires id { self.old.next_id < 18446744073709551615 }
         ensures started { OnOk result (planned P.cmp self.new ≡ launched P.cmp now
             (with_queued P.cmp (planned P.cmp self.old) (message_of message)) (message_of message)) }
-        ensures before { self.new.flights.list.before ≡ self.old.flights.list.before }
+        ensures before { before_of self.new ≡ before_of self.old }
         ensures refused { IfErr result (λ e. e ≡ Error.OutOfMemory) }
     {
         let message = Rc::new(self.alloc, message)?;
         if let Err(error) = self.flights.push(self.next_id, message, now) {
-            give_up(&mut self.flights, &mut self.waiting, &mut self.idle);
+            give_up(&mut self.flights, &mut self.waiting);
             self.stale = true;
             return Err(error);
         }
@@ -155,18 +146,22 @@ impl<P: Peer> Ledger<P> {
     }
 
     /// A message waits behind the one of its pair that is in flight.
-    pub fn wait(&mut self, now: u64, message: Message<P>) -> Result<(), Error>
+    pub(crate) fn wait(&mut self, now: u64, message: Message<P>) -> Result<(), Error>
         requires limited { (planned P.cmp self.old).limited ≡ true }
         requires busy { is_sending P.cmp (planned P.cmp self.old) message.origin message.recipient ≡ true }
         ensures enqueues { OnOk result (Enqueues P.cmp now (message_of message) (planned P.cmp self.old)
             (goes [] (planned P.cmp self.new))) }
         ensures waits { OnOk result (PlansStart P.cmp now
             (with_queued P.cmp (planned P.cmp self.old) (message_of message)) (planned P.cmp self.new)) }
-        ensures unchanged { OnErr result (planned P.cmp self.new ≡ planned P.cmp self.old) }
-        ensures flights { self.new.flights ≡ self.old.flights }
+        ensures flights { OnOk result (self.new.flights ≡ self.old.flights) }
+        ensures before { before_of self.new ≡ before_of self.old }
         ensures refused { IfErr result (λ e. e ≡ Error.OutOfMemory) }
     {
-        self.waiting.push(self.alloc, message)?;
+        if let Err(error) = self.waiting.push(message) {
+            give_up(&mut self.flights, &mut self.waiting);
+            self.stale = true;
+            return Err(error);
+        }
         self.plan_start(now);
         Ok(())
     }

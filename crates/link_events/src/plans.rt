@@ -22,6 +22,7 @@ use std::rc::Rc;
 
 impl<P: Peer> Ledger<P> {
     ghost use Rattle.link_events.specs.Steps.AsPlanned.{planned};
+    ghost use Rattle.link_events.specs.Steps.Marks.{before_of, now_of};
     ghost use Rattle.link_waiting.specs.Idle.PairsOfMessages.{NamesPairOf};
     ghost use Rattle.link_waiting.specs.Idle.Starting.{ready_messages};
 
@@ -30,7 +31,7 @@ impl<P: Peer> Ledger<P> {
     pub(crate) fn account(&mut self, now: u64) -> Result<VecDeque<Rc<Message<P>>>, Error>
         ensures accounts { IfOk result (λ leavers. Accounts P.cmp now (planned P.cmp self.old)
             (messages leavers.items) (planned P.cmp self.new)) }
-        ensures before { self.new.flights.list.before ≡ self.old.flights.list.before }
+        ensures before { before_of self.new ≡ before_of self.old }
         ensures refused { IfErr result (λ e. e ≡ Error.OutOfMemory) }
     {
         let (done, were_fair) = self.leave_at(now)?;
@@ -55,25 +56,23 @@ impl<P: Peer> Ledger<P> {
             (caps_of P.cmp self.new.peers.entries self.new.pairs.entries) self.new.flights (messages left.0.items) ∥₁) }
         ensures moment { OnOk result (self.new.flights.at ≡ now) }
         ensures stale { self.new.stale ≡ true }
-        ensures before { self.new.flights.list.before ≡ self.old.flights.list.before }
+        ensures before { before_of self.new ≡ before_of self.old }
         ensures refused { IfErr result (λ e. e ≡ Error.OutOfMemory) }
     {
         let were_fair = self.were_fair_until(now);
         self.stale = true;
         let left = leave(
-            self.alloc,
             now,
             &mut self.flights,
-            &mut self.idle,
             &self.peers,
             &self.pairs,
-            &self.waiting,
+            &mut self.waiting,
             were_fair,
         );
         match left {
             Ok(done) => Ok((done, were_fair)),
             Err(error) => {
-                give_up(&mut self.flights, &mut self.waiting, &mut self.idle);
+                give_up(&mut self.flights, &mut self.waiting);
                 Err(error)
             }
         }
@@ -88,26 +87,24 @@ impl<P: Peer> Ledger<P> {
             (messages left.0.done.items) ∥₁) }
         ensures moment { OnOk result (self.new.flights.at ≡ now) }
         ensures stale { self.new.stale ≡ true }
-        ensures before { self.new.flights.list.before ≡ self.old.flights.list.before }
+        ensures before { before_of self.new ≡ before_of self.old }
         ensures refused { IfErr result (λ e. (e ≡ Error.OutOfMemory) ⊎ ((e ≡ Error.MomentTooLate)
             × LandsLate P.cmp now (planned P.cmp self.old))) }
     {
         let were_fair = self.were_fair_until(now);
         self.stale = true;
         let left = leave_landing(
-            self.alloc,
             now,
             &mut self.flights,
-            &mut self.idle,
             &self.peers,
             &mut self.pairs,
-            &self.waiting,
+            &mut self.waiting,
             were_fair,
         );
         match left {
             Ok(left) => Ok((left, were_fair)),
             Err(error) => {
-                give_up(&mut self.flights, &mut self.waiting, &mut self.idle);
+                give_up(&mut self.flights, &mut self.waiting);
                 Err(error)
             }
         }
@@ -130,7 +127,7 @@ impl<P: Peer> Ledger<P> {
         ensures accounts { OnOk result ((old : AnyPlanned P) (leavers : List (AnyMessage P))
             → Leaves P.cmp now old leavers (planned P.cmp self.old)
             → Accounts P.cmp now old leavers (planned P.cmp self.new)) }
-        ensures before { self.new.flights.list.before ≡ self.old.flights.list.before }
+        ensures before { before_of self.new ≡ before_of self.old }
         ensures refused { IfErr result (λ e. e ≡ Error.OutOfMemory) }
     {
         let stay_fair = were_fair && !self.flights.is_empty();
@@ -143,7 +140,7 @@ impl<P: Peer> Ledger<P> {
                 self.enlarge_units()
             }
             Err(error) => {
-                give_up(&mut self.flights, &mut self.waiting, &mut self.idle);
+                give_up(&mut self.flights, &mut self.waiting);
                 Err(error)
             }
         }
@@ -152,12 +149,12 @@ impl<P: Peer> Ledger<P> {
     /// What is in flight counts in larger units, where that is due and can be. All are worth what they were.
     fn enlarge_units(&mut self) -> Result<(), Error>
         ensures same { OnOk result (planned P.cmp self.new ≡ planned P.cmp self.old) }
-        ensures before { self.new.flights.list.before ≡ self.old.flights.list.before }
+        ensures before { before_of self.new ≡ before_of self.old }
         ensures refused { IfErr result (λ e. e ≡ Error.OutOfMemory) }
     {
         if let Err(error) = self.flights.enlarge_units() {
             self.stale = true;
-            give_up(&mut self.flights, &mut self.waiting, &mut self.idle);
+            give_up(&mut self.flights, &mut self.waiting);
             return Err(error);
         }
         Ok(())
@@ -167,15 +164,17 @@ impl<P: Peer> Ledger<P> {
     pub(crate) fn plan_start(&mut self, now: u64)
         ensures plans { PlansStart P.cmp now (planned P.cmp self.old) (planned P.cmp self.new) }
         ensures flights { self.new.flights ≡ self.old.flights }
+        ensures now { now_of self.new ≡ now_of self.old }
+        ensures before { before_of self.new ≡ before_of self.old }
     {
-        self.start = self.idle.first().map(|moment| now.max(moment));
+        self.start = self.waiting.first_since().map(|moment| now.max(moment));
     }
 
     /// Whether some waiting message may start at `now`.
     pub(crate) fn is_ready(&self, now: u64) -> bool
         ensures ready { (result ≡ true) ↔ SomeReadyAt P.cmp (planned P.cmp self.now) now }
     {
-        match self.idle.first() {
+        match self.waiting.first_since() {
             Some(moment) => moment <= now,
             None => false,
         }
@@ -187,6 +186,6 @@ impl<P: Peer> Ledger<P> {
             (ready_messages P.cmp now (planned P.cmp self.now))) }
         ensures refused { IfErr result (λ e. e ≡ Error.OutOfMemory) }
     {
-        self.idle.ready(self.alloc, now)
+        self.waiting.ready(self.alloc, now)
     }
 }

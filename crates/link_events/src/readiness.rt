@@ -1,12 +1,12 @@
 //! Ordered pairs of peers, and from when on their next messages may start.
-ghost use Rattle.std.specs.Prelude.{◌≡◌, ℕ, true, false, List, [], option_map, IfOk, IfErr, OnOk};
+ghost use Rattle.std.specs.Prelude.{◌≡◌, true, List, [], None, option_map, IfOk, IfErr, OnOk};
 ghost use Rattle.std.specs.List.{list_any};
-ghost use Rattle.link_waiting.specs.Idle.Index.{is_listed, is_of_pair, AreAtRest, idle_from as idle_since};
+ghost use Rattle.link_waiting.specs.Idle.Index.{is_of_pair, AreAtRest, idle_from as idle_since};
 ghost use Rattle.link_waiting.specs.Idle.FirstMoment.{first_moment};
+ghost use Rattle.link_waiting.specs.Idle.Waits.{since_of};
 ghost use Rattle.link_waiting.specs.Idle.AtRest.{of_pairs, is_sending};
 ghost use Rattle.link_simulation.specs.Rule.Planned.{RatedFlight};
-ghost use Rattle.link_pairs.specs.declared.known_pairs.Pair.{Pair};
-ghost use Rattle.link_pairs.specs.Pairs.Entries.{arrival_of};
+ghost use Rattle.link_pairs.specs.Pairs.Entries.{Pair, arrival_of};
 ghost use Rattle.link_pairs.specs.Pairs.Messages.{messages};
 ghost use Rattle.link_events.specs.Steps.Landing.{since_of_first};
 
@@ -14,9 +14,7 @@ use fair_rates::error::Error;
 use fair_rates::peer::Peer;
 use link_pairs::known_pairs::Pairs;
 use link_pairs::message::Message;
-use link_waiting::idle_pairs::IdlePairs;
 use link_waiting::waiting::Waiting;
-use std::alloc::Global;
 use std::collections::VecDeque;
 use std::rc::Rc;
 
@@ -83,18 +81,18 @@ pub(crate) fn idle_from<P: Peer>(
 /// The pairs of messages that are done are idle from now on: none of them is in flight. Answers the
 /// moment from which on the next message of the first one's pair may start, if one waits.
 pub(crate) fn rest_all<P: Peer>(
-    alloc: Global,
-    idle: &mut IdlePairs<P>,
-    waiting: &Waiting<P>,
+    waiting: &mut Waiting<P>,
     pairs: &Pairs<P>,
     done: &VecDeque<Rc<Message<P>>>,
 ) -> Result<Option<u64>, Error>
-    requires unlisted { (t : ℕ) (a b : P) → list_any (is_of_pair P.cmp a b) (messages done.now.items) ≡ true
-        → is_listed P.cmp idle.old.entries t a b ≡ false }
-    ensures listed { OnOk result (AreAtRest P.cmp (of_pairs P.cmp pairs.now.entries waiting.now.messages [])
-        (messages done.now.items) idle.old.entries idle.new.entries) }
+    requires busy { (a b : P) → list_any (is_of_pair P.cmp a b) (messages done.now.items) ≡ true
+        → since_of P.cmp waiting.old.told a b ≡ None }
+    ensures messages { OnOk result (waiting.new.messages ≡ waiting.old.messages) }
+    ensures rest { OnOk result (AreAtRest P.cmp (of_pairs P.cmp pairs.now.entries waiting.old.messages [])
+        (messages done.now.items) (since_of P.cmp waiting.old.told) (since_of P.cmp waiting.new.told)) }
     ensures first { IfOk result (λ since. since ≡ since_of_first P.cmp
-        (of_pairs P.cmp pairs.now.entries waiting.now.messages []) (messages done.now.items)) }
+        (of_pairs P.cmp pairs.now.entries waiting.old.messages []) (messages done.now.items)) }
+    ensures before { waiting.new.before ≡ waiting.old.before }
     ensures refused { IfErr result (λ e. e ≡ Error.OutOfMemory) }
 {
     let mut first = None;
@@ -102,8 +100,8 @@ pub(crate) fn rest_all<P: Peer>(
         let message = Rc::as_ref(&done[at]);
         let (origin, recipient) = (&message.origin, &message.recipient);
         let since = idle_from(false, waiting, pairs, origin, recipient);
-        if let Some(moment) = since {
-            idle.add(alloc, origin, recipient, moment)?;
+        if since.is_some() {
+            waiting.set_since(origin, recipient, since)?;
         }
         if at == 0 {
             first = since;

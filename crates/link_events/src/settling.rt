@@ -26,6 +26,7 @@ use std::rc::Rc;
 
 impl<P: Peer> Ledger<P> {
     ghost use Rattle.link_events.specs.Steps.AsPlanned.{planned};
+    ghost use Rattle.link_events.specs.Steps.Marks.{before_of};
 
     /// A message that is done lands: no later one of its pair arrives before it. Answers the moment at
     /// which it arrives, if it does, and the moment from which on the first waiting message of its pair
@@ -46,7 +47,7 @@ impl<P: Peer> Ledger<P> {
             ≡ idle_since P.cmp (planned P.cmp self.new) message.now.origin message.now.recipient) }
         ensures flights { OnOk result (self.new.flights ≡ self.old.flights) }
         ensures stale { OnOk result (self.new.stale ≡ self.old.stale) }
-        ensures before { self.new.flights.list.before ≡ self.old.flights.list.before }
+        ensures before { before_of self.new ≡ before_of self.old }
         ensures refused { IfErr result (λ e. ((e ≡ Error.MomentTooLate)
             × (is_late P.cmp now (message_of message.now) ≡ true)) ⊎ (e ≡ Error.OutOfMemory)) }
     {
@@ -80,7 +81,7 @@ impl<P: Peer> Ledger<P> {
         ensures starts { IfOk result (λ starts. starts ≡ true
             → StartsNext P.cmp now origin.now recipient.now self.old self.new) }
         ensures stale { OnOk result (self.new.stale ≡ self.old.stale) }
-        ensures before { self.new.flights.list.before ≡ self.old.flights.list.before }
+        ensures before { before_of self.new ≡ before_of self.old }
         ensures refused { IfErr result (λ e. e ≡ Error.OutOfMemory) }
     {
         if !self.may_launch(since, origin, recipient, now) {
@@ -90,7 +91,7 @@ impl<P: Peer> Ledger<P> {
             Some(next) if self.would_stay(next) => {}
             _ => return Ok(false),
         }
-        self.depart(since, origin, recipient, now)?;
+        self.depart(origin, recipient, now)?;
         Ok(true)
     }
 
@@ -117,7 +118,7 @@ impl<P: Peer> Ledger<P> {
             → (mid : AnyPlanned P) × Accounts P.cmp now old leavers mid
             × Launches P.cmp now (landed_with P.cmp now mid (message_of message.now))
             (next_of P.cmp mid (message_of message.now)) (goes (messages more.items) (planned P.cmp self.new))) }
-        ensures before { self.new.flights.list.before ≡ self.old.flights.list.before }
+        ensures before { before_of self.new ≡ before_of self.old }
         ensures refused { IfErr result (λ e. (old here : AnyPlanned P) (leavers : List (AnyMessage P))
             → Leaves P.cmp now old leavers here
             → planned P.cmp self.old ≡ landed_with P.cmp now here (message_of message.now)
@@ -145,7 +146,7 @@ impl<P: Peer> Ledger<P> {
             × ((course : Course (Completed P) (AnyPlanned P))
             → Finishes P.cmp now (messages queue.items) (planned P.cmp self.new) course
             → Settles P.cmp now (planned P.cmp self.old) (preceded cs course))) }
-        ensures before { self.new.flights.list.before ≡ self.old.flights.list.before }
+        ensures before { before_of self.new ≡ before_of self.old }
         ensures refused { IfErr result (IsRefusedFor (λ fault. Settles P.cmp now (planned P.cmp self.old)
             (meets fault))) }
     {
@@ -177,7 +178,7 @@ impl<P: Peer> Ledger<P> {
         ensures settles { IfOk result (λ done. (cs : List (Completed P))
             × (map ended_of ended.new.items ≡ map ended_of ended.old.items ++ cs)
             × Settles P.cmp now (planned P.cmp self.old) (goes cs (planned P.cmp self.new))) }
-        ensures before { self.new.flights.list.before ≡ self.old.flights.list.before }
+        ensures before { before_of self.new ≡ before_of self.old }
         ensures refused { IfErr result (IsRefusedFor (λ fault. Settles P.cmp now (planned P.cmp self.old)
             (meets fault))) }
     {

@@ -80,6 +80,7 @@ impl<P: Peer> Component<P> {
     pub(crate) fn whole(alloc: Global) -> Component<P>
         ensures whole { result.whole ≡ true }
         ensures level { result.level ≡ 0 }
+        ensures near { result.near.items ≡ [] }
     {
         Component {
             whole: true,
@@ -110,11 +111,13 @@ impl<P: Peer> Component<P> {
         one.rated && one.is_below(&self.level)
     }
 
-    /// Whether the message in flight is rated anew.
+    /// Whether the message in flight, which keeps its rate or goes from one of the senders, is rated anew.
     pub(crate) fn has(&self, one: &Flight<P>) -> bool
+        requires { (keeps self.now (flight_at 0 one.now) || is_sender P.cmp self.now one.now.message.value.origin)
+            ≡ true }
         ensures { result ≡ is_of P.cmp self.now (flight_at 0 one.now) }
     {
-        self.has_sender(&one.message.origin) && !self.keeps(one)
+        !self.keeps(one)
     }
 
     /// Where the one of that number stands, of those of which it has an end.
@@ -223,7 +226,10 @@ impl<P: Peer> Flights<P> {
         done: &VecDeque<Rc<Message<P>>>,
         peers: &Peers<P>,
         pairs: &Pairs<P>,
+        noted: &mut Vec<bool>,
     ) -> Result<Option<Component<P>>, Error>
+        requires none { AreNoted [] noted.old.items }
+        requires each { length noted.old.items ≡ length self.now.list.items }
         ensures part { IfOk result (λ found. IfSome found (λ component. component.whole ≡ false)) }
         ensures closed { IfOk result (λ found. IfSome found (λ component.
             is_closed P.cmp component done.now.items (in_units self.now) ≡ true)) }
@@ -233,11 +239,15 @@ impl<P: Peer> Flights<P> {
             IfSome self.now.floor (λ floor. component.level ≤ floor))) }
         ensures near { IfOk result (λ found. IfSome found (λ component.
             AreNear P.cmp component component.near.items self.now.list.items)) }
+        ensures suited { IfOk result (λ found. IfSome found (λ component.
+            AreSuited P.cmp component component.near.items self.now.list.items)) }
+        ensures noted { IfOk result (λ found. IfSome found (λ component.
+            AreNoted component.near.items noted.new.items)) }
         ensures refused { IfErr result (λ e. e ≡ Error.OutOfMemory) }
     {
         let mut component = Component::new(self.alloc)?;
         self.join_touched(done, &mut component)?;
-        if !self.grow(&mut component, peers, pairs)? {
+        if !self.grow(&mut component, peers, pairs, noted)? {
             return Ok(None);
         }
         Ok(Some(component))
@@ -361,12 +371,16 @@ impl<P: Peer> Flights<P> {
         component: &mut Component<P>,
         peers: &Peers<P>,
         pairs: &Pairs<P>,
+        noted: &mut Vec<bool>,
     ) -> Result<bool, Error>
         requires none { component.old.near.items ≡ [] }
+        requires noted { AreNoted [] noted.old.items }
+        requires each { length noted.old.items ≡ length self.now.list.items }
         ensures joined { OnOk result (StartsWith component.old.joined.items component.new.joined.items) }
         ensures walked { IfOk result (λ all. all ≡ true →
             IsWalked P.cmp (length component.new.joined.items) component.new self.now.list.items) }
         ensures order { IfOk result (λ all. all ≡ true → Ascends 0 component.new.near.items) }
+        ensures noted { IfOk result (λ all. all ≡ true → AreNoted component.new.near.items noted.new.items) }
         ensures level { IfOk result (λ all. all ≡ true → IfSome self.now.floor (λ floor. component.new.level ≤ floor)) }
         ensures whole { component.new.whole ≡ component.old.whole }
         ensures refused { IfErr result (λ e. e ≡ Error.OutOfMemory) }
@@ -374,21 +388,20 @@ impl<P: Peer> Flights<P> {
         if component.is_large(self.list.len()) {
             return Ok(false);
         }
-        let mut noted = vec![in self.alloc; false; self.list.len()]?;
-        self.list_joined(component, &mut noted)?;
+        self.list_joined(component, noted)?;
         component.level = self.level(component, peers, pairs)?;
         let mut next = component.joined.len();
         if !self.join_near(component)? {
             return Ok(false);
         }
         while next < component.joined.len() {
-            self.list_joining(next, component, &mut noted)?;
+            self.list_joining(next, component, noted)?;
             if component.is_large(self.list.len()) {
                 return Ok(false);
             }
             next += 1;
         }
-        put_in_order(&mut component.near, &noted)?;
+        put_in_order(&mut component.near, noted)?;
         Ok(true)
     }
 

@@ -10,6 +10,7 @@ ghost use Rattle.fair_rates.specs.Sides.Subjects.{same_peer};
 
 use crate::flight::Flight;
 use crate::loose::Loose;
+use crate::notes::Notes;
 use crate::table::Table;
 use fair_rates::error::Error;
 use fair_rates::peer::Peer;
@@ -51,6 +52,8 @@ pub struct Flights<P: Peer> {
     pub(crate) unsearched: usize,
     /// At so many accounts in a row the scale has not grown. Only time hangs on it.
     pub(crate) stood: usize,
+    /// Room for what a search notes.
+    pub(crate) notes: Notes,
 
     pub ghost past: { list_all (λ one. not one.value.rated || nat_le one.value.since at) list.items ≡ true },
     pub ghost scaled: { 0 < scale },
@@ -84,6 +87,7 @@ impl<P: Peer> Flights<P> {
             settled: 0,
             unsearched: 0,
             stood: 0,
+            notes: Notes::new(alloc),
         }
     }
 

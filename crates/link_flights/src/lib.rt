@@ -12,6 +12,7 @@ mod flight;
 pub mod flight_list;
 mod fraction;
 pub mod loose;
+mod notes;
 mod rates;
 pub mod reading;
 pub mod table;

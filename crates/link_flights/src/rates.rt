@@ -10,6 +10,7 @@ ghost use Rattle.link_pairs.specs.Pairs.Messages.{messages, message_of};
 ghost use Rattle.fair_rates.specs.Sides.Ends.{flow_of};
 ghost use Rattle.link_pairs.specs.Pairs.CapsOf.{caps_of};
 ghost use Rattle.link_flights.specs.Flights.Components.{those_of, is_of, is_closed, has_both, AreNear, those_near};
+ghost use Rattle.link_flights.specs.Flights.Components.{AreNoted, AreSuited};
 ghost use Rattle.link_flights.specs.Flights.Flight.{AreTimed, rate_of, flight_at, flights_at, has_come};
 ghost use Rattle.link_flights.specs.Flights.RatedFlights.{are_standing};
 ghost use Rattle.fair_rates.specs.Filling.FairParts.{parts_of_level};
@@ -186,7 +187,9 @@ impl<P: Peer> Flights<P> {
         ensures refused { IfErr result (λ e. e ≡ Error.OutOfMemory) }
     {
         if were_rated && self.list.len() > FEW {
-            let touched = self.touched(done, peers, pairs)?;
+            let mut noted = self.notes.take(self.alloc, self.list.len())?;
+            let touched = self.touched(done, peers, pairs, &mut noted)?;
+            self.notes.give_back(noted, &touched.near);
             if let Some(found) = self.rate_touched(&touched, peers, pairs)? {
                 let unsearched = self.spared_after(touched.whole, found);
                 return Ok(self.settle(unsearched));
@@ -262,6 +265,8 @@ impl<P: Peer> Flights<P> {
     ) -> Result<Option<usize>, Error>
         requires near { touched.now.whole ≡ false
             → AreNear P.cmp touched.now touched.now.near.items self.old.list.items }
+        requires suited { touched.now.whole ≡ false
+            → AreSuited P.cmp touched.now touched.now.near.items self.old.list.items }
         requires left { All (λ u. u.left ≢ 0) (in_units self.old) }
         requires timed { AreTimed self.old.list.items }
         ensures gives { IfOk result (GivesBeside P.cmp (caps_of P.cmp peers.now.entries pairs.now.entries)
@@ -284,6 +289,7 @@ impl<P: Peer> Flights<P> {
     /// Whether the component has no end of any that is rated anew.
     fn has_none(&self, component: &Component<P>) -> bool
         requires near { AreNear P.cmp component.now component.now.near.items self.now.list.items }
+        requires suited { AreSuited P.cmp component.now component.now.near.items self.now.list.items }
         ensures { result ≡ none_is_rated P.cmp component.now self.now.list.items }
     {
         for at in &component.near {
@@ -353,6 +359,8 @@ impl<P: Peer> Flights<P> {
     ) -> Result<Option<usize>, Error>
         requires near { component.now.whole ≡ false
             → AreNear P.cmp component.now component.now.near.items self.old.list.items }
+        requires suited { component.now.whole ≡ false
+            → AreSuited P.cmp component.now component.now.near.items self.old.list.items }
         requires left { All (λ u. u.left ≢ 0) (in_units self.old) }
         requires timed { AreTimed self.old.list.items }
         ensures gives { IfOk result (GivesBeside P.cmp (caps_of P.cmp peers.now.entries pairs.now.entries)
@@ -376,19 +384,26 @@ impl<P: Peer> Flights<P> {
         done: &VecDeque<Rc<Message<P>>>,
         peers: &Peers<P>,
         pairs: &Pairs<P>,
+        noted: &mut Vec<bool>,
     ) -> Result<Component<P>, Error>
+        requires none { AreNoted [] noted.old.items }
+        requires each { length noted.old.items ≡ length self.now.list.items }
         ensures closed { IfOk result (λ touched. is_closed P.cmp touched done.now.items (in_units self.now) ≡ true) }
         ensures loose { IfOk result (λ touched. All (λ m. has_both P.cmp touched m ≡ true) self.now.loose) }
         ensures level { IfOk result (λ touched. IfSome self.now.floor (λ floor. touched.level ≤ floor)) }
         ensures near { IfOk result (λ touched. touched.whole ≡ false
             → AreNear P.cmp touched touched.near.items self.now.list.items) }
+        ensures suited { IfOk result (λ touched. touched.whole ≡ false
+            → AreSuited P.cmp touched touched.near.items self.now.list.items) }
+        ensures noted { IfOk result (λ touched. AreNoted touched.near.items noted.new.items) }
         ensures refused { IfErr result (λ e. e ≡ Error.OutOfMemory) }
     {
         if self.unsearched == 0 {
-            if let Some(component) = self.component(done, peers, pairs)? {
+            if let Some(component) = self.component(done, peers, pairs, noted)? {
                 return Ok(component);
             }
         }
+        noted.clear();
         let mut all = Component::whole(self.alloc);
         if self.list.len() - self.settled <= FEW_NEW {
             all.level = self.level(&all, peers, pairs)?;
@@ -450,6 +465,8 @@ impl<P: Peer> Flights<P> {
     fn kept_rates(&self, component: &Component<P>) -> Result<Vec<Option<Rc<Natural>>>, Error>
         requires near { component.now.whole ≡ false
             → AreNear P.cmp component.now component.now.near.items self.now.list.items }
+        requires suited { component.now.whole ≡ false
+            → AreSuited P.cmp component.now component.now.near.items self.now.list.items }
         ensures kept { IfOk result (λ kept. AreKept P.cmp component.now kept.items
             (those_near P.cmp component.now self.now.list.items)) }
         ensures refused { IfErr result (λ e. e ≡ Error.OutOfMemory) }
@@ -499,6 +516,8 @@ impl<P: Peer> Flights<P> {
     ) -> Result<(FairParts, Vec<Option<Rc<Natural>>>), Error>
         requires near { component.now.whole ≡ false
             → AreNear P.cmp component.now component.now.near.items self.now.list.items }
+        requires suited { component.now.whole ≡ false
+            → AreSuited P.cmp component.now component.now.near.items self.now.list.items }
         ensures fair { IfOk result (λ found. AreFairBeside P.cmp (caps_of P.cmp peers.now.entries pairs.now.entries)
             self.now.scale component.now (in_units self.now) found.0) }
         ensures kept { IfOk result (λ found. AreKept P.cmp component.now found.1.items

@@ -1,52 +1,54 @@
 //! What is known of each ordered pair of peers.
-ghost use Rattle.std.specs.Prelude.{◌≡◌, ◌<◌, ◌^◌, true, false, map, option_map, slice_get, Some, None, IfSome};
-ghost use Rattle.std.specs.Prelude.{IfOk, IfErr};
-ghost use Rattle.std.specs.List.{find};
-ghost use Rattle.std.specs.Ordering.{is_lt, is_eq};
-ghost use Rattle.fair_rates.specs.Lists.Sorted.{are_ascending, IsPlace, IsGap};
+ghost use Rattle.std.specs.Prelude.{◌≡◌, ◌<◌, ◌^◌, [], true, false, None, IfSome};
+ghost use Rattle.std.specs.Prelude.{length, Some, IfOk, IfErr, OnOk, OnErr};
+ghost use Rattle.std.specs.Option.{option_and_then};
 ghost use Rattle.link_simulation.specs.Simulation.World.{later_of as latest};
-ghost use Rattle.link_pairs.specs.Pairs.Entries.{pair_cmp, key_of, link_of};
+ghost use Rattle.peer_numbers.specs.Pairs.{number_of_pair};
+ghost use Rattle.link_pairs.specs.Pairs.Entries.{AreInNumbers};
+ghost use Rattle.link_pairs.specs.Pairs.Room.{IsStillKnown};
 
-use crate::pair::PeerPair;
-use crate::pair_list::PairList;
+use crate::room::fill_up_to;
 use fair_rates::error::Error;
 use fair_rates::peer::Peer;
-use shared_list::Seek;
-use std::alloc::{AllocError, Global};
+use peer_numbers::PairNumbers;
+use std::alloc::Global;
+use std::marker::Model;
+use undo_list::UndoList;
 
 /// What is known of one ordered pair of peers.
-#[derive(Drop)]
-pub(crate) struct Pair<P> {
-    pub(crate) key: PeerPair<P>,
+#[derive(Clone, Copy)]
+struct Known {
     /// The cap on what goes from the one to the other, in bytes a second.
     cap: Option<usize>,
     /// No later message of the pair arrives before this moment.
     last_arrival: Option<u64>,
 }
 
-/// The ordered pairs that calls have named, in the order of pairs: by origin, then by recipient.
+/// What is known of the ordered pairs that calls have named. It is changed in place, and can be taken back as a whole,
+/// with no memory, to how it stood at the last mark.
 #[derive(Drop)]
 pub struct Pairs<P: Peer> {
-    entries: PairList<P>,
-    /// Whether a pair has been given a cap. Where none has, none is looked for.
+    // A pair keeps its number, also where what is known of it is taken back.
+    numbers: PairNumbers<P>,
+    // By the number of the pair.
+    known: UndoList<Known>,
+    // Whether a pair has been given a cap. Where none has, none is looked for.
     linked: bool,
-    pub ghost ascending: { are_ascending (pair_cmp P.cmp) (map key_of entries) ≡ true },
-    pub ghost unlinked: { linked ≡ false → (a b : P) → link_of P.cmp entries a b ≡ None },
 }
 
-/// Where a pair stands among those that have been named.
-#[derive(Drop)]
-pub(crate) struct PlaceOfPair<'a, P> {
-    pub(crate) origin: &'a P,
-    pub(crate) recipient: &'a P,
-}
+impl<P: Peer> Model for Pairs<P> {
+    ghost use Rattle.std.specs.Prelude.{◌≡◌, false};
+    ghost use Rattle.link_pairs.specs.Pairs.Entries.{AllPairs, known_by_pair, AreInNumbers, HaveNoCap};
 
-impl<P: Peer> Seek<Pair<P>> for PlaceOfPair<'_, P> {
-    ghost is_before = { λ place pair. is_lt (pair_cmp P.cmp (key_of pair) (place.origin.now, place.recipient.now)) };
+    ghost Value = { AllPairs P };
 
-    fn is_before(&self, pair: &Pair<P>) -> bool {
-        pair.key.is_before(self.origin, self.recipient)
-    }
+    ghost view = { λ pairs. record {
+      entries = known_by_pair pairs.numbers pairs.known.items;
+      before = known_by_pair pairs.numbers pairs.known.before;
+    } };
+
+    ghost invariant = { λ pairs. AreInNumbers pairs.numbers pairs.known
+        × (pairs.linked ≡ false → HaveNoCap pairs.known.items × HaveNoCap pairs.known.before) };
 }
 
 /// The later of the last arrival, if there is one, and that moment.
@@ -59,45 +61,54 @@ pub fn later_of(last: Option<u64>, moment: u64) -> u64
     }
 }
 
+/// The number of the pair, with room for what is known of it.
+///
+/// `OutOfMemory`: no memory was left. The same is known as before.
+fn place_of<P: Peer>(
+    numbers: &mut PairNumbers<P>,
+    known: &mut UndoList<Known>,
+    origin: &P,
+    recipient: &P,
+) -> Result<usize, Error>
+    requires { AreInNumbers numbers.old known.old }
+    ensures number { IfOk result (λ number. number_of_pair P.cmp numbers.new origin.now recipient.now ≡ Some number) }
+    ensures room { IfOk result (λ number. number < length known.new.items) }
+    ensures same { IsStillKnown P.cmp numbers.old known.old numbers.new known.new }
+    ensures refused { IfErr result (λ e. e ≡ Error.OutOfMemory) }
+{
+    let number = numbers.add(origin, recipient)?;
+    let nothing = Known {
+        cap: None,
+        last_arrival: None,
+    };
+    fill_up_to(known, number, nothing)?;
+    Ok(number)
+}
+
 impl<P: Peer> Pairs<P> {
-    ghost use Rattle.std.specs.Prelude.{[], OnOk, OnErr};
-    ghost use Rattle.fair_rates.specs.Sides.Subjects.{same_peer};
     ghost use Rattle.link_simulation.specs.Simulation.Messages.{with_link};
-    ghost use Rattle.link_pairs.specs.Pairs.Entries.{arrival_of, raised_at};
+    ghost use Rattle.link_pairs.specs.Pairs.Entries.{link_of, arrival_of, raised_at};
 
     /// No pair.
-    pub fn new() -> Self
-        ensures { result.entries ≡ [] }
+    pub fn new(alloc: Global) -> Self
+        ensures entries { result.entries ≡ [] }
+        ensures before { result.before ≡ [] }
     {
         Pairs {
-            entries: PairList::new(),
+            numbers: PairNumbers::new(alloc),
+            known: UndoList::new(alloc),
             linked: false,
         }
     }
 
-    /// Where the pair stands, and what is known of it; or where it would stand.
-    fn search(&self, origin: &P, recipient: &P) -> Result<(usize, &Pair<P>), usize>
-        ensures found { IfOk result (λ found. IsPlace (pair_cmp P.cmp) key_of self.now.entries
-            (origin.now, recipient.now) found.0) }
-        ensures pair { IfOk result (λ found. slice_get self.now.entries found.0 ≡ Some found.1.now) }
-        ensures absent { IfErr result (IsGap (pair_cmp P.cmp) key_of self.now.entries (origin.now, recipient.now)) }
-    {
-        let (at, pair) = self.entries.locate(origin, recipient);
-        match pair {
-            Some(pair) if pair.key.compare(origin, recipient).is_eq() => Ok((at, pair)),
-            _ => Err(at),
-        }
-    }
-
     /// What is known of the pair, if anything is.
-    fn find(&self, origin: &P, recipient: &P) -> Option<&Pair<P>>
-        ensures { option_map (λ pair. pair.now) result ≡ find
-            (λ pair. is_eq (pair_cmp P.cmp (key_of pair) (origin.now, recipient.now))) self.now.entries }
+    fn find(&self, origin: &P, recipient: &P) -> Option<&Known>
+        ensures cap { option_and_then (λ known. known.now.cap) result
+            ≡ link_of P.cmp self.now.entries origin.now recipient.now }
+        ensures last_arrival { option_and_then (λ known. known.now.last_arrival) result
+            ≡ arrival_of P.cmp self.now.entries origin.now recipient.now }
     {
-        match self.search(origin, recipient) {
-            Ok((_at, pair)) => Some(pair),
-            Err(_gap) => None,
-        }
+        self.known.get(self.numbers.number(origin, recipient)?)
     }
 
     /// The cap on what goes from the one to the other.
@@ -118,103 +129,62 @@ impl<P: Peer> Pairs<P> {
         self.find(origin, recipient)?.last_arrival
     }
 
-    /// Sets the cap of the pair and the moment of its last arrival.
-    fn set(
-        &mut self,
-        alloc: Global,
-        origin: &P,
-        recipient: &P,
-        cap: Option<usize>,
-        last_arrival: Option<u64>,
-    ) -> Result<(), Error>
-        requires linked { self.old.linked ≡ false → cap ≡ None }
+    /// Sets the cap of the pair, in bytes a second, or takes it away.
+    ///
+    /// `OutOfMemory`: no memory was left. What is known stays.
+    pub fn set_cap(&mut self, origin: &P, recipient: &P, cap: Option<usize>) -> Result<(), Error>
         ensures link { OnOk result (link_of P.cmp self.new.entries
             ≡ with_link P.cmp (link_of P.cmp self.old.entries) origin.now recipient.now cap) }
-        ensures arrival { OnOk result (arrival_of P.cmp self.new.entries
-            ≡ with_link P.cmp (arrival_of P.cmp self.old.entries) origin.now recipient.now last_arrival) }
-        ensures kept { OnErr result (self.new.entries ≡ self.old.entries) }
+        ensures arrival { arrival_of P.cmp self.new.entries ≡ arrival_of P.cmp self.old.entries }
+        ensures before { self.new.before ≡ self.old.before }
+        ensures kept { OnErr result (link_of P.cmp self.new.entries ≡ link_of P.cmp self.old.entries) }
         ensures refused { IfErr result (λ e. e ≡ Error.OutOfMemory) }
     {
-        let pair = Pair {
-            key: PeerPair::new(origin, recipient)?,
-            cap,
-            last_arrival,
-        };
-        match self.search(origin, recipient) {
-            Ok((at, _known)) => self.entries.replace(alloc, at, pair)?,
-            Err(at) => self.entries.insert(alloc, at, pair)?,
-        }
-        Ok(())
-    }
-
-    /// Sets the cap of the pair.
-    pub fn set_cap(
-        &mut self,
-        alloc: Global,
-        origin: &P,
-        recipient: &P,
-        cap: Option<usize>,
-    ) -> Result<(), Error>
-        ensures link { OnOk result (link_of P.cmp self.new.entries
-            ≡ with_link P.cmp (link_of P.cmp self.old.entries) origin.now recipient.now cap) }
-        ensures arrival { OnOk result (arrival_of P.cmp self.new.entries ≡ arrival_of P.cmp self.old.entries) }
-        ensures refused { IfErr result (λ e. e ≡ Error.OutOfMemory) }
-    {
-        let last = self.last_arrival(origin, recipient);
+        let number = place_of(&mut self.numbers, &mut self.known, origin, recipient)?;
+        let last_arrival = self.known.at(number).last_arrival;
+        self.known.set(number, Known { cap, last_arrival })?;
         self.linked |= cap.is_some();
-        self.set(alloc, origin, recipient, cap, last)
+        Ok(())
     }
 
     /// From now on no message of the pair arrives before that moment. The last arrival up to now is
     /// answered.
-    pub fn raise(
-        &mut self,
-        alloc: Global,
-        origin: &P,
-        recipient: &P,
-        moment: u64,
-    ) -> Result<Option<u64>, Error>
+    ///
+    /// `OutOfMemory`: no memory was left. What is known stays.
+    pub fn raise(&mut self, origin: &P, recipient: &P, moment: u64) -> Result<Option<u64>, Error>
         ensures last { IfOk result (λ last. last
             ≡ arrival_of P.cmp self.old.entries origin.now recipient.now) }
         ensures arrival { OnOk result (arrival_of P.cmp self.new.entries
             ≡ raised_at P.cmp (arrival_of P.cmp self.old.entries) origin.now recipient.now moment) }
-        ensures link { OnOk result (link_of P.cmp self.new.entries ≡ link_of P.cmp self.old.entries) }
-        ensures kept { OnErr result (self.new.entries ≡ self.old.entries) }
+        ensures link { link_of P.cmp self.new.entries ≡ link_of P.cmp self.old.entries }
+        ensures before { self.new.before ≡ self.old.before }
+        ensures kept { OnErr result (arrival_of P.cmp self.new.entries ≡ arrival_of P.cmp self.old.entries) }
         ensures refused { IfErr result (λ e. e ≡ Error.OutOfMemory) }
     {
-        let Ok((at, pair)) = self.search(origin, recipient) else {
-            self.set(alloc, origin, recipient, None, Some(moment))?;
-            return Ok(None);
-        };
-        let last = pair.last_arrival;
-        let arrival = later_of(last, moment);
-        let raised = Pair {
-            key: PeerPair::new(origin, recipient)?,
-            cap: pair.cap,
+        let number = place_of(&mut self.numbers, &mut self.known, origin, recipient)?;
+        let Known { cap, last_arrival } = *self.known.at(number);
+        let arrival = later_of(last_arrival, moment);
+        let raised = Known {
+            cap,
             last_arrival: Some(arrival),
         };
-        self.entries.replace(alloc, at, raised)?;
-        Ok(last)
+        self.known.set(number, raised)?;
+        Ok(last_arrival)
     }
 
-    /// All is put in its place, where memory allows. To be called once no other list shares these pairs:
-    /// then nothing is copied.
-    pub fn settle(&mut self)
-        ensures { self.new.entries ≡ self.old.entries }
+    /// A mark is set: what is known can be taken back to how it stands. It takes no memory.
+    pub fn commit(&mut self)
+        ensures entries { self.new.entries ≡ self.old.entries }
+        ensures before { self.new.before ≡ self.old.entries }
     {
-        self.entries.settle();
+        self.known.commit();
     }
-}
 
-impl<P: Peer> Clone for Pairs<P> {
-    ghost is_clone = { λ pairs copy. copy.entries ≡ pairs.entries };
-
-    /// The same pairs. No peer is cloned.
-    fn clone(&self) -> Result<Pairs<P>, AllocError> {
-        let entries = self.entries.clone()?;
-        Ok(Pairs {
-            entries,
-            linked: self.linked,
-        })
+    /// What is known is taken back to how it stood at the last mark. It takes no memory.
+    pub fn undo(&mut self)
+        ensures entries { self.new.entries ≡ self.old.before }
+        ensures before { self.new.before ≡ self.old.before }
+    {
+        self.known.undo();
     }
 }

@@ -1,80 +1,68 @@
 //! The caps of each peer.
-ghost use Rattle.std.specs.Prelude.{◌≡◌, ◌<◌, ◌^◌, true, map, option_map, IfSome, IfOk, IfErr};
-ghost use Rattle.std.specs.List.{find};
-ghost use Rattle.std.specs.Ordering.{is_lt, is_eq};
-ghost use Rattle.fair_rates.specs.Lists.Sorted.{are_ascending, IsPlace, IsGap};
+ghost use Rattle.std.specs.Prelude.{◌≡◌, ◌<◌, ◌^◌, [], OnOk, OnErr, IfSome, IfErr};
+ghost use Rattle.std.specs.Option.{option_and_then};
 
+use crate::room::fill_up_to;
 use fair_rates::error::Error;
 use fair_rates::peer::Peer;
-use shared_list::{Seek, SharedList};
-use std::alloc::{AllocError, Global};
+use peer_numbers::PeerNumbers;
+use std::alloc::Global;
+use std::marker::Model;
+use undo_list::UndoList;
 
 /// The caps of one peer, in bytes a second.
-#[derive(Drop)]
-pub(crate) struct PeerCaps<P> {
-    peer: P,
+#[derive(Clone, Copy)]
+struct Caps {
     egress: Option<usize>,
     ingress: Option<usize>,
 }
 
-/// The peers that have been limited, in their order.
+/// The caps of the peers that have been limited. They are changed in place, and can be taken back as a whole, with no
+/// memory, to how they stood at the last mark.
 #[derive(Drop)]
 pub struct Peers<P: Peer> {
-    entries: SharedList<PeerCaps<P>>,
-    pub ghost ascending: { are_ascending P.cmp (map (λ entry. entry.peer) entries) ≡ true },
+    // A peer keeps its number, also where its caps are taken back.
+    numbers: PeerNumbers<P>,
+    // By the number of the peer.
+    caps: UndoList<Caps>,
 }
 
-/// Where a peer stands among those that have been limited.
-#[derive(Drop)]
-struct PlaceOfPeer<'a, P> {
-    peer: &'a P,
-}
+impl<P: Peer> Model for Peers<P> {
+    ghost use Rattle.link_pairs.specs.Pairs.PeerCaps.{AllCaps, caps_by_peer, AreInNumbers};
 
-impl<P: Peer> Seek<PeerCaps<P>> for PlaceOfPeer<'_, P> {
-    ghost is_before = { λ place caps. is_lt (P.cmp caps.peer place.peer.now) };
+    ghost Value = { AllCaps P };
 
-    fn is_before(&self, caps: &PeerCaps<P>) -> bool {
-        caps.peer.cmp(self.peer).is_lt()
-    }
+    ghost view = { λ peers. record {
+      entries = caps_by_peer peers.numbers peers.caps.items;
+      before = caps_by_peer peers.numbers peers.caps.before;
+    } };
+
+    ghost invariant = { λ peers. AreInNumbers peers.numbers peers.caps };
 }
 
 impl<P: Peer> Peers<P> {
-    ghost use Rattle.std.specs.Prelude.{[], OnOk};
     ghost use Rattle.link_simulation.specs.Simulation.Messages.{with_cap};
     ghost use Rattle.link_pairs.specs.Pairs.PeerCaps.{egress_of, ingress_of};
 
     /// No peer has caps.
-    pub fn new() -> Self
-        ensures { result.entries ≡ [] }
+    pub fn new(alloc: Global) -> Self
+        ensures entries { result.entries ≡ [] }
+        ensures before { result.before ≡ [] }
     {
         Peers {
-            entries: SharedList::new(),
+            numbers: PeerNumbers::new(alloc),
+            caps: UndoList::new(alloc),
         }
     }
 
-    /// Where the peer stands, or where it would.
-    fn search(&self, peer: &P) -> Result<usize, usize>
-        ensures found { IfOk result (IsPlace P.cmp (λ entry. entry.peer) self.now.entries peer.now) }
-        ensures absent { IfErr result (IsGap P.cmp (λ entry. entry.peer) self.now.entries peer.now) }
+    /// The caps of the peer, if it has been limited.
+    fn find(&self, peer: &P) -> Option<&Caps>
+        ensures egress { option_and_then (λ caps. caps.now.egress) result
+            ≡ egress_of P.cmp self.now.entries peer.now }
+        ensures ingress { option_and_then (λ caps. caps.now.ingress) result
+            ≡ ingress_of P.cmp self.now.entries peer.now }
     {
-        let (at, entry) = self.entries.locate(&PlaceOfPeer { peer });
-        match entry {
-            Some(entry) if entry.peer.cmp(peer).is_eq() => Ok(at),
-            _ => Err(at),
-        }
-    }
-
-    /// The entry of the peer, if it has one.
-    fn find(&self, peer: &P) -> Option<&PeerCaps<P>>
-        ensures { option_map (λ entry. entry.now) result ≡ find
-            (λ entry. is_eq (P.cmp entry.peer peer.now)) self.now.entries }
-    {
-        let entry = self.entries.first_from(&PlaceOfPeer { peer })?;
-        if entry.peer.cmp(peer).is_eq() {
-            Some(entry)
-        } else {
-            None
-        }
+        self.caps.get(self.numbers.number(peer)?)
     }
 
     /// The cap on all that the peer sends.
@@ -93,10 +81,11 @@ impl<P: Peer> Peers<P> {
         self.find(peer)?.ingress.map(|cap| cap as u128)
     }
 
-    /// Sets both caps of the peer.
+    /// Sets both caps of the peer, in bytes a second; each may be none.
+    ///
+    /// `OutOfMemory`: no memory was left. The caps stay.
     pub fn set(
         &mut self,
-        alloc: Global,
         peer: &P,
         egress: Option<usize>,
         ingress: Option<usize>,
@@ -105,27 +94,34 @@ impl<P: Peer> Peers<P> {
             ≡ with_cap P.cmp (egress_of P.cmp self.old.entries) peer.now egress) }
         ensures ingress { OnOk result (ingress_of P.cmp self.new.entries
             ≡ with_cap P.cmp (ingress_of P.cmp self.old.entries) peer.now ingress) }
+        ensures before { self.new.before ≡ self.old.before }
+        ensures kept_egress { OnErr result (egress_of P.cmp self.new.entries ≡ egress_of P.cmp self.old.entries) }
+        ensures kept_ingress { OnErr result (ingress_of P.cmp self.new.entries ≡ ingress_of P.cmp self.old.entries) }
         ensures refused { IfErr result (λ e. e ≡ Error.OutOfMemory) }
     {
-        let caps = PeerCaps {
-            peer: peer.clone_peer().ok_or(Error::OutOfMemory)?,
-            egress,
-            ingress,
+        let number = self.numbers.add(peer)?;
+        let none = Caps {
+            egress: None,
+            ingress: None,
         };
-        match self.search(peer) {
-            Ok(at) => self.entries.replace(alloc, at, caps)?,
-            Err(at) => self.entries.insert(alloc, at, caps)?,
-        }
+        fill_up_to(&mut self.caps, number, none)?;
+        self.caps.set(number, Caps { egress, ingress })?;
         Ok(())
     }
-}
 
-impl<P: Peer> Clone for Peers<P> {
-    ghost is_clone = { λ peers copy. copy.entries ≡ peers.entries };
+    /// A mark is set: the caps can be taken back to how they stand. It takes no memory.
+    pub fn commit(&mut self)
+        ensures entries { self.new.entries ≡ self.old.entries }
+        ensures before { self.new.before ≡ self.old.entries }
+    {
+        self.caps.commit();
+    }
 
-    /// The same caps. No peer is cloned.
-    fn clone(&self) -> Result<Peers<P>, AllocError> {
-        let entries = self.entries.clone()?;
-        Ok(Peers { entries })
+    /// The caps are taken back to how they stood at the last mark. It takes no memory.
+    pub fn undo(&mut self)
+        ensures entries { self.new.entries ≡ self.old.before }
+        ensures before { self.new.before ≡ self.old.before }
+    {
+        self.caps.undo();
     }
 }

@@ -68,7 +68,7 @@ pub struct State<P: Peer> {
     // Here and in the clauses `∥ A ∥₁` reads: there is an `A`.
     pub ghost right: { ∥ IsPlanned P.cmp (planned P.cmp ledger) ∥₁ },
     pub ghost orderly: { ∥ IsOrderly P.cmp (planned P.cmp ledger) ∥₁ },
-    ghost marked: { IsMarked ledger.flights },
+    ghost marked: { IsMarked ledger },
 }
 
 impl<P: Peer> State<P> {
@@ -214,7 +214,7 @@ impl<P: Peer> State<P> {
             (sent origin recipient channel message latency should_deliver)) done.items self.new) }
         ensures refused { IfErr result (IsRefused self.old
             (call_enqueue now (sent origin recipient channel message latency should_deliver))) }
-        ensures unchanged { OnErr result (planned_of self.new ≡ planned_of self.old) }
+        ensures unchanged { OnErr result (self.new ≡ self.old) }
     {
         let message = Message {
             origin,
@@ -224,33 +224,8 @@ impl<P: Peer> State<P> {
             latency,
             should_deliver,
         };
-        self.send(now, message)
-    }
-
-    /// Sends a message. Where it only has to wait, nothing is kept.
-    fn send(&mut self, now: u64, message: Message<P>) -> Result<Vec<Completion<P>>, Error>
-        ensures made { IfOk result (λ done. IsMade self.old
-            (call_enqueue now (message_of message)) done.items self.new) }
-        ensures refused { IfErr result (IsRefused self.old (call_enqueue now (message_of message))) }
-        ensures unchanged { OnErr result (planned_of self.new ≡ planned_of self.old) }
-    {
-        if self.ledger.has_to_wait(&message.origin, &message.recipient) {
-            self.ledger.wait(now, message)?;
-            return Ok(Vec::new(self.ledger.alloc));
-        }
-        self.send_free(now, message)
-    }
-
-    /// Sends a message that does not have to wait.
-    fn send_free(&mut self, now: u64, message: Message<P>) -> Result<Vec<Completion<P>>, Error>
-        requires { IsFree P.cmp (planned_of self.old) message.origin message.recipient }
-        ensures made { IfOk result (λ done. IsMade self.old
-            (call_enqueue now (message_of message)) done.items self.new) }
-        ensures refused { IfErr result (IsRefused self.old (call_enqueue now (message_of message))) }
-        ensures unchanged { OnErr result (self.new ≡ self.old) }
-    {
         let kept = self.ledger.keep()?;
-        let answer = self.ledger.answer_free(now, message);
+        let answer = self.ledger.answer_enqueue(now, message);
         self.ledger.conclude(kept, answer)
     }
 

@@ -3,9 +3,15 @@ pub mod Due
 pub mod DueCounts
 pub mod DueMessages
 pub mod FirstStart
+pub mod Firsts
 pub mod Index
 pub mod IndexChanges
 pub mod Moved
-pub mod Places
+pub mod Numbered
+pub mod Ready
+pub mod Slots
+pub mod Stands
 pub mod Starting
+pub mod Told
+pub mod View
 pub mod Waiting

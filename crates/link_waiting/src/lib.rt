@@ -1,8 +1,7 @@
-//! The messages that wait, and the idle pairs by the moment from which on their next message may start.
+//! The messages that wait, and from when on the first of each idle pair may start.
 //!
-//! It serves `link_scheduler`. A call of the scheduler works on clones of these, so where a contract
-//! does not say what stays after an error, the caller gives up what was worked on.
+//! It serves `link_events`. All is changed in place, and can be taken back to the last mark.
 #![tactic(auto)]
 
-pub mod idle_pairs;
+mod slots;
 pub mod waiting;

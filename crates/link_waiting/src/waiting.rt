@@ -1,147 +1,282 @@
-//! The messages that wait.
-ghost use Rattle.std.specs.Prelude.{◌≡◌, ◌<◌, true, not, length, map, option_map, IfOk, IfErr, OnOk, OnErr};
-ghost use Rattle.std.specs.Ordering.{is_lt, is_gt};
-ghost use Rattle.link_pairs.specs.Pairs.Entries.{pair_cmp};
-ghost use Rattle.link_waiting.specs.Idle.Waiting.{are_in_order};
-ghost use Rattle.link_pairs.specs.Pairs.Messages.{pair_of};
+//! The messages that wait, and from when on the first of each idle pair may start.
+ghost use Rattle.std.specs.Prelude.{◌≡◌, ◌↔◌, ◌&&◌, ◌++◌, ◌∷◌, ℕ, [], true, None, is_none, length};
+ghost use Rattle.std.specs.Prelude.{map, option_map, All, IfOk, IfErr, OnOk, OnErr};
+ghost use Rattle.std.specs.List.{list_any};
+ghost use Rattle.std.specs.Option.{option_and_then};
+ghost use Rattle.fair_rates.specs.Lists.Sorted.{are_ascending};
+ghost use Rattle.fair_rates.specs.Lists.WithoutFirst.{without_first};
+ghost use Rattle.fair_rates.specs.Sides.Subjects.{same_peer};
+ghost use Rattle.link_simulation.specs.Simulation.Messages.{with_link};
+ghost use Rattle.link_simulation.specs.Rule.Planned.{queued, AreInPairOrder};
+ghost use Rattle.link_pairs.specs.Pairs.Messages.{message_of};
+ghost use Rattle.link_pairs.specs.Pairs.Entries.{first_of, pair_cmp};
+ghost use Rattle.link_waiting.specs.Idle.Slots.{live, is_of, has_number, AreNumbered, Marked, AreKept};
+ghost use Rattle.link_waiting.specs.Idle.Waits.{none_waits, since_of, has_come, pair_of_key};
 
+use crate::slots::{Slot, Slots};
 use fair_rates::error::Error;
 use fair_rates::peer::Peer;
 use link_pairs::message::Message;
-use shared_list::{LateList, Seek};
-use std::alloc::{AllocError, Global};
+use link_pairs::pair::PeerPair;
+use peer_numbers::PairNumbers;
+use std::alloc::Global;
+use std::marker::Model;
 use std::rc::Rc;
 
-/// The messages that wait, in the order of their pairs, those of a pair in order of `enqueue`.
+/// The messages that wait, in the order of their pairs, those of a pair in order of `enqueue`; and of each pair the
+/// moment from which on its first waiting message may start, if one was told.
+///
+/// They are changed in place, and can be taken back as a whole, with no memory, to how they stood at the last mark.
 #[derive(Drop)]
 pub struct Waiting<P: Peer> {
-    messages: LateList<Message<P>>,
-    pub ghost few: { length messages < 18446744073709551616 },
-    pub ghost ordered: { are_in_order P.cmp messages ≡ true },
+    alloc: Global,
+    // A pair keeps its number, also where none of its messages waits.
+    pairs: PairNumbers<P>,
+    slots: Slots<P>,
+    // Whether all was given up since the mark.
+    given_up: bool,
 }
 
-/// Where the first message of a pair stands, or would.
-#[derive(Drop)]
-struct PlaceOfFirst<'a, P> {
-    origin: &'a P,
-    recipient: &'a P,
+impl<P: Peer> Model for Waiting<P> {
+    ghost use Rattle.link_waiting.specs.Idle.Waits.{AllWaits, waits_of};
+    ghost use Rattle.link_waiting.specs.Idle.Slots.{AreKept};
+
+    ghost Value = { AllWaits P };
+
+    ghost view = { λ waiting. waits_of P.cmp waiting.given_up waiting.slots };
+
+    ghost invariant = { λ waiting. AreKept P.cmp waiting.pairs waiting.slots };
 }
 
-impl<P: Peer> Seek<Message<P>> for PlaceOfFirst<'_, P> {
-    ghost is_before = { λ place message. is_lt (pair_cmp P.cmp (pair_of message)
-        (place.origin.now, place.recipient.now)) };
-
-    fn is_before(&self, message: &Message<P>) -> bool {
-        message.compare(self.origin, self.recipient).is_lt()
+/// The number of the pair, if a message may wait for it. Where none waits, it is not looked up.
+fn number_in<P: Peer>(
+    pairs: &PairNumbers<P>,
+    slots: &Slots<P>,
+    origin: &P,
+    recipient: &P,
+) -> Option<usize>
+    requires { AreKept P.cmp pairs.now slots.now }
+    ensures { All (λ waiter. is_of P.cmp origin.now recipient.now waiter ≡ has_number result waiter)
+        (live slots.now.slots.items) }
+{
+    if slots.is_empty() {
+        return None;
     }
+    pairs.number(origin, recipient)
 }
 
-/// Where the next message of a pair comes to stand.
-#[derive(Drop)]
-struct PlaceOfNext<'a, P> {
-    origin: &'a P,
-    recipient: &'a P,
-}
-
-impl<P: Peer> Seek<Message<P>> for PlaceOfNext<'_, P> {
-    ghost is_before = { λ place message. not (is_gt (pair_cmp P.cmp (pair_of message)
-        (place.origin.now, place.recipient.now))) };
-
-    fn is_before(&self, message: &Message<P>) -> bool {
-        message.compare(self.origin, self.recipient).is_le()
-    }
+/// The message joins those that wait for its pair, as the last one. Where memory is refused, part of that is done.
+fn add<P: Peer>(
+    alloc: Global,
+    pairs: &mut PairNumbers<P>,
+    slots: &mut Slots<P>,
+    message: Message<P>,
+) -> Result<(), Error>
+    requires { AreKept P.cmp pairs.old slots.old }
+    ensures now { OnOk result ((pair : ℕ) × (live slots.new.slots.items ≡ live slots.old.slots.items
+        ++ record { message = message_of message; pair = pair; since = None } ∷ [])) }
+    ensures before { slots.new.slots.before ≡ slots.old.slots.before }
+    ensures kept { OnOk result (AreKept P.cmp pairs.new slots.new) }
+    ensures marked { Marked slots.new }
+    ensures numbered { AreNumbered P.cmp pairs.new (live slots.new.slots.before) }
+{
+    let pair = pairs.add(&message.origin, &message.recipient)?;
+    slots.push(Rc::new(alloc, message)?, pair)?;
+    Ok(())
 }
 
 impl<P: Peer> Waiting<P> {
-    ghost use Rattle.std.specs.Prelude.{[], ◌&&◌};
-    ghost use Rattle.fair_rates.specs.Sides.Subjects.{same_peer};
-    ghost use Rattle.fair_rates.specs.Lists.WithoutFirst.{without_first};
-    ghost use Rattle.link_simulation.specs.Rule.Planned.{queued};
-    ghost use Rattle.link_pairs.specs.Pairs.Messages.{message_of};
-    ghost use Rattle.link_pairs.specs.Pairs.Entries.{first_of};
-    ghost use Rattle.link_waiting.specs.Idle.Waiting.{IsFirstPlace};
-
-    /// No message.
-    pub fn new() -> Self
-        ensures { result.messages ≡ [] }
+    /// No message waits.
+    pub fn new(alloc: Global) -> Self
+        ensures messages { result.messages ≡ [] }
+        ensures told { result.told ≡ [] }
+        ensures before { result.before ≡ none_waits }
     {
         Waiting {
-            messages: LateList::new(),
+            alloc,
+            pairs: PairNumbers::new(alloc),
+            slots: Slots::new(alloc),
+            given_up: false,
         }
     }
 
-    /// Where the first message of the pair stands, if one waits.
-    fn search(&self, origin: &P, recipient: &P) -> Option<usize>
-        ensures { IsFirstPlace P.cmp self.now.messages (origin.now, recipient.now) result }
+    /// How many messages wait.
+    pub fn len(&self) -> usize
+        ensures { result ≡ length self.now.messages }
     {
-        let (at, message) = self.messages.locate(&PlaceOfFirst { origin, recipient });
-        match message {
-            Some(message) if message.compare(origin, recipient).is_eq() => Some(at),
-            _ => None,
+        if self.given_up {
+            return 0;
         }
+        self.slots.len()
+    }
+
+    /// The first message that waits for the pair, in its slot.
+    fn slot_of(&self, origin: &P, recipient: &P) -> Option<&Slot<P>>
+        ensures message { option_map (λ slot. message_of slot.now.message.value) result
+            ≡ first_of P.cmp self.now.messages origin.now recipient.now }
+        ensures since { option_and_then (λ slot. slot.now.since) result
+            ≡ since_of P.cmp self.now.told origin.now recipient.now }
+    {
+        if self.given_up {
+            return None;
+        }
+        self.slots
+            .first(number_in(&self.pairs, &self.slots, origin, recipient)?)
     }
 
     /// The first message that waits for the pair.
     pub fn first(&self, origin: &P, recipient: &P) -> Option<&Message<P>>
-        ensures { option_map (λ m. message_of m.now) result
-            ≡ first_of P.cmp (map message_of self.now.messages) origin.now recipient.now }
+        ensures { option_map (λ m. message_of m.now) result ≡ first_of P.cmp self.now.messages origin.now recipient.now }
     {
-        let message = self
-            .messages
-            .first_from(&PlaceOfFirst { origin, recipient })?;
-        if message.compare(origin, recipient).is_eq() {
-            Some(message)
-        } else {
-            None
-        }
+        Some(&self.slot_of(origin, recipient)?.message)
     }
 
-    /// Takes the first message that waits for the pair. Other lists may share it.
-    pub fn take_first(&mut self, origin: &P, recipient: &P) -> Result<Option<Rc<Message<P>>>, Error>
-        ensures taken { IfOk result (λ taken. option_map (λ m. message_of m.value) taken
-            ≡ first_of P.cmp (map message_of self.old.messages) origin.now recipient.now) }
-        ensures rest { OnOk result (map message_of self.new.messages
-            ≡ without_first (λ m. same_peer P.cmp origin.now m.origin && same_peer P.cmp recipient.now m.recipient)
-            (map message_of self.old.messages)) }
-        ensures kept { OnErr result (self.new.messages ≡ self.old.messages) }
+    /// The moment from which on the first waiting message of the pair may start, if one was told.
+    pub fn since(&self, origin: &P, recipient: &P) -> Option<u64>
+        ensures { result ≡ since_of P.cmp self.now.told origin.now recipient.now }
+    {
+        self.slot_of(origin, recipient)?.since
+    }
+
+    /// The first moment from which on a message may start.
+    pub fn first_since(&self) -> Option<u64>
+        ensures { (t : ℕ) → (has_come t result ≡ true)
+            ↔ ((origin : P) × (recipient : P) × (has_come t (since_of P.cmp self.now.told origin recipient) ≡ true)) }
+    {
+        if self.given_up {
+            return None;
+        }
+        self.slots.moments.least()
+    }
+
+    /// The pairs whose first waiting message may start by now, in the order of pairs, the peers cloned.
+    pub fn ready(&self, alloc: Global, now: u64) -> Result<Vec<PeerPair<P>>, Error>
+        ensures ascending { IfOk result (λ keys. are_ascending (pair_cmp P.cmp) (map pair_of_key keys.items) ≡ true) }
+        ensures ready { IfOk result (λ keys. (origin recipient : P)
+            → list_any (λ key. same_peer P.cmp origin key.origin && same_peer P.cmp recipient key.recipient) keys.items
+            ≡ has_come now (since_of P.cmp self.now.told origin recipient)) }
+        ensures ordered { AreInPairOrder P.cmp self.now.messages }
         ensures refused { IfErr result (λ e. e ≡ Error.OutOfMemory) }
     {
-        let Some(at) = self.search(origin, recipient) else {
-            return Ok(None);
-        };
-        Ok(Some(self.messages.remove(at)?))
+        if self.given_up {
+            return Ok(Vec::new(alloc));
+        }
+        let mut ready = self.slots.due(alloc, now)?;
+        ready.sort_by(|key, other| {
+            key.origin
+                .cmp(&other.origin)
+                .then_with(|| key.recipient.cmp(&other.recipient))
+        })?;
+        Ok(ready)
     }
 
     /// The message joins those that wait for its pair, as the last one.
-    pub fn push(&mut self, alloc: Global, message: Message<P>) -> Result<(), Error>
-        ensures waiting { OnOk result (map message_of self.new.messages
-            ≡ queued P.cmp (message_of message) (map message_of self.old.messages)) }
-        ensures kept { OnErr result (self.new.messages ≡ self.old.messages) }
+    ///
+    /// `OutOfMemory`: memory was refused. Then all is taken back to the mark.
+    pub fn push(&mut self, message: Message<P>) -> Result<(), Error>
+        ensures messages { OnOk result (self.new.messages ≡ queued P.cmp (message_of message) self.old.messages) }
+        ensures since { OnOk result (since_of P.cmp self.new.told ≡ since_of P.cmp self.old.told) }
+        ensures taken_back { OnErr result ((self.new.messages ≡ self.old.before.messages)
+            × (self.new.told ≡ self.old.before.told)) }
+        ensures before { self.new.before ≡ self.old.before }
         ensures refused { IfErr result (λ e. e ≡ Error.OutOfMemory) }
     {
-        let place = PlaceOfNext {
-            origin: &message.origin,
-            recipient: &message.recipient,
-        };
-        let at = self.messages.place(&place);
-        self.messages.insert(alloc, at, message)?;
+        if self.given_up || add(self.alloc, &mut self.pairs, &mut self.slots, message).is_err() {
+            self.slots.undo();
+            self.given_up = false;
+            return Err(Error::OutOfMemory);
+        }
         Ok(())
     }
 
-    /// Where memory allows, no edit is late any more.
-    pub fn settle(&mut self)
-        ensures { self.new.messages ≡ self.old.messages }
+    /// Takes the first message that waits for the pair. From when on the next one may start is not told then.
+    ///
+    /// `OutOfMemory`: memory was refused. Then all is taken back to the mark.
+    pub fn take_first(&mut self, origin: &P, recipient: &P) -> Result<Option<Rc<Message<P>>>, Error>
+        ensures taken { IfOk result (λ taken. option_map (λ m. message_of m.value) taken
+            ≡ first_of P.cmp self.old.messages origin.now recipient.now) }
+        ensures rest { OnOk result (self.new.messages
+            ≡ without_first (λ m. same_peer P.cmp origin.now m.origin && same_peer P.cmp recipient.now m.recipient)
+            self.old.messages) }
+        ensures since { OnOk result (since_of P.cmp self.new.told
+            ≡ with_link P.cmp (since_of P.cmp self.old.told) origin.now recipient.now None) }
+        ensures taken_back { OnErr result ((self.new.messages ≡ self.old.before.messages)
+            × (self.new.told ≡ self.old.before.told)) }
+        ensures before { self.new.before ≡ self.old.before }
+        ensures refused { IfErr result (λ e. e ≡ Error.OutOfMemory) }
     {
-        self.messages.settle();
+        if self.given_up {
+            return Ok(None);
+        }
+        let Some(pair) = number_in(&self.pairs, &self.slots, origin, recipient) else {
+            return Ok(None);
+        };
+        match self.slots.take_first(pair) {
+            Ok(taken) => Ok(taken),
+            Err(_) => {
+                self.slots.undo();
+                Err(Error::OutOfMemory)
+            }
+        }
     }
-}
 
-impl<P: Peer> Clone for Waiting<P> {
-    ghost is_clone = { λ waiting copy. copy.messages ≡ waiting.messages };
+    /// Tells from which moment on the first waiting message of the pair may start.
+    ///
+    /// `OutOfMemory`: memory was refused. Then all is taken back to the mark.
+    pub fn set_since(&mut self, origin: &P, recipient: &P, moment: Option<u64>) -> Result<(), Error>
+        requires waits { is_none (first_of P.cmp self.old.messages origin.now recipient.now) ≡ true → moment ≡ None }
+        ensures messages { OnOk result (self.new.messages ≡ self.old.messages) }
+        ensures since { OnOk result (since_of P.cmp self.new.told
+            ≡ with_link P.cmp (since_of P.cmp self.old.told) origin.now recipient.now moment) }
+        ensures taken_back { OnErr result ((self.new.messages ≡ self.old.before.messages)
+            × (self.new.told ≡ self.old.before.told)) }
+        ensures before { self.new.before ≡ self.old.before }
+        ensures refused { IfErr result (λ e. e ≡ Error.OutOfMemory) }
+    {
+        if self.given_up {
+            return Ok(());
+        }
+        let Some(pair) = number_in(&self.pairs, &self.slots, origin, recipient) else {
+            return Ok(());
+        };
+        if self.slots.set_since(pair, moment).is_err() {
+            self.slots.undo();
+            return Err(Error::OutOfMemory);
+        }
+        Ok(())
+    }
 
-    /// The same messages. None is cloned.
-    fn clone(&self) -> Result<Waiting<P>, AllocError> {
-        let messages = self.messages.clone()?;
-        Ok(Waiting { messages })
+    /// No message waits any more. It can still be taken back.
+    pub fn give_up(&mut self)
+        ensures messages { self.new.messages ≡ [] }
+        ensures told { self.new.told ≡ [] }
+        ensures before { self.new.before ≡ self.old.before }
+    {
+        self.given_up = true;
+    }
+
+    /// A mark is set: it can be taken back to how it stands. It takes no memory.
+    pub fn commit(&mut self)
+        ensures messages { self.new.messages ≡ self.old.messages }
+        ensures told { self.new.told ≡ self.old.told }
+        ensures before_messages { self.new.before.messages ≡ self.old.messages }
+        ensures before_told { self.new.before.told ≡ self.old.told }
+    {
+        if self.given_up {
+            self.slots = Slots::new(self.alloc);
+            self.given_up = false;
+        } else {
+            self.slots.commit();
+        }
+    }
+
+    /// It is taken back to how it stood at the last mark. It takes no memory.
+    pub fn undo(&mut self)
+        ensures messages { self.new.messages ≡ self.old.before.messages }
+        ensures told { self.new.told ≡ self.old.before.told }
+        ensures before { self.new.before ≡ self.old.before }
+    {
+        self.slots.undo();
+        self.given_up = false;
     }
 }

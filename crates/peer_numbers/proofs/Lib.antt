@@ -1,1 +1,2 @@
+pub mod OrderedPairs
 pub mod Peers

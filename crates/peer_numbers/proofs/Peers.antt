@@ -130,7 +130,7 @@ module _ {P : Type 0} (cmp : P → P → Ordering) where
 
 module _ {P : Type 0} (cmp : P → P → Ordering) (total : IsTotalOrder cmp) where
   -- peers that are one have one number
-  number_of-same : (peers : List P) (peer copy : P) → cmp copy peer ≡ Equal
+  pub number_of-same : (peers : List P) (peer copy : P) → cmp copy peer ≡ Equal
       → number_of cmp peers copy ≡ number_of cmp peers peer
   number_of-same peers peer copy same =
       ap (λ test. position test peers) (fun_ext (λ other. ap is_eq (total.congr copy peer other same)))

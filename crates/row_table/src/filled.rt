@@ -22,14 +22,21 @@ pub(crate) fn refill<T>(filled: &mut Vec<usize>, slots: &[Option<Row<T>>])
     }
 }
 
-/// Where a slot stands is guessed among the first two to this power of those that hold a row.
+/// Where a slot stands is guessed among the first two to this power of the places that it may stand at, or fewer
+/// where there are fewer.
 const GUESSED: u32 = 16;
 
-/// Where a slot stands in a list of them that ascends, if it is among those that are guessed at. No branch hangs on a
-/// comparison: a processor would guess it wrongly every other time.
+/// Where a slot stands in a list of them that ascends, if it is among those that are guessed at. No slot stands behind
+/// its number, and none further before it than there are gaps. No branch hangs on a comparison: a processor would
+/// guess it wrongly every other time.
 fn guess(filled: &[usize], slot: usize) -> usize {
-    let mut place = 0usize;
-    let mut shift = GUESSED;
+    let Some(last) = filled.last() else {
+        return 0;
+    };
+    let gaps = last.wrapping_add(1).saturating_sub(filled.len()).min(slot);
+    let most = usize::BITS.saturating_sub(gaps.leading_zeros());
+    let mut place = slot.saturating_sub(gaps);
+    let mut shift = GUESSED.min(most);
     while shift > 0 {
         shift -= 1;
         if let Some(other) = filled.get(place.wrapping_add(1 << shift)) {

@@ -18,18 +18,17 @@ use Rattle.link_simulation.specs.Simulation.Messages.{Message, OneForEachPair, P
 use Rattle.link_simulation.specs.Rule.Planned.{Planned, RatedFlight, rated_messages, drained_to}
 use Rattle.link_simulation.proofs.Simulation.Queue.{pair_sym}
 use Rattle.link_pairs.specs.declared.message.Message as code
-use Rattle.link_pairs.specs.declared.known_pairs.Pair.{Pair}
+use Rattle.link_pairs.specs.Pairs.Entries.{Pair}
 use Rattle.link_pairs.specs.Pairs.Entries.{arrival_of}
-use Rattle.link_waiting.specs.declared.idle_pairs.IdlePair.{IdlePair}
 use Rattle.link_waiting.specs.Idle.AtRest.{of_pairs}
-use Rattle.link_waiting.specs.Idle.Index.{IsIndexOf, is_of_pair, is_listed, AreAtRest, idle_from}
+use Rattle.link_waiting.specs.Idle.Index.{IsIndexOf, is_of_pair, AreAtRest, idle_from}
 use Rattle.link_waiting.proofs.Idle.IndexChanges.{flows_drained, same_flights_index, left_unlisted, left_else}
 use Rattle.link_waiting.proofs.Idle.IndexChanges.{rests_index, alike_from}
 use Rattle.link_events.proofs.Steps.OneEach.{one_apart, one_drained, rests_beside}
 
 module _ {P : Type 0} (cmp : P → P → Ordering) (order : IsTotalOrder cmp) where
-  module _ (now : ℕ) (pairs : List (Pair P)) (waiting : List (code.Message P)) (spent : RatedFlight P → Bool)
-      (sending after : List (RatedFlight P)) (done : List (Message P)) (idle : List (IdlePair P))
+  module _ (now : ℕ) (pairs : List (Pair P)) (waiting : List (Message P)) (spent : RatedFlight P → Bool)
+      (sending after : List (RatedFlight P)) (done : List (Message P)) (idle : P → P → Option ℕ)
       (one : OneForEachPair cmp (rated_messages sending))
       (index : IsIndexOf cmp (of_pairs cmp pairs waiting sending) idle)
       (left : done ≡ rated_messages (filter spent (drained_to now sending)))
@@ -40,8 +39,7 @@ module _ {P : Type 0} (cmp : P → P → Ordering) (order : IsTotalOrder cmp) wh
         (flows_drained now sending) index
 
     -- the pairs of what is done are not listed
-    pub done_unlisted : (t : ℕ) (a b : P) → list_any (is_of_pair cmp a b) done ≡ true
-        → is_listed cmp idle t a b ≡ false
+    pub done_unlisted : (a b : P) → list_any (is_of_pair cmp a b) done ≡ true → idle a b ≡ None
     done_unlisted =
         left_unlisted cmp order pairs waiting spent (drained_to now sending) done idle left index_drained
 
@@ -54,7 +52,7 @@ module _ {P : Type 0} (cmp : P → P → Ordering) (order : IsTotalOrder cmp) wh
         (ap (list_any (is_of_pair cmp a b)) (sym left) ∙ some)
 
     -- with these listed as they stand now, where no other pair has got another last arrival, the index is right
-    pub index_after : (known : List (Pair P)) (new : List (IdlePair P))
+    pub index_after : (known : List (Pair P)) (new : P → P → Option ℕ)
         → PairsAlike cmp (arrival_of cmp known) (arrival_of cmp known)
         → ((a b : P) → list_any (is_of_pair cmp a b) done ≡ false → arrival_of cmp known a b ≡ arrival_of cmp pairs a b)
         → AreAtRest cmp (of_pairs cmp known waiting []) done idle new

@@ -14,6 +14,7 @@ use Rattle.link_simulation.specs.Rule.Planned.{rated_messages}
 use Rattle.link_pairs.specs.Pairs.CapsOf.{caps_of}
 use Rattle.link_waiting.specs.Idle.AtRest.{of_pairs}
 use Rattle.link_waiting.specs.Idle.Index.{IsIndexOf}
+use Rattle.link_waiting.specs.Idle.Waits.{since_of}
 use Rattle.link_events.specs.declared.ledger.Ledger.{Ledger}
 
 -- what is in flight as before, in the same units and at the same moment
@@ -35,15 +36,14 @@ module _ {P : Type 0} {a : _} {b : _} {c : _} (old new : Flights P a b c) (list 
 
 -- ledgers are the same where all that they keep is
 pub same_ledger : {P : Type 0} {a : _} {b : _} {c : _} (old new : Ledger P a b c) → new.peers ≡ old.peers
-    → new.pairs ≡ old.pairs → new.waiting ≡ old.waiting → new.idle ≡ old.idle → new.flights ≡ old.flights
+    → new.pairs ≡ old.pairs → new.waiting ≡ old.waiting → new.flights ≡ old.flights
     → new.limited ≡ old.limited → new.next_id ≡ old.next_id → new.finish ≡ old.finish → new.start ≡ old.start
     → new.stale ≡ old.stale → new ≡ old
-same_ledger {P} {a} old new peers pairs waiting idle flights limited next_id finish start stale = λ i. record {
+same_ledger {P} {a} old new peers pairs waiting flights limited next_id finish start stale = λ i. record {
   alloc = old.alloc;
   peers = peers i;
   pairs = pairs i;
   waiting = waiting i;
-  idle = idle i;
   flights = flights i;
   limited = limited i;
   next_id = next_id i;
@@ -53,7 +53,7 @@ same_ledger {P} {a} old new peers pairs waiting idle flights limited next_id fin
   indexed =
       is_prop→PathP
       (λ j. IsIndexOf a.cmp (of_pairs a.cmp (pairs j).entries (waiting j).messages (in_flight (flights j)))
-      (idle j).entries)
+      (since_of a.cmp (waiting j).told))
       (λ j. hlevel props) new.indexed old.indexed i;
   one_each =
       is_prop→PathP (λ j. ∥ OneForEachPair a.cmp (rated_messages (in_flight (flights j))) ∥₁) (λ j. hlevel props)

@@ -1,5 +1,5 @@
 -- Caps of a peer, or of a pair, change: what they are about.
-use Rattle.std.proofs.Common.{◌≡◌, ℕ, Bool, true, false, not, ◌&&◌, ◌||◌, if◌then◌else◌, Option, refl, sym, ap, ap₂, ◌∙◌, ◌⊎◌, inl, inr, is_none}
+use Rattle.std.proofs.Common.{◌≡◌, ℕ, Bool, true, false, not, ◌&&◌, ◌||◌, if◌then◌else◌, Option, refl, sym, ap, ◌∙◌, ◌⊎◌, inl, inr, is_none}
 use Rattle.std.specs.Cmp.{IsTotalOrder}
 use Rattle.std.specs.declared.cmp.Ordering.{Ordering}
 use Rattle.std.proofs.lemmas.Bool.{or_parts}

@@ -1,5 +1,5 @@
 -- At most one message of each pair is in flight.
-use Rattle.std.proofs.Common.{◌≡◌, ℕ, Bool, true, false, not, ◌||◌, cond, List, [], ◌∷◌, ◌++◌}
+use Rattle.std.proofs.Common.{Option, ◌≡◌, ℕ, Bool, true, false, not, ◌||◌, cond, List, [], ◌∷◌, ◌++◌}
 use Rattle.std.proofs.Common.{refl, sym, ap, ◌∙◌, subst}
 use Rattle.std.proofs.Math.Logic.{∥∥₁_elim}
 use Rattle.std.proofs.Props.{props}
@@ -14,11 +14,8 @@ use Rattle.link_simulation.specs.Rule.Planned.{Planned, RatedFlight, rated_messa
 use Rattle.link_simulation.specs.Rule.Events.{Accounts}
 use Rattle.link_simulation.proofs.Simulation.Queue.{any_like, one_pair_more}
 use Rattle.link_simulation.proofs.Laws.Orderly.{any_of_fewer, drained_messages, stayed_messages, one_of_fewer}
-use Rattle.link_pairs.specs.declared.message.Message as code
-use Rattle.link_pairs.specs.declared.known_pairs.Pair.{Pair}
-use Rattle.link_waiting.specs.declared.idle_pairs.IdlePair.{IdlePair}
+use Rattle.link_pairs.specs.Pairs.Entries.{Pair}
 use Rattle.link_waiting.specs.Idle.AtRest.{of_pairs, is_sending}
-use Rattle.link_waiting.specs.Idle.Departed.{is_moment}
 use Rattle.link_waiting.specs.Idle.Index.{is_of_pair, AreAtRest}
 use Rattle.link_waiting.proofs.Idle.IndexChanges.{alike_from}
 
@@ -97,15 +94,14 @@ account_frees {P} cmp t old new leavers account a b free =
     (ap (list_any (is_of_pair cmp a b)) (drained_messages t old.sending) ∙ free)
 
 -- the pairs that are at rest where nothing is in flight are so beside messages of other pairs
-pub rests_beside : {P : Type 0} (cmp : P → P → Ordering) (pairs : List (Pair P)) (ms : List (code.Message P))
-    (sending : List (RatedFlight P)) (leavers : List (Message P)) (old new : List (IdlePair P))
+pub rests_beside : {P : Type 0} (cmp : P → P → Ordering) (pairs : List (Pair P)) (ms : List (Message P))
+    (sending : List (RatedFlight P)) (leavers : List (Message P)) (old new : P → P → Option ℕ)
     → ((a b : P) → list_any (is_of_pair cmp a b) leavers ≡ true
     → list_any (is_of_pair cmp a b) (rated_messages sending) ≡ false)
     → AreAtRest cmp (of_pairs cmp pairs ms []) leavers old new
     → AreAtRest cmp (of_pairs cmp pairs ms sending) leavers old new
-rests_beside cmp pairs ms sending leavers old new idle rests t a b =
-    rests t a b ∙ by_bool (list_any (is_of_pair cmp a b) leavers)
+rests_beside cmp pairs ms sending leavers old new idle rests a b =
+    rests a b ∙ by_bool (list_any (is_of_pair cmp a b) leavers)
     (λ h. rw h
-    (ap (is_moment t)
-    (sym (alike_from cmp (of_pairs cmp pairs ms []) (of_pairs cmp pairs ms sending) a b (idle a b h) refl refl))))
+    (sym (alike_from cmp (of_pairs cmp pairs ms []) (of_pairs cmp pairs ms sending) a b (idle a b h) refl refl)))
     (λ h. rw h refl)

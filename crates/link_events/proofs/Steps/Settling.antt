@@ -36,6 +36,12 @@ pub if_ok : {X E : Type 0} {A B : X → Type 0} (r : Result X E) → ((x : X) �
 if_ok (Ok x) f a = f x a
 if_ok (Err e) f a = tt
 
+-- and of two
+pub if_ok_both : {X E : Type 0} {A B C : X → Type 0} (r : Result X E) → ((x : X) → A x → B x → C x) → IfOk r A
+    → IfOk r B → IfOk r C
+if_ok_both (Ok x) f a b = f x a b
+if_ok_both (Err e) f a b = tt
+
 -- and what a refusal makes of one
 pub if_err : {X E : Type 0} {A B : E → Type 0} (r : Result X E) → ((e : E) → A e → B e) → IfErr r A → IfErr r B
 if_err (Ok x) f a = tt

@@ -1,10 +1,9 @@
 -- The next message of a pair starts, and stays in flight at the account that follows.
-use Rattle.std.proofs.Common.{◌≡◌, ℕ, length, List, Option, Some, None, Bool, true, false, refl, sym, ap, ◌∙◌, subst}
-use Rattle.std.specs.Prelude.{IfSome, is_some}
+use Rattle.std.proofs.Common.{◌≡◌, ℕ, length, Option, Some, Bool, true, false, refl, sym, ap, ◌∙◌, subst}
 use Rattle.std.specs.Prelude.{◌≢◌, ◌==◌}
 use Rattle.std.specs.declared.cmp.Ordering.{Ordering}
 use Rattle.std.specs.Cmp.{IsTotalOrder}
-use Rattle.std.proofs.lemmas.Bool.{or_from, eqb-true, false≢true}
+use Rattle.std.proofs.lemmas.Bool.{or_from, eqb-true}
 use Rattle.std.proofs.Math.Logic.{∥∥₁_map}
 use Rattle.fair_rates.specs.Numbers.Amount.{whole}
 use Rattle.fair_rates.specs.Sides.Caps.{Caps}
@@ -17,9 +16,6 @@ use Rattle.link_pairs.specs.Pairs.Messages.{message_of}
 use Rattle.link_pairs.specs.Pairs.Entries.{first_of}
 use Rattle.link_waiting.specs.Idle.Departed.{HasDeparted}
 use Rattle.link_waiting.specs.Idle.Starting.{may_launch_first}
-use Rattle.link_waiting.specs.declared.idle_pairs.IdlePair.{IdlePair}
-use Rattle.link_waiting.specs.Idle.Index.{idle_from, is_listed, IsIndexOf}
-use Rattle.link_waiting.proofs.Idle.FirstStart.{moment_is}
 use Rattle.link_waiting.proofs.Idle.Starting.{pushed_is}
 use Rattle.link_flights.specs.Flights.InFlight.{Joins}
 use Rattle.link_flights.specs.Flights.Rated.{HadFairRates}
@@ -72,12 +68,3 @@ module _ {P : Type 0} (cmp : P → P → Ordering) where
               subst (λ caps. ∥ HadFairRates cmp caps new.flights done ∥₁) (sym (ap (λ (q : Planned P). q.caps) is))
               (∥∥₁_map had (fair_with cmp p.caps p.next_id t joined old.flights new.flights done joins unspent));
         }
-
--- a pair that is listed is idle from that moment on
-pub since_when_listed : {P : Type 0} (cmp : P → P → Ordering) (here : Planned P) (entries : List (IdlePair P))
-    (origin recipient : P) (since : Option ℕ) → IsIndexOf cmp here entries
-    → IfSome since (λ moment. is_listed cmp entries moment origin recipient ≡ true) → is_some since ≡ true
-    → since ≡ idle_from cmp here origin recipient
-since_when_listed cmp here entries origin recipient None index listed some = absurd (false≢true some)
-since_when_listed cmp here entries origin recipient (Some moment) index listed some =
-    sym (moment_is moment (idle_from cmp here origin recipient) (sym (index moment origin recipient) ∙ listed))

@@ -1,9 +1,8 @@
 -- How a scheduler is read as a planned world.
-use Rattle.std.specs.Prelude.{ℕ, ◌<◌, IfSome, map}
+use Rattle.std.specs.Prelude.{ℕ, ◌<◌, IfSome}
 use Rattle.std.specs.declared.cmp.Ordering.{Ordering}
 use Rattle.link_events.specs.declared.ledger.Ledger.{Ledger}
 use Rattle.link_simulation.specs.Rule.Planned.{Planned, SomeReadyAt, next_event}
-use Rattle.link_pairs.specs.Pairs.Messages.{message_of}
 use Rattle.link_pairs.specs.Pairs.CapsOf.{caps_of}
 use Rattle.link_pairs.specs.Pairs.Entries.{arrival_of}
 use Rattle.link_flights.specs.Flights.InFlight.{in_flight}
@@ -14,7 +13,7 @@ planned cmp w = record {
   caps = caps_of cmp w.peers.entries w.pairs.entries;
   limited = w.limited;
   sending = in_flight w.flights;
-  waiting = map message_of w.waiting.messages;
+  waiting = w.waiting.messages;
   last_arrival = arrival_of cmp w.pairs.entries;
   next_id = w.next_id;
   accounted = w.flights.at;

@@ -25,6 +25,7 @@ same_flights one other alloc list scale at floor loose counted settled unsearche
   settled = settled i;
   unsearched = unsearched i;
   stood = stood i;
+  notes = tt;
   past = prop→path_p
       (λ j. list_all (λ f. not f.value.rated || nat_le f.value.since (at j)) (list j).items ≡ true) (hlevel Bool-set) one.past
       other.past i;

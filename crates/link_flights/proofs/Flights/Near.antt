@@ -1,6 +1,10 @@
 -- Those in flight of which a component has an end, and where they stand.
 use Rattle.std.proofs.Common.{◌≡◌, ℕ, ◌<◌, Bool, true, false, List, length, get_or, slice_get, Some}
-use Rattle.std.proofs.Common.{if◌then◌else◌, refl, sym, ap, ◌∙◌, arith}
+use Rattle.std.proofs.Common.{if◌then◌else◌, refl, sym, ap, ◌∙◌, arith, subst, ◌||◌, ◌&&◌}
+use Rattle.std.specs.List.{list_any}
+use Rattle.fair_rates.specs.Sides.Subjects.{same_peer}
+use Rattle.link_flights.specs.Flights.Flight.{flight_at}
+use Rattle.link_flights.specs.Flights.Components.{keeps, is_sender, is_receiver, AreSuited}
 use Rattle.std.specs.declared.cmp.Ordering.{Ordering}
 use Rattle.std.specs.declared.rc.Rc.{Rc}
 use Rattle.std.specs.declared.alloc.Global.{Global}
@@ -74,3 +78,41 @@ module _ {P : Type 0} (cmp : P → P → Ordering) (component : Component P) (li
     element k one lt is =
         is ∙ get_or_from_slice_get list (place_of component k) (get_or near k one) one
         (place_there k (get_or near k one) (slice_get-get_or near k one lt))
+
+or_weaker : (a b c : Bool) → (a || b && c) ≡ true → (a || b) ≡ true
+or_weaker true b c h = refl
+or_weaker false true c h = refl
+or_weaker false false c h = cc h
+
+or_true : (a b : Bool) → (a || (true || b)) ≡ true
+or_true true b = refl
+or_true false b = refl
+
+module _ {P : Type 0} (cmp : P → P → Ordering) (component : Component P) (list : List (Rc (Flight P) Global)) where
+  abbrev KeepsOrSends : Rc (Flight P) Global → Type 0
+  KeepsOrSends one =
+      (keeps component (flight_at 0 one.value) || is_sender cmp component one.value.message.value.origin) ≡ true
+
+  -- one of which the component has an end keeps its rate, or goes from one of the senders
+  pub suited_there : AreSuited cmp component component.near.items list → (k : ℕ) (one : Rc (Flight P) Global)
+      → k < length component.near.items → slice_get list (get_or component.near.items k 0) ≡ Some one
+      → KeepsOrSends one
+  suited_there suited k one lt there =
+      or_weaker (keeps component (flight_at 0 one.value)) (is_sender cmp component one.value.message.value.origin)
+      (is_receiver cmp component one.value.message.value.recipient) (suited k 0 lt one there)
+
+  -- and so does each, where it has all of them
+  pub keeps_or_sends : (component.whole ≡ false → AreSuited cmp component component.near.items list) → (k : ℕ)
+      (one : Rc (Flight P) Global) → (component.whole ≡ false → k < length component.near.items)
+      → slice_get list (place_of component k) ≡ Some one → KeepsOrSends one
+  keeps_or_sends suited k one lt there = by_kind component.whole refl
+    where
+      by_kind : (b : Bool) → component.whole ≡ b → KeepsOrSends one
+      by_kind true e =
+          ap (λ (b : Bool). keeps component (flight_at 0 one.value)
+          || (b || list_any (λ m. same_peer cmp one.value.message.value.origin m.value.origin) component.joined.items)) e
+          ∙ or_true (keeps component (flight_at 0 one.value))
+          (list_any (λ m. same_peer cmp one.value.message.value.origin m.value.origin) component.joined.items)
+      by_kind false e =
+          suited_there (suited e) k one (lt e)
+          (subst (λ (b : Bool). slice_get list (if b then k else get_or component.near.items k 0) ≡ Some one) e there)

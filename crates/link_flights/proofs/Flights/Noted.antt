@@ -1,12 +1,13 @@
 -- Places that are noted as listed.
 use Rattle.std.proofs.Common.{◌≡◌, ℕ, ◌+◌, ◌<◌, Bool, true, false, List, [], ◌∷◌, ◌++◌, length, ◌⊎◌, inl, inr}
-use Rattle.std.proofs.Common.{Some, replicate, slice_get, slice_set, All, Contains, sym, ap, ◌∙◌, subst, arith}
-use Rattle.std.proofs.lemmas.Bool.{cases_lt, false≢true}
-use Rattle.std.proofs.lemmas.Option.{same_Some, slice_get_within, get_or_from_slice_get}
-use Rattle.std.proofs.lemmas.List.{get_or-replicate, length-replicate}
+use Rattle.std.proofs.Common.{Some, slice_get, slice_set, All, Contains, sym, ap, ◌∙◌, subst, arith, get_or}
+use Rattle.std.proofs.lemmas.Bool.{cases_lt, false≢true, false_from_ne_true}
+use Rattle.std.proofs.lemmas.Option.{same_Some, slice_get_within, get_or_from_slice_get, slice_get-get_or}
 use Rattle.std.proofs.lemmas.List.Elements.{All-append, All-cons, All-nil, All-weaker, All-contains, Contains-append_left}
+use Rattle.std.proofs.lemmas.List.Elements.{Contains-get_or}
+use Rattle.fair_rates.proofs.Lists.Members.{In}
 use Rattle.link_flights.specs.Flights.Components.{Ascends, AreNoted, AreStillListed}
-use Rattle.link_pairs.proofs.Pairs.Late.{get_set_here, get_set_other}
+use Rattle.link_pairs.proofs.Pairs.ByNumber.{get_set_here, get_set_other}
 use Rattle.link_flights.proofs.Flights.Listed.{ascends_at_end}
 use Rattle.link_flights.proofs.Flights.Search.{one_is_listed}
 
@@ -91,18 +92,6 @@ noted_with_one places noted at inside are = record {
       | inr other ↦ get_set_other noted at p true other ∙ is
     ]
 
--- where nothing is listed, it is noted nowhere
-pub none_noted : (places : List ℕ) (n : ℕ) → places ≡ [] → AreNoted places (replicate n false)
-none_noted places n none = record {
-  listed = λ at is.
-      let within : at < n = subst (λ k. at < k) (length-replicate n false)
-      (slice_get_within (replicate n false) at true is) in
-      absurd (false≢true (sym (get_or-replicate n at false false within)
-      ∙ get_or_from_slice_get (replicate n false) at true false is));
-  only = subst (All (λ at. slice_get (replicate n false) at ≡ Some true)) (sym none)
-      (All-nil (λ at. slice_get (replicate n false) at ≡ Some true));
-}
-
 -- what is listed is noted, so where those that are noted are listed again, it still is
 pub still_if_noted : (places : List ℕ) (noted : List Bool) (again : List ℕ) → AreNoted places noted
     → ((at : ℕ) → slice_get noted at ≡ Some true → Contains again at) → AreStillListed places again
@@ -114,3 +103,49 @@ pub only_if_noted : (places : List ℕ) (noted : List Bool) (again : List ℕ) �
     → All (λ at. slice_get noted at ≡ Some true) again → AreStillListed again places
 only_if_noted places noted again are only p is =
     are.listed p (All-contains (λ at. slice_get noted at ≡ Some true) again p only is)
+
+-- where each place is noted as not listed, it is noted nowhere
+pub nowhere_noted : (noted : List Bool) → All (λ n. n ≡ false) noted → AreNoted [] noted
+nowhere_noted noted none = record {
+  listed = λ at is.
+      let within = slice_get_within noted at true is in
+      absurd (false≢true (sym (none at true within) ∙ get_or_from_slice_get noted at true true is));
+  only = All-nil (λ at. slice_get noted at ≡ Some true);
+}
+
+-- what is listed in another order is noted still
+pub noted_in_order : (places again : List ℕ) (noted : List Bool) → AreNoted places noted → AreStillListed places again
+    → AreStillListed again places → AreNoted again noted
+noted_in_order places again noted are still only = record {
+  listed = λ at is. still at (are.listed at is);
+  only = λ k d within.
+      All-contains (λ at. slice_get noted at ≡ Some true) places (get_or again k d) are.only
+      (only (get_or again k d) (Contains-get_or again k d within));
+}
+
+-- a place stands among the others, once it is noted no more
+pub noted_but_one : (noted : List Bool) (at : ℕ) (places : List ℕ) → at < length noted
+    → ((p : ℕ) → slice_get noted p ≡ Some true → In (at ∷ places) p) → (p : ℕ)
+    → slice_get (slice_set noted at false) p ≡ Some true → In places p
+noted_but_one noted at places within listed p is = elim (cases_lt at p) [
+  | inl less ↦ other (λ same. absurd (omega (arith, less, same)))
+  | inr past ↦ elim (cases_lt p at) [
+    | inl more ↦ other (λ same. absurd (omega (arith, more, same)))
+    | inr low ↦
+        let same : at ≡ p = omega (arith, past, low) in
+        absurd (false≢true (same_Some false true
+        (sym (get_set_here noted at false within) ∙ ap (slice_get (slice_set noted at false)) same ∙ is)))
+  ]
+]
+  where
+    other : (at ≡ p → ⊥) → In places p
+    other apart = elim (listed p (sym (get_set_other noted at p false apart) ∙ is)) [
+      | inl same ↦ absurd (apart same)
+      | inr more ↦ more
+    ]
+
+-- where none is listed any more, each is noted as not listed
+pub none_left_noted : (noted : List Bool) → ((p : ℕ) → slice_get noted p ≡ Some true → ⊥)
+    → All (λ n. n ≡ false) noted
+none_left_noted noted none k d within =
+    false_from_ne_true (get_or noted k d) (λ is. none k (slice_get-get_or noted k d within ∙ ap Some is))

@@ -5,9 +5,8 @@ use Rattle.std.specs.declared.cmp.Ordering.{Ordering}
 use Rattle.fair_rates.specs.Fairness.UnderCaps.{AreOfPeers}
 use Rattle.fair_rates.proofs.Lists.Sorted.{is_eq_equal, value_respects}
 use Rattle.link_simulation.specs.Simulation.Messages.{PairsAlike}
-use Rattle.link_pairs.specs.declared.known_pairs.Pair.{Pair}
-use Rattle.link_pairs.specs.declared.peers.PeerCaps.{PeerCaps}
-use Rattle.link_pairs.specs.Pairs.Entries.{arrival_of}
+use Rattle.link_pairs.specs.Pairs.PeerCaps.{PeerCaps}
+use Rattle.link_pairs.specs.Pairs.Entries.{Pair, arrival_of}
 use Rattle.link_pairs.specs.Pairs.CapsOf.{caps_of}
 use Rattle.link_pairs.proofs.Pairs.Entries.{links_alike, arrivals_alike}
 

@@ -2,10 +2,8 @@
 use Rattle.std.specs.Prelude.{List}
 use Rattle.std.specs.declared.cmp.Ordering.{Ordering}
 use Rattle.fair_rates.specs.Sides.Caps.{Caps}
-use Rattle.link_pairs.specs.declared.peers.PeerCaps.{PeerCaps}
-use Rattle.link_pairs.specs.declared.known_pairs.Pair.{Pair}
-use Rattle.link_pairs.specs.Pairs.PeerCaps.{egress_of, ingress_of}
-use Rattle.link_pairs.specs.Pairs.Entries.{link_of}
+use Rattle.link_pairs.specs.Pairs.PeerCaps.{PeerCaps, egress_of, ingress_of}
+use Rattle.link_pairs.specs.Pairs.Entries.{Pair, link_of}
 
 -- the caps of peers and of ordered pairs
 abbrev pub caps_of : {P : Type 0} → (P → P → Ordering) → List (PeerCaps P) → List (Pair P) → Caps P

@@ -18,7 +18,7 @@ use Rattle.link_events.specs.declared.ledger.Ledger.{Ledger}
 use Rattle.link_events.specs.declared.marks.Kept.{Kept}
 use Rattle.link_events.specs.Steps.Answered.{IsAnswered, IsAnsweredIn}
 use Rattle.link_events.specs.Steps.AsPlanned.{planned}
-use Rattle.link_events.specs.Steps.Marks.{IsMarked, IsKeptOf, CanBePutBack, IsPutBack}
+use Rattle.link_events.specs.Steps.Marks.{before_of, IsMarked, IsKeptOf, CanBePutBack, IsPutBack}
 use Rattle.link_scheduler.specs.declared.transmitter.State.{State}
 use Rattle.link_scheduler.specs.Calls.State.{Makes, MakesEach, Refuses, RefusesOne}
 use Rattle.link_scheduler.proofs.Calls.Answered.{made_on_copy, refused_on_copy, IsAdvancedSo, advanced_on_copy}
@@ -50,14 +50,13 @@ same_state {P} {a} coded old new e = λ i. record {
       is_prop→PathP (λ j. ∥ IsPlanned a.cmp (planned a.cmp (e j)) ∥₁) (λ j. hlevel props) new.right old.right i;
   orderly =
       is_prop→PathP (λ j. ∥ IsOrderly a.cmp (planned a.cmp (e j)) ∥₁) (λ j. hlevel props) new.orderly old.orderly i;
-  marked = is_prop→PathP (λ j. IsMarked (e j).flights) (λ j. hlevel props) new.marked old.marked i;
+  marked = is_prop→PathP (λ j. IsMarked (e j)) (λ j. hlevel props) new.marked old.marked i;
 }
 
 -- what is kept can be put back while the call is made
-pub can_be_put_back : {P : Type 0} {a : _} {b : _} {c : _} (was begun there : Ledger P a b c) (kept : Kept P a b c)
-    → IsKeptOf was kept begun.flights.list.before → there.flights.list.before ≡ begun.flights.list.before
-    → CanBePutBack there kept
-can_be_put_back was begun there kept so before = (was, subst (IsKeptOf was kept) (sym before) so)
+pub can_be_put_back : {P : Type 0} {a : _} {b : _} {c : _} (was there : Ledger P a b c) (kept : Kept P)
+    → IsKeptOf was kept (before_of was) → before_of there ≡ before_of was → CanBePutBack there kept
+can_be_put_back was there kept so before = (was, subst (IsKeptOf was kept) (sym before) so)
 
 module _ {P : Type 0} (cmp : P → P → Ordering) (order : IsTotalOrder cmp) where
   -- what is known of an answer, and of what is planned, once a call is concluded
@@ -122,10 +121,9 @@ module _ {P : Type 0} (cmp : P → P → Ordering) (order : IsTotalOrder cmp) wh
         back right orderly (refused_on_copy cmp order p begun (call_advance now) now e refl fits same may)
 
 -- a call that began on what was kept of a scheduler, went on there, and was concluded with an answer
-module _ {P : Type 0} {a : Ghosts P} {b : _} {c : _} (order : IsTotalOrder a.cmp) (old : State P a b c) (kept : Kept P a b c)
-    (begun there new : Ledger P a b c) (so : IsKeptOf old.ledger kept begun.flights.list.before)
-    (same : planned a.cmp begun ≡ planned a.cmp old.ledger)
-    (before : there.flights.list.before ≡ begun.flights.list.before) {X : Type 0} (r : Result X Error)
+module _ {P : Type 0} {a : Ghosts P} {b : _} {c : _} (order : IsTotalOrder a.cmp) (old : State P a b c) (kept : Kept P)
+    (there new : Ledger P a b c) (so : IsKeptOf old.ledger kept (before_of old.ledger))
+    (before : before_of there ≡ before_of old.ledger) {X : Type 0} (r : Result X Error)
     (is : OnOk r (planned a.cmp new ≡ planned a.cmp there)) (back : OnErr r (IsPutBack there kept new)) where
   put_back : OnErr r (new ≡ old.ledger)
   put_back = on_err_map r (λ h. h old.ledger (subst (IsKeptOf old.ledger kept) (sym before) so)) back
@@ -138,30 +136,30 @@ module _ {P : Type 0} {a : Ghosts P} {b : _} {c : _} (order : IsTotalOrder a.cmp
   unchanged coded after e = on_err_map r (λ f. same_state coded old after (e ∙ f)) put_back
 
   pub call_is : (of : X → List (Completed P)) (call : Call P) (now : ℕ) → now < 2 ^ 64 → moment_of call ≡ Some now
-      → IfOk r (λ x. IsAnswered a.cmp (planned a.cmp begun) call (of x) (planned a.cmp there))
-      → IfErr r (MayBeRefused a.cmp (planned a.cmp begun) call)
+      → IfOk r (λ x. IsAnswered a.cmp (planned a.cmp old.ledger) call (of x) (planned a.cmp there))
+      → IfErr r (MayBeRefused a.cmp (planned a.cmp old.ledger) call)
       → IsConcluded a.cmp order r (λ x. Makes a.cmp (planned a.cmp old.ledger) call (of x) (planned a.cmp new))
       (Refuses a.cmp (planned a.cmp old.ledger) call) (planned a.cmp new)
   call_is of call now fits at went may =
-      call_concluded a.cmp order of (planned a.cmp old.ledger) (planned a.cmp begun) (planned a.cmp there)
-      (planned a.cmp new) same old.caps old.arrivals old.right old.orderly now fits r call at went may is planned_back
+      call_concluded a.cmp order of (planned a.cmp old.ledger) (planned a.cmp old.ledger) (planned a.cmp there)
+      (planned a.cmp new) refl old.caps old.arrivals old.right old.orderly now fits r call at went may is planned_back
 
   pub sends_are : (of : X → List (Completed P)) (now : ℕ) → now < 2 ^ 64 → (ms : List (Message P)) → length ms ≢ 0
-      → IfOk r (λ x. IsAnswered a.cmp (planned a.cmp begun) (call_enqueue_all now ms) (of x) (planned a.cmp there))
-      → IfErr r (MayBeRefused a.cmp (planned a.cmp begun) (call_enqueue_all now ms))
+      → IfOk r (λ x. IsAnswered a.cmp (planned a.cmp old.ledger) (call_enqueue_all now ms) (of x) (planned a.cmp there))
+      → IfErr r (MayBeRefused a.cmp (planned a.cmp old.ledger) (call_enqueue_all now ms))
       → IsConcluded a.cmp order r
       (λ x. MakesEach a.cmp (planned a.cmp old.ledger) (map (λ m. call_enqueue now m) ms) (of x) (planned a.cmp new))
       (RefusesOne a.cmp (planned a.cmp old.ledger) (map (λ m. call_enqueue now m) ms)) (planned a.cmp new)
   sends_are of now fits ms some went may =
-      sends_concluded a.cmp order of (planned a.cmp old.ledger) (planned a.cmp begun) (planned a.cmp there)
-      (planned a.cmp new) same old.caps old.arrivals old.right old.orderly now fits r ms some went may is planned_back
+      sends_concluded a.cmp order of (planned a.cmp old.ledger) (planned a.cmp old.ledger) (planned a.cmp there)
+      (planned a.cmp new) refl old.caps old.arrivals old.right old.orderly now fits r ms some went may is planned_back
 
   pub advance_is : (events : X → ℕ) (of : X → List (Completed P)) (now : ℕ) → now < 2 ^ 64
-      → IfOk r (λ x. IsAnsweredIn a.cmp now (planned a.cmp begun) (events x) (of x) (planned a.cmp there))
-      → IfErr r (MayBeRefused a.cmp (planned a.cmp begun) (call_advance now))
+      → IfOk r (λ x. IsAnsweredIn a.cmp now (planned a.cmp old.ledger) (events x) (of x) (planned a.cmp there))
+      → IfErr r (MayBeRefused a.cmp (planned a.cmp old.ledger) (call_advance now))
       → IsConcluded a.cmp order r
       (λ x. IsAdvancedSo a.cmp order now (planned a.cmp old.ledger) (events x) (of x) (planned a.cmp new))
       (Refuses a.cmp (planned a.cmp old.ledger) (call_advance now)) (planned a.cmp new)
   advance_is events of now fits went may =
-      advance_concluded a.cmp order of (planned a.cmp old.ledger) (planned a.cmp begun) (planned a.cmp there)
-      (planned a.cmp new) same old.caps old.arrivals old.right old.orderly now fits r events went may is planned_back
+      advance_concluded a.cmp order of (planned a.cmp old.ledger) (planned a.cmp old.ledger) (planned a.cmp there)
+      (planned a.cmp new) refl old.caps old.arrivals old.right old.orderly now fits r events went may is planned_back

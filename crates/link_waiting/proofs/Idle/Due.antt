@@ -1,99 +1,118 @@
--- The idle pairs that may start by a moment stand at the front.
-use Rattle.std.proofs.Common.{◌≡◌, ℕ, zero, suc, ◌+◌, ◌<◌, ◌≤◌, Bool, true, false, not, List, [], ◌∷◌, ◌++◌, length}
-use Rattle.std.proofs.Common.{map, take, slice_get, Some, None, refl, sym, ◌∙◌, ap, arith}
-use Rattle.std.specs.Prelude.{nat_le}
-use Rattle.std.specs.List.{list_all, filter}
-use Rattle.std.specs.declared.cmp.Ordering.{Ordering}
-use Rattle.std.specs.Ordering.{is_lt, nat_cmp, ordering_then}
-use Rattle.std.specs.Cmp.{ranks}
-use Rattle.std.proofs.lemmas.Bool.{leb-true, leb-false}
-use Rattle.std.proofs.lemmas.Cmp.{by_ranked}
-use Rattle.fair_rates.proofs.Lists.Booleans.{by_bool, first_of_both, second_of_both}
-use Rattle.shared_list.specs.Places.{are_parted, IsParting}
-use Rattle.link_waiting.specs.declared.idle_pairs.IdlePair.{IdlePair}
-use Rattle.fair_rates.specs.Lists.Sorted.{are_ascending}
-use Rattle.link_waiting.specs.Idle.Index.{idle_cmp, idle_key}
-use Rattle.link_pairs.specs.Pairs.Entries.{pair_cmp}
-use Rattle.fair_rates.proofs.Lists.Sorted.{list_all-map, list_all-mono}
+-- The messages of which a moment was told that has come, in the slots up to a place.
+use Rattle.std.proofs.Common.{◌≡◌, ℕ, zero, suc, ◌+◌, ◌<◌, ◌≤◌, Bool, true, false, cond, List, [], ◌∷◌, ◌++◌, length, map, take, refl}
+use Rattle.std.proofs.Common.{Option, Some, None, sym, ap, ◌∙◌, arith, IfSome, IfNone, add-one, take_all}
+use Rattle.std.specs.Prelude.{slice_index_or}
+use Rattle.std.specs.List.{filter}
+use Rattle.std.specs.Option.{unwrap_or}
+use Rattle.std.proofs.lemmas.Bool.{le-leb, leb-true}
+use Rattle.std.proofs.lemmas.List.{length-map}
+use Rattle.std.proofs.Math.ListN.{get_or-map}
+use Rattle.fair_rates.proofs.Lists.Booleans.{by_bool}
+use Rattle.least_moment.specs.Moments.{HasCome, IsDue, NoneDue, IsNextDue}
+use Rattle.link_waiting.specs.declared.slots.Slot.{Slot}
+use Rattle.link_waiting.specs.Idle.Slots.{Waiter, waiter_of, live, since_in}
+use Rattle.link_waiting.specs.Idle.Waits.{has_come}
 
--- ---- lists
+pub comes : (now : ℕ) (moment : Option ℕ) → HasCome now moment → has_come now moment ≡ true
+comes now None come = absurd come
+comes now (Some moment) come = le-leb moment now come
 
-next_is : (k : ℕ) → k + 1 ≡ suc k
-next_is k = omega arith
+pub has_come_if : (now : ℕ) (moment : Option ℕ) → has_come now moment ≡ true → HasCome now moment
+has_come_if now None e = cc
+has_come_if now (Some moment) e = leb-true moment now e
 
-one_more : {X : Type 0} (xs : List X) (k : ℕ) (x : X) → Some x ≡ slice_get xs k → take (suc k) xs ≡ take k xs ++ x ∷ []
-one_more [] k x is = cc
-one_more (y ∷ xs) zero x is = cc
-one_more (y ∷ xs) (suc k) x is = ap (λ l. y ∷ l) (one_more xs k x is)
+module _ {P : Type 0} (now : ℕ) where
+  abbrev pub held : List (Option (Slot P)) → ℕ → Option (Slot P)
+  held slots at = slice_index_or slots at None
 
-no_more : {X : Type 0} (xs : List X) (k : ℕ) → None ≡ slice_get xs k → take (suc k) xs ≡ take k xs
-no_more [] zero is = refl
-no_more [] (suc k) is = refl
-no_more (y ∷ xs) zero is = cc
-no_more (y ∷ xs) (suc k) is = ap (λ l. y ∷ l) (no_more xs k is)
+  abbrev pub come : Waiter P → Bool
+  come w = has_come now w.since
 
-pub take_next : {X : Type 0} (xs : List X) (k : ℕ) (x : X) → Some x ≡ slice_get xs k
-    → take (k + 1) xs ≡ take k xs ++ x ∷ []
-take_next xs k x is = ap (λ n. take n xs) (next_is k) ∙ one_more xs k x is
+  abbrev pub due_in : List (Option (Slot P)) → List (Waiter P)
+  due_in slots = filter come (live slots)
 
-pub take_none : {X : Type 0} (xs : List X) (k : ℕ) → None ≡ slice_get xs k → take (k + 1) xs ≡ take k xs
-take_none xs k is = ap (λ n. take n xs) (next_is k) ∙ no_more xs k is
+  -- between two places none is due
+  none_between : (slots : List (Option (Slot P))) (from to : ℕ) → from ≤ to
+      → ((at : ℕ) → from ≤ at → at < to → has_come now (since_in (held slots at)) ≡ false)
+      → due_in (take to slots) ≡ due_in (take from slots)
+  none_between [] zero zero le none = refl
+  none_between [] zero (suc to) le none = refl
+  none_between [] (suc from) zero le none = refl
+  none_between [] (suc from) (suc to) le none = refl
+  none_between (one ∷ slots) zero zero le none = refl
+  none_between (None ∷ slots) zero (suc to) le none =
+      none_between slots zero to (omega arith) (λ at low high. none (suc at) (omega arith) (omega (arith, high)))
+  none_between (Some slot ∷ slots) zero (suc to) le none =
+      ap (λ b. cond b (waiter_of slot ∷ due_in (take to slots)) (due_in (take to slots))) (none zero (omega arith) (omega arith))
+      ∙ none_between slots zero to (omega arith) (λ at low high. none (suc at) (omega arith) (omega (arith, high)))
+  none_between (one ∷ slots) (suc from) zero le none = absurd (omega (arith, le))
+  none_between (None ∷ slots) (suc from) (suc to) le none =
+      none_between slots from to (omega (arith, le)) (λ at low high. none (suc at) (omega (arith, low)) (omega (arith, high)))
+  none_between (Some slot ∷ slots) (suc from) (suc to) le none =
+      ap (λ l. cond (come (waiter_of slot)) (waiter_of slot ∷ l) l)
+      (none_between slots from to (omega (arith, le))
+      (λ at low high. none (suc at) (omega (arith, low)) (omega (arith, high))))
 
-module _ {X : Type 0} (q : X → Bool) where
-  none_pass : (xs : List X) → list_all (λ x. not (q x)) xs ≡ true → filter q xs ≡ []
-  none_pass [] h = refl
-  none_pass (x ∷ xs) h =
-      by_bool (q x)
-      (λ t. let no : not (q x) ≡ false = ap not t in let yes : not (q x) ≡ true = first_of_both (not (q x)) _ h in cc)
-      (λ f. rw f (none_pass xs (second_of_both (not (q x)) _ h)))
+  -- one more is
+  one_more : (slots : List (Option (Slot P))) (at : ℕ) (slot : Slot P) → held slots at ≡ Some slot
+      → has_come now slot.since ≡ true → due_in (take (suc at) slots) ≡ due_in (take at slots) ++ waiter_of slot ∷ []
+  one_more [] at slot e is = cc
+  one_more (one ∷ slots) zero slot e is =
+      ap (λ (o : Option (Slot P)). due_in (o ∷ [])) e ∙ ap (λ b. cond b (waiter_of slot ∷ []) []) is
+  one_more (None ∷ slots) (suc at) slot e is = one_more slots at slot e is
+  one_more (Some other ∷ slots) (suc at) slot e is =
+      by (come (waiter_of other)) (one_more slots at slot e is)
+    where
+      by : (b : Bool) → due_in (take (suc at) slots) ≡ due_in (take at slots) ++ waiter_of slot ∷ []
+          → cond b (waiter_of other ∷ due_in (take (suc at) slots)) (due_in (take (suc at) slots))
+          ≡ cond b (waiter_of other ∷ due_in (take at slots)) (due_in (take at slots)) ++ waiter_of slot ∷ []
+      by true ih = ap (λ l. waiter_of other ∷ l) ih
+      by false ih = ih
 
-  front_passes : (xs ys : List X) (n : ℕ) → n ≡ length xs → list_all q xs ≡ true → list_all (λ x. not (q x)) ys ≡ true
-      → filter q (xs ++ ys) ≡ take n (xs ++ ys)
-  front_passes [] ys n is below above = none_pass ys above ∙ ap (λ k. take k ys) (sym is)
-  front_passes (x ∷ xs) ys zero is below above = absurd (omega arith)
-  front_passes (x ∷ xs) ys (suc n) is below above =
-      rw (first_of_both (q x) _ below)
-      (ap (λ l. x ∷ l) (front_passes xs ys n (omega arith) (second_of_both (q x) _ below) above))
+  module _ (slots : List (Option (Slot P))) (moments : List (Option ℕ)) (e : moments ≡ map since_in slots) where
+    pub moment_at_is : (at : ℕ) → slice_index_or moments at None ≡ since_in (held slots at)
+    moment_at_is at = ap (λ l. slice_index_or l at None) e ∙ get_or-map since_in slots at None
 
-  -- what passes is the front up to that place
-  pub parted_front : (xs : List X) (n : ℕ) → IsParting q xs n → filter q xs ≡ take n xs
-  parted_front xs n p =
-      ap (filter q) p.split ∙ front_passes p.before p.after n p.is_at p.below p.above ∙ ap (take n) (sym p.split)
+    not_due : (at : ℕ) → (IsDue moments now at → ⊥) → has_come now (since_in (held slots at)) ≡ false
+    not_due at never = by_bool (has_come now (since_in (held slots at)))
+        (λ is. absurd (never (has_come_if now (slice_index_or moments at None) (ap (has_come now) (moment_at_is at) ∙ is))))
+        (λ not. not)
 
--- ---- moments
+    -- who is due is in a slot
+    pub due_slot : (at : ℕ) → IsDue moments now at → (slot : Slot P) × (held slots at ≡ Some slot) × (has_come now slot.since ≡ true)
+    due_slot at due =
+        by (held slots at) refl (sym (ap (has_come now) (moment_at_is at)) ∙ comes now (slice_index_or moments at None) due)
+      where
+        by : (o : Option (Slot P)) → held slots at ≡ o → has_come now (since_in o) ≡ true
+            → (slot : Slot P) × (held slots at ≡ Some slot) × (has_come now slot.since ≡ true)
+        by None e is = cc
+        by (Some slot) e is = (slot, e, is)
 
-module _ {P : Type 0} (cmp : P → P → Ordering) (now : ℕ) where
-  no_earlier : (e f : IdlePair P) → is_lt (idle_cmp cmp (idle_key e) (idle_key f)) ≡ true → e.moment ≤ f.moment
-  no_earlier e f low =
-      by_ranked (e.moment < f.moment) (e.moment ≡ f.moment) (f.moment < e.moment) (nat_cmp e.moment f.moment)
-      (ranks e.moment f.moment)
-      (λ is less. omega arith)
-      (λ is same. omega arith)
-      (λ is more. let above : is_lt (idle_cmp cmp (idle_key e) (idle_key f))
-      ≡ false = ap (λ o. is_lt (ordering_then o (pair_cmp cmp (e.origin, e.recipient) (f.origin, f.recipient)))) is in
-      cc)
+    -- the next one from a place on comes next
+    pub up_to_next : (from : ℕ) (next : Option ℕ) → from ≤ length moments → IfSome next (λ at. at < length moments)
+        → IfSome next (IsNextDue moments now from) → IfNone next (NoneDue moments now from)
+        → due_in (take (unwrap_or next (length moments)) slots) ≡ due_in (take from slots)
+    up_to_next from None low within some none =
+        none_between slots from (length moments) low (λ at on high. not_due at (none at on))
+    up_to_next from (Some at) low within some none =
+        none_between slots from at some.on (λ other on high. not_due other (some.first other on high))
 
-  later_too : (e f : IdlePair P) → nat_le e.moment now ≡ false → is_lt (idle_cmp cmp (idle_key e) (idle_key f)) ≡ true
-      → not (nat_le f.moment now) ≡ true
-  later_too e f late low = by_bool (nat_le f.moment now)
-      (λ h. let early : f.moment ≤ now = leb-true f.moment now h in
-      let past : now < e.moment = leb-false e.moment now late in
-      let le : e.moment ≤ f.moment = no_earlier e f low in
-      absurd (omega arith))
-      (λ h. ap not h)
+    pub one_and_next : (at : ℕ) (slot : Slot P) (next : Option ℕ) → at < length moments → held slots at ≡ Some slot
+        → IsDue moments now at
+        → IfSome next (λ at. at < length moments)
+        → IfSome next (IsNextDue moments now (at + 1)) → IfNone next (NoneDue moments now (at + 1))
+        → due_in (take (unwrap_or next (length moments)) slots) ≡ due_in (take at slots) ++ waiter_of slot ∷ []
+    one_and_next at slot next low there due within some none =
+        up_to_next (at + 1) next (omega (arith, low)) within some none
+        ∙ ap (λ n. due_in (take n slots)) (add-one at)
+        ∙ one_more slots at slot there
+        (sym (ap (λ o. has_come now (since_in o)) there) ∙ sym (ap (has_come now) (moment_at_is at))
+        ∙ comes now (slice_index_or moments at None) due)
 
-  -- the pairs that are listed up to now stand before the others
-  pub moments_parted : (es : List (IdlePair P)) → are_ascending (idle_cmp cmp) (map idle_key es) ≡ true
-      → are_parted (λ (e : IdlePair P). nat_le e.moment now) es ≡ true
-  moments_parted [] h = refl
-  moments_parted (e ∷ es) h =
-      let first : list_all (λ (f : IdlePair P). is_lt (idle_cmp cmp (idle_key e) (idle_key f))) es ≡ true =
-      sym (list_all-map (λ l. is_lt (idle_cmp cmp (idle_key e) l)) idle_key es)
-      ∙ first_of_both (list_all (λ l. is_lt (idle_cmp cmp (idle_key e) l)) (map idle_key es)) _ h in
-      by_bool (nat_le e.moment now)
-      (λ t. rw t
-      (moments_parted es
-      (second_of_both (list_all (λ l. is_lt (idle_cmp cmp (idle_key e) l)) (map idle_key es)) _ h)))
-      (λ f. rw f
-      (list_all-mono (λ (g : IdlePair P). is_lt (idle_cmp cmp (idle_key e) (idle_key g)))
-      (λ (g : IdlePair P). not (nat_le g.moment now)) (λ g low. later_too e g f low) es first))
+    pub all_of_them : due_in (take (length moments) slots) ≡ due_in slots
+    all_of_them =
+        ap due_in (take_all (length moments) slots (let long = ap length e ∙ length-map slots since_in in omega (arith, long)))
+
+    pub due_of_next : (from : ℕ) (next : Option ℕ) → IfSome next (IsNextDue moments now from) → IfSome next (IsDue moments now)
+    due_of_next from None some = tt
+    due_of_next from (Some at) some = some.due

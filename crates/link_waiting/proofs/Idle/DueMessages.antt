@@ -1,45 +1,37 @@
 -- The pairs that may start by now are those of the messages that may.
 use Rattle.std.proofs.Common.{◌≡◌, ℕ, suc, Bool, true, false, not, ◌&&◌, cond, if◌then◌else◌, List, [], ◌∷◌, map}
-use Rattle.std.proofs.Common.{Option, Some, None, refl, sym, ◌∙◌, ap}
-use Rattle.std.specs.Prelude.{nat_le, ◌==◌, option_map}
+use Rattle.std.proofs.Common.{Option, Some, None, refl, sym, ◌∙◌, ap, ap₂, true≢false}
+use Rattle.std.specs.Prelude.{nat_le, option_map}
 use Rattle.std.specs.List.{AllZip, filter, find, list_all, list_any}
 use Rattle.std.specs.declared.cmp.Ordering.{Ordering}
-use Rattle.std.specs.declared.cmp.Ordering.TheVariants.{Equal}
-use Rattle.std.specs.Ordering.{is_lt, is_eq, nat_cmp}
+use Rattle.std.specs.declared.cmp.Ordering.TheVariants.{Less, Equal, Greater}
+use Rattle.std.specs.Ordering.{is_lt, is_eq, ordering_reverse}
+use Rattle.std.proofs.lemmas.Cmp.{tied_back}
 use Rattle.std.specs.Cmp.{IsTotalOrder}
-use Rattle.std.proofs.lemmas.Bool.{eq-eqb, and_from}
+use Rattle.std.proofs.lemmas.Bool.{and_from}
 use Rattle.std.proofs.Math.Bool.{and-false}
 use Rattle.fair_rates.proofs.Lists.Booleans.{by_bool, first_of_both, second_of_both}
-use Rattle.link_waiting.specs.declared.idle_pairs.IdlePair.{IdlePair}
 use Rattle.link_pairs.specs.declared.pair.PeerPair.{PeerPair}
 use Rattle.fair_rates.specs.Sides.Subjects.{same_peer}
 use Rattle.fair_rates.specs.Lists.Sorted.{are_ascending}
 use Rattle.link_simulation.specs.Simulation.World.{fronts}
 use Rattle.link_simulation.specs.Simulation.Messages.{Message, PairsAlike, same_pair, pair_before}
 use Rattle.link_simulation.specs.Rule.Planned.{Planned, AreInPairOrder, may_launch}
-use Rattle.link_waiting.specs.Idle.Due.{NamesIdlePair, AreDue}
-use Rattle.link_waiting.specs.Idle.Index.{idle_cmp, idle_key, is_listed, idle_from, IsIndexOf}
+use Rattle.link_waiting.specs.Idle.Index.{idle_from, IsIndexOf}
+use Rattle.link_waiting.specs.Idle.Waits.{has_come, pair_of_key}
 use Rattle.link_waiting.specs.Idle.PairsOfMessages.{NamesPairOf}
 use Rattle.link_waiting.specs.Idle.FirstMoment.{first_moment}
 use Rattle.link_pairs.specs.Pairs.Entries.{pair_cmp, first_of}
-use Rattle.link_waiting.specs.Idle.Departed.{is_moment}
 use Rattle.link_waiting.specs.Idle.Starting.{may_launch_first, ready_messages}
 use Rattle.link_waiting.specs.Idle.AtRest.{is_sending}
 use Rattle.fair_rates.proofs.Sides.Subjects.{peer_sym}
 use Rattle.fair_rates.proofs.Lists.Sorted.{is_eq_equal}
 use Rattle.fair_rates.proofs.Lists.Zips.{zip_weaker}
 use Rattle.link_simulation.proofs.Simulation.Queue.{pair_like, pair_sym}
-use Rattle.link_waiting.proofs.Idle.DueCounts.{how_many, same_many, never_many, filter_many, permuted_many}
-use Rattle.link_waiting.proofs.Idle.DueCounts.{zipped_many, is_rising, of_key, rising_sorted, rising_same}
-use Rattle.link_waiting.proofs.Idle.Index.{idle_total, same_moment}
-use Rattle.link_waiting.proofs.Idle.FirstStart.{moment_is, may_from}
-use Rattle.link_waiting.proofs.Idle.Places.{none_again}
+use Rattle.link_waiting.proofs.Idle.DueCounts.{how_many, same_many, never_many, filter_many}
+use Rattle.link_waiting.proofs.Idle.DueCounts.{is_rising, of_key, rising_same}
+use Rattle.link_waiting.proofs.Idle.FirstStart.{may_from}
 use Rattle.link_pairs.proofs.Pairs.PairOrder.{pair_total, is_eq-then}
-
--- whether that moment has come
-abbrev pub has_come : ℕ → Option ℕ → Bool
-has_come now None = false
-has_come now (Some t) = nat_le t now
 
 abbrev pub one_if : Bool → ℕ
 one_if b = if b then 1 else 0
@@ -62,9 +54,6 @@ module _ {X : Type 0} where
 module _ {P : Type 0} (cmp : P → P → Ordering) (order : IsTotalOrder cmp) where
   abbrev key_pair : PeerPair P → P × P
   key_pair k = (k.origin, k.recipient)
-
-  abbrev idle_pair : IdlePair P → P × P
-  idle_pair e = (e.origin, e.recipient)
 
   abbrev message_pair : Message P → P × P
   message_pair m = (m.origin, m.recipient)
@@ -101,101 +90,42 @@ module _ {P : Type 0} (cmp : P → P → Ordering) (order : IsTotalOrder cmp) wh
   -- ---- how many keys name a pair
 
   module _ (now : ℕ) (a b : P) where
-    abbrev of_entry : IdlePair P → Bool
-    of_entry e = is_eq (pair_cmp cmp (idle_pair e) (a, b))
+    abbrev of_pair_key : PeerPair P → Bool
+    of_pair_key k = is_eq (pair_cmp cmp (pair_of_key k) (a, b))
 
-    -- a pair that is listed under one moment, if any, stands once among those up to now if that moment has come
-    entries_due : (es : List (IdlePair P)) (moment : Option ℕ) → are_ascending (idle_cmp cmp) (map idle_key es) ≡ true
-        → ((t : ℕ) → is_listed cmp es t a b ≡ is_moment t moment)
-        → how_many (λ (e : IdlePair P). nat_le e.moment now && of_entry e) es ≡ one_if (has_come now moment)
-    entries_due [] None ascending listed = refl
-    entries_due [] (Some s) ascending listed = let no : false ≡ true = listed s ∙ eq-eqb s s refl in cc
-    entries_due (e ∷ es) moment ascending listed =
-        by_test (of_entry e) refl (entries_due es None later) (entries_due es moment later)
+    abbrev names : PeerPair P → Bool
+    names k = same_peer cmp a k.origin && same_peer cmp b k.recipient
+
+    names_is : (k : PeerPair P) → of_pair_key k ≡ names k
+    names_is k =
+        is_eq-then (cmp k.origin a) (cmp k.recipient b)
+        ∙ ap₂ (λ c d. c && d) (peer_sym cmp order k.origin a) (peer_sym cmp order k.recipient b)
+
+    -- keys that ascend name a pair once or not at all
+    ascending_once : (keys : List (PeerPair P)) → are_ascending (pair_cmp cmp) (map pair_of_key keys) ≡ true
+        → of_key (pair_cmp cmp) (pair_total cmp order) key_pair (a, b) keys ≡ one_if (list_any names keys)
+    ascending_once [] h = refl
+    ascending_once (k ∷ keys) h =
+        let above : list_all (λ l. is_lt (pair_cmp cmp (pair_of_key k) l)) (map pair_of_key keys) ≡ true =
+        first_of_both _ _ h in
+        let rest = ascending_once keys (second_of_both (list_all (λ l. is_lt (pair_cmp cmp (pair_of_key k) l)) (map pair_of_key keys)) _ h) in
+        by_bool (names k)
+        (λ is. rw (names_is k ∙ is, is) (ap suc (none_again keys (names_is k ∙ is) above)))
+        (λ is. rw (names_is k ∙ is, is) rest)
       where
-        later : are_ascending (idle_cmp cmp) (map idle_key es) ≡ true
-        later =
-            second_of_both (list_all (λ l. is_lt (idle_cmp cmp (idle_key e) l)) (map idle_key es))
-            (are_ascending (idle_cmp cmp) (map idle_key es)) ascending
-
-        both : (t : ℕ) → is_eq (idle_cmp cmp (idle_key e) (t, (a, b))) ≡ ((e.moment == t) && of_entry e)
-        both t =
-            is_eq-then (nat_cmp e.moment t) (pair_cmp cmp (idle_pair e) (a, b))
-            ∙ ap (λ c. c && of_entry e) (same_moment e.moment t)
-
-        here : of_entry e ≡ true → moment ≡ Some e.moment
-        here is =
-            moment_is e.moment moment
-            (sym (listed e.moment)
-            ∙ ap (λ c. if c then true else is_listed cmp es e.moment a b)
-            (both e.moment ∙ and_from (e.moment == e.moment) (of_entry e) (eq-eqb e.moment e.moment refl) is))
-
-        gone : of_entry e ≡ true → (t : ℕ) → is_listed cmp es t a b ≡ false
-        gone is t = by_bool (e.moment == t)
-            (λ h. none_again (idle_cmp cmp) (idle_total cmp order) idle_key e es (t, (a, b)) ascending
-            (is_eq_equal _ (both t ∙ and_from (e.moment == t) (of_entry e) h is)))
-            (λ h. let apart : is_eq (idle_cmp cmp (idle_key e) (t, (a, b))) ≡ false = both t
-            ∙ ap (λ c. c && of_entry e) h in
-            sym (ap (λ c. if c then true else is_listed cmp es t a b) apart) ∙ listed t ∙ ap (is_moment t) (here is)
-            ∙ h)
-
-        kept : of_entry e ≡ false → (t : ℕ) → is_listed cmp es t a b ≡ is_moment t moment
-        kept is t =
-            let apart : is_eq (idle_cmp cmp (idle_key e) (t, (a, b))) ≡ false =
-            both t ∙ ap (λ c. (e.moment == t) && c) is ∙ and-false (e.moment == t) in
-            sym (ap (λ c. if c then true else is_listed cmp es t a b) apart) ∙ listed t
-
-        by_test : (c : Bool) → of_entry e ≡ c
-            → (((t : ℕ) → is_listed cmp es t a b ≡ is_moment t None)
-            → how_many (λ (e : IdlePair P). nat_le e.moment now && of_entry e) es ≡ one_if (has_come now None))
-            → (((t : ℕ) → is_listed cmp es t a b ≡ is_moment t moment)
-            → how_many (λ (e : IdlePair P). nat_le e.moment now && of_entry e) es ≡ one_if (has_come now moment))
-            → how_many (λ (e : IdlePair P). nat_le e.moment now && of_entry e) (e ∷ es) ≡ one_if (has_come now moment)
-        by_test true is none rest =
-            ap
-            (λ c. if nat_le e.moment now
-            && c then suc (how_many (λ (e : IdlePair P). nat_le e.moment now && of_entry e) es) else how_many
-            (λ (e : IdlePair P). nat_le e.moment now && of_entry e) es)
-            is
-            ∙ one_more (nat_le e.moment now) (how_many (λ (e : IdlePair P). nat_le e.moment now && of_entry e) es)
-            (none (gone is))
-            ∙ ap (λ o. one_if (has_come now o)) (sym (here is))
-          where
-            one_more : (c : Bool) (n : ℕ) → n ≡ 0 → (if c && true then suc n else n) ≡ one_if c
-            one_more true n z = ap suc z
-            one_more false n z = z
-        by_test false is none rest =
-            ap
-            (λ c. if nat_le e.moment now
-            && c then suc (how_many (λ (e : IdlePair P). nat_le e.moment now && of_entry e) es) else how_many
-            (λ (e : IdlePair P). nat_le e.moment now && of_entry e) es)
-            is
-            ∙ ap
-            (λ c. if c then suc (how_many (λ (e : IdlePair P). nat_le e.moment now && of_entry e) es) else how_many
-            (λ (e : IdlePair P). nat_le e.moment now && of_entry e) es)
-            (and-false (nat_le e.moment now))
-            ∙ rest (kept is)
-
-    keys_due : (es : List (IdlePair P)) (keys : List (PeerPair P)) (moment : Option ℕ)
-        → are_ascending (idle_cmp cmp) (map idle_key es) ≡ true
-        → ((t : ℕ) → is_listed cmp es t a b ≡ is_moment t moment) → AreDue cmp now es keys
-        → of_key (pair_cmp cmp) (pair_total cmp order) key_pair (a, b) keys ≡ one_if (has_come now moment)
-    keys_due es keys moment ascending listed due =
-        permuted_many (λ k. is_eq (pair_cmp cmp (key_pair k) (a, b))) due.due keys due.same
-        ∙ zipped_many (NamesIdlePair cmp) (λ k. is_eq (pair_cmp cmp (key_pair k) (a, b))) of_entry alike due.due
-        (filter (λ (e : IdlePair P). nat_le e.moment now) es) due.named
-        ∙ filter_many (λ (e : IdlePair P). nat_le e.moment now) of_entry es
-        ∙ entries_due es moment ascending listed
-      where
-        alike : (k : PeerPair P) (e : IdlePair P) → NamesIdlePair cmp k e
-            → is_eq (pair_cmp cmp (key_pair k) (a, b)) ≡ of_entry e
-        alike k e is =
-            ap is_eq
-            (sym
-            ((pair_total cmp order).congr (idle_pair e) (key_pair k) (a, b)
-            (is_eq_equal _
-            (is_eq-then (cmp e.origin k.origin) (cmp e.recipient k.recipient)
-            ∙ and_from _ _ is.origin is.recipient))))
+        none_again : (ls : List (PeerPair P)) → of_pair_key k ≡ true
+            → list_all (λ l. is_lt (pair_cmp cmp (pair_of_key k) l)) (map pair_of_key ls) ≡ true
+            → of_key (pair_cmp cmp) (pair_total cmp order) key_pair (a, b) ls ≡ 0
+        none_again [] is above = refl
+        none_again (l ∷ ls) is above =
+            let lower : is_lt (pair_cmp cmp (pair_of_key k) (pair_of_key l)) ≡ true = first_of_both _ _ above in
+            let other : of_pair_key l ≡ false = by_bool (of_pair_key l)
+            (λ same. let equal = (pair_total cmp order).congr (pair_of_key k) (a, b) (pair_of_key l) (is_eq_equal _ is) in
+            let turned = tied_back (pair_total cmp order) (pair_of_key l) (a, b) (is_eq_equal _ same) in
+            let no : true ≡ false = sym lower ∙ ap is_lt (equal ∙ turned) in
+            absurd (true≢false no))
+            (λ apart. apart) in
+            rw other (none_again ls is (second_of_both (is_lt (pair_cmp cmp (pair_of_key k) (pair_of_key l))) _ above))
 
     -- ---- how many messages that may start are of a pair
 
@@ -278,8 +208,7 @@ module _ {P : Type 0} (cmp : P → P → Ordering) (order : IsTotalOrder cmp) wh
 
   -- ---- both together
 
-  module _ (p : Planned P) (alike : PairsAlike cmp p.last_arrival p.last_arrival)
-      (in_order : AreInPairOrder cmp p.waiting) (now : ℕ) where
+  module _ (p : Planned P) (alike : PairsAlike cmp p.last_arrival p.last_arrival) (now : ℕ) where
     -- the first message of a pair may start by now if its moment has come
     may_by : (a b : P)
         → passes now a b (may_launch cmp now p) (first_of cmp p.waiting a b) ≡ has_come now (idle_from cmp p a b)
@@ -324,16 +253,20 @@ module _ {P : Type 0} (cmp : P → P → Ordering) (order : IsTotalOrder cmp) wh
         ∙ fronts_of now a b (may_launch cmp now p) p.waiting ∙ ap one_if (may_by a b)
 
     -- the keys of the pairs that are listed up to now, in the order of pairs, are those of the messages that may start
-    pub ready_so : (es : List (IdlePair P)) (keys : List (PeerPair P))
-        → are_ascending (idle_cmp cmp) (map idle_key es) ≡ true → IsIndexOf cmp p es → AreDue cmp now es keys
+    pub ready_so : (since : P → P → Option ℕ) (keys : List (PeerPair P)) → AreInPairOrder cmp p.waiting
+        → IsIndexOf cmp p since
+        → are_ascending (pair_cmp cmp) (map pair_of_key keys) ≡ true
+        → ((o r : P) → list_any (λ key. same_peer cmp o key.origin && same_peer cmp r key.recipient) keys
+        ≡ has_come now (since o r))
         → AllZip (NamesPairOf cmp) keys (ready_messages cmp now p)
-    ready_so es keys ascending index due =
+    ready_so since keys in_order index ascending ready =
         zip_weaker (λ k m. pair_cmp cmp (key_pair k) (message_pair m) ≡ Equal) (NamesPairOf cmp)
         (λ k m same. named k m same) keys (ready_messages cmp now p)
         (rising_same (pair_cmp cmp) (pair_total cmp order) key_pair message_pair keys (ready_messages cmp now p)
-        (rising_sorted (pair_cmp cmp) (pair_total cmp order) key_pair keys due.sorted)
+        (rising_ascending keys ascending)
         (rising_filter (may_launch cmp now p) (fronts cmp p.waiting) (rising_fronts p.waiting in_order))
-        (λ q. keys_due now q.0 q.1 es keys (idle_from cmp p q.0 q.1) ascending (λ t. index t q.0 q.1) due
+        (λ q. ascending_once now q.0 q.1 keys ascending
+        ∙ ap one_if (ready q.0 q.1 ∙ ap (has_come now) (index q.0 q.1))
         ∙ sym (messages_due q.0 q.1)))
       where
         named : (k : PeerPair P) (m : Message P) → pair_cmp cmp (key_pair k) (message_pair m) ≡ Equal
@@ -346,3 +279,32 @@ module _ {P : Type 0} (cmp : P → P → Ordering) (order : IsTotalOrder cmp) wh
               recipient =
                   peer_sym cmp order m.recipient k.recipient ∙ second_of_both (same_peer cmp k.origin m.origin) _ both;
             }
+
+        rising_ascending : (ks : List (PeerPair P)) → are_ascending (pair_cmp cmp) (map pair_of_key ks) ≡ true
+            → is_rising (pair_cmp cmp) (pair_total cmp order) key_pair ks ≡ true
+        rising_ascending [] h = refl
+        rising_ascending (k ∷ ks) h =
+            and_from _ _
+            (not_lower ks (first_of_both (list_all (λ l. is_lt (pair_cmp cmp (pair_of_key k) l)) (map pair_of_key ks)) _ h))
+            (rising_ascending ks
+            (second_of_both (list_all (λ l. is_lt (pair_cmp cmp (pair_of_key k) l)) (map pair_of_key ks)) _ h))
+          where
+            not_lower : (ls : List (PeerPair P))
+                → list_all (λ l. is_lt (pair_cmp cmp (pair_of_key k) l)) (map pair_of_key ls) ≡ true
+                → list_all (λ l. not (is_lt (pair_cmp cmp (key_pair l) (key_pair k)))) ls ≡ true
+            not_lower [] above = refl
+            not_lower (l ∷ ls) above =
+                and_from _ _
+                (above_not (first_of_both (is_lt (pair_cmp cmp (pair_of_key k) (pair_of_key l))) _ above))
+                (not_lower ls (second_of_both (is_lt (pair_cmp cmp (pair_of_key k) (pair_of_key l))) _ above))
+              where
+                above_not : is_lt (pair_cmp cmp (key_pair k) (key_pair l)) ≡ true
+                    → not (is_lt (pair_cmp cmp (key_pair l) (key_pair k))) ≡ true
+                above_not lower =
+                    ap (λ o. not (is_lt o)) ((pair_total cmp order).antisymm (key_pair l) (key_pair k))
+                    ∙ by_order (pair_cmp cmp (key_pair k) (key_pair l)) lower
+                  where
+                    by_order : (o : Ordering) → is_lt o ≡ true → not (is_lt (ordering_reverse o)) ≡ true
+                    by_order Less h = refl
+                    by_order Equal h = cc
+                    by_order Greater h = cc

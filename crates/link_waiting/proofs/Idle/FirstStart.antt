@@ -1,36 +1,25 @@
 -- When idle pairs may start, and the first moment at which one may.
-use Rattle.std.proofs.Common.{◌≡◌, ℕ, ◌≤◌, Bool, true, false, not, ◌&&◌, if◌then◌else◌, List, [], ◌∷◌, map, slice_get}
+use Rattle.std.proofs.Common.{◌≡◌, ℕ, ◌≤◌, Bool, true, false, not, ◌&&◌, if◌then◌else◌, []}
 use Rattle.std.proofs.Common.{Option, Some, None, IfSome, refl, sym, ◌∙◌, ap, subst, arith}
-use Rattle.std.specs.Prelude.{◌↔◌, nat_le, max, option_map}
+use Rattle.std.specs.Prelude.{◌↔◌, nat_le, max, option_map, is_none}
 use Rattle.std.specs.List.{find, list_any}
 use Rattle.std.specs.declared.cmp.Ordering.{Ordering}
 use Rattle.std.specs.Cmp.{IsTotalOrder}
-use Rattle.std.proofs.lemmas.Bool.{leb-true, le-leb, eqb-true, eq-eqb, and_from, not-true}
+use Rattle.std.proofs.lemmas.Bool.{leb-true, le-leb, and_from, not-true}
 use Rattle.fair_rates.proofs.Lists.Booleans.{first_of_both, second_of_both}
-use Rattle.link_waiting.specs.declared.idle_pairs.IdlePair.{IdlePair}
 use Rattle.fair_rates.specs.Sides.Subjects.{same_peer}
-use Rattle.fair_rates.specs.Lists.Sorted.{are_ascending}
 use Rattle.link_simulation.specs.Simulation.Messages.{Message, PairsAlike, same_pair}
 use Rattle.link_simulation.specs.Simulation.World.{last_moment}
 use Rattle.link_simulation.specs.Rule.Events.{PlansStart}
 use Rattle.link_simulation.specs.Rule.Planned.{Planned, rated_messages, IsLeastMoment, SomeReadyAt, next_of, may_launch}
-use Rattle.link_waiting.specs.Idle.Index.{idle_cmp, idle_key, idle_from, IsIndexOf}
+use Rattle.link_waiting.specs.Idle.Index.{idle_from, IsIndexOf}
+use Rattle.link_waiting.specs.Idle.Waits.{has_come}
 use Rattle.link_waiting.specs.Idle.FirstMoment.{first_moment}
 use Rattle.link_pairs.specs.Pairs.Entries.{first_of}
-use Rattle.link_waiting.specs.Idle.Departed.{is_moment}
 use Rattle.link_waiting.specs.Idle.Starting.{may_launch_first}
 use Rattle.link_waiting.specs.Idle.AtRest.{is_sending}
 use Rattle.link_simulation.proofs.Simulation.Queue.{find_passes, pair_like, any_like}
-use Rattle.link_waiting.proofs.Idle.Index.{first_listed, first_least}
 use Rattle.link_waiting.proofs.Idle.Starting.{may_launch_is, of_pair, in_order_from}
-
--- that moment and no other
-pub moment_is : (t : ℕ) (o : Option ℕ) → is_moment t o ≡ true → o ≡ Some t
-moment_is t None h = cc
-moment_is t (Some s) h = ap Some (eqb-true s t h)
-
-pub is_its_moment : (t : ℕ) (o : Option ℕ) → o ≡ Some t → is_moment t o ≡ true
-is_its_moment t o is = ap (is_moment t) is ∙ eq-eqb t t refl
 
 module _ {P : Type 0} (cmp : P → P → Ordering) where
   -- a pair that is idle, and its first waiting message
@@ -58,6 +47,16 @@ module _ {P : Type 0} (cmp : P → P → Ordering) where
       (first_of cmp p.waiting o r))
       free
       ∙ ap (option_map (λ (m : Message P). first_moment (p.last_arrival o r) m.latency)) first
+
+  -- where none of the pair waits, it may not start
+  pub idle_none : (p : Planned P) (o r : P) → is_none (first_of cmp p.waiting o r) ≡ true → idle_from cmp p o r ≡ None
+  idle_none p o r none = by_parts (is_sending cmp p o r) (first_of cmp p.waiting o r) none
+    where
+      by_parts : (b : Bool) (m : Option (Message P)) → is_none m ≡ true
+          → (if b then None else option_map (λ (m : Message P). first_moment (p.last_arrival o r) m.latency) m) ≡ None
+      by_parts true m h = refl
+      by_parts false None h = refl
+      by_parts false (Some m) h = cc
 
   -- a message that may start is the first of a pair that is idle from no later moment on
   pub launches_idle : (p : Planned P) (s : ℕ) (m : Message P) → next_of cmp p m ≡ Some m → may_launch cmp s p m ≡ true
@@ -106,98 +105,51 @@ module _ {P : Type 0} (cmp : P → P → Ordering) where
         (λ j. find (λ (n : Message P). of_pair cmp order o r i.message same n j) p.waiting) ∙ i.first in
         (i.message, next, may)
 
-    -- the first moment from now on at which a listed pair may start is the least one at which a pair is ready
-    pub least_of : (es : List (IdlePair P)) (now : ℕ) → are_ascending (idle_cmp cmp) (map idle_key es) ≡ true
-        → IsIndexOf cmp p es
-        → IfSome (option_map (λ (e : IdlePair P). max now e.moment) (slice_get es 0)) (λ t. t ≤ last_moment)
-        → IsLeastMoment (λ s. (now ≤ s) × SomeReadyAt cmp p s)
-        (option_map (λ (e : IdlePair P). max now e.moment) (slice_get es 0))
-    least_of [] now ascending index fits = none_ready
-      where
-        none_ready : (s : ℕ) → s ≤ last_moment → ¬ ((now ≤ s) × SomeReadyAt cmp p s)
-        none_ready s le ready =
-            let m = ready.1.0 in
-            let from = launches_idle p s m ready.1.1 ready.1.2 in
-            let listed : false ≡ true =
-            index (first_moment (p.last_arrival m.origin m.recipient) m.latency) m.origin m.recipient
-            ∙ is_its_moment _ _ from.0 in
-            cc
-    least_of (e ∷ es) now ascending index fits =
-        (fits, (omega arith, idle_ready e.origin e.recipient e.moment (max now e.moment) first (omega arith)), lower)
-      where
-        first : idle_from cmp p e.origin e.recipient ≡ Some e.moment
-        first = moment_is e.moment _ (sym (index e.moment e.origin e.recipient) ∙ first_listed cmp order e es)
+    module _ (since : P → P → Option ℕ) (index : IsIndexOf cmp p since) (first : Option ℕ)
+        (least : (t : ℕ) → (has_come t first ≡ true) ↔ ((o : P) × (r : P) × (has_come t (since o r) ≡ true))) where
+      come_parts : (t : ℕ) (o : Option ℕ) → has_come t o ≡ true → (s : ℕ) × (o ≡ Some s) × (s ≤ t)
+      come_parts t None h = cc
+      come_parts t (Some s) h = (s, refl, leb-true s t h)
 
-        lower : (s : ℕ) → (now ≤ s) × SomeReadyAt cmp p s → max now e.moment ≤ s
-        lower s ready =
-            let m = ready.1.0 in
-            let from = launches_idle p s m ready.1.1 ready.1.2 in
-            let moment : ℕ = first_moment (p.last_arrival m.origin m.recipient) m.latency in
-            let early : e.moment ≤ moment =
-            first_least cmp order e es moment m.origin m.recipient ascending
-            (index moment m.origin m.recipient ∙ is_its_moment moment _ from.0) in
-            omega (arith, early, from.1, ready.0)
+      -- some pair is ready just from the first moment on
+      pub ready_from : (t : ℕ) → (has_come t first ≡ true) ↔ SomeReadyAt cmp p t
+      ready_from t = (if_come, if_ready)
+        where
+          if_come : has_come t first ≡ true → SomeReadyAt cmp p t
+          if_come come =
+              let at = (least t).0 come in
+              let from = come_parts t (since at.0 at.1) at.2 in
+              idle_ready at.0 at.1 from.0 t (sym (index at.0 at.1) ∙ from.1) from.2
 
-    -- so the start is planned by the index
-    pub looks_so : (es : List (IdlePair P)) (now : ℕ) (start : Option ℕ)
-        → are_ascending (idle_cmp cmp) (map idle_key es) ≡ true → IsIndexOf cmp p es
-        → start ≡ option_map (λ t. max now t) (option_map (λ (e : IdlePair P). e.moment) (slice_get es 0))
-        → IfSome start (λ t. t ≤ last_moment) → PlansStart cmp now p (record p { start = start })
-    looks_so es now start ascending index is fits =
-        let there : start ≡ option_map (λ (e : IdlePair P). max now e.moment) (slice_get es 0) =
-        is ∙ twice (slice_get es 0) in
-        record {
-          start =
-              subst (λ (o : Option ℕ). IsLeastMoment (λ s. (now ≤ s) × SomeReadyAt cmp p s) o) (sym there)
-              (least_of es now ascending index
-              (subst (λ (o : Option ℕ). IfSome o (λ t. t ≤ last_moment)) there fits));
-          same = refl;
-        }
-      where
-        twice : (o : Option (IdlePair P))
-            → option_map (λ t. max now t) (option_map (λ (e : IdlePair P). e.moment) o)
-            ≡ option_map (λ (e : IdlePair P). max now e.moment) o
-        twice None = refl
-        twice (Some e) = refl
+          if_ready : SomeReadyAt cmp p t → has_come t first ≡ true
+          if_ready ready =
+              let m = ready.0 in
+              let from = launches_idle p t m ready.1 ready.2 in
+              (least t).1 (
+                m.origin,
+                m.recipient,
+                ap (has_come t) (index m.origin m.recipient ∙ from.0)
+                    ∙ le-leb (first_moment (p.last_arrival m.origin m.recipient) m.latency) t from.1,
+              )
 
-    -- where no pair is listed, none is ready
-    pub none_listed : (es : List (IdlePair P)) (now : ℕ) → IsIndexOf cmp p es
-        → option_map (λ (e : IdlePair P). e.moment) (slice_get es 0) ≡ None → ¬ SomeReadyAt cmp p now
-    none_listed [] now index is ready =
-        let m = ready.0 in
-        let from = launches_idle p now m ready.1 ready.2 in
-        let listed : false ≡ true =
-        index (first_moment (p.last_arrival m.origin m.recipient) m.latency) m.origin m.recipient
-        ∙ is_its_moment _ _ from.0 in
-        cc
-    none_listed (e ∷ es) now index is ready = cc
-
-    -- some pair is ready just where the first listed one may start
-    pub ready_first : (es : List (IdlePair P)) (now t : ℕ) (may : Bool)
-        → are_ascending (idle_cmp cmp) (map idle_key es) ≡ true → IsIndexOf cmp p es
-        → option_map (λ (e : IdlePair P). e.moment) (slice_get es 0) ≡ Some t
-        → may ≡ nat_le t now → (may ≡ true) ↔ SomeReadyAt cmp p now
-    ready_first [] now t may ascending index is tested = cc
-    ready_first (e ∷ es) now t may ascending index is tested = (if_may, if_ready)
-      where
-        moment : e.moment ≡ t
-        moment = cc
-
-        first : idle_from cmp p e.origin e.recipient ≡ Some e.moment
-        first = moment_is e.moment _ (sym (index e.moment e.origin e.recipient) ∙ first_listed cmp order e es)
-
-        if_may : may ≡ true → SomeReadyAt cmp p now
-        if_may so =
-            let le : t ≤ now = leb-true t now (sym tested ∙ so) in
-            idle_ready e.origin e.recipient e.moment now first (omega (arith, moment))
-
-        if_ready : SomeReadyAt cmp p now → may ≡ true
-        if_ready ready =
-            let m = ready.0 in
-            let from = launches_idle p now m ready.1 ready.2 in
-            let late : ℕ = first_moment (p.last_arrival m.origin m.recipient) m.latency in
-            let early : e.moment ≤ late =
-            first_least cmp order e es late m.origin m.recipient ascending
-            (index late m.origin m.recipient ∙ is_its_moment late _ from.0) in
-            let le : t ≤ now = omega (arith, moment, early, from.1) in
-            tested ∙ le-leb t now le
+      -- so the start is planned by it
+      pub looks_so : (now : ℕ) (start : Option ℕ) → start ≡ option_map (λ t. max now t) first
+          → IfSome start (λ t. t ≤ last_moment) → PlansStart cmp now p (record p { start = start })
+      looks_so now start is fits =
+          record {
+            start =
+                subst (λ (o : Option ℕ). IsLeastMoment (λ s. (now ≤ s) × SomeReadyAt cmp p s) o) (sym is)
+                (by_first first refl (subst (λ (o : Option ℕ). IfSome o (λ t. t ≤ last_moment)) is fits));
+            same = refl;
+          }
+        where
+          by_first : (o : Option ℕ) → first ≡ o → IfSome (option_map (λ t. max now t) o) (λ t. t ≤ last_moment)
+              → IsLeastMoment (λ s. (now ≤ s) × SomeReadyAt cmp p s) (option_map (λ t. max now t) o)
+          by_first None none low = λ s le ready. let no : false ≡ true = sym (ap (has_come s) none) ∙ (ready_from s).1 ready.1 in cc
+          by_first (Some t) some low = (
+            low,
+            (omega arith, (ready_from (max now t)).0 (ap (has_come (max now t)) some ∙ le-leb t (max now t) (omega arith))),
+            λ s ready.
+                let come : t ≤ s = leb-true t s (sym (ap (has_come s) some) ∙ (ready_from s).1 ready.1) in
+                omega (arith, come, ready.0),
+          )

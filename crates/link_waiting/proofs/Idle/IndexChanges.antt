@@ -1,31 +1,25 @@
 -- The index of idle pairs after a change of the planned world.
 use Rattle.std.proofs.Common.{◌≡◌, ℕ, zero, suc, ◌<◌, map, get_or, arith, Bool, true, false, not, ◌&&◌, ◌||◌, cond}
-use Rattle.std.proofs.Common.{if◌then◌else◌, List, [], ◌∷◌, ◌++◌, length, Option, Some, None, refl, sym, ◌∙◌, ap}
-use Rattle.std.specs.Prelude.{option_map, ◌==◌}
+use Rattle.std.proofs.Common.{if◌then◌else◌, List, [], ◌∷◌, ◌++◌, length, Option, Some, None, refl, sym, ◌∙◌, ap, subst}
+use Rattle.std.specs.Prelude.{option_map}
 use Rattle.std.specs.List.{find, filter, list_any}
 use Rattle.std.specs.declared.cmp.Ordering.{Ordering}
-use Rattle.std.specs.Ordering.{is_eq}
 use Rattle.std.specs.Cmp.{IsTotalOrder}
 use Rattle.std.proofs.lemmas.Bool.{and_from, or_left, or_parts}
-use Rattle.std.proofs.Math.Bool.{and-false, or-true}
+use Rattle.std.proofs.Math.Bool.{or-true}
 use Rattle.fair_rates.proofs.Lists.Booleans.{by_bool, first_of_both, second_of_both}
 use Rattle.fair_rates.specs.Lists.WithoutFirst.{without_first}
-use Rattle.link_waiting.specs.declared.idle_pairs.IdlePair.{IdlePair}
 use Rattle.fair_rates.specs.Sides.Subjects.{same_peer}
-use Rattle.link_simulation.specs.Simulation.Messages.{Message, PairsAlike, pair_before}
+use Rattle.link_simulation.specs.Simulation.Messages.{Message, PairsAlike, pair_before, with_link}
 use Rattle.link_simulation.specs.Rule.Events.{with_queued}
 use Rattle.link_simulation.specs.Rule.Planned.{Planned, RatedFlight, rated_messages, queued, drained_to}
-use Rattle.link_waiting.specs.Idle.Index.{idle_cmp, is_listed, idle_from, IsIndexOf, is_of_pair, AreAtRest}
+use Rattle.link_waiting.specs.Idle.Index.{idle_from, IsIndexOf, is_of_pair, AreAtRest}
 use Rattle.link_waiting.specs.Idle.FirstMoment.{first_moment}
-use Rattle.link_pairs.specs.Pairs.Entries.{first_of, arrival_of, raised_at}
-use Rattle.link_waiting.specs.Idle.Departed.{is_moment}
+use Rattle.link_pairs.specs.Pairs.Entries.{Pair, first_of, arrival_of, raised_at}
 use Rattle.link_waiting.specs.Idle.AtRest.{is_sending, of_pairs}
-use Rattle.link_pairs.specs.Pairs.Messages.{message_of}
-use Rattle.link_pairs.specs.declared.message.Message as code
-use Rattle.link_pairs.specs.declared.known_pairs.Pair.{Pair}
 use Rattle.link_simulation.proofs.Simulation.Queue.{pair_like, pair_sym}
 use Rattle.fair_rates.proofs.Sides.EqualSubjects.{same_peer_itself}
-use Rattle.link_waiting.proofs.Idle.Index.{same_two, same_idle}
+use Rattle.link_waiting.proofs.Idle.Index.{same_two}
 use Rattle.link_waiting.proofs.Idle.FirstStart.{idle_respects}
 
 module _ {P : Type 0} (cmp : P → P → Ordering) where
@@ -47,25 +41,20 @@ module _ {P : Type 0} (cmp : P → P → Ordering) where
 
     -- where one pair alone may start from another moment on, the index in which that pair is changed is that of the new
     -- world
-    pub follows : (p q : Planned P) (o r : P) (old new : List (IdlePair P))
+    pub follows : (p q : Planned P) (o r : P) (old new : P → P → Option ℕ)
         → PairsAlike cmp q.last_arrival q.last_arrival
         → ((a b : P) → same_two cmp o r a b ≡ false → idle_from cmp q a b ≡ idle_from cmp p a b) → IsIndexOf cmp p old
-        → ((t : ℕ) (a b : P)
-        → is_listed cmp new t a b
-        ≡ (if same_peer cmp o a
-        && same_peer cmp r b then is_moment t (idle_from cmp q o r) else is_listed cmp old t a b))
-        → IsIndexOf cmp q new
-    follows p q o r old new alike others index changed t a b = changed t a b ∙ by_bool (same_two cmp o r a b)
+        → new ≡ with_link cmp old o r (idle_from cmp q o r) → IsIndexOf cmp q new
+    follows p q o r old new alike others index changed a b = ap (λ f. f a b) changed ∙ by_bool (same_two cmp o r a b)
         (λ h. rw h
-        (ap (is_moment t)
         (idle_respects cmp order q alike o r a b (first_of_both (same_peer cmp o a) _ h)
-        (second_of_both (same_peer cmp o a) _ h))))
-        (λ h. rw h (index t a b ∙ ap (is_moment t) (sym (others a b h))))
+        (second_of_both (same_peer cmp o a) _ h)))
+        (λ h. rw h (index a b ∙ sym (others a b h)))
 
     -- where no pair may start from another moment on, the index stays
-    pub stays_index : (p q : Planned P) (es : List (IdlePair P))
+    pub stays_index : (p q : Planned P) (es : P → P → Option ℕ)
         → ((a b : P) → idle_from cmp q a b ≡ idle_from cmp p a b) → IsIndexOf cmp p es → IsIndexOf cmp q es
-    stays_index p q es same index t a b = index t a b ∙ ap (is_moment t) (sym (same a b))
+    stays_index p q es same index a b = index a b ∙ sym (same a b)
 
     -- ---- messages of one pair, and those of another
 
@@ -185,22 +174,14 @@ any_more u (y ∷ xs) x = ap (λ c. u y || c) (any_more u xs x) ∙ sym (or_asso
     or_assoc false b c = refl
 
 module _ {P : Type 0} (cmp : P → P → Ordering) (order : IsTotalOrder cmp) (q : Planned P)
-    (alike : PairsAlike cmp q.last_arrival q.last_arrival) (old : List (IdlePair P)) where
-  module _ (done : List (Message P)) (m : Message P) (es : List (IdlePair P)) (so : AreAtRest cmp q done old es)
-      (busy : (t : ℕ) (a b : P) → is_of_pair cmp a b m ≡ true → is_listed cmp old t a b ≡ false) where
+    (alike : PairsAlike cmp q.last_arrival q.last_arrival) (old : P → P → Option ℕ) where
+  module _ (done : List (Message P)) (m : Message P) (es : P → P → Option ℕ) (so : AreAtRest cmp q done old es)
+      (busy : (a b : P) → is_of_pair cmp a b m ≡ true → old a b ≡ None) where
     -- what the rest says of the pair of the message
-    own : (t : ℕ) (a b : P) → is_of_pair cmp a b m ≡ true → idle_from cmp q a b ≡ idle_from cmp q m.origin m.recipient
-    own t a b h =
+    own : (a b : P) → is_of_pair cmp a b m ≡ true → idle_from cmp q a b ≡ idle_from cmp q m.origin m.recipient
+    own a b h =
         idle_respects cmp order q alike a b m.origin m.recipient (first_of_both (same_peer cmp a m.origin) _ h)
         (second_of_both (same_peer cmp a m.origin) _ h)
-
-    -- before, it is listed under its moment or not at all
-    listed_so : (t : ℕ) (a b : P) → is_of_pair cmp a b m ≡ true
-        → is_moment t (idle_from cmp q m.origin m.recipient) ≡ false → is_listed cmp es t a b ≡ false
-    listed_so t a b h other =
-        so t a b
-        ∙ by_bool (list_any (is_of_pair cmp a b) done) (λ k. rw k (ap (is_moment t) (own t a b h) ∙ other))
-        (λ k. rw k (busy t a b h))
 
     more_true : (a b : P) → is_of_pair cmp a b m ≡ true → list_any (is_of_pair cmp a b) (done ++ m ∷ []) ≡ true
     more_true a b h = any_more (is_of_pair cmp a b) done m ∙ rw h (or-true (list_any (is_of_pair cmp a b) done))
@@ -210,50 +191,32 @@ module _ {P : Type 0} (cmp : P → P → Ordering) (order : IsTotalOrder cmp) (q
     more_false a b h =
         any_more (is_of_pair cmp a b) done m ∙ or_else (is_of_pair cmp a b m) (list_any (is_of_pair cmp a b) done) h
 
+    -- where none of its pair waits
     pub rests_none : idle_from cmp q m.origin m.recipient ≡ None → AreAtRest cmp q (done ++ m ∷ []) old es
-    rests_none none t a b = by_bool (is_of_pair cmp a b m)
+    rests_none none a b = by_bool (is_of_pair cmp a b m)
         (λ h. rw (more_true a b h)
-        (listed_so t a b h (ap (is_moment t) none) ∙ sym (ap (is_moment t) (own t a b h ∙ none))))
-        (λ h. rw (more_false a b h) (so t a b))
+        (so a b ∙ by_bool (list_any (is_of_pair cmp a b) done) (λ k. rw k refl)
+        (λ k. rw k (busy a b h ∙ sym (own a b h ∙ none)))))
+        (λ h. rw (more_false a b h) (so a b))
 
-    pub rests_more : (k : ℕ) (new : List (IdlePair P)) → idle_from cmp q m.origin m.recipient ≡ Some k
-        → ((t : ℕ) (a b : P)
-        → is_listed cmp new t a b
-        ≡ (if is_eq (idle_cmp cmp (k, (m.origin, m.recipient)) (t, (a, b))) then true else is_listed cmp es t a b))
+    -- and where one does, from when on is told
+    pub rests_more : (new : P → P → Option ℕ)
+        → new ≡ with_link cmp es m.origin m.recipient (idle_from cmp q m.origin m.recipient)
         → AreAtRest cmp q (done ++ m ∷ []) old new
-    rests_more k new is added t a b =
-        by_bool (is_of_pair cmp a b m) (λ h. rw (more_true a b h) (here h)) (λ h. rw (more_false a b h) (there h))
+    rests_more new told a b = ap (λ f. f a b) told ∙ by_bool (is_of_pair cmp a b m)
+        (λ h. rw (more_true a b h, turned ∙ h) (sym (own a b h)))
+        (λ h. rw (more_false a b h, turned ∙ h) (so a b))
       where
-        test : is_eq (idle_cmp cmp (k, (m.origin, m.recipient)) (t, (a, b))) ≡ ((k == t) && is_of_pair cmp a b m)
-        test = same_idle cmp k t m.origin m.recipient a b ∙ ap (λ c. (k == t) && c) (turned a b)
-          where
-            turned : (a b : P) → same_two cmp m.origin m.recipient a b ≡ is_of_pair cmp a b m
-            turned a b = pair_sym cmp order m (record m { origin = a; recipient = b })
-
-        here : is_of_pair cmp a b m ≡ true → is_listed cmp new t a b ≡ is_moment t (idle_from cmp q a b)
-        here h =
-            let moment : is_moment t (idle_from cmp q a b) ≡ (k == t) = ap (is_moment t) (own t a b h ∙ is) in
-            added t a b ∙ ap (λ c. if c then true else is_listed cmp es t a b) (test ∙ ap (λ c. (k == t) && c) h)
-            ∙ by_bool (k == t)
-            (λ same. rw same (sym (moment ∙ same)))
-            (λ other. rw other (listed_so t a b h (ap (is_moment t) is ∙ other) ∙ sym (moment ∙ other)))
-
-        there : is_of_pair cmp a b m ≡ false
-            → is_listed cmp new t a b
-            ≡ (if list_any (is_of_pair cmp a b) done then is_moment t (idle_from cmp q a b) else is_listed cmp old t a
-            b)
-        there h =
-            let apart : is_eq (idle_cmp cmp (k, (m.origin, m.recipient)) (t, (a, b))) ≡ false =
-            test ∙ ap (λ c. (k == t) && c) h ∙ and-false (k == t) in
-            added t a b ∙ ap (λ c. if c then true else is_listed cmp es t a b) apart ∙ so t a b
+        turned : same_two cmp m.origin m.recipient a b ≡ is_of_pair cmp a b m
+        turned = pair_sym cmp order m (record m { origin = a; recipient = b })
 
   -- all that left is at rest, so the index is that of what stays
-  pub rests_index : (p : Planned P) (leavers : List (Message P)) (new : List (IdlePair P))
+  pub rests_index : (p : Planned P) (leavers : List (Message P)) (new : P → P → Option ℕ)
       → ((a b : P) → list_any (is_of_pair cmp a b) leavers ≡ false → idle_from cmp q a b ≡ idle_from cmp p a b)
       → IsIndexOf cmp p old → AreAtRest cmp q leavers old new → IsIndexOf cmp q new
-  rests_index p leavers new others index rests t a b = rests t a b ∙ by_bool (list_any (is_of_pair cmp a b) leavers)
+  rests_index p leavers new others index rests a b = rests a b ∙ by_bool (list_any (is_of_pair cmp a b) leavers)
       (λ h. rw h refl)
-      (λ h. rw h (index t a b ∙ ap (is_moment t) (sym (others a b h))))
+      (λ h. rw h (index a b ∙ sym (others a b h)))
 
 -- what passes at a place passes somewhere
 pub any_at : {X Y : Type 0} (u : Y → Bool) (f : X → Y) (xs : List X) (at : ℕ) (x : X) → at < length xs
@@ -265,54 +228,72 @@ any_at u f (y ∷ xs) (suc at) x lt is h = rw (any_at u f xs at x (omega (arith,
 -- ---- the index of what is kept, after a change of one pair
 
 module _ {P : Type 0} (cmp : P → P → Ordering) (order : IsTotalOrder cmp) where
-  pub raised_index : (pairs others : List (Pair P)) (ms : List (code.Message P)) (sending : List (RatedFlight P))
-      (o r : P) (at : ℕ) (es new : List (IdlePair P)) {after : Option ℕ}
+  pub raised_index : (pairs others : List (Pair P)) (ms : List (Message P)) (sending : List (RatedFlight P))
+      (o r : P) (at : ℕ) (es new : P → P → Option ℕ)
       → PairsAlike cmp (arrival_of cmp others) (arrival_of cmp others)
       → arrival_of cmp others ≡ raised_at cmp (arrival_of cmp pairs) o r at
       → IsIndexOf cmp (of_pairs cmp pairs ms sending) es
-      → ((t : ℕ) (a b : P)
-      → is_listed cmp new t a b
-      ≡ (if same_peer cmp o a && same_peer cmp r b then is_moment t after else is_listed cmp es t a b))
-      → after ≡ idle_from cmp (of_pairs cmp others ms sending) o r
+      → new ≡ with_link cmp es o r (idle_from cmp (of_pairs cmp others ms sending) o r)
       → IsIndexOf cmp (of_pairs cmp others ms sending) new
-  raised_index pairs others ms sending o r at es new {after} alike raised index changed is =
+  raised_index pairs others ms sending o r at es new alike raised index changed =
       let p : Planned P = of_pairs cmp pairs ms sending in
       let q : Planned P = of_pairs cmp others ms sending in
       let same : q ≡ record p { last_arrival = raised_at cmp p.last_arrival o r at } = λ i.
       record p { last_arrival = raised i } in
       follows cmp order p q o r es new alike
-      (λ a b apart. ap (λ (w : Planned P). idle_from cmp w a b) same ∙ raised_else cmp p o r at a b apart) index
-      (λ t a b. changed t a b
-      ∙ ap
-      (λ (m : Option ℕ). if same_peer cmp o a && same_peer cmp r b then is_moment t m else is_listed cmp es t a b)
-      is)
+      (λ a b apart. ap (λ (w : Planned P). idle_from cmp w a b) same ∙ raised_else cmp p o r at a b apart) index changed
 
-  pub queued_index : (pairs : List (Pair P)) (ms ns : List (code.Message P)) (sending : List (RatedFlight P)) (o r : P)
-      (m : Message P) (es new : List (IdlePair P)) {after : Option ℕ}
+  -- where the pair is not idle, or none of it waits
+  pub raised_none : (pairs others : List (Pair P)) (ms : List (Message P)) (sending : List (RatedFlight P))
+      (o r : P) (at : ℕ) (es : P → P → Option ℕ)
+      → PairsAlike cmp (arrival_of cmp others) (arrival_of cmp others)
       → PairsAlike cmp (arrival_of cmp pairs) (arrival_of cmp pairs)
-      → map message_of ns ≡ queued cmp m (map message_of ms) → same_two cmp o r m.origin m.recipient ≡ true
+      → arrival_of cmp others ≡ raised_at cmp (arrival_of cmp pairs) o r at
       → IsIndexOf cmp (of_pairs cmp pairs ms sending) es
-      → ((t : ℕ) (a b : P)
-      → is_listed cmp new t a b
-      ≡ (if same_peer cmp o a && same_peer cmp r b then is_moment t after else is_listed cmp es t a b))
-      → after ≡ idle_from cmp (of_pairs cmp pairs ns sending) o r
+      → idle_from cmp (of_pairs cmp pairs ms sending) o r ≡ None
+      → idle_from cmp (of_pairs cmp others ms sending) o r ≡ None
+      → IsIndexOf cmp (of_pairs cmp others ms sending) es
+  raised_none pairs others ms sending o r at es alike was_alike raised index was is =
+      let p : Planned P = of_pairs cmp pairs ms sending in
+      let q : Planned P = of_pairs cmp others ms sending in
+      let same : q ≡ record p { last_arrival = raised_at cmp p.last_arrival o r at } = λ i.
+      record p { last_arrival = raised i } in
+      stays_index cmp order p q es (λ a b. by_bool (same_two cmp o r a b)
+      (λ h.
+      let first = first_of_both (same_peer cmp o a) _ h in
+      let second = second_of_both (same_peer cmp o a) _ h in
+      sym (idle_respects cmp order q alike o r a b first second) ∙ is ∙ sym was
+      ∙ idle_respects cmp order p was_alike o r a b first second)
+      (λ h. ap (λ (w : Planned P). idle_from cmp w a b) same ∙ raised_else cmp p o r at a b h))
+      index
+
+  -- where no last arrival is another, the index stays
+  pub arrived_index : (pairs others : List (Pair P)) (ms : List (Message P)) (sending : List (RatedFlight P))
+      (es : P → P → Option ℕ) → arrival_of cmp others ≡ arrival_of cmp pairs
+      → IsIndexOf cmp (of_pairs cmp pairs ms sending) es → IsIndexOf cmp (of_pairs cmp others ms sending) es
+  arrived_index pairs others ms sending es same =
+      subst (λ (f : P → P → Option ℕ). IsIndexOf cmp (record (of_pairs cmp pairs ms sending) { last_arrival = f }) es)
+      (sym same)
+
+  pub queued_index : (pairs : List (Pair P)) (ms ns : List (Message P)) (sending : List (RatedFlight P)) (o r : P)
+      (m : Message P) (es new : P → P → Option ℕ)
+      → PairsAlike cmp (arrival_of cmp pairs) (arrival_of cmp pairs)
+      → ns ≡ queued cmp m ms → same_two cmp o r m.origin m.recipient ≡ true
+      → IsIndexOf cmp (of_pairs cmp pairs ms sending) es
+      → new ≡ with_link cmp es o r (idle_from cmp (of_pairs cmp pairs ns sending) o r)
       → IsIndexOf cmp (of_pairs cmp pairs ns sending) new
-  queued_index pairs ms ns sending o r m es new {after} alike joined own index changed is =
+  queued_index pairs ms ns sending o r m es new alike joined own index changed =
       let p : Planned P = of_pairs cmp pairs ms sending in
       let q : Planned P = of_pairs cmp pairs ns sending in
       let same : q ≡ with_queued cmp p m = λ i. record p { waiting = joined i } in
       follows cmp order p q o r es new alike
       (λ a b apart. ap (λ (w : Planned P). idle_from cmp w a b) same ∙ queued_else cmp order o r a b apart p m own)
-      index
-      (λ t a b. changed t a b
-      ∙ ap
-      (λ (m : Option ℕ). if same_peer cmp o a && same_peer cmp r b then is_moment t m else is_listed cmp es t a b)
-      is)
+      index changed
 
   -- a message joins those that wait behind one that is in flight: no idle pair is another
-  pub waited_index : (pairs : List (Pair P)) (ms ns : List (code.Message P)) (sending : List (RatedFlight P))
-      (m : Message P) (es : List (IdlePair P))
-      → map message_of ns ≡ queued cmp m (map message_of ms)
+  pub waited_index : (pairs : List (Pair P)) (ms ns : List (Message P)) (sending : List (RatedFlight P))
+      (m : Message P) (es : P → P → Option ℕ)
+      → ns ≡ queued cmp m ms
       → is_sending cmp (of_pairs cmp pairs ms sending) m.origin m.recipient ≡ true
       → PairsAlike cmp (arrival_of cmp pairs) (arrival_of cmp pairs)
       → IsIndexOf cmp (of_pairs cmp pairs ms sending) es → IsIndexOf cmp (of_pairs cmp pairs ns sending) es
@@ -342,10 +323,10 @@ module _ {P : Type 0} (cmp : P → P → Ordering) (order : IsTotalOrder cmp) wh
           h
 
   -- a message of a pair of which none waits is in flight: no idle pair is another
-  pub started_index : (pairs : List (Pair P)) (ms : List (code.Message P)) (sending after : List (RatedFlight P))
-      (f : RatedFlight P) (es : List (IdlePair P))
+  pub started_index : (pairs : List (Pair P)) (ms : List (Message P)) (sending after : List (RatedFlight P))
+      (f : RatedFlight P) (es : P → P → Option ℕ)
       → PairsAlike cmp (arrival_of cmp pairs) (arrival_of cmp pairs)
-      → first_of cmp (map message_of ms) f.message.origin f.message.recipient ≡ None → after ≡ sending ++ f ∷ []
+      → first_of cmp ms f.message.origin f.message.recipient ≡ None → after ≡ sending ++ f ∷ []
       → IsIndexOf cmp (of_pairs cmp pairs ms sending) es → IsIndexOf cmp (of_pairs cmp pairs ms after) es
   started_index pairs ms sending after f es alike alone pushed index =
       let p : Planned P = of_pairs cmp pairs ms sending in
@@ -378,16 +359,13 @@ module _ {P : Type 0} (cmp : P → P → Ordering) (order : IsTotalOrder cmp) wh
           ∙ by_bool (is_sending cmp w f.message.origin f.message.recipient) (λ t. rw t refl) (λ t. rw t refl)
 
   -- the first message of a pair is in flight: the pair is idle no more
-  pub departed_index : (pairs : List (Pair P)) (ms ns : List (code.Message P)) (sending after : List (RatedFlight P))
-      (f : RatedFlight P) (o r : P) (es new : List (IdlePair P))
+  pub departed_index : (pairs : List (Pair P)) (ms ns : List (Message P)) (sending after : List (RatedFlight P))
+      (f : RatedFlight P) (o r : P) (es new : P → P → Option ℕ)
       → PairsAlike cmp (arrival_of cmp pairs) (arrival_of cmp pairs)
-      → map message_of ns
-      ≡ without_first (λ (n : Message P). same_peer cmp o n.origin && same_peer cmp r n.recipient) (map message_of ms)
+      → ns ≡ without_first (λ (n : Message P). same_peer cmp o n.origin && same_peer cmp r n.recipient) ms
       → after ≡ sending ++ f ∷ [] → same_two cmp o r f.message.origin f.message.recipient ≡ true
       → IsIndexOf cmp (of_pairs cmp pairs ms sending) es
-      → ((t : ℕ) (a b : P)
-      → is_listed cmp new t a b
-      ≡ (if same_peer cmp o a && same_peer cmp r b then is_moment t None else is_listed cmp es t a b))
+      → new ≡ with_link cmp es o r None
       → IsIndexOf cmp (of_pairs cmp pairs ns after) new
   departed_index pairs ms ns sending after f o r es new alike taken pushed own index changed =
       let p : Planned P = of_pairs cmp pairs ms sending in
@@ -409,11 +387,7 @@ module _ {P : Type 0} (cmp : P → P → Ordering) (order : IsTotalOrder cmp) wh
       flies in
       follows cmp order p q o r es new alike
       (λ a b apart. ap (λ (w : Planned P). idle_from cmp w a b) same ∙ pushed_else cmp order o r a b apart p f 0 own)
-      index
-      (λ t a b. changed t a b
-      ∙ ap
-      (λ (m : Option ℕ). if same_peer cmp o a && same_peer cmp r b then is_moment t m else is_listed cmp es t a b)
-      (sym none))
+      index (changed ∙ ap (with_link cmp es o r) (sym none))
     where
       last_flies : (fs : List (RatedFlight P)) → list_any (is_of_pair cmp o r) (rated_messages (fs ++ f ∷ [])) ≡ true
       last_flies [] = or_left (is_of_pair cmp o r f.message) false own
@@ -425,9 +399,9 @@ flows_drained t [] = refl
 flows_drained t (f ∷ fs) = ap (λ l. f.message ∷ l) (flows_drained t fs)
 
 module _ {P : Type 0} (cmp : P → P → Ordering) (order : IsTotalOrder cmp) (pairs : List (Pair P))
-    (ms : List (code.Message P)) where
+    (ms : List (Message P)) where
   -- while the same messages are in flight, the same pairs are idle
-  pub same_flights_index : (sending after : List (RatedFlight P)) (es : List (IdlePair P))
+  pub same_flights_index : (sending after : List (RatedFlight P)) (es : P → P → Option ℕ)
       → rated_messages after ≡ rated_messages sending → IsIndexOf cmp (of_pairs cmp pairs ms sending) es
       → IsIndexOf cmp (of_pairs cmp pairs ms after) es
   same_flights_index sending after es same =
@@ -436,19 +410,17 @@ module _ {P : Type 0} (cmp : P → P → Ordering) (order : IsTotalOrder cmp) (p
       (ap (list_any (is_of_pair cmp a b)) same) refl refl)
 
   module _ (spent : RatedFlight P → Bool) (sending : List (RatedFlight P)) (leavers : List (Message P))
-      (es : List (IdlePair P)) (left : leavers ≡ rated_messages (filter spent sending))
+      (es : P → P → Option ℕ) (left : leavers ≡ rated_messages (filter spent sending))
       (index : IsIndexOf cmp (of_pairs cmp pairs ms sending) es) where
     -- the pairs of what left were not idle
-    pub left_unlisted : (t : ℕ) (a b : P) → list_any (is_of_pair cmp a b) leavers ≡ true
-        → is_listed cmp es t a b ≡ false
-    left_unlisted t a b some =
+    pub left_unlisted : (a b : P) → list_any (is_of_pair cmp a b) leavers ≡ true → es a b ≡ None
+    left_unlisted a b some =
         let p : Planned P = of_pairs cmp pairs ms sending in
         let busy : is_sending cmp p a b ≡ true =
         left_in_flight cmp (is_of_pair cmp a b) spent sending
         (ap (list_any (is_of_pair cmp a b)) (sym left) ∙ some) in
-        index t a b
-        ∙ ap (is_moment t)
-        (ap
+        index a b
+        ∙ ap
         (λ (c : Bool). if c then None else option_map
         (λ (m : Message P). first_moment (p.last_arrival a b) m.latency) (first_of cmp p.waiting a b))
-        busy)
+        busy

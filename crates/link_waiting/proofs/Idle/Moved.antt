@@ -8,16 +8,15 @@ use Rattle.fair_rates.specs.Sides.Subjects.{same_peer}
 use Rattle.fair_rates.proofs.Sides.EqualSubjects.{same_peer_itself}
 use Rattle.link_simulation.specs.Simulation.World.{later_of}
 use Rattle.link_simulation.specs.Rule.Planned.{RatedFlight}
-use Rattle.link_pairs.specs.declared.known_pairs.Pair.{Pair}
-use Rattle.link_pairs.specs.declared.message.Message as code
-use Rattle.link_pairs.specs.Pairs.Entries.{arrival_of, raised_at}
+use Rattle.link_simulation.specs.Simulation.Messages.{Message}
+use Rattle.link_pairs.specs.Pairs.Entries.{Pair, arrival_of, raised_at}
 use Rattle.link_waiting.specs.Idle.AtRest.{of_pairs}
 use Rattle.link_waiting.specs.Idle.FirstMoment.{first_moment}
 use Rattle.link_waiting.specs.Idle.Index.{idle_from}
 
 module _ {P : Type 0} (cmp : P → P → Ordering) (order : IsTotalOrder cmp) where
   -- it is told from the last arrival before and the latency of the pair's first waiting message
-  pub moved_is : (pairs others : List (Pair P)) (ms : List (code.Message P)) (sending : List (RatedFlight P)) (o r : P)
+  pub moved_is : (pairs others : List (Pair P)) (ms : List (Message P)) (sending : List (RatedFlight P)) (o r : P)
       (at : ℕ) (latency last : Option ℕ) (later : ℕ) {moved : Option ℕ}
       → last ≡ arrival_of cmp pairs o r
       → arrival_of cmp others ≡ raised_at cmp (arrival_of cmp pairs) o r at

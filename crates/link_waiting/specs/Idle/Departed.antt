@@ -1,5 +1,5 @@
 -- When idle pairs may start.
-use Rattle.std.specs.Prelude.{◌≡◌, ℕ, ◌+◌, Bool, false, ◌&&◌, ◌==◌, [], ◌∷◌, ◌++◌, length, Option, Some, None}
+use Rattle.std.specs.Prelude.{◌≡◌, ℕ, ◌+◌, ◌&&◌, [], ◌∷◌, ◌++◌, length, Some}
 use Rattle.std.specs.declared.cmp.Ordering.{Ordering}
 use Rattle.fair_rates.specs.Lists.WithoutFirst.{without_first}
 use Rattle.link_pairs.specs.Pairs.Entries.{first_of}
@@ -7,11 +7,6 @@ use Rattle.fair_rates.specs.Numbers.Amount.{whole}
 use Rattle.fair_rates.specs.Sides.Subjects.{same_peer}
 use Rattle.link_simulation.specs.Simulation.Messages.{Message}
 use Rattle.link_simulation.specs.Rule.Planned.{Planned}
-
--- whether that is the moment
-abbrev pub is_moment : ℕ → Option ℕ → Bool
-is_moment t None = false
-is_moment t (Some s) = s == t
 
 -- the first waiting message of a pair is in flight from t on, under the next flow id
 pub record HasDeparted {P : Type 0} (cmp : P → P → Ordering) (t : ℕ) (p : Planned P) (o r : P)

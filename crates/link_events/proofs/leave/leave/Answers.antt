@@ -4,6 +4,7 @@ use Rattle.link_flights.specs.Flights.InFlight.{in_flight}
 use Rattle.link_pairs.specs.Pairs.Messages.{messages}
 use Rattle.link_pairs.specs.Pairs.CapsOf.{caps_of}
 use Rattle.link_pairs.proofs.Pairs.LookedUp.{arrivals_looked_up}
+use Rattle.link_waiting.specs.Idle.Waits.{since_of}
 use Rattle.link_events.proofs.Steps.OneEach.{one_if_so}
 use Rattle.link_events.proofs.Steps.Landing.{done_unlisted, index_after}
 use Rattle.link_events.proofs.leave.leave.Goals as goal
@@ -13,10 +14,10 @@ rest_all-requires g c =
     let cmp = g.P.Ord.cmp in
     let old = c.args.flights.now in
     record {
-      unlisted =
+      busy =
           done_unlisted cmp g.met.P.Ord.total c.args.now c.args.pairs.now.entries c.args.waiting.now.messages
           (is_spent cmp (caps_of cmp c.args.peers.now.entries c.args.pairs.now.entries)) (in_flight old)
-          (in_flight c.part.new.flights) (messages c.in_ok-done.done.items) c.args.idle.now.entries
+          (in_flight c.part.new.flights) (messages c.in_ok-done.done.items) (since_of cmp c.args.waiting.now.told)
           (one_if_so cmp (rated_messages (in_flight old)) c.requires.one_each) c.requires.indexed
           c.in_ok-done.ensures.parted.left c.in_ok-done.ensures.parted.stays;
     }
@@ -25,11 +26,12 @@ pub returns-clause-indexed : goal.returns-clause-indexed
 returns-clause-indexed g c =
     let cmp = g.P.Ord.cmp in
     let old = c.args.flights.now in
-    index_after cmp g.met.P.Ord.total c.args.now c.args.pairs.now.entries c.args.waiting.now.messages
+    rw c.in_ok-rest_all.ensures.messages
+    (index_after cmp g.met.P.Ord.total c.args.now c.args.pairs.now.entries c.args.waiting.now.messages
     (is_spent cmp (caps_of cmp c.args.peers.now.entries c.args.pairs.now.entries)) (in_flight old)
-    (in_flight c.part.new.flights) (messages c.in_ok-done.done.items) c.args.idle.now.entries
+    (in_flight c.part.new.flights) (messages c.in_ok-done.done.items) (since_of cmp c.args.waiting.now.told)
     (one_if_so cmp (rated_messages (in_flight old)) c.requires.one_each) c.requires.indexed
     c.in_ok-done.ensures.parted.left c.in_ok-done.ensures.parted.stays
-    c.args.pairs.now.entries c.rest_all.new.idle.entries
+    c.args.pairs.now.entries (since_of cmp c.rest_all.new.waiting.told)
     (arrivals_looked_up cmp g.met.P.Ord.total c.args.pairs.now.entries) (λ a b none. refl)
-    c.in_ok-rest_all.ensures.listed
+    c.in_ok-rest_all.ensures.rest)

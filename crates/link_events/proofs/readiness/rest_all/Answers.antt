@@ -1,26 +1,27 @@
-use Rattle.std.proofs.Common.{◌≡◌, ◌+◌, ◌<◌, ℕ, false, true, List, [], ◌∷◌, ◌++◌, length, None, take}
+use Rattle.std.proofs.Common.{◌≡◌, ◌+◌, ◌<◌, true, List, [], ◌∷◌, ◌++◌, length, None, take}
 use Rattle.std.proofs.Common.{sym, ap, ◌∙◌, refl, subst, arith, rules}
 use Rattle.std.specs.declared.rc.Rc.{Rc}
 use Rattle.std.specs.declared.alloc.Global.{Global}
 use Rattle.std.proofs.lemmas.List.{map-append, take_more}
-use Rattle.link_simulation.specs.Simulation.Messages.{Message}
+use Rattle.link_simulation.specs.Simulation.Messages.{Message, with_link}
 use Rattle.link_simulation.specs.Rule.Planned.{Planned}
 use Rattle.link_pairs.specs.declared.message.Message as code
 use Rattle.link_waiting.specs.Idle.AtRest.{of_pairs}
-use Rattle.link_waiting.specs.Idle.Index.{is_listed, is_of_pair, idle_from, AreAtRest}
+use Rattle.link_waiting.specs.Idle.Index.{is_of_pair, idle_from, AreAtRest}
+use Rattle.link_waiting.specs.Idle.Waits.{since_of}
 use Rattle.link_pairs.specs.Pairs.Messages.{message_of, messages}
 use Rattle.link_pairs.proofs.Pairs.LookedUp.{arrivals_looked_up}
 use Rattle.link_waiting.proofs.Idle.IndexChanges.{any_at, rests_more, rests_none}
 use Rattle.link_events.proofs.Steps.Landing.{since_taken, since_taken_first}
 use Rattle.link_events.proofs.readiness.rest_all.Goals as goal
-use Rattle.link_events.proofs.readiness.rest_all.Goals.{in-Some+in_ok-add, in_default, then-at-eq0, else-at-eq0}
+use Rattle.link_events.proofs.readiness.rest_all.Goals.{then-is_some+in_ok-set_since, else-is_some, then-at-eq0, else-at-eq0}
 
 pub loop-at-preserved : goal.loop-at-preserved
 loop-at-preserved g c =
     let cmp = g.P.Ord.cmp in
     let q : Planned g.row.P.Denot = of_pairs cmp c.args.pairs.now.entries c.args.waiting.now.messages [] in
     let alike = arrivals_looked_up cmp g.met.P.Ord.total c.args.pairs.now.entries in
-    let old = c.args.idle.now.entries in
+    let old = since_of cmp c.args.waiting.now.told in
     let done = c.args.done.now.items in
     let at = c.loop-at.at in
     let lt : at < length done = omega (arith, c.loop-at-test.true, c.len-at-end.ensures, c.args.done.now.ok.0) in
@@ -32,35 +33,41 @@ loop-at-preserved g c =
     ∙ ap (λ (x : Rc (code.Message g.row.P.Denot) Global). take at done ++ x ∷ []) (sym c.index.ensures))
     ∙ map-append (λ x. message_of x.value) (take at done) (c.index.result.now ∷ [])
     ∙ ap (λ x. messages (take at done) ++ x ∷ []) there in
-    let busy : (t : ℕ) (a b : g.row.P.Denot) → is_of_pair cmp a b m ≡ true → is_listed cmp old t a b ≡ false =
-    λ t a b h.
-    c.requires.unlisted t a b
+    let busy : (a b : g.row.P.Denot) → is_of_pair cmp a b m ≡ true → old a b ≡ None =
+    λ a b h.
+    c.requires.busy a b
     (any_at (is_of_pair cmp a b) (λ x. message_of x.value) done at c.index.result.now lt c.index.ensures
     (ap (is_of_pair cmp a b) there ∙ h)) in
-    let since_is : c.match-since.since ≡ c.idle_from-since.result = elim c.match-since.branch [
-      | in-Some+in_ok-add w ↦ w.since-is ∙ sym w.in-Some.is
-      | in_default w ↦ w.since-is
-    ] in
-    let rest : AreAtRest cmp q (messages (take (at + 1) done)) old c.match-since.idle.entries =
-    elim c.match-since.branch [
-      | in-Some+in_ok-add w ↦
-          subst (λ es. AreAtRest cmp q (messages (take (at + 1) done)) old es) (sym (ap (λ x. x.entries) w.idle-is))
-          (subst (λ (ms : List (Message g.row.P.Denot)). AreAtRest cmp q ms old w.add.new.self.entries) (sym more)
-          (rests_more cmp g.met.P.Ord.total q alike old (messages (take at done)) m c.loop-at.idle.entries
-          c.loop-at.invariant.rest busy _ w.add.new.self.entries
-          (sym (c.idle_from-since.ensures [] refl) ∙ w.in-Some.is) w.in_ok-add.ensures.listed))
-      | in_default w ↦
-          let none : c.idle_from-since.result ≡ None = search rules in
-          subst (λ es. AreAtRest cmp q (messages (take (at + 1) done)) old es) (sym (ap (λ x. x.entries) w.idle-is))
-          (subst (λ (ms : List (Message g.row.P.Denot)). AreAtRest cmp q ms old c.loop-at.idle.entries) (sym more)
-          (rests_none cmp g.met.P.Ord.total q alike old (messages (take at done)) m c.loop-at.idle.entries
-          c.loop-at.invariant.rest busy (sym (c.idle_from-since.ensures [] refl) ∙ none)))
-    ] in
+    let since_is : c.idle_from-since.result ≡ idle_from cmp q m.origin m.recipient =
+    c.idle_from-since.ensures [] refl
+    ∙ ap (λ ms. idle_from cmp (of_pairs cmp c.args.pairs.now.entries ms []) m.origin m.recipient) c.loop-at.invariant.same in
+    let here = since_of cmp c.loop-at.waiting.told in
     record {
-      rest = rest;
+      same = elim c.if-is_some.branch [
+        | then-is_some+in_ok-set_since w ↦ ap (λ x. x.messages) w.waiting-is ∙ w.in_ok-set_since.ensures.messages ∙ c.loop-at.invariant.same
+        | else-is_some w ↦ ap (λ x. x.messages) w.waiting-is ∙ c.loop-at.invariant.same
+      ];
+      before = elim c.if-is_some.branch [
+        | then-is_some+in_ok-set_since w ↦ ap (λ x. x.before) w.waiting-is ∙ w.in_ok-set_since.ensures.before ∙ c.loop-at.invariant.before
+        | else-is_some w ↦ ap (λ x. x.before) w.waiting-is ∙ c.loop-at.invariant.before
+      ];
+      rest = elim c.if-is_some.branch [
+        | then-is_some+in_ok-set_since w ↦
+            subst (λ x. AreAtRest cmp q (messages (take (at + 1) done)) old (since_of cmp x.told)) (sym w.waiting-is)
+            (subst (λ (ms : List (Message g.row.P.Denot)). AreAtRest cmp q ms old (since_of cmp w.set_since.new.self.told)) (sym more)
+            (rests_more cmp g.met.P.Ord.total q alike old (messages (take at done)) m here
+            c.loop-at.invariant.rest busy (since_of cmp w.set_since.new.self.told)
+            (w.in_ok-set_since.ensures.since ∙ ap (with_link cmp here m.origin m.recipient) since_is)))
+        | else-is_some w ↦
+            let none : c.idle_from-since.result ≡ None = search rules in
+            subst (λ x. AreAtRest cmp q (messages (take (at + 1) done)) old (since_of cmp x.told)) (sym w.waiting-is)
+            (subst (λ (ms : List (Message g.row.P.Denot)). AreAtRest cmp q ms old here) (sym more)
+            (rests_none cmp g.met.P.Ord.total q alike old (messages (take at done)) m here
+            c.loop-at.invariant.rest busy (sym since_is ∙ none)))
+      ];
       first = elim c.if-at-eq0.branch [
         | then-at-eq0 w ↦
-            w.first-is ∙ since_is ∙ c.idle_from-since.ensures [] refl
+            w.first-is ∙ since_is
             ∙ ap (λ (n : Message g.row.P.Denot). idle_from cmp q n.origin n.recipient) (sym there)
             ∙ sym (since_taken_first cmp q done c.index.result.now at lt w.if-at-eq0.true c.index.ensures)
         | else-at-eq0 w ↦

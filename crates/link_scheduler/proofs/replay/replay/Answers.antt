@@ -6,10 +6,6 @@ use Rattle.link_simulation.specs.Rule.Planned.{new_planned}
 use Rattle.link_events.specs.Steps.AsPlanned.{planned}
 use Rattle.link_scheduler.specs.Calls.Replay.{call_of, reply_of}
 use Rattle.link_scheduler.proofs.Calls.Replay.{begins, has_room, goes_on, ends, one_for_each}
-use Rattle.link_simulation.specs.Simulation.World.{new_world}
-use Rattle.link_simulation.specs.Laws.Isolation.{InTime}
-use Rattle.link_simulation.specs.Rule.Refusals.{Obeyed}
-use Rattle.link_simulation.specs.Simulation.Replies.{Agrees}
 use Rattle.link_simulation.proofs.Rule.Agreeing.{obeyed_agree}
 use Rattle.link_simulation.proofs.Laws.ConservedSoFar.{conserved_so_far}
 use Rattle.link_simulation.proofs.Rule.RepliesInRange.{refuses_for_memory}

@@ -1,8 +1,7 @@
 use Rattle.std.proofs.Common.{◌≡◌, ◌+◌, ◌<◌, ◌≤◌, map, length, arith, ◌∙◌}
-use Rattle.std.proofs.lemmas.List.{length-map}
 use Rattle.std.proofs.lemmas.Result.{err_from_is_err_and}
 use Rattle.link_events.specs.Steps.AsPlanned.{planned}
-use Rattle.link_pairs.specs.Pairs.Messages.{message_of, ended_of}
+use Rattle.link_pairs.specs.Pairs.Messages.{ended_of}
 use Rattle.link_flights.proofs.Flights.Standing.{length_in_flight}
 use Rattle.link_events.proofs.Steps.Advancing.{advances_step, advances_end, event_refused, wake_refused}
 use Rattle.link_events.proofs.Steps.FewerEvents.{events_left, happens_fewer, events_few}
@@ -26,12 +25,10 @@ overflow_add-events g c =
     ≤ events_left g.P.Ord.cmp (planned g.P.Ord.cmp c.args.self.now) =
     c.loop-event.invariant.few in
     let old = c.args.self.now in
-    let waits : length (planned g.P.Ord.cmp old).waiting ≡ length old.waiting.messages =
-    length-map old.waiting.messages message_of in
     let sends : length (planned g.P.Ord.cmp old).sending ≡ length old.flights.list.items =
     length_in_flight old.flights.scale old.flights.at old.flights.list.items in
     let all : events_left g.P.Ord.cmp (planned g.P.Ord.cmp old) < 340282366920938463463374607431768211456
-    = events_few g.P.Ord.cmp (planned g.P.Ord.cmp old) (omega (arith, waits, old.waiting.few))
+    = events_few g.P.Ord.cmp (planned g.P.Ord.cmp old) (omega (arith, c.len-waiting.ensures))
     (omega (arith, sends, c.len-sending.ensures)) in
     omega (arith, fewer, few, all)
 

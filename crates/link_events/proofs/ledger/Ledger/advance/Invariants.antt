@@ -1,5 +1,6 @@
 use Rattle.std.proofs.Common.{◌≡◌, ◌+◌, ◌≤◌, map}
 use Rattle.link_events.specs.Steps.AsPlanned.{planned}
+use Rattle.link_events.specs.Steps.Marks.{before_of}
 use Rattle.link_pairs.specs.Pairs.Messages.{ended_of}
 use Rattle.link_events.proofs.Steps.Advancing.{AdvancesSo}
 use Rattle.link_events.proofs.Steps.FewerEvents.{events_left}
@@ -11,7 +12,7 @@ invariant-loop-event g l = record {
       (map ended_of l.ended.items) l.events;
   few : l.events + events_left g.P.Ord.cmp (planned g.P.Ord.cmp l.self)
       ≤ events_left g.P.Ord.cmp (planned g.P.Ord.cmp l.initial.self);
-  before : l.self.flights.list.before ≡ l.initial.self.flights.list.before;
+  before : before_of l.self ≡ before_of l.initial.self;
 }
 
 abbrev pub decreases-loop-event : goal.decreases-loop-event

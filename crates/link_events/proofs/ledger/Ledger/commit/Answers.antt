@@ -10,9 +10,9 @@ invariant_of-self g c =
     let at = c.commit.ensures in
     let same = in_flight_still old.flights new at.list at.scale at.at in
     record {
-      indexed = rw (c.settle.ensures, c.settle-2.ensures, same) old.indexed;
+      indexed = rw (c.commit-3.ensures.entries, c.commit-4.ensures.messages, c.commit-4.ensures.told, same) old.indexed;
       one_each = rw same old.one_each;
-      rated = λ e. rw c.settle.ensures
+      rated = λ e. rw (c.commit-2.ensures.entries, c.commit-3.ensures.entries)
           (∥∥₁_map (old.rated e)
           (rated_still old.flights new at.list at.scale at.at g.P.Ord.cmp
           (caps_of g.P.Ord.cmp old.peers.entries old.pairs.entries) at.floor at.loose));

@@ -1,4 +1,4 @@
-use Rattle.std.proofs.Common.{◌≡◌, ◌+◌, length, map, Some, sym, ap, ◌∙◌}
+use Rattle.std.proofs.Common.{◌≡◌, ◌+◌, length, Some, sym, ap, ◌∙◌}
 use Rattle.std.specs.Prelude.{option_map, ◌&&◌}
 use Rattle.std.proofs.Math.Logic.{∥∥₁_map}
 use Rattle.fair_rates.specs.Numbers.Amount.{whole}
@@ -11,6 +11,7 @@ use Rattle.link_pairs.specs.Pairs.Messages.{message_of}
 use Rattle.link_pairs.specs.Pairs.Entries.{first_of, arrival_of}
 use Rattle.link_pairs.specs.Pairs.CapsOf.{caps_of}
 use Rattle.link_pairs.proofs.Pairs.LookedUp.{arrivals_looked_up}
+use Rattle.link_waiting.specs.Idle.Waits.{since_of}
 use Rattle.link_waiting.proofs.Idle.IndexChanges.{departed_index}
 use Rattle.link_flights.proofs.Flights.Standing.{still_rated}
 use Rattle.link_simulation.proofs.Laws.Orderly.{idle_if_may}
@@ -25,7 +26,7 @@ invariant_of-self-2 g c =
     let old = c.args.self.now in
     let o = c.args.origin.now in
     let r = c.args.recipient.now in
-    let m : Message g.row.P.Denot = message_of c.in-Some.message.value in
+    let m : Message g.row.P.Denot = message_of c.in-Ok-Some.message.value in
     let f : RatedFlight g.row.P.Denot =
     record {
       id = old.next_id;
@@ -34,30 +35,30 @@ invariant_of-self-2 g c =
       rate = Some (whole 0);
       updated = c.args.now;
     } in
-    let found : first_of cmp (map message_of old.waiting.messages) o r ≡ Some m =
-    sym c.in_ok-message.ensures.taken ∙ ap (option_map (λ x. message_of x.value)) c.in-Some.is in
-    let taken = c.in_ok-message.ensures.rest in
+    let found : first_of cmp old.waiting.messages o r ≡ Some m =
+    sym c.in-Ok-Some.ensures.taken ∙ ap (option_map (λ x. message_of x.value)) c.in-Ok-Some.field-0-is in
+    let taken = c.in-Ok-Some.ensures.rest in
     let own =
     find_passes (λ (n : Message g.row.P.Denot). same_peer cmp o n.origin && same_peer cmp r n.recipient) m
-    (map message_of old.waiting.messages) found in
+    old.waiting.messages found in
     record {
       one_each =
           ∣ one_joins cmp g.met.P.Ord.total (in_flight old.flights) (in_flight c.push.new.self) f
           (one_if_so cmp (rated_messages (in_flight old.flights)) old.one_each)
           (idle_if_may cmp g.met.P.Ord.total c.args.now (planned cmp old) m
           (ap (may_launch_first cmp c.args.now (planned cmp old)) (sym found) ∙ c.requires.ready))
-          c.in_default-push.ensures.sending ∣₁;
+          c.in_default.ensures.sending ∣₁;
       rated = λ e.
           ∥∥₁_map (old.rated e)
           (still_rated cmp (caps_of cmp old.peers.entries old.pairs.entries) old.flights c.push.new.self
-          c.push.ensures.scale c.in_default-push.ensures.rated c.push.ensures.timed c.push.ensures.floor
+          c.push.ensures.scale c.in_default.ensures.rated c.push.ensures.timed c.push.ensures.floor
           c.push.ensures.loose);
       indexed =
           departed_index cmp g.met.P.Ord.total old.pairs.entries old.waiting.messages c.take_first.new.self.messages
-          (in_flight old.flights) (in_flight c.push.new.self) f o r old.idle.entries c.change-changed.new.self.entries
-          (arrivals_looked_up cmp g.met.P.Ord.total old.pairs.entries) taken c.in_default-push.ensures.sending own
-          old.indexed
-          c.in_default-changed.ensures.listed;
+          (in_flight old.flights) (in_flight c.push.new.self) f o r (since_of cmp old.waiting.told)
+          (since_of cmp c.take_first.new.self.told)
+          (arrivals_looked_up cmp g.met.P.Ord.total old.pairs.entries) taken c.in_default.ensures.sending own
+          old.indexed c.in-Ok-Some.ensures.since;
     }
 
 pub returns-clause-departed : goal.returns-clause-departed
@@ -66,21 +67,21 @@ returns-clause-departed g c =
     let old = c.args.self.now in
     let o = c.args.origin.now in
     let r = c.args.recipient.now in
-    let m : Message g.row.P.Denot = message_of c.in-Some.message.value in
-    let found : first_of cmp (map message_of old.waiting.messages) o r ≡ Some m =
-    sym c.in_ok-message.ensures.taken ∙ ap (option_map (λ x. message_of x.value)) c.in-Some.is in
-    let taken = c.in_ok-message.ensures.rest in
+    let m : Message g.row.P.Denot = message_of c.in-Ok-Some.message.value in
+    let found : first_of cmp old.waiting.messages o r ≡ Some m =
+    sym c.in-Ok-Some.ensures.taken ∙ ap (option_map (λ x. message_of x.value)) c.in-Ok-Some.field-0-is in
+    let taken = c.in-Ok-Some.ensures.rest in
     record {
       message = m;
       first = found;
       is = λ i. record {
         caps = caps_of cmp old.peers.entries old.pairs.entries;
         limited = old.limited;
-        sending = c.in_default-push.ensures.sending i;
+        sending = c.in_default.ensures.sending i;
         waiting = taken i;
         last_arrival = arrival_of cmp old.pairs.entries;
         next_id = old.next_id + 1;
-        accounted = c.in_default-push.ensures.joined.at i;
+        accounted = c.in_default.ensures.joined.at i;
         finish = old.finish;
         start = old.start;
       };
@@ -88,7 +89,7 @@ returns-clause-departed g c =
 
 pub returns-clause-joins : goal.returns-clause-joins
 returns-clause-joins g c = (
-  c.in-Some.message.value,
-  sym c.in_ok-message.ensures.taken ∙ ap (option_map (λ x. message_of x.value)) c.in-Some.is,
-  c.in_default-push.ensures.joined,
+  c.in-Ok-Some.message.value,
+  sym c.in-Ok-Some.ensures.taken ∙ ap (option_map (λ x. message_of x.value)) c.in-Ok-Some.field-0-is,
+  c.in_default.ensures.joined,
 )

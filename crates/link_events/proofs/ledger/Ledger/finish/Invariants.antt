@@ -1,5 +1,6 @@
 use Rattle.std.proofs.Common.{◌≡◌, ◌+◌, map, length}
 use Rattle.link_events.specs.Steps.AsPlanned.{planned}
+use Rattle.link_events.specs.Steps.Marks.{before_of}
 use Rattle.link_pairs.specs.Pairs.Messages.{messages, ended_of}
 use Rattle.link_events.proofs.Steps.Finishing.{FinishesSo}
 use Rattle.link_events.proofs.Steps.MessageCounts.{in_system}
@@ -10,7 +11,7 @@ invariant-loop-message g l = record {
   so : FinishesSo g.P.Ord.cmp l.now (messages l.initial.queue.items) (planned g.P.Ord.cmp l.initial.self)
       (map ended_of l.initial.ended.items)
       (messages l.queue.items) (planned g.P.Ord.cmp l.self) (map ended_of l.ended.items);
-  before : l.self.flights.list.before ≡ l.initial.self.flights.list.before;
+  before : before_of l.self ≡ before_of l.initial.self;
 }
 
 abbrev pub decreases-loop-message : goal.decreases-loop-message

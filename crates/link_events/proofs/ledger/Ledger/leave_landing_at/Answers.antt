@@ -1,4 +1,4 @@
-use Rattle.std.proofs.Common.{not, sym, ◌∙◌, refl, subst, inl, inr}
+use Rattle.std.proofs.Common.{not, sym, ap, ◌∙◌, refl, subst, inl, inr}
 use Rattle.std.specs.List.{filter}
 use Rattle.link_simulation.specs.Rule.Planned.{Planned, is_spent, drained_to}
 use Rattle.link_pairs.specs.Pairs.CapsOf.{caps_of}
@@ -7,6 +7,7 @@ use Rattle.link_pairs.specs.Pairs.Messages.{messages}
 use Rattle.link_flights.specs.Flights.InFlight.{in_flight}
 use Rattle.link_flights.specs.Flights.Rated.{HadFairRates}
 use Rattle.link_events.specs.Steps.AsPlanned.{planned}
+use Rattle.link_events.specs.Steps.Landing.{since_of_first}
 use Rattle.link_events.proofs.Steps.Landing.{leaves_landing, since_alike}
 use Rattle.link_pairs.specs.Pairs.Entries.{arrival_of}
 use Rattle.link_waiting.specs.Idle.AtRest.{of_pairs}
@@ -31,7 +32,8 @@ returns-in-Ok-clause-lands g c =
       last_arrival = arrival_of cmp known;
       accounted = flights.at;
     } in
-    leaves_landing cmp g.met.P.Ord.total c.args.now (planned cmp old) new
+    rw left.messages
+    (leaves_landing cmp g.met.P.Ord.total c.args.now (planned cmp old) new
     (filter (λ f. not (is_spent cmp caps f)) (drained_to c.args.now (in_flight old.flights))) (arrival_of cmp known)
     (messages c.in-Ok.left.done.items) c.in-Ok.left.deliver_at c.in-Ok.left.since
     (record { left = left.parted.left; is = refl })
@@ -48,8 +50,11 @@ returns-in-Ok-clause-lands g c =
     })
     left.lands
     (left.idle
+    ∙ ap
+    (λ ms. since_of_first cmp (of_pairs cmp known ms (in_flight flights)) (messages c.in-Ok.left.done.items))
+    left.messages
     ∙ since_alike cmp g.met.P.Ord.total (of_pairs cmp known old.waiting.messages (in_flight flights)) new
-    (messages c.in-Ok.left.done.items) (λ a b some. refl))
+    (messages c.in-Ok.left.done.items) (λ a b some. refl)))
 
 pub returns-in-Ok-clause-fair : goal.returns-in-Ok-clause-fair
 returns-in-Ok-clause-fair g c e =

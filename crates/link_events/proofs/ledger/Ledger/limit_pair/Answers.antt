@@ -1,13 +1,10 @@
-use Rattle.std.proofs.Common.{true, map, refl, sym, ap, ◌∙◌, subst}
+use Rattle.std.proofs.Common.{true, refl, sym, ◌∙◌}
 use Rattle.std.proofs.Math.Logic.{∥∥₁_map}
 use Rattle.std.proofs.lemmas.Bool.{false≢true}
-use Rattle.link_simulation.specs.Rule.Planned.{new_planned}
-use Rattle.link_waiting.specs.Idle.Index.{IsIndexOf}
-use Rattle.fair_rates.specs.Sides.Caps.{with_link}
-use Rattle.link_pairs.specs.Pairs.Entries.{arrival_of, link_of}
+use Rattle.link_waiting.specs.Idle.Waits.{since_of}
+use Rattle.link_waiting.proofs.Idle.IndexChanges.{arrived_index}
 use Rattle.link_pairs.specs.Pairs.PeerCaps.{egress_of, ingress_of}
 use Rattle.link_pairs.specs.Pairs.CapsOf.{caps_of}
-use Rattle.link_pairs.specs.Pairs.Messages.{message_of}
 use Rattle.link_flights.specs.Flights.InFlight.{in_flight}
 use Rattle.link_flights.proofs.Flights.Loosened.{rated_under_new}
 use Rattle.link_events.proofs.Steps.Marks.{in_flight_still}
@@ -26,19 +23,11 @@ invariant_of-self-2 g c =
     let same = in_flight_still old.flights flights at.list at.scale at.at in
     let caps = caps_of cmp old.peers.entries old.pairs.entries in
     let now = caps_of cmp old.peers.entries known in
-    let last = c.in_ok-set_cap.ensures.arrival ∙ ap (arrival_of cmp) c.in_ok-pairs.ensures.cases in
-    let link = c.in_ok-set_cap.ensures.link ∙ ap (λ es. with_link cmp (link_of cmp es) c.args.origin.now c.args.recipient.now c.args.cap) c.in_ok-pairs.ensures.cases in
+    let link = c.in_ok-set_cap.ensures.link in
     record {
       indexed =
-          subst
-          (λ l. IsIndexOf cmp
-          (record (new_planned 0) {
-            sending = in_flight flights;
-            waiting = map message_of old.waiting.messages;
-            last_arrival = l;
-          })
-          old.idle.entries)
-          (sym last) (rw same old.indexed);
+          arrived_index cmp g.met.P.Ord.total old.pairs.entries known old.waiting.messages (in_flight flights)
+          (since_of cmp old.waiting.told) c.in_ok-set_cap.ensures.arrival (rw same old.indexed);
       one_each = rw same old.one_each;
       rated = λ e. elim c.if-stale.branch [
         | then-stale w ↦ absurd (false≢true (sym e ∙ w.self-is ∙ w.if-stale.true))
@@ -59,8 +48,7 @@ returns-clause-limited g c =
     let old = c.args.self.now in
     let at = c.loosen_sent.ensures in
     let same = in_flight_still old.flights c.loosen_sent.new.self at.list at.scale at.at in
-    let last = c.in_ok-set_cap.ensures.arrival ∙ ap (arrival_of cmp) c.in_ok-pairs.ensures.cases in
-    let link = c.in_ok-set_cap.ensures.link ∙ ap (λ es. with_link cmp (link_of cmp es) c.args.origin.now c.args.recipient.now c.args.cap) c.in_ok-pairs.ensures.cases in
+    let link = c.in_ok-set_cap.ensures.link in
     λ i. record {
       caps = record {
         egress = egress_of cmp old.peers.entries;
@@ -69,8 +57,8 @@ returns-clause-limited g c =
       };
       limited = true;
       sending = same i;
-      waiting = map message_of old.waiting.messages;
-      last_arrival = last i;
+      waiting = old.waiting.messages;
+      last_arrival = c.in_ok-set_cap.ensures.arrival i;
       next_id = old.next_id;
       accounted = at.at i;
       finish = old.finish;

@@ -1,11 +1,9 @@
-use Rattle.std.proofs.Common.{true, map, refl, sym, ◌∙◌, inl, inr}
+use Rattle.std.proofs.Common.{true, refl, sym, ◌∙◌, inl, inr}
 use Rattle.std.proofs.Math.Logic.{∥∥₁_map}
 use Rattle.std.proofs.lemmas.Bool.{false≢true, or_cases}
 use Rattle.fair_rates.specs.Sides.Subjects.{same_peer}
 use Rattle.link_pairs.specs.Pairs.Entries.{link_of, arrival_of}
 use Rattle.link_pairs.specs.Pairs.CapsOf.{caps_of}
-use Rattle.link_pairs.specs.Pairs.Messages.{message_of}
-use Rattle.link_flights.specs.Flights.InFlight.{in_flight}
 use Rattle.link_flights.proofs.Flights.Loosened.{rated_under_new}
 use Rattle.link_events.proofs.Steps.Marks.{in_flight_still}
 use Rattle.link_events.proofs.Steps.NewCaps.{of_peer, about_peer, leaves_alone, not_off}
@@ -56,7 +54,7 @@ returns-clause-limited g c =
       };
       limited = true;
       sending = same i;
-      waiting = map message_of old.waiting.messages;
+      waiting = old.waiting.messages;
       last_arrival = arrival_of g.P.Ord.cmp old.pairs.entries;
       next_id = old.next_id;
       accounted = at.at i;

@@ -1,8 +1,8 @@
 use Rattle.std.proofs.Common.{sym, ap, ◌∙◌}
 use Rattle.link_events.specs.Steps.AsPlanned.{planned}
 use Rattle.link_pairs.proofs.Pairs.LookedUp.{arrivals_looked_up}
-use Rattle.link_waiting.proofs.Idle.DueMessages.{has_come, may_first}
-use Rattle.link_waiting.proofs.Idle.Waiting.{in_pair_order}
+use Rattle.link_waiting.specs.Idle.Waits.{has_come}
+use Rattle.link_waiting.proofs.Idle.DueMessages.{may_first}
 use Rattle.link_events.proofs.ledger.Ledger.may_launch.Goals as goal
 
 pub returns-in-Some : goal.returns-in-Some
@@ -11,8 +11,7 @@ returns-in-Some g c =
     ap (has_come c.args.now) (sym c.in-Some.is ∙ c.requires)
     ∙ may_first g.P.Ord.cmp g.met.P.Ord.total (planned g.P.Ord.cmp old)
     (arrivals_looked_up g.P.Ord.cmp g.met.P.Ord.total old.pairs.entries)
-    (in_pair_order g.P.Ord.cmp old.waiting.messages old.waiting.ordered) c.args.now c.args.origin.now
-    c.args.recipient.now
+    c.args.now c.args.origin.now c.args.recipient.now
 
 pub returns-in-None : goal.returns-in-None
 returns-in-None g c =
@@ -20,5 +19,4 @@ returns-in-None g c =
     ap (has_come c.args.now) (sym c.in-None.is ∙ c.requires)
     ∙ may_first g.P.Ord.cmp g.met.P.Ord.total (planned g.P.Ord.cmp old)
     (arrivals_looked_up g.P.Ord.cmp g.met.P.Ord.total old.pairs.entries)
-    (in_pair_order g.P.Ord.cmp old.waiting.messages old.waiting.ordered) c.args.now c.args.origin.now
-    c.args.recipient.now
+    c.args.now c.args.origin.now c.args.recipient.now

@@ -19,6 +19,7 @@ use Rattle.std.proofs.Props.{props}
 use Rattle.link_flights.proofs.Flights.Accounts.{accounts_so, some_units_left}
 use Rattle.link_flights.proofs.Flights.Joining.{left_limited, left_updated}
 use Rattle.link_flights.proofs.Flights.Standing.{messages_read, messages_kept}
+use Rattle.link_waiting.specs.Idle.Waits.{since_of}
 use Rattle.link_waiting.proofs.Idle.IndexChanges.{same_flights_index}
 use Rattle.link_events.proofs.ledger.Ledger.rate.Goals as goal
 use Rattle.link_events.proofs.ledger.Ledger.rate.Goals.{then-were_fair, else-were_fair}
@@ -108,7 +109,7 @@ invariant_of-self g c =
     record {
       indexed =
           same_flights_index cmp g.met.P.Ord.total old.pairs.entries old.waiting.messages (in_flight old.flights)
-          (in_flight new) old.idle.entries messages_same old.indexed;
+          (in_flight new) (since_of g.P.Ord.cmp old.waiting.told) messages_same old.indexed;
       one_each = subst (λ ms. ∥ OneForEachPair cmp ms ∥₁) (sym messages_same) old.one_each;
       rated = λ e. ∣ rated_under cmp caps new (looked_up cmp g.met.P.Ord.total old.peers.entries old.pairs.entries)
           (record {

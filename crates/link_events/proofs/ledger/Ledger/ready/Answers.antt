@@ -1,16 +1,16 @@
 use Rattle.link_events.specs.Steps.AsPlanned.{planned}
 use Rattle.link_pairs.proofs.Pairs.LookedUp.{arrivals_looked_up}
+use Rattle.link_waiting.specs.Idle.Waits.{since_of}
 use Rattle.link_waiting.proofs.Idle.DueMessages.{ready_so}
-use Rattle.link_events.proofs.Steps.Settling.{if_ok}
-use Rattle.link_waiting.proofs.Idle.Waiting.{in_pair_order}
+use Rattle.link_events.proofs.Steps.Settling.{if_ok_both}
 use Rattle.link_events.proofs.ledger.Ledger.ready.Goals as goal
 
 pub returns-clause-ready : goal.returns-clause-ready
 returns-clause-ready g c =
     let old = c.args.self.now in
-    if_ok c.ready.result
-    (λ keys due. ready_so g.P.Ord.cmp g.met.P.Ord.total (planned g.P.Ord.cmp old)
+    if_ok_both c.ready.result
+    (λ keys ascending ready. ready_so g.P.Ord.cmp g.met.P.Ord.total (planned g.P.Ord.cmp old)
     (arrivals_looked_up g.P.Ord.cmp g.met.P.Ord.total old.pairs.entries)
-    (in_pair_order g.P.Ord.cmp old.waiting.messages old.waiting.ordered) c.args.now old.idle.entries keys.items
-    old.idle.ascending old.indexed due)
-    c.ready.ensures.ready
+    c.args.now (since_of g.P.Ord.cmp old.waiting.told) keys.items c.ready.ensures.ordered
+    old.indexed ascending ready)
+    c.ready.ensures.ascending c.ready.ensures.ready

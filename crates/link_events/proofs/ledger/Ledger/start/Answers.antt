@@ -1,4 +1,4 @@
-use Rattle.std.proofs.Common.{◌≡◌, ◌+◌, [], ◌∷◌, ◌++◌, length, map, Some, sym, ap, ◌∙◌, rules}
+use Rattle.std.proofs.Common.{◌≡◌, ◌+◌, [], ◌∷◌, ◌++◌, length, Some, sym, ap, ◌∙◌, rules}
 use Rattle.std.proofs.Math.Logic.{∥∥₁_map}
 use Rattle.fair_rates.specs.Numbers.Amount.{whole}
 use Rattle.link_simulation.specs.Simulation.Messages.{Message}
@@ -9,6 +9,7 @@ use Rattle.link_pairs.specs.Pairs.Messages.{message_of}
 use Rattle.link_pairs.specs.Pairs.Entries.{arrival_of}
 use Rattle.link_pairs.specs.Pairs.CapsOf.{caps_of}
 use Rattle.link_pairs.proofs.Pairs.LookedUp.{arrivals_looked_up}
+use Rattle.link_waiting.specs.Idle.Waits.{since_of}
 use Rattle.link_waiting.proofs.Idle.IndexChanges.{started_index}
 use Rattle.link_waiting.proofs.Idle.Starting.{without_joined}
 use Rattle.link_flights.proofs.Flights.Standing.{still_rated}
@@ -41,7 +42,7 @@ invariant_of-self-2 g c =
           c.push.ensures.loose);
       indexed =
           started_index cmp g.met.P.Ord.total old.pairs.entries old.waiting.messages (in_flight old.flights)
-          (in_flight c.push.new.self) f old.idle.entries (arrivals_looked_up cmp g.met.P.Ord.total old.pairs.entries)
+          (in_flight c.push.new.self) f (since_of cmp old.waiting.told) (arrivals_looked_up cmp g.met.P.Ord.total old.pairs.entries)
           (rw same c.requires.alone) c.in_default.ensures.sending old.indexed;
     }
 
@@ -76,7 +77,7 @@ returns-clause-started g c =
       caps = caps_of cmp old.peers.entries old.pairs.entries;
       limited = old.limited;
       sending = sending i;
-      waiting = sym (without_joined cmp g.met.P.Ord.total m (map message_of old.waiting.messages) c.requires.alone) i;
+      waiting = sym (without_joined cmp g.met.P.Ord.total m old.waiting.messages c.requires.alone) i;
       last_arrival = arrival_of cmp old.pairs.entries;
       next_id = old.next_id + 1;
       accounted = c.in_default.ensures.joined.at i;

@@ -10,7 +10,7 @@ use Rattle.link_simulation.specs.Rule.Events.{PlansStart}
 use Rattle.link_pairs.proofs.Pairs.LookedUp.{arrivals_looked_up}
 use Rattle.link_events.proofs.Steps.OnlyWaiting.{enqueue_waits}
 use Rattle.link_waiting.proofs.Idle.IndexChanges.{waited_index}
-use Rattle.link_events.proofs.Steps.Settling.{on_either}
+use Rattle.link_waiting.specs.Idle.Waits.{since_of}
 use Rattle.link_events.proofs.ledger.Ledger.wait.Goals as goal
 
 pub returns-clause-enqueues : goal.returns-clause-enqueues
@@ -23,7 +23,7 @@ returns-clause-enqueues g c =
       caps = caps_of cmp old.peers.entries old.pairs.entries;
       limited = old.limited;
       sending = in_flight old.flights;
-      waiting = c.in_ok-push.ensures.waiting i;
+      waiting = c.in_default.ensures.messages i;
       last_arrival = arrival_of cmp old.pairs.entries;
       next_id = old.next_id;
       accounted = old.flights.at;
@@ -40,7 +40,7 @@ returns-clause-waits g c =
       caps = caps_of cmp old.peers.entries old.pairs.entries;
       limited = old.limited;
       sending = in_flight old.flights;
-      waiting = c.in_ok-push.ensures.waiting i;
+      waiting = c.in_default.ensures.messages i;
       last_arrival = arrival_of cmp old.pairs.entries;
       next_id = old.next_id;
       accounted = old.flights.at;
@@ -48,19 +48,18 @@ returns-clause-waits g c =
       start = old.start;
     }) c.plan_start.ensures.plans
 
-pub invariant_of-self : goal.invariant_of-self
-invariant_of-self g c =
+pub invariant_of-self-in_default : goal.invariant_of-self-in_default
+invariant_of-self-in_default g c =
     let cmp = g.P.Ord.cmp in
     let old = c.args.self.now in
     record {
       one_each = old.one_each;
       rated = old.rated;
-      indexed = on_either c.push.result
-          (λ joined. waited_index cmp g.met.P.Ord.total old.pairs.entries old.waiting.messages c.push.new.self.messages
-          (in_flight old.flights) (message_of c.args.message) old.idle.entries joined c.requires.busy
-          (arrivals_looked_up cmp g.met.P.Ord.total old.pairs.entries) old.indexed)
-          (λ same. subst
-          (λ ms. IsIndexOf cmp (of_pairs cmp old.pairs.entries ms (in_flight old.flights)) old.idle.entries)
-          (sym same) old.indexed)
-          c.push.ensures.waiting c.push.ensures.kept;
+      indexed =
+          subst (IsIndexOf cmp (of_pairs cmp old.pairs.entries c.push.new.self.messages (in_flight old.flights)))
+          (sym c.in_default.ensures.since)
+          (waited_index cmp g.met.P.Ord.total old.pairs.entries old.waiting.messages c.push.new.self.messages
+          (in_flight old.flights) (message_of c.args.message) (since_of cmp old.waiting.told)
+          c.in_default.ensures.messages c.requires.busy
+          (arrivals_looked_up cmp g.met.P.Ord.total old.pairs.entries) old.indexed);
     }

@@ -1,5 +1,6 @@
 use Rattle.std.proofs.Common.{◌≡◌, map}
 use Rattle.link_events.specs.Steps.AsPlanned.{planned}
+use Rattle.link_events.specs.Steps.Marks.{before_of}
 use Rattle.link_waiting.specs.Idle.Starting.{ready_messages}
 use Rattle.link_pairs.specs.Pairs.Messages.{ended_of}
 use Rattle.link_events.proofs.Steps.Finishing.{WakesAt}
@@ -10,5 +11,5 @@ invariant-loop-pair g l = record {
   at : WakesAt g.P.Ord.cmp l.now (ready_messages g.P.Ord.cmp l.now (planned g.P.Ord.cmp l.initial.self))
       (planned g.P.Ord.cmp l.initial.self) (map ended_of l.initial.ended.items)
       l.pair-items l.pair-index (planned g.P.Ord.cmp l.self) (map ended_of l.ended.items);
-  before : l.self.flights.list.before ≡ l.initial.self.flights.list.before;
+  before : before_of l.self ≡ before_of l.initial.self;
 }

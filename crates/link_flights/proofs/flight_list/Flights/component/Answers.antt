@@ -32,3 +32,6 @@ pub returns-clause-loose : goal.returns-clause-loose
 returns-clause-loose g c =
     still_has_messages g.P.Ord.cmp c.join_touched.new.component c.grow.new.component c.in_ok-grow.ensures.joined
     c.grow.ensures.whole c.args.self.now.loose c.in_ok-join_touched.ensures.loose
+
+pub returns-clause-suited : goal.returns-clause-suited
+returns-clause-suited g c = (c.in_ok-grow.ensures.walked c.if-not-branch.false).suited

@@ -1,10 +1,10 @@
 use Rattle.std.proofs.Common.{[]}
-use Rattle.std.proofs.Common.{◌≡◌, ◌≤◌, ◌+◌, ◌++◌, length, take, replicate, false, refl, sym, ap, ◌∙◌, subst, arith}
+use Rattle.std.proofs.Common.{◌≡◌, ◌≤◌, ◌+◌, ◌++◌, length, take, refl, sym, ap, ◌∙◌, subst, arith}
 use Rattle.std.specs.Prelude.{IfSome}
 use Rattle.std.proofs.Math.Seq.{take-append_seam}
 use Rattle.std.proofs.lemmas.List.{append-nil, take_all}
 use Rattle.link_flights.specs.Flights.Components.{AreAllListed, AreTouched, AreNoted}
-use Rattle.link_flights.proofs.Flights.Noted.{none_noted}
+use Rattle.link_flights.proofs.Flights.Noted.{noted_in_order}
 use Rattle.link_flights.proofs.Flights.Search.{HasGrown, still_touched, starts_on, walked_in_order}
 use Rattle.link_flights.proofs.flight_list.Flights.grow.Goals as goal
 
@@ -39,7 +39,7 @@ loop-next-init g c =
       first_grown,
       subst (λ places. AreNoted places c.list_joined.new.noted.items) (sym c.join_near.ensures.near)
           c.in_ok-list_joined.ensures.noted,
-      omega (arith, c.list_joined.ensures.each, c.in_ok-noted.ensures.len, c.len-2.ensures),
+      c.list_joined.ensures.each ∙ c.requires.each,
     )
 
 pub loop-next-preserved : goal.loop-next-preserved
@@ -77,9 +77,11 @@ returns-clause-walked g c all =
       suited = walked.suited;
     })
 
+pub returns-clause-noted : goal.returns-clause-noted
+returns-clause-noted g c all =
+    noted_in_order c.loop-next.component.near.items c.put_in_order.new.places.items c.loop-next.noted.items
+    c.loop-next.invariant.1 c.in_ok-put_in_order.ensures.still c.in_ok-put_in_order.ensures.only
+
 pub list_joined-requires-clause-noted : goal.list_joined-requires-clause-noted
 list_joined-requires-clause-noted g c =
-    let places = c.args.component.now.near.items in
-    subst (AreNoted places)
-    (sym (c.in_ok-noted.ensures.items_if_clones_equal (λ y is. is) ∙ ap (λ n. replicate n false) c.len-2.ensures))
-    (none_noted places (length c.args.self.now.list.items) c.requires.none)
+    subst (λ places. AreNoted places c.args.noted.now.items) (sym c.requires.none) c.requires.noted

@@ -1,13 +1,13 @@
-use Rattle.std.proofs.Common.{◌≡◌, ◌<◌, not, length, get_or, inl, inr, sym, ap, ◌∙◌, arith}
+use Rattle.std.proofs.Common.{◌≡◌, ◌<◌, ◌||◌, true, Some, not, length, get_or, inl, inr, sym, ap, ◌∙◌, subst, arith}
 use Rattle.std.specs.declared.rc.Rc.{Rc}
 use Rattle.std.specs.declared.alloc.Global.{Global}
 use Rattle.std.proofs.lemmas.Bool.{cases_lt}
-use Rattle.std.proofs.lemmas.Option.{slice_get_within}
+use Rattle.std.proofs.lemmas.Option.{slice_get_within, slice_get-get_or}
 use Rattle.link_flights.specs.declared.flight.Flight.{Flight}
-use Rattle.link_flights.specs.Flights.Components.{is_of, those_near}
+use Rattle.link_flights.specs.Flights.Components.{is_of, keeps, is_sender, those_near}
 use Rattle.link_flights.specs.Flights.Flight.{flight_at}
 use Rattle.link_flights.proofs.Flights.FewNear.{one_fails}
-use Rattle.link_flights.proofs.Flights.Near.{count_part, part_within, part_element}
+use Rattle.link_flights.proofs.Flights.Near.{count_part, part_within, part_element, suited_there}
 use Rattle.link_flights.proofs.Flights.Places.{all_by_number, one_there}
 use Rattle.link_flights.proofs.flight_list.Flights.has_none.Goals as goal
 
@@ -79,3 +79,23 @@ returns g c =
       count_part cmp component list c.requires.near,
       slice_get_within (those_near cmp component list) k f there,
     )) there))
+
+pub has-requires : goal.has-requires
+has-requires g c =
+    let cmp = g.P.Ord.cmp in
+    let component = c.args.component.now in
+    let list = c.args.self.now.list.items in
+    let index = c.loop-at.at-index in
+    let one = c.at.result.now in
+    let near = c.deref-at-items.result.now in
+    let same : near ≡ component.near.items = c.deref-at-items.ensures.value in
+    let lt : index < length component.near.items = omega (arith, c.loop-at-test.true, ap length same) in
+    let within : get_or component.near.items index 0 < length list =
+    part_within cmp component list c.requires.near index lt in
+    let is : one ≡ get_or list (get_or component.near.items index 0) one =
+    c.at.ensures ∙ ap (λ l. get_or list (get_or l index 0) one) same in
+    subst
+    (λ (x : Flight g.row.P.Denot). (keeps component (flight_at 0 x) || is_sender cmp component x.message.value.origin)
+    ≡ true) (sym c.deref.ensures)
+    (suited_there cmp component list c.requires.suited index one lt
+    (slice_get-get_or list (get_or component.near.items index 0) one within ∙ ap Some (sym is)))

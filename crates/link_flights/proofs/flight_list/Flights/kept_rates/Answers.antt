@@ -1,12 +1,13 @@
 use Rattle.std.proofs.Common.{◌≡◌, ◌+◌, ◌<◌, ◌≤◌, Bool, if◌then◌else◌, None, Some, take, length, get_or, sym, ap, ◌∙◌}
-use Rattle.std.proofs.Common.{subst, arith}
+use Rattle.std.proofs.Common.{subst, arith, true, ◌||◌}
+use Rattle.std.proofs.lemmas.Option.{slice_get-get_or}
 use Rattle.std.proofs.lemmas.List.{take_all}
 use Rattle.link_flights.specs.declared.flight.Flight.{Flight}
-use Rattle.link_flights.specs.Flights.Components.{those_near, is_of}
+use Rattle.link_flights.specs.Flights.Components.{those_near, is_of, keeps, is_sender, place_of}
 use Rattle.link_flights.specs.Flights.Flight.{flight_at}
 use Rattle.link_flights.specs.Flights.Rated.{AreKept}
 use Rattle.link_flights.proofs.Flights.Beside.{kept_more}
-use Rattle.link_flights.proofs.Flights.Near.{count_part, place_within, element}
+use Rattle.link_flights.proofs.Flights.Near.{count_part, place_within, element, keeps_or_sends}
 use Rattle.link_flights.proofs.flight_list.Flights.kept_rates.Goals.{then-has+in_ok-push}
 use Rattle.link_flights.proofs.flight_list.Flights.kept_rates.Goals.{else-has+in_ok-rate_kept+in_ok-push-2}
 use Rattle.link_flights.proofs.flight_list.Flights.kept_rates.Goals as goal
@@ -66,3 +67,23 @@ returns-clause-kept g c =
     let all : length near ≤ c.loop-number.number = omega (arith, c.loop-number-test.false, c.count-count.ensures) in
     subst (AreKept g.P.Ord.cmp c.args.component.now c.loop-number.kept.items)
     (take_all c.loop-number.number near all) c.loop-number.invariant
+
+pub has-requires : goal.has-requires
+has-requires g c =
+    let cmp = g.P.Ord.cmp in
+    let component = c.args.component.now in
+    let list = c.args.self.now.list.items in
+    let number = c.loop-number.number in
+    let one = c.at-one.result.now in
+    let lt : number < length (those_near cmp component list) =
+    omega (arith, c.loop-number-test.true, c.count-count.ensures) in
+    let within : place_of component number < length list =
+    place_within cmp component list c.requires.near number lt in
+    let is : one ≡ get_or list (place_of component number) one =
+    c.at-one.ensures ∙ ap (λ p. get_or list p one) c.place.ensures in
+    subst
+    (λ (x : Flight g.row.P.Denot). (keeps component (flight_at 0 x) || is_sender cmp component x.message.value.origin)
+    ≡ true) (sym c.deref.ensures)
+    (keeps_or_sends cmp component list c.requires.suited number one
+    (λ part. omega (arith, lt, count_part cmp component list (c.requires.near part)))
+    (slice_get-get_or list (place_of component number) one within ∙ ap Some (sym is)))

@@ -16,9 +16,9 @@ settle-requires g c =
     let caps = caps_of cmp c.args.peers.now.entries c.args.pairs.now.entries in
     let component = c.in_ok-touched.touched in
     let mid = c.rate_touched.new.self in
-    let r = (subst (GivesBeside cmp caps component old mid) c.in-Some.is c.in_ok-found.ensures.gives).0 in
+    let r = (subst (GivesBeside cmp caps component _ mid) c.in-Some.is c.in_ok-found.ensures.gives).0 in
     let h =
-    beside_given cmp caps component old mid r g.met.P.Ord.total
+    beside_given cmp caps component _ mid r g.met.P.Ord.total
     (looked_up cmp g.met.P.Ord.total c.args.peers.now.entries c.args.pairs.now.entries) c.args.done.now.items
     c.in_ok-touched.ensures.closed c.in_ok-touched.ensures.loose (c.requires.before c.if-were_rated.true)
     c.in_ok-touched.ensures.level
@@ -32,16 +32,16 @@ returns-in-Some-clause-rated g c =
     let caps = caps_of cmp c.args.peers.now.entries c.args.pairs.now.entries in
     let component = c.in_ok-touched.touched in
     let mid = c.rate_touched.new.self in
-    let r = (subst (GivesBeside cmp caps component old mid) c.in-Some.is c.in_ok-found.ensures.gives).0 in
+    let r = (subst (GivesBeside cmp caps component _ mid) c.in-Some.is c.in_ok-found.ensures.gives).0 in
     let h =
-    beside_given cmp caps component old mid r g.met.P.Ord.total
+    beside_given cmp caps component _ mid r g.met.P.Ord.total
     (looked_up cmp g.met.P.Ord.total c.args.peers.now.entries c.args.pairs.now.entries) c.args.done.now.items
     c.in_ok-touched.ensures.closed c.in_ok-touched.ensures.loose (c.requires.before c.if-were_rated.true)
     c.in_ok-touched.ensures.level
     c.requires.updated in
     let e = c.settle.ensures in
     let last = c.settle.new.self in
-    let k = still_given cmp caps component old mid last e.list e.scale e.at h in
+    let k = still_given cmp caps component _ mid last e.list e.scale e.at h in
     record {
       times = k.times;
       scale = k.scale;
@@ -58,16 +58,16 @@ returns-in-Some-clause-finish g c =
     let caps = caps_of cmp c.args.peers.now.entries c.args.pairs.now.entries in
     let component = c.in_ok-touched.touched in
     let mid = c.rate_touched.new.self in
-    let r = (subst (GivesBeside cmp caps component old mid) c.in-Some.is c.in_ok-found.ensures.gives).0 in
+    let r = (subst (GivesBeside cmp caps component _ mid) c.in-Some.is c.in_ok-found.ensures.gives).0 in
     let h =
-    beside_given cmp caps component old mid r g.met.P.Ord.total
+    beside_given cmp caps component _ mid r g.met.P.Ord.total
     (looked_up cmp g.met.P.Ord.total c.args.peers.now.entries c.args.pairs.now.entries) c.args.done.now.items
     c.in_ok-touched.ensures.closed c.in_ok-touched.ensures.loose (c.requires.before c.if-were_rated.true)
     c.in_ok-touched.ensures.level
     c.requires.updated in
     let e = c.settle.ensures in
     let last = c.settle.new.self in
-    let k = still_given cmp caps component old mid last e.list e.scale e.at h in
+    let k = still_given cmp caps component _ mid last e.list e.scale e.at h in
     let fits : IfSome c.settle.result (λ t. t ≤ last_moment) = search rules in
     let here : last.at ≤ last_moment = omega (arith, e.at, r.at, c.requires.moment) in
-    first_finish_is cmp caps old last k c.requires.left here c.settle.result e.finish fits
+    first_finish_is cmp caps _ last k c.requires.left here c.settle.result e.finish fits

@@ -1,48 +1,40 @@
-use Rattle.std.proofs.Common.{◌≡◌, true, false, not, Bor, Some, None, sym, ap, ◌∙◌, rules}
-use Rattle.std.specs.List.{find}
-use Rattle.std.specs.Ordering.{is_lt, is_eq}
-use Rattle.std.specs.Option.{option_map}
-use Rattle.link_pairs.specs.declared.peers.PeerCaps.{PeerCaps}
-use Rattle.link_pairs.proofs.Pairs.Searching.{parted, find_first, find_other, find_nothing}
+use Rattle.std.proofs.Common.{refl, ap, ◌∙◌}
+use Rattle.std.specs.Option.{option_and_then}
+use Rattle.link_pairs.specs.Pairs.PeerCaps.{egress_of, ingress_of}
+use Rattle.link_pairs.proofs.Pairs.ByNumber.{said, read}
+use Rattle.link_pairs.proofs.Pairs.PeerCaps.{cap_by_number}
 use Rattle.link_pairs.proofs.peers.Peers.find.Goals as goal
 
-pub returns-in_err-entry : goal.returns-in_err-entry
-returns-in_err-entry g c =
-    let from : option_map (λ (b : Bor (PeerCaps g.row.P.Denot)). b.now) c.first_from.result
-    ≡ find (λ e. not (is_lt (g.P.Ord.cmp e.peer c.args.peer.now))) c.args.self.now.entries =
-    c.first_from.ensures
-    (parted g.P.Ord.cmp g.met.P.Ord.total (λ entry. entry.peer) c.args.peer.now c.args.self.now.entries
-    c.args.self.now.ascending) in
-    let none : c.first_from.result ≡ None = c.in_err-entry.was in
-    ap (option_map (λ b. b.now)) c.from_residual.ensures
-    ∙ sym
-    (find_nothing g.P.Ord.cmp g.met.P.Ord.total (λ entry. entry.peer) c.args.peer.now c.args.self.now.entries
-    c.args.self.now.ascending (sym (ap (option_map (λ (b : Bor (PeerCaps g.row.P.Denot)). b.now)) none) ∙ from))
+pub returns-in_err-number-clause-egress : goal.returns-in_err-number-clause-egress
+returns-in_err-number-clause-egress g c =
+    ap (option_and_then (λ caps. caps.now.egress)) c.from_residual.ensures
+    ∙ ap (said (λ caps. caps.egress) c.self.inside.caps.items) c.in_err-number.ensures
+    ∙ cap_by_number g.P.Ord.cmp g.met.P.Ord.total (λ entry. entry.egress) (λ caps. caps.egress) (λ peer caps. refl)
+    c.self.inside.numbers c.self.inside.caps.items c.args.peer.now
+    ∙ ap (λ peers. egress_of g.P.Ord.cmp peers.entries c.args.peer.now) c.self.view_is
 
-pub returns-then-is_eq : goal.returns-then-is_eq
-returns-then-is_eq g c =
-    let from : option_map (λ (b : Bor (PeerCaps g.row.P.Denot)). b.now) c.first_from.result
-    ≡ find (λ e. not (is_lt (g.P.Ord.cmp e.peer c.args.peer.now))) c.args.self.now.entries =
-    c.first_from.ensures
-    (parted g.P.Ord.cmp g.met.P.Ord.total (λ entry. entry.peer) c.args.peer.now c.args.self.now.entries
-    c.args.self.now.ascending) in
-    let found : c.first_from.result ≡ Some c.in_ok-entry.entry = c.in_ok-entry.was in
-    let same : is_eq (g.P.Ord.cmp c.in_ok-entry.entry.now.peer c.args.peer.now) ≡ true = search rules in
-    sym
-    (find_first g.P.Ord.cmp g.met.P.Ord.total (λ entry. entry.peer) c.args.peer.now c.args.self.now.entries
-    c.args.self.now.ascending c.in_ok-entry.entry.now
-    (sym (ap (option_map (λ (b : Bor (PeerCaps g.row.P.Denot)). b.now)) found) ∙ from) same)
+pub returns-clause-egress : goal.returns-clause-egress
+returns-clause-egress g c =
+    read (λ caps. caps.now) (λ caps. caps.egress) c.get.result
+    ∙ ap (option_and_then (λ caps. caps.egress)) c.get.ensures
+    ∙ ap (said (λ caps. caps.egress) c.self.inside.caps.items) c.in_ok-number.ensures
+    ∙ cap_by_number g.P.Ord.cmp g.met.P.Ord.total (λ entry. entry.egress) (λ caps. caps.egress) (λ peer caps. refl)
+    c.self.inside.numbers c.self.inside.caps.items c.args.peer.now
+    ∙ ap (λ peers. egress_of g.P.Ord.cmp peers.entries c.args.peer.now) c.self.view_is
 
-pub returns-else-is_eq : goal.returns-else-is_eq
-returns-else-is_eq g c =
-    let from : option_map (λ (b : Bor (PeerCaps g.row.P.Denot)). b.now) c.first_from.result
-    ≡ find (λ e. not (is_lt (g.P.Ord.cmp e.peer c.args.peer.now))) c.args.self.now.entries =
-    c.first_from.ensures
-    (parted g.P.Ord.cmp g.met.P.Ord.total (λ entry. entry.peer) c.args.peer.now c.args.self.now.entries
-    c.args.self.now.ascending) in
-    let found : c.first_from.result ≡ Some c.in_ok-entry.entry = c.in_ok-entry.was in
-    let other : is_eq (g.P.Ord.cmp c.in_ok-entry.entry.now.peer c.args.peer.now) ≡ false = search rules in
-    sym
-    (find_other g.P.Ord.cmp g.met.P.Ord.total (λ entry. entry.peer) c.args.peer.now c.args.self.now.entries
-    c.args.self.now.ascending c.in_ok-entry.entry.now
-    (sym (ap (option_map (λ (b : Bor (PeerCaps g.row.P.Denot)). b.now)) found) ∙ from) other)
+pub returns-in_err-number-clause-ingress : goal.returns-in_err-number-clause-ingress
+returns-in_err-number-clause-ingress g c =
+    ap (option_and_then (λ caps. caps.now.ingress)) c.from_residual.ensures
+    ∙ ap (said (λ caps. caps.ingress) c.self.inside.caps.items) c.in_err-number.ensures
+    ∙ cap_by_number g.P.Ord.cmp g.met.P.Ord.total (λ entry. entry.ingress) (λ caps. caps.ingress) (λ peer caps. refl)
+    c.self.inside.numbers c.self.inside.caps.items c.args.peer.now
+    ∙ ap (λ peers. ingress_of g.P.Ord.cmp peers.entries c.args.peer.now) c.self.view_is
+
+pub returns-clause-ingress : goal.returns-clause-ingress
+returns-clause-ingress g c =
+    read (λ caps. caps.now) (λ caps. caps.ingress) c.get.result
+    ∙ ap (option_and_then (λ caps. caps.ingress)) c.get.ensures
+    ∙ ap (said (λ caps. caps.ingress) c.self.inside.caps.items) c.in_ok-number.ensures
+    ∙ cap_by_number g.P.Ord.cmp g.met.P.Ord.total (λ entry. entry.ingress) (λ caps. caps.ingress) (λ peer caps. refl)
+    c.self.inside.numbers c.self.inside.caps.items c.args.peer.now
+    ∙ ap (λ peers. ingress_of g.P.Ord.cmp peers.entries c.args.peer.now) c.self.view_is

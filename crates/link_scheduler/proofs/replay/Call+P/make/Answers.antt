@@ -30,13 +30,6 @@ returns-clause-made g c = elim c.match-self.branch [
       w.in_ok-completions-in-Advance.ensures.made
 ]
 
-pub returns-in_err-completions-in-Enqueue-clause-unchanged : goal.returns-in_err-completions-in-Enqueue-clause-unchanged
-returns-in_err-completions-in-Enqueue-clause-unchanged g c =
-    let p =
-    err_from_is_err_and c.from_residual-in_err-completions-in-Enqueue.result
-    c.from_residual-in_err-completions-in-Enqueue.ensures.1 in
-    rw p.1 c.in_err-completions-in-Enqueue.ensures.unchanged
-
 pub returns-in_err-completions-in-EnqueueAll-clause-refused : goal.returns-in_err-completions-in-EnqueueAll-clause-refused
 returns-in_err-completions-in-EnqueueAll-clause-refused g c =
     let p =

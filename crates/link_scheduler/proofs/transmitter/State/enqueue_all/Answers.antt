@@ -7,7 +7,7 @@ use Rattle.link_events.specs.Steps.Outgoing.{outgoing}
 use Rattle.link_pairs.specs.Pairs.Messages.{completed_of}
 use Rattle.link_pairs.proofs.Pairs.LookedUp.{looked_up, arrivals_looked_up}
 use Rattle.link_scheduler.proofs.Calls.OneByOne.{copies_refused}
-use Rattle.link_scheduler.proofs.Calls.Concluded.{same_state, can_be_put_back, unchanged, sends_are}
+use Rattle.link_scheduler.proofs.Calls.Concluded.{can_be_put_back, unchanged, sends_are}
 use Rattle.link_scheduler.proofs.transmitter.State.enqueue_all.Goals as goal
 
 pub returns-in_err-kept-clause-refused : goal.returns-in_err-kept-clause-refused
@@ -23,33 +23,17 @@ returns-in_err-kept-clause-refused g c =
 
 pub conclude-requires : goal.conclude-requires
 conclude-requires g c =
-    can_be_put_back c.args.self.now.ledger c.keep.new.self c.answer_enqueue_all-answer.new.self c.in_ok-kept.kept
+    can_be_put_back c.args.self.now.ledger c.answer_enqueue_all-answer.new.self c.in_ok-kept.kept
     c.in_ok-kept.ensures.kept c.answer_enqueue_all-answer.ensures.before
 
 pub invariant_of-self : goal.invariant_of-self
 invariant_of-self g c =
-    let old = c.args.self.now in
-    rw c.in_err-kept.ensures.unchanged (record {
-      caps = old.caps;
-      arrivals = old.arrivals;
-      right = old.right;
-      orderly = old.orderly;
-      marked = old.marked;
-    })
-
-pub returns-in_err-kept-clause-unchanged : goal.returns-in_err-kept-clause-unchanged
-returns-in_err-kept-clause-unchanged g c =
-    let p = err_from_is_err_and c.from_residual.result c.from_residual.ensures.1 in
-    rw p.1 (same_state g.row.P.coded c.args.self.now _ c.in_err-kept.ensures.unchanged)
-
-pub invariant_of-self-2 : goal.invariant_of-self-2
-invariant_of-self-2 g c =
     let some : length c.args.messages.items ≢ 0 = search rules in
     let sent : length (map outgoing c.args.messages.items) ≢ 0 =
     λ e. some (sym (length-map c.args.messages.items outgoing) ∙ e) in
     let so =
-    sends_are g.met.P.Ord.total c.args.self.now c.in_ok-kept.kept c.keep.new.self c.answer_enqueue_all-answer.new.self
-    c.conclude.new.self c.in_ok-kept.ensures.kept c.in_ok-kept.ensures.same c.answer_enqueue_all-answer.ensures.before
+    sends_are g.met.P.Ord.total c.args.self.now c.in_ok-kept.kept c.answer_enqueue_all-answer.new.self
+    c.conclude.new.self c.in_ok-kept.ensures.kept c.answer_enqueue_all-answer.ensures.before
     c.answer_enqueue_all-answer.result c.conclude.ensures.made c.conclude.ensures.unchanged (λ done. map completed_of done.items)
     c.args.now c.ranges.now.fits (map outgoing c.args.messages.items) sent
     c.answer_enqueue_all-answer.ensures.answered c.answer_enqueue_all-answer.ensures.refused in
@@ -68,8 +52,8 @@ returns-clause-made g c =
     let sent : length (map outgoing c.args.messages.items) ≢ 0 =
     λ e. some (sym (length-map c.args.messages.items outgoing) ∙ e) in
     let so =
-    sends_are g.met.P.Ord.total c.args.self.now c.in_ok-kept.kept c.keep.new.self c.answer_enqueue_all-answer.new.self
-    c.conclude.new.self c.in_ok-kept.ensures.kept c.in_ok-kept.ensures.same c.answer_enqueue_all-answer.ensures.before
+    sends_are g.met.P.Ord.total c.args.self.now c.in_ok-kept.kept c.answer_enqueue_all-answer.new.self
+    c.conclude.new.self c.in_ok-kept.ensures.kept c.answer_enqueue_all-answer.ensures.before
     c.answer_enqueue_all-answer.result c.conclude.ensures.made c.conclude.ensures.unchanged (λ done. map completed_of done.items)
     c.args.now c.ranges.now.fits (map outgoing c.args.messages.items) sent
     c.answer_enqueue_all-answer.ensures.answered c.answer_enqueue_all-answer.ensures.refused in
@@ -81,8 +65,8 @@ returns-clause-refused g c =
     let sent : length (map outgoing c.args.messages.items) ≢ 0 =
     λ e. some (sym (length-map c.args.messages.items outgoing) ∙ e) in
     let so =
-    sends_are g.met.P.Ord.total c.args.self.now c.in_ok-kept.kept c.keep.new.self c.answer_enqueue_all-answer.new.self
-    c.conclude.new.self c.in_ok-kept.ensures.kept c.in_ok-kept.ensures.same c.answer_enqueue_all-answer.ensures.before
+    sends_are g.met.P.Ord.total c.args.self.now c.in_ok-kept.kept c.answer_enqueue_all-answer.new.self
+    c.conclude.new.self c.in_ok-kept.ensures.kept c.answer_enqueue_all-answer.ensures.before
     c.answer_enqueue_all-answer.result c.conclude.ensures.made c.conclude.ensures.unchanged (λ done. map completed_of done.items)
     c.args.now c.ranges.now.fits (map outgoing c.args.messages.items) sent
     c.answer_enqueue_all-answer.ensures.answered c.answer_enqueue_all-answer.ensures.refused in
@@ -91,6 +75,6 @@ returns-clause-refused g c =
 pub returns-clause-unchanged : goal.returns-clause-unchanged
 returns-clause-unchanged g c =
     rw c.conclude.ensures.answer
-    (unchanged g.met.P.Ord.total c.args.self.now c.in_ok-kept.kept c.keep.new.self c.answer_enqueue_all-answer.new.self
-    c.conclude.new.self c.in_ok-kept.ensures.kept c.in_ok-kept.ensures.same c.answer_enqueue_all-answer.ensures.before
+    (unchanged g.met.P.Ord.total c.args.self.now c.in_ok-kept.kept c.answer_enqueue_all-answer.new.self
+    c.conclude.new.self c.in_ok-kept.ensures.kept c.answer_enqueue_all-answer.ensures.before
     c.answer_enqueue_all-answer.result c.conclude.ensures.made c.conclude.ensures.unchanged g.row.P.coded _ refl)

@@ -1,37 +1,20 @@
 use Rattle.std.proofs.Common.{map, refl}
-use Rattle.std.proofs.lemmas.Result.{err_from_is_err_and}
 use Rattle.link_simulation.specs.Simulation.Calls.{call_limit_link}
 use Rattle.link_pairs.specs.Pairs.Messages.{completed_of}
 use Rattle.link_pairs.proofs.Pairs.LookedUp.{looked_up, arrivals_looked_up}
-use Rattle.link_scheduler.proofs.Calls.Concluded.{same_state, can_be_put_back, unchanged, call_is}
+use Rattle.link_scheduler.proofs.Calls.Concluded.{can_be_put_back, unchanged, call_is}
 use Rattle.link_scheduler.proofs.transmitter.State.limit_link.Goals as goal
 
 pub conclude-requires : goal.conclude-requires
 conclude-requires g c =
-    can_be_put_back c.args.self.now.ledger c.keep.new.self c.answer_limit_link-answer.new.self c.in_ok-kept.kept
+    can_be_put_back c.args.self.now.ledger c.answer_limit_link-answer.new.self c.in_ok-kept.kept
     c.in_ok-kept.ensures.kept c.answer_limit_link-answer.ensures.before
 
 pub invariant_of-self : goal.invariant_of-self
 invariant_of-self g c =
-    let old = c.args.self.now in
-    rw c.in_err-kept.ensures.unchanged (record {
-      caps = old.caps;
-      arrivals = old.arrivals;
-      right = old.right;
-      orderly = old.orderly;
-      marked = old.marked;
-    })
-
-pub returns-in_err-kept-clause-unchanged : goal.returns-in_err-kept-clause-unchanged
-returns-in_err-kept-clause-unchanged g c =
-    let p = err_from_is_err_and c.from_residual.result c.from_residual.ensures.1 in
-    rw p.1 (same_state g.row.P.coded c.args.self.now _ c.in_err-kept.ensures.unchanged)
-
-pub invariant_of-self-2 : goal.invariant_of-self-2
-invariant_of-self-2 g c =
     let so =
-    call_is g.met.P.Ord.total c.args.self.now c.in_ok-kept.kept c.keep.new.self c.answer_limit_link-answer.new.self
-    c.conclude.new.self c.in_ok-kept.ensures.kept c.in_ok-kept.ensures.same c.answer_limit_link-answer.ensures.before
+    call_is g.met.P.Ord.total c.args.self.now c.in_ok-kept.kept c.answer_limit_link-answer.new.self
+    c.conclude.new.self c.in_ok-kept.ensures.kept c.answer_limit_link-answer.ensures.before
     c.answer_limit_link-answer.result c.conclude.ensures.made c.conclude.ensures.unchanged (λ done. map completed_of done.items)
     (call_limit_link c.args.now c.args.origin.now c.args.recipient.now c.args.cap) c.args.now c.ranges.now.fits refl
     c.answer_limit_link-answer.ensures.answered c.answer_limit_link-answer.ensures.refused in
@@ -47,8 +30,8 @@ invariant_of-self-2 g c =
 pub returns-clause-made : goal.returns-clause-made
 returns-clause-made g c =
     let so =
-    call_is g.met.P.Ord.total c.args.self.now c.in_ok-kept.kept c.keep.new.self c.answer_limit_link-answer.new.self
-    c.conclude.new.self c.in_ok-kept.ensures.kept c.in_ok-kept.ensures.same c.answer_limit_link-answer.ensures.before
+    call_is g.met.P.Ord.total c.args.self.now c.in_ok-kept.kept c.answer_limit_link-answer.new.self
+    c.conclude.new.self c.in_ok-kept.ensures.kept c.answer_limit_link-answer.ensures.before
     c.answer_limit_link-answer.result c.conclude.ensures.made c.conclude.ensures.unchanged (λ done. map completed_of done.items)
     (call_limit_link c.args.now c.args.origin.now c.args.recipient.now c.args.cap) c.args.now c.ranges.now.fits refl
     c.answer_limit_link-answer.ensures.answered c.answer_limit_link-answer.ensures.refused in
@@ -57,8 +40,8 @@ returns-clause-made g c =
 pub returns-clause-refused : goal.returns-clause-refused
 returns-clause-refused g c =
     let so =
-    call_is g.met.P.Ord.total c.args.self.now c.in_ok-kept.kept c.keep.new.self c.answer_limit_link-answer.new.self
-    c.conclude.new.self c.in_ok-kept.ensures.kept c.in_ok-kept.ensures.same c.answer_limit_link-answer.ensures.before
+    call_is g.met.P.Ord.total c.args.self.now c.in_ok-kept.kept c.answer_limit_link-answer.new.self
+    c.conclude.new.self c.in_ok-kept.ensures.kept c.answer_limit_link-answer.ensures.before
     c.answer_limit_link-answer.result c.conclude.ensures.made c.conclude.ensures.unchanged (λ done. map completed_of done.items)
     (call_limit_link c.args.now c.args.origin.now c.args.recipient.now c.args.cap) c.args.now c.ranges.now.fits refl
     c.answer_limit_link-answer.ensures.answered c.answer_limit_link-answer.ensures.refused in
@@ -67,6 +50,6 @@ returns-clause-refused g c =
 pub returns-clause-unchanged : goal.returns-clause-unchanged
 returns-clause-unchanged g c =
     rw c.conclude.ensures.answer
-    (unchanged g.met.P.Ord.total c.args.self.now c.in_ok-kept.kept c.keep.new.self c.answer_limit_link-answer.new.self
-    c.conclude.new.self c.in_ok-kept.ensures.kept c.in_ok-kept.ensures.same c.answer_limit_link-answer.ensures.before
+    (unchanged g.met.P.Ord.total c.args.self.now c.in_ok-kept.kept c.answer_limit_link-answer.new.self
+    c.conclude.new.self c.in_ok-kept.ensures.kept c.answer_limit_link-answer.ensures.before
     c.answer_limit_link-answer.result c.conclude.ensures.made c.conclude.ensures.unchanged g.row.P.coded _ refl)

@@ -1,28 +1,34 @@
-use Rattle.std.proofs.Common.{◌≡◌, true, map, ap, ◌∙◌}
+use Rattle.std.proofs.Common.{List, None, map, refl, sym, ap, ◌∙◌}
+use Rattle.link_waiting.specs.Idle.Slots.{Waiter, live, AreNumbered}
+use Rattle.link_waiting.proofs.Idle.View.{kept_back, on_ok, told_are}
 use Rattle.link_pairs.specs.Pairs.Messages.{message_of}
-use Rattle.link_waiting.specs.Idle.Waiting.{are_in_order}
-use Rattle.link_pairs.specs.Pairs.Messages.{pair_of}
-use Rattle.fair_rates.proofs.Lists.Sorted.{either}
-use Rattle.link_waiting.proofs.Idle.Waiting.{few_after, parted_next, order_inserted, queued_there}
+use Rattle.link_waiting.specs.Idle.Waits.{since_of, told_of, waits_of}
+use Rattle.link_waiting.proofs.Idle.Told.{since_added}
+use Rattle.link_waiting.proofs.waiting.Waiting.push.Given as given
 use Rattle.link_waiting.proofs.waiting.Waiting.push.Goals as goal
+use Rattle.link_waiting.proofs.waiting.Waiting.push.Goals.{then-self-via-then-self, then-self-via-else-self+then-is_err}
 
-pub invariant_of-self : goal.invariant_of-self
-invariant_of-self g c = record {
-  few =
-      few_after c.args.self.now.messages c.insert.new.self _ c.insert.result c.insert.ensures.fits
-      c.insert.ensures.items c.args.self.now.few;
-  ordered = rw c.insert.ensures.items (either (λ ms. are_in_order g.P.Ord.cmp ms ≡ true) _
-      (order_inserted g.P.Ord.cmp g.met.P.Ord.total c.args.self.now.messages c.place-at.result c.args.message
-      (c.place-at.ensures.parting
-      (parted_next g.P.Ord.cmp g.met.P.Ord.total (pair_of c.args.message) c.args.self.now.messages
-      c.args.self.now.ordered))
-      c.args.self.now.ordered)
-      c.args.self.now.ordered);
-}
+numbered : (g : given.Over) (c : goal.Joined-drop g)
+    → AreNumbered g.P.Ord.cmp c.then-self.self-inside.pairs (live c.then-self.self-inside.slots.slots.before)
+numbered g c = elim c.then-self.branch [
+  | then-self-via-then-self w ↦ rw w.self-inside-is c.self.invariant.before
+  | then-self-via-else-self+then-is_err w ↦ rw w.self-inside-is w.add.ensures.numbered
+]
 
-pub returns-clause-waiting : goal.returns-clause-waiting
-returns-clause-waiting g c = ap (map message_of) c.in_ok-insert.ensures.items
-    ∙ queued_there g.P.Ord.cmp g.met.P.Ord.total c.args.self.now.messages c.place-at.result c.args.message
-    (c.place-at.ensures.parting
-    (parted_next g.P.Ord.cmp g.met.P.Ord.total (pair_of c.args.message) c.args.self.now.messages
-    c.args.self.now.ordered))
+pub invariant_of-self-then-self : goal.invariant_of-self-then-self
+invariant_of-self-then-self g c =
+    kept_back g.P.Ord.cmp c.then-self.self-inside.pairs c.then-self.self-inside.slots c.undo.new.self (numbered g c)
+    c.undo.ensures.stands c.undo.ensures.marked c.undo.ensures.now c.undo.ensures.before
+
+pub returns-clause-since : goal.returns-clause-since
+returns-clause-since g c =
+    let inside = c.self.inside in
+    let added = on_ok c.add.result (sym c.if-is_err.ensures.value) c.add.ensures.now in
+    ap (since_of g.P.Ord.cmp)
+    (sym (told_are g.P.Ord.cmp inside.given_up c.add.new.slots (waits_of g.P.Ord.cmp inside.given_up c.add.new.slots) refl
+    c.if-self.false))
+    ∙ ap (λ (ws : List (Waiter g.row.P.Denot)). since_of g.P.Ord.cmp (map told_of ws)) added.1
+    ∙ since_added g.P.Ord.cmp (live inside.slots.slots.items)
+    (record { message = message_of c.args.message; pair = added.0; since = None }) refl
+    ∙ ap (since_of g.P.Ord.cmp)
+    (told_are g.P.Ord.cmp inside.given_up inside.slots c.args.self.now c.self.view_is c.if-self.false)

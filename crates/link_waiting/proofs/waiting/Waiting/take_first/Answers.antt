@@ -1,42 +1,85 @@
-use Rattle.std.proofs.Common.{◌≡◌, true, map, sym, ap, ◌∙◌}
+use Rattle.std.proofs.Common.{◌≡◌, Option, List, Some, None, map, refl, sym, ap, ◌∙◌, subst}
 use Rattle.std.specs.Option.{option_map}
-use Rattle.link_pairs.specs.Pairs.Messages.{message_of}
-use Rattle.link_waiting.specs.Idle.Waiting.{are_in_order}
-use Rattle.fair_rates.proofs.Lists.Sorted.{either}
-use Rattle.link_waiting.proofs.Idle.Waiting.{few_removed, first_missing, without_missing, first_there, without_there}
-use Rattle.link_waiting.proofs.Idle.Waiting.{order_removed}
+use Rattle.fair_rates.specs.Lists.WithoutFirst.{without_first}
+use Rattle.link_waiting.specs.declared.slots.Slot.{Slot}
+use Rattle.link_waiting.specs.Idle.Slots.{Waiter, live, has_number, has_pair, AreNumbered}
+use Rattle.link_waiting.specs.Idle.Waits.{queue_of, since_of, told_of, waits_of}
+use Rattle.link_waiting.proofs.Idle.Slots.{without_missing}
+use Rattle.link_waiting.proofs.Idle.Numbered.{find_false, numbered_without}
+use Rattle.link_waiting.proofs.Idle.View.{messages_are, told_are, first_seen, rest_seen, since_rest, kept_changed, kept_back}
+use Rattle.link_waiting.proofs.waiting.Waiting.take_first.Given as given
 use Rattle.link_waiting.proofs.waiting.Waiting.take_first.Goals as goal
+
+module _ (g : given.Over) (c : goal.In_default g) where
+  stays : without_first (has_number None) (live c.self.inside.slots.slots.items) ≡ live c.self.inside.slots.slots.items
+  stays = without_missing (has_number None) (live c.self.inside.slots.slots.items)
+      (find_false (live c.self.inside.slots.slots.items))
 
 pub returns-in_default-clause-taken : goal.returns-in_default-clause-taken
 returns-in_default-clause-taken g c =
-    sym
-    (first_missing g.P.Ord.cmp g.met.P.Ord.total (c.args.origin.now, c.args.recipient.now) c.args.self.now.messages
-    c.in_default.ensures)
+    let inside = c.self.inside in
+    sym (first_seen g.P.Ord.cmp g.met.P.Ord.total c.args.origin.now c.args.recipient.now None inside.given_up inside.slots
+    c.args.self.now c.self.view_is c.if-self.false c.in_default.ensures
+    ∙ ap (option_map (λ (w : Waiter g.row.P.Denot). w.message)) (find_false (live inside.slots.slots.items)))
 
 pub returns-in_default-clause-rest : goal.returns-in_default-clause-rest
 returns-in_default-clause-rest g c =
-    sym
-    (without_missing g.P.Ord.cmp g.met.P.Ord.total (c.args.origin.now, c.args.recipient.now) c.args.self.now.messages
-    c.in_default.ensures)
+    let inside = c.self.inside in
+    sym (messages_are g.P.Ord.cmp inside.given_up inside.slots c.args.self.now c.self.view_is c.if-self.false)
+    ∙ ap (queue_of g.P.Ord.cmp) (sym (stays g c))
+    ∙ rest_seen g.P.Ord.cmp g.met.P.Ord.total c.args.origin.now c.args.recipient.now None inside.given_up inside.slots
+    c.args.self.now c.self.view_is c.if-self.false c.in_default.ensures
+
+pub returns-in_default-clause-since : goal.returns-in_default-clause-since
+returns-in_default-clause-since g c =
+    let inside = c.self.inside in
+    ap (since_of g.P.Ord.cmp)
+    (sym (told_are g.P.Ord.cmp inside.given_up inside.slots c.args.self.now c.self.view_is c.if-self.false))
+    ∙ ap (λ (ws : List (Waiter g.row.P.Denot)). since_of g.P.Ord.cmp (map told_of ws)) (sym (stays g c))
+    ∙ since_rest g.P.Ord.cmp g.met.P.Ord.total c.args.origin.now c.args.recipient.now None inside.given_up inside.slots
+    c.args.self.now c.self.view_is c.if-self.false c.in_default.ensures c.self.invariant.stands.firsts
 
 pub invariant_of-self : goal.invariant_of-self
-invariant_of-self g c = record {
-  few = few_removed c.remove.result c.args.self.now.messages c.in-Some.at c.remove.ensures.items c.args.self.now.few;
-  ordered = rw c.remove.ensures.items (either (λ ms. are_in_order g.P.Ord.cmp ms ≡ true) _
-      (order_removed g.P.Ord.cmp g.met.P.Ord.total (c.args.origin.now, c.args.recipient.now) c.args.self.now.messages
-      c.in-Some.at c.in-Some.ensures c.args.self.now.ordered)
-      c.args.self.now.ordered);
-}
+invariant_of-self g c =
+    let inside = c.self.inside in
+    kept_changed g.P.Ord.cmp inside.pairs inside.slots c.take_first.new.self c.self.invariant c.in-Ok.ensures.stands
+    c.take_first.ensures.marked
+    (subst (AreNumbered g.P.Ord.cmp inside.pairs) (sym c.in-Ok.ensures.now)
+    (numbered_without g.P.Ord.cmp g.met.P.Ord.total inside.pairs (has_pair c.in-Some.pair) (live inside.slots.slots.items)
+    c.self.invariant.now))
+    c.take_first.ensures.before
 
-pub returns-clause-taken : goal.returns-clause-taken
-returns-clause-taken g c =
-    sym
-    (first_there g.P.Ord.cmp g.met.P.Ord.total (c.args.origin.now, c.args.recipient.now) c.args.self.now.messages
-    c.in-Some.at c.in-Some.ensures
-    ∙ ap (option_map message_of) c.in_ok-remove.ensures.item)
+pub invariant_of-self-in-Err : goal.invariant_of-self-in-Err
+invariant_of-self-in-Err g c =
+    let inside = c.self.inside in
+    kept_back g.P.Ord.cmp inside.pairs c.take_first.new.self c.undo.new.self
+    (subst (λ (slots : List (Option (Slot g.row.P.Denot))). AreNumbered g.P.Ord.cmp inside.pairs (live slots))
+    (sym c.take_first.ensures.before) c.self.invariant.before)
+    c.undo.ensures.stands c.undo.ensures.marked c.undo.ensures.now c.undo.ensures.before
 
-pub returns-clause-rest : goal.returns-clause-rest
-returns-clause-rest g c =
-    ap (λ ms. map message_of ms) c.in_ok-remove.ensures.items
-    ∙ without_there g.P.Ord.cmp g.met.P.Ord.total (c.args.origin.now, c.args.recipient.now) c.args.self.now.messages
-    c.in-Some.at c.in-Some.ensures
+pub returns-in-Ok-clause-taken : goal.returns-in-Ok-clause-taken
+returns-in-Ok-clause-taken g c =
+    let inside = c.self.inside in
+    c.in-Ok.ensures.taken
+    ∙ sym (first_seen g.P.Ord.cmp g.met.P.Ord.total c.args.origin.now c.args.recipient.now (Some c.in-Some.pair)
+    inside.given_up inside.slots c.args.self.now c.self.view_is c.if-self.false c.in-Some.ensures)
+
+pub returns-in-Ok-clause-rest : goal.returns-in-Ok-clause-rest
+returns-in-Ok-clause-rest g c =
+    let inside = c.self.inside in
+    sym (messages_are g.P.Ord.cmp inside.given_up c.take_first.new.self
+    (waits_of g.P.Ord.cmp inside.given_up c.take_first.new.self) refl c.if-self.false)
+    ∙ ap (queue_of g.P.Ord.cmp) c.in-Ok.ensures.now
+    ∙ rest_seen g.P.Ord.cmp g.met.P.Ord.total c.args.origin.now c.args.recipient.now (Some c.in-Some.pair)
+    inside.given_up inside.slots c.args.self.now c.self.view_is c.if-self.false c.in-Some.ensures
+
+pub returns-in-Ok-clause-since : goal.returns-in-Ok-clause-since
+returns-in-Ok-clause-since g c =
+    let inside = c.self.inside in
+    ap (since_of g.P.Ord.cmp)
+    (sym (told_are g.P.Ord.cmp inside.given_up c.take_first.new.self
+    (waits_of g.P.Ord.cmp inside.given_up c.take_first.new.self) refl c.if-self.false))
+    ∙ ap (λ (ws : List (Waiter g.row.P.Denot)). since_of g.P.Ord.cmp (map told_of ws)) c.in-Ok.ensures.now
+    ∙ since_rest g.P.Ord.cmp g.met.P.Ord.total c.args.origin.now c.args.recipient.now (Some c.in-Some.pair)
+    inside.given_up inside.slots c.args.self.now c.self.view_is c.if-self.false c.in-Some.ensures
+    c.self.invariant.stands.firsts

@@ -1,6 +1,6 @@
 use Rattle.std.proofs.Common.{refl, sym}
 use Rattle.p2p_simulated_c.specs.declared.opened.Opened.{Opened}
-use Rattle.p2p_simulated_c.proofs.Ending.{ended}
+use Rattle.p2p_simulated_c.proofs.Ending.{ended, same_plan}
 use Rattle.p2p_simulated_c.proofs.opened.Opened.enqueue_zeros.Goals as goal
 
 pub returns : goal.returns
@@ -10,4 +10,4 @@ returns c =
     (ended (λ done. done.items) c.enqueue-answer.result _ c.keep.result c.keep.new.count c.args.self.now between
     c.keep.new.self
     c.keep.ensures.state c.keep.ensures.status c.keep.ensures.completed c.keep.ensures.counted c.keep.ensures.moment refl refl refl
-    c.enqueue-answer.ensures.made c.enqueue-answer.ensures.refused c.enqueue-answer.ensures.unchanged)
+    c.enqueue-answer.ensures.made c.enqueue-answer.ensures.refused (same_plan c.enqueue-answer.result c.args.self.now between c.enqueue-answer.ensures.unchanged))

@@ -1,0 +1,88 @@
+-- The numbers of the pairs of what waits: who has the number of a pair is of it.
+use Rattle.std.proofs.Common.{◌≡◌, ℕ, Bool, true, false, cond, ◌||◌, List, [], ◌∷◌, ◌++◌, Option, Some, None, refl, sym, ap, ◌∙◌}
+use Rattle.std.specs.List.{find, list_any}
+use Rattle.std.specs.declared.cmp.Ordering.{Ordering}
+use Rattle.std.specs.Cmp.{IsTotalOrder}
+use Rattle.std.proofs.lemmas.List.Elements.{All-weaker, All-push}
+use Rattle.fair_rates.proofs.Lists.Each.{Each, each_of_all, all_of_each, each_without, each_map}
+use Rattle.fair_rates.specs.Lists.WithoutFirst.{without_first}
+use Rattle.peer_numbers.specs.Pairs.{number_of_pair, IsWithPair}
+use Rattle.peer_numbers.proofs.OrderedPairs.{same_number, other_pair, number_stays}
+use Rattle.link_waiting.specs.Idle.Slots.{Waiter, has_number, with_since, is_of, AreNumbered}
+
+-- ---- tests that say the same of a list
+
+module _ {P : Type 0} (p q : Waiter P → Bool) where
+  abbrev pub AreAlike : List (Waiter P) → Type 0
+  AreAlike = Each (λ w. p w ≡ q w)
+
+  pub find_alike : (ws : List (Waiter P)) → AreAlike ws → find p ws ≡ find q ws
+  find_alike [] h = refl
+  find_alike (w ∷ ws) h =
+      ap (λ b. cond b (Some w) (find p ws)) h.0 ∙ ap (λ o. cond (q w) (Some w) o) (find_alike ws h.1)
+
+  pub without_alike : (ws : List (Waiter P)) → AreAlike ws → without_first p ws ≡ without_first q ws
+  without_alike [] h = refl
+  without_alike (w ∷ ws) h =
+      ap (λ b. cond b ws (w ∷ without_first p ws)) h.0 ∙ ap (λ l. cond (q w) ws (w ∷ l)) (without_alike ws h.1)
+
+  pub any_alike : (ws : List (Waiter P)) → AreAlike ws → list_any p ws ≡ list_any q ws
+  any_alike [] h = refl
+  any_alike (w ∷ ws) h = ap (λ b. b || list_any p ws) h.0 ∙ ap (λ b. q w || b) (any_alike ws h.1)
+
+  pub told_alike : (moment : Option ℕ) (ws : List (Waiter P)) → AreAlike ws
+      → with_since p moment ws ≡ with_since q moment ws
+  told_alike moment [] h = refl
+  told_alike moment (w ∷ ws) h =
+      ap (λ b. cond b (record w { since = moment } ∷ ws) (w ∷ with_since p moment ws)) h.0
+      ∙ ap (λ l. cond (q w) (record w { since = moment } ∷ ws) (w ∷ l)) (told_alike moment ws h.1)
+
+module _ {P : Type 0} where
+  pub find_false : (ws : List (Waiter P)) → find (has_number None) ws ≡ None
+  find_false [] = refl
+  find_false (w ∷ ws) = find_false ws
+
+  pub each_told : (Q : Waiter P → Type 0) (test : Waiter P → Bool) (moment : Option ℕ)
+      → ((w : Waiter P) → Q w → Q (record w { since = moment })) → (ws : List (Waiter P)) → Each Q ws
+      → Each Q (with_since test moment ws)
+  each_told Q test moment same [] h = tt
+  each_told Q test moment same (w ∷ ws) h = by (test w) (each_told Q test moment same ws h.1)
+    where
+      by : (b : Bool) → Each Q (with_since test moment ws)
+          → Each Q (cond b (record w { since = moment } ∷ ws) (w ∷ with_since test moment ws))
+      by true ih = (same w h.0, h.1)
+      by false ih = (h.0, ih)
+
+-- ---- numbers
+
+module _ {P : Type 0} (cmp : P → P → Ordering) (order : IsTotalOrder cmp) (pairs : List (P × P)) where
+  abbrev IsNumbered : Waiter P → Type 0
+  IsNumbered w = number_of_pair cmp pairs w.message.origin w.message.recipient ≡ Some w.pair
+
+  -- the test by number says the same as that by pair
+  pub of_number : (o r : P) (number : Option ℕ) → number_of_pair cmp pairs o r ≡ number → (ws : List (Waiter P))
+      → AreNumbered cmp pairs ws → AreAlike (is_of cmp o r) (has_number number) ws
+  of_number o r number e ws numbered = each_map _ _ ws (one number e) (each_of_all IsNumbered ws numbered)
+    where
+      one : (number : Option ℕ) → number_of_pair cmp pairs o r ≡ number → (w : Waiter P)
+          → number_of_pair cmp pairs w.message.origin w.message.recipient ≡ Some w.pair
+          → is_of cmp o r w ≡ has_number number w
+      one None e w h = other_pair cmp order pairs o r w.message.origin w.message.recipient w.pair e h
+      one (Some n) e w h = sym (same_number cmp order pairs o r w.message.origin w.message.recipient n w.pair e h)
+
+  pub numbered_without : (test : Waiter P → Bool) (ws : List (Waiter P)) → AreNumbered cmp pairs ws
+      → AreNumbered cmp pairs (without_first test ws)
+  numbered_without test ws h = all_of_each IsNumbered _ (each_without IsNumbered test ws (each_of_all IsNumbered ws h))
+
+  pub numbered_told : (test : Waiter P → Bool) (moment : Option ℕ) (ws : List (Waiter P)) → AreNumbered cmp pairs ws
+      → AreNumbered cmp pairs (with_since test moment ws)
+  numbered_told test moment ws h = all_of_each IsNumbered _ (each_told IsNumbered test moment (λ w e. e) ws (each_of_all IsNumbered ws h))
+
+  pub numbered_more : (o r : P) (new : List (P × P)) → IsWithPair cmp pairs o r new → (ws : List (Waiter P))
+      → AreNumbered cmp pairs ws → AreNumbered cmp new ws
+  numbered_more o r new with ws h =
+      All-weaker _ _ (λ w e. number_stays cmp pairs o r new with w.message.origin w.message.recipient w.pair e) ws h
+
+  pub numbered_added : (w : Waiter P) → number_of_pair cmp pairs w.message.origin w.message.recipient ≡ Some w.pair
+      → (ws : List (Waiter P)) → AreNumbered cmp pairs ws → AreNumbered cmp pairs (ws ++ w ∷ [])
+  numbered_added w e ws h = All-push IsNumbered ws w h e

@@ -1,0 +1,266 @@
+-- The slots of messages that wait: what is in them, and the first slot of a pair.
+use Rattle.std.proofs.Common.{◌≡◌, ℕ, zero, suc, ◌+◌, ◌<◌, Bool, true, false, cond, List, [], ◌∷◌, ◌++◌, length, map, refl}
+use Rattle.std.proofs.Common.{Option, Some, None, is_some, zero-add, sym, ap, ◌∙◌, arith, slice_get, slice_set, IfSome, IfNone}
+use Rattle.std.specs.Prelude.{is_none, option_map, slice_index_or}
+use Rattle.std.specs.List.{filter, find, count_by}
+use Rattle.std.specs.Option.{option_or}
+use Rattle.std.proofs.lemmas.Bool.{eq-eqb, eqb-true}
+use Rattle.std.proofs.lemmas.List.Elements.{filter_map-append}
+use Rattle.std.proofs.lemmas.List.Folds.{find-append}
+use Rattle.std.proofs.lemmas.List.{length-set}
+use Rattle.std.proofs.Math.ListN.{get_or-map}
+use Rattle.std.proofs.lemmas.List.Sums.{sum_by-cons, sum_by-append, sum_by-set, count_by-le-length}
+use Rattle.std.proofs.lemmas.Option.{slice_get_within, get_or_from_slice_get}
+use Rattle.fair_rates.proofs.Lists.Booleans.{by_bool}
+use Rattle.fair_rates.specs.Lists.WithoutFirst.{without_first}
+use Rattle.chains.specs.Places.{IsFirst}
+use Rattle.link_waiting.specs.declared.slots.Slot.{Slot}
+use Rattle.link_waiting.specs.Idle.Slots.{Waiter, waiter_of, live, pair_in, has_pair, with_since, IsFirstSlot}
+
+pub some_same : (a b : ℕ) → Some a ≡ Some b → a ≡ b
+some_same a b e = cc
+
+-- ---- lists
+
+module _ {X : Type 0} (test : X → Bool) where
+  find_seam : (xs : List X) (x : X) (ys : List X) → find test xs ≡ None → test x ≡ true
+      → find test (xs ++ x ∷ ys) ≡ Some x
+  find_seam xs x ys none is =
+      find-append test xs (x ∷ ys) ∙ ap (λ o. option_or o (find test (x ∷ ys))) none
+      ∙ ap (λ b. cond b (Some x) (find test ys)) is
+
+  without_seam : (xs : List X) (x : X) (ys : List X) → find test xs ≡ None → test x ≡ true
+      → without_first test (xs ++ x ∷ ys) ≡ xs ++ ys
+  without_seam [] x ys none is = ap (λ b. cond b ys (x ∷ without_first test ys)) is
+  without_seam (z ∷ xs) x ys none is = by (test z) none (λ e. without_seam xs x ys e is)
+    where
+      by : (b : Bool) → cond b (Some z) (find test xs) ≡ None
+          → (find test xs ≡ None → without_first test (xs ++ x ∷ ys) ≡ xs ++ ys)
+          → cond b (xs ++ x ∷ ys) (z ∷ without_first test (xs ++ x ∷ ys)) ≡ z ∷ (xs ++ ys)
+      by true e ih = cc
+      by false e ih = ap (λ l. z ∷ l) (ih e)
+
+  pub without_missing : (xs : List X) → find test xs ≡ None → without_first test xs ≡ xs
+  without_missing [] none = refl
+  without_missing (z ∷ xs) none = by (test z) none (without_missing xs)
+    where
+      by : (b : Bool) → cond b (Some z) (find test xs) ≡ None → (find test xs ≡ None → without_first test xs ≡ xs)
+          → cond b xs (z ∷ without_first test xs) ≡ z ∷ xs
+      by true e ih = cc
+      by false e ih = ap (λ l. z ∷ l) (ih e)
+
+set_seam : {X : Type 0} (xs : List X) (x y : X) (ys : List X) (at : ℕ) → at ≡ length xs
+    → slice_set (xs ++ x ∷ ys) at y ≡ xs ++ y ∷ ys
+set_seam [] x y ys zero e = refl
+set_seam [] x y ys (suc at) e = absurd (omega (arith, e))
+set_seam (z ∷ xs) x y ys zero e = absurd (omega (arith, e))
+set_seam (z ∷ xs) x y ys (suc at) e = ap (λ l. z ∷ l) (set_seam xs x y ys at (omega (arith, e)))
+
+get_seam : {X : Type 0} (xs : List X) (x : X) (ys : List X) (at : ℕ) → at ≡ length xs
+    → slice_get (xs ++ x ∷ ys) at ≡ Some x
+get_seam [] x ys zero e = refl
+get_seam [] x ys (suc at) e = absurd (omega (arith, e))
+get_seam (z ∷ xs) x ys zero e = absurd (omega (arith, e))
+get_seam (z ∷ xs) x ys (suc at) e = get_seam xs x ys at (omega (arith, e))
+
+module _ {P : Type 0} where
+  abbrev held : List (Option (Slot P)) → ℕ → Option (Slot P)
+  held slots at = slice_index_or slots at None
+
+  pub live_append : (slots more : List (Option (Slot P))) → live (slots ++ more) ≡ live slots ++ live more
+  live_append = filter_map-append (option_map waiter_of)
+
+  told_seam : (test : Waiter P → Bool) (moment : Option ℕ) (xs : List (Waiter P)) (x : Waiter P) (ys : List (Waiter P))
+      → find test xs ≡ None → test x ≡ true
+      → with_since test moment (xs ++ x ∷ ys) ≡ xs ++ record x { since = moment } ∷ ys
+  told_seam test moment [] x ys none is =
+      ap (λ b. cond b (record x { since = moment } ∷ ys) (x ∷ with_since test moment ys)) is
+  told_seam test moment (z ∷ xs) x ys none is = by (test z) none (λ e. told_seam test moment xs x ys e is)
+    where
+      by : (b : Bool) → cond b (Some z) (find test xs) ≡ None
+          → (find test xs ≡ None → with_since test moment (xs ++ x ∷ ys) ≡ xs ++ record x { since = moment } ∷ ys)
+          → cond b (record z { since = moment } ∷ (xs ++ x ∷ ys)) (z ∷ with_since test moment (xs ++ x ∷ ys))
+          ≡ z ∷ (xs ++ record x { since = moment } ∷ ys)
+      by true e ih = cc
+      by false e ih = ap (λ l. z ∷ l) (ih e)
+
+  pub told_missing : (test : Waiter P → Bool) (moment : Option ℕ) (xs : List (Waiter P)) → find test xs ≡ None
+      → with_since test moment xs ≡ xs
+  told_missing test moment [] none = refl
+  told_missing test moment (z ∷ xs) none = by (test z) none (told_missing test moment xs)
+    where
+      by : (b : Bool) → cond b (Some z) (find test xs) ≡ None → (find test xs ≡ None → with_since test moment xs ≡ xs)
+          → cond b (record z { since = moment } ∷ xs) (z ∷ with_since test moment xs) ≡ z ∷ xs
+      by true e ih = cc
+      by false e ih = ap (λ l. z ∷ l) (ih e)
+
+  -- ---- the first slot of a pair
+
+  module _ (pair : ℕ) where
+    passes : (slot : Slot P) → pair_in (Some slot) ≡ Some pair → has_pair pair (waiter_of slot) ≡ true
+    passes slot e = eq-eqb slot.pair pair (some_same slot.pair pair e)
+
+    fails : (slot : Slot P) → (pair_in (Some slot) ≡ Some pair → ⊥) → has_pair pair (waiter_of slot) ≡ false
+    fails slot never = by_bool (has_pair pair (waiter_of slot))
+        (λ is. absurd (never (ap Some (eqb-true slot.pair pair is)))) (λ other. other)
+
+    none_stands : (slots : List (Option (Slot P))) → ((at : ℕ) → pair_in (held slots at) ≡ Some pair → ⊥)
+        → find (has_pair pair) (live slots) ≡ None
+    none_stands [] never = refl
+    none_stands (None ∷ slots) never = none_stands slots (λ at. never (suc at))
+    none_stands (Some slot ∷ slots) never =
+        ap (λ b. cond b (Some (waiter_of slot)) (find (has_pair pair) (live slots))) (fails slot (never zero))
+        ∙ none_stands slots (λ at. never (suc at))
+
+    first_stands : (slots : List (Option (Slot P))) (at : ℕ)
+        → ((other : ℕ) → other < at → pair_in (held slots other) ≡ Some pair → ⊥)
+        → pair_in (held slots at) ≡ Some pair → IsFirstSlot pair slots at
+    first_stands [] at never there = cc
+    first_stands (None ∷ slots) zero never there = cc
+    first_stands (Some slot ∷ slots) zero never there = record {
+      before = [];
+      slot = slot;
+      after = slots;
+      split = refl;
+      is_at = refl;
+      others = refl;
+      same = passes slot there;
+    }
+    first_stands (one ∷ slots) (suc at) never there =
+        let rest = first_stands slots at (λ other low. never (suc other) (omega (arith, low))) there in
+        record {
+          before = one ∷ rest.before;
+          slot = rest.slot;
+          after = rest.after;
+          split = ap (λ l. one ∷ l) rest.split;
+          is_at = ap suc rest.is_at;
+          others = before_it one rest.before (never zero (omega arith)) rest.others;
+          same = rest.same;
+        }
+      where
+        before_it : (one : Option (Slot P)) (before : List (Option (Slot P))) → (pair_in one ≡ Some pair → ⊥)
+            → find (has_pair pair) (live before) ≡ None → find (has_pair pair) (live (one ∷ before)) ≡ None
+        before_it None before never others = others
+        before_it (Some slot) before never others =
+            ap (λ b. cond b (Some (waiter_of slot)) (find (has_pair pair) (live before))) (fails slot never) ∙ others
+
+    module _ (slots : List (Option (Slot P))) (at : ℕ) (first : IsFirstSlot pair slots at) where
+      pub there : slice_get slots at ≡ Some (Some first.slot)
+      there = ap (λ l. slice_get l at) first.split ∙ get_seam first.before (Some first.slot) first.after at first.is_at
+
+      pub held_there : slice_index_or slots at None ≡ Some first.slot
+      held_there = get_or_from_slice_get slots at (Some first.slot) None there
+
+      live_split : live slots ≡ live first.before ++ waiter_of first.slot ∷ live first.after
+      live_split = ap live first.split ∙ live_append first.before (Some first.slot ∷ first.after)
+
+      pub found : find (has_pair pair) (live slots) ≡ Some (waiter_of first.slot)
+      found = ap (find (has_pair pair)) live_split
+          ∙ find_seam (has_pair pair) (live first.before) (waiter_of first.slot) (live first.after) first.others first.same
+
+      set_there : (one : Option (Slot P)) → slice_set slots at one ≡ first.before ++ one ∷ first.after
+      set_there one = ap (λ l. slice_set l at one) first.split
+          ∙ set_seam first.before (Some first.slot) one first.after at first.is_at
+
+      -- it is empty
+      pub live_taken : live (slice_set slots at None) ≡ without_first (has_pair pair) (live slots)
+      live_taken = ap live (set_there None) ∙ live_append first.before (None ∷ first.after)
+          ∙ sym (ap (without_first (has_pair pair)) live_split
+          ∙ without_seam (has_pair pair) (live first.before) (waiter_of first.slot) (live first.after) first.others first.same)
+
+      -- another moment is told of it
+      pub live_told : (moment : Option ℕ) (slot : Slot P)
+          → waiter_of slot ≡ record (waiter_of first.slot) { since = moment }
+          → live (slice_set slots at (Some slot)) ≡ with_since (has_pair pair) moment (live slots)
+      live_told moment slot e = ap live (set_there (Some slot)) ∙ live_append first.before (Some slot ∷ first.after)
+          ∙ ap (λ w. live first.before ++ w ∷ live first.after) e
+          ∙ sym (ap (with_since (has_pair pair) moment) live_split
+          ∙ told_seam (has_pair pair) moment (live first.before) (waiter_of first.slot) (live first.after) first.others
+          first.same)
+
+  -- ---- gaps
+
+  abbrev gap : Option (Slot P) → ℕ
+  gap one = cond (is_none one) 1 0
+
+  pub gaps_and_live : (slots : List (Option (Slot P))) → count_by is_none slots + length (live slots) ≡ length slots
+  gaps_and_live [] = refl
+  gaps_and_live (None ∷ slots) =
+      let rest = gaps_and_live slots in
+      let more : count_by is_none (None ∷ slots) ≡ 1 + count_by is_none slots = sum_by-cons gap None slots in
+      let same : length (live (None ∷ slots)) ≡ length (live slots) = refl in
+      omega (arith, rest, more, same)
+  gaps_and_live (Some slot ∷ slots) =
+      let rest = gaps_and_live slots in
+      let same : count_by is_none (Some slot ∷ slots) ≡ 0 + count_by is_none slots = sum_by-cons gap (Some slot) slots in
+      let more : length (live (Some slot ∷ slots)) ≡ suc (length (live slots)) = refl in
+      omega (arith, rest, more, same)
+
+  pub gaps_added : (slots : List (Option (Slot P))) (slot : Slot P)
+      → count_by is_none (slots ++ Some slot ∷ []) ≡ count_by is_none slots
+  gaps_added slots slot =
+      let more : count_by is_none (slots ++ Some slot ∷ []) ≡ count_by is_none slots + 0
+      = sum_by-append gap slots (Some slot ∷ []) in
+      omega (arith, more)
+
+  module _ (slots : List (Option (Slot P))) (at : ℕ) (slot : Slot P) (e : slice_get slots at ≡ Some (Some slot)) where
+    low : at < length slots
+    low = slice_get_within slots at (Some slot) e
+
+    was : gap (slice_index_or slots at None) ≡ 0
+    was = ap gap (get_or_from_slice_get slots at (Some slot) None e)
+
+    pub gaps_taken : count_by is_none (slice_set slots at None) ≡ count_by is_none slots + 1
+    gaps_taken =
+        let set = sum_by-set gap slots at None None low in
+        omega (arith, set, was)
+
+    pub gaps_told : (new : Slot P) → count_by is_none (slice_set slots at (Some new)) ≡ count_by is_none slots
+    gaps_told new =
+        let set = sum_by-set gap slots at (Some new) None low in
+        omega (arith, set, was)
+
+    pub gaps_fit : count_by is_none slots < length slots
+    gaps_fit =
+        let set = sum_by-set gap slots at None None low in
+        let all = count_by-le-length is_none (slice_set slots at None) in
+        omega (arith, set, was, all, length-set slots at None)
+
+  -- where no slot is empty
+  pub live_whole : (slots : List (Option (Slot P))) → live (filter is_some slots) ≡ live slots
+  live_whole [] = refl
+  live_whole (None ∷ slots) = live_whole slots
+  live_whole (Some slot ∷ slots) = ap (λ l. waiter_of slot ∷ l) (live_whole slots)
+
+  pub gaps_whole : (slots : List (Option (Slot P))) → 0 ≡ count_by is_none (filter is_some slots)
+  gaps_whole [] = refl
+  gaps_whole (None ∷ slots) = gaps_whole slots
+  gaps_whole (Some slot ∷ slots) =
+      gaps_whole slots ∙ sym (sum_by-cons gap (Some slot) (filter is_some slots) ∙ zero-add (count_by is_none (filter is_some slots)))
+
+  pub pairs_whole : (slots : List (Option (Slot P))) → filter is_some (map pair_in slots) ≡ map pair_in (filter is_some slots)
+  pairs_whole [] = refl
+  pairs_whole (None ∷ slots) = pairs_whole slots
+  pairs_whole (Some slot ∷ slots) = ap (λ l. Some slot.pair ∷ l) (pairs_whole slots)
+
+  -- ---- the first row of a chain
+
+  module _ (pair : ℕ) (slots : List (Option (Slot P))) (stands : List (Option ℕ)) (e : stands ≡ map pair_in slots) where
+    pub stand_at : (at : ℕ) → slice_index_or stands at None ≡ pair_in (held slots at)
+    stand_at at = ap (λ l. slice_index_or l at None) e ∙ get_or-map pair_in slots at None
+
+    pub first_some : (result : Option ℕ) → IsFirst (λ at. slice_index_or stands at None ≡ Some pair) 0 result
+        → IfSome result (IsFirstSlot pair slots)
+    first_some None first = tt
+    first_some (Some at) first =
+        first_stands pair slots at
+        (λ other low is. first.first other (omega arith) low (stand_at other ∙ is))
+        (sym (stand_at at) ∙ first.there)
+
+    pub first_none : (result : Option ℕ) → IsFirst (λ at. slice_index_or stands at None ≡ Some pair) 0 result
+        → IfNone result (find (has_pair pair) (live slots) ≡ None)
+    first_none None first = none_stands pair slots (λ at is. first at (omega arith) (stand_at at ∙ is))
+    first_none (Some at) first = tt
+
+    pub none_owned : ((at : ℕ) → slice_index_or stands at None ≡ Some pair → ⊥) → find (has_pair pair) (live slots) ≡ None
+    none_owned never = none_stands pair slots (λ at is. never at (stand_at at ∙ is))

@@ -1,0 +1,20 @@
+use Rattle.std.proofs.Common.{Some, None, [], ◌∷◌, refl, ap, ◌∙◌}
+use Rattle.link_waiting.specs.declared.slots.Slot.{Slot}
+use Rattle.link_waiting.specs.Idle.Slots.{live}
+use Rattle.link_waiting.proofs.Idle.Slots.{live_append}
+use Rattle.link_waiting.proofs.Idle.Stands.{stands_added, on_ok, on_one}
+use Rattle.link_waiting.proofs.slots.Slots.push.Given as given
+use Rattle.link_waiting.proofs.slots.Slots.push.Goals as goal
+
+module _ (g : given.Over) (c : goal.After-push-2 g) where
+  abbrev slot : Slot g.row.P.Denot
+  slot = record { message = c.args.message; pair = c.args.pair; since = None }
+
+pub returns-clause-now : goal.returns-clause-now
+returns-clause-now g c = on_ok c.push-2.result
+    (ap live c.in_ok-push.ensures.items ∙ live_append c.args.self.now.slots.items (Some (slot g c) ∷ []))
+
+pub returns-clause-stands : goal.returns-clause-stands
+returns-clause-stands g c = on_one c.push-2.result c.push-2.ensures.pushed
+    (λ moments. stands_added c.args.self.now _ c.requires.stands (slot g c) refl c.in_ok-push.ensures.items
+    c.in_ok-link.ensures.now moments refl)

@@ -1,0 +1,36 @@
+use Rattle.std.proofs.Common.{◌≡◌, Some, refl, sym, ap, ◌∙◌}
+use Rattle.std.specs.Option.{option_map}
+use Rattle.link_pairs.specs.Pairs.Messages.{message_of}
+use Rattle.link_pairs.specs.declared.message.Message.{Message}
+use Rattle.chains.specs.Chains.{Rows}
+use Rattle.link_waiting.specs.Idle.Slots.{Waiter, live}
+use Rattle.link_waiting.specs.declared.slots.Slot.{Slot}
+use Rattle.link_waiting.proofs.Idle.Slots.{found, held_there, live_taken, without_missing}
+use Rattle.link_waiting.proofs.Idle.Stands.{stands_taken}
+use Rattle.link_waiting.specs.Idle.Slots.{has_pair}
+use Rattle.link_waiting.proofs.slots.Slots.take_first.Goals as goal
+
+same : {X : Type 0} (a b : X) → Some a ≡ Some b → a ≡ b
+same a b e = cc
+
+pub returns-in_default-clause-now : goal.returns-in_default-clause-now
+returns-in_default-clause-now g c = sym (without_missing (has_pair c.args.pair) _ c.in_default.ensures.none)
+
+pub returns-clause-taken : goal.returns-clause-taken
+returns-clause-taken g c =
+    let items = c.args.self.now.slots.items in
+    let first = c.in-Some.ensures.some in
+    let slot : c.slot.result.now ≡ first.slot =
+    same _ _ (sym c.slot.ensures ∙ held_there c.args.pair items c.in-Some.at first) in
+    ap (λ (m : Message g.row.P.Denot). Some (message_of m)) c.in_ok-message.ensures.cases
+    ∙ ap (λ (s : Slot g.row.P.Denot). Some (message_of s.message.value)) slot
+    ∙ sym (ap (option_map (λ (w : Waiter g.row.P.Denot). w.message)) (found c.args.pair items c.in-Some.at first))
+
+pub returns-clause-now : goal.returns-clause-now
+returns-clause-now g c =
+    ap live c.in_ok-set.ensures.items ∙ live_taken c.args.pair c.args.self.now.slots.items c.in-Some.at c.in-Some.ensures.some
+
+pub returns-clause-stands : goal.returns-clause-stands
+returns-clause-stands g c =
+    stands_taken c.args.self.now _ c.requires.stands c.args.pair c.in-Some.at c.in-Some.ensures.some
+    c.in_ok-set.ensures.items (ap (λ (rows : Rows). rows.stands) c.in_ok-take.ensures.now) c.set-2.ensures refl

@@ -1,0 +1,12 @@
+use Rattle.std.proofs.Common.{sym}
+use Rattle.fair_rates.proofs.Lists.Each.{all_of_each}
+use Rattle.link_waiting.specs.Idle.Slots.{live}
+use Rattle.link_waiting.proofs.Idle.Numbered.{of_number}
+use Rattle.link_waiting.proofs.waiting.number_in.Goals as goal
+
+pub returns : goal.returns
+returns g c =
+    let ws = live c.args.slots.now.slots.items in
+    all_of_each _ ws
+    (of_number g.P.Ord.cmp g.met.P.Ord.total c.args.pairs.now c.args.origin.now c.args.recipient.now c.number.result
+    (sym c.number.ensures) ws c.requires.now)

@@ -1,4 +1,0 @@
-pub mod Late
-pub mod Places
-pub mod Tree
-pub mod Windows
