@@ -11,6 +11,8 @@ pub mod Reordered
 pub mod Rising
 pub mod Said
 pub mod Sides
+pub mod Told
 pub mod Users
 pub mod WeightLaws
+pub mod WeightedMaxMin
 pub mod WeightedRates

@@ -3,6 +3,7 @@ pub mod Allocation
 pub mod Laws
 pub mod Rising
 pub mod Sides
+pub mod Told
 pub mod Users
 pub mod WeightLaws
 pub mod Weights

@@ -7,6 +7,7 @@ ghost use Rattle.fair_routes.specs.Network.Allocation.{IsAllocated, IsCounted, I
 
 mod error;
 pub mod laws;
+pub mod network;
 mod sides;
 pub mod weighted;
 

@@ -2,6 +2,8 @@
 #![tactic(auto)]
 
 #[cfg(test)]
+mod network;
+#[cfg(test)]
 mod routes;
 #[cfg(test)]
 mod text;

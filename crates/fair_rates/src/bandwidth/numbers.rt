@@ -14,7 +14,8 @@ const FEW_KEYS: usize = 24;
 /// move too many.
 const MOST_LISTED: usize = 512;
 
-/// Where a key stands is guessed among the first two to this power of the keys that stand in a list.
+/// Where a key stands is guessed among the first two to this power of the keys that stand in a list, or fewer
+/// where there are fewer.
 const GUESSED: u32 = 11;
 
 /// What is known of a key.
@@ -70,7 +71,8 @@ impl<K: Ord + Copy> Numbers<K> {
     /// processor would guess it wrongly every other time.
     fn guess(&self, key: &K) -> usize {
         let mut place = 0usize;
-        let mut shift = GUESSED;
+        let most = usize::BITS.saturating_sub(self.listed.len().leading_zeros());
+        let mut shift = GUESSED.min(most);
         while shift > 0 {
             shift -= 1;
             if let Some(entry) = self.listed.get(place.wrapping_add(1 << shift)) {

@@ -1,8 +1,10 @@
 -- What follows for flows with weights.
-use Rattle.std.specs.Prelude.{◌↔◌, ◌==◌, ℕ, ◌<◌, List, Option, All, length, map, replicate, slice_index, slice_index_or, sum_by}
+use Rattle.std.specs.Prelude.{◌↔◌, ◌==◌, ℕ, ◌<◌, List, Option, All, length, map}
+use Rattle.std.specs.Prelude.{replicate, slice_index, slice_index_or, sum_by}
 use Rattle.std.specs.List.{range_with_len}
 use Rattle.std.specs.List.Sorted.{IsPermutation}
 use Rattle.fair_rates.specs.Fairness.Fair.{IsLimited, IsFair}
+use Rattle.fair_rates.specs.Fairness.Laws.{HaveUsersBelow}
 use Rattle.fair_rates.specs.Fairness.Rates.{AreFairRates}
 use Rattle.fair_rates.specs.Lists.Places.{places_from}
 use Rattle.fair_rates.specs.Numbers.Amount.{parts_over}
@@ -12,7 +14,7 @@ use Rattle.fair_rates.specs.declared.bandwidth.Rate.TheVariants.{Unlimited, Fini
 use Rattle.fair_rates.specs.Fairness.Fair.{Side}
 use Rattle.fair_routes.specs.Network.Laws.{AreRenamed, routes_at, rates_at}
 use Rattle.fair_routes.specs.Network.Sides.{sides_over}
-use Rattle.fair_routes.specs.Network.Weights.{as_often, AreWeights, AreWeightedRates}
+use Rattle.fair_routes.specs.Network.Weights.{as_often, AreWeights, AreWeightedRates, AreMaxMinByWeight}
 
 -- ---- as many flows of weight one
 
@@ -48,6 +50,17 @@ WeightsOfOneChangeNothing =
     (caps : List (Option ℕ)) (routes : List (List ℕ)) (rates : List Rate)
     → AreWeightedRates (sides_over caps routes) (replicate (length routes) 1) rates
     ↔ AreFairRates (sides_over caps routes) (length routes) rates
+
+-- ---- max-min
+
+-- rates by weight are max-min: no flow can get more unless one gets less that has no more for each one of its weight
+abbrev pub RatesByWeightAreMaxMin : Type 0
+RatesByWeightAreMaxMin =
+    (sides : List Side) (weights : List ℕ) (rates : List Rate)
+    → All (λ weight. 0 < weight) weights
+    → HaveUsersBelow (length weights) sides
+    → AreWeightedRates sides weights rates
+    → AreMaxMinByWeight sides weights rates
 
 -- ---- the same network said otherwise
 

@@ -1,14 +1,17 @@
 -- Flows with weights: what is fair among them, what is allocated to them, and when they are refused.
 -- A flow counts at each side as often as its weight says, and has what it gets there for each time together.
-use Rattle.std.specs.Prelude.{◌≡◌, ◌≢◌, ◌⊎◌, ℕ, ◌*◌, ◌^◌, ◌<◌, ◌≤◌, List, [], ◌∷◌, ◌++◌, All, Contains, Option, Some}
+use Rattle.std.specs.Prelude.{◌≡◌, ◌≢◌, ◌⊎◌, ℕ, ◌*◌, ◌^◌, ◌<◌, ◌≤◌, List, [], ◌∷◌, ◌++◌}
+use Rattle.std.specs.Prelude.{All, Contains, Option, Some}
 use Rattle.std.specs.Prelude.{length, map, replicate, slice_get, slice_index, slice_index_or, sum_by}
 use Rattle.fair_rates.specs.declared.bandwidth.Rate.{Rate}
 use Rattle.fair_rates.specs.declared.error.Error.TheVariants.{OutOfMemory, NumberTooLarge}
-use Rattle.fair_rates.specs.Fairness.Fair.{Side, IsLimited, IsFair}
-use Rattle.fair_rates.specs.Fairness.Laws.{AreZeroWhereClosed}
+use Rattle.fair_rates.specs.Fairness.Fair.{Side, IsLimited, IsWithinCaps, IsFair}
+use Rattle.fair_rates.specs.Fairness.Laws.{AreZeroWhereClosed, HasRate, IsLess, IsAtMost}
 use Rattle.fair_rates.specs.Fairness.Rates.{IsRateOf}
-use Rattle.fair_rates.specs.Numbers.Amount.{parts_over}
+use Rattle.fair_rates.specs.Numbers.Amount.{Amount, parts_over}
 use Rattle.fair_rates.specs.Numbers.Fits.{ReducedFits}
+use Rattle.fair_rates.specs.Numbers.Ratio.{amount_of}
+use Rattle.fair_rates.specs.declared.ratio.Ratio.{Ratio}
 use Rattle.fair_routes.specs.Network.Sides.{sides_over, AreListed, IsUnlisted}
 use Rattle.fair_routes.specs.declared.routes.error.RouteError.TheVariants.{Refused, NoSuchLink}
 use Rattle.fair_routes.specs.declared.routes.weighted.error.WeightError.{WeightError}
@@ -44,6 +47,32 @@ pub record AreWeightedRates (sides : List Side) (weights : List ℕ) (rates : Li
 abbrev pub IsTheOnlyWeighted : List Side → List ℕ → List Rate → Type 0
 IsTheOnlyWeighted sides weights rates = (others : List Rate) → AreWeightedRates sides weights others → others ≡ rates
 
+-- ---- max-min by weight
+
+-- what each one of so much weight has of an amount
+abbrev pub each_of : ℕ → Amount → Amount
+each_of weight a = record { num = a.num; den = a.den * weight }
+
+-- a flow that gets less than its rate, which is for each one of its weight no greater than that of the given flow
+pub record PaysByWeight (weights : List ℕ) (rates : List Rate) (per : ℕ) (parts : ℕ → ℕ) (flow : ℕ)
+    (rate : Ratio) : Type 0 where
+  pub payer : ℕ
+  pub own : Ratio
+  pub has : HasRate rates payer own
+  pub no_greater : IsAtMost (each_of (weight_at weights payer) (amount_of own))
+      (each_of (weight_at weights flow) (amount_of rate))
+  pub loses : IsLess (parts_over per (parts payer)) (amount_of own)
+
+-- in any amounts within the caps, where a limited flow gets more than its rate some flow pays for it
+abbrev pub AreMaxMinByWeight : List Side → List ℕ → List Rate → Type 0
+AreMaxMinByWeight sides weights rates =
+    (per : ℕ) (parts : ℕ → ℕ)
+    → IsWithinCaps sides per parts
+    → (flow : ℕ) (rate : Ratio)
+    → HasRate rates flow rate
+    → IsLess (amount_of rate) (parts_over per (parts flow))
+    → PaysByWeight weights rates per parts flow rate
+
 -- ---- weights
 
 -- a weight above zero for each of so many flows
@@ -71,6 +100,7 @@ pub record IsWeightedAllocation (caps : List (Option ℕ)) (routes : List (List 
   pub little : HaveLittleWeight weights (sides_over caps routes)
   pub fair : AreWeightedRates (sides_over caps routes) weights rates
   pub only : IsTheOnlyWeighted (sides_over caps routes) weights rates
+  pub max_min : AreMaxMinByWeight (sides_over caps routes) weights rates
   pub zero : AreZeroWhereClosed (sides_over caps routes) rates
 
 -- ---- when flows with weights are refused

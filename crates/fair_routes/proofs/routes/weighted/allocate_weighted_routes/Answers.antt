@@ -10,6 +10,7 @@ use Rattle.fair_routes.specs.Network.Rising.{AreFilledByWeight}
 use Rattle.fair_routes.specs.Network.Sides.{sides_over}
 use Rattle.fair_routes.proofs.Network.Allocation.{code_users}
 use Rattle.fair_routes.proofs.Network.LinkSides.{users_are_flows}
+use Rattle.fair_routes.proofs.Network.WeightedMaxMin.{max_min_by_weight}
 use Rattle.fair_routes.proofs.Network.WeightedRates.{levels_inside, rates_by_weight, large_by_weight, one_by_weight, zero_by_weight}
 use Rattle.fair_routes.proofs.routes.weighted.allocate_weighted_routes.Goals as goal
 
@@ -97,5 +98,6 @@ returns-clause-fair c =
           c.in_ok-check_sides.ensures.checked;
       fair = fair;
       only = one_by_weight (sides_over caps routes) weights positive among rates fair;
+      max_min = max_min_by_weight (sides_over caps routes) weights rates of.positive among fair;
       zero = zero_by_weight (sides_over caps routes) weights positive among rates fair;
     }

@@ -1,0 +1,11 @@
+use Rattle.std.proofs.Common.{map, ℕ, Vec, Global}
+use Rattle.std.specs.List.{AllZip}
+use Rattle.std.specs.Map.Iter.{deref}
+use Rattle.fair_routes.specs.Network.Told.{IsNumbered}
+use Rattle.fair_routes.proofs.routes.network.numbered_routes.Given as goal
+
+-- the routes so far
+abbrev pub invariant-loop-route : goal.invariant-loop-route
+invariant-loop-route l =
+    AllZip (IsNumbered l.links) (map (λ (route : Vec ℕ Global). route.items) (map deref l.yielded))
+    (map (λ (route : Vec ℕ Global). route.items) l.numbered.items)
