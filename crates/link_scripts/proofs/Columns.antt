@@ -4,8 +4,11 @@ use Rattle.std.proofs.Common.{Some, codes, refl, sym, ap, ap₂, ◌∙◌, subs
 use Rattle.link_scheduler.specs.declared.replay.Call.TheVariants as calls
 use Rattle.link_scripts.specs.declared.linkrun.command.Command.{Command}
 use Rattle.link_scripts.specs.declared.linkrun.command.Command.TheVariants as commands
+use Rattle.link_scripts.specs.declared.linkrun.command.NetworkLine.TheVariants as lines
 use Rattle.link_scripts.specs.Script.{Takes, number_word, cap_word, flag_word, command_words, IsNumberInRange}
 use Rattle.link_scripts.specs.Script.{IsCapInRange, IsSmallCapInRange, IsLengthInRange, IsCommandInRange}
+use Rattle.link_scripts.specs.Script.{weight_word, IsWeightInRange}
+use Rattle.std.specs.declared.num.NonZeroU64.{NonZeroU64}
 
 -- one word was taken, or no value in range stands there
 abbrev pub TakesWord : {A : Type 0} → (A → List ℕ) → (A → Type 0) → List (List ℕ) → Option A → List (List ℕ) → Type 0
@@ -239,6 +242,13 @@ only_link (commands.Egress peer cap) ws rest range said = absurd (apart (codes "
 only_link (commands.Ingress peer cap) ws rest range said =
     absurd (apart (codes "link") (codes "ingress") ws _ refl said)
 only_link commands.Rates ws rest range said = absurd (apart (codes "link") (codes "rates") ws _ refl said)
+only_link (commands.Network (lines.Hop flow hop)) ws rest range said =
+    absurd (apart (codes "link") (codes "hop") ws _ refl said)
+only_link (commands.Network (lines.Cap at cap)) ws rest range said =
+    absurd (apart (codes "link") (codes "cap") ws _ refl said)
+only_link (commands.Network (lines.Weight flow weight)) ws rest range said =
+    absurd (apart (codes "link") (codes "weight") ws _ refl said)
+only_link commands.Routes ws rest range said = absurd (apart (codes "link") (codes "routes") ws _ refl said)
 only_link (commands.Schedule (calls.Limit now peer egress ingress)) ws rest range said =
     absurd (apart (codes "link") (codes "limit") ws _ refl said)
 only_link (commands.Schedule (calls.LimitLink now origin recipient cap)) ws rest range said =
@@ -263,6 +273,13 @@ only_limit (commands.Ingress peer cap) ws rest range said =
 only_limit (commands.Link origin recipient cap) ws rest range said =
     absurd (apart (codes "limit") (codes "link") ws _ refl said)
 only_limit commands.Rates ws rest range said = absurd (apart (codes "limit") (codes "rates") ws _ refl said)
+only_limit (commands.Network (lines.Hop flow hop)) ws rest range said =
+    absurd (apart (codes "limit") (codes "hop") ws _ refl said)
+only_limit (commands.Network (lines.Cap at cap)) ws rest range said =
+    absurd (apart (codes "limit") (codes "cap") ws _ refl said)
+only_limit (commands.Network (lines.Weight flow weight)) ws rest range said =
+    absurd (apart (codes "limit") (codes "weight") ws _ refl said)
+only_limit commands.Routes ws rest range said = absurd (apart (codes "limit") (codes "routes") ws _ refl said)
 only_limit (commands.Schedule (calls.LimitLink now origin recipient cap)) ws rest range said =
     absurd (apart (codes "limit") (codes "limitlink") ws _ refl said)
 only_limit (commands.Schedule (calls.Enqueue now origin recipient channel length latency should_deliver)) ws rest
@@ -285,6 +302,13 @@ only_limit_link (commands.Ingress peer cap) ws rest range said =
 only_limit_link (commands.Link origin recipient cap) ws rest range said =
     absurd (apart (codes "limitlink") (codes "link") ws _ refl said)
 only_limit_link commands.Rates ws rest range said = absurd (apart (codes "limitlink") (codes "rates") ws _ refl said)
+only_limit_link (commands.Network (lines.Hop flow hop)) ws rest range said =
+    absurd (apart (codes "limitlink") (codes "hop") ws _ refl said)
+only_limit_link (commands.Network (lines.Cap at cap)) ws rest range said =
+    absurd (apart (codes "limitlink") (codes "cap") ws _ refl said)
+only_limit_link (commands.Network (lines.Weight flow weight)) ws rest range said =
+    absurd (apart (codes "limitlink") (codes "weight") ws _ refl said)
+only_limit_link commands.Routes ws rest range said = absurd (apart (codes "limitlink") (codes "routes") ws _ refl said)
 only_limit_link (commands.Schedule (calls.Limit now peer egress ingress)) ws rest range said =
     absurd (apart (codes "limitlink") (codes "limit") ws _ refl said)
 only_limit_link (commands.Schedule (calls.Enqueue now origin recipient channel length latency should_deliver)) ws rest
@@ -314,6 +338,13 @@ only_enqueue (commands.Ingress peer cap) ws rest range said =
 only_enqueue (commands.Link origin recipient cap) ws rest range said =
     absurd (apart (codes "enqueue") (codes "link") ws _ refl said)
 only_enqueue commands.Rates ws rest range said = absurd (apart (codes "enqueue") (codes "rates") ws _ refl said)
+only_enqueue (commands.Network (lines.Hop flow hop)) ws rest range said =
+    absurd (apart (codes "enqueue") (codes "hop") ws _ refl said)
+only_enqueue (commands.Network (lines.Cap at cap)) ws rest range said =
+    absurd (apart (codes "enqueue") (codes "cap") ws _ refl said)
+only_enqueue (commands.Network (lines.Weight flow weight)) ws rest range said =
+    absurd (apart (codes "enqueue") (codes "weight") ws _ refl said)
+only_enqueue commands.Routes ws rest range said = absurd (apart (codes "enqueue") (codes "routes") ws _ refl said)
 only_enqueue (commands.Schedule (calls.Limit now peer egress ingress)) ws rest range said =
     absurd (apart (codes "enqueue") (codes "limit") ws _ refl said)
 only_enqueue (commands.Schedule (calls.LimitLink now origin recipient cap)) ws rest range said =
@@ -381,3 +412,109 @@ module _ {w0 w1 w2 : List (List ℕ)} where
       takes_no_command (codes "limitlink") (word_then number_word link_words)
       (AreIn IsNumberInRange (IsLinkIn IsSmallCapInRange)) limit_link_of (λ x. refl) (λ x r. (r.0, (r.1, (r.2, r.3))))
       (λ x r. (r.0, r.1.0, r.1.1.0, r.1.1.1)) only_limit_link named takes
+
+-- ---- a hop, and a weight
+
+abbrev pub number_words : ℕ → List (List ℕ)
+number_words n = number_word n ∷ []
+
+abbrev pub weight_words : NonZeroU64 → List (List ℕ)
+weight_words weight = weight_word weight ∷ []
+
+abbrev pub hop_words : ℕ × ℕ → List (List ℕ)
+hop_words = word_then number_word number_words
+
+abbrev pub IsHopIn : ℕ × ℕ → Type 0
+IsHopIn = AreIn IsNumberInRange IsNumberInRange
+
+abbrev pub weighing_words : ℕ × NonZeroU64 → List (List ℕ)
+weighing_words = word_then number_word weight_words
+
+abbrev pub IsWeighingIn : ℕ × NonZeroU64 → Type 0
+IsWeighingIn = AreIn IsNumberInRange IsWeightInRange
+
+abbrev hop_of : ℕ × ℕ → Command
+hop_of x = commands.Network (lines.Hop x.0 x.1)
+
+abbrev weighing_of : ℕ × NonZeroU64 → Command
+weighing_of x = commands.Network (lines.Weight x.0 x.1)
+
+only_hop : AreOfName (codes "hop") hop_of
+only_hop (commands.Network (lines.Hop flow link)) ws rest range said = ((flow, link), refl)
+only_hop (commands.Flow f) ws rest range said =
+    absurd (apart (codes "hop") (codes "flow") ws _ refl said)
+only_hop (commands.Egress peer cap) ws rest range said =
+    absurd (apart (codes "hop") (codes "egress") ws _ refl said)
+only_hop (commands.Ingress peer cap) ws rest range said =
+    absurd (apart (codes "hop") (codes "ingress") ws _ refl said)
+only_hop (commands.Link origin recipient cap) ws rest range said =
+    absurd (apart (codes "hop") (codes "link") ws _ refl said)
+only_hop commands.Rates ws rest range said =
+    absurd (apart (codes "hop") (codes "rates") ws _ refl said)
+only_hop (commands.Network (lines.Cap at cap)) ws rest range said =
+    absurd (apart (codes "hop") (codes "cap") ws _ refl said)
+only_hop (commands.Network (lines.Weight flow weight)) ws rest range said =
+    absurd (apart (codes "hop") (codes "weight") ws _ refl said)
+only_hop commands.Routes ws rest range said =
+    absurd (apart (codes "hop") (codes "routes") ws _ refl said)
+only_hop (commands.Schedule (calls.Limit now peer egress ingress)) ws rest range said =
+    absurd (apart (codes "hop") (codes "limit") ws _ refl said)
+only_hop (commands.Schedule (calls.LimitLink now origin recipient cap)) ws rest range said =
+    absurd (apart (codes "hop") (codes "limitlink") ws _ refl said)
+only_hop (commands.Schedule (calls.Enqueue now origin recipient channel length latency should_deliver)) ws rest range said =
+    absurd (apart (codes "hop") (codes "enqueue") ws _ refl said)
+only_hop (commands.Schedule (calls.EnqueueAll now messages)) ws rest range said = absurd range
+only_hop (commands.Schedule (calls.Advance now)) ws rest range said =
+    absurd (apart (codes "hop") (codes "advance") ws _ refl said)
+only_hop (commands.Schedule calls.Next) ws rest range said =
+    absurd (apart (codes "hop") (codes "next") ws _ refl said)
+
+only_weight : AreOfName (codes "weight") weighing_of
+only_weight (commands.Network (lines.Weight flow weight)) ws rest range said = ((flow, weight), refl)
+only_weight (commands.Flow f) ws rest range said =
+    absurd (apart (codes "weight") (codes "flow") ws _ refl said)
+only_weight (commands.Egress peer cap) ws rest range said =
+    absurd (apart (codes "weight") (codes "egress") ws _ refl said)
+only_weight (commands.Ingress peer cap) ws rest range said =
+    absurd (apart (codes "weight") (codes "ingress") ws _ refl said)
+only_weight (commands.Link origin recipient cap) ws rest range said =
+    absurd (apart (codes "weight") (codes "link") ws _ refl said)
+only_weight commands.Rates ws rest range said =
+    absurd (apart (codes "weight") (codes "rates") ws _ refl said)
+only_weight (commands.Network (lines.Hop flow link)) ws rest range said =
+    absurd (apart (codes "weight") (codes "hop") ws _ refl said)
+only_weight (commands.Network (lines.Cap at cap)) ws rest range said =
+    absurd (apart (codes "weight") (codes "cap") ws _ refl said)
+only_weight commands.Routes ws rest range said =
+    absurd (apart (codes "weight") (codes "routes") ws _ refl said)
+only_weight (commands.Schedule (calls.Limit now peer egress ingress)) ws rest range said =
+    absurd (apart (codes "weight") (codes "limit") ws _ refl said)
+only_weight (commands.Schedule (calls.LimitLink now origin recipient cap)) ws rest range said =
+    absurd (apart (codes "weight") (codes "limitlink") ws _ refl said)
+only_weight (commands.Schedule (calls.Enqueue now origin recipient channel length latency should_deliver)) ws rest range said =
+    absurd (apart (codes "weight") (codes "enqueue") ws _ refl said)
+only_weight (commands.Schedule (calls.EnqueueAll now messages)) ws rest range said = absurd range
+only_weight (commands.Schedule (calls.Advance now)) ws rest range said =
+    absurd (apart (codes "weight") (codes "advance") ws _ refl said)
+only_weight (commands.Schedule calls.Next) ws rest range said =
+    absurd (apart (codes "weight") (codes "next") ws _ refl said)
+
+module _ {w0 w1 w2 : List (List ℕ)} where
+  pub takes_hop : {x : ℕ × ℕ} → w0 ≡ codes "hop" ∷ w1 → Takes hop_words IsHopIn w1 (Some x) w2
+      → Takes command_words IsCommandInRange w0 (Some (hop_of x)) w2
+  takes_hop named takes =
+      takes_command (codes "hop") hop_words IsHopIn hop_of (λ x. refl) (λ x r. (r.0, r.1)) (λ x r. (r.0, r.1)) only_hop
+      named takes
+
+  pub takes_no_hop : w0 ≡ codes "hop" ∷ w1 → Takes hop_words IsHopIn w1 None w2
+      → Takes command_words IsCommandInRange w0 None w2
+  takes_no_hop named takes =
+      takes_no_command (codes "hop") hop_words IsHopIn hop_of (λ x. refl) (λ x r. (r.0, r.1)) (λ x r. (r.0, r.1))
+      only_hop named takes
+
+  pub takes_weighing : {x : ℕ × NonZeroU64} → w0 ≡ codes "weight" ∷ w1
+      → Takes weighing_words IsWeighingIn w1 (Some x) w2
+      → Takes command_words IsCommandInRange w0 (Some (weighing_of x)) w2
+  takes_weighing named takes =
+      takes_command (codes "weight") weighing_words IsWeighingIn weighing_of (λ x. refl) (λ x r. (r.0, r.1))
+      (λ x r. (r.0, r.1)) only_weight named takes

@@ -123,6 +123,7 @@ module _ (old new : Session) (before after : Option (List ℕ)) where
         printed
     one_answered answers.Nothing answered printed = absurd answered
     one_answered (answers.Rates rates) answered printed = absurd answered
+    one_answered (answers.Routes rates) answered printed = absurd answered
 
     -- that is refused
     pub one_refused : (why : Error) → MayRefuseCall old.scheduler (world_call call) why

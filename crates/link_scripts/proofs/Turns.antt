@@ -1,5 +1,5 @@
 -- Commands that take their turn behind what is gathered.
-use Rattle.std.proofs.Common.{◌≡◌, ℕ, List, [], ◌∷◌, ◌++◌, Option, None, Some, refl, sym, ap, ◌∙◌, append-nil}
+use Rattle.std.proofs.Common.{◌≡◌, ℕ, List, [], ◌∷◌, ◌++◌, Option, sym, ap, ◌∙◌, append-nil}
 use Rattle.std.proofs.Common.{Result, Ok, Err, IfOk, IfErr, OnOk, OnErr, inl, inr}
 use Rattle.std.specs.Io.KnownBytes.{Appends}
 use Rattle.fair_rates.specs.declared.error.Error.{Error}
@@ -30,6 +30,8 @@ module _ (gathered sent left : Gathered) (old between new : Session) (before pri
   gathered_alone (commands.Ingress peer cap) is = absurd is
   gathered_alone (commands.Link origin recipient cap) is = absurd is
   gathered_alone commands.Rates is = absurd is
+  gathered_alone (commands.Network line) is = absurd is
+  gathered_alone commands.Routes is = absurd is
 
   module _ (kept : gathered_calls left ≡ gathered_calls sent) (said : SaysSame old between)
       (result : Result Answer Error) where
@@ -93,6 +95,16 @@ module _ (gathered sent left : Gathered) (old between new : Session) (before pri
     )
     performed_after_all commands.Rates answers done same refused text told =
         (between, printed, sends, said, performed commands.Rates answers done same refused text told, kept ∙ none)
+    performed_after_all (commands.Network line) answers done same refused text told = (
+      between,
+      printed,
+      sends,
+      said,
+      performed (commands.Network line) answers done same refused text told,
+      kept ∙ none,
+    )
+    performed_after_all commands.Routes answers done same refused text told =
+        (between, printed, sends, said, performed commands.Routes answers done same refused text told, kept ∙ none)
 
     -- and what it answers could be printed
     pub performed_and_printed : {X E : Type 0} (told : Result X E) (command : Command)

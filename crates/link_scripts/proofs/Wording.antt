@@ -1,17 +1,21 @@
 -- Which words say which values, and which words a line has.
 use Rattle.std.proofs.Common.{◌≡◌, ◌↔◌, ℕ, ◌^◌, ◌<◌, Bool, true, false, ◌&&◌, eqb, ltb, List, [], ◌∷◌, ◌++◌, Option}
 use Rattle.std.proofs.Common.{None, Some, length, get_or, codes, refl, sym, ap, ◌∙◌, subst, arith, eq-eqb, append-nil}
+use Rattle.std.proofs.Props.{props}
 use borrow.Author.Tests.{ne_eqb, ltb-true}
-use Rattle.std.specs.Option.{IfSome}
+use Rattle.std.specs.Int.NonZero.{non_zero_u64_get}
+use Rattle.std.specs.Option.{IfSome, MatchOption}
+use Rattle.std.proofs.lemmas.Option.{same_Some}
+use Rattle.std.specs.declared.num.NonZeroU64.{NonZeroU64}
 use Rattle.std.specs.List.{All, list_all, join_with_byte}
-use Rattle.std.specs.Str.{IsAscii, IsUtf8}
+use Rattle.std.specs.Str.{IsUtf8}
 use Rattle.std.specs.Str.Parse.{AllDigits}
 use Rattle.std.proofs.lemmas.Bool.Decides.{nat_tests}
 use Rattle.std.proofs.lemmas.List.{append_cancel_left}
 use Rattle.std.proofs.lemmas.List.Elements.{All-nil, All-cons}
 use Rattle.std.proofs.lemmas.List.Splits.{slice_split_none, slice_split_at, join_with_byte-slice_split}
-use Rattle.std.proofs.lemmas.Str.{IsUtf8-from_ascii, IsAscii-append}
-use Rattle.std.proofs.lemmas.Str.Ascii.{IsAscii-from_all, IsAscii-nil}
+use Rattle.std.proofs.lemmas.Str.{IsUtf8-from_ascii}
+use Rattle.std.proofs.lemmas.Str.Ascii.{IsAscii-from_all}
 use Rattle.std.proofs.lemmas.Str.Parse.{digit_from_value}
 use Rattle.std.proofs.lemmas.Bool.{and_parts}
 use Rattle.fair_rates.specs.declared.bandwidth.Flow.{Flow}
@@ -19,7 +23,9 @@ use Rattle.link_scheduler.specs.declared.replay.Call.{Call}
 use Rattle.link_scheduler.specs.declared.replay.Call.TheVariants as calls
 use Rattle.link_scripts.specs.declared.linkrun.command.Command.{Command}
 use Rattle.link_scripts.specs.declared.linkrun.command.Command.TheVariants as commands
-use Rattle.link_scripts.specs.Script.{Takes, number_word, cap_word, flag_word, flow_words, call_words, command_words}
+use Rattle.link_scripts.specs.declared.linkrun.command.NetworkLine.TheVariants as lines
+use Rattle.link_scripts.specs.Script.{Takes, number_word, cap_word, weight_word, flag_word, flow_words, call_words}
+use Rattle.link_scripts.specs.Script.{command_words, IsWeightInRange}
 use Rattle.link_scripts.specs.Script.{line_of, IsNumberInRange, IsCapInRange, IsSmallCapInRange, IsFlowInRange}
 use Rattle.link_scripts.specs.Script.{IsCallOfScriptInRange, IsCommandInRange}
 use Rattle.link_scripts.specs.Words.{parts_of}
@@ -47,6 +53,50 @@ takes_no_cap before after word is dash = record { taken = (is ∙ ap (λ w. w �
 
 abbrev pub TakesNumber : List (List ℕ) → ℕ → List (List ℕ) → Type 0
 TakesNumber before n after = Takes (λ n. number_word n ∷ []) IsNumberInRange before (Some n) after
+
+weight_of : (n : ℕ) → 0 < n → NonZeroU64
+weight_of n some = record { value = n; ok = some }
+
+same_number : (n m : ℕ) → n ≡ m → (p : 0 < n) (q : 0 < m) → weight_of n p ≡ weight_of m q
+same_number n m same p =
+    let one : IsProp (0 < n) = hlevel props in
+    subst (λ k. (q : 0 < k) → weight_of n p ≡ weight_of k q) same (λ q. ap (weight_of n) (one p q))
+
+-- two weights of one number are one
+one_weight : (v w : NonZeroU64) → non_zero_u64_get v ≡ non_zero_u64_get w → v ≡ w
+unfolding weight_of
+one_weight v w same = same_number v.value w.value same v.ok w.ok
+
+-- a number above zero is a weight, and zero is none
+pub takes_weight : (before after : List (List ℕ)) (n : ℕ) (answer : Option NonZeroU64) → TakesNumber before n after
+    → MatchOption answer (n ≡ 0) (λ w. non_zero_u64_get w ≡ n)
+    → Takes (λ w. weight_word w ∷ []) IsWeightInRange before answer after
+takes_weight before after n (Some w) takes is = record {
+  taken = (
+    takes.taken.0 ∙ ap (λ m. number_word m ∷ after) (sym is),
+    subst IsNumberInRange (sym is) takes.taken.1,
+  );
+  missed = λ v rest range said.
+      let same : Some n ≡ Some (non_zero_u64_get v) = takes.missed (non_zero_u64_get v) rest range said in
+      ap Some (one_weight w v (is ∙ same_Some n (non_zero_u64_get v) same));
+}
+takes_weight before after n None takes is = record {
+  taken = tt;
+  missed = λ v rest range said.
+      let same : Some n ≡ Some (non_zero_u64_get v) = takes.missed (non_zero_u64_get v) rest range said in
+      absurd (omega (arith, is, same_Some n (non_zero_u64_get v) same, v.ok));
+}
+
+-- where no number stands there is no weight
+pub takes_no_weight : (before after : List (List ℕ))
+    → Takes (λ n. number_word n ∷ []) IsNumberInRange before None after
+    → Takes (λ w. weight_word w ∷ []) IsWeightInRange before None after
+takes_no_weight before after takes = record {
+  taken = tt;
+  missed = λ v rest range said.
+      let none : None ≡ Some (non_zero_u64_get v) = takes.missed (non_zero_u64_get v) rest range said in
+      absurd (cc none);
+}
 
 -- three numbers and a flag are a flow
 pub takes_flow : (w0 w1 w2 w3 w4 : List (List ℕ)) (id origin recipient : ℕ) (delivered : Bool) → TakesNumber w0 id w1
@@ -207,6 +257,13 @@ AreWords-command (commands.Ingress peer cap) range =
 AreWords-command (commands.Link origin recipient cap) range =
     (refl, (IsWord-small origin range.0, (IsWord-small recipient range.1, (IsWord-cap cap range.2, tt))))
 AreWords-command commands.Rates range = (refl, tt)
+AreWords-command (commands.Network (lines.Hop flow link)) range =
+    (refl, (IsWord-small flow range.0, (IsWord-small link range.1, tt)))
+AreWords-command (commands.Network (lines.Cap link cap)) range =
+    (refl, (IsWord-small link range.0, (IsWord-cap cap range.1, tt)))
+AreWords-command (commands.Network (lines.Weight flow weight)) range =
+    (refl, (IsWord-small flow range.0, (IsWord-small (non_zero_u64_get weight) range.1, tt)))
+AreWords-command commands.Routes range = (refl, tt)
 AreWords-command (commands.Schedule call) range = AreWords-call call range
 
 -- the first of some words is text
@@ -224,6 +281,10 @@ has_words (commands.Egress peer cap) range = omega arith
 has_words (commands.Ingress peer cap) range = omega arith
 has_words (commands.Link origin recipient cap) range = omega arith
 has_words commands.Rates range = omega arith
+has_words (commands.Network (lines.Hop flow link)) range = omega arith
+has_words (commands.Network (lines.Cap link cap)) range = omega arith
+has_words (commands.Network (lines.Weight flow weight)) range = omega arith
+has_words commands.Routes range = omega arith
 has_words (commands.Schedule (calls.Limit now peer egress ingress)) range = omega arith
 has_words (commands.Schedule (calls.LimitLink now origin recipient cap)) range = omega arith
 has_words (commands.Schedule (calls.Enqueue now origin recipient channel length latency should_deliver)) range =
@@ -268,6 +329,13 @@ parts_of-line_of (commands.Ingress peer cap) range =
 parts_of-line_of (commands.Link origin recipient cap) range =
     parts_of-join _ _ (AreWords-command (commands.Link origin recipient cap) range)
 parts_of-line_of commands.Rates range = parts_of-join _ _ (AreWords-command commands.Rates range)
+parts_of-line_of (commands.Network (lines.Hop flow link)) range =
+    parts_of-join _ _ (AreWords-command (commands.Network (lines.Hop flow link)) range)
+parts_of-line_of (commands.Network (lines.Cap link cap)) range =
+    parts_of-join _ _ (AreWords-command (commands.Network (lines.Cap link cap)) range)
+parts_of-line_of (commands.Network (lines.Weight flow weight)) range =
+    parts_of-join _ _ (AreWords-command (commands.Network (lines.Weight flow weight)) range)
+parts_of-line_of commands.Routes range = parts_of-join _ _ (AreWords-command commands.Routes range)
 parts_of-line_of (commands.Schedule call) range = parts_of-call call range
 
 -- ---- what a line says

@@ -57,4 +57,5 @@ reply_text (reply_refused why) = refusal_line why
 abbrev pub answer_text : Answer → List ℕ
 answer_text answers.Nothing = []
 answer_text (answers.Rates rates) = rates_text rates.entries
+answer_text (answers.Routes rates) = rates_text rates.items
 answer_text (answers.Reply reply) = reply_text (reply_of reply)

@@ -29,6 +29,8 @@ IsGathered (commands.Egress peer cap) before new = ⊥
 IsGathered (commands.Ingress peer cap) before new = ⊥
 IsGathered (commands.Link origin recipient cap) before new = ⊥
 IsGathered commands.Rates before new = ⊥
+IsGathered (commands.Network line) before new = ⊥
+IsGathered commands.Routes before new = ⊥
 
 -- nothing is gathered
 abbrev pub HasNone : Gathered → Type 0
@@ -81,3 +83,7 @@ TakesItsTurn (commands.Link origin recipient cap) gathered old before left new a
     ComesAfterAll (commands.Link origin recipient cap) gathered old before left new after
 TakesItsTurn commands.Rates gathered old before left new after =
     ComesAfterAll commands.Rates gathered old before left new after
+TakesItsTurn (commands.Network line) gathered old before left new after =
+    ComesAfterAll (commands.Network line) gathered old before left new after
+TakesItsTurn commands.Routes gathered old before left new after =
+    ComesAfterAll commands.Routes gathered old before left new after

@@ -1,4 +1,5 @@
 pub mod Answer
+pub mod BadLines
 pub mod Ending
 pub mod Gathered
 pub mod Lines

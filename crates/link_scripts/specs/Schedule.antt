@@ -48,6 +48,7 @@ module _ {a : _} {b : _} {c : _} where
   AnswersCall call old (answers.Reply reply) new = IsAnswered old (world_call call) reply new
   AnswersCall call old answers.Nothing new = ⊥
   AnswersCall call old (answers.Rates rates) new = ⊥
+  AnswersCall call old (answers.Routes rates) new = ⊥
 
   -- it does and answers all at once what those calls do and answer one after another
   abbrev pub AnswersEach : List (Call ℕ) → State ℕ a b c → Reply ℕ → State ℕ a b c → Type 0

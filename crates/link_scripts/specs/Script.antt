@@ -1,12 +1,16 @@
 -- The language of scripts: the line of each command. A line and a word are lists of bytes.
 use Rattle.std.specs.Prelude.{◌≡◌, ℕ, ◌^◌, ◌<◌, ◌≤◌, Bool, true, false, List, [], ◌∷◌, ◌++◌, Option}
 use Rattle.std.specs.Prelude.{Some, None, IfSome, codes, decimal}
+use Rattle.std.specs.Int.NonZero.{non_zero_u64_get}
 use Rattle.std.specs.List.{join_with_byte}
+use Rattle.std.specs.declared.num.NonZeroU64.{NonZeroU64}
 use Rattle.fair_rates.specs.declared.bandwidth.Flow.{Flow}
 use Rattle.link_scheduler.specs.declared.replay.Call.{Call}
 use Rattle.link_scheduler.specs.declared.replay.Call.TheVariants as calls
 use Rattle.link_scripts.specs.declared.linkrun.command.Command.{Command}
 use Rattle.link_scripts.specs.declared.linkrun.command.Command.TheVariants as commands
+use Rattle.link_scripts.specs.declared.linkrun.command.NetworkLine.{NetworkLine}
+use Rattle.link_scripts.specs.declared.linkrun.command.NetworkLine.TheVariants as lines
 
 -- a number is its decimal digits, with no sign, and with no zero in front of another digit
 abbrev pub number_word : ℕ → List ℕ
@@ -16,6 +20,10 @@ number_word n = decimal n
 abbrev pub cap_word : Option ℕ → List ℕ
 cap_word None = codes "-"
 cap_word (Some cap) = number_word cap
+
+-- a weight is a number, and never 0
+abbrev pub weight_word : NonZeroU64 → List ℕ
+weight_word weight = number_word (non_zero_u64_get weight)
 
 -- a flag is `0` or `1`
 abbrev pub flag_word : Bool → List ℕ
@@ -40,6 +48,12 @@ call_words (calls.EnqueueAll now messages) = []
 call_words (calls.Advance now) = codes "advance" ∷ number_word now ∷ []
 call_words calls.Next = codes "next" ∷ []
 
+-- the words of a line about a network: a flow and a link of its route, a link and its cap, a flow and its weight
+abbrev pub network_words : NetworkLine → List (List ℕ)
+network_words (lines.Hop flow link) = codes "hop" ∷ number_word flow ∷ number_word link ∷ []
+network_words (lines.Cap link cap) = codes "cap" ∷ number_word link ∷ cap_word cap ∷ []
+network_words (lines.Weight flow weight) = codes "weight" ∷ number_word flow ∷ weight_word weight ∷ []
+
 -- the words of a command
 abbrev pub command_words : Command → List (List ℕ)
 command_words (commands.Flow flow) = codes "flow" ∷ flow_words flow
@@ -48,6 +62,8 @@ command_words (commands.Ingress peer cap) = codes "ingress" ∷ number_word peer
 command_words (commands.Link origin recipient cap) =
     codes "link" ∷ number_word origin ∷ number_word recipient ∷ cap_word cap ∷ []
 command_words commands.Rates = codes "rates" ∷ []
+command_words (commands.Network line) = network_words line
+command_words commands.Routes = codes "routes" ∷ []
 command_words (commands.Schedule call) = call_words call
 
 -- the line of a command: its words, with one space between each two
@@ -56,7 +72,7 @@ line_of command = join_with_byte 32 (command_words command)
 
 -- ---- the ranges of the columns
 
--- ids, peers, channels, moments and latencies have 64 bits
+-- ids, peers, links, channels, moments and latencies have 64 bits
 abbrev pub IsNumberInRange : ℕ → Type 0
 IsNumberInRange n = n < 2 ^ 64
 
@@ -71,6 +87,10 @@ IsSmallCapInRange cap = IfSome cap (λ c. c < 2 ^ 64)
 -- a message has at most 67108864 bytes
 abbrev pub IsLengthInRange : ℕ → Type 0
 IsLengthInRange n = n ≤ 67108864
+
+-- a weight has 64 bits
+abbrev pub IsWeightInRange : NonZeroU64 → Type 0
+IsWeightInRange weight = IsNumberInRange (non_zero_u64_get weight)
 
 -- each number of a flow
 abbrev pub IsFlowInRange : Flow ℕ → Type 0
@@ -89,6 +109,12 @@ IsCallOfScriptInRange (calls.EnqueueAll now messages) = ⊥
 IsCallOfScriptInRange (calls.Advance now) = IsNumberInRange now
 IsCallOfScriptInRange calls.Next = Unit {0}
 
+-- each number of a line about a network
+abbrev pub IsNetworkLineInRange : NetworkLine → Type 0
+IsNetworkLineInRange (lines.Hop flow link) = IsNumberInRange flow × IsNumberInRange link
+IsNetworkLineInRange (lines.Cap link cap) = IsNumberInRange link × IsCapInRange cap
+IsNetworkLineInRange (lines.Weight flow weight) = IsNumberInRange flow × IsWeightInRange weight
+
 -- each number of a command
 abbrev pub IsCommandInRange : Command → Type 0
 IsCommandInRange (commands.Flow flow) = IsFlowInRange flow
@@ -97,6 +123,8 @@ IsCommandInRange (commands.Ingress peer cap) = IsNumberInRange peer × IsCapInRa
 IsCommandInRange (commands.Link origin recipient cap) = IsNumberInRange origin × IsNumberInRange recipient
     × IsCapInRange cap
 IsCommandInRange commands.Rates = Unit {0}
+IsCommandInRange (commands.Network line) = IsNetworkLineInRange line
+IsCommandInRange commands.Routes = Unit {0}
 IsCommandInRange (commands.Schedule call) = IsCallOfScriptInRange call
 
 -- ---- words, taken one by one

@@ -1,5 +1,6 @@
 //! Scripts of flows and caps, run line by line.
 ghost use Rattle.std.specs.Prelude.{◌≡◌, Some, IfOk};
+ghost use Rattle.link_scripts.specs.BadLines.{Blames};
 ghost use Rattle.link_scripts.specs.Outcome.{status_of, outcome_text, CountsFromOne};
 
 pub mod answer;
@@ -7,7 +8,7 @@ pub mod command;
 mod ending;
 mod gathered;
 pub mod line;
-pub(crate) mod schedule;
+pub mod schedule;
 mod session;
 pub mod word;
 pub mod zeros;
@@ -64,9 +65,10 @@ impl fmt::Display for Outcome {
 
 /// Runs the script that `input` gives, and prints its answers on `output`.
 ///
-/// The script is read as a stream. What is kept of it are its flows and its caps, the scheduler, and
-/// the messages of one moment that are yet to be sent together. What is printed is written to `output`
-/// and flushed before `input` is asked for more, and before this returns, whatever the outcome. So who asks line by line has each answer before the next line.
+/// The script is read as a stream. What is kept of it are its flows, its caps and its network, the
+/// scheduler, and the messages of one moment that are yet to be sent together. What is printed is written to `output`
+/// and flushed before `input` is asked for more, and before this returns, whatever the outcome. So who asks line by line has
+/// each answer before the next line.
 ///
 /// - `Whole` where the script was read to its end.
 /// - `BadLine` where a line is not of the language.
@@ -77,16 +79,33 @@ impl fmt::Display for Outcome {
 pub fn run<R: Read, W: Write>(alloc: Global, input: &mut R, output: &mut W) -> Outcome
     ensures { CountsFromOne result }
 {
-    let Ok(mut line) = Vec::with_capacity(alloc, line::MOST_READ) else {
+    let mut line = Vec::new(alloc);
+    run_keeping_line(alloc, input, output, &mut line)
+}
+
+/// Does what `run` does, and leaves in `line` the line that was read last, without its end byte, in
+/// the place of what it held. Where the outcome is `BadLine` that is the bad one, or its first 257
+/// bytes.
+pub fn run_keeping_line<R: Read, W: Write>(
+    alloc: Global,
+    input: &mut R,
+    output: &mut W,
+    line: &mut Vec<u8>,
+) -> Outcome
+    ensures counted { CountsFromOne result }
+    ensures bad { Blames result line.new.items }
+{
+    line.clear();
+    if line.reserve(line::MOST_READ).is_err() {
         return Outcome::NoMemory;
-    };
+    }
     let Ok(mut reader) = BufReader::new(alloc, input) else {
         return Outcome::NoMemory;
     };
     let Ok(mut writer) = BufWriter::new(alloc, output) else {
         return Outcome::NoMemory;
     };
-    let outcome = run_session(alloc, &mut reader, &mut writer, &mut line);
+    let outcome = run_session(alloc, &mut reader, &mut writer, line);
     match writer.flush() {
         Ok(()) => outcome.unwrap_or(Outcome::InputOutput),
         Err(_) => Outcome::InputOutput,
@@ -100,7 +119,8 @@ fn run_session<R: Read, W: Write + Drop>(
     output: &mut BufWriter<W>,
     line: &mut Vec<u8>,
 ) -> io::Result<Outcome>
-    ensures { IfOk result CountsFromOne }
+    ensures counted { IfOk result CountsFromOne }
+    ensures bad { IfOk result (λ outcome. Blames outcome line.new.items) }
 {
     let mut session = Session::new(alloc);
     let mut gathered = Gathered::new(alloc);
@@ -117,7 +137,8 @@ fn run_lines<R: Read, W: Write + Drop>(
     output: &mut BufWriter<W>,
     line: &mut Vec<u8>,
 ) -> io::Result<Outcome>
-    ensures { IfOk result CountsFromOne }
+    ensures counted { IfOk result CountsFromOne }
+    ensures bad { IfOk result (λ outcome. Blames outcome line.new.items) }
 {
     let mut number = 0u64;
     for _ in 0..u128::MAX {

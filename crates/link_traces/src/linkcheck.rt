@@ -92,14 +92,34 @@ pub fn check<R: Read>(alloc: Global, input: &mut R, turns: Turns) -> Result<Repo
     ensures in_turn { IfOk result (λ report. turns ≡ Turns.InTurn → report.verdict ≡ Verdict.Agrees
         → report.out_of_turn ≡ None) }
 {
-    let Ok(mut line) = Vec::with_capacity(alloc, MOST_READ) else {
+    let mut line = Vec::new(alloc);
+    check_keeping_line(alloc, input, turns, &mut line)
+}
+
+/// Does what `check` does, and leaves in `line` the line that was read last, without its end byte, in
+/// the place of what it held: the one that a `BadLine` tells of, or its first 257 bytes.
+pub fn check_keeping_line<R: Read>(
+    alloc: Global,
+    input: &mut R,
+    turns: Turns,
+    line: &mut Vec<u8>,
+) -> Result<Report, Fault>
+    ensures agrees { IfOk result (λ report. report.verdict ≡ Verdict.Agrees
+        → IfSome (R.remaining input.old) (λ bytes. IsAgreed bytes report)) }
+    ensures within { IfOk result (λ report. (off : ℕ) → report.verdict ≡ Verdict.Within off
+        → IfSome (R.remaining input.old) (λ bytes. IsAllowed bytes off)) }
+    ensures in_turn { IfOk result (λ report. turns ≡ Turns.InTurn → report.verdict ≡ Verdict.Agrees
+        → report.out_of_turn ≡ None) }
+{
+    line.clear();
+    if line.reserve(MOST_READ).is_err() {
         return Err(Fault::NoMemory);
-    };
+    }
     let Ok(mut reader) = BufReader::new(alloc, input) else {
         return Err(Fault::NoMemory);
     };
     let mut checker = Checker::new(alloc, turns);
-    check_lines(&mut checker, &mut reader, &mut line)
+    check_lines(&mut checker, &mut reader, line)
 }
 
 /// Compares the lines of a trace up to its end, or to the first that differs. `line` is room for one.
@@ -171,7 +191,26 @@ pub fn run<R: Read, W: Write>(
     ensures in_turn { IfOk result (λ report. turns ≡ Turns.InTurn → report.verdict ≡ Verdict.Agrees
         → report.out_of_turn ≡ None) }
 {
-    let report = check(alloc, input, turns)?;
+    let mut line = Vec::new(alloc);
+    run_keeping_line(alloc, input, output, turns, &mut line)
+}
+
+/// Does what `run` does, and leaves in `line` the line that was read last, as `check_keeping_line` does.
+pub fn run_keeping_line<R: Read, W: Write>(
+    alloc: Global,
+    input: &mut R,
+    output: &mut W,
+    turns: Turns,
+    line: &mut Vec<u8>,
+) -> Result<Report, Fault>
+    ensures agrees { IfOk result (λ report. report.verdict ≡ Verdict.Agrees
+        → IfSome (R.remaining input.old) (λ bytes. IsAgreed bytes report)) }
+    ensures within { IfOk result (λ report. (off : ℕ) → report.verdict ≡ Verdict.Within off
+        → IfSome (R.remaining input.old) (λ bytes. IsAllowed bytes off)) }
+    ensures in_turn { IfOk result (λ report. turns ≡ Turns.InTurn → report.verdict ≡ Verdict.Agrees
+        → report.out_of_turn ≡ None) }
+{
+    let report = check_keeping_line(alloc, input, turns, line)?;
     match report.print(output) {
         Ok(()) => Ok(report),
         Err(_) => Err(Fault::InputOutput),

@@ -4,10 +4,12 @@
 mod arguments;
 
 use crate::arguments::{HELP, Task, VERSION, read_arguments};
+use link_console::watched::Watched;
+use link_console::why;
 use link_traces::linkcheck;
 use link_traces::linkcheck::{Fault, Turns};
 use std::fs::File;
-use std::io::{IsTerminal, Read};
+use std::io::{IsTerminal, Read, Write};
 use std::process::ExitCode;
 
 /// The status after a word that is no option.
@@ -41,7 +43,7 @@ fn print(rt: &HostRuntime, text: &str) -> ExitCode {
 /// Checks the trace in a file.
 fn check_file(rt: &HostRuntime, turns: Turns, name: &str) -> ExitCode {
     match File::open(rt, name) {
-        Ok(mut file) => check(rt, turns, &mut file),
+        Ok(file) => check(rt, turns, file, rt.stderr().is_terminal()),
         Err(error) => {
             let _ = eprintln!(rt; "linkcheck: {name}: {error}");
             ExitCode::FAILURE
@@ -51,18 +53,35 @@ fn check_file(rt: &HostRuntime, turns: Turns, name: &str) -> ExitCode {
 
 /// Checks the trace on standard input. Says so where a terminal is that.
 fn check_standard_input(rt: &HostRuntime, turns: Turns) -> ExitCode {
-    let mut input = rt.stdin();
-    if input.is_terminal() {
+    let input = rt.stdin();
+    let is_terminal = input.is_terminal();
+    if is_terminal {
         let _ = rt.eprintln("linkcheck: reads a trace from this terminal, to its end (Ctrl-D)");
     }
-    check(rt, turns, &mut input)
+    let tells = !is_terminal && rt.stderr().is_terminal();
+    check(rt, turns, input, tells)
 }
 
-/// Checks a trace.
-fn check<R: Read>(rt: &HostRuntime, turns: Turns, input: &mut R) -> ExitCode {
-    let report = linkcheck::run(rt.alloc(), input, &mut rt.stdout(), turns);
+/// Checks a trace. Where `tells`, it says on the way how far it is.
+fn check<R: Read + Drop>(rt: &HostRuntime, turns: Turns, input: R, tells: bool) -> ExitCode {
+    let mut input = Watched::new(input, rt, rt.stderr(), "linkcheck", tells);
+    let mut line = Vec::new(rt.alloc());
+    let mut output = rt.stdout();
+    let report = linkcheck::run_keeping_line(rt.alloc(), &mut input, &mut output, turns, &mut line);
     if let Err(fault) = &report {
         let _ = rt.eprintln(*fault);
     }
+    if let Err(Fault::BadLine(_)) = &report {
+        explain(rt, &line);
+    }
     ExitCode::from(linkcheck::status(&report))
+}
+
+/// Says why a line is bad.
+fn explain(rt: &HostRuntime, line: &[u8]) {
+    if let Some(note) = why::of_trace(line) {
+        let mut errors = rt.stderr();
+        let _ = errors.write_all(note.as_bytes());
+        let _ = errors.write_all(b"\n");
+    }
 }

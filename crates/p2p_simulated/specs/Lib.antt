@@ -14,7 +14,10 @@ pub use Rattle.link_events.specs.Steps
 pub use Rattle.link_flights.specs.Flights
 pub use Rattle.link_waiting.specs.Idle
 pub use Rattle.link_pairs.specs.Pairs
+pub use Rattle.link_console.specs.Note
+pub use Rattle.link_console.specs.Printable
 pub use Rattle.link_scripts.specs.Answer
+pub use Rattle.link_scripts.specs.BadLines
 pub use Rattle.link_scripts.specs.Lines
 pub use Rattle.link_scripts.specs.Outcome
 pub use Rattle.link_scripts.specs.Schedule

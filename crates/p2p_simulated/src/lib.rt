@@ -9,6 +9,7 @@
 
 pub use fair_rates::{bandwidth, error, peer, ratio};
 pub use fair_routes::routes;
+pub use link_console::why;
 pub use link_pictures::linkdraw;
 pub use link_scheduler::{clauses, replay, transmitter};
 pub use link_scripts::linkrun;

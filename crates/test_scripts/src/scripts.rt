@@ -1,6 +1,7 @@
 //! Scripts, what they print, and how they end.
 mod broadcasts;
 mod partner;
+mod routes;
 mod schedules;
 
 use link_scripts::linkrun::{Outcome, run};

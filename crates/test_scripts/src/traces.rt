@@ -389,8 +389,8 @@ off by 2\n",
 }
 
 /// Lines that no trace has.
-const OTHER_LINES: &str = ";stop;rates;rate 1 5/1;flow 1 1 2 1;egress 1 5;link 1 2 5;done 1 2 0 5;\
-done 1 2 0 5 5 5;done 1 2 0 5 05;next 5 5;next 18446744073709551616;refused 1;\
+const OTHER_LINES: &str = ";stop;rates;routes;rate 1 5/1;hop 1 2;cap 1 5;weight 1 2;flow 1 1 2 1;\
+egress 1 5;link 1 2 5;done 1 2 0 5;done 1 2 0 5 5 5;done 1 2 0 5 05;next 5 5;next 18446744073709551616;refused 1;\
 refused 3 out of memory;tolerance 5;tolerance -; next;next -\r";
 
 /// The line stands after three good ones.

@@ -22,6 +22,8 @@ pub(crate) enum Answer {
     Nothing,
     /// Rates in bytes a second, by the ids of the flows.
     Rates(BTreeMap<u64, Rate>),
+    /// Rates in bytes a second, and the numbers of the flows over routes.
+    Routes(Vec<(u64, Rate)>),
     /// What the scheduler replied.
     Reply(Reply<u64>),
 }
@@ -36,6 +38,7 @@ pub(crate) fn print<W: Write>(output: &mut W, answer: Result<Answer, Error>) -> 
     match answer {
         Ok(Answer::Nothing) => Ok(()),
         Ok(Answer::Rates(rates)) => print_rates(output, &rates),
+        Ok(Answer::Routes(rates)) => print_each(output, &rates),
         Ok(Answer::Reply(reply)) => print_reply(output, &reply),
         Err(error) => print_refusal(output, error),
     }
@@ -66,6 +69,16 @@ fn print_rates<W: Write>(output: &mut W, rates: &BTreeMap<u64, Rate>) -> io::Res
 {
     for (id, rate) in rates {
         print_rate(output, *id, *rate)?;
+    }
+    Ok(())
+}
+
+/// Prints the rates of flows over routes, in order.
+fn print_each<W: Write>(output: &mut W, rates: &[(u64, Rate)]) -> io::Result<()>
+    ensures { OnOk result (Appends (W.contents output.old) (W.contents output.new) (rates_text rates.now)) }
+{
+    for (flow, rate) in rates {
+        print_rate(output, *flow, *rate)?;
     }
     Ok(())
 }

@@ -7,6 +7,7 @@ ghost use Rattle.link_scripts.specs.Words.{words_left};
 use crate::linkrun::word::Words;
 use fair_rates::bandwidth::Flow;
 use link_scheduler::replay::Call;
+use std::num::NonZeroU64;
 
 /// A command of a script.
 #[derive(Debug, Drop)]
@@ -31,8 +32,23 @@ pub enum Command {
     },
     /// Asks for the rates of the flows.
     Rates,
+    /// Says something of the network of links that routes lead over.
+    Network(NetworkLine),
+    /// Asks for the rates of the flows over routes.
+    Routes,
     /// Asks something of the scheduler. A message is said by its length, and has zero bytes.
     Schedule(Call<u64, usize>),
+}
+
+/// What a line says of a network.
+#[derive(Clone, Copy, Debug, PartialEq, Eq)]
+pub enum NetworkLine {
+    /// A flow uses a link.
+    Hop { flow: u64, link: u64 },
+    /// From now on the flows that use a link have this cap together, in bytes a second.
+    Cap { link: u64, cap: Option<u128> },
+    /// From now on a flow has this weight.
+    Weight { flow: u64, weight: NonZeroU64 },
 }
 
 impl Command {
@@ -98,6 +114,39 @@ impl Command {
                 cap: words.small_cap()?,
             })),
             "next" => Some(Command::Schedule(Call::Next)),
+            _ => Command::take_of_network(name, words),
+        }
+    }
+
+    /// Takes the words of a command about a network after its name.
+    fn take_of_network(name: &str, words: &mut Words<'_>) -> Option<Command>
+        requires enqueue { name.now ≢ codes "enqueue" }
+        requires advance { name.now ≢ codes "advance" }
+        requires flow { name.now ≢ codes "flow" }
+        requires egress { name.now ≢ codes "egress" }
+        requires ingress { name.now ≢ codes "ingress" }
+        requires link { name.now ≢ codes "link" }
+        requires rates { name.now ≢ codes "rates" }
+        requires limit { name.now ≢ codes "limit" }
+        requires limitlink { name.now ≢ codes "limitlink" }
+        requires next { name.now ≢ codes "next" }
+        ensures { Takes command_words IsCommandInRange (name.now ∷ words_left words.old) result
+            (words_left words.new) }
+    {
+        match name {
+            "hop" => Some(Command::Network(NetworkLine::Hop {
+                flow: words.number()?,
+                link: words.number()?,
+            })),
+            "cap" => Some(Command::Network(NetworkLine::Cap {
+                link: words.number()?,
+                cap: words.cap()?,
+            })),
+            "weight" => Some(Command::Network(NetworkLine::Weight {
+                flow: words.number()?,
+                weight: words.weight()?,
+            })),
+            "routes" => Some(Command::Routes),
             _ => None,
         }
     }

@@ -29,7 +29,7 @@ pub(crate) fn make(
 
 /// Sends messages at one moment, in order, as a whole or not at all. A refusal changes nothing.
 #[tactic(auto, using(crate::proofs::Scheduling::may_refuse_for_memory))]
-pub(crate) fn send_all(
+pub fn send_all(
     alloc: Global,
     zeros: &mut Zeros,
     scheduler: &mut State<u64>,

@@ -6,29 +6,31 @@ ghost use Rattle.fair_rates.specs.Sides.Caps.{no_caps};
 ghost use Rattle.link_pairs.specs.Pairs.Entries.{pair_cmp};
 ghost use Rattle.fair_rates.specs.Fairness.UnderCaps.{IsFairById};
 ghost use Rattle.fair_rates.specs.Refusals.TooLarge.{AreTooLarge};
+ghost use Rattle.fair_routes.specs.Network.Told.{IsToldNothing, IsToldTheSame};
 ghost use Rattle.link_scheduler.specs.Calls.Replay.{IsAnswered, MayRefuseCall};
 ghost use Rattle.link_scheduler.specs.Calls.State.{planned_of};
 ghost use Rattle.link_scripts.specs.Schedule.{zeroed, zeroed_sends, AnswersEach};
 ghost use Rattle.link_scripts.specs.Session.{Says, SaysSame, KeepsPlanned, SaysAfter, AnswersTo, MayRefuseCommand};
-ghost use Rattle.link_scripts.specs.Session.{said_caps};
+ghost use Rattle.link_scripts.specs.Session.{said_caps, IsToldLine};
 ghost use Rattle.link_scripts.specs.Session.{with_said_cap, with_said_link};
 ghost use Rattle.link_simulation.specs.Rule.Planned.{new_planned};
 ghost use Rattle.link_simulation.specs.Simulation.Calls.{call_enqueue_all};
 
 use crate::linkrun::answer::Answer;
-use crate::linkrun::command::Command;
+use crate::linkrun::command::{Command, NetworkLine};
 use crate::linkrun::schedule;
 use crate::linkrun::zeros::Zeros;
 use fair_rates::bandwidth;
 use fair_rates::bandwidth::{Flow, Rate};
 use fair_rates::error::Error;
+use fair_routes::routes::network::Network;
 use link_scheduler::replay::Reply;
 use link_scheduler::transmitter::{Outgoing, State};
 use std::alloc::Global;
 use std::collections::BTreeMap;
 
 /// What a script has said so far: its flows in order, the caps of peers and links for their rates,
-/// in bytes a second, and its scheduler, which has caps of its own.
+/// in bytes a second, its network, and its scheduler, which has caps of its own.
 #[derive(Drop)]
 pub(crate) struct Session {
     alloc: Global,
@@ -37,6 +39,8 @@ pub(crate) struct Session {
     ingress: BTreeMap<u64, u128>,
     /// By origin and recipient.
     links: BTreeMap<(u64, u64), u128>,
+    /// Links that flows over routes use, which have numbers and caps of their own.
+    network: Network,
     scheduler: State<u64>,
     /// The bytes of its messages.
     zeros: Zeros,
@@ -46,6 +50,7 @@ impl Session {
     /// Nothing is said.
     pub(crate) fn new(alloc: Global) -> Session
         ensures said { Says result [] no_caps }
+        ensures network { IsToldNothing result.network }
         ensures scheduler { planned_of result.scheduler ≡ new_planned 0 }
     {
         Session {
@@ -54,6 +59,7 @@ impl Session {
             egress: BTreeMap::new(alloc),
             ingress: BTreeMap::new(alloc),
             links: BTreeMap::new(alloc),
+            network: Network::new(alloc),
             scheduler: State::new(alloc),
             zeros: Zeros::new(),
         }
@@ -76,6 +82,8 @@ impl Session {
                 cap,
             } => set_link(&mut self.links, origin, recipient, cap)?,
             Command::Rates => return Ok(Answer::Rates(self.rates()?)),
+            Command::Network(line) => tell(&mut self.network, line)?,
+            Command::Routes => return Ok(Answer::Routes(self.network.rates()?)),
             Command::Schedule(call) => {
                 let reply = schedule::make(
                     self.alloc,
@@ -168,4 +176,17 @@ fn set_link(
         }
     }
     Ok(())
+}
+
+/// Tells the network what a line says. A line that is refused tells it nothing.
+fn tell(network: &mut Network, line: NetworkLine) -> Result<(), Error>
+    ensures told { OnOk result (IsToldLine line network.old network.new) }
+    ensures kept { OnErr result (IsToldTheSame network.old network.new) }
+    ensures refused { IfErr result (λ e. e ≡ Error.OutOfMemory) }
+{
+    match line {
+        NetworkLine::Hop { flow, link } => network.add_link(flow, link),
+        NetworkLine::Cap { link, cap } => network.set_cap(link, cap),
+        NetworkLine::Weight { flow, weight } => network.set_weight(flow, weight),
+    }
 }

@@ -3,7 +3,9 @@ ghost use Rattle.std.specs.Prelude.{◌≡◌, ◌↔◌, ℕ, ◌^◌, ◌<◌,
 ghost use Rattle.std.specs.Option.{option_copied, SomeIff};
 ghost use Rattle.std.specs.Str.Parse.{AllDigits, digits_value};
 ghost use Rattle.link_scripts.specs.Script.{Takes, number_word, cap_word, flag_word, IsNumberInRange, IsCapInRange};
-ghost use Rattle.link_scripts.specs.Script.{IsSmallCapInRange, IsLengthInRange};
+ghost use Rattle.link_scripts.specs.Script.{IsSmallCapInRange, IsLengthInRange, IsWeightInRange, weight_word};
+
+use std::num::NonZeroU64;
 
 /// The most bytes that a message has.
 const MOST_LENGTH: usize = 67_108_864;
@@ -52,7 +54,7 @@ impl<'a> Words<'a> {
     }
 
     /// Takes the next word, a cap in bytes a second or `-` for none.
-    pub(crate) fn cap(&mut self) -> Option<Option<u128>>
+    pub fn cap(&mut self) -> Option<Option<u128>>
         ensures { Takes (λ cap. cap_word cap ∷ []) IsCapInRange (words_left self.old) result (words_left self.new) }
     {
         match self.next()? {
@@ -73,7 +75,7 @@ impl<'a> Words<'a> {
     }
 
     /// Takes the next word, the length of a message.
-    pub(crate) fn length(&mut self) -> Option<usize>
+    pub fn length(&mut self) -> Option<usize>
         ensures { Takes (λ n. number_word n ∷ []) IsLengthInRange (words_left self.old) result (words_left self.new) }
     {
         let length = number(self.next()?)? as usize;
@@ -81,6 +83,13 @@ impl<'a> Words<'a> {
             return None;
         }
         Some(length)
+    }
+
+    /// Takes the next word, the weight of a flow.
+    pub(crate) fn weight(&mut self) -> Option<NonZeroU64>
+        ensures { Takes (λ w. weight_word w ∷ []) IsWeightInRange (words_left self.old) result (words_left self.new) }
+    {
+        NonZeroU64::new(self.number()?)
     }
 
     /// Takes the next word, `0` or `1`.

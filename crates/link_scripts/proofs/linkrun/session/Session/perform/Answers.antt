@@ -8,12 +8,15 @@ returns-in_err-reply-in-Schedule-clause-kept c =
     err_from_is_err_and c.from_residual-in_err-reply-in-Schedule.result
     c.from_residual-in_err-reply-in-Schedule.ensures.1 in
     rw p.1 (
-      record {
-        flows_are = refl;
-        egress_is = λ peer. refl;
-        ingress_is = λ peer. refl;
-        link_is = λ origin recipient. refl;
-      },
+      (
+        record {
+          flows_are = refl;
+          egress_is = λ peer. refl;
+          ingress_is = λ peer. refl;
+          link_is = λ origin recipient. refl;
+        },
+        record { routes_are = λ flow. refl; caps_are = λ link. refl; weights_are = λ flow. refl },
+      ),
       c.in_err-reply-in-Schedule.ensures.unchanged,
     )
 

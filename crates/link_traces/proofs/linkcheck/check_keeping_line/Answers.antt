@@ -2,14 +2,14 @@ use Rattle.std.proofs.Common.{◌≡◌, ℕ, IfOk, IfSome, ap, subst}
 use Rattle.link_traces.specs.declared.linkcheck.report.Verdict.TheVariants as verdicts
 use Rattle.link_traces.specs.Trace.{IsAgreed, IsAllowed}
 use Rattle.link_traces.proofs.Reading.{new_reader}
-use Rattle.link_traces.proofs.linkcheck.check.Goals as goal
+use Rattle.link_traces.proofs.linkcheck.check_keeping_line.Goals as goal
 
 pub returns-clause-agrees : goal.returns-clause-agrees
 returns-clause-agrees g c =
     let same =
-    new_reader (λ i. g.R.Read.remaining i.now) c.in-Ok-new.reader _
-    (ap (λ i. g.R.Read.remaining i.now) c.in-Ok-new.ensures.inner) c.in-Ok-new.ensures.empty
-    c.in-Ok-new.ensures.capacity in
+    new_reader (λ i. g.R.Read.remaining i.now) c.in-Ok.reader _
+    (ap (λ i. g.R.Read.remaining i.now) c.in-Ok.ensures.inner) c.in-Ok.ensures.empty
+    c.in-Ok.ensures.capacity in
     subst
     (λ k. IfOk c.check_lines.result (λ report. report.verdict ≡ verdicts.Agrees
     → IfSome k (λ bytes. IsAgreed bytes report))) same c.check_lines.ensures.agrees
@@ -17,9 +17,9 @@ returns-clause-agrees g c =
 pub returns-clause-within : goal.returns-clause-within
 returns-clause-within g c =
     let same =
-    new_reader (λ i. g.R.Read.remaining i.now) c.in-Ok-new.reader _
-    (ap (λ i. g.R.Read.remaining i.now) c.in-Ok-new.ensures.inner) c.in-Ok-new.ensures.empty
-    c.in-Ok-new.ensures.capacity in
+    new_reader (λ i. g.R.Read.remaining i.now) c.in-Ok.reader _
+    (ap (λ i. g.R.Read.remaining i.now) c.in-Ok.ensures.inner) c.in-Ok.ensures.empty
+    c.in-Ok.ensures.capacity in
     subst
     (λ k. IfOk c.check_lines.result (λ report. (off : ℕ) → report.verdict ≡ verdicts.Within off
     → IfSome k (λ bytes. IsAllowed bytes off))) same c.check_lines.ensures.within
