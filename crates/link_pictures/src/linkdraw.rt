@@ -3,23 +3,38 @@ ghost use Rattle.std.specs.Prelude.{IfOk};
 ghost use Rattle.link_scripts.specs.Outcome.{CountsFromOne};
 
 mod board;
+mod budget;
 mod caps;
+mod exact;
+mod field;
 mod frame;
+mod head;
 mod history;
 mod labels;
+mod layout;
+mod options;
+mod page;
+mod page_text;
 mod paint;
 mod picture;
 mod rows;
 mod stacks;
+mod sums;
+mod table;
 mod track;
 
+use board::Board;
+pub use field::Lines;
 use history::History;
+use layout::Layout;
 use link_scripts::linkrun::command::Command;
 use link_scripts::linkrun::line::LineEnd;
 use link_scripts::linkrun::{Outcome, line};
+pub use options::{Form, Options};
 use std::alloc::Global;
 use std::io;
-use std::io::{BufReader, BufWriter, Read, Write};
+use std::io::{BufReader, BufWriter, ErrorKind, Read, Write};
+pub use table::Table;
 
 /// Runs the script that `input` gives, and writes a picture of the run on `output`: one SVG.
 ///
@@ -37,9 +52,24 @@ use std::io::{BufReader, BufWriter, Read, Write};
 pub fn run<R: Read, W: Write>(alloc: Global, input: &mut R, output: &mut W) -> Outcome
     ensures { CountsFromOne result }
 {
-    let mut history = History::new(alloc);
+    draw(alloc, input, output, &Options::new(alloc))
+}
+
+/// The same, as the options say.
+pub fn draw<R: Read, W: Write>(
+    alloc: Global,
+    input: &mut R,
+    output: &mut W,
+    options: &Options,
+) -> Outcome
+    ensures { CountsFromOne result }
+{
+    let mut history = History::new(alloc, matches!(options.form, Form::Table(_, _)));
     match read_script(alloc, input, &mut history) {
-        Outcome::Whole => write_picture(alloc, &history, output),
+        Outcome::Whole => match history.conclude(options) {
+            Ok(time) => write(alloc, &history, options, time, output),
+            Err(_) => Outcome::NoMemory,
+        },
         outcome => outcome,
     }
 }
@@ -90,20 +120,44 @@ fn read_lines<R: Read>(
     Ok(Outcome::InputOutput)
 }
 
-/// Writes the picture of a run.
-fn write_picture<W: Write>(alloc: Global, history: &History, output: &mut W) -> Outcome
+/// Writes what is asked for.
+fn write<W: Write>(
+    alloc: Global,
+    history: &History,
+    options: &Options,
+    time: (u64, u64),
+    output: &mut W,
+) -> Outcome
     ensures { CountsFromOne result }
 {
-    let frame = history.frame();
-    let Ok(mut board) = board::Board::new(alloc, frame.columns()) else {
-        return Outcome::NoMemory;
-    };
     let Ok(mut writer) = BufWriter::new(alloc, output) else {
         return Outcome::NoMemory;
     };
-    let drawn = picture::draw(&mut writer, history, frame, &mut board);
-    match (drawn, writer.flush()) {
+    let written = match options.form {
+        Form::Table(table, lines) => table::write(&mut writer, history, options, table, lines),
+        _ => draw_picture(alloc, &mut writer, history, options, time),
+    };
+    match (written, writer.flush()) {
         (Ok(()), Ok(())) => Outcome::Whole,
+        (Err(error), _) if error.kind() == ErrorKind::OutOfMemory => Outcome::NoMemory,
         _ => Outcome::InputOutput,
+    }
+}
+
+/// Draws the picture of a run. Where memory was refused, that is the kind of its error.
+fn draw_picture<W: Write>(
+    alloc: Global,
+    out: &mut W,
+    history: &History,
+    options: &Options,
+    time: (u64, u64),
+) -> io::Result<()> {
+    let Ok(layout) = Layout::new(history, options, time) else {
+        return Err(io::Error::from(ErrorKind::OutOfMemory));
+    };
+    let mut board = Board::new(alloc, layout.frame.columns())?;
+    match options.form {
+        Form::Page => page::write(out, history, options, &layout, &mut board),
+        _ => picture::draw(out, history, options, &layout, &mut board),
     }
 }

@@ -1,10 +1,11 @@
-//! Draws the run of a script, as one SVG on standard output.
+//! Draws the run of a script on standard output: an SVG, a page, or a table.
 #![tactic(auto)]
 
 mod arguments;
 
 use crate::arguments::{HELP, Task, VERSION, read_arguments};
 use link_pictures::linkdraw;
+use link_pictures::linkdraw::Options;
 use link_scripts::linkrun::Outcome;
 use std::fs::File;
 use std::io::{IsTerminal, Read};
@@ -25,8 +26,10 @@ fn main(rt: HostRuntime) -> ExitCode {
             let _ = eprintln!(rt; "linkdraw: `{word}` is not known: see linkdraw --help");
             ExitCode::from(USAGE)
         }
-        Ok(Task::Standard) => draw_standard_input(&rt),
-        Ok(Task::File(name)) => draw_file(&rt, &name),
+        Ok(Task::Draw(options, file)) => match file {
+            None => draw_standard_input(&rt, &options),
+            Some(name) => draw_file(&rt, &name, &options),
+        },
     }
 }
 
@@ -39,9 +42,9 @@ fn print(rt: &HostRuntime, text: &str) -> ExitCode {
 }
 
 /// Draws the script in a file.
-fn draw_file(rt: &HostRuntime, name: &str) -> ExitCode {
+fn draw_file(rt: &HostRuntime, name: &str, options: &Options) -> ExitCode {
     match File::open(rt, name) {
-        Ok(mut file) => draw(rt, &mut file),
+        Ok(mut file) => draw(rt, &mut file, options),
         Err(error) => {
             let _ = eprintln!(rt; "linkdraw: {name}: {error}");
             ExitCode::FAILURE
@@ -50,17 +53,17 @@ fn draw_file(rt: &HostRuntime, name: &str) -> ExitCode {
 }
 
 /// Draws the script on standard input. Says so where a terminal is that.
-fn draw_standard_input(rt: &HostRuntime) -> ExitCode {
+fn draw_standard_input(rt: &HostRuntime, options: &Options) -> ExitCode {
     let mut input = rt.stdin();
     if input.is_terminal() {
         let _ = rt.eprintln("linkdraw: reads a script from this terminal, to its end (Ctrl-D)");
     }
-    draw(rt, &mut input)
+    draw(rt, &mut input, options)
 }
 
 /// Draws a script.
-fn draw<R: Read>(rt: &HostRuntime, input: &mut R) -> ExitCode {
-    let outcome = linkdraw::run(rt.alloc(), input, &mut rt.stdout());
+fn draw<R: Read>(rt: &HostRuntime, input: &mut R, options: &Options) -> ExitCode {
+    let outcome = linkdraw::draw(rt.alloc(), input, &mut rt.stdout(), options);
     if outcome != Outcome::Whole {
         let _ = rt.eprintln(outcome);
     }

@@ -4,26 +4,32 @@ use super::frame::Frame;
 use super::track::Piece;
 use std::alloc::{AllocError, Global};
 
-/// For each column a lower and an upper rate, in millionths of a byte a second.
+/// For each column a lower and an upper rate, in millionths of a byte a second, and for how long
+/// something is so in it, in nanoseconds. Rates are means over the time of their column.
 #[derive(Drop)]
 pub(crate) struct Board {
     pub(crate) low: Vec<u128>,
     pub(crate) high: Vec<u128>,
+    pub(crate) held: Vec<u64>,
 }
 
 impl Board {
-    /// All rates are zero.
+    /// All is zero.
     pub(crate) fn new(alloc: Global, columns: usize) -> Result<Board, AllocError> {
         Ok(Board {
             low: vec![in alloc; 0u128; columns]?,
             high: vec![in alloc; 0u128; columns]?,
+            held: vec![in alloc; 0u64; columns]?,
         })
     }
 
-    /// All rates are zero.
+    /// All is zero.
     pub(crate) fn clear(&mut self) {
         set_all(&mut self.low, 0);
         set_all(&mut self.high, 0);
+        for time in self.held.iter_mut() {
+            *time = 0;
+        }
     }
 
     /// What was the upper rate is the lower one, too.
@@ -33,40 +39,44 @@ impl Board {
         }
     }
 
-    /// The upper rate is at least that of each piece in a column that the piece touches.
-    pub(crate) fn touch(&mut self, frame: Frame, pieces: &[Piece]) {
-        for piece in pieces {
-            let from = frame.column(piece.from);
-            let to = frame.next_column(piece.to).max(from.saturating_add(1));
-            for column in from..to {
-                if let Some(rate) = self.high.get_mut(column) {
-                    *rate = piece.rate.max(*rate);
-                }
-            }
-        }
-    }
-
-    /// The upper rate grows by that of each piece where a column begins in it. A message that is to
-    /// be dropped counts where that is said.
+    /// The upper rates grow by those of the pieces. A message that is to be dropped counts where
+    /// that is said.
     pub(crate) fn add(&mut self, frame: Frame, pieces: &[Piece], with_dropped: bool) {
         for piece in pieces {
-            if !with_dropped && !piece.should_deliver {
-                continue;
-            }
-            let to = frame.next_column(piece.to);
-            for column in frame.next_column(piece.from)..to {
-                if let Some(rate) = self.high.get_mut(column) {
-                    *rate = rate.saturating_add(piece.rate);
-                }
+            if with_dropped || piece.should_deliver {
+                self.spread(frame, piece.from, piece.to, piece.rate);
             }
         }
     }
 
-    /// The lower rate is that one from a moment on.
-    pub(crate) fn lower_from(&mut self, frame: Frame, moment: u64, rate: u128) {
-        for column in frame.next_column(moment)..frame.columns() {
-            if let Some(low) = self.low.get_mut(column) {
-                *low = rate;
+    /// The upper rates grow by that one for a time.
+    pub(crate) fn spread(&mut self, frame: Frame, from: u64, to: u64, rate: u128) {
+        let (from, to) = frame.cut(from, to);
+        if to <= from || rate == 0 {
+            return;
+        }
+        let first = frame.column(from);
+        let last = frame.column(to.saturating_sub(1));
+        for column in first..last.saturating_add(1) {
+            if let Some(high) = self.high.get_mut(column) {
+                *high = high.saturating_add(share(frame, column, from, to, rate));
+            }
+        }
+    }
+
+    /// Something is so for a time.
+    pub(crate) fn hold(&mut self, frame: Frame, from: u64, to: u64) {
+        let (from, to) = frame.cut(from, to);
+        if to <= from {
+            return;
+        }
+        let first = frame.column(from);
+        let last = frame.column(to.saturating_sub(1));
+        for column in first..last.saturating_add(1) {
+            if let Some(held) = self.held.get_mut(column) {
+                let begin = frame.edge(column).max(from);
+                let end = frame.edge(column.saturating_add(1)).min(to);
+                *held = held.saturating_add(end.saturating_sub(begin));
             }
         }
     }
@@ -78,6 +88,21 @@ impl Board {
             peak = peak.max(*rate);
         }
         peak
+    }
+}
+
+/// What a rate for a time adds to the mean of a column.
+fn share(frame: Frame, column: usize, from: u64, to: u64, rate: u128) -> u128 {
+    let begin = frame.edge(column);
+    let end = frame.edge(column.saturating_add(1));
+    if from <= begin && end <= to {
+        return rate;
+    }
+    let over = u128::from(end.min(to).saturating_sub(begin.max(from)));
+    let all = u128::from(end.saturating_sub(begin)).max(1);
+    match rate.checked_mul(over) {
+        Some(times) => times / all,
+        None => (rate / all).saturating_mul(over),
     }
 }
 

@@ -4,7 +4,7 @@
 pub(crate) const WIDTH: u64 = 2000;
 
 /// Where time begins.
-pub(crate) const LEFT: u64 = 220;
+pub(crate) const LEFT: u64 = 240;
 
 /// How far time goes from there.
 pub(crate) const SPAN: u64 = 1600;
@@ -18,19 +18,15 @@ pub(crate) struct Frame {
 }
 
 impl Frame {
-    /// The time from `first` to `last` in columns of whole units, of which there are no more than
-    /// `most` where that is at least one.
+    /// The time from `first` to `last` in no more than `most` columns, each of which is a nanosecond
+    /// and half a pixel at least.
     pub(crate) fn new(first: u64, last: u64, most: u64) -> Frame {
-        let mut columns = SPAN;
-        for fewer in [800, 400, 200, 100, 50] {
-            if columns > most {
-                columns = fewer;
-            }
-        }
+        let last = last.max(first);
+        let time = last.saturating_sub(first);
         Frame {
             first,
             last,
-            columns,
+            columns: most.min(SPAN).min(time).max(1),
         }
     }
 
@@ -47,36 +43,56 @@ impl Frame {
         self.last
     }
 
-    /// The column that a moment is in.
-    pub(crate) fn column(&self, moment: u64) -> usize {
-        let passed = u128::from(moment.saturating_sub(self.first));
-        let all = u128::from(self.last.saturating_sub(self.first).max(1));
-        let column = passed.saturating_mul(u128::from(self.columns)) / all;
-        usize::try_from(column)
-            .unwrap_or(usize::MAX)
-            .min(self.columns as usize)
+    /// How long the picture is. It is never zero.
+    pub(crate) fn time(&self) -> u64 {
+        self.last.saturating_sub(self.first).max(1)
     }
 
-    /// The first column that begins at a moment or after it.
-    pub(crate) fn next_column(&self, moment: u64) -> usize {
-        let passed = u128::from(moment.saturating_sub(self.first));
-        let all = u128::from(self.last.saturating_sub(self.first).max(1));
-        let column = passed
-            .saturating_mul(u128::from(self.columns))
-            .div_ceil(all);
-        usize::try_from(column)
-            .unwrap_or(usize::MAX)
-            .min(self.columns as usize)
+    /// The part of a time that is in the picture, from and to. It is none where both are one.
+    pub(crate) fn cut(&self, from: u64, to: u64) -> (u64, u64) {
+        (
+            from.max(self.first).min(self.last),
+            to.max(self.first).min(self.last),
+        )
+    }
+
+    /// The column that a moment is in.
+    pub(crate) fn column(&self, moment: u64) -> usize {
+        let passed = moment.saturating_sub(self.first);
+        let column = part(passed, self.columns, self.time());
+        column.min(self.columns.saturating_sub(1)) as usize
+    }
+
+    /// The moment at which a column begins.
+    pub(crate) fn edge(&self, column: usize) -> u64 {
+        let columns = self.columns.max(1);
+        let times = u128::from(self.time()).saturating_mul(column as u128);
+        let passed = times.div_ceil(u128::from(columns));
+        let passed = u64::try_from(passed).unwrap_or(u64::MAX);
+        self.first.saturating_add(passed).min(self.last)
     }
 
     /// Where a column begins.
-    pub(crate) fn edge(&self, column: usize) -> u64 {
-        let width = SPAN / self.columns.max(1);
-        (column as u64).saturating_mul(width).saturating_add(LEFT)
+    pub(crate) fn x(&self, column: usize) -> u64 {
+        let column = (column as u64).min(self.columns);
+        LEFT.saturating_add(part(column, SPAN, self.columns))
     }
 
     /// Where a moment stands.
     pub(crate) fn at(&self, moment: u64) -> u64 {
-        self.edge(self.column(moment))
+        let passed = moment.saturating_sub(self.first).min(self.time());
+        LEFT.saturating_add(part(passed, SPAN, self.time()))
+    }
+}
+
+/// Of `all` parts of `whole` as many as `count`, rounded down.
+fn part(count: u64, whole: u64, all: u64) -> u64 {
+    let all = all.max(1);
+    match count.checked_mul(whole) {
+        Some(times) => times / all,
+        None => {
+            let times = u128::from(count).saturating_mul(u128::from(whole));
+            u64::try_from(times / u128::from(all)).unwrap_or(u64::MAX)
+        }
     }
 }

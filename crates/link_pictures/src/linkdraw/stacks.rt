@@ -1,82 +1,119 @@
-//! The rows of capped peers and links.
+//! The rows of caps, and of what peers send and receive.
 
 use super::board::Board;
 use super::caps::{Cap, Side};
 use super::frame::{Frame, LEFT, SPAN};
-use super::history::{History, MILLION};
+use super::history::History;
 use super::labels::Pace;
-use super::paint::{Band, fill, line, mark_full};
+use super::paint::{Band, fill, fill_between, line, mark_quarter};
+use super::sums::Stretch;
 use std::io;
 use std::io::Write;
 
-/// How high the row of a capped side is.
-pub(crate) const STACK: u64 = 120;
+/// Parts of a whole cap.
+const WHOLE: u128 = 1_000_000;
 
-/// How high the greatest rate or cap of a row stands.
-const RATES: u64 = 80;
+/// Rows that are at least so high tell the pairs apart.
+const STACKED: u64 = 16;
 
-/// Draws the row of a capped side, whose top is there.
-pub(crate) fn draw_side<W: Write>(
+/// Draws the row of a cap, whose top is there: how much of it is used, and when it is full.
+pub(crate) fn draw_cap<W: Write>(
     out: &mut W,
     history: &History,
     frame: Frame,
     board: &mut Board,
-    top: u64,
+    place: (u64, u64),
     side: Side,
+    stretches: &[Stretch],
 ) -> io::Result<()> {
-    let Some(caps) = history.caps.get(&side) else {
-        return Ok(());
-    };
-    let most = sum_up(history, frame, board, side);
+    let (top, pitch) = place;
     let band = Band {
-        foot: top.saturating_add(104),
-        height: RATES,
-        full: board.peak().max(greatest(caps)),
+        foot: top.saturating_add(pitch).saturating_sub(2),
+        height: pitch.saturating_sub(4),
+        full: WHOLE,
     };
-    draw_labels(out, band, side, caps)?;
-    if history.is_detailed() {
-        draw_stack(out, history, frame, board, band, side)?;
-    } else {
-        draw_sum(out, frame, board, band)?;
+    sum_up(board, history, frame, stretches);
+    draw_foot(out, band.foot)?;
+    write!(out, "<path class=\"z\" d=\"")?;
+    fill(out, frame, board, band)?;
+    writeln!(out, "\"><title>{side}: use of its cap</title></path>")?;
+    for quarter in 1u64..5 {
+        write!(out, "<path class=\"u{quarter}\" d=\"")?;
+        mark_quarter(out, frame, board, quarter, band.foot, band.height)?;
+        writeln!(out, "\"/>")?;
     }
-    draw_caps(out, frame, board, band, caps)?;
-    write!(out, "<path class=\"u\" d=\"")?;
-    let height = band.foot.saturating_sub(RATES).saturating_sub(6);
-    mark_full(out, frame, board, height, most)?;
-    writeln!(out, "\"><title>full</title></path>")
+    Ok(())
 }
 
-/// Sums up the rates of all that counts, and answers how many pairs there are.
-fn sum_up(history: &History, frame: Frame, board: &mut Board, side: Side) -> u128 {
+/// The use of a cap in each column, and for how long it is full.
+pub(crate) fn sum_up(board: &mut Board, history: &History, frame: Frame, stretches: &[Stretch]) {
     board.clear();
-    let mut pairs = 0u128;
+    for stretch in stretches {
+        if let Some(cap) = stretch.cap {
+            let used = share(stretch.rate, cap);
+            board.spread(frame, stretch.from, stretch.to, used);
+            if stretch.is_full(history.short(cap)) {
+                board.hold(frame, stretch.from, stretch.to);
+            }
+        }
+    }
+}
+
+/// How much of a cap a rate is, in millionths, and no more than all of it.
+fn share(rate: u128, cap: u128) -> u128 {
+    let cap = cap.max(1);
+    let share = match rate.checked_mul(WHOLE) {
+        Some(times) => times / cap,
+        None => rate / (cap / WHOLE).max(1),
+    };
+    share.min(WHOLE)
+}
+
+/// Sums up the rates of what a peer sends or receives.
+pub(crate) fn add_side(board: &mut Board, history: &History, frame: Frame, side: Side) {
+    board.clear();
     for (pair, track) in &history.tracks {
         if side.holds(pair.0, pair.1) {
             board.add(frame, &track.pieces, side.holds_dropped());
-            pairs = pairs.saturating_add(1);
         }
     }
-    pairs
 }
 
-/// The name of the side and the rate that takes all of the height, and the foot of the row.
-fn draw_labels<W: Write>(out: &mut W, band: Band, side: Side, caps: &[Cap]) -> io::Result<()> {
-    let foot = band.foot;
-    let name = foot.saturating_sub(30);
-    let above = foot.saturating_sub(RATES).saturating_add(14);
+/// Draws the row of what a peer sends or receives, whose top is there.
+pub(crate) fn draw_peer<W: Write>(
+    out: &mut W,
+    history: &History,
+    frame: Frame,
+    board: &mut Board,
+    place: (u64, u64),
+    side: Side,
+    full: u128,
+    is_detailed: bool,
+) -> io::Result<()> {
+    let (top, pitch) = place;
+    let band = Band {
+        foot: top.saturating_add(pitch).saturating_sub(2),
+        height: pitch.saturating_sub(4),
+        full,
+    };
+    draw_foot(out, band.foot)?;
+    if is_detailed && pitch >= STACKED {
+        draw_stack(out, history, frame, board, band, side)?;
+    } else {
+        add_side(board, history, frame, side);
+        write!(out, "<path class=\"z\" d=\"")?;
+        fill(out, frame, board, band)?;
+        writeln!(out, "\"><title>{side}</title></path>")?;
+    }
+    match history.caps.get(&side) {
+        Some(caps) if pitch >= STACKED => draw_caps(out, frame, band, caps),
+        _ => Ok(()),
+    }
+}
+
+/// The foot of a row.
+fn draw_foot<W: Write>(out: &mut W, foot: u64) -> io::Result<()> {
     let right = LEFT.saturating_add(SPAN);
-    let beside = right.saturating_add(10);
-    let peak = Pace(band.full);
-    let changes = caps.len();
-    write!(
-        out,
-        "<g><title>{side}: its cap was set {changes} times</title>"
-    )?;
-    writeln!(
-        out,
-        "<text x=\"200\" y=\"{name}\" class=\"n\">{side}</text></g>"
-    )?;
-    writeln!(out, "<text x=\"{beside}\" y=\"{above}\">{peak}</text>")?;
     writeln!(out, "<path class=\"f\" d=\"M{LEFT} {foot}H{right}\"/>")
 }
 
@@ -90,68 +127,71 @@ fn draw_stack<W: Write>(
     side: Side,
 ) -> io::Result<()> {
     board.clear();
-    let mut count = 0u64;
     for (pair, track) in &history.tracks {
-        if side.holds(pair.0, pair.1) {
+        if side.holds(pair.0, pair.1) && !track.pieces.is_empty() {
             board.rise();
             board.add(frame, &track.pieces, side.holds_dropped());
             let (origin, recipient) = *pair;
-            let shade = count % 6;
-            write!(out, "<path class=\"c{shade}\" d=\"")?;
-            fill(out, frame, board, band)?;
+            let shade = track.shade;
+            write!(out, "<path class=\"p{shade}\" d=\"")?;
+            fill_between(out, frame, board, band)?;
             writeln!(out, "\"><title>{origin} → {recipient}</title></path>")?;
-            count = count.saturating_add(1);
         }
     }
     Ok(())
 }
 
-/// The sum of the rates.
-fn draw_sum<W: Write>(out: &mut W, frame: Frame, board: &Board, band: Band) -> io::Result<()> {
-    write!(out, "<path class=\"c0\" d=\"")?;
-    fill(out, frame, board, band)?;
-    writeln!(out, "\"/>")
-}
-
-/// The caps as a line. From then on the lower rates of the board are the caps.
-fn draw_caps<W: Write>(
-    out: &mut W,
-    frame: Frame,
-    board: &mut Board,
-    band: Band,
-    caps: &[Cap],
-) -> io::Result<()> {
-    board.lower_from(frame, 0, u128::MAX);
+/// The caps of the side as a line, where it is in the row.
+fn draw_caps<W: Write>(out: &mut W, frame: Frame, band: Band, caps: &[Cap]) -> io::Result<()> {
     write!(out, "<path class=\"k\" d=\"")?;
     for (place, cap) in caps.iter().enumerate() {
         let end = match caps.get(place.saturating_add(1)) {
             Some(next) => next.from,
             None => frame.last(),
         };
-        let rate = rate_of(*cap);
-        if cap.cap.is_some() {
-            line(out, frame.at(cap.from), frame.at(end), band.at(rate))?;
+        if let Some(rate) = cap.rate() {
+            if rate <= band.full && end >= frame.first() {
+                let height = band.foot.saturating_sub(band.up(rate));
+                line(out, frame.at(cap.from), frame.at(end), height)?;
+            }
         }
-        board.lower_from(frame, cap.from, rate);
     }
     writeln!(out, "\"/>")
 }
 
-/// The cap in millionths of a byte a second.
-fn rate_of(cap: Cap) -> u128 {
-    match cap.cap {
-        Some(cap) => cap as u128 * MILLION,
-        None => u128::MAX,
+/// The cap at the right of its row: what it is, or that it changes.
+pub(crate) fn draw_cap_name<W: Write>(
+    out: &mut W,
+    caps: &[Cap],
+    middle: u64,
+    pitch: u64,
+) -> io::Result<()> {
+    let y = middle.saturating_add(7);
+    let x = LEFT.saturating_add(SPAN).saturating_add(10);
+    let class = if pitch < 24 { "i" } else { "r" };
+    let mut first = None;
+    let mut changes = false;
+    for cap in caps {
+        if first.is_some() && first != Some(cap.cap) {
+            changes = true;
+        }
+        first = Some(cap.cap);
     }
+    write!(out, "<text x=\"{x}\" y=\"{y}\" class=\"{class}\">")?;
+    match first_rate(caps) {
+        Some(rate) if !changes => {
+            let pace = Pace(rate);
+            write!(out, "{pace}")?;
+        }
+        _ => write!(out, "changes")?,
+    }
+    writeln!(out, "</text>")
 }
 
-/// The greatest of the caps, in millionths of a byte a second.
-fn greatest(caps: &[Cap]) -> u128 {
-    let mut most = 1;
-    for cap in caps {
-        if cap.cap.is_some() {
-            most = rate_of(*cap).max(most);
-        }
+/// The first of the caps, in millionths of a byte a second.
+fn first_rate(caps: &[Cap]) -> Option<u128> {
+    match caps.first() {
+        Some(cap) => cap.rate(),
+        None => None,
     }
-    most
 }
