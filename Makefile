@@ -2,7 +2,7 @@
 script = examples/left_over.link
 seconds = 60
 
-.PHONY: run try test examples pictures bindings dist install bench networks hostile hostile_tests names torture clean
+.PHONY: run try test examples pictures looks bindings dist install bench simgrid networks hostile hostile_tests names torture clean
 
 # Proves the library and the program, builds the program as bin/linkrun, and runs it on a script.
 run: bin/linkrun
@@ -60,12 +60,19 @@ examples: bin/linkrun bin/linkcheck bin/linkdraw bin/networks
 	@for picture in docs/pictures/*.svg; do \
 		./bin/linkdraw examples/$$(basename $${picture%.svg}).link | cmp - $$picture && echo $$picture || exit 1; \
 	done
+	@./bin/linkdraw --table messages examples/broadcast_24.link | python3 examples/latencies.py \
+		| cmp - examples/latencies.out && echo examples/latencies.py
+	@python3 tests/tables.py bin/linkrun bin/linkdraw $$(ls examples/*.link examples/generated/*.link | grep -v broadcast_24)
 
 # Draws the pictures of docs/ anew.
 pictures: bin/linkdraw
 	@for picture in docs/pictures/*.svg; do \
 		./bin/linkdraw examples/$$(basename $${picture%.svg}).link > $$picture; \
 	done
+
+# Looks at pictures and pages of 2, 12 and 64 peers in Chromium, if that is there, and leaves screenshots in bin/looks.
+looks: bin/linkdraw
+	@python3 tests/pictures.py bin/linkdraw bin/looks
 
 # The library for C, Rust and Python, in bin/bindings, and the tests of each language whose tools are there. After the
 # gate, `make bindings over=gate` takes the libraries that it proved.
@@ -85,6 +92,11 @@ install:
 # Times of one allocation and of one message beside those of the Rust original. `make bench work="NAME .."` runs those alone.
 bench: bin/linkrun bin/broadcast bin/networks
 	python3 bench/run.py bin/linkrun bin/broadcast bin/networks $(work)
+
+# Times of rates over routes beside those of SimGrid, which has to be there (of Debian, libsimgrid-dev).
+simgrid: bin/networks
+	g++ -O2 -std=c++17 bench/simgrid.cpp -lsimgrid -o bin/simgrid
+	python3 bench/simgrid.py bin/networks bin/simgrid
 
 # Compares the rates of 10,000 random networks with a plain reckoning by fractions. Takes half a minute.
 networks: bin/networks

@@ -14,12 +14,17 @@ LINE = 256
 NUMBER = re.compile(rb"0|[1-9][0-9]*")
 U64, U128, LENGTH, BIT = 2 ** 64 - 1, 2 ** 128 - 1, 67108864, 1
 MAYBE = "-"  # a cap, which may be none
+WEIGHT = range(1, 2 ** 64)
 COLUMNS = {
     b"flow": [U64, U64, U64, BIT],
     b"egress": [U64, (U128, MAYBE)],
     b"ingress": [U64, (U128, MAYBE)],
     b"link": [U64, U64, (U128, MAYBE)],
     b"rates": [],
+    b"hop": [U64, U64],
+    b"cap": [U64, (U128, MAYBE)],
+    b"weight": [U64, WEIGHT],
+    b"routes": [],
     b"limit": [U64, U64, (U64, MAYBE), (U64, MAYBE)],
     b"limitlink": [U64, U64, U64, (U64, MAYBE)],
     b"enqueue": [U64, U64, U64, U64, LENGTH, U64, BIT],
@@ -42,7 +47,8 @@ def word(text, column):
     most, may_lack = column if isinstance(column, tuple) else (column, None)
     if may_lack and text == b"-":
         return None
-    if not NUMBER.fullmatch(text) or len(text) > 40 or int(text) > most:
+    least, most = (most[0], most[-1]) if isinstance(most, range) else (0, most)
+    if not NUMBER.fullmatch(text) or len(text) > 40 or not least <= int(text) <= most:
         raise ValueError
     return int(text)
 
@@ -56,8 +62,10 @@ def command(line):
     return name.decode(), [word(text, column) for text, column in zip(words, columns)]
 
 
-def fair(users, caps):
-    """The max-min fair rates: `users` has the sides of each flow, `caps` the caps of the sides. None is unlimited."""
+def fair(users, caps, weights=None):
+    """The max-min fair rates: `users` has the sides of each flow, `caps` the caps of the sides. None is unlimited. Where
+    flows have weights, each counts as often."""
+    weights = weights or [1] * len(users)
     rates = [None] * len(users)
     left = {side: Fraction(cap) for side, cap in caps.items()}
     rising = {flow for flow, sides in enumerate(users) if sides}
@@ -65,14 +73,14 @@ def fair(users, caps):
         counts = {}
         for flow in rising:
             for side in users[flow]:
-                counts[side] = counts.get(side, 0) + 1
+                counts[side] = counts.get(side, 0) + weights[flow]
         shares = {side: left[side] / count for side, count in counts.items()}
         level = min(shares.values())
         full = {flow for flow in rising if any(shares[side] == level for side in users[flow])}
         for flow in full:
-            rates[flow] = level
+            rates[flow] = level * weights[flow]
             for side in users[flow]:
-                left[side] -= level
+                left[side] -= rates[flow]
         rising -= full
     return rates
 
@@ -85,6 +93,15 @@ def rates_under(caps, flows):
         sides += [("ingress", recipient)] * delivered
         users.append([side for side in sides if caps.get(side) is not None])
     return fair(users, {side: cap for side, cap in caps.items() if cap is not None})
+
+
+def rates_over(caps, routes, weights):
+    """The fair rates of flows over routes, which are sets of links, by their weights."""
+    users = [[link for link in route if caps.get(link) is not None] for route in routes]
+    for link in {link for route in users for link in route}:
+        if sum(weight for route, weight in zip(users, weights) if link in route) > U64:
+            raise Refused(2)
+    return fair(users, {link: cap for link, cap in caps.items() if cap is not None}, weights)
 
 
 class Message:
@@ -214,12 +231,20 @@ class Script:
 
     def __init__(self):
         self.flows, self.caps, self.scheduler = [], {}, Scheduler()
+        self.routes, self.link_caps, self.weights = {}, {}, {}
 
     def rates(self):
-        rates = rates_under(self.caps, [flow[1:] for flow in self.flows])
+        return self.rated([flow[0] for flow in self.flows], rates_under(self.caps, [flow[1:] for flow in self.flows]))
+
+    def rates_of_routes(self):
+        weights = [self.weights.get(flow, 1) for flow in self.routes]
+        return self.rated(self.routes, rates_over(self.link_caps, list(self.routes.values()), weights))
+
+    def rated(self, flows, rates):
+        """The lines of these rates, of which the last of each flow counts."""
         if any(rate is not None and max(rate.numerator, rate.denominator) > U128 for rate in rates):
             raise Refused(2)
-        by_id = {flow[0]: rate for flow, rate in zip(self.flows, rates)}
+        by_id = dict(zip(flows, rates))
         return ["rate %d %s" % (flow, "unlimited" if by_id[flow] is None else
                                 "%d/%d" % (by_id[flow].numerator, by_id[flow].denominator)) for flow in sorted(by_id)]
 
@@ -247,6 +272,14 @@ class Script:
             self.caps[(name, *words[:-1])] = words[-1]
         elif name == "rates":
             return self.rates()
+        elif name == "hop":
+            self.routes.setdefault(words[0], set()).add(words[1])
+        elif name == "cap":
+            self.link_caps[words[0]] = words[1]
+        elif name == "weight":
+            self.weights[words[0]] = words[1]
+        elif name == "routes":
+            return self.rates_of_routes()
         elif name == "next":
             moment = self.scheduler.next()
             return ["next %s" % ("-" if moment is None else moment)]
@@ -273,8 +306,22 @@ def judge(script, status, printed, said, refusals=0):
     left = printed.split(b"\n")
     if left.pop() != b"":
         raise Wrong("the last line has no end")
+    said = without_count(said, left.count(NO_MEMORY))
     left.reverse()
     return follow(Script(), list(enumerate(script.split(b"\n"), 1)), left, (status, said), refusals)
+
+
+def without_count(said, refused):
+    """What is said but for its last line, which says how many commands were refused for want of memory."""
+    count = b"linkrun: %d refused for want of memory\n" % refused
+    if refused and not said.endswith(count):
+        raise Wrong("%d commands are refused for want of memory, and %r is said" % (refused, said))
+    return said[:-len(count)] if refused else said
+
+
+def is_bad_at(number, said):
+    """Whether that is said of the bad line of that number: a line, and then a line of why it is bad."""
+    return re.fullmatch(rb"bad line %d\ncolumn [1-9][0-9]{0,2}: [ -~]{1,389}\n" % number, said) is not None
 
 
 def follow(state, lines, left, end, refusals):
@@ -285,7 +332,7 @@ def follow(state, lines, left, end, refusals):
         try:
             name, words = command(line)
         except ValueError:
-            if end != (2, b"bad line %d\n" % number) or left:
+            if end[0] != 2 or not is_bad_at(number, end[1]) or left:
                 raise Wrong("line %d is bad, and the run ends with %d %r" % (number, *end)) from None
             return 0
         if refusals and name != "next" and left and left[-1] == NO_MEMORY:

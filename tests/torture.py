@@ -17,6 +17,7 @@ from hostile import Program
 PAUSES = [0, 1, 2, 1000, 10 ** 6, 10 ** 8, 10 ** 9, 3 * 10 ** 9]
 CAPS = [0, 1, 2, 3, 5, 7, 10, 100, 1000, 999983, 10 ** 9, 2 ** 32 - 1, 2 ** 63, 2 ** 64 - 1]
 LENGTHS = [0, 0, 1, 1, 2, 3, 5, 8, 100, 1000]
+NUMBERS = [0, 1, 2, 3, plain.LAST]  # of flows over routes, and of links
 FAULTS = [1, 1, 1, 3]  # the refusals in each of the runs of a script
 
 
@@ -51,8 +52,8 @@ class Writer:
         return self.chance.choice([*self.caps, *self.caps, "-"])
 
     def line(self):
-        kind = self.chance.choices(["limit", "limitlink", "enqueue", "advance", "next", "rates", "flow", "side"],
-                                   [10, 4, 40, 30, 10, 2, 4, 4])[0]
+        kind = self.chance.choices(["limit", "limitlink", "enqueue", "advance", "next", "rates", "flow", "side",
+                                    "hop", "cap", "weight", "routes"], [10, 4, 40, 30, 10, 2, 4, 4, 4, 3, 1, 2])[0]
         now = self.moment()
         if kind in ("limit", "limitlink", "enqueue", "advance"):
             self.now = now
@@ -72,6 +73,12 @@ class Writer:
             side = self.chance.choice(["egress %d" % self.peer(), "ingress %d" % self.peer(),
                                        "link %d %d" % (self.peer(), self.peer())])
             return "%s %s" % (side, self.chance.choice(CAPS + [2 ** 128 - 1, 2 ** 127 + 1, "-"]))
+        if kind == "hop":
+            return "hop %d %d" % (self.chance.choice(NUMBERS), self.chance.choice(NUMBERS))
+        if kind == "cap":
+            return "cap %d %s" % (self.chance.choice(NUMBERS), self.chance.choice(CAPS + [2 ** 128 - 1, "-"]))
+        if kind == "weight":
+            return "weight %d %d" % (self.chance.choice(NUMBERS), self.chance.choice([1, 2, 3, 7, 2 ** 62, plain.LAST]))
         return kind
 
     def script(self, lines):
