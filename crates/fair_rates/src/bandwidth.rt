@@ -18,6 +18,7 @@ ghost use Rattle.fair_rates.specs.Refusals.TooLarge.{IsTooLarge, AreTooLargeUnde
 mod alone;
 mod equality;
 mod filling;
+mod guesses;
 mod known;
 pub mod laws;
 mod numbers;
@@ -32,6 +33,7 @@ use crate::ratio::Ratio;
 pub use alone::parts_alone;
 pub use equality::rates_are_equal_by_value;
 pub use filling::fair_parts as fair_parts_on;
+pub use guesses::Guesses;
 pub use known::{Ends, KnownCaps};
 use natural::Natural;
 pub use parts::FairParts;
@@ -310,6 +312,7 @@ pub fn fair_parts<P: Peer, C: KnownCaps<P>>(
     alloc: Global,
     flows: &[Ends<P>],
     caps: &C,
+    guesses: &mut Guesses,
     scale: &Natural,
 ) -> Result<FairParts, Error>
     requires some_part { 0 < scale.now }
@@ -322,7 +325,7 @@ pub fn fair_parts<P: Peer, C: KnownCaps<P>>(
         [one] => Ok(alone::fair_parts_alone(alloc, one, caps, scale)?),
         [one, other] => Ok(pair::fair_parts_of_two(alloc, one, other, caps, scale)?),
         _ => {
-            let sides = sides::sides_under(alloc, flows, caps)?;
+            let sides = sides::sides_under(alloc, flows, caps, guesses)?;
             Ok(filling::fair_parts(alloc, flows.len(), sides, scale)?)
         }
     }
@@ -344,6 +347,7 @@ pub fn fair_parts_beside<P: Peer, C: KnownCaps<P>>(
     alloc: Global,
     flows: &[Ends<P>],
     caps: &C,
+    guesses: &mut Guesses,
     kept: &[Option<Rc<Natural>>],
     scale: &Natural,
 ) -> Result<FairParts, Error>
@@ -354,7 +358,7 @@ pub fn fair_parts_beside<P: Peer, C: KnownCaps<P>>(
     ensures refused { IfErr result (λ e. e ≡ Error.OutOfMemory) }
 {
     if none_is_kept(kept) {
-        return fair_parts(alloc, flows, caps, scale);
+        return fair_parts(alloc, flows, caps, guesses, scale);
     }
     if all_are_kept(kept) {
         return Ok(FairParts::new(alloc, kept.len(), scale)?);
@@ -372,7 +376,7 @@ pub fn fair_parts_beside<P: Peer, C: KnownCaps<P>>(
             }
         }
     }
-    let sides = sides::sides_under(alloc, flows, caps)?;
+    let sides = sides::sides_under(alloc, flows, caps, guesses)?;
     Ok(filling::fair_parts_beside(alloc, sides, kept, scale)?)
 }
 

@@ -29,7 +29,7 @@ use crate::flight::Flight;
 use crate::flight_list::Flights;
 use crate::loose::Loose;
 use fair_rates::bandwidth::{
-    Ends, FairParts, KnownCaps, fair_parts, fair_parts_beside, parts_alone,
+    Ends, FairParts, Guesses, KnownCaps, fair_parts, fair_parts_beside, parts_alone,
 };
 use fair_rates::error::Error;
 use fair_rates::peer::Peer;
@@ -218,7 +218,9 @@ impl<P: Peer> Flights<P> {
         ensures refused { IfErr result (λ e. e ≡ Error.OutOfMemory) }
     {
         let all = Component::whole(self.alloc);
-        let rates = self.rates_of_all(&all, peers, pairs)?;
+        let mut guesses = self.notes.take_guesses(self.alloc);
+        let rates = self.rates_of_all(&all, peers, pairs, &mut guesses)?;
+        self.notes.give_back_guesses(guesses);
         let levels = shared_levels(self.alloc, rates.levels)?;
         self.set_rates(
             &all,
@@ -345,6 +347,8 @@ impl<P: Peer> Flights<P> {
             origin: &one.message.origin,
             recipient: &one.message.recipient,
             delivered: one.message.is_delivered(),
+            sender: 0,
+            receiver: 0,
         };
         let rate = parts_alone(&ends, &CapsInForce { peers, pairs }, &self.scale)?;
         Ok(rate.unwrap_or(Natural::from_u64(self.alloc, 0)))
@@ -368,7 +372,9 @@ impl<P: Peer> Flights<P> {
         ensures before { self.new.list.before ≡ self.old.list.before }
         ensures refused { IfErr result (λ e. e ≡ Error.OutOfMemory) }
     {
-        let (part, kept) = self.rates_beside(component, peers, pairs)?;
+        let mut guesses = self.notes.take_guesses(self.alloc);
+        let (part, kept) = self.rates_beside(component, peers, pairs, &mut guesses)?;
+        self.notes.give_back_guesses(guesses);
         if !part.growth.is_empty() || !all_reach(&part, &component.level) {
             return Ok(None);
         }
@@ -451,11 +457,15 @@ impl<P: Peer> Flights<P> {
         let count = self.count(component);
         let mut ends = Vec::with_capacity(self.alloc, count)?;
         for number in 0..count {
-            let one = self.list.at(component.place(number));
+            let place = component.place(number);
+            let (sender, receiver) = self.list.numbers_at(place);
+            let one = self.list.at(place);
             ends.push(Ends {
                 origin: &one.message.origin,
                 recipient: &one.message.recipient,
                 delivered: one.message.is_delivered(),
+                sender,
+                receiver,
             })?;
         }
         Ok(ends)
@@ -490,6 +500,7 @@ impl<P: Peer> Flights<P> {
         all: &Component<P>,
         peers: &Peers<P>,
         pairs: &Pairs<P>,
+        guesses: &mut Guesses,
     ) -> Result<FairParts, Error>
         requires whole { all.now.whole ≡ true }
         requires level { all.now.level ≡ 0 }
@@ -502,6 +513,7 @@ impl<P: Peer> Flights<P> {
             self.alloc,
             &flows,
             &CapsInForce { peers, pairs },
+            guesses,
             &self.scale,
         )
     }
@@ -513,6 +525,7 @@ impl<P: Peer> Flights<P> {
         component: &Component<P>,
         peers: &Peers<P>,
         pairs: &Pairs<P>,
+        guesses: &mut Guesses,
     ) -> Result<(FairParts, Vec<Option<Rc<Natural>>>), Error>
         requires near { component.now.whole ≡ false
             → AreNear P.cmp component.now component.now.near.items self.now.list.items }
@@ -527,7 +540,7 @@ impl<P: Peer> Flights<P> {
         let flows = self.ends_of(component)?;
         let kept = self.kept_rates(component)?;
         let caps = CapsInForce { peers, pairs };
-        let mut found = fair_parts_beside(self.alloc, &flows, &caps, &kept, &self.scale)?;
+        let mut found = fair_parts_beside(self.alloc, &flows, &caps, guesses, &kept, &self.scale)?;
         found.level_of = levels_without(self.alloc, &kept, &found.level_of)?;
         Ok((found, kept))
     }

@@ -138,6 +138,14 @@ impl<P: Peer> Table<P> {
         }
     }
 
+    /// The numbers of the sender and of the receiver of the one at that place.
+    pub(crate) fn numbers_at(&self, at: usize) -> (usize, usize)
+        requires { at < length self.now.items }
+    {
+        let row = self.rows.at(at);
+        (row.sender, row.receiver)
+    }
+
     /// One more is in flight, behind all others.
     pub(crate) fn push(&mut self, one: Rc<Flight<P>>) -> Result<(), Error>
         ensures items { OnOk result (self.new.items ≡ self.old.items ++ one ∷ []) }

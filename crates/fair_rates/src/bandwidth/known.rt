@@ -48,4 +48,8 @@ pub struct Ends<'a, P> {
     pub recipient: &'a P,
     /// Whether it arrives. What does not takes nothing of what its recipient may receive.
     pub delivered: bool,
+    /// A small number of who sends, the same from call to call. Only time hangs on it.
+    pub sender: usize,
+    /// A small number of who is to receive.
+    pub receiver: usize,
 }

@@ -84,6 +84,7 @@ impl<K: Ord + Copy> Numbers<K> {
     }
 
     /// The number of the key, if it stands at that place of the list.
+    #[inline(always)]
     pub(crate) fn number_at(&self, place: usize, key: &K) -> Option<usize>
         requires { AreInOrder K.cmp self.now }
         ensures { IfSome result (λ number. number_in (λ other. is_eq (K.cmp key.now other)) self.now ≡ Some number) }

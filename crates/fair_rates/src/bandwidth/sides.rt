@@ -1,17 +1,19 @@
 //! What limits flows: the sides that the caps make.
-ghost use Rattle.std.specs.Prelude.{◌≡◌, OnOk, ◌<◌, [], ◌∷◌, List, Some, IfOk, IfErr, map, All, AllPairs, length, true};
+ghost use Rattle.std.specs.Prelude.{◌≡◌, OnOk, ◌<◌, [], ◌∷◌, List, Some, IfOk, IfSome, IfErr, map, All, AllPairs, length, true};
 ghost use Rattle.std.specs.Prelude.{false, Option, None, ℕ};
 ghost use Rattle.std.specs.Fn.{CalledAt, TakesAt, CalledAtTwo, TakesAtTwo};
 ghost use Rattle.fair_rates.specs.Sides.Answers.{Answered, AnswerInOrder, CallableOnEach, CallableOnEachPair, origins};
 ghost use Rattle.fair_rates.specs.Sides.Answers.{recipients, pairs};
 ghost use Rattle.fair_rates.specs.Sides.Ends.{answered_for};
 ghost use Rattle.fair_rates.specs.Sides.Subjects.{sides_of, asks_of_one, same_subject};
-ghost use Rattle.fair_rates.specs.Sides.Subjects.{sent_by, received_by, sent_between};
+ghost use Rattle.fair_rates.specs.Sides.Subjects.{sent_between};
+ghost use Rattle.fair_rates.specs.Sides.Caps.{cap_on};
 ghost use Rattle.fair_rates.specs.Sides.SideOf.{side_of};
 ghost use Rattle.fair_rates.specs.Sides.Registry.{FindsSides, IsGapFor, Registers, number_of, subject_of};
 
+use crate::bandwidth::guesses::Guesses;
 use crate::bandwidth::known::{Ends, KnownCaps};
-use crate::bandwidth::numbers::Numbers;
+use crate::bandwidth::numbers::{Found, Numbers};
 use crate::bandwidth::{Flow, FlowCaps};
 use crate::error::Error;
 use crate::peer::Peer;
@@ -29,6 +31,16 @@ const FEW_SIDES: usize = 16;
 
 /// There is room for so many sides at most, before any has come into being.
 const MANY_SIDES: usize = 64;
+
+/// Among so many flows, or fewer, no guess is made by the numbers of their peers.
+const FEW_FLOWS: usize = 16;
+
+/// Where the numbers of the first flow are expected.
+const FIRST: Places = Places {
+    sender: 0,
+    recipient: 0,
+    link: 0,
+};
 
 /// What limits some flows together: its cap in bytes a second, and the places of those flows in
 /// the list, in its order.
@@ -49,13 +61,37 @@ enum Subject<'a, P> {
     SentBetween(&'a P, &'a P),
 }
 
-/// Where the numbers are expected to stand that flows ask for next, of each kind: that of the sender that
-/// came last, and those after the recipient and the link that came last.
-#[derive(Drop)]
-struct Expected {
+impl<P: Peer> Subject<'_, P> {
+    /// The cap of its side.
+    fn cap<C: KnownCaps<P>>(&self, caps: &C) -> Option<u128>
+        ensures { result ≡ cap_on (C.caps caps.now) (subject_of self.now) }
+    {
+        match self {
+            Subject::SentBy(peer) => caps.egress(peer),
+            Subject::ReceivedBy(peer) => caps.ingress(peer),
+            Subject::SentBetween(origin, recipient) => caps.link(origin, recipient),
+        }
+    }
+}
+
+/// Where the numbers of what a flow asks for stand, or are guessed to stand, of each kind.
+#[derive(Clone, Copy)]
+struct Places {
     sender: usize,
     recipient: usize,
     link: usize,
+}
+
+impl Places {
+    /// Where those of the next flow are expected. Flows of one sender mostly follow one another, and senders
+    /// mostly have the same recipients in one order.
+    fn next(&self) -> Places {
+        Places {
+            sender: self.sender,
+            recipient: self.recipient.wrapping_add(1),
+            link: self.link.wrapping_add(1),
+        }
+    }
 }
 
 /// The sides that have come into being, and the number of each, its place among them, by its subject.
@@ -63,7 +99,6 @@ struct Expected {
 #[derive(Drop)]
 struct Registry<'a, P: Ord> {
     sides: Vec<Side>,
-    expected: Expected,
     senders: Numbers<&'a P>,
     receivers: Numbers<&'a P>,
     links: Numbers<(&'a P, &'a P)>,
@@ -79,15 +114,38 @@ impl<'a, P: Peer> Registry<'a, P> {
         let room = flows.min(MANY_SIDES).max(FEW_SIDES);
         Ok(Registry {
             sides: Vec::with_capacity(alloc, room)?,
-            expected: Expected {
-                sender: 0,
-                recipient: 0,
-                link: 0,
-            },
             senders: Numbers::new(alloc),
             receivers: Numbers::new(alloc),
             links: Numbers::new(alloc),
         })
+    }
+
+    /// The number of the subject's side, if it stands at that place.
+    #[inline(always)]
+    fn number_at(&self, place: usize, subject: &Subject<'a, P>) -> Option<usize>
+        requires { IsInOrder P.cmp self.now }
+        ensures { IfSome result (λ number. number_of P.cmp self.now (subject_of subject.now) ≡ Some number) }
+    {
+        match subject {
+            Subject::SentBy(peer) => self.senders.number_at(place, peer),
+            Subject::ReceivedBy(peer) => self.receivers.number_at(place, peer),
+            Subject::SentBetween(origin, recipient) => {
+                self.links.number_at(place, &(*origin, *recipient))
+            }
+        }
+    }
+
+    /// The number of the subject's side, if it has one, and where it stands or would.
+    fn find(&self, subject: &Subject<'a, P>) -> Found
+        requires { IsInOrder P.cmp self.now }
+        ensures number { result.number ≡ number_of P.cmp self.now (subject_of subject.now) }
+        ensures gap { result.number ≡ None → IsGapFor P.cmp self.now subject.now result.place }
+    {
+        match subject {
+            Subject::SentBy(peer) => self.senders.find(peer),
+            Subject::ReceivedBy(peer) => self.receivers.find(peer),
+            Subject::SentBetween(origin, recipient) => self.links.find(&(*origin, *recipient)),
+        }
     }
 
     /// Notes the number of the side of a subject that has none, which would stand at that place.
@@ -150,15 +208,69 @@ fn open<'a, P: Peer>(
     Ok(())
 }
 
-/// Registers that the flow at `place` asks for the side of its link. Where no link has a cap, there
-/// is nothing to search for.
+/// Registers that the flow at `place` asks for the side of the subject, whose number may stand where it is guessed
+/// to. Answers where it stands, or would.
+#[inline(always)]
+fn register<'a, P: Peer, C: KnownCaps<P>>(
+    alloc: Global,
+    registry: &mut Registry<'a, P>,
+    place: usize,
+    subject: Subject<'a, P>,
+    guess: usize,
+    caps: &C,
+) -> Result<usize, Error>
+    requires { FindsSides P.cmp registry.old }
+    ensures registers { OnOk result (Registers P.cmp (record {
+      place = place;
+      subject = subject_of subject.entry;
+      answer = cap_on (C.caps caps.now) (subject_of subject.entry);
+    } ∷ []) registry.old registry.new) }
+    ensures refused { IfErr result (λ e. e ≡ Error.OutOfMemory) }
+{
+    if let Some(number) = registry.number_at(guess, &subject) {
+        registry.sides[number].users.push(place)?;
+        return Ok(guess);
+    }
+    search(alloc, registry, place, subject, caps)
+}
+
+/// The same where it does not stand there.
+fn search<'a, P: Peer, C: KnownCaps<P>>(
+    alloc: Global,
+    registry: &mut Registry<'a, P>,
+    place: usize,
+    subject: Subject<'a, P>,
+    caps: &C,
+) -> Result<usize, Error>
+    requires { FindsSides P.cmp registry.old }
+    ensures registers { OnOk result (Registers P.cmp (record {
+      place = place;
+      subject = subject_of subject.entry;
+      answer = cap_on (C.caps caps.now) (subject_of subject.entry);
+    } ∷ []) registry.old registry.new) }
+    ensures refused { IfErr result (λ e. e ≡ Error.OutOfMemory) }
+{
+    let found = registry.find(&subject);
+    if let Some(number) = found.number {
+        registry.sides[number].users.push(place)?;
+        return Ok(found.place);
+    }
+    let cap = subject.cap(caps);
+    open(alloc, registry, place, found.place, subject, cap)?;
+    Ok(found.place)
+}
+
+/// Registers that the flow at `place` asks for the side of its link. Where no link has a cap, there is nothing to
+/// search for.
+#[inline(always)]
 fn register_link<'a, P: Peer, C: KnownCaps<P>>(
     alloc: Global,
     registry: &mut Registry<'a, P>,
     place: usize,
     ends: &Ends<'a, P>,
+    guess: usize,
     caps: &C,
-) -> Result<(), Error>
+) -> Result<usize, Error>
     requires { FindsSides P.cmp registry.old }
     ensures registers { OnOk result (Registers P.cmp (record {
       place = place;
@@ -168,233 +280,40 @@ fn register_link<'a, P: Peer, C: KnownCaps<P>>(
     ensures refused { IfErr result (λ e. e ≡ Error.OutOfMemory) }
 {
     if registry.links.is_empty() && caps.link(ends.origin, ends.recipient).is_none() {
-        return Ok(());
-    }
-    register_any_link(alloc, registry, place, ends, caps)
-}
-
-/// The same where some link may have a cap. Links mostly come in one order.
-fn register_any_link<'a, P: Peer, C: KnownCaps<P>>(
-    alloc: Global,
-    registry: &mut Registry<'a, P>,
-    place: usize,
-    ends: &Ends<'a, P>,
-    caps: &C,
-) -> Result<(), Error>
-    requires { FindsSides P.cmp registry.old }
-    ensures registers { OnOk result (Registers P.cmp (record {
-      place = place;
-      subject = sent_between ends.now.origin.now ends.now.recipient.now;
-      answer = (C.caps caps.now).link ends.now.origin.now ends.now.recipient.now;
-    } ∷ []) registry.old registry.new) }
-    ensures refused { IfErr result (λ e. e ≡ Error.OutOfMemory) }
-{
-    let link = (ends.origin, ends.recipient);
-    let expected = registry.expected.link;
-    if let Some(number) = registry.links.number_at(expected, &link) {
-        registry.expected.link = expected.wrapping_add(1);
-        registry.sides[number].users.push(place)?;
-        return Ok(());
-    }
-    search_link(alloc, registry, place, ends, caps)
-}
-
-/// The same where another link was expected.
-fn search_link<'a, P: Peer, C: KnownCaps<P>>(
-    alloc: Global,
-    registry: &mut Registry<'a, P>,
-    place: usize,
-    ends: &Ends<'a, P>,
-    caps: &C,
-) -> Result<(), Error>
-    requires { FindsSides P.cmp registry.old }
-    ensures registers { OnOk result (Registers P.cmp (record {
-      place = place;
-      subject = sent_between ends.now.origin.now ends.now.recipient.now;
-      answer = (C.caps caps.now).link ends.now.origin.now ends.now.recipient.now;
-    } ∷ []) registry.old registry.new) }
-    ensures refused { IfErr result (λ e. e ≡ Error.OutOfMemory) }
-{
-    let found = registry.links.find(&(ends.origin, ends.recipient));
-    registry.expected.link = found.place.wrapping_add(1);
-    if let Some(number) = found.number {
-        registry.sides[number].users.push(place)?;
-        return Ok(());
+        return Ok(guess);
     }
     let subject = Subject::SentBetween(ends.origin, ends.recipient);
-    open(
-        alloc,
-        registry,
-        place,
-        found.place,
-        subject,
-        caps.link(ends.origin, ends.recipient),
-    )?;
-    Ok(())
+    register(alloc, registry, place, subject, guess, caps)
 }
 
-/// Registers that the flow at `place` asks for the side of its origin. Flows of one sender mostly
-/// follow one another.
-fn register_sender<'a, P: Peer, C: KnownCaps<P>>(
-    alloc: Global,
-    registry: &mut Registry<'a, P>,
-    place: usize,
-    origin: &'a P,
-    caps: &C,
-) -> Result<(), Error>
-    requires { FindsSides P.cmp registry.old }
-    ensures registers { OnOk result (Registers P.cmp (record {
-      place = place;
-      subject = sent_by origin.now;
-      answer = (C.caps caps.now).egress origin.now;
-    } ∷ []) registry.old registry.new) }
-    ensures refused { IfErr result (λ e. e ≡ Error.OutOfMemory) }
-{
-    let expected = registry.expected.sender;
-    if let Some(number) = registry.senders.number_at(expected, &origin) {
-        registry.sides[number].users.push(place)?;
-        return Ok(());
-    }
-    search_sender(alloc, registry, place, origin, caps)
-}
-
-/// The same where another sender was expected.
-fn search_sender<'a, P: Peer, C: KnownCaps<P>>(
-    alloc: Global,
-    registry: &mut Registry<'a, P>,
-    place: usize,
-    origin: &'a P,
-    caps: &C,
-) -> Result<(), Error>
-    requires { FindsSides P.cmp registry.old }
-    ensures registers { OnOk result (Registers P.cmp (record {
-      place = place;
-      subject = sent_by origin.now;
-      answer = (C.caps caps.now).egress origin.now;
-    } ∷ []) registry.old registry.new) }
-    ensures refused { IfErr result (λ e. e ≡ Error.OutOfMemory) }
-{
-    let found = registry.senders.find(&origin);
-    registry.expected.sender = found.place;
-    if let Some(number) = found.number {
-        registry.sides[number].users.push(place)?;
-        return Ok(());
-    }
-    let subject = Subject::SentBy(origin);
-    open(
-        alloc,
-        registry,
-        place,
-        found.place,
-        subject,
-        caps.egress(origin),
-    )?;
-    Ok(())
-}
-
-/// Registers that the flow at `place` asks for the side of its recipient. Senders mostly have the same
-/// recipients in one order.
-fn register_recipient<'a, P: Peer, C: KnownCaps<P>>(
-    alloc: Global,
-    registry: &mut Registry<'a, P>,
-    place: usize,
-    recipient: &'a P,
-    caps: &C,
-) -> Result<(), Error>
-    requires { FindsSides P.cmp registry.old }
-    ensures registers { OnOk result (Registers P.cmp (record {
-      place = place;
-      subject = received_by recipient.now;
-      answer = (C.caps caps.now).ingress recipient.now;
-    } ∷ []) registry.old registry.new) }
-    ensures refused { IfErr result (λ e. e ≡ Error.OutOfMemory) }
-{
-    let expected = registry.expected.recipient;
-    if let Some(number) = registry.receivers.number_at(expected, &recipient) {
-        registry.expected.recipient = expected.wrapping_add(1);
-        registry.sides[number].users.push(place)?;
-        return Ok(());
-    }
-    register_other(alloc, registry, place, recipient, caps)
-}
-
-/// The same where another recipient was expected. Some senders leave one out.
-fn register_other<'a, P: Peer, C: KnownCaps<P>>(
-    alloc: Global,
-    registry: &mut Registry<'a, P>,
-    place: usize,
-    recipient: &'a P,
-    caps: &C,
-) -> Result<(), Error>
-    requires { FindsSides P.cmp registry.old }
-    ensures registers { OnOk result (Registers P.cmp (record {
-      place = place;
-      subject = received_by recipient.now;
-      answer = (C.caps caps.now).ingress recipient.now;
-    } ∷ []) registry.old registry.new) }
-    ensures refused { IfErr result (λ e. e ≡ Error.OutOfMemory) }
-{
-    let next = registry.expected.recipient.wrapping_add(1);
-    if let Some(number) = registry.receivers.number_at(next, &recipient) {
-        registry.expected.recipient = next.wrapping_add(1);
-        registry.sides[number].users.push(place)?;
-        return Ok(());
-    }
-    search_recipient(alloc, registry, place, recipient, caps)
-}
-
-/// The same where neither is the one that was expected.
-fn search_recipient<'a, P: Peer, C: KnownCaps<P>>(
-    alloc: Global,
-    registry: &mut Registry<'a, P>,
-    place: usize,
-    recipient: &'a P,
-    caps: &C,
-) -> Result<(), Error>
-    requires { FindsSides P.cmp registry.old }
-    ensures registers { OnOk result (Registers P.cmp (record {
-      place = place;
-      subject = received_by recipient.now;
-      answer = (C.caps caps.now).ingress recipient.now;
-    } ∷ []) registry.old registry.new) }
-    ensures refused { IfErr result (λ e. e ≡ Error.OutOfMemory) }
-{
-    let found = registry.receivers.find(&recipient);
-    registry.expected.recipient = found.place.wrapping_add(1);
-    if let Some(number) = found.number {
-        registry.sides[number].users.push(place)?;
-        return Ok(());
-    }
-    let subject = Subject::ReceivedBy(recipient);
-    open(
-        alloc,
-        registry,
-        place,
-        found.place,
-        subject,
-        caps.ingress(recipient),
-    )?;
-    Ok(())
-}
-
-/// Registers that the flow at `place` asks for its sides, under these caps.
+/// Registers that the flow at `place` asks for its sides, under these caps. Answers where their numbers stand.
+#[inline(always)]
 fn register_flow<'a, P: Peer, C: KnownCaps<P>>(
     alloc: Global,
     registry: &mut Registry<'a, P>,
     place: usize,
     ends: &Ends<'a, P>,
+    guess: Places,
     caps: &C,
-) -> Result<(), Error>
+) -> Result<Places, Error>
     requires { FindsSides P.cmp registry.old }
     ensures registers { OnOk result (Registers P.cmp (asks_of_one place (answered_for (C.caps caps.now) ends.now))
         registry.old registry.new) }
     ensures refused { IfErr result (λ e. e ≡ Error.OutOfMemory) }
 {
-    register_sender(alloc, registry, place, ends.origin, caps)?;
+    let subject = Subject::SentBy(ends.origin);
+    let sender = register(alloc, registry, place, subject, guess.sender, caps)?;
+    let mut recipient = guess.recipient;
     if ends.delivered {
-        register_recipient(alloc, registry, place, ends.recipient, caps)?;
+        let subject = Subject::ReceivedBy(ends.recipient);
+        recipient = register(alloc, registry, place, subject, guess.recipient, caps)?;
     }
-    register_link(alloc, registry, place, ends, caps)
+    let link = register_link(alloc, registry, place, ends, guess.link, caps)?;
+    Ok(Places {
+        sender,
+        recipient,
+        link,
+    })
 }
 
 /// The sides of the flows, in the order in which they come into being.
@@ -423,6 +342,7 @@ where
     ensures refused { IfErr result (λ e. e ≡ Error.OutOfMemory) }
 {
     let mut registry = Registry::new(alloc, flows.len())?;
+    let mut expected = FIRST;
     for (place, flow) in flows.iter().enumerate() {
         let egress = egress_cap(&flow.origin);
         let ingress = if flow.delivered {
@@ -440,17 +360,21 @@ where
             origin: &flow.origin,
             recipient: &flow.recipient,
             delivered: flow.delivered,
+            sender: 0,
+            receiver: 0,
         };
-        register_flow(alloc, &mut registry, place, &ends, &answers)?;
+        expected = register_flow(alloc, &mut registry, place, &ends, expected, &answers)?.next();
     }
     Ok(registry.sides)
 }
 
-/// The sides of flows with known caps, in the order in which they come into being.
+/// The sides of flows with known caps, in the order in which they come into being. Among many flows they are guessed
+/// to stand where those of the same peers stood, and among few where the next ones are expected.
 pub(crate) fn sides_under<P: Peer, C: KnownCaps<P>>(
     alloc: Global,
     flows: &[Ends<P>],
     caps: &C,
+    guesses: &mut Guesses,
 ) -> Result<Vec<Side>, Error>
     ensures sides { IfOk result (λ sides. map side_of sides.items
         ≡ sides_of P.cmp (map (answered_for (C.caps caps.now)) flows.now)) }
@@ -458,9 +382,19 @@ pub(crate) fn sides_under<P: Peer, C: KnownCaps<P>>(
         (λ side. All (λ flow. flow < length flows.now) side.users.items) sides.items) }
     ensures refused { IfErr result (λ e. e ≡ Error.OutOfMemory) }
 {
+    let many = flows.len() > FEW_FLOWS;
     let mut registry = Registry::new(alloc, flows.len())?;
+    let mut expected = FIRST;
     for (place, ends) in flows.iter().enumerate() {
-        register_flow(alloc, &mut registry, place, ends, caps)?;
+        if many {
+            expected.sender = guesses.sender(ends.sender);
+            expected.recipient = guesses.receiver(ends.receiver);
+        }
+        let stands = register_flow(alloc, &mut registry, place, ends, expected, caps)?;
+        if many {
+            guesses.note(ends.sender, stands.sender, ends.receiver, stands.recipient)?;
+        }
+        expected = stands.next();
     }
     Ok(registry.sides)
 }

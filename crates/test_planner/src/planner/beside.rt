@@ -3,7 +3,7 @@ ghost use Rattle.std.specs.Prelude.{None};
 ghost use Rattle.std.specs.BTreeMap.{get};
 ghost use Rattle.std.specs.Ordering.{nat_cmp};
 
-use fair_rates::bandwidth::{Ends, KnownCaps, fair_parts_beside};
+use fair_rates::bandwidth::{Ends, Guesses, KnownCaps, fair_parts_beside};
 use natural::Natural;
 use std::alloc::{AllocError, Global};
 use std::collections::BTreeMap;
@@ -73,6 +73,8 @@ fn flows_to(alloc: Global, peers: &[u64]) -> Result<Vec<Ends<'_, u64>>, AllocErr
             origin: &u64::MAX,
             recipient: peer,
             delivered: true,
+            sender: 0,
+            receiver: *peer as usize,
         })?;
     }
     Ok(flows)
@@ -105,7 +107,8 @@ fn expect(
         return Err("as many flows as are kept".into());
     }
     let one = Natural::from_u64(rt.alloc(), 1);
-    let found = fair_parts_beside(rt.alloc(), &flows, &caps, &kept, &one)?;
+    let mut guesses = Guesses::new(rt.alloc());
+    let found = fair_parts_beside(rt.alloc(), &flows, &caps, &mut guesses, &kept, &one)?;
     assert_eq!(rt; found.scale.to_u128(), Some(scale));
     assert_eq!(rt; found.level_of.len(), sent.len());
     for (one, level) in sent.iter().zip(&found.level_of) {

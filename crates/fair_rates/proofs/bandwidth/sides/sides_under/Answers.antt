@@ -15,7 +15,7 @@ pub loop-place-preserved : goal.loop-place-preserved
 loop-place-preserved g c =
     known_passed g.P.Ord.cmp (g.C.KnownCaps.caps c.args.caps.now) c.loop-place.place
     c.args.flows.now c.index-flows-place.result c.loop-place.registry
-    c.register_flow.new.registry (omega arith) c.index-flows-place.is c.in_ok-register_flow.ensures.registers
+    c.register_flow.new.registry (omega arith) c.index-flows-place.is c.in_ok-stands.ensures.registers
     c.loop-place.invariant
 
 pub returns-clause-sides : goal.returns-clause-sides

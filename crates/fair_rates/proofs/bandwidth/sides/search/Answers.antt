@@ -1,13 +1,12 @@
 use Rattle.std.proofs.Common.{refl, sym, subst, ◌∙◌, ◌∷◌, []}
-use Rattle.fair_rates.specs.Sides.Registry.{number_of, Registers}
-use Rattle.fair_rates.specs.Sides.Subjects.{received_by}
+use Rattle.fair_rates.specs.Sides.Registry.{number_of, subject_of, Registers}
+use Rattle.fair_rates.specs.Sides.Caps.{cap_on}
 use Rattle.fair_rates.proofs.Sides.Registry.{found}
-use Rattle.fair_rates.proofs.bandwidth.sides.search_recipient.Goals as goal
+use Rattle.fair_rates.proofs.bandwidth.sides.search.Goals as goal
 
 pub index_mut-requires : goal.index_mut-requires
 index_mut-requires g c =
-    c.requires.within (received_by c.args.recipient.now) c.in-Some.number
-    (sym c.find-found.ensures.number ∙ c.in-Some.is)
+    c.requires.within (subject_of c.args.subject) c.in-Some.number (sym c.find-found.ensures.number ∙ c.in-Some.is)
 
 pub open-requires : goal.open-requires
 open-requires g c = record {
@@ -19,13 +18,14 @@ open-requires g c = record {
 pub returns-in-Some-clause-registers : goal.returns-in-Some-clause-registers
 returns-in-Some-clause-registers g c =
     let old = c.args.registry.now in
+    let s = subject_of c.args.subject in
     record {
       asked = λ asks h. record {
         registered =
-            found g.P.Ord.cmp g.met.P.Ord.total asks old.sides.items (number_of g.P.Ord.cmp old) h.registered
-            (received_by c.args.recipient.now) c.args.place
-            ((g.C.KnownCaps.caps c.args.caps.now).ingress c.args.recipient.now) c.in-Some.number c.index_mut.result.now _ _
-            (sym c.find-found.ensures.number ∙ c.in-Some.is) c.index_mut.ensures.value refl refl c.in_ok-push.ensures.items;
+            found g.P.Ord.cmp g.met.P.Ord.total asks old.sides.items (number_of g.P.Ord.cmp old) h.registered s
+            c.args.place (cap_on (g.C.KnownCaps.caps c.args.caps.now) s) c.in-Some.number c.index_mut.result.now _ _
+            (sym c.find-found.ensures.number ∙ c.in-Some.is) c.index_mut.ensures.value refl refl
+            c.in_ok-push.ensures.items;
         order = h.order;
       };
       finds = record { within = c.requires.within; order = c.requires.order };
@@ -36,9 +36,9 @@ returns-clause-registers g c =
     let opened = c.in_ok-open.ensures.registers in
     subst (λ answer. Registers g.P.Ord.cmp (record {
       place = c.args.place;
-      subject = received_by c.args.recipient.now;
+      subject = subject_of c.args.subject;
       answer = answer;
-    } ∷ []) c.args.registry.now c.open.new.registry) c.ingress.ensures
+    } ∷ []) c.args.registry.now c.open.new.registry) c.cap-cap.ensures
     (record {
       asked = λ asks h. opened.asked asks (record { registered = h.registered; order = h.order });
       finds = opened.finds;
