@@ -1,16 +1,15 @@
 -- How many messages in flight, at the beginning of the list, have got a rate.
-use Rattle.std.proofs.Common.{◌≡◌, ℕ, zero, suc, ◌<◌, ◌≤◌, Bool, true, false, ◌||◌, List, [], ◌∷◌}
-use Rattle.std.proofs.Common.{length, take, drop, get_or, set, Option, Some, None, refl, sym, ap}
+use Rattle.std.proofs.Common.{◌≡◌, ℕ, zero, suc, ◌<◌, ◌≤◌, Bool, true, List, [], ◌∷◌}
+use Rattle.std.proofs.Common.{length, take, drop, get_or, set, Some, refl, sym}
 use Rattle.std.proofs.Common.{◌∙◌, arith}
-use Rattle.std.specs.List.{AllZip, list_all, list_any, remove}
+use Rattle.std.specs.List.{AllZip, list_all, remove}
 use Rattle.std.specs.declared.cmp.Ordering.{Ordering}
 use Rattle.std.specs.declared.rc.Rc.{Rc}
 use Rattle.std.specs.declared.alloc.Global.{Global}
-use Rattle.std.proofs.lemmas.Bool.{and_from, or_parts, leb-false, lt-leb}
+use Rattle.std.proofs.lemmas.Bool.{and_from}
 use Rattle.std.proofs.lemmas.List.{length-set, length-take-le, take-append-drop}
 use Rattle.std.proofs.lemmas.List.{get_or_default}
 use Rattle.std.proofs.lemmas.List.Edits.{length-remove}
-use Rattle.std.proofs.lemmas.List.Elements.{length_all_zip}
 use Rattle.std.proofs.lemmas.Option.{slice_get_read}
 use Rattle.std.specs.Prelude.{slice_get}
 use Rattle.fair_rates.specs.Sides.Caps.{Caps}
@@ -23,7 +22,6 @@ use Rattle.link_flights.specs.Flights.InFlight.{PassesNowhere}
 use Rattle.link_flights.specs.Flights.Rated.{is_out, are_limited, rated_ones, IsRatedFrom}
 use Rattle.link_flights.proofs.Flights.Done.{out_by_finish, limited_there}
 use Rattle.link_flights.proofs.Flights.Flight.{IsBrought, is_past, is_counted_on, past_so, all_there}
-use Rattle.link_flights.proofs.Flights.InFlight.{filter_yes}
 use Rattle.link_flights.proofs.Flights.Search.{passed_there}
 
 -- ---- the first elements of a list pass a test

@@ -1,7 +1,7 @@
 -- A message in flight, as it is kept, and as it stands at the last account.
 use Rattle.std.specs.Prelude.{◌≡◌, ℕ, ◌-◌, ◌*◌, ◌≤◌, nat_le, Bool, true, false, if◌then◌else◌, List, map}
 use Rattle.std.specs.Prelude.{Option, Some, None, slice_get, slice_set, length, take}
-use Rattle.std.specs.List.{list_all, list_any}
+use Rattle.std.specs.List.{list_all}
 use Rattle.std.specs.declared.rc.Rc.{Rc}
 use Rattle.std.specs.declared.alloc.Global.{Global}
 use Rattle.link_simulation.specs.Simulation.World.{last_moment}

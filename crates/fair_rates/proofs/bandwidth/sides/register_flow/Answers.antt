@@ -1,5 +1,4 @@
 use Rattle.std.proofs.Common.{subst, sym}
-use Rattle.std.proofs.lemmas.Result.{on_ok_weaker}
 use Rattle.fair_rates.specs.Sides.Registry.{FindsSides}
 use Rattle.fair_rates.specs.Sides.Answers.{Answered}
 use Rattle.fair_rates.specs.Sides.Ends.{answered_for}

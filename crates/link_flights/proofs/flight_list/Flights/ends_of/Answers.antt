@@ -10,10 +10,22 @@ use Rattle.link_flights.proofs.Flights.ComponentFlows.{ends_more}
 use Rattle.link_flights.proofs.Flights.Near.{count_part, place_within, element}
 use Rattle.link_flights.proofs.flight_list.Flights.ends_of.Goals as goal
 
-pub place-requires : goal.place-requires
-place-requires g c part =
+pub place-place-requires : goal.place-place-requires
+place-place-requires g c part =
     let as_many = count_part g.P.Ord.cmp c.args.component.now c.args.self.now.list.items (c.requires.near part) in
     omega (arith, c.loop-number-test.true, c.count-count.ensures, as_many)
+
+pub numbers_at-sender-requires : goal.numbers_at-sender-requires
+numbers_at-sender-requires g c =
+    let component = c.args.component.now in
+    let list = c.args.self.now.list.items in
+    let lt : c.loop-number.number < length (those_near g.P.Ord.cmp component list) =
+    omega (arith, c.loop-number-test.true, c.count-count.ensures) in
+    omega (
+      arith,
+      c.place-place.ensures,
+      place_within g.P.Ord.cmp component list c.requires.near c.loop-number.number lt,
+    )
 
 pub at-one-requires : goal.at-one-requires
 at-one-requires g c =
@@ -23,7 +35,7 @@ at-one-requires g c =
     omega (arith, c.loop-number-test.true, c.count-count.ensures) in
     omega (
       arith,
-      c.place.ensures,
+      c.place-place.ensures,
       place_within g.P.Ord.cmp component list c.requires.near c.loop-number.number lt,
     )
 
@@ -37,7 +49,7 @@ loop-number-preserved g c now =
     let one = c.at-one.result.now in
     let lt : number < length near = omega (arith, c.loop-number-test.true, c.count-count.ensures) in
     let is : one ≡ get_or near number one = element cmp component list c.requires.near number one lt
-    (c.at-one.ensures ∙ ap (λ p. get_or list p one) c.place.ensures) in
+    (c.at-one.ensures ∙ ap (λ p. get_or list p one) c.place-place.ensures) in
     subst (λ es. are_standing cmp (map flow_of es) (flights_at now (take (number + 1) near)) ≡ true)
     (sym c.in_ok-push.ensures.items)
     (ends_more cmp now near number one lt is g.met.P.Ord.total c.loop-number.ends.items _
