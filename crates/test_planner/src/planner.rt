@@ -1,5 +1,6 @@
 //! Rates of flows, against values worked out by hand.
 mod beside;
+mod guesses;
 mod judge;
 mod lists;
 mod many;

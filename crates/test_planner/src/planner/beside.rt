@@ -24,9 +24,9 @@ struct Sent {
 
 /// The caps of a sender, and those of its recipients.
 #[derive(Drop)]
-struct Caps {
-    egress: Option<u128>,
-    ingress: BTreeMap<u64, u128>,
+pub(super) struct Caps {
+    pub(super) egress: Option<u128>,
+    pub(super) ingress: BTreeMap<u64, u128>,
 }
 
 impl KnownCaps<u64> for Caps {
