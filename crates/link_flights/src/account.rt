@@ -2,8 +2,6 @@
 ghost use Rattle.std.specs.Prelude.{◌≡◌, ◌≢◌, ℕ, ◌+◌, ◌<◌, ◌≤◌, true, false};
 ghost use Rattle.std.specs.Prelude.{length, slice_index_or, IfOk, IfErr, OnOk};
 ghost use Rattle.std.specs.List.{remove, AllZip};
-ghost use Rattle.std.specs.declared.rc.Rc.{Rc as AnyRc};
-ghost use Rattle.std.specs.declared.alloc.Global.{Global as Allocator};
 ghost use Rattle.link_flights.specs.declared.flight.Flight.{Flight as AnyFlight};
 ghost use Rattle.link_flights.specs.Flights.Flight.{flight_at, has_come, AreTimed, DrainsTo};
 ghost use Rattle.link_flights.specs.Flights.InFlight.{in_flight, in_units, IsNextPlace, PassesNowhere};
@@ -66,9 +64,9 @@ impl<P: Peer> Flights<P> {
         requires limited { were_rated ≡ true → are_limited P.cmp (caps_of P.cmp peers.now.entries pairs.now.entries)
             (rated_ones (in_units self.now)) ≡ true }
         requires timed { were_rated ≡ true → AreTimed self.now.list.items }
-        ensures { (d : AnyRc (AnyFlight P) Allocator) → result ≡ is_out P.cmp
+        ensures { (d : AnyFlight P) → result ≡ is_out P.cmp
             (caps_of P.cmp peers.now.entries pairs.now.entries) self.now.scale
-            (flight_at self.now.at (slice_index_or self.now.list.items at d).value) }
+            (flight_at self.now.at (slice_index_or self.now.list.items at d)) }
     {
         let one = self.list.at(at);
         if one.rated {
@@ -110,9 +108,9 @@ impl<P: Peer> Flights<P> {
     /// The floor is no more than the rate of the message at that place, if that has got one.
     pub(crate) fn lower_floor(&mut self, at: usize) -> Result<(), Error>
         requires place { at < length self.old.list.items }
-        ensures lowered { OnOk result ((d : AnyRc (AnyFlight P) Allocator) →
-            (slice_index_or self.old.list.items at d).value.rated ≡ true → IsNoMore self.new.floor
-            (flight_at self.old.at (slice_index_or self.old.list.items at d).value).rate) }
+        ensures lowered { OnOk result ((d : AnyFlight P) →
+            (slice_index_or self.old.list.items at d).rated ≡ true → IsNoMore self.new.floor
+            (flight_at self.old.at (slice_index_or self.old.list.items at d)).rate) }
         ensures lower { OnOk result ((rate : ℕ) → IsNoMore self.old.floor rate → IsNoMore self.new.floor rate) }
         ensures list { self.new.list.items ≡ self.old.list.items }
         ensures loose { self.new.loose ≡ self.old.loose }
@@ -181,7 +179,7 @@ impl<P: Peer> Flights<P> {
             (rated_ones (in_units self.now)) ≡ true }
         requires timed { were_rated ≡ true → AreTimed self.now.list.items }
         ensures next { IsNextPlace (λ one. is_out P.cmp (caps_of P.cmp peers.now.entries pairs.now.entries)
-            self.now.scale (flight_at self.now.at one.value)) self.now.list.items from result }
+            self.now.scale (flight_at self.now.at one)) self.now.list.items from result }
     {
         let mut start = from;
         if were_rated && from < self.settled {
@@ -201,7 +199,7 @@ impl<P: Peer> Flights<P> {
         requires { from ≤ self.now.settled }
         ensures low { from ≤ result }
         ensures rated { result ≤ self.now.settled }
-        ensures go_on { PassesNowhere (λ one. has_come self.now.at one.value.finish) self.now.list.items from result }
+        ensures go_on { PassesNowhere (λ one. has_come self.now.at one.finish) self.now.list.items from result }
     {
         match self.list.next_finished(from, self.at) {
             Some(at) => at.min(self.settled),

@@ -25,10 +25,10 @@ pub(crate) struct Flight<P> {
     pub(crate) since: u64,
     /// The units that drain in a nanosecond from then on. `None` drains nothing.
     pub(crate) rate: Option<Rc<Natural>>,
-    /// The units that were left at the moment `since`.
-    pub(crate) left: Natural,
     /// Its flow id.
     pub(crate) id: u64,
+    /// The units that were left at the moment `since`.
+    pub(crate) left: Natural,
 }
 
 impl<P: Peer> Flight<P> {

@@ -1,9 +1,7 @@
 //! The messages in flight.
 ghost use Rattle.std.specs.Prelude.{◌≡◌, ℕ, ◌<◌, ◌≤◌, [], ◌∷◌, ◌++◌, ◌||◌, ◌&&◌, ◌==◌, true, not};
-ghost use Rattle.std.specs.Prelude.{length, nat_le, slice_index_or, IfOk, IfErr, OnOk};
+ghost use Rattle.std.specs.Prelude.{length, nat_le, slice_index_or, slice_set, IfOk, IfErr, OnOk};
 ghost use Rattle.std.specs.List.{list_all, list_any};
-ghost use Rattle.std.specs.declared.rc.Rc.{Rc as AnyRc};
-ghost use Rattle.std.specs.declared.alloc.Global.{Global as Allocator};
 ghost use Rattle.link_flights.specs.declared.flight.Flight.{Flight as AnyFlight};
 ghost use Rattle.link_flights.specs.Flights.Flight.{HaveRates};
 ghost use Rattle.fair_rates.specs.Sides.Subjects.{same_peer};
@@ -55,7 +53,7 @@ pub struct Flights<P: Peer> {
     /// Room for what a search notes.
     pub(crate) notes: Notes,
 
-    pub ghost past: { list_all (λ one. not one.value.rated || nat_le one.value.since at) list.items ≡ true },
+    pub ghost past: { list_all (λ one. not one.rated || nat_le one.since at) list.items ≡ true },
     pub ghost scaled: { 0 < scale },
     pub ghost counted: { rated_anew ≤ length list.items },
     pub ghost have_rates: { HaveRates settled list.items },
@@ -65,7 +63,7 @@ impl<P: Peer> Flights<P> {
     ghost use Rattle.fair_rates.specs.Numbers.Amount.{whole};
     ghost use Rattle.link_simulation.specs.Rule.Planned.{RatedFlight, rated_messages};
     ghost use Rattle.link_pairs.specs.Pairs.Messages.{message_of};
-    ghost use Rattle.link_flights.specs.Flights.Flight.{AreTimed, has_come, IsPutAt};
+    ghost use Rattle.link_flights.specs.Flights.Flight.{AreTimed, has_come};
     ghost use Rattle.link_flights.specs.Flights.InFlight.{in_flight, in_units, Joins};
     ghost use Rattle.link_flights.specs.Flights.InFlight.{IsMarkOf, CanBeTakenBack, IsTakenBack};
     ghost use Rattle.link_flights.specs.Flights.Rated.{rated_ones};
@@ -144,7 +142,6 @@ impl<P: Peer> Flights<P> {
             finish: None,
             rated: false,
         };
-        let flight = Rc::new(self.alloc, flight)?;
         if let Err(error) = self.list.push(flight) {
             self.settled = 0;
             self.rated_anew = 0;
@@ -157,11 +154,11 @@ impl<P: Peer> Flights<P> {
     pub(crate) fn put(&mut self, at: usize, flight: Flight<P>) -> Result<(), Error>
         requires place { at < length self.old.list.items }
         requires past { (not flight.rated || nat_le flight.since self.old.at) ≡ true }
-        requires still_rated { (d : AnyRc (AnyFlight P) Allocator)
-            → (slice_index_or self.old.list.items at d).value.rated ≡ true → flight.rated ≡ true }
-        requires message { (d : AnyRc (AnyFlight P) Allocator)
-            → flight.message.value ≡ (slice_index_or self.old.list.items at d).value.message.value }
-        ensures list { OnOk result (IsPutAt at flight self.old.list.items self.new.list.items) }
+        requires still_rated { (d : AnyFlight P)
+            → (slice_index_or self.old.list.items at d).rated ≡ true → flight.rated ≡ true }
+        requires message { (d : AnyFlight P)
+            → flight.message.value ≡ (slice_index_or self.old.list.items at d).message.value }
+        ensures list { OnOk result (self.new.list.items ≡ slice_set self.old.list.items at flight) }
         ensures scale { self.new.scale ≡ self.old.scale }
         ensures at { self.new.at ≡ self.old.at }
         ensures floor { self.new.floor ≡ self.old.floor }
@@ -170,7 +167,6 @@ impl<P: Peer> Flights<P> {
         ensures before { self.new.list.before ≡ self.old.list.before }
         ensures refused { IfErr result (λ e. e ≡ Error.OutOfMemory) }
     {
-        let flight = Rc::new(self.alloc, flight)?;
         if let Err(error) = self.list.set(at, flight) {
             self.settled = 0;
             self.rated_anew = 0;

@@ -21,8 +21,6 @@ ghost use Rattle.link_flights.specs.Flights.Rated.{AreFairFor, GivesBeside, none
 ghost use Rattle.link_flights.specs.Flights.Rated.{AreKeptBut, AreKept, AreToldOf, has_no_rate, IsCountedAt};
 ghost use Rattle.link_flights.specs.Flights.Rated.{levels_rated};
 ghost use Rattle.link_flights.specs.declared.flight.Flight.{Flight as AnyFlight};
-ghost use Rattle.std.specs.declared.rc.Rc.{Rc as AnyRc};
-ghost use Rattle.std.specs.declared.alloc.Global.{Global as Allocator};
 
 use crate::component::Component;
 use crate::flight::Flight;
@@ -239,9 +237,9 @@ impl<P: Peer> Flights<P> {
     /// Notes that all have got rates, that nothing is loose any more, and that so many accounts more are made without a
     /// search. Answers the first moment at which nothing is left of one.
     fn settle(&mut self, unsearched: usize) -> Option<u64>
-        requires rated { list_all (λ one. one.value.rated) self.old.list.items ≡ true }
+        requires rated { list_all (λ one. one.rated) self.old.list.items ≡ true }
         ensures finish { (t : ℕ)
-            → has_come t result ≡ list_any (λ one. has_come t one.value.finish) self.new.list.items }
+            → has_come t result ≡ list_any (λ one. has_come t one.finish) self.new.list.items }
         ensures list { self.new.list.items ≡ self.old.list.items }
         ensures scale { self.new.scale ≡ self.old.scale }
         ensures at { self.new.at ≡ self.old.at }
@@ -316,10 +314,10 @@ impl<P: Peer> Flights<P> {
         requires left { All (λ u. u.left ≢ 0) (in_units self.old) }
         requires timed { AreTimed self.old.list.items }
         requires place { at < length self.old.list.items }
-        requires only { (d : AnyRc (AnyFlight P) Allocator)
+        requires only { (d : AnyFlight P)
             → those_near P.cmp component.now self.old.list.items ≡ slice_index_or self.old.list.items at d ∷ [] }
-        requires rated { (d : AnyRc (AnyFlight P) Allocator)
-            → is_of P.cmp component.now (flight_at 0 (slice_index_or self.old.list.items at d).value) ≡ true }
+        requires rated { (d : AnyFlight P)
+            → is_of P.cmp component.now (flight_at 0 (slice_index_or self.old.list.items at d)) ≡ true }
         ensures gives { IfOk result (GivesBeside P.cmp (caps_of P.cmp peers.now.entries pairs.now.entries)
             component.now self.old self.new) }
         ensures before { self.new.list.before ≡ self.old.list.before }
@@ -337,9 +335,9 @@ impl<P: Peer> Flights<P> {
     /// The fair rate of the one at that place alone, and none at all where no cap holds for it.
     fn rate_alone(&self, at: usize, peers: &Peers<P>, pairs: &Pairs<P>) -> Result<Natural, Error>
         requires place { at < length self.now.list.items }
-        ensures fair { IfOk result (λ parts. (d : AnyRc (AnyFlight P) Allocator)
+        ensures fair { IfOk result (λ parts. (d : AnyFlight P)
             → AreFairFor P.cmp (caps_of P.cmp peers.now.entries pairs.now.entries) self.now.scale
-            (message_of (slice_index_or self.now.list.items at d).value.message.value ∷ []) (parts ∷ [])) }
+            (message_of (slice_index_or self.now.list.items at d).message.value ∷ []) (parts ∷ [])) }
         ensures refused { IfErr result (λ e. e ≡ Error.OutOfMemory) }
     {
         let one = self.list.at(at);
@@ -597,8 +595,8 @@ impl<P: Peer> Flights<P> {
         were_timed: bool,
     ) -> Result<(), Error>
         requires place { at < length self.old.list.items }
-        requires left { (d : AnyRc (AnyFlight P) Allocator) → (flight_at self.old.at
-            (slice_index_or self.old.list.items at d).value).left * product growth.now ≢ 0 }
+        requires left { (d : AnyFlight P) → (flight_at self.old.at
+            (slice_index_or self.old.list.items at d)).left * product growth.now ≢ 0 }
         requires timed { were_timed ≡ true → AreTimed self.old.list.items }
         requires counted { self.old.rated_anew ≤ at }
         ensures rerated { OnOk result (IsReratedAt self.old.at at (product growth.now) (rate_of rate)
@@ -624,8 +622,8 @@ impl<P: Peer> Flights<P> {
         growth: &[u64],
     ) -> Result<(), Error>
         requires place { at < length self.old.list.items }
-        requires left { (d : AnyRc (AnyFlight P) Allocator) → (flight_at self.old.at
-            (slice_index_or self.old.list.items at d).value).left * product growth.now ≢ 0 }
+        requires left { (d : AnyFlight P) → (flight_at self.old.at
+            (slice_index_or self.old.list.items at d)).left * product growth.now ≢ 0 }
         requires counted { self.old.rated_anew ≤ at }
         ensures rerated { OnOk result (IsReratedAt self.old.at at (product growth.now) (rate_of rate)
             self.old.list.items self.new.list.items) }

@@ -2,8 +2,6 @@
 ghost use Rattle.std.specs.Prelude.{◌≡◌, ℕ, ◌+◌, ◌<◌, ◌==◌, ◌&&◌, [], ◌∷◌, ◌++◌, Some, length};
 ghost use Rattle.std.specs.Prelude.{slice_get, slice_set, slice_index_or, option_map, IfErr, OnOk, OnErr};
 ghost use Rattle.std.specs.List.{remove, list_any};
-ghost use Rattle.std.specs.declared.rc.Rc.{Rc as AnyRc};
-ghost use Rattle.std.specs.declared.alloc.Global.{Global as Allocator};
 ghost use Rattle.link_flights.specs.declared.flight.Flight.{Flight as AnyFlight};
 ghost use Rattle.fair_rates.specs.Sides.Subjects.{same_peer};
 ghost use Rattle.link_flights.specs.Flights.Flight.{has_come};
@@ -21,7 +19,6 @@ use peer_numbers::PeerNumbers;
 use row_table::RowTable;
 use std::alloc::Global;
 use std::marker::Model;
-use std::rc::Rc;
 
 /// An end of a message: who sends it, or who receives it.
 #[derive(Clone, Copy)]
@@ -47,8 +44,8 @@ fn has_row<T: Drop>(rows: &RowTable<T>, sender: usize, receiver: usize) -> bool
 /// One more row comes, with the numbers of its message's peers, and its finish.
 fn add_row<P: Peer>(
     numbers: &mut PeerNumbers<P>,
-    rows: &mut RowTable<Rc<Flight<P>>>,
-    one: Rc<Flight<P>>,
+    rows: &mut RowTable<Flight<P>>,
+    one: Flight<P>,
 ) -> Result<(), Error>
     requires { AreKept P.cmp numbers.old rows.old }
     ensures kept { AreKept P.cmp numbers.new rows.new }
@@ -71,7 +68,7 @@ fn add_row<P: Peer>(
 pub struct Table<P: Peer> {
     alloc: Global,
     numbers: PeerNumbers<P>,
-    rows: RowTable<Rc<Flight<P>>>,
+    rows: RowTable<Flight<P>>,
     given_up: bool,
 }
 
@@ -118,7 +115,7 @@ impl<P: Peer> Table<P> {
     }
 
     /// The one at that place.
-    pub(crate) fn at(&self, at: usize) -> &Rc<Flight<P>>
+    pub(crate) fn at(&self, at: usize) -> &Flight<P>
         requires { at < length self.now.items }
         ensures { result.now ≡ slice_index_or self.now.items at result.now }
     {
@@ -126,7 +123,7 @@ impl<P: Peer> Table<P> {
     }
 
     /// The one at that place, if there is one.
-    pub(crate) fn get(&self, at: usize) -> Option<&Rc<Flight<P>>>
+    pub(crate) fn get(&self, at: usize) -> Option<&Flight<P>>
         ensures { option_map (λ one. one.now) result ≡ slice_get self.now.items at }
     {
         if self.given_up {
@@ -147,7 +144,7 @@ impl<P: Peer> Table<P> {
     }
 
     /// One more is in flight, behind all others.
-    pub(crate) fn push(&mut self, one: Rc<Flight<P>>) -> Result<(), Error>
+    pub(crate) fn push(&mut self, one: Flight<P>) -> Result<(), Error>
         ensures items { OnOk result (self.new.items ≡ self.old.items ++ one ∷ []) }
         ensures given_up { OnErr result (self.new.items ≡ []) }
         ensures before { self.new.before ≡ self.old.before }
@@ -161,10 +158,10 @@ impl<P: Peer> Table<P> {
     }
 
     /// Another flight of the same message stands at that place from now on.
-    pub(crate) fn set(&mut self, at: usize, one: Rc<Flight<P>>) -> Result<(), Error>
+    pub(crate) fn set(&mut self, at: usize, one: Flight<P>) -> Result<(), Error>
         requires place { at < length self.old.items }
-        requires message { (d : AnyRc (AnyFlight P) Allocator)
-            → one.value.message.value ≡ (slice_index_or self.old.items at d).value.message.value }
+        requires message { (d : AnyFlight P)
+            → one.message.value ≡ (slice_index_or self.old.items at d).message.value }
         ensures items { OnOk result (self.new.items ≡ slice_set self.old.items at one) }
         ensures given_up { OnErr result (self.new.items ≡ []) }
         ensures before { self.new.before ≡ self.old.before }
@@ -195,8 +192,8 @@ impl<P: Peer> Table<P> {
 
     /// Whether a message of the pair is in flight.
     pub(crate) fn has(&self, origin: &P, recipient: &P) -> bool
-        ensures { result ≡ list_any (λ one. same_peer P.cmp origin.now one.value.message.value.origin
-            && same_peer P.cmp recipient.now one.value.message.value.recipient) self.now.items }
+        ensures { result ≡ list_any (λ one. same_peer P.cmp origin.now one.message.value.origin
+            && same_peer P.cmp recipient.now one.message.value.recipient) self.now.items }
     {
         if self.given_up {
             return false;
@@ -209,7 +206,7 @@ impl<P: Peer> Table<P> {
 
     /// The first place at which one has the peer at that end, if there is one.
     pub(crate) fn first_of(&self, end: End, peer: &P) -> Option<usize>
-        ensures { IsNextPlace (λ one. is_at_end P.cmp end peer.now one.value.message.value) self.now.items 0 result }
+        ensures { IsNextPlace (λ one. is_at_end P.cmp end peer.now one.message.value) self.now.items 0 result }
     {
         if self.given_up {
             return None;
@@ -223,7 +220,7 @@ impl<P: Peer> Table<P> {
 
     /// The first place at which one shares that end with the message, if there is one.
     pub(crate) fn first_at(&self, end: End, message: &Message<P>) -> Option<usize>
-        ensures { IsNextPlace (λ one. share P.cmp end message.now one.value.message.value) self.now.items 0 result }
+        ensures { IsNextPlace (λ one. share P.cmp end message.now one.message.value) self.now.items 0 result }
     {
         if self.given_up {
             return None;
@@ -239,8 +236,8 @@ impl<P: Peer> Table<P> {
     /// The first place behind that one at which one shares that end with the one that stands there, if there is one.
     pub(crate) fn next_at(&self, end: End, at: usize) -> Option<usize>
         requires { at < length self.now.items }
-        ensures { (d : AnyRc (AnyFlight P) Allocator) → IsNextPlace
-            (λ one. share P.cmp end (slice_index_or self.now.items at d).value.message.value one.value.message.value)
+        ensures { (d : AnyFlight P) → IsNextPlace
+            (λ one. share P.cmp end (slice_index_or self.now.items at d).message.value one.message.value)
             self.now.items (at + 1) result }
     {
         match end {
@@ -251,7 +248,7 @@ impl<P: Peer> Table<P> {
 
     /// The first place from that one on at which one has finished by a moment, if there is one.
     pub(crate) fn next_finished(&self, from: usize, now: u64) -> Option<usize>
-        ensures { IsNextPlace (λ one. has_come now one.value.finish) self.now.items from result }
+        ensures { IsNextPlace (λ one. has_come now one.finish) self.now.items from result }
     {
         if self.given_up {
             return None;
@@ -261,7 +258,7 @@ impl<P: Peer> Table<P> {
 
     /// The first finish of all, if any finishes.
     pub(crate) fn first_finish(&self) -> Option<u64>
-        ensures { (t : ℕ) → has_come t result ≡ list_any (λ one. has_come t one.value.finish) self.now.items }
+        ensures { (t : ℕ) → has_come t result ≡ list_any (λ one. has_come t one.finish) self.now.items }
     {
         if self.given_up {
             return None;

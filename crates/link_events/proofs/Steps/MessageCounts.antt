@@ -9,8 +9,6 @@ use Rattle.std.proofs.lemmas.List.Filters.{length-filter_both}
 use Rattle.std.specs.Prelude.{◌==◌, ◌≢◌}
 use Rattle.std.proofs.lemmas.Bool.{eqb-true, eq-eqb}
 use Rattle.fair_rates.specs.Lists.WithoutFirst.{without_first}
-use Rattle.std.specs.declared.rc.Rc.{Rc}
-use Rattle.std.specs.declared.alloc.Global.{Global}
 use Rattle.link_flights.specs.declared.flight.Flight.{Flight}
 use Rattle.link_flights.specs.Flights.Flight.{flights_at}
 use Rattle.link_flights.specs.Flights.RatedFlights.{sending_of}
@@ -97,13 +95,13 @@ module _ {P : Type 0} (cmp : P → P → Ordering) where
 
 -- ---- whether something is in flight
 
-pub none_flies : {P : Type 0} (scale at : ℕ) (fs : List (Rc (Flight P) Global)) → (length fs == 0) ≡ true
+pub none_flies : {P : Type 0} (scale at : ℕ) (fs : List (Flight P)) → (length fs == 0) ≡ true
     → sending_of scale (flights_at at fs) ≡ []
 none_flies scale at [] none = refl
 none_flies scale at (f ∷ fs) none =
     let zero_long : length (f ∷ fs) ≡ 0 = eqb-true (length (f ∷ fs)) 0 none in absurd (omega arith)
 
-pub some_fly : {P : Type 0} (scale at : ℕ) (fs : List (Rc (Flight P) Global)) → (length fs == 0) ≡ false
+pub some_fly : {P : Type 0} (scale at : ℕ) (fs : List (Flight P)) → (length fs == 0) ≡ false
     → sending_of scale (flights_at at fs) ≢ []
 some_fly scale at [] some = cc (eq-eqb 0 0 refl)
 some_fly scale at (f ∷ fs) some = λ none. cc

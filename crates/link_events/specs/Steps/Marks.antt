@@ -1,7 +1,5 @@
 -- What is kept of a ledger at a mark, and put back.
 use Rattle.std.specs.Prelude.{◌≡◌, List}
-use Rattle.std.specs.declared.rc.Rc.{Rc}
-use Rattle.std.specs.declared.alloc.Global.{Global}
 use Rattle.link_pairs.specs.Pairs.Entries.{Pair}
 use Rattle.link_pairs.specs.Pairs.PeerCaps.{PeerCaps}
 use Rattle.link_waiting.specs.Idle.Waits.{Waits}
@@ -12,7 +10,7 @@ use Rattle.link_events.specs.declared.marks.Kept.{Kept}
 
 -- what is changed in place, as it was at the last mark
 pub record Before (P : Type 0) : Type 0 where
-  pub flights : List (Rc (Flight P) Global)
+  pub flights : List (Flight P)
   pub peers : List (PeerCaps P)
   pub pairs : List (Pair P)
   pub waiting : Waits P

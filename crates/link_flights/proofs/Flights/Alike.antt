@@ -27,7 +27,7 @@ same_flights one other alloc list scale at floor loose counted settled unsearche
   stood = stood i;
   notes = tt;
   past = prop→path_p
-      (λ j. list_all (λ f. not f.value.rated || nat_le f.value.since (at j)) (list j).items ≡ true) (hlevel Bool-set) one.past
+      (λ j. list_all (λ f. not f.rated || nat_le f.since (at j)) (list j).items ≡ true) (hlevel Bool-set) one.past
       other.past i;
   scaled = prop→path_p (λ j. 0 < scale j) (hlevel le_prop) one.scaled other.scaled i;
   counted = prop→path_p (λ j. counted j ≤ length (list j).items) (hlevel le_prop) one.counted other.counted i;

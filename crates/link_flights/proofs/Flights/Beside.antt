@@ -308,10 +308,10 @@ module _ {P : Type 0} (cmp : P → P → Ordering) (component : Component P) whe
       }
 
   -- what is kept does not depend on the moment
-  pub kept_always : (now : ℕ) (list : List (Rc (Flight P) Global))
+  pub kept_always : (now : ℕ) (list : List (Flight P))
       → map kept (flights_at 0 list) ≡ map kept (flights_at now list)
   kept_always now [] = refl
-  kept_always now (f ∷ list) = ap (λ ks. kept (flight_at 0 f.value) ∷ ks) (kept_always now list)
+  kept_always now (f ∷ list) = ap (λ ks. kept (flight_at 0 f) ∷ ks) (kept_always now list)
 
 -- ---- what is kept tells of each whether it is rated anew
 
@@ -327,27 +327,27 @@ module _ {P : Type 0} (cmp : P → P → Ordering) (component : Component P) whe
   abbrev value : Option (Rc ℕ Global) → Option ℕ
   value rate = option_map (λ (r : Rc ℕ Global). r.value) rate
 
-  abbrev keeping : List (Rc (Flight P) Global) → List (Option ℕ)
+  abbrev keeping : List (Flight P) → List (Option ℕ)
   keeping fs = map (kept_by cmp component) (flights_at 0 fs)
 
   -- one more
-  pub kept_more : (ks : List (Option (Rc ℕ Global))) (rate : Option (Rc ℕ Global)) (fs : List (Rc (Flight P) Global))
-      (at : ℕ) (one : Rc (Flight P) Global) → at < length fs → one ≡ get_or fs at one
-      → option_map (λ r. r.value) rate ≡ kept_by cmp component (flight_at 0 one.value)
+  pub kept_more : (ks : List (Option (Rc ℕ Global))) (rate : Option (Rc ℕ Global)) (fs : List (Flight P))
+      (at : ℕ) (one : Flight P) → at < length fs → one ≡ get_or fs at one
+      → option_map (λ r. r.value) rate ≡ kept_by cmp component (flight_at 0 one)
       → AreKept cmp component ks (take at fs) → AreKept cmp component (ks ++ rate ∷ []) (take (at + 1) fs)
   kept_more ks rate fs at one lt is same kept =
       map-append value ks (rate ∷ []) ∙ ap (λ l. l ++ value rate ∷ []) kept
       ∙ ap (λ v. keeping (take at fs) ++ v ∷ []) same
       ∙ sym (ap (map (kept_by cmp component)) (one_more cmp 0 fs at one lt is)
-      ∙ map-append (kept_by cmp component) (flights_at 0 (take at fs)) (flight_at 0 one.value ∷ []))
+      ∙ map-append (kept_by cmp component) (flights_at 0 (take at fs)) (flight_at 0 one ∷ []))
 
-  pub told_by_kept : (ks : List (Option (Rc ℕ Global))) (fs : List (Rc (Flight P) Global)) → AreKept cmp component ks fs
+  pub told_by_kept : (ks : List (Option (Rc ℕ Global))) (fs : List (Flight P)) → AreKept cmp component ks fs
       → AreToldOf cmp component ks fs
   told_by_kept ks fs kept i f there =
-      let u = flight_at 0 f.value in
+      let u = flight_at 0 f in
       let unit : slice_get (flights_at 0 fs) i ≡ Some u =
-      slice_get-map (λ (g : Rc (Flight P) Global). flight_at 0 g.value) fs i
-      ∙ ap (option_map (λ (g : Rc (Flight P) Global). flight_at 0 g.value)) there in
+      slice_get-map (λ (g : Flight P). flight_at 0 g) fs i
+      ∙ ap (option_map (λ (g : Flight P). flight_at 0 g)) there in
       let other : slice_get (keeping fs) i ≡ Some (kept_by cmp component u) =
       slice_get-map (kept_by cmp component) (flights_at 0 fs) i ∙ ap (option_map (kept_by cmp component)) unit in
       sym (none_read (get_or ks i None))

@@ -24,30 +24,30 @@ use Rattle.link_flights.specs.Flights.Flight.{UnitFlight, flight_at, flights_at}
 use Rattle.link_flights.specs.Flights.RatedFlights.{are_standing}
 use Rattle.link_flights.proofs.Flights.InFlight.{StandsForSent, standing_with, filter_yes}
 
-module _ {P : Type 0} (cmp : P → P → Ordering) (now : ℕ) (list : List (Rc (Flight P) Global)) (at : ℕ)
-    (one : Rc (Flight P) Global) (inside : at < length list) (is : one ≡ get_or list at one) where
+module _ {P : Type 0} (cmp : P → P → Ordering) (now : ℕ) (list : List (Flight P)) (at : ℕ)
+    (one : Flight P) (inside : at < length list) (is : one ≡ get_or list at one) where
   -- those up to the next place
   pub one_more : flights_at now (take (at + 1) list)
-      ≡ flights_at now (take at list) ++ flight_at now one.value ∷ []
+      ≡ flights_at now (take at list) ++ flight_at now one ∷ []
   one_more =
       ap (flights_at now) (take_more list at one inside ∙ ap (λ x. take at list ++ x ∷ []) (sym is))
-      ∙ map-append (λ (f : Rc (Flight P) Global). flight_at now f.value) (take at list) (one ∷ [])
+      ∙ map-append (λ (f : Flight P). flight_at now f) (take at list) (one ∷ [])
 
-  pub standing_more : (fs : List (Flow P)) (f : Flow P) → StandsForSent cmp f (flight_at now one.value)
+  pub standing_more : (fs : List (Flow P)) (f : Flow P) → StandsForSent cmp f (flight_at now one)
       → are_standing cmp fs (flights_at now (take at list)) ≡ true
       → are_standing cmp (fs ++ f ∷ []) (flights_at now (take (at + 1) list)) ≡ true
   standing_more fs f stands h =
       ap (are_standing cmp (fs ++ f ∷ [])) one_more
-      ∙ standing_with cmp fs (flights_at now (take at list)) f (flight_at now one.value) h stands
+      ∙ standing_with cmp fs (flights_at now (take at list)) f (flight_at now one) h stands
 
   -- the ends of the message there stand for it
-  pub ends_more : IsTotalOrder cmp → (es : List (Ends P)) (e : Ends P) → e.origin.now ≡ one.value.message.value.origin
-      → e.recipient.now ≡ one.value.message.value.recipient
-      → e.delivered ≡ is_delivered cmp (message_of one.value.message.value)
+  pub ends_more : IsTotalOrder cmp → (es : List (Ends P)) (e : Ends P) → e.origin.now ≡ one.message.value.origin
+      → e.recipient.now ≡ one.message.value.recipient
+      → e.delivered ≡ is_delivered cmp (message_of one.message.value)
       → are_standing cmp (map flow_of es) (flights_at now (take at list)) ≡ true
       → are_standing cmp (map flow_of (es ++ e ∷ [])) (flights_at now (take (at + 1) list)) ≡ true
   ends_more order es e origin recipient delivered h =
-      let m = one.value.message.value in
+      let m = one.message.value in
       subst (λ fs. are_standing cmp fs (flights_at now (take (at + 1) list)) ≡ true)
       (sym (map-append flow_of es (e ∷ [])))
       (standing_more (map flow_of es) (flow_of e)

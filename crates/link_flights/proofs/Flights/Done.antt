@@ -3,8 +3,6 @@ use Rattle.std.proofs.Common.{◌≡◌, ℕ, zero, suc, ◌-◌, ◌*◌, ◌<�
 use Rattle.std.proofs.Common.{if◌then◌else◌, List, [], ◌∷◌, length, get_or, refl, sym, ap, ap₂}
 use Rattle.std.proofs.Common.{◌∙◌, arith, inl, inr}
 use Rattle.std.specs.Bool.{◌==◌}
-use Rattle.std.specs.declared.rc.Rc.{Rc}
-use Rattle.std.specs.declared.alloc.Global.{Global}
 use Rattle.std.specs.declared.cmp.Ordering.{Ordering}
 use Rattle.std.proofs.lemmas.Bool.{eq-eqb, eqb-true, false≢true, le-leb, leb-true}
 use Rattle.fair_rates.specs.Numbers.Amount.{billion}
@@ -72,22 +70,22 @@ module _ {P : Type 0} (cmp : P → P → Ordering) (caps : Caps P) (scale : ℕ)
       ∙ ap (λ b. b || is_unlimited cmp caps (message_of f.message.value)) (sym is))
 
   -- one that has a rate is limited, where all such are
-  pub limited_there : (at : ℕ) (fs : List (Rc (Flight P) Global)) (i : ℕ) (x : Rc (Flight P) Global)
+  pub limited_there : (at : ℕ) (fs : List (Flight P)) (i : ℕ) (x : Flight P)
       → are_limited cmp caps (rated_ones (flights_at at fs)) ≡ true → i < length fs → x ≡ get_or fs i x
-      → x.value.rated ≡ true
-      → is_unlimited cmp caps (message_of x.value.message.value) ≡ false
+      → x.rated ≡ true
+      → is_unlimited cmp caps (message_of x.message.value) ≡ false
   limited_there at fs i x all lt is rated =
-      by_bool (is_unlimited cmp caps (message_of x.value.message.value))
+      by_bool (is_unlimited cmp caps (message_of x.message.value))
       (λ free. absurd
       (false≢true
       (sym (ap not free) ∙ all_pass (λ (u : UnitFlight P). not (is_unlimited cmp caps (message_of u.message)))
-      (rated_ones (flights_at at fs)) all (flight_at at x.value) among))) (λ e. e)
+      (rated_ones (flights_at at fs)) all (flight_at at x) among))) (λ e. e)
     where
-      there : (fs : List (Rc (Flight P) Global)) (i : ℕ) → i < length fs → x ≡ get_or fs i x → In fs x
+      there : (fs : List (Flight P)) (i : ℕ) → i < length fs → x ≡ get_or fs i x → In fs x
       there [] i lt is = absurd (omega arith)
       there (f ∷ fs) zero lt is = inl (sym is)
       there (f ∷ fs) (suc i) lt is = inr (there fs i (omega arith) is)
 
-      among : In (rated_ones (flights_at at fs)) (flight_at at x.value)
-      among = in_filter (λ (u : UnitFlight P). u.rated) (flights_at at fs) (flight_at at x.value)
-          (in_map (λ (f : Rc (Flight P) Global). flight_at at f.value) fs x (there fs i lt is)) rated
+      among : In (rated_ones (flights_at at fs)) (flight_at at x)
+      among = in_filter (λ (u : UnitFlight P). u.rated) (flights_at at fs) (flight_at at x)
+          (in_map (λ (f : Flight P). flight_at at f) fs x (there fs i lt is)) rated

@@ -6,8 +6,6 @@ use Rattle.std.specs.Prelude.{slice_index}
 use Rattle.std.specs.List.{list_all}
 use Rattle.std.specs.Cmp.{IsTotalOrder}
 use Rattle.std.specs.declared.cmp.Ordering.{Ordering}
-use Rattle.std.specs.declared.rc.Rc.{Rc}
-use Rattle.std.specs.declared.alloc.Global.{Global}
 use Rattle.std.proofs.lemmas.Bool.{false≢true, true≢false}
 use Rattle.std.proofs.lemmas.List.{length-map}
 use Rattle.std.proofs.lemmas.Option.{get_or_from_slice_get}
@@ -64,16 +62,16 @@ module _ {P : Type 0} (cmp : P → P → Ordering) (component : Component P) whe
 
   -- ---- none is rated
 
-  none_those : (now : ℕ) (fs : List (Rc (Flight P) Global))
-      → list_all (λ f. not (is_of cmp component (flight_at 0 f.value))) fs ≡ true
+  none_those : (now : ℕ) (fs : List (Flight P))
+      → list_all (λ f. not (is_of cmp component (flight_at 0 f))) fs ≡ true
       → those_of cmp component (flights_at now fs) ≡ []
   none_those now [] none = refl
   none_those now (f ∷ fs) none =
-      filter_no (is_of cmp component) (flight_at now f.value) (flights_at now fs)
-      (not_true (is_of cmp component (flight_at 0 f.value)) (first_of_both _ _ none))
-      ∙ none_those now fs (second_of_both (not (is_of cmp component (flight_at 0 f.value))) _ none)
+      filter_no (is_of cmp component) (flight_at now f) (flights_at now fs)
+      (not_true (is_of cmp component (flight_at 0 f)) (first_of_both _ _ none))
+      ∙ none_those now fs (second_of_both (not (is_of cmp component (flight_at 0 f))) _ none)
 
-  pub none_of : (now : ℕ) (list : List (Rc (Flight P) Global)) → none_is_rated cmp component list ≡ true
+  pub none_of : (now : ℕ) (list : List (Flight P)) → none_is_rated cmp component list ≡ true
       → those_of cmp component (flights_at now list) ≡ []
   none_of now list none =
       sym (beside.those_near cmp component (flights_at now list))
@@ -177,21 +175,21 @@ module _ {P : Type 0} (cmp : P → P → Ordering) (component : Component P) whe
     }
 
   -- that it keeps no rate tells no list of kept rates
-  pub only_told : (f : Rc (Flight P) Global) → is_of cmp component (flight_at 0 f.value) ≡ true
-      → (fs : List (Rc (Flight P) Global)) → fs ≡ f ∷ [] → AreToldOf cmp component [] fs
+  pub only_told : (f : Flight P) → is_of cmp component (flight_at 0 f) ≡ true
+      → (fs : List (Flight P)) → fs ≡ f ∷ [] → AreToldOf cmp component [] fs
   only_told f of fs is i g there = by_place i (ap (λ l. slice_get l i) (sym is) ∙ there)
     where
-      by_place : (i : ℕ) → slice_get (f ∷ []) i ≡ Some g → true ≡ is_of cmp component (flight_at 0 g.value)
+      by_place : (i : ℕ) → slice_get (f ∷ []) i ≡ Some g → true ≡ is_of cmp component (flight_at 0 g)
       by_place zero here =
           let same : f ≡ g = cc in
-          sym of ∙ ap (λ (h : Rc (Flight P) Global). is_of cmp component (flight_at 0 h.value)) same
+          sym of ∙ ap (λ (h : Flight P). is_of cmp component (flight_at 0 h)) same
       by_place (suc i) here = cc
 
 -- where it has an end of only the one at a place
-module _ {P : Type 0} (cmp : P → P → Ordering) (component : Component P) (list : List (Rc (Flight P) Global))
+module _ {P : Type 0} (cmp : P → P → Ordering) (component : Component P) (list : List (Flight P))
     (are : AreNear cmp component component.near.items list) (one : length component.near.items ≡ 1)
-    (d : Rc (Flight P) Global) where
-  abbrev there : Rc (Flight P) Global
+    (d : Flight P) where
+  abbrev there : Flight P
   there = get_or list (get_or component.near.items 0 0) d
 
   pub one_near : those_near cmp component list ≡ there ∷ []
@@ -203,17 +201,17 @@ module _ {P : Type 0} (cmp : P → P → Ordering) (component : Component P) (li
       (sym (get_or_from_slice_get list (get_or component.near.items 0 0) x.0 d
       (part_there cmp component list are 0 x.0 x.1)))
     where
-      only_first : (xs : List (Rc (Flight P) Global)) (x : Rc (Flight P) Global) → length xs ≡ 1
+      only_first : (xs : List (Flight P)) (x : Flight P) → length xs ≡ 1
           → slice_get xs 0 ≡ Some x → xs ≡ x ∷ []
       only_first [] x long first = absurd (omega (arith, long))
       only_first (y ∷ []) x long first = let same : y ≡ x = cc in ap (λ z. z ∷ []) same
       only_first (y ∷ z ∷ xs) x long first = absurd (omega (arith, long))
 
   -- where not none is rated anew, it is
-  pub one_rated : none_is_rated cmp component list ≡ false → is_of cmp component (flight_at 0 there.value) ≡ true
+  pub one_rated : none_is_rated cmp component list ≡ false → is_of cmp component (flight_at 0 there) ≡ true
   one_rated some =
-      by_test (is_of cmp component (flight_at 0 there.value))
-      (sym (ap (list_all (λ f. not (is_of cmp component (flight_at 0 f.value)))) one_near) ∙ some)
+      by_test (is_of cmp component (flight_at 0 there))
+      (sym (ap (list_all (λ f. not (is_of cmp component (flight_at 0 f)))) one_near) ∙ some)
     where
       by_test : (b : Bool) → (not b && true) ≡ false → b ≡ true
       by_test true is = refl

@@ -4,8 +4,6 @@ use Rattle.std.proofs.Common.{if◌then◌else◌, List, [], ◌∷◌, length, 
 use Rattle.std.proofs.Common.{slice_get}
 use Rattle.std.proofs.Common.{refl, sym, ap, ◌∙◌, subst, arith, inl, inr, ◌⊎◌}
 use Rattle.std.specs.List.{AllZip, remove, list_all}
-use Rattle.std.specs.declared.rc.Rc.{Rc}
-use Rattle.std.specs.declared.alloc.Global.{Global}
 use Rattle.std.proofs.lemmas.Bool.{le-leb, leb-true, and_from}
 use Rattle.std.proofs.lemmas.List.{set-get_or, length-append}
 use Rattle.fair_rates.proofs.Lists.Zips.{zip-length}
@@ -14,7 +12,7 @@ use Rattle.fair_rates.proofs.Lists.Booleans.{first_of_both, second_of_both}
 use Rattle.fair_rates.proofs.Lists.InPlace.{IsChangedUpTo, one_more}
 use Rattle.link_flights.specs.declared.flight.Flight.{Flight}
 use Rattle.link_flights.specs.Flights.Flight.{UnitFlight, rate_of, left_by, flight_at, flights_at, IsTimed}
-use Rattle.link_flights.specs.Flights.Flight.{AreTimed, DrainsTo, IsPutAt}
+use Rattle.link_flights.specs.Flights.Flight.{AreTimed, DrainsTo}
 
 -- ---- lists that change at a place
 
@@ -166,61 +164,61 @@ module _ {P : Type 0} where
 
   -- it drains to the moment; it has its rate since no later; and where the moment does not go back, its finish is as
   -- right as before
-  pub record IsBrought (at now : ℕ) (f g : Rc (Flight P) Global) : Type 0 where
-    pub drains : DrainsTo now (flight_at at f.value) (flight_at now g.value)
-    pub past_now : (not g.value.rated || nat_le g.value.since now) ≡ true
-    pub past_at : (not g.value.rated || nat_le g.value.since at) ≡ true
-    pub timed : at ≤ now → (f.value.rated ≡ true → IsTimed f.value) → g.value.rated ≡ true → IsTimed g.value
+  pub record IsBrought (at now : ℕ) (f g : Flight P) : Type 0 where
+    pub drains : DrainsTo now (flight_at at f) (flight_at now g)
+    pub past_now : (not g.rated || nat_le g.since now) ≡ true
+    pub past_at : (not g.rated || nat_le g.since at) ≡ true
+    pub timed : at ≤ now → (f.rated ≡ true → IsTimed f) → g.rated ≡ true → IsTimed g
 
   -- the fact that it has its rate since no later
   abbrev pub is_past_flight : ℕ → Flight P → Bool
   is_past_flight at f = not f.rated || nat_le f.since at
 
-  abbrev pub is_past : ℕ → Rc (Flight P) Global → Bool
-  is_past at one = is_past_flight at one.value
+  abbrev pub is_past : ℕ → Flight P → Bool
+  is_past at one = is_past_flight at one
 
-  pub past_so : (at : ℕ) (f : Rc (Flight P) Global) → is_past at f ≡ true → f.value.rated ≡ true → f.value.since ≤ at
-  past_so at f h is = leb-true f.value.since at (sym (ap (λ b. not b || nat_le f.value.since at) is) ∙ h)
+  pub past_so : (at : ℕ) (f : Flight P) → is_past at f ≡ true → f.rated ≡ true → f.since ≤ at
+  past_so at f h is = leb-true f.since at (sym (ap (λ b. not b || nat_le f.since at) is) ∙ h)
 
-  pub so_past : (at : ℕ) (f : Rc (Flight P) Global) → f.value.since ≤ at → is_past at f ≡ true
-  so_past at f le = by_flag f.value.rated
+  pub so_past : (at : ℕ) (f : Flight P) → f.since ≤ at → is_past at f ≡ true
+  so_past at f le = by_flag f.rated
     where
-      by_flag : (b : Bool) → (not b || nat_le f.value.since at) ≡ true
-      by_flag true = le-leb f.value.since at le
+      by_flag : (b : Bool) → (not b || nat_le f.since at) ≡ true
+      by_flag true = le-leb f.since at le
       by_flag false = refl
 
   -- another one that has its rate since the same moment
-  pub past_alike : (at : ℕ) (f g : Rc (Flight P) Global) → g.value.since ≡ f.value.since → g.value.rated ≡ f.value.rated
+  pub past_alike : (at : ℕ) (f g : Flight P) → g.since ≡ f.since → g.rated ≡ f.rated
       → is_past at f ≡ true → is_past at g ≡ true
   past_alike at f g since rated past =
-      ap (λ b. not b || nat_le g.value.since at) rated ∙ ap (λ n. not f.value.rated || nat_le n at) since ∙ past
+      ap (λ b. not b || nat_le g.since at) rated ∙ ap (λ n. not f.rated || nat_le n at) since ∙ past
 
   -- one that is passed over
-  pub is_counted_on : (at now : ℕ) (f : Rc (Flight P) Global) → f.value.rated ≡ true → is_past at f ≡ true → at ≤ now
+  pub is_counted_on : (at now : ℕ) (f : Flight P) → f.rated ≡ true → is_past at f ≡ true → at ≤ now
       → IsBrought at now f f
   is_counted_on at now f is past later =
-      let since : f.value.since ≤ at = past_so at f past is in
+      let since : f.since ≤ at = past_so at f past is in
       record {
-        drains = counted_on at now f.value is since later;
+        drains = counted_on at now f is since later;
         past_now = so_past now f (omega arith);
         past_at = past;
         timed = λ le h. h;
       }
 
   -- one that is brought to another moment
-  pub is_brought : (at now : ℕ) (f g : Rc (Flight P) Global) → now < at ⊎ f.value.rated ≡ false
-      → g.value.id ≡ f.value.id → g.value.message.value ≡ f.value.message.value
-      → g.value.left ≡ (flight_at at f.value).left → rate_of g.value.rate ≡ rate_of f.value.rate
-      → g.value.since ≡ now → g.value.rated ≡ f.value.rated → IsBrought at now f g
+  pub is_brought : (at now : ℕ) (f g : Flight P) → now < at ⊎ f.rated ≡ false
+      → g.id ≡ f.id → g.message.value ≡ f.message.value
+      → g.left ≡ (flight_at at f).left → rate_of g.rate ≡ rate_of f.rate
+      → g.since ≡ now → g.rated ≡ f.rated → IsBrought at now f g
   is_brought at now f g back id message left rate since rated = record {
     drains =
-        brought at now f.value g.value (elim back [ inl lt ↦ inl (omega arith) | inr none ↦ inr none ]) id message left
+        brought at now f g (elim back [ inl lt ↦ inl (omega arith) | inr none ↦ inr none ]) id message left
         rate
         since rated;
     past_now = so_past now g (omega (arith, since));
     past_at = elim back [
       | inl lt ↦ so_past at g (omega (arith, since))
-      | inr none ↦ ap (λ b. not b || nat_le g.value.since at) (rated ∙ none)
+      | inr none ↦ ap (λ b. not b || nat_le g.since at) (rated ∙ none)
     ];
     timed = λ later h is. elim back [
       | inl lt ↦ absurd (omega arith)
@@ -230,50 +228,46 @@ module _ {P : Type 0} where
 
   -- ---- one after another
 
-  module _ (at now : ℕ) (old so_far : List (Rc (Flight P) Global)) (i : ℕ)
-      (h : IsChangedUpTo (IsBrought at now) old so_far i) (x : Rc (Flight P) Global) (lt : i < length so_far)
+  module _ (at now : ℕ) (old so_far : List (Flight P)) (i : ℕ)
+      (h : IsChangedUpTo (IsBrought at now) old so_far i) (x : Flight P) (lt : i < length so_far)
       (is : x ≡ get_or so_far i x) where
-    pub next_brought : (f : Flight P) (new : List (Rc (Flight P) Global)) → IsPutAt i f so_far new
-        → now < at ⊎ x.value.rated ≡ false
-        → f.id ≡ x.value.id → f.message.value ≡ x.value.message.value → f.left ≡ (flight_at at x.value).left
-        → rate_of f.rate ≡ rate_of x.value.rate → f.since ≡ now → f.rated ≡ x.value.rated
+    pub next_brought : (f : Flight P) (new : List (Flight P)) → new ≡ set so_far i f
+        → now < at ⊎ x.rated ≡ false
+        → f.id ≡ x.id → f.message.value ≡ x.message.value → f.left ≡ (flight_at at x).left
+        → rate_of f.rate ≡ rate_of x.rate → f.since ≡ now → f.rated ≡ x.rated
         → IsChangedUpTo (IsBrought at now) old new (i + 1)
     next_brought f new put back id message left rate since rated =
-        subst (λ l. IsChangedUpTo (IsBrought at now) old l (i + 1)) (sym put.others)
-        (one_more (IsBrought at now) old so_far i h x put.one lt is
-        (is_brought at now x put.one back (ap (λ (y : Flight P). y.id) put.is ∙ id)
-        (ap (λ (y : Flight P). y.message.value) put.is ∙ message)
-        (ap (λ (y : Flight P). y.left) put.is ∙ left)
-        (ap (λ (y : Flight P). rate_of y.rate) put.is ∙ rate) (ap (λ (y : Flight P). y.since) put.is ∙ since)
-        (ap (λ (y : Flight P). y.rated) put.is ∙ rated)))
+        subst (λ l. IsChangedUpTo (IsBrought at now) old l (i + 1)) (sym put)
+        (one_more (IsBrought at now) old so_far i h x f lt is
+        (is_brought at now x f back id message left rate since rated))
 
-    pub next_counted_on : x.value.rated ≡ true → list_all (is_past at) so_far ≡ true → at ≤ now
+    pub next_counted_on : x.rated ≡ true → list_all (is_past at) so_far ≡ true → at ≤ now
         → IsChangedUpTo (IsBrought at now) old so_far (i + 1)
     next_counted_on rated past later =
         one_same (IsBrought at now) old so_far i x h lt is
         (is_counted_on at now x rated (all_there (is_past at) so_far i x past lt is) later)
 
-    pub next_stands : (b : Bool) → x.value.rated ≡ b → (x.value.rated ≡ false → x.value.since ≡ now)
+    pub next_stands : (b : Bool) → x.rated ≡ b → (x.rated ≡ false → x.since ≡ now)
         → list_all (is_past at) so_far ≡ true → at ≤ now → IsChangedUpTo (IsBrought at now) old so_far (i + 1)
     next_stands true rated since past later = next_counted_on rated past later
     next_stands false none since past later =
         one_same (IsBrought at now) old so_far i x h lt is
         (is_brought at now x x (inr none) refl refl
-        (sym (ap (λ b. if b then left_by at x.value else x.value.left) none)) refl (since none) refl)
+        (sym (ap (λ b. if b then left_by at x else x.left) none)) refl (since none) refl)
 
   -- ---- all of them
 
-  pub all_drained : (at now : ℕ) (fs gs : List (Rc (Flight P) Global)) → AllZip (IsBrought at now) fs gs
+  pub all_drained : (at now : ℕ) (fs gs : List (Flight P)) → AllZip (IsBrought at now) fs gs
       → AllZip (DrainsTo now) (flights_at at fs) (flights_at now gs)
   all_drained at now fs gs z =
-      zip_read (IsBrought at now) (DrainsTo now) (λ f. flight_at at f.value) (λ g. flight_at now g.value)
+      zip_read (IsBrought at now) (DrainsTo now) (λ f. flight_at at f) (λ g. flight_at now g)
       (λ f g b. b.drains) fs gs z
 
-  pub all_past : (at now : ℕ) (fs gs : List (Rc (Flight P) Global)) → AllZip (IsBrought at now) fs gs
+  pub all_past : (at now : ℕ) (fs gs : List (Flight P)) → AllZip (IsBrought at now) fs gs
       → list_all (is_past now) gs ≡ true
   all_past at now fs gs z = zip_passes (IsBrought at now) (is_past now) (λ f g b. b.past_now) fs gs z
 
-  pub all_timed : (at now : ℕ) (fs gs : List (Rc (Flight P) Global)) → AllZip (IsBrought at now) fs gs → at ≤ now
+  pub all_timed : (at now : ℕ) (fs gs : List (Flight P)) → AllZip (IsBrought at now) fs gs → at ≤ now
       → AreTimed fs → AreTimed gs
   all_timed at now fs gs z later timed i g is rated =
       let r = zip_there (IsBrought at now) fs gs i g z is in

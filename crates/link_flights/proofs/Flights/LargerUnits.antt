@@ -2,13 +2,11 @@
 use Prim.Native.Nat.{◌∣◌}
 use Rattle.std.proofs.Common.{◌≡◌, ℕ, zero, suc, ◌-◌, ◌*◌, ◌/◌, ◌%◌, ◌<◌, ◌≤◌, nat_le, Bool, true, false, cond}
 use Rattle.std.proofs.Common.{if◌then◌else◌, List, [], ◌∷◌, Some, slice_get, refl, sym, ap, ◌∙◌, subst, arith}
-use Rattle.std.proofs.Common.{inl, inr, ◌⊎◌, ◌+◌, length, get_or, map, Option, Contains}
+use Rattle.std.proofs.Common.{inl, inr, ◌+◌, length, get_or, map, Option, Contains}
 use Rattle.std.specs.Prelude.{slice_index}
 use Rattle.std.specs.Int.{IsGcd}
 use Rattle.std.specs.List.{AllZip}
 use Rattle.std.specs.declared.cmp.Ordering.{Ordering}
-use Rattle.std.specs.declared.rc.Rc.{Rc}
-use Rattle.std.specs.declared.alloc.Global.{Global}
 use Rattle.std.proofs.Math.Nat.{mul-sub, mul_assoc, mul_comm, mul-div_cancel', le_of_mul-le-mul_left, mul-le-mul_left}
 use Rattle.std.proofs.Math.Nat.{mul-lt-mul_of_pos_left}
 use Rattle.std.proofs.lemmas.Nat.Gcd.{IsGcd-from_mod, dvd_trans}
@@ -56,14 +54,14 @@ same_order by a b some = elim (cases_lt b a) [
 -- ---- a factor of all so far
 
 -- a number divides the scale, and what is kept of the messages before a place
-pub record IsFactorUpTo {P : Type 0} (scale : ℕ) (fs : List (Rc (Flight P) Global)) (at by : ℕ) : Type 0 where
+pub record IsFactorUpTo {P : Type 0} (scale : ℕ) (fs : List (Flight P)) (at by : ℕ) : Type 0 where
   pub some : 0 < by
   pub units : by ∣ scale
-  pub so_far : (i : ℕ) (f : Rc (Flight P) Global) → i < at → slice_get fs i ≡ Some f → IsFactorOf f.value by
+  pub so_far : (i : ℕ) (f : Flight P) → i < at → slice_get fs i ≡ Some f → IsFactorOf f by
 
-module _ {P : Type 0} (scale : ℕ) (fs : List (Rc (Flight P) Global)) where
-  pub next_factor : (at by next : ℕ) (x : Rc (Flight P) Global) → IsFactorUpTo scale fs at by → at < length fs
-      → x ≡ get_or fs at x → next ∣ by → IsFactorOf x.value next → IsFactorUpTo scale fs (at + 1) next
+module _ {P : Type 0} (scale : ℕ) (fs : List (Flight P)) where
+  pub next_factor : (at by next : ℕ) (x : Flight P) → IsFactorUpTo scale fs at by → at < length fs
+      → x ≡ get_or fs at x → next ∣ by → IsFactorOf x next → IsFactorUpTo scale fs (at + 1) next
   next_factor at by next x h inside is part here = record {
     some = here.some;
     units = dvd_trans next part h.units;
@@ -73,7 +71,7 @@ module _ {P : Type 0} (scale : ℕ) (fs : List (Rc (Flight P) Global)) where
           record { some = here.some; left = dvd_trans next part last.left; rate = dvd_trans next part last.rate }
       | inr le ↦
           let same : i ≡ at = omega arith in
-          subst (λ y. IsFactorOf y.value next)
+          subst (λ y. IsFactorOf y next)
           (same_Some x f (sym (slice_get_read fs (length fs) at x refl inside is)
           ∙ ap (slice_get fs) (sym same) ∙ there)) here
     ];
@@ -217,13 +215,13 @@ module _ {P : Type 0} (by : ℕ) where
 
   -- ---- all of them
 
-  pub larger_units : (at : ℕ) (fs gs : List (Rc (Flight P) Global)) → IsFactorOfAll fs by → AreCountedBy by fs gs
+  pub larger_units : (at : ℕ) (fs gs : List (Flight P)) → IsFactorOfAll fs by → AreCountedBy by fs gs
       → AllZip IsLarger (flights_at at fs) (flights_at at gs)
   larger_units at [] [] all z = tt
   larger_units at [] (g ∷ gs) all z = absurd z
   larger_units at (f ∷ fs) [] all z = absurd z
   larger_units at (f ∷ fs) (g ∷ gs) all z =
-      (larger_unit at f.value g.value (all 0 f refl) z.0, larger_units at fs gs (λ i h is. all (suc i) h is) z.1)
+      (larger_unit at f g (all 0 f refl) z.0, larger_units at fs gs (λ i h is. all (suc i) h is) z.1)
 
   pub worth_as_before : (scale new : ℕ) (us vs : List (UnitFlight P)) → 0 < by → 0 < new → scale ≡ by * new
       → AllZip IsLarger us vs → sending_of scale us ≡ sending_of new vs
@@ -234,11 +232,11 @@ module _ {P : Type 0} (by : ℕ) where
       worth_same scale new u v some positive is z.0 i
       ∷ worth_as_before scale new us vs some positive is z.1 i
 
-  pub timed_as_before : (fs gs : List (Rc (Flight P) Global)) → IsFactorOfAll fs by → AreCountedBy by fs gs
+  pub timed_as_before : (fs gs : List (Flight P)) → IsFactorOfAll fs by → AreCountedBy by fs gs
       → AreTimed fs → AreTimed gs
   timed_as_before fs gs all z timed i g is rated =
-      let r = zip_there (λ f g. IsCountedBy by f.value g.value) fs gs i g z is in
-      timed_in_larger r.0.value g.value (all i r.0 r.1) r.2 (timed i r.0 r.1 (sym r.2.rated ∙ rated))
+      let r = zip_there (λ f g. IsCountedBy by f g) fs gs i g z is in
+      timed_in_larger r.0 g (all i r.0 r.1) r.2 (timed i r.0 r.1 (sym r.2.rated ∙ rated))
 
   rated_larger : (us vs : List (UnitFlight P)) → AllZip IsLarger us vs → AllZip IsLarger (rated_ones us) (rated_ones vs)
   rated_larger [] [] z = tt

@@ -2,8 +2,6 @@
 use Rattle.std.proofs.Common.{◌≡◌, ℕ, zero, suc, Bool, true, false, cond, not, List, [], ◌∷◌, map}
 use Rattle.std.proofs.Common.{Some, slice_get, refl, sym, ap, ◌∙◌}
 use Rattle.std.specs.List.{filter, remove}
-use Rattle.std.specs.declared.rc.Rc.{Rc}
-use Rattle.std.specs.declared.alloc.Global.{Global}
 use Rattle.std.specs.declared.cmp.Ordering.{Ordering}
 use Rattle.std.proofs.lemmas.Bool.{and_from}
 use Rattle.std.proofs.lemmas.Option.{none-some}
@@ -23,7 +21,7 @@ read_without f (x ∷ xs) zero = refl
 read_without f (x ∷ xs) (suc at) = ap (λ l. f x ∷ l) (read_without f xs at)
 
 module _ {P : Type 0} where
-  there : (fs : List (Rc (Flight P) Global)) (at i : ℕ) (f : Rc (Flight P) Global) → slice_get (remove fs at) i ≡ Some f
+  there : (fs : List (Flight P)) (at i : ℕ) (f : Flight P) → slice_get (remove fs at) i ≡ Some f
       → (j : ℕ) × (slice_get fs j ≡ Some f)
   there [] zero i f is = absurd (none-some f is)
   there [] (suc at) i f is = absurd (none-some f is)
@@ -33,7 +31,7 @@ module _ {P : Type 0} where
       let r : (j : ℕ) × (slice_get fs j ≡ Some f) = there fs at i f is in (suc r.0, r.1)
 
   -- those that are left are timed, if all were
-  pub timed_without : (fs : List (Rc (Flight P) Global)) (at : ℕ) → AreTimed fs → AreTimed (remove fs at)
+  pub timed_without : (fs : List (Flight P)) (at : ℕ) → AreTimed fs → AreTimed (remove fs at)
   timed_without fs at timed i f is rated = let r = there fs at i f is in timed r.0 f r.1 rated
 
   module _ (cmp : P → P → Ordering) (caps : Caps P) where
@@ -62,28 +60,28 @@ module _ {P : Type 0} where
             (ih (second_of_both _ (are_limited cmp caps (rated_ones us)) all))
         by_test ih false all = ih all
 
-    pub flights_limited_without : (at : ℕ) (fs : List (Rc (Flight P) Global)) (i : ℕ)
+    pub flights_limited_without : (at : ℕ) (fs : List (Flight P)) (i : ℕ)
         → are_limited cmp caps (rated_ones (flights_at at fs)) ≡ true
         → are_limited cmp caps (rated_ones (flights_at at (remove fs i))) ≡ true
     flights_limited_without at fs i all =
         ap (λ us. are_limited cmp caps (rated_ones us))
-        (read_without (λ (f : Rc (Flight P) Global). flight_at at f.value) fs i)
+        (read_without (λ (f : Flight P). flight_at at f) fs i)
         ∙ limited_without (flights_at at fs) i all
 
     -- those that are done have left, and the others have stayed
-    pub parted_so : (scale at : ℕ) (old now : List (Rc (Flight P) Global)) (done : List (Message P))
+    pub parted_so : (scale at : ℕ) (old now : List (Flight P)) (done : List (Message P))
         → done
-        ≡ map (λ f. message_of f.value.message.value) (filter (λ f. is_out cmp caps scale (flight_at at f.value)) old)
-        → now ≡ filter (λ f. not (is_out cmp caps scale (flight_at at f.value))) old
+        ≡ map (λ f. message_of f.message.value) (filter (λ f. is_out cmp caps scale (flight_at at f)) old)
+        → now ≡ filter (λ f. not (is_out cmp caps scale (flight_at at f))) old
         → ArePartedBy (is_out cmp caps scale) (flights_at at old) done (flights_at at now)
     parted_so scale at old now done left stay =
-        let read = λ (f : Rc (Flight P) Global). flight_at at f.value in
+        let read = λ (f : Flight P). flight_at at f in
         record {
           left = left ∙ sent_of _ ∙ sym (ap sent_messages (read_filter read (is_out cmp caps scale) old));
           stay = ap (flights_at at) stay ∙ sym (read_filter read (λ u. not (is_out cmp caps scale u)) old);
         }
       where
-        sent_of : (fs : List (Rc (Flight P) Global))
-            → map (λ f. message_of f.value.message.value) fs ≡ sent_messages (flights_at at fs)
+        sent_of : (fs : List (Flight P))
+            → map (λ f. message_of f.message.value) fs ≡ sent_messages (flights_at at fs)
         sent_of [] = refl
-        sent_of (f ∷ fs) = ap (λ (l : List (Message P)). message_of f.value.message.value ∷ l) (sent_of fs)
+        sent_of (f ∷ fs) = ap (λ (l : List (Message P)). message_of f.message.value ∷ l) (sent_of fs)

@@ -1,15 +1,11 @@
 -- What is loose, step by step.
-use Rattle.std.proofs.Common.{◌≡◌, ℕ, suc, ◌+◌, ◌<◌, ◌≤◌, Bool, true, false, List, [], ◌∷◌, Option, Some, None, length}
+use Rattle.std.proofs.Common.{◌≡◌, ℕ, ◌+◌, ◌<◌, Bool, true, List, [], ◌∷◌, Option, Some, None, length}
 use Rattle.std.proofs.Common.{get_or, ◌++◌, Contains, refl, sym, ap, ◌∙◌, subst, arith, inl, inr, map}
 use Rattle.std.specs.Prelude.{slice_get}
 use Rattle.std.specs.Cmp.{IsTotalOrder}
 use Rattle.std.specs.declared.cmp.Ordering.{Ordering}
-use Rattle.std.specs.declared.rc.Rc.{Rc}
-use Rattle.std.specs.declared.alloc.Global.{Global}
 use Rattle.std.proofs.lemmas.Bool.{false≢true, cases_lt}
 use Rattle.std.proofs.lemmas.Cmp.{eq_by_cmp_equiv}
-use Rattle.std.proofs.lemmas.Option.{slice_get-map}
-use Rattle.fair_rates.specs.Sides.Subjects.{same_peer}
 use Rattle.fair_rates.proofs.Lists.Members.{In, in_from_contains, contains_from_in, in_left, in_right, get_in, get_from_map}
 use Rattle.std.proofs.lemmas.List.{map-append}
 use Rattle.link_simulation.specs.Simulation.Messages.{Message}
@@ -20,7 +16,7 @@ use Rattle.link_flights.specs.declared.flight_list.Flights.{Flights}
 use Rattle.link_flights.specs.declared.table.End.{End}
 use Rattle.link_flights.specs.declared.table.End.TheVariants.{Origin, Recipient}
 use Rattle.link_flights.specs.Flights.Flight.{UnitFlight, flight_at, flights_at}
-use Rattle.link_flights.specs.Flights.InFlight.{in_units, loose_in, IsNextPlace, PassesNowhere, PassesFirstAt}
+use Rattle.link_flights.specs.Flights.InFlight.{in_units, loose_in, IsNextPlace, PassesFirstAt}
 use Rattle.link_flights.specs.Flights.Rated.{IsLoose}
 use Rattle.link_flights.specs.Flights.Loose.{is_at_end, AreStillLoose, IsLooseAt, Loosens, LoosensAt}
 use Rattle.link_flights.specs.Flights.Table.{share}
@@ -41,9 +37,9 @@ module _ {P : Type 0} (cmp : P → P → Ordering) where
   shares_end Recipient p m = refl
 
   -- so the next place is the same
-  pub next_has_end : (end : End) (p : P) (list : List (Rc (Flight P) Global)) (from : ℕ) (next : Option ℕ)
-      → IsNextPlace (λ one. share cmp end (letter p) one.value.message.value) list from next
-      → IsNextPlace (λ one. is_at_end cmp end p one.value.message.value) list from next
+  pub next_has_end : (end : End) (p : P) (list : List (Flight P)) (from : ℕ) (next : Option ℕ)
+      → IsNextPlace (λ one. share cmp end (letter p) one.message.value) list from next
+      → IsNextPlace (λ one. is_at_end cmp end p one.message.value) list from next
   next_has_end Origin p list from None is = is
   next_has_end Origin p list from (Some at) is =
       record { low = is.low; high = is.high; before = is.before; here = is.here }
@@ -57,18 +53,18 @@ module _ {P : Type 0} (cmp : P → P → Ordering) where
   end_alike order Recipient p n other same = (eq_by_cmp_equiv order).congr p n.recipient other.recipient same
 
   -- those that share an end with one that has the peer there have it there
-  next_of_end : IsTotalOrder cmp → (end : End) (p : P) (list : List (Rc (Flight P) Global)) (from : ℕ)
+  next_of_end : IsTotalOrder cmp → (end : End) (p : P) (list : List (Flight P)) (from : ℕ)
       (next : Option ℕ) (n : code.Message P) → is_at_end cmp end p n ≡ true
-      → IsNextPlace (λ other. share cmp end n other.value.message.value) list from next
-      → IsNextPlace (λ other. is_at_end cmp end p other.value.message.value) list from next
+      → IsNextPlace (λ other. share cmp end n other.message.value) list from next
+      → IsNextPlace (λ other. is_at_end cmp end p other.message.value) list from next
   next_of_end order end p list from None n same is =
-      λ i low high d. end_alike order end p n (get_or list i d).value.message.value same ∙ is i low high d
+      λ i low high d. end_alike order end p n (get_or list i d).message.value same ∙ is i low high d
   next_of_end order end p list from (Some at) n same is = record {
     low = is.low;
     high = is.high;
     before = λ i low high d.
-        end_alike order end p n (get_or list i d).value.message.value same ∙ is.before i low high d;
-    here = λ d. end_alike order end p n (get_or list at d).value.message.value same ∙ is.here d;
+        end_alike order end p n (get_or list i d).message.value same ∙ is.before i low high d;
+    here = λ d. end_alike order end p n (get_or list at d).message.value same ∙ is.here d;
   }
 
 -- the number of such a message's peer
@@ -128,13 +124,13 @@ module _ {P : Type 0} {a : _} {b : _} {c : _} where
     -- those before some place that have the peer at that end are loose, and the next is known
     pub record HasLoosened (now : Flights P a b c) (next : Option ℕ) : Type 0 where
       pub from : ℕ
-      pub is_next : IsNextPlace (λ one. is_at_end cmp end p one.value.message.value) old.list.items from next
+      pub is_next : IsNextPlace (λ one. is_at_end cmp end p one.message.value) old.list.items from next
       pub loose : AreStillLoose old now
-      pub so_far : (i : ℕ) (one : Rc (Flight P) Global) → i < from → slice_get old.list.items i ≡ Some one
-          → is_at_end cmp end p one.value.message.value ≡ true → one.value.rated ≡ true
-          → IsLoose (loose_in now) now.floor (flight_at old.at one.value)
+      pub so_far : (i : ℕ) (one : Flight P) → i < from → slice_get old.list.items i ≡ Some one
+          → is_at_end cmp end p one.message.value ≡ true → one.rated ≡ true
+          → IsLoose (loose_in now) now.floor (flight_at old.at one)
 
-    pub none_loosened : (next : Option ℕ) → IsNextPlace (λ one. is_at_end cmp end p one.value.message.value) old.list.items 0 next
+    pub none_loosened : (next : Option ℕ) → IsNextPlace (λ one. is_at_end cmp end p one.message.value) old.list.items 0 next
         → HasLoosened old next
     none_loosened next is = record {
       from = 0;
@@ -145,32 +141,32 @@ module _ {P : Type 0} {a : _} {b : _} {c : _} where
 
     module _ (now : Flights P a b c) (next : Option ℕ) (has : HasLoosened now next) where
       first_there : (at : ℕ) → next ≡ Some at
-          → PassesFirstAt (λ one. is_at_end cmp end p one.value.message.value) old.list.items has.from at
+          → PassesFirstAt (λ one. is_at_end cmp end p one.message.value) old.list.items has.from at
       first_there at is =
-          subst (IsNextPlace (λ one. is_at_end cmp end p one.value.message.value) old.list.items has.from) is has.is_next
+          subst (IsNextPlace (λ one. is_at_end cmp end p one.message.value) old.list.items has.from) is has.is_next
 
       pub loosened_inside : (at : ℕ) → next ≡ Some at → at < length now.list.items
       loosened_inside at is = rw has.loose.list (first_there at is).high
 
       -- the next one that has the peer at that end
       next_there : IsTotalOrder cmp → (at : ℕ) → next ≡ Some at → (following : Option ℕ) (new : Flights P a b c)
-          → ((d : Rc (Flight P) Global) → IsNextPlace
-          (λ other. share cmp end (get_or new.list.items at d).value.message.value other.value.message.value)
+          → ((d : Flight P) → IsNextPlace
+          (λ other. share cmp end (get_or new.list.items at d).message.value other.message.value)
           new.list.items (at + 1) following)
           → AreStillLoose now new
-          → IsNextPlace (λ one. is_at_end cmp end p one.value.message.value) old.list.items (at + 1) following
+          → IsNextPlace (λ one. is_at_end cmp end p one.message.value) old.list.items (at + 1) following
       next_there order at is following new further still =
           let there = first_there at is in
           let one = (one_there old.list.items at there.high).0 in
-          next_of_end cmp order end p old.list.items (at + 1) following (get_or old.list.items at one).value.message.value
+          next_of_end cmp order end p old.list.items (at + 1) following (get_or old.list.items at one).message.value
           (there.here one)
-          (subst (λ l. IsNextPlace (λ other. share cmp end (get_or l at one).value.message.value other.value.message.value)
+          (subst (λ l. IsNextPlace (λ other. share cmp end (get_or l at one).message.value other.message.value)
           l (at + 1) following) (still.list ∙ has.loose.list) (further one))
 
       -- the one there is loose, too, and the next one is known
       pub loosened_more : IsTotalOrder cmp → (at : ℕ) → next ≡ Some at → (following : Option ℕ) (new : Flights P a b c)
-          → ((d : Rc (Flight P) Global) → IsNextPlace
-          (λ other. share cmp end (get_or new.list.items at d).value.message.value other.value.message.value)
+          → ((d : Flight P) → IsNextPlace
+          (λ other. share cmp end (get_or new.list.items at d).message.value other.message.value)
           new.list.items (at + 1) following)
           → AreStillLoose now new → IsLooseAt at new → HasLoosened new following
       loosened_more order at is following new further still here =
@@ -180,26 +176,26 @@ module _ {P : Type 0} {a : _} {b : _} {c : _} where
             is_next = next_there order at is following new further still;
             loose = all;
             so_far = each_more
-                (λ i f. is_at_end cmp end p f.value.message.value ≡ true → f.value.rated ≡ true
-                → IsLoose (loose_in new) new.floor (flight_at old.at f.value)) old.list.items at
+                (λ i f. is_at_end cmp end p f.message.value ≡ true → f.rated ≡ true
+                → IsLoose (loose_in new) new.floor (flight_at old.at f)) old.list.items at
                 (λ i f below get ends rated. elim (cases_lt i has.from) [
-                  | inl less ↦ still.still (flight_at old.at f.value) (has.so_far i f less get ends rated)
+                  | inl less ↦ still.still (flight_at old.at f) (has.so_far i f less get ends rated)
                   | inr past ↦ absurd (false≢true
-                      (sym (there.before i past below f) ∙ ap (λ (g : Rc (Flight P) Global). is_at_end cmp end p g.value.message.value)
+                      (sym (there.before i past below f) ∙ ap (λ (g : Flight P). is_at_end cmp end p g.message.value)
                       (get_or_from_slice_get old.list.items i f f get) ∙ ends))
                 ])
                 (λ f get ends rated.
                 let same : get_or new.list.items at f ≡ f =
                 ap (λ l. get_or l at f) all.list ∙ get_or_from_slice_get old.list.items at f f get in
-                subst (λ n. IsLoose (loose_in new) new.floor (flight_at n f.value)) all.at
-                (subst (λ (g : Rc (Flight P) Global). IsLoose (loose_in new) new.floor (flight_at new.at g.value)) same
-                (here f (ap (λ (g : Rc (Flight P) Global). g.value.rated) same ∙ rated))));
+                subst (λ n. IsLoose (loose_in new) new.floor (flight_at n f)) all.at
+                (subst (λ (g : Flight P). IsLoose (loose_in new) new.floor (flight_at new.at g)) same
+                (here f (ap (λ (g : Flight P). g.rated) same ∙ rated))));
           }
 
       -- fewer stand behind the next one
       pub fewer_loosened : IsTotalOrder cmp → (at : ℕ) → next ≡ Some at → (following : Option ℕ) (new : Flights P a b c)
-          → ((d : Rc (Flight P) Global) → IsNextPlace
-          (λ other. share cmp end (get_or new.list.items at d).value.message.value other.value.message.value)
+          → ((d : Flight P) → IsNextPlace
+          (λ other. share cmp end (get_or new.list.items at d).message.value other.message.value)
           new.list.items (at + 1) following)
           → AreStillLoose now new → behind new.list.items following < behind now.list.items next
       fewer_loosened order at is following new further still =
@@ -207,7 +203,7 @@ module _ {P : Type 0} {a : _} {b : _} {c : _} where
           by_next following (next_there order at is following new further still) (ap length (still.list ∙ has.loose.list)) (ap length has.loose.list) there.high
         where
           by_next : (following : Option ℕ)
-              → IsNextPlace (λ one. is_at_end cmp end p one.value.message.value) old.list.items (at + 1) following
+              → IsNextPlace (λ one. is_at_end cmp end p one.message.value) old.list.items (at + 1) following
               → length new.list.items ≡ length old.list.items → length now.list.items ≡ length old.list.items
               → at < length old.list.items → behind new.list.items following < behind now.list.items next
           by_next None ahead same was high = omega (arith, same, was, high, ap (behind now.list.items) is)
@@ -220,15 +216,15 @@ module _ {P : Type 0} {a : _} {b : _} {c : _} where
           let units : in_units now ≡ in_units old = λ i. flights_at (has.loose.at i) (has.loose.list i) in
           let h = in_from_contains (in_units old) u (subst (λ us. Contains us u) units listed) in
           let at = get_in (in_units old) u h in
-          let f = get_from_map (λ (g : Rc (Flight P) Global). flight_at old.at g.value) old.list.items at.0 u at.1 in
-          let none = subst (IsNextPlace (λ one. is_at_end cmp end p one.value.message.value) old.list.items has.from) is has.is_next in
+          let f = get_from_map (λ (g : Flight P). flight_at old.at g) old.list.items at.0 u at.1 in
+          let none = subst (IsNextPlace (λ one. is_at_end cmp end p one.message.value) old.list.items has.from) is has.is_next in
           elim (cases_lt at.0 has.from) [
             | inl less ↦ subst (IsLoose (loose_in now) now.floor) f.2
                 (has.so_far at.0 f.0 less f.1 (ap (λ (v : UnitFlight P). is_at_end cmp end p v.message) f.2 ∙ ends)
                 (ap (λ (v : UnitFlight P). v.rated) f.2 ∙ rated))
             | inr past ↦ absurd (false≢true
                 (sym (none at.0 past (slice_get_within old.list.items at.0 f.0 f.1) f.0)
-                ∙ ap (λ (g : Rc (Flight P) Global). is_at_end cmp end p g.value.message.value)
+                ∙ ap (λ (g : Flight P). is_at_end cmp end p g.message.value)
                 (get_or_from_slice_get old.list.items at.0 f.0 f.0 f.1)
                 ∙ ap (λ (v : UnitFlight P). is_at_end cmp end p v.message) f.2 ∙ ends))
           ]

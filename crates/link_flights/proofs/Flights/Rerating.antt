@@ -7,8 +7,6 @@ use Rattle.std.specs.Bool.{◌==◌}
 use Rattle.std.specs.List.{list_any}
 use Rattle.std.specs.Prelude.{IfSome, option_map}
 use Rattle.std.specs.declared.cmp.Ordering.{Ordering}
-use Rattle.std.specs.declared.rc.Rc.{Rc}
-use Rattle.std.specs.declared.alloc.Global.{Global}
 use Rattle.std.proofs.lemmas.Bool.{le-leb, leb-true, cases_lt, false≢true, or_parts, eqb-true}
 use Rattle.std.proofs.lemmas.List.{length-append, append-nil, map-append, length-set, drop_more, get_or_default}
 use Rattle.std.proofs.lemmas.List.{set-get_or}
@@ -28,7 +26,7 @@ use Rattle.link_flights.specs.declared.flight_list.Flights.{Flights}
 use Rattle.link_pairs.specs.declared.message.Message.{Message}
 use Rattle.link_flights.specs.Flights.Components.{is_of, those_of, those_near, keeps, touches, places_of}
 use Rattle.link_flights.specs.Flights.Flight.{UnitFlight, rate_of, left_by, flight_at, flights_at, has_come, IsTimed}
-use Rattle.link_flights.specs.Flights.Flight.{AreTimed, IsPutAt}
+use Rattle.link_flights.specs.Flights.Flight.{AreTimed}
 use Rattle.link_flights.specs.Flights.InFlight.{in_units, in_flight}
 use Rattle.link_flights.specs.Flights.Rated.{rerated, rated_anew, IsReratedAt, IsRatedFrom, HaveFairRates}
 use Rattle.link_flights.specs.Flights.Rated.{AreOthersTimed, AreKeptBut, IsCountedAt}
@@ -70,25 +68,25 @@ none_there (x ∷ xs) n is none = absurd (omega (arith, is, eqb-true n 0 none))
 
 module _ {P : Type 0} where
   -- those that are timed, and one more
-  more_timed : (fs : List (Rc (Flight P) Global)) (y : Rc (Flight P) Global) → AreTimed fs
-      → (y.value.rated ≡ true → IsTimed y.value) → AreTimed (fs ++ y ∷ [])
+  more_timed : (fs : List (Flight P)) (y : Flight P) → AreTimed fs
+      → (y.rated ≡ true → IsTimed y) → AreTimed (fs ++ y ∷ [])
   more_timed fs y timed one i f there rated = elim (get_either fs y i f there) [
     | inl before ↦ timed i f before rated
-    | inr is ↦ subst (λ (g : Rc (Flight P) Global). IsTimed g.value) (sym is)
-        (one (sym (ap (λ (g : Rc (Flight P) Global). g.value.rated) is) ∙ rated))
+    | inr is ↦ subst (λ (g : Flight P). IsTimed g) (sym is)
+        (one (sym (ap (λ (g : Flight P). g.rated) is) ∙ rated))
   ]
 
-  unit_there : (now : ℕ) (fs : List (Rc (Flight P) Global)) (i : ℕ) (f : Rc (Flight P) Global) → slice_get fs i ≡ Some f
-      → slice_get (flights_at now fs) i ≡ Some (flight_at now f.value)
+  unit_there : (now : ℕ) (fs : List (Flight P)) (i : ℕ) (f : Flight P) → slice_get fs i ≡ Some f
+      → slice_get (flights_at now fs) i ≡ Some (flight_at now f)
   unit_there now fs i f there =
-      slice_get-map (λ (g : Rc (Flight P) Global). flight_at now g.value) fs i
-      ∙ ap (option_map (λ (g : Rc (Flight P) Global). flight_at now g.value)) there
+      slice_get-map (λ (g : Flight P). flight_at now g) fs i
+      ∙ ap (option_map (λ (g : Flight P). flight_at now g)) there
 
-  moved_on : (now : ℕ) (fs : List (Rc (Flight P) Global)) (y : Rc (Flight P) Global) (us : List (UnitFlight P))
-      → flights_at now fs ++ flight_at now y.value ∷ us ≡ flights_at now (fs ++ y ∷ []) ++ us
+  moved_on : (now : ℕ) (fs : List (Flight P)) (y : Flight P) (us : List (UnitFlight P))
+      → flights_at now fs ++ flight_at now y ∷ us ≡ flights_at now (fs ++ y ∷ []) ++ us
   moved_on now fs y us =
-      sym (append_assoc (flights_at now fs) (flight_at now y.value ∷ []) us)
-      ∙ ap (λ l. l ++ us) (sym (map-append (λ (f : Rc (Flight P) Global). flight_at now f.value) fs (y ∷ [])))
+      sym (append_assoc (flights_at now fs) (flight_at now y ∷ []) us)
+      ∙ ap (λ l. l ++ us) (sym (map-append (λ (f : Flight P). flight_at now f) fs (y ∷ [])))
 
 -- ---- one that is rated anew, or goes on
 
@@ -116,32 +114,32 @@ module _ {P : Type 0} (now times rate : ℕ) where
   same_is x rated at_rate once =
       rw (rated, at_rate, once) (ap (as_record x.id x.message.value) (omega arith))
 
-  module _ (fs : List (Rc (Flight P) Global)) (at : ℕ) (x : Rc (Flight P) Global) (there : at < length fs)
+  module _ (fs : List (Flight P)) (at : ℕ) (x : Flight P) (there : at < length fs)
       (is : x ≡ get_or fs at x) where
-    read : (d : Rc (Flight P) Global) → x ≡ get_or fs at d
+    read : (d : Flight P) → x ≡ get_or fs at d
     read d = is ∙ get_or_default fs at x d there
 
     -- another one is put in its place
-    pub put_anew : (f : Flight P) (new : List (Rc (Flight P) Global)) → IsPutAt at f fs new
-        → f.id ≡ x.value.id → f.message.value ≡ x.value.message.value → f.left ≡ (flight_at now x.value).left * times
+    pub put_anew : (f : Flight P) (new : List (Flight P)) → new ≡ set fs at f
+        → f.id ≡ x.id → f.message.value ≡ x.message.value → f.left ≡ (flight_at now x).left * times
         → rate_of f.rate ≡ rate → f.since ≡ now → f.rated ≡ true → IsTimed f
         → IsReratedAt now at times rate fs new
     put_anew f new put id message left at_rate since rated timed = record {
-      one = put.one;
-      others = put.others;
-      unit = λ d. ap (flight_at now) put.is ∙ anew_is f x.value id message left at_rate since rated
-          ∙ ap (λ (y : Rc (Flight P) Global). rated_anew now times rate (flight_at now y.value)) (read d);
-      timed = subst IsTimed (sym put.is) timed;
+      one = f;
+      others = put;
+      unit = λ d. anew_is f x id message left at_rate since rated
+          ∙ ap (λ (y : Flight P). rated_anew now times rate (flight_at now y)) (read d);
+      timed = timed;
     }
 
     -- nothing changes
-    pub goes_on : x.value.rated ≡ true → rate_of x.value.rate ≡ rate → times ≡ 1
+    pub goes_on : x.rated ≡ true → rate_of x.rate ≡ rate → times ≡ 1
         → AreTimed fs → IsReratedAt now at times rate fs fs
     goes_on rated at_rate once timed = record {
       one = x;
       others = sym (set-get_or fs at x) ∙ ap (set fs at) (sym is);
-      unit = λ d. same_is x.value rated at_rate once
-          ∙ ap (λ (y : Rc (Flight P) Global). rated_anew now times rate (flight_at now y.value)) (read d);
+      unit = λ d. same_is x rated at_rate once
+          ∙ ap (λ (y : Flight P). rated_anew now times rate (flight_at now y)) (read d);
       timed = timed at x (slice_get-get_or fs at x there ∙ ap Some (sym is)) rated;
     }
 
@@ -160,11 +158,11 @@ set_there (z ∷ xs) (suc at) y zero x there = inr there
 set_there (z ∷ xs) (suc at) y (suc i) x there = set_there xs at y i x there
 
 -- where one is rated anew, all are timed that were
-pub timed_set : {P : Type 0} {fs new : List (Rc (Flight P) Global)} {now at times rate : ℕ}
+pub timed_set : {P : Type 0} {fs new : List (Flight P)} {now at times rate : ℕ}
     → IsReratedAt now at times rate fs new → AreTimed fs → AreTimed new
 timed_set {P} {fs = fs} {at = at} put timed i f there rated =
     elim (set_there fs at put.one i f (sym (ap (λ l. slice_get l i) put.others) ∙ there)) [
-      | inl is ↦ subst (λ (g : Rc (Flight P) Global). IsTimed g.value) (sym is) put.timed
+      | inl is ↦ subst (λ (g : Flight P). IsTimed g) (sym is) put.timed
       | inr before ↦ timed i f before rated
     ]
 
@@ -194,7 +192,7 @@ set_elsewhere (suc n) (x ∷ xs) (z ∷ ys) (suc at) y (inr rest) = inr (set_els
 
 module _ {P : Type 0} {a : _} {b : _} {c : _} (at : ℕ) (old new : Flights P a b c) where
   -- one more is written anew at most
-  pub one_counted : (first : List (Rc (Flight P) Global)) → IsCountedAt at old new
+  pub one_counted : (first : List (Flight P)) → IsCountedAt at old new
       → AreKeptBut old.rated_anew first old.list.items → AreKeptBut new.rated_anew first new.list.items
   one_counted first (inl same) kept =
       subst (λ n. AreKeptBut n first new.list.items) (sym same.0)
@@ -230,11 +228,11 @@ module _ {P : Type 0} (cmp : P → P → Ordering) (component : Component P) (no
   given_one rate rates u us of =
       ap (λ b. cond b (anew rate u ∷ again rates us) (u ∷ again (rate ∷ rates) us)) of
 
-  module _ (rates : List ℕ) (old : List (Rc (Flight P) Global)) where
+  module _ (rates : List ℕ) (old : List (Flight P)) where
     -- up to a place those of the component have got their rates, and from there on nothing has changed
-    pub record AreReratedUpTo (so_far : List (Rc (Flight P) Global)) (at next : ℕ) : Type 0 where
-      pub to : List (Rc (Flight P) Global)
-      pub rest : List (Rc (Flight P) Global)
+    pub record AreReratedUpTo (so_far : List (Flight P)) (at next : ℕ) : Type 0 where
+      pub to : List (Flight P)
+      pub rest : List (Flight P)
       pub is : so_far ≡ to ++ rest
       pub at_is : at ≡ length to
       pub as_many : length so_far ≡ length old
@@ -261,16 +259,16 @@ module _ {P : Type 0} (cmp : P → P → Ordering) (component : Component P) (no
     }
 
 module _ {P : Type 0} {cmp : P → P → Ordering} {component : Component P} {now times : ℕ} {rates : List ℕ}
-    {old so_far : List (Rc (Flight P) Global)} {at next : ℕ}
+    {old so_far : List (Flight P)} {at next : ℕ}
     (h : AreReratedUpTo cmp component now times rates old so_far at next) where
   -- what stands at the place
-  pub record StandsNext (x : Rc (Flight P) Global) : Type 0 where
-    pub rest : List (Rc (Flight P) Global)
+  pub record StandsNext (x : Flight P) : Type 0 where
+    pub rest : List (Flight P)
     pub was : h.rest ≡ x ∷ rest
 
-  module _ (x : Rc (Flight P) Global) (s : StandsNext x) where
+  module _ (x : Flight P) (s : StandsNext x) where
     abbrev u : UnitFlight P
-    u = flight_at now x.value
+    u = flight_at now x
 
     abbrev us : List (UnitFlight P)
     us = flights_at now s.rest
@@ -297,7 +295,7 @@ module _ {P : Type 0} {cmp : P → P → Ordering} {component : Component P} {no
     pub stands_within : at < length so_far
     stands_within = omega (arith, h.at_is, ap length stands_in, length-append h.to (x ∷ s.rest))
 
-    pub stands_here : (d : Rc (Flight P) Global) → x ≡ get_or so_far at d
+    pub stands_here : (d : Flight P) → x ≡ get_or so_far at d
     stands_here d =
         sym (ap (λ l. get_or l at d) stands_in ∙ ap (λ n. get_or (h.to ++ x ∷ s.rest) n d) h.at_is
         ∙ get_or-seam h.to s.rest x d)
@@ -325,14 +323,14 @@ module _ {P : Type 0} {cmp : P → P → Ordering} {component : Component P} {no
       others = λ i f there. others_all (suc i) f there;
     }
 
-    pub one_rerated : (rate : ℕ) (new : List (Rc (Flight P) Global))
+    pub one_rerated : (rate : ℕ) (new : List (Flight P))
         → IsReratedAt now at times rate so_far new → x ≡ get_or so_far at x → rate ≡ get_or rates next 0
         → is_of cmp component u ≡ true → AreReratedUpTo cmp component now times rates old new (at + 1) (next + 1)
     one_rerated rate new put here rate_is of =
         let y = put.one in
-        let fresh : flight_at now y.value ≡ anew cmp component now times (get_or rates next 0) u =
+        let fresh : flight_at now y ≡ anew cmp component now times (get_or rates next 0) u =
         put.unit x
-        ∙ ap (λ (z : Rc (Flight P) Global). rated_anew now times rate (flight_at now z.value)) (sym here)
+        ∙ ap (λ (z : Flight P). rated_anew now times rate (flight_at now z)) (sym here)
         ∙ ap (λ n. rated_anew now times n u) rate_is in
         record {
           to = h.to ++ y ∷ [];
@@ -363,7 +361,7 @@ module _ {P : Type 0} {cmp : P → P → Ordering} {component : Component P} {no
   pub all_rerated : length so_far ≤ at → AreAllRerated
   all_rerated end = by_rest h.rest refl
     where
-      by_rest : (rest : List (Rc (Flight P) Global)) → h.rest ≡ rest → AreAllRerated
+      by_rest : (rest : List (Flight P)) → h.rest ≡ rest → AreAllRerated
       by_rest [] e =
           let all : so_far ≡ h.to = h.is ∙ ap (λ l. h.to ++ l) e ∙ append-nil h.to in
           let none_come : rerated cmp component now times rates (flights_at now old) ≡ flights_at now h.to =
@@ -382,7 +380,7 @@ pub apart_is_out : {P : Type 0} (cmp : P → P → Ordering) (component : Compon
 apart_is_out cmp component u apart = ap (λ b. b && not (keeps component u)) (or_parts _ _ apart).0
 
 module _ {P : Type 0} {cmp : P → P → Ordering} {component : Component P} {now times : ℕ} {rates : List ℕ}
-    {old so_far : List (Rc (Flight P) Global)} where
+    {old so_far : List (Flight P)} where
   -- where no rate is left, none of the others is of the component
   pub to_end : (n at next : ℕ) (h : AreReratedUpTo cmp component now times rates old so_far at next)
       → length h.rest ≡ n → length rates ≤ next
@@ -393,12 +391,12 @@ module _ {P : Type 0} {cmp : P → P → Ordering} {component : Component P} {no
       subst (λ k. AreReratedUpTo cmp component now times rates old so_far k next) (sym all) h
   to_end (suc n) at next h e end = by_rest h.rest refl (λ g f. to_end n (at + 1) next g f end)
     where
-      out : (z : Rc (Flight P) Global) (s : StandsNext h z) → (b : Bool)
-          → is_of cmp component (flight_at now z.value) ≡ b → is_of cmp component (flight_at now z.value) ≡ false
+      out : (z : Flight P) (s : StandsNext h z) → (b : Bool)
+          → is_of cmp component (flight_at now z) ≡ b → is_of cmp component (flight_at now z) ≡ false
       out z s true of = absurd (omega (arith, has_rate h z s of, end))
       out z s false of = of
 
-      by_rest : (rest : List (Rc (Flight P) Global)) → h.rest ≡ rest
+      by_rest : (rest : List (Flight P)) → h.rest ≡ rest
           → ((g : AreReratedUpTo cmp component now times rates old so_far (at + 1) next) → length g.rest ≡ n
           → AreReratedUpTo cmp component now times rates old so_far (length so_far) next)
           → AreReratedUpTo cmp component now times rates old so_far (length so_far) next
@@ -406,7 +404,7 @@ module _ {P : Type 0} {cmp : P → P → Ordering} {component : Component P} {no
       by_rest (z ∷ rest) r later =
           let s : StandsNext h z = record { rest = rest; was = r } in
           let g : AreReratedUpTo cmp component now times rates old so_far (at + 1) next =
-          passed h z s (out z s (is_of cmp component (flight_at now z.value)) refl) in
+          passed h z s (out z s (is_of cmp component (flight_at now z)) refl) in
           let before = ap length h.is in
           let after = ap length g.is in
           let fewer : length g.rest ≡ n =
@@ -416,11 +414,11 @@ module _ {P : Type 0} {cmp : P → P → Ordering} {component : Component P} {no
 -- ---- from one of which the component has an end to the next
 
 module _ {P : Type 0} (cmp : P → P → Ordering) (component : Component P) where
-  abbrev is_near : Rc (Flight P) Global → Bool
-  is_near f = touches cmp component f.value.message.value
+  abbrev is_near : Flight P → Bool
+  is_near f = touches cmp component f.message.value
 
   -- where no more come, none of the others is of the component
-  none_of_far : (now : ℕ) (rest : List (Rc (Flight P) Global)) → those_near cmp component rest ≡ []
+  none_of_far : (now : ℕ) (rest : List (Flight P)) → those_near cmp component rest ≡ []
       → those_of cmp component (flights_at now rest) ≡ []
   none_of_far now [] none = refl
   none_of_far now (z ∷ rest) none = by_test (is_near z) refl (none_of_far now rest)
@@ -430,14 +428,14 @@ module _ {P : Type 0} (cmp : P → P → Ordering) (component : Component P) whe
           → those_of cmp component (flights_at now (z ∷ rest)) ≡ []
       by_test true here later = absurd (omega (arith, ap length (sym (filter_yes is_near z rest here) ∙ none)))
       by_test false far later =
-          filter_no (is_of cmp component) (flight_at now z.value) (flights_at now rest)
-          (apart_is_out cmp component (flight_at now z.value) far)
+          filter_no (is_of cmp component) (flight_at now z) (flights_at now rest)
+          (apart_is_out cmp component (flight_at now z) far)
           ∙ later (sym (filter_no is_near z rest far) ∙ none)
 
 module _ {P : Type 0} (cmp : P → P → Ordering) (component : Component P) (now times : ℕ) (rates : List ℕ)
-    (old so_far : List (Rc (Flight P) Global)) where
-  abbrev touching : Rc (Flight P) Global → Bool
-  touching f = touches cmp component f.value.message.value
+    (old so_far : List (Flight P)) where
+  abbrev touching : Flight P → Bool
+  touching f = touches cmp component f.message.value
 
   -- of those of which it has an end, the ones from a number on are still to come
   pub record AreToCome (number at next : ℕ)
@@ -451,7 +449,7 @@ module _ {P : Type 0} (cmp : P → P → Ordering) (component : Component P) (no
     pub at : ℕ
     pub after : from ≤ at
     pub up_to : AreReratedUpTo cmp component now times rates old so_far at next
-    pub x : Rc (Flight P) Global
+    pub x : Flight P
     pub stands : StandsNext up_to x
     pub place : get_or (places_of touching 0 old) number 0 ≡ at
     pub there : slice_get (those_near cmp component old) number ≡ Some x
@@ -471,7 +469,7 @@ module _ {P : Type 0} (cmp : P → P → Ordering) (component : Component P) (no
 
     here_next : (at : ℕ) (h : AreReratedUpTo cmp component now times rates old so_far at next)
         → AreToCome number at next h
-        → from ≤ at → (z : Rc (Flight P) Global) (rest : List (Rc (Flight P) Global)) → h.rest ≡ z ∷ rest
+        → from ≤ at → (z : Flight P) (rest : List (Flight P)) → h.rest ≡ z ∷ rest
         → touching z ≡ true → IsNext number next from
     here_next at h ahead le z rest r here =
         let one = first_left (places_of touching 0 old) number at (places_of touching (suc at) rest)
@@ -495,13 +493,13 @@ module _ {P : Type 0} (cmp : P → P → Ordering) (component : Component P) (no
     unfolding passed
     next_comes zero at h e ahead le = by_rest h.rest refl
       where
-        by_rest : (rest : List (Rc (Flight P) Global)) → h.rest ≡ rest → IsNext number next from
+        by_rest : (rest : List (Flight P)) → h.rest ≡ rest → IsNext number next from
         by_rest [] r = none_comes at h ahead r
         by_rest (z ∷ rest) r = absurd (omega (arith, e, ap length r))
     next_comes (suc n) at h e ahead le =
         by_rest h.rest refl (λ g f later. next_comes n (at + 1) g f later (omega (arith, le)))
       where
-        by_rest : (rest : List (Rc (Flight P) Global)) → h.rest ≡ rest
+        by_rest : (rest : List (Flight P)) → h.rest ≡ rest
             → ((g : AreReratedUpTo cmp component now times rates old so_far (at + 1) next) → length g.rest ≡ n
             → AreToCome number (at + 1) next g → IsNext number next from)
             → IsNext number next from
@@ -514,7 +512,7 @@ module _ {P : Type 0} (cmp : P → P → Ordering) (component : Component P) (no
             by_test : (b : Bool) → touching z ≡ b → IsNext number next from
             by_test true here = here_next at h ahead le z rest r here
             by_test false far =
-                let g = passed h z s (apart_is_out cmp component (flight_at now z.value) far) in
+                let g = passed h z s (apart_is_out cmp component (flight_at now z) far) in
                 let same : length g.rest ≡ length rest = refl in
                 later g (omega (arith, e, ap length r, same))
                 (record {
@@ -525,7 +523,7 @@ module _ {P : Type 0} (cmp : P → P → Ordering) (component : Component P) (no
 
   -- one has been looked at
   pub more_to_come : (number next from : ℕ) (n : IsNext number next from)
-      (out : is_of cmp component (flight_at now n.x.value) ≡ false)
+      (out : is_of cmp component (flight_at now n.x) ≡ false)
       → AreToCome (number + 1) (n.at + 1) next (passed n.up_to n.x n.stands out)
   unfolding passed
   more_to_come number next from n out = record { places = n.places; near = n.near }
@@ -538,11 +536,11 @@ module _ {P : Type 0} (cmp : P → P → Ordering) (component : Component P) (no
       omega (arith, h.one_each, ap length (none_of_far cmp component now h.rest none))
 
 module _ {P : Type 0} (cmp : P → P → Ordering) (component : Component P) (now times : ℕ) (rates : List ℕ)
-    (old so_far new : List (Rc (Flight P) Global)) where
+    (old so_far new : List (Flight P)) where
   -- one has got its rate
   pub rerated_to_come : (number next from : ℕ) (n : IsNext cmp component now times rates old so_far number next from)
       (rate : ℕ) (put : IsReratedAt now n.at times rate so_far new) (here : n.x ≡ get_or so_far n.at n.x)
-      (rate_is : rate ≡ get_or rates next 0) (of : is_of cmp component (flight_at now n.x.value) ≡ true)
+      (rate_is : rate ≡ get_or rates next 0) (of : is_of cmp component (flight_at now n.x) ≡ true)
       → AreToCome cmp component now times rates old new (number + 1) (n.at + 1) (next + 1)
       (one_rerated n.up_to n.x n.stands rate new put here rate_is of)
   unfolding one_rerated
@@ -559,7 +557,7 @@ module _ {P : Type 0} (cmp : P → P → Ordering) (component : Component P) (no
 
 -- so many of which the component has an end are looked at, and so many have got their rates
 pub record IsSoFar {P : Type 0} {a : _} {b : _} {c : _} (cmp : P → P → Ordering) (component : Component P) (times : ℕ)
-    (rates : List ℕ) (were_timed : Bool) (account units : ℕ) (old : List (Rc (Flight P) Global))
+    (rates : List ℕ) (were_timed : Bool) (account units : ℕ) (old : List (Flight P))
     (now : Flights P a b c) (number next : ℕ) : Type 0 where
   pub place : ℕ
   pub up_to : AreReratedUpTo cmp component account times rates old now.list.items place next
@@ -572,7 +570,7 @@ pub record IsSoFar {P : Type 0} {a : _} {b : _} {c : _} (cmp : P → P → Order
   pub behind : next ≤ place
 
 pub next_in : {P : Type 0} {a : _} {b : _} {c : _} {cmp : P → P → Ordering} {component : Component P} {times : ℕ}
-    {rates : List ℕ} {were_timed : Bool} {account units : ℕ} {old : List (Rc (Flight P) Global)}
+    {rates : List ℕ} {were_timed : Bool} {account units : ℕ} {old : List (Flight P)}
     {now : Flights P a b c} {number next : ℕ}
     (h : IsSoFar cmp component times rates were_timed account units old now number next)
     → number < length (those_near cmp component old)
@@ -678,27 +676,27 @@ module _ {P : Type 0} (scale : ℕ) (some : 0 < scale) where
           subst (λ u. IsSpentAt s (rated_flight_of scale u)) (sym unit_is) (spent_if_out unit s out),
         )
 
-  module _ (at : ℕ) (here : at ≤ last_moment) (fs : List (Rc (Flight P) Global))
-      (run_on : (i : ℕ) (f : Rc (Flight P) Global) → slice_get fs i ≡ Some f → RunsOn at f.value)
-      (finish : Option ℕ) (first : (t : ℕ) → has_come t finish ≡ list_any (λ one. has_come t one.value.finish) fs) where
+  module _ (at : ℕ) (here : at ≤ last_moment) (fs : List (Flight P))
+      (run_on : (i : ℕ) (f : Flight P) → slice_get fs i ≡ Some f → RunsOn at f)
+      (finish : Option ℕ) (first : (t : ℕ) → has_come t finish ≡ list_any (λ one. has_come t one.finish) fs) where
     abbrev sending : List (RatedFlight P)
     sending = sending_of scale (flights_at at fs)
 
     some_come : (s : ℕ) → s ≤ last_moment → SomeSpentAt sending s → has_come s finish ≡ true
     some_come s le h =
         let u = get_from_map (rated_flight_of scale) (flights_at at fs) h.0 h.1 h.2 in
-        let f = get_from_map (λ (g : Rc (Flight P) Global). flight_at at g.value) fs h.0 u.0 u.1 in
-        let is : rated_flight_of scale (flight_at at f.0.value) ≡ h.1 = ap (rated_flight_of scale) f.2 ∙ u.2 in
-        first s ∙ any_passes_from_place (λ (one : Rc (Flight P) Global). has_come s one.value.finish) fs h.0 f.0 f.1
-        (come_if_spent at here f.0.value (run_on h.0 f.0 f.1) s le
+        let f = get_from_map (λ (g : Flight P). flight_at at g) fs h.0 u.0 u.1 in
+        let is : rated_flight_of scale (flight_at at f.0) ≡ h.1 = ap (rated_flight_of scale) f.2 ∙ u.2 in
+        first s ∙ any_passes_from_place (λ (one : Flight P). has_come s one.finish) fs h.0 f.0 f.1
+        (come_if_spent at here f.0 (run_on h.0 f.0 f.1) s le
         (subst (λ (g : RatedFlight P). g.updated ≤ s) (sym is) h.3) (subst (IsSpentAt s) (sym is) h.4))
 
     some_spent : (s : ℕ) → s ≤ last_moment → has_come s finish ≡ true → SomeSpentAt sending s
     some_spent s le come =
-        let p = passes_there (λ (one : Rc (Flight P) Global). has_come s one.value.finish) fs (sym (first s) ∙ come) in
-        let spent = spent_if_come at here p.1.value (run_on p.0 p.1 p.2) s le p.3 in (
+        let p = passes_there (λ (one : Flight P). has_come s one.finish) fs (sym (first s) ∙ come) in
+        let spent = spent_if_come at here p.1 (run_on p.0 p.1 p.2) s le p.3 in (
           p.0,
-          rated_flight_of scale (flight_at at p.1.value),
+          rated_flight_of scale (flight_at at p.1),
           slice_get-map (rated_flight_of scale) (flights_at at fs) p.0
               ∙ ap (option_map (rated_flight_of scale)) (unit_there at fs p.0 p.1 p.2),
           spent.0,
@@ -721,13 +719,13 @@ module _ {P : Type 0} (scale : ℕ) (some : 0 < scale) where
 module _ {P : Type 0} (cmp : P → P → Ordering) (caps : Caps P) {a : _} {b : _} {c : _} (old new : Flights P a b c)
     (h : HaveFairRates cmp caps old new) (left : All (λ (u : UnitFlight P). u.left ≢ 0) (in_units old))
     (here : new.at ≤ last_moment) where
-  all_run_on : (i : ℕ) (f : Rc (Flight P) Global) → slice_get new.list.items i ≡ Some f
-      → RunsOn new.scale new.scaled new.at f.value
+  all_run_on : (i : ℕ) (f : Flight P) → slice_get new.list.items i ≡ Some f
+      → RunsOn new.scale new.scaled new.at f
   all_run_on i f there =
       let from =
-      zip_there (IsRatedFrom old.at h.times) (in_units old) (in_units new) i (flight_at new.at f.value) h.each
+      zip_there (IsRatedFrom old.at h.times) (in_units old) (in_units new) i (flight_at new.at f) h.each
       (unit_there new.at new.list.items i f there) in
-      let rated : f.value.rated ≡ true = from.2.rated in
+      let rated : f.rated ≡ true = from.2.rated in
       let past : is_past new.at f ≡ true =
       all_there (is_past new.at) new.list.items i f new.past (slice_get_within new.list.items i f there)
       (sym (get_or_from_slice_get new.list.items i f f there)) in
@@ -735,17 +733,17 @@ module _ {P : Type 0} (cmp : P → P → Ordering) (caps : Caps P) {a : _} {b : 
       subst (λ (u : UnitFlight P). u.left ≢ 0) (get_or_from_slice_get (in_units old) i from.0 from.0 from.1)
       (left i from.0 (slice_get_within (in_units old) i from.0 from.1)) in
       let grows : 0 < h.times = other_factor old.scale h.times new.scale h.scale new.scaled in
-      let is : left_by new.at f.value ≡ from.0.left * h.times =
-      sym (ap (λ b. if b then left_by new.at f.value else f.value.left) rated) ∙ from.2.left in
+      let is : left_by new.at f ≡ from.0.left * h.times =
+      sym (ap (λ b. if b then left_by new.at f else f.left) rated) ∙ from.2.left in
       record {
         rated = rated;
-        since = leb-true f.value.since new.at (sym (ap (λ b. not b || nat_le f.value.since new.at) rated) ∙ past);
+        since = leb-true f.since new.at (sym (ap (λ b. not b || nat_le f.since new.at) rated) ∙ past);
         left = λ none. was_some (no_factor from.0.left h.times grows (sym is ∙ none));
         timed = h.timed i f there rated;
       }
 
   pub first_finish_is : (finish : Option ℕ)
-      → ((t : ℕ) → has_come t finish ≡ list_any (λ one. has_come t one.value.finish) new.list.items)
+      → ((t : ℕ) → has_come t finish ≡ list_any (λ one. has_come t one.finish) new.list.items)
       → IfSome finish (λ t. t ≤ last_moment) → IsLeastMoment (λ s. SomeSpentAt (in_flight new) s) finish
   first_finish_is finish first fits =
       by_finish new.scale new.scaled new.at here new.list.items all_run_on finish first finish refl fits

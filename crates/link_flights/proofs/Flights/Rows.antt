@@ -4,8 +4,6 @@ use Rattle.std.proofs.Common.{eqb, ltb, ◌-◌, get_or, take, drop, Option, Som
 use Rattle.std.specs.List.{list_any, slice_get, remove}
 use Rattle.std.specs.Result.{is_err}
 use Rattle.std.specs.declared.cmp.Ordering.{Ordering}
-use Rattle.std.specs.declared.rc.Rc.{Rc}
-use Rattle.std.specs.declared.alloc.Global.{Global}
 use Rattle.std.specs.Cmp.{IsTotalOrder}
 use Rattle.std.proofs.lemmas.List.{map-append, length-map, take-map, drop-map}
 use Rattle.std.proofs.lemmas.List.Elements.{All-head, All-tail, All-append, All-take, All-drop, All-weaker}
@@ -188,7 +186,7 @@ module _ {T : Type 0} (rows : List (Row T)) (sender receiver : ℕ) where
 
 module _ {P : Type 0} (cmp : P → P → Ordering) (total : IsTotalOrder cmp) where
   abbrev Item : Type 0
-  Item = Rc (Flight P) Global
+  Item = Flight P
 
   -- the end of a message, and the owner of a row at that end
   abbrev pub end_of : End → Message P → P
@@ -202,7 +200,7 @@ module _ {P : Type 0} (cmp : P → P → Ordering) (total : IsTotalOrder cmp) wh
   -- the rows of a number are the messages that share the end
   pub owned : (end : End) (peers : List P) (m : Message P) (number : ℕ) (rows : List (Row Item)) → All (IsRow cmp peers) rows
       → number_of cmp peers (end_of end m) ≡ Some number
-      → Agree (is_owned_by end number) (λ one. share cmp end m one.value.message.value) rows
+      → Agree (is_owned_by end number) (λ one. share cmp end m one.message.value) rows
   owned Origin peers m number rows all is =
       All-weaker (IsRow cmp peers) _ (λ row r. same_number cmp total peers m.origin _ number row.sender is r.sender) rows all
   owned Recipient peers m number rows all is =
@@ -211,7 +209,7 @@ module _ {P : Type 0} (cmp : P → P → Ordering) (total : IsTotalOrder cmp) wh
   -- a peer without a number is at the end of none
   pub unowned : (end : End) (peers : List P) (m : Message P) (rows : List (Row Item)) → All (IsRow cmp peers) rows
       → number_of cmp peers (end_of end m) ≡ None
-      → All (λ (row : Row Item). share cmp end m row.item.value.message.value ≡ false) rows
+      → All (λ (row : Row Item). share cmp end m row.item.message.value ≡ false) rows
   unowned Origin peers m rows all is =
       All-weaker (IsRow cmp peers) _ (λ row r. other_peer cmp total peers m.origin _ row.sender is r.sender) rows all
   unowned Recipient peers m rows all is =
@@ -223,14 +221,14 @@ module _ {P : Type 0} (cmp : P → P → Ordering) (total : IsTotalOrder cmp) wh
 
   -- the rows that are due are the messages that have finished
   pub due : (peers : List P) (t : ℕ) (rows : List (Row Item)) → All (IsRow cmp peers) rows
-      → Agree (is_due_by t) (λ one. has_come t one.value.finish) rows
+      → Agree (is_due_by t) (λ one. has_come t one.finish) rows
   due peers t rows all =
       All-weaker (IsRow cmp peers) _ (λ row r. come t row.moment ∙ ap (has_come t) r.moment) rows all
 
   -- whether a message goes from one peer to another
   abbrev pub is_of_pair : P → P → Item → Bool
   is_of_pair origin recipient one =
-      same_peer cmp origin one.value.message.value.origin && same_peer cmp recipient one.value.message.value.recipient
+      same_peer cmp origin one.message.value.origin && same_peer cmp recipient one.message.value.recipient
 
   -- the rows of two numbers are the messages of the pair
   pub of_pair : (peers : List P) (origin recipient : P) (sender receiver : ℕ) (rows : List (Row Item))
@@ -250,7 +248,7 @@ module _ {P : Type 0} (cmp : P → P → Ordering) (total : IsTotalOrder cmp) wh
       → All (λ (row : Row Item). is_of_pair origin recipient row.item ≡ false) rows
   no_origin peers origin recipient rows all is =
       All-weaker (IsRow cmp peers) _
-      (λ row r. ap (λ a. a && same_peer cmp recipient row.item.value.message.value.recipient)
+      (λ row r. ap (λ a. a && same_peer cmp recipient row.item.message.value.recipient)
       (other_peer cmp total peers origin _ row.sender is r.sender))
       rows all
 
@@ -259,9 +257,9 @@ module _ {P : Type 0} (cmp : P → P → Ordering) (total : IsTotalOrder cmp) wh
       → All (λ (row : Row Item). is_of_pair origin recipient row.item ≡ false) rows
   no_recipient peers origin recipient rows all is =
       All-weaker (IsRow cmp peers) _
-      (λ row r. ap (λ b. same_peer cmp origin row.item.value.message.value.origin && b)
+      (λ row r. ap (λ b. same_peer cmp origin row.item.message.value.origin && b)
       (other_peer cmp total peers recipient _ row.receiver is r.receiver)
-      ∙ and_false (same_peer cmp origin row.item.value.message.value.origin))
+      ∙ and_false (same_peer cmp origin row.item.message.value.origin))
       rows all
 
 -- ---- what is kept and what is seen
@@ -274,7 +272,7 @@ pub on_err : {T E Q : Type 0} (r : Result T E) → is_err r ≡ true → OnErr r
 on_err (Ok x) h q = cc
 on_err (Err e) h q = q
 
-module _ {P : Type 0} (given_up : Bool) (rows : Versions (Rc (Flight P) Global)) (line : Line P)
+module _ {P : Type 0} (given_up : Bool) (rows : Versions (Flight P)) (line : Line P)
     (seen : line_of given_up rows ≡ line) where
   -- what is not given up is seen
   pub kept : given_up ≡ false → items_of rows.now ≡ line.items
@@ -293,12 +291,12 @@ module _ {P : Type 0} (given_up : Bool) (rows : Versions (Rc (Flight P) Global))
   row_seen at h =
       let all = kept (not_given_up at h) in
       let within : at < length rows.now =
-      omega (arith, h, ap length all, length-map rows.now (λ (row : Row (Rc (Flight P) Global)). row.item)) in
+      omega (arith, h, ap length all, length-map rows.now (λ (row : Row (Flight P)). row.item)) in
       (there rows.now at within, within)
 
   module _ (cmp : P → P → Ordering) (total : IsTotalOrder cmp) (peers : List P) (all : All (IsRow cmp peers) rows.now) where
-    abbrev is_sharing : End → Message P → Rc (Flight P) Global → Bool
-    is_sharing end m one = share cmp end m one.value.message.value
+    abbrev is_sharing : End → Message P → Flight P → Bool
+    is_sharing end m one = share cmp end m one.message.value
 
     -- the first row of a number is the first message that shares the end
     pub first_shared : (end : End) (m : Message P) (number : ℕ) (next : Option ℕ) → given_up ≡ false
@@ -317,39 +315,39 @@ module _ {P : Type 0} (given_up : Bool) (rows : Versions (Rc (Flight P) Global))
         subst (λ items. IsNextPlace (is_sharing end m) items 0 None) (kept h)
         (nowhere (is_sharing end m) rows.now 0 (unowned cmp total end peers m rows.now all is))
 
-    abbrev owner_at : End → Row (Rc (Flight P) Global) → ℕ
+    abbrev owner_at : End → Row (Flight P) → ℕ
     owner_at Origin row = row.sender
     owner_at Recipient row = row.receiver
 
-    number_at : (end : End) (row : Row (Rc (Flight P) Global)) → IsRow cmp peers row
-        → number_of cmp peers (end_of cmp total end row.item.value.message.value) ≡ Some (owner_at end row)
+    number_at : (end : End) (row : Row (Flight P)) → IsRow cmp peers row
+        → number_of cmp peers (end_of cmp total end row.item.message.value) ≡ Some (owner_at end row)
     number_at Origin row is = is.sender
     number_at Recipient row is = is.receiver
 
     -- the next row of its owner is the next message that shares the end
     pub next_shared : (end : End) (at : ℕ) (next : Option ℕ) → at < length line.items
-        → ((row : Row (Rc (Flight P) Global)) → slice_get rows.now at ≡ Some row
+        → ((row : Row (Flight P)) → slice_get rows.now at ≡ Some row
         → IsNext (is_owned_by cmp total end (owner_at end row)) rows.now (suc at) next)
-        → IfSome next (λ at. at < length rows.now) → (d : Rc (Flight P) Global)
-        → IsNextPlace (is_sharing end (get_or line.items at d).value.message.value) line.items (at + 1) next
+        → IfSome next (λ at. at < length rows.now) → (d : Flight P)
+        → IsNextPlace (is_sharing end (get_or line.items at d).message.value) line.items (at + 1) next
     next_shared end at next low ahead within d =
         let here = row_seen at low in
         let row = here.0.row in
-        let m = row.item.value.message.value in
+        let m = row.item.message.value in
         let is = number_at end row (of_row (IsRow cmp peers) rows.now at here.1 here.0 all) in
         let found = next-items (is_owned_by cmp total end (owner_at end row)) (is_sharing end m) rows.now
         (owned cmp total end peers m (owner_at end row) rows.now all is) (suc at) next (ahead row here.0.get) within in
         let same : items_of rows.now ≡ line.items = kept (not_given_up at low) in
         rw add-one
-        (subst (λ items. IsNextPlace (is_sharing end (get_or items at d).value.message.value) items (suc at) next) same
+        (subst (λ items. IsNextPlace (is_sharing end (get_or items at d).message.value) items (suc at) next) same
         (subst
-        (λ (one : Rc (Flight P) Global). IsNextPlace (is_sharing end one.value.message.value) (items_of rows.now) (suc at) next)
+        (λ (one : Flight P). IsNextPlace (is_sharing end one.message.value) (items_of rows.now) (suc at) next)
         (sym (here.0.item_or d)) found))
 
 -- ---- rows that come, change and leave
 
 -- more peers have numbers: the rows stay
-pub rows_stay : {P : Type 0} (cmp : P → P → Ordering) (peers new : List P) (peer : P) (rows : List (Row (Rc (Flight P) Global))) → IsWithPeer cmp peers peer new
+pub rows_stay : {P : Type 0} (cmp : P → P → Ordering) (peers new : List P) (peer : P) (rows : List (Row (Flight P))) → IsWithPeer cmp peers peer new
     → All (IsRow cmp peers) rows → All (IsRow cmp new) rows
 rows_stay cmp peers new peer rows with all =
     All-weaker (IsRow cmp peers) (IsRow cmp new)
@@ -361,11 +359,11 @@ rows_stay cmp peers new peer rows with all =
     rows all
 
 module _ {P : Type 0} (cmp : P → P → Ordering) (peers : List P) where
-  abbrev pub AllRows : List (Row (Rc (Flight P) Global)) → Type 0
+  abbrev pub AllRows : List (Row (Flight P)) → Type 0
   AllRows = All (IsRow cmp peers)
 
   -- rows that stand as they did at the mark are kept
-  pub taken_back : (old new : Versions (Rc (Flight P) Global)) → AreKept cmp peers old → new.now ≡ old.before
+  pub taken_back : (old new : Versions (Flight P)) → AreKept cmp peers old → new.now ≡ old.before
       → new.before ≡ old.before → AreKept cmp peers new
   taken_back old new was now before = record {
     now = subst AllRows (sym now) was.before;
@@ -373,7 +371,7 @@ module _ {P : Type 0} (cmp : P → P → Ordering) (peers : List P) where
   }
 
   -- so are rows at a new mark
-  pub committed : (old new : Versions (Rc (Flight P) Global)) → AreKept cmp peers old → new.now ≡ old.now
+  pub committed : (old new : Versions (Flight P)) → AreKept cmp peers old → new.now ≡ old.now
       → new.before ≡ old.now → AreKept cmp peers new
   committed old new was now before = record {
     now = subst AllRows (sym now) was.now;
@@ -381,21 +379,21 @@ module _ {P : Type 0} (cmp : P → P → Ordering) (peers : List P) where
   }
 
   -- so are others, with the mark as it was
-  pub changed : (old new : Versions (Rc (Flight P) Global)) (rows : List (Row (Rc (Flight P) Global)))
+  pub changed : (old new : Versions (Flight P)) (rows : List (Row (Flight P)))
       → AreKept cmp peers old → AllRows rows → new.now ≡ rows → new.before ≡ old.before → AreKept cmp peers new
   changed old new rows was all now before = record {
     now = subst AllRows (sym now) all;
     before = subst AllRows (sym before) was.before;
   }
 
-  pub all_removed : (rows : List (Row (Rc (Flight P) Global))) (at : ℕ) → AllRows rows → AllRows (remove rows at)
+  pub all_removed : (rows : List (Row (Flight P))) (at : ℕ) → AllRows rows → AllRows (remove rows at)
   all_removed rows at all =
       All-append (IsRow cmp peers) (take at rows) (drop (suc at) rows) (All-take (IsRow cmp peers) at rows all)
       (All-drop (IsRow cmp peers) (suc at) rows all)
 
   -- another flight of the same message
-  pub row_changed : (row : Row (Rc (Flight P) Global)) (one : Rc (Flight P) Global) (moment : Option ℕ)
-      → IsRow cmp peers row → one.value.message.value ≡ row.item.value.message.value → moment ≡ one.value.finish
+  pub row_changed : (row : Row (Flight P)) (one : Flight P) (moment : Option ℕ)
+      → IsRow cmp peers row → one.message.value ≡ row.item.message.value → moment ≡ one.finish
       → IsRow cmp peers (with_item one moment row)
   row_changed row one moment is same timed = record {
     sender = ap (λ m. number_of cmp peers m.origin) same ∙ is.sender;
@@ -404,7 +402,7 @@ module _ {P : Type 0} (cmp : P → P → Ordering) (peers : List P) where
   }
 
   -- more peers have numbers
-  pub kept_more : (new : List P) (peer : P) (rows : Versions (Rc (Flight P) Global)) → IsWithPeer cmp peers peer new
+  pub kept_more : (new : List P) (peer : P) (rows : Versions (Flight P)) → IsWithPeer cmp peers peer new
       → AreKept cmp peers rows → AreKept cmp new rows
   kept_more new peer rows with was = record {
     now = rows_stay cmp peers new peer rows.now with was.now;

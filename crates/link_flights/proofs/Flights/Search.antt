@@ -103,22 +103,22 @@ module _ {P : Type 0} (cmp : P → P → Ordering) where
   -- ---- an end of each of those that have come
 
   -- it has an end of each from a place up to another
-  abbrev pub AllTouchFrom : Component P → ℕ → ℕ → List (Rc (Flight P) Global) → Type 0
-  AllTouchFrom component n end list = (at : ℕ) (one : Rc (Flight P) Global) → at < end
-      → slice_get list at ≡ Some one → n ≤ at → touches cmp component one.value.message.value ≡ true
+  abbrev pub AllTouchFrom : Component P → ℕ → ℕ → List (Flight P) → Type 0
+  AllTouchFrom component n end list = (at : ℕ) (one : Flight P) → at < end
+      → slice_get list at ≡ Some one → n ≤ at → touches cmp component one.message.value ≡ true
 
   -- ---- places that are listed
 
   -- those before a place that share that end with the message are listed, and no others but what was listed before
-  pub record HasListed (end : End) (m : Message P) (list : List (Rc (Flight P) Global)) (at : ℕ) (before near : List ℕ)
+  pub record HasListed (end : End) (m : Message P) (list : List (Flight P)) (at : ℕ) (before near : List ℕ)
       : Type 0 where
-    pub listed : (i : ℕ) (one : Rc (Flight P) Global) → i < at → slice_get list i ≡ Some one
-        → share cmp end m one.value.message.value ≡ true → Contains near i
+    pub listed : (i : ℕ) (one : Flight P) → i < at → slice_get list i ≡ Some one
+        → share cmp end m one.message.value ≡ true → Contains near i
     pub more : AreStillListed before near
     pub only : All (λ p. Contains before p ⊎ SharesEndAt cmp end m list p) near
 
   -- nothing is yet
-  pub none_listed : (end : End) (m : Message P) (list : List (Rc (Flight P) Global)) (before : List ℕ)
+  pub none_listed : (end : End) (m : Message P) (list : List (Flight P)) (before : List ℕ)
       → HasListed end m list 0 before before
   none_listed end m list before = record {
     listed = λ i one below. absurd (omega (arith, below));
@@ -127,33 +127,33 @@ module _ {P : Type 0} (cmp : P → P → Ordering) where
         (All-contains_itself before);
   }
 
-  module _ (end : End) (m : Message P) (list : List (Rc (Flight P) Global)) (from : ℕ) (before near : List ℕ)
+  module _ (end : End) (m : Message P) (list : List (Flight P)) (from : ℕ) (before near : List ℕ)
       (so_far : HasListed end m list from before near) where
-    apart_there : (to : ℕ) → PassesNowhere (λ one. share cmp end m one.value.message.value) list from to
-        → (i : ℕ) (one : Rc (Flight P) Global) → from ≤ i → i < to → slice_get list i ≡ Some one
-        → share cmp end m one.value.message.value ≡ false
+    apart_there : (to : ℕ) → PassesNowhere (λ one. share cmp end m one.message.value) list from to
+        → (i : ℕ) (one : Flight P) → from ≤ i → i < to → slice_get list i ≡ Some one
+        → share cmp end m one.message.value ≡ false
     apart_there to apart i one low high there =
-        subst (λ (y : Rc (Flight P) Global). share cmp end m y.value.message.value ≡ false)
+        subst (λ (y : Flight P). share cmp end m y.message.value ≡ false)
         (get_or_from_slice_get list i one one there) (apart i low high one)
 
-    shares_there : (at : ℕ) → PassesFirstAt (λ one. share cmp end m one.value.message.value) list from at
+    shares_there : (at : ℕ) → PassesFirstAt (λ one. share cmp end m one.message.value) list from at
         → SharesEndAt cmp end m list at
     shares_there at next =
         let there = one_there list at next.high in (
           there.0,
           there.1,
-          sym (ap (λ (y : Rc (Flight P) Global). share cmp end m y.value.message.value)
+          sym (ap (λ (y : Flight P). share cmp end m y.message.value)
               (get_or_from_slice_get list at there.0 there.0 there.1)) ∙ next.here there.0,
         )
 
     -- one more is listed, the next that shares that end
     pub listed_more : (at : ℕ) (next : List ℕ)
-        → PassesFirstAt (λ one. share cmp end m one.value.message.value) list from at
+        → PassesFirstAt (λ one. share cmp end m one.message.value) list from at
         → Contains next at → AreStillListed near next → All (λ p. Contains near p ⊎ (p ≡ at)) next
         → HasListed end m list (at + 1) before next
     listed_more at next first here still only = record {
-      listed = each_more (λ i (one : Rc (Flight P) Global).
-          share cmp end m one.value.message.value ≡ true → Contains next i) list at
+      listed = each_more (λ i (one : Flight P).
+          share cmp end m one.message.value ≡ true → Contains next i) list at
           (λ i one below there shares. elim (cases_lt i from) [
             | inl less ↦ still i (so_far.listed i one less there shares)
             | inr past ↦ absurd (false≢true (sym (apart_there at first.before i one past below there) ∙ shares))
@@ -169,7 +169,7 @@ module _ {P : Type 0} (cmp : P → P → Ordering) where
     }
 
     -- no other shares that end
-    pub listed_all : PassesNowhere (λ one. share cmp end m one.value.message.value) list from (length list)
+    pub listed_all : PassesNowhere (λ one. share cmp end m one.message.value) list from (length list)
         → AreListedAt cmp end m near list
     listed_all apart i one there shares = elim (cases_lt i from) [
       | inl less ↦ so_far.listed i one less there shares
@@ -178,10 +178,10 @@ module _ {P : Type 0} (cmp : P → P → Ordering) where
     ]
 
   -- the same before some place, and the first from that place on that shares that end is known
-  pub record HasWalked (end : End) (m : Message P) (list : List (Rc (Flight P) Global)) (next : Option ℕ)
+  pub record HasWalked (end : End) (m : Message P) (list : List (Flight P)) (next : Option ℕ)
       (before near : List ℕ) : Type 0 where
     pub from : ℕ
-    pub is_next : IsNextPlace (λ one. share cmp end m one.value.message.value) list from next
+    pub is_next : IsNextPlace (λ one. share cmp end m one.message.value) list from next
     pub so_far : HasListed end m list from before near
 
   share_alike : IsTotalOrder cmp → (end : End) (m n other : Message P) → share cmp end m n ≡ true
@@ -191,32 +191,32 @@ module _ {P : Type 0} (cmp : P → P → Ordering) where
       (eq_by_cmp_equiv order).congr m.recipient n.recipient other.recipient same
 
   -- those that share an end with one which shares it with the message share it with the message
-  pub next_shared : IsTotalOrder cmp → (end : End) (m : Message P) (list : List (Rc (Flight P) Global)) (from : ℕ)
+  pub next_shared : IsTotalOrder cmp → (end : End) (m : Message P) (list : List (Flight P)) (from : ℕ)
       (next : Option ℕ) (n : Message P) → share cmp end m n ≡ true
-      → IsNextPlace (λ other. share cmp end n other.value.message.value) list from next
-      → IsNextPlace (λ other. share cmp end m other.value.message.value) list from next
+      → IsNextPlace (λ other. share cmp end n other.message.value) list from next
+      → IsNextPlace (λ other. share cmp end m other.message.value) list from next
   next_shared order end m list from None n same is =
-      λ i low high d. share_alike order end m n (get_or list i d).value.message.value same ∙ is i low high d
+      λ i low high d. share_alike order end m n (get_or list i d).message.value same ∙ is i low high d
   next_shared order end m list from (Some at) n same is = record {
     low = is.low;
     high = is.high;
     before = λ i low high d.
-        share_alike order end m n (get_or list i d).value.message.value same ∙ is.before i low high d;
-    here = λ d. share_alike order end m n (get_or list at d).value.message.value same ∙ is.here d;
+        share_alike order end m n (get_or list i d).message.value same ∙ is.before i low high d;
+    here = λ d. share_alike order end m n (get_or list at d).message.value same ∙ is.here d;
   }
 
-  module _ (end : End) (m : Message P) (list : List (Rc (Flight P) Global)) (next : Option ℕ)
+  module _ (end : End) (m : Message P) (list : List (Flight P)) (next : Option ℕ)
       (before near : List ℕ) (walked : HasWalked end m list next before near) where
-    abbrev is_shared : Rc (Flight P) Global → Bool
-    is_shared one = share cmp end m one.value.message.value
+    abbrev is_shared : Flight P → Bool
+    is_shared one = share cmp end m one.message.value
 
     first_there : (at : ℕ) → next ≡ Some at → PassesFirstAt is_shared list walked.from at
     first_there at is = subst (IsNextPlace is_shared list walked.from) is walked.is_next
 
     -- the one there is listed, and the next one is known
     pub walked_more : IsTotalOrder cmp → (at : ℕ) → next ≡ Some at → (following : Option ℕ)
-        → ((d : Rc (Flight P) Global) → IsNextPlace
-        (λ other. share cmp end (get_or list at d).value.message.value other.value.message.value) list (at + 1) following)
+        → ((d : Flight P) → IsNextPlace
+        (λ other. share cmp end (get_or list at d).message.value other.message.value) list (at + 1) following)
         → (after : List ℕ) → Contains after at → AreStillListed near after
         → All (λ p. Contains near p ⊎ (p ≡ at)) after → HasWalked end m list following before after
     walked_more order at is following further after here still only =
@@ -224,7 +224,7 @@ module _ {P : Type 0} (cmp : P → P → Ordering) where
         let one = (one_there list at there.high).0 in
         record {
           from = at + 1;
-          is_next = next_shared order end m list (at + 1) following (get_or list at one).value.message.value
+          is_next = next_shared order end m list (at + 1) following (get_or list at one).message.value
               (there.here one) (further one);
           so_far = listed_more end m list walked.from before near walked.so_far at after there here still only;
         }
@@ -237,8 +237,8 @@ module _ {P : Type 0} (cmp : P → P → Ordering) where
 
     -- fewer stand behind the next one
     pub fewer_behind : (at : ℕ) → next ≡ Some at → (following : Option ℕ)
-        → ((d : Rc (Flight P) Global) → IsNextPlace
-        (λ other. share cmp end (get_or list at d).value.message.value other.value.message.value) list (at + 1) following)
+        → ((d : Flight P) → IsNextPlace
+        (λ other. share cmp end (get_or list at d).message.value other.message.value) list (at + 1) following)
         → behind list following < behind list next
     fewer_behind at is None further =
         let there = first_there at is in omega (arith, there.high, ap (behind list) is)
@@ -251,12 +251,12 @@ module _ {P : Type 0} (cmp : P → P → Ordering) where
     next_inside at is = (first_there at is).high
 
   -- each that shares an end with a message is listed, once those are that share the one and those that share the other
-  pub record HasListedBoth (m : Message P) (list : List (Rc (Flight P) Global)) (before near : List ℕ) : Type 0 where
+  pub record HasListedBoth (m : Message P) (list : List (Flight P)) (before near : List ℕ) : Type 0 where
     pub listed : AreListed cmp m near list
     pub more : AreStillListed before near
     pub only : All (λ p. Contains before p ⊎ SharesAt cmp m list p) near
 
-  pub both_listed : (m : Message P) (list : List (Rc (Flight P) Global)) (before mid near : List ℕ)
+  pub both_listed : (m : Message P) (list : List (Flight P)) (before mid near : List ℕ)
       → AreListedAt cmp Origin m mid list → AreStillListed before mid
       → All (λ p. Contains before p ⊎ SharesEndAt cmp Origin m list p) mid
       → AreListedAt cmp Recipient m near list → AreStillListed mid near
@@ -264,8 +264,8 @@ module _ {P : Type 0} (cmp : P → P → Ordering) where
       → HasListedBoth m list before near
   both_listed m list before mid near sent more only received further others = record {
     listed = λ at one there shares.
-        elim (or_cases (same_peer cmp m.origin one.value.message.value.origin)
-        (same_peer cmp m.recipient one.value.message.value.recipient) shares) [
+        elim (or_cases (same_peer cmp m.origin one.message.value.origin)
+        (same_peer cmp m.recipient one.message.value.recipient) shares) [
           | inl same ↦ further at (sent at one there same)
           | inr same ↦ received at one there same
         ];
@@ -306,11 +306,11 @@ module _ {P : Type 0} (cmp : P → P → Ordering) where
 
   -- what was touched still is
   pub still_touched : (old new : Component P) → StartsWith old.joined.items new.joined.items → new.whole ≡ old.whole
-      → (list : List (Rc (Flight P) Global)) (near : List ℕ) → AreTouched cmp old near list
+      → (list : List (Flight P)) (near : List ℕ) → AreTouched cmp old near list
       → AreTouched cmp new near list
   still_touched old new starts whole list near =
       All-weaker (IsTouched cmp old list) (IsTouched cmp new list)
-      (λ p touched. (touched.0, touched.1, still_touches old new starts whole touched.0.value.message.value touched.2))
+      (λ p touched. (touched.0, touched.1, still_touches old new starts whole touched.0.message.value touched.2))
       near
 
   -- it has an end of what shares one with a message that has joined
@@ -334,7 +334,7 @@ module _ {P : Type 0} (cmp : P → P → Ordering) where
 
   -- those listed are touched, where no others came but such that share an end with one that has joined
   pub touched_with : IsTotalOrder cmp → (old new : Component P) → StartsWith old.joined.items new.joined.items
-      → new.whole ≡ old.whole → (list : List (Rc (Flight P) Global)) (n : ℕ) (m : Rc (Message P) Global)
+      → new.whole ≡ old.whole → (list : List (Flight P)) (n : ℕ) (m : Rc (Message P) Global)
       → n < length old.joined.items → m ≡ get_or old.joined.items n m → (before after : List ℕ)
       → All (λ p. Contains before p ⊎ SharesAt cmp m.value list p) after → AreTouched cmp old before list
       → AreTouched cmp new after list
@@ -346,7 +346,7 @@ module _ {P : Type 0} (cmp : P → P → Ordering) where
         | inr shares ↦ (
           shares.0,
           shares.1,
-          shares_touches order old n m inside is shares.0.value.message.value shares.2,
+          shares_touches order old n m inside is shares.0.message.value shares.2,
         )
       ])
       after only)
@@ -384,30 +384,30 @@ module _ {P : Type 0} (cmp : P → P → Ordering) where
         (subst (λ (x : Rc (Message P) Global). has_both cmp new x.value ≡ true) is has)
 
     -- what it touches from a place on it still does, and one more of which it has both ends
-    pub touches_one_more : (n end : ℕ) (list : List (Rc (Flight P) Global)) → AllTouchFrom old n end list
-        → (read : Rc (Flight P) Global) → read ≡ get_or list end read
-        → has_both cmp new read.value.message.value ≡ true → AllTouchFrom new n (end + 1) list
+    pub touches_one_more : (n end : ℕ) (list : List (Flight P)) → AllTouchFrom old n end list
+        → (read : Flight P) → read ≡ get_or list end read
+        → has_both cmp new read.message.value ≡ true → AllTouchFrom new n (end + 1) list
     touches_one_more n end list so_far read is has =
-        each_more (λ i (one : Rc (Flight P) Global). n ≤ i → touches cmp new one.value.message.value ≡ true) list end
-        (λ i one below there from. still_touches old new starts whole one.value.message.value
+        each_more (λ i (one : Flight P). n ≤ i → touches cmp new one.message.value ≡ true) list end
+        (λ i one below there from. still_touches old new starts whole one.message.value
         (so_far i one below there from))
-        (λ one there from. subst (λ (x : Rc (Flight P) Global). touches cmp new x.value.message.value ≡ true)
+        (λ one there from. subst (λ (x : Flight P). touches cmp new x.message.value ≡ true)
         (same_there list end read one is there)
-        (or_first (is_sender cmp new read.value.message.value.origin)
-        (is_receiver cmp new read.value.message.value.recipient) (first_of_both _ _ has)))
+        (or_first (is_sender cmp new read.message.value.origin)
+        (is_receiver cmp new read.message.value.recipient) (first_of_both _ _ has)))
 
     -- what it touched it still does
-    pub still_touches_new : (n : ℕ) (list : List (Rc (Flight P) Global)) → AllNewTouch cmp old n list
+    pub still_touches_new : (n : ℕ) (list : List (Flight P)) → AllNewTouch cmp old n list
         → AllNewTouch cmp new n list
     still_touches_new n list new_touch at one from there =
-        still_touches old new starts whole one.value.message.value (new_touch at one from there)
+        still_touches old new starts whole one.message.value (new_touch at one from there)
 
     -- what was suited still is, where it has joined more
-    pub still_suited : new.level ≡ old.level → (list : List (Rc (Flight P) Global)) (near : List ℕ)
+    pub still_suited : new.level ≡ old.level → (list : List (Flight P)) (near : List ℕ)
         → AreSuited cmp old near list → AreSuited cmp new near list
     still_suited level list near all k d lt one there =
-        let u = flight_at 0 one.value in
-        let m : Message P = one.value.message.value in
+        let u = flight_at 0 one in
+        let m : Message P = one.message.value in
         elim (or_cases (keeps old u) (has_both cmp old m) (all k d lt one there)) [
           | inl kept ↦ or_first (keeps new u) (has_both cmp new m)
               (ap (λ n. u.rated && not (nat_le n u.rate)) level ∙ kept)
@@ -416,7 +416,7 @@ module _ {P : Type 0} (cmp : P → P → Ordering) where
 
   -- where one more is listed of which it has both ends, if that keeps no rate, it still has those of all
   pub suited_with_one : (old new : Component P) → StartsWith old.joined.items new.joined.items
-      → new.level ≡ old.level → new.whole ≡ old.whole → (list : List (Rc (Flight P) Global)) (at : ℕ)
+      → new.level ≡ old.level → new.whole ≡ old.whole → (list : List (Flight P)) (at : ℕ)
       (before after : List ℕ) → All (λ p. Contains before p ⊎ (p ≡ at)) after → AreSuited cmp old before list
       → IsSuited cmp new list at → AreSuited cmp new after list
   suited_with_one old new starts level whole list at before after only suited one =
@@ -430,7 +430,7 @@ module _ {P : Type 0} (cmp : P → P → Ordering) where
 
   -- those before some place that share that end with the message are listed, and it has both ends of those listed that
   -- keep no rate
-  pub record HasJoinedAll (end : End) (m : Message P) (list : List (Rc (Flight P) Global)) (next : Option ℕ)
+  pub record HasJoinedAll (end : End) (m : Message P) (list : List (Flight P)) (next : Option ℕ)
       (old new : Component P) : Type 0 where
     pub walked : HasWalked end m list next old.near.items new.near.items
     pub suited : AreSuited cmp new new.near.items list
@@ -439,7 +439,7 @@ module _ {P : Type 0} (cmp : P → P → Ordering) where
     pub whole : new.whole ≡ old.whole
 
   -- it has both ends of the first so many of those listed that keep no rate
-  pub record HasJoinedUpTo (list : List (Rc (Flight P) Global)) (n : ℕ) (old new : Component P) : Type 0 where
+  pub record HasJoinedUpTo (list : List (Flight P)) (n : ℕ) (old new : Component P) : Type 0 where
     pub suited : AreSuited cmp new (take n new.near.items) list
     pub joined : StartsWith old.joined.items new.joined.items
     pub near : new.near.items ≡ old.near.items
@@ -447,7 +447,7 @@ module _ {P : Type 0} (cmp : P → P → Ordering) where
     pub whole : new.whole ≡ old.whole
 
   -- and of one more
-  pub joined_one : (list : List (Rc (Flight P) Global)) (n : ℕ) (old mid new : Component P)
+  pub joined_one : (list : List (Flight P)) (n : ℕ) (old mid new : Component P)
       → HasJoinedUpTo list n old mid → StartsWith mid.joined.items new.joined.items
       → new.near.items ≡ mid.near.items → new.level ≡ mid.level → new.whole ≡ mid.whole → n < length mid.near.items
       → (at : ℕ) → at ≡ get_or mid.near.items n at → IsSuited cmp new list at → HasJoinedUpTo list (n + 1) old new
@@ -464,7 +464,7 @@ module _ {P : Type 0} (cmp : P → P → Ordering) where
   }
 
   -- so many of the messages that are joined have listed those that share an end with them
-  pub record HasListedUpTo (list : List (Rc (Flight P) Global)) (n : ℕ) (old new : Component P) : Type 0 where
+  pub record HasListedUpTo (list : List (Flight P)) (n : ℕ) (old new : Component P) : Type 0 where
     pub listed : AreAllListed cmp (take n new.joined.items) new.near.items list
     pub touched : AreTouched cmp new new.near.items list
     pub joined : new.joined.items ≡ old.joined.items
@@ -472,7 +472,7 @@ module _ {P : Type 0} (cmp : P → P → Ordering) where
     pub whole : new.whole ≡ old.whole
 
   -- so many of them were looked through, and no more than may have joined
-  pub record HasGrown (list : List (Rc (Flight P) Global)) (floor : Option ℕ) (n : ℕ) (old new : Component P)
+  pub record HasGrown (list : List (Flight P)) (floor : Option ℕ) (n : ℕ) (old new : Component P)
       : Type 0 where
     pub walked : IsWalked cmp n new list
     pub joined : StartsWith old.joined.items new.joined.items
@@ -480,13 +480,13 @@ module _ {P : Type 0} (cmp : P → P → Ordering) where
     pub level : IfSome floor (λ floor. new.level ≤ floor)
     pub whole : new.whole ≡ old.whole
 
-  pub still_listed : (list : List (Rc (Flight P) Global)) (before after : List ℕ) → AreStillListed before after
+  pub still_listed : (list : List (Flight P)) (before after : List ℕ) → AreStillListed before after
       → (ms : List (Rc (Message P) Global)) → AreAllListed cmp ms before list → AreAllListed cmp ms after list
   still_listed list before after still ms all k d below at one there shares =
       still at (all k d below at one there shares)
 
   -- those of so many of the messages are listed, and of one more
-  pub all_listed_more : (list : List (Rc (Flight P) Global)) (ms : List (Rc (Message P) Global)) (n : ℕ)
+  pub all_listed_more : (list : List (Flight P)) (ms : List (Rc (Message P) Global)) (n : ℕ)
       (before after : List ℕ) → AreAllListed cmp (take n ms) before list → n < length ms
       → (m : Rc (Message P) Global) → m ≡ get_or ms n m → AreListed cmp m.value after list
       → AreStillListed before after → AreAllListed cmp (take (n + 1) ms) after list
@@ -496,7 +496,7 @@ module _ {P : Type 0} (cmp : P → P → Ordering) where
       (subst (λ (x : Rc (Message P) Global). AreListed cmp x.value after list) is listed)
 
   -- and where more messages have joined since
-  pub all_listed_next : (list : List (Rc (Flight P) Global)) (ms more : List (Rc (Message P) Global))
+  pub all_listed_next : (list : List (Flight P)) (ms more : List (Rc (Message P) Global))
       → StartsWith ms more → (n : ℕ) (before after : List ℕ) → n < length ms → AreAllListed cmp (take n ms) before list
       → AreStillListed before after → (m : Rc (Message P) Global) → m ≡ get_or ms n m
       → AreListed cmp m.value after list → AreAllListed cmp (take (n + 1) more) after list
@@ -506,7 +506,7 @@ module _ {P : Type 0} (cmp : P → P → Ordering) where
       (all_listed_more list ms n before after all inside m is listed still)
 
   -- once each was looked through, all are listed
-  pub all_listed : (component : Component P) (list : List (Rc (Flight P) Global))
+  pub all_listed : (component : Component P) (list : List (Flight P))
       → IsWalked cmp (length component.joined.items) component list
       → AreAllListed cmp component.joined.items component.near.items list
   all_listed component list walked =
@@ -518,18 +518,18 @@ module _ {P : Type 0} (cmp : P → P → Ordering) where
   ends_are_shared Recipient m n same = or_second _ _ same
 
   -- what shares that end with a message is listed, once all are that share one with another that has it
-  pub listed_before : IsTotalOrder cmp → (end : End) (m : Message P) (list : List (Rc (Flight P) Global))
+  pub listed_before : IsTotalOrder cmp → (end : End) (m : Message P) (list : List (Flight P))
       (ms : List (Rc (Message P) Global)) (near : List ℕ) → AreAllListed cmp ms near list
       → list_any (λ n. share cmp end m n.value) ms ≡ true → AreListedAt cmp end m near list
   listed_before order end m list ms near all any at one there shares =
       let found = Any-from_list_any (λ n. share cmp end m n.value) ms any in
-      let other : Message P = one.value.message.value in
+      let other : Message P = one.message.value in
       subst (λ (n : Rc (Message P) Global). share_an_end cmp n.value other ≡ true → Contains near at) found.3
       (all found.0 found.1 found.2 at one there)
       (ends_are_shared end found.1.value other (sym (share_alike order end m found.1.value other found.4) ∙ shares))
 
   -- those that were looked through still are listed, where more have joined since
-  pub first_listed : (list : List (Rc (Flight P) Global)) (ms more : List (Rc (Message P) Global)) → StartsWith ms more
+  pub first_listed : (list : List (Flight P)) (ms more : List (Rc (Message P) Global)) → StartsWith ms more
       → (n : ℕ) (before after : List ℕ) → n ≤ length ms → AreAllListed cmp (take n ms) before list
       → AreStillListed before after → AreAllListed cmp (take n more) after list
   first_listed list ms more (rest, e) n before after inside all still =
@@ -538,7 +538,7 @@ module _ {P : Type 0} (cmp : P → P → Ordering) where
       (still_listed list before after still (take n ms) all)
 
   -- what was looked through still is, where the same places are listed in another order
-  pub walked_in_order : (n : ℕ) (component : Component P) (near : Vec ℕ Global) (list : List (Rc (Flight P) Global))
+  pub walked_in_order : (n : ℕ) (component : Component P) (near : Vec ℕ Global) (list : List (Flight P))
       → AreStillListed component.near.items near.items → AreStillListed near.items component.near.items
       → IsWalked cmp n component list → IsWalked cmp n (record component { near = near }) list
   walked_in_order n component near list still only walked =
@@ -552,21 +552,21 @@ module _ {P : Type 0} (cmp : P → P → Ordering) where
       }
 
   -- one of which the component has an end is listed
-  module _ (order : IsTotalOrder cmp) (list : List (Rc (Flight P) Global)) (near : List ℕ) (at : ℕ)
-      (one : Rc (Flight P) Global) (there : slice_get list at ≡ Some one) where
+  module _ (order : IsTotalOrder cmp) (list : List (Flight P)) (near : List ℕ) (at : ℕ)
+      (one : Flight P) (there : slice_get list at ≡ Some one) where
     by_one : (test : Message P → Bool) (ms : List (Rc (Message P) Global)) → AreAllListed cmp ms near list
-        → ((m : Message P) → test m ≡ true → share_an_end cmp m one.value.message.value ≡ true)
+        → ((m : Message P) → test m ≡ true → share_an_end cmp m one.message.value ≡ true)
         → list_any (λ m. test m.value) ms ≡ true → Contains near at
     by_one test ms all shares any =
         let found = Any-from_list_any (λ m. test m.value) ms any in
-        subst (λ (m : Rc (Message P) Global). share_an_end cmp m.value one.value.message.value ≡ true → Contains near at)
+        subst (λ (m : Rc (Message P) Global). share_an_end cmp m.value one.message.value ≡ true → Contains near at)
         found.3 (all found.0 found.1 found.2 at one there) (shares found.1.value found.4)
 
     pub touched_listed : (component : Component P) → component.whole ≡ false
         → AreAllListed cmp component.joined.items near list
-        → touches cmp component one.value.message.value ≡ true → Contains near at
+        → touches cmp component one.message.value ≡ true → Contains near at
     touched_listed component part all touched =
-        let m : Message P = one.value.message.value in
+        let m : Message P = one.message.value in
         elim (or_cases (is_sender cmp component m.origin) (is_receiver cmp component m.recipient) touched) [
           | inl sends ↦ by_one (λ n. same_peer cmp m.origin n.origin) component.joined.items all
               (λ n same. or_first _ _ ((eq_by_cmp_equiv order).symm n.origin m.origin ∙ same))
@@ -580,12 +580,12 @@ module _ {P : Type 0} (cmp : P → P → Ordering) where
 
   -- so those listed in order are near, if all are listed
   pub near_if_listed : IsTotalOrder cmp → (component : Component P) → component.whole ≡ false
-      → (list : List (Rc (Flight P) Global)) → AreAllListed cmp component.joined.items component.near.items list
+      → (list : List (Flight P)) → AreAllListed cmp component.joined.items component.near.items list
       → Ascends 0 component.near.items → AreTouched cmp component component.near.items list
       → AreNear cmp component component.near.items list
   near_if_listed order component part list listed ascends touched =
       let near = component.near.items in
-      places_are (λ f. touches cmp component f.value.message.value) 0 list near ascends
+      places_are (λ f. touches cmp component f.message.value) 0 list near ascends
       (λ p among.
       let one = All-contains (IsTouched cmp component list) near p touched (contains_from_in near p among) in
       record { at = p; one = one.0; place = omega arith; there = one.1; passes = one.2 })
@@ -598,10 +598,10 @@ module _ {P : Type 0} (cmp : P → P → Ordering) where
     abbrev is_touched : UnitFlight P → Bool
     is_touched u = touches cmp component u.message
 
-    abbrev is_near : Rc (Flight P) Global → Bool
-    is_near f = touches cmp component f.value.message.value
+    abbrev is_near : Flight P → Bool
+    is_near f = touches cmp component f.message.value
 
-    pub near_read : (now : ℕ) (list : List (Rc (Flight P) Global))
+    pub near_read : (now : ℕ) (list : List (Flight P))
         → flights_at now (those_near cmp component list) ≡ near_of cmp component (flights_at now list)
     near_read now [] = refl
     near_read now (f ∷ list) = by_test (is_near f) refl (near_read now list)
@@ -610,11 +610,11 @@ module _ {P : Type 0} (cmp : P → P → Ordering) where
             → flights_at now (filter is_near list) ≡ filter is_touched (flights_at now list)
             → flights_at now (filter is_near (f ∷ list)) ≡ filter is_touched (flights_at now (f ∷ list))
         by_test true here ih =
-            ap (flights_at now) (filter_yes is_near f list here) ∙ ap (λ us. flight_at now f.value ∷ us) ih
-            ∙ sym (filter_yes is_touched (flight_at now f.value) (flights_at now list) here)
+            ap (flights_at now) (filter_yes is_near f list here) ∙ ap (λ us. flight_at now f ∷ us) ih
+            ∙ sym (filter_yes is_touched (flight_at now f) (flights_at now list) here)
         by_test false far ih =
             ap (flights_at now) (filter_no is_near f list far) ∙ ih
-            ∙ sym (filter_no is_touched (flight_at now f.value) (flights_at now list) far)
+            ∙ sym (filter_no is_touched (flight_at now f) (flights_at now list) far)
 
     -- ---- the test
 
@@ -633,7 +633,7 @@ module _ {P : Type 0} (cmp : P → P → Ordering) where
 
     -- it is closed, where it has what is done and suits those listed, and has an end of each that has no rate
     pub closed_if_near : IsTotalOrder cmp → component.whole ≡ false → (near : List ℕ)
-        (done : List (Rc (Message P) Global)) (now settled : ℕ) (list : List (Rc (Flight P) Global))
+        (done : List (Rc (Message P) Global)) (now settled : ℕ) (list : List (Flight P))
         → All (λ m. has_both cmp component m.value ≡ true) done → HaveRates settled list
         → AllNewTouch cmp component settled list
         → AreAllListed cmp component.joined.items near list → AreSuited cmp component near list
@@ -642,21 +642,21 @@ module _ {P : Type 0} (cmp : P → P → Ordering) where
         and_from _ _
         (all_passed (λ m. has_both cmp component m.value) done
         (λ m among. All-contains (λ m. has_both cmp component m.value ≡ true) done m has (contains_from_in done m among)))
-        (list_all-map (suits cmp component) (λ f. flight_at now f.value) list
-        ∙ all_passed (λ f. suits cmp component (flight_at now f.value)) list each)
+        (list_all-map (suits cmp component) (λ f. flight_at now f) list
+        ∙ all_passed (λ f. suits cmp component (flight_at now f)) list each)
       where
-        rated_there : (at : ℕ) (f : Rc (Flight P) Global) → slice_get list at ≡ Some f
-            → touches cmp component f.value.message.value ≡ false → f.value.rated ≡ true
+        rated_there : (at : ℕ) (f : Flight P) → slice_get list at ≡ Some f
+            → touches cmp component f.message.value ≡ false → f.rated ≡ true
         rated_there at f there far = elim (cases_lt at settled) [
-          | inl below ↦ passed_there (λ (f : Rc (Flight P) Global). f.value.rated) settled list at f have.1 below there
+          | inl below ↦ passed_there (λ (f : Flight P). f.rated) settled list at f have.1 below there
           | inr from ↦ absurd (false≢true (sym far ∙ new at f from there))
         ]
 
-        each : (f : Rc (Flight P) Global) → In list f → suits cmp component (flight_at now f.value) ≡ true
+        each : (f : Flight P) → In list f → suits cmp component (flight_at now f) ≡ true
         each f among =
             let there = get_in list f among in
-            by_bool (touches cmp component f.value.message.value)
-            (λ here. suits_touched (flight_at now f.value) here
+            by_bool (touches cmp component f.message.value)
+            (λ here. suits_touched (flight_at now f) here
             (All-contains (IsSuited cmp component list) near there.0 suited
             (touched_listed order list near there.0 f there.1 component part listed here) f there.1))
-            (λ far. suits_far (flight_at now f.value) far (rated_there there.0 f there.1 far))
+            (λ far. suits_far (flight_at now f) far (rated_there there.0 f there.1 far))

@@ -4,8 +4,6 @@ use Rattle.std.proofs.Common.{length, take, drop, get_or, set, Some, refl, sym}
 use Rattle.std.proofs.Common.{◌∙◌, arith}
 use Rattle.std.specs.List.{AllZip, list_all, remove}
 use Rattle.std.specs.declared.cmp.Ordering.{Ordering}
-use Rattle.std.specs.declared.rc.Rc.{Rc}
-use Rattle.std.specs.declared.alloc.Global.{Global}
 use Rattle.std.proofs.lemmas.Bool.{and_from}
 use Rattle.std.proofs.lemmas.List.{length-set, length-take-le, take-append-drop}
 use Rattle.std.proofs.lemmas.List.{get_or_default}
@@ -60,29 +58,29 @@ module _ {X : Type 0} (test : X → Bool) where
 module _ {P : Type 0} where
   -- ---- those at the beginning have rates
 
-  pub rates_put : (n : ℕ) (fs : List (Rc (Flight P) Global)) (at : ℕ) (one : Rc (Flight P) Global) → HaveRates n fs
-      → ((d : Rc (Flight P) Global) → (get_or fs at d).value.rated ≡ true → one.value.rated ≡ true)
+  pub rates_put : (n : ℕ) (fs : List (Flight P)) (at : ℕ) (one : Flight P) → HaveRates n fs
+      → ((d : Flight P) → (get_or fs at d).rated ≡ true → one.rated ≡ true)
       → HaveRates n (set fs at one)
   rates_put n fs at one h kept =
-      (omega (arith, h.0, length-set fs at one), pass_with (λ f. f.value.rated) n fs at one h.1 kept)
+      (omega (arith, h.0, length-set fs at one), pass_with (λ f. f.rated) n fs at one h.1 kept)
 
-  pub rates_less : (n : ℕ) (fs : List (Rc (Flight P) Global)) (at : ℕ) → HaveRates (suc n) fs → at < suc n
+  pub rates_less : (n : ℕ) (fs : List (Flight P)) (at : ℕ) → HaveRates (suc n) fs → at < suc n
       → HaveRates n (remove fs at)
   rates_less n fs at h within = (
     omega (arith, h.0, length-remove fs at (omega (arith, h.0, within))),
-    pass_less (λ f. f.value.rated) n fs at (omega arith) h.1,
+    pass_less (λ f. f.rated) n fs at (omega arith) h.1,
   )
 
-  pub rates_still : (n : ℕ) (fs : List (Rc (Flight P) Global)) (at : ℕ) → HaveRates n fs → n ≤ at → at < length fs
+  pub rates_still : (n : ℕ) (fs : List (Flight P)) (at : ℕ) → HaveRates n fs → n ≤ at → at < length fs
       → HaveRates n (remove fs at)
   rates_still n fs at h beyond inside = (
     omega (arith, h.0, length-remove fs at inside, inside, beyond),
-    pass_still (λ f. f.value.rated) n fs at beyond h.1,
+    pass_still (λ f. f.rated) n fs at beyond h.1,
   )
 
   -- ---- those that have rates are counted on
 
-  pub counted_from : (at now n : ℕ) (fs : List (Rc (Flight P) Global)) → HaveRates n fs
+  pub counted_from : (at now n : ℕ) (fs : List (Flight P)) → HaveRates n fs
       → list_all (is_past at) fs ≡ true → at ≤ now → IsChangedUpTo (IsBrought at now) fs fs n
   counted_from at now n fs h past later = record {
     from = take n fs;
@@ -94,43 +92,43 @@ module _ {P : Type 0} where
     changed = each n fs h.1 past;
   }
     where
-      each : (n : ℕ) (fs : List (Rc (Flight P) Global)) → list_all (λ f. f.value.rated) (take n fs) ≡ true
+      each : (n : ℕ) (fs : List (Flight P)) → list_all (λ f. f.rated) (take n fs) ≡ true
           → list_all (is_past at) fs ≡ true → AllZip (IsBrought at now) (take n fs) (take n fs)
       each zero fs all past = tt
       each (suc n) [] all past = tt
       each (suc n) (f ∷ fs) all past = (
-        is_counted_on at now f (first_of_both f.value.rated _ all) (first_of_both (is_past at f) _ past) later,
-        each n fs (second_of_both f.value.rated _ all) (second_of_both (is_past at f) _ past),
+        is_counted_on at now f (first_of_both f.rated _ all) (first_of_both (is_past at f) _ past) later,
+        each n fs (second_of_both f.rated _ all) (second_of_both (is_past at f) _ past),
       )
 
   -- ---- and none of them is done, where no finish has come
 
   module _ (cmp : P → P → Ordering) (caps : Caps P) (scale : ℕ) (some : 0 < scale) (at : ℕ) (here : at ≤ last_moment)
     where
-      abbrev out : Rc (Flight P) Global → Bool
-      out f = is_out cmp caps scale (flight_at at f.value)
+      abbrev out : Flight P → Bool
+      out f = is_out cmp caps scale (flight_at at f)
 
       -- so none of those between two places leaves, which have got a rate, where their finishes have not come
-      pub none_out_between : (n : ℕ) (fs : List (Rc (Flight P) Global)) (from to : ℕ) → HaveRates n fs
+      pub none_out_between : (n : ℕ) (fs : List (Flight P)) (from to : ℕ) → HaveRates n fs
           → list_all (is_past at) fs ≡ true → ((i : ℕ) → from ≤ i → i < to → i < n)
-          → PassesNowhere (λ f. has_come at f.value.finish) fs from to → AreTimed fs
+          → PassesNowhere (λ f. has_come at f.finish) fs from to → AreTimed fs
           → are_limited cmp caps (rated_ones (flights_at at fs)) ≡ true → PassesNowhere out fs from to
       none_out_between n fs from to have past inside none timed limited i low high d =
           let f = get_or fs i d in
           let below : i < length fs = omega (arith, inside i low high, have.0) in
           let is : f ≡ get_or fs i f = get_or_default fs i d f below in
           let there : slice_get fs i ≡ Some f = slice_get_read fs (length fs) i f refl below is in
-          let rated = passed_there (λ (f : Rc (Flight P) Global). f.value.rated) n fs i f have.1 (inside i low high) there
+          let rated = passed_there (λ (f : Flight P). f.rated) n fs i f have.1 (inside i low high) there
           in
-          sym (out_by_finish cmp caps scale some at f.value rated
+          sym (out_by_finish cmp caps scale some at f rated
           (past_so at f (all_there (is_past at) fs i f past below is) rated) here (timed i f there rated)
           (limited_there cmp caps scale some at fs i f limited below is rated))
           ∙ none i low high d
 
 -- all have rates, once each has got one
-pub all_have_got : {P : Type 0} (now times at : ℕ) (us : List (UnitFlight P)) (fs : List (Rc (Flight P) Global))
-    → AllZip (IsRatedFrom now times) us (flights_at at fs) → list_all (λ f. f.value.rated) fs ≡ true
+pub all_have_got : {P : Type 0} (now times at : ℕ) (us : List (UnitFlight P)) (fs : List (Flight P))
+    → AllZip (IsRatedFrom now times) us (flights_at at fs) → list_all (λ f. f.rated) fs ≡ true
 all_have_got now times at [] [] z = refl
 all_have_got now times at [] (f ∷ fs) z = absurd z
 all_have_got now times at (u ∷ us) [] z = absurd z
-all_have_got now times at (u ∷ us) (f ∷ fs) z = and_from f.value.rated _ z.0.rated (all_have_got now times at us fs z.1)
+all_have_got now times at (u ∷ us) (f ∷ fs) z = and_from f.rated _ z.0.rated (all_have_got now times at us fs z.1)

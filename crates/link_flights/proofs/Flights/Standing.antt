@@ -7,8 +7,6 @@ use Rattle.std.proofs.lemmas.Option.{none-some, same_Some}
 use Rattle.std.proofs.lemmas.Bool.{false≢true}
 use Rattle.std.proofs.lemmas.List.{length-map}
 use Rattle.std.specs.List.{AllZip, list_any}
-use Rattle.std.specs.declared.rc.Rc.{Rc}
-use Rattle.std.specs.declared.alloc.Global.{Global}
 use Rattle.std.specs.declared.cmp.Ordering.{Ordering}
 use Rattle.fair_rates.specs.Sides.Caps.{Caps}
 use Rattle.link_simulation.specs.Simulation.Messages.{Message}
@@ -24,10 +22,10 @@ use Rattle.link_flights.proofs.Flights.InFlight.{read_at}
 
 module _ {P : Type 0} where
   -- as many are in flight as are kept
-  pub length_in_flight : (scale at : ℕ) (fs : List (Rc (Flight P) Global))
+  pub length_in_flight : (scale at : ℕ) (fs : List (Flight P))
       → length (sending_of scale (flights_at at fs)) ≡ length fs
   length_in_flight scale at fs =
-      length-map (flights_at at fs) (rated_flight_of scale) ∙ length-map fs (λ f. flight_at at f.value)
+      length-map (flights_at at fs) (rated_flight_of scale) ∙ length-map fs (λ f. flight_at at f)
 
   -- their messages are read as they are
   pub messages_read : (scale : ℕ) (us : List (UnitFlight P)) → rated_messages (sending_of scale us) ≡ sent_messages us
@@ -35,12 +33,12 @@ module _ {P : Type 0} where
   messages_read scale (u ∷ us) = ap (λ (ms : List (Message P)). message_of u.message ∷ ms) (messages_read scale us)
 
   -- whether one of the messages passes a test
-  pub any_sent : (scale at : ℕ) (fs : List (Rc (Flight P) Global)) (test : Message P → Bool)
+  pub any_sent : (scale at : ℕ) (fs : List (Flight P)) (test : Message P → Bool)
       → list_any test (rated_messages (sending_of scale (flights_at at fs)))
-      ≡ list_any (λ f. test (message_of f.value.message.value)) fs
+      ≡ list_any (λ f. test (message_of f.message.value)) fs
   any_sent scale at [] test = refl
   any_sent scale at (f ∷ fs) test =
-      ap (λ b. test (message_of f.value.message.value) || b) (any_sent scale at fs test)
+      ap (λ b. test (message_of f.message.value) || b) (any_sent scale at fs test)
 
   -- and stay the same as they get their rates
   pub messages_kept : (now times : ℕ) (us vs : List (UnitFlight P)) → AllZip (IsRatedFrom now times) us vs
@@ -51,25 +49,25 @@ module _ {P : Type 0} where
   messages_kept now times (u ∷ us) (v ∷ vs) each = rw (each.0.message, messages_kept now times us vs each.1) refl
 
   -- one that has no rate yet leaves the others timed
-  pub timed_with : (fs : List (Rc (Flight P) Global)) (g : Rc (Flight P) Global) → g.value.rated ≡ false → AreTimed fs
+  pub timed_with : (fs : List (Flight P)) (g : Flight P) → g.rated ≡ false → AreTimed fs
       → AreTimed (fs ++ g ∷ [])
   timed_with [] g new timed zero f is rated =
-      absurd (false≢true (sym new ∙ ap (λ (x : Rc (Flight P) Global). x.value.rated) (same_Some g f is) ∙ rated))
+      absurd (false≢true (sym new ∙ ap (λ (x : Flight P). x.rated) (same_Some g f is) ∙ rated))
   timed_with [] g new timed (suc i) f is rated = absurd (none-some f is)
   timed_with (h ∷ fs) g new timed zero f is rated = timed 0 f is rated
   timed_with (h ∷ fs) g new timed (suc i) f is rated =
       timed_with fs g new (λ j k there. timed (suc j) k there) i f is rated
 
   -- what is kept at a place, as it is read
-  pub there_in_flight : (scale at : ℕ) (fs : List (Rc (Flight P) Global)) (i : ℕ) (f : Rc (Flight P) Global)
+  pub there_in_flight : (scale at : ℕ) (fs : List (Flight P)) (i : ℕ) (f : Flight P)
       (d : RatedFlight P)
       → i < length fs → f ≡ get_or fs i f
-      → get_or (sending_of scale (flights_at at fs)) i d ≡ rated_flight_of scale (flight_at at f.value)
+      → get_or (sending_of scale (flights_at at fs)) i d ≡ rated_flight_of scale (flight_at at f)
   there_in_flight scale at fs i f d lt is =
-      let kept : get_or (flights_at at fs) i (flight_at at f.value) ≡ flight_at at f.value =
-      read_at (λ g. flight_at at g.value) fs i f (flight_at at f.value) lt is in
-      read_at (rated_flight_of scale) (flights_at at fs) i (flight_at at f.value) d
-      (omega (arith, lt, length-map fs (λ g. flight_at at g.value))) (sym kept)
+      let kept : get_or (flights_at at fs) i (flight_at at f) ≡ flight_at at f =
+      read_at (λ g. flight_at at g) fs i f (flight_at at f) lt is in
+      read_at (rated_flight_of scale) (flights_at at fs) i (flight_at at f) d
+      (omega (arith, lt, length-map fs (λ g. flight_at at g))) (sym kept)
 
 module _ {P : Type 0} (cmp : P → P → Ordering) (caps : Caps P) {a : _} {b : _} {c : _} (old new : Flights P a b c) where
   -- the rates stay fair as long as they and their finishes are kept, and what is loose is

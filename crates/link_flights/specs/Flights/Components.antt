@@ -63,30 +63,30 @@ module _ {P : Type 0} (cmp : P → P → Ordering) where
   near_of component us = filter (λ u. touches component u.message) us
 
   -- the ones of a list of which it has an end
-  abbrev pub those_near : Component P → List (Rc (Flight P) Global) → List (Rc (Flight P) Global)
-  those_near component list = filter (λ f. touches component f.value.message.value) list
+  abbrev pub those_near : Component P → List (Flight P) → List (Flight P)
+  those_near component list = filter (λ f. touches component f.message.value) list
 
   -- these are their places
-  abbrev pub AreNear : Component P → List ℕ → List (Rc (Flight P) Global) → Type 0
-  AreNear component near list = near ≡ places_of (λ f. touches component f.value.message.value) 0 list
+  abbrev pub AreNear : Component P → List ℕ → List (Flight P) → Type 0
+  AreNear component near list = near ≡ places_of (λ f. touches component f.message.value) 0 list
 
   -- it has an end of the one at a place
-  abbrev pub IsTouched : Component P → List (Rc (Flight P) Global) → ℕ → Type 0
+  abbrev pub IsTouched : Component P → List (Flight P) → ℕ → Type 0
   IsTouched component list at =
-      (one : Rc (Flight P) Global) × (slice_get list at ≡ Some one)
-      × (touches component one.value.message.value ≡ true)
+      (one : Flight P) × (slice_get list at ≡ Some one)
+      × (touches component one.message.value ≡ true)
 
   -- and so of each at these places
-  abbrev pub AreTouched : Component P → List ℕ → List (Rc (Flight P) Global) → Type 0
+  abbrev pub AreTouched : Component P → List ℕ → List (Flight P) → Type 0
   AreTouched component near list = All (IsTouched component list) near
 
   -- it has both ends of the one at a place, if that keeps no rate
-  abbrev pub IsSuited : Component P → List (Rc (Flight P) Global) → ℕ → Type 0
-  IsSuited component list at = (one : Rc (Flight P) Global) → slice_get list at ≡ Some one
-      → (keeps component (flight_at 0 one.value) || has_both component one.value.message.value) ≡ true
+  abbrev pub IsSuited : Component P → List (Flight P) → ℕ → Type 0
+  IsSuited component list at = (one : Flight P) → slice_get list at ≡ Some one
+      → (keeps component (flight_at 0 one) || has_both component one.message.value) ≡ true
 
   -- and so at each of these places
-  abbrev pub AreSuited : Component P → List ℕ → List (Rc (Flight P) Global) → Type 0
+  abbrev pub AreSuited : Component P → List ℕ → List (Flight P) → Type 0
   AreSuited component near list = All (IsSuited component list) near
 
   -- whether it has both ends of a message in flight that keeps no rate, or neither where that has a rate
@@ -122,39 +122,39 @@ Ascends first (p ∷ ps) = (first ≤ p) × Ascends (suc p) ps
 
 module _ {P : Type 0} (cmp : P → P → Ordering) where
   -- the one at a place shares an end with the message
-  abbrev pub SharesAt : Message P → List (Rc (Flight P) Global) → ℕ → Type 0
+  abbrev pub SharesAt : Message P → List (Flight P) → ℕ → Type 0
   SharesAt m list at =
-      (one : Rc (Flight P) Global) × (slice_get list at ≡ Some one)
-      × (share_an_end cmp m one.value.message.value ≡ true)
+      (one : Flight P) × (slice_get list at ≡ Some one)
+      × (share_an_end cmp m one.message.value ≡ true)
 
   -- the one at a place shares that end with the message
-  abbrev pub SharesEndAt : End → Message P → List (Rc (Flight P) Global) → ℕ → Type 0
+  abbrev pub SharesEndAt : End → Message P → List (Flight P) → ℕ → Type 0
   SharesEndAt end m list at =
-      (one : Rc (Flight P) Global) × (slice_get list at ≡ Some one)
-      × (share cmp end m one.value.message.value ≡ true)
+      (one : Flight P) × (slice_get list at ≡ Some one)
+      × (share cmp end m one.message.value ≡ true)
 
   -- each in flight that shares that end with the message is listed
-  abbrev pub AreListedAt : End → Message P → List ℕ → List (Rc (Flight P) Global) → Type 0
-  AreListedAt end m near list = (at : ℕ) (one : Rc (Flight P) Global) → slice_get list at ≡ Some one
-      → share cmp end m one.value.message.value ≡ true → Contains near at
+  abbrev pub AreListedAt : End → Message P → List ℕ → List (Flight P) → Type 0
+  AreListedAt end m near list = (at : ℕ) (one : Flight P) → slice_get list at ≡ Some one
+      → share cmp end m one.message.value ≡ true → Contains near at
 
   -- each in flight that shares an end with the message is listed
-  abbrev pub AreListed : Message P → List ℕ → List (Rc (Flight P) Global) → Type 0
-  AreListed m near list = (at : ℕ) (one : Rc (Flight P) Global) → slice_get list at ≡ Some one
-      → share_an_end cmp m one.value.message.value ≡ true → Contains near at
+  abbrev pub AreListed : Message P → List ℕ → List (Flight P) → Type 0
+  AreListed m near list = (at : ℕ) (one : Flight P) → slice_get list at ≡ Some one
+      → share_an_end cmp m one.message.value ≡ true → Contains near at
 
   -- each that shares one with any of these messages
-  abbrev pub AreAllListed : List (Rc (Message P) Global) → List ℕ → List (Rc (Flight P) Global) → Type 0
+  abbrev pub AreAllListed : List (Rc (Message P) Global) → List ℕ → List (Flight P) → Type 0
   AreAllListed joined near list = All (λ m. AreListed m.value near list) joined
 
   -- the first so many of the messages that have joined were looked through: what shares an end with one is listed, with
   -- an end in the component, and with both unless it keeps its rate
-  pub record IsWalked (n : ℕ) (component : Component P) (list : List (Rc (Flight P) Global)) : Type 0 where
+  pub record IsWalked (n : ℕ) (component : Component P) (list : List (Flight P)) : Type 0 where
     pub listed : AreAllListed (take n component.joined.items) component.near.items list
     pub touched : AreTouched cmp component component.near.items list
     pub suited : AreSuited cmp component component.near.items list
 
   -- those that have come after so many have an end in the component
-  abbrev pub AllNewTouch : Component P → ℕ → List (Rc (Flight P) Global) → Type 0
-  AllNewTouch component n list = (at : ℕ) (one : Rc (Flight P) Global) → n ≤ at → slice_get list at ≡ Some one
-      → touches cmp component one.value.message.value ≡ true
+  abbrev pub AllNewTouch : Component P → ℕ → List (Flight P) → Type 0
+  AllNewTouch component n list = (at : ℕ) (one : Flight P) → n ≤ at → slice_get list at ≡ Some one
+      → touches cmp component one.message.value ≡ true

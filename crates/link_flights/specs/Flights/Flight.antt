@@ -1,6 +1,6 @@
 -- A message in flight, as it is kept, and as it stands at the last account.
 use Rattle.std.specs.Prelude.{◌≡◌, ℕ, ◌-◌, ◌*◌, ◌≤◌, nat_le, Bool, true, false, if◌then◌else◌, List, map}
-use Rattle.std.specs.Prelude.{Option, Some, None, slice_get, slice_set, length, take}
+use Rattle.std.specs.Prelude.{Option, Some, None, slice_get, length, take}
 use Rattle.std.specs.List.{list_all}
 use Rattle.std.specs.declared.rc.Rc.{Rc}
 use Rattle.std.specs.declared.alloc.Global.{Global}
@@ -39,8 +39,8 @@ flight_at at f = record {
 }
 
 -- the messages in flight as they stand at the moment of the last account
-abbrev pub flights_at : {P : Type 0} → ℕ → List (Rc (Flight P) Global) → List (UnitFlight P)
-flights_at at fs = map (λ f. flight_at at f.value) fs
+abbrev pub flights_at : {P : Type 0} → ℕ → List (Flight P) → List (UnitFlight P)
+flights_at at fs = map (flight_at at) fs
 
 -- whether a moment that may be missing has come at t
 abbrev pub has_come : ℕ → Option ℕ → Bool
@@ -57,18 +57,12 @@ abbrev pub IsTimed : {P : Type 0} → Flight P → Type 0
 IsTimed f = IsFinishOf f.left (rate_of f.rate) f.since f.finish
 
 -- those that have got a rate are timed
-abbrev pub AreTimed : {P : Type 0} → List (Rc (Flight P) Global) → Type 0
-AreTimed {P} fs = (i : ℕ) (f : Rc (Flight P) Global) → slice_get fs i ≡ Some f → f.value.rated ≡ true → IsTimed f.value
+abbrev pub AreTimed : {P : Type 0} → List (Flight P) → Type 0
+AreTimed {P} fs = (i : ℕ) (f : Flight P) → slice_get fs i ≡ Some f → f.rated ≡ true → IsTimed f
 
 -- so many at the beginning have got a rate
-abbrev pub HaveRates : {P : Type 0} → ℕ → List (Rc (Flight P) Global) → Type 0
-HaveRates n fs = (n ≤ length fs) × (list_all (λ f. f.value.rated) (take n fs) ≡ true)
-
--- a flight has been put at a place, and the others are as they were
-pub record IsPutAt {P : Type 0} (at : ℕ) (f : Flight P) (old new : List (Rc (Flight P) Global)) : Type 0 where
-  pub one : Rc (Flight P) Global
-  pub is : one.value ≡ f
-  pub others : new ≡ slice_set old at one
+abbrev pub HaveRates : {P : Type 0} → ℕ → List (Flight P) → Type 0
+HaveRates n fs = (n ≤ length fs) × (list_all (λ f. f.rated) (take n fs) ≡ true)
 
 -- it has drained to a moment
 abbrev pub DrainsTo : {P : Type 0} → ℕ → UnitFlight P → UnitFlight P → Type 0

@@ -2,8 +2,6 @@
 use Prim.Native.Nat.{◌∣◌}
 use Rattle.std.specs.Prelude.{◌≡◌, ℕ, ◌/◌, ◌<◌, List, Some, slice_get}
 use Rattle.std.specs.List.{AllZip}
-use Rattle.std.specs.declared.rc.Rc.{Rc}
-use Rattle.std.specs.declared.alloc.Global.{Global}
 use Rattle.link_flights.specs.declared.flight.Flight.{Flight}
 use Rattle.link_flights.specs.Flights.Flight.{rate_of}
 
@@ -14,12 +12,12 @@ pub record IsFactorOf {P : Type 0} (f : Flight P) (by : ℕ) : Type 0 where
   pub rate : by ∣ rate_of f.rate
 
 -- it divides so those of all messages
-abbrev pub IsFactorOfAll : {P : Type 0} → List (Rc (Flight P) Global) → ℕ → Type 0
+abbrev pub IsFactorOfAll : {P : Type 0} → List (Flight P) → ℕ → Type 0
 IsFactorOfAll {P} fs by =
-    (i : ℕ) (f : Rc (Flight P) Global) → slice_get fs i ≡ Some f → IsFactorOf f.value by
+    (i : ℕ) (f : Flight P) → slice_get fs i ≡ Some f → IsFactorOf f by
 
 -- it divides the scale and those of all messages
-pub record IsCommonFactor {P : Type 0} (scale : ℕ) (fs : List (Rc (Flight P) Global)) (by : ℕ) : Type 0 where
+pub record IsCommonFactor {P : Type 0} (scale : ℕ) (fs : List (Flight P)) (by : ℕ) : Type 0 where
   pub some : 0 < by
   pub units : by ∣ scale
   pub all : IsFactorOfAll fs by
@@ -35,5 +33,5 @@ pub record IsCountedBy {P : Type 0} (by : ℕ) (old new : Flight P) : Type 0 whe
   pub rated : new.rated ≡ old.rated
 
 -- the same messages, all counted so
-abbrev pub AreCountedBy : {P : Type 0} → ℕ → (old new : List (Rc (Flight P) Global)) → Type 0
-AreCountedBy by old new = AllZip (λ f g. IsCountedBy by f.value g.value) old new
+abbrev pub AreCountedBy : {P : Type 0} → ℕ → (old new : List (Flight P)) → Type 0
+AreCountedBy by old new = AllZip (IsCountedBy by) old new

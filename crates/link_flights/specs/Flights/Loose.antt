@@ -1,8 +1,6 @@
 -- Messages in flight for which a cap has changed since the last account.
 use Rattle.std.specs.Prelude.{◌≡◌, ℕ, true, Bool, Contains, slice_index_or}
 use Rattle.std.specs.declared.cmp.Ordering.{Ordering}
-use Rattle.std.specs.declared.rc.Rc.{Rc}
-use Rattle.std.specs.declared.alloc.Global.{Global}
 use Rattle.fair_rates.specs.Sides.Subjects.{same_peer}
 use Rattle.link_simulation.specs.Simulation.Messages.{Message}
 use Rattle.link_pairs.specs.declared.message.Message as code
@@ -29,9 +27,9 @@ pub record AreStillLoose {P : Type 0} {a : _} {b : _} {c : _} (old new : Flights
 
 -- so is the one at that place, if it has got a rate
 abbrev pub IsLooseAt : {P : Type 0} {a : _} {b : _} {c : _} → ℕ → Flights P a b c → Type 0
-IsLooseAt {P} at flights = (d : Rc (Flight P) Global) → (slice_index_or flights.list.items at d).value.rated ≡ true
+IsLooseAt {P} at flights = (d : Flight P) → (slice_index_or flights.list.items at d).rated ≡ true
     → IsLoose (loose_in flights) flights.floor
-    (flight_at flights.at (slice_index_or flights.list.items at d).value)
+    (flight_at flights.at (slice_index_or flights.list.items at d))
 
 -- and so are all that have got rates and whose messages pass the test
 pub record Loosens {P : Type 0} {a : _} {b : _} {c : _} (test : Message P → Bool) (old new : Flights P a b c)

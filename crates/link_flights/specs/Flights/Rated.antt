@@ -161,12 +161,12 @@ rated_anew now times rate u = record u { left = u.left * times; rate = rate; upd
 
 -- the one at a place is rated anew at the moment of the last account, and its finish is right
 pub record IsReratedAt {P : Type 0} (now place times rate : ℕ)
-    (old new : List (Rc (Flight P) Global)) : Type 0 where
-  pub one : Rc (Flight P) Global
+    (old new : List (Flight P)) : Type 0 where
+  pub one : Flight P
   pub others : new ≡ slice_set old place one
-  pub unit : (d : Rc (Flight P) Global) → flight_at now one.value
-      ≡ rated_anew now times rate (flight_at now (slice_index_or old place d).value)
-  pub timed : IsTimed one.value
+  pub unit : (d : Flight P) → flight_at now one
+      ≡ rated_anew now times rate (flight_at now (slice_index_or old place d))
+  pub timed : IsTimed one
 
 -- all but so many at most stand in another list as they stood in a first
 abbrev pub AreKeptBut : {X : Type 0} → ℕ → List X → List X → Type 0
@@ -180,7 +180,7 @@ abbrev pub IsCountedAt : {P : Type 0} {a : _} {b : _} {c : _} → ℕ → (old n
 IsCountedAt {P} at old new =
     ((new.rated_anew ≡ old.rated_anew) × (new.list.items ≡ old.list.items))
     ⊎ ((new.rated_anew ≡ old.rated_anew + 1)
-    × ((one : Rc (Flight P) Global) × (new.list.items ≡ slice_set old.list.items at one)))
+    × ((one : Flight P) × (new.list.items ≡ slice_set old.list.items at one)))
 
 -- those of a component have these rates from a moment on; what is left of them counts in units of which so many times
 -- as many are needed. The others go on as they are
@@ -198,7 +198,7 @@ kept_by cmp component u = if is_of cmp component u then None else Some u.rate
 
 -- these rates are the ones that those of a list keep, in their order
 abbrev pub AreKept : {P : Type 0} → (P → P → Ordering) → Component P → List (Option (Rc ℕ Global))
-    → List (Rc (Flight P) Global) → Type 0
+    → List (Flight P) → Type 0
 AreKept cmp component kept list =
     map (option_map (λ rate. rate.value)) kept ≡ map (kept_by cmp component) (flights_at 0 list)
 
@@ -208,9 +208,9 @@ has_no_rate kept number = is_none (slice_index_or kept number None)
 
 -- the rates that are kept tell which of a list are rated anew
 abbrev pub AreToldOf : {P : Type 0} → (P → P → Ordering) → Component P → List (Option (Rc ℕ Global))
-    → List (Rc (Flight P) Global) → Type 0
-AreToldOf {P} cmp component kept fs = (i : ℕ) (f : Rc (Flight P) Global) → slice_get fs i ≡ Some f
-    → has_no_rate kept i ≡ is_of cmp component (flight_at 0 f.value)
+    → List (Flight P) → Type 0
+AreToldOf {P} cmp component kept fs = (i : ℕ) (f : Flight P) → slice_get fs i ≡ Some f
+    → has_no_rate kept i ≡ is_of cmp component (flight_at 0 f)
 
 -- the rates that those keep which are not of the component, by their places
 abbrev pub kept_rates : {P : Type 0} → (P → P → Ordering) → Component P → List (UnitFlight P) → ℕ → Option ℕ
@@ -265,9 +265,9 @@ GivesBeside cmp caps component old new (Some found) =
     AreRatedBeside cmp caps component old new × AreKeptBut new.rated_anew old.list.items new.list.items
 
 -- whether none of those of a list of which a component has an end is rated anew
-abbrev pub none_is_rated : {P : Type 0} → (P → P → Ordering) → Component P → List (Rc (Flight P) Global) → Bool
+abbrev pub none_is_rated : {P : Type 0} → (P → P → Ordering) → Component P → List (Flight P) → Bool
 none_is_rated cmp component list =
-    list_all (λ f. not (is_of cmp component (flight_at 0 f.value))) (those_near cmp component list)
+    list_all (λ f. not (is_of cmp component (flight_at 0 f))) (those_near cmp component list)
 
 -- it is of the same message under the same id, of which as much is left, in units of which so many times as many are
 -- needed, from a moment on at a rate
@@ -289,6 +289,6 @@ pub record HaveFairRates {P : Type 0} {a : _} {b : _} {c : _} (cmp : P → P →
   pub timed : AreTimed new.list.items
 
 -- those that have got a rate and are not of the component are timed
-abbrev pub AreOthersTimed : {P : Type 0} → (P → P → Ordering) → Component P → List (Rc (Flight P) Global) → Type 0
-AreOthersTimed {P} cmp component fs = (i : ℕ) (f : Rc (Flight P) Global) → slice_get fs i ≡ Some f
-    → is_of cmp component (flight_at 0 f.value) ≡ false → f.value.rated ≡ true → IsTimed f.value
+abbrev pub AreOthersTimed : {P : Type 0} → (P → P → Ordering) → Component P → List (Flight P) → Type 0
+AreOthersTimed {P} cmp component fs = (i : ℕ) (f : Flight P) → slice_get fs i ≡ Some f
+    → is_of cmp component (flight_at 0 f) ≡ false → f.rated ≡ true → IsTimed f

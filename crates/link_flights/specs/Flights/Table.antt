@@ -1,8 +1,6 @@
 -- What is in flight, as a list that can be taken back.
 use Rattle.std.specs.Prelude.{Bool, List}
 use Rattle.std.specs.declared.cmp.Ordering.{Ordering}
-use Rattle.std.specs.declared.rc.Rc.{Rc}
-use Rattle.std.specs.declared.alloc.Global.{Global}
 use Rattle.fair_rates.specs.Sides.Subjects.{same_peer}
 use Rattle.link_pairs.specs.declared.message.Message.{Message}
 use Rattle.link_flights.specs.declared.flight.Flight.{Flight}
@@ -11,8 +9,8 @@ use Rattle.link_flights.specs.declared.table.End.TheVariants.{Origin, Recipient}
 
 -- the messages in flight, as they are and as they were at the last mark
 pub record Line (P : Type 0) : Type 0 where
-  pub items : List (Rc (Flight P) Global)
-  pub before : List (Rc (Flight P) Global)
+  pub items : List (Flight P)
+  pub before : List (Flight P)
 
 -- whether two messages go from one origin, or to one recipient
 abbrev pub share : {P : Type 0} → (P → P → Ordering) → End → Message P → Message P → Bool

@@ -8,14 +8,14 @@ use Rattle.link_flights.proofs.flight_list.Flights.divide_each.Goals as goal
 pub loop-at-init : goal.loop-at-init
 loop-at-init g c =
     let old = c.args.self.now in
-    (unchanged (λ f h. IsCountedBy c.args.by f.value h.value) old.list.items, refl, refl, refl, refl, refl)
+    (unchanged (IsCountedBy c.args.by) old.list.items, refl, refl, refl, refl, refl)
 
 pub at-requires : goal.at-requires
 at-requires g c =
     let old = c.args.self.now in
     omega (
       arith,
-      changed_length (λ f h. IsCountedBy c.args.by f.value h.value) old.list.items c.loop-at.self.list.items
+      changed_length (IsCountedBy c.args.by) old.list.items c.loop-at.self.list.items
           c.loop-at.at c.loop-at.invariant.0,
     )
 
@@ -24,7 +24,7 @@ put-requires-clause-place g c =
     let old = c.args.self.now in
     omega (
       arith,
-      changed_length (λ f h. IsCountedBy c.args.by f.value h.value) old.list.items c.loop-at.self.list.items
+      changed_length (IsCountedBy c.args.by) old.list.items c.loop-at.self.list.items
           c.loop-at.at c.loop-at.invariant.0,
     )
 
@@ -36,13 +36,13 @@ put-requires-clause-past g c =
     let lt : c.loop-at.at < length so_far.list.items =
     omega (
       arith,
-      changed_length (λ f h. IsCountedBy c.args.by f.value h.value) old.list.items so_far.list.items c.loop-at.at
+      changed_length (IsCountedBy c.args.by) old.list.items so_far.list.items c.loop-at.at
           c.loop-at.invariant.0,
     ) in
     let one = c.in_ok-one.one in
-    let counted = subst (λ f. IsCountedBy c.args.by f one) c.deref.ensures c.in_ok-one.ensures.counted in
+    let counted = c.in_ok-one.ensures.counted in
     ap (λ b. not b || nat_le one.since so_far.at) counted.rated
-    ∙ ap (λ n. not x.value.rated || nat_le n so_far.at) counted.since
+    ∙ ap (λ n. not x.rated || nat_le n so_far.at) counted.since
     ∙ all_there (is_past so_far.at) so_far.list.items c.loop-at.at x so_far.past lt c.at.ensures
 
 pub put-requires-clause-still_rated : goal.put-requires-clause-still_rated
@@ -53,14 +53,14 @@ put-requires-clause-still_rated g c d is =
     let lt : c.loop-at.at < length so_far.list.items =
     omega (
       arith,
-      changed_length (λ f h. IsCountedBy c.args.by f.value h.value) old.list.items so_far.list.items c.loop-at.at
+      changed_length (IsCountedBy c.args.by) old.list.items so_far.list.items c.loop-at.at
           c.loop-at.invariant.0,
     ) in
     let one = c.in_ok-one.one in
-    let counted = subst (λ f. IsCountedBy c.args.by f one) c.deref.ensures c.in_ok-one.ensures.counted in
+    let counted = c.in_ok-one.ensures.counted in
     let here : x ≡ get_or so_far.list.items c.loop-at.at d =
     c.at.ensures ∙ get_or_default so_far.list.items c.loop-at.at x d lt in
-    counted.rated ∙ ap (λ (r : _). r.value.rated) here ∙ is
+    counted.rated ∙ ap (λ (r : _). r.rated) here ∙ is
 
 pub put-requires-clause-message : goal.put-requires-clause-message
 put-requires-clause-message g c d =
@@ -70,14 +70,14 @@ put-requires-clause-message g c d =
     let lt : c.loop-at.at < length so_far.list.items =
     omega (
       arith,
-      changed_length (λ f h. IsCountedBy c.args.by f.value h.value) old.list.items so_far.list.items c.loop-at.at
+      changed_length (IsCountedBy c.args.by) old.list.items so_far.list.items c.loop-at.at
           c.loop-at.invariant.0,
     ) in
     let one = c.in_ok-one.one in
-    let counted = subst (λ f. IsCountedBy c.args.by f one) c.deref.ensures c.in_ok-one.ensures.counted in
+    let counted = c.in_ok-one.ensures.counted in
     let here : x ≡ get_or so_far.list.items c.loop-at.at d =
     c.at.ensures ∙ get_or_default so_far.list.items c.loop-at.at x d lt in
-    counted.message ∙ ap (λ (r : _). r.value.message.value) here
+    counted.message ∙ ap (λ (r : _). r.message.value) here
 
 pub loop-at-preserved : goal.loop-at-preserved
 loop-at-preserved g c =
@@ -88,17 +88,16 @@ loop-at-preserved g c =
     let lt : c.loop-at.at < length so_far.list.items =
     omega (
       arith,
-      changed_length (λ f h. IsCountedBy c.args.by f.value h.value) old.list.items so_far.list.items c.loop-at.at
+      changed_length (IsCountedBy c.args.by) old.list.items so_far.list.items c.loop-at.at
           h.0,
     ) in
     let one = c.in_ok-one.one in
-    let counted = subst (λ f. IsCountedBy c.args.by f one) c.deref.ensures c.in_ok-one.ensures.counted in
-    let put = c.in_ok-put.ensures.list in (
+    let counted = c.in_ok-one.ensures.counted in (
       subst
-          (λ l. IsChangedUpTo (λ f h. IsCountedBy c.args.by f.value h.value) old.list.items l (c.loop-at.at + 1))
-          (sym put.others)
-          (one_more (λ f h. IsCountedBy c.args.by f.value h.value) old.list.items so_far.list.items c.loop-at.at h.0 x
-          put.one lt c.at.ensures (subst (IsCountedBy c.args.by x.value) (sym put.is) counted)),
+          (λ l. IsChangedUpTo (IsCountedBy c.args.by) old.list.items l (c.loop-at.at + 1))
+          (sym c.in_ok-put.ensures.list)
+          (one_more (IsCountedBy c.args.by) old.list.items so_far.list.items c.loop-at.at h.0 x
+          one lt c.at.ensures counted),
       c.put.ensures.at ∙ h.1,
       c.put.ensures.scale ∙ h.2,
       c.put.ensures.floor ∙ h.3,
@@ -113,8 +112,8 @@ returns-clause-divided g c =
     let end : length now.list.items ≤ c.loop-at.at =
     omega (
       arith,
-      changed_length (λ f h. IsCountedBy c.args.by f.value h.value) old.list.items now.list.items c.loop-at.at
+      changed_length (IsCountedBy c.args.by) old.list.items now.list.items c.loop-at.at
           c.loop-at.invariant.0,
     ) in
-    all_changed (λ f h. IsCountedBy c.args.by f.value h.value) old.list.items now.list.items c.loop-at.at
+    all_changed (IsCountedBy c.args.by) old.list.items now.list.items c.loop-at.at
     c.loop-at.invariant.0 end

@@ -3,8 +3,7 @@ use Rattle.std.proofs.Common.{◌⊎◌, arith}
 use Rattle.std.specs.List.{list_all}
 use Rattle.std.proofs.lemmas.List.{get_or_default}
 use Rattle.fair_rates.proofs.Lists.InPlace.{IsChangedUpTo, unchanged, all_changed}
-use Rattle.link_flights.specs.declared.flight.Flight.{Flight}
-use Rattle.link_flights.specs.Flights.Flight.{flight_at, rate_of}
+use Rattle.link_flights.specs.Flights.Flight.{flight_at}
 use Rattle.link_flights.proofs.Flights.Flight.{IsBrought, is_past, changed_length, next_brought, next_stands}
 use Rattle.link_flights.proofs.Flights.Flight.{all_drained, all_past, all_timed}
 use Rattle.link_flights.proofs.Flights.Settled.{counted_from}
@@ -51,13 +50,11 @@ loop-at-preserved g c =
       | then-goes_back-2+in_ok-one+in_ok-put w ↦
           let x = c.at-one.result.now in
           let is : x ≡ get_or so_far.list.items c.loop-at.at x = c.at-one.ensures in
-          let value = w.deref-then-goes_back-2.ensures in
-          let back : c.args.now < old.at ⊎ x.value.rated ≡ false = elim w.then-goes_back-2.branch [
+          let back : c.args.now < old.at ⊎ x.rated ≡ false = elim w.then-goes_back-2.branch [
             | then-goes_back-2-via-then-goes_back-2 v ↦ inl v.if-goes_back-2.true
             | then-goes_back-2-via-else-goes_back-2+then-not-stands_at v ↦ inr
-                (ap (λ r. r.value.rated)
+                (ap (λ r. r.rated)
                 (is ∙ get_or_default so_far.list.items c.loop-at.at x c.at-one.result.now lt ∙ sym c.at-one.ensures)
-                ∙ sym (ap (λ (f : Flight g.row.P.Denot). f.rated) v.deref.ensures)
                 ∙ v.stands_at.ensures.unrated v.if-not-stands_at.true)
           ] in (
             subst
@@ -65,13 +62,12 @@ loop-at-preserved g c =
                 (sym w.self-is)
                 (next_brought old.at c.args.now old.list.items so_far.list.items c.loop-at.at c.loop-at.invariant.0 x lt
                 is w.in_ok-one.one w.put.new.self.list.items w.in_ok-put.ensures.list back
-                (w.in_ok-one.ensures.id ∙ ap (λ (f : Flight g.row.P.Denot). f.id) value)
-                (w.in_ok-one.ensures.message ∙ ap (λ (f : Flight g.row.P.Denot). f.message.value) value)
-                (w.in_ok-one.ensures.left ∙ ap (λ (f : Flight g.row.P.Denot). (flight_at so_far.at f).left) value
-                ∙ ap (λ n. (flight_at n x.value).left) at_is)
-                (w.in_ok-one.ensures.rate ∙ ap (λ (f : Flight g.row.P.Denot). rate_of f.rate) value)
+                w.in_ok-one.ensures.id
+                w.in_ok-one.ensures.message
+                (w.in_ok-one.ensures.left ∙ ap (λ n. (flight_at n x).left) at_is)
+                w.in_ok-one.ensures.rate
                 w.in_ok-one.ensures.since
-                (w.in_ok-one.ensures.rated ∙ ap (λ (f : Flight g.row.P.Denot). f.rated) value)),
+                w.in_ok-one.ensures.rated),
             ap (λ s. s.at) w.self-is ∙ w.put.ensures.at ∙ at_is,
             ap (λ s. s.scale) w.self-is ∙ w.put.ensures.scale ∙ c.loop-at.invariant.2,
             ap (λ s. s.list.before) w.self-is ∙ w.put.ensures.before ∙ c.loop-at.invariant.3,
@@ -80,16 +76,13 @@ loop-at-preserved g c =
           )
       | else-goes_back-2+else-not-stands_at w ↦
           let x = c.at-one.result.now in
-          let is : x ≡ get_or so_far.list.items c.loop-at.at x = c.at-one.ensures in
-          let value = w.deref.ensures in (
+          let is : x ≡ get_or so_far.list.items c.loop-at.at x = c.at-one.ensures in (
             subst
                 (λ (s : _). IsChangedUpTo (IsBrought old.at c.args.now) old.list.items s.list.items (c.loop-at.at + 1))
                 (sym w.self-is)
                 (next_stands old.at c.args.now old.list.items so_far.list.items c.loop-at.at c.loop-at.invariant.0 x lt
-                is x.value.rated refl
-                (λ none. sym (ap (λ (f : Flight g.row.P.Denot). f.since) value)
-                ∙ w.stands_at.ensures.started w.if-not-stands_at.false
-                (ap (λ (f : Flight g.row.P.Denot). f.rated) value ∙ none))
+                is x.rated refl
+                (λ none. w.stands_at.ensures.started w.if-not-stands_at.false none)
                 (ap (λ n. list_all (is_past n) so_far.list.items) (sym at_is) ∙ so_far.past) w.if-goes_back-2.false),
             ap (λ s. s.at) w.self-is ∙ at_is,
             ap (λ s. s.scale) w.self-is ∙ c.loop-at.invariant.2,

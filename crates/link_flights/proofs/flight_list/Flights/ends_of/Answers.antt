@@ -53,12 +53,8 @@ loop-number-preserved g c now =
     subst (λ es. are_standing cmp (map flow_of es) (flights_at now (take (number + 1) near)) ≡ true)
     (sym c.in_ok-push.ensures.items)
     (ends_more cmp now near number one lt is g.met.P.Ord.total c.loop-number.ends.items _
-    (ap (λ m. m.origin) (c.deref-in-loop-number.ensures ∙ ap (λ f. f.message.value) c.deref.ensures))
-    (ap (λ m. m.recipient)
-    (c.deref-in-loop-number-3.ensures ∙ ap (λ f. f.message.value) c.deref-in-loop-number-2.ensures))
-    (c.is_delivered.ensures
-    ∙ ap (λ m. is_delivered cmp (message_of m))
-    (c.deref-in-loop-number-5.ensures ∙ ap (λ f. f.message.value) c.deref-in-loop-number-4.ensures))
+    (ap (λ m. m.origin) c.deref.ensures) (ap (λ m. m.recipient) c.deref-in-loop-number.ensures)
+    (c.is_delivered.ensures ∙ ap (λ m. is_delivered cmp (message_of m)) c.deref-in-loop-number-2.ensures)
     (c.loop-number.invariant now))
 
 pub returns-clause-standing : goal.returns-clause-standing

@@ -1,10 +1,8 @@
-use Rattle.std.proofs.Common.{◌≡◌, ◌<◌, ◌||◌, true, Some, not, length, get_or, inl, inr, sym, ap, ◌∙◌, subst, arith}
-use Rattle.std.specs.declared.rc.Rc.{Rc}
-use Rattle.std.specs.declared.alloc.Global.{Global}
+use Rattle.std.proofs.Common.{◌≡◌, ◌<◌, Some, not, length, get_or, inl, inr, sym, ap, ◌∙◌, arith}
 use Rattle.std.proofs.lemmas.Bool.{cases_lt}
 use Rattle.std.proofs.lemmas.Option.{slice_get_within, slice_get-get_or}
 use Rattle.link_flights.specs.declared.flight.Flight.{Flight}
-use Rattle.link_flights.specs.Flights.Components.{is_of, keeps, is_sender, those_near}
+use Rattle.link_flights.specs.Flights.Components.{is_of, those_near}
 use Rattle.link_flights.specs.Flights.Flight.{flight_at}
 use Rattle.link_flights.proofs.Flights.FewNear.{one_fails}
 use Rattle.link_flights.proofs.Flights.Near.{count_part, part_within, part_element, suited_there}
@@ -27,8 +25,7 @@ loop-at-preserved g c k f lt there =
           ∙ ap (λ l. get_or list (get_or l index 0) one) c.deref-at-items.ensures.value
           ∙ ap (λ i. get_or list (get_or component.near.items i 0) one) (sym here)) in
           ap not
-          (sym (ap (λ (x : Rc (Flight g.row.P.Denot) Global). is_of cmp component (flight_at 0 x.value)) same)
-          ∙ ap (λ (x : Flight g.row.P.Denot). is_of cmp component (flight_at 0 x)) (sym c.deref.ensures)
+          (sym (ap (λ (x : Flight g.row.P.Denot). is_of cmp component (flight_at 0 x)) same)
           ∙ sym c.has.ensures ∙ c.if-has.false)
     ]
 
@@ -58,10 +55,9 @@ returns-then-has g c =
     (omega (arith, c.loop-at-test.true, ap length c.deref-at-items.ensures.value, as_many)) in
     let same : one ≡ x.0 = part_element cmp component list c.requires.near index x.0 one x.1
     (c.at.ensures ∙ ap (λ l. get_or list (get_or l index 0) one) c.deref-at-items.ensures.value) in
-    sym (one_fails (λ f. not (is_of cmp component (flight_at 0 f.value))) near index x.0 x.1
+    sym (one_fails (λ f. not (is_of cmp component (flight_at 0 f))) near index x.0 x.1
     (ap not
-    (sym (ap (λ (x : Rc (Flight g.row.P.Denot) Global). is_of cmp component (flight_at 0 x.value)) same)
-    ∙ ap (λ (x : Flight g.row.P.Denot). is_of cmp component (flight_at 0 x)) (sym c.deref.ensures)
+    (sym (ap (λ (x : Flight g.row.P.Denot). is_of cmp component (flight_at 0 x)) same)
     ∙ sym c.has.ensures ∙ c.if-has.true)))
 
 pub returns : goal.returns
@@ -70,7 +66,7 @@ returns g c =
     let component = c.args.component.now in
     let list = c.args.self.now.list.items in
     sym
-    (all_by_number (λ f. not (is_of cmp component (flight_at 0 f.value))) (those_near cmp component list)
+    (all_by_number (λ f. not (is_of cmp component (flight_at 0 f))) (those_near cmp component list)
     (λ k f there. c.loop-at.invariant k f
     (omega (
       arith,
@@ -94,8 +90,5 @@ has-requires g c =
     part_within cmp component list c.requires.near index lt in
     let is : one ≡ get_or list (get_or component.near.items index 0) one =
     c.at.ensures ∙ ap (λ l. get_or list (get_or l index 0) one) same in
-    subst
-    (λ (x : Flight g.row.P.Denot). (keeps component (flight_at 0 x) || is_sender cmp component x.message.value.origin)
-    ≡ true) (sym c.deref.ensures)
-    (suited_there cmp component list c.requires.suited index one lt
-    (slice_get-get_or list (get_or component.near.items index 0) one within ∙ ap Some (sym is)))
+    suited_there cmp component list c.requires.suited index one lt
+    (slice_get-get_or list (get_or component.near.items index 0) one within ∙ ap Some (sym is))

@@ -1,10 +1,8 @@
 use Rattle.std.proofs.Common.{◌≡◌, ◌≤◌, ◌||◌, true, false, get_or, refl, ap, sym, ◌∙◌, arith}
-use Rattle.std.specs.Bool.{◌==◌}
 use Rattle.std.proofs.lemmas.List.{get_or_default}
 use Rattle.std.proofs.lemmas.Option.{slice_get_read}
 use Rattle.link_simulation.specs.Simulation.Rates.{is_unlimited}
-use Rattle.link_flights.specs.declared.flight.Flight.{Flight}
-use Rattle.link_flights.specs.Flights.Flight.{flight_at, left_by, has_come}
+use Rattle.link_flights.specs.Flights.Flight.{flight_at}
 use Rattle.link_flights.specs.Flights.Rated.{is_out}
 use Rattle.link_pairs.specs.Pairs.CapsOf.{caps_of}
 use Rattle.link_pairs.specs.Pairs.Messages.{message_of}
@@ -20,19 +18,17 @@ returns-then-were_rated g c d =
     let is : x ≡ get_or old.list.items c.args.at x = c.at-one.ensures in
     let here : x ≡ get_or old.list.items c.args.at d =
     is ∙ get_or_default old.list.items c.args.at x d c.requires.place in
-    let rated : x.value.rated ≡ true =
-    sym (ap (λ (f : Flight g.row.P.Denot). f.rated) c.deref.ensures) ∙ c.if-deref.true in
-    let past : x.value.since ≤ old.at =
+    let rated : x.rated ≡ true = c.if-one.true in
+    let past : x.since ≤ old.at =
     past_so old.at x (all_there (is_past old.at) old.list.items c.args.at x old.past c.requires.place is) rated in
     c.has_finished_by.ensures
-    ∙ ap (λ (f : Flight g.row.P.Denot). has_come old.at f.finish) c.deref-then-were_rated.ensures
-    ∙ out_by_finish g.P.Ord.cmp caps old.scale old.scaled old.at x.value rated past (omega arith)
+    ∙ out_by_finish g.P.Ord.cmp caps old.scale old.scaled old.at x rated past (omega arith)
     (c.requires.timed c.if-were_rated.true c.args.at x
     (slice_get_read old.list.items _ c.args.at x refl c.requires.place is) rated)
     (limited_there g.P.Ord.cmp caps old.scale old.scaled old.at old.list.items c.args.at x
     (c.requires.limited c.if-were_rated.true)
     c.requires.place is rated)
-    ∙ ap (λ r. is_out g.P.Ord.cmp caps old.scale (flight_at old.at r.value)) here
+    ∙ ap (λ r. is_out g.P.Ord.cmp caps old.scale (flight_at old.at r)) here
 
 pub returns-then-is_spent_at : goal.returns-then-is_spent_at
 returns-then-is_spent_at g c d =
@@ -42,14 +38,12 @@ returns-then-is_spent_at g c d =
     let is : x ≡ get_or old.list.items c.args.at x = c.at-one.ensures in
     let here : x ≡ get_or old.list.items c.args.at d =
     is ∙ get_or_default old.list.items c.args.at x d c.requires.place in
-    let rated : x.value.rated ≡ true =
-    sym (ap (λ (f : Flight g.row.P.Denot). f.rated) c.deref.ensures) ∙ c.if-deref.true in
-    let spent =
-    c.is_spent_at.ensures ∙ ap (λ (f : Flight g.row.P.Denot). left_by old.at f == 0) c.deref-then-deref.ensures in
+    let rated : x.rated ≡ true = c.if-one.true in
+    let spent = c.is_spent_at.ensures in
     c.if-is_spent_at.true
-    ∙ ap (λ b. b || is_unlimited g.P.Ord.cmp caps (message_of x.value.message.value)) (sym c.if-is_spent_at.true)
-    ∙ out_by_left g.P.Ord.cmp caps old.scale old.scaled old.at x.value c.is_spent_at.result rated spent
-    ∙ ap (λ r. is_out g.P.Ord.cmp caps old.scale (flight_at old.at r.value)) here
+    ∙ ap (λ b. b || is_unlimited g.P.Ord.cmp caps (message_of x.message.value)) (sym c.if-is_spent_at.true)
+    ∙ out_by_left g.P.Ord.cmp caps old.scale old.scaled old.at x c.is_spent_at.result rated spent
+    ∙ ap (λ r. is_out g.P.Ord.cmp caps old.scale (flight_at old.at r)) here
 
 pub returns-else-is_spent_at : goal.returns-else-is_spent_at
 returns-else-is_spent_at g c d =
@@ -59,17 +53,13 @@ returns-else-is_spent_at g c d =
     let is : x ≡ get_or old.list.items c.args.at x = c.at-one.ensures in
     let here : x ≡ get_or old.list.items c.args.at d =
     is ∙ get_or_default old.list.items c.args.at x d c.requires.place in
-    let rated : x.value.rated ≡ true =
-    sym (ap (λ (f : Flight g.row.P.Denot). f.rated) c.deref.ensures) ∙ c.if-deref.true in
-    let spent =
-    c.is_spent_at.ensures ∙ ap (λ (f : Flight g.row.P.Denot). left_by old.at f == 0) c.deref-then-deref.ensures in
+    let rated : x.rated ≡ true = c.if-one.true in
+    let spent = c.is_spent_at.ensures in
     c.is_unlimited.ensures
-    ∙ ap (λ m. is_unlimited g.P.Ord.cmp caps (message_of m))
-    (c.deref-else-is_spent_at-2.ensures
-    ∙ ap (λ (f : Flight g.row.P.Denot). f.message.value) c.deref-else-is_spent_at.ensures)
-    ∙ ap (λ b. b || is_unlimited g.P.Ord.cmp caps (message_of x.value.message.value)) (sym c.if-is_spent_at.false)
-    ∙ out_by_left g.P.Ord.cmp caps old.scale old.scaled old.at x.value c.is_spent_at.result rated spent
-    ∙ ap (λ r. is_out g.P.Ord.cmp caps old.scale (flight_at old.at r.value)) here
+    ∙ ap (λ m. is_unlimited g.P.Ord.cmp caps (message_of m)) c.deref.ensures
+    ∙ ap (λ b. b || is_unlimited g.P.Ord.cmp caps (message_of x.message.value)) (sym c.if-is_spent_at.false)
+    ∙ out_by_left g.P.Ord.cmp caps old.scale old.scaled old.at x c.is_spent_at.result rated spent
+    ∙ ap (λ r. is_out g.P.Ord.cmp caps old.scale (flight_at old.at r)) here
 
 pub returns-then-is_zero : goal.returns-then-is_zero
 returns-then-is_zero g c d =
@@ -79,15 +69,12 @@ returns-then-is_zero g c d =
     let is : x ≡ get_or old.list.items c.args.at x = c.at-one.ensures in
     let here : x ≡ get_or old.list.items c.args.at d =
     is ∙ get_or_default old.list.items c.args.at x d c.requires.place in
-    let rated : x.value.rated ≡ false =
-    sym (ap (λ (f : Flight g.row.P.Denot). f.rated) c.deref.ensures) ∙ c.if-deref.false in
-    let none = as_test c.is_zero.result x.value.left
-    (λ e. sym (ap (λ (f : Flight g.row.P.Denot). f.left) c.deref-2.ensures) ∙ c.is_zero.ensures.0 e)
-    (λ e. c.is_zero.ensures.1 (ap (λ (f : Flight g.row.P.Denot). f.left) c.deref-2.ensures ∙ e)) in
+    let rated : x.rated ≡ false = c.if-one.false in
+    let none = as_test c.is_zero.result x.left c.is_zero.ensures.0 c.is_zero.ensures.1 in
     c.if-is_zero.true
-    ∙ ap (λ b. b || is_unlimited g.P.Ord.cmp caps (message_of x.value.message.value)) (sym c.if-is_zero.true)
-    ∙ out_unrated g.P.Ord.cmp caps old.scale old.scaled old.at x.value c.is_zero.result rated none
-    ∙ ap (λ r. is_out g.P.Ord.cmp caps old.scale (flight_at old.at r.value)) here
+    ∙ ap (λ b. b || is_unlimited g.P.Ord.cmp caps (message_of x.message.value)) (sym c.if-is_zero.true)
+    ∙ out_unrated g.P.Ord.cmp caps old.scale old.scaled old.at x c.is_zero.result rated none
+    ∙ ap (λ r. is_out g.P.Ord.cmp caps old.scale (flight_at old.at r)) here
 
 pub returns-else-is_zero : goal.returns-else-is_zero
 returns-else-is_zero g c d =
@@ -97,14 +84,10 @@ returns-else-is_zero g c d =
     let is : x ≡ get_or old.list.items c.args.at x = c.at-one.ensures in
     let here : x ≡ get_or old.list.items c.args.at d =
     is ∙ get_or_default old.list.items c.args.at x d c.requires.place in
-    let rated : x.value.rated ≡ false =
-    sym (ap (λ (f : Flight g.row.P.Denot). f.rated) c.deref.ensures) ∙ c.if-deref.false in
-    let none = as_test c.is_zero.result x.value.left
-    (λ e. sym (ap (λ (f : Flight g.row.P.Denot). f.left) c.deref-2.ensures) ∙ c.is_zero.ensures.0 e)
-    (λ e. c.is_zero.ensures.1 (ap (λ (f : Flight g.row.P.Denot). f.left) c.deref-2.ensures ∙ e)) in
+    let rated : x.rated ≡ false = c.if-one.false in
+    let none = as_test c.is_zero.result x.left c.is_zero.ensures.0 c.is_zero.ensures.1 in
     c.is_unlimited-else-is_zero.ensures
-    ∙ ap (λ m. is_unlimited g.P.Ord.cmp caps (message_of m))
-    (c.deref-else-is_zero-2.ensures ∙ ap (λ (f : Flight g.row.P.Denot). f.message.value) c.deref-else-is_zero.ensures)
-    ∙ ap (λ b. b || is_unlimited g.P.Ord.cmp caps (message_of x.value.message.value)) (sym c.if-is_zero.false)
-    ∙ out_unrated g.P.Ord.cmp caps old.scale old.scaled old.at x.value c.is_zero.result rated none
-    ∙ ap (λ r. is_out g.P.Ord.cmp caps old.scale (flight_at old.at r.value)) here
+    ∙ ap (λ m. is_unlimited g.P.Ord.cmp caps (message_of m)) c.deref-else-is_zero.ensures
+    ∙ ap (λ b. b || is_unlimited g.P.Ord.cmp caps (message_of x.message.value)) (sym c.if-is_zero.false)
+    ∙ out_unrated g.P.Ord.cmp caps old.scale old.scaled old.at x c.is_zero.result rated none
+    ∙ ap (λ r. is_out g.P.Ord.cmp caps old.scale (flight_at old.at r)) here

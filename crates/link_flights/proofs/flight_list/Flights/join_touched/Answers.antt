@@ -1,9 +1,8 @@
-use Rattle.std.proofs.Common.{◌≡◌, ◌<◌, ◌≤◌, ◌∙◌, All, length, true, sym, ap, subst, arith}
+use Rattle.std.proofs.Common.{◌≡◌, ◌<◌, ◌≤◌, ◌∙◌, All, length, true, subst, arith}
 use Rattle.std.proofs.lemmas.List.{take_all}
 use Rattle.std.proofs.lemmas.List.Elements.{All-map}
 use Rattle.link_pairs.specs.declared.message.Message.{Message}
 use Rattle.std.proofs.lemmas.Option.{slice_get_within}
-use Rattle.link_flights.specs.declared.flight.Flight.{Flight}
 use Rattle.link_flights.specs.Flights.Components.{has_both}
 use Rattle.link_flights.proofs.Flights.Search.{still_has_all, still_touches_new, has_one_more, touches_one_more}
 use Rattle.link_flights.proofs.flight_list.Flights.join_touched.Goals as goal
@@ -46,8 +45,7 @@ loop-at-2-preserved g c =
     let (all, touches, near, level, whole) = c.loop-at-2.invariant in (
       still_has_all cmp mid new more.joined join.whole c.args.done.now.items all,
       touches_one_more cmp mid new more.joined join.whole c.args.self.now.settled c.loop-at-2.at list touches read
-          c.at.ensures
-          (ap (λ (f : Flight g.row.P.Denot). has_both cmp new f.message.value) (sym c.deref.ensures) ∙ more.has),
+          c.at.ensures more.has,
       join.near ∙ near,
       join.level ∙ level,
       join.whole ∙ whole,

@@ -1,9 +1,8 @@
 use Rattle.std.proofs.Common.{◌≡◌, ◌+◌, ◌<◌, ◌≤◌, Bool, if◌then◌else◌, None, Some, take, length, get_or, sym, ap, ◌∙◌}
-use Rattle.std.proofs.Common.{subst, arith, true, ◌||◌}
+use Rattle.std.proofs.Common.{subst, arith}
 use Rattle.std.proofs.lemmas.Option.{slice_get-get_or}
 use Rattle.std.proofs.lemmas.List.{take_all}
-use Rattle.link_flights.specs.declared.flight.Flight.{Flight}
-use Rattle.link_flights.specs.Flights.Components.{those_near, is_of, keeps, is_sender, place_of}
+use Rattle.link_flights.specs.Flights.Components.{those_near, is_of, place_of}
 use Rattle.link_flights.specs.Flights.Flight.{flight_at}
 use Rattle.link_flights.specs.Flights.Rated.{AreKept}
 use Rattle.link_flights.proofs.Flights.Beside.{kept_more}
@@ -40,9 +39,8 @@ loop-number-preserved g c =
     let lt : number < length near = omega (arith, c.loop-number-test.true, c.count-count.ensures) in
     let is : one ≡ get_or near number one = element cmp component list c.requires.near number one lt
     (c.at-one.ensures ∙ ap (λ p. get_or list p one) c.place.ensures) in
-    let u = flight_at 0 one.value in
-    let test : c.has.result ≡ is_of cmp component u =
-    c.has.ensures ∙ ap (λ (f : Flight g.row.P.Denot). is_of cmp component (flight_at 0 f)) c.deref.ensures in
+    let u = flight_at 0 one in
+    let test : c.has.result ≡ is_of cmp component u = c.has.ensures in
     let ks = c.loop-number.kept.items in
     elim c.if-has.branch [
       | then-has+in_ok-push w ↦
@@ -55,8 +53,7 @@ loop-number-preserved g c =
           subst (λ l. AreKept cmp component l (take (number + 1) near))
           (sym (ap (λ v. v.items) w.kept-is ∙ w.in_ok-push-2.ensures.items))
           (kept_more cmp component ks (Some w.in_ok-rate_kept.field-0) near number one lt is
-          (ap Some (w.in_ok-rate_kept.ensures.rate
-          ∙ ap (λ (f : Flight g.row.P.Denot). (flight_at 0 f).rate) w.deref-else-has.ensures)
+          (ap Some w.in_ok-rate_kept.ensures.rate
           ∙ sym (ap (λ (b : Bool). if b then None else Some u.rate) (sym test ∙ w.if-has.false)))
           c.loop-number.invariant)
     ]
@@ -81,9 +78,6 @@ has-requires g c =
     place_within cmp component list c.requires.near number lt in
     let is : one ≡ get_or list (place_of component number) one =
     c.at-one.ensures ∙ ap (λ p. get_or list p one) c.place.ensures in
-    subst
-    (λ (x : Flight g.row.P.Denot). (keeps component (flight_at 0 x) || is_sender cmp component x.message.value.origin)
-    ≡ true) (sym c.deref.ensures)
-    (keeps_or_sends cmp component list c.requires.suited number one
+    keeps_or_sends cmp component list c.requires.suited number one
     (λ part. omega (arith, lt, count_part cmp component list (c.requires.near part)))
-    (slice_get-get_or list (place_of component number) one within ∙ ap Some (sym is)))
+    (slice_get-get_or list (place_of component number) one within ∙ ap Some (sym is))

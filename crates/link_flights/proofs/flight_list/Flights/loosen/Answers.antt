@@ -1,7 +1,5 @@
 use Rattle.std.proofs.Common.{◌≡◌, Contains, map, get_or, sym, ap, ◌∙◌, subst}
 use Rattle.std.proofs.lemmas.List.{get_or_default}
-use Rattle.std.specs.declared.rc.Rc.{Rc}
-use Rattle.std.specs.declared.alloc.Global.{Global}
 use Rattle.link_pairs.specs.Pairs.Messages.{message_of}
 use Rattle.link_flights.specs.declared.flight.Flight.{Flight}
 use Rattle.link_flights.specs.Flights.Flight.{flight_at}
@@ -19,13 +17,13 @@ returns-clause-here g c d rated =
     ap (λ l. get_or l c.args.at d) c.lower_floor.ensures.list in
     let there : one ≡ get_or low.list.items c.args.at d =
     c.at.ensures ∙ get_or_default low.list.items c.args.at one d (rw c.lower_floor.ensures.list c.requires.place) in
-    let message : c.in_ok-message.message.value ≡ one.value.message.value =
-    c.in_ok-message.ensures.cases ∙ ap (λ (f : Flight g.row.P.Denot). f.message.value) c.deref.ensures in (
+    let message : c.in_ok-message.message.value ≡ one.message.value =
+    c.in_ok-message.ensures.cases in (
       subst (λ m. Contains (map (λ n. message_of n) c.push.new.self) (message_of m))
-          (message ∙ ap (λ (f : Rc (Flight g.row.P.Denot) Global). f.value.message.value) there)
+          (message ∙ ap (λ (f : Flight g.row.P.Denot). f.message.value) there)
           (listed_with low.loose c.push.new.self c.in_ok-message.message.value c.in_ok-push.ensures),
-      subst (λ (f : Rc (Flight g.row.P.Denot) Global). IsNoMore low.floor (flight_at low.at f.value).rate) (sym same)
-          (floor.lowered d (ap (λ (f : Rc (Flight g.row.P.Denot) Global). f.value.rated) (sym same) ∙ rated)),
+      subst (λ (f : Flight g.row.P.Denot). IsNoMore low.floor (flight_at low.at f).rate) (sym same)
+          (floor.lowered d (ap (λ (f : Flight g.row.P.Denot). f.rated) (sym same) ∙ rated)),
     )
 
 pub returns-clause-still : goal.returns-clause-still

@@ -1,6 +1,4 @@
 use Rattle.std.proofs.Common.{◌≡◌, inl, inr, get_or, sym, ap, ◌∙◌, arith}
-use Rattle.std.specs.declared.rc.Rc.{Rc}
-use Rattle.std.specs.declared.alloc.Global.{Global}
 use Rattle.std.proofs.lemmas.Bool.{cases_lt}
 use Rattle.link_pairs.specs.Pairs.CapsOf.{caps_of}
 use Rattle.link_flights.specs.declared.flight.Flight.{Flight}
@@ -16,7 +14,7 @@ loop-at-preserved g c =
     let list = self.list.items in
     let at = c.loop-at.at in
     let caps = caps_of g.P.Ord.cmp c.args.peers.now.entries c.args.pairs.now.entries in
-    let out = λ (f : Rc (Flight g.row.P.Denot) Global). is_out g.P.Ord.cmp caps self.scale (flight_at self.at f.value)
+    let out = λ (f : Flight g.row.P.Denot). is_out g.P.Ord.cmp caps self.scale (flight_at self.at f)
     in
     λ i low high d. elim (cases_lt i at) [
       | inl less ↦ c.loop-at.invariant i low less d

@@ -1,7 +1,5 @@
-use Rattle.std.proofs.Common.{◌≡◌, ◌++◌, ◌∷◌, [], ◌*◌, length, Some, None, false, refl, sym, ap, ◌∙◌, subst, rules}
+use Rattle.std.proofs.Common.{◌≡◌, ◌++◌, ◌∷◌, [], ◌*◌, length, Some, None, false, refl, sym, ap, ◌∙◌, subst}
 use Rattle.std.proofs.lemmas.List.{map-append}
-use Rattle.std.specs.declared.rc.Rc.{Rc}
-use Rattle.std.specs.declared.alloc.Global.{Global}
 use Rattle.fair_rates.specs.Numbers.Amount.{billion, whole}
 use Rattle.link_flights.specs.declared.flight.Flight.{Flight}
 use Rattle.link_pairs.specs.Pairs.Messages.{message_of}
@@ -42,11 +40,9 @@ joins_so : (g : _) (c : After-self-in_default-1 g)
     → flights_at c.args.self.now.at c.push.new.self.items ≡ in_units c.args.self.now ++ unit_of g c ∷ []
 joins_so g c =
     let old = c.args.self.now in
-    let one : c.in_ok-flight.flight.value ≡ started g c = search rules in
     ap (flights_at old.at) c.in_default.ensures.items
-    ∙ map-append (λ (f : Rc (Flight g.row.P.Denot) Global). flight_at old.at f.value) old.list.items
-    (c.in_ok-flight.flight ∷ [])
-    ∙ ap (λ (f : Flight g.row.P.Denot). in_units old ++ flight_at old.at f ∷ []) one
+    ∙ map-append (λ (f : Flight g.row.P.Denot). flight_at old.at f) old.list.items
+    (started g c ∷ [])
 
 -- as it is read
 read_so : (g : _) (c : After-self-in_default-1 g) → rated_flight_of c.args.self.now.scale (unit_of g c)
@@ -80,11 +76,9 @@ returns-clause-sending g c =
 
 pub returns-clause-timed : goal.returns-clause-timed
 returns-clause-timed g c =
-    let one : c.in_ok-flight.flight.value ≡ started g c = search rules in
     λ timed.
     subst AreTimed (sym c.in_default.ensures.items)
-    (timed_with c.args.self.now.list.items c.in_ok-flight.flight (ap (λ (f : Flight g.row.P.Denot). f.rated) one)
-    timed)
+    (timed_with c.args.self.now.list.items (started g c) refl timed)
 
 pub returns-clause-joined : goal.returns-clause-joined
 returns-clause-joined g c =

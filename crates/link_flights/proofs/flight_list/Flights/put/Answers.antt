@@ -1,9 +1,8 @@
 use Rattle.std.proofs.Common.{length, sym, ap, ◌∙◌, subst, arith}
 use Rattle.std.specs.List.{list_all}
 use Rattle.std.proofs.lemmas.List.{length-set}
-use Rattle.link_flights.specs.declared.flight.Flight.{Flight}
 use Rattle.link_flights.specs.Flights.Flight.{HaveRates}
-use Rattle.link_flights.proofs.Flights.Flight.{all_with, is_past_flight, is_past}
+use Rattle.link_flights.proofs.Flights.Flight.{all_with, is_past}
 use Rattle.link_flights.proofs.Flights.Settled.{rates_put}
 use Rattle.link_flights.proofs.flight_list.Flights.put.Goals as goal
 
@@ -11,8 +10,7 @@ pub invariant_of-self-in_default-clause-past : goal.invariant_of-self-in_default
 invariant_of-self-in_default-clause-past g c =
     let old = c.args.self.now in
     ap (list_all (is_past old.at)) c.in_default.ensures.items
-    ∙ all_with (is_past old.at) old.list.items c.args.at c.in_ok-flight.flight old.past
-    (ap (λ (f : Flight g.row.P.Denot). is_past_flight old.at f) c.in_ok-flight.ensures.ok ∙ c.requires.past)
+    ∙ all_with (is_past old.at) old.list.items c.args.at c.args.flight old.past c.requires.past
 
 pub invariant_of-self-in_default-clause-counted : goal.invariant_of-self-in_default-clause-counted
 invariant_of-self-in_default-clause-counted g c =
@@ -21,12 +19,11 @@ invariant_of-self-in_default-clause-counted g c =
       arith,
       old.counted,
       ap length c.in_default.ensures.items,
-      length-set old.list.items c.args.at c.in_ok-flight.flight,
+      length-set old.list.items c.args.at c.args.flight,
     )
 
 pub invariant_of-self-in_default-clause-have_rates : goal.invariant_of-self-in_default-clause-have_rates
 invariant_of-self-in_default-clause-have_rates g c =
     let old = c.args.self.now in
     subst (HaveRates old.settled) (sym c.in_default.ensures.items)
-    (rates_put old.settled old.list.items c.args.at c.in_ok-flight.flight old.have_rates (λ d is.
-    ap (λ (f : Flight g.row.P.Denot). f.rated) c.in_ok-flight.ensures.ok ∙ c.requires.still_rated d is))
+    (rates_put old.settled old.list.items c.args.at c.args.flight old.have_rates c.requires.still_rated)

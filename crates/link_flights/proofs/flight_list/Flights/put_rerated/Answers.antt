@@ -1,7 +1,6 @@
-use Rattle.std.proofs.Common.{◌≡◌, ◌+◌, ◌*◌, inr, ap, ◌∙◌}
+use Rattle.std.proofs.Common.{◌+◌, inr, ap}
 use Rattle.fair_rates.specs.Fairness.Exists.{product}
-use Rattle.link_flights.specs.declared.flight.Flight.{Flight}
-use Rattle.link_flights.specs.Flights.Flight.{rate_of, flight_at}
+use Rattle.link_flights.specs.Flights.Flight.{rate_of}
 use Rattle.link_flights.proofs.Flights.Rerating.{put_anew}
 use Rattle.link_flights.proofs.flight_list.Flights.put_rerated.Goals as goal
 
@@ -10,16 +9,11 @@ returns-clause-rerated g c =
     let old = c.args.self.now in
     let x = c.at.result.now in
     let one = c.in_ok-one in
-    let value : c.deref.result.now ≡ x.value = c.deref.ensures in
     put_anew old.at (product c.args.growth.now) (rate_of c.args.rate) old.list.items c.args.at x
     c.requires.place c.at.ensures one.one c.put.new.self.list.items c.in_ok-put.ensures.list
-    (one.ensures.id ∙ ap (λ (f : Flight g.row.P.Denot). f.id) value)
-    (one.ensures.message ∙ ap (λ (f : Flight g.row.P.Denot). f.message.value) value)
-    (one.ensures.left
-    ∙ ap (λ (f : Flight g.row.P.Denot). (flight_at old.at f).left * product c.args.growth.now) value)
+    one.ensures.id one.ensures.message one.ensures.left
     one.ensures.rate one.ensures.since one.ensures.rated one.ensures.timed
 
 pub returns-clause-counted : goal.returns-clause-counted
 returns-clause-counted g c =
-    let put = c.in_ok-put.ensures.list in
-    inr (ap (λ n. n + 1) c.in_ok-put.ensures.counted, (put.one, put.others))
+    inr (ap (λ n. n + 1) c.in_ok-put.ensures.counted, (c.in_ok-one.one, c.in_ok-put.ensures.list))

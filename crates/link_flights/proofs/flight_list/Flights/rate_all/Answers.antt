@@ -22,7 +22,7 @@ set_rates-requires-clause-near g c part = absurd (true≢false (sym c.whole-all.
 pub set_rates-requires-clause-kept : goal.set_rates-requires-clause-kept
 set_rates-requires-clause-kept g c i f there =
     sym (is_of_whole g.P.Ord.cmp c.whole-all.result c.whole-all.ensures.whole c.whole-all.ensures.level
-    (flight_at 0 f.value))
+    (flight_at 0 f))
 
 pub set_rates-requires-clause-left : goal.set_rates-requires-clause-left
 set_rates-requires-clause-left g c =

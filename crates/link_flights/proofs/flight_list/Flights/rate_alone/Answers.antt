@@ -1,7 +1,5 @@
 use Rattle.std.proofs.Common.{◌≡◌, ◌∷◌, ◌∙◌, [], sym, ap, subst}
 use Rattle.std.specs.Prelude.{slice_index, unwrap_or}
-use Rattle.std.specs.declared.rc.Rc.{Rc}
-use Rattle.std.specs.declared.alloc.Global.{Global}
 use Rattle.std.proofs.lemmas.List.{get_or_default}
 use Rattle.fair_rates.specs.Fairness.Fair.{IsFair}
 use Rattle.fair_rates.specs.Fairness.UnderCaps.{sides_under}
@@ -25,8 +23,8 @@ returns-clause-fair g c d =
     let parts = c.unwrap_or.result in
     let flow : Flow g.row.P.Denot = record {
       id = 0;
-      origin = c.deref-2.result.now.origin;
-      recipient = c.deref-4.result.now.recipient;
+      origin = c.deref.result.now.origin;
+      recipient = c.deref-2.result.now.recipient;
       delivered = c.is_delivered.result;
     } in
     let none : unwrap_or c.in_ok-rate.rate 0 ≡ parts =
@@ -35,15 +33,10 @@ returns-clause-fair g c d =
     subst (λ n. IsFair (sides_under cmp caps (flow ∷ [])) self.scale (slice_index (n ∷ []))) none
     c.in_ok-rate.ensures.fair in
     subst
-    (λ (f : Rc (Flight g.row.P.Denot) Global). AreFairFor cmp caps self.scale (message_of f.value.message.value ∷ [])
+    (λ (f : Flight g.row.P.Denot). AreFairFor cmp caps self.scale (message_of f.message.value ∷ [])
     (parts ∷ []))
     (c.at-one.ensures ∙ get_or_default self.list.items c.args.at one d c.requires.place)
-    (alone_fair cmp g.met.P.Ord.total caps of flow (message_of one.value.message.value) self.scale parts
-    (ap (λ m. m.origin)
-    (c.deref-2.ensures ∙ ap (λ (f : Flight g.row.P.Denot). f.message.value) c.deref.ensures))
-    (ap (λ m. m.recipient)
-    (c.deref-4.ensures ∙ ap (λ (f : Flight g.row.P.Denot). f.message.value) c.deref-3.ensures))
-    (c.is_delivered.ensures
-    ∙ ap (λ m. is_delivered cmp (message_of m))
-    (c.deref-6.ensures ∙ ap (λ (f : Flight g.row.P.Denot). f.message.value) c.deref-5.ensures))
+    (alone_fair cmp g.met.P.Ord.total caps of flow (message_of one.message.value) self.scale parts
+    (ap (λ m. m.origin) c.deref.ensures) (ap (λ m. m.recipient) c.deref-2.ensures)
+    (c.is_delivered.ensures ∙ ap (λ m. is_delivered cmp (message_of m)) c.deref-3.ensures)
     fair)

@@ -1,6 +1,4 @@
 use Rattle.std.proofs.Common.{rules, ◌≡◌, ◌∷◌, ◌&&◌, ◌∙◌, [], true, get_or, nat_le, sym, ap}
-use Rattle.std.specs.declared.rc.Rc.{Rc}
-use Rattle.std.specs.declared.alloc.Global.{Global}
 use Rattle.link_pairs.specs.Pairs.CapsOf.{caps_of}
 use Rattle.link_flights.specs.declared.flight.Flight.{Flight}
 use Rattle.link_flights.specs.Flights.Components.{near_of, those_near}
@@ -19,8 +17,8 @@ set_rates-requires-clause-one_each g c =
     let self = c.args.self.now in
     let list = self.list.items in
     let x = one_there list c.args.at c.requires.place in
-    let one : Rc (Flight g.row.P.Denot) Global = get_or list c.args.at x.0 in
-    let u = flight_at self.at one.value in
+    let one : Flight g.row.P.Denot = get_or list c.args.at x.0 in
+    let u = flight_at self.at one in
     let near : near_of cmp component (in_units self) ≡ u ∷ [] =
     sym (near_read cmp component self.at list) ∙ ap (flights_at self.at) (c.requires.only x.0) in
     let fair = only_fair cmp component u (c.requires.rated x.0)
@@ -44,8 +42,8 @@ returns-then-le-clause-gives g c =
     let self = c.args.self.now in
     let list = self.list.items in
     let x = one_there list c.args.at c.requires.place in
-    let one : Rc (Flight g.row.P.Denot) Global = get_or list c.args.at x.0 in
-    let u = flight_at self.at one.value in
+    let one : Flight g.row.P.Denot = get_or list c.args.at x.0 in
+    let u = flight_at self.at one in
     let near : near_of cmp component (in_units self) ≡ u ∷ [] =
     sym (near_read cmp component self.at list) ∙ ap (flights_at self.at) (c.requires.only x.0) in
     let caps = caps_of cmp c.args.peers.now.entries c.args.pairs.now.entries in

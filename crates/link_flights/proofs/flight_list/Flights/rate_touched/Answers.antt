@@ -57,6 +57,6 @@ rate_only-requires-clause-rated g c d =
     let same = c.as_slice.ensures.value in
     let one : length component.near.items ≡ 1 =
     omega (arith, c.in-len1.len_at_least, c.in-len1.len_below, ap length same) in
-    ap (λ l. is_of cmp component (flight_at 0 (get_or list (get_or l 0 0) d).value)) same
+    ap (λ l. is_of cmp component (flight_at 0 (get_or list (get_or l 0 0) d))) same
     ∙ one_rated cmp component list (c.requires.near c.if-not-touched.true) one d
     (sym c.has_none.ensures ∙ c.if-has_none.false)

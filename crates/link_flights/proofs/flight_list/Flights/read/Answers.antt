@@ -1,7 +1,5 @@
-use Rattle.std.proofs.Common.{◌≡◌, ◌*◌, ◌<◌, length, get_or, sym, ◌∙◌, ap, subst, arith}
-use Rattle.std.specs.declared.cmp.Ordering.TheVariants.{Equal}
-use Rattle.link_flights.specs.declared.flight.Flight.{Flight}
-use Rattle.fair_rates.specs.Numbers.Amount.{reduced, billion}
+use Rattle.std.proofs.Common.{◌≡◌, ◌<◌, length, get_or, sym, subst, arith}
+use Rattle.fair_rates.specs.Numbers.Amount.{reduced}
 use Rattle.link_simulation.specs.Rule.Planned.{RatedFlight}
 use Rattle.link_flights.specs.Flights.Flight.{flight_at}
 use Rattle.link_flights.specs.Flights.RatedFlights.{rated_flight_of}
@@ -17,32 +15,20 @@ loop-at-preserved g c =
     let at = c.loop-at.at in
     let one = c.at-one.result.now in
     let reading = c.in_ok-read_one.field-0 in
-    let read : RatedFlight g.row.P.Denot = rated_flight_of self.scale (flight_at self.at one.value) in
+    let read : RatedFlight g.row.P.Denot = rated_flight_of self.scale (flight_at self.at one) in
     let inside : at < length self.list.items =
     omega (arith, c.loop-at-test.true, c.len-at-end.ensures) in
     let one_is : one ≡ get_or self.list.items at one = c.at-one.ensures in
     let there : read ≡ get_or (in_flight self) at read =
     sym (there_in_flight self.scale self.at self.list.items at one read inside one_is) in
     let here : IsReadAs g.P.Ord.cmp read reading = record {
-      origin =
-          subst (λ (f : Flight g.row.P.Denot). g.P.Ord.cmp reading.origin f.message.value.origin ≡ Equal)
-          c.deref.ensures c.in_ok-read_one.ensures.origin;
-      recipient =
-          subst (λ (f : Flight g.row.P.Denot). g.P.Ord.cmp reading.recipient f.message.value.recipient ≡ Equal)
-          c.deref.ensures c.in_ok-read_one.ensures.recipient;
+      origin = c.in_ok-read_one.ensures.origin;
+      recipient = c.in_ok-read_one.ensures.recipient;
       left =
-          subst
-          (λ (f : Flight g.row.P.Denot). IsReadingOf (reduced (flight_at self.at f).left (self.scale * billion))
-          reading.left)
-          c.deref.ensures
-          (subst (λ n. IsReadingOf (reduced (flight_at self.at c.deref.result.now).left n) reading.left)
-          c.in_ok-unit.ensures.value c.in_ok-read_one.ensures.left);
-      rate =
-          subst (λ (f : Flight g.row.P.Denot). IsReadingOf (reduced (flight_at self.at f).rate self.scale) reading.rate)
-          c.deref.ensures c.in_ok-read_one.ensures.rate;
-      since =
-          c.in_ok-read_one.ensures.since
-          ∙ ap (λ (f : Flight g.row.P.Denot). (flight_at self.at f).updated) c.deref.ensures;
+          subst (λ n. IsReadingOf (reduced (flight_at self.at one).left n) reading.left)
+          c.in_ok-unit.ensures.value c.in_ok-read_one.ensures.left;
+      rate = c.in_ok-read_one.ensures.rate;
+      since = c.in_ok-read_one.ensures.since;
     } in
     rw c.in_ok-push.ensures.items
     (copied_more (IsReadAs g.P.Ord.cmp) (in_flight self) c.loop-at.readings.items at read reading

@@ -1,6 +1,5 @@
-use Rattle.std.proofs.Common.{◌≡◌, refl, sym, ap, ◌∙◌}
+use Rattle.std.proofs.Common.{refl, sym, ap, ◌∙◌}
 use Rattle.fair_rates.specs.Fairness.Exists.{product}
-use Rattle.link_flights.specs.declared.flight.Flight.{Flight}
 use Rattle.link_flights.specs.Flights.Flight.{rate_of}
 use Rattle.link_flights.proofs.Flights.Rerating.{none_there, goes_on}
 use Rattle.link_flights.proofs.flight_list.Flights.rerate.Goals as goal
@@ -11,12 +10,10 @@ pub returns-then-goes_on-clause-rerated : goal.returns-then-goes_on-clause-rerat
 returns-then-goes_on-clause-rerated g c =
     let old = c.args.self.now in
     let x = c.at-one.result.now in
-    let one : c.deref.result.now ≡ x.value = c.deref.ensures in
     let stays = c.goes_on.ensures in
     let yes = c.if-goes_on.true in
     goes_on old.at (product c.args.growth.now) (rate_of c.args.rate) old.list.items c.args.at x
     c.requires.place c.at-one.ensures
-    (sym (ap (λ (f : Flight g.row.P.Denot). f.rated) one) ∙ stays.rated yes)
-    (sym (ap (λ (f : Flight g.row.P.Denot). rate_of f.rate) one) ∙ stays.rate yes)
+    (stays.rated yes) (stays.rate yes)
     (ap product (none_there c.args.growth.now _ refl (sym c.is_empty.ensures ∙ c.if-is_empty.true)))
     (c.requires.timed c.if-were_timed.true)

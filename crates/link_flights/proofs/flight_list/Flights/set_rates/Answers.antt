@@ -57,7 +57,7 @@ bounds-level_of-next g c =
     omega (arith, c.loop-number-test.true, c.count-number-end.ensures) in
     let h = c.loop-number.invariant.0 in
     let n = next_in h lt in
-    let of : is_of cmp component (flight_at old.at n.x.value) ≡ true =
+    let of : is_of cmp component (flight_at old.at n.x) ≡ true =
     sym (c.is_rated.ensures ∙ c.requires.kept number n.x n.there) ∙ c.if-is_rated.true in
     omega (
       arith,
@@ -104,10 +104,10 @@ rerate-requires-clause-left g c d none =
     let so_far = c.loop-number.self in
     let place : c.place.result ≡ n.at =
     c.place.ensures ∙ place_is cmp component old.list.items c.requires.near number lt ∙ n.place in
-    let same : (flight_at old.at n.x.value).left * growth
-    ≡ (flight_at so_far.at (get_or so_far.list.items c.place.result d).value).left * growth =
-    ap (λ m. (flight_at m n.x.value).left * growth) (sym h.at)
-    ∙ ap (λ (r : _). (flight_at so_far.at r.value).left * growth)
+    let same : (flight_at old.at n.x).left * growth
+    ≡ (flight_at so_far.at (get_or so_far.list.items c.place.result d)).left * growth =
+    ap (λ m. (flight_at m n.x).left * growth) (sym h.at)
+    ∙ ap (λ (r : _). (flight_at so_far.at r).left * growth)
     (stands_here n.up_to n.x n.stands d ∙ ap (λ p. get_or so_far.list.items p d) (sym place)) in
     something_left n.up_to n.x n.stands (same ∙ none)
 
@@ -144,7 +144,7 @@ loop-number-preserved g c =
     let growth = product c.args.growth.now in
     let so_far = c.loop-number.self in
     let next = c.loop-number.next in
-    let test : c.is_rated.result ≡ is_of cmp component (flight_at old.at n.x.value) =
+    let test : c.is_rated.result ≡ is_of cmp component (flight_at old.at n.x) =
     c.is_rated.ensures ∙ c.requires.kept number n.x n.there in
     let SoFar = IsSoFar cmp component growth rates c.args.were_timed old.at old.scale old.list.items in
     elim c.if-is_rated.branch [

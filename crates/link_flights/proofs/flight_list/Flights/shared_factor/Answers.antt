@@ -1,6 +1,5 @@
 use Rattle.std.proofs.Common.{arith, subst}
 use Rattle.std.specs.Int.{IsGcd}
-use Rattle.link_flights.specs.Flights.LargerUnits.{IsFactorOf}
 use Rattle.link_flights.proofs.Flights.LargerUnits.{divides_whole, next_factor, all_divided}
 use Rattle.link_flights.proofs.flight_list.Flights.shared_factor.Goals as goal
 
@@ -20,7 +19,7 @@ loop-at-preserved g c =
     let next = c.factor_of-by.result in
     next_factor c.args.self.now.scale c.args.self.now.list.items c.loop-at.at c.loop-at.by next c.at.result.now
     c.loop-at.invariant (omega arith) c.at.ensures c.factor_of-by.ensures.part
-    (subst (λ f. IsFactorOf f next) c.deref.ensures c.factor_of-by.ensures.factor)
+    c.factor_of-by.ensures.factor
 
 pub returns : goal.returns
 returns g c =

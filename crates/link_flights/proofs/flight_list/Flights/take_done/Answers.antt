@@ -1,7 +1,5 @@
 use Rattle.std.proofs.Common.{◌≡◌, ◌≤◌, [], ◌++◌, ◌∷◌, true, length, get_or, refl, ap, ap₂, sym, ◌∙◌}
-use Rattle.std.proofs.Common.{subst, arith, None}
-use Rattle.std.specs.declared.rc.Rc.{Rc}
-use Rattle.std.specs.declared.alloc.Global.{Global}
+use Rattle.std.proofs.Common.{subst, arith}
 use Rattle.std.proofs.lemmas.List.{map-append, get_or_default}
 use Rattle.std.specs.List.{remove}
 use Rattle.link_flights.specs.declared.flight.Flight.{Flight}
@@ -22,8 +20,8 @@ pub loop-next-init : goal.loop-next-init
 loop-next-init g c =
     let old = c.args.self.now in
     let caps = caps_of g.P.Ord.cmp c.args.peers.now.entries c.args.pairs.now.entries in
-    let message = λ (f : Rc (Flight g.row.P.Denot) Global). message_of f.value.message.value in
-    let out = λ (f : Rc (Flight g.row.P.Denot) Global). is_out g.P.Ord.cmp caps old.scale (flight_at old.at f.value) in (
+    let message = λ (f : Flight g.row.P.Denot). message_of f.message.value in
+    let out = λ (f : Flight g.row.P.Denot). is_out g.P.Ord.cmp caps old.scale (flight_at old.at f) in (
       subst (λ l. HaveLeft message out old.list.items old.list.items (messages l) 0) (sym c.new-done.ensures.items)
           (none_left message out old.list.items),
       refl,
@@ -43,19 +41,18 @@ loop-next-preserved g c =
     let at = c.in-Some.next in
     let h = c.loop-next.invariant in
     let caps = caps_of g.P.Ord.cmp c.args.peers.now.entries c.args.pairs.now.entries in
-    let message = λ (f : Rc (Flight g.row.P.Denot) Global). message_of f.value.message.value in
-    let out = λ (f : Rc (Flight g.row.P.Denot) Global). is_out g.P.Ord.cmp caps old.scale (flight_at old.at f.value) in
+    let message = λ (f : Flight g.row.P.Denot). message_of f.message.value in
+    let out = λ (f : Flight g.row.P.Denot). is_out g.P.Ord.cmp caps old.scale (flight_at old.at f) in
     let next = c.in-Some.ensures.next in
-    let test = λ (f : Rc (Flight g.row.P.Denot) Global).
-    sym (ap₂ (λ n m. is_out g.P.Ord.cmp caps n (flight_at m f.value)) h.1 h.2) in
+    let test = λ (f : Flight g.row.P.Denot).
+    sym (ap₂ (λ n m. is_out g.P.Ord.cmp caps n (flight_at m f)) h.1 h.2) in
     let stay : PassesNowhere out now.list.items c.loop-next.at at =
     λ i after before d. test (get_or now.list.items i d) ∙ next.before i after before d in
-    let done = λ (d : Rc (Flight g.row.P.Denot) Global). sym (test (get_or now.list.items at d) ∙ next.here d) in
+    let done = λ (d : Flight g.row.P.Denot). sym (test (get_or now.list.items at d) ∙ next.here d) in
     let inside : at ≤ length now.list.items = omega (arith, next.high) in
     let gone : message_of c.in_ok-clone.field-0.value ≡ message c.at.result.now =
-    ap (λ (m : Message g.row.P.Denot). message_of m)
-    (c.in_ok-clone.ensures.cases ∙ ap (λ (f : Flight g.row.P.Denot). f.message.value) c.deref.ensures) in
-    let here = λ (d : Rc (Flight g.row.P.Denot) Global).
+    ap (λ (m : Message g.row.P.Denot). message_of m) c.in_ok-clone.ensures.cases in
+    let here = λ (d : Flight g.row.P.Denot).
     gone ∙ ap message (c.at.ensures ∙ get_or_default now.list.items at c.at.result.now d next.high) in
     let pushed : messages c.push_back.new.self.items
     ≡ messages c.loop-next.done.items ++ message_of c.in_ok-clone.field-0.value ∷ [] =
@@ -91,10 +88,10 @@ returns-clause-parted g c =
     let now = c.loop-next.self in
     let h = c.loop-next.invariant in
     let caps = caps_of g.P.Ord.cmp c.args.peers.now.entries c.args.pairs.now.entries in
-    let message = λ (f : Rc (Flight g.row.P.Denot) Global). message_of f.value.message.value in
-    let out = λ (f : Rc (Flight g.row.P.Denot) Global). is_out g.P.Ord.cmp caps old.scale (flight_at old.at f.value) in
-    let test = λ (f : Rc (Flight g.row.P.Denot) Global).
-    sym (ap₂ (λ n m. is_out g.P.Ord.cmp caps n (flight_at m f.value)) h.1 h.2) in
+    let message = λ (f : Flight g.row.P.Denot). message_of f.message.value in
+    let out = λ (f : Flight g.row.P.Denot). is_out g.P.Ord.cmp caps old.scale (flight_at old.at f) in
+    let test = λ (f : Flight g.row.P.Denot).
+    sym (ap₂ (λ n m. is_out g.P.Ord.cmp caps n (flight_at m f)) h.1 h.2) in
     let stay : PassesNowhere out now.list.items c.loop-next.at (length now.list.items) =
     λ i after before d. test (get_or now.list.items i d) ∙ c.in_default.ensures.next i after before d in
     let done = messages c.loop-next.done.items in
@@ -111,10 +108,10 @@ returns-clause-floor g c =
     let now = c.loop-next.self in
     let h = c.loop-next.invariant in
     let caps = caps_of g.P.Ord.cmp c.args.peers.now.entries c.args.pairs.now.entries in
-    let message = λ (f : Rc (Flight g.row.P.Denot) Global). message_of f.value.message.value in
-    let out = λ (f : Rc (Flight g.row.P.Denot) Global). is_out g.P.Ord.cmp caps old.scale (flight_at old.at f.value) in
-    let test = λ (f : Rc (Flight g.row.P.Denot) Global).
-    sym (ap₂ (λ n m. is_out g.P.Ord.cmp caps n (flight_at m f.value)) h.1 h.2) in
+    let message = λ (f : Flight g.row.P.Denot). message_of f.message.value in
+    let out = λ (f : Flight g.row.P.Denot). is_out g.P.Ord.cmp caps old.scale (flight_at old.at f) in
+    let test = λ (f : Flight g.row.P.Denot).
+    sym (ap₂ (λ n m. is_out g.P.Ord.cmp caps n (flight_at m f)) h.1 h.2) in
     let stay : PassesNowhere out now.list.items c.loop-next.at (length now.list.items) =
     λ i after before d. test (get_or now.list.items i d) ∙ c.in_default.ensures.next i after before d in
     let over = over_stay out now.floor old.list.items now.list.items c.loop-next.at (length now.list.items) h.5

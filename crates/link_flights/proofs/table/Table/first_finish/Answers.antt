@@ -10,7 +10,7 @@ returns g c t =
     let table = c.self.inside in
     let rows = table.rows.now in
     sym (come g.P.Ord.cmp g.met.P.Ord.total t c.least.result) ∙ c.least.ensures t
-    ∙ any-items (is_due_by t) (λ one. has_come t one.value.finish) rows
+    ∙ any-items (is_due_by t) (λ one. has_come t one.finish) rows
     (due g.P.Ord.cmp g.met.P.Ord.total table.numbers t rows c.self.invariant.now)
-    ∙ ap (list_any (λ one. has_come t one.value.finish))
+    ∙ ap (list_any (λ one. has_come t one.finish))
     (kept table.given_up table.rows c.args.self.now c.self.view_is c.if-self.false)

@@ -1,4 +1,4 @@
-use Rattle.std.proofs.Common.{◌≡◌, sym, ap, ◌∙◌, cond, [], false, slice_set, get_or}
+use Rattle.std.proofs.Common.{◌≡◌, refl, sym, ap, ◌∙◌, cond, [], false, slice_set, get_or}
 use Rattle.std.proofs.lemmas.List.{map-set}
 use Rattle.std.proofs.lemmas.List.Elements.{All-set}
 use Rattle.row_table.specs.Rows.{with_item}
@@ -19,17 +19,17 @@ here : (g : Over) (c : goal.Else-is_err g) → IsAt c.self.inside.rows.now c.arg
 here g c = (row_seen c.self.inside.given_up c.self.inside.rows c.args.self.now c.self.view_is c.args.at c.requires.place).0
 
 put : (g : Over) (c : goal.Else-is_err g) → c.set.new.self.now
-    ≡ slice_set c.self.inside.rows.now c.args.at (with_item c.args.one c.deref.result.now.finish (here g c).row)
+    ≡ slice_set c.self.inside.rows.now c.args.at (with_item c.args.one c.args.one.finish (here g c).row)
 put g c = on_ok c.set.result (sym c.if-is_err.ensures.value) (c.set.ensures.now (here g c).row (here g c).get)
 
-same : (g : Over) (c : goal.Else-is_err g) → c.args.one.value.message.value ≡ (here g c).row.item.value.message.value
+same : (g : Over) (c : goal.Else-is_err g) → c.args.one.message.value ≡ (here g c).row.item.message.value
 same g c =
     let table = c.self.inside in
     let item = (here g c).row.item in
     c.requires.message item
-    ∙ ap (λ items. (get_or items c.args.at item).value.message.value)
+    ∙ ap (λ items. (get_or items c.args.at item).message.value)
     (sym (kept table.given_up table.rows c.args.self.now c.self.view_is (up g c)))
-    ∙ ap (λ one. one.value.message.value) ((here g c).item_or item)
+    ∙ ap (λ one. one.message.value) ((here g c).item_or item)
 
 pub invariant_of-self-else-is_err : goal.invariant_of-self-else-is_err
 invariant_of-self-else-is_err g c =
@@ -38,9 +38,9 @@ invariant_of-self-else-is_err g c =
     let within = (row_seen table.given_up table.rows c.args.self.now c.self.view_is c.args.at c.requires.place).1 in
     changed cmp table.numbers table.rows c.set.new.self _ c.self.invariant
     (All-set (IsRow cmp table.numbers) table.rows.now c.args.at _
-    (row_changed cmp table.numbers (here g c).row c.args.one c.deref.result.now.finish
+    (row_changed cmp table.numbers (here g c).row c.args.one c.args.one.finish
     (of_row (IsRow cmp table.numbers) table.rows.now c.args.at within (here g c) c.self.invariant.now)
-    (same g c) (ap (λ f. f.finish) c.deref.ensures))
+    (same g c) refl)
     c.self.invariant.now)
     (put g c) c.set.ensures.before
 
