@@ -16,13 +16,13 @@ ghost use Rattle.link_events.specs.Steps.Due.{IsDue, Happens};
 
 use crate::event::Event;
 use crate::ledger::Ledger;
-use crate::readiness::ready_moment;
 use fair_rates::error::Error;
 use fair_rates::peer::Peer;
 use link_pairs::completion::Ended;
 use link_pairs::known_pairs::later_of;
 use link_pairs::message::Message;
 use link_pairs::pair::PeerPair;
+use link_waiting::moment::ready_moment;
 use std::collections::VecDeque;
 use std::rc::Rc;
 

@@ -12,7 +12,6 @@ ghost use Rattle.link_waiting.specs.Idle.Index.{idle_from as idle_since};
 
 use crate::ledger::Ledger;
 use crate::marks::give_up;
-use crate::readiness::{idle_from, idle_latency, ready_from};
 use fair_rates::error::Error;
 use fair_rates::peer::Peer;
 use link_pairs::known_pairs::later_of;
@@ -48,17 +47,19 @@ impl<P: Peer> Ledger<P> {
         ensures before { before_of self.new ≡ before_of self.old }
         ensures refused { IfErr result (λ e. e ≡ Error.OutOfMemory) }
     {
-        let latency = idle_latency(is_busy, &self.waiting, origin, recipient);
         let last = self.pairs.raise(origin, recipient, moment)?;
-        let moved = ready_from(Some(later_of(last, moment)), latency);
-        if moved.is_some() {
-            if let Err(error) = self.waiting.set_since(origin, recipient, moved) {
+        if is_busy {
+            return Ok(None);
+        }
+        let arrival = later_of(last, moment);
+        match self.waiting.rest(origin, recipient, Some(arrival)) {
+            Ok(since) => Ok(since),
+            Err(error) => {
                 give_up(&mut self.flights, &mut self.waiting);
                 self.stale = true;
-                return Err(error);
+                Err(error)
             }
         }
-        Ok(moved)
     }
 
     /// The message joins those that wait for its pair, as the last one. Answered is the moment from
@@ -84,13 +85,18 @@ impl<P: Peer> Ledger<P> {
             self.stale = true;
             return Err(error);
         }
-        let since = idle_from(is_busy, &self.waiting, &self.pairs, origin, recipient);
-        if let Err(error) = self.waiting.set_since(origin, recipient, since) {
-            give_up(&mut self.flights, &mut self.waiting);
-            self.stale = true;
-            return Err(error);
+        if is_busy {
+            return Ok(None);
         }
-        Ok(since)
+        let last = self.pairs.last_arrival(origin, recipient);
+        match self.waiting.rest(origin, recipient, last) {
+            Ok(since) => Ok(since),
+            Err(error) => {
+                give_up(&mut self.flights, &mut self.waiting);
+                self.stale = true;
+                Err(error)
+            }
+        }
     }
 
     /// The first message that waits for the pair is in flight from now on, under the next flow id.

@@ -6,6 +6,7 @@ pub mod FirstStart
 pub mod Firsts
 pub mod Index
 pub mod IndexChanges
+pub mod Moments
 pub mod Moved
 pub mod Numbered
 pub mod Ready

@@ -3,5 +3,6 @@
 //! It serves `link_events`. All is changed in place, and can be taken back to the last mark.
 #![tactic(auto)]
 
+pub mod moment;
 mod slots;
 pub mod waiting;

@@ -1,13 +1,16 @@
 //! Slots of messages that wait.
-ghost use Rattle.std.specs.Prelude.{◌≡◌, ◌≤◌, ◌++◌, ◌∷◌, [], Some, None, length, map, option_map, filter};
+ghost use Rattle.std.specs.Prelude.{◌≡◌, ℕ, ◌<◌, ◌≤◌, ◌++◌, ◌∷◌, [], Some, None, length, option_map};
 ghost use Rattle.std.specs.Prelude.{is_none, count_by, slice_index_or, IfOk, IfErr, IsSome, IfSome, IfNone, OnOk, IsTrue};
 ghost use Rattle.std.specs.List.{find, AllZip};
 ghost use Rattle.fair_rates.specs.Lists.WithoutFirst.{without_first};
 ghost use Rattle.link_pairs.specs.Pairs.Messages.{message_of};
 ghost use Rattle.link_waiting.specs.Idle.PairsOfMessages.{NamesPairOf};
-ghost use Rattle.link_waiting.specs.Idle.Slots.{live, since_in, waiter_of, has_pair, with_since, IsFirstSlot, Stands, Marked};
-ghost use Rattle.link_waiting.specs.Idle.Waits.{has_come};
+ghost use Rattle.link_waiting.specs.Idle.FirstMoment.{first_moment};
+ghost use Rattle.link_waiting.specs.Idle.Slots.{live, waiter_of, has_pair, with_since, OnlyFirsts, HaveRoom, AreTold};
+ghost use Rattle.link_waiting.specs.Idle.Slots.{IsFirstSlot, Stands, Marked};
+ghost use Rattle.link_waiting.specs.Idle.Waits.{due_below};
 
+use crate::moment::ready_moment;
 use chains::Chains;
 use fair_rates::error::Error;
 use fair_rates::peer::Peer;
@@ -38,6 +41,7 @@ pub(crate) struct Slots<P> {
     pub(crate) gaps: usize,
     // The slots of each pair.
     pub(crate) chains: Chains,
+    // By the number of the pair: from when on its first message may start, if it was told.
     pub(crate) moments: Moments,
 }
 
@@ -63,18 +67,42 @@ fn link(chains: &mut Chains, pair: usize) -> Result<(), AllocError>
     Ok(())
 }
 
-/// Each slot has the moment of its message again.
-fn restore<P: Peer>(moments: &mut Moments, slots: &[Option<Slot<P>>])
-    requires { length slots.now ≤ length moments.old }
-    ensures { moments.new ≡ map since_in slots.now }
+/// There is a place for the moment of that pair. What is told stays.
+fn make_room(moments: &mut Moments, pair: usize) -> Result<(), AllocError>
+    ensures same { (at : ℕ) → slice_index_or moments.new at None ≡ slice_index_or moments.old at None }
+    ensures long { length moments.old ≤ length moments.new }
+    ensures room { OnOk result (pair < length moments.new) }
 {
-    moments.truncate(slots.len());
-    for slot in 0..slots.len() {
-        let moment = match &slots[slot] {
-            Some(slot) => slot.since,
-            None => None,
-        };
-        moments.set(slot, moment);
+    while moments.len() <= pair {
+        moments.push(None)?;
+    }
+    Ok(())
+}
+
+/// Of no pair a moment is told.
+fn clear(moments: &mut Moments)
+    ensures none { (at : ℕ) → slice_index_or moments.new at None ≡ None }
+    ensures long { length moments.new ≡ length moments.old }
+{
+    for pair in 0..moments.len() {
+        moments.set(pair, None);
+    }
+}
+
+/// Each pair has the moment of its first message again.
+fn restore<P: Peer>(moments: &mut Moments, slots: &[Option<Slot<P>>])
+    requires room { HaveRoom (length moments.old) (live slots.now) }
+    requires firsts { OnlyFirsts (live slots.now) }
+    ensures told { AreTold moments.new (live slots.now) }
+    ensures long { length moments.new ≡ length moments.old }
+{
+    clear(moments);
+    for at in 0..slots.len() {
+        if let Some(slot) = &slots[at] {
+            if slot.since.is_some() {
+                moments.set(slot.pair, slot.since);
+            }
+        }
     }
 }
 
@@ -157,7 +185,7 @@ impl<P: Peer> Slots<P> {
             since: None,
         }))?;
         link(&mut self.chains, pair)?;
-        self.moments.push(None)
+        make_room(&mut self.moments, pair)
     }
 
     /// The first message that waits for a pair goes. Where memory is refused, part of that is done.
@@ -177,16 +205,17 @@ impl<P: Peer> Slots<P> {
         let message = self.slot(at).message.clone()?;
         self.slots.set(at, None)?;
         self.chains.take(pair, at)?;
-        self.moments.set(at, None);
+        self.moments.set(pair, None);
         let slots = self.slots.len();
         prove!(self.gaps < slots);
         self.gaps += 1;
         Ok(Some(message))
     }
 
-    /// Of the first message that waits for a pair another moment is told, or none. Where memory is refused, part of
-    /// that is done.
-    pub(crate) fn set_since(&mut self, pair: usize, moment: Option<u64>) -> Result<(), AllocError>
+    /// Of the message in a slot, the first one of its pair, that moment is told. Where memory is refused, part of that
+    /// is done.
+    fn tell(&mut self, pair: usize, at: usize, moment: Option<u64>) -> Result<(), AllocError>
+        requires first { IsFirstSlot pair self.old.slots.items at }
         requires stands { Stands self.old }
         requires marked { Marked self.old }
         ensures now { OnOk result (live self.new.slots.items ≡ with_since (has_pair pair) moment (live self.old.slots.items)) }
@@ -194,35 +223,64 @@ impl<P: Peer> Slots<P> {
         ensures stands { OnOk result (Stands self.new) }
         ensures marked { Marked self.new }
     {
-        let Some(at) = self.first_slot(pair) else {
+        let slot = self.slot(at);
+        if slot.since == moment {
             return Ok(());
-        };
-        let message = self.slot(at).message.clone()?;
+        }
+        let message = slot.message.clone()?;
         let slot = Slot {
             message,
             pair,
             since: moment,
         };
         self.slots.set(at, Some(slot))?;
-        self.moments.set(at, moment);
+        self.moments.set(pair, moment);
         Ok(())
+    }
+
+    /// A pair is idle whose last message arrives at that moment, if one does. Of its first message that waits it is told
+    /// from which moment on it may start; that is answered. Where memory is refused, part of that is done.
+    pub(crate) fn rest(
+        &mut self,
+        pair: usize,
+        last_arrival: Option<u64>,
+    ) -> Result<Option<u64>, AllocError>
+        requires stands { Stands self.old }
+        requires marked { Marked self.old }
+        ensures answer { IfOk result (λ since. since ≡ option_map (λ waiter. first_moment last_arrival waiter.message.latency)
+            (find (has_pair pair) (live self.old.slots.items))) }
+        ensures now { IfOk result (λ since. live self.new.slots.items
+            ≡ with_since (has_pair pair) since (live self.old.slots.items)) }
+        ensures before { self.new.slots.before ≡ self.old.slots.before }
+        ensures stands { OnOk result (Stands self.new) }
+        ensures marked { Marked self.new }
+    {
+        let Some(at) = self.first_slot(pair) else {
+            return Ok(None);
+        };
+        let since = Some(ready_moment(last_arrival, self.slot(at).message.latency));
+        self.tell(pair, at, since)?;
+        Ok(since)
     }
 
     /// The pairs of the messages of which a moment was told that has come by now, their peers cloned.
     pub(crate) fn due(&self, alloc: Global, now: u64) -> Result<Vec<PeerPair<P>>, Error>
         requires { Stands self.now }
         ensures due { IfOk result (λ keys. AllZip (λ key waiter. NamesPairOf P.cmp key waiter.message) keys.items
-            (filter (λ waiter. has_come now waiter.since) (live self.now.slots.items))) }
+            (due_below now (length self.now.moments) (live self.now.slots.items))) }
         ensures refused { IfErr result (λ e. e ≡ Error.OutOfMemory) }
     {
         let mut due = Vec::new(alloc);
         let end = self.moments.len();
         let mut next = self.moments.next_due(0, now);
-        while let Some(at) = next {
-            let message = Rc::as_ref(&self.slot(at).message);
+        while let Some(pair) = next {
+            let Some(slot) = self.first(pair) else {
+                unreachable!();
+            };
+            let message = Rc::as_ref(&slot.message);
             due.push(PeerPair::new(&message.origin, &message.recipient)?)?;
-            prove!(at < end);
-            next = self.moments.next_due(at + 1, now);
+            prove!(pair < end);
+            next = self.moments.next_due(pair + 1, now);
         }
         Ok(due)
     }
@@ -247,7 +305,6 @@ impl<P: Peer> Slots<P> {
         if self.has_many_gaps() {
             self.slots.commit_kept(|slot| slot.is_some());
             self.chains.close_gaps();
-            restore(&mut self.moments, self.slots.as_slice());
             self.gaps = 0;
             return;
         }

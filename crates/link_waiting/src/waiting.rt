@@ -10,6 +10,7 @@ ghost use Rattle.link_simulation.specs.Simulation.Messages.{with_link};
 ghost use Rattle.link_simulation.specs.Rule.Planned.{queued, AreInPairOrder};
 ghost use Rattle.link_pairs.specs.Pairs.Messages.{message_of};
 ghost use Rattle.link_pairs.specs.Pairs.Entries.{first_of, pair_cmp};
+ghost use Rattle.link_waiting.specs.Idle.FirstMoment.{first_moment};
 ghost use Rattle.link_waiting.specs.Idle.Slots.{live, is_of, has_number, AreNumbered, Marked, AreKept};
 ghost use Rattle.link_waiting.specs.Idle.Waits.{none_waits, since_of, has_come, pair_of_key};
 
@@ -220,30 +221,39 @@ impl<P: Peer> Waiting<P> {
         }
     }
 
-    /// Tells from which moment on the first waiting message of the pair may start.
+    /// The pair is idle, and its last message arrives at that moment, if one does. So it is told from which moment on its
+    /// first waiting message may start. That is answered, if one waits.
     ///
     /// `OutOfMemory`: memory was refused. Then all is taken back to the mark.
-    pub fn set_since(&mut self, origin: &P, recipient: &P, moment: Option<u64>) -> Result<(), Error>
-        requires waits { is_none (first_of P.cmp self.old.messages origin.now recipient.now) ≡ true → moment ≡ None }
+    pub fn rest(
+        &mut self,
+        origin: &P,
+        recipient: &P,
+        last_arrival: Option<u64>,
+    ) -> Result<Option<u64>, Error>
+        ensures answer { IfOk result (λ since. since ≡ option_map (λ m. first_moment last_arrival m.latency)
+            (first_of P.cmp self.old.messages origin.now recipient.now)) }
         ensures messages { OnOk result (self.new.messages ≡ self.old.messages) }
-        ensures since { OnOk result (since_of P.cmp self.new.told
-            ≡ with_link P.cmp (since_of P.cmp self.old.told) origin.now recipient.now moment) }
+        ensures since { IfOk result (λ since. since_of P.cmp self.new.told
+            ≡ with_link P.cmp (since_of P.cmp self.old.told) origin.now recipient.now since) }
         ensures taken_back { OnErr result ((self.new.messages ≡ self.old.before.messages)
             × (self.new.told ≡ self.old.before.told)) }
         ensures before { self.new.before ≡ self.old.before }
         ensures refused { IfErr result (λ e. e ≡ Error.OutOfMemory) }
     {
         if self.given_up {
-            return Ok(());
+            return Ok(None);
         }
         let Some(pair) = number_in(&self.pairs, &self.slots, origin, recipient) else {
-            return Ok(());
+            return Ok(None);
         };
-        if self.slots.set_since(pair, moment).is_err() {
-            self.slots.undo();
-            return Err(Error::OutOfMemory);
+        match self.slots.rest(pair, last_arrival) {
+            Ok(since) => Ok(since),
+            Err(_) => {
+                self.slots.undo();
+                Err(Error::OutOfMemory)
+            }
         }
-        Ok(())
     }
 
     /// No message waits any more. It can still be taken back.

@@ -22,7 +22,7 @@ use Rattle.link_pairs.specs.Pairs.Entries.{Pair}
 use Rattle.link_pairs.specs.Pairs.Entries.{arrival_of}
 use Rattle.link_waiting.specs.Idle.AtRest.{of_pairs}
 use Rattle.link_waiting.specs.Idle.Index.{IsIndexOf, is_of_pair, AreAtRest, idle_from}
-use Rattle.link_waiting.proofs.Idle.IndexChanges.{flows_drained, same_flights_index, left_unlisted, left_else}
+use Rattle.link_waiting.proofs.Idle.IndexChanges.{flows_drained, same_flights_index, left_else}
 use Rattle.link_waiting.proofs.Idle.IndexChanges.{rests_index, alike_from}
 use Rattle.link_events.proofs.Steps.OneEach.{one_apart, one_drained, rests_beside}
 
@@ -37,11 +37,6 @@ module _ {P : Type 0} (cmp : P → P → Ordering) (order : IsTotalOrder cmp) wh
     index_drained : IsIndexOf cmp (of_pairs cmp pairs waiting (drained_to now sending)) idle
     index_drained = same_flights_index cmp order pairs waiting sending (drained_to now sending) idle
         (flows_drained now sending) index
-
-    -- the pairs of what is done are not listed
-    pub done_unlisted : (a b : P) → list_any (is_of_pair cmp a b) done ≡ true → idle a b ≡ None
-    done_unlisted =
-        left_unlisted cmp order pairs waiting spent (drained_to now sending) done idle left index_drained
 
     -- none of them is in flight any more
     pub done_apart : (a b : P) → list_any (is_of_pair cmp a b) done ≡ true

@@ -1,13 +1,11 @@
 -- A moment is told of the first one of a pair alone: what that says, and that it stays.
 use Rattle.std.proofs.Common.{◌≡◌, ℕ, Bool, true, false, cond, List, [], ◌∷◌, ◌++◌, Option, Some, None, refl, sym, ap, ◌∙◌, subst}
-use Rattle.std.specs.Prelude.{◌||◌}
-use Rattle.std.specs.List.{filter, find, list_any}
+use Rattle.std.specs.List.{find}
 use Rattle.std.specs.Option.{option_and_then}
 use Rattle.std.proofs.lemmas.Bool.{eq-eqb, eqb-true}
 use Rattle.fair_rates.proofs.Lists.Booleans.{by_bool}
 use Rattle.fair_rates.specs.Lists.WithoutFirst.{without_first}
 use Rattle.link_waiting.specs.Idle.Slots.{Waiter, has_pair, with_since, NoneTold, OnlyFirsts}
-use Rattle.link_waiting.specs.Idle.Waits.{has_come}
 
 module _ {P : Type 0} where
   itself : (w : Waiter P) → has_pair w.pair w ≡ true
@@ -102,46 +100,3 @@ module _ {P : Type 0} where
       (λ is. absurd (told (none_at v.pair before w after h.0 (eq-eqb w.pair v.pair (sym (eqb-true v.pair w.pair is))))))
       (λ not. ap (λ b. cond b (Some v) (find (has_pair w.pair) (before ++ w ∷ after))) not
       ∙ told_is_first before w after h.1 told)
-
-  -- ---- those that are due
-
-  module _ (now : ℕ) where
-    abbrev come : Waiter P → Bool
-    come w = has_come now w.since
-
-    none_due : (pair : ℕ) (ws : List (Waiter P)) → NoneTold pair ws → list_any (has_pair pair) (filter come ws) ≡ false
-    none_due pair [] h = refl
-    none_due pair (v ∷ ws) h = by_bool (has_pair pair v)
-        (λ is. ap (λ o. list_any (has_pair pair) (cond (has_come now o) (v ∷ filter come ws) (filter come ws))) (h.0 is)
-        ∙ none_due pair ws h.1)
-        (λ not. by (come v) not (none_due pair ws h.1))
-      where
-        by : (b : Bool) → has_pair pair v ≡ false → list_any (has_pair pair) (filter come ws) ≡ false
-            → list_any (has_pair pair) (cond b (v ∷ filter come ws) (filter come ws)) ≡ false
-        by true not ih = ap (λ b. b || list_any (has_pair pair) (filter come ws)) not ∙ ih
-        by false not ih = ih
-
-    -- of a pair one is due where the first one is
-    pub any_due : (pair : ℕ) (ws : List (Waiter P)) → OnlyFirsts ws → list_any (has_pair pair) (filter come ws)
-        ≡ has_come now (option_and_then (λ w. w.since) (find (has_pair pair) ws))
-    any_due pair [] h = refl
-    any_due pair (v ∷ ws) h = by_bool (has_pair pair v)
-        (λ is. first (come v) is (none_due pair ws (subst (λ n. NoneTold n ws) (eqb-true v.pair pair is) h.0)) refl
-        ∙ sym (ap (λ b. has_come now (option_and_then (λ (w : Waiter P). w.since) (cond b (Some v) (find (has_pair pair) ws)))) is))
-        (λ not. by (come v) not (any_due pair ws h.1)
-        ∙ sym (ap (λ b. has_come now (option_and_then (λ (w : Waiter P). w.since) (cond b (Some v) (find (has_pair pair) ws)))) not))
-      where
-        first : (b : Bool) → has_pair pair v ≡ true → list_any (has_pair pair) (filter come ws) ≡ false → come v ≡ b
-            → list_any (has_pair pair) (cond (come v) (v ∷ filter come ws) (filter come ws)) ≡ come v
-        first true is none e =
-            ap (λ b. list_any (has_pair pair) (cond b (v ∷ filter come ws) (filter come ws))) e
-            ∙ ap (λ b. b || list_any (has_pair pair) (filter come ws)) is ∙ sym e
-        first false is none e =
-            ap (λ b. list_any (has_pair pair) (cond b (v ∷ filter come ws) (filter come ws))) e ∙ none ∙ sym e
-
-        by : (b : Bool) → has_pair pair v ≡ false
-            → list_any (has_pair pair) (filter come ws) ≡ has_come now (option_and_then (λ w. w.since) (find (has_pair pair) ws))
-            → list_any (has_pair pair) (cond b (v ∷ filter come ws) (filter come ws))
-            ≡ has_come now (option_and_then (λ w. w.since) (find (has_pair pair) ws))
-        by true not ih = ap (λ b. b || list_any (has_pair pair) (filter come ws)) not ∙ ih
-        by false not ih = ih

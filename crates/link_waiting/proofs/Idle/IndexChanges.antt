@@ -1,8 +1,9 @@
 -- The index of idle pairs after a change of the planned world.
-use Rattle.std.proofs.Common.{◌≡◌, ℕ, zero, suc, ◌<◌, map, get_or, arith, Bool, true, false, not, ◌&&◌, ◌||◌, cond}
-use Rattle.std.proofs.Common.{if◌then◌else◌, List, [], ◌∷◌, ◌++◌, length, Option, Some, None, refl, sym, ◌∙◌, ap, subst}
+use Rattle.std.proofs.Common.{◌≡◌, ℕ, Bool, true, false, not, ◌&&◌, ◌||◌, cond}
+use Rattle.std.proofs.Common.{if◌then◌else◌, List, [], ◌∷◌, ◌++◌, Option, Some, None, refl, sym, ◌∙◌, ap, subst}
 use Rattle.std.specs.Prelude.{option_map}
 use Rattle.std.specs.List.{find, filter, list_any}
+use mathlib.Core.Path.{fun_ext}
 use Rattle.std.specs.declared.cmp.Ordering.{Ordering}
 use Rattle.std.specs.Cmp.{IsTotalOrder}
 use Rattle.std.proofs.lemmas.Bool.{and_from, or_left, or_parts}
@@ -30,6 +31,14 @@ module _ {P : Type 0} (cmp : P → P → Ordering) where
   alike_from p q a b sends first last i =
       if sends i then None else option_map (λ (m : Message P). first_moment (last i) m.latency) (first i)
 
+  -- a pair of which a message is in flight is not idle
+  pub busy_none : (p : Planned P) (o r : P) → is_sending cmp p o r ≡ true → idle_from cmp p o r ≡ None
+  busy_none p o r busy =
+      ap
+      (λ (b : Bool). if b then None else option_map (λ (m : Message P). first_moment (p.last_arrival o r) m.latency)
+      (first_of cmp p.waiting o r))
+      busy
+
   -- no earlier arrival of one pair: the others are as they were
   pub raised_else : (p : Planned P) (o r : P) (at : ℕ) (a b : P) → same_two cmp o r a b ≡ false
       → idle_from cmp (record p { last_arrival = raised_at cmp p.last_arrival o r at }) a b ≡ idle_from cmp p a b
@@ -37,6 +46,17 @@ module _ {P : Type 0} (cmp : P → P → Ordering) where
       alike_from p (record p { last_arrival = raised_at cmp p.last_arrival o r at }) a b refl refl (rw apart refl)
 
   module _ (order : IsTotalOrder cmp) where
+    -- of a pair that is not idle nothing is told, so it changes nothing to tell nothing of it
+    pub link_none : (p : Planned P) (o r : P) (es : P → P → Option ℕ) → PairsAlike cmp p.last_arrival p.last_arrival
+        → IsIndexOf cmp p es → idle_from cmp p o r ≡ None → es ≡ with_link cmp es o r None
+    link_none p o r es alike index none = fun_ext (λ a. fun_ext (λ b. by_bool (same_two cmp o r a b)
+        (λ h. rw h
+        (index a b
+        ∙ sym (idle_respects cmp order p alike o r a b (first_of_both (same_peer cmp o a) _ h)
+        (second_of_both (same_peer cmp o a) _ h))
+        ∙ none))
+        (λ h. rw h refl)))
+
     -- ---- from one world to another
 
     -- where one pair alone may start from another moment on, the index in which that pair is changed is that of the new
@@ -141,24 +161,6 @@ module _ {P : Type 0} (cmp : P → P → Ordering) where
             rw (is, parts.0) (ih parts.1)
         by_test false is none ih = rw is (ap (λ c. u f.message || c) (ih none))
 
-    -- what left was in flight
-    pub left_in_flight : (spent : RatedFlight P → Bool) (fs : List (RatedFlight P))
-        → list_any u (rated_messages (filter spent fs)) ≡ true → list_any u (rated_messages fs) ≡ true
-    left_in_flight spent [] some = some
-    left_in_flight spent (f ∷ fs) some = by_test (spent f) some (left_in_flight spent fs)
-      where
-        by_test : (c : Bool) → list_any u (rated_messages (cond c (f ∷ filter spent fs) (filter spent fs))) ≡ true
-            → (list_any u (rated_messages (filter spent fs)) ≡ true → list_any u (rated_messages fs) ≡ true)
-            → (u f.message || list_any u (rated_messages fs)) ≡ true
-        by_test true some ih = either_true (u f.message) some ih
-          where
-            either_true : (c : Bool) → (c || list_any u (rated_messages (filter spent fs))) ≡ true
-                → (list_any u (rated_messages (filter spent fs)) ≡ true → list_any u (rated_messages fs) ≡ true)
-                → (c || list_any u (rated_messages fs)) ≡ true
-            either_true true h on = refl
-            either_true false h on = on h
-        by_test false some ih = rw (ih some) (or-true (u f.message))
-
 -- ---- the pairs of what left are at rest
 
 or_else : (c d : Bool) → c ≡ false → (d || c) ≡ d
@@ -175,8 +177,7 @@ any_more u (y ∷ xs) x = ap (λ c. u y || c) (any_more u xs x) ∙ sym (or_asso
 
 module _ {P : Type 0} (cmp : P → P → Ordering) (order : IsTotalOrder cmp) (q : Planned P)
     (alike : PairsAlike cmp q.last_arrival q.last_arrival) (old : P → P → Option ℕ) where
-  module _ (done : List (Message P)) (m : Message P) (es : P → P → Option ℕ) (so : AreAtRest cmp q done old es)
-      (busy : (a b : P) → is_of_pair cmp a b m ≡ true → old a b ≡ None) where
+  module _ (done : List (Message P)) (m : Message P) (es : P → P → Option ℕ) (so : AreAtRest cmp q done old es) where
     -- what the rest says of the pair of the message
     own : (a b : P) → is_of_pair cmp a b m ≡ true → idle_from cmp q a b ≡ idle_from cmp q m.origin m.recipient
     own a b h =
@@ -191,15 +192,7 @@ module _ {P : Type 0} (cmp : P → P → Ordering) (order : IsTotalOrder cmp) (q
     more_false a b h =
         any_more (is_of_pair cmp a b) done m ∙ or_else (is_of_pair cmp a b m) (list_any (is_of_pair cmp a b) done) h
 
-    -- where none of its pair waits
-    pub rests_none : idle_from cmp q m.origin m.recipient ≡ None → AreAtRest cmp q (done ++ m ∷ []) old es
-    rests_none none a b = by_bool (is_of_pair cmp a b m)
-        (λ h. rw (more_true a b h)
-        (so a b ∙ by_bool (list_any (is_of_pair cmp a b) done) (λ k. rw k refl)
-        (λ k. rw k (busy a b h ∙ sym (own a b h ∙ none)))))
-        (λ h. rw (more_false a b h) (so a b))
-
-    -- and where one does, from when on is told
+    -- from when on the next one may start is told
     pub rests_more : (new : P → P → Option ℕ)
         → new ≡ with_link cmp es m.origin m.recipient (idle_from cmp q m.origin m.recipient)
         → AreAtRest cmp q (done ++ m ∷ []) old new
@@ -217,13 +210,6 @@ module _ {P : Type 0} (cmp : P → P → Ordering) (order : IsTotalOrder cmp) (q
   rests_index p leavers new others index rests a b = rests a b ∙ by_bool (list_any (is_of_pair cmp a b) leavers)
       (λ h. rw h refl)
       (λ h. rw h (index a b ∙ sym (others a b h)))
-
--- what passes at a place passes somewhere
-pub any_at : {X Y : Type 0} (u : Y → Bool) (f : X → Y) (xs : List X) (at : ℕ) (x : X) → at < length xs
-    → x ≡ get_or xs at x → u (f x) ≡ true → list_any u (map f xs) ≡ true
-any_at u f [] at x lt is h = absurd (omega (arith, lt))
-any_at u f (y ∷ xs) zero x lt is h = or_left (u (f y)) (list_any u (map f xs)) (ap (λ z. u (f z)) (sym is) ∙ h)
-any_at u f (y ∷ xs) (suc at) x lt is h = rw (any_at u f xs at x (omega (arith, lt)) is h) (or-true (u (f y)))
 
 -- ---- the index of what is kept, after a change of one pair
 
@@ -309,18 +295,11 @@ module _ {P : Type 0} (cmp : P → P → Ordering) (order : IsTotalOrder cmp) wh
       let first = first_of_both (same_peer cmp m.origin a) _ h in
       let second = second_of_both (same_peer cmp m.origin a) _ h in
       sym (idle_respects cmp order q alike m.origin m.recipient a b first second)
-      ∙ busy_none q m.origin m.recipient busy ∙ sym (busy_none p m.origin m.recipient busy)
+      ∙ busy_none cmp q m.origin m.recipient busy ∙ sym (busy_none cmp p m.origin m.recipient busy)
       ∙ idle_respects cmp order p alike m.origin m.recipient a b first second)
       (λ h. ap (λ (w : Planned P). idle_from cmp w a b) same
       ∙ queued_else cmp order m.origin m.recipient a b h p m own))
       index
-    where
-      busy_none : (w : Planned P) (o r : P) → is_sending cmp w o r ≡ true → idle_from cmp w o r ≡ None
-      busy_none w o r h =
-          ap
-          (λ (c : Bool). if c then None else option_map
-          (λ (m : Message P). first_moment (w.last_arrival o r) m.latency) (first_of cmp w.waiting o r))
-          h
 
   -- a message of a pair of which none waits is in flight: no idle pair is another
   pub started_index : (pairs : List (Pair P)) (ms : List (Message P)) (sending after : List (RatedFlight P))
@@ -408,19 +387,3 @@ module _ {P : Type 0} (cmp : P → P → Ordering) (order : IsTotalOrder cmp) (p
       stays_index cmp order (of_pairs cmp pairs ms sending) (of_pairs cmp pairs ms after) es
       (λ a b. alike_from cmp (of_pairs cmp pairs ms sending) (of_pairs cmp pairs ms after) a b
       (ap (list_any (is_of_pair cmp a b)) same) refl refl)
-
-  module _ (spent : RatedFlight P → Bool) (sending : List (RatedFlight P)) (leavers : List (Message P))
-      (es : P → P → Option ℕ) (left : leavers ≡ rated_messages (filter spent sending))
-      (index : IsIndexOf cmp (of_pairs cmp pairs ms sending) es) where
-    -- the pairs of what left were not idle
-    pub left_unlisted : (a b : P) → list_any (is_of_pair cmp a b) leavers ≡ true → es a b ≡ None
-    left_unlisted a b some =
-        let p : Planned P = of_pairs cmp pairs ms sending in
-        let busy : is_sending cmp p a b ≡ true =
-        left_in_flight cmp (is_of_pair cmp a b) spent sending
-        (ap (list_any (is_of_pair cmp a b)) (sym left) ∙ some) in
-        index a b
-        ∙ ap
-        (λ (c : Bool). if c then None else option_map
-        (λ (m : Message P). first_moment (p.last_arrival a b) m.latency) (first_of cmp p.waiting a b))
-        busy

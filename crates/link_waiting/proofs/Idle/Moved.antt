@@ -1,5 +1,5 @@
--- The moment from which on a pair may start, once its last arrival is raised.
-use Rattle.std.proofs.Common.{◌≡◌, ℕ, true, ◌&&◌, cond, List, Option, Some, sym, ap, ◌∙◌}
+-- The moment from which on a pair at rest may start, as it is told from its last arrival.
+use Rattle.std.proofs.Common.{◌≡◌, ℕ, true, false, ◌&&◌, if◌then◌else◌, cond, List, Option, Some, None, sym, ap, ◌∙◌}
 use Rattle.std.specs.Prelude.{option_map}
 use Rattle.std.specs.declared.cmp.Ordering.{Ordering}
 use Rattle.std.specs.Cmp.{IsTotalOrder}
@@ -9,30 +9,39 @@ use Rattle.fair_rates.proofs.Sides.EqualSubjects.{same_peer_itself}
 use Rattle.link_simulation.specs.Simulation.World.{later_of}
 use Rattle.link_simulation.specs.Rule.Planned.{RatedFlight}
 use Rattle.link_simulation.specs.Simulation.Messages.{Message}
-use Rattle.link_pairs.specs.Pairs.Entries.{Pair, arrival_of, raised_at}
-use Rattle.link_waiting.specs.Idle.AtRest.{of_pairs}
+use Rattle.link_pairs.specs.Pairs.Entries.{Pair, first_of, arrival_of, raised_at}
+use Rattle.link_waiting.specs.Idle.AtRest.{of_pairs, is_sending}
 use Rattle.link_waiting.specs.Idle.FirstMoment.{first_moment}
 use Rattle.link_waiting.specs.Idle.Index.{idle_from}
 
-module _ {P : Type 0} (cmp : P → P → Ordering) (order : IsTotalOrder cmp) where
-  -- it is told from the last arrival before and the latency of the pair's first waiting message
-  pub moved_is : (pairs others : List (Pair P)) (ms : List (Message P)) (sending : List (RatedFlight P)) (o r : P)
-      (at : ℕ) (latency last : Option ℕ) (later : ℕ) {moved : Option ℕ}
+module _ {P : Type 0} (cmp : P → P → Ordering) where
+  -- where none of the pair is in flight, it is told by the latency of the first one that waits
+  pub rested_is : (pairs : List (Pair P)) (ms : List (Message P)) (sending : List (RatedFlight P)) (o r : P)
+      (last since : Option ℕ)
+      → is_sending cmp (of_pairs cmp pairs ms sending) o r ≡ false
+      → last ≡ arrival_of cmp pairs o r
+      → since ≡ option_map (λ m. first_moment last m.latency) (first_of cmp ms o r)
+      → since ≡ idle_from cmp (of_pairs cmp pairs ms sending) o r
+  rested_is pairs ms sending o r last since free last_is told =
+      told ∙ ap (λ (l : Option ℕ). option_map (λ (m : Message P). first_moment l m.latency) (first_of cmp ms o r)) last_is
+      ∙ sym
+      (ap
+      (λ b. if b then None else option_map (λ (m : Message P). first_moment (arrival_of cmp pairs o r) m.latency)
+      (first_of cmp ms o r))
+      free)
+
+  -- the last arrival, once it is raised
+  pub raised_arrival : IsTotalOrder cmp → (pairs others : List (Pair P)) (o r : P) (at : ℕ) (last : Option ℕ) (later : ℕ)
       → last ≡ arrival_of cmp pairs o r
       → arrival_of cmp others ≡ raised_at cmp (arrival_of cmp pairs) o r at
       → later ≡ later_of last at
-      → moved ≡ option_map (first_moment (Some later)) latency
-      → option_map (first_moment (arrival_of cmp others o r)) latency
-      ≡ idle_from cmp (of_pairs cmp others ms sending) o r
-      → moved ≡ idle_from cmp (of_pairs cmp others ms sending) o r
-  moved_is pairs others ms sending o r at latency last later last_is raised later_is told idle_is =
+      → Some later ≡ arrival_of cmp others o r
+  raised_arrival order pairs others o r at last later last_is raised later_is =
       let own : (same_peer cmp o o && same_peer cmp r r) ≡ true =
       and_from _ _ (same_peer_itself cmp order o) (same_peer_itself cmp order r) in
       let here : raised_at cmp (arrival_of cmp pairs) o r at o r ≡ Some (later_of (arrival_of cmp pairs o r) at) =
       ap
       (λ t. cond t (Some (later_of (arrival_of cmp pairs o r) at)) (arrival_of cmp pairs o r))
       own in
-      let arrival : Some later ≡ arrival_of cmp others o r =
       ap Some (later_is ∙ ap (λ l. later_of l at) last_is) ∙ sym here
-      ∙ sym (ap (λ (f : P → P → Option ℕ). f o r) raised) in
-      told ∙ ap (λ (l : Option ℕ). option_map (first_moment l) latency) arrival ∙ idle_is
+      ∙ sym (ap (λ (f : P → P → Option ℕ). f o r) raised)

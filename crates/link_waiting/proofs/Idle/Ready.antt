@@ -1,18 +1,18 @@
 -- The pairs whose first message may start: whether there is one, and their keys in order.
-use Rattle.std.proofs.Common.{◌≡◌, ℕ, zero, suc, ◌+◌, ◌≤◌, Bool, true, false, cond, ◌&&◌, ◌||◌, List, [], ◌∷◌, ◌++◌, map, refl}
-use Rattle.std.proofs.Common.{Option, Some, None, sym, ap, ap₂, ◌∙◌, subst, arith, not, zero-add}
+use Rattle.std.proofs.Common.{◌≡◌, ℕ, suc, ◌+◌, ◌≤◌, Bool, true, false, cond, ◌&&◌, ◌||◌, List, [], ◌∷◌, ◌++◌, length, map, refl}
+use Rattle.std.proofs.Common.{Option, Some, None, sym, ap, ap₂, ◌∙◌, subst, arith, zero-add}
 use Rattle.std.specs.Prelude.{slice_index_or, count_by}
-use Rattle.std.specs.List.{find, filter, list_any, AllZip, sum_by}
+use Rattle.std.specs.List.{find, list_any, AllZip, sum_by}
 use Rattle.std.specs.List.Sorted.{IsPermutation, IsSortedBy}
 use Rattle.std.specs.declared.cmp.Ordering.{Ordering}
 use Rattle.std.specs.declared.cmp.Ordering.TheVariants.{Less, Equal, Greater}
 use Rattle.std.specs.Ordering.{is_lt, is_eq, ordering_reverse}
 use Rattle.std.specs.Cmp.{IsTotalOrder}
-use Rattle.std.proofs.lemmas.Bool.{and_from, eqb-true}
+use Rattle.std.proofs.lemmas.Bool.{and_from}
 use Rattle.std.proofs.lemmas.List.Sums.{sum_by-cons}
-use Rattle.std.proofs.lemmas.List.Sorted.{list_any-IsPermutation, sum_by-IsPermutation}
+use Rattle.std.proofs.lemmas.List.Sorted.{sum_by-IsPermutation}
 use Rattle.fair_rates.proofs.Lists.Booleans.{by_bool, first_of_both}
-use Rattle.fair_rates.proofs.Lists.Each.{Each, each_of_all, each_map, each_filtered}
+use Rattle.fair_rates.proofs.Lists.Each.{Each, each_of_all}
 use Rattle.fair_rates.proofs.Lists.Sorted.{list_all-mono, is_lt_less}
 use Rattle.fair_rates.specs.Lists.Sorted.{are_ascending}
 use Rattle.fair_rates.specs.Sides.Subjects.{same_peer}
@@ -24,13 +24,13 @@ use Rattle.link_simulation.proofs.Simulation.Queue.{pair_like, pair_sym}
 use Rattle.link_pairs.specs.declared.pair.PeerPair.{PeerPair}
 use Rattle.link_pairs.specs.Pairs.Entries.{pair_cmp}
 use Rattle.link_pairs.proofs.Pairs.PairOrder.{pair_total, is_eq-then}
-use Rattle.link_waiting.specs.declared.slots.Slot.{Slot}
 use Rattle.link_waiting.specs.Idle.PairsOfMessages.{NamesPairOf}
-use Rattle.link_waiting.specs.Idle.Slots.{Waiter, waiter_of, live, since_in, has_pair, has_number, is_of, NoneTold, OnlyFirsts, AreNumbered}
-use Rattle.link_waiting.specs.Idle.Waits.{has_come, pair_of_key, since_of, told_of}
-use Rattle.link_waiting.proofs.Idle.Due.{comes, has_come_if, moment_at_is, held, come}
-use Rattle.link_waiting.proofs.Idle.Firsts.{told_is_first, any_due}
-use Rattle.link_waiting.proofs.Idle.Numbered.{AreAlike, find_alike, any_alike, of_number, find_false}
+use Rattle.link_waiting.specs.Idle.Slots.{Waiter, has_pair, has_number, is_of, OnlyFirsts, AreNumbered, AreTold}
+use Rattle.link_waiting.specs.Idle.Waits.{has_come, due_below, pair_of_key, since_of, told_of}
+use Rattle.link_waiting.proofs.Idle.Due.{comes, has_come_if, come, due_comes, each_due, many_due, any_many}
+use Rattle.link_waiting.proofs.Idle.Firsts.{told_is_first}
+use Rattle.link_waiting.proofs.Idle.Numbered.{AreAlike, find_alike, of_number, find_false}
+use Rattle.link_waiting.proofs.Idle.Moments.{told_beyond}
 use Rattle.link_waiting.proofs.Idle.Told.{said, since_is}
 use Rattle.link_waiting.proofs.Idle.Waiting.{one_of}
 
@@ -46,37 +46,6 @@ true_alike false false f g = refl
 -- ---- the least moment
 
 module _ {P : Type 0} (now : ℕ) where
-  any_at : (slots : List (Option (Slot P))) (at : ℕ) → has_come now (since_in (held now slots at)) ≡ true
-      → list_any (come now) (live slots) ≡ true
-  any_at [] at e = cc
-  any_at (None ∷ slots) zero e = cc
-  any_at (None ∷ slots) (suc at) e = any_at slots at e
-  any_at (Some slot ∷ slots) zero e = ap (λ b. b || list_any (come now) (live slots)) e
-  any_at (Some slot ∷ slots) (suc at) e = or_true (come now (waiter_of slot)) _ (any_at slots at e)
-
-  at_any : (slots : List (Option (Slot P))) → list_any (come now) (live slots) ≡ true
-      → (at : ℕ) × (has_come now (since_in (held now slots at)) ≡ true)
-  at_any [] e = cc
-  at_any (None ∷ slots) e = let found = at_any slots e in (suc found.0, found.1)
-  at_any (Some slot ∷ slots) e = by_bool (come now (waiter_of slot))
-      (λ is. (zero, is))
-      (λ not. let found = at_any slots (sym (ap (λ b. b || list_any (come now) (live slots)) not) ∙ e) in
-      (suc found.0, found.1))
-
-  pub least_comes : (slots : List (Option (Slot P))) (moments : List (Option ℕ)) → moments ≡ map since_in slots
-      → (least : Option ℕ) → IsLeast moments least → has_come now least ≡ list_any (come now) (live slots)
-  least_comes slots moments e least is =
-      true_alike (has_come now least) (list_any (come now) (live slots))
-      (λ h. let found = (is now).1 (has_come_if now least h) in
-      any_at slots found.0 (sym (ap (has_come now) (moment_at_is now slots moments e found.0))
-      ∙ comes now (slice_index_or moments found.0 None) found.1))
-      (λ h. let found = at_any slots h in
-      comes now least ((is now).0 (
-        found.0,
-        has_come_if now (slice_index_or moments found.0 None)
-            (ap (has_come now) (moment_at_is now slots moments e found.0) ∙ found.1),
-      )))
-
   -- the first one whose moment has come
   record IsSplit (ws : List (Waiter P)) : Type 0 where
     before : List (Waiter P)
@@ -111,6 +80,23 @@ module _ {P : Type 0} (now : ℕ) where
       (λ not. or_true (come now w) (list_any (come now) ws)
       (said_comes test ws (sym (ap (λ b. has_come now (said (cond b (Some w) (find test ws)))) not) ∙ e)))
 
+  pub least_comes : (ws : List (Waiter P)) (moments : List (Option ℕ)) → AreTold moments ws → OnlyFirsts ws
+      → (least : Option ℕ) → IsLeast moments least → has_come now least ≡ list_any (come now) ws
+  least_comes ws moments told firsts least is =
+      true_alike (has_come now least) (list_any (come now) ws)
+      (λ h. let found = (is now).1 (has_come_if now least h) in
+      said_comes (has_pair found.0) ws (due_comes now ws moments told found.0 found.1))
+      (λ h. let s = some_come ws h in
+      let w : Waiter P = s.waiter in
+      let some : w.since ≡ None → ⊥ = λ none. (let no : false ≡ true = sym (ap (has_come now) none) ∙ s.is in cc) in
+      let first : find (has_pair w.pair) ws ≡ Some w =
+      ap (find (has_pair w.pair)) s.split ∙ told_is_first s.before w s.after (subst OnlyFirsts s.split firsts) some in
+      comes now least ((is now).0 (
+        w.pair,
+        has_come_if now (slice_index_or moments w.pair None)
+            (ap (has_come now) (told w.pair ∙ ap said first) ∙ s.is),
+      )))
+
   -- ---- how many are due of a pair
 
   abbrev bit_of : (Waiter P → Bool) → Waiter P → ℕ
@@ -126,43 +112,6 @@ module _ {P : Type 0} (now : ℕ) where
   count_false [] = refl
   count_false (w ∷ ws) =
       sum_by-cons (bit_of (has_number None)) w ws ∙ zero-add (count_by (has_number None) ws) ∙ count_false ws
-
-  none_counted : (pair : ℕ) (ws : List (Waiter P)) → NoneTold pair ws → count_by (has_pair pair) (filter (come now) ws) ≡ 0
-  none_counted pair [] h = refl
-  none_counted pair (w ∷ ws) h = by_bool (has_pair pair w)
-      (λ is. ap (λ o. count_by (has_pair pair) (cond (has_come now o) (w ∷ filter (come now) ws) (filter (come now) ws))) (h.0 is)
-      ∙ none_counted pair ws h.1)
-      (λ not. by (come now w) not (none_counted pair ws h.1))
-    where
-      by : (b : Bool) → has_pair pair w ≡ false → count_by (has_pair pair) (filter (come now) ws) ≡ 0
-          → count_by (has_pair pair) (cond b (w ∷ filter (come now) ws) (filter (come now) ws)) ≡ 0
-      by true not ih =
-          sum_by-cons (bit_of (has_pair pair)) w (filter (come now) ws)
-          ∙ ap (λ b. cond b 1 0 + count_by (has_pair pair) (filter (come now) ws)) not
-          ∙ zero-add (count_by (has_pair pair) (filter (come now) ws)) ∙ ih
-      by false not ih = ih
-
-  few_counted : (pair : ℕ) (ws : List (Waiter P)) → OnlyFirsts ws → count_by (has_pair pair) (filter (come now) ws) ≤ 1
-  few_counted pair [] h = omega arith
-  few_counted pair (w ∷ ws) h = by_bool (has_pair pair w)
-      (λ is. first (come now w) is (none_counted pair ws (subst (λ n. NoneTold n ws) (eqb-true w.pair pair is) h.0)))
-      (λ not. by (come now w) not (few_counted pair ws h.1))
-    where
-      first : (b : Bool) → has_pair pair w ≡ true → count_by (has_pair pair) (filter (come now) ws) ≡ 0
-          → count_by (has_pair pair) (cond b (w ∷ filter (come now) ws) (filter (come now) ws)) ≤ 1
-      first true is none =
-          let one = sum_by-cons (bit_of (has_pair pair)) w (filter (come now) ws)
-          ∙ ap (λ b. cond b 1 0 + count_by (has_pair pair) (filter (come now) ws)) is in
-          omega (arith, one, none)
-      first false is none = omega (arith, none)
-
-      by : (b : Bool) → has_pair pair w ≡ false → count_by (has_pair pair) (filter (come now) ws) ≤ 1
-          → count_by (has_pair pair) (cond b (w ∷ filter (come now) ws) (filter (come now) ws)) ≤ 1
-      by true not ih =
-          let one = sum_by-cons (bit_of (has_pair pair)) w (filter (come now) ws)
-          ∙ ap (λ b. cond b 1 0 + count_by (has_pair pair) (filter (come now) ws)) not in
-          omega (arith, one, ih)
-      by false not ih = ih
 
 -- ---- keys in order
 
@@ -254,80 +203,69 @@ module _ {P : Type 0} (cmp : P → P → Ordering) (order : IsTotalOrder cmp) (p
 
   -- ---- the keys
 
-  abbrev due : List (Waiter P)
-  due = filter (come now) ws
+  module _ (moments : List (Option ℕ)) (told : AreTold moments ws) where
+    abbrev due : List (Waiter P)
+    due = due_below now (length moments) ws
 
-  -- whether a key names the pair
-  abbrev names : P → P → PeerPair P → Bool
-  names o r key = same_peer cmp o key.origin && same_peer cmp r key.recipient
+    -- whether a key names the pair
+    abbrev names : P → P → PeerPair P → Bool
+    names o r key = same_peer cmp o key.origin && same_peer cmp r key.recipient
 
-  abbrev Named : PeerPair P → Waiter P → Type 0
-  Named key w = NamesPairOf cmp key w.message
+    abbrev Named : PeerPair P → Waiter P → Type 0
+    Named key w = NamesPairOf cmp key w.message
 
-  one_named : (o r : P) (key : PeerPair P) (w : Waiter P) → Named key w → names o r key ≡ is_of cmp o r w
-  one_named o r key w h =
-      let k : Message P = one_of cmp order o r in
-      let n : Message P = one_of cmp order key.origin key.recipient in
-      let like = pair_like cmp order w.message n k (and_from _ _ h.origin h.recipient) in
-      pair_sym cmp order k n ∙ like ∙ pair_sym cmp order w.message k
+    one_named : (o r : P) (key : PeerPair P) (w : Waiter P) → Named key w → names o r key ≡ is_of cmp o r w
+    one_named o r key w h =
+        let k : Message P = one_of cmp order o r in
+        let n : Message P = one_of cmp order key.origin key.recipient in
+        let like = pair_like cmp order w.message n k (and_from _ _ h.origin h.recipient) in
+        pair_sym cmp order k n ∙ like ∙ pair_sym cmp order w.message k
 
-  any_named : (o r : P) (keys : List (PeerPair P)) (us : List (Waiter P)) → AllZip Named keys us
-      → list_any (names o r) keys ≡ list_any (is_of cmp o r) us
-  any_named o r [] [] z = refl
-  any_named o r [] (w ∷ us) z = absurd z
-  any_named o r (key ∷ keys) [] z = absurd z
-  any_named o r (key ∷ keys) (w ∷ us) z = ap₂ (λ a b. a || b) (one_named o r key w z.0) (any_named o r keys us z.1)
+    count_named : (o r : P) (keys : List (PeerPair P)) (us : List (Waiter P)) → AllZip Named keys us
+        → count_by (names o r) keys ≡ count_by (is_of cmp o r) us
+    count_named o r [] [] z = refl
+    count_named o r [] (w ∷ us) z = absurd z
+    count_named o r (key ∷ keys) [] z = absurd z
+    count_named o r (key ∷ keys) (w ∷ us) z =
+        sum_by-cons (λ k. cond (names o r k) 1 0) key keys
+        ∙ ap₂ (λ a b. a + b) (ap (λ b. cond b 1 0) (one_named o r key w z.0)) (count_named o r keys us z.1)
+        ∙ sym (sum_by-cons (λ w. cond (is_of cmp o r w) 1 0) w us)
 
-  count_named : (o r : P) (keys : List (PeerPair P)) (us : List (Waiter P)) → AllZip Named keys us
-      → count_by (names o r) keys ≡ count_by (is_of cmp o r) us
-  count_named o r [] [] z = refl
-  count_named o r [] (w ∷ us) z = absurd z
-  count_named o r (key ∷ keys) [] z = absurd z
-  count_named o r (key ∷ keys) (w ∷ us) z =
-      sum_by-cons (λ k. cond (names o r k) 1 0) key keys
-      ∙ ap₂ (λ a b. a + b) (ap (λ b. cond b 1 0) (one_named o r key w z.0)) (count_named o r keys us z.1)
-      ∙ sym (sum_by-cons (λ w. cond (is_of cmp o r w) 1 0) w us)
+    module _ (o r : P) where
+      abbrev number : Option ℕ
+      number = number_of_pair cmp pairs o r
 
-  module _ (o r : P) where
-    abbrev number : Option ℕ
-    number = number_of_pair cmp pairs o r
+      abbrev is_due : Bool
+      is_due = has_come now (since_of cmp (map told_of ws) o r)
 
-    alike : AreAlike (is_of cmp o r) (has_number number) ws
-    alike = of_number cmp order pairs o r number refl ws numbered
+      alike : AreAlike (is_of cmp o r) (has_number number) ws
+      alike = of_number cmp order pairs o r number refl ws numbered
 
-    due_alike : AreAlike (is_of cmp o r) (has_number number) due
-    due_alike = each_map (λ w. (is_of cmp o r w ≡ has_number number w) × (come now w ≡ true))
-        (λ w. is_of cmp o r w ≡ has_number number w) due (λ w h. h.0)
-        (each_filtered (λ w. is_of cmp o r w ≡ has_number number w) (come now) ws alike)
+      due_alike : AreAlike (is_of cmp o r) (has_number number) due
+      due_alike = each_due now ws (λ w. is_of cmp o r w ≡ has_number number w) alike (length moments)
 
-    any_of : list_any (is_of cmp o r) due ≡ has_come now (since_of cmp (map told_of ws) o r)
-    any_of = any_alike (is_of cmp o r) (has_number number) due due_alike ∙ by number
-        ∙ sym (ap (has_come now) (since_is cmp ws o r ∙ ap said (find_alike (is_of cmp o r) (has_number number) ws alike)))
-      where
-        none : (us : List (Waiter P)) → list_any (has_number None) us ≡ false
-        none [] = refl
-        none (u ∷ us) = none us
+      count_due : count_by (is_of cmp o r) due ≡ cond is_due 1 0
+      count_due = count_alike now (is_of cmp o r) (has_number number) due due_alike ∙ by number
+          ∙ sym (ap (λ o. cond (has_come now o) 1 0)
+          (since_is cmp ws o r ∙ ap said (find_alike (is_of cmp o r) (has_number number) ws alike)))
+        where
+          by : (number : Option ℕ) → count_by (has_number number) due ≡ cond (has_come now (said (find (has_number number) ws))) 1 0
+          by None = count_false now due ∙ sym (ap (λ o. cond (has_come now (said o)) 1 0) (find_false ws))
+          by (Some n) = many_due now ws n (length moments) (told_beyond moments moments ws told n)
 
-        by : (number : Option ℕ) → list_any (has_number number) due ≡ has_come now (said (find (has_number number) ws))
-        by None = none due ∙ sym (ap (λ o. has_come now (said o)) (find_false ws))
-        by (Some n) = any_due now n ws firsts
+      module _ (keys all : List (PeerPair P)) (same : IsPermutation keys all) (z : AllZip Named keys due) where
+        keys_counted : count_by (names o r) all ≡ cond is_due 1 0
+        keys_counted =
+            sum_by-IsPermutation (λ key. cond (names o r key) 1 0) keys all same ∙ count_named o r keys due z ∙ count_due
 
-  -- each pair whose first message may start has a key, and no other
-  pub keys_named : (keys all : List (PeerPair P)) → IsPermutation keys all → AllZip Named keys due → (o r : P)
-      → list_any (names o r) all ≡ has_come now (since_of cmp (map told_of ws) o r)
-  keys_named keys all same z o r =
-      sym (list_any-IsPermutation (names o r) keys all same) ∙ any_named o r keys due z ∙ any_of o r
+        -- each pair whose first message may start has a key, and no other
+        pub keys_named : list_any (names o r) all ≡ has_come now (since_of cmp (map told_of ws) o r)
+        keys_named = any_many (names o r) all is_due keys_counted
 
-  -- and but one
-  pub keys_few : (keys all : List (PeerPair P)) → IsPermutation keys all → AllZip Named keys due → (o r : P)
-      → count_by (names o r) all ≤ 1
-  keys_few keys all same z o r =
-      let same_count : count_by (names o r) all ≡ count_by (has_number (number o r)) due =
-      sum_by-IsPermutation (λ key. cond (names o r key) 1 0) keys all same ∙ count_named o r keys due z
-      ∙ count_alike now (is_of cmp o r) (has_number (number o r)) due (due_alike o r) in
-      let few = by (number o r) in
-      omega (arith, same_count, few)
-    where
-      by : (number : Option ℕ) → count_by (has_number number) due ≤ 1
-      by None = let none = count_false now due in omega (arith, none)
-      by (Some n) = few_counted now n ws firsts
+        -- and but one
+        pub keys_few : count_by (names o r) all ≤ 1
+        keys_few = subst (λ n. n ≤ 1) (sym keys_counted) (by is_due)
+          where
+            by : (b : Bool) → cond b 1 0 ≤ 1
+            by true = omega arith
+            by false = omega arith

@@ -1,6 +1,6 @@
 -- The slots of messages that wait: what is in them, and the first slot of a pair.
 use Rattle.std.proofs.Common.{◌≡◌, ℕ, zero, suc, ◌+◌, ◌<◌, Bool, true, false, cond, List, [], ◌∷◌, ◌++◌, length, map, refl}
-use Rattle.std.proofs.Common.{Option, Some, None, is_some, zero-add, sym, ap, ◌∙◌, arith, slice_get, slice_set, IfSome, IfNone}
+use Rattle.std.proofs.Common.{Option, Some, None, is_some, zero-add, sym, ap, ◌∙◌, arith, slice_get, slice_set, subst, IfSome, IfNone}
 use Rattle.std.specs.Prelude.{is_none, option_map, slice_index_or}
 use Rattle.std.specs.List.{filter, find, count_by}
 use Rattle.std.specs.Option.{option_or}
@@ -12,10 +12,11 @@ use Rattle.std.proofs.Math.ListN.{get_or-map}
 use Rattle.std.proofs.lemmas.List.Sums.{sum_by-cons, sum_by-append, sum_by-set, count_by-le-length}
 use Rattle.std.proofs.lemmas.Option.{slice_get_within, get_or_from_slice_get}
 use Rattle.fair_rates.proofs.Lists.Booleans.{by_bool}
+use Rattle.fair_rates.proofs.Lists.Each.{each_find, each_of_all}
 use Rattle.fair_rates.specs.Lists.WithoutFirst.{without_first}
 use Rattle.chains.specs.Places.{IsFirst}
 use Rattle.link_waiting.specs.declared.slots.Slot.{Slot}
-use Rattle.link_waiting.specs.Idle.Slots.{Waiter, waiter_of, live, pair_in, has_pair, with_since, IsFirstSlot}
+use Rattle.link_waiting.specs.Idle.Slots.{Waiter, waiter_of, live, pair_in, has_pair, with_since, HaveRoom, IsFirstSlot}
 
 pub some_same : (a b : ℕ) → Some a ≡ Some b → a ≡ b
 some_same a b e = cc
@@ -162,6 +163,13 @@ module _ {P : Type 0} where
       set_there one = ap (λ l. slice_set l at one) first.split
           ∙ set_seam first.before (Some first.slot) one first.after at first.is_at
 
+      -- the number of its pair is less than what all are less than
+      pub room_of : (room : ℕ) → HaveRoom room (live slots) → pair < room
+      room_of room h =
+          subst (λ n. n < room) (eqb-true first.slot.pair pair first.same)
+          (each_find (λ w. w.pair < room) (has_pair pair) (live slots) (waiter_of first.slot)
+          (each_of_all (λ w. w.pair < room) (live slots) h) found)
+
       -- it is empty
       pub live_taken : live (slice_set slots at None) ≡ without_first (has_pair pair) (live slots)
       live_taken = ap live (set_there None) ∙ live_append first.before (None ∷ first.after)
@@ -174,6 +182,14 @@ module _ {P : Type 0} where
           → live (slice_set slots at (Some slot)) ≡ with_since (has_pair pair) moment (live slots)
       live_told moment slot e = ap live (set_there (Some slot)) ∙ live_append first.before (Some slot ∷ first.after)
           ∙ ap (λ w. live first.before ++ w ∷ live first.after) e
+          ∙ sym (ap (with_since (has_pair pair) moment) live_split
+          ∙ told_seam (has_pair pair) moment (live first.before) (waiter_of first.slot) (live first.after) first.others
+          first.same)
+
+      -- the same moment is told of it
+      pub told_still : (moment : Option ℕ) → first.slot.since ≡ moment → live slots ≡ with_since (has_pair pair) moment (live slots)
+      told_still moment e = live_split
+          ∙ ap (λ since. live first.before ++ record (waiter_of first.slot) { since = since } ∷ live first.after) e
           ∙ sym (ap (with_since (has_pair pair) moment) live_split
           ∙ told_seam (has_pair pair) moment (live first.before) (waiter_of first.slot) (live first.after) first.others
           first.same)

@@ -25,7 +25,7 @@ module _ {P : Type 0} where
   said = option_and_then (λ w. w.since)
 
   -- another moment is told of the first one of a pair
-  after_told : (pair : ℕ) (moment : Option ℕ) (ws : List (Waiter P)) → (find (has_pair pair) ws ≡ None → moment ≡ None)
+  pub after_told : (pair : ℕ) (moment : Option ℕ) (ws : List (Waiter P)) → (find (has_pair pair) ws ≡ None → moment ≡ None)
       → said (find (has_pair pair) (with_since (has_pair pair) moment ws)) ≡ moment
   after_told pair moment [] h = sym (h refl)
   after_told pair moment (v ∷ ws) h = by (has_pair pair v) refl (after_told pair moment ws)
@@ -44,10 +44,10 @@ module _ {P : Type 0} where
 
   module _ (test other : Waiter P → Bool) where
     -- no one passes both tests
-    abbrev AreApart : List (Waiter P) → Type 0
+    abbrev pub AreApart : List (Waiter P) → Type 0
     AreApart = Each (λ w. test w ≡ true → other w ≡ false)
 
-    find_past : (ws : List (Waiter P)) → AreApart ws → find other (without_first test ws) ≡ find other ws
+    pub find_past : (ws : List (Waiter P)) → AreApart ws → find other (without_first test ws) ≡ find other ws
     find_past [] h = refl
     find_past (w ∷ ws) h = by_bool (test w)
         (λ is. ap (λ b. find other (cond b ws (w ∷ without_first test ws))) is
@@ -55,7 +55,7 @@ module _ {P : Type 0} where
         (λ not. ap (λ b. find other (cond b ws (w ∷ without_first test ws))) not
         ∙ ap (λ o. cond (other w) (Some w) o) (find_past ws h.1))
 
-    said_past : (moment : Option ℕ) (ws : List (Waiter P)) → AreApart ws
+    pub said_past : (moment : Option ℕ) (ws : List (Waiter P)) → AreApart ws
         → ((w : Waiter P) → other (record w { since = moment }) ≡ other w)
         → said (find other (with_since test moment ws)) ≡ said (find other ws)
     said_past moment [] h same = refl

@@ -1,7 +1,8 @@
 -- The messages that wait, each in a slot, in order of `enqueue`; a slot is empty once its message has left.
-use Rattle.std.specs.Prelude.{⊤, ◌≡◌, ℕ, ◌≤◌, ◌==◌, Bool, true, false, ◌&&◌, cond}
-use Rattle.std.specs.Prelude.{List, [], ◌∷◌, ◌++◌, length, map, All, Option, Some, None, is_none, option_map}
+use Rattle.std.specs.Prelude.{⊤, ◌≡◌, ℕ, ◌<◌, ◌==◌, Bool, true, false, ◌&&◌, cond}
+use Rattle.std.specs.Prelude.{List, [], ◌∷◌, ◌++◌, length, map, All, Option, Some, None, is_none, option_map, slice_index_or}
 use Rattle.std.specs.List.{filter_map, find, count_by}
+use Rattle.std.specs.Option.{option_and_then}
 use Rattle.std.specs.declared.cmp.Ordering.{Ordering}
 use Rattle.fair_rates.specs.Sides.Subjects.{same_peer}
 use Rattle.link_simulation.specs.Simulation.Messages.{Message}
@@ -26,10 +27,6 @@ module _ {P : Type 0} where
 
   abbrev pub pair_in : Option (Slot P) → Option ℕ
   pair_in = option_map (λ slot. slot.pair)
-
-  abbrev pub since_in : Option (Slot P) → Option ℕ
-  since_in None = None
-  since_in (Some slot) = slot.since
 
   -- whether it is of the pair with that number
   abbrev pub has_pair : ℕ → Waiter P → Bool
@@ -56,6 +53,18 @@ module _ {P : Type 0} where
   with_since test moment (waiter ∷ more) =
       cond (test waiter) (record waiter { since = moment } ∷ more) (waiter ∷ with_since test moment more)
 
+  -- the moment that is told of the first one of a pair, if one is
+  abbrev pub told_first : ℕ → List (Waiter P) → Option ℕ
+  told_first pair waiters = option_and_then (λ waiter. waiter.since) (find (has_pair pair) waiters)
+
+  -- the moments are those, by the number of the pair
+  abbrev pub AreTold : List (Option ℕ) → List (Waiter P) → Type 0
+  AreTold moments waiters = (pair : ℕ) → slice_index_or moments pair None ≡ told_first pair waiters
+
+  -- the numbers of all pairs are less than that
+  abbrev pub HaveRoom : ℕ → List (Waiter P) → Type 0
+  HaveRoom room = All (λ waiter. waiter.pair < room)
+
   -- of none of that pair a moment is told
   abbrev pub NoneTold : ℕ → List (Waiter P) → Type 0
   NoneTold pair [] = ⊤
@@ -69,14 +78,15 @@ module _ {P : Type 0} where
 -- what is kept beside the slots fits them
 pub record Stands {P : Type 0} (slots : Slots P) : Type 0 where
   pub chains : slots.chains.now.stands ≡ map pair_in slots.slots.items
-  pub moments : slots.moments ≡ map since_in slots.slots.items
+  pub moments : AreTold slots.moments (live slots.slots.items)
+  pub room : HaveRoom (length slots.moments) (live slots.slots.items)
   pub gaps : slots.gaps ≡ count_by is_none slots.slots.items
   pub firsts : OnlyFirsts (live slots.slots.items)
 
 -- and it can be made to fit those at the last mark with no memory
 pub record Marked {P : Type 0} (slots : Slots P) : Type 0 where
   pub chains : slots.chains.before.stands ≡ map pair_in slots.slots.before
-  pub room : length slots.slots.before ≤ length slots.moments
+  pub room : HaveRoom (length slots.moments) (live slots.slots.before)
   pub firsts : OnlyFirsts (live slots.slots.before)
 
 module _ {P : Type 0} (cmp : P → P → Ordering) where

@@ -1,5 +1,5 @@
 -- The messages that wait, and from when on the first of each pair may start.
-use Rattle.std.specs.Prelude.{ℕ, Bool, false, ◌&&◌, nat_le, cond, List, [], map, Option, Some, None}
+use Rattle.std.specs.Prelude.{ℕ, zero, suc, Bool, false, ◌&&◌, nat_le, cond, List, [], ◌∷◌, ◌++◌, map, Option, Some, None}
 use Rattle.std.specs.List.{find, fold}
 use Rattle.std.specs.Option.{option_and_then}
 use Rattle.std.specs.declared.cmp.Ordering.{Ordering}
@@ -8,7 +8,7 @@ use Rattle.link_simulation.specs.Simulation.Messages.{Message}
 use Rattle.link_simulation.specs.Rule.Planned.{queued}
 use Rattle.link_pairs.specs.declared.pair.PeerPair.{PeerPair}
 use Rattle.link_waiting.specs.declared.slots.Slots.{Slots}
-use Rattle.link_waiting.specs.Idle.Slots.{Waiter, live}
+use Rattle.link_waiting.specs.Idle.Slots.{Waiter, live, has_pair}
 
 -- of a message that waits, the moment from which on it may start, if one was told
 pub record Told (P : Type 0) : Type 0 where
@@ -35,6 +35,16 @@ none_waits = record { messages = []; told = [] }
 abbrev pub has_come : ℕ → Option ℕ → Bool
 has_come time None = false
 has_come time (Some moment) = nat_le moment time
+
+-- those of the first one of each pair of which a moment was told that has come by that time, the pairs by their numbers
+-- up to one
+abbrev pub due_one : {P : Type 0} → ℕ → Option (Waiter P) → List (Waiter P)
+due_one time None = []
+due_one time (Some waiter) = cond (has_come time waiter.since) (waiter ∷ []) []
+
+abbrev pub due_below : {P : Type 0} → ℕ → ℕ → List (Waiter P) → List (Waiter P)
+due_below time zero waiters = []
+due_below time (suc pair) waiters = due_below time pair waiters ++ due_one time (find (has_pair pair) waiters)
 
 -- the ordered pair that a key names
 abbrev pub pair_of_key : {P : Type 0} → PeerPair P → P × P

@@ -6,21 +6,8 @@ use Rattle.link_pairs.specs.Pairs.CapsOf.{caps_of}
 use Rattle.link_pairs.proofs.Pairs.LookedUp.{arrivals_looked_up}
 use Rattle.link_waiting.specs.Idle.Waits.{since_of}
 use Rattle.link_events.proofs.Steps.OneEach.{one_if_so}
-use Rattle.link_events.proofs.Steps.Landing.{done_unlisted, index_after}
+use Rattle.link_events.proofs.Steps.Landing.{index_after}
 use Rattle.link_events.proofs.leave.leave.Goals as goal
-
-pub rest_all-requires : goal.rest_all-requires
-rest_all-requires g c =
-    let cmp = g.P.Ord.cmp in
-    let old = c.args.flights.now in
-    record {
-      busy =
-          done_unlisted cmp g.met.P.Ord.total c.args.now c.args.pairs.now.entries c.args.waiting.now.messages
-          (is_spent cmp (caps_of cmp c.args.peers.now.entries c.args.pairs.now.entries)) (in_flight old)
-          (in_flight c.part.new.flights) (messages c.in_ok-done.done.items) (since_of cmp c.args.waiting.now.told)
-          (one_if_so cmp (rated_messages (in_flight old)) c.requires.one_each) c.requires.indexed
-          c.in_ok-done.ensures.parted.left c.in_ok-done.ensures.parted.stays;
-    }
 
 pub returns-clause-indexed : goal.returns-clause-indexed
 returns-clause-indexed g c =

@@ -1,5 +1,6 @@
-use Rattle.std.proofs.Common.{◌≡◌, ◌+◌, ◌<◌, true, List, [], ◌∷◌, ◌++◌, length, None, take}
-use Rattle.std.proofs.Common.{sym, ap, ◌∙◌, refl, subst, arith, rules}
+use Rattle.std.proofs.Common.{◌≡◌, ◌+◌, ◌<◌, List, [], ◌∷◌, ◌++◌, length, take}
+use Rattle.std.proofs.Common.{sym, ap, ◌∙◌, refl, subst, arith}
+use Rattle.std.specs.Prelude.{option_map}
 use Rattle.std.specs.declared.rc.Rc.{Rc}
 use Rattle.std.specs.declared.alloc.Global.{Global}
 use Rattle.std.proofs.lemmas.List.{map-append, take_more}
@@ -7,20 +8,25 @@ use Rattle.link_simulation.specs.Simulation.Messages.{Message, with_link}
 use Rattle.link_simulation.specs.Rule.Planned.{Planned}
 use Rattle.link_pairs.specs.declared.message.Message as code
 use Rattle.link_waiting.specs.Idle.AtRest.{of_pairs}
-use Rattle.link_waiting.specs.Idle.Index.{is_of_pair, idle_from, AreAtRest}
+use Rattle.link_waiting.specs.Idle.FirstMoment.{first_moment}
+use Rattle.link_waiting.specs.Idle.Index.{idle_from, AreAtRest}
 use Rattle.link_waiting.specs.Idle.Waits.{since_of}
+use Rattle.link_pairs.specs.Pairs.Entries.{first_of}
 use Rattle.link_pairs.specs.Pairs.Messages.{message_of, messages}
 use Rattle.link_pairs.proofs.Pairs.LookedUp.{arrivals_looked_up}
-use Rattle.link_waiting.proofs.Idle.IndexChanges.{any_at, rests_more, rests_none}
+use Rattle.link_waiting.proofs.Idle.IndexChanges.{rests_more}
+use Rattle.link_waiting.proofs.Idle.Moved.{rested_is}
 use Rattle.link_events.proofs.Steps.Landing.{since_taken, since_taken_first}
 use Rattle.link_events.proofs.readiness.rest_all.Goals as goal
-use Rattle.link_events.proofs.readiness.rest_all.Goals.{then-is_some+in_ok-set_since, else-is_some, then-at-eq0, else-at-eq0}
+use Rattle.link_events.proofs.readiness.rest_all.Goals.{then-at-eq0, else-at-eq0}
 
 pub loop-at-preserved : goal.loop-at-preserved
 loop-at-preserved g c =
     let cmp = g.P.Ord.cmp in
-    let q : Planned g.row.P.Denot = of_pairs cmp c.args.pairs.now.entries c.args.waiting.now.messages [] in
-    let alike = arrivals_looked_up cmp g.met.P.Ord.total c.args.pairs.now.entries in
+    let known = c.args.pairs.now.entries in
+    let waits = c.args.waiting.now.messages in
+    let q : Planned g.row.P.Denot = of_pairs cmp known waits [] in
+    let alike = arrivals_looked_up cmp g.met.P.Ord.total known in
     let old = since_of cmp c.args.waiting.now.told in
     let done = c.args.done.now.items in
     let at = c.loop-at.at in
@@ -33,38 +39,21 @@ loop-at-preserved g c =
     ∙ ap (λ (x : Rc (code.Message g.row.P.Denot) Global). take at done ++ x ∷ []) (sym c.index.ensures))
     ∙ map-append (λ x. message_of x.value) (take at done) (c.index.result.now ∷ [])
     ∙ ap (λ x. messages (take at done) ++ x ∷ []) there in
-    let busy : (a b : g.row.P.Denot) → is_of_pair cmp a b m ≡ true → old a b ≡ None =
-    λ a b h.
-    c.requires.busy a b
-    (any_at (is_of_pair cmp a b) (λ x. message_of x.value) done at c.index.result.now lt c.index.ensures
-    (ap (is_of_pair cmp a b) there ∙ h)) in
-    let since_is : c.idle_from-since.result ≡ idle_from cmp q m.origin m.recipient =
-    c.idle_from-since.ensures [] refl
-    ∙ ap (λ ms. idle_from cmp (of_pairs cmp c.args.pairs.now.entries ms []) m.origin m.recipient) c.loop-at.invariant.same in
+    let since_is : c.in_ok-since.since ≡ idle_from cmp q m.origin m.recipient =
+    rested_is cmp known waits [] m.origin m.recipient c.last_arrival-last.result c.in_ok-since.since refl
+    c.last_arrival-last.ensures
+    (c.in_ok-since.ensures.answer
+    ∙ ap (λ (ms : List (Message g.row.P.Denot)). option_map
+    (λ (n : Message g.row.P.Denot). first_moment c.last_arrival-last.result n.latency) (first_of cmp ms m.origin m.recipient))
+    c.loop-at.invariant.same) in
     let here = since_of cmp c.loop-at.waiting.told in
     record {
-      same = elim c.if-is_some.branch [
-        | then-is_some+in_ok-set_since w ↦ ap (λ x. x.messages) w.waiting-is ∙ w.in_ok-set_since.ensures.messages ∙ c.loop-at.invariant.same
-        | else-is_some w ↦ ap (λ x. x.messages) w.waiting-is ∙ c.loop-at.invariant.same
-      ];
-      before = elim c.if-is_some.branch [
-        | then-is_some+in_ok-set_since w ↦ ap (λ x. x.before) w.waiting-is ∙ w.in_ok-set_since.ensures.before ∙ c.loop-at.invariant.before
-        | else-is_some w ↦ ap (λ x. x.before) w.waiting-is ∙ c.loop-at.invariant.before
-      ];
-      rest = elim c.if-is_some.branch [
-        | then-is_some+in_ok-set_since w ↦
-            subst (λ x. AreAtRest cmp q (messages (take (at + 1) done)) old (since_of cmp x.told)) (sym w.waiting-is)
-            (subst (λ (ms : List (Message g.row.P.Denot)). AreAtRest cmp q ms old (since_of cmp w.set_since.new.self.told)) (sym more)
-            (rests_more cmp g.met.P.Ord.total q alike old (messages (take at done)) m here
-            c.loop-at.invariant.rest busy (since_of cmp w.set_since.new.self.told)
-            (w.in_ok-set_since.ensures.since ∙ ap (with_link cmp here m.origin m.recipient) since_is)))
-        | else-is_some w ↦
-            let none : c.idle_from-since.result ≡ None = search rules in
-            subst (λ x. AreAtRest cmp q (messages (take (at + 1) done)) old (since_of cmp x.told)) (sym w.waiting-is)
-            (subst (λ (ms : List (Message g.row.P.Denot)). AreAtRest cmp q ms old here) (sym more)
-            (rests_none cmp g.met.P.Ord.total q alike old (messages (take at done)) m here
-            c.loop-at.invariant.rest busy (sym since_is ∙ none)))
-      ];
+      same = c.in_ok-since.ensures.messages ∙ c.loop-at.invariant.same;
+      before = c.in_ok-since.ensures.before ∙ c.loop-at.invariant.before;
+      rest = subst (λ (ms : List (Message g.row.P.Denot)). AreAtRest cmp q ms old (since_of cmp c.rest.new.self.told)) (sym more)
+          (rests_more cmp g.met.P.Ord.total q alike old (messages (take at done)) m here c.loop-at.invariant.rest
+          (since_of cmp c.rest.new.self.told)
+          (c.in_ok-since.ensures.since ∙ ap (with_link cmp here m.origin m.recipient) since_is));
       first = elim c.if-at-eq0.branch [
         | then-at-eq0 w ↦
             w.first-is ∙ since_is

@@ -1,10 +1,9 @@
-use Rattle.std.proofs.Common.{rules, ◌≡◌, map, List, Option, refl, sym, ap, ◌∙◌}
+use Rattle.std.proofs.Common.{rules, ◌≡◌, refl, sym, ap, ◌∙◌}
 use Rattle.std.specs.List.{filter}
 use Rattle.std.specs.Option.{is_some}
 use Rattle.std.proofs.lemmas.Fn.{filter_same}
 use Rattle.chains.specs.Chains.{Rows}
-use Rattle.link_waiting.specs.declared.slots.Slot.{Slot}
-use Rattle.link_waiting.specs.Idle.Slots.{live, since_in}
+use Rattle.link_waiting.specs.Idle.Slots.{live}
 use Rattle.link_waiting.proofs.Idle.Slots.{live_whole}
 use Rattle.link_waiting.proofs.Idle.Stands.{stands_closed, marked_now}
 use Rattle.link_waiting.proofs.slots.Slots.commit.Given as given
@@ -25,7 +24,7 @@ pub returns-then-has_many_gaps-clause-stands : goal.returns-then-has_many_gaps-c
 returns-then-has_many_gaps-clause-stands g c =
     stands_closed c.args.self.now _ c.requires (closed_up g c)
     (ap (λ (rows : Rows). rows.stands) c.close_gaps.ensures.now)
-    (c.restore.ensures ∙ ap (λ (slots : List (Option (Slot g.row.P.Denot))). map since_in slots) c.as_slice.ensures) refl
+    refl refl
 
 pub returns-then-has_many_gaps-clause-marked : goal.returns-then-has_many_gaps-clause-marked
 returns-then-has_many_gaps-clause-marked g c =

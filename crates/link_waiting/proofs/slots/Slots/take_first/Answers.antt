@@ -6,7 +6,7 @@ use Rattle.chains.specs.Chains.{Rows}
 use Rattle.link_waiting.specs.Idle.Slots.{Waiter, live}
 use Rattle.link_waiting.specs.declared.slots.Slot.{Slot}
 use Rattle.link_waiting.proofs.Idle.Slots.{found, held_there, live_taken, without_missing}
-use Rattle.link_waiting.proofs.Idle.Stands.{stands_taken}
+use Rattle.link_waiting.proofs.Idle.Stands.{stands_taken, pair_low}
 use Rattle.link_waiting.specs.Idle.Slots.{has_pair}
 use Rattle.link_waiting.proofs.slots.Slots.take_first.Goals as goal
 
@@ -15,6 +15,9 @@ same a b e = cc
 
 pub returns-in_default-clause-now : goal.returns-in_default-clause-now
 returns-in_default-clause-now g c = sym (without_missing (has_pair c.args.pair) _ c.in_default.ensures.none)
+
+pub set-requires-2 : goal.set-requires-2
+set-requires-2 g c = pair_low c.args.self.now c.args.self.now c.requires.stands c.args.pair c.in-Some.at c.in-Some.ensures.some
 
 pub returns-clause-taken : goal.returns-clause-taken
 returns-clause-taken g c =

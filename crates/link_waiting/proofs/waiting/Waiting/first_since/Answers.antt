@@ -12,7 +12,7 @@ returns g c = λ t.
     let ws = live slots.slots.items in
     let kept = c.self.invariant in
     let seen = told_are g.P.Ord.cmp inside.given_up slots c.args.self.now c.self.view_is c.if-self.false in
-    let least = least_comes t slots.slots.items slots.moments kept.stands.moments c.least.result c.least.ensures in (
+    let least = least_comes t ws slots.moments kept.stands.moments kept.stands.firsts c.least.result c.least.ensures in (
       λ e. let found = pair_comes g.P.Ord.cmp g.met.P.Ord.total inside.pairs t ws kept.now kept.stands.firsts (sym least ∙ e) in (
         found.0,
         found.1,
