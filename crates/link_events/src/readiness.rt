@@ -1,12 +1,8 @@
 //! Ordered pairs of peers, and from when on their next messages may start.
-ghost use Rattle.std.specs.Prelude.{◌≡◌, true, List, [], None, option_map, IfOk, IfErr, OnOk};
-ghost use Rattle.std.specs.List.{list_any};
-ghost use Rattle.link_waiting.specs.Idle.Index.{is_of_pair, AreAtRest, idle_from as idle_since};
-ghost use Rattle.link_waiting.specs.Idle.FirstMoment.{first_moment};
+ghost use Rattle.std.specs.Prelude.{◌≡◌, [], IfOk, IfErr, OnOk};
+ghost use Rattle.link_waiting.specs.Idle.Index.{AreAtRest};
 ghost use Rattle.link_waiting.specs.Idle.Waits.{since_of};
-ghost use Rattle.link_waiting.specs.Idle.AtRest.{of_pairs, is_sending};
-ghost use Rattle.link_simulation.specs.Rule.Planned.{RatedFlight};
-ghost use Rattle.link_pairs.specs.Pairs.Entries.{Pair, arrival_of};
+ghost use Rattle.link_waiting.specs.Idle.AtRest.{of_pairs};
 ghost use Rattle.link_pairs.specs.Pairs.Messages.{messages};
 ghost use Rattle.link_events.specs.Steps.Landing.{since_of_first};
 

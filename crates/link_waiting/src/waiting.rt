@@ -1,5 +1,5 @@
 //! The messages that wait, and from when on the first of each idle pair may start.
-ghost use Rattle.std.specs.Prelude.{◌≡◌, ◌↔◌, ◌&&◌, ◌++◌, ◌∷◌, ℕ, [], true, None, is_none, length};
+ghost use Rattle.std.specs.Prelude.{◌≡◌, ◌↔◌, ◌&&◌, ◌++◌, ◌∷◌, ℕ, [], true, None, length};
 ghost use Rattle.std.specs.Prelude.{map, option_map, All, IfOk, IfErr, OnOk, OnErr};
 ghost use Rattle.std.specs.List.{list_any};
 ghost use Rattle.std.specs.Option.{option_and_then};
