@@ -63,6 +63,7 @@ enum Subject<'a, P> {
 
 impl<P: Peer> Subject<'_, P> {
     /// The cap of its side.
+    #[inline(always)]
     fn cap<C: KnownCaps<P>>(&self, caps: &C) -> Option<u128>
         ensures { result ≡ cap_on (C.caps caps.now) (subject_of self.now) }
     {
@@ -136,6 +137,7 @@ impl<'a, P: Peer> Registry<'a, P> {
     }
 
     /// The number of the subject's side, if it has one, and where it stands or would.
+    #[inline(always)]
     fn find(&self, subject: &Subject<'a, P>) -> Found
         requires { IsInOrder P.cmp self.now }
         ensures number { result.number ≡ number_of P.cmp self.now (subject_of subject.now) }
@@ -149,6 +151,7 @@ impl<'a, P: Peer> Registry<'a, P> {
     }
 
     /// Notes the number of the side of a subject that has none, which would stand at that place.
+    #[inline(always)]
     fn note(&mut self, place: usize, subject: &Subject<'a, P>, number: usize) -> Result<(), Error>
         requires order { IsInOrder P.cmp self.old }
         requires gap { IsGapFor P.cmp self.old subject.now place }
@@ -179,6 +182,7 @@ fn room_of(number: usize) -> usize {
 
 /// Registers that the flow at `place` asks for the side of `subject`, which is not there yet, and whose
 /// number would stand at `gap`. It comes into being if there is a cap.
+#[inline(always)]
 fn open<'a, P: Peer>(
     alloc: Global,
     registry: &mut Registry<'a, P>,
@@ -235,6 +239,7 @@ fn register<'a, P: Peer, C: KnownCaps<P>>(
 }
 
 /// The same where it does not stand there.
+#[inline(always)]
 fn search<'a, P: Peer, C: KnownCaps<P>>(
     alloc: Global,
     registry: &mut Registry<'a, P>,
