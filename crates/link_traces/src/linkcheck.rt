@@ -75,8 +75,8 @@ pub fn status(report: &Result<Report, Fault>) -> u8
 /// Each call of the trace is made in its order on a new scheduler, and the lines after it have to be
 /// what the simulation answers. Its first line may be `tolerance N`, with a number N of nanoseconds:
 /// a moment that is said may be off by so much, and without that line none may. The last line may lack
-/// its end byte. Of the trace no more is kept than a line, of the simulation its scheduler and what
-/// one call is answered.
+/// its end byte. Of the trace no more is kept than a line and the messages of one moment whose lines
+/// were read ahead, of the simulation its scheduler and what one call is answered.
 ///
 /// The verdict is `Agrees` or `Within` only where there is a call, and the trace says all that its
 /// calls are answered. `calls` and `completions` of the report say how much that is.
