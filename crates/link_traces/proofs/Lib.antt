@@ -1,3 +1,4 @@
+pub mod Batching
 pub mod Ranges
 pub mod Reading
 pub mod Replying

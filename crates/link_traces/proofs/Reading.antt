@@ -1,5 +1,6 @@
 -- What reads take of known bytes.
-use Rattle.std.proofs.Common.{◌≡◌, ℕ, List, [], ◌++◌, Option, None, Some, refl, sym, ap, ◌∙◌, append_assoc, ◌==◌, if◌then◌else◌}
+use Rattle.std.proofs.Common.{◌≡◌, ℕ, Bool, true, false, List, [], ◌++◌, Option, None, Some, refl, sym, ap, subst, ◌∙◌, append_assoc}
+use Rattle.std.proofs.Common.{◌==◌, if◌then◌else◌}
 use Rattle.std.specs.Io.KnownBytes.{Consumes, Keeps, prepend_known}
 use Rattle.std.specs.Io.Buffered.{reader_buffer, reader_capacity, reader_inner, reader_remaining}
 use Rattle.std.specs.declared.io.buffered.BufReader.{BufReader}
@@ -37,3 +38,28 @@ pub new_reader : {T A : Type 0} (remaining : T → Option (List ℕ)) (r : BufRe
 new_reader remaining r known is empty capacity =
     ap (λ n. if n == 0 then None else prepend_known (reader_buffer r) (remaining (reader_inner r))) capacity
     ∙ ap (λ bs. prepend_known bs (remaining (reader_inner r))) empty ∙ none_before (remaining (reader_inner r)) ∙ is
+
+consumes_front : (empty : Bool) (known : Option (List ℕ)) (front rest : List ℕ)
+    → Consumes (if empty then None else prepend_known (front ++ rest) known)
+    (if empty then None else prepend_known rest known) front
+consumes_front true known front rest = tt
+consumes_front false None front rest = tt
+consumes_front false (Some xs) front rest = append_assoc front rest xs
+
+-- what stands in front of the buffer is taken
+pub front_taken : {T A : Type 0} (remaining : T → Option (List ℕ)) (old new : BufReader T A) (front : List ℕ)
+    → reader_buffer old ≡ front ++ reader_buffer new → reader_inner new ≡ reader_inner old
+    → reader_capacity new ≡ reader_capacity old
+    → Consumes (reader_remaining remaining old) (reader_remaining remaining new) front
+front_taken remaining old new front buffer inner capacity =
+    let before : reader_remaining remaining old ≡ (if reader_capacity old == 0 then None
+    else prepend_known (front ++ reader_buffer new) (remaining (reader_inner old))) =
+    ap (λ bs. if reader_capacity old == 0 then None else prepend_known bs (remaining (reader_inner old))) buffer in
+    let after : reader_remaining remaining new ≡ (if reader_capacity old == 0 then None
+    else prepend_known (reader_buffer new) (remaining (reader_inner old))) =
+    ap (λ n. if n == 0 then None else prepend_known (reader_buffer new) (remaining (reader_inner new))) capacity
+    ∙ ap (λ i. if reader_capacity old == 0 then None else prepend_known (reader_buffer new) (remaining i)) inner in
+    subst (λ k. Consumes k (reader_remaining remaining new) front) (sym before)
+    (subst (λ k. Consumes (if reader_capacity old == 0 then None
+    else prepend_known (front ++ reader_buffer new) (remaining (reader_inner old))) k front) (sym after)
+    (consumes_front (reader_capacity old == 0) (remaining (reader_inner old)) front (reader_buffer new)))

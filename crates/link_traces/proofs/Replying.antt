@@ -52,7 +52,7 @@ module _ {P : Type 0} (cmp : P → P → Ordering) (order : IsTotalOrder cmp) wh
 
   -- ---- what it is answered
 
-  made_is_simulated : (p q : Planned P) (w : World P) (call : Call P) (now : ℕ) (cs : List (Completed P))
+  pub made_is_simulated : (p q : Planned P) (w : World P) (call : Call P) (now : ℕ) (cs : List (Completed P))
       → Makes cmp p call cs q → StandsFor cmp p w → IsInTurn cmp w call → moment_of call ≡ Some now
       → reached_after w.moment call (reply_done cs) ≡ now → IsSimulatedReply cmp w call (reply_done cs) q
   made_is_simulated p q w call now cs makes stands turn at reached =

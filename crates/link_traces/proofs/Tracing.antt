@@ -31,7 +31,7 @@ use Rattle.link_traces.specs.Lines.{taken}
 use Rattle.link_scripts.specs.declared.linkrun.line.LineEnd.{LineEnd}
 use Rattle.link_scripts.specs.declared.linkrun.line.LineEnd.TheVariants.{Newline, Input, TooLong}
 use Rattle.link_traces.specs.declared.linkcheck.report.Report.{Report}
-use Rattle.link_traces.specs.Checker.{IsUnderway, GoesOn}
+use Rattle.link_traces.specs.Checker.{IsUnderway, IsTakenOf, GoesOn}
 use Rattle.link_traces.specs.Progress.{due, IsTold}
 use Rattle.link_traces.specs.Trace.{call_line, done_in, transcript_of, IsTranscript, IsHeadedTranscript, IsAllowed, EndsEarly}
 use Rattle.link_traces.specs.Trace.{IsAfterTolerance, IsAgreed, tolerance_line}
@@ -421,24 +421,28 @@ taken_with_end mid new TooLong line long last takes = absurd (long refl)
 
 -- ---- lines of a trace
 
+-- what goes to the end of the text goes to the end of the trace
+pub after_more : (old new : Option ℕ) (text trace more : List ℕ) → new ≡ old → IsAfterTolerance text old trace
+    → IsAfterTolerance (text ++ more) new (trace ++ more)
+after_more old new text trace more same is =
+    subst (λ t. IsAfterTolerance (text ++ more) t (trace ++ more)) (sym same) (more_of old is)
+  where
+    more_of : (tolerance : Option ℕ) → IsAfterTolerance text tolerance trace
+        → IsAfterTolerance (text ++ more) tolerance (trace ++ more)
+    more_of None is = ap (λ l. l ++ more) is
+    more_of (Some n) is = ap (λ l. l ++ more) is ∙ append_assoc (tolerance_line n) trace more
+
 -- a line of calls and answers goes to the end
 pub goes_on : (old new : Checker) (line text : List ℕ) → GoesOn old line new → new.turns ≡ old.turns
     → new.tolerance ≡ old.tolerance → (new.lines ≡ 0 → ⊥) → IsUnderway text old
     → IsUnderway (text ++ (line ++ 10 ∷ [])) new
 goes_on old new line text goes turns tolerance some is = record {
   trace = is.trace ++ (line ++ 10 ∷ []);
-  after = subst (λ t. IsAfterTolerance (text ++ (line ++ 10 ∷ [])) t (is.trace ++ (line ++ 10 ∷ []))) (sym tolerance)
-      (after_more old.tolerance text is.trace (line ++ 10 ∷ []) is.after);
+  after = after_more old.tolerance new.tolerance text is.trace (line ++ 10 ∷ []) tolerance is.after;
   told = goes.0 is.trace is.told;
   first = λ e. absurd (some e);
   in_turn = λ e. goes.1 e (is.in_turn (sym turns ∙ e));
 }
-  where
-    after_more : (tolerance : Option ℕ) (text trace more : List ℕ) → IsAfterTolerance text tolerance trace
-        → IsAfterTolerance (text ++ more) tolerance (trace ++ more)
-    after_more None text trace more is = ap (λ l. l ++ more) is
-    after_more (Some n) text trace more is =
-        ap (λ l. l ++ more) is ∙ append_assoc (tolerance_line n) trace more
 
 -- the first line sets the tolerance
 pub sets_tolerance : (old new : Checker) (line text : List ℕ) (n : ℕ) → old.lines ≡ 0
@@ -456,3 +460,27 @@ sets_tolerance old new line text n first says tolerance same turns some is =
       first = λ e. absurd (some e);
       in_turn = λ e. ap (λ p. p.out_of_turn) same ∙ is.in_turn (sym turns ∙ e);
     }
+
+-- a batch more
+pub batch_taken : (old mid new : Option (List ℕ)) (before between after : Checker)
+    → IsTakenSoFar old mid before between → IsTakenOf mid new between after → IsTakenSoFar old new before after
+batch_taken old mid new before between after is more = record {
+  text = is.text ++ more.text;
+  taken = consumes_more old mid new is.text more.text is.taken more.taken;
+  underway = more.goes_on is.text is.underway;
+  turns = more.turns ∙ is.turns;
+}
+
+-- and none
+pub batch_stays_taken : (a : Option (List ℕ)) (before after : Checker)
+    → ((text : List ℕ) → IsUnderway text before → IsUnderway text after) → after.turns ≡ before.turns
+    → IsTakenOf a a before after
+batch_stays_taken a before after stays turns = record {
+  text = [];
+  taken = consumes_none a;
+  goes_on = λ front is. subst (λ l. IsUnderway l after) (sym (append-nil front)) (stays front is);
+  turns = turns;
+}
+
+pub no_batch_taken : (a : Option (List ℕ)) (c : Checker) → IsTakenOf a a c c
+no_batch_taken a c = batch_stays_taken a c c (λ text is. is) refl

@@ -1,5 +1,6 @@
 -- What is kept of a trace on its way.
-use Rattle.std.specs.Prelude.{◌≡◌, ℕ, List, [], ◌∷◌, ◌++◌, None}
+use Rattle.std.specs.Prelude.{◌≡◌, ℕ, List, [], ◌∷◌, ◌++◌, Option, None}
+use Rattle.std.specs.Io.KnownBytes.{Consumes}
 use Rattle.link_traces.specs.declared.linkcheck.checker.Checker.{Checker}
 use Rattle.link_traces.specs.declared.linkcheck.Turns.TheVariants as turns
 use Rattle.link_traces.specs.Progress.{IsTold}
@@ -26,3 +27,10 @@ pub record IsSameTrace (old new : Checker) : Type 0 where
   pub turns : new.turns ≡ old.turns
   pub lines : new.lines ≡ old.lines
   pub tolerance : new.tolerance ≡ old.tolerance
+
+-- of the bytes that are left some were taken, and what agreed before them agrees with them
+pub record IsTakenOf (old new : Option (List ℕ)) (before after : Checker) : Type 0 where
+  pub text : List ℕ
+  pub taken : Consumes old new text
+  pub goes_on : (front : List ℕ) → IsUnderway front before → IsUnderway (front ++ text) after
+  pub turns : after.turns ≡ before.turns

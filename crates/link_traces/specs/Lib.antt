@@ -1,3 +1,4 @@
+pub mod Batches
 pub mod Checker
 pub mod Lines
 pub mod Progress

@@ -4,10 +4,11 @@ ghost use Rattle.std.specs.Prelude.{◌≡◌, ℕ, [], IfOk, IfSome, Some, None
 ghost use Rattle.std.specs.Io.Buffered.{reader_remaining};
 ghost use Rattle.std.specs.Io.KnownBytes.{Consumes, IsAtEnd};
 ghost use Rattle.link_traces.specs.Lines.{taken};
-ghost use Rattle.link_traces.specs.Checker.{IsUnderway};
-ghost use Rattle.link_traces.specs.Trace.{IsAgreed, IsAllowed, fault_text, verdict_status};
+ghost use Rattle.link_traces.specs.Checker.{IsUnderway, IsTakenOf};
+ghost use Rattle.link_traces.specs.Trace.{EndsEarly, IsAgreed, IsAllowed, fault_text, verdict_status};
 
 mod asked;
+mod batch;
 mod checker;
 pub mod difference;
 pub mod in_turn;
@@ -17,11 +18,12 @@ pub mod report;
 mod said;
 mod tolerance;
 
+use crate::linkcheck::batch::{Batch, Sent};
 use crate::linkcheck::checker::Checker;
 use crate::linkcheck::report::{Report, Verdict};
 use link_scripts::linkrun::line::{LineEnd, MOST_READ};
 use std::alloc::Global;
-use std::io::{BufReader, Read, Write};
+use std::io::{BufRead, BufReader, Read, Write};
 use std::{fmt, io};
 
 /// Which calls a trace may have.
@@ -73,8 +75,8 @@ pub fn status(report: &Result<Report, Fault>) -> u8
 /// Each call of the trace is made in its order on a new scheduler, and the lines after it have to be
 /// what the simulation answers. Its first line may be `tolerance N`, with a number N of nanoseconds:
 /// a moment that is said may be off by so much, and without that line none may. The last line may lack
-/// its end byte. Of the trace no more is kept than a line, of the simulation its scheduler and what
-/// one call is answered.
+/// its end byte. Of the trace no more is kept than a line and the messages of one moment whose lines
+/// were read ahead, of the simulation its scheduler and what one call is answered.
 ///
 /// The verdict is `Agrees` or `Within` only where there is a call, and the trace says all that its
 /// calls are answered. `calls` and `completions` of the report say how much that is.
@@ -136,7 +138,12 @@ fn check_lines<R: Read>(
     ensures in_turn { IfOk result (λ report. checker.old.turns ≡ Turns.InTurn → report.verdict ≡ Verdict.Agrees
         → report.out_of_turn ≡ None) }
 {
+    let mut batch = Batch::new(checker.progress.alloc);
+    let mut alone = 0;
     for _ in 0..u64::MAX {
+        if let Some(early) = take_batch(checker, input, line, &mut batch, &mut alone)? {
+            return Ok(early);
+        }
         let end = read(input, line)?;
         if end == LineEnd::TooLong {
             return Err(Fault::BadLine(checker.next_number()));
@@ -152,6 +159,64 @@ fn check_lines<R: Read>(
         }
     }
     Err(Fault::InputOutput)
+}
+
+/// Takes the lines of the next batch, where one was read ahead and is sent at once. `alone` is how many
+/// calls are to be made one by one before that is tried.
+fn take_batch<R: Read>(
+    checker: &mut Checker,
+    input: &mut BufReader<R>,
+    line: &mut Vec<u8>,
+    batch: &mut Batch,
+    alone: &mut usize,
+) -> Result<Option<Report>, Fault>
+    ensures taken { result ≡ Ok None → IsTakenOf (reader_remaining R.remaining input.old)
+        (reader_remaining R.remaining input.new) checker.old checker.new }
+    ensures ends { IfOk result (λ report. IfSome report (λ r. EndsEarly r.verdict)) }
+{
+    if !checker.progress.is_all_said() {
+        return Ok(None);
+    }
+    if *alone > 0 {
+        *alone -= 1;
+        return Ok(None);
+    }
+    batch.gather(input.buffer());
+    let count = batch.messages.len();
+    if count == 0 {
+        return Ok(None);
+    }
+    match checker.send(batch)? {
+        Sent::Silently => {
+            input.consume(batch.length);
+            Ok(None)
+        }
+        Sent::NotAtOnce => {
+            *alone = count - 1;
+            Ok(None)
+        }
+        Sent::Done(place) => Ok(Some(differ(checker, input, line, place)?)),
+    }
+}
+
+/// The report that the line after the message of that place says another thing than that it is done.
+fn differ<R: Read>(
+    checker: &mut Checker,
+    input: &mut BufReader<R>,
+    line: &mut Vec<u8>,
+    place: usize,
+) -> Result<Report, Fault>
+    ensures ends { IfOk result (λ r. EndsEarly r.verdict) }
+{
+    for _ in 0..=place {
+        read(input, line)?;
+        checker.lines = checker.next_number();
+    }
+    if read(input, line)? == LineEnd::TooLong {
+        return Err(Fault::BadLine(checker.next_number()));
+    }
+    checker.lines = checker.next_number();
+    checker.difference(line)
 }
 
 /// Reads the next line.

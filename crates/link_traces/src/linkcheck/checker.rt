@@ -1,10 +1,13 @@
 //! A trace on its way: line after line is compared with what the simulation answers.
-ghost use Rattle.std.specs.Prelude.{◌≡◌, ◌<◌, ◌≤◌, ◌++◌, ◌∷◌, ℕ, List, [], None, Ok, IfOk, IfSome};
+ghost use Rattle.std.specs.Prelude.{◌≡◌, ◌<◌, ◌≤◌, ◌++◌, ◌∷◌, ℕ, All, List, [], None, Ok, IfOk, IfSome, vec_len};
+ghost use Rattle.link_scripts.specs.Script.{IsCallOfScriptInRange};
+ghost use Rattle.link_traces.specs.Batches.{batch_calls, batch_lines};
 ghost use Rattle.link_traces.specs.Checker.{IsUnderway, IsSameTrace, GoesOn};
 ghost use Rattle.link_traces.specs.Progress.{due};
 ghost use Rattle.std.specs.Option.{unwrap_or};
 ghost use Rattle.link_traces.specs.Trace.{EndsEarly, IsHeadedTranscript, tolerance_line};
 
+use crate::linkcheck::batch::{Batch, Sent};
 use crate::linkcheck::difference::{Difference, Missing, copy, off_by};
 use crate::linkcheck::progress::Progress;
 use crate::linkcheck::report::{Report, Verdict};
@@ -62,6 +65,24 @@ impl Checker {
         self.compare(line)
     }
 
+    /// Takes the lines of a batch at once, where it is sent at once and silently.
+    pub(crate) fn send(&mut self, batch: &Batch) -> Result<Sent, Fault>
+        requires in_range { All IsCallOfScriptInRange (batch_calls batch.now) }
+        requires some { 0 < vec_len batch.now.messages }
+        requires none_due { due self.old.progress ≡ [] }
+        ensures silent { result ≡ Ok Sent.Silently → (text : List ℕ) → IsUnderway text self.old
+            → IsUnderway (text ++ batch_lines batch.now) self.new }
+        ensures kept { result ≡ Ok Sent.NotAtOnce → (text : List ℕ) → IsUnderway text self.old
+            → IsUnderway text self.new }
+        ensures turns { self.new.turns ≡ self.old.turns }
+    {
+        let sent = self.progress.send(batch)?;
+        if sent == Sent::Silently {
+            self.lines = self.lines.saturating_add(batch.messages.len() as u64);
+        }
+        Ok(sent)
+    }
+
     /// The tolerance that a line sets.
     fn tolerance_of(&self, line: &[u8]) -> Result<Option<u64>, Fault>
         ensures { IfOk result (λ answer. IfSome answer (λ n. line.now ++ 10 ∷ [] ≡ tolerance_line n)) }
@@ -108,7 +129,7 @@ impl Checker {
     }
 
     /// The report that a line is another than the simulation says, where it is one of a trace.
-    fn difference(&self, line: &[u8]) -> Result<Report, Fault>
+    pub(crate) fn difference(&self, line: &[u8]) -> Result<Report, Fault>
         ensures ends { IfOk result (λ r. EndsEarly r.verdict) }
     {
         let is_answer = Said::of(line).is_some();

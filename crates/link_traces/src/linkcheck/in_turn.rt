@@ -58,7 +58,7 @@ pub(crate) fn cause_of(call: &Call<u64, usize>, reached: u64, next: Option<u64>)
 }
 
 /// Why a call that changes caps or sends a message is out of turn.
-fn cause_of_change(now: u64, reached: u64, next: Option<u64>) -> Option<Cause>
+pub(crate) fn cause_of_change(now: u64, reached: u64, next: Option<u64>) -> Option<Cause>
     ensures { MatchOption result ((reached ≤ now) × IfSome next (λ t. now < t))
         (λ _. ¬ ((reached ≤ now) × IfSome next (λ t. now < t))) }
 {

@@ -1,18 +1,21 @@
 //! A simulation that is asked the calls of a trace one by one, and how far the trace has said what
 //! it answers.
-ghost use Rattle.std.specs.Prelude.{◌≡◌, ◌↔◌, ◌+◌, ◌++◌, ◌∷◌, ℕ, List, [], None, drop, length, false, IsTrue, IfOk, IfSome, OnOk};
+ghost use Rattle.std.specs.Prelude.{◌≡◌, ◌↔◌, ◌<◌, ◌+◌, ◌++◌, ◌∷◌, ℕ, All, List, [], None, Ok, drop, length, false, IsTrue, IfOk, IfSome, OnOk, vec_len};
 ghost use Rattle.std.specs.Ordering.{nat_cmp};
 ghost use Rattle.link_scheduler.specs.Calls.Replay.{reply_of, IsReplyTo};
 ghost use Rattle.link_scheduler.specs.Calls.State.{planned_of};
 ghost use Rattle.link_scripts.specs.Schedule.{world_call};
 ghost use Rattle.link_scripts.specs.Script.{IsCallOfScriptInRange};
 ghost use Rattle.link_simulation.specs.Rule.StandsFor.{StandsFor};
-ghost use Rattle.link_simulation.specs.Simulation.Calls.{IsInTurn};
+ghost use Rattle.link_simulation.specs.Simulation.Calls.{IsInTurn, call_enqueue};
+ghost use Rattle.link_simulation.specs.Simulation.Messages.{Message};
 ghost use Rattle.link_simulation.specs.Simulation.World.{World};
+ghost use Rattle.link_traces.specs.Batches.{batch_calls, batch_lines};
 ghost use Rattle.link_traces.specs.Progress.{due, IsTold};
 ghost use Rattle.link_traces.specs.Trace.{call_line, done_in};
 ghost use Rattle.link_traces.specs.Turns.{IsSimulatedReply};
 
+use crate::linkcheck::batch::{Batch, Sent};
 use crate::linkcheck::difference::off_by;
 use crate::linkcheck::in_turn::OutOfTurn;
 use crate::linkcheck::lines::NEWLINE;
@@ -20,8 +23,8 @@ use crate::linkcheck::{Fault, in_turn};
 use fair_rates::error::Error;
 use link_scheduler::replay::{Call, Reply};
 use link_scheduler::transmitter::State;
-use link_scripts::linkrun::answer;
 use link_scripts::linkrun::zeros::Zeros;
+use link_scripts::linkrun::{answer, schedule};
 use std::alloc::Global;
 
 /// The simulation, and what of its answers the trace has said.
@@ -83,6 +86,69 @@ impl Progress {
             Ok(()) => Ok(()),
             Err(_) => Err(Fault::NoMemory),
         }
+    }
+
+    /// Sends the messages of a batch at once, once all that was due before it was said, where the calls
+    /// are in turn. Where one of them is done at once, what is due is what is then said.
+    pub(crate) fn send(&mut self, batch: &Batch) -> Result<Sent, Fault>
+        requires in_range { All IsCallOfScriptInRange (batch_calls batch.now) }
+        requires some { 0 < vec_len batch.now.messages }
+        ensures silent { result ≡ Ok Sent.Silently → (said : List ℕ) → IsTold said self.old → due self.old ≡ []
+            → IsTold (said ++ batch_lines batch.now) self.new }
+        ensures kept { result ≡ Ok Sent.NotAtOnce → (said : List ℕ) → IsTold said self.old → IsTold said self.new }
+        ensures turn { self.new.out_of_turn ≡ self.old.out_of_turn }
+    {
+        if !self.sends_in_turn(batch.moment) {
+            return Ok(Sent::NotAtOnce);
+        }
+        let Ok(reply) = schedule::send_all(
+            self.alloc,
+            &mut self.zeros,
+            &mut self.scheduler,
+            batch.moment,
+            &batch.messages,
+        ) else {
+            return Ok(Sent::NotAtOnce);
+        };
+        if let Some(place) = batch.first_done(&reply) {
+            self.answer_with(&reply, place)?;
+            return Ok(Sent::Done(place));
+        }
+        let Some(calls) = self.calls.checked_add(batch.messages.len() as u64) else {
+            return Err(Fault::InputOutput);
+        };
+        self.calls = calls;
+        self.reached = batch.moment;
+        Ok(Sent::Silently)
+    }
+
+    /// What is due is from now on the reply to a batch of which the message of that place is done
+    /// first.
+    fn answer_with(&mut self, reply: &Reply<u64>, place: usize) -> Result<(), Fault>
+        ensures turn { self.new.out_of_turn ≡ self.old.out_of_turn }
+    {
+        self.calls = self.calls.saturating_add(place as u64).saturating_add(1);
+        self.completions = self.completions.saturating_add(1);
+        self.answers.clear();
+        self.said = 0;
+        self.lacked_memory = false;
+        match answer::print_reply(&mut self.answers, reply) {
+            Ok(()) => Ok(()),
+            Err(_) => Err(Fault::NoMemory),
+        }
+    }
+
+    /// Whether no call was out of turn, and calls that send messages at that moment are in turn, too.
+    fn sends_in_turn(&self, now: u64) -> bool
+        ensures before { IsTrue result → self.now.out_of_turn ≡ None }
+        ensures turn { IsTrue result → (w : World ℕ) → w.moment ≡ self.now.reached
+            → StandsFor nat_cmp (planned_of self.now.scheduler) w → (m : Message ℕ)
+            → IsInTurn nat_cmp w (call_enqueue now m) }
+    {
+        if self.out_of_turn.is_some() {
+            return false;
+        }
+        in_turn::cause_of_change(now, self.reached, self.scheduler.next()).is_none()
     }
 
     /// The first call out of turn up to the call of that line.
