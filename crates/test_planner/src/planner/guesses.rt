@@ -60,7 +60,7 @@ fn expect_shares(
             .levels
             .get(place)
             .and_then(|parts| parts.to_u128()));
-        assert_eq!(rt; parts, Some(100 + u128::from(*one.recipient)));
+        assert_eq!(rt; parts, Some(u128::from(*one.recipient).saturating_add(100)));
     }
     Ok(())
 }

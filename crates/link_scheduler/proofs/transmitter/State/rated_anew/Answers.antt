@@ -13,7 +13,7 @@ returns g c =
       at_most_all = omega (
         arith,
         flights.counted,
-        length-map flights.list.items (λ f. flight_at flights.at f.value),
+        length-map flights.list.items (flight_at flights.at),
         length-map (in_units flights) (rated_flight_of flights.scale),
       );
     }
