@@ -1,6 +1,5 @@
 //! Scripts, drawn: who sends how fast, when, and what waits.
-ghost use Rattle.std.specs.Prelude.{ℕ, List, IfOk};
-ghost use Rattle.link_scripts.specs.BadLines.{Blames};
+ghost use Rattle.std.specs.Prelude.{IfOk};
 ghost use Rattle.link_scripts.specs.Outcome.{CountsFromOne};
 
 mod board;
@@ -65,25 +64,8 @@ pub fn draw<R: Read, W: Write>(
 ) -> Outcome
     ensures { CountsFromOne result }
 {
-    let mut line = Vec::new(alloc);
-    draw_keeping_line(alloc, input, output, options, &mut line)
-}
-
-/// Does what `draw` does, and leaves in `line` the line that was read last, without its end byte, in
-/// the place of what it held. Where the outcome is `BadLine` that is the bad one, or its first 257
-/// bytes.
-pub fn draw_keeping_line<R: Read, W: Write>(
-    alloc: Global,
-    input: &mut R,
-    output: &mut W,
-    options: &Options,
-    line: &mut Vec<u8>,
-) -> Outcome
-    ensures counted { CountsFromOne result }
-    ensures bad { Blames result line.new.items }
-{
     let mut history = History::new(alloc, matches!(options.form, Form::Table(_, _)));
-    match read_script(alloc, input, &mut history, line) {
+    match read_script(alloc, input, &mut history) {
         Outcome::Whole => match history.conclude(options) {
             Ok(time) => write(alloc, &history, options, time, output),
             Err(_) => Outcome::NoMemory,
@@ -93,23 +75,16 @@ pub fn draw_keeping_line<R: Read, W: Write>(
 }
 
 /// Reads a script to its end, and follows its commands.
-fn read_script<R: Read>(
-    alloc: Global,
-    input: &mut R,
-    history: &mut History,
-    line: &mut Vec<u8>,
-) -> Outcome
-    ensures counted { CountsFromOne result }
-    ensures bad { Blames result line.new.items }
+fn read_script<R: Read>(alloc: Global, input: &mut R, history: &mut History) -> Outcome
+    ensures { CountsFromOne result }
 {
-    line.clear();
-    if line.reserve(line::MOST_READ).is_err() {
+    let Ok(mut line) = Vec::with_capacity(alloc, line::MOST_READ) else {
         return Outcome::NoMemory;
-    }
+    };
     let Ok(mut reader) = BufReader::new(alloc, input) else {
         return Outcome::NoMemory;
     };
-    match read_lines(history, &mut reader, line) {
+    match read_lines(history, &mut reader, &mut line) {
         Ok(outcome) => outcome,
         Err(_) => Outcome::InputOutput,
     }
@@ -121,8 +96,7 @@ fn read_lines<R: Read>(
     input: &mut BufReader<R>,
     line: &mut Vec<u8>,
 ) -> io::Result<Outcome>
-    ensures counted { IfOk result CountsFromOne }
-    ensures bad { IfOk result (λ outcome. Blames outcome line.new.items) }
+    ensures { IfOk result CountsFromOne }
 {
     let mut number = 0u64;
     for _ in 0..u128::MAX {
@@ -154,8 +128,7 @@ fn write<W: Write>(
     time: (u64, u64),
     output: &mut W,
 ) -> Outcome
-    ensures counted { CountsFromOne result }
-    ensures bad { (line : List ℕ) → Blames result line }
+    ensures { CountsFromOne result }
 {
     let Ok(mut writer) = BufWriter::new(alloc, output) else {
         return Outcome::NoMemory;
