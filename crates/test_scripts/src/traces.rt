@@ -27,9 +27,31 @@ refused 3 moment too late
 next
 next -";
 
+/// Gives a byte at a time, so that no line is read ahead of another.
+#[derive(Drop)]
+struct Slowly<'a> {
+    bytes: &'a [u8],
+}
+
+impl Read for Slowly<'_> {
+    fn read(&mut self, buf: &mut [u8]) -> io::Result<usize> {
+        match buf.get_mut(..1) {
+            Some(one) => self.bytes.read(one),
+            None => Ok(0),
+        }
+    }
+}
+
 /// Runs a trace over memory. Answers the status.
 fn status_of(alloc: Global, trace: &[u8], output: &mut Vec<u8>, turns: Turns) -> u8 {
     let mut input = trace;
+    let report = run(alloc, &mut input, output, turns);
+    status(&report)
+}
+
+/// The same where a byte comes at a time.
+fn slow_status_of(alloc: Global, trace: &[u8], output: &mut Vec<u8>, turns: Turns) -> u8 {
+    let mut input = Slowly { bytes: trace };
     let report = run(alloc, &mut input, output, turns);
     status(&report)
 }
@@ -40,7 +62,7 @@ fn expect(rt: &(impl Abort + AllocGlobal), trace: &str, printed: &str, wanted: u
 }
 
 /// Runs a trace over memory, with the calls that it may have, and compares what is printed and the
-/// status.
+/// status; and so where a byte comes at a time.
 fn expect_of(
     rt: &(impl Abort + AllocGlobal),
     trace: &str,
@@ -55,6 +77,13 @@ fn expect_of(
         "{output:?}, {trace:?}"
     );
     assert!(rt; ended == wanted, "{ended}, {trace:?}");
+    let mut slowly = Vec::new(rt.alloc());
+    let ended = slow_status_of(rt.alloc(), trace.as_bytes(), &mut slowly, turns);
+    assert!(rt;
+        slowly.as_slice() == printed.as_bytes(),
+        "a byte at a time: {slowly:?}, {trace:?}"
+    );
+    assert!(rt; ended == wanted, "a byte at a time: {ended}, {trace:?}");
 }
 
 /// Traces and what is printed for them, with `=` between the two and `;` between cases, and the
@@ -337,6 +366,101 @@ next -
 #[test]
 fn lines_that_lack_and_lines_too_many_are_found(rt: HostRuntime) {
     expect_cases(&rt, LACKING, 3);
+}
+
+/// Traces with messages that are sent at one moment, where one of them is answered with something.
+const AT_ONE_MOMENT: &str = "limit 0 1 500 -
+enqueue 0 1 2 0 100 0 1
+enqueue 0 3 2 0 50 0 1
+enqueue 0 1 2 0 100 0 1
+next
+=line 4 says nothing, the simulation says `done 3 2 0 50 0`
+;limit 0 1 500 -
+enqueue 0 1 2 0 100 0 1
+enqueue 0 1 2 0 100 0 1
+enqueue 0 3 2 0 50 0 1
+enqueue 0 3 2 0 50 0 1
+advance 0
+=line 5 says nothing, the simulation says `done 3 2 0 50 0`
+;limit 0 1 500 -
+enqueue 0 1 2 0 100 0 1
+enqueue 0 3 2 0 50 7 1
+next 5
+=line 4 says `next 5`, the simulation says `done 3 2 0 50 7`
+;limit 0 1 500 -
+enqueue 0 1 2 0 0 0 1
+enqueue 0 1 2 0 0 0 1
+next
+=line 3 says nothing, the simulation says `done 1 2 0 0 0`
+;limit 0 1 500 -
+enqueue 0 1 2 0 1 0 1
+enqueue 0 1 2 0 0 0 1
+enqueue 0 1 3 0 0 0 0
+limit 0 1 - -
+=line 5 says nothing, the simulation says `done 1 3 0 0 -`
+;limit 5 1 500 -
+enqueue 5 1 2 0 100 0 1
+enqueue 5 6 7 0 1 18446744073709551615 1
+enqueue 5 1 2 0 100 0 1
+next
+=line 4 says nothing, the simulation says `refused 3 moment too late`
+;enqueue 0 1 2 0 5 0 1
+enqueue 0 1 2 0 5 0 1
+done 1 2 0 5 0
+=line 2 says nothing, the simulation says `done 1 2 0 5 0`
+;limit 0 1 500 -
+enqueue 0 1 2 0 100 0 1
+enqueue 0 1 3 0 100 0 1
+next
+next 200000000
+=line 5 says `next 200000000`, the simulation says `next 400000000`, off by 200000000
+";
+
+#[test]
+fn a_fault_among_messages_of_one_moment_is_found(rt: HostRuntime) {
+    expect_cases(&rt, AT_ONE_MOMENT, 3);
+    expect(
+        &rt,
+        "limit 0 1 5 -\nenqueue 0 1 2 0 1 0 1\nenqueue 0 1 2 0 1 0 1\nrun\n",
+        "",
+        2,
+    );
+    expect(
+        &rt,
+        "limit 0 1 5 -\nenqueue 0 1 2 0 1 0 1\nenqueue 0 3 2 0 1 0 1\nrun\n",
+        "",
+        2,
+    );
+}
+
+/// A trace of so many messages that are sent at moment 0 and wait or share a cap, and are done one
+/// after another.
+fn put_many(text: &mut Vec<u8>, count: u64) -> io::Result<()> {
+    writeln!(text, "limit 0 1 1000000000 -")?;
+    for place in 0..count {
+        writeln!(text, "enqueue 0 1 2 {place} 1 0 1")?;
+    }
+    writeln!(text, "advance {count}")?;
+    for place in 0..count {
+        let done = place.saturating_add(1);
+        writeln!(text, "done 1 2 {place} 1 {done}")?;
+    }
+    Ok(())
+}
+
+/// More than are read ahead, so that they are sent in parts.
+#[test]
+fn many_messages_of_one_moment_agree(rt: HostRuntime) -> Result<(), Fail> {
+    let mut text = Vec::new(rt.alloc());
+    put_many(&mut text, 700)?;
+    expect_of(
+        &rt,
+        str::from_utf8(text.as_slice()).unwrap_or(""),
+        Turns::InTurn,
+        "agrees: 702 calls, 700 completions\n",
+        0,
+    );
+    Ok(())
 }
 
 /// Peer 1 sends two messages at three bytes a second, with two moments that are rounded down.
