@@ -1,6 +1,7 @@
 //! A simulation that is asked the calls of a trace one by one, and how far the trace has said what
 //! it answers.
-ghost use Rattle.std.specs.Prelude.{◌≡◌, ◌↔◌, ◌<◌, ◌+◌, ◌++◌, ◌∷◌, ℕ, All, List, [], None, Ok, drop, length, false, IsTrue, IfOk, IfSome, OnOk, vec_len};
+ghost use Rattle.std.specs.Prelude.{◌≡◌, ◌↔◌, ◌<◌, ◌+◌, ◌++◌, ◌∷◌, ℕ, All, List, [], None, Ok};
+ghost use Rattle.std.specs.Prelude.{drop, length, false, IsTrue, IfOk, IfSome, OnOk, vec_len};
 ghost use Rattle.std.specs.Ordering.{nat_cmp};
 ghost use Rattle.link_scheduler.specs.Calls.Replay.{reply_of, IsReplyTo};
 ghost use Rattle.link_scheduler.specs.Calls.State.{planned_of};
