@@ -13,6 +13,12 @@ pub trait Peer: Ord + Sized + Drop {
     /// A value for the same peer, or `None` where memory was refused.
     fn clone_peer(&self) -> Option<Self>
         ensures same { IfSome result (λ copy. Self.cmp copy self.now ≡ Equal) };
+
+    /// A number that tells the peer from most others: what is kept of it is found by it. One peer has the same
+    /// always. Only time hangs on it: where all have one, more is compared.
+    fn hint(&self) -> u64 {
+        0
+    }
 }
 
 impl Peer for u64 {
@@ -23,6 +29,11 @@ impl Peer for u64 {
     {
         Some(*self)
     }
+
+    /// The number itself.
+    fn hint(&self) -> u64 {
+        *self
+    }
 }
 
 impl Peer for char {
@@ -32,5 +43,10 @@ impl Peer for char {
         ensures always { result ≡ Some self.now }
     {
         Some(*self)
+    }
+
+    /// The number of the character.
+    fn hint(&self) -> u64 {
+        u64::from(*self as u32)
     }
 }

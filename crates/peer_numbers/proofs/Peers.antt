@@ -1,27 +1,23 @@
 -- Peers with numbers: what one more entry changes.
-use Rattle.std.proofs.Common.{◌≡◌, ℕ, zero, suc, ◌<◌, ◌≤◌, Bool, true, false, cond, List, [], ◌∷◌, ◌++◌, length}
-use Rattle.std.proofs.Common.{eqb, Option, MatchOption, Some, None, All, refl, sym, ap, ap₂, subst, ◌∙◌, arith, length-append}
+use Rattle.std.proofs.Common.{◌≡◌, ℕ, zero, suc, ◌≤◌, Bool, true, false, cond, List, [], ◌∷◌, ◌++◌, ◌⊎◌, inl, inr, length, slice_get}
+use Rattle.std.proofs.Common.{eqb, Option, MatchOption, Some, None, refl, sym, ap, ap₂, subst, ◌∙◌, arith, length-append}
 use mathlib.Core.Path.{fun_ext}
-use Rattle.std.proofs.Math.Seq.{take-append_seam, drop-append_seam}
-use Rattle.std.specs.BTreeMap.{insert_entry}
 use Rattle.std.specs.Cmp.{IsTotalOrder}
 use Rattle.std.specs.List.{position, position_or_len}
 use Rattle.std.specs.Map.{lookup}
 use Rattle.std.specs.Option.{option_or}
 use Rattle.std.specs.declared.cmp.Ordering.{Ordering}
 use Rattle.std.specs.declared.cmp.Ordering.TheVariants.{Less, Equal, Greater}
-use Rattle.std.specs.Ordering.{is_eq, match_ordering}
+use Rattle.std.specs.Ordering.{is_eq}
 use Rattle.std.proofs.lemmas.Grind.{common_steps}
 use Rattle.std.proofs.lemmas.Bool.{eqb-false}
 use Rattle.std.proofs.lemmas.Cmp.{eq_by_cmp_equiv, tied_back}
 use Rattle.std.proofs.lemmas.List.Quantifiers.{position-Some}
 use Rattle.fair_rates.proofs.Lists.Sorted.{is_eq_equal}
-use Rattle.std.proofs.lemmas.List.{map-append}
-use Rattle.std.proofs.lemmas.List.Elements.{filter-append, All-head, All-tail, All-cons, All-append, All-take, All-drop, All-weaker}
 use Rattle.std.proofs.lemmas.List.Folds.{position_or_len_push}
 use Rattle.std.proofs.lemmas.List.Sums.{prefix_len-le-length}
 use Rattle.fair_rates.specs.Sides.Subjects.{same_peer}
-use Rattle.peer_numbers.specs.Peers.{number_of, IsWithPeer, with_number, below, listed, AreNumbered}
+use Rattle.peer_numbers.specs.Peers.{number_of, IsWithPeer, AreNumbered}
 
 -- ---- places
 
@@ -35,98 +31,19 @@ or_none : {X : Type 0} (o : Option X) → option_or o None ≡ o
 or_none None = refl
 or_none (Some x) = refl
 
--- ---- one more entry
-
-abbrev AreBelow : {P : Type 0} → ℕ → List (P × ℕ) → Type 0
-AreBelow number = All (λ entry. entry.1 < number)
-
--- no entry has that number
-none_there : {P : Type 0} (entries : List (P × ℕ)) (number : ℕ) → AreBelow number entries
-    → with_number entries number ≡ []
-none_there [] number h = refl
-none_there (e ∷ entries) number h =
-    let first : e.1 < number = All-head (λ entry. entry.1 < number) e entries h in
-    let rest = none_there entries number (All-tail (λ entry. entry.1 < number) e entries h) in
-    grind (arith, common_steps, rest, first)
-
-module _ {P : Type 0} (before after : List (P × ℕ)) (peer : P) (number : ℕ) where
-  abbrev old : List (P × ℕ)
-  old = before ++ after
-
-  abbrev mended : List (P × ℕ)
-  mended = before ++ (peer, number) ∷ after
-
-  others : (other : ℕ) → eqb number other ≡ false → with_number mended other ≡ with_number old other
-  others other h = simp (filter-append, map-append, h)
-
-  left : AreBelow number old → AreBelow number before
-  left small =
-      subst (AreBelow number) (take-append_seam before after) (All-take (λ entry. entry.1 < number) (length before) old small)
-
-  right : AreBelow number old → AreBelow number after
-  right small =
-      subst (AreBelow number) (drop-append_seam before after) (All-drop (λ entry. entry.1 < number) (length before) old small)
-
-  there : AreBelow number old → with_number mended number ≡ peer ∷ []
-  there small =
-      let l = none_there before number (left small) in
-      let r = none_there after number (right small) in
-      let same : eqb number number ≡ true = grind arith in
-      simp (filter-append, map-append, same, l, r)
-
-  below-mended : (n : ℕ) → n ≤ number → below mended n ≡ below old n
-  below-mended zero h = refl
-  below-mended (suc n) h = ap₂ (λ xs ys. xs ++ ys) (below-mended n (omega arith)) (others n (grind arith))
-
-  length-mended : length mended ≡ suc (length old)
-  length-mended = simp length-append (omega arith)
-
-  listed-mended : number ≡ length old → AreBelow number old → listed mended ≡ listed old ++ peer ∷ []
-  listed-mended count small =
-      ap (below mended) (length-mended ∙ ap suc (sym count))
-      ∙ ap₂ (λ xs ys. xs ++ ys) (below-mended number (omega arith) ∙ ap (below old) count) (there small)
-
-  small-mended : number ≡ length old → AreBelow number old → AreBelow (length mended) mended
-  small-mended count small =
-      let more : (e : P × ℕ) → e.1 < number → e.1 < length mended = λ e h. omega (arith, length-mended) in
-      All-append (λ entry. entry.1 < length mended) before ((peer, number) ∷ after)
-      (All-weaker (λ entry. entry.1 < number) (λ entry. entry.1 < length mended) more before (left small))
-      (All-cons (λ entry. entry.1 < length mended) (peer, number) after (omega (arith, length-mended))
-      (All-weaker (λ entry. entry.1 < number) (λ entry. entry.1 < length mended) more after (right small)))
+-- what stands at a place of a list with one more stood there before, or is that one
+got_in_push : {X : Type 0} (xs : List X) (y : X) (i : ℕ) (x : X) → slice_get (xs ++ y ∷ []) i ≡ Some x
+    → (slice_get xs i ≡ Some x) ⊎ ((i ≡ length xs) × (y ≡ x))
+got_in_push [] y zero x h = inr (refl, cc)
+got_in_push [] y (suc i) x h = absurd cc
+got_in_push (z ∷ xs) y zero x h = inl h
+got_in_push (z ∷ xs) y (suc i) x h =
+    elim (got_in_push xs y i x h) [
+      | inl there ↦ inl there
+      | inr last ↦ inr (ap suc last.0, last.1)
+    ]
 
 -- ---- one more peer
-
-module _ {P : Type 0} (cmp : P → P → Ordering) where
-  -- an entry comes in between others
-  record IsBetween (entries : List (P × ℕ)) (peer : P) (number : ℕ) (new : List (P × ℕ)) : Type 0 where
-    before : List (P × ℕ)
-    after : List (P × ℕ)
-    was : entries ≡ before ++ after
-    is : new ≡ before ++ (peer, number) ∷ after
-
-  -- the next number goes to a peer
-  pub record IsMore (entries : List (P × ℕ)) (copy : P) (new : List (P × ℕ)) : Type 0 where
-    pub numbered : AreNumbered cmp new
-    pub all : listed new ≡ listed entries ++ copy ∷ []
-
-  -- by how the peer compares with that of the first entry
-  inserted-by : (o : Ordering) (e : P × ℕ) (entries : List (P × ℕ)) (peer : P) (number : ℕ)
-      → (lookup (same_peer cmp peer) entries ≡ None
-      → IsBetween entries peer number (insert_entry cmp entries peer number))
-      → cond (is_eq o) (Some e.1) (lookup (same_peer cmp peer) entries) ≡ None
-      → IsBetween (e ∷ entries) peer number
-      (match_ordering o ((peer, number) ∷ e ∷ entries) ((e.0, number) ∷ entries) (e ∷ insert_entry cmp entries peer number))
-  inserted-by Less e entries peer number rest h = record { before = []; after = e ∷ entries; was = refl; is = refl }
-  inserted-by Equal e entries peer number rest h = cc
-  inserted-by Greater e entries peer number rest h =
-      let r = rest h in
-      record { before = e ∷ r.before; after = r.after; was = ap (λ es. e ∷ es) r.was; is = ap (λ es. e ∷ es) r.is }
-
-  inserted : (entries : List (P × ℕ)) (peer : P) (number : ℕ) → lookup (same_peer cmp peer) entries ≡ None
-      → IsBetween entries peer number (insert_entry cmp entries peer number)
-  inserted [] peer number absent = record { before = []; after = []; was = refl; is = refl }
-  inserted (e ∷ entries) peer number absent =
-      inserted-by (cmp peer e.0) e entries peer number (inserted entries peer number) absent
 
 module _ {P : Type 0} (cmp : P → P → Ordering) (total : IsTotalOrder cmp) where
   -- peers that are one have one number
@@ -151,44 +68,6 @@ module _ {P : Type 0} (cmp : P → P → Ordering) (total : IsTotalOrder cmp) wh
       by Greater h = or_none (number_of cmp peers other)
       by Equal h =
           ap (λ number. option_or number (Some (length peers))) (sym (number_of-same peers other copy h) ∙ none)
-
-  -- the next number goes to a peer that has none
-  pub more : (entries new : List (P × ℕ)) (peer copy : P) → AreNumbered cmp entries
-      → number_of cmp (listed entries) peer ≡ None → cmp copy peer ≡ Equal
-      → new ≡ insert_entry cmp entries copy (length entries)
-      → ((other : P) → lookup (same_peer cmp other) new
-      ≡ cond (same_peer cmp copy other) (Some (length entries)) (lookup (same_peer cmp other) entries))
-      → IsMore cmp entries copy new
-  more entries new peer copy numbered none same is updated =
-      let absent = number_of-same (listed entries) peer copy same ∙ none in
-      let between = inserted cmp entries copy (length entries) (numbered.found copy ∙ absent) in
-      let was = between.was in
-      let made = is ∙ between.is in
-      let count : length entries ≡ length (between.before ++ between.after) = ap length was in
-      let small : AreBelow (length entries) (between.before ++ between.after) =
-      subst (AreBelow (length entries)) was numbered.small in
-      let all : listed new ≡ listed entries ++ copy ∷ [] =
-      ap listed made ∙ listed-mended between.before between.after copy (length entries) count small
-      ∙ ap (λ es. listed es ++ copy ∷ []) (sym was) in
-      record {
-        all = all;
-        numbered = record {
-          small = subst (λ es. AreBelow (length es) es) (sym made)
-              (small-mended between.before between.after copy (length entries) count small);
-          count = ap length all ∙ simp length-append
-              (omega (
-                arith,
-                numbered.count,
-                count,
-                ap length made,
-                length-mended between.before between.after copy (length entries),
-              ));
-          found = λ other. updated other
-              ∙ ap₂ (λ n number. cond (same_peer cmp copy other) (Some n) number) (sym numbered.count) (numbered.found other)
-              ∙ sym (ap (λ peers. number_of cmp peers other) all
-              ∙ number_of-push (listed entries) copy other absent);
-        };
-      }
 
   -- and so it gets it
   pub number_of-last : (peers : List P) (peer copy : P) → number_of cmp peers peer ≡ None → cmp copy peer ≡ Equal
@@ -251,3 +130,36 @@ number_stays {P = P} cmp peers peer new with other number h = by (number_of cmp 
         ∙ position_push (same_peer cmp other) peers w.0
         ∙ ap (λ found. option_or found (cond (same_peer cmp other w.0) (Some (length peers)) None)) h
     by (Some at) w = ap (λ list. number_of cmp list other) w ∙ h
+
+module _ {P : Type 0} (cmp : P → P → Ordering) (total : IsTotalOrder cmp) where
+  -- the next number goes to a peer that has none: a copy of it comes into the list, and another into the map
+  pub more : (peers : List P) (entries new : List (P × ℕ)) (peer copy key : P) → AreNumbered cmp peers entries
+      → number_of cmp peers peer ≡ None → cmp copy peer ≡ Equal → cmp key peer ≡ Equal
+      → ((other : P) → lookup (same_peer cmp other) new
+      ≡ cond (same_peer cmp key other) (Some (length peers)) (lookup (same_peer cmp other) entries))
+      → AreNumbered cmp (peers ++ copy ∷ []) new
+  more peers entries new peer copy key numbered none same same_key updated =
+      let absent : number_of cmp peers copy ≡ None = number_of-same cmp total peers peer copy same ∙ none in
+      let as_copy : (other : P) → same_peer cmp key other ≡ same_peer cmp copy other =
+      λ other. ap is_eq (total.congr key peer other same_key ∙ sym (total.congr copy peer other same)) in
+      record {
+        found = λ other. updated other
+            ∙ ap₂ (λ b number. cond b (Some (length peers)) number) (as_copy other) (numbered.found other)
+            ∙ sym (number_of-push cmp total peers copy other absent);
+        first = λ number other there. elim (got_in_push peers copy number other there) [
+          | inl before ↦
+            number_stays cmp peers peer (peers ++ copy ∷ []) (with_peer cmp total peers peer copy none same) other number
+            (numbered.first number other before)
+          | inr last ↦
+            ap (number_of cmp (peers ++ copy ∷ [])) (sym last.1)
+            ∙ number_of-last cmp total peers copy copy absent (is_eq_equal _ ((eq_by_cmp_equiv total).refl copy))
+            ∙ ap Some (sym last.0)
+        ];
+      }
+
+  -- a peer that stands at a place has that number, as others that are one with it
+  pub number_there : (peers : List P) (entries : List (P × ℕ)) → AreNumbered cmp peers entries
+      → (number : ℕ) (there peer : P) → slice_get peers number ≡ Some there → cmp there peer ≡ Equal
+      → number_of cmp peers peer ≡ Some number
+  number_there peers entries numbered number there peer got same =
+      sym (number_of-same cmp total peers peer there same) ∙ numbered.first number there got

@@ -1,5 +1,5 @@
 -- Peers, and the numbers that they have by their places in a list.
-use Rattle.std.specs.Prelude.{◌≡◌, ℕ, zero, suc, true, ◌<◌, ◌==◌, List, [], ◌∷◌, ◌++◌, Option, MatchOption, All, length, map, filter}
+use Rattle.std.specs.Prelude.{◌≡◌, ℕ, true, List, [], ◌∷◌, ◌++◌, Option, Some, MatchOption, slice_get}
 use Rattle.std.specs.List.{position}
 use Rattle.std.specs.Map.{lookup}
 use Rattle.std.specs.declared.cmp.Ordering.{Ordering}
@@ -17,19 +17,7 @@ module _ {P : Type 0} (cmp : P → P → Ordering) where
       ((copy : P) × (same_peer cmp copy peer ≡ true) × (new ≡ peers ++ copy ∷ []))
       (λ number. new ≡ peers)
 
--- the peers with one number, those with a number below another in the order of their numbers, and all
-abbrev pub with_number : {P : Type 0} → List (P × ℕ) → ℕ → List P
-with_number entries number = map (λ entry. entry.0) (filter (λ entry. entry.1 == number) entries)
-
-abbrev pub below : {P : Type 0} → List (P × ℕ) → ℕ → List P
-below entries zero = []
-below entries (suc number) = below entries number ++ with_number entries number
-
-abbrev pub listed : {P : Type 0} → List (P × ℕ) → List P
-listed entries = below entries (length entries)
-
--- the entries say of each peer its place among those that are listed
-pub record AreNumbered {P : Type 0} (cmp : P → P → Ordering) (entries : List (P × ℕ)) : Type 0 where
-  pub small : All (λ entry. entry.1 < length entries) entries
-  pub count : length (listed entries) ≡ length entries
-  pub found : (peer : P) → lookup (same_peer cmp peer) entries ≡ number_of cmp (listed entries) peer
+-- the entries of a map say of each peer its place in the list, and each of the list is told by its own place
+pub record AreNumbered {P : Type 0} (cmp : P → P → Ordering) (peers : List P) (entries : List (P × ℕ)) : Type 0 where
+  pub found : (peer : P) → lookup (same_peer cmp peer) entries ≡ number_of cmp peers peer
+  pub first : (number : ℕ) (peer : P) → slice_get peers number ≡ Some peer → number_of cmp peers peer ≡ Some number

@@ -1,7 +1,8 @@
 //! Peers with a number each.
-ghost use Rattle.std.specs.Prelude.{◌≡◌, [], length, Some, IfOk, IfErr, OnOk, OnErr};
+ghost use Rattle.std.specs.Prelude.{◌≡◌, [], length, Some, IfSome, IfOk, IfErr, OnOk, OnErr};
 ghost use Rattle.peer_numbers.specs.Peers.{number_of, IsWithPeer};
 
+use crate::hints::Hints;
 use fair_rates::error::Error;
 use fair_rates::peer::Peer;
 use std::alloc::Global;
@@ -12,18 +13,22 @@ use std::marker::Model;
 /// number. To callers it is the list of the peers, where the number of each is its place.
 #[derive(Drop)]
 pub struct PeerNumbers<P: Peer> {
+    // Each at its number.
+    peers: Vec<P>,
     numbers: BTreeMap<P, usize>,
+    // Most are found by what they hint at, without the map.
+    hints: Hints,
 }
 
 impl<P: Peer> Model for PeerNumbers<P> {
     ghost use Rattle.std.specs.Prelude.{List};
-    ghost use Rattle.peer_numbers.specs.Peers.{listed, AreNumbered};
+    ghost use Rattle.peer_numbers.specs.Peers.{AreNumbered};
 
     ghost Value = { List P };
 
-    ghost view = { λ peers. listed peers.numbers.entries };
+    ghost view = { λ numbers. numbers.peers.items };
 
-    ghost invariant = { λ peers. AreNumbered P.cmp peers.numbers.entries };
+    ghost invariant = { λ numbers. AreNumbered P.cmp numbers.peers.items numbers.numbers.entries };
 }
 
 impl<P: Peer> PeerNumbers<P> {
@@ -32,7 +37,9 @@ impl<P: Peer> PeerNumbers<P> {
         ensures { result ≡ [] }
     {
         PeerNumbers {
+            peers: Vec::new(alloc),
             numbers: BTreeMap::new(alloc),
+            hints: Hints::new(alloc),
         }
     }
 
@@ -40,31 +47,71 @@ impl<P: Peer> PeerNumbers<P> {
     pub fn len(&self) -> usize
         ensures { result ≡ length self.now }
     {
-        self.numbers.len()
+        self.peers.len()
+    }
+
+    /// The number that is guessed for the peer, if it is its number.
+    #[inline(always)]
+    fn guessed(&self, peer: &P) -> Option<usize>
+        ensures { IfSome result (λ number. number_of P.cmp self.now peer.now ≡ Some number) }
+    {
+        let number = self.hints.number(peer.hint());
+        match self.peers.get(number) {
+            Some(known) if known.cmp(peer).is_eq() => Some(number),
+            _ => None,
+        }
     }
 
     /// The number of the peer, if it has one.
+    #[inline(always)]
     pub fn number(&self, peer: &P) -> Option<usize>
         ensures { result ≡ number_of P.cmp self.now peer.now }
     {
+        if let Some(number) = self.guessed(peer) {
+            return Some(number);
+        }
         self.numbers.get(peer).copied()
     }
 
-    /// The number of the peer, which gets the next one if it has none: then a clone of it is kept.
+    /// The number of the peer, which gets the next one if it has none: then clones of it are kept.
     ///
-    /// `OutOfMemory`: no memory was left for the clone or the map. Then no peer has got a number.
+    /// `OutOfMemory`: no memory was left for the clones, the list or the map. Then no peer has got a number.
+    #[inline(always)]
     pub fn add(&mut self, peer: &P) -> Result<usize, Error>
         ensures number { IfOk result (λ number. number_of P.cmp self.new peer.now ≡ Some number) }
         ensures peers { OnOk result (IsWithPeer P.cmp self.old peer.now self.new) }
         ensures refused { IfErr result (λ error. error ≡ Error.OutOfMemory) }
         ensures unchanged { OnErr result (self.new ≡ self.old) }
     {
-        if let Some(number) = self.number(peer) {
+        if let Some(number) = self.guessed(peer) {
             return Ok(number);
         }
-        let number = self.numbers.len();
+        let number = self.find_or_push(peer)?;
+        if self.hints.are_few_for(self.peers.len()) {
+            self.hints.grow(&self.peers);
+        }
+        self.hints.note(peer.hint(), number);
+        Ok(number)
+    }
+
+    /// The number of the peer, as `add` answers it, by the map.
+    fn find_or_push(&mut self, peer: &P) -> Result<usize, Error>
+        ensures number { IfOk result (λ number. number_of P.cmp self.new peer.now ≡ Some number) }
+        ensures peers { OnOk result (IsWithPeer P.cmp self.old peer.now self.new) }
+        ensures refused { IfErr result (λ error. error ≡ Error.OutOfMemory) }
+        ensures unchanged { OnErr result (self.new ≡ self.old) }
+    {
+        if let Some(number) = self.numbers.get(peer) {
+            return Ok(*number);
+        }
+        let number = self.peers.len();
         let copy = peer.clone_peer().ok_or(Error::OutOfMemory)?;
-        self.numbers.insert(copy, number)?;
+        let key = peer.clone_peer().ok_or(Error::OutOfMemory)?;
+        self.peers.push(copy)?;
+        let Ok(_) = self.numbers.insert(key, number) else {
+            self.peers.pop();
+            return Err(Error::OutOfMemory);
+        };
         Ok(number)
     }
 }

@@ -8,6 +8,9 @@ use fair_rates::peer::Peer;
 use std::alloc::Global;
 use std::marker::Model;
 
+/// So far apart are the hints of two origins to one recipient: a prime, so that few pairs share one.
+const ORIGIN_STEP: u64 = 1_000_003;
+
 /// The numbers of the peers of a pair.
 #[derive(Clone, Copy, PartialEq, Eq, PartialOrd, Ord)]
 struct Ends {
@@ -19,6 +22,13 @@ impl Peer for Ends {
     /// The numbers themselves, always.
     fn clone_peer(&self) -> Option<Ends> {
         Some(*self)
+    }
+
+    /// Numbers of one origin follow one another.
+    fn hint(&self) -> u64 {
+        (self.origin as u64)
+            .wrapping_mul(ORIGIN_STEP)
+            .wrapping_add(self.recipient as u64)
     }
 }
 
@@ -61,6 +71,7 @@ impl<P: Peer> PairNumbers<P> {
     }
 
     /// The number of the pair, if it has one.
+    #[inline(always)]
     pub fn number(&self, origin: &P, recipient: &P) -> Option<usize>
         ensures { result ≡ number_of_pair P.cmp self.now origin.now recipient.now }
     {
@@ -72,6 +83,7 @@ impl<P: Peer> PairNumbers<P> {
     /// The number of the pair, which gets the next one if it has none: then clones of its peers are kept.
     ///
     /// `OutOfMemory`: no memory was left for the clones or the maps. Then no pair has got a number.
+    #[inline(always)]
     pub fn add(&mut self, origin: &P, recipient: &P) -> Result<usize, Error>
         ensures number { IfOk result (λ number. number_of_pair P.cmp self.new origin.now recipient.now ≡ Some number) }
         ensures pairs { OnOk result (IsWithPair P.cmp self.old origin.now recipient.now self.new) }

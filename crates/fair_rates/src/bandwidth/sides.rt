@@ -93,6 +93,11 @@ impl Places {
             link: self.link.wrapping_add(1),
         }
     }
+
+    /// Whether the sender and the recipient stand where these do.
+    fn have_ends_of(&self, other: &Places) -> bool {
+        self.sender == other.sender && self.recipient == other.recipient
+    }
 }
 
 /// The sides that have come into being, and the number of each, its place among them, by its subject.
@@ -396,7 +401,7 @@ pub(crate) fn sides_under<P: Peer, C: KnownCaps<P>>(
             expected.recipient = guesses.receiver(ends.receiver);
         }
         let stands = register_flow(alloc, &mut registry, place, ends, expected, caps)?;
-        if many {
+        if many && !stands.have_ends_of(&expected) {
             guesses.note(ends.sender, stands.sender, ends.receiver, stands.recipient)?;
         }
         expected = stands.next();
