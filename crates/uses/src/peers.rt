@@ -26,6 +26,10 @@ impl Peer for Validator {
     fn clone_peer(&self) -> Option<Validator> {
         Some(*self)
     }
+
+    fn hint(&self) -> u64 {
+        u64::from(self.number)
+    }
 }
 
 /// What completes until that moment between validators.
