@@ -5,7 +5,6 @@ use bytes::Bytes;
 use fair_rates::error::Error;
 use fair_rates::peer::Peer;
 use std::alloc::AllocError;
-use std::cmp::Ordering;
 
 /// What one peer sends to another.
 #[derive(Drop)]
@@ -28,17 +27,6 @@ impl<P: Peer> Message<P> {
     ghost use Rattle.link_simulation.specs.Simulation.Messages.{is_delivered};
     ghost use Rattle.link_simulation.specs.Simulation.World.{is_late, arrival};
     ghost use Rattle.link_pairs.specs.Pairs.Messages.{message_of};
-    ghost use Rattle.link_pairs.specs.Pairs.Entries.{pair_cmp};
-    ghost use Rattle.link_pairs.specs.Pairs.Messages.{pair_of};
-
-    /// How its pair stands to that of two peers: by origin, then by recipient.
-    pub fn compare(&self, origin: &P, recipient: &P) -> Ordering
-        ensures { result ≡ pair_cmp P.cmp (pair_of self.now) (origin.now, recipient.now) }
-    {
-        self.origin
-            .cmp(origin)
-            .then_with(|| self.recipient.cmp(recipient))
-    }
 
     /// Whether it arrives, under limits: a message to oneself does not.
     pub fn is_delivered(&self) -> bool

@@ -29,6 +29,11 @@ fn next_through(moments: &[Option<u64>], from: usize, time: u64) -> Option<usize
     None
 }
 
+/// The first place of the least moment.
+fn first_place(moments: &Moments) -> Option<usize> {
+    moments.next_due(0, moments.least()?)
+}
+
 /// Both answer alike.
 fn compare(rt: &impl Abort, moments: &Moments, plain: &[Option<u64>], from: usize, time: u64) {
     assert_eq!(rt; moments.len(), plain.len());
@@ -39,7 +44,7 @@ fn compare(rt: &impl Abort, moments: &Moments, plain: &[Option<u64>], from: usiz
         Some(least) => next_through(plain, 0, least),
         None => None,
     };
-    assert_eq!(rt; moments.first_place(), place);
+    assert_eq!(rt; first_place(moments), place);
     assert_eq!(rt;
         moments.next_due(from, time),
         next_through(plain, from, time)
@@ -70,7 +75,7 @@ fn drawn_moment(state: &mut u64) -> Option<u64> {
 fn few_moments(rt: HostRuntime) -> Result<(), Fail> {
     let mut moments = Moments::new(rt.alloc());
     assert_eq!(rt; moments.least(), None);
-    assert_eq!(rt; moments.first_place(), None);
+    assert_eq!(rt; first_place(&moments), None);
     assert_eq!(rt; moments.next_due(0, u64::MAX), None);
     for moment in [
         None,
@@ -85,7 +90,7 @@ fn few_moments(rt: HostRuntime) -> Result<(), Fail> {
     }
     assert_eq!(rt; moments.len(), 7);
     assert_eq!(rt; moments.least(), Some(3));
-    assert_eq!(rt; moments.first_place(), Some(4));
+    assert_eq!(rt; first_place(&moments), Some(4));
     assert_eq!(rt; moments.next_due(0, 7), Some(2));
     assert_eq!(rt; moments.next_due(3, 7), Some(4));
     assert_eq!(rt; moments.next_due(5, 7), Some(5));
@@ -94,13 +99,13 @@ fn few_moments(rt: HostRuntime) -> Result<(), Fail> {
     assert_eq!(rt; moments.next_due(0, u64::MAX), Some(1));
     assert_eq!(rt; moments.next_due(0, 2), None);
     moments.set(4, None);
-    assert_eq!(rt; moments.first_place(), Some(6));
+    assert_eq!(rt; first_place(&moments), Some(6));
     moments.truncate(6);
     assert_eq!(rt; moments.least(), Some(7));
     moments.truncate(2);
     assert_eq!(rt; moments.least(), Some(u64::MAX));
     assert_eq!(rt; moments.get(1), Some(u64::MAX));
-    assert_eq!(rt; moments.first_place(), Some(1));
+    assert_eq!(rt; first_place(&moments), Some(1));
     moments.set(1, None);
     assert_eq!(rt; moments.least(), None);
     assert_eq!(rt; moments.next_due(0, u64::MAX), None);
@@ -151,6 +156,6 @@ fn refused_memory_changes_nothing(rt: HostRuntime) -> Result<(), Fail> {
         }
     }
     assert_eq!(rt; moments.len(), 40);
-    assert_eq!(rt; moments.first_place(), Some(39));
+    assert_eq!(rt; first_place(&moments), Some(39));
     Ok(())
 }

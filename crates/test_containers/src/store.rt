@@ -53,7 +53,7 @@ impl Tables {
     {
         let level = *self.levels.at(from);
         self.levels.set(to, level)?;
-        *self.levels.make_mut(from)? = 0;
+        self.levels.set(from, 0)?;
         self.moves.push(Move { from, to })
     }
 }

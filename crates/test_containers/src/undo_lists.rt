@@ -20,7 +20,7 @@ fn change(list: &mut UndoList<u64>) -> Result<(), AllocError> {
         return Ok(());
     }
     list.set(2, 30)?;
-    *list.make_mut(0)? = 10;
+    list.set(0, 10)?;
     list.set(2, 31)?;
     list.push(40)?;
     list.push(50)?;
@@ -81,8 +81,10 @@ fn texts_come_back(rt: HostRuntime) -> Result<(), Fail> {
     list.push(String::from_str(alloc, "two")?)?;
     list.commit();
     list.set(1, String::from_str(alloc, "three")?)?;
-    list.make_mut(1)?.push_str(" and four")?;
-    list.make_mut(0)?.push_str(" and a half")?;
+    if list.is_saved(1) {
+        list.item_mut(1).push_str(" and four")?;
+    }
+    list.set(0, String::from_str(alloc, "one and a half")?)?;
     list.push(String::from_str(alloc, "five")?)?;
     assert_eq!(rt; list.at(0).as_str(), "one and a half");
     assert_eq!(rt; list.at(1).as_str(), "three and four");

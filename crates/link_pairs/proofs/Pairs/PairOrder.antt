@@ -1,8 +1,8 @@
 -- Ordered pairs of peers.
-use Rattle.std.proofs.Common.{◌≡◌, ◌&&◌, ◌||◌, refl}
+use Rattle.std.proofs.Common.{◌≡◌, ◌&&◌, refl}
 use Rattle.std.specs.declared.cmp.Ordering.{Ordering}
 use Rattle.std.specs.declared.cmp.Ordering.TheVariants.{Less, Equal, Greater}
-use Rattle.std.specs.Ordering.{is_eq, is_lt, ordering_then}
+use Rattle.std.specs.Ordering.{is_eq, ordering_then}
 use Rattle.std.specs.Cmp.{IsTotalOrder}
 use Rattle.std.proofs.lemmas.Cmp.{on_total, then_total}
 use Rattle.link_pairs.specs.Pairs.Entries.{pair_cmp}
@@ -16,9 +16,3 @@ pub is_eq-then : (o p : Ordering) → is_eq (ordering_then o p) ≡ (is_eq o && 
 is_eq-then Less p = refl
 is_eq-then Equal p = refl
 is_eq-then Greater p = refl
-
--- a pair is before another where its first part is, or its second part after an equal first
-pub is_lt_by_parts : (o p : Ordering) → is_lt (ordering_then o p) ≡ (is_lt o || (is_eq o && is_lt p))
-is_lt_by_parts Less p = refl
-is_lt_by_parts Equal p = refl
-is_lt_by_parts Greater p = refl
