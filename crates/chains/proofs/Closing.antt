@@ -72,27 +72,9 @@ module _ (t : Table) (owner row : ℕ) (low : row < length t.links) where
 
 -- no row yet
 module _ (t : Table) (empty : t.ends ≡ replicate (length t.ends) no_end) where
-  no_row : (owner n : ℕ) → Stands (front 0 t) owner n → ⊥
-  no_row owner n there = let none : None ≡ Some owner = there in cc
-
   none_at : (owner : ℕ) → owner < length t.ends → end_of t owner ≡ no_end
   none_at owner within =
       ap (λ ends. slice_index_or ends owner no_end) empty ∙ get_or-replicate (length t.ends) owner no_end no_end within
-
-  none_next : (owner : ℕ) (place : Option ℕ) → owner < length t.ends → IsPlace (Stands (front 0 t) owner) place
-      → IsFirst (Stands (front 0 t) owner) (behind place) (next_at (front 0 t) owner place)
-  none_next owner None within there =
-      subst (IsFirst (Stands (front 0 t) owner) 0) (sym (ap (λ (end : End). end.first) (none_at owner within))) (λ n _. no_row owner n)
-  none_next owner (Some n) within there = absurd (no_row owner n there)
-
-  none_prev : (owner : ℕ) (place : Option ℕ) → owner < length t.ends → IsPlace (Stands (front 0 t) owner) place
-      → IsLast (Stands (front 0 t) owner) (end_at 0 place) (prev_at (front 0 t) owner place)
-  none_prev owner None within there =
-      subst (IsLast (Stands (front 0 t) owner) 0) (sym (ap (λ (end : End). end.last) (none_at owner within))) (λ n _. no_row owner n)
-  none_prev owner (Some n) within there = absurd (no_row owner n there)
-
-  pub none_chained : IsChained (front 0 t)
-  none_chained = record { owned = λ owner n there. absurd (no_row owner n there); next = none_next; prev = none_prev }
 
 -- ---- one row comes in
 

@@ -283,19 +283,6 @@ batch_goes_on old new text more goes turns tolerance turn some is = record {
   in_turn = λ e. turn ∙ is.in_turn (sym turns ∙ e);
 }
 
--- and where none is sent, all is as it was
-pub batch_stays : (old new : Checker) (text : List ℕ)
-    → ((said : List ℕ) → IsTold said old.progress → IsTold said new.progress) → new.turns ≡ old.turns
-    → new.tolerance ≡ old.tolerance → new.progress.out_of_turn ≡ old.progress.out_of_turn → new.lines ≡ old.lines
-    → IsUnderway text old → IsUnderway text new
-batch_stays old new text goes turns tolerance turn lines is = record {
-  trace = is.trace;
-  after = subst (λ t. IsAfterTolerance text t is.trace) (sym tolerance) is.after;
-  told = goes is.trace is.told;
-  first = λ e. let was = is.first (sym lines ∙ e) in (was.0, tolerance ∙ was.1);
-  in_turn = λ e. turn ∙ is.in_turn (sym turns ∙ e);
-}
-
 -- ---- what is gathered
 
 -- without a cause a call is timely

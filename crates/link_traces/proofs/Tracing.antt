@@ -398,13 +398,6 @@ least_is_within o t off says = let same : min o t ≡ off = cc in omega (arith, 
 pub agrees_is_not_within : {A : Type 0} (off : ℕ) → Agrees ≡ Within off → A
 agrees_is_not_within off says = absurd cc
 
--- a verdict before the end is neither
-pub early_is_not_agreed : {A : Type 0} (verdict : Verdict) → EndsEarly verdict → verdict ≡ Agrees → A
-early_is_not_agreed verdict early is = absurd (subst EndsEarly is early)
-
-pub early_is_not_within : {A : Type 0} (verdict : Verdict) (off : ℕ) → EndsEarly verdict → verdict ≡ Within off → A
-early_is_not_within verdict off early is = absurd (subst EndsEarly is early)
-
 -- where calls have to be in turn, none is out of turn at the end
 pub concluded_in_turn : (r : Result Report Fault) (before c : Checker) (text : List ℕ)
     → IfOk r (λ report. report.out_of_turn ≡ c.progress.out_of_turn) → IsUnderway text c → c.turns ≡ before.turns

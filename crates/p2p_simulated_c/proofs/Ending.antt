@@ -78,21 +78,6 @@ advanced items (Ok done) now status old between new state number kept made is_ma
 advanced items (Err why) now status old between new state number kept made is_made =
     absurd (numbered why (sym number ∙ is_made))
 
--- no memory for the bytes: nothing was asked of the state
-pub no_memory : (call : Call ℕ) (s : Opened) → Ended call 1 0 s s
-no_memory call s =
-    inr (
-      OutOfMemory,
-      refl,
-      record {
-        refused = record { by_rule = tt; simulated = record { cause = tt; in_range = λ _. refl } };
-        unchanged = refl;
-        kept = refl;
-        counted = refl;
-        moment = refl;
-      },
-    )
-
 -- the scheduler was taken from the handle, the call was made on it, and it was put back
 pub on_open : {C : Type 0} (does : Opened → Opened → Type 0) (old new : Option Opened) (taken lent left put : Opened)
     → old ≡ Some taken → lent ≡ taken → new ≡ Some put → put ≡ left → does lent left → OnHandle C does old new

@@ -111,15 +111,6 @@ module _ {P : Type 0} (cmp : P → P → Ordering) (total : IsTotalOrder cmp) (p
       ∙ other_peer (order_of_pairs cmp) (order_of_pairs-total cmp total) pairs (o, r) (p, q) there
       (sym (number_of_pair-is cmp pairs o r) ∙ h) (sym (number_of_pair-is cmp pairs p q) ∙ k)
 
-  -- pairs that are one have one number
-  pub number_alike : (o r p q : P) → same_peer cmp o p ≡ true → same_peer cmp r q ≡ true
-      → number_of_pair cmp pairs o r ≡ number_of_pair cmp pairs p q
-  number_alike o r p q same_origin same_recipient =
-      number_of_pair-is cmp pairs o r
-      ∙ number_of-same (order_of_pairs cmp) (order_of_pairs-total cmp total) pairs (p, q) (o, r)
-      (is_eq_equal _ (is_eq-then (cmp o p) (cmp r q) ∙ and_from _ _ same_origin same_recipient))
-      ∙ sym (number_of_pair-is cmp pairs p q)
-
 -- a number is below how many there are
 pub number_below : {P : Type 0} (cmp : P → P → Ordering) (pairs : List (P × P)) (o r : P) (number : ℕ)
     → number_of_pair cmp pairs o r ≡ Some number → number < length pairs

@@ -57,12 +57,6 @@ module _ {T : Type 0} (slots : List (Option (Row T))) where
   }
 
   module _ (test : Row T → Bool) where
-    pub held_if : (from : ℕ) (result : Option ℕ) → IsNextSlot test slots from result
-        → IfSome result (λ slot. IsSome (held slots slot))
-    held_if from None next = tt
-    held_if from (Some slot) next = let found = the_row test (held slots slot) next.there in
-        is_there (held slots slot) found.0 found.1
-
     slot_of_passed : (at : ℕ) → passes test (slice_get (live slots) at) ≡ true
         → (slot : ℕ) × IsSlot slots at slot × (passes test (held slots slot) ≡ true)
     slot_of_passed at e =

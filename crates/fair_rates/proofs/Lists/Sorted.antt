@@ -334,27 +334,12 @@ module _ {K : Type 0} (cmp : K → K → Ordering) (total : IsTotalOrder cmp) wh
           (behind p.before (e ∷ p.after) (p.entry ∷ p.after) q
           (rw (is_eq_alike (key e) k q same, is_eq_alike (key p.entry) k q p.same, h) refl)))
 
-      -- a key has an entry from now on
-      pub inserted : (es : List E) (k : K) (at : ℕ) (g : IsGap cmp key es k at) (e : E) → is_eq (cmp (key e) k) ≡ true
-          → (q : K)
-          → value_at cmp key says none (g.before ++ e ∷ g.after) q
-          ≡ (if is_eq (cmp k q) then says e else value_at cmp key says none es q)
-      inserted es k at g e same q = by_bool (is_eq (cmp k q))
-          (λ h. skips g.before (e ∷ g.after) k q g.below h ∙ rw (is_eq_alike (key e) k q same, h) refl)
-          (λ h. rw (g.split, h) (behind g.before (e ∷ g.after) g.after q (rw (is_eq_alike (key e) k q same, h) refl)))
-
     -- ---- by place
 
     pub read_place : (es : List E) (k : K) (at : ℕ) (p : IsPlace cmp key es k at) (d : E) → get_or es at d ≡ p.entry
     read_place es k at p d =
         ap (λ l. get_or l at d) p.split ∙ ap (λ n. get_or (p.before ++ p.entry ∷ p.after) n d) p.is_at
         ∙ get_or-seam p.before p.after p.entry d
-
-    pub set_place : (es : List E) (k : K) (at : ℕ) (p : IsPlace cmp key es k at) (e : E)
-        → set es at e ≡ p.before ++ e ∷ p.after
-    set_place es k at p e =
-        ap (λ l. set l at e) p.split ∙ ap (λ n. set (p.before ++ p.entry ∷ p.after) n e) p.is_at
-        ∙ set-seam p.before p.after p.entry e
 
     pub insert_gap : (es : List E) (k : K) (at : ℕ) (g : IsGap cmp key es k at) (e : E)
         → insert es at e ≡ g.before ++ e ∷ g.after
@@ -386,33 +371,7 @@ module _ {K : Type 0} (cmp : K → K → Ordering) (total : IsTotalOrder cmp) wh
         ∙ ascending_between g.before g.after k e same
         (ap (are_ascending cmp) (sym (map-append key g.before g.after) ∙ ap (map key) (sym g.split)) ∙ h) g.below g.above
 
-    -- an entry of an equal key stands in the place of another as well
-    pub ascending_set_at : (es : List E) (k : K) (at : ℕ) (p : IsPlace cmp key es k at) (e : E)
-        → is_eq (cmp (key e) k) ≡ true → are_ascending cmp (map key es) ≡ true
-        → are_ascending cmp (map key (set es at e)) ≡ true
-    ascending_set_at es k at p e same h =
-        let without : are_ascending cmp (map key p.before ++ map key p.after) ≡ true =
-        ascending_less (map key p.before) (map key p.after) (key p.entry)
-        (ap (are_ascending cmp) (sym (map-append key p.before (p.entry ∷ p.after)) ∙ ap (map key) (sym p.split)) ∙ h) in
-        ap (λ l. are_ascending cmp (map key l)) (set_place es k at p e)
-        ∙ ap (are_ascending cmp) (map-append key p.before (e ∷ p.after))
-        ∙ ascending_between p.before p.after k e same without p.below p.above
-
     module _ {V : Type 0} (says : E → V) (none : V) where
-      pub value_set_at : (es : List E) (k : K) (at : ℕ) (p : IsPlace cmp key es k at) (e : E)
-          → is_eq (cmp (key e) k) ≡ true → (q : K)
-          → value_at cmp key says none (set es at e) q
-          ≡ (if is_eq (cmp k q) then says e else value_at cmp key says none es q)
-      value_set_at es k at p e same q =
-          ap (λ l. value_at cmp key says none l q) (set_place es k at p e) ∙ replaced says none es k at p e same q
-
-      pub value_insert_at : (es : List E) (k : K) (at : ℕ) (g : IsGap cmp key es k at) (e : E)
-          → is_eq (cmp (key e) k) ≡ true → (q : K)
-          → value_at cmp key says none (insert es at e) q
-          ≡ (if is_eq (cmp k q) then says e else value_at cmp key says none es q)
-      value_insert_at es k at g e same q =
-          ap (λ l. value_at cmp key says none l q) (insert_gap es k at g e) ∙ inserted says none es k at g e same q
-
       pub value_there : (es : List E) (k : K) (at : ℕ) → IsPlace cmp key es k at → (d : E)
           → says (get_or es at d) ≡ value_at cmp key says none es k
       value_there es k at p d = ap says (read_place es k at p d) ∙ sym (at_place says none es k at p)

@@ -21,16 +21,6 @@ use Rattle.link_simulation.specs.Simulation.RefusalCauses.{IsRefusedFor}
 use Rattle.link_simulation.proofs.Simulation.RefusalCauses.{refused_more}
 use Rattle.link_events.proofs.Steps.Finishing.{first_of_key, then_some_is}
 
--- two facts of an answer make a third
-pub on_ok_both : {X E A B C : Type 0} (r : Result X E) → (A → B → C) → OnOk r A → OnOk r B → OnOk r C
-on_ok_both (Ok x) f a b = f a b
-on_ok_both (Err e) f a b = tt
-
--- what follows from an answer and from a refusal
-pub on_either : {X E A B C : Type 0} (r : Result X E) → (A → C) → (B → C) → OnOk r A → OnErr r B → C
-on_either (Ok x) f h a b = f a
-on_either (Err e) f h a b = h b
-
 -- what an answer makes of a fact about it
 pub if_ok : {X E : Type 0} {A B : X → Type 0} (r : Result X E) → ((x : X) → A x → B x) → IfOk r A → IfOk r B
 if_ok (Ok x) f a = f x a

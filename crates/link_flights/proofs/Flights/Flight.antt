@@ -187,12 +187,6 @@ module _ {P : Type 0} where
       by_flag true = le-leb f.since at le
       by_flag false = refl
 
-  -- another one that has its rate since the same moment
-  pub past_alike : (at : ℕ) (f g : Flight P) → g.since ≡ f.since → g.rated ≡ f.rated
-      → is_past at f ≡ true → is_past at g ≡ true
-  past_alike at f g since rated past =
-      ap (λ b. not b || nat_le g.since at) rated ∙ ap (λ n. not f.rated || nat_le n at) since ∙ past
-
   -- one that is passed over
   pub is_counted_on : (at now : ℕ) (f : Flight P) → f.rated ≡ true → is_past at f ≡ true → at ≤ now
       → IsBrought at now f f

@@ -31,11 +31,6 @@ abbrev pub letter : {P : Type 0} → P → code.Message P
 letter p = record { origin = p; recipient = p; channel = 0; bytes = []; latency = 0; should_deliver = true }
 
 module _ {P : Type 0} (cmp : P → P → Ordering) where
-  -- who has the peer at an end shares it with such a message
-  pub shares_end : (end : End) (p : P) (m : code.Message P) → share cmp end (letter p) m ≡ is_at_end cmp end p m
-  shares_end Origin p m = refl
-  shares_end Recipient p m = refl
-
   -- so the next place is the same
   pub next_has_end : (end : End) (p : P) (list : List (Flight P)) (from : ℕ) (next : Option ℕ)
       → IsNextPlace (λ one. share cmp end (letter p) one.message.value) list from next
@@ -105,20 +100,6 @@ module _ {P : Type 0} {a : _} {b : _} {c : _} where
     at = t.at ∙ s.at;
     still = λ u h. t.still u (s.still u h);
   }
-
-  -- what has been loosened stays so
-  pub loosens_then : (test : Message P → Bool) (old mid new : Flights P a b c) → Loosens test old mid
-      → AreStillLoose mid new → Loosens test old new
-  loosens_then test old mid new l t = record {
-    loose = still_then old mid new l.loose t;
-    all = λ u has rated passes.
-        t.still u (l.all u (subst (λ us. Contains us u) (λ i. flights_at (t.at i) (t.list i)) has) rated passes);
-  }
-
-  -- and what was so before
-  pub then_loosens : (test : Message P → Bool) (old mid new : Flights P a b c) → AreStillLoose old mid
-      → Loosens test mid new → Loosens test old new
-  then_loosens test old mid new s l = record { loose = still_then old mid new s l.loose; all = l.all }
 
   module _ (cmp : P → P → Ordering) (end : End) (p : P) (old : Flights P a b c) where
     -- those before some place that have the peer at that end are loose, and the next is known

@@ -18,14 +18,6 @@ pub record AreListedUpTo (noted : List Bool) (at : ℕ) (places : List ℕ) : Ty
   pub only : All (λ p. slice_get noted p ≡ Some true) places
   pub all : (p : ℕ) → p < at → slice_get noted p ≡ Some true → Contains places p
 
-pub none_up_to : (noted : List Bool) → AreListedUpTo noted 0 []
-none_up_to noted = record {
-  order = tt;
-  below = All-nil (λ p. p < 0);
-  only = All-nil (λ p. slice_get noted p ≡ Some true);
-  all = λ p below. absurd (omega (arith, below));
-}
-
 module _ (noted : List Bool) (at : ℕ) (places : List ℕ) (so_far : AreListedUpTo noted at places) where
   still_below : All (λ p. p < at + 1) places
   still_below = All-weaker (λ p. p < at) (λ p. p < at + 1) (λ p less. omega (arith, less)) places so_far.below
@@ -91,18 +83,6 @@ noted_with_one places noted at inside are = record {
       | inl same ↦ subst (λ q. slice_get (slice_set noted at true) q ≡ Some true) same here
       | inr other ↦ get_set_other noted at p true other ∙ is
     ]
-
--- what is listed is noted, so where those that are noted are listed again, it still is
-pub still_if_noted : (places : List ℕ) (noted : List Bool) (again : List ℕ) → AreNoted places noted
-    → ((at : ℕ) → slice_get noted at ≡ Some true → Contains again at) → AreStillListed places again
-still_if_noted places noted again are listed p is =
-    listed p (All-contains (λ at. slice_get noted at ≡ Some true) places p are.only is)
-
--- and no others are
-pub only_if_noted : (places : List ℕ) (noted : List Bool) (again : List ℕ) → AreNoted places noted
-    → All (λ at. slice_get noted at ≡ Some true) again → AreStillListed again places
-only_if_noted places noted again are only p is =
-    are.listed p (All-contains (λ at. slice_get noted at ≡ Some true) again p only is)
 
 -- where each place is noted as not listed, it is noted nowhere
 pub nowhere_noted : (noted : List Bool) → All (λ n. n ≡ false) noted → AreNoted [] noted

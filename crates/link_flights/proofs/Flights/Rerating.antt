@@ -143,12 +143,6 @@ module _ {P : Type 0} (now times rate : ℕ) where
       timed = timed at x (slice_get-get_or fs at x there ∙ ap Some (sym is)) rated;
     }
 
--- it is counted so where another list was the same before
-pub counted_alike : {P : Type 0} {a : _} {b : _} {c : _} (at : ℕ) (old same new : Flights P a b c)
-    → same.list.items ≡ old.list.items → same.rated_anew ≡ old.rated_anew → IsCountedAt at same new
-    → IsCountedAt at old new
-counted_alike at old same new items count h = rw (sym items, sym count) h
-
 set_there : {X : Type 0} (xs : List X) (at : ℕ) (y : X) (i : ℕ) (x : X) → slice_get (set xs at y) i ≡ Some x
     → (x ≡ y) ⊎ (slice_get xs i ≡ Some x)
 set_there [] at y i x there = inr there

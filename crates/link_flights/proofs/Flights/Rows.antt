@@ -136,38 +136,6 @@ module _ {T : Type 0} (rows : List (Row T)) (sender receiver : ℕ) where
   after from None is i low p passed = is i low (half _ passed)
   after from (Some at) is i low p passed = is.first i low p (half _ passed)
 
-  sent_there : (from : ℕ) (next : Option ℕ) → IsNext (is_sent_by sender) rows from next
-      → IfSome next (λ at. passes (is_sent_by sender) (slice_get rows at) ≡ true)
-  sent_there from None is = tt
-  sent_there from (Some at) is = is.there
-
-  pub first_walk : (next : Option ℕ) → IsNext (is_sent_by sender) rows 0 next → IfSome next (λ at. at < length rows)
-      → IsWalk next
-  first_walk next is within = record {
-    within = within;
-    sent = sent_there 0 next is;
-    past = λ i p passed. after 0 next is i (omega arith) p passed;
-  }
-
-  pub next_walk : (at : ℕ) (row : Row T) (next : Option ℕ) → IsWalk (Some at) → slice_get rows at ≡ Some row
-      → eqb row.receiver receiver ≡ false → IsNext (is_sent_by row.sender) rows (suc at) next
-      → IfSome next (λ at. at < length rows) → IsWalk next
-  next_walk at row next walk get other behind within =
-      let same : row.sender ≡ sender = eqb-true row.sender sender (ap (passes (is_sent_by sender)) (sym get) ∙ walk.sent) in
-      let is = subst (λ owner. IsNext (is_sent_by owner) rows (suc at) next) same behind in
-      record {
-        within = within;
-        sent = sent_there (suc at) next is;
-        past = λ i p passed. by_bool (ltb i at) (λ low. walk.past i (ltb-true i at low) passed)
-            (λ high. by_bool (eqb i at)
-            (λ here. not_both row other
-            (ap (passes is_between) (sym get ∙ ap (slice_get rows) (sym (eqb-true i at here))) ∙ passed))
-            (λ there. after (suc at) next is i (omega (arith, ltb-false i at high, eqb-false i at there)) p passed));
-      }
-    where
-      not_both : (row : Row T) → eqb row.receiver receiver ≡ false → is_between row ≡ true → ⊥
-      not_both row unlike passed = cc (second_of_both (is_sent_by sender row) _ passed)
-
   pub walk_found : (at : ℕ) (row : Row T) → IsWalk (Some at) → slice_get rows at ≡ Some row
       → eqb row.receiver receiver ≡ true → list_any is_between rows ≡ true
   walk_found at row walk get same =

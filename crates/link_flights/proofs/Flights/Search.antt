@@ -75,17 +75,6 @@ either : (a b : Bool) → b ≡ true → (a || b) ≡ true
 either true b h = refl
 either false b h = h
 
--- what is listed still is, and no other, where one more comes to the end
-pub still_with_one : (before : List ℕ) (at : ℕ) → AreStillListed before (before ++ at ∷ [])
-still_with_one before at p is = Contains-append_left before (at ∷ []) p is
-
-pub only_with_one : (before : List ℕ) (at : ℕ) → All (λ p. Contains before p ⊎ (p ≡ at)) (before ++ at ∷ [])
-only_with_one before at =
-    All-append (λ p. Contains before p ⊎ (p ≡ at)) before (at ∷ [])
-    (All-weaker (Contains before) (λ p. Contains before p ⊎ (p ≡ at)) (λ p is. inl is) before
-    (All-contains_itself before))
-    (All-cons (λ p. Contains before p ⊎ (p ≡ at)) at [] (inr refl) (All-nil (λ p. Contains before p ⊎ (p ≡ at))))
-
 pub one_is_listed : (before : List ℕ) (at : ℕ) → Contains (before ++ at ∷ []) at
 one_is_listed before at = Contains-append_right before (at ∷ []) at (0, omega arith, refl)
 

@@ -127,11 +127,6 @@ no_cap_filled known filled filler number fill nothing h =
     (All-append (λ one. one.cap ≡ None) known (replicate fill.count filler) h
     (All-replicate (λ one. one.cap ≡ None) fill.count filler nothing))
 
--- or stand anywhere
-pub no_cap_set : (known : List Known) (number : ℕ) (one : Known) → one.cap ≡ None → HaveNoCap known
-    → HaveNoCap (slice_set known number one)
-no_cap_set known number one nothing h = All-set (λ one. one.cap ≡ None) known number one nothing h
-
 -- ---- with a number and room for a pair the same is known
 
 module _ {P : Type 0} (cmp : P → P → Ordering) (total : IsTotalOrder cmp) where

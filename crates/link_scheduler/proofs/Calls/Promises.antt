@@ -51,17 +51,6 @@ module _ {P : Type 0} (cmp : P → P → Ordering) (order : IsTotalOrder cmp) wh
     pub right : ∥ IsPlanned cmp q ∥₁
     pub orderly : ∥ IsOrderly cmp q ∥₁
 
-  pub kept_at_once : {X E : Type 0} (r : Result X E) (p q : Planned P) (call : Call P) (cs : List (Completed P))
-      → OnOk r (Obeys cmp p call (goes cs q)) → OnErr r (q ≡ p) → ∥ IsPlanned cmp p ∥₁ → ∥ IsOrderly cmp p ∥₁ → Kept q
-  kept_at_once (Ok x) p q call cs obeys same right orderly = record {
-    right = ∥∥₁_map right (λ h. obeys_right cmp order p call (goes cs q) h obeys cs q refl);
-    orderly = ∥∥₁_map orderly (obeys_orderly cmp order p q call cs obeys);
-  }
-  kept_at_once (Err e) p q call cs obeys same right orderly = record {
-    right = subst (λ (r : Planned P). ∥ IsPlanned cmp r ∥₁) (sym same) right;
-    orderly = subst (λ (r : Planned P). ∥ IsOrderly cmp r ∥₁) (sym same) orderly;
-  }
-
   -- what is promised of a call that goes from p to q
   pub promised_if : (p q : Planned P) (call : Call P) (now : ℕ) (cs : List (Completed P)) → moment_of call ≡ Some now
       → now < 2 ^ 64 → ∥ IsOrderly cmp p ∥₁ → GoesByRule cmp p call cs q → Makes cmp p call cs q

@@ -49,13 +49,6 @@ module _ {X : Type 0} where
       by_test true m = omega arith
       by_test false m = omega arith
 
-  -- an exchange of places changes nothing
-  pub permuted_many : (t : X → Bool) (xs ys : List X) → IsPermutation xs ys → how_many t ys ≡ how_many t xs
-  permuted_many t xs ys same =
-      let first : 0 + how_many t ys ≡ 0 + how_many t xs =
-      sym (sums t 0 ys) ∙ sum_by-IsPermutation (λ x. cond (t x) 1 0) xs ys same ∙ sums t 0 xs in
-      omega (arith, first)
-
 pub zipped_many : {X Y : Type 0} (R : X → Y → Type 0) (t : X → Bool) (u : Y → Bool)
     → ((x : X) (y : Y) → R x y → t x ≡ u y) → (xs : List X) (ys : List Y) → AllZip R xs ys
     → how_many t xs ≡ how_many u ys

@@ -48,16 +48,6 @@ module _ {P : Type 0} (cmp : P → P → Ordering) where
       free
       ∙ ap (option_map (λ (m : Message P). first_moment (p.last_arrival o r) m.latency)) first
 
-  -- where none of the pair waits, it may not start
-  pub idle_none : (p : Planned P) (o r : P) → is_none (first_of cmp p.waiting o r) ≡ true → idle_from cmp p o r ≡ None
-  idle_none p o r none = by_parts (is_sending cmp p o r) (first_of cmp p.waiting o r) none
-    where
-      by_parts : (b : Bool) (m : Option (Message P)) → is_none m ≡ true
-          → (if b then None else option_map (λ (m : Message P). first_moment (p.last_arrival o r) m.latency) m) ≡ None
-      by_parts true m h = refl
-      by_parts false None h = refl
-      by_parts false (Some m) h = cc
-
   -- a message that may start is the first of a pair that is idle from no later moment on
   pub launches_idle : (p : Planned P) (s : ℕ) (m : Message P) → next_of cmp p m ≡ Some m → may_launch cmp s p m ≡ true
       → (idle_from cmp p m.origin m.recipient ≡ Some (first_moment (p.last_arrival m.origin m.recipient) m.latency))

@@ -236,12 +236,6 @@ module _ {P : Type 0} where
         let set = sum_by-set gap slots at (Some new) None low in
         omega (arith, set, was)
 
-    pub gaps_fit : count_by is_none slots < length slots
-    gaps_fit =
-        let set = sum_by-set gap slots at None None low in
-        let all = count_by-le-length is_none (slice_set slots at None) in
-        omega (arith, set, was, all, length-set slots at None)
-
   -- where no slot is empty
   pub live_whole : (slots : List (Option (Slot P))) → live (filter is_some slots) ≡ live slots
   live_whole [] = refl

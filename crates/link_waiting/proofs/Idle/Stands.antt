@@ -136,16 +136,6 @@ marked_now {P} new stands before chains = record {
   firsts = subst (λ (slots : List (Option (Slot P))). OnlyFirsts (live slots)) (sym before) stands.firsts;
 }
 
--- where there is more room, all else at the mark stays
-pub marked_longer : {P : Type 0} (slots new : Slots P) → Marked slots → new.slots.before ≡ slots.slots.before
-    → new.chains.before ≡ slots.chains.before → length slots.moments ≤ length new.moments → Marked new
-marked_longer {P} slots new marked before chains long = record {
-  chains = ap (λ (rows : Rows). rows.stands) chains ∙ marked.chains ∙ ap (map pair_in) (sym before);
-  room = subst (λ (slots : List (Option (Slot P))). HaveRoom (length new.moments) (live slots)) (sym before)
-      (room_more (live slots.slots.before) (length slots.moments) (length new.moments) long marked.room);
-  firsts = subst (λ (slots : List (Option (Slot P))). OnlyFirsts (live slots)) (sym before) marked.firsts;
-}
-
 pub on_ok : {A E Q : Type 0} (r : Result A E) → Q → OnOk r Q
 on_ok (Ok a) q = q
 on_ok (Err e) q = tt

@@ -25,9 +25,6 @@ module _ {P : Type 0} (cmp : P → P → Ordering) (given_up : Bool) (slots : Sl
   abbrev ws : List (Waiter P)
   ws = live slots.slots.items
 
-  pub before_is : waits_in cmp (live slots.slots.before) ≡ value.before
-  before_is = ap (λ (v : AllWaits P). v.before) is
-
   module _ (up : given_up ≡ false) where
     pub messages_are : queue_of cmp ws ≡ value.messages
     messages_are = sym (ap (λ b. (let now : Waits P = cond b none_waits (waits_in cmp ws) in now).messages) up)
