@@ -84,6 +84,7 @@ void refusals_are_exceptions() {
     other.enqueue(0, 1, 3, 7, bytes, 5, false);
     std::vector<p2p_flight> flights = other.in_flight();
     expect(flights.size() == 2 && flights[1].recipient == 3, "both are in flight");
+    expect(flights[0].channel == 7 && flights[1].recipient == 3, "each on its channel");
     expect(flights[1].left.numerator.low == 2 && flights[1].rate.numerator.low == 500, "and share the cap");
     expect(other.rated_anew() == 2 && other.in_turn(1) && !other.in_turn(*other.next()), "a call has its turn");
     expect(other.in_turn(*other.next(), false), "and so has an advance to the next event");

@@ -93,12 +93,14 @@ typedef struct p2p_parcel {
     uint8_t should_deliver;
 } p2p_parcel;
 
-/* A message that is done. It arrives at deliver_at, or not at all. */
+/* A message that is done: all of it was sent at done_at, in nanoseconds since the start, also where it is
+ * dropped. It arrives at deliver_at, or not at all. */
 typedef struct p2p_done {
     uint64_t origin;
     uint64_t recipient;
     uint64_t channel;
     size_t length;
+    uint64_t done_at;
     p2p_moment deliver_at;
 } p2p_done;
 
@@ -110,11 +112,12 @@ typedef struct p2p_amount {
     uint8_t is_exact;
 } p2p_amount;
 
-/* A message in flight: at the moment `since` so much was left of it, and since then it has gone at its
- * rate. */
+/* A message in flight, with its pair and its channel: at the moment `since` so much was left of it, and
+ * since then it has gone at its rate. */
 typedef struct p2p_flight {
     uint64_t origin;
     uint64_t recipient;
+    uint64_t channel;
     p2p_amount left;
     p2p_amount rate;
     uint64_t since;
@@ -175,8 +178,8 @@ P2P_ASSERT(sizeof(p2p_moment) == 16 && offsetof(p2p_moment, is_some) == 8);
 P2P_ASSERT(sizeof(p2p_wide) == 16 && offsetof(p2p_wide, high) == 8);
 P2P_ASSERT(sizeof(p2p_parcel) == 56 && offsetof(p2p_parcel, from) == 24 && offsetof(p2p_parcel, latency) == 40);
 P2P_ASSERT(sizeof(p2p_amount) == 40 && offsetof(p2p_amount, denominator) == 16 && offsetof(p2p_amount, is_exact) == 32);
-P2P_ASSERT(sizeof(p2p_flight) == 104 && offsetof(p2p_flight, rate) == 56 && offsetof(p2p_flight, since) == 96);
-P2P_ASSERT(sizeof(p2p_done) == 48 && offsetof(p2p_done, length) == 24 && offsetof(p2p_done, deliver_at) == 32);
+P2P_ASSERT(sizeof(p2p_flight) == 112 && offsetof(p2p_flight, channel) == 16 && offsetof(p2p_flight, rate) == 64);
+P2P_ASSERT(sizeof(p2p_done) == 56 && offsetof(p2p_done, done_at) == 32 && offsetof(p2p_done, deliver_at) == 40);
 P2P_ASSERT(sizeof(p2p_flow) == 32 && offsetof(p2p_flow, recipient) == 16 && offsetof(p2p_flow, delivered) == 24);
 P2P_ASSERT(sizeof(p2p_peer_cap) == 24 && offsetof(p2p_peer_cap, cap) == 8);
 P2P_ASSERT(sizeof(p2p_link_cap) == 32 && offsetof(p2p_link_cap, recipient) == 8 && offsetof(p2p_link_cap, cap) == 16);

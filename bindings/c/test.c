@@ -64,7 +64,7 @@ static void two_messages_share_a_cap(void) {
     CHECK(p2p_advance_counted(&s, 1000000000, &count, &events) == P2P_OK && count == 1 && events.low == 1);
     CHECK(p2p_completions(&s, 0, done, 3) == 1 && p2p_completions(&s, 1, done, 3) == 0);
     CHECK(done[0].origin == 1 && done[0].recipient == 3 && done[0].channel == 7 && done[0].length == 500);
-    CHECK(done[0].deliver_at.is_some == 1 && done[0].deliver_at.at == 1000000000);
+    CHECK(done[0].done_at == 1000000000 && done[0].deliver_at.is_some == 1 && done[0].deliver_at.at == 1000000000);
     memset(got, 255, sizeof got);
     CHECK(p2p_message(&s, 0, 0, got, sizeof got) == 500 && memcmp(got, sent, 500) == 0 && got[500] == 255);
     CHECK(p2p_message(&s, 0, 400, got, 50) == 50 && memcmp(got, sent + 400, 50) == 0);
@@ -72,6 +72,7 @@ static void two_messages_share_a_cap(void) {
     CHECK(p2p_message(&s, 1, 0, got, 1) == 0);
     CHECK(p2p_advance(&s, 1500000000, &count) == P2P_OK && count == 1);
     CHECK(p2p_completions(&s, 0, done, 3) == 1 && done[0].recipient == 2 && done[0].deliver_at.at == 2000000000);
+    CHECK(done[0].done_at == 1500000000); /* half a second before it arrives */
     p2p_close(&s);
 }
 
@@ -109,6 +110,7 @@ static void caps_hold_where_they_were_set(void) {
     CHECK(p2p_next(&s, &next) == P2P_OK && next.is_some && next.at == 10000000000);
     CHECK(p2p_enqueue(&s, 2000000000, 4, 2, 11, sent, 3, 7, 0, &count) == P2P_OK && count == 1);
     CHECK(p2p_completions(&s, 0, done, 1) == 1 && done[0].length == 3 && done[0].deliver_at.is_some == 0);
+    CHECK(done[0].done_at == 2000000000);
     p2p_close(&s);
 }
 
@@ -119,6 +121,7 @@ static void a_dropped_message_does_not_arrive(void) {
     CHECK(p2p_open(&s, 0) == P2P_OK);
     CHECK(p2p_enqueue_zeros(&s, 3, 1, 2, 9, 8, 5, 0, &count) == P2P_OK && count == 1);
     CHECK(p2p_completions(&s, 0, done, 1) == 1 && done[0].deliver_at.is_some == 0 && done[0].length == 8);
+    CHECK(done[0].done_at == 3);
     p2p_close(&s);
 }
 
@@ -235,6 +238,7 @@ static void what_is_in_flight_is_told(void) {
     CHECK(p2p_limit(&s, 400000001, 1, p2p_bytes(1001), p2p_no_cap(), &count) == P2P_OK);
     CHECK(p2p_in_flight(&s, flights, 3, &count) == P2P_OK && count == 2 && flights[2].since == UINT64_MAX);
     CHECK(flights[0].origin == 1 && flights[0].recipient == 2 && flights[1].origin == 1 && flights[1].recipient == 3);
+    CHECK(flights[0].channel == 7 && flights[1].channel == 8);
     CHECK(is_amount(&flights[0].left, 1599999999, 2000000) && is_amount(&flights[0].rate, 1001, 2));
     CHECK(is_amount(&flights[1].left, 599999999, 2000000) && is_amount(&flights[1].rate, 1001, 2));
     CHECK(flights[0].since == 400000001 && flights[1].since == 400000001);

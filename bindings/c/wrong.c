@@ -139,6 +139,7 @@ CALL(uint32_t, p2p_in_flight, p2p_scheduler *s, p2p_flight *out, size_t room, si
     if (is("nothing-is-in-flight")) *count = 0;
     for (size_t i = 0; i < *count && i < room; i++) {
         if (is("a-flight-is-turned-round")) out[i].origin = out[i].recipient, out[i].recipient = 1;
+        if (is("a-flight-is-on-the-channel-of-the-first")) out[i].channel = out[0].channel;
         if (is("a-flight-tells-its-rate-as-what-is-left")) out[i].left = out[i].rate;
         if (is("a-flight-tells-what-is-left-as-its-rate")) out[i].rate = out[i].left;
         if (is("a-flight-is-since-the-start")) out[i].since = 0;
@@ -161,6 +162,8 @@ size_t __wrap_p2p_completions(p2p_scheduler *s, size_t first, p2p_done *out, siz
     }
     for (size_t i = 0; i < count; i++) {
         if (is("the-first-completion-for-each")) out[i] = last[0];
+        if (is("a-message-is-done-as-it-arrives") && out[i].deliver_at.is_some) out[i].done_at = out[i].deliver_at.at;
+        if (is("a-dropped-message-is-never-done") && !out[i].deliver_at.is_some) out[i].done_at = 0;
     }
     return count;
 }

@@ -26,17 +26,18 @@ class Scheduling(unittest.TestCase):
             self.assertEqual(state.enqueue(0, 1, 2, 7, b"a" * 1000, 500_000_000), [])
             self.assertEqual(state.enqueue(0, 1, 3, 7, bytearray(b"b" * 500)), [])
             self.assertEqual(state.next(), 1_000_000_000)
-            self.assertEqual(state.advance(1_000_000_000), [Completion(1, 3, 7, b"b" * 500, 1_000_000_000)])
-            self.assertEqual(state.advance_counted(1_500_000_000), ([Completion(1, 2, 7, b"a" * 1000, 2_000_000_000)], 1))
+            self.assertEqual(state.advance(1_000_000_000), [Completion(1, 3, 7, b"b" * 500, 10**9, 10**9)])
+            done = Completion(1, 2, 7, b"a" * 1000, deliver_at=2_000_000_000, done_at=1_500_000_000)
+            self.assertEqual(state.advance_counted(1_500_000_000), ([done], 1))
             self.assertIsNone(state.next())
 
     def test_links_zeros_and_dropped_messages(self):
         with State() as state:
             state.limit_link(0, 1, 2, 10)
             state.enqueue_zeros(0, 1, 2, 3, 10, should_deliver=False)
-            self.assertEqual(state.advance(state.next()), [Completion(1, 2, 3, Zeros(10), None)])
+            self.assertEqual(state.advance(state.next()), [Completion(1, 2, 3, Zeros(10), None, 10**9)])
             self.assertEqual(state.limit_link(10**9, 1, 2, None), [])
-            self.assertEqual(state.enqueue(10**9, 1, 2, 3, b""), [Completion(1, 2, 3, b"", 10**9)])
+            self.assertEqual(state.enqueue(10**9, 1, 2, 3, b""), [Completion(1, 2, 3, b"", 10**9, 10**9)])
 
     def test_a_refused_call_changes_nothing(self):
         with State(first_id=2**64 - 1, strict=False) as state:
@@ -78,13 +79,14 @@ class Scheduling(unittest.TestCase):
             for to in ("oslo", "rome"):
                 self.assertEqual(state.enqueue(0, "lima", to, 7, block, 5, to != "rome", length=1000), [])
             done = state.advance(state.next())
-            wanted = [("lima", "oslo", 7, block, 10**9 + 5), ("lima", "rome", 7, block, None)]
+            wanted = [("lima", "oslo", 7, block, 10**9 + 5, 10**9), ("lima", "rome", 7, block, None, 10**9)]
             self.assertEqual(done, [Completion(*it) for it in wanted])
             self.assertIs(done[0].message, block)
             self.assertRaises(UnknownPeer, state.enqueue, 10**9, "lima", "quito", 7, b"")
             self.assertEqual((state.next(), state._held), (None, {}))
             self.assertEqual(arrivals(done)["deliver_at"], [10**9 + 5, None])
-            self.assertEqual(arrivals([Completion(1, 2, 3, Zeros(4), 5)])["length"], [4])
+            self.assertEqual(arrivals(done)["done_at"], [10**9, 10**9])
+            self.assertEqual(arrivals([Completion(1, 2, 3, Zeros(4), 5, 4)])["length"], [4])
 
     def test_a_call_out_of_turn_is_refused(self):
         with State() as state:
@@ -132,6 +134,7 @@ class Scheduling(unittest.TestCase):
             self.assertEqual(len(state._held), 2)
             done = state.advance(state.next())
             wanted = [("lima", "oslo", 7, block, 10**9 + 8), ("lima", "rome", 8, b"x" * 1000, None)]
+            wanted = [(*it, 10**9 + 3) for it in wanted]
             self.assertEqual(done, [Completion(*it) for it in wanted])
             self.assertEqual((state.enqueue_all(10**9 + 3, []), state.next(), state._held), ([], None, {}))
 

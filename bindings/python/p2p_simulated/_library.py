@@ -96,6 +96,7 @@ class _Flight(Structure):
     _fields_ = [
         ("origin", c_uint64),
         ("recipient", c_uint64),
+        ("channel", c_uint64),
         ("left", _Amount),
         ("rate", _Amount),
         ("since", c_uint64),
@@ -108,6 +109,7 @@ class _Done(Structure):
         ("recipient", c_uint64),
         ("channel", c_uint64),
         ("length", c_size_t),
+        ("done_at", c_uint64),
         ("deliver_at", _Moment),
     ]
 
@@ -136,8 +138,8 @@ class _RouteCap(Structure):
     _fields_ = [("bytes", _Wide), ("is_some", c_uint8)]
 
 
-_SIZES = {_Scheduler: 16, _Cap: 16, _Moment: 16, _Wide: 16, _Done: 48, _Flow: 32, _PeerCap: 24, _LinkCap: 32, _Rate: 40}
-_SIZES.update({_Parcel: 56, _Amount: 40, _Flight: 104})
+_SIZES = {_Scheduler: 16, _Cap: 16, _Moment: 16, _Wide: 16, _Done: 56, _Flow: 32, _PeerCap: 24, _LinkCap: 32, _Rate: 40}
+_SIZES.update({_Parcel: 56, _Amount: 40, _Flight: 112})
 _SIZES.update({_Hop: 16, _RouteCap: 24})
 for _struct, _size in _SIZES.items():
     if ctypes.sizeof(_struct) != _size:

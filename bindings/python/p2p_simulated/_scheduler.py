@@ -16,13 +16,18 @@ _AT_ONCE = 64  # so many completions are read by one call
 
 
 class Completion(NamedTuple):
-    """What became of a message.  It arrives at `deliver_at` nanoseconds, or never: None."""
+    """What became of a message.
+
+    It arrives at `deliver_at` nanoseconds, or never: None.  All of it was sent at `done_at` nanoseconds, also where it
+    is dropped.
+    """
 
     origin: Any
     recipient: Any
     channel: int
     message: Any
     deliver_at: Optional[int]
+    done_at: int
 
 
 class Outgoing(NamedTuple):
@@ -199,7 +204,7 @@ class State:
         if self._strict and wanted and now + latency > _LAST_MOMENT:
             raise MomentTooLate("moment too late")
         ends = self._number(origin, "origin"), self._number(recipient, "recipient")
-        held, octets = (origin, recipient, _number(channel, "channel"), message, ends), _length(message, length)
+        held, octets = (origin, recipient, _number(channel, "channel"), message), _length(message, length)
         with self._turn:
             number = self._sent
             self._sent = number + 1
@@ -251,7 +256,7 @@ class State:
             raise MomentTooLate("moment too late")
         ends = self._number(origin, "origin"), self._number(recipient, "recipient")
         parcel = _Parcel(*ends, 0, 0, _length(message, length), latency, wanted)
-        return parcel, (origin, recipient, _number(channel, "channel"), message, ends)
+        return parcel, (origin, recipient, _number(channel, "channel"), message)
 
     def enqueue_zeros(
         self,
@@ -306,15 +311,12 @@ class State:
                 if self._count.value <= room:
                     break
                 room = self._count.value
-            first: Dict[Tuple[int, int], Tuple[Any, ...]] = {}
-            for held in self._held.values():  # in the order in which they were sent
-                first.setdefault(held[4], held)
-            return [self._flight(it, first[it.origin, it.recipient]) for it in flights[: self._count.value]]
+            return [self._flight(it, self._held[it.channel]) for it in flights[: self._count.value]]
 
     @staticmethod
     def _flight(it: _Flight, held: Tuple[Any, ...]) -> InFlight:
         is_exact = bool(it.left.is_exact and it.rate.is_exact)
-        return InFlight(*held[:4], _fraction(it.left), _fraction(it.rate), it.since, is_exact)
+        return InFlight(*held, _fraction(it.left), _fraction(it.rate), it.since, is_exact)
 
     def rated_anew(self) -> int:
         """How many messages in flight got their rate anew when rates were last given: a count of work."""
@@ -354,7 +356,8 @@ class State:
             many = _lib.p2p_completions(self._at, len(found), self._records, _AT_ONCE)
             for record in self._records[:many]:
                 held, at = self._held.pop(record.channel), record.deliver_at
-                found.append(Completion(held[0], held[1], held[2], held[3], at.at if at.is_some else None))
+                arrives = at.at if at.is_some else None
+                found.append(Completion(*held, arrives, record.done_at))
         return found
 
 
@@ -364,7 +367,8 @@ def arrivals(completions: Iterable[Completion]) -> Dict[str, List[Any]]:
     Of a dropped message `deliver_at` is None, and `length` is what `len` says of it, or None.
     """
     rows = list(completions)
-    table = {name: [getattr(row, name) for row in rows] for name in ("origin", "recipient", "channel", "deliver_at")}
+    columns = ("origin", "recipient", "channel", "deliver_at", "done_at")
+    table = {name: [getattr(row, name) for row in rows] for name in columns}
     sized = [hasattr(row.message, "__len__") or isinstance(row.message, Zeros) for row in rows]
     table["length"] = [_length(row.message, None) if is_sized else None for row, is_sized in zip(rows, sized)]
     return table

@@ -1,5 +1,4 @@
 //! The messages that a scheduler has, by the numbers under which it knows them.
-use std::collections::BTreeMap;
 
 /// A message that was handed over and is not done.
 pub(crate) struct Message<P, M> {
@@ -7,16 +6,12 @@ pub(crate) struct Message<P, M> {
     pub recipient: P,
     pub channel: u64,
     pub payload: M,
-    /// Origin and recipient, as the library knows them.
-    pub pair: (u64, u64),
 }
 
 /// Messages by number. A number is free again once its message was taken out.
 pub(crate) struct Held<P, M> {
-    /// Each with how many were put in before it.
-    slots: Vec<Option<(u64, Message<P, M>)>>,
+    slots: Vec<Option<Message<P, M>>>,
     free: Vec<usize>,
-    sent: u64,
 }
 
 impl<P, M> Held<P, M> {
@@ -24,14 +19,12 @@ impl<P, M> Held<P, M> {
         Held {
             slots: Vec::new(),
             free: Vec::new(),
-            sent: 0,
         }
     }
 
     /// Puts a message in, and answers its number.
     pub fn put(&mut self, message: Message<P, M>) -> u64 {
-        let slot = Some((self.sent, message));
-        self.sent += 1;
+        let slot = Some(message);
         match self.free.pop() {
             Some(number) => {
                 self.slots[number] = slot;
@@ -48,16 +41,12 @@ impl<P, M> Held<P, M> {
     pub fn take(&mut self, number: u64) -> Message<P, M> {
         self.free.push(number as usize);
         let message = self.slots[number as usize].take();
-        message.expect("the library answers each message once").1
+        message.expect("the library answers each message once")
     }
 
-    /// The first message of each pair that is held: those before it are done.
-    pub fn first_of_each(&self) -> BTreeMap<(u64, u64), &Message<P, M>> {
-        let mut held: Vec<_> = self.slots.iter().flatten().collect();
-        held.sort_by_key(|(sent, _)| *sent);
-        let last_to_first = held.into_iter().rev();
-        last_to_first
-            .map(|(_, message)| (message.pair, message))
-            .collect()
+    /// The message of that number.
+    pub fn get(&self, number: u64) -> &Message<P, M> {
+        let message = self.slots[number as usize].as_ref();
+        message.expect("what is in flight is held")
     }
 }

@@ -54,6 +54,7 @@ pub struct Amount {
 pub struct Flight {
     pub origin: u64,
     pub recipient: u64,
+    pub channel: u64,
     pub left: Amount,
     pub rate: Amount,
     pub since: u64,
@@ -66,6 +67,7 @@ pub struct Done {
     pub recipient: u64,
     pub channel: u64,
     pub length: usize,
+    pub done_at: u64,
     pub deliver_at: Moment,
 }
 
@@ -131,6 +133,7 @@ impl Flight {
         Flight {
             origin: 0,
             recipient: 0,
+            channel: 0,
             left: nothing,
             rate: nothing,
             since: 0,
@@ -145,6 +148,7 @@ impl Done {
             recipient: 0,
             channel: 0,
             length: 0,
+            done_at: 0,
             deliver_at: Moment { at: 0, is_some: 0 },
         }
     }
@@ -170,8 +174,8 @@ const _: () = assert!(size_of::<Moment>() == 16);
 const _: () = assert!(size_of::<Wide>() == 16);
 const _: () = assert!(size_of::<Parcel>() == 56);
 const _: () = assert!(size_of::<Amount>() == 40);
-const _: () = assert!(size_of::<Flight>() == 104);
-const _: () = assert!(size_of::<Done>() == 48);
+const _: () = assert!(size_of::<Flight>() == 112);
+const _: () = assert!(size_of::<Done>() == 56);
 const _: () = assert!(size_of::<Flow>() == 32);
 const _: () = assert!(size_of::<PeerCap>() == 24);
 const _: () = assert!(size_of::<LinkCap>() == 32);

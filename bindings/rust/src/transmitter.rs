@@ -17,6 +17,8 @@ pub struct Completion<P, M = Vec<u8>> {
     pub channel: u64,
     /// What was sent.
     pub message: M,
+    /// The moment at which it was done, all of it sent, in nanoseconds since the start: of a dropped message, too.
+    pub done_at: u64,
     /// The moment at which it arrives, in nanoseconds since the start, or `None` for a dropped message.
     pub deliver_at: Option<u64>,
 }
@@ -94,6 +96,7 @@ enum Numbering<P> {
 /// assert_eq!(state.next(), Some(500_000_000));
 /// let done = state.advance(500_000_000)?;
 /// assert_eq!(done[0].recipient, "osaka");
+/// assert_eq!(done[0].done_at, 500_000_000);
 /// assert_eq!(done[0].deliver_at, Some(501_000_000));
 /// # Ok::<(), p2p_simulated::Error>(())
 /// ```
@@ -270,7 +273,6 @@ impl<P: Ord + Clone, M: Payload> State<P, M> {
             recipient: recipient.clone(),
             channel,
             payload: message,
-            pair: (from, to),
         });
         let flag = should_deliver.into();
         let done = self.call(now, true, |handle, count| unsafe {
@@ -303,7 +305,6 @@ impl<P: Ord + Clone, M: Payload> State<P, M> {
                 recipient: one.recipient,
                 channel: one.channel,
                 payload: one.message,
-                pair: (parcel.origin, parcel.recipient),
             });
         }
         let (list, many, none) = (parcels.as_ptr(), parcels.len(), [0u8; 0]);
@@ -394,9 +395,8 @@ impl<P: Ord + Clone, M: Payload> State<P, M> {
                 break;
             }
         }
-        let first = self.held.first_of_each();
         let read = flights.iter().map(|flight| {
-            let message = first[&(flight.origin, flight.recipient)];
+            let message = self.held.get(flight.channel);
             InFlight {
                 origin: &message.origin,
                 recipient: &message.recipient,
@@ -481,6 +481,7 @@ impl<P: Ord + Clone, M: Payload> State<P, M> {
                     recipient: message.recipient,
                     channel: message.channel,
                     message: message.payload,
+                    done_at: record.done_at,
                     deliver_at: (record.deliver_at.is_some != 0).then_some(record.deliver_at.at),
                 });
             }

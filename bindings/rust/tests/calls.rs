@@ -38,6 +38,7 @@ fn two_messages_share_a_cap() {
         (done.len(), done[0].recipient, done[0].deliver_at, events),
         (1, 2, Some(2_000_000_000), 1)
     );
+    assert_eq!(done[0].done_at, 1_500_000_000);
     assert_eq!(state.next(), None);
 }
 
@@ -111,6 +112,7 @@ fn a_broadcast_shares_its_message() {
     for (done, to) in done.iter().zip(1..) {
         assert!(Arc::ptr_eq(&done.message, &block));
         assert_eq!((done.recipient, done.channel), (to, to));
+        assert_eq!(done.done_at, 1_000_000_000);
         assert_eq!(done.deliver_at, (to != 9).then_some(1_000_000_001));
     }
     drop(done);
@@ -279,9 +281,10 @@ fn fractions_are_reckoned_exactly() {
 fn a_dropped_message_does_not_arrive() {
     let mut state = State::new(["a", "b"]).unwrap();
     let done = state
-        .enqueue(0, &"a", &"b", 3, "dropped", 9, false)
+        .enqueue(4, &"a", &"b", 3, "dropped", 9, false)
         .unwrap();
     assert_eq!((done[0].message, done[0].deliver_at), ("dropped", None));
+    assert_eq!(done[0].done_at, 4);
 }
 
 #[test]

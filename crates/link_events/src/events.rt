@@ -169,6 +169,7 @@ impl<P: Peer> Ledger<P> {
         let more = self.launch_from(since, &message.origin, &message.recipient, now)?;
         ended.push(Ended {
             message,
+            done_at: now,
             deliver_at,
         })?;
         Ok(more)
@@ -318,6 +319,7 @@ impl<P: Peer> Ledger<P> {
         let message = Rc::new(self.alloc, message)?;
         ended.push(Ended {
             message,
+            done_at: now,
             deliver_at,
         })?;
         Ok(())

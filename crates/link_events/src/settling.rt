@@ -41,7 +41,7 @@ impl<P: Peer> Ledger<P> {
         ensures in_time { IfOk result (λ landing. is_late P.cmp now (message_of message.now) ≡ false) }
         ensures landed { OnOk result (planned P.cmp self.new
             ≡ landed_with P.cmp now (planned P.cmp self.old) (message_of message.now)) }
-        ensures completion { IfOk result (λ landing. completion_of (message_of message.now) landing.0
+        ensures completion { IfOk result (λ landing. completion_of (message_of message.now) now landing.0
             ≡ completed P.cmp now (message_of message.now)) }
         ensures idle { IfOk result (λ landing. landing.1
             ≡ idle_since P.cmp (planned P.cmp self.new) message.now.origin message.now.recipient) }
@@ -168,6 +168,7 @@ impl<P: Peer> Ledger<P> {
         queue.append(&mut more)?;
         ended.push(Ended {
             message,
+            done_at: now,
             deliver_at,
         })?;
         Ok(queue)

@@ -34,6 +34,8 @@ pub struct Reading {
 pub struct InFlight<P> {
     pub origin: P,
     pub recipient: P,
+    /// The channel that it was sent with.
+    pub channel: u64,
     /// What was left of it at the moment `since`, in bytes.
     pub left: Reading,
     /// What it has sent since then, in bytes a second.
@@ -73,6 +75,7 @@ fn read_one<P: Peer>(
     requires scale { 0 < scale.now }
     ensures origin { IfOk result (λ r. P.cmp r.origin flight.now.message.value.origin ≡ Equal) }
     ensures recipient { IfOk result (λ r. P.cmp r.recipient flight.now.message.value.recipient ≡ Equal) }
+    ensures channel { IfOk result (λ r. r.channel ≡ flight.now.message.value.channel) }
     ensures left { IfOk result (λ r. IsReadingOf (reduced (flight_at at flight.now).left unit.now) r.left) }
     ensures rate { IfOk result (λ r. IsReadingOf (reduced (flight_at at flight.now).rate scale.now) r.rate) }
     ensures since { IfOk result (λ r. r.since ≡ (flight_at at flight.now).updated) }
@@ -82,6 +85,7 @@ fn read_one<P: Peer>(
     Ok(InFlight {
         origin: message.origin.clone_peer().ok_or(Error::OutOfMemory)?,
         recipient: message.recipient.clone_peer().ok_or(Error::OutOfMemory)?,
+        channel: message.channel,
         left: read_fraction(&flight.left_at(at)?, unit)?,
         rate: read_rate(flight, scale)?,
         since: if flight.rated { at } else { flight.since },

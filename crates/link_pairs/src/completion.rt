@@ -19,17 +19,22 @@ pub struct Completion<P> {
     pub recipient: P,
     pub channel: u64,
     pub message: Bytes,
+    /// The moment at which it was done, all of it sent, in nanoseconds since the start: of a dropped
+    /// message, too.
+    pub done_at: u64,
     /// The moment at which it arrives, in nanoseconds since the start, or `None` for a dropped
     /// message.
     pub deliver_at: Option<u64>,
 }
 
-/// A message that is done, with the moment at which it arrives.
+/// A message that is done, with the moment at which it was and that at which it arrives.
 #[derive(Drop)]
 pub struct Ended<P> {
     /// What was sent.
     pub message: Rc<Message<P>>,
-    /// In nanoseconds since the start. `None` where it is dropped.
+    /// When all of it was sent, in nanoseconds since the start.
+    pub done_at: u64,
+    /// When it arrives, in nanoseconds since the start. `None` where it is dropped.
     pub deliver_at: Option<u64>,
 }
 
@@ -45,6 +50,7 @@ impl<P: Peer> Ended<P> {
             recipient: message.recipient.clone_peer().ok_or(Error::OutOfMemory)?,
             channel: message.channel,
             message: message.bytes.slice(..)?,
+            done_at: self.done_at,
             deliver_at: self.deliver_at,
         })
     }
@@ -72,6 +78,7 @@ impl<P: Peer> Completion<P> {
         ensures recipient { IfOk result (λ copy. P.cmp copy.recipient self.now.recipient ≡ Equal) }
         ensures channel { IfOk result (λ copy. copy.channel ≡ self.now.channel) }
         ensures message { IfOk result (λ copy. copy.message ≡ self.now.message) }
+        ensures done_at { IfOk result (λ copy. copy.done_at ≡ self.now.done_at) }
         ensures deliver_at { IfOk result (λ copy. copy.deliver_at ≡ self.now.deliver_at) }
         ensures refused { IfErr result (λ e. e ≡ Error.OutOfMemory) }
     {
@@ -80,6 +87,7 @@ impl<P: Peer> Completion<P> {
             recipient: self.recipient.clone_peer().ok_or(Error::OutOfMemory)?,
             channel: self.channel,
             message: self.message.slice(..)?,
+            done_at: self.done_at,
             deliver_at: self.deliver_at,
         })
     }

@@ -110,6 +110,7 @@ pub fn messages_are_read_field_by_field<P: Peer>(done: &Completion<P>)
       recipient = done.now.recipient;
       channel = done.now.channel;
       bytes = done.now.message;
+      done_at = done.now.done_at;
       deliver_at = done.now.deliver_at;
     } }
     ensures sent { (origin recipient : P) (channel latency : ℕ) (bytes : List ℕ) (should_deliver : Bool) →
@@ -135,11 +136,12 @@ pub fn an_amount_has_one_reading()
     ensures one { (amount : Amount) (n m : ℕ) → IsGreatestWhole amount n → IsGreatestWhole amount m → n ≡ m }
 {}
 
-/// Two readings of a message in flight are of equal peers, of one amount that is left, of one rate and of one moment.
-/// One without a rate has no reading.
+/// Two readings of a message in flight are of equal peers, of its channel, of one amount that is left, of one rate and
+/// of one moment. One without a rate has no reading.
 pub fn a_message_in_flight_has_one_reading<P: Peer>()
     ensures peers { (f : RatedFlight P) (r : AnyInFlight P) → IsReadAs P.cmp f r →
         (P.cmp r.origin f.message.origin ≡ Equal) × (P.cmp r.recipient f.message.recipient ≡ Equal) }
+    ensures channel { (f : RatedFlight P) (r : AnyInFlight P) → IsReadAs P.cmp f r → r.channel ≡ f.message.channel }
     ensures amounts { (f : RatedFlight P) (rate : Amount) (r : AnyInFlight P) → IsReadAs P.cmp f r →
         f.rate ≡ Some rate → IsReadingOf f.left r.left × IsReadingOf rate r.rate × (r.since ≡ f.updated) }
     ensures no_rate { (f : RatedFlight P) (r : AnyInFlight P) → f.rate ≡ None → ¬ IsReadAs P.cmp f r }

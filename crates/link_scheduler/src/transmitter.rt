@@ -40,7 +40,7 @@ use std::alloc::Global;
 /// state.limit(0, &1u64, Some(1000), None)?;
 /// state.enqueue(0, 1, 2, 7, message, 1_000_000, true)?;
 /// let next = state.next(); // Some(500_000_000)
-/// let done = state.advance(500_000_000)?; // one completion, with deliver_at: Some(501_000_000)
+/// let done = state.advance(500_000_000)?; // one completion: done_at: 500_000_000, deliver_at: Some(501_000_000)
 /// ```
 ///
 /// # What is promised
@@ -110,8 +110,8 @@ impl<P: Peer> State<P> {
     /// are enqueued, also where it sets no cap.
     ///
     /// Where moments never go back, and caps change and messages are sent only before the next
-    /// event, it does what the simulation does: the same messages complete in the same order, to
-    /// arrive at the same moments.
+    /// event, it does what the simulation does: the same messages complete in the same order, and
+    /// are done and arrive at the same moments.
     ///
     /// # Errors
     ///
@@ -146,8 +146,8 @@ impl<P: Peer> State<P> {
     /// with `limit`.
     ///
     /// Where moments never go back, and caps change and messages are sent only before the next
-    /// event, it does what the simulation does: the same messages complete in the same order, to
-    /// arrive at the same moments.
+    /// event, it does what the simulation does: the same messages complete in the same order, and
+    /// are done and arrive at the same moments.
     ///
     /// # Errors
     ///
@@ -186,8 +186,8 @@ impl<P: Peer> State<P> {
     /// earlier than the last one that completed.
     ///
     /// Where moments never go back, and caps change and messages are sent only before the next
-    /// event, it does what the simulation does: the same messages complete in the same order, to
-    /// arrive at the same moments.
+    /// event, it does what the simulation does: the same messages complete in the same order, and
+    /// are done and arrive at the same moments.
     ///
     /// # Errors
     ///
@@ -278,8 +278,8 @@ impl<P: Peer> State<P> {
     /// Each event on the way is handled at its own moment: messages finish, and others start.
     ///
     /// Where moments never go back, and caps change and messages are sent only before the next
-    /// event, it does what the simulation does: the same messages complete in the same order, to
-    /// arrive at the same moments. There an advance to any moment on the way, and then on,
+    /// event, it does what the simulation does: the same messages complete in the same order, and
+    /// are done and arrive at the same moments. There an advance to any moment on the way, and then on,
     /// completes the same (`advanced.split`), and an origin sends no more than its egress cap lets go
     /// in the time between (`advanced.within_caps`).
     ///
@@ -354,8 +354,8 @@ impl<P: Peer> State<P> {
         self.ledger.next_event()
     }
 
-    /// What is in flight, in order of start: of each message its pair, what is left of it in bytes,
-    /// its rate in bytes a second, and since when.
+    /// What is in flight, in order of start: of each message its pair, its channel, what is left of it
+    /// in bytes, its rate in bytes a second, and since when.
     ///
     /// What was left of a message at the moment `since` drains at its rate from then on, until it
     /// is done or the next event or call changes the rates. The peers are cloned. An amount is

@@ -30,6 +30,7 @@ abbrev pub flight_of : InFlight ℕ → Flight
 flight_of f = record {
   origin = f.origin;
   recipient = f.recipient;
+  channel = f.channel;
   left = amount_read f.left;
   rate = amount_read f.rate;
   since = f.since;

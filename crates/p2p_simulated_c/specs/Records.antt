@@ -39,5 +39,6 @@ done_of c = record {
   recipient = c.recipient;
   channel = c.channel;
   length = length c.message;
+  done_at = c.done_at;
   deliver_at = of_moment c.deliver_at;
 }

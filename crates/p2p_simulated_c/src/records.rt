@@ -95,7 +95,8 @@ pub struct Parcel {
     pub should_deliver: u8,
 }
 
-/// A message that is done, without its bytes.
+/// A message that is done, without its bytes: all of it was sent at the moment `done_at`, also where it
+/// is dropped, and it arrives at `deliver_at`, or not at all.
 #[repr(C)]
 #[derive(Clone, Copy)]
 pub struct Done {
@@ -103,6 +104,7 @@ pub struct Done {
     pub recipient: u64,
     pub channel: u64,
     pub length: usize,
+    pub done_at: u64,
     pub deliver_at: Moment,
 }
 
@@ -116,6 +118,7 @@ impl Done {
             recipient: completion.recipient,
             channel: completion.channel,
             length: completion.message.len(),
+            done_at: completion.done_at,
             deliver_at: Moment::of(completion.deliver_at),
         }
     }
@@ -144,13 +147,14 @@ impl Amount {
     }
 }
 
-/// A message in flight: its pair, and what was `left` of it at the moment `since`, from which on it
+/// A message in flight: its pair, its channel, and what was `left` of it at the moment `since`, from which on it
 /// has gone at its rate.
 #[repr(C)]
 #[derive(Clone, Copy)]
 pub struct Flight {
     pub origin: u64,
     pub recipient: u64,
+    pub channel: u64,
     pub left: Amount,
     pub rate: Amount,
     pub since: u64,
@@ -164,6 +168,7 @@ impl Flight {
         Flight {
             origin: reading.origin,
             recipient: reading.recipient,
+            channel: reading.channel,
             left: Amount::of(reading.left),
             rate: Amount::of(reading.rate),
             since: reading.since,

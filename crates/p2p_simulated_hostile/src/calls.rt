@@ -439,6 +439,7 @@ fn is_same_done<P: Numbered>(one: &Completion<P>, other: &Completion<P>) -> bool
 /// Whether the messages are the same and arrive at the same moment.
 fn is_same_message<P: Numbered>(one: &Completion<P>, other: &Completion<P>) -> bool {
     one.channel == other.channel
+        && one.done_at == other.done_at
         && one.deliver_at == other.deliver_at
         && one.message.len() == other.message.len()
         && are_bytes_of(one)

@@ -193,6 +193,7 @@ fn made<P: Numbered>(alloc: Global, calls: Vec<Call<P>>) -> Result<Vec<Reply<P>>
 fn is_of<P: Numbered>(kind: &Kind, done: &Completion<P>) -> bool {
     done.channel == kind.channel
         && done.message.len() as u64 == kind.length
+        && done.done_at == kind.done_at()
         && done.deliver_at == kind.arrives_at()
 }
 
@@ -468,6 +469,7 @@ fn is_done<P: Numbered>(done: &Completion<P>, peer: u8, channel: u64, now: u64) 
     done.recipient.number() == peer
         && done.channel == channel
         && done.message.len() == 1000
+        && done.done_at == now
         && done.deliver_at == Some(now)
 }
 

@@ -40,6 +40,14 @@ fn expect(
     }
 }
 
+/// Whether the message at that place in flight was sent with that channel.
+fn has_channel(readings: &[InFlight<u64>], place: usize, channel: u64) -> bool {
+    match readings.get(place) {
+        Some(reading) => reading.channel == channel,
+        None => false,
+    }
+}
+
 #[test]
 fn two_messages_share_a_cap(rt: HostRuntime) -> Result<(), Fail> {
     let readings = flying(
@@ -54,6 +62,8 @@ flying 2
     )?;
     expect(&rt, readings.get(0), 2, (1000, 1), (500, 1), 0);
     expect(&rt, readings.get(1), 3, (500, 1), (500, 1), 0);
+    assert!(rt; has_channel(&readings, 0, 0));
+    assert!(rt; has_channel(&readings, 1, 1));
     Ok(())
 }
 

@@ -9,6 +9,7 @@ mod idle;
 mod kept;
 mod lists;
 mod long;
+mod moments;
 mod numbers;
 mod orders;
 mod refusals;

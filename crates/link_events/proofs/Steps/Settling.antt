@@ -83,18 +83,18 @@ module _ {P : Type 0} (cmp : P → P → Ordering) where
   pub completes_so : (t : ℕ) (p new : Planned P) (m : Message P) (at : ℕ) (c : Completed P)
       → (m.should_deliver && nat_lt last_moment (t + m.latency)) ≡ false
       → at ≡ (if m.should_deliver then later_of (p.last_arrival m.origin m.recipient) (t + m.latency) else t)
-      → c ≡ completion_of m (then_some m.should_deliver at)
+      → c ≡ completion_of m t (then_some m.should_deliver at)
       → new ≡ record p { last_arrival = raised cmp p.last_arrival m at }
       → completed_at_once cmp t p m ≡ goes (c ∷ []) new
   completes_so t p new m at c in_time is completion world =
       let when = if m.should_deliver then later_of (p.last_arrival m.origin m.recipient) (t + m.latency) else t in
       let course : Course (Completed P) (Planned P) =
-      goes (completion_of m (if m.should_deliver then Some when else None) ∷ [])
+      goes (completion_of m t (if m.should_deliver then Some when else None) ∷ [])
       (record p { last_arrival = raised cmp p.last_arrival m when }) in
       let here : completed_at_once cmp t p m ≡ course =
       ap (λ (b : Bool). cond b (meets MomentTooLate) course) in_time in
-      let answer : c ≡ completion_of m (if m.should_deliver then Some when else None) =
-      completion ∙ ap (completion_of m) (then_some_is m.should_deliver m.should_deliver at when refl is) in
+      let answer : c ≡ completion_of m t (if m.should_deliver then Some when else None) =
+      completion ∙ ap (completion_of m t) (then_some_is m.should_deliver m.should_deliver at when refl is) in
       let after : new ≡ record p { last_arrival = raised cmp p.last_arrival m when } =
       world ∙ ap (λ (n : ℕ). record p { last_arrival = raised cmp p.last_arrival m n }) is in
       here ∙ sym (λ i. goes (answer i ∷ []) (after i))
@@ -105,7 +105,7 @@ module _ {P : Type 0} (cmp : P → P → Ordering) where
   too_late t p m is =
       let when = if m.should_deliver then later_of (p.last_arrival m.origin m.recipient) (t + m.latency) else t in
       let course : Course (Completed P) (Planned P) =
-      goes (completion_of m (if m.should_deliver then Some when else None) ∷ [])
+      goes (completion_of m t (if m.should_deliver then Some when else None) ∷ [])
       (record p { last_arrival = raised cmp p.last_arrival m when }) in
       ap (λ (b : Bool). cond b (meets MomentTooLate) course) is
 

@@ -16,7 +16,7 @@ pub record LandsAt {P : Type 0} (cmp : P → P → Ordering) (t : ℕ) (m : Mess
   pub moment : at ≡ arrival cmp t m
   pub raised : new ≡ raised_at cmp old m.origin m.recipient at
   pub in_time : is_late cmp t m ≡ false
-  pub completion : completion_of m deliver_at ≡ completed cmp t m
+  pub completion : completion_of m t deliver_at ≡ completed cmp t m
 
 -- the first of what is done lands, and arrives at that moment, if it does; where nothing is done, nothing lands
 abbrev pub FirstLands : {P : Type 0} → (P → P → Ordering) → ℕ → List (Message P) → (P → P → Option ℕ)
@@ -45,7 +45,7 @@ pub record LandsFirst {P : Type 0} (cmp : P → P → Ordering) (t : ℕ) (old :
   pub leaves : Leaves cmp t old (m ∷ ms) here
   pub lands : new ≡ landed cmp t here m
   pub in_time : is_late cmp t m ≡ false
-  pub completion : completion_of m deliver_at ≡ completed cmp t m
+  pub completion : completion_of m t deliver_at ≡ completed cmp t m
   pub idle : since ≡ idle_from cmp new m.origin m.recipient
 
 -- nothing is done: all drains, and nothing lands

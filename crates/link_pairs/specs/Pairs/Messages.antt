@@ -34,9 +34,10 @@ completed_of c = record {
   recipient = c.recipient;
   channel = c.channel;
   bytes = c.message;
+  done_at = c.done_at;
   deliver_at = c.deliver_at;
 }
 
 -- a message that is done, as its completion
 abbrev pub ended_of : {P : Type 0} → Ended P → Completed P
-ended_of done = completion_of (message_of done.message.value) done.deliver_at
+ended_of done = completion_of (message_of done.message.value) done.done_at done.deliver_at

@@ -39,7 +39,7 @@ module _ {P : Type 0} (cmp : P → P → Ordering) (order : IsTotalOrder cmp) (p
   abbrev pub same_one : Completed P → Completed P → Bool
   same_one c d =
       same_peer cmp c.origin d.origin && same_peer cmp c.recipient d.recipient && (c.channel == d.channel)
-      && same_bytes c.bytes d.bytes && same_moment c.deliver_at d.deliver_at
+      && same_bytes c.bytes d.bytes && (c.done_at == d.done_at) && same_moment c.deliver_at d.deliver_at
 
   abbrev pub same_each : List (Completed P) → List (Completed P) → Bool
   same_each [] [] = true
@@ -134,6 +134,7 @@ module _ {P : Type 0} (cmp : P → P → Ordering) (order : IsTotalOrder cmp) (p
         all.0.recipient,
         eq-eqb c.channel d.channel all.0.channel,
         same,
+        eq-eqb c.done_at d.done_at all.0.done_at,
         moment_shown c.deliver_at
             d.deliver_at all.0.deliver_at,
         each_shown cs ds all.1,

@@ -120,6 +120,7 @@ module _ {P : Type 0} (cmp : P → P → Ordering) (order : IsTotalOrder cmp) wh
       recipient = same_itself cmp order c.recipient;
       channel = refl;
       bytes = refl;
+      done_at = refl;
       deliver_at = refl;
     },
     same_all cs,

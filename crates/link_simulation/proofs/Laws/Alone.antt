@@ -290,5 +290,5 @@ module _ {P : Type 0} (cmp : P → P → Ordering) (order : IsTotalOrder cmp) wh
       same = rw (← may.limited, ← may.none_sending, ← may.none_waiting) refl
 
   pub delivered_arrives : (m : Message P) (t : ℕ) → is_delivered cmp m ≡ true
-      → completed cmp t m ≡ completion_of m (Some (t + m.latency))
+      → completed cmp t m ≡ completion_of m t (Some (t + m.latency))
   delivered_arrives m t is = rw is refl

@@ -224,7 +224,7 @@ module _ {P : Type 0} (cmp : P → P → Ordering) (order : IsTotalOrder cmp) wh
       → MovesOn (m ∷ ms) p (preceded (completed cmp t m ∷ []) c)
   first_done t m ms more p q (goes cs r) same a = record {
     done = m ∷ a.done;
-    completions_are = (((if is_delivered cmp m then Some (arrival cmp t m) else None), refl), a.completions_are);
+    completions_are = ((t, (if is_delivered cmp m then Some (arrival cmp t m) else None), refl), a.completions_are);
     each_pair = λ k.
         before_both (same_pair cmp k m) m (of_pair cmp k a.done) (of_pair cmp k ms) (held_of cmp k r) (held_of cmp k p)
         (a.each_pair k ∙ ap (λ (ns : List (Message P)). ns ++ held_of cmp k q) (filter-append (same_pair cmp k) ms more)
@@ -345,12 +345,12 @@ module _ {P : Type 0} (cmp : P → P → Ordering) (order : IsTotalOrder cmp) wh
       by_late : (b : Bool)
           → KeepsAll p (m ∷ [])
           (cond b (meets MomentTooLate)
-          (goes (completion_of m (if m.should_deliver then Some at else None) ∷ [])
+          (goes (completion_of m now (if m.should_deliver then Some at else None) ∷ [])
           (record p { last_arrival = raised cmp p.last_arrival m at })))
       by_late true = tt
       by_late false = record {
         done = m ∷ [];
-        completions_are = (((if m.should_deliver then Some at else None), refl), tt);
+        completions_are = ((now, (if m.should_deliver then Some at else None), refl), tt);
         each_pair = λ k.
             ap (λ (ms : List (Message P)). of_pair cmp k (m ∷ []) ++ ms) (nothing_held k)
             ∙ append-nil (of_pair cmp k (m ∷ []))

@@ -71,10 +71,10 @@ module _ {P : Type 0} (cmp : P → P → Ordering) (order : IsTotalOrder cmp) wh
       → SameMessage cmp (record m { origin = c.origin; recipient = c.recipient; channel = c.channel; bytes = c.bytes })
       m
   one_of c d m same is = record {
-    origin = subst (λ (x : Completed P). same_peer cmp c.origin x.origin ≡ true) is.1 same.origin;
-    recipient = subst (λ (x : Completed P). same_peer cmp c.recipient x.recipient ≡ true) is.1 same.recipient;
-    channel = same.channel ∙ ap (λ (x : Completed P). x.channel) is.1;
-    bytes = same.bytes ∙ ap (λ (x : Completed P). x.bytes) is.1;
+    origin = subst (λ (x : Completed P). same_peer cmp c.origin x.origin ≡ true) is.2 same.origin;
+    recipient = subst (λ (x : Completed P). same_peer cmp c.recipient x.recipient ≡ true) is.2 same.recipient;
+    channel = same.channel ∙ ap (λ (x : Completed P). x.channel) is.2;
+    bytes = same.bytes ∙ ap (λ (x : Completed P). x.bytes) is.2;
     latency = refl;
     should_deliver = refl;
   }
@@ -92,7 +92,7 @@ module _ {P : Type 0} (cmp : P → P → Ordering) (order : IsTotalOrder cmp) wh
         messages =
             record m { origin = c.origin; recipient = c.recipient; channel = c.channel; bytes = c.bytes }
             ∷ rest.messages;
-        completions_are = ((c.deliver_at, refl), rest.completions_are);
+        completions_are = ((c.done_at, c.deliver_at, refl), rest.completions_are);
         same = (one_of c d m same.0 are.0, rest.same);
       }
 

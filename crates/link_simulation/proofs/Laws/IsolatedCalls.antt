@@ -110,8 +110,8 @@ module _ {P : Type 0} (cmp : P → P → Ordering) (order : IsTotalOrder cmp) (i
   abbrev once_at : Option ℕ → ℕ → Message P → ℕ
   once_at last now m = if m.should_deliver then later_of last (now + m.latency) else now
 
-  abbrev once : Message P → ℕ → Completed P
-  once m at = completion_of m (if m.should_deliver then Some at else None)
+  abbrev once : ℕ → Message P → ℕ → Completed P
+  once now m at = completion_of m now (if m.should_deliver then Some at else None)
 
   -- ---- a message of the set is enqueued
 
@@ -174,22 +174,22 @@ module _ {P : Type 0} (cmp : P → P → Ordering) (order : IsTotalOrder cmp) (i
       by_late : (b : Bool)
           → Of
           (cond b (meets MomentTooLate)
-          (goes (once m (once_at (w.last_arrival m.origin m.recipient) now m) ∷ [])
+          (goes (once now m (once_at (w.last_arrival m.origin m.recipient) now m) ∷ [])
           (record w {
             last_arrival = raised cmp w.last_arrival m
                 (once_at (w.last_arrival m.origin m.recipient) now m);
           })))
           (cond b (meets MomentTooLate)
-          (goes (once m (once_at (last m.origin m.recipient) now m) ∷ [])
+          (goes (once now m (once_at (last m.origin m.recipient) now m) ∷ [])
           (record (Small last id w) {
             last_arrival = raised cmp last m (once_at (last m.origin m.recipient) now m);
           })))
       by_late true = tt
       by_late false =
-          let alone : once m (once_at (last m.origin m.recipient) now m) ∷ []
+          let alone : once now m (once_at (last m.origin m.recipient) now m) ∷ []
           ≡ filter (λ (c : Completed P). inside c.origin)
-          (once m (once_at (w.last_arrival m.origin m.recipient) now m) ∷ []) =
-          ap (λ at. once m at ∷ []) at_same ∙ (rw own refl) in (
+          (once now m (once_at (w.last_arrival m.origin m.recipient) now m) ∷ []) =
+          ap (λ at. once now m at ∷ []) at_same ∙ (rw own refl) in (
             raised cmp last m (once_at (last m.origin m.recipient) now m),
             id,
             raised_within,
@@ -265,7 +265,7 @@ module _ {P : Type 0} (cmp : P → P → Ordering) (order : IsTotalOrder cmp) (i
       by_late : (b : Bool)
           → Of
           (cond b (meets MomentTooLate)
-          (goes (once m (once_at (w.last_arrival m.origin m.recipient) now m) ∷ [])
+          (goes (once now m (once_at (w.last_arrival m.origin m.recipient) now m) ∷ [])
           (record w {
             last_arrival = raised cmp w.last_arrival m
                 (once_at (w.last_arrival m.origin m.recipient) now m);
@@ -275,7 +275,7 @@ module _ {P : Type 0} (cmp : P → P → Ordering) (order : IsTotalOrder cmp) (i
       by_late false =
           let nothing : []
           ≡ filter (λ (c : Completed P). inside c.origin)
-          (once m (once_at (w.last_arrival m.origin m.recipient) now m) ∷ []) =
+          (once now m (once_at (w.last_arrival m.origin m.recipient) now m) ∷ []) =
           rw off refl in
           (last, id, raised_within, goes_alike cmp order inside alike Whole _ _ _ _ nothing refl)
 

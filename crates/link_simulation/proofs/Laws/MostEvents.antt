@@ -453,7 +453,7 @@ module _ {P : Type 0} (cmp : P → P → Ordering) (order : IsTotalOrder cmp) wh
       by_late : (b : Bool)
           → Right
           (cond b (meets MomentTooLate)
-          (goes (completion_of m (if m.should_deliver then Some at else None) ∷ []) after))
+          (goes (completion_of m now (if m.should_deliver then Some at else None) ∷ []) after))
       by_late true = tt
       by_late false =
           record { finish = h.finish; from = h.from; start = still p.start h.start; none_at_first = h.none_at_first }

@@ -305,7 +305,7 @@ module _ {P : Type 0} (cmp : P → P → Ordering) (order : IsTotalOrder cmp) wh
       by_late : (b : Bool)
           → EndsWith (IsOrderly cmp)
           (cond b (meets MomentTooLate)
-          (goes (completion_of m (if m.should_deliver then Some at else None) ∷ [])
+          (goes (completion_of m now (if m.should_deliver then Some at else None) ∷ [])
           (record p { last_arrival = raised cmp p.last_arrival m at })))
       by_late true = tt
       by_late false = record {

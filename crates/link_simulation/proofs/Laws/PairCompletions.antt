@@ -164,7 +164,7 @@ module _ {P : Type 0} (cmp : P → P → Ordering) (order : IsTotalOrder cmp) (k
       at = if m.should_deliver then later_of (w.last_arrival m.origin m.recipient) (t + m.latency) else t
 
       c : Completed P
-      c = completion_of m (if m.should_deliver then Some at else None)
+      c = completion_of m t (if m.should_deliver then Some at else None)
 
       after : World P
       after = record w { last_arrival = raised cmp w.last_arrival m at }
@@ -219,7 +219,7 @@ module _ {P : Type 0} (cmp : P → P → Ordering) (order : IsTotalOrder cmp) (k
             told =
                 subst (λ (xs : List (Completed P)). AllZip IsCompletionOf xs (h.done ++ m ∷ [])) (sym list_is)
                 (told_push cmp order k (told_of_k cmp order k cs) h.done c m h.told
-                ((if m.should_deliver then Some at else None), refl));
+                (t, (if m.should_deliver then Some at else None), refl));
             in_flight =
                 ap (λ (fs : List (Flight P)). filter (same_pair cmp k) (map (λ (f : Flight P). f.message) fs)) sends;
             queue =

@@ -428,8 +428,9 @@ module _ {P : Type 0} (cmp : P → P → Ordering) (order : IsTotalOrder cmp) (k
             let list_is : told_of_k (cs ++ c ∷ []) ≡ told_of_k cs ++ c ∷ [] = told_more cs c of_pair in
             let is_of : IsCompletionOf c n
             = (
+              t,
               (if is_delivered cmp f.message then Some (arrival cmp t f.message) else None),
-              ap (λ (x : Message P). completion_of x
+              ap (λ (x : Message P). completion_of x t
                   (if is_delivered cmp f.message then Some (arrival cmp t f.message) else None)) taken.0,
             )
             in

@@ -77,7 +77,7 @@ module _ {P : Type 0} (cmp : P → P → Ordering) (order : IsTotalOrder cmp) wh
   completions_of (c ∷ cs) [] ms same all = absurd same
   completions_of (c ∷ cs) (d ∷ ds) [] same all = absurd all
   completions_of (c ∷ cs) (d ∷ ds) (m ∷ ms) same all = (
-    (all.0.0, subst (λ (e : Completed P). SameCompletion cmp c e) all.0.1 same.0),
+    (all.0.0, all.0.1, subst (λ (e : Completed P). SameCompletion cmp c e) all.0.2 same.0),
     completions_of cs ds ms same.1 all.1,
   )
 

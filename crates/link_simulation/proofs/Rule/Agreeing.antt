@@ -29,6 +29,7 @@ module _ {P : Type 0} (cmp : P → P → Ordering) (order : IsTotalOrder cmp) wh
     recipient = peer_left c.recipient d.recipient e.recipient f.recipient ∙ g.recipient;
     channel = f.channel ∙ g.channel;
     bytes = f.bytes ∙ g.bytes;
+    done_at = f.done_at ∙ g.done_at;
     deliver_at = f.deliver_at ∙ g.deliver_at;
   }
     where

@@ -98,9 +98,9 @@ module _ {P : Type 0} (cmp : P → P → Ordering) (order : IsTotalOrder cmp) wh
       by_late : (b : Bool) → at_p ≡ at_u
           → CoursesAlike cmp (λ q v. StandsFor cmp q v × (v.moment ≡ now))
           (cond b (meets MomentTooLate)
-          (goes (completion_of m (if m.should_deliver then Some at_p else None) ∷ []) landed_p))
+          (goes (completion_of m now (if m.should_deliver then Some at_p else None) ∷ []) landed_p))
           (cond b (meets MomentTooLate)
-          (goes (completion_of m (if m.should_deliver then Some at_u else None) ∷ []) landed_u))
+          (goes (completion_of m now (if m.should_deliver then Some at_u else None) ∷ []) landed_u))
       by_late true same = refl
       by_late false same = (
         (
@@ -109,6 +109,7 @@ module _ {P : Type 0} (cmp : P → P → Ordering) (order : IsTotalOrder cmp) wh
             recipient = same_itself cmp order m.recipient;
             channel = refl;
             bytes = refl;
+            done_at = refl;
             deliver_at = ap (λ (t : ℕ). if m.should_deliver then Some t else None) same;
           },
           tt,

@@ -267,7 +267,7 @@ module _ {P : Type 0} (cmp : P → P → Ordering) (order : IsTotalOrder cmp) wh
       at = if m.should_deliver then later_of (p.last_arrival m.origin m.recipient) (t + m.latency) else t
 
       by_late : (b : Bool) → EndsWith (IsAccountedAt t) (cond b (meets MomentTooLate)
-          (goes (completion_of m (if m.should_deliver then Some at else None) ∷ [])
+          (goes (completion_of m t (if m.should_deliver then Some at else None) ∷ [])
           (record p { last_arrival = raised cmp p.last_arrival m at })))
       by_late true = tt
       by_late false = record {

@@ -252,7 +252,7 @@ module _ {P : Type 0} (cmp : P → P → Ordering) (order : IsTotalOrder cmp) (m
       at = if m.should_deliver then later_of (p.last_arrival m.origin m.recipient) (now + m.latency) else now
 
       by_late : (b : Bool) → (m.should_deliver && nat_lt last_moment (now + m.latency)) ≡ b
-          → GoesWell (cond b (meets MomentTooLate) (goes (completion_of m
+          → GoesWell (cond b (meets MomentTooLate) (goes (completion_of m now
           (if m.should_deliver then Some at else None) ∷ [])
           (record p { last_arrival = raised cmp p.last_arrival m at })))
       by_late true is =

@@ -429,10 +429,10 @@ module _ {P : Type 0} (cmp : P → P → Ordering) (order : IsTotalOrder cmp) wh
         by_late : (a b : Bool) → a ≡ b → landing now p m ≡ landing now q n → delivery now p m ≡ delivery now q n
             → IsSameCourse cmp
             (cond a (meets MomentTooLate)
-            (goes (completion_of m (delivery now p m) ∷ [])
+            (goes (completion_of m now (delivery now p m) ∷ [])
             (record p { last_arrival = raised cmp p.last_arrival m (landing now p m) })))
             (cond b (meets MomentTooLate)
-            (goes (completion_of n (delivery now q n) ∷ [])
+            (goes (completion_of n now (delivery now q n) ∷ [])
             (record q { last_arrival = raised cmp q.last_arrival n (landing now q n) })))
         by_late true true f at wanted = refl
         by_late true false f at wanted = cc
@@ -444,6 +444,7 @@ module _ {P : Type 0} (cmp : P → P → Ordering) (order : IsTotalOrder cmp) wh
               recipient = e.recipient;
               channel = e.channel;
               bytes = e.bytes;
+              done_at = refl;
               deliver_at = wanted;
             },
             tt,

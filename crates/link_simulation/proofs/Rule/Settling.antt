@@ -55,6 +55,7 @@ module _ {P : Type 0} (cmp : P → P → Ordering) (order : IsTotalOrder cmp) wh
         recipient = e.recipient;
         channel = e.channel;
         bytes = e.bytes;
+        done_at = refl;
         deliver_at = rw (delivered_alike cmp order m n e, e.latency) refl;
       }
 

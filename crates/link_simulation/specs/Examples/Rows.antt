@@ -40,13 +40,13 @@ message origin recipient length latency = record {
 abbrev pub dropped : ℕ → ℕ → ℕ → ℕ → Message ℕ
 dropped origin recipient length latency = record (message origin recipient length latency) { should_deliver = false }
 
--- it arrives at that moment
-abbrev pub arrives : Message ℕ → ℕ → Completed ℕ
-arrives m at = completion_of m (Some at)
+-- it is done at the first moment, and arrives at the second
+abbrev pub arrives : Message ℕ → ℕ → ℕ → Completed ℕ
+arrives m done at = completion_of m done (Some at)
 
--- it is gone without arriving
-abbrev pub is_gone : Message ℕ → Completed ℕ
-is_gone m = completion_of m None
+-- it is done at that moment, and gone without arriving
+abbrev pub is_gone : Message ℕ → ℕ → Completed ℕ
+is_gone m done = completion_of m done None
 
 -- one byte a nanosecond
 abbrev pub a_byte_a_nanosecond : Option ℕ
@@ -95,8 +95,8 @@ calls_with_a_refusal =
 -- the others arrive at once
 abbrev pub replies_with_a_refusal : List (Reply ℕ)
 replies_with_a_refusal =
-    reply_done (arrives (message 1 2 1 0) 0 ∷ []) ∷ reply_next None ∷ reply_done [] ∷ reply_refused OutOfMemory
-    ∷ reply_done [] ∷ reply_done (arrives (message 2 1 1 0) 0 ∷ []) ∷ reply_done [] ∷ []
+    reply_done (arrives (message 1 2 1 0) 0 0 ∷ []) ∷ reply_next None ∷ reply_done [] ∷ reply_refused OutOfMemory
+    ∷ reply_done [] ∷ reply_done (arrives (message 2 1 1 0) 0 0 ∷ []) ∷ reply_done [] ∷ []
 
 -- four bytes of latency 3, and behind them two bytes of latency 1
 abbrev pub calls_of_a_follower : List (Call ℕ)
@@ -108,8 +108,8 @@ calls_of_a_follower =
 abbrev pub replies_of_a_follower : List (Reply ℕ)
 replies_of_a_follower =
     reply_done [] ∷ reply_done [] ∷ reply_done []
-    ∷ reply_next (Some 4) ∷ reply_done (arrives (message 1 2 4 3) 7 ∷ []) ∷ reply_next (Some 6) ∷ reply_done []
-    ∷ reply_next (Some 8) ∷ reply_done (arrives (message 1 2 2 1) 9 ∷ []) ∷ reply_next None ∷ []
+    ∷ reply_next (Some 4) ∷ reply_done (arrives (message 1 2 4 3) 4 7 ∷ []) ∷ reply_next (Some 6) ∷ reply_done []
+    ∷ reply_next (Some 8) ∷ reply_done (arrives (message 1 2 2 1) 8 9 ∷ []) ∷ reply_next None ∷ []
 
 -- a message that finishes at the last moment, and one that is enqueued then
 abbrev pub calls_at_the_last_moment : List (Call ℕ)
@@ -123,7 +123,7 @@ calls_at_the_last_moment =
 abbrev pub replies_at_the_last_moment : List (Reply ℕ)
 replies_at_the_last_moment =
     reply_done [] ∷ reply_done [] ∷ reply_next (Some 18_446_744_073_709_551_615)
-    ∷ reply_done (arrives (message 1 2 1 0) 18_446_744_073_709_551_615 ∷ [])
+    ∷ reply_done (arrives (message 1 2 1 0) 18_446_744_073_709_551_615 18_446_744_073_709_551_615 ∷ [])
     ∷ reply_done [] ∷ reply_next None ∷ reply_done [] ∷ []
 
 -- a list of four messages: a byte that arrives at 2, nothing, a second byte of that pair, and one that no cap holds
@@ -136,9 +136,9 @@ calls_of_a_list =
 -- two of them complete as they are sent, in their order, and the second byte starts at 2
 abbrev pub replies_of_a_list : List (Reply ℕ)
 replies_of_a_list =
-    reply_done [] ∷ reply_done (arrives (message 1 3 0 2) 2 ∷ arrives (message 3 4 1 0) 0 ∷ [])
-    ∷ reply_next (Some 1) ∷ reply_done (arrives (message 1 2 1 1) 2 ∷ []) ∷ reply_next (Some 2) ∷ reply_done []
-    ∷ reply_next (Some 3) ∷ reply_done (arrives (message 1 2 1 0) 3 ∷ []) ∷ reply_next None ∷ []
+    reply_done [] ∷ reply_done (arrives (message 1 3 0 2) 0 2 ∷ arrives (message 3 4 1 0) 0 0 ∷ [])
+    ∷ reply_next (Some 1) ∷ reply_done (arrives (message 1 2 1 1) 1 2 ∷ []) ∷ reply_next (Some 2) ∷ reply_done []
+    ∷ reply_next (Some 3) ∷ reply_done (arrives (message 1 2 1 0) 3 3 ∷ []) ∷ reply_next None ∷ []
 
 -- before any limit a list whose second message is late, and then a message of the pair of its first
 abbrev pub calls_of_a_late_list : List (Call ℕ)
@@ -149,4 +149,4 @@ calls_of_a_late_list =
 -- the list is refused, and that message arrives at once
 abbrev pub replies_of_a_late_list : List (Reply ℕ)
 replies_of_a_late_list =
-    reply_refused MomentTooLate ∷ reply_done (arrives (message 1 2 1 0) 1 ∷ []) ∷ reply_next None ∷ []
+    reply_refused MomentTooLate ∷ reply_done (arrives (message 1 2 1 0) 1 1 ∷ []) ∷ reply_next None ∷ []

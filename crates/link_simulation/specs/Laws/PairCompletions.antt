@@ -25,7 +25,7 @@ answered (xs ∷ xss) = xs ++ answered xss
 
 -- a completion is one of that message
 abbrev pub IsCompletionOf : {P : Type 0} → Completed P → Message P → Type 0
-IsCompletionOf c m = (deliver_at : Option ℕ) × (c ≡ completion_of m deliver_at)
+IsCompletionOf c m = (done_at : ℕ) × (deliver_at : Option ℕ) × (c ≡ completion_of m done_at deliver_at)
 
 -- no later one is delivered before that moment
 abbrev pub NoneBefore : {P : Type 0} → ℕ → List (Completed P) → Type 0

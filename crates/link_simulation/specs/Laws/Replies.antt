@@ -83,7 +83,7 @@ module _ {P : Type 0} (cmp : P → P → Ordering) where
 
   -- a completion is one of that message, peers taken as equal by their order
   abbrev pub Completes : Completed P → Message P → Type 0
-  Completes c m = (deliver_at : Option ℕ) × SameCompletion cmp c (completion_of m deliver_at)
+  Completes c m = (done_at : ℕ) × (deliver_at : Option ℕ) × SameCompletion cmp c (completion_of m done_at deliver_at)
 
   -- the completions of the message's pair are those of the messages of the pair that were enqueued first, in their
   -- order, and their delivery moments never go down

@@ -119,7 +119,7 @@ module _ {P : Type 0} (cmp : P → P → Ordering) where
       let wanted = m.should_deliver in
       let at = if wanted then later_of (p.last_arrival m.origin m.recipient) (now + m.latency) else now in
       cond (wanted && nat_lt last_moment (now + m.latency)) (meets MomentTooLate)
-      (goes (completion_of m (if wanted then Some at else None) ∷ [])
+      (goes (completion_of m now (if wanted then Some at else None) ∷ [])
       (record p { last_arrival = raised cmp p.last_arrival m at }))
 
   -- the planned world in which the message waits

@@ -43,7 +43,7 @@ module _ {P : Type 0} (cmp : P → P → Ordering) where
       let wanted = m.should_deliver in
       let at = if wanted then later_of (w.last_arrival m.origin m.recipient) (now + m.latency) else now in
       cond (wanted && nat_lt last_moment (now + m.latency)) (meets MomentTooLate)
-      (goes (completion_of m (if wanted then Some at else None) ∷ [])
+      (goes (completion_of m now (if wanted then Some at else None) ∷ [])
       (record w { last_arrival = raised cmp w.last_arrival m at }))
 
   -- new caps from now on: the unlimited mode ends, and what is done under them completes

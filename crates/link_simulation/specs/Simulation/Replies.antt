@@ -39,6 +39,7 @@ module _ {P : Type 0} (cmp : P → P → Ordering) where
     pub recipient : same_peer cmp c.recipient d.recipient ≡ true
     pub channel : c.channel ≡ d.channel
     pub bytes : c.bytes ≡ d.bytes
+    pub done_at : c.done_at ≡ d.done_at
     pub deliver_at : c.deliver_at ≡ d.deliver_at
 
   -- the call meets this fault

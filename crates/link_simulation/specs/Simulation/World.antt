@@ -20,21 +20,24 @@ pub record Flight (P : Type 0) : Type 0 where
 abbrev pub flight_of : {P : Type 0} → Message P → Flight P
 flight_of m = record { message = m; left = whole (length m.bytes) }
 
--- what is answered of a message that is done, and the moment at which it arrives, if it does
+-- what is answered of a message that is done, the moment at which all of it was sent, and the one at which it arrives, if
+-- it does
 pub record Completed (P : Type 0) : Type 0 where
   pub origin : P
   pub recipient : P
   pub channel : ℕ
   pub bytes : List ℕ
+  pub done_at : ℕ
   pub deliver_at : Option ℕ
 
--- the completion of a message
-abbrev pub completion_of : {P : Type 0} → Message P → Option ℕ → Completed P
-completion_of m deliver_at = record {
+-- the completion of a message: when it is done, and when it arrives, if it does
+abbrev pub completion_of : {P : Type 0} → Message P → ℕ → Option ℕ → Completed P
+completion_of m done_at deliver_at = record {
   origin = m.origin;
   recipient = m.recipient;
   channel = m.channel;
   bytes = m.bytes;
+  done_at = done_at;
   deliver_at = deliver_at;
 }
 
@@ -149,7 +152,7 @@ module _ {P : Type 0} (cmp : P → P → Ordering) where
 
   -- what is answered of it
   abbrev pub completed : ℕ → Message P → Completed P
-  completed t m = completion_of m (if is_delivered cmp m then Some (arrival t m) else None)
+  completed t m = completion_of m t (if is_delivered cmp m then Some (arrival t m) else None)
 
   -- the world in which the first message that is done is out of flight, and that message has arrived
   abbrev pub out_of_flight : ℕ → World P → Message P → World P

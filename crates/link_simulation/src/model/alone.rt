@@ -12,5 +12,5 @@ pub fn a_message_alone_takes_its_least_time<P: Ord>()
         0 < length m.bytes → IsTimeFor (length m.bytes) cap time → now + time ≤ last_moment →
         is_late P.cmp (now + time) m ≡ false → IsDoneAfter P.cmp w now m time }
     ensures arrives { (m : Message P) (t : ℕ) → is_delivered P.cmp m ≡ true →
-        completed P.cmp t m ≡ completion_of m (Some (t + m.latency)) }
+        completed P.cmp t m ≡ completion_of m t (Some (t + m.latency)) }
 {}

@@ -16,7 +16,7 @@ ghost use Rattle.link_simulation.specs.Examples.Rows.{calls_of_a_late_list};
 pub fn a_wrong_arrival_does_not_agree()
     ensures { ¬ Agrees nat_cmp (new_world 0)
         (call_limit 0 1 a_byte_a_nanosecond None ∷ call_enqueue 0 (message 1 2 3 2) ∷ call_advance 3 ∷ [])
-        (reply_done [] ∷ reply_done [] ∷ reply_done (arrives (message 1 2 3 2) 6 ∷ []) ∷ []) }
+        (reply_done [] ∷ reply_done [] ∷ reply_done (arrives (message 1 2 3 2) 3 6 ∷ []) ∷ []) }
 {}
 
 /// Nor does one without a completion.
@@ -32,7 +32,7 @@ pub fn a_wrong_order_does_not_agree()
         (call_limit 0 1 a_byte_a_nanosecond None ∷ call_enqueue 0 (message 1 3 1 0) ∷ call_enqueue 0 (message 1 2 1 0)
         ∷ call_advance 2 ∷ [])
         (reply_done [] ∷ reply_done [] ∷ reply_done []
-        ∷ reply_done (arrives (message 1 2 1 0) 2 ∷ arrives (message 1 3 1 0) 2 ∷ []) ∷ []) }
+        ∷ reply_done (arrives (message 1 2 1 0) 2 2 ∷ arrives (message 1 3 1 0) 2 2 ∷ []) ∷ []) }
 {}
 
 /// Nor does a wrong next event.
@@ -48,7 +48,7 @@ pub fn an_early_follower_does_not_agree()
         (call_limit 0 1 a_byte_a_nanosecond None ∷ call_enqueue 0 (message 1 2 4 3) ∷ call_enqueue 0 (message 1 2 2 1)
         ∷ call_advance 6 ∷ [])
         (reply_done [] ∷ reply_done [] ∷ reply_done []
-        ∷ reply_done (arrives (message 1 2 4 3) 7 ∷ arrives (message 1 2 2 1) 7 ∷ []) ∷ []) }
+        ∷ reply_done (arrives (message 1 2 4 3) 4 7 ∷ arrives (message 1 2 2 1) 6 7 ∷ []) ∷ []) }
 {}
 
 /// Nor does one that takes no notice of new caps between two events.
@@ -56,7 +56,7 @@ pub fn a_limit_between_events_counts()
     ensures { ¬ Agrees nat_cmp (new_world 0)
         (call_limit 0 1 a_byte_a_nanosecond None ∷ call_enqueue 0 (message 1 2 4 0)
         ∷ call_limit 3 1 (Some 500_000_000) None ∷ call_advance 4 ∷ [])
-        (reply_done [] ∷ reply_done [] ∷ reply_done [] ∷ reply_done (arrives (message 1 2 4 0) 4 ∷ []) ∷ []) }
+        (reply_done [] ∷ reply_done [] ∷ reply_done [] ∷ reply_done (arrives (message 1 2 4 0) 4 4 ∷ []) ∷ []) }
 {}
 
 /// Nor one that takes no notice of the new cap of a link.
@@ -64,7 +64,7 @@ pub fn a_link_limit_between_events_counts()
     ensures { ¬ Agrees nat_cmp (new_world 0)
         (call_limit 0 1 a_byte_a_nanosecond None ∷ call_enqueue 0 (message 1 2 4 0)
         ∷ call_limit_link 3 1 2 (Some 500_000_000) ∷ call_advance 4 ∷ [])
-        (reply_done [] ∷ reply_done [] ∷ reply_done [] ∷ reply_done (arrives (message 1 2 4 0) 4 ∷ []) ∷ []) }
+        (reply_done [] ∷ reply_done [] ∷ reply_done [] ∷ reply_done (arrives (message 1 2 4 0) 4 4 ∷ []) ∷ []) }
 {}
 
 /// Nor one that takes no notice of a message between two events, which shares the cap.
@@ -72,7 +72,7 @@ pub fn a_message_between_events_counts()
     ensures { ¬ Agrees nat_cmp (new_world 0)
         (call_limit 0 1 a_byte_a_nanosecond None ∷ call_enqueue 0 (message 1 2 4 0)
         ∷ call_enqueue 3 (message 1 3 1 0) ∷ call_advance 4 ∷ [])
-        (reply_done [] ∷ reply_done [] ∷ reply_done [] ∷ reply_done (arrives (message 1 2 4 0) 4 ∷ []) ∷ []) }
+        (reply_done [] ∷ reply_done [] ∷ reply_done [] ∷ reply_done (arrives (message 1 2 4 0) 4 4 ∷ []) ∷ []) }
 {}
 
 /// Nor one that takes no notice of a list of messages between two events.
@@ -80,13 +80,13 @@ pub fn a_list_between_events_counts()
     ensures { ¬ Agrees nat_cmp (new_world 0)
         (call_limit 0 1 a_byte_a_nanosecond None ∷ call_enqueue 0 (message 1 2 4 0)
         ∷ call_enqueue_all 3 (message 1 3 1 0 ∷ []) ∷ call_advance 4 ∷ [])
-        (reply_done [] ∷ reply_done [] ∷ reply_done [] ∷ reply_done (arrives (message 1 2 4 0) 4 ∷ []) ∷ []) }
+        (reply_done [] ∷ reply_done [] ∷ reply_done [] ∷ reply_done (arrives (message 1 2 4 0) 4 4 ∷ []) ∷ []) }
 {}
 
 /// Nor one that refuses a list and sends its first messages.
 pub fn a_refused_list_sends_nothing()
     ensures { ¬ Agrees nat_cmp (new_world 0) calls_of_a_late_list
-        (reply_refused MomentTooLate ∷ reply_done (arrives (message 1 2 1 0) 6 ∷ []) ∷ reply_next None ∷ []) }
+        (reply_refused MomentTooLate ∷ reply_done (arrives (message 1 2 1 0) 6 6 ∷ []) ∷ reply_next None ∷ []) }
 {}
 
 /// Nor one that takes no notice of new caps where no event is ahead.
@@ -94,7 +94,7 @@ pub fn a_limit_counts_where_no_event_is_ahead()
     ensures { ¬ Agrees nat_cmp (new_world 0)
         (call_limit 0 1 a_byte_a_nanosecond None ∷ call_limit 3 1 (Some 500_000_000) None
         ∷ call_enqueue 3 (message 1 2 1 0) ∷ call_advance 4 ∷ [])
-        (reply_done [] ∷ reply_done [] ∷ reply_done [] ∷ reply_done (arrives (message 1 2 1 0) 4 ∷ []) ∷ []) }
+        (reply_done [] ∷ reply_done [] ∷ reply_done [] ∷ reply_done (arrives (message 1 2 1 0) 4 4 ∷ []) ∷ []) }
 {}
 
 /// Nor one that loses a completion in an advance over several events.
@@ -102,7 +102,7 @@ pub fn an_advance_over_events_counts()
     ensures { ¬ Agrees nat_cmp (new_world 0)
         (call_limit 0 1 a_byte_a_nanosecond None ∷ call_enqueue 0 (message 1 2 4 3)
         ∷ call_enqueue 0 (message 1 2 2 1) ∷ call_advance 8 ∷ [])
-        (reply_done [] ∷ reply_done [] ∷ reply_done [] ∷ reply_done (arrives (message 1 2 4 3) 7 ∷ []) ∷ []) }
+        (reply_done [] ∷ reply_done [] ∷ reply_done [] ∷ reply_done (arrives (message 1 2 4 3) 4 7 ∷ []) ∷ []) }
 {}
 
 /// A next event is not passed over, and none is made up.
@@ -119,22 +119,28 @@ pub fn a_missing_next_event_does_not_agree()
 pub fn a_wrong_part_of_a_completion_does_not_agree()
     ensures origin { ¬ Agrees nat_cmp (new_world 0)
         (call_limit 0 1 a_byte_a_nanosecond None ∷ call_enqueue 0 (message 1 2 3 2) ∷ call_advance 3 ∷ [])
-        (reply_done [] ∷ reply_done [] ∷ reply_done (arrives (message 3 2 3 2) 5 ∷ []) ∷ []) }
+        (reply_done [] ∷ reply_done [] ∷ reply_done (arrives (message 3 2 3 2) 3 5 ∷ []) ∷ []) }
     ensures recipient { ¬ Agrees nat_cmp (new_world 0)
         (call_limit 0 1 a_byte_a_nanosecond None ∷ call_enqueue 0 (message 1 2 3 2) ∷ call_advance 3 ∷ [])
-        (reply_done [] ∷ reply_done [] ∷ reply_done (arrives (message 1 3 3 2) 5 ∷ []) ∷ []) }
+        (reply_done [] ∷ reply_done [] ∷ reply_done (arrives (message 1 3 3 2) 3 5 ∷ []) ∷ []) }
     ensures channel { ¬ Agrees nat_cmp (new_world 0)
         (call_limit 0 1 a_byte_a_nanosecond None ∷ call_enqueue 0 (message 1 2 3 2) ∷ call_advance 3 ∷ [])
-        (reply_done [] ∷ reply_done [] ∷ reply_done (arrives (record (message 1 2 3 2) { channel = 1 }) 5 ∷ []) ∷ []) }
+        (reply_done [] ∷ reply_done [] ∷ reply_done (arrives (record (message 1 2 3 2) { channel = 1 }) 3 5 ∷ []) ∷ []) }
     ensures bytes { ¬ Agrees nat_cmp (new_world 0)
         (call_limit 0 1 a_byte_a_nanosecond None ∷ call_enqueue 0 (message 1 2 3 2) ∷ call_advance 3 ∷ [])
-        (reply_done [] ∷ reply_done [] ∷ reply_done (arrives (message 1 2 2 2) 5 ∷ []) ∷ []) }
+        (reply_done [] ∷ reply_done [] ∷ reply_done (arrives (message 1 2 2 2) 3 5 ∷ []) ∷ []) }
+    ensures done { ¬ Agrees nat_cmp (new_world 0)
+        (call_limit 0 1 a_byte_a_nanosecond None ∷ call_enqueue 0 (message 1 2 3 2) ∷ call_advance 3 ∷ [])
+        (reply_done [] ∷ reply_done [] ∷ reply_done (arrives (message 1 2 3 2) 5 5 ∷ []) ∷ []) }
+    ensures dropped { ¬ Agrees nat_cmp (new_world 0)
+        (call_limit 0 1 a_byte_a_nanosecond None ∷ call_enqueue 0 (dropped 1 2 3 2) ∷ call_advance 3 ∷ [])
+        (reply_done [] ∷ reply_done [] ∷ reply_done (is_gone (dropped 1 2 3 2) 5 ∷ []) ∷ []) }
     ensures gone { ¬ Agrees nat_cmp (new_world 0)
         (call_limit 0 1 a_byte_a_nanosecond None ∷ call_enqueue 0 (message 1 2 3 2) ∷ call_advance 3 ∷ [])
-        (reply_done [] ∷ reply_done [] ∷ reply_done (is_gone (message 1 2 3 2) ∷ []) ∷ []) }
+        (reply_done [] ∷ reply_done [] ∷ reply_done (is_gone (message 1 2 3 2) 3 ∷ []) ∷ []) }
     ensures twice { ¬ Agrees nat_cmp (new_world 0)
         (call_limit 0 1 a_byte_a_nanosecond None ∷ call_enqueue 0 (message 1 2 3 2) ∷ call_advance 3 ∷ [])
-        (reply_done [] ∷ reply_done [] ∷ reply_done (arrives (message 1 2 3 2) 5 ∷ arrives (message 1 2 3 2) 5 ∷ [])
+        (reply_done [] ∷ reply_done [] ∷ reply_done (arrives (message 1 2 3 2) 3 5 ∷ arrives (message 1 2 3 2) 3 5 ∷ [])
         ∷ []) }
 {}
 
@@ -198,7 +204,7 @@ pub fn a_fault_that_is_not_met_does_not_agree()
 pub fn a_fault_that_is_met_is_not_passed_over()
     ensures moment { ¬ Agrees nat_cmp (new_world 0)
         (call_enqueue 1 (message 1 2 1 18_446_744_073_709_551_615) ∷ [])
-        (reply_done (arrives (message 1 2 1 18_446_744_073_709_551_615) 18_446_744_073_709_551_616 ∷ []) ∷ []) }
+        (reply_done (arrives (message 1 2 1 18_446_744_073_709_551_615) 1 18_446_744_073_709_551_616 ∷ []) ∷ []) }
     ensures id { ¬ Agrees nat_cmp (new_world 18_446_744_073_709_551_615)
         (call_limit 0 1 a_byte_a_nanosecond None ∷ call_enqueue 0 (message 1 2 1 0) ∷ [])
         (reply_done [] ∷ reply_done [] ∷ []) }

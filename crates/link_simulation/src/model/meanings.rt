@@ -123,13 +123,15 @@ pub fn what_holds_so_far_holds_of_all<P: Ord>()
         law (take n calls) (take n replies) ≡ true }
 {}
 
-/// A completion has the origin, the recipient, the channel and the bytes of its message, and the moment of its arrival.
+/// A completion has the origin, the recipient, the channel and the bytes of its message, the moment at which it was done, and
+/// that of its arrival.
 pub fn a_completion_is_of_its_message()
-    ensures { completion_of (record (message 1 2 3 4) { channel = 5 }) (Some 6) ≡ record {
+    ensures { completion_of (record (message 1 2 3 4) { channel = 5 }) 4 (Some 6) ≡ record {
       origin = 1;
       recipient = 2;
       channel = 5;
       bytes = 0 ∷ 0 ∷ 0 ∷ [];
+      done_at = 4;
       deliver_at = Some 6;
     } }
 {}
@@ -138,13 +140,13 @@ pub fn a_completion_is_of_its_message()
 /// enqueued.
 pub fn a_completion_of_another_message_is_not_conserved()
     ensures origin { ¬ IsConserved nat_cmp (new_planned 0) (message 1 2 1 0 ∷ [])
-        (arrives (message 3 2 1 0) 1 ∷ []) (new_planned 0) }
+        (arrives (message 3 2 1 0) 1 1 ∷ []) (new_planned 0) }
     ensures recipient { ¬ IsConserved nat_cmp (new_planned 0) (message 1 2 1 0 ∷ [])
-        (arrives (message 1 3 1 0) 1 ∷ []) (new_planned 0) }
+        (arrives (message 1 3 1 0) 1 1 ∷ []) (new_planned 0) }
     ensures channel { ¬ IsConserved nat_cmp (new_planned 0) (message 1 2 1 0 ∷ [])
-        (arrives (record (message 1 2 1 0) { channel = 1 }) 1 ∷ []) (new_planned 0) }
+        (arrives (record (message 1 2 1 0) { channel = 1 }) 1 1 ∷ []) (new_planned 0) }
     ensures bytes { ¬ IsConserved nat_cmp (new_planned 0) (message 1 2 1 0 ∷ [])
-        (arrives (message 1 2 2 0) 1 ∷ []) (new_planned 0) }
+        (arrives (message 1 2 2 0) 1 1 ∷ []) (new_planned 0) }
 {}
 
 /// A call that is answered without its completion lost a message, and one that is answered with another arrival did
@@ -153,7 +155,7 @@ pub fn a_lost_completion_is_not_conserved()
     ensures lost { ¬ AreConserved nat_cmp (new_planned 0)
         (call_enqueue 0 (message 1 2 1 0) ∷ []) (reply_done [] ∷ []) }
     ensures arrival { ¬ AreConserved nat_cmp (new_planned 0)
-        (call_enqueue 0 (message 1 2 1 0) ∷ []) (reply_done (arrives (message 1 2 1 0) 7 ∷ []) ∷ []) }
+        (call_enqueue 0 (message 1 2 1 0) ∷ []) (reply_done (arrives (message 1 2 1 0) 0 7 ∷ []) ∷ []) }
 {}
 
 /// A planned world is not in order where a message in flight has a rate that is not its fair one, where two messages
@@ -218,9 +220,9 @@ pub fn a_refusal_without_a_cause_is_told()
 pub fn replies_that_break_a_promise_are_told()
     ensures lost { ¬ IsolateSets nat_cmp (call_enqueue 0 (message 1 2 1 0) ∷ []) (reply_done [] ∷ []) }
     ensures others { ¬ IsIsolated nat_cmp (λ p. nat_lt p 3) (call_enqueue 0 (message 3 4 1 0) ∷ [])
-        ((arrives (message 1 2 1 0) 0 ∷ []) ∷ []) }
+        ((arrives (message 1 2 1 0) 0 0 ∷ []) ∷ []) }
     ensures order { ¬ CompletePairsInOrder nat_cmp (call_enqueue 0 (message 1 2 1 0) ∷ [])
-        (reply_done (arrives (message 1 2 2 0) 0 ∷ []) ∷ []) }
+        (reply_done (arrives (message 1 2 2 0) 0 0 ∷ []) ∷ []) }
 {}
 
 /// Of a list of calls those were made that are answered with completions. Of any calls all messages count that are
@@ -229,16 +231,16 @@ pub fn what_was_made_is_told()
     ensures made { made calls_with_a_refusal replies_with_a_refusal ≡ call_enqueue 0 (message 1 2 1 0)
         ∷ call_limit 0 1 None None ∷ call_limit_link 0 1 2 None ∷ call_enqueue 0 (message 2 1 1 0) ∷ call_advance 0
         ∷ [] }
-    ensures completions { completions_in replies_with_a_refusal ≡ (arrives (message 1 2 1 0) 0 ∷ []) ∷ [] ∷ []
-        ∷ (arrives (message 2 1 1 0) 0 ∷ []) ∷ [] ∷ [] }
+    ensures completions { completions_in replies_with_a_refusal ≡ (arrives (message 1 2 1 0) 0 0 ∷ []) ∷ [] ∷ []
+        ∷ (arrives (message 2 1 1 0) 0 0 ∷ []) ∷ [] ∷ [] }
     ensures enqueued { enqueued calls_with_a_refusal ≡ message 1 2 1 0 ∷ message 1 3 1 0 ∷ message 2 1 1 0 ∷ [] }
     ensures enqueued_in_lists { enqueued (call_enqueue_all 0 (message 1 2 1 0 ∷ message 2 1 1 0 ∷ [])
         ∷ call_enqueue 0 (message 1 3 1 0) ∷ []) ≡ message 1 2 1 0 ∷ message 2 1 1 0 ∷ message 1 3 1 0 ∷ [] }
-    ensures answered { answered (completions_in replies_with_a_refusal) ≡ arrives (message 1 2 1 0) 0
-        ∷ arrives (message 2 1 1 0) 0 ∷ [] }
-    ensures pair { filter (completes_pair nat_cmp (message 1 2 0 0)) (arrives (message 1 3 1 0) 1
-        ∷ arrives (message 1 2 2 0) 2 ∷ arrives (message 3 2 1 0) 2 ∷ arrives (message 1 2 3 0) 3 ∷ [])
-        ≡ arrives (message 1 2 2 0) 2 ∷ arrives (message 1 2 3 0) 3 ∷ [] }
+    ensures answered { answered (completions_in replies_with_a_refusal) ≡ arrives (message 1 2 1 0) 0 0
+        ∷ arrives (message 2 1 1 0) 0 0 ∷ [] }
+    ensures pair { filter (completes_pair nat_cmp (message 1 2 0 0)) (arrives (message 1 3 1 0) 1 1
+        ∷ arrives (message 1 2 2 0) 2 2 ∷ arrives (message 3 2 1 0) 2 2 ∷ arrives (message 1 2 3 0) 3 3 ∷ [])
+        ≡ arrives (message 1 2 2 0) 2 2 ∷ arrives (message 1 2 3 0) 3 3 ∷ [] }
 {}
 
 /// A set has equal peers together, and each call, and each message of a list, counts for what keeps apart. Of the calls
@@ -263,12 +265,12 @@ pub fn what_a_set_keeps_is_told()
         ≡ call_enqueue_all 0 (message 1 2 1 0 ∷ message 2 3 3 0 ∷ []) ∷ call_enqueue_all 1 [] ∷ [] }
     ensures completions { kept_completions below_three
         (call_enqueue 0 (message 3 4 1 0) ∷ call_advance 1 ∷ call_enqueue 1 (message 1 2 3 0) ∷ [])
-        ((arrives (message 1 2 1 0) 0 ∷ []) ∷ (arrives (message 3 2 1 0) 1 ∷ arrives (message 1 4 1 0) 1 ∷ [])
-        ∷ (arrives (message 1 2 3 0) 1 ∷ []) ∷ [])
-        ≡ (arrives (message 1 4 1 0) 1 ∷ []) ∷ (arrives (message 1 2 3 0) 1 ∷ []) ∷ [] }
+        ((arrives (message 1 2 1 0) 0 0 ∷ []) ∷ (arrives (message 3 2 1 0) 1 1 ∷ arrives (message 1 4 1 0) 1 1 ∷ [])
+        ∷ (arrives (message 1 2 3 0) 1 1 ∷ []) ∷ [])
+        ≡ (arrives (message 1 4 1 0) 1 1 ∷ []) ∷ (arrives (message 1 2 3 0) 1 1 ∷ []) ∷ [] }
     ensures later_completion { ¬ NothingElse below_three
         (call_enqueue 0 (message 3 4 1 0) ∷ call_enqueue 0 (message 3 4 1 0) ∷ [])
-        ([] ∷ (arrives (message 1 2 1 0) 0 ∷ []) ∷ []) }
+        ([] ∷ (arrives (message 1 2 1 0) 0 0 ∷ []) ∷ []) }
 {}
 
 /// In a planned world each message that is in flight or waits counts. All that is in flight drains to a moment, and

@@ -60,6 +60,6 @@ pub fn replies_lose_no_message<P: Ord>()
 pub fn a_lost_message_is_not_conserved()
     ensures lost { ¬ IsConserved nat_cmp (new_planned 0) (message 1 2 1 0 ∷ []) [] (new_planned 0) }
     ensures doubled { ¬ IsConserved nat_cmp (new_planned 0) (message 1 2 1 0 ∷ [])
-        (arrives (message 1 2 1 0) 1 ∷ arrives (message 1 2 1 0) 1 ∷ []) (new_planned 0) }
-    ensures made_up { ¬ IsConserved nat_cmp (new_planned 0) [] (arrives (message 1 2 1 0) 1 ∷ []) (new_planned 0) }
+        (arrives (message 1 2 1 0) 1 1 ∷ arrives (message 1 2 1 0) 1 1 ∷ []) (new_planned 0) }
+    ensures made_up { ¬ IsConserved nat_cmp (new_planned 0) [] (arrives (message 1 2 1 0) 1 1 ∷ []) (new_planned 0) }
 {}

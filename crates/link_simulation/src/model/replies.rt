@@ -56,9 +56,9 @@ pub fn replies_isolate_sets<P: Ord>()
 /// A pair whose arrivals go down is not in order, and neither is one whose second message comes first.
 pub fn a_pair_out_of_order_is_told()
     ensures arrivals { ¬ CompletesInOrder nat_cmp (message 1 2 1 0) (message 1 2 1 2 ∷ message 1 2 1 0 ∷ [])
-        (arrives (message 1 2 1 2) 5 ∷ arrives (message 1 2 1 0) 4 ∷ []) }
+        (arrives (message 1 2 1 2) 3 5 ∷ arrives (message 1 2 1 0) 4 4 ∷ []) }
     ensures messages { ¬ CompletesInOrder nat_cmp (message 1 2 1 0) (message 1 2 1 0 ∷ message 1 2 2 0 ∷ [])
-        (arrives (message 1 2 2 0) 5 ∷ []) }
+        (arrives (message 1 2 2 0) 5 5 ∷ []) }
 {}
 
 /// These calls go by what `next` answers: half of the cap is taken before the event that it told, and another message
@@ -75,7 +75,7 @@ pub fn calls_may_go_by_next()
         (call_limit 0 1 a_byte_a_nanosecond None ∷ call_enqueue 0 (message 1 2 4 0) ∷ call_next
         ∷ call_limit 3 1 (Some 500_000_000) None ∷ call_next ∷ call_advance 5 ∷ call_enqueue 5 (message 1 2 1 0) ∷ [])
         (reply_done [] ∷ reply_done [] ∷ reply_next (Some 4)
-        ∷ reply_done [] ∷ reply_next (Some 5) ∷ reply_done (arrives (message 1 2 4 0) 5 ∷ []) ∷ reply_done [] ∷ []) }
+        ∷ reply_done [] ∷ reply_next (Some 5) ∷ reply_done (arrives (message 1 2 4 0) 5 5 ∷ []) ∷ reply_done [] ∷ []) }
 {}
 
 /// These advance first. In the others an advance is refused and so is a message, and a link has a cap.
@@ -84,7 +84,7 @@ pub fn calls_may_advance_first()
         (call_limit_link 0 1 2 a_byte_a_nanosecond ∷ call_enqueue 0 (message 1 2 4 0) ∷ call_advance 3 ∷ call_next
         ∷ call_advance 2 ∷ call_enqueue 2 (message 1 3 1 0) ∷ call_limit_link 2 1 2 None ∷ [])
         (reply_done [] ∷ reply_done [] ∷ reply_refused OutOfMemory ∷ reply_next (Some 4)
-        ∷ reply_done [] ∷ reply_refused OutOfMemory ∷ reply_done (arrives (message 1 2 4 0) 2 ∷ []) ∷ []) }
+        ∷ reply_done [] ∷ reply_refused OutOfMemory ∷ reply_done (arrives (message 1 2 4 0) 2 2 ∷ []) ∷ []) }
     ensures limits { AreAdvancedFirst 0
         (call_limit 0 1 a_byte_a_nanosecond None ∷ call_enqueue 0 (message 1 2 4 0) ∷ call_advance 3
         ∷ call_limit 3 1 (Some 500_000_000) None ∷ [])

@@ -20,7 +20,7 @@ pub fn a_message_takes_its_time()
     ensures { Agrees nat_cmp (new_world 0)
         (call_limit 0 1 a_byte_a_nanosecond None ∷ call_enqueue 0 (message 1 2 3 2) ∷ call_next ∷ call_advance 3
         ∷ call_next ∷ [])
-        (reply_done [] ∷ reply_done [] ∷ reply_next (Some 3) ∷ reply_done (arrives (message 1 2 3 2) 5 ∷ [])
+        (reply_done [] ∷ reply_done [] ∷ reply_next (Some 3) ∷ reply_done (arrives (message 1 2 3 2) 3 5 ∷ [])
         ∷ reply_next None ∷ []) }
 {}
 
@@ -38,8 +38,8 @@ pub fn a_finish_comes_before_a_start()
         ∷ call_enqueue 0 (message 1 2 0 0) ∷ call_enqueue 0 (message 1 3 2 0)
         ∷ call_next ∷ call_advance 2 ∷ call_next ∷ call_advance 3 ∷ call_next ∷ [])
         (reply_done [] ∷ reply_done [] ∷ reply_next (Some 1) ∷ reply_done [] ∷ reply_done []
-        ∷ reply_next (Some 2) ∷ reply_done (arrives (message 1 2 1 1) 3 ∷ []) ∷ reply_next (Some 3)
-        ∷ reply_done (arrives (message 1 3 2 0) 3 ∷ arrives (message 1 2 0 0) 3 ∷ [])
+        ∷ reply_next (Some 2) ∷ reply_done (arrives (message 1 2 1 1) 2 3 ∷ []) ∷ reply_next (Some 3)
+        ∷ reply_done (arrives (message 1 3 2 0) 3 3 ∷ arrives (message 1 2 0 0) 3 3 ∷ [])
         ∷ reply_next None ∷ []) }
 {}
 
@@ -51,9 +51,9 @@ pub fn a_follower_starts_before_those_that_wake()
         ∷ call_advance 1 ∷ call_enqueue 1 (message 1 2 1 0) ∷ call_enqueue 1 (message 1 2 1 0)
         ∷ call_next ∷ call_advance 2 ∷ call_next ∷ call_advance 4 ∷ call_next ∷ [])
         (reply_done [] ∷ reply_done [] ∷ reply_done []
-        ∷ reply_done (arrives (message 1 3 1 1) 2 ∷ []) ∷ reply_done [] ∷ reply_done []
-        ∷ reply_next (Some 2) ∷ reply_done (arrives (message 1 2 1 0) 2 ∷ []) ∷ reply_next (Some 4)
-        ∷ reply_done (arrives (message 1 2 1 0) 4 ∷ arrives (message 1 3 1 0) 4 ∷ []) ∷ reply_next None ∷ []) }
+        ∷ reply_done (arrives (message 1 3 1 1) 1 2 ∷ []) ∷ reply_done [] ∷ reply_done []
+        ∷ reply_next (Some 2) ∷ reply_done (arrives (message 1 2 1 0) 2 2 ∷ []) ∷ reply_next (Some 4)
+        ∷ reply_done (arrives (message 1 2 1 0) 4 4 ∷ arrives (message 1 3 1 0) 4 4 ∷ []) ∷ reply_next None ∷ []) }
 {}
 
 /// So it is where its pair comes later in the order of pairs: at 2 the second message to peer 3, and then the one to
@@ -64,9 +64,9 @@ pub fn a_follower_of_a_later_pair_starts_first()
         ∷ call_advance 1 ∷ call_enqueue 1 (message 1 3 1 0) ∷ call_enqueue 1 (message 1 3 1 0)
         ∷ call_next ∷ call_advance 2 ∷ call_next ∷ call_advance 4 ∷ call_next ∷ [])
         (reply_done [] ∷ reply_done [] ∷ reply_done []
-        ∷ reply_done (arrives (message 1 2 1 1) 2 ∷ []) ∷ reply_done [] ∷ reply_done []
-        ∷ reply_next (Some 2) ∷ reply_done (arrives (message 1 3 1 0) 2 ∷ []) ∷ reply_next (Some 4)
-        ∷ reply_done (arrives (message 1 3 1 0) 4 ∷ arrives (message 1 2 1 0) 4 ∷ []) ∷ reply_next None ∷ []) }
+        ∷ reply_done (arrives (message 1 2 1 1) 1 2 ∷ []) ∷ reply_done [] ∷ reply_done []
+        ∷ reply_next (Some 2) ∷ reply_done (arrives (message 1 3 1 0) 2 2 ∷ []) ∷ reply_next (Some 4)
+        ∷ reply_done (arrives (message 1 3 1 0) 4 4 ∷ arrives (message 1 2 1 0) 4 4 ∷ []) ∷ reply_next None ∷ []) }
 {}
 
 /// Of two pairs with a message each in flight, both finish at 2; the second message of the first pair starts only
@@ -77,8 +77,8 @@ pub fn a_pair_sends_one_message_at_a_time()
         ∷ call_enqueue 0 (message 1 2 1 0)
         ∷ call_next ∷ call_advance 2 ∷ call_next ∷ call_advance 3 ∷ call_next ∷ [])
         (reply_done [] ∷ reply_done [] ∷ reply_done [] ∷ reply_done []
-        ∷ reply_next (Some 2) ∷ reply_done (arrives (message 1 2 1 0) 2 ∷ arrives (message 1 3 1 0) 2 ∷ [])
-        ∷ reply_next (Some 3) ∷ reply_done (arrives (message 1 2 1 0) 3 ∷ []) ∷ reply_next None ∷ []) }
+        ∷ reply_next (Some 2) ∷ reply_done (arrives (message 1 2 1 0) 2 2 ∷ arrives (message 1 3 1 0) 2 2 ∷ [])
+        ∷ reply_next (Some 3) ∷ reply_done (arrives (message 1 2 1 0) 3 3 ∷ []) ∷ reply_next None ∷ []) }
 {}
 
 /// Before any limit messages complete at once. One that is dropped does not let a later one arrive earlier.
@@ -86,8 +86,8 @@ pub fn nothing_waits_before_any_limit()
     ensures { Agrees nat_cmp (new_world 0)
         (call_enqueue 0 (message 1 2 1 100) ∷ call_enqueue 0 (dropped 1 2 1 0) ∷ call_enqueue 0 (message 1 2 1 50)
         ∷ call_next ∷ [])
-        (reply_done (arrives (message 1 2 1 100) 100 ∷ []) ∷ reply_done (is_gone (dropped 1 2 1 0) ∷ [])
-        ∷ reply_done (arrives (message 1 2 1 50) 100 ∷ []) ∷ reply_next None ∷ []) }
+        (reply_done (arrives (message 1 2 1 100) 0 100 ∷ []) ∷ reply_done (is_gone (dropped 1 2 1 0) 0 ∷ [])
+        ∷ reply_done (arrives (message 1 2 1 50) 0 100 ∷ []) ∷ reply_next None ∷ []) }
 {}
 
 /// Before any limit a message arrives at its own moment where that is later than the last one, and it then is the last
@@ -96,8 +96,8 @@ pub fn a_later_arrival_is_the_last_one()
     ensures { Agrees nat_cmp (new_world 0)
         (call_enqueue 0 (message 1 2 1 100) ∷ call_enqueue 0 (message 1 2 1 150) ∷ call_enqueue 0 (message 1 2 1 120)
         ∷ [])
-        (reply_done (arrives (message 1 2 1 100) 100 ∷ []) ∷ reply_done (arrives (message 1 2 1 150) 150 ∷ [])
-        ∷ reply_done (arrives (message 1 2 1 120) 150 ∷ []) ∷ []) }
+        (reply_done (arrives (message 1 2 1 100) 0 100 ∷ []) ∷ reply_done (arrives (message 1 2 1 150) 0 150 ∷ [])
+        ∷ reply_done (arrives (message 1 2 1 120) 0 150 ∷ []) ∷ []) }
 {}
 
 /// Each ordered pair has its own order: an arrival at 100 holds back no message to another peer, nor one on the way
@@ -106,8 +106,8 @@ pub fn each_pair_has_its_own_order()
     ensures { Agrees nat_cmp (new_world 0)
         (call_enqueue 0 (message 1 2 1 100) ∷ call_enqueue 0 (message 1 3 1 50) ∷ call_enqueue 0 (message 2 1 1 50)
         ∷ call_enqueue 0 (message 3 2 1 50) ∷ [])
-        (reply_done (arrives (message 1 2 1 100) 100 ∷ []) ∷ reply_done (arrives (message 1 3 1 50) 50 ∷ [])
-        ∷ reply_done (arrives (message 2 1 1 50) 50 ∷ []) ∷ reply_done (arrives (message 3 2 1 50) 50 ∷ []) ∷ []) }
+        (reply_done (arrives (message 1 2 1 100) 0 100 ∷ []) ∷ reply_done (arrives (message 1 3 1 50) 0 50 ∷ [])
+        ∷ reply_done (arrives (message 2 1 1 50) 0 50 ∷ []) ∷ reply_done (arrives (message 3 2 1 50) 0 50 ∷ []) ∷ []) }
 {}
 
 /// A message to oneself is delivered before any limit, and dropped after one, also after a limit of nothing.
@@ -115,7 +115,7 @@ pub fn a_message_to_oneself_is_dropped_under_limits()
     ensures { Agrees nat_cmp (new_world 0)
         (call_enqueue 0 (message 1 1 1 0) ∷ call_limit 0 1 None None ∷ call_enqueue 0 (message 1 1 1 0) ∷ call_next
         ∷ [])
-        (reply_done (arrives (message 1 1 1 0) 0 ∷ []) ∷ reply_done [] ∷ reply_done (is_gone (message 1 1 1 0) ∷ [])
+        (reply_done (arrives (message 1 1 1 0) 0 0 ∷ []) ∷ reply_done [] ∷ reply_done (is_gone (message 1 1 1 0) 0 ∷ [])
         ∷ reply_next None ∷ []) }
 {}
 
@@ -124,7 +124,7 @@ pub fn a_link_to_oneself_takes_time()
     ensures { Agrees nat_cmp (new_world 0)
         (call_limit_link 0 1 1 a_byte_a_nanosecond ∷ call_enqueue 0 (message 1 1 1 0) ∷ call_next ∷ call_advance 1
         ∷ call_next ∷ [])
-        (reply_done [] ∷ reply_done [] ∷ reply_next (Some 1) ∷ reply_done (is_gone (message 1 1 1 0) ∷ [])
+        (reply_done [] ∷ reply_done [] ∷ reply_next (Some 1) ∷ reply_done (is_gone (message 1 1 1 0) 1 ∷ [])
         ∷ reply_next None ∷ []) }
 {}
 
@@ -134,7 +134,7 @@ pub fn new_caps_hold_at_once()
         (call_limit 0 1 a_byte_a_nanosecond None ∷ call_enqueue 0 (message 1 2 4 0)
         ∷ call_limit 2 1 (Some 500_000_000) None ∷ call_next ∷ call_advance 6 ∷ call_next ∷ [])
         (reply_done [] ∷ reply_done [] ∷ reply_done [] ∷ reply_next (Some 6)
-        ∷ reply_done (arrives (message 1 2 4 0) 6 ∷ []) ∷ reply_next None ∷ []) }
+        ∷ reply_done (arrives (message 1 2 4 0) 6 6 ∷ []) ∷ reply_next None ∷ []) }
 {}
 
 /// At a cap of zero a message stays, but one without bytes goes at once.
@@ -142,8 +142,8 @@ pub fn a_closed_peer_sends_nothing()
     ensures { Agrees nat_cmp (new_world 0)
         (call_limit 0 1 (Some 0) None ∷ call_enqueue 0 (message 1 2 1 0) ∷ call_enqueue 0 (message 1 3 0 0)
         ∷ call_limit 2 1 a_byte_a_nanosecond None ∷ call_next ∷ call_advance 3 ∷ call_next ∷ [])
-        (reply_done [] ∷ reply_done [] ∷ reply_done (arrives (message 1 3 0 0) 0 ∷ []) ∷ reply_done []
-        ∷ reply_next (Some 3) ∷ reply_done (arrives (message 1 2 1 0) 3 ∷ []) ∷ reply_next None ∷ []) }
+        (reply_done [] ∷ reply_done [] ∷ reply_done (arrives (message 1 3 0 0) 0 0 ∷ []) ∷ reply_done []
+        ∷ reply_next (Some 3) ∷ reply_done (arrives (message 1 2 1 0) 3 3 ∷ []) ∷ reply_next None ∷ []) }
 {}
 
 /// A message that will be dropped waits for the one ahead of it, too.
@@ -152,8 +152,8 @@ pub fn a_dropped_follower_waits()
         (call_limit 0 1 a_byte_a_nanosecond None ∷ call_enqueue 0 (message 1 2 1 1) ∷ call_enqueue 0 (dropped 1 2 0 0)
         ∷ call_next ∷ call_advance 1 ∷ call_next ∷ call_advance 2 ∷ call_next ∷ [])
         (reply_done [] ∷ reply_done [] ∷ reply_done [] ∷ reply_next (Some 1)
-        ∷ reply_done (arrives (message 1 2 1 1) 2 ∷ []) ∷ reply_next (Some 2)
-        ∷ reply_done (is_gone (dropped 1 2 0 0) ∷ []) ∷ reply_next None ∷ []) }
+        ∷ reply_done (arrives (message 1 2 1 1) 1 2 ∷ []) ∷ reply_next (Some 2)
+        ∷ reply_done (is_gone (dropped 1 2 0 0) 2 ∷ []) ∷ reply_next None ∷ []) }
 {}
 
 /// Completions of one instant come in order of start, not in the order of pairs.
@@ -162,7 +162,7 @@ pub fn completions_come_in_order_of_start()
         (call_limit 0 1 a_byte_a_nanosecond None ∷ call_enqueue 0 (message 1 3 1 0) ∷ call_enqueue 0 (message 1 2 1 0)
         ∷ call_next ∷ call_advance 2 ∷ [])
         (reply_done [] ∷ reply_done [] ∷ reply_done [] ∷ reply_next (Some 2)
-        ∷ reply_done (arrives (message 1 3 1 0) 2 ∷ arrives (message 1 2 1 0) 2 ∷ []) ∷ []) }
+        ∷ reply_done (arrives (message 1 3 1 0) 2 2 ∷ arrives (message 1 2 1 0) 2 2 ∷ []) ∷ []) }
 {}
 
 /// Starts of one instant come in the order of pairs, not in that of enqueue.
@@ -171,9 +171,9 @@ pub fn starts_come_in_the_order_of_pairs()
         (call_enqueue 0 (message 1 3 1 2) ∷ call_enqueue 0 (message 1 2 1 2) ∷ call_limit 0 1 a_byte_a_nanosecond None
         ∷ call_enqueue 0 (message 1 3 0 0) ∷ call_enqueue 0 (message 1 2 0 0) ∷ call_next ∷ call_advance 2 ∷ call_next
         ∷ [])
-        (reply_done (arrives (message 1 3 1 2) 2 ∷ []) ∷ reply_done (arrives (message 1 2 1 2) 2 ∷ []) ∷ reply_done []
+        (reply_done (arrives (message 1 3 1 2) 0 2 ∷ []) ∷ reply_done (arrives (message 1 2 1 2) 0 2 ∷ []) ∷ reply_done []
         ∷ reply_done [] ∷ reply_done [] ∷ reply_next (Some 2)
-        ∷ reply_done (arrives (message 1 2 0 0) 2 ∷ arrives (message 1 3 0 0) 2 ∷ []) ∷ reply_next None ∷ []) }
+        ∷ reply_done (arrives (message 1 2 0 0) 2 2 ∷ arrives (message 1 3 0 0) 2 2 ∷ []) ∷ reply_next None ∷ []) }
 {}
 
 /// Two origins share the ingress of a recipient.
@@ -181,8 +181,8 @@ pub fn an_ingress_is_shared()
     ensures { Agrees nat_cmp (new_world 0)
         (call_limit 0 3 None a_byte_a_nanosecond ∷ call_enqueue 0 (message 1 3 1 0) ∷ call_enqueue 0 (message 2 3 1 0)
         ∷ call_enqueue 0 (dropped 4 3 5 0) ∷ call_next ∷ call_advance 2 ∷ call_next ∷ [])
-        (reply_done [] ∷ reply_done [] ∷ reply_done [] ∷ reply_done (is_gone (dropped 4 3 5 0) ∷ [])
-        ∷ reply_next (Some 2) ∷ reply_done (arrives (message 1 3 1 0) 2 ∷ arrives (message 2 3 1 0) 2 ∷ [])
+        (reply_done [] ∷ reply_done [] ∷ reply_done [] ∷ reply_done (is_gone (dropped 4 3 5 0) 0 ∷ [])
+        ∷ reply_next (Some 2) ∷ reply_done (arrives (message 1 3 1 0) 2 2 ∷ arrives (message 2 3 1 0) 2 2 ∷ [])
         ∷ reply_next None ∷ []) }
 {}
 
@@ -192,7 +192,7 @@ pub fn a_late_arrival_is_refused()
         (call_enqueue 1 (message 1 2 1 18_446_744_073_709_551_615) ∷ call_next
         ∷ call_enqueue 0 (message 1 2 1 18_446_744_073_709_551_615) ∷ [])
         (reply_refused MomentTooLate ∷ reply_next None
-        ∷ reply_done (arrives (message 1 2 1 18_446_744_073_709_551_615) 18_446_744_073_709_551_615 ∷ []) ∷ []) }
+        ∷ reply_done (arrives (message 1 2 1 18_446_744_073_709_551_615) 0 18_446_744_073_709_551_615 ∷ []) ∷ []) }
 {}
 
 /// Under limits too: a message without bytes is refused as it is enqueued, and another where an
@@ -203,7 +203,7 @@ pub fn a_late_arrival_is_refused_under_limits()
         ∷ call_enqueue 0 (message 1 2 0 18_446_744_073_709_551_615)
         ∷ call_enqueue 0 (message 1 3 1 18_446_744_073_709_551_615) ∷ call_next ∷ call_advance 1 ∷ call_next ∷ [])
         (reply_done [] ∷ reply_refused MomentTooLate
-        ∷ reply_done (arrives (message 1 2 0 18_446_744_073_709_551_615) 18_446_744_073_709_551_615 ∷ [])
+        ∷ reply_done (arrives (message 1 2 0 18_446_744_073_709_551_615) 0 18_446_744_073_709_551_615 ∷ [])
         ∷ reply_done [] ∷ reply_next (Some 1) ∷ reply_refused MomentTooLate ∷ reply_next (Some 1) ∷ []) }
 {}
 
@@ -218,7 +218,7 @@ pub fn a_start_without_an_id_is_refused()
         (call_limit 0 1 a_byte_a_nanosecond None ∷ call_enqueue 0 (message 1 2 2 0) ∷ call_enqueue 0 (message 1 3 1 0)
         ∷ call_next ∷ call_advance 2 ∷ call_next ∷ [])
         (reply_done [] ∷ reply_done [] ∷ reply_refused FlowIdsUsedUp ∷ reply_next (Some 2)
-        ∷ reply_done (arrives (message 1 2 2 0) 2 ∷ []) ∷ reply_next None ∷ []) }
+        ∷ reply_done (arrives (message 1 2 2 0) 2 2 ∷ []) ∷ reply_next None ∷ []) }
 {}
 
 /// In the order of its pair a dropped message counts when it is gone, whatever its latency: the next one follows at
@@ -228,8 +228,8 @@ pub fn a_dropped_message_counts_when_it_is_gone()
         (call_limit 0 1 a_byte_a_nanosecond None ∷ call_enqueue 0 (dropped 1 2 1 5) ∷ call_enqueue 0 (message 1 2 1 0)
         ∷ call_next ∷ call_advance 1 ∷ call_next ∷ call_advance 2 ∷ call_next ∷ [])
         (reply_done [] ∷ reply_done [] ∷ reply_done [] ∷ reply_next (Some 1)
-        ∷ reply_done (is_gone (dropped 1 2 1 5) ∷ []) ∷ reply_next (Some 2)
-        ∷ reply_done (arrives (message 1 2 1 0) 2 ∷ []) ∷ reply_next None ∷ []) }
+        ∷ reply_done (is_gone (dropped 1 2 1 5) 1 ∷ []) ∷ reply_next (Some 2)
+        ∷ reply_done (arrives (message 1 2 1 0) 2 2 ∷ []) ∷ reply_next None ∷ []) }
 {}
 
 /// A dropped message takes nothing of the ingress of its recipient, though it takes its time at its origin.
@@ -239,7 +239,7 @@ pub fn a_dropped_message_takes_no_ingress()
         ∷ call_enqueue 0 (dropped 4 3 2 0) ∷ call_enqueue 0 (message 1 3 2 0) ∷ call_next ∷ call_advance 2 ∷ call_next
         ∷ [])
         (reply_done [] ∷ reply_done [] ∷ reply_done [] ∷ reply_done [] ∷ reply_next (Some 2)
-        ∷ reply_done (is_gone (dropped 4 3 2 0) ∷ arrives (message 1 3 2 0) 2 ∷ []) ∷ reply_next None ∷ []) }
+        ∷ reply_done (is_gone (dropped 4 3 2 0) 2 ∷ arrives (message 1 3 2 0) 2 2 ∷ []) ∷ reply_next None ∷ []) }
 {}
 
 /// A link limits one direction: what goes the other way goes at once.
@@ -247,8 +247,8 @@ pub fn a_link_has_one_direction()
     ensures { Agrees nat_cmp (new_world 0)
         (call_limit_link 0 1 2 a_byte_a_nanosecond ∷ call_enqueue 0 (message 2 1 1 0)
         ∷ call_enqueue 0 (message 1 2 1 0) ∷ call_next ∷ call_advance 1 ∷ call_next ∷ [])
-        (reply_done [] ∷ reply_done (arrives (message 2 1 1 0) 0 ∷ []) ∷ reply_done [] ∷ reply_next (Some 1)
-        ∷ reply_done (arrives (message 1 2 1 0) 1 ∷ []) ∷ reply_next None ∷ []) }
+        (reply_done [] ∷ reply_done (arrives (message 2 1 1 0) 0 0 ∷ []) ∷ reply_done [] ∷ reply_next (Some 1)
+        ∷ reply_done (arrives (message 1 2 1 0) 1 1 ∷ []) ∷ reply_next None ∷ []) }
 {}
 
 /// Where caps are lifted all completes at once. What starts then and is done comes after all that was done before it.
@@ -258,8 +258,8 @@ pub fn lifted_caps_complete_all()
         ∷ call_enqueue 0 (message 1 2 2 0) ∷ call_enqueue 0 (message 1 3 3 0) ∷ call_enqueue 0 (message 1 3 1 0)
         ∷ call_limit 0 1 None None ∷ call_next ∷ [])
         (reply_done [] ∷ reply_done [] ∷ reply_done [] ∷ reply_done [] ∷ reply_done [] ∷ reply_done []
-        ∷ reply_done (arrives (message 1 2 3 0) 0 ∷ arrives (message 1 3 3 0) 0 ∷ arrives (message 1 2 0 0) 0
-        ∷ arrives (message 1 3 1 0) 0 ∷ arrives (message 1 2 2 0) 0 ∷ []) ∷ reply_next None ∷ []) }
+        ∷ reply_done (arrives (message 1 2 3 0) 0 0 ∷ arrives (message 1 3 3 0) 0 0 ∷ arrives (message 1 2 0 0) 0 0
+        ∷ arrives (message 1 3 1 0) 0 0 ∷ arrives (message 1 2 2 0) 0 0 ∷ []) ∷ reply_next None ∷ []) }
 {}
 
 /// A link of one byte a nanosecond leaves nine of ten to the other message of its origin: fair rates are not even ones.
@@ -269,8 +269,8 @@ pub fn a_link_leaves_the_rest_to_others()
         ∷ call_enqueue 0 (message 1 2 10 0) ∷ call_enqueue 0 (message 1 3 9 0)
         ∷ call_next ∷ call_advance 1 ∷ call_next ∷ call_advance 10 ∷ call_next ∷ [])
         (reply_done [] ∷ reply_done [] ∷ reply_done [] ∷ reply_done []
-        ∷ reply_next (Some 1) ∷ reply_done (arrives (message 1 3 9 0) 1 ∷ []) ∷ reply_next (Some 10)
-        ∷ reply_done (arrives (message 1 2 10 0) 10 ∷ []) ∷ reply_next None ∷ []) }
+        ∷ reply_next (Some 1) ∷ reply_done (arrives (message 1 3 9 0) 1 1 ∷ []) ∷ reply_next (Some 10)
+        ∷ reply_done (arrives (message 1 2 10 0) 10 10 ∷ []) ∷ reply_next None ∷ []) }
 {}
 
 /// One byte and two bytes share seven bytes a second: the first takes two sevenths of a second, and the other is done
@@ -280,8 +280,8 @@ pub fn moments_are_rounded_up()
         (call_limit 0 1 (Some 7) None ∷ call_enqueue 0 (message 1 2 1 0) ∷ call_enqueue 0 (message 1 3 2 0)
         ∷ call_next ∷ call_advance 285_714_286 ∷ call_next ∷ call_advance 428_571_429 ∷ call_next ∷ [])
         (reply_done [] ∷ reply_done [] ∷ reply_done []
-        ∷ reply_next (Some 285_714_286) ∷ reply_done (arrives (message 1 2 1 0) 285_714_286 ∷ [])
-        ∷ reply_next (Some 428_571_429) ∷ reply_done (arrives (message 1 3 2 0) 428_571_429 ∷ []) ∷ reply_next None
+        ∷ reply_next (Some 285_714_286) ∷ reply_done (arrives (message 1 2 1 0) 285_714_286 285_714_286 ∷ [])
+        ∷ reply_next (Some 428_571_429) ∷ reply_done (arrives (message 1 3 2 0) 428_571_429 428_571_429 ∷ []) ∷ reply_next None
         ∷ []) }
 {}
 
@@ -296,9 +296,9 @@ pub fn pairs_stand_in_the_order_of_origins()
         (call_enqueue 0 (message 2 1 1 2) ∷ call_enqueue 0 (message 1 3 1 2)
         ∷ call_limit 0 1 a_byte_a_nanosecond None ∷ call_enqueue 0 (message 2 1 0 0)
         ∷ call_enqueue 0 (message 1 3 0 0) ∷ call_next ∷ call_advance 2 ∷ call_next ∷ [])
-        (reply_done (arrives (message 2 1 1 2) 2 ∷ []) ∷ reply_done (arrives (message 1 3 1 2) 2 ∷ [])
+        (reply_done (arrives (message 2 1 1 2) 0 2 ∷ []) ∷ reply_done (arrives (message 1 3 1 2) 0 2 ∷ [])
         ∷ reply_done [] ∷ reply_done [] ∷ reply_done [] ∷ reply_next (Some 2)
-        ∷ reply_done (arrives (message 1 3 0 0) 2 ∷ arrives (message 2 1 0 0) 2 ∷ []) ∷ reply_next None ∷ []) }
+        ∷ reply_done (arrives (message 1 3 0 0) 2 2 ∷ arrives (message 2 1 0 0) 2 2 ∷ []) ∷ reply_next None ∷ []) }
 {}
 
 /// A dropped message is never late, whatever its latency.
@@ -306,7 +306,7 @@ pub fn a_dropped_message_is_never_late()
     ensures { Agrees nat_cmp (new_world 0)
         (call_limit 0 1 a_byte_a_nanosecond None ∷ call_enqueue 18_446_744_073_709_551_614 (dropped 1 2 1 5)
         ∷ call_advance 18_446_744_073_709_551_615 ∷ [])
-        (reply_done [] ∷ reply_done [] ∷ reply_done (is_gone (dropped 1 2 1 5) ∷ []) ∷ []) }
+        (reply_done [] ∷ reply_done [] ∷ reply_done (is_gone (dropped 1 2 1 5) 18_446_744_073_709_551_615 ∷ []) ∷ []) }
 {}
 
 /// A message waits behind one with less latency that has to wait itself: the second may start at 6, and the third,
@@ -317,8 +317,8 @@ pub fn a_follower_does_not_overtake()
         ∷ call_enqueue 0 (message 1 2 1 1) ∷ call_enqueue 0 (message 1 2 1 5) ∷ call_advance 4 ∷ call_next
         ∷ call_advance 8 ∷ call_next ∷ [])
         (reply_done [] ∷ reply_done [] ∷ reply_done [] ∷ reply_done []
-        ∷ reply_done (arrives (message 1 2 4 3) 7 ∷ []) ∷ reply_next (Some 6)
-        ∷ reply_done (arrives (message 1 2 1 1) 8 ∷ arrives (message 1 2 1 5) 13 ∷ []) ∷ reply_next None ∷ []) }
+        ∷ reply_done (arrives (message 1 2 4 3) 4 7 ∷ []) ∷ reply_next (Some 6)
+        ∷ reply_done (arrives (message 1 2 1 1) 7 8 ∷ arrives (message 1 2 1 5) 8 13 ∷ []) ∷ reply_next None ∷ []) }
 {}
 
 /// A limit sets both caps of a peer: what it sends and what it receives.
@@ -327,15 +327,15 @@ pub fn both_caps_of_a_limit_count()
         (call_limit 0 1 a_byte_a_nanosecond a_byte_a_nanosecond ∷ call_enqueue 0 (message 1 2 1 0)
         ∷ call_enqueue 0 (message 2 1 2 0) ∷ call_next ∷ call_advance 1 ∷ call_next ∷ call_advance 2 ∷ [])
         (reply_done [] ∷ reply_done [] ∷ reply_done [] ∷ reply_next (Some 1)
-        ∷ reply_done (arrives (message 1 2 1 0) 1 ∷ []) ∷ reply_next (Some 2)
-        ∷ reply_done (arrives (message 2 1 2 0) 2 ∷ []) ∷ []) }
+        ∷ reply_done (arrives (message 1 2 1 0) 1 1 ∷ []) ∷ reply_next (Some 2)
+        ∷ reply_done (arrives (message 2 1 2 0) 2 2 ∷ []) ∷ []) }
 {}
 
 /// A call that is refused counts as not made: memory may run out at any call, and here no limit holds after it.
 pub fn a_refused_call_counts_as_not_made()
     ensures { Agrees nat_cmp (new_world 0)
         (call_limit 0 1 a_byte_a_nanosecond None ∷ call_enqueue 0 (message 1 2 1 0) ∷ call_next ∷ [])
-        (reply_refused OutOfMemory ∷ reply_done (arrives (message 1 2 1 0) 0 ∷ []) ∷ reply_next None ∷ []) }
+        (reply_refused OutOfMemory ∷ reply_done (arrives (message 1 2 1 0) 0 0 ∷ []) ∷ reply_next None ∷ []) }
 {}
 
 /// The messages of a list are sent one after another at its moment: what completes as they are sent comes in their

@@ -28,7 +28,7 @@ pub fn one_advance_meets_all_events()
         (call_limit 0 1 a_byte_a_nanosecond None ∷ call_enqueue 0 (message 1 2 4 3) ∷ call_enqueue 0 (message 1 2 2 1)
         ∷ call_advance 8 ∷ call_next ∷ [])
         (reply_done [] ∷ reply_done [] ∷ reply_done []
-        ∷ reply_done (arrives (message 1 2 4 3) 7 ∷ arrives (message 1 2 2 1) 9 ∷ []) ∷ reply_next None ∷ []) }
+        ∷ reply_done (arrives (message 1 2 4 3) 4 7 ∷ arrives (message 1 2 2 1) 8 9 ∷ []) ∷ reply_next None ∷ []) }
 {}
 
 /// A message that is enqueued at a moment before the last completion starts no earlier than it may arrive: after an
@@ -38,8 +38,8 @@ pub fn a_moment_may_go_back()
         (call_limit 0 1 a_byte_a_nanosecond None ∷ call_enqueue 0 (message 1 2 3 4) ∷ call_advance 3
         ∷ call_enqueue 0 (message 1 2 3 0) ∷ call_advance 0
         ∷ call_next ∷ call_advance 7 ∷ call_next ∷ call_advance 10 ∷ call_next ∷ [])
-        (reply_done [] ∷ reply_done [] ∷ reply_done (arrives (message 1 2 3 4) 7 ∷ []) ∷ reply_done [] ∷ reply_done []
-        ∷ reply_next (Some 7) ∷ reply_done [] ∷ reply_next (Some 10) ∷ reply_done (arrives (message 1 2 3 0) 10 ∷ [])
+        (reply_done [] ∷ reply_done [] ∷ reply_done (arrives (message 1 2 3 4) 3 7 ∷ []) ∷ reply_done [] ∷ reply_done []
+        ∷ reply_next (Some 7) ∷ reply_done [] ∷ reply_next (Some 10) ∷ reply_done (arrives (message 1 2 3 0) 10 10 ∷ [])
         ∷ reply_next None ∷ []) }
 {}
 
@@ -48,7 +48,7 @@ pub fn a_past_moment_does_nothing()
     ensures { Obeyed nat_cmp (new_planned 0)
         (call_limit 0 1 a_byte_a_nanosecond None ∷ call_enqueue 0 (message 1 2 3 0) ∷ call_advance 3 ∷ call_advance 3
         ∷ call_advance 0 ∷ call_next ∷ [])
-        (reply_done [] ∷ reply_done [] ∷ reply_done (arrives (message 1 2 3 0) 3 ∷ []) ∷ reply_done [] ∷ reply_done []
+        (reply_done [] ∷ reply_done [] ∷ reply_done (arrives (message 1 2 3 0) 3 3 ∷ []) ∷ reply_done [] ∷ reply_done []
         ∷ reply_next None ∷ []) }
 {}
 
@@ -67,8 +67,8 @@ pub fn a_fault_leaves_all_as_it_was()
         ∷ call_next ∷ [])
         (reply_done [] ∷ reply_done [] ∷ reply_done []
         ∷ reply_refused MomentTooLate ∷ reply_next (Some 18_446_744_073_709_551_615)
-        ∷ reply_done (arrives (message 1 2 1 0) 18_446_744_073_709_551_614
-        ∷ arrives (message 1 3 1 1) 18_446_744_073_709_551_615 ∷ []) ∷ reply_next None ∷ []) }
+        ∷ reply_done (arrives (message 1 2 1 0) 18_446_744_073_709_551_614 18_446_744_073_709_551_614
+        ∷ arrives (message 1 3 1 1) 18_446_744_073_709_551_614 18_446_744_073_709_551_615 ∷ []) ∷ reply_next None ∷ []) }
 {}
 
 /// With one flow id left, one message starts. Another pair is refused, one of the same pair waits, and an advance to
@@ -87,8 +87,8 @@ pub fn a_link_limits_its_own_pair()
     ensures { Obeyed nat_cmp (new_planned 0)
         (call_limit_link 0 1 2 a_byte_a_nanosecond ∷ call_enqueue 0 (message 1 2 2 0)
         ∷ call_enqueue 0 (message 1 3 2 0) ∷ call_next ∷ call_advance 2 ∷ call_next ∷ [])
-        (reply_done [] ∷ reply_done [] ∷ reply_done (arrives (message 1 3 2 0) 0 ∷ []) ∷ reply_next (Some 2)
-        ∷ reply_done (arrives (message 1 2 2 0) 2 ∷ []) ∷ reply_next None ∷ []) }
+        (reply_done [] ∷ reply_done [] ∷ reply_done (arrives (message 1 3 2 0) 0 0 ∷ []) ∷ reply_next (Some 2)
+        ∷ reply_done (arrives (message 1 2 2 0) 2 2 ∷ []) ∷ reply_next None ∷ []) }
 {}
 
 /// Where a moment goes back, the interval since then drains twice: of four bytes two went by 2, one more goes from 1
@@ -99,7 +99,7 @@ pub fn an_interval_may_be_drained_twice()
         ∷ call_limit 2 1 a_byte_a_nanosecond None ∷ call_next ∷ call_limit 1 1 a_byte_a_nanosecond None ∷ call_next
         ∷ call_advance 3 ∷ call_next ∷ [])
         (reply_done [] ∷ reply_done [] ∷ reply_done [] ∷ reply_next (Some 4) ∷ reply_done [] ∷ reply_next (Some 3)
-        ∷ reply_done (arrives (message 1 2 4 0) 3 ∷ []) ∷ reply_next None ∷ []) }
+        ∷ reply_done (arrives (message 1 2 4 0) 3 3 ∷ []) ∷ reply_next None ∷ []) }
 {}
 
 /// A start that was missed is planned for the moment of the call: the second message could start at 6, and the call at
@@ -110,8 +110,8 @@ pub fn a_missed_start_is_planned_anew()
         ∷ call_advance 4 ∷ call_next ∷ call_limit 10 1 a_byte_a_nanosecond None ∷ call_next ∷ call_advance 12
         ∷ call_next ∷ [])
         (reply_done [] ∷ reply_done [] ∷ reply_done []
-        ∷ reply_done (arrives (message 1 2 4 3) 7 ∷ []) ∷ reply_next (Some 6) ∷ reply_done [] ∷ reply_next (Some 10)
-        ∷ reply_done (arrives (message 1 2 2 1) 13 ∷ []) ∷ reply_next None ∷ []) }
+        ∷ reply_done (arrives (message 1 2 4 3) 4 7 ∷ []) ∷ reply_next (Some 6) ∷ reply_done [] ∷ reply_next (Some 10)
+        ∷ reply_done (arrives (message 1 2 2 1) 12 13 ∷ []) ∷ reply_next None ∷ []) }
 {}
 
 /// The next event is the earlier of a start and a finish: the message to peer 2 may start at 6, and the one to peer 3
@@ -121,9 +121,9 @@ pub fn a_start_may_come_before_a_finish()
         (call_limit 0 1 a_byte_a_nanosecond None ∷ call_enqueue 0 (message 1 2 4 3) ∷ call_advance 4
         ∷ call_enqueue 4 (message 1 2 2 1) ∷ call_enqueue 4 (message 1 3 4 0) ∷ call_next ∷ call_advance 6 ∷ call_next
         ∷ call_advance 10 ∷ call_next ∷ [])
-        (reply_done [] ∷ reply_done [] ∷ reply_done (arrives (message 1 2 4 3) 7 ∷ [])
+        (reply_done [] ∷ reply_done [] ∷ reply_done (arrives (message 1 2 4 3) 4 7 ∷ [])
         ∷ reply_done [] ∷ reply_done [] ∷ reply_next (Some 6) ∷ reply_done [] ∷ reply_next (Some 10)
-        ∷ reply_done (arrives (message 1 3 4 0) 10 ∷ arrives (message 1 2 2 1) 11 ∷ []) ∷ reply_next None ∷ []) }
+        ∷ reply_done (arrives (message 1 3 4 0) 10 10 ∷ arrives (message 1 2 2 1) 10 11 ∷ []) ∷ reply_next None ∷ []) }
 {}
 
 /// A finish may come before a start: the message to peer 3 finishes at 5, and the one to peer 2 may start at 7. It is
@@ -134,10 +134,10 @@ pub fn a_finish_may_come_before_a_start()
         ∷ call_enqueue 2 (message 1 2 1 0) ∷ call_enqueue 2 (message 1 3 3 0) ∷ call_next ∷ call_advance 5 ∷ call_next
         ∷ call_limit 10 1 a_byte_a_nanosecond None ∷ call_next ∷ call_advance 8 ∷ call_next ∷ call_advance 9
         ∷ call_next ∷ [])
-        (reply_done [] ∷ reply_done [] ∷ reply_done (arrives (message 1 2 2 5) 7 ∷ [])
-        ∷ reply_done [] ∷ reply_done [] ∷ reply_next (Some 5) ∷ reply_done (arrives (message 1 3 3 0) 5 ∷ [])
+        (reply_done [] ∷ reply_done [] ∷ reply_done (arrives (message 1 2 2 5) 2 7 ∷ [])
+        ∷ reply_done [] ∷ reply_done [] ∷ reply_next (Some 5) ∷ reply_done (arrives (message 1 3 3 0) 5 5 ∷ [])
         ∷ reply_next (Some 7) ∷ reply_done [] ∷ reply_next (Some 10) ∷ reply_done [] ∷ reply_next (Some 9)
-        ∷ reply_done (arrives (message 1 2 1 0) 9 ∷ []) ∷ reply_next None ∷ []) }
+        ∷ reply_done (arrives (message 1 2 1 0) 9 9 ∷ []) ∷ reply_next None ∷ []) }
 {}
 
 /// Before any limit messages complete at once, in the order of their pair, delivered or not, and one that would arrive
@@ -147,9 +147,9 @@ pub fn nothing_waits_before_any_limit()
         (call_enqueue 0 (message 1 2 1 100) ∷ call_enqueue 0 (dropped 1 2 1 200) ∷ call_enqueue 0 (message 1 2 1 50)
         ∷ call_enqueue 1 (message 1 2 1 18_446_744_073_709_551_615) ∷ call_enqueue 0 (message 1 2 1 150)
         ∷ call_enqueue 0 (message 1 1 1 0) ∷ call_next ∷ [])
-        (reply_done (arrives (message 1 2 1 100) 100 ∷ []) ∷ reply_done (is_gone (dropped 1 2 1 200) ∷ [])
-        ∷ reply_done (arrives (message 1 2 1 50) 100 ∷ []) ∷ reply_refused MomentTooLate
-        ∷ reply_done (arrives (message 1 2 1 150) 150 ∷ []) ∷ reply_done (arrives (message 1 1 1 0) 0 ∷ [])
+        (reply_done (arrives (message 1 2 1 100) 0 100 ∷ []) ∷ reply_done (is_gone (dropped 1 2 1 200) 0 ∷ [])
+        ∷ reply_done (arrives (message 1 2 1 50) 0 100 ∷ []) ∷ reply_refused MomentTooLate
+        ∷ reply_done (arrives (message 1 2 1 150) 0 150 ∷ []) ∷ reply_done (arrives (message 1 1 1 0) 0 0 ∷ [])
         ∷ reply_next None ∷ []) }
 {}
 
@@ -161,11 +161,11 @@ pub fn several_pairs_wait()
         ∷ call_enqueue 0 (message 1 3 0 0) ∷ call_enqueue 0 (message 1 2 0 0) ∷ call_enqueue 0 (message 1 3 2 0)
         ∷ call_enqueue 0 (message 1 2 1 0) ∷ call_next ∷ call_advance 2 ∷ call_next ∷ call_advance 4 ∷ call_next
         ∷ call_advance 5 ∷ call_next ∷ [])
-        (reply_done (arrives (message 1 3 1 2) 2 ∷ []) ∷ reply_done (arrives (message 1 2 1 2) 2 ∷ []) ∷ reply_done []
+        (reply_done (arrives (message 1 3 1 2) 0 2 ∷ []) ∷ reply_done (arrives (message 1 2 1 2) 0 2 ∷ []) ∷ reply_done []
         ∷ reply_done [] ∷ reply_done [] ∷ reply_done [] ∷ reply_done [] ∷ reply_next (Some 2)
-        ∷ reply_done (arrives (message 1 2 0 0) 2 ∷ arrives (message 1 3 0 0) 2 ∷ []) ∷ reply_next (Some 4)
-        ∷ reply_done (arrives (message 1 2 1 0) 4 ∷ []) ∷ reply_next (Some 5)
-        ∷ reply_done (arrives (message 1 3 2 0) 5 ∷ []) ∷ reply_next None ∷ []) }
+        ∷ reply_done (arrives (message 1 2 0 0) 2 2 ∷ arrives (message 1 3 0 0) 2 2 ∷ []) ∷ reply_next (Some 4)
+        ∷ reply_done (arrives (message 1 2 1 0) 4 4 ∷ []) ∷ reply_next (Some 5)
+        ∷ reply_done (arrives (message 1 3 2 0) 5 5 ∷ []) ∷ reply_next None ∷ []) }
 {}
 
 /// The messages of a list go one after another.

@@ -28,15 +28,15 @@ pub fn a_pair_keeps_its_order<P: Ord>()
 /// neither is its second message where it comes first.
 pub fn completions_out_of_order_are_told()
     ensures arrivals { ¬ IsInPairOrder nat_cmp (message 1 2 1 0) (message 1 2 1 2 ∷ message 1 2 1 0 ∷ [])
-        (arrives (message 1 2 1 2) 5 ∷ arrives (message 1 2 1 0) 4 ∷ []) }
+        (arrives (message 1 2 1 2) 3 5 ∷ arrives (message 1 2 1 0) 4 4 ∷ []) }
     ensures later { ¬ IsInPairOrder nat_cmp (message 1 2 1 0)
         (message 1 2 1 0 ∷ message 1 2 1 2 ∷ message 1 2 1 0 ∷ [])
-        (arrives (message 1 2 1 0) 3 ∷ arrives (message 1 2 1 2) 5 ∷ arrives (message 1 2 1 0) 4 ∷ []) }
+        (arrives (message 1 2 1 0) 3 3 ∷ arrives (message 1 2 1 2) 3 5 ∷ arrives (message 1 2 1 0) 4 4 ∷ []) }
     ensures across { ¬ IsInPairOrder nat_cmp (message 1 2 1 0)
         (message 1 2 1 2 ∷ dropped 1 2 1 0 ∷ message 1 2 1 0 ∷ [])
-        (arrives (message 1 2 1 2) 5 ∷ is_gone (dropped 1 2 1 0) ∷ arrives (message 1 2 1 0) 4 ∷ []) }
+        (arrives (message 1 2 1 2) 3 5 ∷ is_gone (dropped 1 2 1 0) 3 ∷ arrives (message 1 2 1 0) 4 4 ∷ []) }
     ensures messages { ¬ IsInPairOrder nat_cmp (message 1 2 1 0) (message 1 2 1 0 ∷ message 1 2 2 0 ∷ [])
-        (arrives (message 1 2 2 0) 5 ∷ []) }
+        (arrives (message 1 2 2 0) 5 5 ∷ []) }
 {}
 
 /// In one `advance` the bytes left of an origin go down by no more than its egress cap lets go.

@@ -38,7 +38,7 @@ pub fn a_call_is_the_same_as_itself<P: Ord>()
 /// Courses with other completions, to another planned world or with another fault are not the same, and neither are
 /// one that goes and one that meets a fault.
 pub fn courses_that_differ_are_told()
-    ensures completions { ¬ IsSameCourse nat_cmp (goes (arrives (message 1 2 1 0) 1 ∷ []) (new_planned 0))
+    ensures completions { ¬ IsSameCourse nat_cmp (goes (arrives (message 1 2 1 0) 1 1 ∷ []) (new_planned 0))
         (goes [] (new_planned 0)) }
     ensures world { ¬ IsSameCourse nat_cmp (goes [] (new_planned 0)) (goes [] (new_planned 1)) }
     ensures fault { ¬ IsSameCourse nat_cmp (meets MomentTooLate) (meets FlowIdsUsedUp) }
@@ -47,7 +47,7 @@ pub fn courses_that_differ_are_told()
 
 /// Nor are courses of a planned world and of the simulation alike that differ so.
 pub fn courses_that_are_not_alike_are_told()
-    ensures completions { ¬ CoursesAlike nat_cmp (λ p w. ⊤) (goes (arrives (message 1 2 1 0) 1 ∷ []) (new_planned 0))
+    ensures completions { ¬ CoursesAlike nat_cmp (λ p w. ⊤) (goes (arrives (message 1 2 1 0) 1 1 ∷ []) (new_planned 0))
         (goes [] (new_world 0)) }
     ensures world { ¬ CoursesAlike nat_cmp (λ p w. p.next_id ≡ w.next_id) (goes [] (new_planned 0))
         (goes [] (new_world 1)) }

@@ -6,9 +6,15 @@ use link_scheduler::replay::{Call, Reply};
 use link_scheduler::transmitter::{Completion, State};
 use numbered_peers::Numbered;
 
-/// What is wanted of a completion: the place of its message among all that are sent, and its
-/// arrival.
-pub(crate) type Arrival = (usize, Option<u64>);
+/// What is wanted of a completion.
+#[derive(Clone, Copy)]
+pub(crate) struct Arrival {
+    /// The place of its message among all that are sent.
+    pub(crate) place: usize,
+    pub(crate) deliver_at: Option<u64>,
+    /// When the message is done, where that is said.
+    pub(crate) done_at: Option<u64>,
+}
 
 /// What a call is to be answered.
 #[derive(Clone, Copy)]
@@ -111,7 +117,7 @@ pub(crate) fn are_done<P: Numbered>(
 
 /// Compares a completion in every field.
 fn is_done<P: Numbered>(sent: &[Parcel], completion: &Completion<P>, arrival: Arrival) -> bool {
-    let (place, deliver_at) = arrival;
+    let place = arrival.place;
     let Some(parcel) = sent.get(place) else {
         return false;
     };
@@ -124,5 +130,6 @@ fn is_done<P: Numbered>(sent: &[Parcel], completion: &Completion<P>, arrival: Ar
             .as_slice()
             .iter()
             .all(|byte| *byte == (place % 256) as u8)
-        && completion.deliver_at == deliver_at
+        && completion.deliver_at == arrival.deliver_at
+        && (arrival.done_at.is_none() || arrival.done_at == Some(completion.done_at))
 }

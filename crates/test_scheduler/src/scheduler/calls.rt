@@ -200,9 +200,21 @@ impl<P: Numbered> Calls<P> {
         let Some(Wanted::Done(from, _)) = self.wanted.pop() else {
             return Err(Fail::new("no call at which a message completes"));
         };
-        self.arrivals.push((place, deliver_at))?;
+        self.arrivals.push(Arrival {
+            place,
+            deliver_at,
+            done_at: None,
+        })?;
         let wanted = Wanted::Done(from, self.arrivals.len());
         self.wanted.push(wanted)?;
+        Ok(())
+    }
+
+    /// The message that was said last to complete is done at that moment.
+    pub(crate) fn done_at(&mut self, moment: u64) -> Result<(), Fail> {
+        let mut arrival = self.arrivals.pop().ok_or("no message completes")?;
+        arrival.done_at = Some(moment);
+        self.arrivals.push(arrival)?;
         Ok(())
     }
 

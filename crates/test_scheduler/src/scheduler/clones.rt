@@ -123,6 +123,7 @@ fn expect_done(rt: &impl Abort, done: &[Completion<Name>]) {
     assert_eq!(rt; completion.recipient.text.as_str(), "1");
     assert_eq!(rt; completion.channel, 7);
     assert_eq!(rt; completion.message.len(), 100);
+    assert_eq!(rt; completion.done_at, 100 * MILLI);
     assert_eq!(rt; completion.deliver_at, Some(100 * MILLI));
 }
 

@@ -54,6 +54,7 @@ fn expect_same(rt: &impl Abort, many: &[Completion<u64>], few: &[Completion<u64>
         assert_eq!(rt; one.recipient, other.recipient);
         assert_eq!(rt; one.channel, other.channel);
         assert_eq!(rt; one.message.as_slice(), other.message.as_slice());
+        assert_eq!(rt; one.done_at, other.done_at);
         assert_eq!(rt; one.deliver_at, other.deliver_at);
     }
 }

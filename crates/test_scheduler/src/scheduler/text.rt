@@ -9,6 +9,7 @@
 //!     next MOMENT                             that moment is next
 //!     event MOMENT                            that moment is next, and then an advance to it
 //!     done PLACE ARRIVAL                      of the message at that place among all that are sent
+//!     sent MOMENT                             that message is done, all of it sent, at that moment
 //!     events COUNT                            the advance goes through so many events
 //!     flying COUNT                            so many messages are then in flight
 //!     rated COUNT                             so many messages in flight were rated anew
@@ -151,6 +152,7 @@ impl<P: Numbered> Calls<P> {
             "next" => self.next(words.moment()?),
             "event" => self.read_event(words),
             "done" => self.read_done(words),
+            "sent" => self.done_at(words.number()?),
             "events" => self.events(words.number()?),
             "flying" => self.flying(words.size()?),
             "rated" => self.rated(words.size()?),

@@ -41,7 +41,7 @@ returns-clause-lands g c =
       raised = c.in_ok-raise.ensures.arrival;
       in_time = c.in_ok-arrival.ensures.in_time;
       completion =
-          ap (completion_of x)
+          ap (completion_of x c.args.now)
           (c.then_some.ensures ∙ ap₂ then_some c.is_delivered.ensures c.in_ok-arrival.ensures.moment
           ∙ then_is (is_delivered cmp x) (arrival cmp c.args.now x));
     })

@@ -14,3 +14,6 @@ returns-clause-amounts g c f rate r is at =
 pub returns-clause-no_rate : goal.returns-clause-no_rate
 returns-clause-no_rate g c f r at is =
     subst (λ (o : Option Amount). MatchOption o ⊥ (λ a. IsReadingOf a r.rate)) at is.rate
+
+pub returns-clause-channel : goal.returns-clause-channel
+returns-clause-channel g c f r is = is.channel

@@ -48,12 +48,12 @@ returns-clause-in_time g c =
 pub returns-clause-completion : goal.returns-clause-completion
 returns-clause-completion g c =
     let deliver_at = c.in_ok-deliver_at.deliver_at in
-    let there : completion_of (message_of c.args.message.value) deliver_at
+    let there : completion_of (message_of c.args.message.value) c.args.now deliver_at
     ≡ completed g.P.Ord.cmp c.args.now (message_of c.args.message.value) =
-    subst (λ x. completion_of (message_of x) deliver_at ≡ completed g.P.Ord.cmp c.args.now (message_of x))
+    subst (λ x. completion_of (message_of x) c.args.now deliver_at ≡ completed g.P.Ord.cmp c.args.now (message_of x))
     c.deref-3.ensures c.in_ok-deliver_at.ensures.completion in
     ap (map ended_of) c.in_ok-push.ensures.items
-    ∙ map-append ended_of c.args.ended.now.items (record { message = c.args.message; deliver_at = deliver_at } ∷ [])
+    ∙ map-append ended_of c.args.ended.now.items (record { message = c.args.message; done_at = c.args.now; deliver_at = deliver_at } ∷ [])
     ∙ ap (λ x. map ended_of c.args.ended.now.items ++ x ∷ []) there
 
 pub returns-clause-launches : goal.returns-clause-launches

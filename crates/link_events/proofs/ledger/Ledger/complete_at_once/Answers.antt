@@ -17,17 +17,17 @@ returns-in_err-arrival-clause-refused g c =
 pub returns-clause-completes : goal.returns-clause-completes
 returns-clause-completes g c =
     let done : Completed g.row.P.Denot =
-    completion_of (message_of c.in_ok-message.message.value) c.then_some-deliver_at.result in
-    let same : done ≡ completion_of (message_of c.args.message) c.then_some-deliver_at.result =
-    ap (λ m. completion_of (message_of m) c.then_some-deliver_at.result) c.in_ok-message.ensures.ok in (
+    completion_of (message_of c.in_ok-message.message.value) c.args.now c.then_some-deliver_at.result in
+    let same : done ≡ completion_of (message_of c.args.message) c.args.now c.then_some-deliver_at.result =
+    ap (λ m. completion_of (message_of m) c.args.now c.then_some-deliver_at.result) c.in_ok-message.ensures.ok in (
       done,
       ap (map ended_of) c.in_ok-push.ensures.items
           ∙ map-append ended_of c.args.ended.now.items
-          (record { message = c.in_ok-message.message; deliver_at = c.then_some-deliver_at.result } ∷ []),
+          (record { message = c.in_ok-message.message; done_at = c.args.now; deliver_at = c.then_some-deliver_at.result } ∷ []),
       completes_so g.P.Ord.cmp c.args.now (planned g.P.Ord.cmp c.args.self.now) (planned g.P.Ord.cmp c.raise.new.self)
           (message_of c.args.message) c.in_ok-arrival.arrival done c.in_ok-arrival.ensures.in_time
           c.in_ok-arrival.ensures.moment
-          (same ∙ ap (completion_of (message_of c.args.message)) c.then_some-deliver_at.ensures)
+          (same ∙ ap (completion_of (message_of c.args.message) c.args.now) c.then_some-deliver_at.ensures)
           c.in_ok-raise.ensures.raised,
     )
 

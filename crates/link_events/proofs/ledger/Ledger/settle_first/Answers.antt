@@ -76,12 +76,12 @@ returns-clause-settles g c =
     others_and_more queue c.pop_front.new.self.items c.in_ok-more.more.items
     c.append.new.self.items c.pop_front.ensures.rest c.in_ok-append.ensures.items in
     let completion =
-    ap (λ n. completion_of (message_of n) c.in_ok-left.left.deliver_at) (sym c.deref.ensures)
+    ap (λ n. completion_of (message_of n) c.args.now c.in_ok-left.left.deliver_at) (sym c.deref.ensures)
     ∙ lands.completion in
     let out =
     ap (map ended_of) c.in_ok-push.ensures.items
     ∙ map-append ended_of c.args.ended.now.items
-    (record { message = c.in_ok-message-in-Some.message; deliver_at = c.in_ok-left.left.deliver_at } ∷ [])
+    (record { message = c.in_ok-message-in-Some.message; done_at = c.args.now; deliver_at = c.in_ok-left.left.deliver_at } ∷ [])
     ∙ ap (λ x. map ended_of c.args.ended.now.items ++ x ∷ []) completion in
     settles_others g.P.Ord.cmp g.met.P.Ord.total c.args.now old
     (planned g.P.Ord.cmp c.rate_with_next.new.self) m

@@ -24,6 +24,7 @@ loop-at-preserved g c =
     let here : IsReadAs g.P.Ord.cmp read reading = record {
       origin = c.in_ok-read_one.ensures.origin;
       recipient = c.in_ok-read_one.ensures.recipient;
+      channel = c.in_ok-read_one.ensures.channel;
       left =
           subst (λ n. IsReadingOf (reduced (flight_at self.at one).left n) reading.left)
           c.in_ok-unit.ensures.value c.in_ok-read_one.ensures.left;

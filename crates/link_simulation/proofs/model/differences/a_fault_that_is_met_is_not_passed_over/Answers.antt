@@ -14,7 +14,7 @@ unfolding reduced gcd_within
 returns-clause-moment c =
     never_agree nat_cmp nat_cmp_total (evenly 1_000_000_000) 20 0
     (call_enqueue 1 (message 1 2 1 18_446_744_073_709_551_615) ∷ [])
-    (reply_done (arrives (message 1 2 1 18_446_744_073_709_551_615) 18_446_744_073_709_551_616 ∷ []) ∷ [])
+    (reply_done (arrives (message 1 2 1 18_446_744_073_709_551_615) 1 18_446_744_073_709_551_616 ∷ []) ∷ [])
     refl
 
 pub returns-clause-id : goal.returns-clause-id

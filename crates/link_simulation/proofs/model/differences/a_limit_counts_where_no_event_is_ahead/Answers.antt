@@ -15,5 +15,5 @@ returns c =
     never_agree nat_cmp nat_cmp_total evenly_by_first 20 0
     (call_limit 0 1 a_byte_a_nanosecond None ∷ call_limit 3 1 (Some 500_000_000) None
     ∷ call_enqueue 3 (message 1 2 1 0) ∷ call_advance 4 ∷ [])
-    (reply_done [] ∷ reply_done [] ∷ reply_done [] ∷ reply_done (arrives (message 1 2 1 0) 4 ∷ []) ∷ [])
+    (reply_done [] ∷ reply_done [] ∷ reply_done [] ∷ reply_done (arrives (message 1 2 1 0) 4 4 ∷ []) ∷ [])
     refl

@@ -15,5 +15,5 @@ returns c =
     never_agree nat_cmp nat_cmp_total (evenly 1_000_000_000) 20 0
     (call_limit 0 1 a_byte_a_nanosecond None ∷ call_enqueue 0 (message 1 2 4 0) ∷ call_enqueue 3 (message 1 3 1 0)
     ∷ call_advance 4 ∷ [])
-    (reply_done [] ∷ reply_done [] ∷ reply_done [] ∷ reply_done (arrives (message 1 2 4 0) 4 ∷ []) ∷ [])
+    (reply_done [] ∷ reply_done [] ∷ reply_done [] ∷ reply_done (arrives (message 1 2 4 0) 4 4 ∷ []) ∷ [])
     refl

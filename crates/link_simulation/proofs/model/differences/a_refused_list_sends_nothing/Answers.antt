@@ -13,5 +13,5 @@ pub returns : goal.returns
 unfolding reduced gcd_within
 returns c =
     never_agree nat_cmp nat_cmp_total (evenly 1_000_000_000) 20 0 calls_of_a_late_list
-    (reply_refused MomentTooLate ∷ reply_done (arrives (message 1 2 1 0) 6 ∷ []) ∷ reply_next None ∷ [])
+    (reply_refused MomentTooLate ∷ reply_done (arrives (message 1 2 1 0) 6 6 ∷ []) ∷ reply_next None ∷ [])
     refl

@@ -14,4 +14,4 @@ unfolding reduced gcd_within
 returns c =
     never_agree nat_cmp nat_cmp_total (evenly 1_000_000_000) 20 0
     (call_limit 0 1 a_byte_a_nanosecond None ∷ call_enqueue 0 (message 1 2 3 2) ∷ call_advance 3 ∷ [])
-    (reply_done [] ∷ reply_done [] ∷ reply_done (arrives (message 1 2 3 2) 6 ∷ []) ∷ []) refl
+    (reply_done [] ∷ reply_done [] ∷ reply_done (arrives (message 1 2 3 2) 3 6 ∷ []) ∷ []) refl

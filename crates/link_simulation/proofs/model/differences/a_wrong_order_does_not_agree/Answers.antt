@@ -16,5 +16,5 @@ returns c =
     (call_limit 0 1 a_byte_a_nanosecond None ∷ call_enqueue 0 (message 1 3 1 0) ∷ call_enqueue 0 (message 1 2 1 0)
     ∷ call_advance 2 ∷ [])
     (reply_done [] ∷ reply_done [] ∷ reply_done []
-    ∷ reply_done (arrives (message 1 2 1 0) 2 ∷ arrives (message 1 3 1 0) 2 ∷ []) ∷ [])
+    ∷ reply_done (arrives (message 1 2 1 0) 2 2 ∷ arrives (message 1 3 1 0) 2 2 ∷ []) ∷ [])
     refl

@@ -15,5 +15,5 @@ returns c =
     never_agree nat_cmp nat_cmp_total (evenly 1_000_000_000) 20 0
     (call_limit 0 1 a_byte_a_nanosecond None ∷ call_enqueue 0 (message 1 2 4 3) ∷ call_enqueue 0 (message 1 2 2 1)
     ∷ call_advance 8 ∷ [])
-    (reply_done [] ∷ reply_done [] ∷ reply_done [] ∷ reply_done (arrives (message 1 2 4 3) 7 ∷ []) ∷ [])
+    (reply_done [] ∷ reply_done [] ∷ reply_done [] ∷ reply_done (arrives (message 1 2 4 3) 4 7 ∷ []) ∷ [])
     refl

@@ -33,7 +33,7 @@ the_same c h = by_done h.done h.completions_are (h.each_pair m)
 
 pub returns-clause-origin : goal.returns-clause-origin
 returns-clause-origin c h =
-    let (d, (t, is), same) = the_same (arrives (message 3 2 1 0) 1) h in
+    let (d, (t, at, is), same) = the_same (arrives (message 3 2 1 0) 1 1) h in
     let origin : 3 ≡ d.origin = ap (λ (x : Completed ℕ). x.origin) is in
     let clash : same_peer nat_cmp 3 1 ≡ true =
     subst (λ (p : ℕ). same_peer nat_cmp p 1 ≡ true) (sym origin) same.origin in
@@ -41,7 +41,7 @@ returns-clause-origin c h =
 
 pub returns-clause-recipient : goal.returns-clause-recipient
 returns-clause-recipient c h =
-    let (d, (t, is), same) = the_same (arrives (message 1 3 1 0) 1) h in
+    let (d, (t, at, is), same) = the_same (arrives (message 1 3 1 0) 1 1) h in
     let recipient : 3 ≡ d.recipient = ap (λ (x : Completed ℕ). x.recipient) is in
     let clash : same_peer nat_cmp 3 2 ≡ true =
     subst (λ (p : ℕ). same_peer nat_cmp p 2 ≡ true) (sym recipient) same.recipient in
@@ -49,13 +49,13 @@ returns-clause-recipient c h =
 
 pub returns-clause-channel : goal.returns-clause-channel
 returns-clause-channel c h =
-    let (d, (t, is), same) = the_same (arrives (record m { channel = 1 }) 1) h in
+    let (d, (t, at, is), same) = the_same (arrives (record m { channel = 1 }) 1 1) h in
     let one : 1 ≡ d.channel = ap (λ (x : Completed ℕ). x.channel) is in
     let none : d.channel ≡ 0 = same.channel in
     absurd (omega arith)
 
 pub returns-clause-bytes : goal.returns-clause-bytes
 returns-clause-bytes c h =
-    let (d, (t, is), same) = the_same (arrives (message 1 2 2 0) 1) h in
+    let (d, (t, at, is), same) = the_same (arrives (message 1 2 2 0) 1 1) h in
     let clash : bytes 2 ≡ bytes 1 = ap (λ (x : Completed ℕ). x.bytes) is ∙ same.bytes in
     cc

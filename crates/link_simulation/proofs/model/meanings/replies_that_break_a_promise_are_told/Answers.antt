@@ -29,7 +29,7 @@ turns m cs = (
 
 -- before any limit it completes at once
 completes : (now : ℕ) (ds : List (Completed ℕ)) (v : World ℕ) → moment_of first ≡ Some now
-    → Runs nat_cmp (new_world 0) first now (goes ds v) → arrives (message 1 2 1 0) 0 ∷ [] ≡ ds
+    → Runs nat_cmp (new_world 0) first now (goes ds v) → arrives (message 1 2 1 0) 0 0 ∷ [] ≡ ds
 completes now ds v at runs =
     let here : now ≡ 0 = cc in
     let one =
@@ -44,7 +44,7 @@ answers : {w : World ℕ} {calls : List (Call ℕ)} {css : List (List (Completed
 answers no_calls here is same = cc
 answers (call_answers {w = w} {u = u} {call = call} {now = now} {cs = ds} at after runs rest) here is same =
     let it : call ≡ first = cc in
-    let done : arrives (message 1 2 1 0) 0 ∷ [] ≡ ds =
+    let done : arrives (message 1 2 1 0) 0 0 ∷ [] ≡ ds =
     completes now ds u (ap moment_of (sym it) ∙ at)
     (subst (λ (x : Call ℕ). Runs nat_cmp (new_world 0) x now (goes ds u)) it
     (subst (λ (x : World ℕ). Runs nat_cmp x call now (goes ds u)) here runs)) in
@@ -57,19 +57,19 @@ returns-clause-lost c h =
 
 pub returns-clause-others : goal.returns-clause-others
 returns-clause-others c isolated =
-    let clash : arrives (message 1 2 1 0) 0 ∷ [] ≡ [] = isolated.nothing_else.0 in
+    let clash : arrives (message 1 2 1 0) 0 0 ∷ [] ≡ [] = isolated.nothing_else.0 in
     cc
 
 pub returns-clause-order : goal.returns-clause-order
 returns-clause-order c h =
-    let told = h (message 1 2 1 0) (turns (message 1 2 1 0) (arrives (message 1 2 2 0) 0 ∷ [])) in
+    let told = h (message 1 2 1 0) (turns (message 1 2 1 0) (arrives (message 1 2 2 0) 0 0 ∷ [])) in
     by_done told.done told.rest told.messages_are told.completions_are
   where
     by_done : (done rest : List (Message ℕ)) → message 1 2 1 0 ∷ [] ≡ done ++ rest
-        → AllZip (Completes nat_cmp) (arrives (message 1 2 2 0) 0 ∷ []) done → ⊥
+        → AllZip (Completes nat_cmp) (arrives (message 1 2 2 0) 0 0 ∷ []) done → ⊥
     by_done [] rest is all = all
     by_done (d ∷ ds) rest is all =
         let one : message 1 2 1 0 ≡ d = cc in
-        let same : bytes 2 ≡ d.bytes = all.0.1.bytes in
+        let same : bytes 2 ≡ d.bytes = all.0.2.bytes in
         let clash : bytes 2 ≡ bytes 1 = same ∙ sym (ap (λ (n : Message ℕ). n.bytes) one) in
         cc

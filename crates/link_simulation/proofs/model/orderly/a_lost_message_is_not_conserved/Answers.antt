@@ -19,8 +19,8 @@ abbrev Make : List (Message ℕ) → List (Message ℕ) → Type 0
 Make done messages = AllZip (SameMessage nat_cmp) (of_pair nat_cmp m done ++ held_of nat_cmp m (new_planned 0)) messages
 
 -- what completes as the message does is of its pair
-of_its_pair : (d : Message ℕ) → IsCompletionOf (arrives m 1) d → same_pair nat_cmp m d ≡ true
-of_its_pair d (t, is) =
+of_its_pair : (d : Message ℕ) → IsCompletionOf (arrives m 1 1) d → same_pair nat_cmp m d ≡ true
+of_its_pair d (t, at, is) =
     let origin : 1 ≡ d.origin = ap (λ (c : Completed ℕ). c.origin) is in
     let recipient : 2 ≡ d.recipient = ap (λ (c : Completed ℕ). c.recipient) is in
     subst (λ (p : ℕ). (same_peer nat_cmp 1 p && same_peer nat_cmp 2 d.recipient) ≡ true) origin
@@ -45,7 +45,7 @@ returns-clause-lost c h = by_done h.done h.completions_are (h.each_pair m)
 pub returns-clause-made_up : goal.returns-clause-made_up
 returns-clause-made_up c h = by_done h.done h.completions_are (h.each_pair m)
   where
-    by_done : (done : List (Message ℕ)) → AllZip IsCompletionOf (arrives m 1 ∷ []) done → Make done [] → ⊥
+    by_done : (done : List (Message ℕ)) → AllZip IsCompletionOf (arrives m 1 1 ∷ []) done → Make done [] → ⊥
     by_done [] all make = all
     by_done (d ∷ ds) all make = too_many d ds (of_its_pair d all.0) make
 
@@ -59,7 +59,7 @@ returns-clause-doubled c h = by_done h.done h.completions_are (h.each_pair m)
     one_more true d ds is all = all.1
     one_more false d ds is all = cc
 
-    by_done : (done : List (Message ℕ)) → AllZip IsCompletionOf (arrives m 1 ∷ arrives m 1 ∷ []) done
+    by_done : (done : List (Message ℕ)) → AllZip IsCompletionOf (arrives m 1 1 ∷ arrives m 1 1 ∷ []) done
         → Make done (m ∷ []) → ⊥
     by_done [] all make = all
     by_done (d ∷ []) all make = all.1

@@ -14,5 +14,5 @@ returns c =
     agrees_by_rule nat_cmp nat_cmp_total (shared 1_000_000_000) no_hint 20
     (call_limit 0 1 a_byte_a_nanosecond None ∷ call_enqueue 18_446_744_073_709_551_614 (dropped 1 2 1 5)
     ∷ call_advance 18_446_744_073_709_551_615 ∷ [])
-    (reply_done [] ∷ reply_done [] ∷ reply_done (is_gone (dropped 1 2 1 5) ∷ []) ∷ [])
+    (reply_done [] ∷ reply_done [] ∷ reply_done (is_gone (dropped 1 2 1 5) 18_446_744_073_709_551_615 ∷ []) ∷ [])
     refl refl

@@ -20,6 +20,6 @@ returns c = agrees_by_rule nat_cmp nat_cmp_total (shared 7) first_moment 3
     (call_limit 0 1 (Some 7) None ∷ call_enqueue 0 (message 1 2 1 0) ∷ call_enqueue 0 (message 1 3 2 0) ∷ call_next
     ∷ call_advance 285_714_286 ∷ call_next ∷ call_advance 428_571_429 ∷ call_next ∷ [])
     (reply_done [] ∷ reply_done [] ∷ reply_done [] ∷ reply_next (Some 285_714_286)
-    ∷ reply_done (arrives (message 1 2 1 0) 285_714_286 ∷ []) ∷ reply_next (Some 428_571_429)
-    ∷ reply_done (arrives (message 1 3 2 0) 428_571_429 ∷ []) ∷ reply_next None ∷ [])
+    ∷ reply_done (arrives (message 1 2 1 0) 285_714_286 285_714_286 ∷ []) ∷ reply_next (Some 428_571_429)
+    ∷ reply_done (arrives (message 1 3 2 0) 428_571_429 428_571_429 ∷ []) ∷ reply_next None ∷ [])
     refl refl

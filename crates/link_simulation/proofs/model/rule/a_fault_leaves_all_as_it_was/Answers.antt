@@ -20,7 +20,8 @@ returns c =
     (reply_done [] ∷ reply_done [] ∷ reply_done [] ∷ reply_refused MomentTooLate
     ∷ reply_next (Some 18_446_744_073_709_551_615)
     ∷ reply_done
-    (arrives (message 1 2 1 0) 18_446_744_073_709_551_614 ∷ arrives (message 1 3 1 1) 18_446_744_073_709_551_615
+    (arrives (message 1 2 1 0) 18_446_744_073_709_551_614 18_446_744_073_709_551_614
+    ∷ arrives (message 1 3 1 1) 18_446_744_073_709_551_614 18_446_744_073_709_551_615
     ∷ [])
     ∷ reply_next None ∷ [])
     refl

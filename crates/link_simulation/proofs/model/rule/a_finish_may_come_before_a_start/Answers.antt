@@ -17,8 +17,8 @@ returns c =
     ∷ call_enqueue 2 (message 1 2 1 0) ∷ call_enqueue 2 (message 1 3 3 0) ∷ call_next ∷ call_advance 5 ∷ call_next
     ∷ call_limit 10 1 a_byte_a_nanosecond None ∷ call_next ∷ call_advance 8 ∷ call_next ∷ call_advance 9 ∷ call_next
     ∷ [])
-    (reply_done [] ∷ reply_done [] ∷ reply_done (arrives (message 1 2 2 5) 7 ∷ []) ∷ reply_done [] ∷ reply_done []
-    ∷ reply_next (Some 5) ∷ reply_done (arrives (message 1 3 3 0) 5 ∷ []) ∷ reply_next (Some 7) ∷ reply_done []
-    ∷ reply_next (Some 10) ∷ reply_done [] ∷ reply_next (Some 9) ∷ reply_done (arrives (message 1 2 1 0) 9 ∷ [])
+    (reply_done [] ∷ reply_done [] ∷ reply_done (arrives (message 1 2 2 5) 2 7 ∷ []) ∷ reply_done [] ∷ reply_done []
+    ∷ reply_next (Some 5) ∷ reply_done (arrives (message 1 3 3 0) 5 5 ∷ []) ∷ reply_next (Some 7) ∷ reply_done []
+    ∷ reply_next (Some 10) ∷ reply_done [] ∷ reply_next (Some 9) ∷ reply_done (arrives (message 1 2 1 0) 9 9 ∷ [])
     ∷ reply_next None ∷ [])
     refl

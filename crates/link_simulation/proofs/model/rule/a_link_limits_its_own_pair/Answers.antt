@@ -15,6 +15,6 @@ returns c =
     obeyed_so nat_cmp nat_cmp_total (shared 1_000_000_000) no_hint 20 (new_planned 0)
     (call_limit_link 0 1 2 a_byte_a_nanosecond ∷ call_enqueue 0 (message 1 2 2 0) ∷ call_enqueue 0 (message 1 3 2 0)
     ∷ call_next ∷ call_advance 2 ∷ call_next ∷ [])
-    (reply_done [] ∷ reply_done [] ∷ reply_done (arrives (message 1 3 2 0) 0 ∷ []) ∷ reply_next (Some 2)
-    ∷ reply_done (arrives (message 1 2 2 0) 2 ∷ []) ∷ reply_next None ∷ [])
+    (reply_done [] ∷ reply_done [] ∷ reply_done (arrives (message 1 3 2 0) 0 0 ∷ []) ∷ reply_next (Some 2)
+    ∷ reply_done (arrives (message 1 2 2 0) 2 2 ∷ []) ∷ reply_next None ∷ [])
     refl

@@ -16,7 +16,7 @@ returns c =
     (call_limit 0 1 a_byte_a_nanosecond None ∷ call_enqueue 0 (message 1 2 4 3) ∷ call_enqueue 0 (message 1 2 2 1)
     ∷ call_advance 4 ∷ call_next ∷ call_limit 10 1 a_byte_a_nanosecond None ∷ call_next ∷ call_advance 12 ∷ call_next
     ∷ [])
-    (reply_done [] ∷ reply_done [] ∷ reply_done [] ∷ reply_done (arrives (message 1 2 4 3) 7 ∷ [])
-    ∷ reply_next (Some 6) ∷ reply_done [] ∷ reply_next (Some 10) ∷ reply_done (arrives (message 1 2 2 1) 13 ∷ [])
+    (reply_done [] ∷ reply_done [] ∷ reply_done [] ∷ reply_done (arrives (message 1 2 4 3) 4 7 ∷ [])
+    ∷ reply_next (Some 6) ∷ reply_done [] ∷ reply_next (Some 10) ∷ reply_done (arrives (message 1 2 2 1) 12 13 ∷ [])
     ∷ reply_next None ∷ [])
     refl

@@ -16,7 +16,7 @@ returns c =
     (call_limit 0 1 a_byte_a_nanosecond None ∷ call_enqueue 0 (message 1 2 3 4) ∷ call_advance 3
     ∷ call_enqueue 0 (message 1 2 3 0) ∷ call_advance 0 ∷ call_next ∷ call_advance 7 ∷ call_next ∷ call_advance 10
     ∷ call_next ∷ [])
-    (reply_done [] ∷ reply_done [] ∷ reply_done (arrives (message 1 2 3 4) 7 ∷ []) ∷ reply_done [] ∷ reply_done []
-    ∷ reply_next (Some 7) ∷ reply_done [] ∷ reply_next (Some 10) ∷ reply_done (arrives (message 1 2 3 0) 10 ∷ [])
+    (reply_done [] ∷ reply_done [] ∷ reply_done (arrives (message 1 2 3 4) 3 7 ∷ []) ∷ reply_done [] ∷ reply_done []
+    ∷ reply_next (Some 7) ∷ reply_done [] ∷ reply_next (Some 10) ∷ reply_done (arrives (message 1 2 3 0) 10 10 ∷ [])
     ∷ reply_next None ∷ [])
     refl

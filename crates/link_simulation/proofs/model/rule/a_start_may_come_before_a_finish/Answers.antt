@@ -16,7 +16,7 @@ returns c =
     (call_limit 0 1 a_byte_a_nanosecond None ∷ call_enqueue 0 (message 1 2 4 3) ∷ call_advance 4
     ∷ call_enqueue 4 (message 1 2 2 1) ∷ call_enqueue 4 (message 1 3 4 0) ∷ call_next ∷ call_advance 6 ∷ call_next
     ∷ call_advance 10 ∷ call_next ∷ [])
-    (reply_done [] ∷ reply_done [] ∷ reply_done (arrives (message 1 2 4 3) 7 ∷ []) ∷ reply_done [] ∷ reply_done []
+    (reply_done [] ∷ reply_done [] ∷ reply_done (arrives (message 1 2 4 3) 4 7 ∷ []) ∷ reply_done [] ∷ reply_done []
     ∷ reply_next (Some 6) ∷ reply_done [] ∷ reply_next (Some 10)
-    ∷ reply_done (arrives (message 1 3 4 0) 10 ∷ arrives (message 1 2 2 1) 11 ∷ []) ∷ reply_next None ∷ [])
+    ∷ reply_done (arrives (message 1 3 4 0) 10 10 ∷ arrives (message 1 2 2 1) 10 11 ∷ []) ∷ reply_next None ∷ [])
     refl

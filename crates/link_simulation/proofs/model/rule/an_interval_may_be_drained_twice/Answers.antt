@@ -17,5 +17,5 @@ returns c =
     ∷ call_limit 2 1 a_byte_a_nanosecond None ∷ call_next ∷ call_limit 1 1 a_byte_a_nanosecond None ∷ call_next
     ∷ call_advance 3 ∷ call_next ∷ [])
     (reply_done [] ∷ reply_done [] ∷ reply_done [] ∷ reply_next (Some 4) ∷ reply_done [] ∷ reply_next (Some 3)
-    ∷ reply_done (arrives (message 1 2 4 0) 3 ∷ []) ∷ reply_next None ∷ [])
+    ∷ reply_done (arrives (message 1 2 4 0) 3 3 ∷ []) ∷ reply_next None ∷ [])
     refl

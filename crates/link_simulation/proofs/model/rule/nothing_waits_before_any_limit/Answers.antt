@@ -17,8 +17,8 @@ returns c =
     (call_enqueue 0 (message 1 2 1 100) ∷ call_enqueue 0 (dropped 1 2 1 200) ∷ call_enqueue 0 (message 1 2 1 50)
     ∷ call_enqueue 1 (message 1 2 1 18_446_744_073_709_551_615) ∷ call_enqueue 0 (message 1 2 1 150)
     ∷ call_enqueue 0 (message 1 1 1 0) ∷ call_next ∷ [])
-    (reply_done (arrives (message 1 2 1 100) 100 ∷ []) ∷ reply_done (is_gone (dropped 1 2 1 200) ∷ [])
-    ∷ reply_done (arrives (message 1 2 1 50) 100 ∷ []) ∷ reply_refused MomentTooLate
-    ∷ reply_done (arrives (message 1 2 1 150) 150 ∷ []) ∷ reply_done (arrives (message 1 1 1 0) 0 ∷ [])
+    (reply_done (arrives (message 1 2 1 100) 0 100 ∷ []) ∷ reply_done (is_gone (dropped 1 2 1 200) 0 ∷ [])
+    ∷ reply_done (arrives (message 1 2 1 50) 0 100 ∷ []) ∷ reply_refused MomentTooLate
+    ∷ reply_done (arrives (message 1 2 1 150) 0 150 ∷ []) ∷ reply_done (arrives (message 1 1 1 0) 0 0 ∷ [])
     ∷ reply_next None ∷ [])
     refl

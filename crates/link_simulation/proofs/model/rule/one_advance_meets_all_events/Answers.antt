@@ -16,5 +16,5 @@ returns c =
     (call_limit 0 1 a_byte_a_nanosecond None ∷ call_enqueue 0 (message 1 2 4 3) ∷ call_enqueue 0 (message 1 2 2 1)
     ∷ call_advance 8 ∷ call_next ∷ [])
     (reply_done [] ∷ reply_done [] ∷ reply_done []
-    ∷ reply_done (arrives (message 1 2 4 3) 7 ∷ arrives (message 1 2 2 1) 9 ∷ []) ∷ reply_next None ∷ [])
+    ∷ reply_done (arrives (message 1 2 4 3) 4 7 ∷ arrives (message 1 2 2 1) 8 9 ∷ []) ∷ reply_next None ∷ [])
     refl

@@ -17,9 +17,9 @@ returns c =
     ∷ call_enqueue 0 (message 1 3 0 0) ∷ call_enqueue 0 (message 1 2 0 0) ∷ call_enqueue 0 (message 1 3 2 0)
     ∷ call_enqueue 0 (message 1 2 1 0) ∷ call_next ∷ call_advance 2 ∷ call_next ∷ call_advance 4 ∷ call_next
     ∷ call_advance 5 ∷ call_next ∷ [])
-    (reply_done (arrives (message 1 3 1 2) 2 ∷ []) ∷ reply_done (arrives (message 1 2 1 2) 2 ∷ []) ∷ reply_done []
+    (reply_done (arrives (message 1 3 1 2) 0 2 ∷ []) ∷ reply_done (arrives (message 1 2 1 2) 0 2 ∷ []) ∷ reply_done []
     ∷ reply_done [] ∷ reply_done [] ∷ reply_done [] ∷ reply_done [] ∷ reply_next (Some 2)
-    ∷ reply_done (arrives (message 1 2 0 0) 2 ∷ arrives (message 1 3 0 0) 2 ∷ []) ∷ reply_next (Some 4)
-    ∷ reply_done (arrives (message 1 2 1 0) 4 ∷ []) ∷ reply_next (Some 5)
-    ∷ reply_done (arrives (message 1 3 2 0) 5 ∷ []) ∷ reply_next None ∷ [])
+    ∷ reply_done (arrives (message 1 2 0 0) 2 2 ∷ arrives (message 1 3 0 0) 2 2 ∷ []) ∷ reply_next (Some 4)
+    ∷ reply_done (arrives (message 1 2 1 0) 4 4 ∷ []) ∷ reply_next (Some 5)
+    ∷ reply_done (arrives (message 1 3 2 0) 5 5 ∷ []) ∷ reply_next None ∷ [])
     refl
