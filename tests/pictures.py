@@ -1,8 +1,8 @@
 """Looks at pictures and pages of linkdraw in a browser: `python3 tests/pictures.py bin/linkdraw [FOLDER]`.
 
 Runs of 2, 12 and 64 peers are drawn, and opened in Chromium 400, 1000 and 1800 pixels wide, on a light page and on a dark
-one. Texts that overlap or leave the page, and colours that are not those of the page, are errors. FOLDER gets the
-screenshots. Without Chromium nothing is looked at, and a line says so.
+one. Texts that overlap or leave the page, colours that are not those of the page, and a legend with another red than the
+rows are errors. FOLDER gets the screenshots. Without Chromium nothing is looked at, and a line says so.
 """
 import html
 import json
@@ -40,7 +40,8 @@ addEventListener('load',()=>setTimeout(()=>{
     found.push([e.textContent,b.left,b.top+cut,b.right,b.bottom-cut])}
   const box=document.querySelector('svg.b,svg rect.b'),page=getComputedStyle(box||document.body);
   const all={width:innerWidth,height:document.documentElement.scrollHeight,wide:document.documentElement.scrollWidth,
-    colour:box?page.fill:page.backgroundColor,texts:found,acts:c?act(c):null};
+    colour:box?page.fill:page.backgroundColor,texts:found,acts:c?act(c):null,
+    reds:c?[getComputedStyle(document.querySelectorAll('#key i')[1]).backgroundColor,css('--u')]:null};
   document.documentElement.innerHTML='<body><pre>found '+JSON.stringify(all).replace(/</g,'&lt;')+' end</pre></body>';
 },50))</script>"""
 
@@ -93,6 +94,9 @@ def faults(found, width, dark, is_page):
     if is_page and found["wide"] > width + 1:
         yield f"the page is {found['wide']} wide"
     if is_page:
+        legend, rows = (re.findall(r"\d+", red) for red in found["reds"])
+        if legend != rows:
+            yield f"the red of the legend is {legend}, and that of the rows {rows}"
         acts = found["acts"]
         if acts["all"] == acts["half"] or acts["few"] > acts["many"] or acts["tip"][:3] != ["pair", "channel", "size"]:
             yield f"zoom, choice and pointing: {acts}"

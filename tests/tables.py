@@ -3,15 +3,20 @@
 Each completion that linkrun prints is a message of the table, and each message that is done is a completion. What a message
 sends by the table of rates is its length, up to what it sends in its last nanosecond, where moments never go back. No cap
 is exceeded, one that is full is used to its end, and the use of a cap is the sum of the rates of those that share it.
-Quantiles are those of the messages' latencies.
+Quantiles are those of the messages' latencies. Bad scripts end as linkrun ends them, with the same two lines on standard
+error.
 """
 import collections
 import csv
 import fractions
 import io
 import math
+import random
 import subprocess
 import sys
+
+import hostile
+import plain
 
 BILLION = 10**9
 CALLS = ("limit", "limitlink", "enqueue", "advance")
@@ -103,6 +108,20 @@ def check_latencies(latencies, messages):
                 assert int(row[f"{name}_ns"]) == times[place], row
 
 
+def check_bad_scripts(linkrun, linkdraw):
+    """Where a line is bad, linkdraw draws nothing, and says on standard error what linkrun says. Answers how many scripts."""
+    count = 0
+    for script in hostile.bad_scripts(random.Random(1)):
+        run, drawn = (subprocess.run([program], input=script, capture_output=True, check=False) for program in (linkrun, linkdraw))
+        assert (drawn.returncode, drawn.stderr) == (run.returncode, run.stderr), (script, run.stderr, drawn.stderr)
+        if drawn.returncode:
+            assert drawn.returncode == 2 and not drawn.stdout, (script, drawn.returncode)
+            assert plain.is_bad_at(int(drawn.stderr.split()[2]), drawn.stderr), (script, drawn.stderr)
+            count += 1
+    assert count >= 300, count
+    return count
+
+
 def main():
     """Compares each script."""
     linkrun, linkdraw = sys.argv[1:3]
@@ -121,6 +140,7 @@ def main():
         check_caps(tables["caps"], tables["rates"], tables["messages"])
         check_latencies(tables["latencies"], tables["messages"])
     print("tables: those of", len(sys.argv) - 3, "scripts agree")
+    print("bad lines: linkdraw says why as linkrun does in", check_bad_scripts(linkrun, linkdraw), "scripts")
 
 
 if __name__ == "__main__":

@@ -64,8 +64,24 @@ pub fn draw<R: Read, W: Write>(
 ) -> Outcome
     ensures { CountsFromOne result }
 {
+    let mut line = Vec::new(alloc);
+    draw_keeping_line(alloc, input, output, options, &mut line)
+}
+
+/// Does what `draw` does, and leaves in `line` the line that was read last, without its end byte, in
+/// the place of what it held. Where the outcome is `BadLine` that is the bad one, or its first 257
+/// bytes.
+pub fn draw_keeping_line<R: Read, W: Write>(
+    alloc: Global,
+    input: &mut R,
+    output: &mut W,
+    options: &Options,
+    line: &mut Vec<u8>,
+) -> Outcome
+    ensures { CountsFromOne result }
+{
     let mut history = History::new(alloc, matches!(options.form, Form::Table(_, _)));
-    match read_script(alloc, input, &mut history) {
+    match read_script(alloc, input, &mut history, line) {
         Outcome::Whole => match history.conclude(options) {
             Ok(time) => write(alloc, &history, options, time, output),
             Err(_) => Outcome::NoMemory,
@@ -75,16 +91,22 @@ pub fn draw<R: Read, W: Write>(
 }
 
 /// Reads a script to its end, and follows its commands.
-fn read_script<R: Read>(alloc: Global, input: &mut R, history: &mut History) -> Outcome
+fn read_script<R: Read>(
+    alloc: Global,
+    input: &mut R,
+    history: &mut History,
+    line: &mut Vec<u8>,
+) -> Outcome
     ensures { CountsFromOne result }
 {
-    let Ok(mut line) = Vec::with_capacity(alloc, line::MOST_READ) else {
+    line.clear();
+    if line.reserve(line::MOST_READ).is_err() {
         return Outcome::NoMemory;
-    };
+    }
     let Ok(mut reader) = BufReader::new(alloc, input) else {
         return Outcome::NoMemory;
     };
-    match read_lines(history, &mut reader, &mut line) {
+    match read_lines(history, &mut reader, line) {
         Ok(outcome) => outcome,
         Err(_) => Outcome::InputOutput,
     }

@@ -4,11 +4,12 @@
 mod arguments;
 
 use crate::arguments::{HELP, Task, VERSION, read_arguments};
+use link_console::why;
 use link_pictures::linkdraw;
 use link_pictures::linkdraw::Options;
 use link_scripts::linkrun::Outcome;
 use std::fs::File;
-use std::io::{IsTerminal, Read};
+use std::io::{IsTerminal, Read, Write};
 use std::process::ExitCode;
 
 /// The status after a word that is no option.
@@ -63,9 +64,23 @@ fn draw_standard_input(rt: &HostRuntime, options: &Options) -> ExitCode {
 
 /// Draws a script.
 fn draw<R: Read>(rt: &HostRuntime, input: &mut R, options: &Options) -> ExitCode {
-    let outcome = linkdraw::draw(rt.alloc(), input, &mut rt.stdout(), options);
+    let mut line = Vec::new(rt.alloc());
+    let mut output = rt.stdout();
+    let outcome = linkdraw::draw_keeping_line(rt.alloc(), input, &mut output, options, &mut line);
     if outcome != Outcome::Whole {
         let _ = rt.eprintln(outcome);
     }
+    if let Outcome::BadLine(_) = outcome {
+        explain(rt, &line);
+    }
     ExitCode::from(outcome.status())
+}
+
+/// Says why a line is bad.
+fn explain(rt: &HostRuntime, line: &[u8]) {
+    if let Some(note) = why::of_script(line) {
+        let mut errors = rt.stderr();
+        let _ = errors.write_all(note.as_bytes());
+        let _ = errors.write_all(b"\n");
+    }
 }

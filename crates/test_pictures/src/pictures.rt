@@ -1,6 +1,7 @@
 //! Pictures over memory.
-use link_pictures::linkdraw::{Form, Lines, Options, Table, draw, run};
+use link_pictures::linkdraw::{Form, Lines, Options, Table, draw, draw_keeping_line, run};
 use link_scripts::linkrun::Outcome;
+use std::alloc::Global;
 use std::io;
 use std::io::{ErrorKind, Write};
 use std::process::Abort;
@@ -225,6 +226,25 @@ fn a_bad_line_draws_nothing(rt: HostRuntime) {
     expect_picture(&rt, "rates", &["<svg", "0 messages", "</svg>"]);
     let network = "rates\nhop 1 2\ncap 2 5\nweight 1 3\nroutes\n";
     expect_picture(&rt, network, &["<svg", "0 messages", "</svg>"]);
+}
+
+/// Draws a script over memory. Answers how it ended, and leaves the line that was read last.
+fn draw_over(alloc: Global, script: &str, line: &mut Vec<u8>) -> Outcome {
+    let mut output = Vec::new(alloc);
+    let options = Options::new(alloc);
+    draw_keeping_line(alloc, &mut script.as_bytes(), &mut output, &options, line)
+}
+
+#[test]
+fn a_bad_line_is_kept(rt: HostRuntime) -> Result<(), Fail> {
+    let mut line = Vec::from_slice(rt.alloc(), b"what it held")?;
+    let outcome = draw_over(rt.alloc(), "next\n\nlimit 0 1 5 x\nnext\n", &mut line);
+    assert_eq!(rt; outcome, Outcome::BadLine(3));
+    assert!(rt; line.as_slice() == b"limit 0 1 5 x".as_slice());
+    let outcome = draw_over(rt.alloc(), "next\nnex", &mut line);
+    assert_eq!(rt; outcome, Outcome::BadLine(2));
+    assert!(rt; line.as_slice() == b"nex".as_slice());
+    Ok(())
 }
 
 /// A writer that is full.

@@ -36,7 +36,7 @@ for(const[textContent,title,onclick]of acts)make('button',{textContent,title,onc
 const label=make('label',{textContent:'peers '},bar),peers=make('input',{placeholder:'all: or 1,2,5'},label);
 peers.oninput=()=>{rows();draw()};
 const key=make('div',{id:'key'});
-const keys=[['#8899aa','use of a cap'],['rgb(221,0,0)','full (paler: for a part of the time)'],['dotted','waits'],
+const keys=[['var(--z)','use of a cap'],['rgb(var(--u))','full (paler: for a part of the time)'],['dotted','waits'],
   ['hatch','stalls'],['line','in latency, | arrives, × is dropped']];
 for(const[k,t]of keys){const s=make('span',{},key),i=make('i',{},s);make('span',{textContent:t},s);
   if(k=='dotted')i.style.cssText+='height:0;border-top:2px dotted #8a7d6c;margin-bottom:4px';
@@ -44,8 +44,8 @@ for(const[k,t]of keys){const s=make('span',{},key),i=make('i',{},s);make('span',
   else i.style.background=k=='hatch'?'repeating-linear-gradient(135deg,#777 0 1px,transparent 1px 4px)':k}
 make('span',{textContent:'a bar of a pair: what it sends, and its height the rate; each pair has a colour'},key);
 const cv=make('canvas',{}),g=cv.getContext('2d'),tip=make('div',{id:'tip'});
-const unit=(v,us)=>{let u=us[0];for(const x of us)if(v>=x[0])u=x;return +(v/u[0]).toFixed(3)+' '+u[1]};
-const times=[[1,'ns'],[1e3,'µs'],[1e6,'ms'],[1e9,'s']],time=v=>v==0?'0 s':(v<0?'−':'')+unit(Math.abs(v),times);
+const unit=(v,us,whole=Math.round)=>{let u=us[0];for(const x of us)if(v>=x[0])u=x;return whole(v*1e3/u[0])/1e3+' '+u[1]};
+const times=[[1,'ns'],[1e3,'µs'],[1e6,'ms'],[1e9,'s']],time=v=>v==0?'0 s':(v<0?'−':'')+unit(Math.abs(v),times,Math.floor);
 const size=v=>unit(v,[[1,'B'],[1e3,'kB'],[1e6,'MB'],[1e9,'GB']]);
 const css=n=>getComputedStyle(document.documentElement).getPropertyValue(n).trim();
 let a=0,b=T,R=[],W=0,L=110,H=0,hover=null;
