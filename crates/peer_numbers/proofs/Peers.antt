@@ -148,12 +148,12 @@ module _ {P : Type 0} (cmp : P → P → Ordering) (total : IsTotalOrder cmp) wh
             ∙ sym (number_of-push cmp total peers copy other absent);
         first = λ number other there. elim (got_in_push peers copy number other there) [
           | inl before ↦
-            number_stays cmp peers peer (peers ++ copy ∷ []) (with_peer cmp total peers peer copy none same) other number
-            (numbered.first number other before)
+              number_stays cmp peers peer (peers ++ copy ∷ []) (with_peer cmp total peers peer copy none same) other number
+              (numbered.first number other before)
           | inr last ↦
-            ap (number_of cmp (peers ++ copy ∷ [])) (sym last.1)
-            ∙ number_of-last cmp total peers copy copy absent (is_eq_equal _ ((eq_by_cmp_equiv total).refl copy))
-            ∙ ap Some (sym last.0)
+              ap (number_of cmp (peers ++ copy ∷ [])) (sym last.1)
+              ∙ number_of-last cmp total peers copy copy absent (is_eq_equal _ ((eq_by_cmp_equiv total).refl copy))
+              ∙ ap Some (sym last.0)
         ];
       }
 
