@@ -224,9 +224,8 @@ uint32_t p2p_limit_link(p2p_scheduler *scheduler, uint64_t now, uint64_t origin,
 uint32_t p2p_enqueue(p2p_scheduler *scheduler, uint64_t now, uint64_t origin, uint64_t recipient, uint64_t channel,
                      const uint8_t *message, size_t length, uint64_t latency, uint8_t should_deliver, size_t *count);
 
-/* The same with `length` zero bytes. They share one block, of which up to 2^20 take no memory, and more
- * that of the longest message so far. So a message whose bytes the caller keeps goes by its length, and
- * by a number of the caller's as its channel. */
+/* The same with `length` zero bytes, which take no memory however many they are. So a message whose bytes
+ * the caller keeps goes by its length, and by a number of the caller's as its channel. */
 uint32_t p2p_enqueue_zeros(p2p_scheduler *scheduler, uint64_t now, uint64_t origin, uint64_t recipient, uint64_t channel,
                            size_t length, uint64_t latency, uint8_t should_deliver, size_t *count);
 

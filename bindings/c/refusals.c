@@ -3,6 +3,7 @@
 #include "p2p_simulated.h"
 
 #include <stdio.h>
+#include <string.h>
 
 extern long p2p_test_until_refusal, p2p_test_blocks; /* of refusing_heap.c */
 extern size_t p2p_test_largest;
@@ -35,24 +36,24 @@ static long refusals;
         }                                                                                                   \
     }
 
-/* Whether zero bytes share one block: of up to 2^20 of them none is asked for, and of more once. */
-static int zeros_share(void) {
-    const p2p_parcel parcels[] = {{1, 8, 7, 0, 1 << 20, 0, 1}, {1, 9, 7, 5, 1 << 20, 0, 1}};
-    const uint8_t few[] = {1, 2};
-    const size_t long_one = 5 << 20;
+/* Whether zero bytes take no memory, however many they are, beside bytes or alone, and are read as zeros. */
+static int zeros_take_none(void) {
+    const p2p_parcel parcels[] = {{1, 2, 7, 0, SIZE_MAX, 0, 1}, {1, 3, 7, 1, SIZE_MAX / 2, 0, 1}};
+    const uint8_t few[] = {5, 6}, all[] = {5, 6, 0, 0}, rest[] = {6, 0, 0, 0};
+    uint8_t read[4] = {9, 9, 9, 9};
     size_t count, wrong = p2p_open(&s, 0) != P2P_OK;
-    wrong += p2p_limit(&s, 0, 1, p2p_bytes(1), p2p_no_cap(), &count) != P2P_OK;
     p2p_test_largest = 0;
-    for (uint64_t to = 2; to < 8; to++) wrong += p2p_enqueue_zeros(&s, 0, 1, to, 7, 1 << 20, 0, 1, &count) != P2P_OK;
-    wrong += p2p_enqueue_all(&s, 0, parcels + 1, 1, few, sizeof few, &count) != P2P_OK;
-    wrong += p2p_enqueue_all(&s, 0, parcels, 2, few, 0, &count) != P2P_OK || p2p_test_largest > 100000;
-    for (int turn = 0; turn < 2; turn++) {
-        p2p_test_largest = 0;
-        wrong += p2p_enqueue_zeros(&s, 0, 1, 10, 7, long_one, 0, 1, &count) != P2P_OK;
-        wrong += turn == 0 ? p2p_test_largest < long_one : p2p_test_largest > 100000;
-    }
+    wrong += p2p_enqueue_all(&s, 0, parcels, 2, few, sizeof few, &count) != P2P_OK || count != 2;
+    wrong += p2p_message(&s, 0, 0, read, 4) != 4 || memcmp(read, all, 4) != 0;
+    wrong += p2p_message(&s, 1, 0, read, 4) != 4 || memcmp(read, rest, 4) != 0;
+    memset(read, 9, sizeof read);
+    wrong += p2p_message(&s, 0, SIZE_MAX - 3, read, 4) != 3 || read[0] + read[1] + read[2] != 0 || read[3] != 9;
+    wrong += p2p_limit(&s, 0, 1, p2p_bytes(SIZE_MAX), p2p_no_cap(), &count) != P2P_OK;
+    for (uint64_t to = 2; to < 8; to++) wrong += p2p_enqueue_zeros(&s, 0, 1, to, 7, SIZE_MAX, 0, 1, &count) != P2P_OK;
+    wrong += p2p_advance(&s, 6000000000, &count) != P2P_OK || count != 6;
+    wrong += p2p_message(&s, 5, 7, read, 4) != 4 || read[0] + read[1] + read[2] + read[3] != 0;
     p2p_close(&s);
-    return wrong == 0;
+    return wrong == 0 && p2p_test_largest < 100000;
 }
 
 int main(void) {
@@ -121,8 +122,8 @@ int main(void) {
         refusals++;
     }
     p2p_test_until_refusal = -1;
-    if (!zeros_share()) {
-        fprintf(stderr, "refusals.c: zero bytes take memory of their own\n");
+    if (!zeros_take_none()) {
+        fprintf(stderr, "refusals.c: zero bytes take memory, or are not read as zeros\n");
         return 1;
     }
     if (completed != sent || p2p_test_blocks != 0) {

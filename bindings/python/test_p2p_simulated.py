@@ -70,7 +70,8 @@ class Scheduling(unittest.TestCase):
             for wrong in ("text", 7, 1.5, None):
                 self.assertRaises(TypeError, state.enqueue, 0, 1, 2, 0, wrong)
             self.assertRaises(TypeError, state.enqueue, 0, 1, 2, 0, 7)
-            self.assertRaises(MemoryError, state.enqueue_zeros, 0, 1, 2, 0, 2**64 - 1)
+            longest = state.enqueue_zeros(0, 1, 2, 0, 2**64 - 1)
+            self.assertEqual(longest, [Completion(1, 2, 0, Zeros(2**64 - 1), 0, 0)])
 
     def test_a_message_is_any_object(self):
         with State(["oslo", "lima", "rome", "oslo"]) as state:

@@ -16,7 +16,7 @@ Appends-append (Some xs) (Some ys) (Some zs) first second h k =
     k ∙ ap (λ front. front ++ second) h ∙ append_assoc xs first second
 
 -- what is printed of a completion with that moment, where its message has that length
-abbrev pub done_words : Completion ℕ → ℕ → List ℕ → List ℕ
+abbrev pub done_words : Completion ℕ (List ℕ) → ℕ → List ℕ → List ℕ
 done_words c n moment =
     codes "done "
     ++ (decimal c.origin
@@ -32,7 +32,7 @@ nest_words : (d o r h l m end sp : List ℕ)
 nest_words d o r h l m end sp = simp append_assoc refl
 
 -- that is the line of the completion
-pub done_whole : (before after : Option (List ℕ)) (c : Completion ℕ) (n : ℕ) (moment : Option ℕ) → n ≡ length c.message
+pub done_whole : (before after : Option (List ℕ)) (c : Completion ℕ (List ℕ)) (n : ℕ) (moment : Option ℕ) → n ≡ length c.message
     → c.deliver_at ≡ moment → Appends before after (done_words c n (moment_word moment))
     → Appends before after (done_line c)
 done_whole before after c n moment is at h =
@@ -45,7 +45,7 @@ done_whole before after c n moment is at h =
     subst (Appends before after) (told ∙ sym nested) h
 
 -- the line of the next completion, after those so far
-pub next_done : (before between after : Option (List ℕ)) (done more : List (Completion ℕ)) (c : Completion ℕ)
+pub next_done : (before between after : Option (List ℕ)) (done more : List (Completion ℕ (List ℕ))) (c : Completion ℕ (List ℕ))
     → more ≡ done ++ c ∷ [] → Appends before between (done_text done) → Appends between after (done_line c)
     → Appends before after (done_text more)
 next_done before between after done more c is h k =

@@ -5,9 +5,9 @@ use Rattle.std.proofs.lemmas.List.{get_or-take, take_more_set, length-take-le, g
 use Rattle.std.proofs.lemmas.Option.{slice_get-get_or}
 use Rattle.std.proofs.Math.Seq.{map-set_same}
 use Rattle.chains.specs.Chains.{Rows, owner_of, without_gaps}
-use Rattle.chains.specs.Places.{IsPlace, IsFirst, IsLast, behind, end_at}
+use Rattle.chains.specs.Places.{IsPlace}
 use Rattle.chains.specs.Tables.{Table, link_of, end_of, no_link, no_end, Stands, with_next, with_prev, with_link, added, relinked}
-use Rattle.chains.specs.Tables.{rows_in, next_at, prev_at, IsChained, AreFilled}
+use Rattle.chains.specs.Tables.{rows_in, IsChained, AreFilled}
 use Rattle.chains.proofs.Adding.{added_chained}
 use Rattle.chains.proofs.Places.{some_same}
 use Rattle.chains.specs.declared.tables.Link.{Link}

@@ -14,8 +14,8 @@ pub trait Peer: Ord + Sized + Drop {
     fn clone_peer(&self) -> Option<Self>
         ensures same { IfSome result (λ copy. Self.cmp copy self.now ≡ Equal) };
 
-    /// A number that tells the peer from most others: what is kept of it is found by it. One peer has the same
-    /// always. Only time hangs on it: where all have one, more is compared.
+    /// A number that tells the peer from most others: what is kept of it is found by it. All values of one peer give
+    /// the same. Only time hangs on it: where many peers share one, more is compared.
     fn hint(&self) -> u64 {
         0
     }

@@ -6,7 +6,7 @@ ghost use Rattle.link_simulation.specs.Rule.Planned.{Planned as AnyPlanned};
 ghost use Rattle.link_simulation.specs.Rule.Events.{Enqueues};
 ghost use Rattle.link_simulation.specs.Rule.Events.{EnqueuesEach};
 ghost use Rattle.link_pairs.specs.Pairs.Messages.{message_of, ended_of};
-ghost use Rattle.link_events.specs.Steps.Outgoing.{outgoing};
+ghost use Rattle.link_events.specs.Steps.Outgoing.{outgoing_by};
 ghost use Rattle.link_events.specs.Steps.Standing.{OnlyStarts, IsStanding, is_settled, does_start, standing_after};
 ghost use Rattle.link_events.specs.Steps.Standing.{IsFree};
 
@@ -15,6 +15,7 @@ use crate::outgoing::Outgoing;
 use fair_rates::error::Error;
 use fair_rates::peer::Peer;
 use link_pairs::completion::Ended;
+use link_pairs::contents::Payload;
 use link_pairs::message::Message;
 
 /// How what is in flight stands at the moment of the messages.
@@ -56,16 +57,16 @@ impl<P: Peer> Ledger<P> {
     ghost use Rattle.link_events.specs.Steps.Marks.{before_of};
 
     /// Messages are sent one after another. Those that only start share one account.
-    pub(crate) fn enqueue_all(
+    pub(crate) fn enqueue_all<M: Payload>(
         &mut self,
         now: u64,
-        messages: Vec<Outgoing<P>>,
+        messages: Vec<Outgoing<P, M>>,
     ) -> Result<Vec<Ended<P>>, Error>
-        ensures enqueues { IfOk result (λ ended. EnqueuesEach P.cmp now (map outgoing messages.items)
+        ensures enqueues { IfOk result (λ ended. EnqueuesEach P.cmp now (map (outgoing_by M.bytes) messages.items)
             (planned P.cmp self.old) (goes (map ended_of ended.items) (planned P.cmp self.new))) }
         ensures before { before_of self.new ≡ before_of self.old }
-        ensures refused { IfErr result (IsRefusedFor (λ fault. EnqueuesEach P.cmp now (map outgoing messages.items)
-            (planned P.cmp self.old) (meets fault))) }
+        ensures refused { IfErr result (IsRefusedFor (λ fault. EnqueuesEach P.cmp now
+            (map (outgoing_by M.bytes) messages.items) (planned P.cmp self.old) (meets fault))) }
     {
         let mut ended = Vec::new(self.alloc);
         let mut standing = Standing::Open;

@@ -6,7 +6,7 @@ ghost use Rattle.link_simulation.specs.Simulation.World.{is_late};
 ghost use Rattle.link_simulation.specs.Simulation.World.{completed};
 ghost use Rattle.link_simulation.specs.Simulation.Messages.{Message as AnyMessage};
 ghost use Rattle.link_simulation.specs.Rule.Planned.{next_of, may_launch};
-ghost use Rattle.link_simulation.specs.Rule.Events.{Launches, Finishes, Settles, Wakes, Rebalances, Enqueues, Advances};
+ghost use Rattle.link_simulation.specs.Rule.Events.{Launches, Finishes, Wakes, Rebalances, Enqueues, Advances};
 ghost use Rattle.link_simulation.specs.Rule.Events.{landed, completed_at_once, with_queued};
 ghost use Rattle.link_simulation.specs.Simulation.RefusalCauses.{IsRefusedFor};
 ghost use Rattle.link_pairs.specs.Pairs.Messages.{message_of, ended_of};

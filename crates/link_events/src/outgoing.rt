@@ -1,9 +1,10 @@
 //! A message that is to be sent.
 ghost use Rattle.std.specs.Prelude.{◌≡◌};
 ghost use Rattle.link_pairs.specs.Pairs.Messages.{message_of};
-ghost use Rattle.link_events.specs.Steps.Outgoing.{outgoing};
+ghost use Rattle.link_events.specs.Steps.Outgoing.{outgoing_by};
 
 use bytes::Bytes;
+use link_pairs::contents::Payload;
 use link_pairs::message::Message;
 
 /// A message to send by `State::enqueue_all`.
@@ -26,16 +27,16 @@ pub struct Outgoing<P, M = Bytes> {
     pub should_deliver: bool,
 }
 
-impl<P> Outgoing<P> {
+impl<P, M: Payload> Outgoing<P, M> {
     /// The message, before it waits or is in flight.
     pub fn into_message(self) -> Message<P>
-        ensures { message_of result ≡ outgoing self }
+        ensures { message_of result ≡ outgoing_by M.bytes self }
     {
         Message {
             origin: self.origin,
             recipient: self.recipient,
             channel: self.channel,
-            bytes: self.message,
+            bytes: self.message.into_contents(),
             latency: self.latency,
             should_deliver: self.should_deliver,
         }

@@ -2,6 +2,7 @@
 pub mod Accounted
 pub mod Accounts
 pub mod Alike
+pub mod Alone
 pub mod Beside
 pub mod CappedFlows
 pub mod ChangedCaps

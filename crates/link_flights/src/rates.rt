@@ -39,8 +39,8 @@ use std::alloc::Global;
 use std::collections::VecDeque;
 use std::rc::Rc;
 
-/// Up to so many messages in flight, all are rated at each account.
-const FEW: usize = 2;
+/// Where two are in flight, both are rated at each account.
+const PAIR: usize = 2;
 
 /// So many searches for what an event touches are spared after one that joined all, or too much.
 const SPARED: usize = 3;
@@ -184,7 +184,13 @@ impl<P: Peer> Flights<P> {
         ensures before { self.new.list.before ≡ self.old.list.before }
         ensures refused { IfErr result (λ e. e ≡ Error.OutOfMemory) }
     {
-        if were_rated && self.list.len() > FEW {
+        if self.list.is_empty() {
+            return Ok(self.settle(0));
+        }
+        if self.list.len() == 1 {
+            return self.rate_one(peers, pairs, were_rated);
+        }
+        if were_rated && self.list.len() > PAIR {
             let mut noted = self.notes.take(self.alloc, self.list.len())?;
             let touched = self.touched(done, peers, pairs, &mut noted)?;
             self.notes.give_back(noted, &touched.near);
@@ -194,6 +200,33 @@ impl<P: Peer> Flights<P> {
             }
         }
         self.rate_all(peers, pairs, were_rated)
+    }
+
+    /// Gives the only one its fair rate from the last account on: the least of its caps. Answers the moment at which
+    /// nothing is left of it.
+    fn rate_one(
+        &mut self,
+        peers: &Peers<P>,
+        pairs: &Pairs<P>,
+        were_timed: bool,
+    ) -> Result<Option<u64>, Error>
+        requires one { length self.old.list.items ≡ 1 }
+        requires moment { self.old.at ≤ last_moment }
+        requires left { All (λ u. u.left ≢ 0) (in_units self.old) }
+        requires timed { were_timed ≡ true → AreTimed self.old.list.items }
+        ensures rated { OnOk result (HaveFairRates P.cmp (caps_of P.cmp peers.now.entries pairs.now.entries)
+            self.old self.new) }
+        ensures kept { OnOk result (AreKeptBut self.new.rated_anew self.old.list.items self.new.list.items) }
+        ensures finish { IfOk result (IsLeastMoment (λ s. SomeSpentAt (in_flight self.new) s)) }
+        ensures loose { OnOk result (self.new.loose ≡ []) }
+        ensures before { self.new.list.before ≡ self.old.list.before }
+        ensures refused { IfErr result (λ e. e ≡ Error.OutOfMemory) }
+    {
+        let level = self.rate_alone(0, peers, pairs)?;
+        let rate = Rc::new(self.alloc, level)?;
+        self.rated_anew = 0;
+        self.rerate(0, Some(rate), &[], were_timed)?;
+        Ok(self.settle(0))
     }
 
     /// Gives all of them their fair rates from the last account on. Answers the first moment at which

@@ -3,8 +3,9 @@ ghost use Rattle.std.specs.Prelude.{◌≡◌, map, IfOk, IfErr};
 ghost use Rattle.std.specs.List.{AllZip};
 ghost use Rattle.std.specs.declared.cmp.Ordering.TheVariants.{Equal};
 ghost use Rattle.link_simulation.specs.Simulation.Replies.{SameCompletion};
-ghost use Rattle.link_pairs.specs.Pairs.Messages.{completed_of, ended_of};
+ghost use Rattle.link_pairs.specs.Pairs.Messages.{completed_by, ended_of};
 
+use crate::contents::Payload;
 use crate::message::Message;
 use bytes::Bytes;
 use fair_rates::error::Error;
@@ -12,13 +13,13 @@ use fair_rates::peer::Peer;
 use std::alloc::Global;
 use std::rc::Rc;
 
-/// What became of a message.
+/// What became of a message. `M` is what comes back of it: the bytes, where nothing else is said.
 #[derive(Drop)]
-pub struct Completion<P> {
+pub struct Completion<P, M = Bytes> {
     pub origin: P,
     pub recipient: P,
     pub channel: u64,
-    pub message: Bytes,
+    pub message: M,
     /// The moment at which it was done, all of it sent, in nanoseconds since the start: of a dropped
     /// message, too.
     pub done_at: u64,
@@ -40,8 +41,8 @@ pub struct Ended<P> {
 
 impl<P: Peer> Ended<P> {
     /// What is answered of it: its peers are cloned, the bytes shared.
-    fn answer(&self) -> Result<Completion<P>, Error>
-        ensures same { IfOk result (λ answer. SameCompletion P.cmp (completed_of answer) (ended_of self.now)) }
+    fn answer<M: Payload>(&self, alloc: Global) -> Result<Completion<P, M>, Error>
+        ensures same { IfOk result (λ answer. SameCompletion P.cmp (completed_by M.bytes answer) (ended_of self.now)) }
         ensures refused { IfErr result (λ e. e ≡ Error.OutOfMemory) }
     {
         let message = &self.message;
@@ -49,7 +50,7 @@ impl<P: Peer> Ended<P> {
             origin: message.origin.clone_peer().ok_or(Error::OutOfMemory)?,
             recipient: message.recipient.clone_peer().ok_or(Error::OutOfMemory)?,
             channel: message.channel,
-            message: message.bytes.slice(..)?,
+            message: M::of_contents(alloc, &message.bytes)?,
             done_at: self.done_at,
             deliver_at: self.deliver_at,
         })
@@ -57,14 +58,17 @@ impl<P: Peer> Ended<P> {
 }
 
 /// What is answered of messages that are done.
-pub fn answers_of<P: Peer>(alloc: Global, ended: &[Ended<P>]) -> Result<Vec<Completion<P>>, Error>
-    ensures same { IfOk result (λ answers. AllZip (SameCompletion P.cmp) (map completed_of answers.items)
+pub fn answers_of<P: Peer, M: Payload>(
+    alloc: Global,
+    ended: &[Ended<P>],
+) -> Result<Vec<Completion<P, M>>, Error>
+    ensures same { IfOk result (λ answers. AllZip (SameCompletion P.cmp) (map (completed_by M.bytes) answers.items)
         (map ended_of ended.now)) }
     ensures refused { IfErr result (λ e. e ≡ Error.OutOfMemory) }
 {
     let mut answers = Vec::with_capacity(alloc, ended.len())?;
     for one in ended {
-        answers.push(one.answer()?)?;
+        answers.push(one.answer(alloc)?)?;
     }
     Ok(answers)
 }

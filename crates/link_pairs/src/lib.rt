@@ -6,6 +6,7 @@
 #![tactic(auto)]
 
 pub mod completion;
+pub mod contents;
 pub mod known_pairs;
 pub mod message;
 pub mod pair;

@@ -1,7 +1,7 @@
 //! A message that waits or is in flight.
 ghost use Rattle.std.specs.Prelude.{◌≡◌, true, false, IfOk, IfErr};
 
-use bytes::Bytes;
+use crate::contents::Contents;
 use fair_rates::error::Error;
 use fair_rates::peer::Peer;
 use std::alloc::AllocError;
@@ -16,7 +16,7 @@ pub struct Message<P> {
     /// It comes back with the completion.
     pub channel: u64,
     /// What is sent.
-    pub bytes: Bytes,
+    pub bytes: Contents,
     /// From its completion to its arrival, in nanoseconds.
     pub latency: u64,
     /// Whether it arrives; else it is to be dropped.
@@ -62,7 +62,7 @@ impl<P: Peer> Clone for Message<P> {
             origin: self.origin.clone_peer().ok_or(AllocError)?,
             recipient: self.recipient.clone_peer().ok_or(AllocError)?,
             channel: self.channel,
-            bytes: self.bytes.slice(..)?,
+            bytes: self.bytes.share()?,
             latency: self.latency,
             should_deliver: self.should_deliver,
         })

@@ -15,9 +15,9 @@ ghost use Rattle.link_events.specs.Steps.Outgoing.{outgoing};
 ghost use Rattle.link_simulation.specs.Laws.Conserved.{AreConserved};
 ghost use Rattle.link_simulation.specs.Laws.Replies.{AlwaysSoFar, RefusesForMemoryAlone, CompletePairsInOrder};
 ghost use Rattle.link_simulation.specs.Laws.Replies.{IsolateSets};
-ghost use Rattle.link_scheduler.specs.Calls.Replay.{call_of, reply_of, IsAnswered, MayRefuseCall, IsReplyTo};
+ghost use Rattle.link_scheduler.specs.Calls.Replay.{call_by, call_of, reply_of, IsAnsweredBy, MayRefuseCall, IsReplyTo};
 
-use crate::transmitter::{Completion, Outgoing, State};
+use crate::transmitter::{Completion, Outgoing, Payload, State};
 use bytes::Bytes;
 use fair_rates::error::Error;
 use fair_rates::peer::Peer;
@@ -68,9 +68,9 @@ pub enum Call<P, M = Bytes> {
 
 /// What a call is answered.
 #[derive(Drop)]
-pub enum Reply<P> {
+pub enum Reply<P, M = Bytes> {
     /// The call was made, and these messages completed, in order.
-    Done(Vec<Completion<P>>),
+    Done(Vec<Completion<P, M>>),
     /// The moment of the next event, in nanoseconds since the start, or none.
     Next(Option<u64>),
     /// The call was refused, and changed nothing.
@@ -106,7 +106,7 @@ pub fn replay<P: Peer>(alloc: Global, calls: &[Call<P>]) -> Result<Vec<Reply<P>>
     Ok(replies)
 }
 
-impl<P: Peer> Call<P> {
+impl<P: Peer, M: Payload> Call<P, M> {
     /// Makes the call as the function of `State` does that it stands for, and takes its arguments.
     ///
     /// `Call::Next` is answered `Reply::Next`, and any other call `Reply::Done`. What is refused is
@@ -120,9 +120,9 @@ impl<P: Peer> Call<P> {
     /// - `MomentTooLate` where a message completes and would arrive past the last moment,
     ///   18446744073709551615.
     /// - `FlowIdsUsedUp` where a message would start and no flow id is left.
-    pub fn make(self, state: &mut State<P>) -> Result<Reply<P>, Error>
-        ensures made { IfOk result (λ reply. IsAnswered state.old (call_of self) reply state.new) }
-        ensures refused { IfErr result (MayRefuseCall state.old (call_of self)) }
+    pub fn make(self, state: &mut State<P, M>) -> Result<Reply<P, M>, Error>
+        ensures made { IfOk result (λ reply. IsAnsweredBy M.bytes state.old (call_by M.bytes self) reply state.new) }
+        ensures refused { IfErr result (MayRefuseCall state.old (call_by M.bytes self)) }
         ensures unchanged { OnErr result (planned_of state.new ≡ planned_of state.old) }
     {
         let completions = match self {
@@ -161,7 +161,9 @@ impl<P: Peer> Call<P> {
         };
         Ok(Reply::Done(completions))
     }
+}
 
+impl<P: Peer> Call<P> {
     /// Makes the call, unless it is refused.
     fn answer(&self, alloc: Global, state: &mut State<P>) -> Reply<P>
         ensures in_time { InTime (call_of self.now ∷ []) }

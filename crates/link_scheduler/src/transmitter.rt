@@ -14,13 +14,18 @@ use link_events::ledger::Ledger;
 pub use link_events::outgoing::Outgoing;
 pub use link_flights::reading::{InFlight, Reading};
 pub use link_pairs::completion::Completion;
+pub use link_pairs::contents::{Contents, Payload};
 use link_pairs::message::Message;
 use std::alloc::Global;
+use std::marker::PhantomData;
 
 /// A scheduler of messages between capped peers: it tells when each completes and arrives.
 ///
 /// It has no clock. Each call but `next` says its moment, in nanoseconds since the start, and
 /// answers what completes, in order.
+///
+/// `M` is what a message is given as, and what comes back of it with its completion: `Bytes`, where
+/// nothing else is said, or `Contents`, of which zero bytes take no memory.
 ///
 /// Before any limit a message completes as it is enqueued. After the first `limit` or `limit_link`,
 /// at most one message of each ordered pair of peers is in flight, and the others of the pair wait
@@ -61,8 +66,9 @@ use std::alloc::Global;
 /// 2^64, moments and latencies below 2^63. There a call is refused for memory alone (`refused`), and
 /// leaves the scheduler in the range (`made.in_range`).
 #[derive(Drop)]
-pub struct State<P: Peer> {
+pub struct State<P: Peer, M = Bytes> {
     ledger: Ledger<P>,
+    of: PhantomData<M>,
     pub ghost caps: { CapsAlike P.cmp (planned P.cmp ledger).caps (planned P.cmp ledger).caps },
     pub ghost arrivals: { PairsAlike P.cmp (planned P.cmp ledger).last_arrival (planned P.cmp ledger).last_arrival },
     // Here and in the clauses `∥ A ∥₁` reads: there is an `A`.
@@ -72,14 +78,7 @@ pub struct State<P: Peer> {
 }
 
 impl<P: Peer> State<P> {
-    ghost use Rattle.std.specs.List.{AllZip};
-    ghost use Rattle.link_pairs.specs.Pairs.Messages.{message_of};
-    ghost use Rattle.link_flights.specs.Flights.Readings.{IsReadAs};
-    ghost use Rattle.link_scheduler.specs.Calls.State.{planned_of, IsNew, IsMade, IsRefused, IsAdvanced};
-    ghost use Rattle.link_events.specs.Steps.Outgoing.{sent};
-    ghost use Rattle.link_events.specs.Steps.Standing.{IsFree};
-    ghost use Rattle.link_scheduler.specs.Calls.State.{IsCounted, sends, AreMade, IsOneRefused};
-    ghost use Rattle.link_scheduler.specs.Calls.State.{IsNextOf, IsQuietUntil, rated_at_last};
+    ghost use Rattle.link_scheduler.specs.Calls.State.{IsNew};
 
     /// A scheduler at the start, moment 0, without limits and with nothing sent. Flow ids begin
     /// at 0.
@@ -96,8 +95,30 @@ impl<P: Peer> State<P> {
     pub fn with_first_id(alloc: Global, first: u64) -> Self
         ensures new { IsNew result first }
     {
+        State::with_payload(alloc, first)
+    }
+}
+
+impl<P: Peer, M: Payload> State<P, M> {
+    ghost use Rattle.std.specs.List.{AllZip};
+    ghost use Rattle.link_flights.specs.Flights.Readings.{IsReadAs};
+    ghost use Rattle.link_scheduler.specs.Calls.State.{planned_of, IsNew, IsMadeBy, IsRefused, IsAdvancedBy};
+    ghost use Rattle.link_events.specs.Steps.Outgoing.{sent};
+    ghost use Rattle.link_scheduler.specs.Calls.State.{IsCountedBy, sends_by, AreMadeBy, IsOneRefused};
+    ghost use Rattle.link_scheduler.specs.Calls.State.{IsNextOf, IsQuietUntil, rated_at_last};
+
+    /// As `with_first_id`, where messages are of any type of `Payload`.
+    ///
+    /// ```
+    /// let mut lengths: State<u64, Contents> = State::with_payload(alloc, 0);
+    /// lengths.enqueue(0, 1, 2, 7, Contents::zeros(1 << 40), 0, true)?;
+    /// ```
+    pub fn with_payload(alloc: Global, first: u64) -> Self
+        ensures new { IsNew result first }
+    {
         State {
             ledger: Ledger::new(alloc, first),
+            of: PhantomData,
         }
     }
 
@@ -127,8 +148,8 @@ impl<P: Peer> State<P> {
         peer: &P,
         egress: Option<usize>,
         ingress: Option<usize>,
-    ) -> Result<Vec<Completion<P>>, Error>
-        ensures made { IfOk result (λ done. IsMade self.old
+    ) -> Result<Vec<Completion<P, M>>, Error>
+        ensures made { IfOk result (λ done. IsMadeBy M.bytes self.old
             (call_limit now peer.now egress ingress) done.items self.new) }
         ensures refused { IfErr result (IsRefused self.old (call_limit now peer.now egress ingress)) }
         ensures unchanged { OnErr result (self.new ≡ self.old) }
@@ -163,8 +184,8 @@ impl<P: Peer> State<P> {
         origin: &P,
         recipient: &P,
         cap: Option<usize>,
-    ) -> Result<Vec<Completion<P>>, Error>
-        ensures made { IfOk result (λ done. IsMade self.old
+    ) -> Result<Vec<Completion<P, M>>, Error>
+        ensures made { IfOk result (λ done. IsMadeBy M.bytes self.old
             (call_limit_link now origin.now recipient.now cap) done.items self.new) }
         ensures refused { IfErr result (IsRefused self.old (call_limit_link now origin.now recipient.now cap)) }
         ensures unchanged { OnErr result (self.new ≡ self.old) }
@@ -177,7 +198,7 @@ impl<P: Peer> State<P> {
     /// Sends a message at `now`, and answers what completes at that moment.
     ///
     /// `now` is in nanoseconds since the start, and `latency` in nanoseconds. `channel` and the
-    /// bytes come back with the completion. The message is to be dropped where `should_deliver` is
+    /// message come back with the completion. It is to be dropped where `should_deliver` is
     /// false.
     ///
     /// Before any limit it completes at once, and arrives its latency later, or with the last one
@@ -205,22 +226,22 @@ impl<P: Peer> State<P> {
         origin: P,
         recipient: P,
         channel: u64,
-        message: Bytes,
+        message: M,
         latency: u64,
         should_deliver: bool,
-    ) -> Result<Vec<Completion<P>>, Error>
+    ) -> Result<Vec<Completion<P, M>>, Error>
         ensures made { IfOk result (λ done.
-            IsMade self.old (call_enqueue now
-            (sent origin recipient channel message latency should_deliver)) done.items self.new) }
+            IsMadeBy M.bytes self.old (call_enqueue now
+            (sent origin recipient channel (M.bytes message) latency should_deliver)) done.items self.new) }
         ensures refused { IfErr result (IsRefused self.old
-            (call_enqueue now (sent origin recipient channel message latency should_deliver))) }
+            (call_enqueue now (sent origin recipient channel (M.bytes message) latency should_deliver))) }
         ensures unchanged { OnErr result (self.new ≡ self.old) }
     {
         let message = Message {
             origin,
             recipient,
             channel,
-            bytes: message,
+            bytes: message.into_contents(),
             latency,
             should_deliver,
         };
@@ -258,10 +279,11 @@ impl<P: Peer> State<P> {
     pub fn enqueue_all(
         &mut self,
         now: u64,
-        messages: Vec<Outgoing<P>>,
-    ) -> Result<Vec<Completion<P>>, Error>
-        ensures made { IfOk result (λ done. AreMade self.old (sends now messages.items) done.items self.new) }
-        ensures refused { IfErr result (IsOneRefused self.old (sends now messages.items)) }
+        messages: Vec<Outgoing<P, M>>,
+    ) -> Result<Vec<Completion<P, M>>, Error>
+        ensures made { IfOk result (λ done. AreMadeBy M.bytes self.old (sends_by M.bytes now messages.items) done.items
+            self.new) }
+        ensures refused { IfErr result (IsOneRefused self.old (sends_by M.bytes now messages.items)) }
         ensures unchanged { OnErr result (self.new ≡ self.old) }
     {
         if messages.is_empty() {
@@ -294,9 +316,9 @@ impl<P: Peer> State<P> {
     /// - `MomentTooLate` where a message completes and would arrive past the last moment,
     ///   18446744073709551615.
     /// - `FlowIdsUsedUp` where a message would start and no flow id is left.
-    pub fn advance(&mut self, now: u64) -> Result<Vec<Completion<P>>, Error>
-        ensures made { IfOk result (λ done. IsMade self.old (call_advance now) done.items self.new) }
-        ensures advanced { IfOk result (λ done. IsAdvanced self.old now done.items self.new) }
+    pub fn advance(&mut self, now: u64) -> Result<Vec<Completion<P, M>>, Error>
+        ensures made { IfOk result (λ done. IsMadeBy M.bytes self.old (call_advance now) done.items self.new) }
+        ensures advanced { IfOk result (λ done. IsAdvancedBy M.bytes self.old now done.items self.new) }
         ensures quiet { IsQuietUntil now self.old → IsOk result }
         ensures refused { IfErr result (IsRefused self.old (call_advance now)) }
         ensures unchanged { OnErr result (self.new ≡ self.old) }
@@ -314,10 +336,10 @@ impl<P: Peer> State<P> {
     /// # Errors
     ///
     /// Those of `advance`, and the scheduler then stays as it was.
-    pub fn advance_counted(&mut self, now: u64) -> Result<(Vec<Completion<P>>, u128), Error>
-        ensures made { IfOk result (λ answer. IsMade self.old (call_advance now) answer.0.items self.new) }
-        ensures advanced { IfOk result (λ answer. IsAdvanced self.old now answer.0.items self.new) }
-        ensures counted { IfOk result (λ answer. IsCounted self.old now answer.1 answer.0.items self.new) }
+    pub fn advance_counted(&mut self, now: u64) -> Result<(Vec<Completion<P, M>>, u128), Error>
+        ensures made { IfOk result (λ answer. IsMadeBy M.bytes self.old (call_advance now) answer.0.items self.new) }
+        ensures advanced { IfOk result (λ answer. IsAdvancedBy M.bytes self.old now answer.0.items self.new) }
+        ensures counted { IfOk result (λ answer. IsCountedBy M.bytes self.old now answer.1 answer.0.items self.new) }
         ensures quiet { IsQuietUntil now self.old → IsOk result }
         ensures refused { IfErr result (IsRefused self.old (call_advance now)) }
         ensures unchanged { OnErr result (self.new ≡ self.old) }
@@ -330,10 +352,10 @@ impl<P: Peer> State<P> {
     }
 
     /// Handles the events up to `now`, and what may start then starts.
-    fn handle_events(&mut self, now: u64) -> Result<(Vec<Completion<P>>, u128), Error>
-        ensures made { IfOk result (λ answer. IsMade self.old (call_advance now) answer.0.items self.new) }
-        ensures advanced { IfOk result (λ answer. IsAdvanced self.old now answer.0.items self.new) }
-        ensures counted { IfOk result (λ answer. IsCounted self.old now answer.1 answer.0.items self.new) }
+    fn handle_events(&mut self, now: u64) -> Result<(Vec<Completion<P, M>>, u128), Error>
+        ensures made { IfOk result (λ answer. IsMadeBy M.bytes self.old (call_advance now) answer.0.items self.new) }
+        ensures advanced { IfOk result (λ answer. IsAdvancedBy M.bytes self.old now answer.0.items self.new) }
+        ensures counted { IfOk result (λ answer. IsCountedBy M.bytes self.old now answer.1 answer.0.items self.new) }
         ensures refused { IfErr result (IsRefused self.old (call_advance now)) }
         ensures unchanged { OnErr result (self.new ≡ self.old) }
     {

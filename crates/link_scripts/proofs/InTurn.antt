@@ -76,7 +76,7 @@ sends-append now ms m =
 
 module _ (old new : Session) (before after : Option (List ℕ)) where
   -- messages that are sent at once
-  pub sent_at_once : (now : ℕ) (ms : List (Outgoing ℕ ℕ)) (reply : reply_code.Reply ℕ)
+  pub sent_at_once : (now : ℕ) (ms : List (Outgoing ℕ ℕ)) (reply : reply_code.Reply ℕ (List ℕ))
       → AnswersEach (zeroed_sends now ms) old.scheduler reply new.scheduler
       → Appends before after (reply_text (reply_of reply)) → PrintsInTurn (zeroed_sends now ms) old before new after
   sent_at_once now ms (replies.Done completions) made printed =
@@ -85,7 +85,7 @@ module _ (old new : Session) (before after : Option (List ℕ)) where
   sent_at_once now ms (replies.Refused why) made printed = absurd made
 
   -- and then printed
-  pub sent_and_printed : {X E : Type 0} (now : ℕ) (ms : List (Outgoing ℕ ℕ)) (reply : reply_code.Reply ℕ)
+  pub sent_and_printed : {X E : Type 0} (now : ℕ) (ms : List (Outgoing ℕ ℕ)) (reply : reply_code.Reply ℕ (List ℕ))
       (result : Result X E) → AnswersEach (zeroed_sends now ms) old.scheduler reply new.scheduler
       → OnOk result (Appends before after (reply_text (reply_of reply)))
       → OnOk result (PrintsInTurn (zeroed_sends now ms) old before new after)

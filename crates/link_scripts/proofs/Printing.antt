@@ -45,7 +45,7 @@ joined_from_end : (d o r h l m end sp : List ℕ)
 joined_from_end d o r h l m end sp = simp append_assoc refl
 
 -- the line of a completion, put together from its end
-pub done_from_end : (c : Completion ℕ) (n : ℕ) (end at sized on to from line : List ℕ) → n ≡ length c.message
+pub done_from_end : (c : Completion ℕ (List ℕ)) (n : ℕ) (end at sized on to from line : List ℕ) → n ≡ length c.message
     → end ≡ 10 ∷ [] → at ≡ codes " " ++ moment_word c.deliver_at ++ end → sized ≡ codes " " ++ decimal n ++ at
     → on ≡ codes " " ++ decimal c.channel ++ sized → to ≡ codes " " ++ decimal c.recipient ++ on
     → from ≡ codes " " ++ decimal c.origin ++ to → line ≡ codes "done" ++ from → line ≡ done_line (completed_of c)
@@ -62,7 +62,7 @@ done_text-push completions c =
     ∙ ap (λ last. done_text completions ++ last) (append-nil (done_line c))
 
 -- the line of the next completion, after those so far
-pub next_done : (before between after : Option (List ℕ)) (done more : List (Completion ℕ)) (c : Completion ℕ)
+pub next_done : (before between after : Option (List ℕ)) (done more : List (Completion ℕ (List ℕ))) (c : Completion ℕ (List ℕ))
     → more ≡ done ++ c ∷ [] → Appends before between (done_text (map completed_of done))
     → Appends between after (done_line (completed_of c))
     → Appends before after (done_text (map completed_of more))

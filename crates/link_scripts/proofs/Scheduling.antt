@@ -1,5 +1,5 @@
 -- Calls of a script, and the scheduler.
-use Rattle.std.proofs.Common.{◌≡◌, ◌≢◌, ℕ, refl, sym, subst}
+use Rattle.std.proofs.Common.{◌≡◌, ◌≢◌, ℕ, List, refl, sym, subst}
 use Rattle.std.specs.declared.cmp.Ordering.{Ordering}
 use Rattle.fair_rates.specs.declared.error.Error.{Error}
 use Rattle.fair_rates.specs.declared.error.Error.TheVariants.{OutOfMemory}
@@ -17,7 +17,7 @@ refuses_for_memory cmp p call why is =
     (record { by_rule = tt; simulated = record { cause = tt; in_range = λ own. refl } })
 
 -- any call but that for the next event may be refused for memory
-pub may_refuse_for_memory : {a : _} {b : _} {c : _} (s : State ℕ a b c) (call : Call ℕ) (why : Error)
+pub may_refuse_for_memory : {a : _} {b : _} {c : _} (s : State ℕ (List ℕ) a b c) (call : Call ℕ) (why : Error)
     → (why ≡ OutOfMemory) × (call ≢ call_next) → MayRefuseCall s call why
 may_refuse_for_memory s call_next why h = absurd (h.1 refl)
 may_refuse_for_memory s (call_limit now peer egress ingress) why h = refuses_for_memory _ _ _ why h.0

@@ -44,14 +44,14 @@ zeroed_sends now messages = map (λ m. call_enqueue now m) (map zeroed messages)
 
 module _ {a : _} {b : _} {c : _} where
   -- what a scheduler of numbered peers is asked it does and answers
-  abbrev pub AnswersCall : script.Call ℕ ℕ → State ℕ a b c → Answer → State ℕ a b c → Type 0
+  abbrev pub AnswersCall : script.Call ℕ ℕ → State ℕ (List ℕ) a b c → Answer → State ℕ (List ℕ) a b c → Type 0
   AnswersCall call old (answers.Reply reply) new = IsAnswered old (world_call call) reply new
   AnswersCall call old answers.Nothing new = ⊥
   AnswersCall call old (answers.Rates rates) new = ⊥
   AnswersCall call old (answers.Routes rates) new = ⊥
 
   -- it does and answers all at once what those calls do and answer one after another
-  abbrev pub AnswersEach : List (Call ℕ) → State ℕ a b c → Reply ℕ → State ℕ a b c → Type 0
+  abbrev pub AnswersEach : List (Call ℕ) → State ℕ (List ℕ) a b c → Reply ℕ (List ℕ) → State ℕ (List ℕ) a b c → Type 0
   AnswersEach calls old (replies.Done completions) new = AreMade old calls completions.items new
   AnswersEach calls old (replies.Next moment) new = ⊥
   AnswersEach calls old (replies.Refused why) new = ⊥

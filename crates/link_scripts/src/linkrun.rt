@@ -6,12 +6,12 @@ ghost use Rattle.link_scripts.specs.Outcome.{status_of, outcome_text, CountsFrom
 pub mod answer;
 pub mod command;
 mod ending;
+pub mod fill;
 mod gathered;
 pub mod line;
 pub mod schedule;
 mod session;
 pub mod word;
-pub mod zeros;
 
 use crate::linkrun::command::Command;
 use crate::linkrun::gathered::Gathered;

@@ -33,7 +33,7 @@ use Rattle.link_traces.specs.declared.linkcheck.progress.Progress.{Progress}
 use Rattle.link_traces.specs.Batches.{call_to_send, batch_calls, batch_lines, IsFront}
 use Rattle.link_traces.specs.Checker.{IsUnderway}
 use Rattle.link_traces.specs.Progress.{due, IsTold}
-use Rattle.link_traces.specs.Trace.{call_line, done_in, transcript_of, IsAfterTolerance}
+use Rattle.link_traces.specs.Trace.{call_line, done_in, transcript_of}
 use Rattle.link_traces.specs.Turns.{AgreesInTurn, IsSimulatedReply}
 use Rattle.link_traces.proofs.Replying.{made_is_simulated}
 use Rattle.link_traces.proofs.Tracing.{after_more}
@@ -165,7 +165,7 @@ regroup R calls more cs replies others rs is =
 pub record IsSentSilently (old new : Progress) (b : Batch) : Type 0 where
   pub in_range : All IsCallOfScriptInRange (batch_calls b)
   pub some : 0 < length b.messages.items
-  pub reply : reply_code.Reply ℕ
+  pub reply : reply_code.Reply ℕ (List ℕ)
   pub answered : AnswersEach (zeroed_sends b.moment b.messages.items) old.scheduler reply new.scheduler
   pub nothing : reply_of reply ≡ reply_done []
   pub turn : (w : World ℕ) → w.moment ≡ old.reached → StandsFor nat_cmp (planned_of old.scheduler) w
@@ -178,7 +178,7 @@ pub record IsSentSilently (old new : Progress) (b : Batch) : Type 0 where
   pub completions : new.completions ≡ old.completions
 
 -- what is answered in all and says nothing is made so
-made_silently : (old new : Progress) (calls : List (Call ℕ)) (reply : reply_code.Reply ℕ)
+made_silently : (old new : Progress) (calls : List (Call ℕ)) (reply : reply_code.Reply ℕ (List ℕ))
     → AnswersEach calls old.scheduler reply new.scheduler → reply_of reply ≡ reply_done []
     → MakesEach nat_cmp (planned_of old.scheduler) calls [] (planned_of new.scheduler)
 made_silently old new calls (replies.Done completions) made none =

@@ -117,13 +117,13 @@ module _ {P : Type 0} (cmp : P → P → Ordering) (order : IsTotalOrder cmp) wh
 -- ---- of schedulers
 
 module _ {P : Type 0} {order : Ghosts P} {b : _} {c : _} (total : IsTotalOrder order.cmp)
-    (old new : State P order b c) (w : World P) (stands : StandsFor order.cmp (planned_of old) w) where
-  pub answered_is_simulated : (call : Call P) (reply : reply_code.Reply P) → IsAnswered old call reply new
+    (old new : State P (List ℕ) order b c) (w : World P) (stands : StandsFor order.cmp (planned_of old) w) where
+  pub answered_is_simulated : (call : Call P) (reply : reply_code.Reply P (List ℕ)) → IsAnswered old call reply new
       → IsInTurn order.cmp w call → IsSimulatedReply order.cmp w call (reply_of reply) (planned_of new)
   answered_is_simulated call_next (replies.Next moment) h turn = record {
     after = w;
     replies = (refl, h.0.simulated w stands, refl);
-    stands = subst (λ (s : State P order b c). StandsFor order.cmp (planned_of s) w) (sym h.1) stands;
+    stands = subst (λ (s : State P (List ℕ) order b c). StandsFor order.cmp (planned_of s) w) (sym h.1) stands;
     moment = refl;
   }
   answered_is_simulated call_next (replies.Done completions) h turn = absurd h

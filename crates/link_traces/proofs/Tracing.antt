@@ -33,7 +33,7 @@ use Rattle.link_scripts.specs.declared.linkrun.line.LineEnd.TheVariants.{Newline
 use Rattle.link_traces.specs.declared.linkcheck.report.Report.{Report}
 use Rattle.link_traces.specs.Checker.{IsUnderway, IsTakenOf, GoesOn}
 use Rattle.link_traces.specs.Progress.{due, IsTold}
-use Rattle.link_traces.specs.Trace.{call_line, done_in, transcript_of, IsTranscript, IsHeadedTranscript, IsAllowed, EndsEarly}
+use Rattle.link_traces.specs.Trace.{call_line, done_in, transcript_of, IsTranscript, IsHeadedTranscript, IsAllowed}
 use Rattle.link_traces.specs.Trace.{IsAfterTolerance, IsAgreed, tolerance_line}
 use Rattle.std.specs.Io.KnownBytes.{Consumes, IsAtEnd}
 use Rattle.std.specs.Option.{IfSome}

@@ -1,6 +1,6 @@
 -- How a call on an open scheduler ends, from what its state answered and what was kept of that.
 use Rattle.std.proofs.Common.{◌≡◌, arith, ℕ, List, length, Option, Some, Result, Ok, Err, IfOk, IfErr, OnErr}
-use Rattle.std.proofs.Common.{MatchResult, inl, inr, refl, sym, ap, subst, ◌∙◌}
+use Rattle.std.proofs.Common.{MatchResult, inl, inr, sym, ap, subst, ◌∙◌}
 use Rattle.fair_rates.specs.Refusals.ErrorTexts.{refusal_number}
 use Rattle.link_scheduler.specs.Calls.State.{IsMade, IsRefused, IsAdvanced, planned_of}
 use Rattle.link_simulation.specs.Simulation.Calls.{Call, moment_of}
@@ -25,7 +25,7 @@ same_plan (Ok done) old new same = same
 same_plan (Err why) old new same = ap (λ s. planned_of s) same
 
 -- the state answered, and the answer was kept
-pub ended : {V : Type 0} (items : V → List (Completion ℕ)) (answer : Result V Error) (call : Call ℕ) {now : ℕ}
+pub ended : {V : Type 0} (items : V → List (Completion ℕ (List ℕ))) (answer : Result V Error) (call : Call ℕ) {now : ℕ}
     (status count : ℕ) (old between new : Opened)
     → new.state ≡ between.state
     → MatchResult answer (λ done. status ≡ 0) (λ why. status ≡ refusal_number why)
@@ -65,7 +65,7 @@ ended items (Err why) call status count old between new state number kept counte
       },
     )
 
-pub advanced : {V : Type 0} (items : V → List (Completion ℕ)) (answer : Result V Error) (now status : ℕ)
+pub advanced : {V : Type 0} (items : V → List (Completion ℕ (List ℕ))) (answer : Result V Error) (now status : ℕ)
     (old between new : Opened)
     → new.state ≡ between.state
     → MatchResult answer (λ done. status ≡ 0) (λ why. status ≡ refusal_number why)

@@ -15,7 +15,7 @@ use Rattle.link_simulation.specs.Simulation.Calls.{call_enqueue, call_enqueue_al
 use Rattle.link_simulation.specs.Simulation.Messages.{Message}
 use Rattle.p2p_simulated_c.specs.declared.opened.Opened.{Opened}
 
-module _ {V : Type 0} (items : V → List (Completion ℕ)) (now : ℕ) (fits : now < 2 ^ 64) (old new : Opened)
+module _ {V : Type 0} (items : V → List (Completion ℕ (List ℕ))) (now : ℕ) (fits : now < 2 ^ 64) (old new : Opened)
     (messages : List (Outgoing ℕ (List ℕ))) (sent : List (Message ℕ)) (are : map outgoing messages ≡ sent) where
   -- messages that are sent one after another are sent by one call
   pub all_made : (answer : Result V Error)

@@ -10,7 +10,7 @@ abbrev pub records_from : Opened → ℕ → List Done
 records_from s first = map done_of (drop first s.completed.items)
 
 -- the bytes of a completion, and none where there is no completion
-abbrev pub completed_bytes : Option (Completion ℕ) → List ℕ
+abbrev pub completed_bytes : Option (Completion ℕ (List ℕ)) → List ℕ
 completed_bytes None = []
 completed_bytes (Some c) = c.message
 

@@ -1,5 +1,5 @@
 -- How the records that cross to C are read.
-use Rattle.std.specs.Prelude.{ℕ, ◌+◌, ◌*◌, ◌/◌, ◌%◌, ◌^◌, ◌==◌, if◌then◌else◌, Bool, not, length, Option}
+use Rattle.std.specs.Prelude.{ℕ, List, ◌+◌, ◌*◌, ◌/◌, ◌%◌, ◌^◌, ◌==◌, if◌then◌else◌, Bool, not, length, Option}
 use Rattle.std.specs.Prelude.{Some, None}
 use Rattle.link_pairs.specs.declared.completion.Completion.{Completion}
 use Rattle.p2p_simulated_c.specs.declared.records.Cap.{Cap}
@@ -33,7 +33,7 @@ abbrev pub wide_of : ℕ → Wide
 wide_of n = record { low = n % 2 ^ 64; high = n / 2 ^ 64 }
 
 -- the record of a completion
-abbrev pub done_of : Completion ℕ → Done
+abbrev pub done_of : Completion ℕ (List ℕ) → Done
 done_of c = record {
   origin = c.origin;
   recipient = c.recipient;

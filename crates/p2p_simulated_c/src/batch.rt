@@ -1,5 +1,5 @@
 //! A list of messages, sent by one call.
-ghost use Rattle.std.specs.Prelude.{◌≡◌, ◌++◌, ◌-◌, length, map, take, replicate, IfOk, IfErr};
+ghost use Rattle.std.specs.Prelude.{◌≡◌, map, IfOk, IfErr};
 ghost use Rattle.link_events.specs.Steps.Outgoing.{outgoing};
 ghost use Rattle.link_simulation.specs.Simulation.Calls.{call_enqueue_all};
 ghost use Rattle.p2p_simulated_c.specs.Asked.{OnHandle, Ended};
@@ -11,8 +11,7 @@ use super::records::Parcel;
 use super::status::{CLOSED, OUT_OF_MEMORY};
 use bytes::Bytes;
 use fair_rates::error::Error;
-use link_scheduler::transmitter::Outgoing;
-use link_scripts::linkrun::zeros::Zeros;
+use link_scheduler::transmitter::{Contents, Outgoing, Payload};
 use std::alloc::Global;
 
 impl Opened {
@@ -28,7 +27,7 @@ impl Opened {
         ensures { Ended (call_enqueue_all now (map (message_at bytes.now) parcels.now))
             result count.new self.old self.new }
     {
-        let Ok(messages) = messages_of(alloc, &mut self.zeros, parcels, bytes) else {
+        let Ok(messages) = messages_of(alloc, parcels, bytes) else {
             *count = 0;
             return OUT_OF_MEMORY;
         };
@@ -40,10 +39,9 @@ impl Opened {
 /// The messages of the records, in their order. They share one copy of the bytes.
 fn messages_of(
     alloc: Global,
-    zeros: &mut Zeros,
     parcels: &[Parcel],
     bytes: &[u8],
-) -> Result<Vec<Outgoing<u64>>, Error>
+) -> Result<Vec<Outgoing<u64, Contents>>, Error>
     ensures messages { IfOk result (λ messages.
         map outgoing messages.items ≡ map (message_at bytes.now) parcels.now) }
     ensures refused { IfErr result (λ why. why ≡ Error.OutOfMemory) }
@@ -51,18 +49,13 @@ fn messages_of(
     let bytes = Bytes::copy_from_slice(alloc, bytes)?;
     let mut messages = Vec::with_capacity(alloc, parcels.len())?;
     for parcel in parcels {
-        messages.push(message_of(alloc, zeros, parcel, &bytes)?)?;
+        messages.push(message_of(parcel, &bytes)?)?;
     }
     Ok(messages)
 }
 
 /// The message of a record.
-fn message_of(
-    alloc: Global,
-    zeros: &mut Zeros,
-    parcel: &Parcel,
-    bytes: &Bytes,
-) -> Result<Outgoing<u64>, Error>
+fn message_of(parcel: &Parcel, bytes: &Bytes) -> Result<Outgoing<u64, Contents>, Error>
     ensures message { IfOk result (λ message. outgoing message ≡ message_at bytes.now parcel.now) }
     ensures refused { IfErr result (λ why. why ≡ Error.OutOfMemory) }
 {
@@ -70,43 +63,26 @@ fn message_of(
         origin: parcel.origin,
         recipient: parcel.recipient,
         channel: parcel.channel,
-        message: part_of(alloc, zeros, bytes, parcel.from, parcel.length)?,
+        message: part_of(bytes, parcel.from, parcel.length)?,
         latency: parcel.latency,
         should_deliver: parcel.should_deliver != 0,
     })
 }
 
-/// As many bytes as are wanted, from one of them on, and zeros where there are too few. They are
-/// shared, but for a part that goes past the end.
-fn part_of(
-    alloc: Global,
-    zeros: &mut Zeros,
-    bytes: &Bytes,
-    from: usize,
-    wanted: usize,
-) -> Result<Bytes, Error>
+/// As many bytes as are wanted, from one of them on, and zeros where there are too few. The bytes are
+/// shared, and the zeros take no memory.
+fn part_of(bytes: &Bytes, from: usize, wanted: usize) -> Result<Contents, Error>
     ensures part { IfOk result (λ part. part ≡ bytes_at bytes.now from wanted) }
     ensures refused { IfErr result (λ why. why ≡ Error.OutOfMemory) }
 {
     let left = bytes.len().saturating_sub(from);
     if left == 0 {
-        return zeros.part(alloc, wanted);
+        return Ok(Contents::zeros(wanted));
     }
     if wanted <= left {
-        return Ok(bytes.slice(from..from + wanted)?);
+        return Ok(bytes.slice(from..from + wanted)?.into_contents());
     }
-    padded(alloc, &bytes.as_slice()[from..], wanted)
-}
-
-/// As many bytes as are wanted, and zeros where there are too few.
-fn padded(alloc: Global, bytes: &[u8], wanted: usize) -> Result<Bytes, Error>
-    ensures padded { IfOk result (λ padded.
-        padded ≡ take wanted bytes.now ++ replicate (wanted - length bytes.now) 0) }
-    ensures refused { IfErr result (λ why. why ≡ Error.OutOfMemory) }
-{
-    let mut padded = Vec::from_slice(alloc, bytes)?;
-    padded.resize(wanted, 0)?;
-    Ok(Bytes::from_vec(padded)?)
+    Ok(Contents::padded(bytes.slice(from..)?, wanted))
 }
 
 /// `State::enqueue_all` of the messages of the records, which have their parts of `bytes`.

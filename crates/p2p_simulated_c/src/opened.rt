@@ -13,20 +13,17 @@ use super::records::{Done, Moment, Wide};
 use super::status::{MADE, OUT_OF_MEMORY, number_of};
 use bytes::Bytes;
 use fair_rates::error::Error;
-use link_scheduler::transmitter::{Completion, State};
-use link_scripts::linkrun::zeros::Zeros;
+use link_scheduler::transmitter::{Completion, Contents, Payload, State};
 use std::alloc::Global;
 
 /// A scheduler of numbered peers, and of the last call that was made on it the completions and the
 /// moment.
 #[derive(Drop)]
 pub struct Opened {
-    pub state: State<u64>,
-    pub completed: Vec<Completion<u64>>,
+    pub state: State<u64, Contents>,
+    pub completed: Vec<Completion<u64, Contents>>,
     /// In nanoseconds since the start, and 0 before any call.
     pub last: u64,
-    /// The messages without bytes of the caller's share these.
-    pub zeros: Zeros,
 }
 
 impl Opened {
@@ -37,10 +34,9 @@ impl Opened {
         ensures last { result.last ≡ 0 }
     {
         Opened {
-            state: State::with_first_id(alloc, first_id),
+            state: State::with_payload(alloc, first_id),
             completed: Vec::new(alloc),
             last: 0,
-            zeros: Zeros::new(),
         }
     }
 
@@ -49,7 +45,7 @@ impl Opened {
     pub(crate) fn keep(
         &mut self,
         now: u64,
-        answer: Result<Vec<Completion<u64>>, Error>,
+        answer: Result<Vec<Completion<u64, Contents>>, Error>,
         count: &mut usize,
     ) -> u32
         ensures state { self.new.state ≡ self.old.state }
@@ -128,17 +124,16 @@ impl Opened {
             origin,
             recipient,
             channel,
-            bytes,
+            bytes.into_contents(),
             latency,
             should_deliver,
         );
         self.keep(now, answer, count)
     }
 
-    /// `State::enqueue` of so many zero bytes.
+    /// `State::enqueue` of so many zero bytes, which take no memory.
     pub fn enqueue_zeros(
         &mut self,
-        alloc: Global,
         now: u64,
         origin: u64,
         recipient: u64,
@@ -151,16 +146,12 @@ impl Opened {
         ensures { Ended (call_enqueue now (sent origin recipient channel (replicate length 0) latency should_deliver))
             result count.new self.old self.new }
     {
-        let Ok(bytes) = self.zeros.part(alloc, length) else {
-            *count = 0;
-            return OUT_OF_MEMORY;
-        };
         let answer = self.state.enqueue(
             now,
             origin,
             recipient,
             channel,
-            bytes,
+            Contents::zeros(length),
             latency,
             should_deliver,
         );
@@ -222,8 +213,19 @@ impl Opened {
         if index >= self.completed.len() {
             return 0;
         }
-        copy(self.completed[index].message.as_slice(), from, out)
+        copy_contents(&self.completed[index].message, from, out)
     }
+}
+
+/// Writes the bytes from `from` on, as many as there is room for, and tells how many.
+fn copy_contents(contents: &Contents, from: usize, out: &mut [u8]) -> usize
+    ensures count { result ≡ min (length (drop from contents.now)) (length out.old) }
+    ensures written { out.new ≡ written (drop from contents.now) out.old }
+{
+    let given = copy(contents.given(), from, out);
+    let count = contents.len().saturating_sub(from).min(out.len());
+    out[given..count].fill(0);
+    count
 }
 
 /// Writes the bytes from `from` on, as many as there is room for, and tells how many.

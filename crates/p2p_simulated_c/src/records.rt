@@ -6,7 +6,7 @@ ghost use Rattle.p2p_simulated_c.specs.Plan.{flow_of, record_of_rate};
 ghost use Rattle.p2p_simulated_c.specs.Records.{cap_of_record, moment_of_record, of_moment, value_of, wide_of, done_of};
 
 use fair_rates::bandwidth::{Flow, Rate};
-use link_scheduler::transmitter::{Completion, InFlight, Reading};
+use link_scheduler::transmitter::{Completion, Contents, InFlight, Reading};
 
 /// A cap in bytes a second, or none where `is_some` is 0.
 #[repr(C)]
@@ -110,7 +110,7 @@ pub struct Done {
 
 impl Done {
     /// The record of a completion.
-    pub fn of(completion: &Completion<u64>) -> Done
+    pub fn of(completion: &Completion<u64, Contents>) -> Done
         ensures { result ≡ done_of completion.now }
     {
         Done {

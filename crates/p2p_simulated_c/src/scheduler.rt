@@ -151,7 +151,6 @@ pub extern "C" fn p2p_enqueue_zeros(
         return CLOSED;
     };
     let status = opened.enqueue_zeros(
-        alloc,
         now,
         origin,
         recipient,

@@ -1,3 +1,4 @@
 pub mod Finding
 pub mod Nexts
+pub mod Popping
 pub mod Slots

@@ -1,6 +1,6 @@
 -- The next row that passes a test, by places and by slots.
 use Rattle.std.proofs.Common.{◌≡◌, ℕ, zero, suc, ◌<◌, ◌≤◌, ◌==◌, Bool, true, false, List, [], ◌∷◌, Option, Some, None, length, map, refl, sym, ap, ◌∙◌, arith}
-use Rattle.std.proofs.Common.{◌||◌, IfSome, IfNone, IsSome, slice_get, slice_index_or, option_map, eq-eqb}
+use Rattle.std.proofs.Common.{◌||◌, IfSome, IfNone, slice_get, slice_index_or, option_map, eq-eqb}
 use Rattle.std.specs.List.{list_any}
 use Rattle.std.proofs.lemmas.Bool.{cases_Bool, cases_lt, eqb-true, le-leb, leb-true}
 use Rattle.std.proofs.lemmas.Option.{slice_get_within}
@@ -12,7 +12,7 @@ use Rattle.row_table.specs.Rows.{passes, IsNext, has_come, is_due_by}
 use Rattle.row_table.specs.Slots.{live, held, filled_from, IsNextSlot, IsPlaceOf}
 use Rattle.row_table.specs.Index.{moment_of}
 use Rattle.row_table.specs.declared.row.Row.{Row}
-use Rattle.row_table.proofs.Slots.{IsSlot, slot_at, held_at, slot_of_row, slots_below, places_below, is_there, some_same}
+use Rattle.row_table.proofs.Slots.{IsSlot, slot_at, held_at, slot_of_row, slots_below, places_below, some_same}
 
 or_true : (a b : Bool) → b ≡ true → (a || b) ≡ true
 or_true true b e = refl

@@ -20,9 +20,6 @@ pub the_entry : {A : Type 0} (o : Option A) → IsSome o → (a : A) × (o ≡ S
 the_entry None e = cc
 the_entry (Some a) e = (a, refl)
 
-pub is_there : {A : Type 0} (o : Option A) (a : A) → o ≡ Some a → IsSome o
-is_there o a e = ap is_some e
-
 module _ {T : Type 0} where
   -- the row at that place is the one that this slot holds
   abbrev pub IsSlot : List (Option (Row T)) → ℕ → ℕ → Type 0

@@ -1,5 +1,6 @@
 //! How the rows of a table are found.
-ghost use Rattle.std.specs.Prelude.{◌≡◌, ◌<◌, ◌≤◌, ◌++◌, ◌∷◌, [], Some, None, length, map, slice_set, OnOk, OnErr, filter, is_some};
+ghost use Rattle.std.specs.Prelude.{◌≡◌, suc, ◌<◌, ◌≤◌, ◌++◌, ◌∷◌, [], Some, None, OnOk, OnErr};
+ghost use Rattle.std.specs.Prelude.{length, map, take, slice_set, filter, is_some};
 ghost use Rattle.chains.specs.Chains.{owner_of};
 ghost use Rattle.row_table.specs.Index.{moment_of, IsSameMark};
 
@@ -97,6 +98,22 @@ impl Index {
         self.received.take(receiver, slot)?;
         self.moments.set(slot, None);
         Ok(())
+    }
+
+    /// The last slot goes. It is empty, and came after the mark.
+    pub(crate) fn pop(&mut self, slot: usize)
+        requires sent { length self.old.sent.before.stands ≤ slot × length self.old.sent.now.stands ≡ suc slot }
+        requires received { length self.old.received.before.stands ≤ slot × length self.old.received.now.stands ≡ suc slot }
+        requires sent_empty { owner_of self.old.sent.now slot ≡ None }
+        requires received_empty { owner_of self.old.received.now slot ≡ None }
+        ensures sent { self.new.sent.now.stands ≡ take slot self.old.sent.now.stands }
+        ensures received { self.new.received.now.stands ≡ take slot self.old.received.now.stands }
+        ensures moments { self.new.moments ≡ take slot self.old.moments }
+        ensures mark { IsSameMark self.old self.new }
+    {
+        self.sent.pop();
+        self.received.pop();
+        self.moments.truncate(slot);
     }
 
     /// A mark is set.

@@ -1,8 +1,10 @@
 //! The parts of a table.
-ghost use Rattle.std.specs.Prelude.{◌≡◌, ℕ, ◌<◌, ◌++◌, ◌∷◌, [], Some, IsSome, IfSome, OnOk, length, remove, slice_get, slice_set};
+ghost use Rattle.std.specs.Prelude.{◌≡◌, ℕ, suc, ◌<◌, ◌++◌, ◌∷◌, [], None, Some};
+ghost use Rattle.std.specs.Prelude.{IsSome, IfSome, IfOk, OnOk, length, remove, reverse, slice_get, slice_set, take};
 ghost use Rattle.row_table.specs.Rows.{with_item};
-ghost use Rattle.row_table.specs.Slots.{live, held, IsPlaceOf};
-ghost use Rattle.row_table.specs.Index.{sender_of, receiver_of, Stands, Marked};
+ghost use Rattle.std.specs.Option.{option_to_list};
+ghost use Rattle.row_table.specs.Slots.{live, held, filled_from, IsPlaceOf};
+ghost use Rattle.row_table.specs.Index.{sender_of, receiver_of, Finds, Stands, Marked};
 
 use super::filled::{place_of, refill};
 use super::index::Index;
@@ -18,10 +20,15 @@ pub(crate) struct Parts<T> {
     // The slots that hold a row, in order: the row at a place is that of the slot at the same place here.
     pub(crate) filled: Vec<usize>,
     pub(crate) index: Index,
+    // At so many slots those that came after the mark are closed up.
+    close_at: usize,
 }
 
 /// So many slots stay empty in any case: to close them up would cost more.
 const FEW: usize = 16;
+
+/// So many slots come in any case before those that came after the mark are closed up.
+const NEW: usize = 64;
 
 impl<T: Drop> Parts<T> {
     /// No row.
@@ -35,6 +42,7 @@ impl<T: Drop> Parts<T> {
             slots: UndoList::new(alloc),
             filled: Vec::new(alloc),
             index: Index::new(alloc),
+            close_at: NEW,
         }
     }
 
@@ -59,6 +67,111 @@ impl<T: Drop> Parts<T> {
 
     /// A row comes. Where memory is refused, part of that is done.
     pub(crate) fn push(&mut self, row: Row<T>) -> Result<(), AllocError>
+        requires stands { Stands self.old }
+        requires marked { Marked self.old }
+        ensures rows { OnOk result (live self.new.slots.items ≡ live self.old.slots.items ++ row ∷ []) }
+        ensures before { self.new.slots.before ≡ self.old.slots.before }
+        ensures stands { OnOk result (Stands self.new) }
+        ensures marked { Marked self.new }
+    {
+        if self.slots.len() >= self.close_at {
+            self.close_new()?;
+        }
+        self.add_row(row)
+    }
+
+    /// The row in the last slot, if it holds one, is found no more. Where memory is refused, part of that is done.
+    fn forget(&mut self, slot: usize) -> Result<(), AllocError>
+        requires stands { Stands self.old }
+        requires marked { Marked self.old }
+        requires last { length self.old.slots.items ≡ suc slot }
+        ensures slots { self.new.slots ≡ self.old.slots }
+        ensures found { OnOk result (Finds self.new.index (slice_set self.old.slots.items slot None)) }
+        ensures filled { OnOk result (self.new.filled.items ≡ filled_from (take slot self.old.slots.items) 0) }
+        ensures marked { Marked self.new }
+    {
+        if self.slots.at(slot).is_none() {
+            return Ok(());
+        }
+        let (sender, receiver) = self.owners_in(slot);
+        self.index.take(slot, sender, receiver)?;
+        self.filled.pop();
+        Ok(())
+    }
+
+    /// The last slot goes, with its row if it holds one. It came after the mark. Where memory is refused, part of that
+    /// is done.
+    fn pop(&mut self) -> Result<Option<Row<T>>, AllocError>
+        requires stands { Stands self.old }
+        requires marked { Marked self.old }
+        requires after { length self.old.slots.before < length self.old.slots.items }
+        ensures rows { IfOk result (λ row. live self.old.slots.items ≡ live self.new.slots.items ++ option_to_list row) }
+        ensures fewer { OnOk result (suc (length self.new.slots.items) ≡ length self.old.slots.items) }
+        ensures before { self.new.slots.before ≡ self.old.slots.before }
+        ensures stands { OnOk result (Stands self.new) }
+        ensures marked { Marked self.new }
+    {
+        let slot = self.slots.len() - 1;
+        self.forget(slot)?;
+        self.index.pop(slot);
+        Ok(self.slots.pop())
+    }
+
+    /// The slots that came after the mark go, and their rows are put behind others, the last first. Where memory is
+    /// refused, part of that is done.
+    fn pop_new(&mut self, rows: &mut Vec<Row<T>>) -> Result<(), AllocError>
+        requires stands { Stands self.old }
+        requires marked { Marked self.old }
+        ensures rows { OnOk result (live self.new.slots.items ++ reverse rows.new.items ≡ live self.old.slots.items ++ reverse rows.old.items) }
+        ensures before { self.new.slots.before ≡ self.old.slots.before }
+        ensures stands { OnOk result (Stands self.new) }
+        ensures marked { Marked self.new }
+    {
+        while self.slots.len() > self.slots.marked_len() {
+            if let Some(row) = self.pop()? {
+                rows.push(row)?;
+            }
+        }
+        Ok(())
+    }
+
+    /// The rows come, the last first. Where memory is refused, part of that is done.
+    fn push_all(&mut self, rows: &mut Vec<Row<T>>) -> Result<(), AllocError>
+        requires stands { Stands self.old }
+        requires marked { Marked self.old }
+        ensures rows { OnOk result (live self.new.slots.items ≡ live self.old.slots.items ++ reverse rows.old.items) }
+        ensures before { self.new.slots.before ≡ self.old.slots.before }
+        ensures stands { OnOk result (Stands self.new) }
+        ensures marked { Marked self.new }
+    {
+        while let Some(row) = rows.pop() {
+            self.add_row(row)?;
+        }
+        Ok(())
+    }
+
+    /// The slots that came after the mark are closed up. Where memory is refused, part of that is done.
+    fn close_new(&mut self) -> Result<(), AllocError>
+        requires stands { Stands self.old }
+        requires marked { Marked self.old }
+        ensures rows { OnOk result (live self.new.slots.items ≡ live self.old.slots.items) }
+        ensures before { self.new.slots.before ≡ self.old.slots.before }
+        ensures stands { OnOk result (Stands self.new) }
+        ensures marked { Marked self.new }
+    {
+        let mut rows = Vec::new(*self.filled.allocator());
+        self.pop_new(&mut rows)?;
+        self.push_all(&mut rows)?;
+        let mark = self.slots.marked_len();
+        let new = self.slots.len() - mark;
+        self.close_at = mark
+            .saturating_add(new.saturating_mul(2))
+            .saturating_add(NEW);
+        Ok(())
+    }
+
+    /// A row comes, in one more slot. Where memory is refused, part of that is done.
+    fn add_row(&mut self, row: Row<T>) -> Result<(), AllocError>
         requires stands { Stands self.old }
         requires marked { Marked self.old }
         ensures rows { OnOk result (live self.new.slots.items ≡ live self.old.slots.items ++ row ∷ []) }
@@ -145,6 +258,7 @@ impl<T: Drop> Parts<T> {
         ensures stands { Stands self.new }
         ensures marked { Marked self.new }
     {
+        self.close_at = self.slots.len().saturating_add(NEW);
         if self.has_many_gaps() {
             self.slots.commit_kept(|slot| slot.is_some());
             self.index.close_gaps(self.slots.as_slice());
@@ -164,6 +278,7 @@ impl<T: Drop> Parts<T> {
         ensures marked { Marked self.new }
     {
         self.slots.undo();
+        self.close_at = self.slots.len().saturating_add(NEW);
         let slots = self.slots.as_slice();
         self.index.undo(slots);
         refill(&mut self.filled, slots);

@@ -1,5 +1,6 @@
 //! A table of rows.
-ghost use Rattle.std.specs.Prelude.{◌≡◌, ℕ, suc, ◌<◌, ◌==◌, ◌++◌, ◌∷◌, [], Some, option_map, length, remove, slice_get, slice_set};
+ghost use Rattle.std.specs.Prelude.{◌≡◌, ℕ, suc, ◌<◌, ◌==◌, ◌++◌, ◌∷◌, [], Some};
+ghost use Rattle.std.specs.Prelude.{option_map, length, remove, slice_get, slice_set};
 ghost use Rattle.std.specs.Prelude.{IfSome, OnOk, OnErr};
 ghost use Rattle.std.specs.List.{list_any};
 ghost use Rattle.row_table.specs.Rows.{with_item, has_come, IsNext};

@@ -401,3 +401,27 @@ fn a_table_is_a_list(rt: HostRuntime) -> Result<(), Fail> {
     }
     Ok(())
 }
+
+/// Within a mark 600 rows come and go, with four or five there at once, in another order than they came; then all is
+/// taken back.
+#[test]
+fn many_come_and_go_within_a_mark(rt: HostRuntime) -> Result<(), Fail> {
+    let mut both = Both::new(rt.alloc());
+    let mut state = 7;
+    for _ in 0..4 {
+        let row = draw_row(&mut state);
+        step(&mut both.table, &mut both.plain, 0, 0, row)?;
+    }
+    both.commit()?;
+    for _ in 0..600 {
+        let (comes, leaves) = (draw_row(&mut state), draw_row(&mut state));
+        step(&mut both.table, &mut both.plain, 0, 0, comes)?;
+        both.compare(&rt, &mut state);
+        let at = (draw(&mut state) % 5) as usize;
+        step(&mut both.table, &mut both.plain, at, 15, leaves)?;
+        both.compare(&rt, &mut state);
+    }
+    both.undo()?;
+    both.compare(&rt, &mut state);
+    Ok(())
+}

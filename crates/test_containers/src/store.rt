@@ -1,6 +1,6 @@
 //! A store of two lists that change together or not at all.
 
-ghost use Rattle.std.specs.Prelude.{◌≡◌, ◌<◌, ◌++◌, ◌∷◌, [], length, OnOk, OnErr, slice_set, slice_index};
+ghost use Rattle.std.specs.Prelude.{◌≡◌, ◌<◌, ◌++◌, ◌∷◌, [], length, OnOk, OnErr};
 ghost use Rattle.test_containers.specs.Stored.{IsMarked, moved, with_move};
 
 use std::alloc::{AllocError, Global};

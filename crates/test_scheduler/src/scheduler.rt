@@ -4,6 +4,7 @@ mod apart;
 mod batches;
 pub(crate) mod calls;
 mod clones;
+mod contents;
 mod ends;
 mod idle;
 mod kept;

@@ -4,23 +4,27 @@ ghost use Rattle.std.specs.Ordering.{nat_cmp};
 ghost use Rattle.p2p_simulated.specs.Calls.State.{planned_of};
 ghost use Rattle.uses.specs.Worlds.{IsAWorldAt};
 
-use bytes::Bytes;
 use p2p_simulated::error::Error;
 use p2p_simulated::model::simulated::calls_before_the_next_event_are_in_turn;
-use p2p_simulated::transmitter::State;
+use p2p_simulated::transmitter::{Payload, State};
 use std::alloc::Global;
 
-/// A new scheduler in which peer 1 is limited and has sent a message to peer 2: both calls came in
-/// turn, so it stands for a world of the simulation, and its next calls answer what that does.
+/// A new scheduler in which peer 1 is limited and has sent a message to peer 2, which may be `Bytes`, or
+/// `Contents`, a length alone: both calls came in turn, so it stands for a world of the simulation, and
+/// its next calls answer what that does.
 ///
 /// # Errors
 ///
 /// As of `State::limit` and `State::enqueue`.
-pub fn with_one_message(alloc: Global, cap: usize, message: Bytes) -> Result<State<u64>, Error>
+pub fn with_one_message<M: Payload>(
+    alloc: Global,
+    cap: usize,
+    message: M,
+) -> Result<State<u64, M>, Error>
     ensures stands { IfOk result (λ state. IsAWorldAt nat_cmp (planned_of state) 0) }
 {
     calls_before_the_next_event_are_in_turn::<u64>();
-    let mut state = State::new(alloc);
+    let mut state = State::with_payload(alloc, 0);
     state.limit(0, &1, Some(cap), None)?;
     state.enqueue(0, 1, 2, 0, message, 0, true)?;
     Ok(state)
@@ -32,11 +36,11 @@ pub fn with_one_message(alloc: Global, cap: usize, message: Bytes) -> Result<Sta
 /// # Errors
 ///
 /// As of `with_one_message` and `State::advance`.
-pub fn at_the_first_event(
+pub fn at_the_first_event<M: Payload>(
     alloc: Global,
     cap: usize,
-    message: Bytes,
-) -> Result<(State<u64>, u64), Error>
+    message: M,
+) -> Result<(State<u64, M>, u64), Error>
     ensures stands { IfOk result (λ answer. IsAWorldAt nat_cmp (planned_of answer.0) answer.1) }
 {
     let mut state = with_one_message(alloc, cap, message)?;

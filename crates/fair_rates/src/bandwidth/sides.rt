@@ -1,11 +1,11 @@
 //! What limits flows: the sides that the caps make.
-ghost use Rattle.std.specs.Prelude.{◌≡◌, OnOk, ◌<◌, [], ◌∷◌, List, Some, IfOk, IfSome, IfErr, map, All, AllPairs, length, true};
-ghost use Rattle.std.specs.Prelude.{false, Option, None, ℕ};
+ghost use Rattle.std.specs.Prelude.{◌≡◌, OnOk, ◌<◌, [], ◌∷◌, List, Some, IfOk, IfSome, IfErr, map, All, AllPairs, length};
+ghost use Rattle.std.specs.Prelude.{Option, None};
 ghost use Rattle.std.specs.Fn.{CalledAt, TakesAt, CalledAtTwo, TakesAtTwo};
 ghost use Rattle.fair_rates.specs.Sides.Answers.{Answered, AnswerInOrder, CallableOnEach, CallableOnEachPair, origins};
 ghost use Rattle.fair_rates.specs.Sides.Answers.{recipients, pairs};
 ghost use Rattle.fair_rates.specs.Sides.Ends.{answered_for};
-ghost use Rattle.fair_rates.specs.Sides.Subjects.{sides_of, asks_of_one, same_subject};
+ghost use Rattle.fair_rates.specs.Sides.Subjects.{sides_of, asks_of_one};
 ghost use Rattle.fair_rates.specs.Sides.Subjects.{sent_between};
 ghost use Rattle.fair_rates.specs.Sides.Caps.{cap_on};
 ghost use Rattle.fair_rates.specs.Sides.SideOf.{side_of};

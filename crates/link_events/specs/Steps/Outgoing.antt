@@ -15,6 +15,10 @@ sent origin recipient channel bytes latency should_deliver =
       should_deliver = should_deliver;
     }
 
--- a message to send
+-- a message to send, where what it has stands for those bytes
+abbrev pub outgoing_by : {P M : Type 0} → (M → List ℕ) → Outgoing P M → Message P
+outgoing_by bytes m = sent m.origin m.recipient m.channel (bytes m.message) m.latency m.should_deliver
+
+-- and where it has the bytes
 abbrev pub outgoing : {P : Type 0} → Outgoing P (List ℕ) → Message P
-outgoing m = sent m.origin m.recipient m.channel m.message m.latency m.should_deliver
+outgoing m = outgoing_by (λ bytes. bytes) m

@@ -1,5 +1,5 @@
 -- What is loose, step by step.
-use Rattle.std.proofs.Common.{◌≡◌, ℕ, ◌+◌, ◌<◌, Bool, true, List, [], ◌∷◌, Option, Some, None, length}
+use Rattle.std.proofs.Common.{◌≡◌, ℕ, ◌+◌, ◌<◌, true, List, [], ◌∷◌, Option, Some, None, length}
 use Rattle.std.proofs.Common.{get_or, ◌++◌, Contains, refl, sym, ap, ◌∙◌, subst, arith, inl, inr, map}
 use Rattle.std.specs.Prelude.{slice_get}
 use Rattle.std.specs.Cmp.{IsTotalOrder}
@@ -18,7 +18,7 @@ use Rattle.link_flights.specs.declared.table.End.TheVariants.{Origin, Recipient}
 use Rattle.link_flights.specs.Flights.Flight.{UnitFlight, flight_at, flights_at}
 use Rattle.link_flights.specs.Flights.InFlight.{in_units, loose_in, IsNextPlace, PassesFirstAt}
 use Rattle.link_flights.specs.Flights.Rated.{IsLoose}
-use Rattle.link_flights.specs.Flights.Loose.{is_at_end, AreStillLoose, IsLooseAt, Loosens, LoosensAt}
+use Rattle.link_flights.specs.Flights.Loose.{is_at_end, AreStillLoose, IsLooseAt, LoosensAt}
 use Rattle.link_flights.specs.Flights.Table.{share}
 use Rattle.link_flights.proofs.Flights.Places.{one_there}
 use Rattle.link_flights.proofs.Flights.Rows.{end_of}

@@ -118,6 +118,7 @@ module _ {P : Type 0} (cmp : P → P → Ordering) (caps : Caps P) (component : 
         timed = r.timed;
       }
 
+module _ {P : Type 0} (cmp : P → P → Ordering) (caps : Caps P) where
   -- what follows changes none of it
   pub still_given : {a : _} {b : _} {c : _} (old new last : Flights P a b c) → last.list.items ≡ new.list.items
       → last.scale ≡ new.scale → last.at ≡ new.at → HaveFairRates cmp caps old new → HaveFairRates cmp caps old last

@@ -1,6 +1,6 @@
 -- What is in flight as rows: what is found among rows is found among messages.
 use Rattle.std.proofs.Common.{add-one, ◌+◌, ◌≡◌, ℕ, zero, suc, ◌<◌, ◌≤◌, Bool, true, false, cond, ◌&&◌, ◌||◌, List, [], ◌∷◌, ◌++◌, length}
-use Rattle.std.proofs.Common.{eqb, ltb, ◌-◌, get_or, take, drop, Option, Some, None, IfSome, Result, Ok, Err, OnOk, OnErr, All, refl, sym, ap, ap₂, subst, ◌∙◌, arith}
+use Rattle.std.proofs.Common.{eqb, ◌-◌, get_or, take, drop, Option, Some, None, IfSome, Result, Ok, Err, OnOk, OnErr, All, refl, sym, ap, ap₂, subst, ◌∙◌, arith}
 use Rattle.std.specs.List.{list_any, slice_get, remove}
 use Rattle.std.specs.Result.{is_err}
 use Rattle.std.specs.declared.cmp.Ordering.{Ordering}
@@ -9,8 +9,7 @@ use Rattle.std.proofs.lemmas.List.{map-append, length-map, take-map, drop-map}
 use Rattle.std.proofs.lemmas.List.Elements.{All-head, All-tail, All-append, All-take, All-drop, All-weaker}
 use Rattle.std.proofs.lemmas.List.Folds.{list_any_at, list_any_none}
 use Rattle.std.proofs.lemmas.Option.{get_or_from_slice_get}
-use Rattle.std.proofs.lemmas.Bool.{eqb-true, eqb-false, ltb-true, ltb-false}
-use Rattle.fair_rates.proofs.Lists.Booleans.{by_bool, first_of_both, second_of_both}
+use Rattle.fair_rates.proofs.Lists.Booleans.{first_of_both}
 use Rattle.fair_rates.specs.Sides.Subjects.{same_peer}
 use Rattle.peer_numbers.specs.Peers.{number_of, IsWithPeer}
 use Rattle.peer_numbers.proofs.Peers.{same_number, other_peer, number_stays}

@@ -6,7 +6,7 @@ use Rattle.std.specs.Cmp.{IsTotalOrder}
 use Rattle.std.specs.Option.{option_and_then}
 use Rattle.std.specs.Ordering.{is_eq}
 use Rattle.std.specs.declared.cmp.Ordering.{Ordering}
-use Rattle.std.proofs.lemmas.List.Elements.{All-head, All-tail, All-append, All-replicate, All-set}
+use Rattle.std.proofs.lemmas.List.Elements.{All-head, All-tail, All-append, All-replicate}
 use Rattle.std.proofs.lemmas.Option.{slice_get_within}
 use Rattle.undo_list.specs.Versions.{Versions}
 use Rattle.fair_rates.proofs.Lists.Sorted.{either}

@@ -1,5 +1,5 @@
 -- How a message and a completion in the code are read.
-use Rattle.std.specs.Prelude.{List, map}
+use Rattle.std.specs.Prelude.{ℕ, List, map}
 use Rattle.std.specs.declared.alloc.Global.{Global}
 use Rattle.std.specs.declared.rc.Rc.{Rc}
 use Rattle.link_simulation.specs.Simulation.Messages.{Message}
@@ -27,16 +27,20 @@ pair_of m = (m.origin, m.recipient)
 abbrev pub messages : {P : Type 0} → List (Rc (code.Message P) Global) → List (Message P)
 messages ms = map (λ m. message_of m.value) ms
 
--- a completion as it is answered
-abbrev pub completed_of : {P : Type 0} → Completion P → Completed P
-completed_of c = record {
+-- a completion as it is answered, where what it gives back stands for those bytes
+abbrev pub completed_by : {P M : Type 0} → (M → List ℕ) → Completion P M → Completed P
+completed_by bytes c = record {
   origin = c.origin;
   recipient = c.recipient;
   channel = c.channel;
-  bytes = c.message;
+  bytes = bytes c.message;
   done_at = c.done_at;
   deliver_at = c.deliver_at;
 }
+
+-- and where it gives back the bytes
+abbrev pub completed_of : {P : Type 0} → Completion P (List ℕ) → Completed P
+completed_of c = completed_by (λ bytes. bytes) c
 
 -- a message that is done, as its completion
 abbrev pub ended_of : {P : Type 0} → Ended P → Completed P

@@ -8,9 +8,9 @@ use super::track::{Seen, Sent, Track};
 use fair_rates::error::Error;
 use fair_rates::ratio::Ratio;
 use link_scheduler::replay::{Call, Reply};
-use link_scheduler::transmitter::{Completion, InFlight, Outgoing, State};
+use link_scheduler::transmitter::{Completion, Contents, InFlight, Outgoing, State};
 use link_scripts::linkrun::command::Command;
-use link_scripts::linkrun::zeros::Zeros;
+use link_scripts::linkrun::fill::fill;
 use std::alloc::Global;
 use std::collections::BTreeMap;
 
@@ -30,8 +30,7 @@ const LATER_PART: u64 = 4;
 #[derive(Drop)]
 pub(crate) struct History {
     alloc: Global,
-    scheduler: State<u64>,
-    zeros: Zeros,
+    scheduler: State<u64, Contents>,
     /// Messages of one moment that are still to be sent, by one call.
     gathered: Vec<Outgoing<u64, usize>>,
     gathered_at: u64,
@@ -64,8 +63,7 @@ impl History {
     pub(crate) fn new(alloc: Global, keeps_readings: bool) -> History {
         History {
             alloc,
-            scheduler: State::new(alloc),
-            zeros: Zeros::new(),
+            scheduler: State::with_payload(alloc, 0),
             gathered: Vec::new(alloc),
             gathered_at: 0,
             first: None,
@@ -201,7 +199,7 @@ impl History {
     fn try_change(&mut self, call: &Call<u64, usize>) -> Result<bool, Error> {
         self.pass(moment_of(call))?;
         self.last = self.last.max(self.now);
-        match self.zeros.fill(self.alloc, call)?.make(&mut self.scheduler) {
+        match fill(self.alloc, call)?.make(&mut self.scheduler) {
             Ok(reply) => {
                 self.note(call)?;
                 if let Reply::Done(completions) = reply {
@@ -308,7 +306,7 @@ impl History {
     }
 
     /// Takes what an advance answered.
-    fn take(&mut self, answer: Result<Vec<Completion<u64>>, Error>) -> Result<(), Error> {
+    fn take(&mut self, answer: Result<Vec<Completion<u64, Contents>>, Error>) -> Result<(), Error> {
         match answer {
             Ok(completions) => self.finish(&completions),
             Err(Error::OutOfMemory) => Err(Error::OutOfMemory),
@@ -357,7 +355,7 @@ impl History {
     }
 
     /// A call was made, and these messages are done now.
-    fn finish(&mut self, completions: &[Completion<u64>]) -> Result<(), Error> {
+    fn finish(&mut self, completions: &[Completion<u64, Contents>]) -> Result<(), Error> {
         let now = self.now;
         let is_exact = !self.is_behind;
         self.is_stale = true;

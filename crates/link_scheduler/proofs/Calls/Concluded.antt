@@ -35,10 +35,11 @@ if_ok_map (Ok x) f h = f x h
 if_ok_map (Err e) f h = tt
 
 -- schedulers are the same where their ledgers are
-pub same_state : {P : Type 0} {a : _} {b : _} {c : _} → Coded P → (old new : State P a b c)
+pub same_state : {P M : Type 0} {a : _} {b : _} {c : _} → Coded P → (old new : State P M a b c)
     → new.ledger ≡ old.ledger → new ≡ old
-same_state {P} {a} coded old new e = λ i. record {
+same_state {P} {M} {a} coded old new e = λ i. record {
   ledger = e i;
+  of = new.of;
   caps =
       is_prop→PathP (λ j. CapsAlike a.cmp (planned a.cmp (e j)).caps (planned a.cmp (e j)).caps) (λ j. hlevel props)
       new.caps old.caps i;
@@ -121,7 +122,7 @@ module _ {P : Type 0} (cmp : P → P → Ordering) (order : IsTotalOrder cmp) wh
         back right orderly (refused_on_copy cmp order p begun (call_advance now) now e refl fits same may)
 
 -- a call that began on what was kept of a scheduler, went on there, and was concluded with an answer
-module _ {P : Type 0} {a : Ghosts P} {b : _} {c : _} (order : IsTotalOrder a.cmp) (old : State P a b c) (kept : Kept P)
+module _ {P M : Type 0} {a : Ghosts P} {b : _} {c : _} (order : IsTotalOrder a.cmp) (old : State P M a b c) (kept : Kept P)
     (there new : Ledger P a b c) (so : IsKeptOf old.ledger kept (before_of old.ledger))
     (before : before_of there ≡ before_of old.ledger) {X : Type 0} (r : Result X Error)
     (is : OnOk r (planned a.cmp new ≡ planned a.cmp there)) (back : OnErr r (IsPutBack there kept new)) where
@@ -132,7 +133,7 @@ module _ {P : Type 0} {a : Ghosts P} {b : _} {c : _} (order : IsTotalOrder a.cmp
   planned_back = on_err_map r (ap (planned a.cmp)) put_back
 
   -- where it is refused, the scheduler is as it was
-  pub unchanged : Coded P → (after : State P a b c) → after.ledger ≡ new → OnErr r (after ≡ old)
+  pub unchanged : Coded P → (after : State P M a b c) → after.ledger ≡ new → OnErr r (after ≡ old)
   unchanged coded after e = on_err_map r (λ f. same_state coded old after (e ∙ f)) put_back
 
   pub call_is : (of : X → List (Completed P)) (call : Call P) (now : ℕ) → now < 2 ^ 64 → moment_of call ≡ Some now

@@ -1,5 +1,5 @@
 -- What a scheduler promises of a call, from what it keeps.
-use Rattle.std.proofs.Common.{◌≡◌, ℕ, ◌<◌, ◌^◌, List, Option, Some, Result, Ok, Err, OnOk, OnErr, refl, sym, subst}
+use Rattle.std.proofs.Common.{◌≡◌, ℕ, ◌<◌, ◌^◌, List, Option, Some, refl, sym, subst}
 use Rattle.std.specs.declared.cmp.Ordering.{Ordering}
 use Rattle.std.specs.Cmp.{IsTotalOrder}
 use Rattle.std.proofs.Math.Logic.{∥∥₁_map}
@@ -18,7 +18,6 @@ use Rattle.link_simulation.specs.Rule.Simulated.{IsNextInSimulation, IsSplitAnyw
 use Rattle.link_simulation.proofs.Rule.RepliesInRange.{new_in_range}
 use Rattle.link_simulation.proofs.Laws.BytesStand.{advance_keeps_to_caps}
 use Rattle.link_simulation.proofs.Laws.ConservedAlike.{goes_conserved}
-use Rattle.link_simulation.proofs.Laws.MostEvents.{obeys_right}
 use Rattle.link_simulation.proofs.Rule.Limit.{new_stands}
 use Rattle.link_simulation.proofs.Laws.Orderly.{new_orderly, obeys_orderly}
 use Rattle.link_simulation.proofs.Laws.OrderlyAlike.{orderly_same, goes_orderly}

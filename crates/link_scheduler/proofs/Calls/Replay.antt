@@ -255,8 +255,8 @@ module _ {P : Type 0} (cmp : P → P → Ordering) (order : IsTotalOrder cmp) wh
   one_for_each p (call_advance now ∷ calls) (reply_next t ∷ replies) h = absurd h
 
 -- what a scheduler answers, or refuses, is a reply by the event rule
-module _ {P : Type 0} {order : Ghosts P} {b : _} {c : _} (old new : State P order b c) where
-  pub answered_by_rule : (call : Call P) (reply : reply_code.Reply P) → IsAnswered old call reply new
+module _ {P : Type 0} {order : Ghosts P} {b : _} {c : _} (old new : State P (List ℕ) order b c) where
+  pub answered_by_rule : (call : Call P) (reply : reply_code.Reply P (List ℕ)) → IsAnswered old call reply new
       → IsReplyTo order.cmp (planned_of old) call (reply_of reply) (planned_of new)
   answered_by_rule call_next (replies.Next moment) h = (h.0.planned, ap planned_of h.1)
   answered_by_rule call_next (replies.Done completions) h = h

@@ -7,9 +7,9 @@ use Rattle.fair_rates.specs.declared.error.Error.{Error}
 use Rattle.link_scheduler.specs.declared.transmitter.State.{State}
 use Rattle.link_pairs.specs.declared.completion.Completion.{Completion}
 use Rattle.link_events.specs.declared.outgoing.Outgoing.{Outgoing}
-pub use Rattle.link_events.specs.Steps.Outgoing.{sent, outgoing}
+pub use Rattle.link_events.specs.Steps.Outgoing.{sent, outgoing, outgoing_by}
 use Rattle.link_simulation.specs.Laws.Conserved.{IsConserved}
-use Rattle.link_pairs.specs.Pairs.Messages.{completed_of}
+use Rattle.link_pairs.specs.Pairs.Messages.{completed_by}
 use Rattle.link_simulation.specs.Rule.SamePlanned.{GoesByRule, AdvancesByRule}
 use Rattle.link_simulation.specs.Rule.Simulated.{IsSimulated, KeepsRange, IsRefusedInSimulation, IsNextInSimulation}
 use Rattle.link_simulation.specs.Rule.Simulated.{IsSplitAnywhere, KeepsToCaps}
@@ -22,9 +22,13 @@ use Rattle.link_simulation.specs.Rule.Range.{IsInRange}
 use Rattle.link_simulation.specs.Rule.Refusals.{MayBeRefused}
 use Rattle.link_simulation.specs.Rule.StandsFor.{StandsFor}
 
--- the calls that send those messages at that moment, one after another
+-- the calls that send those messages at that moment, one after another; what they have stands for those bytes
+abbrev pub sends_by : {P M : Type 0} → (M → List ℕ) → ℕ → List (Outgoing P M) → List (Call P)
+sends_by bytes now messages = map (λ m. call_enqueue now m) (map (outgoing_by bytes) messages)
+
+-- and where they have the bytes
 abbrev pub sends : {P : Type 0} → ℕ → List (Outgoing P (List ℕ)) → List (Call P)
-sends now messages = map (λ m. call_enqueue now m) (map outgoing messages)
+sends now messages = sends_by (λ bytes. bytes) now messages
 
 module _ {P : Type 0} (cmp : P → P → Ordering) where
   -- a call that is made leads from the planned world p to q, with those completions
@@ -64,56 +68,84 @@ module _ {P : Type 0} (cmp : P → P → Ordering) where
 
 -- ---- of schedulers
 
-module _ {P : Type 0} {order : Ghosts P} {b : _} {c : _} where
+module _ {P M : Type 0} {order : Ghosts P} {b : _} {c : _} where
   -- the planned world that a scheduler is read as
-  abbrev pub planned_of : State P order b c → Planned P
+  abbrev pub planned_of : State P M order b c → Planned P
   planned_of s = planned order.cmp s.ledger
 
   -- nothing is limited and nothing was sent; flow ids begin at `first`
-  pub record IsNew (s : State P order b c) (first : ℕ) : Type 0 where
+  pub record IsNew (s : State P M order b c) (first : ℕ) : Type 0 where
     pub planned : planned_of s ≡ new_planned first
     -- it stands for the new world of the simulation
     pub stands : StandsFor order.cmp (planned_of s) (new_world first)
     pub in_range : IsInRange (planned_of s)
 
-  -- the call was made, and answered so
-  abbrev pub IsMade : State P order b c → Call P → List (Completion P) → State P order b c → Type 0
-  IsMade old call done new = Makes order.cmp (planned_of old) call (map completed_of done) (planned_of new)
+  -- the call was made, and answered so, where what comes back of messages stands for those bytes
+  abbrev pub IsMadeBy : (M → List ℕ) → State P M order b c → Call P → List (Completion P M) → State P M order b c
+      → Type 0
+  IsMadeBy bytes old call done new =
+      Makes order.cmp (planned_of old) call (map (completed_by bytes) done) (planned_of new)
 
   -- the call may be refused so
-  abbrev pub IsRefused : State P order b c → Call P → Error → Type 0
+  abbrev pub IsRefused : State P M order b c → Call P → Error → Type 0
   IsRefused s call why = Refuses order.cmp (planned_of s) call why
 
   -- the calls were made one after another, and answered so in all
-  abbrev pub AreMade : State P order b c → List (Call P) → List (Completion P) → State P order b c → Type 0
-  AreMade old calls done new = MakesEach order.cmp (planned_of old) calls (map completed_of done) (planned_of new)
+  abbrev pub AreMadeBy : (M → List ℕ) → State P M order b c → List (Call P) → List (Completion P M)
+      → State P M order b c → Type 0
+  AreMadeBy bytes old calls done new =
+      MakesEach order.cmp (planned_of old) calls (map (completed_by bytes) done) (planned_of new)
 
   -- of the calls one after another, some one may be refused so
-  abbrev pub IsOneRefused : State P order b c → List (Call P) → Error → Type 0
+  abbrev pub IsOneRefused : State P M order b c → List (Call P) → Error → Type 0
   IsOneRefused s calls why = RefusesOne order.cmp (planned_of s) calls why
 
   -- what else an advance promises: to advance to any moment on the way, and then on, is the same, and no origin sends
   -- more than its cap lets go
-  pub record IsAdvanced (old : State P order b c) (now : ℕ) (done : List (Completion P))
-      (new : State P order b c) : Type 0 where
-    pub split : IsSplitAnywhere order.cmp (planned_of old) now (map completed_of done) (planned_of new)
+  pub record IsAdvancedBy (bytes : M → List ℕ) (old : State P M order b c) (now : ℕ) (done : List (Completion P M))
+      (new : State P M order b c) : Type 0 where
+    pub split : IsSplitAnywhere order.cmp (planned_of old) now (map (completed_by bytes) done) (planned_of new)
     pub within_caps : KeepsToCaps order.cmp (planned_of old) now (planned_of new)
 
   -- the advance went through so many events: at most two for each message that waited, and one for each in flight
-  pub record IsCounted (old : State P order b c) (now : ℕ) (events : ℕ) (done : List (Completion P))
-      (new : State P order b c) : Type 0 where
-    pub by_rule : AdvancesByRule order.cmp now (planned_of old) events (map completed_of done) (planned_of new)
+  pub record IsCountedBy (bytes : M → List ℕ) (old : State P M order b c) (now : ℕ) (events : ℕ)
+      (done : List (Completion P M)) (new : State P M order b c) : Type 0 where
+    pub by_rule :
+        AdvancesByRule order.cmp now (planned_of old) events (map (completed_by bytes) done) (planned_of new)
     pub few : events ≤ 2 * length (planned_of old).waiting + length (planned_of old).sending
 
   -- no event is due up to that moment, and no waiting message may start at it
-  abbrev pub IsQuietUntil : ℕ → State P order b c → Type 0
+  abbrev pub IsQuietUntil : ℕ → State P M order b c → Type 0
   IsQuietUntil now s = HasNothingDue order.cmp (planned_of s) now
 
   -- that is the moment of the next event: the planned one, and the simulation's
-  pub record IsNextOf (s : State P order b c) (next : Option ℕ) : Type 0 where
+  pub record IsNextOf (s : State P M order b c) (next : Option ℕ) : Type 0 where
     pub planned : next ≡ next_event (planned_of s)
     pub simulated : IsNextInSimulation order.cmp (planned_of s) next
 
   -- how many of the messages in flight were rated anew at the last account, as they were counted
-  abbrev pub rated_at_last : State P order b c → ℕ
+  abbrev pub rated_at_last : State P M order b c → ℕ
   rated_at_last s = s.ledger.flights.rated_anew
+
+-- ---- of schedulers whose messages are bytes
+
+module _ {P : Type 0} {order : Ghosts P} {b : _} {c : _} where
+  -- the call was made, and answered so
+  abbrev pub IsMade : State P (List ℕ) order b c → Call P → List (Completion P (List ℕ))
+      → State P (List ℕ) order b c → Type 0
+  IsMade old call done new = IsMadeBy (λ bytes. bytes) old call done new
+
+  -- the calls were made one after another, and answered so in all
+  abbrev pub AreMade : State P (List ℕ) order b c → List (Call P) → List (Completion P (List ℕ))
+      → State P (List ℕ) order b c → Type 0
+  AreMade old calls done new = AreMadeBy (λ bytes. bytes) old calls done new
+
+  -- what else an advance promises
+  abbrev pub IsAdvanced : State P (List ℕ) order b c → ℕ → List (Completion P (List ℕ))
+      → State P (List ℕ) order b c → Type 0
+  IsAdvanced old now done new = IsAdvancedBy (λ bytes. bytes) old now done new
+
+  -- the advance went through so many events
+  abbrev pub IsCounted : State P (List ℕ) order b c → ℕ → ℕ → List (Completion P (List ℕ))
+      → State P (List ℕ) order b c → Type 0
+  IsCounted old now events done new = IsCountedBy (λ bytes. bytes) old now events done new

@@ -11,7 +11,7 @@ use crate::linkrun::ending::Ending;
 use fair_rates::bandwidth::Rate;
 use fair_rates::error::Error;
 use link_scheduler::replay::Reply;
-use link_scheduler::transmitter::Completion;
+use link_scheduler::transmitter::{Completion, Contents};
 use std::collections::BTreeMap;
 use std::io;
 use std::io::Write;
@@ -25,7 +25,7 @@ pub(crate) enum Answer {
     /// Rates in bytes a second, and the numbers of the flows over routes.
     Routes(Vec<(u64, Rate)>),
     /// What the scheduler replied.
-    Reply(Reply<u64>),
+    Reply(Reply<u64, Contents>),
 }
 
 /// Prints what a command answered, or why it was refused, a line each.
@@ -45,7 +45,7 @@ pub(crate) fn print<W: Write>(output: &mut W, answer: Result<Answer, Error>) -> 
 }
 
 /// Prints what the scheduler replied, a line each.
-pub fn print_reply<W: Write>(output: &mut W, reply: &Reply<u64>) -> io::Result<()>
+pub fn print_reply<W: Write>(output: &mut W, reply: &Reply<u64, Contents>) -> io::Result<()>
     ensures { OnOk result (Appends (W.contents output.old) (W.contents output.new) (reply_text (reply_of reply.now))) }
 {
     match reply {
@@ -98,7 +98,10 @@ fn print_rate<W: Write>(output: &mut W, id: u64, rate: Rate) -> io::Result<()>
 }
 
 /// Prints what became of messages, a line each.
-fn print_completions<W: Write>(output: &mut W, completions: &[Completion<u64>]) -> io::Result<()>
+fn print_completions<W: Write>(
+    output: &mut W,
+    completions: &[Completion<u64, Contents>],
+) -> io::Result<()>
     ensures { OnOk result (Appends (W.contents output.old) (W.contents output.new) (done_text
         (map completed_of completions.now))) }
 {
@@ -109,7 +112,10 @@ fn print_completions<W: Write>(output: &mut W, completions: &[Completion<u64>]) 
 }
 
 /// Prints what became of a message.
-fn print_completion<W: Write>(output: &mut W, completion: &Completion<u64>) -> io::Result<()>
+fn print_completion<W: Write>(
+    output: &mut W,
+    completion: &Completion<u64, Contents>,
+) -> io::Result<()>
     ensures { OnOk result (Appends (W.contents output.old) (W.contents output.new) (done_line
         (completed_of completion.now))) }
 {

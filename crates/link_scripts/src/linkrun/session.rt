@@ -19,13 +19,12 @@ ghost use Rattle.link_simulation.specs.Simulation.Calls.{call_enqueue_all};
 use crate::linkrun::answer::Answer;
 use crate::linkrun::command::{Command, NetworkLine};
 use crate::linkrun::schedule;
-use crate::linkrun::zeros::Zeros;
 use fair_rates::bandwidth;
 use fair_rates::bandwidth::{Flow, Rate};
 use fair_rates::error::Error;
 use fair_routes::routes::network::Network;
 use link_scheduler::replay::Reply;
-use link_scheduler::transmitter::{Outgoing, State};
+use link_scheduler::transmitter::{Contents, Outgoing, State};
 use std::alloc::Global;
 use std::collections::BTreeMap;
 
@@ -41,9 +40,7 @@ pub(crate) struct Session {
     links: BTreeMap<(u64, u64), u128>,
     /// Links that flows over routes use, which have numbers and caps of their own.
     network: Network,
-    scheduler: State<u64>,
-    /// The bytes of its messages.
-    zeros: Zeros,
+    scheduler: State<u64, Contents>,
 }
 
 impl Session {
@@ -60,8 +57,7 @@ impl Session {
             ingress: BTreeMap::new(alloc),
             links: BTreeMap::new(alloc),
             network: Network::new(alloc),
-            scheduler: State::new(alloc),
-            zeros: Zeros::new(),
+            scheduler: State::with_payload(alloc, 0),
         }
     }
 
@@ -85,12 +81,7 @@ impl Session {
             Command::Network(line) => tell(&mut self.network, line)?,
             Command::Routes => return Ok(Answer::Routes(self.network.rates()?)),
             Command::Schedule(call) => {
-                let reply = schedule::make(
-                    self.alloc,
-                    &mut self.zeros,
-                    &mut self.scheduler,
-                    &call,
-                )?;
+                let reply = schedule::make(self.alloc, &mut self.scheduler, &call)?;
                 return Ok(Answer::Reply(reply));
             }
         }
@@ -102,7 +93,7 @@ impl Session {
         &mut self,
         now: u64,
         messages: &[Outgoing<u64, usize>],
-    ) -> Result<Reply<u64>, Error>
+    ) -> Result<Reply<u64, Contents>, Error>
         ensures one_by_one { IfOk result (λ reply. AnswersEach (zeroed_sends now messages.now) self.old.scheduler reply
             self.new.scheduler) }
         ensures at_once { IfOk result (λ reply. IsAnswered self.old.scheduler
@@ -112,13 +103,7 @@ impl Session {
         ensures refused { IfErr result (MayRefuseCall self.old.scheduler
             (call_enqueue_all now (map zeroed messages.now))) }
     {
-        schedule::send_all(
-            self.alloc,
-            &mut self.zeros,
-            &mut self.scheduler,
-            now,
-            messages,
-        )
+        schedule::send_all(self.alloc, &mut self.scheduler, now, messages)
     }
 
     /// The rates of the flows, by id.

@@ -9,7 +9,7 @@ ghost use Rattle.link_traces.specs.Batches.{batch_calls, IsFront};
 use crate::linkcheck::asked;
 use crate::linkcheck::lines::NEWLINE;
 use link_scheduler::replay::{Call, Reply};
-use link_scheduler::transmitter::{Completion, Outgoing};
+use link_scheduler::transmitter::{Completion, Contents, Outgoing};
 use std::alloc::Global;
 
 /// The messages of lines that follow one another, in order.
@@ -120,7 +120,7 @@ impl Batch {
 
     /// The place of the first message that is done, if the reply says that one is. It is the first
     /// with the words of what is done first.
-    pub(crate) fn first_done(&self, reply: &Reply<u64>) -> Option<usize>
+    pub(crate) fn first_done(&self, reply: &Reply<u64, Contents>) -> Option<usize>
         ensures { result ≡ None → reply_of reply.now ≡ reply_done [] }
     {
         let Reply::Done(completions) = reply else {
@@ -131,7 +131,7 @@ impl Batch {
     }
 
     /// The place of the first message with the words of what is done.
-    fn place_of(&self, done: &Completion<u64>) -> Option<usize> {
+    fn place_of(&self, done: &Completion<u64, Contents>) -> Option<usize> {
         let length = done.message.len();
         self.messages.iter().position(|one| {
             one.origin == done.origin

@@ -5,6 +5,7 @@ ghost use Rattle.link_scripts.specs.Schedule.{world_call};
 ghost use Rattle.link_traces.specs.Turns.{IsTimely, reached_after};
 
 use link_scheduler::replay::{Call, Reply};
+use link_scheduler::transmitter::Contents;
 use std::fmt;
 
 /// The first call of a trace that comes out of turn. Of what calls in turn are answered, the
@@ -89,7 +90,11 @@ fn cause_of_advance(now: u64, reached: u64) -> Option<Cause>
 }
 
 /// The moment that is reached after a call with that reply.
-pub(crate) fn reached_after(reached: u64, call: &Call<u64, usize>, reply: &Reply<u64>) -> u64
+pub(crate) fn reached_after(
+    reached: u64,
+    call: &Call<u64, usize>,
+    reply: &Reply<u64, Contents>,
+) -> u64
     ensures { result ≡ reached_after reached (world_call call.now) (reply_of reply.now) }
 {
     let Reply::Done(_) = reply else {

@@ -23,8 +23,8 @@ use crate::linkcheck::lines::NEWLINE;
 use crate::linkcheck::{Fault, in_turn};
 use fair_rates::error::Error;
 use link_scheduler::replay::{Call, Reply};
-use link_scheduler::transmitter::State;
-use link_scripts::linkrun::zeros::Zeros;
+use link_scheduler::transmitter::{Contents, State};
+use link_scripts::linkrun::fill::fill;
 use link_scripts::linkrun::{answer, schedule};
 use std::alloc::Global;
 
@@ -32,8 +32,7 @@ use std::alloc::Global;
 #[derive(Drop)]
 pub(crate) struct Progress {
     pub(crate) alloc: Global,
-    zeros: Zeros,
-    pub(crate) scheduler: State<u64>,
+    pub(crate) scheduler: State<u64, Contents>,
     /// The lines that answer the last call.
     pub(crate) answers: Vec<u8>,
     /// How many bytes of them were said.
@@ -57,8 +56,7 @@ impl Progress {
     {
         Progress {
             alloc,
-            zeros: Zeros::new(),
-            scheduler: State::new(alloc),
+            scheduler: State::with_payload(alloc, 0),
             answers: Vec::new(alloc),
             said: 0,
             lacked_memory: false,
@@ -77,7 +75,7 @@ impl Progress {
             → IsTold (said ++ call_line call.now) self.new) }
     {
         self.out_of_turn = self.turn(call, line);
-        let reply = reply_to(self.alloc, &mut self.zeros, &mut self.scheduler, call);
+        let reply = reply_to(self.alloc, &mut self.scheduler, call);
         self.reached = in_turn::reached_after(self.reached, call, &reply);
         (self.calls, self.completions) = self.counts_with(&reply)?;
         self.answers.clear();
@@ -104,7 +102,6 @@ impl Progress {
         }
         let Ok(reply) = schedule::send_all(
             self.alloc,
-            &mut self.zeros,
             &mut self.scheduler,
             batch.moment,
             &batch.messages,
@@ -125,7 +122,7 @@ impl Progress {
 
     /// What is due is from now on the reply to a batch of which the message of that place is done
     /// first.
-    fn answer_with(&mut self, reply: &Reply<u64>, place: usize) -> Result<(), Fault>
+    fn answer_with(&mut self, reply: &Reply<u64, Contents>, place: usize) -> Result<(), Fault>
         ensures turn { self.new.out_of_turn ≡ self.old.out_of_turn }
     {
         self.calls = self.calls.saturating_add(place as u64).saturating_add(1);
@@ -167,7 +164,7 @@ impl Progress {
 
     /// How many calls and completions there are with one call more and what it is answered. The
     /// numbers go up to 2^64 - 1, which no trace reaches.
-    fn counts_with(&self, reply: &Reply<u64>) -> Result<(u64, u64), Fault>
+    fn counts_with(&self, reply: &Reply<u64, Contents>) -> Result<(u64, u64), Fault>
         ensures calls { IfOk result (λ n. n.0 ≡ self.now.calls + 1) }
         ensures completions { IfOk result (λ n. n.1 ≡ self.now.completions + length (done_in (reply_of reply.now))) }
     {
@@ -237,7 +234,7 @@ impl Progress {
 }
 
 /// How many messages a reply says are done.
-fn count_done(reply: &Reply<u64>) -> usize
+fn count_done(reply: &Reply<u64, Contents>) -> usize
     ensures { result ≡ length (done_in (reply_of reply.now)) }
 {
     match reply {
@@ -249,17 +246,16 @@ fn count_done(reply: &Reply<u64>) -> usize
 /// Makes a call of the scheduler. A call that is refused changes nothing, and is replied to so.
 fn reply_to(
     alloc: Global,
-    zeros: &mut Zeros,
-    scheduler: &mut State<u64>,
+    scheduler: &mut State<u64, Contents>,
     call: &Call<u64, usize>,
-) -> Reply<u64>
+) -> Reply<u64, Contents>
     ensures by_rule { IsReplyTo nat_cmp (planned_of scheduler.old) (world_call call.now) (reply_of result)
         (planned_of scheduler.new) }
     ensures simulated { (w : World ℕ) → StandsFor nat_cmp (planned_of scheduler.old) w
         → IsInTurn nat_cmp w (world_call call.now)
         → IsSimulatedReply nat_cmp w (world_call call.now) (reply_of result) (planned_of scheduler.new) }
 {
-    match zeros.fill(alloc, call) {
+    match fill(alloc, call) {
         Err(error) => Reply::Refused(error),
         Ok(call) => match call.make(scheduler) {
             Err(error) => Reply::Refused(error),

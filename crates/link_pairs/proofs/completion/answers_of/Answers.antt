@@ -6,7 +6,7 @@ use Rattle.link_simulation.specs.Simulation.World.{Completed}
 use Rattle.link_simulation.specs.Simulation.Replies.{SameCompletion}
 use Rattle.fair_rates.proofs.Lists.Zips.{zip-push}
 use Rattle.link_pairs.specs.declared.completion.Ended.{Ended}
-use Rattle.link_pairs.specs.Pairs.Messages.{completed_of, ended_of}
+use Rattle.link_pairs.specs.Pairs.Messages.{completed_by, ended_of}
 use Rattle.link_pairs.proofs.completion.answers_of.Goals as goal
 
 pub loop-one-preserved : goal.loop-one-preserved
@@ -18,20 +18,20 @@ loop-one-preserved g c =
     let ended : map ended_of (take (c.loop-one.one-index + 1) c.args.ended.now)
     ≡ map ended_of before ++ ended_of c.one-item.result ∷ [] =
     ap (map ended_of) more ∙ map-append ended_of before (c.one-item.result ∷ []) in
-    let answered : map completed_of c.push.new.self.items
-    ≡ map completed_of c.loop-one.answers.items ++ completed_of c.in_ok-answer.field-0 ∷ [] =
-    ap (map completed_of) c.in_ok-push.ensures.items
-    ∙ map-append completed_of c.loop-one.answers.items (c.in_ok-answer.field-0 ∷ []) in
+    let answered : map (completed_by g.M.Payload.bytes) c.push.new.self.items
+    ≡ map (completed_by g.M.Payload.bytes) c.loop-one.answers.items ++ completed_by g.M.Payload.bytes c.in_ok-answer.field-0 ∷ [] =
+    ap (map (completed_by g.M.Payload.bytes)) c.in_ok-push.ensures.items
+    ∙ map-append (completed_by g.M.Payload.bytes) c.loop-one.answers.items (c.in_ok-answer.field-0 ∷ []) in
     subst
     (λ (ds : List (Completed g.row.P.Denot)). AllZip (SameCompletion g.P.Ord.cmp)
-    (map completed_of c.push.new.self.items) ds)
+    (map (completed_by g.M.Payload.bytes) c.push.new.self.items) ds)
     (sym ended)
     (subst
     (λ (cs : List (Completed g.row.P.Denot)). AllZip (SameCompletion g.P.Ord.cmp) cs
     (map ended_of before ++ ended_of c.one-item.result ∷ []))
     (sym answered)
-    (zip-push (SameCompletion g.P.Ord.cmp) (map completed_of c.loop-one.answers.items) (map ended_of before)
-    (completed_of c.in_ok-answer.field-0) (ended_of c.one-item.result) c.loop-one.invariant
+    (zip-push (SameCompletion g.P.Ord.cmp) (map (completed_by g.M.Payload.bytes) c.loop-one.answers.items) (map ended_of before)
+    (completed_by g.M.Payload.bytes c.in_ok-answer.field-0) (ended_of c.one-item.result) c.loop-one.invariant
     c.in_ok-answer.ensures.same))
 
 pub returns-clause-same : goal.returns-clause-same
@@ -41,5 +41,5 @@ returns-clause-same g c =
     ap (λ n. take n c.args.ended.now) whole ∙ take-length c.args.ended.now in
     subst
     (λ (l : List (Ended g.row.P.Denot)). AllZip (SameCompletion g.P.Ord.cmp)
-    (map completed_of c.loop-one.answers.items) (map ended_of l))
+    (map (completed_by g.M.Payload.bytes) c.loop-one.answers.items) (map ended_of l))
     all c.loop-one.invariant

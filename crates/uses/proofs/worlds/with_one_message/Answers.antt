@@ -8,11 +8,11 @@ use Rattle.uses.proofs.worlds.with_one_message.Goals as goal
 
 -- the first call comes before any event, and the second at the moment of the first
 pub returns : goal.returns
-returns c =
-    let new = c.new-state.ensures.new in
+returns g c =
+    let new = c.with_payload-state.ensures.new in
     let limit : Call ℕ = call_limit 0 1 (Some c.args.cap) None in
-    let enqueue : Call ℕ = call_enqueue 0 (sent 1 2 0 c.args.message 0 true) in
-    let first : IsCalled nat_cmp (planned_of c.new-state.result) limit 0 (new_world 0) =
+    let enqueue : Call ℕ = call_enqueue 0 (sent 1 2 0 (g.M.Payload.bytes c.args.message) 0 true) in
+    let first : IsCalled nat_cmp (planned_of c.with_payload-state.result) limit 0 (new_world 0) =
     c.calls_before_the_next_event_are_in_turn.ensures.first _ 0 0 limit new.planned new.stands refl in
     let run = c.in_ok-limit.ensures.made.simulated (new_world 0) 0 first in
     let second = c.calls_before_the_next_event_are_in_turn.ensures.at_once (new_world 0) _ limit enqueue 0 _ refl run in

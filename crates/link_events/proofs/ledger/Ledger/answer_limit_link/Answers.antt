@@ -3,7 +3,7 @@ use Rattle.std.proofs.lemmas.Result.{err_from_is_err_and}
 use Rattle.link_simulation.specs.Simulation.World.{goes}
 use Rattle.link_simulation.specs.Simulation.Calls.{call_limit_link, linked_by}
 use Rattle.link_events.specs.Steps.AsPlanned.{planned}
-use Rattle.link_pairs.specs.Pairs.Messages.{completed_of, ended_of}
+use Rattle.link_pairs.specs.Pairs.Messages.{completed_by, ended_of}
 use Rattle.link_events.proofs.Steps.Answered.{answered_if}
 use Rattle.link_events.proofs.Steps.Limits.{link_refused, rebalances_on}
 use Rattle.link_events.proofs.ledger.Ledger.answer_limit_link.Goals as goal
@@ -18,7 +18,7 @@ returns-in_err-ended-clause-refused g c =
 
 pub returns-clause-answered : goal.returns-clause-answered
 returns-clause-answered g c =
-    answered_if g.P.Ord.cmp c.answers_of.result (λ done. map completed_of done.items)
+    answered_if g.P.Ord.cmp c.answers_of.result (λ done. map (completed_by g.M.Payload.bytes) done.items)
     (planned g.P.Ord.cmp c.args.self.now)
     (planned g.P.Ord.cmp c.rebalance.new.self)
     (call_limit_link c.args.now c.args.origin.now c.args.recipient.now c.args.cap)

@@ -1,9 +1,12 @@
-use Rattle.std.proofs.Common.{rules, ◌≤◌, IfSome, subst, arith}
+use Rattle.std.proofs.Common.{rules, ◌≤◌, ◌∙◌, IfSome, sym, ap, subst, arith}
+use Rattle.std.specs.List.{list_all}
 use Rattle.link_simulation.specs.Simulation.World.{last_moment}
 use Rattle.link_pairs.specs.Pairs.CapsOf.{caps_of}
 use Rattle.link_pairs.proofs.Pairs.LookedUp.{looked_up}
+use Rattle.link_flights.specs.declared.flight.Flight.{Flight}
 use Rattle.link_flights.specs.Flights.InFlight.{in_units}
 use Rattle.link_flights.specs.Flights.Rated.{GivesBeside}
+use Rattle.link_flights.proofs.Flights.Alone.{none_there, none_given}
 use Rattle.link_flights.proofs.Flights.RatesGiven.{beside_given, still_given}
 use Rattle.link_flights.proofs.Flights.Rerating.{first_finish_is}
 use Rattle.link_flights.proofs.Flights.Settled.{all_have_got}
@@ -11,6 +14,40 @@ use Rattle.link_flights.proofs.flight_list.Flights.rate.Goals as goal
 
 pub settle-requires : goal.settle-requires
 settle-requires g c =
+    let none = none_there c.args.self.now.list.items (sym c.is_empty.ensures ∙ c.if-is_empty.true) in
+    record { rated = ap (list_all (λ (one : Flight g.row.P.Denot). one.rated)) none }
+
+pub returns-then-is_empty-clause-rated : goal.returns-then-is_empty-clause-rated
+returns-then-is_empty-clause-rated g c =
+    let old = c.args.self.now in
+    let caps = caps_of g.P.Ord.cmp c.args.peers.now.entries c.args.pairs.now.entries in
+    let e = c.settle.ensures in
+    let none = none_there old.list.items (sym c.is_empty.ensures ∙ c.if-is_empty.true) in
+    let h = none_given g.P.Ord.cmp caps old c.settle.new.self e.scale e.at none e.list in
+    record {
+      times = h.times;
+      scale = h.scale;
+      at = h.at;
+      each = h.each;
+      fair = h.fair;
+      timed = h.timed;
+    }
+
+pub returns-then-is_empty-clause-finish : goal.returns-then-is_empty-clause-finish
+returns-then-is_empty-clause-finish g c =
+    let cmp = g.P.Ord.cmp in
+    let old = c.args.self.now in
+    let last = c.settle.new.self in
+    let caps = caps_of cmp c.args.peers.now.entries c.args.pairs.now.entries in
+    let e = c.settle.ensures in
+    let none = none_there old.list.items (sym c.is_empty.ensures ∙ c.if-is_empty.true) in
+    let h = none_given cmp caps old last e.scale e.at none e.list in
+    let fits : IfSome c.settle.result (λ t. t ≤ last_moment) = search rules in
+    let here : last.at ≤ last_moment = omega (arith, e.at, c.requires.moment) in
+    first_finish_is cmp caps old last h c.requires.left here c.settle.result e.finish fits
+
+pub settle-requires-in-Some : goal.settle-requires-in-Some
+settle-requires-in-Some g c =
     let cmp = g.P.Ord.cmp in
     let old = c.args.self.now in
     let caps = caps_of cmp c.args.peers.now.entries c.args.pairs.now.entries in
@@ -39,9 +76,9 @@ returns-in-Some-clause-rated g c =
     c.in_ok-touched.ensures.closed c.in_ok-touched.ensures.loose (c.requires.before c.if-were_rated.true)
     c.in_ok-touched.ensures.level
     c.requires.updated in
-    let e = c.settle.ensures in
-    let last = c.settle.new.self in
-    let k = still_given cmp caps component _ mid last e.list e.scale e.at h in
+    let e = c.settle-in-Some.ensures in
+    let last = c.settle-in-Some.new.self in
+    let k = still_given cmp caps _ mid last e.list e.scale e.at h in
     record {
       times = k.times;
       scale = k.scale;
@@ -65,9 +102,9 @@ returns-in-Some-clause-finish g c =
     c.in_ok-touched.ensures.closed c.in_ok-touched.ensures.loose (c.requires.before c.if-were_rated.true)
     c.in_ok-touched.ensures.level
     c.requires.updated in
-    let e = c.settle.ensures in
-    let last = c.settle.new.self in
-    let k = still_given cmp caps component _ mid last e.list e.scale e.at h in
-    let fits : IfSome c.settle.result (λ t. t ≤ last_moment) = search rules in
+    let e = c.settle-in-Some.ensures in
+    let last = c.settle-in-Some.new.self in
+    let k = still_given cmp caps _ mid last e.list e.scale e.at h in
+    let fits : IfSome c.settle-in-Some.result (λ t. t ≤ last_moment) = search rules in
     let here : last.at ≤ last_moment = omega (arith, e.at, r.at, c.requires.moment) in
-    first_finish_is cmp caps _ last k c.requires.left here c.settle.result e.finish fits
+    first_finish_is cmp caps _ last k c.requires.left here c.settle-in-Some.result e.finish fits

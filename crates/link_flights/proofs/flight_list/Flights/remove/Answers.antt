@@ -1,4 +1,4 @@
-use Rattle.std.proofs.Common.{◌-◌, length, sym, ap, ◌∙◌, subst, arith}
+use Rattle.std.proofs.Common.{◌-◌, sym, ap, ◌∙◌, subst, arith}
 use Rattle.std.specs.List.{list_all}
 use Rattle.link_flights.specs.Flights.Flight.{HaveRates}
 use Rattle.link_flights.proofs.Flights.Flight.{all_but, is_past}

@@ -2,7 +2,7 @@ use Rattle.std.proofs.Common.{[], map, ap, refl, arith}
 use Rattle.link_simulation.specs.Simulation.Calls.{call_advance}
 use Rattle.link_simulation.specs.Rule.SamePlanned.{GoesByRule, AdvancesByRule}
 use Rattle.link_events.specs.Steps.AsPlanned.{planned}
-use Rattle.link_pairs.specs.Pairs.Messages.{completed_of}
+use Rattle.link_pairs.specs.Pairs.Messages.{completed_by}
 use Rattle.link_simulation.proofs.Rule.SamePlanned.{same_itself}
 use Rattle.link_scheduler.proofs.Calls.Calling.{advances_on, counted_goes}
 use Rattle.link_scheduler.proofs.Calls.SameIsPlanned.{planned_on}
@@ -44,7 +44,7 @@ returns-then-is_quiet-clause-made g c =
     (same_itself g.P.Ord.cmp g.met.P.Ord.total (planned g.P.Ord.cmp c.args.self.now.ledger) c.args.self.now.caps
     c.args.self.now.arrivals)
     c.rest.ensures.advances in
-    rw (ap (map completed_of) c.new.ensures.items)
+    rw (ap (map (completed_by g.M.Payload.bytes)) c.new.ensures.items)
     (promised_if g.P.Ord.cmp g.met.P.Ord.total (planned g.P.Ord.cmp c.args.self.now.ledger)
     (planned g.P.Ord.cmp c.rest.new.self) (call_advance c.args.now) c.args.now [] refl c.ranges.now.fits
     c.args.self.now.orderly
@@ -66,7 +66,7 @@ returns-then-is_quiet-clause-advanced g c =
     (planned g.P.Ord.cmp c.rest.new.self) [] rested in
     record {
       split =
-          rw (ap (map completed_of) c.new.ensures.items)
+          rw (ap (map (completed_by g.M.Payload.bytes)) c.new.ensures.items)
           (split_on g.P.Ord.cmp g.met.P.Ord.total (planned g.P.Ord.cmp c.args.self.now.ledger)
           (planned g.P.Ord.cmp c.rest.new.self) c.args.now [] c.ranges.now.fits went);
       within_caps =
@@ -84,6 +84,6 @@ returns-then-is_quiet-clause-counted g c =
     c.args.self.now.arrivals)
     c.rest.ensures.advances in
     record {
-      by_rule = rw (ap (map completed_of) c.new.ensures.items) rested;
+      by_rule = rw (ap (map (completed_by g.M.Payload.bytes)) c.new.ensures.items) rested;
       few = omega arith;
     }

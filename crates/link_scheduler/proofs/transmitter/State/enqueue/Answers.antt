@@ -1,6 +1,6 @@
 use Rattle.std.proofs.Common.{map, refl}
 use Rattle.link_simulation.specs.Simulation.Calls.{call_enqueue}
-use Rattle.link_pairs.specs.Pairs.Messages.{completed_of}
+use Rattle.link_pairs.specs.Pairs.Messages.{completed_by}
 use Rattle.link_events.specs.Steps.Outgoing.{sent}
 use Rattle.link_pairs.proofs.Pairs.LookedUp.{looked_up, arrivals_looked_up}
 use Rattle.link_scheduler.proofs.Calls.Concluded.{can_be_put_back, unchanged, call_is}
@@ -16,8 +16,8 @@ invariant_of-self g c =
     let so =
     call_is g.met.P.Ord.total c.args.self.now c.in_ok-kept.kept c.answer_enqueue-answer.new.self
     c.conclude.new.self c.in_ok-kept.ensures.kept c.answer_enqueue-answer.ensures.before
-    c.answer_enqueue-answer.result c.conclude.ensures.made c.conclude.ensures.unchanged (λ done. map completed_of done.items)
-    (call_enqueue c.args.now (sent c.args.origin c.args.recipient c.args.channel c.args.message c.args.latency c.args.should_deliver)) c.args.now c.ranges.now.fits refl
+    c.answer_enqueue-answer.result c.conclude.ensures.made c.conclude.ensures.unchanged (λ done. map (completed_by g.M.Payload.bytes) done.items)
+    (call_enqueue c.args.now (sent c.args.origin c.args.recipient c.args.channel c.into_contents.result c.args.latency c.args.should_deliver)) c.args.now c.ranges.now.fits refl
     c.answer_enqueue-answer.ensures.answered c.answer_enqueue-answer.ensures.refused in
     let new = c.conclude.new.self in
     record {
@@ -33,20 +33,20 @@ returns-clause-made g c =
     let so =
     call_is g.met.P.Ord.total c.args.self.now c.in_ok-kept.kept c.answer_enqueue-answer.new.self
     c.conclude.new.self c.in_ok-kept.ensures.kept c.answer_enqueue-answer.ensures.before
-    c.answer_enqueue-answer.result c.conclude.ensures.made c.conclude.ensures.unchanged (λ done. map completed_of done.items)
-    (call_enqueue c.args.now (sent c.args.origin c.args.recipient c.args.channel c.args.message c.args.latency c.args.should_deliver)) c.args.now c.ranges.now.fits refl
+    c.answer_enqueue-answer.result c.conclude.ensures.made c.conclude.ensures.unchanged (λ done. map (completed_by g.M.Payload.bytes) done.items)
+    (call_enqueue c.args.now (sent c.args.origin c.args.recipient c.args.channel c.into_contents.result c.args.latency c.args.should_deliver)) c.args.now c.ranges.now.fits refl
     c.answer_enqueue-answer.ensures.answered c.answer_enqueue-answer.ensures.refused in
-    rw c.conclude.ensures.answer so.good
+    rw (c.conclude.ensures.answer, ← c.into_contents.ensures) so.good
 
 pub returns-clause-refused : goal.returns-clause-refused
 returns-clause-refused g c =
     let so =
     call_is g.met.P.Ord.total c.args.self.now c.in_ok-kept.kept c.answer_enqueue-answer.new.self
     c.conclude.new.self c.in_ok-kept.ensures.kept c.answer_enqueue-answer.ensures.before
-    c.answer_enqueue-answer.result c.conclude.ensures.made c.conclude.ensures.unchanged (λ done. map completed_of done.items)
-    (call_enqueue c.args.now (sent c.args.origin c.args.recipient c.args.channel c.args.message c.args.latency c.args.should_deliver)) c.args.now c.ranges.now.fits refl
+    c.answer_enqueue-answer.result c.conclude.ensures.made c.conclude.ensures.unchanged (λ done. map (completed_by g.M.Payload.bytes) done.items)
+    (call_enqueue c.args.now (sent c.args.origin c.args.recipient c.args.channel c.into_contents.result c.args.latency c.args.should_deliver)) c.args.now c.ranges.now.fits refl
     c.answer_enqueue-answer.ensures.answered c.answer_enqueue-answer.ensures.refused in
-    rw c.conclude.ensures.answer so.bad
+    rw (c.conclude.ensures.answer, ← c.into_contents.ensures) so.bad
 
 pub returns-clause-unchanged : goal.returns-clause-unchanged
 returns-clause-unchanged g c =

@@ -3,8 +3,8 @@ use Rattle.std.proofs.lemmas.List.{length-map}
 use Rattle.std.proofs.lemmas.Result.{err_from_is_err_and}
 use Rattle.fair_rates.specs.declared.error.Error.TheVariants.{OutOfMemory}
 use Rattle.link_events.specs.Steps.AsPlanned.{planned}
-use Rattle.link_events.specs.Steps.Outgoing.{outgoing}
-use Rattle.link_pairs.specs.Pairs.Messages.{completed_of}
+use Rattle.link_events.specs.Steps.Outgoing.{outgoing_by}
+use Rattle.link_pairs.specs.Pairs.Messages.{completed_by}
 use Rattle.link_pairs.proofs.Pairs.LookedUp.{looked_up, arrivals_looked_up}
 use Rattle.link_scheduler.proofs.Calls.OneByOne.{copies_refused}
 use Rattle.link_scheduler.proofs.Calls.Concluded.{can_be_put_back, unchanged, sends_are}
@@ -14,10 +14,10 @@ pub returns-in_err-kept-clause-refused : goal.returns-in_err-kept-clause-refused
 returns-in_err-kept-clause-refused g c =
     let p = err_from_is_err_and c.from_residual.result c.from_residual.ensures.1 in
     let some : length c.args.messages.items ≢ 0 = search rules in
-    let sent : length (map outgoing c.args.messages.items) ≢ 0 =
-    λ e. some (sym (length-map c.args.messages.items outgoing) ∙ e) in
+    let sent : length (map (outgoing_by g.M.Payload.bytes) c.args.messages.items) ≢ 0 =
+    λ e. some (sym (length-map c.args.messages.items (outgoing_by g.M.Payload.bytes)) ∙ e) in
     rw (p.1, p.2, c.in_err-kept.ensures.refused)
-    (copies_refused g.P.Ord.cmp g.met.P.Ord.total c.args.now c.ranges.now.fits (map outgoing c.args.messages.items)
+    (copies_refused g.P.Ord.cmp g.met.P.Ord.total c.args.now c.ranges.now.fits (map (outgoing_by g.M.Payload.bytes) c.args.messages.items)
     (planned g.P.Ord.cmp c.args.self.now.ledger) (planned g.P.Ord.cmp c.args.self.now.ledger) OutOfMemory refl sent tt
     c.args.self.now.caps c.args.self.now.arrivals c.args.self.now.orderly)
 
@@ -29,13 +29,13 @@ conclude-requires g c =
 pub invariant_of-self : goal.invariant_of-self
 invariant_of-self g c =
     let some : length c.args.messages.items ≢ 0 = search rules in
-    let sent : length (map outgoing c.args.messages.items) ≢ 0 =
-    λ e. some (sym (length-map c.args.messages.items outgoing) ∙ e) in
+    let sent : length (map (outgoing_by g.M.Payload.bytes) c.args.messages.items) ≢ 0 =
+    λ e. some (sym (length-map c.args.messages.items (outgoing_by g.M.Payload.bytes)) ∙ e) in
     let so =
     sends_are g.met.P.Ord.total c.args.self.now c.in_ok-kept.kept c.answer_enqueue_all-answer.new.self
     c.conclude.new.self c.in_ok-kept.ensures.kept c.answer_enqueue_all-answer.ensures.before
-    c.answer_enqueue_all-answer.result c.conclude.ensures.made c.conclude.ensures.unchanged (λ done. map completed_of done.items)
-    c.args.now c.ranges.now.fits (map outgoing c.args.messages.items) sent
+    c.answer_enqueue_all-answer.result c.conclude.ensures.made c.conclude.ensures.unchanged (λ done. map (completed_by g.M.Payload.bytes) done.items)
+    c.args.now c.ranges.now.fits (map (outgoing_by g.M.Payload.bytes) c.args.messages.items) sent
     c.answer_enqueue_all-answer.ensures.answered c.answer_enqueue_all-answer.ensures.refused in
     let new = c.conclude.new.self in
     record {
@@ -49,26 +49,26 @@ invariant_of-self g c =
 pub returns-clause-made : goal.returns-clause-made
 returns-clause-made g c =
     let some : length c.args.messages.items ≢ 0 = search rules in
-    let sent : length (map outgoing c.args.messages.items) ≢ 0 =
-    λ e. some (sym (length-map c.args.messages.items outgoing) ∙ e) in
+    let sent : length (map (outgoing_by g.M.Payload.bytes) c.args.messages.items) ≢ 0 =
+    λ e. some (sym (length-map c.args.messages.items (outgoing_by g.M.Payload.bytes)) ∙ e) in
     let so =
     sends_are g.met.P.Ord.total c.args.self.now c.in_ok-kept.kept c.answer_enqueue_all-answer.new.self
     c.conclude.new.self c.in_ok-kept.ensures.kept c.answer_enqueue_all-answer.ensures.before
-    c.answer_enqueue_all-answer.result c.conclude.ensures.made c.conclude.ensures.unchanged (λ done. map completed_of done.items)
-    c.args.now c.ranges.now.fits (map outgoing c.args.messages.items) sent
+    c.answer_enqueue_all-answer.result c.conclude.ensures.made c.conclude.ensures.unchanged (λ done. map (completed_by g.M.Payload.bytes) done.items)
+    c.args.now c.ranges.now.fits (map (outgoing_by g.M.Payload.bytes) c.args.messages.items) sent
     c.answer_enqueue_all-answer.ensures.answered c.answer_enqueue_all-answer.ensures.refused in
     rw c.conclude.ensures.answer so.good
 
 pub returns-clause-refused : goal.returns-clause-refused
 returns-clause-refused g c =
     let some : length c.args.messages.items ≢ 0 = search rules in
-    let sent : length (map outgoing c.args.messages.items) ≢ 0 =
-    λ e. some (sym (length-map c.args.messages.items outgoing) ∙ e) in
+    let sent : length (map (outgoing_by g.M.Payload.bytes) c.args.messages.items) ≢ 0 =
+    λ e. some (sym (length-map c.args.messages.items (outgoing_by g.M.Payload.bytes)) ∙ e) in
     let so =
     sends_are g.met.P.Ord.total c.args.self.now c.in_ok-kept.kept c.answer_enqueue_all-answer.new.self
     c.conclude.new.self c.in_ok-kept.ensures.kept c.answer_enqueue_all-answer.ensures.before
-    c.answer_enqueue_all-answer.result c.conclude.ensures.made c.conclude.ensures.unchanged (λ done. map completed_of done.items)
-    c.args.now c.ranges.now.fits (map outgoing c.args.messages.items) sent
+    c.answer_enqueue_all-answer.result c.conclude.ensures.made c.conclude.ensures.unchanged (λ done. map (completed_by g.M.Payload.bytes) done.items)
+    c.args.now c.ranges.now.fits (map (outgoing_by g.M.Payload.bytes) c.args.messages.items) sent
     c.answer_enqueue_all-answer.ensures.answered c.answer_enqueue_all-answer.ensures.refused in
     rw c.conclude.ensures.answer so.bad
 

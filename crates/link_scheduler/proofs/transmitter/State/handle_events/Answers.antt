@@ -1,7 +1,7 @@
 use Rattle.std.proofs.Common.{map, refl}
 use Rattle.link_simulation.specs.Simulation.Calls.{call_advance}
 use Rattle.link_events.specs.Steps.AsPlanned.{planned}
-use Rattle.link_pairs.specs.Pairs.Messages.{completed_of}
+use Rattle.link_pairs.specs.Pairs.Messages.{completed_by}
 use Rattle.link_pairs.proofs.Pairs.LookedUp.{looked_up, arrivals_looked_up}
 use Rattle.link_scheduler.proofs.Calls.Calling.{counted_goes}
 use Rattle.link_scheduler.proofs.Calls.Concluded.{can_be_put_back, unchanged, if_ok_map, advance_is}
@@ -19,7 +19,7 @@ invariant_of-self g c =
     advance_is g.met.P.Ord.total c.args.self.now c.in_ok-kept.kept c.answer_advance-answer.new.self
     c.conclude.new.self c.in_ok-kept.ensures.kept c.answer_advance-answer.ensures.before
     c.answer_advance-answer.result c.conclude.ensures.made c.conclude.ensures.unchanged (λ answer. answer.1)
-    (λ answer. map completed_of answer.0.items) c.args.now c.ranges.now.fits
+    (λ answer. map (completed_by g.M.Payload.bytes) answer.0.items) c.args.now c.ranges.now.fits
     c.answer_advance-answer.ensures.answered c.answer_advance-answer.ensures.refused in
     let new = c.conclude.new.self in
     record {
@@ -36,7 +36,7 @@ returns-clause-counted g c =
     advance_is g.met.P.Ord.total c.args.self.now c.in_ok-kept.kept c.answer_advance-answer.new.self
     c.conclude.new.self c.in_ok-kept.ensures.kept c.answer_advance-answer.ensures.before
     c.answer_advance-answer.result c.conclude.ensures.made c.conclude.ensures.unchanged (λ answer. answer.1)
-    (λ answer. map completed_of answer.0.items) c.args.now c.ranges.now.fits
+    (λ answer. map (completed_by g.M.Payload.bytes) answer.0.items) c.args.now c.ranges.now.fits
     c.answer_advance-answer.ensures.answered c.answer_advance-answer.ensures.refused in
     rw c.conclude.ensures.answer
     (if_ok_map c.answer_advance-answer.result (λ answer h. record { by_rule = h.by_rule; few = h.few }) so.good)
@@ -50,13 +50,13 @@ returns-clause-made g c =
     advance_is g.met.P.Ord.total c.args.self.now c.in_ok-kept.kept c.answer_advance-answer.new.self
     c.conclude.new.self c.in_ok-kept.ensures.kept c.answer_advance-answer.ensures.before
     c.answer_advance-answer.result c.conclude.ensures.made c.conclude.ensures.unchanged (λ answer. answer.1)
-    (λ answer. map completed_of answer.0.items) c.args.now c.ranges.now.fits
+    (λ answer. map (completed_by g.M.Payload.bytes) answer.0.items) c.args.now c.ranges.now.fits
     c.answer_advance-answer.ensures.answered c.answer_advance-answer.ensures.refused in
     rw c.conclude.ensures.answer
     (if_ok_map c.answer_advance-answer.result (λ answer h.
-    promised_if cmp g.met.P.Ord.total old new (call_advance c.args.now) c.args.now (map completed_of answer.0.items)
+    promised_if cmp g.met.P.Ord.total old new (call_advance c.args.now) c.args.now (map (completed_by g.M.Payload.bytes) answer.0.items)
     refl c.ranges.now.fits c.args.self.now.orderly
-    (counted_goes cmp g.met.P.Ord.total c.args.now answer.1 old new (map completed_of answer.0.items) h.by_rule))
+    (counted_goes cmp g.met.P.Ord.total c.args.now answer.1 old new (map (completed_by g.M.Payload.bytes) answer.0.items) h.by_rule))
     so.good)
 
 pub returns-clause-advanced : goal.returns-clause-advanced
@@ -68,11 +68,11 @@ returns-clause-advanced g c =
     advance_is g.met.P.Ord.total c.args.self.now c.in_ok-kept.kept c.answer_advance-answer.new.self
     c.conclude.new.self c.in_ok-kept.ensures.kept c.answer_advance-answer.ensures.before
     c.answer_advance-answer.result c.conclude.ensures.made c.conclude.ensures.unchanged (λ answer. answer.1)
-    (λ answer. map completed_of answer.0.items) c.args.now c.ranges.now.fits
+    (λ answer. map (completed_by g.M.Payload.bytes) answer.0.items) c.args.now c.ranges.now.fits
     c.answer_advance-answer.ensures.answered c.answer_advance-answer.ensures.refused in
     rw c.conclude.ensures.answer
     (if_ok_map c.answer_advance-answer.result (λ answer h.
-    let cs = map completed_of answer.0.items in
+    let cs = map (completed_by g.M.Payload.bytes) answer.0.items in
     let went = counted_goes cmp g.met.P.Ord.total c.args.now answer.1 old new cs h.by_rule in
     record {
       split = split_on cmp g.met.P.Ord.total old new c.args.now cs c.ranges.now.fits went;
@@ -86,7 +86,7 @@ returns-clause-refused g c =
     advance_is g.met.P.Ord.total c.args.self.now c.in_ok-kept.kept c.answer_advance-answer.new.self
     c.conclude.new.self c.in_ok-kept.ensures.kept c.answer_advance-answer.ensures.before
     c.answer_advance-answer.result c.conclude.ensures.made c.conclude.ensures.unchanged (λ answer. answer.1)
-    (λ answer. map completed_of answer.0.items) c.args.now c.ranges.now.fits
+    (λ answer. map (completed_by g.M.Payload.bytes) answer.0.items) c.args.now c.ranges.now.fits
     c.answer_advance-answer.ensures.answered c.answer_advance-answer.ensures.refused in
     rw c.conclude.ensures.answer so.bad
 

@@ -1,6 +1,6 @@
 use Rattle.std.proofs.Common.{map, refl}
 use Rattle.link_simulation.specs.Simulation.Calls.{call_limit_link}
-use Rattle.link_pairs.specs.Pairs.Messages.{completed_of}
+use Rattle.link_pairs.specs.Pairs.Messages.{completed_by}
 use Rattle.link_pairs.proofs.Pairs.LookedUp.{looked_up, arrivals_looked_up}
 use Rattle.link_scheduler.proofs.Calls.Concluded.{can_be_put_back, unchanged, call_is}
 use Rattle.link_scheduler.proofs.transmitter.State.limit_link.Goals as goal
@@ -15,7 +15,7 @@ invariant_of-self g c =
     let so =
     call_is g.met.P.Ord.total c.args.self.now c.in_ok-kept.kept c.answer_limit_link-answer.new.self
     c.conclude.new.self c.in_ok-kept.ensures.kept c.answer_limit_link-answer.ensures.before
-    c.answer_limit_link-answer.result c.conclude.ensures.made c.conclude.ensures.unchanged (λ done. map completed_of done.items)
+    c.answer_limit_link-answer.result c.conclude.ensures.made c.conclude.ensures.unchanged (λ done. map (completed_by g.M.Payload.bytes) done.items)
     (call_limit_link c.args.now c.args.origin.now c.args.recipient.now c.args.cap) c.args.now c.ranges.now.fits refl
     c.answer_limit_link-answer.ensures.answered c.answer_limit_link-answer.ensures.refused in
     let new = c.conclude.new.self in
@@ -32,7 +32,7 @@ returns-clause-made g c =
     let so =
     call_is g.met.P.Ord.total c.args.self.now c.in_ok-kept.kept c.answer_limit_link-answer.new.self
     c.conclude.new.self c.in_ok-kept.ensures.kept c.answer_limit_link-answer.ensures.before
-    c.answer_limit_link-answer.result c.conclude.ensures.made c.conclude.ensures.unchanged (λ done. map completed_of done.items)
+    c.answer_limit_link-answer.result c.conclude.ensures.made c.conclude.ensures.unchanged (λ done. map (completed_by g.M.Payload.bytes) done.items)
     (call_limit_link c.args.now c.args.origin.now c.args.recipient.now c.args.cap) c.args.now c.ranges.now.fits refl
     c.answer_limit_link-answer.ensures.answered c.answer_limit_link-answer.ensures.refused in
     rw c.conclude.ensures.answer so.good
@@ -42,7 +42,7 @@ returns-clause-refused g c =
     let so =
     call_is g.met.P.Ord.total c.args.self.now c.in_ok-kept.kept c.answer_limit_link-answer.new.self
     c.conclude.new.self c.in_ok-kept.ensures.kept c.answer_limit_link-answer.ensures.before
-    c.answer_limit_link-answer.result c.conclude.ensures.made c.conclude.ensures.unchanged (λ done. map completed_of done.items)
+    c.answer_limit_link-answer.result c.conclude.ensures.made c.conclude.ensures.unchanged (λ done. map (completed_by g.M.Payload.bytes) done.items)
     (call_limit_link c.args.now c.args.origin.now c.args.recipient.now c.args.cap) c.args.now c.ranges.now.fits refl
     c.answer_limit_link-answer.ensures.answered c.answer_limit_link-answer.ensures.refused in
     rw c.conclude.ensures.answer so.bad

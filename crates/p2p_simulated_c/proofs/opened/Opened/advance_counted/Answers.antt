@@ -16,8 +16,8 @@ returns-in-Ok-clause-ended c =
 pub returns-in-Err-clause-ended : goal.returns-in-Err-clause-ended
 returns-in-Err-clause-ended c =
     let between : Opened = record c.args.self.now { state = c.advance_counted.new.self } in
-    ended {V = List (Completion ℕ)} (λ done. done) (Err c.in-Err.why) _ c.keep-in-Err.result c.keep-in-Err.new.count
+    ended {V = List (Completion ℕ (List ℕ))} (λ done. done) (Err c.in-Err.why) _ c.keep-in-Err.result c.keep-in-Err.new.count
     c.args.self.now between c.keep-in-Err.new.self
     c.keep-in-Err.ensures.state c.keep-in-Err.ensures.status c.keep-in-Err.ensures.completed
     c.keep-in-Err.ensures.counted c.keep-in-Err.ensures.moment refl refl refl tt c.in-Err.ensures.refused
-    (same_plan {V = List (Completion ℕ)} (Err c.in-Err.why) c.args.self.now between c.in-Err.ensures.unchanged)
+    (same_plan {V = List (Completion ℕ (List ℕ))} (Err c.in-Err.why) c.args.self.now between c.in-Err.ensures.unchanged)

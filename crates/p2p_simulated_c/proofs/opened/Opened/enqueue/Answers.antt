@@ -6,7 +6,7 @@ use Rattle.p2p_simulated_c.proofs.opened.Opened.enqueue.Goals as goal
 pub returns : goal.returns
 returns c =
     let between : Opened = record c.args.self.now { state = c.enqueue-answer.new.self } in
-    rw (sym c.in-Ok.ensures)
+    rw (sym c.in-Ok.ensures, sym c.into_contents.ensures)
     (ended (λ done. done.items) c.enqueue-answer.result _ c.keep.result c.keep.new.count c.args.self.now between
     c.keep.new.self
     c.keep.ensures.state c.keep.ensures.status c.keep.ensures.completed c.keep.ensures.counted c.keep.ensures.moment refl refl refl

@@ -7,8 +7,7 @@ use Rattle.p2p_simulated_c.proofs.opened.Opened.enqueue_all.Goals as goal
 
 pub returns : goal.returns
 returns c =
-    let between : Opened =
-    record c.args.self.now { state = c.enqueue_all-answer.new.self; zeros = c.messages_of.new.zeros } in
+    let between : Opened = record c.args.self.now { state = c.enqueue_all-answer.new.self } in
     let sent = map (message_at c.args.bytes.now) c.args.parcels.now in
     ended (λ done. done.items) c.enqueue_all-answer.result _ c.keep.result c.keep.new.count c.args.self.now between
     c.keep.new.self

@@ -14,21 +14,21 @@ returns-then-index-len-clause-written c =
     none_written _ c.args.out.now
     (ap (λ o. drop c.args.from (completed_bytes o)) past ∙ drop_all c.args.from [] (omega arith))
 
--- the bytes that are copied are those of the completion
+-- what is copied is what the completion has
 copied : (c : goal.After-slice_known-2-1)
-    → c.as_slice.result.now ≡ completed_bytes (slice_get c.args.self.now.completed.items c.args.index)
+    → c.index.result.now.message ≡ completed_bytes (slice_get c.args.self.now.completed.items c.args.index)
 copied c =
     let items = c.args.self.now.completed.items in
     let long : c.len.result ≡ length items = c.len.ensures ∙ c.args.self.now.completed.ok.0 in
-    c.as_slice.ensures
-    ∙ sym
+    sym
     (ap completed_bytes
     (slice_get_read items c.len.result c.args.index c.index.result.now long c.if-index-len.false c.index.ensures))
 
 pub returns-clause-count : goal.returns-clause-count
 returns-clause-count c =
-    c.copy.ensures.count ∙ ap (λ bytes. min (length (drop c.args.from bytes)) (length c.args.out.now)) (copied c)
+    c.copy_contents.ensures.count
+    ∙ ap (λ bytes. min (length (drop c.args.from bytes)) (length c.args.out.now)) (copied c)
 
 pub returns-clause-written : goal.returns-clause-written
 returns-clause-written c =
-    c.copy.ensures.written ∙ ap (λ bytes. written (drop c.args.from bytes) c.args.out.now) (copied c)
+    c.copy_contents.ensures.written ∙ ap (λ bytes. written (drop c.args.from bytes) c.args.out.now) (copied c)

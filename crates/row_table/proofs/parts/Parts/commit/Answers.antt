@@ -3,7 +3,7 @@ use Rattle.std.specs.Option.{is_some}
 use Rattle.std.specs.Vec.{vec_capacity}
 use Rattle.std.proofs.lemmas.Fn.{filter_same}
 use Rattle.row_table.specs.Slots.{live, filled_from}
-use Rattle.row_table.specs.Index.{moment_of, Finds, Stands}
+use Rattle.row_table.specs.Index.{moment_of, Finds}
 use Rattle.row_table.specs.declared.row.Row.{Row}
 use Rattle.row_table.specs.declared.parts.Parts.{Parts}
 use Rattle.row_table.proofs.Slots.{live_filter, live_whole, room_for}
@@ -55,6 +55,7 @@ returns-then-has_many_gaps-clause-marked g c =
       slots = c.commit_kept.new.self;
       filled = c.refill.new.filled;
       index = c.close_gaps.new.self;
+      close_at = c.saturating_add-self.result;
     } in
     marked_now new new (returns-then-has_many_gaps-clause-stands g c) c.commit_kept.ensures.before c.close_gaps.ensures.sent_before
     c.close_gaps.ensures.received_before refl (room_for c.refill.new.filled c.commit_kept.new.self.items

@@ -1,0 +1,18 @@
+use Rattle.std.proofs.Common.{List, Option, Some, [], ◌∷◌, ◌++◌, ap, ◌∙◌}
+use Rattle.row_table.specs.Slots.{live}
+use Rattle.row_table.specs.declared.row.Row.{Row}
+use Rattle.row_table.proofs.Slots.{live_append}
+use Rattle.row_table.proofs.Finding.{stands_added, on_ok, on_all}
+use Rattle.row_table.proofs.parts.Parts.add_row.Goals as goal
+
+pub returns-clause-rows : goal.returns-clause-rows
+returns-clause-rows g c =
+    on_ok c.add.result (ap (λ (slots : List (Option (Row g.row.T.Denot))). live slots) c.in_ok-push-2.ensures.items
+    ∙ live_append c.args.self.now.slots.items (Some c.args.row ∷ []))
+
+pub returns-clause-stands : goal.returns-clause-stands
+returns-clause-stands g c =
+    on_all c.add.result c.add.ensures.sent c.add.ensures.received c.add.ensures.moments
+    (λ sent received moments.
+    stands_added c.args.self.now _ c.args.row c.requires.stands c.in_ok-push-2.ensures.items
+    (c.in_ok-push.ensures.items ∙ ap (λ slot. c.args.self.now.filled.items ++ slot ∷ []) c.len.ensures.items) sent received moments)
