@@ -34,24 +34,38 @@ struct Bench {
 pub fn run<W: Write>(alloc: Global, peers: u64, output: &mut W) -> Result<(), Fault>
     requires few { peers ≤ 1000 }
 {
-    let mut chance = Chance::new(SEED + 2 * peers);
-    let workload = Workload::draw(alloc, &mut chance, peers)?;
-    let mut bench = Bench {
-        alloc,
-        chance,
-        workload,
-        state: State::new(alloc),
-    };
-    bench.limit(peers, output)?;
-    let time = SECOND * (peers / 8).max(1);
-    bench.round(0, 0, time, output)?;
-    bench.round(1, time + SECOND, time, output)?;
-    bench.advance(FAR, output)?;
-    print_next(output, bench.state.next())?;
-    Ok(())
+    let mut bench = Bench::new(alloc, peers)?;
+    bench.play(peers, output)
 }
 
 impl Bench {
+    /// The workload of so many peers, of which nothing has been sent.
+    fn new(alloc: Global, peers: u64) -> Result<Bench, Fault>
+        requires few { peers ≤ 1000 }
+    {
+        let mut chance = Chance::new(SEED + 2 * peers);
+        let workload = Workload::draw(alloc, &mut chance, peers)?;
+        Ok(Bench {
+            alloc,
+            chance,
+            workload,
+            state: State::new(alloc),
+        })
+    }
+
+    /// Two rounds, and what completes after them.
+    fn play<W: Write>(&mut self, peers: u64, output: &mut W) -> Result<(), Fault>
+        requires few { peers ≤ 1000 }
+    {
+        self.limit(peers, output)?;
+        let time = SECOND * (peers / 8).max(1);
+        self.round(0, 0, time, output)?;
+        self.round(1, time + SECOND, time, output)?;
+        self.advance(FAR, output)?;
+        print_next(output, self.state.next())?;
+        Ok(())
+    }
+
     /// Sets the caps of all peers.
     fn limit<W: Write>(&mut self, peers: u64, output: &mut W) -> Result<(), Fault> {
         for peer in 0..peers {

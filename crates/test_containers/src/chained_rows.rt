@@ -2,7 +2,7 @@
 use crate::rows::{rows, weight};
 use chains::Chains;
 use std::alloc::{AllocError, Global};
-use std::test::Fail;
+use std::process::Abort;
 
 /// The rows of an owner, in order; none of an owner that is not there.
 fn listed(alloc: Global, chains: &Chains, owner: usize) -> Result<Vec<usize>, AllocError> {
@@ -44,121 +44,122 @@ fn two_owners(alloc: Global) -> Result<Chains, AllocError> {
     Ok(chains)
 }
 
-#[test]
-fn rows_stand_in_order_of_coming(rt: HostRuntime) -> Result<(), Fail> {
-    let chains = two_owners(rt.alloc())?;
-    assert_eq!(rt;
-        listed(rt.alloc(), &chains, 0)?.as_slice(),
-        [0, 2, 4].as_slice()
-    );
-    assert_eq!(rt;
-        listed(rt.alloc(), &chains, 1)?.as_slice(),
-        [1, 3, 5].as_slice()
-    );
+/// These are the rows of an owner.
+fn expect_rows(
+    rt: &(impl Abort + AllocGlobal),
+    chains: &Chains,
+    owner: usize,
+    wanted: &[usize],
+) -> Result<(), AllocError> {
+    let rows = listed(rt.alloc(), chains, owner)?;
+    assert_eq!(rt; rows.as_slice(), wanted);
+    Ok(())
+}
+
+/// These are the rows of the first two owners.
+fn expect_both(
+    rt: &(impl Abort + AllocGlobal),
+    chains: &Chains,
+    first: &[usize],
+    second: &[usize],
+) -> Result<(), AllocError> {
+    expect_rows(rt, chains, 0, first)?;
+    expect_rows(rt, chains, 1, second)
+}
+
+/// What the rows of the two owners weigh.
+fn expect_weights(rt: &impl Abort, chains: &Chains) {
     if chains.owners() > 1 && chains.rows() <= 6 {
         let weights = [1, 20, 300, 4000, 50000, u64::MAX];
-        assert_eq!(rt; weight(&chains, 0, &weights), Some(50301));
-        assert_eq!(rt; weight(&chains, 1, &weights), None);
+        assert_eq!(rt; weight(chains, 0, &weights), Some(50301));
+        assert_eq!(rt; weight(chains, 1, &weights), None);
     }
-    Ok(())
 }
 
 #[test]
-fn a_row_goes_from_the_middle_and_from_both_ends(rt: HostRuntime) -> Result<(), Fail> {
-    let mut chains = two_owners(rt.alloc())?;
-    take(&mut chains, 2)?;
-    assert_eq!(rt;
-        listed(rt.alloc(), &chains, 0)?.as_slice(),
-        [0, 4].as_slice()
-    );
-    take(&mut chains, 4)?;
-    add(&mut chains, 0)?;
-    assert_eq!(rt;
-        listed(rt.alloc(), &chains, 0)?.as_slice(),
-        [0, 6].as_slice()
-    );
-    take(&mut chains, 0)?;
-    take(&mut chains, 6)?;
-    assert_eq!(rt; listed(rt.alloc(), &chains, 0)?.len(), 0);
-    add(&mut chains, 0)?;
-    assert_eq!(rt; listed(rt.alloc(), &chains, 0)?.as_slice(), [7].as_slice());
-    assert_eq!(rt;
-        listed(rt.alloc(), &chains, 1)?.as_slice(),
-        [1, 3, 5].as_slice()
-    );
-    Ok(())
+fn rows_stand_in_order_of_coming(rt: HostRuntime) -> Result<(), AllocError> {
+    let chains = two_owners(rt.alloc())?;
+    expect_weights(&rt, &chains);
+    expect_both(&rt, &chains, &[0, 2, 4], &[1, 3, 5])
+}
+
+/// Rows of the first owner go from the middle and from both ends, and two come.
+fn take_from_all_sides(
+    rt: &(impl Abort + AllocGlobal),
+    chains: &mut Chains,
+) -> Result<(), AllocError> {
+    take(chains, 2)?;
+    expect_rows(rt, chains, 0, &[0, 4])?;
+    take(chains, 4)?;
+    add(chains, 0)?;
+    expect_rows(rt, chains, 0, &[0, 6])?;
+    take(chains, 0)?;
+    take(chains, 6)?;
+    expect_rows(rt, chains, 0, &[])?;
+    add(chains, 0)?;
+    expect_both(rt, chains, &[7], &[1, 3, 5])
 }
 
 #[test]
-fn all_is_taken_back(rt: HostRuntime) -> Result<(), Fail> {
+fn a_row_goes_from_the_middle_and_from_both_ends(rt: HostRuntime) -> Result<(), AllocError> {
     let mut chains = two_owners(rt.alloc())?;
-    take(&mut chains, 2)?;
-    take(&mut chains, 1)?;
-    add(&mut chains, 1)?;
+    take_from_all_sides(&rt, &mut chains)
+}
+
+/// Rows go and come, one of an owner who comes with it.
+fn change(chains: &mut Chains) -> Result<(), AllocError> {
+    take(chains, 2)?;
+    take(chains, 1)?;
+    add(chains, 1)?;
     chains.add_owner()?;
-    add(&mut chains, 2)?;
-    assert_eq!(rt; listed(rt.alloc(), &chains, 2)?.as_slice(), [7].as_slice());
+    add(chains, 2)
+}
+
+fn take_back(rt: &(impl Abort + AllocGlobal), chains: &mut Chains) -> Result<(), AllocError> {
+    change(chains)?;
+    expect_rows(rt, chains, 2, &[7])?;
     chains.undo();
     assert_eq!(rt; chains.owners(), 2);
-    assert_eq!(rt;
-        listed(rt.alloc(), &chains, 0)?.as_slice(),
-        [0, 2, 4].as_slice()
-    );
-    assert_eq!(rt;
-        listed(rt.alloc(), &chains, 1)?.as_slice(),
-        [1, 3, 5].as_slice()
-    );
-    add(&mut chains, 0)?;
-    assert_eq!(rt;
-        listed(rt.alloc(), &chains, 0)?.as_slice(),
-        [0, 2, 4, 6].as_slice()
-    );
-    Ok(())
+    expect_both(rt, chains, &[0, 2, 4], &[1, 3, 5])?;
+    add(chains, 0)?;
+    expect_rows(rt, chains, 0, &[0, 2, 4, 6])
 }
 
 #[test]
-fn gaps_are_closed(rt: HostRuntime) -> Result<(), Fail> {
+fn all_is_taken_back(rt: HostRuntime) -> Result<(), AllocError> {
     let mut chains = two_owners(rt.alloc())?;
-    take(&mut chains, 2)?;
-    take(&mut chains, 1)?;
+    take_back(&rt, &mut chains)
+}
+
+fn close_gaps(rt: &(impl Abort + AllocGlobal), chains: &mut Chains) -> Result<(), AllocError> {
+    take(chains, 2)?;
+    take(chains, 1)?;
     chains.close_gaps();
     assert_eq!(rt; chains.rows(), 4);
-    assert_eq!(rt;
-        listed(rt.alloc(), &chains, 0)?.as_slice(),
-        [0, 2].as_slice()
-    );
-    assert_eq!(rt;
-        listed(rt.alloc(), &chains, 1)?.as_slice(),
-        [1, 3].as_slice()
-    );
-    add(&mut chains, 0)?;
+    expect_both(rt, chains, &[0, 2], &[1, 3])?;
+    add(chains, 0)?;
     chains.undo();
-    add(&mut chains, 1)?;
-    assert_eq!(rt;
-        listed(rt.alloc(), &chains, 1)?.as_slice(),
-        [1, 3, 4].as_slice()
-    );
-    Ok(())
+    add(chains, 1)?;
+    expect_rows(rt, chains, 1, &[1, 3, 4])
+}
+
+#[test]
+fn gaps_are_closed(rt: HostRuntime) -> Result<(), AllocError> {
+    let mut chains = two_owners(rt.alloc())?;
+    close_gaps(&rt, &mut chains)
+}
+
+/// One row goes, and one comes, or all is as it was.
+fn take_one(rt: &(impl Abort + AllocGlobal), chains: &mut Chains) -> Result<(), AllocError> {
+    if take(chains, 2).is_err() || add(chains, 0).is_err() {
+        return expect_both(rt, chains, &[0, 2, 4], &[1, 3, 5]);
+    }
+    expect_rows(rt, chains, 0, &[0, 4, 6])
 }
 
 /// Whichever piece of memory is refused, the rows stand as they did at the mark.
 #[test]
-fn where_memory_is_refused_all_is_taken_back(rt: HostRuntime) -> Result<(), Fail> {
+fn where_memory_is_refused_all_is_taken_back(rt: HostRuntime) -> Result<(), AllocError> {
     let mut chains = two_owners(rt.alloc())?;
-    if take(&mut chains, 2).is_err() || add(&mut chains, 0).is_err() {
-        assert_eq!(rt;
-            listed(rt.alloc(), &chains, 0)?.as_slice(),
-            [0, 2, 4].as_slice()
-        );
-        assert_eq!(rt;
-            listed(rt.alloc(), &chains, 1)?.as_slice(),
-            [1, 3, 5].as_slice()
-        );
-        return Ok(());
-    }
-    assert_eq!(rt;
-        listed(rt.alloc(), &chains, 0)?.as_slice(),
-        [0, 4, 6].as_slice()
-    );
-    Ok(())
+    take_one(&rt, &mut chains)
 }

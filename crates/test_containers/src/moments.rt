@@ -1,7 +1,7 @@
 //! That calls succeed, and that they answer what going through all the moments does.
 use least_moment::Moments;
+use std::alloc::AllocError;
 use std::process::Abort;
-use std::test::Fail;
 
 /// The least of some moments, by going through them.
 fn least_through(moments: &[Option<u64>]) -> Option<u64> {
@@ -71,12 +71,21 @@ fn drawn_moment(state: &mut u64) -> Option<u64> {
     }
 }
 
-#[test]
-fn few_moments(rt: HostRuntime) -> Result<(), Fail> {
-    let mut moments = Moments::new(rt.alloc());
-    assert_eq!(rt; moments.least(), None);
-    assert_eq!(rt; first_place(&moments), None);
-    assert_eq!(rt; moments.next_due(0, u64::MAX), None);
+/// The least of the moments is this one, first at that place.
+fn expect_least(rt: &impl Abort, moments: &Moments, least: Option<u64>, place: Option<usize>) {
+    assert_eq!(rt; moments.least(), least);
+    assert_eq!(rt; first_place(moments), place);
+}
+
+/// In each row: from a place on, up to a time, the first place that is due.
+fn expect_due(rt: &impl Abort, moments: &Moments, rows: &[(usize, u64, Option<usize>)]) {
+    for (from, time, place) in rows {
+        assert_eq!(rt; moments.next_due(*from, *time), *place);
+    }
+}
+
+/// Adds seven moments.
+fn push_seven(moments: &mut Moments) -> Result<(), AllocError> {
     for moment in [
         None,
         Some(u64::MAX),
@@ -88,73 +97,125 @@ fn few_moments(rt: HostRuntime) -> Result<(), Fail> {
     ] {
         moments.push(moment)?;
     }
-    assert_eq!(rt; moments.len(), 7);
-    assert_eq!(rt; moments.least(), Some(3));
-    assert_eq!(rt; first_place(&moments), Some(4));
-    assert_eq!(rt; moments.next_due(0, 7), Some(2));
-    assert_eq!(rt; moments.next_due(3, 7), Some(4));
-    assert_eq!(rt; moments.next_due(5, 7), Some(5));
-    assert_eq!(rt; moments.next_due(6, 7), Some(6));
-    assert_eq!(rt; moments.next_due(7, 7), None);
-    assert_eq!(rt; moments.next_due(0, u64::MAX), Some(1));
-    assert_eq!(rt; moments.next_due(0, 2), None);
-    moments.set(4, None);
-    assert_eq!(rt; first_place(&moments), Some(6));
-    moments.truncate(6);
-    assert_eq!(rt; moments.least(), Some(7));
-    moments.truncate(2);
-    assert_eq!(rt; moments.least(), Some(u64::MAX));
-    assert_eq!(rt; moments.get(1), Some(u64::MAX));
-    assert_eq!(rt; first_place(&moments), Some(1));
-    moments.set(1, None);
-    assert_eq!(rt; moments.least(), None);
-    assert_eq!(rt; moments.next_due(0, u64::MAX), None);
     Ok(())
 }
 
+fn expect_seven(rt: &impl Abort, moments: &Moments) {
+    assert_eq!(rt; moments.len(), 7);
+    expect_least(rt, moments, Some(3), Some(4));
+    expect_due(
+        rt,
+        moments,
+        &[
+            (0, 7, Some(2)),
+            (3, 7, Some(4)),
+            (5, 7, Some(5)),
+            (6, 7, Some(6)),
+            (7, 7, None),
+            (0, u64::MAX, Some(1)),
+            (0, 2, None),
+        ],
+    );
+}
+
+/// The moment at that place changes, if there is one.
+fn set(moments: &mut Moments, at: usize, moment: Option<u64>) {
+    if at < moments.len() {
+        moments.set(at, moment);
+    }
+}
+
+/// Of the seven one is given up, then the last, then all but two, and then these.
+fn expect_fewer(rt: &impl Abort, moments: &mut Moments) {
+    set(moments, 4, None);
+    expect_least(rt, moments, Some(3), Some(6));
+    moments.truncate(6);
+    expect_least(rt, moments, Some(7), Some(2));
+    moments.truncate(2);
+    expect_least(rt, moments, Some(u64::MAX), Some(1));
+    set(moments, 1, None);
+    expect_least(rt, moments, None, None);
+    expect_due(rt, moments, &[(0, u64::MAX, None)]);
+}
+
 #[test]
-fn many_changes(rt: HostRuntime) -> Result<(), Fail> {
+fn few_moments(rt: HostRuntime) -> Result<(), AllocError> {
     let mut moments = Moments::new(rt.alloc());
-    let mut plain: Vec<Option<u64>> = Vec::new(rt.alloc());
+    expect_least(&rt, &moments, None, None);
+    push_seven(&mut moments)?;
+    expect_seven(&rt, &moments);
+    expect_fewer(&rt, &mut moments);
+    Ok(())
+}
+
+/// A moment is added or changes, or all from a place on go, and so in a plain list.
+fn change(
+    moments: &mut Moments,
+    plain: &mut Vec<Option<u64>>,
+    at: usize,
+    chosen: u64,
+    moment: Option<u64>,
+) -> Result<(), AllocError> {
+    if chosen == 0 {
+        moments.truncate(at % 80);
+        plain.truncate(at % 80);
+    } else if chosen < 32 {
+        moments.push(moment)?;
+        plain.push(moment)?;
+    } else if plain.len() > 0 {
+        let place = at % plain.len();
+        set(moments, place, moment);
+        plain[place] = moment;
+    }
+    Ok(())
+}
+
+/// Five thousand changes that look drawn by lot.
+fn change_often(
+    rt: &impl Abort,
+    moments: &mut Moments,
+    plain: &mut Vec<Option<u64>>,
+) -> Result<(), AllocError> {
     let mut state = 1;
     for _ in 0..5000 {
         let moment = drawn_moment(&mut state);
         let at = draw(&mut state) as usize;
-        match draw(&mut state) % 64 {
-            0 => {
-                let len = at % 80;
-                moments.truncate(len);
-                plain.truncate(len);
-            }
-            1..32 => {
-                moments.push(moment)?;
-                plain.push(moment)?;
-            }
-            _ => {
-                let len = plain.len();
-                if len > 0 && len == moments.len() {
-                    let place = at % len;
-                    moments.set(place, moment);
-                    plain[place] = moment;
-                }
-            }
-        }
+        let chosen = draw(&mut state) % 64;
+        change(moments, plain, at, chosen, moment)?;
         let time = draw(&mut state) % 100;
-        compare(&rt, &moments, plain.as_slice(), at % 100, time);
+        compare(rt, moments, plain.as_slice(), at % 100, time);
     }
     Ok(())
 }
 
 #[test]
-fn refused_memory_changes_nothing(rt: HostRuntime) -> Result<(), Fail> {
+fn many_changes(rt: HostRuntime) -> Result<(), AllocError> {
     let mut moments = Moments::new(rt.alloc());
-    for moment in 0..40 {
-        let before = moments.len();
-        if let Err(_) = moments.push(Some(100 - moment)) {
-            assert_eq!(rt; moments.len(), before);
-            moments.push(Some(100 - moment))?;
-        }
+    let mut plain = Vec::new(rt.alloc());
+    change_often(&rt, &mut moments, &mut plain)
+}
+
+/// Adds a moment, twice if memory is refused once.
+fn push_again(rt: &impl Abort, moments: &mut Moments, moment: u64) -> Result<(), AllocError> {
+    let before = moments.len();
+    if moments.push(Some(moment)).is_err() {
+        assert_eq!(rt; moments.len(), before);
+        moments.push(Some(moment))?;
     }
+    Ok(())
+}
+
+fn push_forty(rt: &impl Abort, moments: &mut Moments) -> Result<(), AllocError> {
+    for moment in 0..40 {
+        push_again(rt, moments, 100 - moment)?;
+    }
+    Ok(())
+}
+
+#[test]
+fn refused_memory_changes_nothing(rt: HostRuntime) -> Result<(), AllocError> {
+    let mut moments = Moments::new(rt.alloc());
+    push_forty(&rt, &mut moments)?;
     assert_eq!(rt; moments.len(), 40);
     assert_eq!(rt; first_place(&moments), Some(39));
     Ok(())

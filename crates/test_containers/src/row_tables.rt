@@ -2,7 +2,6 @@
 use row_table::{Row, RowTable};
 use std::alloc::{AllocError, Global};
 use std::process::Abort;
-use std::test::Fail;
 
 /// The row there changes, if there is one.
 fn set(
@@ -106,7 +105,7 @@ fn expect_five(rt: &impl Abort, table: &RowTable<u64>) {
 }
 
 #[test]
-fn rows_are_found_by_owner_and_by_moment(rt: HostRuntime) -> Result<(), Fail> {
+fn rows_are_found_by_owner_and_by_moment(rt: HostRuntime) -> Result<(), AllocError> {
     let mut table = RowTable::new(rt.alloc());
     five_come(&mut table)?;
     expect_five(&rt, &table);
@@ -122,17 +121,21 @@ fn three_leave(table: &mut RowTable<u64>) -> Result<(), AllocError> {
 }
 
 /// Those behind a row that leaves move up.
+fn expect_three_left(rt: &impl Abort, table: &RowTable<u64>) {
+    expect_items(rt, table, &[11, 13, 15]);
+    expect_sent(rt, table, 0, &[2]);
+    expect_sent(rt, table, 1, &[0, 1]);
+    expect_received(rt, table, 2, &[0, 2]);
+    assert_eq!(rt; table.least(), Some(7));
+    expect_due(rt, table, 99, &[1, 2]);
+}
+
 #[test]
-fn rows_leave_from_the_middle_and_from_both_ends(rt: HostRuntime) -> Result<(), Fail> {
+fn rows_leave_from_the_middle_and_from_both_ends(rt: HostRuntime) -> Result<(), AllocError> {
     let mut table = RowTable::new(rt.alloc());
     five_come(&mut table)?;
     three_leave(&mut table)?;
-    expect_items(&rt, &table, &[11, 13, 15]);
-    expect_sent(&rt, &table, 0, &[2]);
-    expect_sent(&rt, &table, 1, &[0, 1]);
-    expect_received(&rt, &table, 2, &[0, 2]);
-    assert_eq!(rt; table.least(), Some(7));
-    expect_due(&rt, &table, 99, &[1, 2]);
+    expect_three_left(&rt, &table);
     Ok(())
 }
 
@@ -144,20 +147,28 @@ fn change(table: &mut RowTable<u64>) -> Result<(), AllocError> {
     take(table, 0)
 }
 
+fn expect_changed(rt: &impl Abort, table: &RowTable<u64>) {
+    expect_items(rt, table, &[20, 13, 14, 15]);
+    expect_sent(rt, table, 3, &[3]);
+    expect_due(rt, table, 5, &[0, 3]);
+}
+
 /// All is taken back: by an undo, and where memory is refused, whichever piece it is.
-#[test]
-fn all_is_taken_back(rt: HostRuntime) -> Result<(), Fail> {
-    let mut table = RowTable::new(rt.alloc());
-    five_come(&mut table)?;
-    if change(&mut table).is_ok() {
-        expect_items(&rt, &table, &[20, 13, 14, 15]);
-        expect_sent(&rt, &table, 3, &[3]);
-        expect_due(&rt, &table, 5, &[0, 3]);
+fn take_back(rt: &impl Abort, table: &mut RowTable<u64>) -> Result<(), AllocError> {
+    five_come(table)?;
+    if change(table).is_ok() {
+        expect_changed(rt, table);
         table.undo();
     }
-    expect_five(&rt, &table);
-    expect_sent(&rt, &table, 3, &[]);
+    expect_five(rt, table);
+    expect_sent(rt, table, 3, &[]);
     Ok(())
+}
+
+#[test]
+fn all_is_taken_back(rt: HostRuntime) -> Result<(), AllocError> {
+    let mut table = RowTable::new(rt.alloc());
+    take_back(&rt, &mut table)
 }
 
 /// Sixty rows come, and all but every tenth leave, which closes up the slots at the mark.
@@ -181,20 +192,33 @@ fn one_leaves(table: &mut RowTable<u64>) -> Result<(), AllocError> {
     table.push(60, 1, 2, Some(70))
 }
 
-#[test]
-fn many_leave(rt: HostRuntime) -> Result<(), Fail> {
-    let mut table = RowTable::new(rt.alloc());
-    sixty_come_and_six_stay(&mut table)?;
-    one_leaves(&mut table)?;
-    expect_items(&rt, &table, &[0, 10, 20, 30, 40, 60]);
-    expect_due(&rt, &table, 70, &[3, 4, 5]);
-    expect_sent(&rt, &table, 1, &[5]);
-    table.undo();
-    expect_items(&rt, &table, &[0, 10, 20, 30, 40, 50]);
+/// One left and one came.
+fn expect_with_last(rt: &impl Abort, table: &RowTable<u64>) {
+    expect_items(rt, table, &[0, 10, 20, 30, 40, 60]);
+    expect_due(rt, table, 70, &[3, 4, 5]);
+    expect_sent(rt, table, 1, &[5]);
+}
+
+fn expect_six(rt: &impl Abort, table: &RowTable<u64>) {
+    expect_items(rt, table, &[0, 10, 20, 30, 40, 50]);
     assert_eq!(rt; table.least(), Some(50));
-    expect_sent(&rt, &table, 0, &[0, 1, 2, 3, 4, 5]);
-    expect_sent(&rt, &table, 1, &[]);
+    expect_sent(rt, table, 0, &[0, 1, 2, 3, 4, 5]);
+    expect_sent(rt, table, 1, &[]);
+}
+
+fn leave(rt: &impl Abort, table: &mut RowTable<u64>) -> Result<(), AllocError> {
+    sixty_come_and_six_stay(table)?;
+    one_leaves(table)?;
+    expect_with_last(rt, table);
+    table.undo();
+    expect_six(rt, table);
     Ok(())
+}
+
+#[test]
+fn many_leave(rt: HostRuntime) -> Result<(), AllocError> {
+    let mut table = RowTable::new(rt.alloc());
+    leave(&rt, &mut table)
 }
 
 /// A row of the plain list.
@@ -391,22 +415,35 @@ impl Both {
 }
 
 /// Of two thousand turns, a hundred with more rows that come, and a hundred with more that leave, by turns.
-#[test]
-fn a_table_is_a_list(rt: HostRuntime) -> Result<(), Fail> {
-    let mut both = Both::new(rt.alloc());
+fn take_turns(rt: &impl Abort, both: &mut Both) -> Result<(), AllocError> {
     let mut state = 7;
     for turn in 0..2000 {
         both.turn(&mut state, turn / 100 % 2 == 1)?;
-        both.compare(&rt, &mut state);
+        both.compare(rt, &mut state);
     }
+    Ok(())
+}
+
+#[test]
+fn a_table_is_a_list(rt: HostRuntime) -> Result<(), AllocError> {
+    let mut both = Both::new(rt.alloc());
+    take_turns(&rt, &mut both)
+}
+
+/// A row comes, and one leaves.
+fn exchange(rt: &impl Abort, both: &mut Both, state: &mut u64) -> Result<(), AllocError> {
+    let (comes, leaves) = (draw_row(state), draw_row(state));
+    step(&mut both.table, &mut both.plain, 0, 0, comes)?;
+    both.compare(rt, state);
+    let at = (draw(state) % 5) as usize;
+    step(&mut both.table, &mut both.plain, at, 15, leaves)?;
+    both.compare(rt, state);
     Ok(())
 }
 
 /// Within a mark 600 rows come and go, with four or five there at once, in another order than they came; then all is
 /// taken back.
-#[test]
-fn many_come_and_go_within_a_mark(rt: HostRuntime) -> Result<(), Fail> {
-    let mut both = Both::new(rt.alloc());
+fn exchange_often(rt: &impl Abort, both: &mut Both) -> Result<(), AllocError> {
     let mut state = 7;
     for _ in 0..4 {
         let row = draw_row(&mut state);
@@ -414,14 +451,15 @@ fn many_come_and_go_within_a_mark(rt: HostRuntime) -> Result<(), Fail> {
     }
     both.commit()?;
     for _ in 0..600 {
-        let (comes, leaves) = (draw_row(&mut state), draw_row(&mut state));
-        step(&mut both.table, &mut both.plain, 0, 0, comes)?;
-        both.compare(&rt, &mut state);
-        let at = (draw(&mut state) % 5) as usize;
-        step(&mut both.table, &mut both.plain, at, 15, leaves)?;
-        both.compare(&rt, &mut state);
+        exchange(rt, both, &mut state)?;
     }
     both.undo()?;
-    both.compare(&rt, &mut state);
+    both.compare(rt, &mut state);
     Ok(())
+}
+
+#[test]
+fn many_come_and_go_within_a_mark(rt: HostRuntime) -> Result<(), AllocError> {
+    let mut both = Both::new(rt.alloc());
+    exchange_often(&rt, &mut both)
 }
