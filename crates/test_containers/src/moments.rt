@@ -125,6 +125,14 @@ fn set(moments: &mut Moments, at: usize, moment: Option<u64>) {
     }
 }
 
+/// The last of the moments is this one.
+fn expect_last(rt: &impl Abort, moments: &Moments, last: Option<u64>) {
+    assert!(rt; !moments.is_empty());
+    if !moments.is_empty() {
+        assert_eq!(rt; moments.get(moments.len() - 1), last);
+    }
+}
+
 /// Of the seven one is given up, then the last, then all but two, and then these.
 fn expect_fewer(rt: &impl Abort, moments: &mut Moments) {
     set(moments, 4, None);
@@ -133,6 +141,7 @@ fn expect_fewer(rt: &impl Abort, moments: &mut Moments) {
     expect_least(rt, moments, Some(7), Some(2));
     moments.truncate(2);
     expect_least(rt, moments, Some(u64::MAX), Some(1));
+    expect_last(rt, moments, Some(u64::MAX));
     set(moments, 1, None);
     expect_least(rt, moments, None, None);
     expect_due(rt, moments, &[(0, u64::MAX, None)]);
@@ -142,6 +151,7 @@ fn expect_fewer(rt: &impl Abort, moments: &mut Moments) {
 fn few_moments(rt: HostRuntime) -> Result<(), AllocError> {
     let mut moments = Moments::new(rt.alloc());
     expect_least(&rt, &moments, None, None);
+    expect_due(&rt, &moments, &[(0, u64::MAX, None)]);
     push_seven(&mut moments)?;
     expect_seven(&rt, &moments);
     expect_fewer(&rt, &mut moments);
