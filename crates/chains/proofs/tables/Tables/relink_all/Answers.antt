@@ -10,7 +10,8 @@ loop-row-preserved-in_default c =
     let start : Table = now_of c.args.self.now in
     let t : Table = now_of c.loop-row.self in
     let row = c.loop-row.row in
-    let is = ap (λ (link : Link). link.owner) (get_or_from_slice_get t.links row c.at.result.now no_link c.at.ensures) in
+    let is = ap (λ (link : Link). link.owner) (get_or_from_slice_get t.links row c.at.result.now no_link c.at.ensures)
+    ∙ sym c.get.ensures in
     let low : row < length start.links = omega (arith, c.loop-row-test.true, c.len-row-end.ensures.items) in
     absurd (never_empty start t row c.requires.filled c.loop-row.invariant.rows low (is ∙ c.in_default.is))
 
@@ -21,8 +22,16 @@ relink-requires-clause-owner c =
     let row = c.loop-row.row in
     let low : row < length start.links = omega (arith, c.loop-row-test.true, c.len-row-end.ensures.items) in
     let there : Stands t c.in-Some.owner row =
-    ap (λ (link : Link). link.owner) (get_or_from_slice_get t.links row c.at.result.now no_link c.at.ensures) ∙ c.in-Some.is in
+    ap (λ (link : Link). link.owner) (get_or_from_slice_get t.links row c.at.result.now no_link c.at.ensures)
+    ∙ sym c.get.ensures ∙ c.in-Some.is in
     owner_within start t row c.requires.filled c.loop-row.invariant.rows low c.in-Some.owner there
+
+pub relink-requires-clause-row : goal.relink-requires-clause-row
+relink-requires-clause-row c =
+    let start : Table = now_of c.args.self.now in
+    let t : Table = now_of c.loop-row.self in
+    let long = (same_lengths t start c.loop-row.invariant.rows).0 in
+    omega (arith, long, c.loop-row-test.true, c.len-row-end.ensures.items)
 
 pub relink-requires-clause-free_end : goal.relink-requires-clause-free_end
 relink-requires-clause-free_end c =
@@ -45,7 +54,8 @@ relink-requires-clause-free_last c =
     let row = c.loop-row.row in
     let low : row < length start.links = omega (arith, c.loop-row-test.true, c.len-row-end.ensures.items) in
     let there : Stands t c.in-Some.owner row =
-    ap (λ (link : Link). link.owner) (get_or_from_slice_get t.links row c.at.result.now no_link c.at.ensures) ∙ c.in-Some.is in
+    ap (λ (link : Link). link.owner) (get_or_from_slice_get t.links row c.at.result.now no_link c.at.ensures)
+    ∙ sym c.get.ensures ∙ c.in-Some.is in
     last_free start t row c.requires.filled c.loop-row.invariant.rows low c.in-Some.owner (length start.links)
     c.loop-row.self.links.saved there c.loop-row.invariant.chained (c.loop-row.invariant.links ∙ c.requires.links) (omega arith)
 
@@ -56,7 +66,8 @@ loop-row-preserved c =
     let row = c.loop-row.row in
     let low : row < length start.links = omega (arith, c.loop-row-test.true, c.len-row-end.ensures.items) in
     let there : Stands t c.in-Some.owner row =
-    ap (λ (link : Link). link.owner) (get_or_from_slice_get t.links row c.at.result.now no_link c.at.ensures) ∙ c.in-Some.is in
+    ap (λ (link : Link). link.owner) (get_or_from_slice_get t.links row c.at.result.now no_link c.at.ensures)
+    ∙ sym c.get.ensures ∙ c.in-Some.is in
     record {
       links = c.relink.ensures.links ∙ c.loop-row.invariant.links;
       ends = c.relink.ensures.ends ∙ c.loop-row.invariant.ends;
