@@ -20,10 +20,13 @@ use crate::peer::Peer;
 use std::alloc::{AllocError, Global};
 
 /// A new side has room for so many users, before its list has to move.
-const FEW_USERS: usize = 32;
+const FEW_USERS: usize = 24;
 
-/// So many of the first sides have room for as many users more as there are sides before them. So each
-/// asks for another size, and finds a piece of memory that a side gave back.
+/// So many sides have room for the same number of users, and those after them for one more. So not all ask
+/// for one size, and most find a piece of memory that a side gave back.
+const SIDES_ALIKE: usize = 16;
+
+/// Up to so many sides each has more room than those before it.
 const VARIED_SIDES: usize = 256;
 
 /// There is room for at least so many sides, before their list has to move.
@@ -178,11 +181,7 @@ impl<'a, P: Peer> Registry<'a, P> {
 
 /// How many users the side of that number has room for at first.
 fn room_of(number: usize) -> usize {
-    if number < VARIED_SIDES {
-        number + FEW_USERS
-    } else {
-        FEW_USERS
-    }
+    FEW_USERS + number % VARIED_SIDES / SIDES_ALIKE
 }
 
 /// Registers that the flow at `place` asks for the side of `subject`, which is not there yet, and whose
