@@ -1,4 +1,5 @@
 pub mod Finding
+pub mod Leaving
 pub mod Nexts
 pub mod Popping
 pub mod Slots

@@ -1,5 +1,5 @@
 -- What is kept beside the slots, once the last slot is empty and gone.
-use Rattle.std.proofs.Common.{◌≡◌, ℕ, suc, ◌+◌, ◌-◌, List, [], ◌∷◌, ◌++◌, Option, Some, None, true, false, IsSome, is_some}
+use Rattle.std.proofs.Common.{◌≡◌, ℕ, suc, ◌+◌, ◌-◌, List, [], ◌∷◌, ◌++◌, Option, Some, None, false, IsSome, is_some}
 use Rattle.std.proofs.Common.{length, map, take, refl, sym, subst, ap, ◌∙◌, arith}
 use Rattle.std.specs.Option.{option_to_list}
 use Rattle.std.specs.Prelude.{slice_set, slice_index_or}
@@ -17,10 +17,6 @@ use Rattle.row_table.proofs.Slots.{filled_more, live_append}
 pub none_there : {A : Type 0} (o : Option A) → is_some o ≡ false → o ≡ None
 none_there None e = refl
 none_there (Some a) e = cc
-
-pub one_there : {A : Type 0} (o : Option A) → is_some o ≡ true → IsSome o
-one_there None e = cc
-one_there (Some a) e = refl
 
 module _ {T : Type 0} where
   -- an empty slot is emptied

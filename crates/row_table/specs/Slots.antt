@@ -1,6 +1,8 @@
 -- Slots in order of coming, each of which holds a row or is empty since its row left.
-use Rattle.std.specs.Prelude.{◌≡◌, ℕ, suc, ◌+◌, Bool, true, List, [], ◌∷◌, Option, Some, None, slice_get, slice_index_or}
+use Rattle.std.specs.Prelude.{◌≡◌, ℕ, suc, ◌<◌, Bool, true, false, List, [], ◌∷◌, Option, Some, None}
+use Rattle.std.specs.Prelude.{slice_get, slice_set, slice_index_or, length}
 use Rattle.chains.specs.Places.{IsFirst}
+use Rattle.undo_list.specs.Versions.{Versions}
 use Rattle.row_table.specs.declared.row.Row.{Row}
 use Rattle.row_table.specs.Rows.{passes}
 
@@ -31,3 +33,20 @@ IsPlaceOf filled None None = Unit {0}
 IsPlaceOf filled None (Some at) = ⊥
 IsPlaceOf filled (Some slot) None = ⊥
 IsPlaceOf filled (Some slot) (Some at) = slice_get filled at ≡ Some slot
+
+-- the slots, as they are and as they were at the last mark, and those of the rows that left since and are kept until the next
+pub record SlotVersions (T : Type 0) : Type 0 where
+  pub items : List (Option (Row T))
+  pub before : List (Option (Row T))
+  pub left : List ℕ
+
+-- the slots, once these are empty
+abbrev pub emptied : {T : Type 0} → List (Option (Row T)) → List ℕ → List (Option (Row T))
+emptied slots [] = slots
+emptied slots (slot ∷ left) = slice_set (emptied slots left) slot None
+
+-- what a slot holds is what it held at the mark, and is not saved
+pub record IsLeft {T : Type 0} (list : Versions (Option (Row T))) (slot : ℕ) : Type 0 where
+  pub before : slot < length list.before
+  pub within : slot < length list.items
+  pub unsaved : slice_index_or list.saved slot true ≡ false

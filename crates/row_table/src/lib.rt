@@ -6,6 +6,7 @@ mod filled;
 mod index;
 mod parts;
 mod row;
+mod slot_list;
 mod table;
 
 pub use row::Row;

@@ -1,5 +1,5 @@
 //! The parts of a table.
-ghost use Rattle.std.specs.Prelude.{◌≡◌, ℕ, suc, ◌<◌, ◌++◌, ◌∷◌, [], None, Some};
+ghost use Rattle.std.specs.Prelude.{◌≡◌, ℕ, suc, ◌<◌, ◌≤◌, ◌++◌, ◌∷◌, [], None, Some};
 ghost use Rattle.std.specs.Prelude.{IsSome, IfSome, IfOk, OnOk, length, remove, reverse, slice_get, slice_set, take};
 ghost use Rattle.row_table.specs.Rows.{with_item};
 ghost use Rattle.std.specs.Option.{option_to_list};
@@ -9,14 +9,14 @@ ghost use Rattle.row_table.specs.Index.{sender_of, receiver_of, Finds, Stands, M
 use super::filled::{place_of, refill};
 use super::index::Index;
 use super::row::Row;
+use super::slot_list::Slots;
 use std::alloc::{AllocError, Global};
-use undo_list::UndoList;
 
 /// The rows, each in a slot, and how they are found. They may stand in the middle of a change.
 #[derive(Drop)]
 pub(crate) struct Parts<T> {
     // A row that leaves its slot leaves it empty.
-    pub(crate) slots: UndoList<Option<Row<T>>>,
+    pub(crate) slots: Slots<T>,
     // The slots that hold a row, in order: the row at a place is that of the slot at the same place here.
     pub(crate) filled: Vec<usize>,
     pub(crate) index: Index,
@@ -39,7 +39,7 @@ impl<T: Drop> Parts<T> {
         ensures marked { Marked result }
     {
         Parts {
-            slots: UndoList::new(alloc),
+            slots: Slots::new(alloc),
             filled: Vec::new(alloc),
             index: Index::new(alloc),
             close_at: NEW,
@@ -85,12 +85,13 @@ impl<T: Drop> Parts<T> {
         requires stands { Stands self.old }
         requires marked { Marked self.old }
         requires last { length self.old.slots.items ≡ suc slot }
+        requires after { length self.old.slots.before ≤ slot }
         ensures slots { self.new.slots ≡ self.old.slots }
         ensures found { OnOk result (Finds self.new.index (slice_set self.old.slots.items slot None)) }
         ensures filled { OnOk result (self.new.filled.items ≡ filled_from (take slot self.old.slots.items) 0) }
         ensures marked { Marked self.new }
     {
-        if self.slots.at(slot).is_none() {
+        if !self.slots.is_filled(slot) {
             return Ok(());
         }
         let (sender, receiver) = self.owners_in(slot);
@@ -122,7 +123,8 @@ impl<T: Drop> Parts<T> {
     fn pop_new(&mut self, rows: &mut Vec<Row<T>>) -> Result<(), AllocError>
         requires stands { Stands self.old }
         requires marked { Marked self.old }
-        ensures rows { OnOk result (live self.new.slots.items ++ reverse rows.new.items ≡ live self.old.slots.items ++ reverse rows.old.items) }
+        ensures rows { OnOk result
+            (live self.new.slots.items ++ reverse rows.new.items ≡ live self.old.slots.items ++ reverse rows.old.items) }
         ensures before { self.new.slots.before ≡ self.old.slots.before }
         ensures stands { OnOk result (Stands self.new) }
         ensures marked { Marked self.new }
@@ -181,7 +183,7 @@ impl<T: Drop> Parts<T> {
     {
         let (sender, receiver, moment) = (row.sender, row.receiver, row.moment);
         self.filled.push(self.slots.len())?;
-        self.slots.push(Some(row))?;
+        self.slots.push(row)?;
         self.index.add(sender, receiver, moment)
     }
 
@@ -204,7 +206,7 @@ impl<T: Drop> Parts<T> {
             receiver,
             moment,
         };
-        self.slots.set(slot, Some(row))?;
+        self.slots.set(slot, row)?;
         self.index.moments.set(slot, moment);
         Ok(())
     }
@@ -221,7 +223,7 @@ impl<T: Drop> Parts<T> {
     {
         let slot = self.slot_at(at);
         let (sender, receiver) = self.owners_in(slot);
-        self.slots.set(slot, None)?;
+        self.slots.take(slot)?;
         self.index.take(slot, sender, receiver)?;
         self.filled.remove(at);
         Ok(())
@@ -233,10 +235,8 @@ impl<T: Drop> Parts<T> {
         ensures sender { sender_of (held self.now.slots.items slot) ≡ Some result.0 }
         ensures receiver { receiver_of (held self.now.slots.items slot) ≡ Some result.1 }
     {
-        match self.slots.at(slot) {
-            Some(row) => (row.sender, row.receiver),
-            None => unreachable!(),
-        }
+        let row = self.slots.at(slot);
+        (row.sender, row.receiver)
     }
 
     /// Whether so many slots are empty that closing them up pays.
@@ -260,7 +260,7 @@ impl<T: Drop> Parts<T> {
     {
         self.close_at = self.slots.len().saturating_add(NEW);
         if self.has_many_gaps() {
-            self.slots.commit_kept(|slot| slot.is_some());
+            self.slots.commit_kept();
             self.index.close_gaps(self.slots.as_slice());
             refill(&mut self.filled, self.slots.as_slice());
             return;

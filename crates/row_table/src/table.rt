@@ -66,10 +66,7 @@ impl<T: Drop> RowTable<T> {
         requires { at < length self.now.now }
         ensures { slice_get self.now.now at ≡ Some result.now }
     {
-        match self.parts.slots.at(self.parts.slot_at(at)) {
-            Some(row) => row,
-            None => unreachable!(),
-        }
+        self.parts.slots.at(self.parts.slot_at(at))
     }
 
     /// The row at that place, if there is one.

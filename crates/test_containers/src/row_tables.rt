@@ -2,12 +2,13 @@
 use row_table::{Row, RowTable};
 use std::alloc::{AllocError, Global};
 use std::process::Abort;
+use std::rc::Rc;
 
 /// The row there changes, if there is one.
-fn set(
-    table: &mut RowTable<u64>,
+fn set<T: Drop>(
+    table: &mut RowTable<T>,
     at: usize,
-    item: u64,
+    item: T,
     moment: Option<u64>,
 ) -> Result<(), AllocError> {
     if at >= table.len() {
@@ -17,7 +18,7 @@ fn set(
 }
 
 /// The row there leaves, if there is one.
-fn take(table: &mut RowTable<u64>, at: usize) -> Result<(), AllocError> {
+fn take<T: Drop>(table: &mut RowTable<T>, at: usize) -> Result<(), AllocError> {
     if at >= table.len() {
         return Ok(());
     }
@@ -169,6 +170,112 @@ fn take_back(rt: &impl Abort, table: &mut RowTable<u64>) -> Result<(), AllocErro
 fn all_is_taken_back(rt: HostRuntime) -> Result<(), AllocError> {
     let mut table = RowTable::new(rt.alloc());
     take_back(&rt, &mut table)
+}
+
+/// One leaves, two change, and one of these leaves then.
+fn change_and_leave(table: &mut RowTable<u64>) -> Result<(), AllocError> {
+    take(table, 1)?;
+    set(table, 1, 20, Some(5))?;
+    set(table, 3, 21, None)?;
+    take(table, 1)
+}
+
+fn expect_changed_and_left(rt: &impl Abort, table: &RowTable<u64>) {
+    expect_items(rt, table, &[10, 13, 21]);
+    expect_sent(rt, table, 0, &[0, 2]);
+    expect_sent(rt, table, 1, &[1]);
+    expect_received(rt, table, 2, &[0]);
+    expect_received(rt, table, 0, &[1, 2]);
+    assert_eq!(rt; table.least(), Some(40));
+    expect_due(rt, table, 99, &[0, 1]);
+}
+
+/// Rows that left come back as they were at the mark, twice.
+fn come_back(rt: &impl Abort, table: &mut RowTable<u64>) -> Result<(), AllocError> {
+    for _ in 0..2 {
+        change_and_leave(table)?;
+        expect_changed_and_left(rt, table);
+        table.undo();
+        expect_five(rt, table);
+    }
+    Ok(())
+}
+
+#[test]
+fn rows_that_left_come_back(rt: HostRuntime) -> Result<(), AllocError> {
+    let mut table = RowTable::new(rt.alloc());
+    five_come(&mut table)?;
+    come_back(&rt, &mut table)
+}
+
+/// After a mark they do not, and of those that stay one that leaves does.
+fn stay_away(rt: &impl Abort, table: &mut RowTable<u64>) -> Result<(), AllocError> {
+    change_and_leave(table)?;
+    table.commit();
+    expect_changed_and_left(rt, table);
+    table.undo();
+    expect_changed_and_left(rt, table);
+    take(table, 2)?;
+    expect_items(rt, table, &[10, 13]);
+    table.undo();
+    expect_changed_and_left(rt, table);
+    Ok(())
+}
+
+#[test]
+fn rows_that_left_before_a_mark_stay_away(rt: HostRuntime) -> Result<(), AllocError> {
+    let mut table = RowTable::new(rt.alloc());
+    five_come(&mut table)?;
+    stay_away(&rt, &mut table)
+}
+
+/// Two rows come with one item, and a mark is set.
+fn two_share(table: &mut RowTable<Rc<u64>>, item: &Rc<u64>) -> Result<(), AllocError> {
+    table.push(item.clone()?, 0, 1, None)?;
+    table.push(item.clone()?, 0, 1, None)?;
+    table.commit();
+    Ok(())
+}
+
+/// So many rows are there, and in so many places the item is kept, of which one is outside of the table.
+fn expect_shared(
+    rt: &impl Abort,
+    table: &RowTable<Rc<u64>>,
+    item: &Rc<u64>,
+    rows: usize,
+    kept: usize,
+) {
+    assert_eq!(rt; table.len(), rows);
+    assert_eq!(rt; Rc::strong_count(item), kept);
+}
+
+/// One row leaves and comes back; it leaves again, and the other one changes and leaves.
+fn let_items_go(
+    rt: &impl Abort,
+    table: &mut RowTable<Rc<u64>>,
+    item: &Rc<u64>,
+) -> Result<(), AllocError> {
+    take(table, 0)?;
+    table.undo();
+    expect_shared(rt, table, item, 2, 3);
+    take(table, 0)?;
+    table.commit();
+    expect_shared(rt, table, item, 1, 2);
+    set(table, 0, item.clone()?, None)?;
+    expect_shared(rt, table, item, 1, 3);
+    take(table, 0)?;
+    table.commit();
+    expect_shared(rt, table, item, 0, 1);
+    Ok(())
+}
+
+/// No item of a row that left is kept past a mark.
+#[test]
+fn items_of_rows_that_left_are_let_go(rt: HostRuntime) -> Result<(), AllocError> {
+    let item = Rc::new(rt.alloc(), 7)?;
+    let mut table = RowTable::new(rt.alloc());
+    two_share(&mut table, &item)?;
+    let_items_go(&rt, &mut table, &item)
 }
 
 /// Sixty rows come, and all but every tenth leave, which closes up the slots at the mark.

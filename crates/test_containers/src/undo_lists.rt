@@ -91,6 +91,26 @@ fn a_commit_keeps_some_of_the_items(rt: HostRuntime) -> Result<(), AllocError> {
     commit_odd_items(&rt, &mut list)
 }
 
+/// What is written stays after an undo, and takes no memory.
+fn write_and_undo(rt: &impl Abort, list: &mut UndoList<u64>) -> Result<(), AllocError> {
+    if list.len() > 2 {
+        list.set(0, 10)?;
+        if !list.is_saved(1) {
+            list.write(1, 20);
+        }
+    }
+    expect(rt, list, &[10, 20, 3], 1);
+    list.undo();
+    expect(rt, list, &[1, 20, 3], 0);
+    Ok(())
+}
+
+#[test]
+fn what_is_written_stays(rt: HostRuntime) -> Result<(), AllocError> {
+    let mut list = marked(rt.alloc(), &[1, 2, 3])?;
+    write_and_undo(&rt, &mut list)
+}
+
 /// A text is added.
 fn push_text(alloc: Global, list: &mut UndoList<String>, text: &str) -> Result<(), AllocError> {
     list.push(String::from_str(alloc, text)?)

@@ -1,12 +1,11 @@
-use Rattle.std.proofs.Common.{rules, ◌≡◌, ◌≤◌, ◌∙◌, map, Some, List, Option, refl, sym, subst, ap, length}
-use Rattle.std.specs.Option.{is_some}
+use Rattle.std.proofs.Common.{◌≡◌, ◌≤◌, ◌∙◌, map, Some, List, Option, refl, sym, subst, ap, length, arith}
 use Rattle.std.specs.Vec.{vec_capacity}
-use Rattle.std.proofs.lemmas.Fn.{filter_same}
+use Rattle.std.proofs.lemmas.List.{length-map}
 use Rattle.row_table.specs.Slots.{live, filled_from}
 use Rattle.row_table.specs.Index.{moment_of, Finds}
 use Rattle.row_table.specs.declared.row.Row.{Row}
 use Rattle.row_table.specs.declared.parts.Parts.{Parts}
-use Rattle.row_table.proofs.Slots.{live_filter, live_whole, room_for}
+use Rattle.row_table.proofs.Slots.{live_filter, live_whole, length-live, room_for}
 use Rattle.row_table.proofs.Finding.{found_closed, stands_whole, marked_now}
 use Rattle.row_table.proofs.parts.Parts.commit.Given as given
 use Rattle.row_table.proofs.parts.Parts.commit.Goals as goal
@@ -14,8 +13,7 @@ use Rattle.row_table.proofs.parts.Parts.commit.Goals as goal
 module _ (g : given.Over) (c : goal.After-refill g) where
   closed_up : c.commit_kept.new.self.items ≡ map Some (live c.args.self.now.slots.items)
   closed_up =
-      filter_same _ is_some _ (λ x b f' k. search rules) _ _ c.commit_kept.ensures.items
-      ∙ live_filter c.args.self.now.slots.items
+      c.commit_kept.ensures.items ∙ live_filter c.args.self.now.slots.items
 
   live_same : live c.commit_kept.new.self.items ≡ live c.args.self.now.slots.items
   live_same = ap (λ (slots : List (Option (Row g.row.T.Denot))). live slots) closed_up
@@ -31,11 +29,19 @@ module _ (g : given.Over) (c : goal.After-refill g) where
   filled_again = c.refill.ensures.items
       ∙ ap (λ (slots : List (Option (Row g.row.T.Denot))). filled_from slots 0) c.as_slice-then-has_many_gaps.ensures
 
+pub close_gaps-requires : goal.close_gaps-requires
+close_gaps-requires g c =
+    let slots : List (Option (Row g.row.T.Denot)) = c.args.self.now.slots.items in
+    let closed = ap length (c.as_slice.ensures ∙ c.commit_kept.ensures.items ∙ live_filter slots)
+    ∙ length-map (live slots) Some in
+    let few = length-live slots in
+    let long = ap length c.requires.found.moments ∙ length-map slots moment_of in
+    omega (arith, closed, few, long)
+
 pub refill-requires : goal.refill-requires
 refill-requires g c =
     let slots : List (Option (Row g.row.T.Denot)) = c.args.self.now.slots.items in
-    let closed = filter_same _ is_some _ (λ x b f' k. search rules) _ _ c.commit_kept.ensures.items
-    ∙ live_filter slots in
+    let closed = c.commit_kept.ensures.items ∙ live_filter slots in
     subst (λ (rows : List (Row g.row.T.Denot)). length rows ≤ vec_capacity c.args.self.now.filled)
     (sym (ap (λ (slots : List (Option (Row g.row.T.Denot))). live slots)
     (c.as_slice-then-has_many_gaps.ensures ∙ closed)

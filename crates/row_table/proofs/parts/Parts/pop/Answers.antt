@@ -1,7 +1,6 @@
-use Rattle.std.proofs.Common.{◌≡◌, [], ◌∷◌, ◌++◌, Option, refl, subst, arith}
-use Rattle.row_table.specs.declared.row.Row.{Row}
+use Rattle.std.proofs.Common.{◌≡◌, [], ◌∷◌, ◌++◌, refl, subst, arith}
 use Rattle.row_table.specs.declared.parts.Parts.{Parts}
-use Rattle.undo_list.specs.Versions.{Versions}
+use Rattle.row_table.specs.Slots.{SlotVersions}
 use Rattle.row_table.proofs.Popping.{sent_gone, received_gone, live_popped, stands_popped}
 use Rattle.row_table.proofs.parts.Parts.pop.Goals as goal
 
@@ -18,7 +17,7 @@ pop-requires-clause-received_empty g c =
 pub returns-clause-rows : goal.returns-clause-rows
 returns-clause-rows g c =
     live_popped c.args.self.now.slots.items c.pop-2.new.self.items c.pop-2.result
-    (subst (λ (slots : Versions (Option (Row g.row.T.Denot))). slots.items ≡ c.pop-2.new.self.items ++ c.pop-2.result ∷ [])
+    (subst (λ (slots : SlotVersions g.row.T.Denot). slots.items ≡ c.pop-2.new.self.items ++ c.pop-2.result ∷ [])
     c.forget.ensures.slots c.pop-2.ensures.item)
 
 pub returns-clause-stands : goal.returns-clause-stands
@@ -26,6 +25,6 @@ returns-clause-stands g c =
     let now : Parts g.row.T.Denot = c.args.self.now in
     stands_popped c.forget.new.self _ now.slots.items _ c.pop-2.result
     (omega (arith, c.len-slot.ensures.items, c.requires.after))
-    (subst (λ (slots : Versions (Option (Row g.row.T.Denot))). slots.items ≡ c.pop-2.new.self.items ++ c.pop-2.result ∷ [])
+    (subst (λ (slots : SlotVersions g.row.T.Denot). slots.items ≡ c.pop-2.new.self.items ++ c.pop-2.result ∷ [])
     c.forget.ensures.slots c.pop-2.ensures.item)
     c.in_ok-forget.ensures.found c.in_ok-forget.ensures.filled refl c.pop.ensures.sent c.pop.ensures.received c.pop.ensures.moments

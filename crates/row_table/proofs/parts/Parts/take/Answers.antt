@@ -9,7 +9,7 @@ pub returns-clause-rows : goal.returns-clause-rows
 returns-clause-rows g c =
     let slots = c.args.self.now.slots.items in
     let slot = c.slot_at-slot.result in
-    ap (λ (slots : List (Option (Row g.row.T.Denot))). live slots) c.in_ok-set.ensures.items
+    ap (λ (slots : List (Option (Row g.row.T.Denot))). live slots) c.in_ok-take.ensures.items
     ∙ live_taken slots c.args.at slot
     (slot_at slots c.args.self.now.filled.items c.args.at slot c.requires.stands.filled c.slot_at-slot.ensures.slot)
 
@@ -19,4 +19,5 @@ returns-clause-stands g c =
     let slot = c.slot_at-slot.result in
     stands_taken c.args.self.now _ c.args.at slot c.requires.stands
     (slot_at slots c.args.self.now.filled.items c.args.at slot c.requires.stands.filled c.slot_at-slot.ensures.slot)
-    c.in_ok-set.ensures.items c.remove.ensures.items c.in_ok-take.ensures.sent c.in_ok-take.ensures.received c.in_ok-take.ensures.moments
+    c.in_ok-take.ensures.items c.remove.ensures.items c.in_ok-take-2.ensures.sent c.in_ok-take-2.ensures.received
+    c.in_ok-take-2.ensures.moments

@@ -1,5 +1,4 @@
-use Rattle.std.proofs.Common.{None, slice_get, sym, ap, ◌∙◌}
-use Rattle.std.proofs.lemmas.Option.{get_or_from_slice_get}
+use Rattle.std.proofs.Common.{slice_get, sym, ap, ◌∙◌}
 use Rattle.row_table.specs.Rows.{Versions}
 use Rattle.row_table.proofs.Slots.{slot_at, held_at}
 use Rattle.row_table.proofs.table.RowTable.at.Goals as goal
@@ -11,4 +10,4 @@ returns g c =
     ap (λ (v : Versions g.row.T.Denot). slice_get v.now c.args.at) (sym c.self.view_is)
     ∙ held_at parts.slots.items c.args.at slot
     (slot_at parts.slots.items parts.filled.items c.args.at slot c.self.invariant.0.filled c.slot_at.ensures.slot)
-    ∙ get_or_from_slice_get parts.slots.items slot c.at.result.now None c.at.ensures ∙ c.in-Some.is
+    ∙ c.at.ensures
