@@ -225,14 +225,15 @@ module _ {P X : Type 0} (cmp : P → P → Ordering) (caps : Caps P) (flow : X �
             total-cons cmp caps flow parts s x xs,
           )
 
-  -- what is fair under what the others leave, for those that are rated alone, is fair beside the others
-  module _ (left : Caps P) (rated : X → Bool) (per : ℕ) (xs : List X)
+  -- what is fair under what the others leave, for those that are rated alone, is fair beside the others; what is left is
+  -- in parts so many times as large
+  module _ (left : Caps P) (rated : X → Bool) (times per : ℕ) (xs : List X)
       (leaves : (x : X) → In xs x → rated x ≡ true → (s : Subject P) → limits cmp s (flow x) ≡ true
       → (cap : ℕ) → cap_of caps s ≡ Some cap
-      → (l : ℕ) × (cap_of left s ≡ Some l) × (l + total cmp caps flow parts s (keeping rated xs) ≡ cap * per))
+      → (l : ℕ) × (cap_of left s ≡ Some l) × (l * times + total cmp caps flow parts s (keeping rated xs) ≡ cap * per))
       (comes : (x : X) → In xs x → rated x ≡ true → (s : Subject P) → limits cmp s (flow x) ≡ true
       → (l : ℕ) → cap_of left s ≡ Some l → (cap : ℕ) × (cap_of caps s ≡ Some cap))
-      (fair : AreShared cmp left flow parts 1 (filter rated xs)) where
+      (fair : AreShared cmp left flow parts times (filter rated xs)) where
     within_left : (s : Subject P) (cap : ℕ) → cap_of caps s ≡ Some cap → (x : X) → In xs x → rated x ≡ true
         → limits cmp s (flow x) ≡ true → total cmp caps flow parts s xs ≤ cap * per
     within_left s cap has x h r l =
@@ -240,7 +241,7 @@ module _ {P X : Type 0} (cmp : P → P → Ordering) (caps : Caps P) (flow : X �
         omega (arith, rest.2, fair.within s rest.0 rest.1, total_parted rated s xs)
 
     held_left : (x : X) (h : In xs x) (r : rated x ≡ true)
-        → IsHeldAmong cmp left flow parts 1 (filter rated xs) x → IsHeldBeside rated per xs x
+        → IsHeldAmong cmp left flow parts times (filter rated xs) x → IsHeldBeside rated per xs x
     held_left x h r b =
         let s = b.by.subject in
         let own = comes x h r s b.by.limited b.by.cap b.by.capped in
@@ -248,12 +249,12 @@ module _ {P X : Type 0} (cmp : P → P → Ordering) (caps : Caps P) (flow : X �
         let same : rest.0 ≡ b.by.cap = same_Some rest.0 b.by.cap (sym rest.1 ∙ b.by.capped) in
         record {
           by = record { subject = s; cap = own.0; capped = own.1; limited = b.by.limited };
-          full = omega (arith, same, rest.2, b.full, total_parted rated s xs);
+          full = omega (arith, ap (λ n. n * times) same, rest.2, b.full, total_parted rated s xs);
           greatest = λ y among on l. b.greatest y (in_filter rated xs y among on) l;
         }
 
-    pub beside_left : AreSharedBeside rated per xs
-    beside_left = record {
+    pub beside_left_times : AreSharedBeside rated per xs
+    beside_left_times = record {
       within = within_left;
       held = λ x h r c.
           let rest = leaves x h r c.subject c.limited c.cap c.capped in
@@ -261,6 +262,18 @@ module _ {P X : Type 0} (cmp : P → P → Ordering) (caps : Caps P) (flow : X �
           (fair.held x (in_filter rated xs x h r)
           (record { subject = c.subject; cap = rest.0; capped = rest.1; limited = c.limited }));
     }
+
+  -- the same where what is left is in the parts of those that are rated
+  pub beside_left : (left : Caps P) (rated : X → Bool) (per : ℕ) (xs : List X)
+      → ((x : X) → In xs x → rated x ≡ true → (s : Subject P) → limits cmp s (flow x) ≡ true
+      → (cap : ℕ) → cap_of caps s ≡ Some cap
+      → (l : ℕ) × (cap_of left s ≡ Some l) × (l + total cmp caps flow parts s (keeping rated xs) ≡ cap * per))
+      → ((x : X) → In xs x → rated x ≡ true → (s : Subject P) → limits cmp s (flow x) ≡ true
+      → (l : ℕ) → cap_of left s ≡ Some l → (cap : ℕ) × (cap_of caps s ≡ Some cap))
+      → AreShared cmp left flow parts 1 (filter rated xs) → AreSharedBeside rated per xs
+  beside_left left rated per xs leaves comes fair =
+      beside_left_times left rated 1 per xs
+      (λ x h r s l cap has. let rest = leaves x h r s l cap has in (rest.0, rest.1, omega (arith, rest.2))) comes fair
 
   -- ---- larger caps
 
