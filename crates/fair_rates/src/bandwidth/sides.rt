@@ -26,7 +26,7 @@ const FEW_USERS: usize = 24;
 /// for one size, and most find a piece of memory that a side gave back.
 const SIDES_ALIKE: usize = 16;
 
-/// Up to so many sides each has more room than those before it.
+/// So many sides have rooms that grow with their numbers. Those after them begin anew.
 const VARIED_SIDES: usize = 256;
 
 /// There is room for at least so many sides, before their list has to move.
