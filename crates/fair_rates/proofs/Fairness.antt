@@ -4,8 +4,8 @@ pub mod Allocation
 pub mod Among
 pub mod AnswersUnderCaps
 pub mod Apart
-pub mod Beside
 pub mod ById
+pub mod ByMembers
 pub mod ClosedSides
 pub mod Decided
 pub mod Denominators

@@ -1,6 +1,5 @@
 -- Why filling finds the fair rates.
 pub mod Account
-pub mod AllKept
 pub mod Alone
 pub mod Course
 pub mod FairPartsExist
@@ -8,11 +7,8 @@ pub mod Fractions
 pub mod Frozen
 pub mod Growing
 pub mod LeastShare
-pub mod LeftSides
 pub mod Levels
 pub mod NextLevel
-pub mod Pair
-pub mod PairBeside
 pub mod Queue
 pub mod Rates
 pub mod Rounds

@@ -4,7 +4,6 @@ pub mod Booleans
 pub mod Copied
 pub mod Different
 pub mod Each
-pub mod Few
 pub mod Filters
 pub mod InPlace
 pub mod Members

@@ -9,7 +9,6 @@ pub mod FlowByFlow
 pub mod NoLinks
 pub mod Numbers
 pub mod OneMoreAsk
-pub mod Pair
 pub mod Registry
 pub mod Subjects
 pub mod UserCounts

@@ -1,7 +1,6 @@
 -- Max-min fairness: what it is, and what follows from it.
 pub mod Allocation
 pub mod AllocationUnderCaps
-pub mod Beside
 pub mod Example
 pub mod Exists
 pub mod Fair

@@ -1,5 +1,3 @@
 -- Filling: the states between its rounds, and the parts that it finds.
 pub mod FairParts
-pub mod LeftSides
-pub mod Pair
 pub mod States

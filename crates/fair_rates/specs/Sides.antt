@@ -2,9 +2,7 @@
 pub mod Alone
 pub mod Answers
 pub mod Caps
-pub mod Ends
 pub mod Numbers
-pub mod Pair
 pub mod Registry
 pub mod SideOf
 pub mod Subjects

@@ -1,28 +1,20 @@
 //! Who sends how fast.
-ghost use Rattle.std.specs.Prelude.{◌≡◌, ◌⊎◌, ◌<◌, ℕ, IfOk, IfErr, map, length, is_some};
-ghost use Rattle.std.specs.List.{list_all};
-ghost use Rattle.std.specs.Option.{is_none};
+ghost use Rattle.std.specs.Prelude.{◌≡◌, ◌⊎◌, ℕ, IfOk, IfErr};
 ghost use Rattle.std.specs.Fn.{CalledAt, TakesAt, CalledAtTwo, TakesAtTwo};
 ghost use Rattle.std.specs.Ordering.{nat_cmp};
 ghost use Rattle.std.specs.declared.cmp.Ordering.TheVariants.{Equal};
 ghost use Rattle.std.specs.BTreeMap.{get};
 ghost use Rattle.fair_rates.specs.Sides.Answers.{NoLink, CallableOnEach, CallableOnEachPair, origins, recipients};
 ghost use Rattle.fair_rates.specs.Sides.Answers.{pairs};
-ghost use Rattle.fair_rates.specs.Sides.Ends.{flow_of};
-ghost use Rattle.fair_rates.specs.Fairness.UnderCaps.{sides_under};
 ghost use Rattle.fair_rates.specs.Fairness.Allocation.{IsAllocation, IsCountedAllocation, IsFairUnderCaps};
-ghost use Rattle.fair_rates.specs.Filling.FairParts.{AreFairPartsOn, AreFairPartsBeside, kept_at};
 ghost use Rattle.fair_rates.specs.Fairness.Rates.{last_rate};
 ghost use Rattle.fair_rates.specs.Refusals.TooLarge.{IsTooLarge, AreTooLargeUnderCaps};
 
 mod alone;
 mod equality;
 mod filling;
-mod guesses;
-mod known;
 pub mod laws;
 mod numbers;
-mod pair;
 mod parts;
 mod sides;
 mod time;
@@ -33,14 +25,10 @@ use crate::ratio::Ratio;
 pub use alone::parts_alone;
 pub use equality::rates_are_equal_by_value;
 pub use filling::fair_parts as fair_parts_on;
-pub use guesses::Guesses;
-pub use known::{Ends, KnownCaps};
-use natural::Natural;
 pub use parts::FairParts;
 pub use sides::Side;
 use std::alloc::Global;
 use std::collections::BTreeMap;
-use std::rc::Rc;
 pub use time::{
     draining_splits, duration, nothing_is_left_from_the_least_time_on, there_is_one_duration,
     there_is_one_least_time, transfer,
@@ -291,107 +279,10 @@ where
         (record { egress = egress_cap; ingress = ingress_cap; link = link_cap }) flows.now) }
 {
     let sides = sides::sides(alloc, flows, egress_cap, ingress_cap, link_cap)?;
-    let one = Natural::from_u64(alloc, 1);
-    let found = filling::fair_parts(alloc, flows.len(), sides, &one)?;
+    let found = filling::fair_parts(alloc, flows.len(), sides)?;
     let rates = found.rates(alloc)?;
     let by_id = rates_by_id(alloc, flows, &rates)?;
     Ok((by_id, found.levels.len() as u128))
-}
-
-/// The max-min fair rates of flows with known caps, in parts of one byte a second, so many at `scale`.
-/// Where a rate is no whole number of parts, the scale grows.
-///
-/// The caps are what the closures of [`allocate_linked`] would answer: the first cap on what a peer
-/// sends is its cap for good, from that flow on, and likewise the first one on what it receives, and
-/// on what goes from one peer to another.
-///
-/// # Errors
-///
-/// `OutOfMemory` where memory was refused.
-pub fn fair_parts<P: Peer, C: KnownCaps<P>>(
-    alloc: Global,
-    flows: &[Ends<P>],
-    caps: &C,
-    guesses: &mut Guesses,
-    scale: &Natural,
-) -> Result<FairParts, Error>
-    requires some_part { 0 < scale.now }
-    ensures fair { IfOk result (AreFairPartsOn
-        (sides_under P.cmp (C.caps caps.now) (map flow_of flows.now)) (length flows.now) scale.now) }
-    ensures refused { IfErr result (λ e. e ≡ Error.OutOfMemory) }
-{
-    match flows {
-        [] => Ok(FairParts::new(alloc, 0, scale)?),
-        [one] => Ok(alone::fair_parts_alone(alloc, one, caps, scale)?),
-        [one, other] => Ok(pair::fair_parts_of_two(alloc, one, other, caps, scale)?),
-        _ => {
-            let sides = sides::sides_under(alloc, flows, caps, guesses)?;
-            Ok(filling::fair_parts(alloc, flows.len(), sides, scale)?)
-        }
-    }
-}
-
-/// The max-min fair rates of flows beside flows that keep theirs, in parts of one byte a second, so
-/// many at `scale`. `kept` says how many parts a flow keeps, and `None` of a flow that is rated. Where
-/// a rate is no whole number of parts, the scale grows, and what is kept is then as many times as many
-/// parts.
-///
-/// Filling goes on from what the kept rates leave of each cap. Within the caps, each flow that is
-/// rated is under a cap that is used up, and that leaves no flow that is rated more than this one has.
-/// A flow that keeps its rate gets no level. The caps are those of [`fair_parts`].
-///
-/// # Errors
-///
-/// `OutOfMemory` where memory was refused.
-pub fn fair_parts_beside<P: Peer, C: KnownCaps<P>>(
-    alloc: Global,
-    flows: &[Ends<P>],
-    caps: &C,
-    guesses: &mut Guesses,
-    kept: &[Option<Rc<Natural>>],
-    scale: &Natural,
-) -> Result<FairParts, Error>
-    requires some_part { 0 < scale.now }
-    requires one_each { length kept.now ≡ length flows.now }
-    ensures fair { IfOk result (AreFairPartsBeside
-        (sides_under P.cmp (C.caps caps.now) (map flow_of flows.now)) (kept_at kept.now) (length flows.now) scale.now) }
-    ensures refused { IfErr result (λ e. e ≡ Error.OutOfMemory) }
-{
-    if none_is_kept(kept) {
-        return fair_parts(alloc, flows, caps, guesses, scale);
-    }
-    if all_are_kept(kept) {
-        return Ok(FairParts::new(alloc, kept.len(), scale)?);
-    }
-    if let [one, other] = flows {
-        if let [first, second] = kept {
-            match (first, second) {
-                (None, Some(rate)) => {
-                    return Ok(pair::first_beside(alloc, one, other, caps, rate, scale)?);
-                }
-                (Some(rate), None) => {
-                    return Ok(pair::second_beside(alloc, one, other, caps, rate, scale)?);
-                }
-                _ => {}
-            }
-        }
-    }
-    let sides = sides::sides_under(alloc, flows, caps, guesses)?;
-    Ok(filling::fair_parts_beside(alloc, sides, kept, scale)?)
-}
-
-/// Whether no flow keeps its rate.
-fn none_is_kept(kept: &[Option<Rc<Natural>>]) -> bool
-    ensures { result ≡ list_all is_none kept.now }
-{
-    kept.iter().all(|rate| rate.is_none())
-}
-
-/// Whether each flow keeps its rate.
-fn all_are_kept(kept: &[Option<Rc<Natural>>]) -> bool
-    ensures { result ≡ list_all is_some kept.now }
-{
-    kept.iter().all(|rate| rate.is_some())
 }
 
 /// The rates by the ids of their flows. Of flows with one id the last counts.

@@ -13,7 +13,6 @@ pub mod weighted;
 
 pub use error::RouteError;
 use fair_rates::bandwidth::{Rate, fair_parts_on};
-use natural::Natural;
 use std::alloc::Global;
 pub use weighted::{WeightError, allocate_weighted_routes};
 
@@ -71,8 +70,7 @@ pub fn allocate_routes_counted(
     ensures refused { IfErr result (IsRefusal caps.now (map (λ route. route.items) routes.now)) }
 {
     let sides = sides::sides(alloc, routes, caps)?;
-    let one = Natural::from_u64(alloc, 1);
-    let found = fair_parts_on(alloc, routes.len(), sides, &one)?;
+    let found = fair_parts_on(alloc, routes.len(), sides)?;
     let rates = found.rates(alloc)?;
     Ok((rates, found.levels.len() as u128))
 }

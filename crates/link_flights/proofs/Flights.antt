@@ -2,15 +2,13 @@
 pub mod Accounted
 pub mod Accounts
 pub mod Alike
+pub mod AllSides
 pub mod Alone
-pub mod Beside
-pub mod CappedFlows
 pub mod ChangedCaps
 pub mod ComponentFlows
 pub mod Components
 pub mod Done
 pub mod FairMessages
-pub mod FewNear
 pub mod Flight
 pub mod Floors
 pub mod InFlight
@@ -28,6 +26,7 @@ pub mod RatesGiven
 pub mod Rerating
 pub mod Restarting
 pub mod Rows
+pub mod Sides
 pub mod Search
 pub mod Settled
 pub mod ShortTerms

@@ -1,5 +1,4 @@
 -- What is in flight: how it is kept, changed and read.
-pub mod CappedFlows
 pub mod Components
 pub mod Flight
 pub mod InFlight
@@ -9,4 +8,5 @@ pub mod Rated
 pub mod RatedFlights
 pub mod Readings
 pub mod Rows
+pub mod Sides
 pub mod Table

@@ -105,19 +105,10 @@ impl<P: Peer> Component<P> {
     }
 
     /// Whether the message in flight goes on at its rate.
-    fn keeps(&self, one: &Flight<P>) -> bool
+    pub(crate) fn keeps(&self, one: &Flight<P>) -> bool
         ensures { result ≡ keeps self.now (flight_at 0 one.now) }
     {
         one.rated && one.is_below(&self.level)
-    }
-
-    /// Whether the message in flight, which keeps its rate or goes from one of the senders, is rated anew.
-    pub(crate) fn has(&self, one: &Flight<P>) -> bool
-        requires { (keeps self.now (flight_at 0 one.now) || is_sender P.cmp self.now one.now.message.value.origin)
-            ≡ true }
-        ensures { result ≡ is_of P.cmp self.now (flight_at 0 one.now) }
-    {
-        !self.keeps(one)
     }
 
     /// Where the one of that number stands, of those of which it has an end.

@@ -232,7 +232,7 @@ pub(crate) fn common_factor(first: u64, second: u64) -> u64
 }
 
 /// So many units, counted in smaller ones, of which so many times as many are needed.
-fn grow(units: &mut Natural, growth: &[u64]) -> Result<(), Error>
+pub(crate) fn grow(units: &mut Natural, growth: &[u64]) -> Result<(), Error>
     ensures grown { OnOk result (units.new ≡ units.old * product growth.now) }
     ensures refused { IfErr result (λ e. e ≡ Error.OutOfMemory) }
 {

@@ -15,5 +15,6 @@ pub mod loose;
 mod notes;
 mod rates;
 pub mod reading;
+mod sides;
 pub mod table;
 mod units;

@@ -1,19 +1,16 @@
-//! Notes of places, and guesses of sides, which are kept from one event to the next.
+//! Notes of places, for which room is kept from one event to the next.
 ghost use Rattle.std.specs.Prelude.{◌≡◌, [], length, All, IfOk, IfErr};
 ghost use Rattle.link_flights.specs.Flights.Components.{AreNoted};
 
-use fair_rates::bandwidth::Guesses;
 use fair_rates::error::Error;
 use std::alloc::Global;
 use std::marker::Model;
 use std::mem;
 
-/// Room for a note of each place, and where the sides of peers are guessed to stand. Between events no place is noted,
-/// and only time hangs on the guesses: so callers see nothing of it.
+/// Room for a note of each place. Between events no place is noted, so callers see nothing of it.
 #[derive(Drop)]
 pub(crate) struct Notes {
     noted: Vec<bool>,
-    guesses: Guesses,
 }
 
 impl Model for Notes {
@@ -31,7 +28,6 @@ impl Notes {
     pub(crate) fn new(alloc: Global) -> Notes {
         Notes {
             noted: Vec::new(alloc),
-            guesses: Guesses::new(alloc),
         }
     }
 
@@ -54,15 +50,5 @@ impl Notes {
             noted[*at] = false;
         }
         self.noted = noted;
-    }
-
-    /// The guesses. They are taken out until they are given back.
-    pub(crate) fn take_guesses(&mut self, alloc: Global) -> Guesses {
-        mem::replace(&mut self.guesses, Guesses::new(alloc))
-    }
-
-    /// The guesses are given back.
-    pub(crate) fn give_back_guesses(&mut self, guesses: Guesses) {
-        self.guesses = guesses;
     }
 }

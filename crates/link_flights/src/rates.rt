@@ -1,34 +1,30 @@
 //! The fair rates of what is in flight.
-ghost use Rattle.std.specs.Prelude.{◌≡◌, ◌≢◌, ◌∷◌, [], ℕ, None, IsSome, ◌<◌, ◌≤◌, ◌*◌};
+ghost use Rattle.std.specs.Prelude.{◌≡◌, ◌≢◌, ◌∷◌, [], ℕ, ◌<◌, ◌≤◌, ◌*◌};
 ghost use Rattle.std.specs.Prelude.{true, false, map, length};
-ghost use Rattle.std.specs.Prelude.{All, IfOk, IfErr, IfSome, OnOk, option_map, nat_le, slice_index_or};
+ghost use Rattle.std.specs.Prelude.{All, IfOk, IfErr, IfSome, OnOk, nat_le, slice_index_or};
 ghost use Rattle.std.specs.List.{list_all, list_any};
 ghost use Rattle.fair_rates.specs.Fairness.Exists.{product};
+ghost use Rattle.fair_rates.specs.Filling.FairParts.{parts_of_level};
 ghost use Rattle.link_simulation.specs.Rule.Planned.{IsLeastMoment, SomeSpentAt};
+ghost use Rattle.link_simulation.specs.Simulation.Messages.{OneForEachPair};
 ghost use Rattle.link_simulation.specs.Simulation.World.{last_moment};
 ghost use Rattle.link_pairs.specs.Pairs.Messages.{messages, message_of};
-ghost use Rattle.fair_rates.specs.Sides.Ends.{flow_of};
 ghost use Rattle.link_pairs.specs.Pairs.CapsOf.{caps_of};
-ghost use Rattle.link_flights.specs.Flights.Components.{those_of, is_of, is_closed, has_both, AreNear, those_near};
-ghost use Rattle.link_flights.specs.Flights.Components.{AreNoted, AreSuited};
-ghost use Rattle.link_flights.specs.Flights.Flight.{AreTimed, rate_of, flight_at, flights_at, has_come};
-ghost use Rattle.link_flights.specs.Flights.RatedFlights.{are_standing};
-ghost use Rattle.fair_rates.specs.Filling.FairParts.{parts_of_level};
+ghost use Rattle.link_flights.specs.Flights.Components.{those_of, is_of, is_closed, has_both, suits, places_of};
+ghost use Rattle.link_flights.specs.Flights.Components.{AreNear, those_near, AreNoted};
+ghost use Rattle.link_flights.specs.Flights.Flight.{AreTimed, rate_of, flight_at, has_come};
 ghost use Rattle.link_flights.specs.Flights.InFlight.{in_units, in_flight, loose_in};
-ghost use Rattle.link_flights.specs.Flights.Rated.{WereRated, AreFairOf, AreFairBeside, HaveFairRates};
+ghost use Rattle.link_flights.specs.Flights.Rated.{WereRated, AreFairOn, HaveFairRates, sent_messages};
 ghost use Rattle.link_flights.specs.Flights.Rated.{rerated, rates_found, AreOthersTimed, IsReratedAt};
-ghost use Rattle.link_flights.specs.Flights.Rated.{AreFairFor, GivesBeside, none_is_rated, rates_of_levels};
-ghost use Rattle.link_flights.specs.Flights.Rated.{AreKeptBut, AreKept, AreToldOf, has_no_rate, IsCountedAt};
-ghost use Rattle.link_flights.specs.Flights.Rated.{levels_rated};
+ghost use Rattle.link_flights.specs.Flights.Rated.{AreFairFor, GivesBeside, rates_of_levels};
+ghost use Rattle.link_flights.specs.Flights.Rated.{AreKeptBut, IsCountedAt};
 ghost use Rattle.link_flights.specs.declared.flight.Flight.{Flight as AnyFlight};
 
 use crate::component::Component;
-use crate::flight::Flight;
+use crate::flight::{Flight, grow};
 use crate::flight_list::Flights;
 use crate::loose::Loose;
-use fair_rates::bandwidth::{
-    Ends, FairParts, Guesses, KnownCaps, fair_parts, fair_parts_beside, parts_alone,
-};
+use fair_rates::bandwidth::{FairParts, FlowCaps, fair_parts_on, parts_alone};
 use fair_rates::error::Error;
 use fair_rates::peer::Peer;
 use link_pairs::known_pairs::Pairs;
@@ -53,29 +49,6 @@ const FEW_NEW: usize = 4;
 
 /// Where so many are in flight, or more, and all were touched, a search would mostly join too much.
 const MANY: usize = 56;
-
-/// The caps of peers and of pairs.
-#[derive(Drop)]
-struct CapsInForce<'a, P: Peer> {
-    peers: &'a Peers<P>,
-    pairs: &'a Pairs<P>,
-}
-
-impl<P: Peer> KnownCaps<P> for CapsInForce<'_, P> {
-    ghost caps = { λ c. caps_of P.cmp c.peers.now.entries c.pairs.now.entries };
-
-    fn egress(&self, peer: &P) -> Option<u128> {
-        self.peers.egress(peer)
-    }
-
-    fn ingress(&self, peer: &P) -> Option<u128> {
-        self.peers.ingress(peer)
-    }
-
-    fn link(&self, origin: &P, recipient: &P) -> Option<u128> {
-        self.pairs.cap(origin, recipient)
-    }
-}
 
 /// Levels that those who have them share.
 fn shared_levels(alloc: Global, levels: Vec<Natural>) -> Result<Vec<Rc<Natural>>, Error>
@@ -103,25 +76,6 @@ fn level_at(levels: &[Rc<Natural>], place: Option<usize>) -> Result<Option<Rc<Na
     }
 }
 
-/// The levels of the flows that keep no rate.
-fn levels_without(
-    alloc: Global,
-    kept: &[Option<Rc<Natural>>],
-    level_of: &[Option<usize>],
-) -> Result<Vec<Option<usize>>, Error>
-    ensures rated { IfOk result (λ levels. levels.items
-        ≡ levels_rated (map (option_map (λ rate. rate.value)) kept.now) level_of.now) }
-    ensures refused { IfErr result (λ e. e ≡ Error.OutOfMemory) }
-{
-    let mut levels = Vec::with_capacity(alloc, level_of.len())?;
-    for (rate, level) in kept.iter().zip(level_of) {
-        if rate.is_none() {
-            levels.push(*level)?;
-        }
-    }
-    Ok(levels)
-}
-
 /// Whether the rate at that place is at least at the level.
 fn reaches(levels: &[Natural], place: Option<usize>, level: &Natural) -> bool
     ensures { result ≡ nat_le level.now (parts_of_level levels.now place) }
@@ -143,13 +97,6 @@ fn all_reach(rates: &FairParts, level: &Natural) -> bool
         .level_of
         .iter()
         .all(|place| reaches(&rates.levels, *place, level))
-}
-
-/// Whether the one of that number keeps no rate.
-fn is_rated(kept: &[Option<Rc<Natural>>], number: usize) -> bool
-    ensures { result ≡ has_no_rate kept.now number }
-{
-    !matches!(kept.get(number), Some(Some(_)))
 }
 
 /// At how many accounts in a row the scale has not grown, after one at which it has grown by these factors. Only time
@@ -176,6 +123,7 @@ impl<P: Peer> Flights<P> {
             → ∥ WereRated P.cmp (caps_of P.cmp peers.now.entries pairs.now.entries) self.old.scale (in_units self.old)
             (messages done.now.items) (loose_in self.old) self.old.floor ∥₁ }
         requires timed { were_rated ≡ true → AreTimed self.old.list.items }
+        requires one_each { OneForEachPair P.cmp (sent_messages (in_units self.old)) }
         ensures rated { OnOk result (HaveFairRates P.cmp (caps_of P.cmp peers.now.entries pairs.now.entries)
             self.old self.new) }
         ensures kept { OnOk result (AreKeptBut self.new.rated_anew self.old.list.items self.new.list.items) }
@@ -240,6 +188,7 @@ impl<P: Peer> Flights<P> {
         requires moment { self.old.at ≤ last_moment }
         requires left { All (λ u. u.left ≢ 0) (in_units self.old) }
         requires timed { were_timed ≡ true → AreTimed self.old.list.items }
+        requires one_each { OneForEachPair P.cmp (sent_messages (in_units self.old)) }
         ensures rated { OnOk result (HaveFairRates P.cmp (caps_of P.cmp peers.now.entries pairs.now.entries)
             self.old self.new) }
         ensures kept { OnOk result (AreKeptBut self.new.rated_anew self.old.list.items self.new.list.items) }
@@ -249,19 +198,20 @@ impl<P: Peer> Flights<P> {
         ensures refused { IfErr result (λ e. e ≡ Error.OutOfMemory) }
     {
         let all = Component::whole(self.alloc);
-        let mut guesses = self.notes.take_guesses(self.alloc);
-        let rates = self.rates_of_all(&all, peers, pairs, &mut guesses)?;
-        self.notes.give_back_guesses(guesses);
+        let places = self.places_rated(&all)?;
+        let rates = self.rates_at(&all, &places, peers, pairs)?;
+        let mut scale = self.scale.clone()?;
+        grow(&mut scale, &rates.growth)?;
         let levels = shared_levels(self.alloc, rates.levels)?;
         self.set_rates(
             &all,
-            &[],
+            &places,
             &levels,
             &rates.level_of,
             &rates.growth,
             were_timed,
         )?;
-        self.scale = rates.scale;
+        self.scale = scale;
         self.stood = stood_after(self.stood, &rates.growth);
         let unsearched = self.spared_after(true, 0);
         Ok(self.settle(unsearched))
@@ -298,71 +248,23 @@ impl<P: Peer> Flights<P> {
     ) -> Result<Option<usize>, Error>
         requires near { touched.now.whole ≡ false
             → AreNear P.cmp touched.now touched.now.near.items self.old.list.items }
-        requires suited { touched.now.whole ≡ false
-            → AreSuited P.cmp touched.now touched.now.near.items self.old.list.items }
+        requires suited { list_all (suits P.cmp touched.now) (in_units self.old) ≡ true }
         requires left { All (λ u. u.left ≢ 0) (in_units self.old) }
         requires timed { AreTimed self.old.list.items }
+        requires one_each { OneForEachPair P.cmp (sent_messages (in_units self.old)) }
         ensures gives { IfOk result (GivesBeside P.cmp (caps_of P.cmp peers.now.entries pairs.now.entries)
             touched.now self.old self.new) }
         ensures before { self.new.list.before ≡ self.old.list.before }
         ensures refused { IfErr result (λ e. e ≡ Error.OutOfMemory) }
     {
-        if !touched.whole {
-            if self.has_none(touched) {
-                self.rated_anew = 0;
-                return Ok(Some(0));
-            }
-            if let [at] = touched.near.as_slice() {
-                return self.rate_only(touched, *at, peers, pairs);
-            }
+        let places = self.places_rated(touched)?;
+        let part = self.rates_at(touched, &places, peers, pairs)?;
+        if !part.growth.is_empty() || !all_reach(&part, &touched.level) {
+            return Ok(None);
         }
-        self.rate_near(touched, peers, pairs)
-    }
-
-    /// Whether the component has no end of any that is rated anew.
-    fn has_none(&self, component: &Component<P>) -> bool
-        requires near { AreNear P.cmp component.now component.now.near.items self.now.list.items }
-        requires suited { AreSuited P.cmp component.now component.now.near.items self.now.list.items }
-        ensures { result ≡ none_is_rated P.cmp component.now self.now.list.items }
-    {
-        for at in &component.near {
-            if component.has(self.list.at(*at)) {
-                return false;
-            }
-        }
-        true
-    }
-
-    /// As [`Flights::rate_touched`], where the component has an end of only the one at that place, which
-    /// is rated anew: its rate is the least of its caps.
-    fn rate_only(
-        &mut self,
-        component: &Component<P>,
-        at: usize,
-        peers: &Peers<P>,
-        pairs: &Pairs<P>,
-    ) -> Result<Option<usize>, Error>
-        requires near { component.now.whole ≡ false
-            → AreNear P.cmp component.now component.now.near.items self.old.list.items }
-        requires left { All (λ u. u.left ≢ 0) (in_units self.old) }
-        requires timed { AreTimed self.old.list.items }
-        requires place { at < length self.old.list.items }
-        requires only { (d : AnyFlight P)
-            → those_near P.cmp component.now self.old.list.items ≡ slice_index_or self.old.list.items at d ∷ [] }
-        requires rated { (d : AnyFlight P)
-            → is_of P.cmp component.now (flight_at 0 (slice_index_or self.old.list.items at d)) ≡ true }
-        ensures gives { IfOk result (GivesBeside P.cmp (caps_of P.cmp peers.now.entries pairs.now.entries)
-            component.now self.old self.new) }
-        ensures before { self.new.list.before ≡ self.old.list.before }
-        ensures refused { IfErr result (λ e. e ≡ Error.OutOfMemory) }
-    {
-        let level = self.rate_alone(at, peers, pairs)?;
-        if component.level <= level {
-            let levels = [Rc::new(self.alloc, level)?];
-            self.set_rates(component, &[], &levels, &[Some(0)], &[], true)?;
-            return Ok(Some(1));
-        }
-        Ok(None)
+        let levels = shared_levels(self.alloc, part.levels)?;
+        self.set_rates(touched, &places, &levels, &part.level_of, &[], true)?;
+        Ok(Some(places.len()))
     }
 
     /// The fair rate of the one at that place alone, and none at all where no cap holds for it.
@@ -373,46 +275,14 @@ impl<P: Peer> Flights<P> {
             (message_of (slice_index_or self.now.list.items at d).message.value ∷ []) (parts ∷ [])) }
         ensures refused { IfErr result (λ e. e ≡ Error.OutOfMemory) }
     {
-        let one = self.list.at(at);
-        let ends = Ends {
-            origin: &one.message.origin,
-            recipient: &one.message.recipient,
-            delivered: one.message.is_delivered(),
-            sender: 0,
-            receiver: 0,
+        let message = &self.list.at(at).message;
+        let caps = FlowCaps {
+            egress: peers.egress(&message.origin),
+            ingress: peers.ingress(&message.recipient),
+            link: pairs.cap(&message.origin, &message.recipient),
         };
-        let rate = parts_alone(&ends, &CapsInForce { peers, pairs }, &self.scale)?;
+        let rate = parts_alone(&caps, message.is_delivered(), &self.scale)?;
         Ok(rate.unwrap_or(Natural::from_u64(self.alloc, 0)))
-    }
-
-    /// As [`Flights::rate_touched`], for any component.
-    fn rate_near(
-        &mut self,
-        component: &Component<P>,
-        peers: &Peers<P>,
-        pairs: &Pairs<P>,
-    ) -> Result<Option<usize>, Error>
-        requires near { component.now.whole ≡ false
-            → AreNear P.cmp component.now component.now.near.items self.old.list.items }
-        requires suited { component.now.whole ≡ false
-            → AreSuited P.cmp component.now component.now.near.items self.old.list.items }
-        requires left { All (λ u. u.left ≢ 0) (in_units self.old) }
-        requires timed { AreTimed self.old.list.items }
-        ensures gives { IfOk result (GivesBeside P.cmp (caps_of P.cmp peers.now.entries pairs.now.entries)
-            component.now self.old self.new) }
-        ensures before { self.new.list.before ≡ self.old.list.before }
-        ensures refused { IfErr result (λ e. e ≡ Error.OutOfMemory) }
-    {
-        let mut guesses = self.notes.take_guesses(self.alloc);
-        let (part, kept) = self.rates_beside(component, peers, pairs, &mut guesses)?;
-        self.notes.give_back_guesses(guesses);
-        if !part.growth.is_empty() || !all_reach(&part, &component.level) {
-            return Ok(None);
-        }
-        let found = part.level_of.len();
-        let levels = shared_levels(self.alloc, part.levels)?;
-        self.set_rates(component, &kept, &levels, &part.level_of, &[], true)?;
-        Ok(Some(found))
     }
 
     /// What is touched: the component of what is done, loose or new, or all from a level on.
@@ -430,8 +300,6 @@ impl<P: Peer> Flights<P> {
         ensures level { IfOk result (λ touched. IfSome self.now.floor (λ floor. touched.level ≤ floor)) }
         ensures near { IfOk result (λ touched. touched.whole ≡ false
             → AreNear P.cmp touched touched.near.items self.now.list.items) }
-        ensures suited { IfOk result (λ touched. touched.whole ≡ false
-            → AreSuited P.cmp touched touched.near.items self.now.list.items) }
         ensures noted { IfOk result (λ touched. AreNoted touched.near.items noted.new.items) }
         ensures refused { IfErr result (λ e. e ≡ Error.OutOfMemory) }
     {
@@ -477,111 +345,51 @@ impl<P: Peer> Flights<P> {
         }
     }
 
-    /// Who sends to whom among those of which the component has an end, in their order.
-    fn ends_of(&self, component: &Component<P>) -> Result<Vec<Ends<'_, P>>, Error>
+    /// The places of those of the component that are rated anew, in order.
+    fn places_rated(&self, component: &Component<P>) -> Result<Vec<usize>, Error>
         requires near { component.now.whole ≡ false
             → AreNear P.cmp component.now component.now.near.items self.now.list.items }
-        ensures standing { IfOk result (λ ends. (now : ℕ) → are_standing P.cmp (map flow_of ends.items)
-            (flights_at now (those_near P.cmp component.now self.now.list.items)) ≡ true) }
+        requires suited { list_all (suits P.cmp component.now) (in_units self.now) ≡ true }
+        ensures places { IfOk result (λ places. places.items
+            ≡ places_of (λ f. is_of P.cmp component.now (flight_at 0 f)) 0 self.now.list.items) }
         ensures refused { IfErr result (λ e. e ≡ Error.OutOfMemory) }
     {
-        let count = self.count(component);
-        let mut ends = Vec::with_capacity(self.alloc, count)?;
-        for number in 0..count {
-            let place = component.place(number);
-            let (sender, receiver) = self.list.numbers_at(place);
-            let one = self.list.at(place);
-            ends.push(Ends {
-                origin: &one.message.origin,
-                recipient: &one.message.recipient,
-                delivered: one.message.is_delivered(),
-                sender,
-                receiver,
-            })?;
-        }
-        Ok(ends)
-    }
-
-    /// The rates that those keep of which the component has an end and which are not rated anew with it.
-    fn kept_rates(&self, component: &Component<P>) -> Result<Vec<Option<Rc<Natural>>>, Error>
-        requires near { component.now.whole ≡ false
-            → AreNear P.cmp component.now component.now.near.items self.now.list.items }
-        requires suited { component.now.whole ≡ false
-            → AreSuited P.cmp component.now component.now.near.items self.now.list.items }
-        ensures kept { IfOk result (λ kept. AreKept P.cmp component.now kept.items
-            (those_near P.cmp component.now self.now.list.items)) }
-        ensures refused { IfErr result (λ e. e ≡ Error.OutOfMemory) }
-    {
-        let count = self.count(component);
-        let mut kept = Vec::with_capacity(self.alloc, count)?;
-        for number in 0..count {
-            let one = self.list.at(component.place(number));
-            if component.has(one) {
-                kept.push(None)?;
-            } else {
-                kept.push(Some(one.rate_kept(self.alloc)?))?;
+        let mut places = Vec::new(self.alloc);
+        for number in 0..self.count(component) {
+            let at = component.place(number);
+            if !component.keeps(self.list.at(at)) {
+                places.push(at)?;
             }
         }
-        Ok(kept)
+        Ok(places)
     }
 
-    /// The fair rates of all.
-    fn rates_of_all(
-        &self,
-        all: &Component<P>,
-        peers: &Peers<P>,
-        pairs: &Pairs<P>,
-        guesses: &mut Guesses,
-    ) -> Result<FairParts, Error>
-        requires whole { all.now.whole ≡ true }
-        requires level { all.now.level ≡ 0 }
-        ensures fair { IfOk result (AreFairOf P.cmp (caps_of P.cmp peers.now.entries pairs.now.entries)
-            self.now.scale all.now (in_units self.now)) }
-        ensures refused { IfErr result (λ e. e ≡ Error.OutOfMemory) }
-    {
-        let flows = self.ends_of(all)?;
-        fair_parts(
-            self.alloc,
-            &flows,
-            &CapsInForce { peers, pairs },
-            guesses,
-            &self.scale,
-        )
-    }
-
-    /// The fair rates of a component, beside those that others keep of which it has an end, which are
-    /// answered, too.
-    fn rates_beside(
+    /// The fair rates of those of the component that are rated anew, at these places, under what the others leave
+    /// of the caps.
+    fn rates_at(
         &self,
         component: &Component<P>,
+        places: &[usize],
         peers: &Peers<P>,
         pairs: &Pairs<P>,
-        guesses: &mut Guesses,
-    ) -> Result<(FairParts, Vec<Option<Rc<Natural>>>), Error>
-        requires near { component.now.whole ≡ false
-            → AreNear P.cmp component.now component.now.near.items self.now.list.items }
-        requires suited { component.now.whole ≡ false
-            → AreSuited P.cmp component.now component.now.near.items self.now.list.items }
-        ensures fair { IfOk result (λ found. AreFairBeside P.cmp (caps_of P.cmp peers.now.entries pairs.now.entries)
-            self.now.scale component.now (in_units self.now) found.0) }
-        ensures kept { IfOk result (λ found. AreKept P.cmp component.now found.1.items
-            (those_near P.cmp component.now self.now.list.items)) }
+    ) -> Result<FairParts, Error>
+        requires places { places.now ≡ places_of (λ f. is_of P.cmp component.now (flight_at 0 f)) 0 self.now.list.items }
+        requires suited { list_all (suits P.cmp component.now) (in_units self.now) ≡ true }
+        requires one_each { OneForEachPair P.cmp (sent_messages (in_units self.now)) }
+        ensures fair { IfOk result (AreFairOn P.cmp (caps_of P.cmp peers.now.entries pairs.now.entries)
+            self.now.scale component.now (in_units self.now)) }
         ensures refused { IfErr result (λ e. e ≡ Error.OutOfMemory) }
     {
-        let flows = self.ends_of(component)?;
-        let kept = self.kept_rates(component)?;
-        let caps = CapsInForce { peers, pairs };
-        let mut found = fair_parts_beside(self.alloc, &flows, &caps, guesses, &kept, &self.scale)?;
-        found.level_of = levels_without(self.alloc, &kept, &found.level_of)?;
-        Ok((found, kept))
+        let sides = self.sides_of(component, places, peers, pairs)?;
+        Ok(fair_parts_on(self.alloc, places.len(), sides)?)
     }
 
-    /// Gives those of the component that keep no rate the rates of their levels from the last account
-    /// on. What is left counts in smaller units, of which so many times as many are needed.
+    /// Gives those at these places, of a component, the rates of their levels from the last account on. What is left
+    /// counts in smaller units, of which so many times as many are needed.
     fn set_rates(
         &mut self,
         component: &Component<P>,
-        kept: &[Option<Rc<Natural>>],
+        places: &[usize],
         levels: &[Rc<Natural>],
         level_of: &[Option<usize>],
         growth: &[u64],
@@ -591,10 +399,7 @@ impl<P: Peer> Flights<P> {
         requires one_each { length level_of.now ≡ length (those_of P.cmp component.now (in_units self.old)) }
         requires left { All (λ u. u.left * product growth.now ≢ 0) (in_units self.old) }
         requires others { AreOthersTimed P.cmp component.now self.old.list.items }
-        requires near { component.now.whole ≡ false
-            → AreNear P.cmp component.now component.now.near.items self.old.list.items }
-        requires kept { AreToldOf P.cmp component.now kept.now
-            (those_near P.cmp component.now self.old.list.items) }
+        requires places { places.now ≡ places_of (λ f. is_of P.cmp component.now (flight_at 0 f)) 0 self.old.list.items }
         ensures rerated { OnOk result (in_units self.new ≡ rerated P.cmp component.now self.old.at
             (product growth.now) (rates_of_levels levels.now level_of.now) (in_units self.old)) }
         ensures timed { OnOk result (AreTimed self.new.list.items) }
@@ -607,13 +412,9 @@ impl<P: Peer> Flights<P> {
         ensures refused { IfErr result (λ e. e ≡ Error.OutOfMemory) }
     {
         self.rated_anew = 0;
-        let mut next = 0;
-        for number in 0..self.count(component) {
-            if is_rated(kept, number) {
-                let rate = level_at(levels, level_of[next])?;
-                self.rerate(component.place(number), rate, growth, were_timed)?;
-                next += 1;
-            }
+        for number in 0..places.len() {
+            let rate = level_at(levels, level_of[number])?;
+            self.rerate(places[number], rate, growth, were_timed)?;
         }
         Ok(())
     }

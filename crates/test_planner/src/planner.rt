@@ -1,6 +1,4 @@
 //! Rates of flows, against values worked out by hand.
-mod beside;
-mod guesses;
 mod judge;
 mod lists;
 mod many;

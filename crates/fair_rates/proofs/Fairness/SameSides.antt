@@ -1,5 +1,6 @@
 -- Fairness depends on the set of sides alone.
 use Rattle.std.proofs.Common.{ℕ, ◌*◌, ◌≤◌, List, get_or}
+use Rattle.std.specs.Prelude.{◌↔◌}
 use Rattle.std.proofs.lemmas.List.Elements.{All-contains}
 use Rattle.fair_rates.specs.declared.bandwidth.Rate.{Rate}
 use Rattle.fair_rates.specs.declared.bandwidth.Rate.TheVariants.{Unlimited, Finite}
@@ -14,6 +15,9 @@ module _ (xs ys : List Side) (same : AreTheSameSides xs ys) where
 
   back : (flow : ℕ) → IsLimited ys flow → IsLimited xs flow
   back flow (side, u) = (side, record { listed = (same side).1 u.listed; used = u.used })
+
+  pub still_limited : (flow : ℕ) → IsLimited xs flow ↔ IsLimited ys flow
+  still_limited flow = (there flow, back flow)
 
   moved : (per : ℕ) (parts : ℕ → ℕ) (flow : ℕ) → HasBottleneck xs per parts flow → HasBottleneck ys per parts flow
   moved per parts flow h = record {

@@ -1,24 +1,20 @@
 -- Fairness beside those that keep their rates, of elements that have a flow and parts each, said without their places.
-use Rattle.std.proofs.Common.{◌≡◌, ℕ, suc, ◌+◌, ◌*◌, ◌≤◌, Bool, true, false, cond, not, List, [], ◌∷◌, ◌&&◌}
-use Rattle.std.proofs.Common.{Option, Some, None, map, Contains, refl, sym, ap, ◌∙◌, subst, inl, inr, arith, zero-add}
-use Rattle.std.specs.Prelude.{slice_get, unwrap_or}
+use Rattle.std.proofs.Common.{◌≡◌, ℕ, ◌+◌, ◌*◌, ◌<◌, ◌≤◌, Bool, true, false, cond, not, List, [], ◌∷◌, ◌&&◌}
+use Rattle.std.proofs.Common.{Option, Some, None, refl, sym, ap, ◌∙◌, subst, inl, inr, arith}
+use Rattle.std.specs.Prelude.{option_map}
 use Rattle.std.specs.List.{filter}
-use Rattle.std.specs.Cmp.{IsTotalOrder}
+use Rattle.std.proofs.Math.Nat.{mul-pos}
 use Rattle.std.specs.declared.cmp.Ordering.{Ordering}
 use Rattle.std.proofs.lemmas.Bool.{and_parts, cases_lt}
 use Rattle.std.proofs.lemmas.Option.{same_Some}
 use Rattle.fair_rates.specs.declared.bandwidth.Flow.{Flow}
-use Rattle.fair_rates.specs.Fairness.Beside.{kept_load, HasBottleneckBeside, IsFairBeside}
-use Rattle.fair_rates.specs.Fairness.Fair.{Side}
-use Rattle.fair_rates.specs.Fairness.UnderCaps.{cap_of, AreOfPeers, limits, IsCappedSide}
-use Rattle.fair_rates.specs.Sides.Caps.{Caps}
-use Rattle.fair_rates.specs.Sides.Subjects.{Subject}
-use Rattle.fair_rates.proofs.Fairness.Sharing.{IsCapped, StandsAt, total, total-cons, total_same, load_is}
-use Rattle.fair_rates.proofs.Fairness.Sharing.{IsHeldAmong, AreShared, S, side_for, place_in, user_is, load_of}
-use Rattle.fair_rates.proofs.Fairness.Sharing.{total_at_most, limited_from_capped, parts_at}
+use Rattle.fair_rates.specs.Fairness.UnderCaps.{cap_of, limits}
+use Rattle.fair_rates.specs.Sides.Caps.{Caps, times_caps}
+use Rattle.fair_rates.specs.Sides.Subjects.{Subject, sent_by, received_by, sent_between}
+use Rattle.fair_rates.proofs.Fairness.Sharing.{IsCapped, IsHeldAmong, AreShared, total, total-cons, total_same}
+use Rattle.fair_rates.proofs.Fairness.Sharing.{total_at_most}
 use Rattle.fair_rates.proofs.Lists.Booleans.{by_bool}
-use Rattle.fair_rates.proofs.Lists.Members.{In, in_map, get_in, in_filter, from_filter, some_or_none}
-use Rattle.fair_rates.proofs.Sides.CapSides.{capped_from_listed, listed_from_capped}
+use Rattle.fair_rates.proofs.Lists.Members.{In, in_filter, from_filter, some_or_none}
 
 not_both : {R : Type 0} (b : Bool) → b ≡ true → b ≡ false → R
 not_both true is off = absurd cc
@@ -27,21 +23,6 @@ not_both false is off = absurd cc
 not_limited : (a b : Bool) → a ≡ true → (a && b) ≡ false → b ≡ false
 not_limited true b on e = e
 not_limited false b on e = cc
-
--- the parts at each place, from what stands there
-stands_at : {P X : Type 0} (flow : X → Flow P) (parts : X → ℕ) (g : ℕ → ℕ) (place : ℕ) (xs : List X)
-    → ((k : ℕ) (x : X) → slice_get xs k ≡ Some x → g (place + k) ≡ parts x) → StandsAt flow parts g place xs
-stands_at flow parts g place [] h = tt
-stands_at flow parts g place (x ∷ xs) h = (
-  ap g first ∙ h 0 x refl,
-  stands_at flow parts g (place + 1) xs (λ k y has. ap g (next k) ∙ h (suc k) y has),
-)
-  where
-    first : place ≡ place + 0
-    first = omega arith
-
-    next : (k : ℕ) → place + 1 + k ≡ place + suc k
-    next k = omega arith
 
 module _ {P X : Type 0} (cmp : P → P → Ordering) (caps : Caps P) (flow : X → Flow P) (parts : X → ℕ) where
   -- the bottleneck of one that is rated, beside those that keep their rates
@@ -191,114 +172,6 @@ module _ {P X : Type 0} (cmp : P → P → Ordering) (caps : Caps P) (flow : X �
           (λ off. held_kept x h off (old.held x (kept_before x h off) c));
     }
 
-  -- what one takes that keeps its rate
-  abbrev kept_parts : (X → Bool) → X → ℕ
-  kept_parts rated x = cond (rated x) 0 (parts x)
-
-  kept_total_is : (rated : X → Bool) (s : Subject P) (xs : List X)
-      → total cmp caps flow (kept_parts rated) s xs ≡ total cmp caps flow parts s (keeping rated xs)
-  kept_total_is rated s [] = refl
-  kept_total_is rated s (x ∷ xs) = by_test (rated x) refl (kept_total_is rated s xs)
-    where
-      nothing : (l : Bool) → kept_parts rated x ≡ 0 → cond l (kept_parts rated x) 0 ≡ 0
-      nothing true e = e
-      nothing false e = refl
-
-      by_test : (b : Bool) → rated x ≡ b
-          → total cmp caps flow (kept_parts rated) s xs ≡ total cmp caps flow parts s (keeping rated xs)
-          → total cmp caps flow (kept_parts rated) s (x ∷ xs)
-          ≡ total cmp caps flow parts s (cond (not b) (x ∷ keeping rated xs) (keeping rated xs))
-      by_test true is ih =
-          let none : cond (limits cmp s (flow x)) (kept_parts rated x) 0 ≡ 0 =
-          nothing (limits cmp s (flow x)) (rw is refl) in
-          omega (arith, ih, none, total-cons cmp caps flow (kept_parts rated) s x xs)
-      by_test false is ih =
-          let all : cond (limits cmp s (flow x)) (kept_parts rated x) 0 ≡ cond (limits cmp s (flow x)) (parts x) 0 =
-          rw is refl in
-          omega (
-            arith,
-            ih,
-            all,
-            total-cons cmp caps flow (kept_parts rated) s x xs,
-            total-cons cmp caps flow parts s x (keeping rated xs),
-          )
-
-  module _ (order : IsTotalOrder cmp) (of : AreOfPeers cmp caps) (xs : List X) where
-    module _ (g : ℕ → ℕ) (per : ℕ) (stands : StandsAt flow parts g 0 xs) (kept : ℕ → Option ℕ) (rated : X → Bool)
-        (opens : (k : ℕ) (x : X) → slice_get xs k ≡ Some x → rated x ≡ true → kept k ≡ None)
-        (f : IsFairBeside kept (S cmp caps flow parts order of xs) per g) where
-      at : (k : ℕ) (x : X) → slice_get xs k ≡ Some x → g k ≡ parts x
-      at k x h = let e : k ≡ 0 + k = omega arith in ap g e ∙ parts_at flow parts g 0 xs k x stands h
-
-      -- one that a side limits uses it
-      used_at : (side : Side) (c : IsCappedSide cmp caps (map flow xs) side) (k : ℕ) (x : X) → slice_get xs k ≡ Some x
-          → limits cmp c.subject (flow x) ≡ true → Contains side.users k
-      used_at side c k x has l =
-          subst (λ (ps : List ℕ). Contains ps k) (sym c.users) (place_in cmp caps flow parts c.subject xs k x has l)
-
-      within_from : (s : Subject P) (cap : ℕ) → cap_of caps s ≡ Some cap → (x : X) → In xs x → rated x ≡ true
-          → limits cmp s (flow x) ≡ true → total cmp caps flow parts s xs ≤ cap * per
-      within_from s cap has x h r l =
-          let side = side_for cmp caps flow parts order of xs s cap in
-          let listed =
-          listed_from_capped cmp order caps of (map flow xs) s cap (flow x) has (in_map flow xs x h) l in
-          let p = get_in xs x h in
-          let small =
-          f.within side listed p.0 (place_in cmp caps flow parts s xs p.0 x p.1 l) (opens p.0 x p.1 r) in
-          omega (arith, small, load_is cmp caps flow parts s g 0 xs stands)
-
-      held_at : (x : X) (k : ℕ) → slice_get xs k ≡ Some x
-          → HasBottleneckBeside kept (S cmp caps flow parts order of xs) per g k → IsHeldBeside rated per xs x
-      held_at x k has b =
-          let c = capped_from_listed cmp order caps of (map flow xs) b.side b.uses.listed in
-          let r = user_is cmp caps flow parts order of xs b.side c k b.uses.used in
-          let same : r.0 ≡ x = same_Some r.0 x (sym r.1 ∙ has) in
-          record {
-            by =
-                record {
-                  subject = c.subject;
-                  cap = b.side.cap;
-                  capped = c.capped;
-                  limited = subst (λ (z : X). limits cmp c.subject (flow z) ≡ true) same r.2;
-                };
-            full = sym (load_of cmp caps flow parts order of xs g per stands b.side c) ∙ b.full;
-            greatest = λ y h on l.
-                let p = get_in xs y h in
-                let le = b.greatest p.0 (used_at b.side c p.0 y p.1 l) (opens p.0 y p.1 on) in
-                omega (arith, le, at p.0 y p.1, at k x has);
-          }
-
-      -- from fairness by places
-      pub beside_from : AreSharedBeside rated per xs
-      beside_from = record {
-        within = within_from;
-        held = λ x h r c.
-            let p = get_in xs x h in
-            held_at x p.0 p.1
-            (f.held p.0 (opens p.0 x p.1 r) (limited_from_capped cmp caps flow parts order of xs p.0 x p.1 c));
-      }
-
-    -- what those that keep their rates take fits, where they took no more before
-    pub kept_fit : (rated : X → Bool) (per : ℕ) (vs : List X) → AreShared cmp caps flow parts per vs
-        → (kept : ℕ → Option ℕ)
-        → ((k : ℕ) (x : X) → slice_get xs k ≡ Some x → unwrap_or (kept k) 0 ≡ cond (rated x) 0 (parts x))
-        → ((s : Subject P)
-        → total cmp caps flow parts s (keeping rated xs) ≤ total cmp caps flow parts s vs)
-        → (side : Side) → Contains (S cmp caps flow parts order of xs) side → kept_load kept side ≤ side.cap * per
-    kept_fit rated per vs old kept k_kept among side listed =
-        let c = capped_from_listed cmp order caps of (map flow xs) side listed in
-        let keeps : ℕ → ℕ = λ k. unwrap_or (kept k) 0 in
-        let load_is : kept_load kept side ≡ total cmp caps flow (kept_parts rated) c.subject xs =
-        load_of cmp caps flow (kept_parts rated) order of xs keeps per
-        (stands_at flow (kept_parts rated) keeps 0 xs (λ k x has. ap keeps (zero-add k) ∙ k_kept k x has)) side c in
-        omega (
-          arith,
-          load_is,
-          kept_total_is rated c.subject xs,
-          among c.subject,
-          old.within c.subject side.cap c.capped,
-        )
-
   -- where all near one that is rated are in the part, what is fair in the part is fair among all
   pub beside_more : (near rated : X → Bool) (per : ℕ) (xs : List X)
       → ((s : Subject P) (cap : ℕ) (x y : X) → cap_of caps s ≡ Some cap → In xs x → In xs y → rated x ≡ true
@@ -323,3 +196,122 @@ module _ {P X : Type 0} (cmp : P → P → Ordering) (caps : Caps P) (flow : X �
           greatest = λ y among on l. b.greatest y (in_filter near xs y among (rated_near y among on)) on l;
         };
   }
+
+  -- those that are rated and those that keep their rates are all
+  total_parted : (rated : X → Bool) (s : Subject P) (xs : List X)
+      → total cmp caps flow parts s (filter rated xs) + total cmp caps flow parts s (keeping rated xs)
+      ≡ total cmp caps flow parts s xs
+  total_parted rated s [] = refl
+  total_parted rated s (x ∷ xs) = by_test (rated x) (total_parted rated s xs)
+    where
+      by_test : (b : Bool)
+          → total cmp caps flow parts s (filter rated xs) + total cmp caps flow parts s (keeping rated xs)
+          ≡ total cmp caps flow parts s xs
+          → total cmp caps flow parts s (cond b (x ∷ filter rated xs) (filter rated xs))
+          + total cmp caps flow parts s (cond (not b) (x ∷ keeping rated xs) (keeping rated xs))
+          ≡ total cmp caps flow parts s (x ∷ xs)
+      by_test true ih =
+          omega (
+            arith,
+            ih,
+            total-cons cmp caps flow parts s x (filter rated xs),
+            total-cons cmp caps flow parts s x xs,
+          )
+      by_test false ih =
+          omega (
+            arith,
+            ih,
+            total-cons cmp caps flow parts s x (keeping rated xs),
+            total-cons cmp caps flow parts s x xs,
+          )
+
+  -- what is fair under what the others leave, for those that are rated alone, is fair beside the others; what is left is
+  -- in parts so many times as large
+  module _ (left : Caps P) (rated : X → Bool) (times per : ℕ) (xs : List X)
+      (leaves : (x : X) → In xs x → rated x ≡ true → (s : Subject P) → limits cmp s (flow x) ≡ true
+      → (cap : ℕ) → cap_of caps s ≡ Some cap
+      → (l : ℕ) × (cap_of left s ≡ Some l) × (l * times + total cmp caps flow parts s (keeping rated xs) ≡ cap * per))
+      (comes : (x : X) → In xs x → rated x ≡ true → (s : Subject P) → limits cmp s (flow x) ≡ true
+      → (l : ℕ) → cap_of left s ≡ Some l → (cap : ℕ) × (cap_of caps s ≡ Some cap))
+      (fair : AreShared cmp left flow parts times (filter rated xs)) where
+    within_left : (s : Subject P) (cap : ℕ) → cap_of caps s ≡ Some cap → (x : X) → In xs x → rated x ≡ true
+        → limits cmp s (flow x) ≡ true → total cmp caps flow parts s xs ≤ cap * per
+    within_left s cap has x h r l =
+        let rest = leaves x h r s l cap has in
+        omega (arith, rest.2, fair.within s rest.0 rest.1, total_parted rated s xs)
+
+    held_left : (x : X) (h : In xs x) (r : rated x ≡ true)
+        → IsHeldAmong cmp left flow parts times (filter rated xs) x → IsHeldBeside rated per xs x
+    held_left x h r b =
+        let s = b.by.subject in
+        let own = comes x h r s b.by.limited b.by.cap b.by.capped in
+        let rest = leaves x h r s b.by.limited own.0 own.1 in
+        let same : rest.0 ≡ b.by.cap = same_Some rest.0 b.by.cap (sym rest.1 ∙ b.by.capped) in
+        record {
+          by = record { subject = s; cap = own.0; capped = own.1; limited = b.by.limited };
+          full = omega (arith, ap (λ n. n * times) same, rest.2, b.full, total_parted rated s xs);
+          greatest = λ y among on l. b.greatest y (in_filter rated xs y among on) l;
+        }
+
+    pub beside_left_times : AreSharedBeside rated per xs
+    beside_left_times = record {
+      within = within_left;
+      held = λ x h r c.
+          let rest = leaves x h r c.subject c.limited c.cap c.capped in
+          held_left x h r
+          (fair.held x (in_filter rated xs x h r)
+          (record { subject = c.subject; cap = rest.0; capped = rest.1; limited = c.limited }));
+    }
+
+  -- the same where what is left is in the parts of those that are rated
+  pub beside_left : (left : Caps P) (rated : X → Bool) (per : ℕ) (xs : List X)
+      → ((x : X) → In xs x → rated x ≡ true → (s : Subject P) → limits cmp s (flow x) ≡ true
+      → (cap : ℕ) → cap_of caps s ≡ Some cap
+      → (l : ℕ) × (cap_of left s ≡ Some l) × (l + total cmp caps flow parts s (keeping rated xs) ≡ cap * per))
+      → ((x : X) → In xs x → rated x ≡ true → (s : Subject P) → limits cmp s (flow x) ≡ true
+      → (l : ℕ) → cap_of left s ≡ Some l → (cap : ℕ) × (cap_of caps s ≡ Some cap))
+      → AreShared cmp left flow parts 1 (filter rated xs) → AreSharedBeside rated per xs
+  beside_left left rated per xs leaves comes fair =
+      beside_left_times left rated 1 per xs
+      (λ x h r s l cap has. let rest = leaves x h r s l cap has in (rest.0, rest.1, omega (arith, rest.2))) comes fair
+
+  -- ---- larger caps
+
+  times_cap : (scale : ℕ) (s : Subject P)
+      → cap_of (times_caps scale caps) s ≡ option_map (λ cap. cap * scale) (cap_of caps s)
+  times_cap scale (sent_by p) = refl
+  times_cap scale (received_by p) = refl
+  times_cap scale (sent_between p q) = refl
+
+  cap_from_times : (scale : ℕ) (o : Option ℕ) (k : ℕ) → option_map (λ cap. cap * scale) o ≡ Some k
+      → (cap : ℕ) × (o ≡ Some cap) × (cap * scale ≡ k)
+  cap_from_times scale None k e = cc e
+  cap_from_times scale (Some cap) k e = (cap, refl, same_Some (cap * scale) k e)
+
+  -- what is fair where each cap is so many times as large
+  module _ (scale times : ℕ) (some : 0 < scale) (xs : List X)
+      (fair : AreShared cmp (times_caps scale caps) flow parts times xs) where
+    times_has : (s : Subject P) (cap : ℕ) → cap_of caps s ≡ Some cap
+        → cap_of (times_caps scale caps) s ≡ Some (cap * scale)
+    times_has s cap has = times_cap scale s ∙ ap (option_map (λ cap. cap * scale)) has
+
+    pub whole_shared : AreShared cmp caps flow parts (scale * times) xs
+    whole_shared = record {
+      some_part = mul-pos some fair.some_part;
+      within = λ s cap has. omega (arith, fair.within s (cap * scale) (times_has s cap has));
+      held = λ x h c.
+          let b =
+          fair.held x h (record {
+            subject = c.subject;
+            cap = c.cap * scale;
+            capped = times_has c.subject c.cap c.capped;
+            limited = c.limited;
+          }) in
+          let own =
+          cap_from_times scale (cap_of caps b.by.subject) b.by.cap (sym (times_cap scale b.by.subject) ∙ b.by.capped) in
+          record {
+            by = record { subject = b.by.subject; cap = own.0; capped = own.1; limited = b.by.limited };
+            full = omega (arith, b.full, ap (λ n. n * times) own.2);
+            greatest = b.greatest;
+          };
+    }

@@ -1,6 +1,6 @@
 -- Fairness under caps of elements that have a flow and parts each, said without their places: so it holds in every
 -- order, of a part, and of two parts together.
-use Rattle.std.proofs.Common.{◌≡◌, ℕ, zero, suc, ◌+◌, ◌*◌, ◌<◌, ◌≤◌, Bool, true, false, cond, not, List, [], ◌∷◌, Some}
+use Rattle.std.proofs.Common.{◌≡◌, ℕ, zero, suc, ◌+◌, ◌*◌, ◌<◌, ◌≤◌, Bool, true, false, cond, List, [], ◌∷◌, Some}
 use Rattle.std.proofs.Common.{map, length, get_or, sum_by, Contains, refl, sym, ap, ◌∙◌, subst, inl, inr, arith}
 use Rattle.std.specs.Prelude.{slice_get}
 use Rattle.std.specs.List.{filter}
@@ -279,6 +279,3 @@ module _ {P X : Type 0} (cmp : P → P → Ordering) (caps : Caps P) (flow : X �
           greatest = λ y among l. b.greatest y (from_filter mine xs y among).0 l;
         };
   }
-
-  not_true : (b c : Bool) → b ≡ c → c ≡ false → not b ≡ true
-  not_true b c same is = ap not (same ∙ is)

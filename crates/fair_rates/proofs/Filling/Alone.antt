@@ -1,19 +1,18 @@
 -- The fair rate of a flow alone: the least of its caps.
-use Rattle.std.proofs.Common.{◌≡◌, ℕ, ◌-◌, ◌*◌, ◌<◌, ◌≤◌, inl, inr, List, [], ◌∷◌, length, map, All, Contains}
-use Rattle.std.proofs.Common.{Option, Some, None, IsSome, IfSome, refl, sym, ap, subst, ◌∙◌, arith, mul-le-mul_right}
-use Rattle.std.specs.Prelude.{◌↔◌, replicate}
-use Rattle.std.proofs.lemmas.List.{length-replicate}
-use Rattle.std.proofs.lemmas.List.Elements.{All-nil, All-cons, All-map, All-weaker, All-contains, All-replicate}
-use Rattle.fair_rates.specs.Fairness.Exists.{product}
+use Rattle.std.proofs.Common.{◌≡◌, ℕ, ◌*◌, ◌<◌, ◌≤◌, List, [], ◌∷◌, map, Contains, Bool, Option, Some, None}
+use Rattle.std.proofs.Common.{IsSome, refl, sym, ap, subst, ◌∙◌, arith, mul-le-mul_right}
+use Rattle.std.specs.Prelude.{◌↔◌, option_map, slice_index, unwrap_or}
+use Rattle.std.specs.declared.cmp.Ordering.{Ordering}
+use Rattle.std.proofs.lemmas.List.Elements.{All-nil, All-cons, All-map, All-weaker, All-contains}
 use Rattle.fair_rates.specs.Fairness.Fair.{Side, Uses, IsLimited, IsWithinCaps, HasBottleneck, IsFair, load}
-use Rattle.fair_rates.specs.Filling.FairParts.{level_at, parts_of_level, flow_parts, AreFairPartsOn}
-use Rattle.fair_rates.specs.Filling.States.{IsRaised, AreAtTop}
-use Rattle.fair_rates.specs.declared.bandwidth.parts.FairParts.{FairParts}
-use Rattle.fair_rates.proofs.Filling.Levels.{inside_on}
-use Rattle.fair_rates.proofs.Filling.Steps.{none_at}
+use Rattle.fair_rates.specs.Fairness.UnderCaps.{sides_under}
+use Rattle.fair_rates.specs.Sides.Alone.{least_cap_of}
+use Rattle.fair_rates.specs.Sides.Caps.{Caps}
+use Rattle.fair_rates.specs.declared.bandwidth.Flow.{Flow}
+use Rattle.fair_rates.specs.declared.bandwidth.FlowCaps.{FlowCaps}
 use Rattle.fair_rates.proofs.Lists.Different.{in_one}
 use Rattle.fair_rates.proofs.Lists.Members.{in_from_contains, contains_from_in, in_map}
-use Rattle.fair_rates.proofs.Sides.Alone.{side_alone, IsLeastOf}
+use Rattle.fair_rates.proofs.Sides.Alone.{side_alone, sides_alone, caps_of, IsLeast, IsLeastOf, least_cap_is}
 
 -- ---- what is fair
 
@@ -57,80 +56,63 @@ module _ (caps : List ℕ) (cap : ℕ) (is : IsLeastOf cap caps) (per : ℕ) (so
     held = λ flow (side, uses). subst (HasBottleneck sides per parts) (sym (user_is flow side uses)) bottleneck;
   }
 
--- ---- what is found
+-- nothing limits a flow without caps
+fair_without : (per : ℕ) → 0 < per → (parts : ℕ → ℕ) → IsFair [] per parts
+fair_without per some parts = record {
+  some_part = some;
+  within = All-nil (λ side. load parts side ≤ side.cap * per);
+  held = λ flow limited. absurd (in_from_contains [] limited.0 limited.1.listed);
+}
 
-not_some : (o : Option ℕ) → o ≡ None → IsSome o → ⊥
-not_some o none some = let is : IsSome {T = ℕ} None = subst IsSome none some in absurd (cc)
+-- ---- under caps
 
-none_uses : (flow : ℕ) → IsLimited [] flow → ⊥
-none_uses flow (side, uses) = absurd (in_from_contains [] side uses.listed)
+-- so many times the least cap, and nothing where there is none
+abbrev pub times_least : ℕ → Option ℕ → Option ℕ
+times_least scale least = option_map (λ cap. scale * cap) least
 
--- nothing limits the flows
-pub unlimited : (count scale : ℕ) (found : FairParts) → 0 < scale → found.scale ≡ scale → found.growth.items ≡ []
-    → found.level_of.items ≡ replicate count None → AreFairPartsOn [] count scale found
-unlimited count scale found some scale_is growth_is level_of_is =
-    let levels = found.levels.items in
-    let level_of = found.level_of.items in
-    let none : (flow : ℕ) → level_at level_of flow ≡ None = λ flow.
-    ap (λ xs. level_at xs flow) level_of_is ∙ none_at count flow in
-    record {
-      grown = omega (arith, scale_is, ap (λ xs. scale * product xs) growth_is);
-      factors = subst (All (λ factor. 0 < factor)) (sym growth_is) (All-nil (λ factor. 0 < factor));
-      one_each = ap length level_of_is ∙ length-replicate {A = Option ℕ} count None;
-      inside =
-          subst (All (λ level. IfSome level (λ place. place < length levels))) (sym level_of_is)
-          (All-replicate (λ level. IfSome level (λ place. place < length levels)) count None tt);
-      fair = record {
-        some_part = omega (arith, some, scale_is);
-        within = All-nil (λ side. load (flow_parts levels level_of) side ≤ side.cap * found.scale);
-        held = λ flow limits. absurd (none_uses flow limits);
-      };
-      limited = λ flow.
-          (λ h. absurd (not_some (level_at level_of flow) (none flow) h), λ limits. absurd (none_uses flow limits));
-    }
+module _ (scale : ℕ) (some : 0 < scale) where
+  fair_by : (least : Option ℕ) (caps : List ℕ) → IsLeast least caps
+      → IsFair (map side_alone caps) scale (slice_index (unwrap_or (times_least scale least) 0 ∷ []))
+  fair_by None caps none =
+      subst (λ (cs : List ℕ). IsFair (map side_alone cs) scale (slice_index (0 ∷ []))) (sym none)
+      (fair_without scale some (slice_index (0 ∷ [])))
+  fair_by (Some cap) caps is = fair_alone caps cap is scale some (slice_index (scale * cap ∷ [])) refl
 
-module _ (caps : List ℕ) (cap : ℕ) (is : IsLeastOf cap caps) (scale : ℕ) (found : FairParts) (some : 0 < scale)
-    (scale_is : found.scale ≡ scale) (growth_is : found.growth.items ≡ [])
-    (raised : IsRaised [] found.levels.items (scale * cap))
-    (at_top : AreAtTop (0 ∷ []) (replicate 1 None) found.level_of.items found.levels.items) where
-  abbrev levels : List ℕ
-  levels = found.levels.items
-
-  abbrev level_of : List (Option ℕ)
-  level_of = found.level_of.items
-
-  has_level : level_at level_of 0 ≡ Some (length levels - 1)
-  has_level = at_top.all 0 0 (omega arith)
-
-  has_parts : flow_parts levels level_of 0 ≡ scale * cap
-  has_parts = ap (parts_of_level levels) has_level ∙ raised.last
-
-  some_is_first : (flow : ℕ) → IsSome (level_at level_of flow) → flow ≡ 0
-  some_is_first flow h = elim (at_top.others flow) [
-    | inl used ↦ sym (in_one 0 flow used)
-    | inr same ↦ absurd (not_some (level_at level_of flow) (same ∙ none_at 1 flow) h)
-  ]
-
-  limits_first : (flow : ℕ) → IsSome (level_at level_of flow) ↔ IsLimited (map side_alone caps) flow
-  limits_first flow = (
-    λ h. subst (IsLimited (map side_alone caps)) (sym (some_is_first flow h))
-        (side_alone cap, uses_least caps cap is scale some (flow_parts levels level_of) has_parts),
-    λ limits. subst (λ n. IsSome (level_at level_of n))
-        (sym (user_is caps cap is scale some (flow_parts levels level_of) has_parts flow limits.0 limits.1))
-        (subst IsSome (sym has_level) refl),
+  limited_by : (least : Option ℕ) (caps : List ℕ) → IsLeast least caps
+      → IsSome (times_least scale least) ↔ IsLimited (map side_alone caps) 0
+  limited_by None caps none = (
+    λ h. absurd (cc),
+    λ limited.
+        let there : IsLimited [] 0 = subst (λ (cs : List ℕ). IsLimited (map side_alone cs) 0) none limited in
+        absurd (in_from_contains [] there.0 there.1.listed),
+  )
+  limited_by (Some cap) caps is = (
+    λ h. (side_alone cap, uses_least caps cap is scale some (slice_index (scale * cap ∷ [])) refl),
+    λ limited. refl,
   )
 
-  -- the flow has its least cap
-  pub limited_by_least : AreFairPartsOn (map side_alone caps) 1 scale found
-  limited_by_least = record {
-    grown = omega (arith, scale_is, ap (λ xs. scale * product xs) growth_is);
-    factors = subst (All (λ factor. 0 < factor)) (sym growth_is) (All-nil (λ factor. 0 < factor));
-    one_each = at_top.one_each ∙ length-replicate {A = Option ℕ} 1 None;
-    inside =
-        inside_on (0 ∷ []) [] levels (replicate 1 None) level_of (scale * cap) raised at_top
-        (All-replicate (λ level. IfSome level (λ place. place < 0)) 1 None tt);
-    fair =
-        subst (λ per. IsFair (map side_alone caps) per (flow_parts levels level_of)) (sym scale_is)
-        (fair_alone caps cap is scale some (flow_parts levels level_of) has_parts);
-    limited = limits_first;
-  }
+  module _ {P : Type 0} (cmp : P → P → Ordering) (caps : Caps P) (f : Flow P) (own : FlowCaps) (delivered : Bool)
+      (egress : own.egress ≡ caps.egress f.origin) (ingress : own.ingress ≡ caps.ingress f.recipient)
+      (link : own.link ≡ caps.link f.origin f.recipient) (arrives : delivered ≡ f.delivered) (parts : Option ℕ)
+      (is : parts ≡ times_least scale (least_cap_of own delivered)) where
+    here : parts ≡ times_least scale (least_cap_of own f.delivered)
+    here = is ∙ ap (λ d. times_least scale (least_cap_of own d)) arrives
+
+    sides_are : sides_under cmp caps (f ∷ []) ≡ map side_alone (caps_of own f.delivered)
+    sides_are = sides_alone cmp caps f own egress ingress link
+
+    -- the flow has its least cap
+    pub parts_alone_fair : IsFair (sides_under cmp caps (f ∷ [])) scale (slice_index (unwrap_or parts 0 ∷ []))
+    parts_alone_fair =
+        subst (λ (o : Option ℕ). IsFair (sides_under cmp caps (f ∷ [])) scale (slice_index (unwrap_or o 0 ∷ [])))
+        (sym here)
+        (subst (λ (s : List Side). IsFair s scale
+        (slice_index (unwrap_or (times_least scale (least_cap_of own f.delivered)) 0 ∷ []))) (sym sides_are)
+        (fair_by (least_cap_of own f.delivered) (caps_of own f.delivered) (least_cap_is own f.delivered)))
+
+    -- and there is one where some side limits it
+    pub parts_alone_limited : IsSome parts ↔ IsLimited (sides_under cmp caps (f ∷ [])) 0
+    parts_alone_limited =
+        subst (λ (o : Option ℕ). IsSome o ↔ IsLimited (sides_under cmp caps (f ∷ [])) 0) (sym here)
+        (subst (λ (s : List Side). IsSome (times_least scale (least_cap_of own f.delivered)) ↔ IsLimited s 0)
+        (sym sides_are) (limited_by (least_cap_of own f.delivered) (caps_of own f.delivered) (least_cap_is own f.delivered)))

@@ -16,11 +16,11 @@ use Rattle.std.proofs.lemmas.List.Elements.{Contains-append_cases, Contains-push
 use Rattle.std.proofs.lemmas.List.Sorted.{All-permutation, Contains-permutation}
 use Rattle.std.proofs.lemmas.List.Sorted.{IsPermutation-refl, IsPermutation-sym, IsPermutation-push_more}
 use Rattle.fair_rates.specs.Fairness.Fair.{Side}
-use Rattle.fair_rates.specs.Filling.LeftSides.{left_side_of}
 use Rattle.fair_rates.specs.Filling.States.{AllFrozen, KeepsAccount, IsOpen, IsCovered, IsQueue, IsShareQueue}
 use Rattle.fair_rates.specs.Filling.States.{HaveNoMore, AreAbove, IsWithinSlack, AllFilled, AreOpened, queue_cmp}
-use Rattle.fair_rates.specs.declared.bandwidth.filling.left.LeftSide.{LeftSide}
+use Rattle.fair_rates.specs.Sides.SideOf.{side_of}
 use Rattle.fair_rates.specs.declared.bandwidth.filling.open.OpenSide.{OpenSide}
+use Rattle.fair_rates.specs.declared.bandwidth.sides.Side as declared
 use Rattle.fair_rates.proofs.Filling.Account.{account_start}
 use Rattle.fair_rates.proofs.Lists.SumOrder.{All-from_contains}
 
@@ -213,10 +213,10 @@ opened_none = record {
 }
 
 -- in another order
-pub opened_permuted : (sides : List LeftSide) (opens later : List (Reverse OpenSide)) → IsPermutation opens later
+pub opened_permuted : (sides : List declared.Side) (opens later : List (Reverse OpenSide)) → IsPermutation opens later
     → AreOpened sides opens → AreOpened sides later
 opened_permuted sides opens later perm was = record {
-  queue = λ frozen. queue_permuted 1 frozen (map left_side_of sides) opens later perm (was.queue frozen);
+  queue = λ frozen. queue_permuted 1 frozen (map side_of sides) opens later perm (was.queue frozen);
   users = λ flows all.
       All-permutation (λ o. All (λ flow. flow < flows) o.0.rising.items) opens later perm (was.users flows all);
 }
@@ -227,20 +227,21 @@ put_last x xs =
     IsPermutation-sym (xs ++ x ∷ []) (x ∷ xs)
     (IsPermutation-push_more xs xs (x ∷ xs) x (IsPermutation-refl xs) (IsPermutation-refl (x ∷ xs)))
 
-module _ (sides : List LeftSide) (side : LeftSide) (opens : List (Reverse OpenSide)) (was : AreOpened sides opens) where
+module _ (sides : List declared.Side) (side : declared.Side) (opens : List (Reverse OpenSide))
+    (was : AreOpened sides opens) where
   -- one that counts nobody
   pub opened_more : {x : Reverse OpenSide} (later : List (Reverse OpenSide)) → IsPermutation (x ∷ opens) later
-      → x.0.slack ≡ side.left → side.users.items ≡ x.0.rising.items
+      → x.0.slack ≡ side.cap → side.users.items ≡ x.0.rising.items
       → AreOpened (sides ++ side ∷ []) later
   opened_more {x} later perm slack users = record {
-    queue = λ frozen. subst (λ (xs : List Side). IsQueue xs 1 frozen later) (sym (map_push left_side_of sides side))
-        (queue_permuted 1 frozen (map left_side_of sides ++ left_side_of side ∷ []) (x ∷ opens) later perm
-        (queue_more 1 frozen (map left_side_of sides) (left_side_of side) x opens
-        (account_start (left_side_of side) 1 frozen x.0.slack x.0.rising.items (omega (arith, slack)) users)
+    queue = λ frozen. subst (λ (xs : List Side). IsQueue xs 1 frozen later) (sym (map_push side_of sides side))
+        (queue_permuted 1 frozen (map side_of sides ++ side_of side ∷ []) (x ∷ opens) later perm
+        (queue_more 1 frozen (map side_of sides) (side_of side) x opens
+        (account_start (side_of side) 1 frozen x.0.slack x.0.rising.items (omega (arith, slack)) users)
         (was.queue frozen)));
     users = λ flows all.
         let P : Reverse OpenSide → Type 0 = λ o. All (λ flow. flow < flows) o.0.rising.items in
-        let Q : LeftSide → Type 0 = λ s. All (λ flow. flow < flows) s.users.items in
+        let Q : declared.Side → Type 0 = λ s. All (λ flow. flow < flows) s.users.items in
         let here : Q side = All-contains Q (sides ++ side ∷ []) side all (Contains-push sides side) in
         All-permutation P (x ∷ opens) later perm (All-cons P x opens (subst (All (λ flow. flow < flows)) users here)
         (was.users flows
@@ -251,10 +252,10 @@ module _ (sides : List LeftSide) (side : LeftSide) (opens : List (Reverse OpenSi
   -- a side without users has no open one
   pub opened_without : length side.users.items ≡ 0 → AreOpened (sides ++ side ∷ []) opens
   opened_without none = record {
-    queue = λ frozen. subst (λ (xs : List Side). IsQueue xs 1 frozen opens) (sym (map_push left_side_of sides side))
-        (queue_without 1 frozen (map left_side_of sides) (left_side_of side) opens none (was.queue frozen));
+    queue = λ frozen. subst (λ (xs : List Side). IsQueue xs 1 frozen opens) (sym (map_push side_of sides side))
+        (queue_without 1 frozen (map side_of sides) (side_of side) opens none (was.queue frozen));
     users = λ flows all.
-        let Q : LeftSide → Type 0 = λ s. All (λ flow. flow < flows) s.users.items in
+        let Q : declared.Side → Type 0 = λ s. All (λ flow. flow < flows) s.users.items in
         was.users flows
         (All-from_contains Q sides
         (λ s c. All-contains Q (sides ++ side ∷ []) s all (Contains-append_left sides (side ∷ []) s c)));

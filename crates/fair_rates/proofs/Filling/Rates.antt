@@ -37,8 +37,8 @@ rated_push Holds rates rate n len here all flow d inside = elim (cases_eq flow n
 
 -- ---- the rates are fair
 
-module _ (sides : List Side) (flows scale : ℕ) (found : FairParts) (rates : List Rate)
-    (filled : AreFilled sides flows scale found) (are : AreRatesAt found rates) where
+module _ (sides : List Side) (flows : ℕ) (found : FairParts) (rates : List Rate)
+    (filled : AreFilled sides flows found) (are : AreRatesAt found rates) where
   abbrev levels : List ℕ
   levels = found.levels.items
 
@@ -119,9 +119,9 @@ module _ (sides : List Side) (flows scale : ℕ) (found : FairParts) (rates : Li
   )
 
 -- a level that is no fraction is a fair rate that is none
-pub large_rate : (sides : List Side) (flows scale : ℕ) (found : FairParts) → AreFilled sides flows scale found
+pub large_rate : (sides : List Side) (flows : ℕ) (found : FairParts) → AreFilled sides flows found
     → HasLargeLevel found → HasLargeRate sides
-large_rate sides flows scale found filled large =
+large_rate sides flows found filled large =
     let user = filled.reached large.place large.inside in
     record {
       per = found.scale;

@@ -1,5 +1,5 @@
 -- The sides of one flow, and its least cap.
-use Rattle.std.proofs.Common.{◌≡◌, ℕ, ◌≤◌, inl, inr, List, [], ◌∷◌, ◌++◌, map, All, Contains, Bool, true, false}
+use Rattle.std.proofs.Common.{◌≡◌, ℕ, ◌≤◌, inl, inr, List, [], ◌∷◌, ◌++◌, map, All, Contains, Bool, true, false, cond}
 use Rattle.std.proofs.Common.{Option, Some, None, min, refl, sym, ap, subst, ◌∙◌, arith}
 use Rattle.std.specs.Option.{option_to_list}
 use Rattle.std.specs.declared.cmp.Ordering.{Ordering}
@@ -9,8 +9,12 @@ use Rattle.std.proofs.lemmas.List.{append-nil}
 use Rattle.std.proofs.lemmas.List.Elements.{All-nil, All-cons, All-append, All-weaker}
 use Rattle.std.proofs.lemmas.List.Elements.{Contains-append_left, Contains-append_right}
 use Rattle.fair_rates.specs.Fairness.Fair.{Side}
-use Rattle.fair_rates.specs.Sides.Alone.{least_of, ingress_of, least_cap_of}
+use Rattle.fair_rates.specs.Fairness.UnderCaps.{sides_under}
 use Rattle.fair_rates.specs.Sides.Answers.{Answered}
+use Rattle.fair_rates.specs.Sides.Caps.{Caps}
+use Rattle.fair_rates.specs.Sides.Alone.{least_of, least_cap_of}
+use Rattle.fair_rates.specs.declared.bandwidth.Flow.{Flow}
+use Rattle.fair_rates.specs.declared.bandwidth.FlowCaps.{FlowCaps}
 use Rattle.fair_rates.specs.Sides.Subjects.{sides_of}
 
 -- a side that the flow at the place 0 alone uses
@@ -18,41 +22,46 @@ abbrev pub side_alone : ℕ → Side
 side_alone cap = record { cap = cap; users = 0 ∷ [] }
 
 -- the caps that hold for a flow
-abbrev pub caps_of : {P : Type 0} → Answered P → List ℕ
-caps_of a = (option_to_list a.egress ++ option_to_list (ingress_of a)) ++ option_to_list a.link
+abbrev pub caps_of : FlowCaps → Bool → List ℕ
+caps_of caps delivered =
+    (option_to_list caps.egress ++ option_to_list (cond delivered caps.ingress None)) ++ option_to_list caps.link
 
 -- ---- the sides of one flow
 
-module _ {P : Type 0} (cmp : P → P → Ordering) (id : ℕ) (origin recipient : P) where
+module _ {P : Type 0} (cmp : P → P → Ordering) (caps : Caps P) (f : Flow P) (own : FlowCaps)
+    (egress : own.egress ≡ caps.egress f.origin) (ingress : own.ingress ≡ caps.ingress f.recipient)
+    (link : own.link ≡ caps.link f.origin f.recipient) where
   abbrev answered : Bool → Option ℕ → Option ℕ → Option ℕ → Answered P
-  answered delivered egress ingress link = record {
-    flow = record { id = id; origin = origin; recipient = recipient; delivered = delivered };
-    egress = egress;
-    ingress = ingress;
-    link = link;
+  answered delivered e i l = record {
+    flow = record { id = f.id; origin = f.origin; recipient = f.recipient; delivered = delivered };
+    egress = e;
+    ingress = cond delivered i None;
+    link = l;
   }
 
-  abbrev AreTheCaps : Answered P → Type 0
-  AreTheCaps a = sides_of cmp (a ∷ []) ≡ map side_alone (caps_of a)
+  abbrev AreTheCaps : Bool → Option ℕ → Option ℕ → Option ℕ → Type 0
+  AreTheCaps delivered e i l =
+      sides_of cmp (answered delivered e i l ∷ [])
+      ≡ map side_alone ((option_to_list e ++ option_to_list (cond delivered i None)) ++ option_to_list l)
 
-  by_answers : (delivered : Bool) (egress ingress link : Option ℕ) → AreTheCaps (answered delivered egress ingress link)
+  by_answers : (delivered : Bool) (e i l : Option ℕ) → AreTheCaps delivered e i l
   by_answers true None None None = refl
-  by_answers true None None (Some link) = refl
-  by_answers true None (Some ingress) None = refl
-  by_answers true None (Some ingress) (Some link) = refl
-  by_answers true (Some egress) None None = refl
-  by_answers true (Some egress) None (Some link) = refl
-  by_answers true (Some egress) (Some ingress) None = refl
-  by_answers true (Some egress) (Some ingress) (Some link) = refl
-  by_answers false None ingress None = refl
-  by_answers false None ingress (Some link) = refl
-  by_answers false (Some egress) ingress None = refl
-  by_answers false (Some egress) ingress (Some link) = refl
+  by_answers true None None (Some l) = refl
+  by_answers true None (Some i) None = refl
+  by_answers true None (Some i) (Some l) = refl
+  by_answers true (Some e) None None = refl
+  by_answers true (Some e) None (Some l) = refl
+  by_answers true (Some e) (Some i) None = refl
+  by_answers true (Some e) (Some i) (Some l) = refl
+  by_answers false None i None = refl
+  by_answers false None i (Some l) = refl
+  by_answers false (Some e) i None = refl
+  by_answers false (Some e) i (Some l) = refl
 
-pub sides_alone : {P : Type 0} (cmp : P → P → Ordering) (a : Answered P)
-    → sides_of cmp (a ∷ []) ≡ map side_alone (caps_of a)
-sides_alone cmp a =
-    by_answers cmp a.flow.id a.flow.origin a.flow.recipient a.flow.delivered a.egress a.ingress a.link
+  pub sides_alone : sides_under cmp caps (f ∷ []) ≡ map side_alone (caps_of own f.delivered)
+  sides_alone =
+      (λ k. sides_of cmp (answered f.delivered (sym egress k) (sym ingress k) (sym link k) ∷ []))
+      ∙ by_answers f.delivered own.egress own.ingress own.link
 
 -- ---- the least cap
 
@@ -97,10 +106,11 @@ least_append (Some a) None xs ys h k =
     subst (λ zs. IsLeastOf a (xs ++ zs)) (sym k) (subst (IsLeastOf a) (sym (append-nil xs)) h)
 least_append (Some a) (Some b) xs ys h k = lesser a b xs ys h k
 
-pub least_cap_is : {P : Type 0} (a : Answered P) → IsLeast (least_cap_of a) (caps_of a)
-least_cap_is a =
-    least_append (least_of a.egress (ingress_of a)) a.link
-    (option_to_list a.egress ++ option_to_list (ingress_of a)) (option_to_list a.link)
-    (least_append a.egress (ingress_of a) (option_to_list a.egress) (option_to_list (ingress_of a)) (least_one a.egress)
-    (least_one (ingress_of a)))
-    (least_one a.link)
+pub least_cap_is : (caps : FlowCaps) (delivered : Bool) → IsLeast (least_cap_of caps delivered) (caps_of caps delivered)
+least_cap_is caps delivered =
+    let ingress : Option ℕ = cond delivered caps.ingress None in
+    least_append (least_of caps.egress ingress) caps.link (option_to_list caps.egress ++ option_to_list ingress)
+    (option_to_list caps.link)
+    (least_append caps.egress ingress (option_to_list caps.egress) (option_to_list ingress) (least_one caps.egress)
+    (least_one ingress))
+    (least_one caps.link)

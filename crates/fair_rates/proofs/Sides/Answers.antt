@@ -1,16 +1,12 @@
 -- What closures answer that answer by a function of the peer.
-use Rattle.std.proofs.Common.{◌≡◌, ℕ, ◌+◌, Bool, true, false, cond, List}
+use Rattle.std.proofs.Common.{◌≡◌, ℕ, Bool, true, false, cond, List}
 use Rattle.std.proofs.Common.{[], ◌∷◌, ◌++◌, Option, None, map, refl, sym, ap}
 use Rattle.std.proofs.Common.{ap₂, ◌∙◌, subst}
 use Rattle.std.specs.List.{FoldsTo}
 use Rattle.fair_rates.specs.declared.bandwidth.Flow.{Flow}
-use Rattle.fair_rates.specs.declared.bandwidth.known.Ends.{Ends}
-use Rattle.std.specs.declared.cmp.Ordering.{Ordering}
 use Rattle.fair_rates.specs.Sides.Answers.{Answered, Calls, PairCalls, States, CallsFor, CalledIfDelivered, recipients}
 use Rattle.fair_rates.specs.Sides.Answers.{pairs}
-use Rattle.fair_rates.specs.Sides.Ends.{flow_of, answered_for}
-use Rattle.fair_rates.specs.Sides.Subjects.{Ask, asks_of_one, asks_from, sides_after, sides_of}
-use Rattle.fair_rates.specs.Fairness.UnderCaps.{answered_under, sides_under, AnswersOnEach, AnswersOnEachPair, AnswerBy}
+use Rattle.fair_rates.specs.Fairness.UnderCaps.{answered_under, AnswersOnEach, AnswersOnEachPair, AnswerBy}
 use Rattle.fair_rates.specs.Fairness.UnderCaps.{AnswersAreThoseOfTheCaps}
 use Rattle.fair_rates.specs.Sides.Caps.{Caps}
 
@@ -70,36 +66,3 @@ answers_are_those_of_the_caps {P} egress ingress link caps first flows answered 
     let same : AnswerBy egress ingress link first (map (λ (b : Answered P). b.flow) answered) caps =
     subst (λ (fs : List (Flow P)). AnswerBy egress ingress link first fs caps) (sym a.flows_are) by in
     all_answers egress ingress link caps first answered a.last same a.calls ∙ ap (map (answered_under caps)) a.flows_are
-
--- ---- the sides of what goes between ends
-
--- what a flow asks for does not hang on what is answered for the recipient of one that is dropped
-asked_alike : {P : Type 0} (n : ℕ) (id : ℕ) (p q : P) (egress ingress link : Option ℕ) (d : Bool)
-    → asks_of_one n (record {
-      flow = record { id = id; origin = p; recipient = q; delivered = d };
-      egress = egress;
-      ingress = ingress;
-      link = link;
-    })
-    ≡ asks_of_one n (record {
-      flow = record { id = id; origin = p; recipient = q; delivered = d };
-      egress = egress;
-      ingress = cond d ingress None;
-      link = link;
-    })
-asked_alike n id p q egress ingress link true = refl
-asked_alike n id p q egress ingress link false = refl
-
-asks_alike : {P : Type 0} (caps : Caps P) (n : ℕ) (flows : List (Ends P))
-    → asks_from n (map (answered_for caps) flows) ≡ asks_from n (map (answered_under caps) (map flow_of flows))
-asks_alike caps n [] = refl
-asks_alike {P} caps n (e ∷ flows) =
-    ap₂ (λ (here more : List (Ask P)). here ++ more)
-    (asked_alike n 0 e.origin.now e.recipient.now (caps.egress e.origin.now) (caps.ingress e.recipient.now)
-    (caps.link e.origin.now e.recipient.now) e.delivered)
-    (asks_alike caps (n + 1) flows)
-
--- so they are those under the caps
-pub sides_between : {P : Type 0} (cmp : P → P → Ordering) (caps : Caps P) (flows : List (Ends P))
-    → sides_of cmp (map (answered_for caps) flows) ≡ sides_under cmp caps (map flow_of flows)
-sides_between cmp caps flows = ap (sides_after cmp []) (asks_alike caps 0 flows)

@@ -3,16 +3,13 @@ use Rattle.std.proofs.Common.{subst, suc, ◌≡◌, ℕ, ◌+◌, ◌<◌, Bool
 use Rattle.std.proofs.Common.{length, take, get_or, map, sym, ap, ◌∙◌, arith, add-one, length-append, drop}
 use Rattle.std.proofs.Common.{drop-cons, append_assoc}
 use Rattle.std.proofs.Math.Seq.{take-suc}
-use Rattle.std.proofs.lemmas.List.{append-nil, map-append, length-map, length-take-le}
+use Rattle.std.proofs.lemmas.List.{append-nil, map-append}
 use Rattle.std.proofs.lemmas.Fn.{FoldsTo-push}
 use Rattle.std.specs.List.{FoldsTo}
 use Rattle.std.specs.declared.cmp.Ordering.{Ordering}
 use Rattle.fair_rates.specs.declared.bandwidth.Flow.{Flow}
 use Rattle.fair_rates.specs.declared.bandwidth.sides.Registry.{Registry}
 use Rattle.fair_rates.specs.Sides.Answers.{Answered, Calls, PairCalls, CalledIfDelivered, States, CallsFor}
-use Rattle.fair_rates.specs.declared.bandwidth.known.Ends.{Ends}
-use Rattle.fair_rates.specs.Sides.Caps.{Caps}
-use Rattle.fair_rates.specs.Sides.Ends.{answered_for}
 use Rattle.fair_rates.specs.Sides.Answers.{CallableOnEach, CallableOnEachPair, origins, recipients, pairs}
 use Rattle.fair_rates.specs.Sides.Subjects.{asks_of_one, asks_from}
 use Rattle.fair_rates.specs.Sides.Registry.{IsRegistryOf, Registers}
@@ -33,22 +30,6 @@ one_flow_more : {P : Type 0} (cmp : P → P → Ordering) (n : ℕ) (answered : 
 one_flow_more cmp n answered a old new count registers h =
     subst (λ asks. IsRegistryOf cmp asks new) (sym (asks_from-push 0 n answered a (omega (arith, count))))
     (registers.asked (asks_from 0 answered) h)
-
--- flows under known caps
-pub known_passed : {P : Type 0} (cmp : P → P → Ordering) (caps : Caps P) (n : ℕ) (flows : List (Ends P)) (e : Ends P)
-    (old new : Registry P)
-    → n < length flows → e ≡ get_or flows n e → Registers cmp (asks_of_one n (answered_for caps e)) old new
-    → IsRegistryOf cmp (asks_from 0 (map (answered_for caps) (take n flows))) old
-    → IsRegistryOf cmp (asks_from 0 (map (answered_for caps) (take (n + 1) flows))) new
-known_passed cmp caps n flows e old new below is registers h =
-    let answer = answered_for caps in
-    let answered = map answer (take n flows) in
-    let count : length answered ≡ n = length-map (take n flows) answer ∙ length-take-le n flows (omega arith) in
-    let more : answered ++ answer e ∷ [] ≡ map answer (take (n + 1) flows) =
-    sym (map-append answer (take n flows) (e ∷ [])) ∙ ap (λ d. map answer (take n flows ++ d ∷ [])) is
-    ∙ ap (map answer) (sym (take-suc flows n e below) ∙ ap (λ k. take k flows) (sym (add-one n))) in
-    subst (λ bs. IsRegistryOf cmp (asks_from 0 bs) new) more
-    (one_flow_more cmp n answered (answer e) old new count registers h)
 
 module _ {P E I L : Type 0} (cmp : P → P → Ordering) (egress : Calls E P) (ingress : Calls I P)
     (link : PairCalls L P) where

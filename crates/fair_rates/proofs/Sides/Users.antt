@@ -7,20 +7,13 @@ use Rattle.std.proofs.lemmas.List.Elements.{All-nil, All-cons, All-append, All-w
 use Rattle.std.proofs.lemmas.List.Elements.{All-tail, filter_passes}
 use Rattle.std.specs.Cmp.{IsTotalOrder}
 use Rattle.std.specs.declared.cmp.Ordering.{Ordering}
-use Rattle.fair_rates.specs.Fairness.Fair.{Side}
-use Rattle.fair_rates.specs.Fairness.Laws.{HaveUsersBelow}
-use Rattle.fair_rates.specs.Fairness.UnderCaps.{sides_under}
-use Rattle.fair_rates.specs.Sides.Caps.{Caps}
-use Rattle.fair_rates.specs.Sides.Ends.{flow_of, answered_for}
 use Rattle.fair_rates.specs.Sides.SideOf.{side_of}
-use Rattle.fair_rates.specs.declared.bandwidth.known.Ends.{Ends}
 use Rattle.fair_rates.specs.declared.bandwidth.sides.Side as declared_side
 use Rattle.std.proofs.lemmas.List.{get_or-map, length-map}
 use Rattle.fair_rates.specs.Sides.Answers.{Answered}
 use Rattle.fair_rates.specs.Sides.Subjects.{Ask, sent_by, received_by, sent_between, asks_of_one, asks_from, is_same}
 use Rattle.fair_rates.specs.Sides.Subjects.{is_open, opened, sides_after, sides_of}
 use Rattle.fair_rates.proofs.Lists.AllPairs.{EachLater}
-use Rattle.fair_rates.proofs.Sides.Answers.{sides_between}
 use Rattle.fair_rates.proofs.Sides.Subjects.{same_congr}
 
 -- each number is below all later ones
@@ -186,15 +179,3 @@ module _ {P : Type 0} (cmp : P → P → Ordering) where
         (users_rise answered) in
         subst (λ side. Rises side.users × All (λ flow. flow < length answered) side.users)
         (get_or-map side_of sides k d (side_of d) within) (h k (side_of d) (omega (arith, length-map sides side_of)))
-
--- the users of the sides that known caps make are flows
-pub users_under : {P : Type 0} (cmp : P → P → Ordering) → IsTotalOrder cmp → (caps : Caps P) (flows : List (Ends P))
-    → HaveUsersBelow (length flows) (sides_under cmp caps (map flow_of flows))
-users_under cmp total caps flows =
-    let answered = map (answered_for caps) flows in
-    let below : HaveUsersBelow (length answered) (sides_of cmp answered) =
-    All-weaker (λ side. Rises side.users × All (λ flow. flow < length answered) side.users)
-    (λ side. All (λ flow. flow < length answered) side.users) (λ side h. h.1) (sides_of cmp answered)
-    (users_rise cmp total answered) in
-    subst (λ (sides : List Side). HaveUsersBelow (length flows) sides) (sides_between cmp caps flows)
-    (subst (λ n. HaveUsersBelow n (sides_of cmp answered)) (length-map flows (answered_for caps)) below)

@@ -1,10 +1,6 @@
--- Fair rates as whole parts of one byte a second, so many at a scale. Equal rates share a level.
-use Rattle.std.specs.Prelude.{◌≡◌, ◌↔◌, ℕ, ◌*◌, ◌<◌, ◌≤◌, List, All, Contains, length}
-use Rattle.std.specs.Prelude.{Option, Some, None, IsSome}
-use Rattle.std.specs.Prelude.{IfSome, slice_index, slice_index_or, option_map}
-use Rattle.std.specs.declared.alloc.Global.{Global}
-use Rattle.std.specs.declared.rc.Rc.{Rc}
-use Rattle.fair_rates.specs.Fairness.Beside.{kept_load, beside, IsFairBeside}
+-- Fair rates as whole parts of one unit of the caps. Equal rates share a level.
+use Rattle.std.specs.Prelude.{◌≡◌, ◌↔◌, ℕ, ◌<◌, List, All, length, Option, Some, None, IsSome, IfSome}
+use Rattle.std.specs.Prelude.{slice_index, slice_index_or}
 use Rattle.fair_rates.specs.Fairness.Exists.{product}
 use Rattle.fair_rates.specs.Numbers.Amount.{parts_over}
 use Rattle.fair_rates.specs.Fairness.Fair.{Side, IsLimited, IsFair}
@@ -58,34 +54,11 @@ pub record HasLargeLevel (found : FairParts) : Type 0 where
 
 -- ---- what is answered
 
--- the levels of so many flows are fair on the sides: the scale is the one before, grown by each factor in turn
-pub record AreFairPartsOn (sides : List Side) (flows scale : ℕ) (found : FairParts) : Type 0 where
-  pub grown : found.scale ≡ scale * product found.growth.items
+-- the levels of so many flows are fair on the sides, and the scale is the product of the factors by which it grew
+pub record AreFairPartsOn (sides : List Side) (flows : ℕ) (found : FairParts) : Type 0 where
+  pub grown : found.scale ≡ product found.growth.items
   pub factors : All (λ factor. 0 < factor) found.growth.items
   pub one_each : length found.level_of.items ≡ flows
   pub inside : All (λ level. IfSome level (λ place. place < length found.levels.items)) found.level_of.items
   pub fair : IsFair sides found.scale (flow_parts found.levels.items found.level_of.items)
   pub limited : (flow : ℕ) → IsSome (level_at found.level_of.items flow) ↔ IsLimited sides flow
-
--- ---- what is answered beside flows that keep their rates
-
--- the parts that flows keep, at a place of the list
-abbrev pub kept_at : List (Option (Rc ℕ Global)) → ℕ → Option ℕ
-kept_at kept flow = option_map (λ r. r.value) (slice_index_or kept flow None)
-
--- the same, where so many times as many parts are needed
-abbrev pub times_as_many : ℕ → (ℕ → Option ℕ) → ℕ → Option ℕ
-times_as_many times kept flow = option_map (λ n. n * times) (kept flow)
-
--- the levels of the flows that are rated are fair beside what the others keep, where that is within the caps, and only
--- they have levels
-pub record AreFairPartsBeside (sides : List Side) (kept : ℕ → Option ℕ) (flows scale : ℕ)
-    (found : FairParts) : Type 0 where
-  pub grown : found.scale ≡ scale * product found.growth.items
-  pub factors : All (λ factor. 0 < factor) found.growth.items
-  pub one_each : length found.level_of.items ≡ flows
-  pub inside : All (λ level. IfSome level (λ place. place < length found.levels.items)) found.level_of.items
-  pub fair : ((side : Side) → Contains sides side → kept_load kept side ≤ side.cap * scale)
-      → IsFairBeside kept sides found.scale
-      (beside (times_as_many (product found.growth.items) kept) (flow_parts found.levels.items found.level_of.items))
-  pub limited : (flow : ℕ) → IsSome (level_at found.level_of.items flow) ↔ ((kept flow ≡ None) × IsLimited sides flow)

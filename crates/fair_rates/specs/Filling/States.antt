@@ -1,20 +1,19 @@
 -- Filling: the flows rise together, and the users of a side that is full stay where they are.
 -- All is in whole parts, `scale` of which are one unit of the caps. `frozen` says at how many a flow stays, and None of
 -- a flow that still rises.
-use Rattle.std.specs.Prelude.{◌≡◌, ◌≢◌, ◌↔◌, ℕ, ◌+◌, ◌-◌, ◌*◌, ◌<◌, ◌≤◌, ◌⊎◌, List, []}
+use Rattle.std.specs.Prelude.{◌≡◌, ◌≢◌, ℕ, ◌+◌, ◌-◌, ◌*◌, ◌<◌, ◌≤◌, ◌⊎◌, List, []}
 use Rattle.std.specs.Prelude.{◌∷◌, ◌++◌, All, AllPairs, Contains, length, map, sum_by, IsPermutation, Option, Some}
 use Rattle.std.specs.Prelude.{None, IsSome, IfSome, slice_index, unwrap_or, option_map}
 use Rattle.std.specs.BinaryHeap.{IsHeap}
 use Rattle.std.specs.declared.cmp.Ordering.{Ordering}
 use Rattle.std.specs.declared.cmp.Reverse.{Reverse}
-use Rattle.fair_rates.specs.Fairness.Exists.{product}
-use Rattle.fair_rates.specs.Fairness.Fair.{Side, IsLimited, IsFair}
-use Rattle.fair_rates.specs.Filling.FairParts.{level_at, flow_parts, AreFairPartsOn}
-use Rattle.fair_rates.specs.Filling.LeftSides.{left_side_of}
+use Rattle.fair_rates.specs.Fairness.Fair.{Side}
+use Rattle.fair_rates.specs.Filling.FairParts.{level_at, AreFairPartsOn}
 use Rattle.fair_rates.specs.Numbers.Fraction.{fraction_cmp}
-use Rattle.fair_rates.specs.declared.bandwidth.filling.left.LeftSide.{LeftSide}
+use Rattle.fair_rates.specs.Sides.SideOf.{side_of}
 use Rattle.fair_rates.specs.declared.bandwidth.filling.open.OpenSide.{OpenSide}
 use Rattle.fair_rates.specs.declared.bandwidth.parts.FairParts.{FairParts}
+use Rattle.fair_rates.specs.declared.bandwidth.sides.Side as declared
 
 -- ---- flows
 
@@ -99,8 +98,8 @@ pub record IsQueue (sides : List Side) (scale : ℕ) (frozen : ℕ → Option �
   pub covered : All (IsCovered scale frozen opens) sides
 
 -- the open sides are of these sides, whoever is frozen, and their users are users of these
-pub record AreOpened (sides : List LeftSide) (opens : List (Reverse OpenSide)) : Type 0 where
-  pub queue : (frozen : ℕ → Option ℕ) → IsQueue (map left_side_of sides) 1 frozen opens
+pub record AreOpened (sides : List declared.Side) (opens : List (Reverse OpenSide)) : Type 0 where
+  pub queue : (frozen : ℕ → Option ℕ) → IsQueue (map side_of sides) 1 frozen opens
   pub users : (flows : ℕ) → All (λ side. All (λ flow. flow < flows) side.users.items) sides
       → All (λ open_side. All (λ flow. flow < flows) open_side.0.rising.items) opens
 
@@ -136,22 +135,9 @@ pub record AreGrown (factor : ℕ) (old new : List (Reverse OpenSide)) : Type 0 
 
 -- ---- the end
 
--- the flows' levels are fair on sides with caps in parts, the levels are different, and each is of some flow
-pub record AreFilledInParts (sides : List Side) (flows scale : ℕ) (found : FairParts) : Type 0 where
-  pub grown : found.scale ≡ scale * product found.growth.items
-  pub factors : All (λ factor. 0 < factor) found.growth.items
-  pub one_each : length found.level_of.items ≡ flows
-  pub inside : AreInside found.levels.items found.level_of.items
-  pub fair : IsFair sides (product found.growth.items) (flow_parts found.levels.items found.level_of.items)
-  pub limited : (flow : ℕ) → IsSome (level_at found.level_of.items flow) ↔ IsLimited sides flow
-  pub rising : AllPairs (λ a b. a < b) found.levels.items
-  pub reached : (place : ℕ) → place < length found.levels.items
-      → (flow : ℕ) × (level_at found.level_of.items flow ≡ Some place)
-  pub few : length found.levels.items ≤ length sides
-
 -- the flows' levels are fair on the sides, the levels are different, and each is of some flow
-pub record AreFilled (sides : List Side) (flows scale : ℕ) (found : FairParts) : Type 0 where
-  pub parts : AreFairPartsOn sides flows scale found
+pub record AreFilled (sides : List Side) (flows : ℕ) (found : FairParts) : Type 0 where
+  pub parts : AreFairPartsOn sides flows found
   pub open parts use *
   pub rising : AllPairs (λ a b. a < b) found.levels.items
   pub reached : (place : ℕ) → place < length found.levels.items

@@ -1,7 +1,7 @@
 -- Caps by peer and by ordered pair.
-use Rattle.std.specs.Prelude.{◌≡◌, ℕ, true, ◌&&◌, if◌then◌else◌, Option, None}
+use Rattle.std.specs.Prelude.{◌≡◌, ℕ, ◌*◌, true, ◌&&◌, if◌then◌else◌, Option, None, option_map}
 use Rattle.std.specs.declared.cmp.Ordering.{Ordering}
-use Rattle.fair_rates.specs.Sides.Subjects.{Subject, sent_by, received_by, sent_between, same_peer}
+use Rattle.fair_rates.specs.Sides.Subjects.{same_peer}
 
 -- the caps in bytes a second: on all that a peer sends, on all that a peer receives, and on what goes from one peer
 -- to another
@@ -10,15 +10,17 @@ pub record Caps (P : Type 0) : Type 0 where
   pub ingress : P → Option ℕ
   pub link : P → P → Option ℕ
 
+-- each cap so many times
+abbrev pub times_caps : {P : Type 0} → ℕ → Caps P → Caps P
+times_caps scale caps = record {
+  egress = λ p. option_map (λ cap. cap * scale) (caps.egress p);
+  ingress = λ p. option_map (λ cap. cap * scale) (caps.ingress p);
+  link = λ p q. option_map (λ cap. cap * scale) (caps.link p q);
+}
+
 -- nothing is capped
 abbrev pub no_caps : {P : Type 0} → Caps P
 no_caps = record { egress = λ p. None; ingress = λ p. None; link = λ p q. None }
-
--- the cap on what a side limits
-abbrev pub cap_on : {P : Type 0} → Caps P → Subject P → Option ℕ
-cap_on caps (sent_by p) = caps.egress p
-cap_on caps (received_by p) = caps.ingress p
-cap_on caps (sent_between p q) = caps.link p q
 
 module _ {P : Type 0} (cmp : P → P → Ordering) where
   -- the caps of a peer, with a new one

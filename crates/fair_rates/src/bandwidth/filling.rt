@@ -5,45 +5,37 @@
 //! shares. These only grow as flows freeze, so one that was reckoned before is never too much, and
 //! only the one on top is reckoned anew, if a user of its side froze since.
 //!
-//! All numbers are whole parts of one byte a second. Where the least share is not whole, the scale
-//! grows, and all that is kept with it. Beside flows that keep their rates, filling has what these
-//! leave of the caps.
+//! All numbers are whole parts of one unit of the caps. Where the least share is not whole, the scale
+//! grows, and all that is kept with it.
 ghost use Rattle.std.specs.Prelude.{◌≡◌, ◌<◌, ◌≤◌, ℕ, IfOk, IfSome, OnSome, MatchOption, Option, All, List};
 ghost use Rattle.std.specs.Prelude.{◌∷◌, map, length};
 ghost use Rattle.std.specs.BinaryHeap.{heap_items, heap_len, IsHeap};
 ghost use Rattle.fair_rates.specs.Sides.SideOf.{side_of};
 ghost use Rattle.fair_rates.specs.Fairness.Fair.{Side as WholeSide};
-ghost use Rattle.fair_rates.specs.Fairness.Laws.{HaveUsersBelow};
-ghost use Rattle.fair_rates.specs.Filling.FairParts.{kept_at, AreFairPartsBeside};
-ghost use Rattle.fair_rates.specs.Filling.LeftSides.{left_side_of};
 ghost use Rattle.fair_rates.specs.Filling.States.{frozen_at, AreInside, AreAbove, IsQueue, IsShareQueue, IsLeast};
-ghost use Rattle.fair_rates.specs.Filling.States.{AllFilled};
-ghost use Rattle.fair_rates.specs.Filling.States.{AreOpened, AreGrown, AreFilled, AreFilledInParts, queue_cmp};
+ghost use Rattle.fair_rates.specs.Filling.States.{AllFilled, AreOpened, AreGrown, AreFilled, queue_cmp};
 
-mod left;
 mod open;
-pub(crate) mod share;
+mod share;
 
 use crate::bandwidth::parts::FairParts;
 use crate::bandwidth::sides::Side;
-use left::{LeftSide, sides_beside, whole_sides};
 use natural::Natural;
 use open::OpenSide;
 use share::whole_share;
 use std::alloc::{AllocError, Global};
 use std::cmp::Reverse;
 use std::collections::BinaryHeap;
-use std::rc::Rc;
 
 /// The sides that have users, before any is frozen, in their order.
-fn open_list(alloc: Global, sides: Vec<LeftSide>) -> Result<Vec<Reverse<OpenSide>>, AllocError>
+fn open_list(alloc: Global, sides: Vec<Side>) -> Result<Vec<Reverse<OpenSide>>, AllocError>
     ensures opened { IfOk result (λ opens. AreOpened sides.items opens.items) }
     ensures count { IfOk result (λ opens. length opens.items ≤ length sides.items) }
 {
     let mut opens = Vec::with_capacity(alloc, sides.len())?;
     for side in sides {
-        let LeftSide {
-            left: slack,
+        let Side {
+            cap: slack,
             users: rising,
         } = side;
         if !rising.is_empty() {
@@ -54,10 +46,7 @@ fn open_list(alloc: Global, sides: Vec<LeftSide>) -> Result<Vec<Reverse<OpenSide
 }
 
 /// The same by their shares.
-fn open_sides(
-    alloc: Global,
-    sides: Vec<LeftSide>,
-) -> Result<BinaryHeap<Reverse<OpenSide>>, AllocError>
+fn open_sides(alloc: Global, sides: Vec<Side>) -> Result<BinaryHeap<Reverse<OpenSide>>, AllocError>
     ensures opened { IfOk result (λ queue. AreOpened sides.items (heap_items queue)) }
     ensures order { IfOk result (λ queue. IsHeap queue_cmp (heap_items queue)) }
     ensures count { IfOk result (λ queue. heap_len queue ≤ length sides.items) }
@@ -121,19 +110,18 @@ fn grown_sides(
     Ok(grown)
 }
 
-/// The max-min fair rates of `count` flows on sides of which so much is left, in parts of one byte
-/// a second, so many at `scale`. Where a rate is no whole number of parts, the scale grows.
-fn fill(
-    alloc: Global,
-    count: usize,
-    sides: Vec<LeftSide>,
-    scale: &Natural,
-) -> Result<FairParts, AllocError>
-    requires { HaveUsersBelow count (map left_side_of sides.items) }
-    ensures { IfOk result (λ found. AreFilledInParts (map left_side_of sides.items) count scale.now found) }
+/// The max-min fair rates of `count` flows on the sides, in parts of one unit of the caps. Where a rate is no whole
+/// number of parts, the scale grows, from one.
+///
+/// # Errors
+///
+/// `AllocError` where memory was refused.
+pub fn fair_parts(alloc: Global, count: usize, sides: Vec<Side>) -> Result<FairParts, AllocError>
+    requires users { All (λ side. All (λ flow. flow < count) side.users.items) sides.items }
+    ensures { IfOk result (λ found. AreFilled (map side_of sides.items) count found) }
 {
     let mut queue = open_sides(alloc, sides)?;
-    let mut found = FairParts::new(alloc, count, scale)?;
+    let mut found = FairParts::new(alloc, count)?;
     while let Some(side) = next_side(&mut queue, &found.levels, &found.level_of)? {
         let OpenSide { slack, rising, .. } = side;
         let share = whole_share(alloc, slack, rising.len() as u64)?;
@@ -142,40 +130,4 @@ fn fill(
         found.freeze(&rising, share.parts)?;
     }
     Ok(found)
-}
-
-/// The max-min fair rates of `count` flows on the sides, in parts of one byte a second, so many at
-/// `scale`. Where a rate is no whole number of parts, the scale grows.
-///
-/// # Errors
-///
-/// `AllocError` where memory was refused.
-pub fn fair_parts(
-    alloc: Global,
-    count: usize,
-    sides: Vec<Side>,
-    scale: &Natural,
-) -> Result<FairParts, AllocError>
-    requires users { All (λ side. All (λ flow. flow < count) side.users.items) sides.items }
-    requires some_part { 0 < scale.now }
-    ensures { IfOk result (λ found. AreFilled (map side_of sides.items) count scale.now found) }
-{
-    let whole = whole_sides(alloc, sides, scale)?;
-    fill(alloc, count, whole, scale)
-}
-
-/// The max-min fair rates of those of the flows that do not keep theirs, beside the others, as
-/// [`fair_parts`].
-pub(crate) fn fair_parts_beside(
-    alloc: Global,
-    sides: Vec<Side>,
-    kept: &[Option<Rc<Natural>>],
-    scale: &Natural,
-) -> Result<FairParts, AllocError>
-    requires users { All (λ side. All (λ flow. flow < length kept.now) side.users.items) sides.items }
-    ensures { IfOk result (AreFairPartsBeside (map side_of sides.items) (kept_at kept.now) (length kept.now)
-        scale.now) }
-{
-    let left = sides_beside(alloc, sides, kept, scale)?;
-    fill(alloc, kept.len(), left, scale)
 }

@@ -4,8 +4,6 @@ ghost use Rattle.std.specs.Prelude.{length, replicate};
 ghost use Rattle.fair_rates.specs.Numbers.Amount.{parts_over};
 ghost use Rattle.fair_rates.specs.Fairness.Exists.{product};
 ghost use Rattle.fair_rates.specs.Filling.FairParts.{level_at, AreRatesAt, HasLargeLevel, AreLevelRates};
-ghost use Rattle.fair_rates.specs.Filling.Pair.{IsLimitedTo};
-ghost use Rattle.fair_rates.specs.Sides.Pair.{times_rate};
 ghost use Rattle.fair_rates.specs.Filling.States.{AreInside, IsRaised, AreAtTop};
 ghost use Rattle.fair_rates.specs.Numbers.Fits.{ReducedFits};
 ghost use Rattle.fair_rates.specs.Numbers.Ratio.{IsWorth};
@@ -17,10 +15,10 @@ use crate::ratio::numbers::gcd_of_narrow;
 use natural::Natural;
 use std::alloc::{AllocError, Global};
 
-/// The max-min fair rates of some flows, as whole numbers of parts of one byte a second.
+/// The max-min fair rates of some flows, as whole numbers of parts of one unit of the caps.
 #[derive(Drop)]
 pub struct FairParts {
-    /// How many parts are one byte a second.
+    /// How many parts are one unit of the caps.
     pub scale: Natural,
     /// The factors by which the scale was multiplied, one after the other.
     pub growth: Vec<u64>,
@@ -31,15 +29,15 @@ pub struct FairParts {
 }
 
 impl FairParts {
-    /// No flow has a level.
-    pub(crate) fn new(alloc: Global, count: usize, scale: &Natural) -> Result<FairParts, AllocError>
-        ensures scale { IfOk result (λ found. found.scale ≡ scale.now) }
+    /// No flow has a level, and a part is a unit of the caps.
+    pub(crate) fn new(alloc: Global, count: usize) -> Result<FairParts, AllocError>
+        ensures scale { IfOk result (λ found. found.scale ≡ 1) }
         ensures growth { IfOk result (λ found. found.growth.items ≡ []) }
         ensures levels { IfOk result (λ found. found.levels.items ≡ []) }
         ensures level_of { IfOk result (λ found. found.level_of.items ≡ replicate count None) }
     {
         Ok(FairParts {
-            scale: scale.clone()?,
+            scale: Natural::from_u64(alloc, 1),
             growth: Vec::new(alloc),
             levels: Vec::new(alloc),
             level_of: vec![in alloc; None; count]?,
@@ -81,23 +79,7 @@ impl FairParts {
         Ok(())
     }
 
-    /// Gives the flow the cap as its rate, in parts that are so many at `scale`, if there is one.
-    pub(crate) fn limit(
-        &mut self,
-        flow: usize,
-        cap: Option<u128>,
-        scale: &Natural,
-    ) -> Result<(), AllocError>
-        requires { flow < length self.old.level_of.items }
-        ensures { OnOk result (IsLimitedTo flow (times_rate scale.now cap) self.old self.new) }
-    {
-        if let Some(cap) = cap {
-            self.freeze(&[flow], scale.product(cap)?)?;
-        }
-        Ok(())
-    }
-
-    /// The rate of each flow, where the parts of one byte a second are those that the scale has grown by.
+    /// The rate of each flow, where the caps are in bytes a second.
     ///
     /// # Errors
     ///

@@ -4,19 +4,16 @@ ghost use Rattle.std.specs.Prelude.{Option, None};
 ghost use Rattle.std.specs.Fn.{CalledAt, TakesAt, CalledAtTwo, TakesAtTwo};
 ghost use Rattle.fair_rates.specs.Sides.Answers.{Answered, AnswerInOrder, CallableOnEach, CallableOnEachPair, origins};
 ghost use Rattle.fair_rates.specs.Sides.Answers.{recipients, pairs};
-ghost use Rattle.fair_rates.specs.Sides.Ends.{answered_for};
 ghost use Rattle.fair_rates.specs.Sides.Subjects.{sides_of, asks_of_one};
 ghost use Rattle.fair_rates.specs.Sides.Subjects.{sent_between};
-ghost use Rattle.fair_rates.specs.Sides.Caps.{cap_on};
 ghost use Rattle.fair_rates.specs.Sides.SideOf.{side_of};
 ghost use Rattle.fair_rates.specs.Sides.Registry.{FindsSides, IsGapFor, Registers, number_of, subject_of};
 
-use crate::bandwidth::guesses::Guesses;
-use crate::bandwidth::known::{Ends, KnownCaps};
 use crate::bandwidth::numbers::{Found, Numbers};
 use crate::bandwidth::{Flow, FlowCaps};
 use crate::error::Error;
 use crate::peer::Peer;
+use natural::Natural;
 use std::alloc::{AllocError, Global};
 
 /// A new side has room for so many users, before its list has to move.
@@ -35,9 +32,6 @@ const FEW_SIDES: usize = 16;
 /// There is room for so many sides at most, before any has come into being.
 const MANY_SIDES: usize = 64;
 
-/// Among so many flows, or fewer, no guess is made by the numbers of their peers.
-const FEW_FLOWS: usize = 16;
-
 /// Where the numbers of the first flow are expected.
 const FIRST: Places = Places {
     sender: 0,
@@ -45,12 +39,12 @@ const FIRST: Places = Places {
     link: 0,
 };
 
-/// What limits some flows together: its cap in bytes a second, and the places of those flows in
-/// the list, in its order.
+/// What limits some flows together: its cap, and the places of those flows in the list, in its order.
 #[derive(Debug, Drop)]
 pub struct Side {
-    /// In bytes a second.
-    pub cap: u128,
+    /// In parts of the caller's choosing, and as large as it may be: for [`allocate`](super::allocate) in bytes a
+    /// second.
+    pub cap: Natural,
     /// Places of flows.
     pub users: Vec<usize>,
 }
@@ -62,20 +56,6 @@ enum Subject<'a, P> {
     SentBy(&'a P),
     ReceivedBy(&'a P),
     SentBetween(&'a P, &'a P),
-}
-
-impl<P: Peer> Subject<'_, P> {
-    /// The cap of its side.
-    #[inline(always)]
-    fn cap<C: KnownCaps<P>>(&self, caps: &C) -> Option<u128>
-        ensures { result ≡ cap_on (C.caps caps.now) (subject_of self.now) }
-    {
-        match self {
-            Subject::SentBy(peer) => caps.egress(peer),
-            Subject::ReceivedBy(peer) => caps.ingress(peer),
-            Subject::SentBetween(origin, recipient) => caps.link(origin, recipient),
-        }
-    }
 }
 
 /// Where the numbers of what a flow asks for stand, or are guessed to stand, of each kind.
@@ -95,11 +75,6 @@ impl Places {
             recipient: self.recipient.wrapping_add(1),
             link: self.link.wrapping_add(1),
         }
-    }
-
-    /// Whether the sender and the recipient stand where these do.
-    fn have_ends_of(&self, other: &Places) -> bool {
-        self.sender == other.sender && self.recipient == other.recipient
     }
 }
 
@@ -211,27 +186,28 @@ fn open<'a, P: Peer>(
     let number = registry.sides.len();
     let mut users = Vec::with_capacity(alloc, room_of(number))?;
     users.push(place)?;
+    let cap = Natural::from_u128(alloc, cap);
     registry.sides.push(Side { cap, users })?;
     registry.note(gap, &subject, number)?;
     Ok(())
 }
 
 /// Registers that the flow at `place` asks for the side of the subject, whose number may stand where it is guessed
-/// to. Answers where it stands, or would.
+/// to, and for which this cap was answered. Answers where it stands, or would.
 #[inline(always)]
-fn register<'a, P: Peer, C: KnownCaps<P>>(
+fn register<'a, P: Peer>(
     alloc: Global,
     registry: &mut Registry<'a, P>,
     place: usize,
     subject: Subject<'a, P>,
     guess: usize,
-    caps: &C,
+    cap: Option<u128>,
 ) -> Result<usize, Error>
     requires { FindsSides P.cmp registry.old }
     ensures registers { OnOk result (Registers P.cmp (record {
       place = place;
       subject = subject_of subject.entry;
-      answer = cap_on (C.caps caps.now) (subject_of subject.entry);
+      answer = cap;
     } ∷ []) registry.old registry.new) }
     ensures refused { IfErr result (λ e. e ≡ Error.OutOfMemory) }
 {
@@ -239,23 +215,23 @@ fn register<'a, P: Peer, C: KnownCaps<P>>(
         registry.sides[number].users.push(place)?;
         return Ok(guess);
     }
-    search(alloc, registry, place, subject, caps)
+    search(alloc, registry, place, subject, cap)
 }
 
 /// The same where it does not stand there.
 #[inline(always)]
-fn search<'a, P: Peer, C: KnownCaps<P>>(
+fn search<'a, P: Peer>(
     alloc: Global,
     registry: &mut Registry<'a, P>,
     place: usize,
     subject: Subject<'a, P>,
-    caps: &C,
+    cap: Option<u128>,
 ) -> Result<usize, Error>
     requires { FindsSides P.cmp registry.old }
     ensures registers { OnOk result (Registers P.cmp (record {
       place = place;
       subject = subject_of subject.entry;
-      answer = cap_on (C.caps caps.now) (subject_of subject.entry);
+      answer = cap;
     } ∷ []) registry.old registry.new) }
     ensures refused { IfErr result (λ e. e ≡ Error.OutOfMemory) }
 {
@@ -264,60 +240,71 @@ fn search<'a, P: Peer, C: KnownCaps<P>>(
         registry.sides[number].users.push(place)?;
         return Ok(found.place);
     }
-    let cap = subject.cap(caps);
     open(alloc, registry, place, found.place, subject, cap)?;
     Ok(found.place)
 }
 
-/// Registers that the flow at `place` asks for the side of its link. Where no link has a cap, there is nothing to
-/// search for.
+/// Registers that the flow at `place` asks for the side of its link, for which this cap was answered. Where no link
+/// has a cap, there is nothing to search for.
 #[inline(always)]
-fn register_link<'a, P: Peer, C: KnownCaps<P>>(
+fn register_link<'a, P: Peer>(
     alloc: Global,
     registry: &mut Registry<'a, P>,
     place: usize,
-    ends: &Ends<'a, P>,
+    flow: &'a Flow<P>,
     guess: usize,
-    caps: &C,
+    cap: Option<u128>,
 ) -> Result<usize, Error>
     requires { FindsSides P.cmp registry.old }
     ensures registers { OnOk result (Registers P.cmp (record {
       place = place;
-      subject = sent_between ends.now.origin.now ends.now.recipient.now;
-      answer = (C.caps caps.now).link ends.now.origin.now ends.now.recipient.now;
+      subject = sent_between flow.now.origin flow.now.recipient;
+      answer = cap;
     } ∷ []) registry.old registry.new) }
     ensures refused { IfErr result (λ e. e ≡ Error.OutOfMemory) }
 {
-    if registry.links.is_empty() && caps.link(ends.origin, ends.recipient).is_none() {
+    if registry.links.is_empty() && cap.is_none() {
         return Ok(guess);
     }
-    let subject = Subject::SentBetween(ends.origin, ends.recipient);
-    register(alloc, registry, place, subject, guess, caps)
+    let subject = Subject::SentBetween(&flow.origin, &flow.recipient);
+    register(alloc, registry, place, subject, guess, cap)
 }
 
-/// Registers that the flow at `place` asks for its sides, under these caps. Answers where their numbers stand.
+/// Registers that the flow at `place` asks for its sides, for which these caps were answered. Answers where their
+/// numbers stand.
 #[inline(always)]
-fn register_flow<'a, P: Peer, C: KnownCaps<P>>(
+fn register_flow<'a, P: Peer>(
     alloc: Global,
     registry: &mut Registry<'a, P>,
     place: usize,
-    ends: &Ends<'a, P>,
+    flow: &'a Flow<P>,
     guess: Places,
-    caps: &C,
+    caps: FlowCaps,
 ) -> Result<Places, Error>
     requires { FindsSides P.cmp registry.old }
-    ensures registers { OnOk result (Registers P.cmp (asks_of_one place (answered_for (C.caps caps.now) ends.now))
-        registry.old registry.new) }
+    ensures registers { OnOk result (Registers P.cmp (asks_of_one place (record {
+      flow = flow.now;
+      egress = caps.egress;
+      ingress = caps.ingress;
+      link = caps.link;
+    })) registry.old registry.new) }
     ensures refused { IfErr result (λ e. e ≡ Error.OutOfMemory) }
 {
-    let subject = Subject::SentBy(ends.origin);
-    let sender = register(alloc, registry, place, subject, guess.sender, caps)?;
+    let subject = Subject::SentBy(&flow.origin);
+    let sender = register(alloc, registry, place, subject, guess.sender, caps.egress)?;
     let mut recipient = guess.recipient;
-    if ends.delivered {
-        let subject = Subject::ReceivedBy(ends.recipient);
-        recipient = register(alloc, registry, place, subject, guess.recipient, caps)?;
+    if flow.delivered {
+        let subject = Subject::ReceivedBy(&flow.recipient);
+        recipient = register(
+            alloc,
+            registry,
+            place,
+            subject,
+            guess.recipient,
+            caps.ingress,
+        )?;
     }
-    let link = register_link(alloc, registry, place, ends, guess.link, caps)?;
+    let link = register_link(alloc, registry, place, flow, guess.link, caps.link)?;
     Ok(Places {
         sender,
         recipient,
@@ -360,50 +347,12 @@ where
             None
         };
         let link = link_cap(&flow.origin, &flow.recipient);
-        let answers = FlowCaps {
+        let caps = FlowCaps {
             egress,
             ingress,
             link,
         };
-        let ends = Ends {
-            origin: &flow.origin,
-            recipient: &flow.recipient,
-            delivered: flow.delivered,
-            sender: 0,
-            receiver: 0,
-        };
-        expected = register_flow(alloc, &mut registry, place, &ends, expected, &answers)?.next();
-    }
-    Ok(registry.sides)
-}
-
-/// The sides of flows with known caps, in the order in which they come into being. Among many flows they are guessed
-/// to stand where those of the same peers stood, and among few where the next ones are expected.
-pub(crate) fn sides_under<P: Peer, C: KnownCaps<P>>(
-    alloc: Global,
-    flows: &[Ends<P>],
-    caps: &C,
-    guesses: &mut Guesses,
-) -> Result<Vec<Side>, Error>
-    ensures sides { IfOk result (λ sides. map side_of sides.items
-        ≡ sides_of P.cmp (map (answered_for (C.caps caps.now)) flows.now)) }
-    ensures users_are_flows { IfOk result (λ sides. All
-        (λ side. All (λ flow. flow < length flows.now) side.users.items) sides.items) }
-    ensures refused { IfErr result (λ e. e ≡ Error.OutOfMemory) }
-{
-    let many = flows.len() > FEW_FLOWS;
-    let mut registry = Registry::new(alloc, flows.len())?;
-    let mut expected = FIRST;
-    for (place, ends) in flows.iter().enumerate() {
-        if many {
-            expected.sender = guesses.sender(ends.sender);
-            expected.recipient = guesses.receiver(ends.receiver);
-        }
-        let stands = register_flow(alloc, &mut registry, place, ends, expected, caps)?;
-        if many && !stands.have_ends_of(&expected) {
-            guesses.note(ends.sender, stands.sender, ends.receiver, stands.recipient)?;
-        }
-        expected = stands.next();
+        expected = register_flow(alloc, &mut registry, place, flow, expected, caps)?.next();
     }
     Ok(registry.sides)
 }

@@ -1,7 +1,7 @@
 -- What is allocated on the sides of the links is what is promised, and so is what is refused.
 use Rattle.std.proofs.Common.{◌≡◌, ℕ, zero, suc, ◌^◌, ◌<◌, ◌≤◌, List, [], ◌∷◌, length, map, get_or, All, Contains, Option, Some, None, inl, inr, sym, ap}
 use Rattle.std.proofs.Common.{subst, arith}
-use Rattle.std.proofs.lemmas.List.{length-map, get_or-map}
+use Rattle.std.proofs.lemmas.List.{length-map}
 use Rattle.fair_rates.specs.Fairness.Fair.{Side}
 use Rattle.fair_rates.specs.Fairness.Rates.{AreFairRates, HasDifferentRates}
 use Rattle.fair_rates.specs.Refusals.TooLarge.{HasLargeRate}
@@ -9,23 +9,20 @@ use Rattle.fair_rates.specs.Sides.SideOf.{side_of}
 use Rattle.fair_rates.specs.declared.bandwidth.Rate.{Rate}
 use Rattle.fair_rates.specs.declared.bandwidth.sides.Side as declared
 use Rattle.fair_rates.proofs.Fairness.Allocation.{the_allocation}
+use Rattle.fair_rates.proofs.Fairness.MappedSides.{all_unmapped}
 use Rattle.fair_rates.proofs.Refusals.Fitting.{large_does_not_fit}
 use Rattle.fair_rates.proofs.Refusals.Promise.{twelfths, whole_of_sixteen, too_many_or_large}
 use Rattle.fair_routes.specs.Network.Allocation.{IsAllocated, IsCounted, HasLargeCap, AreTooLarge}
 use Rattle.fair_routes.specs.Network.Sides.{sides_over, AreListed}
 use Rattle.fair_routes.proofs.Network.LinkSides.{link_side, users_are_flows, users_are_distinct}
 
--- the users of sides in the code are flows
-pub code_users : (n : ℕ) (all : List Side) (sides : List declared.Side) → map side_of sides ≡ all
+-- the users of sides, however they are kept, are flows
+pub code_users : {X : Type 0} (read : X → Side) (n : ℕ) (all : List Side) (sides : List X) → map read sides ≡ all
     → All (λ side. All (λ user. user < n) side.users) all
-    → All (λ side. All (λ user. user < n) side.users.items) sides
-code_users n all sides are below = λ k d inside.
-    let at : get_or (map side_of sides) k (side_of d) ≡ side_of (get_or sides k d) =
-    get_or-map side_of sides k d (side_of d) inside in
-    let user : All (λ user. user < n) (get_or (map side_of sides) k (side_of d)).users =
-    subst (λ (ss : List Side). All (λ user. user < n) (get_or ss k (side_of d)).users) (sym are)
-    (below k (side_of d) (omega (arith, inside, length-map sides side_of, ap length are))) in
-    subst (λ (s : Side). All (λ user. user < n) s.users) at user
+    → All (λ side. All (λ user. user < n) (read side).users) sides
+code_users read n all sides are below =
+    all_unmapped (λ side. All (λ user. user < n) side.users) read sides
+    (subst (All (λ side. All (λ user. user < n) side.users)) (sym are) below)
 
 -- a cap that a link has is one of the list
 capped : (caps : List (Option ℕ)) (link cap : ℕ) → get_or caps link None ≡ Some cap → Contains caps (Some cap)

@@ -8,9 +8,8 @@ use Rattle.std.specs.declared.vec.Vec.{Vec}
 use Rattle.std.proofs.lemmas.List.{map-append, reverse-append, drop_more, drop_all, get_or_push}
 use Rattle.std.proofs.lemmas.List.{get_or_append_left, length-map, reverse-reverse}
 use Rattle.fair_rates.specs.Lists.Places.{places_from}
-use Rattle.fair_rates.specs.Sides.SideOf.{side_of}
-use Rattle.fair_rates.specs.declared.bandwidth.sides.Side as declared
-use Rattle.fair_routes.specs.Network.Sides.{has_link, users_of, side_of_link, sides_from, sides_over}
+use Rattle.fair_routes.specs.Network.Sides.{side_of, has_link, users_of, side_of_link, sides_from, sides_over}
+use Rattle.fair_routes.specs.declared.routes.sides.LinkSide as declared
 use Rattle.fair_routes.specs.Network.Users.{lists, users_at, AreUsers}
 
 -- ---- whether a link has a user
@@ -45,7 +44,7 @@ no_user {X} place test (x ∷ xs) none = by_test (test x) (no_user (place + 1) t
 
 -- the sides of the links from that one on are made, the last one first, and of those before it the flows are known
 pub record AreMade (link : ℕ) (caps : List (Option ℕ)) (routes : List (List ℕ)) (users : List (Vec ℕ Global))
-    (sides : List declared.Side) : Type 0 where
+    (sides : List declared.LinkSide) : Type 0 where
   pub of : (below : ℕ) → below < link → users_at users below ≡ users_of below routes
   pub are : map side_of sides ≡ reverse (sides_from link (drop link caps) routes)
 
@@ -74,7 +73,7 @@ last link routes users flows many of =
     ∙ ap (λ us. get_or us link []) (sym split) ∙ of link (omega arith)
 
 module _ (link : ℕ) (caps : List (Option ℕ)) (routes : List (List ℕ)) (users : List (Vec ℕ Global))
-    (flows : Vec ℕ Global) (sides : List declared.Side) (inside : link < length caps) (many : length users ≡ link)
+    (flows : Vec ℕ Global) (sides : List declared.LinkSide) (inside : link < length caps) (many : length users ≡ link)
     (made : AreMade (link + 1) caps routes (users ++ flows ∷ []) sides) where
   down : sides_from link (drop link caps) routes
       ≡ side_of_link routes link (get_or caps link None) ++ sides_from (link + 1) (drop (link + 1) caps) routes
@@ -100,7 +99,7 @@ module _ (link : ℕ) (caps : List (Option ℕ)) (routes : List (List ℕ)) (use
       ∙ ap (λ b. cond b (record { cap = cap; users = users_of link routes } ∷ []) []) nobody)
 
   -- a link with both
-  pub made_side : (cap : ℕ) (side : declared.Side) → get_or caps link None ≡ Some cap → 0 < length flows.items
+  pub made_side : (cap : ℕ) (side : declared.LinkSide) → get_or caps link None ≡ Some cap → 0 < length flows.items
       → side.cap ≡ cap → side.users ≡ flows → AreMade link caps routes users (sides ++ side ∷ [])
   made_side cap side is some capped of_flows =
       let are_users = last link routes users flows many made.of in
@@ -122,13 +121,13 @@ module _ (link : ℕ) (caps : List (Option ℕ)) (routes : List (List ℕ)) (use
 
 -- the flows of the last link, which is taken out
 pub popped : (link : ℕ) (caps : List (Option ℕ)) (routes : List (List ℕ)) (users all : List (Vec ℕ Global))
-    (flows : Vec ℕ Global) (sides : List declared.Side) (n : ℕ) → n ≡ link + 1 → all ≡ users ++ flows ∷ []
+    (flows : Vec ℕ Global) (sides : List declared.LinkSide) (n : ℕ) → n ≡ link + 1 → all ≡ users ++ flows ∷ []
     → AreMade n caps routes all sides → AreMade (link + 1) caps routes (users ++ flows ∷ []) sides
 popped link caps routes users all flows sides n is split made =
     subst (λ (us : List (Vec ℕ Global)). AreMade (link + 1) caps routes us sides) split
     (subst (λ (k : ℕ). AreMade k caps routes all sides) is made)
 
-map-reverse : (xs : List declared.Side) → map side_of (reverse xs) ≡ reverse (map side_of xs)
+map-reverse : (xs : List declared.LinkSide) → map side_of (reverse xs) ≡ reverse (map side_of xs)
 map-reverse [] = refl
 map-reverse (x ∷ xs) =
     ap (map side_of) (reverse-append (x ∷ []) xs) ∙ map-append side_of (reverse xs) (x ∷ [])
@@ -136,7 +135,7 @@ map-reverse (x ∷ xs) =
 
 -- all links are through
 pub made_all : (caps : List (Option ℕ)) (routes : List (List ℕ)) (users : List (Vec ℕ Global))
-    (sides all : List declared.Side) → all ≡ reverse sides → AreMade 0 caps routes users sides
+    (sides all : List declared.LinkSide) → all ≡ reverse sides → AreMade 0 caps routes users sides
     → map side_of all ≡ sides_over caps routes
 made_all caps routes users sides all is made =
     ap (map side_of) is ∙ map-reverse sides ∙ ap reverse made.are ∙ reverse-reverse (sides_over caps routes)

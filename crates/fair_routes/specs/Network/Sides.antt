@@ -5,6 +5,11 @@ use Rattle.std.specs.Prelude.{slice_get, ◌≡◌, ◌≤◌}
 use Rattle.std.specs.List.{list_any}
 use Rattle.fair_rates.specs.Fairness.Fair.{Side}
 use Rattle.fair_rates.specs.Lists.Places.{places_from}
+use Rattle.fair_routes.specs.declared.routes.sides.LinkSide.{LinkSide}
+
+-- a side in the code
+abbrev pub side_of : LinkSide → Side
+side_of s = record { cap = s.cap; users = s.users.items }
 
 -- whether the route has the link, however often
 abbrev pub has_link : ℕ → List ℕ → Bool

@@ -1,20 +1,58 @@
 //! What limits flows over routes: the sides that links make.
 ghost use Rattle.std.specs.Prelude.{◌≡◌, ◌<◌, ◌≤◌, ℕ, ◌++◌, ◌∷◌, [], cond, IfOk, IfErr, OnOk, map, All, length};
 ghost use Rattle.std.specs.Prelude.{List, replicate, slice_set, vec_len};
-ghost use Rattle.fair_rates.specs.Sides.SideOf.{side_of};
-ghost use Rattle.fair_routes.specs.Network.Sides.{sides_over, AreListed};
+ghost use Rattle.fair_rates.specs.Sides.SideOf.{side_of as planner_side_of};
+ghost use Rattle.fair_routes.specs.Network.Sides.{side_of, sides_over, AreListed};
 ghost use Rattle.fair_routes.specs.Network.Users.{ends_with, lists, noted, users_at, AreUsers, HasJoined, IsNoLink, IsNoLinkOf};
 
 use crate::routes::RouteError;
 use fair_rates::bandwidth::Side;
+use natural::Natural;
 use std::alloc::{AllocError, Global};
 
-/// The sides of the links that have a cap and that some flow uses, in the order of the links.
+/// What limits the flows that use a link with a cap: the cap in bytes a second, and the places of those flows in the
+/// list, in its order.
+#[derive(Drop)]
+pub(crate) struct LinkSide {
+    pub(crate) cap: u128,
+    pub(crate) users: Vec<usize>,
+}
+
+/// The sides of the links that have a cap and that some flow uses, in the order of the links, as the planner takes
+/// them.
 pub(crate) fn sides(
     alloc: Global,
     routes: &[Vec<usize>],
     caps: &[Option<u128>],
 ) -> Result<Vec<Side>, RouteError>
+    ensures sides { IfOk result (λ sides. map planner_side_of sides.items
+        ≡ sides_over caps.now (map (λ route. route.items) routes.now)) }
+    ensures listed { IfOk result (λ _. AreListed (length caps.now) (map (λ route. route.items) routes.now)) }
+    ensures refused { IfErr result (λ e. IsNoLink (length caps.now) (map (λ route. route.items) routes.now) e) }
+{
+    let links = link_sides(alloc, routes, caps)?;
+    Ok(planned(alloc, links)?)
+}
+
+/// The same sides as the planner takes them.
+fn planned(alloc: Global, links: Vec<LinkSide>) -> Result<Vec<Side>, AllocError>
+    ensures { IfOk result (λ sides. map planner_side_of sides.items ≡ map side_of links.items) }
+{
+    let mut sides = Vec::with_capacity(alloc, links.len())?;
+    for link in links {
+        let LinkSide { cap, users } = link;
+        let cap = Natural::from_u128(alloc, cap);
+        sides.push(Side { cap, users })?;
+    }
+    Ok(sides)
+}
+
+/// The sides with their caps as they were given.
+pub(crate) fn link_sides(
+    alloc: Global,
+    routes: &[Vec<usize>],
+    caps: &[Option<u128>],
+) -> Result<Vec<LinkSide>, RouteError>
     ensures sides { IfOk result (λ sides. map side_of sides.items
         ≡ sides_over caps.now (map (λ route. route.items) routes.now)) }
     ensures listed { IfOk result (λ _. AreListed (length caps.now) (map (λ route. route.items) routes.now)) }
@@ -93,7 +131,7 @@ fn capped_sides(
     alloc: Global,
     mut users: Vec<Vec<usize>>,
     caps: &[Option<u128>],
-) -> Result<Vec<Side>, AllocError>
+) -> Result<Vec<LinkSide>, AllocError>
     requires { vec_len users ≡ length caps.now }
     ensures { IfOk result (λ sides. (routes : List (List ℕ)) → AreUsers (length caps.now) routes users.items
         → map side_of sides.items ≡ sides_over caps.now routes) }
@@ -102,7 +140,7 @@ fn capped_sides(
     while let Some(flows) = users.pop() {
         if let Some(cap) = caps[users.len()] {
             if !flows.is_empty() {
-                sides.push(Side { cap, users: flows })?;
+                sides.push(LinkSide { cap, users: flows })?;
             }
         }
     }

@@ -3,7 +3,7 @@
 //! A flow of weight `w` counts at each of its links as `w` flows of weight one, and has what these have
 //! together. So the rates, each over the weight of its flow, are max-min fair.
 ghost use Rattle.std.specs.Prelude.{◌≡◌, ◌<◌, ◌≤◌, ◌^◌, ℕ, IfOk, IfErr, IfSome, IsSome, ◌↔◌, All, length, map, sum_by};
-ghost use Rattle.fair_rates.specs.Sides.SideOf.{side_of};
+ghost use Rattle.fair_routes.specs.Network.Sides.{side_of};
 ghost use Rattle.fair_routes.specs.Network.Rising.{AreFilledByWeight};
 ghost use Rattle.fair_routes.specs.Network.Weights.{weight_at, weighted, AreWeights, IsOfWeights, IsWeightedAllocation};
 ghost use Rattle.fair_routes.specs.Network.Weights.{IsWeightRefusal, HaveLittleWeight, HasMuchWeight};
@@ -13,9 +13,9 @@ pub mod laws;
 mod rising;
 mod room;
 
-use crate::routes::sides;
+use crate::routes::sides::{LinkSide, link_sides};
 pub use error::WeightError;
-use fair_rates::bandwidth::{Rate, Side};
+use fair_rates::bandwidth::Rate;
 use rising::{Rising, freeze, weigh};
 use room::{least_room, share_of};
 use std::alloc::{AllocError, Global};
@@ -48,7 +48,7 @@ pub fn allocate_weighted_routes(
     ensures refused { IfErr result (IsWeightRefusal caps.now (map (λ route. route.items) routes.now) weights.now) }
 {
     check_weights(routes.len(), weights)?;
-    let sides = sides::sides(alloc, routes, caps)?;
+    let sides = link_sides(alloc, routes, caps)?;
     check_sides(&sides, weights)?;
     let rising = fill(alloc, &sides, weights)?;
     let found = weigh(alloc, rising, weights)?;
@@ -75,7 +75,7 @@ fn check_weights(flows: usize, weights: &[u64]) -> Result<(), WeightError>
 }
 
 /// Tests that the users of each side have a weight below 2^64 together.
-fn check_sides(sides: &[Side], weights: &[u64]) -> Result<(), WeightError>
+fn check_sides(sides: &[LinkSide], weights: &[u64]) -> Result<(), WeightError>
     requires { All (λ side. All (λ user. user < length weights.now) side.users.items) sides.now }
     ensures checked { IfOk result (λ _. HaveLittleWeight weights.now (map side_of sides.now)) }
     ensures refused { IfErr result (λ e. (e ≡ WeightError.TooMuchWeight) × HasMuchWeight weights.now
@@ -102,7 +102,7 @@ fn weight_together(users: &[usize], weights: &[u64]) -> Option<u64>
 }
 
 /// The fair rates for each one of weight.
-fn fill(alloc: Global, sides: &[Side], weights: &[u64]) -> Result<Rising, AllocError>
+fn fill(alloc: Global, sides: &[LinkSide], weights: &[u64]) -> Result<Rising, AllocError>
     requires users { All (λ side. All (λ user. user < length weights.now) side.users.items) sides.now }
     requires positive { All (λ weight. 0 < weight) weights.now }
     requires little { HaveLittleWeight weights.now (map side_of sides.now) }

@@ -1,20 +1,27 @@
 -- What is in flight alone, or is not there, and its fair rate.
 use Rattle.std.proofs.Common.{◌≡◌, ◌≢◌, ℕ, zero, suc, ◌<◌, List, [], ◌∷◌, All, length, get_or, refl, sym, ap}
 use Rattle.std.proofs.Common.{◌∙◌, ◌⊎◌, inl, inr, subst, arith}
-use Rattle.std.specs.Prelude.{◌==◌, true, slice_set}
+use Rattle.std.specs.Prelude.{◌==◌, true, slice_set, slice_index}
+use Rattle.std.specs.Cmp.{IsTotalOrder}
 use Rattle.std.proofs.lemmas.Bool.{eqb-true}
 use Rattle.std.proofs.lemmas.List.{nil_from_length}
 use Rattle.std.specs.declared.cmp.Ordering.{Ordering}
 use Rattle.fair_rates.specs.Fairness.Fair.{IsFair}
+use Rattle.fair_rates.specs.Fairness.UnderCaps.{AreOfPeers, sides_under}
 use Rattle.fair_rates.specs.Sides.Caps.{Caps}
+use Rattle.fair_rates.proofs.Fairness.SameSides.{still_fair}
+use Rattle.fair_rates.proofs.Sides.EqualSubjects.{same_peer_itself}
 use Rattle.link_simulation.specs.Simulation.Rates.{capped_sides}
 use Rattle.link_pairs.specs.Pairs.Messages.{message_of}
+use Rattle.link_pairs.specs.declared.message.Message as code
 use Rattle.link_flights.specs.declared.flight.Flight.{Flight}
 use Rattle.link_flights.specs.declared.flight_list.Flights.{Flights}
 use Rattle.link_flights.specs.Flights.Flight.{UnitFlight, flight_at, flights_at, IsTimed, AreTimed}
 use Rattle.link_flights.specs.Flights.InFlight.{in_units}
 use Rattle.link_flights.specs.Flights.Rated.{AreFairFor, IsReratedAt, HaveFairRates}
 use Rattle.link_flights.specs.Flights.Rated.{rated_anew, sent_messages, AreKeptBut}
+use Rattle.link_flights.specs.Flights.Sides.{flow_sent}
+use Rattle.link_flights.proofs.Flights.FairMessages.{same_sides}
 use Rattle.link_flights.proofs.Flights.Rerating.{all_kept}
 
 -- the only one of a list
@@ -113,3 +120,18 @@ module _ {P : Type 0} (cmp : P → P → Ordering) (caps : Caps P) where
           fair = rw (scale, here) fairly;
           timed = subst AreTimed (sym now) (one_timed r.one r.timed);
         }
+
+-- what is fair for the flow of a message alone is fair for the message
+pub alone_fair : {P : Type 0} (cmp : P → P → Ordering) → IsTotalOrder cmp → (caps : Caps P) → AreOfPeers cmp caps
+    → (m : code.Message P) (scale parts : ℕ) → IsFair (sides_under cmp caps (flow_sent cmp m ∷ [])) scale (slice_index (parts ∷ []))
+    → AreFairFor cmp caps scale (message_of m ∷ []) (parts ∷ [])
+alone_fair cmp order caps of m scale parts fair =
+    still_fair (sides_under cmp caps (flow_sent cmp m ∷ [])) (capped_sides cmp caps (message_of m ∷ []))
+    (same_sides cmp order caps of (flow_sent cmp m ∷ []) (message_of m ∷ []) (
+      record {
+        origin = same_peer_itself cmp order m.origin;
+        recipient = same_peer_itself cmp order m.recipient;
+        delivered = refl;
+      },
+      tt,
+    )) scale (slice_index (parts ∷ [])) fair

@@ -2,27 +2,19 @@
 use Rattle.std.proofs.Common.{◌≡◌, ℕ, ◌+◌, ◌<◌, nat_le, Bool, true, false, not, ◌&&◌, ◌||◌, List, [], ◌∷◌, ◌++◌, length}
 use Rattle.std.proofs.Common.{take, get_or, refl, sym, ap, ap₂, ◌∙◌, arith, if◌then◌else◌, map, subst}
 use Rattle.std.specs.List.{list_all, list_any}
-use Rattle.std.specs.Cmp.{IsTotalOrder}
 use Rattle.std.specs.declared.cmp.Ordering.{Ordering}
 use Rattle.std.specs.declared.rc.Rc.{Rc}
 use Rattle.std.specs.declared.alloc.Global.{Global}
 use Rattle.std.proofs.lemmas.Bool.{le-leb}
 use Rattle.std.proofs.lemmas.List.{take_more, map-append}
 use Rattle.fair_rates.specs.Sides.Subjects.{same_peer}
-use Rattle.fair_rates.specs.Sides.Ends.{flow_of}
-use Rattle.fair_rates.specs.declared.bandwidth.Flow.{Flow}
-use Rattle.fair_rates.specs.declared.bandwidth.known.Ends.{Ends}
-use Rattle.fair_rates.proofs.Sides.EqualSubjects.{same_peer_itself}
-use Rattle.link_simulation.specs.Simulation.Messages.{is_delivered}
-use Rattle.link_pairs.specs.Pairs.Messages.{message_of}
 use Rattle.link_flights.specs.declared.component.Component.{Component}
 use Rattle.link_flights.specs.declared.flight.Flight.{Flight}
 use Rattle.link_pairs.specs.declared.message.Message.{Message}
 use Rattle.link_flights.specs.Flights.Components.{keeps, is_of, those_of, is_sender, is_receiver, has_both, touches}
 use Rattle.link_flights.specs.Flights.Components.{near_of, suits, is_closed}
 use Rattle.link_flights.specs.Flights.Flight.{UnitFlight, flight_at, flights_at}
-use Rattle.link_flights.specs.Flights.RatedFlights.{are_standing}
-use Rattle.link_flights.proofs.Flights.InFlight.{StandsForSent, standing_with, filter_yes}
+use Rattle.link_flights.proofs.Flights.InFlight.{filter_yes}
 
 module _ {P : Type 0} (cmp : P → P → Ordering) (now : ℕ) (list : List (Flight P)) (at : ℕ)
     (one : Flight P) (inside : at < length list) (is : one ≡ get_or list at one) where
@@ -32,31 +24,6 @@ module _ {P : Type 0} (cmp : P → P → Ordering) (now : ℕ) (list : List (Fli
   one_more =
       ap (flights_at now) (take_more list at one inside ∙ ap (λ x. take at list ++ x ∷ []) (sym is))
       ∙ map-append (λ (f : Flight P). flight_at now f) (take at list) (one ∷ [])
-
-  pub standing_more : (fs : List (Flow P)) (f : Flow P) → StandsForSent cmp f (flight_at now one)
-      → are_standing cmp fs (flights_at now (take at list)) ≡ true
-      → are_standing cmp (fs ++ f ∷ []) (flights_at now (take (at + 1) list)) ≡ true
-  standing_more fs f stands h =
-      ap (are_standing cmp (fs ++ f ∷ [])) one_more
-      ∙ standing_with cmp fs (flights_at now (take at list)) f (flight_at now one) h stands
-
-  -- the ends of the message there stand for it
-  pub ends_more : IsTotalOrder cmp → (es : List (Ends P)) (e : Ends P) → e.origin.now ≡ one.message.value.origin
-      → e.recipient.now ≡ one.message.value.recipient
-      → e.delivered ≡ is_delivered cmp (message_of one.message.value)
-      → are_standing cmp (map flow_of es) (flights_at now (take at list)) ≡ true
-      → are_standing cmp (map flow_of (es ++ e ∷ [])) (flights_at now (take (at + 1) list)) ≡ true
-  ends_more order es e origin recipient delivered h =
-      let m = one.message.value in
-      subst (λ fs. are_standing cmp fs (flights_at now (take (at + 1) list)) ≡ true)
-      (sym (map-append flow_of es (e ∷ [])))
-      (standing_more (map flow_of es) (flow_of e)
-      (record {
-        origin = ap (λ p. same_peer cmp p m.origin) origin ∙ same_peer_itself cmp order m.origin;
-        recipient = ap (λ p. same_peer cmp p m.recipient) recipient ∙ same_peer_itself cmp order m.recipient;
-        delivered = delivered;
-      })
-      h)
 
 none_and : (b : Bool) → (b && false) ≡ false
 none_and true = refl

@@ -30,14 +30,13 @@ use Rattle.link_simulation.specs.Simulation.Rates.{capped_sides}
 use Rattle.link_flights.specs.declared.component.Component.{Component}
 use Rattle.link_pairs.specs.declared.message.Message as code
 use Rattle.link_pairs.specs.Pairs.Messages.{messages, message_of}
-use Rattle.link_flights.specs.Flights.CappedFlows.{AreFairPartsUnder}
 use Rattle.link_flights.specs.Flights.Flight.{UnitFlight}
 use Rattle.link_flights.specs.Flights.Components.{is_sender, is_receiver, keeps, is_of, those_of, has_both, suits}
 use Rattle.link_flights.specs.Flights.Components.{is_closed}
 use Rattle.link_flights.specs.Flights.Rated.{sent_messages, rates_of, rated_ones, rates_found, rerated, rated_anew}
-use Rattle.link_flights.specs.Flights.Rated.{AreFairFor, AreFairlyRated, WereRated, AreFairOf, IsRatedFrom, IsNoMore}
-use Rattle.link_flights.specs.Flights.Rated.{IsLoose, flow_in_flight}
-use Rattle.link_flights.specs.Flights.RatedFlights.{are_standing}
+use Rattle.link_flights.specs.Flights.Rated.{AreFairlyRated, WereRated, IsRatedFrom, IsNoMore}
+use Rattle.link_flights.specs.Flights.Rated.{IsLoose}
+use Rattle.link_flights.specs.Flights.Sides.{flow_in_flight}
 use Rattle.link_flights.proofs.Flights.FairMessages.{StandsForMessage, same_sides}
 use Rattle.link_flights.proofs.Flights.InFlight.{StandsForSent, standing_zip, standing_length, filter_yes, filter_no}
 use Rattle.fair_rates.proofs.Lists.Booleans.{by_bool, first_of_both, second_of_both}
@@ -421,26 +420,6 @@ module _ {P : Type 0} (cmp : P → P → Ordering) (component : Component P) whe
     those_all [] = refl
     those_all (u ∷ us) = filter_yes (is_of cmp component) u us (all_of u) ∙ ap (λ l. u ∷ l) (those_all us)
 
-    -- at these rates
-    whole_rates : (now times : ℕ) (rates : List ℕ) (us : List (UnitFlight P)) → length rates ≡ length us
-        → rates_of (rerated cmp component now times rates us) ≡ rates
-    whole_rates now times [] [] e = refl
-    whole_rates now times (rate ∷ rates) [] e = absurd (omega arith)
-    whole_rates now times [] (u ∷ us) e = absurd (omega arith)
-    whole_rates now times (rate ∷ rates) (u ∷ us) e =
-        rw (all_of u) (ap (λ l. rate ∷ l) (whole_rates now times rates us (omega arith)))
-
-    pub whole_fair : (caps : Caps P) (scale now times : ℕ) (us : List (UnitFlight P)) (found : FairParts)
-        → AreFairOf cmp caps scale component us found
-        → AreFairlyRated cmp caps found.scale (rerated cmp component now times (rates_found found) us)
-    whole_fair caps scale now times us found of =
-        rw (
-          same_messages now times (rates_found found) us,
-          whole_rates now times (rates_found found) us
-              (found_each caps scale us found of.one_each ∙ ap length (those_all us)),
-        )
-        (subst (λ vs. AreFairFor cmp caps found.scale (sent_messages vs) (rates_found found)) (those_all us) of.fair)
-
     pub whole_rerated : (now times : ℕ) (rates : List ℕ) (us : List (UnitFlight P))
         → length rates ≡ length (those_of cmp component us)
         → AllZip (IsRatedFrom now times) us (rerated cmp component now times rates us)
@@ -674,39 +653,3 @@ module _ {P : Type 0} (cmp : P → P → Ordering) (component : Component P) whe
           filters_agree (λ u. not (is_of cmp component u)) (λ (u : UnitFlight P). u.rated) (λ u. not (were.is_done u))
           were.before kept_before
           ∙ ap others_of (sym were.parted.stay)
-
--- ---- what is found for the flows of a component
-
-module _ {P : Type 0} (cmp : P → P → Ordering) (order : IsTotalOrder cmp) (caps : Caps P) (of : AreOfPeers cmp caps)
-    (component : Component P) where
-  parts_found : (levels : List ℕ) (os : List (Option ℕ)) (i : ℕ)
-      → flow_parts levels os i ≡ slice_index (map (parts_of_level levels) os) i
-  parts_found levels [] i = refl
-  parts_found levels (o ∷ os) zero = refl
-  parts_found levels (o ∷ os) (suc i) = parts_found levels os i
-
-  pub fair_of_component : (scale : ℕ) (fs : List (Flow P)) (us : List (UnitFlight P)) (found : FairParts)
-      → are_standing cmp fs (those_of cmp component us) ≡ true → AreFairPartsUnder cmp caps fs scale found
-      → AreFairOf cmp caps scale component us found
-  fair_of_component scale fs us found stand h =
-      let those = those_of cmp component us in
-      let levels = found.levels.items in
-      let os = found.level_of.items in
-      record {
-        grown = h.grown;
-        one_each = h.one_each ∙ standing_length cmp fs those stand;
-        fair =
-            fair_alike (flow_parts levels os) (slice_index (rates_found found)) (parts_found levels os)
-            (capped_sides cmp caps (sent_messages those)) found.scale
-            (still_fair (sides_under cmp caps fs) (capped_sides cmp caps (sent_messages those))
-            (same_sides cmp order caps of fs (sent_messages those)
-            (standing_messages cmp fs those (standing_zip cmp fs those stand)))
-            found.scale (flow_parts levels os) h.fair);
-      }
-
-  pub found_if_ok : {R : Type 0} (answer : Result FairParts R) (scale : ℕ) (fs : List (Flow P))
-      (us : List (UnitFlight P))
-      → are_standing cmp fs (those_of cmp component us) ≡ true → IfOk answer (AreFairPartsUnder cmp caps fs scale)
-      → IfOk answer (AreFairOf cmp caps scale component us)
-  found_if_ok (Ok found) scale fs us stand h = fair_of_component scale fs us found stand h
-  found_if_ok (Err why) scale fs us stand h = tt

@@ -14,7 +14,8 @@ use Rattle.link_pairs.specs.Pairs.Messages.{message_of}
 use Rattle.link_flights.specs.declared.flight_list.Flights.{Flights}
 use Rattle.link_flights.specs.Flights.Flight.{UnitFlight, flights_at}
 use Rattle.link_flights.specs.Flights.InFlight.{in_units, loose_in}
-use Rattle.link_flights.specs.Flights.Rated.{WereRatedUnder, IsLoose, DifferWhereLoose, flow_in_flight, are_limited, rated_ones}
+use Rattle.link_flights.specs.Flights.Rated.{WereRatedUnder, IsLoose, DifferWhereLoose, are_limited, rated_ones}
+use Rattle.link_flights.specs.Flights.Sides.{flow_in_flight}
 use Rattle.link_flights.specs.Flights.Loose.{AreStillLoose}
 
 module _ {P : Type 0} {a : _} {b : _} {c : _} (cmp : P → P → Ordering) (test : Message P → Bool) (old new : Flights P a b c)

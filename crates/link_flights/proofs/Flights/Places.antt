@@ -114,3 +114,32 @@ or_first a b is = ap (λ x. x || b) is
 pub or_second : (a b : Bool) → b ≡ true → (a || b) ≡ true
 or_second true b is = refl
 or_second false b is = is
+
+-- those of the places of some that pass another test, which fewer pass
+pub fewer_places : {X : Type 0} (more fewer : X → Bool) → ((x : X) → fewer x ≡ true → more x ≡ true) → (n : ℕ) (xs : List X)
+    (at : ℕ → Bool) → ((i : ℕ) (x : X) → slice_get xs i ≡ Some x → at (n + i) ≡ fewer x)
+    → filter at (places_of more n xs) ≡ places_of fewer n xs
+fewer_places more fewer within n [] at same = refl
+fewer_places {X} more fewer within n (y ∷ ys) at same =
+    by_tests (fewer y) (more y) refl refl
+    (fewer_places more fewer within (suc n) ys at
+    (λ i x there. ap at (let it : suc n + i ≡ n + suc i = omega arith in it) ∙ same (suc i) x there))
+  where
+    here : at n ≡ fewer y
+    here = ap at (let it : n ≡ n + 0 = omega arith in it) ∙ same 0 y refl
+
+    by_tests : (a b : Bool) → fewer y ≡ a → more y ≡ b
+        → filter at (places_of more (suc n) ys) ≡ places_of fewer (suc n) ys
+        → filter at (places_of more n (y ∷ ys)) ≡ places_of fewer n (y ∷ ys)
+    by_tests true true is all ih =
+        ap (filter at) (places_yes more n y ys all) ∙ filter_yes at n (places_of more (suc n) ys) (here ∙ is)
+        ∙ ap (λ ps. n ∷ ps) ih ∙ sym (places_yes fewer n y ys is)
+    by_tests true false is none ih = absurd (not_both (sym none ∙ within y is))
+      where
+        not_both : false ≡ true → ⊥
+        not_both e = cc
+    by_tests false true out all ih =
+        ap (filter at) (places_yes more n y ys all) ∙ filter_no at n (places_of more (suc n) ys) (here ∙ out)
+        ∙ ih ∙ sym (places_no fewer n y ys out)
+    by_tests false false out none ih =
+        ap (filter at) (places_no more n y ys none) ∙ ih ∙ sym (places_no fewer n y ys out)

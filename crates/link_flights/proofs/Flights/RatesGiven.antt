@@ -1,23 +1,28 @@
 -- Rates that are given to what is in flight.
-use Rattle.std.proofs.Common.{◌≡◌, ◌≢◌, ℕ, zero, suc, ◌*◌, ◌<◌, ◌≤◌, List, All, IfSome, length, refl}
-use Rattle.std.proofs.Common.{sym, ap}
+use Rattle.std.proofs.Common.{◌≡◌, ◌≢◌, ℕ, zero, suc, ◌-◌, ◌*◌, ◌<◌, ◌≤◌, List, [], ◌∷◌, All, IfSome, length, map, refl}
+use Rattle.std.proofs.Common.{sym, ap, not, cond, sum_by, option_map, zero-add}
 use Rattle.std.proofs.Common.{◌∙◌, subst, arith, true, slice_index}
 use Rattle.std.specs.Prelude.{nat_le}
-use Rattle.std.specs.List.{AllZip}
+use Rattle.std.specs.List.{AllZip, filter}
 use Rattle.std.specs.Cmp.{IsTotalOrder}
 use Rattle.std.specs.declared.cmp.Ordering.{Ordering}
 use Rattle.std.specs.declared.rc.Rc.{Rc}
 use Rattle.std.specs.declared.alloc.Global.{Global}
+use Rattle.std.proofs.lemmas.Bool.{le-leb}
 use Rattle.std.proofs.lemmas.List.Elements.{All-contains}
 use Rattle.std.proofs.Math.Logic.{∥∥₁_map}
 use Rattle.fair_rates.proofs.Fairness.Decided.{fair_if_so}
+use Rattle.fair_rates.proofs.Fairness.Sharing.{AreShared, shared_from}
+use Rattle.fair_rates.proofs.Fairness.SharedBeside.{whole_shared}
 use Rattle.link_simulation.specs.Simulation.Rates.{capped_sides}
 use Rattle.fair_rates.specs.Fairness.Exists.{product}
-use Rattle.fair_rates.proofs.Lists.Members.{all_pass}
+use Rattle.fair_rates.specs.Fairness.Fair.{IsFair}
+use Rattle.fair_rates.proofs.Lists.Members.{In, all_pass}
 use Rattle.fair_rates.proofs.Lists.SumOrder.{All-from_contains}
 use Rattle.fair_rates.specs.declared.bandwidth.parts.FairParts.{FairParts}
-use Rattle.fair_rates.specs.Sides.Caps.{Caps}
-use Rattle.fair_rates.specs.Fairness.UnderCaps.{AreOfPeers}
+use Rattle.fair_rates.specs.Sides.Caps.{Caps, times_caps}
+use Rattle.fair_rates.specs.Sides.Subjects.{Subject, sent_by, received_by, sent_between}
+use Rattle.fair_rates.specs.Fairness.UnderCaps.{AreOfPeers, cap_of, limits, sides_under}
 use Rattle.fair_rates.proofs.Numbers.Draining.{product_none}
 use Rattle.link_flights.specs.declared.component.Component.{Component}
 use Rattle.link_pairs.specs.declared.message.Message as code
@@ -25,66 +30,124 @@ use Rattle.link_pairs.specs.Pairs.Messages.{messages}
 use Rattle.link_flights.specs.declared.flight_list.Flights.{Flights}
 use Rattle.link_flights.specs.Flights.Flight.{UnitFlight, AreTimed, flights_at}
 use Rattle.link_flights.specs.Flights.InFlight.{in_units, loose_in}
-use Rattle.link_flights.specs.Flights.Components.{those_of, has_both, is_closed}
-use Rattle.link_flights.specs.Flights.Rated.{rates_found, rerated, AreFairlyRated, WereRated, AreFairOf, AreRatedBeside}
+use Rattle.link_flights.specs.Flights.Components.{is_of, those_of, has_both, is_closed}
+use Rattle.link_flights.specs.Flights.Rated.{rates_found, rerated, AreFairlyRated, WereRated, AreFairOn, AreRatedBeside}
 use Rattle.link_flights.specs.Flights.Rated.{IsRatedFrom, HaveFairRates, sent_messages, rates_of}
-use Rattle.link_flights.proofs.Flights.Components.{found_each, whole_rerated, whole_fair}
+use Rattle.link_flights.specs.Flights.Sides.{flow_in_flight, kept_load, left_of, left_caps, flows_of}
+use Rattle.link_flights.proofs.Flights.AllSides.{of_left}
+use Rattle.link_flights.proofs.Flights.Components.{flow_of, parts_of, flow_for, shares, flows_are, stand_from, fair}
+use Rattle.link_flights.proofs.Flights.Components.{found_each, all_of, those_all, whole_rerated}
 use Rattle.link_flights.proofs.Flights.Components.{component_rerated}
-use Rattle.link_flights.proofs.Flights.Restarting.{restart_fair, kept_within}
+use Rattle.link_flights.proofs.Flights.InFlight.{filter_no}
+use Rattle.link_flights.proofs.Flights.Restarting.{restart_fair, flows_again, rates_again}
+
+-- ---- of all
+
+module _ {P : Type 0} (cmp : P → P → Ordering) (caps : Caps P) (component : Component P) (whole : component.whole ≡ true)
+    (level : component.level ≡ 0) where
+  -- none keeps its rate
+  none_kept : (us : List (UnitFlight P)) → filter (λ u. not (is_of cmp component u)) us ≡ []
+  none_kept [] = refl
+  none_kept (u ∷ us) =
+      filter_no (λ v. not (is_of cmp component v)) u us (ap not (all_of cmp component whole level u)) ∙ none_kept us
+
+  nothing_taken : (us : List (UnitFlight P)) (s : Subject P) → kept_load cmp component us s ≡ 0
+  nothing_taken us s = ap (sum_by (λ u. cond (limits cmp s (flow_in_flight cmp u)) u.rate 0)) (none_kept us)
+
+  -- so all of each cap is left
+  all_left : (scale : ℕ) (us : List (UnitFlight P)) (s : Subject P)
+      → left_of cmp caps scale component us s ≡ option_map (λ cap. cap * scale) (cap_of caps s)
+  all_left scale us s =
+      λ i. option_map (λ cap. nothing_less (cap * scale) (kept_load cmp component us s) (nothing_taken us s) i)
+      (cap_of caps s)
+    where
+      nothing_less : (n k : ℕ) → k ≡ 0 → n - k ≡ n
+      nothing_less n k none = omega (arith, none)
+
+  caps_left : (scale : ℕ) (us : List (UnitFlight P)) → left_caps cmp caps scale component us ≡ times_caps scale caps
+  caps_left scale us = λ i. record {
+    egress = λ p. all_left scale us (sent_by p) i;
+    ingress = λ p. all_left scale us (received_by p) i;
+    link = λ p q. all_left scale us (sent_between p q) i;
+  }
+
+  module _ (order : IsTotalOrder cmp) (of : AreOfPeers cmp caps) (scale : ℕ) (some : 0 < scale)
+      (us : List (UnitFlight P)) (found : FairParts) (fair_on : AreFairOn cmp caps scale component us found)
+      (now times : ℕ) where
+    abbrev rates : List ℕ
+    rates = rates_found found
+
+    abbrev news : List (UnitFlight P)
+    news = rerated cmp component now times rates us
+
+    one_each : length rates ≡ length (those_of cmp component us)
+    one_each = found_each cmp component caps scale us found fair_on.one_each
+
+    reach : (rate : ℕ) → In rates rate → nat_le component.level rate ≡ true
+    reach rate h = ap (λ n. nat_le n rate) level ∙ le-leb 0 rate (omega arith)
+
+    flows : map (flow_for cmp) news ≡ flows_of cmp component us
+    flows =
+        ap (map (flow_for cmp)) (sym (those_all cmp component whole level news))
+        ∙ flows_again cmp component now times rates us one_each reach
+
+    given : rates_of news ≡ rates
+    given =
+        ap rates_of (sym (those_all cmp component whole level news))
+        ∙ rates_again cmp component now times rates us one_each reach
+
+    pub whole_fair : AreFairlyRated cmp caps (scale * found.scale) news
+    whole_fair =
+        let left = left_caps cmp caps scale component us in
+        let own = of_left cmp order caps of scale component us in
+        let shares_fair : AreShared cmp left flow_of parts_of found.scale (shares cmp news) =
+        shared_from cmp left flow_of parts_of order own (shares cmp news) (slice_index rates) found.scale
+        (stand_from cmp (slice_index rates) 0 news
+        (λ i. ap (slice_index rates) (zero-add i) ∙ ap (λ rs. slice_index rs i) (sym given)))
+        (subst (λ fs. IsFair (sides_under cmp left fs) found.scale (slice_index rates))
+        (sym (flows_are cmp news ∙ flows)) fair_on.fair) in
+        fair cmp order caps of (scale * found.scale) news
+        (whole_shared cmp caps flow_of parts_of scale found.scale some (shares cmp news)
+        (subst (λ cs. AreShared cmp cs flow_of parts_of found.scale (shares cmp news)) (caps_left scale us) shares_fair))
 
 module _ {P : Type 0} (cmp : P → P → Ordering) (caps : Caps P) (component : Component P) (found : FairParts) where
   -- where something is left, so there is in smaller units
-  pub left_given : (scale : ℕ) (us : List (UnitFlight P)) → AreFairOf cmp caps scale component us found
+  pub left_given : (scale : ℕ) (us : List (UnitFlight P)) → AreFairOn cmp caps scale component us found
       → All (λ u. u.left ≢ 0) us → All (λ u. u.left * product found.growth.items ≢ 0) us
-  left_given scale us of_it left = All-from_contains (λ u. u.left * product found.growth.items ≢ 0) us (λ u listed none.
+  left_given scale us fair_on left =
+      All-from_contains (λ u. u.left * product found.growth.items ≢ 0) us (λ u listed none.
       no_part u.left (product found.growth.items) (All-contains (λ u. u.left ≢ 0) us u left listed) none
-      (subst (λ n. 0 < n) of_it.grown of_it.fair.some_part))
+      (subst (λ n. 0 < n) fair_on.grown fair_on.fair.some_part))
     where
-      no_part : (n times : ℕ) → n ≢ 0 → n * times ≡ 0 → 0 < scale * times → ⊥
+      no_part : (n times : ℕ) → n ≢ 0 → n * times ≡ 0 → 0 < times → ⊥
       no_part zero times some none grows = some refl
       no_part (suc n) times some none grows =
-          let gone : scale * times ≡ scale * 0 = ap (λ m. scale * m) (product_none (suc n) times (omega arith) none) in
-          let zeros : scale * 0 ≡ 0 = omega arith in
-          omega (arith, grows, gone, zeros)
+          let gone : times ≡ 0 = product_none (suc n) times (omega arith) none in omega (arith, grows, gone)
 
-  module _ {a : _} {b : _} {c : _} (old new : Flights P a b c)
-      (given : in_units new
-      ≡ rerated cmp component old.at (product found.growth.items) (rates_found found) (in_units old))
-      (scaled : new.scale ≡ found.scale) (still : new.at ≡ old.at) (timed : AreTimed new.list.items)
-      (grown : found.scale ≡ old.scale * product found.growth.items)
-      (one_each : length found.level_of.items ≡ length (those_of cmp component (in_units old))) where
-    found_one_each : length (rates_found found) ≡ length (those_of cmp component (in_units old))
-    found_one_each = found_each cmp component caps old.scale (in_units old) found one_each
-
-    have_rates : AllZip (IsRatedFrom old.at (product found.growth.items)) (in_units old)
-        (rerated cmp component old.at (product found.growth.items) (rates_found found) (in_units old))
-        → AreFairlyRated cmp caps found.scale
-        (rerated cmp component old.at (product found.growth.items) (rates_found found) (in_units old))
-        → HaveFairRates cmp caps old new
-    have_rates each fairly = record {
-      times = product found.growth.items;
-      scale = scaled ∙ grown;
-      at = still;
-      each = subst (AllZip (IsRatedFrom old.at (product found.growth.items)) (in_units old)) (sym given) each;
-      fair = rw (scaled, given) fairly;
-      timed = timed;
-    }
-
-    whole_rates : component.whole ≡ true → component.level ≡ 0
-        → AreFairOf cmp caps old.scale component (in_units old) found → HaveFairRates cmp caps old new
-    whole_rates whole level of_it = have_rates
-        (whole_rerated cmp component whole level old.at (product found.growth.items) (rates_found found) (in_units old)
-        found_one_each)
-        (whole_fair cmp component whole level caps old.scale old.at (product found.growth.items) (in_units old) found
-        of_it)
-
-  pub whole_given : {a : _} {b : _} {c : _} (old new : Flights P a b c)
-      → AreFairOf cmp caps old.scale component (in_units old) found
+  pub whole_given : {a : _} {b : _} {c : _} (old new : Flights P a b c) → IsTotalOrder cmp → AreOfPeers cmp caps
+      → 0 < old.scale → AreFairOn cmp caps old.scale component (in_units old) found
       → in_units new ≡ rerated cmp component old.at (product found.growth.items) (rates_found found) (in_units old)
-      → new.scale ≡ found.scale → new.at ≡ old.at → AreTimed new.list.items → component.whole ≡ true
-      → component.level ≡ 0 → HaveFairRates cmp caps old new
-  whole_given old new of_it given scaled still timed whole level =
-      whole_rates old new given scaled still timed of_it.grown of_it.one_each whole level of_it
+      → new.scale ≡ old.scale * product found.growth.items → new.at ≡ old.at → AreTimed new.list.items
+      → component.whole ≡ true → component.level ≡ 0 → HaveFairRates cmp caps old new
+  whole_given old new order of some fair_on given scaled still timed whole level =
+      let times = product found.growth.items in
+      let each : AllZip (IsRatedFrom old.at times) (in_units old)
+      (rerated cmp component old.at times (rates_found found) (in_units old)) =
+      whole_rerated cmp component whole level old.at times (rates_found found) (in_units old)
+      (found_each cmp component caps old.scale (in_units old) found fair_on.one_each) in
+      let fairly : AreFairlyRated cmp caps (old.scale * times)
+      (rerated cmp component old.at times (rates_found found) (in_units old)) =
+      subst (λ n. AreFairlyRated cmp caps (old.scale * n)
+      (rerated cmp component old.at times (rates_found found) (in_units old))) fair_on.grown
+      (whole_fair cmp caps component whole level order of old.scale some (in_units old) found fair_on old.at times) in
+      record {
+        times = times;
+        scale = scaled;
+        at = still;
+        each = subst (AllZip (IsRatedFrom old.at times) (in_units old)) (sym given) each;
+        fair = rw (scaled, given) fairly;
+        timed = timed;
+      }
 
 -- rates that are fair beside those that others keep are fair for all
 module _ {P : Type 0} (cmp : P → P → Ordering) (caps : Caps P) (component : Component P) where
@@ -105,10 +168,7 @@ module _ {P : Type 0} (cmp : P → P → Ordering) (caps : Caps P) (component : 
       (slice_index (rates_of (rerated cmp component old.at 1 r.rates us)))
       (∥∥₁_map were (λ w.
       restart_fair cmp component done old.loose us closed loose order caps of old.scale old.floor w low old.at 1 r.rates
-      r.fair.one_each reached
-      (r.fair.fair
-      (kept_within cmp component done old.loose us closed loose order caps of old.scale old.floor w low old.at 1 r.rates
-      r.fair.one_each reached)))) in
+      r.fair.one_each reached r.fair.fair)) in
       record {
         times = 1;
         scale = omega (arith, r.scale);

@@ -405,172 +405,157 @@ module _ {P : Type 0} {cmp : P → P → Ordering} {component : Component P} {no
           omega (arith, e, before, h.at_is, length-append h.to h.rest, after, g.at_is, length-append g.to g.rest) in
           later g fewer
 
--- ---- from one of which the component has an end to the next
+-- ---- from one that is rated anew to the next
 
 module _ {P : Type 0} (cmp : P → P → Ordering) (component : Component P) where
-  abbrev is_near : Flight P → Bool
-  is_near f = touches cmp component f.message.value
+  abbrev is_rated : Flight P → Bool
+  is_rated f = is_of cmp component (flight_at 0 f)
 
   -- where no more come, none of the others is of the component
-  none_of_far : (now : ℕ) (rest : List (Flight P)) → those_near cmp component rest ≡ []
+  none_of_far : (now at : ℕ) (rest : List (Flight P)) → places_of is_rated at rest ≡ []
       → those_of cmp component (flights_at now rest) ≡ []
-  none_of_far now [] none = refl
-  none_of_far now (z ∷ rest) none = by_test (is_near z) refl (none_of_far now rest)
+  none_of_far now at [] none = refl
+  none_of_far now at (z ∷ rest) none = by_test (is_rated z) refl (none_of_far now (suc at) rest)
     where
-      by_test : (b : Bool) → is_near z ≡ b
-          → (those_near cmp component rest ≡ [] → those_of cmp component (flights_at now rest) ≡ [])
+      by_test : (b : Bool) → is_rated z ≡ b
+          → (places_of is_rated (suc at) rest ≡ [] → those_of cmp component (flights_at now rest) ≡ [])
           → those_of cmp component (flights_at now (z ∷ rest)) ≡ []
-      by_test true here later = absurd (omega (arith, ap length (sym (filter_yes is_near z rest here) ∙ none)))
-      by_test false far later =
-          filter_no (is_of cmp component) (flight_at now z) (flights_at now rest)
-          (apart_is_out cmp component (flight_at now z) far)
-          ∙ later (sym (filter_no is_near z rest far) ∙ none)
+      by_test true here later = absurd (omega (arith, ap length (sym (places_yes is_rated at z rest here) ∙ none)))
+      by_test false out later =
+          filter_no (is_of cmp component) (flight_at now z) (flights_at now rest) out
+          ∙ later (sym (places_no is_rated at z rest out) ∙ none)
 
 module _ {P : Type 0} (cmp : P → P → Ordering) (component : Component P) (now times : ℕ) (rates : List ℕ)
     (old so_far : List (Flight P)) where
-  abbrev touching : Flight P → Bool
-  touching f = touches cmp component f.message.value
+  abbrev anew_at : Flight P → Bool
+  anew_at f = is_of cmp component (flight_at 0 f)
 
-  -- of those of which it has an end, the ones from a number on are still to come
-  pub record AreToCome (number at next : ℕ)
-      (h : AreReratedUpTo cmp component now times rates old so_far at next) : Type 0
+  -- of those that are rated anew, the ones from a number on are still to come
+  pub record AreToCome (number at : ℕ)
+      (h : AreReratedUpTo cmp component now times rates old so_far at number) : Type 0
     where
-      pub places : drop number (places_of touching 0 old) ≡ places_of touching at h.rest
-      pub near : drop number (those_near cmp component old) ≡ those_near cmp component h.rest
+      pub places : drop number (places_of anew_at 0 old) ≡ places_of anew_at at h.rest
 
   -- the next one, which stands at its place
-  pub record IsNext (number next from : ℕ) : Type 0 where
+  pub record IsNext (number from : ℕ) : Type 0 where
     pub at : ℕ
     pub after : from ≤ at
-    pub up_to : AreReratedUpTo cmp component now times rates old so_far at next
+    pub up_to : AreReratedUpTo cmp component now times rates old so_far at number
     pub x : Flight P
     pub stands : StandsNext up_to x
-    pub place : get_or (places_of touching 0 old) number 0 ≡ at
-    pub there : slice_get (those_near cmp component old) number ≡ Some x
-    pub places : drop (number + 1) (places_of touching 0 old) ≡ places_of touching (at + 1) stands.rest
-    pub near : drop (number + 1) (those_near cmp component old) ≡ those_near cmp component stands.rest
+    pub place : get_or (places_of anew_at 0 old) number 0 ≡ at
+    pub of : is_of cmp component (flight_at now x) ≡ true
+    pub places : drop (number + 1) (places_of anew_at 0 old) ≡ places_of anew_at (at + 1) stands.rest
 
-  module _ (number next from : ℕ) (lt : number < length (those_near cmp component old)) where
-    none_comes : (at : ℕ) (h : AreReratedUpTo cmp component now times rates old so_far at next)
-        → AreToCome number at next h → h.rest ≡ [] → IsNext number next from
+  module _ (number from : ℕ) (lt : number < length (places_of anew_at 0 old)) where
+    none_comes : (at : ℕ) (h : AreReratedUpTo cmp component now times rates old so_far at number)
+        → AreToCome number at h → h.rest ≡ [] → IsNext number from
     none_comes at h ahead r =
         absurd (omega (
           arith,
           lt,
-          none_left (those_near cmp component old) number
-              (ahead.near ∙ ap (those_near cmp component) r),
+          none_left (places_of anew_at 0 old) number (ahead.places ∙ ap (places_of anew_at at) r),
         ))
 
-    here_next : (at : ℕ) (h : AreReratedUpTo cmp component now times rates old so_far at next)
-        → AreToCome number at next h
+    here_next : (at : ℕ) (h : AreReratedUpTo cmp component now times rates old so_far at number)
+        → AreToCome number at h
         → from ≤ at → (z : Flight P) (rest : List (Flight P)) → h.rest ≡ z ∷ rest
-        → touching z ≡ true → IsNext number next from
+        → anew_at z ≡ true → IsNext number from
     here_next at h ahead le z rest r here =
-        let one = first_left (places_of touching 0 old) number at (places_of touching (suc at) rest)
-        (ahead.places ∙ ap (places_of touching at) r ∙ places_yes touching at z rest here) in
-        let other = first_left (those_near cmp component old) number z (those_near cmp component rest)
-        (ahead.near ∙ ap (those_near cmp component) r ∙ filter_yes touching z rest here) in
+        let one = first_left (places_of anew_at 0 old) number at (places_of anew_at (suc at) rest)
+        (ahead.places ∙ ap (places_of anew_at at) r ∙ places_yes anew_at at z rest here) in
         record {
           at = at;
           after = le;
           up_to = h;
           x = z;
           stands = record { rest = rest; was = r };
-          place = get_or_from_slice_get (places_of touching 0 old) number at 0 one.0;
-          there = other.0;
-          places = one.1 ∙ ap (λ k. places_of touching k rest) (let it : suc at ≡ at + 1 = omega arith in it);
-          near = other.1;
+          place = get_or_from_slice_get (places_of anew_at 0 old) number at 0 one.0;
+          of = here;
+          places = one.1 ∙ ap (λ k. places_of anew_at k rest) (let it : suc at ≡ at + 1 = omega arith in it);
         }
 
-    pub next_comes : (n at : ℕ) (h : AreReratedUpTo cmp component now times rates old so_far at next)
-        → length h.rest ≡ n → AreToCome number at next h → from ≤ at → IsNext number next from
+    pub next_comes : (n at : ℕ) (h : AreReratedUpTo cmp component now times rates old so_far at number)
+        → length h.rest ≡ n → AreToCome number at h → from ≤ at → IsNext number from
     unfolding passed
     next_comes zero at h e ahead le = by_rest h.rest refl
       where
-        by_rest : (rest : List (Flight P)) → h.rest ≡ rest → IsNext number next from
+        by_rest : (rest : List (Flight P)) → h.rest ≡ rest → IsNext number from
         by_rest [] r = none_comes at h ahead r
         by_rest (z ∷ rest) r = absurd (omega (arith, e, ap length r))
     next_comes (suc n) at h e ahead le =
         by_rest h.rest refl (λ g f later. next_comes n (at + 1) g f later (omega (arith, le)))
       where
         by_rest : (rest : List (Flight P)) → h.rest ≡ rest
-            → ((g : AreReratedUpTo cmp component now times rates old so_far (at + 1) next) → length g.rest ≡ n
-            → AreToCome number (at + 1) next g → IsNext number next from)
-            → IsNext number next from
+            → ((g : AreReratedUpTo cmp component now times rates old so_far (at + 1) number) → length g.rest ≡ n
+            → AreToCome number (at + 1) g → IsNext number from)
+            → IsNext number from
         by_rest [] r later = none_comes at h ahead r
-        by_rest (z ∷ rest) r later = by_test (touching z) refl
+        by_rest (z ∷ rest) r later = by_test (anew_at z) refl
           where
             s : StandsNext h z
             s = record { rest = rest; was = r }
 
-            by_test : (b : Bool) → touching z ≡ b → IsNext number next from
+            by_test : (b : Bool) → anew_at z ≡ b → IsNext number from
             by_test true here = here_next at h ahead le z rest r here
-            by_test false far =
-                let g = passed h z s (apart_is_out cmp component (flight_at now z) far) in
+            by_test false out =
+                let g = passed h z s out in
                 let same : length g.rest ≡ length rest = refl in
                 later g (omega (arith, e, ap length r, same))
                 (record {
-                  places = ahead.places ∙ ap (places_of touching at) r ∙ places_no touching at z rest far
-                      ∙ ap (λ k. places_of touching k rest) (let it : suc at ≡ at + 1 = omega arith in it);
-                  near = ahead.near ∙ ap (those_near cmp component) r ∙ filter_no touching z rest far;
+                  places = ahead.places ∙ ap (places_of anew_at at) r ∙ places_no anew_at at z rest out
+                      ∙ ap (λ k. places_of anew_at k rest) (let it : suc at ≡ at + 1 = omega arith in it);
                 })
 
-  -- one has been looked at
-  pub more_to_come : (number next from : ℕ) (n : IsNext number next from)
-      (out : is_of cmp component (flight_at now n.x) ≡ false)
-      → AreToCome (number + 1) (n.at + 1) next (passed n.up_to n.x n.stands out)
-  unfolding passed
-  more_to_come number next from n out = record { places = n.places; near = n.near }
-
-  pub none_more : (number at next : ℕ) (h : AreReratedUpTo cmp component now times rates old so_far at next)
-      → AreToCome number at next h → length (those_near cmp component old) ≤ number → length rates ≤ next
-  none_more number at next h ahead le =
-      let none : those_near cmp component h.rest ≡ [] =
-      sym ahead.near ∙ past_end (those_near cmp component old) number le in
-      omega (arith, h.one_each, ap length (none_of_far cmp component now h.rest none))
+  pub none_more : (number at : ℕ) (h : AreReratedUpTo cmp component now times rates old so_far at number)
+      → AreToCome number at h → length (places_of anew_at 0 old) ≤ number → length rates ≤ number
+  none_more number at h ahead le =
+      let none : places_of anew_at at h.rest ≡ [] =
+      sym ahead.places ∙ past_end (places_of anew_at 0 old) number le in
+      omega (arith, h.one_each, ap length (none_of_far cmp component now at h.rest none))
 
 module _ {P : Type 0} (cmp : P → P → Ordering) (component : Component P) (now times : ℕ) (rates : List ℕ)
     (old so_far new : List (Flight P)) where
   -- one has got its rate
-  pub rerated_to_come : (number next from : ℕ) (n : IsNext cmp component now times rates old so_far number next from)
+  pub rerated_to_come : (number from : ℕ) (n : IsNext cmp component now times rates old so_far number from)
       (rate : ℕ) (put : IsReratedAt now n.at times rate so_far new) (here : n.x ≡ get_or so_far n.at n.x)
-      (rate_is : rate ≡ get_or rates next 0) (of : is_of cmp component (flight_at now n.x) ≡ true)
-      → AreToCome cmp component now times rates old new (number + 1) (n.at + 1) (next + 1)
-      (one_rerated n.up_to n.x n.stands rate new put here rate_is of)
+      (rate_is : rate ≡ get_or rates number 0)
+      → AreToCome cmp component now times rates old new (number + 1) (n.at + 1)
+      (one_rerated n.up_to n.x n.stands rate new put here rate_is n.of)
   unfolding one_rerated
-  rerated_to_come number next from n rate put here rate_is of = record { places = n.places; near = n.near }
+  rerated_to_come number from n rate put here rate_is = record { places = n.places }
 
   -- none has yet been looked at
   pub all_to_come : (one_each : length rates ≡ length (those_of cmp component (flights_at now old)))
       (left : All (λ (u : UnitFlight P). u.left * times ≢ 0) (flights_at now old))
       (others : AreOthersTimed cmp component old)
-      → AreToCome cmp component now times rates old old 0 0 0
+      → AreToCome cmp component now times rates old old 0 0
       (none_rerated cmp component now times rates old one_each left others)
   unfolding none_rerated
-  all_to_come one_each left others = record { places = refl; near = refl }
+  all_to_come one_each left others = record { places = refl }
 
--- so many of which the component has an end are looked at, and so many have got their rates
+-- so many of those that are rated anew have got their rates
 pub record IsSoFar {P : Type 0} {a : _} {b : _} {c : _} (cmp : P → P → Ordering) (component : Component P) (times : ℕ)
     (rates : List ℕ) (were_timed : Bool) (account units : ℕ) (old : List (Flight P))
-    (now : Flights P a b c) (number next : ℕ) : Type 0 where
+    (now : Flights P a b c) (number : ℕ) : Type 0 where
   pub place : ℕ
-  pub up_to : AreReratedUpTo cmp component account times rates old now.list.items place next
-  pub to_come : AreToCome cmp component account times rates old now.list.items number place next up_to
+  pub up_to : AreReratedUpTo cmp component account times rates old now.list.items place number
+  pub to_come : AreToCome cmp component account times rates old now.list.items number place up_to
   pub at : now.at ≡ account
   pub scale : now.scale ≡ units
   pub timed : were_timed ≡ true → AreTimed now.list.items
   pub kept : AreKeptBut now.rated_anew old now.list.items
-  pub counted : now.rated_anew ≤ next
-  pub behind : next ≤ place
+  pub counted : now.rated_anew ≤ number
+  pub behind : number ≤ place
 
 pub next_in : {P : Type 0} {a : _} {b : _} {c : _} {cmp : P → P → Ordering} {component : Component P} {times : ℕ}
     {rates : List ℕ} {were_timed : Bool} {account units : ℕ} {old : List (Flight P)}
-    {now : Flights P a b c} {number next : ℕ}
-    (h : IsSoFar cmp component times rates were_timed account units old now number next)
-    → number < length (those_near cmp component old)
-    → IsNext cmp component account times rates old now.list.items number next h.place
-next_in {cmp = cmp} {component} {times} {rates} {were_timed} {account} {units} {old} {now} {number} {next} h lt =
-    next_comes cmp component account times rates old now.list.items number next h.place lt
+    {now : Flights P a b c} {number : ℕ}
+    (h : IsSoFar cmp component times rates were_timed account units old now number)
+    → number < length (places_of (λ f. is_of cmp component (flight_at 0 f)) 0 old)
+    → IsNext cmp component account times rates old now.list.items number h.place
+next_in {cmp = cmp} {component} {times} {rates} {were_timed} {account} {units} {old} {now} {number} h lt =
+    next_comes cmp component account times rates old now.list.items number h.place lt
     (length h.up_to.rest) h.place h.up_to refl h.to_come (omega arith)
 
 -- ---- what is spent at a moment

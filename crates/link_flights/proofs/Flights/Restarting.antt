@@ -1,44 +1,39 @@
--- Filling goes on from a level: the fair rates of a component, beside those that others keep, are fair for all.
-use Rattle.std.proofs.Common.{◌≡◌, ℕ, zero, suc, ◌*◌, ◌≤◌, Bool, true, false, cond, if◌then◌else◌, not}
+-- Filling goes on from a level: the fair rates of a component, under what others that keep theirs leave of the caps, are
+-- fair for all.
+use Rattle.std.proofs.Common.{◌≡◌, ℕ, ◌+◌, ◌-◌, ◌*◌, ◌≤◌, Bool, true, false, cond, not}
 use Rattle.std.proofs.Common.{◌||◌, ◌⊎◌, List, [], ◌∷◌, All, Option, Some, None, IfSome, map, length, refl, sym, ap, ◌∙◌, subst}
-use Rattle.std.proofs.Common.{inl, inr}
-use Rattle.std.proofs.Common.{arith, zero-add, Contains}
-use Rattle.std.specs.Prelude.{slice_index, slice_get, nat_le, unwrap_or}
+use Rattle.std.proofs.Common.{inl, inr, sum_by, option_map, arith, zero-add}
+use Rattle.std.specs.Prelude.{slice_index, nat_le}
 use Rattle.std.specs.List.{filter}
 use Rattle.std.specs.Cmp.{IsTotalOrder}
 use Rattle.std.specs.declared.cmp.Ordering.{Ordering}
 use Rattle.std.specs.declared.rc.Rc.{Rc}
 use Rattle.std.specs.declared.alloc.Global.{Global}
 use Rattle.std.proofs.lemmas.Bool.{false≢true, le-leb, leb-true}
-use Rattle.std.proofs.lemmas.Option.{slice_get-map, get_or_from_slice_get}
-use Rattle.fair_rates.specs.Fairness.Beside.{kept_load, IsFairBeside}
-use Rattle.fair_rates.specs.Fairness.Fair.{Side}
-use Rattle.fair_rates.specs.Fairness.Laws.{AreTheSameSides}
+use Rattle.std.proofs.lemmas.List.{nil_from_length}
+use Rattle.std.proofs.lemmas.List.Sums.{sum_by-cons}
+use Rattle.fair_rates.specs.Fairness.Fair.{IsFair}
 use Rattle.fair_rates.specs.Fairness.UnderCaps.{AreOfPeers, limits, cap_of, sides_under}
 use Rattle.fair_rates.specs.Sides.Caps.{Caps}
 use Rattle.fair_rates.specs.Sides.Subjects.{Subject}
 use Rattle.fair_rates.specs.declared.bandwidth.Flow.{Flow}
-use Rattle.fair_rates.proofs.Fairness.Sharing.{total, total_at_most, S}
-use Rattle.fair_rates.proofs.Fairness.SharedBeside.{AreSharedBeside, beside_shared, beside_from, beside_more}
-use Rattle.fair_rates.proofs.Fairness.SharedBeside.{kept_fit}
-use Rattle.fair_rates.proofs.Lists.Filters.{filter_swap}
+use Rattle.fair_rates.proofs.Fairness.Sharing.{total, total-cons, AreShared, shared_from}
+use Rattle.fair_rates.proofs.Fairness.SharedBeside.{AreSharedBeside, beside_shared, beside_left}
 use Rattle.fair_rates.proofs.Lists.Booleans.{by_bool, second_of_both}
-use Rattle.fair_rates.proofs.Lists.Members.{In, from_map, from_filter, in_filter, in_get, get_from_map}
-use Rattle.link_simulation.specs.Simulation.Rates.{capped_sides}
+use Rattle.fair_rates.proofs.Lists.Members.{In, from_map, from_filter, in_filter}
 use Rattle.link_flights.specs.declared.component.Component.{Component}
 use Rattle.link_pairs.specs.declared.message.Message as code
 use Rattle.link_pairs.specs.Pairs.Messages.{messages, message_of}
 use Rattle.link_flights.specs.Flights.Flight.{UnitFlight}
-use Rattle.link_flights.specs.Flights.Components.{is_sender, is_receiver, is_of, those_of, near_of, touches, has_both, is_closed}
-use Rattle.link_flights.specs.Flights.Rated.{sent_messages, rates_of, rated_ones, rerated, rated_anew, kept_by}
-use Rattle.link_flights.specs.Flights.Rated.{kept_rates, AreFairlyRated, WereRated}
-use Rattle.link_flights.proofs.Flights.FairMessages.{same_sides}
-use Rattle.link_flights.proofs.Flights.Beside.{beside_alike, of_is_near, those_near}
+use Rattle.link_flights.specs.Flights.Components.{is_sender, is_receiver, is_of, those_of, has_both, is_closed}
+use Rattle.link_flights.specs.Flights.Rated.{rates_of, rated_ones, rerated, rated_anew, AreFairlyRated, WereRated}
+use Rattle.link_flights.specs.Flights.Sides.{kept_load, left_caps, flows_of}
+use Rattle.link_flights.proofs.Flights.AllSides.{of_left, cap_left}
 use Rattle.link_flights.proofs.Flights.InFlight.{filter_yes, filter_no, read_filter}
 use Rattle.link_flights.proofs.Flights.Components.{Share, flow_of, parts_of, flow_for, share_of, shares, flows_are}
-use Rattle.link_flights.proofs.Flights.Components.{stand_from, own, AreFairShares, shared, fair}
-use Rattle.link_flights.proofs.Flights.Components.{others_of, is_open, open_if_of, same_messages}
-use Rattle.link_flights.proofs.Flights.Components.{comes, others_kept, still_of, apart, meets, both_of, rated_outside}
+use Rattle.link_flights.proofs.Flights.Components.{stand_from, AreFairShares, shared, fair}
+use Rattle.link_flights.proofs.Flights.Components.{others_of, is_open, open_if_of}
+use Rattle.link_flights.proofs.Flights.Components.{comes, others_kept, still_of, apart, both_of, rated_outside}
 use Rattle.link_flights.proofs.Flights.Components.{none_outside, both_before, others_stay, differ_of}
 use Rattle.link_flights.proofs.Flights.ChangedCaps.{kept_alone, not_not}
 
@@ -60,136 +55,85 @@ filter_twice p (x ∷ xs) = by_test (p x) refl (filter_twice p xs)
     by_test true is ih = filter_yes p x (filter p xs) is ∙ ap (λ l. x ∷ l) ih
     by_test false is ih = ih
 
--- ---- what stands at a place
+-- ---- those that are rated anew
+
+module _ {P : Type 0} (cmp : P → P → Ordering) (caps : Caps P) where
+  -- what messages in flight take of what a subject limits
+  total_read : (s : Subject P) (us : List (UnitFlight P))
+      → total cmp caps flow_of parts_of s (shares cmp us)
+      ≡ sum_by (λ u. cond (limits cmp s (flow_for cmp u)) u.rate 0) us
+  total_read s [] = refl
+  total_read s (u ∷ us) =
+      total-cons cmp caps flow_of parts_of s (share_of cmp u) (shares cmp us)
+      ∙ ap (λ n. cond (limits cmp s (flow_for cmp u)) u.rate 0 + n) (total_read s us)
+      ∙ sym (sum_by-cons (λ (v : UnitFlight P). cond (limits cmp s (flow_for cmp v)) v.rate 0) u us)
 
 module _ {P : Type 0} (cmp : P → P → Ordering) (component : Component P) where
-  -- the rates do not hang on the moment, or on how small the units are
-  same_rates : (now times other more : ℕ) (rates : List ℕ) (us : List (UnitFlight P))
-      → rates_of (rerated cmp component now times rates us) ≡ rates_of (rerated cmp component other more rates us)
-  same_rates now times other more rates [] = refl
-  same_rates now times other more [] (u ∷ us) = refl
-  same_rates now times other more (rate ∷ rates) (u ∷ us) =
-      by_test (is_of cmp component u) (λ rates. same_rates now times other more rates us)
-    where
-      by_test : (b : Bool)
-          → ((rates : List ℕ) → rates_of (rerated cmp component now times rates us)
-          ≡ rates_of (rerated cmp component other more rates us))
-          → rates_of
-          (cond b (rated_anew now times rate u ∷ rerated cmp component now times rates us)
-          (u ∷ rerated cmp component now times (rate ∷ rates) us))
-          ≡ rates_of
-          (cond b (rated_anew other more rate u ∷ rerated cmp component other more rates us)
-          (u ∷ rerated cmp component other more (rate ∷ rates) us))
-      by_test true ih = ap (λ l. rate ∷ l) (ih rates)
-      by_test false ih = ap (λ l. u.rate ∷ l) (ih (rate ∷ rates))
+  module _ (now times : ℕ) where
+    abbrev again : List ℕ → List (UnitFlight P) → List (UnitFlight P)
+    again rates us = rerated cmp component now times rates us
 
-  abbrev near : UnitFlight P → Bool
-  near u = touches cmp component u.message
+    none_again : (us : List (UnitFlight P)) → again [] us ≡ us
+    none_again [] = refl
+    none_again (u ∷ us) = refl
 
-  abbrev again : ℕ → ℕ → List ℕ → List (UnitFlight P) → List (UnitFlight P)
-  again now times rates us = rerated cmp component now times rates us
+    -- those that are rated anew have the rates, in their order
+    record AreAgain (rates : List ℕ) (us : List (UnitFlight P)) : Type 0 where
+      flows : map (flow_for cmp) (those_of cmp component (again rates us)) ≡ flows_of cmp component us
+      given : rates_of (those_of cmp component (again rates us)) ≡ rates
 
-  -- those near are rated as all are
-  near_again : (now times : ℕ) (rates : List ℕ) (us : List (UnitFlight P))
-      → near_of cmp component (rerated cmp component now times rates us)
-      ≡ rerated cmp component now times rates (near_of cmp component us)
-  near_again now times rates [] = refl
-  near_again now times [] (u ∷ us) = sym (none (near_of cmp component (u ∷ us)))
-    where
-      none : (vs : List (UnitFlight P)) → rerated cmp component now times [] vs ≡ vs
-      none [] = refl
-      none (v ∷ vs) = refl
-  near_again now times (rate ∷ rates) (u ∷ us) =
-      by_tests (is_of cmp component u) (near u) refl refl (λ rates. near_again now times rates us)
-    where
-      by_tests : (a b : Bool) → is_of cmp component u ≡ a → near u ≡ b
-          → ((rates : List ℕ)
-          → near_of cmp component (again now times rates us) ≡ again now times rates (near_of cmp component us))
-          → near_of cmp component
-          (cond a (rated_anew now times rate u ∷ again now times rates us) (u ∷ again now times (rate ∷ rates) us))
-          ≡ again now times (rate ∷ rates) (cond b (u ∷ near_of cmp component us) (near_of cmp component us))
-      by_tests true true is on ih =
-          filter_yes near (rated_anew now times rate u) (again now times rates us) on
-          ∙ ap (λ l. rated_anew now times rate u ∷ l) (ih rates)
-          ∙ sym (rw is refl)
-      by_tests true false is off ih = absurd (false≢true (sym off ∙ of_is_near cmp component u is))
-      by_tests false true is on ih =
-          filter_yes near u (again now times (rate ∷ rates) us) on ∙ ap (λ l. u ∷ l) (ih (rate ∷ rates))
-          ∙ sym (rw is refl)
-      by_tests false false is off ih = filter_no near u (again now times (rate ∷ rates) us) off ∙ ih (rate ∷ rates)
+    are_again : (rates : List ℕ) (us : List (UnitFlight P)) → length rates ≡ length (those_of cmp component us)
+        → ((rate : ℕ) → In rates rate → nat_le component.level rate ≡ true) → AreAgain rates us
+    are_again [] us one_each reach = record {
+      flows = ap (λ vs. map (flow_for cmp) (those_of cmp component vs)) (none_again us);
+      given = ap rates_of
+          (ap (those_of cmp component) (none_again us) ∙ nil_from_length (those_of cmp component us) (sym one_each));
+    }
+    are_again (rate ∷ rates) [] one_each reach = absurd (omega (arith, one_each))
+    are_again (rate ∷ rates) (u ∷ us) one_each reach =
+        by_test (is_of cmp component u) refl
+        (λ e r. are_again rates us e r) (λ e. are_again (rate ∷ rates) us e reach)
+      where
+        by_test : (b : Bool) → is_of cmp component u ≡ b
+            → (length rates ≡ length (those_of cmp component us)
+            → ((other : ℕ) → In rates other → nat_le component.level other ≡ true) → AreAgain rates us)
+            → (length (rate ∷ rates) ≡ length (those_of cmp component us) → AreAgain (rate ∷ rates) us)
+            → AreAgain (rate ∷ rates) (u ∷ us)
+        by_test true is ih other =
+            let v : UnitFlight P = rated_anew now times rate u in
+            let later = ih (omega (arith, one_each, ap length (filter_yes (is_of cmp component) u us is)))
+            (λ r h. reach r (inr h)) in
+            let of : is_of cmp component v ≡ true = still_of cmp component now times rate u (reach rate (inl refl)) is in
+            let all : those_of cmp component (again (rate ∷ rates) (u ∷ us)) ≡ v ∷ those_of cmp component (again rates us) =
+            ap (λ b. those_of cmp component (cond b (v ∷ again rates us) (u ∷ again (rate ∷ rates) us))) is
+            ∙ filter_yes (is_of cmp component) v (again rates us) of in
+            record {
+              flows = ap (map (flow_for cmp)) all ∙ ap (λ fs. flow_for cmp u ∷ fs) later.flows
+                  ∙ sym (ap (map (flow_for cmp)) (filter_yes (is_of cmp component) u us is));
+              given = ap rates_of all ∙ ap (λ rs. rate ∷ rs) later.given;
+            }
+        by_test false is ih other =
+            let later = other (one_each ∙ ap length (filter_no (is_of cmp component) u us is)) in
+            let all : those_of cmp component (again (rate ∷ rates) (u ∷ us))
+            ≡ those_of cmp component (again (rate ∷ rates) us) =
+            ap (λ b. those_of cmp component
+            (cond b (rated_anew now times rate u ∷ again rates us) (u ∷ again (rate ∷ rates) us))) is
+            ∙ filter_no (is_of cmp component) u (again (rate ∷ rates) us) is in
+            record {
+              flows = ap (map (flow_for cmp)) all ∙ later.flows
+                  ∙ sym (ap (map (flow_for cmp)) (filter_no (is_of cmp component) u us is));
+              given = ap rates_of all ∙ later.given;
+            }
 
-  -- what stood at a place, and what stands there: at one of the rates, or as it was
-  record StoodAt (now times : ℕ) (rates : List ℕ) (us : List (UnitFlight P)) (k : ℕ) (v : UnitFlight P) : Type 0 where
-    u : UnitFlight P
-    at : slice_get us k ≡ Some u
-    given : is_of cmp component u ≡ true → (rate : ℕ) × In rates rate × (v ≡ rated_anew now times rate u)
-    as_it_was : is_of cmp component u ≡ false → v ≡ u
+    pub flows_again : (rates : List ℕ) (us : List (UnitFlight P)) → length rates ≡ length (those_of cmp component us)
+        → ((rate : ℕ) → In rates rate → nat_le component.level rate ≡ true)
+        → map (flow_for cmp) (those_of cmp component (again rates us)) ≡ flows_of cmp component us
+    flows_again rates us one_each reach = (are_again rates us one_each reach).flows
 
-  stood : (now times : ℕ) (rates : List ℕ) (us : List (UnitFlight P))
-      → length rates ≡ length (those_of cmp component us) → (k : ℕ) (v : UnitFlight P)
-      → slice_get (rerated cmp component now times rates us) k ≡ Some v → StoodAt now times rates us k v
-  stood now times rates [] one_each k v at = cc
-  stood now times [] (u ∷ us) one_each k v at = by_test (is_of cmp component u) refl k at
-      (λ one_each k at. stood now times [] us one_each k v (subst (λ l. slice_get l k ≡ Some v) (sym (none us)) at))
-    where
-      none : (vs : List (UnitFlight P)) → rerated cmp component now times [] vs ≡ vs
-      none [] = refl
-      none (w ∷ vs) = refl
-
-      by_test : (b : Bool) → is_of cmp component u ≡ b → (k : ℕ) → slice_get (u ∷ us) k ≡ Some v
-          → (0 ≡ length (those_of cmp component us) → (k : ℕ) → slice_get us k ≡ Some v
-          → StoodAt now times [] us k v)
-          → StoodAt now times [] (u ∷ us) k v
-      by_test true is k at ih = absurd (omega (arith, one_each, ap length (filter_yes (is_of cmp component) u us is)))
-      by_test false is zero at ih = record {
-        u = u;
-        at = refl;
-        given = λ of. absurd (false≢true (sym is ∙ of));
-        as_it_was = λ out. let same : u ≡ v = cc in sym same;
-      }
-      by_test false is (suc k) at ih =
-          let r = ih (one_each ∙ ap length (filter_no (is_of cmp component) u us is)) k at in
-          record { u = r.u; at = r.at; given = r.given; as_it_was = r.as_it_was }
-  stood now times (rate ∷ rates) (u ∷ us) one_each k v at =
-      by_test (is_of cmp component u) refl k at (λ rates one_each k at. stood now times rates us one_each k v at)
-    where
-      by_test : (b : Bool) → is_of cmp component u ≡ b → (k : ℕ)
-          → slice_get
-          (cond b (rated_anew now times rate u ∷ again now times rates us) (u ∷ again now times (rate ∷ rates) us)) k
-          ≡ Some v
-          → ((rates : List ℕ) → length rates ≡ length (those_of cmp component us) → (k : ℕ)
-          → slice_get (again now times rates us) k ≡ Some v → StoodAt now times rates us k v)
-          → StoodAt now times (rate ∷ rates) (u ∷ us) k v
-      by_test true is zero at ih = record {
-        u = u;
-        at = refl;
-        given = λ of. let same : rated_anew now times rate u ≡ v = cc in (rate, inl refl, sym same);
-        as_it_was = λ out. absurd (false≢true (sym out ∙ is));
-      }
-      by_test true is (suc k) at ih =
-          let r = ih rates (omega (arith, one_each, ap length (filter_yes (is_of cmp component) u us is))) k at in
-          record {
-            u = r.u;
-            at = r.at;
-            given = λ of. let g = r.given of in (g.0, inr g.1, g.2);
-            as_it_was = r.as_it_was;
-          }
-      by_test false is zero at ih = record {
-        u = u;
-        at = refl;
-        given = λ of. absurd (false≢true (sym is ∙ of));
-        as_it_was = λ out. let same : u ≡ v = cc in sym same;
-      }
-      by_test false is (suc k) at ih =
-          let r = ih (rate ∷ rates) (one_each ∙ ap length (filter_no (is_of cmp component) u us is)) k at in
-          record { u = r.u; at = r.at; given = r.given; as_it_was = r.as_it_was }
-
-  -- what is kept at a place
-  kept_there : (us : List (UnitFlight P)) (k : ℕ) (u : UnitFlight P) → slice_get us k ≡ Some u
-      → kept_rates cmp component us k ≡ kept_by cmp component u
-  kept_there us k u at =
-      get_or_from_slice_get (map (kept_by cmp component) us) k (kept_by cmp component u) None
-      (slice_get-map (kept_by cmp component) us k ∙ (rw at refl))
+    pub rates_again : (rates : List ℕ) (us : List (UnitFlight P)) → length rates ≡ length (those_of cmp component us)
+        → ((rate : ℕ) → In rates rate → nat_le component.level rate ≡ true)
+        → rates_of (those_of cmp component (again rates us)) ≡ rates
+    rates_again rates us one_each reach = (are_again rates us one_each reach).given
 
   -- ---- the restart
 
@@ -380,135 +324,72 @@ module _ {P : Type 0} (cmp : P → P → Ordering) (component : Component P) whe
           (from_filter (λ x. not (rated x)) (shares cmp olds) y hy).1) ∙ on)),
     )
 
-    -- ---- those near
+    -- ---- those that are rated anew, under what the others leave
 
-    abbrev nears : List (UnitFlight P)
-    nears = near_of cmp component us
+    abbrev left : Caps P
+    left = left_caps cmp caps scale component us
 
-    abbrev near_news : List (UnitFlight P)
-    near_news = rerated cmp component now times rates nears
+    -- their shares
+    mine : filter rated (shares cmp news) ≡ shares cmp (those_of cmp component news)
+    mine =
+        read_filter (share_of cmp) rated news
+        ∙ ap (shares cmp)
+        (filter_alike (λ v. rated (share_of cmp v)) (is_of cmp component) news
+        (λ v h. open_if_of cmp component v (now_rated v h)))
 
-    abbrev is_near : Share P → Bool
-    is_near x = is_sender cmp component x.flow.origin || is_receiver cmp component x.flow.recipient
+    -- what the others take
+    kept_is : (s : Subject P) → total_of s (filter (λ x. not (rated x)) (shares cmp news)) ≡ kept_load cmp component us s
+    kept_is s =
+        ap (total_of s)
+        (keep_of news now_rated
+        ∙ ap (shares cmp)
+        (others_kept cmp component now times (λ rate u at_least is. still_of cmp component now times rate u at_least is)
+        rates us reach))
+        ∙ total_read cmp caps s (others_of cmp component us)
 
-    near_shares : filter is_near (shares cmp news) ≡ shares cmp near_news
-    near_shares =
-        read_filter (share_of cmp) is_near news ∙ ap (shares cmp) (near_again now times rates us)
+    kept_least : (s : Subject P) (cap : ℕ) → cap_of caps s ≡ Some cap → kept_load cmp component us s ≤ cap * scale
+    kept_least s cap has =
+        omega (arith, kept_is s, ap (total_of s) same_kept, kept_shared.within s cap has)
 
-    one_near_each : length rates ≡ length (those_of cmp component nears)
-    one_near_each = one_each ∙ sym (ap length (those_near cmp component us))
+    leaves : (x : Share P) → In (shares cmp news) x → rated x ≡ true → (s : Subject P) → limits cmp s x.flow ≡ true
+        → (cap : ℕ) → cap_of caps s ≡ Some cap
+        → (l : ℕ) × (cap_of left s ≡ Some l)
+        × (l + total_of s (filter (λ x. not (rated x)) (shares cmp news)) ≡ cap * scale)
+    leaves x h on s limited cap has = (
+      cap * scale - kept_load cmp component us s,
+      cap_left cmp caps scale component us s
+          ∙ ap (option_map (λ cap. cap * scale - kept_load cmp component us s)) has,
+      omega (arith, kept_is s, kept_least s cap has),
+    )
 
-    -- whose share stands at a place among those near: what it was, and whether it is rated anew
-    record Stands (k : ℕ) (x : Share P) : Type 0 where
-      u : UnitFlight P
-      at : slice_get nears k ≡ Some u
-      same : rated x ≡ is_of cmp component u
-      kept : is_of cmp component u ≡ false → x.parts ≡ u.rate
+    comes_from : (o : Option ℕ) (f : ℕ → ℕ) (l : ℕ) → option_map f o ≡ Some l → (cap : ℕ) × (o ≡ Some cap)
+    comes_from None f l is = absurd (none_not_some is)
+      where
+        none_not_some : None ≡ Some l → ⊥
+        none_not_some e = cc
+    comes_from (Some cap) f l is = (cap, refl)
 
-    stands : (k : ℕ) (x : Share P) → slice_get (shares cmp near_news) k ≡ Some x → Stands k x
-    stands k x at =
-        let v = get_from_map (share_of cmp) near_news k x at in
-        let s = stood now times rates nears one_near_each k v.0 v.1 in
-        let h : In news v.0 =
-        (from_filter near news v.0
-        (subst (λ l. In l v.0) (sym (near_again now times rates us)) (in_get near_news k v.0 v.1))).0 in
-        let same_of : is_of cmp component v.0 ≡ is_of cmp component s.u =
-        by_bool (is_of cmp component s.u)
-        (λ is. let g = s.given is in
-        ap (is_of cmp component) g.2 ∙ still_of cmp component now times g.0 s.u (reach g.0 g.1) is ∙ sym is)
-        (λ out. ap (is_of cmp component) (s.as_it_was out)) in
-        record {
-          u = s.u;
-          at = s.at;
-          same = ap rated (sym v.2) ∙ open_if_of cmp component v.0 (now_rated v.0 h) ∙ same_of;
-          kept = λ out. ap (λ (y : Share P). y.parts) (sym v.2)
-              ∙ ap (λ (w : UnitFlight P). w.rate) (s.as_it_was out);
-        }
-
-    abbrev kept : ℕ → Option ℕ
-    kept k = kept_rates cmp component nears k
-
-    -- one that is rated keeps no rate
-    opens : (k : ℕ) (x : Share P) → slice_get (shares cmp near_news) k ≡ Some x → rated x ≡ true → kept k ≡ None
-    opens k x at on =
-        let r = stands k x at in
-        kept_there nears k r.u r.at ∙ ap (λ b. if b then None else Some r.u.rate) (sym r.same ∙ on)
-
-    kept_parts : (k : ℕ) (x : Share P) → slice_get (shares cmp near_news) k ≡ Some x
-        → unwrap_or (kept k) 0 ≡ cond (rated x) 0 x.parts
-    kept_parts k x at =
-        let r = stands k x at in
-        ap (λ o. unwrap_or o 0) (kept_there nears k r.u r.at)
-        ∙ by_bool (is_of cmp component r.u)
-        (λ is. ap (λ b. unwrap_or (if b then None else Some r.u.rate) 0) is
-        ∙ sym (ap (λ b. cond b 0 x.parts) (r.same ∙ is)))
-        (λ out. ap (λ b. unwrap_or (if b then None else Some r.u.rate) 0) out ∙ sym (r.kept out)
-        ∙ sym (ap (λ b. cond b 0 x.parts) (r.same ∙ out)))
-
-    -- what those near take that keep their rates is no more than what all took before that keep theirs
-    kept_total : (s : Subject P)
-        → total_of s (filter (λ x. not (rated x)) (shares cmp near_news)) ≤ total_of s kept_olds
-    kept_total s =
-        let few : filter (λ x. not (rated x)) (shares cmp near_news)
-        ≡ filter is_near (filter (λ x. not (rated x)) (shares cmp olds)) =
-        ap (filter (λ x. not (rated x))) (sym near_shares)
-        ∙ filter_swap (λ x. not (rated x)) is_near (shares cmp news)
-        ∙ ap (filter is_near) (sym same_kept) in
-        omega (
-          arith,
-          ap (total_of s) few,
-          total_at_most cmp caps flow_of parts_of is_near s kept_olds,
-        )
-
-    -- the sides of those near, and of their messages
-    abbrev near_sides : List Side
-    near_sides = S cmp caps flow_of parts_of order of (shares cmp near_news)
-
-    abbrev message_sides : List Side
-    message_sides = capped_sides cmp caps (sent_messages nears)
-
-    sides_alike : AreTheSameSides near_sides message_sides
-    sides_alike side =
-        let same =
-        same_sides cmp order caps of (map (flow_for cmp) near_news) (sent_messages near_news) (own cmp order near_news)
-        side in
-        let flows : map flow_of (shares cmp near_news) ≡ map (flow_for cmp) near_news = flows_are cmp near_news in
-        let sent : sent_messages near_news ≡ sent_messages nears = same_messages cmp component now times rates nears in (
-          (λ listed. subst (λ ms. Contains (capped_sides cmp caps ms) side) sent
-              (same.0 (subst (λ (fs : List (Flow P)). Contains (sides_under cmp caps fs) side) flows listed))),
-          (λ listed. subst (λ (fs : List (Flow P)). Contains (sides_under cmp caps fs) side) (sym flows)
-              (same.1 (subst (λ ms. Contains (capped_sides cmp caps ms) side) (sym sent) listed))),
-        )
-
-    -- what is kept is within the caps
-    pub kept_within : (side : Side) → Contains message_sides side → kept_load kept side ≤ side.cap * scale
-    kept_within side listed =
-        kept_fit cmp caps flow_of parts_of order of (shares cmp near_news) rated scale kept_olds kept_shared kept
-        kept_parts kept_total side ((sides_alike side).1 listed)
-
-    module _ (found : IsFairBeside kept message_sides scale
-        (slice_index (rates_of (rerated cmp component 0 1 rates nears)))) where
-      abbrev g : ℕ → ℕ
-      g = slice_index (rates_of near_news)
-
-      beside_near : AreSharedBeside cmp caps flow_of parts_of rated scale (shares cmp near_news)
-      beside_near =
-          beside_from cmp caps flow_of parts_of order of (shares cmp near_news) g scale
-          (stand_from cmp g 0 near_news (λ i. ap g (zero-add i))) kept rated opens
-          (beside_alike kept kept (λ k. refl) g g (λ k. refl) message_sides near_sides
-          (λ side. ((sides_alike side).1, (sides_alike side).0)) scale
-          (subst (λ rs. IsFairBeside kept message_sides scale (slice_index rs))
-          (same_rates 0 1 now times rates nears) found))
+    module _ (found : IsFair (sides_under cmp left (flows_of cmp component us)) 1 (slice_index rates)) where
+      fair_mine : AreShared cmp left flow_of parts_of 1 (filter rated (shares cmp news))
+      fair_mine =
+          let vs = those_of cmp component news in
+          subst (AreShared cmp left flow_of parts_of 1) (sym mine)
+          (shared_from cmp left flow_of parts_of order (of_left cmp order caps of scale component us) (shares cmp vs)
+          (slice_index rates) 1
+          (stand_from cmp (slice_index rates) 0 vs
+          (λ i. ap (slice_index rates) (zero-add i)
+          ∙ ap (λ rs. slice_index rs i) (sym (rates_again now times rates us one_each reach))))
+          (subst (λ (fs : List (Flow P)). IsFair (sides_under cmp left fs) 1 (slice_index rates))
+          (sym (flows_are cmp vs ∙ flows_again now times rates us one_each reach)) found))
 
       -- those of it are fair beside all others
       beside_all : AreSharedBeside cmp caps flow_of parts_of rated scale (shares cmp news)
       beside_all =
-          beside_more cmp caps flow_of parts_of is_near rated scale (shares cmp news)
-          (λ s cap x y has hx hy on lx ly.
-          let both = both_of_share x hx on in meets cmp component order s x.flow y.flow both.0 both.1 lx ly)
-          (λ x hx on.
-          ap (λ b. b || is_receiver cmp component x.flow.recipient) (both_of_share x hx on).0)
-          (subst (AreSharedBeside cmp caps flow_of parts_of rated scale) (sym near_shares) beside_near)
+          beside_left cmp caps flow_of parts_of left rated scale (shares cmp news) leaves
+          (λ x h on s limited l has.
+          comes_from (cap_of caps s) (λ cap. cap * scale - kept_load cmp component us s) l
+          (sym (cap_left cmp caps scale component us s) ∙ has))
+          fair_mine
 
       -- and so all rates are fair
       pub restart_fair : AreFairlyRated cmp caps scale news

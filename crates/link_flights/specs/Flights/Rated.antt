@@ -11,10 +11,9 @@ use Rattle.std.specs.declared.alloc.Global.{Global}
 use Rattle.fair_rates.specs.Sides.Caps.{Caps}
 use Rattle.fair_rates.specs.Sides.Subjects.{Subject}
 use Rattle.fair_rates.specs.declared.bandwidth.Flow.{Flow}
-use Rattle.fair_rates.specs.Fairness.UnderCaps.{AreOfPeers, cap_of, limits}
+use Rattle.fair_rates.specs.Fairness.UnderCaps.{AreOfPeers, cap_of, limits, sides_under}
 use Rattle.fair_rates.specs.Fairness.Exists.{product}
-use Rattle.fair_rates.specs.Fairness.Fair.{Side, IsFair}
-use Rattle.fair_rates.specs.Fairness.Beside.{kept_load, IsFairBeside}
+use Rattle.fair_rates.specs.Fairness.Fair.{IsFair}
 use Rattle.fair_rates.specs.declared.bandwidth.parts.FairParts.{FairParts}
 use Rattle.fair_rates.specs.Filling.FairParts.{parts_of_level}
 use Rattle.link_simulation.specs.Simulation.Messages.{Message, is_delivered}
@@ -24,8 +23,9 @@ use Rattle.link_flights.specs.declared.flight.Flight.{Flight}
 use Rattle.link_flights.specs.declared.flight_list.Flights.{Flights}
 use Rattle.link_pairs.specs.Pairs.Messages.{message_of}
 use Rattle.link_flights.specs.Flights.Flight.{UnitFlight, flight_at, flights_at, IsTimed, AreTimed}
-use Rattle.link_flights.specs.Flights.Components.{is_of, those_of, near_of, those_near}
+use Rattle.link_flights.specs.Flights.Components.{is_of, those_of}
 use Rattle.link_flights.specs.Flights.InFlight.{in_units, loose_in}
+use Rattle.link_flights.specs.Flights.Sides.{left_caps, flows_of, flow_in_flight}
 use Rattle.link_flights.specs.Flights.RatedFlights.{rated_flight_of}
 use Rattle.link_simulation.specs.Rule.Planned.{is_spent}
 
@@ -63,15 +63,6 @@ module _ {P : Type 0} (cmp : P → P → Ordering) (caps : Caps P) where
   -- whether one is done: nothing is left of it, or it uses no capped side
   abbrev pub is_out : ℕ → UnitFlight P → Bool
   is_out scale u = is_spent cmp caps (rated_flight_of scale u)
-
--- what a message in flight asks for, as a flow
-abbrev pub flow_in_flight : {P : Type 0} → (P → P → Ordering) → UnitFlight P → Flow P
-flow_in_flight cmp u = record {
-  id = 0;
-  origin = u.message.origin;
-  recipient = u.message.recipient;
-  delivered = is_delivered cmp (message_of u.message);
-}
 
 -- so much is no more than a rate, and there is so much
 abbrev pub IsNoMore : Option ℕ → ℕ → Type 0
@@ -148,12 +139,13 @@ pub record HadFairRates {P : Type 0} {a : _} {b : _} {c : _} (cmp : P → P → 
 abbrev pub rates_found : FairParts → List ℕ
 rates_found found = map (parts_of_level found.levels.items) found.level_of.items
 
--- these are the fair rates of a component alone, in parts of a scale that has grown from another
-pub record AreFairOf {P : Type 0} (cmp : P → P → Ordering) (caps : Caps P) (scale : ℕ) (component : Component P)
+-- these are the fair rates of a component under what the others leave of the caps, in parts that have grown from units
+pub record AreFairOn {P : Type 0} (cmp : P → P → Ordering) (caps : Caps P) (scale : ℕ) (component : Component P)
     (us : List (UnitFlight P)) (found : FairParts) : Type 0 where
-  pub grown : found.scale ≡ scale * product found.growth.items
+  pub grown : found.scale ≡ product found.growth.items
   pub one_each : length found.level_of.items ≡ length (those_of cmp component us)
-  pub fair : AreFairFor cmp caps found.scale (sent_messages (those_of cmp component us)) (rates_found found)
+  pub fair : IsFair (sides_under cmp (left_caps cmp caps scale component us) (flows_of cmp component us)) found.scale
+      (slice_index (rates_found found))
 
 -- it has a rate from a moment on; what is left of it counts in units of which so many times as many are needed
 abbrev pub rated_anew : {P : Type 0} → ℕ → ℕ → ℕ → UnitFlight P → UnitFlight P
@@ -192,53 +184,12 @@ rerated cmp component now times (rate ∷ rates) (u ∷ us) = cond (is_of cmp co
     (rated_anew now times rate u ∷ rerated cmp component now times rates us)
     (u ∷ rerated cmp component now times (rate ∷ rates) us)
 
--- the rate that one keeps where it is not of the component
-abbrev pub kept_by : {P : Type 0} → (P → P → Ordering) → Component P → UnitFlight P → Option ℕ
-kept_by cmp component u = if is_of cmp component u then None else Some u.rate
-
--- these rates are the ones that those of a list keep, in their order
-abbrev pub AreKept : {P : Type 0} → (P → P → Ordering) → Component P → List (Option (Rc ℕ Global))
-    → List (Flight P) → Type 0
-AreKept cmp component kept list =
-    map (option_map (λ rate. rate.value)) kept ≡ map (kept_by cmp component) (flights_at 0 list)
-
--- whether there is no rate of a number
-abbrev pub has_no_rate : List (Option (Rc ℕ Global)) → ℕ → Bool
-has_no_rate kept number = is_none (slice_index_or kept number None)
-
--- the rates that are kept tell which of a list are rated anew
-abbrev pub AreToldOf : {P : Type 0} → (P → P → Ordering) → Component P → List (Option (Rc ℕ Global))
-    → List (Flight P) → Type 0
-AreToldOf {P} cmp component kept fs = (i : ℕ) (f : Flight P) → slice_get fs i ≡ Some f
-    → has_no_rate kept i ≡ is_of cmp component (flight_at 0 f)
-
--- the rates that those keep which are not of the component, by their places
-abbrev pub kept_rates : {P : Type 0} → (P → P → Ordering) → Component P → List (UnitFlight P) → ℕ → Option ℕ
-kept_rates cmp component us place = slice_index_or (map (kept_by cmp component) us) place None
-
--- the levels of those that keep no rate, in their order
-abbrev pub levels_rated : List (Option ℕ) → List (Option ℕ) → List (Option ℕ)
-levels_rated [] levels = []
-levels_rated (kept ∷ rates) [] = []
-levels_rated (None ∷ rates) (level ∷ levels) = level ∷ levels_rated rates levels
-levels_rated (Some rate ∷ rates) (level ∷ levels) = levels_rated rates levels
-
--- these rates of a component are fair beside those that others keep of which it has an end, where these are within the
--- caps
+-- these rates of a component, in units, are fair under what the others leave of the caps
 pub record AreFairRatesBeside {P : Type 0} (cmp : P → P → Ordering) (caps : Caps P) (scale : ℕ)
     (component : Component P) (us : List (UnitFlight P)) (rates : List ℕ) : Type 0 where
   pub one_each : length rates ≡ length (those_of cmp component us)
-  pub fair : ((side : Side) → Contains (capped_sides cmp caps (sent_messages (near_of cmp component us))) side
-      → kept_load (kept_rates cmp component (near_of cmp component us)) side ≤ side.cap * scale)
-      → IsFairBeside (kept_rates cmp component (near_of cmp component us))
-      (capped_sides cmp caps (sent_messages (near_of cmp component us))) scale
-      (slice_index (rates_of (rerated cmp component 0 1 rates (near_of cmp component us))))
-
--- what is found are such rates, so far as the scale has not grown
-pub record AreFairBeside {P : Type 0} (cmp : P → P → Ordering) (caps : Caps P) (scale : ℕ) (component : Component P)
-    (us : List (UnitFlight P)) (found : FairParts) : Type 0 where
-  pub grown : found.scale ≡ scale * product found.growth.items
-  pub fair : found.growth.items ≡ [] → AreFairRatesBeside cmp caps scale component us (rates_found found)
+  pub fair : IsFair (sides_under cmp (left_caps cmp caps scale component us) (flows_of cmp component us)) 1
+      (slice_index rates)
 
 -- the rates of these levels, flow by flow
 abbrev pub rates_of_levels : List (Rc ℕ Global) → List (Option ℕ) → List ℕ
@@ -263,11 +214,6 @@ abbrev pub GivesBeside : {P : Type 0} {a : _} {b : _} {c : _} → (P → P → O
 GivesBeside cmp caps component old new None = new ≡ old
 GivesBeside cmp caps component old new (Some found) =
     AreRatedBeside cmp caps component old new × AreKeptBut new.rated_anew old.list.items new.list.items
-
--- whether none of those of a list of which a component has an end is rated anew
-abbrev pub none_is_rated : {P : Type 0} → (P → P → Ordering) → Component P → List (Flight P) → Bool
-none_is_rated cmp component list =
-    list_all (λ f. not (is_of cmp component (flight_at 0 f))) (those_near cmp component list)
 
 -- it is of the same message under the same id, of which as much is left, in units of which so many times as many are
 -- needed, from a moment on at a rate

@@ -1,7 +1,6 @@
-use Rattle.std.proofs.Common.{◌≡◌, ◌*◌, length, inl, inr, subst, sym, ap, ◌∙◌, arith}
+use Rattle.std.proofs.Common.{◌≡◌, length, inl, inr, subst, sym, ap, ◌∙◌, arith}
 use Rattle.std.proofs.lemmas.Grind.{common_steps}
 use Rattle.std.proofs.lemmas.List.{length-map}
-use Rattle.fair_rates.specs.Fairness.Exists.{product}
 use Rattle.fair_rates.specs.Sides.SideOf.{side_of}
 use Rattle.fair_rates.specs.Fairness.Rates.{HasDifferentRates, last_rate}
 use Rattle.fair_rates.proofs.Fairness.AllocatedRates.{counted}
@@ -12,14 +11,6 @@ use Rattle.fair_rates.proofs.Filling.Rates.{rates_are_fair, rates_are_different,
 use Rattle.fair_rates.proofs.Refusals.AnswersTooLarge.{too_large}
 use Rattle.fair_rates.proofs.bandwidth.allocate_linked_counted.Goals as goal
 
-pub rates-requires-clause-scale : goal.rates-requires-clause-scale
-rates-requires-clause-scale g c =
-    omega (
-      arith,
-      c.in_ok-found.ensures.grown,
-      ap (λ n. n * product c.in_ok-found.found.growth.items) c.from_u64-one.ensures,
-    )
-
 pub returns-in_err-rates-clause-refused : goal.returns-in_err-rates-clause-refused
 returns-in_err-rates-clause-refused g c =
     let answers = c.in_ok-sides.ensures.sides in
@@ -29,7 +20,7 @@ returns-in_err-rates-clause-refused g c =
       | inr large ↦ inr (
         is ∙ large.0,
         too_large g.P.Ord.cmp _ _ _ _ _ answers.0 _ answers.1 answers.2 c.in_ok-sides.ensures.users_are_flows
-            c.in_ok-sides.ensures.users_rise (large_rate _ _ _ _ c.in_ok-found.ensures large.1),
+            c.in_ok-sides.ensures.users_rise (large_rate _ _ _ c.in_ok-found.ensures large.1),
       )
     ])
 
@@ -46,8 +37,8 @@ returns-clause-counted g c =
     let rates = c.in_ok-rates.ensures.rates in
     let len : c.len.result ≡ length found.levels.items = grind (arith, common_steps, c.len.ensures) in
     counted g.P.Ord.cmp _ _ _ _ _ _ _ answers.0 _ _ answers.1 answers.2 c.in_ok-sides.ensures.users_are_flows
-    c.in_ok-sides.ensures.users_rise (rates_are_fair _ _ _ _ _ filled rates)
-    (subst (HasDifferentRates c.in_ok-rates.rates.items) (sym len) (rates_are_different _ _ _ _ _ filled rates))
+    c.in_ok-sides.ensures.users_rise (rates_are_fair _ _ _ _ filled rates)
+    (subst (HasDifferentRates c.in_ok-rates.rates.items) (sym len) (rates_are_different _ _ _ _ filled rates))
     (omega (arith, len, filled.few, length-map c.in_ok-sides.sides.items side_of))
     (λ id. c.in_ok-by_id.ensures.by_id id ∙ ap (last_rate id c.args.flows.now) c.deref.ensures.value)
 

@@ -16,13 +16,15 @@ use Rattle.fair_routes.proofs.routes.allocate_routes_counted.Goals as goal
 abbrev items : Vec ℕ Global → List ℕ
 items v = v.items
 
-pub fair_parts-requires-clause-users : goal.fair_parts-requires-clause-users
-fair_parts-requires-clause-users c =
+pub fair_parts-requires : goal.fair_parts-requires
+fair_parts-requires c =
     let routes = map items c.args.routes.now in
     let many : length routes ≡ length c.args.routes.now = length-map c.args.routes.now items in
-    code_users (length c.args.routes.now) (sides_over c.args.caps.now routes) c.in_ok-sides.sides.items
-    c.in_ok-sides.ensures.sides
-    (rw many at (users_are_flows c.args.caps.now routes))
+    record {
+      users =
+          code_users side_of (length c.args.routes.now) (sides_over c.args.caps.now routes) c.in_ok-sides.sides.items
+          c.in_ok-sides.ensures.sides (rw many at (users_are_flows c.args.caps.now routes));
+    }
 
 pub returns-in_err-rates-clause-refused : goal.returns-in_err-rates-clause-refused
 returns-in_err-rates-clause-refused c =
@@ -35,7 +37,7 @@ returns-in_err-rates-clause-refused c =
       | inr large ↦ inr (
         large.0,
         too_large caps routes c.in_ok-sides.ensures.listed c.in_ok-sides.sides.items c.in_ok-sides.ensures.sides
-            (large_rate _ _ _ _ c.in_ok-found.ensures large.1),
+            (large_rate _ _ _ c.in_ok-found.ensures large.1),
       )
     ]))
 
@@ -51,6 +53,6 @@ returns-clause-counted c =
     counted caps routes c.in_ok-sides.ensures.listed c.in_ok-sides.sides.items c.in_ok-rates.rates.items c.len.result
     c.in_ok-sides.ensures.sides
     (subst (λ (n : ℕ). AreFairRates (map side_of c.in_ok-sides.sides.items) n c.in_ok-rates.rates.items) (sym many)
-    (rates_are_fair _ _ _ _ _ filled rates))
-    (subst (HasDifferentRates c.in_ok-rates.rates.items) (sym len) (rates_are_different _ _ _ _ _ filled rates))
+    (rates_are_fair _ _ _ _ filled rates))
+    (subst (HasDifferentRates c.in_ok-rates.rates.items) (sym len) (rates_are_different _ _ _ _ filled rates))
     (omega (arith, len, filled.few, length-map c.in_ok-sides.sides.items side_of))

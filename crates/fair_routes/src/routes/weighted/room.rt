@@ -1,13 +1,13 @@
 //! What is left on a side for the flows that still rise.
 ghost use Rattle.std.specs.Prelude.{◌≡◌, ◌*◌, ◌<◌, ◌↔◌, ℕ, IfOk, IsTrue, MatchOption, All, length, map};
-ghost use Rattle.fair_rates.specs.Sides.SideOf.{side_of};
+ghost use Rattle.fair_routes.specs.Network.Sides.{side_of};
 ghost use Rattle.fair_routes.specs.Network.Rising.{frozen_in, rising_weight, slack_of};
 ghost use Rattle.fair_routes.specs.Network.Rising.{AreAllHeld, HasLeastRoom, IsLesser};
 ghost use Rattle.fair_routes.specs.Network.Weights.{weight_at, HaveLittleWeight};
 ghost use Rattle.std.specs.Prelude.{◌^◌, ◌-◌, cond, sum_by, unwrap_or};
 ghost use Rattle.std.specs.Option.{is_none};
 
-use fair_rates::bandwidth::Side;
+use crate::routes::sides::LinkSide;
 use natural::Natural;
 use std::alloc::{AllocError, Global};
 
@@ -25,7 +25,7 @@ pub(super) struct Room {
 /// The room on the side.
 fn room_on(
     place: usize,
-    side: &Side,
+    side: &LinkSide,
     weights: &[u64],
     scale: &Natural,
     parts: &[Option<Natural>],
@@ -71,7 +71,7 @@ fn weight_of_rising(part: &Option<Natural>, weight: u64) -> u64
 /// The side with the least room for each one of the weight that still rises there, if there is any.
 pub(super) fn least_room(
     alloc: Global,
-    sides: &[Side],
+    sides: &[LinkSide],
     weights: &[u64],
     scale: &Natural,
     parts: &[Option<Natural>],

@@ -1,7 +1,7 @@
 use Rattle.std.proofs.Common.{◌∷◌, ◌++◌, [], subst, sym, length-append, arith}
 use Rattle.std.specs.declared.cmp.Reverse.{Reverse}
 use Rattle.std.proofs.lemmas.Grind.{common_steps}
-use Rattle.fair_rates.specs.declared.bandwidth.filling.left.LeftSide.{LeftSide}
+use Rattle.fair_rates.specs.declared.bandwidth.sides.Side.{Side}
 use Rattle.fair_rates.specs.declared.bandwidth.filling.open.OpenSide.{OpenSide}
 use Rattle.fair_rates.specs.Filling.States.{AreOpened}
 use Rattle.fair_rates.proofs.Filling.Queue.{opened_none, opened_more, opened_without, put_last}
@@ -27,7 +27,7 @@ loop-side-preserved-in-Continue-branch-2 c =
             arith,
             c.in_ok-push.ensures.len,
             c.loop-side.invariant.count,
-            length-append {A = LeftSide} c.loop-side.yielded (c.in-Some.side ∷ []),
+            length-append {A = Side} c.loop-side.yielded (c.in-Some.side ∷ []),
           );
     }
 
@@ -40,6 +40,6 @@ loop-side-preserved c = record {
       omega (
         arith,
         c.loop-side.invariant.count,
-        length-append {A = LeftSide} c.loop-side.yielded (c.in-Some.side ∷ []),
+        length-append {A = Side} c.loop-side.yielded (c.in-Some.side ∷ []),
       );
 }

@@ -1,4 +1,4 @@
-use Rattle.std.proofs.Common.{◌∙◌, ◌≡◌, refl, ap, length, vec_len, ◌++◌, ◌∷◌, []}
+use Rattle.std.proofs.Common.{◌∙◌, ◌≡◌, ap, length, vec_len, ◌++◌, ◌∷◌, []}
 use Rattle.fair_rates.specs.declared.bandwidth.sides.Registry.{Registry}
 use Rattle.fair_rates.specs.Sides.Registry.{subject_of, number_of, HasNumber}
 use Rattle.fair_rates.proofs.Sides.Registry.{absent, opens, finds_more}
@@ -34,14 +34,15 @@ returns-clause-registers g c =
     let last : n ≡ length old.sides.items = c.len-number.ensures ∙ old.sides.ok.0 in
     let users : c.push.new.self.items ≡ c.args.place ∷ [] =
     c.in_ok-push.ensures.items ∙ ap (λ us. us ++ c.args.place ∷ []) c.in_ok-users.ensures.items in
-    let sides : new.sides.items ≡ old.sides.items ++ record { cap = c.in-Some.cap; users = c.push.new.self } ∷ [] =
+    let sides : new.sides.items ≡ old.sides.items ++ record { cap = c.from_u128-cap.result; users = c.push.new.self } ∷ [] =
     ap (λ v. v.items) c.note.ensures.sides ∙ c.in_ok-push-2.ensures.items in
     let numbers : HasNumber cmp s n old new = c.in_ok-note.ensures.numbers in
     record {
       asked = λ asks h. record {
         registered =
             opens cmp g.met.P.Ord.total asks old.sides.items (number_of cmp old) h.registered s c.args.place c.args.cap
-            c.in-Some.cap _ _ (number_of cmp new) c.in-Some.is c.requires.none sides refl users n last numbers;
+            c.in-Some.cap _ _ (number_of cmp new) c.in-Some.is c.requires.none sides c.from_u128-cap.ensures users n
+            last numbers;
         order = c.in_ok-note.ensures.order;
       };
       finds =

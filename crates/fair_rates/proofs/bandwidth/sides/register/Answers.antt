@@ -1,6 +1,5 @@
 use Rattle.std.proofs.Common.{refl}
 use Rattle.fair_rates.specs.Sides.Registry.{number_of, subject_of}
-use Rattle.fair_rates.specs.Sides.Caps.{cap_on}
 use Rattle.fair_rates.proofs.Sides.Registry.{found}
 use Rattle.fair_rates.proofs.bandwidth.sides.register.Goals as goal
 
@@ -15,8 +14,7 @@ returns-in-Some-clause-registers g c =
       asked = λ asks h. record {
         registered =
             found g.P.Ord.cmp g.met.P.Ord.total asks old.sides.items (number_of g.P.Ord.cmp old) h.registered s
-            c.args.place (cap_on (g.C.KnownCaps.caps c.args.caps.now) s)
-            c.in-Some.number c.index_mut.result.now _ _ (c.in-Some.ensures)
+            c.args.place c.args.cap c.in-Some.number c.index_mut.result.now _ _ (c.in-Some.ensures)
             c.index_mut.ensures.value refl refl c.in_ok-push.ensures.items;
         order = h.order;
       };

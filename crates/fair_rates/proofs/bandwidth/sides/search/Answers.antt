@@ -1,6 +1,5 @@
-use Rattle.std.proofs.Common.{refl, sym, subst, ◌∙◌, ◌∷◌, []}
-use Rattle.fair_rates.specs.Sides.Registry.{number_of, subject_of, Registers}
-use Rattle.fair_rates.specs.Sides.Caps.{cap_on}
+use Rattle.std.proofs.Common.{refl, sym, ◌∙◌}
+use Rattle.fair_rates.specs.Sides.Registry.{number_of, subject_of}
 use Rattle.fair_rates.proofs.Sides.Registry.{found}
 use Rattle.fair_rates.proofs.bandwidth.sides.search.Goals as goal
 
@@ -23,7 +22,7 @@ returns-in-Some-clause-registers g c =
       asked = λ asks h. record {
         registered =
             found g.P.Ord.cmp g.met.P.Ord.total asks old.sides.items (number_of g.P.Ord.cmp old) h.registered s
-            c.args.place (cap_on (g.C.KnownCaps.caps c.args.caps.now) s) c.in-Some.number c.index_mut.result.now _ _
+            c.args.place c.args.cap c.in-Some.number c.index_mut.result.now _ _
             (sym c.find-found.ensures.number ∙ c.in-Some.is) c.index_mut.ensures.value refl refl
             c.in_ok-push.ensures.items;
         order = h.order;
@@ -34,12 +33,7 @@ returns-in-Some-clause-registers g c =
 pub returns-clause-registers : goal.returns-clause-registers
 returns-clause-registers g c =
     let opened = c.in_ok-open.ensures.registers in
-    subst (λ answer. Registers g.P.Ord.cmp (record {
-      place = c.args.place;
-      subject = subject_of c.args.subject;
-      answer = answer;
-    } ∷ []) c.args.registry.now c.open.new.registry) c.cap-cap.ensures
-    (record {
+    record {
       asked = λ asks h. opened.asked asks (record { registered = h.registered; order = h.order });
       finds = opened.finds;
-    })
+    }

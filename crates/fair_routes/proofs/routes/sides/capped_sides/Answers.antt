@@ -2,7 +2,7 @@ use Rattle.std.proofs.Common.{◌≡◌, ◌<◌, ℕ, List, Some, None, vec_len
 use Rattle.std.proofs.Common.{ap, subst, ◌∙◌, arith}
 use Rattle.std.proofs.lemmas.Grind.{common_steps}
 use Rattle.std.proofs.lemmas.Bool.Decides.{nat_tests}
-use Rattle.fair_rates.specs.declared.bandwidth.sides.Side as declared
+use Rattle.fair_routes.specs.declared.routes.sides.LinkSide as declared
 use Rattle.fair_routes.proofs.Network.Sides.{AreMade, made_none, made_uncapped, made_unused, made_side, made_all, popped}
 use Rattle.fair_routes.proofs.routes.sides.capped_sides.Goals as goal
 
@@ -11,7 +11,7 @@ loop-flows-init c = record {
   few = omega (arith, c.requires);
   made = λ routes are.
       subst (λ (n : ℕ). AreMade n c.args.caps.now routes c.args.users.items c.new-sides.result.items) (sym c.requires)
-      (subst (λ (sides : List declared.Side). AreMade (length c.args.caps.now) c.args.caps.now routes c.args.users.items sides)
+      (subst (λ (sides : List declared.LinkSide). AreMade (length c.args.caps.now) c.args.caps.now routes c.args.users.items sides)
       (sym c.new-sides.ensures.items) (made_none c.args.caps.now routes c.args.users.items are));
 }
 
@@ -25,7 +25,7 @@ loop-flows-preserved-in-Continue-1 c =
     record {
       few = omega (arith, inside);
       made = λ routes are.
-          subst (λ (sides : List declared.Side). AreMade link c.args.caps.now routes users.items sides)
+          subst (λ (sides : List declared.LinkSide). AreMade link c.args.caps.now routes users.items sides)
           (sym c.in_ok-push.ensures.items)
           (made_side link c.args.caps.now routes users.items c.in-Some.flows c.loop-flows.sides.items inside
           (omega (arith, users.ok.0))

@@ -3,11 +3,10 @@ use Rattle.std.specs.declared.alloc.Global.{Global}
 use Rattle.std.specs.declared.vec.Vec.{Vec}
 use Rattle.std.proofs.lemmas.List.{length-map}
 use Rattle.fair_rates.specs.Fairness.Fair.{Side}
-use Rattle.fair_rates.specs.Sides.SideOf.{side_of}
 use Rattle.fair_rates.proofs.Filling.Frozen.{if_err}
 use Rattle.fair_routes.specs.Network.Weights.{weight_at, IsWeightRefusal, HaveLittleWeight}
 use Rattle.fair_routes.specs.Network.Rising.{AreFilledByWeight}
-use Rattle.fair_routes.specs.Network.Sides.{sides_over}
+use Rattle.fair_routes.specs.Network.Sides.{side_of, sides_over}
 use Rattle.fair_routes.proofs.Network.Allocation.{code_users}
 use Rattle.fair_routes.proofs.Network.LinkSides.{users_are_flows}
 use Rattle.fair_routes.proofs.Network.WeightedMaxMin.{max_min_by_weight}
@@ -28,7 +27,7 @@ check_sides-requires c =
     subst (λ n. All (λ (side : Side). All (λ user. user < n) side.users) (sides_over caps routes)) many
     (users_are_flows caps routes) in
     subst (λ ss. All (λ side. All (λ user. user < length weights) side.users.items) ss) (sym c.deref.ensures.value)
-    (code_users (length weights) (sides_over caps routes) c.in_ok-sides.sides.items c.in_ok-sides.ensures.sides among)
+    (code_users side_of (length weights) (sides_over caps routes) c.in_ok-sides.sides.items c.in_ok-sides.ensures.sides among)
 
 pub fill-requires-clause-users : goal.fill-requires-clause-users
 fill-requires-clause-users c =
@@ -41,7 +40,7 @@ fill-requires-clause-users c =
     subst (λ n. All (λ (side : Side). All (λ user. user < n) side.users) (sides_over caps routes)) many
     (users_are_flows caps routes) in
     subst (λ ss. All (λ side. All (λ user. user < length weights) side.users.items) ss) (sym c.deref-2.ensures.value)
-    (code_users (length weights) (sides_over caps routes) c.in_ok-sides.sides.items c.in_ok-sides.ensures.sides among)
+    (code_users side_of (length weights) (sides_over caps routes) c.in_ok-sides.sides.items c.in_ok-sides.ensures.sides among)
 
 pub rates-requires-clause-inside : goal.rates-requires-clause-inside
 rates-requires-clause-inside c = levels_inside _ _ c.in_ok-rising.rising c.in_ok-found.found c.in_ok-rising.ensures c.in_ok-found.ensures

@@ -3,7 +3,7 @@ use Rattle.std.proofs.lemmas.List.{take_all, get_or-map, length-map}
 use Rattle.std.proofs.lemmas.Bool.{cases_lt}
 use Rattle.std.proofs.lemmas.List.Elements.{All-push}
 use Rattle.fair_rates.specs.Fairness.Fair.{Side}
-use Rattle.fair_rates.specs.Sides.SideOf.{side_of}
+use Rattle.fair_routes.specs.Network.Sides.{side_of}
 use Rattle.fair_routes.specs.Network.Weights.{weight_at, HaveLittleWeight}
 use Rattle.fair_routes.proofs.Network.Users.{mapped_more}
 use Rattle.fair_routes.proofs.routes.weighted.check_sides.Goals as goal

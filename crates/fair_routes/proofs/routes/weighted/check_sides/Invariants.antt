@@ -1,5 +1,5 @@
 use Rattle.std.proofs.Common.{map, take}
-use Rattle.fair_rates.specs.Sides.SideOf.{side_of}
+use Rattle.fair_routes.specs.Network.Sides.{side_of}
 use Rattle.fair_routes.specs.Network.Weights.{HaveLittleWeight}
 use Rattle.fair_routes.proofs.routes.weighted.check_sides.Given as goal
 

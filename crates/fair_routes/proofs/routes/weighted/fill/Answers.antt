@@ -8,8 +8,8 @@ use Rattle.std.proofs.lemmas.List.{get_or-map, get_or-replicate, get_or_past, le
 use Rattle.std.proofs.lemmas.List.Elements.{All-nil, All-map}
 use Rattle.fair_rates.specs.Fairness.Exists.{product}
 use Rattle.fair_rates.specs.Fairness.Fair.{Side}
-use Rattle.fair_rates.specs.Sides.SideOf.{side_of}
-use Rattle.fair_rates.specs.declared.bandwidth.sides.Side as declared
+use Rattle.fair_routes.specs.Network.Sides.{side_of}
+use Rattle.fair_routes.specs.declared.routes.sides.LinkSide as declared
 use Rattle.fair_rates.proofs.Filling.Frozen.{match_some, match_none}
 use Rattle.fair_rates.proofs.Filling.Rounds.{start}
 use Rattle.fair_rates.proofs.Filling.States.{IsFilledTo}
@@ -56,16 +56,16 @@ freeze-requires c =
     c.in_ok-least.field-0 c.in_ok-least.ensures room c.in-Some.is in
     let least : HasLeastRoom weights rising.scale (frozen_in parts) sides room =
     subst (λ xs. HasLeastRoom weights rising.scale (frozen_in xs) sides room) c.deref.ensures.value found in
-    let item : declared.Side = c.index-sides-least.result in
+    let item : declared.LinkSide = c.index-sides-least.result in
     let inside : room.place < length code = omega (arith, least.inside, length-map code side_of) in
     let is_item : item ≡ get_or code room.place item = c.index-sides-least.is in
     let mid = c.grow.new.self.parts.items in
     let is_mid : mid ≡ map (option_map (λ n. n * c.in_ok-next.next.factor)) parts = c.in_ok-grow.ensures.parts in
     let of_mid : c.deref_mut.result.now ≡ mid = c.deref_mut.ensures.value in
     let of_users : c.deref-in-Some.result.now ≡ item.users.items =
-    c.deref-in-Some.ensures.value ∙ sym (ap (λ (s : declared.Side). s.users.items) is_item) in
+    c.deref-in-Some.ensures.value ∙ sym (ap (λ (s : declared.LinkSide). s.users.items) is_item) in
     let users : All (λ u. u < length weights) item.users.items =
-    subst (λ (s : declared.Side). All (λ u. u < length weights) s.users.items) (sym is_item)
+    subst (λ (s : declared.LinkSide). All (λ u. u < length weights) s.users.items) (sym is_item)
     (c.requires.users room.place item inside) in
     let many : length c.deref_mut.result.now ≡ length weights =
     ap length (of_mid ∙ is_mid) ∙ length-map parts (option_map (λ n. n * c.in_ok-next.next.factor)) ∙ inv.one_each in
@@ -87,14 +87,14 @@ loop-rising-smaller c =
     c.in_ok-least.field-0 c.in_ok-least.ensures room c.in-Some.is in
     let least : HasLeastRoom weights rising.scale (frozen_in parts) sides room =
     subst (λ xs. HasLeastRoom weights rising.scale (frozen_in xs) sides room) c.deref.ensures.value found in
-    let item : declared.Side = c.index-sides-least.result in
+    let item : declared.LinkSide = c.index-sides-least.result in
     let inside : room.place < length code = omega (arith, least.inside, length-map code side_of) in
     let is_item : item ≡ get_or code room.place item = c.index-sides-least.is in
     let mid = c.grow.new.self.parts.items in
     let is_mid : mid ≡ map (option_map (λ n. n * c.in_ok-next.next.factor)) parts = c.in_ok-grow.ensures.parts in
     let of_mid : c.deref_mut.result.now ≡ mid = c.deref_mut.ensures.value in
     let of_users : c.deref-in-Some.result.now ≡ item.users.items =
-    c.deref-in-Some.ensures.value ∙ sym (ap (λ (s : declared.Side). s.users.items) is_item) in
+    c.deref-in-Some.ensures.value ∙ sym (ap (λ (s : declared.LinkSide). s.users.items) is_item) in
     let share = c.in_ok-next.next.parts in
     let factor = c.in_ok-next.next.factor in
     let after = c.freeze.new.parts in
@@ -126,14 +126,14 @@ loop-rising-preserved c =
     c.in_ok-least.field-0 c.in_ok-least.ensures room c.in-Some.is in
     let least : HasLeastRoom weights rising.scale (frozen_in parts) sides room =
     subst (λ xs. HasLeastRoom weights rising.scale (frozen_in xs) sides room) c.deref.ensures.value found in
-    let item : declared.Side = c.index-sides-least.result in
+    let item : declared.LinkSide = c.index-sides-least.result in
     let inside : room.place < length code = omega (arith, least.inside, length-map code side_of) in
     let is_item : item ≡ get_or code room.place item = c.index-sides-least.is in
     let mid = c.grow.new.self.parts.items in
     let is_mid : mid ≡ map (option_map (λ n. n * c.in_ok-next.next.factor)) parts = c.in_ok-grow.ensures.parts in
     let of_mid : c.deref_mut.result.now ≡ mid = c.deref_mut.ensures.value in
     let of_users : c.deref-in-Some.result.now ≡ item.users.items =
-    c.deref-in-Some.ensures.value ∙ sym (ap (λ (s : declared.Side). s.users.items) is_item) in
+    c.deref-in-Some.ensures.value ∙ sym (ap (λ (s : declared.LinkSide). s.users.items) is_item) in
     let share = c.in_ok-next.next.parts in
     let factor = c.in_ok-next.next.factor in
     let after = c.freeze.new.parts in

@@ -2,7 +2,7 @@ use Rattle.std.proofs.Common.{◌≡◌, ℕ, ◌<◌, All, length, map}
 use Rattle.std.specs.Prelude.{count_by}
 use Rattle.std.specs.Option.{is_none}
 use Rattle.fair_rates.specs.Fairness.Exists.{product}
-use Rattle.fair_rates.specs.Sides.SideOf.{side_of}
+use Rattle.fair_routes.specs.Network.Sides.{side_of}
 use Rattle.fair_rates.proofs.Filling.States.{IsFilledTo}
 use Rattle.fair_routes.specs.Network.Rising.{frozen_in}
 use Rattle.fair_routes.specs.Network.Weights.{weighted}

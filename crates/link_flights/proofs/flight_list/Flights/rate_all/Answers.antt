@@ -1,4 +1,4 @@
-use Rattle.std.proofs.Common.{rules, ◌≡◌, ◌≤◌, ◌*◌, IfSome, All, sym, ap, ◌∙◌, subst, arith, map}
+use Rattle.std.proofs.Common.{rules, ◌≡◌, ◌≤◌, ◌*◌, IfSome, All, [], sym, ap, ap₂, ◌∙◌, subst, arith, map}
 use Rattle.std.specs.Prelude.{◌≢◌}
 use Rattle.std.proofs.lemmas.Bool.{true≢false}
 use Rattle.std.specs.List.{AllZip}
@@ -6,29 +6,35 @@ use Rattle.fair_rates.specs.Fairness.Exists.{product}
 use Rattle.fair_rates.specs.Filling.FairParts.{parts_of_level}
 use Rattle.link_simulation.specs.Simulation.World.{last_moment}
 use Rattle.link_pairs.specs.Pairs.CapsOf.{caps_of}
+use Rattle.link_pairs.proofs.Pairs.LookedUp.{looked_up}
 use Rattle.link_flights.specs.Flights.Flight.{UnitFlight, flight_at, flights_at, AreTimed}
 use Rattle.link_flights.specs.Flights.InFlight.{in_units}
 use Rattle.link_flights.specs.Flights.Rated.{rates_found, rates_of_levels, rerated, IsRatedFrom}
 use Rattle.link_flights.proofs.Flights.Components.{found_each, whole_rerated}
-use Rattle.link_flights.proofs.Flights.ComponentFlows.{is_of_whole}
+use Rattle.link_flights.proofs.Flights.ComponentFlows.{closed_whole}
 use Rattle.link_flights.proofs.Flights.RatesGiven.{whole_given, left_given}
 use Rattle.link_flights.proofs.Flights.Rerating.{first_finish_is}
 use Rattle.link_flights.proofs.Flights.Settled.{all_have_got}
 use Rattle.link_flights.proofs.flight_list.Flights.rate_all.Goals as goal
 
-pub set_rates-requires-clause-near : goal.set_rates-requires-clause-near
-set_rates-requires-clause-near g c part = absurd (true≢false (sym c.whole-all.ensures.whole ∙ part))
+pub places_rated-requires : goal.places_rated-requires
+places_rated-requires g c = record {
+  near = λ part. absurd (true≢false (sym c.whole-all.ensures.whole ∙ part));
+  suited = closed_whole g.P.Ord.cmp c.whole-all.result c.whole-all.ensures.whole [] (in_units c.args.self.now);
+}
 
-pub set_rates-requires-clause-kept : goal.set_rates-requires-clause-kept
-set_rates-requires-clause-kept g c i f there =
-    sym (is_of_whole g.P.Ord.cmp c.whole-all.result c.whole-all.ensures.whole c.whole-all.ensures.level
-    (flight_at 0 f))
+pub rates_at-requires : goal.rates_at-requires
+rates_at-requires g c = record {
+  places = c.deref.ensures.value ∙ c.in_ok-places.ensures.places;
+  suited = closed_whole g.P.Ord.cmp c.whole-all.result c.whole-all.ensures.whole [] (in_units c.args.self.now);
+  one_each = c.requires.one_each;
+}
 
 pub set_rates-requires-clause-left : goal.set_rates-requires-clause-left
 set_rates-requires-clause-left g c =
     let old = c.args.self.now in
     subst (λ growth. All (λ (u : UnitFlight g.row.P.Denot). u.left * product growth ≢ 0) (in_units old))
-    (sym c.deref-3.ensures.value)
+    (sym c.deref-6.ensures.value)
     (left_given g.P.Ord.cmp (caps_of g.P.Ord.cmp c.args.peers.now.entries c.args.pairs.now.entries) c.whole-all.result
     c.in_ok-rates.rates old.scale (in_units old) c.in_ok-rates.ensures.fair c.requires.left)
 
@@ -42,14 +48,14 @@ settle-requires g c =
     let fair = c.in_ok-rates.ensures.fair in
     let mid = c.set_rates.new.self in
     let times = product rates.growth.items in
-    let same : rates_of_levels c.deref.result.now c.deref-2.result.now ≡ rates_found rates =
-    ap (λ ls. rates_of_levels ls c.deref-2.result.now) c.deref.ensures.value
-    ∙ ap (rates_of_levels c.in_ok-levels.levels.items) c.deref-2.ensures.value
+    let same : rates_of_levels c.deref-4.result.now c.deref-5.result.now ≡ rates_found rates =
+    ap (λ ls. rates_of_levels ls c.deref-5.result.now) c.deref-4.ensures.value
+    ∙ ap (rates_of_levels c.in_ok-levels.levels.items) c.deref-5.ensures.value
     ∙ ap (λ ns. map (parts_of_level ns) rates.level_of.items) c.in_ok-levels.ensures.same in
     let given : in_units mid ≡ rerated cmp all old.at times (rates_found rates) (in_units old) =
     c.in_ok-set_rates.ensures.rerated
-    ∙ ap (λ ns. rerated cmp all old.at (product ns) (rates_of_levels c.deref.result.now c.deref-2.result.now)
-    (in_units old)) c.deref-3.ensures.value
+    ∙ ap (λ ns. rerated cmp all old.at (product ns) (rates_of_levels c.deref-4.result.now c.deref-5.result.now)
+    (in_units old)) c.deref-6.ensures.value
     ∙ ap (λ rs. rerated cmp all old.at times rs (in_units old)) same in
     let each : AllZip (IsRatedFrom old.at times) (in_units old) (in_units mid) =
     subst (AllZip (IsRatedFrom old.at times) (in_units old)) (sym given)
@@ -67,21 +73,24 @@ returns-clause-rated g c =
     let fair = c.in_ok-rates.ensures.fair in
     let mid = c.set_rates.new.self in
     let times = product rates.growth.items in
-    let same : rates_of_levels c.deref.result.now c.deref-2.result.now ≡ rates_found rates =
-    ap (λ ls. rates_of_levels ls c.deref-2.result.now) c.deref.ensures.value
-    ∙ ap (rates_of_levels c.in_ok-levels.levels.items) c.deref-2.ensures.value
+    let same : rates_of_levels c.deref-4.result.now c.deref-5.result.now ≡ rates_found rates =
+    ap (λ ls. rates_of_levels ls c.deref-5.result.now) c.deref-4.ensures.value
+    ∙ ap (rates_of_levels c.in_ok-levels.levels.items) c.deref-5.ensures.value
     ∙ ap (λ ns. map (parts_of_level ns) rates.level_of.items) c.in_ok-levels.ensures.same in
     let given : in_units mid ≡ rerated cmp all old.at times (rates_found rates) (in_units old) =
     c.in_ok-set_rates.ensures.rerated
-    ∙ ap (λ ns. rerated cmp all old.at (product ns) (rates_of_levels c.deref.result.now c.deref-2.result.now)
-    (in_units old)) c.deref-3.ensures.value
+    ∙ ap (λ ns. rerated cmp all old.at (product ns) (rates_of_levels c.deref-4.result.now c.deref-5.result.now)
+    (in_units old)) c.deref-6.ensures.value
     ∙ ap (λ rs. rerated cmp all old.at times rs (in_units old)) same in
     let e = c.settle.ensures in
     let last = c.settle.new.self in
     let units : in_units last ≡ in_units mid =
     ap (λ n. flights_at n last.list.items) e.at ∙ ap (flights_at mid.at) e.list in
     let h =
-    whole_given cmp caps all rates old last fair (units ∙ given) e.scale (e.at ∙ c.in_ok-set_rates.ensures.at)
+    whole_given cmp caps all rates old last g.met.P.Ord.total
+    (looked_up cmp g.met.P.Ord.total c.args.peers.now.entries c.args.pairs.now.entries) old.scaled fair (units ∙ given)
+    (e.scale ∙ c.in_ok-grow.ensures.grown ∙ ap₂ (λ n ns. n * product ns) c.in_ok-scale.ensures.value c.deref-2.ensures.value)
+    (e.at ∙ c.in_ok-set_rates.ensures.at)
     (subst AreTimed (sym e.list) c.in_ok-set_rates.ensures.timed) c.whole-all.ensures.whole c.whole-all.ensures.level in
     record {
       times = h.times;
@@ -102,21 +111,24 @@ returns-clause-finish g c =
     let fair = c.in_ok-rates.ensures.fair in
     let mid = c.set_rates.new.self in
     let times = product rates.growth.items in
-    let same : rates_of_levels c.deref.result.now c.deref-2.result.now ≡ rates_found rates =
-    ap (λ ls. rates_of_levels ls c.deref-2.result.now) c.deref.ensures.value
-    ∙ ap (rates_of_levels c.in_ok-levels.levels.items) c.deref-2.ensures.value
+    let same : rates_of_levels c.deref-4.result.now c.deref-5.result.now ≡ rates_found rates =
+    ap (λ ls. rates_of_levels ls c.deref-5.result.now) c.deref-4.ensures.value
+    ∙ ap (rates_of_levels c.in_ok-levels.levels.items) c.deref-5.ensures.value
     ∙ ap (λ ns. map (parts_of_level ns) rates.level_of.items) c.in_ok-levels.ensures.same in
     let given : in_units mid ≡ rerated cmp all old.at times (rates_found rates) (in_units old) =
     c.in_ok-set_rates.ensures.rerated
-    ∙ ap (λ ns. rerated cmp all old.at (product ns) (rates_of_levels c.deref.result.now c.deref-2.result.now)
-    (in_units old)) c.deref-3.ensures.value
+    ∙ ap (λ ns. rerated cmp all old.at (product ns) (rates_of_levels c.deref-4.result.now c.deref-5.result.now)
+    (in_units old)) c.deref-6.ensures.value
     ∙ ap (λ rs. rerated cmp all old.at times rs (in_units old)) same in
     let e = c.settle.ensures in
     let last = c.settle.new.self in
     let units : in_units last ≡ in_units mid =
     ap (λ n. flights_at n last.list.items) e.at ∙ ap (flights_at mid.at) e.list in
     let h =
-    whole_given cmp caps all rates old last fair (units ∙ given) e.scale (e.at ∙ c.in_ok-set_rates.ensures.at)
+    whole_given cmp caps all rates old last g.met.P.Ord.total
+    (looked_up cmp g.met.P.Ord.total c.args.peers.now.entries c.args.pairs.now.entries) old.scaled fair (units ∙ given)
+    (e.scale ∙ c.in_ok-grow.ensures.grown ∙ ap₂ (λ n ns. n * product ns) c.in_ok-scale.ensures.value c.deref-2.ensures.value)
+    (e.at ∙ c.in_ok-set_rates.ensures.at)
     (subst AreTimed (sym e.list) c.in_ok-set_rates.ensures.timed) c.whole-all.ensures.whole c.whole-all.ensures.level in
     let fits : IfSome c.settle.result (λ t. t ≤ last_moment) = search rules in
     let here : last.at ≤ last_moment = omega (arith, e.at, c.in_ok-set_rates.ensures.at, c.requires.moment) in

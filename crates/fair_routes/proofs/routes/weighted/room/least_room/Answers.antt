@@ -1,8 +1,8 @@
 use Rattle.std.proofs.Common.{◌≡◌, ℕ, ◌<◌, ◌^◌, Option, length, map, sum_by, take, ◌∙◌, subst, sym, arith}
 use Rattle.std.proofs.lemmas.List.{take_all, length-map, length-take-le}
 use Rattle.fair_rates.specs.Fairness.Fair.{Side}
-use Rattle.fair_rates.specs.Sides.SideOf.{side_of}
-use Rattle.fair_rates.specs.declared.bandwidth.sides.Side as declared
+use Rattle.fair_routes.specs.Network.Sides.{side_of}
+use Rattle.fair_routes.specs.declared.routes.sides.LinkSide as declared
 use Rattle.fair_rates.proofs.Fairness.MappedSides.{all_unmapped}
 use Rattle.fair_routes.specs.Network.Rising.{frozen_in}
 use Rattle.fair_routes.specs.Network.Weights.{weight_at}
@@ -16,7 +16,7 @@ room_on-requires-clause-little c =
     let sides = c.args.sides.now in
     let i = c.loop-place.place in
     let side = c.index-sides-place.result in
-    subst (λ (s : declared.Side). sum_by weigh s.users.items < 2 ^ 64) (sym c.index-sides-place.is)
+    subst (λ (s : declared.LinkSide). sum_by weigh s.users.items < 2 ^ 64) (sym c.index-sides-place.is)
     (all_unmapped (λ (s : Side). sum_by weigh s.users < 2 ^ 64) side_of sides c.requires.little i side
     (omega (arith, c.loop-place-test.true)))
 

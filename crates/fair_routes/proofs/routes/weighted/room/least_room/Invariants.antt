@@ -1,6 +1,6 @@
 use Rattle.std.proofs.Common.{map, take}
 use Rattle.std.specs.Prelude.{MatchOption}
-use Rattle.fair_rates.specs.Sides.SideOf.{side_of}
+use Rattle.fair_routes.specs.Network.Sides.{side_of}
 use Rattle.fair_routes.specs.Network.Rising.{frozen_in, AreAllHeld, HasLeastRoom}
 use Rattle.fair_routes.proofs.routes.weighted.room.least_room.Given as goal
 

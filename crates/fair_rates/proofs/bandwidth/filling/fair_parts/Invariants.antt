@@ -1,0 +1,19 @@
+use Rattle.std.proofs.Common.{◌≡◌, ◌+◌, ◌<◌, ◌≤◌, All, length, map}
+use Rattle.std.specs.BinaryHeap.{heap_items, heap_len}
+use Rattle.fair_rates.specs.Fairness.Exists.{product}
+use Rattle.fair_rates.specs.Sides.SideOf.{side_of}
+use Rattle.fair_rates.proofs.Filling.Steps.{IsCourse}
+use Rattle.fair_rates.proofs.bandwidth.filling.fair_parts.Given as goal
+
+abbrev pub invariant-loop-found : goal.invariant-loop-found
+invariant-loop-found l = record {
+  course : IsCourse (map side_of l.fn.sides.items) (product l.found.growth.items) l.found.levels.items
+      l.found.level_of.items (heap_items l.queue);
+  grown : l.found.scale ≡ product l.found.growth.items;
+  factors : All (λ factor. 0 < factor) l.found.growth.items;
+  one_each : length l.found.level_of.items ≡ l.count;
+  few : length l.found.levels.items + heap_len l.queue ≤ length l.fn.sides.items;
+}
+
+abbrev pub decreases-loop-found : goal.decreases-loop-found
+decreases-loop-found l = heap_len l.queue

@@ -1,0 +1,62 @@
+use Rattle.std.proofs.Common.{◌≡◌, ◌<◌, List, All, map, length, sym, ap, ◌∙◌, subst, arith}
+use Rattle.std.proofs.Common.{get_or}
+use Rattle.std.specs.Prelude.{slice_index}
+use Rattle.std.proofs.lemmas.Option.{slice_get-get_or}
+use Rattle.fair_rates.specs.Fairness.UnderCaps.{limits}
+use Rattle.fair_rates.proofs.Lists.Members.{contains_from_in, in_map, in_get}
+use Rattle.fair_rates.proofs.Lists.Places.{places_below}
+use Rattle.fair_rates.specs.Sides.SideOf.{side_of}
+use Rattle.link_pairs.specs.Pairs.CapsOf.{caps_of}
+use Rattle.link_pairs.proofs.Pairs.LookedUp.{looked_up}
+use Rattle.link_flights.specs.Flights.InFlight.{in_units}
+use Rattle.link_flights.specs.Flights.Sides.{left_caps, flows_of, flow_in_flight}
+use Rattle.fair_rates.proofs.Fairness.ByMembers.{fair_of_members}
+use Rattle.fair_rates.specs.Filling.FairParts.{flow_parts}
+use Rattle.std.proofs.lemmas.List.{length-map}
+use Rattle.link_flights.specs.Flights.Components.{those_of}
+use Rattle.link_flights.specs.Flights.Rated.{rates_found}
+use Rattle.link_flights.proofs.Flights.AllSides.{of_left, parts_found}
+use Rattle.link_flights.proofs.Flights.Components.{fair_alike}
+use Rattle.link_flights.proofs.Flights.Sides.{as_many}
+use Rattle.link_flights.proofs.flight_list.Flights.rates_at.Goals as goal
+
+pub fair_parts-requires : goal.fair_parts-requires
+fair_parts-requires g c = record {
+  users = λ k d low i e within.
+      let cmp = g.P.Ord.cmp in
+      let self = c.args.self.now in
+      let component = c.args.component.now in
+      let sides = c.in_ok-sides.sides.items in
+      let side = get_or sides k d in
+      let flows = flows_of cmp component (in_units self) in
+      let d = (c.in_ok-sides.ensures.sides (side_of side)).0
+      (contains_from_in (map side_of sides) (side_of side) (in_map side_of sides side (in_get sides k side (slice_get-get_or sides k d low)))) in
+      let below : get_or side.users.items i e < length flows =
+      subst (All (λ user. user < length flows)) (sym d.users)
+      (places_below (limits cmp d.subject) flows (length flows) (omega arith)) i e within in
+      omega (arith, below, as_many cmp component self.list.items self.at, ap length c.requires.places);
+}
+
+pub returns-clause-fair : goal.returns-clause-fair
+returns-clause-fair g c =
+    let cmp = g.P.Ord.cmp in
+    let order = g.met.P.Ord.total in
+    let self = c.args.self.now in
+    let component = c.args.component.now in
+    let us = in_units self in
+    let peers = c.args.peers.now.entries in
+    let pairs = c.args.pairs.now.entries in
+    let caps = caps_of cmp peers pairs in
+    let of = of_left cmp order caps (looked_up cmp order peers pairs) self.scale component us in
+    let found = c.in_ok-fair_parts.field-0 in
+    let filled = c.in_ok-fair_parts.ensures in
+    record {
+      grown = filled.grown;
+      one_each = filled.one_each ∙ ap length c.requires.places ∙ sym (as_many cmp component self.list.items self.at)
+          ∙ length-map (those_of cmp component us) (flow_in_flight cmp);
+      fair = fair_of_members cmp order (left_caps cmp caps self.scale component us) of (flows_of cmp component us)
+          (map side_of c.in_ok-sides.sides.items) c.in_ok-sides.ensures.sides found.scale (slice_index (rates_found found))
+          (fair_alike (flow_parts found.levels.items found.level_of.items) (slice_index (rates_found found))
+          (parts_found found.levels.items found.level_of.items) (map side_of c.in_ok-sides.sides.items) found.scale
+          filled.fair);
+    }

@@ -1,0 +1,187 @@
+use Rattle.std.proofs.Common.{◌≡◌, ◌<◌, ◌+◌, ◌-◌, ◌*◌, true, false, Bool, Some, None, List, [], get_or, slice_get, length, IfOk}
+use Rattle.std.proofs.Common.{refl, sym, ap, ◌∙◌, subst, option_map, arith, Contains}
+use Rattle.std.proofs.lemmas.Bool.{true≢false}
+use Rattle.std.proofs.lemmas.Option.{get_or_from_slice_get, slice_get_within, same_Some}
+use Rattle.fair_rates.specs.Fairness.Fair.{Side}
+use Rattle.fair_rates.specs.Fairness.UnderCaps.{cap_of}
+use Rattle.fair_rates.specs.Sides.SideOf.{side_of}
+use Rattle.link_pairs.specs.Pairs.CapsOf.{caps_of}
+use Rattle.link_flights.specs.declared.flight.Flight.{Flight}
+use Rattle.link_flights.specs.Flights.Components.{is_of}
+use Rattle.link_flights.specs.Flights.Flight.{flight_at, flights_at}
+use Rattle.link_flights.specs.Flights.Sides.{flow_sent, uses_end, end_subject, kept_load}
+use Rattle.link_flights.specs.Flights.InFlight.{IsNextPlace}
+use Rattle.link_flights.specs.Flights.Table.{share}
+use Rattle.link_flights.proofs.Flights.AllSides.{cap_left}
+use Rattle.link_flights.proofs.Flights.Places.{one_there}
+use Rattle.link_flights.proofs.Flights.Sides.{HasCounted, what_is_listed, counting_starts, next_within, next_shares, counted_here}
+use Rattle.link_flights.proofs.Flights.Sides.{counts_on, counted_all, fewer_to_count, near_one}
+use Rattle.link_flights.proofs.flight_list.Flights.side_at.Goals as goal
+
+pub at-requires : goal.at-requires
+at-requires g c =
+    let cmp = g.P.Ord.cmp in
+    let self = c.args.self.now in
+    let x = what_is_listed (λ (f : Flight g.row.P.Denot). is_of cmp c.args.component.now (flight_at 0 f)) self.list.items c.args.at
+    (subst (λ ps. Contains ps c.args.at) c.requires.places c.requires.at) in
+    slice_get_within self.list.items c.args.at x.0 x.1
+
+pub returns-then-not-uses-clause-none : goal.returns-then-not-uses-clause-none
+returns-then-not-uses-clause-none g c none one pairs there uses =
+    let cmp = g.P.Ord.cmp in
+    let self = c.args.self.now in
+    let is : c.at.result.now ≡ one =
+    c.at.ensures ∙ get_or_from_slice_get self.list.items c.args.at one c.at.result.now there in
+    absurd (true≢false (sym uses ∙ sym (ap (uses_end cmp c.args.end) (c.deref.ensures ∙ ap (λ (f : Flight _). f.message.value) is))
+    ∙ sym c.uses.ensures ∙ c.if-not-uses.true))
+
+pub returns-in_default-clause-none : goal.returns-in_default-clause-none
+returns-in_default-clause-none g c none one pairs there uses =
+    let cmp = g.P.Ord.cmp in
+    let self = c.args.self.now in
+    let is : c.at.result.now ≡ one =
+    c.at.ensures ∙ get_or_from_slice_get self.list.items c.args.at one c.at.result.now there in
+    ap (λ m. cap_of (caps_of cmp c.args.peers.now.entries pairs) (end_subject c.args.end (flow_sent cmp m)))
+    (sym (c.deref-2.ensures ∙ ap (λ (f : Flight _). f.message.value) is))
+    ∙ sym (c.cap_at.ensures pairs) ∙ c.in_default.is
+
+pub loop-next-init : goal.loop-next-init
+loop-next-init g c one there =
+    let cmp = g.P.Ord.cmp in
+    let self = c.args.self.now in
+    let all = c.in_ok-product.field-0 in
+    let is : c.at.result.now ≡ one =
+    c.at.ensures ∙ get_or_from_slice_get self.list.items c.args.at one c.at.result.now there in
+    let m : c.deref-3.result.now ≡ one.message.value =
+    c.deref-3.ensures ∙ ap (λ (f : Flight _). f.message.value) is in
+    subst (λ users. HasCounted cmp c.args.end one.message.value c.args.component.now self.at self.list.items all
+    c.first_at-next.result (record { cap = all; users = users })) (sym c.new.ensures.items)
+    (counting_starts cmp c.args.end one.message.value c.args.component.now self.at self.list.items all c.first_at-next.result
+    (subst (λ n. IsNextPlace (λ other. share cmp c.args.end n other.message.value) self.list.items 0 c.first_at-next.result) m
+    c.first_at-next.ensures))
+
+pub count_one-requires-clause-within : goal.count_one-requires-clause-within
+count_one-requires-clause-within g c =
+    let cmp = g.P.Ord.cmp in
+    let self = c.args.self.now in
+    let component = c.args.component.now in
+    let end = c.args.end in
+    let x = what_is_listed (λ (f : Flight g.row.P.Denot). is_of cmp component (flight_at 0 f)) self.list.items c.args.at
+    (subst (λ ps. Contains ps c.args.at) c.requires.places c.requires.at) in
+    let m = x.0.message.value in
+    let all = c.in_ok-product.field-0 in
+    let next = c.loop-next.next in
+    let side = side_of c.loop-next.side in
+    let h = c.loop-next.invariant x.0 x.1 in
+    next_within cmp end m component self.at self.list.items all next side h c.in-Some-next.at c.in-Some-next.is
+
+pub count_one-requires-clause-near : goal.count_one-requires-clause-near
+count_one-requires-clause-near g c other found uses_too =
+    let cmp = g.P.Ord.cmp in
+    let self = c.args.self.now in
+    let component = c.args.component.now in
+    let end = c.args.end in
+    let x = what_is_listed (λ (f : Flight g.row.P.Denot). is_of cmp component (flight_at 0 f)) self.list.items c.args.at
+    (subst (λ ps. Contains ps c.args.at) c.requires.places c.requires.at) in
+    let m = x.0.message.value in
+    let all = c.in_ok-product.field-0 in
+    let next = c.loop-next.next in
+    let side = side_of c.loop-next.side in
+    let h = c.loop-next.invariant x.0 x.1 in
+    let is : c.at.result.now ≡ x.0 =
+    c.at.ensures ∙ get_or_from_slice_get self.list.items c.args.at x.0 c.at.result.now x.1 in
+    let uses : uses_end cmp end m ≡ true =
+    sym (c.uses.ensures ∙ ap (uses_end cmp end) (c.deref.ensures ∙ ap (λ (f : Flight _). f.message.value) is))
+    ∙ c.if-not-uses.false in
+    near_one cmp g.met.P.Ord.total component self.at self.list.items c.requires.suited end c.args.at x.0 x.1 x.2 uses other
+    uses_too
+    (next_shares cmp end m component self.at self.list.items all next side h c.in-Some-next.at c.in-Some-next.is other found)
+
+pub next_at-next-requires : goal.next_at-next-requires
+next_at-next-requires g c =
+    let cmp = g.P.Ord.cmp in
+    let self = c.args.self.now in
+    let component = c.args.component.now in
+    let end = c.args.end in
+    let x = what_is_listed (λ (f : Flight g.row.P.Denot). is_of cmp component (flight_at 0 f)) self.list.items c.args.at
+    (subst (λ ps. Contains ps c.args.at) c.requires.places c.requires.at) in
+    let m = x.0.message.value in
+    let all = c.in_ok-product.field-0 in
+    let next = c.loop-next.next in
+    let side = side_of c.loop-next.side in
+    let h = c.loop-next.invariant x.0 x.1 in
+    next_within cmp end m component self.at self.list.items all next side h c.in-Some-next.at c.in-Some-next.is
+
+pub loop-next-smaller : goal.loop-next-smaller
+loop-next-smaller g c =
+    let cmp = g.P.Ord.cmp in
+    let self = c.args.self.now in
+    let component = c.args.component.now in
+    let end = c.args.end in
+    let x = what_is_listed (λ (f : Flight g.row.P.Denot). is_of cmp component (flight_at 0 f)) self.list.items c.args.at
+    (subst (λ ps. Contains ps c.args.at) c.requires.places c.requires.at) in
+    let m = x.0.message.value in
+    let all = c.in_ok-product.field-0 in
+    let next = c.loop-next.next in
+    let side = side_of c.loop-next.side in
+    let h = c.loop-next.invariant x.0 x.1 in
+    fewer_to_count cmp end m component self.at self.list.items all next side h c.in-Some-next.at c.in-Some-next.is
+    c.next_at-next.result c.next_at-next.ensures
+
+pub loop-next-preserved : goal.loop-next-preserved
+loop-next-preserved g c one there =
+    let cmp = g.P.Ord.cmp in
+    let self = c.args.self.now in
+    let component = c.args.component.now in
+    let end = c.args.end in
+    let m = one.message.value in
+    let all = c.in_ok-product.field-0 in
+    let next = c.loop-next.next in
+    let side = side_of c.loop-next.side in
+    let h = c.loop-next.invariant one there in
+    let at = c.in-Some-next.at in
+    let other = one_there self.list.items at
+    (next_within cmp end m component self.at self.list.items all next side h at c.in-Some-next.is) in
+    counts_on cmp end m component self.at self.list.items all next side h g.met.P.Ord.total at c.in-Some-next.is
+    c.next_at-next.result c.next_at-next.ensures (side_of c.count_one.new.side)
+    (c.in_ok-count_one.ensures.counted m other.0 all other.1
+    (next_shares cmp end m component self.at self.list.items all next side h at c.in-Some-next.is other.0 other.1)
+    (counted_here cmp end m component self.at self.list.items all next side h at c.in-Some-next.is))
+
+pub returns-clause-side : goal.returns-clause-side
+returns-clause-side g c one pairs there =
+    let cmp = g.P.Ord.cmp in
+    let self = c.args.self.now in
+    let component = c.args.component.now in
+    let end = c.args.end in
+    let m = one.message.value in
+    let all = c.in_ok-product.field-0 in
+    let s = end_subject end (flow_sent cmp m) in
+    let side = side_of c.loop-next.side in
+    let us = flights_at self.at self.list.items in
+    let caps = caps_of cmp c.args.peers.now.entries pairs in
+    let is : c.at.result.now ≡ one =
+    c.at.ensures ∙ get_or_from_slice_get self.list.items c.args.at one c.at.result.now there in
+    let has : cap_of caps s ≡ Some c.in-Some.cap =
+    ap (λ m. cap_of caps (end_subject end (flow_sent cmp m)))
+    (sym (c.deref-2.ensures ∙ ap (λ (f : Flight _). f.message.value) is))
+    ∙ sym (c.cap_at.ensures pairs) ∙ c.in-Some.is in
+    let counted =
+    counted_all cmp end m component self.at self.list.items all c.loop-next.next side (c.loop-next.invariant one there)
+    c.in_default-next.is in
+    let left : c.in-Some.cap * self.scale - kept_load cmp component us s ≡ side.cap =
+    omega (arith, counted.0, c.in_ok-product.ensures.value) in
+    record {
+      capped = cap_left cmp caps self.scale component us s
+          ∙ ap (option_map (λ cap. cap * self.scale - kept_load cmp component us s)) has ∙ ap Some left;
+      users = counted.1;
+    }
+
+pub returns-clause-uses : goal.returns-clause-uses
+returns-clause-uses g c one there =
+    let cmp = g.P.Ord.cmp in
+    let self = c.args.self.now in
+    let is : c.at.result.now ≡ one =
+    c.at.ensures ∙ get_or_from_slice_get self.list.items c.args.at one c.at.result.now there in
+    sym (c.uses.ensures ∙ ap (uses_end cmp c.args.end) (c.deref.ensures ∙ ap (λ (f : Flight _). f.message.value) is))
+    ∙ c.if-not-uses.false

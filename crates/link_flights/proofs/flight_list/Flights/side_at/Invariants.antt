@@ -1,0 +1,14 @@
+use Rattle.std.proofs.Common.{◌≡◌, Some, slice_get}
+use Rattle.fair_rates.specs.Sides.SideOf.{side_of}
+use Rattle.link_flights.specs.declared.flight.Flight.{Flight}
+use Rattle.link_flights.proofs.Flights.Search.{behind}
+use Rattle.link_flights.proofs.Flights.Sides.{HasCounted}
+use Rattle.link_flights.proofs.flight_list.Flights.side_at.Given as goal
+
+abbrev pub invariant-loop-next : goal.invariant-loop-next
+invariant-loop-next g l = (one : Flight g.row.P.Denot) → slice_get l.self.list.items l.at ≡ Some one
+    → HasCounted g.P.Ord.cmp l.end one.message.value l.component l.self.at l.self.list.items l.initial.side.cap l.next
+    (side_of l.side)
+
+abbrev pub decreases-loop-next : goal.decreases-loop-next
+decreases-loop-next g l = behind l.self.list.items l.next

@@ -1,0 +1,244 @@
+//! The sides of those in flight that are rated anew.
+//!
+//! A side is found by its chain, from one of its users on: the others there that are rated anew use it, too, and
+//! what all others take, which keep their rates, is taken from its cap.
+ghost use Rattle.std.specs.Prelude.{◌≡◌, ◌<◌, ◌*◌, ℕ, ◌+◌, true, None, Some, ◌⊎◌};
+ghost use Rattle.std.specs.Prelude.{All, AllPairs, Contains, IfOk, IfErr, IfSome, OnOk, List, length, map, slice_get};
+ghost use Rattle.std.specs.List.{list_all};
+ghost use Rattle.fair_rates.specs.Fairness.UnderCaps.{cap_of};
+ghost use Rattle.fair_rates.specs.Sides.SideOf.{side_of};
+ghost use Rattle.link_simulation.specs.Simulation.Messages.{OneForEachPair};
+ghost use Rattle.link_pairs.specs.Pairs.CapsOf.{caps_of};
+ghost use Rattle.link_pairs.specs.Pairs.Entries.{Pair as AnyPair};
+ghost use Rattle.link_pairs.specs.Pairs.PeerCaps.{PeerCaps as AnyPeer};
+ghost use Rattle.link_flights.specs.declared.component.Component.{Component as AnyComponent};
+ghost use Rattle.link_flights.specs.declared.flight.Flight.{Flight as AnyFlight};
+ghost use Rattle.link_pairs.specs.declared.message.Message.{Message as AnyMessage};
+ghost use Rattle.link_flights.specs.Flights.Components.{is_of, suits, touches, places_of};
+ghost use Rattle.link_flights.specs.Flights.Flight.{flight_at};
+ghost use Rattle.link_flights.specs.Flights.InFlight.{in_units};
+ghost use Rattle.link_flights.specs.Flights.Rated.{sent_messages};
+ghost use Rattle.link_flights.specs.Flights.Sides.{left_caps, flows_of, IsCounted, flow_sent, uses_end, end_subject};
+ghost use Rattle.link_flights.specs.Flights.Sides.{link_subject, IsSideOf, AddsSides, AreAllSides};
+ghost use Rattle.link_flights.specs.Flights.Table.{share};
+
+use crate::component::Component;
+use crate::flight_list::Flights;
+use crate::table::End;
+use fair_rates::bandwidth::Side;
+use fair_rates::error::Error;
+use fair_rates::peer::Peer;
+use link_pairs::known_pairs::Pairs;
+use link_pairs::message::Message;
+use link_pairs::peers::Peers;
+
+/// Whether the message uses what there is of a cap at that end: what is dropped takes nothing of what its recipient
+/// may receive.
+fn uses<P: Peer>(end: End, message: &Message<P>) -> bool
+    ensures { result ≡ uses_end P.cmp end message.now }
+{
+    match end {
+        End::Origin => true,
+        End::Recipient => message.is_delivered(),
+    }
+}
+
+/// The cap at that end of the message.
+fn cap_at<P: Peer>(end: End, message: &Message<P>, peers: &Peers<P>) -> Option<u128>
+    ensures { (pairs : List (AnyPair P)) → result
+        ≡ cap_of (caps_of P.cmp peers.now.entries pairs) (end_subject end (flow_sent P.cmp message.now)) }
+{
+    match end {
+        End::Origin => peers.egress(&message.origin),
+        End::Recipient => peers.ingress(&message.recipient),
+    }
+}
+
+/// The number of a place among those that are listed, which ascend.
+fn number_of(places: &[usize], at: usize) -> usize
+    requires order { AllPairs (λ one other. one < other) places.now }
+    requires among { Contains places.now at }
+    ensures { slice_get places.now result ≡ Some at }
+{
+    if places.get(at) == Some(&at) {
+        return at;
+    }
+    match places.binary_search(&at) {
+        Ok(number) => number,
+        Err(_) => unreachable!(),
+    }
+}
+
+/// Each of these numbers has a side from now on.
+fn note_users(has_side: &mut [bool], users: &[usize])
+    requires { All (λ user. user < length has_side.old) users.now }
+    ensures noted { (k : ℕ) → slice_get has_side.new k ≡ Some true
+        → (slice_get has_side.old k ≡ Some true) ⊎ Contains users.now k }
+    ensures each { length has_side.new ≡ length has_side.old }
+{
+    for user in users {
+        has_side[*user] = true;
+    }
+}
+
+impl<P: Peer> Flights<P> {
+    /// The sides of those of the component that are rated anew, at these places, with what the others leave of their
+    /// caps, in units. A user is a number among these.
+    pub(crate) fn sides_of(
+        &self,
+        component: &Component<P>,
+        places: &[usize],
+        peers: &Peers<P>,
+        pairs: &Pairs<P>,
+    ) -> Result<Vec<Side>, Error>
+        requires places { places.now ≡ places_of (λ f. is_of P.cmp component.now (flight_at 0 f)) 0 self.now.list.items }
+        requires suited { list_all (suits P.cmp component.now) (in_units self.now) ≡ true }
+        requires one_each { OneForEachPair P.cmp (sent_messages (in_units self.now)) }
+        ensures sides { IfOk result (λ sides. AreAllSides P.cmp
+            (left_caps P.cmp (caps_of P.cmp peers.now.entries pairs.now.entries) self.now.scale component.now
+            (in_units self.now)) (flows_of P.cmp component.now (in_units self.now)) (map side_of sides.items)) }
+        ensures refused { IfErr result (λ e. e ≡ Error.OutOfMemory) }
+    {
+        let mut sides = Vec::with_capacity(self.alloc, places.len())?;
+        self.add_sides(End::Origin, component, places, peers, &mut sides)?;
+        self.add_sides(End::Recipient, component, places, peers, &mut sides)?;
+        self.add_links(places, pairs, &mut sides)?;
+        Ok(sides)
+    }
+
+    /// The sides at one end come.
+    fn add_sides(
+        &self,
+        end: End,
+        component: &Component<P>,
+        places: &[usize],
+        peers: &Peers<P>,
+        sides: &mut Vec<Side>,
+    ) -> Result<(), Error>
+        requires places { places.now ≡ places_of (λ f. is_of P.cmp component.now (flight_at 0 f)) 0 self.now.list.items }
+        requires suited { list_all (suits P.cmp component.now) (in_units self.now) ≡ true }
+        ensures adds { OnOk result ((pairs : List (AnyPair P)) → AddsSides P.cmp
+            (left_caps P.cmp (caps_of P.cmp peers.now.entries pairs) self.now.scale component.now (in_units self.now))
+            (flows_of P.cmp component.now (in_units self.now)) (end_subject end)
+            (map side_of sides.old.items) (map side_of sides.new.items)) }
+        ensures refused { IfErr result (λ e. e ≡ Error.OutOfMemory) }
+    {
+        let mut has_side = vec![in self.alloc; false; places.len()]?;
+        for number in 0..places.len() {
+            if has_side[number] {
+                continue;
+            }
+            if let Some(side) = self.side_at(end, places[number], component, places, peers)? {
+                note_users(&mut has_side, &side.users);
+                sides.push(side)?;
+            }
+        }
+        Ok(())
+    }
+
+    /// The side at one end of the one at that place, which is rated anew, if it uses one.
+    fn side_at(
+        &self,
+        end: End,
+        at: usize,
+        component: &Component<P>,
+        places: &[usize],
+        peers: &Peers<P>,
+    ) -> Result<Option<Side>, Error>
+        requires at { Contains places.now at }
+        requires places { places.now ≡ places_of (λ f. is_of P.cmp component.now (flight_at 0 f)) 0 self.now.list.items }
+        requires suited { list_all (suits P.cmp component.now) (in_units self.now) ≡ true }
+        ensures side { IfOk result (λ side. IfSome side (λ side. (one : AnyFlight P) (pairs : List (AnyPair P))
+            → slice_get self.now.list.items at ≡ Some one → IsSideOf P.cmp
+            (left_caps P.cmp (caps_of P.cmp peers.now.entries pairs) self.now.scale component.now (in_units self.now))
+            (flows_of P.cmp component.now (in_units self.now)) (end_subject end (flow_sent P.cmp one.message.value))
+            (side_of side))) }
+        ensures uses { IfOk result (λ side. IfSome side (λ side. (one : AnyFlight P)
+            → slice_get self.now.list.items at ≡ Some one → uses_end P.cmp end one.message.value ≡ true)) }
+        ensures none { IfOk result (λ side. side ≡ None → (one : AnyFlight P) (pairs : List (AnyPair P))
+            → slice_get self.now.list.items at ≡ Some one → uses_end P.cmp end one.message.value ≡ true
+            → cap_of (caps_of P.cmp peers.now.entries pairs) (end_subject end (flow_sent P.cmp one.message.value)) ≡ None) }
+        ensures refused { IfErr result (λ e. e ≡ Error.OutOfMemory) }
+    {
+        let message = &self.list.at(at).message;
+        if !uses(end, message) {
+            return Ok(None);
+        }
+        let Some(cap) = cap_at(end, message, peers) else {
+            return Ok(None);
+        };
+        let mut side = Side {
+            cap: self.scale.product(cap)?,
+            users: Vec::new(self.alloc),
+        };
+        let mut next = self.list.first_at(end, message);
+        while let Some(at) = next {
+            self.count_one(end, at, component, places, &mut side)?;
+            next = self.list.next_at(end, at);
+        }
+        Ok(Some(side))
+    }
+
+    /// The one at that place counts for the side at one of its ends, if it uses that: as a user, or by what it takes.
+    fn count_one(
+        &self,
+        end: End,
+        at: usize,
+        component: &Component<P>,
+        places: &[usize],
+        side: &mut Side,
+    ) -> Result<(), Error>
+        requires within { at < length self.now.list.items }
+        requires places { places.now ≡ places_of (λ f. is_of P.cmp component.now (flight_at 0 f)) 0 self.now.list.items }
+        requires suited { list_all (suits P.cmp component.now) (in_units self.now) ≡ true }
+        requires near { (one : AnyFlight P) → slice_get self.now.list.items at ≡ Some one
+            → uses_end P.cmp end one.message.value ≡ true → touches P.cmp component.now one.message.value ≡ true }
+        ensures counted { OnOk result ((m : AnyMessage P) (one : AnyFlight P) (all : ℕ)
+            → slice_get self.now.list.items at ≡ Some one → share P.cmp end m one.message.value ≡ true
+            → IsCounted P.cmp component.now self.now.at self.now.list.items (end_subject end (flow_sent P.cmp m)) all at
+            (side_of side.old)
+            → IsCounted P.cmp component.now self.now.at self.now.list.items (end_subject end (flow_sent P.cmp m)) all (at + 1)
+            (side_of side.new)) }
+        ensures refused { IfErr result (λ e. e ≡ Error.OutOfMemory) }
+    {
+        let one = self.list.at(at);
+        if !uses(end, &one.message) {
+            return Ok(());
+        }
+        if !component.keeps(one) {
+            side.users.push(number_of(places, at))?;
+            return Ok(());
+        }
+        if let Some(rate) = &one.rate {
+            side.cap.subtract(rate);
+        }
+        Ok(())
+    }
+
+    /// The sides between the two ends come. No two in flight go between the same peers.
+    fn add_links(
+        &self,
+        places: &[usize],
+        pairs: &Pairs<P>,
+        sides: &mut Vec<Side>,
+    ) -> Result<(), Error>
+        requires within { All (λ at. at < length self.now.list.items) places.now }
+        requires one_each { OneForEachPair P.cmp (sent_messages (in_units self.now)) }
+        ensures adds { OnOk result ((component : AnyComponent P) (peers : List (AnyPeer P))
+            → places.now ≡ places_of (λ f. is_of P.cmp component (flight_at 0 f)) 0 self.now.list.items → AddsSides P.cmp
+            (left_caps P.cmp (caps_of P.cmp peers pairs.now.entries) self.now.scale component (in_units self.now))
+            (flows_of P.cmp component (in_units self.now)) link_subject
+            (map side_of sides.old.items) (map side_of sides.new.items)) }
+        ensures refused { IfErr result (λ e. e ≡ Error.OutOfMemory) }
+    {
+        for number in 0..places.len() {
+            let message = &self.list.at(places[number]).message;
+            if let Some(cap) = pairs.cap(&message.origin, &message.recipient) {
+                let cap = self.scale.product(cap)?;
+                let users = vec![in self.alloc; number; 1]?;
+                sides.push(Side { cap, users })?;
+            }
+        }
+        Ok(())
+    }
+}
