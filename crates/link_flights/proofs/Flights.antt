@@ -19,6 +19,7 @@ pub mod Listed
 pub mod Loose
 pub mod Loosened
 pub mod Near
+pub mod OnlyRated
 pub mod Noted
 pub mod Places
 pub mod Rated

@@ -258,6 +258,13 @@ impl<P: Peer> Flights<P> {
         ensures refused { IfErr result (λ e. e ≡ Error.OutOfMemory) }
     {
         let places = self.places_rated(touched)?;
+        if places.is_empty() {
+            self.rated_anew = 0;
+            return Ok(Some(0));
+        }
+        if let [only] = *places {
+            return self.rate_only(touched, only, &places, peers, pairs);
+        }
         let part = self.rates_at(touched, &places, peers, pairs)?;
         if !part.growth.is_empty() || !all_reach(&part, &touched.level) {
             return Ok(None);
@@ -265,6 +272,36 @@ impl<P: Peer> Flights<P> {
         let levels = shared_levels(self.alloc, part.levels)?;
         self.set_rates(touched, &places, &levels, &part.level_of, &[], true)?;
         Ok(Some(places.len()))
+    }
+
+    /// The same where only the one at that place is touched and rated anew. What the others leave of its caps is whole
+    /// in the units that there are.
+    fn rate_only(
+        &mut self,
+        touched: &Component<P>,
+        at: usize,
+        places: &[usize],
+        peers: &Peers<P>,
+        pairs: &Pairs<P>,
+    ) -> Result<Option<usize>, Error>
+        requires only { places.now ≡ at ∷ [] }
+        requires places { places.now ≡ places_of (λ f. is_of P.cmp touched.now (flight_at 0 f)) 0 self.old.list.items }
+        requires suited { list_all (suits P.cmp touched.now) (in_units self.old) ≡ true }
+        requires left { All (λ u. u.left ≢ 0) (in_units self.old) }
+        requires timed { AreTimed self.old.list.items }
+        requires one_each { OneForEachPair P.cmp (sent_messages (in_units self.old)) }
+        ensures gives { IfOk result (GivesBeside P.cmp (caps_of P.cmp peers.now.entries pairs.now.entries)
+            touched.now self.old self.new) }
+        ensures before { self.new.list.before ≡ self.old.list.before }
+        ensures refused { IfErr result (λ e. e ≡ Error.OutOfMemory) }
+    {
+        let level = self.left_for(touched, at, places, peers, pairs)?;
+        if touched.level <= level {
+            let levels = [Rc::new(self.alloc, level)?];
+            self.set_rates(touched, places, &levels, &[Some(0)], &[], true)?;
+            return Ok(Some(1));
+        }
+        Ok(None)
     }
 
     /// The fair rate of the one at that place alone, and none at all where no cap holds for it.

@@ -2,10 +2,11 @@
 //!
 //! A side is found by its chain, from one of its users on: the others there that are rated anew use it, too, and
 //! what all others take, which keep their rates, is taken from its cap.
-ghost use Rattle.std.specs.Prelude.{◌≡◌, ◌<◌, ◌*◌, ℕ, ◌+◌, true, None, Some, ◌⊎◌};
+ghost use Rattle.std.specs.Prelude.{◌≡◌, ◌<◌, ◌*◌, ℕ, ◌+◌, ◌∷◌, [], true, cond, None, Some, ◌⊎◌};
 ghost use Rattle.std.specs.Prelude.{All, AllPairs, Contains, IfOk, IfErr, IfSome, OnOk, List, length, map, slice_get};
 ghost use Rattle.std.specs.List.{list_all};
 ghost use Rattle.fair_rates.specs.Fairness.UnderCaps.{cap_of};
+ghost use Rattle.fair_rates.specs.Sides.Alone.{least_of};
 ghost use Rattle.fair_rates.specs.Sides.SideOf.{side_of};
 ghost use Rattle.link_simulation.specs.Simulation.Messages.{OneForEachPair};
 ghost use Rattle.link_pairs.specs.Pairs.CapsOf.{caps_of};
@@ -17,8 +18,8 @@ ghost use Rattle.link_pairs.specs.declared.message.Message.{Message as AnyMessag
 ghost use Rattle.link_flights.specs.Flights.Components.{is_of, suits, touches, places_of};
 ghost use Rattle.link_flights.specs.Flights.Flight.{flight_at};
 ghost use Rattle.link_flights.specs.Flights.InFlight.{in_units};
-ghost use Rattle.link_flights.specs.Flights.Rated.{sent_messages};
-ghost use Rattle.link_flights.specs.Flights.Sides.{left_caps, flows_of, IsCounted, flow_sent, uses_end, end_subject};
+ghost use Rattle.link_flights.specs.Flights.Rated.{sent_messages, AreFairRatesBeside};
+ghost use Rattle.link_flights.specs.Flights.Sides.{left_caps, left_of, flows_of, IsCounted, flow_sent, uses_end, end_subject};
 ghost use Rattle.link_flights.specs.Flights.Sides.{link_subject, IsSideOf, AddsSides, AreAllSides};
 ghost use Rattle.link_flights.specs.Flights.Table.{share};
 
@@ -31,6 +32,7 @@ use fair_rates::peer::Peer;
 use link_pairs::known_pairs::Pairs;
 use link_pairs::message::Message;
 use link_pairs::peers::Peers;
+use natural::Natural;
 
 /// Whether the message uses what there is of a cap at that end: what is dropped takes nothing of what its recipient
 /// may receive.
@@ -81,6 +83,17 @@ fn note_users(has_side: &mut [bool], users: &[usize])
     }
 }
 
+/// The less of what is left of two caps. `None` stands for no cap.
+fn least(one: Option<Natural>, other: Option<Natural>) -> Option<Natural>
+    ensures { result ≡ least_of one other }
+{
+    match (one, other) {
+        (Some(one), Some(other)) => Some(if one <= other { one } else { other }),
+        (Some(left), None) | (None, Some(left)) => Some(left),
+        (None, None) => None,
+    }
+}
+
 impl<P: Peer> Flights<P> {
     /// The sides of those of the component that are rated anew, at these places, with what the others leave of their
     /// caps, in units. A user is a number among these.
@@ -104,6 +117,60 @@ impl<P: Peer> Flights<P> {
         self.add_sides(End::Recipient, component, places, peers, &mut sides)?;
         self.add_links(places, pairs, &mut sides)?;
         Ok(sides)
+    }
+
+    /// What the others leave for the one at that place, the only one of the component that is rated anew: the least of
+    /// what they leave of its caps, in units, and nothing where no cap holds for it.
+    pub(crate) fn left_for(
+        &self,
+        component: &Component<P>,
+        at: usize,
+        places: &[usize],
+        peers: &Peers<P>,
+        pairs: &Pairs<P>,
+    ) -> Result<Natural, Error>
+        requires only { places.now ≡ at ∷ [] }
+        requires places { places.now ≡ places_of (λ f. is_of P.cmp component.now (flight_at 0 f)) 0 self.now.list.items }
+        requires suited { list_all (suits P.cmp component.now) (in_units self.now) ≡ true }
+        requires one_each { OneForEachPair P.cmp (sent_messages (in_units self.now)) }
+        ensures fair { IfOk result (λ left. AreFairRatesBeside P.cmp
+            (caps_of P.cmp peers.now.entries pairs.now.entries) self.now.scale component.now (in_units self.now)
+            (left ∷ [])) }
+        ensures refused { IfErr result (λ e. e ≡ Error.OutOfMemory) }
+    {
+        let sent = self.left_at(End::Origin, at, component, places, peers)?;
+        let received = self.left_at(End::Recipient, at, component, places, peers)?;
+        let message = &self.list.at(at).message;
+        let between = match pairs.cap(&message.origin, &message.recipient) {
+            Some(cap) => Some(self.scale.product(cap)?),
+            None => None,
+        };
+        let none = Natural::from_u64(self.alloc, 0);
+        Ok(least(least(sent, received), between).unwrap_or(none))
+    }
+
+    /// What the others leave of the cap at one end of the one at that place, in units, if it uses one.
+    fn left_at(
+        &self,
+        end: End,
+        at: usize,
+        component: &Component<P>,
+        places: &[usize],
+        peers: &Peers<P>,
+    ) -> Result<Option<Natural>, Error>
+        requires at { Contains places.now at }
+        requires places { places.now ≡ places_of (λ f. is_of P.cmp component.now (flight_at 0 f)) 0 self.now.list.items }
+        requires suited { list_all (suits P.cmp component.now) (in_units self.now) ≡ true }
+        ensures left { IfOk result (λ left. (one : AnyFlight P) (pairs : List (AnyPair P))
+            → slice_get self.now.list.items at ≡ Some one → left ≡ cond (uses_end P.cmp end one.message.value)
+            (left_of P.cmp (caps_of P.cmp peers.now.entries pairs) self.now.scale component.now (in_units self.now)
+            (end_subject end (flow_sent P.cmp one.message.value))) None) }
+        ensures refused { IfErr result (λ e. e ≡ Error.OutOfMemory) }
+    {
+        match self.side_at(end, at, component, places, peers)? {
+            Some(side) => Ok(Some(side.cap)),
+            None => Ok(None),
+        }
     }
 
     /// The sides at one end come.

@@ -20,9 +20,6 @@ module _ (caps : List (Option ℕ)) (route : List ℕ) where
   abbrev sides : List Side
   sides = sides_over caps (route ∷ [])
 
-  side_with : ℕ → Side
-  side_with cap = record { cap = cap; users = 0 ∷ [] }
-
   -- a link of the route with a cap makes a side
   own : (link cap : ℕ) → has_link link route ≡ true → get_or caps link None ≡ Some cap
       → Contains sides (record { cap = cap; users = 0 ∷ [] })

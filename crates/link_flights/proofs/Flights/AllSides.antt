@@ -1,5 +1,5 @@
 -- The sides that come for those that are rated anew, kind by kind, are all that there are.
-use Rattle.std.proofs.Common.{◌≡◌, ℕ, zero, suc, ◌+◌, ◌-◌, ◌*◌, ◌<◌, ◌≤◌, Bool, true, false, cond, not, ◌&&◌}
+use Rattle.std.proofs.Common.{◌≡◌, ℕ, zero, suc, ◌+◌, ◌-◌, ◌*◌, ◌<◌, ◌≤◌, Bool, true, false, cond, not}
 use Rattle.std.proofs.Common.{◌⊎◌, inl, inr, List, [], ◌∷◌, ◌++◌, Option, Some, None, Contains, map, length, replicate}
 use Rattle.std.proofs.Common.{slice_get, sum_by, refl, sym, ap, ap₂, ◌∙◌, subst, arith, zero-add, option_map}
 use Rattle.std.specs.Prelude.{slice_index}
@@ -78,6 +78,14 @@ pub cap_left : {P : Type 0} (cmp : P → P → Ordering) (caps : Caps P) (scale 
 cap_left cmp caps scale component us (sent_by p) = refl
 cap_left cmp caps scale component us (received_by p) = refl
 cap_left cmp caps scale component us (sent_between p q) = refl
+
+-- where no cap holds, nothing is left of one
+pub none_left : {P : Type 0} (cmp : P → P → Ordering) (caps : Caps P) (scale : ℕ) (component : Component P)
+    (us : List (UnitFlight P)) (s : Subject P) (uses : Bool) → (uses ≡ true → cap_of caps s ≡ None)
+    → None ≡ cond uses (left_of cmp caps scale component us s) None
+none_left cmp caps scale component us s true none =
+    sym (ap (option_map (λ cap. cap * scale - kept_load cmp component us s)) (none refl))
+none_left cmp caps scale component us s false none = refl
 
 -- ---- sides of one kind
 
@@ -421,6 +429,18 @@ module _ {P : Type 0} (cmp : P → P → Ordering) (order : IsTotalOrder cmp) wh
             ap (sum_by load_of) (filter_yes stays v vs (ap not out)) ∙ sum_by-cons load_of v (filter stays vs)
             ∙ ap (λ b. cond b v.rate 0 + sum_by load_of (filter stays vs)) (unlimited out)
             ∙ zero-add (sum_by load_of (filter stays vs)) ∙ ih
+
+    -- all of its cap is left
+    pub link_left : (cap : Option ℕ) → caps.link u.message.origin u.message.recipient ≡ cap
+        → left_of cmp caps scale component us s ≡ option_map (λ cap. cap * scale) cap
+    link_left cap has = ap (option_map (λ cap. cap * scale - kept_load cmp component us s)) has ∙ whole cap
+      where
+        whole : (cap : Option ℕ) → option_map (λ cap. cap * scale - kept_load cmp component us s) cap
+            ≡ option_map (λ cap. cap * scale) cap
+        whole None = refl
+        whole (Some cap) =
+            ap Some (let none = nothing_kept us (λ v h. h) in
+            let it : cap * scale - kept_load cmp component us s ≡ cap * scale = omega (arith, none) in it)
 
     -- so this is the side of its pair
     pub link_side : (cap : ℕ) → caps.link u.message.origin u.message.recipient ≡ Some cap → (side : Side)

@@ -1,6 +1,6 @@
 -- Fair rates of a component, beside those that others keep.
-use Rattle.std.proofs.Common.{◌≡◌, ℕ, zero, suc, ◌+◌, ◌*◌, ◌≤◌, Bool, true, false, cond, if◌then◌else◌, not}
-use Rattle.std.proofs.Common.{◌&&◌, ◌||◌, List, [], ◌∷◌, Option, Some, None, Result, Ok, Err, IfOk, IfSome, All, map}
+use Rattle.std.proofs.Common.{◌≡◌, ℕ, suc, ◌+◌, ◌*◌, ◌≤◌, Bool, true, false, cond, if◌then◌else◌, not}
+use Rattle.std.proofs.Common.{◌&&◌, ◌||◌, List, [], ◌∷◌, Option, Some, None, IfSome, All, map}
 use Rattle.std.proofs.Common.{length, sum_by, refl, ◌⊎◌}
 use Rattle.std.proofs.Common.{sym, ap, ap₂, ◌∙◌, subst, inl, inr, arith, zero-add}
 use Rattle.std.specs.Prelude.{slice_index, nat_le}
@@ -21,7 +21,7 @@ use Rattle.fair_rates.specs.Sides.Caps.{Caps}
 use Rattle.fair_rates.specs.Sides.Subjects.{Subject, sent_by, received_by, sent_between, same_peer}
 use Rattle.fair_rates.specs.Fairness.Fair.{Side, load, IsFair, HasBottleneck}
 use Rattle.fair_rates.specs.Fairness.UnderCaps.{AreOfPeers, cap_of, limits, sides_under}
-use Rattle.fair_rates.specs.Filling.FairParts.{flow_parts, parts_of_level}
+use Rattle.fair_rates.specs.Filling.FairParts.{parts_of_level}
 use Rattle.fair_rates.proofs.Lists.Members.{In, in_map, from_map, in_filter, contains_from_in, in_from_contains, all_pass}
 use Rattle.fair_rates.proofs.Fairness.SameSides.{still_fair}
 use Rattle.fair_rates.proofs.Fairness.Sharing.{StandsAt, AreShared, shared_from, fair_from}
@@ -38,7 +38,7 @@ use Rattle.link_flights.specs.Flights.Rated.{AreFairlyRated, WereRated, IsRatedF
 use Rattle.link_flights.specs.Flights.Rated.{IsLoose}
 use Rattle.link_flights.specs.Flights.Sides.{flow_in_flight}
 use Rattle.link_flights.proofs.Flights.FairMessages.{StandsForMessage, same_sides}
-use Rattle.link_flights.proofs.Flights.InFlight.{StandsForSent, standing_zip, standing_length, filter_yes, filter_no}
+use Rattle.link_flights.proofs.Flights.InFlight.{filter_yes, filter_no}
 use Rattle.fair_rates.proofs.Lists.Booleans.{by_bool, first_of_both, second_of_both}
 use Rattle.fair_rates.proofs.Sides.EqualSubjects.{same_peer_itself}
 
@@ -128,16 +128,6 @@ module _ {P : Type 0} (cmp : P → P → Ordering) where
       delivered = refl;
     },
     own order us,
-  )
-
-  pub standing_messages : (fs : List (Flow P)) (us : List (UnitFlight P)) → AllZip (StandsForSent cmp) fs us
-      → AllZip (StandsForMessage cmp) fs (sent_messages us)
-  standing_messages [] [] z = tt
-  standing_messages [] (u ∷ us) z = absurd z
-  standing_messages (f ∷ fs) [] z = absurd z
-  standing_messages (f ∷ fs) (u ∷ us) z = (
-    record { origin = z.0.origin; recipient = z.0.recipient; delivered = z.0.delivered },
-    standing_messages fs us z.1,
   )
 
   module _ (order : IsTotalOrder cmp) (caps : Caps P) (of : AreOfPeers cmp caps) (scale : ℕ) where

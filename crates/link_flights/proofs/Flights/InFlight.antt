@@ -1,21 +1,12 @@
--- The messages in flight: flows that stand for them, and those that leave.
-use Rattle.std.proofs.Common.{◌≡◌, ℕ, zero, suc, ◌+◌, ◌-◌, ◌<◌, ◌≤◌, Bool, true, false, not, cond, if◌then◌else◌}
-use Rattle.std.proofs.Common.{◌&&◌, ◌||◌, List, [], ◌∷◌, ◌++◌, length, map, get_or, refl, sym, ◌∙◌, ap, subst, arith}
+-- The messages in flight: what is read of them, and those that leave.
+use Rattle.std.proofs.Common.{◌≡◌, ℕ, zero, suc, ◌+◌, ◌-◌, ◌<◌, ◌≤◌, Bool, true, false, not, cond}
+use Rattle.std.proofs.Common.{◌||◌, List, [], ◌∷◌, ◌++◌, length, map, get_or, refl, sym, ◌∙◌, ap, subst, arith}
 use Rattle.std.proofs.Common.{append_assoc}
-use Rattle.std.specs.List.{AllZip, remove, filter}
-use Rattle.std.specs.declared.cmp.Ordering.{Ordering}
-use Rattle.fair_rates.specs.declared.bandwidth.Flow.{Flow}
+use Rattle.std.specs.List.{remove, filter}
 use Rattle.std.specs.Bool.{◌==◌}
-use Rattle.fair_rates.specs.Sides.Subjects.{same_peer}
-use Rattle.link_simulation.specs.Simulation.Messages.{Message, is_delivered}
+use Rattle.link_simulation.specs.Simulation.Messages.{Message}
 use Rattle.std.proofs.lemmas.List.{length-append, append-nil}
-use Rattle.std.proofs.lemmas.Bool.{and_from}
-use Rattle.fair_rates.proofs.Lists.Booleans.{first_of_both, second_of_both}
-use Rattle.link_flights.specs.Flights.Flight.{UnitFlight}
 use Rattle.link_flights.specs.Flights.InFlight.{PassesNowhere}
-use Rattle.link_flights.specs.Flights.RatedFlights.{stands_for, are_standing}
-use Rattle.link_pairs.specs.Pairs.Messages.{message_of}
-use Rattle.fair_rates.proofs.Lists.Zips.{zip-length, zip-push}
 use Rattle.fair_rates.proofs.Lists.Sorted.{get_or-seam}
 
 -- ---- a list of what is read
@@ -41,72 +32,6 @@ read_filter {X} {Y} f test (x ∷ xs) = by_test (test (f x)) (read_filter f test
 remove-seam : {X : Type 0} (xs ys : List X) (y : X) → remove (xs ++ y ∷ ys) (length xs) ≡ xs ++ ys
 remove-seam [] ys y = refl
 remove-seam (x ∷ xs) ys y = ap (λ l. x ∷ l) (remove-seam xs ys y)
-
--- ---- each flow stands for its message
-
--- the flow is of the message's peers, by their order, and delivered as the message is
-pub record StandsForSent {P : Type 0} (cmp : P → P → Ordering) (flow : Flow P) (u : UnitFlight P) : Type 0 where
-  pub origin : same_peer cmp flow.origin u.message.origin ≡ true
-  pub recipient : same_peer cmp flow.recipient u.message.recipient ≡ true
-  pub delivered : flow.delivered ≡ is_delivered cmp (message_of u.message)
-
-mark : (a b : Bool) → (if b then a else not a) ≡ true → a ≡ b
-mark true true h = refl
-mark true false h = sym h
-mark false true h = h
-mark false false h = refl
-
-marks : (a b : Bool) → a ≡ b → (if b then a else not a) ≡ true
-marks true true h = refl
-marks true false h = cc
-marks false true h = cc
-marks false false h = refl
-
-module _ {P : Type 0} (cmp : P → P → Ordering) where
-  stands_so : (f : Flow P) (u : UnitFlight P) → stands_for cmp f u ≡ true → StandsForSent cmp f u
-  stands_so f u h =
-      let peers =
-      first_of_both (same_peer cmp f.origin u.message.origin && same_peer cmp f.recipient u.message.recipient) _
-      h in
-      record {
-        origin = first_of_both (same_peer cmp f.origin u.message.origin) _ peers;
-        recipient = second_of_both (same_peer cmp f.origin u.message.origin) _ peers;
-        delivered =
-            mark f.delivered _
-            (second_of_both (same_peer cmp f.origin u.message.origin && same_peer cmp f.recipient u.message.recipient)
-            _ h);
-      }
-
-  stands_if : (f : Flow P) (u : UnitFlight P) → StandsForSent cmp f u → stands_for cmp f u ≡ true
-  stands_if f u h = and_from _ _ (and_from _ _ h.origin h.recipient) (marks f.delivered _ h.delivered)
-
-  pub standing_zip : (fs : List (Flow P)) (us : List (UnitFlight P)) → are_standing cmp fs us ≡ true
-      → AllZip (StandsForSent cmp) fs us
-  standing_zip [] [] h = tt
-  standing_zip [] (u ∷ us) h = cc
-  standing_zip (f ∷ fs) [] h = cc
-  standing_zip (f ∷ fs) (u ∷ us) h = (
-    stands_so f u (first_of_both (stands_for cmp f u) _ h),
-    standing_zip fs us (second_of_both (stands_for cmp f u) _ h),
-  )
-
-  zip_standing : (fs : List (Flow P)) (us : List (UnitFlight P)) → AllZip (StandsForSent cmp) fs us
-      → are_standing cmp fs us ≡ true
-  zip_standing [] [] z = refl
-  zip_standing [] (u ∷ us) z = absurd z
-  zip_standing (f ∷ fs) [] z = absurd z
-  zip_standing (f ∷ fs) (u ∷ us) z = and_from _ _ (stands_if f u z.0) (zip_standing fs us z.1)
-
-  pub standing_length : (fs : List (Flow P)) (us : List (UnitFlight P)) → are_standing cmp fs us ≡ true
-      → length fs ≡ length us
-  standing_length fs us h = zip-length (StandsForSent cmp) fs us (standing_zip fs us h)
-
--- with one more
-pub standing_with : {P : Type 0} (cmp : P → P → Ordering) (fs : List (Flow P)) (us : List (UnitFlight P)) (f : Flow P)
-    (u : UnitFlight P) → are_standing cmp fs us ≡ true → StandsForSent cmp f u
-    → are_standing cmp (fs ++ f ∷ []) (us ++ u ∷ []) ≡ true
-standing_with cmp fs us f u h one =
-    zip_standing cmp _ _ (zip-push (StandsForSent cmp) fs us f u (standing_zip cmp fs us h) one)
 
 -- ---- those that are done leave
 

@@ -1,13 +1,13 @@
 -- Rates that are given to messages in flight one after another, and the first finish.
 use Rattle.std.proofs.Common.{◌≡◌, ◌≢◌, ℕ, zero, suc, ◌+◌, ◌-◌, ◌*◌, ◌<◌, ◌≤◌, nat_le, Bool, true, false, cond}
-use Rattle.std.proofs.Common.{if◌then◌else◌, not, ◌||◌, ◌&&◌, List, [], ◌∷◌, ◌++◌, All, Option, Some, None, length}
+use Rattle.std.proofs.Common.{if◌then◌else◌, not, ◌||◌, List, [], ◌∷◌, ◌++◌, All, Option, Some, None, length}
 use Rattle.std.proofs.Common.{drop, get_or, set, slice_get, refl, sym, ap, ◌∙◌, subst, inl, inr, ◌⊎◌, arith}
 use Rattle.std.proofs.Common.{append_assoc}
 use Rattle.std.specs.Bool.{◌==◌}
 use Rattle.std.specs.List.{list_any}
 use Rattle.std.specs.Prelude.{IfSome, option_map}
 use Rattle.std.specs.declared.cmp.Ordering.{Ordering}
-use Rattle.std.proofs.lemmas.Bool.{le-leb, leb-true, cases_lt, false≢true, or_parts, eqb-true}
+use Rattle.std.proofs.lemmas.Bool.{le-leb, leb-true, cases_lt, false≢true, eqb-true}
 use Rattle.std.proofs.lemmas.List.{length-append, append-nil, map-append, length-set, drop_more, get_or_default}
 use Rattle.std.proofs.lemmas.List.{set-get_or}
 use Rattle.std.proofs.Math.Nat.{mul-pos}
@@ -24,7 +24,7 @@ use Rattle.link_flights.specs.declared.component.Component.{Component}
 use Rattle.link_flights.specs.declared.flight.Flight.{Flight}
 use Rattle.link_flights.specs.declared.flight_list.Flights.{Flights}
 use Rattle.link_pairs.specs.declared.message.Message.{Message}
-use Rattle.link_flights.specs.Flights.Components.{is_of, those_of, those_near, keeps, touches, places_of}
+use Rattle.link_flights.specs.Flights.Components.{is_of, those_of, places_of}
 use Rattle.link_flights.specs.Flights.Flight.{UnitFlight, rate_of, left_by, flight_at, flights_at, has_come, IsTimed}
 use Rattle.link_flights.specs.Flights.Flight.{AreTimed}
 use Rattle.link_flights.specs.Flights.InFlight.{in_units, in_flight}
@@ -367,11 +367,6 @@ module _ {P : Type 0} {cmp : P → P → Ordering} {component : Component P} {no
       by_rest (z ∷ rest) e =
           let whole = ap length (h.is ∙ ap (λ l. h.to ++ l) e) in
           absurd (omega (arith, end, h.at_is, whole, length-append h.to (z ∷ rest)))
-
--- one of which the component has no end is not of it
-pub apart_is_out : {P : Type 0} (cmp : P → P → Ordering) (component : Component P) (u : UnitFlight P)
-    → touches cmp component u.message ≡ false → is_of cmp component u ≡ false
-apart_is_out cmp component u apart = ap (λ b. b && not (keeps component u)) (or_parts _ _ apart).0
 
 module _ {P : Type 0} {cmp : P → P → Ordering} {component : Component P} {now times : ℕ} {rates : List ℕ}
     {old so_far : List (Flight P)} where

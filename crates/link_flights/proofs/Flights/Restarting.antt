@@ -1,7 +1,7 @@
 -- Filling goes on from a level: the fair rates of a component, under what others that keep theirs leave of the caps, are
 -- fair for all.
 use Rattle.std.proofs.Common.{◌≡◌, ℕ, ◌+◌, ◌-◌, ◌*◌, ◌≤◌, Bool, true, false, cond, not}
-use Rattle.std.proofs.Common.{◌||◌, ◌⊎◌, List, [], ◌∷◌, All, Option, Some, None, IfSome, map, length, refl, sym, ap, ◌∙◌, subst}
+use Rattle.std.proofs.Common.{◌⊎◌, List, [], ◌∷◌, All, Option, Some, None, IfSome, map, length, refl, sym, ap, ◌∙◌, subst}
 use Rattle.std.proofs.Common.{inl, inr, sum_by, option_map, arith, zero-add}
 use Rattle.std.specs.Prelude.{slice_index, nat_le}
 use Rattle.std.specs.List.{filter}

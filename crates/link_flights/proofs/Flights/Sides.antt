@@ -1,8 +1,7 @@
 -- The sides of those in flight that are rated anew: how one is counted along its chain, and that they are all.
-use Rattle.std.proofs.Common.{◌≡◌, ℕ, zero, suc, ◌+◌, ◌-◌, ◌*◌, ◌<◌, ◌≤◌, Bool, true, false, cond, not, ◌&&◌, ◌||◌}
+use Rattle.std.proofs.Common.{◌≡◌, ℕ, zero, suc, ◌+◌, ◌-◌, ◌<◌, ◌≤◌, Bool, true, false, cond, not, ◌&&◌, ◌||◌}
 use Rattle.std.proofs.Common.{◌⊎◌, inl, inr, List, [], ◌∷◌, ◌++◌, Option, Some, None, Err, All, Contains, slice_set, map, length, take}
 use Rattle.std.proofs.Common.{get_or, slice_get, sum_by, if◌then◌else◌, zero-add, unwrap_or, refl, sym, ap, ap₂, ◌∙◌, subst, arith, option_map}
-use Rattle.std.specs.Prelude.{◌↔◌}
 use Rattle.std.specs.List.{filter, list_all, AllPairs, HoldsAt}
 use Rattle.std.specs.List.Sorted.{IsBinarySearchResult}
 use Rattle.std.specs.Ordering.{nat_cmp, is_lt}
@@ -14,19 +13,16 @@ use Rattle.std.proofs.lemmas.Bool.Decides.{nat_tests}
 use Rattle.std.proofs.lemmas.Cmp.{nat_cmp_total, ranked}
 use Rattle.std.proofs.lemmas.List.Sorted.{searchable_from_sorted}
 use Rattle.link_pairs.proofs.Pairs.ByNumber.{get_set_other}
-use Rattle.std.proofs.lemmas.List.{append-nil, length-append, length-map, map-append, take_more, take_all}
-use Rattle.std.proofs.lemmas.List.Elements.{filter-append, All-contains}
+use Rattle.std.proofs.lemmas.List.{append-nil, length-map, map-append, take_more, take_all}
+use Rattle.std.proofs.lemmas.List.Elements.{filter-append}
 use Rattle.std.proofs.lemmas.List.Sums.{sum_by-append, sum_by-cons}
 use Rattle.std.proofs.lemmas.Option.{none-some, same_Some, slice_get-map, slice_get_within, get_or_from_slice_get}
-use Rattle.fair_rates.specs.declared.bandwidth.Flow.{Flow}
 use Rattle.fair_rates.specs.Fairness.Fair.{Side}
-use Rattle.fair_rates.specs.Fairness.UnderCaps.{cap_of, limits, IsCappedSide, AreOfPeers}
+use Rattle.fair_rates.specs.Fairness.UnderCaps.{limits}
 use Rattle.fair_rates.specs.Lists.Places.{places_from}
-use Rattle.fair_rates.specs.Sides.Caps.{Caps}
-use Rattle.fair_rates.specs.Sides.Subjects.{Subject, sent_by, received_by, sent_between, same_peer}
-use Rattle.fair_rates.proofs.Lists.Booleans.{by_bool, first_of_both, second_of_both}
+use Rattle.fair_rates.specs.Sides.Subjects.{Subject}
+use Rattle.fair_rates.proofs.Lists.Booleans.{by_bool, first_of_both}
 use Rattle.fair_rates.proofs.Lists.Members.{In, in_from_contains, contains_from_in, in_left, in_right, in_map, in_get, get_in, all_pass}
-use Rattle.fair_rates.proofs.Lists.Places.{passes_here, places_below}
 use Rattle.fair_rates.proofs.Lists.SumOrder.{All-from_contains}
 use Rattle.fair_rates.proofs.Sides.EqualSubjects.{same_peer_itself}
 use Rattle.link_pairs.specs.declared.message.Message.{Message}
@@ -36,9 +32,9 @@ use Rattle.link_flights.specs.declared.table.End.{End}
 use Rattle.link_flights.specs.declared.table.End.TheVariants.{Origin, Recipient}
 use Rattle.link_flights.specs.Flights.Components.{is_sender, is_receiver, keeps, is_of, those_of, touches, has_both, suits, places_of}
 use Rattle.link_flights.specs.Flights.Flight.{UnitFlight, flight_at, flights_at, rate_of}
-use Rattle.link_flights.specs.Flights.InFlight.{PassesNowhere, PassesFirstAt, IsNextPlace, or_end}
-use Rattle.link_flights.specs.Flights.Sides.{flow_sent, flow_in_flight, uses_end, end_subject, link_subject, kept_load}
-use Rattle.link_flights.specs.Flights.Sides.{left_of, left_caps, flows_of, IsCounted, IsSideOf, HasSide, AddsSides, AreAllSides}
+use Rattle.link_flights.specs.Flights.InFlight.{PassesFirstAt, IsNextPlace}
+use Rattle.link_flights.specs.Flights.Sides.{flow_sent, flow_in_flight, uses_end, end_subject, kept_load}
+use Rattle.link_flights.specs.Flights.Sides.{flows_of, IsCounted}
 use Rattle.link_flights.specs.Flights.Table.{share}
 use Rattle.link_flights.proofs.Flights.ComponentFlows.{one_more}
 use Rattle.link_flights.proofs.Flights.Components.{both_of, meets}

@@ -2,27 +2,25 @@
 use Rattle.std.specs.Prelude.{◌≡◌, ℕ, zero, suc, ◌+◌, ◌*◌, ◌⊎◌, Bool, true, false, not}
 use Rattle.std.specs.Prelude.{List, [], ◌∷◌, cond, map}
 use Rattle.std.specs.Prelude.{slice_index, length, Option, Some, None, slice_get, slice_set, slice_index_or, Contains}
-use Rattle.std.specs.Prelude.{◌≤◌, nat_le, if◌then◌else◌, option_map}
-use Rattle.std.specs.Option.{is_none}
+use Rattle.std.specs.Prelude.{◌≤◌, nat_le}
 use Rattle.std.specs.List.{filter, list_all, AllZip}
 use Rattle.std.specs.declared.cmp.Ordering.{Ordering}
 use Rattle.std.specs.declared.rc.Rc.{Rc}
 use Rattle.std.specs.declared.alloc.Global.{Global}
 use Rattle.fair_rates.specs.Sides.Caps.{Caps}
 use Rattle.fair_rates.specs.Sides.Subjects.{Subject}
-use Rattle.fair_rates.specs.declared.bandwidth.Flow.{Flow}
 use Rattle.fair_rates.specs.Fairness.UnderCaps.{AreOfPeers, cap_of, limits, sides_under}
 use Rattle.fair_rates.specs.Fairness.Exists.{product}
 use Rattle.fair_rates.specs.Fairness.Fair.{IsFair}
 use Rattle.fair_rates.specs.declared.bandwidth.parts.FairParts.{FairParts}
 use Rattle.fair_rates.specs.Filling.FairParts.{parts_of_level}
-use Rattle.link_simulation.specs.Simulation.Messages.{Message, is_delivered}
+use Rattle.link_simulation.specs.Simulation.Messages.{Message}
 use Rattle.link_simulation.specs.Simulation.Rates.{capped_sides, is_unlimited}
 use Rattle.link_flights.specs.declared.component.Component.{Component}
 use Rattle.link_flights.specs.declared.flight.Flight.{Flight}
 use Rattle.link_flights.specs.declared.flight_list.Flights.{Flights}
 use Rattle.link_pairs.specs.Pairs.Messages.{message_of}
-use Rattle.link_flights.specs.Flights.Flight.{UnitFlight, flight_at, flights_at, IsTimed, AreTimed}
+use Rattle.link_flights.specs.Flights.Flight.{UnitFlight, flight_at, IsTimed, AreTimed}
 use Rattle.link_flights.specs.Flights.Components.{is_of, those_of}
 use Rattle.link_flights.specs.Flights.InFlight.{in_units, loose_in}
 use Rattle.link_flights.specs.Flights.Sides.{left_caps, flows_of, flow_in_flight}

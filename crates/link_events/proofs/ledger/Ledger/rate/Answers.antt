@@ -21,6 +21,7 @@ use Rattle.link_flights.proofs.Flights.Joining.{left_limited, left_updated}
 use Rattle.link_flights.proofs.Flights.Standing.{messages_read, messages_kept}
 use Rattle.link_waiting.specs.Idle.Waits.{since_of}
 use Rattle.link_waiting.proofs.Idle.IndexChanges.{same_flights_index}
+use Rattle.link_events.proofs.Steps.OneEach.{one_if_so}
 use Rattle.link_events.proofs.ledger.Ledger.rate.Goals as goal
 use Rattle.link_events.proofs.ledger.Ledger.rate.Goals.{then-were_fair, else-were_fair}
 
@@ -87,6 +88,15 @@ rate-rated-requires-clause-timed g c e =
           rw c.renew_units.ensures.list (∥∥₁_elim (c.requires.fair w.if-were_fair.true) (hlevel props) (λ h. h.timed))
       | else-were_fair w ↦ absurd (false≢true (sym w.if-were_fair.false ∙ sym w.stay_fair-is ∙ e))
     ]
+
+pub rate-rated-requires-clause-one_each : goal.rate-rated-requires-clause-one_each
+rate-rated-requires-clause-one_each g c =
+    let old = c.args.self.now in
+    let cmp = g.P.Ord.cmp in
+    let flying = c.renew_units.new.self in
+    subst (OneForEachPair cmp)
+    (sym (ap rated_messages c.renew_units.ensures.sending) ∙ messages_read flying.scale (in_units flying))
+    (one_if_so cmp (rated_messages (in_flight old.flights)) old.one_each)
 
 pub invariant_of-self : goal.invariant_of-self
 invariant_of-self g c =

@@ -1,5 +1,5 @@
-use Rattle.std.proofs.Common.{◌≡◌, ◌<◌, ◌+◌, ◌-◌, ◌*◌, ◌++◌, ◌∷◌, [], ◌⊎◌, inl, inr, true, false, Bool, Some, None, List, get_or, slice_get, length, map}
-use Rattle.std.proofs.Common.{refl, sym, ap, ◌∙◌, subst, arith, option_map}
+use Rattle.std.proofs.Common.{◌≡◌, ◌+◌, ◌-◌, ◌*◌, ◌++◌, ◌∷◌, [], true, Bool, Some, get_or, slice_get, length, map}
+use Rattle.std.proofs.Common.{sym, ap, ◌∙◌, subst, arith, option_map}
 use Rattle.std.proofs.lemmas.List.{map-append}
 use Rattle.std.proofs.lemmas.Option.{slice_get-get_or, get_or_from_slice_get, none-some}
 use Rattle.std.proofs.lemmas.Bool.{and_from}
@@ -13,7 +13,7 @@ use Rattle.link_flights.specs.Flights.Components.{is_of, places_of}
 use Rattle.link_flights.specs.Flights.Flight.{flight_at}
 use Rattle.link_flights.specs.Flights.InFlight.{in_units}
 use Rattle.link_flights.specs.Flights.Sides.{left_caps, flows_of, flow_sent, link_subject, kept_load}
-use Rattle.link_flights.proofs.Flights.AllSides.{HaveAdded, of_left, cap_left, link_kind, none_added, none_there, side_added}
+use Rattle.link_flights.proofs.Flights.AllSides.{HaveAdded, of_left, cap_left, link_kind, none_there, side_added}
 use Rattle.link_flights.proofs.Flights.AllSides.{sides_added, link_side}
 use Rattle.link_flights.proofs.Flights.Sides.{place_is_of, flow_at, those_at, as_many}
 use Rattle.link_flights.proofs.flight_list.Flights.add_links.Goals as goal

@@ -1,4 +1,4 @@
-use Rattle.std.proofs.Common.{◌≡◌, [], List, map, length}
+use Rattle.std.proofs.Common.{◌≡◌, [], List, map}
 use Rattle.fair_rates.specs.Sides.SideOf.{side_of}
 use Rattle.link_pairs.specs.Pairs.CapsOf.{caps_of}
 use Rattle.link_pairs.specs.Pairs.PeerCaps.{PeerCaps}

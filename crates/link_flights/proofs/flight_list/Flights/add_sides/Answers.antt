@@ -1,17 +1,16 @@
-use Rattle.std.proofs.Common.{◌≡◌, ◌<◌, ◌+◌, ◌++◌, ◌∷◌, [], ◌⊎◌, inl, inr, true, false, Bool, Some, None, List, get_or, slice_get, length, map}
-use Rattle.std.proofs.Common.{refl, sym, ap, ◌∙◌, subst, arith, Contains, All, IfSome, option_map, ◌-◌, ◌*◌}
+use Rattle.std.proofs.Common.{◌≡◌, ◌<◌, ◌+◌, ◌++◌, ◌∷◌, [], inl, inr, true, Bool, Some, List, get_or, slice_get, length, map}
+use Rattle.std.proofs.Common.{sym, ap, ◌∙◌, subst, arith, Contains, All, IfSome, option_map, ◌-◌, ◌*◌}
 use Rattle.std.proofs.lemmas.List.{map-append, with_items_is}
 use Rattle.fair_rates.proofs.Lists.Places.{places_below}
 use Rattle.std.proofs.lemmas.Option.{slice_get-get_or}
-use Rattle.fair_rates.specs.Fairness.Fair.{Side}
-use Rattle.fair_rates.specs.Fairness.UnderCaps.{cap_of, limits}
+use Rattle.fair_rates.specs.Fairness.UnderCaps.{limits}
 use Rattle.fair_rates.specs.Sides.SideOf.{side_of}
 use Rattle.link_pairs.specs.Pairs.CapsOf.{caps_of}
 use Rattle.link_pairs.specs.Pairs.Entries.{Pair}
 use Rattle.link_pairs.proofs.Pairs.LookedUp.{looked_up}
 use Rattle.link_flights.specs.declared.flight.Flight.{Flight}
-use Rattle.link_flights.specs.Flights.Components.{is_of, those_of, places_of}
-use Rattle.link_flights.specs.Flights.Flight.{flight_at, flights_at}
+use Rattle.link_flights.specs.Flights.Components.{is_of, places_of}
+use Rattle.link_flights.specs.Flights.Flight.{flight_at}
 use Rattle.link_flights.specs.Flights.InFlight.{in_units}
 use Rattle.link_flights.specs.Flights.Sides.{left_caps, flows_of, flow_sent, end_subject, kept_load, uses_end, IsSideOf}
 use Rattle.link_flights.proofs.Flights.AllSides.{HaveAdded, of_left, cap_left, end_kind, side_there, none_there, side_added, sides_added}

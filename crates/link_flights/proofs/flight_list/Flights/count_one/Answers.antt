@@ -1,14 +1,12 @@
-use Rattle.std.proofs.Common.{◌≡◌, ◌<◌, ◌+◌, ◌-◌, ◌&&◌, true, false, Bool, Some, List, [], ◌∷◌, ◌++◌, get_or, slice_get, length}
-use Rattle.std.proofs.Common.{refl, sym, ap, ap₂, ◌∙◌, subst, map, take, arith, Contains}
+use Rattle.std.proofs.Common.{◌≡◌, ◌<◌, ◌+◌, ◌-◌, true, false, Some, slice_get}
+use Rattle.std.proofs.Common.{sym, ap, ◌∙◌, subst, arith, Contains}
 use Rattle.std.specs.List.{AllPairs}
 use Rattle.std.proofs.lemmas.Option.{get_or_from_slice_get}
-use Rattle.fair_rates.specs.Fairness.UnderCaps.{limits}
 use Rattle.fair_rates.specs.Sides.SideOf.{side_of}
 use Rattle.link_flights.specs.declared.flight.Flight.{Flight}
-use Rattle.link_flights.specs.Flights.Components.{is_of, keeps, suits, touches, places_of}
-use Rattle.link_flights.specs.Flights.Flight.{flight_at, flights_at, rate_of}
+use Rattle.link_flights.specs.Flights.Components.{is_of, keeps}
+use Rattle.link_flights.specs.Flights.Flight.{flight_at, rate_of}
 use Rattle.link_flights.specs.Flights.Sides.{IsCounted, flow_sent, uses_end, end_subject}
-use Rattle.link_flights.specs.Flights.Table.{share}
 use Rattle.link_flights.proofs.Flights.Places.{one_there}
 use Rattle.link_flights.proofs.Flights.Sides.{count_passed, count_user, count_rate, of_if_not_kept, out_if_kept, kept_rate}
 use Rattle.link_flights.proofs.Flights.Sides.{places_ascend, place_listed, suited_at}

@@ -1,4 +1,4 @@
-use Rattle.std.proofs.Common.{◌≡◌, ◌<◌, ◌+◌, ◌++◌, ◌∷◌, [], true, false, Bool, Some, get_or, slice_get, length, take, sym, ap, ◌∙◌, subst, arith}
+use Rattle.std.proofs.Common.{◌≡◌, ◌<◌, ◌++◌, ◌∷◌, [], Bool, Some, slice_get, length, sym, ap, ◌∙◌, arith}
 use Rattle.std.specs.List.{filter}
 use Rattle.std.proofs.lemmas.List.{take_all}
 use Rattle.std.proofs.lemmas.Option.{slice_get-get_or, get_or_from_slice_get, slice_get_within}
@@ -6,7 +6,7 @@ use Rattle.link_flights.specs.declared.flight.Flight.{Flight}
 use Rattle.link_flights.specs.Flights.Components.{keeps, touches, places_of, those_near}
 use Rattle.link_flights.specs.Flights.Flight.{flight_at}
 use Rattle.link_flights.proofs.Flights.Near.{count_part, place_is}
-use Rattle.link_flights.proofs.Flights.Places.{places_length, one_there}
+use Rattle.link_flights.proofs.Flights.Places.{places_length}
 use Rattle.link_flights.proofs.Flights.Sides.{place_is_of, anew_there, anew_places, anew_listed, kept_unlisted}
 use Rattle.link_flights.proofs.flight_list.Flights.places_rated.Goals as goal
 use Rattle.link_flights.proofs.flight_list.Flights.places_rated.Goals.{then-not-keeps+in_ok-push, else-not-keeps}

@@ -7,7 +7,7 @@ use Rattle.fair_rates.specs.Filling.FairParts.{parts_of_level}
 use Rattle.link_simulation.specs.Simulation.World.{last_moment}
 use Rattle.link_pairs.specs.Pairs.CapsOf.{caps_of}
 use Rattle.link_pairs.proofs.Pairs.LookedUp.{looked_up}
-use Rattle.link_flights.specs.Flights.Flight.{UnitFlight, flight_at, flights_at, AreTimed}
+use Rattle.link_flights.specs.Flights.Flight.{UnitFlight, flights_at, AreTimed}
 use Rattle.link_flights.specs.Flights.InFlight.{in_units}
 use Rattle.link_flights.specs.Flights.Rated.{rates_found, rates_of_levels, rerated, IsRatedFrom}
 use Rattle.link_flights.proofs.Flights.Components.{found_each, whole_rerated}

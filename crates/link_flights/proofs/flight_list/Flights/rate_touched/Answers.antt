@@ -13,6 +13,8 @@ use Rattle.std.specs.Prelude.{slice_index}
 use Rattle.fair_rates.specs.Fairness.UnderCaps.{sides_under}
 use Rattle.link_flights.specs.Flights.Sides.{left_caps, flows_of}
 use Rattle.link_flights.proofs.Flights.Components.{found_each}
+use Rattle.link_flights.proofs.Flights.OnlyRated.{none_beside, all_go_on, one_listed}
+use Rattle.link_flights.proofs.Flights.Rerating.{all_kept}
 use Rattle.link_flights.proofs.flight_list.Flights.rate_touched.Goals as goal
 
 pub returns-clause-gives : goal.returns-clause-gives
@@ -24,11 +26,11 @@ returns-clause-gives g c =
     let e = c.in_ok-set_rates.ensures in
     let none : part.growth.items ≡ [] =
     nil_from_length part.growth.items
-    (grind (arith, common_steps, nat_tests, c.is_empty.ensures, c.if-not-is_empty.false, part.growth.ok.0)) in
+    (grind (arith, common_steps, nat_tests, c.is_empty-2.ensures, c.if-not-is_empty.false, part.growth.ok.0)) in
     let reach : list_all (λ rate. nat_le component.level rate) (rates_found part) ≡ true = search rules in
-    let same : rates_of_levels c.deref-3.result.now c.deref-4.result.now ≡ rates_found part =
-    ap (λ ls. rates_of_levels ls c.deref-4.result.now) c.deref-3.ensures.value
-    ∙ ap (rates_of_levels c.in_ok-levels.levels.items) c.deref-4.ensures.value
+    let same : rates_of_levels c.deref-4.result.now c.deref-5.result.now ≡ rates_found part =
+    ap (λ ls. rates_of_levels ls c.deref-5.result.now) c.deref-4.ensures.value
+    ∙ ap (rates_of_levels c.in_ok-levels.levels.items) c.deref-5.ensures.value
     ∙ ap (λ ns. map (parts_of_level ns) part.level_of.items) c.in_ok-levels.ensures.same in
     let fair = c.in_ok-part.ensures.fair in
     let rated : AreRatedBeside cmp (caps_of cmp c.args.peers.now.entries c.args.pairs.now.entries) component old
@@ -47,3 +49,36 @@ returns-clause-gives g c =
       at = e.at;
       timed = e.timed;
     } in (rated, e.kept)
+
+pub returns-then-is_empty-clause-gives : goal.returns-then-is_empty-clause-gives
+returns-then-is_empty-clause-gives g c =
+    let cmp = g.P.Ord.cmp in
+    let old = c.args.self.now in
+    let component = c.args.touched.now in
+    let places = c.in_ok-places.places in
+    let none : places.items ≡ [] =
+    nil_from_length places.items
+    (grind (arith, common_steps, nat_tests, c.is_empty.ensures, c.if-is_empty.true, places.ok.0)) in (
+      record {
+        rates = [];
+        fair = none_beside cmp (caps_of cmp c.args.peers.now.entries c.args.pairs.now.entries) old.scale component
+            old.list.items old.at (sym c.in_ok-places.ensures.places ∙ none);
+        reach = refl;
+        given = sym (all_go_on cmp component old.at (in_units old));
+        scale = refl;
+        at = refl;
+        timed = c.requires.timed;
+      },
+      all_kept old.list.items,
+    )
+
+pub rate_only-requires : goal.rate_only-requires
+rate_only-requires g c = record {
+  only = c.deref-in-len1.ensures.value ∙ sym c.deref.ensures.value
+      ∙ one_listed c.deref.result.now c.in-len1.len_at_least c.in-len1.len_below;
+  places = c.deref-in-len1.ensures.value ∙ c.in_ok-places.ensures.places;
+  suited = c.requires.suited;
+  left = c.requires.left;
+  timed = c.requires.timed;
+  one_each = c.requires.one_each;
+}

@@ -1,8 +1,7 @@
-use Rattle.std.proofs.Common.{◌≡◌, ◌<◌, ◌+◌, ◌-◌, ◌*◌, true, false, Bool, Some, None, List, [], get_or, slice_get, length, IfOk}
-use Rattle.std.proofs.Common.{refl, sym, ap, ◌∙◌, subst, option_map, arith, Contains}
+use Rattle.std.proofs.Common.{◌≡◌, ◌-◌, ◌*◌, true, Some}
+use Rattle.std.proofs.Common.{sym, ap, ◌∙◌, subst, option_map, arith, Contains}
 use Rattle.std.proofs.lemmas.Bool.{true≢false}
-use Rattle.std.proofs.lemmas.Option.{get_or_from_slice_get, slice_get_within, same_Some}
-use Rattle.fair_rates.specs.Fairness.Fair.{Side}
+use Rattle.std.proofs.lemmas.Option.{get_or_from_slice_get, slice_get_within}
 use Rattle.fair_rates.specs.Fairness.UnderCaps.{cap_of}
 use Rattle.fair_rates.specs.Sides.SideOf.{side_of}
 use Rattle.link_pairs.specs.Pairs.CapsOf.{caps_of}

@@ -1,4 +1,4 @@
-use Rattle.std.proofs.Common.{◌≡◌, ◌<◌, [], List, All, map, length, sym, ap, ◌∙◌, subst}
+use Rattle.std.proofs.Common.{◌<◌, All, map, length, sym, ap, subst}
 use Rattle.fair_rates.specs.Sides.SideOf.{side_of}
 use Rattle.link_pairs.specs.Pairs.CapsOf.{caps_of}
 use Rattle.link_pairs.proofs.Pairs.LookedUp.{looked_up}

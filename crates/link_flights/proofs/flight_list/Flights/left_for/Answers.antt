@@ -1,0 +1,65 @@
+use Rattle.std.proofs.Common.{◌≡◌, ◌*◌, Bool, Option, Some, ℕ, slice_get, sym, ap, ap₂, ◌∙◌, arith, option_map}
+use Rattle.std.specs.Prelude.{unwrap_or}
+use Rattle.std.proofs.lemmas.Option.{get_or_from_slice_get, slice_get_within}
+use Rattle.fair_rates.specs.Sides.Alone.{least_of}
+use Rattle.link_pairs.specs.Pairs.CapsOf.{caps_of}
+use Rattle.link_flights.specs.declared.flight.Flight.{Flight}
+use Rattle.link_flights.specs.Flights.Components.{is_of, places_of}
+use Rattle.link_flights.specs.Flights.Flight.{flight_at}
+use Rattle.link_flights.specs.Flights.InFlight.{in_units}
+use Rattle.link_flights.specs.Flights.Sides.{left_of, flow_sent, link_subject}
+use Rattle.link_flights.proofs.Flights.AllSides.{link_left}
+use Rattle.link_flights.proofs.Flights.OnlyRated.{only_beside}
+use Rattle.link_flights.proofs.Flights.Sides.{place_is_of, those_at}
+use Rattle.link_flights.proofs.flight_list.Flights.left_for.Goals as goal
+use Rattle.link_flights.proofs.flight_list.Flights.left_for.Goals.{in-Some+in_ok-product-in-Some, in-None}
+
+pub at-requires : goal.at-requires
+at-requires g c =
+    let list = c.args.self.now.list.items in
+    let rated : Flight g.row.P.Denot → Bool = λ f. is_of g.P.Ord.cmp c.args.component.now (flight_at 0 f) in
+    let p =
+    place_is_of rated list 0 c.args.at (ap (λ ps. slice_get ps 0) (sym c.requires.places ∙ c.requires.only)) in
+    slice_get_within list c.args.at p.x p.there
+
+pub returns-clause-fair : goal.returns-clause-fair
+returns-clause-fair g c =
+    let cmp = g.P.Ord.cmp in
+    let order = g.met.P.Ord.total in
+    let self = c.args.self.now in
+    let list = self.list.items in
+    let component = c.args.component.now in
+    let us = in_units self in
+    let pairs = c.args.pairs.now.entries in
+    let caps = caps_of cmp c.args.peers.now.entries pairs in
+    let rated : Flight g.row.P.Denot → Bool = λ f. is_of cmp component (flight_at 0 f) in
+    let placed : slice_get (places_of rated 0 list) 0 ≡ Some c.args.at =
+    ap (λ ps. slice_get ps 0) (sym c.requires.places ∙ c.requires.only) in
+    let p = place_is_of rated list 0 c.args.at placed in
+    let m = p.x.message.value in
+    let s = link_subject (flow_sent cmp m) in
+    let is : c.at.result.now ≡ p.x = c.at.ensures ∙ get_or_from_slice_get list c.args.at p.x c.at.result.now p.there in
+    let cap_is : c.cap.result ≡ caps.link m.origin m.recipient =
+    c.cap.ensures.cap
+    ∙ ap (λ m. caps.link m.origin c.deref-2.result.now.recipient)
+    (c.deref.ensures ∙ ap (λ (f : Flight _). f.message.value) is)
+    ∙ ap (λ n. caps.link m.origin n.recipient) (c.deref-2.ensures ∙ ap (λ (f : Flight _). f.message.value) is) in
+    let whole : left_of cmp caps self.scale component us s ≡ option_map (λ cap. cap * self.scale) c.cap.result =
+    link_left cmp order caps self.scale component us c.requires.one_each 0 (flight_at self.at p.x)
+    (those_at cmp component list self.at 0 c.args.at p.x placed p.there) c.cap.result (sym cap_is) in
+    let between : c.match-cap.between ≡ left_of cmp caps self.scale component us s =
+    elim c.match-cap.branch [
+      | in-Some+in_ok-product-in-Some w ↦
+          w.between-is ∙ ap Some (omega (arith, w.in_ok-product-in-Some.ensures.value))
+          ∙ sym (ap (option_map (λ cap. cap * self.scale)) w.in-Some.is) ∙ sym whole
+      | in-None w ↦ w.between-is ∙ sym (ap (option_map (λ cap. cap * self.scale)) w.in-None.is) ∙ sym whole
+    ] in
+    only_beside cmp caps self.scale component list self.at c.args.at p.x (sym c.requires.places ∙ c.requires.only) p.there
+    c.unwrap_or.result
+    (c.unwrap_or.ensures ∙ ap (unwrap_or c.least-2.result) c.from_u64-none.ensures
+    ∙ ap (λ (o : Option ℕ). unwrap_or o 0)
+    (c.least-2.ensures
+    ∙ ap₂ least_of
+    (c.least.ensures
+    ∙ ap₂ least_of (c.in_ok-sent.ensures.left p.x pairs p.there) (c.in_ok-received.ensures.left p.x pairs p.there))
+    between))

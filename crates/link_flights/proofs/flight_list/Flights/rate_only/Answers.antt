@@ -1,0 +1,28 @@
+use Rattle.std.proofs.Common.{rules, ◌≡◌, ◌∷◌, ◌&&◌, ◌∙◌, [], true, nat_le, ap}
+use Rattle.link_pairs.specs.Pairs.CapsOf.{caps_of}
+use Rattle.link_flights.specs.Flights.InFlight.{in_units}
+use Rattle.link_flights.specs.Flights.Rated.{rerated, AreRatedBeside}
+use Rattle.link_flights.proofs.flight_list.Flights.rate_only.Goals as goal
+
+pub set_rates-requires-clause-one_each : goal.set_rates-requires-clause-one_each
+set_rates-requires-clause-one_each g c = c.in_ok-level.ensures.fair.one_each
+
+pub returns-then-le-clause-gives : goal.returns-then-le-clause-gives
+returns-then-le-clause-gives g c =
+    let cmp = g.P.Ord.cmp in
+    let component = c.args.touched.now in
+    let self = c.args.self.now in
+    let caps = caps_of cmp c.args.peers.now.entries c.args.pairs.now.entries in
+    let e = c.in_ok-set_rates.ensures in
+    let reach : nat_le component.level c.in_ok-level.level ≡ true = search rules in
+    let rated : AreRatedBeside cmp caps component self c.set_rates.new.self = record {
+      rates = c.in_ok-level.level ∷ [];
+      fair = c.in_ok-level.ensures.fair;
+      reach = ap (λ b. b && true) reach;
+      given =
+          e.rerated
+          ∙ ap (λ n. rerated cmp component self.at 1 (n ∷ []) (in_units self)) c.in_ok-new.ensures.ok;
+      scale = e.scale;
+      at = e.at;
+      timed = e.timed;
+    } in (rated, e.kept)
