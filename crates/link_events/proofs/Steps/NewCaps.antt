@@ -12,7 +12,7 @@ use Rattle.link_simulation.specs.Simulation.Messages.{Message, is_delivered}
 use Rattle.link_simulation.specs.Simulation.Rates.{is_unlimited}
 use Rattle.link_pairs.specs.Pairs.Messages.{message_of}
 use Rattle.link_flights.specs.Flights.Flight.{UnitFlight}
-use Rattle.link_flights.specs.Flights.Rated.{flow_in_flight}
+use Rattle.link_flights.specs.Flights.Sides.{flow_in_flight}
 
 pub not_off : (b : Bool) → not b ≡ false → b ≡ true
 not_off true h = refl
