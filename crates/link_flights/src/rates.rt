@@ -35,9 +35,6 @@ use std::alloc::Global;
 use std::collections::VecDeque;
 use std::rc::Rc;
 
-/// Where two are in flight, both are rated at each account.
-const PAIR: usize = 2;
-
 /// So many searches for what an event touches are spared after one that joined all, or too much.
 const SPARED: usize = 3;
 
@@ -138,7 +135,7 @@ impl<P: Peer> Flights<P> {
         if self.list.len() == 1 {
             return self.rate_one(peers, pairs, were_rated);
         }
-        if were_rated && self.list.len() > PAIR {
+        if were_rated {
             let mut noted = self.notes.take(self.alloc, self.list.len())?;
             let touched = self.touched(done, peers, pairs, &mut noted)?;
             self.notes.give_back(noted, &touched.near);

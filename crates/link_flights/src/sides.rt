@@ -112,7 +112,7 @@ impl<P: Peer> Flights<P> {
             (in_units self.now)) (flows_of P.cmp component.now (in_units self.now)) (map side_of sides.items)) }
         ensures refused { IfErr result (λ e. e ≡ Error.OutOfMemory) }
     {
-        let mut sides = Vec::with_capacity(self.alloc, places.len())?;
+        let mut sides = Vec::with_capacity(self.alloc, 2 * places.len())?;
         self.add_sides(End::Origin, component, places, peers, &mut sides)?;
         self.add_sides(End::Recipient, component, places, peers, &mut sides)?;
         self.add_links(places, pairs, &mut sides)?;
