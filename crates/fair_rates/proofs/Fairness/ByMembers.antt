@@ -4,11 +4,11 @@ use Rattle.std.specs.Prelude.{◌↔◌}
 use Rattle.std.specs.Cmp.{IsTotalOrder}
 use Rattle.std.specs.declared.cmp.Ordering.{Ordering}
 use Rattle.fair_rates.specs.declared.bandwidth.Flow.{Flow}
-use Rattle.fair_rates.specs.Fairness.Fair.{Side, IsLimited, IsFair}
+use Rattle.fair_rates.specs.Fairness.Fair.{Side, IsFair}
 use Rattle.fair_rates.specs.Fairness.Laws.{AreTheSameSides}
 use Rattle.fair_rates.specs.Fairness.UnderCaps.{AreOfPeers, sides_under, IsCappedSide}
 use Rattle.fair_rates.specs.Sides.Caps.{Caps}
-use Rattle.fair_rates.proofs.Fairness.SameSides.{still_fair, still_limited}
+use Rattle.fair_rates.proofs.Fairness.SameSides.{still_fair}
 use Rattle.fair_rates.proofs.Sides.CapSides.{sides_are_of_the_caps}
 
 module _ {P : Type 0} (cmp : P → P → Ordering) (order : IsTotalOrder cmp) (caps : Caps P) (of : AreOfPeers cmp caps)
@@ -23,7 +23,3 @@ module _ {P : Type 0} (cmp : P → P → Ordering) (order : IsTotalOrder cmp) (c
   pub fair_of_members : (per : ℕ) (parts : ℕ → ℕ) → IsFair sides per parts
       → IsFair (sides_under cmp caps flows) per parts
   fair_of_members per parts fair = still_fair sides (sides_under cmp caps flows) are_the_same per parts fair
-
-  -- and they limit whom the caps limit
-  pub limited_of_members : (flow : ℕ) → IsLimited sides flow ↔ IsLimited (sides_under cmp caps flows) flow
-  limited_of_members flow = still_limited sides (sides_under cmp caps flows) are_the_same flow

@@ -172,31 +172,6 @@ module _ {P X : Type 0} (cmp : P → P → Ordering) (caps : Caps P) (flow : X �
           (λ off. held_kept x h off (old.held x (kept_before x h off) c));
     }
 
-  -- where all near one that is rated are in the part, what is fair in the part is fair among all
-  pub beside_more : (near rated : X → Bool) (per : ℕ) (xs : List X)
-      → ((s : Subject P) (cap : ℕ) (x y : X) → cap_of caps s ≡ Some cap → In xs x → In xs y → rated x ≡ true
-      → limits cmp s (flow x) ≡ true → limits cmp s (flow y) ≡ true → near y ≡ true)
-      → ((x : X) → In xs x → rated x ≡ true → near x ≡ true)
-      → AreSharedBeside rated per (filter near xs) → AreSharedBeside rated per xs
-  beside_more near rated per xs near_all rated_near f = record {
-    within = λ s cap has x h r l.
-        omega (
-          arith,
-          total_same cmp caps flow parts near s xs (λ y among m. near_all s cap x y has h among r l m),
-          f.within s cap has x (in_filter near xs x h (rated_near x h r)) r l,
-        );
-    held = λ x h r c.
-        let b = f.held x (in_filter near xs x h (rated_near x h r)) r c in record {
-          by = b.by;
-          full =
-              sym
-              (total_same cmp caps flow parts near b.by.subject xs
-              (λ y among l. near_all b.by.subject b.by.cap x y b.by.capped h among r b.by.limited l))
-              ∙ b.full;
-          greatest = λ y among on l. b.greatest y (in_filter near xs y among (rated_near y among on)) on l;
-        };
-  }
-
   -- those that are rated and those that keep their rates are all
   total_parted : (rated : X → Bool) (s : Subject P) (xs : List X)
       → total cmp caps flow parts s (filter rated xs) + total cmp caps flow parts s (keeping rated xs)

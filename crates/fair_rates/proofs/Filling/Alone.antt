@@ -1,10 +1,10 @@
 -- The fair rate of a flow alone: the least of its caps.
 use Rattle.std.proofs.Common.{◌≡◌, ℕ, ◌*◌, ◌<◌, ◌≤◌, List, [], ◌∷◌, map, Contains, Bool, Option, Some, None}
-use Rattle.std.proofs.Common.{IsSome, refl, sym, ap, subst, ◌∙◌, arith, mul-le-mul_right}
-use Rattle.std.specs.Prelude.{◌↔◌, option_map, slice_index, unwrap_or}
+use Rattle.std.proofs.Common.{refl, sym, ap, subst, ◌∙◌, arith, mul-le-mul_right}
+use Rattle.std.specs.Prelude.{option_map, slice_index, unwrap_or}
 use Rattle.std.specs.declared.cmp.Ordering.{Ordering}
 use Rattle.std.proofs.lemmas.List.Elements.{All-nil, All-cons, All-map, All-weaker, All-contains}
-use Rattle.fair_rates.specs.Fairness.Fair.{Side, Uses, IsLimited, IsWithinCaps, HasBottleneck, IsFair, load}
+use Rattle.fair_rates.specs.Fairness.Fair.{Side, Uses, IsWithinCaps, HasBottleneck, IsFair, load}
 use Rattle.fair_rates.specs.Fairness.UnderCaps.{sides_under}
 use Rattle.fair_rates.specs.Sides.Alone.{least_cap_of}
 use Rattle.fair_rates.specs.Sides.Caps.{Caps}
@@ -78,19 +78,6 @@ module _ (scale : ℕ) (some : 0 < scale) where
       (fair_without scale some (slice_index (0 ∷ [])))
   fair_by (Some cap) caps is = fair_alone caps cap is scale some (slice_index (scale * cap ∷ [])) refl
 
-  limited_by : (least : Option ℕ) (caps : List ℕ) → IsLeast least caps
-      → IsSome (times_least scale least) ↔ IsLimited (map side_alone caps) 0
-  limited_by None caps none = (
-    λ h. absurd (cc),
-    λ limited.
-        let there : IsLimited [] 0 = subst (λ (cs : List ℕ). IsLimited (map side_alone cs) 0) none limited in
-        absurd (in_from_contains [] there.0 there.1.listed),
-  )
-  limited_by (Some cap) caps is = (
-    λ h. (side_alone cap, uses_least caps cap is scale some (slice_index (scale * cap ∷ [])) refl),
-    λ limited. refl,
-  )
-
   module _ {P : Type 0} (cmp : P → P → Ordering) (caps : Caps P) (f : Flow P) (own : FlowCaps) (delivered : Bool)
       (egress : own.egress ≡ caps.egress f.origin) (ingress : own.ingress ≡ caps.ingress f.recipient)
       (link : own.link ≡ caps.link f.origin f.recipient) (arrives : delivered ≡ f.delivered) (parts : Option ℕ)
@@ -109,10 +96,3 @@ module _ (scale : ℕ) (some : 0 < scale) where
         (subst (λ (s : List Side). IsFair s scale
         (slice_index (unwrap_or (times_least scale (least_cap_of own f.delivered)) 0 ∷ []))) (sym sides_are)
         (fair_by (least_cap_of own f.delivered) (caps_of own f.delivered) (least_cap_is own f.delivered)))
-
-    -- and there is one where some side limits it
-    pub parts_alone_limited : IsSome parts ↔ IsLimited (sides_under cmp caps (f ∷ [])) 0
-    parts_alone_limited =
-        subst (λ (o : Option ℕ). IsSome o ↔ IsLimited (sides_under cmp caps (f ∷ [])) 0) (sym here)
-        (subst (λ (s : List Side). IsSome (times_least scale (least_cap_of own f.delivered)) ↔ IsLimited s 0)
-        (sym sides_are) (limited_by (least_cap_of own f.delivered) (caps_of own f.delivered) (least_cap_is own f.delivered)))
