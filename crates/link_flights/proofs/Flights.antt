@@ -21,6 +21,7 @@ pub mod Loosened
 pub mod Near
 pub mod OnlyRated
 pub mod Noted
+pub mod Numbered
 pub mod Places
 pub mod Rated
 pub mod RatesGiven

@@ -13,6 +13,7 @@ pub mod flight_list;
 mod fraction;
 pub mod loose;
 mod notes;
+mod numbers;
 mod rates;
 pub mod reading;
 mod sides;

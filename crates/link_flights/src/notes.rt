@@ -11,6 +11,8 @@ use std::mem;
 #[derive(Drop)]
 pub(crate) struct Notes {
     noted: Vec<bool>,
+    // In which numbers of places were noted. What it holds says nothing.
+    room: Vec<usize>,
 }
 
 impl Model for Notes {
@@ -28,7 +30,18 @@ impl Notes {
     pub(crate) fn new(alloc: Global) -> Notes {
         Notes {
             noted: Vec::new(alloc),
+            room: Vec::new(alloc),
         }
+    }
+
+    /// Room for numbers of places. It is taken out until it is kept again.
+    pub(crate) fn take_room(&mut self, alloc: Global) -> Vec<usize> {
+        mem::replace(&mut self.room, Vec::new(alloc))
+    }
+
+    /// Room for numbers of places is kept.
+    pub(crate) fn keep_room(&mut self, room: Vec<usize>) {
+        self.room = room;
     }
 
     /// Room for so many places, of which none is noted. It is taken out until it is given back.

@@ -24,6 +24,7 @@ use crate::component::Component;
 use crate::flight::{Flight, grow};
 use crate::flight_list::Flights;
 use crate::loose::Loose;
+use crate::numbers::Numbers;
 use fair_rates::bandwidth::{FairParts, FlowCaps, fair_parts_on, parts_alone};
 use fair_rates::error::Error;
 use fair_rates::peer::Peer;
@@ -196,7 +197,10 @@ impl<P: Peer> Flights<P> {
     {
         let all = Component::whole(self.alloc);
         let places = self.places_rated(&all)?;
-        let rates = self.rates_at(&all, &places, peers, pairs)?;
+        let numbers = Numbers::of(places, self.notes.take_room(self.alloc), self.list.len())?;
+        let rates = self.rates_at(&all, &numbers, peers, pairs)?;
+        let (places, room) = numbers.into_parts();
+        self.notes.keep_room(room);
         let mut scale = self.scale.clone()?;
         grow(&mut scale, &rates.growth)?;
         let levels = shared_levels(self.alloc, rates.levels)?;
@@ -259,10 +263,13 @@ impl<P: Peer> Flights<P> {
             self.rated_anew = 0;
             return Ok(Some(0));
         }
-        if let [only] = *places {
-            return self.rate_only(touched, only, &places, peers, pairs);
+        let numbers = Numbers::of(places, self.notes.take_room(self.alloc), self.list.len())?;
+        if let [only] = *numbers.places() {
+            return self.rate_only(touched, only, numbers, peers, pairs);
         }
-        let part = self.rates_at(touched, &places, peers, pairs)?;
+        let part = self.rates_at(touched, &numbers, peers, pairs)?;
+        let (places, room) = numbers.into_parts();
+        self.notes.keep_room(room);
         if !part.growth.is_empty() || !all_reach(&part, &touched.level) {
             return Ok(None);
         }
@@ -277,12 +284,12 @@ impl<P: Peer> Flights<P> {
         &mut self,
         touched: &Component<P>,
         at: usize,
-        places: &[usize],
+        numbers: Numbers,
         peers: &Peers<P>,
         pairs: &Pairs<P>,
     ) -> Result<Option<usize>, Error>
-        requires only { places.now ≡ at ∷ [] }
-        requires places { places.now ≡ places_of (λ f. is_of P.cmp touched.now (flight_at 0 f)) 0 self.old.list.items }
+        requires only { numbers ≡ at ∷ [] }
+        requires places { numbers ≡ places_of (λ f. is_of P.cmp touched.now (flight_at 0 f)) 0 self.old.list.items }
         requires suited { list_all (suits P.cmp touched.now) (in_units self.old) ≡ true }
         requires left { All (λ u. u.left ≢ 0) (in_units self.old) }
         requires timed { AreTimed self.old.list.items }
@@ -292,10 +299,12 @@ impl<P: Peer> Flights<P> {
         ensures before { self.new.list.before ≡ self.old.list.before }
         ensures refused { IfErr result (λ e. e ≡ Error.OutOfMemory) }
     {
-        let level = self.left_for(touched, at, places, peers, pairs)?;
+        let level = self.left_for(touched, at, &numbers, peers, pairs)?;
+        let (places, room) = numbers.into_parts();
+        self.notes.keep_room(room);
         if touched.level <= level {
             let levels = [Rc::new(self.alloc, level)?];
-            self.set_rates(touched, places, &levels, &[Some(0)], &[], true)?;
+            self.set_rates(touched, &places, &levels, &[Some(0)], &[], true)?;
             return Ok(Some(1));
         }
         Ok(None)
@@ -403,19 +412,19 @@ impl<P: Peer> Flights<P> {
     fn rates_at(
         &self,
         component: &Component<P>,
-        places: &[usize],
+        numbers: &Numbers,
         peers: &Peers<P>,
         pairs: &Pairs<P>,
     ) -> Result<FairParts, Error>
-        requires places { places.now ≡ places_of (λ f. is_of P.cmp component.now (flight_at 0 f)) 0 self.now.list.items }
+        requires places { numbers.now ≡ places_of (λ f. is_of P.cmp component.now (flight_at 0 f)) 0 self.now.list.items }
         requires suited { list_all (suits P.cmp component.now) (in_units self.now) ≡ true }
         requires one_each { OneForEachPair P.cmp (sent_messages (in_units self.now)) }
         ensures fair { IfOk result (AreFairOn P.cmp (caps_of P.cmp peers.now.entries pairs.now.entries)
             self.now.scale component.now (in_units self.now)) }
         ensures refused { IfErr result (λ e. e ≡ Error.OutOfMemory) }
     {
-        let sides = self.sides_of(component, places, peers, pairs)?;
-        Ok(fair_parts_on(self.alloc, places.len(), sides)?)
+        let sides = self.sides_of(component, numbers, peers, pairs)?;
+        Ok(fair_parts_on(self.alloc, numbers.places().len(), sides)?)
     }
 
     /// Gives those at these places, of a component, the rates of their levels from the last account on. What is left

@@ -25,6 +25,7 @@ ghost use Rattle.link_flights.specs.Flights.Table.{share};
 
 use crate::component::Component;
 use crate::flight_list::Flights;
+use crate::numbers::Numbers;
 use crate::table::End;
 use fair_rates::bandwidth::Side;
 use fair_rates::error::Error;
@@ -53,21 +54,6 @@ fn cap_at<P: Peer>(end: End, message: &Message<P>, peers: &Peers<P>) -> Option<u
     match end {
         End::Origin => peers.egress(&message.origin),
         End::Recipient => peers.ingress(&message.recipient),
-    }
-}
-
-/// The number of a place among those that are listed, which ascend.
-fn number_of(places: &[usize], at: usize) -> usize
-    requires order { AllPairs (λ one other. one < other) places.now }
-    requires among { Contains places.now at }
-    ensures { slice_get places.now result ≡ Some at }
-{
-    if places.get(at) == Some(&at) {
-        return at;
-    }
-    match places.binary_search(&at) {
-        Ok(number) => number,
-        Err(_) => unreachable!(),
     }
 }
 
@@ -100,11 +86,11 @@ impl<P: Peer> Flights<P> {
     pub(crate) fn sides_of(
         &self,
         component: &Component<P>,
-        places: &[usize],
+        numbers: &Numbers,
         peers: &Peers<P>,
         pairs: &Pairs<P>,
     ) -> Result<Vec<Side>, Error>
-        requires places { places.now ≡ places_of (λ f. is_of P.cmp component.now (flight_at 0 f)) 0 self.now.list.items }
+        requires places { numbers.now ≡ places_of (λ f. is_of P.cmp component.now (flight_at 0 f)) 0 self.now.list.items }
         requires suited { list_all (suits P.cmp component.now) (in_units self.now) ≡ true }
         requires one_each { OneForEachPair P.cmp (sent_messages (in_units self.now)) }
         ensures sides { IfOk result (λ sides. AreAllSides P.cmp
@@ -112,9 +98,10 @@ impl<P: Peer> Flights<P> {
             (in_units self.now)) (flows_of P.cmp component.now (in_units self.now)) (map side_of sides.items)) }
         ensures refused { IfErr result (λ e. e ≡ Error.OutOfMemory) }
     {
+        let places = numbers.places();
         let mut sides = Vec::with_capacity(self.alloc, 2 * places.len())?;
-        self.add_sides(End::Origin, component, places, peers, &mut sides)?;
-        self.add_sides(End::Recipient, component, places, peers, &mut sides)?;
+        self.add_sides(End::Origin, component, numbers, peers, &mut sides)?;
+        self.add_sides(End::Recipient, component, numbers, peers, &mut sides)?;
         self.add_links(places, pairs, &mut sides)?;
         Ok(sides)
     }
@@ -125,12 +112,12 @@ impl<P: Peer> Flights<P> {
         &self,
         component: &Component<P>,
         at: usize,
-        places: &[usize],
+        numbers: &Numbers,
         peers: &Peers<P>,
         pairs: &Pairs<P>,
     ) -> Result<Natural, Error>
-        requires only { places.now ≡ at ∷ [] }
-        requires places { places.now ≡ places_of (λ f. is_of P.cmp component.now (flight_at 0 f)) 0 self.now.list.items }
+        requires only { numbers.now ≡ at ∷ [] }
+        requires places { numbers.now ≡ places_of (λ f. is_of P.cmp component.now (flight_at 0 f)) 0 self.now.list.items }
         requires suited { list_all (suits P.cmp component.now) (in_units self.now) ≡ true }
         requires one_each { OneForEachPair P.cmp (sent_messages (in_units self.now)) }
         ensures fair { IfOk result (λ left. AreFairRatesBeside P.cmp
@@ -138,8 +125,8 @@ impl<P: Peer> Flights<P> {
             (left ∷ [])) }
         ensures refused { IfErr result (λ e. e ≡ Error.OutOfMemory) }
     {
-        let sent = self.left_at(End::Origin, at, component, places, peers)?;
-        let received = self.left_at(End::Recipient, at, component, places, peers)?;
+        let sent = self.left_at(End::Origin, at, component, numbers, peers)?;
+        let received = self.left_at(End::Recipient, at, component, numbers, peers)?;
         let message = &self.list.at(at).message;
         let between = match pairs.cap(&message.origin, &message.recipient) {
             Some(cap) => Some(self.scale.product(cap)?),
@@ -155,11 +142,11 @@ impl<P: Peer> Flights<P> {
         end: End,
         at: usize,
         component: &Component<P>,
-        places: &[usize],
+        numbers: &Numbers,
         peers: &Peers<P>,
     ) -> Result<Option<Natural>, Error>
-        requires at { Contains places.now at }
-        requires places { places.now ≡ places_of (λ f. is_of P.cmp component.now (flight_at 0 f)) 0 self.now.list.items }
+        requires at { Contains numbers.now at }
+        requires places { numbers.now ≡ places_of (λ f. is_of P.cmp component.now (flight_at 0 f)) 0 self.now.list.items }
         requires suited { list_all (suits P.cmp component.now) (in_units self.now) ≡ true }
         ensures left { IfOk result (λ left. (one : AnyFlight P) (pairs : List (AnyPair P))
             → slice_get self.now.list.items at ≡ Some one → left ≡ cond (uses_end P.cmp end one.message.value)
@@ -167,7 +154,7 @@ impl<P: Peer> Flights<P> {
             (end_subject end (flow_sent P.cmp one.message.value))) None) }
         ensures refused { IfErr result (λ e. e ≡ Error.OutOfMemory) }
     {
-        match self.side_at(end, at, component, places, peers)? {
+        match self.side_at(end, at, component, numbers, peers, 1)? {
             Some(side) => Ok(Some(side.cap)),
             None => Ok(None),
         }
@@ -178,11 +165,11 @@ impl<P: Peer> Flights<P> {
         &self,
         end: End,
         component: &Component<P>,
-        places: &[usize],
+        numbers: &Numbers,
         peers: &Peers<P>,
         sides: &mut Vec<Side>,
     ) -> Result<(), Error>
-        requires places { places.now ≡ places_of (λ f. is_of P.cmp component.now (flight_at 0 f)) 0 self.now.list.items }
+        requires places { numbers.now ≡ places_of (λ f. is_of P.cmp component.now (flight_at 0 f)) 0 self.now.list.items }
         requires suited { list_all (suits P.cmp component.now) (in_units self.now) ≡ true }
         ensures adds { OnOk result ((pairs : List (AnyPair P)) → AddsSides P.cmp
             (left_caps P.cmp (caps_of P.cmp peers.now.entries pairs) self.now.scale component.now (in_units self.now))
@@ -190,13 +177,16 @@ impl<P: Peer> Flights<P> {
             (map side_of sides.old.items) (map side_of sides.new.items)) }
         ensures refused { IfErr result (λ e. e ≡ Error.OutOfMemory) }
     {
+        let places = numbers.places();
         let mut has_side = vec![in self.alloc; false; places.len()]?;
+        let mut room = 0;
         for number in 0..places.len() {
             if has_side[number] {
                 continue;
             }
-            if let Some(side) = self.side_at(end, places[number], component, places, peers)? {
+            if let Some(side) = self.side_at(end, places[number], component, numbers, peers, room)? {
                 note_users(&mut has_side, &side.users);
+                room = side.users.len();
                 sides.push(side)?;
             }
         }
@@ -209,11 +199,12 @@ impl<P: Peer> Flights<P> {
         end: End,
         at: usize,
         component: &Component<P>,
-        places: &[usize],
+        numbers: &Numbers,
         peers: &Peers<P>,
+        room: usize,
     ) -> Result<Option<Side>, Error>
-        requires at { Contains places.now at }
-        requires places { places.now ≡ places_of (λ f. is_of P.cmp component.now (flight_at 0 f)) 0 self.now.list.items }
+        requires at { Contains numbers.now at }
+        requires places { numbers.now ≡ places_of (λ f. is_of P.cmp component.now (flight_at 0 f)) 0 self.now.list.items }
         requires suited { list_all (suits P.cmp component.now) (in_units self.now) ≡ true }
         ensures side { IfOk result (λ side. IfSome side (λ side. (one : AnyFlight P) (pairs : List (AnyPair P))
             → slice_get self.now.list.items at ≡ Some one → IsSideOf P.cmp
@@ -236,11 +227,11 @@ impl<P: Peer> Flights<P> {
         };
         let mut side = Side {
             cap: self.scale.product(cap)?,
-            users: Vec::new(self.alloc),
+            users: Vec::with_capacity(self.alloc, room)?,
         };
         let mut next = self.list.first_at(end, message);
         while let Some(at) = next {
-            self.count_one(end, at, component, places, &mut side)?;
+            self.count_one(end, at, component, numbers, &mut side)?;
             next = self.list.next_at(end, at);
         }
         Ok(Some(side))
@@ -252,11 +243,11 @@ impl<P: Peer> Flights<P> {
         end: End,
         at: usize,
         component: &Component<P>,
-        places: &[usize],
+        numbers: &Numbers,
         side: &mut Side,
     ) -> Result<(), Error>
         requires within { at < length self.now.list.items }
-        requires places { places.now ≡ places_of (λ f. is_of P.cmp component.now (flight_at 0 f)) 0 self.now.list.items }
+        requires places { numbers.now ≡ places_of (λ f. is_of P.cmp component.now (flight_at 0 f)) 0 self.now.list.items }
         requires suited { list_all (suits P.cmp component.now) (in_units self.now) ≡ true }
         requires near { (one : AnyFlight P) → slice_get self.now.list.items at ≡ Some one
             → uses_end P.cmp end one.message.value ≡ true → touches P.cmp component.now one.message.value ≡ true }
@@ -272,8 +263,8 @@ impl<P: Peer> Flights<P> {
         if !uses(end, &one.message) {
             return Ok(());
         }
-        if !component.keeps(one) {
-            side.users.push(number_of(places, at))?;
+        if let Some(number) = numbers.number(at) {
+            side.users.push(number)?;
             return Ok(());
         }
         if let Some(rate) = &one.rate {

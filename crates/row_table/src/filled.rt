@@ -26,16 +26,21 @@ pub(crate) fn refill<T>(filled: &mut Vec<usize>, slots: &[Option<Row<T>>])
 /// where there are fewer.
 const GUESSED: u32 = 16;
 
-/// Where a slot stands in a list of them that ascends, if it is among those that are guessed at. No slot stands behind
-/// its number, and none further before it than there are gaps. No branch hangs on a comparison: a processor would
-/// guess it wrongly every other time.
-fn guess(filled: &[usize], slot: usize) -> usize {
-    let Some(last) = filled.last() else {
+/// Where a slot stands in a list of them that ascends, if it is among those that are guessed at, by a place at which
+/// one stands that is no greater. No slot stands further behind that place than so many slots further it is, and none
+/// further before that than there are gaps. No branch hangs on a comparison: a processor would guess it wrongly every
+/// other time.
+fn guess(filled: &[usize], slot: usize, from: usize) -> usize {
+    let (Some(known), Some(last)) = (filled.get(from), filled.last()) else {
         return 0;
     };
-    let gaps = last.wrapping_add(1).saturating_sub(filled.len()).min(slot);
+    let further = slot.saturating_sub(*known);
+    let gaps = last
+        .wrapping_add(1)
+        .saturating_sub(filled.len())
+        .min(further);
     let most = usize::BITS.saturating_sub(gaps.leading_zeros());
-    let mut place = slot.saturating_sub(gaps);
+    let mut place = from.wrapping_add(further - gaps);
     let mut shift = GUESSED.min(most);
     while shift > 0 {
         shift -= 1;
@@ -47,13 +52,13 @@ fn guess(filled: &[usize], slot: usize) -> usize {
     place
 }
 
-/// Where a slot stands in a list of them that ascends.
-pub(crate) fn place_of(filled: &[usize], slot: usize) -> Option<usize>
+/// Where a slot stands in a list of them that ascends. It is looked for behind a place first.
+pub(crate) fn place_of(filled: &[usize], slot: usize, from: usize) -> Option<usize>
     ensures some { IfSome result (λ at. slice_get filled.now at ≡ Some slot) }
     ensures none { IfNone result
         (AllPairs (λ one other. one < other) filled.now → (at : ℕ) → slice_get filled.now at ≡ Some slot → ⊥) }
 {
-    let place = guess(filled, slot);
+    let place = guess(filled, slot, from);
     if filled.get(place) == Some(&slot) {
         return Some(place);
     }

@@ -56,13 +56,13 @@ impl<T: Drop> Parts<T> {
         self.filled[at]
     }
 
-    /// The place of the row in a slot; none where there is no slot.
-    pub(crate) fn place(&self, slot: Option<usize>) -> Option<usize>
+    /// The place of the row in a slot; none where there is no slot. It is looked for behind a place first.
+    pub(crate) fn place(&self, slot: Option<usize>, from: usize) -> Option<usize>
         requires stands { Stands self.now }
         requires row { IfSome slot (λ slot. IsSome (held self.now.slots.items slot)) }
         ensures { IsPlaceOf self.now.filled.items slot result }
     {
-        place_of(self.filled.as_slice(), slot?)
+        place_of(self.filled.as_slice(), slot?, from)
     }
 
     /// A row comes. Where memory is refused, part of that is done.

@@ -154,7 +154,7 @@ impl<T: Drop> RowTable<T> {
         if owner >= self.parts.index.sent.owners() {
             return None;
         }
-        self.parts.place(self.parts.index.sent.first(owner))
+        self.parts.place(self.parts.index.sent.first(owner), 0)
     }
 
     /// The next row behind one that the same owner sends.
@@ -166,7 +166,8 @@ impl<T: Drop> RowTable<T> {
     {
         let slot = self.parts.slot_at(at);
         let (sender, _) = self.parts.owners_in(slot);
-        self.parts.place(self.parts.index.sent.next(sender, slot))
+        self.parts
+            .place(self.parts.index.sent.next(sender, slot), at)
     }
 
     /// The first row that an owner receives.
@@ -177,7 +178,7 @@ impl<T: Drop> RowTable<T> {
         if owner >= self.parts.index.received.owners() {
             return None;
         }
-        self.parts.place(self.parts.index.received.first(owner))
+        self.parts.place(self.parts.index.received.first(owner), 0)
     }
 
     /// The next row behind one that the same owner receives.
@@ -190,7 +191,7 @@ impl<T: Drop> RowTable<T> {
         let slot = self.parts.slot_at(at);
         let (_, receiver) = self.parts.owners_in(slot);
         self.parts
-            .place(self.parts.index.received.next(receiver, slot))
+            .place(self.parts.index.received.next(receiver, slot), at)
     }
 
     /// The first row from that place on whose moment has come by a time.
@@ -203,7 +204,7 @@ impl<T: Drop> RowTable<T> {
         }
         let slot = self.parts.slot_at(from);
         self.parts
-            .place(self.parts.index.moments.next_due(slot, time))
+            .place(self.parts.index.moments.next_due(slot, time), from)
     }
 
     /// The least of all moments; none where all are missing.

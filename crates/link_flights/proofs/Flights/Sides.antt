@@ -1,17 +1,11 @@
 -- The sides of those in flight that are rated anew: how one is counted along its chain, and that they are all.
 use Rattle.std.proofs.Common.{◌≡◌, ℕ, zero, suc, ◌+◌, ◌-◌, ◌<◌, ◌≤◌, Bool, true, false, cond, not, ◌&&◌, ◌||◌}
-use Rattle.std.proofs.Common.{◌⊎◌, inl, inr, List, [], ◌∷◌, ◌++◌, Option, Some, None, Err, All, Contains, slice_set, map, length, take}
+use Rattle.std.proofs.Common.{◌⊎◌, inl, inr, List, [], ◌∷◌, ◌++◌, Option, Some, None, All, Contains, slice_set, map, length, take}
 use Rattle.std.proofs.Common.{get_or, slice_get, sum_by, if◌then◌else◌, zero-add, unwrap_or, refl, sym, ap, ap₂, ◌∙◌, subst, arith, option_map}
-use Rattle.std.specs.List.{filter, list_all, AllPairs, HoldsAt}
-use Rattle.std.specs.List.Sorted.{IsBinarySearchResult}
-use Rattle.std.specs.Ordering.{nat_cmp, is_lt}
-use Rattle.std.specs.declared.cmp.Ordering.TheVariants.{Less, Equal, Greater}
+use Rattle.std.specs.List.{filter, list_all, AllPairs}
 use Rattle.std.specs.Cmp.{IsTotalOrder}
 use Rattle.std.specs.declared.cmp.Ordering.{Ordering}
-use Rattle.std.proofs.lemmas.Bool.{false≢true, cases_eq, cases_lt}
-use Rattle.std.proofs.lemmas.Bool.Decides.{nat_tests}
-use Rattle.std.proofs.lemmas.Cmp.{nat_cmp_total, ranked}
-use Rattle.std.proofs.lemmas.List.Sorted.{searchable_from_sorted}
+use Rattle.std.proofs.lemmas.Bool.{false≢true, cases_eq}
 use Rattle.link_pairs.proofs.Pairs.ByNumber.{get_set_other}
 use Rattle.std.proofs.lemmas.List.{append-nil, length-map, map-append, take_more, take_all}
 use Rattle.std.proofs.lemmas.List.Elements.{filter-append}
@@ -192,33 +186,6 @@ noted_more before now users i inside noted k is = elim (cases_eq k (get_or users
     in_next (inr h) =
         subst (λ us. Contains us k) (sym (take_more users i 0 inside))
         (contains_from_in (take i users ++ get_or users i 0 ∷ []) k (in_right (take i users) (get_or users i 0 ∷ []) k h))
-
--- what a search finds is there
-pub found_there : (xs : List ℕ) (x i : ℕ) → i < length xs → HoldsAt (λ y. nat_cmp y x ≡ Equal) xs i
-    → slice_get xs i ≡ Some x
-found_there xs x i within found =
-    let one = one_there xs i within in
-    let same : one.0 ≡ x = ranked one.0 x Equal
-    (sym (ap (λ y. nat_cmp y x) (sym (get_or_from_slice_get xs i one.0 one.0 one.1)) ∙ found one.0)) in
-    one.1 ∙ ap Some same
-
--- and it misses nothing in a list that ascends
-pub never_missed : (xs : List ℕ) (x i : ℕ) → IsBinarySearchResult (λ y. nat_cmp y x) xs (Err i)
-    → AllPairs (λ one other. one < other) xs → Contains xs x → ⊥
-never_missed xs x i found up (at, within, is) =
-    let part = found (searchable_from_sorted nat_cmp_total (λ y. y) xs x
-    (λ k d from low. not_less (get_or xs k d) (get_or xs (k + 1) d) (up k (k + 1) d (omega arith) low))) in
-    elim (cases_lt at i) [
-      | inl less ↦
-          let same : x < x = ranked x x Less (sym (ap (λ y. nat_cmp y x) (sym is) ∙ part.0 at x (omega arith) less)) in
-          omega (arith, same)
-      | inr le ↦
-          let same : x < x = ranked x x Greater (sym (ap (λ y. nat_cmp y x) (sym is) ∙ part.1 at x le within)) in
-          omega (arith, same)
-    ]
-  where
-    not_less : (a b : ℕ) → a < b → is_lt (nat_cmp b a) ≡ false
-    not_less a b less = grind (arith, nat_tests)
 
 -- the places of those that pass ascend
 module _ {X : Type 0} (test : X → Bool) where
@@ -554,6 +521,11 @@ module _ {P : Type 0} (cmp : P → P → Ordering) (component : Component P) (u 
       none_and : (b : Bool) → (b && false) ≡ false
       none_and true = refl
       none_and false = refl
+
+  -- and one that is not keeps its rate
+  pub kept_if_out : touches cmp component u.message ≡ true → is_of cmp component u ≡ false → keeps component u ≡ true
+  kept_if_out near out =
+      by_bool (keeps component u) (λ kept. kept) (λ free. absurd (false≢true (sym out ∙ of_if_not_kept near free)))
 
 -- what one drains that keeps its rate
 pub kept_rate : {P : Type 0} (component : Component P) (one : Flight P) → keeps component (flight_at 0 one) ≡ true

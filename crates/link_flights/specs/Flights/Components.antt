@@ -115,6 +115,10 @@ pub record AreNoted (near : List ℕ) (noted : List Bool) : Type 0 where
   pub listed : (at : ℕ) → slice_get noted at ≡ Some true → Contains near at
   pub only : All (λ at. slice_get noted at ≡ Some true) near
 
+-- each place of a list has its number noted at it
+abbrev pub AreNumbered : List ℕ → List ℕ → Type 0
+AreNumbered places number_at = (k at : ℕ) → slice_get places k ≡ Some at → slice_get number_at at ≡ Some k
+
 -- they are in order, from a place on
 abbrev pub Ascends : ℕ → List ℕ → Type 0
 Ascends first [] = Unit {0}

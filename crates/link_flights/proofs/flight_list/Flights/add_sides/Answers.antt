@@ -50,11 +50,11 @@ note_users-requires g c k d within =
     let end = c.args.end in
     let us = in_units self in
     let number = c.loop-number.number in
-    let at = get_or c.args.places.now number 0 in
+    let at = get_or c.places-places.result.now number 0 in
     let rated : Flight g.row.P.Denot → Bool = λ f. is_of cmp component (flight_at 0 f) in
     let placed : slice_get (places_of rated 0 self.list.items) number ≡ Some at =
-    subst (λ ps. slice_get ps number ≡ Some at) c.requires.places
-    (slice_get-get_or c.args.places.now number 0 c.loop-number-test.true) in
+    subst (λ ps. slice_get ps number ≡ Some at) (c.places-places.ensures ∙ c.requires.places)
+    (slice_get-get_or c.places-places.result.now number 0 c.loop-number-test.true) in
     let p = place_is_of rated self.list.items number at placed in
     let there = flow_at cmp component self.list.items self.at number at p.x placed p.there in
     let is = (subst (λ o. IfSome o (λ side. (one : Flight g.row.P.Denot) (pairs : List (Pair g.row.P.Denot))
@@ -73,7 +73,7 @@ note_users-requires g c k d within =
       ap length c.deref_mut.ensures.value,
       c.loop-number.invariant.each,
       as_many cmp component self.list.items self.at,
-      ap length c.requires.places,
+      ap length (c.places-places.ensures ∙ c.requires.places),
     )
 
 pub loop-number-preserved : goal.loop-number-preserved
@@ -85,11 +85,11 @@ loop-number-preserved g c =
     let end = c.args.end in
     let us = in_units self in
     let number = c.loop-number.number in
-    let at = get_or c.args.places.now number 0 in
+    let at = get_or c.places-places.result.now number 0 in
     let rated : Flight g.row.P.Denot → Bool = λ f. is_of cmp component (flight_at 0 f) in
     let placed : slice_get (places_of rated 0 self.list.items) number ≡ Some at =
-    subst (λ ps. slice_get ps number ≡ Some at) c.requires.places
-    (slice_get-get_or c.args.places.now number 0 c.loop-number-test.true) in
+    subst (λ ps. slice_get ps number ≡ Some at) (c.places-places.ensures ∙ c.requires.places)
+    (slice_get-get_or c.places-places.result.now number 0 c.loop-number-test.true) in
     let p = place_is_of rated self.list.items number at placed in
     let there = flow_at cmp component self.list.items self.at number at p.x placed p.there in
     elim c.match-branch-3.branch [
@@ -167,4 +167,4 @@ returns-clause-adds g c pairs =
     (end_subject c.args.end) (end_kind cmp c.args.end) (map side_of c.args.sides.now.items)
     (map side_of c.loop-number.sides.items) c.loop-number.has_side.items c.loop-number.number
     (c.loop-number.invariant.added pairs)
-    (omega (arith, c.loop-number-test.false, as_many g.P.Ord.cmp component self.list.items self.at, ap length c.requires.places))
+    (omega (arith, c.loop-number-test.false, as_many g.P.Ord.cmp component self.list.items self.at, ap length (c.places-places.ensures ∙ c.requires.places)))

@@ -12,6 +12,7 @@ use Rattle.link_flights.specs.Flights.InFlight.{in_units}
 use Rattle.link_flights.specs.Flights.Rated.{rates_found, rates_of_levels, rerated, IsRatedFrom}
 use Rattle.link_flights.proofs.Flights.Components.{found_each, whole_rerated}
 use Rattle.link_flights.proofs.Flights.ComponentFlows.{closed_whole}
+use Rattle.link_flights.proofs.Flights.Numbered.{anew_in_order, anew_within}
 use Rattle.link_flights.proofs.Flights.RatesGiven.{whole_given, left_given}
 use Rattle.link_flights.proofs.Flights.Rerating.{first_finish_is}
 use Rattle.link_flights.proofs.Flights.Settled.{all_have_got}
@@ -23,9 +24,19 @@ places_rated-requires g c = record {
   suited = closed_whole g.P.Ord.cmp c.whole-all.result c.whole-all.ensures.whole [] (in_units c.args.self.now);
 }
 
+pub of-requires : goal.of-requires
+of-requires g c =
+    let cmp = g.P.Ord.cmp in
+    let list = c.args.self.now.list.items in
+    record {
+      order = anew_in_order cmp c.whole-all.result list c.in_ok-places.places.items c.in_ok-places.ensures.places;
+      within = anew_within cmp c.whole-all.result list c.in_ok-places.places.items c.in_ok-places.ensures.places
+          c.len.result c.len.ensures;
+    }
+
 pub rates_at-requires : goal.rates_at-requires
 rates_at-requires g c = record {
-  places = c.deref.ensures.value ∙ c.in_ok-places.ensures.places;
+  places = c.in_ok-numbers.ensures.places ∙ c.in_ok-places.ensures.places;
   suited = closed_whole g.P.Ord.cmp c.whole-all.result c.whole-all.ensures.whole [] (in_units c.args.self.now);
   one_each = c.requires.one_each;
 }
@@ -34,7 +45,7 @@ pub set_rates-requires-clause-left : goal.set_rates-requires-clause-left
 set_rates-requires-clause-left g c =
     let old = c.args.self.now in
     subst (λ growth. All (λ (u : UnitFlight g.row.P.Denot). u.left * product growth ≢ 0) (in_units old))
-    (sym c.deref-6.ensures.value)
+    (sym c.deref-5.ensures.value)
     (left_given g.P.Ord.cmp (caps_of g.P.Ord.cmp c.args.peers.now.entries c.args.pairs.now.entries) c.whole-all.result
     c.in_ok-rates.rates old.scale (in_units old) c.in_ok-rates.ensures.fair c.requires.left)
 
@@ -48,14 +59,14 @@ settle-requires g c =
     let fair = c.in_ok-rates.ensures.fair in
     let mid = c.set_rates.new.self in
     let times = product rates.growth.items in
-    let same : rates_of_levels c.deref-4.result.now c.deref-5.result.now ≡ rates_found rates =
-    ap (λ ls. rates_of_levels ls c.deref-5.result.now) c.deref-4.ensures.value
-    ∙ ap (rates_of_levels c.in_ok-levels.levels.items) c.deref-5.ensures.value
+    let same : rates_of_levels c.deref-3.result.now c.deref-4.result.now ≡ rates_found rates =
+    ap (λ ls. rates_of_levels ls c.deref-4.result.now) c.deref-3.ensures.value
+    ∙ ap (rates_of_levels c.in_ok-levels.levels.items) c.deref-4.ensures.value
     ∙ ap (λ ns. map (parts_of_level ns) rates.level_of.items) c.in_ok-levels.ensures.same in
     let given : in_units mid ≡ rerated cmp all old.at times (rates_found rates) (in_units old) =
     c.in_ok-set_rates.ensures.rerated
-    ∙ ap (λ ns. rerated cmp all old.at (product ns) (rates_of_levels c.deref-4.result.now c.deref-5.result.now)
-    (in_units old)) c.deref-6.ensures.value
+    ∙ ap (λ ns. rerated cmp all old.at (product ns) (rates_of_levels c.deref-3.result.now c.deref-4.result.now)
+    (in_units old)) c.deref-5.ensures.value
     ∙ ap (λ rs. rerated cmp all old.at times rs (in_units old)) same in
     let each : AllZip (IsRatedFrom old.at times) (in_units old) (in_units mid) =
     subst (AllZip (IsRatedFrom old.at times) (in_units old)) (sym given)
@@ -73,14 +84,14 @@ returns-clause-rated g c =
     let fair = c.in_ok-rates.ensures.fair in
     let mid = c.set_rates.new.self in
     let times = product rates.growth.items in
-    let same : rates_of_levels c.deref-4.result.now c.deref-5.result.now ≡ rates_found rates =
-    ap (λ ls. rates_of_levels ls c.deref-5.result.now) c.deref-4.ensures.value
-    ∙ ap (rates_of_levels c.in_ok-levels.levels.items) c.deref-5.ensures.value
+    let same : rates_of_levels c.deref-3.result.now c.deref-4.result.now ≡ rates_found rates =
+    ap (λ ls. rates_of_levels ls c.deref-4.result.now) c.deref-3.ensures.value
+    ∙ ap (rates_of_levels c.in_ok-levels.levels.items) c.deref-4.ensures.value
     ∙ ap (λ ns. map (parts_of_level ns) rates.level_of.items) c.in_ok-levels.ensures.same in
     let given : in_units mid ≡ rerated cmp all old.at times (rates_found rates) (in_units old) =
     c.in_ok-set_rates.ensures.rerated
-    ∙ ap (λ ns. rerated cmp all old.at (product ns) (rates_of_levels c.deref-4.result.now c.deref-5.result.now)
-    (in_units old)) c.deref-6.ensures.value
+    ∙ ap (λ ns. rerated cmp all old.at (product ns) (rates_of_levels c.deref-3.result.now c.deref-4.result.now)
+    (in_units old)) c.deref-5.ensures.value
     ∙ ap (λ rs. rerated cmp all old.at times rs (in_units old)) same in
     let e = c.settle.ensures in
     let last = c.settle.new.self in
@@ -89,7 +100,7 @@ returns-clause-rated g c =
     let h =
     whole_given cmp caps all rates old last g.met.P.Ord.total
     (looked_up cmp g.met.P.Ord.total c.args.peers.now.entries c.args.pairs.now.entries) old.scaled fair (units ∙ given)
-    (e.scale ∙ c.in_ok-grow.ensures.grown ∙ ap₂ (λ n ns. n * product ns) c.in_ok-scale.ensures.value c.deref-2.ensures.value)
+    (e.scale ∙ c.in_ok-grow.ensures.grown ∙ ap₂ (λ n ns. n * product ns) c.in_ok-scale.ensures.value c.deref.ensures.value)
     (e.at ∙ c.in_ok-set_rates.ensures.at)
     (subst AreTimed (sym e.list) c.in_ok-set_rates.ensures.timed) c.whole-all.ensures.whole c.whole-all.ensures.level in
     record {
@@ -111,14 +122,14 @@ returns-clause-finish g c =
     let fair = c.in_ok-rates.ensures.fair in
     let mid = c.set_rates.new.self in
     let times = product rates.growth.items in
-    let same : rates_of_levels c.deref-4.result.now c.deref-5.result.now ≡ rates_found rates =
-    ap (λ ls. rates_of_levels ls c.deref-5.result.now) c.deref-4.ensures.value
-    ∙ ap (rates_of_levels c.in_ok-levels.levels.items) c.deref-5.ensures.value
+    let same : rates_of_levels c.deref-3.result.now c.deref-4.result.now ≡ rates_found rates =
+    ap (λ ls. rates_of_levels ls c.deref-4.result.now) c.deref-3.ensures.value
+    ∙ ap (rates_of_levels c.in_ok-levels.levels.items) c.deref-4.ensures.value
     ∙ ap (λ ns. map (parts_of_level ns) rates.level_of.items) c.in_ok-levels.ensures.same in
     let given : in_units mid ≡ rerated cmp all old.at times (rates_found rates) (in_units old) =
     c.in_ok-set_rates.ensures.rerated
-    ∙ ap (λ ns. rerated cmp all old.at (product ns) (rates_of_levels c.deref-4.result.now c.deref-5.result.now)
-    (in_units old)) c.deref-6.ensures.value
+    ∙ ap (λ ns. rerated cmp all old.at (product ns) (rates_of_levels c.deref-3.result.now c.deref-4.result.now)
+    (in_units old)) c.deref-5.ensures.value
     ∙ ap (λ rs. rerated cmp all old.at times rs (in_units old)) same in
     let e = c.settle.ensures in
     let last = c.settle.new.self in
@@ -127,7 +138,7 @@ returns-clause-finish g c =
     let h =
     whole_given cmp caps all rates old last g.met.P.Ord.total
     (looked_up cmp g.met.P.Ord.total c.args.peers.now.entries c.args.pairs.now.entries) old.scaled fair (units ∙ given)
-    (e.scale ∙ c.in_ok-grow.ensures.grown ∙ ap₂ (λ n ns. n * product ns) c.in_ok-scale.ensures.value c.deref-2.ensures.value)
+    (e.scale ∙ c.in_ok-grow.ensures.grown ∙ ap₂ (λ n ns. n * product ns) c.in_ok-scale.ensures.value c.deref.ensures.value)
     (e.at ∙ c.in_ok-set_rates.ensures.at)
     (subst AreTimed (sym e.list) c.in_ok-set_rates.ensures.timed) c.whole-all.ensures.whole c.whole-all.ensures.level in
     let fits : IfSome c.settle.result (λ t. t ≤ last_moment) = search rules in

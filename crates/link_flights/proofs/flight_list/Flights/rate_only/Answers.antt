@@ -1,4 +1,4 @@
-use Rattle.std.proofs.Common.{rules, ◌≡◌, ◌∷◌, ◌&&◌, ◌∙◌, [], true, nat_le, ap}
+use Rattle.std.proofs.Common.{rules, ◌≡◌, ◌∷◌, ◌&&◌, ◌∙◌, [], true, nat_le, ap, refl}
 use Rattle.link_pairs.specs.Pairs.CapsOf.{caps_of}
 use Rattle.link_flights.specs.Flights.InFlight.{in_units}
 use Rattle.link_flights.specs.Flights.Rated.{rerated, AreRatedBeside}
@@ -26,3 +26,6 @@ returns-then-le-clause-gives g c =
       at = e.at;
       timed = e.timed;
     } in (rated, e.kept)
+
+pub returns-clause-gives : goal.returns-clause-gives
+returns-clause-gives g c = refl

@@ -13,6 +13,7 @@ use Rattle.std.specs.Prelude.{slice_index}
 use Rattle.fair_rates.specs.Fairness.UnderCaps.{sides_under}
 use Rattle.link_flights.specs.Flights.Sides.{left_caps, flows_of}
 use Rattle.link_flights.proofs.Flights.Components.{found_each}
+use Rattle.link_flights.proofs.Flights.Numbered.{anew_in_order, anew_within}
 use Rattle.link_flights.proofs.Flights.OnlyRated.{none_beside, all_go_on, one_listed}
 use Rattle.link_flights.proofs.Flights.Rerating.{all_kept}
 use Rattle.link_flights.proofs.flight_list.Flights.rate_touched.Goals as goal
@@ -28,9 +29,9 @@ returns-clause-gives g c =
     nil_from_length part.growth.items
     (grind (arith, common_steps, nat_tests, c.is_empty-2.ensures, c.if-not-is_empty.false, part.growth.ok.0)) in
     let reach : list_all (λ rate. nat_le component.level rate) (rates_found part) ≡ true = search rules in
-    let same : rates_of_levels c.deref-4.result.now c.deref-5.result.now ≡ rates_found part =
-    ap (λ ls. rates_of_levels ls c.deref-5.result.now) c.deref-4.ensures.value
-    ∙ ap (rates_of_levels c.in_ok-levels.levels.items) c.deref-5.ensures.value
+    let same : rates_of_levels c.deref-2.result.now c.deref-3.result.now ≡ rates_found part =
+    ap (λ ls. rates_of_levels ls c.deref-3.result.now) c.deref-2.ensures.value
+    ∙ ap (rates_of_levels c.in_ok-levels.levels.items) c.deref-3.ensures.value
     ∙ ap (λ ns. map (parts_of_level ns) part.level_of.items) c.in_ok-levels.ensures.same in
     let fair = c.in_ok-part.ensures.fair in
     let rated : AreRatedBeside cmp (caps_of cmp c.args.peers.now.entries c.args.pairs.now.entries) component old
@@ -72,13 +73,28 @@ returns-then-is_empty-clause-gives g c =
       all_kept old.list.items,
     )
 
+pub of-requires : goal.of-requires
+of-requires g c =
+    let cmp = g.P.Ord.cmp in
+    let list = c.args.self.now.list.items in
+    record {
+      order = anew_in_order cmp c.args.touched.now list c.in_ok-places.places.items c.in_ok-places.ensures.places;
+      within = anew_within cmp c.args.touched.now list c.in_ok-places.places.items c.in_ok-places.ensures.places
+          c.len.result c.len.ensures;
+    }
+
 pub rate_only-requires : goal.rate_only-requires
 rate_only-requires g c = record {
-  only = c.deref-in-len1.ensures.value ∙ sym c.deref.ensures.value
-      ∙ one_listed c.deref.result.now c.in-len1.len_at_least c.in-len1.len_below;
-  places = c.deref-in-len1.ensures.value ∙ c.in_ok-places.ensures.places;
+  only = sym c.places.ensures ∙ one_listed c.places.result.now c.in-len1.len_at_least c.in-len1.len_below;
+  places = c.in_ok-numbers.ensures.places ∙ c.in_ok-places.ensures.places;
   suited = c.requires.suited;
   left = c.requires.left;
   timed = c.requires.timed;
   one_each = c.requires.one_each;
 }
+
+pub returns-in-len1-clause-gives : goal.returns-in-len1-clause-gives
+returns-in-len1-clause-gives g c = c.rate_only.ensures.gives
+
+pub returns-then-not-is_empty-clause-gives : goal.returns-then-not-is_empty-clause-gives
+returns-then-not-is_empty-clause-gives g c = refl

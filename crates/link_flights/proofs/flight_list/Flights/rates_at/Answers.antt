@@ -34,7 +34,7 @@ fair_parts-requires g c = record {
       let below : get_or side.users.items i e < length flows =
       subst (All (λ user. user < length flows)) (sym d.users)
       (places_below (limits cmp d.subject) flows (length flows) (omega arith)) i e within in
-      omega (arith, below, as_many cmp component self.list.items self.at, ap length c.requires.places);
+      omega (arith, below, as_many cmp component self.list.items self.at, ap length (c.places.ensures ∙ c.requires.places));
 }
 
 pub returns-clause-fair : goal.returns-clause-fair
@@ -52,7 +52,7 @@ returns-clause-fair g c =
     let filled = c.in_ok-fair_parts.ensures in
     record {
       grown = filled.grown;
-      one_each = filled.one_each ∙ ap length c.requires.places ∙ sym (as_many cmp component self.list.items self.at)
+      one_each = filled.one_each ∙ ap length (c.places.ensures ∙ c.requires.places) ∙ sym (as_many cmp component self.list.items self.at)
           ∙ length-map (those_of cmp component us) (flow_in_flight cmp);
       fair = fair_of_members cmp order (left_caps cmp caps self.scale component us) of (flows_of cmp component us)
           (map side_of c.in_ok-sides.sides.items) c.in_ok-sides.ensures.sides found.scale (slice_index (rates_found found))

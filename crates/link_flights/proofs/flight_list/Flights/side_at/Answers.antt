@@ -54,7 +54,7 @@ loop-next-init g c one there =
     let m : c.deref-3.result.now ≡ one.message.value =
     c.deref-3.ensures ∙ ap (λ (f : Flight _). f.message.value) is in
     subst (λ users. HasCounted cmp c.args.end one.message.value c.args.component.now self.at self.list.items all
-    c.first_at-next.result (record { cap = all; users = users })) (sym c.new.ensures.items)
+    c.first_at-next.result (record { cap = all; users = users })) (sym c.in_ok-with_capacity.ensures.items)
     (counting_starts cmp c.args.end one.message.value c.args.component.now self.at self.list.items all c.first_at-next.result
     (subst (λ n. IsNextPlace (λ other. share cmp c.args.end n other.message.value) self.list.items 0 c.first_at-next.result) m
     c.first_at-next.ensures))
