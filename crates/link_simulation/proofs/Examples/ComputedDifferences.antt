@@ -1,20 +1,12 @@
 -- Replies that do not agree with the simulation, found by computing: for worked examples.
-use Rattle.std.proofs.Common.{◌≡◌, ℕ, ◌-◌, ◌<◌, ◌≤◌, List, [], ◌∷◌, Bool, true, false, not, Option, Some, None, refl}
-use Rattle.std.proofs.Common.{sym, ◌∙◌, subst}
-use Rattle.std.specs.Prelude.{◌&&◌, ◌||◌, ◌==◌, nat_le, nat_lt, IfSome}
-use Rattle.std.specs.List.{AllZip}
-use Rattle.std.specs.declared.cmp.Ordering.{Ordering}
-use Rattle.std.specs.Cmp.{IsTotalOrder}
-use Rattle.std.proofs.lemmas.Bool.{leb-true, ltb-true, eq-eqb, and_parts}
-use Rattle.fair_rates.specs.declared.error.Error.{Error}
-use Rattle.fair_rates.specs.declared.error.Error.TheVariants.{OutOfMemory, NumberTooLarge, MomentTooLate, FlowIdsUsedUp}
-use Rattle.fair_rates.specs.Sides.Subjects.{same_peer}
-use Rattle.link_simulation.specs.Simulation.World.{World, new_world, Completed, Course, goes, meets, EndsWith}
-use Rattle.link_simulation.specs.Simulation.Time.{IsSound}
-use Rattle.link_simulation.specs.Simulation.Calls.{Call, call_limit, call_limit_link, call_enqueue, call_advance}
-use Rattle.link_simulation.specs.Simulation.Calls.{call_enqueue_all, call_next, moment_of, Runs, IsBeforeNext}
-use Rattle.link_simulation.specs.Simulation.Replies.{Reply, reply_done, reply_next, reply_refused, SameCompletion}
-use Rattle.link_simulation.specs.Simulation.Replies.{Faults, MayRefuse, Agrees}
+use Rattle.link_simulation.proofs.Common.{◌≡◌, ℕ, ◌-◌, ◌<◌, ◌≤◌, List, [], ◌∷◌, Bool, true, false, not, Option, Some}
+use Rattle.link_simulation.proofs.Common.{None, refl, sym, ◌∙◌, subst, ◌&&◌, ◌||◌, ◌==◌, nat_le, nat_lt, IfSome, AllZip}
+use Rattle.link_simulation.proofs.Common.{Ordering, IsTotalOrder, leb-true, ltb-true, eq-eqb, and_parts, Error}
+use Rattle.link_simulation.proofs.Common.{OutOfMemory, NumberTooLarge, MomentTooLate, FlowIdsUsedUp, same_peer, World}
+use Rattle.link_simulation.proofs.Common.{new_world, Completed, Course, goes, meets, EndsWith, IsSound, Call}
+use Rattle.link_simulation.proofs.Common.{call_limit, call_limit_link, call_enqueue, call_advance, call_enqueue_all}
+use Rattle.link_simulation.proofs.Common.{call_next, moment_of, Runs, IsBeforeNext, Reply, reply_done, reply_next}
+use Rattle.link_simulation.proofs.Common.{reply_refused, SameCompletion, Faults, MayRefuse, Agrees}
 use Rattle.link_simulation.proofs.Simulation.OneNext.{next_is_one}
 use Rattle.link_simulation.proofs.Simulation.OneRun.{runs_are_one}
 use Rattle.link_simulation.proofs.Simulation.Sound.{call_keeps_sound, new_world_sound}

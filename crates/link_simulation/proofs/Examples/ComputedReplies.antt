@@ -1,26 +1,21 @@
 -- Fairness, ticks and replies, found by computing: for worked examples.
-use Rattle.std.proofs.Common.{map, ◌≡◌, ℕ, zero, suc, ◌+◌, ◌-◌, ◌*◌, ◌≤◌, List, [], ◌∷◌, length, Bool, true}
-use Rattle.std.proofs.Common.{false, cond, not, Option, Some, None, All, Contains, refl, sym, ap, subst, arith}
-use Rattle.std.specs.Prelude.{max, ◌&&◌, ◌||◌, ◌==◌, nat_le, nat_lt}
-use Rattle.std.specs.List.{list_any, list_all, filter, AllZip}
-use Rattle.std.specs.declared.cmp.Ordering.{Ordering}
-use Rattle.std.specs.Cmp.{IsTotalOrder}
-use Rattle.std.proofs.lemmas.Bool.{leb-true, ltb-true, eqb-true, and_parts, not-true}
-use Rattle.std.proofs.lemmas.List.Elements.{All-contains, All-cons, All-nil, Contains-append_left}
-use Rattle.std.proofs.lemmas.List.Elements.{Contains-append_right}
-use Rattle.fair_rates.specs.Fairness.Fair.{Side, load, IsFair, HasBottleneck}
-use Rattle.link_simulation.specs.Simulation.Messages.{Message}
-use Rattle.link_simulation.specs.Simulation.Rates.{capped_sides, rates_from, AreFair}
-use Rattle.link_simulation.specs.Simulation.World.{Flight, fronts, may_start, World, Completed, Course, goes, meets}
-use Rattle.link_simulation.specs.Simulation.World.{and_then, flows, instant, is_done, ready, IsQuiet, last_moment}
-use Rattle.fair_rates.specs.declared.error.Error.{Error}
-use Rattle.fair_rates.specs.declared.error.Error.TheVariants.{OutOfMemory, NumberTooLarge, MomentTooLate, FlowIdsUsedUp}
-use Rattle.link_simulation.specs.Simulation.Time.{drain_each, drifted, Drains, Ticks, no_tick, one_tick, tick_faults}
-use Rattle.link_simulation.specs.Simulation.Time.{Passes, no_time, quiet_tick, NextIs, never_comes, comes_next}
-use Rattle.link_simulation.specs.Simulation.Calls.{Call, call_limit, call_limit_link, call_enqueue, call_advance}
-use Rattle.link_simulation.specs.Simulation.Calls.{call_enqueue_all, call_next, act, moment_of, Runs, IsInTurn}
-use Rattle.link_simulation.specs.Simulation.Replies.{Reply, reply_done, reply_next, reply_refused, SameCompletion}
-use Rattle.link_simulation.specs.Simulation.Replies.{Faults, Agrees, MayRefuse}
+use Rattle.link_simulation.proofs.Common.{map, ◌≡◌, ℕ, zero, suc, ◌+◌, ◌-◌, ◌*◌, ◌≤◌, List, [], ◌∷◌, length, Bool, true}
+use Rattle.link_simulation.proofs.Common.{false, cond, not, Option, Some, None, All, Contains, refl, sym, ap, subst}
+use Rattle.link_simulation.proofs.Common.{arith, max, ◌&&◌, ◌||◌, ◌==◌, nat_le, nat_lt, list_any, filter, AllZip}
+use Rattle.link_simulation.proofs.Common.{Ordering, IsTotalOrder, leb-true, ltb-true, eqb-true, and_parts, not-true}
+use Rattle.link_simulation.proofs.Common.{All-contains, All-nil, Contains-append_left, Contains-append_right, Side}
+use Rattle.link_simulation.proofs.Common.{load, IsFair, Message, capped_sides, rates_from, AreFair, Flight, fronts}
+use Rattle.link_simulation.proofs.Common.{may_start, World, Completed, Course, goes, meets, and_then, flows, instant}
+use Rattle.link_simulation.proofs.Common.{is_done, ready, IsQuiet, last_moment, Error, OutOfMemory, NumberTooLarge}
+use Rattle.link_simulation.proofs.Common.{MomentTooLate, FlowIdsUsedUp, drain_each, drifted, Drains, Ticks, no_tick}
+use Rattle.link_simulation.proofs.Common.{one_tick, tick_faults, Passes, no_time, quiet_tick, NextIs, never_comes}
+use Rattle.link_simulation.proofs.Common.{comes_next, Call, call_limit, call_limit_link, call_enqueue, call_advance}
+use Rattle.link_simulation.proofs.Common.{call_enqueue_all, call_next, act, moment_of, Runs, IsInTurn, Reply}
+use Rattle.link_simulation.proofs.Common.{reply_done, reply_next, reply_refused, SameCompletion, Faults, Agrees}
+use Rattle.link_simulation.proofs.Common.{MayRefuse}
+use Rattle.std.specs.List.{list_all}
+use Rattle.std.proofs.lemmas.List.Elements.{All-cons}
+use Rattle.fair_rates.specs.Fairness.Fair.{HasBottleneck}
 use Rattle.link_simulation.proofs.Simulation.AlikeMessages.{same_itself}
 use Rattle.link_simulation.proofs.Rule.Limit.{no_sides}
 

@@ -1,29 +1,20 @@
 -- Calls by the event rule, and the replies to them, found by computing: for worked examples.
-use Rattle.std.proofs.Common.{◌≡◌, ◌≢◌, ℕ, zero, suc, ◌+◌, ◌<◌, ◌≤◌, List, [], ◌∷◌, Bool, true, false, cond}
-use Rattle.std.proofs.Common.{Option, Some, None, refl, sym, ap, subst, arith, ◌∙◌, length}
-use Rattle.std.specs.Prelude.{max, ◌&&◌, ◌==◌, nat_le, nat_lt, if◌then◌else◌, IfSome}
-use Rattle.std.specs.List.{filter, AllZip}
-use Rattle.std.specs.declared.cmp.Ordering.{Ordering}
-use Rattle.std.specs.Cmp.{IsTotalOrder}
-use Rattle.std.proofs.lemmas.Bool.{leb-true, ltb-true, ltb-false, eqb-true, eq-eqb, and_parts}
-use Rattle.fair_rates.specs.declared.error.Error.TheVariants.{OutOfMemory, NumberTooLarge, MomentTooLate, FlowIdsUsedUp}
-use Rattle.link_simulation.specs.Simulation.Messages.{Message, Caps}
-use Rattle.link_simulation.specs.Simulation.World.{new_world, Completed, Course, goes, meets, last_moment, preceded}
-use Rattle.link_simulation.specs.Simulation.World.{fronts}
-use Rattle.link_simulation.specs.Simulation.Calls.{moment_of, Call, call_limit, call_limit_link, call_enqueue}
-use Rattle.link_simulation.specs.Simulation.Calls.{call_advance, call_enqueue_all, call_next, limited_by, linked_by}
-use Rattle.link_simulation.specs.Simulation.Replies.{Agrees, Reply, reply_done, reply_next, reply_refused}
-use Rattle.link_simulation.specs.Simulation.Replies.{SameCompletion}
-use Rattle.link_simulation.specs.Rule.Planned.{new_planned, Planned, RatedFlight, next_event}
-use Rattle.link_simulation.specs.Rule.Planned.{next_of, may_launch}
-use Rattle.link_simulation.specs.Rule.Events.{Launches}
-use Rattle.link_simulation.specs.Rule.Events.{Rebalances, none_sending, some_sending, completed_at_once}
-use Rattle.link_simulation.specs.Rule.Events.{with_queued, Enqueues, at_once, no_launch, launches, Advances, no_more}
-use Rattle.link_simulation.specs.Rule.Events.{at_finish, at_start, finish_stops, start_stops, Obeys}
-use Rattle.link_simulation.specs.Rule.Events.{EnqueuesEach, all_enqueued, one_stops, enqueues_one}
-use Rattle.link_simulation.specs.Rule.Refusals.{MayBeRefused, Obeyed}
+use Rattle.link_simulation.proofs.Common.{◌≡◌, ◌≢◌, ℕ, zero, suc, ◌+◌, ◌<◌, ◌≤◌, List, [], ◌∷◌, Bool, true, false, cond}
+use Rattle.link_simulation.proofs.Common.{Option, Some, None, refl, sym, ap, subst, arith, ◌∙◌, length, max, ◌&&◌, ◌==◌}
+use Rattle.link_simulation.proofs.Common.{nat_le, nat_lt, if◌then◌else◌, IfSome, filter, AllZip, Ordering, IsTotalOrder}
+use Rattle.link_simulation.proofs.Common.{leb-true, ltb-true, eqb-true, eq-eqb, and_parts, OutOfMemory, NumberTooLarge}
+use Rattle.link_simulation.proofs.Common.{MomentTooLate, FlowIdsUsedUp, Message, Caps, new_world, Completed, Course}
+use Rattle.link_simulation.proofs.Common.{goes, meets, last_moment, preceded, fronts, moment_of, Call, call_limit}
+use Rattle.link_simulation.proofs.Common.{call_limit_link, call_enqueue, call_advance, call_enqueue_all, call_next}
+use Rattle.link_simulation.proofs.Common.{limited_by, linked_by, Agrees, Reply, reply_done, reply_next, reply_refused}
+use Rattle.link_simulation.proofs.Common.{SameCompletion, new_planned, Planned, RatedFlight, next_event, next_of}
+use Rattle.link_simulation.proofs.Common.{may_launch, Launches, Rebalances, none_sending, some_sending}
+use Rattle.link_simulation.proofs.Common.{completed_at_once, with_queued, Enqueues, at_once, no_launch, launches}
+use Rattle.link_simulation.proofs.Common.{Advances, no_more, at_finish, at_start, finish_stops, start_stops, Obeys}
+use Rattle.link_simulation.proofs.Common.{EnqueuesEach, all_enqueued, one_stops, enqueues_one, MayBeRefused, Obeyed}
+use Rattle.link_simulation.proofs.Common.{InTime}
+use Rattle.std.proofs.lemmas.Bool.{ltb-false}
 use Rattle.link_simulation.proofs.Rule.Agreeing.{obeyed_agree}
-use Rattle.link_simulation.specs.Laws.Isolation.{InTime}
 use Rattle.link_simulation.proofs.Examples.ComputedReplies.{same_all, Shares}
 use Rattle.link_simulation.proofs.Examples.ComputedSteps.{the_same, bind, bound, followed, is_none_of, look}
 use Rattle.link_simulation.proofs.Examples.ComputedSteps.{look_so, launch, launch_so, finish_all, finish_all_so}

@@ -1,29 +1,21 @@
 -- The steps of the event rule, found by computing: accounts, looks, launches, finishes and wakes.
-use Rattle.std.proofs.Common.{◌-◌, ◌≡◌, ℕ, zero, suc, ◌+◌, ◌<◌, ◌≤◌, List, [], ◌∷◌, ◌++◌, Bool, true, false, cond}
-use Rattle.std.proofs.Common.{not, Option, Some, None, refl, sym, ap, subst, arith, ◌∙◌, inl, inr, ◌⊎◌}
-use Rattle.std.specs.Prelude.{◌&&◌, ◌||◌, ◌==◌, nat_le, nat_lt, if◌then◌else◌, slice_get, IfSome}
-use Rattle.std.specs.List.{find, list_any, list_all, filter, AllZip}
-use Rattle.std.specs.declared.cmp.Ordering.{Ordering}
-use Rattle.std.specs.Cmp.{IsTotalOrder}
-use Rattle.std.proofs.lemmas.Bool.{leb-true, le-leb, ltb-true, ltb-false, eqb-true, eq-eqb, cases_lt, and_parts}
+use Rattle.link_simulation.proofs.Common.{◌-◌, ◌≡◌, ℕ, zero, suc, ◌+◌, ◌<◌, ◌≤◌, List, [], ◌∷◌, ◌++◌, Bool, true, false}
+use Rattle.link_simulation.proofs.Common.{cond, not, Option, Some, None, refl, sym, ap, subst, arith, ◌∙◌, inl, inr}
+use Rattle.link_simulation.proofs.Common.{◌⊎◌, ◌&&◌, ◌||◌, ◌==◌, nat_le, nat_lt, if◌then◌else◌, slice_get, IfSome, find}
+use Rattle.link_simulation.proofs.Common.{list_any, filter, AllZip, Ordering, IsTotalOrder, leb-true, le-leb, ltb-true}
+use Rattle.link_simulation.proofs.Common.{eqb-true, eq-eqb, cases_lt, and_parts, MomentTooLate, FlowIdsUsedUp, Amount}
+use Rattle.link_simulation.proofs.Common.{Message, Caps, same_pair, capped_sides, rates_from, rate_of, is_unlimited}
+use Rattle.link_simulation.proofs.Common.{is_in_order, Completed, Course, goes, meets, last_moment, preceded, fronts}
+use Rattle.link_simulation.proofs.Common.{is_late, completed, Planned, RatedFlight, IsLeastMoment, rated_messages}
+use Rattle.link_simulation.proofs.Common.{left_at, SomeSpentAt, drained_to, next_of, may_launch, SomeReadyAt, is_spent}
+use Rattle.link_simulation.proofs.Common.{Accounts, PlansStart, launched, Launches, nothing_waits, too_early, no_id}
+use Rattle.link_simulation.proofs.Common.{starts, landed, Finishes, all_completed, late, stopped, completes, WakesEach}
+use Rattle.link_simulation.proofs.Common.{all_started, no_start, no_finish, starts_one, Settles, settling, In, Each}
+use Rattle.std.specs.List.{list_all}
+use Rattle.std.proofs.lemmas.Bool.{ltb-false}
 use Rattle.std.proofs.lemmas.Option.{same_Some}
 use Rattle.std.proofs.Math.Bool.{or-true}
-use Rattle.fair_rates.specs.declared.error.Error.TheVariants.{MomentTooLate, FlowIdsUsedUp}
-use Rattle.fair_rates.specs.Numbers.Amount.{Amount}
-use Rattle.link_simulation.specs.Simulation.Messages.{Message, Caps, same_pair}
-use Rattle.link_simulation.specs.Simulation.Rates.{capped_sides, rates_from, rate_of, is_unlimited}
-use Rattle.link_simulation.specs.Simulation.World.{is_in_order, Completed, Course, goes, meets, last_moment, preceded}
-use Rattle.link_simulation.specs.Simulation.World.{fronts, is_in_order, is_late, completed}
-use Rattle.link_simulation.specs.Rule.Planned.{Planned, RatedFlight, IsLeastMoment}
-use Rattle.link_simulation.specs.Rule.Planned.{rated_messages, left_at, SomeSpentAt, drained_to, next_of, may_launch}
-use Rattle.link_simulation.specs.Rule.Planned.{SomeReadyAt, is_spent}
-use Rattle.link_simulation.specs.Rule.Events.{Accounts, PlansStart, launched, Launches, nothing_waits, too_early, no_id}
-use Rattle.link_simulation.specs.Rule.Events.{starts, landed, Finishes, all_completed, late, stopped, completes}
-use Rattle.link_simulation.specs.Rule.Events.{WakesEach, all_started, no_start, no_finish, starts_one, Settles}
-use Rattle.link_simulation.specs.Rule.Events.{settling}
-use Rattle.fair_rates.proofs.Lists.Members.{In}
 use Rattle.link_simulation.proofs.Simulation.OtherPairs.{fronts_are_first}
-use Rattle.fair_rates.proofs.Lists.Each.{Each}
 use Rattle.link_simulation.proofs.Laws.MostEvents.{first_in_fronts}
 use Rattle.link_simulation.proofs.Simulation.LowestTerms.{spent_later}
 use Rattle.link_simulation.proofs.Examples.ComputedReplies.{Shares, is_fair, fair_if_so}

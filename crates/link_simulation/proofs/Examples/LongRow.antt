@@ -1,13 +1,10 @@
 -- An example of many nanoseconds: at three bytes a second, one byte takes 333333334 of them.
-use Rattle.std.proofs.Common.{◌≡◌, ℕ, ◌+◌, ◌<◌, ◌≤◌, [], ◌∷◌, Bool, true, false, Some, refl, arith, lit≤}
-use Rattle.std.specs.Prelude.{◌==◌, ◌||◌}
-use Rattle.std.specs.Ordering.{nat_cmp}
-use Rattle.std.proofs.lemmas.Bool.{eqb-true}
-use Rattle.fair_rates.specs.Numbers.Amount.{Amount, Covers, drained, whole, reduced, gcd_within}
-use Rattle.link_simulation.specs.Simulation.Rates.{AreFair, capped_sides}
-use Rattle.link_simulation.specs.Simulation.World.{World, IsQuiet, flows}
-use Rattle.link_simulation.specs.Simulation.Time.{NextIs, comes_next, drifted}
-use Rattle.link_simulation.specs.Examples.Rows.{message, flying}
+use Rattle.link_simulation.proofs.Common.{◌≡◌, ℕ, ◌+◌, ◌<◌, ◌≤◌, [], ◌∷◌, Bool, true, false, Some, refl, arith, ◌==◌}
+use Rattle.link_simulation.proofs.Common.{◌||◌, nat_cmp, eqb-true, Amount, drained, whole, reduced, gcd_within, AreFair}
+use Rattle.link_simulation.proofs.Common.{capped_sides, World, IsQuiet, flows, NextIs, comes_next, drifted, message}
+use Rattle.std.proofs.Common.{lit≤}
+use Rattle.fair_rates.specs.Numbers.Amount.{Covers}
+use Rattle.link_simulation.specs.Examples.Rows.{flying}
 use Rattle.fair_rates.proofs.Numbers.Draining.{spent_if_covers, covers_if_spent}
 use Rattle.link_simulation.proofs.Examples.ComputedReplies.{fair_if_so}
 use Rattle.link_simulation.proofs.Simulation.Stretch.{stretch, drifts_on}

@@ -1,10 +1,7 @@
 -- Advancing to a moment and then on to a later one.
-use Rattle.std.proofs.Common.{◌≡◌, ℕ, ◌+◌, ◌-◌, ◌≤◌, List, refl, sym, ap, ◌∙◌, subst, arith, append-nil, []}
-use Rattle.std.specs.declared.cmp.Ordering.{Ordering}
-use Rattle.std.specs.Cmp.{IsTotalOrder}
-use Rattle.link_simulation.specs.Simulation.World.{World, Completed, Course, goes, meets, preceded, and_then}
-use Rattle.link_simulation.specs.Simulation.Time.{Ticks}
-use Rattle.link_simulation.specs.Simulation.Calls.{call_advance, Runs}
+use Rattle.link_simulation.proofs.Common.{◌≡◌, ℕ, ◌+◌, ◌-◌, ◌≤◌, List, refl, sym, ap, ◌∙◌, subst, arith, append-nil, []}
+use Rattle.link_simulation.proofs.Common.{Ordering, IsTotalOrder, World, Completed, Course, goes, meets, preceded}
+use Rattle.link_simulation.proofs.Common.{and_then, Ticks, call_advance, Runs}
 use Rattle.link_simulation.proofs.Simulation.Split.{ticks_on}
 use Rattle.link_simulation.proofs.Simulation.QuietInstants.{IsAt, ends_at, ticks_end_at}
 

@@ -1,28 +1,20 @@
 -- One message alone under caps takes its least time at the least of them.
-use Rattle.std.proofs.Common.{◌≡◌, ℕ, zero, suc, ◌+◌, ◌-◌, ◌*◌, ◌<◌, ◌≤◌, inl, inr, List, [], ◌∷◌, length, Bool, true}
-use Rattle.std.proofs.Common.{false, not, Option, Some, None, Contains, sum_by, refl, sym, ap, ◌∙◌, subst, arith}
-use Rattle.std.proofs.Common.{add-one, le_refl, ◌↔◌}
-use Rattle.std.specs.Prelude.{◌&&◌, ◌||◌, ◌==◌, is_none, nat_le, if◌then◌else◌}
-use Rattle.std.specs.List.{list_any, find}
-use Rattle.std.specs.declared.cmp.Ordering.{Ordering}
-use Rattle.std.specs.Cmp.{IsTotalOrder}
-use Rattle.std.proofs.lemmas.Bool.{eq-eqb, ne_eqb, lt-leb}
-use Rattle.std.proofs.lemmas.List.Elements.{All-contains}
+use Rattle.link_simulation.proofs.Common.{◌≡◌, ℕ, zero, suc, ◌+◌, ◌-◌, ◌*◌, ◌<◌, ◌≤◌, inl, inr, List, [], ◌∷◌, length}
+use Rattle.link_simulation.proofs.Common.{Bool, true, false, not, Option, Some, None, Contains, sum_by, refl, sym, ap}
+use Rattle.link_simulation.proofs.Common.{◌∙◌, subst, arith, add-one, ◌&&◌, ◌||◌, ◌==◌, is_none, nat_le, if◌then◌else◌}
+use Rattle.link_simulation.proofs.Common.{list_any, find, Ordering, IsTotalOrder, eq-eqb, All-contains, Amount, whole}
+use Rattle.link_simulation.proofs.Common.{reduced, drained, Side, load, same_peer, World, Flight, Completed, Course}
+use Rattle.link_simulation.proofs.Common.{goes, flight_of, last_moment, is_in_order, is_done, is_late, completed}
+use Rattle.link_simulation.proofs.Common.{completion_of, instant, settle, wake, IsQuiet, and_then, preceded}
+use Rattle.link_simulation.proofs.Common.{out_of_flight, call_advance, Runs, Message, Caps, is_delivered, AreFair}
+use Rattle.link_simulation.proofs.Common.{capped_sides, is_unlimited, Drains, Passes, no_time, quiet_tick, Ticks}
+use Rattle.link_simulation.proofs.Common.{NextIs, comes_next, In, All-from_contains}
+use Rattle.std.proofs.Common.{le_refl, ◌↔◌}
+use Rattle.std.proofs.lemmas.Bool.{ne_eqb, lt-leb}
 use Rattle.link_simulation.specs.Laws.Alone.{IsTimeFor, IsLeastCap, MayGoAlone, IsDoneAfter}
-use Rattle.fair_rates.specs.Numbers.Amount.{Amount, whole, reduced, drained}
 use Rattle.fair_rates.specs.Numbers.LowestTerms.{reduced_lowest, whole_IsReduced}
-use Rattle.fair_rates.specs.Fairness.Fair.{Side, load}
-use Rattle.fair_rates.specs.Sides.Subjects.{same_peer}
-use Rattle.link_simulation.specs.Simulation.World.{World, Flight, Completed, Course, goes, flight_of, last_moment}
-use Rattle.link_simulation.specs.Simulation.World.{is_in_order, is_done, is_late, completed, completion_of, instant}
-use Rattle.link_simulation.specs.Simulation.World.{settle, wake, IsQuiet, and_then, preceded, out_of_flight}
-use Rattle.link_simulation.specs.Simulation.Calls.{call_advance, Runs, join}
-use Rattle.link_simulation.specs.Simulation.Messages.{Message, Caps, is_delivered}
-use Rattle.link_simulation.specs.Simulation.Rates.{AreFair, capped_sides, is_unlimited}
-use Rattle.link_simulation.specs.Simulation.Time.{Drains, Passes, no_time, quiet_tick, Ticks, NextIs, comes_next}
+use Rattle.link_simulation.specs.Simulation.Calls.{join}
 use Rattle.fair_rates.proofs.Numbers.Draining.{spent_from_least}
-use Rattle.fair_rates.proofs.Lists.Members.{In}
-use Rattle.fair_rates.proofs.Lists.SumOrder.{All-from_contains}
 use Rattle.link_simulation.proofs.Simulation.AlikeMessages.{same_itself, pair_itself}
 use Rattle.link_simulation.proofs.Simulation.Continuing.{rates_exist}
 use Rattle.link_simulation.proofs.Rule.FinishEvent.{settle_quiet, ticks_quiet, ticks_through}

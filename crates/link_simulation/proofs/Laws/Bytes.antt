@@ -1,32 +1,22 @@
 -- What an origin still has to send goes down by no more than its egress cap lets go.
-use Rattle.std.proofs.Common.{sum_by, ◌≡◌, ℕ, zero, suc, ◌+◌, ◌-◌, ◌*◌, ◌<◌, ◌≤◌, List, [], ◌∷◌, ◌++◌, map, length}
-use Rattle.std.proofs.Common.{Bool, true, false, cond, not, Option, Some, None, refl, sym, ap, ◌∙◌, subst, arith}
-use Rattle.std.proofs.Common.{append-nil}
-use Rattle.std.specs.Prelude.{is_none, ◌&&◌, ◌||◌, nat_le, ◌==◌, if◌then◌else◌, slice_get, Contains}
-use Rattle.std.specs.List.{filter, find, flat_map}
-use Rattle.std.specs.declared.cmp.Ordering.{Ordering}
-use Rattle.std.specs.Cmp.{IsTotalOrder}
-use Rattle.std.proofs.lemmas.List.Elements.{All-contains, Contains-append_left, Contains-append_right}
-use Rattle.std.proofs.Math.Nat.{mul-pos, add-mul, mul-add, mul-zero, zero-add, zero-mul}
-use Rattle.fair_rates.specs.Fairness.Laws.{IsAtMost}
-use Rattle.fair_rates.specs.Numbers.Amount.{plus, Amount, billion, whole}
-use Rattle.fair_rates.specs.Fairness.Fair.{Side, load}
+use Rattle.link_simulation.proofs.Common.{sum_by, ◌≡◌, ℕ, zero, suc, ◌+◌, ◌-◌, ◌*◌, ◌<◌, ◌≤◌, List, [], ◌∷◌, ◌++◌, map}
+use Rattle.link_simulation.proofs.Common.{length, Bool, true, false, cond, not, Option, Some, None, refl, sym, ap, ◌∙◌}
+use Rattle.link_simulation.proofs.Common.{subst, arith, append-nil, is_none, ◌&&◌, ◌||◌, nat_le, ◌==◌, if◌then◌else◌}
+use Rattle.link_simulation.proofs.Common.{slice_get, filter, find, flat_map, Ordering, IsTotalOrder, All-contains}
+use Rattle.link_simulation.proofs.Common.{Contains-append_left, Contains-append_right, mul-pos, IsAtMost, plus, Amount}
+use Rattle.link_simulation.proofs.Common.{billion, whole, Side, load, without_first, same_peer, Completed, Course}
+use Rattle.link_simulation.proofs.Common.{Flight, World, and_then, complete, first_waiting, flows, fronts, goes}
+use Rattle.link_simulation.proofs.Common.{instant, is_done, last_moment, least_pair, may_start, meets, ready, settle}
+use Rattle.link_simulation.proofs.Common.{settle_within, start, start_next, wake, wake_within, EndsWith, out_of_flight}
+use Rattle.link_simulation.proofs.Common.{is_late, completed, flight_of, Runs, call_advance, Caps, Message}
+use Rattle.link_simulation.proofs.Common.{is_delivered, pair_before, same_pair, rate_of, is_unlimited, rates_from}
+use Rattle.link_simulation.proofs.Common.{AreFair, Parts, capped_sides, drained_by, sides_for, ArePositive, Drains}
+use Rattle.link_simulation.proofs.Common.{Ticks, drain_each, no_tick, one_tick, tick_faults, FlowIdsUsedUp}
+use Rattle.link_simulation.proofs.Common.{MomentTooLate, places_from, Each}
+use Rattle.std.specs.Prelude.{Contains}
+use Rattle.std.proofs.Math.Nat.{add-mul, mul-add, mul-zero, zero-add, zero-mul}
 use Rattle.std.proofs.lemmas.List.Sums.{sum_by-cons}
-use Rattle.fair_rates.specs.Lists.WithoutFirst.{without_first}
-use Rattle.fair_rates.specs.Sides.Subjects.{same_peer}
 use Rattle.link_simulation.specs.Laws.Bytes.{allowance, bytes_from, left_from, waiting_from}
-use Rattle.link_simulation.specs.Simulation.World.{Completed, Course, Flight, World, and_then, complete, first_waiting}
-use Rattle.link_simulation.specs.Simulation.World.{flows, fronts, goes, instant, is_done, last_moment, least_pair}
-use Rattle.link_simulation.specs.Simulation.World.{may_start, meets, ready, settle, settle_within, start, start_next}
-use Rattle.link_simulation.specs.Simulation.World.{wake, wake_within, EndsWith, out_of_flight, is_late, completed}
-use Rattle.link_simulation.specs.Simulation.World.{flight_of}
-use Rattle.link_simulation.specs.Simulation.Calls.{Runs, call_advance}
-use Rattle.link_simulation.specs.Simulation.Messages.{Caps, Message, is_delivered, pair_before, same_pair}
-use Rattle.link_simulation.specs.Simulation.Rates.{rate_of, is_unlimited, rates_from, AreFair, Parts, capped_sides}
-use Rattle.link_simulation.specs.Simulation.Rates.{drained_by, sides_for}
-use Rattle.link_simulation.specs.Simulation.Time.{ArePositive, Drains, Ticks, drain_each, no_tick, one_tick}
-use Rattle.link_simulation.specs.Simulation.Time.{tick_faults}
-use Rattle.fair_rates.specs.declared.error.Error.TheVariants.{FlowIdsUsedUp, MomentTooLate}
 use borrow.Author.Tests.{eqb-true}
 use Rattle.link_simulation.proofs.Simulation.Queue.{then_then, peer_like, settle_none, settle_first, find_passes}
 use Rattle.link_simulation.proofs.Simulation.SettlingEnds.{ends_preceded, ends_and_then, ends_cond, find_like}
@@ -34,8 +24,6 @@ use Rattle.link_simulation.proofs.Simulation.Split.{rest_is}
 use Rattle.link_simulation.proofs.Laws.AmountOrder.{share, at_most_itself, at_most_trans, plus_under, plus_spent}
 use Rattle.link_simulation.proofs.Laws.AmountOrder.{plus_shares, plus_whole, two_shares, share_grows, no_share}
 use Rattle.link_simulation.proofs.Laws.AmountOrder.{lowest_takes}
-use Rattle.fair_rates.specs.Lists.Places.{places_from}
-use Rattle.fair_rates.proofs.Lists.Each.{Each}
 use Rattle.link_simulation.proofs.Simulation.OneNext.{drain_each_positive}
 use Rattle.link_simulation.proofs.Simulation.OtherPairs.{fronts_are_first}
 

@@ -1,27 +1,16 @@
 -- The bytes of an origin are the same in all worlds of one moment that a planned world stands for, so an advance keeps
 -- to its cap.
-use Rattle.std.proofs.Common.{◌≡◌, ℕ, zero, suc, ◌+◌, ◌-◌, ◌*◌, ◌≤◌, List, [], ◌∷◌, length, Bool, true, false, cond}
-use Rattle.std.proofs.Common.{not, Some, refl, sym, ap, ◌∙◌, subst, arith}
-use Rattle.std.specs.Prelude.{if◌then◌else◌}
-use Rattle.std.specs.List.{filter, AllZip}
-use Rattle.std.specs.declared.cmp.Ordering.{Ordering}
-use Rattle.std.specs.Cmp.{IsTotalOrder}
-use Rattle.fair_rates.specs.Numbers.Amount.{Amount, whole, plus}
-use Rattle.fair_rates.specs.Fairness.Laws.{IsAtMost}
-use Rattle.fair_rates.specs.Sides.Subjects.{same_peer}
-use Rattle.link_simulation.specs.Simulation.Messages.{Message, SameMessage, same_pair}
-use Rattle.link_simulation.specs.Simulation.World.{World, Flight, Completed, last_moment}
-use Rattle.link_simulation.specs.Simulation.Time.{IsSound}
-use Rattle.link_simulation.specs.Simulation.Calls.{call_advance}
+use Rattle.link_simulation.proofs.Common.{◌≡◌, ℕ, zero, suc, ◌+◌, ◌-◌, ◌*◌, ◌≤◌, List, [], ◌∷◌, length, Bool, true}
+use Rattle.link_simulation.proofs.Common.{false, cond, not, Some, refl, sym, ap, ◌∙◌, subst, arith, if◌then◌else◌}
+use Rattle.link_simulation.proofs.Common.{filter, AllZip, Ordering, IsTotalOrder, Amount, whole, plus, IsAtMost}
+use Rattle.link_simulation.proofs.Common.{same_peer, Message, SameMessage, same_pair, World, Flight, Completed}
+use Rattle.link_simulation.proofs.Common.{last_moment, IsSound, call_advance, Planned, RatedFlight, StandsFor}
+use Rattle.link_simulation.proofs.Common.{IsSameFlight, GoesByRule, IsRun, zip-filter, filter_swap}
 use Rattle.link_simulation.specs.Laws.Bytes.{bytes_from, left_from, waiting_from, allowance}
-use Rattle.link_simulation.specs.Rule.Planned.{Planned, RatedFlight}
-use Rattle.link_simulation.specs.Rule.StandsFor.{StandsFor, IsSameFlight}
-use Rattle.link_simulation.specs.Rule.SamePlanned.{GoesByRule}
-use Rattle.link_simulation.specs.Rule.Simulated.{IsRun, KeepsToCaps}
+use Rattle.link_simulation.specs.Rule.Simulated.{KeepsToCaps}
 use Rattle.link_simulation.proofs.Simulation.AlikeMessages.{same_itself, pair_itself, peers_alike, pairs_alike}
 use Rattle.link_simulation.proofs.Simulation.AlikeMessages.{message_itself}
-use Rattle.fair_rates.proofs.Lists.Zips.{zip-filter}
-use Rattle.fair_rates.proofs.Lists.Filters.{filter_swap, length-filter}
+use Rattle.fair_rates.proofs.Lists.Filters.{length-filter}
 use Rattle.link_simulation.proofs.Laws.Bytes.{Loses, advance_loses}
 use Rattle.link_simulation.proofs.Rule.Simulated.{calls_simulated, sound_of_stands, none_waits}
 

@@ -1,36 +1,24 @@
 -- Each call completes, sends or keeps waiting what there was of a pair and what it enqueues: none is lost or doubled,
 -- and their order stays.
-use Rattle.std.proofs.Common.{◌≡◌, ℕ, ◌+◌, List, [], ◌∷◌, ◌++◌, Bool, true, false, cond, not, Option, Some, None, refl}
-use Rattle.std.proofs.Common.{sym, ap, ◌∙◌, subst, append_assoc, append-nil}
-use Rattle.std.specs.Prelude.{⊤, ◌&&◌, nat_lt, if◌then◌else◌}
-use Rattle.std.specs.List.{find, filter, AllZip}
-use Rattle.std.specs.declared.cmp.Ordering.{Ordering}
-use Rattle.std.specs.Cmp.{IsTotalOrder}
-use Rattle.std.proofs.lemmas.List.{map-append}
-use Rattle.std.proofs.lemmas.List.Elements.{filter-append}
-use Rattle.fair_rates.specs.Lists.WithoutFirst.{without_first}
-use Rattle.fair_rates.specs.declared.error.Error.TheVariants.{MomentTooLate}
-use Rattle.link_simulation.specs.Simulation.Messages.{Message, Caps, OneForEachPair, same_pair, is_delivered}
-use Rattle.link_simulation.specs.Simulation.World.{Completed, Course, goes, meets, last_moment, preceded, raised}
-use Rattle.link_simulation.specs.Simulation.World.{later_of, completion_of, completed, arrival}
-use Rattle.link_simulation.specs.Simulation.Calls.{Call, call_limit, call_limit_link, call_enqueue, call_advance}
-use Rattle.link_simulation.specs.Simulation.Calls.{call_enqueue_all, call_next}
-use Rattle.link_simulation.specs.Laws.PairCompletions.{enqueued, IsCompletionOf}
-use Rattle.link_simulation.specs.Rule.Planned.{Planned, RatedFlight, rated_messages, drained_to, next_of, may_launch}
-use Rattle.link_simulation.specs.Rule.Planned.{is_spent}
-use Rattle.link_simulation.specs.Rule.Events.{Accounts, PlansStart, Launches, nothing_waits, too_early, no_id, starts}
-use Rattle.link_simulation.specs.Rule.Events.{Finishes, all_completed, late, stopped, completes, WakesEach, all_started}
-use Rattle.link_simulation.specs.Rule.Events.{no_start, no_finish, starts_one, Settles, settling, Rebalances}
-use Rattle.link_simulation.specs.Rule.Events.{none_sending, some_sending, Enqueues, at_once, no_launch, launches}
-use Rattle.link_simulation.specs.Rule.Events.{Advances, no_more, at_finish, at_start, finish_stops, start_stops}
-use Rattle.link_simulation.specs.Rule.Events.{launched, landed, with_queued, completed_at_once, Obeys}
-use Rattle.link_simulation.specs.Rule.Events.{EnqueuesEach, all_enqueued, one_stops, enqueues_one}
-use Rattle.link_simulation.specs.Laws.Orderly.{IsOrderly}
-use Rattle.link_simulation.specs.Laws.Conserved.{of_pair, held_of}
+use Rattle.link_simulation.proofs.Common.{◌≡◌, ℕ, ◌+◌, List, [], ◌∷◌, ◌++◌, Bool, true, false, cond, not, Option, Some}
+use Rattle.link_simulation.proofs.Common.{None, refl, sym, ap, ◌∙◌, subst, append_assoc, append-nil, ⊤, ◌&&◌, nat_lt}
+use Rattle.link_simulation.proofs.Common.{if◌then◌else◌, find, filter, AllZip, Ordering, IsTotalOrder, map-append}
+use Rattle.link_simulation.proofs.Common.{filter-append, without_first, MomentTooLate, Message, Caps, OneForEachPair}
+use Rattle.link_simulation.proofs.Common.{same_pair, is_delivered, Completed, Course, goes, meets, last_moment}
+use Rattle.link_simulation.proofs.Common.{preceded, raised, later_of, completion_of, completed, arrival, Call}
+use Rattle.link_simulation.proofs.Common.{call_limit, call_limit_link, call_enqueue, call_advance, call_enqueue_all}
+use Rattle.link_simulation.proofs.Common.{call_next, enqueued, IsCompletionOf, Planned, RatedFlight, rated_messages}
+use Rattle.link_simulation.proofs.Common.{drained_to, next_of, may_launch, is_spent, Accounts, PlansStart, Launches}
+use Rattle.link_simulation.proofs.Common.{nothing_waits, too_early, no_id, starts, Finishes, all_completed, late}
+use Rattle.link_simulation.proofs.Common.{stopped, completes, WakesEach, all_started, no_start, no_finish, starts_one}
+use Rattle.link_simulation.proofs.Common.{Settles, settling, Rebalances, none_sending, some_sending, Enqueues, at_once}
+use Rattle.link_simulation.proofs.Common.{no_launch, launches, Advances, no_more, at_finish, at_start, finish_stops}
+use Rattle.link_simulation.proofs.Common.{start_stops, launched, landed, with_queued, completed_at_once, Obeys}
+use Rattle.link_simulation.proofs.Common.{EnqueuesEach, all_enqueued, one_stops, enqueues_one, IsOrderly, of_pair}
+use Rattle.link_simulation.proofs.Common.{held_of, zip-append}
 use Rattle.link_simulation.proofs.Simulation.Queue.{find_passes, any_like}
 use Rattle.link_simulation.proofs.Simulation.SettlingEnds.{find_like}
 use Rattle.link_simulation.proofs.Rule.Launch.{rest_of, head_of, head_found, waits_without}
-use Rattle.fair_rates.proofs.Lists.Zips.{zip-append}
 use Rattle.link_simulation.proofs.Rule.Enqueue.{queued_last}
 use Rattle.fair_rates.proofs.Lists.Members.{filter_nothing}
 use Rattle.link_simulation.proofs.Laws.Orderly.{drained_messages, stayed_messages, any_of_fewer, IsSteady, steady}

@@ -1,31 +1,18 @@
 -- No message is lost or doubled, by a call, peers taken as equal by their order, nor by a list of calls.
-use Rattle.std.proofs.Common.{◌≡◌, ℕ, List, [], ◌∷◌, ◌++◌, true, Option, refl, sym, ap, ◌∙◌, subst, append_assoc}
-use Rattle.std.proofs.Common.{append-nil}
-use Rattle.std.specs.List.{AllZip}
-use Rattle.std.specs.declared.cmp.Ordering.{Ordering}
-use Rattle.std.specs.Cmp.{IsTotalOrder}
-use Rattle.std.proofs.lemmas.List.Elements.{filter-append}
-use Rattle.fair_rates.specs.declared.error.Error.{Error}
-use Rattle.fair_rates.specs.Sides.Subjects.{same_peer}
-use Rattle.link_simulation.specs.Simulation.Messages.{Message, SameMessage, same_pair}
-use Rattle.link_simulation.specs.Simulation.World.{Completed, goes}
-use Rattle.link_simulation.specs.Simulation.Calls.{Call, call_limit, call_limit_link, call_enqueue, call_advance}
-use Rattle.link_simulation.specs.Simulation.Calls.{call_enqueue_all, call_next}
-use Rattle.link_simulation.specs.Laws.PairCompletions.{enqueued, answered, IsCompletionOf}
-use Rattle.link_simulation.specs.Rule.Planned.{Planned, rated_messages}
-use Rattle.link_simulation.specs.Rule.Events.{Obeys}
-use Rattle.link_simulation.specs.Rule.Refusals.{Obeyed}
-use Rattle.link_simulation.specs.Simulation.Replies.{Reply, reply_done, reply_next, reply_refused, SameCompletion, made}
-use Rattle.link_simulation.specs.Simulation.Replies.{completions_in}
-use Rattle.link_simulation.specs.Rule.SamePlanned.{IsSamePlanned, GoesByRule}
-use Rattle.link_simulation.specs.Laws.Orderly.{IsOrderly}
-use Rattle.link_simulation.specs.Laws.Conserved.{of_pair, held_of, IsConserved, AreConserved}
+use Rattle.link_simulation.proofs.Common.{◌≡◌, ℕ, List, [], ◌∷◌, ◌++◌, true, Option, refl, sym, ap, ◌∙◌, subst}
+use Rattle.link_simulation.proofs.Common.{append_assoc, append-nil, AllZip, Ordering, IsTotalOrder, filter-append}
+use Rattle.link_simulation.proofs.Common.{Error, same_peer, Message, SameMessage, same_pair, Completed, goes, Call}
+use Rattle.link_simulation.proofs.Common.{call_limit, call_limit_link, call_enqueue, call_advance, call_enqueue_all}
+use Rattle.link_simulation.proofs.Common.{call_next, enqueued, answered, IsCompletionOf, Planned, rated_messages, Obeys}
+use Rattle.link_simulation.proofs.Common.{Obeyed, Reply, reply_done, reply_next, reply_refused, SameCompletion, made}
+use Rattle.link_simulation.proofs.Common.{completions_in, IsSamePlanned, GoesByRule, IsOrderly, of_pair, held_of}
+use Rattle.link_simulation.proofs.Common.{IsConserved, zip_chain, zip-filter, zip-same, zip-append}
+use Rattle.link_simulation.specs.Laws.Conserved.{AreConserved}
 use Rattle.link_simulation.proofs.Simulation.AlikeMessages.{pairs_alike, message_itself}
 use Rattle.link_simulation.proofs.Laws.Orderly.{obeys_orderly}
 use Rattle.link_simulation.proofs.Laws.Conserved.{IsKept, call_keeps}
 use Rattle.link_simulation.proofs.Laws.PairCompletions.{enqueued_split}
 use Rattle.link_simulation.proofs.Rule.SamePlanned.{zip_turned, message_turned, message_chain}
-use Rattle.fair_rates.proofs.Lists.Zips.{zip_chain, zip-filter, zip-same, zip-append}
 use Rattle.link_simulation.proofs.Rule.SameSteps.{flows_same}
 
 module _ {P : Type 0} (cmp : P → P → Ordering) (order : IsTotalOrder cmp) where

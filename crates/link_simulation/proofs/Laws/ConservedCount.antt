@@ -1,19 +1,12 @@
 -- Where no message of any pair is lost or doubled, none is in number.
-use Rattle.std.proofs.Common.{◌≡◌, ℕ, zero, suc, ◌+◌, ◌≤◌, List, [], ◌∷◌, ◌++◌, length, Bool, true, false, cond, not}
-use Rattle.std.proofs.Common.{refl, sym, ap, ◌∙◌, subst, arith, length-append}
-use Rattle.std.specs.List.{filter, AllZip}
-use Rattle.std.specs.declared.cmp.Ordering.{Ordering}
-use Rattle.std.specs.Cmp.{IsTotalOrder}
-use Rattle.std.proofs.lemmas.List.Elements.{filter-append}
-use Rattle.link_simulation.specs.Simulation.Messages.{Message, SameMessage, same_pair}
-use Rattle.link_simulation.specs.Simulation.World.{Completed}
-use Rattle.link_simulation.specs.Laws.PairCompletions.{IsCompletionOf}
-use Rattle.link_simulation.specs.Rule.Planned.{Planned, rated_messages}
-use Rattle.link_simulation.specs.Laws.Conserved.{of_pair, held_of, IsConserved}
+use Rattle.link_simulation.proofs.Common.{◌≡◌, ℕ, zero, suc, ◌+◌, ◌≤◌, List, [], ◌∷◌, ◌++◌, length, Bool, true, false}
+use Rattle.link_simulation.proofs.Common.{cond, not, refl, sym, ap, ◌∙◌, subst, arith, length-append, filter, AllZip}
+use Rattle.link_simulation.proofs.Common.{Ordering, IsTotalOrder, filter-append, Message, SameMessage, same_pair}
+use Rattle.link_simulation.proofs.Common.{Completed, IsCompletionOf, Planned, rated_messages, of_pair, held_of}
+use Rattle.link_simulation.proofs.Common.{IsConserved, zip-length}
 use Rattle.link_simulation.proofs.Simulation.Queue.{pair_sym, pair_like}
 use Rattle.link_simulation.proofs.Simulation.AlikeMessages.{pair_itself}
 use Rattle.link_simulation.proofs.Laws.MostEvents.{split_length, map_length}
-use Rattle.fair_rates.proofs.Lists.Zips.{zip-length}
 
 module _ {P : Type 0} (cmp : P → P → Ordering) (order : IsTotalOrder cmp) where
   -- those of other pairs

@@ -1,12 +1,8 @@
 -- Messages are conserved over the first calls of a list, however many.
-use Rattle.std.proofs.Common.{ℕ, zero, suc, List, [], ◌∷◌, take}
-use Rattle.std.specs.declared.cmp.Ordering.{Ordering}
-use Rattle.std.specs.Cmp.{IsTotalOrder}
-use Rattle.link_simulation.specs.Simulation.Calls.{Call, call_limit, call_limit_link, call_enqueue, call_advance}
-use Rattle.link_simulation.specs.Simulation.Calls.{call_enqueue_all, call_next}
-use Rattle.link_simulation.specs.Simulation.Replies.{Reply, reply_done, reply_next, reply_refused}
-use Rattle.link_simulation.specs.Rule.Planned.{Planned, new_planned}
-use Rattle.link_simulation.specs.Rule.Refusals.{Obeyed}
+use Rattle.link_simulation.proofs.Common.{ℕ, zero, suc, List, [], ◌∷◌, Ordering, IsTotalOrder, Call, call_limit}
+use Rattle.link_simulation.proofs.Common.{call_limit_link, call_enqueue, call_advance, call_enqueue_all, call_next}
+use Rattle.link_simulation.proofs.Common.{Reply, reply_done, reply_next, reply_refused, Planned, new_planned, Obeyed}
+use Rattle.std.proofs.Common.{take}
 use Rattle.link_simulation.specs.Laws.Conserved.{AreConserved}
 use Rattle.link_simulation.specs.Laws.Replies.{AlwaysSoFar}
 use Rattle.link_simulation.proofs.Laws.Orderly.{new_orderly}

@@ -1,12 +1,8 @@
 -- A message that is done after a time is done alone, however the simulation runs.
-use Rattle.std.proofs.Common.{◌≡◌, ℕ, ◌+◌, List, [], ◌∷◌, Option, Some, sym, subst}
-use Rattle.std.specs.declared.cmp.Ordering.{Ordering}
-use Rattle.std.specs.Cmp.{IsTotalOrder}
+use Rattle.link_simulation.proofs.Common.{◌≡◌, ℕ, ◌+◌, List, [], ◌∷◌, Option, Some, sym, subst, Ordering, IsTotalOrder}
+use Rattle.link_simulation.proofs.Common.{World, Completed, goes, completed, call_enqueue, call_advance, Runs, Message}
+use Rattle.link_simulation.proofs.Common.{NextIs, IsSound}
 use Rattle.link_simulation.specs.Laws.Alone.{IsDoneAfter}
-use Rattle.link_simulation.specs.Simulation.World.{World, Completed, goes, completed}
-use Rattle.link_simulation.specs.Simulation.Calls.{call_enqueue, call_advance, Runs}
-use Rattle.link_simulation.specs.Simulation.Messages.{Message}
-use Rattle.link_simulation.specs.Simulation.Time.{NextIs, IsSound}
 use Rattle.link_simulation.proofs.Simulation.OneNext.{next_is_one}
 use Rattle.link_simulation.proofs.Simulation.OneRun.{runs_are_one}
 use Rattle.link_simulation.proofs.Simulation.Sound.{call_keeps_sound}

@@ -1,15 +1,11 @@
 -- Each event leaves fewer that may come.
-use Rattle.std.proofs.Common.{◌≡◌, ℕ, ◌+◌, ◌<◌, ◌≤◌, List, length, Some, arith}
-use Rattle.std.specs.declared.cmp.Ordering.{Ordering}
-use Rattle.std.specs.Cmp.{IsTotalOrder}
+use Rattle.link_simulation.proofs.Common.{◌≡◌, ℕ, ◌+◌, ◌<◌, ◌≤◌, List, length, Some, arith, Ordering, IsTotalOrder}
+use Rattle.link_simulation.proofs.Common.{GoesByRule, IsSamePlanned, IsSameRatedFlight, Completed, call_advance}
+use Rattle.link_simulation.proofs.Common.{SameMessage, Planned, next_event, zip-length}
 use Rattle.link_simulation.specs.Laws.MostEvents.{most_events}
-use Rattle.link_simulation.specs.Rule.SamePlanned.{GoesByRule, AdvancesByRule, IsSamePlanned, IsSameRatedFlight}
-use Rattle.link_simulation.specs.Simulation.World.{Completed}
-use Rattle.link_simulation.specs.Simulation.Calls.{call_advance}
-use Rattle.link_simulation.specs.Simulation.Messages.{SameMessage}
-use Rattle.link_simulation.specs.Rule.Planned.{Planned, next_event, IsPlanned}
+use Rattle.link_simulation.specs.Rule.SamePlanned.{AdvancesByRule}
+use Rattle.link_simulation.specs.Rule.Planned.{IsPlanned}
 use Rattle.link_simulation.proofs.Laws.MostEvents.{events_spend, some_event}
-use Rattle.fair_rates.proofs.Lists.Zips.{zip-length}
 
 module _ {P : Type 0} (cmp : P → P → Ordering) (order : IsTotalOrder cmp) where
   same_most : (p q : Planned P) → IsSamePlanned cmp p q → most_events p ≡ most_events q

@@ -1,37 +1,25 @@
 -- Calls on a world, and on the part of it that is a set's messages.
-use Rattle.std.proofs.Common.{◌≡◌, ℕ, ◌+◌, ◌-◌, ◌<◌, ◌≤◌, List, [], ◌∷◌, ◌++◌, map, length, Bool, true, false, cond}
-use Rattle.std.proofs.Common.{Option, Some, None, refl, sym, ap, ◌∙◌, subst, arith, append-nil, ◌⊎◌, inl, inr}
-use Rattle.std.specs.Prelude.{⊤, ◌&&◌, nat_lt, if◌then◌else◌}
-use Rattle.std.specs.List.{filter}
-use Rattle.std.specs.declared.cmp.Ordering.{Ordering}
-use Rattle.std.specs.Cmp.{IsTotalOrder}
-use Rattle.std.proofs.lemmas.List.Elements.{filter-append}
-use Rattle.std.proofs.lemmas.Bool.{and_parts}
+use Rattle.link_simulation.proofs.Common.{◌≡◌, ℕ, ◌+◌, ◌-◌, ◌<◌, ◌≤◌, List, [], ◌∷◌, ◌++◌, map, length, Bool, true}
+use Rattle.link_simulation.proofs.Common.{false, cond, Option, Some, None, refl, sym, ap, ◌∙◌, subst, arith, append-nil}
+use Rattle.link_simulation.proofs.Common.{◌⊎◌, inl, inr, ⊤, ◌&&◌, nat_lt, if◌then◌else◌, filter, Ordering, IsTotalOrder}
+use Rattle.link_simulation.proofs.Common.{filter-append, and_parts, same_peer, Completed, Course, Flight, World}
+use Rattle.link_simulation.proofs.Common.{and_then, completion_of, first_waiting, flows, goes, is_done, last_moment}
+use Rattle.link_simulation.proofs.Common.{later_of, meets, new_world, preceded, raised, settle, start_next, EndsWith}
+use Rattle.link_simulation.proofs.Common.{Call, IsInTurn, Runs, act, call_advance, call_enqueue, call_limit}
+use Rattle.link_simulation.proofs.Common.{call_limit_link, complete_at_once, moment_of, limited_by, call_enqueue_all}
+use Rattle.link_simulation.proofs.Common.{call_next, linked_by, enqueue, enqueue_each, flagged, Answers, InTime}
+use Rattle.link_simulation.proofs.Common.{call_answers, no_calls, Caps, Message, is_delivered, same_pair, AreFair}
+use Rattle.link_simulation.proofs.Common.{Parts, NextIs, Ticks, no_tick, MomentTooLate, each_joined, Each, In}
 use Rattle.std.specs.Prelude.{Contains}
-use Rattle.fair_rates.specs.Sides.Subjects.{same_peer}
-use Rattle.link_simulation.specs.Simulation.World.{Completed, Course, Flight, World, and_then, completion_of}
-use Rattle.link_simulation.specs.Simulation.World.{first_waiting, flows, goes, is_done, last_moment, later_of, meets}
-use Rattle.link_simulation.specs.Simulation.World.{new_world, preceded, raised, settle, start_next, EndsWith}
-use Rattle.link_simulation.specs.Simulation.Calls.{Call, IsInTurn, Runs, act, call_advance, call_enqueue, call_limit}
-use Rattle.link_simulation.specs.Simulation.Calls.{call_limit_link, complete_at_once, moment_of, limited_by}
-use Rattle.link_simulation.specs.Simulation.Calls.{call_enqueue_all, call_next}
-use Rattle.link_simulation.specs.Simulation.Calls.{linked_by, enqueue, enqueue_each}
-use Rattle.fair_rates.specs.Fairness.Part.{flagged}
-use Rattle.link_simulation.specs.Laws.Isolation.{Answers, AnswersInTurn, InTime, AreApart, IsApart, IsSet, KeepsApart}
-use Rattle.link_simulation.specs.Laws.Isolation.{NothingElse, call_answers, answers_in_turn, inside_alone, is_kept}
-use Rattle.link_simulation.specs.Laws.Isolation.{kept_calls, kept_completions, no_calls, no_calls_in_turn}
+use Rattle.link_simulation.specs.Laws.Isolation.{AnswersInTurn, AreApart, IsApart, IsSet, KeepsApart}
+use Rattle.link_simulation.specs.Laws.Isolation.{NothingElse, answers_in_turn, inside_alone, is_kept}
+use Rattle.link_simulation.specs.Laws.Isolation.{kept_calls, kept_completions, no_calls_in_turn}
 use Rattle.link_simulation.specs.Laws.Isolation.{without_others}
-use Rattle.link_simulation.specs.Simulation.Messages.{Caps, Message, is_delivered, same_pair}
-use Rattle.link_simulation.specs.Simulation.Rates.{AreFair, Parts}
-use Rattle.link_simulation.specs.Simulation.Time.{NextIs, Ticks, no_tick}
-use Rattle.fair_rates.specs.declared.error.Error.TheVariants.{MomentTooLate}
 use Rattle.link_simulation.proofs.Laws.PartRates.{fair_part}
 use Rattle.fair_rates.proofs.Lists.Members.{contains_from_in}
 use Rattle.link_simulation.proofs.Simulation.SettlingEnds.{ends_and_then, ends_cond, each_ends, NoneDone}
 use Rattle.link_simulation.proofs.Simulation.SettlingEnds.{settle_rests}
 use Rattle.link_simulation.proofs.Simulation.FilteredFronts.{find_kept, none_kept}
-use Rattle.fair_rates.proofs.Lists.Each.{each_joined, Each}
-use Rattle.fair_rates.proofs.Lists.Members.{In}
 use Rattle.link_simulation.proofs.Laws.PartRates.{Kind, at_egress, at_ingress, at_link, uses_at, SharesNoSide}
 use Rattle.link_simulation.proofs.Simulation.Split.{ticks_on, rest_is}
 use Rattle.link_simulation.proofs.Simulation.EveryInstant.{ticks_end, first_event, settle_moment, start_next_moment}

@@ -1,19 +1,12 @@
 -- As time goes by, the part of a world that is a set's messages goes its own way.
-use Rattle.std.proofs.Common.{◌≡◌, ℕ, suc, ◌+◌, List, [], ◌∷◌, ◌++◌, map, length, Bool, true, false, cond, Option, refl}
-use Rattle.std.proofs.Common.{sym, ap, ◌∙◌, subst, arith}
-use Rattle.std.specs.List.{filter}
-use Rattle.std.specs.declared.cmp.Ordering.{Ordering}
-use Rattle.std.specs.Cmp.{IsTotalOrder}
-use Rattle.std.proofs.lemmas.List.Elements.{filter-append}
-use Rattle.link_simulation.specs.Simulation.World.{Completed, Course, Flight, World, flows, goes, instant}
-use Rattle.link_simulation.specs.Simulation.Messages.{Message, same_pair}
-use Rattle.link_simulation.specs.Simulation.Rates.{AreFair, Parts, drained_by, rate_of}
-use Rattle.link_simulation.specs.Simulation.Time.{Drains, Ticks, drain_each, no_tick, one_tick, tick_faults}
-use Rattle.fair_rates.proofs.Lists.Each.{Each}
+use Rattle.link_simulation.proofs.Common.{◌≡◌, ℕ, suc, ◌+◌, List, [], ◌∷◌, ◌++◌, map, length, Bool, true, false, cond}
+use Rattle.link_simulation.proofs.Common.{Option, refl, sym, ap, ◌∙◌, subst, arith, filter, Ordering, IsTotalOrder}
+use Rattle.link_simulation.proofs.Common.{filter-append, Completed, Course, Flight, World, flows, goes, instant}
+use Rattle.link_simulation.proofs.Common.{Message, same_pair, AreFair, Parts, drained_by, rate_of, Drains, Ticks}
+use Rattle.link_simulation.proofs.Common.{drain_each, no_tick, one_tick, tick_faults, Each, flagged}
 use Rattle.link_simulation.proofs.Laws.PartRates.{SharesNoSide, fair_part}
 use Rattle.link_simulation.proofs.Simulation.Split.{rest_is}
 use Rattle.link_simulation.proofs.Simulation.Rates.{one_each}
-use Rattle.fair_rates.specs.Fairness.Part.{flagged}
 use Rattle.link_simulation.proofs.Laws.Isolation.{part, IsPart, IsPartOf, part_alike, instant_part}
 
 module _ {P : Type 0} (cmp : P → P → Ordering) (order : IsTotalOrder cmp) (inside : P → Bool)

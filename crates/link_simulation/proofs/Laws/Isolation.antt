@@ -1,20 +1,14 @@
 -- The part of a world that is a set's messages goes its own way: what the others do does not touch it.
-use Rattle.std.proofs.Common.{◌≡◌, ℕ, zero, suc, ◌+◌, ◌<◌, ◌≤◌, List, [], ◌∷◌, ◌++◌, map, length, Bool, true, false}
-use Rattle.std.proofs.Common.{cond, Option, Some, None, refl, sym, ap, ◌∙◌, subst, arith, append-nil}
-use Rattle.std.specs.Prelude.{⊤, nat_le}
-use Rattle.std.specs.List.{filter, find, list_any}
-use Rattle.std.specs.declared.cmp.Ordering.{Ordering}
-use Rattle.std.specs.Cmp.{IsTotalOrder}
-use Rattle.std.proofs.lemmas.List.Elements.{filter-append}
+use Rattle.link_simulation.proofs.Common.{◌≡◌, ℕ, zero, suc, ◌+◌, ◌<◌, ◌≤◌, List, [], ◌∷◌, ◌++◌, map, length, Bool}
+use Rattle.link_simulation.proofs.Common.{true, false, cond, Option, Some, None, refl, sym, ap, ◌∙◌, subst, arith}
+use Rattle.link_simulation.proofs.Common.{append-nil, ⊤, nat_le, filter, find, list_any, Ordering, IsTotalOrder}
+use Rattle.link_simulation.proofs.Common.{filter-append, without_first, Completed, Course, Flight, World, and_then}
+use Rattle.link_simulation.proofs.Common.{complete, first_waiting, fronts, goes, instant, is_done, last_moment}
+use Rattle.link_simulation.proofs.Common.{later_of, least_pair, may_start, meets, preceded, raised, ready, settle}
+use Rattle.link_simulation.proofs.Common.{settle_within, start, start_next, wake, wake_within, EndsWith, out_of_flight}
+use Rattle.link_simulation.proofs.Common.{is_late, completed, arrival, flight_of, Message, same_pair, FlowIdsUsedUp}
+use Rattle.link_simulation.proofs.Common.{MomentTooLate, each_joined, Each, length-without_first}
 use Rattle.std.proofs.lemmas.Bool.{leb-false, lt-leb}
-use Rattle.fair_rates.specs.Lists.WithoutFirst.{without_first}
-use Rattle.link_simulation.specs.Simulation.World.{Completed, Course, Flight, World, and_then, complete, first_waiting}
-use Rattle.link_simulation.specs.Simulation.World.{fronts, goes, instant, is_done, last_moment, later_of, least_pair}
-use Rattle.link_simulation.specs.Simulation.World.{may_start, meets, preceded, raised, ready, settle, settle_within}
-use Rattle.link_simulation.specs.Simulation.World.{start, start_next, wake, wake_within, EndsWith, out_of_flight}
-use Rattle.link_simulation.specs.Simulation.World.{is_late, completed, arrival, flight_of}
-use Rattle.link_simulation.specs.Simulation.Messages.{Message, same_pair}
-use Rattle.fair_rates.specs.declared.error.Error.TheVariants.{FlowIdsUsedUp, MomentTooLate}
 use Rattle.link_simulation.proofs.Simulation.Queue.{settle_none, settle_first, find_passes, preceded_none}
 use Rattle.link_simulation.proofs.Simulation.SettlingEnds.{ends_preceded, ends_and_then, ends_cond, length_without}
 use Rattle.link_simulation.proofs.Simulation.SettlingEnds.{find_in_none, find_like, HasAtMost, complete_has, NoneDone}
@@ -23,8 +17,8 @@ use Rattle.link_simulation.proofs.Laws.Bytes.{wake_none, wake_first, ready_is_fi
 use Rattle.link_simulation.proofs.Simulation.FilteredFronts.{first_kept, first_dropped, none_kept, find_kept, any_kept}
 use Rattle.link_simulation.proofs.Simulation.FilteredFronts.{filter_swap, fronts_kept, least_kept}
 use Rattle.link_simulation.proofs.Simulation.PairOrder.{least_none}
-use Rattle.fair_rates.proofs.Lists.Each.{each_find, each_without, each_joined, Each}
-use Rattle.fair_rates.proofs.Lists.Filters.{length-without_first, none_long}
+use Rattle.fair_rates.proofs.Lists.Each.{each_find, each_without}
+use Rattle.fair_rates.proofs.Lists.Filters.{none_long}
 use Rattle.link_simulation.proofs.Simulation.QuietInstants.{settle_nothing}
 
 module _ {P : Type 0} (cmp : P → P → Ordering) (order : IsTotalOrder cmp) (inside : P → Bool)

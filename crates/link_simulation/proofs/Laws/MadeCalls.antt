@@ -1,17 +1,14 @@
 -- Replies that agree with the simulation, to calls in turn, are what the calls that were made answer there.
-use Rattle.std.proofs.Common.{◌≡◌, ℕ, ◌<◌, ◌≤◌, List, [], ◌∷◌, Some, zero, suc, refl, sym, ap, ◌∙◌, subst, arith}
-use Rattle.std.specs.Prelude.{IfSome, take}
-use Rattle.std.specs.List.{AllZip}
-use Rattle.std.specs.declared.cmp.Ordering.{Ordering}
-use Rattle.std.specs.Cmp.{IsTotalOrder}
-use Rattle.link_simulation.specs.Simulation.World.{World, new_world, Completed, goes, IsQuiet}
-use Rattle.link_simulation.specs.Simulation.Calls.{Call, call_limit, call_limit_link, call_enqueue, call_advance}
-use Rattle.link_simulation.specs.Simulation.Calls.{call_enqueue_all, call_next, moment_of, Runs, IsBeforeNext, IsInTurn}
-use Rattle.link_simulation.specs.Simulation.Replies.{Reply, reply_done, reply_next, reply_refused, SameCompletion}
-use Rattle.link_simulation.specs.Simulation.Replies.{Agrees, made, completions_in}
-use Rattle.link_simulation.specs.Laws.Isolation.{Answers, no_calls, call_answers, AnswersInTurn, no_calls_in_turn}
+use Rattle.link_simulation.proofs.Common.{◌≡◌, ℕ, ◌<◌, ◌≤◌, List, [], ◌∷◌, Some, zero, suc, refl, sym, ap, ◌∙◌, subst}
+use Rattle.link_simulation.proofs.Common.{arith, IfSome, AllZip, Ordering, IsTotalOrder, World, new_world, Completed}
+use Rattle.link_simulation.proofs.Common.{goes, IsQuiet, Call, call_limit, call_limit_link, call_enqueue, call_advance}
+use Rattle.link_simulation.proofs.Common.{call_enqueue_all, call_next, moment_of, Runs, IsBeforeNext, IsInTurn, Reply}
+use Rattle.link_simulation.proofs.Common.{reply_done, reply_next, reply_refused, SameCompletion, Agrees, made}
+use Rattle.link_simulation.proofs.Common.{completions_in, Answers, no_calls, call_answers, AreInTurn}
+use Rattle.std.specs.Prelude.{take}
+use Rattle.link_simulation.specs.Laws.Isolation.{AnswersInTurn, no_calls_in_turn}
 use Rattle.link_simulation.specs.Laws.Isolation.{answers_in_turn}
-use Rattle.link_simulation.specs.Laws.Replies.{AreInTurn, AreAdvancedFirst}
+use Rattle.link_simulation.specs.Laws.Replies.{AreAdvancedFirst}
 use Rattle.link_simulation.proofs.Simulation.QuietInstants.{next_is_later, call_ends_quiet}
 use Rattle.link_simulation.proofs.Rule.Limit.{new_stands}
 use Rattle.link_simulation.proofs.Rule.Stepwise.{agrees_next, agrees_refused, agrees_done, IsMade}

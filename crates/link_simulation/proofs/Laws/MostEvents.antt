@@ -1,37 +1,28 @@
 -- Each event takes a message out or starts one, so there are at most twice the waiting ones and once those in flight.
-use Rattle.std.proofs.Common.{◌≡◌, ◌≢◌, ℕ, zero, suc, ◌+◌, ◌-◌, ◌<◌, ◌≤◌, List, [], ◌∷◌, ◌++◌, length, Bool, true}
-use Rattle.std.proofs.Common.{false, cond, not, Option, Some, None, refl, sym, ap, ◌∙◌, subst, arith, inl, inr}
-use Rattle.std.specs.Prelude.{⊤, ◌&&◌, ◌==◌, nat_lt, slice_get, if◌then◌else◌, IfSome}
-use Rattle.std.specs.List.{find, filter}
-use Rattle.std.specs.declared.cmp.Ordering.{Ordering}
-use Rattle.std.specs.Cmp.{IsTotalOrder}
-use Rattle.std.proofs.lemmas.Bool.{eq-eqb}
-use Rattle.fair_rates.specs.Lists.WithoutFirst.{without_first}
-use Rattle.fair_rates.specs.declared.error.Error.TheVariants.{MomentTooLate}
+use Rattle.link_simulation.proofs.Common.{◌≡◌, ◌≢◌, ℕ, zero, suc, ◌+◌, ◌-◌, ◌<◌, ◌≤◌, List, [], ◌∷◌, ◌++◌, length, Bool}
+use Rattle.link_simulation.proofs.Common.{true, false, cond, not, Option, Some, None, refl, sym, ap, ◌∙◌, subst, arith}
+use Rattle.link_simulation.proofs.Common.{inl, inr, ⊤, ◌&&◌, ◌==◌, nat_lt, slice_get, if◌then◌else◌, IfSome, find}
+use Rattle.link_simulation.proofs.Common.{filter, Ordering, IsTotalOrder, eq-eqb, without_first, MomentTooLate, Message}
+use Rattle.link_simulation.proofs.Common.{Caps, same_pair, Completed, Course, goes, meets, last_moment, preceded}
+use Rattle.link_simulation.proofs.Common.{fronts, raised, later_of, completion_of, completed, Call, call_limit}
+use Rattle.link_simulation.proofs.Common.{call_limit_link, call_enqueue, call_advance, call_enqueue_all, call_next}
+use Rattle.link_simulation.proofs.Common.{Planned, RatedFlight, IsLeastMoment, next_event, rated_messages, left_at}
+use Rattle.link_simulation.proofs.Common.{IsSpentAt, SomeSpentAt, drained_to, next_of, may_launch, SomeReadyAt}
+use Rattle.link_simulation.proofs.Common.{is_spent, new_planned, Accounts, PlansStart, Launches, nothing_waits}
+use Rattle.link_simulation.proofs.Common.{too_early, no_id, starts, Finishes, all_completed, late, stopped, completes}
+use Rattle.link_simulation.proofs.Common.{WakesEach, all_started, no_start, no_finish, starts_one, Wakes, Settles}
+use Rattle.link_simulation.proofs.Common.{settling, Rebalances, none_sending, some_sending, Enqueues, at_once}
+use Rattle.link_simulation.proofs.Common.{no_launch, launches, Advances, no_more, at_finish, at_start, finish_stops}
+use Rattle.link_simulation.proofs.Common.{start_stops, launched, Obeys, EnqueuesEach, all_enqueued, one_stops}
+use Rattle.link_simulation.proofs.Common.{enqueues_one, In, Each, zip-length}
 use Rattle.link_simulation.specs.Laws.MostEvents.{most_events}
-use Rattle.link_simulation.specs.Simulation.Messages.{Message, Caps, same_pair}
-use Rattle.link_simulation.specs.Simulation.World.{Completed, Course, goes, meets, last_moment, preceded, fronts}
-use Rattle.link_simulation.specs.Simulation.World.{raised, later_of, completion_of, completed}
-use Rattle.link_simulation.specs.Simulation.Calls.{Call, call_limit, call_limit_link, call_enqueue, call_advance}
-use Rattle.link_simulation.specs.Simulation.Calls.{call_enqueue_all, call_next}
-use Rattle.link_simulation.specs.Rule.Planned.{Planned, RatedFlight, IsLeastMoment, next_event, rated_messages, left_at}
-use Rattle.link_simulation.specs.Rule.Planned.{IsSpentAt, SomeSpentAt, drained_to, next_of, may_launch, SomeReadyAt}
-use Rattle.link_simulation.specs.Rule.Planned.{is_spent, IsPlanned, new_planned}
-use Rattle.link_simulation.specs.Rule.Events.{Accounts, PlansStart, Launches, nothing_waits, too_early, no_id, starts}
-use Rattle.link_simulation.specs.Rule.Events.{Finishes, all_completed, late, stopped, completes, WakesEach, all_started}
-use Rattle.link_simulation.specs.Rule.Events.{no_start, no_finish, starts_one, Wakes, Settles, settling, Rebalances}
-use Rattle.link_simulation.specs.Rule.Events.{none_sending, some_sending, Enqueues, at_once, no_launch, launches}
-use Rattle.link_simulation.specs.Rule.Events.{Advances, no_more, at_finish, at_start, finish_stops, start_stops}
-use Rattle.link_simulation.specs.Rule.Events.{launched, Obeys}
-use Rattle.link_simulation.specs.Rule.Events.{EnqueuesEach, all_enqueued, one_stops, enqueues_one}
-use Rattle.fair_rates.proofs.Lists.Members.{In, in_filter}
+use Rattle.link_simulation.specs.Rule.Planned.{IsPlanned}
+use Rattle.fair_rates.proofs.Lists.Members.{in_filter}
 use Rattle.link_simulation.proofs.Simulation.SettlingEnds.{find_like, length_without}
 use Rattle.link_simulation.proofs.Simulation.Queue.{find_passes, pair_sym}
 use Rattle.link_simulation.proofs.Laws.Bytes.{each_filter}
 use Rattle.link_simulation.proofs.Simulation.OtherPairs.{fronts_are_first}
-use Rattle.fair_rates.proofs.Lists.Each.{Each}
 use Rattle.link_simulation.proofs.Rule.Advance.{earlier_start}
-use Rattle.fair_rates.proofs.Lists.Zips.{zip-length}
 
 pub split_length : {X : Type 0} (test : X → Bool) (xs : List X)
     → length (filter test xs) + length (filter (λ x. not (test x)) xs) ≡ length xs

@@ -1,30 +1,21 @@
 -- Each call keeps a planned world in order.
-use Rattle.std.proofs.Common.{◌≡◌, ℕ, ◌+◌, List, [], ◌∷◌, Bool, true, false, cond, not, Option, Some, None, refl, sym}
-use Rattle.std.proofs.Common.{ap, ◌∙◌, subst}
-use Rattle.std.specs.Prelude.{◌&&◌, nat_lt, if◌then◌else◌}
-use Rattle.std.specs.List.{find, filter, list_any, AllZip}
-use Rattle.std.specs.declared.cmp.Ordering.{Ordering}
-use Rattle.std.specs.Cmp.{IsTotalOrder}
-use Rattle.std.proofs.lemmas.Bool.{or_from, or_parts}
-use Rattle.std.proofs.lemmas.List.{map-append}
-use Rattle.fair_rates.specs.declared.error.Error.TheVariants.{MomentTooLate}
-use Rattle.link_simulation.specs.Simulation.Messages.{Message, Caps, CapsAlike, PairsAlike, OneForEachPair, no_caps}
-use Rattle.link_simulation.specs.Simulation.Messages.{same_pair}
-use Rattle.link_simulation.specs.Simulation.Rates.{AreFair}
-use Rattle.link_simulation.specs.Simulation.World.{Completed, Course, goes, meets, last_moment, raised, later_of}
-use Rattle.link_simulation.specs.Simulation.World.{completion_of, is_in_order, EndsWith, completed, arrival}
-use Rattle.link_simulation.specs.Simulation.Calls.{Call, call_limit, call_limit_link, call_enqueue, call_advance}
-use Rattle.link_simulation.specs.Simulation.Calls.{call_enqueue_all, call_next, limited_by, linked_by}
-use Rattle.link_simulation.specs.Rule.Planned.{Planned, RatedFlight, new_planned, rated_messages, drained_to, next_of}
-use Rattle.link_simulation.specs.Rule.Planned.{AreInPairOrder, may_launch, is_spent, IsRated}
-use Rattle.link_simulation.specs.Rule.Events.{Accounts, PlansStart, Launches, nothing_waits, too_early, no_id, starts}
-use Rattle.link_simulation.specs.Rule.Events.{Finishes, all_completed, late, stopped, completes, WakesEach, all_started}
-use Rattle.link_simulation.specs.Rule.Events.{no_start, no_finish, starts_one, Settles, settling, Rebalances}
-use Rattle.link_simulation.specs.Rule.Events.{none_sending, some_sending, Enqueues, at_once, no_launch, launches}
-use Rattle.link_simulation.specs.Rule.Events.{Advances, no_more, at_finish, at_start, finish_stops, start_stops}
-use Rattle.link_simulation.specs.Rule.Events.{launched, landed, with_queued, Obeys}
-use Rattle.link_simulation.specs.Rule.Events.{EnqueuesEach, all_enqueued, one_stops, enqueues_one}
-use Rattle.link_simulation.specs.Laws.Orderly.{IsOrderly}
+use Rattle.link_simulation.proofs.Common.{◌≡◌, ℕ, ◌+◌, List, [], ◌∷◌, Bool, true, false, cond, not, Option, Some, None}
+use Rattle.link_simulation.proofs.Common.{refl, sym, ap, ◌∙◌, subst, ◌&&◌, nat_lt, if◌then◌else◌, find, filter}
+use Rattle.link_simulation.proofs.Common.{list_any, AllZip, Ordering, IsTotalOrder, or_from, or_parts, map-append}
+use Rattle.link_simulation.proofs.Common.{MomentTooLate, Message, Caps, CapsAlike, PairsAlike, OneForEachPair}
+use Rattle.link_simulation.proofs.Common.{same_pair, AreFair, Completed, Course, goes, meets, last_moment, raised}
+use Rattle.link_simulation.proofs.Common.{later_of, completion_of, is_in_order, EndsWith, completed, arrival, Call}
+use Rattle.link_simulation.proofs.Common.{call_limit, call_limit_link, call_enqueue, call_advance, call_enqueue_all}
+use Rattle.link_simulation.proofs.Common.{call_next, limited_by, linked_by, Planned, RatedFlight, new_planned}
+use Rattle.link_simulation.proofs.Common.{rated_messages, drained_to, next_of, AreInPairOrder, may_launch, is_spent}
+use Rattle.link_simulation.proofs.Common.{IsRated, Accounts, PlansStart, Launches, nothing_waits, too_early, no_id}
+use Rattle.link_simulation.proofs.Common.{starts, Finishes, all_completed, late, stopped, completes, WakesEach}
+use Rattle.link_simulation.proofs.Common.{all_started, no_start, no_finish, starts_one, Settles, settling, Rebalances}
+use Rattle.link_simulation.proofs.Common.{none_sending, some_sending, Enqueues, at_once, no_launch, launches, Advances}
+use Rattle.link_simulation.proofs.Common.{no_more, at_finish, at_start, finish_stops, start_stops, launched, landed}
+use Rattle.link_simulation.proofs.Common.{with_queued, Obeys, EnqueuesEach, all_enqueued, one_stops, enqueues_one}
+use Rattle.link_simulation.proofs.Common.{IsOrderly}
+use Rattle.link_simulation.specs.Simulation.Messages.{no_caps}
 use Rattle.link_simulation.proofs.Simulation.AlikeMessages.{same_itself}
 use Rattle.link_simulation.proofs.Simulation.Queue.{one_pair_more}
 use Rattle.link_simulation.proofs.Simulation.SettlingEnds.{ends_preceded}

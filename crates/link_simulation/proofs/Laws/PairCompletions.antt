@@ -1,28 +1,19 @@
 -- The messages of a pair complete in the order in which they were enqueued, and are delivered in it.
-use Rattle.std.proofs.Common.{◌≡◌, ℕ, suc, ◌+◌, ◌-◌, ◌≤◌, List, [], ◌∷◌, ◌++◌, map, Bool, true, false}
-use Rattle.std.proofs.Common.{cond, max, Option, Some, None, refl, sym, ap, ◌∙◌, subst, arith, append_assoc}
-use Rattle.std.proofs.Common.{append-nil}
-use Rattle.std.specs.Prelude.{◌&&◌, IfSome, nat_lt, if◌then◌else◌}
-use Rattle.std.specs.List.{filter, AllZip}
-use Rattle.std.specs.declared.cmp.Ordering.{Ordering}
-use Rattle.std.specs.Cmp.{IsTotalOrder}
-use Rattle.std.proofs.lemmas.List.Elements.{filter-append}
-use Rattle.std.proofs.lemmas.Bool.{leb-true, le-leb}
-use Rattle.fair_rates.specs.declared.error.Error.TheVariants.{MomentTooLate}
-use Rattle.fair_rates.specs.Sides.Subjects.{same_peer}
-use Rattle.link_simulation.specs.Simulation.Messages.{Message, Caps, PairsAlike, same_pair}
-use Rattle.link_simulation.specs.Simulation.World.{World, Flight, Completed, completion_of, Course, goes, meets}
-use Rattle.link_simulation.specs.Simulation.World.{last_moment, preceded, and_then, is_in_order, later_of, new_world}
-use Rattle.link_simulation.specs.Simulation.World.{first_waiting, start_next, raised}
-use Rattle.link_simulation.specs.Simulation.World.{settle}
-use Rattle.link_simulation.specs.Simulation.World.{instant, EndsWith}
-use Rattle.link_simulation.specs.Simulation.Time.{IsSound, Drains, Ticks, no_tick, one_tick, tick_faults}
-use Rattle.link_simulation.specs.Simulation.Calls.{Call, call_limit, call_limit_link, call_enqueue, call_advance}
-use Rattle.link_simulation.specs.Simulation.Calls.{rebalance, join, complete_at_once, act, moment_of, Runs}
-use Rattle.link_simulation.specs.Simulation.Calls.{call_enqueue_all, call_next}
-use Rattle.link_simulation.specs.Simulation.Calls.{limited_by, linked_by, enqueue, enqueue_each}
-use Rattle.link_simulation.specs.Laws.PairCompletions.{enqueued, answered, IsCompletionOf, NeverGoDown, IsInPairOrder}
-use Rattle.link_simulation.specs.Laws.Isolation.{Answers, no_calls, call_answers}
+use Rattle.link_simulation.proofs.Common.{◌≡◌, ℕ, suc, ◌+◌, ◌-◌, ◌≤◌, List, [], ◌∷◌, ◌++◌, map, Bool, true, false, cond}
+use Rattle.link_simulation.proofs.Common.{Option, Some, None, refl, sym, ap, ◌∙◌, subst, arith, append_assoc}
+use Rattle.link_simulation.proofs.Common.{append-nil, ◌&&◌, IfSome, nat_lt, if◌then◌else◌, filter, AllZip, Ordering}
+use Rattle.link_simulation.proofs.Common.{IsTotalOrder, filter-append, leb-true, le-leb, MomentTooLate, same_peer}
+use Rattle.link_simulation.proofs.Common.{Message, Caps, PairsAlike, same_pair, World, Flight, Completed, completion_of}
+use Rattle.link_simulation.proofs.Common.{Course, goes, meets, last_moment, preceded, and_then, is_in_order, later_of}
+use Rattle.link_simulation.proofs.Common.{new_world, first_waiting, start_next, raised, settle, instant, EndsWith}
+use Rattle.link_simulation.proofs.Common.{IsSound, Drains, Ticks, no_tick, one_tick, tick_faults, Call, call_limit}
+use Rattle.link_simulation.proofs.Common.{call_limit_link, call_enqueue, call_advance, rebalance, complete_at_once, act}
+use Rattle.link_simulation.proofs.Common.{moment_of, Runs, call_enqueue_all, call_next, limited_by, linked_by, enqueue}
+use Rattle.link_simulation.proofs.Common.{enqueue_each, enqueued, answered, IsCompletionOf, NeverGoDown, Answers}
+use Rattle.link_simulation.proofs.Common.{no_calls, call_answers}
+use Rattle.std.proofs.Common.{max}
+use Rattle.link_simulation.specs.Simulation.Calls.{join}
+use Rattle.link_simulation.specs.Laws.PairCompletions.{IsInPairOrder}
 use Rattle.link_simulation.proofs.Simulation.Queue.{pair_sym}
 use Rattle.link_simulation.proofs.Simulation.Stretch.{flows_drained}
 use Rattle.link_simulation.proofs.Simulation.Split.{rest_is}

@@ -1,32 +1,22 @@
 -- How far a pair is: which of its messages completed, which is in flight, which wait. Starts, completions and whole
 -- instants keep it.
-use Rattle.std.proofs.Common.{◌≡◌, ℕ, zero, suc, ◌+◌, ◌≤◌, List, [], ◌∷◌, ◌++◌, map, length, Bool, true, false}
-use Rattle.std.proofs.Common.{cond, not, Option, Some, None, refl, sym, ap, ◌∙◌, subst, arith, append_assoc}
-use Rattle.std.proofs.Common.{append-nil}
-use Rattle.std.specs.Prelude.{⊤, ◌&&◌, ◌||◌, IfSome, nat_le, if◌then◌else◌}
-use Rattle.std.specs.List.{list_any, find, filter, AllZip}
-use Rattle.std.specs.declared.cmp.Ordering.{Ordering}
-use Rattle.std.specs.Cmp.{IsTotalOrder}
-use Rattle.std.proofs.lemmas.List.Elements.{filter-append}
-use Rattle.std.proofs.lemmas.List.{map-append}
-use Rattle.std.proofs.lemmas.Bool.{leb-true, and_parts}
-use Rattle.fair_rates.specs.Lists.WithoutFirst.{without_first}
-use Rattle.fair_rates.specs.declared.error.Error.TheVariants.{MomentTooLate, FlowIdsUsedUp}
-use Rattle.fair_rates.specs.Sides.Subjects.{same_peer}
-use Rattle.link_simulation.specs.Simulation.Messages.{Message, PairsAlike, same_pair, is_delivered}
-use Rattle.link_simulation.specs.Simulation.World.{World, Flight, Completed, completion_of, Course, goes, meets}
-use Rattle.link_simulation.specs.Simulation.World.{last_moment, preceded, and_then, is_in_order, later_of}
-use Rattle.link_simulation.specs.Simulation.World.{flows, first_waiting, may_start, start, start_next, is_done}
-use Rattle.link_simulation.specs.Simulation.World.{complete, settle_within, settle, least_pair, ready, turn}
-use Rattle.link_simulation.specs.Simulation.World.{wake_within, wake, instant, fronts, out_of_flight, is_late}
-use Rattle.link_simulation.specs.Simulation.World.{completed, arrival, flight_of}
-use Rattle.link_simulation.specs.Laws.PairCompletions.{IsCompletionOf, NoneBefore, NeverGoDown}
+use Rattle.link_simulation.proofs.Common.{◌≡◌, ℕ, zero, suc, ◌+◌, ◌≤◌, List, [], ◌∷◌, ◌++◌, map, length, Bool, true}
+use Rattle.link_simulation.proofs.Common.{false, cond, not, Option, Some, None, refl, sym, ap, ◌∙◌, subst, arith}
+use Rattle.link_simulation.proofs.Common.{append_assoc, append-nil, ⊤, ◌&&◌, ◌||◌, IfSome, nat_le, if◌then◌else◌}
+use Rattle.link_simulation.proofs.Common.{list_any, find, filter, AllZip, Ordering, IsTotalOrder, filter-append}
+use Rattle.link_simulation.proofs.Common.{map-append, leb-true, and_parts, without_first, MomentTooLate, FlowIdsUsedUp}
+use Rattle.link_simulation.proofs.Common.{same_peer, Message, PairsAlike, same_pair, is_delivered, World, Flight}
+use Rattle.link_simulation.proofs.Common.{Completed, completion_of, Course, goes, meets, last_moment, preceded}
+use Rattle.link_simulation.proofs.Common.{and_then, is_in_order, later_of, flows, first_waiting, may_start, start}
+use Rattle.link_simulation.proofs.Common.{start_next, is_done, complete, settle_within, settle, least_pair, ready, turn}
+use Rattle.link_simulation.proofs.Common.{wake_within, wake, instant, fronts, out_of_flight, is_late, completed}
+use Rattle.link_simulation.proofs.Common.{arrival, flight_of, IsCompletionOf, NeverGoDown, Each}
+use Rattle.link_simulation.specs.Laws.PairCompletions.{NoneBefore}
 use Rattle.link_simulation.specs.Laws.PairCompletions.{completes_pair}
 use Rattle.link_simulation.proofs.Simulation.Queue.{pair_like, pair_sym, find_passes, settle_none, settle_first}
 use Rattle.link_simulation.proofs.Simulation.SettlingEnds.{find_like}
 use Rattle.link_simulation.proofs.Laws.Bytes.{wake_none, each_least, each_filter}
 use Rattle.link_simulation.proofs.Simulation.OtherPairs.{fronts_are_first}
-use Rattle.fair_rates.proofs.Lists.Each.{Each}
 use Rattle.fair_rates.proofs.Lists.Members.{filter_nothing}
 use Rattle.link_simulation.proofs.Simulation.Sound.{raised_peerwise}
 

@@ -1,22 +1,16 @@
 -- Fair rates of messages that share no side with the others are fair for them alone.
-use Rattle.std.proofs.Common.{◌≡◌, ℕ, zero, suc, ◌+◌, ◌*◌, ◌≤◌, List, [], ◌∷◌, ◌++◌, map, Bool, true, false, cond}
-use Rattle.std.proofs.Common.{Option, Some, None, All, Contains, sum_by, refl, sym, ap, ◌∙◌, subst, arith, ◌⊎◌, inl}
-use Rattle.std.proofs.Common.{inr}
-use Rattle.std.specs.Prelude.{◌&&◌, slice_get, if◌then◌else◌}
-use Rattle.std.specs.List.{filter}
-use Rattle.std.specs.declared.cmp.Ordering.{Ordering}
-use Rattle.std.proofs.lemmas.List.Elements.{All-contains}
+use Rattle.link_simulation.proofs.Common.{◌≡◌, ℕ, zero, suc, ◌+◌, ◌*◌, ◌≤◌, List, [], ◌∷◌, ◌++◌, map, Bool, true, false}
+use Rattle.link_simulation.proofs.Common.{cond, Option, Some, None, All, Contains, sum_by, refl, sym, ap, ◌∙◌, subst}
+use Rattle.link_simulation.proofs.Common.{arith, ◌⊎◌, inl, inr, ◌&&◌, slice_get, if◌then◌else◌, filter, Ordering}
+use Rattle.link_simulation.proofs.Common.{All-contains, Side, load, IsFair, flagged, same_peer, Message, Caps}
+use Rattle.link_simulation.proofs.Common.{same_pair, is_delivered, AreFair, Parts, capped_sides, sides_for, rates_from}
+use Rattle.link_simulation.proofs.Common.{is_unlimited, egress_side, ingress_side, link_side, All-from_contains, In}
+use Rattle.link_simulation.proofs.Common.{places_from}
 use Rattle.std.proofs.lemmas.List.Sums.{sum_by-cons}
-use Rattle.fair_rates.specs.Fairness.Fair.{Side, load, IsLimited, HasBottleneck, IsFair}
-use Rattle.fair_rates.specs.Fairness.Part.{flagged}
-use Rattle.fair_rates.specs.Sides.Subjects.{same_peer}
-use Rattle.link_simulation.specs.Simulation.Messages.{Message, Caps, same_pair, is_delivered}
-use Rattle.link_simulation.specs.Simulation.Rates.{AreFair, Parts, capped_sides, sides_for, rates_from, is_unlimited}
-use Rattle.link_simulation.specs.Simulation.Rates.{egress_side, ingress_side, link_side, capped_side}
-use Rattle.fair_rates.proofs.Lists.SumOrder.{All-from_contains}
-use Rattle.fair_rates.proofs.Lists.Members.{In, in_from_contains, contains_from_in, in_left, in_right, in_either}
+use Rattle.fair_rates.specs.Fairness.Fair.{IsLimited, HasBottleneck}
+use Rattle.link_simulation.specs.Simulation.Rates.{capped_side}
+use Rattle.fair_rates.proofs.Lists.Members.{in_from_contains, contains_from_in, in_left, in_right, in_either}
 use Rattle.fair_rates.proofs.Lists.Members.{in_filter, from_filter, in_get, from_flat_map, in_flat_map}
-use Rattle.fair_rates.specs.Lists.Places.{places_from}
 use Rattle.fair_rates.proofs.Lists.Places.{place_here, passes_here}
 
 -- which of the caps makes a side

@@ -1,25 +1,19 @@
 -- Replies that agree with the simulation, to calls in turn, keep the order of each pair and isolate sets of peers.
-use Rattle.std.proofs.Common.{◌≡◌, ℕ, zero, suc, ◌≤◌, List, [], ◌∷◌, Bool, true, false, cond, Option, Some, None, refl}
-use Rattle.std.proofs.Common.{sym, subst}
-use Rattle.std.specs.Prelude.{⊤, IfSome, take}
-use Rattle.std.specs.List.{filter, AllZip}
-use Rattle.std.specs.declared.cmp.Ordering.{Ordering}
-use Rattle.std.specs.Cmp.{IsTotalOrder}
-use Rattle.fair_rates.specs.Sides.Subjects.{same_peer}
-use Rattle.link_simulation.specs.Simulation.Messages.{Message}
-use Rattle.link_simulation.specs.Simulation.World.{new_world, Completed}
-use Rattle.link_simulation.specs.Simulation.Calls.{Call}
-use Rattle.link_simulation.specs.Simulation.Replies.{Reply, reply_done, reply_next, reply_refused, SameCompletion}
-use Rattle.link_simulation.specs.Simulation.Replies.{Agrees, made, completions_in}
-use Rattle.link_simulation.specs.Laws.PairCompletions.{enqueued, answered, IsCompletionOf, NoneBefore, NeverGoDown}
+use Rattle.link_simulation.proofs.Common.{◌≡◌, ℕ, zero, suc, ◌≤◌, List, [], ◌∷◌, Bool, true, false, cond, Option, Some}
+use Rattle.link_simulation.proofs.Common.{None, refl, sym, subst, ⊤, IfSome, filter, AllZip, Ordering, IsTotalOrder}
+use Rattle.link_simulation.proofs.Common.{same_peer, Message, new_world, Completed, Call, Reply, reply_done, reply_next}
+use Rattle.link_simulation.proofs.Common.{reply_refused, SameCompletion, Agrees, made, completions_in, enqueued}
+use Rattle.link_simulation.proofs.Common.{answered, IsCompletionOf, NeverGoDown, Answers, InTime, Completes, zip-append}
+use Rattle.link_simulation.proofs.Common.{zip-filter}
+use Rattle.std.specs.Prelude.{take}
+use Rattle.link_simulation.specs.Laws.PairCompletions.{NoneBefore}
 use Rattle.link_simulation.specs.Laws.PairCompletions.{completes_pair, IsInPairOrder}
-use Rattle.link_simulation.specs.Laws.Isolation.{Answers, InTime, IsSet, NothingElse, inside_alone, is_kept}
+use Rattle.link_simulation.specs.Laws.Isolation.{IsSet, NothingElse, inside_alone, is_kept}
 use Rattle.link_simulation.specs.Laws.Isolation.{kept_calls, kept_completions}
-use Rattle.link_simulation.specs.Laws.Replies.{AlwaysSoFar, Completes, CompletesInOrder, CompletePairsInOrder}
+use Rattle.link_simulation.specs.Laws.Replies.{AlwaysSoFar, CompletesInOrder, CompletePairsInOrder}
 use Rattle.link_simulation.specs.Laws.Replies.{IsolateSets}
 use Rattle.link_simulation.proofs.Simulation.Queue.{both_alike}
 use Rattle.link_simulation.proofs.Simulation.AlikeMessages.{same_itself, peers_alike}
-use Rattle.fair_rates.proofs.Lists.Zips.{zip-append, zip-filter}
 use Rattle.link_simulation.proofs.Laws.PairCompletions.{pair_in_order}
 use Rattle.link_simulation.proofs.Laws.IsolatedCalls.{isolation}
 use Rattle.link_simulation.proofs.Laws.MadeCalls.{Bridged, made_in_turn, any_turn}

@@ -1,16 +1,10 @@
 -- An advance that goes by the event rule is an advance to any moment on the way and then on.
-use Rattle.std.proofs.Common.{◌≡◌, ℕ, ◌+◌, ◌-◌, ◌≤◌, List, ◌++◌, refl, sym, subst, arith}
-use Rattle.std.specs.List.{AllZip}
-use Rattle.std.specs.declared.cmp.Ordering.{Ordering}
-use Rattle.std.specs.Cmp.{IsTotalOrder}
-use Rattle.link_simulation.specs.Simulation.World.{World, Completed, Course, goes, meets, preceded, last_moment}
-use Rattle.link_simulation.specs.Simulation.Time.{Ticks, Continues}
-use Rattle.link_simulation.specs.Simulation.Calls.{call_advance, Runs}
-use Rattle.link_simulation.specs.Simulation.Replies.{SameCompletion}
-use Rattle.link_simulation.specs.Rule.Planned.{Planned}
-use Rattle.link_simulation.specs.Rule.StandsFor.{StandsFor}
-use Rattle.link_simulation.specs.Rule.SamePlanned.{GoesByRule}
-use Rattle.link_simulation.specs.Rule.Simulated.{IsRun, RunsInTwo, IsSplitAnywhere}
+use Rattle.link_simulation.proofs.Common.{◌≡◌, ℕ, ◌+◌, ◌-◌, ◌≤◌, List, ◌++◌, refl, sym, subst, arith, AllZip, Ordering}
+use Rattle.link_simulation.proofs.Common.{IsTotalOrder, World, Completed, Course, goes, meets, preceded, last_moment}
+use Rattle.link_simulation.proofs.Common.{Ticks, call_advance, Runs, SameCompletion, Planned, StandsFor, GoesByRule}
+use Rattle.link_simulation.proofs.Common.{IsRun}
+use Rattle.link_simulation.specs.Simulation.Time.{Continues}
+use Rattle.link_simulation.specs.Rule.Simulated.{RunsInTwo, IsSplitAnywhere}
 use Rattle.link_simulation.proofs.Simulation.Split.{ticks_apart}
 use Rattle.link_simulation.proofs.Simulation.QuietInstants.{IsAt, ends_at, ticks_end_at}
 use Rattle.link_simulation.proofs.Laws.AdvanceOnward.{nothing_more, ticks_of}

@@ -1,21 +1,12 @@
 -- Calls before the planned next event, and those that go by what `next` answers, come in their turn.
-use Rattle.std.proofs.Common.{◌≡◌, ℕ, ◌+◌, ◌<◌, ◌≤◌, List, [], ◌∷◌, Option, Some, None, refl, sym, subst, arith}
-use Rattle.std.proofs.Common.{◌++◌, ap, append_assoc, ◌∙◌}
-use Rattle.std.specs.Prelude.{IfSome}
-use Rattle.std.specs.declared.cmp.Ordering.{Ordering}
-use Rattle.std.specs.Cmp.{IsTotalOrder}
-use Rattle.link_simulation.specs.Simulation.World.{Course, preceded, and_then, meets}
-use Rattle.link_simulation.specs.Simulation.Messages.{Message}
-use Rattle.link_simulation.specs.Simulation.Calls.{enqueue, enqueue_each}
-use Rattle.link_simulation.specs.Simulation.World.{World, Completed, goes, new_world, IsQuiet}
-use Rattle.link_simulation.specs.Simulation.Time.{NextIs, IsSound}
-use Rattle.link_simulation.specs.Simulation.Calls.{Call, call_limit, call_limit_link, call_enqueue, call_advance}
-use Rattle.link_simulation.specs.Simulation.Calls.{call_enqueue_all, call_next, moment_of, Runs, IsInTurn, IsBeforeNext}
-use Rattle.link_simulation.specs.Simulation.Replies.{Reply, reply_done, reply_next, reply_refused, Agrees}
-use Rattle.link_simulation.specs.Rule.Planned.{Planned, next_event}
-use Rattle.link_simulation.specs.Rule.StandsFor.{StandsFor}
-use Rattle.link_simulation.specs.Rule.Simulated.{IsCalled, IsRun}
-use Rattle.link_simulation.specs.Laws.Replies.{IsBetween, GoByNext, AreInTurn}
+use Rattle.link_simulation.proofs.Common.{◌≡◌, ℕ, ◌+◌, ◌<◌, ◌≤◌, List, [], ◌∷◌, Option, Some, None, refl, sym, subst}
+use Rattle.link_simulation.proofs.Common.{arith, ◌++◌, ap, append_assoc, ◌∙◌, IfSome, Ordering, IsTotalOrder, Course}
+use Rattle.link_simulation.proofs.Common.{preceded, and_then, meets, Message, enqueue, enqueue_each, World, Completed}
+use Rattle.link_simulation.proofs.Common.{goes, new_world, IsQuiet, NextIs, IsSound, Call, call_limit, call_limit_link}
+use Rattle.link_simulation.proofs.Common.{call_enqueue, call_advance, call_enqueue_all, call_next, moment_of, Runs}
+use Rattle.link_simulation.proofs.Common.{IsInTurn, IsBeforeNext, Reply, reply_done, reply_next, reply_refused, Agrees}
+use Rattle.link_simulation.proofs.Common.{Planned, next_event, StandsFor, IsCalled, IsRun, AreInTurn}
+use Rattle.link_simulation.specs.Laws.Replies.{IsBetween, GoByNext}
 use Rattle.link_simulation.proofs.Rule.Limit.{new_stands}
 use Rattle.link_simulation.proofs.Laws.MadeCalls.{run_ends, turn_later, before_next}
 use Rattle.link_simulation.proofs.Rule.Obeys.{acts_at_once}

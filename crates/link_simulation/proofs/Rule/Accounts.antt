@@ -1,28 +1,17 @@
 -- An account at t takes out what is done in the world at t, and leaves the rest as it is there.
-use Rattle.std.proofs.Common.{◌≡◌, ℕ, suc, ◌-◌, ◌<◌, List, [], ◌∷◌, map, Bool, true, false, cond, not, Option, Some}
-use Rattle.std.proofs.Common.{None, refl, sym, ap, ◌∙◌, subst, arith}
-use Rattle.std.specs.Prelude.{◌==◌, IfSome, slice_get}
-use Rattle.std.specs.List.{filter, list_any, AllZip}
-use Rattle.std.specs.declared.cmp.Ordering.{Ordering}
-use Rattle.std.specs.Cmp.{IsTotalOrder}
-use Rattle.std.proofs.lemmas.Bool.{or_parts, not-true}
-use Rattle.fair_rates.specs.Numbers.Amount.{Amount, drained, reduced}
-use Rattle.fair_rates.specs.Numbers.LowestTerms.{reduced_positive}
-use Rattle.link_simulation.specs.Simulation.World.{Flight, World, is_done}
-use Rattle.link_simulation.specs.Rule.Events.{Accounts}
-use Rattle.link_simulation.specs.Simulation.Messages.{Message, OneForEachPair, PairsAlike, SameMessage, same_pair}
-use Rattle.link_simulation.specs.Simulation.Messages.{CapsAlike}
-use Rattle.link_simulation.specs.Rule.Planned.{AreInPairOrder, RatedFlight, Planned, drained_to, is_spent, left_at}
-use Rattle.link_simulation.specs.Rule.Planned.{rated_messages}
-use Rattle.link_simulation.specs.Simulation.Rates.{AreFair, IsLowest, Parts, drained_by, is_unlimited, rate_of}
-use Rattle.link_simulation.specs.Rule.StandsFor.{Follows, IsSameFlight, Tallies}
+use Rattle.link_simulation.proofs.Common.{◌≡◌, ℕ, suc, ◌-◌, ◌<◌, List, [], ◌∷◌, map, Bool, true, false, cond, not}
+use Rattle.link_simulation.proofs.Common.{Option, Some, None, refl, sym, ap, ◌∙◌, subst, arith, ◌==◌, IfSome, slice_get}
+use Rattle.link_simulation.proofs.Common.{filter, list_any, AllZip, Ordering, IsTotalOrder, or_parts, not-true, Amount}
+use Rattle.link_simulation.proofs.Common.{drained, reduced, reduced_positive, Flight, World, is_done, Accounts, Message}
+use Rattle.link_simulation.proofs.Common.{OneForEachPair, PairsAlike, SameMessage, same_pair, CapsAlike, AreInPairOrder}
+use Rattle.link_simulation.proofs.Common.{RatedFlight, Planned, drained_to, is_spent, left_at, rated_messages, AreFair}
+use Rattle.link_simulation.proofs.Common.{IsLowest, Parts, drained_by, is_unlimited, rate_of, Follows, IsSameFlight}
+use Rattle.link_simulation.proofs.Common.{Tallies, leaving, staying, Each, zip-filter}
 use Rattle.link_simulation.proofs.Simulation.LowestTerms.{drained_by_lowest, drained_none}
-use Rattle.link_simulation.specs.Simulation.Queue.{leaving, staying}
 use Rattle.link_simulation.proofs.Simulation.Queue.{any_filter}
 use Rattle.link_simulation.proofs.Simulation.AlikeMessages.{unlimited_alike}
-use Rattle.fair_rates.proofs.Lists.Each.{Each, each_at}
+use Rattle.fair_rates.proofs.Lists.Each.{each_at}
 use Rattle.link_simulation.proofs.Simulation.Rates.{all_rated}
-use Rattle.fair_rates.proofs.Lists.Zips.{zip-filter}
 
 -- ---- lists
 

@@ -1,20 +1,15 @@
 -- Advancing the planned world event by event is ticking the world nanosecond by nanosecond.
-use Rattle.std.proofs.Common.{◌≡◌, ℕ, zero, suc, ◌+◌, ◌-◌, ◌<◌, ◌≤◌, min, List, [], ◌++◌, length, true, false, Option}
-use Rattle.std.proofs.Common.{Some, None, refl, sym, ap, ◌∙◌, subst, arith, ◌⊎◌, inl, inr}
-use Rattle.std.specs.Prelude.{◌≢◌, IfSome}
-use Rattle.std.specs.List.{list_any}
-use Rattle.std.specs.declared.cmp.Ordering.{Ordering}
-use Rattle.std.specs.Cmp.{IsTotalOrder}
-use Rattle.std.proofs.lemmas.Bool.{cases_lt}
-use Rattle.link_simulation.specs.Simulation.World.{Completed, Course, IsQuiet, World, and_then, goes, instant, is_done}
-use Rattle.link_simulation.specs.Simulation.World.{last_moment, meets, preceded, ready, settle, wake}
-use Rattle.link_simulation.specs.Rule.Events.{Advances, Settles, Wakes, at_finish, at_start, finish_stops, no_more}
-use Rattle.link_simulation.specs.Rule.Events.{start_stops}
-use Rattle.link_simulation.specs.Rule.Planned.{IsLeastMoment, Planned, SomeReadyAt, SomeSpentAt, earlier, next_event}
-use Rattle.link_simulation.specs.Simulation.Rates.{is_unlimited}
-use Rattle.link_simulation.specs.Rule.StandsFor.{CoursesAlike, Follows, IsSettled, StandsFor, Tallies}
-use Rattle.link_simulation.specs.Simulation.Time.{Drains, Passes, Ticks, no_tick}
-use Rattle.fair_rates.specs.declared.error.Error.{Error}
+use Rattle.link_simulation.proofs.Common.{◌≡◌, ℕ, zero, suc, ◌+◌, ◌-◌, ◌<◌, ◌≤◌, List, [], ◌++◌, length, true, false}
+use Rattle.link_simulation.proofs.Common.{Option, Some, None, refl, sym, ap, ◌∙◌, subst, arith, ◌⊎◌, inl, inr, IfSome}
+use Rattle.link_simulation.proofs.Common.{list_any, Ordering, IsTotalOrder, cases_lt, Completed, Course, IsQuiet, World}
+use Rattle.link_simulation.proofs.Common.{and_then, goes, instant, is_done, last_moment, meets, preceded, ready, settle}
+use Rattle.link_simulation.proofs.Common.{wake, Advances, Settles, Wakes, at_finish, at_start, finish_stops, no_more}
+use Rattle.link_simulation.proofs.Common.{start_stops, IsLeastMoment, Planned, SomeReadyAt, SomeSpentAt, next_event}
+use Rattle.link_simulation.proofs.Common.{is_unlimited, CoursesAlike, Follows, IsSettled, StandsFor, Tallies, Drains}
+use Rattle.link_simulation.proofs.Common.{Passes, Ticks, no_tick, Error}
+use Rattle.std.proofs.Common.{min}
+use Rattle.std.specs.Prelude.{◌≢◌}
+use Rattle.link_simulation.specs.Rule.Planned.{earlier}
 use Rattle.link_simulation.proofs.Rule.BeforeNext.{later, follows_later, both_before, none_done_before, quiet_before}
 use Rattle.link_simulation.proofs.Rule.BeforeNext.{passes_before, passes_to, finish_is_later, spent_at_finish, done_at}
 use Rattle.link_simulation.proofs.Rule.Settling.{settles_alike}

@@ -1,22 +1,12 @@
 -- Replies by the event rule agree with the simulation.
-use Rattle.std.proofs.Common.{◌≡◌, ℕ, ◌≤◌, List, [], ◌∷◌, Option, Some, true, refl, sym, ◌∙◌, subst}
-use Rattle.std.specs.List.{AllZip}
-use Rattle.std.specs.declared.cmp.Ordering.{Ordering}
-use Rattle.std.specs.Cmp.{IsTotalOrder}
-use Rattle.fair_rates.specs.declared.error.Error.{Error}
-use Rattle.fair_rates.specs.declared.error.Error.TheVariants.{OutOfMemory, NumberTooLarge, MomentTooLate, FlowIdsUsedUp}
-use Rattle.fair_rates.specs.Sides.Subjects.{same_peer}
-use Rattle.link_simulation.specs.Simulation.World.{World, new_world, Completed, Course, goes, meets, last_moment}
-use Rattle.link_simulation.specs.Simulation.Time.{NextIs}
-use Rattle.link_simulation.specs.Simulation.Calls.{Call, call_limit, call_limit_link, call_enqueue, call_advance}
-use Rattle.link_simulation.specs.Simulation.Calls.{call_enqueue_all, call_next, moment_of, Runs, IsInTurn}
-use Rattle.link_simulation.specs.Simulation.Replies.{Reply, reply_done, reply_next, reply_refused, SameCompletion}
-use Rattle.link_simulation.specs.Simulation.Replies.{Faults, MayRefuse, Agrees}
-use Rattle.link_simulation.specs.Rule.Planned.{Planned, new_planned}
-use Rattle.link_simulation.specs.Rule.Events.{Obeys}
-use Rattle.link_simulation.specs.Rule.Refusals.{MayBeRefused, Obeyed}
-use Rattle.link_simulation.specs.Laws.Isolation.{InTime}
-use Rattle.link_simulation.specs.Rule.StandsFor.{StandsFor, CoursesAlike}
+use Rattle.link_simulation.proofs.Common.{◌≡◌, ℕ, ◌≤◌, List, [], ◌∷◌, Option, Some, true, refl, sym, ◌∙◌, subst, AllZip}
+use Rattle.link_simulation.proofs.Common.{Ordering, IsTotalOrder, Error, OutOfMemory, NumberTooLarge, MomentTooLate}
+use Rattle.link_simulation.proofs.Common.{FlowIdsUsedUp, same_peer, World, new_world, Completed, Course, goes, meets}
+use Rattle.link_simulation.proofs.Common.{last_moment, NextIs, Call, call_limit, call_limit_link, call_enqueue}
+use Rattle.link_simulation.proofs.Common.{call_advance, call_enqueue_all, call_next, moment_of, Runs, IsInTurn, Reply}
+use Rattle.link_simulation.proofs.Common.{reply_done, reply_next, reply_refused, SameCompletion, Faults, MayRefuse}
+use Rattle.link_simulation.proofs.Common.{Agrees, Planned, new_planned, Obeys, MayBeRefused, Obeyed, InTime, StandsFor}
+use Rattle.link_simulation.proofs.Common.{CoursesAlike}
 use Rattle.link_simulation.proofs.Simulation.Queue.{peer_like}
 use Rattle.link_simulation.proofs.Rule.Limit.{new_stands}
 use Rattle.link_simulation.proofs.Rule.NextEvent.{next_is_planned}

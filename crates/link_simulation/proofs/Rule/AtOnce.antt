@@ -1,18 +1,11 @@
 -- Before any limit, a message completes at once in both worlds.
-use Rattle.std.proofs.Common.{◌≡◌, ℕ, ◌+◌, ◌<◌, ◌≤◌, [], ◌∷◌, Bool, true, false, cond, Option, Some, None, refl, sym}
-use Rattle.std.proofs.Common.{ap, ◌∙◌, subst}
-use Rattle.std.specs.Prelude.{◌&&◌, nat_lt, IfSome, if◌then◌else◌}
-use Rattle.std.specs.List.{find, list_any}
-use Rattle.std.specs.declared.cmp.Ordering.{Ordering}
-use Rattle.std.specs.Cmp.{IsTotalOrder}
-use Rattle.link_simulation.specs.Simulation.World.{Completed, Course, World, completion_of, goes, is_done, last_moment}
-use Rattle.link_simulation.specs.Simulation.World.{later_of, meets, raised, ready}
-use Rattle.link_simulation.specs.Simulation.Calls.{Runs, act, call_enqueue, complete_at_once}
-use Rattle.link_simulation.specs.Rule.Events.{completed_at_once}
-use Rattle.link_simulation.specs.Simulation.Messages.{Message, same_pair}
-use Rattle.link_simulation.specs.Rule.Planned.{IsLeastMoment, Planned, SomeReadyAt, next_event}
-use Rattle.link_simulation.specs.Rule.StandsFor.{CoursesAlike, Follows, StandsFor, Tallies}
-use Rattle.fair_rates.specs.declared.error.Error.TheVariants.{MomentTooLate}
+use Rattle.link_simulation.proofs.Common.{◌≡◌, ℕ, ◌+◌, ◌<◌, ◌≤◌, [], ◌∷◌, Bool, true, false, cond, Option, Some, None}
+use Rattle.link_simulation.proofs.Common.{refl, sym, ap, ◌∙◌, subst, ◌&&◌, nat_lt, IfSome, if◌then◌else◌, find}
+use Rattle.link_simulation.proofs.Common.{list_any, Ordering, IsTotalOrder, Completed, Course, World, completion_of}
+use Rattle.link_simulation.proofs.Common.{goes, is_done, last_moment, later_of, meets, raised, ready, Runs, act}
+use Rattle.link_simulation.proofs.Common.{call_enqueue, complete_at_once, completed_at_once, Message, same_pair}
+use Rattle.link_simulation.proofs.Common.{IsLeastMoment, Planned, SomeReadyAt, next_event, CoursesAlike, Follows}
+use Rattle.link_simulation.proofs.Common.{StandsFor, Tallies, MomentTooLate}
 use Rattle.link_simulation.proofs.Simulation.AlikeMessages.{same_itself, message_itself}
 use Rattle.link_simulation.proofs.Rule.BeforeNext.{none_ready_at}
 use Rattle.link_simulation.proofs.Rule.Settling.{raised_alike}

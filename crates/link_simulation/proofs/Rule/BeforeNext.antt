@@ -1,29 +1,23 @@
 -- Before its next event a world that a planned world stands for only drains, and at the planned finish something is
 -- done.
-use Rattle.std.proofs.Common.{◌≡◌, ℕ, zero, suc, ◌+◌, ◌-◌, ◌<◌, ◌≤◌, List, [], ◌∷◌, map, Bool, true, false, cond, not}
-use Rattle.std.proofs.Common.{Option, Some, None, refl, sym, ap, ◌∙◌, subst, arith, add-one, ◌⊎◌, inl, inr}
-use Rattle.std.specs.Prelude.{◌||◌, ◌==◌, IfSome, slice_get}
-use Rattle.std.specs.List.{filter, find, list_any, AllZip}
-use Rattle.std.specs.declared.cmp.Ordering.{Ordering}
-use Rattle.std.specs.Cmp.{IsTotalOrder}
-use Rattle.std.proofs.lemmas.Bool.{or_from, or_parts, cases_lt, or_right, not-true}
-use Rattle.fair_rates.specs.Numbers.Amount.{Amount}
-use Rattle.fair_rates.specs.Sides.Subjects.{same_peer}
-use Rattle.link_simulation.specs.Simulation.World.{Flight, IsQuiet, World, flows, fronts, is_done, last_moment}
-use Rattle.link_simulation.specs.Simulation.World.{may_start, ready}
-use Rattle.link_simulation.specs.Simulation.Messages.{Message, OneForEachPair, PairsAlike, SameMessage, same_pair}
-use Rattle.link_simulation.specs.Rule.Planned.{IsLeastMoment, IsRated, RatedFlight, Planned, SomeReadyAt, SomeSpentAt}
-use Rattle.link_simulation.specs.Rule.Planned.{earlier, left_at, may_launch, next_event, rated_messages, IsSpentAt}
-use Rattle.link_simulation.specs.Simulation.Rates.{AreFair, IsLowest, Parts, drained_by, is_unlimited, rate_of}
-use Rattle.link_simulation.specs.Rule.StandsFor.{Follows, IsSameFlight, StandsFor, Tallies}
-use Rattle.link_simulation.specs.Simulation.Time.{ArePositive, Drains, NextIs, Passes, comes_next, drain_each, drifted}
-use Rattle.link_simulation.specs.Simulation.Time.{never_comes, no_time}
+use Rattle.link_simulation.proofs.Common.{◌≡◌, ℕ, zero, suc, ◌+◌, ◌-◌, ◌<◌, ◌≤◌, List, [], ◌∷◌, map, Bool, true, false}
+use Rattle.link_simulation.proofs.Common.{cond, not, Option, Some, None, refl, sym, ap, ◌∙◌, subst, arith, add-one, ◌⊎◌}
+use Rattle.link_simulation.proofs.Common.{inl, inr, ◌||◌, ◌==◌, IfSome, slice_get, filter, find, list_any, AllZip}
+use Rattle.link_simulation.proofs.Common.{Ordering, IsTotalOrder, or_from, or_parts, cases_lt, or_right, not-true}
+use Rattle.link_simulation.proofs.Common.{Amount, same_peer, Flight, IsQuiet, World, flows, fronts, is_done}
+use Rattle.link_simulation.proofs.Common.{last_moment, may_start, ready, Message, OneForEachPair, PairsAlike}
+use Rattle.link_simulation.proofs.Common.{SameMessage, same_pair, IsLeastMoment, IsRated, RatedFlight, Planned}
+use Rattle.link_simulation.proofs.Common.{SomeReadyAt, SomeSpentAt, left_at, may_launch, next_event, rated_messages}
+use Rattle.link_simulation.proofs.Common.{IsSpentAt, AreFair, IsLowest, Parts, drained_by, is_unlimited, rate_of}
+use Rattle.link_simulation.proofs.Common.{Follows, IsSameFlight, StandsFor, Tallies, ArePositive, Drains, NextIs}
+use Rattle.link_simulation.proofs.Common.{Passes, comes_next, drain_each, drifted, never_comes, no_time, Each, each_map}
+use Rattle.link_simulation.proofs.Common.{each_filtered}
+use Rattle.link_simulation.specs.Rule.Planned.{earlier}
 use borrow.Author.Tests.{eqb-true, eq-eqb}
 use Rattle.link_simulation.proofs.Simulation.LowestTerms.{drained_by_lowest, drained_by_twice, spent_later}
 use Rattle.link_simulation.proofs.Simulation.Queue.{pair_sym, both_alike, find_passes}
 use Rattle.link_simulation.proofs.Simulation.AlikeMessages.{same_itself, pairs_alike, any_alike, fair_alike}
 use Rattle.link_simulation.proofs.Simulation.Stretch.{stretch, drifts_on, flows_drained}
-use Rattle.fair_rates.proofs.Lists.Each.{Each, each_map, each_filtered}
 use Rattle.link_simulation.proofs.Simulation.SettlingEnds.{find_like}
 
 -- ---- lists

@@ -1,30 +1,20 @@
 -- A message that joins the planned waiting ones stands last among those of its pair, and their order by pairs stays.
-use Rattle.std.proofs.Common.{◌≡◌, ℕ, ◌+◌, ◌<◌, ◌≤◌, length, arith, inl, inr, List, [], ◌∷◌, ◌++◌, Bool, true, false}
-use Rattle.std.proofs.Common.{cond, Option, Some, refl, sym, ap, ◌∙◌, subst}
-use Rattle.std.specs.Prelude.{IfSome}
-use Rattle.std.specs.List.{filter, find, list_any, AllZip}
-use Rattle.std.specs.declared.cmp.Ordering.{Ordering}
-use Rattle.std.specs.Cmp.{IsTotalOrder}
-use Rattle.std.proofs.lemmas.Bool.{or_from, or_parts, or_left}
+use Rattle.link_simulation.proofs.Common.{◌≡◌, ℕ, ◌+◌, ◌<◌, ◌≤◌, length, arith, inl, inr, List, [], ◌∷◌, ◌++◌, Bool}
+use Rattle.link_simulation.proofs.Common.{true, false, cond, Option, Some, refl, sym, ap, ◌∙◌, subst, IfSome, filter}
+use Rattle.link_simulation.proofs.Common.{find, list_any, AllZip, Ordering, IsTotalOrder, or_from, or_parts, or_left}
+use Rattle.link_simulation.proofs.Common.{filter-append, Completed, Course, World, and_then, goes, is_done, last_moment}
+use Rattle.link_simulation.proofs.Common.{may_start, meets, ready, settle, start, start_next, EndsWith, flight_of, Runs}
+use Rattle.link_simulation.proofs.Common.{act, call_enqueue, Enqueues, Launches, launches, no_id, no_launch}
+use Rattle.link_simulation.proofs.Common.{nothing_waits, starts, too_early, at_once, Message, SameMessage, pair_before}
+use Rattle.link_simulation.proofs.Common.{same_pair, AreInPairOrder, Planned, may_launch, next_event, next_of, queued}
+use Rattle.link_simulation.proofs.Common.{CoursesAlike, Follows, IsSettled, StandsFor, Tallies, out_of_waiting, joined}
+use Rattle.link_simulation.proofs.Common.{finish_within, Each, each_map, zip-append}
 use Rattle.std.proofs.lemmas.List.{append-nil}
-use Rattle.std.proofs.lemmas.List.Elements.{filter-append}
-use Rattle.link_simulation.specs.Simulation.World.{Completed, Course, World, and_then, goes, is_done, last_moment}
-use Rattle.link_simulation.specs.Simulation.World.{may_start, meets, ready, settle, start, start_next, EndsWith}
-use Rattle.link_simulation.specs.Simulation.World.{flight_of}
-use Rattle.link_simulation.specs.Simulation.Calls.{Runs, act, call_enqueue}
-use Rattle.link_simulation.specs.Rule.Events.{Enqueues, Launches, launches, no_id, no_launch, nothing_waits, starts}
-use Rattle.link_simulation.specs.Rule.Events.{too_early, at_once}
-use Rattle.link_simulation.specs.Simulation.Messages.{Message, SameMessage, pair_before, same_pair}
-use Rattle.link_simulation.specs.Rule.Planned.{AreInPairOrder, Planned, may_launch, next_event, next_of, queued}
-use Rattle.link_simulation.specs.Rule.StandsFor.{CoursesAlike, Follows, IsSettled, StandsFor, Tallies}
-use Rattle.link_simulation.specs.Simulation.Queue.{out_of_waiting, joined, finish_within}
 use Rattle.link_simulation.proofs.Simulation.Queue.{pair_sym, pair_like, find_passes, preceded_none}
 use Rattle.link_simulation.proofs.Rule.BeforeNext.{filter_none, may_alike, messages_alike}
 use Rattle.link_simulation.proofs.Simulation.SettlingEnds.{find_like}
-use Rattle.fair_rates.proofs.Lists.Each.{Each, each_map}
 use Rattle.link_simulation.proofs.Simulation.AlikeMessages.{pair_itself, message_itself}
 use Rattle.link_simulation.proofs.Rule.Settling.{finishes_alike, no_queue}
-use Rattle.fair_rates.proofs.Lists.Zips.{zip-append}
 use Rattle.link_simulation.proofs.Rule.Launch.{NoneDone, joining, started, OptionsAlike, next_alike, StartsSo}
 use Rattle.link_simulation.proofs.Rule.Launch.{start_alike}
 use Rattle.link_simulation.proofs.Rule.FinishEvent.{settle_quiet}

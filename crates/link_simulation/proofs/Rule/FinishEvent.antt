@@ -1,24 +1,16 @@
 -- One event at the planned finish, in ticks: where nothing may start at once, the planned world stands for the world
 -- after it.
-use Rattle.std.proofs.Common.{◌≡◌, ℕ, zero, suc, ◌+◌, ◌<◌, ◌≤◌, List, [], length, Bool, true, false, not, Option, Some}
-use Rattle.std.proofs.Common.{None, refl, sym, ap, ◌∙◌, subst, arith, ◌⊎◌, inl, inr}
-use Rattle.std.specs.Prelude.{◌&&◌}
-use Rattle.std.specs.List.{list_any}
-use Rattle.std.specs.declared.cmp.Ordering.{Ordering}
-use Rattle.std.specs.Cmp.{IsTotalOrder}
-use Rattle.std.proofs.lemmas.Bool.{cases_lt, leb-true, le-leb}
+use Rattle.link_simulation.proofs.Common.{◌≡◌, ℕ, zero, suc, ◌+◌, ◌<◌, ◌≤◌, List, [], length, Bool, true, false, not}
+use Rattle.link_simulation.proofs.Common.{Option, Some, None, refl, sym, ap, ◌∙◌, subst, arith, ◌⊎◌, inl, inr, ◌&&◌}
+use Rattle.link_simulation.proofs.Common.{list_any, Ordering, IsTotalOrder, cases_lt, leb-true, le-leb, Completed}
+use Rattle.link_simulation.proofs.Common.{Course, IsQuiet, World, and_then, goes, instant, is_done, is_in_order}
+use Rattle.link_simulation.proofs.Common.{last_moment, meets, preceded, ready, settle, settle_within, wake, Message}
+use Rattle.link_simulation.proofs.Common.{same_pair, IsLeastMoment, Planned, SomeReadyAt, may_launch, rated_messages}
+use Rattle.link_simulation.proofs.Common.{Follows, IsSettled, StandsFor, Drains, Passes, Ticks, no_tick, no_time}
+use Rattle.link_simulation.proofs.Common.{one_tick, quiet_tick, tick_faults, find_from_any}
 use Rattle.std.proofs.lemmas.List.{append-nil}
-use Rattle.link_simulation.specs.Simulation.World.{Completed, Course, IsQuiet, World, and_then, goes, instant, is_done}
-use Rattle.link_simulation.specs.Simulation.World.{is_in_order, last_moment, meets, preceded, ready, settle}
-use Rattle.link_simulation.specs.Simulation.World.{settle_within, wake}
-use Rattle.link_simulation.specs.Simulation.Messages.{Message, same_pair}
-use Rattle.link_simulation.specs.Rule.Planned.{IsLeastMoment, Planned, SomeReadyAt, may_launch, rated_messages}
-use Rattle.link_simulation.specs.Rule.StandsFor.{Follows, IsSettled, StandsFor}
-use Rattle.link_simulation.specs.Simulation.Time.{Drains, Passes, Ticks, no_tick, no_time, one_tick, quiet_tick}
-use Rattle.link_simulation.specs.Simulation.Time.{tick_faults}
 use Rattle.link_simulation.proofs.Simulation.Queue.{settle_none, preceded_none}
 use Rattle.link_simulation.proofs.Rule.BeforeNext.{none_ready_at}
-use Rattle.fair_rates.proofs.Lists.Filters.{find_from_any}
 use Rattle.link_simulation.proofs.Simulation.Pass.{wake_none}
 
 pub in_order_later : (o : Option ℕ) (a b : ℕ) → a ≤ b → is_in_order o a ≡ true → is_in_order o b ≡ true

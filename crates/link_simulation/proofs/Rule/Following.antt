@@ -1,22 +1,12 @@
 -- A message that is done lands, and the next one of its pair may start, before the others get their rates: one account
 -- does for both.
-use Rattle.std.proofs.Common.{◌≡◌, ℕ, ◌+◌, ◌<◌, List, [], ◌∷◌, ◌++◌, true, false, Option, Some, refl, sym}
-use Rattle.std.proofs.Common.{ap, ◌∙◌, subst, not}
-use Rattle.std.specs.Prelude.{◌&&◌}
-use Rattle.std.specs.List.{filter, list_any, AllZip}
-use Rattle.std.specs.declared.cmp.Ordering.{Ordering}
-use Rattle.std.specs.Cmp.{IsTotalOrder}
-use Rattle.std.proofs.lemmas.Bool.{not-true}
-use Rattle.fair_rates.proofs.Lists.Each.{Each, each_map}
-use Rattle.fair_rates.proofs.Lists.Zips.{zip-append}
-use Rattle.link_simulation.specs.Simulation.Messages.{Message, same_pair}
-use Rattle.link_simulation.specs.Simulation.World.{Completed, Course, goes, last_moment, is_late, completed, preceded}
-use Rattle.link_simulation.specs.Simulation.World.{is_in_order}
-use Rattle.link_simulation.specs.Simulation.Rates.{IsLowest}
-use Rattle.link_simulation.specs.Rule.Planned.{Planned, RatedFlight, rated_messages, next_of, may_launch, is_spent}
-use Rattle.link_simulation.specs.Rule.Planned.{drained_to}
-use Rattle.link_simulation.specs.Rule.Events.{Accounts, Launches, starts, Finishes, completes, Settles, settling}
-use Rattle.link_simulation.specs.Rule.Events.{landed, launched}
+use Rattle.link_simulation.proofs.Common.{◌≡◌, ℕ, ◌+◌, ◌<◌, List, [], ◌∷◌, ◌++◌, true, false, Option, Some, refl, sym}
+use Rattle.link_simulation.proofs.Common.{ap, ◌∙◌, subst, not, ◌&&◌, filter, list_any, AllZip, Ordering, IsTotalOrder}
+use Rattle.link_simulation.proofs.Common.{not-true, Each, each_map, zip-append, Message, same_pair, Completed, Course}
+use Rattle.link_simulation.proofs.Common.{goes, last_moment, is_late, completed, preceded, is_in_order, IsLowest}
+use Rattle.link_simulation.proofs.Common.{Planned, RatedFlight, rated_messages, next_of, may_launch, is_spent}
+use Rattle.link_simulation.proofs.Common.{drained_to, Accounts, Launches, starts, Finishes, completes, Settles}
+use Rattle.link_simulation.proofs.Common.{settling, landed, launched}
 use Rattle.link_simulation.specs.Rule.Leaving.{Leaves}
 use Rattle.link_simulation.proofs.Laws.Orderly.{Stays, stayed_messages}
 use Rattle.link_simulation.proofs.Rule.Accounts.{each_passes}

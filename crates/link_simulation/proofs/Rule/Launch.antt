@@ -1,30 +1,20 @@
 -- A launch in the planned world is a start in the world, and what is done at once leaves.
-use Rattle.std.proofs.Common.{◌≡◌, ℕ, ◌+◌, ◌-◌, ◌<◌, ◌≤◌, List, [], ◌∷◌, ◌++◌, map, length, Bool, true, false, cond}
-use Rattle.std.proofs.Common.{not, Option, Some, None, refl, sym, ap, ◌∙◌, subst, arith}
-use Rattle.std.specs.Prelude.{nat_le, ⊤, ◌&&◌}
-use Rattle.std.specs.List.{filter, find, list_any, AllZip}
-use Rattle.std.specs.declared.cmp.Ordering.{Ordering}
-use Rattle.std.specs.Cmp.{IsTotalOrder}
-use Rattle.std.proofs.lemmas.Bool.{or_from, or_parts, not-true}
-use Rattle.std.proofs.lemmas.List.{append-nil, map-append}
-use Rattle.std.proofs.lemmas.List.Elements.{filter-append}
+use Rattle.link_simulation.proofs.Common.{◌≡◌, ℕ, ◌+◌, ◌-◌, ◌<◌, ◌≤◌, List, [], ◌∷◌, ◌++◌, map, length, Bool, true}
+use Rattle.link_simulation.proofs.Common.{false, cond, not, Option, Some, None, refl, sym, ap, ◌∙◌, subst, arith}
+use Rattle.link_simulation.proofs.Common.{nat_le, ⊤, ◌&&◌, filter, find, list_any, AllZip, Ordering, IsTotalOrder}
+use Rattle.link_simulation.proofs.Common.{or_from, or_parts, not-true, map-append, filter-append, drained, whole}
+use Rattle.link_simulation.proofs.Common.{Completed, Course, Flight, World, flows, goes, is_done, is_in_order}
+use Rattle.link_simulation.proofs.Common.{last_moment, may_start, meets, start, flight_of, Launches, launched, no_id}
+use Rattle.link_simulation.proofs.Common.{nothing_waits, starts, too_early, Message, OneForEachPair, SameMessage}
+use Rattle.link_simulation.proofs.Common.{pair_before, same_pair, AreInPairOrder, Planned, may_launch, next_of, Follows}
+use Rattle.link_simulation.proofs.Common.{IsSameFlight, Tallies, FlowIdsUsedUp, leb-true, le-leb, without_first}
+use Rattle.link_simulation.proofs.Common.{leaving, staying, out_of_waiting, joined, launch_then, Each, each_map}
+use Rattle.std.proofs.lemmas.List.{append-nil}
 use Rattle.std.proofs.lemmas.Slice.Zip.{all_zipped_more}
-use Rattle.fair_rates.specs.Numbers.Amount.{drained, whole}
-use Rattle.link_simulation.specs.Simulation.World.{Completed, Course, Flight, World, flows, goes, is_done, is_in_order}
-use Rattle.link_simulation.specs.Simulation.World.{last_moment, may_start, meets, start, flight_of}
-use Rattle.link_simulation.specs.Rule.Events.{Launches, launched, no_id, nothing_waits, starts, too_early}
-use Rattle.link_simulation.specs.Simulation.Messages.{Message, OneForEachPair, SameMessage, pair_before, same_pair}
-use Rattle.link_simulation.specs.Rule.Planned.{AreInPairOrder, Planned, may_launch, next_of}
-use Rattle.link_simulation.specs.Rule.StandsFor.{Follows, IsSameFlight, Tallies}
-use Rattle.fair_rates.specs.declared.error.Error.TheVariants.{FlowIdsUsedUp}
-use Rattle.std.proofs.lemmas.Bool.{leb-true, le-leb}
-use Rattle.fair_rates.specs.Lists.WithoutFirst.{without_first}
 use Rattle.link_simulation.proofs.Simulation.LowestTerms.{whole_lowest, drained_none}
-use Rattle.link_simulation.specs.Simulation.Queue.{leaving, staying, out_of_waiting, joined, launch_then}
 use Rattle.link_simulation.proofs.Simulation.Queue.{find_none, pair_like, pair_sym, one_pair_more, find_passes}
 use Rattle.link_simulation.proofs.Simulation.AlikeMessages.{message_itself, pairs_alike}
 use Rattle.link_simulation.proofs.Rule.BeforeNext.{filter_none, messages_alike, may_alike}
-use Rattle.fair_rates.proofs.Lists.Each.{Each, each_map}
 use Rattle.link_simulation.proofs.Rule.Accounts.{none_matched, each_passes, leavers_alike, account_follows}
 use Rattle.link_simulation.proofs.Simulation.SettlingEnds.{length_without, find_like}
 

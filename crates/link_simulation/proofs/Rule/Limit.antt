@@ -1,24 +1,17 @@
 -- The empty planned world stands for the empty world, and new caps do in the planned world what they do in the world.
-use Rattle.std.proofs.Common.{◌≡◌, ℕ, zero, suc, ◌+◌, ◌-◌, ◌<◌, ◌≤◌, List, [], ◌∷◌, length, true, false, Option, Some}
-use Rattle.std.proofs.Common.{None, refl, sym, ap, ◌∙◌, subst, arith, lit<}
-use Rattle.std.specs.Prelude.{IfSome}
-use Rattle.std.specs.List.{list_any, AllZip}
-use Rattle.std.specs.declared.cmp.Ordering.{Ordering}
-use Rattle.std.specs.Cmp.{IsTotalOrder}
-use Rattle.link_simulation.specs.Simulation.World.{Completed, Course, Flight, IsQuiet, World, goes, is_done}
-use Rattle.link_simulation.specs.Simulation.World.{last_moment, meets, new_world, ready, settle, EndsWith}
-use Rattle.link_simulation.specs.Simulation.Calls.{Runs, act, call_limit, Call, rebalance, limited_by, linked_by}
-use Rattle.link_simulation.specs.Simulation.Calls.{call_limit_link}
-use Rattle.link_simulation.specs.Rule.Events.{none_sending, some_sending, Rebalances}
-use Rattle.link_simulation.specs.Simulation.Messages.{AnswerAlike, Message, with_cap, Caps, no_caps, PairsAlike}
-use Rattle.link_simulation.specs.Simulation.Messages.{with_link, CapsAlike}
-use Rattle.link_simulation.specs.Rule.Planned.{RatedFlight, Planned, SomeReadyAt, SomeSpentAt, new_planned, next_event}
-use Rattle.link_simulation.specs.Rule.Planned.{rated_messages}
-use Rattle.link_simulation.specs.Simulation.Rates.{AreFair, rate_of}
-use Rattle.link_simulation.specs.Rule.StandsFor.{CoursesAlike, Follows, IsSameFlight, IsSettled, StandsFor, Tallies}
-use Rattle.link_simulation.specs.Simulation.Time.{Ticks, no_tick}
+use Rattle.link_simulation.proofs.Common.{◌≡◌, ℕ, zero, suc, ◌+◌, ◌-◌, ◌<◌, ◌≤◌, List, [], ◌∷◌, length, true, false}
+use Rattle.link_simulation.proofs.Common.{Option, Some, None, refl, sym, ap, ◌∙◌, subst, arith, IfSome, list_any}
+use Rattle.link_simulation.proofs.Common.{AllZip, Ordering, IsTotalOrder, Completed, Course, Flight, IsQuiet, World}
+use Rattle.link_simulation.proofs.Common.{goes, is_done, last_moment, meets, new_world, ready, settle, EndsWith, Runs}
+use Rattle.link_simulation.proofs.Common.{act, call_limit, Call, rebalance, limited_by, linked_by, call_limit_link}
+use Rattle.link_simulation.proofs.Common.{none_sending, some_sending, Rebalances, Message, Caps, PairsAlike, CapsAlike}
+use Rattle.link_simulation.proofs.Common.{RatedFlight, Planned, SomeReadyAt, SomeSpentAt, new_planned, next_event}
+use Rattle.link_simulation.proofs.Common.{rated_messages, AreFair, rate_of, CoursesAlike, Follows, IsSameFlight}
+use Rattle.link_simulation.proofs.Common.{IsSettled, StandsFor, Tallies, Ticks, no_tick, leaving, staying}
+use Rattle.std.proofs.Common.{lit<}
+use Rattle.link_simulation.specs.Simulation.Messages.{AnswerAlike, with_cap, no_caps}
+use Rattle.link_simulation.specs.Simulation.Messages.{with_link}
 use Rattle.link_simulation.proofs.Simulation.AlikeMessages.{same_itself, peers_alike}
-use Rattle.link_simulation.specs.Simulation.Queue.{leaving, staying}
 use Rattle.link_simulation.proofs.Rule.BeforeNext.{later, follows_later, quiet_before, passes_to}
 use Rattle.link_simulation.proofs.Rule.Settling.{settles_alike, looked, leaving_fewer, staying_waiting}
 use Rattle.link_simulation.proofs.Rule.FinishEvent.{settle_quiet, ticks_quiet}

@@ -1,12 +1,7 @@
 -- An advance of a new planned world is in the range.
-use Rattle.std.proofs.Common.{ℕ, ◌<◌, ◌^◌, [], ◌∷◌, arith}
-use Rattle.std.specs.Prelude.{IfSome}
-use Rattle.std.proofs.lemmas.List.Elements.{All-nil}
-use Rattle.link_simulation.specs.Simulation.Messages.{Message}
-use Rattle.link_simulation.specs.Simulation.Calls.{Call, call_advance, moment_of}
-use Rattle.link_simulation.specs.Rule.Planned.{RatedFlight, new_planned}
+use Rattle.link_simulation.proofs.Common.{ℕ, ◌<◌, ◌^◌, [], ◌∷◌, arith, IfSome, All-nil, Message, Call, call_advance}
+use Rattle.link_simulation.proofs.Common.{moment_of, RatedFlight, new_planned, all_of_each}
 use Rattle.link_simulation.specs.Rule.Range.{IsCallInRange}
-use Rattle.fair_rates.proofs.Lists.Each.{all_of_each}
 
 pub advance_in_range : IsCallInRange (new_planned {P = ℕ} 0) (call_advance 0)
 advance_in_range = record {

@@ -1,18 +1,11 @@
 -- The earlier of the planned finish and start is the next event; and advancing is a run of the call.
-use Rattle.std.proofs.Common.{◌≡◌, ℕ, suc, ◌+◌, ◌-◌, ◌<◌, ◌≤◌, List, [], Option, Some, None, refl, sym, ap, subst}
-use Rattle.std.proofs.Common.{arith, ◌⊎◌, inl, inr}
-use Rattle.std.specs.Prelude.{◌≢◌, IfSome}
-use Rattle.std.specs.declared.cmp.Ordering.{Ordering}
-use Rattle.std.specs.Cmp.{IsTotalOrder}
+use Rattle.link_simulation.proofs.Common.{◌≡◌, ℕ, suc, ◌+◌, ◌-◌, ◌<◌, ◌≤◌, List, [], Option, Some, None, refl, sym, ap}
+use Rattle.link_simulation.proofs.Common.{subst, arith, ◌⊎◌, inl, inr, IfSome, Ordering, IsTotalOrder, Completed}
+use Rattle.link_simulation.proofs.Common.{Course, IsQuiet, World, and_then, goes, last_moment, meets, ready, Runs}
+use Rattle.link_simulation.proofs.Common.{call_advance, Advances, Message, IsLeastMoment, Planned, SomeReadyAt}
+use Rattle.link_simulation.proofs.Common.{next_event, CoursesAlike, StandsFor, NextIs, Ticks}
+use Rattle.std.specs.Prelude.{◌≢◌}
 use Rattle.std.proofs.lemmas.List.{append-nil}
-use Rattle.link_simulation.specs.Simulation.World.{Completed, Course, IsQuiet, World, and_then, goes, last_moment}
-use Rattle.link_simulation.specs.Simulation.World.{meets, ready}
-use Rattle.link_simulation.specs.Simulation.Calls.{Runs, call_advance}
-use Rattle.link_simulation.specs.Rule.Events.{Advances}
-use Rattle.link_simulation.specs.Simulation.Messages.{Message}
-use Rattle.link_simulation.specs.Rule.Planned.{IsLeastMoment, Planned, SomeReadyAt, next_event}
-use Rattle.link_simulation.specs.Rule.StandsFor.{CoursesAlike, StandsFor}
-use Rattle.link_simulation.specs.Simulation.Time.{NextIs, Ticks}
 use Rattle.link_simulation.proofs.Rule.BeforeNext.{later, follows_later, comes_at, nothing_comes, finish_is_next}
 use Rattle.link_simulation.proofs.Simulation.InOrder.{HasIn, in_ready}
 use Rattle.link_simulation.proofs.Rule.Advance.{advances_alike, earlier_start, start_is_later, gap, decide_start}

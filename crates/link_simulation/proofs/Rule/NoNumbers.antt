@@ -1,18 +1,8 @@
 -- Replies by the event rule have no refusal for a number.
-use Rattle.std.proofs.Common.{List, [], ◌∷◌, Contains}
-use Rattle.std.specs.Prelude.{⊤}
-use Rattle.std.specs.List.{AllZip}
-use Rattle.std.specs.declared.cmp.Ordering.{Ordering}
-use Rattle.std.proofs.lemmas.List.Elements.{All-contains}
-use Rattle.fair_rates.specs.declared.error.Error.{Error}
-use Rattle.fair_rates.specs.declared.error.Error.TheVariants.{OutOfMemory, NumberTooLarge, MomentTooLate, FlowIdsUsedUp}
-use Rattle.link_simulation.specs.Simulation.World.{Completed, goes}
-use Rattle.link_simulation.specs.Simulation.Calls.{Call}
-use Rattle.link_simulation.specs.Simulation.Replies.{Reply, reply_done, reply_next, reply_refused, SameCompletion}
-use Rattle.link_simulation.specs.Rule.Planned.{Planned}
-use Rattle.link_simulation.specs.Rule.Events.{Obeys}
-use Rattle.link_simulation.specs.Rule.Refusals.{MayBeRefused, Obeyed}
-use Rattle.fair_rates.proofs.Lists.Each.{Each, all_of_each}
+use Rattle.link_simulation.proofs.Common.{List, [], ◌∷◌, Contains, ⊤, AllZip, Ordering, All-contains, Error}
+use Rattle.link_simulation.proofs.Common.{OutOfMemory, NumberTooLarge, MomentTooLate, FlowIdsUsedUp, Completed, goes}
+use Rattle.link_simulation.proofs.Common.{Call, Reply, reply_done, reply_next, reply_refused, SameCompletion, Planned}
+use Rattle.link_simulation.proofs.Common.{Obeys, MayBeRefused, Obeyed, Each, all_of_each}
 use Rattle.link_simulation.proofs.Rule.Stepwise.{obeyed_next, obeyed_refused, obeyed_done}
 
 IsNoNumber : {P : Type 0} → Reply P → Type 0

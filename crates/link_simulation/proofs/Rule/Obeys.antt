@@ -1,22 +1,13 @@
 -- A call in its turn does in the planned world what it does in the world.
-use Rattle.std.proofs.Common.{◌≡◌, ℕ, ◌-◌, ◌<◌, ◌≤◌, List, [], Some, refl, sym, ap, ◌∙◌, subst, arith}
-use Rattle.std.specs.Prelude.{IfSome}
-use Rattle.std.specs.declared.cmp.Ordering.{Ordering}
-use Rattle.std.specs.Cmp.{IsTotalOrder}
-use Rattle.link_simulation.specs.Simulation.Messages.{Message}
-use Rattle.link_simulation.specs.Simulation.World.{World, Completed, Course, goes, meets, preceded, and_then}
-use Rattle.link_simulation.specs.Simulation.World.{last_moment, ready}
-use Rattle.link_simulation.specs.Simulation.Time.{Ticks, no_tick, one_tick, tick_faults}
-use Rattle.link_simulation.specs.Simulation.Calls.{act, enqueue, enqueue_each}
-use Rattle.link_simulation.specs.Simulation.Replies.{SameCompletion}
-use Rattle.link_simulation.specs.Simulation.Calls.{Call, call_limit, call_limit_link, call_enqueue, call_advance}
-use Rattle.link_simulation.specs.Simulation.Calls.{call_enqueue_all, call_next, moment_of, Runs, IsInTurn, IsBeforeNext}
-use Rattle.link_simulation.specs.Rule.Planned.{Planned, next_event}
-use Rattle.link_simulation.specs.Rule.Events.{Enqueues, at_once, no_launch, launches, Obeys}
-use Rattle.link_simulation.specs.Rule.Events.{EnqueuesEach, all_enqueued, one_stops, enqueues_one}
-use Rattle.link_simulation.specs.Rule.StandsFor.{CoursesAlike, StandsFor}
+use Rattle.link_simulation.proofs.Common.{◌≡◌, ℕ, ◌-◌, ◌<◌, ◌≤◌, List, [], Some, refl, sym, ap, ◌∙◌, subst, arith}
+use Rattle.link_simulation.proofs.Common.{IfSome, Ordering, IsTotalOrder, Message, World, Completed, Course, goes}
+use Rattle.link_simulation.proofs.Common.{meets, preceded, and_then, last_moment, ready, Ticks, no_tick, one_tick}
+use Rattle.link_simulation.proofs.Common.{tick_faults, act, enqueue, enqueue_each, SameCompletion, Call, call_limit}
+use Rattle.link_simulation.proofs.Common.{call_limit_link, call_enqueue, call_advance, call_enqueue_all, call_next}
+use Rattle.link_simulation.proofs.Common.{moment_of, Runs, IsInTurn, IsBeforeNext, Planned, next_event, Enqueues}
+use Rattle.link_simulation.proofs.Common.{at_once, no_launch, launches, Obeys, EnqueuesEach, all_enqueued, one_stops}
+use Rattle.link_simulation.proofs.Common.{enqueues_one, CoursesAlike, StandsFor, zip-append}
 use Rattle.link_simulation.specs.Rule.StandsFor as stands_for
-use Rattle.fair_rates.proofs.Lists.Zips.{zip-append}
 use Rattle.link_simulation.proofs.Simulation.Queue.{preceded_none}
 use Rattle.link_simulation.proofs.Simulation.QuietInstants.{next_is_later}
 use Rattle.link_simulation.proofs.Rule.NextEvent.{next_is_planned, advance_runs}

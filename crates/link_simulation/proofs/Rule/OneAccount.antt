@@ -1,29 +1,20 @@
 -- Where an account was made at a moment, nothing is due to leave at it; and for several messages that start then one
 -- account is enough.
-use Rattle.std.proofs.Common.{◌≡◌, ℕ, zero, suc, ◌+◌, ◌-◌, ◌<◌, ◌≤◌, List, [], ◌∷◌, ◌++◌, length, Bool, true, false}
-use Rattle.std.proofs.Common.{cond, not, Option, Some, None, refl, sym, ap, ◌∙◌, subst, arith, ◌⊎◌, inl, inr}
-use Rattle.std.specs.Prelude.{◌==◌, ◌||◌, ◌&&◌, slice_get, nat_lt, if◌then◌else◌, IfSome}
-use Rattle.std.specs.List.{filter, find, list_any, AllZip}
-use Rattle.std.specs.declared.cmp.Ordering.{Ordering}
-use Rattle.std.specs.Cmp.{IsTotalOrder}
-use Rattle.std.proofs.lemmas.Bool.{cases_lt, cases_eq, or_parts}
-use Rattle.std.proofs.lemmas.List.{map-append}
-use Rattle.std.proofs.lemmas.List.Elements.{filter-append}
-use Rattle.fair_rates.specs.declared.error.Error.TheVariants.{MomentTooLate}
-use Rattle.fair_rates.proofs.Lists.Each.{Each, each_map}
-use Rattle.fair_rates.proofs.Lists.Zips.{zip-append, zip_chain}
-use Rattle.fair_rates.specs.Numbers.Amount.{Amount, whole, reduced}
-use Rattle.fair_rates.specs.Numbers.LowestTerms.{reduced_positive}
-use Rattle.link_simulation.specs.Simulation.Messages.{Message, Caps, same_pair}
-use Rattle.link_simulation.specs.Simulation.Rates.{Parts, rate_of, rates_from, drained_by, is_unlimited, AreFair}
-use Rattle.link_simulation.specs.Simulation.Rates.{IsLowest}
-use Rattle.link_simulation.specs.Simulation.World.{Completed, Course, goes, meets, last_moment, EndsWith}
-use Rattle.link_simulation.specs.Simulation.World.{completed, completion_of, raised, later_of, is_in_order}
-use Rattle.link_simulation.specs.Rule.Planned.{Planned, RatedFlight, IsLeastMoment, SomeSpentAt, rated_messages}
-use Rattle.link_simulation.specs.Rule.Planned.{drained_to, left_at, is_spent, may_launch, next_of, SomeReadyAt}
-use Rattle.link_simulation.specs.Rule.Events.{Accounts, PlansStart, launched, Launches, nothing_waits, too_early, no_id}
-use Rattle.link_simulation.specs.Rule.Events.{starts, Finishes, all_completed, late, stopped, completes, with_queued}
-use Rattle.link_simulation.specs.Rule.Events.{Enqueues, at_once, no_launch, launches, completed_at_once, landed}
+use Rattle.link_simulation.proofs.Common.{◌≡◌, ℕ, zero, suc, ◌+◌, ◌-◌, ◌<◌, ◌≤◌, List, [], ◌∷◌, ◌++◌, length, Bool}
+use Rattle.link_simulation.proofs.Common.{true, false, cond, not, Option, Some, None, refl, sym, ap, ◌∙◌, subst, arith}
+use Rattle.link_simulation.proofs.Common.{◌⊎◌, inl, inr, ◌==◌, ◌||◌, ◌&&◌, slice_get, nat_lt, if◌then◌else◌, IfSome}
+use Rattle.link_simulation.proofs.Common.{filter, find, list_any, AllZip, Ordering, IsTotalOrder, cases_lt, or_parts}
+use Rattle.link_simulation.proofs.Common.{map-append, filter-append, MomentTooLate, Each, each_map, zip-append}
+use Rattle.link_simulation.proofs.Common.{zip_chain, Amount, whole, reduced, reduced_positive, Message, Caps, same_pair}
+use Rattle.link_simulation.proofs.Common.{Parts, rate_of, rates_from, drained_by, is_unlimited, AreFair, IsLowest}
+use Rattle.link_simulation.proofs.Common.{Completed, Course, goes, meets, last_moment, EndsWith, completed}
+use Rattle.link_simulation.proofs.Common.{completion_of, raised, later_of, is_in_order, Planned, RatedFlight}
+use Rattle.link_simulation.proofs.Common.{IsLeastMoment, SomeSpentAt, rated_messages, drained_to, left_at, is_spent}
+use Rattle.link_simulation.proofs.Common.{may_launch, next_of, SomeReadyAt, Accounts, PlansStart, launched, Launches}
+use Rattle.link_simulation.proofs.Common.{nothing_waits, too_early, no_id, starts, Finishes, all_completed, late}
+use Rattle.link_simulation.proofs.Common.{stopped, completes, with_queued, Enqueues, at_once, no_launch, launches}
+use Rattle.link_simulation.proofs.Common.{completed_at_once, landed}
+use Rattle.std.proofs.lemmas.Bool.{cases_eq}
 use Rattle.link_simulation.proofs.Laws.Orderly.{drained_messages, stayed_messages}
 use Rattle.link_simulation.proofs.Rule.Accounts.{each_passes}
 use Rattle.link_simulation.proofs.Rule.BeforeNext.{filter_none}

@@ -1,28 +1,19 @@
 -- By the event rule a call has one course, and an advance one number of events.
-use Rattle.std.proofs.Common.{◌≡◌, ◌≢◌, ℕ, suc, ◌+◌, ◌*◌, ◌<◌, ◌≤◌, List, [], ◌∷◌, ◌++◌, true, false, not}
-use Rattle.std.proofs.Common.{Option, Some, None, refl, sym, ap, ◌∙◌, subst, arith, ◌⊎◌, inl, inr}
-use Rattle.std.specs.Prelude.{IfSome}
-use Rattle.std.specs.List.{filter, AllZip}
-use Rattle.std.specs.declared.cmp.Ordering.{Ordering}
-use Rattle.std.specs.Cmp.{IsTotalOrder}
-use Rattle.fair_rates.specs.declared.error.Error.{Error}
-use Rattle.fair_rates.specs.declared.error.Error.TheVariants.{MomentTooLate, FlowIdsUsedUp}
+use Rattle.link_simulation.proofs.Common.{◌≡◌, ◌≢◌, ℕ, suc, ◌+◌, ◌*◌, ◌<◌, ◌≤◌, List, [], ◌∷◌, ◌++◌, true, false, not}
+use Rattle.link_simulation.proofs.Common.{Option, Some, None, refl, sym, ap, ◌∙◌, subst, arith, ◌⊎◌, inl, inr, IfSome}
+use Rattle.link_simulation.proofs.Common.{filter, AllZip, Ordering, IsTotalOrder, Error, MomentTooLate, FlowIdsUsedUp}
+use Rattle.link_simulation.proofs.Common.{Message, Caps, Parts, rate_of, AreFair, Completed, Course, goes, meets}
+use Rattle.link_simulation.proofs.Common.{last_moment, preceded, is_late, completed, Call, call_limit, call_limit_link}
+use Rattle.link_simulation.proofs.Common.{call_enqueue, call_advance, call_enqueue_all, call_next, Planned, RatedFlight}
+use Rattle.link_simulation.proofs.Common.{IsLeastMoment, next_event, rated_messages, SomeSpentAt, drained_to, next_of}
+use Rattle.link_simulation.proofs.Common.{may_launch, SomeReadyAt, is_spent, Accounts, PlansStart, launched, Launches}
+use Rattle.link_simulation.proofs.Common.{nothing_waits, too_early, no_id, starts, landed, Finishes, all_completed}
+use Rattle.link_simulation.proofs.Common.{late, stopped, completes, WakesEach, all_started, no_start, no_finish}
+use Rattle.link_simulation.proofs.Common.{starts_one, Wakes, Settles, settling, Rebalances, none_sending, some_sending}
+use Rattle.link_simulation.proofs.Common.{Enqueues, at_once, no_launch, launches, Advances, no_more, at_finish}
+use Rattle.link_simulation.proofs.Common.{at_start, finish_stops, start_stops, Obeys, EnqueuesEach, all_enqueued}
+use Rattle.link_simulation.proofs.Common.{one_stops, enqueues_one}
 use Rattle.fair_rates.specs.Numbers.LowestTerms.{reduced_same}
-use Rattle.link_simulation.specs.Simulation.Messages.{Message, Caps}
-use Rattle.link_simulation.specs.Simulation.Rates.{Parts, rate_of, AreFair}
-use Rattle.link_simulation.specs.Simulation.World.{Completed, Course, goes, meets, last_moment, preceded, is_late}
-use Rattle.link_simulation.specs.Simulation.World.{completed}
-use Rattle.link_simulation.specs.Simulation.Calls.{Call, call_limit, call_limit_link, call_enqueue, call_advance}
-use Rattle.link_simulation.specs.Simulation.Calls.{call_enqueue_all, call_next}
-use Rattle.link_simulation.specs.Rule.Planned.{Planned, RatedFlight, IsLeastMoment, next_event, rated_messages}
-use Rattle.link_simulation.specs.Rule.Planned.{SomeSpentAt, drained_to, next_of, may_launch, SomeReadyAt, is_spent}
-use Rattle.link_simulation.specs.Rule.Events.{Accounts, PlansStart, launched, Launches, nothing_waits, too_early, no_id}
-use Rattle.link_simulation.specs.Rule.Events.{starts, landed, Finishes, all_completed, late, stopped, completes}
-use Rattle.link_simulation.specs.Rule.Events.{WakesEach, all_started, no_start, no_finish, starts_one, Wakes, Settles}
-use Rattle.link_simulation.specs.Rule.Events.{settling, Rebalances, none_sending, some_sending, Enqueues, at_once}
-use Rattle.link_simulation.specs.Rule.Events.{no_launch, launches, Advances, no_more, at_finish, at_start}
-use Rattle.link_simulation.specs.Rule.Events.{finish_stops, start_stops, Obeys}
-use Rattle.link_simulation.specs.Rule.Events.{EnqueuesEach, all_enqueued, one_stops, enqueues_one}
 use Rattle.link_simulation.proofs.Simulation.AlikeMessages.{same_itself}
 use Rattle.link_simulation.proofs.Simulation.Rates.{Match, rates_match}
 

@@ -1,21 +1,11 @@
 -- What is simulated is the one course of the simulation.
-use Rattle.std.proofs.Common.{◌≡◌, ℕ, ◌≤◌, List, ◌++◌, Option, Some, refl, sym, ◌∙◌, subst}
-use Rattle.std.specs.List.{AllZip}
-use Rattle.std.specs.declared.cmp.Ordering.{Ordering}
-use Rattle.std.specs.Cmp.{IsTotalOrder}
-use Rattle.fair_rates.specs.declared.error.Error.{Error}
-use Rattle.fair_rates.specs.declared.error.Error.TheVariants.{OutOfMemory, NumberTooLarge, MomentTooLate, FlowIdsUsedUp}
+use Rattle.link_simulation.proofs.Common.{◌≡◌, ℕ, ◌≤◌, List, ◌++◌, Option, Some, refl, sym, ◌∙◌, subst, AllZip}
+use Rattle.link_simulation.proofs.Common.{Ordering, IsTotalOrder, Error, OutOfMemory, NumberTooLarge, MomentTooLate}
+use Rattle.link_simulation.proofs.Common.{FlowIdsUsedUp, IsSamePlanned, GoesByRule, World, Completed, goes, meets}
+use Rattle.link_simulation.proofs.Common.{Obeys, MayBeRefused, NextIs, Call, call_advance, Runs, SameCompletion, Faults}
+use Rattle.link_simulation.proofs.Common.{Planned, StandsFor, IsCalled, IsRun}
 use Rattle.link_simulation.specs.Simulation.RefusalCauses.{IsRefusedFor}
-use Rattle.link_simulation.specs.Rule.SamePlanned.{IsSamePlanned, GoesByRule}
-use Rattle.link_simulation.specs.Simulation.World.{World, Completed, goes, meets}
-use Rattle.link_simulation.specs.Rule.Events.{Obeys}
-use Rattle.link_simulation.specs.Rule.Refusals.{MayBeRefused}
-use Rattle.link_simulation.specs.Simulation.Time.{NextIs}
-use Rattle.link_simulation.specs.Simulation.Calls.{Call, call_advance, Runs}
-use Rattle.link_simulation.specs.Simulation.Replies.{SameCompletion, Faults}
-use Rattle.link_simulation.specs.Rule.Planned.{Planned}
-use Rattle.link_simulation.specs.Rule.StandsFor.{StandsFor}
-use Rattle.link_simulation.specs.Rule.Simulated.{IsCalled, IsRun, RunsInTwo, IsSimulated, IsSplitAnywhere}
+use Rattle.link_simulation.specs.Rule.Simulated.{RunsInTwo, IsSimulated, IsSplitAnywhere}
 use Rattle.link_simulation.specs.Rule.Simulated.{IsNextInSimulation, MeetsFault, IsRefusedInSimulation}
 use Rattle.link_simulation.proofs.Laws.AdvanceOnward.{advance_splits}
 use Rattle.link_simulation.proofs.Rule.OneCourse.{course_is_one}

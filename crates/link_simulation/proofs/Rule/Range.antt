@@ -1,26 +1,18 @@
 -- In the range no call meets a fault, and it leaves the planned world in the range.
-use Rattle.std.proofs.Common.{◌≡◌, ℕ, ◌+◌, ◌<◌, ◌≤◌, ◌^◌, List, [], ◌∷◌, ◌++◌, length, Bool, true, false, cond, not}
-use Rattle.std.proofs.Common.{Option, Some, None, refl, sym, ◌∙◌, subst, arith}
-use Rattle.std.specs.Prelude.{◌&&◌, nat_lt, if◌then◌else◌}
-use Rattle.std.specs.List.{filter, find, AllZip}
-use Rattle.std.specs.declared.cmp.Ordering.{Ordering}
-use Rattle.std.specs.Cmp.{IsTotalOrder}
-use Rattle.std.proofs.lemmas.Bool.{ltb-true, and_parts}
-use Rattle.fair_rates.specs.Lists.WithoutFirst.{without_first}
-use Rattle.fair_rates.specs.declared.error.Error.TheVariants.{MomentTooLate}
-use Rattle.fair_rates.specs.Numbers.Amount.{whole}
-use Rattle.link_simulation.specs.Simulation.Messages.{Message, Caps, same_pair, pair_before, is_delivered}
-use Rattle.link_simulation.specs.Simulation.World.{Completed, completion_of, Course, goes, meets, last_moment, preceded}
-use Rattle.link_simulation.specs.Simulation.World.{raised, later_of, is_late, completed}
-use Rattle.link_simulation.specs.Rule.Planned.{Planned, RatedFlight, rated_messages, drained_to, is_spent, next_of}
-use Rattle.link_simulation.specs.Rule.Planned.{queued}
-use Rattle.link_simulation.specs.Rule.Events.{Accounts, PlansStart, Launches, nothing_waits, too_early, no_id, starts}
-use Rattle.link_simulation.specs.Rule.Events.{Finishes, all_completed, late, stopped, completes, WakesEach, all_started}
-use Rattle.link_simulation.specs.Rule.Events.{no_start, no_finish, starts_one, Settles, settling, Rebalances}
-use Rattle.link_simulation.specs.Rule.Events.{none_sending, some_sending, Enqueues, at_once, no_launch, launches}
-use Rattle.link_simulation.specs.Rule.Events.{completed_at_once, with_queued, Advances, no_more, at_finish, at_start}
-use Rattle.link_simulation.specs.Rule.Events.{finish_stops, start_stops, launched, landed}
-use Rattle.fair_rates.proofs.Lists.Each.{Each, each_find, each_without, each_joined, each_map, each_filtered}
+use Rattle.link_simulation.proofs.Common.{◌≡◌, ℕ, ◌+◌, ◌<◌, ◌≤◌, ◌^◌, List, [], ◌∷◌, ◌++◌, length, Bool, true, false}
+use Rattle.link_simulation.proofs.Common.{cond, not, Option, Some, None, refl, sym, ◌∙◌, subst, arith, ◌&&◌, nat_lt}
+use Rattle.link_simulation.proofs.Common.{if◌then◌else◌, filter, find, AllZip, Ordering, IsTotalOrder, ltb-true}
+use Rattle.link_simulation.proofs.Common.{and_parts, without_first, MomentTooLate, whole, Message, Caps, same_pair}
+use Rattle.link_simulation.proofs.Common.{pair_before, is_delivered, Completed, completion_of, Course, goes, meets}
+use Rattle.link_simulation.proofs.Common.{last_moment, preceded, raised, later_of, is_late, completed, Planned}
+use Rattle.link_simulation.proofs.Common.{RatedFlight, rated_messages, drained_to, is_spent, next_of, queued, Accounts}
+use Rattle.link_simulation.proofs.Common.{PlansStart, Launches, nothing_waits, too_early, no_id, starts, Finishes}
+use Rattle.link_simulation.proofs.Common.{all_completed, late, stopped, completes, WakesEach, all_started, no_start}
+use Rattle.link_simulation.proofs.Common.{no_finish, starts_one, Settles, settling, Rebalances, none_sending}
+use Rattle.link_simulation.proofs.Common.{some_sending, Enqueues, at_once, no_launch, launches, completed_at_once}
+use Rattle.link_simulation.proofs.Common.{with_queued, Advances, no_more, at_finish, at_start, finish_stops}
+use Rattle.link_simulation.proofs.Common.{start_stops, launched, landed, Each, each_joined, each_map, each_filtered}
+use Rattle.fair_rates.proofs.Lists.Each.{each_find, each_without}
 use Rattle.link_simulation.proofs.Simulation.SettlingEnds.{find_like, length_without}
 use Rattle.link_simulation.proofs.Simulation.Queue.{find_passes}
 

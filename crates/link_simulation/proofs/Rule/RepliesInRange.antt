@@ -1,28 +1,18 @@
 -- A call in the range is refused for memory alone, and so are the calls of a list, each with those that were made
 -- before it.
-use Rattle.std.proofs.Common.{◌≡◌, ℕ, ◌+◌, ◌<◌, ◌≤◌, ◌^◌, List, [], ◌∷◌, ◌++◌, length, All, refl, sym, ◌∙◌, ap, subst}
-use Rattle.std.proofs.Common.{append_assoc, append-nil, arith}
-use Rattle.std.specs.Prelude.{IfSome}
-use Rattle.std.specs.List.{AllZip}
-use Rattle.std.specs.declared.cmp.Ordering.{Ordering}
-use Rattle.std.specs.Cmp.{IsTotalOrder}
+use Rattle.link_simulation.proofs.Common.{◌≡◌, ℕ, ◌+◌, ◌<◌, ◌≤◌, ◌^◌, List, [], ◌∷◌, ◌++◌, length, All, refl, sym, ◌∙◌}
+use Rattle.link_simulation.proofs.Common.{ap, subst, append_assoc, append-nil, arith, IfSome, AllZip, Ordering}
+use Rattle.link_simulation.proofs.Common.{IsTotalOrder, All-nil, Error, OutOfMemory, NumberTooLarge, MomentTooLate}
+use Rattle.link_simulation.proofs.Common.{FlowIdsUsedUp, Message, Completed, Course, goes, meets, Call, call_limit}
+use Rattle.link_simulation.proofs.Common.{call_limit_link, call_enqueue, call_advance, call_enqueue_all, call_next}
+use Rattle.link_simulation.proofs.Common.{moment_of, enqueued, Reply, reply_done, reply_next, reply_refused}
+use Rattle.link_simulation.proofs.Common.{SameCompletion, Planned, new_planned, Obeys, EnqueuesEach, all_enqueued}
+use Rattle.link_simulation.proofs.Common.{one_stops, enqueues_one, IsInRange, MayBeRefused, Obeyed, Each, all_of_each}
 use Rattle.std.proofs.lemmas.List.{length-append}
-use Rattle.std.proofs.lemmas.List.Elements.{All-nil, All-head}
-use Rattle.fair_rates.specs.declared.error.Error.{Error}
-use Rattle.fair_rates.specs.declared.error.Error.TheVariants.{OutOfMemory, NumberTooLarge, MomentTooLate, FlowIdsUsedUp}
-use Rattle.link_simulation.specs.Simulation.Messages.{Message}
-use Rattle.link_simulation.specs.Simulation.World.{Completed, Course, goes, meets}
-use Rattle.link_simulation.specs.Simulation.Calls.{Call, call_limit, call_limit_link, call_enqueue, call_advance}
-use Rattle.link_simulation.specs.Simulation.Calls.{call_enqueue_all, call_next, moment_of}
-use Rattle.link_simulation.specs.Laws.PairCompletions.{enqueued}
-use Rattle.link_simulation.specs.Simulation.Replies.{Reply, reply_done, reply_next, reply_refused, SameCompletion}
-use Rattle.link_simulation.specs.Rule.Planned.{Planned, new_planned}
-use Rattle.link_simulation.specs.Rule.Events.{Obeys}
-use Rattle.link_simulation.specs.Rule.Events.{EnqueuesEach, all_enqueued, one_stops, enqueues_one}
-use Rattle.link_simulation.specs.Rule.Range.{AreInRange, IsInRange, IsCallInRange}
-use Rattle.link_simulation.specs.Rule.Refusals.{MayBeRefused, Obeyed}
+use Rattle.std.proofs.lemmas.List.Elements.{All-head}
+use Rattle.link_simulation.specs.Rule.Range.{AreInRange, IsCallInRange}
 use Rattle.link_simulation.specs.Laws.Replies.{RefusesForMemoryAlone}
-use Rattle.fair_rates.proofs.Lists.Each.{Each, each_of_all, all_of_each, all_of_both}
+use Rattle.fair_rates.proofs.Lists.Each.{each_of_all, all_of_both}
 use Rattle.link_simulation.proofs.Laws.PairCompletions.{enqueued_split}
 use Rattle.link_simulation.proofs.Rule.Range.{Holds, IsNear, IsNearFlight, GoesWell, rebalances_well, enqueues_well}
 use Rattle.link_simulation.proofs.Rule.Range.{advances_well, goes_on}

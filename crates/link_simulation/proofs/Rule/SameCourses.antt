@@ -1,32 +1,23 @@
 -- A call has the same course on planned worlds that are the same up to equal peers.
-use Rattle.std.proofs.Common.{◌≡◌, ℕ, ◌<◌, ◌≤◌, List, [], ◌∷◌, ◌++◌, true, not, Option, Some, None, refl, sym, ◌∙◌}
-use Rattle.std.proofs.Common.{subst}
-use Rattle.std.specs.Prelude.{IfSome}
-use Rattle.std.specs.List.{filter, AllZip}
-use Rattle.std.specs.declared.cmp.Ordering.{Ordering}
-use Rattle.std.specs.Cmp.{IsTotalOrder}
-use Rattle.fair_rates.specs.declared.error.Error.TheVariants.{MomentTooLate, FlowIdsUsedUp}
-use Rattle.link_simulation.specs.Simulation.Messages.{Message, Caps, CapsAlike, SameMessage}
-use Rattle.link_simulation.specs.Simulation.Rates.{Parts, rate_of}
-use Rattle.link_simulation.specs.Simulation.World.{Completed, Course, goes, meets, last_moment, preceded, fronts}
-use Rattle.link_simulation.specs.Simulation.World.{completed}
-use Rattle.link_simulation.specs.Simulation.Calls.{Call, limited_by, linked_by}
-use Rattle.link_simulation.specs.Simulation.Replies.{SameCompletion}
-use Rattle.link_simulation.specs.Rule.Planned.{Planned, RatedFlight, IsLeastMoment, SomeSpentAt, SomeReadyAt}
-use Rattle.link_simulation.specs.Rule.Planned.{rated_messages, drained_to, next_of, may_launch, is_spent}
-use Rattle.link_simulation.specs.Rule.Events.{Accounts, PlansStart, Launches, nothing_waits, too_early, no_id, starts}
-use Rattle.link_simulation.specs.Rule.Events.{launched, landed, Finishes, all_completed, late, stopped, completes}
-use Rattle.link_simulation.specs.Rule.Events.{WakesEach, all_started, no_start, no_finish, starts_one, Wakes, Settles}
-use Rattle.link_simulation.specs.Rule.Events.{settling, Rebalances, none_sending, some_sending, completed_at_once}
-use Rattle.link_simulation.specs.Rule.Events.{with_queued, Enqueues, at_once, no_launch, launches, Advances, no_more}
-use Rattle.link_simulation.specs.Rule.Events.{at_finish, at_start, finish_stops, start_stops, Obeys}
-use Rattle.link_simulation.specs.Rule.Events.{EnqueuesEach, all_enqueued, one_stops, enqueues_one}
-use Rattle.link_simulation.specs.Rule.SamePlanned.{IsSameRatedFlight, IsSamePlanned, IsSameCall, same_limit}
-use Rattle.link_simulation.specs.Rule.SamePlanned.{same_limit_link, same_enqueue, same_enqueue_all}
-use Rattle.link_simulation.specs.Rule.SamePlanned.{same_advance, same_next, IsSameCourse}
+use Rattle.link_simulation.proofs.Common.{◌≡◌, ℕ, ◌<◌, ◌≤◌, List, [], ◌∷◌, ◌++◌, true, not, Option, Some, None, refl}
+use Rattle.link_simulation.proofs.Common.{sym, ◌∙◌, subst, IfSome, filter, AllZip, Ordering, IsTotalOrder}
+use Rattle.link_simulation.proofs.Common.{MomentTooLate, FlowIdsUsedUp, Message, Caps, CapsAlike, SameMessage, Parts}
+use Rattle.link_simulation.proofs.Common.{rate_of, Completed, Course, goes, meets, last_moment, preceded, fronts}
+use Rattle.link_simulation.proofs.Common.{completed, Call, limited_by, linked_by, SameCompletion, Planned, RatedFlight}
+use Rattle.link_simulation.proofs.Common.{IsLeastMoment, SomeSpentAt, SomeReadyAt, rated_messages, drained_to, next_of}
+use Rattle.link_simulation.proofs.Common.{may_launch, is_spent, Accounts, PlansStart, Launches, nothing_waits}
+use Rattle.link_simulation.proofs.Common.{too_early, no_id, starts, launched, landed, Finishes, all_completed, late}
+use Rattle.link_simulation.proofs.Common.{stopped, completes, WakesEach, all_started, no_start, no_finish, starts_one}
+use Rattle.link_simulation.proofs.Common.{Wakes, Settles, settling, Rebalances, none_sending, some_sending}
+use Rattle.link_simulation.proofs.Common.{completed_at_once, with_queued, Enqueues, at_once, no_launch, launches}
+use Rattle.link_simulation.proofs.Common.{Advances, no_more, at_finish, at_start, finish_stops, start_stops, Obeys}
+use Rattle.link_simulation.proofs.Common.{EnqueuesEach, all_enqueued, one_stops, enqueues_one, IsSameRatedFlight}
+use Rattle.link_simulation.proofs.Common.{IsSamePlanned, same_limit, same_limit_link, same_enqueue, same_enqueue_all}
+use Rattle.link_simulation.proofs.Common.{same_advance, same_next, zip-append}
+use Rattle.link_simulation.specs.Rule.SamePlanned.{IsSameCall}
+use Rattle.link_simulation.specs.Rule.SamePlanned.{IsSameCourse}
 use Rattle.link_simulation.proofs.Simulation.AlikeMessages.{fair_alike}
 use Rattle.link_simulation.proofs.Rule.Launch.{OptionsAlike}
-use Rattle.fair_rates.proofs.Lists.Zips.{zip-append}
 use Rattle.link_simulation.proofs.Rule.SameSteps.{least_same, none_same, some_same, IsSameLaunch, course_went}
 use Rattle.link_simulation.proofs.Rule.SameSteps.{course_met, launch_went, launch_met, limited_by_same, linked_by_same}
 use Rattle.link_simulation.proofs.Rule.SameSteps.{flows_same, some_spent_same, leaving_same, staying_same, may_same}

@@ -1,17 +1,11 @@
 -- Planned worlds that are the same up to equal peers: each is the same as itself, whichever stands first, and along a
 -- chain.
-use Rattle.std.proofs.Common.{◌≡◌, List, [], ◌∷◌, refl, sym, ◌∙◌, true}
-use Rattle.std.specs.List.{AllZip}
-use Rattle.std.specs.declared.cmp.Ordering.{Ordering}
-use Rattle.std.specs.Cmp.{IsTotalOrder}
-use Rattle.fair_rates.specs.Sides.Subjects.{same_peer}
-use Rattle.link_simulation.specs.Simulation.Messages.{Message, Caps, AnswerAlike, CapsAlike, PairsAlike, SameMessage}
-use Rattle.link_simulation.specs.Rule.Planned.{RatedFlight, Planned}
-use Rattle.link_simulation.specs.Rule.SamePlanned.{IsSameRatedFlight, IsSamePlanned}
+use Rattle.link_simulation.proofs.Common.{◌≡◌, List, [], ◌∷◌, refl, sym, ◌∙◌, true, AllZip, Ordering, IsTotalOrder}
+use Rattle.link_simulation.proofs.Common.{same_peer, Message, Caps, CapsAlike, PairsAlike, SameMessage, RatedFlight}
+use Rattle.link_simulation.proofs.Common.{Planned, IsSameRatedFlight, IsSamePlanned, peer_sym, zip_chain, zip-same}
+use Rattle.link_simulation.specs.Simulation.Messages.{AnswerAlike}
 use Rattle.link_simulation.proofs.Simulation.Queue.{peer_like}
-use Rattle.fair_rates.proofs.Sides.Subjects.{peer_sym}
 use Rattle.link_simulation.proofs.Simulation.AlikeMessages.{same_itself as one_peer, message_itself}
-use Rattle.fair_rates.proofs.Lists.Zips.{zip_chain, zip-same}
 
 -- ---- lists
 

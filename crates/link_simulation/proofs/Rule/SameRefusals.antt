@@ -1,20 +1,11 @@
 -- A call may be refused alike on planned worlds that are the same up to equal peers.
-use Rattle.std.proofs.Common.{List, [], ◌∷◌, ◌∙◌}
-use Rattle.std.specs.List.{AllZip}
-use Rattle.std.specs.declared.cmp.Ordering.{Ordering}
-use Rattle.std.specs.Cmp.{IsTotalOrder}
-use Rattle.fair_rates.specs.declared.error.Error.{Error}
-use Rattle.link_simulation.specs.Simulation.Messages.{SameMessage}
-use Rattle.link_simulation.specs.Simulation.World.{Completed, goes, meets}
-use Rattle.link_simulation.specs.Simulation.Calls.{Call, call_limit, call_limit_link, call_enqueue, call_advance}
-use Rattle.link_simulation.specs.Simulation.Calls.{call_enqueue_all, call_next}
-use Rattle.link_simulation.specs.Simulation.Replies.{Reply, reply_done, reply_next, reply_refused, SameCompletion}
-use Rattle.link_simulation.specs.Rule.Planned.{Planned}
-use Rattle.link_simulation.specs.Rule.Events.{Obeys}
-use Rattle.link_simulation.specs.Rule.Refusals.{MayBeRefused, Obeyed}
-use Rattle.link_simulation.specs.Rule.SamePlanned.{IsSamePlanned, IsSameCall, same_limit, same_limit_link, same_enqueue}
-use Rattle.link_simulation.specs.Rule.SamePlanned.{same_enqueue_all, same_advance, same_next}
-use Rattle.fair_rates.proofs.Lists.Zips.{zip-same}
+use Rattle.link_simulation.proofs.Common.{List, [], ◌∷◌, ◌∙◌, AllZip, Ordering, IsTotalOrder, Error, SameMessage}
+use Rattle.link_simulation.proofs.Common.{Completed, goes, meets, Call, call_limit, call_limit_link, call_enqueue}
+use Rattle.link_simulation.proofs.Common.{call_advance, call_enqueue_all, call_next, Reply, reply_done, reply_next}
+use Rattle.link_simulation.proofs.Common.{reply_refused, SameCompletion, Planned, Obeys, MayBeRefused, Obeyed}
+use Rattle.link_simulation.proofs.Common.{IsSamePlanned, same_limit, same_limit_link, same_enqueue, same_enqueue_all}
+use Rattle.link_simulation.proofs.Common.{same_advance, same_next, zip-same}
+use Rattle.link_simulation.specs.Rule.SamePlanned.{IsSameCall}
 use Rattle.link_simulation.proofs.Simulation.RefusalCauses.{refused_more}
 use Rattle.link_simulation.proofs.Simulation.AlikeMessages.{same_itself as one_peer, message_itself}
 use Rattle.link_simulation.proofs.Rule.Agreeing.{all_trans}

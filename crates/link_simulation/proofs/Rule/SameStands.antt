@@ -1,25 +1,16 @@
 -- Planned worlds that are the same up to equal peers stand for the same worlds, and are in the range alike.
-use Rattle.std.proofs.Common.{◌≡◌, ℕ, ◌+◌, ◌<◌, ◌≤◌, ◌^◌, List, [], ◌∷◌, length, Option, sym, ◌∙◌, subst}
-use Rattle.std.proofs.Common.{All}
-use Rattle.std.specs.Prelude.{IfSome}
-use Rattle.std.specs.List.{filter, list_any, AllZip}
-use Rattle.std.specs.declared.cmp.Ordering.{Ordering}
-use Rattle.std.specs.Cmp.{IsTotalOrder}
-use Rattle.std.proofs.lemmas.List.Elements.{All-nil, All-cons, All-head, All-tail, length_all_zip}
-use Rattle.fair_rates.specs.Numbers.Amount.{Amount}
-use Rattle.link_simulation.specs.Simulation.Messages.{Message, SameMessage, OneForEachPair, same_pair, pair_before}
-use Rattle.link_simulation.specs.Simulation.Rates.{IsLowest, rate_of}
-use Rattle.link_simulation.specs.Simulation.World.{World, Flight}
-use Rattle.link_simulation.specs.Rule.Planned.{Planned, RatedFlight, IsRated, AreInPairOrder, IsLeastMoment}
-use Rattle.link_simulation.specs.Rule.Planned.{SomeSpentAt, SomeReadyAt, rated_messages}
-use Rattle.link_simulation.specs.Rule.Range.{IsInRange}
-use Rattle.link_simulation.specs.Rule.StandsFor.{IsSameFlight, Tallies, StandsFor}
-use Rattle.link_simulation.specs.Rule.SamePlanned.{IsSameRatedFlight, IsSamePlanned}
+use Rattle.link_simulation.proofs.Common.{◌≡◌, ℕ, ◌+◌, ◌<◌, ◌≤◌, ◌^◌, List, [], ◌∷◌, length, Option, sym, ◌∙◌, subst}
+use Rattle.link_simulation.proofs.Common.{All, IfSome, filter, list_any, AllZip, Ordering, IsTotalOrder, All-nil}
+use Rattle.link_simulation.proofs.Common.{Amount, Message, SameMessage, OneForEachPair, same_pair, pair_before}
+use Rattle.link_simulation.proofs.Common.{IsLowest, rate_of, World, Flight, Planned, RatedFlight, IsRated}
+use Rattle.link_simulation.proofs.Common.{AreInPairOrder, IsLeastMoment, SomeSpentAt, SomeReadyAt, rated_messages}
+use Rattle.link_simulation.proofs.Common.{IsInRange, IsSameFlight, Tallies, StandsFor, IsSameRatedFlight, IsSamePlanned}
+use Rattle.link_simulation.proofs.Common.{zip_chain, zip-filter}
+use Rattle.std.proofs.lemmas.List.Elements.{All-cons, All-head, All-tail, length_all_zip}
 use Rattle.link_simulation.proofs.Simulation.AlikeMessages.{pairs_alike, message_itself, any_alike}
 use Rattle.link_simulation.proofs.Simulation.AlikeMessages.{fair_alike}
 use Rattle.link_simulation.proofs.Simulation.InOrder.{before_alike}
 use Rattle.link_simulation.proofs.Rule.SamePlanned.{message_chain, pairs_chain, caps_chain, same_turned}
-use Rattle.fair_rates.proofs.Lists.Zips.{zip_chain, zip-filter}
 use Rattle.link_simulation.proofs.Rule.SameSteps.{none_same, least_same, flows_same, left_same, some_spent_same}
 use Rattle.link_simulation.proofs.Rule.SameSteps.{some_ready_same}
 

@@ -1,32 +1,22 @@
 -- The parts of the event rule's steps are the same on planned worlds that are the same up to equal peers.
-use Rattle.std.proofs.Common.{◌≡◌, ℕ, zero, suc, length, ◌+◌, ◌≤◌, List, [], ◌∷◌, Bool, true, false, not, cond, Option}
-use Rattle.std.proofs.Common.{Some, None, refl, sym, ap, ◌∙◌, subst}
-use Rattle.std.specs.Prelude.{◌&&◌, nat_lt, if◌then◌else◌, slice_get}
-use Rattle.std.specs.List.{filter, find, AllZip}
-use Rattle.std.specs.declared.cmp.Ordering.{Ordering}
-use Rattle.std.specs.Cmp.{IsTotalOrder}
-use Rattle.fair_rates.specs.Lists.WithoutFirst.{without_first}
-use Rattle.fair_rates.specs.declared.error.Error.{Error}
-use Rattle.fair_rates.specs.Sides.Subjects.{same_peer}
-use Rattle.link_simulation.specs.Simulation.Messages.{Message, Caps, CapsAlike, PairsAlike, SameMessage, same_pair}
-use Rattle.link_simulation.specs.Simulation.Messages.{pair_before}
-use Rattle.link_simulation.specs.Simulation.World.{Completed, Course, goes, meets, last_moment, completion_of, later_of}
-use Rattle.link_simulation.specs.Simulation.World.{raised, fronts, arrival}
-use Rattle.link_simulation.specs.Simulation.Calls.{limited_by, linked_by}
-use Rattle.link_simulation.specs.Simulation.Replies.{SameCompletion}
-use Rattle.link_simulation.specs.Rule.Planned.{Planned, RatedFlight, IsLeastMoment, SomeSpentAt, SomeReadyAt}
-use Rattle.link_simulation.specs.Rule.Planned.{next_event, rated_messages, left_at, drained_to, next_of, queued}
-use Rattle.link_simulation.specs.Rule.Planned.{may_launch, is_spent}
-use Rattle.link_simulation.specs.Rule.Events.{launched, landed, with_queued, completed_at_once}
-use Rattle.link_simulation.specs.Rule.SamePlanned.{IsSameRatedFlight, IsSamePlanned, IsSameCourse}
-use Rattle.fair_rates.specs.declared.error.Error.TheVariants.{MomentTooLate}
-use Rattle.fair_rates.specs.Numbers.Amount.{Amount, whole}
+use Rattle.link_simulation.proofs.Common.{◌≡◌, ℕ, zero, suc, length, ◌+◌, ◌≤◌, List, [], ◌∷◌, Bool, true, false, not}
+use Rattle.link_simulation.proofs.Common.{cond, Option, Some, None, refl, sym, ap, ◌∙◌, subst, ◌&&◌, nat_lt}
+use Rattle.link_simulation.proofs.Common.{if◌then◌else◌, slice_get, filter, find, AllZip, Ordering, IsTotalOrder}
+use Rattle.link_simulation.proofs.Common.{without_first, Error, same_peer, Message, Caps, CapsAlike, PairsAlike}
+use Rattle.link_simulation.proofs.Common.{SameMessage, same_pair, pair_before, Completed, Course, goes, meets}
+use Rattle.link_simulation.proofs.Common.{last_moment, completion_of, later_of, raised, fronts, arrival, limited_by}
+use Rattle.link_simulation.proofs.Common.{linked_by, SameCompletion, Planned, RatedFlight, IsLeastMoment, SomeSpentAt}
+use Rattle.link_simulation.proofs.Common.{SomeReadyAt, next_event, rated_messages, left_at, drained_to, next_of, queued}
+use Rattle.link_simulation.proofs.Common.{may_launch, is_spent, launched, landed, with_queued, completed_at_once}
+use Rattle.link_simulation.proofs.Common.{IsSameRatedFlight, IsSamePlanned, MomentTooLate, Amount, whole, zip-filter}
+use Rattle.link_simulation.proofs.Common.{zip-append}
+use Rattle.link_simulation.specs.Rule.SamePlanned.{IsSameCourse}
 use Rattle.link_simulation.proofs.Simulation.AlikeMessages.{peers_alike, pairs_alike, message_itself, any_alike}
 use Rattle.link_simulation.proofs.Simulation.AlikeMessages.{unlimited_alike}
 use Rattle.link_simulation.proofs.Simulation.SettlingEnds.{find_like}
 use Rattle.link_simulation.proofs.Rule.Launch.{OptionsAlike}
 use Rattle.link_simulation.proofs.Simulation.Queue.{find_passes}
-use Rattle.fair_rates.proofs.Lists.Zips.{zip-filter, zip-append, zip-if}
+use Rattle.fair_rates.proofs.Lists.Zips.{zip-if}
 use Rattle.link_simulation.proofs.Rule.Settling.{arrival_alike}
 use Rattle.link_simulation.proofs.Simulation.InOrder.{before_alike}
 

@@ -1,30 +1,21 @@
 -- Settling in the planned world is settling in the world: the same completions or the same fault, and the two agree
 -- afterwards.
-use Rattle.std.proofs.Common.{◌≡◌, ℕ, zero, suc, ◌+◌, ◌≤◌, List, [], ◌∷◌, ◌++◌, map, length, Bool, true, false, cond}
-use Rattle.std.proofs.Common.{not, Option, Some, None, refl, sym, ap, ◌∙◌, subst, arith, length-append}
-use Rattle.std.specs.List.{filter, find, list_any, AllZip}
-use Rattle.std.specs.declared.cmp.Ordering.{Ordering}
-use Rattle.std.specs.Cmp.{IsTotalOrder}
-use Rattle.std.proofs.lemmas.List.{map-append}
-use Rattle.std.proofs.lemmas.Bool.{or_from}
-use Rattle.link_simulation.specs.Simulation.World.{Completed, Course, Flight, World, flows, goes, is_done, meets}
-use Rattle.link_simulation.specs.Simulation.World.{preceded, raised, settle, EndsWith, is_late, completed, arrival}
-use Rattle.link_simulation.specs.Rule.Events.{Finishes, PlansStart, Settles, all_completed, completes, landed, late}
-use Rattle.link_simulation.specs.Rule.Events.{settling, stopped}
-use Rattle.link_simulation.specs.Simulation.Messages.{Message, OneForEachPair, PairsAlike, SameMessage, same_pair}
-use Rattle.link_simulation.specs.Rule.Planned.{IsLeastMoment, Planned, SomeReadyAt}
-use Rattle.link_simulation.specs.Simulation.Replies.{SameCompletion}
-use Rattle.link_simulation.specs.Rule.StandsFor.{CoursesAlike, Follows, IsSettled, Tallies}
-use Rattle.fair_rates.specs.declared.error.Error.TheVariants.{MomentTooLate}
-use Rattle.link_simulation.specs.Simulation.Queue.{leaving, staying, arrived, launch_then, finish_within}
+use Rattle.link_simulation.proofs.Common.{◌≡◌, ℕ, zero, suc, ◌+◌, ◌≤◌, List, [], ◌∷◌, ◌++◌, map, length, Bool, true}
+use Rattle.link_simulation.proofs.Common.{false, cond, not, Option, Some, None, refl, sym, ap, ◌∙◌, subst, arith}
+use Rattle.link_simulation.proofs.Common.{length-append, filter, find, list_any, AllZip, Ordering, IsTotalOrder}
+use Rattle.link_simulation.proofs.Common.{map-append, or_from, Completed, Course, Flight, World, flows, goes, is_done}
+use Rattle.link_simulation.proofs.Common.{meets, preceded, raised, settle, EndsWith, is_late, completed, arrival}
+use Rattle.link_simulation.proofs.Common.{Finishes, PlansStart, Settles, all_completed, completes, landed, late}
+use Rattle.link_simulation.proofs.Common.{settling, stopped, Message, OneForEachPair, PairsAlike, SameMessage}
+use Rattle.link_simulation.proofs.Common.{same_pair, IsLeastMoment, Planned, SomeReadyAt, SameCompletion, CoursesAlike}
+use Rattle.link_simulation.proofs.Common.{Follows, IsSettled, Tallies, MomentTooLate, leaving, staying, arrived}
+use Rattle.link_simulation.proofs.Common.{launch_then, finish_within, Each, zip-append}
 use Rattle.link_simulation.proofs.Simulation.Queue.{over_state, settles_as_queue}
 use Rattle.link_simulation.proofs.Simulation.AlikeMessages.{delivered_alike, peers_alike}
-use Rattle.fair_rates.proofs.Lists.Each.{Each}
 use Rattle.link_simulation.proofs.Rule.Accounts.{leavers_alike, account_follows}
 use Rattle.link_simulation.proofs.Rule.Launch.{NoneDone, staying_none, next_alike, GoesOn, LaunchAlike, launch_alike}
 use Rattle.link_simulation.proofs.Simulation.SettlingEnds.{settle_rests}
 use Rattle.fair_rates.proofs.Lists.Filters.{length-filter}
-use Rattle.fair_rates.proofs.Lists.Zips.{zip-append}
 
 -- ---- lists
 

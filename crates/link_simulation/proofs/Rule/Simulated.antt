@@ -1,23 +1,11 @@
 -- A call that goes by the event rule runs in the simulation, and one that is refused is refused for a cause.
-use Rattle.std.proofs.Common.{◌≡◌, ℕ, ◌<◌, ◌≤◌, ◌^◌, List, [], ◌∷◌, Bool, true, false, cond, Some, refl, sym, ◌∙◌}
-use Rattle.std.proofs.Common.{subst, arith}
-use Rattle.std.specs.Prelude.{IfSome}
-use Rattle.std.specs.List.{filter, AllZip}
-use Rattle.std.specs.declared.cmp.Ordering.{Ordering}
-use Rattle.std.specs.Cmp.{IsTotalOrder}
-use Rattle.fair_rates.specs.declared.error.Error.{Error}
-use Rattle.link_simulation.specs.Simulation.Messages.{Message, SameMessage, same_pair, CapsAlike}
-use Rattle.link_simulation.specs.Simulation.World.{World, Completed, Course, goes, meets, last_moment}
-use Rattle.link_simulation.specs.Simulation.Time.{IsSound}
-use Rattle.link_simulation.specs.Simulation.Calls.{Call, moment_of, Runs}
-use Rattle.link_simulation.specs.Simulation.Replies.{Faults}
-use Rattle.link_simulation.specs.Rule.Planned.{Planned, next_event}
-use Rattle.link_simulation.specs.Rule.Events.{Obeys}
-use Rattle.link_simulation.specs.Rule.Refusals.{MayBeRefused}
-use Rattle.link_simulation.specs.Rule.Range.{IsInRange}
-use Rattle.link_simulation.specs.Rule.StandsFor.{StandsFor, CoursesAlike}
-use Rattle.link_simulation.specs.Rule.SamePlanned.{GoesByRule}
-use Rattle.link_simulation.specs.Rule.Simulated.{IsRun, IsSimulated, IsNextInSimulation, KeepsRange, MeetsFault}
+use Rattle.link_simulation.proofs.Common.{◌≡◌, ℕ, ◌<◌, ◌≤◌, ◌^◌, List, [], ◌∷◌, Bool, true, false, cond, Some, refl}
+use Rattle.link_simulation.proofs.Common.{sym, ◌∙◌, subst, arith, IfSome, filter, AllZip, Ordering, IsTotalOrder, Error}
+use Rattle.link_simulation.proofs.Common.{Message, SameMessage, same_pair, CapsAlike, World, Completed, Course, goes}
+use Rattle.link_simulation.proofs.Common.{meets, last_moment, IsSound, Call, moment_of, Runs, Faults, Planned}
+use Rattle.link_simulation.proofs.Common.{next_event, Obeys, MayBeRefused, IsInRange, StandsFor, CoursesAlike}
+use Rattle.link_simulation.proofs.Common.{GoesByRule, IsRun}
+use Rattle.link_simulation.specs.Rule.Simulated.{IsSimulated, IsNextInSimulation, KeepsRange, MeetsFault}
 use Rattle.link_simulation.specs.Rule.Simulated.{IsRefusedInSimulation}
 use Rattle.link_simulation.proofs.Simulation.AlikeMessages.{same_itself, pair_itself}
 use Rattle.link_simulation.proofs.Rule.BeforeNext.{positive_flights}

@@ -1,16 +1,9 @@
 -- What replies that agree with the simulation, or that follow the event rule, say of the first call.
-use Rattle.std.proofs.Common.{◌≡◌, ℕ, List, ◌∷◌, Option, Some}
-use Rattle.std.specs.List.{AllZip}
-use Rattle.std.specs.declared.cmp.Ordering.{Ordering}
-use Rattle.fair_rates.specs.declared.error.Error.{Error}
-use Rattle.link_simulation.specs.Simulation.World.{World, Completed, goes}
-use Rattle.link_simulation.specs.Simulation.Calls.{Call, call_limit, call_limit_link, call_enqueue, call_advance}
-use Rattle.link_simulation.specs.Simulation.Calls.{call_enqueue_all, call_next, moment_of, Runs, IsInTurn}
-use Rattle.link_simulation.specs.Simulation.Replies.{Reply, reply_done, reply_next, reply_refused, SameCompletion}
-use Rattle.link_simulation.specs.Simulation.Replies.{Agrees}
-use Rattle.link_simulation.specs.Rule.Planned.{Planned}
-use Rattle.link_simulation.specs.Rule.Events.{Obeys}
-use Rattle.link_simulation.specs.Rule.Refusals.{MayBeRefused, Obeyed}
+use Rattle.link_simulation.proofs.Common.{◌≡◌, ℕ, List, ◌∷◌, Option, Some, AllZip, Ordering, Error, World, Completed}
+use Rattle.link_simulation.proofs.Common.{goes, Call, call_limit, call_limit_link, call_enqueue, call_advance}
+use Rattle.link_simulation.proofs.Common.{call_enqueue_all, call_next, moment_of, Runs, IsInTurn, Reply, reply_done}
+use Rattle.link_simulation.proofs.Common.{reply_next, reply_refused, SameCompletion, Agrees, Planned, Obeys}
+use Rattle.link_simulation.proofs.Common.{MayBeRefused, Obeyed}
 
 module _ {P : Type 0} (cmp : P → P → Ordering) where
   -- ---- in the simulation

@@ -1,24 +1,15 @@
 -- Waking in the planned world is waking in the world.
-use Rattle.std.proofs.Common.{◌≡◌, ℕ, zero, suc, ◌+◌, ◌≤◌, List, [], ◌∷◌, ◌++◌, length, Bool, true, false, cond, Option}
-use Rattle.std.proofs.Common.{Some, refl, sym, ap, ◌∙◌, subst, arith, length-append}
-use Rattle.std.specs.List.{filter, find, list_any, AllZip}
-use Rattle.std.specs.declared.cmp.Ordering.{Ordering}
-use Rattle.std.specs.Cmp.{IsTotalOrder}
-use Rattle.std.proofs.lemmas.Bool.{or_parts}
-use Rattle.fair_rates.specs.Lists.WithoutFirst.{without_first}
-use Rattle.link_simulation.specs.Simulation.World.{Completed, Course, Flight, World, and_then, flows, fronts, goes}
-use Rattle.link_simulation.specs.Simulation.World.{is_done, least_pair, may_start, meets, preceded, ready, settle}
-use Rattle.link_simulation.specs.Simulation.World.{start, wake_within, EndsWith, flight_of}
-use Rattle.link_simulation.specs.Rule.Events.{Finishes, Launches, WakesEach, all_started, no_finish, no_start}
-use Rattle.link_simulation.specs.Rule.Events.{starts_one}
-use Rattle.link_simulation.specs.Simulation.Messages.{Message, OneForEachPair, SameMessage, same_pair}
-use Rattle.link_simulation.specs.Rule.Planned.{Planned, next_of}
-use Rattle.link_simulation.specs.Simulation.Replies.{SameCompletion}
-use Rattle.link_simulation.specs.Rule.StandsFor.{CoursesAlike, Follows, IsSettled}
-use Rattle.link_simulation.specs.Simulation.Queue.{staying, out_of_waiting, joined, finish_within}
+use Rattle.link_simulation.proofs.Common.{◌≡◌, ℕ, zero, suc, ◌+◌, ◌≤◌, List, [], ◌∷◌, ◌++◌, length, Bool, true, false}
+use Rattle.link_simulation.proofs.Common.{cond, Option, Some, refl, sym, ap, ◌∙◌, subst, arith, length-append, filter}
+use Rattle.link_simulation.proofs.Common.{find, list_any, AllZip, Ordering, IsTotalOrder, or_parts, without_first}
+use Rattle.link_simulation.proofs.Common.{Completed, Course, Flight, World, and_then, flows, fronts, goes, is_done}
+use Rattle.link_simulation.proofs.Common.{least_pair, may_start, meets, preceded, ready, settle, start, wake_within}
+use Rattle.link_simulation.proofs.Common.{EndsWith, flight_of, Finishes, Launches, WakesEach, all_started, no_finish}
+use Rattle.link_simulation.proofs.Common.{no_start, starts_one, Message, OneForEachPair, SameMessage, same_pair}
+use Rattle.link_simulation.proofs.Common.{Planned, next_of, SameCompletion, CoursesAlike, Follows, IsSettled, staying}
+use Rattle.link_simulation.proofs.Common.{out_of_waiting, joined, finish_within, Each, each_filtered, zip-append}
 use Rattle.link_simulation.proofs.Simulation.Queue.{preceded_none}
 use Rattle.link_simulation.proofs.Rule.BeforeNext.{IsFront, fronts_first, first_found}
-use Rattle.fair_rates.proofs.Lists.Each.{Each, each_filtered}
 use Rattle.link_simulation.proofs.Rule.Launch.{NoneDone, joining, started, joining_leaves, started_stays, OptionsAlike}
 use Rattle.link_simulation.proofs.Rule.Launch.{next_alike, StartsSo, StartAlike, start_alike}
 use Rattle.link_simulation.proofs.Rule.Settling.{CourseAlike, looked, finishes_alike, settle_is_finish}
@@ -27,7 +18,6 @@ use Rattle.link_simulation.proofs.Simulation.AlikeMessages.{pair_itself}
 use Rattle.link_simulation.proofs.Simulation.OnePair.{apart, OnlyPair, only_both, IsRested, IsAfter, only_taken}
 use Rattle.link_simulation.proofs.Simulation.OnePair.{only_joined, rested_joined, finish_only, ready_after, ends_so}
 use Rattle.link_simulation.proofs.Simulation.SettlingEnds.{length_without}
-use Rattle.fair_rates.proofs.Lists.Zips.{zip-append}
 use Rattle.link_simulation.proofs.Laws.Bytes.{each_least, wake_first}
 
 -- each of a list of which none passes

@@ -1,20 +1,13 @@
 -- Lists of messages that are the same up to equal peers have the same sides, and so the same fair rates.
-use Rattle.std.proofs.Common.{◌+◌, ◌≡◌, ℕ, List, [], ◌∷◌, Bool, true, not, Option, Some, None, refl, sym, ap, ◌∙◌}
-use Rattle.std.proofs.Common.{subst}
-use Rattle.std.specs.Prelude.{◌&&◌, if◌then◌else◌}
-use Rattle.std.specs.List.{list_any, flat_map, AllZip}
-use Rattle.std.specs.declared.cmp.Ordering.{Ordering}
-use Rattle.std.specs.Ordering.{is_eq}
-use Rattle.std.specs.Cmp.{IsTotalOrder}
+use Rattle.link_simulation.proofs.Common.{◌+◌, ◌≡◌, ℕ, List, [], ◌∷◌, Bool, true, not, Option, Some, None, refl, sym}
+use Rattle.link_simulation.proofs.Common.{ap, ◌∙◌, subst, ◌&&◌, if◌then◌else◌, list_any, flat_map, AllZip, Ordering}
+use Rattle.link_simulation.proofs.Common.{is_eq, IsTotalOrder, IsFair, Side, same_peer, Message, SameMessage}
+use Rattle.link_simulation.proofs.Common.{is_delivered, same_pair, Caps, CapsAlike, AreFair, Parts, capped_sides}
+use Rattle.link_simulation.proofs.Common.{is_unlimited, sides_for, rates_from, egress_side, ingress_side, link_side}
+use Rattle.link_simulation.proofs.Common.{peer_sym, places_from}
 use Rattle.std.proofs.lemmas.Cmp.{tied_itself}
-use Rattle.fair_rates.specs.Fairness.Fair.{IsFair, Side}
-use Rattle.fair_rates.specs.Sides.Subjects.{same_peer}
-use Rattle.link_simulation.specs.Simulation.Messages.{Message, SameMessage, is_delivered, same_pair, Caps, CapsAlike}
-use Rattle.link_simulation.specs.Simulation.Rates.{AreFair, Parts, capped_sides, is_unlimited, sides_for, rates_from}
-use Rattle.link_simulation.specs.Simulation.Rates.{egress_side, ingress_side, link_side, capped_side}
+use Rattle.link_simulation.specs.Simulation.Rates.{capped_side}
 use Rattle.link_simulation.proofs.Simulation.Queue.{peer_like, both_alike}
-use Rattle.fair_rates.proofs.Sides.Subjects.{peer_sym}
-use Rattle.fair_rates.specs.Lists.Places.{places_from}
 use Rattle.fair_rates.proofs.Lists.Places.{places_alike}
 
 module _ {P : Type 0} (cmp : P → P → Ordering) (order : IsTotalOrder cmp) where

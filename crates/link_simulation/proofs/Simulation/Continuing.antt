@@ -1,16 +1,12 @@
 -- Fair rates exist for each world, so time goes on from it, and it has a next event or none.
-use Rattle.std.proofs.Common.{◌≡◌, ℕ, zero, suc, ◌+◌, ◌-◌, ◌<◌, ◌⊎◌, inl, inr, List, [], ◌∷◌, length, Bool, true, false}
-use Rattle.std.proofs.Common.{Option, Some, None, refl, arith, le_refl}
-use Rattle.std.specs.List.{list_any}
-use Rattle.std.specs.declared.cmp.Ordering.{Ordering}
-use Rattle.std.specs.Cmp.{IsTotalOrder}
-use Rattle.link_simulation.specs.Simulation.World.{World, Completed, Course, goes, meets, and_then, preceded, flows}
-use Rattle.link_simulation.specs.Simulation.World.{instant, is_done, ready, IsQuiet, last_moment}
-use Rattle.link_simulation.specs.Simulation.Calls.{Call, Runs, act}
-use Rattle.link_simulation.specs.Simulation.Messages.{Message, Caps}
-use Rattle.link_simulation.specs.Simulation.Rates.{Parts, AreFair, capped_sides, rates_from}
-use Rattle.link_simulation.specs.Simulation.Time.{Drains, Passes, no_time, quiet_tick, Ticks, no_tick, one_tick}
-use Rattle.link_simulation.specs.Simulation.Time.{tick_faults, NextIs, never_comes, comes_next, drifted}
+use Rattle.link_simulation.proofs.Common.{◌≡◌, ℕ, zero, suc, ◌+◌, ◌-◌, ◌<◌, ◌⊎◌, inl, inr, List, [], ◌∷◌, length, Bool}
+use Rattle.link_simulation.proofs.Common.{true, false, Option, Some, None, refl, arith, list_any, Ordering}
+use Rattle.link_simulation.proofs.Common.{IsTotalOrder, World, Completed, Course, goes, meets, and_then, preceded}
+use Rattle.link_simulation.proofs.Common.{flows, instant, is_done, ready, IsQuiet, last_moment, Call, Runs, act}
+use Rattle.link_simulation.proofs.Common.{Message, Caps, Parts, AreFair, capped_sides, rates_from, Drains, Passes}
+use Rattle.link_simulation.proofs.Common.{no_time, quiet_tick, Ticks, no_tick, one_tick, tick_faults, NextIs}
+use Rattle.link_simulation.proofs.Common.{never_comes, comes_next, drifted}
+use Rattle.std.proofs.Common.{le_refl}
 use Rattle.fair_rates.proofs.Fairness.Denominators.{denominator_of}
 use Rattle.fair_rates.proofs.Filling.FairPartsExist.{fair_parts}
 use Rattle.link_simulation.proofs.Simulation.AlikeMessages.{same_itself}

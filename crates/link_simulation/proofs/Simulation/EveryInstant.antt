@@ -1,20 +1,13 @@
 -- What every instant keeps: the moment, and that nothing is done at its end.
-use Rattle.std.proofs.Common.{◌≡◌, ℕ, zero, suc, ◌+◌, ◌≤◌, List, [], ◌∷◌, ◌++◌, length, Bool, true, false, Option, Some}
-use Rattle.std.proofs.Common.{None, refl, sym, ap, ◌∙◌, subst, arith, ◌⊎◌, inl, inr}
-use Rattle.std.specs.Prelude.{⊤, nat_le}
-use Rattle.std.specs.List.{find, list_any}
-use Rattle.std.specs.declared.cmp.Ordering.{Ordering}
-use Rattle.std.specs.Cmp.{IsTotalOrder}
-use Rattle.fair_rates.specs.Lists.WithoutFirst.{without_first}
-use Rattle.link_simulation.specs.Simulation.World.{Completed, Course, Flight, IsQuiet, World, and_then, complete}
-use Rattle.link_simulation.specs.Simulation.World.{first_waiting, goes, instant, is_done, last_moment, least_pair}
-use Rattle.link_simulation.specs.Simulation.World.{may_start, meets, raised, ready, settle, settle_within, start}
-use Rattle.link_simulation.specs.Simulation.World.{start_next, wake, wake_within, EndsWith, out_of_flight, is_late}
-use Rattle.link_simulation.specs.Simulation.World.{completed, arrival, flight_of}
-use Rattle.link_simulation.specs.Simulation.Messages.{Message, same_pair}
-use Rattle.link_simulation.specs.Simulation.Time.{Drains, NextIs, Ticks, comes_next, never_comes, no_tick, no_time}
-use Rattle.link_simulation.specs.Simulation.Time.{one_tick, quiet_tick, tick_faults}
-use Rattle.fair_rates.specs.declared.error.Error.TheVariants.{FlowIdsUsedUp, MomentTooLate}
+use Rattle.link_simulation.proofs.Common.{◌≡◌, ℕ, zero, suc, ◌+◌, ◌≤◌, List, [], ◌∷◌, ◌++◌, length, Bool, true, false}
+use Rattle.link_simulation.proofs.Common.{Option, Some, None, refl, sym, ap, ◌∙◌, subst, arith, ◌⊎◌, inl, inr, ⊤}
+use Rattle.link_simulation.proofs.Common.{nat_le, find, list_any, Ordering, IsTotalOrder, without_first, Completed}
+use Rattle.link_simulation.proofs.Common.{Course, Flight, IsQuiet, World, and_then, complete, first_waiting, goes}
+use Rattle.link_simulation.proofs.Common.{instant, is_done, last_moment, least_pair, may_start, meets, raised, ready}
+use Rattle.link_simulation.proofs.Common.{settle, settle_within, start, start_next, wake, wake_within, EndsWith}
+use Rattle.link_simulation.proofs.Common.{out_of_flight, is_late, completed, arrival, flight_of, Message, same_pair}
+use Rattle.link_simulation.proofs.Common.{Drains, NextIs, Ticks, comes_next, never_comes, no_tick, no_time, one_tick}
+use Rattle.link_simulation.proofs.Common.{quiet_tick, tick_faults, FlowIdsUsedUp, MomentTooLate}
 use Rattle.link_simulation.proofs.Simulation.Queue.{settle_none, settle_first}
 use Rattle.link_simulation.proofs.Simulation.SettlingEnds.{ends_preceded, ends_and_then, ends_cond, NoneDone}
 use Rattle.link_simulation.proofs.Simulation.SettlingEnds.{settle_rests}

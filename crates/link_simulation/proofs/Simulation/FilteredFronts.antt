@@ -1,20 +1,12 @@
 -- What a filter leaves of first elements, fronts and least pairs.
-use Rattle.std.proofs.Common.{◌≡◌, List, [], ◌∷◌, map, Bool, true, false, cond, not, Option, Some, None, refl, sym, ap}
-use Rattle.std.proofs.Common.{◌∙◌, subst}
-use Rattle.std.specs.Prelude.{◌||◌, if◌then◌else◌}
-use Rattle.std.specs.List.{filter, find, list_any}
-use Rattle.std.specs.declared.cmp.Ordering.{Ordering}
-use Rattle.std.specs.declared.cmp.Ordering.TheVariants.{Less, Equal, Greater}
-use Rattle.std.specs.Ordering.{is_lt, ordering_reverse}
-use Rattle.std.specs.Cmp.{IsTotalOrder}
+use Rattle.link_simulation.proofs.Common.{◌≡◌, List, [], ◌∷◌, map, Bool, true, false, cond, not, Option, Some, None}
+use Rattle.link_simulation.proofs.Common.{refl, sym, ap, ◌∙◌, subst, ◌||◌, if◌then◌else◌, filter, find, list_any}
+use Rattle.link_simulation.proofs.Common.{Ordering, Less, Equal, Greater, is_lt, IsTotalOrder, without_first, fronts}
+use Rattle.link_simulation.proofs.Common.{least_pair, Message, pair_before, same_pair, Each, each_map, filter_stronger}
+use Rattle.std.specs.Ordering.{ordering_reverse}
 use Rattle.std.proofs.lemmas.Cmp.{alike_right}
 use Rattle.std.proofs.lemmas.Bool.{false_from_ne_true}
-use Rattle.fair_rates.specs.Lists.WithoutFirst.{without_first}
-use Rattle.link_simulation.specs.Simulation.World.{fronts, least_pair}
-use Rattle.link_simulation.specs.Simulation.Messages.{Message, pair_before, same_pair}
 use Rattle.link_simulation.proofs.Laws.Bytes.{each_filter, each_least}
-use Rattle.fair_rates.proofs.Lists.Each.{Each, each_map}
-use Rattle.fair_rates.proofs.Lists.Filters.{filter_stronger}
 use Rattle.link_simulation.proofs.Simulation.PairOrder.{least_none, pair_cmp, pairs_total, not_before_itself}
 use Rattle.link_simulation.proofs.Simulation.PairOrder.{not_before_back}
 use Rattle.fair_rates.proofs.Lists.Sorted.{is_lt_less}

@@ -1,23 +1,17 @@
 -- Going once through the pairs that are ready, in their order, is picking the least pair again and again.
-use Rattle.std.proofs.Common.{◌≡◌, ℕ, List, [], ◌∷◌, Bool, true, false, cond, not, Option, Some, None, refl, sym, ap}
-use Rattle.std.proofs.Common.{◌∙◌, subst, ◌⊎◌, inl, inr}
-use Rattle.std.specs.Prelude.{⊤, ◌&&◌, if◌then◌else◌}
-use Rattle.std.specs.List.{filter, find}
-use Rattle.std.specs.declared.cmp.Ordering.{Ordering}
-use Rattle.std.specs.declared.cmp.Ordering.TheVariants.{Less, Equal, Greater}
-use Rattle.std.specs.Ordering.{is_eq, is_lt, ordering_then}
-use Rattle.std.specs.Cmp.{IsTotalOrder}
+use Rattle.link_simulation.proofs.Common.{◌≡◌, ℕ, List, [], ◌∷◌, Bool, true, false, cond, not, Option, Some, None, refl}
+use Rattle.link_simulation.proofs.Common.{sym, ap, ◌∙◌, subst, ◌⊎◌, inl, inr, ⊤, ◌&&◌, if◌then◌else◌, filter, find}
+use Rattle.link_simulation.proofs.Common.{Ordering, Less, Equal, Greater, is_eq, is_lt, IsTotalOrder, not-true, World}
+use Rattle.link_simulation.proofs.Common.{fronts, least_pair, may_start, ready, Message, SameMessage, pair_before}
+use Rattle.link_simulation.proofs.Common.{same_pair, AreInPairOrder, Planned, SomeReadyAt, may_launch, next_of, Tallies}
+use Rattle.link_simulation.proofs.Common.{Each, each_map, each_filtered}
+use Rattle.std.specs.Ordering.{ordering_then}
 use Rattle.std.proofs.lemmas.Cmp.{alike_right}
-use Rattle.std.proofs.lemmas.Bool.{not-true, not_from_false}
-use Rattle.link_simulation.specs.Simulation.World.{World, fronts, least_pair, may_start, ready}
-use Rattle.link_simulation.specs.Simulation.Messages.{Message, SameMessage, pair_before, same_pair}
-use Rattle.link_simulation.specs.Rule.Planned.{AreInPairOrder, Planned, SomeReadyAt, may_launch, next_of}
-use Rattle.link_simulation.specs.Rule.StandsFor.{Tallies}
+use Rattle.std.proofs.lemmas.Bool.{not_from_false}
 use Rattle.link_simulation.proofs.Simulation.Queue.{pair_sym, find_passes}
 use Rattle.link_simulation.proofs.Simulation.AlikeMessages.{pair_itself, message_itself, pairs_alike}
 use Rattle.link_simulation.proofs.Rule.BeforeNext.{IsFront, fronts_first, first_found, may_alike, messages_alike}
 use Rattle.link_simulation.proofs.Simulation.SettlingEnds.{find_like}
-use Rattle.fair_rates.proofs.Lists.Each.{Each, each_map, each_filtered}
 use Rattle.link_simulation.proofs.Rule.Launch.{OptionsAlike, next_alike}
 use Rattle.link_simulation.proofs.Simulation.OnePair.{apart}
 use Rattle.link_simulation.proofs.Rule.Waking.{Picks, each_none}

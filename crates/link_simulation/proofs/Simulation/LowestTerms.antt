@@ -1,10 +1,10 @@
 -- Amounts in lowest terms stay so, and draining for no time changes none of them.
-use Rattle.std.proofs.Common.{◌≡◌, ℕ, zero, suc, ◌+◌, ◌-◌, ◌*◌, ◌<◌, ◌≤◌, Some, None, refl, sym, ap, ◌∙◌, arith, Option}
-use Rattle.std.specs.Prelude.{IfSome}
-use Rattle.std.proofs.Math.Nat.{mul_comm, mul-pos, mul-le-mul_right}
-use Rattle.fair_rates.specs.Numbers.Amount.{Amount, Covers, billion, drained, reduced, whole}
-use Rattle.link_simulation.specs.Simulation.Rates.{IsLowest, drained_by}
-use Rattle.fair_rates.specs.Numbers.LowestTerms.{IsScaled, reduced_scales, reduced_scaled, reduced_positive}
+use Rattle.link_simulation.proofs.Common.{◌≡◌, ℕ, zero, suc, ◌+◌, ◌-◌, ◌*◌, ◌<◌, ◌≤◌, Some, None, refl, sym, ap, ◌∙◌}
+use Rattle.link_simulation.proofs.Common.{arith, Option, IfSome, mul-pos, Amount, billion, drained, reduced, whole}
+use Rattle.link_simulation.proofs.Common.{IsLowest, drained_by, reduced_positive}
+use Rattle.std.proofs.Math.Nat.{mul_comm, mul-le-mul_right}
+use Rattle.fair_rates.specs.Numbers.Amount.{Covers}
+use Rattle.fair_rates.specs.Numbers.LowestTerms.{IsScaled, reduced_scales, reduced_scaled}
 use Rattle.fair_rates.specs.Numbers.LowestTerms.{reduced_alike}
 use Rattle.fair_rates.proofs.Numbers.Draining.{drained_twice, spent_if_covers, covers_if_spent}
 

@@ -1,24 +1,15 @@
 -- Settling makes no pair ready.
-use Rattle.std.proofs.Common.{◌≡◌, ℕ, zero, suc, ◌+◌, ◌≤◌, List, [], ◌∷◌, ◌++◌, map, length, Bool, true, false, cond}
-use Rattle.std.proofs.Common.{not, Option, Some, None, refl, sym, ap, ◌∙◌, subst, arith, length-append, ◌⊎◌, inl, inr}
-use Rattle.std.specs.Prelude.{nat_le, ⊤, ◌&&◌, ◌||◌}
-use Rattle.std.specs.List.{filter, find, list_any}
-use Rattle.std.specs.declared.cmp.Ordering.{Ordering}
-use Rattle.std.specs.Cmp.{IsTotalOrder}
-use Rattle.std.proofs.lemmas.Bool.{or_parts, or_left, or_right}
-use Rattle.std.proofs.lemmas.List.{map-append}
-use Rattle.std.proofs.lemmas.List.Folds.{list_any-append}
-use Rattle.fair_rates.specs.Lists.WithoutFirst.{without_first}
-use Rattle.link_simulation.specs.Simulation.World.{Completed, Course, Flight, World, flows, fronts, goes, is_done}
-use Rattle.link_simulation.specs.Simulation.World.{is_in_order, last_moment, may_start, meets, ready, settle, EndsWith}
-use Rattle.link_simulation.specs.Simulation.World.{is_late, completed, flight_of}
-use Rattle.link_simulation.specs.Simulation.Messages.{Message, OneForEachPair, same_pair}
-use Rattle.fair_rates.specs.declared.error.Error.TheVariants.{FlowIdsUsedUp, MomentTooLate}
-use Rattle.link_simulation.specs.Simulation.Queue.{leaving, staying, out_of_waiting, joined, arrived, launch_then}
-use Rattle.link_simulation.specs.Simulation.Queue.{finish_within}
+use Rattle.link_simulation.proofs.Common.{◌≡◌, ℕ, zero, suc, ◌+◌, ◌≤◌, List, [], ◌∷◌, ◌++◌, map, length, Bool, true}
+use Rattle.link_simulation.proofs.Common.{false, cond, not, Option, Some, None, refl, sym, ap, ◌∙◌, subst, arith}
+use Rattle.link_simulation.proofs.Common.{length-append, ◌⊎◌, inl, inr, nat_le, ⊤, ◌&&◌, ◌||◌, filter, find, list_any}
+use Rattle.link_simulation.proofs.Common.{Ordering, IsTotalOrder, or_parts, or_left, or_right, map-append}
+use Rattle.link_simulation.proofs.Common.{list_any-append, without_first, Completed, Course, Flight, World, flows}
+use Rattle.link_simulation.proofs.Common.{fronts, goes, is_done, is_in_order, last_moment, may_start, meets, ready}
+use Rattle.link_simulation.proofs.Common.{settle, EndsWith, is_late, completed, flight_of, Message, OneForEachPair}
+use Rattle.link_simulation.proofs.Common.{same_pair, FlowIdsUsedUp, MomentTooLate, leaving, staying, out_of_waiting}
+use Rattle.link_simulation.proofs.Common.{joined, arrived, launch_then, finish_within, each_map}
 use Rattle.link_simulation.proofs.Simulation.Queue.{any_like, find_passes, pair_sym, pair_like}
 use Rattle.link_simulation.proofs.Rule.BeforeNext.{filter_none, IsFront, fronts_first, first_found}
-use Rattle.fair_rates.proofs.Lists.Each.{each_map}
 use Rattle.link_simulation.proofs.Rule.Launch.{head_found, head_of, waits_without}
 use Rattle.link_simulation.proofs.Rule.Settling.{settle_is_finish}
 use Rattle.link_simulation.proofs.Simulation.OnePair.{OnlyPair, only_arrived, only_taken, only_joined, IsRested}

@@ -1,16 +1,9 @@
 -- There is at most one next event.
-use Rattle.std.proofs.Common.{◌≡◌, ℕ, zero, suc, ◌+◌, ◌-◌, ◌*◌, ◌<◌, ◌≤◌, List, [], ◌∷◌, Option, Some, None, refl, sym}
-use Rattle.std.proofs.Common.{ap, subst, arith, ◌⊎◌, inl, inr}
-use Rattle.std.specs.declared.cmp.Ordering.{Ordering}
-use Rattle.std.specs.Cmp.{IsTotalOrder}
-use Rattle.std.proofs.lemmas.Bool.{cases_lt}
-use Rattle.std.proofs.Math.Nat.{mul-pos}
-use Rattle.fair_rates.specs.Numbers.Amount.{Amount, billion, reduced}
-use Rattle.link_simulation.specs.Simulation.World.{Flight, IsQuiet, World, last_moment}
-use Rattle.link_simulation.specs.Simulation.Rates.{Parts, drained_by, rate_of}
-use Rattle.link_simulation.specs.Simulation.Time.{ArePositive, Drains, NextIs, Passes, comes_next, drain_each}
-use Rattle.link_simulation.specs.Simulation.Time.{never_comes, no_time, quiet_tick}
-use Rattle.fair_rates.specs.Numbers.LowestTerms.{reduced_positive}
+use Rattle.link_simulation.proofs.Common.{◌≡◌, ℕ, zero, suc, ◌+◌, ◌-◌, ◌*◌, ◌<◌, ◌≤◌, List, [], ◌∷◌, Option, Some, None}
+use Rattle.link_simulation.proofs.Common.{refl, sym, ap, subst, arith, ◌⊎◌, inl, inr, Ordering, IsTotalOrder, cases_lt}
+use Rattle.link_simulation.proofs.Common.{mul-pos, Amount, billion, reduced, Flight, IsQuiet, World, last_moment, Parts}
+use Rattle.link_simulation.proofs.Common.{drained_by, rate_of, ArePositive, Drains, NextIs, Passes, comes_next}
+use Rattle.link_simulation.proofs.Common.{drain_each, never_comes, no_time, quiet_tick, reduced_positive}
 use Rattle.link_simulation.proofs.Simulation.OneWorld.{one_world}
 use Rattle.link_simulation.proofs.Simulation.AlikeMessages.{same_itself}
 use Rattle.link_simulation.proofs.Simulation.QuietInstants.{next_moment, passes_end_at, IsQuietNow}

@@ -1,26 +1,17 @@
 -- Settling what one pair starts touches that pair alone, and leaves it unable to start again at that moment.
-use Rattle.std.proofs.Common.{◌≡◌, ℕ, zero, suc, ◌+◌, ◌≤◌, List, [], ◌∷◌, ◌++◌, length, Bool, true, false, cond, not}
-use Rattle.std.proofs.Common.{Option, Some, None, refl, sym, ap, ◌∙◌, subst, arith, length-append}
-use Rattle.std.specs.Prelude.{nat_le, ◌&&◌, ◌||◌}
-use Rattle.std.specs.List.{filter, find, list_any}
-use Rattle.std.specs.declared.cmp.Ordering.{Ordering}
-use Rattle.std.specs.Cmp.{IsTotalOrder}
-use Rattle.std.proofs.lemmas.List.{map-append}
-use Rattle.std.proofs.lemmas.List.Folds.{list_any-append}
-use Rattle.fair_rates.specs.Sides.Subjects.{same_peer}
-use Rattle.link_simulation.specs.Simulation.World.{Completed, Course, Flight, World, flows, fronts, goes, is_done}
-use Rattle.link_simulation.specs.Simulation.World.{last_moment, may_start, meets, ready, EndsWith, is_late, completed}
-use Rattle.link_simulation.specs.Simulation.World.{flight_of}
-use Rattle.link_simulation.specs.Simulation.Messages.{Message, same_pair}
-use Rattle.fair_rates.specs.declared.error.Error.TheVariants.{FlowIdsUsedUp, MomentTooLate}
-use Rattle.link_simulation.specs.Simulation.Queue.{out_of_waiting, joined, arrived, launch_then, finish_within}
+use Rattle.link_simulation.proofs.Common.{◌≡◌, ℕ, zero, suc, ◌+◌, ◌≤◌, List, [], ◌∷◌, ◌++◌, length, Bool, true, false}
+use Rattle.link_simulation.proofs.Common.{cond, not, Option, Some, None, refl, sym, ap, ◌∙◌, subst, arith}
+use Rattle.link_simulation.proofs.Common.{length-append, nat_le, ◌&&◌, ◌||◌, filter, find, list_any, Ordering}
+use Rattle.link_simulation.proofs.Common.{IsTotalOrder, map-append, list_any-append, same_peer, Completed, Course}
+use Rattle.link_simulation.proofs.Common.{Flight, World, flows, fronts, goes, is_done, last_moment, may_start, meets}
+use Rattle.link_simulation.proofs.Common.{ready, EndsWith, is_late, completed, flight_of, Message, same_pair}
+use Rattle.link_simulation.proofs.Common.{FlowIdsUsedUp, MomentTooLate, out_of_waiting, joined, arrived, launch_then}
+use Rattle.link_simulation.proofs.Common.{finish_within, Each, each_map, each_joined, filter_swap, filter_stronger}
+use Rattle.link_simulation.proofs.Common.{length-without_first, and_parts, not-true, or_left, or_right, without_first}
 use Rattle.link_simulation.proofs.Simulation.Queue.{both_alike, pair_like, pair_sym, peer_like, find_passes}
 use Rattle.link_simulation.proofs.Rule.BeforeNext.{IsFront, fronts_first, first_found}
-use Rattle.fair_rates.proofs.Lists.Each.{Each, each_map, each_joined}
 use Rattle.link_simulation.proofs.Simulation.SettlingEnds.{ends_preceded, ends_cond, length_without, find_like}
-use Rattle.fair_rates.proofs.Lists.Filters.{filter_swap, filter_stronger, length-without_first}
-use Rattle.std.proofs.lemmas.Bool.{and_parts, not-true, not-false, or_left, or_right}
-use Rattle.fair_rates.specs.Lists.WithoutFirst.{without_first}
+use Rattle.std.proofs.lemmas.Bool.{not-false}
 
 -- ---- lists
 

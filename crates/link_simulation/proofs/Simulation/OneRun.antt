@@ -1,11 +1,8 @@
 -- A call has one course.
-use Rattle.std.proofs.Common.{◌≡◌, ℕ, suc, List, [], refl, sym, ap, ◌∙◌, subst, arith, ◌⊎◌, inl, inr}
-use Rattle.std.specs.declared.cmp.Ordering.{Ordering}
-use Rattle.std.specs.Cmp.{IsTotalOrder}
-use Rattle.link_simulation.specs.Simulation.World.{Completed, Course, World, and_then, goes, instant, meets, preceded}
-use Rattle.link_simulation.specs.Simulation.Calls.{Call, Runs, act}
-use Rattle.link_simulation.specs.Simulation.Time.{Drains, IsSound, Ticks, no_tick, one_tick, tick_faults}
-use Rattle.fair_rates.specs.declared.error.Error.{Error}
+use Rattle.link_simulation.proofs.Common.{◌≡◌, ℕ, suc, List, [], refl, sym, ap, ◌∙◌, subst, arith, ◌⊎◌, inl, inr}
+use Rattle.link_simulation.proofs.Common.{Ordering, IsTotalOrder, Completed, Course, World, and_then, goes, instant}
+use Rattle.link_simulation.proofs.Common.{meets, preceded, Call, Runs, act, Drains, IsSound, Ticks, no_tick, one_tick}
+use Rattle.link_simulation.proofs.Common.{tick_faults, Error}
 use Rattle.link_simulation.proofs.Simulation.OneWorld.{one_world}
 use Rattle.link_simulation.proofs.Simulation.AlikeMessages.{same_itself}
 use Rattle.link_simulation.proofs.Simulation.QuietInstants.{ends_at}

@@ -1,12 +1,7 @@
 -- A nanosecond leads to one world, whatever denominator its rates are given by.
-use Rattle.std.proofs.Common.{◌≡◌, ℕ, suc, ◌+◌, ◌*◌, ◌<◌, List, [], ◌∷◌, length, Option, Some, None, refl, sym, ap, ◌∙◌}
-use Rattle.std.proofs.Common.{arith, true}
-use Rattle.std.specs.declared.cmp.Ordering.{Ordering}
-use Rattle.fair_rates.specs.Sides.Subjects.{same_peer}
-use Rattle.fair_rates.specs.Numbers.Amount.{Amount, drained}
-use Rattle.link_simulation.specs.Simulation.World.{Flight, World, flows}
-use Rattle.link_simulation.specs.Simulation.Rates.{Parts, drained_by, rate_of}
-use Rattle.link_simulation.specs.Simulation.Time.{ArePositive, Drains, drain_each}
+use Rattle.link_simulation.proofs.Common.{◌≡◌, ℕ, suc, ◌+◌, ◌*◌, ◌<◌, List, [], ◌∷◌, length, Option, Some, None, refl}
+use Rattle.link_simulation.proofs.Common.{sym, ap, ◌∙◌, arith, true, Ordering, same_peer, Amount, drained, Flight}
+use Rattle.link_simulation.proofs.Common.{World, flows, Parts, drained_by, rate_of, ArePositive, Drains, drain_each}
 use Rattle.fair_rates.specs.Numbers.LowestTerms.{reduced_same}
 use Rattle.link_simulation.proofs.Simulation.Rates.{Match, one_each, rates_match}
 

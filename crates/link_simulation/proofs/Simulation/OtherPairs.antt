@@ -1,31 +1,22 @@
 -- What happens to one pair leaves the other pairs as they are.
-use Rattle.std.proofs.Common.{◌≡◌, ℕ, zero, suc, ◌+◌, List, [], ◌∷◌, ◌++◌, map, length, Bool, true, false, cond, not}
-use Rattle.std.proofs.Common.{Option, Some, None, refl, sym, ap, ◌∙◌, subst}
-use Rattle.std.specs.Prelude.{nat_le, ⊤, ◌&&◌, ◌||◌, ◌==◌}
-use Rattle.std.specs.List.{filter, find, list_any}
-use Rattle.std.specs.declared.cmp.Ordering.{Ordering}
-use Rattle.std.specs.Cmp.{IsTotalOrder}
-use Rattle.std.proofs.lemmas.List.Folds.{list_any-append}
-use Rattle.std.proofs.lemmas.List.Elements.{filter-append}
+use Rattle.link_simulation.proofs.Common.{◌≡◌, ℕ, zero, suc, ◌+◌, List, [], ◌∷◌, ◌++◌, map, length, Bool, true, false}
+use Rattle.link_simulation.proofs.Common.{cond, not, Option, Some, None, refl, sym, ap, ◌∙◌, subst, nat_le, ⊤, ◌&&◌}
+use Rattle.link_simulation.proofs.Common.{◌||◌, ◌==◌, filter, find, list_any, Ordering, IsTotalOrder, list_any-append}
+use Rattle.link_simulation.proofs.Common.{filter-append, or_right, or_left, not-true, map-append, without_first}
+use Rattle.link_simulation.proofs.Common.{Completed, Course, EndsWith, Flight, World, complete, first_waiting, flows}
+use Rattle.link_simulation.proofs.Common.{fronts, goes, is_done, is_idle, is_in_order, last_moment, may_start, meets}
+use Rattle.link_simulation.proofs.Common.{raised, ready, settle, settle_within, start, start_next, turn, out_of_flight}
+use Rattle.link_simulation.proofs.Common.{is_late, completed, arrival, flight_of, Message, same_pair, Caps}
+use Rattle.link_simulation.proofs.Common.{is_unlimited, FlowIdsUsedUp, MomentTooLate, filter_swap, filter_stronger}
+use Rattle.link_simulation.proofs.Common.{Each, each_filtered}
 use Rattle.std.proofs.lemmas.Map.Views.{any-filter_same}
-use Rattle.std.proofs.lemmas.Bool.{or_right, or_left, not-true, not-false}
-use Rattle.std.proofs.lemmas.List.{append-nil, map-append}
-use Rattle.fair_rates.specs.Lists.WithoutFirst.{without_first}
-use Rattle.link_simulation.specs.Simulation.World.{Completed, Course, EndsWith, Flight, World, complete, first_waiting}
-use Rattle.link_simulation.specs.Simulation.World.{flows, fronts, goes, is_done, is_idle, is_in_order, last_moment}
-use Rattle.link_simulation.specs.Simulation.World.{may_start, meets, raised, ready, settle, settle_within, start}
-use Rattle.link_simulation.specs.Simulation.World.{start_next, turn, out_of_flight, is_late, completed, arrival}
-use Rattle.link_simulation.specs.Simulation.World.{flight_of}
-use Rattle.link_simulation.specs.Simulation.Messages.{Message, same_pair, Caps}
+use Rattle.std.proofs.lemmas.Bool.{not-false}
+use Rattle.std.proofs.lemmas.List.{append-nil}
 use Rattle.link_simulation.specs.Simulation.Pass.{IsUnchangedFor, MayNotStart}
-use Rattle.link_simulation.specs.Simulation.Rates.{is_unlimited}
-use Rattle.fair_rates.specs.declared.error.Error.TheVariants.{FlowIdsUsedUp, MomentTooLate}
 use Rattle.link_simulation.proofs.Simulation.AlikeMessages.{pair_itself}
 use Rattle.link_simulation.proofs.Simulation.Queue.{pair_like, pair_sym, settle_none, settle_first, find_passes}
 use Rattle.link_simulation.proofs.Simulation.Queue.{filter_without}
 use Rattle.link_simulation.proofs.Simulation.SettlingEnds.{find_like, ends_preceded, ends_and_then, ends_cond}
-use Rattle.fair_rates.proofs.Lists.Filters.{filter_swap, filter_stronger}
-use Rattle.fair_rates.proofs.Lists.Each.{Each, each_filtered}
 
 -- ---- lists
 

@@ -1,20 +1,15 @@
 -- The order of pairs, and lists in that order.
-use Rattle.std.proofs.Common.{◌≡◌, List, [], ◌∷◌, Bool, true, false, cond, Option, Some, None, refl, sym, ap, ◌∙◌}
-use Rattle.std.proofs.Common.{subst}
-use Rattle.std.specs.List.{find}
-use Rattle.std.specs.declared.cmp.Ordering.{Ordering}
-use Rattle.std.specs.declared.cmp.Ordering.TheVariants.{Less, Equal, Greater}
-use Rattle.std.specs.Ordering.{is_eq, is_lt, is_gt, ordering_reverse, ordering_then}
-use Rattle.std.specs.Cmp.{IsTotalOrder, then_total, tied_then, upto}
+use Rattle.link_simulation.proofs.Common.{◌≡◌, List, [], ◌∷◌, Bool, true, false, cond, Option, Some, None, refl, sym}
+use Rattle.link_simulation.proofs.Common.{ap, ◌∙◌, subst, find, Ordering, Less, Equal, Greater, is_eq, is_lt}
+use Rattle.link_simulation.proofs.Common.{IsTotalOrder, least_pair, Message, OneForEachPair, pair_before, same_pair}
+use Rattle.link_simulation.proofs.Common.{Each, find_from_any}
+use Rattle.std.specs.Ordering.{is_gt, ordering_reverse, ordering_then}
+use Rattle.std.specs.Cmp.{then_total, tied_then, upto}
 use Rattle.std.proofs.lemmas.Cmp.{on_total, tied_itself}
-use Rattle.link_simulation.specs.Simulation.World.{least_pair}
-use Rattle.link_simulation.specs.Simulation.Messages.{Message, OneForEachPair, pair_before, same_pair}
 use Rattle.link_simulation.specs.Simulation.Pass.{IsBeforeEach, IsByPair, by_pair, insert_by_pair}
 use Rattle.link_simulation.proofs.Simulation.Queue.{pair_like, pair_sym}
 use Rattle.link_simulation.proofs.Simulation.OtherPairs.{each_more}
 use Rattle.link_simulation.proofs.Simulation.AlikeMessages.{pair_itself}
-use Rattle.fair_rates.proofs.Lists.Each.{Each}
-use Rattle.fair_rates.proofs.Lists.Filters.{find_from_any}
 use Rattle.fair_rates.proofs.Lists.Sorted.{is_lt_less}
 
 lt_turned : (r : Ordering) → is_lt (ordering_reverse r) ≡ is_gt r

@@ -1,21 +1,15 @@
 -- Waking is one pass through the pairs that are ready, in the order of pairs, and ends with nothing done and nothing
 -- ready.
-use Rattle.std.proofs.Common.{◌≡◌, ℕ, zero, suc, ◌+◌, ◌≤◌, List, [], ◌∷◌, length, Bool, true, false, cond, not, Option}
-use Rattle.std.proofs.Common.{Some, None, refl, sym, ap, ◌∙◌, subst, arith}
-use Rattle.std.specs.Prelude.{nat_le, ⊤}
-use Rattle.std.specs.List.{filter, find, list_any}
-use Rattle.std.specs.declared.cmp.Ordering.{Ordering}
-use Rattle.std.specs.Cmp.{IsTotalOrder}
-use Rattle.std.proofs.lemmas.Bool.{not-true}
-use Rattle.fair_rates.specs.Lists.WithoutFirst.{without_first}
-use Rattle.link_simulation.specs.Simulation.World.{Completed, Course, EndsWith, Flight, IsQuiet, World, and_then}
-use Rattle.link_simulation.specs.Simulation.World.{complete, first_waiting, fronts, goes, is_done, last_moment}
-use Rattle.link_simulation.specs.Simulation.World.{least_pair, may_start, meets, preceded, ready, settle, settle_within}
-use Rattle.link_simulation.specs.Simulation.World.{start, start_next, turn, wake, wake_within, out_of_flight, is_late}
-use Rattle.link_simulation.specs.Simulation.World.{completed}
-use Rattle.link_simulation.specs.Simulation.Messages.{Message, OneForEachPair, pair_before, same_pair}
+use Rattle.link_simulation.proofs.Common.{◌≡◌, ℕ, zero, suc, ◌+◌, ◌≤◌, List, [], ◌∷◌, length, Bool, true, false, cond}
+use Rattle.link_simulation.proofs.Common.{not, Option, Some, None, refl, sym, ap, ◌∙◌, subst, arith, nat_le, ⊤, filter}
+use Rattle.link_simulation.proofs.Common.{find, list_any, Ordering, IsTotalOrder, not-true, without_first, Completed}
+use Rattle.link_simulation.proofs.Common.{Course, EndsWith, Flight, IsQuiet, World, and_then, complete, first_waiting}
+use Rattle.link_simulation.proofs.Common.{fronts, goes, is_done, last_moment, least_pair, may_start, meets, preceded}
+use Rattle.link_simulation.proofs.Common.{ready, settle, settle_within, start, start_next, turn, wake, wake_within}
+use Rattle.link_simulation.proofs.Common.{out_of_flight, is_late, completed, Message, OneForEachPair, pair_before}
+use Rattle.link_simulation.proofs.Common.{same_pair, FlowIdsUsedUp, MomentTooLate, Each, each_filtered, find_from_any}
+use Rattle.link_simulation.proofs.Common.{length-without_first}
 use Rattle.link_simulation.specs.Simulation.Pass.{IsByPair, by_pair, wake_each}
-use Rattle.fair_rates.specs.declared.error.Error.TheVariants.{FlowIdsUsedUp, MomentTooLate}
 use Rattle.link_simulation.proofs.Simulation.Queue.{pair_like, pair_sym, settle_none, settle_first}
 use Rattle.link_simulation.proofs.Simulation.SettlingEnds.{length_without, ends_preceded, ends_and_then, ends_cond}
 use Rattle.link_simulation.proofs.Simulation.SettlingEnds.{NoneDone, settle_rests}
@@ -23,8 +17,7 @@ use Rattle.link_simulation.proofs.Simulation.OtherPairs.{each_more, each_of, fin
 use Rattle.link_simulation.proofs.Simulation.OtherPairs.{pair_other, ends_more, fronts_are_first, ready_without}
 use Rattle.link_simulation.proofs.Simulation.OtherPairs.{start_settles, any_none}
 use Rattle.link_simulation.proofs.Simulation.AlikeMessages.{pair_itself}
-use Rattle.fair_rates.proofs.Lists.Each.{Each, each_filtered}
-use Rattle.fair_rates.proofs.Lists.Filters.{find_from_any, length-without_first, none_long}
+use Rattle.fair_rates.proofs.Lists.Filters.{none_long}
 use Rattle.link_simulation.proofs.Simulation.PairOrder.{apart_if_before, least_none, least_is, found_in, as_each}
 use Rattle.link_simulation.proofs.Simulation.PairOrder.{find_nowhere, find_by_pair, ordered_by_pair}
 

@@ -1,26 +1,15 @@
 -- Settling the list of messages in flight is finishing a queue of the done ones, whose leavers join at its end.
-use Rattle.std.proofs.Common.{append_assoc, ◌≡◌, ℕ, zero, suc, ◌+◌, List, [], ◌∷◌, ◌++◌, map, Bool, true, false, cond}
-use Rattle.std.proofs.Common.{not, Option, Some, None, refl, sym, ap, ◌∙◌, subst}
-use Rattle.std.specs.Prelude.{nat_le, ◌&&◌, ◌||◌}
-use Rattle.std.specs.List.{filter, find, list_any}
-use Rattle.std.specs.declared.cmp.Ordering.{Ordering}
-use Rattle.std.specs.Ordering.{is_eq}
-use Rattle.std.specs.Cmp.{IsTotalOrder}
-use Rattle.std.proofs.lemmas.List.Folds.{list_any-append}
-use Rattle.std.proofs.lemmas.List.Elements.{filter-append}
-use Rattle.std.proofs.lemmas.Bool.{or_from, or_parts, and_parts}
-use Rattle.std.proofs.lemmas.List.{append-nil, map-append}
-use Rattle.fair_rates.specs.Lists.WithoutFirst.{without_first}
-use Rattle.fair_rates.specs.Sides.Subjects.{same_peer}
-use Rattle.link_simulation.specs.Simulation.World.{Completed, Course, Flight, World, and_then, complete, goes, is_done}
-use Rattle.link_simulation.specs.Simulation.World.{is_in_order, last_moment, may_start, meets, preceded, settle_within}
-use Rattle.link_simulation.specs.Simulation.World.{start, start_next, is_late, completed, flight_of}
-use Rattle.link_simulation.specs.Simulation.Queue.{leaving, staying, arrived, out_of_waiting, joined, launch_then}
-use Rattle.link_simulation.specs.Simulation.Queue.{finish_within}
-use Rattle.link_simulation.specs.Simulation.Messages.{Message, OneForEachPair, same_pair}
-use Rattle.fair_rates.specs.declared.error.Error.TheVariants.{FlowIdsUsedUp, MomentTooLate}
+use Rattle.link_simulation.proofs.Common.{append_assoc, ◌≡◌, ℕ, zero, suc, ◌+◌, List, [], ◌∷◌, ◌++◌, map, Bool, true}
+use Rattle.link_simulation.proofs.Common.{false, cond, not, Option, Some, None, refl, sym, ap, ◌∙◌, subst, nat_le, ◌&&◌}
+use Rattle.link_simulation.proofs.Common.{◌||◌, filter, find, list_any, Ordering, is_eq, IsTotalOrder, list_any-append}
+use Rattle.link_simulation.proofs.Common.{filter-append, or_from, or_parts, and_parts, map-append, without_first}
+use Rattle.link_simulation.proofs.Common.{same_peer, Completed, Course, Flight, World, and_then, complete, goes}
+use Rattle.link_simulation.proofs.Common.{is_done, is_in_order, last_moment, may_start, meets, preceded, settle_within}
+use Rattle.link_simulation.proofs.Common.{start, start_next, is_late, completed, flight_of, leaving, staying, arrived}
+use Rattle.link_simulation.proofs.Common.{out_of_waiting, joined, launch_then, finish_within, Message, OneForEachPair}
+use Rattle.link_simulation.proofs.Common.{same_pair, FlowIdsUsedUp, MomentTooLate, peer_sym}
+use Rattle.std.proofs.lemmas.List.{append-nil}
 use Rattle.fair_rates.proofs.Lists.Sorted.{is_eq_equal}
-use Rattle.fair_rates.proofs.Sides.Subjects.{peer_sym}
 
 -- ---- courses
 

@@ -1,26 +1,19 @@
 -- An instant ends in quiet, and leaves a quiet world as it is; so does each call end in quiet, and the next event comes
 -- later.
-use Rattle.std.proofs.Common.{◌≡◌, ℕ, zero, suc, ◌+◌, ◌-◌, ◌<◌, ◌≤◌, List, [], ◌∷◌, ◌++◌, length, Bool, true, false}
-use Rattle.std.proofs.Common.{cond, not, Option, Some, None, refl, sym, ap, ◌∙◌, subst, arith}
-use Rattle.std.specs.Prelude.{◌&&◌, nat_lt, nat_le, max, if◌then◌else◌, IfSome}
-use Rattle.std.specs.List.{filter, find}
-use Rattle.std.specs.declared.cmp.Ordering.{Ordering}
-use Rattle.std.specs.Cmp.{IsTotalOrder}
-use Rattle.std.proofs.lemmas.List.Elements.{filter-append}
+use Rattle.link_simulation.proofs.Common.{◌≡◌, ℕ, zero, suc, ◌+◌, ◌-◌, ◌<◌, ◌≤◌, List, [], ◌∷◌, ◌++◌, length, Bool}
+use Rattle.link_simulation.proofs.Common.{true, false, cond, not, Option, Some, None, refl, sym, ap, ◌∙◌, subst, arith}
+use Rattle.link_simulation.proofs.Common.{◌&&◌, nat_lt, nat_le, max, if◌then◌else◌, IfSome, filter, find, Ordering}
+use Rattle.link_simulation.proofs.Common.{IsTotalOrder, filter-append, Completed, Course, EndsWith, IsQuiet, World}
+use Rattle.link_simulation.proofs.Common.{and_then, complete, first_waiting, fronts, goes, instant, is_done, is_idle}
+use Rattle.link_simulation.proofs.Common.{is_in_order, last_moment, later_of, least_pair, may_start, meets, raised}
+use Rattle.link_simulation.proofs.Common.{ready, settle, settle_within, start, start_next, turn, wake, wake_within}
+use Rattle.link_simulation.proofs.Common.{Call, Runs, act, call_advance, call_enqueue, call_limit, call_enqueue_all}
+use Rattle.link_simulation.proofs.Common.{call_next, complete_at_once, moment_of, limited_by, rebalance}
+use Rattle.link_simulation.proofs.Common.{call_limit_link, linked_by, enqueue, enqueue_each, Message, same_pair, Caps}
+use Rattle.link_simulation.proofs.Common.{no_time, Drains, NextIs, Passes, Ticks, comes_next, never_comes, no_tick}
+use Rattle.link_simulation.proofs.Common.{one_tick, quiet_tick, tick_faults, MomentTooLate, find_from_any}
 use Rattle.std.proofs.lemmas.List.{append-nil}
 use Rattle.std.proofs.lemmas.Bool.Decides.{nat_tests}
-use Rattle.link_simulation.specs.Simulation.World.{Completed, Course, EndsWith, IsQuiet, World, and_then, complete}
-use Rattle.link_simulation.specs.Simulation.World.{first_waiting, fronts, goes, instant, is_done, is_idle, is_in_order}
-use Rattle.link_simulation.specs.Simulation.World.{last_moment, later_of, least_pair, may_start, meets, raised, ready}
-use Rattle.link_simulation.specs.Simulation.World.{settle, settle_within, start, start_next, turn, wake, wake_within}
-use Rattle.link_simulation.specs.Simulation.Calls.{Call, Runs, act, call_advance, call_enqueue, call_limit}
-use Rattle.link_simulation.specs.Simulation.Calls.{call_enqueue_all, call_next}
-use Rattle.link_simulation.specs.Simulation.Calls.{complete_at_once, moment_of, limited_by, rebalance, call_limit_link}
-use Rattle.link_simulation.specs.Simulation.Calls.{linked_by, enqueue, enqueue_each}
-use Rattle.link_simulation.specs.Simulation.Messages.{Message, same_pair, Caps}
-use Rattle.link_simulation.specs.Simulation.Time.{no_time, Drains, NextIs, Passes, Ticks, comes_next, never_comes}
-use Rattle.link_simulation.specs.Simulation.Time.{no_tick, one_tick, quiet_tick, tick_faults}
-use Rattle.fair_rates.specs.declared.error.Error.TheVariants.{MomentTooLate}
 use Rattle.link_simulation.proofs.Simulation.Queue.{settle_none, preceded_none}
 use Rattle.link_simulation.proofs.Simulation.SettlingEnds.{ends_preceded, ends_and_then, ends_cond, NoneDone}
 use Rattle.link_simulation.proofs.Simulation.SettlingEnds.{each_ends}
@@ -28,7 +21,6 @@ use Rattle.link_simulation.proofs.Simulation.SettlingEnds.{settle_rests}
 use Rattle.link_simulation.proofs.Simulation.OtherPairs.{Leaves, ends_more, leaves_like, next_leaves, start_leaves}
 use Rattle.link_simulation.proofs.Simulation.OtherPairs.{complete_leaves, ready_without, any_from_find, IsButFor}
 use Rattle.link_simulation.proofs.Simulation.AlikeMessages.{pair_itself}
-use Rattle.fair_rates.proofs.Lists.Filters.{find_from_any}
 use Rattle.link_simulation.proofs.Simulation.Pass.{ends_both, settle_keeps, wake_none, wake_first, wake_ends_quiet}
 
 filter_none : {X : Type 0} (p q : X → Bool) (xs : List X) → ((x : X) → p x ≡ true → q x ≡ true) → filter q xs ≡ []

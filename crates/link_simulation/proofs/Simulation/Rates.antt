@@ -1,17 +1,12 @@
 -- The fair rates of messages: which messages are limited, and that the rates are one.
-use Rattle.std.proofs.Common.{◌≡◌, ℕ, zero, suc, ◌+◌, ◌*◌, List, [], ◌∷◌, ◌++◌, length, Bool, true, false, not, Option}
-use Rattle.std.proofs.Common.{Some, None, Contains, refl, sym, ap, ◌∙◌, subst, arith}
-use Rattle.std.specs.Prelude.{◌&&◌, ◌||◌, slice_get, is_none, if◌then◌else◌}
-use Rattle.std.specs.List.{flat_map}
-use Rattle.std.specs.declared.cmp.Ordering.{Ordering}
-use Rattle.std.proofs.lemmas.List.Elements.{Contains-append_left, Contains-append_right}
-use Rattle.fair_rates.specs.Fairness.Fair.{Side, IsLimited}
-use Rattle.fair_rates.specs.Sides.Subjects.{same_peer}
-use Rattle.link_simulation.specs.Simulation.Messages.{Message, Caps, is_delivered}
-use Rattle.link_simulation.specs.Simulation.Rates.{Parts, sides_for, capped_sides, is_unlimited, rates_from, AreFair}
-use Rattle.link_simulation.specs.Simulation.Rates.{egress_side, ingress_side, link_side}
+use Rattle.link_simulation.proofs.Common.{◌≡◌, ℕ, zero, suc, ◌+◌, ◌*◌, List, [], ◌∷◌, ◌++◌, length, Bool, true, false}
+use Rattle.link_simulation.proofs.Common.{not, Option, Some, None, Contains, refl, sym, ap, ◌∙◌, subst, arith, ◌&&◌}
+use Rattle.link_simulation.proofs.Common.{◌||◌, slice_get, is_none, if◌then◌else◌, flat_map, Ordering}
+use Rattle.link_simulation.proofs.Common.{Contains-append_left, Contains-append_right, Side, same_peer, Message, Caps}
+use Rattle.link_simulation.proofs.Common.{is_delivered, Parts, sides_for, capped_sides, is_unlimited, rates_from}
+use Rattle.link_simulation.proofs.Common.{AreFair, egress_side, ingress_side, link_side, places_from}
+use Rattle.fair_rates.specs.Fairness.Fair.{IsLimited}
 use Rattle.fair_rates.proofs.Fairness.OneAllocation.{same_amounts}
-use Rattle.fair_rates.specs.Lists.Places.{places_from}
 use Rattle.fair_rates.proofs.Lists.Places.{place_here}
 
 -- ---- lists

@@ -1,18 +1,11 @@
 -- The number of messages is steps enough: settling ends with nothing done.
-use Rattle.std.proofs.Common.{◌≡◌, ℕ, zero, suc, ◌+◌, ◌≤◌, List, [], ◌∷◌, ◌++◌, length, Bool, true, false, cond, Option}
-use Rattle.std.proofs.Common.{Some, None, refl, sym, ◌∙◌, subst, arith, length-append}
-use Rattle.std.specs.Prelude.{nat_le}
-use Rattle.std.specs.List.{find}
-use Rattle.std.specs.declared.cmp.Ordering.{Ordering}
-use Rattle.std.specs.Cmp.{IsTotalOrder}
-use Rattle.fair_rates.specs.Lists.WithoutFirst.{without_first}
-use Rattle.link_simulation.specs.Simulation.World.{Completed, Course, Flight, World, and_then, complete, first_waiting}
-use Rattle.link_simulation.specs.Simulation.World.{goes, is_done, last_moment, may_start, meets, preceded, settle}
-use Rattle.link_simulation.specs.Simulation.World.{settle_within, start, start_next, EndsWith, out_of_flight, is_late}
-use Rattle.link_simulation.specs.Simulation.World.{completed, flight_of}
-use Rattle.link_simulation.specs.Simulation.Messages.{Message, same_pair}
-use Rattle.link_simulation.specs.Simulation.Calls.{enqueue, enqueue_each}
-use Rattle.fair_rates.specs.declared.error.Error.TheVariants.{FlowIdsUsedUp, MomentTooLate}
+use Rattle.link_simulation.proofs.Common.{◌≡◌, ℕ, zero, suc, ◌+◌, ◌≤◌, List, [], ◌∷◌, ◌++◌, length, Bool, true, false}
+use Rattle.link_simulation.proofs.Common.{cond, Option, Some, None, refl, sym, ◌∙◌, subst, arith, length-append, nat_le}
+use Rattle.link_simulation.proofs.Common.{find, Ordering, IsTotalOrder, without_first, Completed, Course, Flight, World}
+use Rattle.link_simulation.proofs.Common.{and_then, complete, first_waiting, goes, is_done, last_moment, may_start}
+use Rattle.link_simulation.proofs.Common.{meets, preceded, settle, settle_within, start, start_next, EndsWith}
+use Rattle.link_simulation.proofs.Common.{out_of_flight, is_late, completed, flight_of, Message, same_pair, enqueue}
+use Rattle.link_simulation.proofs.Common.{enqueue_each, FlowIdsUsedUp, MomentTooLate}
 use Rattle.link_simulation.proofs.Simulation.Queue.{pair_like, settle_none, settle_first, find_passes}
 
 pub ends_preceded : {X S : Type 0} (Q : S → Type 0) (xs : List X) (c : Course X S) → EndsWith Q c

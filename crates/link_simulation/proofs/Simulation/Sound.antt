@@ -1,34 +1,22 @@
 -- Each call leads from a sound world to a sound world, and to one alone.
-use Rattle.std.proofs.Common.{◌≡◌, ℕ, ◌+◌, List, [], ◌∷◌, ◌++◌, length, Bool, true, false, cond, Option, Some}
-use Rattle.std.proofs.Common.{None, refl, sym, ap, ◌∙◌, subst, arith}
-use Rattle.std.specs.Prelude.{nat_le, ⊤, ◌&&◌, nat_lt, if◌then◌else◌}
-use Rattle.std.specs.List.{list_any}
-use Rattle.std.specs.declared.cmp.Ordering.{Ordering}
-use Rattle.std.specs.Cmp.{IsTotalOrder}
-use Rattle.std.proofs.lemmas.List.{map-append}
-use Rattle.std.proofs.lemmas.Bool.{not-true}
-use Rattle.fair_rates.specs.Lists.WithoutFirst.{without_first}
-use Rattle.fair_rates.specs.Sides.Subjects.{same_peer}
-use Rattle.link_simulation.specs.Simulation.World.{Completed, Course, EndsWith, Flight, IsQuiet, World, and_then}
-use Rattle.link_simulation.specs.Simulation.World.{complete, first_waiting, flows, fronts, goes, instant, is_done}
-use Rattle.link_simulation.specs.Simulation.World.{is_idle, is_in_order, last_moment, later_of, least_pair, may_start}
-use Rattle.link_simulation.specs.Simulation.World.{meets, new_world, raised, ready, settle, start, start_next, turn}
-use Rattle.link_simulation.specs.Simulation.World.{wake, out_of_flight, is_late, completed, arrival, flight_of}
-use Rattle.link_simulation.specs.Simulation.Calls.{Call, Runs, act, call_advance, call_enqueue, call_limit}
-use Rattle.link_simulation.specs.Simulation.Calls.{call_enqueue_all, call_next}
-use Rattle.link_simulation.specs.Simulation.Calls.{complete_at_once, enqueue, rebalance, limited_by}
-use Rattle.link_simulation.specs.Simulation.Calls.{call_limit_link, linked_by}
-use Rattle.link_simulation.specs.Simulation.Messages.{Caps, Message, OneForEachPair, same_pair, with_cap, CapsAlike}
-use Rattle.link_simulation.specs.Simulation.Messages.{PairsAlike, with_link}
-use Rattle.link_simulation.specs.Simulation.Rates.{Parts}
-use Rattle.link_simulation.specs.Simulation.Time.{ArePositive, Drains, IsSound, Ticks, drain_each, no_tick, one_tick}
-use Rattle.link_simulation.specs.Simulation.Time.{tick_faults}
-use Rattle.fair_rates.specs.declared.error.Error.TheVariants.{FlowIdsUsedUp, MomentTooLate}
+use Rattle.link_simulation.proofs.Common.{◌≡◌, ℕ, ◌+◌, List, [], ◌∷◌, ◌++◌, length, Bool, true, false, cond, Option}
+use Rattle.link_simulation.proofs.Common.{Some, None, refl, sym, ap, ◌∙◌, subst, arith, nat_le, ⊤, ◌&&◌, nat_lt}
+use Rattle.link_simulation.proofs.Common.{if◌then◌else◌, list_any, Ordering, IsTotalOrder, map-append, not-true}
+use Rattle.link_simulation.proofs.Common.{without_first, same_peer, Completed, Course, EndsWith, Flight, IsQuiet, World}
+use Rattle.link_simulation.proofs.Common.{and_then, complete, first_waiting, flows, fronts, goes, instant, is_done}
+use Rattle.link_simulation.proofs.Common.{is_idle, is_in_order, last_moment, later_of, least_pair, may_start, meets}
+use Rattle.link_simulation.proofs.Common.{new_world, raised, ready, settle, start, start_next, turn, wake}
+use Rattle.link_simulation.proofs.Common.{out_of_flight, is_late, completed, arrival, flight_of, Call, Runs, act}
+use Rattle.link_simulation.proofs.Common.{call_advance, call_enqueue, call_limit, call_enqueue_all, call_next}
+use Rattle.link_simulation.proofs.Common.{complete_at_once, enqueue, rebalance, limited_by, call_limit_link, linked_by}
+use Rattle.link_simulation.proofs.Common.{Caps, Message, OneForEachPair, same_pair, CapsAlike, PairsAlike, Parts}
+use Rattle.link_simulation.proofs.Common.{ArePositive, Drains, IsSound, Ticks, drain_each, no_tick, one_tick}
+use Rattle.link_simulation.proofs.Common.{tick_faults, FlowIdsUsedUp, MomentTooLate, peer_sym, each_filtered}
+use Rattle.link_simulation.specs.Simulation.Messages.{with_cap}
+use Rattle.link_simulation.specs.Simulation.Messages.{with_link}
 use Rattle.link_simulation.proofs.Simulation.Queue.{peer_like, one_without, one_pair_more, messages}
-use Rattle.fair_rates.proofs.Sides.Subjects.{peer_sym}
 use Rattle.link_simulation.proofs.Simulation.SettlingEnds.{ends_preceded, ends_and_then, ends_cond, each_ends}
 use Rattle.link_simulation.proofs.Simulation.OtherPairs.{each_of, ends_more, Leaves, next_leaves, IsButFor}
-use Rattle.fair_rates.proofs.Lists.Each.{each_filtered}
 use Rattle.link_simulation.proofs.Simulation.PairOrder.{found_in, least_is}
 use Rattle.link_simulation.proofs.Simulation.Pass.{ends_both, settle_keeps}
 use Rattle.link_simulation.proofs.Simulation.Stretch.{flows_drained}

@@ -1,9 +1,8 @@
 -- Ticking for a while and then for another is ticking for both.
-use Rattle.std.proofs.Common.{◌≡◌, ℕ, zero, suc, ◌+◌, List, [], ◌++◌, refl, sym, ap, ◌∙◌, subst, arith, append_assoc}
-use Rattle.std.specs.declared.cmp.Ordering.{Ordering}
-use Rattle.link_simulation.specs.Simulation.World.{Completed, Course, World, goes, meets, preceded}
-use Rattle.link_simulation.specs.Simulation.Time.{Ticks, no_tick, one_tick, tick_faults, Continues}
-use Rattle.fair_rates.specs.declared.error.Error.{Error}
+use Rattle.link_simulation.proofs.Common.{◌≡◌, ℕ, zero, suc, ◌+◌, List, [], ◌++◌, refl, sym, ap, ◌∙◌, subst, arith}
+use Rattle.link_simulation.proofs.Common.{append_assoc, Ordering, Completed, Course, World, goes, meets, preceded}
+use Rattle.link_simulation.proofs.Common.{Ticks, no_tick, one_tick, tick_faults, Error}
+use Rattle.link_simulation.specs.Simulation.Time.{Continues}
 use Rattle.link_simulation.proofs.Simulation.Queue.{preceded_none}
 
 module _ {P : Type 0} (cmp : P → P → Ordering) where

@@ -1,12 +1,10 @@
 -- Over a stretch without an event, ticking n nanoseconds is draining once for n nanoseconds.
-use Rattle.std.proofs.Common.{◌≡◌, ℕ, zero, suc, ◌+◌, ◌<◌, ◌≤◌, List, [], ◌∷◌, map, Option, Some, None, refl, sym, ap}
-use Rattle.std.proofs.Common.{subst, arith, add-one, add_assoc}
-use Rattle.std.specs.declared.cmp.Ordering.{Ordering}
-use Rattle.fair_rates.specs.Numbers.Amount.{Amount, reduced}
-use Rattle.fair_rates.specs.Numbers.LowestTerms.{reduced_positive}
-use Rattle.link_simulation.specs.Simulation.World.{Flight, IsQuiet, World, flows}
-use Rattle.link_simulation.specs.Simulation.Rates.{AreFair, Parts, drained_by, rate_of}
-use Rattle.link_simulation.specs.Simulation.Time.{ArePositive, Drains, Passes, drain_each, drifted, no_time, quiet_tick}
+use Rattle.link_simulation.proofs.Common.{◌≡◌, ℕ, zero, suc, ◌+◌, ◌<◌, ◌≤◌, List, [], ◌∷◌, map, Option, Some, None}
+use Rattle.link_simulation.proofs.Common.{refl, sym, ap, subst, arith, add-one, Ordering, Amount, reduced}
+use Rattle.link_simulation.proofs.Common.{reduced_positive, Flight, IsQuiet, World, flows, AreFair, Parts, drained_by}
+use Rattle.link_simulation.proofs.Common.{rate_of, ArePositive, Drains, Passes, drain_each, drifted, no_time}
+use Rattle.link_simulation.proofs.Common.{quiet_tick}
+use Rattle.std.proofs.Common.{add_assoc}
 use Rattle.fair_rates.proofs.Numbers.Draining.{drained_twice}
 
 module _ {P : Type 0} (cmp : P → P → Ordering) where

@@ -1,11 +1,6 @@
-use Rattle.std.proofs.Common.{[], ◌∷◌, Some, None, refl}
-use Rattle.std.specs.Ordering.{nat_cmp}
-use Rattle.std.proofs.lemmas.Cmp.{nat_cmp_total}
-use Rattle.fair_rates.specs.declared.error.Error.TheVariants.{NumberTooLarge}
-use Rattle.fair_rates.specs.Numbers.Amount.{reduced, gcd_within}
-use Rattle.link_simulation.specs.Simulation.Calls.{call_limit, call_limit_link, call_enqueue, call_advance}
-use Rattle.link_simulation.specs.Simulation.Replies.{reply_refused}
-use Rattle.link_simulation.specs.Examples.Rows.{message}
+use Rattle.link_simulation.proofs.Common.{[], ◌∷◌, Some, None, refl, nat_cmp, nat_cmp_total, NumberTooLarge, reduced}
+use Rattle.link_simulation.proofs.Common.{gcd_within, call_limit, call_limit_link, call_enqueue, call_advance}
+use Rattle.link_simulation.proofs.Common.{reply_refused, message}
 use Rattle.link_simulation.proofs.Examples.ComputedReplies.{evenly}
 use Rattle.link_simulation.proofs.Examples.ComputedDifferences.{never_agree}
 use Rattle.link_simulation.proofs.model.differences.a_number_is_never_refused.Goals as goal

@@ -1,11 +1,6 @@
-use Rattle.std.proofs.Common.{◌≡◌, ℕ, [], ◌∷◌, Option, Some, None, refl, arith}
-use Rattle.std.specs.Ordering.{nat_cmp}
-use Rattle.std.proofs.lemmas.Cmp.{nat_cmp_total}
-use Rattle.fair_rates.specs.Numbers.Amount.{reduced, gcd_within}
-use Rattle.link_simulation.specs.Simulation.World.{new_world}
-use Rattle.link_simulation.specs.Simulation.Time.{NextIs}
-use Rattle.link_simulation.specs.Simulation.Calls.{call_advance, call_next}
-use Rattle.link_simulation.specs.Simulation.Replies.{reply_done, reply_next}
+use Rattle.link_simulation.proofs.Common.{◌≡◌, ℕ, [], ◌∷◌, Option, Some, None, refl, arith, nat_cmp, nat_cmp_total}
+use Rattle.link_simulation.proofs.Common.{reduced, gcd_within, new_world, NextIs, call_advance, call_next, reply_done}
+use Rattle.link_simulation.proofs.Common.{reply_next}
 use Rattle.link_simulation.proofs.Examples.ComputedReplies.{evenly, next_so}
 use Rattle.link_simulation.proofs.Examples.ComputedDifferences.{never_agree}
 use Rattle.link_simulation.proofs.Simulation.OneNext.{next_is_one}

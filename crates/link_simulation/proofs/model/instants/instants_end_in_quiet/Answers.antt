@@ -1,6 +1,4 @@
-use Rattle.std.proofs.Common.{◌≡◌, false}
-use Rattle.std.specs.List.{list_any}
-use Rattle.link_simulation.specs.Simulation.World.{is_done, settle}
+use Rattle.link_simulation.proofs.Common.{◌≡◌, false, list_any, is_done, settle}
 use Rattle.link_simulation.proofs.Simulation.QuietInstants.{instant_ends_quiet, instant_of_quiet, quiet_if_unchanged}
 use Rattle.link_simulation.proofs.Simulation.Pass.{wake_ends_quiet}
 use Rattle.link_simulation.proofs.Simulation.SettlingEnds.{NoneDone, settle_rests}

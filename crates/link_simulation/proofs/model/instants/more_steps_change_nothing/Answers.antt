@@ -1,4 +1,4 @@
-use Rattle.std.proofs.Common.{◌+◌, length, sym, ◌∙◌, arith}
+use Rattle.link_simulation.proofs.Common.{◌+◌, length, sym, ◌∙◌, arith}
 use Rattle.link_simulation.proofs.Simulation.StepsEnough.{settle_enough}
 use Rattle.link_simulation.proofs.Simulation.Pass.{wake_more_is_pass, wake_is_one_pass}
 use Rattle.link_simulation.proofs.model.instants.more_steps_change_nothing.Goals as goal

@@ -1,14 +1,6 @@
-use Rattle.std.proofs.Common.{◌≡◌, ℕ, refl, subst}
-use Rattle.std.specs.Ordering.{nat_cmp}
-use Rattle.std.proofs.lemmas.Cmp.{nat_cmp_total}
-use Rattle.fair_rates.specs.declared.error.Error.{Error}
-use Rattle.fair_rates.specs.declared.error.Error.TheVariants.{OutOfMemory, MomentTooLate, FlowIdsUsedUp}
-use Rattle.link_simulation.specs.Simulation.World.{meets, new_world}
-use Rattle.link_simulation.specs.Simulation.Calls.{Call, call_enqueue, Runs}
-use Rattle.link_simulation.specs.Rule.Planned.{new_planned}
-use Rattle.link_simulation.specs.Simulation.Replies.{Faults}
-use Rattle.link_simulation.specs.Examples.Rows.{message}
-use Rattle.link_simulation.specs.Rule.Simulated.{IsCalled}
+use Rattle.link_simulation.proofs.Common.{◌≡◌, ℕ, refl, subst, nat_cmp, nat_cmp_total, Error, OutOfMemory}
+use Rattle.link_simulation.proofs.Common.{MomentTooLate, FlowIdsUsedUp, meets, new_world, Call, call_enqueue, Runs}
+use Rattle.link_simulation.proofs.Common.{new_planned, Faults, message, IsCalled}
 use Rattle.link_simulation.proofs.Examples.ComputedReplies.{course_of, evenly, runs_so}
 use Rattle.link_simulation.proofs.Examples.ComputedDifferences.{in_turn}
 use Rattle.link_simulation.proofs.Rule.Limit.{new_stands}

@@ -1,9 +1,6 @@
-use Rattle.std.proofs.Common.{◌≡◌, ℕ, [], ◌∷◌, Some, None, refl, subst}
-use Rattle.std.specs.List.{AllZip}
-use Rattle.fair_rates.specs.Numbers.Amount.{whole}
-use Rattle.link_simulation.specs.Rule.Planned.{RatedFlight}
-use Rattle.link_simulation.specs.Simulation.Rates.{Parts, rate_of}
-use Rattle.link_simulation.specs.Examples.Rows.{message, rated_flight}
+use Rattle.link_simulation.proofs.Common.{◌≡◌, ℕ, [], ◌∷◌, Some, None, refl, subst, AllZip, whole, RatedFlight, Parts}
+use Rattle.link_simulation.proofs.Common.{rate_of, message}
+use Rattle.link_simulation.specs.Examples.Rows.{rated_flight}
 use Rattle.link_simulation.proofs.model.meanings.a_world_out_of_order_is_told.Goals as goal
 
 pub returns-clause-rate : goal.returns-clause-rate

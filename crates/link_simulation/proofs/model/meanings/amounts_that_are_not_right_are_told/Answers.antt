@@ -1,5 +1,4 @@
-use Rattle.std.proofs.Common.{◌≡◌, refl, arith, ap}
-use Rattle.fair_rates.specs.Numbers.Amount.{Amount, reduced, gcd_within}
+use Rattle.link_simulation.proofs.Common.{◌≡◌, refl, arith, ap, Amount, reduced, gcd_within}
 use Rattle.link_simulation.proofs.model.meanings.amounts_that_are_not_right_are_told.Goals as goal
 
 pub returns-clause-half : goal.returns-clause-half

@@ -1,14 +1,7 @@
-use Rattle.std.proofs.Common.{◌≡◌, ℕ, List, [], ◌∷◌, ◌++◌, true, Some, refl, ap, sym, ◌∙◌, subst}
-use Rattle.std.specs.List.{AllZip}
-use Rattle.std.specs.Ordering.{nat_cmp}
-use Rattle.std.proofs.lemmas.Cmp.{nat_cmp_total}
-use Rattle.link_simulation.specs.Simulation.Messages.{Message}
-use Rattle.link_simulation.specs.Simulation.World.{World, Completed, goes, new_world}
-use Rattle.link_simulation.specs.Simulation.Calls.{Call, call_enqueue, moment_of, Runs}
-use Rattle.link_simulation.specs.Laws.Isolation.{Answers, no_calls, call_answers}
-use Rattle.link_simulation.specs.Simulation.Replies.{SameCompletion, reply_done}
-use Rattle.link_simulation.specs.Examples.Rows.{message, arrives, bytes}
-use Rattle.link_simulation.specs.Laws.Replies.{AreInTurn, Completes}
+use Rattle.link_simulation.proofs.Common.{◌≡◌, ℕ, List, [], ◌∷◌, ◌++◌, true, Some, refl, ap, sym, ◌∙◌, subst, AllZip}
+use Rattle.link_simulation.proofs.Common.{nat_cmp, nat_cmp_total, Message, World, Completed, goes, new_world, Call}
+use Rattle.link_simulation.proofs.Common.{call_enqueue, moment_of, Runs, Answers, no_calls, call_answers}
+use Rattle.link_simulation.proofs.Common.{SameCompletion, reply_done, message, arrives, bytes, AreInTurn, Completes}
 use Rattle.link_simulation.proofs.Examples.ComputedReplies.{evenly, runs_so}
 use Rattle.link_simulation.proofs.Examples.ComputedDifferences.{in_turn}
 use Rattle.link_simulation.proofs.Simulation.OneRun.{runs_are_one}

@@ -1,11 +1,7 @@
-use Rattle.std.proofs.Common.{◌≡◌, ℕ, zero, suc, Bool, true, false, cond, Some, None, refl, arith, ap, sym}
-use Rattle.std.proofs.Common.{subst, ◌∙◌}
-use Rattle.std.specs.Prelude.{slice_get}
-use Rattle.std.specs.Ordering.{nat_cmp}
-use Rattle.fair_rates.specs.Numbers.Amount.{whole, reduced, gcd_within}
-use Rattle.link_simulation.specs.Simulation.Messages.{Message, same_pair}
-use Rattle.link_simulation.specs.Rule.Planned.{RatedFlight, IsSpentAt, next_of, may_launch}
-use Rattle.link_simulation.specs.Examples.Rows.{message, rated_flight, five_messages, two_of_a_pair}
+use Rattle.link_simulation.proofs.Common.{◌≡◌, ℕ, zero, suc, Bool, true, false, cond, Some, None, refl, arith, ap, sym}
+use Rattle.link_simulation.proofs.Common.{subst, ◌∙◌, slice_get, nat_cmp, whole, reduced, gcd_within, Message}
+use Rattle.link_simulation.proofs.Common.{same_pair, RatedFlight, IsSpentAt, next_of, may_launch, message}
+use Rattle.link_simulation.specs.Examples.Rows.{rated_flight, five_messages, two_of_a_pair}
 use Rattle.link_simulation.proofs.model.meanings.what_comes_next_is_told.Goals as goal
 
 -- the four bytes, which drain since moment 1

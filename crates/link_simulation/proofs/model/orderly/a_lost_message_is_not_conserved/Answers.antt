@@ -1,14 +1,6 @@
-use Rattle.std.proofs.Common.{◌≡◌, ℕ, List, [], ◌∷◌, ◌++◌, Bool, true, false, cond, refl, ap, subst}
-use Rattle.std.specs.Prelude.{◌&&◌}
-use Rattle.std.specs.List.{AllZip}
-use Rattle.std.specs.Ordering.{nat_cmp}
-use Rattle.fair_rates.specs.Sides.Subjects.{same_peer}
-use Rattle.link_simulation.specs.Simulation.Messages.{Message, SameMessage, same_pair}
-use Rattle.link_simulation.specs.Simulation.World.{Completed}
-use Rattle.link_simulation.specs.Laws.PairCompletions.{IsCompletionOf}
-use Rattle.link_simulation.specs.Rule.Planned.{new_planned}
-use Rattle.link_simulation.specs.Examples.Rows.{message, arrives}
-use Rattle.link_simulation.specs.Laws.Conserved.{of_pair, held_of}
+use Rattle.link_simulation.proofs.Common.{◌≡◌, ℕ, List, [], ◌∷◌, ◌++◌, Bool, true, false, cond, refl, ap, subst, ◌&&◌}
+use Rattle.link_simulation.proofs.Common.{AllZip, nat_cmp, same_peer, Message, SameMessage, same_pair, Completed}
+use Rattle.link_simulation.proofs.Common.{IsCompletionOf, new_planned, message, arrives, of_pair, held_of}
 use Rattle.link_simulation.proofs.model.orderly.a_lost_message_is_not_conserved.Goals as goal
 
 abbrev m : Message ℕ

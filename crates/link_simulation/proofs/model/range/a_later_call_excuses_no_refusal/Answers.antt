@@ -1,11 +1,6 @@
-use Rattle.std.proofs.Common.{◌≡◌, ℕ, ◌<◌, ◌^◌, [], ◌∷◌, arith}
-use Rattle.std.specs.Prelude.{IfSome}
-use Rattle.std.proofs.lemmas.List.Elements.{All-nil}
-use Rattle.fair_rates.specs.declared.error.Error.TheVariants.{OutOfMemory, MomentTooLate}
-use Rattle.link_simulation.specs.Simulation.Messages.{Message}
-use Rattle.link_simulation.specs.Simulation.Calls.{Call, call_advance, moment_of}
+use Rattle.link_simulation.proofs.Common.{◌≡◌, ℕ, ◌<◌, ◌^◌, [], ◌∷◌, arith, IfSome, All-nil, OutOfMemory, MomentTooLate}
+use Rattle.link_simulation.proofs.Common.{Message, Call, call_advance, moment_of, all_of_each}
 use Rattle.link_simulation.specs.Rule.Range.{AreInRange}
-use Rattle.fair_rates.proofs.Lists.Each.{all_of_each}
 use Rattle.link_simulation.proofs.model.range.a_later_call_excuses_no_refusal.Goals as goal
 
 -- one advance is in the range, and so are two

@@ -1,15 +1,11 @@
-use Rattle.std.proofs.Common.{◌≡◌, ℕ, zero, suc, ◌<◌, ◌^◌, List, [], ◌∷◌, None, All, replicate, refl, sym, ap, ◌∙◌}
-use Rattle.std.proofs.Common.{subst, arith}
-use Rattle.std.specs.Prelude.{IfSome, length}
+use Rattle.link_simulation.proofs.Common.{◌≡◌, ℕ, zero, suc, ◌<◌, ◌^◌, List, [], ◌∷◌, None, All, refl, sym, ap, ◌∙◌}
+use Rattle.link_simulation.proofs.Common.{subst, arith, IfSome, All-nil, Message, Call, call_limit, call_limit_link}
+use Rattle.link_simulation.proofs.Common.{call_enqueue, call_advance, call_next, moment_of, enqueued, RatedFlight}
+use Rattle.link_simulation.proofs.Common.{message, all_of_each}
+use Rattle.std.proofs.Common.{replicate}
+use Rattle.std.specs.Prelude.{length}
 use Rattle.std.proofs.lemmas.List.{length-replicate}
-use Rattle.std.proofs.lemmas.List.Elements.{All-nil, All-replicate}
-use Rattle.link_simulation.specs.Simulation.Messages.{Message}
-use Rattle.link_simulation.specs.Simulation.Calls.{Call, call_limit, call_limit_link, call_enqueue, call_advance}
-use Rattle.link_simulation.specs.Simulation.Calls.{call_next, moment_of}
-use Rattle.link_simulation.specs.Laws.PairCompletions.{enqueued}
-use Rattle.link_simulation.specs.Rule.Planned.{RatedFlight}
-use Rattle.link_simulation.specs.Examples.Rows.{message}
-use Rattle.fair_rates.proofs.Lists.Each.{all_of_each}
+use Rattle.std.proofs.lemmas.List.Elements.{All-replicate}
 use Rattle.link_simulation.proofs.model.range.the_range_reaches_so_far.Goals as goal
 
 abbrev IsSoon : Call ℕ → Type 0

@@ -1,9 +1,5 @@
-use Rattle.std.proofs.Common.{◌≡◌, ℕ, ◌≤◌, List, [], ◌∷◌, ◌++◌, sym, ap, ◌∙◌, arith}
-use Rattle.std.specs.List.{AllZip}
-use Rattle.std.specs.Ordering.{nat_cmp}
-use Rattle.link_simulation.specs.Simulation.Messages.{Message}
-use Rattle.link_simulation.specs.Examples.Rows.{message, arrives, bytes}
-use Rattle.link_simulation.specs.Laws.Replies.{Completes}
+use Rattle.link_simulation.proofs.Common.{◌≡◌, ℕ, ◌≤◌, List, [], ◌∷◌, ◌++◌, sym, ap, ◌∙◌, arith, AllZip, nat_cmp}
+use Rattle.link_simulation.proofs.Common.{Message, message, arrives, bytes, Completes}
 use Rattle.link_simulation.proofs.model.replies.a_pair_out_of_order_is_told.Goals as goal
 
 pub returns-clause-arrivals : goal.returns-clause-arrivals

@@ -1,4 +1,4 @@
-use Rattle.std.proofs.Common.{arith}
+use Rattle.link_simulation.proofs.Common.{arith}
 use Rattle.link_simulation.proofs.model.replies.calls_may_go_by_next.Goals as goal
 
 pub returns-clause-others : goal.returns-clause-others

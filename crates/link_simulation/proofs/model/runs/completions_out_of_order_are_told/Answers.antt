@@ -1,9 +1,5 @@
-use Rattle.std.proofs.Common.{◌≡◌, ℕ, ◌≤◌, List, [], ◌∷◌, ◌++◌, sym, ap, ◌∙◌, arith}
-use Rattle.std.specs.List.{AllZip}
-use Rattle.link_simulation.specs.Simulation.Messages.{Message}
-use Rattle.link_simulation.specs.Laws.PairCompletions.{IsCompletionOf}
-use Rattle.link_simulation.specs.Examples.Rows.{message, arrives, bytes}
-use Rattle.link_simulation.specs.Simulation.World.{Completed}
+use Rattle.link_simulation.proofs.Common.{◌≡◌, ℕ, ◌≤◌, List, [], ◌∷◌, ◌++◌, sym, ap, ◌∙◌, arith, AllZip, Message}
+use Rattle.link_simulation.proofs.Common.{IsCompletionOf, message, arrives, bytes, Completed}
 use Rattle.link_simulation.proofs.model.runs.completions_out_of_order_are_told.Goals as goal
 
 pub returns-clause-arrivals : goal.returns-clause-arrivals

@@ -1,6 +1,5 @@
-use Rattle.std.proofs.Common.{◌<◌, ◌≤◌, IfSome, refl, sym, subst, arith}
-use Rattle.link_simulation.specs.Rule.Planned.{next_event}
-use Rattle.link_simulation.specs.Simulation.World.{new_world}
+use Rattle.link_simulation.proofs.Common.{◌<◌, ◌≤◌, refl, sym, subst, arith, next_event, new_world}
+use Rattle.std.proofs.Common.{IfSome}
 use Rattle.link_simulation.proofs.Laws.TurnByNext.{turn_by_next, called_at_once}
 use Rattle.link_simulation.proofs.model.simulated.calls_before_the_next_event_are_in_turn.Goals as goal
 

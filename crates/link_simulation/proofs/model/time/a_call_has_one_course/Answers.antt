@@ -1,7 +1,4 @@
-use Rattle.std.proofs.Common.{◌≡◌, ℕ, ◌<◌, Option, subst}
-use Rattle.std.specs.Prelude.{IfSome}
-use Rattle.link_simulation.specs.Simulation.World.{IsQuiet}
-use Rattle.link_simulation.specs.Simulation.Time.{NextIs}
+use Rattle.link_simulation.proofs.Common.{◌≡◌, ℕ, ◌<◌, Option, subst, IfSome, IsQuiet, NextIs}
 use Rattle.link_simulation.proofs.Simulation.OtherPairs.{ends_more}
 use Rattle.link_simulation.proofs.Simulation.QuietInstants.{next_is_later, call_ends_quiet, QuietAt}
 use Rattle.link_simulation.proofs.Simulation.Sound.{new_world_sound, call_keeps_sound}

@@ -1,5 +1,4 @@
-use Rattle.std.proofs.Common.{ℕ, subst, sym, add-one, arith}
-use Rattle.link_simulation.specs.Simulation.Time.{Passes, drifted}
+use Rattle.link_simulation.proofs.Common.{ℕ, subst, sym, add-one, arith, Passes, drifted}
 use Rattle.link_simulation.proofs.Simulation.Stretch.{stretch}
 use Rattle.link_simulation.proofs.model.time.a_quiet_stretch_is_one_drain.Goals as goal
 
