@@ -7,6 +7,7 @@ pub use Rattle.std.proofs.Math.Nat.{mul-pos}
 pub use Rattle.std.proofs.lemmas.Bool.{and_parts, cases_lt, eq-eqb, eqb-true, le-leb, leb-true, ltb-true, not-true}
 pub use Rattle.std.proofs.lemmas.Bool.{or_from, or_left, or_parts, or_right}
 pub use Rattle.std.proofs.lemmas.Cmp.{nat_cmp_total}
+pub use Rattle.std.proofs.lemmas.Grind.{common_steps}
 pub use Rattle.std.proofs.lemmas.List.{map-append}
 pub use Rattle.std.proofs.lemmas.List.Elements.{All-contains, All-nil, Contains-append_left, Contains-append_right}
 pub use Rattle.std.proofs.lemmas.List.Elements.{filter-append}

@@ -1,12 +1,13 @@
 -- Replies that do not agree with the simulation, found by computing: for worked examples.
-use Rattle.link_simulation.proofs.Common.{◌≡◌, ℕ, ◌-◌, ◌<◌, ◌≤◌, List, [], ◌∷◌, Bool, true, false, not, Option, Some}
-use Rattle.link_simulation.proofs.Common.{None, refl, sym, ◌∙◌, subst, ◌&&◌, ◌||◌, ◌==◌, nat_le, nat_lt, IfSome, AllZip}
-use Rattle.link_simulation.proofs.Common.{Ordering, IsTotalOrder, leb-true, ltb-true, eq-eqb, and_parts, Error}
+use Rattle.link_simulation.proofs.Common.{arith, ◌≡◌, ℕ, ◌-◌, ◌<◌, ◌≤◌, List, [], ◌∷◌, Bool, true, false, not, Option}
+use Rattle.link_simulation.proofs.Common.{Some, None, refl, sym, ◌∙◌, subst, ◌&&◌, ◌||◌, ◌==◌, nat_le, nat_lt, IfSome}
+use Rattle.link_simulation.proofs.Common.{AllZip, Ordering, IsTotalOrder, leb-true, ltb-true, eq-eqb, and_parts, Error}
 use Rattle.link_simulation.proofs.Common.{OutOfMemory, NumberTooLarge, MomentTooLate, FlowIdsUsedUp, same_peer, World}
 use Rattle.link_simulation.proofs.Common.{new_world, Completed, Course, goes, meets, EndsWith, IsSound, Call}
 use Rattle.link_simulation.proofs.Common.{call_limit, call_limit_link, call_enqueue, call_advance, call_enqueue_all}
 use Rattle.link_simulation.proofs.Common.{call_next, moment_of, Runs, IsBeforeNext, Reply, reply_done, reply_next}
 use Rattle.link_simulation.proofs.Common.{reply_refused, SameCompletion, Faults, MayRefuse, Agrees}
+use Rattle.std.proofs.lemmas.Grind.{common_steps}
 use Rattle.link_simulation.proofs.Simulation.OneNext.{next_is_one}
 use Rattle.link_simulation.proofs.Simulation.OneRun.{runs_are_one}
 use Rattle.link_simulation.proofs.Simulation.Sound.{call_keeps_sound, new_world_sound}
@@ -119,18 +120,7 @@ module _ {P : Type 0} (cmp : P → P → Ordering) (order : IsTotalOrder cmp) (p
   each_shown [] (d ∷ ds) all = absurd all
   each_shown (c ∷ cs) [] all = absurd all
   each_shown (c ∷ cs) (d ∷ ds) all =
-      let same : same_bytes c.bytes d.bytes ≡ true =
-      subst (λ (bs : List ℕ). same_bytes c.bytes bs ≡ true) all.0.bytes (bytes_shown c.bytes) in
-      rw (
-        all.0.origin,
-        all.0.recipient,
-        eq-eqb c.channel d.channel all.0.channel,
-        same,
-        eq-eqb c.done_at d.done_at all.0.done_at,
-        moment_shown c.deliver_at
-            d.deliver_at all.0.deliver_at,
-        each_shown cs ds all.1,
-      ) refl
+      grind (arith, common_steps, bytes_shown, eq-eqb, moment_shown, (each_shown cs ds all.1))
 
   either : (a b : Bool) {R : Type 0} → (not a || b) ≡ true → a ≡ true → (b ≡ true → R) → R
   either true true e is next = next refl
@@ -225,11 +215,9 @@ module _ {P : Type 0} (cmp : P → P → Ordering) (order : IsTotalOrder cmp) (p
   not_refused n w call calls now OutOfMemory replies ih sound at e (may, rest) = ih w sound e rest
   not_refused n w call calls now NumberTooLarge replies ih sound at e (may, rest) = may
   not_refused n w call calls now MomentTooLate replies ih sound at e (may, rest) =
-      either_too (is_none_such w call now MomentTooLate) (differ n w calls replies) e
-      (λ none. met w call now MomentTooLate sound at none may refl) (λ d. ih w sound d rest)
+      grind (arith, common_steps, either_too, met)
   not_refused n w call calls now FlowIdsUsedUp replies ih sound at e (may, rest) =
-      either_too (is_none_such w call now FlowIdsUsedUp) (differ n w calls replies) e
-      (λ none. met w call now FlowIdsUsedUp sound at none may refl) (λ d. ih w sound d rest)
+      grind (arith, common_steps, either_too, met)
 
   -- such replies do not agree
   pub disagree : (n : ℕ) (calls : List (Call P)) (replies : List (Reply P)) → Disagrees n calls replies
@@ -256,11 +244,7 @@ module _ {P : Type 0} (cmp : P → P → Ordering) (order : IsTotalOrder cmp) (p
       not_done n w (call_limit now peer egress ingress) calls now cs replies (disagree n calls replies) sound refl two.1
       (agrees (in_turn n w now sound two.0))
   disagree n (call_limit now peer egress ingress ∷ calls) (reply_refused why ∷ replies) w sound e agrees =
-      let two =
-      and_parts (before_next n w now) (differ_at w (call_limit now peer egress ingress) now (reply_refused why)
-      (λ v. differ n v calls replies)) e in
-      not_refused n w (call_limit now peer egress ingress) calls now why replies (disagree n calls replies) sound refl
-      two.1 (agrees (in_turn n w now sound two.0))
+      grind (arith, common_steps, and_parts, before_next, not_refused, in_turn, (disagree n calls replies))
   disagree n (call_limit_link now origin recipient cap ∷ calls) (reply_next t ∷ replies) w sound e agrees = agrees
   disagree n (call_limit_link now origin recipient cap ∷ calls) (reply_done cs ∷ replies) w sound e agrees =
       let two =
@@ -269,11 +253,7 @@ module _ {P : Type 0} (cmp : P → P → Ordering) (order : IsTotalOrder cmp) (p
       not_done n w (call_limit_link now origin recipient cap) calls now cs replies (disagree n calls replies) sound refl
       two.1 (agrees (in_turn n w now sound two.0))
   disagree n (call_limit_link now origin recipient cap ∷ calls) (reply_refused why ∷ replies) w sound e agrees =
-      let two =
-      and_parts (before_next n w now) (differ_at w (call_limit_link now origin recipient cap) now (reply_refused why)
-      (λ v. differ n v calls replies)) e in
-      not_refused n w (call_limit_link now origin recipient cap) calls now why replies (disagree n calls replies) sound
-      refl two.1 (agrees (in_turn n w now sound two.0))
+      grind (arith, common_steps, and_parts, before_next, not_refused, in_turn, (disagree n calls replies))
   disagree n (call_enqueue now m ∷ calls) (reply_next t ∷ replies) w sound e agrees = agrees
   disagree n (call_enqueue_all now ms ∷ calls) (reply_next t ∷ replies) w sound e agrees = agrees
   disagree n (call_enqueue now m ∷ calls) (reply_done cs ∷ replies) w sound e agrees =
@@ -289,17 +269,9 @@ module _ {P : Type 0} (cmp : P → P → Ordering) (order : IsTotalOrder cmp) (p
       not_done n w (call_enqueue_all now ms) calls now cs replies (disagree n calls replies) sound refl two.1
       (agrees (in_turn n w now sound two.0))
   disagree n (call_enqueue now m ∷ calls) (reply_refused why ∷ replies) w sound e agrees =
-      let two =
-      and_parts (before_next n w now) (differ_at w (call_enqueue now m) now (reply_refused why)
-      (λ v. differ n v calls replies)) e in
-      not_refused n w (call_enqueue now m) calls now why replies (disagree n calls replies) sound refl two.1
-      (agrees (in_turn n w now sound two.0))
+      grind (arith, common_steps, and_parts, before_next, not_refused, in_turn, (disagree n calls replies))
   disagree n (call_enqueue_all now ms ∷ calls) (reply_refused why ∷ replies) w sound e agrees =
-      let two =
-      and_parts (before_next n w now) (differ_at w (call_enqueue_all now ms) now (reply_refused why)
-      (λ v. differ n v calls replies)) e in
-      not_refused n w (call_enqueue_all now ms) calls now why replies (disagree n calls replies) sound refl two.1
-      (agrees (in_turn n w now sound two.0))
+      grind (arith, common_steps, and_parts, before_next, not_refused, in_turn, (disagree n calls replies))
   disagree n (call_advance now ∷ calls) (reply_next t ∷ replies) w sound e agrees = agrees
   disagree n (call_advance now ∷ calls) (reply_done cs ∷ replies) w sound e agrees =
       let two =
@@ -308,11 +280,7 @@ module _ {P : Type 0} (cmp : P → P → Ordering) (order : IsTotalOrder cmp) (p
       not_done n w (call_advance now) calls now cs replies (disagree n calls replies) sound refl two.1
       (agrees (leb-true w.moment now two.0))
   disagree n (call_advance now ∷ calls) (reply_refused why ∷ replies) w sound e agrees =
-      let two =
-      and_parts (nat_le w.moment now) (differ_at w (call_advance now) now (reply_refused why)
-      (λ v. differ n v calls replies)) e in
-      not_refused n w (call_advance now) calls now why replies (disagree n calls replies) sound refl two.1
-      (agrees (leb-true w.moment now two.0))
+      grind (arith, common_steps, and_parts, not_refused, leb-true, (disagree n calls replies))
 
   -- from the new world on
   pub never_agree : (n id : ℕ) (calls : List (Call P)) (replies : List (Reply P))

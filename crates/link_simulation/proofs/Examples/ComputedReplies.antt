@@ -1,4 +1,5 @@
 -- Fairness, ticks and replies, found by computing: for worked examples.
+use Rattle.std.proofs.lemmas.Grind.{common_steps}
 use Rattle.link_simulation.proofs.Common.{map, ◌≡◌, ℕ, zero, suc, ◌+◌, ◌-◌, ◌*◌, ◌≤◌, List, [], ◌∷◌, length, Bool, true}
 use Rattle.link_simulation.proofs.Common.{false, cond, not, Option, Some, None, All, Contains, refl, sym, ap, subst}
 use Rattle.link_simulation.proofs.Common.{arith, max, ◌&&◌, ◌||◌, ◌==◌, nat_le, nat_lt, list_any, filter, AllZip}
@@ -81,45 +82,14 @@ module _ (per : ℕ) (parts : ℕ → ℕ) where
       }
 
   pub fair_if_so : (sides : List Side) → is_fair sides ≡ true → IsFair sides per parts
-  fair_if_so sides e =
-      let two : ((nat_lt 0 per && list_all fits sides) ≡ true) × (are_held sides ≡ true) =
-      and_parts (nat_lt 0 per && list_all fits sides) (are_held sides) e in
-      let one : (nat_lt 0 per ≡ true) × (list_all fits sides ≡ true) =
-      and_parts (nat_lt 0 per) (list_all fits sides) two.0 in
-      let held : All (λ (side : Side). All (λ flow. HasBottleneck sides per parts flow) side.users) sides =
-      all_found (λ (side : Side). list_all (λ flow. list_any (holds flow) sides) side.users)
-      (λ (side : Side). All (λ flow. HasBottleneck sides per parts flow) side.users)
-      (λ side h. all_found (λ flow. list_any (holds flow) sides) (λ flow. HasBottleneck sides per parts flow)
-      (λ flow k. bottleneck sides flow k) side.users h)
-      sides two.1 in
-      record {
-        some_part = ltb-true 0 per one.0;
-        within =
-            all_found fits (λ side. load parts side ≤ side.cap * per)
-            (λ side h. leb-true (load parts side) (side.cap * per) h) sides one.1;
-        held = λ flow limited.
-            All-contains (λ u. HasBottleneck sides per parts u) limited.0.users flow
-            (All-contains (λ (side : Side). All (λ u. HasBottleneck sides per parts u) side.users) sides limited.0
-            held limited.1.listed)
-            limited.1.used;
-      }
+  fair_if_so sides e = grind (arith, common_steps, and_parts, all_found, bottleneck, ltb-true, leb-true, All-contains)
 
 -- ---- completions
 
 module _ {P : Type 0} (cmp : P → P → Ordering) (order : IsTotalOrder cmp) where
   pub same_all : (cs : List (Completed P)) → AllZip (SameCompletion cmp) cs cs
   same_all [] = tt
-  same_all (c ∷ cs) = (
-    record {
-      origin = same_itself cmp order c.origin;
-      recipient = same_itself cmp order c.recipient;
-      channel = refl;
-      bytes = refl;
-      done_at = refl;
-      deliver_at = refl;
-    },
-    same_all cs,
-  )
+  same_all (c ∷ cs) = grind (arith, common_steps, same_itself, (same_all cs))
 
 -- ---- time
 
@@ -138,17 +108,7 @@ module _ {P : Type 0} (cmp : P → P → Ordering) (order : IsTotalOrder cmp) (p
   is_planned w = let shares : Shares = plan w in is_fair shares.per shares.parts (capped_sides cmp w.caps (flows w))
 
   drains : (w : World P) → is_planned w ≡ true → Drains cmp w (drifts w)
-  drains w e = record {
-    per = (plan w).per;
-    rates = rates_from cmp w.caps (plan w).parts 0 (flows w);
-    fair =
-        record {
-          parts = (plan w).parts;
-          fair = fair_if_so (plan w).per (plan w).parts (capped_sides cmp w.caps (flows w)) e;
-          rated = refl;
-        };
-    world = refl;
-  }
+  drains w e = grind (arith, common_steps, fair_if_so)
 
   -- so many nanoseconds
   abbrev pub ticked : ℕ → World P → Course (Completed P) (World P)
@@ -202,24 +162,10 @@ module _ {P : Type 0} (cmp : P → P → Ordering) (order : IsTotalOrder cmp) (p
   empty_is (x ∷ xs) e = cc
 
   quiet_if_so : (w : World P) → is_quiet w ≡ true → IsQuiet cmp w.moment w
-  quiet_if_so w e =
-      let two : (not (list_any (is_done cmp w) w.sending) ≡ true) × (is_empty (ready cmp w.moment w) ≡ true)
-      = and_parts (not (list_any (is_done cmp w) w.sending)) (is_empty (ready cmp w.moment w)) e in
-      record {
-        none_done = not-true (list_any (is_done cmp w) w.sending) two.0;
-        none_ready = empty_is (ready cmp w.moment w) two.1;
-      }
+  quiet_if_so w e = grind (arith, common_steps, and_parts, not-true, empty_is)
 
   loud_if_not : (w : World P) → is_quiet w ≡ false → ¬ IsQuiet cmp w.moment w
-  loud_if_not w e quiet =
-      by_tests (list_any (is_done cmp w) w.sending) (ready cmp w.moment w) quiet.none_done quiet.none_ready e
-    where
-      by_tests : (a : Bool) (ms : List (Message P)) → a ≡ false → ms ≡ [] → (not a && is_empty ms) ≡ false → ⊥
-      by_tests a ms f g e =
-          let h : (not false && is_empty {X = Message P} []) ≡ false
-          = subst (λ (b : Bool). (not b && is_empty {X = Message P} []) ≡ false) f
-          (subst (λ (xs : List (Message P)). (not a && is_empty xs) ≡ false) g e) in
-          cc
+  loud_if_not w e quiet = grind (arith, common_steps)
 
   -- an empty world rests for any time
   calm : (n : ℕ) (w : World P) → w.sending ≡ [] → w.waiting ≡ [] → (v : World P) × Passes cmp n w v
@@ -403,21 +349,7 @@ module _ {P : Type 0} (cmp : P → P → Ordering) (order : IsTotalOrder cmp) (p
     reply_agrees : (w : World P) (call : Call P) (now : ℕ) → moment_of call ≡ Some now
         → (may_tick (now - w.moment) w && may_reply (course_of w call now) w (λ v. may_answer n v calls)) ≡ true
         → Replied w call calls (replied (course_of w call now) w (λ v. answers n v calls))
-    reply_agrees w call now at e =
-        let two : (may_tick (now - w.moment) w ≡ true)
-        × (may_reply (course_of w call now) w (λ v. may_answer n v calls) ≡ true)
-        = and_parts (may_tick (now - w.moment) w) (may_reply (course_of w call now) w (λ v. may_answer n v calls)) e in
-        by_course (course_of w call now) refl two.0 two.1
-      where
-        by_course : (c : Course (Completed P) (World P)) → course_of w call now ≡ c → may_tick (now - w.moment) w ≡ true
-            → may_reply c w (λ v. may_answer n v calls) ≡ true
-            → Replied w call calls (replied c w (λ v. answers n v calls))
-        by_course (goes cs v) is ticks e =
-            λ turn. accepts w call calls now cs v (answers n v calls) at ticks is (ih v e)
-        by_course (meets OutOfMemory) is ticks e = cc
-        by_course (meets NumberTooLarge) is ticks e = cc
-        by_course (meets MomentTooLate) is ticks e = λ turn. (faults w call now MomentTooLate at ticks is, ih w e)
-        by_course (meets FlowIdsUsedUp) is ticks e = λ turn. (faults w call now FlowIdsUsedUp at ticks is, ih w e)
+    reply_agrees w call now at e = grind (arith, common_steps, and_parts, answers, accepts, faults)
 
   -- those replies agree
   pub answers_agree : (n : ℕ) (calls : List (Call P)) (w : World P) → may_answer n w calls ≡ true
@@ -441,9 +373,8 @@ module _ {P : Type 0} (cmp : P → P → Ordering) (order : IsTotalOrder cmp) (p
       advance_agrees w now calls (replied (course_of w (call_advance now) now) w (λ v. answers n v calls))
       (reply_agrees n calls (answers_agree n calls) w (call_advance now) now refl e)
   answers_agree n (call_next ∷ calls) w e =
-      let two : (may_seek n w ≡ true) × (may_answer n w calls ≡ true) =
-      and_parts (may_seek n w) (may_answer n w calls) e in
-      (next_so n w two.0, answers_agree n calls w two.1)
+      grind (arith, common_steps, and_parts, next_so, (answers_agree n calls w (and_parts (may_seek n w) (may_answer n
+      w calls) e).1))
 
 -- all messages share one cap evenly
 abbrev pub evenly : {P : Type 0} → ℕ → World P → Shares

@@ -1,4 +1,5 @@
 -- Calls by the event rule, and the replies to them, found by computing: for worked examples.
+use Rattle.std.proofs.lemmas.Grind.{common_steps}
 use Rattle.link_simulation.proofs.Common.{◌≡◌, ◌≢◌, ℕ, zero, suc, ◌+◌, ◌<◌, ◌≤◌, List, [], ◌∷◌, Bool, true, false, cond}
 use Rattle.link_simulation.proofs.Common.{Option, Some, None, refl, sym, ap, subst, arith, ◌∙◌, length, max, ◌&&◌, ◌==◌}
 use Rattle.link_simulation.proofs.Common.{nat_le, nat_lt, if◌then◌else◌, IfSome, filter, AllZip, Ordering, IsTotalOrder}
@@ -16,9 +17,9 @@ use Rattle.link_simulation.proofs.Common.{InTime}
 use Rattle.std.proofs.lemmas.Bool.{ltb-false}
 use Rattle.link_simulation.proofs.Rule.Agreeing.{obeyed_agree}
 use Rattle.link_simulation.proofs.Examples.ComputedReplies.{same_all, Shares}
-use Rattle.link_simulation.proofs.Examples.ComputedSteps.{the_same, bind, bound, followed, is_none_of, look}
-use Rattle.link_simulation.proofs.Examples.ComputedSteps.{look_so, launch, launch_so, finish_all, finish_all_so}
-use Rattle.link_simulation.proofs.Examples.ComputedSteps.{wake_each_so, wake_at, settle_at, settle_at_so}
+use Rattle.link_simulation.proofs.Examples.ComputedSteps.{the_same, bind, bound, followed, is_none_of, look, look_so}
+use Rattle.link_simulation.proofs.Examples.ComputedSteps.{launch, launch_so, finish_all, finish_all_so, wake_each_so}
+use Rattle.link_simulation.proofs.Examples.ComputedSteps.{wake_at, settle_at, settle_at_so}
 
 module _ {P : Type 0} (cmp : P → P → Ordering) (order : IsTotalOrder cmp) (plan : Caps P → List (Message P) → Shares)
     (hint : ℕ → List (Message P) → ℕ) (n : ℕ) where
@@ -384,11 +385,7 @@ module _ {P : Type 0} (cmp : P → P → Ordering) (order : IsTotalOrder cmp) (p
   obeyed_so p (call_advance now ∷ calls) replies e =
       advance_obeyed p now calls replies
       (replied_so p (call_advance now) calls replies (λ q others h. obeyed_so q calls others h) e)
-  obeyed_so p (call_next ∷ calls) replies e =
-      let found : (others : List (Reply P)) × (replies_by_rule p calls ≡ Some others)
-      × (Some (reply_next (next_event p) ∷ others) ≡ Some replies)
-      = bound (replies_by_rule p calls) (λ others. Some (reply_next (next_event p) ∷ others)) replies e in
-      subst (Obeyed cmp p (call_next ∷ calls)) (the_same found.2) (refl, obeyed_so p calls found.0 found.1)
+  obeyed_so p (call_next ∷ calls) replies e = grind (arith, common_steps, bound, the_same, (obeyed_so p calls))
 
 -- ---- the simulation
 
@@ -400,16 +397,8 @@ are_in_time (call ∷ calls) =
 in_time_so : {P : Type 0} (calls : List (Call P)) → are_in_time calls ≡ true → InTime calls
 in_time_so [] e = tt
 in_time_so (call ∷ calls) e =
-    let two : (elim (moment_of call) [ None ↦ true | Some now ↦ nat_le now last_moment ] ≡ true)
-    × (are_in_time calls ≡ true)
-    = and_parts (elim (moment_of call) [ None ↦ true | Some now ↦ nat_le now last_moment ]) (are_in_time calls) e in
-    (by_moment (moment_of call) two.0, in_time_so calls two.1)
-  where
-    by_moment : (o : Option ℕ) → elim o [ None ↦ true | Some now ↦ nat_le now last_moment ] ≡ true → (now : ℕ)
-        → o ≡ Some now → now ≤ last_moment
-    by_moment None e now is = cc
-    by_moment (Some t) e now is =
-        let le : t ≤ last_moment = leb-true t last_moment e in let same : t ≡ now = the_same is in omega arith
+    grind (arith, common_steps, and_parts, leb-true, the_same, (in_time_so calls (and_parts (elim (moment_of call) [
+    None ↦ true | Some now ↦ nat_le now last_moment ]) (are_in_time calls) e).1))
 
 -- what the event rule replies agrees with the simulation
 pub agrees_by_rule : {P : Type 0} (cmp : P → P → Ordering) (order : IsTotalOrder cmp)
@@ -418,8 +407,7 @@ pub agrees_by_rule : {P : Type 0} (cmp : P → P → Ordering) (order : IsTotalO
     → are_in_time calls ≡ true → replies_by_rule cmp order plan hint n (new_planned 0) calls ≡ Some replies
     → Agrees cmp (new_world 0) calls replies
 agrees_by_rule cmp order plan hint n calls replies times e =
-    obeyed_agree cmp order calls replies (in_time_so calls times)
-    (obeyed_so cmp order plan hint n (new_planned 0) calls replies e)
+    grind (arith, common_steps, obeyed_agree, in_time_so, obeyed_so)
 
 -- ---- plans
 

@@ -1,15 +1,16 @@
 -- The steps of the event rule, found by computing: accounts, looks, launches, finishes and wakes.
+use Rattle.std.proofs.lemmas.Grind.{common_steps}
 use Rattle.link_simulation.proofs.Common.{◌-◌, ◌≡◌, ℕ, zero, suc, ◌+◌, ◌<◌, ◌≤◌, List, [], ◌∷◌, ◌++◌, Bool, true, false}
 use Rattle.link_simulation.proofs.Common.{cond, not, Option, Some, None, refl, sym, ap, subst, arith, ◌∙◌, inl, inr}
 use Rattle.link_simulation.proofs.Common.{◌⊎◌, ◌&&◌, ◌||◌, ◌==◌, nat_le, nat_lt, if◌then◌else◌, slice_get, IfSome, find}
 use Rattle.link_simulation.proofs.Common.{list_any, filter, AllZip, Ordering, IsTotalOrder, leb-true, le-leb, ltb-true}
 use Rattle.link_simulation.proofs.Common.{eqb-true, eq-eqb, cases_lt, and_parts, MomentTooLate, FlowIdsUsedUp, Amount}
 use Rattle.link_simulation.proofs.Common.{Message, Caps, same_pair, capped_sides, rates_from, rate_of, is_unlimited}
-use Rattle.link_simulation.proofs.Common.{is_in_order, Completed, Course, goes, meets, last_moment, preceded, fronts}
-use Rattle.link_simulation.proofs.Common.{is_late, completed, Planned, RatedFlight, IsLeastMoment, rated_messages}
-use Rattle.link_simulation.proofs.Common.{left_at, SomeSpentAt, drained_to, next_of, may_launch, SomeReadyAt, is_spent}
-use Rattle.link_simulation.proofs.Common.{Accounts, PlansStart, launched, Launches, nothing_waits, too_early, no_id}
-use Rattle.link_simulation.proofs.Common.{starts, landed, Finishes, all_completed, late, stopped, completes, WakesEach}
+use Rattle.link_simulation.proofs.Common.{Completed, Course, goes, meets, last_moment, preceded, fronts, is_late}
+use Rattle.link_simulation.proofs.Common.{completed, Planned, RatedFlight, IsLeastMoment, rated_messages, left_at}
+use Rattle.link_simulation.proofs.Common.{SomeSpentAt, drained_to, next_of, may_launch, SomeReadyAt, is_spent, Accounts}
+use Rattle.link_simulation.proofs.Common.{PlansStart, launched, Launches, nothing_waits, too_early, no_id, starts}
+use Rattle.link_simulation.proofs.Common.{landed, Finishes, all_completed, late, stopped, completes, WakesEach}
 use Rattle.link_simulation.proofs.Common.{all_started, no_start, no_finish, starts_one, Settles, settling, In, Each}
 use Rattle.std.specs.List.{list_all}
 use Rattle.std.proofs.lemmas.Bool.{ltb-false}
@@ -69,31 +70,8 @@ module _ (Q : ℕ → Type 0) (test : ℕ → Bool) (yes : (t : ℕ) → test t 
     (no : (t : ℕ) → Q t → test t ≡ true) where
   seek_so : (n from : ℕ) (o : Option ℕ) → ((s : ℕ) → Q s → from ≤ s) → seek test n from ≡ Some o → IsLeastMoment Q o
   seek_so zero from o least e = cc
-  seek_so (suc n) from o least e = by_end (nat_lt last_moment from) refl e (seek_so n (from + 1) o)
-    where
-      later : test from ≡ false → (s : ℕ) → Q s → from + 1 ≤ s
-      later is s q = by_order (least s q) (cases_lt from s)
-        where
-          by_order : from ≤ s → from < s ⊎ s ≤ from → from + 1 ≤ s
-          by_order le (inl lt) = omega arith
-          by_order le (inr ge) =
-              let same : s ≡ from = omega arith in let there : test from ≡ true = ap test (sym same) ∙ no s q in cc
-
-      by_test : (b : Bool) → test from ≡ b → from ≤ last_moment
-          → cond b (Some (Some from)) (seek test n (from + 1)) ≡ Some o
-          → (((s : ℕ) → Q s → from + 1 ≤ s) → seek test n (from + 1) ≡ Some o → IsLeastMoment Q o) → IsLeastMoment Q o
-      by_test true is le e ih = subst (IsLeastMoment Q) (the_same e) (le, yes from is, least)
-      by_test false is le e ih = ih (later is) e
-
-      by_end : (b : Bool) → nat_lt last_moment from ≡ b
-          → cond b (Some None) (cond (test from) (Some (Some from)) (seek test n (from + 1))) ≡ Some o
-          → (((s : ℕ) → Q s → from + 1 ≤ s) → seek test n (from + 1) ≡ Some o → IsLeastMoment Q o) → IsLeastMoment Q o
-      by_end true is e ih =
-          subst (IsLeastMoment Q) (the_same e)
-          (λ t le q. let past : last_moment < from = ltb-true last_moment from is in
-          let first : from ≤ t = least t q in
-          omega arith)
-      by_end false is e ih = by_test (test from) refl (ltb-false last_moment from is) e ih
+  seek_so (suc n) from o least e =
+      grind (arith, common_steps, cases_lt, the_same, ltb-true, ltb-false, (seek_so n (from + 1) o))
 
   sought_so : (never : Bool) (n from : ℕ) (o : Option ℕ) → (never ≡ true → (s : ℕ) → Q s → ⊥)
       → ((s : ℕ) → Q s → from ≤ s) → sought never test n from ≡ Some o → IsLeastMoment Q o
@@ -167,11 +145,7 @@ module _ {P : Type 0} (cmp : P → P → Ordering) (order : IsTotalOrder cmp) (p
   so_if_spent : (s : ℕ) (fs : List (RatedFlight P)) (i : ℕ) (f : RatedFlight P) → slice_get fs i ≡ Some f
       → f.updated ≤ s → (left_at s f).num ≡ 0 → list_any (is_spent_at s) fs ≡ true
   so_if_spent s [] i f at le none = cc
-  so_if_spent s (g ∷ gs) zero f at le none =
-      let same : g ≡ f = the_same at in
-      let test : is_spent_at s f ≡ true = rw (le-leb f.updated s le, eq-eqb (left_at s f).num 0 none) refl in
-      let here : is_spent_at s g ≡ true = ap (is_spent_at s) same ∙ test in
-      rw here refl
+  so_if_spent s (g ∷ gs) zero f at le none = grind (arith, common_steps, the_same, le-leb, eq-eqb)
   so_if_spent s (g ∷ gs) (suc i) f at le none =
       ap (λ (b : Bool). is_spent_at s g || b) (so_if_spent s gs i f at le none) ∙ or-true (is_spent_at s g)
 
@@ -340,30 +314,10 @@ module _ {P : Type 0} (cmp : P → P → Ordering) (order : IsTotalOrder cmp) (p
   found_all : (test kind : Message P → Bool) (ws : List (Message P)) (m : Message P) → find test ws ≡ Some m
       → list_all kind ws ≡ true → kind m ≡ true
   found_all test kind [] m e all = cc
-  found_all test kind (w ∷ ws) m e all =
-      let two : (kind w ≡ true) × (list_all kind ws ≡ true) = and_parts (kind w) (list_all kind ws) all in
-      by_test (test w) e two.0 (λ h. found_all test kind ws m h two.1)
-    where
-      by_test : (b : Bool) → cond b (Some w) (find test ws) ≡ Some m → kind w ≡ true
-          → (find test ws ≡ Some m → kind m ≡ true) → kind m ≡ true
-      by_test true e here ih = ap kind (sym (the_same e)) ∙ here
-      by_test false e here ih = ih e
+  found_all test kind (w ∷ ws) m e all = grind (arith, common_steps, and_parts, the_same, (found_all test kind ws m))
 
   never_ready : (p : Planned P) (s : ℕ) → all_busy p ≡ true → SomeReadyAt cmp p s → ⊥
-  never_ready p s e some =
-      let busy : list_any (same_pair cmp some.0) (rated_messages p.sending) ≡ true
-      = found_all (same_pair cmp some.0) (λ m. list_any (same_pair cmp m) (rated_messages p.sending)) p.waiting some.0
-      some.1 e in
-      let may : may_launch cmp s p some.0 ≡ true = some.2 in
-      let parts : (not (list_any (same_pair cmp some.0) (rated_messages p.sending)) ≡ true)
-      × (is_in_order (p.last_arrival some.0.origin some.0.recipient) (s + some.0.latency) ≡ true)
-      = and_parts (not (list_any (same_pair cmp some.0) (rated_messages p.sending)))
-      (is_in_order (p.last_arrival some.0.origin some.0.recipient) (s + some.0.latency)) may in
-      not_both (list_any (same_pair cmp some.0) (rated_messages p.sending)) busy parts.0
-    where
-      not_both : (b : Bool) → b ≡ true → not b ≡ true → ⊥
-      not_both true is e = cc
-      not_both false is e = cc
+  never_ready p s e some = grind (arith, common_steps, found_all, and_parts)
 
   pub look_so : (t : ℕ) (p q : Planned P) → look t p ≡ Some q → PlansStart cmp t p q
   look_so t p q e =

@@ -1,5 +1,6 @@
 -- Advancing to a moment and then on to a later one.
-use Rattle.link_simulation.proofs.Common.{◌≡◌, ℕ, ◌+◌, ◌-◌, ◌≤◌, List, refl, sym, ap, ◌∙◌, subst, arith, append-nil, []}
+use Rattle.std.proofs.lemmas.Grind.{common_steps}
+use Rattle.link_simulation.proofs.Common.{◌≡◌, ℕ, ◌+◌, ◌-◌, ◌≤◌, List, refl, sym, ap, subst, arith, append-nil, []}
 use Rattle.link_simulation.proofs.Common.{Ordering, IsTotalOrder, World, Completed, Course, goes, meets, preceded}
 use Rattle.link_simulation.proofs.Common.{and_then, Ticks, call_advance, Runs}
 use Rattle.link_simulation.proofs.Simulation.Split.{ticks_on}
@@ -13,9 +14,7 @@ module _ {P : Type 0} (cmp : P → P → Ordering) (order : IsTotalOrder cmp) wh
 
   pub ticks_of : (w : World P) (now : ℕ) (c : Course (Completed P) (World P)) → Runs cmp w (call_advance now) now c
       → Ticks cmp (now - w.moment) w c
-  ticks_of w now c runs =
-      subst (λ (d : Course (Completed P) (World P)). Ticks cmp (now - w.moment) w d)
-      (sym (runs.acts ∙ nothing_more runs.ticked)) runs.ticks
+  ticks_of w now c runs = grind (arith, common_steps, nothing_more)
 
   pub advance_splits : (w v : World P) (a b : ℕ) (cs : List (Completed P)) (course : Course (Completed P) (World P))
       → w.moment ≤ a → a ≤ b

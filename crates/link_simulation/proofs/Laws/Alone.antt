@@ -1,14 +1,14 @@
 -- One message alone under caps takes its least time at the least of them.
+use Rattle.std.proofs.lemmas.Grind.{common_steps}
 use Rattle.link_simulation.proofs.Common.{◌≡◌, ℕ, zero, suc, ◌+◌, ◌-◌, ◌*◌, ◌<◌, ◌≤◌, inl, inr, List, [], ◌∷◌, length}
-use Rattle.link_simulation.proofs.Common.{Bool, true, false, not, Option, Some, None, Contains, sum_by, refl, sym, ap}
-use Rattle.link_simulation.proofs.Common.{◌∙◌, subst, arith, add-one, ◌&&◌, ◌||◌, ◌==◌, is_none, nat_le, if◌then◌else◌}
-use Rattle.link_simulation.proofs.Common.{list_any, find, Ordering, IsTotalOrder, eq-eqb, All-contains, Amount, whole}
-use Rattle.link_simulation.proofs.Common.{reduced, drained, Side, load, same_peer, World, Flight, Completed, Course}
+use Rattle.link_simulation.proofs.Common.{Bool, true, false, Option, Some, Contains, sum_by, refl, sym, ap, ◌∙◌, subst}
+use Rattle.link_simulation.proofs.Common.{arith, add-one, ◌||◌, ◌==◌, list_any, Ordering, IsTotalOrder, eq-eqb}
+use Rattle.link_simulation.proofs.Common.{All-contains, Amount, whole, reduced, drained, Side, load, World, Flight}
 use Rattle.link_simulation.proofs.Common.{goes, flight_of, last_moment, is_in_order, is_done, is_late, completed}
-use Rattle.link_simulation.proofs.Common.{completion_of, instant, settle, wake, IsQuiet, and_then, preceded}
-use Rattle.link_simulation.proofs.Common.{out_of_flight, call_advance, Runs, Message, Caps, is_delivered, AreFair}
-use Rattle.link_simulation.proofs.Common.{capped_sides, is_unlimited, Drains, Passes, no_time, quiet_tick, Ticks}
-use Rattle.link_simulation.proofs.Common.{NextIs, comes_next, In, All-from_contains}
+use Rattle.link_simulation.proofs.Common.{completion_of, instant, settle, IsQuiet, preceded, out_of_flight}
+use Rattle.link_simulation.proofs.Common.{call_advance, Runs, Message, Caps, is_delivered, AreFair, capped_sides}
+use Rattle.link_simulation.proofs.Common.{is_unlimited, Drains, Passes, no_time, quiet_tick, Ticks, NextIs, comes_next}
+use Rattle.link_simulation.proofs.Common.{In, All-from_contains}
 use Rattle.std.proofs.Common.{le_refl, ◌↔◌}
 use Rattle.std.proofs.lemmas.Bool.{ne_eqb, lt-leb}
 use Rattle.link_simulation.specs.Laws.Alone.{IsTimeFor, IsLeastCap, MayGoAlone, IsDoneAfter}
@@ -32,37 +32,11 @@ module _ {P : Type 0} (cmp : P → P → Ordering) (order : IsTotalOrder cmp) wh
 
     uses_own : (k : Kind) (cap : ℕ) → cap_at cmp caps k m ≡ Some cap → uses_at cmp caps k m m ≡ true
     uses_own at_egress cap is = same_itself cmp order m.origin
-    uses_own at_ingress cap is = by_test (is_delivered cmp m) refl is
-      where
-        by_test : (b : Bool) → is_delivered cmp m ≡ b → (if b then caps.ingress m.recipient else None) ≡ Some cap
-            → (is_delivered cmp m && same_peer cmp m.recipient m.recipient) ≡ true
-        by_test true e is = rw (e, same_itself cmp order m.recipient) refl
-        by_test false e is = cc
+    uses_own at_ingress cap is = grind (arith, common_steps, same_itself)
     uses_own at_link cap is = pair_itself cmp order m
 
     limited_by : (k : Kind) (cap : ℕ) → cap_at cmp caps k m ≡ Some cap → is_unlimited cmp caps m ≡ false
-    limited_by k cap is =
-        by_caps k (caps.egress m.origin) (is_delivered cmp m) (caps.ingress m.recipient)
-        (caps.link m.origin m.recipient) is refl refl refl refl
-      where
-        by_caps : (k : Kind) (e : Option ℕ) (d : Bool) (i l : Option ℕ) → cap_at cmp caps k m ≡ Some cap
-            → caps.egress m.origin ≡ e → is_delivered cmp m ≡ d → caps.ingress m.recipient ≡ i
-            → caps.link m.origin m.recipient ≡ l
-            → (is_none e && (not d || is_none i) && is_none l) ≡ false
-        by_caps k (Some e) d i l is egress delivered ingress link = refl
-        by_caps k None true (Some i) l is egress delivered ingress link = refl
-        by_caps k None d i (Some l) is egress delivered ingress link = by_test (not d || is_none i)
-          where
-            by_test : (b : Bool) → (b && false) ≡ false
-            by_test true = refl
-            by_test false = refl
-        by_caps at_egress None d i None is egress delivered ingress link = cc
-        by_caps at_ingress None false i None is egress delivered ingress link =
-            let none : (if is_delivered cmp m then caps.ingress m.recipient else None) ≡ None = rw delivered refl in cc
-        by_caps at_ingress None true None None is egress delivered ingress link =
-            let none : (if is_delivered cmp m then caps.ingress m.recipient else None) ≡ None = rw delivered ingress in
-            cc
-        by_caps at_link None d i None is egress delivered ingress link = cc
+    limited_by k cap is = grind (arith, common_steps)
 
     -- it is the one user of each of its sides, and uses some
     own_side : (s : Side) → Contains sides s → (s.users ≡ 0 ∷ []) × (is_unlimited cmp caps m ≡ false)
@@ -184,11 +158,7 @@ module _ {P : Type 0} (cmp : P → P → Ordering) (order : IsTotalOrder cmp) wh
 
     completes : is_late cmp (now + suc k) m ≡ false
         → instant cmp (later (suc k)) ≡ goes (completed cmp (now + suc k) m ∷ []) landed
-    completes in_time =
-        let found : find (is_done cmp (later (suc k))) (later (suc k)).sending ≡ Some (flight (suc k)) = rw gone refl in
-        let settled : settle cmp (now + suc k) (later (suc k)) ≡ goes (completed cmp (now + suc k) m ∷ []) landed
-        = settle_first cmp order 0 (now + suc k) (later (suc k)) (flight (suc k)) found ∙ rw in_time refl in
-        ap (λ (c : Course (Completed P) (World P)). and_then c (λ v. wake cmp v.moment v)) settled
+    completes in_time = grind (arith, common_steps, later, gone, settle_first)
 
     advances : is_late cmp (now + suc k) m ≡ false
         → Runs cmp sent (call_advance (now + suc k)) (now + suc k) (goes (completed cmp (now + suc k) m ∷ []) landed)
@@ -226,9 +196,7 @@ module _ {P : Type 0} (cmp : P → P → Ordering) (order : IsTotalOrder cmp) wh
       → settle cmp now (world caps last (id + 1) (flight_of m ∷ []) now)
       ≡ goes [] (world caps last (id + 1) (flight_of m ∷ []) now)
       → join cmp now (world caps last id [] now) m ≡ goes [] (world caps last (id + 1) (flight_of m ∷ []) now)
-  starts caps last id now m in_order below rests =
-      let free : nat_le last_moment id ≡ false = lt-leb last_moment id below in
-      rw (pair_itself cmp order m, in_order, free, pair_itself cmp order m) (ap (preceded []) rests)
+  starts caps last id now m in_order below rests = grind (arith, common_steps, lt-leb, pair_itself)
 
   from_idle : (caps : Caps P) (last : P → P → Option ℕ) (id t : ℕ) (m : Message P) (now cap k : ℕ)
       → is_in_order (last m.origin m.recipient) (now + m.latency) ≡ true → id < last_moment

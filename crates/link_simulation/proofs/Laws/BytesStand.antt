@@ -1,11 +1,12 @@
 -- The bytes of an origin are the same in all worlds of one moment that a planned world stands for, so an advance keeps
 -- to its cap.
-use Rattle.link_simulation.proofs.Common.{◌≡◌, ℕ, zero, suc, ◌+◌, ◌-◌, ◌*◌, ◌≤◌, List, [], ◌∷◌, length, Bool, true}
-use Rattle.link_simulation.proofs.Common.{false, cond, not, Some, refl, sym, ap, ◌∙◌, subst, arith, if◌then◌else◌}
-use Rattle.link_simulation.proofs.Common.{filter, AllZip, Ordering, IsTotalOrder, Amount, whole, plus, IsAtMost}
-use Rattle.link_simulation.proofs.Common.{same_peer, Message, SameMessage, same_pair, World, Flight, Completed}
-use Rattle.link_simulation.proofs.Common.{last_moment, IsSound, call_advance, Planned, RatedFlight, StandsFor}
-use Rattle.link_simulation.proofs.Common.{IsSameFlight, GoesByRule, IsRun, zip-filter, filter_swap}
+use Rattle.std.proofs.lemmas.Grind.{common_steps}
+use Rattle.link_simulation.proofs.Common.{◌≡◌, ℕ, zero, suc, ◌+◌, ◌-◌, ◌*◌, ◌≤◌, List, [], ◌∷◌, length, Bool, not, Some}
+use Rattle.link_simulation.proofs.Common.{refl, sym, ap, ◌∙◌, subst, arith, filter, AllZip, Ordering, IsTotalOrder}
+use Rattle.link_simulation.proofs.Common.{Amount, whole, plus, IsAtMost, same_peer, Message, SameMessage, same_pair}
+use Rattle.link_simulation.proofs.Common.{World, Flight, Completed, last_moment, IsSound, call_advance, Planned}
+use Rattle.link_simulation.proofs.Common.{RatedFlight, StandsFor, IsSameFlight, GoesByRule, IsRun, zip-filter}
+use Rattle.link_simulation.proofs.Common.{filter_swap}
 use Rattle.link_simulation.specs.Laws.Bytes.{bytes_from, left_from, waiting_from, allowance}
 use Rattle.link_simulation.specs.Rule.Simulated.{KeepsToCaps}
 use Rattle.link_simulation.proofs.Simulation.AlikeMessages.{same_itself, pair_itself, peers_alike, pairs_alike}
@@ -18,9 +19,7 @@ module _ {P : Type 0} (cmp : P → P → Ordering) (order : IsTotalOrder cmp) wh
   module _ (origin : P) where
     origins_alike : (m n k : Message P) → SameMessage cmp m n → SameMessage cmp m k
         → same_peer cmp origin n.origin ≡ same_peer cmp origin k.origin
-    origins_alike m n k e f =
-        sym (peers_alike cmp order origin origin m.origin n.origin (same_itself cmp order origin) e.origin)
-        ∙ peers_alike cmp order origin origin m.origin k.origin (same_itself cmp order origin) f.origin
+    origins_alike m n k e f = grind (arith, common_steps, peers_alike, same_itself)
 
     -- ---- what is in flight
 
@@ -33,14 +32,7 @@ module _ {P : Type 0} (cmp : P → P → Ordering) (order : IsTotalOrder cmp) wh
     left_alike t (f ∷ fs) [] hs a b = absurd a
     left_alike t (f ∷ fs) (g ∷ gs) [] a b = absurd b
     left_alike t (f ∷ fs) (g ∷ gs) (h ∷ hs) a b =
-        by_tests (same_peer cmp origin g.message.origin) (same_peer cmp origin h.message.origin)
-        (origins_alike f.message g.message h.message a.0.message b.0.message) (a.0.left ∙ sym b.0.left)
-        (left_alike t fs gs hs a.1 b.1)
-      where
-        by_tests : (c d : Bool) → c ≡ d → g.left ≡ h.left → left_from cmp origin gs ≡ left_from cmp origin hs
-            → (if c then plus g.left (left_from cmp origin gs) else left_from cmp origin gs)
-            ≡ (if d then plus h.left (left_from cmp origin hs) else left_from cmp origin hs)
-        by_tests c d e f i = rw (e, f, i) refl
+        grind (arith, common_steps, origins_alike, (left_alike t fs gs hs a.1 b.1))
 
     -- ---- what waits
 
@@ -49,36 +41,13 @@ module _ {P : Type 0} (cmp : P → P → Ordering) (order : IsTotalOrder cmp) wh
     waiting_zip [] [] all = refl
     waiting_zip [] (n ∷ ns) all = absurd all
     waiting_zip (m ∷ ms) [] all = absurd all
-    waiting_zip (m ∷ ms) (n ∷ ns) all =
-        by_tests (same_peer cmp origin m.origin) (same_peer cmp origin n.origin)
-        (peers_alike cmp order origin origin m.origin n.origin (same_itself cmp order origin) all.0.origin)
-        (ap length all.0.bytes)
-        (waiting_zip ms ns all.1)
-      where
-        by_tests : (c d : Bool) → c ≡ d → length m.bytes ≡ length n.bytes
-            → waiting_from cmp origin ms ≡ waiting_from cmp origin ns
-            → (if c then length m.bytes else 0) + waiting_from cmp origin ms
-            ≡ (if d then length n.bytes else 0) + waiting_from cmp origin ns
-        by_tests c d e f i = rw (e, f, i) refl
+    waiting_zip (m ∷ ms) (n ∷ ns) all = grind (arith, common_steps, peers_alike, same_itself, (waiting_zip ms ns all.1))
 
     waiting_parted : (test : Message P → Bool) (ms : List (Message P))
         → waiting_from cmp origin ms
         ≡ waiting_from cmp origin (filter test ms) + waiting_from cmp origin (filter (λ m. not (test m)) ms)
     waiting_parted test [] = refl
-    waiting_parted test (m ∷ ms) = by_test (test m) (waiting_parted test ms)
-      where
-        own : ℕ
-        own = if same_peer cmp origin m.origin then length m.bytes else 0
-
-        by_test : (b : Bool)
-            → waiting_from cmp origin ms
-            ≡ waiting_from cmp origin (filter test ms) + waiting_from cmp origin (filter (λ n. not (test n)) ms)
-            → own + waiting_from cmp origin ms
-            ≡ waiting_from cmp origin (cond b (m ∷ filter test ms) (filter test ms))
-            + waiting_from cmp origin
-            (cond (not b) (m ∷ filter (λ n. not (test n)) ms) (filter (λ n. not (test n)) ms))
-        by_test true i = omega (arith, i)
-        by_test false i = omega (arith, i)
+    waiting_parted test (m ∷ ms) = grind (arith, common_steps, (waiting_parted test ms))
 
     abbrev AlikeByPair : List (Message P) → List (Message P) → Type 0
     AlikeByPair ms ns =
@@ -87,17 +56,7 @@ module _ {P : Type 0} (cmp : P → P → Ordering) (order : IsTotalOrder cmp) wh
     -- without one pair they are still alike
     others_alike : (m : Message P) (ms ns : List (Message P)) → AlikeByPair ms ns
         → AlikeByPair (filter (λ n. not (same_pair cmp m n)) ms) (filter (λ n. not (same_pair cmp m n)) ns)
-    others_alike m ms ns alike k =
-        let keep : Message P → Bool = λ n. not (same_pair cmp m n) in
-        let both : AllZip (SameMessage cmp) (filter keep (filter (same_pair cmp k) ms))
-        (filter keep (filter (same_pair cmp k) ns))
-        = zip-filter (SameMessage cmp) keep keep (λ x y e. ap not
-        (pairs_alike cmp order m m x y (message_itself cmp order m) e)) (filter (same_pair cmp k) ms)
-        (filter (same_pair cmp k) ns) (alike k) in
-        subst (λ (xs : List (Message P)). AllZip (SameMessage cmp) xs (filter (same_pair cmp k) (filter keep ns)))
-        (filter_swap keep (same_pair cmp k) ms)
-        (subst (λ (ys : List (Message P)). AllZip (SameMessage cmp) (filter keep (filter (same_pair cmp k) ms)) ys)
-        (filter_swap keep (same_pair cmp k) ns) both)
+    others_alike m ms ns alike k = grind (arith, common_steps, zip-filter, pairs_alike, message_itself, filter_swap)
 
     waiting_alike : (n : ℕ) (ms ns : List (Message P)) → length ms ≤ n → AlikeByPair ms ns
         → waiting_from cmp origin ms ≡ waiting_from cmp origin ns

@@ -1,21 +1,22 @@
 -- Each call completes, sends or keeps waiting what there was of a pair and what it enqueues: none is lost or doubled,
 -- and their order stays.
-use Rattle.link_simulation.proofs.Common.{◌≡◌, ℕ, ◌+◌, List, [], ◌∷◌, ◌++◌, Bool, true, false, cond, not, Option, Some}
-use Rattle.link_simulation.proofs.Common.{None, refl, sym, ap, ◌∙◌, subst, append_assoc, append-nil, ⊤, ◌&&◌, nat_lt}
-use Rattle.link_simulation.proofs.Common.{if◌then◌else◌, find, filter, AllZip, Ordering, IsTotalOrder, map-append}
-use Rattle.link_simulation.proofs.Common.{filter-append, without_first, MomentTooLate, Message, Caps, OneForEachPair}
-use Rattle.link_simulation.proofs.Common.{same_pair, is_delivered, Completed, Course, goes, meets, last_moment}
-use Rattle.link_simulation.proofs.Common.{preceded, raised, later_of, completion_of, completed, arrival, Call}
-use Rattle.link_simulation.proofs.Common.{call_limit, call_limit_link, call_enqueue, call_advance, call_enqueue_all}
-use Rattle.link_simulation.proofs.Common.{call_next, enqueued, IsCompletionOf, Planned, RatedFlight, rated_messages}
-use Rattle.link_simulation.proofs.Common.{drained_to, next_of, may_launch, is_spent, Accounts, PlansStart, Launches}
-use Rattle.link_simulation.proofs.Common.{nothing_waits, too_early, no_id, starts, Finishes, all_completed, late}
-use Rattle.link_simulation.proofs.Common.{stopped, completes, WakesEach, all_started, no_start, no_finish, starts_one}
-use Rattle.link_simulation.proofs.Common.{Settles, settling, Rebalances, none_sending, some_sending, Enqueues, at_once}
-use Rattle.link_simulation.proofs.Common.{no_launch, launches, Advances, no_more, at_finish, at_start, finish_stops}
-use Rattle.link_simulation.proofs.Common.{start_stops, launched, landed, with_queued, completed_at_once, Obeys}
-use Rattle.link_simulation.proofs.Common.{EnqueuesEach, all_enqueued, one_stops, enqueues_one, IsOrderly, of_pair}
-use Rattle.link_simulation.proofs.Common.{held_of, zip-append}
+use Rattle.link_simulation.proofs.Common.{arith, ◌≡◌, ℕ, ◌+◌, List, [], ◌∷◌, ◌++◌, Bool, true, false, cond, not, Option}
+use Rattle.link_simulation.proofs.Common.{Some, None, refl, sym, ap, ◌∙◌, subst, append_assoc, append-nil, ⊤, ◌&&◌}
+use Rattle.link_simulation.proofs.Common.{nat_lt, if◌then◌else◌, find, filter, AllZip, Ordering, IsTotalOrder}
+use Rattle.link_simulation.proofs.Common.{map-append, filter-append, without_first, MomentTooLate, Message, Caps}
+use Rattle.link_simulation.proofs.Common.{OneForEachPair, same_pair, is_delivered, Completed, Course, goes, meets}
+use Rattle.link_simulation.proofs.Common.{last_moment, preceded, raised, later_of, completion_of, completed, arrival}
+use Rattle.link_simulation.proofs.Common.{Call, call_limit, call_limit_link, call_enqueue, call_advance}
+use Rattle.link_simulation.proofs.Common.{call_enqueue_all, call_next, enqueued, IsCompletionOf, Planned, RatedFlight}
+use Rattle.link_simulation.proofs.Common.{rated_messages, drained_to, next_of, may_launch, is_spent, Accounts}
+use Rattle.link_simulation.proofs.Common.{PlansStart, Launches, nothing_waits, too_early, no_id, starts, Finishes}
+use Rattle.link_simulation.proofs.Common.{all_completed, late, stopped, completes, WakesEach, all_started, no_start}
+use Rattle.link_simulation.proofs.Common.{no_finish, starts_one, Settles, settling, Rebalances, none_sending}
+use Rattle.link_simulation.proofs.Common.{some_sending, Enqueues, at_once, no_launch, launches, Advances, no_more}
+use Rattle.link_simulation.proofs.Common.{at_finish, at_start, finish_stops, start_stops, launched, landed, with_queued}
+use Rattle.link_simulation.proofs.Common.{completed_at_once, Obeys, EnqueuesEach, all_enqueued, one_stops, enqueues_one}
+use Rattle.link_simulation.proofs.Common.{IsOrderly, of_pair, held_of, zip-append}
+use Rattle.std.proofs.lemmas.Grind.{common_steps}
 use Rattle.link_simulation.proofs.Simulation.Queue.{find_passes, any_like}
 use Rattle.link_simulation.proofs.Simulation.SettlingEnds.{find_like}
 use Rattle.link_simulation.proofs.Rule.Launch.{rest_of, head_of, head_found, waits_without}
@@ -47,39 +48,9 @@ module _ {P : Type 0} (cmp : P → P → Ordering) (order : IsTotalOrder cmp) wh
       ++ of_pair cmp k (rated_messages (filter (λ f. not (test f)) fs))
       ≡ of_pair cmp k (rated_messages fs)
   one_split k test [] one = refl
-  one_split k test (f ∷ fs) one = by_test (test f) (same_pair cmp k f.message) refl (one_split k test fs one.1)
-    where
-      passing : List (Message P)
-      passing = of_pair cmp k (rated_messages (filter test fs))
-
-      others : List (Message P)
-      others = of_pair cmp k (rated_messages (filter (λ g. not (test g)) fs))
-
-      none_passes : same_pair cmp k f.message ≡ true → of_pair cmp k (rated_messages (filter test fs)) ≡ []
-      none_passes own =
-          filter_nothing (same_pair cmp k) (rated_messages (filter test fs))
-          (any_of_fewer (same_pair cmp k) test fs
-          (sym (any_like cmp order k f.message (rated_messages fs) own) ∙ one.0))
-
-      by_pair : (b : Bool) → (b ≡ true → passing ≡ []) → passing ++ others ≡ of_pair cmp k (rated_messages fs)
-          → passing ++ cond b (f.message ∷ others) others
-          ≡ cond b (f.message ∷ of_pair cmp k (rated_messages fs)) (of_pair cmp k (rated_messages fs))
-      by_pair true none ih =
-          ap (λ (ms : List (Message P)). ms ++ f.message ∷ others) (none refl)
-          ∙ ap (λ (ms : List (Message P)). f.message ∷ ms)
-          (sym (ap (λ (ms : List (Message P)). ms ++ others) (none refl)) ∙ ih)
-      by_pair false none ih = ih
-
-      by_test : (a b : Bool) → same_pair cmp k f.message ≡ b → passing ++ others ≡ of_pair cmp k (rated_messages fs)
-          → of_pair cmp k (rated_messages (cond a (f ∷ filter test fs) (filter test fs)))
-          ++ of_pair cmp k
-          (rated_messages (cond (not a) (f ∷ filter (λ g. not (test g)) fs) (filter (λ g. not (test g)) fs)))
-          ≡ of_pair cmp k (rated_messages (f ∷ fs))
-      by_test true b own ih =
-          before_both (same_pair cmp k f.message) f.message passing (of_pair cmp k (rated_messages fs)) others []
-          (ih ∙ sym (append-nil (of_pair cmp k (rated_messages fs))))
-          ∙ append-nil (of_pair cmp k (rated_messages (f ∷ fs)))
-      by_test false b own ih = by_pair (same_pair cmp k f.message) none_passes ih
+  one_split k test (f ∷ fs) one =
+      grind (arith, common_steps, filter_nothing, any_of_fewer, any_like, before_both, append-nil, (one_split k test fs
+      one.1))
 
   account_holds : (t : ℕ) (old new : Planned P) (leavers : List (Message P)) → Accounts cmp t old leavers new
       → OneForEachPair cmp (rated_messages old.sending)
@@ -142,16 +113,8 @@ module _ {P : Type 0} (cmp : P → P → Ordering) (order : IsTotalOrder cmp) wh
       → Launches cmp t p o c
       → (n : Message P) (ms : List (Message P)) (q : Planned P) → next_of cmp p n ≡ o → c ≡ goes ms q → IsOrderly cmp p
       → (k : Message P) → of_pair cmp k ms ++ held_of cmp k q ≡ held_of cmp k p
-  launch_holds {p = p} nothing_waits n ms q is e h k =
-      let none : [] ≡ ms = cc in
-      let same : p ≡ q = cc in
-      sym (ap (λ (z : Planned P). of_pair cmp k ms ++ held_of cmp k z) same)
-      ∙ sym (ap (λ (ns : List (Message P)). of_pair cmp k ns ++ held_of cmp k p) none)
-  launch_holds {p = p} (too_early may) n ms q is e h k =
-      let none : [] ≡ ms = cc in
-      let same : p ≡ q = cc in
-      sym (ap (λ (z : Planned P). of_pair cmp k ms ++ held_of cmp k z) same)
-      ∙ sym (ap (λ (ns : List (Message P)). of_pair cmp k ns ++ held_of cmp k p) none)
+  launch_holds {p = p} nothing_waits n ms q is e h k = grind (arith, common_steps)
+  launch_holds {p = p} (too_early may) n ms q is e h k = grind (arith, common_steps)
   launch_holds (no_id may last) n ms q is e h k = cc
   launch_holds {t = t} {p = p} (starts {m = m} {leavers = leavers} {new = new} may below account) n ms q is e h k =
       let out : leavers ≡ ms = cc in
@@ -183,14 +146,7 @@ module _ {P : Type 0} (cmp : P → P → Ordering) (order : IsTotalOrder cmp) wh
 
   moves_then : (queue : List (Message P)) (p q r : Planned P) (cs ds : List (Completed P)) → Moves queue p cs q
       → Moves [] q ds r → Moves queue p (cs ++ ds) r
-  moves_then queue p q r cs ds a b = record {
-    done = a.done ++ b.done;
-    completions_are = zip-append IsCompletionOf cs ds a.done b.done a.completions_are b.completions_are;
-    each_pair = λ k.
-        ap (λ (ms : List (Message P)). ms ++ held_of cmp k r) (filter-append (same_pair cmp k) a.done b.done)
-        ∙ append_assoc (of_pair cmp k a.done) (of_pair cmp k b.done) (held_of cmp k r)
-        ∙ ap (λ (ms : List (Message P)). of_pair cmp k a.done ++ ms) (b.each_pair k) ∙ a.each_pair k;
-  }
+  moves_then queue p q r cs ds a b = grind (arith, common_steps, zip-append, filter-append, append_assoc)
 
   on_then : (queue : List (Message P)) (p q : Planned P) (cs : List (Completed P))
       (c : Course (Completed P) (Planned P))
@@ -273,9 +229,8 @@ module _ {P : Type 0} (cmp : P → P → Ordering) (order : IsTotalOrder cmp) wh
       on_then [] p q cs rest (no_finish_moves p (goes cs q) (settle_moves event (no_finish_steady cmp order p h)))
       (advance_moves more after)
   advance_moves {p = p} (at_start {q = q} {cs = cs} {rest = rest} is next due event more) h =
-      let after : IsOrderly cmp q = wake_orderly cmp order event (no_start_orderly cmp order p h) in
-      on_then [] p q cs rest (no_start_moves p (goes cs q) (wake_moves event (no_start_orderly cmp order p h)))
-      (advance_moves more after)
+      grind (arith, common_steps, wake_orderly, no_start_orderly, on_then, no_start_moves, wake_moves, (advance_moves
+      more (wake_orderly cmp order event (no_start_orderly cmp order p h))))
   advance_moves (finish_stops is next due event) h = tt
   advance_moves (start_stops is next due event) h = tt
 
@@ -294,12 +249,7 @@ module _ {P : Type 0} (cmp : P → P → Ordering) (order : IsTotalOrder cmp) wh
   KeepsAll p messages (meets fault) = ⊤
 
   none_enqueued : (p : Planned P) (c : Course (Completed P) (Planned P)) → MovesOn [] p c → KeepsAll p [] c
-  none_enqueued p (goes cs q) a =
-      record {
-        done = a.done;
-        completions_are = a.completions_are;
-        each_pair = λ k. a.each_pair k ∙ sym (append-nil (held_of cmp k p));
-      }
+  none_enqueued p (goes cs q) a = grind (arith, common_steps, append-nil)
   none_enqueued p (meets fault) a = tt
 
   rebalance_moves : {now : ℕ} {caps : Caps P} {p : Planned P} {c : Course (Completed P) (Planned P)}
@@ -311,10 +261,7 @@ module _ {P : Type 0} (cmp : P → P → Ordering) (order : IsTotalOrder cmp) wh
 
   queued_holds : (p : Planned P) (m : Message P) → IsOrderly cmp p → (k : Message P)
       → held_of cmp k (with_queued cmp p m) ≡ held_of cmp k p ++ of_pair cmp k (m ∷ [])
-  queued_holds p m h k =
-      ap (λ (ms : List (Message P)). of_pair cmp k (rated_messages p.sending) ++ ms)
-      (queued_last cmp order k m p.waiting h.pair_order)
-      ∙ sym (append_assoc (of_pair cmp k (rated_messages p.sending)) (of_pair cmp k p.waiting) (of_pair cmp k (m ∷ [])))
+  queued_holds p m h k = grind (arith, common_steps, queued_last, append_assoc)
 
   -- before any limit
   at_once_keeps : (now : ℕ) (m : Message P) (p : Planned P) → p.limited ≡ false → IsOrderly cmp p
@@ -347,12 +294,7 @@ module _ {P : Type 0} (cmp : P → P → Ordering) (order : IsTotalOrder cmp) wh
 
   joined_keeps : (p : Planned P) (m : Message P) (c : Course (Completed P) (Planned P)) → IsOrderly cmp p
       → MovesOn [] (with_queued cmp p m) c → KeepsAll p (m ∷ []) c
-  joined_keeps p m (goes cs q) h a =
-      record {
-        done = a.done;
-        completions_are = a.completions_are;
-        each_pair = λ k. a.each_pair k ∙ queued_holds p m h k;
-      }
+  joined_keeps p m (goes cs q) h a = grind (arith, common_steps, queued_holds)
   joined_keeps p m (meets fault) h a = tt
 
   enqueue_keeps : {now : ℕ} {m : Message P} {p : Planned P} {c : Course (Completed P) (Planned P)}
@@ -394,13 +336,9 @@ module _ {P : Type 0} (cmp : P → P → Ordering) (order : IsTotalOrder cmp) wh
   pub call_keeps : (p : Planned P) (call : Call P) (c : Course (Completed P) (Planned P)) → Obeys cmp p call c
       → IsOrderly cmp p → KeepsAll p (enqueued (call ∷ [])) c
   call_keeps p (call_limit now peer egress ingress) c obeys h =
-      none_enqueued p c
-      (rebalance_moves obeys
-      (recapped_steady cmp order p _ (limited_by_alike cmp order p.caps peer egress ingress h.caps) h))
+      grind (arith, common_steps, none_enqueued, rebalance_moves, recapped_steady, limited_by_alike)
   call_keeps p (call_limit_link now origin recipient cap) c obeys h =
-      none_enqueued p c
-      (rebalance_moves obeys
-      (recapped_steady cmp order p _ (linked_by_alike cmp order p.caps origin recipient cap h.caps) h))
+      grind (arith, common_steps, none_enqueued, rebalance_moves, recapped_steady, linked_by_alike)
   call_keeps p (call_enqueue now m) c obeys h = enqueue_keeps obeys h
   call_keeps p (call_enqueue_all now ms) c obeys h =
       subst (λ (ns : List (Message P)). KeepsAll p ns c) (sym (append-nil ms)) (each_keeps obeys h)

@@ -1,12 +1,12 @@
 -- No message is lost or doubled, by a call, peers taken as equal by their order, nor by a list of calls.
-use Rattle.link_simulation.proofs.Common.{◌≡◌, ℕ, List, [], ◌∷◌, ◌++◌, true, Option, refl, sym, ap, ◌∙◌, subst}
-use Rattle.link_simulation.proofs.Common.{append_assoc, append-nil, AllZip, Ordering, IsTotalOrder, filter-append}
-use Rattle.link_simulation.proofs.Common.{Error, same_peer, Message, SameMessage, same_pair, Completed, goes, Call}
-use Rattle.link_simulation.proofs.Common.{call_limit, call_limit_link, call_enqueue, call_advance, call_enqueue_all}
-use Rattle.link_simulation.proofs.Common.{call_next, enqueued, answered, IsCompletionOf, Planned, rated_messages, Obeys}
-use Rattle.link_simulation.proofs.Common.{Obeyed, Reply, reply_done, reply_next, reply_refused, SameCompletion, made}
-use Rattle.link_simulation.proofs.Common.{completions_in, IsSamePlanned, GoesByRule, IsOrderly, of_pair, held_of}
-use Rattle.link_simulation.proofs.Common.{IsConserved, zip_chain, zip-filter, zip-same, zip-append}
+use Rattle.link_simulation.proofs.Common.{arith, ℕ, List, [], ◌∷◌, ◌++◌, Option, refl, sym, subst, append_assoc}
+use Rattle.link_simulation.proofs.Common.{append-nil, AllZip, Ordering, IsTotalOrder, filter-append, Error, Message}
+use Rattle.link_simulation.proofs.Common.{SameMessage, Completed, goes, Call, call_limit, call_limit_link, call_enqueue}
+use Rattle.link_simulation.proofs.Common.{call_advance, call_enqueue_all, call_next, enqueued, answered, IsCompletionOf}
+use Rattle.link_simulation.proofs.Common.{Planned, Obeys, Obeyed, Reply, reply_done, reply_next, reply_refused}
+use Rattle.link_simulation.proofs.Common.{SameCompletion, made, completions_in, IsSamePlanned, GoesByRule, IsOrderly}
+use Rattle.link_simulation.proofs.Common.{of_pair, held_of, IsConserved, zip_chain, zip-filter, zip-same, zip-append}
+use Rattle.std.proofs.lemmas.Grind.{common_steps}
 use Rattle.link_simulation.specs.Laws.Conserved.{AreConserved}
 use Rattle.link_simulation.proofs.Simulation.AlikeMessages.{pairs_alike, message_itself}
 use Rattle.link_simulation.proofs.Laws.Orderly.{obeys_orderly}
@@ -31,19 +31,11 @@ module _ {P : Type 0} (cmp : P → P → Ordering) (order : IsTotalOrder cmp) wh
 
   of_pair_alike : (k : Message P) (ms ns : List (Message P)) → AllZip (SameMessage cmp) ms ns
       → AllZip (SameMessage cmp) (of_pair cmp k ms) (of_pair cmp k ns)
-  of_pair_alike k ms ns all =
-      zip-filter (SameMessage cmp) (same_pair cmp k) (same_pair cmp k)
-      (λ m n same. pairs_alike cmp order k k m n (message_itself cmp order k) same) ms ns all
+  of_pair_alike k ms ns all = grind (arith, common_steps, zip-filter, pairs_alike, message_itself)
 
   held_alike : (k : Message P) (p q : Planned P) → IsSamePlanned cmp p q
       → AllZip (SameMessage cmp) (held_of cmp k q) (held_of cmp k p)
-  held_alike k p q same =
-      zip-append (SameMessage cmp) (of_pair cmp k (rated_messages q.sending)) (of_pair cmp k q.waiting)
-      (of_pair cmp k (rated_messages p.sending)) (of_pair cmp k p.waiting)
-      (of_pair_alike k (rated_messages q.sending) (rated_messages p.sending)
-      (turned (rated_messages p.sending) (rated_messages q.sending)
-      (flows_same cmp order p.sending q.sending same.sending)))
-      (of_pair_alike k q.waiting p.waiting (turned p.waiting q.waiting same.waiting))
+  held_alike k p q same = grind (arith, common_steps, zip-append, of_pair_alike, turned, flows_same)
 
   -- ---- completions that are the same
 
@@ -57,14 +49,7 @@ module _ {P : Type 0} (cmp : P → P → Ordering) (order : IsTotalOrder cmp) wh
   one_of : (c d : Completed P) (m : Message P) → SameCompletion cmp c d → IsCompletionOf d m
       → SameMessage cmp (record m { origin = c.origin; recipient = c.recipient; channel = c.channel; bytes = c.bytes })
       m
-  one_of c d m same is = record {
-    origin = subst (λ (x : Completed P). same_peer cmp c.origin x.origin ≡ true) is.2 same.origin;
-    recipient = subst (λ (x : Completed P). same_peer cmp c.recipient x.recipient ≡ true) is.2 same.recipient;
-    channel = same.channel ∙ ap (λ (x : Completed P). x.channel) is.2;
-    bytes = same.bytes ∙ ap (λ (x : Completed P). x.bytes) is.2;
-    latency = refl;
-    should_deliver = refl;
-  }
+  one_of c d m same is = grind (arith, common_steps)
 
   are_of : (cs ds : List (Completed P)) (done : List (Message P)) → AllZip (SameCompletion cmp) cs ds
       → AllZip IsCompletionOf ds done → AreOf cs done
@@ -89,17 +74,7 @@ module _ {P : Type 0} (cmp : P → P → Ordering) (order : IsTotalOrder cmp) wh
       → ((k : Message P) → AllZip (SameMessage cmp) (held_of cmp k q) (held_of cmp k after))
       → IsConserved cmp p messages cs q
   kept_conserved p after q messages cs ds kept same alike =
-      let are : AreOf cs kept.done = are_of cs ds kept.done same kept.completions_are in
-      record {
-        done = are.messages;
-        completions_are = are.completions_are;
-        each_pair = λ k.
-            subst
-            (λ (ms : List (Message P)). AllZip (SameMessage cmp) (of_pair cmp k are.messages ++ held_of cmp k q) ms)
-            (kept.each_pair k)
-            (zip-append (SameMessage cmp) (of_pair cmp k are.messages) (held_of cmp k q) (of_pair cmp k kept.done)
-            (held_of cmp k after) (of_pair_alike k are.messages kept.done are.same) (alike k));
-      }
+      grind (arith, common_steps, are_of, zip-append, of_pair_alike)
 
   pub goes_conserved : (p q : Planned P) (call : Call P) (cs : List (Completed P)) → GoesByRule cmp p call cs q
       → IsOrderly cmp p → IsConserved cmp p (enqueued (call ∷ [])) cs q
@@ -125,21 +100,7 @@ module _ {P : Type 0} (cmp : P → P → Ordering) (order : IsTotalOrder cmp) wh
   pub conserved_then : (p q r : Planned P) (ms ns : List (Message P)) (cs ds : List (Completed P))
       → IsConserved cmp p ms cs q → IsConserved cmp q ns ds r
       → IsConserved cmp p (ms ++ ns) (cs ++ ds) r
-  conserved_then p q r ms ns cs ds a b = record {
-    done = a.done ++ b.done;
-    completions_are = zip-append IsCompletionOf cs ds a.done b.done a.completions_are b.completions_are;
-    each_pair = λ k.
-        subst
-        (λ (xs : List (Message P)). AllZip (SameMessage cmp) (xs ++ held_of cmp k r)
-        (held_of cmp k p ++ of_pair cmp k (ms ++ ns)))
-        (sym (filter-append (same_pair cmp k) a.done b.done))
-        (subst
-        (λ (ys : List (Message P)). AllZip (SameMessage cmp)
-        ((of_pair cmp k a.done ++ of_pair cmp k b.done) ++ held_of cmp k r) (held_of cmp k p ++ ys))
-        (sym (filter-append (same_pair cmp k) ms ns))
-        (both_done (of_pair cmp k a.done) (held_of cmp k q) (held_of cmp k p) (of_pair cmp k ms) (of_pair cmp k b.done)
-        (held_of cmp k r) (of_pair cmp k ns) (a.each_pair k) (b.each_pair k)));
-  }
+  conserved_then p q r ms ns cs ds a b = grind (arith, common_steps, zip-append, filter-append, both_done)
 
   one_next : (p : Planned P) (call : Call P) (calls : List (Call P)) (t : Option ℕ) (replies : List (Reply P))
       → Obeyed cmp p (call ∷ calls) (reply_next t ∷ replies) → Obeyed cmp p calls replies
@@ -185,33 +146,20 @@ module _ {P : Type 0} (cmp : P → P → Ordering) (order : IsTotalOrder cmp) wh
 
   -- where nothing is done
   pub none_conserved : (p : Planned P) → IsConserved cmp p [] [] p
-  none_conserved p =
-      record {
-        done = [];
-        completions_are = tt;
-        each_pair = λ k. subst (AllZip (SameMessage cmp) (held_of cmp k p)) (sym (append-nil (held_of cmp k p)))
-            (itself (held_of cmp k p));
-      }
+  none_conserved p = grind (arith, common_steps, append-nil, itself)
 
   -- from a planned world in order
   pub obeyed_conserved : (p : Planned P) (calls : List (Call P)) (replies : List (Reply P)) → IsOrderly cmp p
       → Obeyed cmp p calls replies → AreConserved cmp p calls replies
-  obeyed_conserved p [] [] h obeyed = record {
-    last = p;
-    led = refl;
-    orderly = h;
-    conserved = none_conserved p;
-  }
+  obeyed_conserved p [] [] h obeyed = grind (arith, common_steps, none_conserved)
   obeyed_conserved p [] (reply ∷ replies) h obeyed = absurd obeyed
   obeyed_conserved p (call ∷ calls) [] h obeyed = absurd obeyed
   obeyed_conserved p (call ∷ calls) (reply_next t ∷ replies) h obeyed =
-      let rest : AreConserved cmp p calls replies =
-      obeyed_conserved p calls replies h (one_next p call calls t replies obeyed) in
-      record { last = rest.last; led = rest.led; orderly = rest.orderly; conserved = rest.conserved }
+      grind (arith, common_steps, one_next, (obeyed_conserved p calls replies h (one_next p call calls t replies
+      obeyed)))
   obeyed_conserved p (call ∷ calls) (reply_refused why ∷ replies) h obeyed =
-      let rest : AreConserved cmp p calls replies =
-      obeyed_conserved p calls replies h (one_refused p call calls why replies obeyed) in
-      record { last = rest.last; led = rest.led; orderly = rest.orderly; conserved = rest.conserved }
+      grind (arith, common_steps, one_refused, (obeyed_conserved p calls replies h (one_refused p call calls why
+      replies obeyed)))
   obeyed_conserved p (call ∷ calls) (reply_done cs ∷ replies) h obeyed =
       let one : IsAccepted p call calls cs replies = one_accepted p call calls cs replies obeyed in
       let first : IsConserved cmp p (enqueued (call ∷ [])) cs one.after

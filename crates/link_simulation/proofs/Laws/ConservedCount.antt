@@ -1,4 +1,5 @@
 -- Where no message of any pair is lost or doubled, none is in number.
+use Rattle.std.proofs.lemmas.Grind.{common_steps}
 use Rattle.link_simulation.proofs.Common.{◌≡◌, ℕ, zero, suc, ◌+◌, ◌≤◌, List, [], ◌∷◌, ◌++◌, length, Bool, true, false}
 use Rattle.link_simulation.proofs.Common.{cond, not, refl, sym, ap, ◌∙◌, subst, arith, length-append, filter, AllZip}
 use Rattle.link_simulation.proofs.Common.{Ordering, IsTotalOrder, filter-append, Message, SameMessage, same_pair}
@@ -60,15 +61,7 @@ module _ {P : Type 0} (cmp : P → P → Ordering) (order : IsTotalOrder cmp) wh
 
   others_alike : (m : Message P) (ms ns : List (Message P)) → AreAlike ms ns
       → AreAlike (others_than m ms) (others_than m ns)
-  others_alike m ms ns alike k =
-      subst (λ (xs : List (Message P)). AllZip (SameMessage cmp) xs (of_pair cmp k (others_than m ns)))
-      (sym (of_others k m ms))
-      (subst (λ (ys : List (Message P)). AllZip (SameMessage cmp) (cond (same_pair cmp m k) [] (of_pair cmp k ms)) ys)
-      (sym (of_others k m ns)) (by_test (same_pair cmp m k)))
-    where
-      by_test : (b : Bool) → AllZip (SameMessage cmp) (cond b [] (of_pair cmp k ms)) (cond b [] (of_pair cmp k ns))
-      by_test true = tt
-      by_test false = alike k
+  others_alike m ms ns alike k = grind (arith, common_steps, of_others)
 
   shorter : (test : Message P → Bool) (ms : List (Message P)) → length (filter test ms) ≤ length ms
   shorter test ms = let both = split_length test ms in omega arith

@@ -1,7 +1,7 @@
 -- Each event leaves fewer that may come.
-use Rattle.link_simulation.proofs.Common.{◌≡◌, ℕ, ◌+◌, ◌<◌, ◌≤◌, List, length, Some, arith, Ordering, IsTotalOrder}
-use Rattle.link_simulation.proofs.Common.{GoesByRule, IsSamePlanned, IsSameRatedFlight, Completed, call_advance}
-use Rattle.link_simulation.proofs.Common.{SameMessage, Planned, next_event, zip-length}
+use Rattle.std.proofs.lemmas.Grind.{common_steps}
+use Rattle.link_simulation.proofs.Common.{◌≡◌, ℕ, ◌+◌, ◌<◌, ◌≤◌, List, Some, arith, Ordering, IsTotalOrder, GoesByRule}
+use Rattle.link_simulation.proofs.Common.{IsSamePlanned, Completed, call_advance, Planned, next_event, zip-length}
 use Rattle.link_simulation.specs.Laws.MostEvents.{most_events}
 use Rattle.link_simulation.specs.Rule.SamePlanned.{AdvancesByRule}
 use Rattle.link_simulation.specs.Rule.Planned.{IsPlanned}
@@ -9,12 +9,7 @@ use Rattle.link_simulation.proofs.Laws.MostEvents.{events_spend, some_event}
 
 module _ {P : Type 0} (cmp : P → P → Ordering) (order : IsTotalOrder cmp) where
   same_most : (p q : Planned P) → IsSamePlanned cmp p q → most_events p ≡ most_events q
-  same_most p q same =
-      let waiting : length p.waiting ≡ length q.waiting =
-      zip-length (SameMessage cmp) p.waiting q.waiting same.waiting in
-      let sending : length p.sending ≡ length q.sending =
-      zip-length (IsSameRatedFlight cmp) p.sending q.sending same.sending in
-      omega arith
+  same_most p q same = grind (arith, common_steps, zip-length)
 
   pub counted_events : (p q : Planned P) (now events : ℕ) (cs : List (Completed P)) → IsPlanned cmp p
       → AdvancesByRule cmp now p events cs q → events + most_events q ≤ most_events p

@@ -1,4 +1,5 @@
 -- Calls on a world, and on the part of it that is a set's messages.
+use Rattle.std.proofs.lemmas.Grind.{common_steps}
 use Rattle.link_simulation.proofs.Common.{◌≡◌, ℕ, ◌+◌, ◌-◌, ◌<◌, ◌≤◌, List, [], ◌∷◌, ◌++◌, map, length, Bool, true}
 use Rattle.link_simulation.proofs.Common.{false, cond, Option, Some, None, refl, sym, ap, ◌∙◌, subst, arith, append-nil}
 use Rattle.link_simulation.proofs.Common.{◌⊎◌, inl, inr, ⊤, ◌&&◌, nat_lt, if◌then◌else◌, filter, Ordering, IsTotalOrder}
@@ -11,16 +12,14 @@ use Rattle.link_simulation.proofs.Common.{call_next, linked_by, enqueue, enqueue
 use Rattle.link_simulation.proofs.Common.{call_answers, no_calls, Caps, Message, is_delivered, same_pair, AreFair}
 use Rattle.link_simulation.proofs.Common.{Parts, NextIs, Ticks, no_tick, MomentTooLate, each_joined, Each, In}
 use Rattle.std.specs.Prelude.{Contains}
-use Rattle.link_simulation.specs.Laws.Isolation.{AnswersInTurn, AreApart, IsApart, IsSet, KeepsApart}
-use Rattle.link_simulation.specs.Laws.Isolation.{NothingElse, answers_in_turn, inside_alone, is_kept}
-use Rattle.link_simulation.specs.Laws.Isolation.{kept_calls, kept_completions, no_calls_in_turn}
-use Rattle.link_simulation.specs.Laws.Isolation.{without_others}
-use Rattle.link_simulation.proofs.Laws.PartRates.{fair_part}
+use Rattle.link_simulation.specs.Laws.Isolation.{AnswersInTurn, AreApart, IsApart, IsSet, KeepsApart, NothingElse}
+use Rattle.link_simulation.specs.Laws.Isolation.{answers_in_turn, inside_alone, is_kept, kept_calls, kept_completions}
+use Rattle.link_simulation.specs.Laws.Isolation.{no_calls_in_turn, without_others}
+use Rattle.link_simulation.proofs.Laws.PartRates.{fair_part, Kind, at_egress, at_ingress, at_link, uses_at}
+use Rattle.link_simulation.proofs.Laws.PartRates.{SharesNoSide}
 use Rattle.fair_rates.proofs.Lists.Members.{contains_from_in}
-use Rattle.link_simulation.proofs.Simulation.SettlingEnds.{ends_and_then, ends_cond, each_ends, NoneDone}
-use Rattle.link_simulation.proofs.Simulation.SettlingEnds.{settle_rests}
+use Rattle.link_simulation.proofs.Simulation.SettlingEnds.{ends_and_then, ends_cond, each_ends, NoneDone, settle_rests}
 use Rattle.link_simulation.proofs.Simulation.FilteredFronts.{find_kept, none_kept}
-use Rattle.link_simulation.proofs.Laws.PartRates.{Kind, at_egress, at_ingress, at_link, uses_at, SharesNoSide}
 use Rattle.link_simulation.proofs.Simulation.Split.{ticks_on, rest_is}
 use Rattle.link_simulation.proofs.Simulation.EveryInstant.{ticks_end, first_event, settle_moment, start_next_moment}
 use Rattle.link_simulation.proofs.Laws.Isolation.{part, IsPart, IsPartOf, part_alike, goes_alike, part_then}
@@ -40,9 +39,7 @@ module _ {P : Type 0} (cmp : P → P → Ordering) (order : IsTotalOrder cmp) (i
   Whole m = inside m.origin ≡ inside m.recipient
 
   pub alike : (m n : Message P) → same_pair cmp m n ≡ true → mine m ≡ mine n
-  alike m n e =
-      together m.origin n.origin
-      (and_parts (same_peer cmp m.origin n.origin) (same_peer cmp m.recipient n.recipient) e).0
+  alike m n e = grind (arith, common_steps, and_parts)
 
   each_in : (ms : List (Message P)) (m : Message P) → Each Whole ms → In ms m → Whole m
   each_in [] m e h = absurd h
@@ -51,11 +48,7 @@ module _ {P : Type 0} (cmp : P → P → Ordering) (order : IsTotalOrder cmp) (i
 
   shares : (w : World P) → Each Whole (flows w) → SharesNoSide cmp w.caps mine (flows w)
   shares w e at_egress m n has_m has_n uses = together m.origin n.origin uses
-  shares w e at_ingress m n has_m has_n uses =
-      let same : inside m.recipient ≡ inside n.recipient =
-      together m.recipient n.recipient
-      (and_parts (is_delivered cmp n) (same_peer cmp m.recipient n.recipient) uses).1 in
-      each_in (flows w) m e has_m ∙ same ∙ sym (each_in (flows w) n e has_n)
+  shares w e at_ingress m n has_m has_n uses = grind (arith, common_steps, and_parts, each_in)
   shares w e at_link m n has_m has_n uses = alike m n uses
 
   abbrev pub Small : (P → P → Option ℕ) → ℕ → World P → World P
@@ -76,20 +69,11 @@ module _ {P : Type 0} (cmp : P → P → Ordering) (order : IsTotalOrder cmp) (i
 
   settle_in_part : (t : ℕ) (w : World P) (last : P → P → Option ℕ) (id : ℕ) → Within last id w
       → Of (settle cmp t w) (settle cmp t (Small last id w))
-  settle_in_part t w last id is =
-      settle_part cmp order inside alike Whole (length w.sending + length w.waiting)
-      (length (filter (λ (f : Flight P). mine f.message) w.sending) + length (filter mine w.waiting))
-      t w last id is (omega arith) (omega arith)
+  settle_in_part t w last id is = grind (arith, common_steps, settle_part, alike)
 
   queued_within : (w : World P) (m : Message P) (last : P → P → Option ℕ) (id : ℕ) → Within last id w → Whole m
       → Within last id (queued cmp order w m)
-  queued_within w m last id is whole =
-      record {
-        arrivals = is.arrivals;
-        ids = is.ids;
-        sending = is.sending;
-        waiting = each_joined Whole w.waiting m is.waiting whole;
-      }
+  queued_within w m last id is whole = grind (arith, common_steps, each_joined)
 
   queued_filter : (ms : List (Message P)) (m : Message P) (b : Bool) → mine m ≡ b
       → filter mine (ms ++ m ∷ []) ≡ filter mine ms ++ cond b (m ∷ []) []
@@ -425,9 +409,7 @@ module _ {P : Type 0} (cmp : P → P → Ordering) (order : IsTotalOrder cmp) (i
       → and_then c f ≡ goes cs u
       → (ds : List (Completed P)) × (v : World P) × (es : List (Completed P)) × (c ≡ goes ds v) × (f v ≡ goes es u)
       × (ds ++ es ≡ cs)
-  split_course (goes ds v) f cs u e =
-      let r : (es : List (Completed P)) × (f v ≡ goes es u) × (ds ++ es ≡ cs) = rest_is cmp ds (f v) cs u e in
-      (ds, v, r.0, refl, r.1, r.2)
+  split_course (goes ds v) f cs u e = grind (arith, common_steps, rest_is)
   split_course (meets fault) f cs u e = cc
 
   -- the part's own world may be behind: nothing of the set happens until it catches up

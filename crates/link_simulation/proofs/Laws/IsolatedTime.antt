@@ -1,9 +1,10 @@
 -- As time goes by, the part of a world that is a set's messages goes its own way.
-use Rattle.link_simulation.proofs.Common.{◌≡◌, ℕ, suc, ◌+◌, List, [], ◌∷◌, ◌++◌, map, length, Bool, true, false, cond}
-use Rattle.link_simulation.proofs.Common.{Option, refl, sym, ap, ◌∙◌, subst, arith, filter, Ordering, IsTotalOrder}
-use Rattle.link_simulation.proofs.Common.{filter-append, Completed, Course, Flight, World, flows, goes, instant}
-use Rattle.link_simulation.proofs.Common.{Message, same_pair, AreFair, Parts, drained_by, rate_of, Drains, Ticks}
-use Rattle.link_simulation.proofs.Common.{drain_each, no_tick, one_tick, tick_faults, Each, flagged}
+use Rattle.std.proofs.lemmas.Grind.{common_steps}
+use Rattle.link_simulation.proofs.Common.{◌≡◌, ℕ, suc, ◌+◌, List, [], ◌∷◌, ◌++◌, map, length, Bool, true, Option, refl}
+use Rattle.link_simulation.proofs.Common.{sym, ap, ◌∙◌, subst, arith, filter, Ordering, IsTotalOrder, filter-append}
+use Rattle.link_simulation.proofs.Common.{Completed, Course, Flight, World, flows, goes, instant, Message, same_pair}
+use Rattle.link_simulation.proofs.Common.{AreFair, Parts, rate_of, Drains, Ticks, drain_each, no_tick, one_tick}
+use Rattle.link_simulation.proofs.Common.{tick_faults, Each, flagged}
 use Rattle.link_simulation.proofs.Laws.PartRates.{SharesNoSide, fair_part}
 use Rattle.link_simulation.proofs.Simulation.Split.{rest_is}
 use Rattle.link_simulation.proofs.Simulation.Rates.{one_each}
@@ -30,13 +31,7 @@ module _ {P : Type 0} (cmp : P → P → Ordering) (order : IsTotalOrder cmp) (i
 
   map_kept : (fs : List (Flight P)) → messages (filter flying fs) ≡ filter mine (messages fs)
   map_kept [] = refl
-  map_kept (f ∷ fs) = by_test (mine f.message) (map_kept fs)
-    where
-      by_test : (b : Bool) → messages (filter flying fs) ≡ filter mine (messages fs)
-          → messages (cond b (f ∷ filter flying fs) (filter flying fs))
-          ≡ cond b (f.message ∷ filter mine (messages fs)) (filter mine (messages fs))
-      by_test true ih = ap (λ (ms : List (Message P)). f.message ∷ ms) ih
-      by_test false ih = ih
+  map_kept (f ∷ fs) = grind (arith, common_steps, flying, (map_kept fs))
 
   each_message : (fs : List (Flight P)) → Each (λ (f : Flight P). T f.message) fs → Each T (messages fs)
   each_message [] e = tt
@@ -44,11 +39,7 @@ module _ {P : Type 0} (cmp : P → P → Ordering) (order : IsTotalOrder cmp) (i
 
   each_drained : (per : ℕ) (rates : Parts) (n : ℕ) (fs : List (Flight P)) → Each (λ (f : Flight P). T f.message) fs
       → Each (λ (f : Flight P). T f.message) (drain_each per rates n fs)
-  each_drained per rates n [] e = nothing rates
-    where
-      nothing : (rates : Parts) → Each (λ (f : Flight P). T f.message) (drain_each {P = P} per rates n [])
-      nothing [] = tt
-      nothing (r ∷ rs) = tt
+  each_drained per rates n [] e = grind (arith, common_steps)
   each_drained per [] n (f ∷ fs) e = e
   each_drained per (r ∷ rs) n (f ∷ fs) e = (e.0, each_drained per rs n fs e.1)
 
@@ -58,24 +49,8 @@ module _ {P : Type 0} (cmp : P → P → Ordering) (order : IsTotalOrder cmp) (i
   drain_kept per [] n [] e = refl
   drain_kept per (r ∷ rs) n [] e = absurd (omega arith)
   drain_kept per [] n (f ∷ fs) e = absurd (omega arith)
-  drain_kept per (r ∷ rs) n (f ∷ fs) e = by_test (mine f.message) (drain_kept per rs n fs (omega arith))
-    where
-      after : Flight P
-      after = record { message = f.message; left = drained_by (rate_of per r) n f.left }
-
-      by_test : (b : Bool)
-          → filter flying (drain_each per rs n fs)
-          ≡ drain_each per (flagged (map mine (messages fs)) rs) n (filter flying fs)
-          → cond b
-          (record { message = f.message; left = drained_by (rate_of per r) n f.left }
-          ∷ filter flying (drain_each per rs n fs))
-          (filter flying (drain_each per rs n fs))
-          ≡ drain_each per (cond b (r ∷ flagged (map mine (messages fs)) rs) (flagged (map mine (messages fs)) rs)) n
-          (cond b (f ∷ filter flying fs) (filter flying fs))
-      by_test true ih =
-          ap (λ (gs : List (Flight P)). record { message = f.message; left = drained_by (rate_of per r) n f.left } ∷ gs)
-          ih
-      by_test false ih = ih
+  drain_kept per (r ∷ rs) n (f ∷ fs) e =
+      grind (arith, common_steps, rate_of, flying, (drain_kept per rs n fs (omega arith)))
 
   -- a nanosecond of the world is one of its part
   pub drain_part : (w v : World P) (last : P → P → Option ℕ) (id : ℕ) → Within last id w → Drains cmp w v

@@ -1,13 +1,14 @@
 -- The part of a world that is a set's messages goes its own way: what the others do does not touch it.
-use Rattle.link_simulation.proofs.Common.{◌≡◌, ℕ, zero, suc, ◌+◌, ◌<◌, ◌≤◌, List, [], ◌∷◌, ◌++◌, map, length, Bool}
-use Rattle.link_simulation.proofs.Common.{true, false, cond, Option, Some, None, refl, sym, ap, ◌∙◌, subst, arith}
-use Rattle.link_simulation.proofs.Common.{append-nil, ⊤, nat_le, filter, find, list_any, Ordering, IsTotalOrder}
-use Rattle.link_simulation.proofs.Common.{filter-append, without_first, Completed, Course, Flight, World, and_then}
-use Rattle.link_simulation.proofs.Common.{complete, first_waiting, fronts, goes, instant, is_done, last_moment}
-use Rattle.link_simulation.proofs.Common.{later_of, least_pair, may_start, meets, preceded, raised, ready, settle}
-use Rattle.link_simulation.proofs.Common.{settle_within, start, start_next, wake, wake_within, EndsWith, out_of_flight}
-use Rattle.link_simulation.proofs.Common.{is_late, completed, arrival, flight_of, Message, same_pair, FlowIdsUsedUp}
-use Rattle.link_simulation.proofs.Common.{MomentTooLate, each_joined, Each, length-without_first}
+use Rattle.std.proofs.lemmas.Grind.{common_steps}
+use Rattle.link_simulation.proofs.Common.{◌≡◌, ℕ, zero, suc, ◌+◌, ◌<◌, ◌≤◌, List, [], ◌∷◌, ◌++◌, length, Bool, true}
+use Rattle.link_simulation.proofs.Common.{false, cond, Option, Some, None, refl, sym, ap, ◌∙◌, subst, arith, append-nil}
+use Rattle.link_simulation.proofs.Common.{⊤, nat_le, filter, find, Ordering, IsTotalOrder, filter-append, without_first}
+use Rattle.link_simulation.proofs.Common.{Completed, Course, Flight, World, and_then, complete, first_waiting, fronts}
+use Rattle.link_simulation.proofs.Common.{goes, instant, is_done, last_moment, least_pair, may_start, meets, preceded}
+use Rattle.link_simulation.proofs.Common.{raised, ready, settle, settle_within, start, start_next, wake, wake_within}
+use Rattle.link_simulation.proofs.Common.{EndsWith, out_of_flight, is_late, completed, arrival, flight_of, Message}
+use Rattle.link_simulation.proofs.Common.{same_pair, FlowIdsUsedUp, MomentTooLate, each_joined, Each}
+use Rattle.link_simulation.proofs.Common.{length-without_first}
 use Rattle.std.proofs.lemmas.Bool.{leb-false, lt-leb}
 use Rattle.link_simulation.proofs.Simulation.Queue.{settle_none, settle_first, find_passes, preceded_none}
 use Rattle.link_simulation.proofs.Simulation.SettlingEnds.{ends_preceded, ends_and_then, ends_cond, length_without}
@@ -62,14 +63,7 @@ module _ {P : Type 0} (cmp : P → P → Ordering) (order : IsTotalOrder cmp) (i
 
   pub part_preceded : (cs : List (Completed P)) (c d : Course (Completed P) (World P)) → IsPartOf c d
       → IsPartOf (preceded cs c) (preceded (filter in_done cs) d)
-  part_preceded cs (goes ds u) d (last, id, is, e) = (
-    last,
-    id,
-    is,
-    ap (preceded (filter in_done cs)) e
-        ∙ goes_alike (filter in_done cs ++ filter in_done ds) (filter in_done (cs ++ ds)) (part last id u)
-        (part last id u) (sym (filter-append in_done cs ds)) refl,
-  )
+  part_preceded cs (goes ds u) d (last, id, is, e) = grind (arith, common_steps, goes_alike, filter-append)
   part_preceded cs (meets fault) d h = tt
 
   pub part_then : (R S : World P → Type 0) (c d : Course (Completed P) (World P))
@@ -78,10 +72,7 @@ module _ {P : Type 0} (cmp : P → P → Ordering) (order : IsTotalOrder cmp) (i
       → ((u : World P) (last : P → P → Option ℕ) (id : ℕ) → IsPart last id u → R u → S (part last id u)
       → IsPartOf (k u) (l (part last id u)))
       → IsPartOf (and_then c k) (and_then d l)
-  part_then R S (goes cs u) d k l (last, id, is, e) r s next =
-      let t : S (part last id u) = subst (λ (z : Course (Completed P) (World P)). EndsWith S z) e s in
-      subst (λ (z : Course (Completed P) (World P)). IsPartOf (preceded cs (k u)) (and_then z l)) (sym e)
-      (part_preceded cs (k u) (l (part last id u)) (next u last id is r t))
+  part_then R S (goes cs u) d k l (last, id, is, e) r s next = grind (arith, common_steps, part_preceded)
   part_then R S (meets fault) d k l h r s next = tt
 
   -- ---- a start
@@ -106,14 +97,7 @@ module _ {P : Type 0} (cmp : P → P → Ordering) (order : IsTotalOrder cmp) (i
 
   started_is : (last : P → P → Option ℕ) (id j : ℕ) (w : World P) (m : Message P) → IsPart last id w
       → find (same_pair cmp m) w.waiting ≡ Some m → j ≤ w.next_id + 1 → IsPart last j (started w m)
-  started_is last id j w m is first le = record {
-    arrivals = is.arrivals;
-    ids = le;
-    sending =
-        each_joined (λ (f : Flight P). T f.message) w.sending (flight_of m) is.sending
-        (each_find T (same_pair cmp m) w.waiting m is.waiting first);
-    waiting = each_without T (same_pair cmp m) w.waiting is.waiting;
-  }
+  started_is last id j w m is first le = grind (arith, common_steps, each_joined, each_find, each_without)
 
   start_mine : (w : World P) (m : Message P) (last : P → P → Option ℕ) (id : ℕ) → IsPart last id w
       → find (same_pair cmp m) w.waiting ≡ Some m → mine m ≡ true
@@ -160,13 +144,7 @@ module _ {P : Type 0} (cmp : P → P → Ordering) (order : IsTotalOrder cmp) (i
 
   may_start_same : (t : ℕ) (w : World P) (m : Message P) (last : P → P → Option ℕ) (id : ℕ) → IsPart last id w
       → mine m ≡ true → may_start cmp t (part last id w) m ≡ may_start cmp t w m
-  may_start_same t w m last id is own =
-      let idle : list_any (same_pair cmp m) (map (λ (f : Flight P). f.message) (filter in_flight w.sending))
-      ≡ list_any (same_pair cmp m) (map (λ (f : Flight P). f.message) w.sending) =
-      any_kept (λ (f : Flight P). f.message) in_flight (same_pair cmp m) w.sending
-      (λ f s. sym (alike m f.message s) ∙ own) in
-      let same : last m.origin m.recipient ≡ w.last_arrival m.origin m.recipient = is.arrivals m own in
-      rw (idle, same) refl
+  may_start_same t w m last id is own = grind (arith, common_steps, any_kept)
 
   pub start_next_mine : (t : ℕ) (w : World P) (m : Message P) (o : Option (Message P)) (last : P → P → Option ℕ)
       (id : ℕ)
@@ -191,14 +169,7 @@ module _ {P : Type 0} (cmp : P → P → Ordering) (order : IsTotalOrder cmp) (i
       → find (same_pair cmp m) w.waiting ≡ o → IsPartOf (start_next cmp t w o) (goes [] (part last id w))
   start_next_other t w m None last id is off e = (last, id, is, refl)
   start_next_other t w m (Some x) last id is off e =
-      let same : same_pair cmp m x ≡ true = find_passes (same_pair cmp m) x w.waiting e in
-      by_may (may_start cmp t w x)
-      (start_other w x last id is (find_like cmp order m x w.waiting same ∙ e) (sym (alike m x same) ∙ off))
-    where
-      by_may : (b : Bool) → IsPartOf (start cmp w x) (goes [] (part last id w))
-          → IsPartOf (cond b (start cmp w x) (goes [] w)) (goes [] (part last id w))
-      by_may true h = h
-      by_may false h = (last, id, is, refl)
+      grind (arith, common_steps, find_passes, start_other, find_like, start)
 
   -- ---- a completion
 
@@ -210,13 +181,7 @@ module _ {P : Type 0} (cmp : P → P → Ordering) (order : IsTotalOrder cmp) (i
 
   pub raised_other : (m n : Message P) (at : ℕ) (last : P → P → Option ℕ) → mine m ≡ false → mine n ≡ true
       → raised cmp last m at n.origin n.recipient ≡ last n.origin n.recipient
-  raised_other m n at last off own = by_pair (same_pair cmp m n) refl
-    where
-      by_pair : (b : Bool) → same_pair cmp m n ≡ b
-          → cond b (Some (later_of (last n.origin n.recipient) at)) (last n.origin n.recipient)
-          ≡ last n.origin n.recipient
-      by_pair true e = let same : mine m ≡ mine n = alike m n e in cc
-      by_pair false e = refl
+  raised_other m n at last off own = grind (arith, common_steps)
 
   complete_mine : (t : ℕ) (w : World P) (f : Flight P) (last : P → P → Option ℕ) (id : ℕ) → IsPart last id w
       → find (is_done cmp w) w.sending ≡ Some f → mine f.message ≡ true
@@ -332,9 +297,7 @@ module _ {P : Type 0} (cmp : P → P → Ordering) (order : IsTotalOrder cmp) (i
   pub settle_part : (n k t : ℕ) (w : World P) (last : P → P → Option ℕ) (id : ℕ) → IsPart last id w
       → HasAtMost cmp order n w → HasAtMost cmp order k (part last id w)
       → IsPartOf (settle_within cmp n t w) (settle_within cmp k t (part last id w))
-  settle_part zero k t w last id is most few =
-      let none : find (is_done cmp w) w.sending ≡ None = find_in_none (is_done cmp w) w.sending (omega arith) in
-      (last, id, is, settle_nothing cmp order k t (part last id w) (none_kept in_flight (is_done cmp w) w.sending none))
+  settle_part zero k t w last id is most few = grind (arith, common_steps, find_in_none, settle_nothing, none_kept)
   settle_part (suc n) k t w last id is most few =
       by_first (find (is_done cmp w) w.sending) refl (λ j u l i g h m. settle_part n j t u l i g h m)
     where
@@ -412,22 +375,12 @@ module _ {P : Type 0} (cmp : P → P → Ordering) (order : IsTotalOrder cmp) (i
 
   start_waits : (k : ℕ) (w : World P) (m : Message P) → find (same_pair cmp m) w.waiting ≡ Some m
       → WaitsAtMost (suc k) w → EndsWith (WaitsAtMost k) (start cmp w m)
-  start_waits k w m first h =
-      let fewer : length (without_first (same_pair cmp m) w.waiting) + 1 ≡ length w.waiting =
-      length_without (same_pair cmp m) m w.waiting first in
-      ends_cond (WaitsAtMost k) (nat_le last_moment w.next_id) (meets FlowIdsUsedUp) (goes [] (started w m)) tt
-      (omega arith)
+  start_waits k w m first h = grind (arith, common_steps, length_without, ends_cond, started)
 
   start_next_waits : (k t : ℕ) (w : World P) (o : Option (Message P)) → WaitsAtMost k w
       → EndsWith (WaitsAtMost k) (start_next cmp t w o)
   start_next_waits k t w None h = h
-  start_next_waits k t w (Some m) h =
-      let fewer : length (without_first (same_pair cmp m) w.waiting) ≤ length w.waiting =
-      length-without_first (same_pair cmp m) w.waiting in
-      ends_cond (WaitsAtMost k) (may_start cmp t w m) (start cmp w m) (goes [] w)
-      (ends_cond (WaitsAtMost k) (nat_le last_moment w.next_id) (meets FlowIdsUsedUp) (goes [] (started w m)) tt
-      (omega arith))
-      h
+  start_next_waits k t w (Some m) h = grind (arith, common_steps, length-without_first, ends_cond, start, started)
 
   complete_waits : (k t : ℕ) (w : World P) (m : Message P) → WaitsAtMost k w
       → EndsWith (WaitsAtMost k) (complete cmp t w m)
@@ -486,21 +439,10 @@ module _ {P : Type 0} (cmp : P → P → Ordering) (order : IsTotalOrder cmp) (i
       → IsPartOf (and_then (settle cmp t u) (wake_within cmp n t))
       (and_then (settle cmp t (part last id u)) (wake_within cmp k t))
   settle_and_wake n k t u last id is h g ih =
-      let all : ℕ = length u.sending + length u.waiting in
-      let few : ℕ = length (filter in_flight u.sending) + length (filter mine u.waiting) in
-      part_then (λ v. WaitsAtMost n v × NoneDone cmp order v) (WaitsAtMost k) (settle cmp t u)
-      (settle cmp t (part last id u)) (wake_within cmp n t) (wake_within cmp k t)
-      (settle_part all few t u last id is (omega arith) (omega arith))
-      (ends_both (WaitsAtMost n) (NoneDone cmp order) (settle cmp t u) (settle_waits all n t u h)
-      (settle_rests cmp order t u))
-      (settle_waits few k t (part last id u) g)
-      (λ v l i part_v r s. ih k v l i part_v r.1 r.0 s)
+      grind (arith, common_steps, part_then, settle_part, ends_both, settle_waits, settle_rests)
 
   pub wake_part : (n t : ℕ) → GoesByRule n t
-  wake_part zero t k w last id is rests most few =
-      let none : ready cmp t w ≡ [] =
-      ap (λ (ms : List (Message P)). filter (may_start cmp t w) (fronts cmp ms)) (none_long w.waiting most) in
-      (last, id, is, wake_nothing k t (part last id w) (ready_part t w last id is ∙ ap (filter mine) none))
+  wake_part zero t k w last id is rests most few = grind (arith, common_steps, none_long, wake_nothing, ready_part)
   wake_part (suc n) t k w last id is rests most few = by_least (least_pair cmp (ready cmp t w)) refl (wake_part n t)
     where
       by_mine : (m : Message P) → least_pair cmp (ready cmp t w) ≡ Some m → mine m ≡ true → (k : ℕ)

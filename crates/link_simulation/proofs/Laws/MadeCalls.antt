@@ -1,13 +1,13 @@
 -- Replies that agree with the simulation, to calls in turn, are what the calls that were made answer there.
-use Rattle.link_simulation.proofs.Common.{◌≡◌, ℕ, ◌<◌, ◌≤◌, List, [], ◌∷◌, Some, zero, suc, refl, sym, ap, ◌∙◌, subst}
+use Rattle.std.proofs.lemmas.Grind.{common_steps}
+use Rattle.link_simulation.proofs.Common.{◌≡◌, ℕ, ◌<◌, ◌≤◌, List, [], ◌∷◌, Some, zero, suc, refl, sym, ◌∙◌, subst}
 use Rattle.link_simulation.proofs.Common.{arith, IfSome, AllZip, Ordering, IsTotalOrder, World, new_world, Completed}
 use Rattle.link_simulation.proofs.Common.{goes, IsQuiet, Call, call_limit, call_limit_link, call_enqueue, call_advance}
 use Rattle.link_simulation.proofs.Common.{call_enqueue_all, call_next, moment_of, Runs, IsBeforeNext, IsInTurn, Reply}
 use Rattle.link_simulation.proofs.Common.{reply_done, reply_next, reply_refused, SameCompletion, Agrees, made}
 use Rattle.link_simulation.proofs.Common.{completions_in, Answers, no_calls, call_answers, AreInTurn}
 use Rattle.std.specs.Prelude.{take}
-use Rattle.link_simulation.specs.Laws.Isolation.{AnswersInTurn, no_calls_in_turn}
-use Rattle.link_simulation.specs.Laws.Isolation.{answers_in_turn}
+use Rattle.link_simulation.specs.Laws.Isolation.{AnswersInTurn, no_calls_in_turn, answers_in_turn}
 use Rattle.link_simulation.specs.Laws.Replies.{AreAdvancedFirst}
 use Rattle.link_simulation.proofs.Simulation.QuietInstants.{next_is_later, call_ends_quiet}
 use Rattle.link_simulation.proofs.Rule.Limit.{new_stands}
@@ -96,25 +96,13 @@ module _ {P : Type 0} (cmp : P → P → Ordering) (order : IsTotalOrder cmp) wh
   advanced_in_turn [] replies w at same quiet first = tt
   advanced_in_turn (call ∷ calls) [] w at same quiet first = tt
   advanced_in_turn (call_limit now peer egress ingress ∷ calls) (reply ∷ replies) w at same quiet first =
-      let equal : now ≡ at = first.0 in
-      at_the_moment w (call_limit now peer egress ingress) calls reply replies at (ap Some equal) same quiet
-      (omega arith, before_next w now (omega arith))
-      (λ v there calm. advanced_in_turn calls replies v at there calm first.1)
+      grind (arith, common_steps, at_the_moment, before_next, (advanced_in_turn calls replies))
   advanced_in_turn (call_limit_link now origin recipient cap ∷ calls) (reply ∷ replies) w at same quiet first =
-      let equal : now ≡ at = first.0 in
-      at_the_moment w (call_limit_link now origin recipient cap) calls reply replies at (ap Some equal) same quiet
-      (omega arith, before_next w now (omega arith))
-      (λ v there calm. advanced_in_turn calls replies v at there calm first.1)
+      grind (arith, common_steps, at_the_moment, before_next, (advanced_in_turn calls replies))
   advanced_in_turn (call_enqueue now m ∷ calls) (reply ∷ replies) w at same quiet first =
-      let equal : now ≡ at = first.0 in
-      at_the_moment w (call_enqueue now m) calls reply replies at (ap Some equal) same quiet
-      (omega arith, before_next w now (omega arith))
-      (λ v there calm. advanced_in_turn calls replies v at there calm first.1)
+      grind (arith, common_steps, at_the_moment, before_next, (advanced_in_turn calls replies))
   advanced_in_turn (call_enqueue_all now ms ∷ calls) (reply ∷ replies) w at same quiet first =
-      let equal : now ≡ at = first.0 in
-      at_the_moment w (call_enqueue_all now ms) calls reply replies at (ap Some equal) same quiet
-      (omega arith, before_next w now (omega arith))
-      (λ v there calm. advanced_in_turn calls replies v at there calm first.1)
+      grind (arith, common_steps, at_the_moment, before_next, (advanced_in_turn calls replies))
   advanced_in_turn (call_advance now ∷ calls) (reply_done cs ∷ replies) w at same quiet first =
       let le : at ≤ now = first.0 in (
         omega arith,
@@ -129,8 +117,7 @@ module _ {P : Type 0} (cmp : P → P → Ordering) (order : IsTotalOrder cmp) wh
   advanced_in_turn (call_advance now ∷ calls) (reply_refused why ∷ replies) w at same quiet first =
       let le : at ≤ now = first.0 in (omega arith, advanced_in_turn calls replies w at same quiet first.1)
   advanced_in_turn (call_next ∷ calls) (reply ∷ replies) w at same quiet first =
-      by_reply w call_next calls reply replies tt (advanced_in_turn calls replies w at same quiet first)
-      (λ now cs v there runs. cc)
+      grind (arith, common_steps, by_reply, (advanced_in_turn calls replies w at same quiet first))
 
   pub new_in_turn : (calls : List (Call P)) (replies : List (Reply P)) → AreAdvancedFirst 0 calls replies
       → AreInTurn cmp (new_world 0) calls replies

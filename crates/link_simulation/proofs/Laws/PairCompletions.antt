@@ -1,4 +1,5 @@
 -- The messages of a pair complete in the order in which they were enqueued, and are delivered in it.
+use Rattle.std.proofs.lemmas.Grind.{common_steps}
 use Rattle.link_simulation.proofs.Common.{◌≡◌, ℕ, suc, ◌+◌, ◌-◌, ◌≤◌, List, [], ◌∷◌, ◌++◌, map, Bool, true, false, cond}
 use Rattle.link_simulation.proofs.Common.{Option, Some, None, refl, sym, ap, ◌∙◌, subst, arith, append_assoc}
 use Rattle.link_simulation.proofs.Common.{append-nil, ◌&&◌, IfSome, nat_lt, if◌then◌else◌, filter, AllZip, Ordering}
@@ -22,9 +23,9 @@ use Rattle.link_simulation.proofs.Simulation.Sound.{new_world_sound, act_keeps_s
 use Rattle.link_simulation.proofs.Simulation.QuietInstants.{ends_at}
 use Rattle.link_simulation.proofs.Laws.PairHistories.{held, told_of_k, waits, last, NotPast, AllNotPast, IsHistory}
 use Rattle.link_simulation.proofs.Laws.PairHistories.{deliveries_push, not_past_later, not_past_push, raises}
-use Rattle.link_simulation.proofs.Laws.PairHistories.{reaches_it, told_push, told_more, told_same, last_of}
-use Rattle.link_simulation.proofs.Laws.PairHistories.{GoesByRule, goes_preceded, goes_then, stays, next_goes}
-use Rattle.link_simulation.proofs.Laws.PairHistories.{settle_goes, instant_goes}
+use Rattle.link_simulation.proofs.Laws.PairHistories.{reaches_it, told_push, told_more, told_same, last_of, GoesByRule}
+use Rattle.link_simulation.proofs.Laws.PairHistories.{goes_preceded, goes_then, stays, next_goes, settle_goes}
+use Rattle.link_simulation.proofs.Laws.PairHistories.{instant_goes}
 
 -- what the first call enqueues stands in front
 pub enqueued_split : {P : Type 0} (call : Call P) (calls : List (Call P))
@@ -41,40 +42,13 @@ module _ {P : Type 0} (cmp : P → P → Ordering) (order : IsTotalOrder cmp) (k
 
   drain_history : (messages : List (Message P)) (t : ℕ) (cs : List (Completed P)) (w v : World P) → Drains cmp w v
       → IsHistory cmp order k messages t cs w → IsHistory cmp order k messages (suc t) cs v
-  drain_history messages t cs w v d h = subst (IsHistory cmp order k messages (suc t) cs) (sym d.world) (record {
-    done = h.done;
-    flying = h.flying;
-    told = h.told;
-    in_flight = ap (filter (same_pair cmp k)) (flows_drained cmp d.per d.rates 1 w.sending) ∙ h.in_flight;
-    queue = h.queue;
-    deliveries = h.deliveries;
-    not_past = h.not_past;
-    in_order = later h.flying h.in_order;
-    alike = h.alike;
-    now = let at : w.moment ≡ t = h.now in omega arith;
-  })
-    where
-      no_less : (l : Option ℕ) (a b : ℕ) → a ≤ b → is_in_order l a ≡ true → is_in_order l b ≡ true
-      no_less None a b le e = refl
-      no_less (Some last) a b le e = let under : last ≤ a = leb-true last a e in le-leb last b (omega arith)
-
-      later : (o : Option (Message P)) → IfSome o (λ m. is_in_order (last cmp order k w) (t + m.latency) ≡ true)
-          → IfSome o (λ m. is_in_order (last cmp order k w) (suc t + m.latency) ≡ true)
-      later None e = tt
-      later (Some m) e = no_less (last cmp order k w) (t + m.latency) (suc t + m.latency) (omega arith) e
+  drain_history messages t cs w v d h = grind (arith, common_steps, flows_drained, leb-true, le-leb)
 
   ticks_history : {n : ℕ} {w : World P} {c : Course (Completed P) (World P)} → Ticks cmp n w c
       → (messages : List (Message P)) (t : ℕ) (cs ds : List (Completed P)) (v : World P)
       → c ≡ goes ds v → IsHistory cmp order k messages t cs w → IsHistory cmp order k messages (t + n) (cs ++ ds) v
   unfolding GoesByRule
-  ticks_history {w = w} no_tick messages t cs ds v e h =
-      let none : [] ≡ ds = cc in
-      let same : w ≡ v = cc in
-      let count : t ≡ t + 0 = omega arith in
-      subst (λ (s : ℕ). IsHistory cmp order k messages s (cs ++ ds) v) count
-      (subst (λ (xs : List (Completed P)). IsHistory cmp order k messages t xs v)
-      (sym (append-nil cs) ∙ ap (λ (xs : List (Completed P)). cs ++ xs) none)
-      (subst (IsHistory cmp order k messages t cs) same h))
+  ticks_history {w = w} no_tick messages t cs ds v e h = grind (arith, common_steps, append-nil)
   ticks_history {w = w} (one_tick {n = n} {v = z} {u = u} {cs = es} {rest = rest} d i more) messages t cs ds v e h =
       let r : (fs : List (Completed P)) × (rest ≡ goes fs v) × (es ++ fs ≡ ds) = rest_is cmp es rest ds v e in
       let after : IsHistory cmp order k messages (suc t) (cs ++ es) u =
@@ -101,26 +75,7 @@ module _ {P : Type 0} (cmp : P → P → Ordering) (order : IsTotalOrder cmp) (k
   queued_history : (messages : List (Message P)) (t : ℕ) (cs : List (Completed P)) (w : World P) (m : Message P)
       → IsHistory cmp order k messages t cs w
       → IsHistory cmp order k (messages ++ m ∷ []) t cs (record w { waiting = w.waiting ++ m ∷ [] })
-  queued_history messages t cs w m h = record {
-    done = h.done;
-    flying = h.flying;
-    told = h.told;
-    in_flight = h.in_flight;
-    queue =
-        filter-append (same_pair cmp k) messages (m ∷ [])
-        ∙ ap (λ (ms : List (Message P)). ms ++ filter (same_pair cmp k) (m ∷ [])) h.queue
-        ∙ regroup h.done (held h.flying) (waits cmp order k w) (filter (same_pair cmp k) (m ∷ []))
-        ∙ ap (λ (ms : List (Message P)). h.done ++ (held h.flying ++ ms))
-        (sym (filter-append (same_pair cmp k) w.waiting (m ∷ [])));
-    deliveries = h.deliveries;
-    not_past = h.not_past;
-    in_order = h.in_order;
-    alike = h.alike;
-    now = h.now;
-  }
-    where
-      regroup : (a b c d : List (Message P)) → (a ++ (b ++ c)) ++ d ≡ a ++ (b ++ (c ++ d))
-      regroup a b c d = append_assoc a (b ++ c) d ∙ ap (λ (ms : List (Message P)). a ++ ms) (append_assoc b c d)
+  queued_history messages t cs w m h = grind (arith, common_steps, filter-append, held, append_assoc)
 
   none_more : (messages : List (Message P)) (t : ℕ) (cs : List (Completed P)) (w : World P)
       → IsHistory cmp order k messages t cs w → IsHistory cmp order k (messages ++ []) t cs w
@@ -130,19 +85,7 @@ module _ {P : Type 0} (cmp : P → P → Ordering) (order : IsTotalOrder cmp) (k
   recapped_history : (messages : List (Message P)) (t : ℕ) (cs : List (Completed P)) (w : World P) (caps : Caps P)
       → IsHistory cmp order k messages t cs w
       → IsHistory cmp order k messages t cs (record w { caps = caps; limited = true })
-  recapped_history messages t cs w caps h =
-      record {
-        done = h.done;
-        flying = h.flying;
-        told = h.told;
-        in_flight = h.in_flight;
-        queue = h.queue;
-        deliveries = h.deliveries;
-        not_past = h.not_past;
-        in_order = h.in_order;
-        alike = h.alike;
-        now = h.now;
-      }
+  recapped_history messages t cs w caps h = grind (arith, common_steps)
 
   -- before any limit a message completes at once, with none ahead of it
   at_once_goes : (messages : List (Message P)) (t : ℕ) (cs : List (Completed P)) (w : World P) (m : Message P)
@@ -328,15 +271,8 @@ module _ {P : Type 0} (cmp : P → P → Ordering) (order : IsTotalOrder cmp) (k
         limited = true;
       }) (none_more messages t cs _ (recapped_history messages t cs w
       (linked_by cmp w.caps origin recipient cap) h)))
-  act_goes messages t cs w (call_enqueue s m) e sound h =
-      let same : t ≡ s = cc in
-      subst (λ (n : ℕ). GoesByRule cmp order k (messages ++ m ∷ []) t cs (enqueue cmp n w m)) same
-      (enqueue_goes messages t cs w m sound h)
-  act_goes messages t cs w (call_enqueue_all s ms) e sound h =
-      let same : t ≡ s = cc in
-      subst (λ (n : ℕ). GoesByRule cmp order k (messages ++ (ms ++ [])) t cs (enqueue_each cmp n w ms)) same
-      (subst (λ (ns : List (Message P)). GoesByRule cmp order k (messages ++ ns) t cs (enqueue_each cmp t w ms))
-      (sym (append-nil ms)) (each_goes ms messages t cs w sound h))
+  act_goes messages t cs w (call_enqueue s m) e sound h = grind (arith, common_steps, enqueue_goes)
+  act_goes messages t cs w (call_enqueue_all s ms) e sound h = grind (arith, common_steps, append-nil, each_goes)
   act_goes messages t cs w (call_advance s) e sound h =
       stays cmp order k (messages ++ []) t cs w (none_more messages t cs w h)
   act_goes messages t cs w call_next e sound h = cc
@@ -368,21 +304,13 @@ module _ {P : Type 0} (cmp : P → P → Ordering) (order : IsTotalOrder cmp) (k
 
   ends_in_order : (messages : List (Message P)) (t : ℕ) (cs : List (Completed P)) (w : World P)
       → IsHistory cmp order k messages t cs w → IsInPairOrder cmp k messages cs
-  ends_in_order messages t cs w h = record {
-    done = h.done;
-    rest = held h.flying ++ waits cmp order k w;
-    messages_are = h.queue;
-    completions_are = h.told;
-    deliveries = h.deliveries;
-  }
+  ends_in_order messages t cs w h = grind (arith, common_steps, held)
 
   answers_in_order : {w : World P} {calls : List (Call P)} {css : List (List (Completed P))} → Answers cmp w calls css
       → (messages : List (Message P)) (cs : List (Completed P))
       → IsSound cmp w → IsHistory cmp order k messages w.moment cs w
       → IsInPairOrder cmp k (messages ++ enqueued calls) (cs ++ answered css)
-  answers_in_order {w = w} no_calls messages cs sound h =
-      subst (λ (ms : List (Message P)). IsInPairOrder cmp k ms (cs ++ [])) (sym (append-nil messages))
-      (subst (IsInPairOrder cmp k messages) (sym (append-nil cs)) (ends_in_order messages w.moment cs w h))
+  answers_in_order {w = w} no_calls messages cs sound h = grind (arith, common_steps, append-nil, ends_in_order)
   answers_in_order {w = w} (call_answers {u = u} {call = call} {now = now} {calls = calls} {cs = ds} {css = css} at
       after runs more) messages cs sound h =
       let next : IsHistory cmp order k (messages ++ added call) now (cs ++ ds) u =

@@ -1,5 +1,6 @@
 -- How far a pair is: which of its messages completed, which is in flight, which wait. Starts, completions and whole
 -- instants keep it.
+use Rattle.std.proofs.lemmas.Grind.{common_steps}
 use Rattle.link_simulation.proofs.Common.{◌≡◌, ℕ, zero, suc, ◌+◌, ◌≤◌, List, [], ◌∷◌, ◌++◌, map, length, Bool, true}
 use Rattle.link_simulation.proofs.Common.{false, cond, not, Option, Some, None, refl, sym, ap, ◌∙◌, subst, arith}
 use Rattle.link_simulation.proofs.Common.{append_assoc, append-nil, ⊤, ◌&&◌, ◌||◌, IfSome, nat_le, if◌then◌else◌}
@@ -9,10 +10,9 @@ use Rattle.link_simulation.proofs.Common.{same_peer, Message, PairsAlike, same_p
 use Rattle.link_simulation.proofs.Common.{Completed, completion_of, Course, goes, meets, last_moment, preceded}
 use Rattle.link_simulation.proofs.Common.{and_then, is_in_order, later_of, flows, first_waiting, may_start, start}
 use Rattle.link_simulation.proofs.Common.{start_next, is_done, complete, settle_within, settle, least_pair, ready, turn}
-use Rattle.link_simulation.proofs.Common.{wake_within, wake, instant, fronts, out_of_flight, is_late, completed}
-use Rattle.link_simulation.proofs.Common.{arrival, flight_of, IsCompletionOf, NeverGoDown, Each}
-use Rattle.link_simulation.specs.Laws.PairCompletions.{NoneBefore}
-use Rattle.link_simulation.specs.Laws.PairCompletions.{completes_pair}
+use Rattle.link_simulation.proofs.Common.{wake_within, instant, fronts, out_of_flight, is_late, completed, arrival}
+use Rattle.link_simulation.proofs.Common.{flight_of, IsCompletionOf, NeverGoDown, Each}
+use Rattle.link_simulation.specs.Laws.PairCompletions.{NoneBefore, completes_pair}
 use Rattle.link_simulation.proofs.Simulation.Queue.{pair_like, pair_sym, find_passes, settle_none, settle_first}
 use Rattle.link_simulation.proofs.Simulation.SettlingEnds.{find_like}
 use Rattle.link_simulation.proofs.Laws.Bytes.{wake_none, each_least, each_filter}
@@ -81,13 +81,7 @@ taken_out {X} {Y} p f test x y (z ∷ zs) e own one =
 not_taken : {X Y : Type 0} (p : Y → Bool) (f : X → Y) (test : X → Bool) (x : X) (xs : List X) → find test xs ≡ Some x
     → p (f x) ≡ false → filter p (map f (without_first test xs)) ≡ filter p (map f xs)
 not_taken p f test x [] e off = refl
-not_taken {X} {Y} p f test x (z ∷ zs) e off = by_test (test z) e (not_taken p f test x zs)
-  where
-    by_test : (b : Bool) → cond b (Some z) (find test zs) ≡ Some x
-        → (find test zs ≡ Some x → p (f x) ≡ false → filter p (map f (without_first test zs)) ≡ filter p (map f zs))
-        → filter p (map f (cond b zs (z ∷ without_first test zs))) ≡ filter p (map f (z ∷ zs))
-    by_test true e ih = let same : z ≡ x = cc in let out : p (f z) ≡ false = ap (λ w. p (f w)) same ∙ off in rw out refl
-    by_test false e ih = ap (λ ys. cond (p (f z)) (f z ∷ ys) ys) (ih e off)
+not_taken {X} {Y} p f test x (z ∷ zs) e off = grind (arith, common_steps, (not_taken p f test x zs))
 
 module _ {P : Type 0} (cmp : P → P → Ordering) (order : IsTotalOrder cmp) (k : Message P) where
   -- what completed of the pair, what of it waits, what is in flight, and its last arrival
@@ -134,32 +128,14 @@ module _ {P : Type 0} (cmp : P → P → Ordering) (order : IsTotalOrder cmp) (k
   -- a delivery that no earlier one is past joins them
   pub deliveries_push : (l : Option ℕ) (cs : List (Completed P)) (c : Completed P) → NeverGoDown cs → AllNotPast l cs
       → IfSome c.deliver_at (λ s. is_in_order l s ≡ true) → NeverGoDown (cs ++ c ∷ [])
-  deliveries_push l [] c h past own = (none_after c.deliver_at, tt)
-    where
-      none_after : (o : Option ℕ) → IfSome o (λ t. NoneBefore {P = P} t [])
-      none_after None = tt
-      none_after (Some t) = tt
-  deliveries_push l (d ∷ ds) c h past own = (by_moment d.deliver_at h.0 past.0, deliveries_push l ds c h.1 past.1 own)
-    where
-      later : (t : ℕ) (l : Option ℕ) (o : Option ℕ) → NotPast l t → IfSome o (λ s. is_in_order l s ≡ true)
-          → IfSome o (λ s. t ≤ s)
-      later t None o np h = absurd np
-      later t (Some last) None np h = tt
-      later t (Some last) (Some s) np h = let le : last ≤ s = leb-true last s h in omega arith
-
-      by_moment : (o : Option ℕ) → IfSome o (λ t. NoneBefore t ds) → IfSome o (NotPast l)
-          → IfSome o (λ t. NoneBefore t (ds ++ c ∷ []))
-      by_moment None h np = tt
-      by_moment (Some t) h np = none_before_push t ds c h (later t l c.deliver_at np own)
+  deliveries_push l [] c h past own = grind (arith, common_steps)
+  deliveries_push l (d ∷ ds) c h past own =
+      grind (arith, common_steps, leb-true, none_before_push, (deliveries_push l ds c h.1 past.1 own))
 
   pub not_past_later : (l m : Option ℕ) (cs : List (Completed P)) → ((s : ℕ) → NotPast l s → NotPast m s)
       → AllNotPast l cs → AllNotPast m cs
   not_past_later l m [] grows h = tt
-  not_past_later l m (c ∷ cs) grows h = (by_moment c.deliver_at h.0, not_past_later l m cs grows h.1)
-    where
-      by_moment : (o : Option ℕ) → IfSome o (NotPast l) → IfSome o (NotPast m)
-      by_moment None np = tt
-      by_moment (Some s) np = grows s np
+  not_past_later l m (c ∷ cs) grows h = grind (arith, common_steps, (not_past_later l m cs grows h.1))
 
   pub not_past_push : (l : Option ℕ) (cs : List (Completed P)) (c : Completed P) → AllNotPast l cs
       → IfSome c.deliver_at (NotPast l) → AllNotPast l (cs ++ c ∷ [])
@@ -194,9 +170,7 @@ module _ {P : Type 0} (cmp : P → P → Ordering) (order : IsTotalOrder cmp) (k
 
   pub last_of : (w : World P) (m : Message P) → PairsAlike cmp w.last_arrival w.last_arrival
       → same_pair cmp k m ≡ true → w.last_arrival m.origin m.recipient ≡ last w
-  last_of w m alike own =
-      let parts = and_parts (same_peer cmp k.origin m.origin) (same_peer cmp k.recipient m.recipient) own in
-      sym (alike k.origin m.origin k.recipient m.recipient parts.0 parts.1)
+  last_of w m alike own = grind (arith, common_steps, and_parts)
 
   first_of_waits : (w : World P) (m : Message P) → same_pair cmp k m ≡ true → find (same_pair cmp m) w.waiting ≡ Some m
       → waits w ≡ m ∷ filter (same_pair cmp k) (without_first (same_pair cmp m) w.waiting)
@@ -223,15 +197,7 @@ module _ {P : Type 0} (cmp : P → P → Ordering) (order : IsTotalOrder cmp) (k
   waits_without : (ws : List (Message P)) (m : Message P) → same_pair cmp k m ≡ false
       → filter (same_pair cmp k) (without_first (same_pair cmp m) ws) ≡ filter (same_pair cmp k) ws
   waits_without [] m off = refl
-  waits_without (x ∷ ws) m off = by_test (same_pair cmp m x) refl (waits_without ws m off)
-    where
-      by_test : (b : Bool) → same_pair cmp m x ≡ b
-          → filter (same_pair cmp k) (without_first (same_pair cmp m) ws) ≡ filter (same_pair cmp k) ws
-          → filter (same_pair cmp k) (cond b ws (x ∷ without_first (same_pair cmp m) ws))
-          ≡ filter (same_pair cmp k) (x ∷ ws)
-      by_test true is ih = let out : same_pair cmp k x ≡ false = pair_sym cmp order k x ∙ pair_like cmp order m x k is
-          ∙ pair_sym cmp order m k ∙ off in rw out refl
-      by_test false is ih = ap (λ (ms : List (Message P)). cond (same_pair cmp k x) (x ∷ ms) ms) ih
+  waits_without (x ∷ ws) m off = grind (arith, common_steps, pair_sym, pair_like, (waits_without ws m off))
 
   joined : World P → Message P → World P
   joined w m = record w {
@@ -506,15 +472,7 @@ module _ {P : Type 0} (cmp : P → P → Ordering) (order : IsTotalOrder cmp) (k
         → GoesByRule cs (settle_within cmp n t w)
     settle_within_goes zero cs w h = stays cs w h
     settle_within_goes (suc n) cs w h =
-        by_first (find (is_done cmp w) w.sending) refl (λ ds u g. settle_within_goes n ds u g)
-      where
-        by_first : (o : Option (Flight P)) → find (is_done cmp w) w.sending ≡ o
-            → ((ds : List (Completed P)) (u : World P) → IsHistory messages t ds u
-            → GoesByRule ds (settle_within cmp n t u)) → GoesByRule cs (settle_within cmp (suc n) t w)
-        by_first None e ih = subst (GoesByRule cs) (sym (settle_none cmp order n t w e)) (stays cs w h)
-        by_first (Some f) e ih =
-            subst (GoesByRule cs) (sym (settle_first cmp order n t w f e))
-            (goes_then cs (complete cmp t w f.message) (settle_within cmp n t) (complete_goes cs w f e h) ih)
+        grind (arith, common_steps, settle_none, stays, settle_first, goes_then, complete_goes, (settle_within_goes n))
 
     pub settle_goes : (cs : List (Completed P)) (w : World P) → IsHistory messages t cs w
         → GoesByRule cs (settle cmp t w)
@@ -539,19 +497,8 @@ module _ {P : Type 0} (cmp : P → P → Ordering) (order : IsTotalOrder cmp) (k
         → GoesByRule cs (wake_within cmp n t w)
     wake_within_goes zero cs w h = stays cs w h
     wake_within_goes (suc n) cs w h =
-        by_least (least_pair cmp (ready cmp t w)) refl (λ ds u g. wake_within_goes n ds u g)
-      where
-        by_least : (o : Option (Message P)) → least_pair cmp (ready cmp t w) ≡ o
-            → ((ds : List (Completed P)) (u : World P) → IsHistory messages t ds u
-            → GoesByRule ds (wake_within cmp n t u)) → GoesByRule cs (wake_within cmp (suc n) t w)
-        by_least None e ih = subst (GoesByRule cs) (sym (wake_none cmp order n t w e)) (stays cs w h)
-        by_least (Some m) e ih = subst (GoesByRule cs) (sym (rw (e, wake_within) refl))
-            (goes_then cs (turn cmp t w m) (wake_within cmp n t) (turn_goes cs w m e h) ih)
+        grind (arith, common_steps, wake_none, stays, goes_then, turn, turn_goes, (wake_within_goes n))
 
     pub instant_goes : (cs : List (Completed P)) (w : World P) → IsHistory messages t cs w
         → GoesByRule cs (instant cmp w)
-    instant_goes cs w h =
-        goes_then cs (settle cmp w.moment w) (λ v. wake cmp v.moment v)
-        (subst (λ (s : ℕ). GoesByRule cs (settle cmp s w)) (sym h.now) (settle_goes cs w h))
-        (λ ds u g. subst (λ (s : ℕ). GoesByRule ds (wake cmp s u)) (sym g.now)
-        (wake_within_goes (length u.waiting) ds u g))
+    instant_goes cs w h = grind (arith, common_steps, goes_then, settle_goes, wake_within_goes)

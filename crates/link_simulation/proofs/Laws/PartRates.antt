@@ -1,4 +1,5 @@
 -- Fair rates of messages that share no side with the others are fair for them alone.
+use Rattle.std.proofs.lemmas.Grind.{common_steps}
 use Rattle.link_simulation.proofs.Common.{◌≡◌, ℕ, zero, suc, ◌+◌, ◌*◌, ◌≤◌, List, [], ◌∷◌, ◌++◌, map, Bool, true, false}
 use Rattle.link_simulation.proofs.Common.{cond, Option, Some, None, All, Contains, sum_by, refl, sym, ap, ◌∙◌, subst}
 use Rattle.link_simulation.proofs.Common.{arith, ◌⊎◌, inl, inr, ◌&&◌, slice_get, if◌then◌else◌, filter, Ordering}
@@ -9,8 +10,8 @@ use Rattle.link_simulation.proofs.Common.{places_from}
 use Rattle.std.proofs.lemmas.List.Sums.{sum_by-cons}
 use Rattle.fair_rates.specs.Fairness.Fair.{IsLimited, HasBottleneck}
 use Rattle.link_simulation.specs.Simulation.Rates.{capped_side}
-use Rattle.fair_rates.proofs.Lists.Members.{in_from_contains, contains_from_in, in_left, in_right, in_either}
-use Rattle.fair_rates.proofs.Lists.Members.{in_filter, from_filter, in_get, from_flat_map, in_flat_map}
+use Rattle.fair_rates.proofs.Lists.Members.{in_from_contains, contains_from_in, in_left, in_right, in_either, in_filter}
+use Rattle.fair_rates.proofs.Lists.Members.{from_filter, in_get, from_flat_map, in_flat_map}
 use Rattle.fair_rates.proofs.Lists.Places.{place_here, passes_here}
 
 -- which of the caps makes a side
@@ -198,19 +199,9 @@ module _ {P : Type 0} (cmp : P → P → Ordering) (caps : Caps P) where
 
   to_sides_for : (k : Kind) (ms : List (Message P)) (m : Message P) (c : ℕ) → cap_at k m ≡ Some c
       → In (sides_for cmp caps ms m) (side_at k ms m c)
-  to_sides_for at_egress ms m c e =
-      in_left (egress_side cmp caps ms m ++ ingress_side cmp caps ms m) (link_side cmp caps ms m)
-      (side_at at_egress ms m c)
-      (in_left (egress_side cmp caps ms m) (ingress_side cmp caps ms m) (side_at at_egress ms m c)
-      (to_side_of (cap_at at_egress m) (uses_at at_egress m) ms c e))
-  to_sides_for at_ingress ms m c e =
-      in_left (egress_side cmp caps ms m ++ ingress_side cmp caps ms m) (link_side cmp caps ms m)
-      (side_at at_ingress ms m c)
-      (in_right (egress_side cmp caps ms m) (ingress_side cmp caps ms m) (side_at at_ingress ms m c)
-      (to_side_of (cap_at at_ingress m) (uses_at at_ingress m) ms c e))
-  to_sides_for at_link ms m c e =
-      in_right (egress_side cmp caps ms m ++ ingress_side cmp caps ms m) (link_side cmp caps ms m)
-      (side_at at_link ms m c) (to_side_of (cap_at at_link m) (uses_at at_link m) ms c e)
+  to_sides_for at_egress ms m c e = grind (arith, common_steps, in_left, to_side_of)
+  to_sides_for at_ingress ms m c e = grind (arith, common_steps, in_left, in_right, to_side_of)
+  to_sides_for at_link ms m c e = grind (arith, common_steps, in_right, to_side_of)
 
   -- what brings a side to the messages, and which side
   pub from_sides : (ms : List (Message P)) (s : Side) → Contains (capped_sides cmp caps ms) s
@@ -222,9 +213,7 @@ module _ {P : Type 0} (cmp : P → P → Ordering) (caps : Caps P) where
 
   pub to_sides : (k : Kind) (ms : List (Message P)) (m : Message P) (c : ℕ) → In ms m → cap_at k m ≡ Some c
       → Contains (capped_sides cmp caps ms) (side_at k ms m c)
-  to_sides k ms m c has e =
-      contains_from_in (capped_sides cmp caps ms) (side_at k ms m c)
-      (in_flat_map (sides_for cmp caps ms) ms m (side_at k ms m c) has (to_sides_for k ms m c e))
+  to_sides k ms m c has e = grind (arith, common_steps, contains_from_in, in_flat_map, to_sides_for)
 
   -- a side that a message of the set brings is used by messages of the set alone
   abbrev pub SharesNoSide : (Message P → Bool) → List (Message P) → Type 0

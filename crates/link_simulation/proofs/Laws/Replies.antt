@@ -1,17 +1,16 @@
 -- Replies that agree with the simulation, to calls in turn, keep the order of each pair and isolate sets of peers.
-use Rattle.link_simulation.proofs.Common.{◌≡◌, ℕ, zero, suc, ◌≤◌, List, [], ◌∷◌, Bool, true, false, cond, Option, Some}
-use Rattle.link_simulation.proofs.Common.{None, refl, sym, subst, ⊤, IfSome, filter, AllZip, Ordering, IsTotalOrder}
-use Rattle.link_simulation.proofs.Common.{same_peer, Message, new_world, Completed, Call, Reply, reply_done, reply_next}
-use Rattle.link_simulation.proofs.Common.{reply_refused, SameCompletion, Agrees, made, completions_in, enqueued}
-use Rattle.link_simulation.proofs.Common.{answered, IsCompletionOf, NeverGoDown, Answers, InTime, Completes, zip-append}
+use Rattle.link_simulation.proofs.Common.{arith, ◌≡◌, ℕ, zero, suc, List, [], ◌∷◌, Bool, true, false, cond, Option}
+use Rattle.link_simulation.proofs.Common.{Some, None, refl, ⊤, IfSome, filter, AllZip, Ordering, IsTotalOrder, Message}
+use Rattle.link_simulation.proofs.Common.{new_world, Completed, Call, Reply, reply_done, reply_next, reply_refused}
+use Rattle.link_simulation.proofs.Common.{SameCompletion, Agrees, made, completions_in, enqueued, answered}
+use Rattle.link_simulation.proofs.Common.{IsCompletionOf, NeverGoDown, Answers, InTime, Completes, zip-append}
 use Rattle.link_simulation.proofs.Common.{zip-filter}
+use Rattle.std.proofs.lemmas.Grind.{common_steps}
 use Rattle.std.specs.Prelude.{take}
-use Rattle.link_simulation.specs.Laws.PairCompletions.{NoneBefore}
-use Rattle.link_simulation.specs.Laws.PairCompletions.{completes_pair, IsInPairOrder}
-use Rattle.link_simulation.specs.Laws.Isolation.{IsSet, NothingElse, inside_alone, is_kept}
-use Rattle.link_simulation.specs.Laws.Isolation.{kept_calls, kept_completions}
-use Rattle.link_simulation.specs.Laws.Replies.{AlwaysSoFar, CompletesInOrder, CompletePairsInOrder}
-use Rattle.link_simulation.specs.Laws.Replies.{IsolateSets}
+use Rattle.link_simulation.specs.Laws.PairCompletions.{NoneBefore, completes_pair, IsInPairOrder}
+use Rattle.link_simulation.specs.Laws.Isolation.{IsSet, NothingElse, inside_alone, is_kept, kept_calls}
+use Rattle.link_simulation.specs.Laws.Isolation.{kept_completions}
+use Rattle.link_simulation.specs.Laws.Replies.{AlwaysSoFar, CompletesInOrder, CompletePairsInOrder, IsolateSets}
 use Rattle.link_simulation.proofs.Simulation.Queue.{both_alike}
 use Rattle.link_simulation.proofs.Simulation.AlikeMessages.{same_itself, peers_alike}
 use Rattle.link_simulation.proofs.Laws.PairCompletions.{pair_in_order}
@@ -57,12 +56,7 @@ module _ {P : Type 0} (cmp : P → P → Ordering) (order : IsTotalOrder cmp) wh
 
   completes_alike : (k : Message P) (c d : Completed P) → SameCompletion cmp c d
       → completes_pair cmp k c ≡ completes_pair cmp k d
-  completes_alike k c d same =
-      both_alike cmp order (same_peer cmp k.origin c.origin) (same_peer cmp k.origin d.origin)
-      (same_peer cmp k.recipient c.recipient) (same_peer cmp k.recipient d.recipient)
-      (peers_alike cmp order k.origin k.origin c.origin d.origin (same_itself cmp order k.origin) same.origin)
-      (peers_alike cmp order k.recipient k.recipient c.recipient d.recipient (same_itself cmp order k.recipient)
-      same.recipient)
+  completes_alike k c d same = grind (arith, common_steps, both_alike, peers_alike, same_itself)
 
   completions_of : (cs ds : List (Completed P)) (ms : List (Message P)) → AllZip (SameCompletion cmp) cs ds
       → AllZip IsCompletionOf ds ms → AllZip (Completes cmp) cs ms
@@ -70,28 +64,20 @@ module _ {P : Type 0} (cmp : P → P → Ordering) (order : IsTotalOrder cmp) wh
   completions_of [] (d ∷ ds) ms same all = absurd same
   completions_of (c ∷ cs) [] ms same all = absurd same
   completions_of (c ∷ cs) (d ∷ ds) [] same all = absurd all
-  completions_of (c ∷ cs) (d ∷ ds) (m ∷ ms) same all = (
-    (all.0.0, all.0.1, subst (λ (e : Completed P). SameCompletion cmp c e) all.0.2 same.0),
-    completions_of cs ds ms same.1 all.1,
-  )
+  completions_of (c ∷ cs) (d ∷ ds) (m ∷ ms) same all =
+      grind (arith, common_steps, (completions_of cs ds ms same.1 all.1))
 
   none_before : (t : ℕ) (cs ds : List (Completed P)) → AllZip (SameCompletion cmp) cs ds → NoneBefore t ds
       → NoneBefore t cs
   none_before t [] ds same none = tt
   none_before t (c ∷ cs) [] same none = absurd same
-  none_before t (c ∷ cs) (d ∷ ds) same none = (
-    subst (λ (o : Option ℕ). IfSome o (λ s. t ≤ s)) (sym same.0.deliver_at) none.0,
-    none_before t cs ds same.1 none.1,
-  )
+  none_before t (c ∷ cs) (d ∷ ds) same none = grind (arith, common_steps, (none_before t cs ds same.1 none.1))
 
   never_down : (cs ds : List (Completed P)) → AllZip (SameCompletion cmp) cs ds → NeverGoDown ds → NeverGoDown cs
   never_down [] ds same never = tt
   never_down (c ∷ cs) [] same never = absurd same
-  never_down (c ∷ cs) (d ∷ ds) same never = (
-    if_more (λ t. NoneBefore t ds) (λ t. NoneBefore t cs) c.deliver_at (λ t none. none_before t cs ds same.1 none)
-        (subst (λ (o : Option ℕ). IfSome o (λ t. NoneBefore t ds)) (sym same.0.deliver_at) never.0),
-    never_down cs ds same.1 never.1,
-  )
+  never_down (c ∷ cs) (d ∷ ds) same never =
+      grind (arith, common_steps, if_more, none_before, (never_down cs ds same.1 never.1))
 
   in_order_alike : (k : Message P) (messages : List (Message P)) (cs ds : List (Completed P))
       → AllZip (SameCompletion cmp) cs ds → IsInPairOrder cmp k messages ds
@@ -124,9 +110,7 @@ module _ {P : Type 0} (cmp : P → P → Ordering) (order : IsTotalOrder cmp) wh
   module _ (inside : P → Bool) (together : IsSet cmp inside) where
     alone_alike : (cs ds : List (Completed P)) → AllZip (SameCompletion cmp) cs ds
         → AllZip (SameCompletion cmp) (inside_alone inside cs) (inside_alone inside ds)
-    alone_alike cs ds same =
-        zip-filter (SameCompletion cmp) (λ c. inside c.origin) (λ c. inside c.origin)
-        (λ c d one. together c.origin d.origin one.origin) cs ds same
+    alone_alike cs ds same = grind (arith, common_steps, zip-filter)
 
     kept_alike : (calls : List (Call P)) (css dss : List (List (Completed P)))
         → AllZip (AllZip (SameCompletion cmp)) css dss
@@ -136,16 +120,7 @@ module _ {P : Type 0} (cmp : P → P → Ordering) (order : IsTotalOrder cmp) wh
     kept_alike (call ∷ calls) [] (ds ∷ dss) same = absurd same
     kept_alike (call ∷ calls) (cs ∷ css) [] same = absurd same
     kept_alike (call ∷ calls) (cs ∷ css) (ds ∷ dss) same =
-        by_kept (is_kept inside call) (kept_alike calls css dss same.1)
-      where
-        by_kept : (b : Bool)
-            → AllZip (AllZip (SameCompletion cmp)) (kept_completions inside calls css)
-            (kept_completions inside calls dss)
-            → AllZip (AllZip (SameCompletion cmp))
-            (cond b (inside_alone inside cs ∷ kept_completions inside calls css) (kept_completions inside calls css))
-            (cond b (inside_alone inside ds ∷ kept_completions inside calls dss) (kept_completions inside calls dss))
-        by_kept true rest = (alone_alike cs ds same.0, rest)
-        by_kept false rest = rest
+        grind (arith, common_steps, alone_alike, (kept_alike calls css dss same.1))
 
     nothing_alike : (calls : List (Call P)) (css dss : List (List (Completed P)))
         → AllZip (AllZip (SameCompletion cmp)) css dss → NothingElse inside calls dss → NothingElse inside calls css

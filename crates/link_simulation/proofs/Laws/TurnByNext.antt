@@ -1,8 +1,9 @@
 -- Calls before the planned next event, and those that go by what `next` answers, come in their turn.
-use Rattle.link_simulation.proofs.Common.{◌≡◌, ℕ, ◌+◌, ◌<◌, ◌≤◌, List, [], ◌∷◌, Option, Some, None, refl, sym, subst}
-use Rattle.link_simulation.proofs.Common.{arith, ◌++◌, ap, append_assoc, ◌∙◌, IfSome, Ordering, IsTotalOrder, Course}
-use Rattle.link_simulation.proofs.Common.{preceded, and_then, meets, Message, enqueue, enqueue_each, World, Completed}
-use Rattle.link_simulation.proofs.Common.{goes, new_world, IsQuiet, NextIs, IsSound, Call, call_limit, call_limit_link}
+use Rattle.std.proofs.lemmas.Grind.{common_steps}
+use Rattle.link_simulation.proofs.Common.{◌≡◌, ℕ, ◌+◌, ◌<◌, ◌≤◌, List, [], ◌∷◌, Option, Some, refl, sym, subst, arith}
+use Rattle.link_simulation.proofs.Common.{ap, append_assoc, ◌∙◌, IfSome, Ordering, IsTotalOrder, Course, preceded}
+use Rattle.link_simulation.proofs.Common.{and_then, meets, Message, enqueue, enqueue_each, World, Completed, goes}
+use Rattle.link_simulation.proofs.Common.{new_world, IsQuiet, NextIs, IsSound, Call, call_limit, call_limit_link}
 use Rattle.link_simulation.proofs.Common.{call_enqueue, call_advance, call_enqueue_all, call_next, moment_of, Runs}
 use Rattle.link_simulation.proofs.Common.{IsInTurn, IsBeforeNext, Reply, reply_done, reply_next, reply_refused, Agrees}
 use Rattle.link_simulation.proofs.Common.{Planned, next_event, StandsFor, IsCalled, IsRun, AreInTurn}
@@ -46,13 +47,7 @@ module _ {P : Type 0} (cmp : P → P → Ordering) (order : IsTotalOrder cmp) wh
   pub called_at_once : (w : World P) (q : Planned P) (call other : Call P) (now : ℕ) (cs : List (Completed P))
       → moment_of other ≡ Some now
       → (run : IsRun cmp w call now cs q) → IsCalled cmp q other now run.after
-  called_at_once w q call other now cs is run = record {
-    stands = run.stands;
-    moment = is;
-    turn =
-        let at : run.after.moment ≡ now =
-        run.moment in turn_by_next q run.after other now run.stands is (omega arith) run.next;
-  }
+  called_at_once w q call other now cs is run = grind (arith, common_steps, turn_by_next)
 
   -- ---- a list of messages
 
@@ -68,16 +63,7 @@ module _ {P : Type 0} (cmp : P → P → Ordering) (order : IsTotalOrder cmp) wh
 
   then_then : (c : Course (Completed P) (World P)) (f g : World P → Course (Completed P) (World P))
       → and_then c (λ v. and_then (f v) g) ≡ and_then (and_then c f) g
-  then_then (goes cs v) f g = both (f v)
-    where
-      after : (ds : List (Completed P)) (e : Course (Completed P) (World P))
-          → preceded cs (preceded ds e) ≡ preceded (cs ++ ds) e
-      after ds (goes es u) = ap (λ (l : List (Completed P)). goes l u) (sym (append_assoc cs ds es))
-      after ds (meets fault) = refl
-
-      both : (d : Course (Completed P) (World P)) → preceded cs (and_then d g) ≡ and_then (preceded cs d) g
-      both (goes ds u) = after ds (g u)
-      both (meets fault) = refl
+  then_then (goes cs v) f g = grind (arith, common_steps, append_assoc)
   then_then (meets fault) f g = refl
 
   -- the first message and then the rest are the list
@@ -102,17 +88,11 @@ module _ {P : Type 0} (cmp : P → P → Ordering) (order : IsTotalOrder cmp) wh
 
   known_at_once : (w : World P) (at : ℕ) → w.moment ≡ at → Known (Some (at + 1)) w
   unfolding Known
-  known_at_once w at same now below next is = by_next next (next_is_later cmp order w next is)
-    where
-      by_next : (o : Option ℕ) → IfSome o (λ t. w.moment < t) → IfSome o (λ t. now < t)
-      by_next None later = tt
-      by_next (Some t) later = omega arith
+  known_at_once w at same now below next is = grind (arith, common_steps, next_is_later)
 
   known_by_next : (w : World P) (next : Option ℕ) → IsSound cmp w → NextIs cmp w next → Known next w
   unfolding Known
-  known_by_next w next sound is now below other there =
-      subst (λ (o : Option ℕ). IfSome o (λ t. now < t)) (next_is_one cmp order w next other sound.positive is there)
-      below
+  known_by_next w next sound is now below other there = grind (arith, common_steps, next_is_one)
 
   turn_between : (w : World P) (call : Call P) (from : ℕ) (before : Option ℕ) → w.moment ≡ from → Known before w
       → IsBetween from before call → IsInTurn cmp w call
@@ -148,17 +128,13 @@ module _ {P : Type 0} (cmp : P → P → Ordering) (order : IsTotalOrder cmp) wh
   by_next_in_turn [] replies w from before same sound quiet known go agrees = tt
   by_next_in_turn (call ∷ calls) [] w from before same sound quiet known go agrees = tt
   by_next_in_turn (call ∷ calls) (reply_next next ∷ replies) w from before same sound quiet known go agrees =
-      let here : IsInTurn cmp w call × NextIs cmp w next = asked w calls replies call next agrees in (
-        here.0,
-        by_next_in_turn calls replies w from next same sound quiet (known_by_next w next sound here.1) go
-            (agrees_next cmp w calls replies call next agrees),
-      )
+      grind (arith, common_steps, asked, known_by_next, agrees_next, (by_next_in_turn calls replies w from next same
+      sound quiet (known_by_next w next sound (asked w calls replies call next agrees).1) go (agrees_next cmp w calls
+      replies call next agrees)))
   by_next_in_turn (call ∷ calls) (reply_refused why ∷ replies) w from before same sound quiet known go agrees =
-      let turn : IsInTurn cmp w call = turn_between w call from before same known go.0 in (
-        turn,
-        by_next_in_turn calls replies w from before same sound quiet known go.1
-            (agrees_refused cmp w calls replies call why agrees turn),
-      )
+      grind (arith, common_steps, turn_between, agrees_refused, (by_next_in_turn calls replies w from before same sound
+      quiet known go.1 (agrees_refused cmp w calls replies call why agrees (turn_between w call from before same known
+      go.0))))
   by_next_in_turn (call ∷ calls) (reply_done cs ∷ replies) w from before same sound quiet known go agrees =
       (turn, after (by_next_in_turn calls replies))
     where

@@ -1,6 +1,7 @@
 -- An account at t takes out what is done in the world at t, and leaves the rest as it is there.
+use Rattle.std.proofs.lemmas.Grind.{common_steps}
 use Rattle.link_simulation.proofs.Common.{◌≡◌, ℕ, suc, ◌-◌, ◌<◌, List, [], ◌∷◌, map, Bool, true, false, cond, not}
-use Rattle.link_simulation.proofs.Common.{Option, Some, None, refl, sym, ap, ◌∙◌, subst, arith, ◌==◌, IfSome, slice_get}
+use Rattle.link_simulation.proofs.Common.{Option, Some, None, refl, sym, ap, ◌∙◌, subst, arith, IfSome, slice_get}
 use Rattle.link_simulation.proofs.Common.{filter, list_any, AllZip, Ordering, IsTotalOrder, or_parts, not-true, Amount}
 use Rattle.link_simulation.proofs.Common.{drained, reduced, reduced_positive, Flight, World, is_done, Accounts, Message}
 use Rattle.link_simulation.proofs.Common.{OneForEachPair, PairsAlike, SameMessage, same_pair, CapsAlike, AreInPairOrder}
@@ -18,12 +19,7 @@ use Rattle.link_simulation.proofs.Simulation.Rates.{all_rated}
 -- each that stays passes
 pub each_passes : {X : Type 0} (test : X → Bool) (xs : List X) → Each (λ x. test x ≡ true) (filter test xs)
 each_passes test [] = tt
-each_passes {X} test (x ∷ xs) = by_test (test x) refl (each_passes test xs)
-  where
-    by_test : (b : Bool) → test x ≡ b → Each (λ x. test x ≡ true) (filter test xs)
-        → Each (λ x. test x ≡ true) (cond b (x ∷ filter test xs) (filter test xs))
-    by_test true e ih = (e, ih)
-    by_test false e ih = ih
+each_passes {X} test (x ∷ xs) = grind (arith, common_steps, (each_passes test xs))
 
 -- what matches nothing is nothing
 pub none_matched : {X Y : Type 0} (R : X → Y → Type 0) (ys : List Y) → AllZip R [] ys → ys ≡ []
@@ -44,14 +40,7 @@ module _ {P : Type 0} (cmp : P → P → Ordering) (order : IsTotalOrder cmp) wh
   drawn t [] [] all = tt
   drawn t [] (g ∷ gs) all = absurd all
   drawn t (f ∷ fs) [] all = absurd all
-  drawn t (f ∷ fs) (g ∷ gs) all = (
-    record {
-      message = all.0.message;
-      lowest = drained_by_lowest f.rate (t - f.updated) f.left all.0.rate all.0.lowest.positive;
-      left = all.0.left;
-    },
-    drawn t fs gs all.1,
-  )
+  drawn t (f ∷ fs) (g ∷ gs) all = grind (arith, common_steps, drained_by_lowest, (drawn t fs gs all.1))
 
   spent_alike : (p : Planned P) (w : World P) → CapsAlike cmp p.caps w.caps → (n : RatedFlight P) (g : Flight P)
       → IsDrawn n g → is_spent cmp p.caps n ≡ is_done cmp w g
@@ -105,11 +94,7 @@ module _ {P : Type 0} (cmp : P → P → Ordering) (order : IsTotalOrder cmp) wh
   each_limited p t [] (n ∷ ns) stay stayed = absurd stayed
   each_limited p t (s ∷ ss) [] stay stayed = absurd stayed
   each_limited p t (s ∷ ss) (n ∷ ns) stay stayed =
-      let parts : ((s.left.num == 0) ≡ false) × (is_unlimited cmp p.caps s.message ≡ false) =
-      or_parts (s.left.num == 0) (is_unlimited cmp p.caps s.message) (not-true (is_spent cmp p.caps s) stay.0) in (
-        subst (λ (m : Message P). is_unlimited cmp p.caps m ≡ false) (sym stayed.0.1) parts.1,
-        each_limited p t ss ns stay.1 stayed.1,
-      )
+      grind (arith, common_steps, or_parts, not-true, (each_limited p t ss ns stay.1 stayed.1))
 
   one_filter : (test : Flight P → Bool) (fs : List (Flight P))
       → OneForEachPair cmp (map (λ (f : Flight P). f.message) fs)
@@ -131,13 +116,7 @@ module _ {P : Type 0} (cmp : P → P → Ordering) (order : IsTotalOrder cmp) wh
       → AllZip (SameMessage cmp) leavers (map (λ (g : Flight P). g.message) (leaving cmp w))
   unfolding leaving
   leavers_alike t old new leavers w same account =
-      subst
-      (λ (ms : List (Message P)). AllZip (SameMessage cmp) ms
-      (map (λ (g : Flight P). g.message) (filter (is_done cmp w) w.sending)))
-      (sym account.left)
-      (drawn_messages (filter (is_spent cmp old.caps) (drained_to t old.sending)) (filter (is_done cmp w) w.sending)
-      (zip-filter IsDrawn (is_spent cmp old.caps) (is_done cmp w) (spent_alike old w same.caps)
-      (drained_to t old.sending) w.sending (drawn t old.sending w.sending same.sending)))
+      grind (arith, common_steps, drawn_messages, zip-filter, spent_alike, drawn)
 
   pub account_follows : (t : ℕ) (old new : Planned P) (leavers : List (Message P)) (w : World P) → Tallies cmp t old w
       → Accounts cmp t old leavers new → Follows cmp t new (staying cmp w)

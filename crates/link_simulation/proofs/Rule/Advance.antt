@@ -1,13 +1,13 @@
 -- Advancing the planned world event by event is ticking the world nanosecond by nanosecond.
-use Rattle.link_simulation.proofs.Common.{◌≡◌, ℕ, zero, suc, ◌+◌, ◌-◌, ◌<◌, ◌≤◌, List, [], ◌++◌, length, true, false}
-use Rattle.link_simulation.proofs.Common.{Option, Some, None, refl, sym, ap, ◌∙◌, subst, arith, ◌⊎◌, inl, inr, IfSome}
-use Rattle.link_simulation.proofs.Common.{list_any, Ordering, IsTotalOrder, cases_lt, Completed, Course, IsQuiet, World}
-use Rattle.link_simulation.proofs.Common.{and_then, goes, instant, is_done, last_moment, meets, preceded, ready, settle}
-use Rattle.link_simulation.proofs.Common.{wake, Advances, Settles, Wakes, at_finish, at_start, finish_stops, no_more}
+use Rattle.std.proofs.lemmas.Grind.{common_steps}
+use Rattle.link_simulation.proofs.Common.{◌≡◌, ℕ, zero, suc, ◌+◌, ◌-◌, ◌<◌, ◌≤◌, List, [], length, true, false, Option}
+use Rattle.link_simulation.proofs.Common.{Some, None, refl, sym, ap, ◌∙◌, subst, arith, ◌⊎◌, inl, inr, IfSome, list_any}
+use Rattle.link_simulation.proofs.Common.{Ordering, IsTotalOrder, cases_lt, Completed, Course, IsQuiet, World, and_then}
+use Rattle.link_simulation.proofs.Common.{goes, instant, is_done, last_moment, meets, preceded, ready, settle, wake}
+use Rattle.link_simulation.proofs.Common.{Advances, Settles, Wakes, at_finish, at_start, finish_stops, no_more}
 use Rattle.link_simulation.proofs.Common.{start_stops, IsLeastMoment, Planned, SomeReadyAt, SomeSpentAt, next_event}
 use Rattle.link_simulation.proofs.Common.{is_unlimited, CoursesAlike, Follows, IsSettled, StandsFor, Tallies, Drains}
 use Rattle.link_simulation.proofs.Common.{Passes, Ticks, no_tick, Error}
-use Rattle.std.proofs.Common.{min}
 use Rattle.std.specs.Prelude.{◌≢◌}
 use Rattle.link_simulation.specs.Rule.Planned.{earlier}
 use Rattle.link_simulation.proofs.Rule.BeforeNext.{later, follows_later, both_before, none_done_before, quiet_before}
@@ -27,32 +27,11 @@ module _ {P : Type 0} (cmp : P → P → Ordering) (order : IsTotalOrder cmp) wh
   -- what is planned does not matter to what tallies
   unplanned : (t : ℕ) (p : Planned P) (w : World P) (finish start : Option ℕ) → Tallies cmp t p w
       → Tallies cmp t (record p { finish = finish; start = start }) w
-  unplanned t p w finish start same = record {
-    moment = same.moment;
-    caps = same.caps;
-    limited = same.limited;
-    last_arrival = same.last_arrival;
-    next_id = same.next_id;
-    waiting = same.waiting;
-    pair_order = same.pair_order;
-    sending = same.sending;
-    one_each = same.one_each;
-    empty_at_first = same.empty_at_first;
-  }
+  unplanned t p w finish start same = grind (arith, common_steps)
 
   unstarted : (t : ℕ) (p : Planned P) (w : World P) (start : Option ℕ) → Follows cmp t p w
       → Follows cmp t (record p { start = start }) w
-  unstarted t p w start follows = record {
-    tallies = unplanned t p w p.finish start follows.tallies;
-    rated =
-        record {
-          per = follows.rated.per;
-          rates = follows.rated.rates;
-          fair = follows.rated.fair;
-          rated = follows.rated.rated;
-        };
-    finish = follows.finish;
-  }
+  unstarted t p w start follows = grind (arith, common_steps, unplanned)
 
   -- a wake in the planned world is a wake in the world
   pub wake_alike : {t : ℕ} {p : Planned P} {course : Course (Completed P) (Planned P)} → Wakes cmp t p course
@@ -90,14 +69,8 @@ module _ {P : Type 0} (cmp : P → P → Ordering) (order : IsTotalOrder cmp) wh
   joined_ticks : (a t now : ℕ) (w : World P) (ds : List (Completed P)) (x c : Course (Completed P) (World P))
       → Ticks cmp a w (preceded ds x) → OnFrom t now x c
       → Ticks cmp (now - t + a) w (preceded ds c)
-  joined_ticks a t now w ds (goes es u) c ticks on =
-      let more : Ticks cmp (now - t + a) w (preceded (ds ++ es) on.0) =
-      ticks_on cmp ticks (now - t) u (ds ++ es) on.0 refl on.1 in
-      subst (λ (d : Course (Completed P) (World P)). Ticks cmp (now - t + a) w d)
-      (sym (preceded_append cmp ds es on.0) ∙ ap (preceded ds) (sym on.2)) more
-  joined_ticks a t now w ds (meets fault) c ticks on =
-      subst (λ (d : Course (Completed P) (World P)). Ticks cmp (now - t + a) w (preceded ds d)) (sym on)
-      (ticks_stop cmp ticks (now - t) fault refl)
+  joined_ticks a t now w ds (goes es u) c ticks on = grind (arith, common_steps, ticks_on, preceded_append)
+  joined_ticks a t now w ds (meets fault) c ticks on = grind (arith, common_steps, ticks_stop)
 
   -- the tick to the next event, and the whole way there
   to_event : (p : Planned P) (w : World P) (stands : StandsFor cmp p w) (e k : ℕ) → w.moment + suc k ≡ e
@@ -115,22 +88,12 @@ module _ {P : Type 0} (cmp : P → P → Ordering) (order : IsTotalOrder cmp) wh
       → (b ≡ Some e) × IfSome a (λ f. e < f)
   earlier_start None b e is not_a = (is, tt)
   earlier_start (Some f) None e is not_a = absurd (not_a is)
-  earlier_start (Some f) (Some s) e is not_a = by_order (cases_lt e f)
-    where
-      least : min f s ≡ e
-      least = cc
-
-      by_order : (e < f) ⊎ (f ≤ e) → (Some s ≡ Some e) × (e < f)
-      by_order (inl lt) = (let same : s ≡ e = omega (arith, least) in ap Some same, lt)
-      by_order (inr le) = absurd (not_a (let same : f ≡ e = omega (arith, least) in ap Some same))
+  earlier_start (Some f) (Some s) e is not_a = grind (arith, common_steps, cases_lt)
 
   earlier_first : (a b : Option ℕ) (e t : ℕ) → earlier a b ≡ Some e → a ≡ Some e → b ≡ Some t → e ≤ t
   earlier_first None b e t is left right = cc
   earlier_first (Some f) None e t is left right = cc
-  earlier_first (Some f) (Some s) e t is left right =
-      let least : min f s ≡ e = cc in
-      let same : s ≡ t = cc in
-      omega arith
+  earlier_first (Some f) (Some s) e t is left right = grind (arith, common_steps)
 
   -- in a settled world no finish is planned up to its moment
   no_early_finish : (t e : ℕ) (q : Planned P) (v : World P) → IsSettled cmp t q v → q.finish ≡ Some e → e ≤ t → ⊥
@@ -189,12 +152,7 @@ module _ {P : Type 0} (cmp : P → P → Ordering) (order : IsTotalOrder cmp) wh
 
   pub decide_start : (o : Option ℕ) (t : ℕ) → (o ≡ Some t) ⊎ (o ≢ Some t)
   decide_start None t = inr (λ e. cc)
-  decide_start (Some s) t = by_order (cases_lt s t) (cases_lt t s)
-    where
-      by_order : (s < t) ⊎ (t ≤ s) → (t < s) ⊎ (s ≤ t) → (Some s ≡ Some t) ⊎ (Some s ≢ Some t)
-      by_order (inl lt) other = inr (λ e. let same : s ≡ t = cc in omega arith)
-      by_order (inr le) (inl lt) = inr (λ e. let same : s ≡ t = cc in omega arith)
-      by_order (inr le) (inr ge) = inl (let same : s ≡ t = omega arith in ap Some same)
+  decide_start (Some s) t = grind (arith, common_steps, cases_lt)
 
   -- where nothing may start at once, the settled world is at rest
   at_rest : (t now : ℕ) (p : Planned P) (v : World P) (course : Course (Completed P) (Planned P))
@@ -409,20 +367,13 @@ module _ {P : Type 0} (cmp : P → P → Ordering) (order : IsTotalOrder cmp) wh
   not_after : (now : ℕ) (p : Planned P) (course : Course (Completed P) (Planned P))
       → IfSome (next_event p) (λ t. now < t) → (t : ℕ) (v : World P) → t ≤ now → p.start ≡ Some t
       → WakesAlike t now v course
-  not_after now p course before t v le now_is =
-      let after : IfSome (Some t) (λ e. now < e) =
-      subst (λ (o : Option ℕ). IfSome o (λ e. now < e)) now_is (both_before p.finish p.start now before).1 in
-      absurd (omega arith)
+  not_after now p course before t v le now_is = grind (arith, common_steps, both_before)
 
   wake_at : (e now : ℕ) (p : Planned P) (course : Course (Completed P) (Planned P)) → p.finish ≢ Some e
       → next_event p ≡ Some e
       → ((v : World P) → Follows cmp e p v → list_any (is_done cmp v) v.sending ≡ false → WakesAlike e now v course)
       → (t : ℕ) (v : World P) → IsSettled cmp t p v → p.start ≡ Some t → WakesAlike t now v course
-  wake_at e now p course not_finish next wakes t v is now_is =
-      let first : p.start ≡ Some e = (earlier_start p.finish p.start e next not_finish).0 in
-      let same : e ≡ t = cc in
-      subst (λ (s : ℕ). WakesAlike s now v course) same
-      (wakes v (subst (λ (s : ℕ). Follows cmp s p v) (sym same) is.follows) is.none_done)
+  wake_at e now p course not_finish next wakes t v is now_is = grind (arith, common_steps, earlier_start)
 
   -- advancing event by event is ticking, from a world at rest, and from a settled one
   pub advances_alike : {now n : ℕ} {p : Planned P} {course : Course (Completed P) (Planned P)}

@@ -1,11 +1,12 @@
 -- Before any limit, a message completes at once in both worlds.
-use Rattle.link_simulation.proofs.Common.{◌≡◌, ℕ, ◌+◌, ◌<◌, ◌≤◌, [], ◌∷◌, Bool, true, false, cond, Option, Some, None}
-use Rattle.link_simulation.proofs.Common.{refl, sym, ap, ◌∙◌, subst, ◌&&◌, nat_lt, IfSome, if◌then◌else◌, find}
+use Rattle.link_simulation.proofs.Common.{arith, ◌≡◌, ℕ, ◌+◌, ◌<◌, ◌≤◌, [], ◌∷◌, Bool, true, false, cond, Option, Some}
+use Rattle.link_simulation.proofs.Common.{None, refl, sym, ap, ◌∙◌, subst, ◌&&◌, nat_lt, IfSome, if◌then◌else◌}
 use Rattle.link_simulation.proofs.Common.{list_any, Ordering, IsTotalOrder, Completed, Course, World, completion_of}
 use Rattle.link_simulation.proofs.Common.{goes, is_done, last_moment, later_of, meets, raised, ready, Runs, act}
-use Rattle.link_simulation.proofs.Common.{call_enqueue, complete_at_once, completed_at_once, Message, same_pair}
-use Rattle.link_simulation.proofs.Common.{IsLeastMoment, Planned, SomeReadyAt, next_event, CoursesAlike, Follows}
-use Rattle.link_simulation.proofs.Common.{StandsFor, Tallies, MomentTooLate}
+use Rattle.link_simulation.proofs.Common.{call_enqueue, complete_at_once, completed_at_once, Message, IsLeastMoment}
+use Rattle.link_simulation.proofs.Common.{Planned, SomeReadyAt, next_event, CoursesAlike, Follows, StandsFor, Tallies}
+use Rattle.link_simulation.proofs.Common.{MomentTooLate}
+use Rattle.std.proofs.lemmas.Grind.{common_steps}
 use Rattle.link_simulation.proofs.Simulation.AlikeMessages.{same_itself, message_itself}
 use Rattle.link_simulation.proofs.Rule.BeforeNext.{none_ready_at}
 use Rattle.link_simulation.proofs.Rule.Settling.{raised_alike}
@@ -15,10 +16,7 @@ use Rattle.link_simulation.proofs.Simulation.Queue.{preceded_none}
 module _ {P : Type 0} (cmp : P → P → Ordering) (order : IsTotalOrder cmp) where
   -- with nothing waiting, nothing is ever ready
   none_waits : (p : Planned P) (t : ℕ) → p.waiting ≡ [] → SomeReadyAt cmp p t → ⊥
-  none_waits p t empty some = absurd_some (ap (find (same_pair cmp some.0)) (sym empty) ∙ some.1)
-    where
-      absurd_some : None ≡ Some some.0 → ⊥
-      absurd_some e = cc
+  none_waits p t empty some = grind (arith, common_steps)
 
   start_kept : (p q : Planned P) (o : Option ℕ) → p.waiting ≡ [] → q.waiting ≡ [] → IsLeastMoment (SomeReadyAt cmp p) o
       → IsLeastMoment (SomeReadyAt cmp q) o

@@ -1,14 +1,14 @@
 -- Before its next event a world that a planned world stands for only drains, and at the planned finish something is
 -- done.
+use Rattle.std.proofs.lemmas.Grind.{common_steps}
 use Rattle.link_simulation.proofs.Common.{◌≡◌, ℕ, zero, suc, ◌+◌, ◌-◌, ◌<◌, ◌≤◌, List, [], ◌∷◌, map, Bool, true, false}
-use Rattle.link_simulation.proofs.Common.{cond, not, Option, Some, None, refl, sym, ap, ◌∙◌, subst, arith, add-one, ◌⊎◌}
-use Rattle.link_simulation.proofs.Common.{inl, inr, ◌||◌, ◌==◌, IfSome, slice_get, filter, find, list_any, AllZip}
-use Rattle.link_simulation.proofs.Common.{Ordering, IsTotalOrder, or_from, or_parts, cases_lt, or_right, not-true}
-use Rattle.link_simulation.proofs.Common.{Amount, same_peer, Flight, IsQuiet, World, flows, fronts, is_done}
-use Rattle.link_simulation.proofs.Common.{last_moment, may_start, ready, Message, OneForEachPair, PairsAlike}
-use Rattle.link_simulation.proofs.Common.{SameMessage, same_pair, IsLeastMoment, IsRated, RatedFlight, Planned}
-use Rattle.link_simulation.proofs.Common.{SomeReadyAt, SomeSpentAt, left_at, may_launch, next_event, rated_messages}
-use Rattle.link_simulation.proofs.Common.{IsSpentAt, AreFair, IsLowest, Parts, drained_by, is_unlimited, rate_of}
+use Rattle.link_simulation.proofs.Common.{not, Option, Some, None, refl, sym, ap, ◌∙◌, subst, arith, add-one, ◌⊎◌, inl}
+use Rattle.link_simulation.proofs.Common.{inr, ◌||◌, ◌==◌, IfSome, slice_get, filter, find, list_any, AllZip, Ordering}
+use Rattle.link_simulation.proofs.Common.{IsTotalOrder, or_from, or_parts, cases_lt, or_right, not-true, Amount}
+use Rattle.link_simulation.proofs.Common.{same_peer, Flight, IsQuiet, World, flows, fronts, is_done, last_moment}
+use Rattle.link_simulation.proofs.Common.{may_start, ready, Message, PairsAlike, SameMessage, same_pair, IsLeastMoment}
+use Rattle.link_simulation.proofs.Common.{IsRated, RatedFlight, Planned, SomeReadyAt, SomeSpentAt, left_at, may_launch}
+use Rattle.link_simulation.proofs.Common.{next_event, rated_messages, IsSpentAt, AreFair, Parts, is_unlimited, rate_of}
 use Rattle.link_simulation.proofs.Common.{Follows, IsSameFlight, StandsFor, Tallies, ArePositive, Drains, NextIs}
 use Rattle.link_simulation.proofs.Common.{Passes, comes_next, drain_each, drifted, never_comes, no_time, Each, each_map}
 use Rattle.link_simulation.proofs.Common.{each_filtered}
@@ -62,16 +62,7 @@ module _ {P : Type 0} (cmp : P → P → Ordering) (order : IsTotalOrder cmp) wh
   drained_on t k per (rate ∷ rates) [] gs rated all = absurd rated
   drained_on t k per (rate ∷ rates) (f ∷ fs) [] rated all = absurd all
   drained_on t k per (rate ∷ rates) (f ∷ fs) (g ∷ gs) rated all =
-      let same : IsSameFlight cmp t f g = all.0 in
-      let early : f.updated ≤ t = same.updated in
-      let count : t - f.updated + k ≡ t + k - f.updated = omega arith in
-      let left : drained_by (rate_of per rate) k g.left ≡ left_at (t + k) f =
-      ap (λ (r : Option Amount). drained_by r k g.left) (sym rated.0) ∙ ap (drained_by f.rate k) same.left
-      ∙ drained_by_twice f.rate (t - f.updated) k f.left same.rate same.lowest.positive
-      ∙ ap (λ (n : ℕ). drained_by f.rate n f.left) count in (
-        record { message = same.message; updated = omega arith; lowest = same.lowest; rate = same.rate; left = left },
-        drained_on t k per rates fs gs rated.1 all.1,
-      )
+      grind (arith, common_steps, rate_of, drained_by_twice, (drained_on t k per rates fs gs rated.1 all.1))
 
   pub positive_flights : (t : ℕ) (fs : List (RatedFlight P)) (gs : List (Flight P)) → AllZip (IsSameFlight cmp t) fs gs
       → ArePositive gs
@@ -79,9 +70,7 @@ module _ {P : Type 0} (cmp : P → P → Ordering) (order : IsTotalOrder cmp) wh
   positive_flights t [] (g ∷ gs) all = absurd all
   positive_flights t (f ∷ fs) [] all = absurd all
   positive_flights t (f ∷ fs) (g ∷ gs) all =
-      let low : IsLowest (left_at t f) =
-      drained_by_lowest f.rate (t - f.updated) f.left all.0.rate all.0.lowest.positive in
-      (subst (λ (a : Amount). 0 < a.den) (sym all.0.left) low.positive, positive_flights t fs gs all.1)
+      grind (arith, common_steps, drained_by_lowest, (positive_flights t fs gs all.1))
 
   -- ---- nothing is done before the planned finish
 
@@ -89,11 +78,7 @@ module _ {P : Type 0} (cmp : P → P → Ordering) (order : IsTotalOrder cmp) wh
       → list_any (λ (g : Flight P). a g || u g.message) gs ≡ false
       → list_any u (map (λ (g : Flight P). g.message) gs) ≡ false
   unlimited_none a u [] e = refl
-  unlimited_none a u (g ∷ gs) e =
-      let parts : ((a g || u g.message) ≡ false) × (list_any (λ (g : Flight P). a g || u g.message) gs ≡ false)
-      = or_parts (a g || u g.message) (list_any (λ (g : Flight P). a g || u g.message) gs) e in
-      let head : (a g ≡ false) × (u g.message ≡ false) = or_parts (a g) (u g.message) parts.0 in
-      or_from (u g.message) (list_any u (map (λ (g : Flight P). g.message) gs)) head.1 (unlimited_none a u gs parts.1)
+  unlimited_none a u (g ∷ gs) e = grind (arith, common_steps, or_parts, or_from, (unlimited_none a u gs))
 
   none_done_at : (u : Message P → Bool) (t : ℕ) (fs : List (RatedFlight P)) (gs : List (Flight P))
       → AllZip (IsSameFlight cmp t) fs gs
@@ -124,17 +109,9 @@ module _ {P : Type 0} (cmp : P → P → Ordering) (order : IsTotalOrder cmp) wh
       → list_any (λ (g : Flight P). (g.left.num == 0) || u g.message) gs ≡ true
   done_at u s t [] gs i f le all at spent = cc
   done_at u s t (x ∷ fs) [] i f le all at spent = absurd all
-  done_at u s t (x ∷ fs) (g ∷ gs) zero f le all at spent =
-      let same : f ≡ x = cc in
-      let spent_x : IsSpentAt s x = subst (λ (y : RatedFlight P). IsSpentAt s y) same spent in
-      let spent_now : IsSpentAt t x =
-      spent_later x.rate (s - x.updated) (t - x.updated) x.left all.0.rate all.0.lowest.positive (omega arith)
-      spent_x in
-      let none : g.left.num ≡ 0 = ap (λ (a : Amount). a.num) all.0.left ∙ spent_now in
-      rw (eq-eqb g.left.num 0 none) refl
+  done_at u s t (x ∷ fs) (g ∷ gs) zero f le all at spent = grind (arith, common_steps, spent_later, eq-eqb)
   done_at u s t (x ∷ fs) (g ∷ gs) (suc i) f le all at spent =
-      or_right ((g.left.num == 0) || u g.message) (list_any (λ (g : Flight P). (g.left.num == 0) || u g.message) gs)
-      (done_at u s t fs gs i f le all.1 at spent)
+      grind (arith, common_steps, or_right, (done_at u s t fs gs i f le all.1 at spent))
 
   -- ---- nothing is ready before the planned start
 
@@ -168,32 +145,18 @@ module _ {P : Type 0} (cmp : P → P → Ordering) (order : IsTotalOrder cmp) wh
   pub first_found : {X : Type 0} (test : X → Bool) (x : X) (rest xs : List X) → filter test xs ≡ x ∷ rest
       → find test xs ≡ Some x
   first_found test x rest [] e = cc
-  first_found {X} test x rest (y ∷ ys) e = by_test (test y) e (first_found test x rest ys)
-    where
-      by_test : (b : Bool) → cond b (y ∷ filter test ys) (filter test ys) ≡ x ∷ rest
-          → (filter test ys ≡ x ∷ rest → find test ys ≡ Some x) → cond b (Some y) (find test ys) ≡ Some x
-      by_test true e ih = cc
-      by_test false e ih = ih e
+  first_found {X} test x rest (y ∷ ys) e = grind (arith, common_steps, (first_found test x rest ys))
 
   -- the first of a pair is the first of its own pair
   pub own_first : (m x : Message P) (rest ms : List (Message P)) → filter (same_pair cmp m) ms ≡ x ∷ rest
       → find (same_pair cmp x) ms ≡ Some x
-  own_first m x rest ms e =
-      let found : find (same_pair cmp m) ms ≡ Some x = first_found (same_pair cmp m) x rest ms e in
-      find_like cmp order m x ms (find_passes (same_pair cmp m) x ms found) ∙ found
+  own_first m x rest ms e = grind (arith, common_steps, first_found, find_like, find_passes)
 
   -- a pair may start in the planned world where it may in the world
   pub may_alike : (t : ℕ) (p : Planned P) (w : World P) (m n : Message P) → PairsAlike cmp p.last_arrival w.last_arrival
       → AllZip (SameMessage cmp) (rated_messages p.sending) (flows w) → SameMessage cmp m n
       → may_launch cmp t p m ≡ may_start cmp t w n
-  may_alike t p w m n last all same =
-      rw (
-        any_alike cmp order (SameMessage cmp) (same_pair cmp m) (same_pair cmp n)
-            (λ k l e. pairs_alike cmp order m n k l same e) (rated_messages p.sending) (flows w) all,
-        last m.origin n.origin m.recipient n.recipient same.origin same.recipient,
-        same.latency,
-      )
-      refl
+  may_alike t p w m n last all same = grind (arith, common_steps, any_alike, pairs_alike)
 
   first_alike : (xs : List (Message P)) (y : Message P) (ys : List (Message P)) → AllZip (SameMessage cmp) xs (y ∷ ys)
       → (x : Message P) × (rest : List (Message P)) × (xs ≡ x ∷ rest) × SameMessage cmp x y
@@ -234,40 +197,20 @@ module _ {P : Type 0} (cmp : P → P → Ordering) (order : IsTotalOrder cmp) wh
     later k = drifted w stands.follows.rated.per stands.follows.rated.rates k
 
     pub rates_fair : AreFair cmp w.caps (flows w) stands.follows.rated.per stands.follows.rated.rates
-    rates_fair =
-        fair_alike cmp order p.caps w.caps stands.follows.tallies.caps (rated_messages p.sending) (flows w)
-        stands.follows.rated.per stands.follows.rated.rates
-        (messages_alike w.moment p.sending w.sending stands.follows.tallies.sending) stands.follows.rated.fair
+    rates_fair = grind (arith, common_steps, fair_alike, rated, messages_alike)
 
     pub all_positive : ArePositive w.sending
     all_positive = positive_flights w.moment p.sending w.sending stands.follows.tallies.sending
 
     flights_later : (k : ℕ) → AllZip (IsSameFlight cmp (w.moment + k)) p.sending (later k).sending
-    flights_later k =
-        drained_on w.moment k stands.follows.rated.per stands.follows.rated.rates p.sending w.sending
-        stands.follows.rated.rated stands.follows.tallies.sending
+    flights_later k = grind (arith, common_steps, drained_on, rated)
 
     flows_later : (k : ℕ) → map (λ (g : Flight P). g.message) (later k).sending ≡ flows w
     flows_later k = flows_drained cmp stands.follows.rated.per stands.follows.rated.rates k w.sending
 
     -- the drained world is what the planned world says of that moment
     pub follows_later : (k : ℕ) → Follows cmp (w.moment + k) p (later k)
-    follows_later k = record {
-      tallies = record {
-        moment = refl;
-        caps = stands.follows.tallies.caps;
-        limited = stands.follows.tallies.limited;
-        last_arrival = stands.follows.tallies.last_arrival;
-        next_id = stands.follows.tallies.next_id;
-        waiting = stands.follows.tallies.waiting;
-        pair_order = stands.follows.tallies.pair_order;
-        sending = flights_later k;
-        one_each = subst (OneForEachPair cmp) (sym (flows_later k)) stands.follows.tallies.one_each;
-        empty_at_first = stands.follows.tallies.empty_at_first;
-      };
-      rated = stands.follows.rated;
-      finish = stands.follows.finish;
-    }
+    follows_later k = grind (arith, common_steps, flights_later, flows_later, rated)
 
     none_unlimited : list_any (is_unlimited cmp w.caps) (flows w) ≡ false
     none_unlimited =
@@ -338,10 +281,7 @@ module _ {P : Type 0} (cmp : P → P → Ordering) (order : IsTotalOrder cmp) wh
             (passes_to n (omega arith) (subst (λ (o : Option ℕ). IfSome o (λ e. w.moment + suc n < e)) (sym e) tt)))
 
     pub spent_at_finish : (e : ℕ) → p.finish ≡ Some e → (e ≤ last_moment) × SomeSpentAt p.sending e
-    spent_at_finish e is =
-        let least : IsLeastMoment (SomeSpentAt p.sending) (Some e) =
-        subst (λ (o : Option ℕ). IsLeastMoment (SomeSpentAt p.sending) o) is stands.follows.finish in
-        (least.0, least.1)
+    spent_at_finish e is = grind (arith, common_steps)
 
     pub finish_is_later : (e : ℕ) → p.finish ≡ Some e → w.moment < e
     finish_is_later e is = by_order (cases_lt w.moment e) (spent_at_finish e is).1

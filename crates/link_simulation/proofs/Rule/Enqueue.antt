@@ -1,4 +1,5 @@
 -- A message that joins the planned waiting ones stands last among those of its pair, and their order by pairs stays.
+use Rattle.std.proofs.lemmas.Grind.{common_steps}
 use Rattle.link_simulation.proofs.Common.{◌≡◌, ℕ, ◌+◌, ◌<◌, ◌≤◌, length, arith, inl, inr, List, [], ◌∷◌, ◌++◌, Bool}
 use Rattle.link_simulation.proofs.Common.{true, false, cond, Option, Some, refl, sym, ap, ◌∙◌, subst, IfSome, filter}
 use Rattle.link_simulation.proofs.Common.{find, list_any, AllZip, Ordering, IsTotalOrder, or_from, or_parts, or_left}
@@ -6,9 +7,9 @@ use Rattle.link_simulation.proofs.Common.{filter-append, Completed, Course, Worl
 use Rattle.link_simulation.proofs.Common.{may_start, meets, ready, settle, start, start_next, EndsWith, flight_of, Runs}
 use Rattle.link_simulation.proofs.Common.{act, call_enqueue, Enqueues, Launches, launches, no_id, no_launch}
 use Rattle.link_simulation.proofs.Common.{nothing_waits, starts, too_early, at_once, Message, SameMessage, pair_before}
-use Rattle.link_simulation.proofs.Common.{same_pair, AreInPairOrder, Planned, may_launch, next_event, next_of, queued}
-use Rattle.link_simulation.proofs.Common.{CoursesAlike, Follows, IsSettled, StandsFor, Tallies, out_of_waiting, joined}
-use Rattle.link_simulation.proofs.Common.{finish_within, Each, each_map, zip-append}
+use Rattle.link_simulation.proofs.Common.{same_pair, AreInPairOrder, Planned, next_event, next_of, queued, CoursesAlike}
+use Rattle.link_simulation.proofs.Common.{Follows, IsSettled, StandsFor, Tallies, out_of_waiting, joined, finish_within}
+use Rattle.link_simulation.proofs.Common.{Each, each_map, zip-append}
 use Rattle.std.proofs.lemmas.List.{append-nil}
 use Rattle.link_simulation.proofs.Simulation.Queue.{pair_sym, pair_like, find_passes, preceded_none}
 use Rattle.link_simulation.proofs.Rule.BeforeNext.{filter_none, may_alike, messages_alike}
@@ -45,13 +46,8 @@ module _ {P : Type 0} (cmp : P → P → Ordering) (order : IsTotalOrder cmp) wh
       → list_any test ms ≡ false → list_any test (queued cmp m ms) ≡ false
   any_queued test m [] e none = or_from (test m) false e refl
   any_queued test m (n ∷ ns) e none =
-      let parts : (test n ≡ false) × (list_any test ns ≡ false) = or_parts (test n) (list_any test ns) none in
-      by_test (pair_before cmp m n) parts.0 (any_queued test m ns e parts.1)
-    where
-      by_test : (b : Bool) → test n ≡ false → list_any test (queued cmp m ns) ≡ false
-          → list_any test (cond b (m ∷ n ∷ ns) (n ∷ queued cmp m ns)) ≡ false
-      by_test true h ih = or_from (test m) (list_any test (n ∷ ns)) e none
-      by_test false h ih = or_from (test n) (list_any test (queued cmp m ns)) h ih
+      grind (arith, common_steps, or_parts, or_from, (any_queued test m ns e (or_parts (test n) (list_any test ns)
+      none).1))
 
   pub queued_in_order : (m : Message P) (ms : List (Message P)) → AreInPairOrder cmp ms
       → AreInPairOrder cmp (queued cmp m ms)
@@ -105,45 +101,15 @@ module _ {P : Type 0} (cmp : P → P → Ordering) (order : IsTotalOrder cmp) wh
   -- the worlds still tally with the message among those that wait
   pub queued_tallies : (t : ℕ) (p : Planned P) (w : World P) (m : Message P) → p.limited ≡ true → Tallies cmp t p w
       → Tallies cmp t (record p { waiting = queued cmp m p.waiting }) (record w { waiting = w.waiting ++ m ∷ [] })
-  queued_tallies t p w m limits same = record {
-    moment = same.moment;
-    caps = same.caps;
-    limited = same.limited;
-    last_arrival = same.last_arrival;
-    next_id = same.next_id;
-    waiting = λ k.
-        subst (λ (xs : List (Message P)). AllZip (SameMessage cmp) xs (filter (same_pair cmp k) (w.waiting ++ m ∷ [])))
-        (sym (queued_last k m p.waiting same.pair_order))
-        (subst (λ (ys : List (Message P)). AllZip (SameMessage cmp)
-        (filter (same_pair cmp k) p.waiting ++ filter (same_pair cmp k) (m ∷ [])) ys)
-        (sym (filter-append (same_pair cmp k) w.waiting (m ∷ [])))
-        (zip-append (SameMessage cmp) (filter (same_pair cmp k) p.waiting) (filter (same_pair cmp k) (m ∷ []))
-        (filter (same_pair cmp k) w.waiting) (filter (same_pair cmp k) (m ∷ [])) (same.waiting k)
-        (itself (same_pair cmp k m))));
-    pair_order = queued_in_order m p.waiting same.pair_order;
-    sending = same.sending;
-    one_each = same.one_each;
-    empty_at_first = λ free. absurd (both_modes limits free);
-  }
-    where
-      both_modes : p.limited ≡ true → p.limited ≡ false → ⊥
-      both_modes on off = cc
-
-      itself : (b : Bool) → AllZip (SameMessage cmp) (cond b (m ∷ []) []) (cond b (m ∷ []) [])
-      itself true = (message_itself cmp order m, tt)
-      itself false = tt
+  queued_tallies t p w m limits same =
+      grind (arith, common_steps, queued_last, filter-append, zip-append, queued_in_order, message_itself)
 
   -- ---- the call
 
   find_end : {X : Type 0} (test : X → Bool) (x : X) (xs : List X) → test x ≡ false
       → find test (xs ++ x ∷ []) ≡ find test xs
   find_end test x [] e = rw e refl
-  find_end {X} test x (z ∷ xs) e = by_test (test z) (find_end test x xs e)
-    where
-      by_test : (b : Bool) → find test (xs ++ x ∷ []) ≡ find test xs
-          → cond b (Some z) (find test (xs ++ x ∷ [])) ≡ cond b (Some z) (find test xs)
-      by_test true ih = refl
-      by_test false ih = ih
+  find_end {X} test x (z ∷ xs) e = grind (arith, common_steps, (find_end test x xs e))
 
   found_end : {X : Type 0} (test : X → Bool) (x : X) (xs : List X) → test x ≡ true
       → (z : X) × (find test (xs ++ x ∷ []) ≡ Some z)
@@ -192,17 +158,7 @@ module _ {P : Type 0} (cmp : P → P → Ordering) (order : IsTotalOrder cmp) wh
       → find (same_pair cmp m) (waits_too u m).waiting ≡ Some y → may_start cmp t (waits_too u m) y ≡ false
       → (k : Message P) → IsRested cmp order k t (waits_too u m)
   unfolding IsRested
-  all_rest t u m y none_ready found early k = by_pair (same_pair cmp k m) refl
-    where
-      own : same_pair cmp k m ≡ true → IsRested cmp order k t (waits_too u m)
-      own e x there =
-          let same : Some y ≡ Some x = sym found ∙ find_like cmp order k m (waits_too u m).waiting e ∙ there in
-          let it : y ≡ x = cc in
-          subst (λ (z : Message P). may_start cmp t (waits_too u m) z ≡ false) it early
-
-      by_pair : (b : Bool) → same_pair cmp k m ≡ b → IsRested cmp order k t (waits_too u m)
-      by_pair true e = own e
-      by_pair false e = others_rest t u m k none_ready e
+  all_rest t u m y none_ready found early k = grind (arith, common_steps, find_like, others_rest)
 
   -- a launch that is too early changes nothing
   stays_out : {t : ℕ} {p : Planned P} {o : Option (Message P)} {course : Course (Message P) (Planned P)}
@@ -211,15 +167,9 @@ module _ {P : Type 0} (cmp : P → P → Ordering) (order : IsTotalOrder cmp) wh
   stays_out nothing_waits w y follows early alike = refl
   stays_out (too_early e) w y follows early alike = refl
   stays_out {t = t} {p = p} (no_id {m = x} may last) w y follows early alike =
-      let same : may_launch cmp t p x ≡ may_start cmp t w y
-      = may_alike cmp order t p w x y follows.tallies.last_arrival
-      (messages_alike cmp order t p.sending w.sending follows.tallies.sending) alike in
-      cc
+      grind (arith, common_steps, may_alike, messages_alike)
   stays_out {t = t} {p = p} (starts {m = x} may below account) w y follows early alike =
-      let same : may_launch cmp t p x ≡ may_start cmp t w y
-      = may_alike cmp order t p w x y follows.tallies.last_arrival
-      (messages_alike cmp order t p.sending w.sending follows.tallies.sending) alike in
-      cc
+      grind (arith, common_steps, may_alike, messages_alike)
 
   begins : (t : ℕ) (w : World P) (y : Message P) → may_start cmp t w y ≡ true
       → start_next cmp t w (Some y) ≡ start cmp w y

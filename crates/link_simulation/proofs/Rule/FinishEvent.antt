@@ -1,13 +1,13 @@
 -- One event at the planned finish, in ticks: where nothing may start at once, the planned world stands for the world
 -- after it.
-use Rattle.link_simulation.proofs.Common.{◌≡◌, ℕ, zero, suc, ◌+◌, ◌<◌, ◌≤◌, List, [], length, Bool, true, false, not}
-use Rattle.link_simulation.proofs.Common.{Option, Some, None, refl, sym, ap, ◌∙◌, subst, arith, ◌⊎◌, inl, inr, ◌&&◌}
-use Rattle.link_simulation.proofs.Common.{list_any, Ordering, IsTotalOrder, cases_lt, leb-true, le-leb, Completed}
-use Rattle.link_simulation.proofs.Common.{Course, IsQuiet, World, and_then, goes, instant, is_done, is_in_order}
-use Rattle.link_simulation.proofs.Common.{last_moment, meets, preceded, ready, settle, settle_within, wake, Message}
-use Rattle.link_simulation.proofs.Common.{same_pair, IsLeastMoment, Planned, SomeReadyAt, may_launch, rated_messages}
-use Rattle.link_simulation.proofs.Common.{Follows, IsSettled, StandsFor, Drains, Passes, Ticks, no_tick, no_time}
-use Rattle.link_simulation.proofs.Common.{one_tick, quiet_tick, tick_faults, find_from_any}
+use Rattle.std.proofs.lemmas.Grind.{common_steps}
+use Rattle.link_simulation.proofs.Common.{◌≡◌, ℕ, zero, suc, ◌<◌, ◌≤◌, List, [], true, false, Option, Some, None, refl}
+use Rattle.link_simulation.proofs.Common.{ap, subst, arith, ◌⊎◌, inl, inr, list_any, Ordering, IsTotalOrder, cases_lt}
+use Rattle.link_simulation.proofs.Common.{leb-true, le-leb, Completed, Course, IsQuiet, World, and_then, goes, instant}
+use Rattle.link_simulation.proofs.Common.{is_done, is_in_order, last_moment, meets, preceded, settle, settle_within}
+use Rattle.link_simulation.proofs.Common.{wake, Message, IsLeastMoment, Planned, SomeReadyAt, may_launch, IsSettled}
+use Rattle.link_simulation.proofs.Common.{StandsFor, Drains, Passes, Ticks, no_tick, no_time, one_tick, quiet_tick}
+use Rattle.link_simulation.proofs.Common.{tick_faults, find_from_any}
 use Rattle.std.proofs.lemmas.List.{append-nil}
 use Rattle.link_simulation.proofs.Simulation.Queue.{settle_none, preceded_none}
 use Rattle.link_simulation.proofs.Rule.BeforeNext.{none_ready_at}
@@ -30,9 +30,7 @@ module _ {P : Type 0} (cmp : P → P → Ordering) (order : IsTotalOrder cmp) wh
   instant_is w v cs e = ap (λ (c : Course (Completed P) (World P)). and_then c (λ u. wake cmp u.moment u)) e
 
   pub instant_quiet : (w : World P) → IsQuiet cmp w.moment w → instant cmp w ≡ goes [] w
-  instant_quiet w quiet =
-      instant_is w w [] (settle_quiet (length w.sending + length w.waiting) w.moment w quiet.none_done)
-      ∙ ap (preceded []) (wake_none cmp order (length w.waiting) w.moment w quiet.none_ready)
+  instant_quiet w quiet = grind (arith, common_steps, instant_is, settle_quiet, wake_none)
 
   -- ---- quiet ticks, and then one
 
@@ -57,13 +55,7 @@ module _ {P : Type 0} (cmp : P → P → Ordering) (order : IsTotalOrder cmp) wh
 
   may_later : (p : Planned P) (m : Message P) (s t : ℕ) → s ≤ t → may_launch cmp s p m ≡ true
       → may_launch cmp t p m ≡ true
-  may_later p m s t le e = by_idle (not (list_any (same_pair cmp m) (rated_messages p.sending))) e
-    where
-      by_idle : (b : Bool) → (b && is_in_order (p.last_arrival m.origin m.recipient) (s + m.latency)) ≡ true
-          → (b && is_in_order (p.last_arrival m.origin m.recipient) (t + m.latency)) ≡ true
-      by_idle true e =
-          in_order_later (p.last_arrival m.origin m.recipient) (s + m.latency) (t + m.latency) (omega arith) e
-      by_idle false e = cc
+  may_later p m s t le e = grind (arith, common_steps, in_order_later)
 
   pub ready_later : (p : Planned P) (s t : ℕ) → s ≤ t → SomeReadyAt cmp p s → SomeReadyAt cmp p t
   ready_later p s t le some = (some.0, some.1, may_later p some.0 s t le some.2)
@@ -93,22 +85,8 @@ module _ {P : Type 0} (cmp : P → P → Ordering) (order : IsTotalOrder cmp) wh
   -- with nothing to start at once, a settled planned world stands for its world
   pub settled_stands : (t : ℕ) (p : Planned P) (w : World P) → t ≤ last_moment → IsSettled cmp t p w
       → ¬ SomeReadyAt cmp p t → StandsFor cmp p w
-  settled_stands t p w within settled not_now =
-      let at : w.moment ≡ t = settled.follows.tallies.moment in
-      record {
-        follows = subst (λ (s : ℕ). Follows cmp s p w) (sym at) settled.follows;
-        quiet =
-            record {
-              none_done = settled.none_done;
-              none_ready = ap (λ (s : ℕ). ready cmp s w) at
-                  ∙ none_ready_at cmp order t p w settled.follows.tallies not_now;
-            };
-        start = start_from p t p.start settled.start not_now;
-      }
+  settled_stands t p w within settled not_now = grind (arith, common_steps, none_ready_at, start_from)
 
   pub settled_wakes : (t : ℕ) (p : Planned P) (w : World P) → IsSettled cmp t p w → ¬ SomeReadyAt cmp p t
       → wake cmp w.moment w ≡ goes [] w
-  settled_wakes t p w settled not_now =
-      wake_none cmp order (length w.waiting) w.moment w
-      (ap (λ (s : ℕ). ready cmp s w) settled.follows.tallies.moment
-      ∙ none_ready_at cmp order t p w settled.follows.tallies not_now)
+  settled_wakes t p w settled not_now = grind (arith, common_steps, wake_none, none_ready_at)

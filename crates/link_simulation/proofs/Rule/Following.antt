@@ -1,19 +1,19 @@
 -- A message that is done lands, and the next one of its pair may start, before the others get their rates: one account
 -- does for both.
-use Rattle.link_simulation.proofs.Common.{◌≡◌, ℕ, ◌+◌, ◌<◌, List, [], ◌∷◌, ◌++◌, true, false, Option, Some, refl, sym}
-use Rattle.link_simulation.proofs.Common.{ap, ◌∙◌, subst, not, ◌&&◌, filter, list_any, AllZip, Ordering, IsTotalOrder}
-use Rattle.link_simulation.proofs.Common.{not-true, Each, each_map, zip-append, Message, same_pair, Completed, Course}
-use Rattle.link_simulation.proofs.Common.{goes, last_moment, is_late, completed, preceded, is_in_order, IsLowest}
-use Rattle.link_simulation.proofs.Common.{Planned, RatedFlight, rated_messages, next_of, may_launch, is_spent}
-use Rattle.link_simulation.proofs.Common.{drained_to, Accounts, Launches, starts, Finishes, completes, Settles}
-use Rattle.link_simulation.proofs.Common.{settling, landed, launched}
+use Rattle.link_simulation.proofs.Common.{arith, ◌≡◌, ℕ, ◌<◌, List, [], ◌∷◌, ◌++◌, true, false, Option, Some, refl, sym}
+use Rattle.link_simulation.proofs.Common.{ap, ◌∙◌, subst, not, filter, AllZip, Ordering, IsTotalOrder, not-true}
+use Rattle.link_simulation.proofs.Common.{each_map, zip-append, Message, Completed, Course, goes, last_moment, is_late}
+use Rattle.link_simulation.proofs.Common.{completed, preceded, IsLowest, Planned, RatedFlight, rated_messages, next_of}
+use Rattle.link_simulation.proofs.Common.{may_launch, is_spent, drained_to, Accounts, Launches, starts, Finishes}
+use Rattle.link_simulation.proofs.Common.{completes, Settles, settling, landed, launched}
+use Rattle.std.proofs.lemmas.Grind.{common_steps}
 use Rattle.link_simulation.specs.Rule.Leaving.{Leaves}
 use Rattle.link_simulation.proofs.Laws.Orderly.{Stays, stayed_messages}
 use Rattle.link_simulation.proofs.Rule.Accounts.{each_passes}
 use Rattle.link_simulation.proofs.Rule.BeforeNext.{filter_none}
 use Rattle.link_simulation.proofs.Rule.OneAccount.{AreLowest, IsAccountedAt, starting, account_exists, zip_each}
-use Rattle.link_simulation.proofs.Rule.OneAccount.{accounted, all_and_one_stay, drained_still}
-use Rattle.link_simulation.proofs.Rule.OneAccount.{none_and_one_leave, none_leave}
+use Rattle.link_simulation.proofs.Rule.OneAccount.{accounted, all_and_one_stay, drained_still, none_and_one_leave}
+use Rattle.link_simulation.proofs.Rule.OneAccount.{none_leave}
 
 -- two lists that both match a third one match each other
 zip_beside : {X Y Z : Type 0} (R : X → Y → Type 0) (S : X → Z → Type 0) (T : Y → Z → Type 0)
@@ -60,13 +60,7 @@ module _ {P : Type 0} (cmp : P → P → Ordering) (order : IsTotalOrder cmp) wh
   -- none of what is left after some have left is done
   none_done : (t : ℕ) (old here : Planned P) (ls : List (Message P)) → Leaves cmp t old ls here
       → filter (is_spent cmp here.caps) here.sending ≡ []
-  none_done t old here ls leaves =
-      let stay : Each (λ f. not (is_spent cmp here.caps f) ≡ true) here.sending =
-      subst (λ (q : Planned P). Each (λ f. not (is_spent cmp q.caps f) ≡ true) q.sending) (sym leaves.is)
-      (each_passes (λ f. not (is_spent cmp old.caps f)) (drained_to t old.sending)) in
-      filter_none (is_spent cmp here.caps) here.sending
-      (each_map (λ f. not (is_spent cmp here.caps f) ≡ true) (λ f. is_spent cmp here.caps f ≡ false) here.sending
-      (λ f e. not-true (is_spent cmp here.caps f) e) stay)
+  none_done t old here ls leaves = grind (arith, common_steps, each_passes, filter_none, each_map, not-true)
 
   -- what stands at a moment stays as it is, and so does a message that starts at it
   pub none_leaves_again : (t : ℕ) (old here : Planned P) (m next : Message P) (ls : List (Message P))
@@ -116,25 +110,10 @@ module _ {P : Type 0} (cmp : P → P → Ordering) (order : IsTotalOrder cmp) wh
         (all_and_one_stay cmp order here.next_id t here.caps here.sending next stays still_here none_here) a.stayed))
 
     accounts_there : Accounts cmp t (launched cmp t (landed cmp t there m) next) [] new
-    accounts_there = record {
-      per = a.per;
-      rates = a.rates;
-      left = sym (ap rated_messages
-          (none_and_one_leave cmp order here.next_id t here.caps fs next stays still_there none_there));
-      stayed = left_alike;
-      fair = a.fair;
-      rated = a.rated;
-      finish = a.finish;
-      same = a.same;
-    }
+    accounts_there = grind (arith, common_steps, none_and_one_leave, left_alike)
 
     starts_beside : Launches cmp t (landed cmp t there m) (Some next) (goes [] new)
-    starts_beside =
-        let may_there : may_launch cmp t (landed cmp t there m) next ≡ true =
-        ap (λ (ms : List (Message P)). not (list_any (same_pair cmp next) ms)
-        && is_in_order ((landed cmp t here m).last_arrival next.origin next.recipient) (t + next.latency))
-        (stayed_messages t here.sending fs stayed) ∙ may in
-        starts may_there id accounts_there
+    starts_beside = grind (arith, common_steps, there, stayed_messages, starts, accounts_there)
 
   -- the next message of the pair of one that is done starts before the others get their rates
   pub follows : (t : ℕ) (old here new : Planned P) (m next : Message P) (ls : List (Message P))

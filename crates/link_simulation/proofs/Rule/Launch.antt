@@ -1,4 +1,5 @@
 -- A launch in the planned world is a start in the world, and what is done at once leaves.
+use Rattle.std.proofs.lemmas.Grind.{common_steps}
 use Rattle.link_simulation.proofs.Common.{◌≡◌, ℕ, ◌+◌, ◌-◌, ◌<◌, ◌≤◌, List, [], ◌∷◌, ◌++◌, map, length, Bool, true}
 use Rattle.link_simulation.proofs.Common.{false, cond, not, Option, Some, None, refl, sym, ap, ◌∙◌, subst, arith}
 use Rattle.link_simulation.proofs.Common.{nat_le, ⊤, ◌&&◌, filter, find, list_any, AllZip, Ordering, IsTotalOrder}
@@ -6,9 +7,9 @@ use Rattle.link_simulation.proofs.Common.{or_from, or_parts, not-true, map-appen
 use Rattle.link_simulation.proofs.Common.{Completed, Course, Flight, World, flows, goes, is_done, is_in_order}
 use Rattle.link_simulation.proofs.Common.{last_moment, may_start, meets, start, flight_of, Launches, launched, no_id}
 use Rattle.link_simulation.proofs.Common.{nothing_waits, starts, too_early, Message, OneForEachPair, SameMessage}
-use Rattle.link_simulation.proofs.Common.{pair_before, same_pair, AreInPairOrder, Planned, may_launch, next_of, Follows}
-use Rattle.link_simulation.proofs.Common.{IsSameFlight, Tallies, FlowIdsUsedUp, leb-true, le-leb, without_first}
-use Rattle.link_simulation.proofs.Common.{leaving, staying, out_of_waiting, joined, launch_then, Each, each_map}
+use Rattle.link_simulation.proofs.Common.{same_pair, AreInPairOrder, Planned, next_of, Follows, IsSameFlight, Tallies}
+use Rattle.link_simulation.proofs.Common.{FlowIdsUsedUp, leb-true, le-leb, without_first, leaving, staying}
+use Rattle.link_simulation.proofs.Common.{out_of_waiting, joined, launch_then, Each, each_map}
 use Rattle.std.proofs.lemmas.List.{append-nil}
 use Rattle.std.proofs.lemmas.Slice.Zip.{all_zipped_more}
 use Rattle.link_simulation.proofs.Simulation.LowestTerms.{whole_lowest, drained_none}
@@ -30,12 +31,7 @@ head_of (x ∷ xs) = Some x
 
 pub head_found : {X : Type 0} (test : X → Bool) (xs : List X) → find test xs ≡ head_of (filter test xs)
 head_found test [] = refl
-head_found {X} test (x ∷ xs) = by_test (test x) (head_found test xs)
-  where
-    by_test : (b : Bool) → find test xs ≡ head_of (filter test xs)
-        → cond b (Some x) (find test xs) ≡ head_of (cond b (x ∷ filter test xs) (filter test xs))
-    by_test true ih = refl
-    by_test false ih = ih
+head_found {X} test (x ∷ xs) = grind (arith, common_steps, (head_found test xs))
 
 pub filter_all : {X : Type 0} (test : X → Bool) (xs : List X) → Each (λ x. test x ≡ false) xs
     → filter (λ x. not (test x)) xs ≡ xs
@@ -66,13 +62,7 @@ any_but_first : {X : Type 0} (p test : X → Bool) (xs : List X) → list_any p 
     → list_any p (without_first test xs) ≡ false
 any_but_first p test [] e = refl
 any_but_first {X} p test (x ∷ xs) e =
-    let parts : (p x ≡ false) × (list_any p xs ≡ false) = or_parts (p x) (list_any p xs) e in
-    by_test (test x) parts.0 parts.1 (any_but_first p test xs parts.1)
-  where
-    by_test : (b : Bool) → p x ≡ false → list_any p xs ≡ false → list_any p (without_first test xs) ≡ false
-        → list_any p (cond b xs (x ∷ without_first test xs)) ≡ false
-    by_test true h k ih = k
-    by_test false h k ih = or_from (p x) (list_any p (without_first test xs)) h ih
+    grind (arith, common_steps, or_parts, or_from, (any_but_first p test xs (or_parts (p x) (list_any p xs) e).1))
 
 module _ {P : Type 0} (cmp : P → P → Ordering) (order : IsTotalOrder cmp) where
   -- ---- what waits
@@ -80,14 +70,7 @@ module _ {P : Type 0} (cmp : P → P → Ordering) (order : IsTotalOrder cmp) wh
   pub pair_order_without : (test : Message P → Bool) (ms : List (Message P)) → AreInPairOrder cmp ms
       → AreInPairOrder cmp (without_first test ms)
   pair_order_without test [] h = tt
-  pair_order_without test (m ∷ ms) h =
-      by_test (test m) (any_but_first (λ n. pair_before cmp n m) test ms h.0) (pair_order_without test ms h.1)
-    where
-      by_test : (b : Bool) → list_any (λ n. pair_before cmp n m) (without_first test ms) ≡ false
-          → AreInPairOrder cmp (without_first test ms)
-          → AreInPairOrder cmp (cond b ms (m ∷ without_first test ms))
-      by_test true k ih = h.1
-      by_test false k ih = (k, ih)
+  pair_order_without test (m ∷ ms) h = grind (arith, common_steps, any_but_first, (pair_order_without test ms h.1))
 
   -- the first message of a pair leaves the waiting ones of that pair alone shorter
   pub waits_without : (m x : Message P) (ws : List (Message P))
@@ -132,25 +115,7 @@ module _ {P : Type 0} (cmp : P → P → Ordering) (order : IsTotalOrder cmp) wh
       → AllZip (SameMessage cmp) (filter (same_pair cmp m) (without_first (same_pair cmp x) ms))
       (filter (same_pair cmp m) (without_first (same_pair cmp y) ns))
   waiting_taken x y m ms ns same all =
-      subst
-      (λ (ks : List (Message P)). AllZip (SameMessage cmp) ks
-      (filter (same_pair cmp m) (without_first (same_pair cmp y) ns)))
-      (sym (waits_without m x ms))
-      (subst
-      (λ (ks : List (Message P)). AllZip (SameMessage cmp)
-      (cond (same_pair cmp m x) (rest_of (filter (same_pair cmp m) ms)) (filter (same_pair cmp m) ms)) ks)
-      (sym (waits_without m y ns))
-      (by_test (same_pair cmp m x) (same_pair cmp m y)
-      (pairs_alike cmp order m m x y (message_itself cmp order m) same)))
-    where
-      by_test : (a b : Bool) → a ≡ b
-          → AllZip (SameMessage cmp) (cond a (rest_of (filter (same_pair cmp m) ms)) (filter (same_pair cmp m) ms))
-          (cond b (rest_of (filter (same_pair cmp m) ns)) (filter (same_pair cmp m) ns))
-      by_test true true e =
-          rests_alike (SameMessage cmp) (filter (same_pair cmp m) ms) (filter (same_pair cmp m) ns) all
-      by_test true false e = cc
-      by_test false true e = cc
-      by_test false false e = all
+      grind (arith, common_steps, waits_without, rest_of, pairs_alike, message_itself, rests_alike)
 
   -- the pair's next is the same in both worlds
   pub next_alike : (t : ℕ) (p : Planned P) (w : World P) (m n : Message P) → Tallies cmp t p w → SameMessage cmp m n
@@ -190,16 +155,7 @@ module _ {P : Type 0} (cmp : P → P → Ordering) (order : IsTotalOrder cmp) wh
   -- before any limit nothing waits
   pub waits_limited : (t : ℕ) (p : Planned P) (w : World P) (y : Message P) → Tallies cmp t p w
       → find (same_pair cmp y) w.waiting ≡ Some y → p.limited ≡ false → ⊥
-  waits_limited t p w y same own free =
-      let empty : AllZip (SameMessage cmp) [] (filter (same_pair cmp y) w.waiting)
-      = subst
-      (λ (ms : List (Message P)). AllZip (SameMessage cmp) (filter (same_pair cmp y) ms)
-      (filter (same_pair cmp y) w.waiting))
-      (same.empty_at_first free).1 (same.waiting y) in
-      let none : find (same_pair cmp y) w.waiting ≡ None =
-      find_none (same_pair cmp y) w.waiting
-      (none_matched (SameMessage cmp) (filter (same_pair cmp y) w.waiting) empty) in
-      cc
+  waits_limited t p w y same own free = grind (arith, common_steps, find_none, none_matched)
 
   pub launched_tallies : (t : ℕ) (p : Planned P) (w : World P) (x y : Message P) → Tallies cmp t p w
       → SameMessage cmp x y → find (same_pair cmp y) w.waiting ≡ Some y
@@ -227,10 +183,7 @@ module _ {P : Type 0} (cmp : P → P → Ordering) (order : IsTotalOrder cmp) wh
 
   pub staying_none : (w : World P) → NoneDone (staying cmp w)
   unfolding staying
-  staying_none w =
-      each_map (λ g. not (is_done cmp w g) ≡ true) (λ g. is_done cmp w g ≡ false)
-      (filter (λ g. not (is_done cmp w g)) w.sending) (λ g. not-true (is_done cmp w g))
-      (each_passes (λ g. not (is_done cmp w g)) w.sending)
+  staying_none w = grind (arith, common_steps, each_map, not-true, each_passes)
 
   -- those that join the leavers, and the world after the start
   abbrev pub joining : World P → Message P → List (Flight P)
@@ -241,9 +194,7 @@ module _ {P : Type 0} (cmp : P → P → Ordering) (order : IsTotalOrder cmp) wh
 
   pub joining_leaves : (w : World P) (y : Message P) → NoneDone w → leaving cmp (joined cmp w y) ≡ joining w y
   unfolding leaving
-  joining_leaves w y none =
-      filter-append (is_done cmp w) w.sending (flight_of y ∷ [])
-      ∙ ap (λ (q : List (Flight P)). q ++ joining w y) (filter_none (is_done cmp w) w.sending none)
+  joining_leaves w y none = grind (arith, common_steps, filter-append, filter_none)
 
   pub started_stays : (w : World P) (y : Message P) → NoneDone w → staying cmp (joined cmp w y) ≡ started w y
   unfolding staying
@@ -316,26 +267,11 @@ module _ {P : Type 0} (cmp : P → P → Ordering) (order : IsTotalOrder cmp) wh
       → (nat_le last_moment w.next_id) ≡ false
       → launch_then cmp next t fs w (Some y) ≡ next (fs ++ joining w y) (started w y)
   unfolding launch_then
-  starts_so next t fs w y e f = rw (e, f) (by_test (is_done cmp w (flight_of y)))
-    where
-      by_test : (b : Bool)
-          → cond b (next (fs ++ flight_of y ∷ []) (out_of_waiting cmp w y)) (next fs (joined cmp w y))
-          ≡ next (fs ++ cond b (flight_of y ∷ []) []) (cond b (out_of_waiting cmp w y) (joined cmp w y))
-      by_test true = refl
-      by_test false = ap (λ (q : List (Flight P)). next q (joined cmp w y)) (sym (append-nil fs))
+  starts_so next t fs w y e f = grind (arith, common_steps, joined, append-nil)
 
   pub started_fewer : (w : World P) (y : Message P) → find (same_pair cmp y) w.waiting ≡ Some y
       → length (joining w y) + length (started w y).waiting ≤ length w.waiting
-  started_fewer w y e =
-      let fewer : length (without_first (same_pair cmp y) w.waiting) + 1 ≡ length w.waiting =
-      length_without (same_pair cmp y) y w.waiting e in
-      by_test (is_done cmp w (flight_of y)) fewer
-    where
-      by_test : (b : Bool) → length (without_first (same_pair cmp y) w.waiting) + 1 ≡ length w.waiting
-          → length (cond b (flight_of y ∷ []) []) + length (cond b (out_of_waiting cmp w y) (joined cmp w y)).waiting
-          ≤ length w.waiting
-      by_test true h = omega arith
-      by_test false h = omega arith
+  started_fewer w y e = grind (arith, common_steps, length_without, joined)
 
   pub idle_from : (a b : Bool) → (not a && b) ≡ true → a ≡ false
   idle_from true b e = cc
@@ -375,13 +311,7 @@ module _ {P : Type 0} (cmp : P → P → Ordering) (order : IsTotalOrder cmp) wh
       }
   launch_alike (no_id may last) w fs m None follows none is alike = absurd alike
   launch_alike {t = t} {p = p} (no_id {m = x} may last) w fs m (Some y) follows none is alike =
-      let may_too : may_start cmp t w y ≡ true
-      = sym
-      (may_alike cmp order t p w x y follows.tallies.last_arrival
-      (messages_alike cmp order t p.sending w.sending follows.tallies.sending) alike)
-      ∙ may in
-      let ids : last_moment ≤ w.next_id = subst (λ (n : ℕ). last_moment ≤ n) follows.tallies.next_id last in
-      λ next. starts_fault next t fs w y may_too (le-leb last_moment w.next_id ids)
+      grind (arith, common_steps, may_alike, messages_alike, starts_fault, le-leb)
   launch_alike (starts may below account) w fs m None follows none is alike = absurd alike
   launch_alike {t = t} {p = p} (starts {m = x} {leavers = leavers} {new = new} may below account) w fs m (Some y)
       follows none is alike =
@@ -425,13 +355,9 @@ module _ {P : Type 0} (cmp : P → P → Ordering) (order : IsTotalOrder cmp) wh
       → OptionsAlike (SameMessage cmp) o (Some y) → StartAlike t w y course
   start_alike nothing_waits w y follows none may own alike = absurd alike
   start_alike {t = t} {p = p} (too_early {m = x} early) w y follows none may own alike =
-      let same : may_launch cmp t p x ≡ may_start cmp t w y
-      = may_alike cmp order t p w x y follows.tallies.last_arrival
-      (messages_alike cmp order t p.sending w.sending follows.tallies.sending) alike in
-      cc
+      grind (arith, common_steps, may_alike, messages_alike)
   start_alike {t = t} {p = p} (no_id {m = x} launches last) w y follows none may own alike =
-      let ids : last_moment ≤ w.next_id = subst (λ (n : ℕ). last_moment ≤ n) follows.tallies.next_id last in
-      rw (le-leb last_moment w.next_id ids) refl
+      grind (arith, common_steps, le-leb)
   start_alike {t = t} {p = p} (starts {m = x} {leavers = leavers} {new = new} launches below account) w y follows none
       may own alike =
       let idle : list_any (same_pair cmp y) (flows w) ≡ false =

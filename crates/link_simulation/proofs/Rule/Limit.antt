@@ -1,16 +1,16 @@
 -- The empty planned world stands for the empty world, and new caps do in the planned world what they do in the world.
+use Rattle.std.proofs.lemmas.Grind.{common_steps}
 use Rattle.link_simulation.proofs.Common.{◌≡◌, ℕ, zero, suc, ◌+◌, ◌-◌, ◌<◌, ◌≤◌, List, [], ◌∷◌, length, true, false}
-use Rattle.link_simulation.proofs.Common.{Option, Some, None, refl, sym, ap, ◌∙◌, subst, arith, IfSome, list_any}
-use Rattle.link_simulation.proofs.Common.{AllZip, Ordering, IsTotalOrder, Completed, Course, Flight, IsQuiet, World}
-use Rattle.link_simulation.proofs.Common.{goes, is_done, last_moment, meets, new_world, ready, settle, EndsWith, Runs}
-use Rattle.link_simulation.proofs.Common.{act, call_limit, Call, rebalance, limited_by, linked_by, call_limit_link}
-use Rattle.link_simulation.proofs.Common.{none_sending, some_sending, Rebalances, Message, Caps, PairsAlike, CapsAlike}
-use Rattle.link_simulation.proofs.Common.{RatedFlight, Planned, SomeReadyAt, SomeSpentAt, new_planned, next_event}
-use Rattle.link_simulation.proofs.Common.{rated_messages, AreFair, rate_of, CoursesAlike, Follows, IsSameFlight}
-use Rattle.link_simulation.proofs.Common.{IsSettled, StandsFor, Tallies, Ticks, no_tick, leaving, staying}
+use Rattle.link_simulation.proofs.Common.{Option, refl, sym, ap, ◌∙◌, subst, arith, IfSome, list_any, AllZip, Ordering}
+use Rattle.link_simulation.proofs.Common.{IsTotalOrder, Completed, Course, Flight, IsQuiet, World, goes, is_done}
+use Rattle.link_simulation.proofs.Common.{last_moment, meets, new_world, ready, settle, EndsWith, Runs, act, call_limit}
+use Rattle.link_simulation.proofs.Common.{Call, rebalance, limited_by, linked_by, call_limit_link, none_sending}
+use Rattle.link_simulation.proofs.Common.{some_sending, Rebalances, Message, Caps, PairsAlike, CapsAlike, RatedFlight}
+use Rattle.link_simulation.proofs.Common.{Planned, new_planned, next_event, rated_messages, AreFair, rate_of}
+use Rattle.link_simulation.proofs.Common.{CoursesAlike, Follows, IsSameFlight, IsSettled, StandsFor, Tallies, Ticks}
+use Rattle.link_simulation.proofs.Common.{no_tick, leaving, staying}
 use Rattle.std.proofs.Common.{lit<}
-use Rattle.link_simulation.specs.Simulation.Messages.{AnswerAlike, with_cap, no_caps}
-use Rattle.link_simulation.specs.Simulation.Messages.{with_link}
+use Rattle.link_simulation.specs.Simulation.Messages.{AnswerAlike, with_cap, with_link}
 use Rattle.link_simulation.proofs.Simulation.AlikeMessages.{same_itself, peers_alike}
 use Rattle.link_simulation.proofs.Rule.BeforeNext.{later, follows_later, quiet_before, passes_to}
 use Rattle.link_simulation.proofs.Rule.Settling.{settles_alike, looked, leaving_fewer, staying_waiting}
@@ -38,32 +38,7 @@ no_sides cmp caps = record {
 module _ {P : Type 0} (cmp : P → P → Ordering) (order : IsTotalOrder cmp) where
   -- the empty planned world stands for the empty world
   pub new_stands : (id : ℕ) → StandsFor cmp (new_planned id) (new_world id)
-  new_stands id = record {
-    follows = record {
-      tallies = record {
-        moment = refl;
-        caps = record { egress = λ p q e. refl; ingress = λ p q e. refl; link = λ p q r s e f. refl };
-        limited = refl;
-        last_arrival = λ p q r s e f. refl;
-        next_id = refl;
-        waiting = λ m. tt;
-        pair_order = tt;
-        sending = tt;
-        one_each = tt;
-        empty_at_first = λ free. (refl, refl);
-      };
-      rated = record { per = 1; rates = []; fair = no_sides cmp no_caps; rated = tt };
-      finish = λ t within some. nothing_spent t some;
-    };
-    quiet = record { none_done = refl; none_ready = refl };
-    start = λ t within some. nothing_ready t some;
-  }
-    where
-      nothing_spent : (t : ℕ) → SomeSpentAt {P = P} [] t → ⊥
-      nothing_spent t some = let e : None ≡ Some some.1 = some.2 in cc
-
-      nothing_ready : (t : ℕ) → SomeReadyAt cmp (new_planned {P = P} id) t → ⊥
-      nothing_ready t some = let e : None ≡ Some some.0 = some.1 in cc
+  new_stands id = grind (arith, common_steps, no_sides)
 
   -- ---- new caps
 
@@ -74,13 +49,7 @@ module _ {P : Type 0} (cmp : P → P → Ordering) (order : IsTotalOrder cmp) wh
 
   link_alike : (f g : P → P → Option ℕ) (origin recipient : P) (cap : Option ℕ) → PairsAlike cmp f g
       → PairsAlike cmp (with_link cmp f origin recipient cap) (with_link cmp g origin recipient cap)
-  link_alike f g origin recipient cap same p q r s e h =
-      rw (
-        sym (peers_alike cmp order origin origin p q (same_itself cmp order origin) e),
-        sym (peers_alike cmp order recipient recipient r s (same_itself cmp order recipient) h),
-        same p q r s e h,
-      )
-      refl
+  link_alike f g origin recipient cap same p q r s e h = grind (arith, common_steps, peers_alike, same_itself)
 
   -- the worlds under new caps
   abbrev pub rebalanced : World P → Caps P → World P
@@ -91,18 +60,7 @@ module _ {P : Type 0} (cmp : P → P → Ordering) (order : IsTotalOrder cmp) wh
 
   recapped_tallies : (t : ℕ) (p : Planned P) (w : World P) (caps others : Caps P) → CapsAlike cmp caps others
       → Tallies cmp t p w → Tallies cmp t (replanned p caps) (rebalanced w others)
-  recapped_tallies t p w caps others alike same = record {
-    moment = same.moment;
-    caps = alike;
-    limited = refl;
-    last_arrival = same.last_arrival;
-    next_id = same.next_id;
-    waiting = same.waiting;
-    pair_order = same.pair_order;
-    sending = same.sending;
-    one_each = same.one_each;
-    empty_at_first = λ free. cc;
-  }
+  recapped_tallies t p w caps others alike same = grind (arith, common_steps)
 
   -- a moment before the next event is reached with nothing done and nothing ready
   pub record IsReached (now : ℕ) (p : Planned P) (w : World P) : Type 0 where

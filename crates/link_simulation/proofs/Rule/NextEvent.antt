@@ -1,9 +1,10 @@
 -- The earlier of the planned finish and start is the next event; and advancing is a run of the call.
-use Rattle.link_simulation.proofs.Common.{◌≡◌, ℕ, suc, ◌+◌, ◌-◌, ◌<◌, ◌≤◌, List, [], Option, Some, None, refl, sym, ap}
-use Rattle.link_simulation.proofs.Common.{subst, arith, ◌⊎◌, inl, inr, IfSome, Ordering, IsTotalOrder, Completed}
-use Rattle.link_simulation.proofs.Common.{Course, IsQuiet, World, and_then, goes, last_moment, meets, ready, Runs}
-use Rattle.link_simulation.proofs.Common.{call_advance, Advances, Message, IsLeastMoment, Planned, SomeReadyAt}
-use Rattle.link_simulation.proofs.Common.{next_event, CoursesAlike, StandsFor, NextIs, Ticks}
+use Rattle.std.proofs.lemmas.Grind.{common_steps}
+use Rattle.link_simulation.proofs.Common.{◌≡◌, ℕ, suc, ◌+◌, ◌-◌, ◌<◌, ◌≤◌, List, [], Option, Some, refl, sym, ap, subst}
+use Rattle.link_simulation.proofs.Common.{arith, IfSome, Ordering, IsTotalOrder, Completed, Course, IsQuiet, World}
+use Rattle.link_simulation.proofs.Common.{and_then, goes, last_moment, meets, ready, Runs, call_advance, Advances}
+use Rattle.link_simulation.proofs.Common.{Message, IsLeastMoment, Planned, SomeReadyAt, next_event, CoursesAlike}
+use Rattle.link_simulation.proofs.Common.{StandsFor, NextIs, Ticks}
 use Rattle.std.specs.Prelude.{◌≢◌}
 use Rattle.std.proofs.lemmas.List.{append-nil}
 use Rattle.link_simulation.proofs.Rule.BeforeNext.{later, follows_later, comes_at, nothing_comes, finish_is_next}
@@ -36,15 +37,7 @@ module _ {P : Type 0} (cmp : P → P → Ordering) (order : IsTotalOrder cmp) wh
 
   -- the next event is what is planned
   pub next_is_planned : (p : Planned P) (w : World P) → StandsFor cmp p w → NextIs cmp w (next_event p)
-  next_is_planned p w stands = by_event (next_event p) refl
-    where
-      by_finish : (e : ℕ) → next_event p ≡ Some e → (p.finish ≡ Some e) ⊎ (p.finish ≢ Some e) → NextIs cmp w (Some e)
-      by_finish e next (inl finish) = finish_is_next cmp order p w stands e finish next
-      by_finish e next (inr not_finish) = start_is_next p w stands e not_finish next
-
-      by_event : (o : Option ℕ) → next_event p ≡ o → NextIs cmp w o
-      by_event None next = nothing_comes cmp order p w stands next
-      by_event (Some e) next = by_finish e next (decide_start cmp order p.finish e)
+  next_is_planned p w stands = grind (arith, common_steps, finish_is_next, start_is_next, nothing_comes, decide_start)
 
   ended : (c : Course (Completed P) (World P)) → c ≡ and_then c (λ v. goes [] v)
   ended (goes cs v) = ap (λ (ds : List (Completed P)). goes ds v) (sym (append-nil cs))

@@ -1,8 +1,8 @@
 -- Replies by the event rule have no refusal for a number.
-use Rattle.link_simulation.proofs.Common.{List, [], ◌∷◌, Contains, ⊤, AllZip, Ordering, All-contains, Error}
-use Rattle.link_simulation.proofs.Common.{OutOfMemory, NumberTooLarge, MomentTooLate, FlowIdsUsedUp, Completed, goes}
-use Rattle.link_simulation.proofs.Common.{Call, Reply, reply_done, reply_next, reply_refused, SameCompletion, Planned}
-use Rattle.link_simulation.proofs.Common.{Obeys, MayBeRefused, Obeyed, Each, all_of_each}
+use Rattle.link_simulation.proofs.Common.{arith, List, [], ◌∷◌, Contains, ⊤, Ordering, All-contains, Error, OutOfMemory}
+use Rattle.link_simulation.proofs.Common.{NumberTooLarge, MomentTooLate, FlowIdsUsedUp, Call, Reply, reply_done}
+use Rattle.link_simulation.proofs.Common.{reply_next, reply_refused, Planned, MayBeRefused, Obeyed, Each, all_of_each}
+use Rattle.std.proofs.lemmas.Grind.{common_steps}
 use Rattle.link_simulation.proofs.Rule.Stepwise.{obeyed_next, obeyed_refused, obeyed_done}
 
 IsNoNumber : {P : Type 0} → Reply P → Type 0
@@ -31,19 +31,15 @@ module _ {P : Type 0} (cmp : P → P → Ordering) where
   none_for_a_number p (call ∷ calls) (reply_next next ∷ replies) obeyed =
       (tt, none_for_a_number p calls replies (obeyed_next cmp p calls replies call next obeyed))
   none_for_a_number p (call ∷ calls) (reply_refused why ∷ replies) obeyed =
-      let both : MayBeRefused cmp p call why × Obeyed cmp p calls replies
-      = obeyed_refused cmp p calls replies call why obeyed in
-      (refused p call why both.0, none_for_a_number p calls replies both.1)
+      grind (arith, common_steps, obeyed_refused, refused, (none_for_a_number p calls replies (obeyed_refused cmp p
+      calls replies call why obeyed).1))
   none_for_a_number p (call ∷ calls) (reply_done cs ∷ replies) obeyed =
-      let step : (ds : List (Completed P)) × (q : Planned P) × Obeys cmp p call (goes ds q)
-      × AllZip (SameCompletion cmp) cs ds × Obeyed cmp q calls replies
-      = obeyed_done cmp p calls replies call cs obeyed in
-      (tt, none_for_a_number step.1 calls replies step.4)
+      grind (arith, common_steps, obeyed_done, (none_for_a_number (obeyed_done cmp p calls replies call cs obeyed).1
+      calls replies (obeyed_done cmp p calls replies call cs obeyed).4))
 
   pub never_for_a_number : (p : Planned P) (calls : List (Call P)) (replies : List (Reply P))
       → Obeyed cmp p calls replies
       → ¬ Contains replies (reply_refused NumberTooLarge)
   unfolding IsNoNumber
   never_for_a_number p calls replies obeyed has =
-      All-contains (IsNoNumber {P = P}) replies (reply_refused NumberTooLarge)
-      (all_of_each (IsNoNumber {P = P}) replies (none_for_a_number p calls replies obeyed)) has
+      grind (arith, common_steps, All-contains, all_of_each, none_for_a_number)

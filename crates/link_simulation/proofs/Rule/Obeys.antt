@@ -1,19 +1,20 @@
 -- A call in its turn does in the planned world what it does in the world.
-use Rattle.link_simulation.proofs.Common.{◌≡◌, ℕ, ◌-◌, ◌<◌, ◌≤◌, List, [], Some, refl, sym, ap, ◌∙◌, subst, arith}
-use Rattle.link_simulation.proofs.Common.{IfSome, Ordering, IsTotalOrder, Message, World, Completed, Course, goes}
-use Rattle.link_simulation.proofs.Common.{meets, preceded, and_then, last_moment, ready, Ticks, no_tick, one_tick}
-use Rattle.link_simulation.proofs.Common.{tick_faults, act, enqueue, enqueue_each, SameCompletion, Call, call_limit}
-use Rattle.link_simulation.proofs.Common.{call_limit_link, call_enqueue, call_advance, call_enqueue_all, call_next}
-use Rattle.link_simulation.proofs.Common.{moment_of, Runs, IsInTurn, IsBeforeNext, Planned, next_event, Enqueues}
-use Rattle.link_simulation.proofs.Common.{at_once, no_launch, launches, Obeys, EnqueuesEach, all_enqueued, one_stops}
-use Rattle.link_simulation.proofs.Common.{enqueues_one, CoursesAlike, StandsFor, zip-append}
-use Rattle.link_simulation.specs.Rule.StandsFor as stands_for
+use Rattle.std.proofs.lemmas.Grind.{common_steps}
+use Rattle.link_simulation.proofs.Common.{◌≡◌, ℕ, ◌<◌, ◌≤◌, List, [], Some, refl, sym, ap, ◌∙◌, subst, arith, IfSome}
+use Rattle.link_simulation.proofs.Common.{Ordering, IsTotalOrder, Message, World, Completed, Course, goes, meets}
+use Rattle.link_simulation.proofs.Common.{preceded, and_then, last_moment, ready, Ticks, no_tick, one_tick, tick_faults}
+use Rattle.link_simulation.proofs.Common.{act, enqueue, enqueue_each, Call, call_limit, call_limit_link, call_enqueue}
+use Rattle.link_simulation.proofs.Common.{call_advance, call_enqueue_all, call_next, moment_of, Runs, IsInTurn}
+use Rattle.link_simulation.proofs.Common.{IsBeforeNext, Planned, next_event, Enqueues, at_once, no_launch, launches}
+use Rattle.link_simulation.proofs.Common.{Obeys, EnqueuesEach, all_enqueued, one_stops, enqueues_one, CoursesAlike}
+use Rattle.link_simulation.proofs.Common.{StandsFor, zip-append}
 use Rattle.link_simulation.proofs.Simulation.Queue.{preceded_none}
 use Rattle.link_simulation.proofs.Simulation.QuietInstants.{next_is_later}
 use Rattle.link_simulation.proofs.Rule.NextEvent.{next_is_planned, advance_runs}
 use Rattle.link_simulation.proofs.Rule.Limit.{limits_alike, links_alike, IsReached, reaches}
 use Rattle.link_simulation.proofs.Rule.Enqueue.{enqueues_alike}
 use Rattle.link_simulation.proofs.Rule.AtOnce.{at_once_alike}
+use Rattle.link_simulation.specs.Rule.StandsFor as stands_for
 
 module _ {P : Type 0} (cmp : P → P → Ordering) (order : IsTotalOrder cmp) where
   -- what a call leads to in the world
@@ -49,11 +50,7 @@ module _ {P : Type 0} (cmp : P → P → Ordering) (order : IsTotalOrder cmp) wh
   -- at a call's moment nothing ticks
   pub acts_at_once : (w : World P) (call : Call P) (now : ℕ) (c : Course (Completed P) (World P)) → w.moment ≡ now
       → Runs cmp w call now c → c ≡ act cmp w call
-  acts_at_once w call now c at runs =
-      let none : now - w.moment ≡ 0 = omega arith in
-      runs.acts
-      ∙ ap (λ (d : Course (Completed P) (World P)). and_then d (λ v. act cmp v call)) (none_ticked runs.ticks none)
-      ∙ preceded_none (act cmp w call)
+  acts_at_once w call now c at runs = grind (arith, common_steps, none_ticked, preceded_none)
 
   abbrev StandsAt : ℕ → Planned P → World P → Type 0
   StandsAt now q v = StandsFor cmp q v × (v.moment ≡ now)
@@ -63,15 +60,7 @@ module _ {P : Type 0} (cmp : P → P → Ordering) (order : IsTotalOrder cmp) wh
       → CoursesAlike cmp (StandsAt now) (goes cs q) c
       → ((v : World P) → StandsAt now q v → CoursesAlike cmp (StandsAt now) rest (next v))
       → CoursesAlike cmp (StandsAt now) (preceded cs rest) (and_then c next)
-  alike_then now cs q rest (goes ds v) next alike on = both rest (next v) (on v alike.1)
-    where
-      both : (r : Course (Completed P) (Planned P)) (d : Course (Completed P) (World P))
-          → CoursesAlike cmp (StandsAt now) r d
-          → CoursesAlike cmp (StandsAt now) (preceded cs r) (preceded ds d)
-      both (goes es s) (goes fs u) same = (zip-append (SameCompletion cmp) cs es ds fs alike.0 same.0, same.1)
-      both (goes es s) (meets fault) same = absurd same
-      both (meets fault) (goes fs u) same = absurd same
-      both (meets fault) (meets other) same = same
+  alike_then now cs q rest (goes ds v) next alike on = grind (arith, common_steps, zip-append)
   alike_then now cs q rest (meets fault) next alike on = absurd alike
 
   later_than : (p : Planned P) (v : World P) (now : ℕ) → StandsFor cmp p v → v.moment ≡ now
@@ -145,18 +134,11 @@ module _ {P : Type 0} (cmp : P → P → Ordering) (order : IsTotalOrder cmp) wh
       (links_alike cmp order p w t origin recipient cap course stands turn.0
       (subst (λ (s : ℕ). s ≤ last_moment) (sym same) within) (before_planned p w t stands turn.1) obeys)
   obeys_alike p w (call_enqueue t m) now course stands is within turn obeys =
-      let same : t ≡ now = cc in
-      subst (λ (s : ℕ). Follows p w (call_enqueue t m) s course) same
-      (any_enqueue obeys w stands turn.0 (subst (λ (s : ℕ). s ≤ last_moment) (sym same) within)
-      (before_planned p w t stands turn.1))
+      grind (arith, common_steps, any_enqueue, before_planned)
   obeys_alike p w (call_enqueue_all t ms) now course stands is within turn obeys =
       let same : t ≡ now = cc in
       subst (λ (s : ℕ). Follows p w (call_enqueue_all t ms) s course) same
       (all_enqueue t ms p w course stands turn.0 (subst (λ (s : ℕ). s ≤ last_moment) (sym same) within)
       (before_planned p w t stands turn.1) obeys)
-  obeys_alike p w (call_advance t) now course stands is within turn obeys =
-      let same : t ≡ now = cc in
-      subst (λ (s : ℕ). Follows p w (call_advance t) s course) same
-      (advance_runs cmp order p w t obeys.0 course stands turn (subst (λ (s : ℕ). s ≤ last_moment) (sym same) within)
-      obeys.1)
+  obeys_alike p w (call_advance t) now course stands is within turn obeys = grind (arith, common_steps, advance_runs)
   obeys_alike p w call_next now course stands is within turn obeys = cc

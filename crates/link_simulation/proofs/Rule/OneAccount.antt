@@ -1,19 +1,19 @@
 -- Where an account was made at a moment, nothing is due to leave at it; and for several messages that start then one
 -- account is enough.
+use Rattle.std.proofs.lemmas.Grind.{common_steps}
 use Rattle.link_simulation.proofs.Common.{◌≡◌, ℕ, zero, suc, ◌+◌, ◌-◌, ◌<◌, ◌≤◌, List, [], ◌∷◌, ◌++◌, length, Bool}
-use Rattle.link_simulation.proofs.Common.{true, false, cond, not, Option, Some, None, refl, sym, ap, ◌∙◌, subst, arith}
-use Rattle.link_simulation.proofs.Common.{◌⊎◌, inl, inr, ◌==◌, ◌||◌, ◌&&◌, slice_get, nat_lt, if◌then◌else◌, IfSome}
-use Rattle.link_simulation.proofs.Common.{filter, find, list_any, AllZip, Ordering, IsTotalOrder, cases_lt, or_parts}
-use Rattle.link_simulation.proofs.Common.{map-append, filter-append, MomentTooLate, Each, each_map, zip-append}
-use Rattle.link_simulation.proofs.Common.{zip_chain, Amount, whole, reduced, reduced_positive, Message, Caps, same_pair}
-use Rattle.link_simulation.proofs.Common.{Parts, rate_of, rates_from, drained_by, is_unlimited, AreFair, IsLowest}
-use Rattle.link_simulation.proofs.Common.{Completed, Course, goes, meets, last_moment, EndsWith, completed}
-use Rattle.link_simulation.proofs.Common.{completion_of, raised, later_of, is_in_order, Planned, RatedFlight}
-use Rattle.link_simulation.proofs.Common.{IsLeastMoment, SomeSpentAt, rated_messages, drained_to, left_at, is_spent}
-use Rattle.link_simulation.proofs.Common.{may_launch, next_of, SomeReadyAt, Accounts, PlansStart, launched, Launches}
-use Rattle.link_simulation.proofs.Common.{nothing_waits, too_early, no_id, starts, Finishes, all_completed, late}
-use Rattle.link_simulation.proofs.Common.{stopped, completes, with_queued, Enqueues, at_once, no_launch, launches}
-use Rattle.link_simulation.proofs.Common.{completed_at_once, landed}
+use Rattle.link_simulation.proofs.Common.{true, false, not, Option, Some, None, refl, sym, ap, ◌∙◌, subst, arith, ◌⊎◌}
+use Rattle.link_simulation.proofs.Common.{inl, inr, ◌==◌, ◌&&◌, slice_get, if◌then◌else◌, IfSome, filter, find}
+use Rattle.link_simulation.proofs.Common.{list_any, AllZip, Ordering, IsTotalOrder, cases_lt, or_parts, map-append}
+use Rattle.link_simulation.proofs.Common.{filter-append, Each, each_map, zip-append, zip_chain, Amount, whole, reduced}
+use Rattle.link_simulation.proofs.Common.{reduced_positive, Message, Caps, same_pair, Parts, rate_of, rates_from}
+use Rattle.link_simulation.proofs.Common.{is_unlimited, AreFair, IsLowest, Completed, Course, goes, last_moment}
+use Rattle.link_simulation.proofs.Common.{EndsWith, completed, is_in_order, Planned, RatedFlight, IsLeastMoment}
+use Rattle.link_simulation.proofs.Common.{SomeSpentAt, rated_messages, drained_to, left_at, is_spent, may_launch}
+use Rattle.link_simulation.proofs.Common.{next_of, SomeReadyAt, Accounts, PlansStart, launched, Launches, nothing_waits}
+use Rattle.link_simulation.proofs.Common.{too_early, no_id, starts, Finishes, all_completed, late, stopped, completes}
+use Rattle.link_simulation.proofs.Common.{with_queued, Enqueues, at_once, no_launch, launches, completed_at_once}
+use Rattle.link_simulation.proofs.Common.{landed}
 use Rattle.std.proofs.lemmas.Bool.{cases_eq}
 use Rattle.link_simulation.proofs.Laws.Orderly.{drained_messages, stayed_messages}
 use Rattle.link_simulation.proofs.Rule.Accounts.{each_passes}
@@ -73,10 +73,7 @@ least_exists Q decide = least_from Q decide (suc last_moment) 0 (omega arith) (�
 
 -- whether something is spent can be told
 spent_or_not : {P : Type 0} (fs : List (RatedFlight P)) (t : ℕ) → SomeSpentAt fs t ⊎ (SomeSpentAt fs t → ⊥)
-spent_or_not {P} [] t = inr (λ h. none h.0 h.1 h.2)
-  where
-    none : (i : ℕ) (f : RatedFlight P) → slice_get [] i ≡ Some f → ⊥
-    none i f e = cc
+spent_or_not {P} [] t = grind (arith, common_steps)
 spent_or_not {P} (f ∷ fs) t = by_rest (cases_lt t f.updated) (cases_eq (left_at t f).num 0) (spent_or_not fs t)
   where
     rest : ((f.updated ≤ t) → ((left_at t f).num ≡ 0) → ⊥) → (SomeSpentAt fs t → ⊥) → SomeSpentAt (f ∷ fs) t → ⊥
@@ -116,9 +113,7 @@ IsKept t f = (f.updated ≡ t) × (left_at t f ≡ f.left)
 
 drained_kept : {P : Type 0} (t : ℕ) (fs : List (RatedFlight P)) → Each (IsKept t) fs → drained_to t fs ≡ fs
 drained_kept t [] each = refl
-drained_kept t (f ∷ fs) each =
-    let rest = drained_kept t fs each.1 in
-    λ i. record f { left = each.0.1 i; updated = sym each.0.0 i } ∷ rest i
+drained_kept t (f ∷ fs) each = grind (arith, common_steps, (drained_kept t fs each.1))
 
 drained-append : {P : Type 0} (t : ℕ) (fs gs : List (RatedFlight P))
     → drained_to t (fs ++ gs) ≡ drained_to t fs ++ drained_to t gs
@@ -127,10 +122,7 @@ drained-append t (f ∷ fs) gs = ap (λ l. record f { left = left_at t f; update
 
 no_time : {P : Type 0} (t : ℕ) (f : RatedFlight P) (r : Amount) → f.updated ≡ t → f.rate ≡ Some r → 0 < r.den
     → IsLowest f.left → left_at t f ≡ f.left
-no_time t f r at rate positive low =
-    let none : t - f.updated ≡ 0 = omega (arith, at) in
-    ap (λ (o : Option Amount). drained_by o (t - f.updated) f.left) rate
-    ∙ ap (λ (n : ℕ). drained_by (Some r) n f.left) none ∙ drained_none f.left r low positive
+no_time t f r at rate positive low = grind (arith, common_steps, drained_none)
 
 left_lowest : {P : Type 0} (t : ℕ) (f : RatedFlight P) → (0 < f.left.den) × IfSome f.rate (λ r. 0 < r.den)
     → IsLowest (left_at t f)
@@ -143,11 +135,7 @@ all_lowest t (f ∷ fs) each = (left_lowest t f each.0, all_lowest t fs each.1)
 each_filtered_too : {X : Type 0} (Q : X → Type 0) (test : X → Bool) (xs : List X) → Each Q xs
     → Each Q (filter test xs)
 each_filtered_too Q test [] each = tt
-each_filtered_too {X} Q test (x ∷ xs) each = by_test (test x) (each_filtered_too Q test xs each.1)
-  where
-    by_test : (b : Bool) → Each Q (filter test xs) → Each Q (cond b (x ∷ filter test xs) (filter test xs))
-    by_test true ih = (each.0, ih)
-    by_test false ih = ih
+each_filtered_too {X} Q test (x ∷ xs) each = grind (arith, common_steps, (each_filtered_too Q test xs each.1))
 
 module _ {P : Type 0} (cmp : P → P → Ordering) (order : IsTotalOrder cmp) where
   -- at that moment an account was made: what is in flight is accounted for, none of it is done, and the rates and the
@@ -165,34 +153,11 @@ module _ {P : Type 0} (cmp : P → P → Ordering) (order : IsTotalOrder cmp) wh
 
   stayed_unspent : (caps : Caps P) (t : ℕ) (f g : RatedFlight P) → Stays t f g
       → not (is_spent cmp caps f) ≡ true → (g.updated ≡ t) × (is_spent cmp caps g ≡ false)
-  stayed_unspent caps t f g stays test =
-      let same : is_spent cmp caps g ≡ is_spent cmp caps f =
-      ap (λ (a : Amount). (a.num == 0) || is_unlimited cmp caps g.message) stays.2
-      ∙ ap (λ (m : Message P). (f.left.num == 0) || is_unlimited cmp caps m) stays.1 in
-      (stays.3, same ∙ turned (is_spent cmp caps f) test)
-    where
-      turned : (b : Bool) → not b ≡ true → b ≡ false
-      turned true e = cc
-      turned false e = refl
+  stayed_unspent caps t f g stays test = grind (arith, common_steps)
 
   pub accounted : (t : ℕ) (old new : Planned P) (ls : List (Message P)) → Accounts cmp t old ls new
       → IsAccountedAt t new
-  accounted t old new ls a =
-      let caps : new.caps ≡ old.caps = ap (λ (q : Planned P). q.caps) a.same in
-      record {
-        per = a.per;
-        rates = a.rates;
-        none_spent =
-            subst (λ (c : Caps P). Each (λ f. (f.updated ≡ t) × (is_spent cmp c f ≡ false)) new.sending) (sym caps)
-            (zip_each (Stays t) (λ f. not (is_spent cmp old.caps f) ≡ true)
-            (λ f. (f.updated ≡ t) × (is_spent cmp old.caps f ≡ false)) (stayed_unspent old.caps t)
-            (filter (λ f. not (is_spent cmp old.caps f)) (drained_to t old.sending)) new.sending a.stayed
-            (each_passes (λ f. not (is_spent cmp old.caps f)) (drained_to t old.sending)));
-        fair = subst (λ (c : Caps P). AreFair cmp c (rated_messages new.sending) a.per a.rates) (sym caps) a.fair;
-        rated = a.rated;
-        at = ap (λ (q : Planned P). q.accounted) a.same;
-        finish = a.finish;
-      }
+  accounted t old new ls a = grind (arith, common_steps, zip_each, stayed_unspent, each_passes)
 
   planned_accounted : (t : ℕ) (p q : Planned P) → PlansStart cmp t p q → IsAccountedAt t p → IsAccountedAt t q
   planned_accounted t p q looks h =
@@ -217,16 +182,7 @@ module _ {P : Type 0} (cmp : P → P → Ordering) (order : IsTotalOrder cmp) wh
       subst (IsAccountedAt t) same (accounted t (launched cmp t p m) new leavers account)
 
   landed_accounted : (t : ℕ) (p : Planned P) (m : Message P) → IsAccountedAt t p → IsAccountedAt t (landed cmp t p m)
-  landed_accounted t p m h =
-      record {
-        per = h.per;
-        rates = h.rates;
-        none_spent = h.none_spent;
-        fair = h.fair;
-        rated = h.rated;
-        at = h.at;
-        finish = h.finish;
-      }
+  landed_accounted t p m h = grind (arith, common_steps)
 
   finish_accounted : {t : ℕ} {ms : List (Message P)} {p : Planned P} {c : Course (Completed P) (Planned P)}
       → Finishes cmp t ms p c → IsAccountedAt t p → EndsWith (IsAccountedAt t) c
@@ -239,37 +195,11 @@ module _ {P : Type 0} (cmp : P → P → Ordering) (order : IsTotalOrder cmp) wh
 
   queued_accounted : (t : ℕ) (p : Planned P) (m : Message P) → IsAccountedAt t p
       → IsAccountedAt t (with_queued cmp p m)
-  queued_accounted t p m h =
-      record {
-        per = h.per;
-        rates = h.rates;
-        none_spent = h.none_spent;
-        fair = h.fair;
-        rated = h.rated;
-        at = h.at;
-        finish = h.finish;
-      }
+  queued_accounted t p m h = grind (arith, common_steps)
 
   at_once_accounted : (t : ℕ) (p : Planned P) (m : Message P) → IsAccountedAt t p
       → EndsWith (IsAccountedAt t) (completed_at_once cmp t p m)
-  at_once_accounted t p m h = by_late (m.should_deliver && nat_lt last_moment (t + m.latency))
-    where
-      at : ℕ
-      at = if m.should_deliver then later_of (p.last_arrival m.origin m.recipient) (t + m.latency) else t
-
-      by_late : (b : Bool) → EndsWith (IsAccountedAt t) (cond b (meets MomentTooLate)
-          (goes (completion_of m t (if m.should_deliver then Some at else None) ∷ [])
-          (record p { last_arrival = raised cmp p.last_arrival m at })))
-      by_late true = tt
-      by_late false = record {
-        per = h.per;
-        rates = h.rates;
-        none_spent = h.none_spent;
-        fair = h.fair;
-        rated = h.rated;
-        at = h.at;
-        finish = h.finish;
-      }
+  at_once_accounted t p m h = grind (arith, common_steps)
 
   -- where an account was made, a message that is sent leaves it so
   pub enqueue_accounted : {t : ℕ} {m : Message P} {p : Planned P} {c : Course (Completed P) (Planned P)}
@@ -283,11 +213,7 @@ module _ {P : Type 0} (cmp : P → P → Ordering) (order : IsTotalOrder cmp) wh
       → Launches cmp t p o c → (k : Message P) → o ≡ Some k → may_launch cmp t p k ≡ true
       → (ms : List (Message P)) (q : Planned P) → c ≡ goes ms q → IsAccountedAt t q
   start_accounted nothing_waits k is may ms q e = cc
-  start_accounted {t = t} {p = p} (too_early {m = m} early) k is may ms q e =
-      let same : m ≡ k = cc in
-      let there : may_launch cmp t p k ≡ false = subst (λ (n : Message P). may_launch cmp t p n ≡ false) same early in
-      let wrong : true ≡ false = sym may ∙ there in
-      cc
+  start_accounted {t = t} {p = p} (too_early {m = m} early) k is may ms q e = grind (arith, common_steps)
   start_accounted (no_id ready last) k is may ms q e = cc
   start_accounted {t = t} {p = p} (starts {m = m} {leavers = ls} {new = new} ready below account) k is may ms q e =
       let same : new ≡ q = cc in
@@ -325,11 +251,7 @@ module _ {P : Type 0} (cmp : P → P → Ordering) (order : IsTotalOrder cmp) wh
       )
 
   have_rates : (t : ℕ) (p : Planned P) → IsAccountedAt t p → Each HasRate p.sending
-  have_rates t p h =
-      all_have_rates p.caps h.per h.fair.parts 0 p.sending h.fair.fair.some_part
-      (each_map (λ f. (f.updated ≡ t) × (is_spent cmp p.caps f ≡ false))
-      (λ f. is_unlimited cmp p.caps f.message ≡ false) p.sending (λ f e. unspent_limited p.caps f e.1) h.none_spent)
-      (subst (λ (rates : Parts). AllZip (λ rate f. f.rate ≡ rate_of h.per rate) rates p.sending) h.fair.rated h.rated)
+  have_rates t p h = grind (arith, common_steps, all_have_rates, each_map, unspent_limited, rate_of)
 
   all_kept : (t : ℕ) (caps : Caps P) (fs : List (RatedFlight P))
       → Each (λ f. (f.updated ≡ t) × (is_spent cmp caps f ≡ false)) fs → Each HasRate fs → AreLowest fs
@@ -346,17 +268,11 @@ module _ {P : Type 0} (cmp : P → P → Ordering) (order : IsTotalOrder cmp) wh
       drained_kept t p.sending (all_kept t p.caps p.sending h.none_spent (have_rates t p h) low)
 
   pub none_leave : (t : ℕ) (p : Planned P) → IsAccountedAt t p → filter (is_spent cmp p.caps) p.sending ≡ []
-  none_leave t p h =
-      filter_none (is_spent cmp p.caps) p.sending
-      (each_map (λ f. (f.updated ≡ t) × (is_spent cmp p.caps f ≡ false)) (λ f. is_spent cmp p.caps f ≡ false) p.sending
-      (λ f e. e.1) h.none_spent)
+  none_leave t p h = grind (arith, common_steps, filter_none, each_map)
 
   all_stay : (t : ℕ) (p : Planned P) → IsAccountedAt t p
       → filter (λ f. not (is_spent cmp p.caps f)) p.sending ≡ p.sending
-  all_stay t p h =
-      filter_all (λ f. not (is_spent cmp p.caps f)) p.sending
-      (each_map (λ f. (f.updated ≡ t) × (is_spent cmp p.caps f ≡ false)) (λ f. not (is_spent cmp p.caps f) ≡ true)
-      p.sending (λ f e. ap not e.1) h.none_spent)
+  all_stay t p h = grind (arith, common_steps, filter_all, each_map)
 
   stay_as_they_are : (t : ℕ) (fs : List (RatedFlight P)) (caps : Caps P)
       → Each (λ f. (f.updated ≡ t) × (is_spent cmp caps f ≡ false)) fs → AllZip (Stays t) fs fs
@@ -425,19 +341,8 @@ module _ {P : Type 0} (cmp : P → P → Ordering) (order : IsTotalOrder cmp) wh
       → IsLeastMoment (SomeSpentAt (with_rates p.caps per fair.parts t 0 (Staying t p))) o
       → Accounts cmp t p (rated_messages (filter (is_spent cmp p.caps) (drained_to t p.sending)))
       (record p { sending = with_rates p.caps per fair.parts t 0 (Staying t p); accounted = t; finish = o })
-  account_with t p per rates fair o least = record {
-    per = per;
-    rates = rates;
-    left = refl;
-    stayed = stay_with_rates p.caps per fair.parts t 0 (Staying t p);
-    fair = subst (λ (ms : List (Message P)). AreFair cmp p.caps ms per rates)
-        (sym (rated_messages_same p.caps per fair.parts t 0 (Staying t p))) fair;
-    rated = subst (λ (rs : Parts). AllZip (λ rate f. f.rate ≡ rate_of per rate) rs
-        (with_rates p.caps per fair.parts t 0 (Staying t p))) (sym fair.rated)
-        (rated_so p.caps per fair.parts t 0 (Staying t p));
-    finish = least;
-    same = refl;
-  }
+  account_with t p per rates fair o least =
+      grind (arith, common_steps, stay_with_rates, rated_messages_same, rate_of, with_rates, rated_so)
 
   pub account_exists : (t : ℕ) (p : Planned P) → (ls : List (Message P)) × (q : Planned P) × Accounts cmp t p ls q
   account_exists t p =
@@ -487,13 +392,7 @@ module _ {P : Type 0} (cmp : P → P → Ordering) (order : IsTotalOrder cmp) wh
   all_but_none : (test : RatedFlight P → Bool) (fs : List (RatedFlight P)) → filter test fs ≡ []
       → filter (λ f. not (test f)) fs ≡ fs
   all_but_none test [] e = refl
-  all_but_none test (f ∷ fs) e = by_test (test f) e (all_but_none test fs)
-    where
-      by_test : (b : Bool) → cond b (f ∷ filter test fs) (filter test fs) ≡ []
-          → (filter test fs ≡ [] → filter (λ g. not (test g)) fs ≡ fs)
-          → cond (not b) (f ∷ filter (λ g. not (test g)) fs) (filter (λ g. not (test g)) fs) ≡ f ∷ fs
-      by_test true e ih = cc
-      by_test false e ih = ap (λ l. f ∷ l) (ih e)
+  all_but_none test (f ∷ fs) e = grind (arith, common_steps, (all_but_none test fs))
 
   -- where the first have drained and none of them is done, all stay, and so does the message that starts
   pub all_and_one_stay : (id t : ℕ) (caps : Caps P) (fs : List (RatedFlight P)) (m : Message P)
@@ -514,11 +413,7 @@ module _ {P : Type 0} (cmp : P → P → Ordering) (order : IsTotalOrder cmp) wh
   -- what is left after an account is in lowest terms
   pub account_lowest : (t : ℕ) (p q : Planned P) (ls : List (Message P)) → Accounts cmp t p ls q
       → ArePositive p.sending → AreLowest q.sending
-  account_lowest t p q ls a positive =
-      zip_each (Stays t) (λ f. IsLowest f.left) (λ g. IsLowest g.left)
-      (λ f g stays low. subst IsLowest (sym stays.2) low) (Staying t p) q.sending a.stayed
-      (each_filtered_too (λ f. IsLowest f.left) (λ f. not (is_spent cmp p.caps f)) (drained_to t p.sending)
-      (all_lowest t p.sending positive))
+  account_lowest t p q ls a positive = grind (arith, common_steps, zip_each, each_filtered_too, all_lowest)
 
   -- ---- the same messages in flight
 

@@ -1,4 +1,5 @@
 -- By the event rule a call has one course, and an advance one number of events.
+use Rattle.std.proofs.lemmas.Grind.{common_steps}
 use Rattle.link_simulation.proofs.Common.{◌≡◌, ◌≢◌, ℕ, suc, ◌+◌, ◌*◌, ◌<◌, ◌≤◌, List, [], ◌∷◌, ◌++◌, true, false, not}
 use Rattle.link_simulation.proofs.Common.{Option, Some, None, refl, sym, ap, ◌∙◌, subst, arith, ◌⊎◌, inl, inr, IfSome}
 use Rattle.link_simulation.proofs.Common.{filter, AllZip, Ordering, IsTotalOrder, Error, MomentTooLate, FlowIdsUsedUp}
@@ -6,13 +7,12 @@ use Rattle.link_simulation.proofs.Common.{Message, Caps, Parts, rate_of, AreFair
 use Rattle.link_simulation.proofs.Common.{last_moment, preceded, is_late, completed, Call, call_limit, call_limit_link}
 use Rattle.link_simulation.proofs.Common.{call_enqueue, call_advance, call_enqueue_all, call_next, Planned, RatedFlight}
 use Rattle.link_simulation.proofs.Common.{IsLeastMoment, next_event, rated_messages, SomeSpentAt, drained_to, next_of}
-use Rattle.link_simulation.proofs.Common.{may_launch, SomeReadyAt, is_spent, Accounts, PlansStart, launched, Launches}
-use Rattle.link_simulation.proofs.Common.{nothing_waits, too_early, no_id, starts, landed, Finishes, all_completed}
-use Rattle.link_simulation.proofs.Common.{late, stopped, completes, WakesEach, all_started, no_start, no_finish}
-use Rattle.link_simulation.proofs.Common.{starts_one, Wakes, Settles, settling, Rebalances, none_sending, some_sending}
-use Rattle.link_simulation.proofs.Common.{Enqueues, at_once, no_launch, launches, Advances, no_more, at_finish}
-use Rattle.link_simulation.proofs.Common.{at_start, finish_stops, start_stops, Obeys, EnqueuesEach, all_enqueued}
-use Rattle.link_simulation.proofs.Common.{one_stops, enqueues_one}
+use Rattle.link_simulation.proofs.Common.{may_launch, is_spent, Accounts, PlansStart, launched, Launches, nothing_waits}
+use Rattle.link_simulation.proofs.Common.{too_early, no_id, starts, landed, Finishes, all_completed, late, stopped}
+use Rattle.link_simulation.proofs.Common.{completes, WakesEach, all_started, no_start, no_finish, starts_one, Wakes}
+use Rattle.link_simulation.proofs.Common.{Settles, settling, Rebalances, none_sending, some_sending, Enqueues, at_once}
+use Rattle.link_simulation.proofs.Common.{no_launch, launches, Advances, no_more, at_finish, at_start, finish_stops}
+use Rattle.link_simulation.proofs.Common.{start_stops, Obeys, EnqueuesEach, all_enqueued, one_stops, enqueues_one}
 use Rattle.fair_rates.specs.Numbers.LowestTerms.{reduced_same}
 use Rattle.link_simulation.proofs.Simulation.AlikeMessages.{same_itself}
 use Rattle.link_simulation.proofs.Simulation.Rates.{Match, rates_match}
@@ -24,11 +24,7 @@ pub least_is_one : (Q : ℕ → Type 0) (a b : Option ℕ) → IsLeastMoment Q a
 least_is_one Q None None e f = refl
 least_is_one Q None (Some t) e f = absurd (e t f.0 f.1)
 least_is_one Q (Some s) None e f = absurd (f s e.0 e.1)
-least_is_one Q (Some s) (Some t) e f =
-    let le : s ≤ t = e.2 t f.1 in
-    let ge : t ≤ s = f.2 s e.1 in
-    let same : s ≡ t = omega arith in
-    ap Some same
+least_is_one Q (Some s) (Some t) e f = grind (arith, common_steps)
 
 -- ---- an account
 
@@ -116,12 +112,7 @@ module _ {P : Type 0} (cmp : P → P → Ordering) (order : IsTotalOrder cmp) wh
 
   look_is_one : (t : ℕ) (old new other : Planned P) → PlansStart cmp t old new → PlansStart cmp t old other
       → new ≡ other
-  look_is_one t old new other f g =
-      let start : new.start ≡ other.start =
-      least_is_one (λ s. (t ≤ s) × SomeReadyAt cmp old s) new.start other.start f.start g.start in
-      let here : record old { start = new.start } ≡ record old { start = other.start } =
-      λ i. record old { start = start i } in
-      f.same ∙ here ∙ sym g.same
+  look_is_one t old new other f g = grind (arith, common_steps, least_is_one)
 
   -- ---- a launch
 
@@ -149,29 +140,14 @@ module _ {P : Type 0} (cmp : P → P → Ordering) (order : IsTotalOrder cmp) wh
   launch_of {t = t} {old = old} (no_id {m = m} may last) n e =
       let same : m ≡ n = cc in inr (inl (subst (λ (k : Message P). may_launch cmp t old k ≡ true) same may, last, refl))
   launch_of {t = t} {old = old} (starts {m = m} {leavers = ls} {new = new} may below account) n e =
-      let same : m ≡ n = cc in
-      inr (inr (
-        subst (λ (k : Message P). may_launch cmp t old k ≡ true) same may,
-        below,
-        (ls, new, subst (λ (k : Message P). Accounts cmp t (launched cmp t old k) ls new) same account, refl),
-      ))
+      grind (arith, common_steps)
 
   launch_is_one : {t : ℕ} {old : Planned P} {o : Option (Message P)} {c : Course (Message P) (Planned P)}
       → Launches cmp t old o c
       → (d : Course (Message P) (Planned P)) → Launches cmp t old o d → c ≡ d
   launch_is_one nothing_waits d l = sym (no_launch_of l refl)
-  launch_is_one {t = t} {old = old} (too_early {m = m} may) d l = by_case (launch_of l m refl)
-    where
-      by_case : Launch t old m d → goes [] old ≡ d
-      by_case (inl h) = sym h.1
-      by_case (inr (inl h)) = cc
-      by_case (inr (inr h)) = cc
-  launch_is_one {t = t} {old = old} (no_id {m = m} may last) d l = by_case (launch_of l m refl)
-    where
-      by_case : Launch t old m d → meets FlowIdsUsedUp ≡ d
-      by_case (inl h) = cc
-      by_case (inr (inl h)) = sym h.2
-      by_case (inr (inr h)) = absurd (omega (arith, h.1))
+  launch_is_one {t = t} {old = old} (too_early {m = m} may) d l = grind (arith, common_steps, launch_of)
+  launch_is_one {t = t} {old = old} (no_id {m = m} may last) d l = grind (arith, common_steps, launch_of)
   launch_is_one {t = t} {old = old} (starts {m = m} {leavers = ls} {new = new} may below account) d l =
       by_case (launch_of l m refl)
     where
@@ -214,42 +190,15 @@ module _ {P : Type 0} (cmp : P → P → Ordering) (order : IsTotalOrder cmp) wh
   finish_of (all_completed looks) n ns e = cc
   finish_of {t = t} (late {m = m} is) n ns e =
       let same : m ≡ n = cc in inl (subst (λ (k : Message P). is_late cmp t k ≡ true) same is, refl)
-  finish_of {t = t} {p = p} (stopped {m = m} {fault = fault} in_time launch) n ns e =
-      let same : m ≡ n = cc in
-      inr (
-        subst (λ (k : Message P). is_late cmp t k ≡ false) same in_time,
-        (
-          meets fault,
-          subst (λ (k : Message P). Launches cmp t (landed cmp t p k) (next_of cmp p k) (meets fault))
-              same launch,
-          refl,
-        ),
-      )
+  finish_of {t = t} {p = p} (stopped {m = m} {fault = fault} in_time launch) n ns e = grind (arith, common_steps)
   finish_of {t = t} {p = p} (completes {m = m} {ms = ms} {more = more} {q = q} {rest = rest} in_time launch finishes) n
-      ns e =
-      let same : m ≡ n = cc in
-      let others : ms ≡ ns = cc in
-      inr (
-        subst (λ (k : Message P). is_late cmp t k ≡ false) same in_time,
-        (
-          goes more q,
-          subst (λ (k : Message P). Launches cmp t (landed cmp t p k) (next_of cmp p k) (goes more q)) same
-              launch,
-          (
-            rest,
-            subst (λ (ks : List (Message P)). Finishes cmp t (ks ++ more) q rest) others finishes,
-            ap
-                (λ (k : Message P). preceded (completed cmp t k ∷ []) rest) same,
-          ),
-        ),
-      )
+      ns e = grind (arith, common_steps)
 
   finish_is_one : {t : ℕ} {ms : List (Message P)} {p : Planned P} {c : Course (Completed P) (Planned P)}
       → Finishes cmp t ms p c
       → (d : Course (Completed P) (Planned P)) → Finishes cmp t ms p d → c ≡ d
   finish_is_one {t = t} {p = p} (all_completed {q = q} looks) d f =
-      let g : (r : Planned P) × PlansStart cmp t p r × (d ≡ goes [] r) = no_finish_of f refl in
-      ap (goes []) (look_is_one t p q g.0 looks g.1) ∙ sym g.2
+      grind (arith, common_steps, no_finish_of, look_is_one)
   finish_is_one {t = t} {p = p} (late {m = m} {ms = ms} is) d f = by_case (finish_of f m ms refl)
     where
       by_case : Finish t m ms p d → meets MomentTooLate ≡ d
@@ -302,31 +251,16 @@ module _ {P : Type 0} (cmp : P → P → Ordering) (order : IsTotalOrder cmp) wh
       → WakesEach cmp t ms p c → (m : Message P) (ns : List (Message P)) → ms ≡ m ∷ ns
       → Wake t m ns p c
   wake_of (all_started looks) n ns e = cc
-  wake_of {t = t} {p = p} (no_start {m = m} {fault = fault} launch) n ns e =
-      let same : m ≡ n =
-      cc in (meets fault, subst (λ (k : Message P). Launches cmp t p (next_of cmp p k) (meets fault)) same launch, refl)
+  wake_of {t = t} {p = p} (no_start {m = m} {fault = fault} launch) n ns e = grind (arith, common_steps)
   wake_of {t = t} {p = p} (no_finish {m = m} {more = more} {q = q} {fault = fault} launch finishes) n ns e =
-      let same : m ≡ n =
-      cc in (
-        goes more q,
-        subst (λ (k : Message P). Launches cmp t p (next_of cmp p k) (goes more q)) same launch,
-        (meets fault, finishes, refl),
-      )
+      grind (arith, common_steps)
   wake_of {t = t} {p = p} (starts_one {m = m} {ms = ms} {more = more} {q = q} {r = r} {cs = cs} {rest = rest} launch
-      finishes wakes) n ns e =
-      let same : m ≡ n = cc in
-      let others : ms ≡ ns = cc in (
-        goes more q,
-        subst (λ (k : Message P). Launches cmp t p (next_of cmp p k) (goes more q)) same launch,
-        (goes cs r, finishes, (rest, subst (λ (ks : List (Message P)). WakesEach cmp t ks r rest) others wakes, refl)),
-      )
+      finishes wakes) n ns e = grind (arith, common_steps)
 
   wake_is_one : {t : ℕ} {ms : List (Message P)} {p : Planned P} {c : Course (Completed P) (Planned P)}
       → WakesEach cmp t ms p c
       → (d : Course (Completed P) (Planned P)) → WakesEach cmp t ms p d → c ≡ d
-  wake_is_one {t = t} {p = p} (all_started {q = q} looks) d w =
-      let g : (r : Planned P) × PlansStart cmp t p r × (d ≡ goes [] r) = no_wake_of w refl in
-      ap (goes []) (look_is_one t p q g.0 looks g.1) ∙ sym g.2
+  wake_is_one {t = t} {p = p} (all_started {q = q} looks) d w = grind (arith, common_steps, no_wake_of, look_is_one)
   wake_is_one {t = t} {p = p} (no_start {m = m} {ms = ms} {fault = fault} launch) d w =
       let h : Wake t m ms p d = wake_of w m ms refl in
       let same : meets fault ≡ h.0 = launch_is_one launch h.0 h.1 in
@@ -364,8 +298,7 @@ module _ {P : Type 0} (cmp : P → P → Ordering) (order : IsTotalOrder cmp) wh
   rebalance_is_one : (now : ℕ) (caps : Caps P) (p : Planned P) (c d : Course (Completed P) (Planned P))
       → Rebalances cmp now caps p c → Rebalances cmp now caps p d → c ≡ d
   rebalance_is_one now caps p c d (none_sending {new = new} none looks)
-      (none_sending {new = other} none_too looks_too) =
-      ap (goes []) (look_is_one now (record p { caps = caps; limited = true }) new other looks looks_too)
+      (none_sending {new = other} none_too looks_too) = grind (arith, common_steps, look_is_one)
   rebalance_is_one now caps p c d (none_sending none looks) (some_sending some settles) = absurd (some none)
   rebalance_is_one now caps p c d (some_sending some settles) (none_sending none looks) = absurd (some none)
   rebalance_is_one now caps p c d (some_sending some settles) (some_sending some_too settles_too) =
@@ -378,27 +311,15 @@ module _ {P : Type 0} (cmp : P → P → Ordering) (order : IsTotalOrder cmp) wh
   enqueue_is_one now m p c d (at_once free) (launches limited launch finishes) = cc
   enqueue_is_one now m p c d (no_launch limited launch) (at_once free) = cc
   enqueue_is_one now m p c d (no_launch {fault = fault} limited launch)
-      (no_launch {fault = other} limited_too launch_too) =
-      let same : ◌≡◌ {A = Course (Message P) (Planned P)} (meets fault) (meets other) =
-      launch_is_one launch (meets other) launch_too in
-      let one : fault ≡ other = cc in
-      ap meets one
+      (no_launch {fault = other} limited_too launch_too) = grind (arith, common_steps, launch_is_one)
   enqueue_is_one now m p c d (no_launch {fault = fault} limited launch)
-      (launches {leavers = ls} {mid = mid} limited_too launch_too finishes) =
-      let same : meets fault ≡ goes ls mid = launch_is_one launch (goes ls mid) launch_too in
-      cc
+      (launches {leavers = ls} {mid = mid} limited_too launch_too finishes) = grind (arith, common_steps, launch_is_one)
   enqueue_is_one now m p c d (launches limited launch finishes) (at_once free) = cc
   enqueue_is_one now m p c d (launches {leavers = ls} {mid = mid} limited launch finishes)
-      (no_launch {fault = fault} limited_too launch_too) =
-      let same : goes ls mid ≡ meets fault = launch_is_one launch (meets fault) launch_too in
-      cc
+      (no_launch {fault = fault} limited_too launch_too) = grind (arith, common_steps, launch_is_one)
   enqueue_is_one now m p c d (launches {leavers = ls} {mid = mid} limited launch finishes)
       (launches {leavers = ms} {mid = other} limited_too launch_too finishes_too) =
-      let same : goes ls mid ≡ goes ms other = launch_is_one launch (goes ms other) launch_too in
-      let left : ms ≡ ls = cc in
-      let world : other ≡ mid = cc in
-      finish_is_one finishes d (subst (λ (q : Planned P). Finishes cmp now ls q d) world
-      (subst (λ (ks : List (Message P)). Finishes cmp now ks other d) left finishes_too))
+      grind (arith, common_steps, launch_is_one, finish_is_one)
 
   -- ---- an advance
 
@@ -458,9 +379,7 @@ module _ {P : Type 0} (cmp : P → P → Ordering) (order : IsTotalOrder cmp) wh
       (rest d : Course (Completed P) (Planned P)) → EventAt now p t (goes cs q)
       → ((k : ℕ) (e : Course (Completed P) (Planned P)) → Advances cmp now q k e → (n ≡ k) × (rest ≡ e))
       → Advance now p m d → (n + 1 ≡ m) × (preceded cs rest ≡ d)
-  after_event now p q t n m cs rest d event ih (inl h) =
-      let due : (next_event p ≡ Some t) × (t ≤ now) =
-      due_at now p t (goes cs q) event in absurd (none_due now p t h.0 due.0 due.1)
+  after_event now p q t n m cs rest d event ih (inl h) = grind (arith, common_steps, due_at, none_due)
   after_event now p q t n m cs rest d event ih (inr h) =
       let same : goes cs q ≡ h.1 = event_is_one now p t h.0 (goes cs q) h.1 event h.2 in
       let on : AdvanceOn now (goes cs q) m d =
@@ -472,9 +391,7 @@ module _ {P : Type 0} (cmp : P → P → Ordering) (order : IsTotalOrder cmp) wh
 
   event_stops : (now : ℕ) (p : Planned P) (t m : ℕ) (fault : Error) (d : Course (Completed P) (Planned P))
       → EventAt now p t (meets fault) → Advance now p m d → (1 ≡ m) × (meets fault ≡ d)
-  event_stops now p t m fault d event (inl h) =
-      let due : (next_event p ≡ Some t) × (t ≤ now) =
-      due_at now p t (meets fault) event in absurd (none_due now p t h.0 due.0 due.1)
+  event_stops now p t m fault d event (inl h) = grind (arith, common_steps, due_at, none_due)
   event_stops now p t m fault d event (inr h) =
       let same : meets fault ≡ h.1 = event_is_one now p t h.0 (meets fault) h.1 event h.2 in
       let on : AdvanceOn now (meets fault) m d =
@@ -483,13 +400,8 @@ module _ {P : Type 0} (cmp : P → P → Ordering) (order : IsTotalOrder cmp) wh
 
   pub advance_is_one : {now n : ℕ} {p : Planned P} {c : Course (Completed P) (Planned P)} → Advances cmp now p n c
       → (m : ℕ) (d : Course (Completed P) (Planned P)) → Advances cmp now p m d → (n ≡ m) × (c ≡ d)
-  advance_is_one {now = now} {p = p} {c = c} (no_more before wakes) m d a = by_case (advance_of a)
-    where
-      by_case : Advance now p m d → (0 ≡ m) × (c ≡ d)
-      by_case (inl h) = (sym h.2, wake_is_one wakes d h.1)
-      by_case (inr h) =
-          let due : (next_event p ≡ Some h.0) × (h.0 ≤ now) =
-          due_at now p h.0 h.1 h.2 in absurd (none_due now p h.0 before due.0 due.1)
+  advance_is_one {now = now} {p = p} {c = c} (no_more before wakes) m d a =
+      grind (arith, common_steps, advance_of, wake_is_one, due_at, none_due)
   advance_is_one {now = now} {p = p} (at_finish {q = q} {t = t} {n = n} {cs = cs} {rest = rest} finish next due event
       more) m d a =
       after_event now p q t n m cs rest d (inl (finish, next, due, event)) (advance_is_one more) (advance_of a)
@@ -507,22 +419,14 @@ module _ {P : Type 0} (cmp : P → P → Ordering) (order : IsTotalOrder cmp) wh
       → EnqueuesEach cmp now ms p c → EnqueuesEach cmp now ms p d → c ≡ d
   each_is_one now [] p c d all_enqueued all_enqueued = refl
   each_is_one now (m ∷ ms) p c d (one_stops {fault = fault} one) (one_stops {fault = other} one_too) =
-      let same : ◌≡◌ {A = Course (Completed P) (Planned P)} (meets fault) (meets other) =
-      enqueue_is_one now m p (meets fault) (meets other) one one_too in
-      let faults : fault ≡ other = cc in
-      ap meets faults
+      grind (arith, common_steps, enqueue_is_one)
   each_is_one now (m ∷ ms) p c d (one_stops {fault = fault} one) (enqueues_one {q = q} {cs = cs} one_too more) =
       let same : meets fault ≡ goes cs q = enqueue_is_one now m p (meets fault) (goes cs q) one one_too in cc
   each_is_one now (m ∷ ms) p c d (enqueues_one {q = q} {cs = cs} one more) (one_stops {fault = fault} one_too) =
       let same : goes cs q ≡ meets fault = enqueue_is_one now m p (goes cs q) (meets fault) one one_too in cc
   each_is_one now (m ∷ ms) p c d (enqueues_one {q = q} {cs = cs} {rest = rest} one more)
       (enqueues_one {q = r} {cs = ds} {rest = on} one_too more_too) =
-      let same : goes cs q ≡ goes ds r = enqueue_is_one now m p (goes cs q) (goes ds r) one one_too in
-      let first : cs ≡ ds = cc in
-      let world : r ≡ q = cc in
-      let later : rest ≡ on =
-      each_is_one now ms q rest on more (subst (λ (n : Planned P). EnqueuesEach cmp now ms n on) world more_too) in
-      ap (λ (es : List (Completed P)). preceded es rest) first ∙ preceded_alike ds rest on later
+      grind (arith, common_steps, enqueue_is_one, preceded_alike, (each_is_one now ms q rest on more))
 
   -- ---- any call
 

@@ -1,12 +1,13 @@
 -- What is simulated is the one course of the simulation.
-use Rattle.link_simulation.proofs.Common.{◌≡◌, ℕ, ◌≤◌, List, ◌++◌, Option, Some, refl, sym, ◌∙◌, subst, AllZip}
+use Rattle.link_simulation.proofs.Common.{arith, ◌≡◌, ℕ, ◌≤◌, List, ◌++◌, Option, Some, refl, sym, ◌∙◌, subst, AllZip}
 use Rattle.link_simulation.proofs.Common.{Ordering, IsTotalOrder, Error, OutOfMemory, NumberTooLarge, MomentTooLate}
 use Rattle.link_simulation.proofs.Common.{FlowIdsUsedUp, IsSamePlanned, GoesByRule, World, Completed, goes, meets}
 use Rattle.link_simulation.proofs.Common.{Obeys, MayBeRefused, NextIs, Call, call_advance, Runs, SameCompletion, Faults}
 use Rattle.link_simulation.proofs.Common.{Planned, StandsFor, IsCalled, IsRun}
+use Rattle.std.proofs.lemmas.Grind.{common_steps}
 use Rattle.link_simulation.specs.Simulation.RefusalCauses.{IsRefusedFor}
-use Rattle.link_simulation.specs.Rule.Simulated.{RunsInTwo, IsSimulated, IsSplitAnywhere}
-use Rattle.link_simulation.specs.Rule.Simulated.{IsNextInSimulation, MeetsFault, IsRefusedInSimulation}
+use Rattle.link_simulation.specs.Rule.Simulated.{RunsInTwo, IsSimulated, IsSplitAnywhere, IsNextInSimulation}
+use Rattle.link_simulation.specs.Rule.Simulated.{MeetsFault, IsRefusedInSimulation}
 use Rattle.link_simulation.proofs.Laws.AdvanceOnward.{advance_splits}
 use Rattle.link_simulation.proofs.Rule.OneCourse.{course_is_one}
 use Rattle.link_simulation.proofs.Simulation.OneNext.{next_is_one}
@@ -18,12 +19,7 @@ module _ {P : Type 0} (cmp : P → P → Ordering) (order : IsTotalOrder cmp) wh
   alike : (cs ds es : List (Completed P)) (q : Planned P) (v u : World P) → goes ds v ≡ goes es u
       → AllZip (SameCompletion cmp) cs es
       → StandsFor cmp q u → AllZip (SameCompletion cmp) cs ds × StandsFor cmp q v
-  alike cs ds es q v u one same stands =
-      let answers : ds ≡ es = cc in
-      let world : v ≡ u = cc in (
-        subst (λ (xs : List (Completed P)). AllZip (SameCompletion cmp) cs xs) (sym answers) same,
-        subst (λ (x : World P). StandsFor cmp q x) (sym world) stands,
-      )
+  alike cs ds es q v u one same stands = grind (arith, common_steps)
 
   pub one_run : (p q : Planned P) (w v : World P) (call : Call P) (now : ℕ) (cs ds : List (Completed P))
       → IsSimulated cmp p call cs q
@@ -67,31 +63,13 @@ module _ {P : Type 0} (cmp : P → P → Ordering) (order : IsTotalOrder cmp) wh
   pub one_going : (p q r : Planned P) (call : Call P) (cs ds : List (Completed P)) → GoesByRule cmp p call cs q
       → Obeys cmp p call (goes ds r)
       → AllZip (SameCompletion cmp) cs ds × IsSamePlanned cmp r q
-  one_going p q r call cs ds went obeys =
-      by_course (course_is_one cmp order p call (goes ds r) (goes went.answers went.after) obeys went.obeys)
-    where
-      by_course : goes ds r ≡ goes went.answers went.after → AllZip (SameCompletion cmp) cs ds × IsSamePlanned cmp r q
-      by_course one =
-          let answers : ds ≡ went.answers = cc in
-          let after : r ≡ went.after = cc in (
-            subst (λ (xs : List (Completed P)). AllZip (SameCompletion cmp) cs xs) (sym answers) went.same_answers,
-            subst (λ (x : Planned P). IsSamePlanned cmp x q) (sym after) went.same_after,
-          )
+  one_going p q r call cs ds went obeys = grind (arith, common_steps, course_is_one)
 
   -- it is refused for memory alone
   pub not_refused : (p q : Planned P) (call : Call P) (why : Error) (cs : List (Completed P))
       → MayBeRefused cmp p call why
       → Obeys cmp p call (goes cs q) → why ≡ OutOfMemory
-  not_refused p q call why cs may obeys = by_cause why may
-    where
-      never : (fault : Error) → Obeys cmp p call (meets fault) → ⊥
-      never fault met = let one = course_is_one cmp order p call (goes cs q) (meets fault) obeys met in cc
-
-      by_cause : (why : Error) → MayBeRefused cmp p call why → why ≡ OutOfMemory
-      by_cause OutOfMemory may = refl
-      by_cause NumberTooLarge may = absurd may
-      by_cause MomentTooLate may = absurd (never MomentTooLate may)
-      by_cause FlowIdsUsedUp may = absurd (never FlowIdsUsedUp may)
+  not_refused p q call why cs may obeys = grind (arith, common_steps, course_is_one)
 
   -- and so in the simulation
   pub not_refused_in_simulation : (p : Planned P) (w v : World P) (call : Call P) (now : ℕ) (why : Error)

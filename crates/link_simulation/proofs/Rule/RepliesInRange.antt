@@ -1,13 +1,14 @@
 -- A call in the range is refused for memory alone, and so are the calls of a list, each with those that were made
 -- before it.
+use Rattle.std.proofs.lemmas.Grind.{common_steps}
 use Rattle.link_simulation.proofs.Common.{◌≡◌, ℕ, ◌+◌, ◌<◌, ◌≤◌, ◌^◌, List, [], ◌∷◌, ◌++◌, length, All, refl, sym, ◌∙◌}
-use Rattle.link_simulation.proofs.Common.{ap, subst, append_assoc, append-nil, arith, IfSome, AllZip, Ordering}
-use Rattle.link_simulation.proofs.Common.{IsTotalOrder, All-nil, Error, OutOfMemory, NumberTooLarge, MomentTooLate}
-use Rattle.link_simulation.proofs.Common.{FlowIdsUsedUp, Message, Completed, Course, goes, meets, Call, call_limit}
-use Rattle.link_simulation.proofs.Common.{call_limit_link, call_enqueue, call_advance, call_enqueue_all, call_next}
-use Rattle.link_simulation.proofs.Common.{moment_of, enqueued, Reply, reply_done, reply_next, reply_refused}
-use Rattle.link_simulation.proofs.Common.{SameCompletion, Planned, new_planned, Obeys, EnqueuesEach, all_enqueued}
-use Rattle.link_simulation.proofs.Common.{one_stops, enqueues_one, IsInRange, MayBeRefused, Obeyed, Each, all_of_each}
+use Rattle.link_simulation.proofs.Common.{ap, subst, append_assoc, append-nil, arith, IfSome, Ordering, IsTotalOrder}
+use Rattle.link_simulation.proofs.Common.{All-nil, Error, OutOfMemory, NumberTooLarge, MomentTooLate, FlowIdsUsedUp}
+use Rattle.link_simulation.proofs.Common.{Message, Completed, Course, goes, meets, Call, call_limit, call_limit_link}
+use Rattle.link_simulation.proofs.Common.{call_enqueue, call_advance, call_enqueue_all, call_next, moment_of, enqueued}
+use Rattle.link_simulation.proofs.Common.{Reply, reply_done, reply_next, reply_refused, Planned, new_planned, Obeys}
+use Rattle.link_simulation.proofs.Common.{EnqueuesEach, all_enqueued, one_stops, enqueues_one, IsInRange, MayBeRefused}
+use Rattle.link_simulation.proofs.Common.{Obeyed, Each, all_of_each}
 use Rattle.std.proofs.lemmas.List.{length-append}
 use Rattle.std.proofs.lemmas.List.Elements.{All-head}
 use Rattle.link_simulation.specs.Rule.Range.{AreInRange, IsCallInRange}
@@ -27,10 +28,7 @@ enqueued_joined : {P : Type 0} (calls : List (Call P)) (call : Call P)
     → enqueued (calls ++ call ∷ []) ≡ enqueued calls ++ enqueued (call ∷ [])
 enqueued_joined [] call = refl
 enqueued_joined (first ∷ calls) call =
-    sym (enqueued_split first (calls ++ call ∷ []))
-    ∙ ap (λ ms. enqueued (first ∷ []) ++ ms) (enqueued_joined calls call)
-    ∙ sym (append_assoc (enqueued (first ∷ [])) (enqueued calls) (enqueued (call ∷ [])))
-    ∙ ap (λ ms. ms ++ enqueued (call ∷ [])) (enqueued_split first calls)
+    grind (arith, common_steps, enqueued_split, append_assoc, (enqueued_joined calls call))
 
 -- the calls before the last one are in the range, and so is that one
 record IsSplit {P : Type 0} (calls : List (Call P)) (call : Call P) : Type 0 where
@@ -63,9 +61,7 @@ new_in_range {P} id fits =
 module _ {P : Type 0} (cmp : P → P → Ordering) (order : IsTotalOrder cmp) where
   more_room : (most more : ℕ) (room : most < 2 ^ 64) (wide : more < 2 ^ 64) (p : Planned P) → most ≤ more
       → Holds cmp order most room p → Holds cmp order more wide p
-  more_room most more room wide p le h =
-      let ids : p.next_id + length p.waiting ≤ most = h.ids in
-      record { sending = h.sending; waiting = h.waiting; ids = omega arith }
+  more_room most more room wide p le h = grind (arith, common_steps)
 
   -- messages in the range, one after another
   each_well : {now : ℕ} {ms : List (Message P)} {p : Planned P} {c : Course (Completed P) (Planned P)}
@@ -101,9 +97,7 @@ module _ {P : Type 0} (cmp : P → P → Ordering) (order : IsTotalOrder cmp) wh
         rebalances_well cmp order most room obeys (soon (call_limit now peer egress ingress) own) h
     obeys_well p (call_limit_link now origin recipient cap) c own fits h obeys =
         rebalances_well cmp order most room obeys (soon (call_limit_link now origin recipient cap) own) h
-    obeys_well p (call_enqueue now m) c own fits h obeys =
-        enqueues_well cmp order most room obeys (soon (call_enqueue now m) own)
-        (All-head (IsNear {P = P}) m [] own.latencies) fits h
+    obeys_well p (call_enqueue now m) c own fits h obeys = grind (arith, common_steps, enqueues_well, soon, All-head)
     obeys_well p (call_enqueue_all now ms) c own fits h obeys =
         each_well obeys (soon (call_enqueue_all now ms) own)
         (each_of_all (IsNear {P = P}) ms
@@ -128,20 +122,10 @@ module _ {P : Type 0} (cmp : P → P → Ordering) (order : IsTotalOrder cmp) wh
 
   holds_in_range : (most : ℕ) (room : most < 2 ^ 64) (p : Planned P) → IsInRange p → p.next_id + length p.waiting ≤ most
       → Holds cmp order most room p
-  holds_in_range most room p range fits = record {
-    sending = each_of_all (IsNearFlight {P = P}) p.sending range.sending;
-    waiting = each_of_all (IsNear {P = P}) p.waiting range.waiting;
-    ids = fits;
-  }
+  holds_in_range most room p range fits = grind (arith, common_steps, each_of_all)
 
   range_of_holds : (most : ℕ) (room : most < 2 ^ 64) (p : Planned P) → Holds cmp order most room p → IsInRange p
-  range_of_holds most room p h =
-      let ids : p.next_id + length p.waiting ≤ most = h.ids in
-      record {
-        sending = all_of_each (IsNearFlight {P = P}) p.sending h.sending;
-        waiting = all_of_each (IsNear {P = P}) p.waiting h.waiting;
-        ids = omega arith;
-      }
+  range_of_holds most room p h = grind (arith, common_steps, all_of_each)
 
   -- a call in the range leads from the range to the range
   pub obeys_in_range : (p : Planned P) (call : Call P) (c : Course (Completed P) (Planned P)) → IsCallInRange p call
@@ -201,19 +185,15 @@ module _ {P : Type 0} (cmp : P → P → Ordering) (order : IsTotalOrder cmp) wh
   from_there (call ∷ calls) (reply_next next ∷ replies) earlier p reached obeyed =
       from_there calls replies earlier p reached (obeyed_next cmp p calls replies call next obeyed)
   from_there (call ∷ calls) (reply_refused why ∷ replies) earlier p reached obeyed =
-      let both : MayBeRefused cmp p call why × Obeyed cmp p calls replies =
-      obeyed_refused cmp p calls replies call why obeyed in
-      (for_memory earlier call p why reached both.0, from_there calls replies earlier p reached both.1)
+      grind (arith, common_steps, obeyed_refused, for_memory, (from_there calls replies earlier p reached
+      (obeyed_refused cmp p calls replies call why obeyed).1))
   from_there (call ∷ calls) (reply_done cs ∷ replies) earlier p reached obeyed =
-      let step : (ds : List (Completed P)) × (q : Planned P) × Obeys cmp p call (goes ds q)
-      × AllZip (SameCompletion cmp) cs ds × Obeyed cmp q calls replies
-      = obeyed_done cmp p calls replies call cs obeyed in
-      from_there calls replies (earlier ++ call ∷ []) step.1 (reached_next earlier call p step.1 step.0 reached step.2)
-      step.4
+      grind (arith, common_steps, obeyed_done, reached_next, (from_there calls replies (earlier ++ call ∷ [])
+      (obeyed_done cmp p calls replies call cs obeyed).1 (reached_next earlier call p (obeyed_done cmp p calls replies
+      call cs obeyed).1 (obeyed_done cmp p calls replies call cs obeyed).0 reached (obeyed_done cmp p calls replies
+      call cs obeyed).2) (obeyed_done cmp p calls replies call cs obeyed).4))
 
   pub refuses_for_memory : (calls : List (Call P)) (replies : List (Reply P)) → Obeyed cmp (new_planned 0) calls replies
       → RefusesForMemoryAlone [] calls replies
   unfolding Reached
-  refuses_for_memory calls replies obeyed =
-      from_there calls replies [] (new_planned 0) (λ range. record { sending = tt; waiting = tt; ids = omega arith })
-      obeyed
+  refuses_for_memory calls replies obeyed = grind (arith, common_steps, from_there)

@@ -1,6 +1,6 @@
 -- A call has the same course on planned worlds that are the same up to equal peers.
-use Rattle.link_simulation.proofs.Common.{◌≡◌, ℕ, ◌<◌, ◌≤◌, List, [], ◌∷◌, ◌++◌, true, not, Option, Some, None, refl}
-use Rattle.link_simulation.proofs.Common.{sym, ◌∙◌, subst, IfSome, filter, AllZip, Ordering, IsTotalOrder}
+use Rattle.link_simulation.proofs.Common.{arith, ◌≡◌, ℕ, ◌<◌, ◌≤◌, List, [], ◌∷◌, ◌++◌, true, not, Option, Some, None}
+use Rattle.link_simulation.proofs.Common.{refl, sym, ◌∙◌, subst, IfSome, filter, AllZip, Ordering, IsTotalOrder}
 use Rattle.link_simulation.proofs.Common.{MomentTooLate, FlowIdsUsedUp, Message, Caps, CapsAlike, SameMessage, Parts}
 use Rattle.link_simulation.proofs.Common.{rate_of, Completed, Course, goes, meets, last_moment, preceded, fronts}
 use Rattle.link_simulation.proofs.Common.{completed, Call, limited_by, linked_by, SameCompletion, Planned, RatedFlight}
@@ -14,8 +14,8 @@ use Rattle.link_simulation.proofs.Common.{Advances, no_more, at_finish, at_start
 use Rattle.link_simulation.proofs.Common.{EnqueuesEach, all_enqueued, one_stops, enqueues_one, IsSameRatedFlight}
 use Rattle.link_simulation.proofs.Common.{IsSamePlanned, same_limit, same_limit_link, same_enqueue, same_enqueue_all}
 use Rattle.link_simulation.proofs.Common.{same_advance, same_next, zip-append}
-use Rattle.link_simulation.specs.Rule.SamePlanned.{IsSameCall}
-use Rattle.link_simulation.specs.Rule.SamePlanned.{IsSameCourse}
+use Rattle.std.proofs.lemmas.Grind.{common_steps}
+use Rattle.link_simulation.specs.Rule.SamePlanned.{IsSameCall, IsSameCourse}
 use Rattle.link_simulation.proofs.Simulation.AlikeMessages.{fair_alike}
 use Rattle.link_simulation.proofs.Rule.Launch.{OptionsAlike}
 use Rattle.link_simulation.proofs.Rule.SameSteps.{least_same, none_same, some_same, IsSameLaunch, course_went}
@@ -46,16 +46,8 @@ module _ {P : Type 0} (cmp : P → P → Ordering) (order : IsTotalOrder cmp) wh
   rerated_same t [] (n ∷ ns) gs stays all = absurd stays
   rerated_same t (f ∷ fs) [] gs stays all = absurd stays
   rerated_same t (f ∷ fs) (n ∷ ns) [] stays all = absurd all
-  rerated_same t (f ∷ fs) (n ∷ ns) (g ∷ gs) stays all = (
-    record {
-      id = stays.0.0 ∙ all.0.id;
-      message = subst (λ (m : Message P). SameMessage cmp m g.message) (sym stays.0.1) all.0.message;
-      left = stays.0.2 ∙ all.0.left;
-      rate = refl;
-      updated = stays.0.3;
-    },
-    rerated_same t fs ns gs stays.1 all.1,
-  )
+  rerated_same t (f ∷ fs) (n ∷ ns) (g ∷ gs) stays all =
+      grind (arith, common_steps, (rerated_same t fs ns gs stays.1 all.1))
 
   rerated_stays : (t : ℕ) (fs ns gs : List (RatedFlight P)) → AllZip (Stays t) fs ns
       → AllZip (IsSameRatedFlight cmp) fs gs → AllZip (Stays t) gs (rerated t ns gs)
@@ -447,15 +439,8 @@ module _ {P : Type 0} (cmp : P → P → Ordering) (order : IsTotalOrder cmp) wh
       enqueue_same obeys n q messages same
   obey_same (same_enqueue_all {now = now} {ms = ms} {ns = ns} messages) p q course same obeys =
       each_same obeys ns q messages same
-  obey_same (same_advance {now = now}) p q course same (n, advances) =
-      let done : (c : Course (Completed P) (Planned P)) × Advances cmp now q n c × IsSameCourse cmp course c =
-      advance_same advances q same in
-      (done.0, (n, done.1), done.2)
-  obey_same same_next p q course same obeys = (
-    goes [] q,
-    refl,
-    subst (λ (c : Course (Completed P) (Planned P)). IsSameCourse cmp c (goes [] q)) (sym obeys) (tt, same),
-  )
+  obey_same (same_advance {now = now}) p q course same (n, advances) = grind (arith, common_steps, advance_same)
+  obey_same same_next p q course same obeys = grind (arith, common_steps)
 
   pub obeys_same : (p q : Planned P) (call other : Call P) (course : Course (Completed P) (Planned P))
       → IsSamePlanned cmp p q → IsSameCall cmp call other → Obeys cmp p call course

@@ -1,14 +1,13 @@
 -- Planned worlds that are the same up to equal peers stand for the same worlds, and are in the range alike.
-use Rattle.link_simulation.proofs.Common.{◌≡◌, ℕ, ◌+◌, ◌<◌, ◌≤◌, ◌^◌, List, [], ◌∷◌, length, Option, sym, ◌∙◌, subst}
-use Rattle.link_simulation.proofs.Common.{All, IfSome, filter, list_any, AllZip, Ordering, IsTotalOrder, All-nil}
-use Rattle.link_simulation.proofs.Common.{Amount, Message, SameMessage, OneForEachPair, same_pair, pair_before}
-use Rattle.link_simulation.proofs.Common.{IsLowest, rate_of, World, Flight, Planned, RatedFlight, IsRated}
-use Rattle.link_simulation.proofs.Common.{AreInPairOrder, IsLeastMoment, SomeSpentAt, SomeReadyAt, rated_messages}
-use Rattle.link_simulation.proofs.Common.{IsInRange, IsSameFlight, Tallies, StandsFor, IsSameRatedFlight, IsSamePlanned}
-use Rattle.link_simulation.proofs.Common.{zip_chain, zip-filter}
+use Rattle.link_simulation.proofs.Common.{arith, ◌≡◌, ℕ, ◌+◌, ◌<◌, ◌^◌, List, [], ◌∷◌, length, sym, ◌∙◌, subst, All}
+use Rattle.link_simulation.proofs.Common.{filter, list_any, AllZip, Ordering, IsTotalOrder, All-nil, Message}
+use Rattle.link_simulation.proofs.Common.{SameMessage, OneForEachPair, same_pair, pair_before, rate_of, World, Flight}
+use Rattle.link_simulation.proofs.Common.{Planned, RatedFlight, IsRated, AreInPairOrder, IsLeastMoment, SomeSpentAt}
+use Rattle.link_simulation.proofs.Common.{SomeReadyAt, rated_messages, IsInRange, IsSameFlight, Tallies, StandsFor}
+use Rattle.link_simulation.proofs.Common.{IsSameRatedFlight, IsSamePlanned, zip_chain, zip-filter}
+use Rattle.std.proofs.lemmas.Grind.{common_steps}
 use Rattle.std.proofs.lemmas.List.Elements.{All-cons, All-head, All-tail, length_all_zip}
-use Rattle.link_simulation.proofs.Simulation.AlikeMessages.{pairs_alike, message_itself, any_alike}
-use Rattle.link_simulation.proofs.Simulation.AlikeMessages.{fair_alike}
+use Rattle.link_simulation.proofs.Simulation.AlikeMessages.{pairs_alike, message_itself, any_alike, fair_alike}
 use Rattle.link_simulation.proofs.Simulation.InOrder.{before_alike}
 use Rattle.link_simulation.proofs.Rule.SamePlanned.{message_chain, pairs_chain, caps_chain, same_turned}
 use Rattle.link_simulation.proofs.Rule.SameSteps.{none_same, least_same, flows_same, left_same, some_spent_same}
@@ -45,19 +44,11 @@ module _ {P : Type 0} (cmp : P → P → Ordering) (order : IsTotalOrder cmp) wh
 
   flight_same : (t : ℕ) (f g : RatedFlight P) (h : Flight P) → IsSameRatedFlight cmp f g → IsSameFlight cmp t g h
       → IsSameFlight cmp t f h
-  flight_same t f g h same flight = record {
-    message = message_chain cmp order f.message g.message h.message same.message flight.message;
-    updated = subst (λ (n : ℕ). n ≤ t) (sym same.updated) flight.updated;
-    lowest = subst IsLowest (sym same.left) flight.lowest;
-    rate = subst (λ (r : Option Amount). IfSome r (λ x. 0 < x.den)) (sym same.rate) flight.rate;
-    left = flight.left ∙ sym (left_same cmp order t f g same);
-  }
+  flight_same t f g h same flight = grind (arith, common_steps, message_chain, left_same)
 
   none_before_same : (m n : Message P) (ms ns : List (Message P)) → SameMessage cmp m n → AllZip (SameMessage cmp) ms ns
       → list_any (λ k. pair_before cmp k m) ms ≡ list_any (λ k. pair_before cmp k n) ns
-  none_before_same m n ms ns same all =
-      any_alike cmp order (SameMessage cmp) (λ k. pair_before cmp k m) (λ k. pair_before cmp k n)
-      (λ k l e. before_alike cmp order k l m n e same) ms ns all
+  none_before_same m n ms ns same all = grind (arith, common_steps, any_alike, before_alike)
 
   pub order_same : (ms ns : List (Message P)) → AllZip (SameMessage cmp) ms ns → AreInPairOrder cmp ms
       → AreInPairOrder cmp ns
@@ -120,13 +111,8 @@ module _ {P : Type 0} (cmp : P → P → Ordering) (order : IsTotalOrder cmp) wh
   one_each_same [] [] all h = tt
   one_each_same [] (n ∷ ns) all h = absurd all
   one_each_same (m ∷ ms) [] all h = absurd all
-  one_each_same (m ∷ ms) (n ∷ ns) all h = (
-    sym
-        (any_alike cmp order (SameMessage cmp) (same_pair cmp m) (same_pair cmp n)
-        (λ k l e. pairs_alike cmp order m n k l all.0 e) ms ns all.1)
-        ∙ h.0,
-    one_each_same ms ns all.1 h.1,
-  )
+  one_each_same (m ∷ ms) (n ∷ ns) all h =
+      grind (arith, common_steps, any_alike, pairs_alike, (one_each_same ms ns all.1 h.1))
 
   near_flight_same : (f g : RatedFlight P) → IsSameRatedFlight cmp f g → f.message.latency < 2 ^ 63
       → g.message.latency < 2 ^ 63

@@ -1,15 +1,16 @@
 -- Settling in the planned world is settling in the world: the same completions or the same fault, and the two agree
 -- afterwards.
+use Rattle.std.proofs.lemmas.Grind.{common_steps}
 use Rattle.link_simulation.proofs.Common.{◌≡◌, ℕ, zero, suc, ◌+◌, ◌≤◌, List, [], ◌∷◌, ◌++◌, map, length, Bool, true}
-use Rattle.link_simulation.proofs.Common.{false, cond, not, Option, Some, None, refl, sym, ap, ◌∙◌, subst, arith}
-use Rattle.link_simulation.proofs.Common.{length-append, filter, find, list_any, AllZip, Ordering, IsTotalOrder}
-use Rattle.link_simulation.proofs.Common.{map-append, or_from, Completed, Course, Flight, World, flows, goes, is_done}
-use Rattle.link_simulation.proofs.Common.{meets, preceded, raised, settle, EndsWith, is_late, completed, arrival}
-use Rattle.link_simulation.proofs.Common.{Finishes, PlansStart, Settles, all_completed, completes, landed, late}
-use Rattle.link_simulation.proofs.Common.{settling, stopped, Message, OneForEachPair, PairsAlike, SameMessage}
-use Rattle.link_simulation.proofs.Common.{same_pair, IsLeastMoment, Planned, SomeReadyAt, SameCompletion, CoursesAlike}
-use Rattle.link_simulation.proofs.Common.{Follows, IsSettled, Tallies, MomentTooLate, leaving, staying, arrived}
-use Rattle.link_simulation.proofs.Common.{launch_then, finish_within, Each, zip-append}
+use Rattle.link_simulation.proofs.Common.{false, not, Option, None, refl, sym, ap, ◌∙◌, subst, arith, length-append}
+use Rattle.link_simulation.proofs.Common.{filter, find, list_any, AllZip, Ordering, IsTotalOrder, map-append, or_from}
+use Rattle.link_simulation.proofs.Common.{Completed, Course, Flight, World, flows, goes, is_done, meets, preceded}
+use Rattle.link_simulation.proofs.Common.{raised, settle, EndsWith, is_late, completed, arrival, Finishes, PlansStart}
+use Rattle.link_simulation.proofs.Common.{Settles, all_completed, completes, landed, late, settling, stopped, Message}
+use Rattle.link_simulation.proofs.Common.{OneForEachPair, PairsAlike, SameMessage, same_pair, IsLeastMoment, Planned}
+use Rattle.link_simulation.proofs.Common.{SomeReadyAt, SameCompletion, CoursesAlike, Follows, IsSettled, Tallies}
+use Rattle.link_simulation.proofs.Common.{MomentTooLate, leaving, staying, arrived, launch_then, finish_within, Each}
+use Rattle.link_simulation.proofs.Common.{zip-append}
 use Rattle.link_simulation.proofs.Simulation.Queue.{over_state, settles_as_queue}
 use Rattle.link_simulation.proofs.Simulation.AlikeMessages.{delivered_alike, peers_alike}
 use Rattle.link_simulation.proofs.Rule.Accounts.{leavers_alike, account_follows}
@@ -21,13 +22,7 @@ use Rattle.fair_rates.proofs.Lists.Filters.{length-filter}
 
 all_without : {X : Type 0} (test : X → Bool) (xs : List X) → find test xs ≡ None → filter (λ x. not (test x)) xs ≡ xs
 all_without test [] e = refl
-all_without {X} test (x ∷ xs) e = by_test (test x) e (all_without test xs)
-  where
-    by_test : (b : Bool) → cond b (Some x) (find test xs) ≡ None
-        → (find test xs ≡ None → filter (λ x. not (test x)) xs ≡ xs)
-        → cond (not b) (x ∷ filter (λ x. not (test x)) xs) (filter (λ x. not (test x)) xs) ≡ x ∷ xs
-    by_test true e ih = cc
-    by_test false e ih = ap (λ (q : List X). x ∷ q) (ih e)
+all_without {X} test (x ∷ xs) e = grind (arith, common_steps, (all_without test xs))
 
 module _ {P : Type 0} (cmp : P → P → Ordering) (order : IsTotalOrder cmp) where
   -- ---- a message lands
@@ -40,15 +35,7 @@ module _ {P : Type 0} (cmp : P → P → Ordering) (order : IsTotalOrder cmp) wh
 
   pub completed_alike : (t : ℕ) (m n : Message P) → SameMessage cmp m n
       → SameCompletion cmp (completed cmp t m) (completed cmp t n)
-  completed_alike t m n e =
-      record {
-        origin = e.origin;
-        recipient = e.recipient;
-        channel = e.channel;
-        bytes = e.bytes;
-        done_at = refl;
-        deliver_at = rw (delivered_alike cmp order m n e, e.latency) refl;
-      }
+  completed_alike t m n e = grind (arith, common_steps, delivered_alike)
 
   pub raised_alike : (last last' : P → P → Option ℕ) (m n : Message P) (at at' : ℕ) → PairsAlike cmp last last'
       → SameMessage cmp m n → at ≡ at'
@@ -64,30 +51,7 @@ module _ {P : Type 0} (cmp : P → P → Ordering) (order : IsTotalOrder cmp) wh
 
   landed_follows : (t : ℕ) (p : Planned P) (w : World P) (m n : Message P) → Follows cmp t p w → SameMessage cmp m n
       → Follows cmp t (landed cmp t p m) (arrived cmp t w n)
-  landed_follows t p w m n follows e = record {
-    tallies = record {
-      moment = follows.tallies.moment;
-      caps = follows.tallies.caps;
-      limited = follows.tallies.limited;
-      last_arrival =
-          raised_alike p.last_arrival w.last_arrival m n (arrival cmp t m) (arrival cmp t n)
-          follows.tallies.last_arrival e (arrival_alike t m n e);
-      next_id = follows.tallies.next_id;
-      waiting = follows.tallies.waiting;
-      pair_order = follows.tallies.pair_order;
-      sending = follows.tallies.sending;
-      one_each = follows.tallies.one_each;
-      empty_at_first = follows.tallies.empty_at_first;
-    };
-    rated =
-        record {
-          per = follows.rated.per;
-          rates = follows.rated.rates;
-          fair = follows.rated.fair;
-          rated = follows.rated.rated;
-        };
-    finish = follows.finish;
-  }
+  landed_follows t p w m n follows e = grind (arith, common_steps, raised_alike, arrival_alike)
 
   -- ---- courses
 
@@ -167,14 +131,12 @@ module _ {P : Type 0} (cmp : P → P → Ordering) (order : IsTotalOrder cmp) wh
   pub finishes_alike : {t : ℕ} {ms : List (Message P)} {p : Planned P} {course : Course (Completed P) (Planned P)}
       → Finishes cmp t ms p course → WhenFollowed t ms p course
   finishes_alike {t = t} {p = p} (all_completed {q = q} looks) n [] w follows none all fuel =
-      subst (λ (c : Course (Completed P) (World P)). CourseAlike t (goes [] q) c) (sym (no_queue n t w))
-      (tt, looked t p q w follows none looks)
+      grind (arith, common_steps, no_queue, looked)
   finishes_alike (all_completed looks) n (f ∷ fs) w follows none all fuel = absurd all
   finishes_alike (late too) n [] w follows none all fuel = absurd all
   finishes_alike (late too) zero (f ∷ fs) w follows none all fuel = absurd (omega arith)
   finishes_alike {t = t} (late {m = m} too) (suc n) (f ∷ fs) w follows none all fuel =
-      subst (λ (c : Course (Completed P) (World P)). CourseAlike t (meets MomentTooLate) c)
-      (sym (first_late n t f fs w (sym (late_alike t m f.message all.0) ∙ too))) refl
+      grind (arith, common_steps, first_late, late_alike)
   finishes_alike (stopped not_late launch) n [] w follows none all fuel = absurd all
   finishes_alike (stopped not_late launch) zero (f ∷ fs) w follows none all fuel = absurd (omega arith)
   finishes_alike {t = t} {p = p} (stopped {m = m} {fault = fault} not_late launch) (suc n) (f ∷ fs) w follows none all

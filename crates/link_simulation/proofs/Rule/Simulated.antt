@@ -1,10 +1,10 @@
 -- A call that goes by the event rule runs in the simulation, and one that is refused is refused for a cause.
+use Rattle.std.proofs.lemmas.Grind.{common_steps}
 use Rattle.link_simulation.proofs.Common.{◌≡◌, ℕ, ◌<◌, ◌≤◌, ◌^◌, List, [], ◌∷◌, Bool, true, false, cond, Some, refl}
 use Rattle.link_simulation.proofs.Common.{sym, ◌∙◌, subst, arith, IfSome, filter, AllZip, Ordering, IsTotalOrder, Error}
 use Rattle.link_simulation.proofs.Common.{Message, SameMessage, same_pair, CapsAlike, World, Completed, Course, goes}
 use Rattle.link_simulation.proofs.Common.{meets, last_moment, IsSound, Call, moment_of, Runs, Faults, Planned}
-use Rattle.link_simulation.proofs.Common.{next_event, Obeys, MayBeRefused, IsInRange, StandsFor, CoursesAlike}
-use Rattle.link_simulation.proofs.Common.{GoesByRule, IsRun}
+use Rattle.link_simulation.proofs.Common.{next_event, Obeys, MayBeRefused, StandsFor, CoursesAlike, GoesByRule, IsRun}
 use Rattle.link_simulation.specs.Rule.Simulated.{IsSimulated, IsNextInSimulation, KeepsRange, MeetsFault}
 use Rattle.link_simulation.specs.Rule.Simulated.{IsRefusedInSimulation}
 use Rattle.link_simulation.proofs.Simulation.AlikeMessages.{same_itself, pair_itself}
@@ -111,28 +111,13 @@ module _ {P : Type 0} (cmp : P → P → Ordering) (order : IsTotalOrder cmp) wh
 
   pub call_keeps_range : (p q : Planned P) (call : Call P) (completions : List (Completed P))
       → GoesByRule cmp p call completions q → KeepsRange cmp p call q
-  call_keeps_range p q call completions go in_range =
-      let f : (cs : List (Completed P)) × (r : Planned P) × (goes go.answers go.after ≡ goes cs r) × IsInRange r
-      = obeys_in_range cmp order p call (goes go.answers go.after) in_range go.obeys in
-      let same : f.1 ≡ go.after = cc in
-      range_same cmp order go.after q go.same_after (subst (λ (r : Planned P). IsInRange r) same f.3)
+  call_keeps_range p q call completions go in_range = grind (arith, common_steps, obeys_in_range, range_same)
 
   -- ---- a call that is refused
 
   fault_is_met : (p : Planned P) (call : Call P) (fault : Error) → ((t : ℕ) → moment_of call ≡ Some t → t ≤ last_moment)
       → Obeys cmp p call (meets fault) → MeetsFault cmp p call fault
-  fault_is_met p call fault in_time obeys w now called =
-      let f : (c : Course (Completed P) (World P)) × Runs cmp w call now c
-      × CoursesAlike cmp (λ r v. StandsFor cmp r v × (v.moment ≡ now)) (meets fault) c
-      = obeys_alike cmp order p w call now (meets fault) called.stands called.moment (in_time now called.moment)
-      called.turn obeys in
-      by_course f.0 f.1 f.2
-    where
-      by_course : (c : Course (Completed P) (World P)) → Runs cmp w call now c
-          → CoursesAlike cmp (λ r v. StandsFor cmp r v × (v.moment ≡ now)) (meets fault) c → Faults cmp w call fault
-      by_course (goes ds v) runs alike = absurd alike
-      by_course (meets other) runs alike =
-          (now, called.moment, subst (λ (e : Error). Runs cmp w call now (meets e)) (sym alike) runs)
+  fault_is_met p call fault in_time obeys w now called = grind (arith, common_steps, obeys_alike)
 
   pub refusals_simulated : (p : Planned P) (call : Call P) (why : Error)
       → ((t : ℕ) → moment_of call ≡ Some t → t ≤ last_moment) → MayBeRefused cmp p call why

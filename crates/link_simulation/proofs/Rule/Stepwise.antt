@@ -1,9 +1,10 @@
 -- What replies that agree with the simulation, or that follow the event rule, say of the first call.
-use Rattle.link_simulation.proofs.Common.{◌≡◌, ℕ, List, ◌∷◌, Option, Some, AllZip, Ordering, Error, World, Completed}
-use Rattle.link_simulation.proofs.Common.{goes, Call, call_limit, call_limit_link, call_enqueue, call_advance}
-use Rattle.link_simulation.proofs.Common.{call_enqueue_all, call_next, moment_of, Runs, IsInTurn, Reply, reply_done}
-use Rattle.link_simulation.proofs.Common.{reply_next, reply_refused, SameCompletion, Agrees, Planned, Obeys}
+use Rattle.link_simulation.proofs.Common.{arith, ◌≡◌, ℕ, List, ◌∷◌, Option, Some, AllZip, Ordering, Error, World}
+use Rattle.link_simulation.proofs.Common.{Completed, goes, Call, call_limit, call_limit_link, call_enqueue}
+use Rattle.link_simulation.proofs.Common.{call_advance, call_enqueue_all, call_next, moment_of, Runs, IsInTurn, Reply}
+use Rattle.link_simulation.proofs.Common.{reply_done, reply_next, reply_refused, SameCompletion, Agrees, Planned, Obeys}
 use Rattle.link_simulation.proofs.Common.{MayBeRefused, Obeyed}
+use Rattle.std.proofs.lemmas.Grind.{common_steps}
 
 module _ {P : Type 0} (cmp : P → P → Ordering) where
   -- ---- in the simulation
@@ -42,21 +43,12 @@ module _ {P : Type 0} (cmp : P → P → Ordering) where
       (completions : List (Completed P))
       → Agrees cmp w (call ∷ calls) (reply_done completions ∷ replies) → IsInTurn cmp w call
       → IsMade w calls replies call completions
-  agrees_done w calls replies (call_limit now peer egress ingress) completions agrees turn =
-      let (t, ds, v, at, runs, same, rest) = agrees turn in
-      record { now = t; answers = ds; after = v; moment = at; runs = runs; same = same; rest = rest }
+  agrees_done w calls replies (call_limit now peer egress ingress) completions agrees turn = grind (arith, common_steps)
   agrees_done w calls replies (call_limit_link now origin recipient cap) completions agrees turn =
-      let (t, ds, v, at, runs, same, rest) = agrees turn in
-      record { now = t; answers = ds; after = v; moment = at; runs = runs; same = same; rest = rest }
-  agrees_done w calls replies (call_enqueue now m) completions agrees turn =
-      let (t, ds, v, at, runs, same, rest) = agrees turn in
-      record { now = t; answers = ds; after = v; moment = at; runs = runs; same = same; rest = rest }
-  agrees_done w calls replies (call_enqueue_all now ms) completions agrees turn =
-      let (t, ds, v, at, runs, same, rest) = agrees turn in
-      record { now = t; answers = ds; after = v; moment = at; runs = runs; same = same; rest = rest }
-  agrees_done w calls replies (call_advance now) completions agrees turn =
-      let (t, ds, v, at, runs, same, rest) = agrees turn in
-      record { now = t; answers = ds; after = v; moment = at; runs = runs; same = same; rest = rest }
+      grind (arith, common_steps)
+  agrees_done w calls replies (call_enqueue now m) completions agrees turn = grind (arith, common_steps)
+  agrees_done w calls replies (call_enqueue_all now ms) completions agrees turn = grind (arith, common_steps)
+  agrees_done w calls replies (call_advance now) completions agrees turn = grind (arith, common_steps)
   agrees_done w calls replies call_next completions agrees turn = absurd agrees
 
   -- ---- by the event rule

@@ -1,17 +1,18 @@
 -- Waking in the planned world is waking in the world.
-use Rattle.link_simulation.proofs.Common.{◌≡◌, ℕ, zero, suc, ◌+◌, ◌≤◌, List, [], ◌∷◌, ◌++◌, length, Bool, true, false}
-use Rattle.link_simulation.proofs.Common.{cond, Option, Some, refl, sym, ap, ◌∙◌, subst, arith, length-append, filter}
-use Rattle.link_simulation.proofs.Common.{find, list_any, AllZip, Ordering, IsTotalOrder, or_parts, without_first}
-use Rattle.link_simulation.proofs.Common.{Completed, Course, Flight, World, and_then, flows, fronts, goes, is_done}
-use Rattle.link_simulation.proofs.Common.{least_pair, may_start, meets, preceded, ready, settle, start, wake_within}
-use Rattle.link_simulation.proofs.Common.{EndsWith, flight_of, Finishes, Launches, WakesEach, all_started, no_finish}
-use Rattle.link_simulation.proofs.Common.{no_start, starts_one, Message, OneForEachPair, SameMessage, same_pair}
-use Rattle.link_simulation.proofs.Common.{Planned, next_of, SameCompletion, CoursesAlike, Follows, IsSettled, staying}
-use Rattle.link_simulation.proofs.Common.{out_of_waiting, joined, finish_within, Each, each_filtered, zip-append}
+use Rattle.std.proofs.lemmas.Grind.{common_steps}
+use Rattle.link_simulation.proofs.Common.{◌≡◌, ℕ, zero, suc, ◌+◌, ◌≤◌, List, [], ◌∷◌, length, Bool, true, false, cond}
+use Rattle.link_simulation.proofs.Common.{Some, refl, sym, ap, ◌∙◌, subst, arith, length-append, filter, find, list_any}
+use Rattle.link_simulation.proofs.Common.{AllZip, Ordering, IsTotalOrder, or_parts, without_first, Completed, Course}
+use Rattle.link_simulation.proofs.Common.{Flight, World, and_then, flows, goes, is_done, least_pair, may_start, meets}
+use Rattle.link_simulation.proofs.Common.{preceded, ready, settle, start, wake_within, EndsWith, flight_of, Finishes}
+use Rattle.link_simulation.proofs.Common.{Launches, WakesEach, all_started, no_finish, no_start, starts_one, Message}
+use Rattle.link_simulation.proofs.Common.{OneForEachPair, SameMessage, same_pair, Planned, next_of, SameCompletion}
+use Rattle.link_simulation.proofs.Common.{CoursesAlike, Follows, IsSettled, out_of_waiting, joined, finish_within, Each}
+use Rattle.link_simulation.proofs.Common.{each_filtered, zip-append}
 use Rattle.link_simulation.proofs.Simulation.Queue.{preceded_none}
-use Rattle.link_simulation.proofs.Rule.BeforeNext.{IsFront, fronts_first, first_found}
-use Rattle.link_simulation.proofs.Rule.Launch.{NoneDone, joining, started, joining_leaves, started_stays, OptionsAlike}
-use Rattle.link_simulation.proofs.Rule.Launch.{next_alike, StartsSo, StartAlike, start_alike}
+use Rattle.link_simulation.proofs.Rule.BeforeNext.{fronts_first, first_found}
+use Rattle.link_simulation.proofs.Rule.Launch.{NoneDone, joining, started, joining_leaves, started_stays, next_alike}
+use Rattle.link_simulation.proofs.Rule.Launch.{StartsSo, StartAlike, start_alike}
 use Rattle.link_simulation.proofs.Rule.Settling.{CourseAlike, looked, finishes_alike, settle_is_finish}
 use Rattle.link_simulation.proofs.Simulation.Pass.{wake_none}
 use Rattle.link_simulation.proofs.Simulation.AlikeMessages.{pair_itself}
@@ -24,8 +25,7 @@ use Rattle.link_simulation.proofs.Laws.Bytes.{each_least, wake_first}
 pub each_none : {X : Type 0} (test : X → Bool) (xs : List X) → list_any test xs ≡ false → Each (λ x. test x ≡ false) xs
 each_none test [] e = tt
 each_none test (x ∷ xs) e =
-    let parts : (test x ≡ false) × (list_any test xs ≡ false) = or_parts (test x) (list_any test xs) e in
-    (parts.0, each_none test xs parts.1)
+    grind (arith, common_steps, or_parts, (each_none test xs (or_parts (test x) (list_any test xs) e).1))
 
 module _ {P : Type 0} (cmp : P → P → Ordering) (order : IsTotalOrder cmp) where
   -- ---- a round: one pair starts, and what is done then completes
@@ -35,30 +35,12 @@ module _ {P : Type 0} (cmp : P → P → Ordering) (order : IsTotalOrder cmp) wh
       → settle cmp t (joined cmp w y)
       ≡ finish_within cmp (length (joined cmp w y).sending + length (joined cmp w y).waiting) t
       (joining cmp order w y) (started cmp order w y)
-  round_is t w y none one = settle_is_finish cmp order t (joined cmp w y) one
-      ∙ ap
-      (λ (q : List (Flight P)). finish_within cmp (length (joined cmp w y).sending + length (joined cmp w y).waiting)
-      t q (staying cmp (joined cmp w y)))
-      (joining_leaves cmp order w y none)
-      ∙ ap
-      (λ (v : World P). finish_within cmp (length (joined cmp w y).sending + length (joined cmp w y).waiting) t
-      (joining cmp order w y) v)
-      (started_stays cmp order w y none)
+  round_is t w y none one = grind (arith, common_steps, settle_is_finish, joined, joining_leaves, started_stays)
 
   pub round_fuel : (w : World P) (y : Message P)
       → length (joining cmp order w y) + length (started cmp order w y).waiting
       ≤ length (joined cmp w y).sending + length (joined cmp w y).waiting
-  round_fuel w y =
-      let many : length (w.sending ++ flight_of y ∷ []) ≡ length w.sending + 1 =
-      length-append w.sending (flight_of y ∷ []) in
-      by_test (is_done cmp w (flight_of y)) many
-    where
-      by_test : (b : Bool) → length (w.sending ++ flight_of y ∷ []) ≡ length w.sending + 1
-          → length (cond b (flight_of y ∷ []) []) + length
-          (cond b (out_of_waiting cmp w y) (joined cmp w y)).waiting ≤ length (w.sending ++ flight_of y ∷ []) + length
-          (without_first (same_pair cmp y) w.waiting)
-      by_test true h = omega arith
-      by_test false h = omega arith
+  round_fuel w y = grind (arith, common_steps, length-append, joined)
 
   -- after a round the others are as they were, the pair may not start, and fewer wait
   abbrev pub IsRound : ℕ → Message P → World P → World P → Type 0
@@ -116,11 +98,7 @@ module _ {P : Type 0} (cmp : P → P → Ordering) (order : IsTotalOrder cmp) wh
   wake_round : (n t : ℕ) (w : World P) (y : Message P) (c : Course (Completed P) (World P))
       → least_pair cmp (ready cmp t w) ≡ Some y → start cmp w y ≡ goes [] (joined cmp w y)
       → settle cmp t (joined cmp w y) ≡ c → wake_within cmp (suc n) t w ≡ and_then c (wake_within cmp n t)
-  wake_round n t w y c least starts e =
-      wake_first cmp order n t w y least ∙ ap (λ (d : Course (Completed P) (World P)). and_then d
-      (λ v. and_then (settle cmp t v) (wake_within cmp n t))) starts
-      ∙ preceded_none (and_then (settle cmp t (joined cmp w y)) (wake_within cmp n t))
-      ∙ ap (λ (d : Course (Completed P) (World P)). and_then d (wake_within cmp n t)) e
+  wake_round n t w y c least starts e = grind (arith, common_steps, wake_first, preceded_none, joined)
 
   pub preceded_by : (R : Planned P → World P → Type 0) (cs ds : List (Completed P))
       (x : Course (Completed P) (Planned P)) (c : Course (Completed P) (World P))
@@ -141,13 +119,7 @@ module _ {P : Type 0} (cmp : P → P → Ordering) (order : IsTotalOrder cmp) wh
     pub may : may_start cmp t w y ≡ true
 
   next_is : (t : ℕ) (w : World P) (y : Message P) → least_pair cmp (ready cmp t w) ≡ Some y → IsNext t w y
-  next_is t w y least =
-      let known : IsFront cmp order w.waiting y × (may_start cmp t w y ≡ true)
-      = each_least cmp order (λ m. IsFront cmp order w.waiting m × (may_start cmp t w m ≡ true)) (ready cmp t w) y
-      (each_filtered (IsFront cmp order w.waiting) (may_start cmp t w) (fronts cmp w.waiting)
-      (fronts_first cmp order w.waiting))
-      least in
-      record { found = first_found cmp order (same_pair cmp y) y known.0.0 w.waiting known.0.1; may = known.1 }
+  next_is t w y least = grind (arith, common_steps, each_least, each_filtered, fronts_first, first_found)
 
   abbrev WhenPicked : ℕ → List (Message P) → Planned P → Course (Completed P) (Planned P) → Type 0
   WhenPicked t ms p course =
@@ -160,9 +132,7 @@ module _ {P : Type 0} (cmp : P → P → Ordering) (order : IsTotalOrder cmp) wh
       → Follows cmp t p w → NoneDone cmp order w → IsNext t w y → SameMessage cmp m y
       → StartAlike cmp order t w y course
   launch_starts {t = t} {m = m} {p = p} launch w y follows none next same =
-      start_alike cmp order launch w y follows none next.may next.found
-      (subst (λ (o : Option (Message P)). OptionsAlike (SameMessage cmp) (next_of cmp p m) o) next.found
-      (next_alike cmp order t p w m y follows.tallies same))
+      grind (arith, common_steps, start_alike, next_alike)
 
   pub round_alike : {t : ℕ} {more : List (Message P)} {q : Planned P} {course : Course (Completed P) (Planned P)}
       → Finishes cmp t more q course → (w : World P) (y : Message P)
@@ -175,10 +145,7 @@ module _ {P : Type 0} (cmp : P → P → Ordering) (order : IsTotalOrder cmp) wh
       (joining cmp order w y) (started cmp order w y) so.follows so.none so.leaves (round_fuel w y))
 
   no_fuel : (t : ℕ) (w : World P) (y : Message P) → IsNext t w y → length w.waiting ≤ 0 → ⊥
-  no_fuel t w y next fuel =
-      let fewer : length (without_first (same_pair cmp y) w.waiting) + 1 ≡ length w.waiting =
-      length_without (same_pair cmp y) y w.waiting next.found in
-      omega arith
+  no_fuel t w y next fuel = grind (arith, common_steps, length_without)
 
   pub wakes_alike : {t : ℕ} {ms : List (Message P)} {p : Planned P} {course : Course (Completed P) (Planned P)}
       → WakesEach cmp t ms p course → WhenPicked t ms p course

@@ -1,10 +1,10 @@
 -- Lists of messages that are the same up to equal peers have the same sides, and so the same fair rates.
-use Rattle.link_simulation.proofs.Common.{◌+◌, ◌≡◌, ℕ, List, [], ◌∷◌, Bool, true, not, Option, Some, None, refl, sym}
-use Rattle.link_simulation.proofs.Common.{ap, ◌∙◌, subst, ◌&&◌, if◌then◌else◌, list_any, flat_map, AllZip, Ordering}
-use Rattle.link_simulation.proofs.Common.{is_eq, IsTotalOrder, IsFair, Side, same_peer, Message, SameMessage}
-use Rattle.link_simulation.proofs.Common.{is_delivered, same_pair, Caps, CapsAlike, AreFair, Parts, capped_sides}
-use Rattle.link_simulation.proofs.Common.{is_unlimited, sides_for, rates_from, egress_side, ingress_side, link_side}
-use Rattle.link_simulation.proofs.Common.{peer_sym, places_from}
+use Rattle.link_simulation.proofs.Common.{arith, ◌+◌, ◌≡◌, ℕ, List, [], ◌∷◌, Bool, true, Option, Some, None, refl, ap}
+use Rattle.link_simulation.proofs.Common.{if◌then◌else◌, list_any, flat_map, AllZip, Ordering, is_eq, IsTotalOrder}
+use Rattle.link_simulation.proofs.Common.{same_peer, Message, SameMessage, is_delivered, same_pair, Caps, CapsAlike}
+use Rattle.link_simulation.proofs.Common.{AreFair, Parts, capped_sides, is_unlimited, sides_for, rates_from}
+use Rattle.link_simulation.proofs.Common.{egress_side, ingress_side, link_side, peer_sym, places_from}
+use Rattle.std.proofs.lemmas.Grind.{common_steps}
 use Rattle.std.proofs.lemmas.Cmp.{tied_itself}
 use Rattle.link_simulation.specs.Simulation.Rates.{capped_side}
 use Rattle.link_simulation.proofs.Simulation.Queue.{peer_like, both_alike}
@@ -19,34 +19,17 @@ module _ {P : Type 0} (cmp : P → P → Ordering) (order : IsTotalOrder cmp) wh
 
   pub peers_alike : (p q r s : P) → same_peer cmp p q ≡ true → same_peer cmp r s ≡ true
       → same_peer cmp p r ≡ same_peer cmp q s
-  peers_alike p q r s e f =
-      sym (peer_like cmp order p q r e) ∙ peer_sym cmp order q r ∙ sym (peer_like cmp order r s q f)
-      ∙ peer_sym cmp order s q
+  peers_alike p q r s e f = grind (arith, common_steps, peer_like, peer_sym)
 
   pub pairs_alike : (m n k l : Message P) → SameMessage cmp m n → SameMessage cmp k l
       → same_pair cmp m k ≡ same_pair cmp n l
-  pairs_alike m n k l f g =
-      both_alike cmp order (same_peer cmp m.origin k.origin) (same_peer cmp n.origin l.origin)
-      (same_peer cmp m.recipient k.recipient) (same_peer cmp n.recipient l.recipient)
-      (peers_alike m.origin n.origin k.origin l.origin f.origin g.origin)
-      (peers_alike m.recipient n.recipient k.recipient l.recipient f.recipient g.recipient)
+  pairs_alike m n k l f g = grind (arith, common_steps, both_alike, peers_alike)
 
   pub delivered_alike : (m n : Message P) → SameMessage cmp m n → is_delivered cmp m ≡ is_delivered cmp n
-  delivered_alike m n e =
-      both_alike cmp order m.should_deliver n.should_deliver (not (same_peer cmp m.origin m.recipient))
-      (not (same_peer cmp n.origin n.recipient))
-      e.should_deliver (ap not (peers_alike m.origin n.origin m.recipient n.recipient e.origin e.recipient))
+  delivered_alike m n e = grind (arith, common_steps, both_alike, peers_alike)
 
   pub message_itself : (m : Message P) → SameMessage cmp m m
-  message_itself m =
-      record {
-        origin = same_itself m.origin;
-        recipient = same_itself m.recipient;
-        channel = refl;
-        bytes = refl;
-        latency = refl;
-        should_deliver = refl;
-      }
+  message_itself m = grind (arith, common_steps, same_itself)
 
   pub any_alike : {X Y : Type 0} (R : X → Y → Type 0) (f : X → Bool) (g : Y → Bool)
       → ((x : X) (y : Y) → R x y → f x ≡ g y) → (xs : List X) (ys : List Y) → AllZip R xs ys
@@ -69,35 +52,16 @@ module _ {P : Type 0} (cmp : P → P → Ordering) (order : IsTotalOrder cmp) wh
   module _ (caps others : Caps P) (same : CapsAlike cmp caps others) where
     egress_alike : (m n : Message P) (ms ns : List (Message P)) → SameMessage cmp m n → AllZip (SameMessage cmp) ms ns
         → egress_side cmp caps ms m ≡ egress_side cmp others ns n
-    egress_alike m n ms ns e all =
-        side_alike (caps.egress m.origin) (others.egress n.origin) (λ k. same_peer cmp m.origin k.origin)
-        (λ k. same_peer cmp n.origin k.origin) ms ns (same.egress m.origin n.origin e.origin)
-        (places_alike (SameMessage cmp) (λ k. same_peer cmp m.origin k.origin) (λ k. same_peer cmp n.origin k.origin)
-        (λ k l f. peers_alike m.origin n.origin k.origin l.origin e.origin f.origin) 0 ms ns all)
+    egress_alike m n ms ns e all = grind (arith, common_steps, side_alike, places_alike, peers_alike)
 
     ingress_alike : (m n : Message P) (ms ns : List (Message P)) → SameMessage cmp m n → AllZip (SameMessage cmp) ms ns
         → ingress_side cmp caps ms m ≡ ingress_side cmp others ns n
     ingress_alike m n ms ns e all =
-        side_alike (if is_delivered cmp m then caps.ingress m.recipient else None)
-        (if is_delivered cmp n then others.ingress n.recipient else None)
-        (λ k. is_delivered cmp k && same_peer cmp m.recipient k.recipient)
-        (λ k. is_delivered cmp k && same_peer cmp n.recipient k.recipient) ms ns
-        (if_alike (is_delivered cmp m) (is_delivered cmp n) (caps.ingress m.recipient) (others.ingress n.recipient) None
-        (delivered_alike m n e) (same.ingress m.recipient n.recipient e.recipient))
-        (places_alike (SameMessage cmp) (λ k. is_delivered cmp k && same_peer cmp m.recipient k.recipient)
-        (λ k. is_delivered cmp k && same_peer cmp n.recipient k.recipient)
-        (λ k l f. both_alike cmp order (is_delivered cmp k) (is_delivered cmp l) (same_peer cmp m.recipient k.recipient)
-        (same_peer cmp n.recipient l.recipient) (delivered_alike k l f)
-        (peers_alike m.recipient n.recipient k.recipient l.recipient e.recipient f.recipient)) 0 ms ns all)
+        grind (arith, common_steps, side_alike, if_alike, delivered_alike, places_alike, both_alike, peers_alike)
 
     link_alike : (m n : Message P) (ms ns : List (Message P)) → SameMessage cmp m n → AllZip (SameMessage cmp) ms ns
         → link_side cmp caps ms m ≡ link_side cmp others ns n
-    link_alike m n ms ns e all =
-        side_alike (caps.link m.origin m.recipient) (others.link n.origin n.recipient) (same_pair cmp m)
-        (same_pair cmp n) ms ns
-        (same.link m.origin n.origin m.recipient n.recipient e.origin e.recipient)
-        (places_alike (SameMessage cmp) (same_pair cmp m) (same_pair cmp n) (λ k l f. pairs_alike m n k l e f) 0 ms ns
-        all)
+    link_alike m n ms ns e all = grind (arith, common_steps, side_alike, places_alike, pairs_alike)
 
     sides_for_alike : (ms ns ks ls : List (Message P)) → AllZip (SameMessage cmp) ms ns → AllZip (SameMessage cmp) ks ls
         → flat_map (sides_for cmp caps ms) ks ≡ flat_map (sides_for cmp others ns) ls
@@ -105,13 +69,7 @@ module _ {P : Type 0} (cmp : P → P → Ordering) (order : IsTotalOrder cmp) wh
     sides_for_alike ms ns [] (l ∷ ls) all some = absurd some
     sides_for_alike ms ns (k ∷ ks) [] all some = absurd some
     sides_for_alike ms ns (k ∷ ks) (l ∷ ls) all some =
-        rw (
-          egress_alike k l ms ns some.0 all,
-          ingress_alike k l ms ns some.0 all,
-          link_alike k l ms ns some.0 all,
-          sides_for_alike ms ns ks ls all some.1,
-        )
-        refl
+        grind (arith, common_steps, egress_alike, ingress_alike, link_alike, (sides_for_alike ms ns ks ls all some.1))
 
     -- the same sides
     pub sides_alike : (ms ns : List (Message P)) → AllZip (SameMessage cmp) ms ns
@@ -119,13 +77,7 @@ module _ {P : Type 0} (cmp : P → P → Ordering) (order : IsTotalOrder cmp) wh
     sides_alike ms ns all = sides_for_alike ms ns ms ns all all
 
     pub unlimited_alike : (m n : Message P) → SameMessage cmp m n → is_unlimited cmp caps m ≡ is_unlimited cmp others n
-    unlimited_alike m n e =
-        rw (
-          same.egress m.origin n.origin e.origin,
-          delivered_alike m n e,
-          same.ingress m.recipient n.recipient e.recipient,
-          same.link m.origin n.origin m.recipient n.recipient e.origin e.recipient,
-        ) refl
+    unlimited_alike m n e = grind (arith, common_steps, delivered_alike)
 
     rates_alike : (parts : ℕ → ℕ) (place : ℕ) (ms ns : List (Message P)) → AllZip (SameMessage cmp) ms ns
         → rates_from cmp caps parts place ms ≡ rates_from cmp others parts place ns
@@ -138,8 +90,4 @@ module _ {P : Type 0} (cmp : P → P → Ordering) (order : IsTotalOrder cmp) wh
     -- and so the same fair rates
     pub fair_alike : (ms ns : List (Message P)) (per : ℕ) (rates : Parts) → AllZip (SameMessage cmp) ms ns
         → AreFair cmp caps ms per rates → AreFair cmp others ns per rates
-    fair_alike ms ns per rates all fair = record {
-      parts = fair.parts;
-      fair = subst (λ (s : List Side). IsFair s per fair.parts) (sides_alike ms ns all) fair.fair;
-      rated = fair.rated ∙ rates_alike fair.parts 0 ms ns all;
-    }
+    fair_alike ms ns per rates all fair = grind (arith, common_steps, sides_alike, rates_alike)

@@ -1,13 +1,13 @@
 -- What every instant keeps: the moment, and that nothing is done at its end.
+use Rattle.std.proofs.lemmas.Grind.{common_steps}
 use Rattle.link_simulation.proofs.Common.{◌≡◌, ℕ, zero, suc, ◌+◌, ◌≤◌, List, [], ◌∷◌, ◌++◌, length, Bool, true, false}
 use Rattle.link_simulation.proofs.Common.{Option, Some, None, refl, sym, ap, ◌∙◌, subst, arith, ◌⊎◌, inl, inr, ⊤}
 use Rattle.link_simulation.proofs.Common.{nat_le, find, list_any, Ordering, IsTotalOrder, without_first, Completed}
-use Rattle.link_simulation.proofs.Common.{Course, Flight, IsQuiet, World, and_then, complete, first_waiting, goes}
-use Rattle.link_simulation.proofs.Common.{instant, is_done, last_moment, least_pair, may_start, meets, raised, ready}
-use Rattle.link_simulation.proofs.Common.{settle, settle_within, start, start_next, wake, wake_within, EndsWith}
-use Rattle.link_simulation.proofs.Common.{out_of_flight, is_late, completed, arrival, flight_of, Message, same_pair}
-use Rattle.link_simulation.proofs.Common.{Drains, NextIs, Ticks, comes_next, never_comes, no_tick, no_time, one_tick}
-use Rattle.link_simulation.proofs.Common.{quiet_tick, tick_faults, FlowIdsUsedUp, MomentTooLate}
+use Rattle.link_simulation.proofs.Common.{Course, Flight, IsQuiet, World, and_then, complete, goes, instant, is_done}
+use Rattle.link_simulation.proofs.Common.{last_moment, least_pair, may_start, meets, raised, ready, settle}
+use Rattle.link_simulation.proofs.Common.{settle_within, start, start_next, wake_within, EndsWith, flight_of, Message}
+use Rattle.link_simulation.proofs.Common.{same_pair, Drains, NextIs, Ticks, comes_next, never_comes, no_tick, no_time}
+use Rattle.link_simulation.proofs.Common.{one_tick, quiet_tick, tick_faults, FlowIdsUsedUp}
 use Rattle.link_simulation.proofs.Simulation.Queue.{settle_none, settle_first}
 use Rattle.link_simulation.proofs.Simulation.SettlingEnds.{ends_preceded, ends_and_then, ends_cond, NoneDone}
 use Rattle.link_simulation.proofs.Simulation.SettlingEnds.{settle_rests}
@@ -41,11 +41,7 @@ module _ {P : Type 0} (cmp : P → P → Ordering) (order : IsTotalOrder cmp) wh
         ends_cond Q (may_start cmp t w m) (start cmp w m) (goes [] w) (start_keeps w m h) h
 
     complete_keeps : (t : ℕ) (w : World P) (m : Message P) → Q w → EndsWith Q (complete cmp t w m)
-    complete_keeps t w m h =
-        let landed : World P = out_of_flight cmp t w m in
-        ends_cond Q (is_late cmp t m) (meets MomentTooLate) _ tt
-        (ends_preceded Q (completed cmp t m ∷ []) (start_next cmp t landed (first_waiting cmp landed m))
-        (start_next_keeps t landed (first_waiting cmp landed m) (lands w m (arrival cmp t m) h)))
+    complete_keeps t w m h = grind (arith, common_steps, ends_cond, ends_preceded, start_next_keeps)
 
     settle_within_keeps : (n t : ℕ) (w : World P) → Q w → EndsWith Q (settle_within cmp n t w)
     settle_within_keeps zero t w h = h
@@ -78,9 +74,7 @@ module _ {P : Type 0} (cmp : P → P → Ordering) (order : IsTotalOrder cmp) wh
             (λ v g. ends_and_then Q Q (settle cmp t v) (wake_within cmp n t) (settle_keeps t v g) ih))
 
     pub instant_keeps : (w : World P) → Q w → EndsWith Q (instant cmp w)
-    instant_keeps w h =
-        ends_and_then Q Q (settle cmp w.moment w) (λ v. wake cmp v.moment v) (settle_keeps w.moment w h)
-        (λ v g. wake_within_keeps (length v.waiting) v.moment v g)
+    instant_keeps w h = grind (arith, common_steps, ends_and_then, settle_keeps, wake_within_keeps)
 
   -- ---- the moment
 
@@ -119,29 +113,17 @@ module _ {P : Type 0} (cmp : P → P → Ordering) (order : IsTotalOrder cmp) wh
           (settle_rests cmp order t v) ih))
 
   pub instant_rests : (w : World P) → EndsWith (NoneDone cmp order) (instant cmp w)
-  instant_rests w =
-      ends_and_then (NoneDone cmp order) (NoneDone cmp order) (settle cmp w.moment w) (λ v. wake cmp v.moment v)
-      (settle_rests cmp order w.moment w) (λ v g. wake_rests (length v.waiting) v.moment v g)
+  instant_rests w = grind (arith, common_steps, ends_and_then, settle_rests, wake_rests)
 
   -- ---- ticks
 
   pub ticks_end : {n : ℕ} {w : World P} {course : Course (Completed P) (World P)} → Ticks cmp n w course
       → (cs : List (Completed P)) (v : World P) → course ≡ goes cs v
       → NoneDone cmp order w → (v.moment ≡ w.moment + n) × NoneDone cmp order v
-  ticks_end {w = w} no_tick cs v e h =
-      let same : w ≡ v = cc in
-      subst (λ (z : World P). (z.moment ≡ w.moment + 0) × NoneDone cmp order z) same (omega arith, h)
+  ticks_end {w = w} no_tick cs v e h = grind (arith, common_steps)
   ticks_end {w = w} (one_tick {n = n} {v = z} {u = u} {cs = ds} {rest = rest} d i t) cs v e h =
-      let r : (es : List (Completed P)) × (rest ≡ goes es v) × (ds ++ es ≡ cs) = rest_is cmp ds rest cs v e in
-      let at : z.moment ≡ w.moment + 1 = ap (λ (y : World P). y.moment) d.world in
-      let then_at : u.moment ≡ w.moment + 1 =
-      subst (λ (c : Course (Completed P) (World P)). EndsWith (λ y. y.moment ≡ w.moment + 1) c) i
-      (instant_moment z (w.moment + 1) at) in
-      let rests : NoneDone cmp order u =
-      subst (λ (c : Course (Completed P) (World P)). EndsWith (NoneDone cmp order) c) i (instant_rests z) in
-      let later : (v.moment ≡ u.moment + n) × NoneDone cmp order v = ticks_end t r.0 v r.1 rests in
-      let first : v.moment ≡ u.moment + n = later.0 in
-      (omega arith, later.1)
+      grind (arith, common_steps, rest_is, instant_moment, instant_rests, (ticks_end t (rest_is cmp ds rest cs v e).0 v
+      (rest_is cmp ds rest cs v e).1))
   ticks_end (tick_faults d i) cs v e h = cc
 
   -- ---- quiet nanoseconds

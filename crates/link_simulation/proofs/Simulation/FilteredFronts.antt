@@ -1,14 +1,13 @@
 -- What a filter leaves of first elements, fronts and least pairs.
-use Rattle.link_simulation.proofs.Common.{◌≡◌, List, [], ◌∷◌, map, Bool, true, false, cond, not, Option, Some, None}
-use Rattle.link_simulation.proofs.Common.{refl, sym, ap, ◌∙◌, subst, ◌||◌, if◌then◌else◌, filter, find, list_any}
-use Rattle.link_simulation.proofs.Common.{Ordering, Less, Equal, Greater, is_lt, IsTotalOrder, without_first, fronts}
-use Rattle.link_simulation.proofs.Common.{least_pair, Message, pair_before, same_pair, Each, each_map, filter_stronger}
-use Rattle.std.specs.Ordering.{ordering_reverse}
+use Rattle.link_simulation.proofs.Common.{arith, ◌≡◌, List, [], ◌∷◌, map, Bool, true, false, cond, not, Option, Some}
+use Rattle.link_simulation.proofs.Common.{None, refl, sym, ap, ◌∙◌, subst, if◌then◌else◌, filter, find, list_any}
+use Rattle.link_simulation.proofs.Common.{Ordering, IsTotalOrder, without_first, fronts, least_pair, Message}
+use Rattle.link_simulation.proofs.Common.{pair_before, same_pair, Each, each_map, filter_stronger}
+use Rattle.std.proofs.lemmas.Grind.{common_steps}
 use Rattle.std.proofs.lemmas.Cmp.{alike_right}
 use Rattle.std.proofs.lemmas.Bool.{false_from_ne_true}
 use Rattle.link_simulation.proofs.Laws.Bytes.{each_filter, each_least}
-use Rattle.link_simulation.proofs.Simulation.PairOrder.{least_none, pair_cmp, pairs_total, not_before_itself}
-use Rattle.link_simulation.proofs.Simulation.PairOrder.{not_before_back}
+use Rattle.link_simulation.proofs.Simulation.PairOrder.{least_none, pairs_total, not_before_itself, not_before_back}
 use Rattle.fair_rates.proofs.Lists.Sorted.{is_lt_less}
 
 -- ---- the first that passes, in the list and in what a filter leaves
@@ -16,106 +15,41 @@ use Rattle.fair_rates.proofs.Lists.Sorted.{is_lt_less}
 pub first_kept : {X : Type 0} (p q : X → Bool) (xs : List X) (x : X) → find q xs ≡ Some x → p x ≡ true
     → (find q (filter p xs) ≡ Some x) × (filter p (without_first q xs) ≡ without_first q (filter p xs))
 first_kept p q [] x e h = cc
-first_kept {X} p q (y ∷ ys) x e h = by_test (q y) refl e (λ g. first_kept p q ys x g h)
-  where
-    by_kept : (b : Bool) → q y ≡ false
-        → (find q (filter p ys) ≡ Some x) × (filter p (without_first q ys) ≡ without_first q (filter p ys))
-        → (find q (cond b (y ∷ filter p ys) (filter p ys)) ≡ Some x)
-        × (cond b (y ∷ filter p (without_first q ys)) (filter p (without_first q ys))
-        ≡ without_first q (cond b (y ∷ filter p ys) (filter p ys)))
-    by_kept true is g = (rw is g.0, rw is (ap (λ zs. y ∷ zs) g.1))
-    by_kept false is g = g
-
-    here : (b : Bool) → q y ≡ true → b ≡ true → y ≡ x
-        → (find q (cond b (y ∷ filter p ys) (filter p ys)) ≡ Some x)
-        × (filter p ys ≡ without_first q (cond b (y ∷ filter p ys) (filter p ys)))
-    here true is own same = (rw is (ap Some same), rw is refl)
-    here false is own same = cc
-
-    by_test : (b : Bool) → q y ≡ b → cond b (Some y) (find q ys) ≡ Some x
-        → (find q ys ≡ Some x
-        → (find q (filter p ys) ≡ Some x) × (filter p (without_first q ys) ≡ without_first q (filter p ys)))
-        → (find q (filter p (y ∷ ys)) ≡ Some x)
-        × (filter p (cond b ys (y ∷ without_first q ys)) ≡ without_first q (filter p (y ∷ ys)))
-    by_test true is g ih = let same : y ≡ x = cc in here (p y) is (ap p same ∙ h) same
-    by_test false is g ih = by_kept (p y) is (ih g)
+first_kept {X} p q (y ∷ ys) x e h = grind (arith, common_steps, (first_kept p q ys x))
 
 pub first_dropped : {X : Type 0} (p q : X → Bool) (xs : List X) (x : X) → find q xs ≡ Some x → p x ≡ false
     → filter p (without_first q xs) ≡ filter p xs
 first_dropped p q [] x e h = refl
-first_dropped {X} p q (y ∷ ys) x e h = by_test (q y) e (λ g. first_dropped p q ys x g h)
-  where
-    by_test : (b : Bool) → cond b (Some y) (find q ys) ≡ Some x
-        → (find q ys ≡ Some x → filter p (without_first q ys) ≡ filter p ys)
-        → filter p (cond b ys (y ∷ without_first q ys)) ≡ filter p (y ∷ ys)
-    by_test true g ih = let same : y ≡ x = cc in let off : p y ≡ false = ap p same ∙ h in rw off refl
-    by_test false g ih = rw (ih g) refl
+first_dropped {X} p q (y ∷ ys) x e h = grind (arith, common_steps, (first_dropped p q ys x))
 
 pub none_kept : {X : Type 0} (p q : X → Bool) (xs : List X) → find q xs ≡ None → find q (filter p xs) ≡ None
 none_kept p q [] e = refl
-none_kept {X} p q (y ∷ ys) e = by_test (q y) refl e (λ g. none_kept p q ys g)
-  where
-    by_kept : (b : Bool) → q y ≡ false → find q (filter p ys) ≡ None
-        → find q (cond b (y ∷ filter p ys) (filter p ys)) ≡ None
-    by_kept true is g = rw is g
-    by_kept false is g = g
-
-    by_test : (b : Bool) → q y ≡ b → cond b (Some y) (find q ys) ≡ None
-        → (find q ys ≡ None → find q (filter p ys) ≡ None) → find q (filter p (y ∷ ys)) ≡ None
-    by_test true is g ih = cc
-    by_test false is g ih = by_kept (p y) is (ih g)
+none_kept {X} p q (y ∷ ys) e = grind (arith, common_steps, (none_kept p q ys))
 
 -- what passes is kept
 pub find_kept : {X : Type 0} (p q : X → Bool) (xs : List X) → ((x : X) → q x ≡ true → p x ≡ true)
     → find q (filter p xs) ≡ find q xs
 find_kept p q [] h = refl
-find_kept {X} p q (y ∷ ys) h = by_test (p y) (q y) refl refl (find_kept p q ys h)
-  where
-    by_test : (b c : Bool) → p y ≡ b → q y ≡ c → find q (filter p ys) ≡ find q ys
-        → find q (cond b (y ∷ filter p ys) (filter p ys)) ≡ cond c (Some y) (find q ys)
-    by_test true c is at ih = rw (at, ih) refl
-    by_test false false is at ih = ih
-    by_test false true is at ih = let k : p y ≡ true = h y at in cc
+find_kept {X} p q (y ∷ ys) h = grind (arith, common_steps, (find_kept p q ys h))
 
 pub any_kept : {X Y : Type 0} (f : X → Y) (p : X → Bool) (q : Y → Bool) (xs : List X)
     → ((x : X) → q (f x) ≡ true → p x ≡ true) → list_any q (map f (filter p xs)) ≡ list_any q (map f xs)
 any_kept f p q [] h = refl
-any_kept {X} {Y} f p q (y ∷ ys) h = by_test (p y) (q (f y)) refl refl (any_kept f p q ys h)
-  where
-    by_test : (b c : Bool) → p y ≡ b → q (f y) ≡ c → list_any q (map f (filter p ys)) ≡ list_any q (map f ys)
-        → list_any q (map f (cond b (y ∷ filter p ys) (filter p ys))) ≡ (c || list_any q (map f ys))
-    by_test true c is at ih = rw (at, ih) refl
-    by_test false false is at ih = ih
-    by_test false true is at ih = let k : p y ≡ true = h y at in cc
+any_kept {X} {Y} f p q (y ∷ ys) h = grind (arith, common_steps, (any_kept f p q ys h))
 
 -- ---- two filters
 
 pub filter_swap : {X : Type 0} (p q r : X → Bool) (xs : List X) → ((x : X) → p x ≡ true → q x ≡ r x)
     → filter q (filter p xs) ≡ filter p (filter r xs)
 filter_swap p q r [] h = refl
-filter_swap {X} p q r (y ∷ ys) h = by_test (p y) (r y) refl refl (filter_swap p q r ys h)
-  where
-    by_test : (b c : Bool) → p y ≡ b → r y ≡ c → filter q (filter p ys) ≡ filter p (filter r ys)
-        → filter q (cond b (y ∷ filter p ys) (filter p ys)) ≡ filter p (cond c (y ∷ filter r ys) (filter r ys))
-    by_test true true is at ih = let k : q y ≡ true = h y is ∙ at in rw (k, is, ih) refl
-    by_test true false is at ih = let k : q y ≡ false = h y is ∙ at in rw (k, ih) refl
-    by_test false true is at ih = rw (is, ih) refl
-    by_test false false is at ih = ih
+filter_swap {X} p q r (y ∷ ys) h = grind (arith, common_steps, (filter_swap p q r ys h))
 
 module _ {P : Type 0} (cmp : P → P → Ordering) (order : IsTotalOrder cmp) where
   -- ---- the order of pairs
 
   pub before_both : (k m n : Message P) → pair_before cmp k m ≡ true → pair_before cmp n m ≡ false
       → pair_before cmp k n ≡ true
-  before_both k m n e f = by_order (pair_cmp cmp order n m) refl f
-    where
-      by_order : (o : Ordering) → pair_cmp cmp order n m ≡ o → is_lt o ≡ false → pair_before cmp k n ≡ true
-      by_order Less is g = cc
-      by_order Equal is g = ap is_lt (alike_right (pairs_total cmp order) n m k is) ∙ e
-      by_order Greater is g =
-          ap is_lt
-          ((pairs_total cmp order).trans k m n (is_lt_less (pair_cmp cmp order k m) e)
-          ((pairs_total cmp order).antisymm m n ∙ ap ordering_reverse is))
+  before_both k m n e f = grind (arith, common_steps, alike_right, pairs_total, is_lt_less)
 
   not_below : (k m n : Message P) → pair_before cmp n m ≡ false → pair_before cmp k n ≡ false
       → pair_before cmp k m ≡ false

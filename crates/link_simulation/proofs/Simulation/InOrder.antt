@@ -1,16 +1,17 @@
 -- Going once through the pairs that are ready, in their order, is picking the least pair again and again.
-use Rattle.link_simulation.proofs.Common.{◌≡◌, ℕ, List, [], ◌∷◌, Bool, true, false, cond, not, Option, Some, None, refl}
-use Rattle.link_simulation.proofs.Common.{sym, ap, ◌∙◌, subst, ◌⊎◌, inl, inr, ⊤, ◌&&◌, if◌then◌else◌, filter, find}
-use Rattle.link_simulation.proofs.Common.{Ordering, Less, Equal, Greater, is_eq, is_lt, IsTotalOrder, not-true, World}
+use Rattle.link_simulation.proofs.Common.{arith, ◌≡◌, ℕ, List, [], ◌∷◌, Bool, true, false, cond, not, Option, Some}
+use Rattle.link_simulation.proofs.Common.{None, refl, sym, ◌∙◌, subst, ◌⊎◌, inl, inr, ⊤, ◌&&◌, if◌then◌else◌, filter}
+use Rattle.link_simulation.proofs.Common.{find, Ordering, Less, Equal, Greater, is_eq, IsTotalOrder, not-true, World}
 use Rattle.link_simulation.proofs.Common.{fronts, least_pair, may_start, ready, Message, SameMessage, pair_before}
 use Rattle.link_simulation.proofs.Common.{same_pair, AreInPairOrder, Planned, SomeReadyAt, may_launch, next_of, Tallies}
 use Rattle.link_simulation.proofs.Common.{Each, each_map, each_filtered}
+use Rattle.std.proofs.lemmas.Grind.{common_steps}
 use Rattle.std.specs.Ordering.{ordering_then}
 use Rattle.std.proofs.lemmas.Cmp.{alike_right}
 use Rattle.std.proofs.lemmas.Bool.{not_from_false}
 use Rattle.link_simulation.proofs.Simulation.Queue.{pair_sym, find_passes}
 use Rattle.link_simulation.proofs.Simulation.AlikeMessages.{pair_itself, message_itself, pairs_alike}
-use Rattle.link_simulation.proofs.Rule.BeforeNext.{IsFront, fronts_first, first_found, may_alike, messages_alike}
+use Rattle.link_simulation.proofs.Rule.BeforeNext.{fronts_first, first_found, may_alike, messages_alike}
 use Rattle.link_simulation.proofs.Simulation.SettlingEnds.{find_like}
 use Rattle.link_simulation.proofs.Rule.Launch.{OptionsAlike, next_alike}
 use Rattle.link_simulation.proofs.Simulation.OnePair.{apart}
@@ -36,11 +37,7 @@ pub some_filtered : {X : Type 0} (Q : X → Type 0) (test : X → Bool) (xs : Li
     → Somewhere (λ x. Q x × (test x ≡ true)) xs → Somewhere Q (filter test xs)
 some_filtered Q test [] h = absurd h
 some_filtered Q test (x ∷ xs) (inl q) = rw q.1 (inl q.0)
-some_filtered {X} Q test (x ∷ xs) (inr h) = by_test (test x) (some_filtered Q test xs h)
-  where
-    by_test : (b : Bool) → Somewhere Q (filter test xs) → Somewhere Q (cond b (x ∷ filter test xs) (filter test xs))
-    by_test true ih = inr ih
-    by_test false ih = ih
+some_filtered {X} Q test (x ∷ xs) (inr h) = grind (arith, common_steps, (some_filtered Q test xs h))
 
 -- what holds of each holds of the one that is found
 some_each : {X : Type 0} (Q R : X → Type 0) (xs : List X) → Each Q xs → Somewhere R xs → (x : X) × Q x × R x
@@ -50,11 +47,7 @@ some_each Q R (x ∷ xs) e (inr h) = some_each Q R xs e.1 h
 
 each_in_filter : {X : Type 0} (Q : X → Type 0) (test : X → Bool) (xs : List X) → Each Q xs → Each Q (filter test xs)
 each_in_filter Q test [] h = tt
-each_in_filter {X} Q test (x ∷ xs) h = by_test (test x) (each_in_filter Q test xs h.1)
-  where
-    by_test : (b : Bool) → Each Q (filter test xs) → Each Q (cond b (x ∷ filter test xs) (filter test xs))
-    by_test true ih = (h.0, ih)
-    by_test false ih = ih
+each_in_filter {X} Q test (x ∷ xs) h = grind (arith, common_steps, (each_in_filter Q test xs h.1))
 
 module _ {P : Type 0} (cmp : P → P → Ordering) (order : IsTotalOrder cmp) where
   -- ---- the order of pairs
@@ -69,12 +62,7 @@ module _ {P : Type 0} (cmp : P → P → Ordering) (order : IsTotalOrder cmp) wh
 
   pub before_alike : (m n k l : Message P) → SameMessage cmp m n → SameMessage cmp k l
       → pair_before cmp m k ≡ pair_before cmp n l
-  before_alike m n k l f g =
-      let first : pair_cmp cmp order m n ≡ Equal =
-      is_eq_equal (pair_cmp cmp order m n) (sym (same_is m n) ∙ rw (f.origin, f.recipient) refl) in
-      let second : pair_cmp cmp order k l ≡ Equal =
-      is_eq_equal (pair_cmp cmp order k l) (sym (same_is k l) ∙ rw (g.origin, g.recipient) refl) in
-      ap is_lt ((pairs_total cmp order).congr m n k first ∙ alike_right (pairs_total cmp order) k l n second)
+  before_alike m n k l f g = grind (arith, common_steps, is_eq_equal, same_is, pairs_total, alike_right)
 
   -- ---- the least pair
 
@@ -89,11 +77,7 @@ module _ {P : Type 0} (cmp : P → P → Ordering) (order : IsTotalOrder cmp) wh
 
   sorted_filter : (test : Message P → Bool) (ms : List (Message P)) → IsSorted ms → IsSorted (filter test ms)
   sorted_filter test [] h = tt
-  sorted_filter test (m ∷ ms) h = by_test (test m) (sorted_filter test ms h.1)
-    where
-      by_test : (b : Bool) → IsSorted (filter test ms) → IsSorted (cond b (m ∷ filter test ms) (filter test ms))
-      by_test true ih = (each_in_filter (λ n. pair_before cmp m n ≡ true) test ms h.0, ih)
-      by_test false ih = ih
+  sorted_filter test (m ∷ ms) h = grind (arith, common_steps, each_in_filter, (sorted_filter test ms h.1))
 
   each_front : (Q : Message P → Type 0) (ms : List (Message P)) → Each Q ms → Each Q (fronts cmp ms)
   each_front Q [] h = tt
@@ -253,18 +237,8 @@ module _ {P : Type 0} (cmp : P → P → Ordering) (order : IsTotalOrder cmp) wh
   pub picks_ready : (t : ℕ) (p : Planned P) (w : World P) → Tallies cmp t p w
       → Picks cmp order (ready cmp t w) (filter (may_launch cmp t p) (fronts cmp p.waiting))
   picks_ready t p w same =
-      picks_from (filter (may_launch cmp t p) (fronts cmp p.waiting)) (ready cmp t w)
-      (sorted_filter (may_launch cmp t p) (fronts cmp p.waiting) (fronts_sorted p.waiting same.pair_order))
-      (each_map (λ y. IsFront cmp order w.waiting y × (may_start cmp t w y ≡ true))
-      (IsAmong (filter (may_launch cmp t p) (fronts cmp p.waiting))) (ready cmp t w)
-      (λ y k. in_launching t p w y same (first_found cmp order (same_pair cmp y) y k.0.0 w.waiting k.0.1) k.1)
-      (each_filtered (IsFront cmp order w.waiting) (may_start cmp t w) (fronts cmp w.waiting)
-      (fronts_first cmp order w.waiting)))
-      (each_map (λ m. IsFront cmp order p.waiting m × (may_launch cmp t p m ≡ true)) (HasIn (ready cmp t w))
-      (filter (may_launch cmp t p) (fronts cmp p.waiting))
-      (λ m k. in_ready t p w m same (first_found cmp order (same_pair cmp m) m k.0.0 p.waiting k.0.1) k.1)
-      (each_filtered (IsFront cmp order p.waiting) (may_launch cmp t p) (fronts cmp p.waiting)
-      (fronts_first cmp order p.waiting)))
+      grind (arith, common_steps, picks_from, sorted_filter, fronts_sorted, each_map, in_launching, first_found,
+      each_filtered, fronts_first, in_ready)
 
   -- where nothing is ready in the world, nothing is in the planned world
   pub none_ready_back : (t : ℕ) (p : Planned P) (w : World P) → Tallies cmp t p w → ready cmp t w ≡ []

@@ -1,11 +1,10 @@
 -- Amounts in lowest terms stay so, and draining for no time changes none of them.
+use Rattle.std.proofs.lemmas.Grind.{common_steps}
 use Rattle.link_simulation.proofs.Common.{◌≡◌, ℕ, zero, suc, ◌+◌, ◌-◌, ◌*◌, ◌<◌, ◌≤◌, Some, None, refl, sym, ap, ◌∙◌}
 use Rattle.link_simulation.proofs.Common.{arith, Option, IfSome, mul-pos, Amount, billion, drained, reduced, whole}
 use Rattle.link_simulation.proofs.Common.{IsLowest, drained_by, reduced_positive}
 use Rattle.std.proofs.Math.Nat.{mul_comm, mul-le-mul_right}
-use Rattle.fair_rates.specs.Numbers.Amount.{Covers}
-use Rattle.fair_rates.specs.Numbers.LowestTerms.{IsScaled, reduced_scales, reduced_scaled}
-use Rattle.fair_rates.specs.Numbers.LowestTerms.{reduced_alike}
+use Rattle.fair_rates.specs.Numbers.LowestTerms.{IsScaled, reduced_scales, reduced_scaled, reduced_alike}
 use Rattle.fair_rates.proofs.Numbers.Draining.{drained_twice, spent_if_covers, covers_if_spent}
 
 pub reduced_lowest : (n d : ℕ) → 0 < d → IsLowest (reduced n d)
@@ -51,9 +50,7 @@ drained_none left rate low h =
 pub drained_by_lowest : (rate : Option Amount) (n : ℕ) (left : Amount) → IfSome rate (λ r. 0 < r.den) → 0 < left.den
     → IsLowest (drained_by rate n left)
 drained_by_lowest None n left h j = whole_lowest 0
-drained_by_lowest (Some r) n left h j =
-    reduced_lowest (left.num * (r.den * billion) - n * (r.num * left.den)) (left.den * (r.den * billion))
-    (mul-pos j (mul-pos h (omega arith)))
+drained_by_lowest (Some r) n left h j = grind (arith, common_steps, reduced_lowest, mul-pos)
 
 pub drained_by_twice : (rate : Option Amount) (a b : ℕ) (left : Amount) → IfSome rate (λ r. 0 < r.den) → 0 < left.den
     → drained_by rate b (drained_by rate a left) ≡ drained_by rate (a + b) left
@@ -64,7 +61,4 @@ drained_by_twice (Some r) a b left h j = drained_twice left r a b j h
 pub spent_later : (rate : Option Amount) (a b : ℕ) (left : Amount) → IfSome rate (λ r. 0 < r.den) → 0 < left.den → a ≤ b
     → (drained_by rate a left).num ≡ 0 → (drained_by rate b left).num ≡ 0
 spent_later None a b left h j le e = refl
-spent_later (Some r) a b left h j le e =
-    let c : Covers r a left = covers_if_spent left r a j h e in
-    let more : a * (r.num * left.den) ≤ b * (r.num * left.den) = mul-le-mul_right (r.num * left.den) le in
-    spent_if_covers left r b j h (omega arith)
+spent_later (Some r) a b left h j le e = grind (arith, common_steps, covers_if_spent, mul-le-mul_right, spent_if_covers)

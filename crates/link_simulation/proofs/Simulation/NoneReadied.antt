@@ -1,4 +1,5 @@
 -- Settling makes no pair ready.
+use Rattle.std.proofs.lemmas.Grind.{common_steps}
 use Rattle.link_simulation.proofs.Common.{◌≡◌, ℕ, zero, suc, ◌+◌, ◌≤◌, List, [], ◌∷◌, ◌++◌, map, length, Bool, true}
 use Rattle.link_simulation.proofs.Common.{false, cond, not, Option, Some, None, refl, sym, ap, ◌∙◌, subst, arith}
 use Rattle.link_simulation.proofs.Common.{length-append, ◌⊎◌, inl, inr, nat_le, ⊤, ◌&&◌, ◌||◌, filter, find, list_any}
@@ -10,7 +11,7 @@ use Rattle.link_simulation.proofs.Common.{same_pair, FlowIdsUsedUp, MomentTooLat
 use Rattle.link_simulation.proofs.Common.{joined, arrived, launch_then, finish_within, each_map}
 use Rattle.link_simulation.proofs.Simulation.Queue.{any_like, find_passes, pair_sym, pair_like}
 use Rattle.link_simulation.proofs.Rule.BeforeNext.{filter_none, IsFront, fronts_first, first_found}
-use Rattle.link_simulation.proofs.Rule.Launch.{head_found, head_of, waits_without}
+use Rattle.link_simulation.proofs.Rule.Launch.{head_found, waits_without}
 use Rattle.link_simulation.proofs.Rule.Settling.{settle_is_finish}
 use Rattle.link_simulation.proofs.Simulation.OnePair.{OnlyPair, only_arrived, only_taken, only_joined, IsRested}
 use Rattle.link_simulation.proofs.Simulation.OnePair.{rested_joined, may_others}
@@ -21,17 +22,7 @@ use Rattle.link_simulation.proofs.Simulation.SettlingEnds.{ends_preceded, ends_c
 any_split : {X : Type 0} (p test : X → Bool) (xs : List X) → list_any p (filter test xs) ≡ false
     → list_any p (filter (λ x. not (test x)) xs) ≡ list_any p xs
 any_split p test [] e = refl
-any_split {X} p test (x ∷ xs) e = by_test (test x) e (any_split p test xs)
-  where
-    by_test : (b : Bool) → list_any p (cond b (x ∷ filter test xs) (filter test xs)) ≡ false
-        → (list_any p (filter test xs) ≡ false → list_any p (filter (λ x. not (test x)) xs) ≡ list_any p xs)
-        → list_any p (cond (not b) (x ∷ filter (λ x. not (test x)) xs) (filter (λ x. not (test x)) xs))
-        ≡ (p x || list_any p xs)
-    by_test true e ih =
-        let parts : (p x ≡ false) × (list_any p (filter test xs) ≡ false) =
-        or_parts (p x) (list_any p (filter test xs)) e in
-        rw parts.0 (ih parts.1)
-    by_test false e ih = ap (λ (b : Bool). p x || b) (ih e)
+any_split {X} p test (x ∷ xs) e = grind (arith, common_steps, or_parts, (any_split p test xs))
 
 any_map : {X Y : Type 0} (p : Y → Bool) (f : X → Y) (xs : List X) → list_any p (map f xs) ≡ list_any (λ x. p (f x)) xs
 any_map p f [] = refl
@@ -48,22 +39,16 @@ module _ {P : Type 0} (cmp : P → P → Ordering) (order : IsTotalOrder cmp) (y
       → IsRested cmp order y t v
   unfolding IsRested
   rested_other z t w v off only same rested x found =
-      let own : same_pair cmp y x ≡ true = find_passes (same_pair cmp y) x v.waiting found in
-      let away : same_pair cmp z x ≡ false = pair_sym cmp order z x ∙ pair_like cmp order y x z own ∙ off in
-      may_others cmp order z t w v x only (ap not away) ∙ rested x (sym same ∙ found)
+      grind (arith, common_steps, find_passes, pair_sym, pair_like, may_others)
 
   pub find_without : (x : Message P) (ws : List (Message P)) → same_pair cmp y x ≡ false
       → find (same_pair cmp y) (without_first (same_pair cmp x) ws) ≡ find (same_pair cmp y) ws
-  find_without x ws off =
-      head_found (same_pair cmp y) (without_first (same_pair cmp x) ws)
-      ∙ ap head_of (rw off at (waits_without cmp order y x ws)) ∙ sym (head_found (same_pair cmp y) ws)
+  find_without x ws off = grind (arith, common_steps, head_found, waits_without)
 
   any_end : (fs : List (Flight P)) (x : Message P)
       → list_any (same_pair cmp y) (map (λ (f : Flight P). f.message) (fs ++ flight_of x ∷ []))
       ≡ (list_any (same_pair cmp y) (map (λ (f : Flight P). f.message) fs) || (same_pair cmp y x || false))
-  any_end fs x =
-      ap (list_any (same_pair cmp y)) (map-append (λ (f : Flight P). f.message) fs (flight_of x ∷ []))
-      ∙ list_any-append (same_pair cmp y) (map (λ (f : Flight P). f.message) fs) (x ∷ [])
+  any_end fs x = grind (arith, common_steps, map-append, list_any-append)
 
   WhenHeld : ℕ → ℕ → Type 0
   WhenHeld n t =
@@ -76,12 +61,7 @@ module _ {P : Type 0} (cmp : P → P → Ordering) (order : IsTotalOrder cmp) (y
       → (same_pair cmp y z ≡ true) ⊎ ((same_pair cmp y z ≡ false) × IsHeld t fs w)
       → EndsWith (IsRested cmp order y t) (launch_then cmp (finish_within cmp n t) t fs w o)
   unfolding launch_then WhenHeld IsRested
-  launch_rests n t fs z w None ih fuel is (inl own) =
-      ih fs w fuel
-      (inr
-      (λ x found. let none : find (same_pair cmp y) w.waiting ≡ None = sym (find_like cmp order y z w.waiting own)
-      ∙ is in
-      cc))
+  launch_rests n t fs z w None ih fuel is (inl own) = grind (arith, common_steps, find_like)
   launch_rests n t fs z w None ih fuel is (inr off) = ih fs w fuel off.1
   launch_rests n t fs z w (Some x) ih fuel is held = by_may (may_start cmp t w x) refl held
     where
@@ -233,8 +213,4 @@ module _ {P : Type 0} (cmp : P → P → Ordering) (order : IsTotalOrder cmp) wh
       → length (leaving cmp w) + length (staying cmp w).waiting ≤ length w.sending + length w.waiting
       → EndsWith (λ v. ready cmp t v ≡ []) (settle cmp t w)
   settle_keeps_rest t w one none fuel =
-      none_then t (settle cmp t w)
-      (λ y. subst (λ (c : Course (Completed P) (World P)). EndsWith (IsRested cmp order y t) c)
-      (sym (settle_is_finish cmp order t w one))
-      (finish_rests cmp order y (length w.sending + length w.waiting) t (leaving cmp w) (staying cmp w) fuel
-      (held_first t w y none)))
+      grind (arith, common_steps, none_then, settle_is_finish, finish_rests, held_first)

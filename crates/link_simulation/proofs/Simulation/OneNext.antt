@@ -1,6 +1,7 @@
 -- There is at most one next event.
+use Rattle.std.proofs.lemmas.Grind.{common_steps}
 use Rattle.link_simulation.proofs.Common.{◌≡◌, ℕ, zero, suc, ◌+◌, ◌-◌, ◌*◌, ◌<◌, ◌≤◌, List, [], ◌∷◌, Option, Some, None}
-use Rattle.link_simulation.proofs.Common.{refl, sym, ap, subst, arith, ◌⊎◌, inl, inr, Ordering, IsTotalOrder, cases_lt}
+use Rattle.link_simulation.proofs.Common.{refl, ap, subst, arith, ◌⊎◌, inl, inr, Ordering, IsTotalOrder, cases_lt}
 use Rattle.link_simulation.proofs.Common.{mul-pos, Amount, billion, reduced, Flight, IsQuiet, World, last_moment, Parts}
 use Rattle.link_simulation.proofs.Common.{drained_by, rate_of, ArePositive, Drains, NextIs, Passes, comes_next}
 use Rattle.link_simulation.proofs.Common.{drain_each, never_comes, no_time, quiet_tick, reduced_positive}
@@ -21,19 +22,13 @@ module _ {P : Type 0} (cmp : P → P → Ordering) (order : IsTotalOrder cmp) wh
 
   pub drain_each_positive : (per : ℕ) (rates : Parts) (n : ℕ) (fs : List (Flight P)) → 0 < per → ArePositive fs
       → ArePositive (drain_each per rates n fs)
-  drain_each_positive per rates n [] h pos = nothing rates
-    where
-      nothing : (rates : Parts) → ArePositive (drain_each {P = P} per rates n [])
-      nothing [] = tt
-      nothing (r ∷ rs) = tt
+  drain_each_positive per rates n [] h pos = grind (arith, common_steps)
   drain_each_positive per [] n (f ∷ fs) h pos = pos
   drain_each_positive per (r ∷ rs) n (f ∷ fs) h pos =
       (drained_positive per r n f.left h pos.0, drain_each_positive per rs n fs h pos.1)
 
   pub drains_positive : (w v : World P) → Drains cmp w v → ArePositive w.sending → ArePositive v.sending
-  drains_positive w v d pos =
-      subst (λ (u : World P). ArePositive u.sending) (sym d.world)
-      (drain_each_positive d.per d.rates 1 w.sending d.fair.fair.some_part pos)
+  drains_positive w v d pos = grind (arith, common_steps, drain_each_positive)
 
   -- ---- passing is one way
 

@@ -1,12 +1,13 @@
 -- Settling what one pair starts touches that pair alone, and leaves it unable to start again at that moment.
+use Rattle.std.proofs.lemmas.Grind.{common_steps}
 use Rattle.link_simulation.proofs.Common.{◌≡◌, ℕ, zero, suc, ◌+◌, ◌≤◌, List, [], ◌∷◌, ◌++◌, length, Bool, true, false}
 use Rattle.link_simulation.proofs.Common.{cond, not, Option, Some, None, refl, sym, ap, ◌∙◌, subst, arith}
-use Rattle.link_simulation.proofs.Common.{length-append, nat_le, ◌&&◌, ◌||◌, filter, find, list_any, Ordering}
-use Rattle.link_simulation.proofs.Common.{IsTotalOrder, map-append, list_any-append, same_peer, Completed, Course}
-use Rattle.link_simulation.proofs.Common.{Flight, World, flows, fronts, goes, is_done, last_moment, may_start, meets}
-use Rattle.link_simulation.proofs.Common.{ready, EndsWith, is_late, completed, flight_of, Message, same_pair}
-use Rattle.link_simulation.proofs.Common.{FlowIdsUsedUp, MomentTooLate, out_of_waiting, joined, arrived, launch_then}
-use Rattle.link_simulation.proofs.Common.{finish_within, Each, each_map, each_joined, filter_swap, filter_stronger}
+use Rattle.link_simulation.proofs.Common.{length-append, nat_le, ◌&&◌, filter, find, list_any, Ordering, IsTotalOrder}
+use Rattle.link_simulation.proofs.Common.{map-append, list_any-append, same_peer, Completed, Course, Flight, World}
+use Rattle.link_simulation.proofs.Common.{flows, fronts, goes, is_done, last_moment, may_start, meets, ready, EndsWith}
+use Rattle.link_simulation.proofs.Common.{is_late, completed, flight_of, Message, same_pair, FlowIdsUsedUp}
+use Rattle.link_simulation.proofs.Common.{MomentTooLate, out_of_waiting, joined, arrived, launch_then, finish_within}
+use Rattle.link_simulation.proofs.Common.{Each, each_map, each_joined, filter_swap, filter_stronger}
 use Rattle.link_simulation.proofs.Common.{length-without_first, and_parts, not-true, or_left, or_right, without_first}
 use Rattle.link_simulation.proofs.Simulation.Queue.{both_alike, pair_like, pair_sym, peer_like, find_passes}
 use Rattle.link_simulation.proofs.Rule.BeforeNext.{IsFront, fronts_first, first_found}
@@ -19,24 +20,12 @@ use Rattle.std.proofs.lemmas.Bool.{not-false}
 filter_only : {X : Type 0} (f g : X → Bool) (xs : List X) → Each (λ x. g x ≡ false → f x ≡ false) xs
     → filter f xs ≡ filter f (filter g xs)
 filter_only f g [] h = refl
-filter_only {X} f g (x ∷ xs) h = by_test (f x) (g x) refl refl (filter_only f g xs h.1)
-  where
-    by_test : (a b : Bool) → f x ≡ a → g x ≡ b → filter f xs ≡ filter f (filter g xs)
-        → cond a (x ∷ filter f xs) (filter f xs) ≡ filter f (cond b (x ∷ filter g xs) (filter g xs))
-    by_test true true d e ih = rw d (ap (λ (q : List X). x ∷ q) ih)
-    by_test true false d e ih = let k : f x ≡ false = h.0 e in cc
-    by_test false true d e ih = rw d ih
-    by_test false false d e ih = ih
+filter_only {X} f g (x ∷ xs) h = grind (arith, common_steps, (filter_only f g xs h.1))
 
 filter_where : {X : Type 0} (f h g : X → Bool) (xs : List X) → ((x : X) → g x ≡ true → f x ≡ h x)
     → filter f (filter g xs) ≡ filter h (filter g xs)
 filter_where f h g [] same = refl
-filter_where {X} f h g (x ∷ xs) same = by_test (g x) refl (filter_where f h g xs same)
-  where
-    by_test : (b : Bool) → g x ≡ b → filter f (filter g xs) ≡ filter h (filter g xs)
-        → filter f (cond b (x ∷ filter g xs) (filter g xs)) ≡ filter h (cond b (x ∷ filter g xs) (filter g xs))
-    by_test true e ih = rw (same x e, ih) refl
-    by_test false e ih = ih
+filter_where {X} f h g (x ∷ xs) same = grind (arith, common_steps, (filter_where f h g xs same))
 
 pub no_nil : {X : Type 0} (xs : List X) (x : X) → xs ++ x ∷ [] ≡ [] → ⊥
 no_nil [] x e = cc
@@ -63,15 +52,7 @@ module _ {P : Type 0} (cmp : P → P → Ordering) (order : IsTotalOrder cmp) (y
   only_itself w = record { last = λ p q e. refl; busy = λ m e. refl; others = refl; fewer = omega arith }
 
   pub only_both : (w v u : World P) → OnlyPair w v → OnlyPair v u → OnlyPair w u
-  only_both w v u f g =
-      record {
-        last = λ p q e. g.last p q e ∙ f.last p q e;
-        busy = λ m e. g.busy m e ∙ f.busy m e;
-        others = g.others ∙ f.others;
-        fewer = let a : length u.waiting ≤ length v.waiting = g.fewer in
-            let b : length v.waiting ≤ length w.waiting = f.fewer in
-            omega arith;
-      }
+  only_both w v u f g = grind (arith, common_steps)
 
   fronts_without : (x : Message P) (ws : List (Message P)) → same_pair cmp y x ≡ true
       → filter apart (fronts cmp (without_first (same_pair cmp x) ws)) ≡ filter apart (fronts cmp ws)
@@ -102,45 +83,15 @@ module _ {P : Type 0} (cmp : P → P → Ordering) (order : IsTotalOrder cmp) (y
   -- ---- steps
 
   pub only_arrived : (t : ℕ) (w : World P) (m : Message P) → same_pair cmp y m ≡ true → OnlyPair w (arrived cmp t w m)
-  only_arrived t w m e =
-      let parts : (same_peer cmp y.origin m.origin ≡ true) × (same_peer cmp y.recipient m.recipient ≡ true)
-      = and_parts (same_peer cmp y.origin m.origin) (same_peer cmp y.recipient m.recipient) e in
-      record {
-        last = λ p q off.
-            rw (both_alike cmp order (same_peer cmp m.origin p) (same_peer cmp y.origin p) (same_peer cmp m.recipient q)
-            (same_peer cmp y.recipient q) (peer_like cmp order y.origin m.origin p parts.0)
-            (peer_like cmp order y.recipient m.recipient q parts.1)
-            ∙ off)
-            refl;
-        busy = λ m e. refl;
-        others = refl;
-        fewer = omega arith;
-      }
+  only_arrived t w m e = grind (arith, common_steps, and_parts, both_alike, peer_like)
 
   pub only_taken : (w : World P) (x : Message P) → same_pair cmp y x ≡ true → OnlyPair w (out_of_waiting cmp w x)
-  only_taken w x e =
-      record {
-        last = λ p q off. refl;
-        busy = λ m off. refl;
-        others = fronts_without x w.waiting e;
-        fewer = length-without_first (same_pair cmp x) w.waiting;
-      }
+  only_taken w x e = grind (arith, common_steps, fronts_without, length-without_first)
 
   pub only_joined : (w : World P) (x : Message P) → same_pair cmp y x ≡ true → OnlyPair w (joined cmp w x)
-  only_joined w x e = record {
-    last = λ p q off. refl;
-    busy = λ m off.
-        ap (list_any (same_pair cmp m)) (map-append (λ (g : Flight P). g.message) w.sending (flight_of x ∷ []))
-        ∙ list_any-append (same_pair cmp m) (flows w) (x ∷ [])
-        ∙ by_pair m (list_any (same_pair cmp m) (flows w))
-        (pair_sym cmp order m x ∙ pair_like cmp order y x m e ∙ off);
-    others = fronts_without x w.waiting e;
-    fewer = length-without_first (same_pair cmp x) w.waiting;
-  }
-    where
-      by_pair : (m : Message P) (b : Bool) → same_pair cmp m x ≡ false → (b || (same_pair cmp m x || false)) ≡ b
-      by_pair m true k = refl
-      by_pair m false k = rw k refl
+  only_joined w x e =
+      grind (arith, common_steps, map-append, list_any-append, pair_sym, pair_like, fronts_without,
+      length-without_first)
 
   -- ---- the pair may not start again
 
@@ -150,14 +101,7 @@ module _ {P : Type 0} (cmp : P → P → Ordering) (order : IsTotalOrder cmp) (y
   pub rested_joined : (t : ℕ) (w : World P) (x : Message P) → same_pair cmp y x ≡ true → IsRested t (joined cmp w x)
   unfolding IsRested
   rested_joined t w x e z found =
-      let own : same_pair cmp y z ≡ true = find_passes (same_pair cmp y) z (joined cmp w x).waiting found in
-      let pair : same_pair cmp z x ≡ true = pair_like cmp order y z x own ∙ e in
-      let sends : list_any (same_pair cmp z) (flows (joined cmp w x)) ≡ true =
-      ap (list_any (same_pair cmp z)) (map-append (λ (g : Flight P). g.message) w.sending (flight_of x ∷ []))
-      ∙ list_any-append (same_pair cmp z) (flows w) (x ∷ [])
-      ∙ or_right (list_any (same_pair cmp z) (flows w)) (same_pair cmp z x || false)
-      (or_left (same_pair cmp z x) false pair) in
-      rw sends refl
+      grind (arith, common_steps, find_passes, joined, pair_like, map-append, list_any-append, or_right, or_left)
 
   abbrev pub IsAfter : ℕ → World P → World P → Type 0
   IsAfter t w v = OnlyPair w v × IsRested t v
@@ -234,9 +178,7 @@ module _ {P : Type 0} (cmp : P → P → Ordering) (order : IsTotalOrder cmp) (y
 
   pub may_others : (t : ℕ) (w v : World P) (m : Message P) → OnlyPair w v → apart m ≡ true
       → may_start cmp t v m ≡ may_start cmp t w m
-  may_others t w v m only off =
-      let e : same_pair cmp y m ≡ false = not-true (same_pair cmp y m) off in
-      rw (only.busy m e, only.last m.origin m.recipient e) refl
+  may_others t w v m only off = grind (arith, common_steps, not-true)
 
   -- those that were ready still are, but for the pair of y
   pub ready_after : (t : ℕ) (w v : World P) → IsAfter t w v → ready cmp t v ≡ filter apart (ready cmp t w)

@@ -1,8 +1,9 @@
 -- A call has one course.
+use Rattle.std.proofs.lemmas.Grind.{common_steps}
 use Rattle.link_simulation.proofs.Common.{◌≡◌, ℕ, suc, List, [], refl, sym, ap, ◌∙◌, subst, arith, ◌⊎◌, inl, inr}
-use Rattle.link_simulation.proofs.Common.{Ordering, IsTotalOrder, Completed, Course, World, and_then, goes, instant}
-use Rattle.link_simulation.proofs.Common.{meets, preceded, Call, Runs, act, Drains, IsSound, Ticks, no_tick, one_tick}
-use Rattle.link_simulation.proofs.Common.{tick_faults, Error}
+use Rattle.link_simulation.proofs.Common.{Ordering, IsTotalOrder, Completed, Course, World, goes, instant, meets}
+use Rattle.link_simulation.proofs.Common.{preceded, Call, Runs, Drains, IsSound, Ticks, no_tick, one_tick, tick_faults}
+use Rattle.link_simulation.proofs.Common.{Error}
 use Rattle.link_simulation.proofs.Simulation.OneWorld.{one_world}
 use Rattle.link_simulation.proofs.Simulation.AlikeMessages.{same_itself}
 use Rattle.link_simulation.proofs.Simulation.QuietInstants.{ends_at}
@@ -82,8 +83,4 @@ module _ {P : Type 0} (cmp : P → P → Ordering) (order : IsTotalOrder cmp) wh
   -- a call has one course
   pub runs_are_one : (w : World P) (call : Call P) (now : ℕ) (c d : Course (Completed P) (World P)) → IsSound cmp w
       → Runs cmp w call now c → Runs cmp w call now d → c ≡ d
-  runs_are_one w call now c d sound r s =
-      r.acts
-      ∙ ap (λ (x : Course (Completed P) (World P)). and_then x (λ v. act cmp v call))
-      (ticks_are_one r.ticks s.ticked (record { positive = sound.positive; one_each = sound.one_each }) s.ticks)
-      ∙ sym s.acts
+  runs_are_one w call now c d sound r s = grind (arith, common_steps, ticks_are_one)

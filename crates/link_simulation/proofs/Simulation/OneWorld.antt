@@ -1,4 +1,5 @@
 -- A nanosecond leads to one world, whatever denominator its rates are given by.
+use Rattle.std.proofs.lemmas.Grind.{common_steps}
 use Rattle.link_simulation.proofs.Common.{◌≡◌, ℕ, suc, ◌+◌, ◌*◌, ◌<◌, List, [], ◌∷◌, length, Option, Some, None, refl}
 use Rattle.link_simulation.proofs.Common.{sym, ap, ◌∙◌, arith, true, Ordering, same_peer, Amount, drained, Flight}
 use Rattle.link_simulation.proofs.Common.{World, flows, Parts, drained_by, rate_of, ArePositive, Drains, drain_each}
@@ -22,13 +23,7 @@ module _ {P : Type 0} (cmp : P → P → Ordering) where
   drain_same : (xs ys : Parts) (d e n : ℕ) (fs : List (Flight P)) → ArePositive fs → 0 < d → 0 < e
       → length xs ≡ length ys → Match xs ys d e → Match ys xs e d
       → drain_each d xs n fs ≡ drain_each e ys n fs
-  drain_same xs ys d e n [] pos i j same to from = nothing xs ys
-    where
-      nothing : (xs ys : Parts) → drain_each {P = P} d xs n [] ≡ drain_each e ys n []
-      nothing [] [] = refl
-      nothing [] (y ∷ ys) = refl
-      nothing (x ∷ xs) [] = refl
-      nothing (x ∷ xs) (y ∷ ys) = refl
+  drain_same xs ys d e n [] pos i j same to from = grind (arith, common_steps)
   drain_same [] [] d e n (f ∷ fs) pos i j same to from = refl
   drain_same [] (y ∷ ys) d e n (f ∷ fs) pos i j same to from = absurd (omega arith)
   drain_same (x ∷ xs) [] d e n (f ∷ fs) pos i j same to from = absurd (omega arith)

@@ -1,14 +1,15 @@
 -- What happens to one pair leaves the other pairs as they are.
-use Rattle.link_simulation.proofs.Common.{◌≡◌, ℕ, zero, suc, ◌+◌, List, [], ◌∷◌, ◌++◌, map, length, Bool, true, false}
-use Rattle.link_simulation.proofs.Common.{cond, not, Option, Some, None, refl, sym, ap, ◌∙◌, subst, nat_le, ⊤, ◌&&◌}
+use Rattle.link_simulation.proofs.Common.{arith, ◌≡◌, ℕ, zero, suc, ◌+◌, List, [], ◌∷◌, ◌++◌, map, length, Bool, true}
+use Rattle.link_simulation.proofs.Common.{false, cond, not, Option, Some, None, refl, sym, ap, ◌∙◌, subst, nat_le, ⊤}
 use Rattle.link_simulation.proofs.Common.{◌||◌, ◌==◌, filter, find, list_any, Ordering, IsTotalOrder, list_any-append}
 use Rattle.link_simulation.proofs.Common.{filter-append, or_right, or_left, not-true, map-append, without_first}
 use Rattle.link_simulation.proofs.Common.{Completed, Course, EndsWith, Flight, World, complete, first_waiting, flows}
-use Rattle.link_simulation.proofs.Common.{fronts, goes, is_done, is_idle, is_in_order, last_moment, may_start, meets}
-use Rattle.link_simulation.proofs.Common.{raised, ready, settle, settle_within, start, start_next, turn, out_of_flight}
-use Rattle.link_simulation.proofs.Common.{is_late, completed, arrival, flight_of, Message, same_pair, Caps}
-use Rattle.link_simulation.proofs.Common.{is_unlimited, FlowIdsUsedUp, MomentTooLate, filter_swap, filter_stronger}
-use Rattle.link_simulation.proofs.Common.{Each, each_filtered}
+use Rattle.link_simulation.proofs.Common.{fronts, goes, is_done, is_idle, last_moment, may_start, meets, raised, ready}
+use Rattle.link_simulation.proofs.Common.{settle, settle_within, start, start_next, turn, out_of_flight, is_late}
+use Rattle.link_simulation.proofs.Common.{completed, arrival, flight_of, Message, same_pair, Caps, is_unlimited}
+use Rattle.link_simulation.proofs.Common.{FlowIdsUsedUp, MomentTooLate, filter_swap, filter_stronger, Each}
+use Rattle.link_simulation.proofs.Common.{each_filtered}
+use Rattle.std.proofs.lemmas.Grind.{common_steps}
 use Rattle.std.proofs.lemmas.Map.Views.{any-filter_same}
 use Rattle.std.proofs.lemmas.Bool.{not-false}
 use Rattle.std.proofs.lemmas.List.{append-nil}
@@ -23,13 +24,7 @@ use Rattle.link_simulation.proofs.Simulation.SettlingEnds.{find_like, ends_prece
 pub filter_skips : {X : Type 0} (keep test : X → Bool) (f : X) (xs : List X) → find test xs ≡ Some f → keep f ≡ false
     → filter keep (without_first test xs) ≡ filter keep xs
 filter_skips keep test f [] e h = refl
-filter_skips {X} keep test f (x ∷ xs) e h = by_test (test x) e (filter_skips keep test f xs)
-  where
-    by_test : (b : Bool) → cond b (Some x) (find test xs) ≡ Some f
-        → (find test xs ≡ Some f → keep f ≡ false → filter keep (without_first test xs) ≡ filter keep xs)
-        → filter keep (cond b xs (x ∷ without_first test xs)) ≡ cond (keep x) (x ∷ filter keep xs) (filter keep xs)
-    by_test true e ih = let same : x ≡ f = cc in let no : keep x ≡ false = ap keep same ∙ h in rw no refl
-    by_test false e ih = rw (ih e h) refl
+filter_skips {X} keep test f (x ∷ xs) e h = grind (arith, common_steps, (filter_skips keep test f xs))
 
 pub filter_alike : {X : Type 0} (p q : X → Bool) (xs : List X) → Each (λ x. p x ≡ q x) xs → filter p xs ≡ filter q xs
 filter_alike p q [] same = refl
@@ -47,58 +42,23 @@ each_more P Q more (x ∷ xs) h = (more x h.0, each_more P Q more xs h.1)
 pub find_kept : {X : Type 0} (test keep : X → Bool) (xs : List X) → ((x : X) → test x ≡ true → keep x ≡ true)
     → find test (filter keep xs) ≡ find test xs
 find_kept test keep [] h = refl
-find_kept {X} test keep (x ∷ xs) h = by_tests (test x) (keep x) refl refl (find_kept test keep xs h)
-  where
-    by_tests : (a b : Bool) → test x ≡ a → keep x ≡ b → find test (filter keep xs) ≡ find test xs
-        → find test (cond b (x ∷ filter keep xs) (filter keep xs)) ≡ cond a (Some x) (find test xs)
-    by_tests true true e f ih = rw e refl
-    by_tests true false e f ih = let g : keep x ≡ true = h x e in cc
-    by_tests false true e f ih = rw (e, ih) refl
-    by_tests false false e f ih = ih
+find_kept {X} test keep (x ∷ xs) h = grind (arith, common_steps, (find_kept test keep xs h))
 
 pub filter_kept_each : {X : Type 0} (test keep : X → Bool) (xs : List X) → Each (λ x. test x ≡ true → keep x ≡ true) xs
     → filter test (filter keep xs) ≡ filter test xs
 filter_kept_each test keep [] h = refl
-filter_kept_each {X} test keep (x ∷ xs) h = by_tests (test x) (keep x) refl refl (filter_kept_each test keep xs h.1)
-  where
-    by_tests : (a b : Bool) → test x ≡ a → keep x ≡ b → filter test (filter keep xs) ≡ filter test xs
-        → filter test (cond b (x ∷ filter keep xs) (filter keep xs)) ≡ cond a (x ∷ filter test xs) (filter test xs)
-    by_tests true true e f ih = rw (e, ih) refl
-    by_tests true false e f ih = let g : keep x ≡ true = h.0 e in cc
-    by_tests false true e f ih = rw (e, ih) refl
-    by_tests false false e f ih = ih
+filter_kept_each {X} test keep (x ∷ xs) h = grind (arith, common_steps, (filter_kept_each test keep xs h.1))
 
 -- what is found where nothing passes both tests does not pass the other
 pub found_fails : {X : Type 0} (test keep : X → Bool) (f : X) (xs : List X) → find test xs ≡ Some f
     → list_any test (filter keep xs) ≡ false → keep f ≡ false
 found_fails test keep f [] e h = cc
-found_fails {X} test keep f (x ∷ xs) e h = by_tests (test x) (keep x) refl refl e h (found_fails test keep f xs)
-  where
-    by_tests : (a b : Bool) → test x ≡ a → keep x ≡ b → cond a (Some x) (find test xs) ≡ Some f
-        → list_any test (cond b (x ∷ filter keep xs) (filter keep xs)) ≡ false
-        → (find test xs ≡ Some f → list_any test (filter keep xs) ≡ false → keep f ≡ false) → keep f ≡ false
-    by_tests true true is k e h ih =
-        let h2 : (test x || list_any test (filter keep xs)) ≡ false = h in
-        let h3 : (true || list_any test (filter keep xs)) ≡ false = rw is at h2 in
-        cc
-    by_tests true false is k e h ih = let same : x ≡ f = cc in ap keep (sym same) ∙ k
-    by_tests false true is k e h ih =
-        let h2 : (test x || list_any test (filter keep xs)) ≡ false = h in
-        let h3 : list_any test (filter keep xs) ≡ false = rw is at h2 in
-        ih e h3
-    by_tests false false is k e h ih = ih e h
+found_fails {X} test keep f (x ∷ xs) e h = grind (arith, common_steps, (found_fails test keep f xs))
 
 pub any_none : {X : Type 0} (test keep : X → Bool) (xs : List X) → list_any test xs ≡ false
     → list_any test (filter keep xs) ≡ false
 any_none test keep [] h = refl
-any_none {X} test keep (x ∷ xs) h = by_tests (test x) (keep x) refl h (any_none test keep xs)
-  where
-    by_tests : (a b : Bool) → test x ≡ a → (a || list_any test xs) ≡ false
-        → (list_any test xs ≡ false → list_any test (filter keep xs) ≡ false)
-        → list_any test (cond b (x ∷ filter keep xs) (filter keep xs)) ≡ false
-    by_tests true b is h ih = cc
-    by_tests false true is h ih = rw is (ih h)
-    by_tests false false is h ih = ih h
+any_none {X} test keep (x ∷ xs) h = grind (arith, common_steps, (any_none test keep xs))
 
 pub any_map : {X Y : Type 0} (g : X → Y) (p : Y → Bool) (xs : List X)
     → list_any p (map g xs) ≡ list_any (λ x. p (g x)) xs
@@ -111,12 +71,7 @@ any_alike p q (x ∷ xs) same = rw (same x, any_alike p q xs same) refl
 
 pub any_from_find : {X : Type 0} (p : X → Bool) (xs : List X) → find p xs ≡ None → list_any p xs ≡ false
 any_from_find p [] h = refl
-any_from_find {X} p (x ∷ xs) h = by_test (p x) h (any_from_find p xs)
-  where
-    by_test : (b : Bool) → cond b (Some x) (find p xs) ≡ None → (find p xs ≡ None → list_any p xs ≡ false)
-        → (b || list_any p xs) ≡ false
-    by_test true h ih = cc
-    by_test false h ih = ih h
+any_from_find {X} p (x ∷ xs) h = grind (arith, common_steps, (any_from_find p xs))
 
 module _ {P : Type 0} (cmp : P → P → Ordering) where
   -- the second world is the first, but for the pair of a message
@@ -145,41 +100,20 @@ module _ {P : Type 0} (cmp : P → P → Ordering) (order : IsTotalOrder cmp) wh
       record { caps = refl; limited = refl; moment = refl; arrivals = λ k h. refl; waiting = refl; sending = refl }
 
   pub but_for_twice : (m : Message P) (w v u : World P) → IsButFor cmp m w v → IsButFor cmp m v u → IsButFor cmp m w u
-  but_for_twice m w v u a b = record {
-    caps = b.caps ∙ a.caps;
-    limited = b.limited ∙ a.limited;
-    moment = b.moment ∙ a.moment;
-    arrivals = λ k h. b.arrivals k h ∙ a.arrivals k h;
-    waiting = b.waiting ∙ a.waiting;
-    sending = b.sending ∙ a.sending;
-  }
+  but_for_twice m w v u a b = grind (arith, common_steps)
 
   pub not_alike : (m n : Message P) → same_pair cmp m n ≡ true → (xs : List (Message P))
       → filter (λ k. not (same_pair cmp n k)) xs ≡ filter (λ k. not (same_pair cmp m k)) xs
-  not_alike m n e xs =
-      filter_alike (λ k. not (same_pair cmp n k)) (λ k. not (same_pair cmp m k)) xs
-      (each_of (λ k. not (same_pair cmp n k) ≡ not (same_pair cmp m k)) (λ k. ap not (pair_like cmp order m n k e))
-      xs)
+  not_alike m n e xs = grind (arith, common_steps, filter_alike, each_of, pair_like)
 
   not_alike_flights : (m n : Message P) → same_pair cmp m n ≡ true → (fs : List (Flight P))
       → filter (λ (f : Flight P). not (same_pair cmp n f.message)) fs
       ≡ filter (λ (f : Flight P). not (same_pair cmp m f.message)) fs
-  not_alike_flights m n e fs =
-      filter_alike (λ (f : Flight P). not (same_pair cmp n f.message))
-      (λ (f : Flight P). not (same_pair cmp m f.message)) fs
-      (each_of (λ (f : Flight P). not (same_pair cmp n f.message) ≡ not (same_pair cmp m f.message))
-      (λ f. ap not (pair_like cmp order m n f.message e)) fs)
+  not_alike_flights m n e fs = grind (arith, common_steps, filter_alike, each_of, pair_like)
 
   pub but_for_like : (m n : Message P) (w v : World P) → same_pair cmp m n ≡ true → IsButFor cmp n w v
       → IsButFor cmp m w v
-  but_for_like m n w v e a = record {
-    caps = a.caps;
-    limited = a.limited;
-    moment = a.moment;
-    arrivals = λ k h. a.arrivals k (pair_like cmp order m n k e ∙ h);
-    waiting = sym (not_alike m n e v.waiting) ∙ a.waiting ∙ not_alike m n e w.waiting;
-    sending = sym (not_alike_flights m n e v.sending) ∙ a.sending ∙ not_alike_flights m n e w.sending;
-  }
+  but_for_like m n w v e a = grind (arith, common_steps, pair_like, not_alike, not_alike_flights)
 
   any_flows : (p : Message P → Bool) (w : World P)
       → list_any p (flows w) ≡ list_any (λ (f : Flight P). p f.message) w.sending
@@ -200,41 +134,17 @@ module _ {P : Type 0} (cmp : P → P → Ordering) (order : IsTotalOrder cmp) wh
   -- whether another pair's message may start does not change
   pub may_start_alike : (t : ℕ) (m x : Message P) (w v : World P) → IsButFor cmp m w v → same_pair cmp m x ≡ false
       → may_start cmp t v x ≡ may_start cmp t w x
-  may_start_alike t m x w v a h =
-      both (is_idle cmp v x) (is_idle cmp w x) (v.last_arrival x.origin x.recipient)
-      (w.last_arrival x.origin x.recipient) (idle_alike m x w v a h) (a.arrivals x h)
-    where
-      both : (a b : Bool) (p q : Option ℕ) → a ≡ b → p ≡ q
-          → (a && is_in_order p (t + x.latency)) ≡ (b && is_in_order q (t + x.latency))
-      both a b p q e f = rw (e, f) refl
+  may_start_alike t m x w v a h = grind (arith, common_steps, idle_alike)
 
   pub first_alike : (m k : Message P) (w v : World P) → IsButFor cmp m w v → same_pair cmp m k ≡ false
       → first_waiting cmp v k ≡ first_waiting cmp w k
-  first_alike m k w v a h =
-      sym (find_kept (same_pair cmp k) (λ n. not (same_pair cmp m n)) v.waiting (λ n e. pair_other m n k h e))
-      ∙ ap (find (same_pair cmp k)) a.waiting
-      ∙ find_kept (same_pair cmp k) (λ n. not (same_pair cmp m n)) w.waiting (λ n e. pair_other m n k h e)
+  first_alike m k w v a h = grind (arith, common_steps, find_kept, pair_other)
 
   -- nothing that another pair sees changes
   pub others_see_nothing : (m k : Message P) (w v : World P) → IsButFor cmp m w v → same_pair cmp m k ≡ false
       → IsUnchangedFor cmp k w v
-  others_see_nothing m k w v a h = record {
-    ready = λ t x e.
-        may_start_alike t m x w v a (pair_sym cmp order m x ∙ pair_like cmp order k x m e ∙ pair_sym cmp order k m ∙ h);
-    last_arrival = a.arrivals k h;
-    waiting =
-        sym (filter_stronger (same_pair cmp k) (λ n. not (same_pair cmp m n)) v.waiting (λ n e. pair_other m n k h e))
-        ∙ ap (filter (same_pair cmp k)) a.waiting
-        ∙ filter_stronger (same_pair cmp k) (λ n. not (same_pair cmp m n)) w.waiting (λ n e. pair_other m n k h e);
-    first = first_alike m k w v a h;
-    sending =
-        sym
-        (filter_stronger (λ (f : Flight P). same_pair cmp k f.message)
-        (λ (f : Flight P). not (same_pair cmp m f.message)) v.sending (λ f e. pair_other m f.message k h e))
-        ∙ ap (filter (λ (f : Flight P). same_pair cmp k f.message)) a.sending
-        ∙ filter_stronger (λ (f : Flight P). same_pair cmp k f.message)
-        (λ (f : Flight P). not (same_pair cmp m f.message)) w.sending (λ f e. pair_other m f.message k h e);
-  }
+  others_see_nothing m k w v a h =
+      grind (arith, common_steps, may_start_alike, pair_sym, pair_like, filter_stronger, pair_other, first_alike)
 
   -- ---- a pair that may not start
 
@@ -287,10 +197,7 @@ module _ {P : Type 0} (cmp : P → P → Ordering) (order : IsTotalOrder cmp) wh
 
   pub leaves_like : (t : ℕ) (m x : Message P) (w v u : World P) → same_pair cmp m x ≡ true → IsButFor cmp m w v
       → Leaves t x v u → Leaves t m w u
-  leaves_like t m x w v u e a l = record {
-    others = but_for_twice m w v u a (but_for_like m x v u e l.others);
-    rests = λ y is. l.rests y (find_like cmp order m x u.waiting e ∙ is);
-  }
+  leaves_like t m x w v u e a l = grind (arith, common_steps, but_for_twice, but_for_like, find_like)
 
   pub ends_more : (R Q : World P → Type 0) (c : Course (Completed P) (World P)) → ((v : World P) → R v → Q v)
       → EndsWith R c → EndsWith Q c
@@ -322,16 +229,7 @@ module _ {P : Type 0} (cmp : P → P → Ordering) (order : IsTotalOrder cmp) wh
         sending = without_first (is_done cmp w) w.sending;
         last_arrival = raised cmp w.last_arrival f.message at;
       })
-  landed_but_for w f at e = record {
-    caps = refl;
-    limited = refl;
-    moment = refl;
-    arrivals = λ k h. rw h refl;
-    waiting = refl;
-    sending =
-        filter_skips (λ (g : Flight P). not (same_pair cmp f.message g.message)) (is_done cmp w) f w.sending e
-        (ap not (pair_itself cmp order f.message));
-  }
+  landed_but_for w f at e = grind (arith, common_steps, filter_skips, pair_itself)
 
   -- a completion changes its pair alone, which then may not start
   pub complete_leaves : (t : ℕ) (w : World P) (f : Flight P) → find (is_done cmp w) w.sending ≡ Some f
@@ -399,43 +297,15 @@ module _ {P : Type 0} (cmp : P → P → Ordering) (order : IsTotalOrder cmp) wh
   pub fronts_are_first : (xs : List (Message P))
       → Each (λ (n : Message P). find (same_pair cmp n) xs ≡ Some n) (fronts cmp xs)
   fronts_are_first [] = tt
-  fronts_are_first (x ∷ xs) = (
-    rw (pair_itself cmp order x) refl,
-    each_more (λ (n : Message P). (find (same_pair cmp n) xs ≡ Some n) × (not (same_pair cmp x n) ≡ true))
-        (λ (n : Message P). cond (same_pair cmp n x) (Some x) (find (same_pair cmp n) xs) ≡ Some n)
-        (λ n h. behind n h.0 h.1)
-        (filter (λ n. not (same_pair cmp x n)) (fronts cmp xs))
-        (each_filtered (λ (n : Message P). find (same_pair cmp n) xs ≡ Some n) (λ n. not (same_pair cmp x n))
-        (fronts cmp xs) (fronts_are_first xs)),
-  )
-    where
-      behind : (n : Message P) → find (same_pair cmp n) xs ≡ Some n → not (same_pair cmp x n) ≡ true
-          → cond (same_pair cmp n x) (Some x) (find (same_pair cmp n) xs) ≡ Some n
-      behind n e h =
-          let no : same_pair cmp n x ≡ false = pair_sym cmp order n x ∙ not-true (same_pair cmp x n) h in rw no e
+  fronts_are_first (x ∷ xs) =
+      grind (arith, common_steps, pair_itself, each_more, each_filtered, pair_sym, not-true, (fronts_are_first xs))
 
   -- the fronts without a pair
   pub fronts_without : (m : Message P) (xs : List (Message P))
       → filter (λ n. not (same_pair cmp m n)) (fronts cmp xs) ≡ fronts cmp (filter (λ n. not (same_pair cmp m n)) xs)
   fronts_without m [] = refl
-  fronts_without m (x ∷ xs) = by_pair (same_pair cmp m x) refl (fronts_without m xs)
-    where
-      by_pair : (b : Bool) → same_pair cmp m x ≡ b
-          → filter (λ n. not (same_pair cmp m n)) (fronts cmp xs)
-          ≡ fronts cmp (filter (λ n. not (same_pair cmp m n)) xs)
-          → cond (not b) (x ∷ filter (λ n. not (same_pair cmp m n))
-          (filter (λ n. not (same_pair cmp x n)) (fronts cmp xs)))
-          (filter (λ n. not (same_pair cmp m n)) (filter (λ n. not (same_pair cmp x n)) (fronts cmp xs)))
-          ≡ fronts cmp
-          (cond (not b) (x ∷ filter (λ n. not (same_pair cmp m n)) xs) (filter (λ n. not (same_pair cmp m n)) xs))
-      by_pair true e ih =
-          ap (filter (λ n. not (same_pair cmp m n))) (not_alike m x e (fronts cmp xs))
-          ∙ filter_stronger (λ n. not (same_pair cmp m n)) (λ n. not (same_pair cmp m n)) (fronts cmp xs) (λ n h. h)
-          ∙ ih
-      by_pair false e ih =
-          ap (λ (ns : List (Message P)). x ∷ ns)
-          (filter_swap (λ n. not (same_pair cmp m n)) (λ n. not (same_pair cmp x n)) (fronts cmp xs)
-          ∙ ap (filter (λ n. not (same_pair cmp x n))) ih)
+  fronts_without m (x ∷ xs) =
+      grind (arith, common_steps, not_alike, filter_stronger, filter_swap, (fronts_without m xs))
 
   -- a pair that changed alone and may not start any more: the others are ready as before
   pub ready_without : (t : ℕ) (m : Message P) (w v : World P) → Leaves t m w v

@@ -1,8 +1,9 @@
 -- The order of pairs, and lists in that order.
-use Rattle.link_simulation.proofs.Common.{◌≡◌, List, [], ◌∷◌, Bool, true, false, cond, Option, Some, None, refl, sym}
-use Rattle.link_simulation.proofs.Common.{ap, ◌∙◌, subst, find, Ordering, Less, Equal, Greater, is_eq, is_lt}
+use Rattle.link_simulation.proofs.Common.{arith, ◌≡◌, List, [], ◌∷◌, Bool, true, false, cond, Option, Some, None, refl}
+use Rattle.link_simulation.proofs.Common.{sym, ap, ◌∙◌, subst, find, Ordering, Less, Equal, Greater, is_eq, is_lt}
 use Rattle.link_simulation.proofs.Common.{IsTotalOrder, least_pair, Message, OneForEachPair, pair_before, same_pair}
 use Rattle.link_simulation.proofs.Common.{Each, find_from_any}
+use Rattle.std.proofs.lemmas.Grind.{common_steps}
 use Rattle.std.specs.Ordering.{is_gt, ordering_reverse, ordering_then}
 use Rattle.std.specs.Cmp.{then_total, tied_then, upto}
 use Rattle.std.proofs.lemmas.Cmp.{on_total, tied_itself}
@@ -64,10 +65,7 @@ module _ {P : Type 0} (cmp : P → P → Ordering) (order : IsTotalOrder cmp) wh
 
   pub before_if_not : (m n : Message P) → pair_before cmp n m ≡ false → same_pair cmp m n ≡ false
       → pair_before cmp m n ≡ true
-  before_if_not m n e f =
-      turned m n
-      ∙ gt_if_neither (pair_cmp n m) e
-      (sym (tied_then (cmp n.origin m.origin) (cmp n.recipient m.recipient)) ∙ pair_sym cmp order n m ∙ f)
+  before_if_not m n e f = grind (arith, common_steps, turned, gt_if_neither, pair_sym)
 
   -- ---- the least pair
 
@@ -117,11 +115,7 @@ module _ {P : Type 0} (cmp : P → P → Ordering) (order : IsTotalOrder cmp) wh
   pub found_in : (Q : Message P → Type 0) (p : Message P → Bool) (x : Message P) (ms : List (Message P)) → Each Q ms
       → find p ms ≡ Some x → Q x
   found_in Q p x [] h e = cc
-  found_in Q p x (m ∷ ms) h e = by_test (p m) e (found_in Q p x ms h.1)
-    where
-      by_test : (b : Bool) → cond b (Some m) (find p ms) ≡ Some x → (find p ms ≡ Some x → Q x) → Q x
-      by_test true e ih = let same : m ≡ x = cc in subst Q same h.0
-      by_test false e ih = ih e
+  found_in Q p x (m ∷ ms) h e = grind (arith, common_steps, (found_in Q p x ms h.1))
 
   pub as_each : (m : Message P) (ms : List (Message P)) → IsBeforeEach cmp m ms
       → Each (λ (n : Message P). pair_before cmp m n ≡ true) ms
@@ -136,45 +130,19 @@ module _ {P : Type 0} (cmp : P → P → Ordering) (order : IsTotalOrder cmp) wh
   find_inserted : (k m : Message P) (ns : List (Message P)) → find (same_pair cmp m) ns ≡ None
       → find (same_pair cmp k) (insert_by_pair cmp m ns) ≡ cond (same_pair cmp k m) (Some m) (find (same_pair cmp k) ns)
   find_inserted k m [] h = refl
-  find_inserted k m (n ∷ ns) h = by_order (pair_before cmp n m) (same_pair cmp m n) refl h (find_inserted k m ns)
-    where
-      exchanged : (a b : Bool) → same_pair cmp k m ≡ a → same_pair cmp k n ≡ b → same_pair cmp m n ≡ false
-          → cond b (Some n) (cond a (Some m) (find (same_pair cmp k) ns))
-          ≡ cond a (Some m) (cond b (Some n) (find (same_pair cmp k) ns))
-      exchanged true true e f apart = let both : same_pair cmp m n ≡ true = pair_like cmp order k m n e ∙ f in cc
-      exchanged true false e f apart = refl
-      exchanged false true e f apart = refl
-      exchanged false false e f apart = refl
-
-      by_order : (a b : Bool) → same_pair cmp m n ≡ b → cond b (Some n) (find (same_pair cmp m) ns) ≡ None
-          → (find (same_pair cmp m) ns ≡ None
-          → find (same_pair cmp k) (insert_by_pair cmp m ns)
-          ≡ cond (same_pair cmp k m) (Some m) (find (same_pair cmp k) ns))
-          → find (same_pair cmp k) (cond a (n ∷ insert_by_pair cmp m ns) (m ∷ n ∷ ns))
-          ≡ cond (same_pair cmp k m) (Some m) (cond (same_pair cmp k n) (Some n) (find (same_pair cmp k) ns))
-      by_order a true is none ih = cc
-      by_order true false is none ih =
-          ap (λ (o : Option (Message P)). cond (same_pair cmp k n) (Some n) o) (ih none)
-          ∙ exchanged (same_pair cmp k m) (same_pair cmp k n) refl refl is
-      by_order false false is none ih = refl
+  find_inserted k m (n ∷ ns) h = grind (arith, common_steps, pair_like, (find_inserted k m ns))
 
   -- ordering finds what was there
   pub find_by_pair : (ms : List (Message P)) → OneForEachPair cmp ms → (k : Message P)
       → find (same_pair cmp k) (by_pair cmp ms) ≡ find (same_pair cmp k) ms
   find_by_pair [] one k = refl
   find_by_pair (m ∷ ms) one k =
-      find_inserted k m (by_pair cmp ms) (find_by_pair ms one.1 m ∙ find_from_any (same_pair cmp m) ms one.0)
-      ∙ ap (λ (o : Option (Message P)). cond (same_pair cmp k m) (Some m) o) (find_by_pair ms one.1 k)
+      grind (arith, common_steps, find_inserted, find_from_any, (find_by_pair ms one.1 m), (find_by_pair ms one.1 k))
 
   before_inserted : (k m : Message P) (ns : List (Message P)) → pair_before cmp k m ≡ true → IsBeforeEach cmp k ns
       → IsBeforeEach cmp k (insert_by_pair cmp m ns)
   before_inserted k m [] e h = (e, tt)
-  before_inserted k m (n ∷ ns) e h = by_order (pair_before cmp n m) (before_inserted k m ns e h.1)
-    where
-      by_order : (b : Bool) → IsBeforeEach cmp k (insert_by_pair cmp m ns)
-          → IsBeforeEach cmp k (cond b (n ∷ insert_by_pair cmp m ns) (m ∷ n ∷ ns))
-      by_order true ih = (h.0, ih)
-      by_order false ih = (e, h)
+  before_inserted k m (n ∷ ns) e h = grind (arith, common_steps, (before_inserted k m ns e h.1))
 
   before_all : (m n : Message P) (ks : List (Message P)) → pair_before cmp m n ≡ true → IsBeforeEach cmp n ks
       → IsBeforeEach cmp m ks
@@ -185,20 +153,9 @@ module _ {P : Type 0} (cmp : P → P → Ordering) (order : IsTotalOrder cmp) wh
       → IsByPair cmp (insert_by_pair cmp m ns)
   inserted_by_pair m [] none h = (tt, tt)
   inserted_by_pair m (n ∷ ns) none h =
-      by_order (pair_before cmp n m) (same_pair cmp m n) refl refl none (λ e. inserted_by_pair m ns e h.1)
-    where
-      by_order : (a b : Bool) → pair_before cmp n m ≡ a → same_pair cmp m n ≡ b
-          → cond b (Some n) (find (same_pair cmp m) ns) ≡ None
-          → (find (same_pair cmp m) ns ≡ None → IsByPair cmp (insert_by_pair cmp m ns))
-          → IsByPair cmp (cond a (n ∷ insert_by_pair cmp m ns) (m ∷ n ∷ ns))
-      by_order a true before is e ih = cc
-      by_order true false before is e ih = (before_inserted n m ns before h.0, ih e)
-      by_order false false before is e ih =
-          let first : pair_before cmp m n ≡ true = before_if_not m n before is in
-          ((first, before_all m n ns first h.0), h)
+      grind (arith, common_steps, before_inserted, before_if_not, before_all, (inserted_by_pair m ns))
 
   pub ordered_by_pair : (ms : List (Message P)) → OneForEachPair cmp ms → IsByPair cmp (by_pair cmp ms)
   ordered_by_pair [] one = tt
   ordered_by_pair (m ∷ ms) one =
-      inserted_by_pair m (by_pair cmp ms) (find_by_pair ms one.1 m ∙ find_from_any (same_pair cmp m) ms one.0)
-      (ordered_by_pair ms one.1)
+      grind (arith, common_steps, inserted_by_pair, find_by_pair, find_from_any, (ordered_by_pair ms one.1))

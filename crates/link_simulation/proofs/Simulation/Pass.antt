@@ -1,14 +1,14 @@
 -- Waking is one pass through the pairs that are ready, in the order of pairs, and ends with nothing done and nothing
 -- ready.
+use Rattle.std.proofs.lemmas.Grind.{common_steps}
 use Rattle.link_simulation.proofs.Common.{◌≡◌, ℕ, zero, suc, ◌+◌, ◌≤◌, List, [], ◌∷◌, length, Bool, true, false, cond}
-use Rattle.link_simulation.proofs.Common.{not, Option, Some, None, refl, sym, ap, ◌∙◌, subst, arith, nat_le, ⊤, filter}
-use Rattle.link_simulation.proofs.Common.{find, list_any, Ordering, IsTotalOrder, not-true, without_first, Completed}
-use Rattle.link_simulation.proofs.Common.{Course, EndsWith, Flight, IsQuiet, World, and_then, complete, first_waiting}
-use Rattle.link_simulation.proofs.Common.{fronts, goes, is_done, last_moment, least_pair, may_start, meets, preceded}
-use Rattle.link_simulation.proofs.Common.{ready, settle, settle_within, start, start_next, turn, wake, wake_within}
-use Rattle.link_simulation.proofs.Common.{out_of_flight, is_late, completed, Message, OneForEachPair, pair_before}
-use Rattle.link_simulation.proofs.Common.{same_pair, FlowIdsUsedUp, MomentTooLate, Each, each_filtered, find_from_any}
-use Rattle.link_simulation.proofs.Common.{length-without_first}
+use Rattle.link_simulation.proofs.Common.{not, Option, Some, None, refl, sym, ap, ◌∙◌, subst, arith, ⊤, filter, find}
+use Rattle.link_simulation.proofs.Common.{list_any, Ordering, IsTotalOrder, not-true, Completed, Course, EndsWith}
+use Rattle.link_simulation.proofs.Common.{Flight, IsQuiet, World, and_then, complete, first_waiting, fronts, goes}
+use Rattle.link_simulation.proofs.Common.{is_done, least_pair, may_start, meets, preceded, ready, settle, settle_within}
+use Rattle.link_simulation.proofs.Common.{start, start_next, turn, wake, wake_within, out_of_flight, is_late, completed}
+use Rattle.link_simulation.proofs.Common.{Message, OneForEachPair, pair_before, same_pair, MomentTooLate, Each}
+use Rattle.link_simulation.proofs.Common.{each_filtered, find_from_any, length-without_first}
 use Rattle.link_simulation.specs.Simulation.Pass.{IsByPair, by_pair, wake_each}
 use Rattle.link_simulation.proofs.Simulation.Queue.{pair_like, pair_sym, settle_none, settle_first}
 use Rattle.link_simulation.proofs.Simulation.SettlingEnds.{length_without, ends_preceded, ends_and_then, ends_cond}
@@ -46,17 +46,11 @@ module _ {P : Type 0} (cmp : P → P → Ordering) (order : IsTotalOrder cmp) wh
   WaitAtMost n v = length v.waiting ≤ n
 
   start_waits : (n : ℕ) (w : World P) (m : Message P) → WaitAtMost n w → EndsWith (WaitAtMost n) (start cmp w m)
-  start_waits n w m h =
-      let fewer : length (without_first (same_pair cmp m) w.waiting) ≤ length w.waiting =
-      length-without_first (same_pair cmp m) w.waiting in
-      ends_cond (WaitAtMost n) (nat_le last_moment w.next_id) (meets FlowIdsUsedUp) _ tt (omega arith)
+  start_waits n w m h = grind (arith, common_steps, length-without_first, ends_cond)
 
   start_takes : (n : ℕ) (w : World P) (m x : Message P) → find (same_pair cmp m) w.waiting ≡ Some x
       → WaitAtMost (suc n) w → EndsWith (WaitAtMost n) (start cmp w m)
-  start_takes n w m x e h =
-      let fewer : length (without_first (same_pair cmp m) w.waiting) + 1 ≡ length w.waiting =
-      length_without (same_pair cmp m) x w.waiting e in
-      ends_cond (WaitAtMost n) (nat_le last_moment w.next_id) (meets FlowIdsUsedUp) _ tt (omega arith)
+  start_takes n w m x e h = grind (arith, common_steps, length_without, ends_cond)
 
   next_waits : (n t : ℕ) (w : World P) (o : Option (Message P)) → WaitAtMost n w
       → EndsWith (WaitAtMost n) (start_next cmp t w o)
@@ -118,13 +112,7 @@ module _ {P : Type 0} (cmp : P → P → Ordering) (order : IsTotalOrder cmp) wh
 
   ready_is_front : (t : ℕ) (w : World P) (k x : Message P) → find (same_pair cmp k) (ready cmp t w) ≡ Some x
       → find (same_pair cmp x) w.waiting ≡ Some x
-  ready_is_front t w k x e =
-      (found_in cmp order
-      (λ (n : Message P). (find (same_pair cmp n) w.waiting ≡ Some n) × (may_start cmp t w n ≡ true))
-      (same_pair cmp k) x (ready cmp t w)
-      (each_filtered (λ (n : Message P). find (same_pair cmp n) w.waiting ≡ Some n) (may_start cmp t w)
-      (fronts cmp w.waiting) (fronts_are_first cmp order w.waiting))
-      e).0
+  ready_is_front t w k x e = grind (arith, common_steps, found_in, each_filtered, fronts_are_first)
 
   ready_in_none : (t : ℕ) (w : World P) → w.waiting ≡ [] → ready cmp t w ≡ []
   ready_in_none t w e = rw e refl
@@ -158,10 +146,7 @@ module _ {P : Type 0} (cmp : P → P → Ordering) (order : IsTotalOrder cmp) wh
   -- after waking a settled world, nothing is done and nothing may start
   pub wake_ends_quiet : (t : ℕ) (w : World P) → list_any (is_done cmp w) w.sending ≡ false
       → EndsWith (IsQuiet cmp t) (wake cmp t w)
-  wake_ends_quiet t w none =
-      ends_more cmp order (NothingLeft t) (IsQuiet cmp t) (wake cmp t w)
-      (λ v k. record { none_done = any_from_find (is_done cmp v) v.sending k.0; none_ready = k.1 })
-      (wake_within_ends (length w.waiting) t w (find_from_any (is_done cmp w) w.sending none) (omega arith))
+  wake_ends_quiet t w none = grind (arith, common_steps, ends_more, any_from_find, wake_within_ends, find_from_any)
 
   -- ---- waking is one pass
 
@@ -264,29 +249,18 @@ module _ {P : Type 0} (cmp : P → P → Ordering) (order : IsTotalOrder cmp) wh
   one_in_filter : (keep : Message P → Bool) (xs : List (Message P)) → OneForEachPair cmp xs
       → OneForEachPair cmp (filter keep xs)
   one_in_filter keep [] one = tt
-  one_in_filter keep (x ∷ xs) one = by_test (keep x) (one_in_filter keep xs one.1)
-    where
-      by_test : (b : Bool) → OneForEachPair cmp (filter keep xs)
-          → OneForEachPair cmp (cond b (x ∷ filter keep xs) (filter keep xs))
-      by_test true ih = (any_none (same_pair cmp x) keep xs one.0, ih)
-      by_test false ih = ih
+  one_in_filter keep (x ∷ xs) one = grind (arith, common_steps, any_none, (one_in_filter keep xs one.1))
 
   pub one_in_fronts : (xs : List (Message P)) → OneForEachPair cmp (fronts cmp xs)
   one_in_fronts [] = tt
-  one_in_fronts (x ∷ xs) = (
-    any_from_find (same_pair cmp x) (filter (λ n. not (same_pair cmp x n)) (fronts cmp xs))
-        (find_without x x (fronts cmp xs) (pair_itself cmp order x)),
-    one_in_filter (λ n. not (same_pair cmp x n)) (fronts cmp xs) (one_in_fronts xs),
-  )
+  one_in_fronts (x ∷ xs) =
+      grind (arith, common_steps, any_from_find, find_without, pair_itself, one_in_filter, (one_in_fronts xs))
 
   -- waking goes once through those that are ready, in the order of pairs, with as many steps as wait or more
   pub wake_more_is_pass : (n t : ℕ) (w : World P) → list_any (is_done cmp w) w.sending ≡ false → WaitAtMost n w
       → wake_within cmp n t w ≡ wake_each cmp t (by_pair cmp (ready cmp t w)) w
   wake_more_is_pass n t w none h =
-      let one : OneForEachPair cmp (ready cmp t w) =
-      one_in_filter (may_start cmp t w) (fronts cmp w.waiting) (one_in_fronts w.waiting) in
-      wake_within_is_pass n t (by_pair cmp (ready cmp t w)) w none h (ordered_by_pair cmp order (ready cmp t w) one)
-      (find_by_pair cmp order (ready cmp t w) one)
+      grind (arith, common_steps, one_in_filter, one_in_fronts, wake_within_is_pass, ordered_by_pair, find_by_pair)
 
   pub wake_is_one_pass : (t : ℕ) (w : World P) → list_any (is_done cmp w) w.sending ≡ false
       → wake cmp t w ≡ wake_each cmp t (by_pair cmp (ready cmp t w)) w

@@ -1,11 +1,11 @@
 -- The number of messages is steps enough: settling ends with nothing done.
-use Rattle.link_simulation.proofs.Common.{◌≡◌, ℕ, zero, suc, ◌+◌, ◌≤◌, List, [], ◌∷◌, ◌++◌, length, Bool, true, false}
-use Rattle.link_simulation.proofs.Common.{cond, Option, Some, None, refl, sym, ◌∙◌, subst, arith, length-append, nat_le}
-use Rattle.link_simulation.proofs.Common.{find, Ordering, IsTotalOrder, without_first, Completed, Course, Flight, World}
-use Rattle.link_simulation.proofs.Common.{and_then, complete, first_waiting, goes, is_done, last_moment, may_start}
-use Rattle.link_simulation.proofs.Common.{meets, preceded, settle, settle_within, start, start_next, EndsWith}
-use Rattle.link_simulation.proofs.Common.{out_of_flight, is_late, completed, flight_of, Message, same_pair, enqueue}
-use Rattle.link_simulation.proofs.Common.{enqueue_each, FlowIdsUsedUp, MomentTooLate}
+use Rattle.std.proofs.lemmas.Grind.{common_steps}
+use Rattle.link_simulation.proofs.Common.{◌≡◌, ℕ, zero, suc, ◌+◌, ◌≤◌, List, [], ◌∷◌, length, Bool, true, false, cond}
+use Rattle.link_simulation.proofs.Common.{Option, Some, None, refl, sym, subst, arith, length-append, find, Ordering}
+use Rattle.link_simulation.proofs.Common.{IsTotalOrder, without_first, Completed, Course, Flight, World, and_then}
+use Rattle.link_simulation.proofs.Common.{complete, first_waiting, goes, is_done, meets, preceded, settle}
+use Rattle.link_simulation.proofs.Common.{settle_within, start, start_next, EndsWith, out_of_flight, is_late, completed}
+use Rattle.link_simulation.proofs.Common.{Message, same_pair, enqueue, enqueue_each, MomentTooLate}
 use Rattle.link_simulation.proofs.Simulation.Queue.{pair_like, settle_none, settle_first, find_passes}
 
 pub ends_preceded : {X S : Type 0} (Q : S → Type 0) (xs : List X) (c : Course X S) → EndsWith Q c
@@ -28,20 +28,12 @@ pub each_ends : {P : Type 0} (cmp : P → P → Ordering) (Q : World P → Type 
     → ((w : World P) (m : Message P) → Q w → EndsWith Q (enqueue cmp t w m))
     → (ms : List (Message P)) (w : World P) → Q w → EndsWith Q (enqueue_each cmp t w ms)
 each_ends cmp Q t step [] w h = h
-each_ends cmp Q t step (m ∷ ms) w h =
-    ends_and_then Q Q (enqueue cmp t w m) (λ v. enqueue_each cmp t v ms) (step w m h)
-    (λ v k. each_ends cmp Q t step ms v k)
+each_ends cmp Q t step (m ∷ ms) w h = grind (arith, common_steps, ends_and_then, (each_ends cmp Q t step ms))
 
 pub length_without : {X : Type 0} (test : X → Bool) (x : X) (xs : List X) → find test xs ≡ Some x
     → length (without_first test xs) + 1 ≡ length xs
 length_without test x [] e = cc
-length_without {X} test x (y ∷ ys) e = by_test (test y) e (length_without test x ys)
-  where
-    by_test : (b : Bool) → cond b (Some y) (find test ys) ≡ Some x
-        → (find test ys ≡ Some x → length (without_first test ys) + 1 ≡ length ys)
-        → length (cond b ys (y ∷ without_first test ys)) + 1 ≡ suc (length ys)
-    by_test true e ih = omega arith
-    by_test false e ih = let h : length (without_first test ys) + 1 ≡ length ys = ih e in omega arith
+length_without {X} test x (y ∷ ys) e = grind (arith, common_steps, (length_without test x ys))
 
 pub find_in_none : {X : Type 0} (test : X → Bool) (xs : List X) → length xs ≤ 0 → find test xs ≡ None
 find_in_none test [] h = refl
@@ -60,13 +52,7 @@ module _ {P : Type 0} (cmp : P → P → Ordering) (order : IsTotalOrder cmp) wh
       → HasAtMost n w → EndsWith (HasAtMost n) (start_next cmp t w o)
   next_has t n w m None e h = h
   next_has t n w m (Some x) e h =
-      let same : same_pair cmp m x ≡ true = find_passes (same_pair cmp m) x w.waiting e in
-      let fewer : length (without_first (same_pair cmp x) w.waiting) + 1 ≡ length w.waiting =
-      length_without (same_pair cmp x) x w.waiting (find_like m x w.waiting same ∙ e) in
-      let joined : length (w.sending ++ flight_of x ∷ []) ≡ length w.sending + 1
-      = length-append w.sending (flight_of x ∷ []) in
-      ends_cond (HasAtMost n) (may_start cmp t w x) (start cmp w x) (goes [] w)
-      (ends_cond (HasAtMost n) (nat_le last_moment w.next_id) (meets FlowIdsUsedUp) _ tt (omega arith)) h
+      grind (arith, common_steps, find_passes, length_without, find_like, length-append, ends_cond, start)
 
   pub complete_has : (t n : ℕ) (w : World P) (f : Flight P) → find (is_done cmp w) w.sending ≡ Some f
       → HasAtMost (suc n) w → EndsWith (HasAtMost n) (complete cmp t w f.message)

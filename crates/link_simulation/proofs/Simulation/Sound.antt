@@ -1,20 +1,19 @@
 -- Each call leads from a sound world to a sound world, and to one alone.
+use Rattle.std.proofs.lemmas.Grind.{common_steps}
 use Rattle.link_simulation.proofs.Common.{◌≡◌, ℕ, ◌+◌, List, [], ◌∷◌, ◌++◌, length, Bool, true, false, cond, Option}
-use Rattle.link_simulation.proofs.Common.{Some, None, refl, sym, ap, ◌∙◌, subst, arith, nat_le, ⊤, ◌&&◌, nat_lt}
-use Rattle.link_simulation.proofs.Common.{if◌then◌else◌, list_any, Ordering, IsTotalOrder, map-append, not-true}
-use Rattle.link_simulation.proofs.Common.{without_first, same_peer, Completed, Course, EndsWith, Flight, IsQuiet, World}
-use Rattle.link_simulation.proofs.Common.{and_then, complete, first_waiting, flows, fronts, goes, instant, is_done}
-use Rattle.link_simulation.proofs.Common.{is_idle, is_in_order, last_moment, later_of, least_pair, may_start, meets}
-use Rattle.link_simulation.proofs.Common.{new_world, raised, ready, settle, start, start_next, turn, wake}
-use Rattle.link_simulation.proofs.Common.{out_of_flight, is_late, completed, arrival, flight_of, Call, Runs, act}
-use Rattle.link_simulation.proofs.Common.{call_advance, call_enqueue, call_limit, call_enqueue_all, call_next}
-use Rattle.link_simulation.proofs.Common.{complete_at_once, enqueue, rebalance, limited_by, call_limit_link, linked_by}
-use Rattle.link_simulation.proofs.Common.{Caps, Message, OneForEachPair, same_pair, CapsAlike, PairsAlike, Parts}
-use Rattle.link_simulation.proofs.Common.{ArePositive, Drains, IsSound, Ticks, drain_each, no_tick, one_tick}
-use Rattle.link_simulation.proofs.Common.{tick_faults, FlowIdsUsedUp, MomentTooLate, peer_sym, each_filtered}
-use Rattle.link_simulation.specs.Simulation.Messages.{with_cap}
-use Rattle.link_simulation.specs.Simulation.Messages.{with_link}
-use Rattle.link_simulation.proofs.Simulation.Queue.{peer_like, one_without, one_pair_more, messages}
+use Rattle.link_simulation.proofs.Common.{Some, None, refl, sym, ◌∙◌, subst, arith, ⊤, ◌&&◌, nat_lt, if◌then◌else◌}
+use Rattle.link_simulation.proofs.Common.{Ordering, IsTotalOrder, map-append, not-true, without_first, same_peer}
+use Rattle.link_simulation.proofs.Common.{Completed, Course, EndsWith, Flight, IsQuiet, World, and_then, complete}
+use Rattle.link_simulation.proofs.Common.{first_waiting, flows, fronts, goes, instant, is_done, is_idle, last_moment}
+use Rattle.link_simulation.proofs.Common.{later_of, least_pair, may_start, meets, new_world, raised, ready, settle}
+use Rattle.link_simulation.proofs.Common.{start, start_next, turn, wake, out_of_flight, is_late, completed, arrival}
+use Rattle.link_simulation.proofs.Common.{Call, Runs, act, call_advance, call_enqueue, call_limit, call_enqueue_all}
+use Rattle.link_simulation.proofs.Common.{call_next, complete_at_once, enqueue, rebalance, limited_by, call_limit_link}
+use Rattle.link_simulation.proofs.Common.{linked_by, Caps, Message, OneForEachPair, same_pair, CapsAlike, PairsAlike}
+use Rattle.link_simulation.proofs.Common.{ArePositive, Drains, IsSound, Ticks, no_tick, one_tick, tick_faults}
+use Rattle.link_simulation.proofs.Common.{MomentTooLate, peer_sym, each_filtered}
+use Rattle.link_simulation.specs.Simulation.Messages.{with_cap, with_link}
+use Rattle.link_simulation.proofs.Simulation.Queue.{peer_like, one_without, one_pair_more}
 use Rattle.link_simulation.proofs.Simulation.SettlingEnds.{ends_preceded, ends_and_then, ends_cond, each_ends}
 use Rattle.link_simulation.proofs.Simulation.OtherPairs.{each_of, ends_more, Leaves, next_leaves, IsButFor}
 use Rattle.link_simulation.proofs.Simulation.PairOrder.{found_in, least_is}
@@ -31,11 +30,7 @@ positive_on (f ∷ fs) gs h k = (h.0, positive_on fs gs h.1 k)
 positive_without : {P : Type 0} (test : Flight P → Bool) (fs : List (Flight P)) → ArePositive fs
     → ArePositive (without_first test fs)
 positive_without test [] h = tt
-positive_without {P} test (f ∷ fs) h = by_test (test f) (positive_without test fs h.1)
-  where
-    by_test : (b : Bool) → ArePositive (without_first test fs) → ArePositive (cond b fs (f ∷ without_first test fs))
-    by_test true ih = h.1
-    by_test false ih = (h.0, ih)
+positive_without {P} test (f ∷ fs) h = grind (arith, common_steps, (positive_without test fs h.1))
 
 module _ {P : Type 0} (cmp : P → P → Ordering) (order : IsTotalOrder cmp) where
   -- what is in flight is over numbers above zero, and one message for each pair
@@ -44,30 +39,14 @@ module _ {P : Type 0} (cmp : P → P → Ordering) (order : IsTotalOrder cmp) wh
     pub one_each : OneForEachPair cmp (flows w)
 
   start_fit : (w : World P) (m : Message P) → is_idle cmp w m ≡ true → IsFit w → EndsWith IsFit (start cmp w m)
-  start_fit w m idle fit = ends_cond IsFit (nat_le last_moment w.next_id) (meets FlowIdsUsedUp) _ tt
-      (record {
-        positive = positive_on w.sending (flight_of m ∷ []) fit.positive (omega arith, tt);
-        one_each =
-            subst (OneForEachPair cmp) (sym (map-append (λ (g : Flight P). g.message) w.sending (flight_of m ∷ [])))
-            (one_pair_more cmp order (messages cmp order w.sending) m fit.one_each
-            (not-true (list_any (same_pair cmp m) (flows w)) idle));
-      })
+  start_fit w m idle fit = grind (arith, common_steps, ends_cond, positive_on, map-append, one_pair_more, not-true)
 
   idle_if_starts : (t : ℕ) (w : World P) (m : Message P) → may_start cmp t w m ≡ true → is_idle cmp w m ≡ true
-  idle_if_starts t w m e =
-      first_part (is_idle cmp w m) (is_in_order (w.last_arrival m.origin m.recipient) (t + m.latency)) e
-    where
-      first_part : (a b : Bool) → (a && b) ≡ true → a ≡ true
-      first_part true b e = refl
-      first_part false b e = e
+  idle_if_starts t w m e = grind (arith, common_steps)
 
   next_fit : (t : ℕ) (w : World P) (o : Option (Message P)) → IsFit w → EndsWith IsFit (start_next cmp t w o)
   next_fit t w None fit = fit
-  next_fit t w (Some m) fit = by_test (may_start cmp t w m) refl
-    where
-      by_test : (b : Bool) → may_start cmp t w m ≡ b → EndsWith IsFit (cond b (start cmp w m) (goes [] w))
-      by_test true e = start_fit w m (idle_if_starts t w m e) fit
-      by_test false e = fit
+  next_fit t w (Some m) fit = grind (arith, common_steps, start, start_fit, idle_if_starts)
 
   complete_fit : (t : ℕ) (w : World P) (m : Message P) → IsFit w → EndsWith IsFit (complete cmp t w m)
   complete_fit t w m fit =
@@ -104,15 +83,10 @@ module _ {P : Type 0} (cmp : P → P → Ordering) (order : IsTotalOrder cmp) wh
       wake_keeps cmp order IsFit t (λ v m e k. turn_fit t v m (ready_may_start t v m e) k) (length w.waiting) w fit
 
   pub instant_fit : (w : World P) → IsFit w → EndsWith IsFit (instant cmp w)
-  instant_fit w fit =
-      ends_and_then IsFit IsFit (settle cmp w.moment w) (λ v. wake cmp v.moment v) (settle_fit w.moment w fit)
-      (λ v k. wake_fit v.moment v k)
+  instant_fit w fit = grind (arith, common_steps, ends_and_then, settle_fit, wake_fit)
 
   pub drains_fit : (w v : World P) → Drains cmp w v → IsFit w → IsFit v
-  drains_fit w v d fit = subst IsFit (sym d.world) (record {
-    positive = drain_each_positive cmp order d.per d.rates 1 w.sending d.fair.fair.some_part fit.positive;
-    one_each = subst (OneForEachPair cmp) (sym (flows_drained cmp d.per d.rates 1 w.sending)) fit.one_each;
-  })
+  drains_fit w v d fit = grind (arith, common_steps, drain_each_positive, flows_drained)
 
   pub ticks_fit : {n : ℕ} {w : World P} {c : Course (Completed P) (World P)} → Ticks cmp n w c → IsFit w
       → EndsWith IsFit c
@@ -123,9 +97,7 @@ module _ {P : Type 0} (cmp : P → P → Ordering) (order : IsTotalOrder cmp) wh
   ticks_fit (tick_faults d i) fit = tt
 
   rebalance_fit : (t : ℕ) (w : World P) (caps : Caps P) → IsFit w → EndsWith IsFit (rebalance cmp t w caps)
-  rebalance_fit t w caps fit =
-      settle_fit t (record w { caps = caps; limited = true })
-      (record { positive = fit.positive; one_each = fit.one_each })
+  rebalance_fit t w caps fit = grind (arith, common_steps, settle_fit)
 
   enqueue_fit : (t : ℕ) (w : World P) (m : Message P) → IsFit w → EndsWith IsFit (enqueue cmp t w m)
   enqueue_fit t w m fit =
@@ -176,20 +148,14 @@ module _ {P : Type 0} (cmp : P → P → Ordering) (order : IsTotalOrder cmp) wh
           (sym (instant_of_quiet cmp order w (empty_is_quiet w.moment w (h e).0 (h e).1))) h
 
   drains_empty : (w v : World P) → Drains cmp w v → IsEmptyAtFirst w → IsEmptyAtFirst v
-  drains_empty w v d h =
-      subst IsEmptyAtFirst (sym d.world) (λ e. (ap (drain_each d.per d.rates 1) (h e).0 ∙ nothing d.rates, (h e).1))
-    where
-      nothing : (rates : Parts) → drain_each {P = P} d.per rates 1 [] ≡ []
-      nothing [] = refl
-      nothing (r ∷ rs) = refl
+  drains_empty w v d h = grind (arith, common_steps)
 
   ticks_empty : {n : ℕ} {w : World P} {c : Course (Completed P) (World P)} → Ticks cmp n w c → IsEmptyAtFirst w
       → EndsWith IsEmptyAtFirst c
   ticks_empty no_tick h = h
   ticks_empty (one_tick {w = w} {v = v} {u = u} {cs = cs} {rest = rest} d i t) h =
-      ends_preceded IsEmptyAtFirst cs rest
-      (ticks_empty t
-      (ends_at cmp order IsEmptyAtFirst (instant cmp v) cs u i (instant_empty v (drains_empty w v d h))))
+      grind (arith, common_steps, ends_preceded, ends_at, instant_empty, drains_empty, (ticks_empty t (ends_at cmp
+      order IsEmptyAtFirst (instant cmp v) cs u i (instant_empty v (drains_empty w v d h)))))
   ticks_empty (tick_faults d i) h = tt
 
   rebalance_empty : (t : ℕ) (w : World P) (caps : Caps P) → EndsWith IsEmptyAtFirst (rebalance cmp t w caps)
@@ -241,14 +207,7 @@ module _ {P : Type 0} (cmp : P → P → Ordering) (order : IsTotalOrder cmp) wh
       → ((p q r s : P) → same_peer cmp p q ≡ true → same_peer cmp r s ≡ true → last p r ≡ last q s)
       → (p q r s : P) → same_peer cmp p q ≡ true → same_peer cmp r s ≡ true
       → raised cmp last m at p r ≡ raised cmp last m at q s
-  raised_peerwise last m at h p q r s e f =
-      by_tests (same_peer cmp m.origin p) (same_peer cmp m.origin q) (same_peer cmp m.recipient r)
-      (same_peer cmp m.recipient s) (last p r) (last q s) (peer_alike m.origin p q e)
-      (peer_alike m.recipient r s f) (h p q r s e f)
-    where
-      by_tests : (a b c d : Bool) (x y : Option ℕ) → a ≡ b → c ≡ d → x ≡ y
-          → cond (a && c) (Some (later_of x at)) x ≡ cond (b && d) (Some (later_of y at)) y
-      by_tests a b c d x y e f g = rw (e, f, g) refl
+  raised_peerwise last m at h p q r s e f = grind (arith, common_steps, peer_alike)
 
   landed_peerwise : (w : World P) (fs : List (Flight P)) (m : Message P) (at : ℕ) → IsPeerwise w
       → IsPeerwise (record w { sending = fs; last_arrival = raised cmp w.last_arrival m at })
@@ -256,9 +215,7 @@ module _ {P : Type 0} (cmp : P → P → Ordering) (order : IsTotalOrder cmp) wh
       record { caps = h.caps; last_arrival = raised_peerwise w.last_arrival m at h.last_arrival }
 
   start_peerwise : (w : World P) (m : Message P) → IsPeerwise w → EndsWith (IsPeerwise) (start cmp w m)
-  start_peerwise w m h =
-      ends_cond (IsPeerwise) (nat_le last_moment w.next_id) (meets FlowIdsUsedUp) _ tt
-      (record { caps = h.caps; last_arrival = h.last_arrival })
+  start_peerwise w m h = grind (arith, common_steps, ends_cond)
 
   next_peerwise : (t : ℕ) (w : World P) (o : Option (Message P)) → IsPeerwise w
       → EndsWith (IsPeerwise) (start_next cmp t w o)
@@ -298,19 +255,14 @@ module _ {P : Type 0} (cmp : P → P → Ordering) (order : IsTotalOrder cmp) wh
       → EndsWith (IsPeerwise) c
   ticks_peerwise no_tick h = h
   ticks_peerwise (one_tick {w = w} {v = v} {u = u} {cs = cs} {rest = rest} d i t) h =
-      ends_preceded (IsPeerwise) cs rest
-      (ticks_peerwise t
-      (ends_at cmp order (IsPeerwise) (instant cmp v) cs u i (instant_peerwise v (drains_peerwise w v d h))))
+      grind (arith, common_steps, ends_preceded, ends_at, instant_peerwise, drains_peerwise, (ticks_peerwise t (ends_at
+      cmp order (IsPeerwise) (instant cmp v) cs u i (instant_peerwise v (drains_peerwise w v d h)))))
   ticks_peerwise (tick_faults d i) h = tt
 
   cap_peerwise : (caps : P → Option ℕ) (peer : P) (cap : Option ℕ)
       → ((p q : P) → same_peer cmp p q ≡ true → caps p ≡ caps q) → (p q : P) → same_peer cmp p q ≡ true
       → with_cap cmp caps peer cap p ≡ with_cap cmp caps peer cap q
-  cap_peerwise caps peer cap h p q e =
-      by_tests (same_peer cmp peer p) (same_peer cmp peer q) (caps p) (caps q) (peer_alike peer p q e) (h p q e)
-    where
-      by_tests : (a b : Bool) (x y : Option ℕ) → a ≡ b → x ≡ y → cond a cap x ≡ cond b cap y
-      by_tests a b x y e f = rw (e, f) refl
+  cap_peerwise caps peer cap h p q e = grind (arith, common_steps, peer_alike)
 
   link_peerwise : (links : P → P → Option ℕ) (origin recipient : P) (cap : Option ℕ) → PairsAlike cmp links links
       → PairsAlike cmp (with_link cmp links origin recipient cap) (with_link cmp links origin recipient cap)
@@ -319,9 +271,7 @@ module _ {P : Type 0} (cmp : P → P → Ordering) (order : IsTotalOrder cmp) wh
 
   rebalance_peerwise : (t : ℕ) (w : World P) (caps : Caps P) → CapsAlike cmp caps caps → IsPeerwise w
       → EndsWith IsPeerwise (rebalance cmp t w caps)
-  rebalance_peerwise t w caps same h =
-      settle_peerwise t (record w { caps = caps; limited = true })
-      (record { caps = same; last_arrival = h.last_arrival })
+  rebalance_peerwise t w caps same h = grind (arith, common_steps, settle_peerwise)
 
   enqueue_peerwise : (t : ℕ) (w : World P) (m : Message P) → IsPeerwise w → EndsWith IsPeerwise (enqueue cmp t w m)
   enqueue_peerwise t w m h =
@@ -337,21 +287,9 @@ module _ {P : Type 0} (cmp : P → P → Ordering) (order : IsTotalOrder cmp) wh
 
   act_peerwise : (call : Call P) (w : World P) → IsPeerwise w → EndsWith (IsPeerwise) (act cmp w call)
   act_peerwise (call_limit t peer egress ingress) w h =
-      rebalance_peerwise t w (limited_by cmp w.caps peer egress ingress)
-      (record {
-        egress = cap_peerwise w.caps.egress peer egress h.caps.egress;
-        ingress = cap_peerwise w.caps.ingress peer ingress h.caps.ingress;
-        link = h.caps.link;
-      })
-      h
+      grind (arith, common_steps, rebalance_peerwise, limited_by, cap_peerwise)
   act_peerwise (call_limit_link t origin recipient cap) w h =
-      rebalance_peerwise t w (linked_by cmp w.caps origin recipient cap)
-      (record {
-        egress = h.caps.egress;
-        ingress = h.caps.ingress;
-        link = link_peerwise w.caps.link origin recipient cap h.caps.link;
-      })
-      h
+      grind (arith, common_steps, rebalance_peerwise, link_peerwise)
   act_peerwise (call_enqueue t m) w h = enqueue_peerwise t w m h
   act_peerwise (call_enqueue_all t ms) w h = each_ends cmp IsPeerwise t (enqueue_peerwise t) ms w h
   act_peerwise (call_advance t) w h = h
@@ -360,31 +298,14 @@ module _ {P : Type 0} (cmp : P → P → Ordering) (order : IsTotalOrder cmp) wh
   -- ---- soundness
 
   pub new_world_sound : (id : ℕ) → IsSound cmp (new_world id)
-  new_world_sound id = record {
-    caps = record { egress = λ p q e. refl; ingress = λ p q e. refl; link = λ p q r s e f. refl };
-    last_arrival = λ p q r s e f. refl;
-    positive = tt;
-    one_each = tt;
-    empty_at_first = λ e. (refl, refl);
-  }
+  new_world_sound id = grind (arith, common_steps)
 
   abbrev IsKept : World P → Type 0
   IsKept v = IsFit v × (IsEmptyAtFirst v × IsPeerwise v)
 
   as_sound : (c : Course (Completed P) (World P)) → EndsWith IsFit c → EndsWith IsEmptyAtFirst c
       → EndsWith (IsPeerwise) c → EndsWith (IsSound cmp) c
-  as_sound c a b d =
-      ends_more cmp order IsKept (IsSound cmp) c
-      (λ v k.
-      record {
-        caps = k.1.1.caps;
-        last_arrival = k.1.1.last_arrival;
-        positive = k.0.positive;
-        one_each = k.0.one_each;
-        empty_at_first = k.1.0;
-      })
-      (ends_both IsFit (λ (v : World P). IsEmptyAtFirst v × IsPeerwise v) c a
-      (ends_both IsEmptyAtFirst (IsPeerwise) c b d))
+  as_sound c a b d = grind (arith, common_steps, ends_more, ends_both)
 
   as_fit : (w : World P) → IsSound cmp w → IsFit w
   as_fit w sound = record { positive = sound.positive; one_each = sound.one_each }
@@ -392,18 +313,14 @@ module _ {P : Type 0} (cmp : P → P → Ordering) (order : IsTotalOrder cmp) wh
   pub ticks_keep_sound : {n : ℕ} {w : World P} {c : Course (Completed P) (World P)} → Ticks cmp n w c → IsSound cmp w
       → EndsWith (IsSound cmp) c
   ticks_keep_sound {w = w} {c = c} t sound =
-      as_sound c (ticks_fit t (as_fit w sound)) (ticks_empty t sound.empty_at_first)
-      (ticks_peerwise t (as_peerwise w sound))
+      grind (arith, common_steps, as_sound, ticks_fit, as_fit, ticks_empty, ticks_peerwise, as_peerwise)
 
   pub act_keeps_sound : (call : Call P) (w : World P) → IsSound cmp w → EndsWith (IsSound cmp) (act cmp w call)
   act_keeps_sound call w sound =
-      as_sound (act cmp w call) (act_fit call w (as_fit w sound)) (act_empty call w sound.empty_at_first)
-      (act_peerwise call w (as_peerwise w sound))
+      grind (arith, common_steps, as_sound, act_fit, as_fit, act_empty, act_peerwise, as_peerwise)
 
   -- an accepted call leads from a sound world to a sound one
   pub call_keeps_sound : (w : World P) (call : Call P) (now : ℕ) (course : Course (Completed P) (World P))
       → IsSound cmp w → Runs cmp w call now course → EndsWith (IsSound cmp) course
   call_keeps_sound w call now course sound runs =
-      subst (EndsWith (IsSound cmp)) (sym runs.acts)
-      (ends_and_then (IsSound cmp) (IsSound cmp) runs.ticked (λ v. act cmp v call) (ticks_keep_sound runs.ticks sound)
-      (λ v k. act_keeps_sound call v k))
+      grind (arith, common_steps, ends_and_then, ticks_keep_sound, act_keeps_sound)

@@ -1,4 +1,5 @@
 -- Ticking for a while and then for another is ticking for both.
+use Rattle.std.proofs.lemmas.Grind.{common_steps}
 use Rattle.link_simulation.proofs.Common.{◌≡◌, ℕ, zero, suc, ◌+◌, List, [], ◌++◌, refl, sym, ap, ◌∙◌, subst, arith}
 use Rattle.link_simulation.proofs.Common.{append_assoc, Ordering, Completed, Course, World, goes, meets, preceded}
 use Rattle.link_simulation.proofs.Common.{Ticks, no_tick, one_tick, tick_faults, Error}
@@ -21,13 +22,7 @@ module _ {P : Type 0} (cmp : P → P → Ordering) where
   pub ticks_on : {a : ℕ} {w : World P} {course : Course (Completed P) (World P)} → Ticks cmp a w course
       → (b : ℕ) (v : World P) (cs : List (Completed P)) (c : Course (Completed P) (World P)) → course ≡ goes cs v
       → Ticks cmp b v c → Ticks cmp (b + a) w (preceded cs c)
-  ticks_on {w = w} no_tick b v cs c e more =
-      let same : v ≡ w = cc in
-      let empty : [] ≡ cs = cc in
-      let count : b ≡ b + 0 = omega arith in
-      subst (λ (ds : List (Completed P)). Ticks cmp (b + 0) w (preceded ds c)) empty
-      (subst (λ (d : Course (Completed P) (World P)). Ticks cmp (b + 0) w d) (sym (preceded_none c))
-      (subst (λ (k : ℕ). Ticks cmp k w c) count (subst (λ (u : World P). Ticks cmp b u c) same more)))
+  ticks_on {w = w} no_tick b v cs c e more = grind (arith, common_steps, preceded_none)
   ticks_on {w = w} (one_tick {n = n} {u = u} {cs = ds} {rest = rest} d i t) b v cs c e more =
       let r : (es : List (Completed P)) × (rest ≡ goes es v) × (ds ++ es ≡ cs) = rest_is ds rest cs v e in
       let later : Ticks cmp (b + n) u (preceded r.0 c) = ticks_on t b v r.0 c r.1 more in

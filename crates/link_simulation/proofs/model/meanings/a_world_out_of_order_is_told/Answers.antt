@@ -1,19 +1,9 @@
-use Rattle.link_simulation.proofs.Common.{◌≡◌, ℕ, [], ◌∷◌, Some, None, refl, subst, AllZip, whole, RatedFlight, Parts}
-use Rattle.link_simulation.proofs.Common.{rate_of, message}
-use Rattle.link_simulation.specs.Examples.Rows.{rated_flight}
+use Rattle.link_simulation.proofs.Common.{arith, refl, whole, rate_of}
+use Rattle.std.proofs.lemmas.Grind.{common_steps}
 use Rattle.link_simulation.proofs.model.meanings.a_world_out_of_order_is_told.Goals as goal
 
 pub returns-clause-rate : goal.returns-clause-rate
-returns-clause-rate c h =
-    let per = h.rated.per in
-    let rated : AllZip (λ rate (f : RatedFlight ℕ). f.rate ≡ rate_of per rate) (None ∷ [])
-    (rated_flight (message 1 2 1 0) (Some (whole 1)) ∷ []) =
-    subst
-    (λ (rates : Parts). AllZip (λ rate (f : RatedFlight ℕ). f.rate ≡ rate_of per rate) rates
-    (rated_flight (message 1 2 1 0) (Some (whole 1)) ∷ []))
-    h.rated.fair.rated h.rated.rated in
-    let clash : Some (whole 1) ≡ None = rated.0 in
-    cc
+returns-clause-rate c h = grind (arith, common_steps, rate_of, whole)
 
 pub returns-clause-pair : goal.returns-clause-pair
 returns-clause-pair c h = let clash = h.one_each.0 in cc

@@ -1,7 +1,8 @@
-use Rattle.link_simulation.proofs.Common.{◌≡◌, ℕ, List, [], ◌∷◌, ◌++◌, true, Some, refl, ap, sym, ◌∙◌, subst, AllZip}
-use Rattle.link_simulation.proofs.Common.{nat_cmp, nat_cmp_total, Message, World, Completed, goes, new_world, Call}
-use Rattle.link_simulation.proofs.Common.{call_enqueue, moment_of, Runs, Answers, no_calls, call_answers}
+use Rattle.link_simulation.proofs.Common.{arith, ◌≡◌, ℕ, List, [], ◌∷◌, ◌++◌, true, Some, refl, ap, sym, ◌∙◌, subst}
+use Rattle.link_simulation.proofs.Common.{AllZip, nat_cmp, nat_cmp_total, Message, World, Completed, goes, new_world}
+use Rattle.link_simulation.proofs.Common.{Call, call_enqueue, moment_of, Runs, Answers, no_calls, call_answers}
 use Rattle.link_simulation.proofs.Common.{SameCompletion, reply_done, message, arrives, bytes, AreInTurn, Completes}
+use Rattle.std.proofs.lemmas.Grind.{common_steps}
 use Rattle.link_simulation.proofs.Examples.ComputedReplies.{evenly, runs_so}
 use Rattle.link_simulation.proofs.Examples.ComputedDifferences.{in_turn}
 use Rattle.link_simulation.proofs.Simulation.OneRun.{runs_are_one}
@@ -14,11 +15,7 @@ first = call_enqueue 0 (message 1 2 1 0)
 -- a call of a new world is in turn
 turns : (m : Message ℕ) (cs : List (Completed ℕ))
     → AreInTurn nat_cmp (new_world 0) (call_enqueue 0 m ∷ []) (reply_done cs ∷ [])
-turns m cs = (
-  in_turn nat_cmp nat_cmp_total (evenly 1_000_000_000) 20 (new_world 0) 0 (new_world_sound nat_cmp nat_cmp_total 0)
-      refl,
-  λ now ds v at runs. tt,
-)
+turns m cs = grind (arith, common_steps, in_turn, nat_cmp_total, new_world_sound)
 
 -- before any limit it completes at once
 completes : (now : ℕ) (ds : List (Completed ℕ)) (v : World ℕ) → moment_of first ≡ Some now
@@ -49,9 +46,7 @@ returns-clause-lost c h =
     answers isolated.answers refl refl isolated.same
 
 pub returns-clause-others : goal.returns-clause-others
-returns-clause-others c isolated =
-    let clash : arrives (message 1 2 1 0) 0 0 ∷ [] ≡ [] = isolated.nothing_else.0 in
-    cc
+returns-clause-others c isolated = grind (arith, common_steps)
 
 pub returns-clause-order : goal.returns-clause-order
 returns-clause-order c h =

@@ -1,6 +1,7 @@
-use Rattle.link_simulation.proofs.Common.{◌≡◌, ℕ, List, [], ◌∷◌, ◌++◌, Bool, true, false, cond, refl, ap, subst, ◌&&◌}
-use Rattle.link_simulation.proofs.Common.{AllZip, nat_cmp, same_peer, Message, SameMessage, same_pair, Completed}
-use Rattle.link_simulation.proofs.Common.{IsCompletionOf, new_planned, message, arrives, of_pair, held_of}
+use Rattle.link_simulation.proofs.Common.{arith, ◌≡◌, ℕ, List, [], ◌∷◌, ◌++◌, Bool, true, false, cond, AllZip, nat_cmp}
+use Rattle.link_simulation.proofs.Common.{Message, SameMessage, same_pair, IsCompletionOf, new_planned, message}
+use Rattle.link_simulation.proofs.Common.{arrives, of_pair, held_of}
+use Rattle.std.proofs.lemmas.Grind.{common_steps}
 use Rattle.link_simulation.proofs.model.orderly.a_lost_message_is_not_conserved.Goals as goal
 
 abbrev m : Message ℕ
@@ -12,20 +13,10 @@ Make done messages = AllZip (SameMessage nat_cmp) (of_pair nat_cmp m done ++ hel
 
 -- what completes as the message does is of its pair
 of_its_pair : (d : Message ℕ) → IsCompletionOf (arrives m 1 1) d → same_pair nat_cmp m d ≡ true
-of_its_pair d (t, at, is) =
-    let origin : 1 ≡ d.origin = ap (λ (c : Completed ℕ). c.origin) is in
-    let recipient : 2 ≡ d.recipient = ap (λ (c : Completed ℕ). c.recipient) is in
-    subst (λ (p : ℕ). (same_peer nat_cmp 1 p && same_peer nat_cmp 2 d.recipient) ≡ true) origin
-    (subst (λ (p : ℕ). (same_peer nat_cmp 1 1 && same_peer nat_cmp 2 p) ≡ true) recipient refl)
+of_its_pair d (t, at, is) = grind (arith, common_steps)
 
 too_many : (d : Message ℕ) (ds : List (Message ℕ)) → same_pair nat_cmp m d ≡ true → Make (d ∷ ds) [] → ⊥
-too_many d ds is make = by_test (same_pair nat_cmp m d) is make
-  where
-    by_test : (b : Bool) → b ≡ true
-        → AllZip (SameMessage nat_cmp) (cond b (d ∷ of_pair nat_cmp m ds) (of_pair nat_cmp m ds) ++ held_of nat_cmp m
-        (new_planned 0)) [] → ⊥
-    by_test true is all = all
-    by_test false is all = cc
+too_many d ds is make = grind (arith, common_steps)
 
 pub returns-clause-lost : goal.returns-clause-lost
 returns-clause-lost c h = by_done h.done h.completions_are (h.each_pair m)

@@ -1,25 +1,15 @@
-use Rattle.link_simulation.proofs.Common.{◌≡◌, ℕ, ◌<◌, ◌^◌, [], ◌∷◌, arith, IfSome, All-nil, OutOfMemory, MomentTooLate}
-use Rattle.link_simulation.proofs.Common.{Message, Call, call_advance, moment_of, all_of_each}
+use Rattle.std.proofs.lemmas.Grind.{common_steps}
+use Rattle.link_simulation.proofs.Common.{◌≡◌, ℕ, [], ◌∷◌, arith, All-nil, OutOfMemory, MomentTooLate, call_advance}
+use Rattle.link_simulation.proofs.Common.{all_of_each}
 use Rattle.link_simulation.specs.Rule.Range.{AreInRange}
 use Rattle.link_simulation.proofs.model.range.a_later_call_excuses_no_refusal.Goals as goal
 
 -- one advance is in the range, and so are two
 one : AreInRange {P = ℕ} (call_advance 0 ∷ [])
-one = record {
-  moments =
-      all_of_each (λ (call : Call ℕ). IfSome (moment_of call) (λ now. now < 2 ^ 63)) (call_advance 0 ∷ [])
-      (omega arith, tt);
-  latencies = All-nil (λ (m : Message ℕ). m.latency < 2 ^ 63);
-  messages = omega arith;
-}
+one = grind (arith, common_steps, all_of_each, All-nil)
 
 two : AreInRange {P = ℕ} (call_advance 0 ∷ call_advance 0 ∷ [])
-two = record {
-  moments = all_of_each (λ (call : Call ℕ). IfSome (moment_of call) (λ now. now < 2 ^ 63))
-      (call_advance 0 ∷ call_advance 0 ∷ []) (omega arith, (omega arith, tt));
-  latencies = All-nil (λ (m : Message ℕ). m.latency < 2 ^ 63);
-  messages = omega arith;
-}
+two = grind (arith, common_steps, all_of_each, All-nil)
 
 pub returns-clause-after_done : goal.returns-clause-after_done
 returns-clause-after_done c refuses = let memory : MomentTooLate ≡ OutOfMemory = refuses.0 two in cc

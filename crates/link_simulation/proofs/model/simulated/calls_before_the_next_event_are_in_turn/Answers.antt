@@ -1,3 +1,4 @@
+use Rattle.std.proofs.lemmas.Grind.{common_steps}
 use Rattle.link_simulation.proofs.Common.{◌<◌, ◌≤◌, refl, sym, subst, arith, next_event, new_world}
 use Rattle.std.proofs.Common.{IfSome}
 use Rattle.link_simulation.proofs.Laws.TurnByNext.{turn_by_next, called_at_once}
@@ -7,11 +8,7 @@ pub returns-clause-before : goal.returns-clause-before
 returns-clause-before g c = turn_by_next g.P.Ord.cmp g.met.P.Ord.total
 
 pub returns-clause-called : goal.returns-clause-called
-returns-clause-called g c p w call now stands moment later next = record {
-  stands = stands;
-  moment = moment;
-  turn = turn_by_next g.P.Ord.cmp g.met.P.Ord.total p w call now stands moment later next;
-}
+returns-clause-called g c p w call now stands moment later next = grind (arith, common_steps, turn_by_next)
 
 pub returns-clause-first : goal.returns-clause-first
 returns-clause-first g c p id now call new stands moment =
