@@ -1,13 +1,12 @@
 -- Replies that do not agree with the simulation, found by computing: for worked examples.
-use Rattle.link_simulation.proofs.Common.{arith, ◌≡◌, ℕ, ◌-◌, ◌<◌, ◌≤◌, List, [], ◌∷◌, Bool, true, false, not, Option}
-use Rattle.link_simulation.proofs.Common.{Some, None, refl, sym, ◌∙◌, subst, ◌&&◌, ◌||◌, ◌==◌, nat_le, nat_lt, IfSome}
-use Rattle.link_simulation.proofs.Common.{AllZip, Ordering, IsTotalOrder, leb-true, ltb-true, eq-eqb, and_parts, Error}
+use Rattle.link_simulation.proofs.Common.{arith, ◌≡◌, ℕ, ◌-◌, ◌≤◌, List, [], ◌∷◌, Bool, true, false, not, Option, Some}
+use Rattle.link_simulation.proofs.Common.{None, refl, sym, ◌∙◌, subst, ◌&&◌, ◌||◌, ◌==◌, nat_le, nat_lt, AllZip}
+use Rattle.link_simulation.proofs.Common.{Ordering, IsTotalOrder, leb-true, ltb-true, eq-eqb, and_parts, Error}
 use Rattle.link_simulation.proofs.Common.{OutOfMemory, NumberTooLarge, MomentTooLate, FlowIdsUsedUp, same_peer, World}
 use Rattle.link_simulation.proofs.Common.{new_world, Completed, Course, goes, meets, EndsWith, IsSound, Call}
 use Rattle.link_simulation.proofs.Common.{call_limit, call_limit_link, call_enqueue, call_advance, call_enqueue_all}
 use Rattle.link_simulation.proofs.Common.{call_next, moment_of, Runs, IsBeforeNext, Reply, reply_done, reply_next}
 use Rattle.link_simulation.proofs.Common.{reply_refused, SameCompletion, Faults, MayRefuse, Agrees}
-use Rattle.std.proofs.lemmas.Grind.{common_steps}
 use Rattle.link_simulation.proofs.Simulation.OneNext.{next_is_one}
 use Rattle.link_simulation.proofs.Simulation.OneRun.{runs_are_one}
 use Rattle.link_simulation.proofs.Simulation.Sound.{call_keeps_sound, new_world_sound}
@@ -53,17 +52,9 @@ module _ {P : Type 0} (cmp : P → P → Ordering) (order : IsTotalOrder cmp) (p
 
   -- whether the course meets that fault
   abbrev pub is_met : Error → Course (Completed P) (World P) → Bool
-  is_met why (goes ds v) = false
-  is_met OutOfMemory (meets fault) = false
-  is_met NumberTooLarge (meets fault) = false
-  is_met MomentTooLate (meets OutOfMemory) = false
-  is_met MomentTooLate (meets NumberTooLarge) = false
   is_met MomentTooLate (meets MomentTooLate) = true
-  is_met MomentTooLate (meets FlowIdsUsedUp) = false
-  is_met FlowIdsUsedUp (meets OutOfMemory) = false
-  is_met FlowIdsUsedUp (meets NumberTooLarge) = false
-  is_met FlowIdsUsedUp (meets MomentTooLate) = false
   is_met FlowIdsUsedUp (meets FlowIdsUsedUp) = true
+  is_met _ _ = false
 
   -- whether the call does not meet it
   abbrev is_none_such : World P → Call P → ℕ → Error → Bool
@@ -119,8 +110,7 @@ module _ {P : Type 0} (cmp : P → P → Ordering) (order : IsTotalOrder cmp) (p
   each_shown [] [] all = refl
   each_shown [] (d ∷ ds) all = absurd all
   each_shown (c ∷ cs) [] all = absurd all
-  each_shown (c ∷ cs) (d ∷ ds) all =
-      grind (arith, common_steps, bytes_shown, eq-eqb, moment_shown, (each_shown cs ds all.1))
+  each_shown (c ∷ cs) (d ∷ ds) all = grind (arith, bytes_shown, eq-eqb, moment_shown, (each_shown cs ds))
 
   either : (a b : Bool) {R : Type 0} → (not a || b) ≡ true → a ≡ true → (b ≡ true → R) → R
   either true true e is next = next refl
@@ -131,22 +121,10 @@ module _ {P : Type 0} (cmp : P → P → Ordering) (order : IsTotalOrder cmp) (p
   pub in_turn : (n : ℕ) (w : World P) (now : ℕ) → IsSound cmp w → before_next n w now ≡ true → (w.moment ≤ now)
       × IsBeforeNext cmp now w
   in_turn n w now sound e =
-      let two : ((nat_le w.moment now && may_seek cmp order plan n w) ≡ true)
-      × (is_later (seek cmp order plan n w) now ≡ true)
-      = and_parts (nat_le w.moment now && may_seek cmp order plan n w) (is_later (seek cmp order plan n w) now) e in
-      let one : (nat_le w.moment now ≡ true) × (may_seek cmp order plan n w ≡ true) =
-      and_parts (nat_le w.moment now) (may_seek cmp order plan n w) two.0 in (
-        leb-true w.moment now one.0,
-        λ next is. by_next next
-            (next_is_one cmp order w next (seek cmp order plan n w) sound.positive is
-            (next_so cmp order plan n w one.1))
-            two.1,
-      )
-    where
-      by_next : (next : Option ℕ) → next ≡ seek cmp order plan n w → is_later (seek cmp order plan n w) now ≡ true
-          → IfSome next (λ t. now < t)
-      by_next None e later = tt
-      by_next (Some t) e later = ltb-true now t (subst (λ (o : Option ℕ). is_later o now ≡ true) (sym e) later)
+      grind (arith, next_is_one, is_later, ltb-true, (leb-true w.moment now (and_parts (nat_le w.moment now) (may_seek
+      cmp order plan n w) (and_parts (nat_le w.moment now && may_seek cmp order plan n w) (is_later (seek cmp order
+      plan n w) now) e).0).0), (next_so cmp order plan n w), (and_parts (nat_le w.moment now && may_seek cmp order plan
+      n w) (is_later (seek cmp order plan n w) now) e))
 
   abbrev Disagrees : ℕ → List (Call P) → List (Reply P) → Type 0
   Disagrees n calls replies =
@@ -164,9 +142,7 @@ module _ {P : Type 0} (cmp : P → P → Ordering) (order : IsTotalOrder cmp) (p
   not_done n w call calls now cs replies ih sound at e (now_too, ds, v, at_too, runs, same, rest) =
       let two : (may_tick cmp order plan (now - w.moment) w ≡ true)
       × (differ_done (course_of cmp order plan w call now) cs (λ u. differ n u calls replies) ≡ true)
-      =
-      and_parts (may_tick cmp order plan (now - w.moment) w)
-      (differ_done (course_of cmp order plan w call now) cs (λ u. differ n u calls replies)) e in
+      = grind (arith, and_parts) in
       let here : Some now_too ≡ Some now = sym at_too ∙ at in
       let it : now_too ≡ now = cc in
       let runs_here : Runs cmp w call now (goes ds v) = subst (λ (t : ℕ). Runs cmp w call t (goes ds v)) it runs in
@@ -174,8 +150,7 @@ module _ {P : Type 0} (cmp : P → P → Ordering) (order : IsTotalOrder cmp) (p
       =
       runs_are_one cmp order w call now (course_of cmp order plan w call now) (goes ds v) sound
       (runs_so cmp order plan w call now two.0) runs_here in
-      let left : (not (same_each cs ds) || differ n v calls replies) ≡ true =
-      subst (λ (c : Course (Completed P) (World P)). differ_done c cs (λ u. differ n u calls replies) ≡ true) one two.1
+      let left : (not (same_each cs ds) || differ n v calls replies) ≡ true = grind arith
       in
       let sound_v : EndsWith (IsSound cmp) (goes ds v) =
       call_keeps_sound cmp order w call now (goes ds v) sound runs_here in
@@ -188,9 +163,7 @@ module _ {P : Type 0} (cmp : P → P → Ordering) (order : IsTotalOrder cmp) (p
   met w call now why sound at e (now_too, at_too, runs) is =
       let two : (may_tick cmp order plan (now - w.moment) w ≡ true)
       × (not (is_met why (course_of cmp order plan w call now)) ≡ true)
-      =
-      and_parts (may_tick cmp order plan (now - w.moment) w)
-      (not (is_met why (course_of cmp order plan w call now))) e in
+      = grind (arith, and_parts) in
       let here : Some now_too ≡ Some now = sym at_too ∙ at in
       let it : now_too ≡ now = cc in
       let one : course_of cmp order plan w call now ≡ meets why
@@ -198,8 +171,7 @@ module _ {P : Type 0} (cmp : P → P → Ordering) (order : IsTotalOrder cmp) (p
       runs_are_one cmp order w call now (course_of cmp order plan w call now) (meets why) sound
       (runs_so cmp order plan w call now two.0)
       (subst (λ (t : ℕ). Runs cmp w call t (meets why)) it runs) in
-      let not_met : not (is_met why (meets why)) ≡ true =
-      subst (λ (c : Course (Completed P) (World P)). not (is_met why c) ≡ true) one two.1 in
+      let not_met : not (is_met why (meets why)) ≡ true = grind arith in
       let clash : not true ≡ true = subst (λ (b : Bool). not b ≡ true) is not_met in
       cc
 
@@ -214,10 +186,9 @@ module _ {P : Type 0} (cmp : P → P → Ordering) (order : IsTotalOrder cmp) (p
       → ¬ (MayRefuse cmp w call why × Agrees cmp w calls replies)
   not_refused n w call calls now OutOfMemory replies ih sound at e (may, rest) = ih w sound e rest
   not_refused n w call calls now NumberTooLarge replies ih sound at e (may, rest) = may
-  not_refused n w call calls now MomentTooLate replies ih sound at e (may, rest) =
-      grind (arith, common_steps, either_too, met)
-  not_refused n w call calls now FlowIdsUsedUp replies ih sound at e (may, rest) =
-      grind (arith, common_steps, either_too, met)
+  not_refused n w call calls now why replies ih sound at e (may, rest) =
+      either_too (is_none_such w call now why) (differ n w calls replies) e
+      (λ none. met w call now why sound at none may refl) (λ d. ih w sound d rest)
 
   -- such replies do not agree
   pub disagree : (n : ℕ) (calls : List (Call P)) (replies : List (Reply P)) → Disagrees n calls replies
@@ -227,52 +198,13 @@ module _ {P : Type 0} (cmp : P → P → Ordering) (order : IsTotalOrder cmp) (p
   disagree n (call_next ∷ calls) (reply_next t ∷ replies) w sound e agrees =
       let two : (may_seek cmp order plan n w ≡ true)
       × ((not (same_moment (seek cmp order plan n w) t) || differ n w calls replies) ≡ true)
-      =
-      and_parts (may_seek cmp order plan n w) (not (same_moment (seek cmp order plan n w) t) || differ n w calls
-      replies) e in
+      = grind (arith, and_parts, same_moment) in
       let same : seek cmp order plan n w ≡ t =
       next_is_one cmp order w (seek cmp order plan n w) t sound.positive (next_so cmp order plan n w two.0) agrees.0 in
       either (same_moment (seek cmp order plan n w) t) (differ n w calls replies) two.1
       (moment_shown (seek cmp order plan n w) t same) (λ d. disagree n calls replies w sound d agrees.1)
   disagree n (call_next ∷ calls) (reply_done cs ∷ replies) w sound e agrees = agrees
   disagree n (call_next ∷ calls) (reply_refused why ∷ replies) w sound e agrees = agrees
-  disagree n (call_limit now peer egress ingress ∷ calls) (reply_next t ∷ replies) w sound e agrees = agrees
-  disagree n (call_limit now peer egress ingress ∷ calls) (reply_done cs ∷ replies) w sound e agrees =
-      let two =
-      and_parts (before_next n w now) (differ_at w (call_limit now peer egress ingress) now (reply_done cs)
-      (λ v. differ n v calls replies)) e in
-      not_done n w (call_limit now peer egress ingress) calls now cs replies (disagree n calls replies) sound refl two.1
-      (agrees (in_turn n w now sound two.0))
-  disagree n (call_limit now peer egress ingress ∷ calls) (reply_refused why ∷ replies) w sound e agrees =
-      grind (arith, common_steps, and_parts, before_next, not_refused, in_turn, (disagree n calls replies))
-  disagree n (call_limit_link now origin recipient cap ∷ calls) (reply_next t ∷ replies) w sound e agrees = agrees
-  disagree n (call_limit_link now origin recipient cap ∷ calls) (reply_done cs ∷ replies) w sound e agrees =
-      let two =
-      and_parts (before_next n w now) (differ_at w (call_limit_link now origin recipient cap) now (reply_done cs)
-      (λ v. differ n v calls replies)) e in
-      not_done n w (call_limit_link now origin recipient cap) calls now cs replies (disagree n calls replies) sound refl
-      two.1 (agrees (in_turn n w now sound two.0))
-  disagree n (call_limit_link now origin recipient cap ∷ calls) (reply_refused why ∷ replies) w sound e agrees =
-      grind (arith, common_steps, and_parts, before_next, not_refused, in_turn, (disagree n calls replies))
-  disagree n (call_enqueue now m ∷ calls) (reply_next t ∷ replies) w sound e agrees = agrees
-  disagree n (call_enqueue_all now ms ∷ calls) (reply_next t ∷ replies) w sound e agrees = agrees
-  disagree n (call_enqueue now m ∷ calls) (reply_done cs ∷ replies) w sound e agrees =
-      let two =
-      and_parts (before_next n w now) (differ_at w (call_enqueue now m) now (reply_done cs)
-      (λ v. differ n v calls replies)) e in
-      not_done n w (call_enqueue now m) calls now cs replies (disagree n calls replies) sound refl two.1
-      (agrees (in_turn n w now sound two.0))
-  disagree n (call_enqueue_all now ms ∷ calls) (reply_done cs ∷ replies) w sound e agrees =
-      let two =
-      and_parts (before_next n w now) (differ_at w (call_enqueue_all now ms) now (reply_done cs)
-      (λ v. differ n v calls replies)) e in
-      not_done n w (call_enqueue_all now ms) calls now cs replies (disagree n calls replies) sound refl two.1
-      (agrees (in_turn n w now sound two.0))
-  disagree n (call_enqueue now m ∷ calls) (reply_refused why ∷ replies) w sound e agrees =
-      grind (arith, common_steps, and_parts, before_next, not_refused, in_turn, (disagree n calls replies))
-  disagree n (call_enqueue_all now ms ∷ calls) (reply_refused why ∷ replies) w sound e agrees =
-      grind (arith, common_steps, and_parts, before_next, not_refused, in_turn, (disagree n calls replies))
-  disagree n (call_advance now ∷ calls) (reply_next t ∷ replies) w sound e agrees = agrees
   disagree n (call_advance now ∷ calls) (reply_done cs ∷ replies) w sound e agrees =
       let two =
       and_parts (nat_le w.moment now) (differ_at w (call_advance now) now (reply_done cs)
@@ -280,7 +212,14 @@ module _ {P : Type 0} (cmp : P → P → Ordering) (order : IsTotalOrder cmp) (p
       not_done n w (call_advance now) calls now cs replies (disagree n calls replies) sound refl two.1
       (agrees (leb-true w.moment now two.0))
   disagree n (call_advance now ∷ calls) (reply_refused why ∷ replies) w sound e agrees =
-      grind (arith, common_steps, and_parts, not_refused, leb-true, (disagree n calls replies))
+      grind (arith, and_parts, not_refused, leb-true, (disagree n calls replies))
+  disagree n (call ∷ calls) (reply_next t ∷ replies) w sound e agrees = agrees
+  disagree n (call ∷ calls) (reply_done cs ∷ replies) w sound e agrees =
+      let two = and_parts _ _ e in
+      not_done n w call calls _ cs replies (disagree n calls replies) sound refl two.1
+      (agrees (in_turn n w _ sound two.0))
+  disagree n (call ∷ calls) (reply_refused why ∷ replies) w sound e agrees =
+      grind (arith, and_parts, not_refused, in_turn, (disagree n calls replies))
 
   -- from the new world on
   pub never_agree : (n id : ℕ) (calls : List (Call P)) (replies : List (Reply P))

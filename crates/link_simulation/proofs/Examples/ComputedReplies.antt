@@ -1,13 +1,12 @@
 -- Fairness, ticks and replies, found by computing: for worked examples.
-use Rattle.std.proofs.lemmas.Grind.{common_steps}
-use Rattle.link_simulation.proofs.Common.{map, ◌≡◌, ℕ, zero, suc, ◌+◌, ◌-◌, ◌*◌, ◌≤◌, List, [], ◌∷◌, length, Bool, true}
-use Rattle.link_simulation.proofs.Common.{false, cond, not, Option, Some, None, All, Contains, refl, sym, ap, subst}
-use Rattle.link_simulation.proofs.Common.{arith, max, ◌&&◌, ◌||◌, ◌==◌, nat_le, nat_lt, list_any, filter, AllZip}
-use Rattle.link_simulation.proofs.Common.{Ordering, IsTotalOrder, leb-true, ltb-true, eqb-true, and_parts, not-true}
+use Rattle.link_simulation.proofs.Common.{common_steps, ◌≡◌, ℕ, zero, suc, ◌+◌, ◌-◌, ◌*◌, ◌≤◌, List, [], ◌∷◌, length}
+use Rattle.link_simulation.proofs.Common.{Bool, true, false, cond, not, Option, Some, None, All, Contains, refl, sym}
+use Rattle.link_simulation.proofs.Common.{ap, subst, arith, max, ◌&&◌, ◌||◌, ◌==◌, nat_le, nat_lt, list_any, filter}
+use Rattle.link_simulation.proofs.Common.{AllZip, Ordering, IsTotalOrder, leb-true, ltb-true, eqb-true, and_parts}
 use Rattle.link_simulation.proofs.Common.{All-contains, All-nil, Contains-append_left, Contains-append_right, Side}
-use Rattle.link_simulation.proofs.Common.{load, IsFair, Message, capped_sides, rates_from, AreFair, Flight, fronts}
-use Rattle.link_simulation.proofs.Common.{may_start, World, Completed, Course, goes, meets, and_then, flows, instant}
-use Rattle.link_simulation.proofs.Common.{is_done, ready, IsQuiet, last_moment, Error, OutOfMemory, NumberTooLarge}
+use Rattle.link_simulation.proofs.Common.{load, IsFair, Message, capped_sides, rates_from, AreFair, fronts, may_start}
+use Rattle.link_simulation.proofs.Common.{World, Completed, Course, goes, meets, and_then, flows, instant, is_done}
+use Rattle.link_simulation.proofs.Common.{ready, IsQuiet, last_moment, Error, OutOfMemory, NumberTooLarge}
 use Rattle.link_simulation.proofs.Common.{MomentTooLate, FlowIdsUsedUp, drain_each, drifted, Drains, Ticks, no_tick}
 use Rattle.link_simulation.proofs.Common.{one_tick, tick_faults, Passes, no_time, quiet_tick, NextIs, never_comes}
 use Rattle.link_simulation.proofs.Common.{comes_next, Call, call_limit, call_limit_link, call_enqueue, call_advance}
@@ -17,7 +16,6 @@ use Rattle.link_simulation.proofs.Common.{MayRefuse}
 use Rattle.std.specs.List.{list_all}
 use Rattle.std.proofs.lemmas.List.Elements.{All-cons}
 use Rattle.fair_rates.specs.Fairness.Fair.{HasBottleneck}
-use Rattle.link_simulation.proofs.Simulation.AlikeMessages.{same_itself}
 use Rattle.link_simulation.proofs.Rule.Limit.{no_sides}
 
 -- ---- lists
@@ -65,9 +63,7 @@ module _ (per : ℕ) (parts : ℕ → ℕ) where
       let found : (side : Side) × Contains sides side × (holds flow side ≡ true) = one_found (holds flow) sides e in
       let side : Side = found.0 in
       let all : ((list_any (λ user. user == flow) side.users && (load parts side == side.cap * per)) ≡ true)
-      × (list_all (λ other. nat_le (parts other) (parts flow)) side.users ≡ true) =
-      and_parts (list_any (λ user. user == flow) side.users && (load parts side == side.cap * per))
-      (list_all (λ other. nat_le (parts other) (parts flow)) side.users) found.2 in
+      × (list_all (λ other. nat_le (parts other) (parts flow)) side.users ≡ true) = grind (arith, and_parts) in
       let two : (list_any (λ user. user == flow) side.users ≡ true) × ((load parts side == side.cap * per) ≡ true)
       = and_parts (list_any (λ user. user == flow) side.users) (load parts side == side.cap * per) all.0 in
       let user : (u : ℕ) × Contains side.users u × ((u == flow) ≡ true) = one_found (λ u. u == flow) side.users two.0 in
@@ -89,7 +85,7 @@ module _ (per : ℕ) (parts : ℕ → ℕ) where
 module _ {P : Type 0} (cmp : P → P → Ordering) (order : IsTotalOrder cmp) where
   pub same_all : (cs : List (Completed P)) → AllZip (SameCompletion cmp) cs cs
   same_all [] = tt
-  same_all (c ∷ cs) = grind (arith, common_steps, same_itself, (same_all cs))
+  same_all (c ∷ cs) = grind (arith, (same_all cs))
 
 -- ---- time
 
@@ -108,7 +104,7 @@ module _ {P : Type 0} (cmp : P → P → Ordering) (order : IsTotalOrder cmp) (p
   is_planned w = let shares : Shares = plan w in is_fair shares.per shares.parts (capped_sides cmp w.caps (flows w))
 
   drains : (w : World P) → is_planned w ≡ true → Drains cmp w (drifts w)
-  drains w e = grind (arith, common_steps, fair_if_so)
+  drains w e = grind (arith, fair_if_so)
 
   -- so many nanoseconds
   abbrev pub ticked : ℕ → World P → Course (Completed P) (World P)
@@ -125,10 +121,7 @@ module _ {P : Type 0} (cmp : P → P → Ordering) (order : IsTotalOrder cmp) (p
 
   pub ticks_so : (n : ℕ) (w : World P) → may_tick n w ≡ true → Ticks cmp n w (ticked n w)
   ticks_so zero w e = no_tick
-  ticks_so (suc n) w e =
-      let two : (is_planned w ≡ true) × (goes_on (instant cmp (drifts w)) (may_tick n) ≡ true) =
-      and_parts (is_planned w) (goes_on (instant cmp (drifts w)) (may_tick n)) e in
-      by_instant (instant cmp (drifts w)) refl two.1 (drains w two.0) (ticks_so n)
+  ticks_so (suc n) w e = grind (arith, goes_on, and_parts, by_instant, drains, (ticks_so n))
     where
       by_instant : (c : Course (Completed P) (World P)) → instant cmp (drifts w) ≡ c → goes_on c (may_tick n) ≡ true
           → Drains cmp w (drifts w)
@@ -162,18 +155,16 @@ module _ {P : Type 0} (cmp : P → P → Ordering) (order : IsTotalOrder cmp) (p
   empty_is (x ∷ xs) e = cc
 
   quiet_if_so : (w : World P) → is_quiet w ≡ true → IsQuiet cmp w.moment w
-  quiet_if_so w e = grind (arith, common_steps, and_parts, not-true, empty_is)
+  quiet_if_so w e = grind arith
 
   loud_if_not : (w : World P) → is_quiet w ≡ false → ¬ IsQuiet cmp w.moment w
-  loud_if_not w e quiet = grind (arith, common_steps)
+  loud_if_not w e quiet = grind arith
 
   -- an empty world rests for any time
   calm : (n : ℕ) (w : World P) → w.sending ≡ [] → w.waiting ≡ [] → (v : World P) × Passes cmp n w v
   calm zero w sends waits = (w, no_time)
   calm (suc n) w sends waits =
-      let fair : AreFair cmp w.caps (flows w) 1 [] =
-      subst (λ (fs : List (Flight P)). AreFair cmp w.caps (map (λ f. f.message) fs) 1 []) (sym sends)
-      (no_sides cmp w.caps) in
+      let fair : AreFair cmp w.caps (flows w) 1 [] = grind (arith, no_sides) in
       let on : World P = drifted w 1 [] 1 in
       let sends_on : on.sending ≡ [] = ap (drain_each 1 [] 1) sends in
       let rest : (v : World P) × Passes cmp n on v = calm n on sends_on waits in (
@@ -202,8 +193,7 @@ module _ {P : Type 0} (cmp : P → P → Ordering) (order : IsTotalOrder cmp) (p
 
   pub next_so : (n : ℕ) (w : World P) → may_seek n w ≡ true → NextIs cmp w (seek n w)
   next_so zero w e =
-      let two : (is_empty w.sending ≡ true) × (is_empty w.waiting ≡ true) =
-      and_parts (is_empty w.sending) (is_empty w.waiting) e in
+      let two : (is_empty w.sending ≡ true) × (is_empty w.waiting ≡ true) = grind (arith, and_parts) in
       never_comes (calm (last_moment - w.moment) w (empty_is w.sending two.0) (empty_is w.waiting two.1)).1
   next_so (suc n) w e =
       let two : (is_planned w ≡ true)
@@ -282,15 +272,8 @@ module _ {P : Type 0} (cmp : P → P → Ordering) (order : IsTotalOrder cmp) (p
       (replies : List (Reply P))
       → moment_of call ≡ Some now → may_tick (now - w.moment) w ≡ true → course_of w call now ≡ goes cs v
       → Agrees cmp v calls replies → Accepted w call calls cs replies
-  accepts w call calls now cs v replies at ticks is rest = (
-    now,
-    cs,
-    v,
-    at,
-    subst (λ (c : Course (Completed P) (World P)). Runs cmp w call now c) is (runs_so w call now ticks),
-    same_all cmp order cs,
-    rest,
-  )
+  accepts w call calls now cs v replies at ticks is rest =
+      grind (arith, (runs_so w call now ticks), (same_all cmp order cs))
 
   faults : (w : World P) (call : Call P) (now : ℕ) (fault : Error) → moment_of call ≡ Some now
       → may_tick (now - w.moment) w ≡ true → course_of w call now ≡ meets fault → Faults cmp w call fault
@@ -308,57 +291,41 @@ module _ {P : Type 0} (cmp : P → P → Ordering) (order : IsTotalOrder cmp) (p
       (replies : List (Reply P))
       → Replied w (call_limit now peer egress ingress) calls replies
       → Agrees cmp w (call_limit now peer egress ingress ∷ calls) replies
-  limit_agrees w now peer egress ingress calls [] h = h
-  limit_agrees w now peer egress ingress calls (reply_next t ∷ replies) h = h
-  limit_agrees w now peer egress ingress calls (reply_done cs ∷ replies) h = h
-  limit_agrees w now peer egress ingress calls (reply_refused why ∷ replies) h = h
+  limit_agrees w now peer egress ingress calls _ h = h
 
   link_agrees : (w : World P) (now : ℕ) (origin recipient : P) (cap : Option ℕ) (calls : List (Call P))
       (replies : List (Reply P))
       → Replied w (call_limit_link now origin recipient cap) calls replies
       → Agrees cmp w (call_limit_link now origin recipient cap ∷ calls) replies
-  link_agrees w now origin recipient cap calls [] h = h
-  link_agrees w now origin recipient cap calls (reply_next t ∷ replies) h = h
-  link_agrees w now origin recipient cap calls (reply_done cs ∷ replies) h = h
-  link_agrees w now origin recipient cap calls (reply_refused why ∷ replies) h = h
+  link_agrees w now origin recipient cap calls _ h = h
 
   enqueue_agrees : (w : World P) (now : ℕ) (m : Message P) (calls : List (Call P)) (replies : List (Reply P))
       → Replied w (call_enqueue now m) calls replies → Agrees cmp w (call_enqueue now m ∷ calls) replies
-  enqueue_agrees w now m calls [] h = h
-  enqueue_agrees w now m calls (reply_next t ∷ replies) h = h
-  enqueue_agrees w now m calls (reply_done cs ∷ replies) h = h
-  enqueue_agrees w now m calls (reply_refused why ∷ replies) h = h
+  enqueue_agrees w now m calls _ h = h
 
   all_agree : (w : World P) (now : ℕ) (ms : List (Message P)) (calls : List (Call P)) (replies : List (Reply P))
       → Replied w (call_enqueue_all now ms) calls replies → Agrees cmp w (call_enqueue_all now ms ∷ calls) replies
-  all_agree w now ms calls [] h = h
-  all_agree w now ms calls (reply_next t ∷ replies) h = h
-  all_agree w now ms calls (reply_done cs ∷ replies) h = h
-  all_agree w now ms calls (reply_refused why ∷ replies) h = h
+  all_agree w now ms calls _ h = h
 
   advance_agrees : (w : World P) (now : ℕ) (calls : List (Call P)) (replies : List (Reply P))
       → Replied w (call_advance now) calls replies
       → Agrees cmp w (call_advance now ∷ calls) replies
-  advance_agrees w now calls [] h = h
-  advance_agrees w now calls (reply_next t ∷ replies) h = h
-  advance_agrees w now calls (reply_done cs ∷ replies) h = h
-  advance_agrees w now calls (reply_refused why ∷ replies) h = h
+  advance_agrees w now calls _ h = h
 
   module _ (n : ℕ) (calls : List (Call P)) (ih : (v : World P) → may_answer n v calls ≡ true
       → Agrees cmp v calls (answers n v calls)) where
     reply_agrees : (w : World P) (call : Call P) (now : ℕ) → moment_of call ≡ Some now
         → (may_tick (now - w.moment) w && may_reply (course_of w call now) w (λ v. may_answer n v calls)) ≡ true
         → Replied w call calls (replied (course_of w call now) w (λ v. answers n v calls))
-    reply_agrees w call now at e = grind (arith, common_steps, and_parts, answers, accepts, faults)
+    reply_agrees w call now at e = grind (arith, and_parts, answers, accepts, faults)
 
   -- those replies agree
   pub answers_agree : (n : ℕ) (calls : List (Call P)) (w : World P) → may_answer n w calls ≡ true
       → Agrees cmp w calls (answers n w calls)
   answers_agree n [] w e = tt
   answers_agree n (call_limit now peer egress ingress ∷ calls) w e =
-      limit_agrees w now peer egress ingress calls
-      (replied (course_of w (call_limit now peer egress ingress) now) w (λ v. answers n v calls))
-      (reply_agrees n calls (answers_agree n calls) w (call_limit now peer egress ingress) now refl e)
+      grind (arith, common_steps, limit_agrees, answers, (reply_agrees n calls (answers_agree n calls) w (call_limit
+      now peer egress ingress) now refl e))
   answers_agree n (call_limit_link now origin recipient cap ∷ calls) w e =
       link_agrees w now origin recipient cap calls
       (replied (course_of w (call_limit_link now origin recipient cap) now) w (λ v. answers n v calls))
@@ -372,9 +339,7 @@ module _ {P : Type 0} (cmp : P → P → Ordering) (order : IsTotalOrder cmp) (p
   answers_agree n (call_advance now ∷ calls) w e =
       advance_agrees w now calls (replied (course_of w (call_advance now) now) w (λ v. answers n v calls))
       (reply_agrees n calls (answers_agree n calls) w (call_advance now) now refl e)
-  answers_agree n (call_next ∷ calls) w e =
-      grind (arith, common_steps, and_parts, next_so, (answers_agree n calls w (and_parts (may_seek n w) (may_answer n
-      w calls) e).1))
+  answers_agree n (call_next ∷ calls) w e = grind (arith, and_parts, next_so, (answers_agree n calls w))
 
 -- all messages share one cap evenly
 abbrev pub evenly : {P : Type 0} → ℕ → World P → Shares

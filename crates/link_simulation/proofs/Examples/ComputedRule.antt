@@ -1,13 +1,12 @@
 -- Calls by the event rule, and the replies to them, found by computing: for worked examples.
-use Rattle.std.proofs.lemmas.Grind.{common_steps}
-use Rattle.link_simulation.proofs.Common.{◌≡◌, ◌≢◌, ℕ, zero, suc, ◌+◌, ◌<◌, ◌≤◌, List, [], ◌∷◌, Bool, true, false, cond}
+use Rattle.link_simulation.proofs.Common.{◌≡◌, ◌≢◌, ℕ, zero, suc, ◌+◌, ◌≤◌, List, [], ◌∷◌, Bool, true, false, cond}
 use Rattle.link_simulation.proofs.Common.{Option, Some, None, refl, sym, ap, subst, arith, ◌∙◌, length, max, ◌&&◌, ◌==◌}
-use Rattle.link_simulation.proofs.Common.{nat_le, nat_lt, if◌then◌else◌, IfSome, filter, AllZip, Ordering, IsTotalOrder}
-use Rattle.link_simulation.proofs.Common.{leb-true, ltb-true, eqb-true, eq-eqb, and_parts, OutOfMemory, NumberTooLarge}
-use Rattle.link_simulation.proofs.Common.{MomentTooLate, FlowIdsUsedUp, Message, Caps, new_world, Completed, Course}
-use Rattle.link_simulation.proofs.Common.{goes, meets, last_moment, preceded, fronts, moment_of, Call, call_limit}
-use Rattle.link_simulation.proofs.Common.{call_limit_link, call_enqueue, call_advance, call_enqueue_all, call_next}
-use Rattle.link_simulation.proofs.Common.{limited_by, linked_by, Agrees, Reply, reply_done, reply_next, reply_refused}
+use Rattle.link_simulation.proofs.Common.{nat_le, nat_lt, if◌then◌else◌, filter, AllZip, Ordering, IsTotalOrder}
+use Rattle.link_simulation.proofs.Common.{ltb-true, eqb-true, eq-eqb, OutOfMemory, NumberTooLarge, MomentTooLate}
+use Rattle.link_simulation.proofs.Common.{FlowIdsUsedUp, Message, Caps, new_world, Completed, Course, goes, meets}
+use Rattle.link_simulation.proofs.Common.{last_moment, preceded, fronts, moment_of, Call, call_limit, call_limit_link}
+use Rattle.link_simulation.proofs.Common.{call_enqueue, call_advance, call_enqueue_all, call_next, limited_by}
+use Rattle.link_simulation.proofs.Common.{linked_by, Agrees, Reply, reply_done, reply_next, reply_refused}
 use Rattle.link_simulation.proofs.Common.{SameCompletion, new_planned, Planned, RatedFlight, next_event, next_of}
 use Rattle.link_simulation.proofs.Common.{may_launch, Launches, Rebalances, none_sending, some_sending}
 use Rattle.link_simulation.proofs.Common.{completed_at_once, with_queued, Enqueues, at_once, no_launch, launches}
@@ -86,14 +85,7 @@ module _ {P : Type 0} (cmp : P → P → Ordering) (order : IsTotalOrder cmp) (p
           (Some (completed_at_once cmp now p m))
           ≡ Some c
           → Enqueues cmp now m p c
-      by_limited true is e =
-          let found : (l : Course (Message P) (Planned P))
-          × (launch cmp order plan hint n now (with_queued cmp p m) (next_of cmp (with_queued cmp p m) m) ≡ Some l)
-          × (followed l (λ leavers mid. finish_all cmp order plan hint n now n leavers mid) ≡ Some c)
-          = bound (launch cmp order plan hint n now (with_queued cmp p m) (next_of cmp (with_queued cmp p m) m))
-          (λ l. followed l (λ leavers mid. finish_all cmp order plan hint n now n leavers mid)) c e in
-          by_launch found.0 is (launch_so cmp order plan hint n now (with_queued cmp p m)
-          (next_of cmp (with_queued cmp p m) m) found.0 found.1) found.2
+      by_limited true is e = grind (arith, bound, by_launch, launch_so)
       by_limited false is e = subst (Enqueues cmp now m p) (the_same e) (at_once is)
 
   abbrev pub each_at : ℕ → List (Message P) → Planned P → Option (Course (Completed P) (Planned P))
@@ -217,11 +209,7 @@ module _ {P : Type 0} (cmp : P → P → Ordering) (order : IsTotalOrder cmp) (p
           ≡ Some c
           → AreAdvanced now k
           → Advanced now p c
-      by_past t true is past e ih = (
-        0,
-        no_more (subst (λ (o : Option ℕ). IfSome o (λ s. now < s)) (sym is) (ltb-true now t past))
-            (wake_each_so cmp order plan hint n now (filter (may_launch cmp now p) (fronts cmp p.waiting)) p c e),
-      )
+      by_past t true is past e ih = grind (arith, no_more, ltb-true, wake_each_so)
       by_past t false is past e ih =
           let found : (d : Course (Completed P) (Planned P)) × (event_of p (Some t) ≡ Some d)
           × (followed d (λ cs q. bind (advance_at now k q) (λ rest. Some (preceded cs rest))) ≡ Some c)
@@ -234,11 +222,7 @@ module _ {P : Type 0} (cmp : P → P → Ordering) (order : IsTotalOrder cmp) (p
           (bind (event_of p o)
           (λ d. followed d (λ cs q. bind (advance_at now k q) (λ rest. Some (preceded cs rest))))) ≡ Some c
           → AreAdvanced now k → Advanced now p c
-      by_next None is e ih = (
-        0,
-        no_more (subst (λ (o : Option ℕ). IfSome o (λ s. now < s)) (sym is) tt)
-            (wake_each_so cmp order plan hint n now (filter (may_launch cmp now p) (fronts cmp p.waiting)) p c e),
-      )
+      by_next None is e ih = grind (arith, no_more, wake_each_so)
       by_next (Some t) is e ih = by_past t (nat_lt now t) is refl e ih
 
   abbrev pub obeys_at : Planned P → Call P → Option (Course (Completed P) (Planned P))
@@ -299,42 +283,27 @@ module _ {P : Type 0} (cmp : P → P → Ordering) (order : IsTotalOrder cmp) (p
       (replies : List (Reply P))
       → Replied p (call_limit now peer egress ingress) calls replies
       → Obeyed cmp p (call_limit now peer egress ingress ∷ calls) replies
-  limit_obeyed p now peer egress ingress calls [] h = h
-  limit_obeyed p now peer egress ingress calls (reply_next t ∷ replies) h = h
-  limit_obeyed p now peer egress ingress calls (reply_done cs ∷ replies) h = h
-  limit_obeyed p now peer egress ingress calls (reply_refused why ∷ replies) h = h
+  limit_obeyed p now peer egress ingress calls _ h = h
 
   link_obeyed : (p : Planned P) (now : ℕ) (origin recipient : P) (cap : Option ℕ) (calls : List (Call P))
       (replies : List (Reply P))
       → Replied p (call_limit_link now origin recipient cap) calls replies
       → Obeyed cmp p (call_limit_link now origin recipient cap ∷ calls) replies
-  link_obeyed p now origin recipient cap calls [] h = h
-  link_obeyed p now origin recipient cap calls (reply_next t ∷ replies) h = h
-  link_obeyed p now origin recipient cap calls (reply_done cs ∷ replies) h = h
-  link_obeyed p now origin recipient cap calls (reply_refused why ∷ replies) h = h
+  link_obeyed p now origin recipient cap calls _ h = h
 
   enqueue_obeyed : (p : Planned P) (now : ℕ) (m : Message P) (calls : List (Call P)) (replies : List (Reply P))
       → Replied p (call_enqueue now m) calls replies
       → Obeyed cmp p (call_enqueue now m ∷ calls) replies
-  enqueue_obeyed p now m calls [] h = h
-  enqueue_obeyed p now m calls (reply_next t ∷ replies) h = h
-  enqueue_obeyed p now m calls (reply_done cs ∷ replies) h = h
-  enqueue_obeyed p now m calls (reply_refused why ∷ replies) h = h
+  enqueue_obeyed p now m calls _ h = h
 
   all_obeyed : (p : Planned P) (now : ℕ) (ms : List (Message P)) (calls : List (Call P)) (replies : List (Reply P))
       → Replied p (call_enqueue_all now ms) calls replies
       → Obeyed cmp p (call_enqueue_all now ms ∷ calls) replies
-  all_obeyed p now ms calls [] h = h
-  all_obeyed p now ms calls (reply_next t ∷ replies) h = h
-  all_obeyed p now ms calls (reply_done cs ∷ replies) h = h
-  all_obeyed p now ms calls (reply_refused why ∷ replies) h = h
+  all_obeyed p now ms calls _ h = h
 
   advance_obeyed : (p : Planned P) (now : ℕ) (calls : List (Call P)) (replies : List (Reply P))
       → Replied p (call_advance now) calls replies → Obeyed cmp p (call_advance now ∷ calls) replies
-  advance_obeyed p now calls [] h = h
-  advance_obeyed p now calls (reply_next t ∷ replies) h = h
-  advance_obeyed p now calls (reply_done cs ∷ replies) h = h
-  advance_obeyed p now calls (reply_refused why ∷ replies) h = h
+  advance_obeyed p now calls _ h = h
 
   replied_so : (p : Planned P) (call : Call P) (calls : List (Call P)) (replies : List (Reply P))
       → ((q : Planned P) (others : List (Reply P)) → replies_by_rule q calls ≡ Some others → Obeyed cmp q calls others)
@@ -348,23 +317,11 @@ module _ {P : Type 0} (cmp : P → P → Ordering) (order : IsTotalOrder cmp) (p
     where
       by_course : (c : Course (Completed P) (Planned P)) → Obeys cmp p call c
           → replied_to c p (λ q. replies_by_rule q calls) ≡ Some replies → Replied p call calls replies
-      by_course (goes cs q) obeys e =
-          let found : (others : List (Reply P)) × (replies_by_rule q calls ≡ Some others)
-          × (Some (reply_done cs ∷ others) ≡ Some replies)
-          = bound (replies_by_rule q calls) (λ others. Some (reply_done cs ∷ others)) replies e in
-          subst (Replied p call calls) (the_same found.2) (cs, q, obeys, same_all cmp order cs, ih q found.0 found.1)
+      by_course (goes cs q) obeys e = grind (arith, bound, the_same, same_all)
       by_course (meets OutOfMemory) obeys e = cc
       by_course (meets NumberTooLarge) obeys e = cc
-      by_course (meets MomentTooLate) obeys e =
-          let found : (others : List (Reply P)) × (replies_by_rule p calls ≡ Some others)
-          × (Some (reply_refused MomentTooLate ∷ others) ≡ Some replies)
-          = bound (replies_by_rule p calls) (λ others. Some (reply_refused MomentTooLate ∷ others)) replies e in
-          subst (Replied p call calls) (the_same found.2) (obeys, ih p found.0 found.1)
-      by_course (meets FlowIdsUsedUp) obeys e =
-          let found : (others : List (Reply P)) × (replies_by_rule p calls ≡ Some others)
-          × (Some (reply_refused FlowIdsUsedUp ∷ others) ≡ Some replies)
-          = bound (replies_by_rule p calls) (λ others. Some (reply_refused FlowIdsUsedUp ∷ others)) replies e in
-          subst (Replied p call calls) (the_same found.2) (obeys, ih p found.0 found.1)
+      by_course (meets MomentTooLate) obeys e = grind (arith, bound, the_same)
+      by_course (meets FlowIdsUsedUp) obeys e = grind (arith, bound, the_same)
 
   pub obeyed_so : (p : Planned P) (calls : List (Call P)) (replies : List (Reply P))
       → replies_by_rule p calls ≡ Some replies → Obeyed cmp p calls replies
@@ -385,7 +342,7 @@ module _ {P : Type 0} (cmp : P → P → Ordering) (order : IsTotalOrder cmp) (p
   obeyed_so p (call_advance now ∷ calls) replies e =
       advance_obeyed p now calls replies
       (replied_so p (call_advance now) calls replies (λ q others h. obeyed_so q calls others h) e)
-  obeyed_so p (call_next ∷ calls) replies e = grind (arith, common_steps, bound, the_same, (obeyed_so p calls))
+  obeyed_so p (call_next ∷ calls) replies e = grind (arith, (obeyed_so p calls))
 
 -- ---- the simulation
 
@@ -396,9 +353,7 @@ are_in_time (call ∷ calls) =
 
 in_time_so : {P : Type 0} (calls : List (Call P)) → are_in_time calls ≡ true → InTime calls
 in_time_so [] e = tt
-in_time_so (call ∷ calls) e =
-    grind (arith, common_steps, and_parts, leb-true, the_same, (in_time_so calls (and_parts (elim (moment_of call) [
-    None ↦ true | Some now ↦ nat_le now last_moment ]) (are_in_time calls) e).1))
+in_time_so (call ∷ calls) e = grind (arith, (in_time_so calls))
 
 -- what the event rule replies agrees with the simulation
 pub agrees_by_rule : {P : Type 0} (cmp : P → P → Ordering) (order : IsTotalOrder cmp)
@@ -406,8 +361,7 @@ pub agrees_by_rule : {P : Type 0} (cmp : P → P → Ordering) (order : IsTotalO
     (replies : List (Reply P))
     → are_in_time calls ≡ true → replies_by_rule cmp order plan hint n (new_planned 0) calls ≡ Some replies
     → Agrees cmp (new_world 0) calls replies
-agrees_by_rule cmp order plan hint n calls replies times e =
-    grind (arith, common_steps, obeyed_agree, in_time_so, obeyed_so)
+agrees_by_rule cmp order plan hint n calls replies times e = grind (arith, obeyed_agree, in_time_so, obeyed_so)
 
 -- ---- plans
 

@@ -1,17 +1,16 @@
 -- The steps of the event rule, found by computing: accounts, looks, launches, finishes and wakes.
-use Rattle.std.proofs.lemmas.Grind.{common_steps}
 use Rattle.link_simulation.proofs.Common.{◌-◌, ◌≡◌, ℕ, zero, suc, ◌+◌, ◌<◌, ◌≤◌, List, [], ◌∷◌, ◌++◌, Bool, true, false}
 use Rattle.link_simulation.proofs.Common.{cond, not, Option, Some, None, refl, sym, ap, subst, arith, ◌∙◌, inl, inr}
 use Rattle.link_simulation.proofs.Common.{◌⊎◌, ◌&&◌, ◌||◌, ◌==◌, nat_le, nat_lt, if◌then◌else◌, slice_get, IfSome, find}
 use Rattle.link_simulation.proofs.Common.{list_any, filter, AllZip, Ordering, IsTotalOrder, leb-true, le-leb, ltb-true}
-use Rattle.link_simulation.proofs.Common.{eqb-true, eq-eqb, cases_lt, and_parts, MomentTooLate, FlowIdsUsedUp, Amount}
-use Rattle.link_simulation.proofs.Common.{Message, Caps, same_pair, capped_sides, rates_from, rate_of, is_unlimited}
-use Rattle.link_simulation.proofs.Common.{Completed, Course, goes, meets, last_moment, preceded, fronts, is_late}
-use Rattle.link_simulation.proofs.Common.{completed, Planned, RatedFlight, IsLeastMoment, rated_messages, left_at}
-use Rattle.link_simulation.proofs.Common.{SomeSpentAt, drained_to, next_of, may_launch, SomeReadyAt, is_spent, Accounts}
-use Rattle.link_simulation.proofs.Common.{PlansStart, launched, Launches, nothing_waits, too_early, no_id, starts}
-use Rattle.link_simulation.proofs.Common.{landed, Finishes, all_completed, late, stopped, completes, WakesEach}
-use Rattle.link_simulation.proofs.Common.{all_started, no_start, no_finish, starts_one, Settles, settling, In, Each}
+use Rattle.link_simulation.proofs.Common.{eqb-true, cases_lt, and_parts, MomentTooLate, FlowIdsUsedUp, Amount, Message}
+use Rattle.link_simulation.proofs.Common.{Caps, same_pair, capped_sides, rates_from, rate_of, is_unlimited, Completed}
+use Rattle.link_simulation.proofs.Common.{Course, goes, meets, last_moment, preceded, fronts, is_late, completed}
+use Rattle.link_simulation.proofs.Common.{Planned, RatedFlight, IsLeastMoment, rated_messages, left_at, SomeSpentAt}
+use Rattle.link_simulation.proofs.Common.{drained_to, next_of, may_launch, SomeReadyAt, is_spent, Accounts, PlansStart}
+use Rattle.link_simulation.proofs.Common.{launched, Launches, nothing_waits, too_early, no_id, starts, landed, Finishes}
+use Rattle.link_simulation.proofs.Common.{all_completed, late, stopped, completes, WakesEach, all_started, no_start}
+use Rattle.link_simulation.proofs.Common.{no_finish, starts_one, Settles, settling, In, Each}
 use Rattle.std.specs.List.{list_all}
 use Rattle.std.proofs.lemmas.Bool.{ltb-false}
 use Rattle.std.proofs.lemmas.Option.{same_Some}
@@ -70,8 +69,7 @@ module _ (Q : ℕ → Type 0) (test : ℕ → Bool) (yes : (t : ℕ) → test t 
     (no : (t : ℕ) → Q t → test t ≡ true) where
   seek_so : (n from : ℕ) (o : Option ℕ) → ((s : ℕ) → Q s → from ≤ s) → seek test n from ≡ Some o → IsLeastMoment Q o
   seek_so zero from o least e = cc
-  seek_so (suc n) from o least e =
-      grind (arith, common_steps, cases_lt, the_same, ltb-true, ltb-false, (seek_so n (from + 1) o))
+  seek_so (suc n) from o least e = grind (arith, (seek_so n))
 
   sought_so : (never : Bool) (n from : ℕ) (o : Option ℕ) → (never ≡ true → (s : ℕ) → Q s → ⊥)
       → ((s : ℕ) → Q s → from ≤ s) → sought never test n from ≡ Some o → IsLeastMoment Q o
@@ -145,7 +143,7 @@ module _ {P : Type 0} (cmp : P → P → Ordering) (order : IsTotalOrder cmp) (p
   so_if_spent : (s : ℕ) (fs : List (RatedFlight P)) (i : ℕ) (f : RatedFlight P) → slice_get fs i ≡ Some f
       → f.updated ≤ s → (left_at s f).num ≡ 0 → list_any (is_spent_at s) fs ≡ true
   so_if_spent s [] i f at le none = cc
-  so_if_spent s (g ∷ gs) zero f at le none = grind (arith, common_steps, the_same, le-leb, eq-eqb)
+  so_if_spent s (g ∷ gs) zero f at le none = grind arith
   so_if_spent s (g ∷ gs) (suc i) f at le none =
       ap (λ (b : Bool). is_spent_at s g || b) (so_if_spent s gs i f at le none) ∙ or-true (is_spent_at s g)
 
@@ -171,12 +169,7 @@ module _ {P : Type 0} (cmp : P → P → Ordering) (order : IsTotalOrder cmp) (p
       by_place : (i : ℕ) → slice_get (g ∷ gs) i ≡ Some f → is_positive g ≡ true
           → ((j : ℕ) → slice_get gs j ≡ Some f → (0 < f.left.den) × IfSome f.rate (λ r. 0 < r.den))
           → (0 < f.left.den) × IfSome f.rate (λ r. 0 < r.den)
-      by_place zero at here rest =
-          let same : g ≡ f = the_same at in
-          let test : is_positive f ≡ true = ap is_positive (sym same) ∙ here in
-          let two : (nat_lt 0 f.left.den ≡ true) × (elim f.rate [ None ↦ true | Some r ↦ nat_lt 0 r.den ] ≡ true)
-          = and_parts (nat_lt 0 f.left.den) (elim f.rate [ None ↦ true | Some r ↦ nat_lt 0 r.den ]) test in
-          (ltb-true 0 f.left.den two.0, positive_rate f.rate two.1)
+      by_place zero at here rest = grind (arith, the_same, and_parts, ltb-true, positive_rate)
       by_place (suc j) at here rest = rest j at
 
   skip_so : (t from : ℕ) (sending : List (RatedFlight P)) → may_skip t from sending ≡ true → (s : ℕ)
@@ -234,8 +227,7 @@ module _ {P : Type 0} (cmp : P → P → Ordering) (order : IsTotalOrder cmp) (p
       let shares : Shares = shares_of t p in
       let two : (is_fair shares.per shares.parts (capped_sides cmp p.caps (rated_messages sending)) ≡ true)
       × (bind (finish_from t sending) (λ o. Some (record p { sending = sending; accounted = t; finish = o })) ≡ Some q)
-      = given_so (is_fair shares.per shares.parts (capped_sides cmp p.caps (rated_messages sending)))
-      (bind (finish_from t sending) (λ o. Some (record p { sending = sending; accounted = t; finish = o }))) q e in
+      = grind (arith, given_so) in
       let found : (o : Option ℕ) × (finish_from t sending ≡ Some o) × (Some (record p {
         sending = sending;
         accounted = t;
@@ -247,21 +239,14 @@ module _ {P : Type 0} (cmp : P → P → Ordering) (order : IsTotalOrder cmp) (p
       × (sought (is_none_of sending) (λ s. list_any (is_spent_at s) sending) n from ≡ Some found.0)
       = given_so (may_skip t from sending)
       (sought (is_none_of sending) (λ s. list_any (is_spent_at s) sending) n from) found.0 found.1 in
-      let starts_at : (s : ℕ) → SomeSpentAt sending s → t ≤ s =
-      λ s some. let at : some.1.updated ≡ t = updated_at p.caps shares t 0 (staying t p) some.0 some.1 some.2 in
-      let le : some.1.updated ≤ s = some.3 in
-      omega arith in
+      let starts_at : (s : ℕ) → SomeSpentAt sending s → t ≤ s = grind (arith, updated_at) in
       let same : record p { sending = sending; accounted = t; finish = found.0 } ≡ q = the_same found.2 in
       subst (Accounts cmp t p (leavers_of t p)) same record {
         per = shares.per;
         rates = rates_from cmp p.caps shares.parts 0 (rated_messages sending);
         left = refl;
         stayed = stayed_so p.caps shares t 0 (staying t p);
-        fair = record {
-          parts = shares.parts;
-          fair = fair_if_so shares.per shares.parts (capped_sides cmp p.caps (rated_messages sending)) two.0;
-          rated = refl;
-        };
+        fair = grind (arith, fair_if_so);
         rated = rated_so p.caps shares t 0 (staying t p);
         finish =
             sought_so (SomeSpentAt sending) (λ s. list_any (is_spent_at s) sending) (λ s h. spent_if_so s sending h)
@@ -306,18 +291,16 @@ module _ {P : Type 0} (cmp : P → P → Ordering) (order : IsTotalOrder cmp) (p
     where
       among : (ms : List (Message P)) → In ms h.1.0 → list_any (may_launch cmp s p) ms ≡ true
       among [] has = absurd has
-      among (m ∷ ms) (inl same) =
-          let may : may_launch cmp s p m ≡ true = ap (may_launch cmp s p) same ∙ h.1.2 in rw may refl
-      among (m ∷ ms) (inr has) =
-          ap (λ (b : Bool). may_launch cmp s p m || b) (among ms has) ∙ or-true (may_launch cmp s p m)
+      among (m ∷ ms) (inl same) = grind arith
+      among (m ∷ ms) (inr has) = grind (arith, or-true, (among ms has))
 
   found_all : (test kind : Message P → Bool) (ws : List (Message P)) (m : Message P) → find test ws ≡ Some m
       → list_all kind ws ≡ true → kind m ≡ true
   found_all test kind [] m e all = cc
-  found_all test kind (w ∷ ws) m e all = grind (arith, common_steps, and_parts, the_same, (found_all test kind ws m))
+  found_all test kind (w ∷ ws) m e all = grind (arith, (found_all test kind ws m))
 
   never_ready : (p : Planned P) (s : ℕ) → all_busy p ≡ true → SomeReadyAt cmp p s → ⊥
-  never_ready p s e some = grind (arith, common_steps, found_all, and_parts)
+  never_ready p s e some = grind (arith, found_all, and_parts)
 
   pub look_so : (t : ℕ) (p q : Planned P) → look t p ≡ Some q → PlansStart cmp t p q
   look_so t p q e =
@@ -382,8 +365,7 @@ module _ {P : Type 0} (cmp : P → P → Ordering) (order : IsTotalOrder cmp) (p
       → finish_all t k ms p ≡ Some c → Finishes cmp t ms p c
   finish_all_so t zero ms p c e = cc
   finish_all_so t (suc k) [] p c e =
-      let found : (q : Planned P) × (look t p ≡ Some q) × (Some (goes [] q) ≡ Some c) =
-      bound (look t p) (λ q. Some (goes [] q)) c e in
+      let found : (q : Planned P) × (look t p ≡ Some q) × (Some (goes [] q) ≡ Some c) = grind (arith, bound) in
       subst (Finishes cmp t [] p) (the_same found.2) (all_completed (look_so t p found.0 found.1))
   finish_all_so t (suc k) (m ∷ ms) p c e = by_late (is_late cmp t m) refl e (finish_all_so t k)
     where
@@ -393,11 +375,7 @@ module _ {P : Type 0} (cmp : P → P → Ordering) (order : IsTotalOrder cmp) (p
           (λ rest. Some (preceded (completed cmp t m ∷ []) rest))) ≡ Some c → AreFinishes t k
           → Finishes cmp t (m ∷ ms) p c
       by_launch (meets fault) is l e ih = subst (Finishes cmp t (m ∷ ms) p) (the_same e) (stopped is l)
-      by_launch (goes more q) is l e ih =
-          let found : (rest : Course (Completed P) (Planned P)) × (finish_all t k (ms ++ more) q ≡ Some rest)
-          × (Some (preceded (completed cmp t m ∷ []) rest) ≡ Some c)
-          = bound (finish_all t k (ms ++ more) q) (λ rest. Some (preceded (completed cmp t m ∷ []) rest)) c e in
-          subst (Finishes cmp t (m ∷ ms) p) (the_same found.2) (completes is l (ih (ms ++ more) q found.0 found.1))
+      by_launch (goes more q) is l e ih = grind (arith, bound, the_same, completes)
 
       by_late : (b : Bool) → is_late cmp t m ≡ b
           → cond b (Some (meets MomentTooLate)) (bind (launch t (landed cmp t p m) (next_of cmp p m))
@@ -432,8 +410,7 @@ module _ {P : Type 0} (cmp : P → P → Ordering) (order : IsTotalOrder cmp) (p
   pub wake_each_so : (t : ℕ) (ms : List (Message P)) (p : Planned P) (c : Course (Completed P) (Planned P))
       → wake_each t ms p ≡ Some c → WakesEach cmp t ms p c
   wake_each_so t [] p c e =
-      let found : (q : Planned P) × (look t p ≡ Some q) × (Some (goes [] q) ≡ Some c) =
-      bound (look t p) (λ q. Some (goes [] q)) c e in
+      let found : (q : Planned P) × (look t p ≡ Some q) × (Some (goes [] q) ≡ Some c) = grind (arith, bound) in
       subst (WakesEach cmp t [] p) (the_same found.2) (all_started (look_so t p found.0 found.1))
   wake_each_so t (m ∷ ms) p c e =
       let found : (l : Course (Message P) (Planned P)) × (launch t p (next_of cmp p m) ≡ Some l)

@@ -1,5 +1,4 @@
 -- An example of many nanoseconds: at three bytes a second, one byte takes 333333334 of them.
-use Rattle.std.proofs.lemmas.Grind.{common_steps}
 use Rattle.link_simulation.proofs.Common.{◌≡◌, ℕ, ◌+◌, ◌<◌, ◌≤◌, [], ◌∷◌, Bool, true, false, Some, refl, arith, ◌==◌}
 use Rattle.link_simulation.proofs.Common.{nat_cmp, eqb-true, Amount, drained, whole, reduced, gcd_within, AreFair}
 use Rattle.link_simulation.proofs.Common.{capped_sides, World, IsQuiet, flows, NextIs, comes_next, drifted, message}
@@ -48,7 +47,7 @@ quiet : (k : ℕ) → 0 < k → k ≤ 333333333 → IsQuiet nat_cmp (0 + k) (dri
 quiet k h j = record { none_done = rw (at_speed, some_left k j) refl; none_ready = refl }
 
 not_quiet : ¬ IsQuiet nat_cmp 333333334 (drifted slow 1 (Some 3 ∷ []) 333333334)
-not_quiet q = grind (arith, common_steps, whole, at_speed, none_left)
+not_quiet q = grind (arith, whole, at_speed, none_left)
 
 -- the next event is its finish
 pub slow_next : NextIs nat_cmp (flying 3 (message 1 2 1 0)) (Some 333333334)

@@ -1,10 +1,9 @@
 -- Advancing to a moment and then on to a later one.
-use Rattle.std.proofs.lemmas.Grind.{common_steps}
-use Rattle.link_simulation.proofs.Common.{◌≡◌, ℕ, ◌+◌, ◌-◌, ◌≤◌, List, refl, sym, ap, subst, arith, append-nil, []}
-use Rattle.link_simulation.proofs.Common.{Ordering, IsTotalOrder, World, Completed, Course, goes, meets, preceded}
-use Rattle.link_simulation.proofs.Common.{and_then, Ticks, call_advance, Runs}
+use Rattle.link_simulation.proofs.Common.{common_steps, ◌≡◌, ℕ, ◌+◌, ◌-◌, ◌≤◌, List, refl, sym, ap, subst, arith}
+use Rattle.link_simulation.proofs.Common.{append-nil, [], Ordering, IsTotalOrder, World, Completed, Course, goes, meets}
+use Rattle.link_simulation.proofs.Common.{preceded, and_then, Ticks, call_advance, Runs}
 use Rattle.link_simulation.proofs.Simulation.Split.{ticks_on}
-use Rattle.link_simulation.proofs.Simulation.QuietInstants.{IsAt, ends_at, ticks_end_at}
+use Rattle.link_simulation.proofs.Simulation.QuietInstants.{ends_at, ticks_end_at}
 
 module _ {P : Type 0} (cmp : P → P → Ordering) (order : IsTotalOrder cmp) where
   -- an advance does no more than tick
@@ -22,9 +21,7 @@ module _ {P : Type 0} (cmp : P → P → Ordering) (order : IsTotalOrder cmp) wh
       → Runs cmp w (call_advance b) b (preceded cs course)
   advance_splits w v a b cs course after later first second =
       let first_ticks : Ticks cmp (a - w.moment) w (goes cs v) = ticks_of w a (goes cs v) first in
-      let at : v.moment ≡ w.moment + (a - w.moment) =
-      ends_at cmp order (IsAt cmp order (w.moment + (a - w.moment))) (goes cs v) cs v refl
-      (ticks_end_at cmp order first_ticks) in
+      let at : v.moment ≡ w.moment + (a - w.moment) = grind (arith, ends_at, ticks_end_at) in
       let all : Ticks cmp ((b - v.moment) + (a - w.moment)) w (preceded cs course) =
       ticks_on cmp first_ticks (b - v.moment) v cs course refl (ticks_of v b course second) in
       let count : (b - v.moment) + (a - w.moment) ≡ b - w.moment = omega arith in

@@ -1,16 +1,14 @@
 -- One message alone under caps takes its least time at the least of them.
-use Rattle.std.proofs.lemmas.Grind.{common_steps}
 use Rattle.link_simulation.proofs.Common.{◌≡◌, ℕ, zero, suc, ◌+◌, ◌-◌, ◌*◌, ◌<◌, ◌≤◌, inl, inr, List, [], ◌∷◌, length}
-use Rattle.link_simulation.proofs.Common.{Bool, true, false, Option, Some, Contains, sum_by, refl, sym, ap, ◌∙◌, subst}
-use Rattle.link_simulation.proofs.Common.{arith, add-one, ◌||◌, ◌==◌, list_any, Ordering, IsTotalOrder, eq-eqb}
-use Rattle.link_simulation.proofs.Common.{All-contains, Amount, whole, reduced, drained, Side, load, World, Flight}
-use Rattle.link_simulation.proofs.Common.{goes, flight_of, last_moment, is_in_order, is_done, is_late, completed}
-use Rattle.link_simulation.proofs.Common.{completion_of, instant, settle, IsQuiet, preceded, out_of_flight}
-use Rattle.link_simulation.proofs.Common.{call_advance, Runs, Message, Caps, is_delivered, AreFair, capped_sides}
-use Rattle.link_simulation.proofs.Common.{is_unlimited, Drains, Passes, no_time, quiet_tick, Ticks, NextIs, comes_next}
-use Rattle.link_simulation.proofs.Common.{In, All-from_contains}
+use Rattle.link_simulation.proofs.Common.{true, false, Option, Some, Contains, refl, sym, ap, ◌∙◌, subst, arith}
+use Rattle.link_simulation.proofs.Common.{add-one, ◌||◌, ◌==◌, list_any, Ordering, IsTotalOrder, eq-eqb, All-contains}
+use Rattle.link_simulation.proofs.Common.{Amount, whole, reduced, drained, Side, load, World, Flight, goes, flight_of}
+use Rattle.link_simulation.proofs.Common.{last_moment, is_in_order, is_done, is_late, completed, completion_of, instant}
+use Rattle.link_simulation.proofs.Common.{settle, IsQuiet, out_of_flight, call_advance, Runs, Message, Caps}
+use Rattle.link_simulation.proofs.Common.{is_delivered, AreFair, capped_sides, is_unlimited, Drains, Passes, no_time}
+use Rattle.link_simulation.proofs.Common.{quiet_tick, Ticks, NextIs, comes_next, In, All-from_contains}
 use Rattle.std.proofs.Common.{le_refl, ◌↔◌}
-use Rattle.std.proofs.lemmas.Bool.{ne_eqb, lt-leb}
+use Rattle.std.proofs.lemmas.Bool.{ne_eqb}
 use Rattle.link_simulation.specs.Laws.Alone.{IsTimeFor, IsLeastCap, MayGoAlone, IsDoneAfter}
 use Rattle.fair_rates.specs.Numbers.LowestTerms.{reduced_lowest, whole_IsReduced}
 use Rattle.link_simulation.specs.Simulation.Calls.{join}
@@ -32,11 +30,11 @@ module _ {P : Type 0} (cmp : P → P → Ordering) (order : IsTotalOrder cmp) wh
 
     uses_own : (k : Kind) (cap : ℕ) → cap_at cmp caps k m ≡ Some cap → uses_at cmp caps k m m ≡ true
     uses_own at_egress cap is = same_itself cmp order m.origin
-    uses_own at_ingress cap is = grind (arith, common_steps, same_itself)
+    uses_own at_ingress cap is = grind arith
     uses_own at_link cap is = pair_itself cmp order m
 
     limited_by : (k : Kind) (cap : ℕ) → cap_at cmp caps k m ≡ Some cap → is_unlimited cmp caps m ≡ false
-    limited_by k cap is = grind (arith, common_steps)
+    limited_by k cap is = grind arith
 
     -- it is the one user of each of its sides, and uses some
     own_side : (s : Side) → Contains sides s → (s.users ≡ 0 ∷ []) × (is_unlimited cmp caps m ≡ false)
@@ -48,15 +46,11 @@ module _ {P : Type 0} (cmp : P → P → Ordering) (order : IsTotalOrder cmp) wh
 
         by_kind : (n : Message P) × In (m ∷ []) n × ((k : Kind) × (cap : ℕ) × (cap_at cmp caps k n ≡ Some cap)
             × (s ≡ side_at cmp caps k (m ∷ []) n cap)) → (s.users ≡ 0 ∷ []) × (is_unlimited cmp caps m ≡ false)
-        by_kind (n, inl same, (k, cap, is, e)) =
-            by_own k cap (subst (λ (x : Message P). cap_at cmp caps k x ≡ Some cap) (sym same) is)
-            (e ∙ ap (λ (x : Message P). side_at cmp caps k (m ∷ []) x cap) (sym same))
+        by_kind (n, inl same, (k, cap, is, e)) = grind (arith, by_own)
         by_kind (n, inr none, rest) = absurd none
 
     alone_load : (cap : ℕ) (s : Side) → Contains sides s → load (λ _. cap) s ≡ cap
-    alone_load cap s has =
-        let one : sum_by {X = ℕ} (λ _. cap) (0 ∷ []) ≡ cap = omega arith in
-        ap (λ (users : List ℕ). sum_by (λ _. cap) users) (own_side s has).0 ∙ one
+    alone_load cap s has = grind (arith, (own_side s has))
 
     alone_rate : (cap : ℕ) → IsLeastCap cmp caps m cap → AreFair cmp caps (m ∷ []) 1 (Some cap ∷ [])
     alone_rate cap is =
@@ -158,7 +152,7 @@ module _ {P : Type 0} (cmp : P → P → Ordering) (order : IsTotalOrder cmp) wh
 
     completes : is_late cmp (now + suc k) m ≡ false
         → instant cmp (later (suc k)) ≡ goes (completed cmp (now + suc k) m ∷ []) landed
-    completes in_time = grind (arith, common_steps, later, gone, settle_first)
+    completes in_time = grind (arith, later, gone, settle_first)
 
     advances : is_late cmp (now + suc k) m ≡ false
         → Runs cmp sent (call_advance (now + suc k)) (now + suc k) (goes (completed cmp (now + suc k) m ∷ []) landed)
@@ -196,7 +190,7 @@ module _ {P : Type 0} (cmp : P → P → Ordering) (order : IsTotalOrder cmp) wh
       → settle cmp now (world caps last (id + 1) (flight_of m ∷ []) now)
       ≡ goes [] (world caps last (id + 1) (flight_of m ∷ []) now)
       → join cmp now (world caps last id [] now) m ≡ goes [] (world caps last (id + 1) (flight_of m ∷ []) now)
-  starts caps last id now m in_order below rests = grind (arith, common_steps, lt-leb, pair_itself)
+  starts caps last id now m in_order below rests = grind arith
 
   from_idle : (caps : Caps P) (last : P → P → Option ℕ) (id t : ℕ) (m : Message P) (now cap k : ℕ)
       → is_in_order (last m.origin m.recipient) (now + m.latency) ≡ true → id < last_moment
@@ -206,19 +200,10 @@ module _ {P : Type 0} (cmp : P → P → Ordering) (order : IsTotalOrder cmp) wh
   from_idle caps last id t m now cap k in_order below after least some is_time within in_time =
       let there : t + (now - t) ≡ now = omega arith in
       let waits : Ticks cmp (now - t) (world caps last id [] t) (goes [] (world caps last id [] now)) =
-      ticks_quiet cmp order
-      (subst (λ s. Passes cmp (now - t) (world caps last id [] t) (world caps last id [] s)) there
-      (idle_passes (now - t) caps last id t)) in
+          grind (arith, ticks_quiet, idle_passes) in
       record {
         sent = world caps last (id + 1) (flight_of m ∷ []) now;
-        sends = record {
-          ticked = goes [] (world caps last id [] now);
-          ticks = waits;
-          acts =
-              sym
-              (ap (preceded [])
-              (starts caps last id now m in_order below (rests caps last (id + 1) m now cap k least is_time some)));
-        };
+        sends = grind (arith, starts, rests);
         next = comes caps last (id + 1) m now cap k least is_time some within;
         after = landed caps last (id + 1) m now cap k least is_time some;
         done = advances caps last (id + 1) m now cap k least is_time some in_time;
@@ -230,24 +215,8 @@ module _ {P : Type 0} (cmp : P → P → Ordering) (order : IsTotalOrder cmp) wh
       → IsDoneAfter cmp w now m time
   alone w m now cap zero may after least some is_time within in_time = absurd (omega (arith, is_time.covers))
   alone w m now cap (suc k) may after least some is_time within in_time =
-      subst (λ (v : World P). IsDoneAfter cmp v now m (suc k)) same
-      (from_idle w.caps w.last_arrival w.next_id w.moment m now cap k may.in_order may.has_id after least some is_time
-      within in_time)
-    where
-      made : Bool → List (Flight P) → List (Message P) → World P
-      made limited fs ms =
-          record {
-            caps = w.caps;
-            limited = limited;
-            sending = fs;
-            waiting = ms;
-            last_arrival = w.last_arrival;
-            next_id = w.next_id;
-            moment = w.moment;
-          }
-
-      same : world w.caps w.last_arrival w.next_id [] w.moment ≡ w
-      same = rw (← may.limited, ← may.none_sending, ← may.none_waiting) refl
+      grind (arith, limited, (from_idle w.caps w.last_arrival w.next_id w.moment m now cap k may.in_order may.has_id
+      after least some is_time within in_time))
 
   pub delivered_arrives : (m : Message P) (t : ℕ) → is_delivered cmp m ≡ true
       → completed cmp t m ≡ completion_of m t (Some (t + m.latency))

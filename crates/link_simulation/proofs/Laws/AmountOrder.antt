@@ -1,5 +1,4 @@
 -- The order of amounts and of their sums.
-use Rattle.std.proofs.lemmas.Grind.{common_steps}
 use Rattle.link_simulation.proofs.Common.{◌≡◌, ℕ, ◌+◌, ◌-◌, ◌*◌, ◌<◌, ◌≤◌, ap, arith, mul-pos, IsAtMost, plus, Amount}
 use Rattle.link_simulation.proofs.Common.{billion, drained, reduced, whole, reduced_positive}
 use Rattle.std.proofs.Math.Nat.{mul-le-mul_left, mul-le-mul_right, le_of_mul-le-mul_right}
@@ -61,7 +60,7 @@ plus_shares x u y v a t d h k = over x.num x.den u.num u.den y.num y.den v.num v
 -- whole bytes beside them
 pub plus_whole : (x y : Amount) (n t d : ℕ) → IsAtMost x (plus y (share t d))
     → IsAtMost (plus x (whole n)) (plus (plus y (whole n)) (share t d))
-plus_whole x y n t d h = grind (arith, common_steps)
+plus_whole x y n t d h = grind arith
 
 -- what goes in one time and then in another
 pub two_shares : (x y z : Amount) (a b d : ℕ) → 0 < y.den → 0 < d → IsAtMost x (plus y (share a d))

@@ -1,28 +1,26 @@
 -- What an origin still has to send goes down by no more than its egress cap lets go.
-use Rattle.std.proofs.lemmas.Grind.{common_steps}
-use Rattle.link_simulation.proofs.Common.{sum_by, ◌≡◌, ℕ, zero, suc, ◌+◌, ◌-◌, ◌*◌, ◌<◌, ◌≤◌, List, [], ◌∷◌, ◌++◌, map}
-use Rattle.link_simulation.proofs.Common.{length, Bool, true, false, Option, Some, None, refl, sym, ap, ◌∙◌, subst}
-use Rattle.link_simulation.proofs.Common.{arith, append-nil, if◌then◌else◌, slice_get, filter, find, flat_map, Ordering}
-use Rattle.link_simulation.proofs.Common.{IsTotalOrder, All-contains, Contains-append_left, Contains-append_right}
-use Rattle.link_simulation.proofs.Common.{mul-pos, IsAtMost, plus, Amount, billion, whole, Side, load, without_first}
-use Rattle.link_simulation.proofs.Common.{same_peer, Completed, Course, Flight, World, and_then, complete}
-use Rattle.link_simulation.proofs.Common.{first_waiting, flows, fronts, goes, instant, is_done, least_pair, may_start}
-use Rattle.link_simulation.proofs.Common.{meets, ready, settle, settle_within, start, start_next, wake_within, EndsWith}
-use Rattle.link_simulation.proofs.Common.{out_of_flight, is_late, completed, flight_of, Runs, call_advance, Caps}
-use Rattle.link_simulation.proofs.Common.{Message, same_pair, rate_of, is_unlimited, rates_from, AreFair, Parts}
-use Rattle.link_simulation.proofs.Common.{capped_sides, drained_by, sides_for, ArePositive, Drains, Ticks, drain_each}
-use Rattle.link_simulation.proofs.Common.{no_tick, one_tick, tick_faults, MomentTooLate, places_from, Each}
+use Rattle.link_simulation.proofs.Common.{common_steps, sum_by, ◌≡◌, ℕ, zero, suc, ◌+◌, ◌-◌, ◌*◌, ◌<◌, ◌≤◌, List, []}
+use Rattle.link_simulation.proofs.Common.{◌∷◌, ◌++◌, map, length, Bool, true, false, Option, Some, None, refl, sym, ap}
+use Rattle.link_simulation.proofs.Common.{◌∙◌, subst, arith, append-nil, if◌then◌else◌, slice_get, filter, find}
+use Rattle.link_simulation.proofs.Common.{flat_map, Ordering, IsTotalOrder, All-contains, Contains-append_left}
+use Rattle.link_simulation.proofs.Common.{Contains-append_right, mul-pos, IsAtMost, plus, Amount, billion, whole, Side}
+use Rattle.link_simulation.proofs.Common.{load, without_first, same_peer, Completed, Course, Flight, World, and_then}
+use Rattle.link_simulation.proofs.Common.{complete, first_waiting, flows, fronts, goes, instant, is_done, least_pair}
+use Rattle.link_simulation.proofs.Common.{may_start, meets, ready, settle, settle_within, start, start_next}
+use Rattle.link_simulation.proofs.Common.{wake_within, EndsWith, out_of_flight, is_late, completed, flight_of, Runs}
+use Rattle.link_simulation.proofs.Common.{call_advance, Caps, Message, same_pair, rate_of, is_unlimited, rates_from}
+use Rattle.link_simulation.proofs.Common.{AreFair, Parts, capped_sides, drained_by, sides_for, ArePositive, Drains}
+use Rattle.link_simulation.proofs.Common.{Ticks, drain_each, no_tick, one_tick, tick_faults, MomentTooLate, places_from}
+use Rattle.link_simulation.proofs.Common.{Each}
 use Rattle.std.specs.Prelude.{Contains}
-use Rattle.std.proofs.Math.Nat.{add-mul, mul-add, mul-zero, zero-add, zero-mul}
+use Rattle.std.proofs.Math.Nat.{add-mul, mul-add, zero-add}
 use Rattle.std.proofs.lemmas.List.Sums.{sum_by-cons}
 use Rattle.link_simulation.specs.Laws.Bytes.{allowance, bytes_from, left_from, waiting_from}
-use borrow.Author.Tests.{eqb-true}
 use Rattle.link_simulation.proofs.Simulation.Queue.{then_then, peer_like, settle_none, settle_first, find_passes}
 use Rattle.link_simulation.proofs.Simulation.SettlingEnds.{ends_preceded, ends_and_then, ends_cond, find_like}
 use Rattle.link_simulation.proofs.Simulation.Split.{rest_is}
 use Rattle.link_simulation.proofs.Laws.AmountOrder.{share, at_most_itself, at_most_trans, plus_under, plus_spent}
-use Rattle.link_simulation.proofs.Laws.AmountOrder.{plus_shares, plus_whole, two_shares, share_grows, no_share}
-use Rattle.link_simulation.proofs.Laws.AmountOrder.{lowest_takes}
+use Rattle.link_simulation.proofs.Laws.AmountOrder.{plus_shares, plus_whole, two_shares, share_grows, lowest_takes}
 use Rattle.link_simulation.proofs.Simulation.OneNext.{drain_each_positive}
 use Rattle.link_simulation.proofs.Simulation.OtherPairs.{fronts_are_first}
 
@@ -31,13 +29,13 @@ use Rattle.link_simulation.proofs.Simulation.OtherPairs.{fronts_are_first}
 pub each_filter : {X : Type 0} (Q R : X → Type 0) (test : X → Bool) (xs : List X)
     → ((x : X) → test x ≡ true → Q x → R x) → Each Q xs → Each R (filter test xs)
 each_filter Q R test [] h e = tt
-each_filter {X} Q R test (x ∷ xs) h e = grind (arith, common_steps, (each_filter Q R test xs h e.1))
+each_filter {X} Q R test (x ∷ xs) h e = grind (arith, (each_filter Q R test xs h))
 
 find_in_flat_map : {X A : Type 0} (test : X → Bool) (f : X → List A) (x : X) (a : A) (xs : List X)
     → find test xs ≡ Some x → Contains (f x) a → Contains (flat_map f xs) a
 find_in_flat_map test f x a [] e has = cc
 find_in_flat_map {X} {A} test f x a (y ∷ ys) e has =
-    grind (arith, common_steps, Contains-append_left, Contains-append_right, (find_in_flat_map test f x a ys))
+    grind (arith, Contains-append_left, Contains-append_right, (find_in_flat_map test f x a ys))
 
 -- what those that pass get together
 abbrev part_of : Bool → Option ℕ → ℕ
@@ -54,13 +52,13 @@ none_total : {X : Type 0} (test : X → Bool) (xs : List X) (rates : Parts) → 
     → total (map test xs) rates ≡ 0
 none_total test [] rates e = refl
 none_total test (x ∷ xs) [] e = refl
-none_total {X} test (x ∷ xs) (r ∷ rs) e = grind (arith, common_steps, (none_total test xs rs))
+none_total {X} test (x ∷ xs) (r ∷ rs) e = grind (arith, (none_total test xs rs))
 
 module _ {P : Type 0} (cmp : P → P → Ordering) (order : IsTotalOrder cmp) where
   pub each_least : (Q : Message P → Type 0) (ms : List (Message P)) (m : Message P) → Each Q ms
       → least_pair cmp ms ≡ Some m → Q m
   each_least Q [] m e is = cc
-  each_least Q (n ∷ ns) m e is = grind (arith, common_steps, (each_least Q ns))
+  each_least Q (n ∷ ns) m e is = grind (arith, (each_least Q ns))
 
   -- ---- waking
 
@@ -86,29 +84,29 @@ module _ {P : Type 0} (cmp : P → P → Ordering) (order : IsTotalOrder cmp) wh
       → IsAtMost (plus (left_from cmp p fs) (whole n)) (plus (left_from cmp p (without_first test fs)) (whole n))
   finished p test [] n spent = at_most_itself (plus (left_from cmp p []) (whole n))
   finished p test (f ∷ fs) n spent =
-      grind (arith, common_steps, whole, plus_spent, at_most_itself, plus_under, (finished p test fs n spent))
+      grind (arith, whole, plus_spent, at_most_itself, plus_under, (finished p test fs n spent))
 
   abbrev gain : P → Message P → ℕ
   gain p m = if same_peer cmp p m.origin then length m.bytes else 0
 
   started : (p : P) (m : Message P) (fs : List (Flight P)) (n k : ℕ) → n ≡ gain p m + k
       → IsAtMost (plus (left_from cmp p fs) (whole n)) (plus (left_from cmp p (fs ++ flight_of m ∷ [])) (whole k))
-  started p m [] n k e = grind (arith, common_steps, whole)
-  started p m (f ∷ fs) n k e = grind (arith, common_steps, whole, plus_under, (started p m fs n k e))
+  started p m [] n k e = grind arith
+  started p m (f ∷ fs) n k e = grind (arith, whole, plus_under, (started p m fs n k e))
 
   taken_from : (p : P) (m : Message P) (ms : List (Message P)) → find (same_pair cmp m) ms ≡ Some m
       → waiting_from cmp p ms ≡ gain p m + waiting_from cmp p (without_first (same_pair cmp m) ms)
   taken_from p m [] e = cc
-  taken_from p m (x ∷ xs) e = grind (arith, common_steps, (taken_from p m xs))
+  taken_from p m (x ∷ xs) e = grind (arith, (taken_from p m xs))
 
   pub left_positive : (p : P) (fs : List (Flight P)) → ArePositive fs → 0 < (left_from cmp p fs).den
   left_positive p [] pos = omega arith
-  left_positive p (f ∷ fs) pos = grind (arith, common_steps, mul-pos, (left_positive p fs pos.1))
+  left_positive p (f ∷ fs) pos = grind (arith, mul-pos, (left_positive p fs))
 
   pub positive_without : (test : Flight P → Bool) (fs : List (Flight P)) → ArePositive fs
       → ArePositive (without_first test fs)
   positive_without test [] pos = tt
-  positive_without test (f ∷ fs) pos = grind (arith, common_steps, (positive_without test fs pos.1))
+  positive_without test (f ∷ fs) pos = grind (arith, (positive_without test fs))
 
   pub positive_joined : (fs : List (Flight P)) (m : Message P) → ArePositive fs → ArePositive (fs ++ flight_of m ∷ [])
   positive_joined [] m pos = (omega arith, tt)
@@ -131,7 +129,7 @@ module _ {P : Type 0} (cmp : P → P → Ordering) (order : IsTotalOrder cmp) wh
       → slice_get (map test ms) i ≡ Some true
       → slice_get (rates_from cmp caps parts place ms) i ≡ Some None → ⊥
   passing_limited caps parts test place [] limited i at is = cc
-  passing_limited caps parts test place (m ∷ ms) limited zero at is = grind (arith, common_steps)
+  passing_limited caps parts test place (m ∷ ms) limited zero at is = grind arith
   passing_limited caps parts test place (m ∷ ms) limited (suc i) at is =
       passing_limited caps parts test (place + 1) ms limited i at is
 
@@ -153,11 +151,8 @@ module _ {P : Type 0} (cmp : P → P → Ordering) (order : IsTotalOrder cmp) wh
 
     follows_trans : (w v u : World P) → Follows w v → Follows v u → Follows w u
     follows_trans w v u f g =
-        record {
-          holds = g.holds;
-          bytes = at_most_trans (bytes_from cmp p w) (bytes_from cmp p v) (bytes_from cmp p u)
-              (bytes_positive v f.holds) f.bytes g.bytes;
-        }
+        grind (arith, (at_most_trans (bytes_from cmp p w) (bytes_from cmp p v) (bytes_from cmp p u) (bytes_positive v
+        f.holds) f.bytes g.bytes))
 
     follows_itself : (w : World P) → Holds w → Follows w w
     follows_itself w h = record { holds = h; bytes = at_most_itself (bytes_from cmp p w) }
@@ -175,30 +170,24 @@ module _ {P : Type 0} (cmp : P → P → Ordering) (order : IsTotalOrder cmp) wh
 
     start_follows : (w : World P) (m : Message P) → Holds w → find (same_pair cmp m) w.waiting ≡ Some m
         → EndsWith (Follows w) (start cmp w m)
-    start_follows w m h first = grind (arith, common_steps, ends_cond, positive_joined, started, taken_from)
+    start_follows w m h first = grind (arith, ends_cond, positive_joined, started, taken_from)
 
     start_next_follows : (t : ℕ) (w : World P) (m : Message P) (o : Option (Message P))
         → find (same_pair cmp m) w.waiting ≡ o → Holds w → EndsWith (Follows w) (start_next cmp t w o)
     start_next_follows t w m None e h = follows_itself w h
     start_next_follows t w m (Some x) e h =
-        grind (arith, common_steps, find_passes, ends_cond, start, start_follows, find_like, follows_itself)
+        grind (arith, find_passes, ends_cond, start, start_follows, find_like, follows_itself)
 
     done_is_spent : (w : World P) (f : Flight P) → Holds w → is_done cmp w f ≡ true
         → same_peer cmp p f.message.origin ≡ true → f.left.num ≡ 0
-    done_is_spent w f h done from = grind (arith, common_steps, eqb-true)
+    done_is_spent w f h done from = grind arith
 
     complete_follows : (t : ℕ) (w : World P) (f : Flight P) → Holds w
         → EndsWith (Follows w) (complete cmp t w f.message)
     complete_follows t w f h =
         let landed : World P = out_of_flight cmp t w f.message in
-        let still : Holds landed =
-        record { positive = positive_without (is_done cmp w) w.sending h.positive; egress = h.egress } in
-        let less : Follows w landed =
-        record {
-          holds = still;
-          bytes = finished p (is_done cmp w) w.sending (waiting_from cmp p w.waiting)
-              (λ g done from. done_is_spent w g h done from);
-        } in
+        let still : Holds landed = grind (arith, positive_without) in
+        let less : Follows w landed = grind (arith, finished, done_is_spent) in
         ends_cond (Follows w) (is_late cmp t f.message) (meets MomentTooLate) _ tt
         (ends_preceded (Follows w) (completed cmp t f.message ∷ [])
         (start_next cmp t landed (first_waiting cmp landed f.message))
@@ -208,17 +197,17 @@ module _ {P : Type 0} (cmp : P → P → Ordering) (order : IsTotalOrder cmp) wh
     settle_within_follows : (n t : ℕ) (w : World P) → Holds w → EndsWith (Follows w) (settle_within cmp n t w)
     settle_within_follows zero t w h = follows_itself w h
     settle_within_follows (suc n) t w h =
-        grind (arith, common_steps, settle_none, follows_itself, settle_first, follows_then, complete_follows,
-        (settle_within_follows n t))
+        grind (arith, settle_none, follows_itself, settle_first, follows_then, complete_follows, (settle_within_follows
+        n t))
 
     wake_within_follows : (n t : ℕ) (w : World P) → Holds w → EndsWith (Follows w) (wake_within cmp n t w)
     wake_within_follows zero t w h = follows_itself w h
     wake_within_follows (suc n) t w h =
-        grind (arith, common_steps, wake_none, follows_itself, wake_first, follows_then, start, start_follows,
-        ready_is_first, settle_within_follows, (wake_within_follows n t))
+        grind (arith, wake_none, follows_itself, wake_first, follows_then, start, start_follows, ready_is_first,
+        settle_within_follows, (wake_within_follows n t))
 
     pub instant_follows : (w : World P) → Holds w → EndsWith (Follows w) (instant cmp w)
-    instant_follows w h = grind (arith, common_steps, follows_then, settle_within_follows, wake_within_follows)
+    instant_follows w h = grind (arith, follows_then, settle_within_follows, wake_within_follows)
 
     -- ---- a nanosecond
 
@@ -236,16 +225,14 @@ module _ {P : Type 0} (cmp : P → P → Ordering) (order : IsTotalOrder cmp) wh
     same_users q place (m ∷ ms) e = rw (peer_like cmp order p q m.origin e, same_users q (place + 1) ms e) refl
 
     own_limited : (w : World P) → Holds w → (m : Message P) → from_it m ≡ true → is_unlimited cmp w.caps m ≡ false
-    own_limited w h m from = grind (arith, common_steps)
+    own_limited w h m from = grind arith
 
     fair_is_capped : (w : World P) (per : ℕ) (rates : Parts) → Holds w → AreFair cmp w.caps (flows w) per rates
         → AreCapped (flows w) per rates
     fair_is_capped w per rates h fair = by_user (find from_it (flows w)) refl
       where
         limits : (i : ℕ) → slice_get (map from_it (flows w)) i ≡ Some true → slice_get rates i ≡ Some None → ⊥
-        limits i at is =
-            passing_limited w.caps fair.parts from_it 0 (flows w) (own_limited w h) i at
-            (subst (λ (rs : Parts). slice_get rs i ≡ Some None) fair.rated is)
+        limits i at is = grind (arith, passing_limited, own_limited)
 
         by_user : (o : Option (Message P)) → find from_it (flows w) ≡ o → AreCapped (flows w) per rates
         by_user None e =
@@ -282,7 +269,7 @@ module _ {P : Type 0} (cmp : P → P → Ordering) (order : IsTotalOrder cmp) wh
         (share ((part_of c r + others) * n) (per * billion)))
     drained_one per n others left before after true None some pos never ih = absurd (never refl refl)
     drained_one per n others left before after true (Some a) some pos never ih =
-        grind (arith, common_steps, rate_of, add-mul, plus_shares, lowest_takes)
+        grind (arith, rate_of, add-mul, plus_shares, lowest_takes)
     drained_one per n others left before after false r some pos never ih =
         subst (λ k. IsAtMost before (plus after (share (k * n) (per * billion)))) (sym (zero-add others)) ih
 
@@ -292,8 +279,8 @@ module _ {P : Type 0} (cmp : P → P → Ordering) (order : IsTotalOrder cmp) wh
         → IsAtMost (left_from cmp p fs)
         (plus (left_from cmp p (drain_each per rates n fs))
         (share (total (map from_it (map (λ (f : Flight P). f.message) fs)) rates * n) (per * billion)))
-    drained_each per rates n [] some pos limited = grind (arith, common_steps, whole)
-    drained_each per [] n (f ∷ fs) some pos limited = grind (arith, common_steps, zero-mul, no_share)
+    drained_each per rates n [] some pos limited = grind arith
+    drained_each per [] n (f ∷ fs) some pos limited = grind arith
     drained_each per (r ∷ rs) n (f ∷ fs) some pos limited =
         drained_one per n (total (map from_it (map (λ (g : Flight P). g.message) fs)) rs) f.left (left_from cmp p fs)
         (left_from cmp p (drain_each per rs n fs)) (same_peer cmp p f.message.origin) r some pos.0
@@ -309,12 +296,10 @@ module _ {P : Type 0} (cmp : P → P → Ordering) (order : IsTotalOrder cmp) wh
         let capped : AreCapped (flows w) d.per d.rates = fair_is_capped w d.per d.rates h d.fair in
         let some : 0 < d.per = d.fair.fair.some_part in
         let u : World P = record w { sending = drain_each d.per d.rates 1 w.sending; moment = w.moment + 1 } in
-        let positive : ArePositive u.sending =
-        drain_each_positive cmp order d.per d.rates 1 w.sending some h.positive in
+        let positive : ArePositive u.sending = grind (arith, drain_each_positive) in
         let all : ℕ = total (map from_it (flows w)) d.rates in
         let sums : IsAtMost (bytes_from cmp p w) (plus (bytes_from cmp p u) (share (all * 1) (d.per * billion))) =
-        plus_whole (left_from cmp p w.sending) (left_from cmp p u.sending) (waiting_from cmp p w.waiting) (all * 1)
-        (d.per * billion) (drained_each d.per d.rates 1 w.sending some h.positive capped.limited) in
+            grind (arith, plus_whole, drained_each) in
         let most : all ≤ cap * d.per = capped.within in
         let scaled : (all * 1) * billion ≤ (cap * 1) * (d.per * billion) = omega arith in
         let end : Loses 1 w u = record {
@@ -326,16 +311,12 @@ module _ {P : Type 0} (cmp : P → P → Ordering) (order : IsTotalOrder cmp) wh
         subst (λ (z : World P). Loses 1 w z) (sym d.world) end
 
     loses_none : (w v : World P) → Follows w v → Loses 0 w v
-    loses_none w v f = grind (arith, common_steps, mul-zero)
+    loses_none w v f = grind arith
 
     loses_both : (m n : ℕ) (w v u : World P) → Loses m w v → Loses n v u → Holds v → Loses (m + n) w u
-    loses_both m n w v u f g h = record {
-      holds = g.holds;
-      bytes =
-          subst (λ k. IsAtMost (bytes_from cmp p w) (plus (bytes_from cmp p u) (share k billion)))
-          (sym (mul-add cap m n)) (two_shares (bytes_from cmp p w) (bytes_from cmp p v) (bytes_from cmp p u) (cap * m)
-          (cap * n) billion (bytes_positive v h) (omega arith) f.bytes g.bytes);
-    }
+    loses_both m n w v u f g h =
+        grind (arith, (mul-add cap m n), (two_shares (bytes_from cmp p w) (bytes_from cmp p v) (bytes_from cmp p u)
+        (cap * m) (cap * n) billion (bytes_positive v h) (omega arith) f.bytes g.bytes))
 
     ends_in : (w : World P) (c : Course (Completed P) (World P)) (cs : List (Completed P)) (v : World P)
         → EndsWith (Follows w) c → c ≡ goes cs v → Follows w v
@@ -347,14 +328,11 @@ module _ {P : Type 0} (cmp : P → P → Ordering) (order : IsTotalOrder cmp) wh
     ticks_lose {w = w} no_tick cs v e h =
         let same : w ≡ v = cc in subst (λ (z : World P). Loses 0 w z) same (loses_none w w (follows_itself w h))
     ticks_lose {w = w} (one_tick {n = n} {v = z} {u = u} {cs = ds} {rest = rest} d i t) cs v e h =
-        let r : (es : List (Completed P)) × (rest ≡ goes es v) × (ds ++ es ≡ cs) = rest_is cmp ds rest cs v e in
-        let first : Loses 1 w z = drain_loses w z h d in
-        let after : Follows z u = ends_in z (instant cmp z) ds u (instant_follows z first.holds) i in
-        let later : Loses n u v = ticks_lose t r.0 v r.1 after.holds in
-        let both : Loses (0 + n) z v = loses_both 0 n z u v (loses_none z u after) later after.holds in
-        let all : Loses (1 + (0 + n)) w v = loses_both 1 (0 + n) w z v first both first.holds in
-        let count : 1 + (0 + n) ≡ suc n = omega arith in
-        subst (λ (k : ℕ). Loses k w v) count all
+        grind (arith, common_steps, (loses_both 1 (0 + n) w z v (drain_loses w z h d) (loses_both 0 n z u v
+        (loses_none z u (ends_in z (instant cmp z) ds u (instant_follows z (drain_loses w z h d).holds) i))
+        (ticks_lose t (rest_is cmp ds rest cs v e).0 v (rest_is cmp ds rest cs v e).1 (ends_in z (instant cmp z) ds u
+        (instant_follows z (drain_loses w z h d).holds) i).holds) (ends_in z (instant cmp z) ds u (instant_follows z
+        (drain_loses w z h d).holds) i).holds) (drain_loses w z h d).holds))
     ticks_lose (tick_faults d i) cs v e h = cc
 
     -- and so in one `advance`

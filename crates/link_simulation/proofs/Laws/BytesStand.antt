@@ -1,6 +1,5 @@
 -- The bytes of an origin are the same in all worlds of one moment that a planned world stands for, so an advance keeps
 -- to its cap.
-use Rattle.std.proofs.lemmas.Grind.{common_steps}
 use Rattle.link_simulation.proofs.Common.{◌≡◌, ℕ, zero, suc, ◌+◌, ◌-◌, ◌*◌, ◌≤◌, List, [], ◌∷◌, length, Bool, not, Some}
 use Rattle.link_simulation.proofs.Common.{refl, sym, ap, ◌∙◌, subst, arith, filter, AllZip, Ordering, IsTotalOrder}
 use Rattle.link_simulation.proofs.Common.{Amount, whole, plus, IsAtMost, same_peer, Message, SameMessage, same_pair}
@@ -9,8 +8,7 @@ use Rattle.link_simulation.proofs.Common.{RatedFlight, StandsFor, IsSameFlight, 
 use Rattle.link_simulation.proofs.Common.{filter_swap}
 use Rattle.link_simulation.specs.Laws.Bytes.{bytes_from, left_from, waiting_from, allowance}
 use Rattle.link_simulation.specs.Rule.Simulated.{KeepsToCaps}
-use Rattle.link_simulation.proofs.Simulation.AlikeMessages.{same_itself, pair_itself, peers_alike, pairs_alike}
-use Rattle.link_simulation.proofs.Simulation.AlikeMessages.{message_itself}
+use Rattle.link_simulation.proofs.Simulation.AlikeMessages.{same_itself, pair_itself, pairs_alike, message_itself}
 use Rattle.fair_rates.proofs.Lists.Filters.{length-filter}
 use Rattle.link_simulation.proofs.Laws.Bytes.{Loses, advance_loses}
 use Rattle.link_simulation.proofs.Rule.Simulated.{calls_simulated, sound_of_stands, none_waits}
@@ -19,7 +17,7 @@ module _ {P : Type 0} (cmp : P → P → Ordering) (order : IsTotalOrder cmp) wh
   module _ (origin : P) where
     origins_alike : (m n k : Message P) → SameMessage cmp m n → SameMessage cmp m k
         → same_peer cmp origin n.origin ≡ same_peer cmp origin k.origin
-    origins_alike m n k e f = grind (arith, common_steps, peers_alike, same_itself)
+    origins_alike m n k e f = grind arith
 
     -- ---- what is in flight
 
@@ -31,8 +29,7 @@ module _ {P : Type 0} (cmp : P → P → Ordering) (order : IsTotalOrder cmp) wh
     left_alike t [] [] (h ∷ hs) a b = absurd b
     left_alike t (f ∷ fs) [] hs a b = absurd a
     left_alike t (f ∷ fs) (g ∷ gs) [] a b = absurd b
-    left_alike t (f ∷ fs) (g ∷ gs) (h ∷ hs) a b =
-        grind (arith, common_steps, origins_alike, (left_alike t fs gs hs a.1 b.1))
+    left_alike t (f ∷ fs) (g ∷ gs) (h ∷ hs) a b = grind (arith, (left_alike t fs gs hs))
 
     -- ---- what waits
 
@@ -41,13 +38,13 @@ module _ {P : Type 0} (cmp : P → P → Ordering) (order : IsTotalOrder cmp) wh
     waiting_zip [] [] all = refl
     waiting_zip [] (n ∷ ns) all = absurd all
     waiting_zip (m ∷ ms) [] all = absurd all
-    waiting_zip (m ∷ ms) (n ∷ ns) all = grind (arith, common_steps, peers_alike, same_itself, (waiting_zip ms ns all.1))
+    waiting_zip (m ∷ ms) (n ∷ ns) all = grind (arith, (waiting_zip ms ns))
 
     waiting_parted : (test : Message P → Bool) (ms : List (Message P))
         → waiting_from cmp origin ms
         ≡ waiting_from cmp origin (filter test ms) + waiting_from cmp origin (filter (λ m. not (test m)) ms)
     waiting_parted test [] = refl
-    waiting_parted test (m ∷ ms) = grind (arith, common_steps, (waiting_parted test ms))
+    waiting_parted test (m ∷ ms) = grind (arith, (waiting_parted test ms))
 
     abbrev AlikeByPair : List (Message P) → List (Message P) → Type 0
     AlikeByPair ms ns =
@@ -56,7 +53,7 @@ module _ {P : Type 0} (cmp : P → P → Ordering) (order : IsTotalOrder cmp) wh
     -- without one pair they are still alike
     others_alike : (m : Message P) (ms ns : List (Message P)) → AlikeByPair ms ns
         → AlikeByPair (filter (λ n. not (same_pair cmp m n)) ms) (filter (λ n. not (same_pair cmp m n)) ns)
-    others_alike m ms ns alike k = grind (arith, common_steps, zip-filter, pairs_alike, message_itself, filter_swap)
+    others_alike m ms ns alike k = grind (arith, zip-filter, pairs_alike, message_itself, filter_swap)
 
     waiting_alike : (n : ℕ) (ms ns : List (Message P)) → length ms ≤ n → AlikeByPair ms ns
         → waiting_from cmp origin ms ≡ waiting_from cmp origin ns
@@ -66,8 +63,7 @@ module _ {P : Type 0} (cmp : P → P → Ordering) (order : IsTotalOrder cmp) wh
     waiting_alike (suc n) (m ∷ ms) ns fits alike =
         let keep : Message P → Bool = λ k. not (same_pair cmp m k) in
         let shorter : filter keep (m ∷ ms) ≡ filter keep ms = rw (pair_itself cmp order m) refl in
-        let few : length (filter keep (m ∷ ms)) ≤ n = subst (λ (xs : List (Message P)). length xs ≤ n) (sym shorter)
-        (let le : length (filter keep ms) ≤ length ms = length-filter keep ms in omega arith) in
+        let few : length (filter keep (m ∷ ms)) ≤ n = grind (arith, length-filter) in
         let own : waiting_from cmp origin (filter (same_pair cmp m) (m ∷ ms))
         ≡ waiting_from cmp origin (filter (same_pair cmp m) ns)
         = waiting_zip (filter (same_pair cmp m) (m ∷ ms)) (filter (same_pair cmp m) ns) (alike m) in
@@ -79,10 +75,8 @@ module _ {P : Type 0} (cmp : P → P → Ordering) (order : IsTotalOrder cmp) wh
     pub bytes_alike : (q : Planned P) (w v : World P) → StandsFor cmp q w → StandsFor cmp q v → w.moment ≡ v.moment
         → bytes_from cmp origin w ≡ bytes_from cmp origin v
     bytes_alike q w v here there at =
-        let flies : AllZip (IsSameFlight cmp v.moment) q.sending w.sending =
-        subst (λ (t : ℕ). AllZip (IsSameFlight cmp t) q.sending w.sending) at here.follows.tallies.sending in
-        let left : left_from cmp origin w.sending ≡ left_from cmp origin v.sending =
-        left_alike v.moment q.sending w.sending v.sending flies there.follows.tallies.sending in
+        let flies : AllZip (IsSameFlight cmp v.moment) q.sending w.sending = grind arith in
+        let left : left_from cmp origin w.sending ≡ left_from cmp origin v.sending = grind (arith, left_alike) in
         let waits : waiting_from cmp origin w.waiting ≡ waiting_from cmp origin v.waiting
         = sym (waiting_alike (length q.waiting) q.waiting w.waiting (omega arith) here.follows.tallies.waiting)
         ∙ waiting_alike (length q.waiting) q.waiting v.waiting (omega arith) there.follows.tallies.waiting in

@@ -2,21 +2,20 @@
 -- and their order stays.
 use Rattle.link_simulation.proofs.Common.{arith, ◌≡◌, ℕ, ◌+◌, List, [], ◌∷◌, ◌++◌, Bool, true, false, cond, not, Option}
 use Rattle.link_simulation.proofs.Common.{Some, None, refl, sym, ap, ◌∙◌, subst, append_assoc, append-nil, ⊤, ◌&&◌}
-use Rattle.link_simulation.proofs.Common.{nat_lt, if◌then◌else◌, find, filter, AllZip, Ordering, IsTotalOrder}
-use Rattle.link_simulation.proofs.Common.{map-append, filter-append, without_first, MomentTooLate, Message, Caps}
-use Rattle.link_simulation.proofs.Common.{OneForEachPair, same_pair, is_delivered, Completed, Course, goes, meets}
-use Rattle.link_simulation.proofs.Common.{last_moment, preceded, raised, later_of, completion_of, completed, arrival}
-use Rattle.link_simulation.proofs.Common.{Call, call_limit, call_limit_link, call_enqueue, call_advance}
-use Rattle.link_simulation.proofs.Common.{call_enqueue_all, call_next, enqueued, IsCompletionOf, Planned, RatedFlight}
-use Rattle.link_simulation.proofs.Common.{rated_messages, drained_to, next_of, may_launch, is_spent, Accounts}
-use Rattle.link_simulation.proofs.Common.{PlansStart, Launches, nothing_waits, too_early, no_id, starts, Finishes}
-use Rattle.link_simulation.proofs.Common.{all_completed, late, stopped, completes, WakesEach, all_started, no_start}
-use Rattle.link_simulation.proofs.Common.{no_finish, starts_one, Settles, settling, Rebalances, none_sending}
-use Rattle.link_simulation.proofs.Common.{some_sending, Enqueues, at_once, no_launch, launches, Advances, no_more}
-use Rattle.link_simulation.proofs.Common.{at_finish, at_start, finish_stops, start_stops, launched, landed, with_queued}
-use Rattle.link_simulation.proofs.Common.{completed_at_once, Obeys, EnqueuesEach, all_enqueued, one_stops, enqueues_one}
-use Rattle.link_simulation.proofs.Common.{IsOrderly, of_pair, held_of, zip-append}
-use Rattle.std.proofs.lemmas.Grind.{common_steps}
+use Rattle.link_simulation.proofs.Common.{nat_lt, if◌then◌else◌, filter, AllZip, Ordering, IsTotalOrder, map-append}
+use Rattle.link_simulation.proofs.Common.{filter-append, without_first, MomentTooLate, Message, Caps, OneForEachPair}
+use Rattle.link_simulation.proofs.Common.{same_pair, is_delivered, Completed, Course, goes, meets, last_moment}
+use Rattle.link_simulation.proofs.Common.{preceded, raised, later_of, completion_of, completed, arrival, Call}
+use Rattle.link_simulation.proofs.Common.{call_limit, call_limit_link, call_enqueue, call_advance, call_enqueue_all}
+use Rattle.link_simulation.proofs.Common.{call_next, enqueued, IsCompletionOf, Planned, RatedFlight, rated_messages}
+use Rattle.link_simulation.proofs.Common.{drained_to, next_of, may_launch, is_spent, Accounts, PlansStart, Launches}
+use Rattle.link_simulation.proofs.Common.{nothing_waits, too_early, no_id, starts, Finishes, all_completed, late}
+use Rattle.link_simulation.proofs.Common.{stopped, completes, WakesEach, all_started, no_start, no_finish, starts_one}
+use Rattle.link_simulation.proofs.Common.{Settles, settling, Rebalances, none_sending, some_sending, Enqueues, at_once}
+use Rattle.link_simulation.proofs.Common.{no_launch, launches, Advances, no_more, at_finish, at_start, finish_stops}
+use Rattle.link_simulation.proofs.Common.{start_stops, launched, landed, with_queued, completed_at_once, Obeys}
+use Rattle.link_simulation.proofs.Common.{EnqueuesEach, all_enqueued, one_stops, enqueues_one, IsOrderly, of_pair}
+use Rattle.link_simulation.proofs.Common.{held_of, zip-append, common_steps}
 use Rattle.link_simulation.proofs.Simulation.Queue.{find_passes, any_like}
 use Rattle.link_simulation.proofs.Simulation.SettlingEnds.{find_like}
 use Rattle.link_simulation.proofs.Rule.Launch.{rest_of, head_of, head_found, waits_without}
@@ -49,8 +48,7 @@ module _ {P : Type 0} (cmp : P → P → Ordering) (order : IsTotalOrder cmp) wh
       ≡ of_pair cmp k (rated_messages fs)
   one_split k test [] one = refl
   one_split k test (f ∷ fs) one =
-      grind (arith, common_steps, filter_nothing, any_of_fewer, any_like, before_both, append-nil, (one_split k test fs
-      one.1))
+      grind (arith, filter_nothing, any_of_fewer, any_like, before_both, append-nil, (one_split k test fs))
 
   account_holds : (t : ℕ) (old new : Planned P) (leavers : List (Message P)) → Accounts cmp t old leavers new
       → OneForEachPair cmp (rated_messages old.sending)
@@ -91,39 +89,26 @@ module _ {P : Type 0} (cmp : P → P → Ordering) (order : IsTotalOrder cmp) wh
       waits = of_pair cmp k p.waiting
 
       own_first : same_pair cmp k m ≡ true → waits ≡ m ∷ rest_of waits
-      own_first own =
-          let own_found : find (same_pair cmp k) p.waiting ≡ Some m
-          = sym (find_like cmp order k m p.waiting own)
-          ∙ find_like cmp order n m p.waiting (find_passes (same_pair cmp n) m p.waiting found) ∙ found in
-          headed waits m (sym (head_found (same_pair cmp k) p.waiting) ∙ own_found)
+      own_first own = grind (arith, find_like, find_passes, headed, waits, head_found)
 
       own_idle : same_pair cmp k m ≡ true → flying ≡ []
-      own_idle own =
-          filter_nothing (same_pair cmp k) (rated_messages p.sending)
-          (sym (any_like cmp order k m (rated_messages p.sending) own) ∙ idle_if_may cmp order t p m may)
+      own_idle own = grind (arith, filter_nothing, any_like, idle_if_may)
 
       by_pair : (b : Bool) → (b ≡ true → waits ≡ m ∷ rest_of waits) → (b ≡ true → flying ≡ [])
           → (flying ++ cond b (m ∷ []) []) ++ cond b (rest_of waits) waits ≡ flying ++ waits
-      by_pair true first idle = let none : flying ≡ [] = idle refl in
-          ap (λ (ms : List (Message P)). (ms ++ m ∷ []) ++ rest_of waits) none ∙ sym (first refl)
-          ∙ sym (ap (λ (ms : List (Message P)). ms ++ waits) none)
+      by_pair true first idle = grind (arith, flying, rest_of, waits)
       by_pair false first idle = ap (λ (ms : List (Message P)). ms ++ waits) (append-nil flying)
 
   launch_holds : {t : ℕ} {p : Planned P} {o : Option (Message P)} {c : Course (Message P) (Planned P)}
       → Launches cmp t p o c
       → (n : Message P) (ms : List (Message P)) (q : Planned P) → next_of cmp p n ≡ o → c ≡ goes ms q → IsOrderly cmp p
       → (k : Message P) → of_pair cmp k ms ++ held_of cmp k q ≡ held_of cmp k p
-  launch_holds {p = p} nothing_waits n ms q is e h k = grind (arith, common_steps)
-  launch_holds {p = p} (too_early may) n ms q is e h k = grind (arith, common_steps)
+  launch_holds {p = p} nothing_waits n ms q is e h k = grind arith
+  launch_holds {p = p} (too_early may) n ms q is e h k = grind arith
   launch_holds (no_id may last) n ms q is e h k = cc
   launch_holds {t = t} {p = p} (starts {m = m} {leavers = leavers} {new = new} may below account) n ms q is e h k =
-      let out : leavers ≡ ms = cc in
-      let same : new ≡ q = cc in
-      sym (ap (λ (z : Planned P). of_pair cmp k ms ++ held_of cmp k z) same)
-      ∙ sym (ap (λ (ns : List (Message P)). of_pair cmp k ns ++ held_of cmp k new) out)
-      ∙ account_holds t (launched cmp t p m) new leavers account
-      (launched_steady cmp order t p n m is may (steady cmp order p h)).one_each k
-      ∙ launched_holds t p n m is may k
+      grind (arith, common_steps, (account_holds t (launched cmp t p m) new leavers account (launched_steady cmp order
+      t p n m is may (steady cmp order p h)).one_each k), (launched_holds t p n m is may k))
 
   look_holds : (t : ℕ) (p q : Planned P) → PlansStart cmp t p q → (k : Message P) → held_of cmp k q ≡ held_of cmp k p
   look_holds t p q looks k = ap (held_of cmp k) looks.same
@@ -146,7 +131,7 @@ module _ {P : Type 0} (cmp : P → P → Ordering) (order : IsTotalOrder cmp) wh
 
   moves_then : (queue : List (Message P)) (p q r : Planned P) (cs ds : List (Completed P)) → Moves queue p cs q
       → Moves [] q ds r → Moves queue p (cs ++ ds) r
-  moves_then queue p q r cs ds a b = grind (arith, common_steps, zip-append, filter-append, append_assoc)
+  moves_then queue p q r cs ds a b = grind (arith, zip-append, filter-append, append_assoc)
 
   on_then : (queue : List (Message P)) (p q : Planned P) (cs : List (Completed P))
       (c : Course (Completed P) (Planned P))
@@ -169,11 +154,7 @@ module _ {P : Type 0} (cmp : P → P → Ordering) (order : IsTotalOrder cmp) wh
   first_done t m ms more p q (goes cs r) same a = record {
     done = m ∷ a.done;
     completions_are = ((t, (if is_delivered cmp m then Some (arrival cmp t m) else None), refl), a.completions_are);
-    each_pair = λ k.
-        before_both (same_pair cmp k m) m (of_pair cmp k a.done) (of_pair cmp k ms) (held_of cmp k r) (held_of cmp k p)
-        (a.each_pair k ∙ ap (λ (ns : List (Message P)). ns ++ held_of cmp k q) (filter-append (same_pair cmp k) ms more)
-        ∙ append_assoc (of_pair cmp k ms) (of_pair cmp k more) (held_of cmp k q)
-        ∙ ap (λ (ns : List (Message P)). of_pair cmp k ms ++ ns) (same k));
+    each_pair = grind (arith, before_both, filter-append, append_assoc);
   }
   first_done t m ms more p q (meets fault) same a = tt
 
@@ -196,8 +177,7 @@ module _ {P : Type 0} (cmp : P → P → Ordering) (order : IsTotalOrder cmp) wh
       h =
       let next : IsOrderly cmp q = launch_orderly cmp order launch m more q refl refl h in
       let after : IsOrderly cmp r = finish_orderly cmp order finishes next in
-      let first : Moves [] p cs r =
-      on_from more p q (goes cs r) (launch_holds launch m more q refl refl h) (finish_moves finishes next) in
+      let first : Moves [] p cs r = grind (arith, on_from, launch_holds, finish_moves) in
       on_then [] p r cs rest first (wake_moves wakes after)
 
   settle_moves : {t : ℕ} {p : Planned P} {c : Course (Completed P) (Planned P)} → Settles cmp t p c
@@ -229,8 +209,7 @@ module _ {P : Type 0} (cmp : P → P → Ordering) (order : IsTotalOrder cmp) wh
       on_then [] p q cs rest (no_finish_moves p (goes cs q) (settle_moves event (no_finish_steady cmp order p h)))
       (advance_moves more after)
   advance_moves {p = p} (at_start {q = q} {cs = cs} {rest = rest} is next due event more) h =
-      grind (arith, common_steps, wake_orderly, no_start_orderly, on_then, no_start_moves, wake_moves, (advance_moves
-      more (wake_orderly cmp order event (no_start_orderly cmp order p h))))
+      grind (arith, wake_orderly, no_start_orderly, on_then, no_start_moves, wake_moves, (advance_moves more))
   advance_moves (finish_stops is next due event) h = tt
   advance_moves (start_stops is next due event) h = tt
 
@@ -249,7 +228,7 @@ module _ {P : Type 0} (cmp : P → P → Ordering) (order : IsTotalOrder cmp) wh
   KeepsAll p messages (meets fault) = ⊤
 
   none_enqueued : (p : Planned P) (c : Course (Completed P) (Planned P)) → MovesOn [] p c → KeepsAll p [] c
-  none_enqueued p (goes cs q) a = grind (arith, common_steps, append-nil)
+  none_enqueued p (goes cs q) a = grind (arith, append-nil)
   none_enqueued p (meets fault) a = tt
 
   rebalance_moves : {now : ℕ} {caps : Caps P} {p : Planned P} {c : Course (Completed P) (Planned P)}
@@ -261,7 +240,7 @@ module _ {P : Type 0} (cmp : P → P → Ordering) (order : IsTotalOrder cmp) wh
 
   queued_holds : (p : Planned P) (m : Message P) → IsOrderly cmp p → (k : Message P)
       → held_of cmp k (with_queued cmp p m) ≡ held_of cmp k p ++ of_pair cmp k (m ∷ [])
-  queued_holds p m h k = grind (arith, common_steps, queued_last, append_assoc)
+  queued_holds p m h k = grind (arith, queued_last, append_assoc)
 
   -- before any limit
   at_once_keeps : (now : ℕ) (m : Message P) (p : Planned P) → p.limited ≡ false → IsOrderly cmp p
@@ -272,10 +251,7 @@ module _ {P : Type 0} (cmp : P → P → Ordering) (order : IsTotalOrder cmp) wh
       at = if m.should_deliver then later_of (p.last_arrival m.origin m.recipient) (now + m.latency) else now
 
       nothing_held : (k : Message P) → held_of cmp k p ≡ []
-      nothing_held k =
-          ap (λ (fs : List (RatedFlight P)). of_pair cmp k (rated_messages fs) ++ of_pair cmp k p.waiting)
-          (h.empty_at_first free).0
-          ∙ ap (of_pair cmp k) (h.empty_at_first free).1
+      nothing_held k = grind arith
 
       by_late : (b : Bool)
           → KeepsAll p (m ∷ [])
@@ -294,7 +270,7 @@ module _ {P : Type 0} (cmp : P → P → Ordering) (order : IsTotalOrder cmp) wh
 
   joined_keeps : (p : Planned P) (m : Message P) (c : Course (Completed P) (Planned P)) → IsOrderly cmp p
       → MovesOn [] (with_queued cmp p m) c → KeepsAll p (m ∷ []) c
-  joined_keeps p m (goes cs q) h a = grind (arith, common_steps, queued_holds)
+  joined_keeps p m (goes cs q) h a = grind (arith, queued_holds)
   joined_keeps p m (meets fault) h a = tt
 
   enqueue_keeps : {now : ℕ} {m : Message P} {p : Planned P} {c : Course (Completed P) (Planned P)}
@@ -311,18 +287,9 @@ module _ {P : Type 0} (cmp : P → P → Ordering) (order : IsTotalOrder cmp) wh
   kept_then : (p q : Planned P) (ms ns : List (Message P)) (cs : List (Completed P))
       (c : Course (Completed P) (Planned P)) → KeepsAll p ms (goes cs q) → KeepsAll q ns c
       → KeepsAll p (ms ++ ns) (preceded cs c)
-  kept_then p q ms ns cs (goes ds r) a b = record {
-    done = a.done ++ b.done;
-    completions_are = zip-append IsCompletionOf cs ds a.done b.done a.completions_are b.completions_are;
-    each_pair = λ k.
-        ap (λ (ks : List (Message P)). ks ++ held_of cmp k r) (filter-append (same_pair cmp k) a.done b.done)
-        ∙ append_assoc (of_pair cmp k a.done) (of_pair cmp k b.done) (held_of cmp k r)
-        ∙ ap (λ (ks : List (Message P)). of_pair cmp k a.done ++ ks) (b.each_pair k)
-        ∙ sym (append_assoc (of_pair cmp k a.done) (held_of cmp k q) (of_pair cmp k ns))
-        ∙ ap (λ (ks : List (Message P)). ks ++ of_pair cmp k ns) (a.each_pair k)
-        ∙ append_assoc (held_of cmp k p) (of_pair cmp k ms) (of_pair cmp k ns)
-        ∙ ap (λ (ks : List (Message P)). held_of cmp k p ++ ks) (sym (filter-append (same_pair cmp k) ms ns));
-  }
+  kept_then p q ms ns cs (goes ds r) a b = 
+      grind (arith, common_steps, filter-append, append_assoc, (zip-append IsCompletionOf cs ds a.done b.done
+      a.completions_are b.completions_are))
   kept_then p q ms ns cs (meets fault) a b = tt
 
   each_keeps : {now : ℕ} {ms : List (Message P)} {p : Planned P} {c : Course (Completed P) (Planned P)}
@@ -336,9 +303,9 @@ module _ {P : Type 0} (cmp : P → P → Ordering) (order : IsTotalOrder cmp) wh
   pub call_keeps : (p : Planned P) (call : Call P) (c : Course (Completed P) (Planned P)) → Obeys cmp p call c
       → IsOrderly cmp p → KeepsAll p (enqueued (call ∷ [])) c
   call_keeps p (call_limit now peer egress ingress) c obeys h =
-      grind (arith, common_steps, none_enqueued, rebalance_moves, recapped_steady, limited_by_alike)
+      grind (arith, none_enqueued, rebalance_moves, recapped_steady, limited_by_alike)
   call_keeps p (call_limit_link now origin recipient cap) c obeys h =
-      grind (arith, common_steps, none_enqueued, rebalance_moves, recapped_steady, linked_by_alike)
+      grind (arith, none_enqueued, rebalance_moves, recapped_steady, linked_by_alike)
   call_keeps p (call_enqueue now m) c obeys h = enqueue_keeps obeys h
   call_keeps p (call_enqueue_all now ms) c obeys h =
       subst (λ (ns : List (Message P)). KeepsAll p ns c) (sym (append-nil ms)) (each_keeps obeys h)

@@ -1,12 +1,10 @@
 -- No message is lost or doubled, by a call, peers taken as equal by their order, nor by a list of calls.
-use Rattle.link_simulation.proofs.Common.{arith, ℕ, List, [], ◌∷◌, ◌++◌, Option, refl, sym, subst, append_assoc}
-use Rattle.link_simulation.proofs.Common.{append-nil, AllZip, Ordering, IsTotalOrder, filter-append, Error, Message}
-use Rattle.link_simulation.proofs.Common.{SameMessage, Completed, goes, Call, call_limit, call_limit_link, call_enqueue}
-use Rattle.link_simulation.proofs.Common.{call_advance, call_enqueue_all, call_next, enqueued, answered, IsCompletionOf}
-use Rattle.link_simulation.proofs.Common.{Planned, Obeys, Obeyed, Reply, reply_done, reply_next, reply_refused}
-use Rattle.link_simulation.proofs.Common.{SameCompletion, made, completions_in, IsSamePlanned, GoesByRule, IsOrderly}
-use Rattle.link_simulation.proofs.Common.{of_pair, held_of, IsConserved, zip_chain, zip-filter, zip-same, zip-append}
-use Rattle.std.proofs.lemmas.Grind.{common_steps}
+use Rattle.link_simulation.proofs.Common.{arith, ℕ, List, [], ◌∷◌, ◌++◌, Option, refl, subst, append_assoc, append-nil}
+use Rattle.link_simulation.proofs.Common.{AllZip, Ordering, IsTotalOrder, filter-append, Error, Message, SameMessage}
+use Rattle.link_simulation.proofs.Common.{Completed, goes, Call, call_next, enqueued, answered, IsCompletionOf, Planned}
+use Rattle.link_simulation.proofs.Common.{Obeys, Obeyed, Reply, reply_done, reply_next, reply_refused, SameCompletion}
+use Rattle.link_simulation.proofs.Common.{made, completions_in, IsSamePlanned, GoesByRule, IsOrderly, of_pair, held_of}
+use Rattle.link_simulation.proofs.Common.{IsConserved, zip_chain, zip-filter, zip-same, zip-append}
 use Rattle.link_simulation.specs.Laws.Conserved.{AreConserved}
 use Rattle.link_simulation.proofs.Simulation.AlikeMessages.{pairs_alike, message_itself}
 use Rattle.link_simulation.proofs.Laws.Orderly.{obeys_orderly}
@@ -31,11 +29,11 @@ module _ {P : Type 0} (cmp : P → P → Ordering) (order : IsTotalOrder cmp) wh
 
   of_pair_alike : (k : Message P) (ms ns : List (Message P)) → AllZip (SameMessage cmp) ms ns
       → AllZip (SameMessage cmp) (of_pair cmp k ms) (of_pair cmp k ns)
-  of_pair_alike k ms ns all = grind (arith, common_steps, zip-filter, pairs_alike, message_itself)
+  of_pair_alike k ms ns all = grind (arith, zip-filter, pairs_alike, message_itself)
 
   held_alike : (k : Message P) (p q : Planned P) → IsSamePlanned cmp p q
       → AllZip (SameMessage cmp) (held_of cmp k q) (held_of cmp k p)
-  held_alike k p q same = grind (arith, common_steps, zip-append, of_pair_alike, turned, flows_same)
+  held_alike k p q same = grind (arith, zip-append, of_pair_alike, turned, flows_same)
 
   -- ---- completions that are the same
 
@@ -49,7 +47,7 @@ module _ {P : Type 0} (cmp : P → P → Ordering) (order : IsTotalOrder cmp) wh
   one_of : (c d : Completed P) (m : Message P) → SameCompletion cmp c d → IsCompletionOf d m
       → SameMessage cmp (record m { origin = c.origin; recipient = c.recipient; channel = c.channel; bytes = c.bytes })
       m
-  one_of c d m same is = grind (arith, common_steps)
+  one_of c d m same is = grind arith
 
   are_of : (cs ds : List (Completed P)) (done : List (Message P)) → AllZip (SameCompletion cmp) cs ds
       → AllZip IsCompletionOf ds done → AreOf cs done
@@ -73,8 +71,7 @@ module _ {P : Type 0} (cmp : P → P → Ordering) (order : IsTotalOrder cmp) wh
       → IsKept cmp order p messages ds after → AllZip (SameCompletion cmp) cs ds
       → ((k : Message P) → AllZip (SameMessage cmp) (held_of cmp k q) (held_of cmp k after))
       → IsConserved cmp p messages cs q
-  kept_conserved p after q messages cs ds kept same alike =
-      grind (arith, common_steps, are_of, zip-append, of_pair_alike)
+  kept_conserved p after q messages cs ds kept same alike = grind (arith, are_of, zip-append, of_pair_alike)
 
   pub goes_conserved : (p q : Planned P) (call : Call P) (cs : List (Completed P)) → GoesByRule cmp p call cs q
       → IsOrderly cmp p → IsConserved cmp p (enqueued (call ∷ [])) cs q
@@ -89,36 +86,25 @@ module _ {P : Type 0} (cmp : P → P → Ordering) (order : IsTotalOrder cmp) wh
   both_done : (d h p m e r n : List (Message P)) → AllZip (SameMessage cmp) (d ++ h) (p ++ m)
       → AllZip (SameMessage cmp) (e ++ r) (h ++ n) → AllZip (SameMessage cmp) ((d ++ e) ++ r) (p ++ (m ++ n))
   both_done d h p m e r n first second =
-      subst (λ (xs : List (Message P)). AllZip (SameMessage cmp) xs (p ++ (m ++ n))) (sym (append_assoc d e r))
-      (chain (d ++ (e ++ r)) (d ++ (h ++ n)) (p ++ (m ++ n))
-      (zip-append (SameMessage cmp) d (e ++ r) d (h ++ n) (itself d) second)
-      (subst (λ (xs : List (Message P)). AllZip (SameMessage cmp) xs (p ++ (m ++ n))) (append_assoc d h n)
-      (subst (AllZip (SameMessage cmp) ((d ++ h) ++ n)) (append_assoc p m n)
-      (zip-append (SameMessage cmp) (d ++ h) n (p ++ m) n first (itself n)))))
+      grind (arith, chain, (append_assoc d e r), (zip-append (SameMessage cmp) d (e ++ r) d (h ++ n) (itself d)
+      second), (append_assoc d h n), (append_assoc p m n), (zip-append (SameMessage cmp) (d ++ h) n (p ++ m) n first
+      (itself n)))
 
   -- one stretch and then another
   pub conserved_then : (p q r : Planned P) (ms ns : List (Message P)) (cs ds : List (Completed P))
       → IsConserved cmp p ms cs q → IsConserved cmp q ns ds r
       → IsConserved cmp p (ms ++ ns) (cs ++ ds) r
-  conserved_then p q r ms ns cs ds a b = grind (arith, common_steps, zip-append, filter-append, both_done)
+  conserved_then p q r ms ns cs ds a b = grind (arith, zip-append, filter-append, both_done)
 
   one_next : (p : Planned P) (call : Call P) (calls : List (Call P)) (t : Option ℕ) (replies : List (Reply P))
       → Obeyed cmp p (call ∷ calls) (reply_next t ∷ replies) → Obeyed cmp p calls replies
-  one_next p (call_limit now peer egress ingress) calls t replies obeyed = absurd obeyed
-  one_next p (call_limit_link now origin recipient cap) calls t replies obeyed = absurd obeyed
-  one_next p (call_enqueue now m) calls t replies obeyed = absurd obeyed
-  one_next p (call_enqueue_all now ms) calls t replies obeyed = absurd obeyed
-  one_next p (call_advance now) calls t replies obeyed = absurd obeyed
   one_next p call_next calls t replies obeyed = obeyed.1
+  one_next p call calls t replies obeyed = absurd obeyed
 
   one_refused : (p : Planned P) (call : Call P) (calls : List (Call P)) (why : Error) (replies : List (Reply P))
       → Obeyed cmp p (call ∷ calls) (reply_refused why ∷ replies) → Obeyed cmp p calls replies
-  one_refused p (call_limit now peer egress ingress) calls why replies obeyed = obeyed.1
-  one_refused p (call_limit_link now origin recipient cap) calls why replies obeyed = obeyed.1
-  one_refused p (call_enqueue now m) calls why replies obeyed = obeyed.1
-  one_refused p (call_enqueue_all now ms) calls why replies obeyed = obeyed.1
-  one_refused p (call_advance now) calls why replies obeyed = obeyed.1
   one_refused p call_next calls why replies obeyed = absurd obeyed
+  one_refused p call calls why replies obeyed = obeyed.1
 
   -- the first call is accepted, and the others follow
   record IsAccepted (p : Planned P) (call : Call P) (calls : List (Call P)) (cs : List (Completed P))
@@ -132,34 +118,20 @@ module _ {P : Type 0} (cmp : P → P → Ordering) (order : IsTotalOrder cmp) wh
   one_accepted : (p : Planned P) (call : Call P) (calls : List (Call P)) (cs : List (Completed P))
       (replies : List (Reply P))
       → Obeyed cmp p (call ∷ calls) (reply_done cs ∷ replies) → IsAccepted p call calls cs replies
-  one_accepted p (call_limit now peer egress ingress) calls cs replies obeyed =
-      record { answers = obeyed.0; after = obeyed.1; obeys = obeyed.2; same = obeyed.3; rest = obeyed.4 }
-  one_accepted p (call_limit_link now origin recipient cap) calls cs replies obeyed =
-      record { answers = obeyed.0; after = obeyed.1; obeys = obeyed.2; same = obeyed.3; rest = obeyed.4 }
-  one_accepted p (call_enqueue now m) calls cs replies obeyed =
-      record { answers = obeyed.0; after = obeyed.1; obeys = obeyed.2; same = obeyed.3; rest = obeyed.4 }
-  one_accepted p (call_enqueue_all now ms) calls cs replies obeyed =
-      record { answers = obeyed.0; after = obeyed.1; obeys = obeyed.2; same = obeyed.3; rest = obeyed.4 }
-  one_accepted p (call_advance now) calls cs replies obeyed =
-      record { answers = obeyed.0; after = obeyed.1; obeys = obeyed.2; same = obeyed.3; rest = obeyed.4 }
   one_accepted p call_next calls cs replies obeyed = absurd obeyed
+  one_accepted p call calls cs replies obeyed =
+      record { answers = obeyed.0; after = obeyed.1; obeys = obeyed.2; same = obeyed.3; rest = obeyed.4 }
 
   -- where nothing is done
   pub none_conserved : (p : Planned P) → IsConserved cmp p [] [] p
-  none_conserved p = grind (arith, common_steps, append-nil, itself)
+  none_conserved p = grind (arith, append-nil, itself)
 
   -- from a planned world in order
   pub obeyed_conserved : (p : Planned P) (calls : List (Call P)) (replies : List (Reply P)) → IsOrderly cmp p
       → Obeyed cmp p calls replies → AreConserved cmp p calls replies
-  obeyed_conserved p [] [] h obeyed = grind (arith, common_steps, none_conserved)
+  obeyed_conserved p [] [] h obeyed = grind (arith, none_conserved)
   obeyed_conserved p [] (reply ∷ replies) h obeyed = absurd obeyed
   obeyed_conserved p (call ∷ calls) [] h obeyed = absurd obeyed
-  obeyed_conserved p (call ∷ calls) (reply_next t ∷ replies) h obeyed =
-      grind (arith, common_steps, one_next, (obeyed_conserved p calls replies h (one_next p call calls t replies
-      obeyed)))
-  obeyed_conserved p (call ∷ calls) (reply_refused why ∷ replies) h obeyed =
-      grind (arith, common_steps, one_refused, (obeyed_conserved p calls replies h (one_refused p call calls why
-      replies obeyed)))
   obeyed_conserved p (call ∷ calls) (reply_done cs ∷ replies) h obeyed =
       let one : IsAccepted p call calls cs replies = one_accepted p call calls cs replies obeyed in
       let first : IsConserved cmp p (enqueued (call ∷ [])) cs one.after
@@ -179,3 +151,4 @@ module _ {P : Type 0} (cmp : P → P → Ordering) (order : IsTotalOrder cmp) wh
             (conserved_then p one.after rest.last (enqueued (call ∷ [])) (enqueued (made calls replies)) cs
             (answered (completions_in replies)) first rest.conserved);
       }
+  obeyed_conserved p (call ∷ calls) (reply ∷ replies) h obeyed = grind (arith, (obeyed_conserved p calls replies h))

@@ -1,16 +1,15 @@
 -- Calls on a world, and on the part of it that is a set's messages.
-use Rattle.std.proofs.lemmas.Grind.{common_steps}
-use Rattle.link_simulation.proofs.Common.{◌≡◌, ℕ, ◌+◌, ◌-◌, ◌<◌, ◌≤◌, List, [], ◌∷◌, ◌++◌, map, length, Bool, true}
-use Rattle.link_simulation.proofs.Common.{false, cond, Option, Some, None, refl, sym, ap, ◌∙◌, subst, arith, append-nil}
-use Rattle.link_simulation.proofs.Common.{◌⊎◌, inl, inr, ⊤, ◌&&◌, nat_lt, if◌then◌else◌, filter, Ordering, IsTotalOrder}
-use Rattle.link_simulation.proofs.Common.{filter-append, and_parts, same_peer, Completed, Course, Flight, World}
-use Rattle.link_simulation.proofs.Common.{and_then, completion_of, first_waiting, flows, goes, is_done, last_moment}
-use Rattle.link_simulation.proofs.Common.{later_of, meets, new_world, preceded, raised, settle, start_next, EndsWith}
-use Rattle.link_simulation.proofs.Common.{Call, IsInTurn, Runs, act, call_advance, call_enqueue, call_limit}
-use Rattle.link_simulation.proofs.Common.{call_limit_link, complete_at_once, moment_of, limited_by, call_enqueue_all}
-use Rattle.link_simulation.proofs.Common.{call_next, linked_by, enqueue, enqueue_each, flagged, Answers, InTime}
-use Rattle.link_simulation.proofs.Common.{call_answers, no_calls, Caps, Message, is_delivered, same_pair, AreFair}
-use Rattle.link_simulation.proofs.Common.{Parts, NextIs, Ticks, no_tick, MomentTooLate, each_joined, Each, In}
+use Rattle.link_simulation.proofs.Common.{◌≡◌, ℕ, ◌+◌, ◌-◌, ◌<◌, ◌≤◌, List, [], ◌∷◌, ◌++◌, map, Bool, true, false, cond}
+use Rattle.link_simulation.proofs.Common.{Option, Some, None, refl, sym, ap, ◌∙◌, subst, arith, append-nil, ◌⊎◌, inl}
+use Rattle.link_simulation.proofs.Common.{inr, ⊤, ◌&&◌, nat_lt, if◌then◌else◌, filter, Ordering, IsTotalOrder}
+use Rattle.link_simulation.proofs.Common.{filter-append, and_parts, Completed, Course, Flight, World, and_then}
+use Rattle.link_simulation.proofs.Common.{completion_of, first_waiting, flows, goes, last_moment, later_of, meets}
+use Rattle.link_simulation.proofs.Common.{new_world, preceded, raised, settle, start_next, EndsWith, Call, IsInTurn}
+use Rattle.link_simulation.proofs.Common.{Runs, act, call_advance, call_enqueue, call_limit, call_limit_link}
+use Rattle.link_simulation.proofs.Common.{complete_at_once, moment_of, limited_by, call_enqueue_all, call_next}
+use Rattle.link_simulation.proofs.Common.{linked_by, enqueue, enqueue_each, flagged, Answers, InTime, call_answers}
+use Rattle.link_simulation.proofs.Common.{no_calls, Caps, Message, same_pair, AreFair, Parts, NextIs, Ticks, no_tick}
+use Rattle.link_simulation.proofs.Common.{MomentTooLate, each_joined, Each, In}
 use Rattle.std.specs.Prelude.{Contains}
 use Rattle.link_simulation.specs.Laws.Isolation.{AnswersInTurn, AreApart, IsApart, IsSet, KeepsApart, NothingElse}
 use Rattle.link_simulation.specs.Laws.Isolation.{answers_in_turn, inside_alone, is_kept, kept_calls, kept_completions}
@@ -20,7 +19,7 @@ use Rattle.link_simulation.proofs.Laws.PartRates.{SharesNoSide}
 use Rattle.fair_rates.proofs.Lists.Members.{contains_from_in}
 use Rattle.link_simulation.proofs.Simulation.SettlingEnds.{ends_and_then, ends_cond, each_ends, NoneDone, settle_rests}
 use Rattle.link_simulation.proofs.Simulation.FilteredFronts.{find_kept, none_kept}
-use Rattle.link_simulation.proofs.Simulation.Split.{ticks_on, rest_is}
+use Rattle.link_simulation.proofs.Simulation.Split.{ticks_on}
 use Rattle.link_simulation.proofs.Simulation.EveryInstant.{ticks_end, first_event, settle_moment, start_next_moment}
 use Rattle.link_simulation.proofs.Laws.Isolation.{part, IsPart, IsPartOf, part_alike, goes_alike, part_then}
 use Rattle.link_simulation.proofs.Laws.Isolation.{settle_part, start_next_mine, start_next_other, raised_same}
@@ -39,7 +38,7 @@ module _ {P : Type 0} (cmp : P → P → Ordering) (order : IsTotalOrder cmp) (i
   Whole m = inside m.origin ≡ inside m.recipient
 
   pub alike : (m n : Message P) → same_pair cmp m n ≡ true → mine m ≡ mine n
-  alike m n e = grind (arith, common_steps, and_parts)
+  alike m n e = grind arith
 
   each_in : (ms : List (Message P)) (m : Message P) → Each Whole ms → In ms m → Whole m
   each_in [] m e h = absurd h
@@ -48,7 +47,7 @@ module _ {P : Type 0} (cmp : P → P → Ordering) (order : IsTotalOrder cmp) (i
 
   shares : (w : World P) → Each Whole (flows w) → SharesNoSide cmp w.caps mine (flows w)
   shares w e at_egress m n has_m has_n uses = together m.origin n.origin uses
-  shares w e at_ingress m n has_m has_n uses = grind (arith, common_steps, and_parts, each_in)
+  shares w e at_ingress m n has_m has_n uses = grind (arith, and_parts, each_in)
   shares w e at_link m n has_m has_n uses = alike m n uses
 
   abbrev pub Small : (P → P → Option ℕ) → ℕ → World P → World P
@@ -69,11 +68,11 @@ module _ {P : Type 0} (cmp : P → P → Ordering) (order : IsTotalOrder cmp) (i
 
   settle_in_part : (t : ℕ) (w : World P) (last : P → P → Option ℕ) (id : ℕ) → Within last id w
       → Of (settle cmp t w) (settle cmp t (Small last id w))
-  settle_in_part t w last id is = grind (arith, common_steps, settle_part, alike)
+  settle_in_part t w last id is = grind (arith, settle_part, alike)
 
   queued_within : (w : World P) (m : Message P) (last : P → P → Option ℕ) (id : ℕ) → Within last id w → Whole m
       → Within last id (queued cmp order w m)
-  queued_within w m last id is whole = grind (arith, common_steps, each_joined)
+  queued_within w m last id is whole = grind (arith, each_joined)
 
   queued_filter : (ms : List (Message P)) (m : Message P) (b : Bool) → mine m ≡ b
       → filter mine (ms ++ m ∷ []) ≡ filter mine ms ++ cond b (m ∷ []) []
@@ -134,14 +133,7 @@ module _ {P : Type 0} (cmp : P → P → Ordering) (order : IsTotalOrder cmp) (i
           (record w {
             last_arrival = raised cmp w.last_arrival m (once_at (w.last_arrival m.origin m.recipient) now m);
           })
-      raised_within = record {
-        arrivals = λ n own_n.
-            raised_same cmp order inside alike Whole m n (once_at (last m.origin m.recipient) now m) last w id is own_n
-            ∙ ap (λ at. raised cmp w.last_arrival m at n.origin n.recipient) at_same;
-        ids = is.ids;
-        sending = is.sending;
-        waiting = is.waiting;
-      }
+      raised_within = grind (arith, raised_same, alike, at_same)
 
       by_late : (b : Bool)
           → Of
@@ -223,16 +215,7 @@ module _ {P : Type 0} (cmp : P → P → Ordering) (order : IsTotalOrder cmp) (i
           (record w {
             last_arrival = raised cmp w.last_arrival m (once_at (w.last_arrival m.origin m.recipient) now m);
           })
-      raised_within = record {
-        arrivals = λ n own_n.
-            is.arrivals n own_n
-            ∙ sym
-            (raised_other cmp order inside alike Whole m n (once_at (w.last_arrival m.origin m.recipient) now m)
-            w.last_arrival off own_n);
-        ids = is.ids;
-        sending = is.sending;
-        waiting = is.waiting;
-      }
+      raised_within = grind (arith, raised_other, alike)
 
       by_late : (b : Bool)
           → Of
@@ -255,10 +238,7 @@ module _ {P : Type 0} (cmp : P → P → Ordering) (order : IsTotalOrder cmp) (i
       at_once = by_late (m.should_deliver && nat_lt last_moment (now + m.latency))
 
       still : and_then (goes [] (Small last id w)) (settle cmp now) ≡ goes [] (Small last id w)
-      still =
-          preceded_none (settle cmp now (Small last id w)) ∙ settle_nothing cmp order
-          (length (Small last id w).sending + length (Small last id w).waiting) now (Small last id w)
-          (none_kept (λ (f : Flight P). mine f.message) (is_done cmp w) w.sending rests)
+      still = grind (arith, preceded_none, settle_nothing, none_kept)
 
       by_mode : (b : Bool)
           → Of
@@ -358,12 +338,8 @@ module _ {P : Type 0} (cmp : P → P → Ordering) (order : IsTotalOrder cmp) (i
   act_other : (w : World P) (call : Call P) (last : P → P → Option ℕ) (id : ℕ) → Within last id w → NoneDone cmp order w
       → IsApart inside call → is_kept inside call ≡ false
       → Of (act cmp w call) (goes [] (Small last id w))
-  act_other w (call_limit now peer egress ingress) last id is rests whole off = cc
-  act_other w (call_limit_link now origin recipient link) last id is rests whole off = cc
   act_other w (call_enqueue now m) last id is rests whole off = enqueue_other now w m last id is rests whole off
-  act_other w (call_enqueue_all now ms) last id is rests whole off = cc
-  act_other w (call_advance now) last id is rests whole off = cc
-  act_other w call_next last id is rests whole off = cc
+  act_other w call last id is rests whole off = cc
 
   act_rests : (w : World P) (call : Call P) → NoneDone cmp order w → EndsWith (NoneDone cmp order) (act cmp w call)
   act_rests w (call_limit now peer egress ingress) h =
@@ -396,20 +372,16 @@ module _ {P : Type 0} (cmp : P → P → Ordering) (order : IsTotalOrder cmp) (i
   -- a message of others comes before the next event
   other_is_before : (w : World P) (call : Call P) (now : ℕ) → moment_of call ≡ Some now → IsInTurn cmp w call
       → is_kept inside call ≡ false → (t : ℕ) → NextIs cmp w (Some t) → now < t
-  other_is_before w (call_limit s peer egress ingress) now e h off t next = cc
-  other_is_before w (call_limit_link s origin recipient link) now e h off t next = cc
   other_is_before w (call_enqueue s m) now e h off t next =
       let same : s ≡ now = cc in let lt : s < t = h.1 (Some t) next in omega arith
-  other_is_before w (call_enqueue_all s ms) now e h off t next = cc
-  other_is_before w (call_advance s) now e h off t next = cc
-  other_is_before w call_next now e h off t next = cc
+  other_is_before w call now e h off t next = cc
 
   split_course : (c : Course (Completed P) (World P)) (f : World P → Course (Completed P) (World P))
       (cs : List (Completed P)) (u : World P)
       → and_then c f ≡ goes cs u
       → (ds : List (Completed P)) × (v : World P) × (es : List (Completed P)) × (c ≡ goes ds v) × (f v ≡ goes es u)
       × (ds ++ es ≡ cs)
-  split_course (goes ds v) f cs u e = grind (arith, common_steps, rest_is)
+  split_course (goes ds v) f cs u e = grind arith
   split_course (meets fault) f cs u e = cc
 
   -- the part's own world may be behind: nothing of the set happens until it catches up
@@ -563,11 +535,7 @@ module _ {P : Type 0} (cmp : P → P → Ordering) (order : IsTotalOrder cmp) (i
     where
       by_kind : (k : Kind) (m n : Message P) → Whole m → Whole n → uses_at cmp caps k m n ≡ true → mine m ≡ mine n
       by_kind at_egress m n a b uses = together m.origin n.origin uses
-      by_kind at_ingress m n a b uses =
-          a
-          ∙ together m.recipient n.recipient
-          (and_parts (is_delivered cmp n) (same_peer cmp m.recipient n.recipient) uses).1
-          ∙ sym b
+      by_kind at_ingress m n a b uses = grind (arith, and_parts)
       by_kind at_link m n a b uses = alike m n uses
 
   -- from a new world, the set's completions are those of the calls without the messages of others

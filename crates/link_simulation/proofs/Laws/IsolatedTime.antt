@@ -1,10 +1,9 @@
 -- As time goes by, the part of a world that is a set's messages goes its own way.
-use Rattle.std.proofs.lemmas.Grind.{common_steps}
 use Rattle.link_simulation.proofs.Common.{◌≡◌, ℕ, suc, ◌+◌, List, [], ◌∷◌, ◌++◌, map, length, Bool, true, Option, refl}
 use Rattle.link_simulation.proofs.Common.{sym, ap, ◌∙◌, subst, arith, filter, Ordering, IsTotalOrder, filter-append}
 use Rattle.link_simulation.proofs.Common.{Completed, Course, Flight, World, flows, goes, instant, Message, same_pair}
-use Rattle.link_simulation.proofs.Common.{AreFair, Parts, rate_of, Drains, Ticks, drain_each, no_tick, one_tick}
-use Rattle.link_simulation.proofs.Common.{tick_faults, Each, flagged}
+use Rattle.link_simulation.proofs.Common.{AreFair, Parts, Drains, Ticks, drain_each, no_tick, one_tick, tick_faults}
+use Rattle.link_simulation.proofs.Common.{Each, flagged}
 use Rattle.link_simulation.proofs.Laws.PartRates.{SharesNoSide, fair_part}
 use Rattle.link_simulation.proofs.Simulation.Split.{rest_is}
 use Rattle.link_simulation.proofs.Simulation.Rates.{one_each}
@@ -31,7 +30,7 @@ module _ {P : Type 0} (cmp : P → P → Ordering) (order : IsTotalOrder cmp) (i
 
   map_kept : (fs : List (Flight P)) → messages (filter flying fs) ≡ filter mine (messages fs)
   map_kept [] = refl
-  map_kept (f ∷ fs) = grind (arith, common_steps, flying, (map_kept fs))
+  map_kept (f ∷ fs) = grind (arith, (map_kept fs))
 
   each_message : (fs : List (Flight P)) → Each (λ (f : Flight P). T f.message) fs → Each T (messages fs)
   each_message [] e = tt
@@ -39,7 +38,7 @@ module _ {P : Type 0} (cmp : P → P → Ordering) (order : IsTotalOrder cmp) (i
 
   each_drained : (per : ℕ) (rates : Parts) (n : ℕ) (fs : List (Flight P)) → Each (λ (f : Flight P). T f.message) fs
       → Each (λ (f : Flight P). T f.message) (drain_each per rates n fs)
-  each_drained per rates n [] e = grind (arith, common_steps)
+  each_drained per rates n [] e = grind arith
   each_drained per [] n (f ∷ fs) e = e
   each_drained per (r ∷ rs) n (f ∷ fs) e = (e.0, each_drained per rs n fs e.1)
 
@@ -49,8 +48,7 @@ module _ {P : Type 0} (cmp : P → P → Ordering) (order : IsTotalOrder cmp) (i
   drain_kept per [] n [] e = refl
   drain_kept per (r ∷ rs) n [] e = absurd (omega arith)
   drain_kept per [] n (f ∷ fs) e = absurd (omega arith)
-  drain_kept per (r ∷ rs) n (f ∷ fs) e =
-      grind (arith, common_steps, rate_of, flying, (drain_kept per rs n fs (omega arith)))
+  drain_kept per (r ∷ rs) n (f ∷ fs) e = grind (arith, (drain_kept per rs n fs))
 
   -- a nanosecond of the world is one of its part
   pub drain_part : (w v : World P) (last : P → P → Option ℕ) (id : ℕ) → Within last id w → Drains cmp w v
@@ -109,17 +107,13 @@ module _ {P : Type 0} (cmp : P → P → Ordering) (order : IsTotalOrder cmp) (i
       let now : IsPartOf cmp order inside alike T (instant cmp z) (instant cmp (Small last id z)) =
       instant_part cmp order inside alike T z last id drained.0 in
       let landed : IsPartOf cmp order inside alike T (goes ds u) (instant cmp (Small last id z))
-      = subst
-      (λ (c : Course (Completed P) (World P)). IsPartOf cmp order inside alike T c (instant cmp (Small last id z)))
-      i now in
+      = grind arith in
       let later : (l : P → P → Option ℕ) × (j : ℕ) × Within l j v
       × Ticks cmp n (Small landed.0 landed.1 u)
       (goes (filter (λ (c : Completed P). inside c.origin) r.0) (Small l j v))
       = ticks_part t r.0 v landed.0 landed.1 r.1 landed.2 in
       let both : filter (λ (c : Completed P). inside c.origin) ds ++ filter (λ (c : Completed P). inside c.origin) r.0
-      ≡ filter (λ (c : Completed P). inside c.origin) cs =
-      sym (filter-append (λ (c : Completed P). inside c.origin) ds r.0)
-      ∙ ap (filter (λ (c : Completed P). inside c.origin)) r.2 in (
+      ≡ filter (λ (c : Completed P). inside c.origin) cs = grind (arith, filter-append) in (
         later.0,
         later.1,
         later.2,

@@ -1,14 +1,13 @@
 -- The part of a world that is a set's messages goes its own way: what the others do does not touch it.
-use Rattle.std.proofs.lemmas.Grind.{common_steps}
-use Rattle.link_simulation.proofs.Common.{◌≡◌, ℕ, zero, suc, ◌+◌, ◌<◌, ◌≤◌, List, [], ◌∷◌, ◌++◌, length, Bool, true}
-use Rattle.link_simulation.proofs.Common.{false, cond, Option, Some, None, refl, sym, ap, ◌∙◌, subst, arith, append-nil}
-use Rattle.link_simulation.proofs.Common.{⊤, nat_le, filter, find, Ordering, IsTotalOrder, filter-append, without_first}
-use Rattle.link_simulation.proofs.Common.{Completed, Course, Flight, World, and_then, complete, first_waiting, fronts}
-use Rattle.link_simulation.proofs.Common.{goes, instant, is_done, last_moment, least_pair, may_start, meets, preceded}
-use Rattle.link_simulation.proofs.Common.{raised, ready, settle, settle_within, start, start_next, wake, wake_within}
-use Rattle.link_simulation.proofs.Common.{EndsWith, out_of_flight, is_late, completed, arrival, flight_of, Message}
-use Rattle.link_simulation.proofs.Common.{same_pair, FlowIdsUsedUp, MomentTooLate, each_joined, Each}
-use Rattle.link_simulation.proofs.Common.{length-without_first}
+use Rattle.link_simulation.proofs.Common.{common_steps, ◌≡◌, ℕ, zero, suc, ◌+◌, ◌<◌, ◌≤◌, List, [], ◌∷◌, ◌++◌, length}
+use Rattle.link_simulation.proofs.Common.{Bool, true, false, cond, Option, Some, None, refl, sym, ap, ◌∙◌, subst, arith}
+use Rattle.link_simulation.proofs.Common.{append-nil, ⊤, nat_le, filter, find, Ordering, IsTotalOrder, filter-append}
+use Rattle.link_simulation.proofs.Common.{without_first, Completed, Course, Flight, World, and_then, complete}
+use Rattle.link_simulation.proofs.Common.{first_waiting, fronts, goes, instant, is_done, last_moment, least_pair}
+use Rattle.link_simulation.proofs.Common.{may_start, meets, preceded, raised, ready, settle, settle_within, start}
+use Rattle.link_simulation.proofs.Common.{start_next, wake, wake_within, EndsWith, out_of_flight, is_late, completed}
+use Rattle.link_simulation.proofs.Common.{arrival, flight_of, Message, same_pair, FlowIdsUsedUp, MomentTooLate}
+use Rattle.link_simulation.proofs.Common.{each_joined, Each, length-without_first}
 use Rattle.std.proofs.lemmas.Bool.{leb-false, lt-leb}
 use Rattle.link_simulation.proofs.Simulation.Queue.{settle_none, settle_first, find_passes, preceded_none}
 use Rattle.link_simulation.proofs.Simulation.SettlingEnds.{ends_preceded, ends_and_then, ends_cond, length_without}
@@ -63,7 +62,7 @@ module _ {P : Type 0} (cmp : P → P → Ordering) (order : IsTotalOrder cmp) (i
 
   pub part_preceded : (cs : List (Completed P)) (c d : Course (Completed P) (World P)) → IsPartOf c d
       → IsPartOf (preceded cs c) (preceded (filter in_done cs) d)
-  part_preceded cs (goes ds u) d (last, id, is, e) = grind (arith, common_steps, goes_alike, filter-append)
+  part_preceded cs (goes ds u) d (last, id, is, e) = grind (arith, goes_alike, filter-append)
   part_preceded cs (meets fault) d h = tt
 
   pub part_then : (R S : World P → Type 0) (c d : Course (Completed P) (World P))
@@ -72,7 +71,7 @@ module _ {P : Type 0} (cmp : P → P → Ordering) (order : IsTotalOrder cmp) (i
       → ((u : World P) (last : P → P → Option ℕ) (id : ℕ) → IsPart last id u → R u → S (part last id u)
       → IsPartOf (k u) (l (part last id u)))
       → IsPartOf (and_then c k) (and_then d l)
-  part_then R S (goes cs u) d k l (last, id, is, e) r s next = grind (arith, common_steps, part_preceded)
+  part_then R S (goes cs u) d k l (last, id, is, e) r s next = grind (arith, part_preceded)
   part_then R S (meets fault) d k l h r s next = tt
 
   -- ---- a start
@@ -97,7 +96,7 @@ module _ {P : Type 0} (cmp : P → P → Ordering) (order : IsTotalOrder cmp) (i
 
   started_is : (last : P → P → Option ℕ) (id j : ℕ) (w : World P) (m : Message P) → IsPart last id w
       → find (same_pair cmp m) w.waiting ≡ Some m → j ≤ w.next_id + 1 → IsPart last j (started w m)
-  started_is last id j w m is first le = grind (arith, common_steps, each_joined, each_find, each_without)
+  started_is last id j w m is first le = grind (arith, each_joined, each_find, each_without)
 
   start_mine : (w : World P) (m : Message P) (last : P → P → Option ℕ) (id : ℕ) → IsPart last id w
       → find (same_pair cmp m) w.waiting ≡ Some m → mine m ≡ true
@@ -144,7 +143,7 @@ module _ {P : Type 0} (cmp : P → P → Ordering) (order : IsTotalOrder cmp) (i
 
   may_start_same : (t : ℕ) (w : World P) (m : Message P) (last : P → P → Option ℕ) (id : ℕ) → IsPart last id w
       → mine m ≡ true → may_start cmp t (part last id w) m ≡ may_start cmp t w m
-  may_start_same t w m last id is own = grind (arith, common_steps, any_kept)
+  may_start_same t w m last id is own = grind (arith, any_kept)
 
   pub start_next_mine : (t : ℕ) (w : World P) (m : Message P) (o : Option (Message P)) (last : P → P → Option ℕ)
       (id : ℕ)
@@ -152,24 +151,16 @@ module _ {P : Type 0} (cmp : P → P → Ordering) (order : IsTotalOrder cmp) (i
       → find (same_pair cmp m) w.waiting ≡ o → IsPartOf (start_next cmp t w o) (start_next cmp t (part last id w) o)
   start_next_mine t w m None last id is own e = (last, id, is, refl)
   start_next_mine t w m (Some x) last id is own e =
-      let same : same_pair cmp m x ≡ true = find_passes (same_pair cmp m) x w.waiting e in
-      let own_x : mine x ≡ true = sym (alike m x same) ∙ own in
-      let first : find (same_pair cmp x) w.waiting ≡ Some x = find_like cmp order m x w.waiting same ∙ e in
-      rw (may_start_same t w x last id is own_x) (by_may (may_start cmp t w x) (start_mine w x last id is first own_x))
-    where
-      by_may : (b : Bool) → IsPartOf (start cmp w x) (start cmp (part last id w) x)
-          → IsPartOf (cond b (start cmp w x) (goes [] w))
-          (cond b (start cmp (part last id w) x) (goes [] (part last id w)))
-      by_may true h = h
-      by_may false h = (last, id, is, refl)
+      grind (arith, common_steps, start, (may_start_same t w x last id is (sym (alike m x (find_passes (same_pair cmp
+      m) x w.waiting e)) ∙ own)), (start_mine w x last id is (find_like cmp order m x w.waiting (find_passes
+      (same_pair cmp m) x w.waiting e) ∙ e) (sym (alike m x (find_passes (same_pair cmp m) x w.waiting e)) ∙ own)))
 
   pub start_next_other : (t : ℕ) (w : World P) (m : Message P) (o : Option (Message P)) (last : P → P → Option ℕ)
       (id : ℕ)
       → IsPart last id w → mine m ≡ false
       → find (same_pair cmp m) w.waiting ≡ o → IsPartOf (start_next cmp t w o) (goes [] (part last id w))
   start_next_other t w m None last id is off e = (last, id, is, refl)
-  start_next_other t w m (Some x) last id is off e =
-      grind (arith, common_steps, find_passes, start_other, find_like, start)
+  start_next_other t w m (Some x) last id is off e = grind (arith, find_passes, start_other, find_like, start)
 
   -- ---- a completion
 
@@ -181,7 +172,7 @@ module _ {P : Type 0} (cmp : P → P → Ordering) (order : IsTotalOrder cmp) (i
 
   pub raised_other : (m n : Message P) (at : ℕ) (last : P → P → Option ℕ) → mine m ≡ false → mine n ≡ true
       → raised cmp last m at n.origin n.recipient ≡ last n.origin n.recipient
-  raised_other m n at last off own = grind (arith, common_steps)
+  raised_other m n at last off own = grind arith
 
   complete_mine : (t : ℕ) (w : World P) (f : Flight P) (last : P → P → Option ℕ) (id : ℕ) → IsPart last id w
       → find (is_done cmp w) w.sending ≡ Some f → mine f.message ≡ true
@@ -239,17 +230,7 @@ module _ {P : Type 0} (cmp : P → P → Ordering) (order : IsTotalOrder cmp) (i
           (start_next cmp t (out_of_flight cmp t (part last id w) f.message)
           (first_waiting cmp (out_of_flight cmp t (part last id w) f.message) f.message))))
       by_late true h = tt
-      by_late false h =
-          let c : Completed P = completed cmp t f.message in
-          let alone : filter in_done (c ∷ []) ≡ c ∷ [] = rw own refl in
-          let big : Course (Completed P) (World P) =
-          start_next cmp t (out_of_flight cmp t w f.message)
-          (first_waiting cmp (out_of_flight cmp t w f.message) f.message) in
-          let small : Course (Completed P) (World P) =
-          start_next cmp t (out_of_flight cmp t (part last id w) f.message)
-          (first_waiting cmp (out_of_flight cmp t (part last id w) f.message) f.message) in
-          subst (λ (cs : List (Completed P)). IsPartOf (preceded (c ∷ []) big) (preceded cs small)) alone
-          (part_preceded (c ∷ []) big small h)
+      by_late false h = grind (arith, part_preceded)
 
   complete_other : (t : ℕ) (w : World P) (f : Flight P) (last : P → P → Option ℕ) (id : ℕ) → IsPart last id w
       → find (is_done cmp w) w.sending ≡ Some f → mine f.message ≡ false
@@ -297,7 +278,7 @@ module _ {P : Type 0} (cmp : P → P → Ordering) (order : IsTotalOrder cmp) (i
   pub settle_part : (n k t : ℕ) (w : World P) (last : P → P → Option ℕ) (id : ℕ) → IsPart last id w
       → HasAtMost cmp order n w → HasAtMost cmp order k (part last id w)
       → IsPartOf (settle_within cmp n t w) (settle_within cmp k t (part last id w))
-  settle_part zero k t w last id is most few = grind (arith, common_steps, find_in_none, settle_nothing, none_kept)
+  settle_part zero k t w last id is most few = grind (arith, find_in_none, settle_nothing, none_kept)
   settle_part (suc n) k t w last id is most few =
       by_first (find (is_done cmp w) w.sending) refl (λ j u l i g h m. settle_part n j t u l i g h m)
     where
@@ -356,14 +337,7 @@ module _ {P : Type 0} (cmp : P → P → Ordering) (order : IsTotalOrder cmp) (i
           → HasAtMost cmp order j (part l i u)
           → IsPartOf (settle_within cmp n t u) (settle_within cmp j t (part l i u)))
           → IsPartOf (settle_within cmp (suc n) t w) (settle_within cmp k t (part last id w))
-      by_first None e ih =
-          subst (λ (c : Course (Completed P) (World P)). IsPartOf c (settle_within cmp k t (part last id w)))
-          (sym (settle_none cmp order n t w e)) (
-            last,
-            id,
-            is,
-            settle_nothing cmp order k t (part last id w) (none_kept in_flight (is_done cmp w) w.sending e),
-          )
+      by_first None e ih = grind (arith, settle_none, settle_nothing, none_kept)
       by_first (Some f) e ih =
           subst (λ (c : Course (Completed P) (World P)). IsPartOf c (settle_within cmp k t (part last id w)))
           (sym (settle_first cmp order n t w f e)) (by_owner (mine f.message) f e refl ih)
@@ -375,12 +349,12 @@ module _ {P : Type 0} (cmp : P → P → Ordering) (order : IsTotalOrder cmp) (i
 
   start_waits : (k : ℕ) (w : World P) (m : Message P) → find (same_pair cmp m) w.waiting ≡ Some m
       → WaitsAtMost (suc k) w → EndsWith (WaitsAtMost k) (start cmp w m)
-  start_waits k w m first h = grind (arith, common_steps, length_without, ends_cond, started)
+  start_waits k w m first h = grind (arith, length_without, ends_cond, started)
 
   start_next_waits : (k t : ℕ) (w : World P) (o : Option (Message P)) → WaitsAtMost k w
       → EndsWith (WaitsAtMost k) (start_next cmp t w o)
   start_next_waits k t w None h = h
-  start_next_waits k t w (Some m) h = grind (arith, common_steps, length-without_first, ends_cond, start, started)
+  start_next_waits k t w (Some m) h = grind (arith, length-without_first, ends_cond, start, started)
 
   complete_waits : (k t : ℕ) (w : World P) (m : Message P) → WaitsAtMost k w
       → EndsWith (WaitsAtMost k) (complete cmp t w m)
@@ -400,14 +374,8 @@ module _ {P : Type 0} (cmp : P → P → Ordering) (order : IsTotalOrder cmp) (i
       by_first : (o : Option (Flight P)) → find (is_done cmp w) w.sending ≡ o
           → ((v : World P) → WaitsAtMost k v → EndsWith (WaitsAtMost k) (settle_within cmp n t v))
           → EndsWith (WaitsAtMost k) (settle_within cmp (suc n) t w)
-      by_first None e ih =
-          subst (λ (c : Course (Completed P) (World P)). EndsWith (WaitsAtMost k) c)
-          (sym (settle_none cmp order n t w e)) h
-      by_first (Some f) e ih =
-          subst (λ (c : Course (Completed P) (World P)). EndsWith (WaitsAtMost k) c)
-          (sym (settle_first cmp order n t w f e))
-          (ends_and_then (WaitsAtMost k) (WaitsAtMost k) (complete cmp t w f.message) (settle_within cmp n t)
-          (complete_waits k t w f.message h) ih)
+      by_first None e ih = grind (arith, settle_none)
+      by_first (Some f) e ih = grind (arith, settle_first, ends_and_then, complete_waits)
 
   ends_both : (Q R : World P → Type 0) (c : Course (Completed P) (World P)) → EndsWith Q c → EndsWith R c
       → EndsWith (λ v. Q v × R v) c
@@ -442,7 +410,7 @@ module _ {P : Type 0} (cmp : P → P → Ordering) (order : IsTotalOrder cmp) (i
       grind (arith, common_steps, part_then, settle_part, ends_both, settle_waits, settle_rests)
 
   pub wake_part : (n t : ℕ) → GoesByRule n t
-  wake_part zero t k w last id is rests most few = grind (arith, common_steps, none_long, wake_nothing, ready_part)
+  wake_part zero t k w last id is rests most few = grind (arith, none_long, wake_nothing, ready_part)
   wake_part (suc n) t k w last id is rests most few = by_least (least_pair cmp (ready cmp t w)) refl (wake_part n t)
     where
       by_mine : (m : Message P) → least_pair cmp (ready cmp t w) ≡ Some m → mine m ≡ true → (k : ℕ)
@@ -506,11 +474,7 @@ module _ {P : Type 0} (cmp : P → P → Ordering) (order : IsTotalOrder cmp) (i
 
       by_least : (o : Option (Message P)) → least_pair cmp (ready cmp t w) ≡ o → GoesByRule n t
           → IsPartOf (wake_within cmp (suc n) t w) (wake_within cmp k t (part last id w))
-      by_least None e ih =
-          let none : ready cmp t w ≡ [] = least_none cmp order (ready cmp t w) e in
-          subst (λ (c : Course (Completed P) (World P)). IsPartOf c (wake_within cmp k t (part last id w)))
-          (sym (wake_none cmp order n t w e))
-          (last, id, is, wake_nothing k t (part last id w) (ready_part t w last id is ∙ ap (filter mine) none))
+      by_least None e ih = grind (arith, least_none, wake_none, wake_nothing, ready_part)
       by_least (Some m) e ih =
           subst (λ (c : Course (Completed P) (World P)). IsPartOf c (wake_within cmp k t (part last id w)))
           (sym (wake_first cmp order n t w m e)) (by_owner (mine m) m e refl ih)

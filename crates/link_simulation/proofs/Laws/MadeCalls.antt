@@ -1,11 +1,10 @@
 -- Replies that agree with the simulation, to calls in turn, are what the calls that were made answer there.
-use Rattle.std.proofs.lemmas.Grind.{common_steps}
-use Rattle.link_simulation.proofs.Common.{◌≡◌, ℕ, ◌<◌, ◌≤◌, List, [], ◌∷◌, Some, zero, suc, refl, sym, ◌∙◌, subst}
-use Rattle.link_simulation.proofs.Common.{arith, IfSome, AllZip, Ordering, IsTotalOrder, World, new_world, Completed}
-use Rattle.link_simulation.proofs.Common.{goes, IsQuiet, Call, call_limit, call_limit_link, call_enqueue, call_advance}
-use Rattle.link_simulation.proofs.Common.{call_enqueue_all, call_next, moment_of, Runs, IsBeforeNext, IsInTurn, Reply}
-use Rattle.link_simulation.proofs.Common.{reply_done, reply_next, reply_refused, SameCompletion, Agrees, made}
-use Rattle.link_simulation.proofs.Common.{completions_in, Answers, no_calls, call_answers, AreInTurn}
+use Rattle.link_simulation.proofs.Common.{common_steps, ◌≡◌, ℕ, ◌<◌, ◌≤◌, List, [], ◌∷◌, Some, zero, suc, refl, ◌∙◌}
+use Rattle.link_simulation.proofs.Common.{subst, arith, IfSome, AllZip, Ordering, IsTotalOrder, World, new_world}
+use Rattle.link_simulation.proofs.Common.{Completed, goes, IsQuiet, Call, call_advance, call_next, moment_of, Runs}
+use Rattle.link_simulation.proofs.Common.{IsBeforeNext, IsInTurn, Reply, reply_done, reply_next, reply_refused}
+use Rattle.link_simulation.proofs.Common.{SameCompletion, Agrees, made, completions_in, Answers, no_calls, call_answers}
+use Rattle.link_simulation.proofs.Common.{AreInTurn}
 use Rattle.std.specs.Prelude.{take}
 use Rattle.link_simulation.specs.Laws.Isolation.{AnswersInTurn, no_calls_in_turn, answers_in_turn}
 use Rattle.link_simulation.specs.Laws.Replies.{AreAdvancedFirst}
@@ -16,14 +15,9 @@ use Rattle.link_simulation.proofs.Rule.Stepwise.{agrees_next, agrees_refused, ag
 module _ {P : Type 0} (cmp : P → P → Ordering) (order : IsTotalOrder cmp) where
   pub turn_later : (w : World P) (call : Call P) (now : ℕ) → moment_of call ≡ Some now → IsInTurn cmp w call
       → w.moment ≤ now
-  turn_later w (call_limit t peer egress ingress) now e h =
-      let same : t ≡ now = cc in let le : w.moment ≤ t = h.0 in omega arith
-  turn_later w (call_limit_link t origin recipient link) now e h =
-      let same : t ≡ now = cc in let le : w.moment ≤ t = h.0 in omega arith
-  turn_later w (call_enqueue t m) now e h = let same : t ≡ now = cc in let le : w.moment ≤ t = h.0 in omega arith
-  turn_later w (call_enqueue_all t ms) now e h = let same : t ≡ now = cc in let le : w.moment ≤ t = h.0 in omega arith
-  turn_later w (call_advance t) now e h = let same : t ≡ now = cc in let le : w.moment ≤ t = h in omega arith
+  turn_later w (call_advance t) now e h = grind arith
   turn_later w call_next now e h = cc
+  turn_later w call now e h = grind arith
 
   pub any_turn : {w : World P} {calls : List (Call P)} {css : List (List (Completed P))} → AnswersInTurn cmp w calls css
       → Answers cmp w calls css
@@ -60,9 +54,7 @@ module _ {P : Type 0} (cmp : P → P → Ordering) (order : IsTotalOrder cmp) wh
       → moment_of call ≡ Some now → w.moment ≤ now → Runs cmp w call now (goes cs v)
       → (v.moment ≡ now) × IsQuiet cmp v.moment v
   run_ends w v call now cs quiet at le runs =
-      let ends : IsQuiet cmp now v × (v.moment ≡ now) =
-      call_ends_quiet cmp order w call now (goes cs v) quiet at le runs in
-      (ends.1, subst (λ (t : ℕ). IsQuiet cmp t v) (sym ends.1) ends.0)
+      grind (arith, common_steps, (call_ends_quiet cmp order w call now (goes cs v) quiet at le runs))
 
   pub before_next : (w : World P) (now : ℕ) → w.moment ≡ now → IsBeforeNext cmp now w
   before_next w now same = λ next is.
@@ -95,14 +87,6 @@ module _ {P : Type 0} (cmp : P → P → Ordering) (order : IsTotalOrder cmp) wh
       → AreInTurn cmp w calls replies
   advanced_in_turn [] replies w at same quiet first = tt
   advanced_in_turn (call ∷ calls) [] w at same quiet first = tt
-  advanced_in_turn (call_limit now peer egress ingress ∷ calls) (reply ∷ replies) w at same quiet first =
-      grind (arith, common_steps, at_the_moment, before_next, (advanced_in_turn calls replies))
-  advanced_in_turn (call_limit_link now origin recipient cap ∷ calls) (reply ∷ replies) w at same quiet first =
-      grind (arith, common_steps, at_the_moment, before_next, (advanced_in_turn calls replies))
-  advanced_in_turn (call_enqueue now m ∷ calls) (reply ∷ replies) w at same quiet first =
-      grind (arith, common_steps, at_the_moment, before_next, (advanced_in_turn calls replies))
-  advanced_in_turn (call_enqueue_all now ms ∷ calls) (reply ∷ replies) w at same quiet first =
-      grind (arith, common_steps, at_the_moment, before_next, (advanced_in_turn calls replies))
   advanced_in_turn (call_advance now ∷ calls) (reply_done cs ∷ replies) w at same quiet first =
       let le : at ≤ now = first.0 in (
         omega arith,
@@ -117,7 +101,9 @@ module _ {P : Type 0} (cmp : P → P → Ordering) (order : IsTotalOrder cmp) wh
   advanced_in_turn (call_advance now ∷ calls) (reply_refused why ∷ replies) w at same quiet first =
       let le : at ≤ now = first.0 in (omega arith, advanced_in_turn calls replies w at same quiet first.1)
   advanced_in_turn (call_next ∷ calls) (reply ∷ replies) w at same quiet first =
-      grind (arith, common_steps, by_reply, (advanced_in_turn calls replies w at same quiet first))
+      grind (arith, (advanced_in_turn calls replies w at same quiet first))
+  advanced_in_turn (call ∷ calls) (reply ∷ replies) w at same quiet first =
+      grind (arith, at_the_moment, before_next, (advanced_in_turn calls replies))
 
   pub new_in_turn : (calls : List (Call P)) (replies : List (Reply P)) → AreAdvancedFirst 0 calls replies
       → AreInTurn cmp (new_world 0) calls replies

@@ -1,8 +1,7 @@
 -- Each event takes a message out or starts one, so there are at most twice the waiting ones and once those in flight.
-use Rattle.std.proofs.lemmas.Grind.{common_steps}
-use Rattle.link_simulation.proofs.Common.{◌≡◌, ◌≢◌, ℕ, zero, suc, ◌+◌, ◌-◌, ◌<◌, ◌≤◌, List, [], ◌∷◌, ◌++◌, length, Bool}
-use Rattle.link_simulation.proofs.Common.{true, false, not, Option, Some, None, refl, sym, ap, ◌∙◌, subst, arith, ⊤}
-use Rattle.link_simulation.proofs.Common.{slice_get, IfSome, find, filter, Ordering, IsTotalOrder, eq-eqb, Message}
+use Rattle.link_simulation.proofs.Common.{common_steps, ◌≡◌, ◌≢◌, ℕ, zero, suc, ◌+◌, ◌-◌, ◌<◌, ◌≤◌, List, [], ◌∷◌, ◌++◌}
+use Rattle.link_simulation.proofs.Common.{length, Bool, true, false, not, Option, Some, refl, sym, ap, ◌∙◌, subst}
+use Rattle.link_simulation.proofs.Common.{arith, ⊤, slice_get, IfSome, find, filter, Ordering, IsTotalOrder, Message}
 use Rattle.link_simulation.proofs.Common.{Caps, same_pair, Completed, Course, goes, meets, preceded, fronts, completed}
 use Rattle.link_simulation.proofs.Common.{Call, call_limit, call_limit_link, call_enqueue, call_advance}
 use Rattle.link_simulation.proofs.Common.{call_enqueue_all, call_next, Planned, RatedFlight, IsLeastMoment, next_event}
@@ -26,7 +25,7 @@ use Rattle.link_simulation.proofs.Rule.Advance.{earlier_start}
 pub split_length : {X : Type 0} (test : X → Bool) (xs : List X)
     → length (filter test xs) + length (filter (λ x. not (test x)) xs) ≡ length xs
 split_length test [] = refl
-split_length {X} test (x ∷ xs) = grind (arith, common_steps, (split_length test xs))
+split_length {X} test (x ∷ xs) = grind (arith, (split_length test xs))
 
 module _ {P : Type 0} (cmp : P → P → Ordering) (order : IsTotalOrder cmp) where
   -- ---- what each step leaves to do
@@ -41,8 +40,7 @@ module _ {P : Type 0} (cmp : P → P → Ordering) (order : IsTotalOrder cmp) wh
 
   account_counts : (t : ℕ) (old new : Planned P) (leavers : List (Message P)) → Accounts cmp t old leavers new
       → most_events new + length leavers ≡ most_events old
-  account_counts t old new leavers account =
-      grind (arith, common_steps, map_length, zip-length, split_length, drained_length)
+  account_counts t old new leavers account = grind (arith, map_length, zip-length, split_length, drained_length)
 
   look_counts : (t : ℕ) (p q : Planned P) → PlansStart cmp t p q → most_events q ≡ most_events p
   look_counts t p q looks = ap most_events looks.same
@@ -53,14 +51,14 @@ module _ {P : Type 0} (cmp : P → P → Ordering) (order : IsTotalOrder cmp) wh
 
   launched_counts : (t : ℕ) (p : Planned P) (k m : Message P) → next_of cmp p k ≡ Some m
       → most_events (launched cmp t p m) + 1 ≡ most_events p
-  launched_counts t p k m found = grind (arith, common_steps, find_like, find_passes, length_without, longer)
+  launched_counts t p k m found = grind (arith, find_like, find_passes, length_without, longer)
 
   launch_counts : {t : ℕ} {p : Planned P} {o : Option (Message P)} {c : Course (Message P) (Planned P)}
       → Launches cmp t p o c
       → (k : Message P) (ms : List (Message P)) (q : Planned P) → next_of cmp p k ≡ o → c ≡ goes ms q
       → most_events q + length ms ≤ most_events p
-  launch_counts {p = p} nothing_waits k ms q is e = grind (arith, common_steps)
-  launch_counts {p = p} (too_early may) k ms q is e = grind (arith, common_steps)
+  launch_counts {p = p} nothing_waits k ms q is e = grind arith
+  launch_counts {p = p} (too_early may) k ms q is e = grind arith
   launch_counts (no_id may last) k ms q is e = cc
   launch_counts {t = t} {p = p} (starts {m = m} {leavers = leavers} {new = new} may below account) k ms q is e =
       let counts : most_events new + length leavers ≡ most_events (launched cmp t p m) =
@@ -77,7 +75,7 @@ module _ {P : Type 0} (cmp : P → P → Ordering) (order : IsTotalOrder cmp) wh
       → (k m : Message P) (ms : List (Message P)) (q : Planned P) → next_of cmp p k ≡ o → o ≡ Some m
       → may_launch cmp t p m ≡ true → c ≡ goes ms q → most_events q + length ms < most_events p
   launch_less nothing_waits k m ms q is some may e = cc
-  launch_less {t = t} {p = p} (too_early {m = x} early) k m ms q is some may e = grind (arith, common_steps)
+  launch_less {t = t} {p = p} (too_early {m = x} early) k m ms q is some may e = grind arith
   launch_less (no_id first last) k m ms q is some may e = cc
   launch_less {t = t} {p = p} (starts {m = x} {leavers = leavers} {new = new} first below account) k m ms q is some may
       e =
@@ -132,9 +130,9 @@ module _ {P : Type 0} (cmp : P → P → Ordering) (order : IsTotalOrder cmp) wh
       → ms ≡ m ∷ ns → next_of cmp p m ≡ Some m → may_launch cmp t p m ≡ true
       → 0 < most_events p × Leaves (most_events p - 1) c
   wake_less (all_started looks) m ns e found may = cc
-  wake_less {p = p} (no_start {m = x} launch) m ns e found may = grind (arith, common_steps, length_without)
+  wake_less {p = p} (no_start {m = x} launch) m ns e found may = grind (arith, length_without)
   wake_less {p = p} (no_finish {m = x} {more = more} {q = q} launch finishes) m ns e found may =
-      grind (arith, common_steps, length_without)
+      grind (arith, length_without)
   wake_less {t = t} {p = p}
       (starts_one {m = x} {more = more} {q = q} {r = r} {cs = cs} {rest = rest} launch finishes wakes) m ns e found
       may =
@@ -143,8 +141,7 @@ module _ {P : Type 0} (cmp : P → P → Ordering) (order : IsTotalOrder cmp) wh
       let less : most_events q + length more < most_events p = launch_less launch x m more q refl found_x may refl in
       let after : most_events r ≤ most_events q = finish_counts finishes in (
         omega arith,
-        leaves_after (most_events p - 1) cs rest
-            (leaves_more (most_events r) (most_events p - 1) rest (omega arith) (wake_counts wakes)),
+        grind (arith, leaves_after, leaves_more, wake_counts),
       )
 
   -- ---- what is planned stays right
@@ -185,8 +182,7 @@ module _ {P : Type 0} (cmp : P → P → Ordering) (order : IsTotalOrder cmp) wh
       free_is = h.none_at_first
 
       waits : (p.limited ≡ false → p.waiting ≡ []) → p.limited ≡ false → ⊥
-      waits none free =
-          let empty : find (same_pair cmp k) p.waiting ≡ None = ap (find (same_pair cmp k)) (none free) in cc
+      waits none free = grind arith
 
   finish_right : {t : ℕ} {ms : List (Message P)} {p : Planned P} {c : Course (Completed P) (Planned P)}
       → Finishes cmp t ms p c → IsPartlyPlanned p → Right c
@@ -215,7 +211,7 @@ module _ {P : Type 0} (cmp : P → P → Ordering) (order : IsTotalOrder cmp) wh
   settle_right : {t : ℕ} {p : Planned P} {c : Course (Completed P) (Planned P)} → Settles cmp t p c
       → (p.limited ≡ false → p.waiting ≡ []) → Right c
   settle_right {t = t} {p = p} (settling {leavers = leavers} {mid = mid} account finishes) none =
-      grind (arith, common_steps, finish_right)
+      grind (arith, finish_right)
 
   -- ---- events
 
@@ -223,24 +219,22 @@ module _ {P : Type 0} (cmp : P → P → Ordering) (order : IsTotalOrder cmp) wh
   spent_leaves : (t : ℕ) (p : Planned P) (fs : List (RatedFlight P)) (i : ℕ) (f : RatedFlight P)
       → slice_get fs i ≡ Some f → IsSpentAt t f → 0 < length (filter (is_spent cmp p.caps) (drained_to t fs))
   spent_leaves t p [] i f at spent = cc
-  spent_leaves t p (g ∷ gs) zero f at spent = grind (arith, common_steps, eq-eqb)
-  spent_leaves t p (g ∷ gs) (suc i) f at spent = grind (arith, common_steps, (spent_leaves t p gs i f at spent))
+  spent_leaves t p (g ∷ gs) zero f at spent = grind arith
+  spent_leaves t p (g ∷ gs) (suc i) f at spent = grind (arith, (spent_leaves t p gs i f at spent))
 
   settle_less : {t : ℕ} {p : Planned P} {c : Course (Completed P) (Planned P)} → Settles cmp t p c
       → SomeSpentAt p.sending t → 0 < most_events p × Leaves (most_events p - 1) c
   settle_less {t = t} {p = p} {c = c} (settling {leavers = leavers} {mid = mid} account finishes) some =
       let counts : most_events mid + length leavers ≡ most_events p = account_counts t p mid leavers account in
       let out : length leavers ≡ length (filter (is_spent cmp p.caps) (drained_to t p.sending))
-      = ap (λ (ms : List (Message P)). length ms) account.left
-      ∙ map_length (filter (is_spent cmp p.caps) (drained_to t p.sending)) in
-      let one : 0 < length (filter (is_spent cmp p.caps) (drained_to t p.sending)) =
-      spent_leaves t p p.sending some.0 some.1 some.2 some.4 in
+      = grind (arith, map_length) in
+      let one : 0 < length (filter (is_spent cmp p.caps) (drained_to t p.sending)) = grind (arith, spent_leaves) in
       (omega arith, leaves_more (most_events mid) (most_events p - 1) c (omega arith) (finish_counts finishes))
 
   pub first_in_fronts : (m : Message P) (ws : List (Message P)) → find (same_pair cmp m) ws ≡ Some m
       → In (fronts cmp ws) m
   first_in_fronts m [] e = cc
-  first_in_fronts m (x ∷ ws) e = grind (arith, common_steps, in_filter, pair_sym, (first_in_fronts m ws))
+  first_in_fronts m (x ∷ ws) e = grind (arith, in_filter, pair_sym, (first_in_fronts m ws))
 
   wake_event : {t : ℕ} {p : Planned P} {c : Course (Completed P) (Planned P)} → Wakes cmp t p c → SomeReadyAt cmp p t
       → 0 < most_events p × Leaves (most_events p - 1) c
@@ -259,14 +253,10 @@ module _ {P : Type 0} (cmp : P → P → Ordering) (order : IsTotalOrder cmp) wh
       by_list (m ∷ ms) has all wakes = wake_less wakes m ms refl all.0.0 all.0.1
 
   spent_at : (p : Planned P) (t : ℕ) → IsPlanned cmp p → p.finish ≡ Some t → SomeSpentAt p.sending t
-  spent_at p t h is = grind (arith, common_steps)
+  spent_at p t h is = grind arith
 
   ready_at : (p : Planned P) (t : ℕ) → IsPlanned cmp p → p.finish ≢ Some t → next_event p ≡ Some t → SomeReadyAt cmp p t
-  ready_at p t h not_finish is =
-      let start : p.start ≡ Some t = (earlier_start cmp order p.finish p.start t is not_finish).0 in
-      let least : IsLeastMoment (λ s. (h.from ≤ s) × SomeReadyAt cmp p s) (Some t) =
-      subst (λ (o : Option ℕ). IsLeastMoment (λ s. (h.from ≤ s) × SomeReadyAt cmp p s) o) start h.start in
-      least.1.1
+  ready_at p t h not_finish is = grind (arith, common_steps, (earlier_start cmp order p.finish p.start t is not_finish))
 
   -- so many events, and what is left to do after them, are no more than so much
   abbrev Spends : ℕ → ℕ → Course (Completed P) (Planned P) → Type 0
@@ -318,10 +308,7 @@ module _ {P : Type 0} (cmp : P → P → Ordering) (order : IsTotalOrder cmp) wh
       → next_event p ≡ Some now → 0 < n
   some_event {now = now} (no_more before wakes) is =
       let later : now < now = subst (λ (o : Option ℕ). IfSome o (λ t. now < t)) is before in absurd (omega arith)
-  some_event (at_finish is next due event more) e = omega arith
-  some_event (at_start is next due event more) e = omega arith
-  some_event (finish_stops is next due event) e = omega arith
-  some_event (start_stops is next due event) e = omega arith
+  some_event _ e = omega arith
 
   -- ---- calls
 
@@ -341,13 +328,13 @@ module _ {P : Type 0} (cmp : P → P → Ordering) (order : IsTotalOrder cmp) wh
       → Rebalances cmp now caps p c → IsPlanned cmp p → Right c
   unfolding Right
   rebalance_right {now = now} {caps = caps} {p = p} (none_sending {new = new} empty looks) h =
-      grind (arith, common_steps, looked_right)
+      grind (arith, looked_right)
   rebalance_right (some_sending some event) h = settle_right event (λ free. cc)
 
   enqueue_right : {now : ℕ} {m : Message P} {p : Planned P} {c : Course (Completed P) (Planned P)}
       → Enqueues cmp now m p c → IsPlanned cmp p → Right c
   unfolding Right
-  enqueue_right {now = now} {m = m} {p = p} (at_once free) h = grind (arith, common_steps)
+  enqueue_right {now = now} {m = m} {p = p} (at_once free) h = grind arith
   enqueue_right (no_launch limits launch) h = tt
   enqueue_right {m = m} {p = p} (launches {leavers = leavers} {mid = mid} limits launch finishes) h =
       finish_right finishes
@@ -363,7 +350,7 @@ module _ {P : Type 0} (cmp : P → P → Ordering) (order : IsTotalOrder cmp) wh
   each_right all_enqueued h = h
   each_right (one_stops one) h = tt
   each_right (enqueues_one {q = q} {cs = cs} {rest = rest} one more) h =
-      grind (arith, common_steps, enqueue_right, right_after, (each_right more (enqueue_right one h)))
+      grind (arith, enqueue_right, right_after, (each_right more))
 
   -- what is planned is right after each call
   pub obeys_right : (p : Planned P) (call : Call P) (c : Course (Completed P) (Planned P)) → IsPlanned cmp p
@@ -381,4 +368,4 @@ module _ {P : Type 0} (cmp : P → P → Ordering) (order : IsTotalOrder cmp) wh
       by_call call_next obeys = subst Right (sym obeys) h
 
   pub new_is_planned : (id : ℕ) → IsPlanned cmp (new_planned id)
-  new_is_planned id = grind (arith, common_steps)
+  new_is_planned id = grind arith

@@ -1,24 +1,23 @@
 -- Each call keeps a planned world in order.
 use Rattle.link_simulation.proofs.Common.{arith, ◌≡◌, ℕ, List, [], ◌∷◌, Bool, true, false, Option, Some, None, refl}
-use Rattle.link_simulation.proofs.Common.{sym, ap, subst, filter, list_any, AllZip, Ordering, IsTotalOrder, or_from}
-use Rattle.link_simulation.proofs.Common.{or_parts, map-append, Message, Caps, CapsAlike, PairsAlike, OneForEachPair}
-use Rattle.link_simulation.proofs.Common.{same_pair, Completed, Course, goes, EndsWith, completed, Call, call_limit}
-use Rattle.link_simulation.proofs.Common.{call_limit_link, call_enqueue, call_advance, call_enqueue_all, call_next}
-use Rattle.link_simulation.proofs.Common.{limited_by, linked_by, Planned, RatedFlight, new_planned, rated_messages}
-use Rattle.link_simulation.proofs.Common.{drained_to, next_of, AreInPairOrder, may_launch, Accounts, PlansStart}
-use Rattle.link_simulation.proofs.Common.{Launches, nothing_waits, too_early, no_id, starts, Finishes, all_completed}
-use Rattle.link_simulation.proofs.Common.{late, stopped, completes, WakesEach, all_started, no_start, no_finish}
-use Rattle.link_simulation.proofs.Common.{starts_one, Settles, settling, Rebalances, none_sending, some_sending}
-use Rattle.link_simulation.proofs.Common.{Enqueues, at_once, no_launch, launches, Advances, no_more, at_finish}
-use Rattle.link_simulation.proofs.Common.{at_start, finish_stops, start_stops, launched, landed, with_queued, Obeys}
-use Rattle.link_simulation.proofs.Common.{EnqueuesEach, all_enqueued, one_stops, enqueues_one, IsOrderly}
-use Rattle.std.proofs.lemmas.Grind.{common_steps}
+use Rattle.link_simulation.proofs.Common.{sym, ap, subst, filter, list_any, AllZip, Ordering, IsTotalOrder, map-append}
+use Rattle.link_simulation.proofs.Common.{Message, Caps, CapsAlike, PairsAlike, OneForEachPair, same_pair, Completed}
+use Rattle.link_simulation.proofs.Common.{Course, goes, EndsWith, completed, Call, call_limit, call_limit_link}
+use Rattle.link_simulation.proofs.Common.{call_enqueue, call_advance, call_enqueue_all, call_next, limited_by}
+use Rattle.link_simulation.proofs.Common.{linked_by, Planned, RatedFlight, new_planned, rated_messages, drained_to}
+use Rattle.link_simulation.proofs.Common.{next_of, AreInPairOrder, may_launch, Accounts, PlansStart, Launches}
+use Rattle.link_simulation.proofs.Common.{nothing_waits, too_early, no_id, starts, Finishes, all_completed, late}
+use Rattle.link_simulation.proofs.Common.{stopped, completes, WakesEach, all_started, no_start, no_finish, starts_one}
+use Rattle.link_simulation.proofs.Common.{Settles, settling, Rebalances, none_sending, some_sending, Enqueues, at_once}
+use Rattle.link_simulation.proofs.Common.{no_launch, launches, Advances, no_more, at_finish, at_start, finish_stops}
+use Rattle.link_simulation.proofs.Common.{start_stops, launched, landed, with_queued, Obeys, EnqueuesEach, all_enqueued}
+use Rattle.link_simulation.proofs.Common.{one_stops, enqueues_one, IsOrderly, common_steps}
 use Rattle.link_simulation.proofs.Simulation.AlikeMessages.{same_itself}
 use Rattle.link_simulation.proofs.Simulation.Queue.{one_pair_more}
 use Rattle.link_simulation.proofs.Simulation.SettlingEnds.{ends_preceded}
 use Rattle.link_simulation.proofs.Simulation.Sound.{raised_peerwise}
 use Rattle.link_simulation.proofs.Rule.Limit.{no_sides}
-use Rattle.link_simulation.proofs.Rule.SameSteps.{limited_by_same, linked_by_same}
+use Rattle.link_simulation.proofs.Rule.SameSteps.{limited_by_same}
 use Rattle.link_simulation.proofs.Rule.Launch.{pair_order_without}
 use Rattle.link_simulation.proofs.Rule.Enqueue.{queued_in_order}
 
@@ -47,15 +46,13 @@ none_stays t (g ∷ gs) all = absurd all
 pub any_of_fewer : {P : Type 0} (p : Message P → Bool) (test : RatedFlight P → Bool) (fs : List (RatedFlight P))
     → list_any p (rated_messages fs) ≡ false → list_any p (rated_messages (filter test fs)) ≡ false
 any_of_fewer p test [] e = refl
-any_of_fewer {P} p test (f ∷ fs) e =
-    grind (arith, common_steps, or_parts, or_from, (any_of_fewer p test fs (or_parts (p f.message) (list_any p
-    (rated_messages fs)) e).1))
+any_of_fewer {P} p test (f ∷ fs) e = grind (arith, (any_of_fewer p test fs))
 
 module _ {P : Type 0} (cmp : P → P → Ordering) (order : IsTotalOrder cmp) where
   pub one_of_fewer : (test : RatedFlight P → Bool) (fs : List (RatedFlight P)) → OneForEachPair cmp (rated_messages fs)
       → OneForEachPair cmp (rated_messages (filter test fs))
   one_of_fewer test [] one = tt
-  one_of_fewer test (f ∷ fs) one = grind (arith, common_steps, any_of_fewer, (one_of_fewer test fs one.1))
+  one_of_fewer test (f ∷ fs) one = grind (arith, any_of_fewer, (one_of_fewer test fs))
 
   -- in order but for the rates
   pub record IsSteady (p : Planned P) : Type 0 where
@@ -66,27 +63,25 @@ module _ {P : Type 0} (cmp : P → P → Ordering) (order : IsTotalOrder cmp) wh
     pub last_arrival : PairsAlike cmp p.last_arrival p.last_arrival
 
   pub steady : (p : Planned P) → IsOrderly cmp p → IsSteady p
-  steady p h = grind (arith, common_steps)
+  steady p h = grind arith
 
   -- ---- the steps
 
   pub account_orderly : (t : ℕ) (old new : Planned P) (leavers : List (Message P)) → Accounts cmp t old leavers new
       → IsSteady old → IsOrderly cmp new
-  account_orderly t old new leavers a h =
-      grind (arith, common_steps, stayed_messages, one_of_fewer, drained_messages, none_stays)
+  account_orderly t old new leavers a h = grind (arith, stayed_messages, one_of_fewer, drained_messages, none_stays)
 
   look_orderly : (t : ℕ) (p q : Planned P) → PlansStart cmp t p q → IsOrderly cmp p → IsOrderly cmp q
-  look_orderly t p q looks h = grind (arith, common_steps)
+  look_orderly t p q looks h = grind arith
 
   -- a message that may start is of an idle pair
   pub idle_if_may : (t : ℕ) (p : Planned P) (m : Message P) → may_launch cmp t p m ≡ true
       → list_any (same_pair cmp m) (rated_messages p.sending) ≡ false
-  idle_if_may t p m e = grind (arith, common_steps)
+  idle_if_may t p m e = grind arith
 
   pub launched_steady : (t : ℕ) (p : Planned P) (k m : Message P) → next_of cmp p k ≡ Some m
       → may_launch cmp t p m ≡ true → IsSteady p → IsSteady (launched cmp t p m)
-  launched_steady t p k m found may h =
-      grind (arith, common_steps, map-append, one_pair_more, idle_if_may, pair_order_without)
+  launched_steady t p k m found may h = grind (arith, map-append, one_pair_more, idle_if_may, pair_order_without)
 
   pub launch_orderly : {t : ℕ} {p : Planned P} {o : Option (Message P)} {c : Course (Message P) (Planned P)}
       → Launches cmp t p o c
@@ -96,12 +91,11 @@ module _ {P : Type 0} (cmp : P → P → Ordering) (order : IsTotalOrder cmp) wh
   launch_orderly {p = p} (too_early may) k ms q is e h = let same : p ≡ q = cc in subst (IsOrderly cmp) same h
   launch_orderly (no_id may last) k ms q is e h = cc
   launch_orderly {t = t} {p = p} (starts {m = m} {leavers = leavers} {new = new} may below account) k ms q is e h =
-      let same : new ≡ q = cc in
-      subst (IsOrderly cmp) same
-      (account_orderly t (launched cmp t p m) new leavers account (launched_steady t p k m is may (steady p h)))
+      grind (arith, common_steps, (account_orderly t (launched cmp t p m) new leavers account (launched_steady t p k m
+      is may (steady p h))))
 
   pub landed_orderly : (t : ℕ) (p : Planned P) (m : Message P) → IsOrderly cmp p → IsOrderly cmp (landed cmp t p m)
-  landed_orderly t p m h = grind (arith, common_steps, raised_peerwise)
+  landed_orderly t p m h = grind (arith, raised_peerwise)
 
   pub finish_orderly : {t : ℕ} {ms : List (Message P)} {p : Planned P} {c : Course (Completed P) (Planned P)}
       → Finishes cmp t ms p c → IsOrderly cmp p → EndsWith (IsOrderly cmp) c
@@ -130,10 +124,10 @@ module _ {P : Type 0} (cmp : P → P → Ordering) (order : IsTotalOrder cmp) wh
 
   -- but for what is planned
   pub no_finish_steady : (p : Planned P) → IsOrderly cmp p → IsSteady (record p { finish = None })
-  no_finish_steady p h = grind (arith, common_steps)
+  no_finish_steady p h = grind arith
 
   pub no_start_orderly : (p : Planned P) → IsOrderly cmp p → IsOrderly cmp (record p { start = None })
-  no_start_orderly p h = grind (arith, common_steps)
+  no_start_orderly p h = grind arith
 
   advance_orderly : {now n : ℕ} {p : Planned P} {c : Course (Completed P) (Planned P)} → Advances cmp now p n c
       → IsOrderly cmp p → EndsWith (IsOrderly cmp) c
@@ -149,22 +143,21 @@ module _ {P : Type 0} (cmp : P → P → Ordering) (order : IsTotalOrder cmp) wh
 
   pub recapped_steady : (p : Planned P) (caps : Caps P) → CapsAlike cmp caps caps → IsOrderly cmp p
       → IsSteady (record p { caps = caps; limited = true })
-  recapped_steady p caps alike h = grind (arith, common_steps)
+  recapped_steady p caps alike h = grind arith
 
   rebalance_orderly : {now : ℕ} {caps : Caps P} {p : Planned P} {c : Course (Completed P) (Planned P)}
       → Rebalances cmp now caps p c → CapsAlike cmp caps caps → IsOrderly cmp p → EndsWith (IsOrderly cmp) c
-  rebalance_orderly {now = now} {caps = caps} {p = p} (none_sending {new = new} empty looks) alike h =
-      grind (arith, common_steps, look_orderly, no_sides)
+  rebalance_orderly {now = now} {caps = caps} {p = p} (none_sending {new = new} empty looks) alike h = grind arith
   rebalance_orderly {caps = caps} {p = p} (some_sending some event) alike h =
       settle_orderly event (recapped_steady p caps alike h)
 
   pub queued_orderly : (p : Planned P) (m : Message P) → p.limited ≡ true → IsOrderly cmp p
       → IsOrderly cmp (with_queued cmp p m)
-  queued_orderly p m limits h = grind (arith, common_steps, queued_in_order)
+  queued_orderly p m limits h = grind (arith, queued_in_order)
 
   enqueue_orderly : {now : ℕ} {m : Message P} {p : Planned P} {c : Course (Completed P) (Planned P)}
       → Enqueues cmp now m p c → IsOrderly cmp p → EndsWith (IsOrderly cmp) c
-  enqueue_orderly {now = now} {m = m} {p = p} (at_once free) h = grind (arith, common_steps, raised_peerwise)
+  enqueue_orderly {now = now} {m = m} {p = p} (at_once free) h = grind arith
   enqueue_orderly (no_launch limits launch) h = tt
   enqueue_orderly {m = m} {p = p} (launches {leavers = leavers} {mid = mid} limits launch finishes) h =
       finish_orderly finishes (launch_orderly launch m leavers mid refl refl (queued_orderly p m limits h))
@@ -183,7 +176,7 @@ module _ {P : Type 0} (cmp : P → P → Ordering) (order : IsTotalOrder cmp) wh
 
   pub linked_by_alike : (caps : Caps P) (origin recipient : P) (cap : Option ℕ) → CapsAlike cmp caps caps
       → CapsAlike cmp (linked_by cmp caps origin recipient cap) (linked_by cmp caps origin recipient cap)
-  linked_by_alike caps origin recipient cap h = grind (arith, common_steps, linked_by_same, same_itself)
+  linked_by_alike caps origin recipient cap h = grind arith
 
   call_orderly : (p : Planned P) (call : Call P) (c : Course (Completed P) (Planned P)) → Obeys cmp p call c
       → IsOrderly cmp p → EndsWith (IsOrderly cmp) c
@@ -202,4 +195,4 @@ module _ {P : Type 0} (cmp : P → P → Ordering) (order : IsTotalOrder cmp) wh
   obeys_orderly p q call cs obeys h = call_orderly p call (goes cs q) obeys h
 
   pub new_orderly : (id : ℕ) → IsOrderly cmp (new_planned id)
-  new_orderly id = grind (arith, common_steps, no_sides)
+  new_orderly id = grind (arith, no_sides)

@@ -1,18 +1,15 @@
 -- The messages of a pair complete in the order in which they were enqueued, and are delivered in it.
-use Rattle.std.proofs.lemmas.Grind.{common_steps}
-use Rattle.link_simulation.proofs.Common.{◌≡◌, ℕ, suc, ◌+◌, ◌-◌, ◌≤◌, List, [], ◌∷◌, ◌++◌, map, Bool, true, false, cond}
-use Rattle.link_simulation.proofs.Common.{Option, Some, None, refl, sym, ap, ◌∙◌, subst, arith, append_assoc}
-use Rattle.link_simulation.proofs.Common.{append-nil, ◌&&◌, IfSome, nat_lt, if◌then◌else◌, filter, AllZip, Ordering}
-use Rattle.link_simulation.proofs.Common.{IsTotalOrder, filter-append, leb-true, le-leb, MomentTooLate, same_peer}
+use Rattle.link_simulation.proofs.Common.{common_steps, ◌≡◌, ℕ, suc, ◌+◌, ◌-◌, ◌≤◌, List, [], ◌∷◌, ◌++◌, map, Bool}
+use Rattle.link_simulation.proofs.Common.{true, false, cond, Option, Some, None, refl, sym, ap, ◌∙◌, subst, arith}
+use Rattle.link_simulation.proofs.Common.{append_assoc, append-nil, ◌&&◌, IfSome, nat_lt, if◌then◌else◌, filter, AllZip}
+use Rattle.link_simulation.proofs.Common.{Ordering, IsTotalOrder, filter-append, leb-true, le-leb, MomentTooLate}
 use Rattle.link_simulation.proofs.Common.{Message, Caps, PairsAlike, same_pair, World, Flight, Completed, completion_of}
 use Rattle.link_simulation.proofs.Common.{Course, goes, meets, last_moment, preceded, and_then, is_in_order, later_of}
-use Rattle.link_simulation.proofs.Common.{new_world, first_waiting, start_next, raised, settle, instant, EndsWith}
-use Rattle.link_simulation.proofs.Common.{IsSound, Drains, Ticks, no_tick, one_tick, tick_faults, Call, call_limit}
-use Rattle.link_simulation.proofs.Common.{call_limit_link, call_enqueue, call_advance, rebalance, complete_at_once, act}
-use Rattle.link_simulation.proofs.Common.{moment_of, Runs, call_enqueue_all, call_next, limited_by, linked_by, enqueue}
-use Rattle.link_simulation.proofs.Common.{enqueue_each, enqueued, answered, IsCompletionOf, NeverGoDown, Answers}
-use Rattle.link_simulation.proofs.Common.{no_calls, call_answers}
-use Rattle.std.proofs.Common.{max}
+use Rattle.link_simulation.proofs.Common.{new_world, raised, instant, EndsWith, IsSound, Drains, Ticks, no_tick}
+use Rattle.link_simulation.proofs.Common.{one_tick, tick_faults, Call, call_limit, call_limit_link, call_enqueue}
+use Rattle.link_simulation.proofs.Common.{call_advance, complete_at_once, act, moment_of, Runs, call_enqueue_all}
+use Rattle.link_simulation.proofs.Common.{call_next, limited_by, linked_by, enqueue, enqueue_each, enqueued, answered}
+use Rattle.link_simulation.proofs.Common.{IsCompletionOf, NeverGoDown, Answers, no_calls, call_answers}
 use Rattle.link_simulation.specs.Simulation.Calls.{join}
 use Rattle.link_simulation.specs.Laws.PairCompletions.{IsInPairOrder}
 use Rattle.link_simulation.proofs.Simulation.Queue.{pair_sym}
@@ -30,25 +27,21 @@ use Rattle.link_simulation.proofs.Laws.PairHistories.{instant_goes}
 -- what the first call enqueues stands in front
 pub enqueued_split : {P : Type 0} (call : Call P) (calls : List (Call P))
     → enqueued (call ∷ []) ++ enqueued calls ≡ enqueued (call ∷ calls)
-enqueued_split (call_limit now peer egress ingress) calls = refl
-enqueued_split (call_limit_link now origin recipient cap) calls = refl
-enqueued_split (call_enqueue now m) calls = refl
 enqueued_split (call_enqueue_all now ms) calls = ap (λ ns. ns ++ enqueued calls) (append-nil ms)
-enqueued_split (call_advance now) calls = refl
-enqueued_split call_next calls = refl
+enqueued_split call calls = refl
 
 module _ {P : Type 0} (cmp : P → P → Ordering) (order : IsTotalOrder cmp) (k : Message P) where
   -- ---- time
 
   drain_history : (messages : List (Message P)) (t : ℕ) (cs : List (Completed P)) (w v : World P) → Drains cmp w v
       → IsHistory cmp order k messages t cs w → IsHistory cmp order k messages (suc t) cs v
-  drain_history messages t cs w v d h = grind (arith, common_steps, flows_drained, leb-true, le-leb)
+  drain_history messages t cs w v d h = grind (arith, flows_drained, leb-true, le-leb)
 
   ticks_history : {n : ℕ} {w : World P} {c : Course (Completed P) (World P)} → Ticks cmp n w c
       → (messages : List (Message P)) (t : ℕ) (cs ds : List (Completed P)) (v : World P)
       → c ≡ goes ds v → IsHistory cmp order k messages t cs w → IsHistory cmp order k messages (t + n) (cs ++ ds) v
   unfolding GoesByRule
-  ticks_history {w = w} no_tick messages t cs ds v e h = grind (arith, common_steps, append-nil)
+  ticks_history {w = w} no_tick messages t cs ds v e h = grind (arith, append-nil)
   ticks_history {w = w} (one_tick {n = n} {v = z} {u = u} {cs = es} {rest = rest} d i more) messages t cs ds v e h =
       let r : (fs : List (Completed P)) × (rest ≡ goes fs v) × (es ++ fs ≡ ds) = rest_is cmp es rest ds v e in
       let after : IsHistory cmp order k messages (suc t) (cs ++ es) u =
@@ -75,7 +68,7 @@ module _ {P : Type 0} (cmp : P → P → Ordering) (order : IsTotalOrder cmp) (k
   queued_history : (messages : List (Message P)) (t : ℕ) (cs : List (Completed P)) (w : World P) (m : Message P)
       → IsHistory cmp order k messages t cs w
       → IsHistory cmp order k (messages ++ m ∷ []) t cs (record w { waiting = w.waiting ++ m ∷ [] })
-  queued_history messages t cs w m h = grind (arith, common_steps, filter-append, held, append_assoc)
+  queued_history messages t cs w m h = grind (arith, filter-append, held, append_assoc)
 
   none_more : (messages : List (Message P)) (t : ℕ) (cs : List (Completed P)) (w : World P)
       → IsHistory cmp order k messages t cs w → IsHistory cmp order k (messages ++ []) t cs w
@@ -85,7 +78,7 @@ module _ {P : Type 0} (cmp : P → P → Ordering) (order : IsTotalOrder cmp) (k
   recapped_history : (messages : List (Message P)) (t : ℕ) (cs : List (Completed P)) (w : World P) (caps : Caps P)
       → IsHistory cmp order k messages t cs w
       → IsHistory cmp order k messages t cs (record w { caps = caps; limited = true })
-  recapped_history messages t cs w caps h = grind (arith, common_steps)
+  recapped_history messages t cs w caps h = grind arith
 
   -- before any limit a message completes at once, with none ahead of it
   at_once_goes : (messages : List (Message P)) (t : ℕ) (cs : List (Completed P)) (w : World P) (m : Message P)
@@ -107,8 +100,7 @@ module _ {P : Type 0} (cmp : P → P → Ordering) (order : IsTotalOrder cmp) (k
       alike_too = raised_peerwise cmp order w.last_arrival m at h.alike
 
       none_flies : held h.flying ≡ []
-      none_flies = sym h.in_flight
-          ∙ ap (λ (fs : List (Flight P)). filter (same_pair cmp k) (map (λ (f : Flight P). f.message) fs)) sends
+      none_flies = grind arith
 
       all_done : filter (same_pair cmp k) messages ≡ h.done
       all_done =
@@ -116,22 +108,15 @@ module _ {P : Type 0} (cmp : P → P → Ordering) (order : IsTotalOrder cmp) (k
           ∙ ap (λ (ms : List (Message P)). h.done ++ filter (same_pair cmp k) ms) none_waits ∙ append-nil h.done
 
       own_last : same_pair cmp k m ≡ true → last cmp order k after ≡ Some (later_of (last cmp order k w) at)
-      own_last own = let here : (same_peer cmp m.origin k.origin && same_peer cmp m.recipient k.recipient) ≡ true =
-          pair_sym cmp order m k ∙ own in rw here refl
+      own_last own = grind (arith, pair_sym)
 
       other_last : same_pair cmp k m ≡ false → last cmp order k after ≡ last cmp order k w
-      other_last off = let out : (same_peer cmp m.origin k.origin && same_peer cmp m.recipient k.recipient) ≡ false =
-          pair_sym cmp order m k ∙ off in rw out refl
+      other_last off = grind (arith, pair_sym)
 
       grows : same_pair cmp k m ≡ true → (b : Bool)
           → IfSome (if b then Some (if b then later_of (w.last_arrival m.origin m.recipient) (t + m.latency) else t)
           else None) (λ s. is_in_order (last cmp order k w) s ≡ true)
-      grows own true = subst (λ (l : Option ℕ). is_in_order (last cmp order k w) (later_of l (t + m.latency)) ≡ true)
-          (sym (last_of cmp order k w m h.alike own)) (not_before (last cmp order k w))
-        where
-          not_before : (l : Option ℕ) → is_in_order l (later_of l (t + m.latency)) ≡ true
-          not_before None = refl
-          not_before (Some last) = le-leb last (max last (t + m.latency)) (omega arith)
+      grows own true = grind (arith, last_of, le-leb)
       grows own false = tt
 
       reached : (b : Bool)
@@ -139,8 +124,7 @@ module _ {P : Type 0} (cmp : P → P → Ordering) (order : IsTotalOrder cmp) (k
           (t + m.latency) else t) else None) (NotPast cmp order k (Some
           (later_of (last cmp order k w)
           (if b then later_of (w.last_arrival m.origin m.recipient) (t + m.latency) else t))))
-      reached true =
-          reaches_it cmp order k (last cmp order k w) (later_of (w.last_arrival m.origin m.recipient) (t + m.latency))
+      reached true = grind (arith, reaches_it)
       reached false = tt
 
       by_pair : (b : Bool) → same_pair cmp k m ≡ b → IsHistory cmp order k (messages ++ m ∷ []) t (cs ++ c ∷ []) after
@@ -215,12 +199,7 @@ module _ {P : Type 0} (cmp : P → P → Ordering) (order : IsTotalOrder cmp) (k
       waiting = record w { waiting = w.waiting ++ m ∷ [] }
 
       joins : GoesByRule cmp order k (messages ++ m ∷ []) t cs (join cmp t w m)
-      joins =
-          goes_then cmp order k (messages ++ m ∷ []) t cs (start_next cmp t waiting (first_waiting cmp waiting m))
-          (settle cmp t)
-          (next_goes cmp order k (messages ++ m ∷ []) t cs waiting m (first_waiting cmp waiting m) refl
-          (queued_history messages t cs w m h))
-          (λ ds u g. settle_goes cmp order k (messages ++ m ∷ []) t ds u g)
+      joins = grind (arith, goes_then, waiting, next_goes, queued_history, settle_goes)
 
       by_mode : (b : Bool) → w.limited ≡ b
           → GoesByRule cmp order k (messages ++ m ∷ []) t cs (cond b (join cmp t w m) (complete_at_once cmp t w m))
@@ -254,25 +233,15 @@ module _ {P : Type 0} (cmp : P → P → Ordering) (order : IsTotalOrder cmp) (k
       → IsSound cmp w → IsHistory cmp order k messages t cs w
       → GoesByRule cmp order k (messages ++ added call) t cs (act cmp w call)
   act_goes messages t cs w (call_limit s peer egress ingress) e sound h =
-      let same : t ≡ s = cc in
-      subst (λ (n : ℕ). GoesByRule cmp order k (messages ++ []) t cs
-      (rebalance cmp n w (limited_by cmp w.caps peer egress ingress))) same
-      (settle_goes cmp order k (messages ++ []) t cs (record w {
-        caps = limited_by cmp w.caps peer egress ingress;
-        limited = true;
-      }) (none_more messages t cs _ (recapped_history messages t cs w
-      (limited_by cmp w.caps peer egress ingress) h)))
+      grind (arith, common_steps, (limited_by cmp w.caps peer egress ingress), (settle_goes cmp order k (messages ++
+      []) t cs (record w { caps = limited_by cmp w.caps peer egress ingress; limited = true; }) (none_more messages t
+      cs _ (recapped_history messages t cs w (limited_by cmp w.caps peer egress ingress) h))))
   act_goes messages t cs w (call_limit_link s origin recipient cap) e sound h =
-      let same : t ≡ s = cc in
-      subst (λ (n : ℕ). GoesByRule cmp order k (messages ++ []) t cs
-      (rebalance cmp n w (linked_by cmp w.caps origin recipient cap))) same
-      (settle_goes cmp order k (messages ++ []) t cs (record w {
-        caps = linked_by cmp w.caps origin recipient cap;
-        limited = true;
-      }) (none_more messages t cs _ (recapped_history messages t cs w
-      (linked_by cmp w.caps origin recipient cap) h)))
-  act_goes messages t cs w (call_enqueue s m) e sound h = grind (arith, common_steps, enqueue_goes)
-  act_goes messages t cs w (call_enqueue_all s ms) e sound h = grind (arith, common_steps, append-nil, each_goes)
+      grind (arith, common_steps, (settle_goes cmp order k (messages ++ []) t cs (record w { caps = linked_by cmp
+      w.caps origin recipient cap; limited = true; }) (none_more messages t cs _ (recapped_history messages t cs w
+      (linked_by cmp w.caps origin recipient cap) h))))
+  act_goes messages t cs w (call_enqueue s m) e sound h = grind (arith, enqueue_goes)
+  act_goes messages t cs w (call_enqueue_all s ms) e sound h = grind (arith, append-nil, each_goes)
   act_goes messages t cs w (call_advance s) e sound h =
       stays cmp order k (messages ++ []) t cs w (none_more messages t cs w h)
   act_goes messages t cs w call_next e sound h = cc
@@ -286,8 +255,7 @@ module _ {P : Type 0} (cmp : P → P → Ordering) (order : IsTotalOrder cmp) (k
     where
       by_ticked : (c : Course (Completed P) (World P)) → runs.ticked ≡ c
           → IsHistory cmp order k (messages ++ added call) now (cs ++ ds) u
-      by_ticked (meets fault) is = let clash : goes ds u ≡ meets fault =
-          runs.acts ∙ ap (λ (c : Course (Completed P) (World P)). and_then c (λ v. act cmp v call)) is in cc
+      by_ticked (meets fault) is = grind arith
       by_ticked (goes es v) is =
           let count : w.moment + (now - w.moment) ≡ now = omega arith in
           let there : IsHistory cmp order k messages now (cs ++ es) v =
@@ -304,20 +272,19 @@ module _ {P : Type 0} (cmp : P → P → Ordering) (order : IsTotalOrder cmp) (k
 
   ends_in_order : (messages : List (Message P)) (t : ℕ) (cs : List (Completed P)) (w : World P)
       → IsHistory cmp order k messages t cs w → IsInPairOrder cmp k messages cs
-  ends_in_order messages t cs w h = grind (arith, common_steps, held)
+  ends_in_order messages t cs w h = grind arith
 
   answers_in_order : {w : World P} {calls : List (Call P)} {css : List (List (Completed P))} → Answers cmp w calls css
       → (messages : List (Message P)) (cs : List (Completed P))
       → IsSound cmp w → IsHistory cmp order k messages w.moment cs w
       → IsInPairOrder cmp k (messages ++ enqueued calls) (cs ++ answered css)
-  answers_in_order {w = w} no_calls messages cs sound h = grind (arith, common_steps, append-nil, ends_in_order)
+  answers_in_order {w = w} no_calls messages cs sound h = grind (arith, append-nil, ends_in_order)
   answers_in_order {w = w} (call_answers {u = u} {call = call} {now = now} {calls = calls} {cs = ds} {css = css} at
       after runs more) messages cs sound h =
       let next : IsHistory cmp order k (messages ++ added call) now (cs ++ ds) u =
       run_history messages cs ds w u call now at after runs sound h in
       let sound_u : EndsWith (IsSound cmp) (goes ds u) = call_keeps_sound cmp order w call now (goes ds u) sound runs in
-      let here : IsHistory cmp order k (messages ++ added call) u.moment (cs ++ ds) u =
-      subst (λ (s : ℕ). IsHistory cmp order k (messages ++ added call) s (cs ++ ds) u) (sym next.now) next in
+      let here : IsHistory cmp order k (messages ++ added call) u.moment (cs ++ ds) u = grind arith in
       let rest : IsInPairOrder cmp k ((messages ++ added call) ++ enqueued calls) ((cs ++ ds) ++ answered css) =
       answers_in_order more (messages ++ added call) (cs ++ ds) sound_u here in
       subst (λ (ms : List (Message P)). IsInPairOrder cmp k ms (cs ++ (ds ++ answered css)))

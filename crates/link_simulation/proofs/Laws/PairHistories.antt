@@ -1,17 +1,15 @@
 -- How far a pair is: which of its messages completed, which is in flight, which wait. Starts, completions and whole
 -- instants keep it.
-use Rattle.std.proofs.lemmas.Grind.{common_steps}
 use Rattle.link_simulation.proofs.Common.{◌≡◌, ℕ, zero, suc, ◌+◌, ◌≤◌, List, [], ◌∷◌, ◌++◌, map, length, Bool, true}
 use Rattle.link_simulation.proofs.Common.{false, cond, not, Option, Some, None, refl, sym, ap, ◌∙◌, subst, arith}
-use Rattle.link_simulation.proofs.Common.{append_assoc, append-nil, ⊤, ◌&&◌, ◌||◌, IfSome, nat_le, if◌then◌else◌}
-use Rattle.link_simulation.proofs.Common.{list_any, find, filter, AllZip, Ordering, IsTotalOrder, filter-append}
-use Rattle.link_simulation.proofs.Common.{map-append, leb-true, and_parts, without_first, MomentTooLate, FlowIdsUsedUp}
-use Rattle.link_simulation.proofs.Common.{same_peer, Message, PairsAlike, same_pair, is_delivered, World, Flight}
-use Rattle.link_simulation.proofs.Common.{Completed, completion_of, Course, goes, meets, last_moment, preceded}
-use Rattle.link_simulation.proofs.Common.{and_then, is_in_order, later_of, flows, first_waiting, may_start, start}
-use Rattle.link_simulation.proofs.Common.{start_next, is_done, complete, settle_within, settle, least_pair, ready, turn}
-use Rattle.link_simulation.proofs.Common.{wake_within, instant, fronts, out_of_flight, is_late, completed, arrival}
-use Rattle.link_simulation.proofs.Common.{flight_of, IsCompletionOf, NeverGoDown, Each}
+use Rattle.link_simulation.proofs.Common.{append_assoc, append-nil, ⊤, ◌&&◌, ◌||◌, IfSome, if◌then◌else◌, list_any}
+use Rattle.link_simulation.proofs.Common.{find, filter, AllZip, Ordering, IsTotalOrder, filter-append, map-append}
+use Rattle.link_simulation.proofs.Common.{leb-true, without_first, MomentTooLate, same_peer, Message, PairsAlike}
+use Rattle.link_simulation.proofs.Common.{same_pair, is_delivered, World, Flight, Completed, completion_of, Course}
+use Rattle.link_simulation.proofs.Common.{goes, meets, preceded, and_then, is_in_order, later_of, flows, first_waiting}
+use Rattle.link_simulation.proofs.Common.{may_start, start, start_next, is_done, complete, settle_within, settle}
+use Rattle.link_simulation.proofs.Common.{least_pair, ready, turn, wake_within, instant, fronts, out_of_flight, is_late}
+use Rattle.link_simulation.proofs.Common.{completed, arrival, flight_of, IsCompletionOf, NeverGoDown, Each}
 use Rattle.link_simulation.specs.Laws.PairCompletions.{NoneBefore, completes_pair}
 use Rattle.link_simulation.proofs.Simulation.Queue.{pair_like, pair_sym, find_passes, settle_none, settle_first}
 use Rattle.link_simulation.proofs.Simulation.SettlingEnds.{find_like}
@@ -41,8 +39,7 @@ taken_out {X} {Y} p f test x y (z ∷ zs) e own one =
         → (f x ≡ y) × (filter p (map f (without_first test zs)) ≡ []))
         → (f x ≡ y) × (filter p (map f (cond b zs (z ∷ without_first test zs))) ≡ [])
     by_test true is true at e one ih = let same : z ≡ x = cc in let head : f z ≡ y = cc in (ap f (sym same) ∙ head, cc)
-    by_test true is false at e one ih =
-        let same : z ≡ x = cc in let off : p (f x) ≡ false = ap (λ w. p (f w)) (sym same) ∙ at in cc
+    by_test true is false at e one ih = grind arith
     by_test false is true at e one ih =
         let none : filter p (map f zs) ≡ [] = cc in
         let there : list_any p (map f zs) ≡ true = has_one (find_in zs e) in
@@ -81,7 +78,7 @@ taken_out {X} {Y} p f test x y (z ∷ zs) e own one =
 not_taken : {X Y : Type 0} (p : Y → Bool) (f : X → Y) (test : X → Bool) (x : X) (xs : List X) → find test xs ≡ Some x
     → p (f x) ≡ false → filter p (map f (without_first test xs)) ≡ filter p (map f xs)
 not_taken p f test x [] e off = refl
-not_taken {X} {Y} p f test x (z ∷ zs) e off = grind (arith, common_steps, (not_taken p f test x zs))
+not_taken {X} {Y} p f test x (z ∷ zs) e off = grind (arith, (not_taken p f test x zs))
 
 module _ {P : Type 0} (cmp : P → P → Ordering) (order : IsTotalOrder cmp) (k : Message P) where
   -- what completed of the pair, what of it waits, what is in flight, and its last arrival
@@ -128,14 +125,13 @@ module _ {P : Type 0} (cmp : P → P → Ordering) (order : IsTotalOrder cmp) (k
   -- a delivery that no earlier one is past joins them
   pub deliveries_push : (l : Option ℕ) (cs : List (Completed P)) (c : Completed P) → NeverGoDown cs → AllNotPast l cs
       → IfSome c.deliver_at (λ s. is_in_order l s ≡ true) → NeverGoDown (cs ++ c ∷ [])
-  deliveries_push l [] c h past own = grind (arith, common_steps)
-  deliveries_push l (d ∷ ds) c h past own =
-      grind (arith, common_steps, leb-true, none_before_push, (deliveries_push l ds c h.1 past.1 own))
+  deliveries_push l [] c h past own = grind arith
+  deliveries_push l (d ∷ ds) c h past own = grind (arith, leb-true, none_before_push, (deliveries_push l ds c))
 
   pub not_past_later : (l m : Option ℕ) (cs : List (Completed P)) → ((s : ℕ) → NotPast l s → NotPast m s)
       → AllNotPast l cs → AllNotPast m cs
   not_past_later l m [] grows h = tt
-  not_past_later l m (c ∷ cs) grows h = grind (arith, common_steps, (not_past_later l m cs grows h.1))
+  not_past_later l m (c ∷ cs) grows h = grind (arith, (not_past_later l m cs grows))
 
   pub not_past_push : (l : Option ℕ) (cs : List (Completed P)) (c : Completed P) → AllNotPast l cs
       → IfSome c.deliver_at (NotPast l) → AllNotPast l (cs ++ c ∷ [])
@@ -170,7 +166,7 @@ module _ {P : Type 0} (cmp : P → P → Ordering) (order : IsTotalOrder cmp) (k
 
   pub last_of : (w : World P) (m : Message P) → PairsAlike cmp w.last_arrival w.last_arrival
       → same_pair cmp k m ≡ true → w.last_arrival m.origin m.recipient ≡ last w
-  last_of w m alike own = grind (arith, common_steps, and_parts)
+  last_of w m alike own = grind arith
 
   first_of_waits : (w : World P) (m : Message P) → same_pair cmp k m ≡ true → find (same_pair cmp m) w.waiting ≡ Some m
       → waits w ≡ m ∷ filter (same_pair cmp k) (without_first (same_pair cmp m) w.waiting)
@@ -179,25 +175,12 @@ module _ {P : Type 0} (cmp : P → P → Ordering) (order : IsTotalOrder cmp) (k
       by_list : (ws : List (Message P)) → find (same_pair cmp k) ws ≡ Some m
           → filter (same_pair cmp k) ws ≡ m ∷ filter (same_pair cmp k) (without_first (same_pair cmp m) ws)
       by_list [] e = cc
-      by_list (x ∷ ws) e = by_test (same_pair cmp k x) refl (same_pair cmp m x) refl e (by_list ws)
-        where
-          by_test : (b : Bool) → same_pair cmp k x ≡ b → (c : Bool) → same_pair cmp m x ≡ c
-              → cond b (Some x) (find (same_pair cmp k) ws) ≡ Some m
-              → (find (same_pair cmp k) ws ≡ Some m
-              → filter (same_pair cmp k) ws ≡ m ∷ filter (same_pair cmp k) (without_first (same_pair cmp m) ws))
-              → cond b (x ∷ filter (same_pair cmp k) ws) (filter (same_pair cmp k) ws)
-              ≡ m ∷ filter (same_pair cmp k) (cond c ws (x ∷ without_first (same_pair cmp m) ws))
-          by_test true is true at e ih =
-              let same : x ≡ m = cc in ap (λ (y : Message P). y ∷ filter (same_pair cmp k) ws) same
-          by_test true is false at e ih = let on : same_pair cmp m x ≡ true = pair_like cmp order k m x own ∙ is in cc
-          by_test false is true at e ih =
-              let off : same_pair cmp k x ≡ true = sym (pair_like cmp order k m x own) ∙ at in cc
-          by_test false is false at e ih = ih e ∙ ap (λ (ms : List (Message P)). m ∷ ms) (sym (rw is refl))
+      by_list (x ∷ ws) e = grind (arith, pair_like, (by_list ws))
 
   waits_without : (ws : List (Message P)) (m : Message P) → same_pair cmp k m ≡ false
       → filter (same_pair cmp k) (without_first (same_pair cmp m) ws) ≡ filter (same_pair cmp k) ws
   waits_without [] m off = refl
-  waits_without (x ∷ ws) m off = grind (arith, common_steps, pair_sym, pair_like, (waits_without ws m off))
+  waits_without (x ∷ ws) m off = grind (arith, (waits_without ws m off))
 
   joined : World P → Message P → World P
   joined w m = record w {
@@ -208,10 +191,7 @@ module _ {P : Type 0} (cmp : P → P → Ordering) (order : IsTotalOrder cmp) (k
 
   flies_more : (w : World P) (m : Message P) → flies (joined w m) ≡ flies w ++ filter (same_pair cmp k) (m ∷ [])
   unfolding joined
-  flies_more w m =
-      ap (filter (same_pair cmp k)) (map-append (λ (f : Flight P). f.message) w.sending (flight_of m ∷ []))
-      ∙ filter-append
-      (same_pair cmp k) (flows w) (m ∷ [])
+  flies_more w m = grind (arith, map-append, (filter-append (same_pair cmp k) (flows w) (m ∷ [])))
 
   start_history : (messages : List (Message P)) (t : ℕ) (cs : List (Completed P)) (w : World P) (m : Message P)
       → find (same_pair cmp m) w.waiting ≡ Some m
@@ -225,19 +205,12 @@ module _ {P : Type 0} (cmp : P → P → Ordering) (order : IsTotalOrder cmp) (k
 
       apart : (list_any (same_pair cmp m) (flows w) ≡ false)
           × (is_in_order (w.last_arrival m.origin m.recipient) (t + m.latency) ≡ true)
-      apart = may_parts (list_any (same_pair cmp m) (flows w))
-          (is_in_order (w.last_arrival m.origin m.recipient) (t + m.latency)) may
+      apart = grind (arith, may_parts)
 
       like_any : (ns : List (Message P)) → same_pair cmp k m ≡ true → list_any (same_pair cmp m) ns ≡ false
           → list_any (same_pair cmp k) ns ≡ false
       like_any [] own e = refl
-      like_any (n ∷ ns) own e = rw (← pair_like cmp order k m n own) (by_head (same_pair cmp m n) e (like_any ns own))
-        where
-          by_head : (b : Bool) → (b || list_any (same_pair cmp m) ns) ≡ false
-              → (list_any (same_pair cmp m) ns ≡ false → list_any (same_pair cmp k) ns ≡ false)
-              → (b || list_any (same_pair cmp k) ns) ≡ false
-          by_head true e ih = cc
-          by_head false e ih = ih e
+      like_any (n ∷ ns) own e = grind (arith, pair_like, (like_any ns own))
 
       idle_is : flies w ≡ [] → held h.flying ≡ []
       idle_is e = sym h.in_flight ∙ e
@@ -259,20 +232,7 @@ module _ {P : Type 0} (cmp : P → P → Ordering) (order : IsTotalOrder cmp) (k
             alike = h.alike;
             now = h.now;
           }
-      by_pair false off = record {
-        done = h.done;
-        flying = h.flying;
-        told = h.told;
-        in_flight = flies_more w m ∙ ap (λ (ms : List (Message P)). ms ++ filter (same_pair cmp k) (m ∷ []))
-            h.in_flight ∙ rw off (append-nil (held h.flying));
-        queue = h.queue ∙ ap (λ (ms : List (Message P)). h.done ++ (held h.flying ++ ms))
-            (sym (waits_without w.waiting m off));
-        deliveries = h.deliveries;
-        not_past = h.not_past;
-        in_order = h.in_order;
-        alike = h.alike;
-        now = h.now;
-      }
+      by_pair false off = grind (arith, flies_more, append-nil, held, waits_without)
 
   -- ---- courses
 
@@ -304,11 +264,7 @@ module _ {P : Type 0} (cmp : P → P → Ordering) (order : IsTotalOrder cmp) (k
     start_goes : (cs : List (Completed P)) (w : World P) (m : Message P) → find (same_pair cmp m) w.waiting ≡ Some m
         → may_start cmp t w m ≡ true → IsHistory messages t cs w → GoesByRule cs (start cmp w m)
     unfolding joined GoesByRule
-    start_goes cs w m found may h = by_id (nat_le last_moment w.next_id)
-      where
-        by_id : (b : Bool) → GoesByRule cs (cond b (meets FlowIdsUsedUp) (goes [] (joined w m)))
-        by_id true = tt
-        by_id false = stays cs (joined w m) (start_history messages t cs w m found may h)
+    start_goes cs w m found may h = grind (arith, joined, stays, start_history)
 
     pub next_goes : (cs : List (Completed P)) (w : World P) (n : Message P) (o : Option (Message P))
         → find (same_pair cmp n) w.waiting ≡ o → IsHistory messages t cs w → GoesByRule cs (start_next cmp t w o)
@@ -316,8 +272,7 @@ module _ {P : Type 0} (cmp : P → P → Ordering) (order : IsTotalOrder cmp) (k
     next_goes cs w n (Some m) is h = by_may (may_start cmp t w m) refl
       where
         by_may : (b : Bool) → may_start cmp t w m ≡ b → GoesByRule cs (cond b (start cmp w m) (goes [] w))
-        by_may true may = start_goes cs w m
-            (find_like cmp order n m w.waiting (find_passes (same_pair cmp n) m w.waiting is) ∙ is) may h
+        by_may true may = grind (arith, start_goes, find_like, find_passes)
         by_may false may = stays cs w h
 
     -- ---- a completion
@@ -346,9 +301,7 @@ module _ {P : Type 0} (cmp : P → P → Ordering) (order : IsTotalOrder cmp) (k
         own_last own = rw (peers_own own) refl
 
         other_last : same_pair cmp k f.message ≡ false → last (land w f.message) ≡ last w
-        other_last off =
-            let out : (same_peer cmp f.message.origin k.origin && same_peer cmp f.message.recipient k.recipient)
-            ≡ false = pair_sym cmp order f.message k ∙ off in rw out refl
+        other_last off = grind (arith, pair_sym)
 
         by_flying : same_pair cmp k f.message ≡ true → (o : Option (Message P)) → h.flying ≡ o → flies w ≡ held o
             → filter (same_pair cmp k) messages ≡ h.done ++ (held o ++ waits w)
@@ -472,7 +425,7 @@ module _ {P : Type 0} (cmp : P → P → Ordering) (order : IsTotalOrder cmp) (k
         → GoesByRule cs (settle_within cmp n t w)
     settle_within_goes zero cs w h = stays cs w h
     settle_within_goes (suc n) cs w h =
-        grind (arith, common_steps, settle_none, stays, settle_first, goes_then, complete_goes, (settle_within_goes n))
+        grind (arith, settle_none, stays, settle_first, goes_then, complete_goes, (settle_within_goes n))
 
     pub settle_goes : (cs : List (Completed P)) (w : World P) → IsHistory messages t cs w
         → GoesByRule cs (settle cmp t w)
@@ -496,9 +449,8 @@ module _ {P : Type 0} (cmp : P → P → Ordering) (order : IsTotalOrder cmp) (k
     wake_within_goes : (n : ℕ) (cs : List (Completed P)) (w : World P) → IsHistory messages t cs w
         → GoesByRule cs (wake_within cmp n t w)
     wake_within_goes zero cs w h = stays cs w h
-    wake_within_goes (suc n) cs w h =
-        grind (arith, common_steps, wake_none, stays, goes_then, turn, turn_goes, (wake_within_goes n))
+    wake_within_goes (suc n) cs w h = grind (arith, wake_none, stays, goes_then, turn, turn_goes, (wake_within_goes n))
 
     pub instant_goes : (cs : List (Completed P)) (w : World P) → IsHistory messages t cs w
         → GoesByRule cs (instant cmp w)
-    instant_goes cs w h = grind (arith, common_steps, goes_then, settle_goes, wake_within_goes)
+    instant_goes cs w h = grind (arith, goes_then, settle_goes, wake_within_goes)

@@ -1,17 +1,16 @@
 -- Fair rates of messages that share no side with the others are fair for them alone.
-use Rattle.std.proofs.lemmas.Grind.{common_steps}
-use Rattle.link_simulation.proofs.Common.{◌≡◌, ℕ, zero, suc, ◌+◌, ◌*◌, ◌≤◌, List, [], ◌∷◌, ◌++◌, map, Bool, true, false}
-use Rattle.link_simulation.proofs.Common.{cond, Option, Some, None, All, Contains, sum_by, refl, sym, ap, ◌∙◌, subst}
-use Rattle.link_simulation.proofs.Common.{arith, ◌⊎◌, inl, inr, ◌&&◌, slice_get, if◌then◌else◌, filter, Ordering}
-use Rattle.link_simulation.proofs.Common.{All-contains, Side, load, IsFair, flagged, same_peer, Message, Caps}
+use Rattle.link_simulation.proofs.Common.{common_steps, ◌≡◌, ℕ, zero, suc, ◌+◌, ◌*◌, ◌≤◌, List, [], ◌∷◌, ◌++◌, map}
+use Rattle.link_simulation.proofs.Common.{Bool, true, false, cond, Option, Some, None, All, Contains, sum_by, refl, sym}
+use Rattle.link_simulation.proofs.Common.{ap, ◌∙◌, subst, arith, ◌⊎◌, inl, inr, ◌&&◌, slice_get, if◌then◌else◌, filter}
+use Rattle.link_simulation.proofs.Common.{Ordering, All-contains, Side, load, IsFair, flagged, same_peer, Message, Caps}
 use Rattle.link_simulation.proofs.Common.{same_pair, is_delivered, AreFair, Parts, capped_sides, sides_for, rates_from}
 use Rattle.link_simulation.proofs.Common.{is_unlimited, egress_side, ingress_side, link_side, All-from_contains, In}
 use Rattle.link_simulation.proofs.Common.{places_from}
 use Rattle.std.proofs.lemmas.List.Sums.{sum_by-cons}
 use Rattle.fair_rates.specs.Fairness.Fair.{IsLimited, HasBottleneck}
 use Rattle.link_simulation.specs.Simulation.Rates.{capped_side}
-use Rattle.fair_rates.proofs.Lists.Members.{in_from_contains, contains_from_in, in_left, in_right, in_either, in_filter}
-use Rattle.fair_rates.proofs.Lists.Members.{from_filter, in_get, from_flat_map, in_flat_map}
+use Rattle.fair_rates.proofs.Lists.Members.{in_from_contains, contains_from_in, in_either, in_filter, from_filter}
+use Rattle.fair_rates.proofs.Lists.Members.{in_get, from_flat_map, in_flat_map}
 use Rattle.fair_rates.proofs.Lists.Places.{place_here, passes_here}
 
 -- which of the caps makes a side
@@ -59,14 +58,7 @@ sum_shifted {X} f g p q test (x ∷ xs) same =
     by_test : (b : Bool) → sum_by f (places_from (p + 1) test xs) ≡ sum_by g (places_from (q + 1) test xs)
         → sum_by f (cond b (p ∷ places_from (p + 1) test xs) (places_from (p + 1) test xs))
         ≡ sum_by g (cond b (q ∷ places_from (q + 1) test xs) (places_from (q + 1) test xs))
-    by_test true ih =
-        omega (
-          arith,
-          here,
-          ih,
-          sum_by-cons f p (places_from (p + 1) test xs),
-          sum_by-cons g q (places_from (q + 1) test xs),
-        )
+    by_test true ih = grind (arith, here, sum_by-cons, places_from)
     by_test false ih = ih
 
 -- a side whose users are all kept has the same load
@@ -82,12 +74,7 @@ kept_load {X} mine uses f (x ∷ xs) all =
 
     later : sum_by (λ i. f (suc (stood (map mine xs) i))) (places_from 0 uses (filter mine xs))
         ≡ sum_by (λ i. f (stood (true ∷ map mine xs) i)) (places_from 1 uses (filter mine xs))
-    later =
-        sum_shifted (λ i. f (suc (stood (map mine xs) i))) (λ i. f (stood (true ∷ map mine xs) i)) 0 1 uses
-        (filter mine xs) (λ i. at_next i)
-      where
-        at_next : (i : ℕ) → f (suc (stood (map mine xs) (0 + i))) ≡ f (stood (true ∷ map mine xs) (1 + i))
-        at_next i = let a : 0 + i ≡ i = omega arith in let b : 1 + i ≡ suc i = omega arith in rw (a, b) refl
+    later = grind (arith, sum_shifted)
 
     by_test : (b : Bool) → mine x ≡ b → (u : Bool) → uses x ≡ u
         → sum_by (λ i. f (suc (stood (map mine xs) i))) (places_from 0 uses (filter mine xs))
@@ -130,12 +117,7 @@ module _ {P : Type 0} (cmp : P → P → Ordering) (caps : Caps P) where
 
       later : rates_from cmp caps (λ i. f (suc (stood (map mine ms) i))) 0 (filter mine ms)
           ≡ rates_from cmp caps (λ i. f (stood (true ∷ map mine ms) i)) 1 (filter mine ms)
-      later =
-          rates_shifted (λ i. f (suc (stood (map mine ms) i))) (λ i. f (stood (true ∷ map mine ms) i)) 0 1
-          (filter mine ms) (λ i. at_next i)
-        where
-          at_next : (i : ℕ) → f (suc (stood (map mine ms) (0 + i))) ≡ f (stood (true ∷ map mine ms) (1 + i))
-          at_next i = let a : 0 + i ≡ i = omega arith in let b : 1 + i ≡ suc i = omega arith in rw (a, b) refl
+      later = grind (arith, rates_shifted)
 
       by_test : (b : Bool)
           → flagged (map mine ms) (rates_from cmp caps (λ i. f (suc i)) 0 ms)
@@ -199,9 +181,7 @@ module _ {P : Type 0} (cmp : P → P → Ordering) (caps : Caps P) where
 
   to_sides_for : (k : Kind) (ms : List (Message P)) (m : Message P) (c : ℕ) → cap_at k m ≡ Some c
       → In (sides_for cmp caps ms m) (side_at k ms m c)
-  to_sides_for at_egress ms m c e = grind (arith, common_steps, in_left, to_side_of)
-  to_sides_for at_ingress ms m c e = grind (arith, common_steps, in_left, in_right, to_side_of)
-  to_sides_for at_link ms m c e = grind (arith, common_steps, in_right, to_side_of)
+  to_sides_for _ ms m c e = grind arith
 
   -- what brings a side to the messages, and which side
   pub from_sides : (ms : List (Message P)) (s : Side) → Contains (capped_sides cmp caps ms) s
@@ -213,7 +193,7 @@ module _ {P : Type 0} (cmp : P → P → Ordering) (caps : Caps P) where
 
   pub to_sides : (k : Kind) (ms : List (Message P)) (m : Message P) (c : ℕ) → In ms m → cap_at k m ≡ Some c
       → Contains (capped_sides cmp caps ms) (side_at k ms m c)
-  to_sides k ms m c has e = grind (arith, common_steps, contains_from_in, in_flat_map, to_sides_for)
+  to_sides k ms m c has e = grind (arith, contains_from_in, in_flat_map, to_sides_for)
 
   -- a side that a message of the set brings is used by messages of the set alone
   abbrev pub SharesNoSide : (Message P → Bool) → List (Message P) → Type 0
@@ -240,11 +220,7 @@ module _ {P : Type 0} (cmp : P → P → Ordering) (caps : Caps P) where
 
     part_within : (s : Side) → Of s → load own_parts s ≤ s.cap * per
     part_within s (m, has, own, (k, c, is, e)) =
-        let fits : load parts (side_at k ms m c) ≤ c * per
-        = All-contains (λ side. load parts side ≤ side.cap * per) (capped_sides cmp caps ms) (side_at k ms m c)
-        fair.within (to_sides k ms m c has is) in
-        subst (λ (z : Side). load own_parts z ≤ z.cap * per) (sym e)
-        (subst (λ n. n ≤ c * per) (sym (same_load k m c has own)) fits)
+        grind (arith, All-contains, (same_load k m c has own), (to_sides k ms m c has is))
 
     -- the bottleneck of a message in the whole list is one in the part
     part_bottleneck : (i : ℕ) (x : Message P) → slice_get (filter mine ms) i ≡ Some x
@@ -333,8 +309,6 @@ module _ {P : Type 0} (cmp : P → P → Ordering) (caps : Caps P) where
   pub fair_part : (mine : Message P → Bool) (ms : List (Message P)) (per : ℕ) (rates : Parts) → SharesNoSide mine ms
       → AreFair cmp caps ms per rates
       → AreFair cmp caps (filter mine ms) per (flagged (map mine ms) rates)
-  fair_part mine ms per rates apart fair = record {
-    parts = λ i. fair.parts (stood (map mine ms) i);
-    fair = part_is_fair mine ms per fair.parts apart fair.fair;
-    rated = ap (flagged (map mine ms)) fair.rated ∙ kept_rates mine fair.parts ms;
-  }
+  fair_part mine ms per rates apart fair = 
+      grind (arith, common_steps, (part_is_fair mine ms per fair.parts apart fair.fair), (kept_rates mine fair.parts
+      ms))

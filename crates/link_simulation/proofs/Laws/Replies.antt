@@ -5,14 +5,11 @@ use Rattle.link_simulation.proofs.Common.{new_world, Completed, Call, Reply, rep
 use Rattle.link_simulation.proofs.Common.{SameCompletion, Agrees, made, completions_in, enqueued, answered}
 use Rattle.link_simulation.proofs.Common.{IsCompletionOf, NeverGoDown, Answers, InTime, Completes, zip-append}
 use Rattle.link_simulation.proofs.Common.{zip-filter}
-use Rattle.std.proofs.lemmas.Grind.{common_steps}
 use Rattle.std.specs.Prelude.{take}
 use Rattle.link_simulation.specs.Laws.PairCompletions.{NoneBefore, completes_pair, IsInPairOrder}
 use Rattle.link_simulation.specs.Laws.Isolation.{IsSet, NothingElse, inside_alone, is_kept, kept_calls}
 use Rattle.link_simulation.specs.Laws.Isolation.{kept_completions}
 use Rattle.link_simulation.specs.Laws.Replies.{AlwaysSoFar, CompletesInOrder, CompletePairsInOrder, IsolateSets}
-use Rattle.link_simulation.proofs.Simulation.Queue.{both_alike}
-use Rattle.link_simulation.proofs.Simulation.AlikeMessages.{same_itself, peers_alike}
 use Rattle.link_simulation.proofs.Laws.PairCompletions.{pair_in_order}
 use Rattle.link_simulation.proofs.Laws.IsolatedCalls.{isolation}
 use Rattle.link_simulation.proofs.Laws.MadeCalls.{Bridged, made_in_turn, any_turn}
@@ -56,7 +53,7 @@ module _ {P : Type 0} (cmp : P → P → Ordering) (order : IsTotalOrder cmp) wh
 
   completes_alike : (k : Message P) (c d : Completed P) → SameCompletion cmp c d
       → completes_pair cmp k c ≡ completes_pair cmp k d
-  completes_alike k c d same = grind (arith, common_steps, both_alike, peers_alike, same_itself)
+  completes_alike k c d same = grind arith
 
   completions_of : (cs ds : List (Completed P)) (ms : List (Message P)) → AllZip (SameCompletion cmp) cs ds
       → AllZip IsCompletionOf ds ms → AllZip (Completes cmp) cs ms
@@ -64,43 +61,33 @@ module _ {P : Type 0} (cmp : P → P → Ordering) (order : IsTotalOrder cmp) wh
   completions_of [] (d ∷ ds) ms same all = absurd same
   completions_of (c ∷ cs) [] ms same all = absurd same
   completions_of (c ∷ cs) (d ∷ ds) [] same all = absurd all
-  completions_of (c ∷ cs) (d ∷ ds) (m ∷ ms) same all =
-      grind (arith, common_steps, (completions_of cs ds ms same.1 all.1))
+  completions_of (c ∷ cs) (d ∷ ds) (m ∷ ms) same all = grind (arith, (completions_of cs ds ms))
 
   none_before : (t : ℕ) (cs ds : List (Completed P)) → AllZip (SameCompletion cmp) cs ds → NoneBefore t ds
       → NoneBefore t cs
   none_before t [] ds same none = tt
   none_before t (c ∷ cs) [] same none = absurd same
-  none_before t (c ∷ cs) (d ∷ ds) same none = grind (arith, common_steps, (none_before t cs ds same.1 none.1))
+  none_before t (c ∷ cs) (d ∷ ds) same none = grind (arith, (none_before t cs ds))
 
   never_down : (cs ds : List (Completed P)) → AllZip (SameCompletion cmp) cs ds → NeverGoDown ds → NeverGoDown cs
   never_down [] ds same never = tt
   never_down (c ∷ cs) [] same never = absurd same
-  never_down (c ∷ cs) (d ∷ ds) same never =
-      grind (arith, common_steps, if_more, none_before, (never_down cs ds same.1 never.1))
+  never_down (c ∷ cs) (d ∷ ds) same never = grind (arith, if_more, none_before, (never_down cs ds))
 
   in_order_alike : (k : Message P) (messages : List (Message P)) (cs ds : List (Completed P))
       → AllZip (SameCompletion cmp) cs ds → IsInPairOrder cmp k messages ds
       → CompletesInOrder cmp k messages cs
   in_order_alike k messages cs ds same order_of =
-      let those : AllZip (SameCompletion cmp) (filter (completes_pair cmp k) cs) (filter (completes_pair cmp k) ds)
-      = zip-filter (SameCompletion cmp) (completes_pair cmp k) (completes_pair cmp k) (completes_alike k) cs ds same in
-      record {
-        done = order_of.done;
-        rest = order_of.rest;
-        messages_are = order_of.messages_are;
-        completions_are =
-            completions_of (filter (completes_pair cmp k) cs) (filter (completes_pair cmp k) ds) order_of.done those
-            order_of.completions_are;
-        deliveries =
-            never_down (filter (completes_pair cmp k) cs) (filter (completes_pair cmp k) ds) those order_of.deliveries;
-      }
+      grind (arith, (completions_of (filter (completes_pair cmp k) cs) (filter (completes_pair cmp k) ds) order_of.done
+      (zip-filter (SameCompletion cmp) (completes_pair cmp k) (completes_pair cmp k) (completes_alike k) cs ds same)
+      order_of.completions_are), (never_down (filter (completes_pair cmp k) cs) (filter (completes_pair cmp k) ds)
+      (zip-filter (SameCompletion cmp) (completes_pair cmp k) (completes_pair cmp k) (completes_alike k) cs ds same)
+      order_of.deliveries))
 
   pub pairs_complete_in_order : (calls : List (Call P)) (replies : List (Reply P))
       → Agrees cmp (new_world 0) calls replies → AlwaysSoFar (CompletePairsInOrder cmp) calls replies
   pairs_complete_in_order calls replies agrees n k turns =
-      let bridged : Bridged cmp order (new_world 0) (take n calls) (take n replies) =
-      made_in_turn cmp order n calls replies (new_world 0) agrees turns in
+      let bridged : Bridged cmp order (new_world 0) (take n calls) (take n replies) = grind (arith, made_in_turn) in
       in_order_alike k (enqueued (made (take n calls) (take n replies))) (answered (completions_in (take n replies)))
       (answered bridged.0) (answered_alike (SameCompletion cmp) (completions_in (take n replies)) bridged.0 bridged.2)
       (pair_in_order cmp order k 0 (made (take n calls) (take n replies)) bridged.0 (any_turn cmp order bridged.1))
@@ -110,7 +97,7 @@ module _ {P : Type 0} (cmp : P → P → Ordering) (order : IsTotalOrder cmp) wh
   module _ (inside : P → Bool) (together : IsSet cmp inside) where
     alone_alike : (cs ds : List (Completed P)) → AllZip (SameCompletion cmp) cs ds
         → AllZip (SameCompletion cmp) (inside_alone inside cs) (inside_alone inside ds)
-    alone_alike cs ds same = grind (arith, common_steps, zip-filter)
+    alone_alike cs ds same = grind (arith, zip-filter)
 
     kept_alike : (calls : List (Call P)) (css dss : List (List (Completed P)))
         → AllZip (AllZip (SameCompletion cmp)) css dss
@@ -119,8 +106,7 @@ module _ {P : Type 0} (cmp : P → P → Ordering) (order : IsTotalOrder cmp) wh
     kept_alike (call ∷ calls) [] [] same = tt
     kept_alike (call ∷ calls) [] (ds ∷ dss) same = absurd same
     kept_alike (call ∷ calls) (cs ∷ css) [] same = absurd same
-    kept_alike (call ∷ calls) (cs ∷ css) (ds ∷ dss) same =
-        grind (arith, common_steps, alone_alike, (kept_alike calls css dss same.1))
+    kept_alike (call ∷ calls) (cs ∷ css) (ds ∷ dss) same = grind (arith, alone_alike, (kept_alike calls css dss))
 
     nothing_alike : (calls : List (Call P)) (css dss : List (List (Completed P)))
         → AllZip (AllZip (SameCompletion cmp)) css dss → NothingElse inside calls dss → NothingElse inside calls css
@@ -139,8 +125,7 @@ module _ {P : Type 0} (cmp : P → P → Ordering) (order : IsTotalOrder cmp) wh
   pub sets_are_isolated : (calls : List (Call P)) (replies : List (Reply P)) → InTime calls
       → Agrees cmp (new_world 0) calls replies → AlwaysSoFar (IsolateSets cmp) calls replies
   sets_are_isolated calls replies in_time agrees n inside together apart turns =
-      let bridged : Bridged cmp order (new_world 0) (take n calls) (take n replies) =
-      made_in_turn cmp order n calls replies (new_world 0) agrees turns in
+      let bridged : Bridged cmp order (new_world 0) (take n calls) (take n replies) = grind (arith, made_in_turn) in
       let calls_made : List (Call P) = made (take n calls) (take n replies) in
       let isolated : Answers cmp (new_world 0) (kept_calls inside calls_made)
       (kept_completions inside calls_made bridged.0)

@@ -1,8 +1,7 @@
 -- An advance that goes by the event rule is an advance to any moment on the way and then on.
-use Rattle.link_simulation.proofs.Common.{◌≡◌, ℕ, ◌+◌, ◌-◌, ◌≤◌, List, ◌++◌, refl, sym, subst, arith, AllZip, Ordering}
-use Rattle.link_simulation.proofs.Common.{IsTotalOrder, World, Completed, Course, goes, meets, preceded, last_moment}
-use Rattle.link_simulation.proofs.Common.{Ticks, call_advance, Runs, SameCompletion, Planned, StandsFor, GoesByRule}
-use Rattle.link_simulation.proofs.Common.{IsRun}
+use Rattle.link_simulation.proofs.Common.{◌≡◌, ℕ, ◌+◌, ◌-◌, ◌≤◌, List, refl, sym, subst, arith, Ordering, IsTotalOrder}
+use Rattle.link_simulation.proofs.Common.{World, Completed, Course, goes, meets, preceded, last_moment, Ticks}
+use Rattle.link_simulation.proofs.Common.{call_advance, Runs, Planned, GoesByRule, IsRun}
 use Rattle.link_simulation.specs.Simulation.Time.{Continues}
 use Rattle.link_simulation.specs.Rule.Simulated.{RunsInTwo, IsSplitAnywhere}
 use Rattle.link_simulation.proofs.Simulation.Split.{ticks_apart}
@@ -33,21 +32,7 @@ module _ {P : Type 0} (cmp : P → P → Ordering) (order : IsTotalOrder cmp) wh
           → Runs cmp w (call_advance between) between (goes ds v) → v.moment ≡ between
           → (rest : Course (Completed P) (World P)) → Ticks cmp (now - between) v rest
           → goes run.answers run.after ≡ preceded ds rest → RunsInTwo cmp w between now completions q
-      by_rest run ds v first at (goes es u) ticks is =
-          let answers : run.answers ≡ ds ++ es = cc in
-          let world : run.after ≡ u = cc in
-          let ticked : Ticks cmp (now - v.moment) v (goes es u) =
-          subst (λ (s : ℕ). Ticks cmp (now - s) v (goes es u)) (sym at) ticks in
-          record {
-            first_answers = ds;
-            between = v;
-            runs_first = first;
-            second_answers = es;
-            after = u;
-            runs_second = runs_of v now (goes es u) ticked;
-            same = subst (λ (xs : List (Completed P)). AllZip (SameCompletion cmp) completions xs) answers run.same;
-            stands = subst (λ (x : World P). StandsFor cmp q x) world run.stands;
-          }
+      by_rest run ds v first at (goes es u) ticks is = grind (arith, runs_of)
       by_rest run ds v first at (meets fault) ticks is = cc
 
       by_first : (run : IsRun cmp w (call_advance now) now completions q) (first : Course (Completed P) (World P))

@@ -1,13 +1,11 @@
 -- An account at t takes out what is done in the world at t, and leaves the rest as it is there.
-use Rattle.std.proofs.lemmas.Grind.{common_steps}
-use Rattle.link_simulation.proofs.Common.{◌≡◌, ℕ, suc, ◌-◌, ◌<◌, List, [], ◌∷◌, map, Bool, true, false, cond, not}
-use Rattle.link_simulation.proofs.Common.{Option, Some, None, refl, sym, ap, ◌∙◌, subst, arith, IfSome, slice_get}
-use Rattle.link_simulation.proofs.Common.{filter, list_any, AllZip, Ordering, IsTotalOrder, or_parts, not-true, Amount}
-use Rattle.link_simulation.proofs.Common.{drained, reduced, reduced_positive, Flight, World, is_done, Accounts, Message}
-use Rattle.link_simulation.proofs.Common.{OneForEachPair, PairsAlike, SameMessage, same_pair, CapsAlike, AreInPairOrder}
-use Rattle.link_simulation.proofs.Common.{RatedFlight, Planned, drained_to, is_spent, left_at, rated_messages, AreFair}
-use Rattle.link_simulation.proofs.Common.{IsLowest, Parts, drained_by, is_unlimited, rate_of, Follows, IsSameFlight}
-use Rattle.link_simulation.proofs.Common.{Tallies, leaving, staying, Each, zip-filter}
+use Rattle.link_simulation.proofs.Common.{common_steps, ◌≡◌, ℕ, suc, ◌-◌, ◌<◌, List, [], ◌∷◌, map, Bool, true, false}
+use Rattle.link_simulation.proofs.Common.{not, Some, None, refl, sym, ap, ◌∙◌, subst, arith, slice_get, filter, AllZip}
+use Rattle.link_simulation.proofs.Common.{Ordering, IsTotalOrder, Amount, reduced, reduced_positive, Flight, World}
+use Rattle.link_simulation.proofs.Common.{is_done, Accounts, Message, OneForEachPair, PairsAlike, SameMessage}
+use Rattle.link_simulation.proofs.Common.{same_pair, CapsAlike, AreInPairOrder, RatedFlight, Planned, drained_to}
+use Rattle.link_simulation.proofs.Common.{is_spent, left_at, rated_messages, AreFair, IsLowest, Parts, is_unlimited}
+use Rattle.link_simulation.proofs.Common.{rate_of, Follows, IsSameFlight, Tallies, leaving, staying, Each, zip-filter}
 use Rattle.link_simulation.proofs.Simulation.LowestTerms.{drained_by_lowest, drained_none}
 use Rattle.link_simulation.proofs.Simulation.Queue.{any_filter}
 use Rattle.link_simulation.proofs.Simulation.AlikeMessages.{unlimited_alike}
@@ -19,7 +17,7 @@ use Rattle.link_simulation.proofs.Simulation.Rates.{all_rated}
 -- each that stays passes
 pub each_passes : {X : Type 0} (test : X → Bool) (xs : List X) → Each (λ x. test x ≡ true) (filter test xs)
 each_passes test [] = tt
-each_passes {X} test (x ∷ xs) = grind (arith, common_steps, (each_passes test xs))
+each_passes {X} test (x ∷ xs) = grind (arith, (each_passes test xs))
 
 -- what matches nothing is nothing
 pub none_matched : {X Y : Type 0} (R : X → Y → Type 0) (ys : List Y) → AllZip R [] ys → ys ≡ []
@@ -40,7 +38,7 @@ module _ {P : Type 0} (cmp : P → P → Ordering) (order : IsTotalOrder cmp) wh
   drawn t [] [] all = tt
   drawn t [] (g ∷ gs) all = absurd all
   drawn t (f ∷ fs) [] all = absurd all
-  drawn t (f ∷ fs) (g ∷ gs) all = grind (arith, common_steps, drained_by_lowest, (drawn t fs gs all.1))
+  drawn t (f ∷ fs) (g ∷ gs) all = grind (arith, drained_by_lowest, (drawn t fs gs))
 
   spent_alike : (p : Planned P) (w : World P) → CapsAlike cmp p.caps w.caps → (n : RatedFlight P) (g : Flight P)
       → IsDrawn n g → is_spent cmp p.caps n ≡ is_done cmp w g
@@ -73,15 +71,8 @@ module _ {P : Type 0} (cmp : P → P → Ordering) (order : IsTotalOrder cmp) wh
       let low : IsLowest n.left = subst IsLowest (sym stayed.0.2) all.0.lowest in
       let no_time : t - n.updated ≡ 0 = omega arith in
       let left : left_at t n ≡ n.left
-      = ap (λ (r : Option Amount). drained_by r (t - n.updated) n.left) rated.0
-      ∙ ap (λ (k : ℕ). drained n.left rate k) no_time ∙ drained_none n.left rate low positive in (
-        record {
-          message = subst (λ (m : Message P). SameMessage cmp m g.message) (sym stayed.0.1) all.0.message;
-          updated = omega arith;
-          lowest = low;
-          rate = subst (λ (r : Option Amount). IfSome r (λ x. 0 < x.den)) (sym rated.0) positive;
-          left = all.0.left ∙ sym stayed.0.2 ∙ sym left;
-        },
+      = grind (arith, drained_none) in (
+        grind arith,
         rated_flights t per rates ss ns gs some all.1 stayed.1 rated.1 (λ i. none (suc i)),
       )
 
@@ -93,30 +84,22 @@ module _ {P : Type 0} (cmp : P → P → Ordering) (order : IsTotalOrder cmp) wh
   each_limited p t [] [] stay stayed = tt
   each_limited p t [] (n ∷ ns) stay stayed = absurd stayed
   each_limited p t (s ∷ ss) [] stay stayed = absurd stayed
-  each_limited p t (s ∷ ss) (n ∷ ns) stay stayed =
-      grind (arith, common_steps, or_parts, not-true, (each_limited p t ss ns stay.1 stayed.1))
+  each_limited p t (s ∷ ss) (n ∷ ns) stay stayed = grind (arith, (each_limited p t ss ns))
 
   one_filter : (test : Flight P → Bool) (fs : List (Flight P))
       → OneForEachPair cmp (map (λ (f : Flight P). f.message) fs)
       → OneForEachPair cmp (map (λ (f : Flight P). f.message) (filter test fs))
   one_filter test [] one = tt
   one_filter test (f ∷ fs) one =
-      by_test (test f) (any_filter cmp order (same_pair cmp f.message) test fs one.0) (one_filter test fs one.1)
-    where
-      by_test : (b : Bool)
-          → list_any (same_pair cmp f.message) (map (λ (f : Flight P). f.message) (filter test fs)) ≡ false
-          → OneForEachPair cmp (map (λ (f : Flight P). f.message) (filter test fs))
-          → OneForEachPair cmp (map (λ (f : Flight P). f.message) (cond b (f ∷ filter test fs) (filter test fs)))
-      by_test true h ih = (h, ih)
-      by_test false h ih = ih
+      grind (arith, common_steps, (any_filter cmp order (same_pair cmp f.message) test fs one.0), (one_filter test fs
+      one.1))
 
   -- an account at t takes out what is done in the world at t, and leaves the rest as it is there
   pub leavers_alike : (t : ℕ) (old new : Planned P) (leavers : List (Message P)) (w : World P) → Tallies cmp t old w
       → Accounts cmp t old leavers new
       → AllZip (SameMessage cmp) leavers (map (λ (g : Flight P). g.message) (leaving cmp w))
   unfolding leaving
-  leavers_alike t old new leavers w same account =
-      grind (arith, common_steps, drawn_messages, zip-filter, spent_alike, drawn)
+  leavers_alike t old new leavers w same account = grind (arith, drawn_messages, zip-filter, spent_alike, drawn)
 
   pub account_follows : (t : ℕ) (old new : Planned P) (leavers : List (Message P)) (w : World P) → Tallies cmp t old w
       → Accounts cmp t old leavers new → Follows cmp t new (staying cmp w)
@@ -163,16 +146,7 @@ module _ {P : Type 0} (cmp : P → P → Ordering) (order : IsTotalOrder cmp) wh
   }
     where
       still_empty : (old.sending ≡ []) × (old.waiting ≡ []) → (new.sending ≡ []) × (new.waiting ≡ [])
-      still_empty (sends, waits) = (
-        none_matched {X = RatedFlight P} {Y = RatedFlight P}
-            (λ f g. (g.id ≡ f.id) × (g.message ≡ f.message) × (g.left ≡ f.left) × (g.updated ≡ t)) new.sending
-            (subst
-            (λ (fs : List (RatedFlight P)). AllZip
-            (λ f g. (g.id ≡ f.id) × (g.message ≡ f.message) × (g.left ≡ f.left) × (g.updated ≡ t))
-            (filter (λ (f : RatedFlight P). not (is_spent cmp old.caps f)) (drained_to t fs)) new.sending)
-            sends account.stayed),
-        ap (λ (q : Planned P). q.waiting) account.same ∙ waits,
-      )
+      still_empty (sends, waits) = grind (arith, none_matched)
 
       stays : List (RatedFlight P)
       stays = filter (λ (f : RatedFlight P). not (is_spent cmp old.caps f)) (drained_to t old.sending)

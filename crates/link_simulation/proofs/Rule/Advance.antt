@@ -1,5 +1,4 @@
 -- Advancing the planned world event by event is ticking the world nanosecond by nanosecond.
-use Rattle.std.proofs.lemmas.Grind.{common_steps}
 use Rattle.link_simulation.proofs.Common.{◌≡◌, ℕ, zero, suc, ◌+◌, ◌-◌, ◌<◌, ◌≤◌, List, [], length, true, false, Option}
 use Rattle.link_simulation.proofs.Common.{Some, None, refl, sym, ap, ◌∙◌, subst, arith, ◌⊎◌, inl, inr, IfSome, list_any}
 use Rattle.link_simulation.proofs.Common.{Ordering, IsTotalOrder, cases_lt, Completed, Course, IsQuiet, World, and_then}
@@ -10,8 +9,8 @@ use Rattle.link_simulation.proofs.Common.{is_unlimited, CoursesAlike, Follows, I
 use Rattle.link_simulation.proofs.Common.{Passes, Ticks, no_tick, Error}
 use Rattle.std.specs.Prelude.{◌≢◌}
 use Rattle.link_simulation.specs.Rule.Planned.{earlier}
-use Rattle.link_simulation.proofs.Rule.BeforeNext.{later, follows_later, both_before, none_done_before, quiet_before}
-use Rattle.link_simulation.proofs.Rule.BeforeNext.{passes_before, passes_to, finish_is_later, spent_at_finish, done_at}
+use Rattle.link_simulation.proofs.Rule.BeforeNext.{later, follows_later, none_done_before, quiet_before, passes_before}
+use Rattle.link_simulation.proofs.Rule.BeforeNext.{passes_to, finish_is_later, spent_at_finish, done_at}
 use Rattle.link_simulation.proofs.Rule.Settling.{settles_alike}
 use Rattle.link_simulation.proofs.Rule.FinishEvent.{settle_quiet, instant_is, ticks_through, ticks_quiet}
 use Rattle.link_simulation.proofs.Rule.FinishEvent.{settled_stands, settled_wakes, ready_later, start_is}
@@ -27,11 +26,11 @@ module _ {P : Type 0} (cmp : P → P → Ordering) (order : IsTotalOrder cmp) wh
   -- what is planned does not matter to what tallies
   unplanned : (t : ℕ) (p : Planned P) (w : World P) (finish start : Option ℕ) → Tallies cmp t p w
       → Tallies cmp t (record p { finish = finish; start = start }) w
-  unplanned t p w finish start same = grind (arith, common_steps)
+  unplanned t p w finish start same = grind arith
 
   unstarted : (t : ℕ) (p : Planned P) (w : World P) (start : Option ℕ) → Follows cmp t p w
       → Follows cmp t (record p { start = start }) w
-  unstarted t p w start follows = grind (arith, common_steps, unplanned)
+  unstarted t p w start follows = grind arith
 
   -- a wake in the planned world is a wake in the world
   pub wake_alike : {t : ℕ} {p : Planned P} {course : Course (Completed P) (Planned P)} → Wakes cmp t p course
@@ -69,16 +68,15 @@ module _ {P : Type 0} (cmp : P → P → Ordering) (order : IsTotalOrder cmp) wh
   joined_ticks : (a t now : ℕ) (w : World P) (ds : List (Completed P)) (x c : Course (Completed P) (World P))
       → Ticks cmp a w (preceded ds x) → OnFrom t now x c
       → Ticks cmp (now - t + a) w (preceded ds c)
-  joined_ticks a t now w ds (goes es u) c ticks on = grind (arith, common_steps, ticks_on, preceded_append)
-  joined_ticks a t now w ds (meets fault) c ticks on = grind (arith, common_steps, ticks_stop)
+  joined_ticks a t now w ds (goes es u) c ticks on = grind (arith, ticks_on, preceded_append)
+  joined_ticks a t now w ds (meets fault) c ticks on = grind (arith, ticks_stop)
 
   -- the tick to the next event, and the whole way there
   to_event : (p : Planned P) (w : World P) (stands : StandsFor cmp p w) (e k : ℕ) → w.moment + suc k ≡ e
       → e ≤ last_moment → next_event p ≡ Some e
       → Ticks cmp (suc k) w (instant cmp (later cmp order p w stands (suc k)))
   to_event p w stands e k at within next =
-      let before : IfSome (next_event p) (λ t. w.moment + k < t) =
-      subst (λ (o : Option ℕ). IfSome o (λ t. w.moment + k < t)) (sym next) (omega arith) in
+      let before : IfSome (next_event p) (λ t. w.moment + k < t) = grind arith in
       let way : (v : World P) × Passes cmp k w v × Drains cmp v (later cmp order p w stands (suc k)) =
       passes_before cmp order p w stands k (omega arith) before in
       ticks_through cmp order way.1 (later cmp order p w stands (suc k))
@@ -88,12 +86,12 @@ module _ {P : Type 0} (cmp : P → P → Ordering) (order : IsTotalOrder cmp) wh
       → (b ≡ Some e) × IfSome a (λ f. e < f)
   earlier_start None b e is not_a = (is, tt)
   earlier_start (Some f) None e is not_a = absurd (not_a is)
-  earlier_start (Some f) (Some s) e is not_a = grind (arith, common_steps, cases_lt)
+  earlier_start (Some f) (Some s) e is not_a = grind arith
 
   earlier_first : (a b : Option ℕ) (e t : ℕ) → earlier a b ≡ Some e → a ≡ Some e → b ≡ Some t → e ≤ t
   earlier_first None b e t is left right = cc
   earlier_first (Some f) None e t is left right = cc
-  earlier_first (Some f) (Some s) e t is left right = grind (arith, common_steps)
+  earlier_first (Some f) (Some s) e t is left right = grind arith
 
   -- in a settled world no finish is planned up to its moment
   no_early_finish : (t e : ℕ) (q : Planned P) (v : World P) → IsSettled cmp t q v → q.finish ≡ Some e → e ≤ t → ⊥
@@ -152,20 +150,17 @@ module _ {P : Type 0} (cmp : P → P → Ordering) (order : IsTotalOrder cmp) wh
 
   pub decide_start : (o : Option ℕ) (t : ℕ) → (o ≡ Some t) ⊎ (o ≢ Some t)
   decide_start None t = inr (λ e. cc)
-  decide_start (Some s) t = grind (arith, common_steps, cases_lt)
+  decide_start (Some s) t = grind arith
 
   -- where nothing may start at once, the settled world is at rest
   at_rest : (t now : ℕ) (p : Planned P) (v : World P) (course : Course (Completed P) (Planned P))
       → FromRest now p course → t ≤ now → now ≤ last_moment → IsSettled cmp t p v
       → p.start ≢ Some t → WakesAlike t now v course
   at_rest t now p v course rest le within settled not_now =
-      let never : ¬ SomeReadyAt cmp p t = λ some.
-      not_now (start_is cmp order p t p.start settled.start (omega arith) some) in
+      let never : ¬ SomeReadyAt cmp p t = grind (arith, start_is) in
       let moment : v.moment ≡ t = settled.follows.tallies.moment in
-      let sleeps : wake cmp t v ≡ goes [] v =
-      ap (λ (s : ℕ). wake cmp s v) (sym moment) ∙ settled_wakes cmp order t p v settled never in
-      let way : TicksAlike now v course =
-      rest v (settled_stands cmp order t p v (omega arith) settled never) (omega arith) in (
+      let sleeps : wake cmp t v ≡ goes [] v = grind (arith, settled_wakes) in
+      let way : TicksAlike now v course = grind (arith, settled_stands) in (
         way.0,
         subst (λ (x : Course (Completed P) (World P)). OnFrom t now x way.0) (sym sleeps)
             (way.0, subst (λ (s : ℕ). Ticks cmp (now - s) v way.0) moment way.1, sym (preceded_none way.0)),
@@ -197,14 +192,7 @@ module _ {P : Type 0} (cmp : P → P → Ordering) (order : IsTotalOrder cmp) wh
   wake_stops : (t now : ℕ) (p : Planned P) (v : World P) (fault : Error)
       → Wakes cmp t (record p { start = None }) (meets fault) → Follows cmp t p v
       → list_any (is_done cmp v) v.sending ≡ false → WakesAlike t now v (meets fault)
-  wake_stops t now p v fault wakes follows none_done =
-      by_course (wake cmp t v) refl (wake_alike wakes v (unstarted t p v None follows) none_done)
-    where
-      by_course : (c : Course (Completed P) (World P)) → wake cmp t v ≡ c
-          → CoursesAlike cmp (IsWoken cmp order t) (meets fault) c → WakesAlike t now v (meets fault)
-      by_course (goes ds u) e h = absurd h
-      by_course (meets g) e h =
-          (meets g, subst (λ (x : Course (Completed P) (World P)). OnFrom t now x (meets g)) (sym e) refl, h)
+  wake_stops t now p v fault wakes follows none_done = grind (arith, (wake_alike wakes v))
 
   -- the tick to a planned start is a wake
   start_ticks : (e now : ℕ) (p : Planned P) (w : World P) (stands : StandsFor cmp p w)
@@ -213,20 +201,16 @@ module _ {P : Type 0} (cmp : P → P → Ordering) (order : IsTotalOrder cmp) wh
       → ((v : World P) → Follows cmp e p v → list_any (is_done cmp v) v.sending ≡ false → WakesAlike e now v course)
       → TicksAlike now w course
   start_ticks e now p w stands course not_finish next le wakes =
-      let first : (p.start ≡ Some e) × IfSome p.finish (λ f. e < f) =
-      earlier_start p.finish p.start e next not_finish in
+      let first : (p.start ≡ Some e) × IfSome p.finish (λ f. e < f) = grind (arith, earlier_start) in
       let after : (e ≤ last_moment) × (w.moment < e) = start_is_later p w stands e first.0 in
       let steps : (k : ℕ) × (w.moment + suc k ≡ e) = gap w.moment e after.1 in
       let u : World P = later cmp order p w stands (suc steps.0) in
       let follows : Follows cmp e p u =
       subst (λ (s : ℕ). Follows cmp s p u) steps.1 (follows_later cmp order p w stands (suc steps.0)) in
       let none_done : list_any (is_done cmp u) u.sending ≡ false
-      = none_done_before cmp order p w stands (suc steps.0) (omega (arith, steps.1, after.0))
-      (subst (λ (s : ℕ). IfSome p.finish (λ f. s < f)) (sym steps.1) first.1) in
+      = grind (arith, none_done_before) in
       let way : WakesAlike e now u course = wakes u follows none_done in
-      let instant_u : instant cmp u ≡ preceded [] (wake cmp e u) =
-      instant_is cmp order u u [] (settle_quiet cmp order (length u.sending + length u.waiting) u.moment u none_done)
-      ∙ ap (λ (s : ℕ). preceded [] (wake cmp s u)) steps.1 in
+      let instant_u : instant cmp u ≡ preceded [] (wake cmp e u) = grind (arith, instant_is, settle_quiet) in
       let ticks : Ticks cmp (now - e + suc steps.0) w (preceded [] way.0)
       = joined_ticks (suc steps.0) e now w [] (wake cmp e u) way.0
       (subst (λ (c : Course (Completed P) (World P)). Ticks cmp (suc steps.0) w c) instant_u
@@ -367,13 +351,13 @@ module _ {P : Type 0} (cmp : P → P → Ordering) (order : IsTotalOrder cmp) wh
   not_after : (now : ℕ) (p : Planned P) (course : Course (Completed P) (Planned P))
       → IfSome (next_event p) (λ t. now < t) → (t : ℕ) (v : World P) → t ≤ now → p.start ≡ Some t
       → WakesAlike t now v course
-  not_after now p course before t v le now_is = grind (arith, common_steps, both_before)
+  not_after now p course before t v le now_is = grind arith
 
   wake_at : (e now : ℕ) (p : Planned P) (course : Course (Completed P) (Planned P)) → p.finish ≢ Some e
       → next_event p ≡ Some e
       → ((v : World P) → Follows cmp e p v → list_any (is_done cmp v) v.sending ≡ false → WakesAlike e now v course)
       → (t : ℕ) (v : World P) → IsSettled cmp t p v → p.start ≡ Some t → WakesAlike t now v course
-  wake_at e now p course not_finish next wakes t v is now_is = grind (arith, common_steps, earlier_start)
+  wake_at e now p course not_finish next wakes t v is now_is = grind arith
 
   -- advancing event by event is ticking, from a world at rest, and from a settled one
   pub advances_alike : {now n : ℕ} {p : Planned P} {course : Course (Completed P) (Planned P)}

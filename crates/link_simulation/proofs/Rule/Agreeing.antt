@@ -1,20 +1,17 @@
 -- Replies by the event rule agree with the simulation.
 use Rattle.link_simulation.proofs.Common.{arith, ◌≡◌, ℕ, ◌≤◌, List, [], ◌∷◌, Some, refl, AllZip, Ordering, IsTotalOrder}
 use Rattle.link_simulation.proofs.Common.{Error, OutOfMemory, NumberTooLarge, MomentTooLate, FlowIdsUsedUp, World}
-use Rattle.link_simulation.proofs.Common.{new_world, Completed, goes, meets, last_moment, Call, call_limit}
-use Rattle.link_simulation.proofs.Common.{call_limit_link, call_enqueue, call_advance, call_enqueue_all, call_next}
-use Rattle.link_simulation.proofs.Common.{moment_of, Runs, IsInTurn, Reply, reply_done, reply_next, reply_refused}
-use Rattle.link_simulation.proofs.Common.{SameCompletion, Faults, MayRefuse, Agrees, Planned, new_planned, Obeys}
-use Rattle.link_simulation.proofs.Common.{MayBeRefused, Obeyed, InTime, StandsFor}
-use Rattle.std.proofs.lemmas.Grind.{common_steps}
-use Rattle.link_simulation.proofs.Simulation.Queue.{peer_like}
+use Rattle.link_simulation.proofs.Common.{new_world, Completed, goes, meets, last_moment, Call, call_next, moment_of}
+use Rattle.link_simulation.proofs.Common.{Runs, IsInTurn, Reply, reply_done, reply_next, reply_refused, SameCompletion}
+use Rattle.link_simulation.proofs.Common.{Faults, MayRefuse, Agrees, Planned, new_planned, Obeys, MayBeRefused, Obeyed}
+use Rattle.link_simulation.proofs.Common.{InTime, StandsFor}
 use Rattle.link_simulation.proofs.Rule.Limit.{new_stands}
 use Rattle.link_simulation.proofs.Rule.NextEvent.{next_is_planned}
 use Rattle.link_simulation.proofs.Rule.Obeys.{obeys_alike}
 
 module _ {P : Type 0} (cmp : P → P → Ordering) (order : IsTotalOrder cmp) where
   pub same_trans : (c d e : Completed P) → SameCompletion cmp c d → SameCompletion cmp d e → SameCompletion cmp c e
-  same_trans c d e f g = grind (arith, common_steps, peer_like)
+  same_trans c d e f g = grind arith
 
   pub all_trans : (cs ds es : List (Completed P)) → AllZip (SameCompletion cmp) cs ds
       → AllZip (SameCompletion cmp) ds es → AllZip (SameCompletion cmp) cs es
@@ -32,12 +29,12 @@ module _ {P : Type 0} (cmp : P → P → Ordering) (order : IsTotalOrder cmp) wh
   leads : (p : Planned P) (w : World P) (call : Call P) (now : ℕ) (ds : List (Completed P)) (q : Planned P)
       → StandsFor cmp p w → moment_of call ≡ Some now → now ≤ last_moment
       → IsInTurn cmp w call → Obeys cmp p call (goes ds q) → Led p w call now ds q
-  leads p w call now ds q stands at within turn obeys = grind (arith, common_steps, obeys_alike)
+  leads p w call now ds q stands at within turn obeys = grind (arith, obeys_alike)
 
   meets_too : (p : Planned P) (w : World P) (call : Call P) (now : ℕ) (fault : Error) → StandsFor cmp p w
       → moment_of call ≡ Some now → now ≤ last_moment → IsInTurn cmp w call
       → Obeys cmp p call (meets fault) → Faults cmp w call fault
-  meets_too p w call now fault stands at within turn obeys = grind (arith, common_steps, obeys_alike)
+  meets_too p w call now fault stands at within turn obeys = grind (arith, obeys_alike)
 
   refuses : (p : Planned P) (w : World P) (call : Call P) (now : ℕ) (why : Error) → StandsFor cmp p w
       → moment_of call ≡ Some now
@@ -67,7 +64,7 @@ module _ {P : Type 0} (cmp : P → P → Ordering) (order : IsTotalOrder cmp) wh
       × Obeyed cmp q calls replies → Accepted w call calls cs replies
   unfolding Follow
   accepts call calls now cs replies p w ih stands at within in_time turn (ds, q, obeys, same, rest) =
-      grind (arith, common_steps, leads, all_trans)
+      grind (arith, leads, all_trans)
 
   -- replies by the event rule agree with the simulation
   follows : (calls : List (Call P)) → Follow calls
@@ -76,57 +73,16 @@ module _ {P : Type 0} (cmp : P → P → Ordering) (order : IsTotalOrder cmp) wh
   follows [] (reply ∷ replies) p w stands in_time obeyed = obeyed
   follows (call ∷ calls) [] p w stands in_time obeyed = obeyed
   follows (call_next ∷ calls) (reply_next t ∷ replies) p w stands in_time obeyed =
-      grind (arith, common_steps, next_is_planned, (follows calls replies p w stands in_time.1 obeyed.1))
+      grind (arith, next_is_planned, (follows calls replies p w stands))
   follows (call_next ∷ calls) (reply_done cs ∷ replies) p w stands in_time obeyed = obeyed
   follows (call_next ∷ calls) (reply_refused why ∷ replies) p w stands in_time obeyed = obeyed
-  follows (call_limit now peer egress ingress ∷ calls) (reply_next t ∷ replies) p w stands in_time obeyed = obeyed
-  follows (call_limit now peer egress ingress ∷ calls) (reply_done cs ∷ replies) p w stands in_time obeyed =
-      λ turn. accepts (call_limit now peer egress ingress) calls now cs replies p w (follows calls) stands refl
-      (in_time.0 now refl) in_time.1 turn obeyed
-  follows (call_limit now peer egress ingress ∷ calls) (reply_refused why ∷ replies) p w stands in_time obeyed =
+  follows (call ∷ calls) (reply_next t ∷ replies) p w stands in_time obeyed = obeyed
+  follows (call ∷ calls) (reply_done cs ∷ replies) p w stands in_time obeyed =
+      λ turn. accepts call calls _ cs replies p w (follows calls) stands refl (in_time.0 _ refl) in_time.1 turn obeyed
+  follows (call ∷ calls) (reply_refused why ∷ replies) p w stands in_time obeyed =
       λ turn. (
-        refuses p w (call_limit now peer egress ingress) now why stands refl (in_time.0 now refl) turn obeyed.0,
+        refuses p w call _ why stands refl (in_time.0 _ refl) turn obeyed.0,
         follows calls replies p w stands in_time.1 obeyed.1,
-      )
-  follows (call_limit_link now origin recipient cap ∷ calls) (reply_next t ∷ replies) p w stands in_time obeyed = obeyed
-  follows (call_limit_link now origin recipient cap ∷ calls) (reply_done cs ∷ replies) p w stands in_time obeyed =
-      λ turn. accepts (call_limit_link now origin recipient cap) calls now cs replies p w (follows calls) stands refl
-      (in_time.0 now refl) in_time.1 turn obeyed
-  follows (call_limit_link now origin recipient cap ∷ calls) (reply_refused why ∷ replies) p w stands in_time obeyed =
-      λ turn. (
-        refuses p w (call_limit_link now origin recipient cap) now why stands refl (in_time.0 now refl) turn
-            obeyed.0,
-        follows calls replies p w stands in_time.1 obeyed.1,
-      )
-  follows (call_enqueue now m ∷ calls) (reply_next t ∷ replies) p w stands in_time obeyed = obeyed
-  follows (call_enqueue_all now ms ∷ calls) (reply_next t ∷ replies) p w stands in_time obeyed = obeyed
-  follows (call_enqueue now m ∷ calls) (reply_done cs ∷ replies) p w stands in_time obeyed =
-      λ turn. accepts (call_enqueue now m) calls now cs replies p w (follows calls) stands refl (in_time.0 now refl)
-      in_time.1 turn obeyed
-  follows (call_enqueue_all now ms ∷ calls) (reply_done cs ∷ replies) p w stands in_time obeyed =
-      λ turn. accepts (call_enqueue_all now ms) calls now cs replies p w (follows calls) stands refl
-      (in_time.0 now refl) in_time.1 turn obeyed
-  follows (call_enqueue now m ∷ calls) (reply_refused why ∷ replies) p w stands in_time obeyed =
-      λ turn. (
-        refuses p w (call_enqueue now m) now why stands refl (in_time.0 now refl) turn obeyed.0,
-        follows calls
-            replies p w stands in_time.1 obeyed.1,
-      )
-  follows (call_enqueue_all now ms ∷ calls) (reply_refused why ∷ replies) p w stands in_time obeyed =
-      λ turn. (
-        refuses p w (call_enqueue_all now ms) now why stands refl (in_time.0 now refl) turn obeyed.0,
-        follows calls
-            replies p w stands in_time.1 obeyed.1,
-      )
-  follows (call_advance now ∷ calls) (reply_next t ∷ replies) p w stands in_time obeyed = obeyed
-  follows (call_advance now ∷ calls) (reply_done cs ∷ replies) p w stands in_time obeyed =
-      λ turn. accepts (call_advance now) calls now cs replies p w (follows calls) stands refl (in_time.0 now refl)
-      in_time.1 turn obeyed
-  follows (call_advance now ∷ calls) (reply_refused why ∷ replies) p w stands in_time obeyed =
-      λ turn. (
-        refuses p w (call_advance now) now why stands refl (in_time.0 now refl) turn obeyed.0,
-        follows calls
-            replies p w stands in_time.1 obeyed.1,
       )
 
   pub obeyed_agree : (calls : List (Call P)) (replies : List (Reply P)) → InTime calls

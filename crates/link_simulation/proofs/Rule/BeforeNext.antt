@@ -1,10 +1,9 @@
 -- Before its next event a world that a planned world stands for only drains, and at the planned finish something is
 -- done.
-use Rattle.std.proofs.lemmas.Grind.{common_steps}
-use Rattle.link_simulation.proofs.Common.{◌≡◌, ℕ, zero, suc, ◌+◌, ◌-◌, ◌<◌, ◌≤◌, List, [], ◌∷◌, map, Bool, true, false}
-use Rattle.link_simulation.proofs.Common.{not, Option, Some, None, refl, sym, ap, ◌∙◌, subst, arith, add-one, ◌⊎◌, inl}
-use Rattle.link_simulation.proofs.Common.{inr, ◌||◌, ◌==◌, IfSome, slice_get, filter, find, list_any, AllZip, Ordering}
-use Rattle.link_simulation.proofs.Common.{IsTotalOrder, or_from, or_parts, cases_lt, or_right, not-true, Amount}
+use Rattle.link_simulation.proofs.Common.{common_steps, ◌≡◌, ℕ, zero, suc, ◌+◌, ◌-◌, ◌<◌, ◌≤◌, List, [], ◌∷◌, map, Bool}
+use Rattle.link_simulation.proofs.Common.{true, false, not, Option, Some, None, refl, sym, ap, ◌∙◌, subst, arith}
+use Rattle.link_simulation.proofs.Common.{add-one, ◌⊎◌, inl, inr, ◌||◌, ◌==◌, IfSome, slice_get, filter, find, list_any}
+use Rattle.link_simulation.proofs.Common.{AllZip, Ordering, IsTotalOrder, or_from, or_parts, cases_lt, not-true, Amount}
 use Rattle.link_simulation.proofs.Common.{same_peer, Flight, IsQuiet, World, flows, fronts, is_done, last_moment}
 use Rattle.link_simulation.proofs.Common.{may_start, ready, Message, PairsAlike, SameMessage, same_pair, IsLeastMoment}
 use Rattle.link_simulation.proofs.Common.{IsRated, RatedFlight, Planned, SomeReadyAt, SomeSpentAt, left_at, may_launch}
@@ -62,15 +61,14 @@ module _ {P : Type 0} (cmp : P → P → Ordering) (order : IsTotalOrder cmp) wh
   drained_on t k per (rate ∷ rates) [] gs rated all = absurd rated
   drained_on t k per (rate ∷ rates) (f ∷ fs) [] rated all = absurd all
   drained_on t k per (rate ∷ rates) (f ∷ fs) (g ∷ gs) rated all =
-      grind (arith, common_steps, rate_of, drained_by_twice, (drained_on t k per rates fs gs rated.1 all.1))
+      grind (arith, rate_of, drained_by_twice, (drained_on t k per rates fs gs))
 
   pub positive_flights : (t : ℕ) (fs : List (RatedFlight P)) (gs : List (Flight P)) → AllZip (IsSameFlight cmp t) fs gs
       → ArePositive gs
   positive_flights t [] [] all = tt
   positive_flights t [] (g ∷ gs) all = absurd all
   positive_flights t (f ∷ fs) [] all = absurd all
-  positive_flights t (f ∷ fs) (g ∷ gs) all =
-      grind (arith, common_steps, drained_by_lowest, (positive_flights t fs gs all.1))
+  positive_flights t (f ∷ fs) (g ∷ gs) all = grind (arith, drained_by_lowest, (positive_flights t fs gs))
 
   -- ---- nothing is done before the planned finish
 
@@ -78,7 +76,7 @@ module _ {P : Type 0} (cmp : P → P → Ordering) (order : IsTotalOrder cmp) wh
       → list_any (λ (g : Flight P). a g || u g.message) gs ≡ false
       → list_any u (map (λ (g : Flight P). g.message) gs) ≡ false
   unlimited_none a u [] e = refl
-  unlimited_none a u (g ∷ gs) e = grind (arith, common_steps, or_parts, or_from, (unlimited_none a u gs))
+  unlimited_none a u (g ∷ gs) e = grind (arith, (unlimited_none a u gs))
 
   none_done_at : (u : Message P → Bool) (t : ℕ) (fs : List (RatedFlight P)) (gs : List (Flight P))
       → AllZip (IsSameFlight cmp t) fs gs
@@ -109,9 +107,8 @@ module _ {P : Type 0} (cmp : P → P → Ordering) (order : IsTotalOrder cmp) wh
       → list_any (λ (g : Flight P). (g.left.num == 0) || u g.message) gs ≡ true
   done_at u s t [] gs i f le all at spent = cc
   done_at u s t (x ∷ fs) [] i f le all at spent = absurd all
-  done_at u s t (x ∷ fs) (g ∷ gs) zero f le all at spent = grind (arith, common_steps, spent_later, eq-eqb)
-  done_at u s t (x ∷ fs) (g ∷ gs) (suc i) f le all at spent =
-      grind (arith, common_steps, or_right, (done_at u s t fs gs i f le all.1 at spent))
+  done_at u s t (x ∷ fs) (g ∷ gs) zero f le all at spent = grind (arith, spent_later, eq-eqb)
+  done_at u s t (x ∷ fs) (g ∷ gs) (suc i) f le all at spent = grind (arith, (done_at u s t fs gs i f le))
 
   -- ---- nothing is ready before the planned start
 
@@ -138,25 +135,24 @@ module _ {P : Type 0} (cmp : P → P → Ordering) (order : IsTotalOrder cmp) wh
   )
     where
       later : (m : Message P) → IsFront ws m → not (same_pair cmp x m) ≡ true → IsFront (x ∷ ws) m
-      later m front apart =
-          (front.0, skipped m x ws (pair_sym cmp order m x ∙ not-true (same_pair cmp x m) apart) ∙ front.1)
+      later m front apart = grind (arith, skipped, pair_sym, not-true)
 
   -- what stands first among a pair's is what is found first
   pub first_found : {X : Type 0} (test : X → Bool) (x : X) (rest xs : List X) → filter test xs ≡ x ∷ rest
       → find test xs ≡ Some x
   first_found test x rest [] e = cc
-  first_found {X} test x rest (y ∷ ys) e = grind (arith, common_steps, (first_found test x rest ys))
+  first_found {X} test x rest (y ∷ ys) e = grind (arith, (first_found test x rest ys))
 
   -- the first of a pair is the first of its own pair
   pub own_first : (m x : Message P) (rest ms : List (Message P)) → filter (same_pair cmp m) ms ≡ x ∷ rest
       → find (same_pair cmp x) ms ≡ Some x
-  own_first m x rest ms e = grind (arith, common_steps, first_found, find_like, find_passes)
+  own_first m x rest ms e = grind (arith, first_found, find_like, find_passes)
 
   -- a pair may start in the planned world where it may in the world
   pub may_alike : (t : ℕ) (p : Planned P) (w : World P) (m n : Message P) → PairsAlike cmp p.last_arrival w.last_arrival
       → AllZip (SameMessage cmp) (rated_messages p.sending) (flows w) → SameMessage cmp m n
       → may_launch cmp t p m ≡ may_start cmp t w n
-  may_alike t p w m n last all same = grind (arith, common_steps, any_alike, pairs_alike)
+  may_alike t p w m n last all same = grind (arith, any_alike, pairs_alike)
 
   first_alike : (xs : List (Message P)) (y : Message P) (ys : List (Message P)) → AllZip (SameMessage cmp) xs (y ∷ ys)
       → (x : Message P) × (rest : List (Message P)) × (xs ≡ x ∷ rest) × SameMessage cmp x y
@@ -197,20 +193,20 @@ module _ {P : Type 0} (cmp : P → P → Ordering) (order : IsTotalOrder cmp) wh
     later k = drifted w stands.follows.rated.per stands.follows.rated.rates k
 
     pub rates_fair : AreFair cmp w.caps (flows w) stands.follows.rated.per stands.follows.rated.rates
-    rates_fair = grind (arith, common_steps, fair_alike, rated, messages_alike)
+    rates_fair = grind (arith, fair_alike, rated, messages_alike)
 
     pub all_positive : ArePositive w.sending
     all_positive = positive_flights w.moment p.sending w.sending stands.follows.tallies.sending
 
     flights_later : (k : ℕ) → AllZip (IsSameFlight cmp (w.moment + k)) p.sending (later k).sending
-    flights_later k = grind (arith, common_steps, drained_on, rated)
+    flights_later k = grind (arith, drained_on, rated)
 
     flows_later : (k : ℕ) → map (λ (g : Flight P). g.message) (later k).sending ≡ flows w
     flows_later k = flows_drained cmp stands.follows.rated.per stands.follows.rated.rates k w.sending
 
     -- the drained world is what the planned world says of that moment
     pub follows_later : (k : ℕ) → Follows cmp (w.moment + k) p (later k)
-    follows_later k = grind (arith, common_steps, flights_later, flows_later, rated)
+    follows_later k = grind (arith, flights_later, flows_later, rated)
 
     none_unlimited : list_any (is_unlimited cmp w.caps) (flows w) ≡ false
     none_unlimited =
@@ -229,14 +225,9 @@ module _ {P : Type 0} (cmp : P → P → Ordering) (order : IsTotalOrder cmp) wh
     pub quiet_before : (k : ℕ) → w.moment + k ≤ last_moment → IfSome (next_event p) (λ e. w.moment + k < e)
         → IsQuiet cmp (w.moment + k) (later k)
     quiet_before k within before =
-        let apart : IfSome p.finish (λ e. w.moment + k < e) × IfSome p.start (λ e. w.moment + k < e) =
-        both_before p.finish p.start (w.moment + k) before in
-        record {
-          none_done = none_done_before k within apart.0;
-          none_ready =
-              none_ready_at (w.moment + k) p (later k) (follows_later k).tallies
-              (none_before (SomeReadyAt cmp p) p.start stands.start (w.moment + k) within apart.1);
-        }
+        grind (arith, (none_done_before k within), (none_ready_at (w.moment + k) p (later k) (follows_later k).tallies
+        (none_before (SomeReadyAt cmp p) p.start stands.start (w.moment + k) within (both_before p.finish p.start
+        (w.moment + k) before).1)))
 
     -- ---- the next event
 
@@ -256,18 +247,13 @@ module _ {P : Type 0} (cmp : P → P → Ordering) (order : IsTotalOrder cmp) wh
         → (v : World P) × Passes cmp n w v × Drains cmp v (later (suc n))
     passes_before zero within before = (w, no_time, first_drain)
     passes_before (suc n) within before =
-        let on : Drains cmp (later (suc n)) (later (suc n + 1)) =
-        drifts_on cmp w stands.follows.rated.per stands.follows.rated.rates (suc n) rates_fair all_positive in (
-          later (suc n),
-          passes_to n within before,
-          subst (λ (m : ℕ). Drains cmp (later (suc n)) (later m)) (add-one (suc n)) on,
-        )
+        grind (arith, common_steps, later, (later (suc n)), (passes_to n within before), (add-one (suc n)), (drifts_on
+        cmp w stands.follows.rated.per stands.follows.rated.rates (suc n) rates_fair all_positive))
 
     pub comes_at : (n : ℕ) → w.moment + suc n ≤ last_moment → IfSome (next_event p) (λ e. w.moment + n < e)
         → ¬ IsQuiet cmp (w.moment + suc n) (later (suc n)) → NextIs cmp w (Some (w.moment + suc n))
     comes_at n within before event =
-        let way : (v : World P) × Passes cmp n w v × Drains cmp v (later (suc n)) =
-        passes_before n (omega arith) before in
+        let way : (v : World P) × Passes cmp n w v × Drains cmp v (later (suc n)) = grind (arith, passes_before) in
         comes_next way.1 way.2 event within
 
     pub nothing_comes : next_event p ≡ None → NextIs cmp w None
@@ -281,7 +267,7 @@ module _ {P : Type 0} (cmp : P → P → Ordering) (order : IsTotalOrder cmp) wh
             (passes_to n (omega arith) (subst (λ (o : Option ℕ). IfSome o (λ e. w.moment + suc n < e)) (sym e) tt)))
 
     pub spent_at_finish : (e : ℕ) → p.finish ≡ Some e → (e ≤ last_moment) × SomeSpentAt p.sending e
-    spent_at_finish e is = grind (arith, common_steps)
+    spent_at_finish e is = grind arith
 
     pub finish_is_later : (e : ℕ) → p.finish ≡ Some e → w.moment < e
     finish_is_later e is = by_order (cases_lt w.moment e) (spent_at_finish e is).1

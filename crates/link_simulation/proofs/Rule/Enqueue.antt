@@ -1,15 +1,14 @@
 -- A message that joins the planned waiting ones stands last among those of its pair, and their order by pairs stays.
-use Rattle.std.proofs.lemmas.Grind.{common_steps}
-use Rattle.link_simulation.proofs.Common.{◌≡◌, ℕ, ◌+◌, ◌<◌, ◌≤◌, length, arith, inl, inr, List, [], ◌∷◌, ◌++◌, Bool}
-use Rattle.link_simulation.proofs.Common.{true, false, cond, Option, Some, refl, sym, ap, ◌∙◌, subst, IfSome, filter}
-use Rattle.link_simulation.proofs.Common.{find, list_any, AllZip, Ordering, IsTotalOrder, or_from, or_parts, or_left}
-use Rattle.link_simulation.proofs.Common.{filter-append, Completed, Course, World, and_then, goes, is_done, last_moment}
-use Rattle.link_simulation.proofs.Common.{may_start, meets, ready, settle, start, start_next, EndsWith, flight_of, Runs}
-use Rattle.link_simulation.proofs.Common.{act, call_enqueue, Enqueues, Launches, launches, no_id, no_launch}
-use Rattle.link_simulation.proofs.Common.{nothing_waits, starts, too_early, at_once, Message, SameMessage, pair_before}
-use Rattle.link_simulation.proofs.Common.{same_pair, AreInPairOrder, Planned, next_event, next_of, queued, CoursesAlike}
-use Rattle.link_simulation.proofs.Common.{Follows, IsSettled, StandsFor, Tallies, out_of_waiting, joined, finish_within}
-use Rattle.link_simulation.proofs.Common.{Each, each_map, zip-append}
+use Rattle.link_simulation.proofs.Common.{common_steps, ◌≡◌, ℕ, ◌+◌, ◌<◌, ◌≤◌, length, arith, inl, inr, List, [], ◌∷◌}
+use Rattle.link_simulation.proofs.Common.{◌++◌, Bool, true, false, cond, Option, Some, refl, sym, ap, ◌∙◌, subst}
+use Rattle.link_simulation.proofs.Common.{IfSome, filter, find, list_any, AllZip, Ordering, IsTotalOrder, or_from}
+use Rattle.link_simulation.proofs.Common.{or_left, filter-append, Completed, Course, World, and_then, goes, is_done}
+use Rattle.link_simulation.proofs.Common.{last_moment, may_start, meets, ready, settle, start, start_next, EndsWith}
+use Rattle.link_simulation.proofs.Common.{flight_of, Runs, act, call_enqueue, Enqueues, Launches, launches, no_id}
+use Rattle.link_simulation.proofs.Common.{no_launch, nothing_waits, starts, too_early, at_once, Message, SameMessage}
+use Rattle.link_simulation.proofs.Common.{pair_before, same_pair, AreInPairOrder, Planned, next_event, next_of, queued}
+use Rattle.link_simulation.proofs.Common.{CoursesAlike, Follows, IsSettled, StandsFor, Tallies, out_of_waiting, joined}
+use Rattle.link_simulation.proofs.Common.{finish_within, Each, each_map, zip-append}
 use Rattle.std.proofs.lemmas.List.{append-nil}
 use Rattle.link_simulation.proofs.Simulation.Queue.{pair_sym, pair_like, find_passes, preceded_none}
 use Rattle.link_simulation.proofs.Rule.BeforeNext.{filter_none, may_alike, messages_alike}
@@ -22,7 +21,7 @@ use Rattle.link_simulation.proofs.Rule.FinishEvent.{settle_quiet}
 use Rattle.link_simulation.proofs.Simulation.OnePair.{IsRested, only_taken, only_joined, rested_joined}
 use Rattle.link_simulation.proofs.Simulation.NoneReadied.{IsHeld, rested_other, find_without, all_rested, finish_rests}
 use Rattle.link_simulation.proofs.Simulation.NoneReadied.{none_then}
-use Rattle.link_simulation.proofs.Rule.Limit.{IsReached, reaches, settled_rests}
+use Rattle.link_simulation.proofs.Rule.Limit.{reaches, settled_rests}
 use Rattle.link_simulation.proofs.Rule.Waking.{each_none, round_is, round_fuel, round_alike}
 use Rattle.link_simulation.proofs.Simulation.FilteredFronts.{before_both}
 use Rattle.link_simulation.proofs.Simulation.PairOrder.{apart_if_before, not_before_back}
@@ -45,9 +44,7 @@ module _ {P : Type 0} (cmp : P → P → Ordering) (order : IsTotalOrder cmp) wh
   any_queued : (test : Message P → Bool) (m : Message P) (ms : List (Message P)) → test m ≡ false
       → list_any test ms ≡ false → list_any test (queued cmp m ms) ≡ false
   any_queued test m [] e none = or_from (test m) false e refl
-  any_queued test m (n ∷ ns) e none =
-      grind (arith, common_steps, or_parts, or_from, (any_queued test m ns e (or_parts (test n) (list_any test ns)
-      none).1))
+  any_queued test m (n ∷ ns) e none = grind (arith, (any_queued test m ns e))
 
   pub queued_in_order : (m : Message P) (ms : List (Message P)) → AreInPairOrder cmp ms
       → AreInPairOrder cmp (queued cmp m ms)
@@ -73,13 +70,7 @@ module _ {P : Type 0} (cmp : P → P → Ordering) (order : IsTotalOrder cmp) wh
       behind : (b : Bool) → same_pair cmp k m ≡ b → Each (λ z. pair_before cmp m z ≡ true) (n ∷ ns)
           → cond b (m ∷ filter (same_pair cmp k) (n ∷ ns)) (filter (same_pair cmp k) (n ∷ ns))
           ≡ filter (same_pair cmp k) (n ∷ ns) ++ cond b (m ∷ []) []
-      behind true e after =
-          let none : filter (same_pair cmp k) (n ∷ ns) ≡ []
-          = filter_none (same_pair cmp k) (n ∷ ns)
-          (each_map (λ z. pair_before cmp m z ≡ true) (λ z. same_pair cmp k z ≡ false) (n ∷ ns)
-          (λ z d. sym (pair_like cmp order k m z e) ∙ apart_if_before cmp order m z d) after)
-          in
-          ap (λ (q : List (Message P)). m ∷ q) none ∙ sym (ap (λ (q : List (Message P)). q ++ m ∷ []) none)
+      behind true e after = grind (arith, filter_none, each_map, pair_like, apart_if_before)
       behind false e after = sym (append-nil (filter (same_pair cmp k) (n ∷ ns)))
 
       later : (b : Bool)
@@ -102,14 +93,14 @@ module _ {P : Type 0} (cmp : P → P → Ordering) (order : IsTotalOrder cmp) wh
   pub queued_tallies : (t : ℕ) (p : Planned P) (w : World P) (m : Message P) → p.limited ≡ true → Tallies cmp t p w
       → Tallies cmp t (record p { waiting = queued cmp m p.waiting }) (record w { waiting = w.waiting ++ m ∷ [] })
   queued_tallies t p w m limits same =
-      grind (arith, common_steps, queued_last, filter-append, zip-append, queued_in_order, message_itself)
+      grind (arith, queued_last, filter-append, zip-append, queued_in_order, message_itself)
 
   -- ---- the call
 
   find_end : {X : Type 0} (test : X → Bool) (x : X) (xs : List X) → test x ≡ false
       → find test (xs ++ x ∷ []) ≡ find test xs
   find_end test x [] e = rw e refl
-  find_end {X} test x (z ∷ xs) e = grind (arith, common_steps, (find_end test x xs e))
+  find_end {X} test x (z ∷ xs) e = grind (arith, (find_end test x xs e))
 
   found_end : {X : Type 0} (test : X → Bool) (x : X) (xs : List X) → test x ≡ true
       → (z : X) × (find test (xs ++ x ∷ []) ≡ Some z)
@@ -158,7 +149,7 @@ module _ {P : Type 0} (cmp : P → P → Ordering) (order : IsTotalOrder cmp) wh
       → find (same_pair cmp m) (waits_too u m).waiting ≡ Some y → may_start cmp t (waits_too u m) y ≡ false
       → (k : Message P) → IsRested cmp order k t (waits_too u m)
   unfolding IsRested
-  all_rest t u m y none_ready found early k = grind (arith, common_steps, find_like, others_rest)
+  all_rest t u m y none_ready found early k = grind (arith, find_like, others_rest)
 
   -- a launch that is too early changes nothing
   stays_out : {t : ℕ} {p : Planned P} {o : Option (Message P)} {course : Course (Message P) (Planned P)}
@@ -166,10 +157,9 @@ module _ {P : Type 0} (cmp : P → P → Ordering) (order : IsTotalOrder cmp) wh
       → Follows cmp t p w → may_start cmp t w y ≡ false → OptionsAlike (SameMessage cmp) o (Some y) → course ≡ goes [] p
   stays_out nothing_waits w y follows early alike = refl
   stays_out (too_early e) w y follows early alike = refl
-  stays_out {t = t} {p = p} (no_id {m = x} may last) w y follows early alike =
-      grind (arith, common_steps, may_alike, messages_alike)
+  stays_out {t = t} {p = p} (no_id {m = x} may last) w y follows early alike = grind (arith, may_alike, messages_alike)
   stays_out {t = t} {p = p} (starts {m = x} may below account) w y follows early alike =
-      grind (arith, common_steps, may_alike, messages_alike)
+      grind (arith, may_alike, messages_alike)
 
   begins : (t : ℕ) (w : World P) (y : Message P) → may_start cmp t w y ≡ true
       → start_next cmp t w (Some y) ≡ start cmp w y
@@ -193,17 +183,7 @@ module _ {P : Type 0} (cmp : P → P → Ordering) (order : IsTotalOrder cmp) wh
       by_may found.0 found.1 (may_start cmp t (waits_too u m) found.0) refl enqueues
     where
       there : Follows cmp t (record p { waiting = queued cmp m p.waiting }) (waits_too u m)
-      there = record {
-        tallies = queued_tallies t p u m limits follows.tallies;
-        rated =
-            record {
-              per = follows.rated.per;
-              rates = follows.rated.rates;
-              fair = follows.rated.fair;
-              rated = follows.rated.rated;
-            };
-        finish = follows.finish;
-      }
+      there = grind (arith, queued_tallies)
 
       idle : NoneDone cmp order (waits_too u m)
       idle = each_none (is_done cmp u) u.sending none_done
@@ -220,9 +200,7 @@ module _ {P : Type 0} (cmp : P → P → Ordering) (order : IsTotalOrder cmp) wh
 
       own_first : (y : Message P) → find (same_pair cmp m) (u.waiting ++ m ∷ []) ≡ Some y
           → find (same_pair cmp y) (u.waiting ++ m ∷ []) ≡ Some y
-      own_first y found =
-          find_like cmp order m y (u.waiting ++ m ∷ []) (find_passes (same_pair cmp m) y (u.waiting ++ m ∷ []) found)
-          ∙ found
+      own_first y found = grind (arith, find_like, find_passes)
 
       other_mode : {A : Type 0} → p.limited ≡ false → A
       other_mode off = cc
@@ -235,18 +213,13 @@ module _ {P : Type 0} (cmp : P → P → Ordering) (order : IsTotalOrder cmp) wh
           (start_next cmp t (waits_too u m) (find (same_pair cmp m) (waits_too u m).waiting)) (settle cmp t))
           × EndsWith (λ v. ready cmp t v ≡ []) (and_then
           (start_next cmp t (waits_too u m) (find (same_pair cmp m) (waits_too u m).waiting)) (settle cmp t))
-      result c x e h k = (
-        subst (λ (d : Course (Completed P) (World P)). CoursesAlike cmp (IsSettled cmp t) x d) (sym e) h,
-        subst (λ (d : Course (Completed P) (World P)). EndsWith (λ v. ready cmp t v ≡ []) d) (sym e) k,
-      )
+      result c x e h k = grind arith
 
       first_is : (y : Message P) (c : Course (Completed P) (World P))
           → find (same_pair cmp m) (u.waiting ++ m ∷ []) ≡ Some y → start_next cmp t (waits_too u m) (Some y) ≡ c
           → and_then (start_next cmp t (waits_too u m) (find (same_pair cmp m) (waits_too u m).waiting)) (settle cmp t)
           ≡ and_then c (settle cmp t)
-      first_is y c found e =
-          ap (λ (o : Option (Message P)). and_then (start_next cmp t (waits_too u m) o) (settle cmp t)) found
-          ∙ ap (λ (d : Course (Completed P) (World P)). and_then d (settle cmp t)) e
+      first_is y c found e = grind arith
 
       by_may : (y : Message P) → find (same_pair cmp m) (u.waiting ++ m ∷ []) ≡ Some y → (b : Bool)
           → may_start cmp t (waits_too u m) y ≡ b → {x : Course (Completed P) (Planned P)}
@@ -312,21 +285,13 @@ module _ {P : Type 0} (cmp : P → P → Ordering) (order : IsTotalOrder cmp) wh
       → (c : Course (Completed P) (World P)) × Runs cmp w (call_enqueue now m) now c
       × CoursesAlike cmp (λ q v. StandsFor cmp q v × (v.moment ≡ now)) course c
   enqueues_alike p w now m course stands limits le within before enqueues =
-      let there : IsReached cmp order now p w = reaches cmp order now p w stands le within before in
-      let under : there.world.limited ≡ true = sym there.follows.tallies.limited ∙ limits in
-      let c : Course (Completed P) (World P) =
-      and_then
-      (start_next cmp now (waits_too there.world m) (find (same_pair cmp m) (waits_too there.world m).waiting))
-      (settle cmp now) in
-      let both : CoursesAlike cmp (IsSettled cmp now) course c × EndsWith (λ v. ready cmp now v ≡ []) c
-      = joins now p there.world m course limits there.follows there.none_done there.none_ready enqueues in
-      let acts : act cmp there.world (call_enqueue now m) ≡ c = rw under refl in (
-        c,
-        record {
-          ticked = goes [] there.world;
-          ticks = there.ticks;
-          acts = sym acts
-              ∙ sym (preceded_none (act cmp there.world (call_enqueue now m)));
-        },
-        settled_rests cmp order now course c within both.0 both.1,
-      )
+      grind (arith, common_steps, (reaches cmp order now p w stands le within before), (preceded_none (act cmp
+      (reaches cmp order now p w stands le within before).world (call_enqueue now m))), (settled_rests cmp order now
+      course (and_then (start_next cmp now (waits_too (reaches cmp order now p w stands le within before).world m)
+      (find (same_pair cmp m) (waits_too (reaches cmp order now p w stands le within before).world m).waiting))
+      (settle cmp now)) within (joins now p (reaches cmp order now p w stands le within before).world m course limits
+      (reaches cmp order now p w stands le within before).follows (reaches cmp order now p w stands le within
+      before).none_done (reaches cmp order now p w stands le within before).none_ready enqueues).0 (joins now p
+      (reaches cmp order now p w stands le within before).world m course limits (reaches cmp order now p w stands le
+      within before).follows (reaches cmp order now p w stands le within before).none_done (reaches cmp order now p w
+      stands le within before).none_ready enqueues).1))

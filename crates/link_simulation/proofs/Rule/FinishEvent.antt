@@ -1,6 +1,5 @@
 -- One event at the planned finish, in ticks: where nothing may start at once, the planned world stands for the world
 -- after it.
-use Rattle.std.proofs.lemmas.Grind.{common_steps}
 use Rattle.link_simulation.proofs.Common.{◌≡◌, ℕ, zero, suc, ◌<◌, ◌≤◌, List, [], true, false, Option, Some, None, refl}
 use Rattle.link_simulation.proofs.Common.{ap, subst, arith, ◌⊎◌, inl, inr, list_any, Ordering, IsTotalOrder, cases_lt}
 use Rattle.link_simulation.proofs.Common.{leb-true, le-leb, Completed, Course, IsQuiet, World, and_then, goes, instant}
@@ -30,7 +29,7 @@ module _ {P : Type 0} (cmp : P → P → Ordering) (order : IsTotalOrder cmp) wh
   instant_is w v cs e = ap (λ (c : Course (Completed P) (World P)). and_then c (λ u. wake cmp u.moment u)) e
 
   pub instant_quiet : (w : World P) → IsQuiet cmp w.moment w → instant cmp w ≡ goes [] w
-  instant_quiet w quiet = grind (arith, common_steps, instant_is, settle_quiet, wake_none)
+  instant_quiet w quiet = grind (arith, instant_is, settle_quiet, wake_none)
 
   -- ---- quiet ticks, and then one
 
@@ -55,7 +54,7 @@ module _ {P : Type 0} (cmp : P → P → Ordering) (order : IsTotalOrder cmp) wh
 
   may_later : (p : Planned P) (m : Message P) (s t : ℕ) → s ≤ t → may_launch cmp s p m ≡ true
       → may_launch cmp t p m ≡ true
-  may_later p m s t le e = grind (arith, common_steps, in_order_later)
+  may_later p m s t le e = grind arith
 
   pub ready_later : (p : Planned P) (s t : ℕ) → s ≤ t → SomeReadyAt cmp p s → SomeReadyAt cmp p t
   ready_later p s t le some = (some.0, some.1, may_later p some.0 s t le some.2)
@@ -85,8 +84,8 @@ module _ {P : Type 0} (cmp : P → P → Ordering) (order : IsTotalOrder cmp) wh
   -- with nothing to start at once, a settled planned world stands for its world
   pub settled_stands : (t : ℕ) (p : Planned P) (w : World P) → t ≤ last_moment → IsSettled cmp t p w
       → ¬ SomeReadyAt cmp p t → StandsFor cmp p w
-  settled_stands t p w within settled not_now = grind (arith, common_steps, none_ready_at, start_from)
+  settled_stands t p w within settled not_now = grind (arith, none_ready_at, start_from)
 
   pub settled_wakes : (t : ℕ) (p : Planned P) (w : World P) → IsSettled cmp t p w → ¬ SomeReadyAt cmp p t
       → wake cmp w.moment w ≡ goes [] w
-  settled_wakes t p w settled not_now = grind (arith, common_steps, wake_none, none_ready_at)
+  settled_wakes t p w settled not_now = grind (arith, wake_none, none_ready_at)

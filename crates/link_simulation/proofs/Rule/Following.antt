@@ -1,12 +1,11 @@
 -- A message that is done lands, and the next one of its pair may start, before the others get their rates: one account
 -- does for both.
 use Rattle.link_simulation.proofs.Common.{arith, ◌≡◌, ℕ, ◌<◌, List, [], ◌∷◌, ◌++◌, true, false, Option, Some, refl, sym}
-use Rattle.link_simulation.proofs.Common.{ap, ◌∙◌, subst, not, filter, AllZip, Ordering, IsTotalOrder, not-true}
-use Rattle.link_simulation.proofs.Common.{each_map, zip-append, Message, Completed, Course, goes, last_moment, is_late}
-use Rattle.link_simulation.proofs.Common.{completed, preceded, IsLowest, Planned, RatedFlight, rated_messages, next_of}
-use Rattle.link_simulation.proofs.Common.{may_launch, is_spent, drained_to, Accounts, Launches, starts, Finishes}
-use Rattle.link_simulation.proofs.Common.{completes, Settles, settling, landed, launched}
-use Rattle.std.proofs.lemmas.Grind.{common_steps}
+use Rattle.link_simulation.proofs.Common.{ap, subst, not, filter, AllZip, Ordering, IsTotalOrder, not-true, each_map}
+use Rattle.link_simulation.proofs.Common.{zip-append, Message, Completed, Course, goes, last_moment, is_late, completed}
+use Rattle.link_simulation.proofs.Common.{preceded, Planned, RatedFlight, next_of, may_launch, is_spent, drained_to}
+use Rattle.link_simulation.proofs.Common.{Accounts, Launches, starts, Finishes, completes, Settles, settling, landed}
+use Rattle.link_simulation.proofs.Common.{launched, common_steps}
 use Rattle.link_simulation.specs.Rule.Leaving.{Leaves}
 use Rattle.link_simulation.proofs.Laws.Orderly.{Stays, stayed_messages}
 use Rattle.link_simulation.proofs.Rule.Accounts.{each_passes}
@@ -31,36 +30,23 @@ module _ {P : Type 0} (cmp : P → P → Ordering) (order : IsTotalOrder cmp) wh
   -- where some have left, an account can be made
   pub account_of : (t : ℕ) (old here : Planned P) (ls : List (Message P)) → Leaves cmp t old ls here
       → (mid : Planned P) × Accounts cmp t old ls mid
-  account_of t old here ls leaves =
-      let made = account_exists cmp order t old in
-      let same : made.0 ≡ ls = made.2.left ∙ sym leaves.left in
-      (made.1, subst (λ (l : List (Message P)). Accounts cmp t old l made.1) same made.2)
+  account_of t old here ls leaves = grind (arith, (account_exists cmp order t old))
 
   -- a message that is done lands before the others get their rates
   pub lands : (t : ℕ) (old new : Planned P) (m : Message P) (ls : List (Message P))
       → Accounts cmp t (landed cmp t old m) ls new
       → (mid : Planned P) × Accounts cmp t old ls mid × (landed cmp t mid m ≡ new)
   lands t old new m ls a =
-      let arrived : new.last_arrival ≡ (landed cmp t old m).last_arrival =
-      ap (λ (q : Planned P). q.last_arrival) a.same in (
+      let arrived : new.last_arrival ≡ (landed cmp t old m).last_arrival = grind arith in (
         record new { last_arrival = old.last_arrival },
-        record {
-          per = a.per;
-          rates = a.rates;
-          left = a.left;
-          stayed = a.stayed;
-          fair = a.fair;
-          rated = a.rated;
-          finish = a.finish;
-          same = ap (λ (q : Planned P). record q { last_arrival = old.last_arrival }) a.same;
-        },
+        grind arith,
         ap (λ (last : P → P → Option ℕ). record new { last_arrival = last }) (sym arrived),
       )
 
   -- none of what is left after some have left is done
   none_done : (t : ℕ) (old here : Planned P) (ls : List (Message P)) → Leaves cmp t old ls here
       → filter (is_spent cmp here.caps) here.sending ≡ []
-  none_done t old here ls leaves = grind (arith, common_steps, each_passes, filter_none, each_map, not-true)
+  none_done t old here ls leaves = grind (arith, each_passes, filter_none, each_map, not-true)
 
   -- what stands at a moment stays as it is, and so does a message that starts at it
   pub none_leaves_again : (t : ℕ) (old here : Planned P) (m next : Message P) (ls : List (Message P))
@@ -68,15 +54,9 @@ module _ {P : Type 0} (cmp : P → P → Ordering) (order : IsTotalOrder cmp) wh
       → is_spent cmp here.caps (starting cmp order here.next_id t next) ≡ false
       → Leaves cmp t (launched cmp t (landed cmp t here m) next) [] (launched cmp t (landed cmp t here m) next)
   none_leaves_again t old here m next ls leaves still stays =
-      let none = none_done t old here ls leaves in
-      record {
-        left = sym (ap rated_messages
-            (none_and_one_leave cmp order here.next_id t here.caps here.sending next stays still none));
-        is =
-            let all = all_and_one_stay cmp order here.next_id t here.caps here.sending next stays still none in
-            let at : here.accounted ≡ t = ap (λ (q : Planned P). q.accounted) leaves.is in
-            λ i. record (launched cmp t (landed cmp t here m) next) { sending = sym all i; accounted = at i };
-      }
+      grind (arith, common_steps, accounted, (none_and_one_leave cmp order here.next_id t here.caps here.sending next
+      stays still (none_done t old here ls leaves)), (all_and_one_stay cmp order here.next_id t here.caps here.sending
+      next stays still (none_done t old here ls leaves)))
 
   -- ---- the next message starts
 
@@ -98,22 +78,17 @@ module _ {P : Type 0} (cmp : P → P → Ordering) (order : IsTotalOrder cmp) wh
         (drained_to t (fs ++ starting cmp order here.next_id t next ∷ [])))
         new.sending
     left_alike =
-        subst (λ (l : List (RatedFlight P)). AllZip (Stays t) l new.sending)
-        (sym (all_and_one_stay cmp order here.next_id t here.caps fs next stays still_there none_there))
-        (zip_beside (Stays t) (Stays t) (Stays t)
-        (λ f g k one other. (other.0 ∙ sym one.0, other.1 ∙ sym one.1, other.2 ∙ sym one.2, other.3))
-        (here.sending ++ starting cmp order here.next_id t next ∷ [])
-        (fs ++ starting cmp order here.next_id t next ∷ []) new.sending
-        (zip-append (Stays t) here.sending (starting cmp order here.next_id t next ∷ []) fs
-        (starting cmp order here.next_id t next ∷ []) stayed ((refl, refl, refl, refl), tt))
-        (subst (λ (l : List (RatedFlight P)). AllZip (Stays t) l new.sending)
-        (all_and_one_stay cmp order here.next_id t here.caps here.sending next stays still_here none_here) a.stayed))
+        grind (arith, common_steps, zip_beside, (all_and_one_stay cmp order here.next_id t here.caps fs next stays
+        still_there none_there), (starting cmp order here.next_id t next), (zip-append (Stays t) here.sending
+        (starting cmp order here.next_id t next ∷ []) fs (starting cmp order here.next_id t next ∷ []) stayed ((refl,
+        refl, refl, refl), tt)), (all_and_one_stay cmp order here.next_id t here.caps here.sending next stays
+        still_here none_here))
 
     accounts_there : Accounts cmp t (launched cmp t (landed cmp t there m) next) [] new
-    accounts_there = grind (arith, common_steps, none_and_one_leave, left_alike)
+    accounts_there = grind (arith, none_and_one_leave, left_alike)
 
     starts_beside : Launches cmp t (landed cmp t there m) (Some next) (goes [] new)
-    starts_beside = grind (arith, common_steps, there, stayed_messages, starts, accounts_there)
+    starts_beside = grind (arith, there, stayed_messages, starts, accounts_there)
 
   -- the next message of the pair of one that is done starts before the others get their rates
   pub follows : (t : ℕ) (old here new : Planned P) (m next : Message P) (ls : List (Message P))
@@ -127,14 +102,10 @@ module _ {P : Type 0} (cmp : P → P → Ordering) (order : IsTotalOrder cmp) wh
   follows t old here new m next ls leaves lowest still found may id stays a =
       let made = account_of t old here ls leaves in
       let there : made.0 ≡ record here { sending = made.0.sending; accounted = t; finish = made.0.finish } =
-      made.1.same
-      ∙ sym (ap (λ (q : Planned P). record q { sending = made.0.sending; accounted = t; finish = made.0.finish }) leaves.is) in
+          grind (arith, accounted) in
       let accounted_there : IsAccountedAt cmp order t made.0 = accounted cmp order t old made.0 ls made.1 in
-      let stayed : AllZip (Stays t) here.sending made.0.sending =
-      subst (λ (q : Planned P). AllZip (Stays t) q.sending made.0.sending) (sym leaves.is) made.1.stayed in
-      let low : AreLowest made.0.sending =
-      zip_each (Stays t) (λ f. IsLowest f.left) (λ g. IsLowest g.left)
-      (λ f g same low. subst IsLowest (sym same.2) low) here.sending made.0.sending stayed lowest in
+      let stayed : AllZip (Stays t) here.sending made.0.sending = grind arith in
+      let low : AreLowest made.0.sending = grind (arith, zip_each) in
       let none_there : filter (is_spent cmp here.caps) made.0.sending ≡ [] =
       subst (λ (q : Planned P). filter (is_spent cmp q.caps) made.0.sending ≡ []) there
       (none_leave cmp order t made.0 accounted_there) in
@@ -144,10 +115,7 @@ module _ {P : Type 0} (cmp : P → P → Ordering) (order : IsTotalOrder cmp) wh
       (none_done t old here ls leaves) stayed (drained_still cmp order t made.0 accounted_there low) none_there a in (
         made.0,
         made.1,
-        subst (λ (q : Planned P). Launches cmp t (landed cmp t q m) (next_of cmp q m) (goes [] new)) (sym there)
-            (subst (λ (first : Option (Message P)). Launches cmp t
-            (landed cmp t (record here { sending = made.0.sending; accounted = t; finish = made.0.finish }) m) first (goes [] new))
-            (sym found) launch),
+        grind (arith, there, accounted),
       )
 
   -- the first of those that are done completes, and then the others

@@ -1,5 +1,4 @@
 -- The empty planned world stands for the empty world, and new caps do in the planned world what they do in the world.
-use Rattle.std.proofs.lemmas.Grind.{common_steps}
 use Rattle.link_simulation.proofs.Common.{◌≡◌, ℕ, zero, suc, ◌+◌, ◌-◌, ◌<◌, ◌≤◌, List, [], ◌∷◌, length, true, false}
 use Rattle.link_simulation.proofs.Common.{Option, refl, sym, ap, ◌∙◌, subst, arith, IfSome, list_any, AllZip, Ordering}
 use Rattle.link_simulation.proofs.Common.{IsTotalOrder, Completed, Course, Flight, IsQuiet, World, goes, is_done}
@@ -38,7 +37,7 @@ no_sides cmp caps = record {
 module _ {P : Type 0} (cmp : P → P → Ordering) (order : IsTotalOrder cmp) where
   -- the empty planned world stands for the empty world
   pub new_stands : (id : ℕ) → StandsFor cmp (new_planned id) (new_world id)
-  new_stands id = grind (arith, common_steps, no_sides)
+  new_stands id = grind (arith, no_sides)
 
   -- ---- new caps
 
@@ -49,7 +48,7 @@ module _ {P : Type 0} (cmp : P → P → Ordering) (order : IsTotalOrder cmp) wh
 
   link_alike : (f g : P → P → Option ℕ) (origin recipient : P) (cap : Option ℕ) → PairsAlike cmp f g
       → PairsAlike cmp (with_link cmp f origin recipient cap) (with_link cmp g origin recipient cap)
-  link_alike f g origin recipient cap same p q r s e h = grind (arith, common_steps, peers_alike, same_itself)
+  link_alike f g origin recipient cap same p q r s e h = grind arith
 
   -- the worlds under new caps
   abbrev pub rebalanced : World P → Caps P → World P
@@ -60,7 +59,7 @@ module _ {P : Type 0} (cmp : P → P → Ordering) (order : IsTotalOrder cmp) wh
 
   recapped_tallies : (t : ℕ) (p : Planned P) (w : World P) (caps others : Caps P) → CapsAlike cmp caps others
       → Tallies cmp t p w → Tallies cmp t (replanned p caps) (rebalanced w others)
-  recapped_tallies t p w caps others alike same = grind (arith, common_steps)
+  recapped_tallies t p w caps others alike same = grind arith
 
   -- a moment before the next event is reached with nothing done and nothing ready
   pub record IsReached (now : ℕ) (p : Planned P) (w : World P) : Type 0 where
@@ -181,11 +180,7 @@ module _ {P : Type 0} (cmp : P → P → Ordering) (order : IsTotalOrder cmp) wh
   rebalancing p w now call new course acts alike stands le within before recaps =
       let there : IsReached now p w = reaches now p w stands le within before in (
         rebalance cmp now there.world (new there.world.caps),
-        record {
-          ticked = goes [] there.world;
-          ticks = there.ticks;
-          acts = sym (acts there.world) ∙ sym (preceded_none (act cmp there.world call));
-        },
+        grind (arith, preceded_none),
         rebalances_there p now there.world (new p.caps) (new there.world.caps) course
             (alike p.caps there.world.caps there.follows.tallies.caps) within there.follows there.none_ready recaps,
       )

@@ -1,10 +1,9 @@
 -- The earlier of the planned finish and start is the next event; and advancing is a run of the call.
-use Rattle.std.proofs.lemmas.Grind.{common_steps}
-use Rattle.link_simulation.proofs.Common.{◌≡◌, ℕ, suc, ◌+◌, ◌-◌, ◌<◌, ◌≤◌, List, [], Option, Some, refl, sym, ap, subst}
+use Rattle.link_simulation.proofs.Common.{◌≡◌, ℕ, suc, ◌+◌, ◌<◌, ◌≤◌, List, [], Option, Some, refl, sym, ap, subst}
 use Rattle.link_simulation.proofs.Common.{arith, IfSome, Ordering, IsTotalOrder, Completed, Course, IsQuiet, World}
 use Rattle.link_simulation.proofs.Common.{and_then, goes, last_moment, meets, ready, Runs, call_advance, Advances}
 use Rattle.link_simulation.proofs.Common.{Message, IsLeastMoment, Planned, SomeReadyAt, next_event, CoursesAlike}
-use Rattle.link_simulation.proofs.Common.{StandsFor, NextIs, Ticks}
+use Rattle.link_simulation.proofs.Common.{StandsFor, NextIs}
 use Rattle.std.specs.Prelude.{◌≢◌}
 use Rattle.std.proofs.lemmas.List.{append-nil}
 use Rattle.link_simulation.proofs.Rule.BeforeNext.{later, follows_later, comes_at, nothing_comes, finish_is_next}
@@ -37,7 +36,7 @@ module _ {P : Type 0} (cmp : P → P → Ordering) (order : IsTotalOrder cmp) wh
 
   -- the next event is what is planned
   pub next_is_planned : (p : Planned P) (w : World P) → StandsFor cmp p w → NextIs cmp w (next_event p)
-  next_is_planned p w stands = grind (arith, common_steps, finish_is_next, start_is_next, nothing_comes, decide_start)
+  next_is_planned p w stands = grind (arith, finish_is_next, start_is_next, nothing_comes, decide_start)
 
   ended : (c : Course (Completed P) (World P)) → c ≡ and_then c (λ v. goes [] v)
   ended (goes cs v) = ap (λ (ds : List (Completed P)). goes ds v) (sym (append-nil cs))
@@ -49,7 +48,5 @@ module _ {P : Type 0} (cmp : P → P → Ordering) (order : IsTotalOrder cmp) wh
       → (c : Course (Completed P) (World P)) × Runs cmp w (call_advance now) now c
       × CoursesAlike cmp (λ q v. StandsFor cmp q v × (v.moment ≡ now)) course c
   advance_runs p w now n course stands le within events =
-      let way : (c : Course (Completed P) (World P)) × Ticks cmp (now - w.moment) w c
-      × CoursesAlike cmp (λ q v. StandsFor cmp q v × (v.moment ≡ now)) course c
-      = (advances_alike cmp order events within).0 w stands le in
-      (way.0, record { ticked = way.0; ticks = way.1; acts = ended way.0 }, way.2)
+      grind (arith, (advances_alike cmp order events within), (ended ((advances_alike cmp order events within).0 w
+      stands le).0))

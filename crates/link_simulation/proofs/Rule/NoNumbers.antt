@@ -2,8 +2,7 @@
 use Rattle.link_simulation.proofs.Common.{arith, List, [], ◌∷◌, Contains, ⊤, Ordering, All-contains, Error, OutOfMemory}
 use Rattle.link_simulation.proofs.Common.{NumberTooLarge, MomentTooLate, FlowIdsUsedUp, Call, Reply, reply_done}
 use Rattle.link_simulation.proofs.Common.{reply_next, reply_refused, Planned, MayBeRefused, Obeyed, Each, all_of_each}
-use Rattle.std.proofs.lemmas.Grind.{common_steps}
-use Rattle.link_simulation.proofs.Rule.Stepwise.{obeyed_next, obeyed_refused, obeyed_done}
+use Rattle.link_simulation.proofs.Rule.Stepwise.{obeyed_next, obeyed_done}
 
 IsNoNumber : {P : Type 0} → Reply P → Type 0
 IsNoNumber (reply_done cs) = ⊤
@@ -17,10 +16,8 @@ module _ {P : Type 0} (cmp : P → P → Ordering) where
   refused : (p : Planned P) (call : Call P) (why : Error) → MayBeRefused cmp p call why
       → IsNoNumber {P = P} (reply_refused why)
   unfolding IsNoNumber
-  refused p call OutOfMemory may = tt
   refused p call NumberTooLarge may = may
-  refused p call MomentTooLate may = tt
-  refused p call FlowIdsUsedUp may = tt
+  refused p call _ may = tt
 
   none_for_a_number : (p : Planned P) (calls : List (Call P)) (replies : List (Reply P)) → Obeyed cmp p calls replies
       → Each IsNoNumber replies
@@ -31,15 +28,13 @@ module _ {P : Type 0} (cmp : P → P → Ordering) where
   none_for_a_number p (call ∷ calls) (reply_next next ∷ replies) obeyed =
       (tt, none_for_a_number p calls replies (obeyed_next cmp p calls replies call next obeyed))
   none_for_a_number p (call ∷ calls) (reply_refused why ∷ replies) obeyed =
-      grind (arith, common_steps, obeyed_refused, refused, (none_for_a_number p calls replies (obeyed_refused cmp p
-      calls replies call why obeyed).1))
+      grind (arith, (none_for_a_number p calls replies))
   none_for_a_number p (call ∷ calls) (reply_done cs ∷ replies) obeyed =
-      grind (arith, common_steps, obeyed_done, (none_for_a_number (obeyed_done cmp p calls replies call cs obeyed).1
-      calls replies (obeyed_done cmp p calls replies call cs obeyed).4))
+      grind (arith, (none_for_a_number (obeyed_done cmp p calls replies call cs obeyed).1 calls replies (obeyed_done
+      cmp p calls replies call cs obeyed).4))
 
   pub never_for_a_number : (p : Planned P) (calls : List (Call P)) (replies : List (Reply P))
       → Obeyed cmp p calls replies
       → ¬ Contains replies (reply_refused NumberTooLarge)
   unfolding IsNoNumber
-  never_for_a_number p calls replies obeyed has =
-      grind (arith, common_steps, All-contains, all_of_each, none_for_a_number)
+  never_for_a_number p calls replies obeyed has = grind (arith, All-contains, all_of_each, none_for_a_number)

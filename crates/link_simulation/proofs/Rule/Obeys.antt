@@ -1,9 +1,8 @@
 -- A call in its turn does in the planned world what it does in the world.
-use Rattle.std.proofs.lemmas.Grind.{common_steps}
-use Rattle.link_simulation.proofs.Common.{◌≡◌, ℕ, ◌<◌, ◌≤◌, List, [], Some, refl, sym, ap, ◌∙◌, subst, arith, IfSome}
+use Rattle.link_simulation.proofs.Common.{common_steps, ◌≡◌, ℕ, ◌<◌, ◌≤◌, List, [], Some, refl, subst, arith, IfSome}
 use Rattle.link_simulation.proofs.Common.{Ordering, IsTotalOrder, Message, World, Completed, Course, goes, meets}
-use Rattle.link_simulation.proofs.Common.{preceded, and_then, last_moment, ready, Ticks, no_tick, one_tick, tick_faults}
-use Rattle.link_simulation.proofs.Common.{act, enqueue, enqueue_each, Call, call_limit, call_limit_link, call_enqueue}
+use Rattle.link_simulation.proofs.Common.{preceded, and_then, last_moment, Ticks, no_tick, one_tick, tick_faults, act}
+use Rattle.link_simulation.proofs.Common.{enqueue, enqueue_each, Call, call_limit, call_limit_link, call_enqueue}
 use Rattle.link_simulation.proofs.Common.{call_advance, call_enqueue_all, call_next, moment_of, Runs, IsInTurn}
 use Rattle.link_simulation.proofs.Common.{IsBeforeNext, Planned, next_event, Enqueues, at_once, no_launch, launches}
 use Rattle.link_simulation.proofs.Common.{Obeys, EnqueuesEach, all_enqueued, one_stops, enqueues_one, CoursesAlike}
@@ -50,7 +49,7 @@ module _ {P : Type 0} (cmp : P → P → Ordering) (order : IsTotalOrder cmp) wh
   -- at a call's moment nothing ticks
   pub acts_at_once : (w : World P) (call : Call P) (now : ℕ) (c : Course (Completed P) (World P)) → w.moment ≡ now
       → Runs cmp w call now c → c ≡ act cmp w call
-  acts_at_once w call now c at runs = grind (arith, common_steps, none_ticked, preceded_none)
+  acts_at_once w call now c at runs = grind arith
 
   abbrev StandsAt : ℕ → Planned P → World P → Type 0
   StandsAt now q v = StandsFor cmp q v × (v.moment ≡ now)
@@ -60,14 +59,13 @@ module _ {P : Type 0} (cmp : P → P → Ordering) (order : IsTotalOrder cmp) wh
       → CoursesAlike cmp (StandsAt now) (goes cs q) c
       → ((v : World P) → StandsAt now q v → CoursesAlike cmp (StandsAt now) rest (next v))
       → CoursesAlike cmp (StandsAt now) (preceded cs rest) (and_then c next)
-  alike_then now cs q rest (goes ds v) next alike on = grind (arith, common_steps, zip-append)
+  alike_then now cs q rest (goes ds v) next alike on = grind (arith, zip-append)
   alike_then now cs q rest (meets fault) next alike on = absurd alike
 
   later_than : (p : Planned P) (v : World P) (now : ℕ) → StandsFor cmp p v → v.moment ≡ now
       → IfSome (next_event p) (λ t. now < t)
   later_than p v now stands at =
-      subst (λ (s : ℕ). IfSome (next_event p) (λ t. s < t)) at
-      (next_is_later cmp order v (next_event p) (next_is_planned cmp order p v stands))
+      grind (arith, common_steps, (next_is_later cmp order v (next_event p) (next_is_planned cmp order p v stands)))
 
   -- after each message the next event comes later, so that each comes before it
   each_at_once : {now : ℕ} {ms : List (Message P)} {p : Planned P} {course : Course (Completed P) (Planned P)}
@@ -75,22 +73,13 @@ module _ {P : Type 0} (cmp : P → P → Ordering) (order : IsTotalOrder cmp) wh
       → CoursesAlike cmp (StandsAt now) course (enqueue_each cmp now v ms)
   each_at_once all_enqueued within v here = (tt, here)
   each_at_once {now = now} (one_stops {m = m} {ms = ms} {p = p} {fault = fault} one) within v here =
-      let at : v.moment ≡ now = here.1 in
-      let f : Follows p v (call_enqueue now m) now (meets fault) =
-      any_enqueue one v here.0 (omega arith) within (later_than p v now here.0 here.1) in
-      met (enqueue cmp now v m)
-      (subst (λ (c : Course (Completed P) (World P)). CoursesAlike cmp (StandsAt now) (meets fault) c)
-      (acts_at_once v (call_enqueue now m) now f.0 here.1 f.1) f.2)
-    where
-      met : (c : Course (Completed P) (World P)) → CoursesAlike cmp (StandsAt now) (meets fault) c
-          → CoursesAlike cmp (StandsAt now) (meets fault) (and_then c (λ u. enqueue_each cmp now u ms))
-      met (goes ds u) alike = absurd alike
-      met (meets other) alike = alike
+      grind (arith, common_steps, (acts_at_once v (call_enqueue now m) now (any_enqueue one v here.0 (omega arith)
+      within (later_than p v now here.0 here.1)).0 here.1 (any_enqueue one v here.0 (omega arith) within (later_than p
+      v now here.0 here.1)).1), (any_enqueue one v here.0 (omega arith) within (later_than p v now here.0 here.1)))
   each_at_once {now = now} (enqueues_one {m = m} {ms = ms} {p = p} {q = q} {cs = cs} {rest = rest} one more) within v
       here =
       let at : v.moment ≡ now = here.1 in
-      let f : Follows p v (call_enqueue now m) now (goes cs q) =
-      any_enqueue one v here.0 (omega arith) within (later_than p v now here.0 here.1) in
+      let f : Follows p v (call_enqueue now m) now (goes cs q) = grind (arith, any_enqueue, later_than) in
       alike_then now cs q rest (enqueue cmp now v m) (λ u. enqueue_each cmp now u ms)
       (subst (λ (c : Course (Completed P) (World P)). CoursesAlike cmp (StandsAt now) (goes cs q) c)
       (acts_at_once v (call_enqueue now m) now f.0 here.1 f.1) f.2)
@@ -103,20 +92,9 @@ module _ {P : Type 0} (cmp : P → P → Ordering) (order : IsTotalOrder cmp) wh
   all_enqueue now ms p w course stands le within before each =
       let there : IsReached cmp order now p w = reaches cmp order now p w stands le within before in
       let at : there.world.moment ≡ now = there.follows.tallies.moment in
-      let here : StandsFor cmp p there.world = record {
-        follows = subst (λ (t : ℕ). stands_for.Follows cmp t p there.world) (sym at) there.follows;
-        quiet = record {
-          none_done = there.none_done;
-          none_ready = ap (λ (t : ℕ). ready cmp t there.world) at ∙ there.none_ready;
-        };
-        start = stands.start;
-      } in (
+      let here : StandsFor cmp p there.world = grind arith in (
         enqueue_each cmp now there.world ms,
-        record {
-          ticked = goes [] there.world;
-          ticks = there.ticks;
-          acts = sym (preceded_none (enqueue_each cmp now there.world ms));
-        },
+        grind (arith, preceded_none),
         each_at_once each within there.world (here, at),
       )
 
@@ -124,21 +102,11 @@ module _ {P : Type 0} (cmp : P → P → Ordering) (order : IsTotalOrder cmp) wh
       → StandsFor cmp p w → moment_of call ≡ Some now
       → now ≤ last_moment → IsInTurn cmp w call → Obeys cmp p call course → Follows p w call now course
   obeys_alike p w (call_limit t peer egress ingress) now course stands is within turn obeys =
-      let same : t ≡ now = cc in
-      subst (λ (s : ℕ). Follows p w (call_limit t peer egress ingress) s course) same
-      (limits_alike cmp order p w t peer egress ingress course stands turn.0
-      (subst (λ (s : ℕ). s ≤ last_moment) (sym same) within) (before_planned p w t stands turn.1) obeys)
+      grind (arith, limits_alike, (before_planned p w t stands))
   obeys_alike p w (call_limit_link t origin recipient cap) now course stands is within turn obeys =
-      let same : t ≡ now = cc in
-      subst (λ (s : ℕ). Follows p w (call_limit_link t origin recipient cap) s course) same
-      (links_alike cmp order p w t origin recipient cap course stands turn.0
-      (subst (λ (s : ℕ). s ≤ last_moment) (sym same) within) (before_planned p w t stands turn.1) obeys)
-  obeys_alike p w (call_enqueue t m) now course stands is within turn obeys =
-      grind (arith, common_steps, any_enqueue, before_planned)
+      grind (arith, links_alike, (before_planned p w t stands))
+  obeys_alike p w (call_enqueue t m) now course stands is within turn obeys = grind (arith, any_enqueue, before_planned)
   obeys_alike p w (call_enqueue_all t ms) now course stands is within turn obeys =
-      let same : t ≡ now = cc in
-      subst (λ (s : ℕ). Follows p w (call_enqueue_all t ms) s course) same
-      (all_enqueue t ms p w course stands turn.0 (subst (λ (s : ℕ). s ≤ last_moment) (sym same) within)
-      (before_planned p w t stands turn.1) obeys)
-  obeys_alike p w (call_advance t) now course stands is within turn obeys = grind (arith, common_steps, advance_runs)
+      grind (arith, all_enqueue, (before_planned p w t stands))
+  obeys_alike p w (call_advance t) now course stands is within turn obeys = grind (arith, advance_runs)
   obeys_alike p w call_next now course stands is within turn obeys = cc

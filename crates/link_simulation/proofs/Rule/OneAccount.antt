@@ -1,19 +1,18 @@
 -- Where an account was made at a moment, nothing is due to leave at it; and for several messages that start then one
 -- account is enough.
-use Rattle.std.proofs.lemmas.Grind.{common_steps}
-use Rattle.link_simulation.proofs.Common.{◌≡◌, ℕ, zero, suc, ◌+◌, ◌-◌, ◌<◌, ◌≤◌, List, [], ◌∷◌, ◌++◌, length, Bool}
-use Rattle.link_simulation.proofs.Common.{true, false, not, Option, Some, None, refl, sym, ap, ◌∙◌, subst, arith, ◌⊎◌}
-use Rattle.link_simulation.proofs.Common.{inl, inr, ◌==◌, ◌&&◌, slice_get, if◌then◌else◌, IfSome, filter, find}
-use Rattle.link_simulation.proofs.Common.{list_any, AllZip, Ordering, IsTotalOrder, cases_lt, or_parts, map-append}
-use Rattle.link_simulation.proofs.Common.{filter-append, Each, each_map, zip-append, zip_chain, Amount, whole, reduced}
-use Rattle.link_simulation.proofs.Common.{reduced_positive, Message, Caps, same_pair, Parts, rate_of, rates_from}
-use Rattle.link_simulation.proofs.Common.{is_unlimited, AreFair, IsLowest, Completed, Course, goes, last_moment}
-use Rattle.link_simulation.proofs.Common.{EndsWith, completed, is_in_order, Planned, RatedFlight, IsLeastMoment}
-use Rattle.link_simulation.proofs.Common.{SomeSpentAt, rated_messages, drained_to, left_at, is_spent, may_launch}
-use Rattle.link_simulation.proofs.Common.{next_of, SomeReadyAt, Accounts, PlansStart, launched, Launches, nothing_waits}
-use Rattle.link_simulation.proofs.Common.{too_early, no_id, starts, Finishes, all_completed, late, stopped, completes}
-use Rattle.link_simulation.proofs.Common.{with_queued, Enqueues, at_once, no_launch, launches, completed_at_once}
-use Rattle.link_simulation.proofs.Common.{landed}
+use Rattle.link_simulation.proofs.Common.{common_steps, ◌≡◌, ℕ, zero, suc, ◌+◌, ◌-◌, ◌<◌, ◌≤◌, List, [], ◌∷◌, ◌++◌}
+use Rattle.link_simulation.proofs.Common.{length, Bool, true, false, not, Option, Some, None, refl, sym, ap, ◌∙◌, subst}
+use Rattle.link_simulation.proofs.Common.{arith, ◌⊎◌, inl, inr, ◌==◌, ◌&&◌, slice_get, if◌then◌else◌, IfSome, filter}
+use Rattle.link_simulation.proofs.Common.{find, list_any, AllZip, Ordering, IsTotalOrder, cases_lt, or_parts}
+use Rattle.link_simulation.proofs.Common.{map-append, filter-append, Each, each_map, zip-append, zip_chain, Amount}
+use Rattle.link_simulation.proofs.Common.{whole, reduced, reduced_positive, Message, Caps, same_pair, Parts, rate_of}
+use Rattle.link_simulation.proofs.Common.{rates_from, is_unlimited, AreFair, IsLowest, Completed, Course, goes}
+use Rattle.link_simulation.proofs.Common.{last_moment, EndsWith, completed, is_in_order, Planned, RatedFlight}
+use Rattle.link_simulation.proofs.Common.{IsLeastMoment, SomeSpentAt, rated_messages, drained_to, left_at, is_spent}
+use Rattle.link_simulation.proofs.Common.{may_launch, next_of, SomeReadyAt, Accounts, PlansStart, launched, Launches}
+use Rattle.link_simulation.proofs.Common.{nothing_waits, too_early, no_id, starts, Finishes, all_completed, late}
+use Rattle.link_simulation.proofs.Common.{stopped, completes, with_queued, Enqueues, at_once, no_launch, launches}
+use Rattle.link_simulation.proofs.Common.{completed_at_once, landed}
 use Rattle.std.proofs.lemmas.Bool.{cases_eq}
 use Rattle.link_simulation.proofs.Laws.Orderly.{drained_messages, stayed_messages}
 use Rattle.link_simulation.proofs.Rule.Accounts.{each_passes}
@@ -52,19 +51,11 @@ least_from Q decide (suc n) from end first =
     by_case (cases_lt last_moment from) (decide from) (least_from Q decide n (from + 1) (omega (arith, end)))
   where
     later : (Q from → ⊥) → (s : ℕ) → Q s → from + 1 ≤ s
-    later none s q = by_order (cases_lt from s)
-      where
-        by_order : from < s ⊎ s ≤ from → from + 1 ≤ s
-        by_order (inl lt) = omega arith
-        by_order (inr le) =
-            let ge : from ≤ s = first s q in
-            let same : s ≡ from = omega arith in
-            absurd (none (subst Q same q))
+    later none s q = grind (arith, cases_lt)
 
     by_case : last_moment < from ⊎ from ≤ last_moment → Q from ⊎ (Q from → ⊥)
         → (((s : ℕ) → Q s → from + 1 ≤ s) → (o : Option ℕ) × IsLeastMoment Q o) → (o : Option ℕ) × IsLeastMoment Q o
-    by_case (inl past) d ih =
-        (None, λ t le q. let ge : from ≤ t = first t q in absurd (omega (arith, past, le, ge)))
+    by_case (inl past) d ih = grind arith
     by_case (inr le) (inl q) ih = (Some from, (le, q, first))
     by_case (inr le) (inr none) ih = ih (later none)
 
@@ -73,7 +64,7 @@ least_exists Q decide = least_from Q decide (suc last_moment) 0 (omega arith) (�
 
 -- whether something is spent can be told
 spent_or_not : {P : Type 0} (fs : List (RatedFlight P)) (t : ℕ) → SomeSpentAt fs t ⊎ (SomeSpentAt fs t → ⊥)
-spent_or_not {P} [] t = grind (arith, common_steps)
+spent_or_not {P} [] t = grind arith
 spent_or_not {P} (f ∷ fs) t = by_rest (cases_lt t f.updated) (cases_eq (left_at t f).num 0) (spent_or_not fs t)
   where
     rest : ((f.updated ≤ t) → ((left_at t f).num ≡ 0) → ⊥) → (SomeSpentAt fs t → ⊥) → SomeSpentAt (f ∷ fs) t → ⊥
@@ -113,7 +104,7 @@ IsKept t f = (f.updated ≡ t) × (left_at t f ≡ f.left)
 
 drained_kept : {P : Type 0} (t : ℕ) (fs : List (RatedFlight P)) → Each (IsKept t) fs → drained_to t fs ≡ fs
 drained_kept t [] each = refl
-drained_kept t (f ∷ fs) each = grind (arith, common_steps, (drained_kept t fs each.1))
+drained_kept t (f ∷ fs) each = grind (arith, (drained_kept t fs))
 
 drained-append : {P : Type 0} (t : ℕ) (fs gs : List (RatedFlight P))
     → drained_to t (fs ++ gs) ≡ drained_to t fs ++ drained_to t gs
@@ -122,7 +113,7 @@ drained-append t (f ∷ fs) gs = ap (λ l. record f { left = left_at t f; update
 
 no_time : {P : Type 0} (t : ℕ) (f : RatedFlight P) (r : Amount) → f.updated ≡ t → f.rate ≡ Some r → 0 < r.den
     → IsLowest f.left → left_at t f ≡ f.left
-no_time t f r at rate positive low = grind (arith, common_steps, drained_none)
+no_time t f r at rate positive low = grind (arith, drained_none)
 
 left_lowest : {P : Type 0} (t : ℕ) (f : RatedFlight P) → (0 < f.left.den) × IfSome f.rate (λ r. 0 < r.den)
     → IsLowest (left_at t f)
@@ -135,7 +126,7 @@ all_lowest t (f ∷ fs) each = (left_lowest t f each.0, all_lowest t fs each.1)
 each_filtered_too : {X : Type 0} (Q : X → Type 0) (test : X → Bool) (xs : List X) → Each Q xs
     → Each Q (filter test xs)
 each_filtered_too Q test [] each = tt
-each_filtered_too {X} Q test (x ∷ xs) each = grind (arith, common_steps, (each_filtered_too Q test xs each.1))
+each_filtered_too {X} Q test (x ∷ xs) each = grind (arith, (each_filtered_too Q test xs))
 
 module _ {P : Type 0} (cmp : P → P → Ordering) (order : IsTotalOrder cmp) where
   -- at that moment an account was made: what is in flight is accounted for, none of it is done, and the rates and the
@@ -153,11 +144,11 @@ module _ {P : Type 0} (cmp : P → P → Ordering) (order : IsTotalOrder cmp) wh
 
   stayed_unspent : (caps : Caps P) (t : ℕ) (f g : RatedFlight P) → Stays t f g
       → not (is_spent cmp caps f) ≡ true → (g.updated ≡ t) × (is_spent cmp caps g ≡ false)
-  stayed_unspent caps t f g stays test = grind (arith, common_steps)
+  stayed_unspent caps t f g stays test = grind arith
 
   pub accounted : (t : ℕ) (old new : Planned P) (ls : List (Message P)) → Accounts cmp t old ls new
       → IsAccountedAt t new
-  accounted t old new ls a = grind (arith, common_steps, zip_each, stayed_unspent, each_passes)
+  accounted t old new ls a = grind (arith, zip_each, stayed_unspent, each_passes)
 
   planned_accounted : (t : ℕ) (p q : Planned P) → PlansStart cmp t p q → IsAccountedAt t p → IsAccountedAt t q
   planned_accounted t p q looks h =
@@ -178,11 +169,10 @@ module _ {P : Type 0} (cmp : P → P → Ordering) (order : IsTotalOrder cmp) wh
   launch_accounted {t = t} {p = p} (too_early may) ms q e h = let same : p ≡ q = cc in subst (IsAccountedAt t) same h
   launch_accounted (no_id may last) ms q e h = cc
   launch_accounted {t = t} {p = p} (starts {m = m} {leavers = leavers} {new = new} may below account) ms q e h =
-      let same : new ≡ q = cc in
-      subst (IsAccountedAt t) same (accounted t (launched cmp t p m) new leavers account)
+      grind (arith, common_steps, (accounted t (launched cmp t p m) new leavers account))
 
   landed_accounted : (t : ℕ) (p : Planned P) (m : Message P) → IsAccountedAt t p → IsAccountedAt t (landed cmp t p m)
-  landed_accounted t p m h = grind (arith, common_steps)
+  landed_accounted t p m h = grind arith
 
   finish_accounted : {t : ℕ} {ms : List (Message P)} {p : Planned P} {c : Course (Completed P) (Planned P)}
       → Finishes cmp t ms p c → IsAccountedAt t p → EndsWith (IsAccountedAt t) c
@@ -195,11 +185,11 @@ module _ {P : Type 0} (cmp : P → P → Ordering) (order : IsTotalOrder cmp) wh
 
   queued_accounted : (t : ℕ) (p : Planned P) (m : Message P) → IsAccountedAt t p
       → IsAccountedAt t (with_queued cmp p m)
-  queued_accounted t p m h = grind (arith, common_steps)
+  queued_accounted t p m h = grind arith
 
   at_once_accounted : (t : ℕ) (p : Planned P) (m : Message P) → IsAccountedAt t p
       → EndsWith (IsAccountedAt t) (completed_at_once cmp t p m)
-  at_once_accounted t p m h = grind (arith, common_steps)
+  at_once_accounted t p m h = grind arith
 
   -- where an account was made, a message that is sent leaves it so
   pub enqueue_accounted : {t : ℕ} {m : Message P} {p : Planned P} {c : Course (Completed P) (Planned P)}
@@ -213,11 +203,10 @@ module _ {P : Type 0} (cmp : P → P → Ordering) (order : IsTotalOrder cmp) wh
       → Launches cmp t p o c → (k : Message P) → o ≡ Some k → may_launch cmp t p k ≡ true
       → (ms : List (Message P)) (q : Planned P) → c ≡ goes ms q → IsAccountedAt t q
   start_accounted nothing_waits k is may ms q e = cc
-  start_accounted {t = t} {p = p} (too_early {m = m} early) k is may ms q e = grind (arith, common_steps)
+  start_accounted {t = t} {p = p} (too_early {m = m} early) k is may ms q e = grind arith
   start_accounted (no_id ready last) k is may ms q e = cc
   start_accounted {t = t} {p = p} (starts {m = m} {leavers = ls} {new = new} ready below account) k is may ms q e =
-      let same : new ≡ q = cc in
-      subst (IsAccountedAt t) same (accounted t (launched cmp t p m) new ls account)
+      grind (arith, common_steps, (accounted t (launched cmp t p m) new ls account))
 
   -- and a message that starts makes it so
   pub enqueue_starts : {t : ℕ} {m : Message P} {p : Planned P} {c : Course (Completed P) (Planned P)}
@@ -251,16 +240,13 @@ module _ {P : Type 0} (cmp : P → P → Ordering) (order : IsTotalOrder cmp) wh
       )
 
   have_rates : (t : ℕ) (p : Planned P) → IsAccountedAt t p → Each HasRate p.sending
-  have_rates t p h = grind (arith, common_steps, all_have_rates, each_map, unspent_limited, rate_of)
+  have_rates t p h = grind (arith, all_have_rates, each_map, unspent_limited, rate_of)
 
   all_kept : (t : ℕ) (caps : Caps P) (fs : List (RatedFlight P))
       → Each (λ f. (f.updated ≡ t) × (is_spent cmp caps f ≡ false)) fs → Each HasRate fs → AreLowest fs
       → Each (IsKept t) fs
   all_kept t caps [] none rates low = tt
-  all_kept t caps (f ∷ fs) none rates low = (
-    (none.0.0, no_time t f rates.0.0 none.0.0 rates.0.1 rates.0.2 low.0),
-    all_kept t caps fs none.1 rates.1 low.1,
-  )
+  all_kept t caps (f ∷ fs) none rates low = grind (arith, (no_time t f), (all_kept t caps fs))
 
   pub drained_still : (t : ℕ) (p : Planned P) → IsAccountedAt t p → AreLowest p.sending
       → drained_to t p.sending ≡ p.sending
@@ -268,11 +254,11 @@ module _ {P : Type 0} (cmp : P → P → Ordering) (order : IsTotalOrder cmp) wh
       drained_kept t p.sending (all_kept t p.caps p.sending h.none_spent (have_rates t p h) low)
 
   pub none_leave : (t : ℕ) (p : Planned P) → IsAccountedAt t p → filter (is_spent cmp p.caps) p.sending ≡ []
-  none_leave t p h = grind (arith, common_steps, filter_none, each_map)
+  none_leave t p h = grind (arith, filter_none, each_map)
 
   all_stay : (t : ℕ) (p : Planned P) → IsAccountedAt t p
       → filter (λ f. not (is_spent cmp p.caps f)) p.sending ≡ p.sending
-  all_stay t p h = grind (arith, common_steps, filter_all, each_map)
+  all_stay t p h = grind (arith, filter_all, each_map)
 
   stay_as_they_are : (t : ℕ) (fs : List (RatedFlight P)) (caps : Caps P)
       → Each (λ f. (f.updated ≡ t) × (is_spent cmp caps f ≡ false)) fs → AllZip (Stays t) fs fs
@@ -282,20 +268,8 @@ module _ {P : Type 0} (cmp : P → P → Ordering) (order : IsTotalOrder cmp) wh
   -- an account at that moment once more changes nothing
   pub account_again : (t : ℕ) (p : Planned P) → IsAccountedAt t p → AreLowest p.sending → Accounts cmp t p [] p
   account_again t p h low =
-      let still : drained_to t p.sending ≡ p.sending = drained_still t p h low in
-      record {
-        per = h.per;
-        rates = h.rates;
-        left = sym (ap (λ (fs : List (RatedFlight P)). rated_messages (filter (is_spent cmp p.caps) fs)) still
-            ∙ ap rated_messages (none_leave t p h));
-        stayed = subst (λ (fs : List (RatedFlight P)). AllZip (Stays t) fs p.sending)
-            (sym (ap (filter (λ f. not (is_spent cmp p.caps f))) still ∙ all_stay t p h))
-            (stay_as_they_are t p.sending p.caps h.none_spent);
-        fair = h.fair;
-        rated = h.rated;
-        finish = h.finish;
-        same = λ i. record p { accounted = h.at i };
-      }
+      grind (arith, common_steps, accounted, (drained_still t p h low), (none_leave t p h), (all_stay t p h),
+      (stay_as_they_are t p.sending p.caps h.none_spent))
 
   -- ---- an account can always be made
 
@@ -342,7 +316,7 @@ module _ {P : Type 0} (cmp : P → P → Ordering) (order : IsTotalOrder cmp) wh
       → Accounts cmp t p (rated_messages (filter (is_spent cmp p.caps) (drained_to t p.sending)))
       (record p { sending = with_rates p.caps per fair.parts t 0 (Staying t p); accounted = t; finish = o })
   account_with t p per rates fair o least =
-      grind (arith, common_steps, stay_with_rates, rated_messages_same, rate_of, with_rates, rated_so)
+      grind (arith, stay_with_rates, rated_messages_same, rate_of, with_rates, rated_so)
 
   pub account_exists : (t : ℕ) (p : Planned P) → (ls : List (Message P)) × (q : Planned P) × Accounts cmp t p ls q
   account_exists t p =
@@ -371,13 +345,7 @@ module _ {P : Type 0} (cmp : P → P → Ordering) (order : IsTotalOrder cmp) wh
       → filter (λ f. not (is_spent cmp caps f)) (drained_to t (fs ++ starting id t m ∷ []))
       ≡ filter (λ f. not (is_spent cmp caps f)) (drained_to t fs) ++ starting id t m ∷ []
   one_more_stays id t caps fs m limited =
-      let test : RatedFlight P → Bool = λ f. not (is_spent cmp caps f) in
-      let alone : filter test (starting id t m ∷ []) ≡ starting id t m ∷ [] =
-      filter_all test (starting id t m ∷ []) (ap not limited, tt) in
-      ap (filter test) (drained-append t fs (starting id t m ∷ []))
-      ∙ ap (λ l. filter test (drained_to t fs ++ l)) (starting_kept id t m)
-      ∙ filter-append test (drained_to t fs) (starting id t m ∷ [])
-      ∙ ap (λ l. filter test (drained_to t fs) ++ l) alone
+      grind (arith, filter-append, filter_all, (drained-append t fs), (starting_kept id t m), (starting id t m))
 
   none_more_leaves : (id t : ℕ) (caps : Caps P) (fs : List (RatedFlight P)) (m : Message P)
       → is_spent cmp caps (starting id t m) ≡ false → filter (is_spent cmp caps) (drained_to t fs) ≡ []
@@ -392,16 +360,15 @@ module _ {P : Type 0} (cmp : P → P → Ordering) (order : IsTotalOrder cmp) wh
   all_but_none : (test : RatedFlight P → Bool) (fs : List (RatedFlight P)) → filter test fs ≡ []
       → filter (λ f. not (test f)) fs ≡ fs
   all_but_none test [] e = refl
-  all_but_none test (f ∷ fs) e = grind (arith, common_steps, (all_but_none test fs))
+  all_but_none test (f ∷ fs) e = grind (arith, (all_but_none test fs))
 
   -- where the first have drained and none of them is done, all stay, and so does the message that starts
   pub all_and_one_stay : (id t : ℕ) (caps : Caps P) (fs : List (RatedFlight P)) (m : Message P)
       → is_spent cmp caps (starting id t m) ≡ false → drained_to t fs ≡ fs → filter (is_spent cmp caps) fs ≡ []
       → filter (λ f. not (is_spent cmp caps f)) (drained_to t (fs ++ starting id t m ∷ [])) ≡ fs ++ starting id t m ∷ []
   all_and_one_stay id t caps fs m limited still none =
-      one_more_stays id t caps fs m limited
-      ∙ ap (λ l. filter (λ f. not (is_spent cmp caps f)) l ++ starting id t m ∷ []) still
-      ∙ ap (λ l. l ++ starting id t m ∷ []) (all_but_none (is_spent cmp caps) fs none)
+      grind (arith, (one_more_stays id t caps fs m limited), (starting id t m), (all_but_none (is_spent cmp caps) fs
+      none))
 
   -- and nothing leaves
   pub none_and_one_leave : (id t : ℕ) (caps : Caps P) (fs : List (RatedFlight P)) (m : Message P)
@@ -413,7 +380,7 @@ module _ {P : Type 0} (cmp : P → P → Ordering) (order : IsTotalOrder cmp) wh
   -- what is left after an account is in lowest terms
   pub account_lowest : (t : ℕ) (p q : Planned P) (ls : List (Message P)) → Accounts cmp t p ls q
       → ArePositive p.sending → AreLowest q.sending
-  account_lowest t p q ls a positive = grind (arith, common_steps, zip_each, each_filtered_too, all_lowest)
+  account_lowest t p q ls a positive = grind (arith, zip_each, each_filtered_too, all_lowest)
 
   -- ---- the same messages in flight
 
@@ -495,8 +462,7 @@ module _ {P : Type 0} (cmp : P → P → Ordering) (order : IsTotalOrder cmp) wh
         → Enqueues cmp t m (record here { sending = fs; accounted = t; finish = o }) (goes [] (record x { start = next.start }))
     enqueues_there x ax =
         let may_there : may_launch cmp t (record here { sending = fs; accounted = t; finish = o }) m ≡ true =
-        ap (λ (ms : List (Message P)). not (list_any (same_pair cmp m) ms)
-        && is_in_order (here.last_arrival m.origin m.recipient) (t + m.latency)) flying ∙ may in
+            grind (arith, flying) in
         let launch =
         subst (λ (first : Option (Message P)). Launches cmp t
         (with_queued cmp (record here { sending = fs; accounted = t; finish = o }) m) first (goes [] x)) (sym found)
@@ -530,16 +496,8 @@ module _ {P : Type 0} (cmp : P → P → Ordering) (order : IsTotalOrder cmp) wh
         → Accounts cmp t (launched cmp t (with_queued cmp (record here { sending = fs; accounted = t; finish = o }) m) m) [] x
         → Accounts cmp t next [] (record x { start = next.start })
     accounts_here x ax =
-        subst (λ (q : Planned P). Accounts cmp t q [] (record x { start = next.start })) (sym looks.same) (record {
-          per = ax.per;
-          rates = ax.rates;
-          left = sym (ap rated_messages (none_more_leaves here.next_id t here.caps here.sending m stays none_here));
-          stayed = stayed_here x ax;
-          fair = ax.fair;
-          rated = ax.rated;
-          finish = ax.finish;
-          same = ap (λ (q : Planned P). record q { start = next.start }) ax.same;
-        })
+        grind (arith, common_steps, (none_more_leaves here.next_id t here.caps here.sending m stays none_here),
+        (stayed_here x ax))
 
     one_start : (ls : List (Message P)) (x : Planned P)
         → Accounts cmp t (launched cmp t (with_queued cmp (record here { sending = fs; accounted = t; finish = o }) m) m) ls x

@@ -1,18 +1,18 @@
 -- By the event rule a call has one course, and an advance one number of events.
-use Rattle.std.proofs.lemmas.Grind.{common_steps}
-use Rattle.link_simulation.proofs.Common.{◌≡◌, ◌≢◌, ℕ, suc, ◌+◌, ◌*◌, ◌<◌, ◌≤◌, List, [], ◌∷◌, ◌++◌, true, false, not}
-use Rattle.link_simulation.proofs.Common.{Option, Some, None, refl, sym, ap, ◌∙◌, subst, arith, ◌⊎◌, inl, inr, IfSome}
-use Rattle.link_simulation.proofs.Common.{filter, AllZip, Ordering, IsTotalOrder, Error, MomentTooLate, FlowIdsUsedUp}
-use Rattle.link_simulation.proofs.Common.{Message, Caps, Parts, rate_of, AreFair, Completed, Course, goes, meets}
-use Rattle.link_simulation.proofs.Common.{last_moment, preceded, is_late, completed, Call, call_limit, call_limit_link}
-use Rattle.link_simulation.proofs.Common.{call_enqueue, call_advance, call_enqueue_all, call_next, Planned, RatedFlight}
-use Rattle.link_simulation.proofs.Common.{IsLeastMoment, next_event, rated_messages, SomeSpentAt, drained_to, next_of}
-use Rattle.link_simulation.proofs.Common.{may_launch, is_spent, Accounts, PlansStart, launched, Launches, nothing_waits}
-use Rattle.link_simulation.proofs.Common.{too_early, no_id, starts, landed, Finishes, all_completed, late, stopped}
-use Rattle.link_simulation.proofs.Common.{completes, WakesEach, all_started, no_start, no_finish, starts_one, Wakes}
-use Rattle.link_simulation.proofs.Common.{Settles, settling, Rebalances, none_sending, some_sending, Enqueues, at_once}
-use Rattle.link_simulation.proofs.Common.{no_launch, launches, Advances, no_more, at_finish, at_start, finish_stops}
-use Rattle.link_simulation.proofs.Common.{start_stops, Obeys, EnqueuesEach, all_enqueued, one_stops, enqueues_one}
+use Rattle.link_simulation.proofs.Common.{common_steps, ◌≡◌, ◌≢◌, ℕ, suc, ◌+◌, ◌*◌, ◌<◌, ◌≤◌, List, [], ◌∷◌, ◌++◌, true}
+use Rattle.link_simulation.proofs.Common.{false, not, Option, Some, None, refl, sym, ap, ◌∙◌, subst, arith, ◌⊎◌, inl}
+use Rattle.link_simulation.proofs.Common.{inr, IfSome, filter, AllZip, Ordering, IsTotalOrder, Error, MomentTooLate}
+use Rattle.link_simulation.proofs.Common.{FlowIdsUsedUp, Message, Caps, Parts, rate_of, AreFair, Completed, Course}
+use Rattle.link_simulation.proofs.Common.{goes, meets, last_moment, preceded, is_late, completed, Call, call_limit}
+use Rattle.link_simulation.proofs.Common.{call_limit_link, call_enqueue, call_advance, call_enqueue_all, call_next}
+use Rattle.link_simulation.proofs.Common.{Planned, RatedFlight, IsLeastMoment, next_event, rated_messages, SomeSpentAt}
+use Rattle.link_simulation.proofs.Common.{drained_to, next_of, may_launch, is_spent, Accounts, PlansStart, launched}
+use Rattle.link_simulation.proofs.Common.{Launches, nothing_waits, too_early, no_id, starts, landed, Finishes}
+use Rattle.link_simulation.proofs.Common.{all_completed, late, stopped, completes, WakesEach, all_started, no_start}
+use Rattle.link_simulation.proofs.Common.{no_finish, starts_one, Wakes, Settles, settling, Rebalances, none_sending}
+use Rattle.link_simulation.proofs.Common.{some_sending, Enqueues, at_once, no_launch, launches, Advances, no_more}
+use Rattle.link_simulation.proofs.Common.{at_finish, at_start, finish_stops, start_stops, Obeys, EnqueuesEach}
+use Rattle.link_simulation.proofs.Common.{all_enqueued, one_stops, enqueues_one}
 use Rattle.fair_rates.specs.Numbers.LowestTerms.{reduced_same}
 use Rattle.link_simulation.proofs.Simulation.AlikeMessages.{same_itself}
 use Rattle.link_simulation.proofs.Simulation.Rates.{Match, rates_match}
@@ -24,7 +24,7 @@ pub least_is_one : (Q : ℕ → Type 0) (a b : Option ℕ) → IsLeastMoment Q a
 least_is_one Q None None e f = refl
 least_is_one Q None (Some t) e f = absurd (e t f.0 f.1)
 least_is_one Q (Some s) None e f = absurd (f s e.0 e.1)
-least_is_one Q (Some s) (Some t) e f = grind (arith, common_steps)
+least_is_one Q (Some s) (Some t) e f = grind arith
 
 -- ---- an account
 
@@ -85,11 +85,8 @@ module _ {P : Type 0} (cmp : P → P → Ordering) (order : IsTotalOrder cmp) wh
       → goes ls new ≡ goes ms other
   account_is_one t old new other ls ms f g =
       let flows : rated_messages other.sending ≡ rated_messages new.sending
-      = stays_flows t (filter (λ h. not (is_spent cmp old.caps h)) (drained_to t old.sending)) other.sending g.stayed
-      ∙ sym (stays_flows t (filter (λ h. not (is_spent cmp old.caps h)) (drained_to t old.sending)) new.sending
-      f.stayed) in
-      let fair : AreFair cmp old.caps (rated_messages new.sending) g.per g.rates =
-      subst (λ (fs : List (Message P)). AreFair cmp old.caps fs g.per g.rates) flows g.fair in
+      = grind (arith, stays_flows) in
+      let fair : AreFair cmp old.caps (rated_messages new.sending) g.per g.rates = grind arith in
       let sending : new.sending ≡ other.sending
       =
       sending_is_one t f.rates g.rates f.per g.per
@@ -112,7 +109,7 @@ module _ {P : Type 0} (cmp : P → P → Ordering) (order : IsTotalOrder cmp) wh
 
   look_is_one : (t : ℕ) (old new other : Planned P) → PlansStart cmp t old new → PlansStart cmp t old other
       → new ≡ other
-  look_is_one t old new other f g = grind (arith, common_steps, least_is_one)
+  look_is_one t old new other f g = grind (arith, least_is_one)
 
   -- ---- a launch
 
@@ -128,9 +125,7 @@ module _ {P : Type 0} (cmp : P → P → Ordering) (order : IsTotalOrder cmp) wh
   no_launch_of : {t : ℕ} {old : Planned P} {o : Option (Message P)} {c : Course (Message P) (Planned P)}
       → Launches cmp t old o c → o ≡ None → c ≡ goes [] old
   no_launch_of nothing_waits e = refl
-  no_launch_of (too_early may) e = cc
-  no_launch_of (no_id may last) e = cc
-  no_launch_of (starts may below account) e = cc
+  no_launch_of _ e = cc
 
   launch_of : {t : ℕ} {old : Planned P} {o : Option (Message P)} {c : Course (Message P) (Planned P)}
       → Launches cmp t old o c → (m : Message P) → o ≡ Some m → Launch t old m c
@@ -139,15 +134,14 @@ module _ {P : Type 0} (cmp : P → P → Ordering) (order : IsTotalOrder cmp) wh
       let same : m ≡ n = cc in inl (subst (λ (k : Message P). may_launch cmp t old k ≡ false) same may, refl)
   launch_of {t = t} {old = old} (no_id {m = m} may last) n e =
       let same : m ≡ n = cc in inr (inl (subst (λ (k : Message P). may_launch cmp t old k ≡ true) same may, last, refl))
-  launch_of {t = t} {old = old} (starts {m = m} {leavers = ls} {new = new} may below account) n e =
-      grind (arith, common_steps)
+  launch_of {t = t} {old = old} (starts {m = m} {leavers = ls} {new = new} may below account) n e = grind arith
 
   launch_is_one : {t : ℕ} {old : Planned P} {o : Option (Message P)} {c : Course (Message P) (Planned P)}
       → Launches cmp t old o c
       → (d : Course (Message P) (Planned P)) → Launches cmp t old o d → c ≡ d
   launch_is_one nothing_waits d l = sym (no_launch_of l refl)
-  launch_is_one {t = t} {old = old} (too_early {m = m} may) d l = grind (arith, common_steps, launch_of)
-  launch_is_one {t = t} {old = old} (no_id {m = m} may last) d l = grind (arith, common_steps, launch_of)
+  launch_is_one {t = t} {old = old} (too_early {m = m} may) d l = grind (arith, launch_of)
+  launch_is_one {t = t} {old = old} (no_id {m = m} may last) d l = grind (arith, launch_of)
   launch_is_one {t = t} {old = old} (starts {m = m} {leavers = ls} {new = new} may below account) d l =
       by_case (launch_of l m refl)
     where
@@ -180,9 +174,7 @@ module _ {P : Type 0} (cmp : P → P → Ordering) (order : IsTotalOrder cmp) wh
       → Finishes cmp t ms p c → ms ≡ []
       → (q : Planned P) × PlansStart cmp t p q × (c ≡ goes [] q)
   no_finish_of (all_completed {q = q} looks) e = (q, looks, refl)
-  no_finish_of (late is) e = cc
-  no_finish_of (stopped in_time launch) e = cc
-  no_finish_of (completes in_time launch rest) e = cc
+  no_finish_of _ e = cc
 
   finish_of : {t : ℕ} {ms : List (Message P)} {p : Planned P} {c : Course (Completed P) (Planned P)}
       → Finishes cmp t ms p c → (m : Message P) (ns : List (Message P)) → ms ≡ m ∷ ns
@@ -190,40 +182,19 @@ module _ {P : Type 0} (cmp : P → P → Ordering) (order : IsTotalOrder cmp) wh
   finish_of (all_completed looks) n ns e = cc
   finish_of {t = t} (late {m = m} is) n ns e =
       let same : m ≡ n = cc in inl (subst (λ (k : Message P). is_late cmp t k ≡ true) same is, refl)
-  finish_of {t = t} {p = p} (stopped {m = m} {fault = fault} in_time launch) n ns e = grind (arith, common_steps)
+  finish_of {t = t} {p = p} (stopped {m = m} {fault = fault} in_time launch) n ns e = grind arith
   finish_of {t = t} {p = p} (completes {m = m} {ms = ms} {more = more} {q = q} {rest = rest} in_time launch finishes) n
-      ns e = grind (arith, common_steps)
+      ns e = grind arith
 
   finish_is_one : {t : ℕ} {ms : List (Message P)} {p : Planned P} {c : Course (Completed P) (Planned P)}
       → Finishes cmp t ms p c
       → (d : Course (Completed P) (Planned P)) → Finishes cmp t ms p d → c ≡ d
-  finish_is_one {t = t} {p = p} (all_completed {q = q} looks) d f =
-      grind (arith, common_steps, no_finish_of, look_is_one)
-  finish_is_one {t = t} {p = p} (late {m = m} {ms = ms} is) d f = by_case (finish_of f m ms refl)
-    where
-      by_case : Finish t m ms p d → meets MomentTooLate ≡ d
-      by_case (inl h) = sym h.1
-      by_case (inr h) = cc
+  finish_is_one {t = t} {p = p} (all_completed {q = q} looks) d f = grind (arith, no_finish_of, look_is_one)
+  finish_is_one {t = t} {p = p} (late {m = m} {ms = ms} is) d f = grind (arith, (finish_of f m ms refl))
   finish_is_one {t = t} {p = p} (stopped {m = m} {ms = ms} {fault = fault} in_time launch) d f =
-      by_case (finish_of f m ms refl)
-    where
-      by_case : Finish t m ms p d → meets fault ≡ d
-      by_case (inl h) = cc
-      by_case (inr h) =
-          let same : meets fault ≡ h.1.0 = launch_is_one launch h.1.0 h.1.1 in
-          sym (subst (λ (l : Course (Message P) (Planned P)). FinishOn t m ms l d) (sym same) h.1.2)
+      grind (arith, launch_is_one, (finish_of f m ms refl))
   finish_is_one {t = t} {p = p} (completes {m = m} {ms = ms} {more = more} {q = q} {rest = rest} in_time launch
-      finishes) d f =
-      by_case (finish_is_one finishes) (finish_of f m ms refl)
-    where
-      by_case : ((e : Course (Completed P) (Planned P)) → Finishes cmp t (ms ++ more) q e → rest ≡ e)
-          → Finish t m ms p d → preceded (completed cmp t m ∷ []) rest ≡ d
-      by_case ih (inl h) = cc
-      by_case ih (inr h) =
-          let same : goes more q ≡ h.1.0 = launch_is_one launch h.1.0 h.1.1 in
-          let on : FinishOn t m ms (goes more q) d =
-          subst (λ (l : Course (Message P) (Planned P)). FinishOn t m ms l d) (sym same) h.1.2 in
-          preceded_alike (completed cmp t m ∷ []) rest on.0 (ih on.0 on.1) ∙ sym on.2
+      finishes) d f = grind (arith, launch_is_one, preceded_alike, (finish_is_one finishes), (finish_of f m ms refl))
 
   -- ---- wakes
 
@@ -243,41 +214,30 @@ module _ {P : Type 0} (cmp : P → P → Ordering) (order : IsTotalOrder cmp) wh
       → WakesEach cmp t ms p c → ms ≡ []
       → (q : Planned P) × PlansStart cmp t p q × (c ≡ goes [] q)
   no_wake_of (all_started {q = q} looks) e = (q, looks, refl)
-  no_wake_of (no_start launch) e = cc
-  no_wake_of (no_finish launch finishes) e = cc
-  no_wake_of (starts_one launch finishes rest) e = cc
+  no_wake_of _ e = cc
 
   wake_of : {t : ℕ} {ms : List (Message P)} {p : Planned P} {c : Course (Completed P) (Planned P)}
       → WakesEach cmp t ms p c → (m : Message P) (ns : List (Message P)) → ms ≡ m ∷ ns
       → Wake t m ns p c
   wake_of (all_started looks) n ns e = cc
-  wake_of {t = t} {p = p} (no_start {m = m} {fault = fault} launch) n ns e = grind (arith, common_steps)
-  wake_of {t = t} {p = p} (no_finish {m = m} {more = more} {q = q} {fault = fault} launch finishes) n ns e =
-      grind (arith, common_steps)
+  wake_of {t = t} {p = p} (no_start {m = m} {fault = fault} launch) n ns e = grind arith
+  wake_of {t = t} {p = p} (no_finish {m = m} {more = more} {q = q} {fault = fault} launch finishes) n ns e = grind arith
   wake_of {t = t} {p = p} (starts_one {m = m} {ms = ms} {more = more} {q = q} {r = r} {cs = cs} {rest = rest} launch
-      finishes wakes) n ns e = grind (arith, common_steps)
+      finishes wakes) n ns e = grind arith
 
   wake_is_one : {t : ℕ} {ms : List (Message P)} {p : Planned P} {c : Course (Completed P) (Planned P)}
       → WakesEach cmp t ms p c
       → (d : Course (Completed P) (Planned P)) → WakesEach cmp t ms p d → c ≡ d
-  wake_is_one {t = t} {p = p} (all_started {q = q} looks) d w = grind (arith, common_steps, no_wake_of, look_is_one)
+  wake_is_one {t = t} {p = p} (all_started {q = q} looks) d w = grind (arith, no_wake_of, look_is_one)
   wake_is_one {t = t} {p = p} (no_start {m = m} {ms = ms} {fault = fault} launch) d w =
-      let h : Wake t m ms p d = wake_of w m ms refl in
-      let same : meets fault ≡ h.0 = launch_is_one launch h.0 h.1 in
-      sym (subst (λ (l : Course (Message P) (Planned P)). WakeFrom t ms l d) (sym same) h.2)
+      grind (arith, (launch_is_one launch), (wake_of w m ms refl))
   wake_is_one {t = t} {p = p} (no_finish {m = m} {ms = ms} {more = more} {q = q} {fault = fault} launch finishes) d w =
-      let h : Wake t m ms p d = wake_of w m ms refl in
-      let same : goes more q ≡ h.0 = launch_is_one launch h.0 h.1 in
-      let from : WakeFrom t ms (goes more q) d =
-      subst (λ (l : Course (Message P) (Planned P)). WakeFrom t ms l d) (sym same) h.2 in
-      let ends : meets fault ≡ from.0 = finish_is_one finishes from.0 from.1 in
-      sym (subst (λ (f : Course (Completed P) (Planned P)). WakeOn t ms f d) (sym ends) from.2)
+      grind (arith, finish_is_one, (launch_is_one launch), (wake_of w m ms refl))
   wake_is_one {t = t} {p = p} (starts_one {m = m} {ms = ms} {more = more} {q = q} {r = r} {cs = cs} {rest = rest} launch
       finishes wakes) d w =
       let h : Wake t m ms p d = wake_of w m ms refl in
       let same : goes more q ≡ h.0 = launch_is_one launch h.0 h.1 in
-      let from : WakeFrom t ms (goes more q) d =
-      subst (λ (l : Course (Message P) (Planned P)). WakeFrom t ms l d) (sym same) h.2 in
+      let from : WakeFrom t ms (goes more q) d = grind arith in
       let ends : goes cs r ≡ from.0 = finish_is_one finishes from.0 from.1 in
       let on : WakeOn t ms (goes cs r) d =
       subst (λ (f : Course (Completed P) (Planned P)). WakeOn t ms f d) (sym ends) from.2 in
@@ -298,7 +258,7 @@ module _ {P : Type 0} (cmp : P → P → Ordering) (order : IsTotalOrder cmp) wh
   rebalance_is_one : (now : ℕ) (caps : Caps P) (p : Planned P) (c d : Course (Completed P) (Planned P))
       → Rebalances cmp now caps p c → Rebalances cmp now caps p d → c ≡ d
   rebalance_is_one now caps p c d (none_sending {new = new} none looks)
-      (none_sending {new = other} none_too looks_too) = grind (arith, common_steps, look_is_one)
+      (none_sending {new = other} none_too looks_too) = grind (arith, look_is_one)
   rebalance_is_one now caps p c d (none_sending none looks) (some_sending some settles) = absurd (some none)
   rebalance_is_one now caps p c d (some_sending some settles) (none_sending none looks) = absurd (some none)
   rebalance_is_one now caps p c d (some_sending some settles) (some_sending some_too settles_too) =
@@ -311,15 +271,15 @@ module _ {P : Type 0} (cmp : P → P → Ordering) (order : IsTotalOrder cmp) wh
   enqueue_is_one now m p c d (at_once free) (launches limited launch finishes) = cc
   enqueue_is_one now m p c d (no_launch limited launch) (at_once free) = cc
   enqueue_is_one now m p c d (no_launch {fault = fault} limited launch)
-      (no_launch {fault = other} limited_too launch_too) = grind (arith, common_steps, launch_is_one)
+      (no_launch {fault = other} limited_too launch_too) = grind (arith, launch_is_one)
   enqueue_is_one now m p c d (no_launch {fault = fault} limited launch)
-      (launches {leavers = ls} {mid = mid} limited_too launch_too finishes) = grind (arith, common_steps, launch_is_one)
+      (launches {leavers = ls} {mid = mid} limited_too launch_too finishes) = grind (arith, launch_is_one)
   enqueue_is_one now m p c d (launches limited launch finishes) (at_once free) = cc
   enqueue_is_one now m p c d (launches {leavers = ls} {mid = mid} limited launch finishes)
-      (no_launch {fault = fault} limited_too launch_too) = grind (arith, common_steps, launch_is_one)
+      (no_launch {fault = fault} limited_too launch_too) = grind (arith, launch_is_one)
   enqueue_is_one now m p c d (launches {leavers = ls} {mid = mid} limited launch finishes)
       (launches {leavers = ms} {mid = other} limited_too launch_too finishes_too) =
-      grind (arith, common_steps, launch_is_one, finish_is_one)
+      grind (arith, launch_is_one, finish_is_one)
 
   -- ---- an advance
 
@@ -379,29 +339,20 @@ module _ {P : Type 0} (cmp : P → P → Ordering) (order : IsTotalOrder cmp) wh
       (rest d : Course (Completed P) (Planned P)) → EventAt now p t (goes cs q)
       → ((k : ℕ) (e : Course (Completed P) (Planned P)) → Advances cmp now q k e → (n ≡ k) × (rest ≡ e))
       → Advance now p m d → (n + 1 ≡ m) × (preceded cs rest ≡ d)
-  after_event now p q t n m cs rest d event ih (inl h) = grind (arith, common_steps, due_at, none_due)
+  after_event now p q t n m cs rest d event ih (inl h) = grind arith
   after_event now p q t n m cs rest d event ih (inr h) =
-      let same : goes cs q ≡ h.1 = event_is_one now p t h.0 (goes cs q) h.1 event h.2 in
-      let on : AdvanceOn now (goes cs q) m d =
-      subst (λ (e : Course (Completed P) (Planned P)). AdvanceOn now e m d) (sym same) h.3 in
-      let both : (n ≡ on.0) × (rest ≡ on.1) = ih on.0 on.1 on.2 in
-      let count : n ≡ on.0 = both.0 in
-      let more : m ≡ on.0 + 1 = on.3 in
-      (omega arith, preceded_alike cs rest on.1 both.1 ∙ sym on.4)
+      grind (arith, common_steps, preceded_alike, (event_is_one now p t h.0 (goes cs q) h.1 event h.2))
 
   event_stops : (now : ℕ) (p : Planned P) (t m : ℕ) (fault : Error) (d : Course (Completed P) (Planned P))
       → EventAt now p t (meets fault) → Advance now p m d → (1 ≡ m) × (meets fault ≡ d)
-  event_stops now p t m fault d event (inl h) = grind (arith, common_steps, due_at, none_due)
+  event_stops now p t m fault d event (inl h) = grind arith
   event_stops now p t m fault d event (inr h) =
-      let same : meets fault ≡ h.1 = event_is_one now p t h.0 (meets fault) h.1 event h.2 in
-      let on : AdvanceOn now (meets fault) m d =
-      subst (λ (e : Course (Completed P) (Planned P)). AdvanceOn now e m d) (sym same) h.3 in
-      (sym on.0, sym on.1)
+      grind (arith, common_steps, (event_is_one now p t h.0 (meets fault) h.1 event h.2))
 
   pub advance_is_one : {now n : ℕ} {p : Planned P} {c : Course (Completed P) (Planned P)} → Advances cmp now p n c
       → (m : ℕ) (d : Course (Completed P) (Planned P)) → Advances cmp now p m d → (n ≡ m) × (c ≡ d)
   advance_is_one {now = now} {p = p} {c = c} (no_more before wakes) m d a =
-      grind (arith, common_steps, advance_of, wake_is_one, due_at, none_due)
+      grind (arith, advance_of, wake_is_one, due_at, none_due)
   advance_is_one {now = now} {p = p} (at_finish {q = q} {t = t} {n = n} {cs = cs} {rest = rest} finish next due event
       more) m d a =
       after_event now p q t n m cs rest d (inl (finish, next, due, event)) (advance_is_one more) (advance_of a)
@@ -419,14 +370,14 @@ module _ {P : Type 0} (cmp : P → P → Ordering) (order : IsTotalOrder cmp) wh
       → EnqueuesEach cmp now ms p c → EnqueuesEach cmp now ms p d → c ≡ d
   each_is_one now [] p c d all_enqueued all_enqueued = refl
   each_is_one now (m ∷ ms) p c d (one_stops {fault = fault} one) (one_stops {fault = other} one_too) =
-      grind (arith, common_steps, enqueue_is_one)
+      grind (arith, enqueue_is_one)
   each_is_one now (m ∷ ms) p c d (one_stops {fault = fault} one) (enqueues_one {q = q} {cs = cs} one_too more) =
       let same : meets fault ≡ goes cs q = enqueue_is_one now m p (meets fault) (goes cs q) one one_too in cc
   each_is_one now (m ∷ ms) p c d (enqueues_one {q = q} {cs = cs} one more) (one_stops {fault = fault} one_too) =
       let same : goes cs q ≡ meets fault = enqueue_is_one now m p (goes cs q) (meets fault) one one_too in cc
   each_is_one now (m ∷ ms) p c d (enqueues_one {q = q} {cs = cs} {rest = rest} one more)
       (enqueues_one {q = r} {cs = ds} {rest = on} one_too more_too) =
-      grind (arith, common_steps, enqueue_is_one, preceded_alike, (each_is_one now ms q rest on more))
+      grind (arith, enqueue_is_one, preceded_alike, (each_is_one now ms q rest on more))
 
   -- ---- any call
 

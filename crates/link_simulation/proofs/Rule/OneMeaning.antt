@@ -4,7 +4,6 @@ use Rattle.link_simulation.proofs.Common.{Ordering, IsTotalOrder, Error, OutOfMe
 use Rattle.link_simulation.proofs.Common.{FlowIdsUsedUp, IsSamePlanned, GoesByRule, World, Completed, goes, meets}
 use Rattle.link_simulation.proofs.Common.{Obeys, MayBeRefused, NextIs, Call, call_advance, Runs, SameCompletion, Faults}
 use Rattle.link_simulation.proofs.Common.{Planned, StandsFor, IsCalled, IsRun}
-use Rattle.std.proofs.lemmas.Grind.{common_steps}
 use Rattle.link_simulation.specs.Simulation.RefusalCauses.{IsRefusedFor}
 use Rattle.link_simulation.specs.Rule.Simulated.{RunsInTwo, IsSimulated, IsSplitAnywhere, IsNextInSimulation}
 use Rattle.link_simulation.specs.Rule.Simulated.{MeetsFault, IsRefusedInSimulation}
@@ -19,7 +18,7 @@ module _ {P : Type 0} (cmp : P → P → Ordering) (order : IsTotalOrder cmp) wh
   alike : (cs ds es : List (Completed P)) (q : Planned P) (v u : World P) → goes ds v ≡ goes es u
       → AllZip (SameCompletion cmp) cs es
       → StandsFor cmp q u → AllZip (SameCompletion cmp) cs ds × StandsFor cmp q v
-  alike cs ds es q v u one same stands = grind (arith, common_steps)
+  alike cs ds es q v u one same stands = grind arith
 
   pub one_run : (p q : Planned P) (w v : World P) (call : Call P) (now : ℕ) (cs ds : List (Completed P))
       → IsSimulated cmp p call cs q
@@ -63,13 +62,13 @@ module _ {P : Type 0} (cmp : P → P → Ordering) (order : IsTotalOrder cmp) wh
   pub one_going : (p q r : Planned P) (call : Call P) (cs ds : List (Completed P)) → GoesByRule cmp p call cs q
       → Obeys cmp p call (goes ds r)
       → AllZip (SameCompletion cmp) cs ds × IsSamePlanned cmp r q
-  one_going p q r call cs ds went obeys = grind (arith, common_steps, course_is_one)
+  one_going p q r call cs ds went obeys = grind (arith, course_is_one)
 
   -- it is refused for memory alone
   pub not_refused : (p q : Planned P) (call : Call P) (why : Error) (cs : List (Completed P))
       → MayBeRefused cmp p call why
       → Obeys cmp p call (goes cs q) → why ≡ OutOfMemory
-  not_refused p q call why cs may obeys = grind (arith, common_steps, course_is_one)
+  not_refused p q call why cs may obeys = grind (arith, course_is_one)
 
   -- and so in the simulation
   pub not_refused_in_simulation : (p : Planned P) (w v : World P) (call : Call P) (now : ℕ) (why : Error)

@@ -1,8 +1,7 @@
 -- In the range no call meets a fault, and it leaves the planned world in the range.
-use Rattle.std.proofs.lemmas.Grind.{common_steps}
-use Rattle.link_simulation.proofs.Common.{◌≡◌, ℕ, ◌+◌, ◌<◌, ◌≤◌, ◌^◌, List, [], ◌∷◌, ◌++◌, length, Bool, true, Option}
-use Rattle.link_simulation.proofs.Common.{Some, None, refl, sym, subst, arith, filter, AllZip, Ordering, IsTotalOrder}
-use Rattle.link_simulation.proofs.Common.{ltb-true, and_parts, whole, Message, Caps, Completed, Course, goes, meets}
+use Rattle.link_simulation.proofs.Common.{common_steps, ◌≡◌, ℕ, ◌+◌, ◌<◌, ◌≤◌, ◌^◌, List, [], ◌∷◌, ◌++◌, length, Bool}
+use Rattle.link_simulation.proofs.Common.{true, Option, Some, None, refl, sym, subst, arith, filter, AllZip, Ordering}
+use Rattle.link_simulation.proofs.Common.{IsTotalOrder, whole, Message, Caps, Completed, Course, goes, meets}
 use Rattle.link_simulation.proofs.Common.{last_moment, preceded, is_late, completed, Planned, RatedFlight}
 use Rattle.link_simulation.proofs.Common.{rated_messages, drained_to, next_of, queued, Accounts, PlansStart, Launches}
 use Rattle.link_simulation.proofs.Common.{nothing_waits, too_early, no_id, starts, Finishes, all_completed, late}
@@ -45,7 +44,7 @@ leavers_near (f ∷ fs) near = (near.0, leavers_near fs near.1)
 
 some_near : {P : Type 0} (t : ℕ) (test : RatedFlight P → Bool) (fs : List (RatedFlight P)) → Each IsNearFlight fs
     → Each IsNearFlight (filter test (drained_to t fs))
-some_near t test fs near = grind (arith, common_steps, each_map, each_filtered, drained_near)
+some_near t test fs near = grind (arith, each_map, each_filtered, drained_near)
 
 both_leave : {P : Type 0} (ms ns : List (Message P)) → Each IsNear ms → Each IsNear ns → Each IsNear (ms ++ ns)
 both_leave [] ns e f = f
@@ -69,14 +68,14 @@ module _ {P : Type 0} (cmp : P → P → Ordering) (order : IsTotalOrder cmp) (m
 
   account_holds : (t : ℕ) (old new : Planned P) (leavers : List (Message P)) → Holds old
       → Accounts cmp t old leavers new → Each IsNear leavers × Holds new
-  account_holds t old new leavers h account = grind (arith, common_steps, stays_near, some_near, leavers_near)
+  account_holds t old new leavers h account = grind (arith, stays_near, some_near, leavers_near)
 
   -- ---- a launch
 
   launched_holds : (t : ℕ) (p : Planned P) (k m : Message P) → Holds p → next_of cmp p k ≡ Some m
       → Holds (launched cmp t p m)
   launched_holds t p k m h found =
-      grind (arith, common_steps, find_like, find_passes, length_without, each_joined, whole, each_find, each_without)
+      grind (arith, find_like, find_passes, length_without, each_joined, whole, each_find, each_without)
 
   -- a launch goes, and what leaves is in the range
   unfoldable LaunchesWell : Course (Message P) (Planned P) → Type 0
@@ -84,7 +83,7 @@ module _ {P : Type 0} (cmp : P → P → Ordering) (order : IsTotalOrder cmp) (m
   LaunchesWell (meets fault) = ⊥
 
   has_id : (p : Planned P) (k m : Message P) → Holds p → next_of cmp p k ≡ Some m → last_moment ≤ p.next_id → ⊥
-  has_id p k m h found last = grind (arith, common_steps, length_without)
+  has_id p k m h found last = grind (arith, length_without)
 
   launches_well : {t : ℕ} {p : Planned P} {o : Option (Message P)} {c : Course (Message P) (Planned P)}
       → Launches cmp t p o c → (k : Message P) → next_of cmp p k ≡ o → Holds p → LaunchesWell c
@@ -101,7 +100,7 @@ module _ {P : Type 0} (cmp : P → P → Ordering) (order : IsTotalOrder cmp) (m
   landed_holds t p m h = record { sending = h.sending; waiting = h.waiting; ids = h.ids }
 
   not_late : (t : ℕ) (m : Message P) → t < 2 ^ 63 → IsNear m → is_late cmp t m ≡ true → ⊥
-  not_late t m early near e = grind (arith, common_steps, ltb-true, and_parts)
+  not_late t m early near e = grind arith
 
   looked_holds : (t : ℕ) (p q : Planned P) → Holds p → PlansStart cmp t p q → Holds q
   looked_holds t p q h looks =
@@ -177,19 +176,19 @@ module _ {P : Type 0} (cmp : P → P → Ordering) (order : IsTotalOrder cmp) (m
   queued_each : (Q : Message P → Type 0) (m : Message P) (ms : List (Message P)) → Q m → Each Q ms
       → Each Q (queued cmp m ms)
   queued_each Q m [] own all = (own, tt)
-  queued_each Q m (n ∷ ns) own all = grind (arith, common_steps, (queued_each Q m ns own all.1))
+  queued_each Q m (n ∷ ns) own all = grind (arith, (queued_each Q m ns own))
 
   queued_length : (m : Message P) (ms : List (Message P)) → length (queued cmp m ms) ≡ length ms + 1
   queued_length m [] = refl
-  queued_length m (n ∷ ns) = grind (arith, common_steps, (queued_length m ns))
+  queued_length m (n ∷ ns) = grind (arith, (queued_length m ns))
 
   queued_holds : (p : Planned P) (m : Message P) → IsNear m → p.next_id + length p.waiting + 1 ≤ most → Holds p
       → Holds (with_queued cmp p m)
-  queued_holds p m near fits h = grind (arith, common_steps, queued_each, queued_length)
+  queued_holds p m near fits h = grind (arith, queued_each, queued_length)
 
   at_once_well : (now : ℕ) (p : Planned P) (m : Message P) → now < 2 ^ 63 → IsNear m → Holds p
       → GoesWell (completed_at_once cmp now p m)
-  at_once_well now p m early near h = grind (arith, common_steps, ltb-true, and_parts)
+  at_once_well now p m early near h = grind arith
 
   pub enqueues_well : {now : ℕ} {m : Message P} {p : Planned P} {c : Course (Completed P) (Planned P)}
       → Enqueues cmp now m p c → now < 2 ^ 63 → IsNear m

@@ -1,12 +1,11 @@
 -- A call in the range is refused for memory alone, and so are the calls of a list, each with those that were made
 -- before it.
-use Rattle.std.proofs.lemmas.Grind.{common_steps}
-use Rattle.link_simulation.proofs.Common.{◌≡◌, ℕ, ◌+◌, ◌<◌, ◌≤◌, ◌^◌, List, [], ◌∷◌, ◌++◌, length, All, refl, sym, ◌∙◌}
-use Rattle.link_simulation.proofs.Common.{ap, subst, append_assoc, append-nil, arith, IfSome, Ordering, IsTotalOrder}
-use Rattle.link_simulation.proofs.Common.{All-nil, Error, OutOfMemory, NumberTooLarge, MomentTooLate, FlowIdsUsedUp}
-use Rattle.link_simulation.proofs.Common.{Message, Completed, Course, goes, meets, Call, call_limit, call_limit_link}
-use Rattle.link_simulation.proofs.Common.{call_enqueue, call_advance, call_enqueue_all, call_next, moment_of, enqueued}
-use Rattle.link_simulation.proofs.Common.{Reply, reply_done, reply_next, reply_refused, Planned, new_planned, Obeys}
+use Rattle.link_simulation.proofs.Common.{common_steps, ◌≡◌, ℕ, ◌+◌, ◌<◌, ◌≤◌, ◌^◌, List, [], ◌∷◌, ◌++◌, length, All}
+use Rattle.link_simulation.proofs.Common.{refl, sym, ◌∙◌, ap, subst, append_assoc, append-nil, arith, IfSome, Ordering}
+use Rattle.link_simulation.proofs.Common.{IsTotalOrder, All-nil, Error, OutOfMemory, NumberTooLarge, MomentTooLate}
+use Rattle.link_simulation.proofs.Common.{FlowIdsUsedUp, Message, Completed, Course, goes, meets, Call, call_enqueue}
+use Rattle.link_simulation.proofs.Common.{call_advance, call_enqueue_all, call_next, moment_of, enqueued, Reply}
+use Rattle.link_simulation.proofs.Common.{reply_done, reply_next, reply_refused, Planned, new_planned, Obeys}
 use Rattle.link_simulation.proofs.Common.{EnqueuesEach, all_enqueued, one_stops, enqueues_one, IsInRange, MayBeRefused}
 use Rattle.link_simulation.proofs.Common.{Obeyed, Each, all_of_each}
 use Rattle.std.proofs.lemmas.List.{length-append}
@@ -27,8 +26,7 @@ IsSoon call = IfSome (moment_of call) (λ now. now < 2 ^ 63)
 enqueued_joined : {P : Type 0} (calls : List (Call P)) (call : Call P)
     → enqueued (calls ++ call ∷ []) ≡ enqueued calls ++ enqueued (call ∷ [])
 enqueued_joined [] call = refl
-enqueued_joined (first ∷ calls) call =
-    grind (arith, common_steps, enqueued_split, append_assoc, (enqueued_joined calls call))
+enqueued_joined (first ∷ calls) call = grind (arith, enqueued_split, append_assoc, (enqueued_joined calls call))
 
 -- the calls before the last one are in the range, and so is that one
 record IsSplit {P : Type 0} (calls : List (Call P)) (call : Call P) : Type 0 where
@@ -39,12 +37,9 @@ record IsSplit {P : Type 0} (calls : List (Call P)) (call : Call P) : Type 0 whe
 range_splits : {P : Type 0} (calls : List (Call P)) (call : Call P) → AreInRange (calls ++ call ∷ [])
     → IsSplit calls call
 range_splits {P} calls call range =
-    let moments : All (IsSoon {P = P}) calls × All (IsSoon {P = P}) (call ∷ []) =
-    all_of_both (IsSoon {P = P}) calls (call ∷ []) range.moments in
+    let moments : All (IsSoon {P = P}) calls × All (IsSoon {P = P}) (call ∷ []) = grind (arith, all_of_both) in
     let latencies : All (IsNear {P = P}) (enqueued calls) × All (IsNear {P = P}) (enqueued (call ∷ []))
-    =
-    all_of_both (IsNear {P = P}) (enqueued calls) (enqueued (call ∷ []))
-    (subst (λ (ms : List (Message P)). All (IsNear {P = P}) ms) (enqueued_joined calls call) range.latencies) in
+    = grind (arith, all_of_both, enqueued_joined) in
     let count : length (enqueued (calls ++ call ∷ [])) ≡ length (enqueued calls) + length (enqueued (call ∷ []))
     = ap length (enqueued_joined calls call) ∙ length-append (enqueued calls) (enqueued (call ∷ [])) in
     let all : length (enqueued (calls ++ call ∷ [])) < 2 ^ 64 = range.messages in
@@ -61,7 +56,7 @@ new_in_range {P} id fits =
 module _ {P : Type 0} (cmp : P → P → Ordering) (order : IsTotalOrder cmp) where
   more_room : (most more : ℕ) (room : most < 2 ^ 64) (wide : more < 2 ^ 64) (p : Planned P) → most ≤ more
       → Holds cmp order most room p → Holds cmp order more wide p
-  more_room most more room wide p le h = grind (arith, common_steps)
+  more_room most more room wide p le h = grind arith
 
   -- messages in the range, one after another
   each_well : {now : ℕ} {ms : List (Message P)} {p : Planned P} {c : Course (Completed P) (Planned P)}
@@ -75,8 +70,7 @@ module _ {P : Type 0} (cmp : P → P → Ordering) (order : IsTotalOrder cmp) wh
       h =
       let first : ℕ = p.next_id + length p.waiting + 1 in
       let some : first < 2 ^ 64 = omega arith in
-      let narrow : Holds cmp order first some p =
-      record { sending = h.sending; waiting = h.waiting; ids = omega arith } in
+      let narrow : Holds cmp order first some p = grind arith in
       let next : Holds cmp order first some q =
       enqueues_well cmp order first some one early near.0 (omega arith) narrow in
       let ids : q.next_id + length q.waiting ≤ first = next.ids in
@@ -93,11 +87,7 @@ module _ {P : Type 0} (cmp : P → P → Ordering) (order : IsTotalOrder cmp) wh
     obeys_well : (p : Planned P) (call : Call P) (c : Course (Completed P) (Planned P)) → AreInRange (call ∷ [])
         → p.next_id + length p.waiting + length (enqueued (call ∷ [])) ≤ most → Holds cmp order most room p
         → Obeys cmp p call c → GoesWell cmp order most room c
-    obeys_well p (call_limit now peer egress ingress) c own fits h obeys =
-        rebalances_well cmp order most room obeys (soon (call_limit now peer egress ingress) own) h
-    obeys_well p (call_limit_link now origin recipient cap) c own fits h obeys =
-        rebalances_well cmp order most room obeys (soon (call_limit_link now origin recipient cap) own) h
-    obeys_well p (call_enqueue now m) c own fits h obeys = grind (arith, common_steps, enqueues_well, soon, All-head)
+    obeys_well p (call_enqueue now m) c own fits h obeys = grind (arith, enqueues_well, soon, All-head)
     obeys_well p (call_enqueue_all now ms) c own fits h obeys =
         each_well obeys (soon (call_enqueue_all now ms) own)
         (each_of_all (IsNear {P = P}) ms
@@ -106,6 +96,7 @@ module _ {P : Type 0} (cmp : P → P → Ordering) (order : IsTotalOrder cmp) wh
     obeys_well p (call_advance now) c own fits h obeys =
         advances_well cmp order most room obeys.1 (soon (call_advance now) own) h
     obeys_well p call_next c own fits h obeys = subst (GoesWell cmp order most room) (sym obeys) h
+    obeys_well p call c own fits h obeys = rebalances_well cmp order most room obeys (soon call own) h
 
     -- and is refused for memory alone
     refused_for_memory : (p : Planned P) (call : Call P) (why : Error) → AreInRange (call ∷ [])
@@ -122,10 +113,10 @@ module _ {P : Type 0} (cmp : P → P → Ordering) (order : IsTotalOrder cmp) wh
 
   holds_in_range : (most : ℕ) (room : most < 2 ^ 64) (p : Planned P) → IsInRange p → p.next_id + length p.waiting ≤ most
       → Holds cmp order most room p
-  holds_in_range most room p range fits = grind (arith, common_steps, each_of_all)
+  holds_in_range most room p range fits = grind (arith, each_of_all)
 
   range_of_holds : (most : ℕ) (room : most < 2 ^ 64) (p : Planned P) → Holds cmp order most room p → IsInRange p
-  range_of_holds most room p h = grind (arith, common_steps, all_of_each)
+  range_of_holds most room p h = grind (arith, all_of_each)
 
   -- a call in the range leads from the range to the range
   pub obeys_in_range : (p : Planned P) (call : Call P) (c : Course (Completed P) (Planned P)) → IsCallInRange p call
@@ -185,8 +176,7 @@ module _ {P : Type 0} (cmp : P → P → Ordering) (order : IsTotalOrder cmp) wh
   from_there (call ∷ calls) (reply_next next ∷ replies) earlier p reached obeyed =
       from_there calls replies earlier p reached (obeyed_next cmp p calls replies call next obeyed)
   from_there (call ∷ calls) (reply_refused why ∷ replies) earlier p reached obeyed =
-      grind (arith, common_steps, obeyed_refused, for_memory, (from_there calls replies earlier p reached
-      (obeyed_refused cmp p calls replies call why obeyed).1))
+      grind (arith, obeyed_refused, for_memory, (from_there calls replies earlier p reached))
   from_there (call ∷ calls) (reply_done cs ∷ replies) earlier p reached obeyed =
       grind (arith, common_steps, obeyed_done, reached_next, (from_there calls replies (earlier ++ call ∷ [])
       (obeyed_done cmp p calls replies call cs obeyed).1 (reached_next earlier call p (obeyed_done cmp p calls replies
@@ -196,4 +186,4 @@ module _ {P : Type 0} (cmp : P → P → Ordering) (order : IsTotalOrder cmp) wh
   pub refuses_for_memory : (calls : List (Call P)) (replies : List (Reply P)) → Obeyed cmp (new_planned 0) calls replies
       → RefusesForMemoryAlone [] calls replies
   unfolding Reached
-  refuses_for_memory calls replies obeyed = grind (arith, common_steps, from_there)
+  refuses_for_memory calls replies obeyed = grind (arith, from_there)

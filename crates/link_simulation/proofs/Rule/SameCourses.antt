@@ -14,7 +14,6 @@ use Rattle.link_simulation.proofs.Common.{Advances, no_more, at_finish, at_start
 use Rattle.link_simulation.proofs.Common.{EnqueuesEach, all_enqueued, one_stops, enqueues_one, IsSameRatedFlight}
 use Rattle.link_simulation.proofs.Common.{IsSamePlanned, same_limit, same_limit_link, same_enqueue, same_enqueue_all}
 use Rattle.link_simulation.proofs.Common.{same_advance, same_next, zip-append}
-use Rattle.std.proofs.lemmas.Grind.{common_steps}
 use Rattle.link_simulation.specs.Rule.SamePlanned.{IsSameCall, IsSameCourse}
 use Rattle.link_simulation.proofs.Simulation.AlikeMessages.{fair_alike}
 use Rattle.link_simulation.proofs.Rule.Launch.{OptionsAlike}
@@ -46,8 +45,7 @@ module _ {P : Type 0} (cmp : P → P → Ordering) (order : IsTotalOrder cmp) wh
   rerated_same t [] (n ∷ ns) gs stays all = absurd stays
   rerated_same t (f ∷ fs) [] gs stays all = absurd stays
   rerated_same t (f ∷ fs) (n ∷ ns) [] stays all = absurd all
-  rerated_same t (f ∷ fs) (n ∷ ns) (g ∷ gs) stays all =
-      grind (arith, common_steps, (rerated_same t fs ns gs stays.1 all.1))
+  rerated_same t (f ∷ fs) (n ∷ ns) (g ∷ gs) stays all = grind (arith, (rerated_same t fs ns gs))
 
   rerated_stays : (t : ℕ) (fs ns gs : List (RatedFlight P)) → AllZip (Stays t) fs ns
       → AllZip (IsSameRatedFlight cmp) fs gs → AllZip (Stays t) gs (rerated t ns gs)
@@ -93,8 +91,7 @@ module _ {P : Type 0} (cmp : P → P → Ordering) (order : IsTotalOrder cmp) wh
       let gs : List (RatedFlight P) = rerated t new.sending stay in
       let n : Planned P = record q { sending = gs; accounted = t; finish = new.finish } in
       let alike : AllZip (IsSameRatedFlight cmp) stays stay = staying_same cmp order p q same t in
-      let sending : AllZip (IsSameRatedFlight cmp) new.sending gs =
-      rerated_same t stays new.sending stay accounts.stayed alike in (
+      let sending : AllZip (IsSameRatedFlight cmp) new.sending gs = grind (arith, rerated_same) in (
         rated_messages (filter (is_spent cmp q.caps) (drained_to t q.sending)),
         n,
         record {
@@ -109,14 +106,8 @@ module _ {P : Type 0} (cmp : P → P → Ordering) (order : IsTotalOrder cmp) wh
           finish = finish_so new.sending gs new.finish sending accounts.finish;
           same = refl;
         },
-        subst
-            (λ (ms : List (Message P)). AllZip (SameMessage cmp) ms
-            (rated_messages (filter (is_spent cmp q.caps) (drained_to t q.sending))))
-            (sym accounts.left)
-            (flows_same cmp order (filter (is_spent cmp p.caps) (drained_to t p.sending))
-            (filter (is_spent cmp q.caps) (drained_to t q.sending)) (leaving_same cmp order p q same t)),
-        subst (λ (z : Planned P). IsSamePlanned cmp z n) (sym accounts.same)
-            (accounted_same cmp order p q same t new.sending gs new.finish sending),
+        grind (arith, flows_same, leaving_same),
+        grind (arith, accounted_same),
       )
 
   -- ---- the start, launches and finishes
@@ -146,18 +137,14 @@ module _ {P : Type 0} (cmp : P → P → Ordering) (order : IsTotalOrder cmp) wh
       → IsSamePlanned cmp p q → OptionsAlike (SameMessage cmp) o r
       → (c : Course (Message P) (Planned P)) × Launches cmp t q r c × IsSameLaunch cmp order course c
   launch_same nothing_waits q None same alike = (goes [] q, nothing_waits, (tt, same))
-  launch_same nothing_waits q (Some n) same alike = absurd alike
-  launch_same (too_early early) q None same alike = absurd alike
   launch_same {t = t} {p = p} (too_early {m = m} early) q (Some n) same alike =
       (goes [] q, too_early (sym (may_same cmp order p q same t m n alike) ∙ early), (tt, same))
-  launch_same (no_id may last) q None same alike = absurd alike
   launch_same {t = t} {p = p} (no_id {m = m} may last) q (Some n) same alike = (
     meets FlowIdsUsedUp,
     no_id (sym (may_same cmp order p q same t m n alike) ∙ may)
         (subst (λ (k : ℕ). last_moment ≤ k) same.next_id last),
     refl,
   )
-  launch_same (starts may below account) q None same alike = absurd alike
   launch_same {t = t} {p = p} (starts {m = m} {leavers = leavers} {new = new} may below account) q (Some n) same alike =
       let a : Accounted t (launched cmp t q n) leavers new =
       accounts_same t (launched cmp t p m) (launched cmp t q n) leavers new
@@ -167,6 +154,7 @@ module _ {P : Type 0} (cmp : P → P → Ordering) (order : IsTotalOrder cmp) wh
             (subst (λ (k : ℕ). k < last_moment) same.next_id below) a.2,
         (a.3, a.4),
       )
+  launch_same _ q _ same alike = absurd alike
 
   pub preceded_same : (cs ds : List (Completed P)) (x y : Course (Completed P) (Planned P))
       → AllZip (SameCompletion cmp) cs ds → IsSameCourse cmp x y
@@ -184,11 +172,8 @@ module _ {P : Type 0} (cmp : P → P → Ordering) (order : IsTotalOrder cmp) wh
   finish_same {t = t} (all_completed {p = p} {q = r} looks) [] q same all =
       let l : (n : Planned P) × PlansStart cmp t q n × IsSamePlanned cmp r n = looks_same t p q r same looks in
       (goes [] l.0, all_completed l.1, (tt, l.2))
-  finish_same (all_completed looks) (n ∷ ns) q same all = absurd all
-  finish_same (late is) [] q same all = absurd all
   finish_same {t = t} (late {m = m} is) (n ∷ ns) q same all =
       (meets MomentTooLate, late (sym (late_alike cmp order t m n all.0) ∙ is), refl)
-  finish_same (stopped is launch) [] q same all = absurd all
   finish_same {t = t} (stopped {m = m} {p = p} {fault = fault} is launch) (n ∷ ns) q same all = (
     meets fault,
     stopped (sym (late_alike cmp order t m n all.0) ∙ is)
@@ -197,7 +182,6 @@ module _ {P : Type 0} (cmp : P → P → Ordering) (order : IsTotalOrder cmp) wh
         (next_same cmp order p q same m n all.0))),
     refl,
   )
-  finish_same (completes is launch finishes) [] q same all = absurd all
   finish_same {t = t} (completes {m = m} {ms = ms} {more = more} {p = p} {q = s} {rest = rest} is launch finishes)
       (n ∷ ns) q same all =
       let went : LaunchWent t (landed cmp t q n) (next_of cmp q n) more s
@@ -214,6 +198,7 @@ module _ {P : Type 0} (cmp : P → P → Ordering) (order : IsTotalOrder cmp) wh
         preceded_same (completed cmp t m ∷ []) (completed cmp t n ∷ []) rest later.0
             (completed_alike cmp order t m n all.0, tt) later.2,
       )
+  finish_same _ _ q same all = absurd all
 
   -- ---- waking and settling
 
@@ -229,8 +214,6 @@ module _ {P : Type 0} (cmp : P → P → Ordering) (order : IsTotalOrder cmp) wh
   wake_same {t = t} (all_started {p = p} {q = r} looks) [] q same all =
       let l : (n : Planned P) × PlansStart cmp t q n × IsSamePlanned cmp r n = looks_same t p q r same looks in
       (goes [] l.0, all_started l.1, (tt, l.2))
-  wake_same (all_started looks) (n ∷ ns) q same all = absurd all
-  wake_same (no_start launch) [] q same all = absurd all
   wake_same {t = t} (no_start {m = m} {p = p} {fault = fault} launch) (n ∷ ns) q same all = (
     meets fault,
     no_start
@@ -238,7 +221,6 @@ module _ {P : Type 0} (cmp : P → P → Ordering) (order : IsTotalOrder cmp) wh
         (launch_same launch q (next_of cmp q n) same (next_same cmp order p q same m n all.0))),
     refl,
   )
-  wake_same (no_finish launch finishes) [] q same all = absurd all
   wake_same {t = t} (no_finish {m = m} {more = more} {p = p} {q = s} {fault = fault} launch finishes) (n ∷ ns) q same
       all =
       let went : LaunchWent t q (next_of cmp q n) more s
@@ -250,7 +232,6 @@ module _ {P : Type 0} (cmp : P → P → Ordering) (order : IsTotalOrder cmp) wh
             (finish_same finishes went.0 went.1 went.4 went.3)),
         refl,
       )
-  wake_same (starts_one launch finishes wakes) [] q same all = absurd all
   wake_same {t = t}
       (starts_one {m = m} {ms = ms} {more = more} {p = p} {q = s} {r = r} {cs = cs} {rest = rest} launch finishes wakes)
       (n ∷ ns) q same all =
@@ -266,6 +247,7 @@ module _ {P : Type 0} (cmp : P → P → Ordering) (order : IsTotalOrder cmp) wh
         starts_one {rest = later.0} went.2 done.2 later.1,
         preceded_same cs done.0 rest later.0 done.3 later.2,
       )
+  wake_same _ _ q same all = absurd all
 
   pub wakes_same : (t : ℕ) (p q : Planned P) (course : Course (Completed P) (Planned P)) → IsSamePlanned cmp p q
       → Wakes cmp t p course
@@ -314,8 +296,7 @@ module _ {P : Type 0} (cmp : P → P → Ordering) (order : IsTotalOrder cmp) wh
     at_once_same cmp order p q same now m n messages,
   )
   enqueue_same {now = now} {m = m} {p = p} (no_launch {fault = fault} limited launch) n q messages same =
-      let queues : IsSamePlanned cmp (with_queued cmp p m) (with_queued cmp q n) =
-      with_queued_same cmp order p q same m n messages in (
+      let queues : IsSamePlanned cmp (with_queued cmp p m) (with_queued cmp q n) = grind (arith, with_queued_same) in (
         meets fault,
         no_launch (sym same.limited ∙ limited)
             (launch_met cmp order (λ c. Launches cmp now (with_queued cmp q n)
@@ -326,8 +307,7 @@ module _ {P : Type 0} (cmp : P → P → Ordering) (order : IsTotalOrder cmp) wh
       )
   enqueue_same {now = now} {m = m} {p = p} {course = course}
       (launches {leavers = leavers} {mid = mid} limited launch finishes) n q messages same =
-      let queues : IsSamePlanned cmp (with_queued cmp p m) (with_queued cmp q n) =
-      with_queued_same cmp order p q same m n messages in
+      let queues : IsSamePlanned cmp (with_queued cmp p m) (with_queued cmp q n) = grind (arith, with_queued_same) in
       let went : LaunchWent now (with_queued cmp q n) (next_of cmp (with_queued cmp q n) n) leavers mid
       = launch_went cmp order (λ c. Launches cmp now (with_queued cmp q n)
       (next_of cmp (with_queued cmp q n) n) c) leavers mid
@@ -347,23 +327,20 @@ module _ {P : Type 0} (cmp : P → P → Ordering) (order : IsTotalOrder cmp) wh
       → AllZip (SameMessage cmp) ms ns → IsSamePlanned cmp p q
       → (c : Course (Completed P) (Planned P)) × EnqueuesEach cmp now ns q c × IsSameCourse cmp course c
   each_same all_enqueued [] q messages same = (goes [] q, all_enqueued, (tt, same))
-  each_same all_enqueued (n ∷ ns) q messages same = absurd messages
-  each_same (one_stops one) [] q messages same = absurd messages
   each_same {now = now} (one_stops {fault = fault} one) (n ∷ ns) q messages same = (
     meets fault,
     one_stops (course_met cmp order (λ c. Enqueues cmp now n q c) fault (enqueue_same one n q messages.0 same)),
     refl,
   )
-  each_same (enqueues_one one more) [] q messages same = absurd messages
   each_same {now = now} (enqueues_one {q = r} {cs = cs} {rest = rest} one more) (n ∷ ns) q messages same =
-      let done : Went (λ c. Enqueues cmp now n q c) cs r =
-      course_went cmp order (λ c. Enqueues cmp now n q c) cs r (enqueue_same one n q messages.0 same) in
+      let done : Went (λ c. Enqueues cmp now n q c) cs r = grind (arith, course_went, enqueue_same) in
       let later : (c : Course (Completed P) (Planned P)) × EnqueuesEach cmp now ns done.1 c × IsSameCourse cmp rest c =
       each_same more ns done.1 messages.1 done.4 in (
         preceded done.0 later.0,
         enqueues_one {rest = later.0} done.2 later.1,
         preceded_same cs done.0 rest later.0 done.3 later.2,
       )
+  each_same _ _ q messages same = absurd messages
 
   advance_same : {now : ℕ} {p : Planned P} {n : ℕ} {course : Course (Completed P) (Planned P)}
       → Advances cmp now p n course → (q : Planned P) → IsSamePlanned cmp p q
@@ -439,8 +416,8 @@ module _ {P : Type 0} (cmp : P → P → Ordering) (order : IsTotalOrder cmp) wh
       enqueue_same obeys n q messages same
   obey_same (same_enqueue_all {now = now} {ms = ms} {ns = ns} messages) p q course same obeys =
       each_same obeys ns q messages same
-  obey_same (same_advance {now = now}) p q course same (n, advances) = grind (arith, common_steps, advance_same)
-  obey_same same_next p q course same obeys = grind (arith, common_steps)
+  obey_same (same_advance {now = now}) p q course same (n, advances) = grind (arith, advance_same)
+  obey_same same_next p q course same obeys = grind arith
 
   pub obeys_same : (p q : Planned P) (call other : Call P) (course : Course (Completed P) (Planned P))
       → IsSamePlanned cmp p q → IsSameCall cmp call other → Obeys cmp p call course

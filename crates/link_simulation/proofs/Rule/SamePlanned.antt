@@ -4,7 +4,6 @@ use Rattle.link_simulation.proofs.Common.{arith, ◌≡◌, List, [], ◌∷◌,
 use Rattle.link_simulation.proofs.Common.{IsTotalOrder, same_peer, Message, Caps, CapsAlike, PairsAlike, SameMessage}
 use Rattle.link_simulation.proofs.Common.{RatedFlight, Planned, IsSameRatedFlight, IsSamePlanned, peer_sym, zip_chain}
 use Rattle.link_simulation.proofs.Common.{zip-same}
-use Rattle.std.proofs.lemmas.Grind.{common_steps}
 use Rattle.link_simulation.specs.Simulation.Messages.{AnswerAlike}
 use Rattle.link_simulation.proofs.Simulation.Queue.{peer_like}
 use Rattle.link_simulation.proofs.Simulation.AlikeMessages.{same_itself as one_peer, message_itself}
@@ -28,10 +27,10 @@ module _ {P : Type 0} (cmp : P → P → Ordering) (order : IsTotalOrder cmp) wh
   peer_chain p q r e f = sym (peer_like cmp order p q r e) ∙ f
 
   pub message_turned : (m n : Message P) → SameMessage cmp m n → SameMessage cmp n m
-  message_turned m n e = grind (arith, common_steps, peer_turned)
+  message_turned m n e = grind arith
 
   pub message_chain : (m n k : Message P) → SameMessage cmp m n → SameMessage cmp n k → SameMessage cmp m k
-  message_chain m n k e f = grind (arith, common_steps, peer_chain)
+  message_chain m n k e f = grind arith
 
   -- ---- caps and last arrivals
 
@@ -49,7 +48,7 @@ module _ {P : Type 0} (cmp : P → P → Ordering) (order : IsTotalOrder cmp) wh
       first p q r s e k ∙ second q q s s (one_peer cmp order q) (one_peer cmp order s)
 
   pub caps_turned : (caps others : Caps P) → CapsAlike cmp caps others → CapsAlike cmp others caps
-  caps_turned caps others alike = grind (arith, common_steps, answers_turned, pairs_turned)
+  caps_turned caps others alike = grind arith
 
   pub caps_chain : (caps others last : Caps P) → CapsAlike cmp caps others → CapsAlike cmp others last
       → CapsAlike cmp caps last
@@ -66,35 +65,25 @@ module _ {P : Type 0} (cmp : P → P → Ordering) (order : IsTotalOrder cmp) wh
       record { id = refl; message = message_itself cmp order f.message; left = refl; rate = refl; updated = refl }
 
   pub paced_turned : (f g : RatedFlight P) → IsSameRatedFlight cmp f g → IsSameRatedFlight cmp g f
-  paced_turned f g e = grind (arith, common_steps, message_turned)
+  paced_turned f g e = grind arith
 
   paced_chain : (f g h : RatedFlight P) → IsSameRatedFlight cmp f g → IsSameRatedFlight cmp g h
       → IsSameRatedFlight cmp f h
-  paced_chain f g h d e = grind (arith, common_steps, message_chain)
+  paced_chain f g h d e = grind arith
 
   -- ---- planned worlds
 
   pub same_itself : (p : Planned P) → CapsAlike cmp p.caps p.caps → PairsAlike cmp p.last_arrival p.last_arrival
       → IsSamePlanned cmp p p
-  same_itself p caps arrivals = grind (arith, common_steps, zip-same, paced_itself, message_itself)
+  same_itself p caps arrivals = grind (arith, zip-same, paced_itself, message_itself)
 
   pub same_turned : (p q : Planned P) → IsSamePlanned cmp p q → IsSamePlanned cmp q p
-  same_turned p q same =
-      grind (arith, common_steps, caps_turned, zip_turned, paced_turned, message_turned, pairs_turned)
+  same_turned p q same = grind (arith, caps_turned, zip_turned, paced_turned, message_turned, pairs_turned)
 
   pub same_chain : (p q r : Planned P) → IsSamePlanned cmp p q → IsSamePlanned cmp q r → IsSamePlanned cmp p r
-  same_chain p q r first second = record {
-    caps = caps_chain p.caps q.caps r.caps first.caps second.caps;
-    limited = first.limited ∙ second.limited;
-    sending =
-        zip_chain (IsSameRatedFlight cmp) (IsSameRatedFlight cmp) (IsSameRatedFlight cmp) paced_chain p.sending
-        q.sending r.sending first.sending second.sending;
-    waiting =
-        zip_chain (SameMessage cmp) (SameMessage cmp) (SameMessage cmp) message_chain p.waiting q.waiting r.waiting
-        first.waiting second.waiting;
-    last_arrival = pairs_chain p.last_arrival q.last_arrival r.last_arrival first.last_arrival second.last_arrival;
-    next_id = first.next_id ∙ second.next_id;
-    accounted = first.accounted ∙ second.accounted;
-    finish = first.finish ∙ second.finish;
-    start = first.start ∙ second.start;
-  }
+  same_chain p q r first second =
+      grind (arith, (caps_chain p.caps q.caps r.caps first.caps second.caps), (zip_chain (IsSameRatedFlight cmp)
+      (IsSameRatedFlight cmp) (IsSameRatedFlight cmp) paced_chain p.sending q.sending r.sending first.sending
+      second.sending), (zip_chain (SameMessage cmp) (SameMessage cmp) (SameMessage cmp) message_chain p.waiting
+      q.waiting r.waiting first.waiting second.waiting), (pairs_chain p.last_arrival q.last_arrival r.last_arrival
+      first.last_arrival second.last_arrival))

@@ -5,7 +5,6 @@ use Rattle.link_simulation.proofs.Common.{call_advance, call_enqueue_all, call_n
 use Rattle.link_simulation.proofs.Common.{reply_refused, SameCompletion, Planned, Obeys, MayBeRefused, Obeyed}
 use Rattle.link_simulation.proofs.Common.{IsSamePlanned, same_limit, same_limit_link, same_enqueue, same_enqueue_all}
 use Rattle.link_simulation.proofs.Common.{same_advance, same_next, zip-same}
-use Rattle.std.proofs.lemmas.Grind.{common_steps}
 use Rattle.link_simulation.specs.Rule.SamePlanned.{IsSameCall}
 use Rattle.link_simulation.proofs.Simulation.RefusalCauses.{refused_more}
 use Rattle.link_simulation.proofs.Simulation.AlikeMessages.{same_itself as one_peer, message_itself}
@@ -16,11 +15,11 @@ use Rattle.link_simulation.proofs.Rule.SameCourses.{obeys_same, Went}
 module _ {P : Type 0} (cmp : P → P → Ordering) (order : IsTotalOrder cmp) where
   obeys_met_same : (p q : Planned P) (call other : Call P) (fault : Error) → IsSamePlanned cmp p q
       → IsSameCall cmp call other → Obeys cmp p call (meets fault) → Obeys cmp q other (meets fault)
-  obeys_met_same p q call other fault same calls obeys = grind (arith, common_steps, course_met, obeys_same)
+  obeys_met_same p q call other fault same calls obeys = grind (arith, course_met, obeys_same)
 
   pub refused_same : (p q : Planned P) (call other : Call P) (why : Error) → IsSamePlanned cmp p q
       → IsSameCall cmp call other → MayBeRefused cmp p call why → MayBeRefused cmp q other why
-  refused_same p q call other why same calls refused = grind (arith, common_steps, refused_more, obeys_met_same)
+  refused_same p q call other why same calls refused = grind (arith, refused_more, obeys_met_same)
 
   -- ---- replies
 
@@ -59,30 +58,8 @@ module _ {P : Type 0} (cmp : P → P → Ordering) (order : IsTotalOrder cmp) wh
       (obeyed.0 ∙ next_event_same cmp order p q same, obeyed_same p q calls replies same obeyed.1)
   obeyed_same p q (call_next ∷ calls) (reply_done cs ∷ replies) same obeyed = obeyed
   obeyed_same p q (call_next ∷ calls) (reply_refused why ∷ replies) same obeyed = obeyed
-  obeyed_same p q (call_limit now peer egress ingress ∷ calls) (reply_next t ∷ replies) same obeyed = obeyed
-  obeyed_same p q (call_limit now peer egress ingress ∷ calls) (reply_done cs ∷ replies) same obeyed =
-      accepted_same p q (call_limit now peer egress ingress) calls cs replies same
-      (λ n r. obeyed_same n r calls replies) obeyed
-  obeyed_same p q (call_limit now peer egress ingress ∷ calls) (reply_refused why ∷ replies) same obeyed =
-      grind (arith, common_steps, refused_same, call_itself, (obeyed_same p q calls replies same obeyed.1))
-  obeyed_same p q (call_limit_link now origin recipient cap ∷ calls) (reply_next t ∷ replies) same obeyed = obeyed
-  obeyed_same p q (call_limit_link now origin recipient cap ∷ calls) (reply_done cs ∷ replies) same obeyed =
-      accepted_same p q (call_limit_link now origin recipient cap) calls cs replies same
-      (λ n r. obeyed_same n r calls replies) obeyed
-  obeyed_same p q (call_limit_link now origin recipient cap ∷ calls) (reply_refused why ∷ replies) same obeyed =
-      grind (arith, common_steps, refused_same, call_itself, (obeyed_same p q calls replies same obeyed.1))
-  obeyed_same p q (call_enqueue now m ∷ calls) (reply_next t ∷ replies) same obeyed = obeyed
-  obeyed_same p q (call_enqueue_all now ms ∷ calls) (reply_next t ∷ replies) same obeyed = obeyed
-  obeyed_same p q (call_enqueue now m ∷ calls) (reply_done cs ∷ replies) same obeyed =
-      accepted_same p q (call_enqueue now m) calls cs replies same (λ n r. obeyed_same n r calls replies) obeyed
-  obeyed_same p q (call_enqueue_all now ms ∷ calls) (reply_done cs ∷ replies) same obeyed =
-      accepted_same p q (call_enqueue_all now ms) calls cs replies same (λ n r. obeyed_same n r calls replies) obeyed
-  obeyed_same p q (call_enqueue now m ∷ calls) (reply_refused why ∷ replies) same obeyed =
-      grind (arith, common_steps, refused_same, call_itself, (obeyed_same p q calls replies same obeyed.1))
-  obeyed_same p q (call_enqueue_all now ms ∷ calls) (reply_refused why ∷ replies) same obeyed =
-      grind (arith, common_steps, refused_same, call_itself, (obeyed_same p q calls replies same obeyed.1))
-  obeyed_same p q (call_advance now ∷ calls) (reply_next t ∷ replies) same obeyed = obeyed
-  obeyed_same p q (call_advance now ∷ calls) (reply_done cs ∷ replies) same obeyed =
-      accepted_same p q (call_advance now) calls cs replies same (λ n r. obeyed_same n r calls replies) obeyed
-  obeyed_same p q (call_advance now ∷ calls) (reply_refused why ∷ replies) same obeyed =
-      grind (arith, common_steps, refused_same, call_itself, (obeyed_same p q calls replies same obeyed.1))
+  obeyed_same p q (call ∷ calls) (reply_next t ∷ replies) same obeyed = obeyed
+  obeyed_same p q (call ∷ calls) (reply_done cs ∷ replies) same obeyed =
+      accepted_same p q call calls cs replies same (λ n r. obeyed_same n r calls replies) obeyed
+  obeyed_same p q (call ∷ calls) (reply_refused why ∷ replies) same obeyed =
+      (refused_same p q call call why same (call_itself call) obeyed.0, obeyed_same p q calls replies same obeyed.1)

@@ -8,16 +8,13 @@ use Rattle.link_simulation.proofs.Common.{SameCompletion, Planned, RatedFlight, 
 use Rattle.link_simulation.proofs.Common.{next_event, rated_messages, left_at, drained_to, next_of, queued, may_launch}
 use Rattle.link_simulation.proofs.Common.{is_spent, launched, landed, with_queued, completed_at_once, IsSameRatedFlight}
 use Rattle.link_simulation.proofs.Common.{IsSamePlanned, Amount, whole, zip-filter, zip-append}
-use Rattle.std.proofs.lemmas.Grind.{common_steps}
 use Rattle.link_simulation.specs.Rule.SamePlanned.{IsSameCourse}
 use Rattle.link_simulation.proofs.Simulation.AlikeMessages.{peers_alike, pairs_alike, message_itself, any_alike}
 use Rattle.link_simulation.proofs.Simulation.AlikeMessages.{unlimited_alike}
 use Rattle.link_simulation.proofs.Simulation.SettlingEnds.{find_like}
 use Rattle.link_simulation.proofs.Rule.Launch.{OptionsAlike}
 use Rattle.link_simulation.proofs.Simulation.Queue.{find_passes}
-use Rattle.fair_rates.proofs.Lists.Zips.{zip-if}
 use Rattle.link_simulation.proofs.Rule.Settling.{arrival_alike}
-use Rattle.link_simulation.proofs.Simulation.InOrder.{before_alike}
 
 -- ---- lists
 
@@ -27,7 +24,7 @@ pub find_same : {X Y : Type 0} (R : X → Y → Type 0) (f : X → Bool) (g : Y 
 find_same R f g alike [] [] all = tt
 find_same R f g alike [] (y ∷ ys) all = absurd all
 find_same R f g alike (x ∷ xs) [] all = absurd all
-find_same R f g alike (x ∷ xs) (y ∷ ys) all = grind (arith, common_steps, (find_same R f g alike xs ys all.1))
+find_same R f g alike (x ∷ xs) (y ∷ ys) all = grind (arith, (find_same R f g alike xs ys))
 
 pub without_same : {X Y : Type 0} (R : X → Y → Type 0) (f : X → Bool) (g : Y → Bool)
     → ((x : X) (y : Y) → R x y → f x ≡ g y) → (xs : List X) (ys : List Y)
@@ -35,8 +32,7 @@ pub without_same : {X Y : Type 0} (R : X → Y → Type 0) (f : X → Bool) (g :
 without_same R f g alike [] [] all = tt
 without_same R f g alike [] (y ∷ ys) all = absurd all
 without_same R f g alike (x ∷ xs) [] all = absurd all
-without_same R f g alike (x ∷ xs) (y ∷ ys) all =
-    grind (arith, common_steps, zip-if, (without_same R f g alike xs ys all.1))
+without_same R f g alike (x ∷ xs) (y ∷ ys) all = grind (arith, (without_same R f g alike xs ys))
 
 -- the item at a place has one that is the same
 pub at_same : {X Y : Type 0} (R : X → Y → Type 0) (xs : List X) (ys : List Y) (i : ℕ) (x : X) → AllZip R xs ys
@@ -106,7 +102,7 @@ module _ {P : Type 0} (cmp : P → P → Ordering) (order : IsTotalOrder cmp) wh
   pub limited_by_same : (caps others : Caps P) (peer other : P) (egress ingress : Option ℕ) → CapsAlike cmp caps others
       → same_peer cmp peer other ≡ true
       → CapsAlike cmp (limited_by cmp caps peer egress ingress) (limited_by cmp others other egress ingress)
-  limited_by_same caps others peer other egress ingress same peers = grind (arith, common_steps, peers_alike)
+  limited_by_same caps others peer other egress ingress same peers = grind arith
 
   pub linked_by_same : (caps others : Caps P) (origin recipient o r : P) (cap : Option ℕ) → CapsAlike cmp caps others
       → same_peer cmp origin o ≡ true → same_peer cmp recipient r ≡ true
@@ -126,12 +122,7 @@ module _ {P : Type 0} (cmp : P → P → Ordering) (order : IsTotalOrder cmp) wh
   pub raised_same : (last others : P → P → Option ℕ) (m n : Message P) (at : ℕ) → PairsAlike cmp last others
       → SameMessage cmp m n → PairsAlike cmp (raised cmp last m at) (raised cmp others n at)
   raised_same last others m n at same messages p q r s e f =
-      rw (
-        peers_alike cmp order m.origin n.origin p q messages.origin e,
-        peers_alike cmp order m.recipient n.recipient r s messages.recipient f,
-        same p q r s e f,
-      )
-      refl
+      grind (arith, (peers_alike cmp order), (peers_alike cmp order))
 
   -- ---- messages
 
@@ -140,15 +131,14 @@ module _ {P : Type 0} (cmp : P → P → Ordering) (order : IsTotalOrder cmp) wh
   queued_same m n [] [] e all = (e, tt)
   queued_same m n [] (l ∷ ls) e all = absurd all
   queued_same m n (k ∷ ks) [] e all = absurd all
-  queued_same m n (k ∷ ks) (l ∷ ls) e all =
-      grind (arith, common_steps, zip-if, before_alike, (queued_same m n ks ls e all.1))
+  queued_same m n (k ∷ ks) (l ∷ ls) e all = grind (arith, (queued_same m n ks ls e))
 
   pub fronts_same : (ms ns : List (Message P)) → AllZip (SameMessage cmp) ms ns
       → AllZip (SameMessage cmp) (fronts cmp ms) (fronts cmp ns)
   fronts_same [] [] all = tt
   fronts_same [] (n ∷ ns) all = absurd all
   fronts_same (m ∷ ms) [] all = absurd all
-  fronts_same (m ∷ ms) (n ∷ ns) all = grind (arith, common_steps, zip-filter, pairs_alike, (fronts_same ms ns all.1))
+  fronts_same (m ∷ ms) (n ∷ ns) all = grind (arith, zip-filter, pairs_alike, (fronts_same ms ns))
 
   -- ---- what is in flight
 
@@ -167,7 +157,7 @@ module _ {P : Type 0} (cmp : P → P → Ordering) (order : IsTotalOrder cmp) wh
   drained_same t [] [] all = tt
   drained_same t [] (g ∷ gs) all = absurd all
   drained_same t (f ∷ fs) [] all = absurd all
-  drained_same t (f ∷ fs) (g ∷ gs) all = grind (arith, common_steps, left_same, (drained_same t fs gs all.1))
+  drained_same t (f ∷ fs) (g ∷ gs) all = grind (arith, (drained_same t fs gs))
 
   pub some_spent_same : (fs gs : List (RatedFlight P)) (t : ℕ) → AllZip (IsSameRatedFlight cmp) fs gs → SomeSpentAt fs t
       → SomeSpentAt gs t
@@ -204,27 +194,27 @@ module _ {P : Type 0} (cmp : P → P → Ordering) (order : IsTotalOrder cmp) wh
     pub leaving_same : (t : ℕ)
         → AllZip (IsSameRatedFlight cmp) (filter (is_spent cmp p.caps) (drained_to t p.sending))
         (filter (is_spent cmp q.caps) (drained_to t q.sending))
-    leaving_same t = grind (arith, common_steps, zip-filter, spent_same, drained_same)
+    leaving_same t = grind (arith, zip-filter, spent_same, drained_same)
 
     pub staying_same : (t : ℕ) → AllZip (IsSameRatedFlight cmp)
         (filter (λ f. not (is_spent cmp p.caps f)) (drained_to t p.sending))
         (filter (λ f. not (is_spent cmp q.caps f)) (drained_to t q.sending))
-    staying_same t = grind (arith, common_steps, zip-filter, spent_same, drained_same)
+    staying_same t = grind (arith, zip-filter, spent_same, drained_same)
 
     -- ---- what waits
 
     pub may_same : (t : ℕ) (m n : Message P) → SameMessage cmp m n → may_launch cmp t p m ≡ may_launch cmp t q n
-    may_same t m n e = grind (arith, common_steps, any_alike, pairs_alike, flows_same)
+    may_same t m n e = grind (arith, any_alike, pairs_alike, flows_same)
 
     pub next_same : (m n : Message P) → SameMessage cmp m n
         → OptionsAlike (SameMessage cmp) (next_of cmp p m) (next_of cmp q n)
-    next_same m n e = grind (arith, common_steps, find_same, pairs_alike)
+    next_same m n e = grind (arith, find_same, pairs_alike)
 
     -- the pairs that a wake at t finds ready
     pub ready_same : (t : ℕ)
         → AllZip (SameMessage cmp) (filter (may_launch cmp t p) (fronts cmp p.waiting))
         (filter (may_launch cmp t q) (fronts cmp q.waiting))
-    ready_same t = grind (arith, common_steps, zip-filter, may_same, fronts_same)
+    ready_same t = grind (arith, zip-filter, may_same, fronts_same)
 
     pub some_ready_same : (t : ℕ) → SomeReadyAt cmp p t → SomeReadyAt cmp q t
     some_ready_same t (m, own, may) =
@@ -248,41 +238,41 @@ module _ {P : Type 0} (cmp : P → P → Ordering) (order : IsTotalOrder cmp) wh
 
     pub recapped_same : (caps others : Caps P) → CapsAlike cmp caps others
         → IsSamePlanned cmp (record p { caps = caps; limited = true }) (record q { caps = others; limited = true })
-    recapped_same caps others alike = grind (arith, common_steps)
+    recapped_same caps others alike = grind arith
 
     -- with other flows, accounted for at a moment, and another moment when the first of them is done
     pub accounted_same : (t : ℕ) (fs gs : List (RatedFlight P)) (finish : Option ℕ)
         → AllZip (IsSameRatedFlight cmp) fs gs
         → IsSamePlanned cmp (record p { sending = fs; accounted = t; finish = finish })
         (record q { sending = gs; accounted = t; finish = finish })
-    accounted_same t fs gs finish sending = grind (arith, common_steps)
+    accounted_same t fs gs finish sending = grind arith
 
     -- with another moment when the first may start
     pub planned_same : (start : Option ℕ) → IsSamePlanned cmp (record p { start = start }) (record q { start = start })
-    planned_same start = grind (arith, common_steps)
+    planned_same start = grind arith
 
     pub no_finish_same : IsSamePlanned cmp (record p { finish = None }) (record q { finish = None })
-    no_finish_same = grind (arith, common_steps)
+    no_finish_same = grind arith
 
     pub no_start_same : IsSamePlanned cmp (record p { start = None }) (record q { start = None })
     no_start_same = planned_same None
 
     pub launched_same : (t : ℕ) (m n : Message P) → SameMessage cmp m n
         → IsSamePlanned cmp (launched cmp t p m) (launched cmp t q n)
-    launched_same t m n e = grind (arith, common_steps, zip-append, launching_same, without_same, pairs_alike)
+    launched_same t m n e = grind (arith, zip-append, launching_same, without_same, pairs_alike)
 
     arrived_same : (last others : P → P → Option ℕ) → PairsAlike cmp last others
         → IsSamePlanned cmp (record p { last_arrival = last }) (record q { last_arrival = others })
-    arrived_same last others alike = grind (arith, common_steps)
+    arrived_same last others alike = grind arith
 
     pub landed_same : (t : ℕ) (m n : Message P) → SameMessage cmp m n
         → IsSamePlanned cmp (landed cmp t p m) (landed cmp t q n)
-    landed_same t m n e = grind (arith, common_steps, arrived_same, arrival_alike, raised_same)
+    landed_same t m n e = grind (arith, arrived_same, arrival_alike, raised_same)
 
     pub with_queued_same : (m n : Message P) → SameMessage cmp m n
         → IsSamePlanned cmp (with_queued cmp p m) (with_queued cmp q n)
-    with_queued_same m n e = grind (arith, common_steps, queued_same)
+    with_queued_same m n e = grind (arith, queued_same)
 
     pub at_once_same : (now : ℕ) (m n : Message P) → SameMessage cmp m n
         → IsSameCourse cmp (completed_at_once cmp now p m) (completed_at_once cmp now q n)
-    at_once_same now m n e = grind (arith, common_steps, arrived_same, raised_same)
+    at_once_same now m n e = grind arith

@@ -1,20 +1,19 @@
 -- Settling in the planned world is settling in the world: the same completions or the same fault, and the two agree
 -- afterwards.
-use Rattle.std.proofs.lemmas.Grind.{common_steps}
-use Rattle.link_simulation.proofs.Common.{◌≡◌, ℕ, zero, suc, ◌+◌, ◌≤◌, List, [], ◌∷◌, ◌++◌, map, length, Bool, true}
-use Rattle.link_simulation.proofs.Common.{false, not, Option, None, refl, sym, ap, ◌∙◌, subst, arith, length-append}
-use Rattle.link_simulation.proofs.Common.{filter, find, list_any, AllZip, Ordering, IsTotalOrder, map-append, or_from}
-use Rattle.link_simulation.proofs.Common.{Completed, Course, Flight, World, flows, goes, is_done, meets, preceded}
-use Rattle.link_simulation.proofs.Common.{raised, settle, EndsWith, is_late, completed, arrival, Finishes, PlansStart}
-use Rattle.link_simulation.proofs.Common.{Settles, all_completed, completes, landed, late, settling, stopped, Message}
-use Rattle.link_simulation.proofs.Common.{OneForEachPair, PairsAlike, SameMessage, same_pair, IsLeastMoment, Planned}
-use Rattle.link_simulation.proofs.Common.{SomeReadyAt, SameCompletion, CoursesAlike, Follows, IsSettled, Tallies}
-use Rattle.link_simulation.proofs.Common.{MomentTooLate, leaving, staying, arrived, launch_then, finish_within, Each}
-use Rattle.link_simulation.proofs.Common.{zip-append}
+use Rattle.link_simulation.proofs.Common.{common_steps, ◌≡◌, ℕ, zero, suc, ◌+◌, ◌≤◌, List, [], ◌∷◌, ◌++◌, map, length}
+use Rattle.link_simulation.proofs.Common.{Bool, true, false, not, Option, None, refl, sym, ap, ◌∙◌, subst, arith}
+use Rattle.link_simulation.proofs.Common.{length-append, filter, find, list_any, AllZip, Ordering, IsTotalOrder}
+use Rattle.link_simulation.proofs.Common.{map-append, or_from, Completed, Course, Flight, World, flows, goes, is_done}
+use Rattle.link_simulation.proofs.Common.{meets, preceded, raised, settle, EndsWith, is_late, completed, arrival}
+use Rattle.link_simulation.proofs.Common.{Finishes, PlansStart, Settles, all_completed, completes, landed, late}
+use Rattle.link_simulation.proofs.Common.{settling, stopped, Message, OneForEachPair, PairsAlike, SameMessage}
+use Rattle.link_simulation.proofs.Common.{same_pair, IsLeastMoment, Planned, SomeReadyAt, SameCompletion, CoursesAlike}
+use Rattle.link_simulation.proofs.Common.{Follows, IsSettled, Tallies, MomentTooLate, leaving, staying, arrived}
+use Rattle.link_simulation.proofs.Common.{launch_then, finish_within, Each, zip-append}
 use Rattle.link_simulation.proofs.Simulation.Queue.{over_state, settles_as_queue}
 use Rattle.link_simulation.proofs.Simulation.AlikeMessages.{delivered_alike, peers_alike}
 use Rattle.link_simulation.proofs.Rule.Accounts.{leavers_alike, account_follows}
-use Rattle.link_simulation.proofs.Rule.Launch.{NoneDone, staying_none, next_alike, GoesOn, LaunchAlike, launch_alike}
+use Rattle.link_simulation.proofs.Rule.Launch.{NoneDone, staying_none, next_alike, GoesOn, launch_alike}
 use Rattle.link_simulation.proofs.Simulation.SettlingEnds.{settle_rests}
 use Rattle.fair_rates.proofs.Lists.Filters.{length-filter}
 
@@ -22,7 +21,7 @@ use Rattle.fair_rates.proofs.Lists.Filters.{length-filter}
 
 all_without : {X : Type 0} (test : X → Bool) (xs : List X) → find test xs ≡ None → filter (λ x. not (test x)) xs ≡ xs
 all_without test [] e = refl
-all_without {X} test (x ∷ xs) e = grind (arith, common_steps, (all_without test xs))
+all_without {X} test (x ∷ xs) e = grind (arith, (all_without test xs))
 
 module _ {P : Type 0} (cmp : P → P → Ordering) (order : IsTotalOrder cmp) where
   -- ---- a message lands
@@ -35,23 +34,17 @@ module _ {P : Type 0} (cmp : P → P → Ordering) (order : IsTotalOrder cmp) wh
 
   pub completed_alike : (t : ℕ) (m n : Message P) → SameMessage cmp m n
       → SameCompletion cmp (completed cmp t m) (completed cmp t n)
-  completed_alike t m n e = grind (arith, common_steps, delivered_alike)
+  completed_alike t m n e = grind arith
 
   pub raised_alike : (last last' : P → P → Option ℕ) (m n : Message P) (at at' : ℕ) → PairsAlike cmp last last'
       → SameMessage cmp m n → at ≡ at'
       → PairsAlike cmp (raised cmp last m at) (raised cmp last' n at')
   raised_alike last last' m n at at' same e f p q r s pq rs =
-      rw (
-        peers_alike cmp order m.origin n.origin p q e.origin pq,
-        peers_alike cmp order m.recipient n.recipient r s e.recipient rs,
-        same p q r s pq rs,
-        f,
-      )
-      refl
+      grind (arith, (peers_alike cmp order), (peers_alike cmp order))
 
   landed_follows : (t : ℕ) (p : Planned P) (w : World P) (m n : Message P) → Follows cmp t p w → SameMessage cmp m n
       → Follows cmp t (landed cmp t p m) (arrived cmp t w n)
-  landed_follows t p w m n follows e = grind (arith, common_steps, raised_alike, arrival_alike)
+  landed_follows t p w m n follows e = grind (arith, raised_alike, arrival_alike)
 
   -- ---- courses
 
@@ -131,27 +124,20 @@ module _ {P : Type 0} (cmp : P → P → Ordering) (order : IsTotalOrder cmp) wh
   pub finishes_alike : {t : ℕ} {ms : List (Message P)} {p : Planned P} {course : Course (Completed P) (Planned P)}
       → Finishes cmp t ms p course → WhenFollowed t ms p course
   finishes_alike {t = t} {p = p} (all_completed {q = q} looks) n [] w follows none all fuel =
-      grind (arith, common_steps, no_queue, looked)
+      grind (arith, no_queue, looked)
   finishes_alike (all_completed looks) n (f ∷ fs) w follows none all fuel = absurd all
   finishes_alike (late too) n [] w follows none all fuel = absurd all
   finishes_alike (late too) zero (f ∷ fs) w follows none all fuel = absurd (omega arith)
   finishes_alike {t = t} (late {m = m} too) (suc n) (f ∷ fs) w follows none all fuel =
-      grind (arith, common_steps, first_late, late_alike)
+      grind (arith, first_late, late_alike)
   finishes_alike (stopped not_late launch) n [] w follows none all fuel = absurd all
   finishes_alike (stopped not_late launch) zero (f ∷ fs) w follows none all fuel = absurd (omega arith)
   finishes_alike {t = t} {p = p} (stopped {m = m} {fault = fault} not_late launch) (suc n) (f ∷ fs) w follows none all
       fuel =
-      let there : Follows cmp t (landed cmp t p m) (arrived cmp t w f.message) =
-      landed_follows t p w m f.message follows all.0 in
-      let fails : LaunchAlike cmp order t (arrived cmp t w f.message) fs (find (same_pair cmp f.message) w.waiting)
-      (meets fault) =
-      launch_alike cmp order launch (arrived cmp t w f.message) fs f.message (find (same_pair cmp f.message) w.waiting)
-      there none refl (next_alike cmp order t p w m f.message follows.tallies all.0) in
-      subst (λ (c : Course (Completed P) (World P)). CourseAlike t (meets fault) c)
-      (sym
-      (first_lands n t f fs w (sym (late_alike t m f.message all.0) ∙ not_late)
-      ∙ ap (preceded (completed cmp t f.message ∷ [])) (fails (finish_within cmp n t))))
-      refl
+          grind (arith, common_steps, (first_lands n t f fs w (sym (late_alike t m f.message all.0) ∙ not_late)),
+          (launch_alike cmp order launch (arrived cmp t w f.message) fs f.message (find (same_pair cmp f.message)
+          w.waiting) (landed_follows t p w m f.message follows all.0) none refl (next_alike cmp order t p w m
+          f.message follows.tallies all.0)))
   finishes_alike (completes not_late launch rest) n [] w follows none all fuel = absurd all
   finishes_alike (completes not_late launch rest) zero (f ∷ fs) w follows none all fuel = absurd (omega arith)
   finishes_alike {t = t} {p = p} (completes {m = m} {ms = ms} {more = more} {q = q} {rest = after} not_late launch rest)
@@ -211,8 +197,7 @@ module _ {P : Type 0} (cmp : P → P → Ordering) (order : IsTotalOrder cmp) wh
   settles_alike {t = t} {p = p} {course = course} (settling {leavers = leavers} {mid = mid} account finishes) w same =
       let n : ℕ = length w.sending + length w.waiting in
       let few : length (leaving cmp w) ≤ length w.sending = leaving_fewer w in
-      let kept : length (staying cmp w).waiting ≡ length w.waiting =
-      ap (λ (q : List (Message P)). length q) (staying_waiting w) in
+      let kept : length (staying cmp w).waiting ≡ length w.waiting = grind (arith, staying_waiting) in
       let queued : CourseAlike t course (finish_within cmp n t (leaving cmp w) (staying cmp w)) =
       finishes_alike finishes n (leaving cmp w) (staying cmp w)
       (account_follows cmp order t p mid leavers w same account) (staying_none cmp order w)

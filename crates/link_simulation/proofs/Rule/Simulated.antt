@@ -1,5 +1,4 @@
 -- A call that goes by the event rule runs in the simulation, and one that is refused is refused for a cause.
-use Rattle.std.proofs.lemmas.Grind.{common_steps}
 use Rattle.link_simulation.proofs.Common.{◌≡◌, ℕ, ◌<◌, ◌≤◌, ◌^◌, List, [], ◌∷◌, Bool, true, false, cond, Some, refl}
 use Rattle.link_simulation.proofs.Common.{sym, ◌∙◌, subst, arith, IfSome, filter, AllZip, Ordering, IsTotalOrder, Error}
 use Rattle.link_simulation.proofs.Common.{Message, SameMessage, same_pair, CapsAlike, World, Completed, Course, goes}
@@ -50,12 +49,7 @@ module _ {P : Type 0} (cmp : P → P → Ordering) (order : IsTotalOrder cmp) wh
         ∙ stands.follows.tallies.last_arrival a b c d e f;
     positive = positive_flights cmp order w.moment p.sending w.sending stands.follows.tallies.sending;
     one_each = stands.follows.tallies.one_each;
-    empty_at_first = λ e.
-        let empty : (p.sending ≡ []) × (p.waiting ≡ []) =
-        stands.follows.tallies.empty_at_first (stands.follows.tallies.limited ∙ e) in (
-          none_flies cmp order w.moment p.sending w.sending stands.follows.tallies.sending empty.0,
-          none_waits p.waiting w.waiting stands.follows.tallies.waiting empty.1,
-        );
+    empty_at_first = grind (arith, none_flies, none_waits);
   }
 
   -- ---- a call that goes
@@ -71,12 +65,7 @@ module _ {P : Type 0} (cmp : P → P → Ordering) (order : IsTotalOrder cmp) wh
   pub calls_simulated : (p q : Planned P) (call : Call P) (completions : List (Completed P))
       → ((t : ℕ) → moment_of call ≡ Some t → t ≤ last_moment) → GoesByRule cmp p call completions q
       → IsSimulated cmp p call completions q
-  calls_simulated p q call completions in_time go w now called =
-      let f : (c : Course (Completed P) (World P)) × Runs cmp w call now c
-      × CoursesAlike cmp (λ r v. StandsFor cmp r v × (v.moment ≡ now)) (goes go.answers go.after) c
-      = obeys_alike cmp order p w call now (goes go.answers go.after) called.stands called.moment
-      (in_time now called.moment) called.turn go.obeys in
-      by_course f.0 f.1 f.2
+  calls_simulated p q call completions in_time go w now called = grind (arith, obeys_alike, by_course)
     where
       later_next : (v : World P) → StandsFor cmp q v → v.moment ≡ now → IfSome (next_event q) (λ t. now < t)
       later_next v stands at =
@@ -111,13 +100,13 @@ module _ {P : Type 0} (cmp : P → P → Ordering) (order : IsTotalOrder cmp) wh
 
   pub call_keeps_range : (p q : Planned P) (call : Call P) (completions : List (Completed P))
       → GoesByRule cmp p call completions q → KeepsRange cmp p call q
-  call_keeps_range p q call completions go in_range = grind (arith, common_steps, obeys_in_range, range_same)
+  call_keeps_range p q call completions go in_range = grind (arith, obeys_in_range, range_same)
 
   -- ---- a call that is refused
 
   fault_is_met : (p : Planned P) (call : Call P) (fault : Error) → ((t : ℕ) → moment_of call ≡ Some t → t ≤ last_moment)
       → Obeys cmp p call (meets fault) → MeetsFault cmp p call fault
-  fault_is_met p call fault in_time obeys w now called = grind (arith, common_steps, obeys_alike)
+  fault_is_met p call fault in_time obeys w now called = grind (arith, obeys_alike)
 
   pub refusals_simulated : (p : Planned P) (call : Call P) (why : Error)
       → ((t : ℕ) → moment_of call ≡ Some t → t ≤ last_moment) → MayBeRefused cmp p call why

@@ -1,15 +1,13 @@
 -- Waking in the planned world is waking in the world.
-use Rattle.std.proofs.lemmas.Grind.{common_steps}
-use Rattle.link_simulation.proofs.Common.{◌≡◌, ℕ, zero, suc, ◌+◌, ◌≤◌, List, [], ◌∷◌, length, Bool, true, false, cond}
-use Rattle.link_simulation.proofs.Common.{Some, refl, sym, ap, ◌∙◌, subst, arith, length-append, filter, find, list_any}
-use Rattle.link_simulation.proofs.Common.{AllZip, Ordering, IsTotalOrder, or_parts, without_first, Completed, Course}
+use Rattle.link_simulation.proofs.Common.{common_steps, ◌≡◌, ℕ, zero, suc, ◌+◌, ◌≤◌, List, [], ◌∷◌, length, Bool, true}
+use Rattle.link_simulation.proofs.Common.{false, cond, Some, refl, sym, subst, arith, length-append, filter, find}
+use Rattle.link_simulation.proofs.Common.{list_any, AllZip, Ordering, IsTotalOrder, without_first, Completed, Course}
 use Rattle.link_simulation.proofs.Common.{Flight, World, and_then, flows, goes, is_done, least_pair, may_start, meets}
 use Rattle.link_simulation.proofs.Common.{preceded, ready, settle, start, wake_within, EndsWith, flight_of, Finishes}
 use Rattle.link_simulation.proofs.Common.{Launches, WakesEach, all_started, no_finish, no_start, starts_one, Message}
 use Rattle.link_simulation.proofs.Common.{OneForEachPair, SameMessage, same_pair, Planned, next_of, SameCompletion}
 use Rattle.link_simulation.proofs.Common.{CoursesAlike, Follows, IsSettled, out_of_waiting, joined, finish_within, Each}
 use Rattle.link_simulation.proofs.Common.{each_filtered, zip-append}
-use Rattle.link_simulation.proofs.Simulation.Queue.{preceded_none}
 use Rattle.link_simulation.proofs.Rule.BeforeNext.{fronts_first, first_found}
 use Rattle.link_simulation.proofs.Rule.Launch.{NoneDone, joining, started, joining_leaves, started_stays, next_alike}
 use Rattle.link_simulation.proofs.Rule.Launch.{StartsSo, StartAlike, start_alike}
@@ -24,8 +22,7 @@ use Rattle.link_simulation.proofs.Laws.Bytes.{each_least, wake_first}
 -- each of a list of which none passes
 pub each_none : {X : Type 0} (test : X → Bool) (xs : List X) → list_any test xs ≡ false → Each (λ x. test x ≡ false) xs
 each_none test [] e = tt
-each_none test (x ∷ xs) e =
-    grind (arith, common_steps, or_parts, (each_none test xs (or_parts (test x) (list_any test xs) e).1))
+each_none test (x ∷ xs) e = grind (arith, (each_none test xs))
 
 module _ {P : Type 0} (cmp : P → P → Ordering) (order : IsTotalOrder cmp) where
   -- ---- a round: one pair starts, and what is done then completes
@@ -35,12 +32,12 @@ module _ {P : Type 0} (cmp : P → P → Ordering) (order : IsTotalOrder cmp) wh
       → settle cmp t (joined cmp w y)
       ≡ finish_within cmp (length (joined cmp w y).sending + length (joined cmp w y).waiting) t
       (joining cmp order w y) (started cmp order w y)
-  round_is t w y none one = grind (arith, common_steps, settle_is_finish, joined, joining_leaves, started_stays)
+  round_is t w y none one = grind (arith, settle_is_finish, joined, joining_leaves, started_stays)
 
   pub round_fuel : (w : World P) (y : Message P)
       → length (joining cmp order w y) + length (started cmp order w y).waiting
       ≤ length (joined cmp w y).sending + length (joined cmp w y).waiting
-  round_fuel w y = grind (arith, common_steps, length-append, joined)
+  round_fuel w y = grind (arith, length-append, joined)
 
   -- after a round the others are as they were, the pair may not start, and fewer wait
   abbrev pub IsRound : ℕ → Message P → World P → World P → Type 0
@@ -79,13 +76,7 @@ module _ {P : Type 0} (cmp : P → P → Ordering) (order : IsTotalOrder cmp) wh
 
       both : (v : World P) → IsAfter cmp order y t (started cmp order w y) v
           → length (without_first (same_pair cmp y) w.waiting) + 1 ≡ length w.waiting → IsRound t y w v
-      both v after fewer =
-          let less : length v.waiting ≤ length (started cmp order w y).waiting = after.0.fewer in
-          let some : length (started cmp order w y).waiting ≡ length (without_first (same_pair cmp y) w.waiting) =
-          waits (is_done cmp w (flight_of y)) in (
-            (only_both cmp order y w (started cmp order w y) v (only (is_done cmp w (flight_of y))) after.0, after.1),
-            omega arith,
-          )
+      both v after fewer = grind (arith, started, waits, only_both, only)
 
   -- ---- the order of the pairs
 
@@ -98,7 +89,7 @@ module _ {P : Type 0} (cmp : P → P → Ordering) (order : IsTotalOrder cmp) wh
   wake_round : (n t : ℕ) (w : World P) (y : Message P) (c : Course (Completed P) (World P))
       → least_pair cmp (ready cmp t w) ≡ Some y → start cmp w y ≡ goes [] (joined cmp w y)
       → settle cmp t (joined cmp w y) ≡ c → wake_within cmp (suc n) t w ≡ and_then c (wake_within cmp n t)
-  wake_round n t w y c least starts e = grind (arith, common_steps, wake_first, preceded_none, joined)
+  wake_round n t w y c least starts e = grind arith
 
   pub preceded_by : (R : Planned P → World P → Type 0) (cs ds : List (Completed P))
       (x : Course (Completed P) (Planned P)) (c : Course (Completed P) (World P))
@@ -119,7 +110,7 @@ module _ {P : Type 0} (cmp : P → P → Ordering) (order : IsTotalOrder cmp) wh
     pub may : may_start cmp t w y ≡ true
 
   next_is : (t : ℕ) (w : World P) (y : Message P) → least_pair cmp (ready cmp t w) ≡ Some y → IsNext t w y
-  next_is t w y least = grind (arith, common_steps, each_least, each_filtered, fronts_first, first_found)
+  next_is t w y least = grind (arith, each_least, each_filtered, fronts_first, first_found)
 
   abbrev WhenPicked : ℕ → List (Message P) → Planned P → Course (Completed P) (Planned P) → Type 0
   WhenPicked t ms p course =
@@ -131,8 +122,7 @@ module _ {P : Type 0} (cmp : P → P → Ordering) (order : IsTotalOrder cmp) wh
       → Launches cmp t p (next_of cmp p m) course → (w : World P) (y : Message P)
       → Follows cmp t p w → NoneDone cmp order w → IsNext t w y → SameMessage cmp m y
       → StartAlike cmp order t w y course
-  launch_starts {t = t} {m = m} {p = p} launch w y follows none next same =
-      grind (arith, common_steps, start_alike, next_alike)
+  launch_starts {t = t} {m = m} {p = p} launch w y follows none next same = grind (arith, start_alike, next_alike)
 
   pub round_alike : {t : ℕ} {more : List (Message P)} {q : Planned P} {course : Course (Completed P) (Planned P)}
       → Finishes cmp t more q course → (w : World P) (y : Message P)
@@ -145,38 +135,24 @@ module _ {P : Type 0} (cmp : P → P → Ordering) (order : IsTotalOrder cmp) wh
       (joining cmp order w y) (started cmp order w y) so.follows so.none so.leaves (round_fuel w y))
 
   no_fuel : (t : ℕ) (w : World P) (y : Message P) → IsNext t w y → length w.waiting ≤ 0 → ⊥
-  no_fuel t w y next fuel = grind (arith, common_steps, length_without)
+  no_fuel t w y next fuel = grind (arith, length_without)
 
   pub wakes_alike : {t : ℕ} {ms : List (Message P)} {p : Planned P} {course : Course (Completed P) (Planned P)}
       → WakesEach cmp t ms p course → WhenPicked t ms p course
   wakes_alike {t = t} {p = p} (all_started {q = q} looks) n w follows none picks fuel =
-      subst (λ (c : Course (Completed P) (World P)). CoursesAlike cmp (IsWoken t) (goes [] q) c)
-      (sym (wake_none cmp order n t w picks)) (tt, (looked cmp order t p q w follows none looks, picks))
+      grind (arith, (wake_none cmp order n t w picks), (looked cmp order t p q w follows none looks))
   wakes_alike {t = t} (no_start launch) zero w follows none picks fuel =
       absurd (no_fuel t w picks.0 (next_is t w picks.0 picks.1) fuel)
   wakes_alike {t = t} (no_start {fault = fault} launch) (suc n) w follows none picks fuel =
-      let fails : start cmp w picks.0 ≡ meets fault =
-      launch_starts launch w picks.0 follows none (next_is t w picks.0 picks.1) picks.2 in
-      subst (λ (c : Course (Completed P) (World P)). CoursesAlike cmp (IsWoken t) (meets fault) c)
-      (sym (wake_first cmp order n t w picks.0 picks.1
-      ∙ ap (λ (d : Course (Completed P) (World P)). and_then d
-      (λ v. and_then (settle cmp t v) (wake_within cmp n t))) fails)) refl
+      grind (arith, common_steps, (wake_first cmp order n t w picks.0 picks.1), (launch_starts launch w picks.0
+      follows none (next_is t w picks.0 picks.1) picks.2))
   wakes_alike {t = t} (no_finish launch finish) zero w follows none picks fuel =
       absurd (no_fuel t w picks.0 (next_is t w picks.0 picks.1) fuel)
   wakes_alike {t = t} (no_finish {more = more} {q = q} {fault = fault} launch finish) (suc n) w follows none picks
       fuel =
-      let so : StartsSo cmp order t w picks.0 more q =
-      launch_starts launch w picks.0 follows none (next_is t w picks.0 picks.1) picks.2 in
-      by_course so.starts (settle cmp t (joined cmp w picks.0)) refl (round_alike finish w picks.0 none so)
-    where
-      by_course : start cmp w picks.0 ≡ goes [] (joined cmp w picks.0) → (c : Course (Completed P) (World P))
-          → settle cmp t (joined cmp w picks.0) ≡ c
-          → CourseAlike cmp order t (meets fault) c
-          → CoursesAlike cmp (IsWoken t) (meets fault) (wake_within cmp (suc n) t w)
-      by_course starts (goes ds v) e h = absurd h
-      by_course starts (meets g) e h =
-          subst (λ (c : Course (Completed P) (World P)). CoursesAlike cmp (IsWoken t) (meets fault) c)
-          (sym (wake_round n t w picks.0 (meets g) picks.1 starts e)) h
+          grind (arith, common_steps, start, joined, wake_round, (launch_starts launch w picks.0 follows none (next_is
+          t w picks.0 picks.1) picks.2), (joined cmp w picks.0), (round_alike finish w picks.0 none (launch_starts
+          launch w picks.0 follows none (next_is t w picks.0 picks.1) picks.2)))
   wakes_alike {t = t} (starts_one launch finish wakes) zero w follows none picks fuel =
       absurd (no_fuel t w picks.0 (next_is t w picks.0 picks.1) fuel)
   wakes_alike {t = t}

@@ -3,11 +3,10 @@ use Rattle.link_simulation.proofs.Common.{arith, ◌+◌, ◌≡◌, ℕ, List, 
 use Rattle.link_simulation.proofs.Common.{if◌then◌else◌, list_any, flat_map, AllZip, Ordering, is_eq, IsTotalOrder}
 use Rattle.link_simulation.proofs.Common.{same_peer, Message, SameMessage, is_delivered, same_pair, Caps, CapsAlike}
 use Rattle.link_simulation.proofs.Common.{AreFair, Parts, capped_sides, is_unlimited, sides_for, rates_from}
-use Rattle.link_simulation.proofs.Common.{egress_side, ingress_side, link_side, peer_sym, places_from}
-use Rattle.std.proofs.lemmas.Grind.{common_steps}
+use Rattle.link_simulation.proofs.Common.{egress_side, ingress_side, link_side, places_from}
 use Rattle.std.proofs.lemmas.Cmp.{tied_itself}
 use Rattle.link_simulation.specs.Simulation.Rates.{capped_side}
-use Rattle.link_simulation.proofs.Simulation.Queue.{peer_like, both_alike}
+use Rattle.link_simulation.proofs.Simulation.Queue.{both_alike}
 use Rattle.fair_rates.proofs.Lists.Places.{places_alike}
 
 module _ {P : Type 0} (cmp : P → P → Ordering) (order : IsTotalOrder cmp) where
@@ -19,17 +18,17 @@ module _ {P : Type 0} (cmp : P → P → Ordering) (order : IsTotalOrder cmp) wh
 
   pub peers_alike : (p q r s : P) → same_peer cmp p q ≡ true → same_peer cmp r s ≡ true
       → same_peer cmp p r ≡ same_peer cmp q s
-  peers_alike p q r s e f = grind (arith, common_steps, peer_like, peer_sym)
+  peers_alike p q r s e f = grind arith
 
   pub pairs_alike : (m n k l : Message P) → SameMessage cmp m n → SameMessage cmp k l
       → same_pair cmp m k ≡ same_pair cmp n l
-  pairs_alike m n k l f g = grind (arith, common_steps, both_alike, peers_alike)
+  pairs_alike m n k l f g = grind arith
 
   pub delivered_alike : (m n : Message P) → SameMessage cmp m n → is_delivered cmp m ≡ is_delivered cmp n
-  delivered_alike m n e = grind (arith, common_steps, both_alike, peers_alike)
+  delivered_alike m n e = grind arith
 
   pub message_itself : (m : Message P) → SameMessage cmp m m
-  message_itself m = grind (arith, common_steps, same_itself)
+  message_itself m = grind arith
 
   pub any_alike : {X Y : Type 0} (R : X → Y → Type 0) (f : X → Bool) (g : Y → Bool)
       → ((x : X) (y : Y) → R x y → f x ≡ g y) → (xs : List X) (ys : List Y) → AllZip R xs ys
@@ -52,16 +51,16 @@ module _ {P : Type 0} (cmp : P → P → Ordering) (order : IsTotalOrder cmp) wh
   module _ (caps others : Caps P) (same : CapsAlike cmp caps others) where
     egress_alike : (m n : Message P) (ms ns : List (Message P)) → SameMessage cmp m n → AllZip (SameMessage cmp) ms ns
         → egress_side cmp caps ms m ≡ egress_side cmp others ns n
-    egress_alike m n ms ns e all = grind (arith, common_steps, side_alike, places_alike, peers_alike)
+    egress_alike m n ms ns e all = grind (arith, side_alike, places_alike, peers_alike)
 
     ingress_alike : (m n : Message P) (ms ns : List (Message P)) → SameMessage cmp m n → AllZip (SameMessage cmp) ms ns
         → ingress_side cmp caps ms m ≡ ingress_side cmp others ns n
     ingress_alike m n ms ns e all =
-        grind (arith, common_steps, side_alike, if_alike, delivered_alike, places_alike, both_alike, peers_alike)
+        grind (arith, side_alike, if_alike, delivered_alike, places_alike, both_alike, peers_alike)
 
     link_alike : (m n : Message P) (ms ns : List (Message P)) → SameMessage cmp m n → AllZip (SameMessage cmp) ms ns
         → link_side cmp caps ms m ≡ link_side cmp others ns n
-    link_alike m n ms ns e all = grind (arith, common_steps, side_alike, places_alike, pairs_alike)
+    link_alike m n ms ns e all = grind (arith, side_alike, places_alike, pairs_alike)
 
     sides_for_alike : (ms ns ks ls : List (Message P)) → AllZip (SameMessage cmp) ms ns → AllZip (SameMessage cmp) ks ls
         → flat_map (sides_for cmp caps ms) ks ≡ flat_map (sides_for cmp others ns) ls
@@ -69,7 +68,7 @@ module _ {P : Type 0} (cmp : P → P → Ordering) (order : IsTotalOrder cmp) wh
     sides_for_alike ms ns [] (l ∷ ls) all some = absurd some
     sides_for_alike ms ns (k ∷ ks) [] all some = absurd some
     sides_for_alike ms ns (k ∷ ks) (l ∷ ls) all some =
-        grind (arith, common_steps, egress_alike, ingress_alike, link_alike, (sides_for_alike ms ns ks ls all some.1))
+        grind (arith, egress_alike, ingress_alike, link_alike, (sides_for_alike ms ns ks ls all))
 
     -- the same sides
     pub sides_alike : (ms ns : List (Message P)) → AllZip (SameMessage cmp) ms ns
@@ -77,7 +76,7 @@ module _ {P : Type 0} (cmp : P → P → Ordering) (order : IsTotalOrder cmp) wh
     sides_alike ms ns all = sides_for_alike ms ns ms ns all all
 
     pub unlimited_alike : (m n : Message P) → SameMessage cmp m n → is_unlimited cmp caps m ≡ is_unlimited cmp others n
-    unlimited_alike m n e = grind (arith, common_steps, delivered_alike)
+    unlimited_alike m n e = grind arith
 
     rates_alike : (parts : ℕ → ℕ) (place : ℕ) (ms ns : List (Message P)) → AllZip (SameMessage cmp) ms ns
         → rates_from cmp caps parts place ms ≡ rates_from cmp others parts place ns
@@ -90,4 +89,4 @@ module _ {P : Type 0} (cmp : P → P → Ordering) (order : IsTotalOrder cmp) wh
     -- and so the same fair rates
     pub fair_alike : (ms ns : List (Message P)) (per : ℕ) (rates : Parts) → AllZip (SameMessage cmp) ms ns
         → AreFair cmp caps ms per rates → AreFair cmp others ns per rates
-    fair_alike ms ns per rates all fair = grind (arith, common_steps, sides_alike, rates_alike)
+    fair_alike ms ns per rates all fair = grind (arith, sides_alike, rates_alike)

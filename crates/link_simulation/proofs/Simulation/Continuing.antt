@@ -57,8 +57,7 @@ module _ {P : Type 0} (cmp : P → P → Ordering) (order : IsTotalOrder cmp) wh
     where
       by_test : (b : Bool) → list_any (is_done cmp w) w.sending ≡ b → (ms : List (Message P))
           → ready cmp w.moment w ≡ ms → IsQuiet cmp w.moment w ⊎ (¬ IsQuiet cmp w.moment w)
-      by_test true done ms is =
-          inr (λ quiet. let none : list_any (is_done cmp w) w.sending ≡ false = quiet.none_done in cc)
+      by_test true done ms is = grind arith
       by_test false done [] is = inl (record { none_done = done; none_ready = is })
       by_test false done (m ∷ ms) is = inr (λ quiet. let none : ready cmp w.moment w ≡ [] = quiet.none_ready in cc)
 

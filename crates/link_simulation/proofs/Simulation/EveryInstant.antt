@@ -1,10 +1,9 @@
 -- What every instant keeps: the moment, and that nothing is done at its end.
-use Rattle.std.proofs.lemmas.Grind.{common_steps}
-use Rattle.link_simulation.proofs.Common.{◌≡◌, ℕ, zero, suc, ◌+◌, ◌≤◌, List, [], ◌∷◌, ◌++◌, length, Bool, true, false}
-use Rattle.link_simulation.proofs.Common.{Option, Some, None, refl, sym, ap, ◌∙◌, subst, arith, ◌⊎◌, inl, inr, ⊤}
-use Rattle.link_simulation.proofs.Common.{nat_le, find, list_any, Ordering, IsTotalOrder, without_first, Completed}
-use Rattle.link_simulation.proofs.Common.{Course, Flight, IsQuiet, World, and_then, complete, goes, instant, is_done}
-use Rattle.link_simulation.proofs.Common.{last_moment, least_pair, may_start, meets, raised, ready, settle}
+use Rattle.link_simulation.proofs.Common.{common_steps, ◌≡◌, ℕ, zero, suc, ◌+◌, ◌≤◌, List, [], ◌∷◌, ◌++◌, length, Bool}
+use Rattle.link_simulation.proofs.Common.{true, false, Option, Some, None, refl, sym, ap, ◌∙◌, subst, arith, ◌⊎◌, inl}
+use Rattle.link_simulation.proofs.Common.{inr, ⊤, nat_le, find, list_any, Ordering, IsTotalOrder, without_first}
+use Rattle.link_simulation.proofs.Common.{Completed, Course, Flight, IsQuiet, World, and_then, complete, goes, instant}
+use Rattle.link_simulation.proofs.Common.{is_done, last_moment, least_pair, may_start, meets, raised, ready, settle}
 use Rattle.link_simulation.proofs.Common.{settle_within, start, start_next, wake_within, EndsWith, flight_of, Message}
 use Rattle.link_simulation.proofs.Common.{same_pair, Drains, NextIs, Ticks, comes_next, never_comes, no_tick, no_time}
 use Rattle.link_simulation.proofs.Common.{one_tick, quiet_tick, tick_faults, FlowIdsUsedUp}
@@ -41,7 +40,7 @@ module _ {P : Type 0} (cmp : P → P → Ordering) (order : IsTotalOrder cmp) wh
         ends_cond Q (may_start cmp t w m) (start cmp w m) (goes [] w) (start_keeps w m h) h
 
     complete_keeps : (t : ℕ) (w : World P) (m : Message P) → Q w → EndsWith Q (complete cmp t w m)
-    complete_keeps t w m h = grind (arith, common_steps, ends_cond, ends_preceded, start_next_keeps)
+    complete_keeps t w m h = grind (arith, ends_cond, ends_preceded, start_next_keeps)
 
     settle_within_keeps : (n t : ℕ) (w : World P) → Q w → EndsWith Q (settle_within cmp n t w)
     settle_within_keeps zero t w h = h
@@ -50,11 +49,8 @@ module _ {P : Type 0} (cmp : P → P → Ordering) (order : IsTotalOrder cmp) wh
       where
         by_first : (o : Option (Flight P)) → find (is_done cmp w) w.sending ≡ o
             → ((v : World P) → Q v → EndsWith Q (settle_within cmp n t v)) → EndsWith Q (settle_within cmp (suc n) t w)
-        by_first None e ih =
-            subst (λ (c : Course (Completed P) (World P)). EndsWith Q c) (sym (settle_none cmp order n t w e)) h
-        by_first (Some f) e ih =
-            subst (λ (c : Course (Completed P) (World P)). EndsWith Q c) (sym (settle_first cmp order n t w f e))
-            (ends_and_then Q Q (complete cmp t w f.message) (settle_within cmp n t) (complete_keeps t w f.message h) ih)
+        by_first None e ih = grind (arith, settle_none)
+        by_first (Some f) e ih = grind (arith, settle_first, ends_and_then, complete_keeps)
 
     pub settle_keeps : (t : ℕ) (w : World P) → Q w → EndsWith Q (settle cmp t w)
     settle_keeps t w h = settle_within_keeps (length w.sending + length w.waiting) t w h
@@ -65,8 +61,7 @@ module _ {P : Type 0} (cmp : P → P → Ordering) (order : IsTotalOrder cmp) wh
       where
         by_least : (o : Option (Message P)) → least_pair cmp (ready cmp t w) ≡ o
             → ((v : World P) → Q v → EndsWith Q (wake_within cmp n t v)) → EndsWith Q (wake_within cmp (suc n) t w)
-        by_least None e ih =
-            subst (λ (c : Course (Completed P) (World P)). EndsWith Q c) (sym (wake_none cmp order n t w e)) h
+        by_least None e ih = grind (arith, wake_none)
         by_least (Some m) e ih =
             subst (λ (c : Course (Completed P) (World P)). EndsWith Q c) (sym (wake_first cmp order n t w m e))
             (ends_and_then Q Q (start cmp w m) (λ v. and_then (settle cmp t v) (wake_within cmp n t))
@@ -74,7 +69,7 @@ module _ {P : Type 0} (cmp : P → P → Ordering) (order : IsTotalOrder cmp) wh
             (λ v g. ends_and_then Q Q (settle cmp t v) (wake_within cmp n t) (settle_keeps t v g) ih))
 
     pub instant_keeps : (w : World P) → Q w → EndsWith Q (instant cmp w)
-    instant_keeps w h = grind (arith, common_steps, ends_and_then, settle_keeps, wake_within_keeps)
+    instant_keeps w h = grind (arith, ends_and_then, settle_keeps, wake_within_keeps)
 
   -- ---- the moment
 
@@ -101,9 +96,7 @@ module _ {P : Type 0} (cmp : P → P → Ordering) (order : IsTotalOrder cmp) wh
       by_least : (o : Option (Message P)) → least_pair cmp (ready cmp t w) ≡ o
           → ((v : World P) → NoneDone cmp order v → EndsWith (NoneDone cmp order) (wake_within cmp n t v))
           → EndsWith (NoneDone cmp order) (wake_within cmp (suc n) t w)
-      by_least None e ih =
-          subst (λ (c : Course (Completed P) (World P)). EndsWith (NoneDone cmp order) c)
-          (sym (wake_none cmp order n t w e)) h
+      by_least None e ih = grind (arith, wake_none)
       by_least (Some m) e ih =
           subst (λ (c : Course (Completed P) (World P)). EndsWith (NoneDone cmp order) c)
           (sym (wake_first cmp order n t w m e))
@@ -113,14 +106,14 @@ module _ {P : Type 0} (cmp : P → P → Ordering) (order : IsTotalOrder cmp) wh
           (settle_rests cmp order t v) ih))
 
   pub instant_rests : (w : World P) → EndsWith (NoneDone cmp order) (instant cmp w)
-  instant_rests w = grind (arith, common_steps, ends_and_then, settle_rests, wake_rests)
+  instant_rests w = grind (arith, ends_and_then, settle_rests, wake_rests)
 
   -- ---- ticks
 
   pub ticks_end : {n : ℕ} {w : World P} {course : Course (Completed P) (World P)} → Ticks cmp n w course
       → (cs : List (Completed P)) (v : World P) → course ≡ goes cs v
       → NoneDone cmp order w → (v.moment ≡ w.moment + n) × NoneDone cmp order v
-  ticks_end {w = w} no_tick cs v e h = grind (arith, common_steps)
+  ticks_end {w = w} no_tick cs v e h = grind arith
   ticks_end {w = w} (one_tick {n = n} {v = z} {u = u} {cs = ds} {rest = rest} d i t) cs v e h =
       grind (arith, common_steps, rest_is, instant_moment, instant_rests, (ticks_end t (rest_is cmp ds rest cs v e).0 v
       (rest_is cmp ds rest cs v e).1))
@@ -156,8 +149,7 @@ module _ {P : Type 0} (cmp : P → P → Ordering) (order : IsTotalOrder cmp) wh
       by_rest : IsQuiet cmp z.moment z → ds ≡ [] → u ≡ z → u.moment ≡ w.moment + 1 → {es : List (Completed P)}
           → ds ++ es ≡ cs → (es ≡ []) ⊎ ((t : ℕ) × (t ≤ u.moment + n) × NextIs cmp u (Some t))
           → (cs ≡ []) ⊎ ((t : ℕ) × (t ≤ w.moment + suc n) × NextIs cmp w (Some t))
-      by_rest q empty here at {es} join (inl no_more) =
-          inl (sym join ∙ ap (λ (xs : List (Completed P)). xs ++ es) empty ∙ no_more)
+      by_rest q empty here at {es} join (inl no_more) = grind arith
       by_rest q empty here at join (inr (t, below, next)) =
           inr (
             t,

@@ -3,53 +3,50 @@ use Rattle.link_simulation.proofs.Common.{arith, ◌≡◌, List, [], ◌∷◌,
 use Rattle.link_simulation.proofs.Common.{None, refl, sym, ap, ◌∙◌, subst, if◌then◌else◌, filter, find, list_any}
 use Rattle.link_simulation.proofs.Common.{Ordering, IsTotalOrder, without_first, fronts, least_pair, Message}
 use Rattle.link_simulation.proofs.Common.{pair_before, same_pair, Each, each_map, filter_stronger}
-use Rattle.std.proofs.lemmas.Grind.{common_steps}
-use Rattle.std.proofs.lemmas.Cmp.{alike_right}
 use Rattle.std.proofs.lemmas.Bool.{false_from_ne_true}
 use Rattle.link_simulation.proofs.Laws.Bytes.{each_filter, each_least}
-use Rattle.link_simulation.proofs.Simulation.PairOrder.{least_none, pairs_total, not_before_itself, not_before_back}
-use Rattle.fair_rates.proofs.Lists.Sorted.{is_lt_less}
+use Rattle.link_simulation.proofs.Simulation.PairOrder.{least_none, not_before_itself, not_before_back}
 
 -- ---- the first that passes, in the list and in what a filter leaves
 
 pub first_kept : {X : Type 0} (p q : X → Bool) (xs : List X) (x : X) → find q xs ≡ Some x → p x ≡ true
     → (find q (filter p xs) ≡ Some x) × (filter p (without_first q xs) ≡ without_first q (filter p xs))
 first_kept p q [] x e h = cc
-first_kept {X} p q (y ∷ ys) x e h = grind (arith, common_steps, (first_kept p q ys x))
+first_kept {X} p q (y ∷ ys) x e h = grind (arith, (first_kept p q ys x))
 
 pub first_dropped : {X : Type 0} (p q : X → Bool) (xs : List X) (x : X) → find q xs ≡ Some x → p x ≡ false
     → filter p (without_first q xs) ≡ filter p xs
 first_dropped p q [] x e h = refl
-first_dropped {X} p q (y ∷ ys) x e h = grind (arith, common_steps, (first_dropped p q ys x))
+first_dropped {X} p q (y ∷ ys) x e h = grind (arith, (first_dropped p q ys x))
 
 pub none_kept : {X : Type 0} (p q : X → Bool) (xs : List X) → find q xs ≡ None → find q (filter p xs) ≡ None
 none_kept p q [] e = refl
-none_kept {X} p q (y ∷ ys) e = grind (arith, common_steps, (none_kept p q ys))
+none_kept {X} p q (y ∷ ys) e = grind (arith, (none_kept p q ys))
 
 -- what passes is kept
 pub find_kept : {X : Type 0} (p q : X → Bool) (xs : List X) → ((x : X) → q x ≡ true → p x ≡ true)
     → find q (filter p xs) ≡ find q xs
 find_kept p q [] h = refl
-find_kept {X} p q (y ∷ ys) h = grind (arith, common_steps, (find_kept p q ys h))
+find_kept {X} p q (y ∷ ys) h = grind (arith, (find_kept p q ys h))
 
 pub any_kept : {X Y : Type 0} (f : X → Y) (p : X → Bool) (q : Y → Bool) (xs : List X)
     → ((x : X) → q (f x) ≡ true → p x ≡ true) → list_any q (map f (filter p xs)) ≡ list_any q (map f xs)
 any_kept f p q [] h = refl
-any_kept {X} {Y} f p q (y ∷ ys) h = grind (arith, common_steps, (any_kept f p q ys h))
+any_kept {X} {Y} f p q (y ∷ ys) h = grind (arith, (any_kept f p q ys h))
 
 -- ---- two filters
 
 pub filter_swap : {X : Type 0} (p q r : X → Bool) (xs : List X) → ((x : X) → p x ≡ true → q x ≡ r x)
     → filter q (filter p xs) ≡ filter p (filter r xs)
 filter_swap p q r [] h = refl
-filter_swap {X} p q r (y ∷ ys) h = grind (arith, common_steps, (filter_swap p q r ys h))
+filter_swap {X} p q r (y ∷ ys) h = grind (arith, (filter_swap p q r ys h))
 
 module _ {P : Type 0} (cmp : P → P → Ordering) (order : IsTotalOrder cmp) where
   -- ---- the order of pairs
 
   pub before_both : (k m n : Message P) → pair_before cmp k m ≡ true → pair_before cmp n m ≡ false
       → pair_before cmp k n ≡ true
-  before_both k m n e f = grind (arith, common_steps, alike_right, pairs_total, is_lt_less)
+  before_both k m n e f = grind arith
 
   not_below : (k m n : Message P) → pair_before cmp n m ≡ false → pair_before cmp k n ≡ false
       → pair_before cmp k m ≡ false
@@ -71,18 +68,8 @@ module _ {P : Type 0} (cmp : P → P → Ordering) (order : IsTotalOrder cmp) wh
       by_test : (b : Bool) → mine m ≡ b → fronts cmp (filter mine ms) ≡ filter mine (fronts cmp ms)
           → fronts cmp (cond b (m ∷ filter mine ms) (filter mine ms))
           ≡ filter mine (m ∷ filter (λ n. not (same_pair cmp m n)) (fronts cmp ms))
-      by_test true is ih =
-          ap (λ (ns : List (Message P)). m ∷ filter (λ n. not (same_pair cmp m n)) ns) ih
-          ∙ ap (λ (ns : List (Message P)). m ∷ ns)
-          (filter_swap mine (λ n. not (same_pair cmp m n)) (λ n. not (same_pair cmp m n)) (fronts cmp ms)
-          (λ n own. refl))
-          ∙ (rw is refl)
-      by_test false is ih =
-          ih
-          ∙ sym
-          (filter_stronger mine (λ n. not (same_pair cmp m n)) (fronts cmp ms)
-          (λ n own. by_pair n (same_pair cmp m n) refl is own))
-          ∙ (rw is refl)
+      by_test true is ih = grind (arith, filter_swap)
+      by_test false is ih = grind (arith, filter_stronger, by_pair)
 
   least_is : (m : Message P) (ms : List (Message P)) (o : Option (Message P)) → least_pair cmp ms ≡ o
       → least_pair cmp (m ∷ ms) ≡ Some (elim o [ None ↦ m | Some n ↦ if pair_before cmp n m then n else m ])
@@ -96,29 +83,13 @@ module _ {P : Type 0} (cmp : P → P → Ordering) (order : IsTotalOrder cmp) wh
     where
       by_test : (n : Message P) (b : Bool) → pair_before cmp n m ≡ b → Some (cond b n m) ≡ Some x
           → Each (λ k. pair_before cmp k n ≡ false) ms → Each (λ k. pair_before cmp k x ≡ false) (m ∷ ms)
-      by_test n true is s g =
-          let same : n ≡ x = cc in
-          subst (λ (z : Message P). Each (λ k. pair_before cmp k z ≡ false) (m ∷ ms)) same
-          (not_before_back cmp order n m is, g)
-      by_test n false is s g =
-          let same : m ≡ x = cc in
-          subst (λ (z : Message P). Each (λ k. pair_before cmp k z ≡ false) (m ∷ ms)) same (
-            not_before_itself cmp order m,
-            each_map (λ k. pair_before cmp k n ≡ false) (λ k. pair_before cmp k m ≡ false) ms
-                (λ k h. not_below k m n is h) g,
-          )
+      by_test n true is s g = grind (arith, not_before_back)
+      by_test n false is s g = grind (arith, not_before_itself, each_map, not_below)
 
       by_rest : (o : Option (Message P)) → least_pair cmp ms ≡ o
           → ((y : Message P) → least_pair cmp ms ≡ Some y → Each (λ k. pair_before cmp k y ≡ false) ms)
           → Each (λ k. pair_before cmp k x ≡ false) (m ∷ ms)
-      by_rest None is ih =
-          let s : Some m ≡ Some x = sym (least_is m ms None is) ∙ e in
-          let same : m ≡ x = cc in
-          let none : ms ≡ [] = least_none cmp order ms is in
-          subst (λ (z : Message P). Each (λ k. pair_before cmp k z ≡ false) (m ∷ ms)) same (
-            not_before_itself cmp order m,
-            subst (λ (ks : List (Message P)). Each (λ k. pair_before cmp k m ≡ false) ks) (sym none) tt,
-          )
+      by_rest None is ih = grind (arith, least_is, least_none, not_before_itself)
       by_rest (Some n) is ih = by_test n (pair_before cmp n m) refl (sym (least_is m ms (Some n) is) ∙ e) (ih n is)
 
   pub least_kept : (mine : Message P → Bool) (ms : List (Message P)) (x : Message P) → least_pair cmp ms ≡ Some x
@@ -136,14 +107,12 @@ module _ {P : Type 0} (cmp : P → P → Ordering) (order : IsTotalOrder cmp) wh
           → ((n : Message P) → least_pair cmp (filter mine ms) ≡ Some n → pair_before cmp n m ≡ false)
           → least_pair cmp (m ∷ filter mine ms) ≡ Some m
       first None is h = least_is m (filter mine ms) None is
-      first (Some n) is h =
-          least_is m (filter mine ms) (Some n) is ∙ (let k : pair_before cmp n m ≡ false = h n is in rw k refl)
+      first (Some n) is h = grind (arith, least_is)
 
       by_test : (n : Message P) (b : Bool) → pair_before cmp n m ≡ b → Some (cond b n m) ≡ Some x
           → (mine n ≡ true → least_pair cmp (filter mine ms) ≡ Some n)
           → Each (λ k. pair_before cmp k x ≡ false) ms → least_pair cmp (filter mine (m ∷ ms)) ≡ Some x
-      by_test n true is s ih below =
-          let same : n ≡ x = cc in keeps (mine m) n is (ih (ap mine same ∙ own)) ∙ ap Some same
+      by_test n true is s ih below = grind (arith, keeps)
       by_test n false is s ih below =
           let same : m ≡ x = cc in
           let here : mine m ≡ true = ap mine same ∙ own in
@@ -160,11 +129,6 @@ module _ {P : Type 0} (cmp : P → P → Ordering) (order : IsTotalOrder cmp) wh
       by_rest : (o : Option (Message P)) → least_pair cmp ms ≡ o
           → ((y : Message P) → least_pair cmp ms ≡ Some y → mine y ≡ true → least_pair cmp (filter mine ms) ≡ Some y)
           → Each (λ k. pair_before cmp k x ≡ false) (m ∷ ms) → least_pair cmp (filter mine (m ∷ ms)) ≡ Some x
-      by_rest None is ih below =
-          let s : Some m ≡ Some x = sym (least_is m ms None is) ∙ e in
-          let same : m ≡ x = cc in
-          let here : mine m ≡ true = ap mine same ∙ own in
-          let none : ms ≡ [] = least_none cmp order ms is in
-          rw (here, none) s
+      by_rest None is ih below = grind (arith, least_is, least_none)
       by_rest (Some n) is ih below =
           by_test n (pair_before cmp n m) refl (sym (least_is m ms (Some n) is) ∙ e) (λ h. ih n is h) below.1

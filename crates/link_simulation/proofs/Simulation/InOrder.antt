@@ -5,9 +5,7 @@ use Rattle.link_simulation.proofs.Common.{find, Ordering, Less, Equal, Greater, 
 use Rattle.link_simulation.proofs.Common.{fronts, least_pair, may_start, ready, Message, SameMessage, pair_before}
 use Rattle.link_simulation.proofs.Common.{same_pair, AreInPairOrder, Planned, SomeReadyAt, may_launch, next_of, Tallies}
 use Rattle.link_simulation.proofs.Common.{Each, each_map, each_filtered}
-use Rattle.std.proofs.lemmas.Grind.{common_steps}
 use Rattle.std.specs.Ordering.{ordering_then}
-use Rattle.std.proofs.lemmas.Cmp.{alike_right}
 use Rattle.std.proofs.lemmas.Bool.{not_from_false}
 use Rattle.link_simulation.proofs.Simulation.Queue.{pair_sym, find_passes}
 use Rattle.link_simulation.proofs.Simulation.AlikeMessages.{pair_itself, message_itself, pairs_alike}
@@ -17,9 +15,8 @@ use Rattle.link_simulation.proofs.Rule.Launch.{OptionsAlike, next_alike}
 use Rattle.link_simulation.proofs.Simulation.OnePair.{apart}
 use Rattle.link_simulation.proofs.Rule.Waking.{Picks, each_none}
 use Rattle.link_simulation.proofs.Laws.Bytes.{each_least}
-use Rattle.link_simulation.proofs.Simulation.PairOrder.{before_if_not, apart_if_before, pair_cmp, pairs_total}
+use Rattle.link_simulation.proofs.Simulation.PairOrder.{before_if_not, apart_if_before, pair_cmp}
 use Rattle.link_simulation.proofs.Simulation.FilteredFronts.{none_below}
-use Rattle.fair_rates.proofs.Lists.Sorted.{is_eq_equal}
 
 -- ---- lists
 
@@ -37,7 +34,7 @@ pub some_filtered : {X : Type 0} (Q : X → Type 0) (test : X → Bool) (xs : Li
     → Somewhere (λ x. Q x × (test x ≡ true)) xs → Somewhere Q (filter test xs)
 some_filtered Q test [] h = absurd h
 some_filtered Q test (x ∷ xs) (inl q) = rw q.1 (inl q.0)
-some_filtered {X} Q test (x ∷ xs) (inr h) = grind (arith, common_steps, (some_filtered Q test xs h))
+some_filtered {X} Q test (x ∷ xs) (inr h) = grind (arith, (some_filtered Q test xs h))
 
 -- what holds of each holds of the one that is found
 some_each : {X : Type 0} (Q R : X → Type 0) (xs : List X) → Each Q xs → Somewhere R xs → (x : X) × Q x × R x
@@ -47,7 +44,7 @@ some_each Q R (x ∷ xs) e (inr h) = some_each Q R xs e.1 h
 
 each_in_filter : {X : Type 0} (Q : X → Type 0) (test : X → Bool) (xs : List X) → Each Q xs → Each Q (filter test xs)
 each_in_filter Q test [] h = tt
-each_in_filter {X} Q test (x ∷ xs) h = grind (arith, common_steps, (each_in_filter Q test xs h.1))
+each_in_filter {X} Q test (x ∷ xs) h = grind (arith, (each_in_filter Q test xs))
 
 module _ {P : Type 0} (cmp : P → P → Ordering) (order : IsTotalOrder cmp) where
   -- ---- the order of pairs
@@ -62,7 +59,7 @@ module _ {P : Type 0} (cmp : P → P → Ordering) (order : IsTotalOrder cmp) wh
 
   pub before_alike : (m n k l : Message P) → SameMessage cmp m n → SameMessage cmp k l
       → pair_before cmp m k ≡ pair_before cmp n l
-  before_alike m n k l f g = grind (arith, common_steps, is_eq_equal, same_is, pairs_total, alike_right)
+  before_alike m n k l f g = grind arith
 
   -- ---- the least pair
 
@@ -77,7 +74,7 @@ module _ {P : Type 0} (cmp : P → P → Ordering) (order : IsTotalOrder cmp) wh
 
   sorted_filter : (test : Message P → Bool) (ms : List (Message P)) → IsSorted ms → IsSorted (filter test ms)
   sorted_filter test [] h = tt
-  sorted_filter test (m ∷ ms) h = grind (arith, common_steps, each_in_filter, (sorted_filter test ms h.1))
+  sorted_filter test (m ∷ ms) h = grind (arith, each_in_filter, (sorted_filter test ms))
 
   each_front : (Q : Message P → Type 0) (ms : List (Message P)) → Each Q ms → Each Q (fronts cmp ms)
   each_front Q [] h = tt
@@ -237,8 +234,8 @@ module _ {P : Type 0} (cmp : P → P → Ordering) (order : IsTotalOrder cmp) wh
   pub picks_ready : (t : ℕ) (p : Planned P) (w : World P) → Tallies cmp t p w
       → Picks cmp order (ready cmp t w) (filter (may_launch cmp t p) (fronts cmp p.waiting))
   picks_ready t p w same =
-      grind (arith, common_steps, picks_from, sorted_filter, fronts_sorted, each_map, in_launching, first_found,
-      each_filtered, fronts_first, in_ready)
+      grind (arith, picks_from, sorted_filter, fronts_sorted, each_map, in_launching, first_found, each_filtered,
+      fronts_first, in_ready)
 
   -- where nothing is ready in the world, nothing is in the planned world
   pub none_ready_back : (t : ℕ) (p : Planned P) (w : World P) → Tallies cmp t p w → ready cmp t w ≡ []

@@ -1,14 +1,13 @@
 -- Settling makes no pair ready.
-use Rattle.std.proofs.lemmas.Grind.{common_steps}
 use Rattle.link_simulation.proofs.Common.{◌≡◌, ℕ, zero, suc, ◌+◌, ◌≤◌, List, [], ◌∷◌, ◌++◌, map, length, Bool, true}
 use Rattle.link_simulation.proofs.Common.{false, cond, not, Option, Some, None, refl, sym, ap, ◌∙◌, subst, arith}
 use Rattle.link_simulation.proofs.Common.{length-append, ◌⊎◌, inl, inr, nat_le, ⊤, ◌&&◌, ◌||◌, filter, find, list_any}
-use Rattle.link_simulation.proofs.Common.{Ordering, IsTotalOrder, or_parts, or_left, or_right, map-append}
-use Rattle.link_simulation.proofs.Common.{list_any-append, without_first, Completed, Course, Flight, World, flows}
-use Rattle.link_simulation.proofs.Common.{fronts, goes, is_done, is_in_order, last_moment, may_start, meets, ready}
-use Rattle.link_simulation.proofs.Common.{settle, EndsWith, is_late, completed, flight_of, Message, OneForEachPair}
-use Rattle.link_simulation.proofs.Common.{same_pair, FlowIdsUsedUp, MomentTooLate, leaving, staying, out_of_waiting}
-use Rattle.link_simulation.proofs.Common.{joined, arrived, launch_then, finish_within, each_map}
+use Rattle.link_simulation.proofs.Common.{Ordering, IsTotalOrder, or_left, or_right, map-append, list_any-append}
+use Rattle.link_simulation.proofs.Common.{without_first, Completed, Course, Flight, World, flows, fronts, goes, is_done}
+use Rattle.link_simulation.proofs.Common.{is_in_order, last_moment, may_start, meets, ready, settle, EndsWith, is_late}
+use Rattle.link_simulation.proofs.Common.{completed, flight_of, Message, OneForEachPair, same_pair, FlowIdsUsedUp}
+use Rattle.link_simulation.proofs.Common.{MomentTooLate, leaving, staying, out_of_waiting, joined, arrived, launch_then}
+use Rattle.link_simulation.proofs.Common.{finish_within, each_map}
 use Rattle.link_simulation.proofs.Simulation.Queue.{any_like, find_passes, pair_sym, pair_like}
 use Rattle.link_simulation.proofs.Rule.BeforeNext.{filter_none, IsFront, fronts_first, first_found}
 use Rattle.link_simulation.proofs.Rule.Launch.{head_found, waits_without}
@@ -22,7 +21,7 @@ use Rattle.link_simulation.proofs.Simulation.SettlingEnds.{ends_preceded, ends_c
 any_split : {X : Type 0} (p test : X → Bool) (xs : List X) → list_any p (filter test xs) ≡ false
     → list_any p (filter (λ x. not (test x)) xs) ≡ list_any p xs
 any_split p test [] e = refl
-any_split {X} p test (x ∷ xs) e = grind (arith, common_steps, or_parts, (any_split p test xs))
+any_split {X} p test (x ∷ xs) e = grind (arith, (any_split p test xs))
 
 any_map : {X Y : Type 0} (p : Y → Bool) (f : X → Y) (xs : List X) → list_any p (map f xs) ≡ list_any (λ x. p (f x)) xs
 any_map p f [] = refl
@@ -38,17 +37,16 @@ module _ {P : Type 0} (cmp : P → P → Ordering) (order : IsTotalOrder cmp) (y
       → find (same_pair cmp y) v.waiting ≡ find (same_pair cmp y) w.waiting → IsRested cmp order y t w
       → IsRested cmp order y t v
   unfolding IsRested
-  rested_other z t w v off only same rested x found =
-      grind (arith, common_steps, find_passes, pair_sym, pair_like, may_others)
+  rested_other z t w v off only same rested x found = grind (arith, find_passes, pair_sym, pair_like, may_others)
 
   pub find_without : (x : Message P) (ws : List (Message P)) → same_pair cmp y x ≡ false
       → find (same_pair cmp y) (without_first (same_pair cmp x) ws) ≡ find (same_pair cmp y) ws
-  find_without x ws off = grind (arith, common_steps, head_found, waits_without)
+  find_without x ws off = grind (arith, head_found, waits_without)
 
   any_end : (fs : List (Flight P)) (x : Message P)
       → list_any (same_pair cmp y) (map (λ (f : Flight P). f.message) (fs ++ flight_of x ∷ []))
       ≡ (list_any (same_pair cmp y) (map (λ (f : Flight P). f.message) fs) || (same_pair cmp y x || false))
-  any_end fs x = grind (arith, common_steps, map-append, list_any-append)
+  any_end fs x = grind (arith, map-append, list_any-append)
 
   WhenHeld : ℕ → ℕ → Type 0
   WhenHeld n t =
@@ -61,7 +59,7 @@ module _ {P : Type 0} (cmp : P → P → Ordering) (order : IsTotalOrder cmp) (y
       → (same_pair cmp y z ≡ true) ⊎ ((same_pair cmp y z ≡ false) × IsHeld t fs w)
       → EndsWith (IsRested cmp order y t) (launch_then cmp (finish_within cmp n t) t fs w o)
   unfolding launch_then WhenHeld IsRested
-  launch_rests n t fs z w None ih fuel is (inl own) = grind (arith, common_steps, find_like)
+  launch_rests n t fs z w None ih fuel is (inl own) = grind arith
   launch_rests n t fs z w None ih fuel is (inr off) = ih fs w fuel off.1
   launch_rests n t fs z w (Some x) ih fuel is held = by_may (may_start cmp t w x) refl held
     where
@@ -89,9 +87,7 @@ module _ {P : Type 0} (cmp : P → P → Ordering) (order : IsTotalOrder cmp) (y
           (any_end fs x
           ∙ or_left (list_any (same_pair cmp y) (map (λ (f : Flight P). f.message) fs)) (same_pair cmp y x || false)
           among)
-      held_taken (inr (off, inr rested)) =
-          inr (rested_other x t w (out_of_waiting cmp w x) (y_x ∙ off)
-          (only_taken cmp order x w x (pair_itself cmp order x)) (find_without x w.waiting (y_x ∙ off)) rested)
+      held_taken (inr (off, inr rested)) = grind (arith, rested_other, y_x, only_taken, pair_itself, find_without)
 
       held_joined : (same_pair cmp y z ≡ true) ⊎ ((same_pair cmp y z ≡ false) × IsHeld t fs w)
           → IsHeld t fs (joined cmp w x)
@@ -113,9 +109,7 @@ module _ {P : Type 0} (cmp : P → P → Ordering) (order : IsTotalOrder cmp) (y
 
       held_still : may_start cmp t w x ≡ false
           → (same_pair cmp y z ≡ true) ⊎ ((same_pair cmp y z ≡ false) × IsHeld t fs w) → IsHeld t fs w
-      held_still e (inl own) =
-          inr (λ k found. let same : Some x ≡ Some k = sym is ∙ find_like cmp order y z w.waiting own
-          ∙ found in let it : x ≡ k = cc in subst (λ (m : Message P). may_start cmp t w m ≡ false) it e)
+      held_still e (inl own) = grind (arith, find_like)
       held_still e (inr off) = off.1
 
       by_may : (b : Bool) → may_start cmp t w x ≡ b
@@ -212,5 +206,4 @@ module _ {P : Type 0} (cmp : P → P → Ordering) (order : IsTotalOrder cmp) wh
   pub settle_keeps_rest : (t : ℕ) (w : World P) → OneForEachPair cmp (flows w) → ready cmp t w ≡ []
       → length (leaving cmp w) + length (staying cmp w).waiting ≤ length w.sending + length w.waiting
       → EndsWith (λ v. ready cmp t v ≡ []) (settle cmp t w)
-  settle_keeps_rest t w one none fuel =
-      grind (arith, common_steps, none_then, settle_is_finish, finish_rests, held_first)
+  settle_keeps_rest t w one none fuel = grind (arith, none_then, settle_is_finish, finish_rests, held_first)

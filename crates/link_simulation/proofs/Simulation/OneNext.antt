@@ -1,5 +1,4 @@
 -- There is at most one next event.
-use Rattle.std.proofs.lemmas.Grind.{common_steps}
 use Rattle.link_simulation.proofs.Common.{◌≡◌, ℕ, zero, suc, ◌+◌, ◌-◌, ◌*◌, ◌<◌, ◌≤◌, List, [], ◌∷◌, Option, Some, None}
 use Rattle.link_simulation.proofs.Common.{refl, ap, subst, arith, ◌⊎◌, inl, inr, Ordering, IsTotalOrder, cases_lt}
 use Rattle.link_simulation.proofs.Common.{mul-pos, Amount, billion, reduced, Flight, IsQuiet, World, last_moment, Parts}
@@ -22,13 +21,13 @@ module _ {P : Type 0} (cmp : P → P → Ordering) (order : IsTotalOrder cmp) wh
 
   pub drain_each_positive : (per : ℕ) (rates : Parts) (n : ℕ) (fs : List (Flight P)) → 0 < per → ArePositive fs
       → ArePositive (drain_each per rates n fs)
-  drain_each_positive per rates n [] h pos = grind (arith, common_steps)
+  drain_each_positive per rates n [] h pos = grind arith
   drain_each_positive per [] n (f ∷ fs) h pos = pos
   drain_each_positive per (r ∷ rs) n (f ∷ fs) h pos =
       (drained_positive per r n f.left h pos.0, drain_each_positive per rs n fs h pos.1)
 
   pub drains_positive : (w v : World P) → Drains cmp w v → ArePositive w.sending → ArePositive v.sending
-  drains_positive w v d pos = grind (arith, common_steps, drain_each_positive)
+  drains_positive w v d pos = grind (arith, drain_each_positive)
 
   -- ---- passing is one way
 
@@ -71,12 +70,7 @@ module _ {P : Type 0} (cmp : P → P → Ordering) (order : IsTotalOrder cmp) wh
       let on : u.moment ≡ v.moment + 1 = next_moment cmp order v u d in
       absurd (not_passed w n (last_moment - w.moment) v u x pos q d event p (omega arith))
   next_is_one w a b pos (comes_next {n = n} {v = v} {u = u} q d event h)
-      (comes_next {n = k} {v = y} {u = x} p e other j) =
-      let at : v.moment ≡ w.moment + n = passes_end_at cmp order q in
-      let on : u.moment ≡ v.moment + 1 = next_moment cmp order v u d in
-      let at_other : y.moment ≡ w.moment + k = passes_end_at cmp order p in
-      let on_other : x.moment ≡ y.moment + 1 = next_moment cmp order y x e in
-      by_order (cases_lt n k) (cases_lt k n) at on at_other on_other
+      (comes_next {n = k} {v = y} {u = x} p e other j) = grind (arith, passes_end_at, next_moment, by_order, cases_lt)
     where
       by_order : (n < k) ⊎ (k ≤ n) → (k < n) ⊎ (n ≤ k) → v.moment ≡ w.moment + n → u.moment ≡ v.moment + 1
           → y.moment ≡ w.moment + k → x.moment ≡ y.moment + 1 → Some u.moment ≡ Some x.moment

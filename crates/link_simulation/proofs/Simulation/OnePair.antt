@@ -1,5 +1,4 @@
 -- Settling what one pair starts touches that pair alone, and leaves it unable to start again at that moment.
-use Rattle.std.proofs.lemmas.Grind.{common_steps}
 use Rattle.link_simulation.proofs.Common.{◌≡◌, ℕ, zero, suc, ◌+◌, ◌≤◌, List, [], ◌∷◌, ◌++◌, length, Bool, true, false}
 use Rattle.link_simulation.proofs.Common.{cond, not, Option, Some, None, refl, sym, ap, ◌∙◌, subst, arith}
 use Rattle.link_simulation.proofs.Common.{length-append, nat_le, ◌&&◌, filter, find, list_any, Ordering, IsTotalOrder}
@@ -8,8 +7,8 @@ use Rattle.link_simulation.proofs.Common.{flows, fronts, goes, is_done, last_mom
 use Rattle.link_simulation.proofs.Common.{is_late, completed, flight_of, Message, same_pair, FlowIdsUsedUp}
 use Rattle.link_simulation.proofs.Common.{MomentTooLate, out_of_waiting, joined, arrived, launch_then, finish_within}
 use Rattle.link_simulation.proofs.Common.{Each, each_map, each_joined, filter_swap, filter_stronger}
-use Rattle.link_simulation.proofs.Common.{length-without_first, and_parts, not-true, or_left, or_right, without_first}
-use Rattle.link_simulation.proofs.Simulation.Queue.{both_alike, pair_like, pair_sym, peer_like, find_passes}
+use Rattle.link_simulation.proofs.Common.{length-without_first, or_left, or_right, without_first}
+use Rattle.link_simulation.proofs.Simulation.Queue.{pair_like, pair_sym, find_passes}
 use Rattle.link_simulation.proofs.Rule.BeforeNext.{IsFront, fronts_first, first_found}
 use Rattle.link_simulation.proofs.Simulation.SettlingEnds.{ends_preceded, ends_cond, length_without, find_like}
 use Rattle.std.proofs.lemmas.Bool.{not-false}
@@ -20,12 +19,12 @@ use Rattle.std.proofs.lemmas.Bool.{not-false}
 filter_only : {X : Type 0} (f g : X → Bool) (xs : List X) → Each (λ x. g x ≡ false → f x ≡ false) xs
     → filter f xs ≡ filter f (filter g xs)
 filter_only f g [] h = refl
-filter_only {X} f g (x ∷ xs) h = grind (arith, common_steps, (filter_only f g xs h.1))
+filter_only {X} f g (x ∷ xs) h = grind (arith, (filter_only f g xs))
 
 filter_where : {X : Type 0} (f h g : X → Bool) (xs : List X) → ((x : X) → g x ≡ true → f x ≡ h x)
     → filter f (filter g xs) ≡ filter h (filter g xs)
 filter_where f h g [] same = refl
-filter_where {X} f h g (x ∷ xs) same = grind (arith, common_steps, (filter_where f h g xs same))
+filter_where {X} f h g (x ∷ xs) same = grind (arith, (filter_where f h g xs same))
 
 pub no_nil : {X : Type 0} (xs : List X) (x : X) → xs ++ x ∷ [] ≡ [] → ⊥
 no_nil [] x e = cc
@@ -52,7 +51,7 @@ module _ {P : Type 0} (cmp : P → P → Ordering) (order : IsTotalOrder cmp) (y
   only_itself w = record { last = λ p q e. refl; busy = λ m e. refl; others = refl; fewer = omega arith }
 
   pub only_both : (w v u : World P) → OnlyPair w v → OnlyPair v u → OnlyPair w u
-  only_both w v u f g = grind (arith, common_steps)
+  only_both w v u f g = grind arith
 
   fronts_without : (x : Message P) (ws : List (Message P)) → same_pair cmp y x ≡ true
       → filter apart (fronts cmp (without_first (same_pair cmp x) ws)) ≡ filter apart (fronts cmp ws)
@@ -66,32 +65,20 @@ module _ {P : Type 0} (cmp : P → P → Ordering) (order : IsTotalOrder cmp) (y
           → filter apart (fronts cmp (without_first (same_pair cmp x) ws)) ≡ filter apart (fronts cmp ws)
           → filter apart (fronts cmp (cond b ws (z ∷ without_first (same_pair cmp x) ws)))
           ≡ filter apart (z ∷ filter (λ n. not (same_pair cmp z n)) (fronts cmp ws))
-      by_test true is ih =
-          let own : same_pair cmp y z ≡ true = sym same ∙ is in
-          rw own
-          (sym
-          (filter_stronger apart (λ n. not (same_pair cmp z n)) (fronts cmp ws)
-          (λ n k. ap not (pair_like cmp order y z n own) ∙ k)))
-      by_test false is ih =
-          let own : same_pair cmp y z ≡ false = sym same ∙ is in
-          rw own
-          (ap (λ (q : List (Message P)). z ∷ q)
-          (filter_swap apart (λ n. not (same_pair cmp z n)) (fronts cmp (without_first (same_pair cmp x) ws))
-          ∙ ap (filter (λ n. not (same_pair cmp z n))) ih
-          ∙ filter_swap (λ n. not (same_pair cmp z n)) apart (fronts cmp ws)))
+      by_test true is ih = grind (arith, same, filter_stronger, apart, pair_like)
+      by_test false is ih = grind (arith, same, filter_swap, apart)
 
   -- ---- steps
 
   pub only_arrived : (t : ℕ) (w : World P) (m : Message P) → same_pair cmp y m ≡ true → OnlyPair w (arrived cmp t w m)
-  only_arrived t w m e = grind (arith, common_steps, and_parts, both_alike, peer_like)
+  only_arrived t w m e = grind arith
 
   pub only_taken : (w : World P) (x : Message P) → same_pair cmp y x ≡ true → OnlyPair w (out_of_waiting cmp w x)
-  only_taken w x e = grind (arith, common_steps, fronts_without, length-without_first)
+  only_taken w x e = grind (arith, fronts_without, length-without_first)
 
   pub only_joined : (w : World P) (x : Message P) → same_pair cmp y x ≡ true → OnlyPair w (joined cmp w x)
   only_joined w x e =
-      grind (arith, common_steps, map-append, list_any-append, pair_sym, pair_like, fronts_without,
-      length-without_first)
+      grind (arith, map-append, list_any-append, pair_sym, pair_like, fronts_without, length-without_first)
 
   -- ---- the pair may not start again
 
@@ -101,7 +88,7 @@ module _ {P : Type 0} (cmp : P → P → Ordering) (order : IsTotalOrder cmp) (y
   pub rested_joined : (t : ℕ) (w : World P) (x : Message P) → same_pair cmp y x ≡ true → IsRested t (joined cmp w x)
   unfolding IsRested
   rested_joined t w x e z found =
-      grind (arith, common_steps, find_passes, joined, pair_like, map-append, list_any-append, or_right, or_left)
+      grind (arith, find_passes, joined, pair_like, map-append, list_any-append, or_right, or_left)
 
   abbrev pub IsAfter : ℕ → World P → World P → Type 0
   IsAfter t w v = OnlyPair w v × IsRested t v
@@ -178,7 +165,7 @@ module _ {P : Type 0} (cmp : P → P → Ordering) (order : IsTotalOrder cmp) (y
 
   pub may_others : (t : ℕ) (w v : World P) (m : Message P) → OnlyPair w v → apart m ≡ true
       → may_start cmp t v m ≡ may_start cmp t w m
-  may_others t w v m only off = grind (arith, common_steps, not-true)
+  may_others t w v m only off = grind arith
 
   -- those that were ready still are, but for the pair of y
   pub ready_after : (t : ℕ) (w v : World P) → IsAfter t w v → ready cmp t v ≡ filter apart (ready cmp t w)
@@ -194,8 +181,4 @@ module _ {P : Type 0} (cmp : P → P → Ordering) (order : IsTotalOrder cmp) (y
     where
       own_rested : (m : Message P) (rest : List (Message P)) → filter (same_pair cmp m) v.waiting ≡ m ∷ rest
           → apart m ≡ false → may_start cmp t v m ≡ false
-      own_rested m rest front own =
-          let pair : same_pair cmp y m ≡ true = not-false (same_pair cmp y m) own in
-          after.1 m
-          (sym (find_like cmp order y m v.waiting pair)
-          ∙ first_found cmp order (same_pair cmp m) m rest v.waiting front)
+      own_rested m rest front own = grind (arith, not-false, find_like, first_found)

@@ -1,5 +1,4 @@
 -- A call has one course.
-use Rattle.std.proofs.lemmas.Grind.{common_steps}
 use Rattle.link_simulation.proofs.Common.{◌≡◌, ℕ, suc, List, [], refl, sym, ap, ◌∙◌, subst, arith, ◌⊎◌, inl, inr}
 use Rattle.link_simulation.proofs.Common.{Ordering, IsTotalOrder, Completed, Course, World, goes, instant, meets}
 use Rattle.link_simulation.proofs.Common.{preceded, Call, Runs, Drains, IsSound, Ticks, no_tick, one_tick, tick_faults}
@@ -83,4 +82,4 @@ module _ {P : Type 0} (cmp : P → P → Ordering) (order : IsTotalOrder cmp) wh
   -- a call has one course
   pub runs_are_one : (w : World P) (call : Call P) (now : ℕ) (c d : Course (Completed P) (World P)) → IsSound cmp w
       → Runs cmp w call now c → Runs cmp w call now d → c ≡ d
-  runs_are_one w call now c d sound r s = grind (arith, common_steps, ticks_are_one)
+  runs_are_one w call now c d sound r s = grind (arith, ticks_are_one)

@@ -1,15 +1,13 @@
 -- What happens to one pair leaves the other pairs as they are.
-use Rattle.link_simulation.proofs.Common.{arith, ◌≡◌, ℕ, zero, suc, ◌+◌, List, [], ◌∷◌, ◌++◌, map, length, Bool, true}
-use Rattle.link_simulation.proofs.Common.{false, cond, not, Option, Some, None, refl, sym, ap, ◌∙◌, subst, nat_le, ⊤}
-use Rattle.link_simulation.proofs.Common.{◌||◌, ◌==◌, filter, find, list_any, Ordering, IsTotalOrder, list_any-append}
+use Rattle.link_simulation.proofs.Common.{arith, ◌≡◌, ℕ, zero, suc, ◌+◌, List, [], ◌∷◌, ◌++◌, map, Bool, true, false}
+use Rattle.link_simulation.proofs.Common.{cond, not, Option, Some, None, refl, sym, ap, ◌∙◌, subst, nat_le, ⊤, ◌||◌}
+use Rattle.link_simulation.proofs.Common.{◌==◌, filter, find, list_any, Ordering, IsTotalOrder, list_any-append}
 use Rattle.link_simulation.proofs.Common.{filter-append, or_right, or_left, not-true, map-append, without_first}
 use Rattle.link_simulation.proofs.Common.{Completed, Course, EndsWith, Flight, World, complete, first_waiting, flows}
 use Rattle.link_simulation.proofs.Common.{fronts, goes, is_done, is_idle, last_moment, may_start, meets, raised, ready}
-use Rattle.link_simulation.proofs.Common.{settle, settle_within, start, start_next, turn, out_of_flight, is_late}
-use Rattle.link_simulation.proofs.Common.{completed, arrival, flight_of, Message, same_pair, Caps, is_unlimited}
-use Rattle.link_simulation.proofs.Common.{FlowIdsUsedUp, MomentTooLate, filter_swap, filter_stronger, Each}
-use Rattle.link_simulation.proofs.Common.{each_filtered}
-use Rattle.std.proofs.lemmas.Grind.{common_steps}
+use Rattle.link_simulation.proofs.Common.{settle_within, start, start_next, turn, out_of_flight, arrival, flight_of}
+use Rattle.link_simulation.proofs.Common.{Message, same_pair, Caps, is_unlimited, FlowIdsUsedUp, filter_swap}
+use Rattle.link_simulation.proofs.Common.{filter_stronger, Each, each_filtered, common_steps}
 use Rattle.std.proofs.lemmas.Map.Views.{any-filter_same}
 use Rattle.std.proofs.lemmas.Bool.{not-false}
 use Rattle.std.proofs.lemmas.List.{append-nil}
@@ -24,7 +22,7 @@ use Rattle.link_simulation.proofs.Simulation.SettlingEnds.{find_like, ends_prece
 pub filter_skips : {X : Type 0} (keep test : X → Bool) (f : X) (xs : List X) → find test xs ≡ Some f → keep f ≡ false
     → filter keep (without_first test xs) ≡ filter keep xs
 filter_skips keep test f [] e h = refl
-filter_skips {X} keep test f (x ∷ xs) e h = grind (arith, common_steps, (filter_skips keep test f xs))
+filter_skips {X} keep test f (x ∷ xs) e h = grind (arith, (filter_skips keep test f xs))
 
 pub filter_alike : {X : Type 0} (p q : X → Bool) (xs : List X) → Each (λ x. p x ≡ q x) xs → filter p xs ≡ filter q xs
 filter_alike p q [] same = refl
@@ -42,23 +40,23 @@ each_more P Q more (x ∷ xs) h = (more x h.0, each_more P Q more xs h.1)
 pub find_kept : {X : Type 0} (test keep : X → Bool) (xs : List X) → ((x : X) → test x ≡ true → keep x ≡ true)
     → find test (filter keep xs) ≡ find test xs
 find_kept test keep [] h = refl
-find_kept {X} test keep (x ∷ xs) h = grind (arith, common_steps, (find_kept test keep xs h))
+find_kept {X} test keep (x ∷ xs) h = grind (arith, (find_kept test keep xs h))
 
 pub filter_kept_each : {X : Type 0} (test keep : X → Bool) (xs : List X) → Each (λ x. test x ≡ true → keep x ≡ true) xs
     → filter test (filter keep xs) ≡ filter test xs
 filter_kept_each test keep [] h = refl
-filter_kept_each {X} test keep (x ∷ xs) h = grind (arith, common_steps, (filter_kept_each test keep xs h.1))
+filter_kept_each {X} test keep (x ∷ xs) h = grind (arith, (filter_kept_each test keep xs))
 
 -- what is found where nothing passes both tests does not pass the other
 pub found_fails : {X : Type 0} (test keep : X → Bool) (f : X) (xs : List X) → find test xs ≡ Some f
     → list_any test (filter keep xs) ≡ false → keep f ≡ false
 found_fails test keep f [] e h = cc
-found_fails {X} test keep f (x ∷ xs) e h = grind (arith, common_steps, (found_fails test keep f xs))
+found_fails {X} test keep f (x ∷ xs) e h = grind (arith, (found_fails test keep f xs))
 
 pub any_none : {X : Type 0} (test keep : X → Bool) (xs : List X) → list_any test xs ≡ false
     → list_any test (filter keep xs) ≡ false
 any_none test keep [] h = refl
-any_none {X} test keep (x ∷ xs) h = grind (arith, common_steps, (any_none test keep xs))
+any_none {X} test keep (x ∷ xs) h = grind (arith, (any_none test keep xs))
 
 pub any_map : {X Y : Type 0} (g : X → Y) (p : Y → Bool) (xs : List X)
     → list_any p (map g xs) ≡ list_any (λ x. p (g x)) xs
@@ -71,7 +69,7 @@ any_alike p q (x ∷ xs) same = rw (same x, any_alike p q xs same) refl
 
 pub any_from_find : {X : Type 0} (p : X → Bool) (xs : List X) → find p xs ≡ None → list_any p xs ≡ false
 any_from_find p [] h = refl
-any_from_find {X} p (x ∷ xs) h = grind (arith, common_steps, (any_from_find p xs))
+any_from_find {X} p (x ∷ xs) h = grind (arith, (any_from_find p xs))
 
 module _ {P : Type 0} (cmp : P → P → Ordering) where
   -- the second world is the first, but for the pair of a message
@@ -100,20 +98,20 @@ module _ {P : Type 0} (cmp : P → P → Ordering) (order : IsTotalOrder cmp) wh
       record { caps = refl; limited = refl; moment = refl; arrivals = λ k h. refl; waiting = refl; sending = refl }
 
   pub but_for_twice : (m : Message P) (w v u : World P) → IsButFor cmp m w v → IsButFor cmp m v u → IsButFor cmp m w u
-  but_for_twice m w v u a b = grind (arith, common_steps)
+  but_for_twice m w v u a b = grind arith
 
   pub not_alike : (m n : Message P) → same_pair cmp m n ≡ true → (xs : List (Message P))
       → filter (λ k. not (same_pair cmp n k)) xs ≡ filter (λ k. not (same_pair cmp m k)) xs
-  not_alike m n e xs = grind (arith, common_steps, filter_alike, each_of, pair_like)
+  not_alike m n e xs = grind arith
 
   not_alike_flights : (m n : Message P) → same_pair cmp m n ≡ true → (fs : List (Flight P))
       → filter (λ (f : Flight P). not (same_pair cmp n f.message)) fs
       ≡ filter (λ (f : Flight P). not (same_pair cmp m f.message)) fs
-  not_alike_flights m n e fs = grind (arith, common_steps, filter_alike, each_of, pair_like)
+  not_alike_flights m n e fs = grind arith
 
   pub but_for_like : (m n : Message P) (w v : World P) → same_pair cmp m n ≡ true → IsButFor cmp n w v
       → IsButFor cmp m w v
-  but_for_like m n w v e a = grind (arith, common_steps, pair_like, not_alike, not_alike_flights)
+  but_for_like m n w v e a = grind arith
 
   any_flows : (p : Message P → Bool) (w : World P)
       → list_any p (flows w) ≡ list_any (λ (f : Flight P). p f.message) w.sending
@@ -134,17 +132,17 @@ module _ {P : Type 0} (cmp : P → P → Ordering) (order : IsTotalOrder cmp) wh
   -- whether another pair's message may start does not change
   pub may_start_alike : (t : ℕ) (m x : Message P) (w v : World P) → IsButFor cmp m w v → same_pair cmp m x ≡ false
       → may_start cmp t v x ≡ may_start cmp t w x
-  may_start_alike t m x w v a h = grind (arith, common_steps, idle_alike)
+  may_start_alike t m x w v a h = grind (arith, idle_alike)
 
   pub first_alike : (m k : Message P) (w v : World P) → IsButFor cmp m w v → same_pair cmp m k ≡ false
       → first_waiting cmp v k ≡ first_waiting cmp w k
-  first_alike m k w v a h = grind (arith, common_steps, find_kept, pair_other)
+  first_alike m k w v a h = grind (arith, find_kept, pair_other)
 
   -- nothing that another pair sees changes
   pub others_see_nothing : (m k : Message P) (w v : World P) → IsButFor cmp m w v → same_pair cmp m k ≡ false
       → IsUnchangedFor cmp k w v
   others_see_nothing m k w v a h =
-      grind (arith, common_steps, may_start_alike, pair_sym, pair_like, filter_stronger, pair_other, first_alike)
+      grind (arith, may_start_alike, pair_sym, pair_like, filter_stronger, pair_other, first_alike)
 
   -- ---- a pair that may not start
 
@@ -163,30 +161,14 @@ module _ {P : Type 0} (cmp : P → P → Ordering) (order : IsTotalOrder cmp) wh
 
   started_but_for : (w : World P) (m : Message P) → IsButFor cmp m w (started w m)
   unfolding started
-  started_but_for w m = record {
-    caps = refl;
-    limited = refl;
-    moment = refl;
-    arrivals = λ k h. refl;
-    waiting = filter_without (same_pair cmp m) w.waiting;
-    sending =
-        filter-append (λ (f : Flight P). not (same_pair cmp m f.message)) w.sending (flight_of m ∷ [])
-        ∙ ap (λ (b : Bool). filter (λ (f : Flight P). not (same_pair cmp m f.message)) w.sending
-        ++ cond (not b) (flight_of m ∷ []) []) (pair_itself cmp order m)
-        ∙ append-nil (filter (λ (f : Flight P). not (same_pair cmp m f.message)) w.sending);
-  }
+  started_but_for w m =
+      grind (arith, filter-append, append-nil, (filter_without (same_pair cmp m) w.waiting), (pair_itself cmp order m))
 
   started_rests : (t : ℕ) (w : World P) (m : Message P) → MayNotStart cmp t m (started w m)
   unfolding started
   started_rests t w m x e =
-      let same : same_pair cmp m x ≡ true =
-      find_passes (same_pair cmp m) x (without_first (same_pair cmp m) w.waiting) e in
-      let busy : list_any (same_pair cmp x) (map (λ (f : Flight P). f.message) (w.sending ++ flight_of m ∷ [])) ≡ true =
-      ap (list_any (same_pair cmp x)) (map-append (λ (f : Flight P). f.message) w.sending (flight_of m ∷ []))
-      ∙ list_any-append (same_pair cmp x) (map (λ (f : Flight P). f.message) w.sending) (m ∷ [])
-      ∙ or_right (list_any (same_pair cmp x) (map (λ (f : Flight P). f.message) w.sending)) (same_pair cmp x m || false)
-      (or_left (same_pair cmp x m) false (pair_sym cmp order x m ∙ same)) in
-      rw busy refl
+      grind (arith, map-append, list_any-append, or_right, (or_left (same_pair cmp x m) false (pair_sym cmp order x m ∙
+      (find_passes (same_pair cmp m) x (without_first (same_pair cmp m) w.waiting) e))))
 
   -- a start changes its pair alone, which then sends
   pub start_leaves : (t : ℕ) (w : World P) (m : Message P) → EndsWith (Leaves t m w) (start cmp w m)
@@ -197,7 +179,7 @@ module _ {P : Type 0} (cmp : P → P → Ordering) (order : IsTotalOrder cmp) wh
 
   pub leaves_like : (t : ℕ) (m x : Message P) (w v u : World P) → same_pair cmp m x ≡ true → IsButFor cmp m w v
       → Leaves t x v u → Leaves t m w u
-  leaves_like t m x w v u e a l = grind (arith, common_steps, but_for_twice, but_for_like, find_like)
+  leaves_like t m x w v u e a l = grind (arith, but_for_twice, but_for_like, find_like)
 
   pub ends_more : (R Q : World P → Type 0) (c : Course (Completed P) (World P)) → ((v : World P) → R v → Q v)
       → EndsWith R c → EndsWith Q c
@@ -217,11 +199,7 @@ module _ {P : Type 0} (cmp : P → P → Ordering) (order : IsTotalOrder cmp) wh
       by_test true is =
           ends_more (Leaves t x w) (Leaves t m w) (start cmp w x)
           (λ u l. leaves_like t m x w w u same (but_for_none m w) l) (start_leaves t w x)
-      by_test false is =
-          record {
-            others = but_for_none m w;
-            rests = λ y at. let one : x ≡ y = cc in subst (λ (z : Message P). may_start cmp t w z ≡ false) one is;
-          }
+      by_test false is = grind (arith, but_for_none)
 
   landed_but_for : (w : World P) (f : Flight P) (at : ℕ) → find (is_done cmp w) w.sending ≡ Some f
       → IsButFor cmp f.message w
@@ -229,21 +207,15 @@ module _ {P : Type 0} (cmp : P → P → Ordering) (order : IsTotalOrder cmp) wh
         sending = without_first (is_done cmp w) w.sending;
         last_arrival = raised cmp w.last_arrival f.message at;
       })
-  landed_but_for w f at e = grind (arith, common_steps, filter_skips, pair_itself)
+  landed_but_for w f at e = grind (arith, filter_skips, pair_itself)
 
   -- a completion changes its pair alone, which then may not start
   pub complete_leaves : (t : ℕ) (w : World P) (f : Flight P) → find (is_done cmp w) w.sending ≡ Some f
       → EndsWith (Leaves t f.message w) (complete cmp t w f.message)
   complete_leaves t w f e =
-      let landed : World P = out_of_flight cmp t w f.message in
-      ends_cond (Leaves t f.message w) (is_late cmp t f.message) (meets MomentTooLate) _ tt
-      (ends_preceded (Leaves t f.message w) (completed cmp t f.message ∷ [])
-      (start_next cmp t landed (first_waiting cmp landed f.message))
-      (ends_more (Leaves t f.message landed) (Leaves t f.message w)
-      (start_next cmp t landed (first_waiting cmp landed f.message))
-      (λ u l. leaves_like t f.message f.message w landed u (pair_itself cmp order f.message)
-      (landed_but_for w f (arrival cmp t f.message) e) l)
-      (next_leaves t landed f.message (first_waiting cmp landed f.message) refl)))
+      grind (arith, common_steps, ends_cond, ends_preceded, ends_more, leaves_like, (pair_itself cmp order f.message),
+      (landed_but_for w f (arrival cmp t f.message) e), (next_leaves t (out_of_flight cmp t w f.message) f.message
+      (first_waiting cmp (out_of_flight cmp t w f.message) f.message) refl))
 
   -- ---- settling after a start
 
@@ -272,9 +244,7 @@ module _ {P : Type 0} (cmp : P → P → Ordering) (order : IsTotalOrder cmp) wh
       by_first : (o : Option (Flight P)) → find (is_done cmp v) v.sending ≡ o
           → ((u : World P) → Leaves t m w u → EndsWith (Leaves t m w) (settle_within cmp n t u))
           → EndsWith (Leaves t m w) (settle_within cmp (suc n) t v)
-      by_first None e ih =
-          subst (λ (c : Course (Completed P) (World P)). EndsWith (Leaves t m w) c)
-          (sym (settle_none cmp order n t v e)) l
+      by_first None e ih = grind (arith, settle_none)
       by_first (Some f) e ih =
           let same : same_pair cmp m f.message ≡ true = done_of_pair m w v f l.others quiet e in
           subst (λ (c : Course (Completed P) (World P)). EndsWith (Leaves t m w) c)
@@ -287,9 +257,7 @@ module _ {P : Type 0} (cmp : P → P → Ordering) (order : IsTotalOrder cmp) wh
   -- a start and its settling change one pair alone, which then may not start
   pub start_settles : (t : ℕ) (w : World P) (m : Message P) → list_any (is_done cmp w) w.sending ≡ false
       → EndsWith (Leaves t m w) (turn cmp t w m)
-  start_settles t w m quiet =
-      ends_and_then (Leaves t m w) (Leaves t m w) (start cmp w m) (settle cmp t) (start_leaves t w m)
-      (λ v l. settle_within_leaves (length v.sending + length v.waiting) t m w v quiet l)
+  start_settles t w m quiet = grind (arith, ends_and_then, settle_within_leaves, (start cmp w m), (start_leaves t w m))
 
   -- ---- the pairs that are ready
 
@@ -298,14 +266,13 @@ module _ {P : Type 0} (cmp : P → P → Ordering) (order : IsTotalOrder cmp) wh
       → Each (λ (n : Message P). find (same_pair cmp n) xs ≡ Some n) (fronts cmp xs)
   fronts_are_first [] = tt
   fronts_are_first (x ∷ xs) =
-      grind (arith, common_steps, pair_itself, each_more, each_filtered, pair_sym, not-true, (fronts_are_first xs))
+      grind (arith, pair_itself, each_more, each_filtered, pair_sym, not-true, (fronts_are_first xs))
 
   -- the fronts without a pair
   pub fronts_without : (m : Message P) (xs : List (Message P))
       → filter (λ n. not (same_pair cmp m n)) (fronts cmp xs) ≡ fronts cmp (filter (λ n. not (same_pair cmp m n)) xs)
   fronts_without m [] = refl
-  fronts_without m (x ∷ xs) =
-      grind (arith, common_steps, not_alike, filter_stronger, filter_swap, (fronts_without m xs))
+  fronts_without m (x ∷ xs) = grind (arith, not_alike, filter_stronger, filter_swap, (fronts_without m xs))
 
   -- a pair that changed alone and may not start any more: the others are ready as before
   pub ready_without : (t : ℕ) (m : Message P) (w v : World P) → Leaves t m w v
@@ -329,6 +296,5 @@ module _ {P : Type 0} (cmp : P → P → Ordering) (order : IsTotalOrder cmp) wh
     where
       of_another : (n : Message P) (b : Bool) → same_pair cmp m n ≡ b → find (same_pair cmp n) v.waiting ≡ Some n
           → may_start cmp t v n ≡ true → not b ≡ true
-      of_another n true same e h =
-          let no : may_start cmp t v n ≡ false = l.rests n (sym (find_like cmp order m n v.waiting same) ∙ e) in cc
+      of_another n true same e h = grind (arith, find_like)
       of_another n false same e h = refl

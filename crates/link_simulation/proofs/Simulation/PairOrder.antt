@@ -3,12 +3,10 @@ use Rattle.link_simulation.proofs.Common.{arith, ◌≡◌, List, [], ◌∷◌,
 use Rattle.link_simulation.proofs.Common.{sym, ap, ◌∙◌, subst, find, Ordering, Less, Equal, Greater, is_eq, is_lt}
 use Rattle.link_simulation.proofs.Common.{IsTotalOrder, least_pair, Message, OneForEachPair, pair_before, same_pair}
 use Rattle.link_simulation.proofs.Common.{Each, find_from_any}
-use Rattle.std.proofs.lemmas.Grind.{common_steps}
 use Rattle.std.specs.Ordering.{is_gt, ordering_reverse, ordering_then}
 use Rattle.std.specs.Cmp.{then_total, tied_then, upto}
 use Rattle.std.proofs.lemmas.Cmp.{on_total, tied_itself}
 use Rattle.link_simulation.specs.Simulation.Pass.{IsBeforeEach, IsByPair, by_pair, insert_by_pair}
-use Rattle.link_simulation.proofs.Simulation.Queue.{pair_like, pair_sym}
 use Rattle.link_simulation.proofs.Simulation.OtherPairs.{each_more}
 use Rattle.link_simulation.proofs.Simulation.AlikeMessages.{pair_itself}
 use Rattle.fair_rates.proofs.Lists.Sorted.{is_lt_less}
@@ -65,7 +63,7 @@ module _ {P : Type 0} (cmp : P → P → Ordering) (order : IsTotalOrder cmp) wh
 
   pub before_if_not : (m n : Message P) → pair_before cmp n m ≡ false → same_pair cmp m n ≡ false
       → pair_before cmp m n ≡ true
-  before_if_not m n e f = grind (arith, common_steps, turned, gt_if_neither, pair_sym)
+  before_if_not m n e f = grind arith
 
   -- ---- the least pair
 
@@ -84,28 +82,13 @@ module _ {P : Type 0} (cmp : P → P → Ordering) (order : IsTotalOrder cmp) wh
       itself = ((rw (pair_itself cmp order m) refl, (not_before_itself m, tt)), rw (pair_itself cmp order m) refl)
 
       by_test : (n : Message P) (b : Bool) → pair_before cmp n m ≡ b → IsLeast n ms → IsLeast (cond b n m) (m ∷ ms)
-      by_test n true before least =
-          let apart : same_pair cmp n m ≡ false = apart_if_before n m before in
-          (rw apart least.0, (not_before_back n m before, least.1))
-      by_test n false before least = (
-        itself.1,
-        (
-          not_before_itself m,
-          each_more (λ (k : Message P). pair_before cmp k n ≡ false)
-              (λ (k : Message P). pair_before cmp k m ≡ false) (λ k h. not_before_on k n m h before) ms least.1,
-        ),
-      )
+      by_test n true before least = grind (arith, apart_if_before, not_before_back)
+      by_test n false before least = grind (arith, itself, not_before_itself, each_more, not_before_on)
 
       by_rest : (o : Option (Message P)) → least_pair cmp ms ≡ o
           → Some (elim o [ None ↦ m | Some n ↦ cond (pair_before cmp n m) n m ]) ≡ Some l
           → ((n : Message P) → least_pair cmp ms ≡ Some n → IsLeast n ms) → IsLeast l (m ∷ ms)
-      by_rest None is at ih =
-          let same : m ≡ l = cc in
-          let empty : ms ≡ [] = least_none ms is in
-          subst (λ (k : Message P). IsLeast k (m ∷ ms)) same (
-            itself.1,
-            (not_before_itself m, subst (Each (λ (k : Message P). pair_before cmp k m ≡ false)) (sym empty) tt),
-          )
+      by_rest None is at ih = grind (arith, least_none, itself, not_before_itself)
       by_rest (Some n) is at ih =
           let same : cond (pair_before cmp n m) n m ≡ l = cc in
           subst (λ (k : Message P). IsLeast k (m ∷ ms)) same (by_test n (pair_before cmp n m) refl (ih n is))
@@ -115,7 +98,7 @@ module _ {P : Type 0} (cmp : P → P → Ordering) (order : IsTotalOrder cmp) wh
   pub found_in : (Q : Message P → Type 0) (p : Message P → Bool) (x : Message P) (ms : List (Message P)) → Each Q ms
       → find p ms ≡ Some x → Q x
   found_in Q p x [] h e = cc
-  found_in Q p x (m ∷ ms) h e = grind (arith, common_steps, (found_in Q p x ms h.1))
+  found_in Q p x (m ∷ ms) h e = grind (arith, (found_in Q p x ms))
 
   pub as_each : (m : Message P) (ms : List (Message P)) → IsBeforeEach cmp m ms
       → Each (λ (n : Message P). pair_before cmp m n ≡ true) ms
@@ -130,19 +113,18 @@ module _ {P : Type 0} (cmp : P → P → Ordering) (order : IsTotalOrder cmp) wh
   find_inserted : (k m : Message P) (ns : List (Message P)) → find (same_pair cmp m) ns ≡ None
       → find (same_pair cmp k) (insert_by_pair cmp m ns) ≡ cond (same_pair cmp k m) (Some m) (find (same_pair cmp k) ns)
   find_inserted k m [] h = refl
-  find_inserted k m (n ∷ ns) h = grind (arith, common_steps, pair_like, (find_inserted k m ns))
+  find_inserted k m (n ∷ ns) h = grind (arith, (find_inserted k m ns))
 
   -- ordering finds what was there
   pub find_by_pair : (ms : List (Message P)) → OneForEachPair cmp ms → (k : Message P)
       → find (same_pair cmp k) (by_pair cmp ms) ≡ find (same_pair cmp k) ms
   find_by_pair [] one k = refl
-  find_by_pair (m ∷ ms) one k =
-      grind (arith, common_steps, find_inserted, find_from_any, (find_by_pair ms one.1 m), (find_by_pair ms one.1 k))
+  find_by_pair (m ∷ ms) one k = grind (arith, find_inserted, find_from_any, (find_by_pair ms), (find_by_pair ms))
 
   before_inserted : (k m : Message P) (ns : List (Message P)) → pair_before cmp k m ≡ true → IsBeforeEach cmp k ns
       → IsBeforeEach cmp k (insert_by_pair cmp m ns)
   before_inserted k m [] e h = (e, tt)
-  before_inserted k m (n ∷ ns) e h = grind (arith, common_steps, (before_inserted k m ns e h.1))
+  before_inserted k m (n ∷ ns) e h = grind (arith, (before_inserted k m ns e))
 
   before_all : (m n : Message P) (ks : List (Message P)) → pair_before cmp m n ≡ true → IsBeforeEach cmp n ks
       → IsBeforeEach cmp m ks
@@ -153,9 +135,8 @@ module _ {P : Type 0} (cmp : P → P → Ordering) (order : IsTotalOrder cmp) wh
       → IsByPair cmp (insert_by_pair cmp m ns)
   inserted_by_pair m [] none h = (tt, tt)
   inserted_by_pair m (n ∷ ns) none h =
-      grind (arith, common_steps, before_inserted, before_if_not, before_all, (inserted_by_pair m ns))
+      grind (arith, before_inserted, before_if_not, before_all, (inserted_by_pair m ns))
 
   pub ordered_by_pair : (ms : List (Message P)) → OneForEachPair cmp ms → IsByPair cmp (by_pair cmp ms)
   ordered_by_pair [] one = tt
-  ordered_by_pair (m ∷ ms) one =
-      grind (arith, common_steps, inserted_by_pair, find_by_pair, find_from_any, (ordered_by_pair ms one.1))
+  ordered_by_pair (m ∷ ms) one = grind (arith, inserted_by_pair, find_by_pair, find_from_any, (ordered_by_pair ms))

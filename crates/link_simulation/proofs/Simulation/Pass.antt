@@ -1,6 +1,5 @@
 -- Waking is one pass through the pairs that are ready, in the order of pairs, and ends with nothing done and nothing
 -- ready.
-use Rattle.std.proofs.lemmas.Grind.{common_steps}
 use Rattle.link_simulation.proofs.Common.{◌≡◌, ℕ, zero, suc, ◌+◌, ◌≤◌, List, [], ◌∷◌, length, Bool, true, false, cond}
 use Rattle.link_simulation.proofs.Common.{not, Option, Some, None, refl, sym, ap, ◌∙◌, subst, arith, ⊤, filter, find}
 use Rattle.link_simulation.proofs.Common.{list_any, Ordering, IsTotalOrder, not-true, Completed, Course, EndsWith}
@@ -46,11 +45,11 @@ module _ {P : Type 0} (cmp : P → P → Ordering) (order : IsTotalOrder cmp) wh
   WaitAtMost n v = length v.waiting ≤ n
 
   start_waits : (n : ℕ) (w : World P) (m : Message P) → WaitAtMost n w → EndsWith (WaitAtMost n) (start cmp w m)
-  start_waits n w m h = grind (arith, common_steps, length-without_first, ends_cond)
+  start_waits n w m h = grind (arith, length-without_first, ends_cond)
 
   start_takes : (n : ℕ) (w : World P) (m x : Message P) → find (same_pair cmp m) w.waiting ≡ Some x
       → WaitAtMost (suc n) w → EndsWith (WaitAtMost n) (start cmp w m)
-  start_takes n w m x e h = grind (arith, common_steps, length_without, ends_cond)
+  start_takes n w m x e h = grind (arith, length_without, ends_cond)
 
   next_waits : (n t : ℕ) (w : World P) (o : Option (Message P)) → WaitAtMost n w
       → EndsWith (WaitAtMost n) (start_next cmp t w o)
@@ -76,11 +75,8 @@ module _ {P : Type 0} (cmp : P → P → Ordering) (order : IsTotalOrder cmp) wh
     where
       by_first : (o : Option (Flight P)) → find (is_done cmp w) w.sending ≡ o
           → ((v : World P) → Q v → EndsWith Q (settle_within cmp n t v)) → EndsWith Q (settle_within cmp (suc n) t w)
-      by_first None e ih =
-          subst (λ (c : Course (Completed P) (World P)). EndsWith Q c) (sym (settle_none cmp order n t w e)) h
-      by_first (Some f) e ih =
-          subst (λ (c : Course (Completed P) (World P)). EndsWith Q c) (sym (settle_first cmp order n t w f e))
-          (ends_and_then Q Q (complete cmp t w f.message) (settle_within cmp n t) (step w f e h) ih)
+      by_first None e ih = grind (arith, settle_none)
+      by_first (Some f) e ih = grind (arith, settle_first, ends_and_then)
 
   settle_waits : (n t : ℕ) (w : World P) → WaitAtMost n w → EndsWith (WaitAtMost n) (settle cmp t w)
   settle_waits n t w h =
@@ -112,7 +108,7 @@ module _ {P : Type 0} (cmp : P → P → Ordering) (order : IsTotalOrder cmp) wh
 
   ready_is_front : (t : ℕ) (w : World P) (k x : Message P) → find (same_pair cmp k) (ready cmp t w) ≡ Some x
       → find (same_pair cmp x) w.waiting ≡ Some x
-  ready_is_front t w k x e = grind (arith, common_steps, found_in, each_filtered, fronts_are_first)
+  ready_is_front t w k x e = grind (arith, found_in, each_filtered, fronts_are_first)
 
   ready_in_none : (t : ℕ) (w : World P) → w.waiting ≡ [] → ready cmp t w ≡ []
   ready_in_none t w e = rw e refl
@@ -130,10 +126,7 @@ module _ {P : Type 0} (cmp : P → P → Ordering) (order : IsTotalOrder cmp) wh
       by_least : (o : Option (Message P)) → least_pair cmp (ready cmp t w) ≡ o
           → ((v : World P) → NoneDone cmp order v → WaitAtMost n v → EndsWith (NothingLeft t) (wake_within cmp n t v))
           → EndsWith (NothingLeft t) (wake_within cmp (suc n) t w)
-      by_least None e ih =
-          let empty : ready cmp t w ≡ [] = least_none cmp order (ready cmp t w) e in
-          subst (λ (c : Course (Completed P) (World P)). EndsWith (NothingLeft t) c) (sym (wake_none (suc n) t w empty))
-          (none, empty)
+      by_least None e ih = grind (arith, least_none, wake_none)
       by_least (Some m) e ih =
           let found : find (same_pair cmp m) (ready cmp t w) ≡ Some m = (least_is cmp order m (ready cmp t w) e).0 in
           subst (λ (c : Course (Completed P) (World P)). EndsWith (NothingLeft t) c) (sym (wake_first n t w m e))
@@ -146,7 +139,7 @@ module _ {P : Type 0} (cmp : P → P → Ordering) (order : IsTotalOrder cmp) wh
   -- after waking a settled world, nothing is done and nothing may start
   pub wake_ends_quiet : (t : ℕ) (w : World P) → list_any (is_done cmp w) w.sending ≡ false
       → EndsWith (IsQuiet cmp t) (wake cmp t w)
-  wake_ends_quiet t w none = grind (arith, common_steps, ends_more, any_from_find, wake_within_ends, find_from_any)
+  wake_ends_quiet t w none = grind (arith, ends_more, any_from_find, wake_within_ends, find_from_any)
 
   -- ---- waking is one pass
 
@@ -177,11 +170,7 @@ module _ {P : Type 0} (cmp : P → P → Ordering) (order : IsTotalOrder cmp) wh
           (λ (n : Message P). same_pair cmp k n ≡ false)
           (λ n b. pair_like cmp order m k n e ∙ apart_if_before cmp order m n b) ms (as_each cmp order m ms h.0))
           ∙ sym (find_without k m rs e)
-      by_pair_of false e =
-          let apart : same_pair cmp k m ≡ false = pair_sym cmp order k m ∙ e in
-          ap (λ (b : Bool). cond b (Some m) (find (same_pair cmp k) ms)) (sym apart) ∙ same k
-          ∙ sym (find_kept (same_pair cmp k) (λ n. not (same_pair cmp m n)) rs
-          (λ n f. pair_other cmp order m n k e f))
+      by_pair_of false e = grind (arith, pair_sym, find_kept, pair_other)
 
   -- its first pair is the least
   least_first : (m : Message P) (ms rs : List (Message P)) → IsByPair cmp (m ∷ ms) → FindsAlike (m ∷ ms) rs
@@ -212,8 +201,7 @@ module _ {P : Type 0} (cmp : P → P → Ordering) (order : IsTotalOrder cmp) wh
   empty_alike [] same = refl
   empty_alike (r ∷ rs) same =
       let e : None ≡ cond (same_pair cmp r r) (Some r) (find (same_pair cmp r) rs) = same r in
-      let f : None ≡ Some r =
-      e ∙ ap (λ (b : Bool). cond b (Some r) (find (same_pair cmp r) rs)) (pair_itself cmp order r) in
+      let f : None ≡ Some r = grind (arith, pair_itself) in
       cc
 
   -- going once through any list, in the order of pairs, of those that are ready
@@ -249,18 +237,17 @@ module _ {P : Type 0} (cmp : P → P → Ordering) (order : IsTotalOrder cmp) wh
   one_in_filter : (keep : Message P → Bool) (xs : List (Message P)) → OneForEachPair cmp xs
       → OneForEachPair cmp (filter keep xs)
   one_in_filter keep [] one = tt
-  one_in_filter keep (x ∷ xs) one = grind (arith, common_steps, any_none, (one_in_filter keep xs one.1))
+  one_in_filter keep (x ∷ xs) one = grind (arith, any_none, (one_in_filter keep xs))
 
   pub one_in_fronts : (xs : List (Message P)) → OneForEachPair cmp (fronts cmp xs)
   one_in_fronts [] = tt
-  one_in_fronts (x ∷ xs) =
-      grind (arith, common_steps, any_from_find, find_without, pair_itself, one_in_filter, (one_in_fronts xs))
+  one_in_fronts (x ∷ xs) = grind (arith, any_from_find, find_without, pair_itself, one_in_filter, (one_in_fronts xs))
 
   -- waking goes once through those that are ready, in the order of pairs, with as many steps as wait or more
   pub wake_more_is_pass : (n t : ℕ) (w : World P) → list_any (is_done cmp w) w.sending ≡ false → WaitAtMost n w
       → wake_within cmp n t w ≡ wake_each cmp t (by_pair cmp (ready cmp t w)) w
   wake_more_is_pass n t w none h =
-      grind (arith, common_steps, one_in_filter, one_in_fronts, wake_within_is_pass, ordered_by_pair, find_by_pair)
+      grind (arith, one_in_filter, one_in_fronts, wake_within_is_pass, ordered_by_pair, find_by_pair)
 
   pub wake_is_one_pass : (t : ℕ) (w : World P) → list_any (is_done cmp w) w.sending ≡ false
       → wake cmp t w ≡ wake_each cmp t (by_pair cmp (ready cmp t w)) w

@@ -2,13 +2,12 @@
 use Rattle.link_simulation.proofs.Common.{arith, append_assoc, ◌≡◌, ℕ, zero, suc, ◌+◌, List, [], ◌∷◌, ◌++◌, map, Bool}
 use Rattle.link_simulation.proofs.Common.{true, false, cond, not, Option, Some, None, refl, sym, ap, ◌∙◌, subst, nat_le}
 use Rattle.link_simulation.proofs.Common.{◌&&◌, filter, find, list_any, Ordering, is_eq, IsTotalOrder, list_any-append}
-use Rattle.link_simulation.proofs.Common.{filter-append, or_from, or_parts, and_parts, map-append, without_first}
-use Rattle.link_simulation.proofs.Common.{same_peer, Completed, Course, Flight, World, and_then, complete, goes}
-use Rattle.link_simulation.proofs.Common.{is_done, is_in_order, last_moment, may_start, meets, preceded, settle_within}
-use Rattle.link_simulation.proofs.Common.{start, start_next, is_late, completed, flight_of, leaving, staying, arrived}
+use Rattle.link_simulation.proofs.Common.{filter-append, or_from, or_parts, map-append, without_first, same_peer}
+use Rattle.link_simulation.proofs.Common.{Completed, Course, Flight, World, and_then, complete, goes, is_done}
+use Rattle.link_simulation.proofs.Common.{is_in_order, last_moment, may_start, meets, preceded, settle_within, start}
+use Rattle.link_simulation.proofs.Common.{start_next, is_late, completed, flight_of, leaving, staying, arrived}
 use Rattle.link_simulation.proofs.Common.{out_of_waiting, joined, launch_then, finish_within, Message, OneForEachPair}
-use Rattle.link_simulation.proofs.Common.{same_pair, FlowIdsUsedUp, MomentTooLate, peer_sym}
-use Rattle.std.proofs.lemmas.Grind.{common_steps}
+use Rattle.link_simulation.proofs.Common.{same_pair, FlowIdsUsedUp, MomentTooLate}
 use Rattle.std.proofs.lemmas.List.{append-nil}
 use Rattle.fair_rates.proofs.Lists.Sorted.{is_eq_equal}
 
@@ -16,7 +15,7 @@ use Rattle.fair_rates.proofs.Lists.Sorted.{is_eq_equal}
 
 preceded_then : {X S : Type 0} (xs : List X) (c : Course X S) (next : S → Course X S)
     → and_then (preceded xs c) next ≡ preceded xs (and_then c next)
-preceded_then {X} {S} xs (goes ys s) next = grind (arith, common_steps, append_assoc)
+preceded_then {X} {S} xs (goes ys s) next = grind (arith, append_assoc)
 preceded_then xs (meets fault) next = refl
 
 -- a course, the next one, and the one after
@@ -54,21 +53,21 @@ and_then-preceded x (meets fault) k = refl
 pub filter_without : {X : Type 0} (test : X → Bool) (xs : List X)
     → filter (λ x. not (test x)) (without_first test xs) ≡ filter (λ x. not (test x)) xs
 filter_without test [] = refl
-filter_without {X} test (x ∷ xs) = grind (arith, common_steps, (filter_without test xs))
+filter_without {X} test (x ∷ xs) = grind (arith, (filter_without test xs))
 
 -- the passing ones, without the first
 pub leaving_without : {X : Type 0} (test : X → Bool) (f : X) (fs xs : List X) → filter test xs ≡ f ∷ fs
     → (find test xs ≡ Some f) × (filter test (without_first test xs) ≡ fs)
 leaving_without test f fs [] e = cc
-leaving_without {X} test f fs (x ∷ xs) e = grind (arith, common_steps, (leaving_without test f fs xs))
+leaving_without {X} test f fs (x ∷ xs) e = grind (arith, (leaving_without test f fs xs))
 
 pub find_none : {X : Type 0} (test : X → Bool) (xs : List X) → filter test xs ≡ [] → find test xs ≡ None
 find_none test [] e = refl
-find_none {X} test (x ∷ xs) e = grind (arith, common_steps, (find_none test xs))
+find_none {X} test (x ∷ xs) e = grind (arith, (find_none test xs))
 
 pub find_passes : {X : Type 0} (test : X → Bool) (y : X) (ys : List X) → find test ys ≡ Some y → test y ≡ true
 find_passes test y [] g = cc
-find_passes {X} test y (z ∷ zs) g = grind (arith, common_steps, (find_passes test y zs))
+find_passes {X} test y (z ∷ zs) g = grind (arith, (find_passes test y zs))
 
 module _ {P : Type 0} (cmp : P → P → Ordering) (order : IsTotalOrder cmp) where
   -- ---- pairs
@@ -80,10 +79,10 @@ module _ {P : Type 0} (cmp : P → P → Ordering) (order : IsTotalOrder cmp) wh
   both_alike a b c d e f = rw (e, f) refl
 
   pub pair_like : (m n k : Message P) → same_pair cmp m n ≡ true → same_pair cmp n k ≡ same_pair cmp m k
-  pair_like m n k e = grind (arith, common_steps, and_parts, both_alike, peer_like)
+  pair_like m n k e = grind arith
 
   pub pair_sym : (m n : Message P) → same_pair cmp m n ≡ same_pair cmp n m
-  pair_sym m n = grind (arith, common_steps, both_alike, peer_sym)
+  pair_sym m n = grind arith
 
   pub any_like : (m n : Message P) (ks : List (Message P)) → same_pair cmp m n ≡ true
       → list_any (same_pair cmp n) ks ≡ list_any (same_pair cmp m) ks
@@ -98,41 +97,34 @@ module _ {P : Type 0} (cmp : P → P → Ordering) (order : IsTotalOrder cmp) wh
   any_without : (p : Message P → Bool) (test : Flight P → Bool) (fs : List (Flight P))
       → list_any p (messages fs) ≡ false → list_any p (messages (without_first test fs)) ≡ false
   any_without p test [] e = refl
-  any_without p test (f ∷ fs) e =
-      grind (arith, common_steps, or_parts, or_from, (any_without p test fs (or_parts (p f.message) (list_any p
-      (messages fs)) e).1))
+  any_without p test (f ∷ fs) e = grind (arith, (any_without p test fs))
 
   pub any_filter : (p : Message P → Bool) (test : Flight P → Bool) (fs : List (Flight P))
       → list_any p (messages fs) ≡ false → list_any p (messages (filter test fs)) ≡ false
   any_filter p test [] e = refl
-  any_filter p test (f ∷ fs) e =
-      grind (arith, common_steps, or_parts, or_from, (any_filter p test fs (or_parts (p f.message) (list_any p
-      (messages fs)) e).1))
+  any_filter p test (f ∷ fs) e = grind (arith, (any_filter p test fs))
 
   pub one_without : (test : Flight P → Bool) (fs : List (Flight P)) → OneForEachPair cmp (messages fs)
       → OneForEachPair cmp (messages (without_first test fs))
   one_without test [] one = tt
-  one_without test (f ∷ fs) one = grind (arith, common_steps, any_without, (one_without test fs one.1))
+  one_without test (f ∷ fs) one = grind (arith, any_without, (one_without test fs))
 
   -- the one that is found was the only one of its pair
   found_apart : (p : Message P → Bool) (test : Flight P → Bool) (f : Flight P) (fs : List (Flight P))
       → find test fs ≡ Some f → list_any p (messages fs) ≡ false → p f.message ≡ false
   found_apart p test f [] e h = cc
-  found_apart p test f (g ∷ gs) e h = grind (arith, common_steps, or_parts, (found_apart p test f gs))
+  found_apart p test f (g ∷ gs) e h = grind (arith, (found_apart p test f gs))
 
   pub pair_is_idle : (test : Flight P → Bool) (f : Flight P) (fs : List (Flight P)) → find test fs ≡ Some f
       → OneForEachPair cmp (messages fs)
       → list_any (same_pair cmp f.message) (messages (without_first test fs)) ≡ false
   pair_is_idle test f [] e one = cc
-  pair_is_idle test f (g ∷ gs) e one =
-      grind (arith, common_steps, found_apart, or_from, pair_sym, (pair_is_idle test f gs))
+  pair_is_idle test f (g ∷ gs) e one = grind (arith, found_apart, or_from, pair_sym, (pair_is_idle test f gs))
 
   pub one_pair_more : (ms : List (Message P)) (m : Message P) → OneForEachPair cmp ms
       → list_any (same_pair cmp m) ms ≡ false → OneForEachPair cmp (ms ++ m ∷ [])
   one_pair_more [] m one h = (refl, tt)
-  one_pair_more (n ∷ ns) m one h =
-      grind (arith, common_steps, or_parts, list_any-append, or_from, pair_sym, (one_pair_more ns m one.1 (or_parts
-      (same_pair cmp m n) (list_any (same_pair cmp m) ns) h).1))
+  one_pair_more (n ∷ ns) m one h = grind (arith, or_parts, list_any-append, or_from, pair_sym, (one_pair_more ns m))
 
   -- ---- settling is finishing the queue
 
@@ -143,7 +135,7 @@ module _ {P : Type 0} (cmp : P → P → Ordering) (order : IsTotalOrder cmp) wh
       ≡ cond b (meets MomentTooLate) (preceded (c ∷ []) l)
   unfolding over_state
   late_or_not true c s l k e = refl
-  late_or_not false c s l k e = grind (arith, common_steps, and_then-preceded, over_state-preceded)
+  late_or_not false c s l k e = grind arith
 
   nothing_first : (k : World P → Course (Completed P) (World P)) (w : World P)
       → over_state (staying cmp) (and_then (goes [] w) k) ≡ over_state (staying cmp) (k w)
@@ -158,7 +150,7 @@ module _ {P : Type 0} (cmp : P → P → Ordering) (order : IsTotalOrder cmp) wh
       (record (out_of_waiting cmp v m) { sending = v.sending ++ cond (not b) (flight_of m ∷ []) [] })
       ≡ cond b (finish_within cmp n t (fs ++ flight_of m ∷ []) (out_of_waiting cmp v m))
       (finish_within cmp n t fs (joined cmp v m))
-  done_or_not true n t fs v m = grind (arith, common_steps, append-nil)
+  done_or_not true n t fs v m = grind (arith, append-nil)
   done_or_not false n t fs v m =
       ap (λ (rest : List (Flight P)). finish_within cmp n t rest (joined cmp v m)) (append-nil fs)
 
@@ -177,8 +169,8 @@ module _ {P : Type 0} (cmp : P → P → Ordering) (order : IsTotalOrder cmp) wh
         (finish_within cmp n t fs (joined cmp v m)))
     unfolding leaving staying over_state
     starting w fs v m one idle e f =
-        grind (arith, common_steps, start, joined, map-append, one_pair_more, nothing_first, finish_alike,
-        filter-append, done_or_not)
+        grind (arith, start, joined, map-append, one_pair_more, nothing_first, finish_alike, filter-append,
+        done_or_not)
 
     -- the pair's next starts if it may, in the one world and in the other
     next_alike : (w : World P) (fs : List (Flight P)) (v : World P) (m : Message P) (o : Option (Message P))
@@ -215,9 +207,7 @@ module _ {P : Type 0} (cmp : P → P → Ordering) (order : IsTotalOrder cmp) wh
             (finish_within cmp n t fs (joined cmp v x))))
             (finish_within cmp n t fs v)
         by_order true h = starting w fs v x one h e f
-        by_order false h =
-            nothing_first (settle_within cmp n t) w ∙ ih w one
-            ∙ finish_alike n t (leaving cmp w) fs (staying cmp w) v e f
+        by_order false h = grind (arith, nothing_first, finish_alike)
 
   as_filter : (w : World P) (q : List (Flight P)) → leaving cmp w ≡ q → filter (is_done cmp w) w.sending ≡ q
   unfolding leaving
@@ -231,9 +221,7 @@ module _ {P : Type 0} (cmp : P → P → Ordering) (order : IsTotalOrder cmp) wh
       → staying cmp (record (arrived cmp t w m) { sending = without_first (is_done cmp w) w.sending })
       ≡ arrived cmp t (staying cmp w) m
   unfolding staying
-  landed_alike t w m =
-      ap (λ (q : List (Flight P)). record (arrived cmp t w m) { sending = q })
-      (filter_without (is_done cmp w) w.sending)
+  landed_alike t w m = grind (arith, (filter_without (is_done cmp w) w.sending))
 
   pub settle_none : (n t : ℕ) (w : World P) → find (is_done cmp w) w.sending ≡ None
       → settle_within cmp (suc n) t w ≡ goes [] w
@@ -255,8 +243,7 @@ module _ {P : Type 0} (cmp : P → P → Ordering) (order : IsTotalOrder cmp) wh
           → over_state (staying cmp) (settle_within cmp n t u)
           ≡ finish_within cmp n t (leaving cmp u) (staying cmp u))
           → over_state (staying cmp) (settle_within cmp (suc n) t w) ≡ finish_within cmp (suc n) t q (staying cmp w)
-      by_queue [] e ih =
-          ap (over_state (staying cmp)) (settle_none n t w (find_none (is_done cmp w) w.sending (as_filter w [] e)))
+      by_queue [] e ih = grind (arith, settle_none, find_none, as_filter)
       by_queue (f ∷ fs) e ih =
           let first : (find (is_done cmp w) w.sending ≡ Some f)
           × (filter (is_done cmp w) (without_first (is_done cmp w) w.sending) ≡ fs)

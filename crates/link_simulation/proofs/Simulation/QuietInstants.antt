@@ -1,35 +1,34 @@
 -- An instant ends in quiet, and leaves a quiet world as it is; so does each call end in quiet, and the next event comes
 -- later.
-use Rattle.std.proofs.lemmas.Grind.{common_steps}
-use Rattle.link_simulation.proofs.Common.{◌≡◌, ℕ, zero, suc, ◌+◌, ◌<◌, ◌≤◌, List, [], ◌∷◌, ◌++◌, length, Bool, true}
-use Rattle.link_simulation.proofs.Common.{not, Option, Some, None, refl, ap, ◌∙◌, subst, arith, IfSome, filter, find}
-use Rattle.link_simulation.proofs.Common.{Ordering, IsTotalOrder, filter-append, Completed, Course, EndsWith, IsQuiet}
-use Rattle.link_simulation.proofs.Common.{World, and_then, complete, first_waiting, goes, instant, is_done, is_in_order}
-use Rattle.link_simulation.proofs.Common.{later_of, least_pair, raised, ready, settle, settle_within, start, start_next}
-use Rattle.link_simulation.proofs.Common.{turn, wake, wake_within, Call, Runs, act, call_advance, call_enqueue}
-use Rattle.link_simulation.proofs.Common.{call_limit, call_enqueue_all, call_next, complete_at_once, moment_of}
-use Rattle.link_simulation.proofs.Common.{limited_by, rebalance, call_limit_link, linked_by, enqueue, enqueue_each}
-use Rattle.link_simulation.proofs.Common.{Message, same_pair, Caps, no_time, Drains, NextIs, Passes, Ticks, comes_next}
-use Rattle.link_simulation.proofs.Common.{never_comes, no_tick, one_tick, quiet_tick, tick_faults, find_from_any}
+use Rattle.link_simulation.proofs.Common.{common_steps, ◌≡◌, ℕ, zero, suc, ◌+◌, ◌<◌, ◌≤◌, List, [], ◌∷◌, ◌++◌, length}
+use Rattle.link_simulation.proofs.Common.{Bool, true, not, Option, Some, None, refl, ap, ◌∙◌, subst, arith, IfSome}
+use Rattle.link_simulation.proofs.Common.{filter, find, Ordering, IsTotalOrder, filter-append, Completed, Course}
+use Rattle.link_simulation.proofs.Common.{EndsWith, IsQuiet, World, and_then, complete, first_waiting, goes, instant}
+use Rattle.link_simulation.proofs.Common.{is_done, is_in_order, later_of, least_pair, raised, ready, settle}
+use Rattle.link_simulation.proofs.Common.{settle_within, start, start_next, turn, wake, wake_within, Call, Runs, act}
+use Rattle.link_simulation.proofs.Common.{call_advance, call_enqueue, call_limit, call_enqueue_all, call_next}
+use Rattle.link_simulation.proofs.Common.{complete_at_once, moment_of, limited_by, rebalance, call_limit_link}
+use Rattle.link_simulation.proofs.Common.{linked_by, enqueue, Message, same_pair, Caps, no_time, Drains, NextIs, Passes}
+use Rattle.link_simulation.proofs.Common.{Ticks, comes_next, never_comes, no_tick, one_tick, quiet_tick, tick_faults}
+use Rattle.link_simulation.proofs.Common.{find_from_any}
 use Rattle.std.proofs.lemmas.List.{append-nil}
-use Rattle.std.proofs.lemmas.Bool.Decides.{nat_tests}
 use Rattle.link_simulation.proofs.Simulation.Queue.{settle_none, preceded_none}
 use Rattle.link_simulation.proofs.Simulation.SettlingEnds.{ends_preceded, ends_and_then, ends_cond, each_ends}
 use Rattle.link_simulation.proofs.Simulation.SettlingEnds.{settle_rests}
 use Rattle.link_simulation.proofs.Simulation.OtherPairs.{Leaves, ends_more, leaves_like, next_leaves, start_leaves}
 use Rattle.link_simulation.proofs.Simulation.OtherPairs.{complete_leaves, ready_without, any_from_find, IsButFor}
 use Rattle.link_simulation.proofs.Simulation.AlikeMessages.{pair_itself}
-use Rattle.link_simulation.proofs.Simulation.Pass.{ends_both, settle_keeps, wake_none, wake_first, wake_ends_quiet}
+use Rattle.link_simulation.proofs.Simulation.Pass.{ends_both, settle_keeps, wake_none, wake_ends_quiet}
 
 filter_none : {X : Type 0} (p q : X → Bool) (xs : List X) → ((x : X) → p x ≡ true → q x ≡ true) → filter q xs ≡ []
     → filter p xs ≡ []
 filter_none p q [] more e = refl
-filter_none {X} p q (x ∷ xs) more e = grind (arith, common_steps, (filter_none p q xs more))
+filter_none {X} p q (x ∷ xs) more e = grind (arith, (filter_none p q xs more))
 
 later_in_order : (last : Option ℕ) (at moment : ℕ) → is_in_order (Some (later_of last at)) moment ≡ true
     → is_in_order last moment ≡ true
 later_in_order None at moment e = refl
-later_in_order (Some last) at moment e = grind (arith, common_steps, nat_tests)
+later_in_order (Some last) at moment e = grind arith
 
 module _ {P : Type 0} (cmp : P → P → Ordering) (order : IsTotalOrder cmp) where
   -- ---- the moment stays
@@ -65,8 +64,7 @@ module _ {P : Type 0} (cmp : P → P → Ordering) (order : IsTotalOrder cmp) wh
       → ((w : World P) (m : Message P) → least_pair cmp (ready cmp t w) ≡ Some m → Q w → EndsWith Q (turn cmp t w m))
       → (n : ℕ) (w : World P) → Q w → EndsWith Q (wake_within cmp n t w)
   wake_keeps Q t step zero w h = h
-  wake_keeps Q t step (suc n) w h =
-      grind (arith, common_steps, wake_first, ends_and_then, turn, (wake_keeps Q t step n))
+  wake_keeps Q t step (suc n) w h = grind (arith, (wake_keeps Q t step n))
 
   pub wake_outlasts : (Q : World P → Type 0) → ((m : Message P) (v u : World P) → IsButFor cmp m v u → Q v → Q u)
       → (t : ℕ) (w : World P) → Q w → EndsWith Q (wake cmp t w)
@@ -93,13 +91,12 @@ module _ {P : Type 0} (cmp : P → P → Ordering) (order : IsTotalOrder cmp) wh
 
   -- the instant of a quiet world leaves it as it is
   pub instant_of_quiet : (w : World P) → IsQuietNow w → instant cmp w ≡ goes [] w
-  instant_of_quiet w q = grind (arith, common_steps, settle_nothing, find_from_any, preceded_none, wake_none)
+  instant_of_quiet w q = grind (arith, settle_nothing, find_from_any, preceded_none, wake_none)
 
   -- after an instant the world is quiet
   pub instant_ends_quiet : (w : World P) → EndsWith IsQuietNow (instant cmp w)
   instant_ends_quiet w =
-      grind (arith, common_steps, ends_and_then, settle_rests, ends_more, ends_both, wake_ends_quiet, any_from_find,
-      wake_stays)
+      grind (arith, ends_and_then, settle_rests, ends_more, ends_both, wake_ends_quiet, any_from_find, wake_stays)
 
   pub instant_stays : (w : World P) → EndsWith (IsAt w.moment) (instant cmp w)
   instant_stays w = instant_outlasts (IsAt w.moment) (at_kept w.moment) w refl
@@ -122,7 +119,7 @@ module _ {P : Type 0} (cmp : P → P → Ordering) (order : IsTotalOrder cmp) wh
       → EndsWith (IsAt (w.moment + n)) c
   ticks_end_at {w = w} no_tick = let e : w.moment ≡ w.moment + 0 = omega arith in e
   ticks_end_at (one_tick {n = n} {w = w} {v = v} {u = u} {cs = cs} {rest = rest} d i t) =
-      grind (arith, common_steps, ends_at, instant_stays, next_moment, ends_preceded, (ticks_end_at t))
+      grind (arith, ends_at, instant_stays, next_moment, ends_preceded, (ticks_end_at t))
   ticks_end_at (tick_faults d i) = tt
 
   -- a world that was quiet is quiet after ticks
@@ -151,14 +148,13 @@ module _ {P : Type 0} (cmp : P → P → Ordering) (order : IsTotalOrder cmp) wh
 
   -- settling a world in which none may start ends in quiet
   settle_ends_quiet : (t : ℕ) (w : World P) → NoneReady t w → EndsWith (IsQuiet cmp t) (settle cmp t w)
-  settle_ends_quiet t w h =
-      grind (arith, common_steps, ends_more, any_from_find, ends_both, settle_rests, settle_unready)
+  settle_ends_quiet t w h = grind (arith, ends_more, any_from_find, ends_both, settle_rests, settle_unready)
 
   abbrev pub queued : World P → Message P → World P
   queued w m = record w { waiting = w.waiting ++ m ∷ [] }
 
   pub queued_but_for : (w : World P) (m : Message P) → IsButFor cmp m w (queued w m)
-  queued_but_for w m = grind (arith, common_steps, filter-append, pair_itself, append-nil)
+  queued_but_for w m = grind (arith, filter-append, pair_itself, append-nil)
 
   abbrev pub QuietAt : ℕ → World P → Type 0
   QuietAt t v = IsQuiet cmp t v × IsAt t v
@@ -172,8 +168,7 @@ module _ {P : Type 0} (cmp : P → P → Ordering) (order : IsTotalOrder cmp) wh
       (ends_more cmp order (Leaves cmp order t m (queued w m)) (λ (v : World P). NoneReady t v × IsAt t v)
       (start_next cmp t (queued w m) (first_waiting cmp (queued w m) m))
       (λ v l. (
-        stays_unready t m w v unready (leaves_like cmp order t m m w (queued w m) v (pair_itself cmp order m)
-            (queued_but_for w m) l),
+        grind (arith, stays_unready, leaves_like, pair_itself, queued_but_for),
         l.others.moment ∙ at,
       ))
       (next_leaves cmp order t (queued w m) m (first_waiting cmp (queued w m) m) refl))
@@ -182,11 +177,11 @@ module _ {P : Type 0} (cmp : P → P → Ordering) (order : IsTotalOrder cmp) wh
   -- an arrival makes none ready
   arrival_unready : (t : ℕ) (w : World P) (m : Message P) (at : ℕ) → NoneReady t w
       → NoneReady t (record w { last_arrival = raised cmp w.last_arrival m at })
-  arrival_unready t w m at unready = grind (arith, common_steps, filter_none, later_in_order)
+  arrival_unready t w m at unready = grind (arith, filter_none, later_in_order)
 
   at_once_ends_quiet : (t : ℕ) (w : World P) (m : Message P) → QuietAt t w
       → EndsWith (QuietAt t) (complete_at_once cmp t w m)
-  at_once_ends_quiet t w m q = grind (arith, common_steps, ends_cond, arrival_unready)
+  at_once_ends_quiet t w m q = grind (arith, ends_cond, arrival_unready)
 
   rebalance_ends_quiet : (now t : ℕ) (w : World P) (caps : Caps P) → now ≡ t → QuietAt now w
       → EndsWith (QuietAt now) (rebalance cmp t w caps)
@@ -206,11 +201,9 @@ module _ {P : Type 0} (cmp : P → P → Ordering) (order : IsTotalOrder cmp) wh
       let same : now ≡ t = cc in rebalance_ends_quiet now t w (limited_by cmp w.caps peer egress ingress) same q
   act_ends_quiet now (call_limit_link t origin recipient cap) w e q =
       let same : now ≡ t = cc in rebalance_ends_quiet now t w (linked_by cmp w.caps origin recipient cap) same q
-  act_ends_quiet now (call_enqueue t m) w e q = grind (arith, common_steps, one_ends_quiet)
+  act_ends_quiet now (call_enqueue t m) w e q = grind (arith, one_ends_quiet)
   act_ends_quiet now (call_enqueue_all t ms) w e q =
-      let same : now ≡ t = cc in
-      subst (λ (s : ℕ). EndsWith (QuietAt now) (enqueue_each cmp s w ms)) same
-      (each_ends cmp (QuietAt now) now (one_ends_quiet now) ms w q)
+      grind (arith, common_steps, (each_ends cmp (QuietAt now) now (one_ends_quiet now) ms w q))
   act_ends_quiet now (call_advance t) w e q = q
   act_ends_quiet now call_next w e q = q
 
@@ -225,12 +218,11 @@ module _ {P : Type 0} (cmp : P → P → Ordering) (order : IsTotalOrder cmp) wh
   -- the next event comes later than the world's moment
   pub next_is_later : (w : World P) (next : Option ℕ) → NextIs cmp w next → IfSome next (λ t. w.moment < t)
   next_is_later w next (never_comes p) = tt
-  next_is_later w next (comes_next {n = n} {v = v} {u = u} p d q h) =
-      grind (arith, common_steps, passes_end_at, next_moment)
+  next_is_later w next (comes_next {n = n} {v = v} {u = u} p d q h) = grind (arith, passes_end_at, next_moment)
 
   -- a call on a quiet world ends in a quiet world, at the call's moment
   pub call_ends_quiet : (w : World P) (call : Call P) (now : ℕ) (course : Course (Completed P) (World P)) → IsQuietNow w
       → moment_of call ≡ Some now → w.moment ≤ now
       → Runs cmp w call now course → EndsWith (QuietAt now) course
   call_ends_quiet w call now course q e h runs =
-      grind (arith, common_steps, ends_and_then, ends_more, ends_both, ticks_end_quiet, ticks_end_at, act_ends_quiet)
+      grind (arith, ends_and_then, ends_more, ends_both, ticks_end_quiet, ticks_end_at, act_ends_quiet)

@@ -1,5 +1,4 @@
 -- The number of messages is steps enough: settling ends with nothing done.
-use Rattle.std.proofs.lemmas.Grind.{common_steps}
 use Rattle.link_simulation.proofs.Common.{◌≡◌, ℕ, zero, suc, ◌+◌, ◌≤◌, List, [], ◌∷◌, length, Bool, true, false, cond}
 use Rattle.link_simulation.proofs.Common.{Option, Some, None, refl, sym, subst, arith, length-append, find, Ordering}
 use Rattle.link_simulation.proofs.Common.{IsTotalOrder, without_first, Completed, Course, Flight, World, and_then}
@@ -28,12 +27,12 @@ pub each_ends : {P : Type 0} (cmp : P → P → Ordering) (Q : World P → Type 
     → ((w : World P) (m : Message P) → Q w → EndsWith Q (enqueue cmp t w m))
     → (ms : List (Message P)) (w : World P) → Q w → EndsWith Q (enqueue_each cmp t w ms)
 each_ends cmp Q t step [] w h = h
-each_ends cmp Q t step (m ∷ ms) w h = grind (arith, common_steps, ends_and_then, (each_ends cmp Q t step ms))
+each_ends cmp Q t step (m ∷ ms) w h = grind (arith, (each_ends cmp Q t step ms))
 
 pub length_without : {X : Type 0} (test : X → Bool) (x : X) (xs : List X) → find test xs ≡ Some x
     → length (without_first test xs) + 1 ≡ length xs
 length_without test x [] e = cc
-length_without {X} test x (y ∷ ys) e = grind (arith, common_steps, (length_without test x ys))
+length_without {X} test x (y ∷ ys) e = grind (arith, (length_without test x ys))
 
 pub find_in_none : {X : Type 0} (test : X → Bool) (xs : List X) → length xs ≤ 0 → find test xs ≡ None
 find_in_none test [] h = refl
@@ -51,8 +50,7 @@ module _ {P : Type 0} (cmp : P → P → Ordering) (order : IsTotalOrder cmp) wh
   next_has : (t n : ℕ) (w : World P) (m : Message P) (o : Option (Message P)) → find (same_pair cmp m) w.waiting ≡ o
       → HasAtMost n w → EndsWith (HasAtMost n) (start_next cmp t w o)
   next_has t n w m None e h = h
-  next_has t n w m (Some x) e h =
-      grind (arith, common_steps, find_passes, length_without, find_like, length-append, ends_cond, start)
+  next_has t n w m (Some x) e h = grind (arith, find_passes, length_without, find_like, length-append, ends_cond, start)
 
   pub complete_has : (t n : ℕ) (w : World P) (f : Flight P) → find (is_done cmp w) w.sending ≡ Some f
       → HasAtMost (suc n) w → EndsWith (HasAtMost n) (complete cmp t w f.message)
@@ -75,8 +73,7 @@ module _ {P : Type 0} (cmp : P → P → Ordering) (order : IsTotalOrder cmp) wh
       by_first : (o : Option (Flight P)) → find (is_done cmp w) w.sending ≡ o
           → ((v : World P) → HasAtMost n v → EndsWith NoneDone (settle_within cmp n t v))
           → EndsWith NoneDone (settle_within cmp (suc n) t w)
-      by_first None e ih =
-          subst (λ (c : Course (Completed P) (World P)). EndsWith NoneDone c) (sym (settle_none cmp order n t w e)) e
+      by_first None e ih = grind (arith, settle_none)
       by_first (Some f) e ih =
           subst (λ (c : Course (Completed P) (World P)). EndsWith NoneDone c) (sym (settle_first cmp order n t w f e))
           (ends_and_then (HasAtMost n) NoneDone (complete cmp t w f.message) (settle_within cmp n t)

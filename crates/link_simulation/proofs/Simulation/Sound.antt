@@ -1,23 +1,22 @@
 -- Each call leads from a sound world to a sound world, and to one alone.
-use Rattle.std.proofs.lemmas.Grind.{common_steps}
-use Rattle.link_simulation.proofs.Common.{◌≡◌, ℕ, ◌+◌, List, [], ◌∷◌, ◌++◌, length, Bool, true, false, cond, Option}
-use Rattle.link_simulation.proofs.Common.{Some, None, refl, sym, ◌∙◌, subst, arith, ⊤, ◌&&◌, nat_lt, if◌then◌else◌}
-use Rattle.link_simulation.proofs.Common.{Ordering, IsTotalOrder, map-append, not-true, without_first, same_peer}
-use Rattle.link_simulation.proofs.Common.{Completed, Course, EndsWith, Flight, IsQuiet, World, and_then, complete}
-use Rattle.link_simulation.proofs.Common.{first_waiting, flows, fronts, goes, instant, is_done, is_idle, last_moment}
-use Rattle.link_simulation.proofs.Common.{later_of, least_pair, may_start, meets, new_world, raised, ready, settle}
-use Rattle.link_simulation.proofs.Common.{start, start_next, turn, wake, out_of_flight, is_late, completed, arrival}
-use Rattle.link_simulation.proofs.Common.{Call, Runs, act, call_advance, call_enqueue, call_limit, call_enqueue_all}
-use Rattle.link_simulation.proofs.Common.{call_next, complete_at_once, enqueue, rebalance, limited_by, call_limit_link}
-use Rattle.link_simulation.proofs.Common.{linked_by, Caps, Message, OneForEachPair, same_pair, CapsAlike, PairsAlike}
-use Rattle.link_simulation.proofs.Common.{ArePositive, Drains, IsSound, Ticks, no_tick, one_tick, tick_faults}
-use Rattle.link_simulation.proofs.Common.{MomentTooLate, peer_sym, each_filtered}
+use Rattle.link_simulation.proofs.Common.{common_steps, ◌≡◌, ℕ, ◌+◌, List, [], ◌∷◌, ◌++◌, length, Bool, true, false}
+use Rattle.link_simulation.proofs.Common.{cond, Option, Some, None, refl, sym, ◌∙◌, subst, arith, ⊤, ◌&&◌, nat_lt}
+use Rattle.link_simulation.proofs.Common.{if◌then◌else◌, Ordering, IsTotalOrder, map-append, not-true, without_first}
+use Rattle.link_simulation.proofs.Common.{same_peer, Completed, Course, EndsWith, Flight, IsQuiet, World, and_then}
+use Rattle.link_simulation.proofs.Common.{complete, first_waiting, flows, fronts, goes, instant, is_done, is_idle}
+use Rattle.link_simulation.proofs.Common.{last_moment, later_of, least_pair, may_start, meets, new_world, raised, ready}
+use Rattle.link_simulation.proofs.Common.{settle, start, start_next, turn, wake, out_of_flight, is_late, completed}
+use Rattle.link_simulation.proofs.Common.{arrival, Call, Runs, act, call_advance, call_enqueue, call_limit}
+use Rattle.link_simulation.proofs.Common.{call_enqueue_all, call_next, complete_at_once, enqueue, rebalance, limited_by}
+use Rattle.link_simulation.proofs.Common.{call_limit_link, linked_by, Caps, Message, OneForEachPair, same_pair}
+use Rattle.link_simulation.proofs.Common.{CapsAlike, PairsAlike, ArePositive, Drains, IsSound, Ticks, no_tick, one_tick}
+use Rattle.link_simulation.proofs.Common.{tick_faults, MomentTooLate, peer_sym, each_filtered}
 use Rattle.link_simulation.specs.Simulation.Messages.{with_cap, with_link}
 use Rattle.link_simulation.proofs.Simulation.Queue.{peer_like, one_without, one_pair_more}
 use Rattle.link_simulation.proofs.Simulation.SettlingEnds.{ends_preceded, ends_and_then, ends_cond, each_ends}
 use Rattle.link_simulation.proofs.Simulation.OtherPairs.{each_of, ends_more, Leaves, next_leaves, IsButFor}
 use Rattle.link_simulation.proofs.Simulation.PairOrder.{found_in, least_is}
-use Rattle.link_simulation.proofs.Simulation.Pass.{ends_both, settle_keeps}
+use Rattle.link_simulation.proofs.Simulation.Pass.{settle_keeps}
 use Rattle.link_simulation.proofs.Simulation.Stretch.{flows_drained}
 use Rattle.link_simulation.proofs.Simulation.OneNext.{drain_each_positive}
 use Rattle.link_simulation.proofs.Simulation.QuietInstants.{settle_outlasts, instant_outlasts, wake_keeps}
@@ -30,7 +29,7 @@ positive_on (f ∷ fs) gs h k = (h.0, positive_on fs gs h.1 k)
 positive_without : {P : Type 0} (test : Flight P → Bool) (fs : List (Flight P)) → ArePositive fs
     → ArePositive (without_first test fs)
 positive_without test [] h = tt
-positive_without {P} test (f ∷ fs) h = grind (arith, common_steps, (positive_without test fs h.1))
+positive_without {P} test (f ∷ fs) h = grind (arith, (positive_without test fs))
 
 module _ {P : Type 0} (cmp : P → P → Ordering) (order : IsTotalOrder cmp) where
   -- what is in flight is over numbers above zero, and one message for each pair
@@ -39,25 +38,21 @@ module _ {P : Type 0} (cmp : P → P → Ordering) (order : IsTotalOrder cmp) wh
     pub one_each : OneForEachPair cmp (flows w)
 
   start_fit : (w : World P) (m : Message P) → is_idle cmp w m ≡ true → IsFit w → EndsWith IsFit (start cmp w m)
-  start_fit w m idle fit = grind (arith, common_steps, ends_cond, positive_on, map-append, one_pair_more, not-true)
+  start_fit w m idle fit = grind (arith, ends_cond, positive_on, map-append, one_pair_more, not-true)
 
   idle_if_starts : (t : ℕ) (w : World P) (m : Message P) → may_start cmp t w m ≡ true → is_idle cmp w m ≡ true
-  idle_if_starts t w m e = grind (arith, common_steps)
+  idle_if_starts t w m e = grind arith
 
   next_fit : (t : ℕ) (w : World P) (o : Option (Message P)) → IsFit w → EndsWith IsFit (start_next cmp t w o)
   next_fit t w None fit = fit
-  next_fit t w (Some m) fit = grind (arith, common_steps, start, start_fit, idle_if_starts)
+  next_fit t w (Some m) fit = grind (arith, start, start_fit, idle_if_starts)
 
   complete_fit : (t : ℕ) (w : World P) (m : Message P) → IsFit w → EndsWith IsFit (complete cmp t w m)
   complete_fit t w m fit =
-      let landed : World P = out_of_flight cmp t w m in
-      ends_cond IsFit (is_late cmp t m) (meets MomentTooLate) _ tt
-      (ends_preceded IsFit (completed cmp t m ∷ []) (start_next cmp t landed (first_waiting cmp landed m))
-      (next_fit t landed (first_waiting cmp landed m)
-      (record {
-        positive = positive_without (is_done cmp w) w.sending fit.positive;
-        one_each = one_without cmp order (is_done cmp w) w.sending fit.one_each;
-      })))
+      grind (arith, common_steps, ends_cond, (ends_preceded IsFit (completed cmp t m ∷ []) (start_next cmp t
+      (out_of_flight cmp t w m) (first_waiting cmp (out_of_flight cmp t w m) m)) (next_fit t (out_of_flight cmp t w m)
+      (first_waiting cmp (out_of_flight cmp t w m) m) (record { positive = positive_without (is_done cmp w) w.sending
+      fit.positive; one_each = one_without cmp order (is_done cmp w) w.sending fit.one_each; }))))
 
   settle_fit : (t : ℕ) (w : World P) → IsFit w → EndsWith IsFit (settle cmp t w)
   settle_fit t w fit =
@@ -83,10 +78,10 @@ module _ {P : Type 0} (cmp : P → P → Ordering) (order : IsTotalOrder cmp) wh
       wake_keeps cmp order IsFit t (λ v m e k. turn_fit t v m (ready_may_start t v m e) k) (length w.waiting) w fit
 
   pub instant_fit : (w : World P) → IsFit w → EndsWith IsFit (instant cmp w)
-  instant_fit w fit = grind (arith, common_steps, ends_and_then, settle_fit, wake_fit)
+  instant_fit w fit = grind (arith, ends_and_then, settle_fit, wake_fit)
 
   pub drains_fit : (w v : World P) → Drains cmp w v → IsFit w → IsFit v
-  drains_fit w v d fit = grind (arith, common_steps, drain_each_positive, flows_drained)
+  drains_fit w v d fit = grind (arith, drain_each_positive, flows_drained)
 
   pub ticks_fit : {n : ℕ} {w : World P} {c : Course (Completed P) (World P)} → Ticks cmp n w c → IsFit w
       → EndsWith IsFit c
@@ -97,7 +92,7 @@ module _ {P : Type 0} (cmp : P → P → Ordering) (order : IsTotalOrder cmp) wh
   ticks_fit (tick_faults d i) fit = tt
 
   rebalance_fit : (t : ℕ) (w : World P) (caps : Caps P) → IsFit w → EndsWith IsFit (rebalance cmp t w caps)
-  rebalance_fit t w caps fit = grind (arith, common_steps, settle_fit)
+  rebalance_fit t w caps fit = grind (arith, settle_fit)
 
   enqueue_fit : (t : ℕ) (w : World P) (m : Message P) → IsFit w → EndsWith IsFit (enqueue cmp t w m)
   enqueue_fit t w m fit =
@@ -143,19 +138,16 @@ module _ {P : Type 0} (cmp : P → P → Ordering) (order : IsTotalOrder cmp) wh
       by_limited true e =
           ends_more cmp order IsLimited IsEmptyAtFirst (instant cmp w) empty_if_limited
           (instant_outlasts cmp order IsLimited limited_kept w e)
-      by_limited false e =
-          subst (λ (c : Course (Completed P) (World P)). EndsWith IsEmptyAtFirst c)
-          (sym (instant_of_quiet cmp order w (empty_is_quiet w.moment w (h e).0 (h e).1))) h
+      by_limited false e = grind (arith, instant_of_quiet, empty_is_quiet)
 
   drains_empty : (w v : World P) → Drains cmp w v → IsEmptyAtFirst w → IsEmptyAtFirst v
-  drains_empty w v d h = grind (arith, common_steps)
+  drains_empty w v d h = grind arith
 
   ticks_empty : {n : ℕ} {w : World P} {c : Course (Completed P) (World P)} → Ticks cmp n w c → IsEmptyAtFirst w
       → EndsWith IsEmptyAtFirst c
   ticks_empty no_tick h = h
   ticks_empty (one_tick {w = w} {v = v} {u = u} {cs = cs} {rest = rest} d i t) h =
-      grind (arith, common_steps, ends_preceded, ends_at, instant_empty, drains_empty, (ticks_empty t (ends_at cmp
-      order IsEmptyAtFirst (instant cmp v) cs u i (instant_empty v (drains_empty w v d h)))))
+      grind (arith, ends_preceded, ends_at, instant_empty, drains_empty, (ticks_empty t))
   ticks_empty (tick_faults d i) h = tt
 
   rebalance_empty : (t : ℕ) (w : World P) (caps : Caps P) → EndsWith IsEmptyAtFirst (rebalance cmp t w caps)
@@ -179,8 +171,7 @@ module _ {P : Type 0} (cmp : P → P → Ordering) (order : IsTotalOrder cmp) wh
           (λ v l. l.others.limited ∙ e)
           (next_leaves cmp order t (queued cmp order w m) m (first_waiting cmp (queued cmp order w m) m) refl))
           (λ v k. settle_outlasts cmp order IsLimited limited_kept t v k))
-      by_limited false e =
-          ends_cond IsEmptyAtFirst (m.should_deliver && nat_lt last_moment (t + m.latency)) (meets MomentTooLate) _ tt h
+      by_limited false e = grind (arith, ends_cond)
 
   act_empty : (call : Call P) (w : World P) → IsEmptyAtFirst w → EndsWith IsEmptyAtFirst (act cmp w call)
   act_empty (call_limit t peer egress ingress) w h = rebalance_empty t w (limited_by cmp w.caps peer egress ingress)
@@ -207,7 +198,7 @@ module _ {P : Type 0} (cmp : P → P → Ordering) (order : IsTotalOrder cmp) wh
       → ((p q r s : P) → same_peer cmp p q ≡ true → same_peer cmp r s ≡ true → last p r ≡ last q s)
       → (p q r s : P) → same_peer cmp p q ≡ true → same_peer cmp r s ≡ true
       → raised cmp last m at p r ≡ raised cmp last m at q s
-  raised_peerwise last m at h p q r s e f = grind (arith, common_steps, peer_alike)
+  raised_peerwise last m at h p q r s e f = grind arith
 
   landed_peerwise : (w : World P) (fs : List (Flight P)) (m : Message P) (at : ℕ) → IsPeerwise w
       → IsPeerwise (record w { sending = fs; last_arrival = raised cmp w.last_arrival m at })
@@ -215,7 +206,7 @@ module _ {P : Type 0} (cmp : P → P → Ordering) (order : IsTotalOrder cmp) wh
       record { caps = h.caps; last_arrival = raised_peerwise w.last_arrival m at h.last_arrival }
 
   start_peerwise : (w : World P) (m : Message P) → IsPeerwise w → EndsWith (IsPeerwise) (start cmp w m)
-  start_peerwise w m h = grind (arith, common_steps, ends_cond)
+  start_peerwise w m h = grind arith
 
   next_peerwise : (t : ℕ) (w : World P) (o : Option (Message P)) → IsPeerwise w
       → EndsWith (IsPeerwise) (start_next cmp t w o)
@@ -255,14 +246,13 @@ module _ {P : Type 0} (cmp : P → P → Ordering) (order : IsTotalOrder cmp) wh
       → EndsWith (IsPeerwise) c
   ticks_peerwise no_tick h = h
   ticks_peerwise (one_tick {w = w} {v = v} {u = u} {cs = cs} {rest = rest} d i t) h =
-      grind (arith, common_steps, ends_preceded, ends_at, instant_peerwise, drains_peerwise, (ticks_peerwise t (ends_at
-      cmp order (IsPeerwise) (instant cmp v) cs u i (instant_peerwise v (drains_peerwise w v d h)))))
+      grind (arith, ends_preceded, ends_at, instant_peerwise, drains_peerwise, (ticks_peerwise t))
   ticks_peerwise (tick_faults d i) h = tt
 
   cap_peerwise : (caps : P → Option ℕ) (peer : P) (cap : Option ℕ)
       → ((p q : P) → same_peer cmp p q ≡ true → caps p ≡ caps q) → (p q : P) → same_peer cmp p q ≡ true
       → with_cap cmp caps peer cap p ≡ with_cap cmp caps peer cap q
-  cap_peerwise caps peer cap h p q e = grind (arith, common_steps, peer_alike)
+  cap_peerwise caps peer cap h p q e = grind arith
 
   link_peerwise : (links : P → P → Option ℕ) (origin recipient : P) (cap : Option ℕ) → PairsAlike cmp links links
       → PairsAlike cmp (with_link cmp links origin recipient cap) (with_link cmp links origin recipient cap)
@@ -271,7 +261,7 @@ module _ {P : Type 0} (cmp : P → P → Ordering) (order : IsTotalOrder cmp) wh
 
   rebalance_peerwise : (t : ℕ) (w : World P) (caps : Caps P) → CapsAlike cmp caps caps → IsPeerwise w
       → EndsWith IsPeerwise (rebalance cmp t w caps)
-  rebalance_peerwise t w caps same h = grind (arith, common_steps, settle_peerwise)
+  rebalance_peerwise t w caps same h = grind (arith, settle_peerwise)
 
   enqueue_peerwise : (t : ℕ) (w : World P) (m : Message P) → IsPeerwise w → EndsWith IsPeerwise (enqueue cmp t w m)
   enqueue_peerwise t w m h =
@@ -286,10 +276,8 @@ module _ {P : Type 0} (cmp : P → P → Ordering) (order : IsTotalOrder cmp) wh
       (landed_peerwise w w.sending m at h))
 
   act_peerwise : (call : Call P) (w : World P) → IsPeerwise w → EndsWith (IsPeerwise) (act cmp w call)
-  act_peerwise (call_limit t peer egress ingress) w h =
-      grind (arith, common_steps, rebalance_peerwise, limited_by, cap_peerwise)
-  act_peerwise (call_limit_link t origin recipient cap) w h =
-      grind (arith, common_steps, rebalance_peerwise, link_peerwise)
+  act_peerwise (call_limit t peer egress ingress) w h = grind (arith, rebalance_peerwise, limited_by, cap_peerwise)
+  act_peerwise (call_limit_link t origin recipient cap) w h = grind (arith, rebalance_peerwise, link_peerwise)
   act_peerwise (call_enqueue t m) w h = enqueue_peerwise t w m h
   act_peerwise (call_enqueue_all t ms) w h = each_ends cmp IsPeerwise t (enqueue_peerwise t) ms w h
   act_peerwise (call_advance t) w h = h
@@ -298,14 +286,14 @@ module _ {P : Type 0} (cmp : P → P → Ordering) (order : IsTotalOrder cmp) wh
   -- ---- soundness
 
   pub new_world_sound : (id : ℕ) → IsSound cmp (new_world id)
-  new_world_sound id = grind (arith, common_steps)
+  new_world_sound id = grind arith
 
   abbrev IsKept : World P → Type 0
   IsKept v = IsFit v × (IsEmptyAtFirst v × IsPeerwise v)
 
   as_sound : (c : Course (Completed P) (World P)) → EndsWith IsFit c → EndsWith IsEmptyAtFirst c
       → EndsWith (IsPeerwise) c → EndsWith (IsSound cmp) c
-  as_sound c a b d = grind (arith, common_steps, ends_more, ends_both)
+  as_sound c a b d = grind arith
 
   as_fit : (w : World P) → IsSound cmp w → IsFit w
   as_fit w sound = record { positive = sound.positive; one_each = sound.one_each }
@@ -313,14 +301,12 @@ module _ {P : Type 0} (cmp : P → P → Ordering) (order : IsTotalOrder cmp) wh
   pub ticks_keep_sound : {n : ℕ} {w : World P} {c : Course (Completed P) (World P)} → Ticks cmp n w c → IsSound cmp w
       → EndsWith (IsSound cmp) c
   ticks_keep_sound {w = w} {c = c} t sound =
-      grind (arith, common_steps, as_sound, ticks_fit, as_fit, ticks_empty, ticks_peerwise, as_peerwise)
+      grind (arith, as_sound, ticks_fit, as_fit, ticks_empty, ticks_peerwise, as_peerwise)
 
   pub act_keeps_sound : (call : Call P) (w : World P) → IsSound cmp w → EndsWith (IsSound cmp) (act cmp w call)
-  act_keeps_sound call w sound =
-      grind (arith, common_steps, as_sound, act_fit, as_fit, act_empty, act_peerwise, as_peerwise)
+  act_keeps_sound call w sound = grind (arith, as_sound, act_fit, as_fit, act_empty, act_peerwise, as_peerwise)
 
   -- an accepted call leads from a sound world to a sound one
   pub call_keeps_sound : (w : World P) (call : Call P) (now : ℕ) (course : Course (Completed P) (World P))
       → IsSound cmp w → Runs cmp w call now course → EndsWith (IsSound cmp) course
-  call_keeps_sound w call now course sound runs =
-      grind (arith, common_steps, ends_and_then, ticks_keep_sound, act_keeps_sound)
+  call_keeps_sound w call now course sound runs = grind (arith, ends_and_then, ticks_keep_sound, act_keeps_sound)

@@ -1,5 +1,4 @@
 -- Ticking for a while and then for another is ticking for both.
-use Rattle.std.proofs.lemmas.Grind.{common_steps}
 use Rattle.link_simulation.proofs.Common.{◌≡◌, ℕ, zero, suc, ◌+◌, List, [], ◌++◌, refl, sym, ap, ◌∙◌, subst, arith}
 use Rattle.link_simulation.proofs.Common.{append_assoc, Ordering, Completed, Course, World, goes, meets, preceded}
 use Rattle.link_simulation.proofs.Common.{Ticks, no_tick, one_tick, tick_faults, Error}
@@ -22,7 +21,7 @@ module _ {P : Type 0} (cmp : P → P → Ordering) where
   pub ticks_on : {a : ℕ} {w : World P} {course : Course (Completed P) (World P)} → Ticks cmp a w course
       → (b : ℕ) (v : World P) (cs : List (Completed P)) (c : Course (Completed P) (World P)) → course ≡ goes cs v
       → Ticks cmp b v c → Ticks cmp (b + a) w (preceded cs c)
-  ticks_on {w = w} no_tick b v cs c e more = grind (arith, common_steps, preceded_none)
+  ticks_on {w = w} no_tick b v cs c e more = grind arith
   ticks_on {w = w} (one_tick {n = n} {u = u} {cs = ds} {rest = rest} d i t) b v cs c e more =
       let r : (es : List (Completed P)) × (rest ≡ goes es v) × (ds ++ es ≡ cs) = rest_is ds rest cs v e in
       let later : Ticks cmp (b + n) u (preceded r.0 c) = ticks_on t b v r.0 c r.1 more in
@@ -72,12 +71,5 @@ module _ {P : Type 0} (cmp : P → P → Ordering) where
 
   pub ticks_both : (a b : ℕ) (w : World P) (first course : Course (Completed P) (World P)) → Ticks cmp a w first
       → Continues cmp b first course → Ticks cmp (a + b) w course
-  ticks_both a b w (goes cs v) course t (rest, more, e) =
-      let count : b + a ≡ a + b = omega arith in
-      subst (λ (n : ℕ). Ticks cmp n w course) count
-      (subst (λ (c : Course (Completed P) (World P)). Ticks cmp (b + a) w c) (sym e)
-      (ticks_on t b v cs rest refl more))
-  ticks_both a b w (meets fault) course t e =
-      let count : b + a ≡ a + b = omega arith in
-      subst (λ (n : ℕ). Ticks cmp n w course) count
-      (subst (λ (c : Course (Completed P) (World P)). Ticks cmp (b + a) w c) (sym e) (ticks_stop t b fault refl))
+  ticks_both a b w (goes cs v) course t (rest, more, e) = grind (arith, (ticks_on t b v cs rest refl more))
+  ticks_both a b w (meets fault) course t e = grind (arith, (ticks_stop t b fault refl))

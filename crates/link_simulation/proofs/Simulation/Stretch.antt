@@ -1,5 +1,4 @@
 -- Over a stretch without an event, ticking n nanoseconds is draining once for n nanoseconds.
-use Rattle.std.proofs.lemmas.Grind.{common_steps}
 use Rattle.link_simulation.proofs.Common.{◌≡◌, ℕ, zero, suc, ◌+◌, ◌<◌, ◌≤◌, List, [], ◌∷◌, map, Option, Some, None}
 use Rattle.link_simulation.proofs.Common.{refl, ap, subst, arith, add-one, Ordering, Amount, reduced, reduced_positive}
 use Rattle.link_simulation.proofs.Common.{Flight, IsQuiet, World, flows, AreFair, Parts, drained_by, rate_of}
@@ -15,7 +14,7 @@ module _ {P : Type 0} (cmp : P → P → Ordering) where
 
   pub drain_each_twice : (per : ℕ) (rates : Parts) (a b : ℕ) (fs : List (Flight P)) → 0 < per → ArePositive fs
       → drain_each per rates b (drain_each per rates a fs) ≡ drain_each per rates (a + b) fs
-  drain_each_twice per rates a b [] h pos = grind (arith, common_steps)
+  drain_each_twice per rates a b [] h pos = grind arith
   drain_each_twice per [] a b (f ∷ fs) h pos = refl
   drain_each_twice per (r ∷ rs) a b (f ∷ fs) h pos =
       rw (drained_at_twice per r a b f.left h pos.0, drain_each_twice per rs a b fs h pos.1) refl
@@ -33,7 +32,7 @@ module _ {P : Type 0} (cmp : P → P → Ordering) where
 
   pub drifts_on : (w : World P) (per : ℕ) (rates : Parts) (n : ℕ) → AreFair cmp w.caps (flows w) per rates
       → ArePositive w.sending → Drains cmp (drifted w per rates n) (drifted w per rates (n + 1))
-  drifts_on w per rates n fair pos = grind (arith, common_steps, flows_drained, drain_each_twice)
+  drifts_on w per rates n fair pos = grind (arith, flows_drained, drain_each_twice)
 
   -- ticking n quiet nanoseconds is draining once for n nanoseconds
   pub stretch : (w : World P) (per : ℕ) (rates : Parts) → AreFair cmp w.caps (flows w) per rates → ArePositive w.sending
@@ -43,8 +42,7 @@ module _ {P : Type 0} (cmp : P → P → Ordering) where
       quiet_tick (record { per = per; rates = rates; fair = fair; world = refl }) (quiet 1 (omega arith) (omega arith))
       no_time
   stretch w per rates fair pos (suc n) quiet =
-      let on : Drains cmp (drifted w per rates (suc n)) (drifted w per rates (suc n + 1)) =
-      drifts_on w per rates (suc n) fair pos in
+      let on : Drains cmp (drifted w per rates (suc n)) (drifted w per rates (suc n + 1)) = grind (arith, drifts_on) in
       longer_at_end (stretch w per rates fair pos n (λ k h j. quiet k h (omega arith)))
       (subst (λ m. Drains cmp (drifted w per rates (suc n)) (drifted w per rates m)) (add-one (suc n)) on)
       (quiet (suc (suc n)) (omega arith) (omega arith))

@@ -1,5 +1,4 @@
 use Rattle.link_simulation.proofs.Common.{arith}
-use Rattle.std.proofs.lemmas.Grind.{common_steps}
 use Rattle.link_simulation.proofs.Simulation.QuietInstants.{instant_ends_quiet, instant_of_quiet, quiet_if_unchanged}
 use Rattle.link_simulation.proofs.Simulation.Pass.{wake_ends_quiet}
 use Rattle.link_simulation.proofs.Simulation.SettlingEnds.{settle_rests}
@@ -7,7 +6,7 @@ use Rattle.link_simulation.proofs.Simulation.OtherPairs.{any_from_find, ends_mor
 use Rattle.link_simulation.proofs.model.instants.instants_end_in_quiet.Goals as goal
 
 pub returns-clause-settled : goal.returns-clause-settled
-returns-clause-settled g c = grind (arith, common_steps, ends_more, any_from_find, settle_rests)
+returns-clause-settled g c = grind (arith, ends_more, any_from_find, settle_rests)
 
 pub returns-clause-woken : goal.returns-clause-woken
 returns-clause-woken g c = λ t w none. wake_ends_quiet g.P.Ord.cmp g.met.P.Ord.total t w none

@@ -1,4 +1,3 @@
-use Rattle.std.proofs.lemmas.Grind.{common_steps}
 use Rattle.link_simulation.proofs.Common.{◌+◌, length, arith}
 use Rattle.link_simulation.proofs.Simulation.StepsEnough.{settle_enough}
 use Rattle.link_simulation.proofs.Simulation.Pass.{wake_more_is_pass, wake_is_one_pass}
@@ -9,4 +8,4 @@ returns-clause-settle g c = λ n t w h.
     settle_enough g.P.Ord.cmp g.met.P.Ord.total n (length w.sending + length w.waiting) t w h (omega arith)
 
 pub returns-clause-wake : goal.returns-clause-wake
-returns-clause-wake g c = grind (arith, common_steps, wake_more_is_pass, wake_is_one_pass)
+returns-clause-wake g c = grind (arith, wake_more_is_pass, wake_is_one_pass)

@@ -1,7 +1,6 @@
 use Rattle.link_simulation.proofs.Common.{arith, ◌≡◌, ℕ, refl, subst, nat_cmp, nat_cmp_total, Error, OutOfMemory}
 use Rattle.link_simulation.proofs.Common.{MomentTooLate, FlowIdsUsedUp, meets, new_world, Call, call_enqueue, Runs}
 use Rattle.link_simulation.proofs.Common.{new_planned, Faults, message, IsCalled}
-use Rattle.std.proofs.lemmas.Grind.{common_steps}
 use Rattle.link_simulation.proofs.Examples.ComputedReplies.{course_of, evenly, runs_so}
 use Rattle.link_simulation.proofs.Examples.ComputedDifferences.{in_turn}
 use Rattle.link_simulation.proofs.Rule.Limit.{new_stands}
@@ -24,7 +23,7 @@ abbrev in_time : Call ℕ
 in_time = call_enqueue 0 (message 1 2 1 9_223_372_036_854_775_808)
 
 called : IsCalled nat_cmp (new_planned 0) in_time 0 (new_world 0)
-called = grind (arith, common_steps, new_stands, nat_cmp_total, in_turn, new_world_sound)
+called = grind (arith, new_stands, nat_cmp_total, in_turn, new_world_sound)
 
 no_fault : (fault : Error) → ¬ Faults nat_cmp (new_world 0) in_time fault
 no_fault fault (now, at, runs) =

@@ -1,9 +1,8 @@
-use Rattle.link_simulation.proofs.Common.{arith, refl, whole, rate_of}
-use Rattle.std.proofs.lemmas.Grind.{common_steps}
+use Rattle.link_simulation.proofs.Common.{arith, refl}
 use Rattle.link_simulation.proofs.model.meanings.a_world_out_of_order_is_told.Goals as goal
 
 pub returns-clause-rate : goal.returns-clause-rate
-returns-clause-rate c h = grind (arith, common_steps, rate_of, whole)
+returns-clause-rate c h = grind arith
 
 pub returns-clause-pair : goal.returns-clause-pair
 returns-clause-pair c h = let clash = h.one_each.0 in cc

@@ -1,7 +1,6 @@
 use Rattle.link_simulation.proofs.Common.{arith, ◌≡◌, ℕ, List, [], ◌∷◌, ◌++◌, Bool, true, false, cond, AllZip, nat_cmp}
 use Rattle.link_simulation.proofs.Common.{Message, SameMessage, same_pair, IsCompletionOf, new_planned, message}
 use Rattle.link_simulation.proofs.Common.{arrives, of_pair, held_of}
-use Rattle.std.proofs.lemmas.Grind.{common_steps}
 use Rattle.link_simulation.proofs.model.orderly.a_lost_message_is_not_conserved.Goals as goal
 
 abbrev m : Message ℕ
@@ -13,10 +12,10 @@ Make done messages = AllZip (SameMessage nat_cmp) (of_pair nat_cmp m done ++ hel
 
 -- what completes as the message does is of its pair
 of_its_pair : (d : Message ℕ) → IsCompletionOf (arrives m 1 1) d → same_pair nat_cmp m d ≡ true
-of_its_pair d (t, at, is) = grind (arith, common_steps)
+of_its_pair d (t, at, is) = grind arith
 
 too_many : (d : Message ℕ) (ds : List (Message ℕ)) → same_pair nat_cmp m d ≡ true → Make (d ∷ ds) [] → ⊥
-too_many d ds is make = grind (arith, common_steps)
+too_many d ds is make = grind arith
 
 pub returns-clause-lost : goal.returns-clause-lost
 returns-clause-lost c h = by_done h.done h.completions_are (h.each_pair m)
@@ -46,5 +45,4 @@ returns-clause-doubled c h = by_done h.done h.completions_are (h.each_pair m)
         → Make done (m ∷ []) → ⊥
     by_done [] all make = all
     by_done (d ∷ []) all make = all.1
-    by_done (d ∷ e ∷ ds) all make =
-        too_many e ds (of_its_pair e all.1.0) (one_more (same_pair nat_cmp m d) d (e ∷ ds) (of_its_pair d all.0) make)
+    by_done (d ∷ e ∷ ds) all make = grind (arith, too_many, of_its_pair, one_more)

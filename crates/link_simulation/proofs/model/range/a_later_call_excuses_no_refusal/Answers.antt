@@ -1,15 +1,13 @@
-use Rattle.std.proofs.lemmas.Grind.{common_steps}
-use Rattle.link_simulation.proofs.Common.{◌≡◌, ℕ, [], ◌∷◌, arith, All-nil, OutOfMemory, MomentTooLate, call_advance}
-use Rattle.link_simulation.proofs.Common.{all_of_each}
+use Rattle.link_simulation.proofs.Common.{◌≡◌, ℕ, [], ◌∷◌, arith, OutOfMemory, MomentTooLate, call_advance}
 use Rattle.link_simulation.specs.Rule.Range.{AreInRange}
 use Rattle.link_simulation.proofs.model.range.a_later_call_excuses_no_refusal.Goals as goal
 
 -- one advance is in the range, and so are two
 one : AreInRange {P = ℕ} (call_advance 0 ∷ [])
-one = grind (arith, common_steps, all_of_each, All-nil)
+one = grind arith
 
 two : AreInRange {P = ℕ} (call_advance 0 ∷ call_advance 0 ∷ [])
-two = grind (arith, common_steps, all_of_each, All-nil)
+two = grind arith
 
 pub returns-clause-after_done : goal.returns-clause-after_done
 returns-clause-after_done c refuses = let memory : MomentTooLate ≡ OutOfMemory = refuses.0 two in cc

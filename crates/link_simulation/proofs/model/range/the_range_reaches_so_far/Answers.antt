@@ -1,6 +1,5 @@
-use Rattle.std.proofs.lemmas.Grind.{common_steps}
-use Rattle.link_simulation.proofs.Common.{◌≡◌, ℕ, zero, suc, ◌<◌, ◌^◌, List, ◌∷◌, refl, ap, arith, IfSome, All-nil}
-use Rattle.link_simulation.proofs.Common.{Message, Call, call_enqueue, moment_of, enqueued, message, all_of_each}
+use Rattle.link_simulation.proofs.Common.{common_steps, ◌≡◌, ℕ, zero, suc, ◌<◌, ◌^◌, List, ◌∷◌, refl, ap, arith, IfSome}
+use Rattle.link_simulation.proofs.Common.{Message, Call, call_enqueue, moment_of, enqueued, message}
 use Rattle.std.proofs.Common.{replicate}
 use Rattle.std.proofs.lemmas.List.{length-replicate}
 use Rattle.std.proofs.lemmas.List.Elements.{All-replicate}
@@ -20,7 +19,7 @@ abbrev at_edge : Call ℕ
 at_edge = call_enqueue edge (message 1 2 0 edge)
 
 pub returns-clause-calls : goal.returns-clause-calls
-returns-clause-calls c = grind (arith, common_steps, all_of_each)
+returns-clause-calls c = grind arith
 
 alike : (n : ℕ) (m : Message ℕ) → enqueued (replicate n (call_enqueue 0 m)) ≡ replicate n m
 alike zero m = refl
@@ -30,7 +29,7 @@ pub returns-clause-messages : goal.returns-clause-messages
 returns-clause-messages c n few = grind (arith, common_steps, All-replicate, alike, length-replicate)
 
 pub returns-clause-planned : goal.returns-clause-planned
-returns-clause-planned c = grind (arith, common_steps, All-nil, all_of_each)
+returns-clause-planned c = grind arith
 
 pub returns-clause-held : goal.returns-clause-held
-returns-clause-held c p none one id = grind (arith, common_steps, All-nil, all_of_each)
+returns-clause-held c p none one id = grind arith

@@ -1,4 +1,3 @@
-use Rattle.std.proofs.lemmas.Grind.{common_steps}
 use Rattle.link_simulation.proofs.Common.{◌≤◌, arith}
 use Rattle.link_simulation.proofs.model.replies.a_pair_out_of_order_is_told.Goals as goal
 
@@ -6,4 +5,4 @@ pub returns-clause-arrivals : goal.returns-clause-arrivals
 returns-clause-arrivals c h = let late : 5 ≤ 4 = h.deliveries.0.0 in absurd (omega arith)
 
 pub returns-clause-messages : goal.returns-clause-messages
-returns-clause-messages c h = grind (arith, common_steps)
+returns-clause-messages c h = grind arith

@@ -1,4 +1,3 @@
-use Rattle.std.proofs.lemmas.Grind.{common_steps}
 use Rattle.link_simulation.proofs.Common.{◌≤◌, arith}
 use Rattle.link_simulation.proofs.model.runs.completions_out_of_order_are_told.Goals as goal
 
@@ -12,4 +11,4 @@ pub returns-clause-across : goal.returns-clause-across
 returns-clause-across c h = let late : 5 ≤ 4 = h.deliveries.0.1.0 in absurd (omega arith)
 
 pub returns-clause-messages : goal.returns-clause-messages
-returns-clause-messages c h = grind (arith, common_steps)
+returns-clause-messages c h = grind arith

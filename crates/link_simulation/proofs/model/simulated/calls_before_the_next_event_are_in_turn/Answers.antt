@@ -1,4 +1,3 @@
-use Rattle.std.proofs.lemmas.Grind.{common_steps}
 use Rattle.link_simulation.proofs.Common.{◌<◌, ◌≤◌, refl, sym, subst, arith, next_event, new_world}
 use Rattle.std.proofs.Common.{IfSome}
 use Rattle.link_simulation.proofs.Laws.TurnByNext.{turn_by_next, called_at_once}
@@ -8,7 +7,7 @@ pub returns-clause-before : goal.returns-clause-before
 returns-clause-before g c = turn_by_next g.P.Ord.cmp g.met.P.Ord.total
 
 pub returns-clause-called : goal.returns-clause-called
-returns-clause-called g c p w call now stands moment later next = grind (arith, common_steps, turn_by_next)
+returns-clause-called g c p w call now stands moment later next = grind (arith, turn_by_next)
 
 pub returns-clause-first : goal.returns-clause-first
 returns-clause-first g c p id now call new stands moment =
