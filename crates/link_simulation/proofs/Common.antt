@@ -2,7 +2,7 @@
 pub use Rattle.std.proofs.Common.{All, Bool, Contains, List, None, Option, Some, [], add-one, ap, append-nil}
 pub use Rattle.std.proofs.Common.{append_assoc, arith, cond, false, inl, inr, length, length-append, map, not, refl}
 pub use Rattle.std.proofs.Common.{subst, suc, sum_by, sym, true, zero, ℕ, ◌*◌, ◌++◌, ◌+◌, ◌-◌, ◌<◌, ◌^◌, ◌∙◌, ◌∷◌, ◌≡◌}
-pub use Rattle.std.proofs.Common.{◌≢◌, ◌≤◌, ◌⊎◌}
+pub use Rattle.std.proofs.Common.{rules, ◌≢◌, ◌≤◌, ◌⊎◌}
 pub use Rattle.std.proofs.Math.Nat.{mul-pos}
 pub use Rattle.std.proofs.lemmas.Bool.{and_parts, cases_lt, eq-eqb, eqb-true, le-leb, leb-true, ltb-true, not-true}
 pub use Rattle.std.proofs.lemmas.Bool.{or_from, or_left, or_parts, or_right}

@@ -1,12 +1,12 @@
 -- Replies that do not agree with the simulation, found by computing: for worked examples.
-use Rattle.link_simulation.proofs.Common.{arith, ◌≡◌, ℕ, ◌-◌, ◌≤◌, List, [], ◌∷◌, Bool, true, false, not, Option, Some}
-use Rattle.link_simulation.proofs.Common.{None, refl, sym, ◌∙◌, subst, ◌&&◌, ◌||◌, ◌==◌, nat_le, nat_lt, AllZip}
-use Rattle.link_simulation.proofs.Common.{Ordering, IsTotalOrder, leb-true, ltb-true, eq-eqb, and_parts, Error}
+use Rattle.link_simulation.proofs.Common.{◌<◌, IfSome, arith, ◌≡◌, ℕ, ◌-◌, ◌≤◌, List, [], ◌∷◌, Bool, true, false, not}
+use Rattle.link_simulation.proofs.Common.{Option, Some, None, refl, sym, ◌∙◌, subst, ◌&&◌, ◌||◌, ◌==◌, nat_le, nat_lt}
+use Rattle.link_simulation.proofs.Common.{AllZip, Ordering, IsTotalOrder, leb-true, ltb-true, eq-eqb, and_parts, Error}
 use Rattle.link_simulation.proofs.Common.{OutOfMemory, NumberTooLarge, MomentTooLate, FlowIdsUsedUp, same_peer, World}
-use Rattle.link_simulation.proofs.Common.{new_world, Completed, Course, goes, meets, EndsWith, IsSound, Call}
-use Rattle.link_simulation.proofs.Common.{call_limit, call_limit_link, call_enqueue, call_advance, call_enqueue_all}
-use Rattle.link_simulation.proofs.Common.{call_next, moment_of, Runs, IsBeforeNext, Reply, reply_done, reply_next}
-use Rattle.link_simulation.proofs.Common.{reply_refused, SameCompletion, Faults, MayRefuse, Agrees}
+use Rattle.link_simulation.proofs.Common.{new_world, Completed, Course, goes, meets, IsSound, Call, call_limit}
+use Rattle.link_simulation.proofs.Common.{call_limit_link, call_enqueue, call_advance, call_enqueue_all, call_next}
+use Rattle.link_simulation.proofs.Common.{moment_of, Runs, IsBeforeNext, Reply, reply_done, reply_next, reply_refused}
+use Rattle.link_simulation.proofs.Common.{SameCompletion, Faults, MayRefuse, Agrees}
 use Rattle.link_simulation.proofs.Simulation.OneNext.{next_is_one}
 use Rattle.link_simulation.proofs.Simulation.OneRun.{runs_are_one}
 use Rattle.link_simulation.proofs.Simulation.Sound.{call_keeps_sound, new_world_sound}
@@ -121,10 +121,20 @@ module _ {P : Type 0} (cmp : P → P → Ordering) (order : IsTotalOrder cmp) (p
   pub in_turn : (n : ℕ) (w : World P) (now : ℕ) → IsSound cmp w → before_next n w now ≡ true → (w.moment ≤ now)
       × IsBeforeNext cmp now w
   in_turn n w now sound e =
-      grind (arith, next_is_one, is_later, ltb-true, (leb-true w.moment now (and_parts (nat_le w.moment now) (may_seek
-      cmp order plan n w) (and_parts (nat_le w.moment now && may_seek cmp order plan n w) (is_later (seek cmp order
-      plan n w) now) e).0).0), (next_so cmp order plan n w), (and_parts (nat_le w.moment now && may_seek cmp order plan
-      n w) (is_later (seek cmp order plan n w) now) e))
+      let two = and_parts (nat_le w.moment now && may_seek cmp order plan n w) (is_later (seek cmp order plan n w) now)
+      e in
+      let one = and_parts (nat_le w.moment now) (may_seek cmp order plan n w) two.0 in (
+        leb-true w.moment now one.0,
+        λ next is. by_next next
+            (next_is_one cmp order w next (seek cmp order plan n w) sound.positive is
+            (next_so cmp order plan n w one.1))
+            two.1,
+      )
+    where
+      by_next : (next : Option ℕ) → next ≡ seek cmp order plan n w → is_later (seek cmp order plan n w) now ≡ true
+          → IfSome next (λ t. now < t)
+      by_next None e later = tt
+      by_next (Some t) e later = ltb-true now t (subst (λ (o : Option ℕ). is_later o now ≡ true) (sym e) later)
 
   abbrev Disagrees : ℕ → List (Call P) → List (Reply P) → Type 0
   Disagrees n calls replies =
@@ -146,14 +156,11 @@ module _ {P : Type 0} (cmp : P → P → Ordering) (order : IsTotalOrder cmp) (p
       let here : Some now_too ≡ Some now = sym at_too ∙ at in
       let it : now_too ≡ now = cc in
       let runs_here : Runs cmp w call now (goes ds v) = subst (λ (t : ℕ). Runs cmp w call t (goes ds v)) it runs in
-      let one : course_of cmp order plan w call now ≡ goes ds v
-      =
-      runs_are_one cmp order w call now (course_of cmp order plan w call now) (goes ds v) sound
+      let one = runs_are_one cmp order w call now (course_of cmp order plan w call now) (goes ds v) sound
       (runs_so cmp order plan w call now two.0) runs_here in
       let left : (not (same_each cs ds) || differ n v calls replies) ≡ true = grind arith
       in
-      let sound_v : EndsWith (IsSound cmp) (goes ds v) =
-      call_keeps_sound cmp order w call now (goes ds v) sound runs_here in
+      let sound_v = call_keeps_sound cmp order w call now (goes ds v) sound runs_here in
       either (same_each cs ds) (differ n v calls replies) left (each_shown cs ds same) (λ d. ih v sound_v d rest)
 
   -- a fault that is met is the one that is computed
@@ -166,11 +173,8 @@ module _ {P : Type 0} (cmp : P → P → Ordering) (order : IsTotalOrder cmp) (p
       = grind (arith, and_parts) in
       let here : Some now_too ≡ Some now = sym at_too ∙ at in
       let it : now_too ≡ now = cc in
-      let one : course_of cmp order plan w call now ≡ meets why
-      =
-      runs_are_one cmp order w call now (course_of cmp order plan w call now) (meets why) sound
-      (runs_so cmp order plan w call now two.0)
-      (subst (λ (t : ℕ). Runs cmp w call t (meets why)) it runs) in
+      let one = runs_are_one cmp order w call now (course_of cmp order plan w call now) (meets why) sound
+      (runs_so cmp order plan w call now two.0) (subst (λ (t : ℕ). Runs cmp w call t (meets why)) it runs) in
       let not_met : not (is_met why (meets why)) ≡ true = grind arith in
       let clash : not true ≡ true = subst (λ (b : Bool). not b ≡ true) is not_met in
       cc
@@ -206,9 +210,8 @@ module _ {P : Type 0} (cmp : P → P → Ordering) (order : IsTotalOrder cmp) (p
   disagree n (call_next ∷ calls) (reply_done cs ∷ replies) w sound e agrees = agrees
   disagree n (call_next ∷ calls) (reply_refused why ∷ replies) w sound e agrees = agrees
   disagree n (call_advance now ∷ calls) (reply_done cs ∷ replies) w sound e agrees =
-      let two =
-      and_parts (nat_le w.moment now) (differ_at w (call_advance now) now (reply_done cs)
-      (λ v. differ n v calls replies)) e in
+      let two = and_parts (nat_le w.moment now)
+      (differ_at w (call_advance now) now (reply_done cs) (λ v. differ n v calls replies)) e in
       not_done n w (call_advance now) calls now cs replies (disagree n calls replies) sound refl two.1
       (agrees (leb-true w.moment now two.0))
   disagree n (call_advance now ∷ calls) (reply_refused why ∷ replies) w sound e agrees =

@@ -24,8 +24,7 @@ all_found : {X : Type 0} (test : X → Bool) (Q : X → Type 0) → ((x : X) →
     → list_all test xs ≡ true → All Q xs
 all_found test Q gives [] e = All-nil Q
 all_found test Q gives (x ∷ xs) e =
-    let parts : (test x ≡ true) × (list_all test xs ≡ true) = and_parts (test x) (list_all test xs) e in
-    All-cons Q x xs (gives x parts.0) (all_found test Q gives xs parts.1)
+    grind (arith, and_parts, All-cons, (all_found test Q gives xs (and_parts (test x) (list_all test xs) e).1))
 
 one_found : {X : Type 0} (test : X → Bool) (xs : List X) → list_any test xs ≡ true
     → (x : X) × Contains xs x × (test x ≡ true)
@@ -64,8 +63,7 @@ module _ (per : ℕ) (parts : ℕ → ℕ) where
       let side : Side = found.0 in
       let all : ((list_any (λ user. user == flow) side.users && (load parts side == side.cap * per)) ≡ true)
       × (list_all (λ other. nat_le (parts other) (parts flow)) side.users ≡ true) = grind (arith, and_parts) in
-      let two : (list_any (λ user. user == flow) side.users ≡ true) × ((load parts side == side.cap * per) ≡ true)
-      = and_parts (list_any (λ user. user == flow) side.users) (load parts side == side.cap * per) all.0 in
+      let two = and_parts (list_any (λ user. user == flow) side.users) (load parts side == side.cap * per) all.0 in
       let user : (u : ℕ) × Contains side.users u × ((u == flow) ≡ true) = one_found (λ u. u == flow) side.users two.0 in
       let same : user.0 ≡ flow = eqb-true user.0 flow user.2 in
       record {
@@ -196,9 +194,7 @@ module _ {P : Type 0} (cmp : P → P → Ordering) (order : IsTotalOrder cmp) (p
       let two : (is_empty w.sending ≡ true) × (is_empty w.waiting ≡ true) = grind (arith, and_parts) in
       never_comes (calm (last_moment - w.moment) w (empty_is w.sending two.0) (empty_is w.waiting two.1)).1
   next_so (suc n) w e =
-      let two : (is_planned w ≡ true)
-      × (cond (is_quiet (drifts w)) (may_seek n (drifts w)) (nat_le (drifts w).moment last_moment) ≡ true)
-      = and_parts (is_planned w)
+      let two = and_parts (is_planned w)
       (cond (is_quiet (drifts w)) (may_seek n (drifts w)) (nat_le (drifts w).moment last_moment)) e in
       by_quiet (is_quiet (drifts w)) refl two.1 (drains w two.0) (next_so n)
     where
@@ -324,8 +320,8 @@ module _ {P : Type 0} (cmp : P → P → Ordering) (order : IsTotalOrder cmp) (p
       → Agrees cmp w calls (answers n w calls)
   answers_agree n [] w e = tt
   answers_agree n (call_limit now peer egress ingress ∷ calls) w e =
-      grind (arith, common_steps, limit_agrees, answers, (reply_agrees n calls (answers_agree n calls) w (call_limit
-      now peer egress ingress) now refl e))
+      grind (arith, common_steps, limit_agrees, answers,
+      (reply_agrees n calls (answers_agree n calls) w (call_limit now peer egress ingress) now refl e))
   answers_agree n (call_limit_link now origin recipient cap ∷ calls) w e =
       link_agrees w now origin recipient cap calls
       (replied (course_of w (call_limit_link now origin recipient cap) now) w (λ v. answers n v calls))

@@ -42,14 +42,8 @@ module _ {P : Type 0} (cmp : P → P → Ordering) (order : IsTotalOrder cmp) (p
           ≡ Some c
           → Rebalances cmp now caps p c
       by_sending [] is e =
-          let found : (q : Planned P) × (look cmp order plan hint n now (record p {
-            caps = caps;
-            limited = true;
-          }) ≡ Some q) × (Some (goes [] q) ≡ Some c)
-          = bound (look cmp order plan hint n now (record p {
-            caps = caps;
-            limited = true;
-          })) (λ q. Some (goes [] q)) c e in
+          let found = bound (look cmp order plan hint n now (record p { caps = caps; limited = true; })) (λ q. Some
+          (goes [] q)) c e in
           subst (Rebalances cmp now caps p) (the_same found.2)
           (none_sending is (look_so cmp order plan hint n now (record p {
             caps = caps;
@@ -98,9 +92,7 @@ module _ {P : Type 0} (cmp : P → P → Ordering) (order : IsTotalOrder cmp) (p
       → each_at now ms p ≡ Some c → EnqueuesEach cmp now ms p c
   each_at_so now [] p c e = subst (EnqueuesEach cmp now [] p) (the_same e) all_enqueued
   each_at_so now (m ∷ ms) p c e =
-      let found : (d : Course (Completed P) (Planned P)) × (enqueue_at now m p ≡ Some d)
-      × (followed d (λ cs q. bind (each_at now ms q) (λ rest. Some (preceded cs rest))) ≡ Some c)
-      = bound (enqueue_at now m p)
+      let found = bound (enqueue_at now m p)
       (λ d. followed d (λ cs q. bind (each_at now ms q) (λ rest. Some (preceded cs rest)))) c e in
       by_course found.0 (enqueue_at_so now m p found.0 found.1) found.2 (each_at_so now ms)
     where
@@ -111,9 +103,7 @@ module _ {P : Type 0} (cmp : P → P → Ordering) (order : IsTotalOrder cmp) (p
           → EnqueuesEach cmp now (m ∷ ms) p c
       by_course (meets fault) one e ih = subst (EnqueuesEach cmp now (m ∷ ms) p) (the_same e) (one_stops one)
       by_course (goes cs q) one e ih =
-          let found : (rest : Course (Completed P) (Planned P)) × (each_at now ms q ≡ Some rest)
-          × (Some (preceded cs rest) ≡ Some c)
-          = bound (each_at now ms q) (λ rest. Some (preceded cs rest)) c e in
+          let found = bound (each_at now ms q) (λ rest. Some (preceded cs rest)) c e in
           subst (EnqueuesEach cmp now (m ∷ ms) p) (the_same found.2) (enqueues_one one (ih q found.0 found.1))
 
   -- whether that is the moment
@@ -179,9 +169,7 @@ module _ {P : Type 0} (cmp : P → P → Ordering) (order : IsTotalOrder cmp) (p
                 (meets fault) e),
           )
       at_event t true (goes cs q) is due finish e more ih =
-          let found : (rest : Course (Completed P) (Planned P)) × (advance_at now k q ≡ Some rest)
-          × (Some (preceded cs rest) ≡ Some c)
-          = bound (advance_at now k q) (λ rest. Some (preceded cs rest)) c more in
+          let found = bound (advance_at now k q) (λ rest. Some (preceded cs rest)) c more in
           let rest : Advanced now q found.0 = ih q found.0 found.1 in
           subst (Advanced now p) (the_same found.2) (
             rest.0 + 1,
@@ -190,9 +178,7 @@ module _ {P : Type 0} (cmp : P → P → Ordering) (order : IsTotalOrder cmp) (p
                 rest.1,
           )
       at_event t false (goes cs q) is due finish e more ih =
-          let found : (rest : Course (Completed P) (Planned P)) × (advance_at now k q ≡ Some rest)
-          × (Some (preceded cs rest) ≡ Some c)
-          = bound (advance_at now k q) (λ rest. Some (preceded cs rest)) c more in
+          let found = bound (advance_at now k q) (λ rest. Some (preceded cs rest)) c more in
           let rest : Advanced now q found.0 = ih q found.0 found.1 in
           subst (Advanced now p) (the_same found.2) (
             rest.0 + 1,
@@ -211,9 +197,7 @@ module _ {P : Type 0} (cmp : P → P → Ordering) (order : IsTotalOrder cmp) (p
           → Advanced now p c
       by_past t true is past e ih = grind (arith, no_more, ltb-true, wake_each_so)
       by_past t false is past e ih =
-          let found : (d : Course (Completed P) (Planned P)) × (event_of p (Some t) ≡ Some d)
-          × (followed d (λ cs q. bind (advance_at now k q) (λ rest. Some (preceded cs rest))) ≡ Some c)
-          = bound (event_of p (Some t))
+          let found = bound (event_of p (Some t))
           (λ d. followed d (λ cs q. bind (advance_at now k q) (λ rest. Some (preceded cs rest)))) c e in
           at_event t (is_moment t p.finish) found.0 is (ltb-false now t past) refl found.1 found.2 ih
 
@@ -310,9 +294,7 @@ module _ {P : Type 0} (cmp : P → P → Ordering) (order : IsTotalOrder cmp) (p
       → bind (obeys_at p call) (λ c. replied_to c p (λ q. replies_by_rule q calls)) ≡ Some replies
       → Replied p call calls replies
   replied_so p call calls replies ih e =
-      let found : (c : Course (Completed P) (Planned P)) × (obeys_at p call ≡ Some c)
-      × (replied_to c p (λ q. replies_by_rule q calls) ≡ Some replies)
-      = bound (obeys_at p call) (λ c. replied_to c p (λ q. replies_by_rule q calls)) replies e in
+      let found = bound (obeys_at p call) (λ c. replied_to c p (λ q. replies_by_rule q calls)) replies e in
       by_course found.0 (obeys_at_so p call found.0 found.1) found.2
     where
       by_course : (c : Course (Completed P) (Planned P)) → Obeys cmp p call c

@@ -135,8 +135,7 @@ module _ {P : Type 0} (cmp : P → P → Ordering) (order : IsTotalOrder cmp) (p
       by_test : (b : Bool) → is_spent_at s f ≡ b → (b || list_any (is_spent_at s) fs) ≡ true
           → (list_any (is_spent_at s) fs ≡ true → SomeSpentAt fs s) → SomeSpentAt (f ∷ fs) s
       by_test true is e ih =
-          let two : (nat_le f.updated s ≡ true) × (((left_at s f).num == 0) ≡ true) =
-          and_parts (nat_le f.updated s) ((left_at s f).num == 0) is in
+          let two = and_parts (nat_le f.updated s) ((left_at s f).num == 0) is in
           (0, f, refl, leb-true f.updated s two.0, eqb-true (left_at s f).num 0 two.1)
       by_test false is e ih = let rest : SomeSpentAt fs s = ih e in (suc rest.0, rest.1, rest.2, rest.3, rest.4)
 
@@ -162,8 +161,7 @@ module _ {P : Type 0} (cmp : P → P → Ordering) (order : IsTotalOrder cmp) (p
       → slice_get fs i ≡ Some f → (0 < f.left.den) × IfSome f.rate (λ r. 0 < r.den)
   positive_at [] i f e at = cc
   positive_at (g ∷ gs) i f e at =
-      let two : (is_positive g ≡ true) × (list_all is_positive gs ≡ true) =
-      and_parts (is_positive g) (list_all is_positive gs) e in
+      let two = and_parts (is_positive g) (list_all is_positive gs) e in
       by_place i at two.0 (λ j h. positive_at gs j f two.1 h)
     where
       by_place : (i : ℕ) → slice_get (g ∷ gs) i ≡ Some f → is_positive g ≡ true
@@ -178,12 +176,10 @@ module _ {P : Type 0} (cmp : P → P → Ordering) (order : IsTotalOrder cmp) (p
     where
       spent_before : s < from → list_all is_positive sending ≡ true → list_any (is_spent_at (from - 1)) sending ≡ true
       spent_before lt all =
-          let positive : (0 < some.1.left.den) × IfSome some.1.rate (λ r. 0 < r.den) =
-          positive_at sending some.0 some.1 all some.2 in
+          let positive = positive_at sending some.0 some.1 all some.2 in
           let updated : some.1.updated ≤ s = some.3 in
-          let on : (left_at (from - 1) some.1).num ≡ 0 =
-          spent_later some.1.rate (s - some.1.updated) (from - 1 - some.1.updated) some.1.left positive.1 positive.0
-          (omega arith) some.4 in
+          let on = spent_later some.1.rate (s - some.1.updated) (from - 1 - some.1.updated) some.1.left positive.1
+          positive.0 (omega arith) some.4 in
           so_if_spent (from - 1) sending some.0 some.1 some.2 (omega arith) on
 
       not_both : (b : Bool) → b ≡ true → not b ≡ true → ⊥
@@ -200,12 +196,11 @@ module _ {P : Type 0} (cmp : P → P → Ordering) (order : IsTotalOrder cmp) (p
           → (b || (list_all is_positive sending && not (list_any (is_spent_at (from - 1)) sending))) ≡ true → from ≤ s
       by_test true is e = let same : from ≡ t = eqb-true from t is in omega arith
       by_test false is e =
-          let two : (list_all is_positive sending ≡ true) × (not (list_any (is_spent_at (from - 1)) sending) ≡ true)
-          = and_parts (list_all is_positive sending) (not (list_any (is_spent_at (from - 1)) sending)) e in
+          let two = and_parts (list_all is_positive sending) (not (list_any (is_spent_at (from - 1)) sending)) e in
           by_order (cases_lt s from) two.0 two.1
 
   no_flight : (fs : List (RatedFlight P)) (s : ℕ) → is_none_of fs ≡ true → SomeSpentAt fs s → ⊥
-  no_flight [] s e some = let at : slice_get [] some.0 ≡ Some some.1 = some.2 in cc
+  no_flight [] s e some = cc
   no_flight (f ∷ fs) s e some = cc
 
   stayed_so : (caps : Caps P) (shares : Shares) (t place : ℕ) (fs : List (RatedFlight P))
@@ -228,16 +223,10 @@ module _ {P : Type 0} (cmp : P → P → Ordering) (order : IsTotalOrder cmp) (p
       let two : (is_fair shares.per shares.parts (capped_sides cmp p.caps (rated_messages sending)) ≡ true)
       × (bind (finish_from t sending) (λ o. Some (record p { sending = sending; accounted = t; finish = o })) ≡ Some q)
       = grind (arith, given_so) in
-      let found : (o : Option ℕ) × (finish_from t sending ≡ Some o) × (Some (record p {
-        sending = sending;
-        accounted = t;
-        finish = o;
-      }) ≡ Some q)
-      = bound (finish_from t sending) (λ o. Some (record p { sending = sending; accounted = t; finish = o })) q two.1 in
+      let found = bound (finish_from t sending) (λ o. Some (record p { sending = sending; accounted = t; finish = o
+      })) q two.1 in
       let from : ℕ = hint t (rated_messages sending) in
-      let skip : (may_skip t from sending ≡ true)
-      × (sought (is_none_of sending) (λ s. list_any (is_spent_at s) sending) n from ≡ Some found.0)
-      = given_so (may_skip t from sending)
+      let skip = given_so (may_skip t from sending)
       (sought (is_none_of sending) (λ s. list_any (is_spent_at s) sending) n from) found.0 found.1 in
       let starts_at : (s : ℕ) → SomeSpentAt sending s → t ≤ s = grind (arith, updated_at) in
       let same : record p { sending = sending; accounted = t; finish = found.0 } ≡ q = the_same found.2 in
@@ -270,8 +259,7 @@ module _ {P : Type 0} (cmp : P → P → Ordering) (order : IsTotalOrder cmp) (p
 
   ready_if_so : (t : ℕ) (p : Planned P) (s : ℕ) → is_ready_at t p s ≡ true → (t ≤ s) × SomeReadyAt cmp p s
   ready_if_so t p s e =
-      let two : (nat_le t s ≡ true) × (list_any (may_launch cmp s p) (fronts cmp p.waiting) ≡ true) =
-      and_parts (nat_le t s) (list_any (may_launch cmp s p) (fronts cmp p.waiting)) e in
+      let two = and_parts (nat_le t s) (list_any (may_launch cmp s p) (fronts cmp p.waiting)) e in
       (leb-true t s two.0, found_in (fronts cmp p.waiting) (fronts_are_first cmp order p.waiting) two.1)
     where
       found_in : (ms : List (Message P)) → Each (λ m. find (same_pair cmp m) p.waiting ≡ Some m) ms
@@ -304,9 +292,7 @@ module _ {P : Type 0} (cmp : P → P → Ordering) (order : IsTotalOrder cmp) (p
 
   pub look_so : (t : ℕ) (p q : Planned P) → look t p ≡ Some q → PlansStart cmp t p q
   look_so t p q e =
-      let found : (o : Option ℕ) × (sought (all_busy p) (is_ready_at t p) n t ≡ Some o)
-      × (Some (record p { start = o }) ≡ Some q)
-      = bound (sought (all_busy p) (is_ready_at t p) n t) (λ o. Some (record p { start = o })) q e in
+      let found = bound (sought (all_busy p) (is_ready_at t p) n t) (λ o. Some (record p { start = o })) q e in
       let same : record p { start = found.0 } ≡ q = the_same found.2 in
       subst (PlansStart cmp t p) same record {
         start =
@@ -339,9 +325,8 @@ module _ {P : Type 0} (cmp : P → P → Ordering) (order : IsTotalOrder cmp) (p
           ≡ Some c
           → Launches cmp t p (Some m) c
       by_test true true may below e =
-          let found : (q : Planned P) × (account t (launched cmp t p m) ≡ Some q)
-          × (Some (goes (leavers_of t (launched cmp t p m)) q) ≡ Some c)
-          = bound (account t (launched cmp t p m)) (λ q. Some (goes (leavers_of t (launched cmp t p m)) q)) c e in
+          let found = bound (account t (launched cmp t p m)) (λ q. Some (goes (leavers_of t (launched cmp t p m)) q)) c
+          e in
           subst (Launches cmp t p (Some m)) (the_same found.2)
           (starts may (ltb-true p.next_id last_moment below) (account_so t (launched cmp t p m) found.0 found.1))
       by_test true false may below e =
@@ -384,14 +369,9 @@ module _ {P : Type 0} (cmp : P → P → Ordering) (order : IsTotalOrder cmp) (p
           → AreFinishes t k → Finishes cmp t (m ∷ ms) p c
       by_late true is e ih = subst (Finishes cmp t (m ∷ ms) p) (the_same e) (late is)
       by_late false is e ih =
-          let found : (l : Course (Message P) (Planned P)) × (launch t (landed cmp t p m) (next_of cmp p m) ≡ Some l)
-          × (followed l (λ more q. bind (finish_all t k (ms ++ more) q)
-          (λ rest. Some (preceded (completed cmp t m ∷ []) rest))) ≡ Some c)
-          = bound (launch t (landed cmp t p m) (next_of cmp p m))
-          (λ l. followed l
-          (λ more q. bind (finish_all t k (ms ++ more) q)
-          (λ rest. Some (preceded (completed cmp t m ∷ []) rest))))
-          c e in
+          let found = bound (launch t (landed cmp t p m) (next_of cmp p m)) (λ l. followed l
+          (λ more q. bind (finish_all t k (ms ++ more) q) (λ rest. Some (preceded (completed cmp t m ∷ []) rest)))) c e
+          in
           by_launch found.0 is (launch_so t (landed cmp t p m) (next_of cmp p m) found.0 found.1) found.2 ih
 
   -- those pairs start
@@ -413,14 +393,8 @@ module _ {P : Type 0} (cmp : P → P → Ordering) (order : IsTotalOrder cmp) (p
       let found : (q : Planned P) × (look t p ≡ Some q) × (Some (goes [] q) ≡ Some c) = grind (arith, bound) in
       subst (WakesEach cmp t [] p) (the_same found.2) (all_started (look_so t p found.0 found.1))
   wake_each_so t (m ∷ ms) p c e =
-      let found : (l : Course (Message P) (Planned P)) × (launch t p (next_of cmp p m) ≡ Some l)
-      × (followed l (λ more q. bind (finish_all t n more q)
-      (λ d. followed d (λ cs r. bind (wake_each t ms r) (λ rest. Some (preceded cs rest))))) ≡ Some c)
-      = bound (launch t p (next_of cmp p m))
-      (λ l. followed l
-      (λ more q. bind (finish_all t n more q)
-      (λ d. followed d (λ cs r. bind (wake_each t ms r) (λ rest. Some (preceded cs rest))))))
-      c e in
+      let found = bound (launch t p (next_of cmp p m)) (λ l. followed l (λ more q. bind (finish_all t n more q)
+      (λ d. followed d (λ cs r. bind (wake_each t ms r) (λ rest. Some (preceded cs rest)))))) c e in
       by_launch found.0 (launch_so t p (next_of cmp p m) found.0 found.1) found.2 (wake_each_so t ms)
     where
       by_finish : (more : List (Message P)) (q : Planned P) (d : Course (Completed P) (Planned P))
@@ -429,9 +403,7 @@ module _ {P : Type 0} (cmp : P → P → Ordering) (order : IsTotalOrder cmp) (p
           → WakesEach cmp t (m ∷ ms) p c
       by_finish more q (meets fault) l f e ih = subst (WakesEach cmp t (m ∷ ms) p) (the_same e) (no_finish l f)
       by_finish more q (goes cs r) l f e ih =
-          let found : (rest : Course (Completed P) (Planned P)) × (wake_each t ms r ≡ Some rest)
-          × (Some (preceded cs rest) ≡ Some c)
-          = bound (wake_each t ms r) (λ rest. Some (preceded cs rest)) c e in
+          let found = bound (wake_each t ms r) (λ rest. Some (preceded cs rest)) c e in
           subst (WakesEach cmp t (m ∷ ms) p) (the_same found.2) (starts_one l f (ih r found.0 found.1))
 
       by_launch : (l : Course (Message P) (Planned P)) → Launches cmp t p (next_of cmp p m) l
@@ -443,9 +415,7 @@ module _ {P : Type 0} (cmp : P → P → Ordering) (order : IsTotalOrder cmp) (p
           → WakesEach cmp t (m ∷ ms) p c
       by_launch (meets fault) l e ih = subst (WakesEach cmp t (m ∷ ms) p) (the_same e) (no_start l)
       by_launch (goes more q) l e ih =
-          let found : (d : Course (Completed P) (Planned P)) × (finish_all t n more q ≡ Some d)
-          × (followed d (λ cs r. bind (wake_each t ms r) (λ rest. Some (preceded cs rest))) ≡ Some c)
-          = bound (finish_all t n more q)
+          let found = bound (finish_all t n more q)
           (λ d. followed d (λ cs r. bind (wake_each t ms r) (λ rest. Some (preceded cs rest)))) c e in
           by_finish more q found.0 l (finish_all_so t n more q found.0 found.1) found.2 ih
 
@@ -458,6 +428,5 @@ module _ {P : Type 0} (cmp : P → P → Ordering) (order : IsTotalOrder cmp) (p
   pub settle_at_so : (t : ℕ) (p : Planned P) (c : Course (Completed P) (Planned P)) → settle_at t p ≡ Some c
       → Settles cmp t p c
   settle_at_so t p c e =
-      let found : (q : Planned P) × (account t p ≡ Some q) × (finish_all t n (leavers_of t p) q ≡ Some c) =
-      bound (account t p) (λ q. finish_all t n (leavers_of t p) q) c e in
+      let found = bound (account t p) (λ q. finish_all t n (leavers_of t p) q) c e in
       settling (account_so t p found.0 found.1) (finish_all_so t n (leavers_of t p) found.0 c found.2)

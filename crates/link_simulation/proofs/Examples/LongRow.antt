@@ -3,7 +3,6 @@ use Rattle.link_simulation.proofs.Common.{◌≡◌, ℕ, ◌+◌, ◌<◌, ◌�
 use Rattle.link_simulation.proofs.Common.{nat_cmp, eqb-true, Amount, drained, whole, reduced, gcd_within, AreFair}
 use Rattle.link_simulation.proofs.Common.{capped_sides, World, IsQuiet, flows, NextIs, comes_next, drifted, message}
 use Rattle.std.proofs.Common.{lit≤}
-use Rattle.fair_rates.specs.Numbers.Amount.{Covers}
 use Rattle.link_simulation.specs.Examples.Rows.{flying}
 use Rattle.fair_rates.proofs.Numbers.Draining.{spent_if_covers, covers_if_spent}
 use Rattle.link_simulation.proofs.Examples.ComputedReplies.{fair_if_so}
@@ -30,8 +29,7 @@ some_left k h = by_test ((drained (whole 1) speed k).num == 0) refl
     by_test : (b : Bool) → ((drained (whole 1) speed k).num == 0) ≡ b → b ≡ false
     by_test false e = refl
     by_test true e =
-        let c : Covers speed k (whole 1) =
-        covers_if_spent (whole 1) speed k (omega arith) (omega arith)
+        let c = covers_if_spent (whole 1) speed k (omega arith) (omega arith)
         (eqb-true ((drained (whole 1) speed k).num) 0 e) in
         absurd (omega arith)
 

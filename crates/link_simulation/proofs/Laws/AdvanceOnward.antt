@@ -22,8 +22,7 @@ module _ {P : Type 0} (cmp : P → P → Ordering) (order : IsTotalOrder cmp) wh
   advance_splits w v a b cs course after later first second =
       let first_ticks : Ticks cmp (a - w.moment) w (goes cs v) = ticks_of w a (goes cs v) first in
       let at : v.moment ≡ w.moment + (a - w.moment) = grind (arith, ends_at, ticks_end_at) in
-      let all : Ticks cmp ((b - v.moment) + (a - w.moment)) w (preceded cs course) =
-      ticks_on cmp first_ticks (b - v.moment) v cs course refl (ticks_of v b course second) in
+      let all = ticks_on cmp first_ticks (b - v.moment) v cs course refl (ticks_of v b course second) in
       let count : (b - v.moment) + (a - w.moment) ≡ b - w.moment = omega arith in
       record {
         ticked = preceded cs course;

@@ -1,12 +1,12 @@
 -- One message alone under caps takes its least time at the least of them.
-use Rattle.link_simulation.proofs.Common.{◌≡◌, ℕ, zero, suc, ◌+◌, ◌-◌, ◌*◌, ◌<◌, ◌≤◌, inl, inr, List, [], ◌∷◌, length}
-use Rattle.link_simulation.proofs.Common.{true, false, Option, Some, Contains, refl, sym, ap, ◌∙◌, subst, arith}
-use Rattle.link_simulation.proofs.Common.{add-one, ◌||◌, ◌==◌, list_any, Ordering, IsTotalOrder, eq-eqb, All-contains}
-use Rattle.link_simulation.proofs.Common.{Amount, whole, reduced, drained, Side, load, World, Flight, goes, flight_of}
-use Rattle.link_simulation.proofs.Common.{last_moment, is_in_order, is_done, is_late, completed, completion_of, instant}
-use Rattle.link_simulation.proofs.Common.{settle, IsQuiet, out_of_flight, call_advance, Runs, Message, Caps}
-use Rattle.link_simulation.proofs.Common.{is_delivered, AreFair, capped_sides, is_unlimited, Drains, Passes, no_time}
-use Rattle.link_simulation.proofs.Common.{quiet_tick, Ticks, NextIs, comes_next, In, All-from_contains}
+use Rattle.link_simulation.proofs.Common.{◌≡◌, ℕ, zero, suc, ◌+◌, ◌-◌, ◌*◌, ◌<◌, ◌≤◌, List, [], ◌∷◌, length, true}
+use Rattle.link_simulation.proofs.Common.{false, Option, Some, Contains, refl, sym, ◌∙◌, subst, arith, add-one, ◌||◌}
+use Rattle.link_simulation.proofs.Common.{◌==◌, list_any, Ordering, IsTotalOrder, eq-eqb, All-contains, Amount, whole}
+use Rattle.link_simulation.proofs.Common.{reduced, drained, Side, load, World, Flight, goes, flight_of, last_moment}
+use Rattle.link_simulation.proofs.Common.{is_in_order, is_done, is_late, completed, completion_of, instant, settle}
+use Rattle.link_simulation.proofs.Common.{IsQuiet, out_of_flight, call_advance, Runs, Message, Caps, is_delivered}
+use Rattle.link_simulation.proofs.Common.{AreFair, capped_sides, is_unlimited, Drains, Passes, no_time, quiet_tick}
+use Rattle.link_simulation.proofs.Common.{Ticks, NextIs, comes_next, All-from_contains, rules}
 use Rattle.std.proofs.Common.{le_refl, ◌↔◌}
 use Rattle.std.proofs.lemmas.Bool.{ne_eqb}
 use Rattle.link_simulation.specs.Laws.Alone.{IsTimeFor, IsLeastCap, MayGoAlone, IsDoneAfter}
@@ -16,8 +16,7 @@ use Rattle.fair_rates.proofs.Numbers.Draining.{spent_from_least}
 use Rattle.link_simulation.proofs.Simulation.AlikeMessages.{same_itself, pair_itself}
 use Rattle.link_simulation.proofs.Simulation.Continuing.{rates_exist}
 use Rattle.link_simulation.proofs.Rule.FinishEvent.{settle_quiet, ticks_quiet, ticks_through}
-use Rattle.link_simulation.proofs.Laws.PartRates.{Kind, at_egress, at_ingress, at_link, cap_at, side_at, uses_at}
-use Rattle.link_simulation.proofs.Laws.PartRates.{from_sides}
+use Rattle.link_simulation.proofs.Laws.PartRates.{Kind, at_egress, at_ingress, at_link, cap_at, uses_at, from_sides}
 use Rattle.link_simulation.proofs.Simulation.Queue.{settle_first}
 use Rattle.link_simulation.proofs.Simulation.Stretch.{stretch, drifts_on}
 
@@ -38,16 +37,7 @@ module _ {P : Type 0} (cmp : P → P → Ordering) (order : IsTotalOrder cmp) wh
 
     -- it is the one user of each of its sides, and uses some
     own_side : (s : Side) → Contains sides s → (s.users ≡ 0 ∷ []) × (is_unlimited cmp caps m ≡ false)
-    own_side s has = by_kind (from_sides cmp caps (m ∷ []) s has)
-      where
-        by_own : (k : Kind) (cap : ℕ) → cap_at cmp caps k m ≡ Some cap → s ≡ side_at cmp caps k (m ∷ []) m cap
-            → (s.users ≡ 0 ∷ []) × (is_unlimited cmp caps m ≡ false)
-        by_own k cap is e = (ap (λ (t : Side). t.users) e ∙ rw (uses_own k cap is) refl, limited_by k cap is)
-
-        by_kind : (n : Message P) × In (m ∷ []) n × ((k : Kind) × (cap : ℕ) × (cap_at cmp caps k n ≡ Some cap)
-            × (s ≡ side_at cmp caps k (m ∷ []) n cap)) → (s.users ≡ 0 ∷ []) × (is_unlimited cmp caps m ≡ false)
-        by_kind (n, inl same, (k, cap, is, e)) = grind (arith, by_own)
-        by_kind (n, inr none, rest) = absurd none
+    own_side s has = search (rules, from_sides, uses_own, limited_by)
 
     alone_load : (cap : ℕ) (s : Side) → Contains sides s → load (λ _. cap) s ≡ cap
     alone_load cap s has = grind (arith, (own_side s has))
@@ -172,8 +162,7 @@ module _ {P : Type 0} (cmp : P → P → Ordering) (order : IsTotalOrder cmp) wh
     comes within =
         let r = reaches k (omega arith) in
         comes_next r.1 r.2
-        (λ quiet. let none : list_any (is_done cmp (later (suc k))) (later (suc k)).sending
-        ≡ false = quiet.none_done in
+        (λ quiet. let none = quiet.none_done in
         busy none)
         within
       where

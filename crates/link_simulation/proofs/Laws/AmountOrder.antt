@@ -30,8 +30,7 @@ plus_under a x y n k h = over a.num a.den x.num x.den y.num y.den n k h
     over : (p b x d y e n k : ℕ) → (x * 1 + n * d) * (e * 1) ≤ (y * 1 + k * e) * (d * 1)
         → ((p * d + x * b) * 1 + n * (b * d)) * ((b * e) * 1) ≤ ((p * e + y * b) * 1 + k * (b * e)) * ((b * d) * 1)
     over p b x d y e n k h =
-        let one : (b * b) * ((x * 1 + n * d) * (e * 1)) ≤ (b * b) * ((y * 1 + k * e) * (d * 1)) =
-        mul-le-mul_left (b * b) h in
+        let one = mul-le-mul_left (b * b) h in
         omega arith
 
 -- one of them has (whole 0) left
@@ -89,10 +88,6 @@ share_grows x y a b d e some le h =
         let one : e * (x * (q * d)) ≤ e * ((y * d + a * q) * p) = mul-le-mul_left e h in
         let two : (q * p) * (a * e) ≤ (q * p) * (b * d) = mul-le-mul_left (q * p) le in
         omega arith
-
--- and none
-pub no_share : (x : Amount) (d : ℕ) → IsAtMost x (plus x (share 0 d))
-no_share x d = omega arith
 
 -- draining takes no more than its rate
 pub drained_takes : (left : Amount) (a d n : ℕ) → 0 < left.den → 0 < d

@@ -151,8 +151,8 @@ module _ {P : Type 0} (cmp : P → P → Ordering) (order : IsTotalOrder cmp) wh
 
     follows_trans : (w v u : World P) → Follows w v → Follows v u → Follows w u
     follows_trans w v u f g =
-        grind (arith, (at_most_trans (bytes_from cmp p w) (bytes_from cmp p v) (bytes_from cmp p u) (bytes_positive v
-        f.holds) f.bytes g.bytes))
+        grind (arith, (at_most_trans (bytes_from cmp p w) (bytes_from cmp p v) (bytes_from cmp p u)
+        (bytes_positive v f.holds) f.bytes g.bytes))
 
     follows_itself : (w : World P) → Holds w → Follows w w
     follows_itself w h = record { holds = h; bytes = at_most_itself (bytes_from cmp p w) }
@@ -197,8 +197,8 @@ module _ {P : Type 0} (cmp : P → P → Ordering) (order : IsTotalOrder cmp) wh
     settle_within_follows : (n t : ℕ) (w : World P) → Holds w → EndsWith (Follows w) (settle_within cmp n t w)
     settle_within_follows zero t w h = follows_itself w h
     settle_within_follows (suc n) t w h =
-        grind (arith, settle_none, follows_itself, settle_first, follows_then, complete_follows, (settle_within_follows
-        n t))
+        grind (arith, settle_none, follows_itself, settle_first, follows_then, complete_follows,
+        (settle_within_follows n t))
 
     wake_within_follows : (n t : ℕ) (w : World P) → Holds w → EndsWith (Follows w) (wake_within cmp n t w)
     wake_within_follows zero t w h = follows_itself w h
@@ -249,15 +249,11 @@ module _ {P : Type 0} (cmp : P → P → Ordering) (order : IsTotalOrder cmp) wh
               users = places_from 0 (λ (n : Message P). same_peer cmp m.origin n.origin) (flows w);
             } in
             let users : side.users ≡ places_from 0 from_it (flows w) = same_users m.origin 0 (flows w) from in
-            let has : Contains (capped_sides cmp w.caps (flows w)) side
-            = find_in_flat_map from_it (sides_for cmp w.caps (flows w)) m side (flows w) e
+            let has = find_in_flat_map from_it (sides_for cmp w.caps (flows w)) m side (flows w) e
             (rw (h.egress m.origin from) (0, omega arith, refl)) in
-            let load_is : total (map from_it (flows w)) rates ≡ sum_by fair.parts side.users
-            = ap (total (map from_it (flows w))) fair.rated
-            ∙ total_is_load w.caps fair.parts from_it 0 (flows w) (own_limited w h)
-            ∙ ap (sum_by fair.parts) (sym users) in
-            let fits : sum_by fair.parts side.users ≤ cap * per =
-            All-contains (λ s. load fair.parts s ≤ s.cap * per) (capped_sides cmp w.caps (flows w)) side
+            let load_is = ap (total (map from_it (flows w))) fair.rated ∙ total_is_load w.caps fair.parts from_it 0
+            (flows w) (own_limited w h) ∙ ap (sum_by fair.parts) (sym users) in
+            let fits = All-contains (λ s. load fair.parts s ≤ s.cap * per) (capped_sides cmp w.caps (flows w)) side
             fair.fair.within has in
             record { within = omega (arith, load_is, fits); limited = limits }
 
@@ -328,11 +324,14 @@ module _ {P : Type 0} (cmp : P → P → Ordering) (order : IsTotalOrder cmp) wh
     ticks_lose {w = w} no_tick cs v e h =
         let same : w ≡ v = cc in subst (λ (z : World P). Loses 0 w z) same (loses_none w w (follows_itself w h))
     ticks_lose {w = w} (one_tick {n = n} {v = z} {u = u} {cs = ds} {rest = rest} d i t) cs v e h =
-        grind (arith, common_steps, (loses_both 1 (0 + n) w z v (drain_loses w z h d) (loses_both 0 n z u v
-        (loses_none z u (ends_in z (instant cmp z) ds u (instant_follows z (drain_loses w z h d).holds) i))
-        (ticks_lose t (rest_is cmp ds rest cs v e).0 v (rest_is cmp ds rest cs v e).1 (ends_in z (instant cmp z) ds u
-        (instant_follows z (drain_loses w z h d).holds) i).holds) (ends_in z (instant cmp z) ds u (instant_follows z
-        (drain_loses w z h d).holds) i).holds) (drain_loses w z h d).holds))
+        let r : (es : List (Completed P)) × (rest ≡ goes es v) × (ds ++ es ≡ cs) = rest_is cmp ds rest cs v e in
+        let first : Loses 1 w z = drain_loses w z h d in
+        let after : Follows z u = ends_in z (instant cmp z) ds u (instant_follows z first.holds) i in
+        let later : Loses n u v = ticks_lose t r.0 v r.1 after.holds in
+        let both : Loses (0 + n) z v = loses_both 0 n z u v (loses_none z u after) later after.holds in
+        let all : Loses (1 + (0 + n)) w v = loses_both 1 (0 + n) w z v first both first.holds in
+        let count : 1 + (0 + n) ≡ suc n = omega arith in
+        subst (λ (k : ℕ). Loses k w v) count all
     ticks_lose (tick_faults d i) cs v e h = cc
 
     -- and so in one `advance`

@@ -2,23 +2,18 @@
 -- to its cap.
 use Rattle.link_simulation.proofs.Common.{◌≡◌, ℕ, zero, suc, ◌+◌, ◌-◌, ◌*◌, ◌≤◌, List, [], ◌∷◌, length, Bool, not, Some}
 use Rattle.link_simulation.proofs.Common.{refl, sym, ap, ◌∙◌, subst, arith, filter, AllZip, Ordering, IsTotalOrder}
-use Rattle.link_simulation.proofs.Common.{Amount, whole, plus, IsAtMost, same_peer, Message, SameMessage, same_pair}
-use Rattle.link_simulation.proofs.Common.{World, Flight, Completed, last_moment, IsSound, call_advance, Planned}
-use Rattle.link_simulation.proofs.Common.{RatedFlight, StandsFor, IsSameFlight, GoesByRule, IsRun, zip-filter}
-use Rattle.link_simulation.proofs.Common.{filter_swap}
+use Rattle.link_simulation.proofs.Common.{Amount, whole, plus, IsAtMost, Message, SameMessage, same_pair, World, Flight}
+use Rattle.link_simulation.proofs.Common.{Completed, last_moment, IsSound, call_advance, Planned, RatedFlight}
+use Rattle.link_simulation.proofs.Common.{StandsFor, IsSameFlight, GoesByRule, zip-filter, filter_swap}
 use Rattle.link_simulation.specs.Laws.Bytes.{bytes_from, left_from, waiting_from, allowance}
 use Rattle.link_simulation.specs.Rule.Simulated.{KeepsToCaps}
-use Rattle.link_simulation.proofs.Simulation.AlikeMessages.{same_itself, pair_itself, pairs_alike, message_itself}
+use Rattle.link_simulation.proofs.Simulation.AlikeMessages.{same_itself, pairs_alike, message_itself}
 use Rattle.fair_rates.proofs.Lists.Filters.{length-filter}
-use Rattle.link_simulation.proofs.Laws.Bytes.{Loses, advance_loses}
+use Rattle.link_simulation.proofs.Laws.Bytes.{advance_loses}
 use Rattle.link_simulation.proofs.Rule.Simulated.{calls_simulated, sound_of_stands, none_waits}
 
 module _ {P : Type 0} (cmp : P → P → Ordering) (order : IsTotalOrder cmp) where
   module _ (origin : P) where
-    origins_alike : (m n k : Message P) → SameMessage cmp m n → SameMessage cmp m k
-        → same_peer cmp origin n.origin ≡ same_peer cmp origin k.origin
-    origins_alike m n k e f = grind arith
-
     -- ---- what is in flight
 
     left_alike : (t : ℕ) (fs : List (RatedFlight P)) (gs hs : List (Flight P)) → AllZip (IsSameFlight cmp t) fs gs
@@ -62,20 +57,15 @@ module _ {P : Type 0} (cmp : P → P → Ordering) (order : IsTotalOrder cmp) wh
     waiting_alike zero (m ∷ ms) ns fits alike = absurd (omega arith)
     waiting_alike (suc n) (m ∷ ms) ns fits alike =
         let keep : Message P → Bool = λ k. not (same_pair cmp m k) in
-        let shorter : filter keep (m ∷ ms) ≡ filter keep ms = rw (pair_itself cmp order m) refl in
         let few : length (filter keep (m ∷ ms)) ≤ n = grind (arith, length-filter) in
-        let own : waiting_from cmp origin (filter (same_pair cmp m) (m ∷ ms))
-        ≡ waiting_from cmp origin (filter (same_pair cmp m) ns)
-        = waiting_zip (filter (same_pair cmp m) (m ∷ ms)) (filter (same_pair cmp m) ns) (alike m) in
-        let rest : waiting_from cmp origin (filter keep (m ∷ ms)) ≡ waiting_from cmp origin (filter keep ns)
-        = waiting_alike n (filter keep (m ∷ ms)) (filter keep ns) few (others_alike m (m ∷ ms) ns alike) in
+        let own = waiting_zip (filter (same_pair cmp m) (m ∷ ms)) (filter (same_pair cmp m) ns) (alike m) in
+        let rest = waiting_alike n (filter keep (m ∷ ms)) (filter keep ns) few (others_alike m (m ∷ ms) ns alike) in
         waiting_parted (same_pair cmp m) (m ∷ ms) ∙ (rw (own, rest) refl) ∙ sym (waiting_parted (same_pair cmp m) ns)
 
     -- the bytes of an origin are the same in all worlds of one moment that a planned world stands for
     pub bytes_alike : (q : Planned P) (w v : World P) → StandsFor cmp q w → StandsFor cmp q v → w.moment ≡ v.moment
         → bytes_from cmp origin w ≡ bytes_from cmp origin v
     bytes_alike q w v here there at =
-        let flies : AllZip (IsSameFlight cmp v.moment) q.sending w.sending = grind arith in
         let left : left_from cmp origin w.sending ≡ left_from cmp origin v.sending = grind (arith, left_alike) in
         let waits : waiting_from cmp origin w.waiting ≡ waiting_from cmp origin v.waiting
         = sym (waiting_alike (length q.waiting) q.waiting w.waiting (omega arith) here.follows.tallies.waiting)
@@ -85,16 +75,13 @@ module _ {P : Type 0} (cmp : P → P → Ordering) (order : IsTotalOrder cmp) wh
   pub advance_keeps_to_caps : (p q : Planned P) (now : ℕ) (completions : List (Completed P)) → now ≤ last_moment
       → GoesByRule cmp p (call_advance now) completions q → KeepsToCaps cmp p now q
   advance_keeps_to_caps p q now completions in_time go w v origin cap stands after before at is =
-      let run : IsRun cmp w (call_advance now) now completions q
-      = calls_simulated cmp order p q (call_advance now) completions
-      (λ t same. subst (λ (s : ℕ). s ≤ last_moment) (advance_moment t same) in_time) go w now
-      (record { stands = stands; moment = refl; turn = before }) in
+      let run = calls_simulated cmp order p q (call_advance now) completions (λ t same. subst (λ (s : ℕ). s ≤
+      last_moment) (advance_moment t same) in_time) go w now (record { stands = stands; moment = refl; turn = before
+      }) in
       let sound : IsSound cmp w = sound_of_stands cmp order p w stands in
-      let capped : w.caps.egress origin ≡ Some cap =
-      sym (stands.follows.tallies.caps.egress origin origin (same_itself cmp order origin)) ∙ is in
-      let loses : Loses cmp order origin cap (now - w.moment) w run.after
-      = advance_loses cmp order origin cap w run.after now run.answers run.runs
-      (record { positive = sound.positive; egress = λ q e. sym (sound.caps.egress origin q e) ∙ capped }) in
+      let capped = sym (stands.follows.tallies.caps.egress origin origin (same_itself cmp order origin)) ∙ is in
+      let loses = advance_loses cmp order origin cap w run.after now run.answers run.runs (record { positive =
+      sound.positive; egress = λ q e. sym (sound.caps.egress origin q e) ∙ capped }) in
       subst (λ (b : Amount). IsAtMost (bytes_from cmp origin w) (plus b (allowance cap (now - w.moment))))
       (bytes_alike origin q run.after v run.stands after (run.moment ∙ sym at)) loses.bytes
     where

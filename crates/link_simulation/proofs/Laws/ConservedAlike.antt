@@ -1,10 +1,10 @@
 -- No message is lost or doubled, by a call, peers taken as equal by their order, nor by a list of calls.
-use Rattle.link_simulation.proofs.Common.{arith, ℕ, List, [], ◌∷◌, ◌++◌, Option, refl, subst, append_assoc, append-nil}
-use Rattle.link_simulation.proofs.Common.{AllZip, Ordering, IsTotalOrder, filter-append, Error, Message, SameMessage}
-use Rattle.link_simulation.proofs.Common.{Completed, goes, Call, call_next, enqueued, answered, IsCompletionOf, Planned}
-use Rattle.link_simulation.proofs.Common.{Obeys, Obeyed, Reply, reply_done, reply_next, reply_refused, SameCompletion}
-use Rattle.link_simulation.proofs.Common.{made, completions_in, IsSamePlanned, GoesByRule, IsOrderly, of_pair, held_of}
-use Rattle.link_simulation.proofs.Common.{IsConserved, zip_chain, zip-filter, zip-same, zip-append}
+use Rattle.link_simulation.proofs.Common.{arith, List, [], ◌∷◌, ◌++◌, refl, subst, append_assoc, append-nil, AllZip}
+use Rattle.link_simulation.proofs.Common.{Ordering, IsTotalOrder, filter-append, Message, SameMessage, Completed, goes}
+use Rattle.link_simulation.proofs.Common.{Call, call_next, enqueued, answered, IsCompletionOf, Planned, Obeys, Obeyed}
+use Rattle.link_simulation.proofs.Common.{Reply, reply_done, SameCompletion, made, completions_in, IsSamePlanned}
+use Rattle.link_simulation.proofs.Common.{GoesByRule, IsOrderly, of_pair, held_of, IsConserved, zip_chain, zip-filter}
+use Rattle.link_simulation.proofs.Common.{zip-same, zip-append}
 use Rattle.link_simulation.specs.Laws.Conserved.{AreConserved}
 use Rattle.link_simulation.proofs.Simulation.AlikeMessages.{pairs_alike, message_itself}
 use Rattle.link_simulation.proofs.Laws.Orderly.{obeys_orderly}
@@ -86,25 +86,14 @@ module _ {P : Type 0} (cmp : P → P → Ordering) (order : IsTotalOrder cmp) wh
   both_done : (d h p m e r n : List (Message P)) → AllZip (SameMessage cmp) (d ++ h) (p ++ m)
       → AllZip (SameMessage cmp) (e ++ r) (h ++ n) → AllZip (SameMessage cmp) ((d ++ e) ++ r) (p ++ (m ++ n))
   both_done d h p m e r n first second =
-      grind (arith, chain, (append_assoc d e r), (zip-append (SameMessage cmp) d (e ++ r) d (h ++ n) (itself d)
-      second), (append_assoc d h n), (append_assoc p m n), (zip-append (SameMessage cmp) (d ++ h) n (p ++ m) n first
-      (itself n)))
+      grind (arith, chain, (append_assoc d e r), (zip-append (SameMessage cmp) d (e ++ r) d (h ++ n) (itself d) second),
+      (append_assoc d h n), (append_assoc p m n), (zip-append (SameMessage cmp) (d ++ h) n (p ++ m) n first (itself n)))
 
   -- one stretch and then another
   pub conserved_then : (p q r : Planned P) (ms ns : List (Message P)) (cs ds : List (Completed P))
       → IsConserved cmp p ms cs q → IsConserved cmp q ns ds r
       → IsConserved cmp p (ms ++ ns) (cs ++ ds) r
   conserved_then p q r ms ns cs ds a b = grind (arith, zip-append, filter-append, both_done)
-
-  one_next : (p : Planned P) (call : Call P) (calls : List (Call P)) (t : Option ℕ) (replies : List (Reply P))
-      → Obeyed cmp p (call ∷ calls) (reply_next t ∷ replies) → Obeyed cmp p calls replies
-  one_next p call_next calls t replies obeyed = obeyed.1
-  one_next p call calls t replies obeyed = absurd obeyed
-
-  one_refused : (p : Planned P) (call : Call P) (calls : List (Call P)) (why : Error) (replies : List (Reply P))
-      → Obeyed cmp p (call ∷ calls) (reply_refused why ∷ replies) → Obeyed cmp p calls replies
-  one_refused p call_next calls why replies obeyed = absurd obeyed
-  one_refused p call calls why replies obeyed = obeyed.1
 
   -- the first call is accepted, and the others follow
   record IsAccepted (p : Planned P) (call : Call P) (calls : List (Call P)) (cs : List (Completed P))
@@ -134,13 +123,11 @@ module _ {P : Type 0} (cmp : P → P → Ordering) (order : IsTotalOrder cmp) wh
   obeyed_conserved p (call ∷ calls) [] h obeyed = absurd obeyed
   obeyed_conserved p (call ∷ calls) (reply_done cs ∷ replies) h obeyed =
       let one : IsAccepted p call calls cs replies = one_accepted p call calls cs replies obeyed in
-      let first : IsConserved cmp p (enqueued (call ∷ [])) cs one.after
-      = kept_conserved p one.after one.after (enqueued (call ∷ [])) cs one.answers
+      let first = kept_conserved p one.after one.after (enqueued (call ∷ [])) cs one.answers
       (call_keeps cmp order p call (goes one.answers one.after) one.obeys h) one.same
       (λ k. itself (held_of cmp k one.after)) in
-      let rest : AreConserved cmp one.after calls replies =
-      obeyed_conserved one.after calls replies (obeys_orderly cmp order p one.after call one.answers one.obeys h)
-      one.rest in
+      let rest = obeyed_conserved one.after calls replies
+      (obeys_orderly cmp order p one.after call one.answers one.obeys h) one.rest in
       record {
         last = rest.last;
         led = (one.answers, one.after, one.obeys, one.same, rest.led);

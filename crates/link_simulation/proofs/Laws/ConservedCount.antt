@@ -1,9 +1,8 @@
 -- Where no message of any pair is lost or doubled, none is in number.
 use Rattle.link_simulation.proofs.Common.{◌≡◌, ℕ, zero, suc, ◌+◌, ◌≤◌, List, [], ◌∷◌, ◌++◌, length, Bool, true, false}
-use Rattle.link_simulation.proofs.Common.{cond, not, refl, sym, ap, ◌∙◌, subst, arith, length-append, filter, AllZip}
-use Rattle.link_simulation.proofs.Common.{Ordering, IsTotalOrder, filter-append, Message, SameMessage, same_pair}
-use Rattle.link_simulation.proofs.Common.{Completed, IsCompletionOf, Planned, rated_messages, of_pair, IsConserved}
-use Rattle.link_simulation.proofs.Common.{zip-length}
+use Rattle.link_simulation.proofs.Common.{cond, not, refl, subst, arith, length-append, filter, AllZip, Ordering}
+use Rattle.link_simulation.proofs.Common.{IsTotalOrder, filter-append, Message, SameMessage, same_pair, Completed}
+use Rattle.link_simulation.proofs.Common.{IsCompletionOf, Planned, rated_messages, of_pair, IsConserved, zip-length}
 use Rattle.link_simulation.proofs.Simulation.Queue.{pair_sym, pair_like}
 use Rattle.link_simulation.proofs.Simulation.AlikeMessages.{pair_itself}
 use Rattle.link_simulation.proofs.Laws.MostEvents.{split_length, map_length}
@@ -48,38 +47,21 @@ module _ {P : Type 0} (cmp : P → P → Ordering) (order : IsTotalOrder cmp) wh
       absurd (subst (λ (ys : List (Message P)). AllZip (SameMessage cmp) [] ys) (own_there n ns) (alike n))
   as_long zero (m ∷ ms) ns le alike = absurd (omega arith)
   as_long (suc most) (m ∷ ms) ns le alike =
-      let few : length (others_than m (m ∷ ms)) ≤ most
-      = grind (arith, without_own, shorter) in
-      let rest : length (others_than m (m ∷ ms)) ≡ length (others_than m ns) =
-      as_long most (others_than m (m ∷ ms)) (others_than m ns) few (others_alike m (m ∷ ms) ns alike) in
-      let own : length (of_pair cmp m (m ∷ ms)) ≡ length (of_pair cmp m ns) = grind (arith, zip-length) in
-      let left : length (of_pair cmp m (m ∷ ms)) + length (others_than m (m ∷ ms)) ≡ length (m ∷ ms) =
-      split_length (same_pair cmp m) (m ∷ ms) in
-      let right : length (of_pair cmp m ns) + length (others_than m ns) ≡ length ns = grind (arith, split_length) in
-      sym left ∙ ap (λ n. n + length (others_than m (m ∷ ms))) own ∙ ap (λ n. length (of_pair cmp m ns) + n) rest
-      ∙ right
+      grind (arith, without_own, shorter, others_alike, zip-length, split_length, (as_long most (others_than m (m ∷ ms))
+      (others_than m ns) (grind (arith, without_own, shorter)) (others_alike m (m ∷ ms) ns alike)))
 
   pub all_counted : (p q : Planned P) (messages : List (Message P)) (cs : List (Completed P))
       → IsConserved cmp p messages cs q
       → length cs + length q.sending + length q.waiting ≡ length p.sending + length p.waiting + length messages
   all_counted p q messages cs a =
-      let same : length (a.done ++ (rated_messages q.sending ++ q.waiting))
-      ≡ length ((rated_messages p.sending ++ p.waiting) ++ messages)
-      = as_long (length (a.done ++ (rated_messages q.sending ++ q.waiting)))
+      let same = as_long (length (a.done ++ (rated_messages q.sending ++ q.waiting)))
       (a.done ++ (rated_messages q.sending ++ q.waiting)) ((rated_messages p.sending ++ p.waiting) ++ messages)
       (omega arith) alike in
       let told : length cs ≡ length a.done = zip-length IsCompletionOf cs a.done a.completions_are in
-      let left : length (a.done ++ (rated_messages q.sending ++ q.waiting))
-      ≡ length a.done + length (rated_messages q.sending ++ q.waiting)
-      = length-append a.done (rated_messages q.sending ++ q.waiting) in
-      let held : length (rated_messages q.sending ++ q.waiting) ≡ length (rated_messages q.sending) + length q.waiting =
-      length-append (rated_messages q.sending) q.waiting in
-      let right : length ((rated_messages p.sending ++ p.waiting) ++ messages)
-      ≡ length (rated_messages p.sending ++ p.waiting) + length messages
-      = length-append (rated_messages p.sending ++ p.waiting) messages in
-      let before : length (rated_messages p.sending ++ p.waiting)
-      ≡ length (rated_messages p.sending) + length p.waiting =
-      length-append (rated_messages p.sending) p.waiting in
+      let left = length-append a.done (rated_messages q.sending ++ q.waiting) in
+      let held = length-append (rated_messages q.sending) q.waiting in
+      let right = length-append (rated_messages p.sending ++ p.waiting) messages in
+      let before = length-append (rated_messages p.sending) p.waiting in
       let sent : length (rated_messages p.sending) ≡ length p.sending = map_length cmp order p.sending in
       let sends : length (rated_messages q.sending) ≡ length q.sending = map_length cmp order q.sending in
       omega arith

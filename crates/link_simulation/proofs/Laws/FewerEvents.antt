@@ -22,6 +22,5 @@ module _ {P : Type 0} (cmp : P → P → Ordering) (order : IsTotalOrder cmp) wh
   advance_falls p q now cs planned next goes =
       let counted : AdvancesByRule cmp now p goes.obeys.0 cs q = grind arith in
       let some : 0 < goes.obeys.0 = some_event cmp order goes.obeys.1 next in
-      let spent : goes.obeys.0 + most_events q ≤ most_events p =
-      counted_events p q now goes.obeys.0 cs planned counted in
+      let spent = counted_events p q now goes.obeys.0 cs planned counted in
       omega arith

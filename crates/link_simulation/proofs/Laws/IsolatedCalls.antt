@@ -9,13 +9,12 @@ use Rattle.link_simulation.proofs.Common.{Runs, act, call_advance, call_enqueue,
 use Rattle.link_simulation.proofs.Common.{complete_at_once, moment_of, limited_by, call_enqueue_all, call_next}
 use Rattle.link_simulation.proofs.Common.{linked_by, enqueue, enqueue_each, flagged, Answers, InTime, call_answers}
 use Rattle.link_simulation.proofs.Common.{no_calls, Caps, Message, same_pair, AreFair, Parts, NextIs, Ticks, no_tick}
-use Rattle.link_simulation.proofs.Common.{MomentTooLate, each_joined, Each, In}
+use Rattle.link_simulation.proofs.Common.{MomentTooLate, each_joined, Each, In, rules}
 use Rattle.std.specs.Prelude.{Contains}
 use Rattle.link_simulation.specs.Laws.Isolation.{AnswersInTurn, AreApart, IsApart, IsSet, KeepsApart, NothingElse}
 use Rattle.link_simulation.specs.Laws.Isolation.{answers_in_turn, inside_alone, is_kept, kept_calls, kept_completions}
 use Rattle.link_simulation.specs.Laws.Isolation.{no_calls_in_turn, without_others}
-use Rattle.link_simulation.proofs.Laws.PartRates.{fair_part, Kind, at_egress, at_ingress, at_link, uses_at}
-use Rattle.link_simulation.proofs.Laws.PartRates.{SharesNoSide}
+use Rattle.link_simulation.proofs.Laws.PartRates.{fair_part, at_egress, at_ingress, at_link, SharesNoSide}
 use Rattle.fair_rates.proofs.Lists.Members.{contains_from_in}
 use Rattle.link_simulation.proofs.Simulation.SettlingEnds.{ends_and_then, ends_cond, each_ends, NoneDone, settle_rests}
 use Rattle.link_simulation.proofs.Simulation.FilteredFronts.{find_kept, none_kept}
@@ -108,18 +107,11 @@ module _ {P : Type 0} (cmp : P → P → Ordering) (order : IsTotalOrder cmp) (i
           (start_next cmp now (queued cmp order (Small last id w) m)
           (first_waiting cmp (queued cmp order (Small last id w) m) m))
       starting =
-          let base : Of (start_next cmp now (queued cmp order w m) (first_waiting cmp (queued cmp order w m) m))
-          (start_next cmp now (Small last id (queued cmp order w m)) (first_waiting cmp (queued cmp order w m) m)) =
-          start_next_mine cmp order inside alike Whole now (queued cmp order w m) m
+          let base = start_next_mine cmp order inside alike Whole now (queued cmp order w m) m
           (first_waiting cmp (queued cmp order w m) m) last id within own refl in
-          let one : Of (start_next cmp now (queued cmp order w m) (first_waiting cmp (queued cmp order w m) m))
-          (start_next cmp now (Small last id (queued cmp order w m))
-          (first_waiting cmp (Small last id (queued cmp order w m)) m)) =
-          subst
-          (λ (o : Option (Message P)). Of
+          let one = subst (λ (o : Option (Message P)). Of
           (start_next cmp now (queued cmp order w m) (first_waiting cmp (queued cmp order w m) m))
-          (start_next cmp now (Small last id (queued cmp order w m)) o))
-          (sym same_next) base in
+          (start_next cmp now (Small last id (queued cmp order w m)) o)) (sym same_next) base in
           subst
           (λ (z : World P). Of
           (start_next cmp now (queued cmp order w m) (first_waiting cmp (queued cmp order w m) m))
@@ -150,10 +142,7 @@ module _ {P : Type 0} (cmp : P → P → Ordering) (order : IsTotalOrder cmp) (i
           })))
       by_late true = tt
       by_late false =
-          let alone : once now m (once_at (last m.origin m.recipient) now m) ∷ []
-          ≡ filter (λ (c : Completed P). inside c.origin)
-          (once now m (once_at (w.last_arrival m.origin m.recipient) now m) ∷ []) =
-          ap (λ at. once now m at ∷ []) at_same ∙ (rw own refl) in (
+          let alone = ap (λ at. once now m at ∷ []) at_same ∙ (rw own refl) in (
             raised cmp last m (once_at (last m.origin m.recipient) now m),
             id,
             raised_within,
@@ -400,9 +389,7 @@ module _ {P : Type 0} (cmp : P → P → Ordering) (order : IsTotalOrder cmp) (i
   isolated {w = w}
       (answers_in_turn {u = u} {call = call} {now = now} {calls = calls} {cs = cs} {css = css} is_now turn runs more) s
       last id b apart in_time =
-      let sp : (ds : List (Completed P)) × (v : World P) × (es : List (Completed P)) × (runs.ticked ≡ goes ds v)
-      × (act cmp v call ≡ goes es u) × (ds ++ es ≡ cs)
-      = split_course runs.ticked (λ v. act cmp v call) cs u (sym runs.acts) in
+      let sp = split_course runs.ticked (λ v. act cmp v call) cs u (sym runs.acts) in
       by_call (is_kept inside call) refl sp.0 sp.1 sp.2 sp.3 sp.4 sp.5
       (λ t l i c. isolated more t l i c apart.1 in_time.1)
     where
@@ -417,32 +404,20 @@ module _ {P : Type 0} (cmp : P → P → Ordering) (order : IsTotalOrder cmp) (i
           × (cond k ⊤ (inside_alone inside cs ≡ []) × NothingElse inside calls css)
       by_call true flagged ds v es ticked acted join ih =
           let later : w.moment ≤ now = turn_later cmp order w call now is_now turn in
-          let ends : (v.moment ≡ w.moment + (now - w.moment)) × NoneDone cmp order v =
-          ticks_end cmp order runs.ticks ds v ticked b.rests in
-          let small : (l : P → P → Option ℕ) × (i : ℕ) × Within l i v
-          × Ticks cmp (now - w.moment) (Small last id w)
-          (goes (filter (λ (c : Completed P). inside c.origin) ds) (Small l i v)) =
-          ticks_part cmp order inside alike Whole shares runs.ticks ds v last id ticked b.within in
-          let all : Ticks cmp ((now - w.moment) + b.count) s
-          (goes (filter (λ (c : Completed P). inside c.origin) ds) (Small small.0 small.1 v))
-          = ticks_on cmp b.ticks (now - w.moment) (Small last id w) []
+          let ends = ticks_end cmp order runs.ticks ds v ticked b.rests in
+          let small = ticks_part cmp order inside alike Whole shares runs.ticks ds v last id ticked b.within in
+          let all = ticks_on cmp b.ticks (now - w.moment) (Small last id w) []
           (goes (filter (λ (c : Completed P). inside c.origin) ds) (Small small.0 small.1 v)) refl small.3 in
           let behind : w.moment ≡ s.moment + b.count = b.at in
           let count : (now - w.moment) + b.count ≡ now - s.moment = omega arith in
-          let counted : Ticks cmp (now - s.moment) s
-          (goes (filter (λ (c : Completed P). inside c.origin) ds) (Small small.0 small.1 v))
-          = subst
-          (λ n. Ticks cmp n s (goes (filter (λ (c : Completed P). inside c.origin) ds) (Small small.0 small.1 v)))
-          count all in
-          let act_small : Of (goes es u) (act cmp (Small small.0 small.1 v) (without_others inside call))
-          = subst (λ (c : Course (Completed P) (World P)). Of c
+          let counted = subst
+          (λ n. Ticks cmp n s (goes (filter (λ (c : Completed P). inside c.origin) ds) (Small small.0 small.1 v))) count
+          all in
+          let act_small = subst (λ (c : Course (Completed P) (World P)). Of c
           (act cmp (Small small.0 small.1 v) (without_others inside call))) acted
           (act_kept v call small.0 small.1 small.2 ends.1 apart.0 flagged) in
-          let both : filter (λ (c : Completed P). inside c.origin) ds
-          ++ filter (λ (c : Completed P). inside c.origin) es
-          ≡ filter (λ (c : Completed P). inside c.origin) cs
-          = sym (filter-append (λ (c : Completed P). inside c.origin) ds es)
-          ∙ ap (filter (λ (c : Completed P). inside c.origin)) join in
+          let both = sym (filter-append (λ (c : Completed P). inside c.origin) ds es) ∙ ap
+          (filter (λ (c : Completed P). inside c.origin)) join in
           let run : Runs cmp s (without_others inside call) now
           (goes (filter (λ (c : Completed P). inside c.origin) cs) (Small act_small.0 act_small.1 u)) =
           record {
@@ -453,55 +428,35 @@ module _ {P : Type 0} (cmp : P → P → Ordering) (order : IsTotalOrder cmp) (i
                 (ap (preceded (filter (λ (c : Completed P). inside c.origin) ds)) act_small.3
                 ∙ goes_alike cmp order inside alike Whole _ _ _ _ both refl);
           } in
-          let rests : NoneDone cmp order u =
-          subst (λ (c : Course (Completed P) (World P)). EndsWith (NoneDone cmp order) c) acted
+          let rests = subst (λ (c : Course (Completed P) (World P)). EndsWith (NoneDone cmp order) c) acted
           (act_rests v call ends.1) in
           let next : Behind (Small act_small.0 act_small.1 u) u act_small.0 act_small.1 =
           record { within = act_small.2; rests = rests; count = 0; ticks = no_tick; at = omega arith } in
-          let others : Answers cmp (Small act_small.0 act_small.1 u) (kept_calls inside calls)
-          (kept_completions inside calls css)
-          × NothingElse inside calls css
-          = ih (Small act_small.0 act_small.1 u) act_small.0 act_small.1 next in
+          let others = ih (Small act_small.0 act_small.1 u) act_small.0 act_small.1 next in
           (call_answers (same_moment call ∙ is_now) (omega arith) run others.0, (tt, others.1))
       by_call false dropped ds v es ticked acted join ih =
           let later : w.moment ≤ now = turn_later cmp order w call now is_now turn in
-          let ends : (v.moment ≡ w.moment + (now - w.moment)) × NoneDone cmp order v =
-          ticks_end cmp order runs.ticks ds v ticked b.rests in
+          let ends = ticks_end cmp order runs.ticks ds v ticked b.rests in
           let low : now ≤ last_moment = in_time.0 now is_now in
           let empty : ds ≡ [] = no_event later (first_event cmp order runs.ticks ds v ticked (omega arith)) in
-          let small : (l : P → P → Option ℕ) × (i : ℕ) × Within l i v
-          × Ticks cmp (now - w.moment) (Small last id w)
-          (goes (filter (λ (c : Completed P). inside c.origin) ds) (Small l i v)) =
-          ticks_part cmp order inside alike Whole shares runs.ticks ds v last id ticked b.within in
-          let all : Ticks cmp ((now - w.moment) + b.count) s
-          (goes (filter (λ (c : Completed P). inside c.origin) ds) (Small small.0 small.1 v))
-          = ticks_on cmp b.ticks (now - w.moment) (Small last id w) []
+          let small = ticks_part cmp order inside alike Whole shares runs.ticks ds v last id ticked b.within in
+          let all = ticks_on cmp b.ticks (now - w.moment) (Small last id w) []
           (goes (filter (λ (c : Completed P). inside c.origin) ds) (Small small.0 small.1 v)) refl small.3 in
-          let act_small : Of (goes es u) (goes [] (Small small.0 small.1 v))
-          = subst (λ (c : Course (Completed P) (World P)). Of c (goes [] (Small small.0 small.1 v))) acted
+          let act_small = subst (λ (c : Course (Completed P) (World P)). Of c (goes [] (Small small.0 small.1 v))) acted
           (act_other v call small.0 small.1 small.2 ends.1 apart.0 dropped) in
-          let same : goes [] (Small small.0 small.1 v)
-          ≡ goes (filter (λ (c : Completed P). inside c.origin) es) (Small act_small.0 act_small.1 u) =
-          act_small.3 in
+          let same = act_small.3 in
           let world_same : Small small.0 small.1 v ≡ Small act_small.0 act_small.1 u = cc in
           let none_of_it : filter (λ (c : Completed P). inside c.origin) es ≡ [] = cc in
-          let quiet : filter (λ (c : Completed P). inside c.origin) cs ≡ []
-          = ap (filter (λ (c : Completed P). inside c.origin))
-          (sym join ∙ ap (λ (xs : List (Completed P)). xs ++ es) empty)
-          ∙ none_of_it in
-          let waited : Ticks cmp ((now - w.moment) + b.count) s (goes [] (Small act_small.0 act_small.1 u)) =
-          subst (λ (z : World P). Ticks cmp ((now - w.moment) + b.count) s (goes [] z)) world_same
-          (subst
+          let quiet = ap (filter (λ (c : Completed P). inside c.origin))
+          (sym join ∙ ap (λ (xs : List (Completed P)). xs ++ es) empty) ∙ none_of_it in
+          let waited = subst (λ (z : World P). Ticks cmp ((now - w.moment) + b.count) s (goes [] z)) world_same (subst
           (λ (xs : List (Completed P)). Ticks cmp ((now - w.moment) + b.count) s
-          (goes (filter (λ (c : Completed P). inside c.origin) xs) (Small small.0 small.1 v)))
-          empty all) in
-          let rests : NoneDone cmp order u =
-          subst (λ (c : Course (Completed P) (World P)). EndsWith (NoneDone cmp order) c) acted
+          (goes (filter (λ (c : Completed P). inside c.origin) xs) (Small small.0 small.1 v))) empty all) in
+          let rests = subst (λ (c : Course (Completed P) (World P)). EndsWith (NoneDone cmp order) c) acted
           (act_rests v call ends.1) in
           let behind : w.moment ≡ s.moment + b.count = b.at in
           let there : v.moment ≡ now = let first : v.moment ≡ w.moment + (now - w.moment) = ends.0 in omega arith in
-          let at : u.moment ≡ now =
-          subst (λ (c : Course (Completed P) (World P)). EndsWith (λ y. y.moment ≡ now) c) acted
+          let at = subst (λ (c : Course (Completed P) (World P)). EndsWith (λ y. y.moment ≡ now) c) acted
           (act_moment v call now there) in
           let next : Behind s u act_small.0 act_small.1 =
           record {
@@ -511,9 +466,7 @@ module _ {P : Type 0} (cmp : P → P → Ordering) (order : IsTotalOrder cmp) (i
             ticks = waited;
             at = omega arith;
           } in
-          let others : Answers cmp s (kept_calls inside calls) (kept_completions inside calls css)
-          × NothingElse inside calls css =
-          ih s act_small.0 act_small.1 next in
+          let others = ih s act_small.0 act_small.1 next in
           (others.0, (quiet, others.1))
         where
           no_event : w.moment ≤ now → (ds ≡ []) ⊎ ((t : ℕ) × (t ≤ w.moment + (now - w.moment)) × NextIs cmp w (Some t))
@@ -527,16 +480,7 @@ module _ {P : Type 0} (cmp : P → P → Ordering) (order : IsTotalOrder cmp) (i
       → ((m : Message P) → Contains ms m → inside m.origin ≡ inside m.recipient) → AreFair cmp caps ms per rates
       → AreFair cmp caps (filter (λ (m : Message P). inside m.origin) ms) per
       (flagged (map (λ (m : Message P). inside m.origin) ms) rates)
-  fair_alone caps ms per rates whole fair =
-      fair_part cmp caps mine ms per rates
-      (λ k m n has_m has_n uses. by_kind k m n (whole m (contains_from_in ms m has_m))
-      (whole n (contains_from_in ms n has_n)) uses)
-      fair
-    where
-      by_kind : (k : Kind) (m n : Message P) → Whole m → Whole n → uses_at cmp caps k m n ≡ true → mine m ≡ mine n
-      by_kind at_egress m n a b uses = together m.origin n.origin uses
-      by_kind at_ingress m n a b uses = grind (arith, and_parts)
-      by_kind at_link m n a b uses = alike m n uses
+  fair_alone caps ms per rates whole fair = search (rules, fair_part, contains_from_in, and_parts, alike)
 
   -- from a new world, the set's completions are those of the calls without the messages of others
   pub isolation : (id : ℕ) (calls : List (Call P)) (css : List (List (Completed P)))

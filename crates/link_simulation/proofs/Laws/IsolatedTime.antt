@@ -55,8 +55,7 @@ module _ {P : Type 0} (cmp : P → P → Ordering) (order : IsTotalOrder cmp) (i
       → Within last id v × Drains cmp (Small last id w) (Small last id v)
   drain_part w v last id is d =
       let u : World P = record w { sending = drain_each d.per d.rates 1 w.sending; moment = w.moment + 1 } in
-      let as_many : length d.rates ≡ length w.sending =
-      one_each cmp w.caps (flows w) d.per d.rates d.fair ∙ length_messages w.sending in
+      let as_many = one_each cmp w.caps (flows w) d.per d.rates d.fair ∙ length_messages w.sending in
       let fair : AreFair cmp w.caps (filter mine (flows w)) d.per (flagged (map mine (flows w)) d.rates)
       = fair_part cmp w.caps mine (flows w) d.per d.rates (shares w (each_message w.sending is.sending)) d.fair in
       let drains : Drains cmp (Small last id w) (Small last id u) = record {
@@ -104,14 +103,10 @@ module _ {P : Type 0} (cmp : P → P → Ordering) (order : IsTotalOrder cmp) (i
   ticks_part {w = w} (one_tick {n = n} {v = z} {u = u} {cs = ds} {rest = rest} d i t) cs v last id e is =
       let r : (es : List (Completed P)) × (rest ≡ goes es v) × (ds ++ es ≡ cs) = rest_is cmp ds rest cs v e in
       let drained : Within last id z × Drains cmp (Small last id w) (Small last id z) = drain_part w z last id is d in
-      let now : IsPartOf cmp order inside alike T (instant cmp z) (instant cmp (Small last id z)) =
-      instant_part cmp order inside alike T z last id drained.0 in
+      let now = instant_part cmp order inside alike T z last id drained.0 in
       let landed : IsPartOf cmp order inside alike T (goes ds u) (instant cmp (Small last id z))
       = grind arith in
-      let later : (l : P → P → Option ℕ) × (j : ℕ) × Within l j v
-      × Ticks cmp n (Small landed.0 landed.1 u)
-      (goes (filter (λ (c : Completed P). inside c.origin) r.0) (Small l j v))
-      = ticks_part t r.0 v landed.0 landed.1 r.1 landed.2 in
+      let later = ticks_part t r.0 v landed.0 landed.1 r.1 landed.2 in
       let both : filter (λ (c : Completed P). inside c.origin) ds ++ filter (λ (c : Completed P). inside c.origin) r.0
       ≡ filter (λ (c : Completed P). inside c.origin) cs = grind (arith, filter-append) in (
         later.0,

@@ -3,16 +3,17 @@ use Rattle.link_simulation.proofs.Common.{common_steps, ◌≡◌, ℕ, zero, su
 use Rattle.link_simulation.proofs.Common.{Bool, true, false, cond, Option, Some, None, refl, sym, ap, ◌∙◌, subst, arith}
 use Rattle.link_simulation.proofs.Common.{append-nil, ⊤, nat_le, filter, find, Ordering, IsTotalOrder, filter-append}
 use Rattle.link_simulation.proofs.Common.{without_first, Completed, Course, Flight, World, and_then, complete}
-use Rattle.link_simulation.proofs.Common.{first_waiting, fronts, goes, instant, is_done, last_moment, least_pair}
-use Rattle.link_simulation.proofs.Common.{may_start, meets, preceded, raised, ready, settle, settle_within, start}
-use Rattle.link_simulation.proofs.Common.{start_next, wake, wake_within, EndsWith, out_of_flight, is_late, completed}
-use Rattle.link_simulation.proofs.Common.{arrival, flight_of, Message, same_pair, FlowIdsUsedUp, MomentTooLate}
-use Rattle.link_simulation.proofs.Common.{each_joined, Each, length-without_first}
+use Rattle.link_simulation.proofs.Common.{first_waiting, goes, instant, is_done, last_moment, least_pair, may_start}
+use Rattle.link_simulation.proofs.Common.{meets, preceded, raised, ready, settle, settle_within, start, start_next}
+use Rattle.link_simulation.proofs.Common.{wake, wake_within, EndsWith, out_of_flight, is_late, completed, arrival}
+use Rattle.link_simulation.proofs.Common.{flight_of, Message, same_pair, FlowIdsUsedUp, MomentTooLate, each_joined}
+use Rattle.link_simulation.proofs.Common.{Each, length-without_first}
 use Rattle.std.proofs.lemmas.Bool.{leb-false, lt-leb}
 use Rattle.link_simulation.proofs.Simulation.Queue.{settle_none, settle_first, find_passes, preceded_none}
 use Rattle.link_simulation.proofs.Simulation.SettlingEnds.{ends_preceded, ends_and_then, ends_cond, length_without}
 use Rattle.link_simulation.proofs.Simulation.SettlingEnds.{find_in_none, find_like, HasAtMost, complete_has, NoneDone}
 use Rattle.link_simulation.proofs.Simulation.SettlingEnds.{settle_rests}
+use Rattle.link_simulation.proofs.Simulation.Pass.{wake_none as wake_nothing}
 use Rattle.link_simulation.proofs.Laws.Bytes.{wake_none, wake_first, ready_is_first}
 use Rattle.link_simulation.proofs.Simulation.FilteredFronts.{first_kept, first_dropped, none_kept, find_kept, any_kept}
 use Rattle.link_simulation.proofs.Simulation.FilteredFronts.{filter_swap, fronts_kept, least_kept}
@@ -110,12 +111,8 @@ module _ {P : Type 0} (cmp : P → P → Ordering) (order : IsTotalOrder cmp) (i
           let free : w.next_id < last_moment = leb-false last_moment w.next_id e in
           let least : id ≤ w.next_id = is.ids in
           let low : nat_le last_moment id ≡ false = lt-leb last_moment id (omega arith) in
-          let sending : filter in_flight w.sending ++ flight_of m ∷ []
-          ≡ filter in_flight (w.sending ++ flight_of m ∷ []) =
-          sym (joined_part w.sending m true own) in
-          let waiting : without_first (same_pair cmp m) (filter mine w.waiting)
-          ≡ filter mine (without_first (same_pair cmp m) w.waiting)
-          = sym (first_kept mine (same_pair cmp m) w.waiting m first own).1 in (
+          let sending = sym (joined_part w.sending m true own) in
+          let waiting = sym (first_kept mine (same_pair cmp m) w.waiting m first own).1 in (
             last,
             id + 1,
             started_is last id (id + 1) w m is first (omega arith),
@@ -130,11 +127,8 @@ module _ {P : Type 0} (cmp : P → P → Ordering) (order : IsTotalOrder cmp) (i
       by_id : (b : Bool) → IsPartOf (cond b (meets FlowIdsUsedUp) (goes [] (started w m))) (goes [] (part last id w))
       by_id true = tt
       by_id false =
-          let least : id ≤ w.next_id = is.ids in
-          let sending : filter in_flight w.sending ≡ filter in_flight (w.sending ++ flight_of m ∷ []) =
-          sym (joined_part w.sending m false off ∙ append-nil (filter in_flight w.sending)) in
-          let waiting : filter mine w.waiting ≡ filter mine (without_first (same_pair cmp m) w.waiting) =
-          sym (first_dropped mine (same_pair cmp m) w.waiting m first off) in (
+          let sending = sym (joined_part w.sending m false off ∙ append-nil (filter in_flight w.sending)) in
+          let waiting = sym (first_dropped mine (same_pair cmp m) w.waiting m first off) in (
             last,
             id,
             started_is last id id w m is first (omega arith),
@@ -151,9 +145,10 @@ module _ {P : Type 0} (cmp : P → P → Ordering) (order : IsTotalOrder cmp) (i
       → find (same_pair cmp m) w.waiting ≡ o → IsPartOf (start_next cmp t w o) (start_next cmp t (part last id w) o)
   start_next_mine t w m None last id is own e = (last, id, is, refl)
   start_next_mine t w m (Some x) last id is own e =
-      grind (arith, common_steps, start, (may_start_same t w x last id is (sym (alike m x (find_passes (same_pair cmp
-      m) x w.waiting e)) ∙ own)), (start_mine w x last id is (find_like cmp order m x w.waiting (find_passes
-      (same_pair cmp m) x w.waiting e) ∙ e) (sym (alike m x (find_passes (same_pair cmp m) x w.waiting e)) ∙ own)))
+      grind (arith, common_steps, start,
+      (may_start_same t w x last id is (sym (alike m x (find_passes (same_pair cmp m) x w.waiting e)) ∙ own)),
+      (start_mine w x last id is (find_like cmp order m x w.waiting (find_passes (same_pair cmp m) x w.waiting e) ∙ e)
+      (sym (alike m x (find_passes (same_pair cmp m) x w.waiting e)) ∙ own)))
 
   pub start_next_other : (t : ℕ) (w : World P) (m : Message P) (o : Option (Message P)) (last : P → P → Option ℕ)
       (id : ℕ)
@@ -194,21 +189,12 @@ module _ {P : Type 0} (cmp : P → P → Ordering) (order : IsTotalOrder cmp) (i
             waiting = is.waiting;
           } in
           let next : Option (Message P) = find (same_pair cmp f.message) w.waiting in
-          let same_next : find (same_pair cmp f.message) (filter mine w.waiting) ≡ next =
-          find_kept mine (same_pair cmp f.message) w.waiting (λ n s. sym (alike f.message n s) ∙ own) in
-          let same_landed : out_of_flight cmp t (part last id w) f.message
-          ≡ part higher id (out_of_flight cmp t w f.message)
-          = part_alike w higher id _ _ (filter mine w.waiting) (filter mine w.waiting)
+          let same_next = find_kept mine (same_pair cmp f.message) w.waiting (λ n s. sym (alike f.message n s) ∙ own) in
+          let same_landed = part_alike w higher id _ _ (filter mine w.waiting) (filter mine w.waiting)
           (sym (first_kept in_flight (is_done cmp w) w.sending f first own).1) refl in
-          let base : IsPartOf (start_next cmp t (out_of_flight cmp t w f.message) next)
-          (start_next cmp t (part higher id (out_of_flight cmp t w f.message)) next)
-          = start_next_mine t (out_of_flight cmp t w f.message) f.message next higher id still own refl in
-          let one : IsPartOf (start_next cmp t (out_of_flight cmp t w f.message) next)
-          (start_next cmp t (out_of_flight cmp t (part last id w) f.message) next)
-          = subst
-          (λ (z : World P). IsPartOf (start_next cmp t (out_of_flight cmp t w f.message) next)
-          (start_next cmp t z next))
-          (sym same_landed) base in
+          let base = start_next_mine t (out_of_flight cmp t w f.message) f.message next higher id still own refl in
+          let one = subst (λ (z : World P). IsPartOf (start_next cmp t (out_of_flight cmp t w f.message) next)
+          (start_next cmp t z next)) (sym same_landed) base in
           subst
           (λ (o : Option (Message P)). IsPartOf (start_next cmp t (out_of_flight cmp t w f.message) next)
           (start_next cmp t (out_of_flight cmp t (part last id w) f.message) o))
@@ -254,18 +240,14 @@ module _ {P : Type 0} (cmp : P → P → Ordering) (order : IsTotalOrder cmp) (i
             sending = each_without (λ (g : Flight P). T g.message) (is_done cmp w) w.sending is.sending;
             waiting = is.waiting;
           } in
-          let same : part last id (out_of_flight cmp t w f.message) ≡ part last id w
-          = part_alike w last id _ _ (filter mine w.waiting) (filter mine w.waiting)
+          let same = part_alike w last id _ _ (filter mine w.waiting) (filter mine w.waiting)
           (first_dropped in_flight (is_done cmp w) w.sending f first off) refl in
           let nothing : filter in_done (c ∷ []) ≡ [] = rw off refl in
-          let big : Course (Completed P) (World P) =
-          start_next cmp t (out_of_flight cmp t w f.message)
+          let big = start_next cmp t (out_of_flight cmp t w f.message)
           (first_waiting cmp (out_of_flight cmp t w f.message) f.message) in
-          let base : IsPartOf big (goes [] (part last id (out_of_flight cmp t w f.message)))
-          = start_next_other t (out_of_flight cmp t w f.message) f.message
+          let base = start_next_other t (out_of_flight cmp t w f.message) f.message
           (first_waiting cmp (out_of_flight cmp t w f.message) f.message) last id still off refl in
-          let one : IsPartOf big (goes [] (part last id w)) =
-          subst (λ (z : World P). IsPartOf big (goes [] z)) same base in
+          let one = subst (λ (z : World P). IsPartOf big (goes [] z)) same base in
           subst (λ (cs : List (Completed P)). IsPartOf (preceded (c ∷ []) big) (preceded cs (goes [] (part last id w))))
           nothing (part_preceded (c ∷ []) big (goes [] (part last id w)) one)
 
@@ -292,8 +274,7 @@ module _ {P : Type 0} (cmp : P → P → Ordering) (order : IsTotalOrder cmp) (i
       by_mine f e own zero few ih =
           let found : find (is_done cmp w) (filter in_flight w.sending) ≡ Some f =
           (first_kept in_flight (is_done cmp w) w.sending f e own).0 in
-          let some : 0 < length (filter in_flight w.sending) =
-          some_element (is_done cmp w) f (filter in_flight w.sending) found in
+          let some = some_element (is_done cmp w) f (filter in_flight w.sending) found in
           absurd (omega arith)
       by_mine f e own (suc j) few ih =
           let found : find (is_done cmp w) (filter in_flight w.sending) ≡ Some f =
@@ -358,24 +339,12 @@ module _ {P : Type 0} (cmp : P → P → Ordering) (order : IsTotalOrder cmp) (i
 
   complete_waits : (k t : ℕ) (w : World P) (m : Message P) → WaitsAtMost k w
       → EndsWith (WaitsAtMost k) (complete cmp t w m)
-  complete_waits k t w m h =
-      ends_cond (WaitsAtMost k) (is_late cmp t m) (meets MomentTooLate)
-      (preceded (completed cmp t m ∷ [])
-      (start_next cmp t (out_of_flight cmp t w m) (first_waiting cmp (out_of_flight cmp t w m) m)))
-      tt
-      (ends_preceded (WaitsAtMost k) (completed cmp t m ∷ [])
-      (start_next cmp t (out_of_flight cmp t w m) (first_waiting cmp (out_of_flight cmp t w m) m))
-      (start_next_waits k t (out_of_flight cmp t w m) (first_waiting cmp (out_of_flight cmp t w m) m) h))
+  complete_waits k t w m h = search (ends_cond, ends_preceded, start_next_waits)
 
   settle_waits : (n k t : ℕ) (w : World P) → WaitsAtMost k w → EndsWith (WaitsAtMost k) (settle_within cmp n t w)
   settle_waits zero k t w h = h
-  settle_waits (suc n) k t w h = by_first (find (is_done cmp w) w.sending) refl (λ v g. settle_waits n k t v g)
-    where
-      by_first : (o : Option (Flight P)) → find (is_done cmp w) w.sending ≡ o
-          → ((v : World P) → WaitsAtMost k v → EndsWith (WaitsAtMost k) (settle_within cmp n t v))
-          → EndsWith (WaitsAtMost k) (settle_within cmp (suc n) t w)
-      by_first None e ih = grind (arith, settle_none)
-      by_first (Some f) e ih = grind (arith, settle_first, ends_and_then, complete_waits)
+  settle_waits (suc n) k t w h = 
+      grind (arith, settle_none, settle_first, ends_and_then, complete_waits, (settle_waits n k t))
 
   ends_both : (Q R : World P → Type 0) (c : Course (Completed P) (World P)) → EndsWith Q c → EndsWith R c
       → EndsWith (λ v. Q v × R v) c
@@ -386,15 +355,7 @@ module _ {P : Type 0} (cmp : P → P → Ordering) (order : IsTotalOrder cmp) (i
 
   ready_part : (t : ℕ) (w : World P) (last : P → P → Option ℕ) (id : ℕ) → IsPart last id w
       → ready cmp t (part last id w) ≡ filter mine (ready cmp t w)
-  ready_part t w last id is =
-      ap (λ (ms : List (Message P)). filter (may_start cmp t (part last id w)) ms)
-      (fronts_kept cmp order mine alike w.waiting)
-      ∙ filter_swap mine (may_start cmp t (part last id w)) (may_start cmp t w) (fronts cmp w.waiting)
-      (λ m own. may_start_same t w m last id is own)
-
-  wake_nothing : (k t : ℕ) (v : World P) → ready cmp t v ≡ [] → wake_within cmp k t v ≡ goes [] v
-  wake_nothing zero t v e = refl
-  wake_nothing (suc k) t v e = wake_none cmp order k t v (ap (least_pair cmp) e)
+  ready_part t w last id is = search (fronts_kept, filter_swap, may_start_same)
 
   abbrev GoesByRule : ℕ → ℕ → Type 0
   GoesByRule n t =
@@ -420,16 +381,14 @@ module _ {P : Type 0} (cmp : P → P → Ordering) (order : IsTotalOrder cmp) (i
       by_mine m e own zero few ih =
           let least : least_pair cmp (ready cmp t (part last id w)) ≡ Some m =
           ap (least_pair cmp) (ready_part t w last id is) ∙ least_kept cmp order mine (ready cmp t w) m e own in
-          let some : 0 < length (filter mine w.waiting) =
-          some_element (same_pair cmp m) m (filter mine w.waiting)
+          let some = some_element (same_pair cmp m) m (filter mine w.waiting)
           (ready_is_first cmp order t (part last id w) m least) in
           absurd (omega arith)
       by_mine m e own (suc j) few ih =
           let least : least_pair cmp (ready cmp t (part last id w)) ≡ Some m =
           ap (least_pair cmp) (ready_part t w last id is) ∙ least_kept cmp order mine (ready cmp t w) m e own in
           let first : find (same_pair cmp m) w.waiting ≡ Some m = ready_is_first cmp order t w m e in
-          let first_here : find (same_pair cmp m) (filter mine w.waiting) ≡ Some m =
-          ready_is_first cmp order t (part last id w) m least in
+          let first_here = ready_is_first cmp order t (part last id w) m least in
           subst
           (λ (c : Course (Completed P) (World P)). IsPartOf
           (and_then (start cmp w m) (λ v. and_then (settle cmp t v) (wake_within cmp n t))) c)
@@ -447,15 +406,11 @@ module _ {P : Type 0} (cmp : P → P → Ordering) (order : IsTotalOrder cmp) (i
       by_other m e off ih =
           let first : find (same_pair cmp m) w.waiting ≡ Some m = ready_is_first cmp order t w m e in
           let small : World P = part last id w in
-          let rests_here : find (is_done cmp w) (filter in_flight w.sending) ≡ None =
-          none_kept in_flight (is_done cmp w) w.sending rests in
-          let still : settle cmp t small ≡ goes [] small =
-          settle_nothing cmp order (length small.sending + length small.waiting) t small rests_here in
-          let same : and_then (goes [] small) (λ v. and_then (settle cmp t v) (wake_within cmp k t))
-          ≡ wake_within cmp k t small =
-          preceded_none (and_then (settle cmp t small) (wake_within cmp k t))
-          ∙ ap (λ (c : Course (Completed P) (World P)). and_then c (wake_within cmp k t)) still
-          ∙ preceded_none (wake_within cmp k t small) in
+          let rests_here = none_kept in_flight (is_done cmp w) w.sending rests in
+          let still = settle_nothing cmp order (length small.sending + length small.waiting) t small rests_here in
+          let same = preceded_none (and_then (settle cmp t small) (wake_within cmp k t)) ∙ ap
+          (λ (c : Course (Completed P) (World P)). and_then c (wake_within cmp k t)) still ∙ preceded_none
+          (wake_within cmp k t small) in
           subst
           (λ (c : Course (Completed P) (World P)). IsPartOf
           (and_then (start cmp w m) (λ v. and_then (settle cmp t v) (wake_within cmp n t))) c)

@@ -88,18 +88,17 @@ module _ {P : Type 0} (cmp : P → P → Ordering) (order : IsTotalOrder cmp) wh
   advanced_in_turn [] replies w at same quiet first = tt
   advanced_in_turn (call ∷ calls) [] w at same quiet first = tt
   advanced_in_turn (call_advance now ∷ calls) (reply_done cs ∷ replies) w at same quiet first =
-      let le : at ≤ now = first.0 in (
+      (
         omega arith,
         λ t ds v there runs.
             let equal : t ≡ now = cc in
-            let ends : (v.moment ≡ t) × IsQuiet cmp v.moment v =
-            run_ends w v (call_advance now) t ds quiet there (omega arith) runs in
+            let ends = run_ends w v (call_advance now) t ds quiet there (omega arith) runs in
             advanced_in_turn calls replies v now (ends.0 ∙ equal) ends.1 first.1,
       )
   advanced_in_turn (call_advance now ∷ calls) (reply_next next ∷ replies) w at same quiet first =
-      let le : at ≤ now = first.0 in (omega arith, advanced_in_turn calls replies w at same quiet first.1)
+      (omega arith, advanced_in_turn calls replies w at same quiet first.1)
   advanced_in_turn (call_advance now ∷ calls) (reply_refused why ∷ replies) w at same quiet first =
-      let le : at ≤ now = first.0 in (omega arith, advanced_in_turn calls replies w at same quiet first.1)
+      (omega arith, advanced_in_turn calls replies w at same quiet first.1)
   advanced_in_turn (call_next ∷ calls) (reply ∷ replies) w at same quiet first =
       grind (arith, (advanced_in_turn calls replies w at same quiet first))
   advanced_in_turn (call ∷ calls) (reply ∷ replies) w at same quiet first =

@@ -61,8 +61,7 @@ module _ {P : Type 0} (cmp : P → P → Ordering) (order : IsTotalOrder cmp) wh
   launch_counts {p = p} (too_early may) k ms q is e = grind arith
   launch_counts (no_id may last) k ms q is e = cc
   launch_counts {t = t} {p = p} (starts {m = m} {leavers = leavers} {new = new} may below account) k ms q is e =
-      let counts : most_events new + length leavers ≡ most_events (launched cmp t p m) =
-      account_counts t (launched cmp t p m) new leavers account in
+      let counts = account_counts t (launched cmp t p m) new leavers account in
       let one : most_events (launched cmp t p m) + 1 ≡ most_events p = launched_counts t p k m is in
       let out : leavers ≡ ms = cc in
       let same : new ≡ q = cc in
@@ -79,8 +78,7 @@ module _ {P : Type 0} (cmp : P → P → Ordering) (order : IsTotalOrder cmp) wh
   launch_less (no_id first last) k m ms q is some may e = cc
   launch_less {t = t} {p = p} (starts {m = x} {leavers = leavers} {new = new} first below account) k m ms q is some may
       e =
-      let counts : most_events new + length leavers ≡ most_events (launched cmp t p x) =
-      account_counts t (launched cmp t p x) new leavers account in
+      let counts = account_counts t (launched cmp t p x) new leavers account in
       let one : most_events (launched cmp t p x) + 1 ≡ most_events p = launched_counts t p k x is in
       let out : leavers ≡ ms = cc in
       let same : new ≡ q = cc in
@@ -205,8 +203,8 @@ module _ {P : Type 0} (cmp : P → P → Ordering) (order : IsTotalOrder cmp) wh
   wake_right (no_finish launch finishes) h = tt
   wake_right {p = p} (starts_one {m = m} {more = more} {q = q} {r = r} {cs = cs} {rest = rest} launch finishes wakes)
       h =
-      grind (arith, common_steps, launch_right, finish_right, right_after, partly, (wake_right wakes (partly r
-      (finish_right finishes (launch_right launch m more q refl refl h)))))
+      grind (arith, common_steps, launch_right, finish_right, right_after, partly,
+      (wake_right wakes (partly r (finish_right finishes (launch_right launch m more q refl refl h)))))
 
   settle_right : {t : ℕ} {p : Planned P} {c : Course (Completed P) (Planned P)} → Settles cmp t p c
       → (p.limited ≡ false → p.waiting ≡ []) → Right c

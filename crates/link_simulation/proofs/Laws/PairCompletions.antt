@@ -44,11 +44,9 @@ module _ {P : Type 0} (cmp : P → P → Ordering) (order : IsTotalOrder cmp) (k
   ticks_history {w = w} no_tick messages t cs ds v e h = grind (arith, append-nil)
   ticks_history {w = w} (one_tick {n = n} {v = z} {u = u} {cs = es} {rest = rest} d i more) messages t cs ds v e h =
       let r : (fs : List (Completed P)) × (rest ≡ goes fs v) × (es ++ fs ≡ ds) = rest_is cmp es rest ds v e in
-      let after : IsHistory cmp order k messages (suc t) (cs ++ es) u =
-      lands (instant cmp z) i
+      let after = lands (instant cmp z) i
       (instant_goes cmp order k messages (suc t) cs z (drain_history messages t cs w z d h)) in
-      let on : IsHistory cmp order k messages (suc t + n) ((cs ++ es) ++ r.0) v =
-      ticks_history more messages (suc t) (cs ++ es) r.0 v r.1 after in
+      let on = ticks_history more messages (suc t) (cs ++ es) r.0 v r.1 after in
       let count : suc t + n ≡ t + suc n = omega arith in
       subst (λ (s : ℕ). IsHistory cmp order k messages s (cs ++ ds) v) count
       (subst (λ (xs : List (Completed P)). IsHistory cmp order k messages (suc t + n) xs v)
@@ -129,8 +127,7 @@ module _ {P : Type 0} (cmp : P → P → Ordering) (order : IsTotalOrder cmp) (k
 
       by_pair : (b : Bool) → same_pair cmp k m ≡ b → IsHistory cmp order k (messages ++ m ∷ []) t (cs ++ c ∷ []) after
       by_pair true own =
-          let list_is : told_of_k cmp order k (cs ++ c ∷ []) ≡ told_of_k cmp order k cs ++ c ∷ [] =
-          told_more cmp order k cs c own in
+          let list_is = told_more cmp order k cs c own in
           record {
             done = h.done ++ m ∷ [];
             flying = None;
@@ -161,8 +158,7 @@ module _ {P : Type 0} (cmp : P → P → Ordering) (order : IsTotalOrder cmp) (k
             now = h.now;
           }
       by_pair false off =
-          let list_is : told_of_k cmp order k (cs ++ c ∷ []) ≡ told_of_k cmp order k cs =
-          told_same cmp order k cs c off in
+          let list_is = told_same cmp order k cs c off in
           record {
             done = h.done;
             flying = None;
@@ -258,15 +254,12 @@ module _ {P : Type 0} (cmp : P → P → Ordering) (order : IsTotalOrder cmp) (k
       by_ticked (meets fault) is = grind arith
       by_ticked (goes es v) is =
           let count : w.moment + (now - w.moment) ≡ now = omega arith in
-          let there : IsHistory cmp order k messages now (cs ++ es) v =
-          subst (λ (s : ℕ). IsHistory cmp order k messages s (cs ++ es) v) count
+          let there = subst (λ (s : ℕ). IsHistory cmp order k messages s (cs ++ es) v) count
           (ticks_history runs.ticks messages w.moment cs es v is h) in
           let sound_v : IsSound cmp v =
           ends_at cmp order (IsSound cmp) runs.ticked es v is (ticks_keep_sound cmp order runs.ticks sound) in
-          let acts : goes ds u ≡ preceded es (act cmp v call) =
-          runs.acts ∙ ap (λ (c : Course (Completed P) (World P)). and_then c (λ x. act cmp x call)) is in
-          let all : GoesByRule cmp order k (messages ++ added call) now cs (preceded es (act cmp v call))
-          = goes_preceded cmp order k (messages ++ added call) now cs es (act cmp v call)
+          let acts = runs.acts ∙ ap (λ (c : Course (Completed P) (World P)). and_then c (λ x. act cmp x call)) is in
+          let all = goes_preceded cmp order k (messages ++ added call) now cs es (act cmp v call)
           (act_goes messages now (cs ++ es) v call at sound_v there) in
           subst (GoesByRule cmp order k (messages ++ added call) now cs) (sym acts) all
 
@@ -281,12 +274,10 @@ module _ {P : Type 0} (cmp : P → P → Ordering) (order : IsTotalOrder cmp) (k
   answers_in_order {w = w} no_calls messages cs sound h = grind (arith, append-nil, ends_in_order)
   answers_in_order {w = w} (call_answers {u = u} {call = call} {now = now} {calls = calls} {cs = ds} {css = css} at
       after runs more) messages cs sound h =
-      let next : IsHistory cmp order k (messages ++ added call) now (cs ++ ds) u =
-      run_history messages cs ds w u call now at after runs sound h in
+      let next = run_history messages cs ds w u call now at after runs sound h in
       let sound_u : EndsWith (IsSound cmp) (goes ds u) = call_keeps_sound cmp order w call now (goes ds u) sound runs in
       let here : IsHistory cmp order k (messages ++ added call) u.moment (cs ++ ds) u = grind arith in
-      let rest : IsInPairOrder cmp k ((messages ++ added call) ++ enqueued calls) ((cs ++ ds) ++ answered css) =
-      answers_in_order more (messages ++ added call) (cs ++ ds) sound_u here in
+      let rest = answers_in_order more (messages ++ added call) (cs ++ ds) sound_u here in
       subst (λ (ms : List (Message P)). IsInPairOrder cmp k ms (cs ++ (ds ++ answered css)))
       (append_assoc messages (added call) (enqueued calls)
       ∙ ap (λ (ms : List (Message P)). messages ++ ms) (enqueued_split call calls))

@@ -9,7 +9,7 @@ use Rattle.link_simulation.proofs.Common.{same_pair, is_delivered, World, Flight
 use Rattle.link_simulation.proofs.Common.{goes, meets, preceded, and_then, is_in_order, later_of, flows, first_waiting}
 use Rattle.link_simulation.proofs.Common.{may_start, start, start_next, is_done, complete, settle_within, settle}
 use Rattle.link_simulation.proofs.Common.{least_pair, ready, turn, wake_within, instant, fronts, out_of_flight, is_late}
-use Rattle.link_simulation.proofs.Common.{completed, arrival, flight_of, IsCompletionOf, NeverGoDown, Each}
+use Rattle.link_simulation.proofs.Common.{completed, arrival, flight_of, IsCompletionOf, NeverGoDown, Each, rules}
 use Rattle.link_simulation.specs.Laws.PairCompletions.{NoneBefore, completes_pair}
 use Rattle.link_simulation.proofs.Simulation.Queue.{pair_like, pair_sym, find_passes, settle_none, settle_first}
 use Rattle.link_simulation.proofs.Simulation.SettlingEnds.{find_like}
@@ -269,11 +269,7 @@ module _ {P : Type 0} (cmp : P → P → Ordering) (order : IsTotalOrder cmp) (k
     pub next_goes : (cs : List (Completed P)) (w : World P) (n : Message P) (o : Option (Message P))
         → find (same_pair cmp n) w.waiting ≡ o → IsHistory messages t cs w → GoesByRule cs (start_next cmp t w o)
     next_goes cs w n None is h = stays cs w h
-    next_goes cs w n (Some m) is h = by_may (may_start cmp t w m) refl
-      where
-        by_may : (b : Bool) → may_start cmp t w m ≡ b → GoesByRule cs (cond b (start cmp w m) (goes [] w))
-        by_may true may = grind (arith, start_goes, find_like, find_passes)
-        by_may false may = stays cs w h
+    next_goes cs w n (Some m) is h = search (rules, start, start_goes, find_like, find_passes, stays)
 
     -- ---- a completion
 
@@ -286,9 +282,6 @@ module _ {P : Type 0} (cmp : P → P → Ordering) (order : IsTotalOrder cmp) (k
     unfolding land
     land_history cs w f found h = by_pair (same_pair cmp k f.message) refl
       where
-        m : Message P
-        m = f.message
-
         alike_too : PairsAlike cmp (land w f.message).last_arrival (land w f.message).last_arrival
         alike_too = raised_peerwise cmp order w.last_arrival f.message (arrival cmp t f.message) h.alike
 
@@ -322,16 +315,11 @@ module _ {P : Type 0} (cmp : P → P → Ordering) (order : IsTotalOrder cmp) (k
                     → filter (same_pair cmp k) (map (λ (g : Flight P). g.message) fs) ≡ [] → ⊥) → ⊥
                 by_test b true is e none ih = cc
                 by_test true false is e none ih =
-                    let same : g ≡ f = cc in
-                    let out : same_pair cmp k f.message ≡ false =
-                    ap (λ (x : Flight P). same_pair cmp k x.message) (sym same) ∙ is in
                     cc
                 by_test false false is e none ih = ih e none
         by_flying own (Some n) is one queue order_is =
-            let taken : (f.message ≡ n)
-            × (filter (same_pair cmp k)
-            (map (λ (g : Flight P). g.message) (without_first (is_done cmp w) w.sending)) ≡ [])
-            = taken_out (same_pair cmp k) (λ (g : Flight P). g.message) (is_done cmp w) f n w.sending found own one in
+            let taken = taken_out (same_pair cmp k) (λ (g : Flight P). g.message) (is_done cmp w) f n w.sending found
+            own one in
             let c : Completed P = completed cmp t f.message in
             let of_pair : completes_pair cmp k c ≡ true = own in
             let list_is : told_of_k (cs ++ c ∷ []) ≡ told_of_k cs ++ c ∷ [] = told_more cs c of_pair in

@@ -1,11 +1,10 @@
 -- Fair rates of messages that share no side with the others are fair for them alone.
-use Rattle.link_simulation.proofs.Common.{common_steps, ◌≡◌, ℕ, zero, suc, ◌+◌, ◌*◌, ◌≤◌, List, [], ◌∷◌, ◌++◌, map}
-use Rattle.link_simulation.proofs.Common.{Bool, true, false, cond, Option, Some, None, All, Contains, sum_by, refl, sym}
-use Rattle.link_simulation.proofs.Common.{ap, ◌∙◌, subst, arith, ◌⊎◌, inl, inr, ◌&&◌, slice_get, if◌then◌else◌, filter}
-use Rattle.link_simulation.proofs.Common.{Ordering, All-contains, Side, load, IsFair, flagged, same_peer, Message, Caps}
+use Rattle.link_simulation.proofs.Common.{common_steps, ◌≡◌, ℕ, zero, suc, ◌+◌, ◌*◌, ◌≤◌, List, [], ◌∷◌, map, Bool}
+use Rattle.link_simulation.proofs.Common.{true, false, cond, Option, Some, None, All, Contains, sum_by, refl, sym, ap}
+use Rattle.link_simulation.proofs.Common.{◌∙◌, subst, arith, inl, inr, ◌&&◌, slice_get, if◌then◌else◌, filter, Ordering}
+use Rattle.link_simulation.proofs.Common.{All-contains, Side, load, IsFair, flagged, same_peer, Message, Caps}
 use Rattle.link_simulation.proofs.Common.{same_pair, is_delivered, AreFair, Parts, capped_sides, sides_for, rates_from}
-use Rattle.link_simulation.proofs.Common.{is_unlimited, egress_side, ingress_side, link_side, All-from_contains, In}
-use Rattle.link_simulation.proofs.Common.{places_from}
+use Rattle.link_simulation.proofs.Common.{is_unlimited, All-from_contains, In, places_from, rules}
 use Rattle.std.proofs.lemmas.List.Sums.{sum_by-cons}
 use Rattle.fair_rates.specs.Fairness.Fair.{IsLimited, HasBottleneck}
 use Rattle.link_simulation.specs.Simulation.Rates.{capped_side}
@@ -154,30 +153,11 @@ module _ {P : Type 0} (cmp : P → P → Ordering) (caps : Caps P) where
   from_side_of (Some c) uses ms s (inl e) = (c, refl, sym e)
   from_side_of (Some c) uses ms s (inr h) = absurd h
 
-  to_side_of : (o : Option ℕ) (uses : Message P → Bool) (ms : List (Message P)) (cap : ℕ) → o ≡ Some cap
-      → In (capped_side cmp o uses ms) (record { cap = cap; users = places_from 0 uses ms })
-  to_side_of None uses ms cap e = cc
-  to_side_of (Some c) uses ms cap e =
-      let same : c ≡ cap = cc in inl (ap (λ k. record { cap = k; users = places_from 0 uses ms }) same)
-
   abbrev Brings : List (Message P) → Message P → Side → Type 0
   Brings ms m s = (k : Kind) × (cap : ℕ) × (cap_at k m ≡ Some cap) × (s ≡ side_at k ms m cap)
 
   from_sides_for : (ms : List (Message P)) (m : Message P) (s : Side) → In (sides_for cmp caps ms m) s → Brings ms m s
-  from_sides_for ms m s h =
-      by_kind (in_either (egress_side cmp caps ms m ++ ingress_side cmp caps ms m) (link_side cmp caps ms m) s h)
-    where
-      of_kind : (k : Kind) → (c : ℕ) × (cap_at k m ≡ Some c) × (s ≡ side_at k ms m c) → Brings ms m s
-      of_kind k (c, is, e) = (k, c, is, e)
-
-      by_first : In (egress_side cmp caps ms m) s ⊎ In (ingress_side cmp caps ms m) s → Brings ms m s
-      by_first (inl g) = of_kind at_egress (from_side_of (cap_at at_egress m) (uses_at at_egress m) ms s g)
-      by_first (inr g) = of_kind at_ingress (from_side_of (cap_at at_ingress m) (uses_at at_ingress m) ms s g)
-
-      by_kind : In (egress_side cmp caps ms m ++ ingress_side cmp caps ms m) s ⊎ In (link_side cmp caps ms m) s
-          → Brings ms m s
-      by_kind (inl g) = by_first (in_either (egress_side cmp caps ms m) (ingress_side cmp caps ms m) s g)
-      by_kind (inr g) = of_kind at_link (from_side_of (cap_at at_link m) (uses_at at_link m) ms s g)
+  from_sides_for ms m s h = search (rules, in_either, from_side_of)
 
   to_sides_for : (k : Kind) (ms : List (Message P)) (m : Message P) (c : ℕ) → cap_at k m ≡ Some c
       → In (sides_for cmp caps ms m) (side_at k ms m c)
@@ -187,8 +167,7 @@ module _ {P : Type 0} (cmp : P → P → Ordering) (caps : Caps P) where
   pub from_sides : (ms : List (Message P)) (s : Side) → Contains (capped_sides cmp caps ms) s
       → (m : Message P) × In ms m × Brings ms m s
   from_sides ms s has =
-      let r : (m : Message P) × In ms m × In (sides_for cmp caps ms m) s =
-      from_flat_map (sides_for cmp caps ms) ms s (in_from_contains (capped_sides cmp caps ms) s has) in
+      let r = from_flat_map (sides_for cmp caps ms) ms s (in_from_contains (capped_sides cmp caps ms) s has) in
       (r.0, r.1, from_sides_for ms r.0 s r.2)
 
   pub to_sides : (k : Kind) (ms : List (Message P)) (m : Message P) (c : ℕ) → In ms m → cap_at k m ≡ Some c
@@ -213,8 +192,7 @@ module _ {P : Type 0} (cmp : P → P → Ordering) (caps : Caps P) where
 
     of_part : (s : Side) → Contains (capped_sides cmp caps (filter mine ms)) s → Of s
     of_part s has =
-        let r : (m : Message P) × In (filter mine ms) m × Brings (filter mine ms) m s =
-        from_sides (filter mine ms) s has in
+        let r = from_sides (filter mine ms) s has in
         let g : In ms r.0 × (mine r.0 ≡ true) = from_filter mine ms r.0 r.1 in
         (r.0, g.0, g.1, r.2)
 
@@ -234,18 +212,14 @@ module _ {P : Type 0} (cmp : P → P → Ordering) (caps : Caps P) where
         by_side : (m : Message P) × In ms m × Brings ms m b.side
             → HasBottleneck (capped_sides cmp caps (filter mine ms)) per own_parts i
         by_side (m, has, (k, c, is, e)) =
-            let used : Contains (places_from 0 (uses_at k m) ms) (stood (map mine ms) i) =
-            subst (λ (z : Side). Contains z.users (stood (map mine ms) i)) e b.uses.used in
-            let there =
-            passes_here (uses_at k m) ms (stood (map mine ms) i)
+            let used = subst (λ (z : Side). Contains z.users (stood (map mine ms) i)) e b.uses.used in
+            let there = passes_here (uses_at k m) ms (stood (map mine ms) i)
             (in_from_contains (places_from 0 (uses_at k m) ms) (stood (map mine ms) i) used) in
             let same_x : Some there.0 ≡ Some x = sym there.1 ∙ stands.0 in
             let it : there.0 ≡ x = cc in
             let uses_x : uses_at k m x ≡ true = subst (λ (z : Message P). uses_at k m z ≡ true) it there.2 in
-            let own_m : mine m ≡ true =
-            apart k m x has (in_get ms (stood (map mine ms) i) x stands.0) uses_x ∙ stands.1 in
-            let filled : load parts (side_at k ms m c) ≡ c * per =
-            subst (λ (z : Side). load parts z ≡ z.cap * per) e b.full in
+            let own_m = apart k m x has (in_get ms (stood (map mine ms) i) x stands.0) uses_x ∙ stands.1 in
+            let filled = subst (λ (z : Side). load parts z ≡ z.cap * per) e b.full in
             let most : All (λ other. parts other ≤ parts (stood (map mine ms) i)) (places_from 0 (uses_at k m) ms)
             = subst (λ (z : Side). All (λ other. parts other ≤ parts (stood (map mine ms) i)) z.users) e b.greatest in
             record {
@@ -267,8 +241,7 @@ module _ {P : Type 0} (cmp : P → P → Ordering) (caps : Caps P) where
                 → All (λ o. parts o ≤ parts (stood (map mine ms) i)) (places_from 0 (uses_at k m) ms)
                 → own_parts other ≤ own_parts i
             greatest k m other has_other most =
-                let at =
-                passes_here (uses_at k m) (filter mine ms) other
+                let at = passes_here (uses_at k m) (filter mine ms) other
                 (in_from_contains (places_from 0 (uses_at k m) (filter mine ms)) other has_other) in
                 All-contains (λ o. parts o ≤ parts (stood (map mine ms) i)) (places_from 0 (uses_at k m) ms)
                 (stood (map mine ms) other) most
@@ -281,10 +254,8 @@ module _ {P : Type 0} (cmp : P → P → Ordering) (caps : Caps P) where
       where
         by_side : Of limited.0 → HasBottleneck (capped_sides cmp caps (filter mine ms)) per own_parts i
         by_side (m, has, own, (k, c, is, e)) =
-            let used : Contains (places_from 0 (uses_at k m) (filter mine ms)) i =
-            subst (λ (z : Side). Contains z.users i) e limited.1.used in
-            let at =
-            passes_here (uses_at k m) (filter mine ms) i
+            let used = subst (λ (z : Side). Contains z.users i) e limited.1.used in
+            let at = passes_here (uses_at k m) (filter mine ms) i
             (in_from_contains (places_from 0 (uses_at k m) (filter mine ms)) i used) in
             let there : slice_get ms (stood (map mine ms) i) ≡ Some at.0 = (stood_at mine ms i at.0 at.1).0 in
             part_bottleneck i at.0 at.1
@@ -310,5 +281,5 @@ module _ {P : Type 0} (cmp : P → P → Ordering) (caps : Caps P) where
       → AreFair cmp caps ms per rates
       → AreFair cmp caps (filter mine ms) per (flagged (map mine ms) rates)
   fair_part mine ms per rates apart fair = 
-      grind (arith, common_steps, (part_is_fair mine ms per fair.parts apart fair.fair), (kept_rates mine fair.parts
-      ms))
+      grind (arith, common_steps, (part_is_fair mine ms per fair.parts apart fair.fair),
+      (kept_rates mine fair.parts ms))

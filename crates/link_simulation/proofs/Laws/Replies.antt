@@ -3,12 +3,10 @@ use Rattle.link_simulation.proofs.Common.{arith, ◌≡◌, ℕ, zero, suc, List
 use Rattle.link_simulation.proofs.Common.{Some, None, refl, ⊤, IfSome, filter, AllZip, Ordering, IsTotalOrder, Message}
 use Rattle.link_simulation.proofs.Common.{new_world, Completed, Call, Reply, reply_done, reply_next, reply_refused}
 use Rattle.link_simulation.proofs.Common.{SameCompletion, Agrees, made, completions_in, enqueued, answered}
-use Rattle.link_simulation.proofs.Common.{IsCompletionOf, NeverGoDown, Answers, InTime, Completes, zip-append}
-use Rattle.link_simulation.proofs.Common.{zip-filter}
+use Rattle.link_simulation.proofs.Common.{IsCompletionOf, NeverGoDown, InTime, Completes, zip-append, zip-filter}
 use Rattle.std.specs.Prelude.{take}
 use Rattle.link_simulation.specs.Laws.PairCompletions.{NoneBefore, completes_pair, IsInPairOrder}
-use Rattle.link_simulation.specs.Laws.Isolation.{IsSet, NothingElse, inside_alone, is_kept, kept_calls}
-use Rattle.link_simulation.specs.Laws.Isolation.{kept_completions}
+use Rattle.link_simulation.specs.Laws.Isolation.{IsSet, NothingElse, inside_alone, is_kept, kept_completions}
 use Rattle.link_simulation.specs.Laws.Replies.{AlwaysSoFar, CompletesInOrder, CompletePairsInOrder, IsolateSets}
 use Rattle.link_simulation.proofs.Laws.PairCompletions.{pair_in_order}
 use Rattle.link_simulation.proofs.Laws.IsolatedCalls.{isolation}
@@ -78,11 +76,18 @@ module _ {P : Type 0} (cmp : P → P → Ordering) (order : IsTotalOrder cmp) wh
       → AllZip (SameCompletion cmp) cs ds → IsInPairOrder cmp k messages ds
       → CompletesInOrder cmp k messages cs
   in_order_alike k messages cs ds same order_of =
-      grind (arith, (completions_of (filter (completes_pair cmp k) cs) (filter (completes_pair cmp k) ds) order_of.done
-      (zip-filter (SameCompletion cmp) (completes_pair cmp k) (completes_pair cmp k) (completes_alike k) cs ds same)
-      order_of.completions_are), (never_down (filter (completes_pair cmp k) cs) (filter (completes_pair cmp k) ds)
-      (zip-filter (SameCompletion cmp) (completes_pair cmp k) (completes_pair cmp k) (completes_alike k) cs ds same)
-      order_of.deliveries))
+      let those : AllZip (SameCompletion cmp) (filter (completes_pair cmp k) cs) (filter (completes_pair cmp k) ds)
+      = zip-filter (SameCompletion cmp) (completes_pair cmp k) (completes_pair cmp k) (completes_alike k) cs ds same in
+      record {
+        done = order_of.done;
+        rest = order_of.rest;
+        messages_are = order_of.messages_are;
+        completions_are =
+            completions_of (filter (completes_pair cmp k) cs) (filter (completes_pair cmp k) ds) order_of.done those
+            order_of.completions_are;
+        deliveries =
+            never_down (filter (completes_pair cmp k) cs) (filter (completes_pair cmp k) ds) those order_of.deliveries;
+      }
 
   pub pairs_complete_in_order : (calls : List (Call P)) (replies : List (Reply P))
       → Agrees cmp (new_world 0) calls replies → AlwaysSoFar (CompletePairsInOrder cmp) calls replies
@@ -127,10 +132,7 @@ module _ {P : Type 0} (cmp : P → P → Ordering) (order : IsTotalOrder cmp) wh
   sets_are_isolated calls replies in_time agrees n inside together apart turns =
       let bridged : Bridged cmp order (new_world 0) (take n calls) (take n replies) = grind (arith, made_in_turn) in
       let calls_made : List (Call P) = made (take n calls) (take n replies) in
-      let isolated : Answers cmp (new_world 0) (kept_calls inside calls_made)
-      (kept_completions inside calls_made bridged.0)
-      × NothingElse inside calls_made bridged.0
-      = isolation cmp order inside together 0 calls_made bridged.0 bridged.1 apart
+      let isolated = isolation cmp order inside together 0 calls_made bridged.0 bridged.1 apart
       (made_in_time (take n calls) (take n replies) (first_in_time n calls in_time)) in
       record {
         alone = kept_completions inside calls_made bridged.0;

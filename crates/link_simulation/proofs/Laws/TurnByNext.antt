@@ -49,8 +49,7 @@ module _ {P : Type 0} (cmp : P → P → Ordering) (order : IsTotalOrder cmp) wh
       → IsQuiet cmp w.moment w → IsInTurn cmp w (call_enqueue_all now (m ∷ ms))
       → Runs cmp w (call_enqueue now m) now (goes cs v) → IsInTurn cmp v (call_enqueue_all now ms)
   rest_in_turn w v now m ms cs quiet turn runs =
-      let ends : (v.moment ≡ now) × IsQuiet cmp v.moment v =
-      run_ends cmp order w v (call_enqueue now m) now cs quiet refl turn.0 runs in
+      let ends = run_ends cmp order w v (call_enqueue now m) now cs quiet refl turn.0 runs in
       let at : v.moment ≡ now = ends.0 in
       (omega arith, before_next cmp order v now at)
 
@@ -90,9 +89,9 @@ module _ {P : Type 0} (cmp : P → P → Ordering) (order : IsTotalOrder cmp) wh
   turn_between : (w : World P) (call : Call P) (from : ℕ) (before : Option ℕ) → w.moment ≡ from → Known before w
       → IsBetween from before call → IsInTurn cmp w call
   unfolding Known
-  turn_between w (call_advance now) from before same known between = let le : from ≤ now = between in omega arith
+  turn_between w (call_advance now) from before same known between = omega arith
   turn_between w call_next from before same known between = tt
-  turn_between w call from before same known between = (let le : from ≤ _ = between.0 in omega arith, known _ between.1)
+  turn_between w call from before same known between = (omega arith, known _ between.1)
 
   asked : (w : World P) (calls : List (Call P)) (replies : List (Reply P)) (call : Call P) (next : Option ℕ)
       → Agrees cmp w (call ∷ calls) (reply_next next ∷ replies)
@@ -124,13 +123,10 @@ module _ {P : Type 0} (cmp : P → P → Ordering) (order : IsTotalOrder cmp) wh
       after ih now ds v is runs =
           let one : IsMade cmp w calls replies call cs = agrees_done cmp w calls replies call cs agrees turn in
           let at : now ≡ one.now = cc in
-          let both : goes ds v ≡ goes one.answers one.after
-          =
-          runs_are_one cmp order w call now (goes ds v) (goes one.answers one.after) sound runs
+          let both = runs_are_one cmp order w call now (goes ds v) (goes one.answers one.after) sound runs
           (subst (λ (t : ℕ). Runs cmp w call t (goes one.answers one.after)) (sym at) one.runs) in
           let there : one.after ≡ v = cc in
-          let ends : (v.moment ≡ now) × IsQuiet cmp v.moment v =
-          run_ends cmp order w v call now ds quiet is (turn_later cmp order w call now is turn) runs in
+          let ends = run_ends cmp order w v call now ds quiet is (turn_later cmp order w call now is turn) runs in
           let still : IsSound cmp v = call_keeps_sound cmp order w call now (goes ds v) sound runs in
           ih v now (Some (now + 1)) ends.0 still ends.1 (known_at_once v now ends.0)
           (subst (λ (o : Option ℕ). IfSome o (λ t. GoByNext t (Some (t + 1)) calls replies)) is go.1)

@@ -1,12 +1,12 @@
 -- Advancing the planned world event by event is ticking the world nanosecond by nanosecond.
 use Rattle.link_simulation.proofs.Common.{◌≡◌, ℕ, zero, suc, ◌+◌, ◌-◌, ◌<◌, ◌≤◌, List, [], length, true, false, Option}
 use Rattle.link_simulation.proofs.Common.{Some, None, refl, sym, ap, ◌∙◌, subst, arith, ◌⊎◌, inl, inr, IfSome, list_any}
-use Rattle.link_simulation.proofs.Common.{Ordering, IsTotalOrder, cases_lt, Completed, Course, IsQuiet, World, and_then}
-use Rattle.link_simulation.proofs.Common.{goes, instant, is_done, last_moment, meets, preceded, ready, settle, wake}
-use Rattle.link_simulation.proofs.Common.{Advances, Settles, Wakes, at_finish, at_start, finish_stops, no_more}
-use Rattle.link_simulation.proofs.Common.{start_stops, IsLeastMoment, Planned, SomeReadyAt, SomeSpentAt, next_event}
-use Rattle.link_simulation.proofs.Common.{is_unlimited, CoursesAlike, Follows, IsSettled, StandsFor, Tallies, Drains}
-use Rattle.link_simulation.proofs.Common.{Passes, Ticks, no_tick, Error}
+use Rattle.link_simulation.proofs.Common.{Ordering, IsTotalOrder, cases_lt, Completed, Course, World, and_then, goes}
+use Rattle.link_simulation.proofs.Common.{instant, is_done, last_moment, meets, preceded, ready, settle, wake, Advances}
+use Rattle.link_simulation.proofs.Common.{Settles, Wakes, at_finish, at_start, finish_stops, no_more, start_stops}
+use Rattle.link_simulation.proofs.Common.{IsLeastMoment, Planned, SomeReadyAt, SomeSpentAt, next_event, is_unlimited}
+use Rattle.link_simulation.proofs.Common.{CoursesAlike, Follows, IsSettled, StandsFor, Tallies, Ticks, no_tick, Error}
+use Rattle.link_simulation.proofs.Common.{rules}
 use Rattle.std.specs.Prelude.{◌≢◌}
 use Rattle.link_simulation.specs.Rule.Planned.{earlier}
 use Rattle.link_simulation.proofs.Rule.BeforeNext.{later, follows_later, none_done_before, quiet_before, passes_before}
@@ -36,9 +36,7 @@ module _ {P : Type 0} (cmp : P → P → Ordering) (order : IsTotalOrder cmp) wh
   pub wake_alike : {t : ℕ} {p : Planned P} {course : Course (Completed P) (Planned P)} → Wakes cmp t p course
       → (w : World P) → Follows cmp t p w
       → list_any (is_done cmp w) w.sending ≡ false → CoursesAlike cmp (IsWoken cmp order t) course (wake cmp t w)
-  wake_alike {t = t} {p = p} wakes w follows none_done =
-      wakes_alike cmp order wakes (length w.waiting) w follows (each_none (is_done cmp w) w.sending none_done)
-      (picks_ready cmp order t p w follows.tallies) (omega arith)
+  wake_alike {t = t} {p = p} wakes w follows none_done = search (rules, wakes_alike, each_none, picks_ready)
 
   pub woken_stands : (t : ℕ) (p : Planned P) (w : World P) → t ≤ last_moment → IsWoken cmp order t p w
       → StandsFor cmp p w
@@ -77,8 +75,7 @@ module _ {P : Type 0} (cmp : P → P → Ordering) (order : IsTotalOrder cmp) wh
       → Ticks cmp (suc k) w (instant cmp (later cmp order p w stands (suc k)))
   to_event p w stands e k at within next =
       let before : IfSome (next_event p) (λ t. w.moment + k < t) = grind arith in
-      let way : (v : World P) × Passes cmp k w v × Drains cmp v (later cmp order p w stands (suc k)) =
-      passes_before cmp order p w stands k (omega arith) before in
+      let way = passes_before cmp order p w stands k (omega arith) before in
       ticks_through cmp order way.1 (later cmp order p w stands (suc k))
       (instant cmp (later cmp order p w stands (suc k))) way.2 refl
 
@@ -96,11 +93,9 @@ module _ {P : Type 0} (cmp : P → P → Ordering) (order : IsTotalOrder cmp) wh
   -- in a settled world no finish is planned up to its moment
   no_early_finish : (t e : ℕ) (q : Planned P) (v : World P) → IsSettled cmp t q v → q.finish ≡ Some e → e ≤ t → ⊥
   no_early_finish t e q v settled is le =
-      let least : IsLeastMoment (SomeSpentAt q.sending) (Some e) =
-      subst (λ (o : Option ℕ). IsLeastMoment (SomeSpentAt q.sending) o) is settled.follows.finish in
+      let least = subst (λ (o : Option ℕ). IsLeastMoment (SomeSpentAt q.sending) o) is settled.follows.finish in
       let spent : SomeSpentAt q.sending e = least.1 in
-      let done : list_any (is_done cmp v) v.sending ≡ true =
-      done_at cmp order (is_unlimited cmp v.caps) e t q.sending v.sending spent.0 spent.1 le
+      let done = done_at cmp order (is_unlimited cmp v.caps) e t q.sending v.sending spent.0 spent.1 le
       settled.follows.tallies.sending spent.2 spent.4 in
       let none : list_any (is_done cmp v) v.sending ≡ false = settled.none_done in
       differ (sym done ∙ none)
@@ -112,8 +107,7 @@ module _ {P : Type 0} (cmp : P → P → Ordering) (order : IsTotalOrder cmp) wh
   pub start_is_later : (p : Planned P) (w : World P) → StandsFor cmp p w → (e : ℕ) → p.start ≡ Some e
       → (e ≤ last_moment) × (w.moment < e)
   start_is_later p w stands e is =
-      let least : IsLeastMoment (SomeReadyAt cmp p) (Some e) =
-      subst (λ (o : Option ℕ). IsLeastMoment (SomeReadyAt cmp p) o) is stands.start in
+      let least = subst (λ (o : Option ℕ). IsLeastMoment (SomeReadyAt cmp p) o) is stands.start in
       (least.0, by_order (cases_lt w.moment e) least.1)
     where
       by_order : (w.moment < e) ⊎ (e ≤ w.moment) → SomeReadyAt cmp p e → w.moment < e
@@ -205,17 +199,14 @@ module _ {P : Type 0} (cmp : P → P → Ordering) (order : IsTotalOrder cmp) wh
       let after : (e ≤ last_moment) × (w.moment < e) = start_is_later p w stands e first.0 in
       let steps : (k : ℕ) × (w.moment + suc k ≡ e) = gap w.moment e after.1 in
       let u : World P = later cmp order p w stands (suc steps.0) in
-      let follows : Follows cmp e p u =
-      subst (λ (s : ℕ). Follows cmp s p u) steps.1 (follows_later cmp order p w stands (suc steps.0)) in
+      let follows = subst (λ (s : ℕ). Follows cmp s p u) steps.1 (follows_later cmp order p w stands (suc steps.0)) in
       let none_done : list_any (is_done cmp u) u.sending ≡ false
       = grind (arith, none_done_before) in
       let way : WakesAlike e now u course = wakes u follows none_done in
       let instant_u : instant cmp u ≡ preceded [] (wake cmp e u) = grind (arith, instant_is, settle_quiet) in
-      let ticks : Ticks cmp (now - e + suc steps.0) w (preceded [] way.0)
-      = joined_ticks (suc steps.0) e now w [] (wake cmp e u) way.0
-      (subst (λ (c : Course (Completed P) (World P)). Ticks cmp (suc steps.0) w c) instant_u
-      (to_event p w stands e steps.0 steps.1 after.0 next))
-      way.1 in
+      let ticks = joined_ticks (suc steps.0) e now w [] (wake cmp e u) way.0 (subst
+      (λ (c : Course (Completed P) (World P)). Ticks cmp (suc steps.0) w c) instant_u
+      (to_event p w stands e steps.0 steps.1 after.0 next)) way.1 in
       let count : now - e + suc steps.0 ≡ now - w.moment = omega (arith, steps.1, after.1) in (
         way.0,
         subst (λ (k : ℕ). Ticks cmp k w way.0) count
@@ -236,8 +227,7 @@ module _ {P : Type 0} (cmp : P → P → Ordering) (order : IsTotalOrder cmp) wh
       let after : w.moment < e = finish_is_later cmp order p w stands e finish in
       let within : e ≤ last_moment = (spent_at_finish cmp order p w stands e finish).0 in
       let steps : (k : ℕ) × (w.moment + suc k ≡ e) = gap w.moment e after in
-      let follows : Follows cmp e p (later cmp order p w stands (suc steps.0))
-      = subst (λ (s : ℕ). Follows cmp s p (later cmp order p w stands (suc steps.0))) steps.1
+      let follows = subst (λ (s : ℕ). Follows cmp s p (later cmp order p w stands (suc steps.0))) steps.1
       (follows_later cmp order p w stands (suc steps.0)) in
       by_course steps.0 steps.1 after (to_event p w stands e steps.0 steps.1 within next)
       (settle cmp e (later cmp order p w stands (suc steps.0))) refl
@@ -252,12 +242,10 @@ module _ {P : Type 0} (cmp : P → P → Ordering) (order : IsTotalOrder cmp) wh
       by_course k at after ticks (meets g) is h = absurd h
       by_course k at after ticks (goes ds v) is h =
           let way : WakesAlike e now v course = rest e v le h.1 in
-          let instant_u : instant cmp (later cmp order p w stands (suc k)) ≡ preceded ds (wake cmp e v) =
-          instant_is cmp order (later cmp order p w stands (suc k)) v ds
-          (ap (λ (s : ℕ). settle cmp s (later cmp order p w stands (suc k))) at ∙ is)
-          ∙ ap (λ (s : ℕ). preceded ds (wake cmp s v)) h.1.follows.tallies.moment in
-          let on : Ticks cmp (now - e + suc k) w (preceded ds way.0)
-          = joined_ticks (suc k) e now w ds (wake cmp e v) way.0
+          let instant_u = instant_is cmp order (later cmp order p w stands (suc k)) v ds
+          (ap (λ (s : ℕ). settle cmp s (later cmp order p w stands (suc k))) at ∙ is) ∙ ap
+          (λ (s : ℕ). preceded ds (wake cmp s v)) h.1.follows.tallies.moment in
+          let on = joined_ticks (suc k) e now w ds (wake cmp e v) way.0
           (subst (λ (c : Course (Completed P) (World P)). Ticks cmp (suc k) w c) instant_u ticks) way.1 in
           let count : now - e + suc k ≡ now - w.moment = omega arith in (
             preceded ds way.0,
@@ -272,8 +260,7 @@ module _ {P : Type 0} (cmp : P → P → Ordering) (order : IsTotalOrder cmp) wh
       let after : w.moment < e = finish_is_later cmp order p w stands e finish in
       let within : e ≤ last_moment = (spent_at_finish cmp order p w stands e finish).0 in
       let steps : (k : ℕ) × (w.moment + suc k ≡ e) = gap w.moment e after in
-      let follows : Follows cmp e p (later cmp order p w stands (suc steps.0))
-      = subst (λ (s : ℕ). Follows cmp s p (later cmp order p w stands (suc steps.0))) steps.1
+      let follows = subst (λ (s : ℕ). Follows cmp s p (later cmp order p w stands (suc steps.0))) steps.1
       (follows_later cmp order p w stands (suc steps.0)) in
       by_course steps.0 steps.1 after (to_event p w stands e steps.0 steps.1 within next)
       (settle cmp e (later cmp order p w stands (suc steps.0))) refl
@@ -287,12 +274,10 @@ module _ {P : Type 0} (cmp : P → P → Ordering) (order : IsTotalOrder cmp) wh
           → TicksAlike now w (meets fault)
       by_course k at after ticks (goes ds v) is h = absurd h
       by_course k at after ticks (meets g) is h =
-          let instant_u : instant cmp (later cmp order p w stands (suc k)) ≡ meets g =
-          ap (λ (c : Course (Completed P) (World P)). and_then c (λ v. wake cmp v.moment v))
+          let instant_u = ap (λ (c : Course (Completed P) (World P)). and_then c (λ v. wake cmp v.moment v))
           (ap (λ (s : ℕ). settle cmp s (later cmp order p w stands (suc k))) at ∙ is) in
-          let on : Ticks cmp (now - e + suc k) w (meets g) =
-          ticks_stop cmp (subst (λ (c : Course (Completed P) (World P)). Ticks cmp (suc k) w c) instant_u ticks)
-          (now - e) g refl in
+          let on = ticks_stop cmp
+          (subst (λ (c : Course (Completed P) (World P)). Ticks cmp (suc k) w c) instant_u ticks) (now - e) g refl in
           let count : now - e + suc k ≡ now - w.moment = omega arith in
           (meets g, subst (λ (n : ℕ). Ticks cmp n w (meets g)) count on, h)
 
@@ -306,8 +291,7 @@ module _ {P : Type 0} (cmp : P → P → Ordering) (order : IsTotalOrder cmp) wh
       ends : (v : World P) → Follows cmp now p v → list_any (is_done cmp v) v.sending ≡ false → ready cmp now v ≡ []
           → Ticks cmp (now - w.moment) w (goes [] v) → TicksAlike now w course
       ends v follows none_done none_ready ticks =
-          let woken : CoursesAlike cmp (IsWoken cmp order now) course (wake cmp now v) =
-          wake_alike wakes v follows none_done in
+          let woken = wake_alike wakes v follows none_done in
           let asleep : wake cmp now v ≡ goes [] v = wake_none cmp order (length v.waiting) now v none_ready in (
             goes [] v,
             ticks,
@@ -327,10 +311,8 @@ module _ {P : Type 0} (cmp : P → P → Ordering) (order : IsTotalOrder cmp) wh
       by_count (suc k) is =
           let same : w.moment + suc k ≡ now = omega arith in
           let u : World P = later cmp order p w stands (suc k) in
-          let still : IfSome (next_event p) (λ t. w.moment + suc k < t) =
-          subst (λ (s : ℕ). IfSome (next_event p) (λ t. s < t)) (sym same) before in
-          let quiet : IsQuiet cmp (w.moment + suc k) u =
-          quiet_before cmp order p w stands (suc k) (omega arith) still in
+          let still = subst (λ (s : ℕ). IfSome (next_event p) (λ t. s < t)) (sym same) before in
+          let quiet = quiet_before cmp order p w stands (suc k) (omega arith) still in
           ends u (subst (λ (s : ℕ). Follows cmp s p u) same (follows_later cmp order p w stands (suc k)))
           quiet.none_done (ap (λ (s : ℕ). ready cmp s u) (sym same) ∙ quiet.none_ready)
           (subst (λ (n : ℕ). Ticks cmp n w (goes [] u)) (sym is)

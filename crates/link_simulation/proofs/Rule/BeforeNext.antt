@@ -87,8 +87,7 @@ module _ {P : Type 0} (cmp : P → P → Ordering) (order : IsTotalOrder cmp) wh
   none_done_at u t [] (g ∷ gs) all none e = absurd all
   none_done_at u t (f ∷ fs) [] all none e = absurd all
   none_done_at u t (f ∷ fs) (g ∷ gs) all none e =
-      let parts : (u g.message ≡ false) × (list_any u (map (λ (g : Flight P). g.message) gs) ≡ false) =
-      or_parts (u g.message) (list_any u (map (λ (g : Flight P). g.message) gs)) e in
+      let parts = or_parts (u g.message) (list_any u (map (λ (g : Flight P). g.message) gs)) e in
       or_from ((g.left.num == 0) || u g.message) (list_any (λ (g : Flight P). (g.left.num == 0) || u g.message) gs)
       (or_from (g.left.num == 0) (u g.message) (by_test (g.left.num == 0) refl) parts.0)
       (none_done_at u t fs gs all.1 (λ i. none (suc i)) parts.1)
@@ -169,10 +168,8 @@ module _ {P : Type 0} (cmp : P → P → Ordering) (order : IsTotalOrder cmp) wh
       not_ready : (m : Message P) (rest : List (Message P)) → filter (same_pair cmp m) w.waiting ≡ m ∷ rest
           → may_start cmp t w m ≡ false
       not_ready m rest e =
-          let first : (x : Message P) × (xs : List (Message P)) × (filter (same_pair cmp m) p.waiting ≡ x ∷ xs)
-          × SameMessage cmp x m
-          = first_alike (filter (same_pair cmp m) p.waiting) m rest
-          (subst (λ (ms : List (Message P)). AllZip (SameMessage cmp) (filter (same_pair cmp m) p.waiting) ms) e
+          let first = first_alike (filter (same_pair cmp m) p.waiting) m rest (subst
+          (λ (ms : List (Message P)). AllZip (SameMessage cmp) (filter (same_pair cmp m) p.waiting) ms) e
           (same.waiting m)) in
           let alike : may_launch cmp t p first.0 ≡ may_start cmp t w m =
           may_alike t p w first.0 m same.last_arrival (messages_alike t p.sending w.sending same.sending) first.3 in
@@ -226,8 +223,8 @@ module _ {P : Type 0} (cmp : P → P → Ordering) (order : IsTotalOrder cmp) wh
         → IsQuiet cmp (w.moment + k) (later k)
     quiet_before k within before =
         grind (arith, (none_done_before k within), (none_ready_at (w.moment + k) p (later k) (follows_later k).tallies
-        (none_before (SomeReadyAt cmp p) p.start stands.start (w.moment + k) within (both_before p.finish p.start
-        (w.moment + k) before).1)))
+        (none_before (SomeReadyAt cmp p) p.start stands.start (w.moment + k) within
+        (both_before p.finish p.start (w.moment + k) before).1)))
 
     -- ---- the next event
 
@@ -247,8 +244,8 @@ module _ {P : Type 0} (cmp : P → P → Ordering) (order : IsTotalOrder cmp) wh
         → (v : World P) × Passes cmp n w v × Drains cmp v (later (suc n))
     passes_before zero within before = (w, no_time, first_drain)
     passes_before (suc n) within before =
-        grind (arith, common_steps, later, (later (suc n)), (passes_to n within before), (add-one (suc n)), (drifts_on
-        cmp w stands.follows.rated.per stands.follows.rated.rates (suc n) rates_fair all_positive))
+        grind (arith, common_steps, later, (later (suc n)), (passes_to n within before), (add-one (suc n)),
+        (drifts_on cmp w stands.follows.rated.per stands.follows.rated.rates (suc n) rates_fair all_positive))
 
     pub comes_at : (n : ℕ) → w.moment + suc n ≤ last_moment → IfSome (next_event p) (λ e. w.moment + n < e)
         → ¬ IsQuiet cmp (w.moment + suc n) (later (suc n)) → NextIs cmp w (Some (w.moment + suc n))
@@ -275,8 +272,7 @@ module _ {P : Type 0} (cmp : P → P → Ordering) (order : IsTotalOrder cmp) wh
         by_order : (w.moment < e) ⊎ (e ≤ w.moment) → SomeSpentAt p.sending e → w.moment < e
         by_order (inl lt) spent = lt
         by_order (inr le) spent =
-            let done : list_any (is_done cmp w) w.sending ≡ true =
-            done_at (is_unlimited cmp w.caps) e w.moment p.sending w.sending spent.0 spent.1 le
+            let done = done_at (is_unlimited cmp w.caps) e w.moment p.sending w.sending spent.0 spent.1 le
             stands.follows.tallies.sending spent.2 spent.4 in
             let quiet : list_any (is_done cmp w) w.sending ≡ false = stands.quiet.none_done in
             cc
@@ -284,9 +280,8 @@ module _ {P : Type 0} (cmp : P → P → Ordering) (order : IsTotalOrder cmp) wh
     pub busy_at_finish : (e k : ℕ) → p.finish ≡ Some e → w.moment + k ≡ e → ¬ IsQuiet cmp (w.moment + k) (later k)
     busy_at_finish e k is at quiet =
         let spent : SomeSpentAt p.sending e = (spent_at_finish e is).1 in
-        let done : list_any (is_done cmp (later k)) (later k).sending ≡ true
-        = done_at (is_unlimited cmp w.caps) e (w.moment + k) p.sending (later k).sending spent.0 spent.1 (omega arith)
-        (flights_later k) spent.2 spent.4 in
+        let done = done_at (is_unlimited cmp w.caps) e (w.moment + k) p.sending (later k).sending spent.0 spent.1
+        (omega arith) (flights_later k) spent.2 spent.4 in
         let none : list_any (is_done cmp (later k)) (later k).sending ≡ false = quiet.none_done in
         cc
 

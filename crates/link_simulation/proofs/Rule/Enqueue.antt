@@ -1,14 +1,15 @@
 -- A message that joins the planned waiting ones stands last among those of its pair, and their order by pairs stays.
-use Rattle.link_simulation.proofs.Common.{common_steps, ◌≡◌, ℕ, ◌+◌, ◌<◌, ◌≤◌, length, arith, inl, inr, List, [], ◌∷◌}
-use Rattle.link_simulation.proofs.Common.{◌++◌, Bool, true, false, cond, Option, Some, refl, sym, ap, ◌∙◌, subst}
-use Rattle.link_simulation.proofs.Common.{IfSome, filter, find, list_any, AllZip, Ordering, IsTotalOrder, or_from}
-use Rattle.link_simulation.proofs.Common.{or_left, filter-append, Completed, Course, World, and_then, goes, is_done}
-use Rattle.link_simulation.proofs.Common.{last_moment, may_start, meets, ready, settle, start, start_next, EndsWith}
-use Rattle.link_simulation.proofs.Common.{flight_of, Runs, act, call_enqueue, Enqueues, Launches, launches, no_id}
-use Rattle.link_simulation.proofs.Common.{no_launch, nothing_waits, starts, too_early, at_once, Message, SameMessage}
-use Rattle.link_simulation.proofs.Common.{pair_before, same_pair, AreInPairOrder, Planned, next_event, next_of, queued}
-use Rattle.link_simulation.proofs.Common.{CoursesAlike, Follows, IsSettled, StandsFor, Tallies, out_of_waiting, joined}
-use Rattle.link_simulation.proofs.Common.{finish_within, Each, each_map, zip-append}
+use Rattle.link_simulation.proofs.Common.{◌≡◌, ℕ, ◌+◌, ◌<◌, ◌≤◌, length, arith, inl, inr, List, [], ◌∷◌, ◌++◌, Bool}
+use Rattle.link_simulation.proofs.Common.{true, false, cond, Option, Some, refl, sym, ap, ◌∙◌, subst, IfSome, filter}
+use Rattle.link_simulation.proofs.Common.{find, list_any, AllZip, Ordering, IsTotalOrder, or_from, or_left}
+use Rattle.link_simulation.proofs.Common.{filter-append, Completed, Course, World, and_then, goes, is_done, last_moment}
+use Rattle.link_simulation.proofs.Common.{may_start, meets, ready, settle, start, start_next, EndsWith, flight_of, Runs}
+use Rattle.link_simulation.proofs.Common.{act, call_enqueue, Enqueues, Launches, launches, no_id, no_launch}
+use Rattle.link_simulation.proofs.Common.{nothing_waits, starts, too_early, at_once, Message, SameMessage, pair_before}
+use Rattle.link_simulation.proofs.Common.{same_pair, AreInPairOrder, Planned, next_event, next_of, queued, CoursesAlike}
+use Rattle.link_simulation.proofs.Common.{Follows, IsSettled, StandsFor, Tallies, out_of_waiting, joined, Each}
+use Rattle.link_simulation.proofs.Common.{each_map, zip-append}
+use Rattle.link_simulation.proofs.Rule.Limit.{IsReached, reaches, settled_rests}
 use Rattle.std.proofs.lemmas.List.{append-nil}
 use Rattle.link_simulation.proofs.Simulation.Queue.{pair_sym, pair_like, find_passes, preceded_none}
 use Rattle.link_simulation.proofs.Rule.BeforeNext.{filter_none, may_alike, messages_alike}
@@ -21,7 +22,6 @@ use Rattle.link_simulation.proofs.Rule.FinishEvent.{settle_quiet}
 use Rattle.link_simulation.proofs.Simulation.OnePair.{IsRested, only_taken, only_joined, rested_joined}
 use Rattle.link_simulation.proofs.Simulation.NoneReadied.{IsHeld, rested_other, find_without, all_rested, finish_rests}
 use Rattle.link_simulation.proofs.Simulation.NoneReadied.{none_then}
-use Rattle.link_simulation.proofs.Rule.Limit.{reaches, settled_rests}
 use Rattle.link_simulation.proofs.Rule.Waking.{each_none, round_is, round_fuel, round_alike}
 use Rattle.link_simulation.proofs.Simulation.FilteredFronts.{before_both}
 use Rattle.link_simulation.proofs.Simulation.PairOrder.{apart_if_before, not_before_back}
@@ -178,8 +178,7 @@ module _ {P : Type 0} (cmp : P → P → Ordering) (order : IsTotalOrder cmp) wh
       × EndsWith (λ v. ready cmp t v ≡ [])
       (and_then (start_next cmp t (waits_too u m) (find (same_pair cmp m) (waits_too u m).waiting)) (settle cmp t))
   joins t p u m course limits follows none_done none_ready enqueues =
-      let found : (y : Message P) × (find (same_pair cmp m) (u.waiting ++ m ∷ []) ≡ Some y) =
-      found_end (same_pair cmp m) m u.waiting (pair_itself cmp order m) in
+      let found = found_end (same_pair cmp m) m u.waiting (pair_itself cmp order m) in
       by_may found.0 found.1 (may_start cmp t (waits_too u m) found.0) refl enqueues
     where
       there : Follows cmp t (record p { waiting = queued cmp m p.waiting }) (waits_too u m)
@@ -236,35 +235,27 @@ module _ {P : Type 0} (cmp : P → P → Ordering) (order : IsTotalOrder cmp) wh
       by_may y found true may {x} (launches {leavers = leavers} {mid = mid} under launch finishes) =
           let so : StartsSo cmp order t (waits_too u m) y leavers mid =
           start_alike cmp order launch (waits_too u m) y there idle may (own_first y found) (abreast y found) in
-          let alike : CoursesAlike cmp (IsSettled cmp t) x (settle cmp t (joined cmp (waits_too u m) y)) =
-          round_alike cmp order finishes (waits_too u m) y idle so in
+          let alike = round_alike cmp order finishes (waits_too u m) y idle so in
           let pair : same_pair cmp m y ≡ true = find_passes (same_pair cmp m) y (u.waiting ++ m ∷ []) found in
-          let rests : EndsWith (λ v. ready cmp t v ≡ []) (settle cmp t (joined cmp (waits_too u m) y)) =
-          none_then cmp order t (settle cmp t (joined cmp (waits_too u m) y))
-          (λ k. subst (λ (c : Course (Completed P) (World P)). EndsWith (IsRested cmp order k t) c)
-          (sym (round_is cmp order t (waits_too u m) y idle so.one_each))
-          (finish_rests cmp order k (length (joined cmp (waits_too u m) y).sending + length
-          (joined cmp (waits_too u m) y).waiting) t (joining cmp order (waits_too u m) y)
-          (started cmp order (waits_too u m) y) (round_fuel cmp order (waits_too u m) y)
-          (held_after t u m y k none_ready pair))) in
+          let rests = none_then cmp order t (settle cmp t (joined cmp (waits_too u m) y)) (λ k. subst
+          (λ (c : Course (Completed P) (World P)). EndsWith (IsRested cmp order k t) c)
+          (sym (round_is cmp order t (waits_too u m) y idle so.one_each)) (finish_rests cmp order k
+          (length (joined cmp (waits_too u m) y).sending + length (joined cmp (waits_too u m) y).waiting) t
+          (joining cmp order (waits_too u m) y) (started cmp order (waits_too u m) y)
+          (round_fuel cmp order (waits_too u m) y) (held_after t u m y k none_ready pair))) in
           result (settle cmp t (joined cmp (waits_too u m) y)) x
           (first_is y (goes [] (joined cmp (waits_too u m) y)) found (begins t (waits_too u m) y may ∙ so.starts)
           ∙ preceded_none (settle cmp t (joined cmp (waits_too u m) y))) alike rests
       by_may y found true may (at_once off) = other_mode off
       by_may y found false may (at_once off) = other_mode off
       by_may y found false may (no_launch {fault = fault} under launch) =
-          let none : meets fault ≡ goes [] (record p { waiting = queued cmp m p.waiting }) =
-          stays_out launch (waits_too u m) y there may (abreast y found) in
+          let none = stays_out launch (waits_too u m) y there may (abreast y found) in
           cc
       by_may y found false may {x} (launches {leavers = leavers} {mid = mid} under launch finishes) =
-          let same : ◌≡◌ {A = Course (Message P) (Planned P)} (goes leavers mid)
-          (goes [] (record p { waiting = queued cmp m p.waiting }))
-          = stays_out launch (waits_too u m) y there may (abreast y found) in
+          let same = stays_out launch (waits_too u m) y there may (abreast y found) in
           let no_leavers : leavers ≡ [] = cc in
           let same_mid : mid ≡ record p { waiting = queued cmp m p.waiting } = cc in
-          let still : CoursesAlike cmp (IsSettled cmp t) x
-          (finish_within cmp (length (u.waiting ++ m ∷ [])) t [] (waits_too u m)) =
-          finishes_alike cmp order finishes (length (u.waiting ++ m ∷ [])) [] (waits_too u m)
+          let still = finishes_alike cmp order finishes (length (u.waiting ++ m ∷ [])) [] (waits_too u m)
           (subst (λ (q : Planned P). Follows cmp t q (waits_too u m)) (sym same_mid) there) idle
           (subst (λ (ms : List (Message P)). AllZip (SameMessage cmp) ms []) (sym no_leavers) tt) (omega arith) in
           let quiet : settle cmp t (waits_too u m) ≡ goes [] (waits_too u m) =
@@ -285,13 +276,19 @@ module _ {P : Type 0} (cmp : P → P → Ordering) (order : IsTotalOrder cmp) wh
       → (c : Course (Completed P) (World P)) × Runs cmp w (call_enqueue now m) now c
       × CoursesAlike cmp (λ q v. StandsFor cmp q v × (v.moment ≡ now)) course c
   enqueues_alike p w now m course stands limits le within before enqueues =
-      grind (arith, common_steps, (reaches cmp order now p w stands le within before), (preceded_none (act cmp
-      (reaches cmp order now p w stands le within before).world (call_enqueue now m))), (settled_rests cmp order now
-      course (and_then (start_next cmp now (waits_too (reaches cmp order now p w stands le within before).world m)
-      (find (same_pair cmp m) (waits_too (reaches cmp order now p w stands le within before).world m).waiting))
-      (settle cmp now)) within (joins now p (reaches cmp order now p w stands le within before).world m course limits
-      (reaches cmp order now p w stands le within before).follows (reaches cmp order now p w stands le within
-      before).none_done (reaches cmp order now p w stands le within before).none_ready enqueues).0 (joins now p
-      (reaches cmp order now p w stands le within before).world m course limits (reaches cmp order now p w stands le
-      within before).follows (reaches cmp order now p w stands le within before).none_done (reaches cmp order now p w
-      stands le within before).none_ready enqueues).1))
+      let there : IsReached cmp order now p w = reaches cmp order now p w stands le within before in
+      let under : there.world.limited ≡ true = sym there.follows.tallies.limited ∙ limits in
+      let c = and_then
+      (start_next cmp now (waits_too there.world m) (find (same_pair cmp m) (waits_too there.world m).waiting))
+      (settle cmp now) in
+      let both = joins now p there.world m course limits there.follows there.none_done there.none_ready enqueues in
+      let acts : act cmp there.world (call_enqueue now m) ≡ c = rw under refl in (
+        c,
+        record {
+          ticked = goes [] there.world;
+          ticks = there.ticks;
+          acts = sym acts
+              ∙ sym (preceded_none (act cmp there.world (call_enqueue now m)));
+        },
+        settled_rests cmp order now course c within both.0 both.1,
+      )

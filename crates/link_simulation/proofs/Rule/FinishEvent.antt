@@ -2,19 +2,15 @@
 -- after it.
 use Rattle.link_simulation.proofs.Common.{◌≡◌, ℕ, zero, suc, ◌<◌, ◌≤◌, List, [], true, false, Option, Some, None, refl}
 use Rattle.link_simulation.proofs.Common.{ap, subst, arith, ◌⊎◌, inl, inr, list_any, Ordering, IsTotalOrder, cases_lt}
-use Rattle.link_simulation.proofs.Common.{leb-true, le-leb, Completed, Course, IsQuiet, World, and_then, goes, instant}
-use Rattle.link_simulation.proofs.Common.{is_done, is_in_order, last_moment, meets, preceded, settle, settle_within}
-use Rattle.link_simulation.proofs.Common.{wake, Message, IsLeastMoment, Planned, SomeReadyAt, may_launch, IsSettled}
-use Rattle.link_simulation.proofs.Common.{StandsFor, Drains, Passes, Ticks, no_tick, no_time, one_tick, quiet_tick}
-use Rattle.link_simulation.proofs.Common.{tick_faults, find_from_any}
+use Rattle.link_simulation.proofs.Common.{Completed, Course, IsQuiet, World, and_then, goes, instant, is_done}
+use Rattle.link_simulation.proofs.Common.{last_moment, meets, preceded, settle, settle_within, wake, Message}
+use Rattle.link_simulation.proofs.Common.{IsLeastMoment, Planned, SomeReadyAt, may_launch, IsSettled, StandsFor, Drains}
+use Rattle.link_simulation.proofs.Common.{Passes, Ticks, no_tick, no_time, one_tick, quiet_tick, tick_faults}
+use Rattle.link_simulation.proofs.Common.{find_from_any}
 use Rattle.std.proofs.lemmas.List.{append-nil}
 use Rattle.link_simulation.proofs.Simulation.Queue.{settle_none, preceded_none}
 use Rattle.link_simulation.proofs.Rule.BeforeNext.{none_ready_at}
 use Rattle.link_simulation.proofs.Simulation.Pass.{wake_none}
-
-pub in_order_later : (o : Option ℕ) (a b : ℕ) → a ≤ b → is_in_order o a ≡ true → is_in_order o b ≡ true
-in_order_later None a b le e = refl
-in_order_later (Some last) a b le e = let below : last ≤ a = leb-true last a e in le-leb last b (omega arith)
 
 module _ {P : Type 0} (cmp : P → P → Ordering) (order : IsTotalOrder cmp) where
   -- ---- a quiet instant

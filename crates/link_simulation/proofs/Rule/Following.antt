@@ -1,11 +1,11 @@
 -- A message that is done lands, and the next one of its pair may start, before the others get their rates: one account
 -- does for both.
-use Rattle.link_simulation.proofs.Common.{arith, ◌≡◌, ℕ, ◌<◌, List, [], ◌∷◌, ◌++◌, true, false, Option, Some, refl, sym}
-use Rattle.link_simulation.proofs.Common.{ap, subst, not, filter, AllZip, Ordering, IsTotalOrder, not-true, each_map}
-use Rattle.link_simulation.proofs.Common.{zip-append, Message, Completed, Course, goes, last_moment, is_late, completed}
-use Rattle.link_simulation.proofs.Common.{preceded, Planned, RatedFlight, next_of, may_launch, is_spent, drained_to}
-use Rattle.link_simulation.proofs.Common.{Accounts, Launches, starts, Finishes, completes, Settles, settling, landed}
-use Rattle.link_simulation.proofs.Common.{launched, common_steps}
+use Rattle.link_simulation.proofs.Common.{◌∙◌, rated_messages, arith, ◌≡◌, ℕ, ◌<◌, List, [], ◌∷◌, ◌++◌, true, false}
+use Rattle.link_simulation.proofs.Common.{Option, Some, refl, sym, ap, subst, not, filter, AllZip, Ordering}
+use Rattle.link_simulation.proofs.Common.{IsTotalOrder, not-true, each_map, zip-append, Message, Completed, Course}
+use Rattle.link_simulation.proofs.Common.{goes, last_moment, is_late, completed, preceded, Planned, RatedFlight}
+use Rattle.link_simulation.proofs.Common.{next_of, may_launch, is_spent, drained_to, Accounts, Launches, starts}
+use Rattle.link_simulation.proofs.Common.{Finishes, completes, Settles, settling, landed, launched}
 use Rattle.link_simulation.specs.Rule.Leaving.{Leaves}
 use Rattle.link_simulation.proofs.Laws.Orderly.{Stays, stayed_messages}
 use Rattle.link_simulation.proofs.Rule.Accounts.{each_passes}
@@ -54,9 +54,15 @@ module _ {P : Type 0} (cmp : P → P → Ordering) (order : IsTotalOrder cmp) wh
       → is_spent cmp here.caps (starting cmp order here.next_id t next) ≡ false
       → Leaves cmp t (launched cmp t (landed cmp t here m) next) [] (launched cmp t (landed cmp t here m) next)
   none_leaves_again t old here m next ls leaves still stays =
-      grind (arith, common_steps, accounted, (none_and_one_leave cmp order here.next_id t here.caps here.sending next
-      stays still (none_done t old here ls leaves)), (all_and_one_stay cmp order here.next_id t here.caps here.sending
-      next stays still (none_done t old here ls leaves)))
+      let none = none_done t old here ls leaves in
+      record {
+        left = sym (ap rated_messages
+            (none_and_one_leave cmp order here.next_id t here.caps here.sending next stays still none));
+        is =
+            let all = all_and_one_stay cmp order here.next_id t here.caps here.sending next stays still none in
+            let at : here.accounted ≡ t = ap (λ (q : Planned P). q.accounted) leaves.is in
+            λ i. record (launched cmp t (landed cmp t here m) next) { sending = sym all i; accounted = at i };
+      }
 
   -- ---- the next message starts
 
@@ -78,11 +84,16 @@ module _ {P : Type 0} (cmp : P → P → Ordering) (order : IsTotalOrder cmp) wh
         (drained_to t (fs ++ starting cmp order here.next_id t next ∷ [])))
         new.sending
     left_alike =
-        grind (arith, common_steps, zip_beside, (all_and_one_stay cmp order here.next_id t here.caps fs next stays
-        still_there none_there), (starting cmp order here.next_id t next), (zip-append (Stays t) here.sending
-        (starting cmp order here.next_id t next ∷ []) fs (starting cmp order here.next_id t next ∷ []) stayed ((refl,
-        refl, refl, refl), tt)), (all_and_one_stay cmp order here.next_id t here.caps here.sending next stays
-        still_here none_here))
+        subst (λ (l : List (RatedFlight P)). AllZip (Stays t) l new.sending)
+        (sym (all_and_one_stay cmp order here.next_id t here.caps fs next stays still_there none_there))
+        (zip_beside (Stays t) (Stays t) (Stays t)
+        (λ f g k one other. (other.0 ∙ sym one.0, other.1 ∙ sym one.1, other.2 ∙ sym one.2, other.3))
+        (here.sending ++ starting cmp order here.next_id t next ∷ [])
+        (fs ++ starting cmp order here.next_id t next ∷ []) new.sending
+        (zip-append (Stays t) here.sending (starting cmp order here.next_id t next ∷ []) fs
+        (starting cmp order here.next_id t next ∷ []) stayed ((refl, refl, refl, refl), tt))
+        (subst (λ (l : List (RatedFlight P)). AllZip (Stays t) l new.sending)
+        (all_and_one_stay cmp order here.next_id t here.caps here.sending next stays still_here none_here) a.stayed))
 
     accounts_there : Accounts cmp t (launched cmp t (landed cmp t there m) next) [] new
     accounts_there = grind (arith, none_and_one_leave, left_alike)
@@ -106,12 +117,9 @@ module _ {P : Type 0} (cmp : P → P → Ordering) (order : IsTotalOrder cmp) wh
       let accounted_there : IsAccountedAt cmp order t made.0 = accounted cmp order t old made.0 ls made.1 in
       let stayed : AllZip (Stays t) here.sending made.0.sending = grind arith in
       let low : AreLowest made.0.sending = grind (arith, zip_each) in
-      let none_there : filter (is_spent cmp here.caps) made.0.sending ≡ [] =
-      subst (λ (q : Planned P). filter (is_spent cmp q.caps) made.0.sending ≡ []) there
+      let none_there = subst (λ (q : Planned P). filter (is_spent cmp q.caps) made.0.sending ≡ []) there
       (none_leave cmp order t made.0 accounted_there) in
-      let launch : Launches cmp t (landed cmp t (record here { sending = made.0.sending; accounted = t; finish = made.0.finish }) m)
-      (Some next) (goes [] new) =
-      starts_beside t m next here new made.0.sending made.0.finish may id stays still
+      let launch = starts_beside t m next here new made.0.sending made.0.finish may id stays still
       (none_done t old here ls leaves) stayed (drained_still cmp order t made.0 accounted_there low) none_there a in (
         made.0,
         made.1,

@@ -1,5 +1,5 @@
 -- A launch in the planned world is a start in the world, and what is done at once leaves.
-use Rattle.link_simulation.proofs.Common.{common_steps, ◌≡◌, ℕ, ◌+◌, ◌≤◌, List, [], ◌∷◌, ◌++◌, map, length, Bool, true}
+use Rattle.link_simulation.proofs.Common.{◌<◌, subst, ◌≡◌, ℕ, ◌+◌, ◌≤◌, List, [], ◌∷◌, ◌++◌, map, length, Bool, true}
 use Rattle.link_simulation.proofs.Common.{false, cond, not, Option, Some, None, refl, sym, ap, ◌∙◌, arith, nat_le, ⊤}
 use Rattle.link_simulation.proofs.Common.{◌&&◌, filter, find, list_any, AllZip, Ordering, IsTotalOrder, not-true}
 use Rattle.link_simulation.proofs.Common.{map-append, filter-append, whole, Completed, Course, Flight, World, flows}
@@ -94,9 +94,9 @@ module _ {P : Type 0} (cmp : P → P → Ordering) (order : IsTotalOrder cmp) wh
   pub next_alike : (t : ℕ) (p : Planned P) (w : World P) (m n : Message P) → Tallies cmp t p w → SameMessage cmp m n
       → OptionsAlike (SameMessage cmp) (next_of cmp p m) (find (same_pair cmp n) w.waiting)
   next_alike t p w m n same alike =
-      grind (arith, (head_found (same_pair cmp m) p.waiting), (find_like cmp order m n), (head_found (same_pair cmp m)
-      w.waiting), (heads_alike (SameMessage cmp) (filter (same_pair cmp m) p.waiting) (filter (same_pair cmp m)
-      w.waiting) (same.waiting m)))
+      grind (arith, (head_found (same_pair cmp m) p.waiting), (find_like cmp order m n),
+      (head_found (same_pair cmp m) w.waiting), (heads_alike (SameMessage cmp) (filter (same_pair cmp m) p.waiting)
+      (filter (same_pair cmp m) w.waiting) (same.waiting m)))
 
   -- ---- a message starts
 
@@ -105,8 +105,8 @@ module _ {P : Type 0} (cmp : P → P → Ordering) (order : IsTotalOrder cmp) wh
       (record { id = id; message = x; left = whole (length x.bytes); rate = Some (whole 0); updated = t })
       (flight_of y)
   started_flight t id x y same =
-      grind (arith, whole, (whole_lowest (length x.bytes)), (whole (length x.bytes)), (whole 0), (drained_none (whole
-      (length x.bytes)) (whole 0) (whole_lowest (length x.bytes)) (omega arith)))
+      grind (arith, whole, (whole_lowest (length x.bytes)), (whole (length x.bytes)), (whole 0),
+      (drained_none (whole (length x.bytes)) (whole 0) (whole_lowest (length x.bytes)) (omega arith)))
 
   -- before any limit nothing waits
   pub waits_limited : (t : ℕ) (p : Planned P) (w : World P) (y : Message P) → Tallies cmp t p w
@@ -242,20 +242,32 @@ module _ {P : Type 0} (cmp : P → P → Ordering) (order : IsTotalOrder cmp) wh
       grind (arith, may_alike, messages_alike, starts_fault, le-leb)
   launch_alike {t = t} {p = p} (starts {m = x} {leavers = leavers} {new = new} may below account) w fs m (Some y)
       follows none is alike =
-          grind (arith, common_steps, starts_so, leb-true, (started w y), (may_alike cmp order t p w x y
-          follows.tallies.last_arrival (messages_alike cmp order t p.sending w.sending follows.tallies.sending)
-          alike), (started_stays w y none), (account_follows cmp order t (launched cmp t p x) new leavers (joined cmp
-          w y) (launched_tallies t p w x y follows.tallies alike (find_like cmp order m y w.waiting (find_passes
-          (same_pair cmp m) y w.waiting is) ∙ is) (idle_from (list_any (same_pair cmp y) (flows w)) (is_in_order
-          (w.last_arrival y.origin y.recipient) (t + y.latency)) (sym (may_alike cmp order t p w x y
-          follows.tallies.last_arrival (messages_alike cmp order t p.sending w.sending follows.tallies.sending) alike)
-          ∙ may))) account), (staying_none (joined cmp w y)), (joining_leaves w y none), (leavers_alike cmp order t
-          (launched cmp t p x) new leavers (joined cmp w y) (launched_tallies t p w x y follows.tallies alike
-          (find_like cmp order m y w.waiting (find_passes (same_pair cmp m) y w.waiting is) ∙ is) (idle_from (list_any
-          (same_pair cmp y) (flows w)) (is_in_order (w.last_arrival y.origin y.recipient) (t + y.latency)) (sym
-          (may_alike cmp order t p w x y follows.tallies.last_arrival (messages_alike cmp order t p.sending w.sending
-          follows.tallies.sending) alike) ∙ may))) account), (started_fewer w y (find_like cmp order m y w.waiting
-          (find_passes (same_pair cmp m) y w.waiting is) ∙ is)))
+      let may_too = sym (may_alike cmp order t p w x y follows.tallies.last_arrival
+      (messages_alike cmp order t p.sending w.sending follows.tallies.sending) alike) ∙ may in
+      let idle = idle_from (list_any (same_pair cmp y) (flows w))
+      (is_in_order (w.last_arrival y.origin y.recipient) (t + y.latency)) may_too in
+      let own = find_like cmp order m y w.waiting (find_passes (same_pair cmp m) y w.waiting is) ∙ is in
+      let tallies = launched_tallies t p w x y follows.tallies alike own idle in
+      record {
+        more = joining w y;
+        world = started w y;
+        launches = λ next.
+            starts_so next t fs w y may_too (by_id (nat_le last_moment w.next_id) refl follows.tallies.next_id below);
+        follows =
+            subst (λ (v : World P). Follows cmp t new v) (started_stays w y none)
+            (account_follows cmp order t (launched cmp t p x) new leavers (joined cmp w y) tallies account);
+        none = subst NoneDone (started_stays w y none) (staying_none (joined cmp w y));
+        leaves =
+            subst (λ (q : List (Flight P)). AllZip (SameMessage cmp) leavers (map (λ (g : Flight P). g.message) q))
+            (joining_leaves w y none)
+            (leavers_alike cmp order t (launched cmp t p x) new leavers (joined cmp w y) tallies account);
+        fewer = started_fewer w y own;
+      }
+    where
+      by_id : (b : Bool) → (nat_le last_moment w.next_id) ≡ b → p.next_id ≡ w.next_id → p.next_id < last_moment
+          → b ≡ false
+      by_id true e same lt = let is : last_moment ≤ w.next_id = leb-true last_moment w.next_id e in absurd (omega arith)
+      by_id false e same lt = refl
   launch_alike _ w fs m _ follows none is alike = absurd alike
 
   pub start_alike : {t : ℕ} {p : Planned P} {o : Option (Message P)} {course : Course (Message P) (Planned P)}
@@ -269,11 +281,23 @@ module _ {P : Type 0} (cmp : P → P → Ordering) (order : IsTotalOrder cmp) wh
   start_alike {t = t} {p = p} (no_id {m = x} launches last) w y follows none may own alike = grind arith
   start_alike {t = t} {p = p} (starts {m = x} {leavers = leavers} {new = new} launches below account) w y follows none
       may own alike =
-          grind (arith, common_steps, leb-true, (started_stays w y none), (account_follows cmp order t (launched cmp t
-          p x) new leavers (joined cmp w y) (launched_tallies t p w x y follows.tallies alike own (idle_from (list_any
-          (same_pair cmp y) (flows w)) (is_in_order (w.last_arrival y.origin y.recipient) (t + y.latency)) may))
-          account), (staying_none (joined cmp w y)), (joining_leaves w y none), (leavers_alike cmp order t (launched
-          cmp t p x) new leavers (joined cmp w y) (launched_tallies t p w x y follows.tallies alike own (idle_from
-          (list_any (same_pair cmp y) (flows w)) (is_in_order (w.last_arrival y.origin y.recipient) (t + y.latency))
-          may)) account), (launched_tallies t p w x y follows.tallies alike own (idle_from (list_any (same_pair cmp y)
-          (flows w)) (is_in_order (w.last_arrival y.origin y.recipient) (t + y.latency)) may)))
+      let idle = idle_from (list_any (same_pair cmp y) (flows w))
+      (is_in_order (w.last_arrival y.origin y.recipient) (t + y.latency)) may in
+      let tallies = launched_tallies t p w x y follows.tallies alike own idle in
+      record {
+        starts = rw (by_id (nat_le last_moment w.next_id) refl follows.tallies.next_id below) refl;
+        follows =
+            subst (λ (v : World P). Follows cmp t new v) (started_stays w y none)
+            (account_follows cmp order t (launched cmp t p x) new leavers (joined cmp w y) tallies account);
+        none = subst NoneDone (started_stays w y none) (staying_none (joined cmp w y));
+        leaves =
+            subst (λ (q : List (Flight P)). AllZip (SameMessage cmp) leavers (map (λ (g : Flight P). g.message) q))
+            (joining_leaves w y none)
+            (leavers_alike cmp order t (launched cmp t p x) new leavers (joined cmp w y) tallies account);
+        one_each = tallies.one_each;
+      }
+    where
+      by_id : (b : Bool) → (nat_le last_moment w.next_id) ≡ b → p.next_id ≡ w.next_id → p.next_id < last_moment
+          → b ≡ false
+      by_id true e same lt = let is : last_moment ≤ w.next_id = leb-true last_moment w.next_id e in absurd (omega arith)
+      by_id false e same lt = refl

@@ -1,13 +1,12 @@
 -- The empty planned world stands for the empty world, and new caps do in the planned world what they do in the world.
 use Rattle.link_simulation.proofs.Common.{◌≡◌, ℕ, zero, suc, ◌+◌, ◌-◌, ◌<◌, ◌≤◌, List, [], ◌∷◌, length, true, false}
 use Rattle.link_simulation.proofs.Common.{Option, refl, sym, ap, ◌∙◌, subst, arith, IfSome, list_any, AllZip, Ordering}
-use Rattle.link_simulation.proofs.Common.{IsTotalOrder, Completed, Course, Flight, IsQuiet, World, goes, is_done}
-use Rattle.link_simulation.proofs.Common.{last_moment, meets, new_world, ready, settle, EndsWith, Runs, act, call_limit}
-use Rattle.link_simulation.proofs.Common.{Call, rebalance, limited_by, linked_by, call_limit_link, none_sending}
-use Rattle.link_simulation.proofs.Common.{some_sending, Rebalances, Message, Caps, PairsAlike, CapsAlike, RatedFlight}
-use Rattle.link_simulation.proofs.Common.{Planned, new_planned, next_event, rated_messages, AreFair, rate_of}
-use Rattle.link_simulation.proofs.Common.{CoursesAlike, Follows, IsSameFlight, IsSettled, StandsFor, Tallies, Ticks}
-use Rattle.link_simulation.proofs.Common.{no_tick, leaving, staying}
+use Rattle.link_simulation.proofs.Common.{IsTotalOrder, Completed, Course, Flight, World, goes, is_done, last_moment}
+use Rattle.link_simulation.proofs.Common.{meets, new_world, ready, settle, EndsWith, Runs, act, call_limit, Call}
+use Rattle.link_simulation.proofs.Common.{rebalance, limited_by, linked_by, call_limit_link, none_sending, some_sending}
+use Rattle.link_simulation.proofs.Common.{Rebalances, Message, Caps, PairsAlike, CapsAlike, RatedFlight, Planned}
+use Rattle.link_simulation.proofs.Common.{new_planned, next_event, rated_messages, AreFair, rate_of, CoursesAlike}
+use Rattle.link_simulation.proofs.Common.{Follows, IsSameFlight, IsSettled, StandsFor, Tallies, Ticks, no_tick, leaving}
 use Rattle.std.proofs.Common.{lit<}
 use Rattle.link_simulation.specs.Simulation.Messages.{AnswerAlike, with_cap, with_link}
 use Rattle.link_simulation.proofs.Simulation.AlikeMessages.{same_itself, peers_alike}
@@ -85,10 +84,8 @@ module _ {P : Type 0} (cmp : P → P → Ordering) (order : IsTotalOrder cmp) wh
           }
       by_count (suc k) is =
           let same : w.moment + suc k ≡ now = omega arith in
-          let still : IfSome (next_event p) (λ t. w.moment + suc k < t) =
-          subst (λ (s : ℕ). IfSome (next_event p) (λ t. s < t)) (sym same) before in
-          let quiet : IsQuiet cmp (w.moment + suc k) (later cmp order p w stands (suc k)) =
-          quiet_before cmp order p w stands (suc k) (omega arith) still in
+          let still = subst (λ (s : ℕ). IfSome (next_event p) (λ t. s < t)) (sym same) before in
+          let quiet = quiet_before cmp order p w stands (suc k) (omega arith) still in
           record {
             world = later cmp order p w stands (suc k);
             ticks =
@@ -129,8 +126,7 @@ module _ {P : Type 0} (cmp : P → P → Ordering) (order : IsTotalOrder cmp) wh
       rests =
           let x : World P = rebalanced u others in
           let few : length (leaving cmp x) ≤ length x.sending = leaving_fewer cmp order x in
-          let kept : length (staying cmp x).waiting ≡ length x.waiting =
-          ap (λ (q : List (Message P)). length q) (staying_waiting cmp order x) in
+          let kept = ap (λ (q : List (Message P)). length q) (staying_waiting cmp order x) in
           settle_keeps_rest cmp order now x follows.tallies.one_each none_ready (omega arith)
 
       by_case : {course : Course (Completed P) (Planned P)} → Rebalances cmp now caps p course
@@ -144,8 +140,7 @@ module _ {P : Type 0} (cmp : P → P → Ordering) (order : IsTotalOrder cmp) wh
           let x : World P = rebalanced u others in
           let gone : u.sending ≡ [] = none_flies now p.sending u.sending follows.tallies.sending empty in
           let none_done : list_any (is_done cmp x) x.sending ≡ false = ap (list_any (is_done cmp x)) gone in
-          let same : settle cmp now x ≡ goes [] x =
-          settle_quiet cmp order (length x.sending + length x.waiting) now x none_done in
+          let same = settle_quiet cmp order (length x.sending + length x.waiting) now x none_done in
           let follows_too : Follows cmp now (replanned p caps) x = record {
             tallies = recapped_tallies now p u caps others alike follows.tallies;
             rated = record {
@@ -160,9 +155,8 @@ module _ {P : Type 0} (cmp : P → P → Ordering) (order : IsTotalOrder cmp) wh
             };
             finish = follows.finish;
           } in
-          let settled : IsSettled cmp now new x =
-          looked cmp order now (replanned p caps) new x follows_too (each_none (is_done cmp x) x.sending none_done)
-          looks in
+          let settled = looked cmp order now (replanned p caps) new x follows_too
+          (each_none (is_done cmp x) x.sending none_done) looks in
           settled_rests now (goes [] new) (settle cmp now x) within
           (subst (λ (c : Course (Completed P) (World P)). CoursesAlike cmp (IsSettled cmp now) (goes [] new) c)
           (sym same) (tt, settled))

@@ -1,7 +1,7 @@
 -- Replies by the event rule have no refusal for a number.
-use Rattle.link_simulation.proofs.Common.{arith, List, [], ◌∷◌, Contains, ⊤, Ordering, All-contains, Error, OutOfMemory}
+use Rattle.link_simulation.proofs.Common.{arith, List, [], ◌∷◌, Contains, ⊤, Ordering, All-contains, OutOfMemory}
 use Rattle.link_simulation.proofs.Common.{NumberTooLarge, MomentTooLate, FlowIdsUsedUp, Call, Reply, reply_done}
-use Rattle.link_simulation.proofs.Common.{reply_next, reply_refused, Planned, MayBeRefused, Obeyed, Each, all_of_each}
+use Rattle.link_simulation.proofs.Common.{reply_next, reply_refused, Planned, Obeyed, Each, all_of_each}
 use Rattle.link_simulation.proofs.Rule.Stepwise.{obeyed_next, obeyed_done}
 
 IsNoNumber : {P : Type 0} → Reply P → Type 0
@@ -13,12 +13,6 @@ IsNoNumber (reply_refused MomentTooLate) = ⊤
 IsNoNumber (reply_refused FlowIdsUsedUp) = ⊤
 
 module _ {P : Type 0} (cmp : P → P → Ordering) where
-  refused : (p : Planned P) (call : Call P) (why : Error) → MayBeRefused cmp p call why
-      → IsNoNumber {P = P} (reply_refused why)
-  unfolding IsNoNumber
-  refused p call NumberTooLarge may = may
-  refused p call _ may = tt
-
   none_for_a_number : (p : Planned P) (calls : List (Call P)) (replies : List (Reply P)) → Obeyed cmp p calls replies
       → Each IsNoNumber replies
   unfolding IsNoNumber
@@ -30,8 +24,8 @@ module _ {P : Type 0} (cmp : P → P → Ordering) where
   none_for_a_number p (call ∷ calls) (reply_refused why ∷ replies) obeyed =
       grind (arith, (none_for_a_number p calls replies))
   none_for_a_number p (call ∷ calls) (reply_done cs ∷ replies) obeyed =
-      grind (arith, (none_for_a_number (obeyed_done cmp p calls replies call cs obeyed).1 calls replies (obeyed_done
-      cmp p calls replies call cs obeyed).4))
+      grind (arith, (none_for_a_number (obeyed_done cmp p calls replies call cs obeyed).1 calls replies
+      (obeyed_done cmp p calls replies call cs obeyed).4))
 
   pub never_for_a_number : (p : Planned P) (calls : List (Call P)) (replies : List (Reply P))
       → Obeyed cmp p calls replies

@@ -1,12 +1,11 @@
 -- A call in its turn does in the planned world what it does in the world.
-use Rattle.link_simulation.proofs.Common.{common_steps, ◌≡◌, ℕ, ◌<◌, ◌≤◌, List, [], Some, refl, subst, arith, IfSome}
-use Rattle.link_simulation.proofs.Common.{Ordering, IsTotalOrder, Message, World, Completed, Course, goes, meets}
-use Rattle.link_simulation.proofs.Common.{preceded, and_then, last_moment, Ticks, no_tick, one_tick, tick_faults, act}
-use Rattle.link_simulation.proofs.Common.{enqueue, enqueue_each, Call, call_limit, call_limit_link, call_enqueue}
-use Rattle.link_simulation.proofs.Common.{call_advance, call_enqueue_all, call_next, moment_of, Runs, IsInTurn}
-use Rattle.link_simulation.proofs.Common.{IsBeforeNext, Planned, next_event, Enqueues, at_once, no_launch, launches}
-use Rattle.link_simulation.proofs.Common.{Obeys, EnqueuesEach, all_enqueued, one_stops, enqueues_one, CoursesAlike}
-use Rattle.link_simulation.proofs.Common.{StandsFor, zip-append}
+use Rattle.link_simulation.proofs.Common.{common_steps, ◌≡◌, ℕ, ◌<◌, ◌≤◌, List, Some, subst, arith, IfSome, Ordering}
+use Rattle.link_simulation.proofs.Common.{IsTotalOrder, Message, World, Completed, Course, goes, meets, preceded}
+use Rattle.link_simulation.proofs.Common.{and_then, last_moment, act, enqueue, enqueue_each, Call, call_limit}
+use Rattle.link_simulation.proofs.Common.{call_limit_link, call_enqueue, call_advance, call_enqueue_all, call_next}
+use Rattle.link_simulation.proofs.Common.{moment_of, Runs, IsInTurn, IsBeforeNext, Planned, next_event, Enqueues}
+use Rattle.link_simulation.proofs.Common.{at_once, no_launch, launches, Obeys, EnqueuesEach, all_enqueued, one_stops}
+use Rattle.link_simulation.proofs.Common.{enqueues_one, CoursesAlike, StandsFor, zip-append}
 use Rattle.link_simulation.proofs.Simulation.Queue.{preceded_none}
 use Rattle.link_simulation.proofs.Simulation.QuietInstants.{next_is_later}
 use Rattle.link_simulation.proofs.Rule.NextEvent.{next_is_planned, advance_runs}
@@ -40,12 +39,6 @@ module _ {P : Type 0} (cmp : P → P → Ordering) (order : IsTotalOrder cmp) wh
 
   -- ---- messages one after another
 
-  -- no tick leads nowhere
-  none_ticked : {n : ℕ} {w : World P} {c : Course (Completed P) (World P)} → Ticks cmp n w c → n ≡ 0 → c ≡ goes [] w
-  none_ticked no_tick none = refl
-  none_ticked (one_tick drains here more) none = cc
-  none_ticked (tick_faults drains here) none = cc
-
   -- at a call's moment nothing ticks
   pub acts_at_once : (w : World P) (call : Call P) (now : ℕ) (c : Course (Completed P) (World P)) → w.moment ≡ now
       → Runs cmp w call now c → c ≡ act cmp w call
@@ -73,12 +66,18 @@ module _ {P : Type 0} (cmp : P → P → Ordering) (order : IsTotalOrder cmp) wh
       → CoursesAlike cmp (StandsAt now) course (enqueue_each cmp now v ms)
   each_at_once all_enqueued within v here = (tt, here)
   each_at_once {now = now} (one_stops {m = m} {ms = ms} {p = p} {fault = fault} one) within v here =
-      grind (arith, common_steps, (acts_at_once v (call_enqueue now m) now (any_enqueue one v here.0 (omega arith)
-      within (later_than p v now here.0 here.1)).0 here.1 (any_enqueue one v here.0 (omega arith) within (later_than p
-      v now here.0 here.1)).1), (any_enqueue one v here.0 (omega arith) within (later_than p v now here.0 here.1)))
+      let at : v.moment ≡ now = here.1 in
+      let f = any_enqueue one v here.0 (omega arith) within (later_than p v now here.0 here.1) in
+      met (enqueue cmp now v m)
+      (subst (λ (c : Course (Completed P) (World P)). CoursesAlike cmp (StandsAt now) (meets fault) c)
+      (acts_at_once v (call_enqueue now m) now f.0 here.1 f.1) f.2)
+    where
+      met : (c : Course (Completed P) (World P)) → CoursesAlike cmp (StandsAt now) (meets fault) c
+          → CoursesAlike cmp (StandsAt now) (meets fault) (and_then c (λ u. enqueue_each cmp now u ms))
+      met (goes ds u) alike = absurd alike
+      met (meets other) alike = alike
   each_at_once {now = now} (enqueues_one {m = m} {ms = ms} {p = p} {q = q} {cs = cs} {rest = rest} one more) within v
       here =
-      let at : v.moment ≡ now = here.1 in
       let f : Follows p v (call_enqueue now m) now (goes cs q) = grind (arith, any_enqueue, later_than) in
       alike_then now cs q rest (enqueue cmp now v m) (λ u. enqueue_each cmp now u ms)
       (subst (λ (c : Course (Completed P) (World P)). CoursesAlike cmp (StandsAt now) (goes cs q) c)

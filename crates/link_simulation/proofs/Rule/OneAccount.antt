@@ -12,12 +12,13 @@ use Rattle.link_simulation.proofs.Common.{IsLeastMoment, SomeSpentAt, rated_mess
 use Rattle.link_simulation.proofs.Common.{may_launch, next_of, SomeReadyAt, Accounts, PlansStart, launched, Launches}
 use Rattle.link_simulation.proofs.Common.{nothing_waits, too_early, no_id, starts, Finishes, all_completed, late}
 use Rattle.link_simulation.proofs.Common.{stopped, completes, with_queued, Enqueues, at_once, no_launch, launches}
-use Rattle.link_simulation.proofs.Common.{completed_at_once, landed}
+use Rattle.link_simulation.proofs.Common.{completed_at_once, landed, rules}
 use Rattle.std.proofs.lemmas.Bool.{cases_eq}
 use Rattle.link_simulation.proofs.Laws.Orderly.{drained_messages, stayed_messages}
 use Rattle.link_simulation.proofs.Rule.Accounts.{each_passes}
 use Rattle.link_simulation.proofs.Rule.BeforeNext.{filter_none}
 use Rattle.link_simulation.proofs.Rule.SameSteps.{least_same}
+use Rattle.link_simulation.proofs.Simulation.InOrder.{each_in_filter}
 use Rattle.link_simulation.proofs.Simulation.Continuing.{rates_exist}
 use Rattle.link_simulation.proofs.Simulation.LowestTerms.{drained_none, drained_by_lowest, whole_lowest}
 use Rattle.link_simulation.proofs.Simulation.SettlingEnds.{ends_preceded}
@@ -123,11 +124,6 @@ all_lowest : {P : Type 0} (t : ℕ) (fs : List (RatedFlight P)) → ArePositive 
 all_lowest t [] each = tt
 all_lowest t (f ∷ fs) each = (left_lowest t f each.0, all_lowest t fs each.1)
 
-each_filtered_too : {X : Type 0} (Q : X → Type 0) (test : X → Bool) (xs : List X) → Each Q xs
-    → Each Q (filter test xs)
-each_filtered_too Q test [] each = tt
-each_filtered_too {X} Q test (x ∷ xs) each = grind (arith, (each_filtered_too Q test xs))
-
 module _ {P : Type 0} (cmp : P → P → Ordering) (order : IsTotalOrder cmp) where
   -- at that moment an account was made: what is in flight is accounted for, none of it is done, and the rates and the
   -- finish are right
@@ -212,7 +208,7 @@ module _ {P : Type 0} (cmp : P → P → Ordering) (order : IsTotalOrder cmp) wh
   pub enqueue_starts : {t : ℕ} {m : Message P} {p : Planned P} {c : Course (Completed P) (Planned P)}
       → Enqueues cmp t m p c → p.limited ≡ true → next_of cmp (with_queued cmp p m) m ≡ Some m
       → may_launch cmp t p m ≡ true → EndsWith (IsAccountedAt t) c
-  enqueue_starts {p = p} (at_once free) limited found may = let wrong : true ≡ false = sym limited ∙ free in cc
+  enqueue_starts {p = p} (at_once free) limited found may = cc
   enqueue_starts (no_launch limited launch) l found may = tt
   enqueue_starts {m = m} (launches {leavers = ls} {mid = mid} limited launch finishes) l found may =
       finish_accounted finishes (start_accounted launch m found may ls mid refl)
@@ -233,8 +229,7 @@ module _ {P : Type 0} (cmp : P → P → Ordering) (order : IsTotalOrder cmp) wh
       → Each HasRate fs
   all_have_rates caps per parts place [] some limited rated = tt
   all_have_rates caps per parts place (f ∷ fs) some limited rated =
-      let own : (if is_unlimited cmp caps f.message then None else Some (parts place)) ≡ Some (parts place) =
-      ap (λ (b : Bool). if b then None else Some (parts place)) limited.0 in (
+      let own = ap (λ (b : Bool). if b then None else Some (parts place)) limited.0 in (
         (reduced (parts place) per, rated.0 ∙ ap (rate_of per) own, reduced_positive (parts place) per some),
         all_have_rates caps per parts (place + 1) fs some limited.1 rated.1,
       )
@@ -351,11 +346,7 @@ module _ {P : Type 0} (cmp : P → P → Ordering) (order : IsTotalOrder cmp) wh
       → is_spent cmp caps (starting id t m) ≡ false → filter (is_spent cmp caps) (drained_to t fs) ≡ []
       → filter (is_spent cmp caps) (drained_to t (fs ++ starting id t m ∷ [])) ≡ []
   none_more_leaves id t caps fs m limited none =
-      ap (filter (is_spent cmp caps)) (drained-append t fs (starting id t m ∷ []))
-      ∙ ap (λ l. filter (is_spent cmp caps) (drained_to t fs ++ l)) (starting_kept id t m)
-      ∙ filter-append (is_spent cmp caps) (drained_to t fs) (starting id t m ∷ [])
-      ∙ ap (λ l. l ++ filter (is_spent cmp caps) (starting id t m ∷ [])) none
-      ∙ filter_none (is_spent cmp caps) (starting id t m ∷ []) (limited, tt)
+      search (rules, drained-append, starting, starting_kept, filter-append, filter_none)
 
   all_but_none : (test : RatedFlight P → Bool) (fs : List (RatedFlight P)) → filter test fs ≡ []
       → filter (λ f. not (test f)) fs ≡ fs
@@ -367,8 +358,8 @@ module _ {P : Type 0} (cmp : P → P → Ordering) (order : IsTotalOrder cmp) wh
       → is_spent cmp caps (starting id t m) ≡ false → drained_to t fs ≡ fs → filter (is_spent cmp caps) fs ≡ []
       → filter (λ f. not (is_spent cmp caps f)) (drained_to t (fs ++ starting id t m ∷ [])) ≡ fs ++ starting id t m ∷ []
   all_and_one_stay id t caps fs m limited still none =
-      grind (arith, (one_more_stays id t caps fs m limited), (starting id t m), (all_but_none (is_spent cmp caps) fs
-      none))
+      grind (arith, (one_more_stays id t caps fs m limited), (starting id t m),
+      (all_but_none (is_spent cmp caps) fs none))
 
   -- and nothing leaves
   pub none_and_one_leave : (id t : ℕ) (caps : Caps P) (fs : List (RatedFlight P)) (m : Message P)
@@ -380,7 +371,7 @@ module _ {P : Type 0} (cmp : P → P → Ordering) (order : IsTotalOrder cmp) wh
   -- what is left after an account is in lowest terms
   pub account_lowest : (t : ℕ) (p q : Planned P) (ls : List (Message P)) → Accounts cmp t p ls q
       → ArePositive p.sending → AreLowest q.sending
-  account_lowest t p q ls a positive = grind (arith, zip_each, each_filtered_too, all_lowest)
+  account_lowest t p q ls a positive = grind (arith, zip_each, each_in_filter, all_lowest)
 
   -- ---- the same messages in flight
 
@@ -447,9 +438,7 @@ module _ {P : Type 0} (cmp : P → P → Ordering) (order : IsTotalOrder cmp) wh
         (none_leave t (record here { sending = fs; accounted = t; finish = o }) h)
 
     none_there : filter (is_spent cmp here.caps) (drained_to t (fs ++ starting here.next_id t m ∷ [])) ≡ []
-    none_there =
-        none_and_one_leave here.next_id t here.caps fs m stays still
-        (none_leave t (record here { sending = fs; accounted = t; finish = o }) h)
+    none_there = search (none_and_one_leave, still, none_leave, accounted, h)
 
     none_here : filter (is_spent cmp here.caps) (drained_to t here.sending) ≡ []
     none_here = no_messages (filter (is_spent cmp here.caps) (drained_to t here.sending)) a.left
@@ -467,12 +456,10 @@ module _ {P : Type 0} (cmp : P → P → Ordering) (order : IsTotalOrder cmp) wh
         subst (λ (first : Option (Message P)). Launches cmp t
         (with_queued cmp (record here { sending = fs; accounted = t; finish = o }) m) first (goes [] x)) (sym found)
         (starts may_there id ax) in
-        let flies : rated_messages x.sending
-        ≡ rated_messages (launched cmp t (with_queued cmp here m) m).sending =
-        messages_stay t (launched cmp t (with_queued cmp (record here { sending = fs; accounted = t; finish = o }) m) m) x ax
-        ∙ map-append (λ f. f.message) fs (starting here.next_id t m ∷ [])
-        ∙ ap (λ (ms : List (Message P)). ms ++ m ∷ []) flying
-        ∙ sym (map-append (λ f. f.message) here.sending (starting here.next_id t m ∷ [])) in
+        let flies = messages_stay t (launched cmp t (with_queued cmp (record here { sending = fs; accounted = t;
+        finish = o }) m) m) x ax ∙ map-append (λ f. f.message) fs (starting here.next_id t m ∷ []) ∙ ap (λ (ms : List
+        (Message P)). ms ++ m ∷ []) flying ∙ sym (map-append (λ f. f.message) here.sending (starting here.next_id t m
+        ∷ [])) in
         launches limited launch
         (all_completed (planned_alike t (launched cmp t (with_queued cmp here m) m) x next looks
         (ap (λ (q : Planned P). q.waiting) ax.same) (ap (λ (q : Planned P). q.last_arrival) ax.same) flies))

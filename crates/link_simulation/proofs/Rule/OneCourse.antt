@@ -55,12 +55,9 @@ sending_is_one t xs ys d e (b ∷ bs) (f ∷ fs) [] i j h k r s to from = absurd
 sending_is_one t [] ys d e (b ∷ bs) (f ∷ fs) (g ∷ gs) i j h k r s to from = absurd r
 sending_is_one t (x ∷ xs) [] d e (b ∷ bs) (f ∷ fs) (g ∷ gs) i j h k r s to from = absurd s
 sending_is_one {P} t (x ∷ xs) (y ∷ ys) d e (b ∷ bs) (f ∷ fs) (g ∷ gs) i j h k r s to from =
-    let rate : rate_of d x ≡ rate_of e y
-    =
-    rate_is_one x y d e i j (λ a is. head x y a e d (to 0 a (ap Some is)))
+    let rate = rate_is_one x y d e i j (λ a is. head x y a e d (to 0 a (ap Some is)))
     (λ c is. head y x c d e (from 0 c (ap Some is))) in
-    let rest : fs ≡ gs =
-    sending_is_one t xs ys d e bs fs gs i j h.1 k.1 r.1 s.1 (λ n. to (suc n)) (λ n. from (suc n)) in
+    let rest = sending_is_one t xs ys d e bs fs gs i j h.1 k.1 r.1 s.1 (λ n. to (suc n)) (λ n. from (suc n)) in
     let id : f.id ≡ g.id = h.0.0 ∙ sym k.0.0 in
     let message : f.message ≡ g.message = h.0.1 ∙ sym k.0.1 in
     let left : f.left ≡ g.left = h.0.2 ∙ sym k.0.2 in
@@ -87,18 +84,13 @@ module _ {P : Type 0} (cmp : P → P → Ordering) (order : IsTotalOrder cmp) wh
       let flows : rated_messages other.sending ≡ rated_messages new.sending
       = grind (arith, stays_flows) in
       let fair : AreFair cmp old.caps (rated_messages new.sending) g.per g.rates = grind arith in
-      let sending : new.sending ≡ other.sending
-      =
-      sending_is_one t f.rates g.rates f.per g.per
+      let sending = sending_is_one t f.rates g.rates f.per g.per
       (filter (λ h. not (is_spent cmp old.caps h)) (drained_to t old.sending)) new.sending other.sending
-      f.fair.fair.some_part g.fair.fair.some_part f.stayed g.stayed f.rated g.rated
-      (rates_match cmp (same_itself cmp order) old.caps (rated_messages new.sending) f.per g.per f.rates g.rates f.fair
-      fair)
+      f.fair.fair.some_part g.fair.fair.some_part f.stayed g.stayed f.rated g.rated (rates_match cmp
+      (same_itself cmp order) old.caps (rated_messages new.sending) f.per g.per f.rates g.rates f.fair fair)
       (rates_match cmp (same_itself cmp order) old.caps (rated_messages new.sending) g.per f.per g.rates f.rates fair
       f.fair) in
-      let finish : new.finish ≡ other.finish
-      =
-      least_is_one (SomeSpentAt new.sending) new.finish other.finish f.finish
+      let finish = least_is_one (SomeSpentAt new.sending) new.finish other.finish f.finish
       (subst (λ (fs : List (RatedFlight P)). IsLeastMoment (SomeSpentAt fs) other.finish) (sym sending) g.finish) in
       let here : record old { sending = new.sending; accounted = t; finish = new.finish } ≡ record old
       { sending = other.sending; accounted = t; finish = other.finish }
@@ -239,8 +231,7 @@ module _ {P : Type 0} (cmp : P → P → Ordering) (order : IsTotalOrder cmp) wh
       let same : goes more q ≡ h.0 = launch_is_one launch h.0 h.1 in
       let from : WakeFrom t ms (goes more q) d = grind arith in
       let ends : goes cs r ≡ from.0 = finish_is_one finishes from.0 from.1 in
-      let on : WakeOn t ms (goes cs r) d =
-      subst (λ (f : Course (Completed P) (Planned P)). WakeOn t ms f d) (sym ends) from.2 in
+      let on = subst (λ (f : Course (Completed P) (Planned P)). WakeOn t ms f d) (sym ends) from.2 in
       preceded_alike cs rest on.0 (wake_is_one wakes on.0 on.1) ∙ sym on.2
 
   -- ---- settlings, new caps and messages

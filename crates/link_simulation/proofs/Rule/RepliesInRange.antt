@@ -1,13 +1,13 @@
 -- A call in the range is refused for memory alone, and so are the calls of a list, each with those that were made
 -- before it.
-use Rattle.link_simulation.proofs.Common.{common_steps, ◌≡◌, ℕ, ◌+◌, ◌<◌, ◌≤◌, ◌^◌, List, [], ◌∷◌, ◌++◌, length, All}
-use Rattle.link_simulation.proofs.Common.{refl, sym, ◌∙◌, ap, subst, append_assoc, append-nil, arith, IfSome, Ordering}
-use Rattle.link_simulation.proofs.Common.{IsTotalOrder, All-nil, Error, OutOfMemory, NumberTooLarge, MomentTooLate}
-use Rattle.link_simulation.proofs.Common.{FlowIdsUsedUp, Message, Completed, Course, goes, meets, Call, call_enqueue}
-use Rattle.link_simulation.proofs.Common.{call_advance, call_enqueue_all, call_next, moment_of, enqueued, Reply}
-use Rattle.link_simulation.proofs.Common.{reply_done, reply_next, reply_refused, Planned, new_planned, Obeys}
-use Rattle.link_simulation.proofs.Common.{EnqueuesEach, all_enqueued, one_stops, enqueues_one, IsInRange, MayBeRefused}
-use Rattle.link_simulation.proofs.Common.{Obeyed, Each, all_of_each}
+use Rattle.link_simulation.proofs.Common.{◌≡◌, ℕ, ◌+◌, ◌<◌, ◌≤◌, ◌^◌, List, [], ◌∷◌, ◌++◌, length, refl, sym, subst}
+use Rattle.link_simulation.proofs.Common.{append_assoc, append-nil, arith, IfSome, Ordering, IsTotalOrder, All-nil}
+use Rattle.link_simulation.proofs.Common.{Error, OutOfMemory, NumberTooLarge, MomentTooLate, FlowIdsUsedUp, Message}
+use Rattle.link_simulation.proofs.Common.{Completed, Course, goes, meets, Call, call_enqueue, call_advance}
+use Rattle.link_simulation.proofs.Common.{call_enqueue_all, call_next, moment_of, enqueued, Reply, reply_done}
+use Rattle.link_simulation.proofs.Common.{reply_next, reply_refused, Planned, new_planned, Obeys, EnqueuesEach}
+use Rattle.link_simulation.proofs.Common.{all_enqueued, one_stops, enqueues_one, IsInRange, MayBeRefused, Obeyed, Each}
+use Rattle.link_simulation.proofs.Common.{all_of_each}
 use Rattle.std.proofs.lemmas.List.{length-append}
 use Rattle.std.proofs.lemmas.List.Elements.{All-head}
 use Rattle.link_simulation.specs.Rule.Range.{AreInRange, IsCallInRange}
@@ -36,18 +36,7 @@ record IsSplit {P : Type 0} (calls : List (Call P)) (call : Call P) : Type 0 whe
 
 range_splits : {P : Type 0} (calls : List (Call P)) (call : Call P) → AreInRange (calls ++ call ∷ [])
     → IsSplit calls call
-range_splits {P} calls call range =
-    let moments : All (IsSoon {P = P}) calls × All (IsSoon {P = P}) (call ∷ []) = grind (arith, all_of_both) in
-    let latencies : All (IsNear {P = P}) (enqueued calls) × All (IsNear {P = P}) (enqueued (call ∷ []))
-    = grind (arith, all_of_both, enqueued_joined) in
-    let count : length (enqueued (calls ++ call ∷ [])) ≡ length (enqueued calls) + length (enqueued (call ∷ []))
-    = ap length (enqueued_joined calls call) ∙ length-append (enqueued calls) (enqueued (call ∷ [])) in
-    let all : length (enqueued (calls ++ call ∷ [])) < 2 ^ 64 = range.messages in
-    record {
-      before = record { moments = moments.0; latencies = latencies.0; messages = omega arith };
-      call_itself = record { moments = moments.1; latencies = latencies.1; messages = omega arith };
-      count = count;
-    }
+range_splits {P} calls call range = grind (arith, all_of_both, enqueued_joined, length-append)
 
 pub new_in_range : {P : Type 0} (id : ℕ) → id < 2 ^ 64 → IsInRange {P = P} (new_planned id)
 new_in_range {P} id fits =
@@ -71,9 +60,7 @@ module _ {P : Type 0} (cmp : P → P → Ordering) (order : IsTotalOrder cmp) wh
       let first : ℕ = p.next_id + length p.waiting + 1 in
       let some : first < 2 ^ 64 = omega arith in
       let narrow : Holds cmp order first some p = grind arith in
-      let next : Holds cmp order first some q =
-      enqueues_well cmp order first some one early near.0 (omega arith) narrow in
-      let ids : q.next_id + length q.waiting ≤ first = next.ids in
+      let next = enqueues_well cmp order first some one early near.0 (omega arith) narrow in
       goes_on cmp order most room cs rest
       (each_well more early near.1 most room (omega arith) (more_room first most some room q (omega arith) next))
 
@@ -88,11 +75,7 @@ module _ {P : Type 0} (cmp : P → P → Ordering) (order : IsTotalOrder cmp) wh
         → p.next_id + length p.waiting + length (enqueued (call ∷ [])) ≤ most → Holds cmp order most room p
         → Obeys cmp p call c → GoesWell cmp order most room c
     obeys_well p (call_enqueue now m) c own fits h obeys = grind (arith, enqueues_well, soon, All-head)
-    obeys_well p (call_enqueue_all now ms) c own fits h obeys =
-        each_well obeys (soon (call_enqueue_all now ms) own)
-        (each_of_all (IsNear {P = P}) ms
-        (subst (λ (ns : List (Message P)). All (IsNear {P = P}) ns) (append-nil ms) own.latencies)) most room
-        (subst (λ (ns : List (Message P)). p.next_id + length p.waiting + length ns ≤ most) (append-nil ms) fits) h
+    obeys_well p (call_enqueue_all now ms) c own fits h obeys = search (each_well, soon, each_of_all, append-nil)
     obeys_well p (call_advance now) c own fits h obeys =
         advances_well cmp order most room obeys.1 (soon (call_advance now) own) h
     obeys_well p call_next c own fits h obeys = subst (GoesWell cmp order most room) (sym obeys) h
@@ -151,7 +134,6 @@ module _ {P : Type 0} (cmp : P → P → Ordering) (order : IsTotalOrder cmp) wh
   reached_next earlier call p q cs reached obeys range =
       let both : IsSplit earlier call = range_splits earlier call range in
       let before : Holds cmp order (length (enqueued earlier)) both.before.messages p = reached both.before in
-      let ids : p.next_id + length p.waiting ≤ length (enqueued earlier) = before.ids in
       obeys_well (length (enqueued (earlier ++ call ∷ []))) range.messages p call (goes cs q) both.call_itself
       (omega arith)
       (more_room (length (enqueued earlier)) (length (enqueued (earlier ++ call ∷ []))) both.before.messages
@@ -163,7 +145,6 @@ module _ {P : Type 0} (cmp : P → P → Ordering) (order : IsTotalOrder cmp) wh
   for_memory earlier call p why reached may range =
       let both : IsSplit earlier call = range_splits earlier call range in
       let before : Holds cmp order (length (enqueued earlier)) both.before.messages p = reached both.before in
-      let ids : p.next_id + length p.waiting ≤ length (enqueued earlier) = before.ids in
       refused_for_memory (length (enqueued (earlier ++ call ∷ []))) range.messages p call why both.call_itself
       (omega arith)
       (more_room (length (enqueued earlier)) (length (enqueued (earlier ++ call ∷ []))) both.before.messages
@@ -178,10 +159,9 @@ module _ {P : Type 0} (cmp : P → P → Ordering) (order : IsTotalOrder cmp) wh
   from_there (call ∷ calls) (reply_refused why ∷ replies) earlier p reached obeyed =
       grind (arith, obeyed_refused, for_memory, (from_there calls replies earlier p reached))
   from_there (call ∷ calls) (reply_done cs ∷ replies) earlier p reached obeyed =
-      grind (arith, common_steps, obeyed_done, reached_next, (from_there calls replies (earlier ++ call ∷ [])
-      (obeyed_done cmp p calls replies call cs obeyed).1 (reached_next earlier call p (obeyed_done cmp p calls replies
-      call cs obeyed).1 (obeyed_done cmp p calls replies call cs obeyed).0 reached (obeyed_done cmp p calls replies
-      call cs obeyed).2) (obeyed_done cmp p calls replies call cs obeyed).4))
+      let step = obeyed_done cmp p calls replies call cs obeyed in
+      from_there calls replies (earlier ++ call ∷ []) step.1 (reached_next earlier call p step.1 step.0 reached step.2)
+      step.4
 
   pub refuses_for_memory : (calls : List (Call P)) (replies : List (Reply P)) → Obeyed cmp (new_planned 0) calls replies
       → RefusesForMemoryAlone [] calls replies

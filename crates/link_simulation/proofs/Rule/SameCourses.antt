@@ -71,10 +71,7 @@ module _ {P : Type 0} (cmp : P → P → Ordering) (order : IsTotalOrder cmp) wh
   -- something has nothing left at the same moments
   pub finish_so : (fs gs : List (RatedFlight P)) (o : Option ℕ) → AllZip (IsSameRatedFlight cmp) fs gs
       → IsLeastMoment (λ s. SomeSpentAt fs s) o → IsLeastMoment (λ s. SomeSpentAt gs s) o
-  finish_so fs gs o all least =
-      least_same (λ s. SomeSpentAt fs s) (λ s. SomeSpentAt gs s) o (λ s. some_spent_same cmp order fs gs s all)
-      (λ s. some_spent_same cmp order gs fs s (zip_turned (IsSameRatedFlight cmp) (IsSameRatedFlight cmp)
-      (paced_turned cmp order) fs gs all)) least
+  finish_so fs gs o all least = search (least_same, some_spent_same, zip_turned, paced_turned)
 
   -- the same account of a planned world
   abbrev pub Accounted : ℕ → Planned P → List (Message P) → Planned P → Type 0
@@ -127,11 +124,6 @@ module _ {P : Type 0} (cmp : P → P → Ordering) (order : IsTotalOrder cmp) wh
         subst (λ (z : Planned P). IsSamePlanned cmp z n) (sym looks.same) (planned_same cmp order p q same new.start),
       )
 
-  abbrev pub LaunchWent : ℕ → Planned P → Option (Message P) → List (Message P) → Planned P → Type 0
-  LaunchWent t q r ms p =
-      (ns : List (Message P)) × (s : Planned P) × Launches cmp t q r (goes ns s) × AllZip (SameMessage cmp) ms ns
-      × IsSamePlanned cmp p s
-
   launch_same : {t : ℕ} {p : Planned P} {o : Option (Message P)} {course : Course (Message P) (Planned P)}
       → Launches cmp t p o course → (q : Planned P) (r : Option (Message P))
       → IsSamePlanned cmp p q → OptionsAlike (SameMessage cmp) o r
@@ -146,8 +138,7 @@ module _ {P : Type 0} (cmp : P → P → Ordering) (order : IsTotalOrder cmp) wh
     refl,
   )
   launch_same {t = t} {p = p} (starts {m = m} {leavers = leavers} {new = new} may below account) q (Some n) same alike =
-      let a : Accounted t (launched cmp t q n) leavers new =
-      accounts_same t (launched cmp t p m) (launched cmp t q n) leavers new
+      let a = accounts_same t (launched cmp t p m) (launched cmp t q n) leavers new
       (launched_same cmp order p q same t m n alike) account in (
         goes a.0 a.1,
         starts (sym (may_same cmp order p q same t m n alike) ∙ may)
@@ -184,13 +175,10 @@ module _ {P : Type 0} (cmp : P → P → Ordering) (order : IsTotalOrder cmp) wh
   )
   finish_same {t = t} (completes {m = m} {ms = ms} {more = more} {p = p} {q = s} {rest = rest} is launch finishes)
       (n ∷ ns) q same all =
-      let went : LaunchWent t (landed cmp t q n) (next_of cmp q n) more s
-      = launch_went cmp order (λ c. Launches cmp t (landed cmp t q n) (next_of cmp q n) c) more s
-      (launch_same launch (landed cmp t q n) (next_of cmp q n) (landed_same cmp order p q same t m n all.0)
+      let went = launch_went cmp order (λ c. Launches cmp t (landed cmp t q n) (next_of cmp q n) c) more s (launch_same
+      launch (landed cmp t q n) (next_of cmp q n) (landed_same cmp order p q same t m n all.0)
       (next_same cmp order p q same m n all.0)) in
-      let later : (c : Course (Completed P) (Planned P)) × Finishes cmp t (ns ++ went.0) went.1 c
-      × IsSameCourse cmp rest c
-      = finish_same finishes (ns ++ went.0) went.1 went.4
+      let later = finish_same finishes (ns ++ went.0) went.1 went.4
       (zip-append (SameMessage cmp) ms more ns went.0 all.1 went.3) in (
         preceded (completed cmp t n ∷ []) later.0,
         completes {rest = later.0}
@@ -201,11 +189,6 @@ module _ {P : Type 0} (cmp : P → P → Ordering) (order : IsTotalOrder cmp) wh
   finish_same _ _ q same all = absurd all
 
   -- ---- waking and settling
-
-  abbrev FinishWent : ℕ → List (Message P) → Planned P → List (Completed P) → Planned P → Type 0
-  FinishWent t ns q cs p =
-      (ds : List (Completed P)) × (s : Planned P) × Finishes cmp t ns q (goes ds s) × AllZip (SameCompletion cmp) cs ds
-      × IsSamePlanned cmp p s
 
   wake_same : {t : ℕ} {ms : List (Message P)} {p : Planned P} {course : Course (Completed P) (Planned P)}
       → WakesEach cmp t ms p course → (ns : List (Message P)) (q : Planned P)
@@ -223,8 +206,7 @@ module _ {P : Type 0} (cmp : P → P → Ordering) (order : IsTotalOrder cmp) wh
   )
   wake_same {t = t} (no_finish {m = m} {more = more} {p = p} {q = s} {fault = fault} launch finishes) (n ∷ ns) q same
       all =
-      let went : LaunchWent t q (next_of cmp q n) more s
-      = launch_went cmp order (λ c. Launches cmp t q (next_of cmp q n) c) more s
+      let went = launch_went cmp order (λ c. Launches cmp t q (next_of cmp q n) c) more s
       (launch_same launch q (next_of cmp q n) same (next_same cmp order p q same m n all.0)) in (
         meets fault,
         no_finish went.2
@@ -235,14 +217,11 @@ module _ {P : Type 0} (cmp : P → P → Ordering) (order : IsTotalOrder cmp) wh
   wake_same {t = t}
       (starts_one {m = m} {ms = ms} {more = more} {p = p} {q = s} {r = r} {cs = cs} {rest = rest} launch finishes wakes)
       (n ∷ ns) q same all =
-      let went : LaunchWent t q (next_of cmp q n) more s
-      = launch_went cmp order (λ c. Launches cmp t q (next_of cmp q n) c) more s
+      let went = launch_went cmp order (λ c. Launches cmp t q (next_of cmp q n) c) more s
       (launch_same launch q (next_of cmp q n) same (next_same cmp order p q same m n all.0)) in
-      let done : FinishWent t went.0 went.1 cs r
-      = course_went cmp order (λ c. Finishes cmp t went.0 went.1 c) cs r
+      let done = course_went cmp order (λ c. Finishes cmp t went.0 went.1 c) cs r
       (finish_same finishes went.0 went.1 went.4 went.3) in
-      let later : (c : Course (Completed P) (Planned P)) × WakesEach cmp t ns done.1 c × IsSameCourse cmp rest c =
-      wake_same wakes ns done.1 done.4 all.1 in (
+      let later = wake_same wakes ns done.1 done.4 all.1 in (
         preceded done.0 later.0,
         starts_one {rest = later.0} went.2 done.2 later.1,
         preceded_same cs done.0 rest later.0 done.3 later.2,
@@ -260,8 +239,7 @@ module _ {P : Type 0} (cmp : P → P → Ordering) (order : IsTotalOrder cmp) wh
       → (c : Course (Completed P) (Planned P)) × Settles cmp t q c × IsSameCourse cmp course c
   settle_same {t = t} {p = p} {course = course} (settling {leavers = leavers} {mid = mid} accounts finishes) q same =
       let a : Accounted t q leavers mid = accounts_same t p q leavers mid same accounts in
-      let done : (c : Course (Completed P) (Planned P)) × Finishes cmp t a.0 a.1 c × IsSameCourse cmp course c =
-      finish_same finishes a.0 a.1 a.4 a.3 in
+      let done = finish_same finishes a.0 a.1 a.4 a.3 in
       (done.0, settling a.2 done.1, done.2)
 
   -- ---- calls
@@ -271,19 +249,15 @@ module _ {P : Type 0} (cmp : P → P → Ordering) (order : IsTotalOrder cmp) wh
       → CapsAlike cmp caps others → IsSamePlanned cmp p q
       → (c : Course (Completed P) (Planned P)) × Rebalances cmp now others q c × IsSameCourse cmp course c
   rebalance_same {now = now} {caps = caps} {p = p} (none_sending {new = new} empty looks) others q alike same =
-      let l : (n : Planned P) × PlansStart cmp now (record q { caps = others; limited = true }) n
-      × IsSamePlanned cmp new n
-      = looks_same now (record p { caps = caps; limited = true }) (record q { caps = others; limited = true }) new
-      (recapped_same cmp order p q same caps others alike) looks in (
+      let l = looks_same now (record p { caps = caps; limited = true }) (record q { caps = others; limited = true })
+      new (recapped_same cmp order p q same caps others alike) looks in (
         goes [] l.0,
         none_sending (none_same (IsSameRatedFlight cmp) p.sending q.sending same.sending empty) l.1,
         (tt, l.2),
       )
   rebalance_same {now = now} {caps = caps} {p = p} {course = course} (some_sending some settles) others q alike same =
-      let done : (c : Course (Completed P) (Planned P)) × Settles cmp now (record q { caps = others; limited = true }) c
-      × IsSameCourse cmp course c
-      = settle_same settles (record q { caps = others; limited = true })
-      (recapped_same cmp order p q same caps others alike) in
+      let done = settle_same settles (record q { caps = others; limited = true }) (recapped_same cmp order p q same
+      caps others alike) in
       (done.0, some_sending (some_same (IsSameRatedFlight cmp) p.sending q.sending same.sending some) done.1, done.2)
 
   enqueue_same : {now : ℕ} {m : Message P} {p : Planned P} {course : Course (Completed P) (Planned P)}
@@ -308,13 +282,11 @@ module _ {P : Type 0} (cmp : P → P → Ordering) (order : IsTotalOrder cmp) wh
   enqueue_same {now = now} {m = m} {p = p} {course = course}
       (launches {leavers = leavers} {mid = mid} limited launch finishes) n q messages same =
       let queues : IsSamePlanned cmp (with_queued cmp p m) (with_queued cmp q n) = grind (arith, with_queued_same) in
-      let went : LaunchWent now (with_queued cmp q n) (next_of cmp (with_queued cmp q n) n) leavers mid
-      = launch_went cmp order (λ c. Launches cmp now (with_queued cmp q n)
-      (next_of cmp (with_queued cmp q n) n) c) leavers mid
-      (launch_same launch (with_queued cmp q n) (next_of cmp (with_queued cmp q n) n) queues
+      let went = launch_went cmp order
+      (λ c. Launches cmp now (with_queued cmp q n) (next_of cmp (with_queued cmp q n) n) c) leavers mid (launch_same
+      launch (with_queued cmp q n) (next_of cmp (with_queued cmp q n) n) queues
       (next_same cmp order (with_queued cmp p m) (with_queued cmp q n) queues m n messages)) in
-      let done : (c : Course (Completed P) (Planned P)) × Finishes cmp now went.0 went.1 c × IsSameCourse cmp course c =
-      finish_same finishes went.0 went.1 went.4 went.3 in
+      let done = finish_same finishes went.0 went.1 went.4 went.3 in
       (done.0, launches {course = done.0} (sym same.limited ∙ limited) went.2 done.1, done.2)
 
   abbrev pub Went : (Course (Completed P) (Planned P) → Type 0) → List (Completed P) → Planned P → Type 0
@@ -334,8 +306,7 @@ module _ {P : Type 0} (cmp : P → P → Ordering) (order : IsTotalOrder cmp) wh
   )
   each_same {now = now} (enqueues_one {q = r} {cs = cs} {rest = rest} one more) (n ∷ ns) q messages same =
       let done : Went (λ c. Enqueues cmp now n q c) cs r = grind (arith, course_went, enqueue_same) in
-      let later : (c : Course (Completed P) (Planned P)) × EnqueuesEach cmp now ns done.1 c × IsSameCourse cmp rest c =
-      each_same more ns done.1 messages.1 done.4 in (
+      let later = each_same more ns done.1 messages.1 done.4 in (
         preceded done.0 later.0,
         enqueues_one {rest = later.0} done.2 later.1,
         preceded_same cs done.0 rest later.0 done.3 later.2,
@@ -346,19 +317,16 @@ module _ {P : Type 0} (cmp : P → P → Ordering) (order : IsTotalOrder cmp) wh
       → Advances cmp now p n course → (q : Planned P) → IsSamePlanned cmp p q
       → (c : Course (Completed P) (Planned P)) × Advances cmp now q n c × IsSameCourse cmp course c
   advance_same {now = now} (no_more {p = p} {course = course} after wakes) q same =
-      let done : (c : Course (Completed P) (Planned P)) × Wakes cmp now q c × IsSameCourse cmp course c =
-      wakes_same now p q course same wakes in (
+      let done = wakes_same now p q course same wakes in (
         done.0,
         no_more (subst (λ (o : Option ℕ). IfSome o (λ t. now < t)) (next_event_same cmp order p q same) after) done.1,
         done.2,
       )
   advance_same {now = now}
       (at_finish {p = p} {q = r} {t = t} {n = n} {cs = cs} {rest = rest} finish next within settles advances) q same =
-      let done : Went (λ c. Settles cmp t (record q { finish = None }) c) cs r
-      = course_went cmp order (λ c. Settles cmp t (record q { finish = None }) c) cs r
-      (settle_same settles (record q { finish = None }) (no_finish_same cmp order p q same)) in
-      let later : (c : Course (Completed P) (Planned P)) × Advances cmp now done.1 n c × IsSameCourse cmp rest c =
-      advance_same advances done.1 done.4 in (
+      let done = course_went cmp order (λ c. Settles cmp t (record q { finish = None }) c) cs r (settle_same settles
+      (record q { finish = None }) (no_finish_same cmp order p q same)) in
+      let later = advance_same advances done.1 done.4 in (
         preceded done.0 later.0,
         at_finish {rest = later.0} (sym same.finish ∙ finish)
             (sym (next_event_same cmp order p q same) ∙ next) within done.2 later.1,
@@ -366,12 +334,9 @@ module _ {P : Type 0} (cmp : P → P → Ordering) (order : IsTotalOrder cmp) wh
       )
   advance_same {now = now}
       (at_start {p = p} {q = r} {t = t} {n = n} {cs = cs} {rest = rest} not_finish next within wakes advances) q same =
-      let done : Went (λ c. Wakes cmp t (record q { start = None }) c) cs r
-      = course_went cmp order (λ c. Wakes cmp t (record q { start = None }) c) cs r
-      (wakes_same t (record p { start = None }) (record q { start = None }) (goes cs r)
-      (no_start_same cmp order p q same) wakes) in
-      let later : (c : Course (Completed P) (Planned P)) × Advances cmp now done.1 n c × IsSameCourse cmp rest c =
-      advance_same advances done.1 done.4 in (
+      let done = course_went cmp order (λ c. Wakes cmp t (record q { start = None }) c) cs r (wakes_same t (record p
+      { start = None }) (record q { start = None }) (goes cs r) (no_start_same cmp order p q same) wakes) in
+      let later = advance_same advances done.1 done.4 in (
         preceded done.0 later.0,
         at_start {rest = later.0} (λ e. not_finish (same.finish ∙ e))
             (sym (next_event_same cmp order p q same) ∙ next) within done.2 later.1,

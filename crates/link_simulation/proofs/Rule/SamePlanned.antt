@@ -5,7 +5,6 @@ use Rattle.link_simulation.proofs.Common.{IsTotalOrder, same_peer, Message, Caps
 use Rattle.link_simulation.proofs.Common.{RatedFlight, Planned, IsSameRatedFlight, IsSamePlanned, peer_sym, zip_chain}
 use Rattle.link_simulation.proofs.Common.{zip-same}
 use Rattle.link_simulation.specs.Simulation.Messages.{AnswerAlike}
-use Rattle.link_simulation.proofs.Simulation.Queue.{peer_like}
 use Rattle.link_simulation.proofs.Simulation.AlikeMessages.{same_itself as one_peer, message_itself}
 
 -- ---- lists
@@ -23,9 +22,6 @@ module _ {P : Type 0} (cmp : P → P → Ordering) (order : IsTotalOrder cmp) wh
   pub peer_turned : (p q : P) → same_peer cmp p q ≡ true → same_peer cmp q p ≡ true
   peer_turned p q e = peer_sym cmp order q p ∙ e
 
-  pub peer_chain : (p q r : P) → same_peer cmp p q ≡ true → same_peer cmp q r ≡ true → same_peer cmp p r ≡ true
-  peer_chain p q r e f = sym (peer_like cmp order p q r e) ∙ f
-
   pub message_turned : (m n : Message P) → SameMessage cmp m n → SameMessage cmp n m
   message_turned m n e = grind arith
 
@@ -33,9 +29,6 @@ module _ {P : Type 0} (cmp : P → P → Ordering) (order : IsTotalOrder cmp) wh
   message_chain m n k e f = grind arith
 
   -- ---- caps and last arrivals
-
-  answers_turned : {X : Type 0} (f g : P → X) → AnswerAlike cmp f g → AnswerAlike cmp g f
-  answers_turned f g alike p q e = sym (alike q p (peer_turned p q e))
 
   answers_chain : {X : Type 0} (f g h : P → X) → AnswerAlike cmp f g → AnswerAlike cmp g h → AnswerAlike cmp f h
   answers_chain f g h first second p q e = first p q e ∙ second q q (one_peer cmp order q)
@@ -52,11 +45,7 @@ module _ {P : Type 0} (cmp : P → P → Ordering) (order : IsTotalOrder cmp) wh
 
   pub caps_chain : (caps others last : Caps P) → CapsAlike cmp caps others → CapsAlike cmp others last
       → CapsAlike cmp caps last
-  caps_chain caps others last first second = record {
-    egress = answers_chain caps.egress others.egress last.egress first.egress second.egress;
-    ingress = answers_chain caps.ingress others.ingress last.ingress first.ingress second.ingress;
-    link = pairs_chain caps.link others.link last.link first.link second.link;
-  }
+  caps_chain caps others last first second = search (answers_chain, pairs_chain)
 
   -- ---- what is in flight
 
@@ -85,5 +74,5 @@ module _ {P : Type 0} (cmp : P → P → Ordering) (order : IsTotalOrder cmp) wh
       grind (arith, (caps_chain p.caps q.caps r.caps first.caps second.caps), (zip_chain (IsSameRatedFlight cmp)
       (IsSameRatedFlight cmp) (IsSameRatedFlight cmp) paced_chain p.sending q.sending r.sending first.sending
       second.sending), (zip_chain (SameMessage cmp) (SameMessage cmp) (SameMessage cmp) message_chain p.waiting
-      q.waiting r.waiting first.waiting second.waiting), (pairs_chain p.last_arrival q.last_arrival r.last_arrival
-      first.last_arrival second.last_arrival))
+      q.waiting r.waiting first.waiting second.waiting),
+      (pairs_chain p.last_arrival q.last_arrival r.last_arrival first.last_arrival second.last_arrival))

@@ -10,7 +10,7 @@ use Rattle.link_simulation.proofs.Simulation.RefusalCauses.{refused_more}
 use Rattle.link_simulation.proofs.Simulation.AlikeMessages.{same_itself as one_peer, message_itself}
 use Rattle.link_simulation.proofs.Rule.Agreeing.{all_trans}
 use Rattle.link_simulation.proofs.Rule.SameSteps.{course_went, course_met, next_event_same}
-use Rattle.link_simulation.proofs.Rule.SameCourses.{obeys_same, Went}
+use Rattle.link_simulation.proofs.Rule.SameCourses.{obeys_same}
 
 module _ {P : Type 0} (cmp : P → P → Ordering) (order : IsTotalOrder cmp) where
   obeys_met_same : (p q : Planned P) (call other : Call P) (fault : Error) → IsSamePlanned cmp p q
@@ -44,8 +44,7 @@ module _ {P : Type 0} (cmp : P → P → Ordering) (order : IsTotalOrder cmp) wh
       → ((n r : Planned P) → IsSamePlanned cmp n r → Obeyed cmp n calls replies → Obeyed cmp r calls replies)
       → Accepted p call calls cs replies → Accepted q call calls cs replies
   accepted_same p q call calls cs replies same rest (ds, n, obeys, alike, obeyed) =
-      let went : (Went cmp order) (Obeys cmp q call) ds n =
-      course_went cmp order (Obeys cmp q call) ds n
+      let went = course_went cmp order (Obeys cmp q call) ds n
       (obeys_same cmp order p q call call (goes ds n) same (call_itself call) obeys) in
       (went.0, went.1, went.2, all_trans cmp order cs ds went.0 alike went.3, rest n went.1 went.4 obeyed)
 

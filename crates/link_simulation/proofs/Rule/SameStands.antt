@@ -4,7 +4,7 @@ use Rattle.link_simulation.proofs.Common.{list_any, AllZip, Ordering, IsTotalOrd
 use Rattle.link_simulation.proofs.Common.{OneForEachPair, same_pair, pair_before, rate_of, World, Flight, Planned}
 use Rattle.link_simulation.proofs.Common.{RatedFlight, IsRated, AreInPairOrder, IsLeastMoment, SomeSpentAt, SomeReadyAt}
 use Rattle.link_simulation.proofs.Common.{rated_messages, IsInRange, IsSameFlight, Tallies, StandsFor}
-use Rattle.link_simulation.proofs.Common.{IsSameRatedFlight, IsSamePlanned, zip_chain, zip-filter, common_steps}
+use Rattle.link_simulation.proofs.Common.{IsSameRatedFlight, IsSamePlanned, zip_chain, zip-filter, common_steps, rules}
 use Rattle.std.proofs.lemmas.List.Elements.{All-cons, All-head, All-tail, length_all_zip}
 use Rattle.link_simulation.proofs.Simulation.AlikeMessages.{pairs_alike, message_itself, any_alike, fair_alike}
 use Rattle.link_simulation.proofs.Simulation.InOrder.{before_alike}
@@ -27,9 +27,9 @@ module _ {P : Type 0} (cmp : P → P → Ordering) (order : IsTotalOrder cmp) wh
 
   pub rated_same : (p q : Planned P) → IsSamePlanned cmp p q → IsRated cmp p → IsRated cmp q
   rated_same p q same rated = 
-      grind (arith, common_steps, zip_chain, rate_of, (fair_alike cmp order p.caps q.caps same.caps (rated_messages
-      p.sending) (rated_messages q.sending) rated.per rated.rates (flows_same cmp order p.sending q.sending
-      same.sending) rated.fair))
+      grind (arith, common_steps, zip_chain, rate_of, (fair_alike cmp order p.caps q.caps same.caps
+      (rated_messages p.sending) (rated_messages q.sending) rated.per rated.rates
+      (flows_same cmp order p.sending q.sending same.sending) rated.fair))
 
   -- ---- standing for a world
 
@@ -109,12 +109,4 @@ module _ {P : Type 0} (cmp : P → P → Ordering) (order : IsTotalOrder cmp) wh
   near_same m n same near = subst (λ (k : ℕ). k < 2 ^ 63) same.latency near
 
   pub range_same : (p q : Planned P) → IsSamePlanned cmp p q → IsInRange p → IsInRange q
-  range_same p q same range = record {
-    sending =
-        all_across (IsSameRatedFlight cmp) (λ f. f.message.latency < 2 ^ 63) near_flight_same p.sending q.sending
-        same.sending
-        range.sending;
-    waiting =
-        all_across (SameMessage cmp) (λ m. m.latency < 2 ^ 63) near_same p.waiting q.waiting same.waiting range.waiting;
-    ids = grind (arith, length_all_zip);
-  }
+  range_same p q same range = search (rules, all_across, near_flight_same, near_same, length_all_zip)

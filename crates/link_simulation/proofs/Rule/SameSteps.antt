@@ -1,13 +1,13 @@
 -- The parts of the event rule's steps are the same on planned worlds that are the same up to equal peers.
-use Rattle.link_simulation.proofs.Common.{arith, ◌≡◌, ℕ, zero, suc, length, ◌+◌, ◌≤◌, List, [], ◌∷◌, Bool, true, not}
-use Rattle.link_simulation.proofs.Common.{Option, Some, None, refl, sym, ap, ◌∙◌, subst, if◌then◌else◌, slice_get}
-use Rattle.link_simulation.proofs.Common.{filter, find, AllZip, Ordering, IsTotalOrder, without_first, Error, same_peer}
-use Rattle.link_simulation.proofs.Common.{Message, Caps, CapsAlike, PairsAlike, SameMessage, same_pair, Completed}
-use Rattle.link_simulation.proofs.Common.{Course, goes, meets, later_of, raised, fronts, limited_by, linked_by}
-use Rattle.link_simulation.proofs.Common.{SameCompletion, Planned, RatedFlight, IsLeastMoment, SomeSpentAt, SomeReadyAt}
-use Rattle.link_simulation.proofs.Common.{next_event, rated_messages, left_at, drained_to, next_of, queued, may_launch}
-use Rattle.link_simulation.proofs.Common.{is_spent, launched, landed, with_queued, completed_at_once, IsSameRatedFlight}
-use Rattle.link_simulation.proofs.Common.{IsSamePlanned, Amount, whole, zip-filter, zip-append}
+use Rattle.link_simulation.proofs.Common.{arith, ◌≡◌, ℕ, zero, suc, length, ◌≤◌, List, [], ◌∷◌, Bool, true, not, Option}
+use Rattle.link_simulation.proofs.Common.{Some, None, refl, sym, ap, ◌∙◌, subst, slice_get, filter, find, AllZip}
+use Rattle.link_simulation.proofs.Common.{Ordering, IsTotalOrder, without_first, Error, same_peer, Message, Caps}
+use Rattle.link_simulation.proofs.Common.{CapsAlike, PairsAlike, SameMessage, same_pair, Completed, Course, goes, meets}
+use Rattle.link_simulation.proofs.Common.{raised, fronts, limited_by, linked_by, SameCompletion, Planned, RatedFlight}
+use Rattle.link_simulation.proofs.Common.{IsLeastMoment, SomeSpentAt, SomeReadyAt, next_event, rated_messages, left_at}
+use Rattle.link_simulation.proofs.Common.{drained_to, next_of, queued, may_launch, is_spent, launched, landed}
+use Rattle.link_simulation.proofs.Common.{with_queued, completed_at_once, IsSameRatedFlight, IsSamePlanned, Amount}
+use Rattle.link_simulation.proofs.Common.{whole, zip-filter, zip-append}
 use Rattle.link_simulation.specs.Rule.SamePlanned.{IsSameCourse}
 use Rattle.link_simulation.proofs.Simulation.AlikeMessages.{peers_alike, pairs_alike, message_itself, any_alike}
 use Rattle.link_simulation.proofs.Simulation.AlikeMessages.{unlimited_alike}
@@ -162,8 +162,7 @@ module _ {P : Type 0} (cmp : P → P → Ordering) (order : IsTotalOrder cmp) wh
   pub some_spent_same : (fs gs : List (RatedFlight P)) (t : ℕ) → AllZip (IsSameRatedFlight cmp) fs gs → SomeSpentAt fs t
       → SomeSpentAt gs t
   some_spent_same fs gs t all (i, f, at, before, spent) =
-      let found : (g : RatedFlight P) × (slice_get gs i ≡ Some g) × IsSameRatedFlight cmp f g =
-      at_same (IsSameRatedFlight cmp) fs gs i f all at in (
+      let found = at_same (IsSameRatedFlight cmp) fs gs i f all at in (
         i,
         found.0,
         found.1,
@@ -178,13 +177,6 @@ module _ {P : Type 0} (cmp : P → P → Ordering) (order : IsTotalOrder cmp) wh
       → IsSameRatedFlight cmp (launching i t m) (launching j t n)
   launching_same i j t m n same e =
       record { id = same; message = e; left = rw e.bytes refl; rate = refl; updated = refl }
-
-  -- when a message lands that completes as it is enqueued, and when it is delivered
-  abbrev landing : ℕ → Planned P → Message P → ℕ
-  landing now p m = if m.should_deliver then later_of (p.last_arrival m.origin m.recipient) (now + m.latency) else now
-
-  abbrev delivery : ℕ → Planned P → Message P → Option ℕ
-  delivery now p m = if m.should_deliver then Some (landing now p m) else None
 
   module _ (p q : Planned P) (same : IsSamePlanned cmp p q) where
     pub spent_same : (f g : RatedFlight P) → IsSameRatedFlight cmp f g → is_spent cmp p.caps f ≡ is_spent cmp q.caps g

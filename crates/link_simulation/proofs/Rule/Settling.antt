@@ -1,19 +1,19 @@
 -- Settling in the planned world is settling in the world: the same completions or the same fault, and the two agree
 -- afterwards.
-use Rattle.link_simulation.proofs.Common.{common_steps, ◌≡◌, ℕ, zero, suc, ◌+◌, ◌≤◌, List, [], ◌∷◌, ◌++◌, map, length}
-use Rattle.link_simulation.proofs.Common.{Bool, true, false, not, Option, None, refl, sym, ap, ◌∙◌, subst, arith}
-use Rattle.link_simulation.proofs.Common.{length-append, filter, find, list_any, AllZip, Ordering, IsTotalOrder}
-use Rattle.link_simulation.proofs.Common.{map-append, or_from, Completed, Course, Flight, World, flows, goes, is_done}
-use Rattle.link_simulation.proofs.Common.{meets, preceded, raised, settle, EndsWith, is_late, completed, arrival}
-use Rattle.link_simulation.proofs.Common.{Finishes, PlansStart, Settles, all_completed, completes, landed, late}
-use Rattle.link_simulation.proofs.Common.{settling, stopped, Message, OneForEachPair, PairsAlike, SameMessage}
-use Rattle.link_simulation.proofs.Common.{same_pair, IsLeastMoment, Planned, SomeReadyAt, SameCompletion, CoursesAlike}
-use Rattle.link_simulation.proofs.Common.{Follows, IsSettled, Tallies, MomentTooLate, leaving, staying, arrived}
-use Rattle.link_simulation.proofs.Common.{launch_then, finish_within, Each, zip-append}
+use Rattle.link_simulation.proofs.Common.{◌≡◌, ℕ, zero, suc, ◌+◌, ◌≤◌, List, [], ◌∷◌, ◌++◌, map, length, Bool, true}
+use Rattle.link_simulation.proofs.Common.{false, not, Option, None, refl, sym, ap, ◌∙◌, subst, arith, length-append}
+use Rattle.link_simulation.proofs.Common.{filter, find, list_any, AllZip, Ordering, IsTotalOrder, map-append, or_from}
+use Rattle.link_simulation.proofs.Common.{Completed, Course, Flight, World, flows, goes, is_done, meets, preceded}
+use Rattle.link_simulation.proofs.Common.{raised, settle, EndsWith, is_late, completed, arrival, Finishes, PlansStart}
+use Rattle.link_simulation.proofs.Common.{Settles, all_completed, completes, landed, late, settling, stopped, Message}
+use Rattle.link_simulation.proofs.Common.{OneForEachPair, PairsAlike, SameMessage, same_pair, IsLeastMoment, Planned}
+use Rattle.link_simulation.proofs.Common.{SomeReadyAt, SameCompletion, CoursesAlike, Follows, IsSettled, Tallies}
+use Rattle.link_simulation.proofs.Common.{MomentTooLate, leaving, staying, arrived, launch_then, finish_within, Each}
+use Rattle.link_simulation.proofs.Common.{zip-append}
 use Rattle.link_simulation.proofs.Simulation.Queue.{over_state, settles_as_queue}
 use Rattle.link_simulation.proofs.Simulation.AlikeMessages.{delivered_alike, peers_alike}
 use Rattle.link_simulation.proofs.Rule.Accounts.{leavers_alike, account_follows}
-use Rattle.link_simulation.proofs.Rule.Launch.{NoneDone, staying_none, next_alike, GoesOn, launch_alike}
+use Rattle.link_simulation.proofs.Rule.Launch.{NoneDone, staying_none, next_alike, launch_alike}
 use Rattle.link_simulation.proofs.Simulation.SettlingEnds.{settle_rests}
 use Rattle.fair_rates.proofs.Lists.Filters.{length-filter}
 
@@ -134,28 +134,29 @@ module _ {P : Type 0} (cmp : P → P → Ordering) (order : IsTotalOrder cmp) wh
   finishes_alike (stopped not_late launch) zero (f ∷ fs) w follows none all fuel = absurd (omega arith)
   finishes_alike {t = t} {p = p} (stopped {m = m} {fault = fault} not_late launch) (suc n) (f ∷ fs) w follows none all
       fuel =
-          grind (arith, common_steps, (first_lands n t f fs w (sym (late_alike t m f.message all.0) ∙ not_late)),
-          (launch_alike cmp order launch (arrived cmp t w f.message) fs f.message (find (same_pair cmp f.message)
-          w.waiting) (landed_follows t p w m f.message follows all.0) none refl (next_alike cmp order t p w m
-          f.message follows.tallies all.0)))
+      let there = landed_follows t p w m f.message follows all.0 in
+      let fails = launch_alike cmp order launch (arrived cmp t w f.message) fs f.message
+      (find (same_pair cmp f.message) w.waiting) there none refl
+      (next_alike cmp order t p w m f.message follows.tallies all.0) in
+      subst (λ (c : Course (Completed P) (World P)). CourseAlike t (meets fault) c)
+      (sym
+      (first_lands n t f fs w (sym (late_alike t m f.message all.0) ∙ not_late)
+      ∙ ap (preceded (completed cmp t f.message ∷ [])) (fails (finish_within cmp n t))))
+      refl
   finishes_alike (completes not_late launch rest) n [] w follows none all fuel = absurd all
   finishes_alike (completes not_late launch rest) zero (f ∷ fs) w follows none all fuel = absurd (omega arith)
   finishes_alike {t = t} {p = p} (completes {m = m} {ms = ms} {more = more} {q = q} {rest = after} not_late launch rest)
       (suc n) (f ∷ fs) w follows none all fuel =
-      let there : Follows cmp t (landed cmp t p m) (arrived cmp t w f.message) =
-      landed_follows t p w m f.message follows all.0 in
-      let on : GoesOn cmp order t (arrived cmp t w f.message) fs (find (same_pair cmp f.message) w.waiting) more q =
-      launch_alike cmp order launch (arrived cmp t w f.message) fs f.message (find (same_pair cmp f.message) w.waiting)
-      there none refl (next_alike cmp order t p w m f.message follows.tallies all.0) in
-      let leavers : AllZip (SameMessage cmp) (ms ++ more) (map (λ (g : Flight P). g.message) (fs ++ on.more)) =
-      subst (λ (ns : List (Message P)). AllZip (SameMessage cmp) (ms ++ more) ns)
-      (sym (map-append (λ (g : Flight P). g.message) fs on.more))
-      (zip-append (SameMessage cmp) ms more (map (λ (g : Flight P). g.message) fs)
-      (map (λ (g : Flight P). g.message) on.more) all.1 on.leaves) in
+      let there = landed_follows t p w m f.message follows all.0 in
+      let on = launch_alike cmp order launch (arrived cmp t w f.message) fs f.message
+      (find (same_pair cmp f.message) w.waiting) there none refl
+      (next_alike cmp order t p w m f.message follows.tallies all.0) in
+      let leavers = subst (λ (ns : List (Message P)). AllZip (SameMessage cmp) (ms ++ more) ns)
+      (sym (map-append (λ (g : Flight P). g.message) fs on.more)) (zip-append (SameMessage cmp) ms more
+      (map (λ (g : Flight P). g.message) fs) (map (λ (g : Flight P). g.message) on.more) all.1 on.leaves) in
       let many : length (fs ++ on.more) ≡ length fs + length on.more = length-append fs on.more in
       let enough : length on.more + length on.world.waiting ≤ length w.waiting = on.fewer in
-      let ih : CourseAlike t after (finish_within cmp n t (fs ++ on.more) on.world) =
-      finishes_alike rest n (fs ++ on.more) on.world on.follows on.none leavers (omega arith) in
+      let ih = finishes_alike rest n (fs ++ on.more) on.world on.follows on.none leavers (omega arith) in
       subst (λ (c : Course (Completed P) (World P)). CourseAlike t (preceded (completed cmp t m ∷ []) after) c)
       (sym
       (first_lands n t f fs w (sym (late_alike t m f.message all.0) ∙ not_late)
@@ -198,10 +199,8 @@ module _ {P : Type 0} (cmp : P → P → Ordering) (order : IsTotalOrder cmp) wh
       let n : ℕ = length w.sending + length w.waiting in
       let few : length (leaving cmp w) ≤ length w.sending = leaving_fewer w in
       let kept : length (staying cmp w).waiting ≡ length w.waiting = grind (arith, staying_waiting) in
-      let queued : CourseAlike t course (finish_within cmp n t (leaving cmp w) (staying cmp w)) =
-      finishes_alike finishes n (leaving cmp w) (staying cmp w)
+      let queued = finishes_alike finishes n (leaving cmp w) (staying cmp w)
       (account_follows cmp order t p mid leavers w same account) (staying_none cmp order w)
       (leavers_alike cmp order t p mid leavers w same account) (omega arith) in
-      let way : settle cmp t w ≡ finish_within cmp n t (leaving cmp w) (staying cmp w) =
-      settle_is_finish t w same.one_each in
+      let way = settle_is_finish t w same.one_each in
       subst (λ (c : Course (Completed P) (World P)). CourseAlike t course c) (sym way) queued

@@ -76,8 +76,7 @@ module _ {P : Type 0} (cmp : P → P → Ordering) (order : IsTotalOrder cmp) wh
           → ¬ Faults cmp w call fault
       never_faults ds v runs fault (t, at, stops) =
           let same : t ≡ now = cc in
-          let one : goes ds v ≡ meets fault
-          = runs_are_one cmp order w call now (goes ds v) (meets fault) (sound_of_stands p w called.stands) runs
+          let one = runs_are_one cmp order w call now (goes ds v) (meets fault) (sound_of_stands p w called.stands) runs
           (subst (λ (s : ℕ). Runs cmp w call s (meets fault)) same stops) in
           cc
 
@@ -111,9 +110,4 @@ module _ {P : Type 0} (cmp : P → P → Ordering) (order : IsTotalOrder cmp) wh
   pub refusals_simulated : (p : Planned P) (call : Call P) (why : Error)
       → ((t : ℕ) → moment_of call ≡ Some t → t ≤ last_moment) → MayBeRefused cmp p call why
       → IsRefusedInSimulation cmp p call why
-  refusals_simulated p call why in_time may = record {
-    cause =
-        refused_more (λ fault. Obeys cmp p call (meets fault)) (MeetsFault cmp p call)
-        (λ fault. fault_is_met p call fault in_time) why may;
-    in_range = λ range. refused_in_range cmp order p call why range may;
-  }
+  refusals_simulated p call why in_time may = search (refused_more, fault_is_met, refused_in_range)

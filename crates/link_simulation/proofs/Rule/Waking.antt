@@ -129,10 +129,7 @@ module _ {P : Type 0} (cmp : P → P → Ordering) (order : IsTotalOrder cmp) wh
       → NoneDone cmp order w → StartsSo cmp order t w y more q
       → CourseAlike cmp order t course (settle cmp t (joined cmp w y))
   round_alike {t = t} {course = course} finish w y none so =
-      subst (λ (c : Course (Completed P) (World P)). CourseAlike cmp order t course c)
-      (sym (round_is t w y none so.one_each))
-      (finishes_alike cmp order finish (length (joined cmp w y).sending + length (joined cmp w y).waiting)
-      (joining cmp order w y) (started cmp order w y) so.follows so.none so.leaves (round_fuel w y))
+      search (round_is, finishes_alike, joined, started, round_fuel)
 
   no_fuel : (t : ℕ) (w : World P) (y : Message P) → IsNext t w y → length w.waiting ≤ 0 → ⊥
   no_fuel t w y next fuel = grind (arith, length_without)
@@ -144,15 +141,23 @@ module _ {P : Type 0} (cmp : P → P → Ordering) (order : IsTotalOrder cmp) wh
   wakes_alike {t = t} (no_start launch) zero w follows none picks fuel =
       absurd (no_fuel t w picks.0 (next_is t w picks.0 picks.1) fuel)
   wakes_alike {t = t} (no_start {fault = fault} launch) (suc n) w follows none picks fuel =
-      grind (arith, common_steps, (wake_first cmp order n t w picks.0 picks.1), (launch_starts launch w picks.0
-      follows none (next_is t w picks.0 picks.1) picks.2))
+      grind (arith, common_steps, (wake_first cmp order n t w picks.0 picks.1),
+      (launch_starts launch w picks.0 follows none (next_is t w picks.0 picks.1) picks.2))
   wakes_alike {t = t} (no_finish launch finish) zero w follows none picks fuel =
       absurd (no_fuel t w picks.0 (next_is t w picks.0 picks.1) fuel)
   wakes_alike {t = t} (no_finish {more = more} {q = q} {fault = fault} launch finish) (suc n) w follows none picks
       fuel =
-          grind (arith, common_steps, start, joined, wake_round, (launch_starts launch w picks.0 follows none (next_is
-          t w picks.0 picks.1) picks.2), (joined cmp w picks.0), (round_alike finish w picks.0 none (launch_starts
-          launch w picks.0 follows none (next_is t w picks.0 picks.1) picks.2)))
+      let so = launch_starts launch w picks.0 follows none (next_is t w picks.0 picks.1) picks.2 in
+      by_course so.starts (settle cmp t (joined cmp w picks.0)) refl (round_alike finish w picks.0 none so)
+    where
+      by_course : start cmp w picks.0 ≡ goes [] (joined cmp w picks.0) → (c : Course (Completed P) (World P))
+          → settle cmp t (joined cmp w picks.0) ≡ c
+          → CourseAlike cmp order t (meets fault) c
+          → CoursesAlike cmp (IsWoken t) (meets fault) (wake_within cmp (suc n) t w)
+      by_course starts (goes ds v) e h = absurd h
+      by_course starts (meets g) e h =
+          subst (λ (c : Course (Completed P) (World P)). CoursesAlike cmp (IsWoken t) (meets fault) c)
+          (sym (wake_round n t w picks.0 (meets g) picks.1 starts e)) h
   wakes_alike {t = t} (starts_one launch finish wakes) zero w follows none picks fuel =
       absurd (no_fuel t w picks.0 (next_is t w picks.0 picks.1) fuel)
   wakes_alike {t = t}
@@ -171,10 +176,8 @@ module _ {P : Type 0} (cmp : P → P → Ordering) (order : IsTotalOrder cmp) wh
           → CoursesAlike cmp (IsWoken t) (preceded cs rest) (wake_within cmp (suc n) t w)
       by_course starts (meets g) e h after ih = absurd h
       by_course starts (goes ds v) e h after ih =
-          let fewer : length v.waiting + 1 ≤ length w.waiting = after.1 in
-          let picked : Picks (ready cmp t v) ms =
-          subst (λ (xs : List (Message P)). Picks xs ms) (sym (ready_after cmp order picks.0 t w v after.0))
-          picks.3 in
+          let picked = subst (λ (xs : List (Message P)). Picks xs ms)
+          (sym (ready_after cmp order picks.0 t w v after.0)) picks.3 in
           subst (λ (c : Course (Completed P) (World P)). CoursesAlike cmp (IsWoken t) (preceded cs rest) c)
           (sym (wake_round n t w picks.0 (goes ds v) picks.1 starts e))
           (preceded_by (IsWoken t) cs ds rest (wake_within cmp n t v) h.0

@@ -18,10 +18,8 @@ module _ {P : Type 0} (cmp : P → P → Ordering) (order : IsTotalOrder cmp) wh
       → (per : ℕ) × (rates : Parts) × AreFair cmp caps ms per rates
   rates_exist caps ms =
       let own = same_itself cmp order in
-      let parts =
-      fair_parts (length ms) (capped_sides cmp caps ms)
-      (users_below cmp order own caps ms (length ms) (le_refl (length ms)))
-      (users_distinct cmp order own caps ms) in (
+      let parts = fair_parts (length ms) (capped_sides cmp caps ms)
+      (users_below cmp order own caps ms (length ms) (le_refl (length ms))) (users_distinct cmp order own caps ms) in (
         denominator_of (length ms),
         rates_from cmp caps parts.0 0 ms,
         record { parts = parts.0; fair = parts.1; rated = refl },
@@ -52,14 +50,14 @@ module _ {P : Type 0} (cmp : P → P → Ordering) (order : IsTotalOrder cmp) wh
 
   -- ---- the next event
 
-  quiet_or_not : (w : World P) → IsQuiet cmp w.moment w ⊎ (¬ IsQuiet cmp w.moment w)
+  pub quiet_or_not : (w : World P) → IsQuiet cmp w.moment w ⊎ (¬ IsQuiet cmp w.moment w)
   quiet_or_not w = by_test (list_any (is_done cmp w) w.sending) refl (ready cmp w.moment w) refl
     where
       by_test : (b : Bool) → list_any (is_done cmp w) w.sending ≡ b → (ms : List (Message P))
           → ready cmp w.moment w ≡ ms → IsQuiet cmp w.moment w ⊎ (¬ IsQuiet cmp w.moment w)
       by_test true done ms is = grind arith
       by_test false done [] is = inl (record { none_done = done; none_ready = is })
-      by_test false done (m ∷ ms) is = inr (λ quiet. let none : ready cmp w.moment w ≡ [] = quiet.none_ready in cc)
+      by_test false done (m ∷ ms) is = inr (λ quiet. cc)
 
   -- within so many nanoseconds some event comes
   record ComesWithin (n : ℕ) (w : World P) : Type 0 where
@@ -108,8 +106,7 @@ module _ {P : Type 0} (cmp : P → P → Ordering) (order : IsTotalOrder cmp) wh
       by_cases (inl (v, passes)) = (None, never_comes passes)
       by_cases (inr comes) =
           let end : comes.last.moment ≡ w.moment + comes.before = passes_end_at cmp order comes.passes in
-          let on : comes.first.moment ≡ comes.last.moment + 1 =
-          next_moment cmp order comes.last comes.first comes.drains in (
+          let on = next_moment cmp order comes.last comes.first comes.drains in (
             Some comes.first.moment,
             comes_next comes.passes comes.drains comes.busy (omega (arith, end, on, comes.less)),
           )

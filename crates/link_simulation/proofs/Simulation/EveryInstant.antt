@@ -1,12 +1,13 @@
 -- What every instant keeps: the moment, and that nothing is done at its end.
-use Rattle.link_simulation.proofs.Common.{common_steps, ◌≡◌, ℕ, zero, suc, ◌+◌, ◌≤◌, List, [], ◌∷◌, ◌++◌, length, Bool}
-use Rattle.link_simulation.proofs.Common.{true, false, Option, Some, None, refl, sym, ap, ◌∙◌, subst, arith, ◌⊎◌, inl}
-use Rattle.link_simulation.proofs.Common.{inr, ⊤, nat_le, find, list_any, Ordering, IsTotalOrder, without_first}
-use Rattle.link_simulation.proofs.Common.{Completed, Course, Flight, IsQuiet, World, and_then, complete, goes, instant}
-use Rattle.link_simulation.proofs.Common.{is_done, last_moment, least_pair, may_start, meets, raised, ready, settle}
-use Rattle.link_simulation.proofs.Common.{settle_within, start, start_next, wake_within, EndsWith, flight_of, Message}
-use Rattle.link_simulation.proofs.Common.{same_pair, Drains, NextIs, Ticks, comes_next, never_comes, no_tick, no_time}
-use Rattle.link_simulation.proofs.Common.{one_tick, quiet_tick, tick_faults, FlowIdsUsedUp}
+use Rattle.link_simulation.proofs.Common.{common_steps, ◌≡◌, ℕ, zero, suc, ◌+◌, ◌≤◌, List, [], ◌∷◌, ◌++◌, length}
+use Rattle.link_simulation.proofs.Common.{Option, Some, None, refl, sym, ap, ◌∙◌, subst, arith, ◌⊎◌, inl, inr, ⊤}
+use Rattle.link_simulation.proofs.Common.{nat_le, Ordering, IsTotalOrder, without_first, Completed, Course, IsQuiet}
+use Rattle.link_simulation.proofs.Common.{World, and_then, complete, goes, instant, is_done, last_moment, least_pair}
+use Rattle.link_simulation.proofs.Common.{may_start, meets, raised, ready, settle, settle_within, start, start_next}
+use Rattle.link_simulation.proofs.Common.{wake_within, EndsWith, flight_of, Message, same_pair, Drains, NextIs, Ticks}
+use Rattle.link_simulation.proofs.Common.{comes_next, never_comes, no_tick, no_time, one_tick, quiet_tick, tick_faults}
+use Rattle.link_simulation.proofs.Common.{FlowIdsUsedUp}
+use Rattle.link_simulation.proofs.Simulation.Continuing.{quiet_or_not}
 use Rattle.link_simulation.proofs.Simulation.Queue.{settle_none, settle_first}
 use Rattle.link_simulation.proofs.Simulation.SettlingEnds.{ends_preceded, ends_and_then, ends_cond, NoneDone}
 use Rattle.link_simulation.proofs.Simulation.SettlingEnds.{settle_rests}
@@ -45,12 +46,7 @@ module _ {P : Type 0} (cmp : P → P → Ordering) (order : IsTotalOrder cmp) wh
     settle_within_keeps : (n t : ℕ) (w : World P) → Q w → EndsWith Q (settle_within cmp n t w)
     settle_within_keeps zero t w h = h
     settle_within_keeps (suc n) t w h =
-        by_first (find (is_done cmp w) w.sending) refl (λ v g. settle_within_keeps n t v g)
-      where
-        by_first : (o : Option (Flight P)) → find (is_done cmp w) w.sending ≡ o
-            → ((v : World P) → Q v → EndsWith Q (settle_within cmp n t v)) → EndsWith Q (settle_within cmp (suc n) t w)
-        by_first None e ih = grind (arith, settle_none)
-        by_first (Some f) e ih = grind (arith, settle_first, ends_and_then, complete_keeps)
+        grind (arith, settle_none, settle_first, ends_and_then, complete_keeps, (settle_within_keeps n t))
 
     pub settle_keeps : (t : ℕ) (w : World P) → Q w → EndsWith Q (settle cmp t w)
     settle_keeps t w h = settle_within_keeps (length w.sending + length w.waiting) t w h
@@ -115,20 +111,11 @@ module _ {P : Type 0} (cmp : P → P → Ordering) (order : IsTotalOrder cmp) wh
       → NoneDone cmp order w → (v.moment ≡ w.moment + n) × NoneDone cmp order v
   ticks_end {w = w} no_tick cs v e h = grind arith
   ticks_end {w = w} (one_tick {n = n} {v = z} {u = u} {cs = ds} {rest = rest} d i t) cs v e h =
-      grind (arith, common_steps, rest_is, instant_moment, instant_rests, (ticks_end t (rest_is cmp ds rest cs v e).0 v
-      (rest_is cmp ds rest cs v e).1))
+      grind (arith, common_steps, rest_is, instant_moment, instant_rests,
+      (ticks_end t (rest_is cmp ds rest cs v e).0 v (rest_is cmp ds rest cs v e).1))
   ticks_end (tick_faults d i) cs v e h = cc
 
   -- ---- quiet nanoseconds
-
-  is_quiet_or_not : (v : World P) → IsQuiet cmp v.moment v ⊎ (¬ IsQuiet cmp v.moment v)
-  is_quiet_or_not v = by_done (list_any (is_done cmp v) v.sending) refl (ready cmp v.moment v) refl
-    where
-      by_done : (b : Bool) → list_any (is_done cmp v) v.sending ≡ b → (ms : List (Message P))
-          → ready cmp v.moment v ≡ ms → IsQuiet cmp v.moment v ⊎ (¬ IsQuiet cmp v.moment v)
-      by_done true e ms f = inr (λ q. let g : list_any (is_done cmp v) v.sending ≡ false = q.none_done in cc)
-      by_done false e [] f = inl (record { none_done = e; none_ready = f })
-      by_done false e (m ∷ ms) f = inr (λ q. let g : ready cmp v.moment v ≡ [] = q.none_ready in cc)
 
   next_later : (w v : World P) (o : Option ℕ) (t : ℕ) → Drains cmp w v → IsQuiet cmp v.moment v → o ≡ Some t
       → NextIs cmp v o → NextIs cmp w (Some t)
@@ -144,7 +131,7 @@ module _ {P : Type 0} (cmp : P → P → Ordering) (order : IsTotalOrder cmp) wh
   first_event {w = w} (one_tick {n = n} {v = z} {u = u} {cs = ds} {rest = rest} d i t) cs v e le =
       let r : (es : List (Completed P)) × (rest ≡ goes es v) × (ds ++ es ≡ cs) = rest_is cmp ds rest cs v e in
       let at : z.moment ≡ w.moment + 1 = ap (λ (y : World P). y.moment) d.world in
-      by_quiet (is_quiet_or_not z) at r.2 (λ h. first_event t r.0 v r.1 h)
+      by_quiet (quiet_or_not cmp order z) at r.2 (λ h. first_event t r.0 v r.1 h)
     where
       by_rest : IsQuiet cmp z.moment z → ds ≡ [] → u ≡ z → u.moment ≡ w.moment + 1 → {es : List (Completed P)}
           → ds ++ es ≡ cs → (es ≡ []) ⊎ ((t : ℕ) × (t ≤ u.moment + n) × NextIs cmp u (Some t))

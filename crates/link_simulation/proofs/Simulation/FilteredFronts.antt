@@ -1,8 +1,8 @@
 -- What a filter leaves of first elements, fronts and least pairs.
-use Rattle.link_simulation.proofs.Common.{arith, ◌≡◌, List, [], ◌∷◌, map, Bool, true, false, cond, not, Option, Some}
-use Rattle.link_simulation.proofs.Common.{None, refl, sym, ap, ◌∙◌, subst, if◌then◌else◌, filter, find, list_any}
-use Rattle.link_simulation.proofs.Common.{Ordering, IsTotalOrder, without_first, fronts, least_pair, Message}
-use Rattle.link_simulation.proofs.Common.{pair_before, same_pair, Each, each_map, filter_stronger}
+use Rattle.link_simulation.proofs.Common.{arith, ◌≡◌, List, [], ◌∷◌, map, Bool, true, false, cond, Option, Some, None}
+use Rattle.link_simulation.proofs.Common.{refl, sym, ap, ◌∙◌, subst, if◌then◌else◌, filter, find, list_any, Ordering}
+use Rattle.link_simulation.proofs.Common.{IsTotalOrder, without_first, fronts, least_pair, Message, pair_before}
+use Rattle.link_simulation.proofs.Common.{same_pair, Each, each_map, filter_stronger, rules}
 use Rattle.std.proofs.lemmas.Bool.{false_from_ne_true}
 use Rattle.link_simulation.proofs.Laws.Bytes.{each_filter, each_least}
 use Rattle.link_simulation.proofs.Simulation.PairOrder.{least_none, not_before_itself, not_before_back}
@@ -59,17 +59,7 @@ module _ {P : Type 0} (cmp : P → P → Ordering) (order : IsTotalOrder cmp) wh
       (ms : List (Message P))
       → fronts cmp (filter mine ms) ≡ filter mine (fronts cmp ms)
   fronts_kept mine alike [] = refl
-  fronts_kept mine alike (m ∷ ms) = by_test (mine m) refl (fronts_kept mine alike ms)
-    where
-      by_pair : (n : Message P) (b : Bool) → same_pair cmp m n ≡ b → mine m ≡ false → mine n ≡ true → not b ≡ true
-      by_pair n true is off own = let same : mine m ≡ mine n = alike m n is in cc
-      by_pair n false is off own = refl
-
-      by_test : (b : Bool) → mine m ≡ b → fronts cmp (filter mine ms) ≡ filter mine (fronts cmp ms)
-          → fronts cmp (cond b (m ∷ filter mine ms) (filter mine ms))
-          ≡ filter mine (m ∷ filter (λ n. not (same_pair cmp m n)) (fronts cmp ms))
-      by_test true is ih = grind (arith, filter_swap)
-      by_test false is ih = grind (arith, filter_stronger, by_pair)
+  fronts_kept mine alike (m ∷ ms) = search (rules, filter_swap, filter_stronger, (fronts_kept mine alike ms))
 
   least_is : (m : Message P) (ms : List (Message P)) (o : Option (Message P)) → least_pair cmp ms ≡ o
       → least_pair cmp (m ∷ ms) ≡ Some (elim o [ None ↦ m | Some n ↦ if pair_before cmp n m then n else m ])
@@ -116,11 +106,9 @@ module _ {P : Type 0} (cmp : P → P → Ordering) (order : IsTotalOrder cmp) wh
       by_test n false is s ih below =
           let same : m ≡ x = cc in
           let here : mine m ≡ true = ap mine same ∙ own in
-          let low : Each (λ k. pair_before cmp k m ≡ false) ms =
-          subst (λ (z : Message P). Each (λ k. pair_before cmp k z ≡ false) ms) (sym same) below in
-          let rest : Each (λ k. pair_before cmp k m ≡ false) (filter mine ms) =
-          each_filter (λ k. pair_before cmp k m ≡ false) (λ k. pair_before cmp k m ≡ false) mine ms (λ k t h. h)
-          low in
+          let low = subst (λ (z : Message P). Each (λ k. pair_before cmp k z ≡ false) ms) (sym same) below in
+          let rest = each_filter (λ k. pair_before cmp k m ≡ false) (λ k. pair_before cmp k m ≡ false) mine ms
+          (λ k t h. h) low in
           rw here
           (first (least_pair cmp (filter mine ms)) refl
           (λ k g. each_least cmp order (λ j. pair_before cmp j m ≡ false) (filter mine ms) k rest g)

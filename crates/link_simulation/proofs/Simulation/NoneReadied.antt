@@ -180,16 +180,13 @@ module _ {P : Type 0} (cmp : P → P → Ordering) (order : IsTotalOrder cmp) wh
       by_test true e rested = inl e
       by_test false e rested = inr (λ x found.
           let own : same_pair cmp y x ≡ true = find_passes (same_pair cmp y) x w.waiting found in
-          let none_leaves : list_any (λ (f : Flight P). same_pair cmp x f.message) (filter (is_done cmp w) w.sending)
-          ≡ false =
-          sym (any_map (same_pair cmp x) (λ (f : Flight P). f.message) (filter (is_done cmp w) w.sending))
-          ∙ any_like cmp order y x (map (λ (f : Flight P). f.message) (filter (is_done cmp w) w.sending)) own ∙ e in
-          let busy : list_any (same_pair cmp x)
-          (map (λ (f : Flight P). f.message) (filter (λ f. not (is_done cmp w f)) w.sending))
-          ≡ list_any (same_pair cmp x) (flows w) =
-          any_map (same_pair cmp x) (λ (f : Flight P). f.message) (filter (λ f. not (is_done cmp w f)) w.sending)
-          ∙ any_split (λ (f : Flight P). same_pair cmp x f.message) (is_done cmp w) w.sending none_leaves
-          ∙ sym (any_map (same_pair cmp x) (λ (f : Flight P). f.message) w.sending) in
+          let none_leaves = sym
+          (any_map (same_pair cmp x) (λ (f : Flight P). f.message) (filter (is_done cmp w) w.sending)) ∙ any_like cmp
+          order y x (map (λ (f : Flight P). f.message) (filter (is_done cmp w) w.sending)) own ∙ e in
+          let busy = any_map (same_pair cmp x) (λ (f : Flight P). f.message)
+          (filter (λ f. not (is_done cmp w f)) w.sending) ∙ any_split (λ (f : Flight P). same_pair cmp x f.message)
+          (is_done cmp w) w.sending none_leaves ∙ sym
+          (any_map (same_pair cmp x) (λ (f : Flight P). f.message) w.sending) in
           ap (λ b. not b && is_in_order (w.last_arrival x.origin x.recipient) (t + x.latency)) busy ∙ rested x found)
 
   pub none_then : (t : ℕ) (c : Course (Completed P) (World P)) → ((y : Message P) → EndsWith (IsRested cmp order y t) c)

@@ -45,8 +45,7 @@ module _ {P : Type 0} (cmp : P → P → Ordering) (order : IsTotalOrder cmp) wh
       subst (λ (v : World P). IsQuiet cmp v.moment v) (one_world cmp (same_itself cmp order) w f.0 u pos f.1 d) f.2
   passes_through (quiet_tick here quiet rest) zero x u p le pos d = absurd (omega arith)
   passes_through (quiet_tick {n = n} {w = w} {v = v} here quiet rest) (suc k) x u p le pos d =
-      let f : (y : World P) × Drains cmp w y × IsQuiet cmp y.moment y × Passes cmp (suc k) y x =
-      first_step p (suc k) refl in
+      let f = first_step p (suc k) refl in
       passes_through rest k x u
       (subst (λ (y : World P). Passes cmp (suc k) y x) (one_world cmp (same_itself cmp order) w f.0 v pos f.1 here)
       f.3)

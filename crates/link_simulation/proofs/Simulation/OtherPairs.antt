@@ -1,13 +1,13 @@
 -- What happens to one pair leaves the other pairs as they are.
-use Rattle.link_simulation.proofs.Common.{arith, ◌≡◌, ℕ, zero, suc, ◌+◌, List, [], ◌∷◌, ◌++◌, map, Bool, true, false}
-use Rattle.link_simulation.proofs.Common.{cond, not, Option, Some, None, refl, sym, ap, ◌∙◌, subst, nat_le, ⊤, ◌||◌}
-use Rattle.link_simulation.proofs.Common.{◌==◌, filter, find, list_any, Ordering, IsTotalOrder, list_any-append}
-use Rattle.link_simulation.proofs.Common.{filter-append, or_right, or_left, not-true, map-append, without_first}
-use Rattle.link_simulation.proofs.Common.{Completed, Course, EndsWith, Flight, World, complete, first_waiting, flows}
-use Rattle.link_simulation.proofs.Common.{fronts, goes, is_done, is_idle, last_moment, may_start, meets, raised, ready}
-use Rattle.link_simulation.proofs.Common.{settle_within, start, start_next, turn, out_of_flight, arrival, flight_of}
-use Rattle.link_simulation.proofs.Common.{Message, same_pair, Caps, is_unlimited, FlowIdsUsedUp, filter_swap}
-use Rattle.link_simulation.proofs.Common.{filter_stronger, Each, each_filtered, common_steps}
+use Rattle.link_simulation.proofs.Common.{is_late, completed, MomentTooLate, arith, ◌≡◌, ℕ, zero, suc, ◌+◌, List, []}
+use Rattle.link_simulation.proofs.Common.{◌∷◌, ◌++◌, map, Bool, true, false, cond, not, Option, Some, None, refl, sym}
+use Rattle.link_simulation.proofs.Common.{ap, ◌∙◌, subst, ⊤, ◌||◌, ◌==◌, filter, find, list_any, Ordering, IsTotalOrder}
+use Rattle.link_simulation.proofs.Common.{list_any-append, filter-append, or_right, or_left, not-true, map-append}
+use Rattle.link_simulation.proofs.Common.{without_first, Completed, Course, EndsWith, Flight, World, complete}
+use Rattle.link_simulation.proofs.Common.{first_waiting, flows, fronts, goes, is_done, is_idle, may_start, meets}
+use Rattle.link_simulation.proofs.Common.{raised, ready, settle_within, start, start_next, turn, out_of_flight, arrival}
+use Rattle.link_simulation.proofs.Common.{flight_of, Message, same_pair, Caps, is_unlimited, filter_swap}
+use Rattle.link_simulation.proofs.Common.{filter_stronger, Each, each_filtered}
 use Rattle.std.proofs.lemmas.Map.Views.{any-filter_same}
 use Rattle.std.proofs.lemmas.Bool.{not-false}
 use Rattle.std.proofs.lemmas.List.{append-nil}
@@ -104,11 +104,6 @@ module _ {P : Type 0} (cmp : P → P → Ordering) (order : IsTotalOrder cmp) wh
       → filter (λ k. not (same_pair cmp n k)) xs ≡ filter (λ k. not (same_pair cmp m k)) xs
   not_alike m n e xs = grind arith
 
-  not_alike_flights : (m n : Message P) → same_pair cmp m n ≡ true → (fs : List (Flight P))
-      → filter (λ (f : Flight P). not (same_pair cmp n f.message)) fs
-      ≡ filter (λ (f : Flight P). not (same_pair cmp m f.message)) fs
-  not_alike_flights m n e fs = grind arith
-
   pub but_for_like : (m n : Message P) (w v : World P) → same_pair cmp m n ≡ true → IsButFor cmp n w v
       → IsButFor cmp m w v
   but_for_like m n w v e a = grind arith
@@ -167,15 +162,13 @@ module _ {P : Type 0} (cmp : P → P → Ordering) (order : IsTotalOrder cmp) wh
   started_rests : (t : ℕ) (w : World P) (m : Message P) → MayNotStart cmp t m (started w m)
   unfolding started
   started_rests t w m x e =
-      grind (arith, map-append, list_any-append, or_right, (or_left (same_pair cmp x m) false (pair_sym cmp order x m ∙
-      (find_passes (same_pair cmp m) x (without_first (same_pair cmp m) w.waiting) e))))
+      grind (arith, map-append, list_any-append, or_right, (or_left (same_pair cmp x m) false
+      (pair_sym cmp order x m ∙ (find_passes (same_pair cmp m) x (without_first (same_pair cmp m) w.waiting) e))))
 
   -- a start changes its pair alone, which then sends
   pub start_leaves : (t : ℕ) (w : World P) (m : Message P) → EndsWith (Leaves t m w) (start cmp w m)
   unfolding started
-  start_leaves t w m =
-      ends_cond (Leaves t m w) (nat_le last_moment w.next_id) (meets FlowIdsUsedUp) (goes [] (started w m)) tt
-      (record { others = started_but_for w m; rests = started_rests t w m })
+  start_leaves t w m = search (ends_cond, started, started_but_for, started_rests)
 
   pub leaves_like : (t : ℕ) (m x : Message P) (w v u : World P) → same_pair cmp m x ≡ true → IsButFor cmp m w v
       → Leaves t x v u → Leaves t m w u
@@ -213,9 +206,15 @@ module _ {P : Type 0} (cmp : P → P → Ordering) (order : IsTotalOrder cmp) wh
   pub complete_leaves : (t : ℕ) (w : World P) (f : Flight P) → find (is_done cmp w) w.sending ≡ Some f
       → EndsWith (Leaves t f.message w) (complete cmp t w f.message)
   complete_leaves t w f e =
-      grind (arith, common_steps, ends_cond, ends_preceded, ends_more, leaves_like, (pair_itself cmp order f.message),
-      (landed_but_for w f (arrival cmp t f.message) e), (next_leaves t (out_of_flight cmp t w f.message) f.message
-      (first_waiting cmp (out_of_flight cmp t w f.message) f.message) refl))
+      let landed : World P = out_of_flight cmp t w f.message in
+      ends_cond (Leaves t f.message w) (is_late cmp t f.message) (meets MomentTooLate) _ tt
+      (ends_preceded (Leaves t f.message w) (completed cmp t f.message ∷ [])
+      (start_next cmp t landed (first_waiting cmp landed f.message))
+      (ends_more (Leaves t f.message landed) (Leaves t f.message w)
+      (start_next cmp t landed (first_waiting cmp landed f.message))
+      (λ u l. leaves_like t f.message f.message w landed u (pair_itself cmp order f.message)
+      (landed_but_for w f (arrival cmp t f.message) e) l)
+      (next_leaves t landed f.message (first_waiting cmp landed f.message) refl)))
 
   -- ---- settling after a start
 
@@ -227,11 +226,10 @@ module _ {P : Type 0} (cmp : P → P → Ordering) (order : IsTotalOrder cmp) wh
       → list_any (is_done cmp w) w.sending ≡ false → find (is_done cmp v) v.sending ≡ Some f
       → same_pair cmp m f.message ≡ true
   done_of_pair m w v f a quiet e =
-      let apart : not (same_pair cmp m f.message) ≡ false =
-      found_fails (is_done cmp v) (λ (g : Flight P). not (same_pair cmp m g.message)) f v.sending e
-      (ap (list_any (is_done cmp v)) a.sending ∙ any_alike (is_done cmp v) (is_done cmp w)
-      (filter (λ (g : Flight P). not (same_pair cmp m g.message)) w.sending) (λ g. done_alike w v g a.caps)
-      ∙ any_none (is_done cmp w) (λ (g : Flight P). not (same_pair cmp m g.message)) w.sending quiet) in
+      let apart = found_fails (is_done cmp v) (λ (g : Flight P). not (same_pair cmp m g.message)) f v.sending e (ap
+      (list_any (is_done cmp v)) a.sending ∙ any_alike (is_done cmp v) (is_done cmp w)
+      (filter (λ (g : Flight P). not (same_pair cmp m g.message)) w.sending) (λ g. done_alike w v g a.caps) ∙ any_none
+      (is_done cmp w) (λ (g : Flight P). not (same_pair cmp m g.message)) w.sending quiet) in
       not-false (same_pair cmp m f.message) apart
 
   -- settling goes on within the pair

@@ -21,11 +21,6 @@ not_eq_if_lt Less e = refl
 not_eq_if_lt Equal e = cc
 not_eq_if_lt Greater e = cc
 
-gt_if_neither : (r : Ordering) → is_lt r ≡ false → is_eq r ≡ false → is_gt r ≡ true
-gt_if_neither Less e f = cc
-gt_if_neither Equal e f = cc
-gt_if_neither Greater e f = refl
-
 not_gt_if_lt : (r : Ordering) → is_lt r ≡ true → is_gt r ≡ false
 not_gt_if_lt Less e = refl
 not_gt_if_lt Equal e = refl

@@ -1,13 +1,12 @@
 -- Waking is one pass through the pairs that are ready, in the order of pairs, and ends with nothing done and nothing
 -- ready.
-use Rattle.link_simulation.proofs.Common.{◌≡◌, ℕ, zero, suc, ◌+◌, ◌≤◌, List, [], ◌∷◌, length, Bool, true, false, cond}
-use Rattle.link_simulation.proofs.Common.{not, Option, Some, None, refl, sym, ap, ◌∙◌, subst, arith, ⊤, filter, find}
+use Rattle.link_simulation.proofs.Common.{◌≡◌, ℕ, zero, suc, ◌≤◌, List, [], ◌∷◌, length, Bool, true, false, cond, not}
+use Rattle.link_simulation.proofs.Common.{Option, Some, None, refl, sym, ap, ◌∙◌, subst, arith, ⊤, filter, find}
 use Rattle.link_simulation.proofs.Common.{list_any, Ordering, IsTotalOrder, not-true, Completed, Course, EndsWith}
-use Rattle.link_simulation.proofs.Common.{Flight, IsQuiet, World, and_then, complete, first_waiting, fronts, goes}
-use Rattle.link_simulation.proofs.Common.{is_done, least_pair, may_start, meets, preceded, ready, settle, settle_within}
-use Rattle.link_simulation.proofs.Common.{start, start_next, turn, wake, wake_within, out_of_flight, is_late, completed}
-use Rattle.link_simulation.proofs.Common.{Message, OneForEachPair, pair_before, same_pair, MomentTooLate, Each}
-use Rattle.link_simulation.proofs.Common.{each_filtered, find_from_any, length-without_first}
+use Rattle.link_simulation.proofs.Common.{Flight, IsQuiet, World, and_then, complete, fronts, goes, is_done, least_pair}
+use Rattle.link_simulation.proofs.Common.{may_start, meets, preceded, ready, settle, settle_within, start, start_next}
+use Rattle.link_simulation.proofs.Common.{turn, wake, wake_within, Message, OneForEachPair, pair_before, same_pair}
+use Rattle.link_simulation.proofs.Common.{each_filtered, find_from_any, length-without_first, rules}
 use Rattle.link_simulation.specs.Simulation.Pass.{IsByPair, by_pair, wake_each}
 use Rattle.link_simulation.proofs.Simulation.Queue.{pair_like, pair_sym, settle_none, settle_first}
 use Rattle.link_simulation.proofs.Simulation.SettlingEnds.{length_without, ends_preceded, ends_and_then, ends_cond}
@@ -59,11 +58,7 @@ module _ {P : Type 0} (cmp : P → P → Ordering) (order : IsTotalOrder cmp) wh
 
   complete_waits : (n t : ℕ) (w : World P) (m : Message P) → WaitAtMost n w
       → EndsWith (WaitAtMost n) (complete cmp t w m)
-  complete_waits n t w m h =
-      let landed : World P = out_of_flight cmp t w m in
-      ends_cond (WaitAtMost n) (is_late cmp t m) (meets MomentTooLate) _ tt
-      (ends_preceded (WaitAtMost n) (completed cmp t m ∷ []) (start_next cmp t landed (first_waiting cmp landed m))
-      (next_waits n t landed (first_waiting cmp landed m) h))
+  complete_waits n t w m h = search (ends_cond, ends_preceded, next_waits)
 
   -- what a property of worlds needs to outlast settling
   pub settle_keeps : (Q : World P → Type 0) (t : ℕ)
@@ -71,17 +66,11 @@ module _ {P : Type 0} (cmp : P → P → Ordering) (order : IsTotalOrder cmp) wh
       → EndsWith Q (complete cmp t w f.message))
       → (n : ℕ) (w : World P) → Q w → EndsWith Q (settle_within cmp n t w)
   settle_keeps Q t step zero w h = h
-  settle_keeps Q t step (suc n) w h = by_first (find (is_done cmp w) w.sending) refl (settle_keeps Q t step n)
-    where
-      by_first : (o : Option (Flight P)) → find (is_done cmp w) w.sending ≡ o
-          → ((v : World P) → Q v → EndsWith Q (settle_within cmp n t v)) → EndsWith Q (settle_within cmp (suc n) t w)
-      by_first None e ih = grind (arith, settle_none)
-      by_first (Some f) e ih = grind (arith, settle_first, ends_and_then)
+  settle_keeps Q t step (suc n) w h = 
+      search (rules, settle_none, settle_first, ends_and_then, (settle_keeps Q t step n))
 
   settle_waits : (n t : ℕ) (w : World P) → WaitAtMost n w → EndsWith (WaitAtMost n) (settle cmp t w)
-  settle_waits n t w h =
-      settle_keeps (WaitAtMost n) t (λ v f e k. complete_waits n t v f.message k) (length w.sending + length w.waiting)
-      w h
+  settle_waits n t w h = search (settle_keeps, complete_waits)
 
   -- ---- one start with its settling
 
@@ -184,16 +173,14 @@ module _ {P : Type 0} (cmp : P → P → Ordering) (order : IsTotalOrder cmp) wh
           → pair_before cmp m l ≡ false → Some l ≡ Some m
       by_test l true e after = sym e
       by_test l false e after =
-          let yes : pair_before cmp m l ≡ true =
-          found_in cmp order (λ (n : Message P). pair_before cmp m n ≡ true) (same_pair cmp l) l ms
+          let yes = found_in cmp order (λ (n : Message P). pair_before cmp m n ≡ true) (same_pair cmp l) l ms
           (as_each cmp order m ms h.0) e in
           cc
 
       by_least : (o : Option (Message P)) → least_pair cmp rs ≡ o → o ≡ Some m
       by_least None e = sym (ap (find (same_pair cmp m)) (least_none cmp order rs e)) ∙ there
       by_least (Some l) e =
-          let least : (find (same_pair cmp l) rs ≡ Some l) × Each (λ (n : Message P). pair_before cmp n l ≡ false) rs =
-          least_is cmp order l rs e in
+          let least = least_is cmp order l rs e in
           by_test l (same_pair cmp l m) (same l ∙ least.0)
           (found_in cmp order (λ (n : Message P). pair_before cmp n l ≡ false) (same_pair cmp m) m rs least.1 there)
 

@@ -32,22 +32,6 @@ unfoldable pub over_state : {X S : Type 0} → (S → S) → Course X S → Cour
 over_state f (goes xs s) = goes xs (f s)
 over_state f (meets fault) = meets fault
 
-over_state-preceded : {X S : Type 0} (f : S → S) (xs : List X) (c : Course X S)
-    → over_state f (preceded xs c) ≡ preceded xs (over_state f c)
-unfolding over_state
-over_state-preceded f xs (goes ys s) = refl
-over_state-preceded f xs (meets fault) = refl
-
-preceded_twice : {X S : Type 0} (x : X) (xs : List X) (c : Course X S)
-    → preceded (x ∷ xs) c ≡ preceded (x ∷ []) (preceded xs c)
-preceded_twice x xs (goes ys s) = refl
-preceded_twice x xs (meets fault) = refl
-
-and_then-preceded : {X S : Type 0} (x : X) (c : Course X S) (k : S → Course X S)
-    → and_then (preceded (x ∷ []) c) k ≡ preceded (x ∷ []) (and_then c k)
-and_then-preceded x (goes ys s) k = preceded_twice x ys (k s)
-and_then-preceded x (meets fault) k = refl
-
 -- ---- lists
 
 pub filter_without : {X : Type 0} (test : X → Bool) (xs : List X)
@@ -169,8 +153,7 @@ module _ {P : Type 0} (cmp : P → P → Ordering) (order : IsTotalOrder cmp) wh
         (finish_within cmp n t fs (joined cmp v m)))
     unfolding leaving staying over_state
     starting w fs v m one idle e f =
-        grind (arith, start, joined, map-append, one_pair_more, nothing_first, finish_alike, filter-append,
-        done_or_not)
+        grind (arith, start, joined, map-append, one_pair_more, nothing_first, finish_alike, filter-append, done_or_not)
 
     -- the pair's next starts if it may, in the one world and in the other
     next_alike : (w : World P) (fs : List (Flight P)) (v : World P) (m : Message P) (o : Option (Message P))
@@ -184,12 +167,10 @@ module _ {P : Type 0} (cmp : P → P → Ordering) (order : IsTotalOrder cmp) wh
         nothing_first (settle_within cmp n t) w ∙ ih w one ∙ finish_alike n t (leaving cmp w) fs (staying cmp w) v e f
     next_alike w fs v m (Some x) one idle e f is =
         let same : same_pair cmp m x ≡ true = find_passes (same_pair cmp m) x w.waiting is in
-        let idle_in_w : list_any (same_pair cmp x) (messages w.sending) ≡ false =
-        any_like m x (messages w.sending) same ∙ idle in
+        let idle_in_w = any_like m x (messages w.sending) same ∙ idle in
         let order_is : Bool = is_in_order (w.last_arrival x.origin x.recipient) (t + x.latency) in
         let in_w : may_start cmp t w x ≡ order_is = ap (λ b. not b && order_is) idle_in_w in
-        let in_v : may_start cmp t v x ≡ order_is =
-        subst (λ (u : World P). may_start cmp t u x ≡ order_is) f (idle_still w x idle_in_w) in
+        let in_v = subst (λ (u : World P). may_start cmp t u x ≡ order_is) f (idle_still w x idle_in_w) in
         rw (in_w, in_v) (by_order order_is idle_in_w)
       where
         idle_still : (w : World P) (x : Message P) → list_any (same_pair cmp x) (messages w.sending) ≡ false
@@ -245,9 +226,7 @@ module _ {P : Type 0} (cmp : P → P → Ordering) (order : IsTotalOrder cmp) wh
           → over_state (staying cmp) (settle_within cmp (suc n) t w) ≡ finish_within cmp (suc n) t q (staying cmp w)
       by_queue [] e ih = grind (arith, settle_none, find_none, as_filter)
       by_queue (f ∷ fs) e ih =
-          let first : (find (is_done cmp w) w.sending ≡ Some f)
-          × (filter (is_done cmp w) (without_first (is_done cmp w) w.sending) ≡ fs)
-          = leaving_without (is_done cmp w) f fs w.sending (as_filter w (f ∷ fs) e) in
+          let first = leaving_without (is_done cmp w) f fs w.sending (as_filter w (f ∷ fs) e) in
           ap (over_state (staying cmp)) (settle_first n t w f first.0)
           ∙ (late_or_not (is_late cmp t f.message) (completed cmp t f.message) _ _ (settle_within cmp n t)
           (next_alike n t ih (record (arrived cmp t w f.message) { sending = without_first (is_done cmp w) w.sending })

@@ -142,10 +142,8 @@ module _ {P : Type 0} (cmp : P → P → Ordering) where
     pub rates_match : (caps : Caps P) (ms : List (Message P)) (d e : ℕ) (xs ys : Parts) → AreFair cmp caps ms d xs
         → AreFair cmp caps ms e ys → Match xs ys d e
     rates_match caps ms d e xs ys f g =
-        let made : Match (rates_from cmp caps f.parts 0 ms) (rates_from cmp caps g.parts 0 ms) d e
-        = match_from caps f.parts g.parts d e 0 ms
-        (λ i m at h. subst (λ (n : ℕ). f.parts n * e ≡ g.parts n * d) (omega arith)
-        (same_amounts (capped_sides cmp caps ms) d e f.parts g.parts f.fair g.fair i (limited_at caps ms i m at h)))
-        in
+        let made = match_from caps f.parts g.parts d e 0 ms (λ i m at h. subst
+        (λ (n : ℕ). f.parts n * e ≡ g.parts n * d) (omega arith)
+        (same_amounts (capped_sides cmp caps ms) d e f.parts g.parts f.fair g.fair i (limited_at caps ms i m at h))) in
         subst (λ (rs : Parts). Match rs ys d e) (sym f.rated)
         (subst (λ (rs : Parts). Match (rates_from cmp caps f.parts 0 ms) rs d e) (sym g.rated) made)

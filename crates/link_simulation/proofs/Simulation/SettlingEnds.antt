@@ -55,8 +55,7 @@ module _ {P : Type 0} (cmp : P → P → Ordering) (order : IsTotalOrder cmp) wh
   pub complete_has : (t n : ℕ) (w : World P) (f : Flight P) → find (is_done cmp w) w.sending ≡ Some f
       → HasAtMost (suc n) w → EndsWith (HasAtMost n) (complete cmp t w f.message)
   complete_has t n w f e h =
-      let fewer : length (without_first (is_done cmp w) w.sending) + 1 ≡ length w.sending =
-      length_without (is_done cmp w) f w.sending e in
+      let fewer = length_without (is_done cmp w) f w.sending e in
       let landed : World P = out_of_flight cmp t w f.message in
       ends_cond (HasAtMost n) (is_late cmp t f.message) (meets MomentTooLate) _ tt
       (ends_preceded (HasAtMost n) (completed cmp t f.message ∷ [])

@@ -1,16 +1,16 @@
 -- Each call leads from a sound world to a sound world, and to one alone.
-use Rattle.link_simulation.proofs.Common.{common_steps, ◌≡◌, ℕ, ◌+◌, List, [], ◌∷◌, ◌++◌, length, Bool, true, false}
-use Rattle.link_simulation.proofs.Common.{cond, Option, Some, None, refl, sym, ◌∙◌, subst, arith, ⊤, ◌&&◌, nat_lt}
+use Rattle.link_simulation.proofs.Common.{is_late, ◌≡◌, ℕ, ◌+◌, List, [], ◌∷◌, ◌++◌, length, Bool, true, false, cond}
+use Rattle.link_simulation.proofs.Common.{Option, Some, None, refl, sym, ◌∙◌, subst, arith, ⊤, ◌&&◌, nat_lt}
 use Rattle.link_simulation.proofs.Common.{if◌then◌else◌, Ordering, IsTotalOrder, map-append, not-true, without_first}
 use Rattle.link_simulation.proofs.Common.{same_peer, Completed, Course, EndsWith, Flight, IsQuiet, World, and_then}
 use Rattle.link_simulation.proofs.Common.{complete, first_waiting, flows, fronts, goes, instant, is_done, is_idle}
 use Rattle.link_simulation.proofs.Common.{last_moment, later_of, least_pair, may_start, meets, new_world, raised, ready}
-use Rattle.link_simulation.proofs.Common.{settle, start, start_next, turn, wake, out_of_flight, is_late, completed}
-use Rattle.link_simulation.proofs.Common.{arrival, Call, Runs, act, call_advance, call_enqueue, call_limit}
-use Rattle.link_simulation.proofs.Common.{call_enqueue_all, call_next, complete_at_once, enqueue, rebalance, limited_by}
-use Rattle.link_simulation.proofs.Common.{call_limit_link, linked_by, Caps, Message, OneForEachPair, same_pair}
-use Rattle.link_simulation.proofs.Common.{CapsAlike, PairsAlike, ArePositive, Drains, IsSound, Ticks, no_tick, one_tick}
-use Rattle.link_simulation.proofs.Common.{tick_faults, MomentTooLate, peer_sym, each_filtered}
+use Rattle.link_simulation.proofs.Common.{settle, start, start_next, turn, wake, out_of_flight, completed, Call, Runs}
+use Rattle.link_simulation.proofs.Common.{act, call_advance, call_enqueue, call_limit, call_enqueue_all, call_next}
+use Rattle.link_simulation.proofs.Common.{complete_at_once, enqueue, rebalance, limited_by, call_limit_link, linked_by}
+use Rattle.link_simulation.proofs.Common.{Caps, Message, OneForEachPair, same_pair, CapsAlike, PairsAlike, ArePositive}
+use Rattle.link_simulation.proofs.Common.{Drains, IsSound, Ticks, no_tick, one_tick, tick_faults, MomentTooLate}
+use Rattle.link_simulation.proofs.Common.{peer_sym, each_filtered}
 use Rattle.link_simulation.specs.Simulation.Messages.{with_cap, with_link}
 use Rattle.link_simulation.proofs.Simulation.Queue.{peer_like, one_without, one_pair_more}
 use Rattle.link_simulation.proofs.Simulation.SettlingEnds.{ends_preceded, ends_and_then, ends_cond, each_ends}
@@ -49,15 +49,17 @@ module _ {P : Type 0} (cmp : P → P → Ordering) (order : IsTotalOrder cmp) wh
 
   complete_fit : (t : ℕ) (w : World P) (m : Message P) → IsFit w → EndsWith IsFit (complete cmp t w m)
   complete_fit t w m fit =
-      grind (arith, common_steps, ends_cond, (ends_preceded IsFit (completed cmp t m ∷ []) (start_next cmp t
-      (out_of_flight cmp t w m) (first_waiting cmp (out_of_flight cmp t w m) m)) (next_fit t (out_of_flight cmp t w m)
-      (first_waiting cmp (out_of_flight cmp t w m) m) (record { positive = positive_without (is_done cmp w) w.sending
-      fit.positive; one_each = one_without cmp order (is_done cmp w) w.sending fit.one_each; }))))
+      let landed : World P = out_of_flight cmp t w m in
+      ends_cond IsFit (is_late cmp t m) (meets MomentTooLate) _ tt
+      (ends_preceded IsFit (completed cmp t m ∷ []) (start_next cmp t landed (first_waiting cmp landed m))
+      (next_fit t landed (first_waiting cmp landed m)
+      (record {
+        positive = positive_without (is_done cmp w) w.sending fit.positive;
+        one_each = one_without cmp order (is_done cmp w) w.sending fit.one_each;
+      })))
 
   settle_fit : (t : ℕ) (w : World P) → IsFit w → EndsWith IsFit (settle cmp t w)
-  settle_fit t w fit =
-      settle_keeps cmp order IsFit t (λ v f e k. complete_fit t v f.message k) (length w.sending + length w.waiting) w
-      fit
+  settle_fit t w fit = search (settle_keeps, complete_fit)
 
   turn_fit : (t : ℕ) (w : World P) (m : Message P) → may_start cmp t w m ≡ true → IsFit w
       → EndsWith IsFit (turn cmp t w m)
@@ -215,17 +217,10 @@ module _ {P : Type 0} (cmp : P → P → Ordering) (order : IsTotalOrder cmp) wh
       ends_cond (IsPeerwise) (may_start cmp t w m) (start cmp w m) (goes [] w) (start_peerwise w m h) h
 
   complete_peerwise : (t : ℕ) (w : World P) (m : Message P) → IsPeerwise w → EndsWith (IsPeerwise) (complete cmp t w m)
-  complete_peerwise t w m h =
-      let landed : World P = out_of_flight cmp t w m in
-      ends_cond (IsPeerwise) (is_late cmp t m) (meets MomentTooLate) _ tt
-      (ends_preceded (IsPeerwise) (completed cmp t m ∷ []) (start_next cmp t landed (first_waiting cmp landed m))
-      (next_peerwise t landed (first_waiting cmp landed m)
-      (landed_peerwise w (without_first (is_done cmp w) w.sending) m (arrival cmp t m) h)))
+  complete_peerwise t w m h = search (ends_cond, ends_preceded, next_peerwise, landed_peerwise)
 
   settle_peerwise : (t : ℕ) (w : World P) → IsPeerwise w → EndsWith (IsPeerwise) (settle cmp t w)
-  settle_peerwise t w h =
-      settle_keeps cmp order (IsPeerwise) t (λ v f e k. complete_peerwise t v f.message k)
-      (length w.sending + length w.waiting) w h
+  settle_peerwise t w h = search (settle_keeps, complete_peerwise)
 
   turn_peerwise : (t : ℕ) (w : World P) (m : Message P) → IsPeerwise w → EndsWith (IsPeerwise) (turn cmp t w m)
   turn_peerwise t w m h =
@@ -287,9 +282,6 @@ module _ {P : Type 0} (cmp : P → P → Ordering) (order : IsTotalOrder cmp) wh
 
   pub new_world_sound : (id : ℕ) → IsSound cmp (new_world id)
   new_world_sound id = grind arith
-
-  abbrev IsKept : World P → Type 0
-  IsKept v = IsFit v × (IsEmptyAtFirst v × IsPeerwise v)
 
   as_sound : (c : Course (Completed P) (World P)) → EndsWith IsFit c → EndsWith IsEmptyAtFirst c
       → EndsWith (IsPeerwise) c → EndsWith (IsSound cmp) c

@@ -64,8 +64,7 @@ module _ {P : Type 0} (cmp : P → P → Ordering) where
       (goes [] w, no_tick, (course, subst (λ (n : ℕ). Ticks cmp n w course) count t, sym (preceded_none course)))
   ticks_apart no_tick (suc a) b e = absurd (omega arith)
   ticks_apart (one_tick {n = n} {u = u} {cs = cs} {rest = rest} d i t) (suc a) b e =
-      let ih : (first : Course (Completed P) (World P)) × Ticks cmp a u first × Continues cmp b first rest =
-      ticks_apart {k = n} {w = u} {course = rest} t a b (omega arith) in
+      let ih = ticks_apart {k = n} {w = u} {course = rest} t a b (omega arith) in
       (preceded cs ih.0, one_tick d i ih.1, continued cs ih.0 rest b ih.2)
   ticks_apart (tick_faults {fault = fault} d i) (suc a) b e = (meets fault, tick_faults d i, refl)
 

@@ -1,6 +1,5 @@
-use Rattle.link_simulation.proofs.Common.{◌≡◌, ℕ, [], ◌∷◌, Option, Some, None, refl, arith, nat_cmp, nat_cmp_total}
-use Rattle.link_simulation.proofs.Common.{reduced, gcd_within, new_world, NextIs, call_advance, call_next, reply_done}
-use Rattle.link_simulation.proofs.Common.{reply_next}
+use Rattle.link_simulation.proofs.Common.{[], ◌∷◌, Some, None, refl, arith, nat_cmp, nat_cmp_total, reduced, gcd_within}
+use Rattle.link_simulation.proofs.Common.{new_world, NextIs, call_advance, call_next, reply_done, reply_next}
 use Rattle.link_simulation.proofs.Examples.ComputedReplies.{evenly, next_so}
 use Rattle.link_simulation.proofs.Examples.ComputedDifferences.{never_agree}
 use Rattle.link_simulation.proofs.Simulation.OneNext.{next_is_one}
@@ -10,8 +9,8 @@ use Rattle.link_simulation.proofs.model.differences.what_comes_later_counts.Goal
 -- in a new world no event comes
 none_comes : NextIs nat_cmp (new_world 0) (Some 1) → ⊥
 none_comes is =
-    let clash : ◌≡◌ {A = Option ℕ} None (Some 1) =
-    next_is_one nat_cmp nat_cmp_total (new_world 0) None (Some 1) (new_world_sound nat_cmp nat_cmp_total 0).positive
+    let clash = next_is_one nat_cmp nat_cmp_total (new_world 0) None (Some 1)
+    (new_world_sound nat_cmp nat_cmp_total 0).positive
     (next_so nat_cmp nat_cmp_total (evenly 1_000_000_000) 0 (new_world 0) refl) is in
     cc
 

@@ -1,7 +1,7 @@
 use Rattle.link_simulation.proofs.Common.{arith, ◌≡◌, ℕ, refl, subst, nat_cmp, nat_cmp_total, Error, OutOfMemory}
 use Rattle.link_simulation.proofs.Common.{MomentTooLate, FlowIdsUsedUp, meets, new_world, Call, call_enqueue, Runs}
 use Rattle.link_simulation.proofs.Common.{new_planned, Faults, message, IsCalled}
-use Rattle.link_simulation.proofs.Examples.ComputedReplies.{course_of, evenly, runs_so}
+use Rattle.link_simulation.proofs.Examples.ComputedReplies.{evenly, runs_so}
 use Rattle.link_simulation.proofs.Examples.ComputedDifferences.{in_turn}
 use Rattle.link_simulation.proofs.Rule.Limit.{new_stands}
 use Rattle.link_simulation.proofs.Rule.NewInRange.{advance_in_range}
@@ -28,8 +28,8 @@ called = grind (arith, new_stands, nat_cmp_total, in_turn, new_world_sound)
 no_fault : (fault : Error) → ¬ Faults nat_cmp (new_world 0) in_time fault
 no_fault fault (now, at, runs) =
     let here : now ≡ 0 = cc in
-    let one : course_of nat_cmp nat_cmp_total (evenly 1_000_000_000) (new_world 0) in_time 0 ≡ meets fault =
-    runs_are_one nat_cmp nat_cmp_total (new_world 0) in_time 0 _ (meets fault) (new_world_sound nat_cmp nat_cmp_total 0)
+    let one = runs_are_one nat_cmp nat_cmp_total (new_world 0) in_time 0 _ (meets fault)
+    (new_world_sound nat_cmp nat_cmp_total 0)
     (runs_so nat_cmp nat_cmp_total (evenly 1_000_000_000) (new_world 0) in_time 0 refl)
     (subst (λ (t : ℕ). Runs nat_cmp (new_world 0) in_time t (meets fault)) here runs) in
     cc

@@ -23,9 +23,8 @@ answers : {w : World ℕ} {calls : List (Call ℕ)} {css : List (List (Completed
 answers no_calls here is same = cc
 answers (call_answers {w = w} {u = u} {call = call} {now = now} {cs = ds} at after runs rest) here is same =
     let it : call ≡ first = cc in
-    let done : arrives (message 1 2 1 0) 0 0 ∷ [] ≡ ds =
-    completes now ds u (ap moment_of (sym it) ∙ at)
-    (subst (λ (x : Call ℕ). Runs nat_cmp (new_world 0) x now (goes ds u)) it
+    let done = completes now ds u (ap moment_of (sym it) ∙ at) (subst
+    (λ (x : Call ℕ). Runs nat_cmp (new_world 0) x now (goes ds u)) it
     (subst (λ (x : World ℕ). Runs nat_cmp x call now (goes ds u)) here runs)) in
     subst (λ (cs : List (Completed ℕ)). AllZip (SameCompletion nat_cmp) [] cs) (sym done) same.0
 
