@@ -36,7 +36,7 @@ pub use Rattle.fair_rates.specs.Sides.Subjects.{same_peer}
 pub use Rattle.fair_rates.specs.declared.error.Error.{Error}
 pub use Rattle.fair_rates.specs.declared.error.Error.TheVariants.{FlowIdsUsedUp, MomentTooLate, NumberTooLarge}
 pub use Rattle.fair_rates.specs.declared.error.Error.TheVariants.{OutOfMemory}
-pub use Rattle.link_simulation.specs.Examples.Rows.{a_byte_a_nanosecond, arrives, bytes, calls_of_a_late_list, dropped}
+pub use Rattle.link_simulation.specs.Examples.Rows.{a_byte_a_nanosecond, arrives, calls_of_a_late_list, dropped}
 pub use Rattle.link_simulation.specs.Examples.Rows.{is_gone, message}
 pub use Rattle.link_simulation.specs.Laws.Conserved.{IsConserved, held_of, of_pair}
 pub use Rattle.link_simulation.specs.Laws.Isolation.{Answers, InTime, call_answers, no_calls}

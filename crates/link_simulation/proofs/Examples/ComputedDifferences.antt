@@ -1,7 +1,7 @@
 -- Replies that do not agree with the simulation, found by computing: for worked examples.
-use Rattle.link_simulation.proofs.Common.{◌<◌, IfSome, arith, ◌≡◌, ℕ, ◌-◌, ◌≤◌, List, [], ◌∷◌, Bool, true, false, not}
-use Rattle.link_simulation.proofs.Common.{Option, Some, None, refl, sym, ◌∙◌, subst, ◌&&◌, ◌||◌, ◌==◌, nat_le, nat_lt}
-use Rattle.link_simulation.proofs.Common.{AllZip, Ordering, IsTotalOrder, leb-true, ltb-true, eq-eqb, and_parts, Error}
+use Rattle.link_simulation.proofs.Common.{arith, ◌≡◌, ℕ, ◌-◌, ◌≤◌, List, [], ◌∷◌, Bool, true, false, not, Option, Some}
+use Rattle.link_simulation.proofs.Common.{None, refl, sym, ◌∙◌, subst, ◌&&◌, ◌||◌, ◌==◌, nat_le, nat_lt, AllZip}
+use Rattle.link_simulation.proofs.Common.{Ordering, IsTotalOrder, leb-true, ltb-true, eq-eqb, and_parts, Error}
 use Rattle.link_simulation.proofs.Common.{OutOfMemory, NumberTooLarge, MomentTooLate, FlowIdsUsedUp, same_peer, World}
 use Rattle.link_simulation.proofs.Common.{new_world, Completed, Course, goes, meets, IsSound, Call, call_limit}
 use Rattle.link_simulation.proofs.Common.{call_limit_link, call_enqueue, call_advance, call_enqueue_all, call_next}
@@ -123,18 +123,8 @@ module _ {P : Type 0} (cmp : P → P → Ordering) (order : IsTotalOrder cmp) (p
   in_turn n w now sound e =
       let two = and_parts (nat_le w.moment now && may_seek cmp order plan n w) (is_later (seek cmp order plan n w) now)
       e in
-      let one = and_parts (nat_le w.moment now) (may_seek cmp order plan n w) two.0 in (
-        leb-true w.moment now one.0,
-        λ next is. by_next next
-            (next_is_one cmp order w next (seek cmp order plan n w) sound.positive is
-            (next_so cmp order plan n w one.1))
-            two.1,
-      )
-    where
-      by_next : (next : Option ℕ) → next ≡ seek cmp order plan n w → is_later (seek cmp order plan n w) now ≡ true
-          → IfSome next (λ t. now < t)
-      by_next None e later = tt
-      by_next (Some t) e later = ltb-true now t (subst (λ (o : Option ℕ). is_later o now ≡ true) (sym e) later)
+      let one = and_parts (nat_le w.moment now) (may_seek cmp order plan n w) two.0 in
+      grind (arith, next_is_one, is_later, ltb-true, (leb-true w.moment now one.0), (next_so cmp order plan n w one.1))
 
   abbrev Disagrees : ℕ → List (Call P) → List (Reply P) → Type 0
   Disagrees n calls replies =
@@ -150,18 +140,16 @@ module _ {P : Type 0} (cmp : P → P → Ordering) (order : IsTotalOrder cmp) (p
       → Disagrees n calls replies → IsSound cmp w → moment_of call ≡ Some now
       → differ_at w call now (reply_done cs) (λ v. differ n v calls replies) ≡ true → ¬ Accepted w call calls cs replies
   not_done n w call calls now cs replies ih sound at e (now_too, ds, v, at_too, runs, same, rest) =
-      let two : (may_tick cmp order plan (now - w.moment) w ≡ true)
-      × (differ_done (course_of cmp order plan w call now) cs (λ u. differ n u calls replies) ≡ true)
-      = grind (arith, and_parts) in
-      let here : Some now_too ≡ Some now = sym at_too ∙ at in
+      let two : (may_tick cmp order plan (now - w.moment) w ≡ true) × (differ_done (course_of cmp order plan w call now)
+      cs (λ u. differ n u calls replies) ≡ true) = grind (arith, and_parts) in
+      let here = sym at_too ∙ at in
       let it : now_too ≡ now = cc in
-      let runs_here : Runs cmp w call now (goes ds v) = subst (λ (t : ℕ). Runs cmp w call t (goes ds v)) it runs in
+      let runs_here = subst (λ (t : ℕ). Runs cmp w call t (goes ds v)) it runs in
       let one = runs_are_one cmp order w call now (course_of cmp order plan w call now) (goes ds v) sound
       (runs_so cmp order plan w call now two.0) runs_here in
-      let left : (not (same_each cs ds) || differ n v calls replies) ≡ true = grind arith
-      in
+      let left : (not (same_each cs ds) || differ n v calls replies) ≡ true = grind arith in
       let sound_v = call_keeps_sound cmp order w call now (goes ds v) sound runs_here in
-      either (same_each cs ds) (differ n v calls replies) left (each_shown cs ds same) (λ d. ih v sound_v d rest)
+      grind (arith, either, (each_shown cs ds same))
 
   -- a fault that is met is the one that is computed
   met : (w : World P) (call : Call P) (now : ℕ) (why : Error) → IsSound cmp w → moment_of call ≡ Some now

@@ -1,18 +1,17 @@
 -- Fairness, ticks and replies, found by computing: for worked examples.
 use Rattle.link_simulation.proofs.Common.{common_steps, ◌≡◌, ℕ, zero, suc, ◌+◌, ◌-◌, ◌*◌, ◌≤◌, List, [], ◌∷◌, length}
 use Rattle.link_simulation.proofs.Common.{Bool, true, false, cond, not, Option, Some, None, All, Contains, refl, sym}
-use Rattle.link_simulation.proofs.Common.{ap, subst, arith, max, ◌&&◌, ◌||◌, ◌==◌, nat_le, nat_lt, list_any, filter}
-use Rattle.link_simulation.proofs.Common.{AllZip, Ordering, IsTotalOrder, leb-true, ltb-true, eqb-true, and_parts}
-use Rattle.link_simulation.proofs.Common.{All-contains, All-nil, Contains-append_left, Contains-append_right, Side}
-use Rattle.link_simulation.proofs.Common.{load, IsFair, Message, capped_sides, rates_from, AreFair, fronts, may_start}
-use Rattle.link_simulation.proofs.Common.{World, Completed, Course, goes, meets, and_then, flows, instant, is_done}
-use Rattle.link_simulation.proofs.Common.{ready, IsQuiet, last_moment, Error, OutOfMemory, NumberTooLarge}
-use Rattle.link_simulation.proofs.Common.{MomentTooLate, FlowIdsUsedUp, drain_each, drifted, Drains, Ticks, no_tick}
-use Rattle.link_simulation.proofs.Common.{one_tick, tick_faults, Passes, no_time, quiet_tick, NextIs, never_comes}
-use Rattle.link_simulation.proofs.Common.{comes_next, Call, call_limit, call_limit_link, call_enqueue, call_advance}
-use Rattle.link_simulation.proofs.Common.{call_enqueue_all, call_next, act, moment_of, Runs, IsInTurn, Reply}
-use Rattle.link_simulation.proofs.Common.{reply_done, reply_next, reply_refused, SameCompletion, Faults, Agrees}
-use Rattle.link_simulation.proofs.Common.{MayRefuse}
+use Rattle.link_simulation.proofs.Common.{ap, subst, arith, max, ◌&&◌, ◌||◌, ◌==◌, nat_le, nat_lt, list_any, AllZip}
+use Rattle.link_simulation.proofs.Common.{Ordering, IsTotalOrder, leb-true, ltb-true, eqb-true, and_parts, All-contains}
+use Rattle.link_simulation.proofs.Common.{All-nil, Contains-append_left, Contains-append_right, Side, load, IsFair}
+use Rattle.link_simulation.proofs.Common.{Message, capped_sides, rates_from, AreFair, World, Completed, Course, goes}
+use Rattle.link_simulation.proofs.Common.{meets, and_then, flows, instant, is_done, ready, IsQuiet, last_moment, Error}
+use Rattle.link_simulation.proofs.Common.{OutOfMemory, NumberTooLarge, MomentTooLate, FlowIdsUsedUp, drain_each}
+use Rattle.link_simulation.proofs.Common.{drifted, Drains, Ticks, no_tick, one_tick, tick_faults, Passes, no_time}
+use Rattle.link_simulation.proofs.Common.{quiet_tick, NextIs, never_comes, comes_next, Call, call_limit}
+use Rattle.link_simulation.proofs.Common.{call_limit_link, call_enqueue, call_advance, call_enqueue_all, call_next, act}
+use Rattle.link_simulation.proofs.Common.{moment_of, Runs, IsInTurn, Reply, reply_done, reply_next, reply_refused}
+use Rattle.link_simulation.proofs.Common.{SameCompletion, Faults, Agrees, MayRefuse}
 use Rattle.std.specs.List.{list_all}
 use Rattle.std.proofs.lemmas.List.Elements.{All-cons}
 use Rattle.fair_rates.specs.Fairness.Fair.{HasBottleneck}
@@ -168,10 +167,7 @@ module _ {P : Type 0} (cmp : P → P → Ordering) (order : IsTotalOrder cmp) (p
       let rest : (v : World P) × Passes cmp n on v = calm n on sends_on waits in (
         rest.0,
         quiet_tick (record { per = 1; rates = []; fair = fair; world = refl })
-            (record {
-              none_done = ap (list_any (is_done cmp on)) sends_on;
-              none_ready = ap (λ (ms : List (Message P)). filter (may_start cmp on.moment on) (fronts cmp ms)) waits;
-            })
+            (grind arith)
             rest.1,
       )
 

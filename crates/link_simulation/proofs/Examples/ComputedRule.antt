@@ -295,15 +295,7 @@ module _ {P : Type 0} (cmp : P → P → Ordering) (order : IsTotalOrder cmp) (p
       → Replied p call calls replies
   replied_so p call calls replies ih e =
       let found = bound (obeys_at p call) (λ c. replied_to c p (λ q. replies_by_rule q calls)) replies e in
-      by_course found.0 (obeys_at_so p call found.0 found.1) found.2
-    where
-      by_course : (c : Course (Completed P) (Planned P)) → Obeys cmp p call c
-          → replied_to c p (λ q. replies_by_rule q calls) ≡ Some replies → Replied p call calls replies
-      by_course (goes cs q) obeys e = grind (arith, bound, the_same, same_all)
-      by_course (meets OutOfMemory) obeys e = cc
-      by_course (meets NumberTooLarge) obeys e = cc
-      by_course (meets MomentTooLate) obeys e = grind (arith, bound, the_same)
-      by_course (meets FlowIdsUsedUp) obeys e = grind (arith, bound, the_same)
+      grind (arith, bound, the_same, same_all, (obeys_at_so p call found.0 found.1))
 
   pub obeyed_so : (p : Planned P) (calls : List (Call P)) (replies : List (Reply P))
       → replies_by_rule p calls ≡ Some replies → Obeyed cmp p calls replies

@@ -1,7 +1,7 @@
 -- Advancing to a moment and then on to a later one.
-use Rattle.link_simulation.proofs.Common.{common_steps, ◌≡◌, ℕ, ◌+◌, ◌-◌, ◌≤◌, List, refl, sym, ap, subst, arith}
-use Rattle.link_simulation.proofs.Common.{append-nil, [], Ordering, IsTotalOrder, World, Completed, Course, goes, meets}
-use Rattle.link_simulation.proofs.Common.{preceded, and_then, Ticks, call_advance, Runs}
+use Rattle.link_simulation.proofs.Common.{common_steps, ◌≡◌, ℕ, ◌+◌, ◌-◌, ◌≤◌, List, refl, ap, arith, append-nil, []}
+use Rattle.link_simulation.proofs.Common.{Ordering, IsTotalOrder, World, Completed, Course, goes, meets, preceded}
+use Rattle.link_simulation.proofs.Common.{and_then, Ticks, call_advance, Runs}
 use Rattle.link_simulation.proofs.Simulation.Split.{ticks_on}
 use Rattle.link_simulation.proofs.Simulation.QuietInstants.{ends_at, ticks_end_at}
 
@@ -20,12 +20,8 @@ module _ {P : Type 0} (cmp : P → P → Ordering) (order : IsTotalOrder cmp) wh
       → Runs cmp w (call_advance a) a (goes cs v) → Runs cmp v (call_advance b) b course
       → Runs cmp w (call_advance b) b (preceded cs course)
   advance_splits w v a b cs course after later first second =
-      let first_ticks : Ticks cmp (a - w.moment) w (goes cs v) = ticks_of w a (goes cs v) first in
+      let first_ticks = ticks_of w a (goes cs v) first in
       let at : v.moment ≡ w.moment + (a - w.moment) = grind (arith, ends_at, ticks_end_at) in
       let all = ticks_on cmp first_ticks (b - v.moment) v cs course refl (ticks_of v b course second) in
       let count : (b - v.moment) + (a - w.moment) ≡ b - w.moment = omega arith in
-      record {
-        ticked = preceded cs course;
-        ticks = subst (λ (n : ℕ). Ticks cmp n w (preceded cs course)) count all;
-        acts = sym (nothing_more (preceded cs course));
-      }
+      grind (arith, (nothing_more (preceded cs course)))

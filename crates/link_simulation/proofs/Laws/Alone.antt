@@ -1,17 +1,16 @@
 -- One message alone under caps takes its least time at the least of them.
-use Rattle.link_simulation.proofs.Common.{◌≡◌, ℕ, zero, suc, ◌+◌, ◌-◌, ◌*◌, ◌<◌, ◌≤◌, List, [], ◌∷◌, length, true}
-use Rattle.link_simulation.proofs.Common.{false, Option, Some, Contains, refl, sym, ◌∙◌, subst, arith, add-one, ◌||◌}
-use Rattle.link_simulation.proofs.Common.{◌==◌, list_any, Ordering, IsTotalOrder, eq-eqb, All-contains, Amount, whole}
-use Rattle.link_simulation.proofs.Common.{reduced, drained, Side, load, World, Flight, goes, flight_of, last_moment}
-use Rattle.link_simulation.proofs.Common.{is_in_order, is_done, is_late, completed, completion_of, instant, settle}
-use Rattle.link_simulation.proofs.Common.{IsQuiet, out_of_flight, call_advance, Runs, Message, Caps, is_delivered}
-use Rattle.link_simulation.proofs.Common.{AreFair, capped_sides, is_unlimited, Drains, Passes, no_time, quiet_tick}
-use Rattle.link_simulation.proofs.Common.{Ticks, NextIs, comes_next, All-from_contains, rules}
-use Rattle.std.proofs.Common.{le_refl, ◌↔◌}
+use Rattle.link_simulation.proofs.Common.{◌≡◌, ℕ, zero, suc, ◌+◌, ◌-◌, ◌<◌, ◌≤◌, List, [], ◌∷◌, length, true, false}
+use Rattle.link_simulation.proofs.Common.{Option, Some, Contains, refl, subst, arith, add-one, ◌||◌, ◌==◌, list_any}
+use Rattle.link_simulation.proofs.Common.{Ordering, IsTotalOrder, eq-eqb, All-contains, Amount, whole, reduced, drained}
+use Rattle.link_simulation.proofs.Common.{Side, load, World, Flight, goes, flight_of, last_moment, is_in_order, is_done}
+use Rattle.link_simulation.proofs.Common.{is_late, completed, completion_of, instant, settle, IsQuiet, out_of_flight}
+use Rattle.link_simulation.proofs.Common.{call_advance, Runs, Message, Caps, is_delivered, AreFair, capped_sides}
+use Rattle.link_simulation.proofs.Common.{is_unlimited, Drains, Passes, no_time, quiet_tick, Ticks, NextIs, comes_next}
+use Rattle.link_simulation.proofs.Common.{rules}
+use Rattle.std.proofs.Common.{◌↔◌}
 use Rattle.std.proofs.lemmas.Bool.{ne_eqb}
 use Rattle.link_simulation.specs.Laws.Alone.{IsTimeFor, IsLeastCap, MayGoAlone, IsDoneAfter}
 use Rattle.fair_rates.specs.Numbers.LowestTerms.{reduced_lowest, whole_IsReduced}
-use Rattle.link_simulation.specs.Simulation.Calls.{join}
 use Rattle.fair_rates.proofs.Numbers.Draining.{spent_from_least}
 use Rattle.link_simulation.proofs.Simulation.AlikeMessages.{same_itself, pair_itself}
 use Rattle.link_simulation.proofs.Simulation.Continuing.{rates_exist}
@@ -49,21 +48,8 @@ module _ {P : Type 0} (cmp : P → P → Ordering) (order : IsTotalOrder cmp) wh
           parts = λ _. cap;
           fair = record {
             some_part = omega arith;
-            within =
-                All-from_contains (λ (t : Side). load (λ _. cap) t ≤ t.cap * 1) sides
-                (λ t has. let all : cap ≤ t.cap = All-contains (λ (t : Side). cap ≤ t.cap) sides t is.least has in rw
-                (alone_load cap t has) (omega arith));
-            held = λ flow limited. record {
-              side = is.side;
-              uses =
-                  record {
-                    listed = is.used;
-                    used = subst (λ users. Contains users flow) ((own_side limited.0 limited.1.listed).0 ∙ sym own.0)
-                        limited.1.used;
-                  };
-              full = alone_load cap is.side is.used ∙ omega (arith, is.own);
-              greatest = λ k d l. le_refl cap;
-            };
+            within = grind (arith, All-contains, alone_load);
+            held = grind (arith, own_side, alone_load);
           };
           rated = rw own.1 refl;
         }
@@ -149,14 +135,8 @@ module _ {P : Type 0} (cmp : P → P → Ordering) (order : IsTotalOrder cmp) wh
     advances in_time =
         let r = reaches k (omega arith) in
         let long : suc k ≡ now + suc k - now = omega arith in
-        record {
-          ticked = goes (completed cmp (now + suc k) m ∷ []) landed;
-          ticks =
-              subst (λ n. Ticks cmp n sent (goes (completed cmp (now + suc k) m ∷ []) landed)) long
-              (ticks_through cmp order r.1 (later (suc k)) (goes (completed cmp (now + suc k) m ∷ []) landed) r.2
-              (completes in_time));
-          acts = refl;
-        }
+        grind (arith, (ticks_through cmp order r.1 (later (suc k)) (goes (completed cmp (now + suc k) m ∷ []) landed)
+        r.2 (completes in_time)))
 
     comes : now + suc k ≤ last_moment → NextIs cmp sent (Some (now + suc k))
     comes within =
@@ -173,14 +153,6 @@ module _ {P : Type 0} (cmp : P → P → Ordering) (order : IsTotalOrder cmp) wh
     rests =
         settle_quiet cmp order 1 now sent (rw (not_done (whole (length m.bytes)) (λ none. absurd (omega arith))) refl)
 
-  -- it starts as it is enqueued
-  starts : (caps : Caps P) (last : P → P → Option ℕ) (id now : ℕ) (m : Message P)
-      → is_in_order (last m.origin m.recipient) (now + m.latency) ≡ true → id < last_moment
-      → settle cmp now (world caps last (id + 1) (flight_of m ∷ []) now)
-      ≡ goes [] (world caps last (id + 1) (flight_of m ∷ []) now)
-      → join cmp now (world caps last id [] now) m ≡ goes [] (world caps last (id + 1) (flight_of m ∷ []) now)
-  starts caps last id now m in_order below rests = grind arith
-
   from_idle : (caps : Caps P) (last : P → P → Option ℕ) (id t : ℕ) (m : Message P) (now cap k : ℕ)
       → is_in_order (last m.origin m.recipient) (now + m.latency) ≡ true → id < last_moment
       → t ≤ now → IsLeastCap cmp caps m cap → 0 < length m.bytes → IsTimeFor (length m.bytes) cap (suc k)
@@ -188,15 +160,10 @@ module _ {P : Type 0} (cmp : P → P → Ordering) (order : IsTotalOrder cmp) wh
       → IsDoneAfter cmp (world caps last id [] t) now m (suc k)
   from_idle caps last id t m now cap k in_order below after least some is_time within in_time =
       let there : t + (now - t) ≡ now = omega arith in
-      let waits : Ticks cmp (now - t) (world caps last id [] t) (goes [] (world caps last id [] now)) =
-          grind (arith, ticks_quiet, idle_passes) in
-      record {
-        sent = world caps last (id + 1) (flight_of m ∷ []) now;
-        sends = grind (arith, starts, rests);
-        next = comes caps last (id + 1) m now cap k least is_time some within;
-        after = landed caps last (id + 1) m now cap k least is_time some;
-        done = advances caps last (id + 1) m now cap k least is_time some in_time;
-      }
+      let waits : Ticks cmp (now - t) (world caps last id [] t) (goes [] (world caps last id [] now)) = grind (arith,
+      ticks_quiet, idle_passes) in
+      grind (arith, rests, (comes caps last (id + 1) m now cap k least is_time some within),
+      (advances caps last (id + 1) m now cap k least is_time some in_time))
 
   pub alone : (w : World P) (m : Message P) (now cap time : ℕ) → MayGoAlone cmp w now m → w.moment ≤ now
       → IsLeastCap cmp w.caps m cap → 0 < length m.bytes

@@ -7,11 +7,10 @@ use Rattle.link_simulation.proofs.Common.{Contains-append_right, mul-pos, IsAtMo
 use Rattle.link_simulation.proofs.Common.{load, without_first, same_peer, Completed, Course, Flight, World, and_then}
 use Rattle.link_simulation.proofs.Common.{complete, first_waiting, flows, fronts, goes, instant, is_done, least_pair}
 use Rattle.link_simulation.proofs.Common.{may_start, meets, ready, settle, settle_within, start, start_next}
-use Rattle.link_simulation.proofs.Common.{wake_within, EndsWith, out_of_flight, is_late, completed, flight_of, Runs}
+use Rattle.link_simulation.proofs.Common.{wake_within, EndsWith, out_of_flight, completed, flight_of, Runs}
 use Rattle.link_simulation.proofs.Common.{call_advance, Caps, Message, same_pair, rate_of, is_unlimited, rates_from}
 use Rattle.link_simulation.proofs.Common.{AreFair, Parts, capped_sides, drained_by, sides_for, ArePositive, Drains}
-use Rattle.link_simulation.proofs.Common.{Ticks, drain_each, no_tick, one_tick, tick_faults, MomentTooLate, places_from}
-use Rattle.link_simulation.proofs.Common.{Each}
+use Rattle.link_simulation.proofs.Common.{Ticks, drain_each, no_tick, one_tick, tick_faults, places_from, Each}
 use Rattle.std.specs.Prelude.{Contains}
 use Rattle.std.proofs.Math.Nat.{add-mul, mul-add, zero-add}
 use Rattle.std.proofs.lemmas.List.Sums.{sum_by-cons}
@@ -185,14 +184,13 @@ module _ {P : Type 0} (cmp : P → P → Ordering) (order : IsTotalOrder cmp) wh
     complete_follows : (t : ℕ) (w : World P) (f : Flight P) → Holds w
         → EndsWith (Follows w) (complete cmp t w f.message)
     complete_follows t w f h =
-        let landed : World P = out_of_flight cmp t w f.message in
+        let landed = out_of_flight cmp t w f.message in
         let still : Holds landed = grind (arith, positive_without) in
         let less : Follows w landed = grind (arith, finished, done_is_spent) in
-        ends_cond (Follows w) (is_late cmp t f.message) (meets MomentTooLate) _ tt
-        (ends_preceded (Follows w) (completed cmp t f.message ∷ [])
+        grind (arith, ends_cond, (ends_preceded (Follows w) (completed cmp t f.message ∷ [])
+        (start_next cmp t landed (first_waiting cmp landed f.message)) (ends_more w landed less
         (start_next cmp t landed (first_waiting cmp landed f.message))
-        (ends_more w landed less (start_next cmp t landed (first_waiting cmp landed f.message))
-        (start_next_follows t landed f.message (first_waiting cmp landed f.message) refl still)))
+        (start_next_follows t landed f.message (first_waiting cmp landed f.message) refl still))))
 
     settle_within_follows : (n t : ℕ) (w : World P) → Holds w → EndsWith (Follows w) (settle_within cmp n t w)
     settle_within_follows zero t w h = follows_itself w h
@@ -289,22 +287,19 @@ module _ {P : Type 0} (cmp : P → P → Ordering) (order : IsTotalOrder cmp) wh
 
     drain_loses : (w v : World P) → Holds w → Drains cmp w v → Loses 1 w v
     drain_loses w v h d =
-        let capped : AreCapped (flows w) d.per d.rates = fair_is_capped w d.per d.rates h d.fair in
-        let some : 0 < d.per = d.fair.fair.some_part in
+        let capped = fair_is_capped w d.per d.rates h d.fair in
+        let some = d.fair.fair.some_part in
         let u : World P = record w { sending = drain_each d.per d.rates 1 w.sending; moment = w.moment + 1 } in
         let positive : ArePositive u.sending = grind (arith, drain_each_positive) in
-        let all : ℕ = total (map from_it (flows w)) d.rates in
-        let sums : IsAtMost (bytes_from cmp p w) (plus (bytes_from cmp p u) (share (all * 1) (d.per * billion))) =
-            grind (arith, plus_whole, drained_each) in
-        let most : all ≤ cap * d.per = capped.within in
+        let all = total (map from_it (flows w)) d.rates in
+        let sums : IsAtMost (bytes_from cmp p w) (plus (bytes_from cmp p u) (share (all * 1) (d.per * billion))) = grind
+        (arith, plus_whole, drained_each) in
+        let most = capped.within in
         let scaled : (all * 1) * billion ≤ (cap * 1) * (d.per * billion) = omega arith in
-        let end : Loses 1 w u = record {
-          holds = record { positive = positive; egress = h.egress };
-          bytes =
-              share_grows (bytes_from cmp p w) (bytes_from cmp p u) (all * 1) (cap * 1) (d.per * billion) billion
-              (mul-pos some (omega arith)) scaled sums;
-        } in
-        subst (λ (z : World P). Loses 1 w z) (sym d.world) end
+        let end : Loses 1 w u = record { holds = record { positive = positive; egress = h.egress }; bytes = share_grows
+        (bytes_from cmp p w) (bytes_from cmp p u) (all * 1) (cap * 1) (d.per * billion) billion (mul-pos some (omega
+        arith)) scaled sums; } in
+        grind arith
 
     loses_none : (w v : World P) → Follows w v → Loses 0 w v
     loses_none w v f = grind arith

@@ -259,10 +259,7 @@ module _ {P : Type 0} (cmp : P → P → Ordering) (order : IsTotalOrder cmp) wh
       by_late false = record {
         done = m ∷ [];
         completions_are = ((now, (if m.should_deliver then Some at else None), refl), tt);
-        each_pair = λ k.
-            ap (λ (ms : List (Message P)). of_pair cmp k (m ∷ []) ++ ms) (nothing_held k)
-            ∙ append-nil (of_pair cmp k (m ∷ []))
-            ∙ sym (ap (λ (ms : List (Message P)). ms ++ of_pair cmp k (m ∷ [])) (nothing_held k));
+        each_pair = grind (arith, nothing_held, append-nil);
       }
 
   joined_keeps : (p : Planned P) (m : Message P) (c : Course (Completed P) (Planned P)) → IsOrderly cmp p
@@ -284,7 +281,7 @@ module _ {P : Type 0} (cmp : P → P → Ordering) (order : IsTotalOrder cmp) wh
   kept_then : (p q : Planned P) (ms ns : List (Message P)) (cs : List (Completed P))
       (c : Course (Completed P) (Planned P)) → KeepsAll p ms (goes cs q) → KeepsAll q ns c
       → KeepsAll p (ms ++ ns) (preceded cs c)
-  kept_then p q ms ns cs (goes ds r) a b = 
+  kept_then p q ms ns cs (goes ds r) a b =
       grind (arith, common_steps, filter-append, append_assoc,
       (zip-append IsCompletionOf cs ds a.done b.done a.completions_are b.completions_are))
   kept_then p q ms ns cs (meets fault) a b = tt

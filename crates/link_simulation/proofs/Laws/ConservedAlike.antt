@@ -1,10 +1,10 @@
 -- No message is lost or doubled, by a call, peers taken as equal by their order, nor by a list of calls.
-use Rattle.link_simulation.proofs.Common.{arith, List, [], ◌∷◌, ◌++◌, refl, subst, append_assoc, append-nil, AllZip}
-use Rattle.link_simulation.proofs.Common.{Ordering, IsTotalOrder, filter-append, Message, SameMessage, Completed, goes}
-use Rattle.link_simulation.proofs.Common.{Call, call_next, enqueued, answered, IsCompletionOf, Planned, Obeys, Obeyed}
-use Rattle.link_simulation.proofs.Common.{Reply, reply_done, SameCompletion, made, completions_in, IsSamePlanned}
-use Rattle.link_simulation.proofs.Common.{GoesByRule, IsOrderly, of_pair, held_of, IsConserved, zip_chain, zip-filter}
-use Rattle.link_simulation.proofs.Common.{zip-same, zip-append}
+use Rattle.link_simulation.proofs.Common.{arith, List, [], ◌∷◌, ◌++◌, refl, append_assoc, append-nil, AllZip, Ordering}
+use Rattle.link_simulation.proofs.Common.{IsTotalOrder, filter-append, Message, SameMessage, Completed, goes, Call}
+use Rattle.link_simulation.proofs.Common.{call_next, enqueued, answered, IsCompletionOf, Planned, Obeys, Obeyed, Reply}
+use Rattle.link_simulation.proofs.Common.{reply_done, SameCompletion, made, completions_in, IsSamePlanned, GoesByRule}
+use Rattle.link_simulation.proofs.Common.{IsOrderly, of_pair, held_of, IsConserved, zip_chain, zip-filter, zip-same}
+use Rattle.link_simulation.proofs.Common.{zip-append}
 use Rattle.link_simulation.specs.Laws.Conserved.{AreConserved}
 use Rattle.link_simulation.proofs.Simulation.AlikeMessages.{pairs_alike, message_itself}
 use Rattle.link_simulation.proofs.Laws.Orderly.{obeys_orderly}
@@ -122,20 +122,13 @@ module _ {P : Type 0} (cmp : P → P → Ordering) (order : IsTotalOrder cmp) wh
   obeyed_conserved p [] (reply ∷ replies) h obeyed = absurd obeyed
   obeyed_conserved p (call ∷ calls) [] h obeyed = absurd obeyed
   obeyed_conserved p (call ∷ calls) (reply_done cs ∷ replies) h obeyed =
-      let one : IsAccepted p call calls cs replies = one_accepted p call calls cs replies obeyed in
+      let one = one_accepted p call calls cs replies obeyed in
       let first = kept_conserved p one.after one.after (enqueued (call ∷ [])) cs one.answers
       (call_keeps cmp order p call (goes one.answers one.after) one.obeys h) one.same
       (λ k. itself (held_of cmp k one.after)) in
       let rest = obeyed_conserved one.after calls replies
       (obeys_orderly cmp order p one.after call one.answers one.obeys h) one.rest in
-      record {
-        last = rest.last;
-        led = (one.answers, one.after, one.obeys, one.same, rest.led);
-        orderly = rest.orderly;
-        conserved =
-            subst (λ (ms : List (Message P)). IsConserved cmp p ms (cs ++ answered (completions_in replies)) rest.last)
-            (enqueued_split call (made calls replies))
-            (conserved_then p one.after rest.last (enqueued (call ∷ [])) (enqueued (made calls replies)) cs
-            (answered (completions_in replies)) first rest.conserved);
-      }
+      grind (arith, (enqueued_split call (made calls replies)), (conserved_then p one.after rest.last
+      (enqueued (call ∷ [])) (enqueued (made calls replies)) cs (answered (completions_in replies)) first
+      rest.conserved))
   obeyed_conserved p (call ∷ calls) (reply ∷ replies) h obeyed = grind (arith, (obeyed_conserved p calls replies h))

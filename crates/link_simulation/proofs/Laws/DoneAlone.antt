@@ -1,7 +1,7 @@
 -- A message that is done after a time is done alone, however the simulation runs.
 use Rattle.link_simulation.proofs.Common.{◌≡◌, ℕ, ◌+◌, List, [], ◌∷◌, Option, Some, sym, subst, Ordering, IsTotalOrder}
 use Rattle.link_simulation.proofs.Common.{World, Completed, goes, completed, call_enqueue, call_advance, Runs, Message}
-use Rattle.link_simulation.proofs.Common.{NextIs, IsSound}
+use Rattle.link_simulation.proofs.Common.{NextIs, IsSound, arith}
 use Rattle.link_simulation.specs.Laws.Alone.{IsDoneAfter}
 use Rattle.link_simulation.proofs.Simulation.OneNext.{next_is_one}
 use Rattle.link_simulation.proofs.Simulation.OneRun.{runs_are_one}
@@ -21,12 +21,9 @@ module _ {P : Type 0} (cmp : P → P → Ordering) (order : IsTotalOrder cmp) wh
   is_sent w v m now time cs sound alone runs =
       let one = runs_are_one cmp order w (call_enqueue now m) now (goes cs v) (goes [] alone.sent) sound runs
       alone.sends in
-      let same : v ≡ alone.sent = same_world cs [] v alone.sent one in
-      let sound_v : IsSound cmp v = call_keeps_sound cmp order w (call_enqueue now m) now (goes cs v) sound runs in (
-        same_answers cs [] v alone.sent one,
-        λ next is. next_is_one cmp order v next (Some (now + time)) sound_v.positive is
-            (subst (λ (x : World P). NextIs cmp x (Some (now + time))) (sym same) alone.next),
-      )
+      let same = same_world cs [] v alone.sent one in
+      let sound_v = call_keeps_sound cmp order w (call_enqueue now m) now (goes cs v) sound runs in
+      grind (arith, next_is_one, (same_answers cs [] v alone.sent one))
 
   pub is_done_alone : (w v u : World P) (m : Message P) (now time : ℕ) (cs ds : List (Completed P)) → IsSound cmp w
       → IsDoneAfter cmp w now m time → Runs cmp w (call_enqueue now m) now (goes cs v)

@@ -182,12 +182,7 @@ module _ {P : Type 0} (cmp : P → P → Ordering) (order : IsTotalOrder cmp) (i
       inner =
           let at : ℕ = arrival cmp t f.message in
           let higher : P → P → Option ℕ = raised cmp last f.message at in
-          let still : IsPart higher id (out_of_flight cmp t w f.message) = record {
-            arrivals = λ n own_n. raised_same f.message n at last w id is own_n;
-            ids = is.ids;
-            sending = each_without (λ (g : Flight P). T g.message) (is_done cmp w) w.sending is.sending;
-            waiting = is.waiting;
-          } in
+          let still : IsPart higher id (out_of_flight cmp t w f.message) = grind (arith, raised_same, each_without) in
           let next : Option (Message P) = find (same_pair cmp f.message) w.waiting in
           let same_next = find_kept mine (same_pair cmp f.message) w.waiting (λ n s. sym (alike f.message n s) ∙ own) in
           let same_landed = part_alike w higher id _ _ (filter mine w.waiting) (filter mine w.waiting)
@@ -233,13 +228,7 @@ module _ {P : Type 0} (cmp : P → P → Ordering) (order : IsTotalOrder cmp) (i
       by_late true = tt
       by_late false =
           let c : Completed P = completed cmp t f.message in
-          let still : IsPart last id (out_of_flight cmp t w f.message) = record {
-            arrivals = λ n own_n.
-                is.arrivals n own_n ∙ sym (raised_other f.message n (arrival cmp t f.message) w.last_arrival off own_n);
-            ids = is.ids;
-            sending = each_without (λ (g : Flight P). T g.message) (is_done cmp w) w.sending is.sending;
-            waiting = is.waiting;
-          } in
+          let still : IsPart last id (out_of_flight cmp t w f.message) = grind (arith, raised_other, each_without) in
           let same = part_alike w last id _ _ (filter mine w.waiting) (filter mine w.waiting)
           (first_dropped in_flight (is_done cmp w) w.sending f first off) refl in
           let nothing : filter in_done (c ∷ []) ≡ [] = rw off refl in
@@ -343,7 +332,7 @@ module _ {P : Type 0} (cmp : P → P → Ordering) (order : IsTotalOrder cmp) (i
 
   settle_waits : (n k t : ℕ) (w : World P) → WaitsAtMost k w → EndsWith (WaitsAtMost k) (settle_within cmp n t w)
   settle_waits zero k t w h = h
-  settle_waits (suc n) k t w h = 
+  settle_waits (suc n) k t w h =
       grind (arith, settle_none, settle_first, ends_and_then, complete_waits, (settle_waits n k t))
 
   ends_both : (Q R : World P → Type 0) (c : Course (Completed P) (World P)) → EndsWith Q c → EndsWith R c

@@ -135,12 +135,10 @@ module _ {P : Type 0} (cmp : P → P → Ordering) (order : IsTotalOrder cmp) wh
       (starts_one {m = x} {more = more} {q = q} {r = r} {cs = cs} {rest = rest} launch finishes wakes) m ns e found
       may =
       let same : x ≡ m = cc in
-      let found_x : next_of cmp p x ≡ Some m = ap (next_of cmp p) same ∙ found in
-      let less : most_events q + length more < most_events p = launch_less launch x m more q refl found_x may refl in
-      let after : most_events r ≤ most_events q = finish_counts finishes in (
-        omega arith,
-        grind (arith, leaves_after, leaves_more, wake_counts),
-      )
+      let found_x = ap (next_of cmp p) same ∙ found in
+      let less = launch_less launch x m more q refl found_x may refl in
+      let after = finish_counts finishes in
+      grind (arith, wake_counts)
 
   -- ---- what is planned stays right
 

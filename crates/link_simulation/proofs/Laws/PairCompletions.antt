@@ -4,12 +4,12 @@ use Rattle.link_simulation.proofs.Common.{true, false, cond, Option, Some, None,
 use Rattle.link_simulation.proofs.Common.{append_assoc, append-nil, ◌&&◌, IfSome, nat_lt, if◌then◌else◌, filter, AllZip}
 use Rattle.link_simulation.proofs.Common.{Ordering, IsTotalOrder, filter-append, leb-true, le-leb, MomentTooLate}
 use Rattle.link_simulation.proofs.Common.{Message, Caps, PairsAlike, same_pair, World, Flight, Completed, completion_of}
-use Rattle.link_simulation.proofs.Common.{Course, goes, meets, last_moment, preceded, and_then, is_in_order, later_of}
-use Rattle.link_simulation.proofs.Common.{new_world, raised, instant, EndsWith, IsSound, Drains, Ticks, no_tick}
-use Rattle.link_simulation.proofs.Common.{one_tick, tick_faults, Call, call_limit, call_limit_link, call_enqueue}
-use Rattle.link_simulation.proofs.Common.{call_advance, complete_at_once, act, moment_of, Runs, call_enqueue_all}
-use Rattle.link_simulation.proofs.Common.{call_next, limited_by, linked_by, enqueue, enqueue_each, enqueued, answered}
-use Rattle.link_simulation.proofs.Common.{IsCompletionOf, NeverGoDown, Answers, no_calls, call_answers}
+use Rattle.link_simulation.proofs.Common.{Course, goes, meets, last_moment, and_then, is_in_order, later_of, new_world}
+use Rattle.link_simulation.proofs.Common.{raised, instant, IsSound, Drains, Ticks, no_tick, one_tick, tick_faults, Call}
+use Rattle.link_simulation.proofs.Common.{call_limit, call_limit_link, call_enqueue, call_advance, complete_at_once}
+use Rattle.link_simulation.proofs.Common.{act, moment_of, Runs, call_enqueue_all, call_next, limited_by, linked_by}
+use Rattle.link_simulation.proofs.Common.{enqueue, enqueue_each, enqueued, answered, IsCompletionOf, NeverGoDown}
+use Rattle.link_simulation.proofs.Common.{Answers, no_calls, call_answers}
 use Rattle.link_simulation.specs.Simulation.Calls.{join}
 use Rattle.link_simulation.specs.Laws.PairCompletions.{IsInPairOrder}
 use Rattle.link_simulation.proofs.Simulation.Queue.{pair_sym}
@@ -208,21 +208,8 @@ module _ {P : Type 0} (cmp : P → P → Ordering) (order : IsTotalOrder cmp) (k
   unfolding GoesByRule
   each_goes [] messages t cs w sound h = stays cmp order k (messages ++ []) t cs w (none_more messages t cs w h)
   each_goes (m ∷ ms) messages t cs w sound h =
-      by_course (enqueue cmp t w m) (act_keeps_sound cmp order (call_enqueue t m) w sound)
-      (enqueue_goes messages t cs w m sound h) (each_goes ms)
-    where
-      by_course : (c : Course (Completed P) (World P)) → EndsWith (IsSound cmp) c
-          → GoesByRule cmp order k (messages ++ m ∷ []) t cs c
-          → ((before : List (Message P)) (s : ℕ) (ds : List (Completed P)) (u : World P) → IsSound cmp u
-          → IsHistory cmp order k before s ds u
-          → GoesByRule cmp order k (before ++ ms) s ds (enqueue_each cmp s u ms))
-          → GoesByRule cmp order k (messages ++ m ∷ ms) t cs (and_then c (λ v. enqueue_each cmp t v ms))
-      by_course (goes ds u) sound_u g ih =
-          subst (λ (ns : List (Message P)). GoesByRule cmp order k ns t cs (preceded ds (enqueue_each cmp t u ms)))
-          (append_assoc messages (m ∷ []) ms)
-          (goes_preceded cmp order k ((messages ++ m ∷ []) ++ ms) t cs ds (enqueue_each cmp t u ms)
-          (ih (messages ++ m ∷ []) t (cs ++ ds) u sound_u g))
-      by_course (meets fault) sound_u g ih = tt
+      grind (arith, append_assoc, goes_preceded, (act_keeps_sound cmp order (call_enqueue t m) w sound),
+      (enqueue_goes messages t cs w m sound h), (each_goes ms))
 
   act_goes : (messages : List (Message P)) (t : ℕ) (cs : List (Completed P)) (w : World P) (call : Call P)
       → moment_of call ≡ Some t
@@ -275,14 +262,11 @@ module _ {P : Type 0} (cmp : P → P → Ordering) (order : IsTotalOrder cmp) (k
   answers_in_order {w = w} (call_answers {u = u} {call = call} {now = now} {calls = calls} {cs = ds} {css = css} at
       after runs more) messages cs sound h =
       let next = run_history messages cs ds w u call now at after runs sound h in
-      let sound_u : EndsWith (IsSound cmp) (goes ds u) = call_keeps_sound cmp order w call now (goes ds u) sound runs in
+      let sound_u = call_keeps_sound cmp order w call now (goes ds u) sound runs in
       let here : IsHistory cmp order k (messages ++ added call) u.moment (cs ++ ds) u = grind arith in
       let rest = answers_in_order more (messages ++ added call) (cs ++ ds) sound_u here in
-      subst (λ (ms : List (Message P)). IsInPairOrder cmp k ms (cs ++ (ds ++ answered css)))
-      (append_assoc messages (added call) (enqueued calls)
-      ∙ ap (λ (ms : List (Message P)). messages ++ ms) (enqueued_split call calls))
-      (subst (IsInPairOrder cmp k ((messages ++ added call) ++ enqueued calls)) (append_assoc cs ds (answered css))
-      rest)
+      grind (arith, (append_assoc messages (added call) (enqueued calls)), (enqueued_split call calls),
+      (append_assoc cs ds (answered css)))
 
   new_history : (id : ℕ) → IsHistory cmp order k [] 0 [] (new_world id)
   new_history id = record {

@@ -2,14 +2,14 @@
 -- instants keep it.
 use Rattle.link_simulation.proofs.Common.{◌≡◌, ℕ, zero, suc, ◌+◌, ◌≤◌, List, [], ◌∷◌, ◌++◌, map, length, Bool, true}
 use Rattle.link_simulation.proofs.Common.{false, cond, not, Option, Some, None, refl, sym, ap, ◌∙◌, subst, arith}
-use Rattle.link_simulation.proofs.Common.{append_assoc, append-nil, ⊤, ◌&&◌, ◌||◌, IfSome, if◌then◌else◌, list_any}
-use Rattle.link_simulation.proofs.Common.{find, filter, AllZip, Ordering, IsTotalOrder, filter-append, map-append}
-use Rattle.link_simulation.proofs.Common.{leb-true, without_first, MomentTooLate, same_peer, Message, PairsAlike}
-use Rattle.link_simulation.proofs.Common.{same_pair, is_delivered, World, Flight, Completed, completion_of, Course}
-use Rattle.link_simulation.proofs.Common.{goes, meets, preceded, and_then, is_in_order, later_of, flows, first_waiting}
-use Rattle.link_simulation.proofs.Common.{may_start, start, start_next, is_done, complete, settle_within, settle}
-use Rattle.link_simulation.proofs.Common.{least_pair, ready, turn, wake_within, instant, fronts, out_of_flight, is_late}
-use Rattle.link_simulation.proofs.Common.{completed, arrival, flight_of, IsCompletionOf, NeverGoDown, Each, rules}
+use Rattle.link_simulation.proofs.Common.{append_assoc, append-nil, ⊤, ◌&&◌, IfSome, if◌then◌else◌, list_any, find}
+use Rattle.link_simulation.proofs.Common.{filter, AllZip, Ordering, IsTotalOrder, filter-append, map-append, leb-true}
+use Rattle.link_simulation.proofs.Common.{without_first, MomentTooLate, same_peer, Message, PairsAlike, same_pair}
+use Rattle.link_simulation.proofs.Common.{is_delivered, World, Flight, Completed, Course, goes, meets, preceded}
+use Rattle.link_simulation.proofs.Common.{and_then, is_in_order, later_of, flows, first_waiting, may_start, start}
+use Rattle.link_simulation.proofs.Common.{start_next, is_done, complete, settle_within, settle, least_pair, ready, turn}
+use Rattle.link_simulation.proofs.Common.{wake_within, instant, fronts, out_of_flight, is_late, completed, arrival}
+use Rattle.link_simulation.proofs.Common.{flight_of, IsCompletionOf, NeverGoDown, Each, rules}
 use Rattle.link_simulation.specs.Laws.PairCompletions.{NoneBefore, completes_pair}
 use Rattle.link_simulation.proofs.Simulation.Queue.{pair_like, pair_sym, find_passes, settle_none, settle_first}
 use Rattle.link_simulation.proofs.Simulation.SettlingEnds.{find_like}
@@ -47,28 +47,14 @@ taken_out {X} {Y} p f test x y (z ∷ zs) e own one =
       where
         find_in : (ws : List X) → find test ws ≡ Some x → list_any p (map f ws) ≡ true
         find_in [] e = cc
-        find_in (w ∷ ws) e = by_head (test w) e (find_in ws)
-          where
-            by_head : (b : Bool) → cond b (Some w) (find test ws) ≡ Some x
-                → (find test ws ≡ Some x → list_any p (map f ws) ≡ true) → (p (f w) || list_any p (map f ws)) ≡ true
-            by_head true e ih = let same : w ≡ x = cc in rw (ap (λ v. p (f v)) same ∙ own) refl
-            by_head false e ih = or_right (p (f w)) (ih e)
-              where
-                or_right : (a : Bool) {b : Bool} → b ≡ true → (a || b) ≡ true
-                or_right true h = refl
-                or_right false h = h
+        find_in (w ∷ ws) e = grind (arith, (find_in ws))
 
         has_one : list_any p (map f zs) ≡ true → list_any p (map f zs) ≡ true
         has_one h = h
 
         none_there : (ws : List Y) → filter p ws ≡ [] → list_any p ws ≡ false
         none_there [] e = refl
-        none_there (w ∷ ws) e = by_head (p w) e (none_there ws)
-          where
-            by_head : (b : Bool) → cond b (w ∷ filter p ws) (filter p ws) ≡ []
-                → (filter p ws ≡ [] → list_any p ws ≡ false) → (b || list_any p ws) ≡ false
-            by_head true e ih = cc
-            by_head false e ih = ih e
+        none_there (w ∷ ws) e = grind (arith, (none_there ws))
 
         not_both : {a : Bool} → a ≡ false → a ≡ true → ⊥
         not_both e g = cc
@@ -222,10 +208,8 @@ module _ {P : Type 0} (cmp : P → P → Ordering) (order : IsTotalOrder cmp) (k
             done = h.done;
             flying = Some m;
             told = h.told;
-            in_flight = flies_more w m ∙ ap (λ (ms : List (Message P)). ms ++ filter (same_pair cmp k) (m ∷ [])) none
-                ∙ rw own refl;
-            queue = h.queue ∙ ap (λ (ms : List (Message P)). h.done ++ (ms ++ waits w)) (idle_is none)
-                ∙ ap (λ (ms : List (Message P)). h.done ++ ms) (first_of_waits w m own found);
+            in_flight = grind (arith, flies_more);
+            queue = grind (arith, idle_is, first_of_waits);
             deliveries = h.deliveries;
             not_past = h.not_past;
             in_order = subst (λ (o : Option ℕ). is_in_order o (t + m.latency) ≡ true) (last_of w m h.alike own) apart.1;
@@ -324,12 +308,7 @@ module _ {P : Type 0} (cmp : P → P → Ordering) (order : IsTotalOrder cmp) (k
             let of_pair : completes_pair cmp k c ≡ true = own in
             let list_is : told_of_k (cs ++ c ∷ []) ≡ told_of_k cs ++ c ∷ [] = told_more cs c of_pair in
             let is_of : IsCompletionOf c n
-            = (
-              t,
-              (if is_delivered cmp f.message then Some (arrival cmp t f.message) else None),
-              ap (λ (x : Message P). completion_of x t
-                  (if is_delivered cmp f.message then Some (arrival cmp t f.message) else None)) taken.0,
-            )
+            = grind arith
             in
             let in_order_here : is_in_order (last w) (t + f.message.latency) ≡ true =
             subst (λ (x : Message P). is_in_order (last w) (t + x.latency) ≡ true) (sym taken.0) order_is in
@@ -343,12 +322,7 @@ module _ {P : Type 0} (cmp : P → P → Ordering) (order : IsTotalOrder cmp) (k
               deliveries = subst NeverGoDown (sym list_is)
                   (deliveries_push (last w) (told_of_k cs) c h.deliveries h.not_past
                   (ordered (is_delivered cmp f.message) in_order_here));
-              not_past = subst (λ (xs : List (Completed P)). AllNotPast (last (land w f.message)) xs) (sym list_is)
-                  (subst (λ (l : Option ℕ). AllNotPast l (told_of_k cs ++ c ∷ [])) (sym (own_last own))
-                  (not_past_push (Some (later_of (last w) (arrival cmp t f.message))) (told_of_k cs) c
-                  (not_past_later (last w) (Some (later_of (last w) (arrival cmp t f.message))) (told_of_k cs)
-                  (λ s np. raises (last w) (arrival cmp t f.message) s np) h.not_past)
-                  (reached (is_delivered cmp f.message))));
+              not_past = grind (arith, land, own_last, not_past_push, not_past_later, raises, reached);
               in_order = tt;
               alike = alike_too;
               now = h.now;

@@ -76,18 +76,11 @@ module _ {P : Type 0} (cmp : P → P → Ordering) (order : IsTotalOrder cmp) wh
       → AllZip (SameCompletion cmp) cs ds → IsInPairOrder cmp k messages ds
       → CompletesInOrder cmp k messages cs
   in_order_alike k messages cs ds same order_of =
-      let those : AllZip (SameCompletion cmp) (filter (completes_pair cmp k) cs) (filter (completes_pair cmp k) ds)
-      = zip-filter (SameCompletion cmp) (completes_pair cmp k) (completes_pair cmp k) (completes_alike k) cs ds same in
-      record {
-        done = order_of.done;
-        rest = order_of.rest;
-        messages_are = order_of.messages_are;
-        completions_are =
-            completions_of (filter (completes_pair cmp k) cs) (filter (completes_pair cmp k) ds) order_of.done those
-            order_of.completions_are;
-        deliveries =
-            never_down (filter (completes_pair cmp k) cs) (filter (completes_pair cmp k) ds) those order_of.deliveries;
-      }
+      let those = zip-filter (SameCompletion cmp) (completes_pair cmp k) (completes_pair cmp k) (completes_alike k) cs
+      ds same in
+      grind (arith, (completions_of (filter (completes_pair cmp k) cs) (filter (completes_pair cmp k) ds) order_of.done
+      those order_of.completions_are),
+      (never_down (filter (completes_pair cmp k) cs) (filter (completes_pair cmp k) ds) those order_of.deliveries))
 
   pub pairs_complete_in_order : (calls : List (Call P)) (replies : List (Reply P))
       → Agrees cmp (new_world 0) calls replies → AlwaysSoFar (CompletePairsInOrder cmp) calls replies
@@ -131,13 +124,8 @@ module _ {P : Type 0} (cmp : P → P → Ordering) (order : IsTotalOrder cmp) wh
       → Agrees cmp (new_world 0) calls replies → AlwaysSoFar (IsolateSets cmp) calls replies
   sets_are_isolated calls replies in_time agrees n inside together apart turns =
       let bridged : Bridged cmp order (new_world 0) (take n calls) (take n replies) = grind (arith, made_in_turn) in
-      let calls_made : List (Call P) = made (take n calls) (take n replies) in
+      let calls_made = made (take n calls) (take n replies) in
       let isolated = isolation cmp order inside together 0 calls_made bridged.0 bridged.1 apart
       (made_in_time (take n calls) (take n replies) (first_in_time n calls in_time)) in
-      record {
-        alone = kept_completions inside calls_made bridged.0;
-        answers = isolated.0;
-        same = kept_alike inside together calls_made (completions_in (take n replies)) bridged.0 bridged.2;
-        nothing_else =
-            nothing_alike inside together calls_made (completions_in (take n replies)) bridged.0 bridged.2 isolated.1;
-      }
+      grind (arith, (kept_alike inside together calls_made (completions_in (take n replies)) bridged.0 bridged.2),
+      (nothing_alike inside together calls_made (completions_in (take n replies)) bridged.0 bridged.2 isolated.1))

@@ -4,8 +4,8 @@ use Rattle.link_simulation.proofs.Common.{not, Some, None, refl, sym, ap, ◌∙
 use Rattle.link_simulation.proofs.Common.{Ordering, IsTotalOrder, Amount, reduced, reduced_positive, Flight, World}
 use Rattle.link_simulation.proofs.Common.{is_done, Accounts, Message, OneForEachPair, PairsAlike, SameMessage}
 use Rattle.link_simulation.proofs.Common.{same_pair, CapsAlike, AreInPairOrder, RatedFlight, Planned, drained_to}
-use Rattle.link_simulation.proofs.Common.{is_spent, left_at, rated_messages, AreFair, IsLowest, Parts, is_unlimited}
-use Rattle.link_simulation.proofs.Common.{rate_of, Follows, IsSameFlight, Tallies, leaving, staying, Each, zip-filter}
+use Rattle.link_simulation.proofs.Common.{is_spent, left_at, rated_messages, IsLowest, Parts, is_unlimited, rate_of}
+use Rattle.link_simulation.proofs.Common.{Follows, IsSameFlight, Tallies, leaving, staying, Each, zip-filter}
 use Rattle.link_simulation.proofs.Simulation.LowestTerms.{drained_by_lowest, drained_none}
 use Rattle.link_simulation.proofs.Simulation.Queue.{any_filter}
 use Rattle.link_simulation.proofs.Simulation.AlikeMessages.{unlimited_alike}
@@ -134,14 +134,7 @@ module _ {P : Type 0} (cmp : P → P → Ordering) (order : IsTotalOrder cmp) wh
       empty_at_first = λ free.
           still_empty (same.empty_at_first (sym (ap (λ (q : Planned P). q.limited) account.same) ∙ free));
     };
-    rated = record {
-      per = account.per;
-      rates = account.rates;
-      fair =
-          subst (λ (q : Planned P). AreFair cmp q.caps (rated_messages new.sending) account.per account.rates)
-          (sym account.same) account.fair;
-      rated = account.rated;
-    };
+    rated = grind arith;
     finish = account.finish;
   }
     where

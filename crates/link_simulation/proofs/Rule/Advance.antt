@@ -1,6 +1,6 @@
 -- Advancing the planned world event by event is ticking the world nanosecond by nanosecond.
-use Rattle.link_simulation.proofs.Common.{◌≡◌, ℕ, zero, suc, ◌+◌, ◌-◌, ◌<◌, ◌≤◌, List, [], length, true, false, Option}
-use Rattle.link_simulation.proofs.Common.{Some, None, refl, sym, ap, ◌∙◌, subst, arith, ◌⊎◌, inl, inr, IfSome, list_any}
+use Rattle.link_simulation.proofs.Common.{◌≡◌, ℕ, zero, suc, ◌+◌, ◌-◌, ◌<◌, ◌≤◌, List, [], length, false, Option, Some}
+use Rattle.link_simulation.proofs.Common.{None, refl, sym, ap, ◌∙◌, subst, arith, ◌⊎◌, inl, inr, IfSome, list_any}
 use Rattle.link_simulation.proofs.Common.{Ordering, IsTotalOrder, cases_lt, Completed, Course, World, and_then, goes}
 use Rattle.link_simulation.proofs.Common.{instant, is_done, last_moment, meets, preceded, ready, settle, wake, Advances}
 use Rattle.link_simulation.proofs.Common.{Settles, Wakes, at_finish, at_start, finish_stops, no_more, start_stops}
@@ -94,14 +94,11 @@ module _ {P : Type 0} (cmp : P → P → Ordering) (order : IsTotalOrder cmp) wh
   no_early_finish : (t e : ℕ) (q : Planned P) (v : World P) → IsSettled cmp t q v → q.finish ≡ Some e → e ≤ t → ⊥
   no_early_finish t e q v settled is le =
       let least = subst (λ (o : Option ℕ). IsLeastMoment (SomeSpentAt q.sending) o) is settled.follows.finish in
-      let spent : SomeSpentAt q.sending e = least.1 in
+      let spent = least.1 in
       let done = done_at cmp order (is_unlimited cmp v.caps) e t q.sending v.sending spent.0 spent.1 le
       settled.follows.tallies.sending spent.2 spent.4 in
-      let none : list_any (is_done cmp v) v.sending ≡ false = settled.none_done in
-      differ (sym done ∙ none)
-    where
-      differ : true ≡ false → ⊥
-      differ e = cc
+      let none = settled.none_done in
+      grind arith
 
   -- a planned start comes after the moment of a world at rest
   pub start_is_later : (p : Planned P) (w : World P) → StandsFor cmp p w → (e : ℕ) → p.start ≡ Some e
@@ -152,14 +149,10 @@ module _ {P : Type 0} (cmp : P → P → Ordering) (order : IsTotalOrder cmp) wh
       → p.start ≢ Some t → WakesAlike t now v course
   at_rest t now p v course rest le within settled not_now =
       let never : ¬ SomeReadyAt cmp p t = grind (arith, start_is) in
-      let moment : v.moment ≡ t = settled.follows.tallies.moment in
+      let moment = settled.follows.tallies.moment in
       let sleeps : wake cmp t v ≡ goes [] v = grind (arith, settled_wakes) in
-      let way : TicksAlike now v course = grind (arith, settled_stands) in (
-        way.0,
-        subst (λ (x : Course (Completed P) (World P)). OnFrom t now x way.0) (sym sleeps)
-            (way.0, subst (λ (s : ℕ). Ticks cmp (now - s) v way.0) moment way.1, sym (preceded_none way.0)),
-        way.2,
-      )
+      let way : TicksAlike now v course = grind (arith, settled_stands) in
+      grind (arith, (preceded_none way.0))
 
   -- a wake, and then the rest
   wake_on : (t now : ℕ) (p q : Planned P) (v : World P) (cs : List (Completed P))
@@ -196,25 +189,18 @@ module _ {P : Type 0} (cmp : P → P → Ordering) (order : IsTotalOrder cmp) wh
       → TicksAlike now w course
   start_ticks e now p w stands course not_finish next le wakes =
       let first : (p.start ≡ Some e) × IfSome p.finish (λ f. e < f) = grind (arith, earlier_start) in
-      let after : (e ≤ last_moment) × (w.moment < e) = start_is_later p w stands e first.0 in
-      let steps : (k : ℕ) × (w.moment + suc k ≡ e) = gap w.moment e after.1 in
-      let u : World P = later cmp order p w stands (suc steps.0) in
+      let after = start_is_later p w stands e first.0 in
+      let steps = gap w.moment e after.1 in
+      let u = later cmp order p w stands (suc steps.0) in
       let follows = subst (λ (s : ℕ). Follows cmp s p u) steps.1 (follows_later cmp order p w stands (suc steps.0)) in
-      let none_done : list_any (is_done cmp u) u.sending ≡ false
-      = grind (arith, none_done_before) in
-      let way : WakesAlike e now u course = wakes u follows none_done in
+      let none_done : list_any (is_done cmp u) u.sending ≡ false = grind (arith, none_done_before) in
+      let way = wakes u follows none_done in
       let instant_u : instant cmp u ≡ preceded [] (wake cmp e u) = grind (arith, instant_is, settle_quiet) in
       let ticks = joined_ticks (suc steps.0) e now w [] (wake cmp e u) way.0 (subst
       (λ (c : Course (Completed P) (World P)). Ticks cmp (suc steps.0) w c) instant_u
       (to_event p w stands e steps.0 steps.1 after.0 next)) way.1 in
-      let count : now - e + suc steps.0 ≡ now - w.moment = omega (arith, steps.1, after.1) in (
-        way.0,
-        subst (λ (k : ℕ). Ticks cmp k w way.0) count
-            (subst (λ (c : Course (Completed P) (World P)). Ticks cmp (now - e + suc steps.0) w c)
-            ((preceded_none way.0))
-            ticks),
-        way.2,
-      )
+      let count : now - e + suc steps.0 ≡ now - w.moment = omega (arith, steps.1, after.1) in
+      grind (arith, (preceded_none way.0))
 
   -- the tick to a planned finish is a settling, and the wake that follows
   finish_ticks : (e now : ℕ) (p q : Planned P) (w : World P) (stands : StandsFor cmp p w) (cs : List (Completed P))
@@ -295,11 +281,7 @@ module _ {P : Type 0} (cmp : P → P → Ordering) (order : IsTotalOrder cmp) wh
           let asleep : wake cmp now v ≡ goes [] v = wake_none cmp order (length v.waiting) now v none_ready in (
             goes [] v,
             ticks,
-            course_map (IsWoken cmp order now) (StandsNow now) course (goes [] v)
-                (λ q u h. (woken_stands now q u within h, h.0.follows.tallies.moment))
-                (subst (λ (c : Course (Completed P) (World P)). CoursesAlike cmp (IsWoken cmp order now) course c)
-                asleep
-                woken),
+            grind (arith, course_map, woken_stands),
           )
 
       by_count : (n : ℕ) → now - w.moment ≡ n → TicksAlike now w course

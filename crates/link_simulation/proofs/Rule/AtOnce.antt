@@ -1,10 +1,10 @@
 -- Before any limit, a message completes at once in both worlds.
 use Rattle.link_simulation.proofs.Common.{arith, ◌≡◌, ℕ, ◌+◌, ◌<◌, ◌≤◌, [], ◌∷◌, Bool, true, false, cond, Option, Some}
-use Rattle.link_simulation.proofs.Common.{None, refl, sym, ap, ◌∙◌, subst, ◌&&◌, nat_lt, IfSome, if◌then◌else◌}
-use Rattle.link_simulation.proofs.Common.{list_any, Ordering, IsTotalOrder, Completed, Course, World, completion_of}
-use Rattle.link_simulation.proofs.Common.{goes, is_done, last_moment, later_of, meets, raised, ready, Runs, act}
-use Rattle.link_simulation.proofs.Common.{call_enqueue, complete_at_once, completed_at_once, Message, IsLeastMoment}
-use Rattle.link_simulation.proofs.Common.{Planned, SomeReadyAt, next_event, CoursesAlike, Follows, StandsFor, Tallies}
+use Rattle.link_simulation.proofs.Common.{None, refl, ap, ◌∙◌, ◌&&◌, nat_lt, IfSome, if◌then◌else◌, list_any, Ordering}
+use Rattle.link_simulation.proofs.Common.{IsTotalOrder, Completed, Course, World, completion_of, goes, is_done}
+use Rattle.link_simulation.proofs.Common.{last_moment, later_of, meets, raised, ready, Runs, act, call_enqueue}
+use Rattle.link_simulation.proofs.Common.{complete_at_once, completed_at_once, Message, IsLeastMoment, Planned}
+use Rattle.link_simulation.proofs.Common.{SomeReadyAt, next_event, CoursesAlike, Follows, StandsFor, Tallies}
 use Rattle.link_simulation.proofs.Common.{MomentTooLate}
 use Rattle.link_simulation.proofs.Simulation.AlikeMessages.{same_itself, message_itself}
 use Rattle.link_simulation.proofs.Rule.BeforeNext.{none_ready_at}
@@ -49,17 +49,7 @@ module _ {P : Type 0} (cmp : P → P → Ordering) (order : IsTotalOrder cmp) wh
 
       stands : at_p ≡ at_u → StandsFor cmp landed_p landed_u
       stands same = record {
-        follows = subst (λ (t : ℕ). Follows cmp t landed_p landed_u) (sym follows.tallies.moment) (record {
-          tallies = tallied same;
-          rated =
-              record {
-                per = follows.rated.per;
-                rates = follows.rated.rates;
-                fair = follows.rated.fair;
-                rated = follows.rated.rated;
-              };
-          finish = follows.finish;
-        });
+        follows = grind (arith, landed_p, landed_u, tallied);
         quiet =
             record {
               none_done = none_done;

@@ -4,9 +4,9 @@ use Rattle.link_simulation.proofs.Common.{common_steps, ◌≡◌, ℕ, zero, su
 use Rattle.link_simulation.proofs.Common.{true, false, not, Option, Some, None, refl, sym, ap, ◌∙◌, subst, arith}
 use Rattle.link_simulation.proofs.Common.{add-one, ◌⊎◌, inl, inr, ◌||◌, ◌==◌, IfSome, slice_get, filter, find, list_any}
 use Rattle.link_simulation.proofs.Common.{AllZip, Ordering, IsTotalOrder, or_from, or_parts, cases_lt, not-true, Amount}
-use Rattle.link_simulation.proofs.Common.{same_peer, Flight, IsQuiet, World, flows, fronts, is_done, last_moment}
-use Rattle.link_simulation.proofs.Common.{may_start, ready, Message, PairsAlike, SameMessage, same_pair, IsLeastMoment}
-use Rattle.link_simulation.proofs.Common.{IsRated, RatedFlight, Planned, SomeReadyAt, SomeSpentAt, left_at, may_launch}
+use Rattle.link_simulation.proofs.Common.{Flight, IsQuiet, World, flows, fronts, is_done, last_moment, may_start, ready}
+use Rattle.link_simulation.proofs.Common.{Message, PairsAlike, SameMessage, same_pair, IsLeastMoment, IsRated}
+use Rattle.link_simulation.proofs.Common.{RatedFlight, Planned, SomeReadyAt, SomeSpentAt, left_at, may_launch}
 use Rattle.link_simulation.proofs.Common.{next_event, rated_messages, IsSpentAt, AreFair, Parts, is_unlimited, rate_of}
 use Rattle.link_simulation.proofs.Common.{Follows, IsSameFlight, StandsFor, Tallies, ArePositive, Drains, NextIs}
 use Rattle.link_simulation.proofs.Common.{Passes, comes_next, drain_each, drifted, never_comes, no_time, Each, each_map}
@@ -124,13 +124,9 @@ module _ {P : Type 0} (cmp : P → P → Ordering) (order : IsTotalOrder cmp) wh
   fronts_first (x ∷ ws) = (
     (
       filter (same_pair cmp x) ws,
-      rw (both_alike cmp order (same_peer cmp x.origin x.origin) true (same_peer cmp x.recipient x.recipient) true
-          (same_itself cmp order x.origin) (same_itself cmp order x.recipient))
-          refl,
+      grind (arith, both_alike, same_itself),
     ),
-    each_map (λ m. IsFront ws m × (not (same_pair cmp x m) ≡ true)) (IsFront (x ∷ ws))
-        (filter (λ n. not (same_pair cmp x n)) (fronts cmp ws)) (λ m h. later m h.0 h.1)
-        (each_filtered (IsFront ws) (λ n. not (same_pair cmp x n)) (fronts cmp ws) (fronts_first ws)),
+    grind (arith, each_map, later, each_filtered, (fronts_first ws)),
   )
     where
       later : (m : Message P) → IsFront ws m → not (same_pair cmp x m) ≡ true → IsFront (x ∷ ws) m

@@ -9,7 +9,7 @@ use Rattle.link_simulation.proofs.Common.{nothing_waits, starts, too_early, at_o
 use Rattle.link_simulation.proofs.Common.{same_pair, AreInPairOrder, Planned, next_event, next_of, queued, CoursesAlike}
 use Rattle.link_simulation.proofs.Common.{Follows, IsSettled, StandsFor, Tallies, out_of_waiting, joined, Each}
 use Rattle.link_simulation.proofs.Common.{each_map, zip-append}
-use Rattle.link_simulation.proofs.Rule.Limit.{IsReached, reaches, settled_rests}
+use Rattle.link_simulation.proofs.Rule.Limit.{reaches, settled_rests}
 use Rattle.std.proofs.lemmas.List.{append-nil}
 use Rattle.link_simulation.proofs.Simulation.Queue.{pair_sym, pair_like, find_passes, preceded_none}
 use Rattle.link_simulation.proofs.Rule.BeforeNext.{filter_none, may_alike, messages_alike}
@@ -276,19 +276,12 @@ module _ {P : Type 0} (cmp : P → P → Ordering) (order : IsTotalOrder cmp) wh
       → (c : Course (Completed P) (World P)) × Runs cmp w (call_enqueue now m) now c
       × CoursesAlike cmp (λ q v. StandsFor cmp q v × (v.moment ≡ now)) course c
   enqueues_alike p w now m course stands limits le within before enqueues =
-      let there : IsReached cmp order now p w = reaches cmp order now p w stands le within before in
-      let under : there.world.limited ≡ true = sym there.follows.tallies.limited ∙ limits in
+      let there = reaches cmp order now p w stands le within before in
+      let under = sym there.follows.tallies.limited ∙ limits in
       let c = and_then
       (start_next cmp now (waits_too there.world m) (find (same_pair cmp m) (waits_too there.world m).waiting))
       (settle cmp now) in
       let both = joins now p there.world m course limits there.follows there.none_done there.none_ready enqueues in
-      let acts : act cmp there.world (call_enqueue now m) ≡ c = rw under refl in (
-        c,
-        record {
-          ticked = goes [] there.world;
-          ticks = there.ticks;
-          acts = sym acts
-              ∙ sym (preceded_none (act cmp there.world (call_enqueue now m)));
-        },
-        settled_rests cmp order now course c within both.0 both.1,
-      )
+      let acts : act cmp there.world (call_enqueue now m) ≡ c = rw under refl in
+      grind (arith, (preceded_none (act cmp there.world (call_enqueue now m))),
+      (settled_rests cmp order now course c within both.0 both.1))

@@ -1,18 +1,17 @@
 -- A message that is done lands, and the next one of its pair may start, before the others get their rates: one account
 -- does for both.
-use Rattle.link_simulation.proofs.Common.{◌∙◌, rated_messages, arith, ◌≡◌, ℕ, ◌<◌, List, [], ◌∷◌, ◌++◌, true, false}
-use Rattle.link_simulation.proofs.Common.{Option, Some, refl, sym, ap, subst, not, filter, AllZip, Ordering}
-use Rattle.link_simulation.proofs.Common.{IsTotalOrder, not-true, each_map, zip-append, Message, Completed, Course}
-use Rattle.link_simulation.proofs.Common.{goes, last_moment, is_late, completed, preceded, Planned, RatedFlight}
-use Rattle.link_simulation.proofs.Common.{next_of, may_launch, is_spent, drained_to, Accounts, Launches, starts}
-use Rattle.link_simulation.proofs.Common.{Finishes, completes, Settles, settling, landed, launched}
+use Rattle.link_simulation.proofs.Common.{◌∙◌, arith, ◌≡◌, ℕ, ◌<◌, List, [], ◌∷◌, ◌++◌, true, false, Option, Some, refl}
+use Rattle.link_simulation.proofs.Common.{sym, ap, subst, not, filter, AllZip, Ordering, IsTotalOrder, not-true}
+use Rattle.link_simulation.proofs.Common.{each_map, zip-append, Message, Completed, Course, goes, last_moment, is_late}
+use Rattle.link_simulation.proofs.Common.{completed, preceded, Planned, RatedFlight, next_of, may_launch, is_spent}
+use Rattle.link_simulation.proofs.Common.{drained_to, Accounts, Launches, starts, Finishes, completes, Settles}
+use Rattle.link_simulation.proofs.Common.{settling, landed, launched}
 use Rattle.link_simulation.specs.Rule.Leaving.{Leaves}
 use Rattle.link_simulation.proofs.Laws.Orderly.{Stays, stayed_messages}
 use Rattle.link_simulation.proofs.Rule.Accounts.{each_passes}
 use Rattle.link_simulation.proofs.Rule.BeforeNext.{filter_none}
-use Rattle.link_simulation.proofs.Rule.OneAccount.{AreLowest, IsAccountedAt, starting, account_exists, zip_each}
-use Rattle.link_simulation.proofs.Rule.OneAccount.{accounted, all_and_one_stay, drained_still, none_and_one_leave}
-use Rattle.link_simulation.proofs.Rule.OneAccount.{none_leave}
+use Rattle.link_simulation.proofs.Rule.OneAccount.{AreLowest, starting, account_exists, zip_each, accounted}
+use Rattle.link_simulation.proofs.Rule.OneAccount.{all_and_one_stay, drained_still, none_and_one_leave, none_leave}
 
 -- two lists that both match a third one match each other
 zip_beside : {X Y Z : Type 0} (R : X → Y → Type 0) (S : X → Z → Type 0) (T : Y → Z → Type 0)
@@ -55,14 +54,9 @@ module _ {P : Type 0} (cmp : P → P → Ordering) (order : IsTotalOrder cmp) wh
       → Leaves cmp t (launched cmp t (landed cmp t here m) next) [] (launched cmp t (landed cmp t here m) next)
   none_leaves_again t old here m next ls leaves still stays =
       let none = none_done t old here ls leaves in
-      record {
-        left = sym (ap rated_messages
-            (none_and_one_leave cmp order here.next_id t here.caps here.sending next stays still none));
-        is =
-            let all = all_and_one_stay cmp order here.next_id t here.caps here.sending next stays still none in
-            let at : here.accounted ≡ t = ap (λ (q : Planned P). q.accounted) leaves.is in
-            λ i. record (launched cmp t (landed cmp t here m) next) { sending = sym all i; accounted = at i };
-      }
+      grind (arith, accounted,
+      (none_and_one_leave cmp order here.next_id t here.caps here.sending next stays still none),
+      (all_and_one_stay cmp order here.next_id t here.caps here.sending next stays still none))
 
   -- ---- the next message starts
 
@@ -112,19 +106,16 @@ module _ {P : Type 0} (cmp : P → P → Ordering) (order : IsTotalOrder cmp) wh
       × Launches cmp t (landed cmp t mid m) (next_of cmp mid m) (goes [] new)
   follows t old here new m next ls leaves lowest still found may id stays a =
       let made = account_of t old here ls leaves in
-      let there : made.0 ≡ record here { sending = made.0.sending; accounted = t; finish = made.0.finish } =
-          grind (arith, accounted) in
-      let accounted_there : IsAccountedAt cmp order t made.0 = accounted cmp order t old made.0 ls made.1 in
+      let there : made.0 ≡ record here { sending = made.0.sending; accounted = t; finish = made.0.finish } = grind
+      (arith, accounted) in
+      let accounted_there = accounted cmp order t old made.0 ls made.1 in
       let stayed : AllZip (Stays t) here.sending made.0.sending = grind arith in
       let low : AreLowest made.0.sending = grind (arith, zip_each) in
       let none_there = subst (λ (q : Planned P). filter (is_spent cmp q.caps) made.0.sending ≡ []) there
       (none_leave cmp order t made.0 accounted_there) in
       let launch = starts_beside t m next here new made.0.sending made.0.finish may id stays still
-      (none_done t old here ls leaves) stayed (drained_still cmp order t made.0 accounted_there low) none_there a in (
-        made.0,
-        made.1,
-        grind (arith, there, accounted),
-      )
+      (none_done t old here ls leaves) stayed (drained_still cmp order t made.0 accounted_there low) none_there a in
+      grind (arith, accounted)
 
   -- the first of those that are done completes, and then the others
   pub settles_first : (t : ℕ) (old mid q : Planned P) (m : Message P) (ms more : List (Message P))

@@ -1,14 +1,13 @@
 -- A launch in the planned world is a start in the world, and what is done at once leaves.
-use Rattle.link_simulation.proofs.Common.{◌<◌, subst, ◌≡◌, ℕ, ◌+◌, ◌≤◌, List, [], ◌∷◌, ◌++◌, map, length, Bool, true}
-use Rattle.link_simulation.proofs.Common.{false, cond, not, Option, Some, None, refl, sym, ap, ◌∙◌, arith, nat_le, ⊤}
-use Rattle.link_simulation.proofs.Common.{◌&&◌, filter, find, list_any, AllZip, Ordering, IsTotalOrder, not-true}
-use Rattle.link_simulation.proofs.Common.{map-append, filter-append, whole, Completed, Course, Flight, World, flows}
-use Rattle.link_simulation.proofs.Common.{goes, is_done, is_in_order, last_moment, may_start, meets, start, flight_of}
-use Rattle.link_simulation.proofs.Common.{Launches, launched, no_id, nothing_waits, starts, too_early, Message}
-use Rattle.link_simulation.proofs.Common.{OneForEachPair, SameMessage, same_pair, AreInPairOrder, Planned, next_of}
-use Rattle.link_simulation.proofs.Common.{Follows, IsSameFlight, Tallies, FlowIdsUsedUp, leb-true, le-leb}
-use Rattle.link_simulation.proofs.Common.{without_first, leaving, staying, out_of_waiting, joined, launch_then, Each}
-use Rattle.link_simulation.proofs.Common.{each_map}
+use Rattle.link_simulation.proofs.Common.{◌≡◌, ℕ, ◌+◌, ◌≤◌, List, [], ◌∷◌, ◌++◌, map, length, Bool, true, false, cond}
+use Rattle.link_simulation.proofs.Common.{not, Option, Some, None, refl, sym, ap, ◌∙◌, arith, nat_le, ⊤, ◌&&◌, filter}
+use Rattle.link_simulation.proofs.Common.{find, list_any, AllZip, Ordering, IsTotalOrder, not-true, map-append}
+use Rattle.link_simulation.proofs.Common.{filter-append, whole, Completed, Course, Flight, World, flows, goes, is_done}
+use Rattle.link_simulation.proofs.Common.{is_in_order, last_moment, may_start, meets, start, flight_of, Launches}
+use Rattle.link_simulation.proofs.Common.{launched, no_id, nothing_waits, starts, too_early, Message, OneForEachPair}
+use Rattle.link_simulation.proofs.Common.{SameMessage, same_pair, AreInPairOrder, Planned, next_of, Follows}
+use Rattle.link_simulation.proofs.Common.{IsSameFlight, Tallies, FlowIdsUsedUp, leb-true, le-leb, without_first}
+use Rattle.link_simulation.proofs.Common.{leaving, staying, out_of_waiting, joined, launch_then, Each, each_map}
 use Rattle.std.proofs.lemmas.List.{append-nil}
 use Rattle.std.proofs.lemmas.Slice.Zip.{all_zipped_more}
 use Rattle.link_simulation.proofs.Simulation.LowestTerms.{whole_lowest, drained_none}
@@ -248,26 +247,11 @@ module _ {P : Type 0} (cmp : P → P → Ordering) (order : IsTotalOrder cmp) wh
       (is_in_order (w.last_arrival y.origin y.recipient) (t + y.latency)) may_too in
       let own = find_like cmp order m y w.waiting (find_passes (same_pair cmp m) y w.waiting is) ∙ is in
       let tallies = launched_tallies t p w x y follows.tallies alike own idle in
-      record {
-        more = joining w y;
-        world = started w y;
-        launches = λ next.
-            starts_so next t fs w y may_too (by_id (nat_le last_moment w.next_id) refl follows.tallies.next_id below);
-        follows =
-            subst (λ (v : World P). Follows cmp t new v) (started_stays w y none)
-            (account_follows cmp order t (launched cmp t p x) new leavers (joined cmp w y) tallies account);
-        none = subst NoneDone (started_stays w y none) (staying_none (joined cmp w y));
-        leaves =
-            subst (λ (q : List (Flight P)). AllZip (SameMessage cmp) leavers (map (λ (g : Flight P). g.message) q))
-            (joining_leaves w y none)
-            (leavers_alike cmp order t (launched cmp t p x) new leavers (joined cmp w y) tallies account);
-        fewer = started_fewer w y own;
-      }
-    where
-      by_id : (b : Bool) → (nat_le last_moment w.next_id) ≡ b → p.next_id ≡ w.next_id → p.next_id < last_moment
-          → b ≡ false
-      by_id true e same lt = let is : last_moment ≤ w.next_id = leb-true last_moment w.next_id e in absurd (omega arith)
-      by_id false e same lt = refl
+      grind (arith, starts_so, leb-true, (started w y), (started_stays w y none),
+      (account_follows cmp order t (launched cmp t p x) new leavers (joined cmp w y) tallies account),
+      (staying_none (joined cmp w y)), (joining_leaves w y none),
+      (leavers_alike cmp order t (launched cmp t p x) new leavers (joined cmp w y) tallies account),
+      (started_fewer w y own))
   launch_alike _ w fs m _ follows none is alike = absurd alike
 
   pub start_alike : {t : ℕ} {p : Planned P} {o : Option (Message P)} {course : Course (Message P) (Planned P)}
@@ -284,20 +268,7 @@ module _ {P : Type 0} (cmp : P → P → Ordering) (order : IsTotalOrder cmp) wh
       let idle = idle_from (list_any (same_pair cmp y) (flows w))
       (is_in_order (w.last_arrival y.origin y.recipient) (t + y.latency)) may in
       let tallies = launched_tallies t p w x y follows.tallies alike own idle in
-      record {
-        starts = rw (by_id (nat_le last_moment w.next_id) refl follows.tallies.next_id below) refl;
-        follows =
-            subst (λ (v : World P). Follows cmp t new v) (started_stays w y none)
-            (account_follows cmp order t (launched cmp t p x) new leavers (joined cmp w y) tallies account);
-        none = subst NoneDone (started_stays w y none) (staying_none (joined cmp w y));
-        leaves =
-            subst (λ (q : List (Flight P)). AllZip (SameMessage cmp) leavers (map (λ (g : Flight P). g.message) q))
-            (joining_leaves w y none)
-            (leavers_alike cmp order t (launched cmp t p x) new leavers (joined cmp w y) tallies account);
-        one_each = tallies.one_each;
-      }
-    where
-      by_id : (b : Bool) → (nat_le last_moment w.next_id) ≡ b → p.next_id ≡ w.next_id → p.next_id < last_moment
-          → b ≡ false
-      by_id true e same lt = let is : last_moment ≤ w.next_id = leb-true last_moment w.next_id e in absurd (omega arith)
-      by_id false e same lt = refl
+      grind (arith, leb-true, (started_stays w y none),
+      (account_follows cmp order t (launched cmp t p x) new leavers (joined cmp w y) tallies account),
+      (staying_none (joined cmp w y)), (joining_leaves w y none),
+      (leavers_alike cmp order t (launched cmp t p x) new leavers (joined cmp w y) tallies account))

@@ -5,9 +5,8 @@ use Rattle.link_simulation.proofs.Common.{IsTotalOrder, Completed, Course, Fligh
 use Rattle.link_simulation.proofs.Common.{meets, new_world, ready, settle, EndsWith, Runs, act, call_limit, Call}
 use Rattle.link_simulation.proofs.Common.{rebalance, limited_by, linked_by, call_limit_link, none_sending, some_sending}
 use Rattle.link_simulation.proofs.Common.{Rebalances, Message, Caps, PairsAlike, CapsAlike, RatedFlight, Planned}
-use Rattle.link_simulation.proofs.Common.{new_planned, next_event, rated_messages, AreFair, rate_of, CoursesAlike}
-use Rattle.link_simulation.proofs.Common.{Follows, IsSameFlight, IsSettled, StandsFor, Tallies, Ticks, no_tick, leaving}
-use Rattle.std.proofs.Common.{lit<}
+use Rattle.link_simulation.proofs.Common.{new_planned, next_event, AreFair, rate_of, CoursesAlike, Follows}
+use Rattle.link_simulation.proofs.Common.{IsSameFlight, IsSettled, StandsFor, Tallies, Ticks, no_tick, leaving}
 use Rattle.link_simulation.specs.Simulation.Messages.{AnswerAlike, with_cap, with_link}
 use Rattle.link_simulation.proofs.Simulation.AlikeMessages.{same_itself, peers_alike}
 use Rattle.link_simulation.proofs.Rule.BeforeNext.{later, follows_later, quiet_before, passes_to}
@@ -21,12 +20,7 @@ use Rattle.link_simulation.proofs.Simulation.Queue.{preceded_none}
 pub no_sides : {P : Type 0} (cmp : P → P → Ordering) (caps : Caps P) → AreFair cmp caps [] 1 []
 no_sides cmp caps = record {
   parts = λ flow. 0;
-  fair =
-      record {
-        some_part = lit< tt;
-        within = λ k d below. absurd (nothing_in below);
-        held = λ flow limited. absurd (nothing_in limited.1.listed.1);
-      };
+  fair = grind (arith, nothing_in);
   rated = refl;
 }
   where
@@ -141,20 +135,7 @@ module _ {P : Type 0} (cmp : P → P → Ordering) (order : IsTotalOrder cmp) wh
           let gone : u.sending ≡ [] = none_flies now p.sending u.sending follows.tallies.sending empty in
           let none_done : list_any (is_done cmp x) x.sending ≡ false = ap (list_any (is_done cmp x)) gone in
           let same = settle_quiet cmp order (length x.sending + length x.waiting) now x none_done in
-          let follows_too : Follows cmp now (replanned p caps) x = record {
-            tallies = recapped_tallies now p u caps others alike follows.tallies;
-            rated = record {
-              per = 1;
-              rates = [];
-              fair =
-                  subst (λ (ms : List (RatedFlight P)). AreFair cmp caps (rated_messages ms) 1 []) (sym empty)
-                  (no_sides cmp caps);
-              rated =
-                  subst (λ (ms : List (RatedFlight P)). AllZip (λ rate f. f.rate ≡ rate_of 1 rate) [] ms) (sym empty)
-                  tt;
-            };
-            finish = follows.finish;
-          } in
+          let follows_too : Follows cmp now (replanned p caps) x = grind (arith, recapped_tallies, no_sides, rate_of) in
           let settled = looked cmp order now (replanned p caps) new x follows_too
           (each_none (is_done cmp x) x.sending none_done) looks in
           settled_rests now (goes [] new) (settle cmp now x) within
@@ -172,12 +153,9 @@ module _ {P : Type 0} (cmp : P → P → Ordering) (order : IsTotalOrder cmp) wh
       → (c : Course (Completed P) (World P)) × Runs cmp w call now c
       × CoursesAlike cmp (λ q v. StandsFor cmp q v × (v.moment ≡ now)) course c
   rebalancing p w now call new course acts alike stands le within before recaps =
-      let there : IsReached now p w = reaches now p w stands le within before in (
-        rebalance cmp now there.world (new there.world.caps),
-        grind (arith, preceded_none),
-        rebalances_there p now there.world (new p.caps) (new there.world.caps) course
-            (alike p.caps there.world.caps there.follows.tallies.caps) within there.follows there.none_ready recaps,
-      )
+      let there = reaches now p w stands le within before in
+      grind (arith, preceded_none, (rebalances_there p now there.world (new p.caps) (new there.world.caps) course
+      (alike p.caps there.world.caps there.follows.tallies.caps) within there.follows there.none_ready recaps))
 
   pub limits_alike : (p : Planned P) (w : World P) (now : ℕ) (peer : P) (egress ingress : Option ℕ)
       (course : Course (Completed P) (Planned P))

@@ -9,7 +9,7 @@ use Rattle.link_simulation.proofs.Common.{enqueues_one, CoursesAlike, StandsFor,
 use Rattle.link_simulation.proofs.Simulation.Queue.{preceded_none}
 use Rattle.link_simulation.proofs.Simulation.QuietInstants.{next_is_later}
 use Rattle.link_simulation.proofs.Rule.NextEvent.{next_is_planned, advance_runs}
-use Rattle.link_simulation.proofs.Rule.Limit.{limits_alike, links_alike, IsReached, reaches}
+use Rattle.link_simulation.proofs.Rule.Limit.{limits_alike, links_alike, reaches}
 use Rattle.link_simulation.proofs.Rule.Enqueue.{enqueues_alike}
 use Rattle.link_simulation.proofs.Rule.AtOnce.{at_once_alike}
 use Rattle.link_simulation.specs.Rule.StandsFor as stands_for
@@ -66,16 +66,9 @@ module _ {P : Type 0} (cmp : P → P → Ordering) (order : IsTotalOrder cmp) wh
       → CoursesAlike cmp (StandsAt now) course (enqueue_each cmp now v ms)
   each_at_once all_enqueued within v here = (tt, here)
   each_at_once {now = now} (one_stops {m = m} {ms = ms} {p = p} {fault = fault} one) within v here =
-      let at : v.moment ≡ now = here.1 in
+      let at = here.1 in
       let f = any_enqueue one v here.0 (omega arith) within (later_than p v now here.0 here.1) in
-      met (enqueue cmp now v m)
-      (subst (λ (c : Course (Completed P) (World P)). CoursesAlike cmp (StandsAt now) (meets fault) c)
-      (acts_at_once v (call_enqueue now m) now f.0 here.1 f.1) f.2)
-    where
-      met : (c : Course (Completed P) (World P)) → CoursesAlike cmp (StandsAt now) (meets fault) c
-          → CoursesAlike cmp (StandsAt now) (meets fault) (and_then c (λ u. enqueue_each cmp now u ms))
-      met (goes ds u) alike = absurd alike
-      met (meets other) alike = alike
+      grind (arith, (acts_at_once v (call_enqueue now m) now f.0 here.1 f.1))
   each_at_once {now = now} (enqueues_one {m = m} {ms = ms} {p = p} {q = q} {cs = cs} {rest = rest} one more) within v
       here =
       let f : Follows p v (call_enqueue now m) now (goes cs q) = grind (arith, any_enqueue, later_than) in
@@ -89,13 +82,10 @@ module _ {P : Type 0} (cmp : P → P → Ordering) (order : IsTotalOrder cmp) wh
       → w.moment ≤ now → now ≤ last_moment → IfSome (next_event p) (λ t. now < t) → EnqueuesEach cmp now ms p course
       → Follows p w (call_enqueue_all now ms) now course
   all_enqueue now ms p w course stands le within before each =
-      let there : IsReached cmp order now p w = reaches cmp order now p w stands le within before in
-      let at : there.world.moment ≡ now = there.follows.tallies.moment in
-      let here : StandsFor cmp p there.world = grind arith in (
-        enqueue_each cmp now there.world ms,
-        grind (arith, preceded_none),
-        each_at_once each within there.world (here, at),
-      )
+      let there = reaches cmp order now p w stands le within before in
+      let at = there.follows.tallies.moment in
+      let here : StandsFor cmp p there.world = grind arith in
+      grind (arith, preceded_none, (each_at_once each within there.world (here, at)))
 
   pub obeys_alike : (p : Planned P) (w : World P) (call : Call P) (now : ℕ) (course : Course (Completed P) (Planned P))
       → StandsFor cmp p w → moment_of call ≡ Some now

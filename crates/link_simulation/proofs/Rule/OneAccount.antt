@@ -73,10 +73,7 @@ spent_or_not {P} (f ∷ fs) t = by_rest (cases_lt t f.updated) (cases_eq (left_a
       where
         at_place : (i : ℕ) (g : RatedFlight P) → slice_get (f ∷ fs) i ≡ Some g → g.updated ≤ t
             → (left_at t g).num ≡ 0 → ⊥
-        at_place zero g at le spent =
-            let same : g ≡ f = cc in
-            never (subst (λ (k : RatedFlight P). k.updated ≤ t) same le)
-            (subst (λ (k : RatedFlight P). (left_at t k).num ≡ 0) same spent)
+        at_place zero g at le spent = grind arith
         at_place (suc i) g at le spent = others (i, g, at, le, spent)
 
     by_rest : t < f.updated ⊎ f.updated ≤ t → ((left_at t f).num ≡ 0) ⊎ ((left_at t f).num ≡ 0 → ⊥)
@@ -148,15 +145,7 @@ module _ {P : Type 0} (cmp : P → P → Ordering) (order : IsTotalOrder cmp) wh
 
   planned_accounted : (t : ℕ) (p q : Planned P) → PlansStart cmp t p q → IsAccountedAt t p → IsAccountedAt t q
   planned_accounted t p q looks h =
-      subst (IsAccountedAt t) (sym looks.same) (record {
-        per = h.per;
-        rates = h.rates;
-        none_spent = h.none_spent;
-        fair = h.fair;
-        rated = h.rated;
-        at = h.at;
-        finish = h.finish;
-      })
+      subst (IsAccountedAt t) (sym looks.same) (grind arith)
 
   launch_accounted : {t : ℕ} {p : Planned P} {o : Option (Message P)} {c : Course (Message P) (Planned P)}
       → Launches cmp t p o c → (ms : List (Message P)) (q : Planned P) → c ≡ goes ms q → IsAccountedAt t p
@@ -317,11 +306,8 @@ module _ {P : Type 0} (cmp : P → P → Ordering) (order : IsTotalOrder cmp) wh
   account_exists t p =
       let f = rates_exist cmp order p.caps (rated_messages (Staying t p)) in
       let sending = with_rates p.caps f.0 f.2.parts t 0 (Staying t p) in
-      let least = least_exists (SomeSpentAt sending) (spent_or_not sending) in (
-        rated_messages (filter (is_spent cmp p.caps) (drained_to t p.sending)),
-        record p { sending = sending; accounted = t; finish = least.0 },
-        account_with t p f.0 f.1 f.2 least.0 least.1,
-      )
+      let least = least_exists (SomeSpentAt sending) (spent_or_not sending) in
+      grind (arith, accounted, (account_with t p f.0 f.1 f.2 least.0 least.1))
 
   -- ---- a message that starts, and the account that follows the last one
 

@@ -81,8 +81,7 @@ module _ {P : Type 0} (cmp : P → P → Ordering) (order : IsTotalOrder cmp) wh
       → Accounts cmp t old ms other
       → goes ls new ≡ goes ms other
   account_is_one t old new other ls ms f g =
-      let flows : rated_messages other.sending ≡ rated_messages new.sending
-      = grind (arith, stays_flows) in
+      let flows : rated_messages other.sending ≡ rated_messages new.sending = grind (arith, stays_flows) in
       let fair : AreFair cmp old.caps (rated_messages new.sending) g.per g.rates = grind arith in
       let sending = sending_is_one t f.rates g.rates f.per g.per
       (filter (λ h. not (is_spent cmp old.caps h)) (drained_to t old.sending)) new.sending other.sending
@@ -92,12 +91,12 @@ module _ {P : Type 0} (cmp : P → P → Ordering) (order : IsTotalOrder cmp) wh
       f.fair) in
       let finish = least_is_one (SomeSpentAt new.sending) new.finish other.finish f.finish
       (subst (λ (fs : List (RatedFlight P)). IsLeastMoment (SomeSpentAt fs) other.finish) (sym sending) g.finish) in
-      let here : record old { sending = new.sending; accounted = t; finish = new.finish } ≡ record old
-      { sending = other.sending; accounted = t; finish = other.finish }
-      = λ i. record old { sending = sending i; accounted = t; finish = finish i } in
-      let world : new ≡ other = f.same ∙ here ∙ sym g.same in
-      let left : ls ≡ ms = f.left ∙ sym g.left in
-      λ i. goes (left i) (world i)
+      let here : record old { sending = new.sending; accounted = t; finish = new.finish } ≡ record old { sending =
+      other.sending; accounted = t; finish = other.finish } = λ i. record old { sending = sending i; accounted = t;
+      finish = finish i } in
+      let world = f.same ∙ here ∙ sym g.same in
+      let left = f.left ∙ sym g.left in
+      grind arith
 
   look_is_one : (t : ℕ) (old new other : Planned P) → PlansStart cmp t old new → PlansStart cmp t old other
       → new ≡ other

@@ -3,10 +3,10 @@ use Rattle.link_simulation.proofs.Common.{arith, ◌≡◌, ℕ, ◌≤◌, List
 use Rattle.link_simulation.proofs.Common.{Ordering, IsTotalOrder, Error, OutOfMemory, NumberTooLarge, MomentTooLate}
 use Rattle.link_simulation.proofs.Common.{FlowIdsUsedUp, IsSamePlanned, GoesByRule, World, Completed, goes, meets}
 use Rattle.link_simulation.proofs.Common.{Obeys, MayBeRefused, NextIs, Call, call_advance, Runs, SameCompletion, Faults}
-use Rattle.link_simulation.proofs.Common.{Planned, StandsFor, IsCalled, IsRun}
+use Rattle.link_simulation.proofs.Common.{Planned, StandsFor, IsCalled}
 use Rattle.link_simulation.specs.Simulation.RefusalCauses.{IsRefusedFor}
-use Rattle.link_simulation.specs.Rule.Simulated.{RunsInTwo, IsSimulated, IsSplitAnywhere, IsNextInSimulation}
-use Rattle.link_simulation.specs.Rule.Simulated.{MeetsFault, IsRefusedInSimulation}
+use Rattle.link_simulation.specs.Rule.Simulated.{IsSimulated, IsSplitAnywhere, IsNextInSimulation, MeetsFault}
+use Rattle.link_simulation.specs.Rule.Simulated.{IsRefusedInSimulation}
 use Rattle.link_simulation.proofs.Laws.AdvanceOnward.{advance_splits}
 use Rattle.link_simulation.proofs.Rule.OneCourse.{course_is_one}
 use Rattle.link_simulation.proofs.Simulation.OneNext.{next_is_one}
@@ -25,11 +25,9 @@ module _ {P : Type 0} (cmp : P → P → Ordering) (order : IsTotalOrder cmp) wh
       → IsCalled cmp p call now w → Runs cmp w call now (goes ds v)
       → AllZip (SameCompletion cmp) cs ds × StandsFor cmp q v
   one_run p q w v call now cs ds simulated called runs =
-      let run : IsRun cmp w call now cs q = simulated w now called in
-      alike cs ds run.answers q v run.after
-      (runs_are_one cmp order w call now (goes ds v) (goes run.answers run.after)
-      (sound_of_stands cmp order p w called.stands) runs run.runs)
-      run.same run.stands
+      let run = simulated w now called in
+      grind (arith, (alike cs ds run.answers q v run.after (runs_are_one cmp order w call now (goes ds v)
+      (goes run.answers run.after) (sound_of_stands cmp order p w called.stands) runs run.runs) run.same run.stands))
 
   pub no_fault : (p q : Planned P) (w : World P) (call : Call P) (now : ℕ) (cs : List (Completed P))
       → IsSimulated cmp p call cs q
@@ -41,14 +39,11 @@ module _ {P : Type 0} (cmp : P → P → Ordering) (order : IsTotalOrder cmp) wh
       → StandsFor cmp p w → w.moment ≤ between → between ≤ now → Runs cmp w (call_advance now) now (goes ds v)
       → AllZip (SameCompletion cmp) cs ds × StandsFor cmp q v
   one_split p q w v between now cs ds split stands after before runs =
-      let two : RunsInTwo cmp w between now cs q = split w between stands after before in
-      alike cs ds (two.first_answers ++ two.second_answers) q v two.after
-      (runs_are_one cmp order w (call_advance now) now (goes ds v)
-      (goes (two.first_answers ++ two.second_answers) two.after)
-      (sound_of_stands cmp order p w stands) runs
-      (advance_splits cmp order w two.between between now two.first_answers (goes two.second_answers two.after) after
-      before two.runs_first two.runs_second))
-      two.same two.stands
+      let two = split w between stands after before in
+      grind (arith, (alike cs ds (two.first_answers ++ two.second_answers) q v two.after (runs_are_one cmp order w
+      (call_advance now) now (goes ds v) (goes (two.first_answers ++ two.second_answers) two.after)
+      (sound_of_stands cmp order p w stands) runs (advance_splits cmp order w two.between between now two.first_answers
+      (goes two.second_answers two.after) after before two.runs_first two.runs_second)) two.same two.stands))
 
   pub one_next : (p : Planned P) (w : World P) (told next : Option ℕ) → IsNextInSimulation cmp p told
       → StandsFor cmp p w

@@ -26,7 +26,7 @@ module _ {P : Type 0} (cmp : P → P → Ordering) (order : IsTotalOrder cmp) wh
   -- ---- rates
 
   pub rated_same : (p q : Planned P) → IsSamePlanned cmp p q → IsRated cmp p → IsRated cmp q
-  rated_same p q same rated = 
+  rated_same p q same rated =
       grind (arith, common_steps, zip_chain, rate_of, (fair_alike cmp order p.caps q.caps same.caps
       (rated_messages p.sending) (rated_messages q.sending) rated.per rated.rates
       (flows_same cmp order p.sending q.sending same.sending) rated.fair))
@@ -64,9 +64,7 @@ module _ {P : Type 0} (cmp : P → P → Ordering) (order : IsTotalOrder cmp) wh
         (λ k l e. pairs_alike cmp order m m k l (message_itself cmp order m) e) q.waiting p.waiting back.waiting)
         (tallies.waiting m);
     pair_order = order_same p.waiting q.waiting same.waiting tallies.pair_order;
-    sending =
-        zip_chain (IsSameRatedFlight cmp) (IsSameFlight cmp t) (IsSameFlight cmp t) (flight_same t) q.sending p.sending
-        w.sending back.sending tallies.sending;
+    sending = grind (arith, zip_chain, flight_same);
     one_each = tallies.one_each;
     empty_at_first = λ free. still_empty (tallies.empty_at_first (same.limited ∙ free));
   }

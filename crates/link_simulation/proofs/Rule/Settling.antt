@@ -67,28 +67,7 @@ module _ {P : Type 0} (cmp : P → P → Ordering) (order : IsTotalOrder cmp) wh
   pub looked : (t : ℕ) (p q : Planned P) (w : World P) → Follows cmp t p w → NoneDone cmp order w → PlansStart cmp t p q
       → IsSettled cmp t q w
   looked t p q w follows none looks = record {
-    follows = subst (λ (x : Planned P). Follows cmp t x w) (sym looks.same) (record {
-      tallies = record {
-        moment = follows.tallies.moment;
-        caps = follows.tallies.caps;
-        limited = follows.tallies.limited;
-        last_arrival = follows.tallies.last_arrival;
-        next_id = follows.tallies.next_id;
-        waiting = follows.tallies.waiting;
-        pair_order = follows.tallies.pair_order;
-        sending = follows.tallies.sending;
-        one_each = follows.tallies.one_each;
-        empty_at_first = follows.tallies.empty_at_first;
-      };
-      rated =
-          record {
-            per = follows.rated.per;
-            rates = follows.rated.rates;
-            fair = follows.rated.fair;
-            rated = follows.rated.rated;
-          };
-      finish = follows.finish;
-    });
+    follows = subst (λ (x : Planned P). Follows cmp t x w) (sym looks.same) (grind arith);
     none_done = none_of (is_done cmp w) w.sending none;
     start =
         subst (λ (x : Planned P). IsLeastMoment (λ s. (t ≤ s) × SomeReadyAt cmp x s) q.start) (sym looks.same)
@@ -138,11 +117,7 @@ module _ {P : Type 0} (cmp : P → P → Ordering) (order : IsTotalOrder cmp) wh
       let fails = launch_alike cmp order launch (arrived cmp t w f.message) fs f.message
       (find (same_pair cmp f.message) w.waiting) there none refl
       (next_alike cmp order t p w m f.message follows.tallies all.0) in
-      subst (λ (c : Course (Completed P) (World P)). CourseAlike t (meets fault) c)
-      (sym
-      (first_lands n t f fs w (sym (late_alike t m f.message all.0) ∙ not_late)
-      ∙ ap (preceded (completed cmp t f.message ∷ [])) (fails (finish_within cmp n t))))
-      refl
+      grind (arith, (first_lands n t f fs w (sym (late_alike t m f.message all.0) ∙ not_late)))
   finishes_alike (completes not_late launch rest) n [] w follows none all fuel = absurd all
   finishes_alike (completes not_late launch rest) zero (f ∷ fs) w follows none all fuel = absurd (omega arith)
   finishes_alike {t = t} {p = p} (completes {m = m} {ms = ms} {more = more} {q = q} {rest = after} not_late launch rest)
@@ -154,15 +129,12 @@ module _ {P : Type 0} (cmp : P → P → Ordering) (order : IsTotalOrder cmp) wh
       let leavers = subst (λ (ns : List (Message P)). AllZip (SameMessage cmp) (ms ++ more) ns)
       (sym (map-append (λ (g : Flight P). g.message) fs on.more)) (zip-append (SameMessage cmp) ms more
       (map (λ (g : Flight P). g.message) fs) (map (λ (g : Flight P). g.message) on.more) all.1 on.leaves) in
-      let many : length (fs ++ on.more) ≡ length fs + length on.more = length-append fs on.more in
-      let enough : length on.more + length on.world.waiting ≤ length w.waiting = on.fewer in
+      let many = length-append fs on.more in
+      let enough = on.fewer in
       let ih = finishes_alike rest n (fs ++ on.more) on.world on.follows on.none leavers (omega arith) in
-      subst (λ (c : Course (Completed P) (World P)). CourseAlike t (preceded (completed cmp t m ∷ []) after) c)
-      (sym
-      (first_lands n t f fs w (sym (late_alike t m f.message all.0) ∙ not_late)
-      ∙ ap (preceded (completed cmp t f.message ∷ [])) (on.launches (finish_within cmp n t))))
-      (preceded_alike t (completed cmp t m) (completed cmp t f.message) after
-      (finish_within cmp n t (fs ++ on.more) on.world) (completed_alike t m f.message all.0) ih)
+      grind (arith, (first_lands n t f fs w (sym (late_alike t m f.message all.0) ∙ not_late)), (preceded_alike t
+      (completed cmp t m) (completed cmp t f.message) after (finish_within cmp n t (fs ++ on.more) on.world)
+      (completed_alike t m f.message all.0) ih))
 
   -- ---- settling
 

@@ -1,9 +1,9 @@
 -- A call that goes by the event rule runs in the simulation, and one that is refused is refused for a cause.
-use Rattle.link_simulation.proofs.Common.{◌≡◌, ℕ, ◌<◌, ◌≤◌, ◌^◌, List, [], ◌∷◌, Bool, true, false, cond, Some, refl}
-use Rattle.link_simulation.proofs.Common.{sym, ◌∙◌, subst, arith, IfSome, filter, AllZip, Ordering, IsTotalOrder, Error}
-use Rattle.link_simulation.proofs.Common.{Message, SameMessage, same_pair, CapsAlike, World, Completed, Course, goes}
-use Rattle.link_simulation.proofs.Common.{meets, last_moment, IsSound, Call, moment_of, Runs, Faults, Planned}
-use Rattle.link_simulation.proofs.Common.{next_event, Obeys, MayBeRefused, StandsFor, CoursesAlike, GoesByRule, IsRun}
+use Rattle.link_simulation.proofs.Common.{◌≡◌, ℕ, ◌<◌, ◌≤◌, ◌^◌, List, [], ◌∷◌, Some, refl, sym, ◌∙◌, subst, arith}
+use Rattle.link_simulation.proofs.Common.{IfSome, filter, AllZip, Ordering, IsTotalOrder, Error, Message, SameMessage}
+use Rattle.link_simulation.proofs.Common.{same_pair, CapsAlike, World, Completed, Course, goes, meets, last_moment}
+use Rattle.link_simulation.proofs.Common.{IsSound, Call, moment_of, Runs, Faults, Planned, next_event, Obeys}
+use Rattle.link_simulation.proofs.Common.{MayBeRefused, StandsFor, CoursesAlike, GoesByRule, IsRun}
 use Rattle.link_simulation.specs.Rule.Simulated.{IsSimulated, IsNextInSimulation, KeepsRange, MeetsFault}
 use Rattle.link_simulation.specs.Rule.Simulated.{IsRefusedInSimulation}
 use Rattle.link_simulation.proofs.Simulation.AlikeMessages.{same_itself, pair_itself}
@@ -25,12 +25,7 @@ module _ {P : Type 0} (cmp : P → P → Ordering) (order : IsTotalOrder cmp) wh
       → ((m : Message P) → AllZip (SameMessage cmp) (filter (same_pair cmp m) ms) (filter (same_pair cmp m) ns))
       → ms ≡ [] → ns ≡ []
   none_waits ms [] same e = refl
-  none_waits [] (n ∷ ns) same e = absurd (by_test (same_pair cmp n n) (pair_itself cmp order n) (same n))
-    where
-      by_test : (b : Bool) → b ≡ true
-          → AllZip (SameMessage cmp) [] (cond b (n ∷ filter (same_pair cmp n) ns) (filter (same_pair cmp n) ns)) → ⊥
-      by_test true is all = all
-      by_test false is all = cc
+  none_waits [] (n ∷ ns) same e = grind (arith, (pair_itself cmp order n))
   none_waits (m ∷ ms) (n ∷ ns) same e = cc
 
   caps_stand : (p : Planned P) (w : World P) → CapsAlike cmp p.caps w.caps → CapsAlike cmp w.caps w.caps

@@ -148,16 +148,7 @@ module _ {P : Type 0} (cmp : P → P → Ordering) (order : IsTotalOrder cmp) wh
   wakes_alike {t = t} (no_finish {more = more} {q = q} {fault = fault} launch finish) (suc n) w follows none picks
       fuel =
       let so = launch_starts launch w picks.0 follows none (next_is t w picks.0 picks.1) picks.2 in
-      by_course so.starts (settle cmp t (joined cmp w picks.0)) refl (round_alike finish w picks.0 none so)
-    where
-      by_course : start cmp w picks.0 ≡ goes [] (joined cmp w picks.0) → (c : Course (Completed P) (World P))
-          → settle cmp t (joined cmp w picks.0) ≡ c
-          → CourseAlike cmp order t (meets fault) c
-          → CoursesAlike cmp (IsWoken t) (meets fault) (wake_within cmp (suc n) t w)
-      by_course starts (goes ds v) e h = absurd h
-      by_course starts (meets g) e h =
-          subst (λ (c : Course (Completed P) (World P)). CoursesAlike cmp (IsWoken t) (meets fault) c)
-          (sym (wake_round n t w picks.0 (meets g) picks.1 starts e)) h
+      grind (arith, start, joined, wake_round, (joined cmp w picks.0), (round_alike finish w picks.0 none so))
   wakes_alike {t = t} (starts_one launch finish wakes) zero w follows none picks fuel =
       absurd (no_fuel t w picks.0 (next_is t w picks.0 picks.1) fuel)
   wakes_alike {t = t}

@@ -1,13 +1,13 @@
 -- Settling what one pair starts touches that pair alone, and leaves it unable to start again at that moment.
 use Rattle.link_simulation.proofs.Common.{◌≡◌, ℕ, zero, suc, ◌+◌, ◌≤◌, List, [], ◌∷◌, ◌++◌, length, Bool, true, false}
-use Rattle.link_simulation.proofs.Common.{cond, not, Option, Some, None, refl, sym, ap, ◌∙◌, subst, arith}
-use Rattle.link_simulation.proofs.Common.{length-append, nat_le, ◌&&◌, filter, find, list_any, Ordering, IsTotalOrder}
-use Rattle.link_simulation.proofs.Common.{map-append, list_any-append, same_peer, Completed, Course, Flight, World}
-use Rattle.link_simulation.proofs.Common.{flows, fronts, goes, is_done, last_moment, may_start, meets, ready, EndsWith}
-use Rattle.link_simulation.proofs.Common.{is_late, completed, flight_of, Message, same_pair, FlowIdsUsedUp}
-use Rattle.link_simulation.proofs.Common.{MomentTooLate, out_of_waiting, joined, arrived, launch_then, finish_within}
-use Rattle.link_simulation.proofs.Common.{Each, each_map, each_joined, filter_swap, filter_stronger}
-use Rattle.link_simulation.proofs.Common.{length-without_first, or_left, or_right, without_first}
+use Rattle.link_simulation.proofs.Common.{cond, not, Option, Some, None, refl, sym, ap, ◌∙◌, arith, length-append}
+use Rattle.link_simulation.proofs.Common.{nat_le, ◌&&◌, filter, find, list_any, Ordering, IsTotalOrder, map-append}
+use Rattle.link_simulation.proofs.Common.{list_any-append, same_peer, Completed, Course, Flight, World, flows, fronts}
+use Rattle.link_simulation.proofs.Common.{goes, is_done, last_moment, may_start, meets, ready, EndsWith, is_late}
+use Rattle.link_simulation.proofs.Common.{completed, flight_of, Message, same_pair, FlowIdsUsedUp, MomentTooLate}
+use Rattle.link_simulation.proofs.Common.{out_of_waiting, joined, arrived, launch_then, finish_within, Each, each_map}
+use Rattle.link_simulation.proofs.Common.{each_joined, filter_swap, filter_stronger, length-without_first, or_left}
+use Rattle.link_simulation.proofs.Common.{or_right, without_first}
 use Rattle.link_simulation.proofs.Simulation.Queue.{pair_like, pair_sym, find_passes}
 use Rattle.link_simulation.proofs.Rule.BeforeNext.{IsFront, fronts_first, first_found}
 use Rattle.link_simulation.proofs.Simulation.SettlingEnds.{ends_preceded, ends_cond, length_without, find_like}
@@ -156,10 +156,7 @@ module _ {P : Type 0} (cmp : P → P → Ordering) (order : IsTotalOrder cmp) (y
           by_may true e =
               ends_cond (IsAfter t (arrived cmp t w f.message)) (nat_le last_moment w.next_id) (meets FlowIdsUsedUp) _
               tt (by_done (is_done cmp (arrived cmp t w f.message) (flight_of x)) fewer)
-          by_may false e =
-              ih fs (arrived cmp t w f.message) own.1 (omega arith)
-              (λ k z found. let same : x ≡ z = cc in
-              subst (λ (m : Message P). may_start cmp t (arrived cmp t w f.message) m ≡ false) same e)
+          by_may false e = grind arith
 
   -- ---- who is ready afterwards
 

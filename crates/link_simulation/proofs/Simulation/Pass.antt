@@ -66,7 +66,7 @@ module _ {P : Type 0} (cmp : P → P → Ordering) (order : IsTotalOrder cmp) wh
       → EndsWith Q (complete cmp t w f.message))
       → (n : ℕ) (w : World P) → Q w → EndsWith Q (settle_within cmp n t w)
   settle_keeps Q t step zero w h = h
-  settle_keeps Q t step (suc n) w h = 
+  settle_keeps Q t step (suc n) w h =
       search (rules, settle_none, settle_first, ends_and_then, (settle_keeps Q t step n))
 
   settle_waits : (n t : ℕ) (w : World P) → WaitAtMost n w → EndsWith (WaitAtMost n) (settle cmp t w)

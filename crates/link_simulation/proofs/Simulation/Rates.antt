@@ -106,19 +106,13 @@ module _ {P : Type 0} (cmp : P → P → Ordering) where
         by_caps (Some c) d k l out del into between e =
             let side : Side = record { cap = c; users = places_from 0 (by_egress m) ms } in (
               side,
-              Contains-append_left (egress_side cmp caps ms m ++ ingress_side cmp caps ms m) (link_side cmp caps ms m)
-                  side
-                  (Contains-append_left (egress_side cmp caps ms m) (ingress_side cmp caps ms m) side
-                  (rw out (one_in side))),
+              grind (arith, Contains-append_left, one_in),
               place_here (by_egress m) ms i m at (itself m.origin),
             )
         by_caps None true (Some c) l out del into between e =
             let side : Side = record { cap = c; users = places_from 0 (by_ingress m) ms } in (
               side,
-              Contains-append_left (egress_side cmp caps ms m ++ ingress_side cmp caps ms m) (link_side cmp caps ms m)
-                  side
-                  (Contains-append_right (egress_side cmp caps ms m) (ingress_side cmp caps ms m) side
-                  (rw (del, into) (one_in side))),
+              grind (arith, Contains-append_left, Contains-append_right, one_in),
               place_here (by_ingress m) ms i m at (rw (del, itself m.recipient) refl),
             )
         by_caps None d k (Some c) out del into between e =

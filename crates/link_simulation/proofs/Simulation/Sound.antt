@@ -1,12 +1,12 @@
 -- Each call leads from a sound world to a sound world, and to one alone.
-use Rattle.link_simulation.proofs.Common.{is_late, ◌≡◌, ℕ, ◌+◌, List, [], ◌∷◌, ◌++◌, length, Bool, true, false, cond}
-use Rattle.link_simulation.proofs.Common.{Option, Some, None, refl, sym, ◌∙◌, subst, arith, ⊤, ◌&&◌, nat_lt}
-use Rattle.link_simulation.proofs.Common.{if◌then◌else◌, Ordering, IsTotalOrder, map-append, not-true, without_first}
-use Rattle.link_simulation.proofs.Common.{same_peer, Completed, Course, EndsWith, Flight, IsQuiet, World, and_then}
-use Rattle.link_simulation.proofs.Common.{complete, first_waiting, flows, fronts, goes, instant, is_done, is_idle}
-use Rattle.link_simulation.proofs.Common.{last_moment, later_of, least_pair, may_start, meets, new_world, raised, ready}
-use Rattle.link_simulation.proofs.Common.{settle, start, start_next, turn, wake, out_of_flight, completed, Call, Runs}
-use Rattle.link_simulation.proofs.Common.{act, call_advance, call_enqueue, call_limit, call_enqueue_all, call_next}
+use Rattle.link_simulation.proofs.Common.{◌≡◌, ℕ, ◌+◌, List, [], ◌∷◌, ◌++◌, length, Bool, true, false, cond, Option}
+use Rattle.link_simulation.proofs.Common.{Some, None, refl, sym, ◌∙◌, subst, arith, ⊤, ◌&&◌, nat_lt, if◌then◌else◌}
+use Rattle.link_simulation.proofs.Common.{Ordering, IsTotalOrder, map-append, not-true, without_first, same_peer}
+use Rattle.link_simulation.proofs.Common.{Completed, Course, EndsWith, Flight, IsQuiet, World, and_then, complete}
+use Rattle.link_simulation.proofs.Common.{first_waiting, flows, fronts, goes, instant, is_done, is_idle, last_moment}
+use Rattle.link_simulation.proofs.Common.{later_of, least_pair, may_start, meets, new_world, raised, ready, settle}
+use Rattle.link_simulation.proofs.Common.{start, start_next, turn, wake, out_of_flight, completed, Call, Runs, act}
+use Rattle.link_simulation.proofs.Common.{call_advance, call_enqueue, call_limit, call_enqueue_all, call_next}
 use Rattle.link_simulation.proofs.Common.{complete_at_once, enqueue, rebalance, limited_by, call_limit_link, linked_by}
 use Rattle.link_simulation.proofs.Common.{Caps, Message, OneForEachPair, same_pair, CapsAlike, PairsAlike, ArePositive}
 use Rattle.link_simulation.proofs.Common.{Drains, IsSound, Ticks, no_tick, one_tick, tick_faults, MomentTooLate}
@@ -49,14 +49,10 @@ module _ {P : Type 0} (cmp : P → P → Ordering) (order : IsTotalOrder cmp) wh
 
   complete_fit : (t : ℕ) (w : World P) (m : Message P) → IsFit w → EndsWith IsFit (complete cmp t w m)
   complete_fit t w m fit =
-      let landed : World P = out_of_flight cmp t w m in
-      ends_cond IsFit (is_late cmp t m) (meets MomentTooLate) _ tt
-      (ends_preceded IsFit (completed cmp t m ∷ []) (start_next cmp t landed (first_waiting cmp landed m))
-      (next_fit t landed (first_waiting cmp landed m)
-      (record {
-        positive = positive_without (is_done cmp w) w.sending fit.positive;
-        one_each = one_without cmp order (is_done cmp w) w.sending fit.one_each;
-      })))
+      let landed = out_of_flight cmp t w m in
+      grind (arith, ends_cond, (ends_preceded IsFit (completed cmp t m ∷ []) (start_next cmp t landed (first_waiting cmp
+      landed m)) (next_fit t landed (first_waiting cmp landed m) (record { positive = positive_without (is_done cmp w)
+      w.sending fit.positive; one_each = one_without cmp order (is_done cmp w) w.sending fit.one_each; }))))
 
   settle_fit : (t : ℕ) (w : World P) → IsFit w → EndsWith IsFit (settle cmp t w)
   settle_fit t w fit = search (settle_keeps, complete_fit)

@@ -1,7 +1,7 @@
-use Rattle.link_simulation.proofs.Common.{arith, ◌≡◌, ℕ, List, [], ◌∷◌, ◌++◌, true, Some, refl, ap, sym, ◌∙◌, subst}
-use Rattle.link_simulation.proofs.Common.{AllZip, nat_cmp, Message, World, Completed, goes, new_world, Call}
-use Rattle.link_simulation.proofs.Common.{call_enqueue, moment_of, Runs, Answers, no_calls, call_answers}
-use Rattle.link_simulation.proofs.Common.{SameCompletion, reply_done, message, arrives, AreInTurn, Completes}
+use Rattle.link_simulation.proofs.Common.{arith, ◌≡◌, ℕ, List, [], ◌∷◌, true, Some, refl, ap, sym, ◌∙◌, subst, AllZip}
+use Rattle.link_simulation.proofs.Common.{nat_cmp, Message, World, Completed, goes, new_world, Call, call_enqueue}
+use Rattle.link_simulation.proofs.Common.{moment_of, Runs, Answers, no_calls, call_answers, SameCompletion, reply_done}
+use Rattle.link_simulation.proofs.Common.{message, arrives, AreInTurn}
 use Rattle.link_simulation.proofs.model.meanings.replies_that_break_a_promise_are_told.Goals as goal
 
 abbrev first : Call ℕ
@@ -39,9 +39,4 @@ returns-clause-others c isolated = grind arith
 pub returns-clause-order : goal.returns-clause-order
 returns-clause-order c h =
     let told = h (message 1 2 1 0) (turns (message 1 2 1 0) (arrives (message 1 2 2 0) 0 0 ∷ [])) in
-    by_done told.done told.rest told.messages_are told.completions_are
-  where
-    by_done : (done rest : List (Message ℕ)) → message 1 2 1 0 ∷ [] ≡ done ++ rest
-        → AllZip (Completes nat_cmp) (arrives (message 1 2 2 0) 0 0 ∷ []) done → ⊥
-    by_done [] rest is all = all
-    by_done (d ∷ ds) rest is all = grind arith
+    grind arith
