@@ -1,13 +1,13 @@
 -- One message alone under caps takes its least time at the least of them.
-use Rattle.link_simulation.proofs.Common.{◌≡◌, ℕ, zero, suc, ◌+◌, ◌-◌, ◌<◌, ◌≤◌, List, [], ◌∷◌, length, true, false}
-use Rattle.link_simulation.proofs.Common.{Option, Some, Contains, refl, subst, arith, add-one, ◌||◌, ◌==◌, list_any}
-use Rattle.link_simulation.proofs.Common.{Ordering, IsTotalOrder, eq-eqb, All-contains, Amount, whole, reduced, drained}
-use Rattle.link_simulation.proofs.Common.{Side, load, World, Flight, goes, flight_of, last_moment, is_in_order, is_done}
-use Rattle.link_simulation.proofs.Common.{is_late, completed, completion_of, instant, settle, IsQuiet, out_of_flight}
-use Rattle.link_simulation.proofs.Common.{call_advance, Runs, Message, Caps, is_delivered, AreFair, capped_sides}
-use Rattle.link_simulation.proofs.Common.{is_unlimited, Drains, Passes, no_time, quiet_tick, Ticks, NextIs, comes_next}
-use Rattle.link_simulation.proofs.Common.{rules}
-use Rattle.std.proofs.Common.{◌↔◌}
+use Rattle.link_simulation.proofs.Common.{◌*◌, sym, ◌∙◌, All-from_contains, ◌≡◌, ℕ, zero, suc, ◌+◌, ◌-◌, ◌<◌, ◌≤◌, List}
+use Rattle.link_simulation.proofs.Common.{[], ◌∷◌, length, true, false, Option, Some, Contains, refl, subst, arith}
+use Rattle.link_simulation.proofs.Common.{add-one, ◌||◌, ◌==◌, list_any, Ordering, IsTotalOrder, eq-eqb, All-contains}
+use Rattle.link_simulation.proofs.Common.{Amount, whole, reduced, drained, Side, load, World, Flight, goes, flight_of}
+use Rattle.link_simulation.proofs.Common.{last_moment, is_in_order, is_done, is_late, completed, completion_of, instant}
+use Rattle.link_simulation.proofs.Common.{settle, IsQuiet, out_of_flight, call_advance, Runs, Message, Caps}
+use Rattle.link_simulation.proofs.Common.{is_delivered, AreFair, capped_sides, is_unlimited, Drains, Passes, no_time}
+use Rattle.link_simulation.proofs.Common.{quiet_tick, Ticks, NextIs, comes_next, rules}
+use Rattle.std.proofs.Common.{le_refl, ◌↔◌}
 use Rattle.std.proofs.lemmas.Bool.{ne_eqb}
 use Rattle.link_simulation.specs.Laws.Alone.{IsTimeFor, IsLeastCap, MayGoAlone, IsDoneAfter}
 use Rattle.fair_rates.specs.Numbers.LowestTerms.{reduced_lowest, whole_IsReduced}
@@ -48,8 +48,21 @@ module _ {P : Type 0} (cmp : P → P → Ordering) (order : IsTotalOrder cmp) wh
           parts = λ _. cap;
           fair = record {
             some_part = omega arith;
-            within = grind (arith, All-contains, alone_load);
-            held = grind (arith, own_side, alone_load);
+            within =
+                All-from_contains (λ (t : Side). load (λ _. cap) t ≤ t.cap * 1) sides
+                (λ t has. let all : cap ≤ t.cap = All-contains (λ (t : Side). cap ≤ t.cap) sides t is.least has in rw
+                (alone_load cap t has) (omega arith));
+            held = λ flow limited. record {
+              side = is.side;
+              uses =
+                  record {
+                    listed = is.used;
+                    used = subst (λ users. Contains users flow) ((own_side limited.0 limited.1.listed).0 ∙ sym own.0)
+                        limited.1.used;
+                  };
+              full = alone_load cap is.side is.used ∙ omega (arith, is.own);
+              greatest = λ k d l. le_refl cap;
+            };
           };
           rated = rw own.1 refl;
         }

@@ -155,7 +155,15 @@ module _ {P : Type 0} (cmp : P → P → Ordering) (order : IsTotalOrder cmp) (i
       → IsPart last id w → mine m ≡ false
       → find (same_pair cmp m) w.waiting ≡ o → IsPartOf (start_next cmp t w o) (goes [] (part last id w))
   start_next_other t w m None last id is off e = (last, id, is, refl)
-  start_next_other t w m (Some x) last id is off e = grind (arith, find_passes, start_other, find_like, start)
+  start_next_other t w m (Some x) last id is off e =
+      let same : same_pair cmp m x ≡ true = find_passes (same_pair cmp m) x w.waiting e in
+      by_may (may_start cmp t w x)
+      (start_other w x last id is (find_like cmp order m x w.waiting same ∙ e) (sym (alike m x same) ∙ off))
+    where
+      by_may : (b : Bool) → IsPartOf (start cmp w x) (goes [] (part last id w))
+          → IsPartOf (cond b (start cmp w x) (goes [] w)) (goes [] (part last id w))
+      by_may true h = h
+      by_may false h = (last, id, is, refl)
 
   -- ---- a completion
 
@@ -182,14 +190,28 @@ module _ {P : Type 0} (cmp : P → P → Ordering) (order : IsTotalOrder cmp) (i
       inner =
           let at : ℕ = arrival cmp t f.message in
           let higher : P → P → Option ℕ = raised cmp last f.message at in
-          let still : IsPart higher id (out_of_flight cmp t w f.message) = grind (arith, raised_same, each_without) in
+          let still : IsPart higher id (out_of_flight cmp t w f.message) = record {
+            arrivals = λ n own_n. raised_same f.message n at last w id is own_n;
+            ids = is.ids;
+            sending = each_without (λ (g : Flight P). T g.message) (is_done cmp w) w.sending is.sending;
+            waiting = is.waiting;
+          } in
           let next : Option (Message P) = find (same_pair cmp f.message) w.waiting in
-          let same_next = find_kept mine (same_pair cmp f.message) w.waiting (λ n s. sym (alike f.message n s) ∙ own) in
-          let same_landed = part_alike w higher id _ _ (filter mine w.waiting) (filter mine w.waiting)
+          let same_next : find (same_pair cmp f.message) (filter mine w.waiting) ≡ next =
+          find_kept mine (same_pair cmp f.message) w.waiting (λ n s. sym (alike f.message n s) ∙ own) in
+          let same_landed : out_of_flight cmp t (part last id w) f.message
+          ≡ part higher id (out_of_flight cmp t w f.message)
+          = part_alike w higher id _ _ (filter mine w.waiting) (filter mine w.waiting)
           (sym (first_kept in_flight (is_done cmp w) w.sending f first own).1) refl in
-          let base = start_next_mine t (out_of_flight cmp t w f.message) f.message next higher id still own refl in
-          let one = subst (λ (z : World P). IsPartOf (start_next cmp t (out_of_flight cmp t w f.message) next)
-          (start_next cmp t z next)) (sym same_landed) base in
+          let base : IsPartOf (start_next cmp t (out_of_flight cmp t w f.message) next)
+          (start_next cmp t (part higher id (out_of_flight cmp t w f.message)) next)
+          = start_next_mine t (out_of_flight cmp t w f.message) f.message next higher id still own refl in
+          let one : IsPartOf (start_next cmp t (out_of_flight cmp t w f.message) next)
+          (start_next cmp t (out_of_flight cmp t (part last id w) f.message) next)
+          = subst
+          (λ (z : World P). IsPartOf (start_next cmp t (out_of_flight cmp t w f.message) next)
+          (start_next cmp t z next))
+          (sym same_landed) base in
           subst
           (λ (o : Option (Message P)). IsPartOf (start_next cmp t (out_of_flight cmp t w f.message) next)
           (start_next cmp t (out_of_flight cmp t (part last id w) f.message) o))
@@ -211,7 +233,17 @@ module _ {P : Type 0} (cmp : P → P → Ordering) (order : IsTotalOrder cmp) (i
           (start_next cmp t (out_of_flight cmp t (part last id w) f.message)
           (first_waiting cmp (out_of_flight cmp t (part last id w) f.message) f.message))))
       by_late true h = tt
-      by_late false h = grind (arith, part_preceded)
+      by_late false h =
+          let c : Completed P = completed cmp t f.message in
+          let alone : filter in_done (c ∷ []) ≡ c ∷ [] = rw own refl in
+          let big : Course (Completed P) (World P) =
+          start_next cmp t (out_of_flight cmp t w f.message)
+          (first_waiting cmp (out_of_flight cmp t w f.message) f.message) in
+          let small : Course (Completed P) (World P) =
+          start_next cmp t (out_of_flight cmp t (part last id w) f.message)
+          (first_waiting cmp (out_of_flight cmp t (part last id w) f.message) f.message) in
+          subst (λ (cs : List (Completed P)). IsPartOf (preceded (c ∷ []) big) (preceded cs small)) alone
+          (part_preceded (c ∷ []) big small h)
 
   complete_other : (t : ℕ) (w : World P) (f : Flight P) (last : P → P → Option ℕ) (id : ℕ) → IsPart last id w
       → find (is_done cmp w) w.sending ≡ Some f → mine f.message ≡ false
@@ -228,15 +260,25 @@ module _ {P : Type 0} (cmp : P → P → Ordering) (order : IsTotalOrder cmp) (i
       by_late true = tt
       by_late false =
           let c : Completed P = completed cmp t f.message in
-          let still : IsPart last id (out_of_flight cmp t w f.message) = grind (arith, raised_other, each_without) in
-          let same = part_alike w last id _ _ (filter mine w.waiting) (filter mine w.waiting)
+          let still : IsPart last id (out_of_flight cmp t w f.message) = record {
+            arrivals = λ n own_n.
+                is.arrivals n own_n ∙ sym (raised_other f.message n (arrival cmp t f.message) w.last_arrival off own_n);
+            ids = is.ids;
+            sending = each_without (λ (g : Flight P). T g.message) (is_done cmp w) w.sending is.sending;
+            waiting = is.waiting;
+          } in
+          let same : part last id (out_of_flight cmp t w f.message) ≡ part last id w
+          = part_alike w last id _ _ (filter mine w.waiting) (filter mine w.waiting)
           (first_dropped in_flight (is_done cmp w) w.sending f first off) refl in
           let nothing : filter in_done (c ∷ []) ≡ [] = rw off refl in
-          let big = start_next cmp t (out_of_flight cmp t w f.message)
+          let big : Course (Completed P) (World P) =
+          start_next cmp t (out_of_flight cmp t w f.message)
           (first_waiting cmp (out_of_flight cmp t w f.message) f.message) in
-          let base = start_next_other t (out_of_flight cmp t w f.message) f.message
+          let base : IsPartOf big (goes [] (part last id (out_of_flight cmp t w f.message)))
+          = start_next_other t (out_of_flight cmp t w f.message) f.message
           (first_waiting cmp (out_of_flight cmp t w f.message) f.message) last id still off refl in
-          let one = subst (λ (z : World P). IsPartOf big (goes [] z)) same base in
+          let one : IsPartOf big (goes [] (part last id w)) =
+          subst (λ (z : World P). IsPartOf big (goes [] z)) same base in
           subst (λ (cs : List (Completed P)). IsPartOf (preceded (c ∷ []) big) (preceded cs (goes [] (part last id w))))
           nothing (part_preceded (c ∷ []) big (goes [] (part last id w)) one)
 
@@ -332,8 +374,19 @@ module _ {P : Type 0} (cmp : P → P → Ordering) (order : IsTotalOrder cmp) (i
 
   settle_waits : (n k t : ℕ) (w : World P) → WaitsAtMost k w → EndsWith (WaitsAtMost k) (settle_within cmp n t w)
   settle_waits zero k t w h = h
-  settle_waits (suc n) k t w h =
-      grind (arith, settle_none, settle_first, ends_and_then, complete_waits, (settle_waits n k t))
+  settle_waits (suc n) k t w h = by_first (find (is_done cmp w) w.sending) refl (λ v g. settle_waits n k t v g)
+    where
+      by_first : (o : Option (Flight P)) → find (is_done cmp w) w.sending ≡ o
+          → ((v : World P) → WaitsAtMost k v → EndsWith (WaitsAtMost k) (settle_within cmp n t v))
+          → EndsWith (WaitsAtMost k) (settle_within cmp (suc n) t w)
+      by_first None e ih =
+          subst (λ (c : Course (Completed P) (World P)). EndsWith (WaitsAtMost k) c)
+          (sym (settle_none cmp order n t w e)) h
+      by_first (Some f) e ih =
+          subst (λ (c : Course (Completed P) (World P)). EndsWith (WaitsAtMost k) c)
+          (sym (settle_first cmp order n t w f e))
+          (ends_and_then (WaitsAtMost k) (WaitsAtMost k) (complete cmp t w f.message) (settle_within cmp n t)
+          (complete_waits k t w f.message h) ih)
 
   ends_both : (Q R : World P → Type 0) (c : Course (Completed P) (World P)) → EndsWith Q c → EndsWith R c
       → EndsWith (λ v. Q v × R v) c

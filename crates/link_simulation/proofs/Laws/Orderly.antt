@@ -12,12 +12,12 @@ use Rattle.link_simulation.proofs.Common.{Settles, settling, Rebalances, none_se
 use Rattle.link_simulation.proofs.Common.{no_launch, launches, Advances, no_more, at_finish, at_start, finish_stops}
 use Rattle.link_simulation.proofs.Common.{start_stops, launched, landed, with_queued, Obeys, EnqueuesEach, all_enqueued}
 use Rattle.link_simulation.proofs.Common.{one_stops, enqueues_one, IsOrderly, common_steps}
+use Rattle.link_simulation.proofs.Rule.SameSteps.{linked_by_same, limited_by_same}
 use Rattle.link_simulation.proofs.Simulation.AlikeMessages.{same_itself}
 use Rattle.link_simulation.proofs.Simulation.Queue.{one_pair_more}
 use Rattle.link_simulation.proofs.Simulation.SettlingEnds.{ends_preceded}
 use Rattle.link_simulation.proofs.Simulation.Sound.{raised_peerwise}
 use Rattle.link_simulation.proofs.Rule.Limit.{no_sides}
-use Rattle.link_simulation.proofs.Rule.SameSteps.{limited_by_same}
 use Rattle.link_simulation.proofs.Rule.Launch.{pair_order_without}
 use Rattle.link_simulation.proofs.Rule.Enqueue.{queued_in_order}
 
@@ -176,7 +176,9 @@ module _ {P : Type 0} (cmp : P → P → Ordering) (order : IsTotalOrder cmp) wh
 
   pub linked_by_alike : (caps : Caps P) (origin recipient : P) (cap : Option ℕ) → CapsAlike cmp caps caps
       → CapsAlike cmp (linked_by cmp caps origin recipient cap) (linked_by cmp caps origin recipient cap)
-  linked_by_alike caps origin recipient cap h = grind arith
+  linked_by_alike caps origin recipient cap h =
+      linked_by_same cmp order caps caps origin recipient origin recipient cap h (same_itself cmp order origin)
+      (same_itself cmp order recipient)
 
   call_orderly : (p : Planned P) (call : Call P) (c : Course (Completed P) (Planned P)) → Obeys cmp p call c
       → IsOrderly cmp p → EndsWith (IsOrderly cmp) c

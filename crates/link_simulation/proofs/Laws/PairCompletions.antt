@@ -1,15 +1,15 @@
 -- The messages of a pair complete in the order in which they were enqueued, and are delivered in it.
-use Rattle.link_simulation.proofs.Common.{common_steps, ◌≡◌, ℕ, suc, ◌+◌, ◌-◌, ◌≤◌, List, [], ◌∷◌, ◌++◌, map, Bool}
-use Rattle.link_simulation.proofs.Common.{true, false, cond, Option, Some, None, refl, sym, ap, ◌∙◌, subst, arith}
-use Rattle.link_simulation.proofs.Common.{append_assoc, append-nil, ◌&&◌, IfSome, nat_lt, if◌then◌else◌, filter, AllZip}
-use Rattle.link_simulation.proofs.Common.{Ordering, IsTotalOrder, filter-append, leb-true, le-leb, MomentTooLate}
-use Rattle.link_simulation.proofs.Common.{Message, Caps, PairsAlike, same_pair, World, Flight, Completed, completion_of}
-use Rattle.link_simulation.proofs.Common.{Course, goes, meets, last_moment, and_then, is_in_order, later_of, new_world}
-use Rattle.link_simulation.proofs.Common.{raised, instant, IsSound, Drains, Ticks, no_tick, one_tick, tick_faults, Call}
-use Rattle.link_simulation.proofs.Common.{call_limit, call_limit_link, call_enqueue, call_advance, complete_at_once}
-use Rattle.link_simulation.proofs.Common.{act, moment_of, Runs, call_enqueue_all, call_next, limited_by, linked_by}
-use Rattle.link_simulation.proofs.Common.{enqueue, enqueue_each, enqueued, answered, IsCompletionOf, NeverGoDown}
-use Rattle.link_simulation.proofs.Common.{Answers, no_calls, call_answers}
+use Rattle.link_simulation.proofs.Common.{preceded, EndsWith, common_steps, ◌≡◌, ℕ, suc, ◌+◌, ◌-◌, ◌≤◌, List, [], ◌∷◌}
+use Rattle.link_simulation.proofs.Common.{◌++◌, map, Bool, true, false, cond, Option, Some, None, refl, sym, ap, ◌∙◌}
+use Rattle.link_simulation.proofs.Common.{subst, arith, append_assoc, append-nil, ◌&&◌, IfSome, nat_lt, if◌then◌else◌}
+use Rattle.link_simulation.proofs.Common.{filter, AllZip, Ordering, IsTotalOrder, filter-append, leb-true, le-leb}
+use Rattle.link_simulation.proofs.Common.{MomentTooLate, Message, Caps, PairsAlike, same_pair, World, Flight, Completed}
+use Rattle.link_simulation.proofs.Common.{completion_of, Course, goes, meets, last_moment, and_then, is_in_order}
+use Rattle.link_simulation.proofs.Common.{later_of, new_world, raised, instant, IsSound, Drains, Ticks, no_tick}
+use Rattle.link_simulation.proofs.Common.{one_tick, tick_faults, Call, call_limit, call_limit_link, call_enqueue}
+use Rattle.link_simulation.proofs.Common.{call_advance, complete_at_once, act, moment_of, Runs, call_enqueue_all}
+use Rattle.link_simulation.proofs.Common.{call_next, limited_by, linked_by, enqueue, enqueue_each, enqueued, answered}
+use Rattle.link_simulation.proofs.Common.{IsCompletionOf, NeverGoDown, Answers, no_calls, call_answers}
 use Rattle.link_simulation.specs.Simulation.Calls.{join}
 use Rattle.link_simulation.specs.Laws.PairCompletions.{IsInPairOrder}
 use Rattle.link_simulation.proofs.Simulation.Queue.{pair_sym}
@@ -208,8 +208,21 @@ module _ {P : Type 0} (cmp : P → P → Ordering) (order : IsTotalOrder cmp) (k
   unfolding GoesByRule
   each_goes [] messages t cs w sound h = stays cmp order k (messages ++ []) t cs w (none_more messages t cs w h)
   each_goes (m ∷ ms) messages t cs w sound h =
-      grind (arith, append_assoc, goes_preceded, (act_keeps_sound cmp order (call_enqueue t m) w sound),
-      (enqueue_goes messages t cs w m sound h), (each_goes ms))
+      by_course (enqueue cmp t w m) (act_keeps_sound cmp order (call_enqueue t m) w sound)
+      (enqueue_goes messages t cs w m sound h) (each_goes ms)
+    where
+      by_course : (c : Course (Completed P) (World P)) → EndsWith (IsSound cmp) c
+          → GoesByRule cmp order k (messages ++ m ∷ []) t cs c
+          → ((before : List (Message P)) (s : ℕ) (ds : List (Completed P)) (u : World P) → IsSound cmp u
+          → IsHistory cmp order k before s ds u
+          → GoesByRule cmp order k (before ++ ms) s ds (enqueue_each cmp s u ms))
+          → GoesByRule cmp order k (messages ++ m ∷ ms) t cs (and_then c (λ v. enqueue_each cmp t v ms))
+      by_course (goes ds u) sound_u g ih =
+          subst (λ (ns : List (Message P)). GoesByRule cmp order k ns t cs (preceded ds (enqueue_each cmp t u ms)))
+          (append_assoc messages (m ∷ []) ms)
+          (goes_preceded cmp order k ((messages ++ m ∷ []) ++ ms) t cs ds (enqueue_each cmp t u ms)
+          (ih (messages ++ m ∷ []) t (cs ++ ds) u sound_u g))
+      by_course (meets fault) sound_u g ih = tt
 
   act_goes : (messages : List (Message P)) (t : ℕ) (cs : List (Completed P)) (w : World P) (call : Call P)
       → moment_of call ≡ Some t

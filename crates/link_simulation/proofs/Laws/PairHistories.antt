@@ -1,15 +1,15 @@
 -- How far a pair is: which of its messages completed, which is in flight, which wait. Starts, completions and whole
 -- instants keep it.
-use Rattle.link_simulation.proofs.Common.{◌≡◌, ℕ, zero, suc, ◌+◌, ◌≤◌, List, [], ◌∷◌, ◌++◌, map, length, Bool, true}
-use Rattle.link_simulation.proofs.Common.{false, cond, not, Option, Some, None, refl, sym, ap, ◌∙◌, subst, arith}
-use Rattle.link_simulation.proofs.Common.{append_assoc, append-nil, ⊤, ◌&&◌, IfSome, if◌then◌else◌, list_any, find}
-use Rattle.link_simulation.proofs.Common.{filter, AllZip, Ordering, IsTotalOrder, filter-append, map-append, leb-true}
-use Rattle.link_simulation.proofs.Common.{without_first, MomentTooLate, same_peer, Message, PairsAlike, same_pair}
-use Rattle.link_simulation.proofs.Common.{is_delivered, World, Flight, Completed, Course, goes, meets, preceded}
-use Rattle.link_simulation.proofs.Common.{and_then, is_in_order, later_of, flows, first_waiting, may_start, start}
-use Rattle.link_simulation.proofs.Common.{start_next, is_done, complete, settle_within, settle, least_pair, ready, turn}
-use Rattle.link_simulation.proofs.Common.{wake_within, instant, fronts, out_of_flight, is_late, completed, arrival}
-use Rattle.link_simulation.proofs.Common.{flight_of, IsCompletionOf, NeverGoDown, Each, rules}
+use Rattle.link_simulation.proofs.Common.{completion_of, ◌≡◌, ℕ, zero, suc, ◌+◌, ◌≤◌, List, [], ◌∷◌, ◌++◌, map, length}
+use Rattle.link_simulation.proofs.Common.{Bool, true, false, cond, not, Option, Some, None, refl, sym, ap, ◌∙◌, subst}
+use Rattle.link_simulation.proofs.Common.{arith, append_assoc, append-nil, ⊤, ◌&&◌, IfSome, if◌then◌else◌, list_any}
+use Rattle.link_simulation.proofs.Common.{find, filter, AllZip, Ordering, IsTotalOrder, filter-append, map-append}
+use Rattle.link_simulation.proofs.Common.{leb-true, without_first, MomentTooLate, same_peer, Message, PairsAlike}
+use Rattle.link_simulation.proofs.Common.{same_pair, is_delivered, World, Flight, Completed, Course, goes, meets}
+use Rattle.link_simulation.proofs.Common.{preceded, and_then, is_in_order, later_of, flows, first_waiting, may_start}
+use Rattle.link_simulation.proofs.Common.{start, start_next, is_done, complete, settle_within, settle, least_pair}
+use Rattle.link_simulation.proofs.Common.{ready, turn, wake_within, instant, fronts, out_of_flight, is_late, completed}
+use Rattle.link_simulation.proofs.Common.{arrival, flight_of, IsCompletionOf, NeverGoDown, Each, rules}
 use Rattle.link_simulation.specs.Laws.PairCompletions.{NoneBefore, completes_pair}
 use Rattle.link_simulation.proofs.Simulation.Queue.{pair_like, pair_sym, find_passes, settle_none, settle_first}
 use Rattle.link_simulation.proofs.Simulation.SettlingEnds.{find_like}
@@ -166,7 +166,15 @@ module _ {P : Type 0} (cmp : P → P → Ordering) (order : IsTotalOrder cmp) (k
   waits_without : (ws : List (Message P)) (m : Message P) → same_pair cmp k m ≡ false
       → filter (same_pair cmp k) (without_first (same_pair cmp m) ws) ≡ filter (same_pair cmp k) ws
   waits_without [] m off = refl
-  waits_without (x ∷ ws) m off = grind (arith, (waits_without ws m off))
+  waits_without (x ∷ ws) m off = by_test (same_pair cmp m x) refl (waits_without ws m off)
+    where
+      by_test : (b : Bool) → same_pair cmp m x ≡ b
+          → filter (same_pair cmp k) (without_first (same_pair cmp m) ws) ≡ filter (same_pair cmp k) ws
+          → filter (same_pair cmp k) (cond b ws (x ∷ without_first (same_pair cmp m) ws))
+          ≡ filter (same_pair cmp k) (x ∷ ws)
+      by_test true is ih = let out : same_pair cmp k x ≡ false = pair_sym cmp order k x ∙ pair_like cmp order m x k is
+          ∙ pair_sym cmp order m k ∙ off in rw out refl
+      by_test false is ih = ap (λ (ms : List (Message P)). cond (same_pair cmp k x) (x ∷ ms) ms) ih
 
   joined : World P → Message P → World P
   joined w m = record w {
@@ -266,6 +274,9 @@ module _ {P : Type 0} (cmp : P → P → Ordering) (order : IsTotalOrder cmp) (k
     unfolding land
     land_history cs w f found h = by_pair (same_pair cmp k f.message) refl
       where
+        m : Message P
+        m = f.message
+
         alike_too : PairsAlike cmp (land w f.message).last_arrival (land w f.message).last_arrival
         alike_too = raised_peerwise cmp order w.last_arrival f.message (arrival cmp t f.message) h.alike
 
@@ -278,7 +289,9 @@ module _ {P : Type 0} (cmp : P → P → Ordering) (order : IsTotalOrder cmp) (k
         own_last own = rw (peers_own own) refl
 
         other_last : same_pair cmp k f.message ≡ false → last (land w f.message) ≡ last w
-        other_last off = grind (arith, pair_sym)
+        other_last off =
+            let out : (same_peer cmp f.message.origin k.origin && same_peer cmp f.message.recipient k.recipient)
+            ≡ false = pair_sym cmp order f.message k ∙ off in rw out refl
 
         by_flying : same_pair cmp k f.message ≡ true → (o : Option (Message P)) → h.flying ≡ o → flies w ≡ held o
             → filter (same_pair cmp k) messages ≡ h.done ++ (held o ++ waits w)
@@ -299,16 +312,26 @@ module _ {P : Type 0} (cmp : P → P → Ordering) (order : IsTotalOrder cmp) (k
                     → filter (same_pair cmp k) (map (λ (g : Flight P). g.message) fs) ≡ [] → ⊥) → ⊥
                 by_test b true is e none ih = cc
                 by_test true false is e none ih =
+                    let same : g ≡ f = cc in
+                    let out : same_pair cmp k f.message ≡ false =
+                    ap (λ (x : Flight P). same_pair cmp k x.message) (sym same) ∙ is in
                     cc
                 by_test false false is e none ih = ih e none
         by_flying own (Some n) is one queue order_is =
-            let taken = taken_out (same_pair cmp k) (λ (g : Flight P). g.message) (is_done cmp w) f n w.sending found
-            own one in
+            let taken : (f.message ≡ n)
+            × (filter (same_pair cmp k)
+            (map (λ (g : Flight P). g.message) (without_first (is_done cmp w) w.sending)) ≡ [])
+            = taken_out (same_pair cmp k) (λ (g : Flight P). g.message) (is_done cmp w) f n w.sending found own one in
             let c : Completed P = completed cmp t f.message in
             let of_pair : completes_pair cmp k c ≡ true = own in
             let list_is : told_of_k (cs ++ c ∷ []) ≡ told_of_k cs ++ c ∷ [] = told_more cs c of_pair in
             let is_of : IsCompletionOf c n
-            = grind arith
+            = (
+              t,
+              (if is_delivered cmp f.message then Some (arrival cmp t f.message) else None),
+              ap (λ (x : Message P). completion_of x t
+                  (if is_delivered cmp f.message then Some (arrival cmp t f.message) else None)) taken.0,
+            )
             in
             let in_order_here : is_in_order (last w) (t + f.message.latency) ≡ true =
             subst (λ (x : Message P). is_in_order (last w) (t + x.latency) ≡ true) (sym taken.0) order_is in
@@ -322,7 +345,12 @@ module _ {P : Type 0} (cmp : P → P → Ordering) (order : IsTotalOrder cmp) (k
               deliveries = subst NeverGoDown (sym list_is)
                   (deliveries_push (last w) (told_of_k cs) c h.deliveries h.not_past
                   (ordered (is_delivered cmp f.message) in_order_here));
-              not_past = grind (arith, land, own_last, not_past_push, not_past_later, raises, reached);
+              not_past = subst (λ (xs : List (Completed P)). AllNotPast (last (land w f.message)) xs) (sym list_is)
+                  (subst (λ (l : Option ℕ). AllNotPast l (told_of_k cs ++ c ∷ [])) (sym (own_last own))
+                  (not_past_push (Some (later_of (last w) (arrival cmp t f.message))) (told_of_k cs) c
+                  (not_past_later (last w) (Some (later_of (last w) (arrival cmp t f.message))) (told_of_k cs)
+                  (λ s np. raises (last w) (arrival cmp t f.message) s np) h.not_past)
+                  (reached (is_delivered cmp f.message))));
               in_order = tt;
               alike = alike_too;
               now = h.now;

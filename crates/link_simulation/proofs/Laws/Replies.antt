@@ -1,9 +1,12 @@
 -- Replies that agree with the simulation, to calls in turn, keep the order of each pair and isolate sets of peers.
-use Rattle.link_simulation.proofs.Common.{arith, ◌≡◌, ℕ, zero, suc, List, [], ◌∷◌, Bool, true, false, cond, Option}
-use Rattle.link_simulation.proofs.Common.{Some, None, refl, ⊤, IfSome, filter, AllZip, Ordering, IsTotalOrder, Message}
-use Rattle.link_simulation.proofs.Common.{new_world, Completed, Call, Reply, reply_done, reply_next, reply_refused}
-use Rattle.link_simulation.proofs.Common.{SameCompletion, Agrees, made, completions_in, enqueued, answered}
-use Rattle.link_simulation.proofs.Common.{IsCompletionOf, NeverGoDown, InTime, Completes, zip-append, zip-filter}
+use Rattle.link_simulation.proofs.Common.{same_peer, arith, ◌≡◌, ℕ, zero, suc, List, [], ◌∷◌, Bool, true, false, cond}
+use Rattle.link_simulation.proofs.Common.{Option, Some, None, refl, ⊤, IfSome, filter, AllZip, Ordering, IsTotalOrder}
+use Rattle.link_simulation.proofs.Common.{Message, new_world, Completed, Call, Reply, reply_done, reply_next}
+use Rattle.link_simulation.proofs.Common.{reply_refused, SameCompletion, Agrees, made, completions_in, enqueued}
+use Rattle.link_simulation.proofs.Common.{answered, IsCompletionOf, NeverGoDown, InTime, Completes, zip-append}
+use Rattle.link_simulation.proofs.Common.{zip-filter}
+use Rattle.link_simulation.proofs.Simulation.Queue.{both_alike}
+use Rattle.link_simulation.proofs.Simulation.AlikeMessages.{same_itself, peers_alike}
 use Rattle.std.specs.Prelude.{take}
 use Rattle.link_simulation.specs.Laws.PairCompletions.{NoneBefore, completes_pair, IsInPairOrder}
 use Rattle.link_simulation.specs.Laws.Isolation.{IsSet, NothingElse, inside_alone, is_kept, kept_completions}
@@ -51,7 +54,12 @@ module _ {P : Type 0} (cmp : P → P → Ordering) (order : IsTotalOrder cmp) wh
 
   completes_alike : (k : Message P) (c d : Completed P) → SameCompletion cmp c d
       → completes_pair cmp k c ≡ completes_pair cmp k d
-  completes_alike k c d same = grind arith
+  completes_alike k c d same =
+      both_alike cmp order (same_peer cmp k.origin c.origin) (same_peer cmp k.origin d.origin)
+      (same_peer cmp k.recipient c.recipient) (same_peer cmp k.recipient d.recipient)
+      (peers_alike cmp order k.origin k.origin c.origin d.origin (same_itself cmp order k.origin) same.origin)
+      (peers_alike cmp order k.recipient k.recipient c.recipient d.recipient (same_itself cmp order k.recipient)
+      same.recipient)
 
   completions_of : (cs ds : List (Completed P)) (ms : List (Message P)) → AllZip (SameCompletion cmp) cs ds
       → AllZip IsCompletionOf ds ms → AllZip (Completes cmp) cs ms

@@ -1,12 +1,12 @@
 -- Advancing the planned world event by event is ticking the world nanosecond by nanosecond.
-use Rattle.link_simulation.proofs.Common.{◌≡◌, ℕ, zero, suc, ◌+◌, ◌-◌, ◌<◌, ◌≤◌, List, [], length, false, Option, Some}
-use Rattle.link_simulation.proofs.Common.{None, refl, sym, ap, ◌∙◌, subst, arith, ◌⊎◌, inl, inr, IfSome, list_any}
-use Rattle.link_simulation.proofs.Common.{Ordering, IsTotalOrder, cases_lt, Completed, Course, World, and_then, goes}
-use Rattle.link_simulation.proofs.Common.{instant, is_done, last_moment, meets, preceded, ready, settle, wake, Advances}
-use Rattle.link_simulation.proofs.Common.{Settles, Wakes, at_finish, at_start, finish_stops, no_more, start_stops}
-use Rattle.link_simulation.proofs.Common.{IsLeastMoment, Planned, SomeReadyAt, SomeSpentAt, next_event, is_unlimited}
-use Rattle.link_simulation.proofs.Common.{CoursesAlike, Follows, IsSettled, StandsFor, Tallies, Ticks, no_tick, Error}
-use Rattle.link_simulation.proofs.Common.{rules}
+use Rattle.link_simulation.proofs.Common.{IsQuiet, ◌≡◌, ℕ, zero, suc, ◌+◌, ◌-◌, ◌<◌, ◌≤◌, List, [], length, false}
+use Rattle.link_simulation.proofs.Common.{Option, Some, None, refl, sym, ap, ◌∙◌, subst, arith, ◌⊎◌, inl, inr, IfSome}
+use Rattle.link_simulation.proofs.Common.{list_any, Ordering, IsTotalOrder, cases_lt, Completed, Course, World}
+use Rattle.link_simulation.proofs.Common.{and_then, goes, instant, is_done, last_moment, meets, preceded, ready, settle}
+use Rattle.link_simulation.proofs.Common.{wake, Advances, Settles, Wakes, at_finish, at_start, finish_stops, no_more}
+use Rattle.link_simulation.proofs.Common.{start_stops, IsLeastMoment, Planned, SomeReadyAt, SomeSpentAt, next_event}
+use Rattle.link_simulation.proofs.Common.{is_unlimited, CoursesAlike, Follows, IsSettled, StandsFor, Tallies, Ticks}
+use Rattle.link_simulation.proofs.Common.{no_tick, Error, rules}
 use Rattle.std.specs.Prelude.{◌≢◌}
 use Rattle.link_simulation.specs.Rule.Planned.{earlier}
 use Rattle.link_simulation.proofs.Rule.BeforeNext.{later, follows_later, none_done_before, quiet_before, passes_before}
@@ -277,11 +277,16 @@ module _ {P : Type 0} (cmp : P → P → Ordering) (order : IsTotalOrder cmp) wh
       ends : (v : World P) → Follows cmp now p v → list_any (is_done cmp v) v.sending ≡ false → ready cmp now v ≡ []
           → Ticks cmp (now - w.moment) w (goes [] v) → TicksAlike now w course
       ends v follows none_done none_ready ticks =
-          let woken = wake_alike wakes v follows none_done in
+          let woken : CoursesAlike cmp (IsWoken cmp order now) course (wake cmp now v) =
+          wake_alike wakes v follows none_done in
           let asleep : wake cmp now v ≡ goes [] v = wake_none cmp order (length v.waiting) now v none_ready in (
             goes [] v,
             ticks,
-            grind (arith, course_map, woken_stands),
+            course_map (IsWoken cmp order now) (StandsNow now) course (goes [] v)
+                (λ q u h. (woken_stands now q u within h, h.0.follows.tallies.moment))
+                (subst (λ (c : Course (Completed P) (World P)). CoursesAlike cmp (IsWoken cmp order now) course c)
+                asleep
+                woken),
           )
 
       by_count : (n : ℕ) → now - w.moment ≡ n → TicksAlike now w course
@@ -293,8 +298,10 @@ module _ {P : Type 0} (cmp : P → P → Ordering) (order : IsTotalOrder cmp) wh
       by_count (suc k) is =
           let same : w.moment + suc k ≡ now = omega arith in
           let u : World P = later cmp order p w stands (suc k) in
-          let still = subst (λ (s : ℕ). IfSome (next_event p) (λ t. s < t)) (sym same) before in
-          let quiet = quiet_before cmp order p w stands (suc k) (omega arith) still in
+          let still : IfSome (next_event p) (λ t. w.moment + suc k < t) =
+          subst (λ (s : ℕ). IfSome (next_event p) (λ t. s < t)) (sym same) before in
+          let quiet : IsQuiet cmp (w.moment + suc k) u =
+          quiet_before cmp order p w stands (suc k) (omega arith) still in
           ends u (subst (λ (s : ℕ). Follows cmp s p u) same (follows_later cmp order p w stands (suc k)))
           quiet.none_done (ap (λ (s : ℕ). ready cmp s u) (sym same) ∙ quiet.none_ready)
           (subst (λ (n : ℕ). Ticks cmp n w (goes [] u)) (sym is)

@@ -141,7 +141,9 @@ module _ {P : Type 0} (cmp : P → P → Ordering) (order : IsTotalOrder cmp) wh
   -- the first of a pair is the first of its own pair
   pub own_first : (m x : Message P) (rest ms : List (Message P)) → filter (same_pair cmp m) ms ≡ x ∷ rest
       → find (same_pair cmp x) ms ≡ Some x
-  own_first m x rest ms e = grind (arith, first_found, find_like, find_passes)
+  own_first m x rest ms e =
+      let found : find (same_pair cmp m) ms ≡ Some x = first_found (same_pair cmp m) x rest ms e in
+      find_like cmp order m x ms (find_passes (same_pair cmp m) x ms found) ∙ found
 
   -- a pair may start in the planned world where it may in the world
   pub may_alike : (t : ℕ) (p : Planned P) (w : World P) (m n : Message P) → PairsAlike cmp p.last_arrival w.last_arrival

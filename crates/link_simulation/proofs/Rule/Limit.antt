@@ -41,7 +41,13 @@ module _ {P : Type 0} (cmp : P → P → Ordering) (order : IsTotalOrder cmp) wh
 
   link_alike : (f g : P → P → Option ℕ) (origin recipient : P) (cap : Option ℕ) → PairsAlike cmp f g
       → PairsAlike cmp (with_link cmp f origin recipient cap) (with_link cmp g origin recipient cap)
-  link_alike f g origin recipient cap same p q r s e h = grind arith
+  link_alike f g origin recipient cap same p q r s e h =
+      rw (
+        sym (peers_alike cmp order origin origin p q (same_itself cmp order origin) e),
+        sym (peers_alike cmp order recipient recipient r s (same_itself cmp order recipient) h),
+        same p q r s e h,
+      )
+      refl
 
   -- the worlds under new caps
   abbrev pub rebalanced : World P → Caps P → World P

@@ -1,13 +1,15 @@
 -- The parts of the event rule's steps are the same on planned worlds that are the same up to equal peers.
-use Rattle.link_simulation.proofs.Common.{arith, ◌≡◌, ℕ, zero, suc, length, ◌≤◌, List, [], ◌∷◌, Bool, true, not, Option}
-use Rattle.link_simulation.proofs.Common.{Some, None, refl, sym, ap, ◌∙◌, subst, slice_get, filter, find, AllZip}
-use Rattle.link_simulation.proofs.Common.{Ordering, IsTotalOrder, without_first, Error, same_peer, Message, Caps}
-use Rattle.link_simulation.proofs.Common.{CapsAlike, PairsAlike, SameMessage, same_pair, Completed, Course, goes, meets}
-use Rattle.link_simulation.proofs.Common.{raised, fronts, limited_by, linked_by, SameCompletion, Planned, RatedFlight}
-use Rattle.link_simulation.proofs.Common.{IsLeastMoment, SomeSpentAt, SomeReadyAt, next_event, rated_messages, left_at}
-use Rattle.link_simulation.proofs.Common.{drained_to, next_of, queued, may_launch, is_spent, launched, landed}
-use Rattle.link_simulation.proofs.Common.{with_queued, completed_at_once, IsSameRatedFlight, IsSamePlanned, Amount}
-use Rattle.link_simulation.proofs.Common.{whole, zip-filter, zip-append}
+use Rattle.link_simulation.proofs.Common.{pair_before, arith, ◌≡◌, ℕ, zero, suc, length, ◌≤◌, List, [], ◌∷◌, Bool, true}
+use Rattle.link_simulation.proofs.Common.{not, Option, Some, None, refl, sym, ap, ◌∙◌, subst, slice_get, filter, find}
+use Rattle.link_simulation.proofs.Common.{AllZip, Ordering, IsTotalOrder, without_first, Error, same_peer, Message}
+use Rattle.link_simulation.proofs.Common.{Caps, CapsAlike, PairsAlike, SameMessage, same_pair, Completed, Course, goes}
+use Rattle.link_simulation.proofs.Common.{meets, raised, fronts, limited_by, linked_by, SameCompletion, Planned}
+use Rattle.link_simulation.proofs.Common.{RatedFlight, IsLeastMoment, SomeSpentAt, SomeReadyAt, next_event}
+use Rattle.link_simulation.proofs.Common.{rated_messages, left_at, drained_to, next_of, queued, may_launch, is_spent}
+use Rattle.link_simulation.proofs.Common.{launched, landed, with_queued, completed_at_once, IsSameRatedFlight}
+use Rattle.link_simulation.proofs.Common.{IsSamePlanned, Amount, whole, zip-filter, zip-append}
+use Rattle.fair_rates.proofs.Lists.Zips.{zip-if}
+use Rattle.link_simulation.proofs.Simulation.InOrder.{before_alike}
 use Rattle.link_simulation.specs.Rule.SamePlanned.{IsSameCourse}
 use Rattle.link_simulation.proofs.Simulation.AlikeMessages.{peers_alike, pairs_alike, message_itself, any_alike}
 use Rattle.link_simulation.proofs.Simulation.AlikeMessages.{unlimited_alike}
@@ -102,7 +104,11 @@ module _ {P : Type 0} (cmp : P → P → Ordering) (order : IsTotalOrder cmp) wh
   pub limited_by_same : (caps others : Caps P) (peer other : P) (egress ingress : Option ℕ) → CapsAlike cmp caps others
       → same_peer cmp peer other ≡ true
       → CapsAlike cmp (limited_by cmp caps peer egress ingress) (limited_by cmp others other egress ingress)
-  limited_by_same caps others peer other egress ingress same peers = grind arith
+  limited_by_same caps others peer other egress ingress same peers = record {
+    egress = λ p q e. rw (peers_alike cmp order peer other p q peers e, same.egress p q e) refl;
+    ingress = λ p q e. rw (peers_alike cmp order peer other p q peers e, same.ingress p q e) refl;
+    link = same.link;
+  }
 
   pub linked_by_same : (caps others : Caps P) (origin recipient o r : P) (cap : Option ℕ) → CapsAlike cmp caps others
       → same_peer cmp origin o ≡ true → same_peer cmp recipient r ≡ true
@@ -122,7 +128,12 @@ module _ {P : Type 0} (cmp : P → P → Ordering) (order : IsTotalOrder cmp) wh
   pub raised_same : (last others : P → P → Option ℕ) (m n : Message P) (at : ℕ) → PairsAlike cmp last others
       → SameMessage cmp m n → PairsAlike cmp (raised cmp last m at) (raised cmp others n at)
   raised_same last others m n at same messages p q r s e f =
-      grind (arith, (peers_alike cmp order), (peers_alike cmp order))
+      rw (
+        peers_alike cmp order m.origin n.origin p q messages.origin e,
+        peers_alike cmp order m.recipient n.recipient r s messages.recipient f,
+        same p q r s e f,
+      )
+      refl
 
   -- ---- messages
 
@@ -131,7 +142,10 @@ module _ {P : Type 0} (cmp : P → P → Ordering) (order : IsTotalOrder cmp) wh
   queued_same m n [] [] e all = (e, tt)
   queued_same m n [] (l ∷ ls) e all = absurd all
   queued_same m n (k ∷ ks) [] e all = absurd all
-  queued_same m n (k ∷ ks) (l ∷ ls) e all = grind (arith, (queued_same m n ks ls e))
+  queued_same m n (k ∷ ks) (l ∷ ls) e all =
+      zip-if (SameMessage cmp) (pair_before cmp m k) (pair_before cmp n l) (m ∷ k ∷ ks) (k ∷ queued cmp m ks)
+      (n ∷ l ∷ ls) (l ∷ queued cmp n ls) (before_alike cmp order m n k l e all.0) (e, all)
+      (all.0, queued_same m n ks ls e all.1)
 
   pub fronts_same : (ms ns : List (Message P)) → AllZip (SameMessage cmp) ms ns
       → AllZip (SameMessage cmp) (fronts cmp ms) (fronts cmp ns)
@@ -196,7 +210,14 @@ module _ {P : Type 0} (cmp : P → P → Ordering) (order : IsTotalOrder cmp) wh
     -- ---- what waits
 
     pub may_same : (t : ℕ) (m n : Message P) → SameMessage cmp m n → may_launch cmp t p m ≡ may_launch cmp t q n
-    may_same t m n e = grind (arith, any_alike, pairs_alike, flows_same)
+    may_same t m n e =
+        rw (
+          any_alike cmp order (SameMessage cmp) (same_pair cmp m) (same_pair cmp n)
+              (λ k l f. pairs_alike cmp order m n k l e f) (rated_messages p.sending) (rated_messages q.sending)
+              (flows_same p.sending q.sending same.sending),
+          same.last_arrival m.origin n.origin m.recipient n.recipient e.origin e.recipient,
+          e.latency,
+        ) refl
 
     pub next_same : (m n : Message P) → SameMessage cmp m n
         → OptionsAlike (SameMessage cmp) (next_of cmp p m) (next_of cmp q n)

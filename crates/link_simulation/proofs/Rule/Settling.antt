@@ -10,10 +10,10 @@ use Rattle.link_simulation.proofs.Common.{OneForEachPair, PairsAlike, SameMessag
 use Rattle.link_simulation.proofs.Common.{SomeReadyAt, SameCompletion, CoursesAlike, Follows, IsSettled, Tallies}
 use Rattle.link_simulation.proofs.Common.{MomentTooLate, leaving, staying, arrived, launch_then, finish_within, Each}
 use Rattle.link_simulation.proofs.Common.{zip-append}
+use Rattle.link_simulation.proofs.Rule.Launch.{LaunchAlike, NoneDone, staying_none, next_alike, launch_alike}
 use Rattle.link_simulation.proofs.Simulation.Queue.{over_state, settles_as_queue}
 use Rattle.link_simulation.proofs.Simulation.AlikeMessages.{delivered_alike, peers_alike}
 use Rattle.link_simulation.proofs.Rule.Accounts.{leavers_alike, account_follows}
-use Rattle.link_simulation.proofs.Rule.Launch.{NoneDone, staying_none, next_alike, launch_alike}
 use Rattle.link_simulation.proofs.Simulation.SettlingEnds.{settle_rests}
 use Rattle.fair_rates.proofs.Lists.Filters.{length-filter}
 
@@ -40,7 +40,13 @@ module _ {P : Type 0} (cmp : P → P → Ordering) (order : IsTotalOrder cmp) wh
       → SameMessage cmp m n → at ≡ at'
       → PairsAlike cmp (raised cmp last m at) (raised cmp last' n at')
   raised_alike last last' m n at at' same e f p q r s pq rs =
-      grind (arith, (peers_alike cmp order), (peers_alike cmp order))
+      rw (
+        peers_alike cmp order m.origin n.origin p q e.origin pq,
+        peers_alike cmp order m.recipient n.recipient r s e.recipient rs,
+        same p q r s pq rs,
+        f,
+      )
+      refl
 
   landed_follows : (t : ℕ) (p : Planned P) (w : World P) (m n : Message P) → Follows cmp t p w → SameMessage cmp m n
       → Follows cmp t (landed cmp t p m) (arrived cmp t w n)
@@ -113,11 +119,17 @@ module _ {P : Type 0} (cmp : P → P → Ordering) (order : IsTotalOrder cmp) wh
   finishes_alike (stopped not_late launch) zero (f ∷ fs) w follows none all fuel = absurd (omega arith)
   finishes_alike {t = t} {p = p} (stopped {m = m} {fault = fault} not_late launch) (suc n) (f ∷ fs) w follows none all
       fuel =
-      let there = landed_follows t p w m f.message follows all.0 in
-      let fails = launch_alike cmp order launch (arrived cmp t w f.message) fs f.message
-      (find (same_pair cmp f.message) w.waiting) there none refl
-      (next_alike cmp order t p w m f.message follows.tallies all.0) in
-      grind (arith, (first_lands n t f fs w (sym (late_alike t m f.message all.0) ∙ not_late)))
+      let there : Follows cmp t (landed cmp t p m) (arrived cmp t w f.message) =
+      landed_follows t p w m f.message follows all.0 in
+      let fails : LaunchAlike cmp order t (arrived cmp t w f.message) fs (find (same_pair cmp f.message) w.waiting)
+      (meets fault) =
+      launch_alike cmp order launch (arrived cmp t w f.message) fs f.message (find (same_pair cmp f.message) w.waiting)
+      there none refl (next_alike cmp order t p w m f.message follows.tallies all.0) in
+      subst (λ (c : Course (Completed P) (World P)). CourseAlike t (meets fault) c)
+      (sym
+      (first_lands n t f fs w (sym (late_alike t m f.message all.0) ∙ not_late)
+      ∙ ap (preceded (completed cmp t f.message ∷ [])) (fails (finish_within cmp n t))))
+      refl
   finishes_alike (completes not_late launch rest) n [] w follows none all fuel = absurd all
   finishes_alike (completes not_late launch rest) zero (f ∷ fs) w follows none all fuel = absurd (omega arith)
   finishes_alike {t = t} {p = p} (completes {m = m} {ms = ms} {more = more} {q = q} {rest = after} not_late launch rest)

@@ -76,7 +76,13 @@ module _ {P : Type 0} (cmp : P → P → Ordering) (order : IsTotalOrder cmp) wh
 
       both : (v : World P) → IsAfter cmp order y t (started cmp order w y) v
           → length (without_first (same_pair cmp y) w.waiting) + 1 ≡ length w.waiting → IsRound t y w v
-      both v after fewer = grind (arith, started, waits, only_both, only)
+      both v after fewer =
+          let less : length v.waiting ≤ length (started cmp order w y).waiting = after.0.fewer in
+          let some : length (started cmp order w y).waiting ≡ length (without_first (same_pair cmp y) w.waiting) =
+          waits (is_done cmp w (flight_of y)) in (
+            (only_both cmp order y w (started cmp order w y) v (only (is_done cmp w (flight_of y))) after.0, after.1),
+            omega arith,
+          )
 
   -- ---- the order of the pairs
 

@@ -1,6 +1,6 @@
 -- Lists of messages that are the same up to equal peers have the same sides, and so the same fair rates.
-use Rattle.link_simulation.proofs.Common.{arith, ◌+◌, ◌≡◌, ℕ, List, [], ◌∷◌, Bool, true, Option, Some, None, refl, ap}
-use Rattle.link_simulation.proofs.Common.{if◌then◌else◌, list_any, flat_map, AllZip, Ordering, is_eq, IsTotalOrder}
+use Rattle.link_simulation.proofs.Common.{◌&&◌, arith, ◌+◌, ◌≡◌, ℕ, List, [], ◌∷◌, Bool, true, Option, Some, None, refl}
+use Rattle.link_simulation.proofs.Common.{ap, if◌then◌else◌, list_any, flat_map, AllZip, Ordering, is_eq, IsTotalOrder}
 use Rattle.link_simulation.proofs.Common.{same_peer, Message, SameMessage, is_delivered, same_pair, Caps, CapsAlike}
 use Rattle.link_simulation.proofs.Common.{AreFair, Parts, capped_sides, is_unlimited, sides_for, rates_from}
 use Rattle.link_simulation.proofs.Common.{egress_side, ingress_side, link_side, places_from}
@@ -22,7 +22,11 @@ module _ {P : Type 0} (cmp : P → P → Ordering) (order : IsTotalOrder cmp) wh
 
   pub pairs_alike : (m n k l : Message P) → SameMessage cmp m n → SameMessage cmp k l
       → same_pair cmp m k ≡ same_pair cmp n l
-  pairs_alike m n k l f g = grind arith
+  pairs_alike m n k l f g =
+      both_alike cmp order (same_peer cmp m.origin k.origin) (same_peer cmp n.origin l.origin)
+      (same_peer cmp m.recipient k.recipient) (same_peer cmp n.recipient l.recipient)
+      (peers_alike m.origin n.origin k.origin l.origin f.origin g.origin)
+      (peers_alike m.recipient n.recipient k.recipient l.recipient f.recipient g.recipient)
 
   pub delivered_alike : (m n : Message P) → SameMessage cmp m n → is_delivered cmp m ≡ is_delivered cmp n
   delivered_alike m n e = grind arith
@@ -51,12 +55,26 @@ module _ {P : Type 0} (cmp : P → P → Ordering) (order : IsTotalOrder cmp) wh
   module _ (caps others : Caps P) (same : CapsAlike cmp caps others) where
     egress_alike : (m n : Message P) (ms ns : List (Message P)) → SameMessage cmp m n → AllZip (SameMessage cmp) ms ns
         → egress_side cmp caps ms m ≡ egress_side cmp others ns n
-    egress_alike m n ms ns e all = grind (arith, side_alike, places_alike, peers_alike)
+    egress_alike m n ms ns e all =
+        side_alike (caps.egress m.origin) (others.egress n.origin) (λ k. same_peer cmp m.origin k.origin)
+        (λ k. same_peer cmp n.origin k.origin) ms ns (same.egress m.origin n.origin e.origin)
+        (places_alike (SameMessage cmp) (λ k. same_peer cmp m.origin k.origin) (λ k. same_peer cmp n.origin k.origin)
+        (λ k l f. peers_alike m.origin n.origin k.origin l.origin e.origin f.origin) 0 ms ns all)
 
     ingress_alike : (m n : Message P) (ms ns : List (Message P)) → SameMessage cmp m n → AllZip (SameMessage cmp) ms ns
         → ingress_side cmp caps ms m ≡ ingress_side cmp others ns n
     ingress_alike m n ms ns e all =
-        grind (arith, side_alike, if_alike, delivered_alike, places_alike, both_alike, peers_alike)
+        side_alike (if is_delivered cmp m then caps.ingress m.recipient else None)
+        (if is_delivered cmp n then others.ingress n.recipient else None)
+        (λ k. is_delivered cmp k && same_peer cmp m.recipient k.recipient)
+        (λ k. is_delivered cmp k && same_peer cmp n.recipient k.recipient) ms ns
+        (if_alike (is_delivered cmp m) (is_delivered cmp n) (caps.ingress m.recipient) (others.ingress n.recipient) None
+        (delivered_alike m n e) (same.ingress m.recipient n.recipient e.recipient))
+        (places_alike (SameMessage cmp) (λ k. is_delivered cmp k && same_peer cmp m.recipient k.recipient)
+        (λ k. is_delivered cmp k && same_peer cmp n.recipient k.recipient)
+        (λ k l f. both_alike cmp order (is_delivered cmp k) (is_delivered cmp l) (same_peer cmp m.recipient k.recipient)
+        (same_peer cmp n.recipient l.recipient) (delivered_alike k l f)
+        (peers_alike m.recipient n.recipient k.recipient l.recipient e.recipient f.recipient)) 0 ms ns all)
 
     link_alike : (m n : Message P) (ms ns : List (Message P)) → SameMessage cmp m n → AllZip (SameMessage cmp) ms ns
         → link_side cmp caps ms m ≡ link_side cmp others ns n
@@ -76,7 +94,13 @@ module _ {P : Type 0} (cmp : P → P → Ordering) (order : IsTotalOrder cmp) wh
     sides_alike ms ns all = sides_for_alike ms ns ms ns all all
 
     pub unlimited_alike : (m n : Message P) → SameMessage cmp m n → is_unlimited cmp caps m ≡ is_unlimited cmp others n
-    unlimited_alike m n e = grind arith
+    unlimited_alike m n e =
+        rw (
+          same.egress m.origin n.origin e.origin,
+          delivered_alike m n e,
+          same.ingress m.recipient n.recipient e.recipient,
+          same.link m.origin n.origin m.recipient n.recipient e.origin e.recipient,
+        ) refl
 
     rates_alike : (parts : ℕ → ℕ) (place : ℕ) (ms ns : List (Message P)) → AllZip (SameMessage cmp) ms ns
         → rates_from cmp caps parts place ms ≡ rates_from cmp others parts place ns

@@ -1,7 +1,7 @@
 -- What every instant keeps: the moment, and that nothing is done at its end.
-use Rattle.link_simulation.proofs.Common.{common_steps, ◌≡◌, ℕ, zero, suc, ◌+◌, ◌≤◌, List, [], ◌∷◌, ◌++◌, length}
-use Rattle.link_simulation.proofs.Common.{Option, Some, None, refl, sym, ap, ◌∙◌, subst, arith, ◌⊎◌, inl, inr, ⊤}
-use Rattle.link_simulation.proofs.Common.{nat_le, Ordering, IsTotalOrder, without_first, Completed, Course, IsQuiet}
+use Rattle.link_simulation.proofs.Common.{find, Flight, common_steps, ◌≡◌, ℕ, zero, suc, ◌+◌, ◌≤◌, List, [], ◌∷◌, ◌++◌}
+use Rattle.link_simulation.proofs.Common.{length, Option, Some, None, refl, sym, ap, ◌∙◌, subst, arith, ◌⊎◌, inl, inr}
+use Rattle.link_simulation.proofs.Common.{⊤, nat_le, Ordering, IsTotalOrder, without_first, Completed, Course, IsQuiet}
 use Rattle.link_simulation.proofs.Common.{World, and_then, complete, goes, instant, is_done, last_moment, least_pair}
 use Rattle.link_simulation.proofs.Common.{may_start, meets, raised, ready, settle, settle_within, start, start_next}
 use Rattle.link_simulation.proofs.Common.{wake_within, EndsWith, flight_of, Message, same_pair, Drains, NextIs, Ticks}
@@ -46,7 +46,15 @@ module _ {P : Type 0} (cmp : P → P → Ordering) (order : IsTotalOrder cmp) wh
     settle_within_keeps : (n t : ℕ) (w : World P) → Q w → EndsWith Q (settle_within cmp n t w)
     settle_within_keeps zero t w h = h
     settle_within_keeps (suc n) t w h =
-        grind (arith, settle_none, settle_first, ends_and_then, complete_keeps, (settle_within_keeps n t))
+        by_first (find (is_done cmp w) w.sending) refl (λ v g. settle_within_keeps n t v g)
+      where
+        by_first : (o : Option (Flight P)) → find (is_done cmp w) w.sending ≡ o
+            → ((v : World P) → Q v → EndsWith Q (settle_within cmp n t v)) → EndsWith Q (settle_within cmp (suc n) t w)
+        by_first None e ih =
+            subst (λ (c : Course (Completed P) (World P)). EndsWith Q c) (sym (settle_none cmp order n t w e)) h
+        by_first (Some f) e ih =
+            subst (λ (c : Course (Completed P) (World P)). EndsWith Q c) (sym (settle_first cmp order n t w f e))
+            (ends_and_then Q Q (complete cmp t w f.message) (settle_within cmp n t) (complete_keeps t w f.message h) ih)
 
     pub settle_keeps : (t : ℕ) (w : World P) → Q w → EndsWith Q (settle cmp t w)
     settle_keeps t w h = settle_within_keeps (length w.sending + length w.waiting) t w h

@@ -4,10 +4,10 @@ use Rattle.link_simulation.proofs.Common.{None, refl, sym, ◌∙◌, subst, ◌
 use Rattle.link_simulation.proofs.Common.{Ordering, IsTotalOrder, not-true, World, fronts, least_pair, may_start, ready}
 use Rattle.link_simulation.proofs.Common.{Message, SameMessage, pair_before, same_pair, AreInPairOrder, Planned}
 use Rattle.link_simulation.proofs.Common.{SomeReadyAt, may_launch, next_of, Tallies, Each, each_map, each_filtered}
+use Rattle.link_simulation.proofs.Rule.BeforeNext.{IsFront, fronts_first, first_found, may_alike, messages_alike}
 use Rattle.std.proofs.lemmas.Bool.{not_from_false}
 use Rattle.link_simulation.proofs.Simulation.Queue.{pair_sym, find_passes}
 use Rattle.link_simulation.proofs.Simulation.AlikeMessages.{pair_itself, message_itself, pairs_alike}
-use Rattle.link_simulation.proofs.Rule.BeforeNext.{fronts_first, first_found, may_alike, messages_alike}
 use Rattle.link_simulation.proofs.Simulation.SettlingEnds.{find_like}
 use Rattle.link_simulation.proofs.Rule.Launch.{OptionsAlike, next_alike}
 use Rattle.link_simulation.proofs.Simulation.OnePair.{apart}
@@ -212,8 +212,18 @@ module _ {P : Type 0} (cmp : P → P → Ordering) (order : IsTotalOrder cmp) wh
   pub picks_ready : (t : ℕ) (p : Planned P) (w : World P) → Tallies cmp t p w
       → Picks cmp order (ready cmp t w) (filter (may_launch cmp t p) (fronts cmp p.waiting))
   picks_ready t p w same =
-      grind (arith, picks_from, sorted_filter, fronts_sorted, each_map, in_launching, first_found, each_filtered,
-      fronts_first, in_ready)
+      picks_from (filter (may_launch cmp t p) (fronts cmp p.waiting)) (ready cmp t w)
+      (sorted_filter (may_launch cmp t p) (fronts cmp p.waiting) (fronts_sorted p.waiting same.pair_order))
+      (each_map (λ y. IsFront cmp order w.waiting y × (may_start cmp t w y ≡ true))
+      (IsAmong (filter (may_launch cmp t p) (fronts cmp p.waiting))) (ready cmp t w)
+      (λ y k. in_launching t p w y same (first_found cmp order (same_pair cmp y) y k.0.0 w.waiting k.0.1) k.1)
+      (each_filtered (IsFront cmp order w.waiting) (may_start cmp t w) (fronts cmp w.waiting)
+      (fronts_first cmp order w.waiting)))
+      (each_map (λ m. IsFront cmp order p.waiting m × (may_launch cmp t p m ≡ true)) (HasIn (ready cmp t w))
+      (filter (may_launch cmp t p) (fronts cmp p.waiting))
+      (λ m k. in_ready t p w m same (first_found cmp order (same_pair cmp m) m k.0.0 p.waiting k.0.1) k.1)
+      (each_filtered (IsFront cmp order p.waiting) (may_launch cmp t p) (fronts cmp p.waiting)
+      (fronts_first cmp order p.waiting)))
 
   -- where nothing is ready in the world, nothing is in the planned world
   pub none_ready_back : (t : ℕ) (p : Planned P) (w : World P) → Tallies cmp t p w → ready cmp t w ≡ []

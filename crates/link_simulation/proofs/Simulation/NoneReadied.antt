@@ -37,7 +37,10 @@ module _ {P : Type 0} (cmp : P → P → Ordering) (order : IsTotalOrder cmp) (y
       → find (same_pair cmp y) v.waiting ≡ find (same_pair cmp y) w.waiting → IsRested cmp order y t w
       → IsRested cmp order y t v
   unfolding IsRested
-  rested_other z t w v off only same rested x found = grind (arith, find_passes, pair_sym, pair_like, may_others)
+  rested_other z t w v off only same rested x found =
+      let own : same_pair cmp y x ≡ true = find_passes (same_pair cmp y) x v.waiting found in
+      let away : same_pair cmp z x ≡ false = pair_sym cmp order z x ∙ pair_like cmp order y x z own ∙ off in
+      may_others cmp order z t w v x only (ap not away) ∙ rested x (sym same ∙ found)
 
   pub find_without : (x : Message P) (ws : List (Message P)) → same_pair cmp y x ≡ false
       → find (same_pair cmp y) (without_first (same_pair cmp x) ws) ≡ find (same_pair cmp y) ws

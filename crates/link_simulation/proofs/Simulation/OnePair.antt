@@ -1,13 +1,13 @@
 -- Settling what one pair starts touches that pair alone, and leaves it unable to start again at that moment.
-use Rattle.link_simulation.proofs.Common.{◌≡◌, ℕ, zero, suc, ◌+◌, ◌≤◌, List, [], ◌∷◌, ◌++◌, length, Bool, true, false}
-use Rattle.link_simulation.proofs.Common.{cond, not, Option, Some, None, refl, sym, ap, ◌∙◌, arith, length-append}
-use Rattle.link_simulation.proofs.Common.{nat_le, ◌&&◌, filter, find, list_any, Ordering, IsTotalOrder, map-append}
-use Rattle.link_simulation.proofs.Common.{list_any-append, same_peer, Completed, Course, Flight, World, flows, fronts}
-use Rattle.link_simulation.proofs.Common.{goes, is_done, last_moment, may_start, meets, ready, EndsWith, is_late}
-use Rattle.link_simulation.proofs.Common.{completed, flight_of, Message, same_pair, FlowIdsUsedUp, MomentTooLate}
-use Rattle.link_simulation.proofs.Common.{out_of_waiting, joined, arrived, launch_then, finish_within, Each, each_map}
-use Rattle.link_simulation.proofs.Common.{each_joined, filter_swap, filter_stronger, length-without_first, or_left}
-use Rattle.link_simulation.proofs.Common.{or_right, without_first}
+use Rattle.link_simulation.proofs.Common.{subst, ◌||◌, ◌≡◌, ℕ, zero, suc, ◌+◌, ◌≤◌, List, [], ◌∷◌, ◌++◌, length, Bool}
+use Rattle.link_simulation.proofs.Common.{true, false, cond, not, Option, Some, None, refl, sym, ap, ◌∙◌, arith}
+use Rattle.link_simulation.proofs.Common.{length-append, nat_le, ◌&&◌, filter, find, list_any, Ordering, IsTotalOrder}
+use Rattle.link_simulation.proofs.Common.{map-append, list_any-append, same_peer, Completed, Course, Flight, World}
+use Rattle.link_simulation.proofs.Common.{flows, fronts, goes, is_done, last_moment, may_start, meets, ready, EndsWith}
+use Rattle.link_simulation.proofs.Common.{is_late, completed, flight_of, Message, same_pair, FlowIdsUsedUp}
+use Rattle.link_simulation.proofs.Common.{MomentTooLate, out_of_waiting, joined, arrived, launch_then, finish_within}
+use Rattle.link_simulation.proofs.Common.{Each, each_map, each_joined, filter_swap, filter_stronger}
+use Rattle.link_simulation.proofs.Common.{length-without_first, or_left, or_right, without_first}
 use Rattle.link_simulation.proofs.Simulation.Queue.{pair_like, pair_sym, find_passes}
 use Rattle.link_simulation.proofs.Rule.BeforeNext.{IsFront, fronts_first, first_found}
 use Rattle.link_simulation.proofs.Simulation.SettlingEnds.{ends_preceded, ends_cond, length_without, find_like}
@@ -88,7 +88,14 @@ module _ {P : Type 0} (cmp : P → P → Ordering) (order : IsTotalOrder cmp) (y
   pub rested_joined : (t : ℕ) (w : World P) (x : Message P) → same_pair cmp y x ≡ true → IsRested t (joined cmp w x)
   unfolding IsRested
   rested_joined t w x e z found =
-      grind (arith, find_passes, joined, pair_like, map-append, list_any-append, or_right, or_left)
+      let own : same_pair cmp y z ≡ true = find_passes (same_pair cmp y) z (joined cmp w x).waiting found in
+      let pair : same_pair cmp z x ≡ true = pair_like cmp order y z x own ∙ e in
+      let sends : list_any (same_pair cmp z) (flows (joined cmp w x)) ≡ true =
+      ap (list_any (same_pair cmp z)) (map-append (λ (g : Flight P). g.message) w.sending (flight_of x ∷ []))
+      ∙ list_any-append (same_pair cmp z) (flows w) (x ∷ [])
+      ∙ or_right (list_any (same_pair cmp z) (flows w)) (same_pair cmp z x || false)
+      (or_left (same_pair cmp z x) false pair) in
+      rw sends refl
 
   abbrev pub IsAfter : ℕ → World P → World P → Type 0
   IsAfter t w v = OnlyPair w v × IsRested t v
@@ -156,7 +163,10 @@ module _ {P : Type 0} (cmp : P → P → Ordering) (order : IsTotalOrder cmp) (y
           by_may true e =
               ends_cond (IsAfter t (arrived cmp t w f.message)) (nat_le last_moment w.next_id) (meets FlowIdsUsedUp) _
               tt (by_done (is_done cmp (arrived cmp t w f.message) (flight_of x)) fewer)
-          by_may false e = grind arith
+          by_may false e =
+              ih fs (arrived cmp t w f.message) own.1 (omega arith)
+              (λ k z found. let same : x ≡ z = cc in
+              subst (λ (m : Message P). may_start cmp t (arrived cmp t w f.message) m ≡ false) same e)
 
   -- ---- who is ready afterwards
 

@@ -1,13 +1,13 @@
 -- What happens to one pair leaves the other pairs as they are.
-use Rattle.link_simulation.proofs.Common.{arith, ◌≡◌, ℕ, zero, suc, ◌+◌, List, [], ◌∷◌, ◌++◌, map, Bool, true, false}
-use Rattle.link_simulation.proofs.Common.{cond, not, Option, Some, None, refl, sym, ap, ◌∙◌, subst, ⊤, ◌||◌, ◌==◌}
-use Rattle.link_simulation.proofs.Common.{filter, find, list_any, Ordering, IsTotalOrder, list_any-append}
-use Rattle.link_simulation.proofs.Common.{filter-append, or_right, or_left, not-true, map-append, without_first}
-use Rattle.link_simulation.proofs.Common.{Completed, Course, EndsWith, Flight, World, complete, first_waiting, flows}
-use Rattle.link_simulation.proofs.Common.{fronts, goes, is_done, is_idle, may_start, meets, raised, ready}
-use Rattle.link_simulation.proofs.Common.{settle_within, start, start_next, turn, out_of_flight, arrival, flight_of}
-use Rattle.link_simulation.proofs.Common.{Message, same_pair, Caps, is_unlimited, filter_swap, filter_stronger, Each}
-use Rattle.link_simulation.proofs.Common.{each_filtered}
+use Rattle.link_simulation.proofs.Common.{is_late, completed, MomentTooLate, arith, ◌≡◌, ℕ, zero, suc, ◌+◌, List, []}
+use Rattle.link_simulation.proofs.Common.{◌∷◌, ◌++◌, map, Bool, true, false, cond, not, Option, Some, None, refl, sym}
+use Rattle.link_simulation.proofs.Common.{ap, ◌∙◌, subst, ⊤, ◌||◌, ◌==◌, filter, find, list_any, Ordering, IsTotalOrder}
+use Rattle.link_simulation.proofs.Common.{list_any-append, filter-append, or_right, or_left, not-true, map-append}
+use Rattle.link_simulation.proofs.Common.{without_first, Completed, Course, EndsWith, Flight, World, complete}
+use Rattle.link_simulation.proofs.Common.{first_waiting, flows, fronts, goes, is_done, is_idle, may_start, meets}
+use Rattle.link_simulation.proofs.Common.{raised, ready, settle_within, start, start_next, turn, out_of_flight, arrival}
+use Rattle.link_simulation.proofs.Common.{flight_of, Message, same_pair, Caps, is_unlimited, filter_swap}
+use Rattle.link_simulation.proofs.Common.{filter_stronger, Each, each_filtered}
 use Rattle.std.proofs.lemmas.Map.Views.{any-filter_same}
 use Rattle.std.proofs.lemmas.Bool.{not-false}
 use Rattle.std.proofs.lemmas.List.{append-nil}
@@ -172,7 +172,10 @@ module _ {P : Type 0} (cmp : P → P → Ordering) (order : IsTotalOrder cmp) wh
 
   pub leaves_like : (t : ℕ) (m x : Message P) (w v u : World P) → same_pair cmp m x ≡ true → IsButFor cmp m w v
       → Leaves t x v u → Leaves t m w u
-  leaves_like t m x w v u e a l = grind (arith, but_for_twice, but_for_like, find_like)
+  leaves_like t m x w v u e a l = record {
+    others = but_for_twice m w v u a (but_for_like m x v u e l.others);
+    rests = λ y is. l.rests y (find_like cmp order m x u.waiting e ∙ is);
+  }
 
   pub ends_more : (R Q : World P → Type 0) (c : Course (Completed P) (World P)) → ((v : World P) → R v → Q v)
       → EndsWith R c → EndsWith Q c
@@ -206,10 +209,15 @@ module _ {P : Type 0} (cmp : P → P → Ordering) (order : IsTotalOrder cmp) wh
   pub complete_leaves : (t : ℕ) (w : World P) (f : Flight P) → find (is_done cmp w) w.sending ≡ Some f
       → EndsWith (Leaves t f.message w) (complete cmp t w f.message)
   complete_leaves t w f e =
-      let landed = out_of_flight cmp t w f.message in
-      grind (arith, ends_cond, ends_preceded, ends_more, leaves_like, (pair_itself cmp order f.message),
-      (landed_but_for w f (arrival cmp t f.message) e),
-      (next_leaves t landed f.message (first_waiting cmp landed f.message) refl))
+      let landed : World P = out_of_flight cmp t w f.message in
+      ends_cond (Leaves t f.message w) (is_late cmp t f.message) (meets MomentTooLate) _ tt
+      (ends_preceded (Leaves t f.message w) (completed cmp t f.message ∷ [])
+      (start_next cmp t landed (first_waiting cmp landed f.message))
+      (ends_more (Leaves t f.message landed) (Leaves t f.message w)
+      (start_next cmp t landed (first_waiting cmp landed f.message))
+      (λ u l. leaves_like t f.message f.message w landed u (pair_itself cmp order f.message)
+      (landed_but_for w f (arrival cmp t f.message) e) l)
+      (next_leaves t landed f.message (first_waiting cmp landed f.message) refl)))
 
   -- ---- settling after a start
 

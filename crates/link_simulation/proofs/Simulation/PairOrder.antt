@@ -3,6 +3,7 @@ use Rattle.link_simulation.proofs.Common.{arith, ◌≡◌, List, [], ◌∷◌,
 use Rattle.link_simulation.proofs.Common.{sym, ap, ◌∙◌, subst, find, Ordering, Less, Equal, Greater, is_eq, is_lt}
 use Rattle.link_simulation.proofs.Common.{IsTotalOrder, least_pair, Message, OneForEachPair, pair_before, same_pair}
 use Rattle.link_simulation.proofs.Common.{Each, find_from_any}
+use Rattle.link_simulation.proofs.Simulation.Queue.{pair_like}
 use Rattle.std.specs.Ordering.{is_gt, ordering_reverse, ordering_then}
 use Rattle.std.specs.Cmp.{then_total, tied_then, upto}
 use Rattle.std.proofs.lemmas.Cmp.{on_total, tied_itself}
@@ -108,7 +109,27 @@ module _ {P : Type 0} (cmp : P → P → Ordering) (order : IsTotalOrder cmp) wh
   find_inserted : (k m : Message P) (ns : List (Message P)) → find (same_pair cmp m) ns ≡ None
       → find (same_pair cmp k) (insert_by_pair cmp m ns) ≡ cond (same_pair cmp k m) (Some m) (find (same_pair cmp k) ns)
   find_inserted k m [] h = refl
-  find_inserted k m (n ∷ ns) h = grind (arith, (find_inserted k m ns))
+  find_inserted k m (n ∷ ns) h = by_order (pair_before cmp n m) (same_pair cmp m n) refl h (find_inserted k m ns)
+    where
+      exchanged : (a b : Bool) → same_pair cmp k m ≡ a → same_pair cmp k n ≡ b → same_pair cmp m n ≡ false
+          → cond b (Some n) (cond a (Some m) (find (same_pair cmp k) ns))
+          ≡ cond a (Some m) (cond b (Some n) (find (same_pair cmp k) ns))
+      exchanged true true e f apart = let both : same_pair cmp m n ≡ true = pair_like cmp order k m n e ∙ f in cc
+      exchanged true false e f apart = refl
+      exchanged false true e f apart = refl
+      exchanged false false e f apart = refl
+
+      by_order : (a b : Bool) → same_pair cmp m n ≡ b → cond b (Some n) (find (same_pair cmp m) ns) ≡ None
+          → (find (same_pair cmp m) ns ≡ None
+          → find (same_pair cmp k) (insert_by_pair cmp m ns)
+          ≡ cond (same_pair cmp k m) (Some m) (find (same_pair cmp k) ns))
+          → find (same_pair cmp k) (cond a (n ∷ insert_by_pair cmp m ns) (m ∷ n ∷ ns))
+          ≡ cond (same_pair cmp k m) (Some m) (cond (same_pair cmp k n) (Some n) (find (same_pair cmp k) ns))
+      by_order a true is none ih = cc
+      by_order true false is none ih =
+          ap (λ (o : Option (Message P)). cond (same_pair cmp k n) (Some n) o) (ih none)
+          ∙ exchanged (same_pair cmp k m) (same_pair cmp k n) refl refl is
+      by_order false false is none ih = refl
 
   -- ordering finds what was there
   pub find_by_pair : (ms : List (Message P)) → OneForEachPair cmp ms → (k : Message P)

@@ -196,7 +196,14 @@ module _ {P : Type 0} (cmp : P → P → Ordering) (order : IsTotalOrder cmp) wh
       → ((p q r s : P) → same_peer cmp p q ≡ true → same_peer cmp r s ≡ true → last p r ≡ last q s)
       → (p q r s : P) → same_peer cmp p q ≡ true → same_peer cmp r s ≡ true
       → raised cmp last m at p r ≡ raised cmp last m at q s
-  raised_peerwise last m at h p q r s e f = grind arith
+  raised_peerwise last m at h p q r s e f =
+      by_tests (same_peer cmp m.origin p) (same_peer cmp m.origin q) (same_peer cmp m.recipient r)
+      (same_peer cmp m.recipient s) (last p r) (last q s) (peer_alike m.origin p q e)
+      (peer_alike m.recipient r s f) (h p q r s e f)
+    where
+      by_tests : (a b c d : Bool) (x y : Option ℕ) → a ≡ b → c ≡ d → x ≡ y
+          → cond (a && c) (Some (later_of x at)) x ≡ cond (b && d) (Some (later_of y at)) y
+      by_tests a b c d x y e f g = rw (e, f, g) refl
 
   landed_peerwise : (w : World P) (fs : List (Flight P)) (m : Message P) (at : ℕ) → IsPeerwise w
       → IsPeerwise (record w { sending = fs; last_arrival = raised cmp w.last_arrival m at })

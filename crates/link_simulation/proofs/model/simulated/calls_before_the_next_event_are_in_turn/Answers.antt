@@ -7,7 +7,11 @@ pub returns-clause-before : goal.returns-clause-before
 returns-clause-before g c = turn_by_next g.P.Ord.cmp g.met.P.Ord.total
 
 pub returns-clause-called : goal.returns-clause-called
-returns-clause-called g c p w call now stands moment later next = grind (arith, turn_by_next)
+returns-clause-called g c p w call now stands moment later next = record {
+  stands = stands;
+  moment = moment;
+  turn = turn_by_next g.P.Ord.cmp g.met.P.Ord.total p w call now stands moment later next;
+}
 
 pub returns-clause-first : goal.returns-clause-first
 returns-clause-first g c p id now call new stands moment =
