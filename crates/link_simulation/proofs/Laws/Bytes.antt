@@ -1,8 +1,8 @@
 -- What an origin still has to send goes down by no more than its egress cap lets go.
-use Rattle.link_simulation.proofs.Common.{common_steps, sum_by, ◌≡◌, ℕ, zero, suc, ◌+◌, ◌-◌, ◌*◌, ◌<◌, ◌≤◌, List, []}
-use Rattle.link_simulation.proofs.Common.{◌∷◌, ◌++◌, map, length, Bool, true, false, Option, Some, None, refl, sym, ap}
-use Rattle.link_simulation.proofs.Common.{◌∙◌, subst, arith, append-nil, if◌then◌else◌, slice_get, filter, find}
-use Rattle.link_simulation.proofs.Common.{flat_map, Ordering, IsTotalOrder, All-contains, Contains-append_left}
+use Rattle.link_simulation.proofs.Common.{◌||◌, ◌==◌, common_steps, sum_by, ◌≡◌, ℕ, zero, suc, ◌+◌, ◌-◌, ◌*◌, ◌<◌, ◌≤◌}
+use Rattle.link_simulation.proofs.Common.{List, [], ◌∷◌, ◌++◌, map, length, Bool, true, false, Option, Some, None, refl}
+use Rattle.link_simulation.proofs.Common.{sym, ap, ◌∙◌, subst, arith, append-nil, if◌then◌else◌, slice_get, filter}
+use Rattle.link_simulation.proofs.Common.{find, flat_map, Ordering, IsTotalOrder, All-contains, Contains-append_left}
 use Rattle.link_simulation.proofs.Common.{Contains-append_right, mul-pos, IsAtMost, plus, Amount, billion, whole, Side}
 use Rattle.link_simulation.proofs.Common.{load, without_first, same_peer, Completed, Course, Flight, World, and_then}
 use Rattle.link_simulation.proofs.Common.{complete, first_waiting, flows, fronts, goes, instant, is_done, least_pair}
@@ -11,6 +11,7 @@ use Rattle.link_simulation.proofs.Common.{wake_within, EndsWith, out_of_flight, 
 use Rattle.link_simulation.proofs.Common.{call_advance, Caps, Message, same_pair, rate_of, is_unlimited, rates_from}
 use Rattle.link_simulation.proofs.Common.{AreFair, Parts, capped_sides, drained_by, sides_for, ArePositive, Drains}
 use Rattle.link_simulation.proofs.Common.{Ticks, drain_each, no_tick, one_tick, tick_faults, places_from, Each}
+use borrow.Author.Tests.{eqb-true}
 use Rattle.std.specs.Prelude.{Contains}
 use Rattle.std.proofs.Math.Nat.{add-mul, mul-add, zero-add}
 use Rattle.std.proofs.lemmas.List.Sums.{sum_by-cons}
@@ -179,7 +180,12 @@ module _ {P : Type 0} (cmp : P → P → Ordering) (order : IsTotalOrder cmp) wh
 
     done_is_spent : (w : World P) (f : Flight P) → Holds w → is_done cmp w f ≡ true
         → same_peer cmp p f.message.origin ≡ true → f.left.num ≡ 0
-    done_is_spent w f h done from = grind arith
+    done_is_spent w f h done from =
+        eqb-true f.left.num 0 (by_left (f.left.num == 0) (rw (h.egress f.message.origin from) at done))
+      where
+        by_left : (b : Bool) → (b || false) ≡ true → b ≡ true
+        by_left true e = refl
+        by_left false e = cc
 
     complete_follows : (t : ℕ) (w : World P) (f : Flight P) → Holds w
         → EndsWith (Follows w) (complete cmp t w f.message)

@@ -1,21 +1,21 @@
 -- Each call completes, sends or keeps waiting what there was of a pair and what it enqueues: none is lost or doubled,
 -- and their order stays.
-use Rattle.link_simulation.proofs.Common.{arith, ◌≡◌, ℕ, ◌+◌, List, [], ◌∷◌, ◌++◌, Bool, true, false, cond, not, Option}
-use Rattle.link_simulation.proofs.Common.{Some, None, refl, sym, ap, ◌∙◌, subst, append_assoc, append-nil, ⊤, ◌&&◌}
-use Rattle.link_simulation.proofs.Common.{nat_lt, if◌then◌else◌, filter, AllZip, Ordering, IsTotalOrder, map-append}
-use Rattle.link_simulation.proofs.Common.{filter-append, without_first, MomentTooLate, Message, Caps, OneForEachPair}
-use Rattle.link_simulation.proofs.Common.{same_pair, is_delivered, Completed, Course, goes, meets, last_moment}
-use Rattle.link_simulation.proofs.Common.{preceded, raised, later_of, completion_of, completed, arrival, Call}
-use Rattle.link_simulation.proofs.Common.{call_limit, call_limit_link, call_enqueue, call_advance, call_enqueue_all}
-use Rattle.link_simulation.proofs.Common.{call_next, enqueued, IsCompletionOf, Planned, RatedFlight, rated_messages}
-use Rattle.link_simulation.proofs.Common.{drained_to, next_of, may_launch, is_spent, Accounts, PlansStart, Launches}
-use Rattle.link_simulation.proofs.Common.{nothing_waits, too_early, no_id, starts, Finishes, all_completed, late}
-use Rattle.link_simulation.proofs.Common.{stopped, completes, WakesEach, all_started, no_start, no_finish, starts_one}
-use Rattle.link_simulation.proofs.Common.{Settles, settling, Rebalances, none_sending, some_sending, Enqueues, at_once}
-use Rattle.link_simulation.proofs.Common.{no_launch, launches, Advances, no_more, at_finish, at_start, finish_stops}
-use Rattle.link_simulation.proofs.Common.{start_stops, launched, landed, with_queued, completed_at_once, Obeys}
-use Rattle.link_simulation.proofs.Common.{EnqueuesEach, all_enqueued, one_stops, enqueues_one, IsOrderly, of_pair}
-use Rattle.link_simulation.proofs.Common.{held_of, zip-append, common_steps}
+use Rattle.link_simulation.proofs.Common.{find, arith, ◌≡◌, ℕ, ◌+◌, List, [], ◌∷◌, ◌++◌, Bool, true, false, cond, not}
+use Rattle.link_simulation.proofs.Common.{Option, Some, None, refl, sym, ap, ◌∙◌, subst, append_assoc, append-nil, ⊤}
+use Rattle.link_simulation.proofs.Common.{◌&&◌, nat_lt, if◌then◌else◌, filter, AllZip, Ordering, IsTotalOrder}
+use Rattle.link_simulation.proofs.Common.{map-append, filter-append, without_first, MomentTooLate, Message, Caps}
+use Rattle.link_simulation.proofs.Common.{OneForEachPair, same_pair, is_delivered, Completed, Course, goes, meets}
+use Rattle.link_simulation.proofs.Common.{last_moment, preceded, raised, later_of, completion_of, completed, arrival}
+use Rattle.link_simulation.proofs.Common.{Call, call_limit, call_limit_link, call_enqueue, call_advance}
+use Rattle.link_simulation.proofs.Common.{call_enqueue_all, call_next, enqueued, IsCompletionOf, Planned, RatedFlight}
+use Rattle.link_simulation.proofs.Common.{rated_messages, drained_to, next_of, may_launch, is_spent, Accounts}
+use Rattle.link_simulation.proofs.Common.{PlansStart, Launches, nothing_waits, too_early, no_id, starts, Finishes}
+use Rattle.link_simulation.proofs.Common.{all_completed, late, stopped, completes, WakesEach, all_started, no_start}
+use Rattle.link_simulation.proofs.Common.{no_finish, starts_one, Settles, settling, Rebalances, none_sending}
+use Rattle.link_simulation.proofs.Common.{some_sending, Enqueues, at_once, no_launch, launches, Advances, no_more}
+use Rattle.link_simulation.proofs.Common.{at_finish, at_start, finish_stops, start_stops, launched, landed, with_queued}
+use Rattle.link_simulation.proofs.Common.{completed_at_once, Obeys, EnqueuesEach, all_enqueued, one_stops, enqueues_one}
+use Rattle.link_simulation.proofs.Common.{IsOrderly, of_pair, held_of, zip-append, common_steps}
 use Rattle.link_simulation.proofs.Simulation.Queue.{find_passes, any_like}
 use Rattle.link_simulation.proofs.Simulation.SettlingEnds.{find_like}
 use Rattle.link_simulation.proofs.Rule.Launch.{rest_of, head_of, head_found, waits_without}
@@ -86,14 +86,22 @@ module _ {P : Type 0} (cmp : P → P → Ordering) (order : IsTotalOrder cmp) wh
       waits = of_pair cmp k p.waiting
 
       own_first : same_pair cmp k m ≡ true → waits ≡ m ∷ rest_of waits
-      own_first own = grind (arith, find_like, find_passes, headed, waits, head_found)
+      own_first own =
+          let own_found : find (same_pair cmp k) p.waiting ≡ Some m
+          = sym (find_like cmp order k m p.waiting own)
+          ∙ find_like cmp order n m p.waiting (find_passes (same_pair cmp n) m p.waiting found) ∙ found in
+          headed waits m (sym (head_found (same_pair cmp k) p.waiting) ∙ own_found)
 
       own_idle : same_pair cmp k m ≡ true → flying ≡ []
-      own_idle own = grind (arith, filter_nothing, any_like, idle_if_may)
+      own_idle own =
+          filter_nothing (same_pair cmp k) (rated_messages p.sending)
+          (sym (any_like cmp order k m (rated_messages p.sending) own) ∙ idle_if_may cmp order t p m may)
 
       by_pair : (b : Bool) → (b ≡ true → waits ≡ m ∷ rest_of waits) → (b ≡ true → flying ≡ [])
           → (flying ++ cond b (m ∷ []) []) ++ cond b (rest_of waits) waits ≡ flying ++ waits
-      by_pair true first idle = grind (arith, flying, rest_of, waits)
+      by_pair true first idle = let none : flying ≡ [] = idle refl in
+          ap (λ (ms : List (Message P)). (ms ++ m ∷ []) ++ rest_of waits) none ∙ sym (first refl)
+          ∙ sym (ap (λ (ms : List (Message P)). ms ++ waits) none)
       by_pair false first idle = ap (λ (ms : List (Message P)). ms ++ waits) (append-nil flying)
 
   launch_holds : {t : ℕ} {p : Planned P} {o : Option (Message P)} {c : Course (Message P) (Planned P)}
@@ -151,7 +159,11 @@ module _ {P : Type 0} (cmp : P → P → Ordering) (order : IsTotalOrder cmp) wh
   first_done t m ms more p q (goes cs r) same a = record {
     done = m ∷ a.done;
     completions_are = ((t, (if is_delivered cmp m then Some (arrival cmp t m) else None), refl), a.completions_are);
-    each_pair = grind (arith, before_both, filter-append, append_assoc);
+    each_pair = λ k.
+        before_both (same_pair cmp k m) m (of_pair cmp k a.done) (of_pair cmp k ms) (held_of cmp k r) (held_of cmp k p)
+        (a.each_pair k ∙ ap (λ (ns : List (Message P)). ns ++ held_of cmp k q) (filter-append (same_pair cmp k) ms more)
+        ∙ append_assoc (of_pair cmp k ms) (of_pair cmp k more) (held_of cmp k q)
+        ∙ ap (λ (ns : List (Message P)). of_pair cmp k ms ++ ns) (same k));
   }
   first_done t m ms more p q (meets fault) same a = tt
 
@@ -297,7 +309,9 @@ module _ {P : Type 0} (cmp : P → P → Ordering) (order : IsTotalOrder cmp) wh
   pub call_keeps : (p : Planned P) (call : Call P) (c : Course (Completed P) (Planned P)) → Obeys cmp p call c
       → IsOrderly cmp p → KeepsAll p (enqueued (call ∷ [])) c
   call_keeps p (call_limit now peer egress ingress) c obeys h =
-      grind (arith, none_enqueued, rebalance_moves, recapped_steady, limited_by_alike)
+      none_enqueued p c
+      (rebalance_moves obeys
+      (recapped_steady cmp order p _ (limited_by_alike cmp order p.caps peer egress ingress h.caps) h))
   call_keeps p (call_limit_link now origin recipient cap) c obeys h =
       grind (arith, none_enqueued, rebalance_moves, recapped_steady, linked_by_alike)
   call_keeps p (call_enqueue now m) c obeys h = enqueue_keeps obeys h

@@ -410,7 +410,15 @@ module _ {P : Type 0} (cmp : P → P → Ordering) (order : IsTotalOrder cmp) (i
       → IsPartOf (and_then (settle cmp t u) (wake_within cmp n t))
       (and_then (settle cmp t (part last id u)) (wake_within cmp k t))
   settle_and_wake n k t u last id is h g ih =
-      grind (arith, common_steps, part_then, settle_part, ends_both, settle_waits, settle_rests)
+      let all : ℕ = length u.sending + length u.waiting in
+      let few : ℕ = length (filter in_flight u.sending) + length (filter mine u.waiting) in
+      part_then (λ v. WaitsAtMost n v × NoneDone cmp order v) (WaitsAtMost k) (settle cmp t u)
+      (settle cmp t (part last id u)) (wake_within cmp n t) (wake_within cmp k t)
+      (settle_part all few t u last id is (omega arith) (omega arith))
+      (ends_both (WaitsAtMost n) (NoneDone cmp order) (settle cmp t u) (settle_waits all n t u h)
+      (settle_rests cmp order t u))
+      (settle_waits few k t (part last id u) g)
+      (λ v l i part_v r s. ih k v l i part_v r.1 r.0 s)
 
   pub wake_part : (n t : ℕ) → GoesByRule n t
   wake_part zero t k w last id is rests most few = grind (arith, none_long, wake_nothing, ready_part)

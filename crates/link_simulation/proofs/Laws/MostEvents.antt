@@ -1,9 +1,9 @@
 -- Each event takes a message out or starts one, so there are at most twice the waiting ones and once those in flight.
-use Rattle.link_simulation.proofs.Common.{common_steps, ◌≡◌, ◌≢◌, ℕ, zero, suc, ◌+◌, ◌-◌, ◌<◌, ◌≤◌, List, [], ◌∷◌, ◌++◌}
-use Rattle.link_simulation.proofs.Common.{length, Bool, true, false, not, Option, Some, refl, sym, ap, ◌∙◌, subst}
-use Rattle.link_simulation.proofs.Common.{arith, ⊤, slice_get, IfSome, find, filter, Ordering, IsTotalOrder, Message}
-use Rattle.link_simulation.proofs.Common.{Caps, same_pair, Completed, Course, goes, meets, preceded, fronts, completed}
-use Rattle.link_simulation.proofs.Common.{Call, call_limit, call_limit_link, call_enqueue, call_advance}
+use Rattle.link_simulation.proofs.Common.{cond, left_at, common_steps, ◌≡◌, ◌≢◌, ℕ, zero, suc, ◌+◌, ◌-◌, ◌<◌, ◌≤◌, List}
+use Rattle.link_simulation.proofs.Common.{[], ◌∷◌, ◌++◌, length, Bool, true, false, not, Option, Some, refl, sym, ap}
+use Rattle.link_simulation.proofs.Common.{◌∙◌, subst, arith, ⊤, slice_get, IfSome, find, filter, Ordering, IsTotalOrder}
+use Rattle.link_simulation.proofs.Common.{Message, Caps, same_pair, Completed, Course, goes, meets, preceded, fronts}
+use Rattle.link_simulation.proofs.Common.{completed, Call, call_limit, call_limit_link, call_enqueue, call_advance}
 use Rattle.link_simulation.proofs.Common.{call_enqueue_all, call_next, Planned, RatedFlight, IsLeastMoment, next_event}
 use Rattle.link_simulation.proofs.Common.{rated_messages, IsSpentAt, SomeSpentAt, drained_to, next_of, may_launch}
 use Rattle.link_simulation.proofs.Common.{SomeReadyAt, is_spent, new_planned, Accounts, PlansStart, Launches}
@@ -216,7 +216,16 @@ module _ {P : Type 0} (cmp : P → P → Ordering) (order : IsTotalOrder cmp) wh
       → slice_get fs i ≡ Some f → IsSpentAt t f → 0 < length (filter (is_spent cmp p.caps) (drained_to t fs))
   spent_leaves t p [] i f at spent = cc
   spent_leaves t p (g ∷ gs) zero f at spent = grind arith
-  spent_leaves t p (g ∷ gs) (suc i) f at spent = grind (arith, (spent_leaves t p gs i f at spent))
+  spent_leaves t p (g ∷ gs) (suc i) f at spent =
+      by_test (is_spent cmp p.caps (record g { left = left_at t g; updated = t })) (spent_leaves t p gs i f at spent)
+    where
+      by_test : (b : Bool) → 0 < length (filter (is_spent cmp p.caps) (drained_to t gs))
+          → 0
+          < length
+          (cond b (record g { left = left_at t g; updated = t } ∷ filter (is_spent cmp p.caps) (drained_to t gs))
+          (filter (is_spent cmp p.caps) (drained_to t gs)))
+      by_test true h = omega arith
+      by_test false h = h
 
   settle_less : {t : ℕ} {p : Planned P} {c : Course (Completed P) (Planned P)} → Settles cmp t p c
       → SomeSpentAt p.sending t → 0 < most_events p × Leaves (most_events p - 1) c

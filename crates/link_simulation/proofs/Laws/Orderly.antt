@@ -72,7 +72,14 @@ module _ {P : Type 0} (cmp : P → P → Ordering) (order : IsTotalOrder cmp) wh
   account_orderly t old new leavers a h = grind (arith, stayed_messages, one_of_fewer, drained_messages, none_stays)
 
   look_orderly : (t : ℕ) (p q : Planned P) → PlansStart cmp t p q → IsOrderly cmp p → IsOrderly cmp q
-  look_orderly t p q looks h = grind arith
+  look_orderly t p q looks h = subst (IsOrderly cmp) (sym looks.same) (record {
+    rated = record { per = h.rated.per; rates = h.rated.rates; fair = h.rated.fair; rated = h.rated.rated };
+    one_each = h.one_each;
+    pair_order = h.pair_order;
+    empty_at_first = h.empty_at_first;
+    caps = h.caps;
+    last_arrival = h.last_arrival;
+  })
 
   -- a message that may start is of an idle pair
   pub idle_if_may : (t : ℕ) (p : Planned P) (m : Message P) → may_launch cmp t p m ≡ true

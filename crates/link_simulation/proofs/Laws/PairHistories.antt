@@ -1,15 +1,16 @@
 -- How far a pair is: which of its messages completed, which is in flight, which wait. Starts, completions and whole
 -- instants keep it.
-use Rattle.link_simulation.proofs.Common.{completion_of, ◌≡◌, ℕ, zero, suc, ◌+◌, ◌≤◌, List, [], ◌∷◌, ◌++◌, map, length}
-use Rattle.link_simulation.proofs.Common.{Bool, true, false, cond, not, Option, Some, None, refl, sym, ap, ◌∙◌, subst}
-use Rattle.link_simulation.proofs.Common.{arith, append_assoc, append-nil, ⊤, ◌&&◌, IfSome, if◌then◌else◌, list_any}
-use Rattle.link_simulation.proofs.Common.{find, filter, AllZip, Ordering, IsTotalOrder, filter-append, map-append}
-use Rattle.link_simulation.proofs.Common.{leb-true, without_first, MomentTooLate, same_peer, Message, PairsAlike}
-use Rattle.link_simulation.proofs.Common.{same_pair, is_delivered, World, Flight, Completed, Course, goes, meets}
-use Rattle.link_simulation.proofs.Common.{preceded, and_then, is_in_order, later_of, flows, first_waiting, may_start}
-use Rattle.link_simulation.proofs.Common.{start, start_next, is_done, complete, settle_within, settle, least_pair}
-use Rattle.link_simulation.proofs.Common.{ready, turn, wake_within, instant, fronts, out_of_flight, is_late, completed}
-use Rattle.link_simulation.proofs.Common.{arrival, flight_of, IsCompletionOf, NeverGoDown, Each, rules}
+use Rattle.link_simulation.proofs.Common.{nat_le, FlowIdsUsedUp, completion_of, last_moment, ◌≡◌, ℕ, zero, suc, ◌+◌}
+use Rattle.link_simulation.proofs.Common.{◌≤◌, List, [], ◌∷◌, ◌++◌, map, length, Bool, true, false, cond, not, Option}
+use Rattle.link_simulation.proofs.Common.{Some, None, refl, sym, ap, ◌∙◌, subst, arith, append_assoc, append-nil, ⊤}
+use Rattle.link_simulation.proofs.Common.{◌&&◌, IfSome, if◌then◌else◌, list_any, find, filter, AllZip, Ordering}
+use Rattle.link_simulation.proofs.Common.{IsTotalOrder, filter-append, map-append, leb-true, without_first}
+use Rattle.link_simulation.proofs.Common.{MomentTooLate, same_peer, Message, PairsAlike, same_pair, is_delivered, World}
+use Rattle.link_simulation.proofs.Common.{Flight, Completed, Course, goes, meets, preceded, and_then, is_in_order}
+use Rattle.link_simulation.proofs.Common.{later_of, flows, first_waiting, may_start, start, start_next, is_done}
+use Rattle.link_simulation.proofs.Common.{complete, settle_within, settle, least_pair, ready, turn, wake_within}
+use Rattle.link_simulation.proofs.Common.{instant, fronts, out_of_flight, is_late, completed, arrival, flight_of}
+use Rattle.link_simulation.proofs.Common.{IsCompletionOf, NeverGoDown, Each, rules}
 use Rattle.link_simulation.specs.Laws.PairCompletions.{NoneBefore, completes_pair}
 use Rattle.link_simulation.proofs.Simulation.Queue.{pair_like, pair_sym, find_passes, settle_none, settle_first}
 use Rattle.link_simulation.proofs.Simulation.SettlingEnds.{find_like}
@@ -256,7 +257,11 @@ module _ {P : Type 0} (cmp : P → P → Ordering) (order : IsTotalOrder cmp) (k
     start_goes : (cs : List (Completed P)) (w : World P) (m : Message P) → find (same_pair cmp m) w.waiting ≡ Some m
         → may_start cmp t w m ≡ true → IsHistory messages t cs w → GoesByRule cs (start cmp w m)
     unfolding joined GoesByRule
-    start_goes cs w m found may h = grind (arith, joined, stays, start_history)
+    start_goes cs w m found may h = by_id (nat_le last_moment w.next_id)
+      where
+        by_id : (b : Bool) → GoesByRule cs (cond b (meets FlowIdsUsedUp) (goes [] (joined w m)))
+        by_id true = tt
+        by_id false = stays cs (joined w m) (start_history messages t cs w m found may h)
 
     pub next_goes : (cs : List (Completed P)) (w : World P) (n : Message P) (o : Option (Message P))
         → find (same_pair cmp n) w.waiting ≡ o → IsHistory messages t cs w → GoesByRule cs (start_next cmp t w o)

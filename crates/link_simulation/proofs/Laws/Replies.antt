@@ -103,7 +103,9 @@ module _ {P : Type 0} (cmp : P → P → Ordering) (order : IsTotalOrder cmp) wh
   module _ (inside : P → Bool) (together : IsSet cmp inside) where
     alone_alike : (cs ds : List (Completed P)) → AllZip (SameCompletion cmp) cs ds
         → AllZip (SameCompletion cmp) (inside_alone inside cs) (inside_alone inside ds)
-    alone_alike cs ds same = grind (arith, zip-filter)
+    alone_alike cs ds same =
+        zip-filter (SameCompletion cmp) (λ c. inside c.origin) (λ c. inside c.origin)
+        (λ c d one. together c.origin d.origin one.origin) cs ds same
 
     kept_alike : (calls : List (Call P)) (css dss : List (List (Completed P)))
         → AllZip (AllZip (SameCompletion cmp)) css dss

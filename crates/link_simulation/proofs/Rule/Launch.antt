@@ -1,7 +1,7 @@
 -- A launch in the planned world is a start in the world, and what is done at once leaves.
-use Rattle.link_simulation.proofs.Common.{◌≡◌, ℕ, ◌+◌, ◌≤◌, List, [], ◌∷◌, ◌++◌, map, length, Bool, true, false, cond}
-use Rattle.link_simulation.proofs.Common.{not, Option, Some, None, refl, sym, ap, ◌∙◌, arith, nat_le, ⊤, ◌&&◌, filter}
-use Rattle.link_simulation.proofs.Common.{find, list_any, AllZip, Ordering, IsTotalOrder, not-true, map-append}
+use Rattle.link_simulation.proofs.Common.{subst, ◌≡◌, ℕ, ◌+◌, ◌≤◌, List, [], ◌∷◌, ◌++◌, map, length, Bool, true, false}
+use Rattle.link_simulation.proofs.Common.{cond, not, Option, Some, None, refl, sym, ap, ◌∙◌, arith, nat_le, ⊤, ◌&&◌}
+use Rattle.link_simulation.proofs.Common.{filter, find, list_any, AllZip, Ordering, IsTotalOrder, not-true, map-append}
 use Rattle.link_simulation.proofs.Common.{filter-append, whole, Completed, Course, Flight, World, flows, goes, is_done}
 use Rattle.link_simulation.proofs.Common.{is_in_order, last_moment, may_start, meets, start, flight_of, Launches}
 use Rattle.link_simulation.proofs.Common.{launched, no_id, nothing_waits, starts, too_early, Message, OneForEachPair}
@@ -93,9 +93,16 @@ module _ {P : Type 0} (cmp : P → P → Ordering) (order : IsTotalOrder cmp) wh
   pub next_alike : (t : ℕ) (p : Planned P) (w : World P) (m n : Message P) → Tallies cmp t p w → SameMessage cmp m n
       → OptionsAlike (SameMessage cmp) (next_of cmp p m) (find (same_pair cmp n) w.waiting)
   next_alike t p w m n same alike =
-      grind (arith, (head_found (same_pair cmp m) p.waiting), (find_like cmp order m n),
-      (head_found (same_pair cmp m) w.waiting), (heads_alike (SameMessage cmp) (filter (same_pair cmp m) p.waiting)
-      (filter (same_pair cmp m) w.waiting) (same.waiting m)))
+      let pair : same_pair cmp m n ≡ true = rw (alike.origin, alike.recipient) refl in
+      let there : find (same_pair cmp n) w.waiting ≡ head_of (filter (same_pair cmp m) w.waiting) =
+      find_like cmp order m n w.waiting pair ∙ head_found (same_pair cmp m) w.waiting in
+      subst (λ (o : Option (Message P)). OptionsAlike (SameMessage cmp) o (find (same_pair cmp n) w.waiting))
+      (sym (head_found (same_pair cmp m) p.waiting))
+      (subst
+      (λ (o : Option (Message P)). OptionsAlike (SameMessage cmp) (head_of (filter (same_pair cmp m) p.waiting)) o)
+      (sym there)
+      (heads_alike (SameMessage cmp) (filter (same_pair cmp m) p.waiting) (filter (same_pair cmp m) w.waiting)
+      (same.waiting m)))
 
   -- ---- a message starts
 
@@ -200,11 +207,26 @@ module _ {P : Type 0} (cmp : P → P → Ordering) (order : IsTotalOrder cmp) wh
       → (nat_le last_moment w.next_id) ≡ false
       → launch_then cmp next t fs w (Some y) ≡ next (fs ++ joining w y) (started w y)
   unfolding launch_then
-  starts_so next t fs w y e f = grind (arith, joined, append-nil)
+  starts_so next t fs w y e f = rw (e, f) (by_test (is_done cmp w (flight_of y)))
+    where
+      by_test : (b : Bool)
+          → cond b (next (fs ++ flight_of y ∷ []) (out_of_waiting cmp w y)) (next fs (joined cmp w y))
+          ≡ next (fs ++ cond b (flight_of y ∷ []) []) (cond b (out_of_waiting cmp w y) (joined cmp w y))
+      by_test true = refl
+      by_test false = ap (λ (q : List (Flight P)). next q (joined cmp w y)) (sym (append-nil fs))
 
   pub started_fewer : (w : World P) (y : Message P) → find (same_pair cmp y) w.waiting ≡ Some y
       → length (joining w y) + length (started w y).waiting ≤ length w.waiting
-  started_fewer w y e = grind (arith, length_without, joined)
+  started_fewer w y e =
+      let fewer : length (without_first (same_pair cmp y) w.waiting) + 1 ≡ length w.waiting =
+      length_without (same_pair cmp y) y w.waiting e in
+      by_test (is_done cmp w (flight_of y)) fewer
+    where
+      by_test : (b : Bool) → length (without_first (same_pair cmp y) w.waiting) + 1 ≡ length w.waiting
+          → length (cond b (flight_of y ∷ []) []) + length (cond b (out_of_waiting cmp w y) (joined cmp w y)).waiting
+          ≤ length w.waiting
+      by_test true h = omega arith
+      by_test false h = omega arith
 
   pub idle_from : (a b : Bool) → (not a && b) ≡ true → a ≡ false
   idle_from true b e = cc

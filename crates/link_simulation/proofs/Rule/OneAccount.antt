@@ -469,8 +469,16 @@ module _ {P : Type 0} (cmp : P → P → Ordering) (order : IsTotalOrder cmp) wh
         → Accounts cmp t (launched cmp t (with_queued cmp (record here { sending = fs; accounted = t; finish = o }) m) m) [] x
         → Accounts cmp t next [] (record x { start = next.start })
     accounts_here x ax =
-        grind (arith, common_steps, (none_more_leaves here.next_id t here.caps here.sending m stays none_here),
-        (stayed_here x ax))
+        subst (λ (q : Planned P). Accounts cmp t q [] (record x { start = next.start })) (sym looks.same) (record {
+          per = ax.per;
+          rates = ax.rates;
+          left = sym (ap rated_messages (none_more_leaves here.next_id t here.caps here.sending m stays none_here));
+          stayed = stayed_here x ax;
+          fair = ax.fair;
+          rated = ax.rated;
+          finish = ax.finish;
+          same = ap (λ (q : Planned P). record q { start = next.start }) ax.same;
+        })
 
     one_start : (ls : List (Message P)) (x : Planned P)
         → Accounts cmp t (launched cmp t (with_queued cmp (record here { sending = fs; accounted = t; finish = o }) m) m) ls x

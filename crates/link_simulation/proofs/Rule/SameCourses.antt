@@ -88,7 +88,8 @@ module _ {P : Type 0} (cmp : P → P → Ordering) (order : IsTotalOrder cmp) wh
       let gs : List (RatedFlight P) = rerated t new.sending stay in
       let n : Planned P = record q { sending = gs; accounted = t; finish = new.finish } in
       let alike : AllZip (IsSameRatedFlight cmp) stays stay = staying_same cmp order p q same t in
-      let sending : AllZip (IsSameRatedFlight cmp) new.sending gs = grind (arith, rerated_same) in (
+      let sending : AllZip (IsSameRatedFlight cmp) new.sending gs =
+      rerated_same t stays new.sending stay accounts.stayed alike in (
         rated_messages (filter (is_spent cmp q.caps) (drained_to t q.sending)),
         n,
         record {
@@ -103,8 +104,14 @@ module _ {P : Type 0} (cmp : P → P → Ordering) (order : IsTotalOrder cmp) wh
           finish = finish_so new.sending gs new.finish sending accounts.finish;
           same = refl;
         },
-        grind (arith, flows_same, leaving_same),
-        grind (arith, accounted_same),
+        subst
+            (λ (ms : List (Message P)). AllZip (SameMessage cmp) ms
+            (rated_messages (filter (is_spent cmp q.caps) (drained_to t q.sending))))
+            (sym accounts.left)
+            (flows_same cmp order (filter (is_spent cmp p.caps) (drained_to t p.sending))
+            (filter (is_spent cmp q.caps) (drained_to t q.sending)) (leaving_same cmp order p q same t)),
+        subst (λ (z : Planned P). IsSamePlanned cmp z n) (sym accounts.same)
+            (accounted_same cmp order p q same t new.sending gs new.finish sending),
       )
 
   -- ---- the start, launches and finishes

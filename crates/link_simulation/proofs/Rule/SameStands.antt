@@ -64,13 +64,18 @@ module _ {P : Type 0} (cmp : P → P → Ordering) (order : IsTotalOrder cmp) wh
         (λ k l e. pairs_alike cmp order m m k l (message_itself cmp order m) e) q.waiting p.waiting back.waiting)
         (tallies.waiting m);
     pair_order = order_same p.waiting q.waiting same.waiting tallies.pair_order;
-    sending = grind (arith, zip_chain, flight_same);
+    sending =
+        zip_chain (IsSameRatedFlight cmp) (IsSameFlight cmp t) (IsSameFlight cmp t) (flight_same t) q.sending p.sending
+        w.sending back.sending tallies.sending;
     one_each = tallies.one_each;
     empty_at_first = λ free. still_empty (tallies.empty_at_first (same.limited ∙ free));
   }
     where
       still_empty : (p.sending ≡ []) × (p.waiting ≡ []) → (q.sending ≡ []) × (q.waiting ≡ [])
-      still_empty (sends, waits) = grind (arith, none_same)
+      still_empty (sends, waits) = (
+        none_same (IsSameRatedFlight cmp) p.sending q.sending same.sending sends,
+        none_same (SameMessage cmp) p.waiting q.waiting same.waiting waits,
+      )
 
   pub stands_same : (p q : Planned P) (w : World P) → IsSamePlanned cmp p q → StandsFor cmp p w → StandsFor cmp q w
   stands_same p q w same stands =

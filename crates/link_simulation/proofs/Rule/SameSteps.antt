@@ -152,7 +152,12 @@ module _ {P : Type 0} (cmp : P → P → Ordering) (order : IsTotalOrder cmp) wh
   fronts_same [] [] all = tt
   fronts_same [] (n ∷ ns) all = absurd all
   fronts_same (m ∷ ms) [] all = absurd all
-  fronts_same (m ∷ ms) (n ∷ ns) all = grind (arith, zip-filter, pairs_alike, (fronts_same ms ns))
+  fronts_same (m ∷ ms) (n ∷ ns) all = (
+    all.0,
+    zip-filter (SameMessage cmp) (λ k. not (same_pair cmp m k)) (λ k. not (same_pair cmp n k))
+        (λ k l e. ap not (pairs_alike cmp order m n k l all.0 e)) (fronts cmp ms) (fronts cmp ns)
+        (fronts_same ms ns all.1),
+  )
 
   -- ---- what is in flight
 

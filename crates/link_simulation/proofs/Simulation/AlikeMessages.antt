@@ -1,12 +1,12 @@
 -- Lists of messages that are the same up to equal peers have the same sides, and so the same fair rates.
-use Rattle.link_simulation.proofs.Common.{◌&&◌, arith, ◌+◌, ◌≡◌, ℕ, List, [], ◌∷◌, Bool, true, Option, Some, None, refl}
-use Rattle.link_simulation.proofs.Common.{ap, if◌then◌else◌, list_any, flat_map, AllZip, Ordering, is_eq, IsTotalOrder}
-use Rattle.link_simulation.proofs.Common.{same_peer, Message, SameMessage, is_delivered, same_pair, Caps, CapsAlike}
-use Rattle.link_simulation.proofs.Common.{AreFair, Parts, capped_sides, is_unlimited, sides_for, rates_from}
-use Rattle.link_simulation.proofs.Common.{egress_side, ingress_side, link_side, places_from}
+use Rattle.link_simulation.proofs.Common.{not, sym, ◌∙◌, ◌&&◌, peer_sym, arith, ◌+◌, ◌≡◌, ℕ, List, [], ◌∷◌, Bool, true}
+use Rattle.link_simulation.proofs.Common.{Option, Some, None, refl, ap, if◌then◌else◌, list_any, flat_map, AllZip}
+use Rattle.link_simulation.proofs.Common.{Ordering, is_eq, IsTotalOrder, same_peer, Message, SameMessage, is_delivered}
+use Rattle.link_simulation.proofs.Common.{same_pair, Caps, CapsAlike, AreFair, Parts, capped_sides, is_unlimited}
+use Rattle.link_simulation.proofs.Common.{sides_for, rates_from, egress_side, ingress_side, link_side, places_from}
+use Rattle.link_simulation.proofs.Simulation.Queue.{peer_like, both_alike}
 use Rattle.std.proofs.lemmas.Cmp.{tied_itself}
 use Rattle.link_simulation.specs.Simulation.Rates.{capped_side}
-use Rattle.link_simulation.proofs.Simulation.Queue.{both_alike}
 use Rattle.fair_rates.proofs.Lists.Places.{places_alike}
 
 module _ {P : Type 0} (cmp : P → P → Ordering) (order : IsTotalOrder cmp) where
@@ -18,7 +18,9 @@ module _ {P : Type 0} (cmp : P → P → Ordering) (order : IsTotalOrder cmp) wh
 
   pub peers_alike : (p q r s : P) → same_peer cmp p q ≡ true → same_peer cmp r s ≡ true
       → same_peer cmp p r ≡ same_peer cmp q s
-  peers_alike p q r s e f = grind arith
+  peers_alike p q r s e f =
+      sym (peer_like cmp order p q r e) ∙ peer_sym cmp order q r ∙ sym (peer_like cmp order r s q f)
+      ∙ peer_sym cmp order s q
 
   pub pairs_alike : (m n k l : Message P) → SameMessage cmp m n → SameMessage cmp k l
       → same_pair cmp m k ≡ same_pair cmp n l
@@ -29,7 +31,10 @@ module _ {P : Type 0} (cmp : P → P → Ordering) (order : IsTotalOrder cmp) wh
       (peers_alike m.recipient n.recipient k.recipient l.recipient f.recipient g.recipient)
 
   pub delivered_alike : (m n : Message P) → SameMessage cmp m n → is_delivered cmp m ≡ is_delivered cmp n
-  delivered_alike m n e = grind arith
+  delivered_alike m n e =
+      both_alike cmp order m.should_deliver n.should_deliver (not (same_peer cmp m.origin m.recipient))
+      (not (same_peer cmp n.origin n.recipient))
+      e.should_deliver (ap not (peers_alike m.origin n.origin m.recipient n.recipient e.origin e.recipient))
 
   pub message_itself : (m : Message P) → SameMessage cmp m m
   message_itself m = grind arith

@@ -1,12 +1,12 @@
 -- Settling what one pair starts touches that pair alone, and leaves it unable to start again at that moment.
-use Rattle.link_simulation.proofs.Common.{subst, ◌||◌, ◌≡◌, ℕ, zero, suc, ◌+◌, ◌≤◌, List, [], ◌∷◌, ◌++◌, length, Bool}
-use Rattle.link_simulation.proofs.Common.{true, false, cond, not, Option, Some, None, refl, sym, ap, ◌∙◌, arith}
-use Rattle.link_simulation.proofs.Common.{length-append, nat_le, ◌&&◌, filter, find, list_any, Ordering, IsTotalOrder}
-use Rattle.link_simulation.proofs.Common.{map-append, list_any-append, same_peer, Completed, Course, Flight, World}
-use Rattle.link_simulation.proofs.Common.{flows, fronts, goes, is_done, last_moment, may_start, meets, ready, EndsWith}
-use Rattle.link_simulation.proofs.Common.{is_late, completed, flight_of, Message, same_pair, FlowIdsUsedUp}
-use Rattle.link_simulation.proofs.Common.{MomentTooLate, out_of_waiting, joined, arrived, launch_then, finish_within}
-use Rattle.link_simulation.proofs.Common.{Each, each_map, each_joined, filter_swap, filter_stronger}
+use Rattle.link_simulation.proofs.Common.{subst, ◌||◌, not-true, ◌≡◌, ℕ, zero, suc, ◌+◌, ◌≤◌, List, [], ◌∷◌, ◌++◌}
+use Rattle.link_simulation.proofs.Common.{length, Bool, true, false, cond, not, Option, Some, None, refl, sym, ap, ◌∙◌}
+use Rattle.link_simulation.proofs.Common.{arith, length-append, nat_le, ◌&&◌, filter, find, list_any, Ordering}
+use Rattle.link_simulation.proofs.Common.{IsTotalOrder, map-append, list_any-append, same_peer, Completed, Course}
+use Rattle.link_simulation.proofs.Common.{Flight, World, flows, fronts, goes, is_done, last_moment, may_start, meets}
+use Rattle.link_simulation.proofs.Common.{ready, EndsWith, is_late, completed, flight_of, Message, same_pair}
+use Rattle.link_simulation.proofs.Common.{FlowIdsUsedUp, MomentTooLate, out_of_waiting, joined, arrived, launch_then}
+use Rattle.link_simulation.proofs.Common.{finish_within, Each, each_map, each_joined, filter_swap, filter_stronger}
 use Rattle.link_simulation.proofs.Common.{length-without_first, or_left, or_right, without_first}
 use Rattle.link_simulation.proofs.Simulation.Queue.{pair_like, pair_sym, find_passes}
 use Rattle.link_simulation.proofs.Rule.BeforeNext.{IsFront, fronts_first, first_found}
@@ -51,7 +51,15 @@ module _ {P : Type 0} (cmp : P → P → Ordering) (order : IsTotalOrder cmp) (y
   only_itself w = record { last = λ p q e. refl; busy = λ m e. refl; others = refl; fewer = omega arith }
 
   pub only_both : (w v u : World P) → OnlyPair w v → OnlyPair v u → OnlyPair w u
-  only_both w v u f g = grind arith
+  only_both w v u f g =
+      record {
+        last = λ p q e. g.last p q e ∙ f.last p q e;
+        busy = λ m e. g.busy m e ∙ f.busy m e;
+        others = g.others ∙ f.others;
+        fewer = let a : length u.waiting ≤ length v.waiting = g.fewer in
+            let b : length v.waiting ≤ length w.waiting = f.fewer in
+            omega arith;
+      }
 
   fronts_without : (x : Message P) (ws : List (Message P)) → same_pair cmp y x ≡ true
       → filter apart (fronts cmp (without_first (same_pair cmp x) ws)) ≡ filter apart (fronts cmp ws)
@@ -172,7 +180,9 @@ module _ {P : Type 0} (cmp : P → P → Ordering) (order : IsTotalOrder cmp) (y
 
   pub may_others : (t : ℕ) (w v : World P) (m : Message P) → OnlyPair w v → apart m ≡ true
       → may_start cmp t v m ≡ may_start cmp t w m
-  may_others t w v m only off = grind arith
+  may_others t w v m only off =
+      let e : same_pair cmp y m ≡ false = not-true (same_pair cmp y m) off in
+      rw (only.busy m e, only.last m.origin m.recipient e) refl
 
   -- those that were ready still are, but for the pair of y
   pub ready_after : (t : ℕ) (w v : World P) → IsAfter t w v → ready cmp t v ≡ filter apart (ready cmp t w)
@@ -188,4 +198,8 @@ module _ {P : Type 0} (cmp : P → P → Ordering) (order : IsTotalOrder cmp) (y
     where
       own_rested : (m : Message P) (rest : List (Message P)) → filter (same_pair cmp m) v.waiting ≡ m ∷ rest
           → apart m ≡ false → may_start cmp t v m ≡ false
-      own_rested m rest front own = grind (arith, not-false, find_like, first_found)
+      own_rested m rest front own =
+          let pair : same_pair cmp y m ≡ true = not-false (same_pair cmp y m) own in
+          after.1 m
+          (sym (find_like cmp order y m v.waiting pair)
+          ∙ first_found cmp order (same_pair cmp m) m rest v.waiting front)

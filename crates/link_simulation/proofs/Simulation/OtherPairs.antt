@@ -1,13 +1,13 @@
 -- What happens to one pair leaves the other pairs as they are.
-use Rattle.link_simulation.proofs.Common.{is_late, completed, MomentTooLate, arith, ◌≡◌, ℕ, zero, suc, ◌+◌, List, []}
-use Rattle.link_simulation.proofs.Common.{◌∷◌, ◌++◌, map, Bool, true, false, cond, not, Option, Some, None, refl, sym}
-use Rattle.link_simulation.proofs.Common.{ap, ◌∙◌, subst, ⊤, ◌||◌, ◌==◌, filter, find, list_any, Ordering, IsTotalOrder}
-use Rattle.link_simulation.proofs.Common.{list_any-append, filter-append, or_right, or_left, not-true, map-append}
-use Rattle.link_simulation.proofs.Common.{without_first, Completed, Course, EndsWith, Flight, World, complete}
-use Rattle.link_simulation.proofs.Common.{first_waiting, flows, fronts, goes, is_done, is_idle, may_start, meets}
-use Rattle.link_simulation.proofs.Common.{raised, ready, settle_within, start, start_next, turn, out_of_flight, arrival}
-use Rattle.link_simulation.proofs.Common.{flight_of, Message, same_pair, Caps, is_unlimited, filter_swap}
-use Rattle.link_simulation.proofs.Common.{filter_stronger, Each, each_filtered}
+use Rattle.link_simulation.proofs.Common.{◌&&◌, is_in_order, is_late, completed, MomentTooLate, arith, ◌≡◌, ℕ, zero}
+use Rattle.link_simulation.proofs.Common.{suc, ◌+◌, List, [], ◌∷◌, ◌++◌, map, Bool, true, false, cond, not, Option}
+use Rattle.link_simulation.proofs.Common.{Some, None, refl, sym, ap, ◌∙◌, subst, ⊤, ◌||◌, ◌==◌, filter, find, list_any}
+use Rattle.link_simulation.proofs.Common.{Ordering, IsTotalOrder, list_any-append, filter-append, or_right, or_left}
+use Rattle.link_simulation.proofs.Common.{not-true, map-append, without_first, Completed, Course, EndsWith, Flight}
+use Rattle.link_simulation.proofs.Common.{World, complete, first_waiting, flows, fronts, goes, is_done, is_idle}
+use Rattle.link_simulation.proofs.Common.{may_start, meets, raised, ready, settle_within, start, start_next, turn}
+use Rattle.link_simulation.proofs.Common.{out_of_flight, arrival, flight_of, Message, same_pair, Caps, is_unlimited}
+use Rattle.link_simulation.proofs.Common.{filter_swap, filter_stronger, Each, each_filtered}
 use Rattle.std.proofs.lemmas.Map.Views.{any-filter_same}
 use Rattle.std.proofs.lemmas.Bool.{not-false}
 use Rattle.std.proofs.lemmas.List.{append-nil}
@@ -127,11 +127,20 @@ module _ {P : Type 0} (cmp : P → P → Ordering) (order : IsTotalOrder cmp) wh
   -- whether another pair's message may start does not change
   pub may_start_alike : (t : ℕ) (m x : Message P) (w v : World P) → IsButFor cmp m w v → same_pair cmp m x ≡ false
       → may_start cmp t v x ≡ may_start cmp t w x
-  may_start_alike t m x w v a h = grind (arith, idle_alike)
+  may_start_alike t m x w v a h =
+      both (is_idle cmp v x) (is_idle cmp w x) (v.last_arrival x.origin x.recipient)
+      (w.last_arrival x.origin x.recipient) (idle_alike m x w v a h) (a.arrivals x h)
+    where
+      both : (a b : Bool) (p q : Option ℕ) → a ≡ b → p ≡ q
+          → (a && is_in_order p (t + x.latency)) ≡ (b && is_in_order q (t + x.latency))
+      both a b p q e f = rw (e, f) refl
 
   pub first_alike : (m k : Message P) (w v : World P) → IsButFor cmp m w v → same_pair cmp m k ≡ false
       → first_waiting cmp v k ≡ first_waiting cmp w k
-  first_alike m k w v a h = grind (arith, find_kept, pair_other)
+  first_alike m k w v a h =
+      sym (find_kept (same_pair cmp k) (λ n. not (same_pair cmp m n)) v.waiting (λ n e. pair_other m n k h e))
+      ∙ ap (find (same_pair cmp k)) a.waiting
+      ∙ find_kept (same_pair cmp k) (λ n. not (same_pair cmp m n)) w.waiting (λ n e. pair_other m n k h e)
 
   -- nothing that another pair sees changes
   pub others_see_nothing : (m k : Message P) (w v : World P) → IsButFor cmp m w v → same_pair cmp m k ≡ false
@@ -279,7 +288,10 @@ module _ {P : Type 0} (cmp : P → P → Ordering) (order : IsTotalOrder cmp) wh
   pub ready_without : (t : ℕ) (m : Message P) (w v : World P) → Leaves t m w v
       → ready cmp t v ≡ filter (λ n. not (same_pair cmp m n)) (ready cmp t w)
   ready_without t m w v l =
-      sym (grind (arith, filter_kept_each, each_more, of_another, fronts_are_first))
+      sym (filter_kept_each (may_start cmp t v) (λ n. not (same_pair cmp m n)) (fronts cmp v.waiting)
+      (each_more (λ (n : Message P). find (same_pair cmp n) v.waiting ≡ Some n)
+      (λ (n : Message P). may_start cmp t v n ≡ true → not (same_pair cmp m n) ≡ true)
+      (λ n e h. of_another n (same_pair cmp m n) refl e h) (fronts cmp v.waiting) (fronts_are_first v.waiting)))
       ∙ ap (filter (may_start cmp t v))
       (fronts_without m v.waiting ∙ ap (fronts cmp) l.others.waiting ∙ sym (fronts_without m w.waiting))
       ∙ filter_alike (may_start cmp t v) (may_start cmp t w)
@@ -294,5 +306,6 @@ module _ {P : Type 0} (cmp : P → P → Ordering) (order : IsTotalOrder cmp) wh
     where
       of_another : (n : Message P) (b : Bool) → same_pair cmp m n ≡ b → find (same_pair cmp n) v.waiting ≡ Some n
           → may_start cmp t v n ≡ true → not b ≡ true
-      of_another n true same e h = grind (arith, find_like)
+      of_another n true same e h =
+          let no : may_start cmp t v n ≡ false = l.rests n (sym (find_like cmp order m n v.waiting same) ∙ e) in cc
       of_another n false same e h = refl

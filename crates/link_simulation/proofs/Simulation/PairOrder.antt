@@ -135,7 +135,9 @@ module _ {P : Type 0} (cmp : P → P → Ordering) (order : IsTotalOrder cmp) wh
   pub find_by_pair : (ms : List (Message P)) → OneForEachPair cmp ms → (k : Message P)
       → find (same_pair cmp k) (by_pair cmp ms) ≡ find (same_pair cmp k) ms
   find_by_pair [] one k = refl
-  find_by_pair (m ∷ ms) one k = grind (arith, find_inserted, find_from_any, (find_by_pair ms), (find_by_pair ms))
+  find_by_pair (m ∷ ms) one k =
+      find_inserted k m (by_pair cmp ms) (find_by_pair ms one.1 m ∙ find_from_any (same_pair cmp m) ms one.0)
+      ∙ ap (λ (o : Option (Message P)). cond (same_pair cmp k m) (Some m) o) (find_by_pair ms one.1 k)
 
   before_inserted : (k m : Message P) (ns : List (Message P)) → pair_before cmp k m ≡ true → IsBeforeEach cmp k ns
       → IsBeforeEach cmp k (insert_by_pair cmp m ns)

@@ -1,11 +1,11 @@
 -- Settling the list of messages in flight is finishing a queue of the done ones, whose leavers join at its end.
-use Rattle.link_simulation.proofs.Common.{arith, append_assoc, ◌≡◌, ℕ, zero, suc, ◌+◌, List, [], ◌∷◌, ◌++◌, map, Bool}
-use Rattle.link_simulation.proofs.Common.{true, false, cond, not, Option, Some, None, refl, sym, ap, ◌∙◌, subst, nat_le}
-use Rattle.link_simulation.proofs.Common.{◌&&◌, filter, find, list_any, Ordering, is_eq, IsTotalOrder, list_any-append}
-use Rattle.link_simulation.proofs.Common.{filter-append, or_from, or_parts, map-append, without_first, same_peer}
-use Rattle.link_simulation.proofs.Common.{Completed, Course, Flight, World, and_then, complete, goes, is_done}
-use Rattle.link_simulation.proofs.Common.{is_in_order, last_moment, may_start, meets, preceded, settle_within, start}
-use Rattle.link_simulation.proofs.Common.{start_next, is_late, completed, flight_of, leaving, staying, arrived}
+use Rattle.link_simulation.proofs.Common.{and_parts, arith, append_assoc, ◌≡◌, ℕ, zero, suc, ◌+◌, List, [], ◌∷◌, ◌++◌}
+use Rattle.link_simulation.proofs.Common.{map, Bool, true, false, cond, not, Option, Some, None, refl, sym, ap, ◌∙◌}
+use Rattle.link_simulation.proofs.Common.{subst, nat_le, ◌&&◌, filter, find, list_any, Ordering, is_eq, IsTotalOrder}
+use Rattle.link_simulation.proofs.Common.{list_any-append, filter-append, or_from, or_parts, map-append, without_first}
+use Rattle.link_simulation.proofs.Common.{same_peer, Completed, Course, Flight, World, and_then, complete, goes}
+use Rattle.link_simulation.proofs.Common.{is_done, is_in_order, last_moment, may_start, meets, preceded, settle_within}
+use Rattle.link_simulation.proofs.Common.{start, start_next, is_late, completed, flight_of, leaving, staying, arrived}
 use Rattle.link_simulation.proofs.Common.{out_of_waiting, joined, launch_then, finish_within, Message, OneForEachPair}
 use Rattle.link_simulation.proofs.Common.{same_pair, FlowIdsUsedUp, MomentTooLate}
 use Rattle.std.proofs.lemmas.List.{append-nil}
@@ -63,7 +63,12 @@ module _ {P : Type 0} (cmp : P → P → Ordering) (order : IsTotalOrder cmp) wh
   both_alike a b c d e f = rw (e, f) refl
 
   pub pair_like : (m n k : Message P) → same_pair cmp m n ≡ true → same_pair cmp n k ≡ same_pair cmp m k
-  pair_like m n k e = grind arith
+  pair_like m n k e =
+      let parts : (same_peer cmp m.origin n.origin ≡ true) × (same_peer cmp m.recipient n.recipient ≡ true) =
+      and_parts (same_peer cmp m.origin n.origin) (same_peer cmp m.recipient n.recipient) e in
+      both_alike (same_peer cmp n.origin k.origin) (same_peer cmp m.origin k.origin)
+      (same_peer cmp n.recipient k.recipient) (same_peer cmp m.recipient k.recipient)
+      (peer_like m.origin n.origin k.origin parts.0) (peer_like m.recipient n.recipient k.recipient parts.1)
 
   pub pair_sym : (m n : Message P) → same_pair cmp m n ≡ same_pair cmp n m
   pair_sym m n = grind arith

@@ -1,6 +1,7 @@
 -- The number of messages is steps enough: settling ends with nothing done.
-use Rattle.link_simulation.proofs.Common.{◌≡◌, ℕ, zero, suc, ◌+◌, ◌≤◌, List, [], ◌∷◌, length, Bool, true, false, cond}
-use Rattle.link_simulation.proofs.Common.{Option, Some, None, refl, sym, subst, arith, length-append, find, Ordering}
+use Rattle.link_simulation.proofs.Common.{◌++◌, ◌∙◌, nat_le, last_moment, may_start, flight_of, FlowIdsUsedUp, ◌≡◌, ℕ}
+use Rattle.link_simulation.proofs.Common.{zero, suc, ◌+◌, ◌≤◌, List, [], ◌∷◌, length, Bool, true, false, cond, Option}
+use Rattle.link_simulation.proofs.Common.{Some, None, refl, sym, subst, arith, length-append, find, Ordering}
 use Rattle.link_simulation.proofs.Common.{IsTotalOrder, without_first, Completed, Course, Flight, World, and_then}
 use Rattle.link_simulation.proofs.Common.{complete, first_waiting, goes, is_done, meets, preceded, settle}
 use Rattle.link_simulation.proofs.Common.{settle_within, start, start_next, EndsWith, out_of_flight, is_late, completed}
@@ -27,7 +28,9 @@ pub each_ends : {P : Type 0} (cmp : P → P → Ordering) (Q : World P → Type 
     → ((w : World P) (m : Message P) → Q w → EndsWith Q (enqueue cmp t w m))
     → (ms : List (Message P)) (w : World P) → Q w → EndsWith Q (enqueue_each cmp t w ms)
 each_ends cmp Q t step [] w h = h
-each_ends cmp Q t step (m ∷ ms) w h = grind (arith, (each_ends cmp Q t step ms))
+each_ends cmp Q t step (m ∷ ms) w h =
+    ends_and_then Q Q (enqueue cmp t w m) (λ v. enqueue_each cmp t v ms) (step w m h)
+    (λ v k. each_ends cmp Q t step ms v k)
 
 pub length_without : {X : Type 0} (test : X → Bool) (x : X) (xs : List X) → find test xs ≡ Some x
     → length (without_first test xs) + 1 ≡ length xs
@@ -50,7 +53,14 @@ module _ {P : Type 0} (cmp : P → P → Ordering) (order : IsTotalOrder cmp) wh
   next_has : (t n : ℕ) (w : World P) (m : Message P) (o : Option (Message P)) → find (same_pair cmp m) w.waiting ≡ o
       → HasAtMost n w → EndsWith (HasAtMost n) (start_next cmp t w o)
   next_has t n w m None e h = h
-  next_has t n w m (Some x) e h = grind (arith, find_passes, length_without, find_like, length-append, ends_cond, start)
+  next_has t n w m (Some x) e h =
+      let same : same_pair cmp m x ≡ true = find_passes (same_pair cmp m) x w.waiting e in
+      let fewer : length (without_first (same_pair cmp x) w.waiting) + 1 ≡ length w.waiting =
+      length_without (same_pair cmp x) x w.waiting (find_like m x w.waiting same ∙ e) in
+      let joined : length (w.sending ++ flight_of x ∷ []) ≡ length w.sending + 1
+      = length-append w.sending (flight_of x ∷ []) in
+      ends_cond (HasAtMost n) (may_start cmp t w x) (start cmp w x) (goes [] w)
+      (ends_cond (HasAtMost n) (nat_le last_moment w.next_id) (meets FlowIdsUsedUp) _ tt (omega arith)) h
 
   pub complete_has : (t n : ℕ) (w : World P) (f : Flight P) → find (is_done cmp w) w.sending ≡ Some f
       → HasAtMost (suc n) w → EndsWith (HasAtMost n) (complete cmp t w f.message)

@@ -244,13 +244,19 @@ module _ {P : Type 0} (cmp : P → P → Ordering) (order : IsTotalOrder cmp) wh
       → EndsWith (IsPeerwise) c
   ticks_peerwise no_tick h = h
   ticks_peerwise (one_tick {w = w} {v = v} {u = u} {cs = cs} {rest = rest} d i t) h =
-      grind (arith, ends_preceded, ends_at, instant_peerwise, drains_peerwise, (ticks_peerwise t))
+      ends_preceded (IsPeerwise) cs rest
+      (ticks_peerwise t
+      (ends_at cmp order (IsPeerwise) (instant cmp v) cs u i (instant_peerwise v (drains_peerwise w v d h))))
   ticks_peerwise (tick_faults d i) h = tt
 
   cap_peerwise : (caps : P → Option ℕ) (peer : P) (cap : Option ℕ)
       → ((p q : P) → same_peer cmp p q ≡ true → caps p ≡ caps q) → (p q : P) → same_peer cmp p q ≡ true
       → with_cap cmp caps peer cap p ≡ with_cap cmp caps peer cap q
-  cap_peerwise caps peer cap h p q e = grind arith
+  cap_peerwise caps peer cap h p q e =
+      by_tests (same_peer cmp peer p) (same_peer cmp peer q) (caps p) (caps q) (peer_alike peer p q e) (h p q e)
+    where
+      by_tests : (a b : Bool) (x y : Option ℕ) → a ≡ b → x ≡ y → cond a cap x ≡ cond b cap y
+      by_tests a b x y e f = rw (e, f) refl
 
   link_peerwise : (links : P → P → Option ℕ) (origin recipient : P) (cap : Option ℕ) → PairsAlike cmp links links
       → PairsAlike cmp (with_link cmp links origin recipient cap) (with_link cmp links origin recipient cap)
@@ -259,7 +265,9 @@ module _ {P : Type 0} (cmp : P → P → Ordering) (order : IsTotalOrder cmp) wh
 
   rebalance_peerwise : (t : ℕ) (w : World P) (caps : Caps P) → CapsAlike cmp caps caps → IsPeerwise w
       → EndsWith IsPeerwise (rebalance cmp t w caps)
-  rebalance_peerwise t w caps same h = grind (arith, settle_peerwise)
+  rebalance_peerwise t w caps same h =
+      settle_peerwise t (record w { caps = caps; limited = true })
+      (record { caps = same; last_arrival = h.last_arrival })
 
   enqueue_peerwise : (t : ℕ) (w : World P) (m : Message P) → IsPeerwise w → EndsWith IsPeerwise (enqueue cmp t w m)
   enqueue_peerwise t w m h =
