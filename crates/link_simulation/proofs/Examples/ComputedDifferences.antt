@@ -1,20 +1,12 @@
 -- Replies that do not agree with the simulation, found by computing: for worked examples.
-use Rattle.std.proofs.Common.{◌≡◌, ℕ, ◌-◌, ◌<◌, ◌≤◌, List, [], ◌∷◌, Bool, true, false, not, Option, Some, None, refl}
-use Rattle.std.proofs.Common.{sym, ◌∙◌, subst}
-use Rattle.std.specs.Prelude.{◌&&◌, ◌||◌, ◌==◌, nat_le, nat_lt, IfSome}
-use Rattle.std.specs.List.{AllZip}
-use Rattle.std.specs.declared.cmp.Ordering.{Ordering}
-use Rattle.std.specs.Cmp.{IsTotalOrder}
-use Rattle.std.proofs.lemmas.Bool.{leb-true, ltb-true, eq-eqb, and_parts}
-use Rattle.fair_rates.specs.declared.error.Error.{Error}
-use Rattle.fair_rates.specs.declared.error.Error.TheVariants.{OutOfMemory, NumberTooLarge, MomentTooLate, FlowIdsUsedUp}
-use Rattle.fair_rates.specs.Sides.Subjects.{same_peer}
-use Rattle.link_simulation.specs.Simulation.World.{World, new_world, Completed, Course, goes, meets, EndsWith}
-use Rattle.link_simulation.specs.Simulation.Time.{IsSound}
-use Rattle.link_simulation.specs.Simulation.Calls.{Call, call_limit, call_limit_link, call_enqueue, call_advance}
-use Rattle.link_simulation.specs.Simulation.Calls.{call_enqueue_all, call_next, moment_of, Runs, IsBeforeNext}
-use Rattle.link_simulation.specs.Simulation.Replies.{Reply, reply_done, reply_next, reply_refused, SameCompletion}
-use Rattle.link_simulation.specs.Simulation.Replies.{Faults, MayRefuse, Agrees}
+use Rattle.link_simulation.proofs.Common.{arith, ◌≡◌, ℕ, ◌-◌, ◌≤◌, List, [], ◌∷◌, Bool, true, false, not, Option, Some}
+use Rattle.link_simulation.proofs.Common.{None, refl, sym, ◌∙◌, subst, ◌&&◌, ◌||◌, ◌==◌, nat_le, nat_lt, AllZip}
+use Rattle.link_simulation.proofs.Common.{Ordering, IsTotalOrder, leb-true, ltb-true, eq-eqb, and_parts, Error}
+use Rattle.link_simulation.proofs.Common.{OutOfMemory, NumberTooLarge, MomentTooLate, FlowIdsUsedUp, same_peer, World}
+use Rattle.link_simulation.proofs.Common.{new_world, Completed, Course, goes, meets, IsSound, Call, call_limit}
+use Rattle.link_simulation.proofs.Common.{call_limit_link, call_enqueue, call_advance, call_enqueue_all, call_next}
+use Rattle.link_simulation.proofs.Common.{moment_of, Runs, IsBeforeNext, Reply, reply_done, reply_next, reply_refused}
+use Rattle.link_simulation.proofs.Common.{SameCompletion, Faults, MayRefuse, Agrees}
 use Rattle.link_simulation.proofs.Simulation.OneNext.{next_is_one}
 use Rattle.link_simulation.proofs.Simulation.OneRun.{runs_are_one}
 use Rattle.link_simulation.proofs.Simulation.Sound.{call_keeps_sound, new_world_sound}
@@ -60,17 +52,9 @@ module _ {P : Type 0} (cmp : P → P → Ordering) (order : IsTotalOrder cmp) (p
 
   -- whether the course meets that fault
   abbrev pub is_met : Error → Course (Completed P) (World P) → Bool
-  is_met why (goes ds v) = false
-  is_met OutOfMemory (meets fault) = false
-  is_met NumberTooLarge (meets fault) = false
-  is_met MomentTooLate (meets OutOfMemory) = false
-  is_met MomentTooLate (meets NumberTooLarge) = false
   is_met MomentTooLate (meets MomentTooLate) = true
-  is_met MomentTooLate (meets FlowIdsUsedUp) = false
-  is_met FlowIdsUsedUp (meets OutOfMemory) = false
-  is_met FlowIdsUsedUp (meets NumberTooLarge) = false
-  is_met FlowIdsUsedUp (meets MomentTooLate) = false
   is_met FlowIdsUsedUp (meets FlowIdsUsedUp) = true
+  is_met _ _ = false
 
   -- whether the call does not meet it
   abbrev is_none_such : World P → Call P → ℕ → Error → Bool
@@ -126,19 +110,7 @@ module _ {P : Type 0} (cmp : P → P → Ordering) (order : IsTotalOrder cmp) (p
   each_shown [] [] all = refl
   each_shown [] (d ∷ ds) all = absurd all
   each_shown (c ∷ cs) [] all = absurd all
-  each_shown (c ∷ cs) (d ∷ ds) all =
-      let same : same_bytes c.bytes d.bytes ≡ true =
-      subst (λ (bs : List ℕ). same_bytes c.bytes bs ≡ true) all.0.bytes (bytes_shown c.bytes) in
-      rw (
-        all.0.origin,
-        all.0.recipient,
-        eq-eqb c.channel d.channel all.0.channel,
-        same,
-        eq-eqb c.done_at d.done_at all.0.done_at,
-        moment_shown c.deliver_at
-            d.deliver_at all.0.deliver_at,
-        each_shown cs ds all.1,
-      ) refl
+  each_shown (c ∷ cs) (d ∷ ds) all = grind (arith, bytes_shown, eq-eqb, moment_shown, (each_shown cs ds))
 
   either : (a b : Bool) {R : Type 0} → (not a || b) ≡ true → a ≡ true → (b ≡ true → R) → R
   either true true e is next = next refl
@@ -149,22 +121,10 @@ module _ {P : Type 0} (cmp : P → P → Ordering) (order : IsTotalOrder cmp) (p
   pub in_turn : (n : ℕ) (w : World P) (now : ℕ) → IsSound cmp w → before_next n w now ≡ true → (w.moment ≤ now)
       × IsBeforeNext cmp now w
   in_turn n w now sound e =
-      let two : ((nat_le w.moment now && may_seek cmp order plan n w) ≡ true)
-      × (is_later (seek cmp order plan n w) now ≡ true)
-      = and_parts (nat_le w.moment now && may_seek cmp order plan n w) (is_later (seek cmp order plan n w) now) e in
-      let one : (nat_le w.moment now ≡ true) × (may_seek cmp order plan n w ≡ true) =
-      and_parts (nat_le w.moment now) (may_seek cmp order plan n w) two.0 in (
-        leb-true w.moment now one.0,
-        λ next is. by_next next
-            (next_is_one cmp order w next (seek cmp order plan n w) sound.positive is
-            (next_so cmp order plan n w one.1))
-            two.1,
-      )
-    where
-      by_next : (next : Option ℕ) → next ≡ seek cmp order plan n w → is_later (seek cmp order plan n w) now ≡ true
-          → IfSome next (λ t. now < t)
-      by_next None e later = tt
-      by_next (Some t) e later = ltb-true now t (subst (λ (o : Option ℕ). is_later o now ≡ true) (sym e) later)
+      let two = and_parts (nat_le w.moment now && may_seek cmp order plan n w) (is_later (seek cmp order plan n w) now)
+      e in
+      let one = and_parts (nat_le w.moment now) (may_seek cmp order plan n w) two.0 in
+      grind (arith, next_is_one, is_later, ltb-true, (leb-true w.moment now one.0), (next_so cmp order plan n w one.1))
 
   abbrev Disagrees : ℕ → List (Call P) → List (Reply P) → Type 0
   Disagrees n calls replies =
@@ -180,24 +140,16 @@ module _ {P : Type 0} (cmp : P → P → Ordering) (order : IsTotalOrder cmp) (p
       → Disagrees n calls replies → IsSound cmp w → moment_of call ≡ Some now
       → differ_at w call now (reply_done cs) (λ v. differ n v calls replies) ≡ true → ¬ Accepted w call calls cs replies
   not_done n w call calls now cs replies ih sound at e (now_too, ds, v, at_too, runs, same, rest) =
-      let two : (may_tick cmp order plan (now - w.moment) w ≡ true)
-      × (differ_done (course_of cmp order plan w call now) cs (λ u. differ n u calls replies) ≡ true)
-      =
-      and_parts (may_tick cmp order plan (now - w.moment) w)
-      (differ_done (course_of cmp order plan w call now) cs (λ u. differ n u calls replies)) e in
-      let here : Some now_too ≡ Some now = sym at_too ∙ at in
+      let two : (may_tick cmp order plan (now - w.moment) w ≡ true) × (differ_done (course_of cmp order plan w call now)
+      cs (λ u. differ n u calls replies) ≡ true) = grind (arith, and_parts) in
+      let here = sym at_too ∙ at in
       let it : now_too ≡ now = cc in
-      let runs_here : Runs cmp w call now (goes ds v) = subst (λ (t : ℕ). Runs cmp w call t (goes ds v)) it runs in
-      let one : course_of cmp order plan w call now ≡ goes ds v
-      =
-      runs_are_one cmp order w call now (course_of cmp order plan w call now) (goes ds v) sound
+      let runs_here = subst (λ (t : ℕ). Runs cmp w call t (goes ds v)) it runs in
+      let one = runs_are_one cmp order w call now (course_of cmp order plan w call now) (goes ds v) sound
       (runs_so cmp order plan w call now two.0) runs_here in
-      let left : (not (same_each cs ds) || differ n v calls replies) ≡ true =
-      subst (λ (c : Course (Completed P) (World P)). differ_done c cs (λ u. differ n u calls replies) ≡ true) one two.1
-      in
-      let sound_v : EndsWith (IsSound cmp) (goes ds v) =
-      call_keeps_sound cmp order w call now (goes ds v) sound runs_here in
-      either (same_each cs ds) (differ n v calls replies) left (each_shown cs ds same) (λ d. ih v sound_v d rest)
+      let left : (not (same_each cs ds) || differ n v calls replies) ≡ true = grind arith in
+      let sound_v = call_keeps_sound cmp order w call now (goes ds v) sound runs_here in
+      grind (arith, either, (each_shown cs ds same))
 
   -- a fault that is met is the one that is computed
   met : (w : World P) (call : Call P) (now : ℕ) (why : Error) → IsSound cmp w → moment_of call ≡ Some now
@@ -206,18 +158,12 @@ module _ {P : Type 0} (cmp : P → P → Ordering) (order : IsTotalOrder cmp) (p
   met w call now why sound at e (now_too, at_too, runs) is =
       let two : (may_tick cmp order plan (now - w.moment) w ≡ true)
       × (not (is_met why (course_of cmp order plan w call now)) ≡ true)
-      =
-      and_parts (may_tick cmp order plan (now - w.moment) w)
-      (not (is_met why (course_of cmp order plan w call now))) e in
+      = grind (arith, and_parts) in
       let here : Some now_too ≡ Some now = sym at_too ∙ at in
       let it : now_too ≡ now = cc in
-      let one : course_of cmp order plan w call now ≡ meets why
-      =
-      runs_are_one cmp order w call now (course_of cmp order plan w call now) (meets why) sound
-      (runs_so cmp order plan w call now two.0)
-      (subst (λ (t : ℕ). Runs cmp w call t (meets why)) it runs) in
-      let not_met : not (is_met why (meets why)) ≡ true =
-      subst (λ (c : Course (Completed P) (World P)). not (is_met why c) ≡ true) one two.1 in
+      let one = runs_are_one cmp order w call now (course_of cmp order plan w call now) (meets why) sound
+      (runs_so cmp order plan w call now two.0) (subst (λ (t : ℕ). Runs cmp w call t (meets why)) it runs) in
+      let not_met : not (is_met why (meets why)) ≡ true = grind arith in
       let clash : not true ≡ true = subst (λ (b : Bool). not b ≡ true) is not_met in
       cc
 
@@ -232,12 +178,9 @@ module _ {P : Type 0} (cmp : P → P → Ordering) (order : IsTotalOrder cmp) (p
       → ¬ (MayRefuse cmp w call why × Agrees cmp w calls replies)
   not_refused n w call calls now OutOfMemory replies ih sound at e (may, rest) = ih w sound e rest
   not_refused n w call calls now NumberTooLarge replies ih sound at e (may, rest) = may
-  not_refused n w call calls now MomentTooLate replies ih sound at e (may, rest) =
-      either_too (is_none_such w call now MomentTooLate) (differ n w calls replies) e
-      (λ none. met w call now MomentTooLate sound at none may refl) (λ d. ih w sound d rest)
-  not_refused n w call calls now FlowIdsUsedUp replies ih sound at e (may, rest) =
-      either_too (is_none_such w call now FlowIdsUsedUp) (differ n w calls replies) e
-      (λ none. met w call now FlowIdsUsedUp sound at none may refl) (λ d. ih w sound d rest)
+  not_refused n w call calls now why replies ih sound at e (may, rest) =
+      either_too (is_none_such w call now why) (differ n w calls replies) e
+      (λ none. met w call now why sound at none may refl) (λ d. ih w sound d rest)
 
   -- such replies do not agree
   pub disagree : (n : ℕ) (calls : List (Call P)) (replies : List (Reply P)) → Disagrees n calls replies
@@ -247,80 +190,27 @@ module _ {P : Type 0} (cmp : P → P → Ordering) (order : IsTotalOrder cmp) (p
   disagree n (call_next ∷ calls) (reply_next t ∷ replies) w sound e agrees =
       let two : (may_seek cmp order plan n w ≡ true)
       × ((not (same_moment (seek cmp order plan n w) t) || differ n w calls replies) ≡ true)
-      =
-      and_parts (may_seek cmp order plan n w) (not (same_moment (seek cmp order plan n w) t) || differ n w calls
-      replies) e in
+      = grind (arith, and_parts, same_moment) in
       let same : seek cmp order plan n w ≡ t =
       next_is_one cmp order w (seek cmp order plan n w) t sound.positive (next_so cmp order plan n w two.0) agrees.0 in
       either (same_moment (seek cmp order plan n w) t) (differ n w calls replies) two.1
       (moment_shown (seek cmp order plan n w) t same) (λ d. disagree n calls replies w sound d agrees.1)
   disagree n (call_next ∷ calls) (reply_done cs ∷ replies) w sound e agrees = agrees
   disagree n (call_next ∷ calls) (reply_refused why ∷ replies) w sound e agrees = agrees
-  disagree n (call_limit now peer egress ingress ∷ calls) (reply_next t ∷ replies) w sound e agrees = agrees
-  disagree n (call_limit now peer egress ingress ∷ calls) (reply_done cs ∷ replies) w sound e agrees =
-      let two =
-      and_parts (before_next n w now) (differ_at w (call_limit now peer egress ingress) now (reply_done cs)
-      (λ v. differ n v calls replies)) e in
-      not_done n w (call_limit now peer egress ingress) calls now cs replies (disagree n calls replies) sound refl two.1
-      (agrees (in_turn n w now sound two.0))
-  disagree n (call_limit now peer egress ingress ∷ calls) (reply_refused why ∷ replies) w sound e agrees =
-      let two =
-      and_parts (before_next n w now) (differ_at w (call_limit now peer egress ingress) now (reply_refused why)
-      (λ v. differ n v calls replies)) e in
-      not_refused n w (call_limit now peer egress ingress) calls now why replies (disagree n calls replies) sound refl
-      two.1 (agrees (in_turn n w now sound two.0))
-  disagree n (call_limit_link now origin recipient cap ∷ calls) (reply_next t ∷ replies) w sound e agrees = agrees
-  disagree n (call_limit_link now origin recipient cap ∷ calls) (reply_done cs ∷ replies) w sound e agrees =
-      let two =
-      and_parts (before_next n w now) (differ_at w (call_limit_link now origin recipient cap) now (reply_done cs)
-      (λ v. differ n v calls replies)) e in
-      not_done n w (call_limit_link now origin recipient cap) calls now cs replies (disagree n calls replies) sound refl
-      two.1 (agrees (in_turn n w now sound two.0))
-  disagree n (call_limit_link now origin recipient cap ∷ calls) (reply_refused why ∷ replies) w sound e agrees =
-      let two =
-      and_parts (before_next n w now) (differ_at w (call_limit_link now origin recipient cap) now (reply_refused why)
-      (λ v. differ n v calls replies)) e in
-      not_refused n w (call_limit_link now origin recipient cap) calls now why replies (disagree n calls replies) sound
-      refl two.1 (agrees (in_turn n w now sound two.0))
-  disagree n (call_enqueue now m ∷ calls) (reply_next t ∷ replies) w sound e agrees = agrees
-  disagree n (call_enqueue_all now ms ∷ calls) (reply_next t ∷ replies) w sound e agrees = agrees
-  disagree n (call_enqueue now m ∷ calls) (reply_done cs ∷ replies) w sound e agrees =
-      let two =
-      and_parts (before_next n w now) (differ_at w (call_enqueue now m) now (reply_done cs)
-      (λ v. differ n v calls replies)) e in
-      not_done n w (call_enqueue now m) calls now cs replies (disagree n calls replies) sound refl two.1
-      (agrees (in_turn n w now sound two.0))
-  disagree n (call_enqueue_all now ms ∷ calls) (reply_done cs ∷ replies) w sound e agrees =
-      let two =
-      and_parts (before_next n w now) (differ_at w (call_enqueue_all now ms) now (reply_done cs)
-      (λ v. differ n v calls replies)) e in
-      not_done n w (call_enqueue_all now ms) calls now cs replies (disagree n calls replies) sound refl two.1
-      (agrees (in_turn n w now sound two.0))
-  disagree n (call_enqueue now m ∷ calls) (reply_refused why ∷ replies) w sound e agrees =
-      let two =
-      and_parts (before_next n w now) (differ_at w (call_enqueue now m) now (reply_refused why)
-      (λ v. differ n v calls replies)) e in
-      not_refused n w (call_enqueue now m) calls now why replies (disagree n calls replies) sound refl two.1
-      (agrees (in_turn n w now sound two.0))
-  disagree n (call_enqueue_all now ms ∷ calls) (reply_refused why ∷ replies) w sound e agrees =
-      let two =
-      and_parts (before_next n w now) (differ_at w (call_enqueue_all now ms) now (reply_refused why)
-      (λ v. differ n v calls replies)) e in
-      not_refused n w (call_enqueue_all now ms) calls now why replies (disagree n calls replies) sound refl two.1
-      (agrees (in_turn n w now sound two.0))
-  disagree n (call_advance now ∷ calls) (reply_next t ∷ replies) w sound e agrees = agrees
   disagree n (call_advance now ∷ calls) (reply_done cs ∷ replies) w sound e agrees =
-      let two =
-      and_parts (nat_le w.moment now) (differ_at w (call_advance now) now (reply_done cs)
-      (λ v. differ n v calls replies)) e in
+      let two = and_parts (nat_le w.moment now)
+      (differ_at w (call_advance now) now (reply_done cs) (λ v. differ n v calls replies)) e in
       not_done n w (call_advance now) calls now cs replies (disagree n calls replies) sound refl two.1
       (agrees (leb-true w.moment now two.0))
   disagree n (call_advance now ∷ calls) (reply_refused why ∷ replies) w sound e agrees =
-      let two =
-      and_parts (nat_le w.moment now) (differ_at w (call_advance now) now (reply_refused why)
-      (λ v. differ n v calls replies)) e in
-      not_refused n w (call_advance now) calls now why replies (disagree n calls replies) sound refl two.1
-      (agrees (leb-true w.moment now two.0))
+      grind (arith, and_parts, not_refused, leb-true, (disagree n calls replies))
+  disagree n (call ∷ calls) (reply_next t ∷ replies) w sound e agrees = agrees
+  disagree n (call ∷ calls) (reply_done cs ∷ replies) w sound e agrees =
+      let two = and_parts _ _ e in
+      not_done n w call calls _ cs replies (disagree n calls replies) sound refl two.1
+      (agrees (in_turn n w _ sound two.0))
+  disagree n (call ∷ calls) (reply_refused why ∷ replies) w sound e agrees =
+      grind (arith, and_parts, not_refused, in_turn, (disagree n calls replies))
 
   -- from the new world on
   pub never_agree : (n id : ℕ) (calls : List (Call P)) (replies : List (Reply P))

@@ -1,27 +1,20 @@
 -- Fairness, ticks and replies, found by computing: for worked examples.
-use Rattle.std.proofs.Common.{map, ◌≡◌, ℕ, zero, suc, ◌+◌, ◌-◌, ◌*◌, ◌≤◌, List, [], ◌∷◌, length, Bool, true}
-use Rattle.std.proofs.Common.{false, cond, not, Option, Some, None, All, Contains, refl, sym, ap, subst, arith}
-use Rattle.std.specs.Prelude.{max, ◌&&◌, ◌||◌, ◌==◌, nat_le, nat_lt}
-use Rattle.std.specs.List.{list_any, list_all, filter, AllZip}
-use Rattle.std.specs.declared.cmp.Ordering.{Ordering}
-use Rattle.std.specs.Cmp.{IsTotalOrder}
-use Rattle.std.proofs.lemmas.Bool.{leb-true, ltb-true, eqb-true, and_parts, not-true}
-use Rattle.std.proofs.lemmas.List.Elements.{All-contains, All-cons, All-nil, Contains-append_left}
-use Rattle.std.proofs.lemmas.List.Elements.{Contains-append_right}
-use Rattle.fair_rates.specs.Fairness.Fair.{Side, load, IsFair, HasBottleneck}
-use Rattle.link_simulation.specs.Simulation.Messages.{Message}
-use Rattle.link_simulation.specs.Simulation.Rates.{capped_sides, rates_from, AreFair}
-use Rattle.link_simulation.specs.Simulation.World.{Flight, fronts, may_start, World, Completed, Course, goes, meets}
-use Rattle.link_simulation.specs.Simulation.World.{and_then, flows, instant, is_done, ready, IsQuiet, last_moment}
-use Rattle.fair_rates.specs.declared.error.Error.{Error}
-use Rattle.fair_rates.specs.declared.error.Error.TheVariants.{OutOfMemory, NumberTooLarge, MomentTooLate, FlowIdsUsedUp}
-use Rattle.link_simulation.specs.Simulation.Time.{drain_each, drifted, Drains, Ticks, no_tick, one_tick, tick_faults}
-use Rattle.link_simulation.specs.Simulation.Time.{Passes, no_time, quiet_tick, NextIs, never_comes, comes_next}
-use Rattle.link_simulation.specs.Simulation.Calls.{Call, call_limit, call_limit_link, call_enqueue, call_advance}
-use Rattle.link_simulation.specs.Simulation.Calls.{call_enqueue_all, call_next, act, moment_of, Runs, IsInTurn}
-use Rattle.link_simulation.specs.Simulation.Replies.{Reply, reply_done, reply_next, reply_refused, SameCompletion}
-use Rattle.link_simulation.specs.Simulation.Replies.{Faults, Agrees, MayRefuse}
-use Rattle.link_simulation.proofs.Simulation.AlikeMessages.{same_itself}
+use Rattle.link_simulation.proofs.Common.{common_steps, ◌≡◌, ℕ, zero, suc, ◌+◌, ◌-◌, ◌*◌, ◌≤◌, List, [], ◌∷◌, length}
+use Rattle.link_simulation.proofs.Common.{Bool, true, false, cond, not, Option, Some, None, All, Contains, refl, sym}
+use Rattle.link_simulation.proofs.Common.{ap, subst, arith, max, ◌&&◌, ◌||◌, ◌==◌, nat_le, nat_lt, list_any, AllZip}
+use Rattle.link_simulation.proofs.Common.{Ordering, IsTotalOrder, leb-true, ltb-true, eqb-true, and_parts, All-contains}
+use Rattle.link_simulation.proofs.Common.{All-nil, Contains-append_left, Contains-append_right, Side, load, IsFair}
+use Rattle.link_simulation.proofs.Common.{Message, capped_sides, rates_from, AreFair, World, Completed, Course, goes}
+use Rattle.link_simulation.proofs.Common.{meets, and_then, flows, instant, is_done, ready, IsQuiet, last_moment, Error}
+use Rattle.link_simulation.proofs.Common.{OutOfMemory, NumberTooLarge, MomentTooLate, FlowIdsUsedUp, drain_each}
+use Rattle.link_simulation.proofs.Common.{drifted, Drains, Ticks, no_tick, one_tick, tick_faults, Passes, no_time}
+use Rattle.link_simulation.proofs.Common.{quiet_tick, NextIs, never_comes, comes_next, Call, call_limit}
+use Rattle.link_simulation.proofs.Common.{call_limit_link, call_enqueue, call_advance, call_enqueue_all, call_next, act}
+use Rattle.link_simulation.proofs.Common.{moment_of, Runs, IsInTurn, Reply, reply_done, reply_next, reply_refused}
+use Rattle.link_simulation.proofs.Common.{SameCompletion, Faults, Agrees, MayRefuse}
+use Rattle.std.specs.List.{list_all}
+use Rattle.std.proofs.lemmas.List.Elements.{All-cons}
+use Rattle.fair_rates.specs.Fairness.Fair.{HasBottleneck}
 use Rattle.link_simulation.proofs.Rule.Limit.{no_sides}
 
 -- ---- lists
@@ -30,8 +23,7 @@ all_found : {X : Type 0} (test : X → Bool) (Q : X → Type 0) → ((x : X) →
     → list_all test xs ≡ true → All Q xs
 all_found test Q gives [] e = All-nil Q
 all_found test Q gives (x ∷ xs) e =
-    let parts : (test x ≡ true) × (list_all test xs ≡ true) = and_parts (test x) (list_all test xs) e in
-    All-cons Q x xs (gives x parts.0) (all_found test Q gives xs parts.1)
+    grind (arith, and_parts, All-cons, (all_found test Q gives xs (and_parts (test x) (list_all test xs) e).1))
 
 one_found : {X : Type 0} (test : X → Bool) (xs : List X) → list_any test xs ≡ true
     → (x : X) × Contains xs x × (test x ≡ true)
@@ -69,11 +61,8 @@ module _ (per : ℕ) (parts : ℕ → ℕ) where
       let found : (side : Side) × Contains sides side × (holds flow side ≡ true) = one_found (holds flow) sides e in
       let side : Side = found.0 in
       let all : ((list_any (λ user. user == flow) side.users && (load parts side == side.cap * per)) ≡ true)
-      × (list_all (λ other. nat_le (parts other) (parts flow)) side.users ≡ true) =
-      and_parts (list_any (λ user. user == flow) side.users && (load parts side == side.cap * per))
-      (list_all (λ other. nat_le (parts other) (parts flow)) side.users) found.2 in
-      let two : (list_any (λ user. user == flow) side.users ≡ true) × ((load parts side == side.cap * per) ≡ true)
-      = and_parts (list_any (λ user. user == flow) side.users) (load parts side == side.cap * per) all.0 in
+      × (list_all (λ other. nat_le (parts other) (parts flow)) side.users ≡ true) = grind (arith, and_parts) in
+      let two = and_parts (list_any (λ user. user == flow) side.users) (load parts side == side.cap * per) all.0 in
       let user : (u : ℕ) × Contains side.users u × ((u == flow) ≡ true) = one_found (λ u. u == flow) side.users two.0 in
       let same : user.0 ≡ flow = eqb-true user.0 flow user.2 in
       record {
@@ -86,45 +75,14 @@ module _ (per : ℕ) (parts : ℕ → ℕ) where
       }
 
   pub fair_if_so : (sides : List Side) → is_fair sides ≡ true → IsFair sides per parts
-  fair_if_so sides e =
-      let two : ((nat_lt 0 per && list_all fits sides) ≡ true) × (are_held sides ≡ true) =
-      and_parts (nat_lt 0 per && list_all fits sides) (are_held sides) e in
-      let one : (nat_lt 0 per ≡ true) × (list_all fits sides ≡ true) =
-      and_parts (nat_lt 0 per) (list_all fits sides) two.0 in
-      let held : All (λ (side : Side). All (λ flow. HasBottleneck sides per parts flow) side.users) sides =
-      all_found (λ (side : Side). list_all (λ flow. list_any (holds flow) sides) side.users)
-      (λ (side : Side). All (λ flow. HasBottleneck sides per parts flow) side.users)
-      (λ side h. all_found (λ flow. list_any (holds flow) sides) (λ flow. HasBottleneck sides per parts flow)
-      (λ flow k. bottleneck sides flow k) side.users h)
-      sides two.1 in
-      record {
-        some_part = ltb-true 0 per one.0;
-        within =
-            all_found fits (λ side. load parts side ≤ side.cap * per)
-            (λ side h. leb-true (load parts side) (side.cap * per) h) sides one.1;
-        held = λ flow limited.
-            All-contains (λ u. HasBottleneck sides per parts u) limited.0.users flow
-            (All-contains (λ (side : Side). All (λ u. HasBottleneck sides per parts u) side.users) sides limited.0
-            held limited.1.listed)
-            limited.1.used;
-      }
+  fair_if_so sides e = grind (arith, common_steps, and_parts, all_found, bottleneck, ltb-true, leb-true, All-contains)
 
 -- ---- completions
 
 module _ {P : Type 0} (cmp : P → P → Ordering) (order : IsTotalOrder cmp) where
   pub same_all : (cs : List (Completed P)) → AllZip (SameCompletion cmp) cs cs
   same_all [] = tt
-  same_all (c ∷ cs) = (
-    record {
-      origin = same_itself cmp order c.origin;
-      recipient = same_itself cmp order c.recipient;
-      channel = refl;
-      bytes = refl;
-      done_at = refl;
-      deliver_at = refl;
-    },
-    same_all cs,
-  )
+  same_all (c ∷ cs) = grind (arith, (same_all cs))
 
 -- ---- time
 
@@ -143,17 +101,7 @@ module _ {P : Type 0} (cmp : P → P → Ordering) (order : IsTotalOrder cmp) (p
   is_planned w = let shares : Shares = plan w in is_fair shares.per shares.parts (capped_sides cmp w.caps (flows w))
 
   drains : (w : World P) → is_planned w ≡ true → Drains cmp w (drifts w)
-  drains w e = record {
-    per = (plan w).per;
-    rates = rates_from cmp w.caps (plan w).parts 0 (flows w);
-    fair =
-        record {
-          parts = (plan w).parts;
-          fair = fair_if_so (plan w).per (plan w).parts (capped_sides cmp w.caps (flows w)) e;
-          rated = refl;
-        };
-    world = refl;
-  }
+  drains w e = grind (arith, fair_if_so)
 
   -- so many nanoseconds
   abbrev pub ticked : ℕ → World P → Course (Completed P) (World P)
@@ -170,10 +118,7 @@ module _ {P : Type 0} (cmp : P → P → Ordering) (order : IsTotalOrder cmp) (p
 
   pub ticks_so : (n : ℕ) (w : World P) → may_tick n w ≡ true → Ticks cmp n w (ticked n w)
   ticks_so zero w e = no_tick
-  ticks_so (suc n) w e =
-      let two : (is_planned w ≡ true) × (goes_on (instant cmp (drifts w)) (may_tick n) ≡ true) =
-      and_parts (is_planned w) (goes_on (instant cmp (drifts w)) (may_tick n)) e in
-      by_instant (instant cmp (drifts w)) refl two.1 (drains w two.0) (ticks_so n)
+  ticks_so (suc n) w e = grind (arith, goes_on, and_parts, by_instant, drains, (ticks_so n))
     where
       by_instant : (c : Course (Completed P) (World P)) → instant cmp (drifts w) ≡ c → goes_on c (may_tick n) ≡ true
           → Drains cmp w (drifts w)
@@ -207,41 +152,22 @@ module _ {P : Type 0} (cmp : P → P → Ordering) (order : IsTotalOrder cmp) (p
   empty_is (x ∷ xs) e = cc
 
   quiet_if_so : (w : World P) → is_quiet w ≡ true → IsQuiet cmp w.moment w
-  quiet_if_so w e =
-      let two : (not (list_any (is_done cmp w) w.sending) ≡ true) × (is_empty (ready cmp w.moment w) ≡ true)
-      = and_parts (not (list_any (is_done cmp w) w.sending)) (is_empty (ready cmp w.moment w)) e in
-      record {
-        none_done = not-true (list_any (is_done cmp w) w.sending) two.0;
-        none_ready = empty_is (ready cmp w.moment w) two.1;
-      }
+  quiet_if_so w e = grind arith
 
   loud_if_not : (w : World P) → is_quiet w ≡ false → ¬ IsQuiet cmp w.moment w
-  loud_if_not w e quiet =
-      by_tests (list_any (is_done cmp w) w.sending) (ready cmp w.moment w) quiet.none_done quiet.none_ready e
-    where
-      by_tests : (a : Bool) (ms : List (Message P)) → a ≡ false → ms ≡ [] → (not a && is_empty ms) ≡ false → ⊥
-      by_tests a ms f g e =
-          let h : (not false && is_empty {X = Message P} []) ≡ false
-          = subst (λ (b : Bool). (not b && is_empty {X = Message P} []) ≡ false) f
-          (subst (λ (xs : List (Message P)). (not a && is_empty xs) ≡ false) g e) in
-          cc
+  loud_if_not w e quiet = grind arith
 
   -- an empty world rests for any time
   calm : (n : ℕ) (w : World P) → w.sending ≡ [] → w.waiting ≡ [] → (v : World P) × Passes cmp n w v
   calm zero w sends waits = (w, no_time)
   calm (suc n) w sends waits =
-      let fair : AreFair cmp w.caps (flows w) 1 [] =
-      subst (λ (fs : List (Flight P)). AreFair cmp w.caps (map (λ f. f.message) fs) 1 []) (sym sends)
-      (no_sides cmp w.caps) in
+      let fair : AreFair cmp w.caps (flows w) 1 [] = grind (arith, no_sides) in
       let on : World P = drifted w 1 [] 1 in
       let sends_on : on.sending ≡ [] = ap (drain_each 1 [] 1) sends in
       let rest : (v : World P) × Passes cmp n on v = calm n on sends_on waits in (
         rest.0,
         quiet_tick (record { per = 1; rates = []; fair = fair; world = refl })
-            (record {
-              none_done = ap (list_any (is_done cmp on)) sends_on;
-              none_ready = ap (λ (ms : List (Message P)). filter (may_start cmp on.moment on) (fronts cmp ms)) waits;
-            })
+            (grind arith)
             rest.1,
       )
 
@@ -261,13 +187,10 @@ module _ {P : Type 0} (cmp : P → P → Ordering) (order : IsTotalOrder cmp) (p
 
   pub next_so : (n : ℕ) (w : World P) → may_seek n w ≡ true → NextIs cmp w (seek n w)
   next_so zero w e =
-      let two : (is_empty w.sending ≡ true) × (is_empty w.waiting ≡ true) =
-      and_parts (is_empty w.sending) (is_empty w.waiting) e in
+      let two : (is_empty w.sending ≡ true) × (is_empty w.waiting ≡ true) = grind (arith, and_parts) in
       never_comes (calm (last_moment - w.moment) w (empty_is w.sending two.0) (empty_is w.waiting two.1)).1
   next_so (suc n) w e =
-      let two : (is_planned w ≡ true)
-      × (cond (is_quiet (drifts w)) (may_seek n (drifts w)) (nat_le (drifts w).moment last_moment) ≡ true)
-      = and_parts (is_planned w)
+      let two = and_parts (is_planned w)
       (cond (is_quiet (drifts w)) (may_seek n (drifts w)) (nat_le (drifts w).moment last_moment)) e in
       by_quiet (is_quiet (drifts w)) refl two.1 (drains w two.0) (next_so n)
     where
@@ -341,15 +264,8 @@ module _ {P : Type 0} (cmp : P → P → Ordering) (order : IsTotalOrder cmp) (p
       (replies : List (Reply P))
       → moment_of call ≡ Some now → may_tick (now - w.moment) w ≡ true → course_of w call now ≡ goes cs v
       → Agrees cmp v calls replies → Accepted w call calls cs replies
-  accepts w call calls now cs v replies at ticks is rest = (
-    now,
-    cs,
-    v,
-    at,
-    subst (λ (c : Course (Completed P) (World P)). Runs cmp w call now c) is (runs_so w call now ticks),
-    same_all cmp order cs,
-    rest,
-  )
+  accepts w call calls now cs v replies at ticks is rest =
+      grind (arith, (runs_so w call now ticks), (same_all cmp order cs))
 
   faults : (w : World P) (call : Call P) (now : ℕ) (fault : Error) → moment_of call ≡ Some now
       → may_tick (now - w.moment) w ≡ true → course_of w call now ≡ meets fault → Faults cmp w call fault
@@ -367,71 +283,41 @@ module _ {P : Type 0} (cmp : P → P → Ordering) (order : IsTotalOrder cmp) (p
       (replies : List (Reply P))
       → Replied w (call_limit now peer egress ingress) calls replies
       → Agrees cmp w (call_limit now peer egress ingress ∷ calls) replies
-  limit_agrees w now peer egress ingress calls [] h = h
-  limit_agrees w now peer egress ingress calls (reply_next t ∷ replies) h = h
-  limit_agrees w now peer egress ingress calls (reply_done cs ∷ replies) h = h
-  limit_agrees w now peer egress ingress calls (reply_refused why ∷ replies) h = h
+  limit_agrees w now peer egress ingress calls _ h = h
 
   link_agrees : (w : World P) (now : ℕ) (origin recipient : P) (cap : Option ℕ) (calls : List (Call P))
       (replies : List (Reply P))
       → Replied w (call_limit_link now origin recipient cap) calls replies
       → Agrees cmp w (call_limit_link now origin recipient cap ∷ calls) replies
-  link_agrees w now origin recipient cap calls [] h = h
-  link_agrees w now origin recipient cap calls (reply_next t ∷ replies) h = h
-  link_agrees w now origin recipient cap calls (reply_done cs ∷ replies) h = h
-  link_agrees w now origin recipient cap calls (reply_refused why ∷ replies) h = h
+  link_agrees w now origin recipient cap calls _ h = h
 
   enqueue_agrees : (w : World P) (now : ℕ) (m : Message P) (calls : List (Call P)) (replies : List (Reply P))
       → Replied w (call_enqueue now m) calls replies → Agrees cmp w (call_enqueue now m ∷ calls) replies
-  enqueue_agrees w now m calls [] h = h
-  enqueue_agrees w now m calls (reply_next t ∷ replies) h = h
-  enqueue_agrees w now m calls (reply_done cs ∷ replies) h = h
-  enqueue_agrees w now m calls (reply_refused why ∷ replies) h = h
+  enqueue_agrees w now m calls _ h = h
 
   all_agree : (w : World P) (now : ℕ) (ms : List (Message P)) (calls : List (Call P)) (replies : List (Reply P))
       → Replied w (call_enqueue_all now ms) calls replies → Agrees cmp w (call_enqueue_all now ms ∷ calls) replies
-  all_agree w now ms calls [] h = h
-  all_agree w now ms calls (reply_next t ∷ replies) h = h
-  all_agree w now ms calls (reply_done cs ∷ replies) h = h
-  all_agree w now ms calls (reply_refused why ∷ replies) h = h
+  all_agree w now ms calls _ h = h
 
   advance_agrees : (w : World P) (now : ℕ) (calls : List (Call P)) (replies : List (Reply P))
       → Replied w (call_advance now) calls replies
       → Agrees cmp w (call_advance now ∷ calls) replies
-  advance_agrees w now calls [] h = h
-  advance_agrees w now calls (reply_next t ∷ replies) h = h
-  advance_agrees w now calls (reply_done cs ∷ replies) h = h
-  advance_agrees w now calls (reply_refused why ∷ replies) h = h
+  advance_agrees w now calls _ h = h
 
   module _ (n : ℕ) (calls : List (Call P)) (ih : (v : World P) → may_answer n v calls ≡ true
       → Agrees cmp v calls (answers n v calls)) where
     reply_agrees : (w : World P) (call : Call P) (now : ℕ) → moment_of call ≡ Some now
         → (may_tick (now - w.moment) w && may_reply (course_of w call now) w (λ v. may_answer n v calls)) ≡ true
         → Replied w call calls (replied (course_of w call now) w (λ v. answers n v calls))
-    reply_agrees w call now at e =
-        let two : (may_tick (now - w.moment) w ≡ true)
-        × (may_reply (course_of w call now) w (λ v. may_answer n v calls) ≡ true)
-        = and_parts (may_tick (now - w.moment) w) (may_reply (course_of w call now) w (λ v. may_answer n v calls)) e in
-        by_course (course_of w call now) refl two.0 two.1
-      where
-        by_course : (c : Course (Completed P) (World P)) → course_of w call now ≡ c → may_tick (now - w.moment) w ≡ true
-            → may_reply c w (λ v. may_answer n v calls) ≡ true
-            → Replied w call calls (replied c w (λ v. answers n v calls))
-        by_course (goes cs v) is ticks e =
-            λ turn. accepts w call calls now cs v (answers n v calls) at ticks is (ih v e)
-        by_course (meets OutOfMemory) is ticks e = cc
-        by_course (meets NumberTooLarge) is ticks e = cc
-        by_course (meets MomentTooLate) is ticks e = λ turn. (faults w call now MomentTooLate at ticks is, ih w e)
-        by_course (meets FlowIdsUsedUp) is ticks e = λ turn. (faults w call now FlowIdsUsedUp at ticks is, ih w e)
+    reply_agrees w call now at e = grind (arith, and_parts, answers, accepts, faults)
 
   -- those replies agree
   pub answers_agree : (n : ℕ) (calls : List (Call P)) (w : World P) → may_answer n w calls ≡ true
       → Agrees cmp w calls (answers n w calls)
   answers_agree n [] w e = tt
   answers_agree n (call_limit now peer egress ingress ∷ calls) w e =
-      limit_agrees w now peer egress ingress calls
-      (replied (course_of w (call_limit now peer egress ingress) now) w (λ v. answers n v calls))
-      (reply_agrees n calls (answers_agree n calls) w (call_limit now peer egress ingress) now refl e)
+      grind (arith, common_steps, limit_agrees, answers,
+      (reply_agrees n calls (answers_agree n calls) w (call_limit now peer egress ingress) now refl e))
   answers_agree n (call_limit_link now origin recipient cap ∷ calls) w e =
       link_agrees w now origin recipient cap calls
       (replied (course_of w (call_limit_link now origin recipient cap) now) w (λ v. answers n v calls))
@@ -445,10 +331,7 @@ module _ {P : Type 0} (cmp : P → P → Ordering) (order : IsTotalOrder cmp) (p
   answers_agree n (call_advance now ∷ calls) w e =
       advance_agrees w now calls (replied (course_of w (call_advance now) now) w (λ v. answers n v calls))
       (reply_agrees n calls (answers_agree n calls) w (call_advance now) now refl e)
-  answers_agree n (call_next ∷ calls) w e =
-      let two : (may_seek n w ≡ true) × (may_answer n w calls ≡ true) =
-      and_parts (may_seek n w) (may_answer n w calls) e in
-      (next_so n w two.0, answers_agree n calls w two.1)
+  answers_agree n (call_next ∷ calls) w e = grind (arith, and_parts, next_so, (answers_agree n calls w))
 
 -- all messages share one cap evenly
 abbrev pub evenly : {P : Type 0} → ℕ → World P → Shares

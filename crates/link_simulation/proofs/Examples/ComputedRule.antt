@@ -1,33 +1,24 @@
 -- Calls by the event rule, and the replies to them, found by computing: for worked examples.
-use Rattle.std.proofs.Common.{◌≡◌, ◌≢◌, ℕ, zero, suc, ◌+◌, ◌<◌, ◌≤◌, List, [], ◌∷◌, Bool, true, false, cond}
-use Rattle.std.proofs.Common.{Option, Some, None, refl, sym, ap, subst, arith, ◌∙◌, length}
-use Rattle.std.specs.Prelude.{max, ◌&&◌, ◌==◌, nat_le, nat_lt, if◌then◌else◌, IfSome}
-use Rattle.std.specs.List.{filter, AllZip}
-use Rattle.std.specs.declared.cmp.Ordering.{Ordering}
-use Rattle.std.specs.Cmp.{IsTotalOrder}
-use Rattle.std.proofs.lemmas.Bool.{leb-true, ltb-true, ltb-false, eqb-true, eq-eqb, and_parts}
-use Rattle.fair_rates.specs.declared.error.Error.TheVariants.{OutOfMemory, NumberTooLarge, MomentTooLate, FlowIdsUsedUp}
-use Rattle.link_simulation.specs.Simulation.Messages.{Message, Caps}
-use Rattle.link_simulation.specs.Simulation.World.{new_world, Completed, Course, goes, meets, last_moment, preceded}
-use Rattle.link_simulation.specs.Simulation.World.{fronts}
-use Rattle.link_simulation.specs.Simulation.Calls.{moment_of, Call, call_limit, call_limit_link, call_enqueue}
-use Rattle.link_simulation.specs.Simulation.Calls.{call_advance, call_enqueue_all, call_next, limited_by, linked_by}
-use Rattle.link_simulation.specs.Simulation.Replies.{Agrees, Reply, reply_done, reply_next, reply_refused}
-use Rattle.link_simulation.specs.Simulation.Replies.{SameCompletion}
-use Rattle.link_simulation.specs.Rule.Planned.{new_planned, Planned, RatedFlight, next_event}
-use Rattle.link_simulation.specs.Rule.Planned.{next_of, may_launch}
-use Rattle.link_simulation.specs.Rule.Events.{Launches}
-use Rattle.link_simulation.specs.Rule.Events.{Rebalances, none_sending, some_sending, completed_at_once}
-use Rattle.link_simulation.specs.Rule.Events.{with_queued, Enqueues, at_once, no_launch, launches, Advances, no_more}
-use Rattle.link_simulation.specs.Rule.Events.{at_finish, at_start, finish_stops, start_stops, Obeys}
-use Rattle.link_simulation.specs.Rule.Events.{EnqueuesEach, all_enqueued, one_stops, enqueues_one}
-use Rattle.link_simulation.specs.Rule.Refusals.{MayBeRefused, Obeyed}
+use Rattle.link_simulation.proofs.Common.{◌≡◌, ◌≢◌, ℕ, zero, suc, ◌+◌, ◌≤◌, List, [], ◌∷◌, Bool, true, false, cond}
+use Rattle.link_simulation.proofs.Common.{Option, Some, None, refl, sym, ap, subst, arith, ◌∙◌, length, max, ◌&&◌, ◌==◌}
+use Rattle.link_simulation.proofs.Common.{nat_le, nat_lt, if◌then◌else◌, filter, AllZip, Ordering, IsTotalOrder}
+use Rattle.link_simulation.proofs.Common.{ltb-true, eqb-true, eq-eqb, OutOfMemory, NumberTooLarge, MomentTooLate}
+use Rattle.link_simulation.proofs.Common.{FlowIdsUsedUp, Message, Caps, new_world, Completed, Course, goes, meets}
+use Rattle.link_simulation.proofs.Common.{last_moment, preceded, fronts, moment_of, Call, call_limit, call_limit_link}
+use Rattle.link_simulation.proofs.Common.{call_enqueue, call_advance, call_enqueue_all, call_next, limited_by}
+use Rattle.link_simulation.proofs.Common.{linked_by, Agrees, Reply, reply_done, reply_next, reply_refused}
+use Rattle.link_simulation.proofs.Common.{SameCompletion, new_planned, Planned, RatedFlight, next_event, next_of}
+use Rattle.link_simulation.proofs.Common.{may_launch, Launches, Rebalances, none_sending, some_sending}
+use Rattle.link_simulation.proofs.Common.{completed_at_once, with_queued, Enqueues, at_once, no_launch, launches}
+use Rattle.link_simulation.proofs.Common.{Advances, no_more, at_finish, at_start, finish_stops, start_stops, Obeys}
+use Rattle.link_simulation.proofs.Common.{EnqueuesEach, all_enqueued, one_stops, enqueues_one, MayBeRefused, Obeyed}
+use Rattle.link_simulation.proofs.Common.{InTime}
+use Rattle.std.proofs.lemmas.Bool.{ltb-false}
 use Rattle.link_simulation.proofs.Rule.Agreeing.{obeyed_agree}
-use Rattle.link_simulation.specs.Laws.Isolation.{InTime}
 use Rattle.link_simulation.proofs.Examples.ComputedReplies.{same_all, Shares}
-use Rattle.link_simulation.proofs.Examples.ComputedSteps.{the_same, bind, bound, followed, is_none_of, look}
-use Rattle.link_simulation.proofs.Examples.ComputedSteps.{look_so, launch, launch_so, finish_all, finish_all_so}
-use Rattle.link_simulation.proofs.Examples.ComputedSteps.{wake_each_so, wake_at, settle_at, settle_at_so}
+use Rattle.link_simulation.proofs.Examples.ComputedSteps.{the_same, bind, bound, followed, is_none_of, look, look_so}
+use Rattle.link_simulation.proofs.Examples.ComputedSteps.{launch, launch_so, finish_all, finish_all_so, wake_each_so}
+use Rattle.link_simulation.proofs.Examples.ComputedSteps.{wake_at, settle_at, settle_at_so}
 
 module _ {P : Type 0} (cmp : P → P → Ordering) (order : IsTotalOrder cmp) (plan : Caps P → List (Message P) → Shares)
     (hint : ℕ → List (Message P) → ℕ) (n : ℕ) where
@@ -51,14 +42,8 @@ module _ {P : Type 0} (cmp : P → P → Ordering) (order : IsTotalOrder cmp) (p
           ≡ Some c
           → Rebalances cmp now caps p c
       by_sending [] is e =
-          let found : (q : Planned P) × (look cmp order plan hint n now (record p {
-            caps = caps;
-            limited = true;
-          }) ≡ Some q) × (Some (goes [] q) ≡ Some c)
-          = bound (look cmp order plan hint n now (record p {
-            caps = caps;
-            limited = true;
-          })) (λ q. Some (goes [] q)) c e in
+          let found = bound (look cmp order plan hint n now (record p { caps = caps; limited = true; })) (λ q. Some
+          (goes [] q)) c e in
           subst (Rebalances cmp now caps p) (the_same found.2)
           (none_sending is (look_so cmp order plan hint n now (record p {
             caps = caps;
@@ -94,14 +79,7 @@ module _ {P : Type 0} (cmp : P → P → Ordering) (order : IsTotalOrder cmp) (p
           (Some (completed_at_once cmp now p m))
           ≡ Some c
           → Enqueues cmp now m p c
-      by_limited true is e =
-          let found : (l : Course (Message P) (Planned P))
-          × (launch cmp order plan hint n now (with_queued cmp p m) (next_of cmp (with_queued cmp p m) m) ≡ Some l)
-          × (followed l (λ leavers mid. finish_all cmp order plan hint n now n leavers mid) ≡ Some c)
-          = bound (launch cmp order plan hint n now (with_queued cmp p m) (next_of cmp (with_queued cmp p m) m))
-          (λ l. followed l (λ leavers mid. finish_all cmp order plan hint n now n leavers mid)) c e in
-          by_launch found.0 is (launch_so cmp order plan hint n now (with_queued cmp p m)
-          (next_of cmp (with_queued cmp p m) m) found.0 found.1) found.2
+      by_limited true is e = grind (arith, bound, by_launch, launch_so)
       by_limited false is e = subst (Enqueues cmp now m p) (the_same e) (at_once is)
 
   abbrev pub each_at : ℕ → List (Message P) → Planned P → Option (Course (Completed P) (Planned P))
@@ -114,9 +92,7 @@ module _ {P : Type 0} (cmp : P → P → Ordering) (order : IsTotalOrder cmp) (p
       → each_at now ms p ≡ Some c → EnqueuesEach cmp now ms p c
   each_at_so now [] p c e = subst (EnqueuesEach cmp now [] p) (the_same e) all_enqueued
   each_at_so now (m ∷ ms) p c e =
-      let found : (d : Course (Completed P) (Planned P)) × (enqueue_at now m p ≡ Some d)
-      × (followed d (λ cs q. bind (each_at now ms q) (λ rest. Some (preceded cs rest))) ≡ Some c)
-      = bound (enqueue_at now m p)
+      let found = bound (enqueue_at now m p)
       (λ d. followed d (λ cs q. bind (each_at now ms q) (λ rest. Some (preceded cs rest)))) c e in
       by_course found.0 (enqueue_at_so now m p found.0 found.1) found.2 (each_at_so now ms)
     where
@@ -127,9 +103,7 @@ module _ {P : Type 0} (cmp : P → P → Ordering) (order : IsTotalOrder cmp) (p
           → EnqueuesEach cmp now (m ∷ ms) p c
       by_course (meets fault) one e ih = subst (EnqueuesEach cmp now (m ∷ ms) p) (the_same e) (one_stops one)
       by_course (goes cs q) one e ih =
-          let found : (rest : Course (Completed P) (Planned P)) × (each_at now ms q ≡ Some rest)
-          × (Some (preceded cs rest) ≡ Some c)
-          = bound (each_at now ms q) (λ rest. Some (preceded cs rest)) c e in
+          let found = bound (each_at now ms q) (λ rest. Some (preceded cs rest)) c e in
           subst (EnqueuesEach cmp now (m ∷ ms) p) (the_same found.2) (enqueues_one one (ih q found.0 found.1))
 
   -- whether that is the moment
@@ -195,9 +169,7 @@ module _ {P : Type 0} (cmp : P → P → Ordering) (order : IsTotalOrder cmp) (p
                 (meets fault) e),
           )
       at_event t true (goes cs q) is due finish e more ih =
-          let found : (rest : Course (Completed P) (Planned P)) × (advance_at now k q ≡ Some rest)
-          × (Some (preceded cs rest) ≡ Some c)
-          = bound (advance_at now k q) (λ rest. Some (preceded cs rest)) c more in
+          let found = bound (advance_at now k q) (λ rest. Some (preceded cs rest)) c more in
           let rest : Advanced now q found.0 = ih q found.0 found.1 in
           subst (Advanced now p) (the_same found.2) (
             rest.0 + 1,
@@ -206,9 +178,7 @@ module _ {P : Type 0} (cmp : P → P → Ordering) (order : IsTotalOrder cmp) (p
                 rest.1,
           )
       at_event t false (goes cs q) is due finish e more ih =
-          let found : (rest : Course (Completed P) (Planned P)) × (advance_at now k q ≡ Some rest)
-          × (Some (preceded cs rest) ≡ Some c)
-          = bound (advance_at now k q) (λ rest. Some (preceded cs rest)) c more in
+          let found = bound (advance_at now k q) (λ rest. Some (preceded cs rest)) c more in
           let rest : Advanced now q found.0 = ih q found.0 found.1 in
           subst (Advanced now p) (the_same found.2) (
             rest.0 + 1,
@@ -225,15 +195,9 @@ module _ {P : Type 0} (cmp : P → P → Ordering) (order : IsTotalOrder cmp) (p
           ≡ Some c
           → AreAdvanced now k
           → Advanced now p c
-      by_past t true is past e ih = (
-        0,
-        no_more (subst (λ (o : Option ℕ). IfSome o (λ s. now < s)) (sym is) (ltb-true now t past))
-            (wake_each_so cmp order plan hint n now (filter (may_launch cmp now p) (fronts cmp p.waiting)) p c e),
-      )
+      by_past t true is past e ih = grind (arith, no_more, ltb-true, wake_each_so)
       by_past t false is past e ih =
-          let found : (d : Course (Completed P) (Planned P)) × (event_of p (Some t) ≡ Some d)
-          × (followed d (λ cs q. bind (advance_at now k q) (λ rest. Some (preceded cs rest))) ≡ Some c)
-          = bound (event_of p (Some t))
+          let found = bound (event_of p (Some t))
           (λ d. followed d (λ cs q. bind (advance_at now k q) (λ rest. Some (preceded cs rest)))) c e in
           at_event t (is_moment t p.finish) found.0 is (ltb-false now t past) refl found.1 found.2 ih
 
@@ -242,11 +206,7 @@ module _ {P : Type 0} (cmp : P → P → Ordering) (order : IsTotalOrder cmp) (p
           (bind (event_of p o)
           (λ d. followed d (λ cs q. bind (advance_at now k q) (λ rest. Some (preceded cs rest))))) ≡ Some c
           → AreAdvanced now k → Advanced now p c
-      by_next None is e ih = (
-        0,
-        no_more (subst (λ (o : Option ℕ). IfSome o (λ s. now < s)) (sym is) tt)
-            (wake_each_so cmp order plan hint n now (filter (may_launch cmp now p) (fronts cmp p.waiting)) p c e),
-      )
+      by_next None is e ih = grind (arith, no_more, wake_each_so)
       by_next (Some t) is e ih = by_past t (nat_lt now t) is refl e ih
 
   abbrev pub obeys_at : Planned P → Call P → Option (Course (Completed P) (Planned P))
@@ -307,72 +267,35 @@ module _ {P : Type 0} (cmp : P → P → Ordering) (order : IsTotalOrder cmp) (p
       (replies : List (Reply P))
       → Replied p (call_limit now peer egress ingress) calls replies
       → Obeyed cmp p (call_limit now peer egress ingress ∷ calls) replies
-  limit_obeyed p now peer egress ingress calls [] h = h
-  limit_obeyed p now peer egress ingress calls (reply_next t ∷ replies) h = h
-  limit_obeyed p now peer egress ingress calls (reply_done cs ∷ replies) h = h
-  limit_obeyed p now peer egress ingress calls (reply_refused why ∷ replies) h = h
+  limit_obeyed p now peer egress ingress calls _ h = h
 
   link_obeyed : (p : Planned P) (now : ℕ) (origin recipient : P) (cap : Option ℕ) (calls : List (Call P))
       (replies : List (Reply P))
       → Replied p (call_limit_link now origin recipient cap) calls replies
       → Obeyed cmp p (call_limit_link now origin recipient cap ∷ calls) replies
-  link_obeyed p now origin recipient cap calls [] h = h
-  link_obeyed p now origin recipient cap calls (reply_next t ∷ replies) h = h
-  link_obeyed p now origin recipient cap calls (reply_done cs ∷ replies) h = h
-  link_obeyed p now origin recipient cap calls (reply_refused why ∷ replies) h = h
+  link_obeyed p now origin recipient cap calls _ h = h
 
   enqueue_obeyed : (p : Planned P) (now : ℕ) (m : Message P) (calls : List (Call P)) (replies : List (Reply P))
       → Replied p (call_enqueue now m) calls replies
       → Obeyed cmp p (call_enqueue now m ∷ calls) replies
-  enqueue_obeyed p now m calls [] h = h
-  enqueue_obeyed p now m calls (reply_next t ∷ replies) h = h
-  enqueue_obeyed p now m calls (reply_done cs ∷ replies) h = h
-  enqueue_obeyed p now m calls (reply_refused why ∷ replies) h = h
+  enqueue_obeyed p now m calls _ h = h
 
   all_obeyed : (p : Planned P) (now : ℕ) (ms : List (Message P)) (calls : List (Call P)) (replies : List (Reply P))
       → Replied p (call_enqueue_all now ms) calls replies
       → Obeyed cmp p (call_enqueue_all now ms ∷ calls) replies
-  all_obeyed p now ms calls [] h = h
-  all_obeyed p now ms calls (reply_next t ∷ replies) h = h
-  all_obeyed p now ms calls (reply_done cs ∷ replies) h = h
-  all_obeyed p now ms calls (reply_refused why ∷ replies) h = h
+  all_obeyed p now ms calls _ h = h
 
   advance_obeyed : (p : Planned P) (now : ℕ) (calls : List (Call P)) (replies : List (Reply P))
       → Replied p (call_advance now) calls replies → Obeyed cmp p (call_advance now ∷ calls) replies
-  advance_obeyed p now calls [] h = h
-  advance_obeyed p now calls (reply_next t ∷ replies) h = h
-  advance_obeyed p now calls (reply_done cs ∷ replies) h = h
-  advance_obeyed p now calls (reply_refused why ∷ replies) h = h
+  advance_obeyed p now calls _ h = h
 
   replied_so : (p : Planned P) (call : Call P) (calls : List (Call P)) (replies : List (Reply P))
       → ((q : Planned P) (others : List (Reply P)) → replies_by_rule q calls ≡ Some others → Obeyed cmp q calls others)
       → bind (obeys_at p call) (λ c. replied_to c p (λ q. replies_by_rule q calls)) ≡ Some replies
       → Replied p call calls replies
   replied_so p call calls replies ih e =
-      let found : (c : Course (Completed P) (Planned P)) × (obeys_at p call ≡ Some c)
-      × (replied_to c p (λ q. replies_by_rule q calls) ≡ Some replies)
-      = bound (obeys_at p call) (λ c. replied_to c p (λ q. replies_by_rule q calls)) replies e in
-      by_course found.0 (obeys_at_so p call found.0 found.1) found.2
-    where
-      by_course : (c : Course (Completed P) (Planned P)) → Obeys cmp p call c
-          → replied_to c p (λ q. replies_by_rule q calls) ≡ Some replies → Replied p call calls replies
-      by_course (goes cs q) obeys e =
-          let found : (others : List (Reply P)) × (replies_by_rule q calls ≡ Some others)
-          × (Some (reply_done cs ∷ others) ≡ Some replies)
-          = bound (replies_by_rule q calls) (λ others. Some (reply_done cs ∷ others)) replies e in
-          subst (Replied p call calls) (the_same found.2) (cs, q, obeys, same_all cmp order cs, ih q found.0 found.1)
-      by_course (meets OutOfMemory) obeys e = cc
-      by_course (meets NumberTooLarge) obeys e = cc
-      by_course (meets MomentTooLate) obeys e =
-          let found : (others : List (Reply P)) × (replies_by_rule p calls ≡ Some others)
-          × (Some (reply_refused MomentTooLate ∷ others) ≡ Some replies)
-          = bound (replies_by_rule p calls) (λ others. Some (reply_refused MomentTooLate ∷ others)) replies e in
-          subst (Replied p call calls) (the_same found.2) (obeys, ih p found.0 found.1)
-      by_course (meets FlowIdsUsedUp) obeys e =
-          let found : (others : List (Reply P)) × (replies_by_rule p calls ≡ Some others)
-          × (Some (reply_refused FlowIdsUsedUp ∷ others) ≡ Some replies)
-          = bound (replies_by_rule p calls) (λ others. Some (reply_refused FlowIdsUsedUp ∷ others)) replies e in
-          subst (Replied p call calls) (the_same found.2) (obeys, ih p found.0 found.1)
+      let found = bound (obeys_at p call) (λ c. replied_to c p (λ q. replies_by_rule q calls)) replies e in
+      grind (arith, bound, the_same, same_all, (obeys_at_so p call found.0 found.1))
 
   pub obeyed_so : (p : Planned P) (calls : List (Call P)) (replies : List (Reply P))
       → replies_by_rule p calls ≡ Some replies → Obeyed cmp p calls replies
@@ -393,11 +316,7 @@ module _ {P : Type 0} (cmp : P → P → Ordering) (order : IsTotalOrder cmp) (p
   obeyed_so p (call_advance now ∷ calls) replies e =
       advance_obeyed p now calls replies
       (replied_so p (call_advance now) calls replies (λ q others h. obeyed_so q calls others h) e)
-  obeyed_so p (call_next ∷ calls) replies e =
-      let found : (others : List (Reply P)) × (replies_by_rule p calls ≡ Some others)
-      × (Some (reply_next (next_event p) ∷ others) ≡ Some replies)
-      = bound (replies_by_rule p calls) (λ others. Some (reply_next (next_event p) ∷ others)) replies e in
-      subst (Obeyed cmp p (call_next ∷ calls)) (the_same found.2) (refl, obeyed_so p calls found.0 found.1)
+  obeyed_so p (call_next ∷ calls) replies e = grind (arith, (obeyed_so p calls))
 
 -- ---- the simulation
 
@@ -408,17 +327,7 @@ are_in_time (call ∷ calls) =
 
 in_time_so : {P : Type 0} (calls : List (Call P)) → are_in_time calls ≡ true → InTime calls
 in_time_so [] e = tt
-in_time_so (call ∷ calls) e =
-    let two : (elim (moment_of call) [ None ↦ true | Some now ↦ nat_le now last_moment ] ≡ true)
-    × (are_in_time calls ≡ true)
-    = and_parts (elim (moment_of call) [ None ↦ true | Some now ↦ nat_le now last_moment ]) (are_in_time calls) e in
-    (by_moment (moment_of call) two.0, in_time_so calls two.1)
-  where
-    by_moment : (o : Option ℕ) → elim o [ None ↦ true | Some now ↦ nat_le now last_moment ] ≡ true → (now : ℕ)
-        → o ≡ Some now → now ≤ last_moment
-    by_moment None e now is = cc
-    by_moment (Some t) e now is =
-        let le : t ≤ last_moment = leb-true t last_moment e in let same : t ≡ now = the_same is in omega arith
+in_time_so (call ∷ calls) e = grind (arith, (in_time_so calls))
 
 -- what the event rule replies agrees with the simulation
 pub agrees_by_rule : {P : Type 0} (cmp : P → P → Ordering) (order : IsTotalOrder cmp)
@@ -426,9 +335,7 @@ pub agrees_by_rule : {P : Type 0} (cmp : P → P → Ordering) (order : IsTotalO
     (replies : List (Reply P))
     → are_in_time calls ≡ true → replies_by_rule cmp order plan hint n (new_planned 0) calls ≡ Some replies
     → Agrees cmp (new_world 0) calls replies
-agrees_by_rule cmp order plan hint n calls replies times e =
-    obeyed_agree cmp order calls replies (in_time_so calls times)
-    (obeyed_so cmp order plan hint n (new_planned 0) calls replies e)
+agrees_by_rule cmp order plan hint n calls replies times e = grind (arith, obeyed_agree, in_time_so, obeyed_so)
 
 -- ---- plans
 

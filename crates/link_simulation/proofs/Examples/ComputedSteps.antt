@@ -1,29 +1,21 @@
 -- The steps of the event rule, found by computing: accounts, looks, launches, finishes and wakes.
-use Rattle.std.proofs.Common.{◌-◌, ◌≡◌, ℕ, zero, suc, ◌+◌, ◌<◌, ◌≤◌, List, [], ◌∷◌, ◌++◌, Bool, true, false, cond}
-use Rattle.std.proofs.Common.{not, Option, Some, None, refl, sym, ap, subst, arith, ◌∙◌, inl, inr, ◌⊎◌}
-use Rattle.std.specs.Prelude.{◌&&◌, ◌||◌, ◌==◌, nat_le, nat_lt, if◌then◌else◌, slice_get, IfSome}
-use Rattle.std.specs.List.{find, list_any, list_all, filter, AllZip}
-use Rattle.std.specs.declared.cmp.Ordering.{Ordering}
-use Rattle.std.specs.Cmp.{IsTotalOrder}
-use Rattle.std.proofs.lemmas.Bool.{leb-true, le-leb, ltb-true, ltb-false, eqb-true, eq-eqb, cases_lt, and_parts}
+use Rattle.link_simulation.proofs.Common.{◌-◌, ◌≡◌, ℕ, zero, suc, ◌+◌, ◌<◌, ◌≤◌, List, [], ◌∷◌, ◌++◌, Bool, true, false}
+use Rattle.link_simulation.proofs.Common.{cond, not, Option, Some, None, refl, sym, ap, subst, arith, ◌∙◌, inl, inr}
+use Rattle.link_simulation.proofs.Common.{◌⊎◌, ◌&&◌, ◌||◌, ◌==◌, nat_le, nat_lt, if◌then◌else◌, slice_get, IfSome, find}
+use Rattle.link_simulation.proofs.Common.{list_any, filter, AllZip, Ordering, IsTotalOrder, leb-true, le-leb, ltb-true}
+use Rattle.link_simulation.proofs.Common.{eqb-true, cases_lt, and_parts, MomentTooLate, FlowIdsUsedUp, Amount, Message}
+use Rattle.link_simulation.proofs.Common.{Caps, same_pair, capped_sides, rates_from, rate_of, is_unlimited, Completed}
+use Rattle.link_simulation.proofs.Common.{Course, goes, meets, last_moment, preceded, fronts, is_late, completed}
+use Rattle.link_simulation.proofs.Common.{Planned, RatedFlight, IsLeastMoment, rated_messages, left_at, SomeSpentAt}
+use Rattle.link_simulation.proofs.Common.{drained_to, next_of, may_launch, SomeReadyAt, is_spent, Accounts, PlansStart}
+use Rattle.link_simulation.proofs.Common.{launched, Launches, nothing_waits, too_early, no_id, starts, landed, Finishes}
+use Rattle.link_simulation.proofs.Common.{all_completed, late, stopped, completes, WakesEach, all_started, no_start}
+use Rattle.link_simulation.proofs.Common.{no_finish, starts_one, Settles, settling, In, Each}
+use Rattle.std.specs.List.{list_all}
+use Rattle.std.proofs.lemmas.Bool.{ltb-false}
 use Rattle.std.proofs.lemmas.Option.{same_Some}
 use Rattle.std.proofs.Math.Bool.{or-true}
-use Rattle.fair_rates.specs.declared.error.Error.TheVariants.{MomentTooLate, FlowIdsUsedUp}
-use Rattle.fair_rates.specs.Numbers.Amount.{Amount}
-use Rattle.link_simulation.specs.Simulation.Messages.{Message, Caps, same_pair}
-use Rattle.link_simulation.specs.Simulation.Rates.{capped_sides, rates_from, rate_of, is_unlimited}
-use Rattle.link_simulation.specs.Simulation.World.{is_in_order, Completed, Course, goes, meets, last_moment, preceded}
-use Rattle.link_simulation.specs.Simulation.World.{fronts, is_in_order, is_late, completed}
-use Rattle.link_simulation.specs.Rule.Planned.{Planned, RatedFlight, IsLeastMoment}
-use Rattle.link_simulation.specs.Rule.Planned.{rated_messages, left_at, SomeSpentAt, drained_to, next_of, may_launch}
-use Rattle.link_simulation.specs.Rule.Planned.{SomeReadyAt, is_spent}
-use Rattle.link_simulation.specs.Rule.Events.{Accounts, PlansStart, launched, Launches, nothing_waits, too_early, no_id}
-use Rattle.link_simulation.specs.Rule.Events.{starts, landed, Finishes, all_completed, late, stopped, completes}
-use Rattle.link_simulation.specs.Rule.Events.{WakesEach, all_started, no_start, no_finish, starts_one, Settles}
-use Rattle.link_simulation.specs.Rule.Events.{settling}
-use Rattle.fair_rates.proofs.Lists.Members.{In}
 use Rattle.link_simulation.proofs.Simulation.OtherPairs.{fronts_are_first}
-use Rattle.fair_rates.proofs.Lists.Each.{Each}
 use Rattle.link_simulation.proofs.Laws.MostEvents.{first_in_fronts}
 use Rattle.link_simulation.proofs.Simulation.LowestTerms.{spent_later}
 use Rattle.link_simulation.proofs.Examples.ComputedReplies.{Shares, is_fair, fair_if_so}
@@ -77,31 +69,7 @@ module _ (Q : ℕ → Type 0) (test : ℕ → Bool) (yes : (t : ℕ) → test t 
     (no : (t : ℕ) → Q t → test t ≡ true) where
   seek_so : (n from : ℕ) (o : Option ℕ) → ((s : ℕ) → Q s → from ≤ s) → seek test n from ≡ Some o → IsLeastMoment Q o
   seek_so zero from o least e = cc
-  seek_so (suc n) from o least e = by_end (nat_lt last_moment from) refl e (seek_so n (from + 1) o)
-    where
-      later : test from ≡ false → (s : ℕ) → Q s → from + 1 ≤ s
-      later is s q = by_order (least s q) (cases_lt from s)
-        where
-          by_order : from ≤ s → from < s ⊎ s ≤ from → from + 1 ≤ s
-          by_order le (inl lt) = omega arith
-          by_order le (inr ge) =
-              let same : s ≡ from = omega arith in let there : test from ≡ true = ap test (sym same) ∙ no s q in cc
-
-      by_test : (b : Bool) → test from ≡ b → from ≤ last_moment
-          → cond b (Some (Some from)) (seek test n (from + 1)) ≡ Some o
-          → (((s : ℕ) → Q s → from + 1 ≤ s) → seek test n (from + 1) ≡ Some o → IsLeastMoment Q o) → IsLeastMoment Q o
-      by_test true is le e ih = subst (IsLeastMoment Q) (the_same e) (le, yes from is, least)
-      by_test false is le e ih = ih (later is) e
-
-      by_end : (b : Bool) → nat_lt last_moment from ≡ b
-          → cond b (Some None) (cond (test from) (Some (Some from)) (seek test n (from + 1))) ≡ Some o
-          → (((s : ℕ) → Q s → from + 1 ≤ s) → seek test n (from + 1) ≡ Some o → IsLeastMoment Q o) → IsLeastMoment Q o
-      by_end true is e ih =
-          subst (IsLeastMoment Q) (the_same e)
-          (λ t le q. let past : last_moment < from = ltb-true last_moment from is in
-          let first : from ≤ t = least t q in
-          omega arith)
-      by_end false is e ih = by_test (test from) refl (ltb-false last_moment from is) e ih
+  seek_so (suc n) from o least e = grind (arith, (seek_so n))
 
   sought_so : (never : Bool) (n from : ℕ) (o : Option ℕ) → (never ≡ true → (s : ℕ) → Q s → ⊥)
       → ((s : ℕ) → Q s → from ≤ s) → sought never test n from ≡ Some o → IsLeastMoment Q o
@@ -167,19 +135,14 @@ module _ {P : Type 0} (cmp : P → P → Ordering) (order : IsTotalOrder cmp) (p
       by_test : (b : Bool) → is_spent_at s f ≡ b → (b || list_any (is_spent_at s) fs) ≡ true
           → (list_any (is_spent_at s) fs ≡ true → SomeSpentAt fs s) → SomeSpentAt (f ∷ fs) s
       by_test true is e ih =
-          let two : (nat_le f.updated s ≡ true) × (((left_at s f).num == 0) ≡ true) =
-          and_parts (nat_le f.updated s) ((left_at s f).num == 0) is in
+          let two = and_parts (nat_le f.updated s) ((left_at s f).num == 0) is in
           (0, f, refl, leb-true f.updated s two.0, eqb-true (left_at s f).num 0 two.1)
       by_test false is e ih = let rest : SomeSpentAt fs s = ih e in (suc rest.0, rest.1, rest.2, rest.3, rest.4)
 
   so_if_spent : (s : ℕ) (fs : List (RatedFlight P)) (i : ℕ) (f : RatedFlight P) → slice_get fs i ≡ Some f
       → f.updated ≤ s → (left_at s f).num ≡ 0 → list_any (is_spent_at s) fs ≡ true
   so_if_spent s [] i f at le none = cc
-  so_if_spent s (g ∷ gs) zero f at le none =
-      let same : g ≡ f = the_same at in
-      let test : is_spent_at s f ≡ true = rw (le-leb f.updated s le, eq-eqb (left_at s f).num 0 none) refl in
-      let here : is_spent_at s g ≡ true = ap (is_spent_at s) same ∙ test in
-      rw here refl
+  so_if_spent s (g ∷ gs) zero f at le none = grind arith
   so_if_spent s (g ∷ gs) (suc i) f at le none =
       ap (λ (b : Bool). is_spent_at s g || b) (so_if_spent s gs i f at le none) ∙ or-true (is_spent_at s g)
 
@@ -198,19 +161,13 @@ module _ {P : Type 0} (cmp : P → P → Ordering) (order : IsTotalOrder cmp) (p
       → slice_get fs i ≡ Some f → (0 < f.left.den) × IfSome f.rate (λ r. 0 < r.den)
   positive_at [] i f e at = cc
   positive_at (g ∷ gs) i f e at =
-      let two : (is_positive g ≡ true) × (list_all is_positive gs ≡ true) =
-      and_parts (is_positive g) (list_all is_positive gs) e in
+      let two = and_parts (is_positive g) (list_all is_positive gs) e in
       by_place i at two.0 (λ j h. positive_at gs j f two.1 h)
     where
       by_place : (i : ℕ) → slice_get (g ∷ gs) i ≡ Some f → is_positive g ≡ true
           → ((j : ℕ) → slice_get gs j ≡ Some f → (0 < f.left.den) × IfSome f.rate (λ r. 0 < r.den))
           → (0 < f.left.den) × IfSome f.rate (λ r. 0 < r.den)
-      by_place zero at here rest =
-          let same : g ≡ f = the_same at in
-          let test : is_positive f ≡ true = ap is_positive (sym same) ∙ here in
-          let two : (nat_lt 0 f.left.den ≡ true) × (elim f.rate [ None ↦ true | Some r ↦ nat_lt 0 r.den ] ≡ true)
-          = and_parts (nat_lt 0 f.left.den) (elim f.rate [ None ↦ true | Some r ↦ nat_lt 0 r.den ]) test in
-          (ltb-true 0 f.left.den two.0, positive_rate f.rate two.1)
+      by_place zero at here rest = grind (arith, the_same, and_parts, ltb-true, positive_rate)
       by_place (suc j) at here rest = rest j at
 
   skip_so : (t from : ℕ) (sending : List (RatedFlight P)) → may_skip t from sending ≡ true → (s : ℕ)
@@ -219,12 +176,10 @@ module _ {P : Type 0} (cmp : P → P → Ordering) (order : IsTotalOrder cmp) (p
     where
       spent_before : s < from → list_all is_positive sending ≡ true → list_any (is_spent_at (from - 1)) sending ≡ true
       spent_before lt all =
-          let positive : (0 < some.1.left.den) × IfSome some.1.rate (λ r. 0 < r.den) =
-          positive_at sending some.0 some.1 all some.2 in
+          let positive = positive_at sending some.0 some.1 all some.2 in
           let updated : some.1.updated ≤ s = some.3 in
-          let on : (left_at (from - 1) some.1).num ≡ 0 =
-          spent_later some.1.rate (s - some.1.updated) (from - 1 - some.1.updated) some.1.left positive.1 positive.0
-          (omega arith) some.4 in
+          let on = spent_later some.1.rate (s - some.1.updated) (from - 1 - some.1.updated) some.1.left positive.1
+          positive.0 (omega arith) some.4 in
           so_if_spent (from - 1) sending some.0 some.1 some.2 (omega arith) on
 
       not_both : (b : Bool) → b ≡ true → not b ≡ true → ⊥
@@ -241,12 +196,11 @@ module _ {P : Type 0} (cmp : P → P → Ordering) (order : IsTotalOrder cmp) (p
           → (b || (list_all is_positive sending && not (list_any (is_spent_at (from - 1)) sending))) ≡ true → from ≤ s
       by_test true is e = let same : from ≡ t = eqb-true from t is in omega arith
       by_test false is e =
-          let two : (list_all is_positive sending ≡ true) × (not (list_any (is_spent_at (from - 1)) sending) ≡ true)
-          = and_parts (list_all is_positive sending) (not (list_any (is_spent_at (from - 1)) sending)) e in
+          let two = and_parts (list_all is_positive sending) (not (list_any (is_spent_at (from - 1)) sending)) e in
           by_order (cases_lt s from) two.0 two.1
 
   no_flight : (fs : List (RatedFlight P)) (s : ℕ) → is_none_of fs ≡ true → SomeSpentAt fs s → ⊥
-  no_flight [] s e some = let at : slice_get [] some.0 ≡ Some some.1 = some.2 in cc
+  no_flight [] s e some = cc
   no_flight (f ∷ fs) s e some = cc
 
   stayed_so : (caps : Caps P) (shares : Shares) (t place : ℕ) (fs : List (RatedFlight P))
@@ -268,34 +222,20 @@ module _ {P : Type 0} (cmp : P → P → Ordering) (order : IsTotalOrder cmp) (p
       let shares : Shares = shares_of t p in
       let two : (is_fair shares.per shares.parts (capped_sides cmp p.caps (rated_messages sending)) ≡ true)
       × (bind (finish_from t sending) (λ o. Some (record p { sending = sending; accounted = t; finish = o })) ≡ Some q)
-      = given_so (is_fair shares.per shares.parts (capped_sides cmp p.caps (rated_messages sending)))
-      (bind (finish_from t sending) (λ o. Some (record p { sending = sending; accounted = t; finish = o }))) q e in
-      let found : (o : Option ℕ) × (finish_from t sending ≡ Some o) × (Some (record p {
-        sending = sending;
-        accounted = t;
-        finish = o;
-      }) ≡ Some q)
-      = bound (finish_from t sending) (λ o. Some (record p { sending = sending; accounted = t; finish = o })) q two.1 in
+      = grind (arith, given_so) in
+      let found = bound (finish_from t sending) (λ o. Some (record p { sending = sending; accounted = t; finish = o
+      })) q two.1 in
       let from : ℕ = hint t (rated_messages sending) in
-      let skip : (may_skip t from sending ≡ true)
-      × (sought (is_none_of sending) (λ s. list_any (is_spent_at s) sending) n from ≡ Some found.0)
-      = given_so (may_skip t from sending)
+      let skip = given_so (may_skip t from sending)
       (sought (is_none_of sending) (λ s. list_any (is_spent_at s) sending) n from) found.0 found.1 in
-      let starts_at : (s : ℕ) → SomeSpentAt sending s → t ≤ s =
-      λ s some. let at : some.1.updated ≡ t = updated_at p.caps shares t 0 (staying t p) some.0 some.1 some.2 in
-      let le : some.1.updated ≤ s = some.3 in
-      omega arith in
+      let starts_at : (s : ℕ) → SomeSpentAt sending s → t ≤ s = grind (arith, updated_at) in
       let same : record p { sending = sending; accounted = t; finish = found.0 } ≡ q = the_same found.2 in
       subst (Accounts cmp t p (leavers_of t p)) same record {
         per = shares.per;
         rates = rates_from cmp p.caps shares.parts 0 (rated_messages sending);
         left = refl;
         stayed = stayed_so p.caps shares t 0 (staying t p);
-        fair = record {
-          parts = shares.parts;
-          fair = fair_if_so shares.per shares.parts (capped_sides cmp p.caps (rated_messages sending)) two.0;
-          rated = refl;
-        };
+        fair = grind (arith, fair_if_so);
         rated = rated_so p.caps shares t 0 (staying t p);
         finish =
             sought_so (SomeSpentAt sending) (λ s. list_any (is_spent_at s) sending) (λ s h. spent_if_so s sending h)
@@ -319,8 +259,7 @@ module _ {P : Type 0} (cmp : P → P → Ordering) (order : IsTotalOrder cmp) (p
 
   ready_if_so : (t : ℕ) (p : Planned P) (s : ℕ) → is_ready_at t p s ≡ true → (t ≤ s) × SomeReadyAt cmp p s
   ready_if_so t p s e =
-      let two : (nat_le t s ≡ true) × (list_any (may_launch cmp s p) (fronts cmp p.waiting) ≡ true) =
-      and_parts (nat_le t s) (list_any (may_launch cmp s p) (fronts cmp p.waiting)) e in
+      let two = and_parts (nat_le t s) (list_any (may_launch cmp s p) (fronts cmp p.waiting)) e in
       (leb-true t s two.0, found_in (fronts cmp p.waiting) (fronts_are_first cmp order p.waiting) two.1)
     where
       found_in : (ms : List (Message P)) → Each (λ m. find (same_pair cmp m) p.waiting ≡ Some m) ms
@@ -340,44 +279,20 @@ module _ {P : Type 0} (cmp : P → P → Ordering) (order : IsTotalOrder cmp) (p
     where
       among : (ms : List (Message P)) → In ms h.1.0 → list_any (may_launch cmp s p) ms ≡ true
       among [] has = absurd has
-      among (m ∷ ms) (inl same) =
-          let may : may_launch cmp s p m ≡ true = ap (may_launch cmp s p) same ∙ h.1.2 in rw may refl
-      among (m ∷ ms) (inr has) =
-          ap (λ (b : Bool). may_launch cmp s p m || b) (among ms has) ∙ or-true (may_launch cmp s p m)
+      among (m ∷ ms) (inl same) = grind arith
+      among (m ∷ ms) (inr has) = grind (arith, or-true, (among ms has))
 
   found_all : (test kind : Message P → Bool) (ws : List (Message P)) (m : Message P) → find test ws ≡ Some m
       → list_all kind ws ≡ true → kind m ≡ true
   found_all test kind [] m e all = cc
-  found_all test kind (w ∷ ws) m e all =
-      let two : (kind w ≡ true) × (list_all kind ws ≡ true) = and_parts (kind w) (list_all kind ws) all in
-      by_test (test w) e two.0 (λ h. found_all test kind ws m h two.1)
-    where
-      by_test : (b : Bool) → cond b (Some w) (find test ws) ≡ Some m → kind w ≡ true
-          → (find test ws ≡ Some m → kind m ≡ true) → kind m ≡ true
-      by_test true e here ih = ap kind (sym (the_same e)) ∙ here
-      by_test false e here ih = ih e
+  found_all test kind (w ∷ ws) m e all = grind (arith, (found_all test kind ws m))
 
   never_ready : (p : Planned P) (s : ℕ) → all_busy p ≡ true → SomeReadyAt cmp p s → ⊥
-  never_ready p s e some =
-      let busy : list_any (same_pair cmp some.0) (rated_messages p.sending) ≡ true
-      = found_all (same_pair cmp some.0) (λ m. list_any (same_pair cmp m) (rated_messages p.sending)) p.waiting some.0
-      some.1 e in
-      let may : may_launch cmp s p some.0 ≡ true = some.2 in
-      let parts : (not (list_any (same_pair cmp some.0) (rated_messages p.sending)) ≡ true)
-      × (is_in_order (p.last_arrival some.0.origin some.0.recipient) (s + some.0.latency) ≡ true)
-      = and_parts (not (list_any (same_pair cmp some.0) (rated_messages p.sending)))
-      (is_in_order (p.last_arrival some.0.origin some.0.recipient) (s + some.0.latency)) may in
-      not_both (list_any (same_pair cmp some.0) (rated_messages p.sending)) busy parts.0
-    where
-      not_both : (b : Bool) → b ≡ true → not b ≡ true → ⊥
-      not_both true is e = cc
-      not_both false is e = cc
+  never_ready p s e some = grind (arith, found_all, and_parts)
 
   pub look_so : (t : ℕ) (p q : Planned P) → look t p ≡ Some q → PlansStart cmp t p q
   look_so t p q e =
-      let found : (o : Option ℕ) × (sought (all_busy p) (is_ready_at t p) n t ≡ Some o)
-      × (Some (record p { start = o }) ≡ Some q)
-      = bound (sought (all_busy p) (is_ready_at t p) n t) (λ o. Some (record p { start = o })) q e in
+      let found = bound (sought (all_busy p) (is_ready_at t p) n t) (λ o. Some (record p { start = o })) q e in
       let same : record p { start = found.0 } ≡ q = the_same found.2 in
       subst (PlansStart cmp t p) same record {
         start =
@@ -410,9 +325,8 @@ module _ {P : Type 0} (cmp : P → P → Ordering) (order : IsTotalOrder cmp) (p
           ≡ Some c
           → Launches cmp t p (Some m) c
       by_test true true may below e =
-          let found : (q : Planned P) × (account t (launched cmp t p m) ≡ Some q)
-          × (Some (goes (leavers_of t (launched cmp t p m)) q) ≡ Some c)
-          = bound (account t (launched cmp t p m)) (λ q. Some (goes (leavers_of t (launched cmp t p m)) q)) c e in
+          let found = bound (account t (launched cmp t p m)) (λ q. Some (goes (leavers_of t (launched cmp t p m)) q)) c
+          e in
           subst (Launches cmp t p (Some m)) (the_same found.2)
           (starts may (ltb-true p.next_id last_moment below) (account_so t (launched cmp t p m) found.0 found.1))
       by_test true false may below e =
@@ -436,8 +350,7 @@ module _ {P : Type 0} (cmp : P → P → Ordering) (order : IsTotalOrder cmp) (p
       → finish_all t k ms p ≡ Some c → Finishes cmp t ms p c
   finish_all_so t zero ms p c e = cc
   finish_all_so t (suc k) [] p c e =
-      let found : (q : Planned P) × (look t p ≡ Some q) × (Some (goes [] q) ≡ Some c) =
-      bound (look t p) (λ q. Some (goes [] q)) c e in
+      let found : (q : Planned P) × (look t p ≡ Some q) × (Some (goes [] q) ≡ Some c) = grind (arith, bound) in
       subst (Finishes cmp t [] p) (the_same found.2) (all_completed (look_so t p found.0 found.1))
   finish_all_so t (suc k) (m ∷ ms) p c e = by_late (is_late cmp t m) refl e (finish_all_so t k)
     where
@@ -447,11 +360,7 @@ module _ {P : Type 0} (cmp : P → P → Ordering) (order : IsTotalOrder cmp) (p
           (λ rest. Some (preceded (completed cmp t m ∷ []) rest))) ≡ Some c → AreFinishes t k
           → Finishes cmp t (m ∷ ms) p c
       by_launch (meets fault) is l e ih = subst (Finishes cmp t (m ∷ ms) p) (the_same e) (stopped is l)
-      by_launch (goes more q) is l e ih =
-          let found : (rest : Course (Completed P) (Planned P)) × (finish_all t k (ms ++ more) q ≡ Some rest)
-          × (Some (preceded (completed cmp t m ∷ []) rest) ≡ Some c)
-          = bound (finish_all t k (ms ++ more) q) (λ rest. Some (preceded (completed cmp t m ∷ []) rest)) c e in
-          subst (Finishes cmp t (m ∷ ms) p) (the_same found.2) (completes is l (ih (ms ++ more) q found.0 found.1))
+      by_launch (goes more q) is l e ih = grind (arith, bound, the_same, completes)
 
       by_late : (b : Bool) → is_late cmp t m ≡ b
           → cond b (Some (meets MomentTooLate)) (bind (launch t (landed cmp t p m) (next_of cmp p m))
@@ -460,14 +369,9 @@ module _ {P : Type 0} (cmp : P → P → Ordering) (order : IsTotalOrder cmp) (p
           → AreFinishes t k → Finishes cmp t (m ∷ ms) p c
       by_late true is e ih = subst (Finishes cmp t (m ∷ ms) p) (the_same e) (late is)
       by_late false is e ih =
-          let found : (l : Course (Message P) (Planned P)) × (launch t (landed cmp t p m) (next_of cmp p m) ≡ Some l)
-          × (followed l (λ more q. bind (finish_all t k (ms ++ more) q)
-          (λ rest. Some (preceded (completed cmp t m ∷ []) rest))) ≡ Some c)
-          = bound (launch t (landed cmp t p m) (next_of cmp p m))
-          (λ l. followed l
-          (λ more q. bind (finish_all t k (ms ++ more) q)
-          (λ rest. Some (preceded (completed cmp t m ∷ []) rest))))
-          c e in
+          let found = bound (launch t (landed cmp t p m) (next_of cmp p m)) (λ l. followed l
+          (λ more q. bind (finish_all t k (ms ++ more) q) (λ rest. Some (preceded (completed cmp t m ∷ []) rest)))) c e
+          in
           by_launch found.0 is (launch_so t (landed cmp t p m) (next_of cmp p m) found.0 found.1) found.2 ih
 
   -- those pairs start
@@ -486,18 +390,11 @@ module _ {P : Type 0} (cmp : P → P → Ordering) (order : IsTotalOrder cmp) (p
   pub wake_each_so : (t : ℕ) (ms : List (Message P)) (p : Planned P) (c : Course (Completed P) (Planned P))
       → wake_each t ms p ≡ Some c → WakesEach cmp t ms p c
   wake_each_so t [] p c e =
-      let found : (q : Planned P) × (look t p ≡ Some q) × (Some (goes [] q) ≡ Some c) =
-      bound (look t p) (λ q. Some (goes [] q)) c e in
+      let found : (q : Planned P) × (look t p ≡ Some q) × (Some (goes [] q) ≡ Some c) = grind (arith, bound) in
       subst (WakesEach cmp t [] p) (the_same found.2) (all_started (look_so t p found.0 found.1))
   wake_each_so t (m ∷ ms) p c e =
-      let found : (l : Course (Message P) (Planned P)) × (launch t p (next_of cmp p m) ≡ Some l)
-      × (followed l (λ more q. bind (finish_all t n more q)
-      (λ d. followed d (λ cs r. bind (wake_each t ms r) (λ rest. Some (preceded cs rest))))) ≡ Some c)
-      = bound (launch t p (next_of cmp p m))
-      (λ l. followed l
-      (λ more q. bind (finish_all t n more q)
-      (λ d. followed d (λ cs r. bind (wake_each t ms r) (λ rest. Some (preceded cs rest))))))
-      c e in
+      let found = bound (launch t p (next_of cmp p m)) (λ l. followed l (λ more q. bind (finish_all t n more q)
+      (λ d. followed d (λ cs r. bind (wake_each t ms r) (λ rest. Some (preceded cs rest)))))) c e in
       by_launch found.0 (launch_so t p (next_of cmp p m) found.0 found.1) found.2 (wake_each_so t ms)
     where
       by_finish : (more : List (Message P)) (q : Planned P) (d : Course (Completed P) (Planned P))
@@ -506,9 +403,7 @@ module _ {P : Type 0} (cmp : P → P → Ordering) (order : IsTotalOrder cmp) (p
           → WakesEach cmp t (m ∷ ms) p c
       by_finish more q (meets fault) l f e ih = subst (WakesEach cmp t (m ∷ ms) p) (the_same e) (no_finish l f)
       by_finish more q (goes cs r) l f e ih =
-          let found : (rest : Course (Completed P) (Planned P)) × (wake_each t ms r ≡ Some rest)
-          × (Some (preceded cs rest) ≡ Some c)
-          = bound (wake_each t ms r) (λ rest. Some (preceded cs rest)) c e in
+          let found = bound (wake_each t ms r) (λ rest. Some (preceded cs rest)) c e in
           subst (WakesEach cmp t (m ∷ ms) p) (the_same found.2) (starts_one l f (ih r found.0 found.1))
 
       by_launch : (l : Course (Message P) (Planned P)) → Launches cmp t p (next_of cmp p m) l
@@ -520,9 +415,7 @@ module _ {P : Type 0} (cmp : P → P → Ordering) (order : IsTotalOrder cmp) (p
           → WakesEach cmp t (m ∷ ms) p c
       by_launch (meets fault) l e ih = subst (WakesEach cmp t (m ∷ ms) p) (the_same e) (no_start l)
       by_launch (goes more q) l e ih =
-          let found : (d : Course (Completed P) (Planned P)) × (finish_all t n more q ≡ Some d)
-          × (followed d (λ cs r. bind (wake_each t ms r) (λ rest. Some (preceded cs rest))) ≡ Some c)
-          = bound (finish_all t n more q)
+          let found = bound (finish_all t n more q)
           (λ d. followed d (λ cs r. bind (wake_each t ms r) (λ rest. Some (preceded cs rest)))) c e in
           by_finish more q found.0 l (finish_all_so t n more q found.0 found.1) found.2 ih
 
@@ -535,6 +428,5 @@ module _ {P : Type 0} (cmp : P → P → Ordering) (order : IsTotalOrder cmp) (p
   pub settle_at_so : (t : ℕ) (p : Planned P) (c : Course (Completed P) (Planned P)) → settle_at t p ≡ Some c
       → Settles cmp t p c
   settle_at_so t p c e =
-      let found : (q : Planned P) × (account t p ≡ Some q) × (finish_all t n (leavers_of t p) q ≡ Some c) =
-      bound (account t p) (λ q. finish_all t n (leavers_of t p) q) c e in
+      let found = bound (account t p) (λ q. finish_all t n (leavers_of t p) q) c e in
       settling (account_so t p found.0 found.1) (finish_all_so t n (leavers_of t p) found.0 c found.2)

@@ -1,13 +1,9 @@
 -- An example of many nanoseconds: at three bytes a second, one byte takes 333333334 of them.
-use Rattle.std.proofs.Common.{◌≡◌, ℕ, ◌+◌, ◌<◌, ◌≤◌, [], ◌∷◌, Bool, true, false, Some, refl, arith, lit≤}
-use Rattle.std.specs.Prelude.{◌==◌, ◌||◌}
-use Rattle.std.specs.Ordering.{nat_cmp}
-use Rattle.std.proofs.lemmas.Bool.{eqb-true}
-use Rattle.fair_rates.specs.Numbers.Amount.{Amount, Covers, drained, whole, reduced, gcd_within}
-use Rattle.link_simulation.specs.Simulation.Rates.{AreFair, capped_sides}
-use Rattle.link_simulation.specs.Simulation.World.{World, IsQuiet, flows}
-use Rattle.link_simulation.specs.Simulation.Time.{NextIs, comes_next, drifted}
-use Rattle.link_simulation.specs.Examples.Rows.{message, flying}
+use Rattle.link_simulation.proofs.Common.{◌≡◌, ℕ, ◌+◌, ◌<◌, ◌≤◌, [], ◌∷◌, Bool, true, false, Some, refl, arith, ◌==◌}
+use Rattle.link_simulation.proofs.Common.{nat_cmp, eqb-true, Amount, drained, whole, reduced, gcd_within, AreFair}
+use Rattle.link_simulation.proofs.Common.{capped_sides, World, IsQuiet, flows, NextIs, comes_next, drifted, message}
+use Rattle.std.proofs.Common.{lit≤}
+use Rattle.link_simulation.specs.Examples.Rows.{flying}
 use Rattle.fair_rates.proofs.Numbers.Draining.{spent_if_covers, covers_if_spent}
 use Rattle.link_simulation.proofs.Examples.ComputedReplies.{fair_if_so}
 use Rattle.link_simulation.proofs.Simulation.Stretch.{stretch, drifts_on}
@@ -33,8 +29,7 @@ some_left k h = by_test ((drained (whole 1) speed k).num == 0) refl
     by_test : (b : Bool) → ((drained (whole 1) speed k).num == 0) ≡ b → b ≡ false
     by_test false e = refl
     by_test true e =
-        let c : Covers speed k (whole 1) =
-        covers_if_spent (whole 1) speed k (omega arith) (omega arith)
+        let c = covers_if_spent (whole 1) speed k (omega arith) (omega arith)
         (eqb-true ((drained (whole 1) speed k).num) 0 e) in
         absurd (omega arith)
 
@@ -50,12 +45,7 @@ quiet : (k : ℕ) → 0 < k → k ≤ 333333333 → IsQuiet nat_cmp (0 + k) (dri
 quiet k h j = record { none_done = rw (at_speed, some_left k j) refl; none_ready = refl }
 
 not_quiet : ¬ IsQuiet nat_cmp 333333334 (drifted slow 1 (Some 3 ∷ []) 333333334)
-not_quiet q =
-    let e : (((drained (whole 1) (reduced 3 1) 333333334).num == 0) || false) || false ≡ false = q.none_done in
-    absurd (not_both (rw (at_speed, none_left) at e))
-  where
-    not_both : true ≡ false → ⊥
-    not_both e = cc
+not_quiet q = grind (arith, whole, at_speed, none_left)
 
 -- the next event is its finish
 pub slow_next : NextIs nat_cmp (flying 3 (message 1 2 1 0)) (Some 333333334)

@@ -1,33 +1,21 @@
 -- One message alone under caps takes its least time at the least of them.
-use Rattle.std.proofs.Common.{◌≡◌, ℕ, zero, suc, ◌+◌, ◌-◌, ◌*◌, ◌<◌, ◌≤◌, inl, inr, List, [], ◌∷◌, length, Bool, true}
-use Rattle.std.proofs.Common.{false, not, Option, Some, None, Contains, sum_by, refl, sym, ap, ◌∙◌, subst, arith}
-use Rattle.std.proofs.Common.{add-one, le_refl, ◌↔◌}
-use Rattle.std.specs.Prelude.{◌&&◌, ◌||◌, ◌==◌, is_none, nat_le, if◌then◌else◌}
-use Rattle.std.specs.List.{list_any, find}
-use Rattle.std.specs.declared.cmp.Ordering.{Ordering}
-use Rattle.std.specs.Cmp.{IsTotalOrder}
-use Rattle.std.proofs.lemmas.Bool.{eq-eqb, ne_eqb, lt-leb}
-use Rattle.std.proofs.lemmas.List.Elements.{All-contains}
+use Rattle.link_simulation.proofs.Common.{◌*◌, sym, ◌∙◌, All-from_contains, ◌≡◌, ℕ, zero, suc, ◌+◌, ◌-◌, ◌<◌, ◌≤◌, List}
+use Rattle.link_simulation.proofs.Common.{[], ◌∷◌, length, true, false, Option, Some, Contains, refl, subst, arith}
+use Rattle.link_simulation.proofs.Common.{add-one, ◌||◌, ◌==◌, list_any, Ordering, IsTotalOrder, eq-eqb, All-contains}
+use Rattle.link_simulation.proofs.Common.{Amount, whole, reduced, drained, Side, load, World, Flight, goes, flight_of}
+use Rattle.link_simulation.proofs.Common.{last_moment, is_in_order, is_done, is_late, completed, completion_of, instant}
+use Rattle.link_simulation.proofs.Common.{settle, IsQuiet, out_of_flight, call_advance, Runs, Message, Caps}
+use Rattle.link_simulation.proofs.Common.{is_delivered, AreFair, capped_sides, is_unlimited, Drains, Passes, no_time}
+use Rattle.link_simulation.proofs.Common.{quiet_tick, Ticks, NextIs, comes_next, rules}
+use Rattle.std.proofs.Common.{le_refl, ◌↔◌}
+use Rattle.std.proofs.lemmas.Bool.{ne_eqb}
 use Rattle.link_simulation.specs.Laws.Alone.{IsTimeFor, IsLeastCap, MayGoAlone, IsDoneAfter}
-use Rattle.fair_rates.specs.Numbers.Amount.{Amount, whole, reduced, drained}
 use Rattle.fair_rates.specs.Numbers.LowestTerms.{reduced_lowest, whole_IsReduced}
-use Rattle.fair_rates.specs.Fairness.Fair.{Side, load}
-use Rattle.fair_rates.specs.Sides.Subjects.{same_peer}
-use Rattle.link_simulation.specs.Simulation.World.{World, Flight, Completed, Course, goes, flight_of, last_moment}
-use Rattle.link_simulation.specs.Simulation.World.{is_in_order, is_done, is_late, completed, completion_of, instant}
-use Rattle.link_simulation.specs.Simulation.World.{settle, wake, IsQuiet, and_then, preceded, out_of_flight}
-use Rattle.link_simulation.specs.Simulation.Calls.{call_advance, Runs, join}
-use Rattle.link_simulation.specs.Simulation.Messages.{Message, Caps, is_delivered}
-use Rattle.link_simulation.specs.Simulation.Rates.{AreFair, capped_sides, is_unlimited}
-use Rattle.link_simulation.specs.Simulation.Time.{Drains, Passes, no_time, quiet_tick, Ticks, NextIs, comes_next}
 use Rattle.fair_rates.proofs.Numbers.Draining.{spent_from_least}
-use Rattle.fair_rates.proofs.Lists.Members.{In}
-use Rattle.fair_rates.proofs.Lists.SumOrder.{All-from_contains}
 use Rattle.link_simulation.proofs.Simulation.AlikeMessages.{same_itself, pair_itself}
 use Rattle.link_simulation.proofs.Simulation.Continuing.{rates_exist}
 use Rattle.link_simulation.proofs.Rule.FinishEvent.{settle_quiet, ticks_quiet, ticks_through}
-use Rattle.link_simulation.proofs.Laws.PartRates.{Kind, at_egress, at_ingress, at_link, cap_at, side_at, uses_at}
-use Rattle.link_simulation.proofs.Laws.PartRates.{from_sides}
+use Rattle.link_simulation.proofs.Laws.PartRates.{Kind, at_egress, at_ingress, at_link, cap_at, uses_at, from_sides}
 use Rattle.link_simulation.proofs.Simulation.Queue.{settle_first}
 use Rattle.link_simulation.proofs.Simulation.Stretch.{stretch, drifts_on}
 
@@ -40,57 +28,18 @@ module _ {P : Type 0} (cmp : P → P → Ordering) (order : IsTotalOrder cmp) wh
 
     uses_own : (k : Kind) (cap : ℕ) → cap_at cmp caps k m ≡ Some cap → uses_at cmp caps k m m ≡ true
     uses_own at_egress cap is = same_itself cmp order m.origin
-    uses_own at_ingress cap is = by_test (is_delivered cmp m) refl is
-      where
-        by_test : (b : Bool) → is_delivered cmp m ≡ b → (if b then caps.ingress m.recipient else None) ≡ Some cap
-            → (is_delivered cmp m && same_peer cmp m.recipient m.recipient) ≡ true
-        by_test true e is = rw (e, same_itself cmp order m.recipient) refl
-        by_test false e is = cc
+    uses_own at_ingress cap is = grind arith
     uses_own at_link cap is = pair_itself cmp order m
 
     limited_by : (k : Kind) (cap : ℕ) → cap_at cmp caps k m ≡ Some cap → is_unlimited cmp caps m ≡ false
-    limited_by k cap is =
-        by_caps k (caps.egress m.origin) (is_delivered cmp m) (caps.ingress m.recipient)
-        (caps.link m.origin m.recipient) is refl refl refl refl
-      where
-        by_caps : (k : Kind) (e : Option ℕ) (d : Bool) (i l : Option ℕ) → cap_at cmp caps k m ≡ Some cap
-            → caps.egress m.origin ≡ e → is_delivered cmp m ≡ d → caps.ingress m.recipient ≡ i
-            → caps.link m.origin m.recipient ≡ l
-            → (is_none e && (not d || is_none i) && is_none l) ≡ false
-        by_caps k (Some e) d i l is egress delivered ingress link = refl
-        by_caps k None true (Some i) l is egress delivered ingress link = refl
-        by_caps k None d i (Some l) is egress delivered ingress link = by_test (not d || is_none i)
-          where
-            by_test : (b : Bool) → (b && false) ≡ false
-            by_test true = refl
-            by_test false = refl
-        by_caps at_egress None d i None is egress delivered ingress link = cc
-        by_caps at_ingress None false i None is egress delivered ingress link =
-            let none : (if is_delivered cmp m then caps.ingress m.recipient else None) ≡ None = rw delivered refl in cc
-        by_caps at_ingress None true None None is egress delivered ingress link =
-            let none : (if is_delivered cmp m then caps.ingress m.recipient else None) ≡ None = rw delivered ingress in
-            cc
-        by_caps at_link None d i None is egress delivered ingress link = cc
+    limited_by k cap is = grind arith
 
     -- it is the one user of each of its sides, and uses some
     own_side : (s : Side) → Contains sides s → (s.users ≡ 0 ∷ []) × (is_unlimited cmp caps m ≡ false)
-    own_side s has = by_kind (from_sides cmp caps (m ∷ []) s has)
-      where
-        by_own : (k : Kind) (cap : ℕ) → cap_at cmp caps k m ≡ Some cap → s ≡ side_at cmp caps k (m ∷ []) m cap
-            → (s.users ≡ 0 ∷ []) × (is_unlimited cmp caps m ≡ false)
-        by_own k cap is e = (ap (λ (t : Side). t.users) e ∙ rw (uses_own k cap is) refl, limited_by k cap is)
-
-        by_kind : (n : Message P) × In (m ∷ []) n × ((k : Kind) × (cap : ℕ) × (cap_at cmp caps k n ≡ Some cap)
-            × (s ≡ side_at cmp caps k (m ∷ []) n cap)) → (s.users ≡ 0 ∷ []) × (is_unlimited cmp caps m ≡ false)
-        by_kind (n, inl same, (k, cap, is, e)) =
-            by_own k cap (subst (λ (x : Message P). cap_at cmp caps k x ≡ Some cap) (sym same) is)
-            (e ∙ ap (λ (x : Message P). side_at cmp caps k (m ∷ []) x cap) (sym same))
-        by_kind (n, inr none, rest) = absurd none
+    own_side s has = search (rules, from_sides, uses_own, limited_by)
 
     alone_load : (cap : ℕ) (s : Side) → Contains sides s → load (λ _. cap) s ≡ cap
-    alone_load cap s has =
-        let one : sum_by {X = ℕ} (λ _. cap) (0 ∷ []) ≡ cap = omega arith in
-        ap (λ (users : List ℕ). sum_by (λ _. cap) users) (own_side s has).0 ∙ one
+    alone_load cap s has = grind (arith, (own_side s has))
 
     alone_rate : (cap : ℕ) → IsLeastCap cmp caps m cap → AreFair cmp caps (m ∷ []) 1 (Some cap ∷ [])
     alone_rate cap is =
@@ -192,32 +141,21 @@ module _ {P : Type 0} (cmp : P → P → Ordering) (order : IsTotalOrder cmp) wh
 
     completes : is_late cmp (now + suc k) m ≡ false
         → instant cmp (later (suc k)) ≡ goes (completed cmp (now + suc k) m ∷ []) landed
-    completes in_time =
-        let found : find (is_done cmp (later (suc k))) (later (suc k)).sending ≡ Some (flight (suc k)) = rw gone refl in
-        let settled : settle cmp (now + suc k) (later (suc k)) ≡ goes (completed cmp (now + suc k) m ∷ []) landed
-        = settle_first cmp order 0 (now + suc k) (later (suc k)) (flight (suc k)) found ∙ rw in_time refl in
-        ap (λ (c : Course (Completed P) (World P)). and_then c (λ v. wake cmp v.moment v)) settled
+    completes in_time = grind (arith, later, gone, settle_first)
 
     advances : is_late cmp (now + suc k) m ≡ false
         → Runs cmp sent (call_advance (now + suc k)) (now + suc k) (goes (completed cmp (now + suc k) m ∷ []) landed)
     advances in_time =
         let r = reaches k (omega arith) in
         let long : suc k ≡ now + suc k - now = omega arith in
-        record {
-          ticked = goes (completed cmp (now + suc k) m ∷ []) landed;
-          ticks =
-              subst (λ n. Ticks cmp n sent (goes (completed cmp (now + suc k) m ∷ []) landed)) long
-              (ticks_through cmp order r.1 (later (suc k)) (goes (completed cmp (now + suc k) m ∷ []) landed) r.2
-              (completes in_time));
-          acts = refl;
-        }
+        grind (arith, (ticks_through cmp order r.1 (later (suc k)) (goes (completed cmp (now + suc k) m ∷ []) landed)
+        r.2 (completes in_time)))
 
     comes : now + suc k ≤ last_moment → NextIs cmp sent (Some (now + suc k))
     comes within =
         let r = reaches k (omega arith) in
         comes_next r.1 r.2
-        (λ quiet. let none : list_any (is_done cmp (later (suc k))) (later (suc k)).sending
-        ≡ false = quiet.none_done in
+        (λ quiet. let none = quiet.none_done in
         busy none)
         within
       where
@@ -228,16 +166,6 @@ module _ {P : Type 0} (cmp : P → P → Ordering) (order : IsTotalOrder cmp) wh
     rests =
         settle_quiet cmp order 1 now sent (rw (not_done (whole (length m.bytes)) (λ none. absurd (omega arith))) refl)
 
-  -- it starts as it is enqueued
-  starts : (caps : Caps P) (last : P → P → Option ℕ) (id now : ℕ) (m : Message P)
-      → is_in_order (last m.origin m.recipient) (now + m.latency) ≡ true → id < last_moment
-      → settle cmp now (world caps last (id + 1) (flight_of m ∷ []) now)
-      ≡ goes [] (world caps last (id + 1) (flight_of m ∷ []) now)
-      → join cmp now (world caps last id [] now) m ≡ goes [] (world caps last (id + 1) (flight_of m ∷ []) now)
-  starts caps last id now m in_order below rests =
-      let free : nat_le last_moment id ≡ false = lt-leb last_moment id below in
-      rw (pair_itself cmp order m, in_order, free, pair_itself cmp order m) (ap (preceded []) rests)
-
   from_idle : (caps : Caps P) (last : P → P → Option ℕ) (id t : ℕ) (m : Message P) (now cap k : ℕ)
       → is_in_order (last m.origin m.recipient) (now + m.latency) ≡ true → id < last_moment
       → t ≤ now → IsLeastCap cmp caps m cap → 0 < length m.bytes → IsTimeFor (length m.bytes) cap (suc k)
@@ -245,24 +173,10 @@ module _ {P : Type 0} (cmp : P → P → Ordering) (order : IsTotalOrder cmp) wh
       → IsDoneAfter cmp (world caps last id [] t) now m (suc k)
   from_idle caps last id t m now cap k in_order below after least some is_time within in_time =
       let there : t + (now - t) ≡ now = omega arith in
-      let waits : Ticks cmp (now - t) (world caps last id [] t) (goes [] (world caps last id [] now)) =
-      ticks_quiet cmp order
-      (subst (λ s. Passes cmp (now - t) (world caps last id [] t) (world caps last id [] s)) there
-      (idle_passes (now - t) caps last id t)) in
-      record {
-        sent = world caps last (id + 1) (flight_of m ∷ []) now;
-        sends = record {
-          ticked = goes [] (world caps last id [] now);
-          ticks = waits;
-          acts =
-              sym
-              (ap (preceded [])
-              (starts caps last id now m in_order below (rests caps last (id + 1) m now cap k least is_time some)));
-        };
-        next = comes caps last (id + 1) m now cap k least is_time some within;
-        after = landed caps last (id + 1) m now cap k least is_time some;
-        done = advances caps last (id + 1) m now cap k least is_time some in_time;
-      }
+      let waits : Ticks cmp (now - t) (world caps last id [] t) (goes [] (world caps last id [] now)) = grind (arith,
+      ticks_quiet, idle_passes) in
+      grind (arith, rests, (comes caps last (id + 1) m now cap k least is_time some within),
+      (advances caps last (id + 1) m now cap k least is_time some in_time))
 
   pub alone : (w : World P) (m : Message P) (now cap time : ℕ) → MayGoAlone cmp w now m → w.moment ≤ now
       → IsLeastCap cmp w.caps m cap → 0 < length m.bytes
@@ -270,24 +184,8 @@ module _ {P : Type 0} (cmp : P → P → Ordering) (order : IsTotalOrder cmp) wh
       → IsDoneAfter cmp w now m time
   alone w m now cap zero may after least some is_time within in_time = absurd (omega (arith, is_time.covers))
   alone w m now cap (suc k) may after least some is_time within in_time =
-      subst (λ (v : World P). IsDoneAfter cmp v now m (suc k)) same
-      (from_idle w.caps w.last_arrival w.next_id w.moment m now cap k may.in_order may.has_id after least some is_time
-      within in_time)
-    where
-      made : Bool → List (Flight P) → List (Message P) → World P
-      made limited fs ms =
-          record {
-            caps = w.caps;
-            limited = limited;
-            sending = fs;
-            waiting = ms;
-            last_arrival = w.last_arrival;
-            next_id = w.next_id;
-            moment = w.moment;
-          }
-
-      same : world w.caps w.last_arrival w.next_id [] w.moment ≡ w
-      same = rw (← may.limited, ← may.none_sending, ← may.none_waiting) refl
+      grind (arith, limited, (from_idle w.caps w.last_arrival w.next_id w.moment m now cap k may.in_order may.has_id
+      after least some is_time within in_time))
 
   pub delivered_arrives : (m : Message P) (t : ℕ) → is_delivered cmp m ≡ true
       → completed cmp t m ≡ completion_of m t (Some (t + m.latency))

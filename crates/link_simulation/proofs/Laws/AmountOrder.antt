@@ -1,9 +1,8 @@
 -- The order of amounts and of their sums.
-use Rattle.std.proofs.Common.{◌≡◌, ℕ, ◌+◌, ◌-◌, ◌*◌, ◌<◌, ◌≤◌, ap, arith}
-use Rattle.std.proofs.Math.Nat.{mul-le-mul_left, mul-le-mul_right, le_of_mul-le-mul_right, mul-pos}
-use Rattle.fair_rates.specs.Fairness.Laws.{IsAtMost}
-use Rattle.fair_rates.specs.Numbers.Amount.{plus, Amount, billion, drained, reduced, whole}
-use Rattle.fair_rates.specs.Numbers.LowestTerms.{reduced_positive, reduced_worth, IsScaled, reduced_scales}
+use Rattle.link_simulation.proofs.Common.{◌≡◌, ℕ, ◌+◌, ◌-◌, ◌*◌, ◌<◌, ◌≤◌, ap, arith, mul-pos, IsAtMost, plus, Amount}
+use Rattle.link_simulation.proofs.Common.{billion, drained, reduced, whole, reduced_positive}
+use Rattle.std.proofs.Math.Nat.{mul-le-mul_left, mul-le-mul_right, le_of_mul-le-mul_right}
+use Rattle.fair_rates.specs.Numbers.LowestTerms.{reduced_worth, IsScaled, reduced_scales}
 
 -- the sum of a and over per is more than the other side
 abbrev pub share : ℕ → ℕ → Amount
@@ -31,8 +30,7 @@ plus_under a x y n k h = over a.num a.den x.num x.den y.num y.den n k h
     over : (p b x d y e n k : ℕ) → (x * 1 + n * d) * (e * 1) ≤ (y * 1 + k * e) * (d * 1)
         → ((p * d + x * b) * 1 + n * (b * d)) * ((b * e) * 1) ≤ ((p * e + y * b) * 1 + k * (b * e)) * ((b * d) * 1)
     over p b x d y e n k h =
-        let one : (b * b) * ((x * 1 + n * d) * (e * 1)) ≤ (b * b) * ((y * 1 + k * e) * (d * 1)) =
-        mul-le-mul_left (b * b) h in
+        let one = mul-le-mul_left (b * b) h in
         omega arith
 
 -- one of them has (whole 0) left
@@ -61,11 +59,7 @@ plus_shares x u y v a t d h k = over x.num x.den u.num u.den y.num y.den v.num v
 -- whole bytes beside them
 pub plus_whole : (x y : Amount) (n t d : ℕ) → IsAtMost x (plus y (share t d))
     → IsAtMost (plus x (whole n)) (plus (plus y (whole n)) (share t d))
-plus_whole x y n t d h = over x.num x.den y.num y.den n t d h
-  where
-    over : (x p y q n t d : ℕ) → x * (q * d) ≤ (y * d + t * q) * p
-        → (x * 1 + n * p) * ((q * 1) * d) ≤ ((y * 1 + n * q) * d + t * (q * 1)) * (p * 1)
-    over x p y q n t d h = omega arith
+plus_whole x y n t d h = grind arith
 
 -- what goes in one time and then in another
 pub two_shares : (x y z : Amount) (a b d : ℕ) → 0 < y.den → 0 < d → IsAtMost x (plus y (share a d))
@@ -94,10 +88,6 @@ share_grows x y a b d e some le h =
         let one : e * (x * (q * d)) ≤ e * ((y * d + a * q) * p) = mul-le-mul_left e h in
         let two : (q * p) * (a * e) ≤ (q * p) * (b * d) = mul-le-mul_left (q * p) le in
         omega arith
-
--- and none
-pub no_share : (x : Amount) (d : ℕ) → IsAtMost x (plus x (share 0 d))
-no_share x d = omega arith
 
 -- draining takes no more than its rate
 pub drained_takes : (left : Amount) (a d n : ℕ) → 0 < left.den → 0 < d

@@ -1,41 +1,26 @@
 -- What an origin still has to send goes down by no more than its egress cap lets go.
-use Rattle.std.proofs.Common.{sum_by, ◌≡◌, ℕ, zero, suc, ◌+◌, ◌-◌, ◌*◌, ◌<◌, ◌≤◌, List, [], ◌∷◌, ◌++◌, map, length}
-use Rattle.std.proofs.Common.{Bool, true, false, cond, not, Option, Some, None, refl, sym, ap, ◌∙◌, subst, arith}
-use Rattle.std.proofs.Common.{append-nil}
-use Rattle.std.specs.Prelude.{is_none, ◌&&◌, ◌||◌, nat_le, ◌==◌, if◌then◌else◌, slice_get, Contains}
-use Rattle.std.specs.List.{filter, find, flat_map}
-use Rattle.std.specs.declared.cmp.Ordering.{Ordering}
-use Rattle.std.specs.Cmp.{IsTotalOrder}
-use Rattle.std.proofs.lemmas.List.Elements.{All-contains, Contains-append_left, Contains-append_right}
-use Rattle.std.proofs.Math.Nat.{mul-pos, add-mul, mul-add, mul-zero, zero-add, zero-mul}
-use Rattle.fair_rates.specs.Fairness.Laws.{IsAtMost}
-use Rattle.fair_rates.specs.Numbers.Amount.{plus, Amount, billion, whole}
-use Rattle.fair_rates.specs.Fairness.Fair.{Side, load}
-use Rattle.std.proofs.lemmas.List.Sums.{sum_by-cons}
-use Rattle.fair_rates.specs.Lists.WithoutFirst.{without_first}
-use Rattle.fair_rates.specs.Sides.Subjects.{same_peer}
-use Rattle.link_simulation.specs.Laws.Bytes.{allowance, bytes_from, left_from, waiting_from}
-use Rattle.link_simulation.specs.Simulation.World.{Completed, Course, Flight, World, and_then, complete, first_waiting}
-use Rattle.link_simulation.specs.Simulation.World.{flows, fronts, goes, instant, is_done, last_moment, least_pair}
-use Rattle.link_simulation.specs.Simulation.World.{may_start, meets, ready, settle, settle_within, start, start_next}
-use Rattle.link_simulation.specs.Simulation.World.{wake, wake_within, EndsWith, out_of_flight, is_late, completed}
-use Rattle.link_simulation.specs.Simulation.World.{flight_of}
-use Rattle.link_simulation.specs.Simulation.Calls.{Runs, call_advance}
-use Rattle.link_simulation.specs.Simulation.Messages.{Caps, Message, is_delivered, pair_before, same_pair}
-use Rattle.link_simulation.specs.Simulation.Rates.{rate_of, is_unlimited, rates_from, AreFair, Parts, capped_sides}
-use Rattle.link_simulation.specs.Simulation.Rates.{drained_by, sides_for}
-use Rattle.link_simulation.specs.Simulation.Time.{ArePositive, Drains, Ticks, drain_each, no_tick, one_tick}
-use Rattle.link_simulation.specs.Simulation.Time.{tick_faults}
-use Rattle.fair_rates.specs.declared.error.Error.TheVariants.{FlowIdsUsedUp, MomentTooLate}
+use Rattle.link_simulation.proofs.Common.{◌||◌, ◌==◌, common_steps, sum_by, ◌≡◌, ℕ, zero, suc, ◌+◌, ◌-◌, ◌*◌, ◌<◌, ◌≤◌}
+use Rattle.link_simulation.proofs.Common.{List, [], ◌∷◌, ◌++◌, map, length, Bool, true, false, Option, Some, None, refl}
+use Rattle.link_simulation.proofs.Common.{sym, ap, ◌∙◌, subst, arith, append-nil, if◌then◌else◌, slice_get, filter}
+use Rattle.link_simulation.proofs.Common.{find, flat_map, Ordering, IsTotalOrder, All-contains, Contains-append_left}
+use Rattle.link_simulation.proofs.Common.{Contains-append_right, mul-pos, IsAtMost, plus, Amount, billion, whole, Side}
+use Rattle.link_simulation.proofs.Common.{load, without_first, same_peer, Completed, Course, Flight, World, and_then}
+use Rattle.link_simulation.proofs.Common.{complete, first_waiting, flows, fronts, goes, instant, is_done, least_pair}
+use Rattle.link_simulation.proofs.Common.{may_start, meets, ready, settle, settle_within, start, start_next}
+use Rattle.link_simulation.proofs.Common.{wake_within, EndsWith, out_of_flight, completed, flight_of, Runs}
+use Rattle.link_simulation.proofs.Common.{call_advance, Caps, Message, same_pair, rate_of, is_unlimited, rates_from}
+use Rattle.link_simulation.proofs.Common.{AreFair, Parts, capped_sides, drained_by, sides_for, ArePositive, Drains}
+use Rattle.link_simulation.proofs.Common.{Ticks, drain_each, no_tick, one_tick, tick_faults, places_from, Each}
 use borrow.Author.Tests.{eqb-true}
+use Rattle.std.specs.Prelude.{Contains}
+use Rattle.std.proofs.Math.Nat.{add-mul, mul-add, zero-add}
+use Rattle.std.proofs.lemmas.List.Sums.{sum_by-cons}
+use Rattle.link_simulation.specs.Laws.Bytes.{allowance, bytes_from, left_from, waiting_from}
 use Rattle.link_simulation.proofs.Simulation.Queue.{then_then, peer_like, settle_none, settle_first, find_passes}
 use Rattle.link_simulation.proofs.Simulation.SettlingEnds.{ends_preceded, ends_and_then, ends_cond, find_like}
 use Rattle.link_simulation.proofs.Simulation.Split.{rest_is}
 use Rattle.link_simulation.proofs.Laws.AmountOrder.{share, at_most_itself, at_most_trans, plus_under, plus_spent}
-use Rattle.link_simulation.proofs.Laws.AmountOrder.{plus_shares, plus_whole, two_shares, share_grows, no_share}
-use Rattle.link_simulation.proofs.Laws.AmountOrder.{lowest_takes}
-use Rattle.fair_rates.specs.Lists.Places.{places_from}
-use Rattle.fair_rates.proofs.Lists.Each.{Each}
+use Rattle.link_simulation.proofs.Laws.AmountOrder.{plus_shares, plus_whole, two_shares, share_grows, lowest_takes}
 use Rattle.link_simulation.proofs.Simulation.OneNext.{drain_each_positive}
 use Rattle.link_simulation.proofs.Simulation.OtherPairs.{fronts_are_first}
 
@@ -44,23 +29,13 @@ use Rattle.link_simulation.proofs.Simulation.OtherPairs.{fronts_are_first}
 pub each_filter : {X : Type 0} (Q R : X → Type 0) (test : X → Bool) (xs : List X)
     → ((x : X) → test x ≡ true → Q x → R x) → Each Q xs → Each R (filter test xs)
 each_filter Q R test [] h e = tt
-each_filter {X} Q R test (x ∷ xs) h e = by_test (test x) refl (each_filter Q R test xs h e.1)
-  where
-    by_test : (b : Bool) → test x ≡ b → Each R (filter test xs) → Each R (cond b (x ∷ filter test xs) (filter test xs))
-    by_test true is ih = (h x is e.0, ih)
-    by_test false is ih = ih
+each_filter {X} Q R test (x ∷ xs) h e = grind (arith, (each_filter Q R test xs h))
 
 find_in_flat_map : {X A : Type 0} (test : X → Bool) (f : X → List A) (x : X) (a : A) (xs : List X)
     → find test xs ≡ Some x → Contains (f x) a → Contains (flat_map f xs) a
 find_in_flat_map test f x a [] e has = cc
-find_in_flat_map {X} {A} test f x a (y ∷ ys) e has = by_test (test y) e (λ is. find_in_flat_map test f x a ys is has)
-  where
-    by_test : (b : Bool) → cond b (Some y) (find test ys) ≡ Some x
-        → (find test ys ≡ Some x → Contains (flat_map f ys) a) → Contains (f y ++ flat_map f ys) a
-    by_test true is ih =
-        let same : x ≡ y = cc in
-        Contains-append_left (f y) (flat_map f ys) a (subst (λ (z : X). Contains (f z) a) same has)
-    by_test false is ih = Contains-append_right (f y) (flat_map f ys) a (ih is)
+find_in_flat_map {X} {A} test f x a (y ∷ ys) e has =
+    grind (arith, Contains-append_left, Contains-append_right, (find_in_flat_map test f x a ys))
 
 -- what those that pass get together
 abbrev part_of : Bool → Option ℕ → ℕ
@@ -77,27 +52,13 @@ none_total : {X : Type 0} (test : X → Bool) (xs : List X) (rates : Parts) → 
     → total (map test xs) rates ≡ 0
 none_total test [] rates e = refl
 none_total test (x ∷ xs) [] e = refl
-none_total {X} test (x ∷ xs) (r ∷ rs) e = by_test (test x) e (none_total test xs rs)
-  where
-    by_test : (b : Bool) → cond b (Some x) (find test xs) ≡ None → (find test xs ≡ None → total (map test xs) rs ≡ 0)
-        → part_of b r + total (map test xs) rs ≡ 0
-    by_test true is ih = cc
-    by_test false is ih = let h : total (map test xs) rs ≡ 0 = ih is in omega arith
+none_total {X} test (x ∷ xs) (r ∷ rs) e = grind (arith, (none_total test xs rs))
 
 module _ {P : Type 0} (cmp : P → P → Ordering) (order : IsTotalOrder cmp) where
   pub each_least : (Q : Message P → Type 0) (ms : List (Message P)) (m : Message P) → Each Q ms
       → least_pair cmp ms ≡ Some m → Q m
   each_least Q [] m e is = cc
-  each_least Q (n ∷ ns) m e is = by_rest (least_pair cmp ns) refl is (λ k. each_least Q ns k e.1)
-    where
-      by_test : (b : Bool) (k : Message P) → Some (cond b k n) ≡ Some m → Q k → Q m
-      by_test true k s h = let same : k ≡ m = cc in subst Q same h
-      by_test false k s h = let same : n ≡ m = cc in subst Q same e.0
-
-      by_rest : (o : Option (Message P)) → least_pair cmp ns ≡ o → least_pair cmp (n ∷ ns) ≡ Some m
-          → ((k : Message P) → least_pair cmp ns ≡ Some k → Q k) → Q m
-      by_rest None found is ih = let s = rw found at is in let same : n ≡ m = cc in subst Q same e.0
-      by_rest (Some k) found is ih = let s = rw found at is in by_test (pair_before cmp k n) k s (ih k found)
+  each_least Q (n ∷ ns) m e is = grind (arith, (each_least Q ns))
 
   -- ---- waking
 
@@ -122,83 +83,30 @@ module _ {P : Type 0} (cmp : P → P → Ordering) (order : IsTotalOrder cmp) wh
       → ((f : Flight P) → test f ≡ true → same_peer cmp p f.message.origin ≡ true → f.left.num ≡ 0)
       → IsAtMost (plus (left_from cmp p fs) (whole n)) (plus (left_from cmp p (without_first test fs)) (whole n))
   finished p test [] n spent = at_most_itself (plus (left_from cmp p []) (whole n))
-  finished p test (f ∷ fs) n spent = by_test (test f) refl (finished p test fs n spent)
-    where
-      gone : (c : Bool) → (c ≡ true → f.left.num ≡ 0)
-          → IsAtMost (plus (if c then plus f.left (left_from cmp p fs) else (left_from cmp p fs)) (whole n))
-          (plus (left_from cmp p fs) (whole n))
-      gone true h =
-          plus_spent f.left (left_from cmp p fs) (left_from cmp p fs) n (h refl)
-          (at_most_itself (plus (left_from cmp p fs) (whole n)))
-      gone false h = at_most_itself (plus (left_from cmp p fs) (whole n))
-
-      kept : (c : Bool) (other : Amount) → IsAtMost (plus (left_from cmp p fs) (whole n)) (plus other (whole n))
-          → IsAtMost (plus (if c then plus f.left (left_from cmp p fs) else (left_from cmp p fs)) (whole n))
-          (plus (if c then plus f.left other else other) (whole n))
-      kept true other h = plus_under f.left (left_from cmp p fs) other n n h
-      kept false other h = h
-
-      by_test : (b : Bool) → test f ≡ b
-          → IsAtMost (plus (left_from cmp p fs) (whole n)) (plus (left_from cmp p (without_first test fs)) (whole n))
-          → IsAtMost (plus (left_from cmp p (f ∷ fs)) (whole n))
-          (plus (left_from cmp p (cond b fs (f ∷ without_first test fs))) (whole n))
-      by_test true is ih = gone (same_peer cmp p f.message.origin) (spent f is)
-      by_test false is ih = kept (same_peer cmp p f.message.origin) (left_from cmp p (without_first test fs)) ih
+  finished p test (f ∷ fs) n spent =
+      grind (arith, whole, plus_spent, at_most_itself, plus_under, (finished p test fs n spent))
 
   abbrev gain : P → Message P → ℕ
   gain p m = if same_peer cmp p m.origin then length m.bytes else 0
 
   started : (p : P) (m : Message P) (fs : List (Flight P)) (n k : ℕ) → n ≡ gain p m + k
       → IsAtMost (plus (left_from cmp p fs) (whole n)) (plus (left_from cmp p (fs ++ flight_of m ∷ [])) (whole k))
-  started p m [] n k e = by_origin (same_peer cmp p m.origin) e
-    where
-      by_origin : (c : Bool) → n ≡ (if c then length m.bytes else 0) + k
-          → IsAtMost (plus (whole 0) (whole n))
-          (plus (if c then plus (whole (length m.bytes)) (whole 0) else (whole 0)) (whole k))
-      by_origin true e = omega arith
-      by_origin false e = omega arith
-  started p m (f ∷ fs) n k e = by_origin (same_peer cmp p f.message.origin) (started p m fs n k e)
-    where
-      by_origin : (c : Bool)
-          → IsAtMost (plus (left_from cmp p fs) (whole n)) (plus (left_from cmp p (fs ++ flight_of m ∷ [])) (whole k))
-          → IsAtMost (plus (if c then plus f.left (left_from cmp p fs) else left_from cmp p fs) (whole n))
-          (plus (if c then plus f.left (left_from cmp p (fs ++ flight_of m ∷ [])) else left_from cmp p
-          (fs ++ flight_of m ∷ [])) (whole k))
-      by_origin true h = plus_under f.left (left_from cmp p fs) (left_from cmp p (fs ++ flight_of m ∷ [])) n k h
-      by_origin false h = h
+  started p m [] n k e = grind arith
+  started p m (f ∷ fs) n k e = grind (arith, whole, plus_under, (started p m fs n k e))
 
   taken_from : (p : P) (m : Message P) (ms : List (Message P)) → find (same_pair cmp m) ms ≡ Some m
       → waiting_from cmp p ms ≡ gain p m + waiting_from cmp p (without_first (same_pair cmp m) ms)
   taken_from p m [] e = cc
-  taken_from p m (x ∷ xs) e = by_test (same_pair cmp m x) e (taken_from p m xs)
-    where
-      by_test : (b : Bool) → cond b (Some x) (find (same_pair cmp m) xs) ≡ Some m
-          → (find (same_pair cmp m) xs ≡ Some m
-          → waiting_from cmp p xs ≡ gain p m + waiting_from cmp p (without_first (same_pair cmp m) xs))
-          → gain p x + waiting_from cmp p xs
-          ≡ gain p m + waiting_from cmp p (cond b xs (x ∷ without_first (same_pair cmp m) xs))
-      by_test true is ih = let same : x ≡ m = cc in ap (λ (y : Message P). gain p y + waiting_from cmp p xs) same
-      by_test false is ih =
-          let h : waiting_from cmp p xs ≡ gain p m + waiting_from cmp p (without_first (same_pair cmp m) xs) = ih is in
-          omega arith
+  taken_from p m (x ∷ xs) e = grind (arith, (taken_from p m xs))
 
   pub left_positive : (p : P) (fs : List (Flight P)) → ArePositive fs → 0 < (left_from cmp p fs).den
   left_positive p [] pos = omega arith
-  left_positive p (f ∷ fs) pos = by_origin (same_peer cmp p f.message.origin) (left_positive p fs pos.1)
-    where
-      by_origin : (c : Bool) → 0 < (left_from cmp p fs).den
-          → 0 < (if c then plus f.left (left_from cmp p fs) else left_from cmp p fs).den
-      by_origin true h = mul-pos pos.0 h
-      by_origin false h = h
+  left_positive p (f ∷ fs) pos = grind (arith, mul-pos, (left_positive p fs))
 
   pub positive_without : (test : Flight P → Bool) (fs : List (Flight P)) → ArePositive fs
       → ArePositive (without_first test fs)
   positive_without test [] pos = tt
-  positive_without test (f ∷ fs) pos = by_test (test f) (positive_without test fs pos.1)
-    where
-      by_test : (b : Bool) → ArePositive (without_first test fs) → ArePositive (cond b fs (f ∷ without_first test fs))
-      by_test true h = pos.1
-      by_test false h = (pos.0, h)
+  positive_without test (f ∷ fs) pos = grind (arith, (positive_without test fs))
 
   pub positive_joined : (fs : List (Flight P)) (m : Message P) → ArePositive fs → ArePositive (fs ++ flight_of m ∷ [])
   positive_joined [] m pos = (omega arith, tt)
@@ -214,29 +122,14 @@ module _ {P : Type 0} (cmp : P → P → Ordering) (order : IsTotalOrder cmp) wh
       → total (map test ms) (rates_from cmp caps parts place ms) ≡ sum_by parts (places_from place test ms)
   total_is_load caps parts test place [] limited = refl
   total_is_load caps parts test place (m ∷ ms) limited =
-      by_test (test m) refl (is_unlimited cmp caps m) refl (total_is_load caps parts test (place + 1) ms limited)
-    where
-      by_test : (b : Bool) → test m ≡ b → (u : Bool) → is_unlimited cmp caps m ≡ u
-          → total (map test ms) (rates_from cmp caps parts (place + 1) ms)
-          ≡ sum_by parts (places_from (place + 1) test ms)
-          → part_of b (if u then None else Some (parts place)) + total (map test ms)
-          (rates_from cmp caps parts (place + 1) ms) ≡ sum_by parts
-          (cond b (place ∷ places_from (place + 1) test ms) (places_from (place + 1) test ms))
-      by_test true is true free ih = let bound : is_unlimited cmp caps m ≡ false = limited m is in cc
-      by_test true is false free ih = omega (arith, ih, sum_by-cons parts place (places_from (place + 1) test ms))
-      by_test false is u free ih = omega (arith, ih)
+      grind (arith, common_steps, places_from, sum_by-cons, (total_is_load caps parts test (place + 1) ms limited))
 
   passing_limited : (caps : Caps P) (parts : ℕ → ℕ) (test : Message P → Bool) (place : ℕ) (ms : List (Message P))
       → ((m : Message P) → test m ≡ true → is_unlimited cmp caps m ≡ false) → (i : ℕ)
       → slice_get (map test ms) i ≡ Some true
       → slice_get (rates_from cmp caps parts place ms) i ≡ Some None → ⊥
   passing_limited caps parts test place [] limited i at is = cc
-  passing_limited caps parts test place (m ∷ ms) limited zero at is =
-      by_test (is_unlimited cmp caps m) (limited m (let here : test m ≡ true = cc in here)) is
-    where
-      by_test : (u : Bool) → u ≡ false → Some (if u then None else Some (parts place)) ≡ Some None → ⊥
-      by_test true e is = cc
-      by_test false e is = cc
+  passing_limited caps parts test place (m ∷ ms) limited zero at is = grind arith
   passing_limited caps parts test place (m ∷ ms) limited (suc i) at is =
       passing_limited caps parts test (place + 1) ms limited i at is
 
@@ -258,11 +151,8 @@ module _ {P : Type 0} (cmp : P → P → Ordering) (order : IsTotalOrder cmp) wh
 
     follows_trans : (w v u : World P) → Follows w v → Follows v u → Follows w u
     follows_trans w v u f g =
-        record {
-          holds = g.holds;
-          bytes = at_most_trans (bytes_from cmp p w) (bytes_from cmp p v) (bytes_from cmp p u)
-              (bytes_positive v f.holds) f.bytes g.bytes;
-        }
+        grind (arith, (at_most_trans (bytes_from cmp p w) (bytes_from cmp p v) (bytes_from cmp p u)
+        (bytes_positive v f.holds) f.bytes g.bytes))
 
     follows_itself : (w : World P) → Holds w → Follows w w
     follows_itself w h = record { holds = h; bytes = at_most_itself (bytes_from cmp p w) }
@@ -280,21 +170,13 @@ module _ {P : Type 0} (cmp : P → P → Ordering) (order : IsTotalOrder cmp) wh
 
     start_follows : (w : World P) (m : Message P) → Holds w → find (same_pair cmp m) w.waiting ≡ Some m
         → EndsWith (Follows w) (start cmp w m)
-    start_follows w m h first = ends_cond (Follows w) (nat_le last_moment w.next_id) (meets FlowIdsUsedUp) _ tt
-        (record {
-          holds = record { positive = positive_joined w.sending m h.positive; egress = h.egress };
-          bytes =
-              started p m w.sending (waiting_from cmp p w.waiting)
-              (waiting_from cmp p (without_first (same_pair cmp m) w.waiting)) (taken_from p m w.waiting first);
-        })
+    start_follows w m h first = grind (arith, ends_cond, positive_joined, started, taken_from)
 
     start_next_follows : (t : ℕ) (w : World P) (m : Message P) (o : Option (Message P))
         → find (same_pair cmp m) w.waiting ≡ o → Holds w → EndsWith (Follows w) (start_next cmp t w o)
     start_next_follows t w m None e h = follows_itself w h
     start_next_follows t w m (Some x) e h =
-        let same : same_pair cmp m x ≡ true = find_passes (same_pair cmp m) x w.waiting e in
-        ends_cond (Follows w) (may_start cmp t w x) (start cmp w x) (goes [] w)
-        (start_follows w x h (find_like cmp order m x w.waiting same ∙ e)) (follows_itself w h)
+        grind (arith, find_passes, ends_cond, start, start_follows, find_like, follows_itself)
 
     done_is_spent : (w : World P) (f : Flight P) → Holds w → is_done cmp w f ≡ true
         → same_peer cmp p f.message.origin ≡ true → f.left.num ≡ 0
@@ -308,58 +190,28 @@ module _ {P : Type 0} (cmp : P → P → Ordering) (order : IsTotalOrder cmp) wh
     complete_follows : (t : ℕ) (w : World P) (f : Flight P) → Holds w
         → EndsWith (Follows w) (complete cmp t w f.message)
     complete_follows t w f h =
-        let landed : World P = out_of_flight cmp t w f.message in
-        let still : Holds landed =
-        record { positive = positive_without (is_done cmp w) w.sending h.positive; egress = h.egress } in
-        let less : Follows w landed =
-        record {
-          holds = still;
-          bytes = finished p (is_done cmp w) w.sending (waiting_from cmp p w.waiting)
-              (λ g done from. done_is_spent w g h done from);
-        } in
-        ends_cond (Follows w) (is_late cmp t f.message) (meets MomentTooLate) _ tt
-        (ends_preceded (Follows w) (completed cmp t f.message ∷ [])
+        let landed = out_of_flight cmp t w f.message in
+        let still : Holds landed = grind (arith, positive_without) in
+        let less : Follows w landed = grind (arith, finished, done_is_spent) in
+        grind (arith, ends_cond, (ends_preceded (Follows w) (completed cmp t f.message ∷ [])
+        (start_next cmp t landed (first_waiting cmp landed f.message)) (ends_more w landed less
         (start_next cmp t landed (first_waiting cmp landed f.message))
-        (ends_more w landed less (start_next cmp t landed (first_waiting cmp landed f.message))
-        (start_next_follows t landed f.message (first_waiting cmp landed f.message) refl still)))
+        (start_next_follows t landed f.message (first_waiting cmp landed f.message) refl still))))
 
     settle_within_follows : (n t : ℕ) (w : World P) → Holds w → EndsWith (Follows w) (settle_within cmp n t w)
     settle_within_follows zero t w h = follows_itself w h
-    settle_within_follows (suc n) t w h = by_first (find (is_done cmp w) w.sending) refl (settle_within_follows n t)
-      where
-        by_first : (o : Option (Flight P)) → find (is_done cmp w) w.sending ≡ o
-            → ((v : World P) → Holds v → EndsWith (Follows v) (settle_within cmp n t v))
-            → EndsWith (Follows w) (settle_within cmp (suc n) t w)
-        by_first None e ih =
-            subst (λ (c : Course (Completed P) (World P)). EndsWith (Follows w) c) (sym (settle_none cmp order n t w e))
-            (follows_itself w h)
-        by_first (Some f) e ih =
-            subst (λ (c : Course (Completed P) (World P)). EndsWith (Follows w) c)
-            (sym (settle_first cmp order n t w f e))
-            (follows_then w (complete cmp t w f.message) (settle_within cmp n t) (complete_follows t w f h) ih)
+    settle_within_follows (suc n) t w h =
+        grind (arith, settle_none, follows_itself, settle_first, follows_then, complete_follows,
+        (settle_within_follows n t))
 
     wake_within_follows : (n t : ℕ) (w : World P) → Holds w → EndsWith (Follows w) (wake_within cmp n t w)
     wake_within_follows zero t w h = follows_itself w h
-    wake_within_follows (suc n) t w h = by_least (least_pair cmp (ready cmp t w)) refl (wake_within_follows n t)
-      where
-        by_least : (o : Option (Message P)) → least_pair cmp (ready cmp t w) ≡ o
-            → ((v : World P) → Holds v → EndsWith (Follows v) (wake_within cmp n t v))
-            → EndsWith (Follows w) (wake_within cmp (suc n) t w)
-        by_least None e ih =
-            subst (λ (c : Course (Completed P) (World P)). EndsWith (Follows w) c) (sym (wake_none n t w e))
-            (follows_itself w h)
-        by_least (Some m) e ih =
-            subst (λ (c : Course (Completed P) (World P)). EndsWith (Follows w) c) (sym (wake_first n t w m e))
-            (follows_then w (start cmp w m) (λ v. and_then (settle cmp t v) (wake_within cmp n t))
-            (start_follows w m h (ready_is_first t w m e))
-            (λ v g. follows_then v (settle cmp t v) (wake_within cmp n t)
-            (settle_within_follows (length v.sending + length v.waiting) t v g) ih))
+    wake_within_follows (suc n) t w h =
+        grind (arith, wake_none, follows_itself, wake_first, follows_then, start, start_follows, ready_is_first,
+        settle_within_follows, (wake_within_follows n t))
 
     pub instant_follows : (w : World P) → Holds w → EndsWith (Follows w) (instant cmp w)
-    instant_follows w h =
-        follows_then w (settle cmp w.moment w) (λ v. wake cmp v.moment v)
-        (settle_within_follows (length w.sending + length w.waiting) w.moment w h)
-        (λ v g. wake_within_follows (length v.waiting) v.moment v g)
+    instant_follows w h = grind (arith, follows_then, settle_within_follows, wake_within_follows)
 
     -- ---- a nanosecond
 
@@ -377,23 +229,14 @@ module _ {P : Type 0} (cmp : P → P → Ordering) (order : IsTotalOrder cmp) wh
     same_users q place (m ∷ ms) e = rw (peer_like cmp order p q m.origin e, same_users q (place + 1) ms e) refl
 
     own_limited : (w : World P) → Holds w → (m : Message P) → from_it m ≡ true → is_unlimited cmp w.caps m ≡ false
-    own_limited w h m from = by_cap (w.caps.egress m.origin) (h.egress m.origin from)
-      where
-        by_cap : (c : Option ℕ) → c ≡ Some cap
-            → (is_none c && (not (is_delivered cmp m) || is_none (w.caps.ingress m.recipient))
-            && is_none (w.caps.link m.origin m.recipient))
-            ≡ false
-        by_cap None e = cc
-        by_cap (Some c) e = refl
+    own_limited w h m from = grind arith
 
     fair_is_capped : (w : World P) (per : ℕ) (rates : Parts) → Holds w → AreFair cmp w.caps (flows w) per rates
         → AreCapped (flows w) per rates
     fair_is_capped w per rates h fair = by_user (find from_it (flows w)) refl
       where
         limits : (i : ℕ) → slice_get (map from_it (flows w)) i ≡ Some true → slice_get rates i ≡ Some None → ⊥
-        limits i at is =
-            passing_limited w.caps fair.parts from_it 0 (flows w) (own_limited w h) i at
-            (subst (λ (rs : Parts). slice_get rs i ≡ Some None) fair.rated is)
+        limits i at is = grind (arith, passing_limited, own_limited)
 
         by_user : (o : Option (Message P)) → find from_it (flows w) ≡ o → AreCapped (flows w) per rates
         by_user None e =
@@ -410,15 +253,11 @@ module _ {P : Type 0} (cmp : P → P → Ordering) (order : IsTotalOrder cmp) wh
               users = places_from 0 (λ (n : Message P). same_peer cmp m.origin n.origin) (flows w);
             } in
             let users : side.users ≡ places_from 0 from_it (flows w) = same_users m.origin 0 (flows w) from in
-            let has : Contains (capped_sides cmp w.caps (flows w)) side
-            = find_in_flat_map from_it (sides_for cmp w.caps (flows w)) m side (flows w) e
+            let has = find_in_flat_map from_it (sides_for cmp w.caps (flows w)) m side (flows w) e
             (rw (h.egress m.origin from) (0, omega arith, refl)) in
-            let load_is : total (map from_it (flows w)) rates ≡ sum_by fair.parts side.users
-            = ap (total (map from_it (flows w))) fair.rated
-            ∙ total_is_load w.caps fair.parts from_it 0 (flows w) (own_limited w h)
-            ∙ ap (sum_by fair.parts) (sym users) in
-            let fits : sum_by fair.parts side.users ≤ cap * per =
-            All-contains (λ s. load fair.parts s ≤ s.cap * per) (capped_sides cmp w.caps (flows w)) side
+            let load_is = ap (total (map from_it (flows w))) fair.rated ∙ total_is_load w.caps fair.parts from_it 0
+            (flows w) (own_limited w h) ∙ ap (sum_by fair.parts) (sym users) in
+            let fits = All-contains (λ s. load fair.parts s ≤ s.cap * per) (capped_sides cmp w.caps (flows w)) side
             fair.fair.within has in
             record { within = omega (arith, load_is, fits); limited = limits }
 
@@ -430,12 +269,7 @@ module _ {P : Type 0} (cmp : P → P → Ordering) (order : IsTotalOrder cmp) wh
         (share ((part_of c r + others) * n) (per * billion)))
     drained_one per n others left before after true None some pos never ih = absurd (never refl refl)
     drained_one per n others left before after true (Some a) some pos never ih =
-        subst
-        (λ k. IsAtMost (plus left before)
-        (plus (plus (drained_by (rate_of per (Some a)) n left) after) (share k (per * billion))))
-        (sym (add-mul a others n))
-        (plus_shares left (drained_by (rate_of per (Some a)) n left) before after (a * n) (others * n) (per * billion)
-        (lowest_takes left a per n pos some) ih)
+        grind (arith, rate_of, add-mul, plus_shares, lowest_takes)
     drained_one per n others left before after false r some pos never ih =
         subst (λ k. IsAtMost before (plus after (share (k * n) (per * billion)))) (sym (zero-add others)) ih
 
@@ -445,16 +279,8 @@ module _ {P : Type 0} (cmp : P → P → Ordering) (order : IsTotalOrder cmp) wh
         → IsAtMost (left_from cmp p fs)
         (plus (left_from cmp p (drain_each per rates n fs))
         (share (total (map from_it (map (λ (f : Flight P). f.message) fs)) rates * n) (per * billion)))
-    drained_each per rates n [] some pos limited = nothing_drained rates
-      where
-        nothing_drained : (rates : Parts)
-            → IsAtMost (whole 0)
-            (plus (left_from cmp p (drain_each {P = P} per rates n [])) (share (0 * n) (per * billion)))
-        nothing_drained [] = omega arith
-        nothing_drained (r ∷ rs) = omega arith
-    drained_each per [] n (f ∷ fs) some pos limited =
-        subst (λ k. IsAtMost (left_from cmp p (f ∷ fs)) (plus (left_from cmp p (f ∷ fs)) (share k (per * billion))))
-        (sym (zero-mul n)) (no_share (left_from cmp p (f ∷ fs)) (per * billion))
+    drained_each per rates n [] some pos limited = grind arith
+    drained_each per [] n (f ∷ fs) some pos limited = grind arith
     drained_each per (r ∷ rs) n (f ∷ fs) some pos limited =
         drained_one per n (total (map from_it (map (λ (g : Flight P). g.message) fs)) rs) f.left (left_from cmp p fs)
         (left_from cmp p (drain_each per rs n fs)) (same_peer cmp p f.message.origin) r some pos.0
@@ -467,45 +293,27 @@ module _ {P : Type 0} (cmp : P → P → Ordering) (order : IsTotalOrder cmp) wh
 
     drain_loses : (w v : World P) → Holds w → Drains cmp w v → Loses 1 w v
     drain_loses w v h d =
-        let capped : AreCapped (flows w) d.per d.rates = fair_is_capped w d.per d.rates h d.fair in
-        let some : 0 < d.per = d.fair.fair.some_part in
+        let capped = fair_is_capped w d.per d.rates h d.fair in
+        let some = d.fair.fair.some_part in
         let u : World P = record w { sending = drain_each d.per d.rates 1 w.sending; moment = w.moment + 1 } in
-        let positive : ArePositive u.sending =
-        drain_each_positive cmp order d.per d.rates 1 w.sending some h.positive in
-        let all : ℕ = total (map from_it (flows w)) d.rates in
-        let sums : IsAtMost (bytes_from cmp p w) (plus (bytes_from cmp p u) (share (all * 1) (d.per * billion))) =
-        plus_whole (left_from cmp p w.sending) (left_from cmp p u.sending) (waiting_from cmp p w.waiting) (all * 1)
-        (d.per * billion) (drained_each d.per d.rates 1 w.sending some h.positive capped.limited) in
-        let most : all ≤ cap * d.per = capped.within in
+        let positive : ArePositive u.sending = grind (arith, drain_each_positive) in
+        let all = total (map from_it (flows w)) d.rates in
+        let sums : IsAtMost (bytes_from cmp p w) (plus (bytes_from cmp p u) (share (all * 1) (d.per * billion))) = grind
+        (arith, plus_whole, drained_each) in
+        let most = capped.within in
         let scaled : (all * 1) * billion ≤ (cap * 1) * (d.per * billion) = omega arith in
-        let end : Loses 1 w u = record {
-          holds = record { positive = positive; egress = h.egress };
-          bytes =
-              share_grows (bytes_from cmp p w) (bytes_from cmp p u) (all * 1) (cap * 1) (d.per * billion) billion
-              (mul-pos some (omega arith)) scaled sums;
-        } in
-        subst (λ (z : World P). Loses 1 w z) (sym d.world) end
+        let end : Loses 1 w u = record { holds = record { positive = positive; egress = h.egress }; bytes = share_grows
+        (bytes_from cmp p w) (bytes_from cmp p u) (all * 1) (cap * 1) (d.per * billion) billion (mul-pos some (omega
+        arith)) scaled sums; } in
+        grind arith
 
     loses_none : (w v : World P) → Follows w v → Loses 0 w v
-    loses_none w v f =
-        record {
-          holds = f.holds;
-          bytes = subst (λ k. IsAtMost (bytes_from cmp p w)
-              (plus (bytes_from cmp p v) (share k billion))) (sym (mul-zero cap))
-              (none_more (bytes_from cmp p w) (bytes_from cmp p v) f.bytes);
-        }
-      where
-        none_more : (a b : Amount) → IsAtMost a b → IsAtMost a (plus b (share 0 billion))
-        none_more a b h = omega arith
+    loses_none w v f = grind arith
 
     loses_both : (m n : ℕ) (w v u : World P) → Loses m w v → Loses n v u → Holds v → Loses (m + n) w u
-    loses_both m n w v u f g h = record {
-      holds = g.holds;
-      bytes =
-          subst (λ k. IsAtMost (bytes_from cmp p w) (plus (bytes_from cmp p u) (share k billion)))
-          (sym (mul-add cap m n)) (two_shares (bytes_from cmp p w) (bytes_from cmp p v) (bytes_from cmp p u) (cap * m)
-          (cap * n) billion (bytes_positive v h) (omega arith) f.bytes g.bytes);
-    }
+    loses_both m n w v u f g h =
+        grind (arith, (mul-add cap m n), (two_shares (bytes_from cmp p w) (bytes_from cmp p v) (bytes_from cmp p u)
+        (cap * m) (cap * n) billion (bytes_positive v h) (omega arith) f.bytes g.bytes))
 
     ends_in : (w : World P) (c : Course (Completed P) (World P)) (cs : List (Completed P)) (v : World P)
         → EndsWith (Follows w) c → c ≡ goes cs v → Follows w v

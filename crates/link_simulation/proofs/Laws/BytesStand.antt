@@ -1,38 +1,19 @@
 -- The bytes of an origin are the same in all worlds of one moment that a planned world stands for, so an advance keeps
 -- to its cap.
-use Rattle.std.proofs.Common.{◌≡◌, ℕ, zero, suc, ◌+◌, ◌-◌, ◌*◌, ◌≤◌, List, [], ◌∷◌, length, Bool, true, false, cond}
-use Rattle.std.proofs.Common.{not, Some, refl, sym, ap, ◌∙◌, subst, arith}
-use Rattle.std.specs.Prelude.{if◌then◌else◌}
-use Rattle.std.specs.List.{filter, AllZip}
-use Rattle.std.specs.declared.cmp.Ordering.{Ordering}
-use Rattle.std.specs.Cmp.{IsTotalOrder}
-use Rattle.fair_rates.specs.Numbers.Amount.{Amount, whole, plus}
-use Rattle.fair_rates.specs.Fairness.Laws.{IsAtMost}
-use Rattle.fair_rates.specs.Sides.Subjects.{same_peer}
-use Rattle.link_simulation.specs.Simulation.Messages.{Message, SameMessage, same_pair}
-use Rattle.link_simulation.specs.Simulation.World.{World, Flight, Completed, last_moment}
-use Rattle.link_simulation.specs.Simulation.Time.{IsSound}
-use Rattle.link_simulation.specs.Simulation.Calls.{call_advance}
+use Rattle.link_simulation.proofs.Common.{◌≡◌, ℕ, zero, suc, ◌+◌, ◌-◌, ◌*◌, ◌≤◌, List, [], ◌∷◌, length, Bool, not, Some}
+use Rattle.link_simulation.proofs.Common.{refl, sym, ap, ◌∙◌, subst, arith, filter, AllZip, Ordering, IsTotalOrder}
+use Rattle.link_simulation.proofs.Common.{Amount, whole, plus, IsAtMost, Message, SameMessage, same_pair, World, Flight}
+use Rattle.link_simulation.proofs.Common.{Completed, last_moment, IsSound, call_advance, Planned, RatedFlight}
+use Rattle.link_simulation.proofs.Common.{StandsFor, IsSameFlight, GoesByRule, zip-filter, filter_swap}
 use Rattle.link_simulation.specs.Laws.Bytes.{bytes_from, left_from, waiting_from, allowance}
-use Rattle.link_simulation.specs.Rule.Planned.{Planned, RatedFlight}
-use Rattle.link_simulation.specs.Rule.StandsFor.{StandsFor, IsSameFlight}
-use Rattle.link_simulation.specs.Rule.SamePlanned.{GoesByRule}
-use Rattle.link_simulation.specs.Rule.Simulated.{IsRun, KeepsToCaps}
-use Rattle.link_simulation.proofs.Simulation.AlikeMessages.{same_itself, pair_itself, peers_alike, pairs_alike}
-use Rattle.link_simulation.proofs.Simulation.AlikeMessages.{message_itself}
-use Rattle.fair_rates.proofs.Lists.Zips.{zip-filter}
-use Rattle.fair_rates.proofs.Lists.Filters.{filter_swap, length-filter}
-use Rattle.link_simulation.proofs.Laws.Bytes.{Loses, advance_loses}
+use Rattle.link_simulation.specs.Rule.Simulated.{KeepsToCaps}
+use Rattle.link_simulation.proofs.Simulation.AlikeMessages.{same_itself, pairs_alike, message_itself}
+use Rattle.fair_rates.proofs.Lists.Filters.{length-filter}
+use Rattle.link_simulation.proofs.Laws.Bytes.{advance_loses}
 use Rattle.link_simulation.proofs.Rule.Simulated.{calls_simulated, sound_of_stands, none_waits}
 
 module _ {P : Type 0} (cmp : P → P → Ordering) (order : IsTotalOrder cmp) where
   module _ (origin : P) where
-    origins_alike : (m n k : Message P) → SameMessage cmp m n → SameMessage cmp m k
-        → same_peer cmp origin n.origin ≡ same_peer cmp origin k.origin
-    origins_alike m n k e f =
-        sym (peers_alike cmp order origin origin m.origin n.origin (same_itself cmp order origin) e.origin)
-        ∙ peers_alike cmp order origin origin m.origin k.origin (same_itself cmp order origin) f.origin
-
     -- ---- what is in flight
 
     left_alike : (t : ℕ) (fs : List (RatedFlight P)) (gs hs : List (Flight P)) → AllZip (IsSameFlight cmp t) fs gs
@@ -43,15 +24,7 @@ module _ {P : Type 0} (cmp : P → P → Ordering) (order : IsTotalOrder cmp) wh
     left_alike t [] [] (h ∷ hs) a b = absurd b
     left_alike t (f ∷ fs) [] hs a b = absurd a
     left_alike t (f ∷ fs) (g ∷ gs) [] a b = absurd b
-    left_alike t (f ∷ fs) (g ∷ gs) (h ∷ hs) a b =
-        by_tests (same_peer cmp origin g.message.origin) (same_peer cmp origin h.message.origin)
-        (origins_alike f.message g.message h.message a.0.message b.0.message) (a.0.left ∙ sym b.0.left)
-        (left_alike t fs gs hs a.1 b.1)
-      where
-        by_tests : (c d : Bool) → c ≡ d → g.left ≡ h.left → left_from cmp origin gs ≡ left_from cmp origin hs
-            → (if c then plus g.left (left_from cmp origin gs) else left_from cmp origin gs)
-            ≡ (if d then plus h.left (left_from cmp origin hs) else left_from cmp origin hs)
-        by_tests c d e f i = rw (e, f, i) refl
+    left_alike t (f ∷ fs) (g ∷ gs) (h ∷ hs) a b = grind (arith, (left_alike t fs gs hs))
 
     -- ---- what waits
 
@@ -60,36 +33,13 @@ module _ {P : Type 0} (cmp : P → P → Ordering) (order : IsTotalOrder cmp) wh
     waiting_zip [] [] all = refl
     waiting_zip [] (n ∷ ns) all = absurd all
     waiting_zip (m ∷ ms) [] all = absurd all
-    waiting_zip (m ∷ ms) (n ∷ ns) all =
-        by_tests (same_peer cmp origin m.origin) (same_peer cmp origin n.origin)
-        (peers_alike cmp order origin origin m.origin n.origin (same_itself cmp order origin) all.0.origin)
-        (ap length all.0.bytes)
-        (waiting_zip ms ns all.1)
-      where
-        by_tests : (c d : Bool) → c ≡ d → length m.bytes ≡ length n.bytes
-            → waiting_from cmp origin ms ≡ waiting_from cmp origin ns
-            → (if c then length m.bytes else 0) + waiting_from cmp origin ms
-            ≡ (if d then length n.bytes else 0) + waiting_from cmp origin ns
-        by_tests c d e f i = rw (e, f, i) refl
+    waiting_zip (m ∷ ms) (n ∷ ns) all = grind (arith, (waiting_zip ms ns))
 
     waiting_parted : (test : Message P → Bool) (ms : List (Message P))
         → waiting_from cmp origin ms
         ≡ waiting_from cmp origin (filter test ms) + waiting_from cmp origin (filter (λ m. not (test m)) ms)
     waiting_parted test [] = refl
-    waiting_parted test (m ∷ ms) = by_test (test m) (waiting_parted test ms)
-      where
-        own : ℕ
-        own = if same_peer cmp origin m.origin then length m.bytes else 0
-
-        by_test : (b : Bool)
-            → waiting_from cmp origin ms
-            ≡ waiting_from cmp origin (filter test ms) + waiting_from cmp origin (filter (λ n. not (test n)) ms)
-            → own + waiting_from cmp origin ms
-            ≡ waiting_from cmp origin (cond b (m ∷ filter test ms) (filter test ms))
-            + waiting_from cmp origin
-            (cond (not b) (m ∷ filter (λ n. not (test n)) ms) (filter (λ n. not (test n)) ms))
-        by_test true i = omega (arith, i)
-        by_test false i = omega (arith, i)
+    waiting_parted test (m ∷ ms) = grind (arith, (waiting_parted test ms))
 
     abbrev AlikeByPair : List (Message P) → List (Message P) → Type 0
     AlikeByPair ms ns =
@@ -98,17 +48,7 @@ module _ {P : Type 0} (cmp : P → P → Ordering) (order : IsTotalOrder cmp) wh
     -- without one pair they are still alike
     others_alike : (m : Message P) (ms ns : List (Message P)) → AlikeByPair ms ns
         → AlikeByPair (filter (λ n. not (same_pair cmp m n)) ms) (filter (λ n. not (same_pair cmp m n)) ns)
-    others_alike m ms ns alike k =
-        let keep : Message P → Bool = λ n. not (same_pair cmp m n) in
-        let both : AllZip (SameMessage cmp) (filter keep (filter (same_pair cmp k) ms))
-        (filter keep (filter (same_pair cmp k) ns))
-        = zip-filter (SameMessage cmp) keep keep (λ x y e. ap not
-        (pairs_alike cmp order m m x y (message_itself cmp order m) e)) (filter (same_pair cmp k) ms)
-        (filter (same_pair cmp k) ns) (alike k) in
-        subst (λ (xs : List (Message P)). AllZip (SameMessage cmp) xs (filter (same_pair cmp k) (filter keep ns)))
-        (filter_swap keep (same_pair cmp k) ms)
-        (subst (λ (ys : List (Message P)). AllZip (SameMessage cmp) (filter keep (filter (same_pair cmp k) ms)) ys)
-        (filter_swap keep (same_pair cmp k) ns) both)
+    others_alike m ms ns alike k = grind (arith, zip-filter, pairs_alike, message_itself, filter_swap)
 
     waiting_alike : (n : ℕ) (ms ns : List (Message P)) → length ms ≤ n → AlikeByPair ms ns
         → waiting_from cmp origin ms ≡ waiting_from cmp origin ns
@@ -117,24 +57,16 @@ module _ {P : Type 0} (cmp : P → P → Ordering) (order : IsTotalOrder cmp) wh
     waiting_alike zero (m ∷ ms) ns fits alike = absurd (omega arith)
     waiting_alike (suc n) (m ∷ ms) ns fits alike =
         let keep : Message P → Bool = λ k. not (same_pair cmp m k) in
-        let shorter : filter keep (m ∷ ms) ≡ filter keep ms = rw (pair_itself cmp order m) refl in
-        let few : length (filter keep (m ∷ ms)) ≤ n = subst (λ (xs : List (Message P)). length xs ≤ n) (sym shorter)
-        (let le : length (filter keep ms) ≤ length ms = length-filter keep ms in omega arith) in
-        let own : waiting_from cmp origin (filter (same_pair cmp m) (m ∷ ms))
-        ≡ waiting_from cmp origin (filter (same_pair cmp m) ns)
-        = waiting_zip (filter (same_pair cmp m) (m ∷ ms)) (filter (same_pair cmp m) ns) (alike m) in
-        let rest : waiting_from cmp origin (filter keep (m ∷ ms)) ≡ waiting_from cmp origin (filter keep ns)
-        = waiting_alike n (filter keep (m ∷ ms)) (filter keep ns) few (others_alike m (m ∷ ms) ns alike) in
+        let few : length (filter keep (m ∷ ms)) ≤ n = grind (arith, length-filter) in
+        let own = waiting_zip (filter (same_pair cmp m) (m ∷ ms)) (filter (same_pair cmp m) ns) (alike m) in
+        let rest = waiting_alike n (filter keep (m ∷ ms)) (filter keep ns) few (others_alike m (m ∷ ms) ns alike) in
         waiting_parted (same_pair cmp m) (m ∷ ms) ∙ (rw (own, rest) refl) ∙ sym (waiting_parted (same_pair cmp m) ns)
 
     -- the bytes of an origin are the same in all worlds of one moment that a planned world stands for
     pub bytes_alike : (q : Planned P) (w v : World P) → StandsFor cmp q w → StandsFor cmp q v → w.moment ≡ v.moment
         → bytes_from cmp origin w ≡ bytes_from cmp origin v
     bytes_alike q w v here there at =
-        let flies : AllZip (IsSameFlight cmp v.moment) q.sending w.sending =
-        subst (λ (t : ℕ). AllZip (IsSameFlight cmp t) q.sending w.sending) at here.follows.tallies.sending in
-        let left : left_from cmp origin w.sending ≡ left_from cmp origin v.sending =
-        left_alike v.moment q.sending w.sending v.sending flies there.follows.tallies.sending in
+        let left : left_from cmp origin w.sending ≡ left_from cmp origin v.sending = grind (arith, left_alike) in
         let waits : waiting_from cmp origin w.waiting ≡ waiting_from cmp origin v.waiting
         = sym (waiting_alike (length q.waiting) q.waiting w.waiting (omega arith) here.follows.tallies.waiting)
         ∙ waiting_alike (length q.waiting) q.waiting v.waiting (omega arith) there.follows.tallies.waiting in
@@ -143,16 +75,13 @@ module _ {P : Type 0} (cmp : P → P → Ordering) (order : IsTotalOrder cmp) wh
   pub advance_keeps_to_caps : (p q : Planned P) (now : ℕ) (completions : List (Completed P)) → now ≤ last_moment
       → GoesByRule cmp p (call_advance now) completions q → KeepsToCaps cmp p now q
   advance_keeps_to_caps p q now completions in_time go w v origin cap stands after before at is =
-      let run : IsRun cmp w (call_advance now) now completions q
-      = calls_simulated cmp order p q (call_advance now) completions
-      (λ t same. subst (λ (s : ℕ). s ≤ last_moment) (advance_moment t same) in_time) go w now
-      (record { stands = stands; moment = refl; turn = before }) in
+      let run = calls_simulated cmp order p q (call_advance now) completions (λ t same. subst (λ (s : ℕ). s ≤
+      last_moment) (advance_moment t same) in_time) go w now (record { stands = stands; moment = refl; turn = before
+      }) in
       let sound : IsSound cmp w = sound_of_stands cmp order p w stands in
-      let capped : w.caps.egress origin ≡ Some cap =
-      sym (stands.follows.tallies.caps.egress origin origin (same_itself cmp order origin)) ∙ is in
-      let loses : Loses cmp order origin cap (now - w.moment) w run.after
-      = advance_loses cmp order origin cap w run.after now run.answers run.runs
-      (record { positive = sound.positive; egress = λ q e. sym (sound.caps.egress origin q e) ∙ capped }) in
+      let capped = sym (stands.follows.tallies.caps.egress origin origin (same_itself cmp order origin)) ∙ is in
+      let loses = advance_loses cmp order origin cap w run.after now run.answers run.runs (record { positive =
+      sound.positive; egress = λ q e. sym (sound.caps.egress origin q e) ∙ capped }) in
       subst (λ (b : Amount). IsAtMost (bytes_from cmp origin w) (plus b (allowance cap (now - w.moment))))
       (bytes_alike origin q run.after v run.stands after (run.moment ∙ sym at)) loses.bytes
     where

@@ -1,36 +1,24 @@
 -- Each call completes, sends or keeps waiting what there was of a pair and what it enqueues: none is lost or doubled,
 -- and their order stays.
-use Rattle.std.proofs.Common.{◌≡◌, ℕ, ◌+◌, List, [], ◌∷◌, ◌++◌, Bool, true, false, cond, not, Option, Some, None, refl}
-use Rattle.std.proofs.Common.{sym, ap, ◌∙◌, subst, append_assoc, append-nil}
-use Rattle.std.specs.Prelude.{⊤, ◌&&◌, nat_lt, if◌then◌else◌}
-use Rattle.std.specs.List.{find, filter, AllZip}
-use Rattle.std.specs.declared.cmp.Ordering.{Ordering}
-use Rattle.std.specs.Cmp.{IsTotalOrder}
-use Rattle.std.proofs.lemmas.List.{map-append}
-use Rattle.std.proofs.lemmas.List.Elements.{filter-append}
-use Rattle.fair_rates.specs.Lists.WithoutFirst.{without_first}
-use Rattle.fair_rates.specs.declared.error.Error.TheVariants.{MomentTooLate}
-use Rattle.link_simulation.specs.Simulation.Messages.{Message, Caps, OneForEachPair, same_pair, is_delivered}
-use Rattle.link_simulation.specs.Simulation.World.{Completed, Course, goes, meets, last_moment, preceded, raised}
-use Rattle.link_simulation.specs.Simulation.World.{later_of, completion_of, completed, arrival}
-use Rattle.link_simulation.specs.Simulation.Calls.{Call, call_limit, call_limit_link, call_enqueue, call_advance}
-use Rattle.link_simulation.specs.Simulation.Calls.{call_enqueue_all, call_next}
-use Rattle.link_simulation.specs.Laws.PairCompletions.{enqueued, IsCompletionOf}
-use Rattle.link_simulation.specs.Rule.Planned.{Planned, RatedFlight, rated_messages, drained_to, next_of, may_launch}
-use Rattle.link_simulation.specs.Rule.Planned.{is_spent}
-use Rattle.link_simulation.specs.Rule.Events.{Accounts, PlansStart, Launches, nothing_waits, too_early, no_id, starts}
-use Rattle.link_simulation.specs.Rule.Events.{Finishes, all_completed, late, stopped, completes, WakesEach, all_started}
-use Rattle.link_simulation.specs.Rule.Events.{no_start, no_finish, starts_one, Settles, settling, Rebalances}
-use Rattle.link_simulation.specs.Rule.Events.{none_sending, some_sending, Enqueues, at_once, no_launch, launches}
-use Rattle.link_simulation.specs.Rule.Events.{Advances, no_more, at_finish, at_start, finish_stops, start_stops}
-use Rattle.link_simulation.specs.Rule.Events.{launched, landed, with_queued, completed_at_once, Obeys}
-use Rattle.link_simulation.specs.Rule.Events.{EnqueuesEach, all_enqueued, one_stops, enqueues_one}
-use Rattle.link_simulation.specs.Laws.Orderly.{IsOrderly}
-use Rattle.link_simulation.specs.Laws.Conserved.{of_pair, held_of}
+use Rattle.link_simulation.proofs.Common.{find, arith, ◌≡◌, ℕ, ◌+◌, List, [], ◌∷◌, ◌++◌, Bool, true, false, cond, not}
+use Rattle.link_simulation.proofs.Common.{Option, Some, None, refl, sym, ap, ◌∙◌, subst, append_assoc, append-nil, ⊤}
+use Rattle.link_simulation.proofs.Common.{◌&&◌, nat_lt, if◌then◌else◌, filter, AllZip, Ordering, IsTotalOrder}
+use Rattle.link_simulation.proofs.Common.{map-append, filter-append, without_first, MomentTooLate, Message, Caps}
+use Rattle.link_simulation.proofs.Common.{OneForEachPair, same_pair, is_delivered, Completed, Course, goes, meets}
+use Rattle.link_simulation.proofs.Common.{last_moment, preceded, raised, later_of, completion_of, completed, arrival}
+use Rattle.link_simulation.proofs.Common.{Call, call_limit, call_limit_link, call_enqueue, call_advance}
+use Rattle.link_simulation.proofs.Common.{call_enqueue_all, call_next, enqueued, IsCompletionOf, Planned, RatedFlight}
+use Rattle.link_simulation.proofs.Common.{rated_messages, drained_to, next_of, may_launch, is_spent, Accounts}
+use Rattle.link_simulation.proofs.Common.{PlansStart, Launches, nothing_waits, too_early, no_id, starts, Finishes}
+use Rattle.link_simulation.proofs.Common.{all_completed, late, stopped, completes, WakesEach, all_started, no_start}
+use Rattle.link_simulation.proofs.Common.{no_finish, starts_one, Settles, settling, Rebalances, none_sending}
+use Rattle.link_simulation.proofs.Common.{some_sending, Enqueues, at_once, no_launch, launches, Advances, no_more}
+use Rattle.link_simulation.proofs.Common.{at_finish, at_start, finish_stops, start_stops, launched, landed, with_queued}
+use Rattle.link_simulation.proofs.Common.{completed_at_once, Obeys, EnqueuesEach, all_enqueued, one_stops, enqueues_one}
+use Rattle.link_simulation.proofs.Common.{IsOrderly, of_pair, held_of, zip-append, common_steps}
 use Rattle.link_simulation.proofs.Simulation.Queue.{find_passes, any_like}
 use Rattle.link_simulation.proofs.Simulation.SettlingEnds.{find_like}
 use Rattle.link_simulation.proofs.Rule.Launch.{rest_of, head_of, head_found, waits_without}
-use Rattle.fair_rates.proofs.Lists.Zips.{zip-append}
 use Rattle.link_simulation.proofs.Rule.Enqueue.{queued_last}
 use Rattle.fair_rates.proofs.Lists.Members.{filter_nothing}
 use Rattle.link_simulation.proofs.Laws.Orderly.{drained_messages, stayed_messages, any_of_fewer, IsSteady, steady}
@@ -59,53 +47,19 @@ module _ {P : Type 0} (cmp : P → P → Ordering) (order : IsTotalOrder cmp) wh
       ++ of_pair cmp k (rated_messages (filter (λ f. not (test f)) fs))
       ≡ of_pair cmp k (rated_messages fs)
   one_split k test [] one = refl
-  one_split k test (f ∷ fs) one = by_test (test f) (same_pair cmp k f.message) refl (one_split k test fs one.1)
-    where
-      passing : List (Message P)
-      passing = of_pair cmp k (rated_messages (filter test fs))
-
-      others : List (Message P)
-      others = of_pair cmp k (rated_messages (filter (λ g. not (test g)) fs))
-
-      none_passes : same_pair cmp k f.message ≡ true → of_pair cmp k (rated_messages (filter test fs)) ≡ []
-      none_passes own =
-          filter_nothing (same_pair cmp k) (rated_messages (filter test fs))
-          (any_of_fewer (same_pair cmp k) test fs
-          (sym (any_like cmp order k f.message (rated_messages fs) own) ∙ one.0))
-
-      by_pair : (b : Bool) → (b ≡ true → passing ≡ []) → passing ++ others ≡ of_pair cmp k (rated_messages fs)
-          → passing ++ cond b (f.message ∷ others) others
-          ≡ cond b (f.message ∷ of_pair cmp k (rated_messages fs)) (of_pair cmp k (rated_messages fs))
-      by_pair true none ih =
-          ap (λ (ms : List (Message P)). ms ++ f.message ∷ others) (none refl)
-          ∙ ap (λ (ms : List (Message P)). f.message ∷ ms)
-          (sym (ap (λ (ms : List (Message P)). ms ++ others) (none refl)) ∙ ih)
-      by_pair false none ih = ih
-
-      by_test : (a b : Bool) → same_pair cmp k f.message ≡ b → passing ++ others ≡ of_pair cmp k (rated_messages fs)
-          → of_pair cmp k (rated_messages (cond a (f ∷ filter test fs) (filter test fs)))
-          ++ of_pair cmp k
-          (rated_messages (cond (not a) (f ∷ filter (λ g. not (test g)) fs) (filter (λ g. not (test g)) fs)))
-          ≡ of_pair cmp k (rated_messages (f ∷ fs))
-      by_test true b own ih =
-          before_both (same_pair cmp k f.message) f.message passing (of_pair cmp k (rated_messages fs)) others []
-          (ih ∙ sym (append-nil (of_pair cmp k (rated_messages fs))))
-          ∙ append-nil (of_pair cmp k (rated_messages (f ∷ fs)))
-      by_test false b own ih = by_pair (same_pair cmp k f.message) none_passes ih
+  one_split k test (f ∷ fs) one =
+      grind (arith, filter_nothing, any_of_fewer, any_like, before_both, append-nil, (one_split k test fs))
 
   account_holds : (t : ℕ) (old new : Planned P) (leavers : List (Message P)) → Accounts cmp t old leavers new
       → OneForEachPair cmp (rated_messages old.sending)
       → (k : Message P) → of_pair cmp k leavers ++ held_of cmp k new ≡ held_of cmp k old
   account_holds t old new leavers a one k =
-      let split : of_pair cmp k leavers ++ of_pair cmp k (rated_messages new.sending)
-      ≡ of_pair cmp k (rated_messages old.sending)
-      = ap (λ (ms : List (Message P)). of_pair cmp k ms ++ of_pair cmp k (rated_messages new.sending)) a.left
-      ∙ ap
-      (λ (ms : List (Message P)). of_pair cmp k (rated_messages (filter (is_spent cmp old.caps) all))
-      ++ of_pair cmp k ms)
-      (stayed_messages t (filter (λ (f : RatedFlight P). not (is_spent cmp old.caps f)) all) new.sending a.stayed)
-      ∙ one_split k (is_spent cmp old.caps) all (subst (OneForEachPair cmp) (sym (drained_messages t old.sending)) one)
-      ∙ ap (of_pair cmp k) (drained_messages t old.sending) in
+      let split = ap (λ (ms : List (Message P)). of_pair cmp k ms ++ of_pair cmp k (rated_messages new.sending)) a.left
+      ∙ ap (λ (ms : List (Message P)). of_pair cmp k (rated_messages (filter (is_spent cmp old.caps) all)) ++ of_pair
+      cmp k ms)
+      (stayed_messages t (filter (λ (f : RatedFlight P). not (is_spent cmp old.caps f)) all) new.sending a.stayed) ∙
+      one_split k (is_spent cmp old.caps) all (subst (OneForEachPair cmp) (sym (drained_messages t old.sending)) one) ∙
+      ap (of_pair cmp k) (drained_messages t old.sending) in
       sym
       (append_assoc (of_pair cmp k leavers) (of_pair cmp k (rated_messages new.sending)) (of_pair cmp k new.waiting))
       ∙ ap (λ (ms : List (Message P)). ms ++ of_pair cmp k new.waiting) split
@@ -154,25 +108,12 @@ module _ {P : Type 0} (cmp : P → P → Ordering) (order : IsTotalOrder cmp) wh
       → Launches cmp t p o c
       → (n : Message P) (ms : List (Message P)) (q : Planned P) → next_of cmp p n ≡ o → c ≡ goes ms q → IsOrderly cmp p
       → (k : Message P) → of_pair cmp k ms ++ held_of cmp k q ≡ held_of cmp k p
-  launch_holds {p = p} nothing_waits n ms q is e h k =
-      let none : [] ≡ ms = cc in
-      let same : p ≡ q = cc in
-      sym (ap (λ (z : Planned P). of_pair cmp k ms ++ held_of cmp k z) same)
-      ∙ sym (ap (λ (ns : List (Message P)). of_pair cmp k ns ++ held_of cmp k p) none)
-  launch_holds {p = p} (too_early may) n ms q is e h k =
-      let none : [] ≡ ms = cc in
-      let same : p ≡ q = cc in
-      sym (ap (λ (z : Planned P). of_pair cmp k ms ++ held_of cmp k z) same)
-      ∙ sym (ap (λ (ns : List (Message P)). of_pair cmp k ns ++ held_of cmp k p) none)
+  launch_holds {p = p} nothing_waits n ms q is e h k = grind arith
+  launch_holds {p = p} (too_early may) n ms q is e h k = grind arith
   launch_holds (no_id may last) n ms q is e h k = cc
   launch_holds {t = t} {p = p} (starts {m = m} {leavers = leavers} {new = new} may below account) n ms q is e h k =
-      let out : leavers ≡ ms = cc in
-      let same : new ≡ q = cc in
-      sym (ap (λ (z : Planned P). of_pair cmp k ms ++ held_of cmp k z) same)
-      ∙ sym (ap (λ (ns : List (Message P)). of_pair cmp k ns ++ held_of cmp k new) out)
-      ∙ account_holds t (launched cmp t p m) new leavers account
-      (launched_steady cmp order t p n m is may (steady cmp order p h)).one_each k
-      ∙ launched_holds t p n m is may k
+      grind (arith, common_steps, (account_holds t (launched cmp t p m) new leavers account
+      (launched_steady cmp order t p n m is may (steady cmp order p h)).one_each k), (launched_holds t p n m is may k))
 
   look_holds : (t : ℕ) (p q : Planned P) → PlansStart cmp t p q → (k : Message P) → held_of cmp k q ≡ held_of cmp k p
   look_holds t p q looks k = ap (held_of cmp k) looks.same
@@ -195,14 +136,7 @@ module _ {P : Type 0} (cmp : P → P → Ordering) (order : IsTotalOrder cmp) wh
 
   moves_then : (queue : List (Message P)) (p q r : Planned P) (cs ds : List (Completed P)) → Moves queue p cs q
       → Moves [] q ds r → Moves queue p (cs ++ ds) r
-  moves_then queue p q r cs ds a b = record {
-    done = a.done ++ b.done;
-    completions_are = zip-append IsCompletionOf cs ds a.done b.done a.completions_are b.completions_are;
-    each_pair = λ k.
-        ap (λ (ms : List (Message P)). ms ++ held_of cmp k r) (filter-append (same_pair cmp k) a.done b.done)
-        ∙ append_assoc (of_pair cmp k a.done) (of_pair cmp k b.done) (held_of cmp k r)
-        ∙ ap (λ (ms : List (Message P)). of_pair cmp k a.done ++ ms) (b.each_pair k) ∙ a.each_pair k;
-  }
+  moves_then queue p q r cs ds a b = grind (arith, zip-append, filter-append, append_assoc)
 
   on_then : (queue : List (Message P)) (p q : Planned P) (cs : List (Completed P))
       (c : Course (Completed P) (Planned P))
@@ -252,8 +186,7 @@ module _ {P : Type 0} (cmp : P → P → Ordering) (order : IsTotalOrder cmp) wh
       h =
       let next : IsOrderly cmp q = launch_orderly cmp order launch m more q refl refl h in
       let after : IsOrderly cmp r = finish_orderly cmp order finishes next in
-      let first : Moves [] p cs r =
-      on_from more p q (goes cs r) (launch_holds launch m more q refl refl h) (finish_moves finishes next) in
+      let first : Moves [] p cs r = grind (arith, on_from, launch_holds, finish_moves) in
       on_then [] p r cs rest first (wake_moves wakes after)
 
   settle_moves : {t : ℕ} {p : Planned P} {c : Course (Completed P) (Planned P)} → Settles cmp t p c
@@ -285,9 +218,7 @@ module _ {P : Type 0} (cmp : P → P → Ordering) (order : IsTotalOrder cmp) wh
       on_then [] p q cs rest (no_finish_moves p (goes cs q) (settle_moves event (no_finish_steady cmp order p h)))
       (advance_moves more after)
   advance_moves {p = p} (at_start {q = q} {cs = cs} {rest = rest} is next due event more) h =
-      let after : IsOrderly cmp q = wake_orderly cmp order event (no_start_orderly cmp order p h) in
-      on_then [] p q cs rest (no_start_moves p (goes cs q) (wake_moves event (no_start_orderly cmp order p h)))
-      (advance_moves more after)
+      grind (arith, wake_orderly, no_start_orderly, on_then, no_start_moves, wake_moves, (advance_moves more))
   advance_moves (finish_stops is next due event) h = tt
   advance_moves (start_stops is next due event) h = tt
 
@@ -306,12 +237,7 @@ module _ {P : Type 0} (cmp : P → P → Ordering) (order : IsTotalOrder cmp) wh
   KeepsAll p messages (meets fault) = ⊤
 
   none_enqueued : (p : Planned P) (c : Course (Completed P) (Planned P)) → MovesOn [] p c → KeepsAll p [] c
-  none_enqueued p (goes cs q) a =
-      record {
-        done = a.done;
-        completions_are = a.completions_are;
-        each_pair = λ k. a.each_pair k ∙ sym (append-nil (held_of cmp k p));
-      }
+  none_enqueued p (goes cs q) a = grind (arith, append-nil)
   none_enqueued p (meets fault) a = tt
 
   rebalance_moves : {now : ℕ} {caps : Caps P} {p : Planned P} {c : Course (Completed P) (Planned P)}
@@ -323,10 +249,7 @@ module _ {P : Type 0} (cmp : P → P → Ordering) (order : IsTotalOrder cmp) wh
 
   queued_holds : (p : Planned P) (m : Message P) → IsOrderly cmp p → (k : Message P)
       → held_of cmp k (with_queued cmp p m) ≡ held_of cmp k p ++ of_pair cmp k (m ∷ [])
-  queued_holds p m h k =
-      ap (λ (ms : List (Message P)). of_pair cmp k (rated_messages p.sending) ++ ms)
-      (queued_last cmp order k m p.waiting h.pair_order)
-      ∙ sym (append_assoc (of_pair cmp k (rated_messages p.sending)) (of_pair cmp k p.waiting) (of_pair cmp k (m ∷ [])))
+  queued_holds p m h k = grind (arith, queued_last, append_assoc)
 
   -- before any limit
   at_once_keeps : (now : ℕ) (m : Message P) (p : Planned P) → p.limited ≡ false → IsOrderly cmp p
@@ -337,10 +260,7 @@ module _ {P : Type 0} (cmp : P → P → Ordering) (order : IsTotalOrder cmp) wh
       at = if m.should_deliver then later_of (p.last_arrival m.origin m.recipient) (now + m.latency) else now
 
       nothing_held : (k : Message P) → held_of cmp k p ≡ []
-      nothing_held k =
-          ap (λ (fs : List (RatedFlight P)). of_pair cmp k (rated_messages fs) ++ of_pair cmp k p.waiting)
-          (h.empty_at_first free).0
-          ∙ ap (of_pair cmp k) (h.empty_at_first free).1
+      nothing_held k = grind arith
 
       by_late : (b : Bool)
           → KeepsAll p (m ∷ [])
@@ -351,20 +271,12 @@ module _ {P : Type 0} (cmp : P → P → Ordering) (order : IsTotalOrder cmp) wh
       by_late false = record {
         done = m ∷ [];
         completions_are = ((now, (if m.should_deliver then Some at else None), refl), tt);
-        each_pair = λ k.
-            ap (λ (ms : List (Message P)). of_pair cmp k (m ∷ []) ++ ms) (nothing_held k)
-            ∙ append-nil (of_pair cmp k (m ∷ []))
-            ∙ sym (ap (λ (ms : List (Message P)). ms ++ of_pair cmp k (m ∷ [])) (nothing_held k));
+        each_pair = grind (arith, nothing_held, append-nil);
       }
 
   joined_keeps : (p : Planned P) (m : Message P) (c : Course (Completed P) (Planned P)) → IsOrderly cmp p
       → MovesOn [] (with_queued cmp p m) c → KeepsAll p (m ∷ []) c
-  joined_keeps p m (goes cs q) h a =
-      record {
-        done = a.done;
-        completions_are = a.completions_are;
-        each_pair = λ k. a.each_pair k ∙ queued_holds p m h k;
-      }
+  joined_keeps p m (goes cs q) h a = grind (arith, queued_holds)
   joined_keeps p m (meets fault) h a = tt
 
   enqueue_keeps : {now : ℕ} {m : Message P} {p : Planned P} {c : Course (Completed P) (Planned P)}
@@ -381,18 +293,9 @@ module _ {P : Type 0} (cmp : P → P → Ordering) (order : IsTotalOrder cmp) wh
   kept_then : (p q : Planned P) (ms ns : List (Message P)) (cs : List (Completed P))
       (c : Course (Completed P) (Planned P)) → KeepsAll p ms (goes cs q) → KeepsAll q ns c
       → KeepsAll p (ms ++ ns) (preceded cs c)
-  kept_then p q ms ns cs (goes ds r) a b = record {
-    done = a.done ++ b.done;
-    completions_are = zip-append IsCompletionOf cs ds a.done b.done a.completions_are b.completions_are;
-    each_pair = λ k.
-        ap (λ (ks : List (Message P)). ks ++ held_of cmp k r) (filter-append (same_pair cmp k) a.done b.done)
-        ∙ append_assoc (of_pair cmp k a.done) (of_pair cmp k b.done) (held_of cmp k r)
-        ∙ ap (λ (ks : List (Message P)). of_pair cmp k a.done ++ ks) (b.each_pair k)
-        ∙ sym (append_assoc (of_pair cmp k a.done) (held_of cmp k q) (of_pair cmp k ns))
-        ∙ ap (λ (ks : List (Message P)). ks ++ of_pair cmp k ns) (a.each_pair k)
-        ∙ append_assoc (held_of cmp k p) (of_pair cmp k ms) (of_pair cmp k ns)
-        ∙ ap (λ (ks : List (Message P)). held_of cmp k p ++ ks) (sym (filter-append (same_pair cmp k) ms ns));
-  }
+  kept_then p q ms ns cs (goes ds r) a b =
+      grind (arith, common_steps, filter-append, append_assoc,
+      (zip-append IsCompletionOf cs ds a.done b.done a.completions_are b.completions_are))
   kept_then p q ms ns cs (meets fault) a b = tt
 
   each_keeps : {now : ℕ} {ms : List (Message P)} {p : Planned P} {c : Course (Completed P) (Planned P)}
@@ -410,9 +313,7 @@ module _ {P : Type 0} (cmp : P → P → Ordering) (order : IsTotalOrder cmp) wh
       (rebalance_moves obeys
       (recapped_steady cmp order p _ (limited_by_alike cmp order p.caps peer egress ingress h.caps) h))
   call_keeps p (call_limit_link now origin recipient cap) c obeys h =
-      none_enqueued p c
-      (rebalance_moves obeys
-      (recapped_steady cmp order p _ (linked_by_alike cmp order p.caps origin recipient cap h.caps) h))
+      grind (arith, none_enqueued, rebalance_moves, recapped_steady, linked_by_alike)
   call_keeps p (call_enqueue now m) c obeys h = enqueue_keeps obeys h
   call_keeps p (call_enqueue_all now ms) c obeys h =
       subst (λ (ns : List (Message P)). KeepsAll p ns c) (sym (append-nil ms)) (each_keeps obeys h)

@@ -1,31 +1,16 @@
 -- No message is lost or doubled, by a call, peers taken as equal by their order, nor by a list of calls.
-use Rattle.std.proofs.Common.{◌≡◌, ℕ, List, [], ◌∷◌, ◌++◌, true, Option, refl, sym, ap, ◌∙◌, subst, append_assoc}
-use Rattle.std.proofs.Common.{append-nil}
-use Rattle.std.specs.List.{AllZip}
-use Rattle.std.specs.declared.cmp.Ordering.{Ordering}
-use Rattle.std.specs.Cmp.{IsTotalOrder}
-use Rattle.std.proofs.lemmas.List.Elements.{filter-append}
-use Rattle.fair_rates.specs.declared.error.Error.{Error}
-use Rattle.fair_rates.specs.Sides.Subjects.{same_peer}
-use Rattle.link_simulation.specs.Simulation.Messages.{Message, SameMessage, same_pair}
-use Rattle.link_simulation.specs.Simulation.World.{Completed, goes}
-use Rattle.link_simulation.specs.Simulation.Calls.{Call, call_limit, call_limit_link, call_enqueue, call_advance}
-use Rattle.link_simulation.specs.Simulation.Calls.{call_enqueue_all, call_next}
-use Rattle.link_simulation.specs.Laws.PairCompletions.{enqueued, answered, IsCompletionOf}
-use Rattle.link_simulation.specs.Rule.Planned.{Planned, rated_messages}
-use Rattle.link_simulation.specs.Rule.Events.{Obeys}
-use Rattle.link_simulation.specs.Rule.Refusals.{Obeyed}
-use Rattle.link_simulation.specs.Simulation.Replies.{Reply, reply_done, reply_next, reply_refused, SameCompletion, made}
-use Rattle.link_simulation.specs.Simulation.Replies.{completions_in}
-use Rattle.link_simulation.specs.Rule.SamePlanned.{IsSamePlanned, GoesByRule}
-use Rattle.link_simulation.specs.Laws.Orderly.{IsOrderly}
-use Rattle.link_simulation.specs.Laws.Conserved.{of_pair, held_of, IsConserved, AreConserved}
+use Rattle.link_simulation.proofs.Common.{arith, List, [], ◌∷◌, ◌++◌, refl, append_assoc, append-nil, AllZip, Ordering}
+use Rattle.link_simulation.proofs.Common.{IsTotalOrder, filter-append, Message, SameMessage, Completed, goes, Call}
+use Rattle.link_simulation.proofs.Common.{call_next, enqueued, answered, IsCompletionOf, Planned, Obeys, Obeyed, Reply}
+use Rattle.link_simulation.proofs.Common.{reply_done, SameCompletion, made, completions_in, IsSamePlanned, GoesByRule}
+use Rattle.link_simulation.proofs.Common.{IsOrderly, of_pair, held_of, IsConserved, zip_chain, zip-filter, zip-same}
+use Rattle.link_simulation.proofs.Common.{zip-append}
+use Rattle.link_simulation.specs.Laws.Conserved.{AreConserved}
 use Rattle.link_simulation.proofs.Simulation.AlikeMessages.{pairs_alike, message_itself}
 use Rattle.link_simulation.proofs.Laws.Orderly.{obeys_orderly}
 use Rattle.link_simulation.proofs.Laws.Conserved.{IsKept, call_keeps}
 use Rattle.link_simulation.proofs.Laws.PairCompletions.{enqueued_split}
 use Rattle.link_simulation.proofs.Rule.SamePlanned.{zip_turned, message_turned, message_chain}
-use Rattle.fair_rates.proofs.Lists.Zips.{zip_chain, zip-filter, zip-same, zip-append}
 use Rattle.link_simulation.proofs.Rule.SameSteps.{flows_same}
 
 module _ {P : Type 0} (cmp : P → P → Ordering) (order : IsTotalOrder cmp) where
@@ -44,19 +29,11 @@ module _ {P : Type 0} (cmp : P → P → Ordering) (order : IsTotalOrder cmp) wh
 
   of_pair_alike : (k : Message P) (ms ns : List (Message P)) → AllZip (SameMessage cmp) ms ns
       → AllZip (SameMessage cmp) (of_pair cmp k ms) (of_pair cmp k ns)
-  of_pair_alike k ms ns all =
-      zip-filter (SameMessage cmp) (same_pair cmp k) (same_pair cmp k)
-      (λ m n same. pairs_alike cmp order k k m n (message_itself cmp order k) same) ms ns all
+  of_pair_alike k ms ns all = grind (arith, zip-filter, pairs_alike, message_itself)
 
   held_alike : (k : Message P) (p q : Planned P) → IsSamePlanned cmp p q
       → AllZip (SameMessage cmp) (held_of cmp k q) (held_of cmp k p)
-  held_alike k p q same =
-      zip-append (SameMessage cmp) (of_pair cmp k (rated_messages q.sending)) (of_pair cmp k q.waiting)
-      (of_pair cmp k (rated_messages p.sending)) (of_pair cmp k p.waiting)
-      (of_pair_alike k (rated_messages q.sending) (rated_messages p.sending)
-      (turned (rated_messages p.sending) (rated_messages q.sending)
-      (flows_same cmp order p.sending q.sending same.sending)))
-      (of_pair_alike k q.waiting p.waiting (turned p.waiting q.waiting same.waiting))
+  held_alike k p q same = grind (arith, zip-append, of_pair_alike, turned, flows_same)
 
   -- ---- completions that are the same
 
@@ -70,14 +47,7 @@ module _ {P : Type 0} (cmp : P → P → Ordering) (order : IsTotalOrder cmp) wh
   one_of : (c d : Completed P) (m : Message P) → SameCompletion cmp c d → IsCompletionOf d m
       → SameMessage cmp (record m { origin = c.origin; recipient = c.recipient; channel = c.channel; bytes = c.bytes })
       m
-  one_of c d m same is = record {
-    origin = subst (λ (x : Completed P). same_peer cmp c.origin x.origin ≡ true) is.2 same.origin;
-    recipient = subst (λ (x : Completed P). same_peer cmp c.recipient x.recipient ≡ true) is.2 same.recipient;
-    channel = same.channel ∙ ap (λ (x : Completed P). x.channel) is.2;
-    bytes = same.bytes ∙ ap (λ (x : Completed P). x.bytes) is.2;
-    latency = refl;
-    should_deliver = refl;
-  }
+  one_of c d m same is = grind arith
 
   are_of : (cs ds : List (Completed P)) (done : List (Message P)) → AllZip (SameCompletion cmp) cs ds
       → AllZip IsCompletionOf ds done → AreOf cs done
@@ -101,18 +71,7 @@ module _ {P : Type 0} (cmp : P → P → Ordering) (order : IsTotalOrder cmp) wh
       → IsKept cmp order p messages ds after → AllZip (SameCompletion cmp) cs ds
       → ((k : Message P) → AllZip (SameMessage cmp) (held_of cmp k q) (held_of cmp k after))
       → IsConserved cmp p messages cs q
-  kept_conserved p after q messages cs ds kept same alike =
-      let are : AreOf cs kept.done = are_of cs ds kept.done same kept.completions_are in
-      record {
-        done = are.messages;
-        completions_are = are.completions_are;
-        each_pair = λ k.
-            subst
-            (λ (ms : List (Message P)). AllZip (SameMessage cmp) (of_pair cmp k are.messages ++ held_of cmp k q) ms)
-            (kept.each_pair k)
-            (zip-append (SameMessage cmp) (of_pair cmp k are.messages) (held_of cmp k q) (of_pair cmp k kept.done)
-            (held_of cmp k after) (of_pair_alike k are.messages kept.done are.same) (alike k));
-      }
+  kept_conserved p after q messages cs ds kept same alike = grind (arith, are_of, zip-append, of_pair_alike)
 
   pub goes_conserved : (p q : Planned P) (call : Call P) (cs : List (Completed P)) → GoesByRule cmp p call cs q
       → IsOrderly cmp p → IsConserved cmp p (enqueued (call ∷ [])) cs q
@@ -127,50 +86,14 @@ module _ {P : Type 0} (cmp : P → P → Ordering) (order : IsTotalOrder cmp) wh
   both_done : (d h p m e r n : List (Message P)) → AllZip (SameMessage cmp) (d ++ h) (p ++ m)
       → AllZip (SameMessage cmp) (e ++ r) (h ++ n) → AllZip (SameMessage cmp) ((d ++ e) ++ r) (p ++ (m ++ n))
   both_done d h p m e r n first second =
-      subst (λ (xs : List (Message P)). AllZip (SameMessage cmp) xs (p ++ (m ++ n))) (sym (append_assoc d e r))
-      (chain (d ++ (e ++ r)) (d ++ (h ++ n)) (p ++ (m ++ n))
-      (zip-append (SameMessage cmp) d (e ++ r) d (h ++ n) (itself d) second)
-      (subst (λ (xs : List (Message P)). AllZip (SameMessage cmp) xs (p ++ (m ++ n))) (append_assoc d h n)
-      (subst (AllZip (SameMessage cmp) ((d ++ h) ++ n)) (append_assoc p m n)
-      (zip-append (SameMessage cmp) (d ++ h) n (p ++ m) n first (itself n)))))
+      grind (arith, chain, (append_assoc d e r), (zip-append (SameMessage cmp) d (e ++ r) d (h ++ n) (itself d) second),
+      (append_assoc d h n), (append_assoc p m n), (zip-append (SameMessage cmp) (d ++ h) n (p ++ m) n first (itself n)))
 
   -- one stretch and then another
   pub conserved_then : (p q r : Planned P) (ms ns : List (Message P)) (cs ds : List (Completed P))
       → IsConserved cmp p ms cs q → IsConserved cmp q ns ds r
       → IsConserved cmp p (ms ++ ns) (cs ++ ds) r
-  conserved_then p q r ms ns cs ds a b = record {
-    done = a.done ++ b.done;
-    completions_are = zip-append IsCompletionOf cs ds a.done b.done a.completions_are b.completions_are;
-    each_pair = λ k.
-        subst
-        (λ (xs : List (Message P)). AllZip (SameMessage cmp) (xs ++ held_of cmp k r)
-        (held_of cmp k p ++ of_pair cmp k (ms ++ ns)))
-        (sym (filter-append (same_pair cmp k) a.done b.done))
-        (subst
-        (λ (ys : List (Message P)). AllZip (SameMessage cmp)
-        ((of_pair cmp k a.done ++ of_pair cmp k b.done) ++ held_of cmp k r) (held_of cmp k p ++ ys))
-        (sym (filter-append (same_pair cmp k) ms ns))
-        (both_done (of_pair cmp k a.done) (held_of cmp k q) (held_of cmp k p) (of_pair cmp k ms) (of_pair cmp k b.done)
-        (held_of cmp k r) (of_pair cmp k ns) (a.each_pair k) (b.each_pair k)));
-  }
-
-  one_next : (p : Planned P) (call : Call P) (calls : List (Call P)) (t : Option ℕ) (replies : List (Reply P))
-      → Obeyed cmp p (call ∷ calls) (reply_next t ∷ replies) → Obeyed cmp p calls replies
-  one_next p (call_limit now peer egress ingress) calls t replies obeyed = absurd obeyed
-  one_next p (call_limit_link now origin recipient cap) calls t replies obeyed = absurd obeyed
-  one_next p (call_enqueue now m) calls t replies obeyed = absurd obeyed
-  one_next p (call_enqueue_all now ms) calls t replies obeyed = absurd obeyed
-  one_next p (call_advance now) calls t replies obeyed = absurd obeyed
-  one_next p call_next calls t replies obeyed = obeyed.1
-
-  one_refused : (p : Planned P) (call : Call P) (calls : List (Call P)) (why : Error) (replies : List (Reply P))
-      → Obeyed cmp p (call ∷ calls) (reply_refused why ∷ replies) → Obeyed cmp p calls replies
-  one_refused p (call_limit now peer egress ingress) calls why replies obeyed = obeyed.1
-  one_refused p (call_limit_link now origin recipient cap) calls why replies obeyed = obeyed.1
-  one_refused p (call_enqueue now m) calls why replies obeyed = obeyed.1
-  one_refused p (call_enqueue_all now ms) calls why replies obeyed = obeyed.1
-  one_refused p (call_advance now) calls why replies obeyed = obeyed.1
-  one_refused p call_next calls why replies obeyed = absurd obeyed
+  conserved_then p q r ms ns cs ds a b = grind (arith, zip-append, filter-append, both_done)
 
   -- the first call is accepted, and the others follow
   record IsAccepted (p : Planned P) (call : Call P) (calls : List (Call P)) (cs : List (Completed P))
@@ -184,63 +107,28 @@ module _ {P : Type 0} (cmp : P → P → Ordering) (order : IsTotalOrder cmp) wh
   one_accepted : (p : Planned P) (call : Call P) (calls : List (Call P)) (cs : List (Completed P))
       (replies : List (Reply P))
       → Obeyed cmp p (call ∷ calls) (reply_done cs ∷ replies) → IsAccepted p call calls cs replies
-  one_accepted p (call_limit now peer egress ingress) calls cs replies obeyed =
-      record { answers = obeyed.0; after = obeyed.1; obeys = obeyed.2; same = obeyed.3; rest = obeyed.4 }
-  one_accepted p (call_limit_link now origin recipient cap) calls cs replies obeyed =
-      record { answers = obeyed.0; after = obeyed.1; obeys = obeyed.2; same = obeyed.3; rest = obeyed.4 }
-  one_accepted p (call_enqueue now m) calls cs replies obeyed =
-      record { answers = obeyed.0; after = obeyed.1; obeys = obeyed.2; same = obeyed.3; rest = obeyed.4 }
-  one_accepted p (call_enqueue_all now ms) calls cs replies obeyed =
-      record { answers = obeyed.0; after = obeyed.1; obeys = obeyed.2; same = obeyed.3; rest = obeyed.4 }
-  one_accepted p (call_advance now) calls cs replies obeyed =
-      record { answers = obeyed.0; after = obeyed.1; obeys = obeyed.2; same = obeyed.3; rest = obeyed.4 }
   one_accepted p call_next calls cs replies obeyed = absurd obeyed
+  one_accepted p call calls cs replies obeyed =
+      record { answers = obeyed.0; after = obeyed.1; obeys = obeyed.2; same = obeyed.3; rest = obeyed.4 }
 
   -- where nothing is done
   pub none_conserved : (p : Planned P) → IsConserved cmp p [] [] p
-  none_conserved p =
-      record {
-        done = [];
-        completions_are = tt;
-        each_pair = λ k. subst (AllZip (SameMessage cmp) (held_of cmp k p)) (sym (append-nil (held_of cmp k p)))
-            (itself (held_of cmp k p));
-      }
+  none_conserved p = grind (arith, append-nil, itself)
 
   -- from a planned world in order
   pub obeyed_conserved : (p : Planned P) (calls : List (Call P)) (replies : List (Reply P)) → IsOrderly cmp p
       → Obeyed cmp p calls replies → AreConserved cmp p calls replies
-  obeyed_conserved p [] [] h obeyed = record {
-    last = p;
-    led = refl;
-    orderly = h;
-    conserved = none_conserved p;
-  }
+  obeyed_conserved p [] [] h obeyed = grind (arith, none_conserved)
   obeyed_conserved p [] (reply ∷ replies) h obeyed = absurd obeyed
   obeyed_conserved p (call ∷ calls) [] h obeyed = absurd obeyed
-  obeyed_conserved p (call ∷ calls) (reply_next t ∷ replies) h obeyed =
-      let rest : AreConserved cmp p calls replies =
-      obeyed_conserved p calls replies h (one_next p call calls t replies obeyed) in
-      record { last = rest.last; led = rest.led; orderly = rest.orderly; conserved = rest.conserved }
-  obeyed_conserved p (call ∷ calls) (reply_refused why ∷ replies) h obeyed =
-      let rest : AreConserved cmp p calls replies =
-      obeyed_conserved p calls replies h (one_refused p call calls why replies obeyed) in
-      record { last = rest.last; led = rest.led; orderly = rest.orderly; conserved = rest.conserved }
   obeyed_conserved p (call ∷ calls) (reply_done cs ∷ replies) h obeyed =
-      let one : IsAccepted p call calls cs replies = one_accepted p call calls cs replies obeyed in
-      let first : IsConserved cmp p (enqueued (call ∷ [])) cs one.after
-      = kept_conserved p one.after one.after (enqueued (call ∷ [])) cs one.answers
+      let one = one_accepted p call calls cs replies obeyed in
+      let first = kept_conserved p one.after one.after (enqueued (call ∷ [])) cs one.answers
       (call_keeps cmp order p call (goes one.answers one.after) one.obeys h) one.same
       (λ k. itself (held_of cmp k one.after)) in
-      let rest : AreConserved cmp one.after calls replies =
-      obeyed_conserved one.after calls replies (obeys_orderly cmp order p one.after call one.answers one.obeys h)
-      one.rest in
-      record {
-        last = rest.last;
-        led = (one.answers, one.after, one.obeys, one.same, rest.led);
-        orderly = rest.orderly;
-        conserved =
-            subst (λ (ms : List (Message P)). IsConserved cmp p ms (cs ++ answered (completions_in replies)) rest.last)
-            (enqueued_split call (made calls replies))
-            (conserved_then p one.after rest.last (enqueued (call ∷ [])) (enqueued (made calls replies)) cs
-            (answered (completions_in replies)) first rest.conserved);
-      }
+      let rest = obeyed_conserved one.after calls replies
+      (obeys_orderly cmp order p one.after call one.answers one.obeys h) one.rest in
+      grind (arith, (enqueued_split call (made calls replies)), (conserved_then p one.after rest.last
+      (enqueued (call ∷ [])) (enqueued (made calls replies)) cs (answered (completions_in replies)) first
+      rest.conserved))
+  obeyed_conserved p (call ∷ calls) (reply ∷ replies) h obeyed = grind (arith, (obeyed_conserved p calls replies h))

@@ -1,12 +1,7 @@
 -- Messages are conserved over the first calls of a list, however many.
-use Rattle.std.proofs.Common.{ℕ, zero, suc, List, [], ◌∷◌, take}
-use Rattle.std.specs.declared.cmp.Ordering.{Ordering}
-use Rattle.std.specs.Cmp.{IsTotalOrder}
-use Rattle.link_simulation.specs.Simulation.Calls.{Call, call_limit, call_limit_link, call_enqueue, call_advance}
-use Rattle.link_simulation.specs.Simulation.Calls.{call_enqueue_all, call_next}
-use Rattle.link_simulation.specs.Simulation.Replies.{Reply, reply_done, reply_next, reply_refused}
-use Rattle.link_simulation.specs.Rule.Planned.{Planned, new_planned}
-use Rattle.link_simulation.specs.Rule.Refusals.{Obeyed}
+use Rattle.link_simulation.proofs.Common.{arith, ℕ, zero, suc, List, [], ◌∷◌, Ordering, IsTotalOrder, Call, call_next}
+use Rattle.link_simulation.proofs.Common.{Reply, reply_done, reply_next, reply_refused, Planned, new_planned, Obeyed}
+use Rattle.std.proofs.Common.{take}
 use Rattle.link_simulation.specs.Laws.Conserved.{AreConserved}
 use Rattle.link_simulation.specs.Laws.Replies.{AlwaysSoFar}
 use Rattle.link_simulation.proofs.Laws.Orderly.{new_orderly}
@@ -25,37 +20,13 @@ module _ {P : Type 0} (cmp : P → P → Ordering) where
       (obeyed.0, obeyed_so_far n p calls replies obeyed.1)
   obeyed_so_far (suc n) p (call_next ∷ calls) (reply_done cs ∷ replies) obeyed = obeyed
   obeyed_so_far (suc n) p (call_next ∷ calls) (reply_refused why ∷ replies) obeyed = obeyed
-  obeyed_so_far (suc n) p (call_limit now peer egress ingress ∷ calls) (reply_next t ∷ replies) obeyed = obeyed
-  obeyed_so_far (suc n) p (call_limit now peer egress ingress ∷ calls) (reply_refused why ∷ replies) obeyed =
+  obeyed_so_far (suc n) p (call ∷ calls) (reply_next t ∷ replies) obeyed = obeyed
+  obeyed_so_far (suc n) p (call ∷ calls) (reply_refused why ∷ replies) obeyed =
       (obeyed.0, obeyed_so_far n p calls replies obeyed.1)
-  obeyed_so_far (suc n) p (call_limit now peer egress ingress ∷ calls) (reply_done cs ∷ replies)
-      (ds, q, obeys, same, rest) =
-      (ds, q, obeys, same, obeyed_so_far n q calls replies rest)
-  obeyed_so_far (suc n) p (call_limit_link now origin recipient cap ∷ calls) (reply_next t ∷ replies) obeyed = obeyed
-  obeyed_so_far (suc n) p (call_limit_link now origin recipient cap ∷ calls) (reply_refused why ∷ replies) obeyed =
-      (obeyed.0, obeyed_so_far n p calls replies obeyed.1)
-  obeyed_so_far (suc n) p (call_limit_link now origin recipient cap ∷ calls) (reply_done cs ∷ replies)
-      (ds, q, obeys, same, rest) =
-      (ds, q, obeys, same, obeyed_so_far n q calls replies rest)
-  obeyed_so_far (suc n) p (call_enqueue now m ∷ calls) (reply_next t ∷ replies) obeyed = obeyed
-  obeyed_so_far (suc n) p (call_enqueue_all now ms ∷ calls) (reply_next t ∷ replies) obeyed = obeyed
-  obeyed_so_far (suc n) p (call_enqueue now m ∷ calls) (reply_refused why ∷ replies) obeyed =
-      (obeyed.0, obeyed_so_far n p calls replies obeyed.1)
-  obeyed_so_far (suc n) p (call_enqueue_all now ms ∷ calls) (reply_refused why ∷ replies) obeyed =
-      (obeyed.0, obeyed_so_far n p calls replies obeyed.1)
-  obeyed_so_far (suc n) p (call_enqueue now m ∷ calls) (reply_done cs ∷ replies) (ds, q, obeys, same, rest) =
-      (ds, q, obeys, same, obeyed_so_far n q calls replies rest)
-  obeyed_so_far (suc n) p (call_enqueue_all now ms ∷ calls) (reply_done cs ∷ replies) (ds, q, obeys, same, rest) =
-      (ds, q, obeys, same, obeyed_so_far n q calls replies rest)
-  obeyed_so_far (suc n) p (call_advance now ∷ calls) (reply_next t ∷ replies) obeyed = obeyed
-  obeyed_so_far (suc n) p (call_advance now ∷ calls) (reply_refused why ∷ replies) obeyed =
-      (obeyed.0, obeyed_so_far n p calls replies obeyed.1)
-  obeyed_so_far (suc n) p (call_advance now ∷ calls) (reply_done cs ∷ replies) (ds, q, obeys, same, rest) =
+  obeyed_so_far (suc n) p (call ∷ calls) (reply_done cs ∷ replies) (ds, q, obeys, same, rest) =
       (ds, q, obeys, same, obeyed_so_far n q calls replies rest)
 
 pub conserved_so_far : {P : Type 0} (cmp : P → P → Ordering) (order : IsTotalOrder cmp) (id : ℕ) (calls : List (Call P))
     (replies : List (Reply P))
     → Obeyed cmp (new_planned id) calls replies → AlwaysSoFar (AreConserved cmp (new_planned id)) calls replies
-conserved_so_far cmp order id calls replies obeyed n =
-    obeyed_conserved cmp order (new_planned id) (take n calls) (take n replies) (new_orderly cmp order id)
-    (obeyed_so_far cmp n (new_planned id) calls replies obeyed)
+conserved_so_far cmp order id calls replies obeyed n = grind (arith, obeyed_conserved, new_orderly, obeyed_so_far)

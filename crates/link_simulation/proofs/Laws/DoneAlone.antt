@@ -1,12 +1,8 @@
 -- A message that is done after a time is done alone, however the simulation runs.
-use Rattle.std.proofs.Common.{◌≡◌, ℕ, ◌+◌, List, [], ◌∷◌, Option, Some, sym, subst}
-use Rattle.std.specs.declared.cmp.Ordering.{Ordering}
-use Rattle.std.specs.Cmp.{IsTotalOrder}
+use Rattle.link_simulation.proofs.Common.{◌≡◌, ℕ, ◌+◌, List, [], ◌∷◌, Option, Some, sym, subst, Ordering, IsTotalOrder}
+use Rattle.link_simulation.proofs.Common.{World, Completed, goes, completed, call_enqueue, call_advance, Runs, Message}
+use Rattle.link_simulation.proofs.Common.{NextIs, IsSound, arith}
 use Rattle.link_simulation.specs.Laws.Alone.{IsDoneAfter}
-use Rattle.link_simulation.specs.Simulation.World.{World, Completed, goes, completed}
-use Rattle.link_simulation.specs.Simulation.Calls.{call_enqueue, call_advance, Runs}
-use Rattle.link_simulation.specs.Simulation.Messages.{Message}
-use Rattle.link_simulation.specs.Simulation.Time.{NextIs, IsSound}
 use Rattle.link_simulation.proofs.Simulation.OneNext.{next_is_one}
 use Rattle.link_simulation.proofs.Simulation.OneRun.{runs_are_one}
 use Rattle.link_simulation.proofs.Simulation.Sound.{call_keeps_sound}
@@ -23,21 +19,18 @@ module _ {P : Type 0} (cmp : P → P → Ordering) (order : IsTotalOrder cmp) wh
       → IsDoneAfter cmp w now m time → Runs cmp w (call_enqueue now m) now (goes cs v)
       → (cs ≡ []) × ((next : Option ℕ) → NextIs cmp v next → next ≡ Some (now + time))
   is_sent w v m now time cs sound alone runs =
-      let one =
-      runs_are_one cmp order w (call_enqueue now m) now (goes cs v) (goes [] alone.sent) sound runs alone.sends in
-      let same : v ≡ alone.sent = same_world cs [] v alone.sent one in
-      let sound_v : IsSound cmp v = call_keeps_sound cmp order w (call_enqueue now m) now (goes cs v) sound runs in (
-        same_answers cs [] v alone.sent one,
-        λ next is. next_is_one cmp order v next (Some (now + time)) sound_v.positive is
-            (subst (λ (x : World P). NextIs cmp x (Some (now + time))) (sym same) alone.next),
-      )
+      let one = runs_are_one cmp order w (call_enqueue now m) now (goes cs v) (goes [] alone.sent) sound runs
+      alone.sends in
+      let same = same_world cs [] v alone.sent one in
+      let sound_v = call_keeps_sound cmp order w (call_enqueue now m) now (goes cs v) sound runs in
+      grind (arith, next_is_one, (same_answers cs [] v alone.sent one))
 
   pub is_done_alone : (w v u : World P) (m : Message P) (now time : ℕ) (cs ds : List (Completed P)) → IsSound cmp w
       → IsDoneAfter cmp w now m time → Runs cmp w (call_enqueue now m) now (goes cs v)
       → Runs cmp v (call_advance (now + time)) (now + time) (goes ds u) → ds ≡ completed cmp (now + time) m ∷ []
   is_done_alone w v u m now time cs ds sound alone runs advances =
-      let one =
-      runs_are_one cmp order w (call_enqueue now m) now (goes cs v) (goes [] alone.sent) sound runs alone.sends in
+      let one = runs_are_one cmp order w (call_enqueue now m) now (goes cs v) (goes [] alone.sent) sound runs
+      alone.sends in
       let same : v ≡ alone.sent = same_world cs [] v alone.sent one in
       let sound_v : IsSound cmp v = call_keeps_sound cmp order w (call_enqueue now m) now (goes cs v) sound runs in
       same_answers ds (completed cmp (now + time) m ∷ []) u alone.after

@@ -1,24 +1,14 @@
 -- Each event leaves fewer that may come.
-use Rattle.std.proofs.Common.{◌≡◌, ℕ, ◌+◌, ◌<◌, ◌≤◌, List, length, Some, arith}
-use Rattle.std.specs.declared.cmp.Ordering.{Ordering}
-use Rattle.std.specs.Cmp.{IsTotalOrder}
+use Rattle.link_simulation.proofs.Common.{◌≡◌, ℕ, ◌+◌, ◌<◌, ◌≤◌, List, Some, arith, Ordering, IsTotalOrder, GoesByRule}
+use Rattle.link_simulation.proofs.Common.{IsSamePlanned, Completed, call_advance, Planned, next_event, zip-length}
 use Rattle.link_simulation.specs.Laws.MostEvents.{most_events}
-use Rattle.link_simulation.specs.Rule.SamePlanned.{GoesByRule, AdvancesByRule, IsSamePlanned, IsSameRatedFlight}
-use Rattle.link_simulation.specs.Simulation.World.{Completed}
-use Rattle.link_simulation.specs.Simulation.Calls.{call_advance}
-use Rattle.link_simulation.specs.Simulation.Messages.{SameMessage}
-use Rattle.link_simulation.specs.Rule.Planned.{Planned, next_event, IsPlanned}
+use Rattle.link_simulation.specs.Rule.SamePlanned.{AdvancesByRule}
+use Rattle.link_simulation.specs.Rule.Planned.{IsPlanned}
 use Rattle.link_simulation.proofs.Laws.MostEvents.{events_spend, some_event}
-use Rattle.fair_rates.proofs.Lists.Zips.{zip-length}
 
 module _ {P : Type 0} (cmp : P → P → Ordering) (order : IsTotalOrder cmp) where
   same_most : (p q : Planned P) → IsSamePlanned cmp p q → most_events p ≡ most_events q
-  same_most p q same =
-      let waiting : length p.waiting ≡ length q.waiting =
-      zip-length (SameMessage cmp) p.waiting q.waiting same.waiting in
-      let sending : length p.sending ≡ length q.sending =
-      zip-length (IsSameRatedFlight cmp) p.sending q.sending same.sending in
-      omega arith
+  same_most p q same = grind (arith, zip-length)
 
   pub counted_events : (p q : Planned P) (now events : ℕ) (cs : List (Completed P)) → IsPlanned cmp p
       → AdvancesByRule cmp now p events cs q → events + most_events q ≤ most_events p
@@ -30,15 +20,7 @@ module _ {P : Type 0} (cmp : P → P → Ordering) (order : IsTotalOrder cmp) wh
   pub advance_falls : (p q : Planned P) (now : ℕ) (cs : List (Completed P)) → IsPlanned cmp p → next_event p ≡ Some now
       → GoesByRule cmp p (call_advance now) cs q → most_events q < most_events p
   advance_falls p q now cs planned next goes =
-      let counted : AdvancesByRule cmp now p goes.obeys.0 cs q =
-      record {
-        answers = goes.answers;
-        after = goes.after;
-        advances = goes.obeys.1;
-        same_answers = goes.same_answers;
-        same_after = goes.same_after;
-      } in
+      let counted : AdvancesByRule cmp now p goes.obeys.0 cs q = grind arith in
       let some : 0 < goes.obeys.0 = some_event cmp order goes.obeys.1 next in
-      let spent : goes.obeys.0 + most_events q ≤ most_events p =
-      counted_events p q now goes.obeys.0 cs planned counted in
+      let spent = counted_events p q now goes.obeys.0 cs planned counted in
       omega arith

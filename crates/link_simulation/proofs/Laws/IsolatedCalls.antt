@@ -1,39 +1,24 @@
 -- Calls on a world, and on the part of it that is a set's messages.
-use Rattle.std.proofs.Common.{◌≡◌, ℕ, ◌+◌, ◌-◌, ◌<◌, ◌≤◌, List, [], ◌∷◌, ◌++◌, map, length, Bool, true, false, cond}
-use Rattle.std.proofs.Common.{Option, Some, None, refl, sym, ap, ◌∙◌, subst, arith, append-nil, ◌⊎◌, inl, inr}
-use Rattle.std.specs.Prelude.{⊤, ◌&&◌, nat_lt, if◌then◌else◌}
-use Rattle.std.specs.List.{filter}
-use Rattle.std.specs.declared.cmp.Ordering.{Ordering}
-use Rattle.std.specs.Cmp.{IsTotalOrder}
-use Rattle.std.proofs.lemmas.List.Elements.{filter-append}
-use Rattle.std.proofs.lemmas.Bool.{and_parts}
+use Rattle.link_simulation.proofs.Common.{◌≡◌, ℕ, ◌+◌, ◌-◌, ◌<◌, ◌≤◌, List, [], ◌∷◌, ◌++◌, map, Bool, true, false, cond}
+use Rattle.link_simulation.proofs.Common.{Option, Some, None, refl, sym, ap, ◌∙◌, subst, arith, append-nil, ◌⊎◌, inl}
+use Rattle.link_simulation.proofs.Common.{inr, ⊤, ◌&&◌, nat_lt, if◌then◌else◌, filter, Ordering, IsTotalOrder}
+use Rattle.link_simulation.proofs.Common.{filter-append, and_parts, Completed, Course, Flight, World, and_then}
+use Rattle.link_simulation.proofs.Common.{completion_of, first_waiting, flows, goes, last_moment, later_of, meets}
+use Rattle.link_simulation.proofs.Common.{new_world, preceded, raised, settle, start_next, EndsWith, Call, IsInTurn}
+use Rattle.link_simulation.proofs.Common.{Runs, act, call_advance, call_enqueue, call_limit, call_limit_link}
+use Rattle.link_simulation.proofs.Common.{complete_at_once, moment_of, limited_by, call_enqueue_all, call_next}
+use Rattle.link_simulation.proofs.Common.{linked_by, enqueue, enqueue_each, flagged, Answers, InTime, call_answers}
+use Rattle.link_simulation.proofs.Common.{no_calls, Caps, Message, same_pair, AreFair, Parts, NextIs, Ticks, no_tick}
+use Rattle.link_simulation.proofs.Common.{MomentTooLate, each_joined, Each, In, rules}
 use Rattle.std.specs.Prelude.{Contains}
-use Rattle.fair_rates.specs.Sides.Subjects.{same_peer}
-use Rattle.link_simulation.specs.Simulation.World.{Completed, Course, Flight, World, and_then, completion_of}
-use Rattle.link_simulation.specs.Simulation.World.{first_waiting, flows, goes, is_done, last_moment, later_of, meets}
-use Rattle.link_simulation.specs.Simulation.World.{new_world, preceded, raised, settle, start_next, EndsWith}
-use Rattle.link_simulation.specs.Simulation.Calls.{Call, IsInTurn, Runs, act, call_advance, call_enqueue, call_limit}
-use Rattle.link_simulation.specs.Simulation.Calls.{call_limit_link, complete_at_once, moment_of, limited_by}
-use Rattle.link_simulation.specs.Simulation.Calls.{call_enqueue_all, call_next}
-use Rattle.link_simulation.specs.Simulation.Calls.{linked_by, enqueue, enqueue_each}
-use Rattle.fair_rates.specs.Fairness.Part.{flagged}
-use Rattle.link_simulation.specs.Laws.Isolation.{Answers, AnswersInTurn, InTime, AreApart, IsApart, IsSet, KeepsApart}
-use Rattle.link_simulation.specs.Laws.Isolation.{NothingElse, call_answers, answers_in_turn, inside_alone, is_kept}
-use Rattle.link_simulation.specs.Laws.Isolation.{kept_calls, kept_completions, no_calls, no_calls_in_turn}
-use Rattle.link_simulation.specs.Laws.Isolation.{without_others}
-use Rattle.link_simulation.specs.Simulation.Messages.{Caps, Message, is_delivered, same_pair}
-use Rattle.link_simulation.specs.Simulation.Rates.{AreFair, Parts}
-use Rattle.link_simulation.specs.Simulation.Time.{NextIs, Ticks, no_tick}
-use Rattle.fair_rates.specs.declared.error.Error.TheVariants.{MomentTooLate}
-use Rattle.link_simulation.proofs.Laws.PartRates.{fair_part}
+use Rattle.link_simulation.specs.Laws.Isolation.{AnswersInTurn, AreApart, IsApart, IsSet, KeepsApart, NothingElse}
+use Rattle.link_simulation.specs.Laws.Isolation.{answers_in_turn, inside_alone, is_kept, kept_calls, kept_completions}
+use Rattle.link_simulation.specs.Laws.Isolation.{no_calls_in_turn, without_others}
+use Rattle.link_simulation.proofs.Laws.PartRates.{fair_part, at_egress, at_ingress, at_link, SharesNoSide}
 use Rattle.fair_rates.proofs.Lists.Members.{contains_from_in}
-use Rattle.link_simulation.proofs.Simulation.SettlingEnds.{ends_and_then, ends_cond, each_ends, NoneDone}
-use Rattle.link_simulation.proofs.Simulation.SettlingEnds.{settle_rests}
+use Rattle.link_simulation.proofs.Simulation.SettlingEnds.{ends_and_then, ends_cond, each_ends, NoneDone, settle_rests}
 use Rattle.link_simulation.proofs.Simulation.FilteredFronts.{find_kept, none_kept}
-use Rattle.fair_rates.proofs.Lists.Each.{each_joined, Each}
-use Rattle.fair_rates.proofs.Lists.Members.{In}
-use Rattle.link_simulation.proofs.Laws.PartRates.{Kind, at_egress, at_ingress, at_link, uses_at, SharesNoSide}
-use Rattle.link_simulation.proofs.Simulation.Split.{ticks_on, rest_is}
+use Rattle.link_simulation.proofs.Simulation.Split.{ticks_on}
 use Rattle.link_simulation.proofs.Simulation.EveryInstant.{ticks_end, first_event, settle_moment, start_next_moment}
 use Rattle.link_simulation.proofs.Laws.Isolation.{part, IsPart, IsPartOf, part_alike, goes_alike, part_then}
 use Rattle.link_simulation.proofs.Laws.Isolation.{settle_part, start_next_mine, start_next_other, raised_same}
@@ -52,9 +37,7 @@ module _ {P : Type 0} (cmp : P → P → Ordering) (order : IsTotalOrder cmp) (i
   Whole m = inside m.origin ≡ inside m.recipient
 
   pub alike : (m n : Message P) → same_pair cmp m n ≡ true → mine m ≡ mine n
-  alike m n e =
-      together m.origin n.origin
-      (and_parts (same_peer cmp m.origin n.origin) (same_peer cmp m.recipient n.recipient) e).0
+  alike m n e = grind arith
 
   each_in : (ms : List (Message P)) (m : Message P) → Each Whole ms → In ms m → Whole m
   each_in [] m e h = absurd h
@@ -63,11 +46,7 @@ module _ {P : Type 0} (cmp : P → P → Ordering) (order : IsTotalOrder cmp) (i
 
   shares : (w : World P) → Each Whole (flows w) → SharesNoSide cmp w.caps mine (flows w)
   shares w e at_egress m n has_m has_n uses = together m.origin n.origin uses
-  shares w e at_ingress m n has_m has_n uses =
-      let same : inside m.recipient ≡ inside n.recipient =
-      together m.recipient n.recipient
-      (and_parts (is_delivered cmp n) (same_peer cmp m.recipient n.recipient) uses).1 in
-      each_in (flows w) m e has_m ∙ same ∙ sym (each_in (flows w) n e has_n)
+  shares w e at_ingress m n has_m has_n uses = grind (arith, and_parts, each_in)
   shares w e at_link m n has_m has_n uses = alike m n uses
 
   abbrev pub Small : (P → P → Option ℕ) → ℕ → World P → World P
@@ -88,20 +67,11 @@ module _ {P : Type 0} (cmp : P → P → Ordering) (order : IsTotalOrder cmp) (i
 
   settle_in_part : (t : ℕ) (w : World P) (last : P → P → Option ℕ) (id : ℕ) → Within last id w
       → Of (settle cmp t w) (settle cmp t (Small last id w))
-  settle_in_part t w last id is =
-      settle_part cmp order inside alike Whole (length w.sending + length w.waiting)
-      (length (filter (λ (f : Flight P). mine f.message) w.sending) + length (filter mine w.waiting))
-      t w last id is (omega arith) (omega arith)
+  settle_in_part t w last id is = grind (arith, settle_part, alike)
 
   queued_within : (w : World P) (m : Message P) (last : P → P → Option ℕ) (id : ℕ) → Within last id w → Whole m
       → Within last id (queued cmp order w m)
-  queued_within w m last id is whole =
-      record {
-        arrivals = is.arrivals;
-        ids = is.ids;
-        sending = is.sending;
-        waiting = each_joined Whole w.waiting m is.waiting whole;
-      }
+  queued_within w m last id is whole = grind (arith, each_joined)
 
   queued_filter : (ms : List (Message P)) (m : Message P) (b : Bool) → mine m ≡ b
       → filter mine (ms ++ m ∷ []) ≡ filter mine ms ++ cond b (m ∷ []) []
@@ -137,18 +107,11 @@ module _ {P : Type 0} (cmp : P → P → Ordering) (order : IsTotalOrder cmp) (i
           (start_next cmp now (queued cmp order (Small last id w) m)
           (first_waiting cmp (queued cmp order (Small last id w) m) m))
       starting =
-          let base : Of (start_next cmp now (queued cmp order w m) (first_waiting cmp (queued cmp order w m) m))
-          (start_next cmp now (Small last id (queued cmp order w m)) (first_waiting cmp (queued cmp order w m) m)) =
-          start_next_mine cmp order inside alike Whole now (queued cmp order w m) m
+          let base = start_next_mine cmp order inside alike Whole now (queued cmp order w m) m
           (first_waiting cmp (queued cmp order w m) m) last id within own refl in
-          let one : Of (start_next cmp now (queued cmp order w m) (first_waiting cmp (queued cmp order w m) m))
-          (start_next cmp now (Small last id (queued cmp order w m))
-          (first_waiting cmp (Small last id (queued cmp order w m)) m)) =
-          subst
-          (λ (o : Option (Message P)). Of
+          let one = subst (λ (o : Option (Message P)). Of
           (start_next cmp now (queued cmp order w m) (first_waiting cmp (queued cmp order w m) m))
-          (start_next cmp now (Small last id (queued cmp order w m)) o))
-          (sym same_next) base in
+          (start_next cmp now (Small last id (queued cmp order w m)) o)) (sym same_next) base in
           subst
           (λ (z : World P). Of
           (start_next cmp now (queued cmp order w m) (first_waiting cmp (queued cmp order w m) m))
@@ -162,14 +125,7 @@ module _ {P : Type 0} (cmp : P → P → Ordering) (order : IsTotalOrder cmp) (i
           (record w {
             last_arrival = raised cmp w.last_arrival m (once_at (w.last_arrival m.origin m.recipient) now m);
           })
-      raised_within = record {
-        arrivals = λ n own_n.
-            raised_same cmp order inside alike Whole m n (once_at (last m.origin m.recipient) now m) last w id is own_n
-            ∙ ap (λ at. raised cmp w.last_arrival m at n.origin n.recipient) at_same;
-        ids = is.ids;
-        sending = is.sending;
-        waiting = is.waiting;
-      }
+      raised_within = grind (arith, raised_same, alike, at_same)
 
       by_late : (b : Bool)
           → Of
@@ -186,10 +142,7 @@ module _ {P : Type 0} (cmp : P → P → Ordering) (order : IsTotalOrder cmp) (i
           })))
       by_late true = tt
       by_late false =
-          let alone : once now m (once_at (last m.origin m.recipient) now m) ∷ []
-          ≡ filter (λ (c : Completed P). inside c.origin)
-          (once now m (once_at (w.last_arrival m.origin m.recipient) now m) ∷ []) =
-          ap (λ at. once now m at ∷ []) at_same ∙ (rw own refl) in (
+          let alone = ap (λ at. once now m at ∷ []) at_same ∙ (rw own refl) in (
             raised cmp last m (once_at (last m.origin m.recipient) now m),
             id,
             raised_within,
@@ -251,16 +204,7 @@ module _ {P : Type 0} (cmp : P → P → Ordering) (order : IsTotalOrder cmp) (i
           (record w {
             last_arrival = raised cmp w.last_arrival m (once_at (w.last_arrival m.origin m.recipient) now m);
           })
-      raised_within = record {
-        arrivals = λ n own_n.
-            is.arrivals n own_n
-            ∙ sym
-            (raised_other cmp order inside alike Whole m n (once_at (w.last_arrival m.origin m.recipient) now m)
-            w.last_arrival off own_n);
-        ids = is.ids;
-        sending = is.sending;
-        waiting = is.waiting;
-      }
+      raised_within = grind (arith, raised_other, alike)
 
       by_late : (b : Bool)
           → Of
@@ -283,10 +227,7 @@ module _ {P : Type 0} (cmp : P → P → Ordering) (order : IsTotalOrder cmp) (i
       at_once = by_late (m.should_deliver && nat_lt last_moment (now + m.latency))
 
       still : and_then (goes [] (Small last id w)) (settle cmp now) ≡ goes [] (Small last id w)
-      still =
-          preceded_none (settle cmp now (Small last id w)) ∙ settle_nothing cmp order
-          (length (Small last id w).sending + length (Small last id w).waiting) now (Small last id w)
-          (none_kept (λ (f : Flight P). mine f.message) (is_done cmp w) w.sending rests)
+      still = grind (arith, preceded_none, settle_nothing, none_kept)
 
       by_mode : (b : Bool)
           → Of
@@ -386,12 +327,8 @@ module _ {P : Type 0} (cmp : P → P → Ordering) (order : IsTotalOrder cmp) (i
   act_other : (w : World P) (call : Call P) (last : P → P → Option ℕ) (id : ℕ) → Within last id w → NoneDone cmp order w
       → IsApart inside call → is_kept inside call ≡ false
       → Of (act cmp w call) (goes [] (Small last id w))
-  act_other w (call_limit now peer egress ingress) last id is rests whole off = cc
-  act_other w (call_limit_link now origin recipient link) last id is rests whole off = cc
   act_other w (call_enqueue now m) last id is rests whole off = enqueue_other now w m last id is rests whole off
-  act_other w (call_enqueue_all now ms) last id is rests whole off = cc
-  act_other w (call_advance now) last id is rests whole off = cc
-  act_other w call_next last id is rests whole off = cc
+  act_other w call last id is rests whole off = cc
 
   act_rests : (w : World P) (call : Call P) → NoneDone cmp order w → EndsWith (NoneDone cmp order) (act cmp w call)
   act_rests w (call_limit now peer egress ingress) h =
@@ -424,22 +361,16 @@ module _ {P : Type 0} (cmp : P → P → Ordering) (order : IsTotalOrder cmp) (i
   -- a message of others comes before the next event
   other_is_before : (w : World P) (call : Call P) (now : ℕ) → moment_of call ≡ Some now → IsInTurn cmp w call
       → is_kept inside call ≡ false → (t : ℕ) → NextIs cmp w (Some t) → now < t
-  other_is_before w (call_limit s peer egress ingress) now e h off t next = cc
-  other_is_before w (call_limit_link s origin recipient link) now e h off t next = cc
   other_is_before w (call_enqueue s m) now e h off t next =
       let same : s ≡ now = cc in let lt : s < t = h.1 (Some t) next in omega arith
-  other_is_before w (call_enqueue_all s ms) now e h off t next = cc
-  other_is_before w (call_advance s) now e h off t next = cc
-  other_is_before w call_next now e h off t next = cc
+  other_is_before w call now e h off t next = cc
 
   split_course : (c : Course (Completed P) (World P)) (f : World P → Course (Completed P) (World P))
       (cs : List (Completed P)) (u : World P)
       → and_then c f ≡ goes cs u
       → (ds : List (Completed P)) × (v : World P) × (es : List (Completed P)) × (c ≡ goes ds v) × (f v ≡ goes es u)
       × (ds ++ es ≡ cs)
-  split_course (goes ds v) f cs u e =
-      let r : (es : List (Completed P)) × (f v ≡ goes es u) × (ds ++ es ≡ cs) = rest_is cmp ds (f v) cs u e in
-      (ds, v, r.0, refl, r.1, r.2)
+  split_course (goes ds v) f cs u e = grind arith
   split_course (meets fault) f cs u e = cc
 
   -- the part's own world may be behind: nothing of the set happens until it catches up
@@ -458,9 +389,7 @@ module _ {P : Type 0} (cmp : P → P → Ordering) (order : IsTotalOrder cmp) (i
   isolated {w = w}
       (answers_in_turn {u = u} {call = call} {now = now} {calls = calls} {cs = cs} {css = css} is_now turn runs more) s
       last id b apart in_time =
-      let sp : (ds : List (Completed P)) × (v : World P) × (es : List (Completed P)) × (runs.ticked ≡ goes ds v)
-      × (act cmp v call ≡ goes es u) × (ds ++ es ≡ cs)
-      = split_course runs.ticked (λ v. act cmp v call) cs u (sym runs.acts) in
+      let sp = split_course runs.ticked (λ v. act cmp v call) cs u (sym runs.acts) in
       by_call (is_kept inside call) refl sp.0 sp.1 sp.2 sp.3 sp.4 sp.5
       (λ t l i c. isolated more t l i c apart.1 in_time.1)
     where
@@ -475,32 +404,20 @@ module _ {P : Type 0} (cmp : P → P → Ordering) (order : IsTotalOrder cmp) (i
           × (cond k ⊤ (inside_alone inside cs ≡ []) × NothingElse inside calls css)
       by_call true flagged ds v es ticked acted join ih =
           let later : w.moment ≤ now = turn_later cmp order w call now is_now turn in
-          let ends : (v.moment ≡ w.moment + (now - w.moment)) × NoneDone cmp order v =
-          ticks_end cmp order runs.ticks ds v ticked b.rests in
-          let small : (l : P → P → Option ℕ) × (i : ℕ) × Within l i v
-          × Ticks cmp (now - w.moment) (Small last id w)
-          (goes (filter (λ (c : Completed P). inside c.origin) ds) (Small l i v)) =
-          ticks_part cmp order inside alike Whole shares runs.ticks ds v last id ticked b.within in
-          let all : Ticks cmp ((now - w.moment) + b.count) s
-          (goes (filter (λ (c : Completed P). inside c.origin) ds) (Small small.0 small.1 v))
-          = ticks_on cmp b.ticks (now - w.moment) (Small last id w) []
+          let ends = ticks_end cmp order runs.ticks ds v ticked b.rests in
+          let small = ticks_part cmp order inside alike Whole shares runs.ticks ds v last id ticked b.within in
+          let all = ticks_on cmp b.ticks (now - w.moment) (Small last id w) []
           (goes (filter (λ (c : Completed P). inside c.origin) ds) (Small small.0 small.1 v)) refl small.3 in
           let behind : w.moment ≡ s.moment + b.count = b.at in
           let count : (now - w.moment) + b.count ≡ now - s.moment = omega arith in
-          let counted : Ticks cmp (now - s.moment) s
-          (goes (filter (λ (c : Completed P). inside c.origin) ds) (Small small.0 small.1 v))
-          = subst
-          (λ n. Ticks cmp n s (goes (filter (λ (c : Completed P). inside c.origin) ds) (Small small.0 small.1 v)))
-          count all in
-          let act_small : Of (goes es u) (act cmp (Small small.0 small.1 v) (without_others inside call))
-          = subst (λ (c : Course (Completed P) (World P)). Of c
+          let counted = subst
+          (λ n. Ticks cmp n s (goes (filter (λ (c : Completed P). inside c.origin) ds) (Small small.0 small.1 v))) count
+          all in
+          let act_small = subst (λ (c : Course (Completed P) (World P)). Of c
           (act cmp (Small small.0 small.1 v) (without_others inside call))) acted
           (act_kept v call small.0 small.1 small.2 ends.1 apart.0 flagged) in
-          let both : filter (λ (c : Completed P). inside c.origin) ds
-          ++ filter (λ (c : Completed P). inside c.origin) es
-          ≡ filter (λ (c : Completed P). inside c.origin) cs
-          = sym (filter-append (λ (c : Completed P). inside c.origin) ds es)
-          ∙ ap (filter (λ (c : Completed P). inside c.origin)) join in
+          let both = sym (filter-append (λ (c : Completed P). inside c.origin) ds es) ∙ ap
+          (filter (λ (c : Completed P). inside c.origin)) join in
           let run : Runs cmp s (without_others inside call) now
           (goes (filter (λ (c : Completed P). inside c.origin) cs) (Small act_small.0 act_small.1 u)) =
           record {
@@ -511,55 +428,35 @@ module _ {P : Type 0} (cmp : P → P → Ordering) (order : IsTotalOrder cmp) (i
                 (ap (preceded (filter (λ (c : Completed P). inside c.origin) ds)) act_small.3
                 ∙ goes_alike cmp order inside alike Whole _ _ _ _ both refl);
           } in
-          let rests : NoneDone cmp order u =
-          subst (λ (c : Course (Completed P) (World P)). EndsWith (NoneDone cmp order) c) acted
+          let rests = subst (λ (c : Course (Completed P) (World P)). EndsWith (NoneDone cmp order) c) acted
           (act_rests v call ends.1) in
           let next : Behind (Small act_small.0 act_small.1 u) u act_small.0 act_small.1 =
           record { within = act_small.2; rests = rests; count = 0; ticks = no_tick; at = omega arith } in
-          let others : Answers cmp (Small act_small.0 act_small.1 u) (kept_calls inside calls)
-          (kept_completions inside calls css)
-          × NothingElse inside calls css
-          = ih (Small act_small.0 act_small.1 u) act_small.0 act_small.1 next in
+          let others = ih (Small act_small.0 act_small.1 u) act_small.0 act_small.1 next in
           (call_answers (same_moment call ∙ is_now) (omega arith) run others.0, (tt, others.1))
       by_call false dropped ds v es ticked acted join ih =
           let later : w.moment ≤ now = turn_later cmp order w call now is_now turn in
-          let ends : (v.moment ≡ w.moment + (now - w.moment)) × NoneDone cmp order v =
-          ticks_end cmp order runs.ticks ds v ticked b.rests in
+          let ends = ticks_end cmp order runs.ticks ds v ticked b.rests in
           let low : now ≤ last_moment = in_time.0 now is_now in
           let empty : ds ≡ [] = no_event later (first_event cmp order runs.ticks ds v ticked (omega arith)) in
-          let small : (l : P → P → Option ℕ) × (i : ℕ) × Within l i v
-          × Ticks cmp (now - w.moment) (Small last id w)
-          (goes (filter (λ (c : Completed P). inside c.origin) ds) (Small l i v)) =
-          ticks_part cmp order inside alike Whole shares runs.ticks ds v last id ticked b.within in
-          let all : Ticks cmp ((now - w.moment) + b.count) s
-          (goes (filter (λ (c : Completed P). inside c.origin) ds) (Small small.0 small.1 v))
-          = ticks_on cmp b.ticks (now - w.moment) (Small last id w) []
+          let small = ticks_part cmp order inside alike Whole shares runs.ticks ds v last id ticked b.within in
+          let all = ticks_on cmp b.ticks (now - w.moment) (Small last id w) []
           (goes (filter (λ (c : Completed P). inside c.origin) ds) (Small small.0 small.1 v)) refl small.3 in
-          let act_small : Of (goes es u) (goes [] (Small small.0 small.1 v))
-          = subst (λ (c : Course (Completed P) (World P)). Of c (goes [] (Small small.0 small.1 v))) acted
+          let act_small = subst (λ (c : Course (Completed P) (World P)). Of c (goes [] (Small small.0 small.1 v))) acted
           (act_other v call small.0 small.1 small.2 ends.1 apart.0 dropped) in
-          let same : goes [] (Small small.0 small.1 v)
-          ≡ goes (filter (λ (c : Completed P). inside c.origin) es) (Small act_small.0 act_small.1 u) =
-          act_small.3 in
+          let same = act_small.3 in
           let world_same : Small small.0 small.1 v ≡ Small act_small.0 act_small.1 u = cc in
           let none_of_it : filter (λ (c : Completed P). inside c.origin) es ≡ [] = cc in
-          let quiet : filter (λ (c : Completed P). inside c.origin) cs ≡ []
-          = ap (filter (λ (c : Completed P). inside c.origin))
-          (sym join ∙ ap (λ (xs : List (Completed P)). xs ++ es) empty)
-          ∙ none_of_it in
-          let waited : Ticks cmp ((now - w.moment) + b.count) s (goes [] (Small act_small.0 act_small.1 u)) =
-          subst (λ (z : World P). Ticks cmp ((now - w.moment) + b.count) s (goes [] z)) world_same
-          (subst
+          let quiet = ap (filter (λ (c : Completed P). inside c.origin))
+          (sym join ∙ ap (λ (xs : List (Completed P)). xs ++ es) empty) ∙ none_of_it in
+          let waited = subst (λ (z : World P). Ticks cmp ((now - w.moment) + b.count) s (goes [] z)) world_same (subst
           (λ (xs : List (Completed P)). Ticks cmp ((now - w.moment) + b.count) s
-          (goes (filter (λ (c : Completed P). inside c.origin) xs) (Small small.0 small.1 v)))
-          empty all) in
-          let rests : NoneDone cmp order u =
-          subst (λ (c : Course (Completed P) (World P)). EndsWith (NoneDone cmp order) c) acted
+          (goes (filter (λ (c : Completed P). inside c.origin) xs) (Small small.0 small.1 v))) empty all) in
+          let rests = subst (λ (c : Course (Completed P) (World P)). EndsWith (NoneDone cmp order) c) acted
           (act_rests v call ends.1) in
           let behind : w.moment ≡ s.moment + b.count = b.at in
           let there : v.moment ≡ now = let first : v.moment ≡ w.moment + (now - w.moment) = ends.0 in omega arith in
-          let at : u.moment ≡ now =
-          subst (λ (c : Course (Completed P) (World P)). EndsWith (λ y. y.moment ≡ now) c) acted
+          let at = subst (λ (c : Course (Completed P) (World P)). EndsWith (λ y. y.moment ≡ now) c) acted
           (act_moment v call now there) in
           let next : Behind s u act_small.0 act_small.1 =
           record {
@@ -569,9 +466,7 @@ module _ {P : Type 0} (cmp : P → P → Ordering) (order : IsTotalOrder cmp) (i
             ticks = waited;
             at = omega arith;
           } in
-          let others : Answers cmp s (kept_calls inside calls) (kept_completions inside calls css)
-          × NothingElse inside calls css =
-          ih s act_small.0 act_small.1 next in
+          let others = ih s act_small.0 act_small.1 next in
           (others.0, (quiet, others.1))
         where
           no_event : w.moment ≤ now → (ds ≡ []) ⊎ ((t : ℕ) × (t ≤ w.moment + (now - w.moment)) × NextIs cmp w (Some t))
@@ -585,20 +480,7 @@ module _ {P : Type 0} (cmp : P → P → Ordering) (order : IsTotalOrder cmp) (i
       → ((m : Message P) → Contains ms m → inside m.origin ≡ inside m.recipient) → AreFair cmp caps ms per rates
       → AreFair cmp caps (filter (λ (m : Message P). inside m.origin) ms) per
       (flagged (map (λ (m : Message P). inside m.origin) ms) rates)
-  fair_alone caps ms per rates whole fair =
-      fair_part cmp caps mine ms per rates
-      (λ k m n has_m has_n uses. by_kind k m n (whole m (contains_from_in ms m has_m))
-      (whole n (contains_from_in ms n has_n)) uses)
-      fair
-    where
-      by_kind : (k : Kind) (m n : Message P) → Whole m → Whole n → uses_at cmp caps k m n ≡ true → mine m ≡ mine n
-      by_kind at_egress m n a b uses = together m.origin n.origin uses
-      by_kind at_ingress m n a b uses =
-          a
-          ∙ together m.recipient n.recipient
-          (and_parts (is_delivered cmp n) (same_peer cmp m.recipient n.recipient) uses).1
-          ∙ sym b
-      by_kind at_link m n a b uses = alike m n uses
+  fair_alone caps ms per rates whole fair = search (rules, fair_part, contains_from_in, and_parts, alike)
 
   -- from a new world, the set's completions are those of the calls without the messages of others
   pub isolation : (id : ℕ) (calls : List (Call P)) (css : List (List (Completed P)))

@@ -1,19 +1,12 @@
 -- As time goes by, the part of a world that is a set's messages goes its own way.
-use Rattle.std.proofs.Common.{◌≡◌, ℕ, suc, ◌+◌, List, [], ◌∷◌, ◌++◌, map, length, Bool, true, false, cond, Option, refl}
-use Rattle.std.proofs.Common.{sym, ap, ◌∙◌, subst, arith}
-use Rattle.std.specs.List.{filter}
-use Rattle.std.specs.declared.cmp.Ordering.{Ordering}
-use Rattle.std.specs.Cmp.{IsTotalOrder}
-use Rattle.std.proofs.lemmas.List.Elements.{filter-append}
-use Rattle.link_simulation.specs.Simulation.World.{Completed, Course, Flight, World, flows, goes, instant}
-use Rattle.link_simulation.specs.Simulation.Messages.{Message, same_pair}
-use Rattle.link_simulation.specs.Simulation.Rates.{AreFair, Parts, drained_by, rate_of}
-use Rattle.link_simulation.specs.Simulation.Time.{Drains, Ticks, drain_each, no_tick, one_tick, tick_faults}
-use Rattle.fair_rates.proofs.Lists.Each.{Each}
+use Rattle.link_simulation.proofs.Common.{◌≡◌, ℕ, suc, ◌+◌, List, [], ◌∷◌, ◌++◌, map, length, Bool, true, Option, refl}
+use Rattle.link_simulation.proofs.Common.{sym, ap, ◌∙◌, subst, arith, filter, Ordering, IsTotalOrder, filter-append}
+use Rattle.link_simulation.proofs.Common.{Completed, Course, Flight, World, flows, goes, instant, Message, same_pair}
+use Rattle.link_simulation.proofs.Common.{AreFair, Parts, Drains, Ticks, drain_each, no_tick, one_tick, tick_faults}
+use Rattle.link_simulation.proofs.Common.{Each, flagged}
 use Rattle.link_simulation.proofs.Laws.PartRates.{SharesNoSide, fair_part}
 use Rattle.link_simulation.proofs.Simulation.Split.{rest_is}
 use Rattle.link_simulation.proofs.Simulation.Rates.{one_each}
-use Rattle.fair_rates.specs.Fairness.Part.{flagged}
 use Rattle.link_simulation.proofs.Laws.Isolation.{part, IsPart, IsPartOf, part_alike, instant_part}
 
 module _ {P : Type 0} (cmp : P → P → Ordering) (order : IsTotalOrder cmp) (inside : P → Bool)
@@ -37,13 +30,7 @@ module _ {P : Type 0} (cmp : P → P → Ordering) (order : IsTotalOrder cmp) (i
 
   map_kept : (fs : List (Flight P)) → messages (filter flying fs) ≡ filter mine (messages fs)
   map_kept [] = refl
-  map_kept (f ∷ fs) = by_test (mine f.message) (map_kept fs)
-    where
-      by_test : (b : Bool) → messages (filter flying fs) ≡ filter mine (messages fs)
-          → messages (cond b (f ∷ filter flying fs) (filter flying fs))
-          ≡ cond b (f.message ∷ filter mine (messages fs)) (filter mine (messages fs))
-      by_test true ih = ap (λ (ms : List (Message P)). f.message ∷ ms) ih
-      by_test false ih = ih
+  map_kept (f ∷ fs) = grind (arith, (map_kept fs))
 
   each_message : (fs : List (Flight P)) → Each (λ (f : Flight P). T f.message) fs → Each T (messages fs)
   each_message [] e = tt
@@ -51,11 +38,7 @@ module _ {P : Type 0} (cmp : P → P → Ordering) (order : IsTotalOrder cmp) (i
 
   each_drained : (per : ℕ) (rates : Parts) (n : ℕ) (fs : List (Flight P)) → Each (λ (f : Flight P). T f.message) fs
       → Each (λ (f : Flight P). T f.message) (drain_each per rates n fs)
-  each_drained per rates n [] e = nothing rates
-    where
-      nothing : (rates : Parts) → Each (λ (f : Flight P). T f.message) (drain_each {P = P} per rates n [])
-      nothing [] = tt
-      nothing (r ∷ rs) = tt
+  each_drained per rates n [] e = grind arith
   each_drained per [] n (f ∷ fs) e = e
   each_drained per (r ∷ rs) n (f ∷ fs) e = (e.0, each_drained per rs n fs e.1)
 
@@ -65,32 +48,14 @@ module _ {P : Type 0} (cmp : P → P → Ordering) (order : IsTotalOrder cmp) (i
   drain_kept per [] n [] e = refl
   drain_kept per (r ∷ rs) n [] e = absurd (omega arith)
   drain_kept per [] n (f ∷ fs) e = absurd (omega arith)
-  drain_kept per (r ∷ rs) n (f ∷ fs) e = by_test (mine f.message) (drain_kept per rs n fs (omega arith))
-    where
-      after : Flight P
-      after = record { message = f.message; left = drained_by (rate_of per r) n f.left }
-
-      by_test : (b : Bool)
-          → filter flying (drain_each per rs n fs)
-          ≡ drain_each per (flagged (map mine (messages fs)) rs) n (filter flying fs)
-          → cond b
-          (record { message = f.message; left = drained_by (rate_of per r) n f.left }
-          ∷ filter flying (drain_each per rs n fs))
-          (filter flying (drain_each per rs n fs))
-          ≡ drain_each per (cond b (r ∷ flagged (map mine (messages fs)) rs) (flagged (map mine (messages fs)) rs)) n
-          (cond b (f ∷ filter flying fs) (filter flying fs))
-      by_test true ih =
-          ap (λ (gs : List (Flight P)). record { message = f.message; left = drained_by (rate_of per r) n f.left } ∷ gs)
-          ih
-      by_test false ih = ih
+  drain_kept per (r ∷ rs) n (f ∷ fs) e = grind (arith, (drain_kept per rs n fs))
 
   -- a nanosecond of the world is one of its part
   pub drain_part : (w v : World P) (last : P → P → Option ℕ) (id : ℕ) → Within last id w → Drains cmp w v
       → Within last id v × Drains cmp (Small last id w) (Small last id v)
   drain_part w v last id is d =
       let u : World P = record w { sending = drain_each d.per d.rates 1 w.sending; moment = w.moment + 1 } in
-      let as_many : length d.rates ≡ length w.sending =
-      one_each cmp w.caps (flows w) d.per d.rates d.fair ∙ length_messages w.sending in
+      let as_many = one_each cmp w.caps (flows w) d.per d.rates d.fair ∙ length_messages w.sending in
       let fair : AreFair cmp w.caps (filter mine (flows w)) d.per (flagged (map mine (flows w)) d.rates)
       = fair_part cmp w.caps mine (flows w) d.per d.rates (shares w (each_message w.sending is.sending)) d.fair in
       let drains : Drains cmp (Small last id w) (Small last id u) = record {
@@ -138,20 +103,12 @@ module _ {P : Type 0} (cmp : P → P → Ordering) (order : IsTotalOrder cmp) (i
   ticks_part {w = w} (one_tick {n = n} {v = z} {u = u} {cs = ds} {rest = rest} d i t) cs v last id e is =
       let r : (es : List (Completed P)) × (rest ≡ goes es v) × (ds ++ es ≡ cs) = rest_is cmp ds rest cs v e in
       let drained : Within last id z × Drains cmp (Small last id w) (Small last id z) = drain_part w z last id is d in
-      let now : IsPartOf cmp order inside alike T (instant cmp z) (instant cmp (Small last id z)) =
-      instant_part cmp order inside alike T z last id drained.0 in
+      let now = instant_part cmp order inside alike T z last id drained.0 in
       let landed : IsPartOf cmp order inside alike T (goes ds u) (instant cmp (Small last id z))
-      = subst
-      (λ (c : Course (Completed P) (World P)). IsPartOf cmp order inside alike T c (instant cmp (Small last id z)))
-      i now in
-      let later : (l : P → P → Option ℕ) × (j : ℕ) × Within l j v
-      × Ticks cmp n (Small landed.0 landed.1 u)
-      (goes (filter (λ (c : Completed P). inside c.origin) r.0) (Small l j v))
-      = ticks_part t r.0 v landed.0 landed.1 r.1 landed.2 in
+      = grind arith in
+      let later = ticks_part t r.0 v landed.0 landed.1 r.1 landed.2 in
       let both : filter (λ (c : Completed P). inside c.origin) ds ++ filter (λ (c : Completed P). inside c.origin) r.0
-      ≡ filter (λ (c : Completed P). inside c.origin) cs =
-      sym (filter-append (λ (c : Completed P). inside c.origin) ds r.0)
-      ∙ ap (filter (λ (c : Completed P). inside c.origin)) r.2 in (
+      ≡ filter (λ (c : Completed P). inside c.origin) cs = grind (arith, filter-append) in (
         later.0,
         later.1,
         later.2,

@@ -1,30 +1,25 @@
 -- The part of a world that is a set's messages goes its own way: what the others do does not touch it.
-use Rattle.std.proofs.Common.{◌≡◌, ℕ, zero, suc, ◌+◌, ◌<◌, ◌≤◌, List, [], ◌∷◌, ◌++◌, map, length, Bool, true, false}
-use Rattle.std.proofs.Common.{cond, Option, Some, None, refl, sym, ap, ◌∙◌, subst, arith, append-nil}
-use Rattle.std.specs.Prelude.{⊤, nat_le}
-use Rattle.std.specs.List.{filter, find, list_any}
-use Rattle.std.specs.declared.cmp.Ordering.{Ordering}
-use Rattle.std.specs.Cmp.{IsTotalOrder}
-use Rattle.std.proofs.lemmas.List.Elements.{filter-append}
+use Rattle.link_simulation.proofs.Common.{common_steps, ◌≡◌, ℕ, zero, suc, ◌+◌, ◌<◌, ◌≤◌, List, [], ◌∷◌, ◌++◌, length}
+use Rattle.link_simulation.proofs.Common.{Bool, true, false, cond, Option, Some, None, refl, sym, ap, ◌∙◌, subst, arith}
+use Rattle.link_simulation.proofs.Common.{append-nil, ⊤, nat_le, filter, find, Ordering, IsTotalOrder, filter-append}
+use Rattle.link_simulation.proofs.Common.{without_first, Completed, Course, Flight, World, and_then, complete}
+use Rattle.link_simulation.proofs.Common.{first_waiting, goes, instant, is_done, last_moment, least_pair, may_start}
+use Rattle.link_simulation.proofs.Common.{meets, preceded, raised, ready, settle, settle_within, start, start_next}
+use Rattle.link_simulation.proofs.Common.{wake, wake_within, EndsWith, out_of_flight, is_late, completed, arrival}
+use Rattle.link_simulation.proofs.Common.{flight_of, Message, same_pair, FlowIdsUsedUp, MomentTooLate, each_joined}
+use Rattle.link_simulation.proofs.Common.{Each, length-without_first}
 use Rattle.std.proofs.lemmas.Bool.{leb-false, lt-leb}
-use Rattle.fair_rates.specs.Lists.WithoutFirst.{without_first}
-use Rattle.link_simulation.specs.Simulation.World.{Completed, Course, Flight, World, and_then, complete, first_waiting}
-use Rattle.link_simulation.specs.Simulation.World.{fronts, goes, instant, is_done, last_moment, later_of, least_pair}
-use Rattle.link_simulation.specs.Simulation.World.{may_start, meets, preceded, raised, ready, settle, settle_within}
-use Rattle.link_simulation.specs.Simulation.World.{start, start_next, wake, wake_within, EndsWith, out_of_flight}
-use Rattle.link_simulation.specs.Simulation.World.{is_late, completed, arrival, flight_of}
-use Rattle.link_simulation.specs.Simulation.Messages.{Message, same_pair}
-use Rattle.fair_rates.specs.declared.error.Error.TheVariants.{FlowIdsUsedUp, MomentTooLate}
 use Rattle.link_simulation.proofs.Simulation.Queue.{settle_none, settle_first, find_passes, preceded_none}
 use Rattle.link_simulation.proofs.Simulation.SettlingEnds.{ends_preceded, ends_and_then, ends_cond, length_without}
 use Rattle.link_simulation.proofs.Simulation.SettlingEnds.{find_in_none, find_like, HasAtMost, complete_has, NoneDone}
 use Rattle.link_simulation.proofs.Simulation.SettlingEnds.{settle_rests}
+use Rattle.link_simulation.proofs.Simulation.Pass.{wake_none as wake_nothing}
 use Rattle.link_simulation.proofs.Laws.Bytes.{wake_none, wake_first, ready_is_first}
 use Rattle.link_simulation.proofs.Simulation.FilteredFronts.{first_kept, first_dropped, none_kept, find_kept, any_kept}
 use Rattle.link_simulation.proofs.Simulation.FilteredFronts.{filter_swap, fronts_kept, least_kept}
 use Rattle.link_simulation.proofs.Simulation.PairOrder.{least_none}
-use Rattle.fair_rates.proofs.Lists.Each.{each_find, each_without, each_joined, Each}
-use Rattle.fair_rates.proofs.Lists.Filters.{length-without_first, none_long}
+use Rattle.fair_rates.proofs.Lists.Each.{each_find, each_without}
+use Rattle.fair_rates.proofs.Lists.Filters.{none_long}
 use Rattle.link_simulation.proofs.Simulation.QuietInstants.{settle_nothing}
 
 module _ {P : Type 0} (cmp : P → P → Ordering) (order : IsTotalOrder cmp) (inside : P → Bool)
@@ -68,14 +63,7 @@ module _ {P : Type 0} (cmp : P → P → Ordering) (order : IsTotalOrder cmp) (i
 
   pub part_preceded : (cs : List (Completed P)) (c d : Course (Completed P) (World P)) → IsPartOf c d
       → IsPartOf (preceded cs c) (preceded (filter in_done cs) d)
-  part_preceded cs (goes ds u) d (last, id, is, e) = (
-    last,
-    id,
-    is,
-    ap (preceded (filter in_done cs)) e
-        ∙ goes_alike (filter in_done cs ++ filter in_done ds) (filter in_done (cs ++ ds)) (part last id u)
-        (part last id u) (sym (filter-append in_done cs ds)) refl,
-  )
+  part_preceded cs (goes ds u) d (last, id, is, e) = grind (arith, goes_alike, filter-append)
   part_preceded cs (meets fault) d h = tt
 
   pub part_then : (R S : World P → Type 0) (c d : Course (Completed P) (World P))
@@ -84,10 +72,7 @@ module _ {P : Type 0} (cmp : P → P → Ordering) (order : IsTotalOrder cmp) (i
       → ((u : World P) (last : P → P → Option ℕ) (id : ℕ) → IsPart last id u → R u → S (part last id u)
       → IsPartOf (k u) (l (part last id u)))
       → IsPartOf (and_then c k) (and_then d l)
-  part_then R S (goes cs u) d k l (last, id, is, e) r s next =
-      let t : S (part last id u) = subst (λ (z : Course (Completed P) (World P)). EndsWith S z) e s in
-      subst (λ (z : Course (Completed P) (World P)). IsPartOf (preceded cs (k u)) (and_then z l)) (sym e)
-      (part_preceded cs (k u) (l (part last id u)) (next u last id is r t))
+  part_then R S (goes cs u) d k l (last, id, is, e) r s next = grind (arith, part_preceded)
   part_then R S (meets fault) d k l h r s next = tt
 
   -- ---- a start
@@ -112,14 +97,7 @@ module _ {P : Type 0} (cmp : P → P → Ordering) (order : IsTotalOrder cmp) (i
 
   started_is : (last : P → P → Option ℕ) (id j : ℕ) (w : World P) (m : Message P) → IsPart last id w
       → find (same_pair cmp m) w.waiting ≡ Some m → j ≤ w.next_id + 1 → IsPart last j (started w m)
-  started_is last id j w m is first le = record {
-    arrivals = is.arrivals;
-    ids = le;
-    sending =
-        each_joined (λ (f : Flight P). T f.message) w.sending (flight_of m) is.sending
-        (each_find T (same_pair cmp m) w.waiting m is.waiting first);
-    waiting = each_without T (same_pair cmp m) w.waiting is.waiting;
-  }
+  started_is last id j w m is first le = grind (arith, each_joined, each_find, each_without)
 
   start_mine : (w : World P) (m : Message P) (last : P → P → Option ℕ) (id : ℕ) → IsPart last id w
       → find (same_pair cmp m) w.waiting ≡ Some m → mine m ≡ true
@@ -133,12 +111,8 @@ module _ {P : Type 0} (cmp : P → P → Ordering) (order : IsTotalOrder cmp) (i
           let free : w.next_id < last_moment = leb-false last_moment w.next_id e in
           let least : id ≤ w.next_id = is.ids in
           let low : nat_le last_moment id ≡ false = lt-leb last_moment id (omega arith) in
-          let sending : filter in_flight w.sending ++ flight_of m ∷ []
-          ≡ filter in_flight (w.sending ++ flight_of m ∷ []) =
-          sym (joined_part w.sending m true own) in
-          let waiting : without_first (same_pair cmp m) (filter mine w.waiting)
-          ≡ filter mine (without_first (same_pair cmp m) w.waiting)
-          = sym (first_kept mine (same_pair cmp m) w.waiting m first own).1 in (
+          let sending = sym (joined_part w.sending m true own) in
+          let waiting = sym (first_kept mine (same_pair cmp m) w.waiting m first own).1 in (
             last,
             id + 1,
             started_is last id (id + 1) w m is first (omega arith),
@@ -153,11 +127,8 @@ module _ {P : Type 0} (cmp : P → P → Ordering) (order : IsTotalOrder cmp) (i
       by_id : (b : Bool) → IsPartOf (cond b (meets FlowIdsUsedUp) (goes [] (started w m))) (goes [] (part last id w))
       by_id true = tt
       by_id false =
-          let least : id ≤ w.next_id = is.ids in
-          let sending : filter in_flight w.sending ≡ filter in_flight (w.sending ++ flight_of m ∷ []) =
-          sym (joined_part w.sending m false off ∙ append-nil (filter in_flight w.sending)) in
-          let waiting : filter mine w.waiting ≡ filter mine (without_first (same_pair cmp m) w.waiting) =
-          sym (first_dropped mine (same_pair cmp m) w.waiting m first off) in (
+          let sending = sym (joined_part w.sending m false off ∙ append-nil (filter in_flight w.sending)) in
+          let waiting = sym (first_dropped mine (same_pair cmp m) w.waiting m first off) in (
             last,
             id,
             started_is last id id w m is first (omega arith),
@@ -166,13 +137,7 @@ module _ {P : Type 0} (cmp : P → P → Ordering) (order : IsTotalOrder cmp) (i
 
   may_start_same : (t : ℕ) (w : World P) (m : Message P) (last : P → P → Option ℕ) (id : ℕ) → IsPart last id w
       → mine m ≡ true → may_start cmp t (part last id w) m ≡ may_start cmp t w m
-  may_start_same t w m last id is own =
-      let idle : list_any (same_pair cmp m) (map (λ (f : Flight P). f.message) (filter in_flight w.sending))
-      ≡ list_any (same_pair cmp m) (map (λ (f : Flight P). f.message) w.sending) =
-      any_kept (λ (f : Flight P). f.message) in_flight (same_pair cmp m) w.sending
-      (λ f s. sym (alike m f.message s) ∙ own) in
-      let same : last m.origin m.recipient ≡ w.last_arrival m.origin m.recipient = is.arrivals m own in
-      rw (idle, same) refl
+  may_start_same t w m last id is own = grind (arith, any_kept)
 
   pub start_next_mine : (t : ℕ) (w : World P) (m : Message P) (o : Option (Message P)) (last : P → P → Option ℕ)
       (id : ℕ)
@@ -180,16 +145,10 @@ module _ {P : Type 0} (cmp : P → P → Ordering) (order : IsTotalOrder cmp) (i
       → find (same_pair cmp m) w.waiting ≡ o → IsPartOf (start_next cmp t w o) (start_next cmp t (part last id w) o)
   start_next_mine t w m None last id is own e = (last, id, is, refl)
   start_next_mine t w m (Some x) last id is own e =
-      let same : same_pair cmp m x ≡ true = find_passes (same_pair cmp m) x w.waiting e in
-      let own_x : mine x ≡ true = sym (alike m x same) ∙ own in
-      let first : find (same_pair cmp x) w.waiting ≡ Some x = find_like cmp order m x w.waiting same ∙ e in
-      rw (may_start_same t w x last id is own_x) (by_may (may_start cmp t w x) (start_mine w x last id is first own_x))
-    where
-      by_may : (b : Bool) → IsPartOf (start cmp w x) (start cmp (part last id w) x)
-          → IsPartOf (cond b (start cmp w x) (goes [] w))
-          (cond b (start cmp (part last id w) x) (goes [] (part last id w)))
-      by_may true h = h
-      by_may false h = (last, id, is, refl)
+      grind (arith, common_steps, start,
+      (may_start_same t w x last id is (sym (alike m x (find_passes (same_pair cmp m) x w.waiting e)) ∙ own)),
+      (start_mine w x last id is (find_like cmp order m x w.waiting (find_passes (same_pair cmp m) x w.waiting e) ∙ e)
+      (sym (alike m x (find_passes (same_pair cmp m) x w.waiting e)) ∙ own)))
 
   pub start_next_other : (t : ℕ) (w : World P) (m : Message P) (o : Option (Message P)) (last : P → P → Option ℕ)
       (id : ℕ)
@@ -216,13 +175,7 @@ module _ {P : Type 0} (cmp : P → P → Ordering) (order : IsTotalOrder cmp) (i
 
   pub raised_other : (m n : Message P) (at : ℕ) (last : P → P → Option ℕ) → mine m ≡ false → mine n ≡ true
       → raised cmp last m at n.origin n.recipient ≡ last n.origin n.recipient
-  raised_other m n at last off own = by_pair (same_pair cmp m n) refl
-    where
-      by_pair : (b : Bool) → same_pair cmp m n ≡ b
-          → cond b (Some (later_of (last n.origin n.recipient) at)) (last n.origin n.recipient)
-          ≡ last n.origin n.recipient
-      by_pair true e = let same : mine m ≡ mine n = alike m n e in cc
-      by_pair false e = refl
+  raised_other m n at last off own = grind arith
 
   complete_mine : (t : ℕ) (w : World P) (f : Flight P) (last : P → P → Option ℕ) (id : ℕ) → IsPart last id w
       → find (is_done cmp w) w.sending ≡ Some f → mine f.message ≡ true
@@ -338,9 +291,7 @@ module _ {P : Type 0} (cmp : P → P → Ordering) (order : IsTotalOrder cmp) (i
   pub settle_part : (n k t : ℕ) (w : World P) (last : P → P → Option ℕ) (id : ℕ) → IsPart last id w
       → HasAtMost cmp order n w → HasAtMost cmp order k (part last id w)
       → IsPartOf (settle_within cmp n t w) (settle_within cmp k t (part last id w))
-  settle_part zero k t w last id is most few =
-      let none : find (is_done cmp w) w.sending ≡ None = find_in_none (is_done cmp w) w.sending (omega arith) in
-      (last, id, is, settle_nothing cmp order k t (part last id w) (none_kept in_flight (is_done cmp w) w.sending none))
+  settle_part zero k t w last id is most few = grind (arith, find_in_none, settle_nothing, none_kept)
   settle_part (suc n) k t w last id is most few =
       by_first (find (is_done cmp w) w.sending) refl (λ j u l i g h m. settle_part n j t u l i g h m)
     where
@@ -354,8 +305,7 @@ module _ {P : Type 0} (cmp : P → P → Ordering) (order : IsTotalOrder cmp) (i
       by_mine f e own zero few ih =
           let found : find (is_done cmp w) (filter in_flight w.sending) ≡ Some f =
           (first_kept in_flight (is_done cmp w) w.sending f e own).0 in
-          let some : 0 < length (filter in_flight w.sending) =
-          some_element (is_done cmp w) f (filter in_flight w.sending) found in
+          let some = some_element (is_done cmp w) f (filter in_flight w.sending) found in
           absurd (omega arith)
       by_mine f e own (suc j) few ih =
           let found : find (is_done cmp w) (filter in_flight w.sending) ≡ Some f =
@@ -399,14 +349,7 @@ module _ {P : Type 0} (cmp : P → P → Ordering) (order : IsTotalOrder cmp) (i
           → HasAtMost cmp order j (part l i u)
           → IsPartOf (settle_within cmp n t u) (settle_within cmp j t (part l i u)))
           → IsPartOf (settle_within cmp (suc n) t w) (settle_within cmp k t (part last id w))
-      by_first None e ih =
-          subst (λ (c : Course (Completed P) (World P)). IsPartOf c (settle_within cmp k t (part last id w)))
-          (sym (settle_none cmp order n t w e)) (
-            last,
-            id,
-            is,
-            settle_nothing cmp order k t (part last id w) (none_kept in_flight (is_done cmp w) w.sending e),
-          )
+      by_first None e ih = grind (arith, settle_none, settle_nothing, none_kept)
       by_first (Some f) e ih =
           subst (λ (c : Course (Completed P) (World P)). IsPartOf c (settle_within cmp k t (part last id w)))
           (sym (settle_first cmp order n t w f e)) (by_owner (mine f.message) f e refl ih)
@@ -418,33 +361,16 @@ module _ {P : Type 0} (cmp : P → P → Ordering) (order : IsTotalOrder cmp) (i
 
   start_waits : (k : ℕ) (w : World P) (m : Message P) → find (same_pair cmp m) w.waiting ≡ Some m
       → WaitsAtMost (suc k) w → EndsWith (WaitsAtMost k) (start cmp w m)
-  start_waits k w m first h =
-      let fewer : length (without_first (same_pair cmp m) w.waiting) + 1 ≡ length w.waiting =
-      length_without (same_pair cmp m) m w.waiting first in
-      ends_cond (WaitsAtMost k) (nat_le last_moment w.next_id) (meets FlowIdsUsedUp) (goes [] (started w m)) tt
-      (omega arith)
+  start_waits k w m first h = grind (arith, length_without, ends_cond, started)
 
   start_next_waits : (k t : ℕ) (w : World P) (o : Option (Message P)) → WaitsAtMost k w
       → EndsWith (WaitsAtMost k) (start_next cmp t w o)
   start_next_waits k t w None h = h
-  start_next_waits k t w (Some m) h =
-      let fewer : length (without_first (same_pair cmp m) w.waiting) ≤ length w.waiting =
-      length-without_first (same_pair cmp m) w.waiting in
-      ends_cond (WaitsAtMost k) (may_start cmp t w m) (start cmp w m) (goes [] w)
-      (ends_cond (WaitsAtMost k) (nat_le last_moment w.next_id) (meets FlowIdsUsedUp) (goes [] (started w m)) tt
-      (omega arith))
-      h
+  start_next_waits k t w (Some m) h = grind (arith, length-without_first, ends_cond, start, started)
 
   complete_waits : (k t : ℕ) (w : World P) (m : Message P) → WaitsAtMost k w
       → EndsWith (WaitsAtMost k) (complete cmp t w m)
-  complete_waits k t w m h =
-      ends_cond (WaitsAtMost k) (is_late cmp t m) (meets MomentTooLate)
-      (preceded (completed cmp t m ∷ [])
-      (start_next cmp t (out_of_flight cmp t w m) (first_waiting cmp (out_of_flight cmp t w m) m)))
-      tt
-      (ends_preceded (WaitsAtMost k) (completed cmp t m ∷ [])
-      (start_next cmp t (out_of_flight cmp t w m) (first_waiting cmp (out_of_flight cmp t w m) m))
-      (start_next_waits k t (out_of_flight cmp t w m) (first_waiting cmp (out_of_flight cmp t w m) m) h))
+  complete_waits k t w m h = search (ends_cond, ends_preceded, start_next_waits)
 
   settle_waits : (n k t : ℕ) (w : World P) → WaitsAtMost k w → EndsWith (WaitsAtMost k) (settle_within cmp n t w)
   settle_waits zero k t w h = h
@@ -471,15 +397,7 @@ module _ {P : Type 0} (cmp : P → P → Ordering) (order : IsTotalOrder cmp) (i
 
   ready_part : (t : ℕ) (w : World P) (last : P → P → Option ℕ) (id : ℕ) → IsPart last id w
       → ready cmp t (part last id w) ≡ filter mine (ready cmp t w)
-  ready_part t w last id is =
-      ap (λ (ms : List (Message P)). filter (may_start cmp t (part last id w)) ms)
-      (fronts_kept cmp order mine alike w.waiting)
-      ∙ filter_swap mine (may_start cmp t (part last id w)) (may_start cmp t w) (fronts cmp w.waiting)
-      (λ m own. may_start_same t w m last id is own)
-
-  wake_nothing : (k t : ℕ) (v : World P) → ready cmp t v ≡ [] → wake_within cmp k t v ≡ goes [] v
-  wake_nothing zero t v e = refl
-  wake_nothing (suc k) t v e = wake_none cmp order k t v (ap (least_pair cmp) e)
+  ready_part t w last id is = search (fronts_kept, filter_swap, may_start_same)
 
   abbrev GoesByRule : ℕ → ℕ → Type 0
   GoesByRule n t =
@@ -503,10 +421,7 @@ module _ {P : Type 0} (cmp : P → P → Ordering) (order : IsTotalOrder cmp) (i
       (λ v l i part_v r s. ih k v l i part_v r.1 r.0 s)
 
   pub wake_part : (n t : ℕ) → GoesByRule n t
-  wake_part zero t k w last id is rests most few =
-      let none : ready cmp t w ≡ [] =
-      ap (λ (ms : List (Message P)). filter (may_start cmp t w) (fronts cmp ms)) (none_long w.waiting most) in
-      (last, id, is, wake_nothing k t (part last id w) (ready_part t w last id is ∙ ap (filter mine) none))
+  wake_part zero t k w last id is rests most few = grind (arith, none_long, wake_nothing, ready_part)
   wake_part (suc n) t k w last id is rests most few = by_least (least_pair cmp (ready cmp t w)) refl (wake_part n t)
     where
       by_mine : (m : Message P) → least_pair cmp (ready cmp t w) ≡ Some m → mine m ≡ true → (k : ℕ)
@@ -516,16 +431,14 @@ module _ {P : Type 0} (cmp : P → P → Ordering) (order : IsTotalOrder cmp) (i
       by_mine m e own zero few ih =
           let least : least_pair cmp (ready cmp t (part last id w)) ≡ Some m =
           ap (least_pair cmp) (ready_part t w last id is) ∙ least_kept cmp order mine (ready cmp t w) m e own in
-          let some : 0 < length (filter mine w.waiting) =
-          some_element (same_pair cmp m) m (filter mine w.waiting)
+          let some = some_element (same_pair cmp m) m (filter mine w.waiting)
           (ready_is_first cmp order t (part last id w) m least) in
           absurd (omega arith)
       by_mine m e own (suc j) few ih =
           let least : least_pair cmp (ready cmp t (part last id w)) ≡ Some m =
           ap (least_pair cmp) (ready_part t w last id is) ∙ least_kept cmp order mine (ready cmp t w) m e own in
           let first : find (same_pair cmp m) w.waiting ≡ Some m = ready_is_first cmp order t w m e in
-          let first_here : find (same_pair cmp m) (filter mine w.waiting) ≡ Some m =
-          ready_is_first cmp order t (part last id w) m least in
+          let first_here = ready_is_first cmp order t (part last id w) m least in
           subst
           (λ (c : Course (Completed P) (World P)). IsPartOf
           (and_then (start cmp w m) (λ v. and_then (settle cmp t v) (wake_within cmp n t))) c)
@@ -543,15 +456,11 @@ module _ {P : Type 0} (cmp : P → P → Ordering) (order : IsTotalOrder cmp) (i
       by_other m e off ih =
           let first : find (same_pair cmp m) w.waiting ≡ Some m = ready_is_first cmp order t w m e in
           let small : World P = part last id w in
-          let rests_here : find (is_done cmp w) (filter in_flight w.sending) ≡ None =
-          none_kept in_flight (is_done cmp w) w.sending rests in
-          let still : settle cmp t small ≡ goes [] small =
-          settle_nothing cmp order (length small.sending + length small.waiting) t small rests_here in
-          let same : and_then (goes [] small) (λ v. and_then (settle cmp t v) (wake_within cmp k t))
-          ≡ wake_within cmp k t small =
-          preceded_none (and_then (settle cmp t small) (wake_within cmp k t))
-          ∙ ap (λ (c : Course (Completed P) (World P)). and_then c (wake_within cmp k t)) still
-          ∙ preceded_none (wake_within cmp k t small) in
+          let rests_here = none_kept in_flight (is_done cmp w) w.sending rests in
+          let still = settle_nothing cmp order (length small.sending + length small.waiting) t small rests_here in
+          let same = preceded_none (and_then (settle cmp t small) (wake_within cmp k t)) ∙ ap
+          (λ (c : Course (Completed P) (World P)). and_then c (wake_within cmp k t)) still ∙ preceded_none
+          (wake_within cmp k t small) in
           subst
           (λ (c : Course (Completed P) (World P)). IsPartOf
           (and_then (start cmp w m) (λ v. and_then (settle cmp t v) (wake_within cmp n t))) c)
@@ -570,11 +479,7 @@ module _ {P : Type 0} (cmp : P → P → Ordering) (order : IsTotalOrder cmp) (i
 
       by_least : (o : Option (Message P)) → least_pair cmp (ready cmp t w) ≡ o → GoesByRule n t
           → IsPartOf (wake_within cmp (suc n) t w) (wake_within cmp k t (part last id w))
-      by_least None e ih =
-          let none : ready cmp t w ≡ [] = least_none cmp order (ready cmp t w) e in
-          subst (λ (c : Course (Completed P) (World P)). IsPartOf c (wake_within cmp k t (part last id w)))
-          (sym (wake_none cmp order n t w e))
-          (last, id, is, wake_nothing k t (part last id w) (ready_part t w last id is ∙ ap (filter mine) none))
+      by_least None e ih = grind (arith, least_none, wake_none, wake_nothing, ready_part)
       by_least (Some m) e ih =
           subst (λ (c : Course (Completed P) (World P)). IsPartOf c (wake_within cmp k t (part last id w)))
           (sym (wake_first cmp order n t w m e)) (by_owner (mine m) m e refl ih)

@@ -1,17 +1,13 @@
 -- Replies that agree with the simulation, to calls in turn, are what the calls that were made answer there.
-use Rattle.std.proofs.Common.{◌≡◌, ℕ, ◌<◌, ◌≤◌, List, [], ◌∷◌, Some, zero, suc, refl, sym, ap, ◌∙◌, subst, arith}
-use Rattle.std.specs.Prelude.{IfSome, take}
-use Rattle.std.specs.List.{AllZip}
-use Rattle.std.specs.declared.cmp.Ordering.{Ordering}
-use Rattle.std.specs.Cmp.{IsTotalOrder}
-use Rattle.link_simulation.specs.Simulation.World.{World, new_world, Completed, goes, IsQuiet}
-use Rattle.link_simulation.specs.Simulation.Calls.{Call, call_limit, call_limit_link, call_enqueue, call_advance}
-use Rattle.link_simulation.specs.Simulation.Calls.{call_enqueue_all, call_next, moment_of, Runs, IsBeforeNext, IsInTurn}
-use Rattle.link_simulation.specs.Simulation.Replies.{Reply, reply_done, reply_next, reply_refused, SameCompletion}
-use Rattle.link_simulation.specs.Simulation.Replies.{Agrees, made, completions_in}
-use Rattle.link_simulation.specs.Laws.Isolation.{Answers, no_calls, call_answers, AnswersInTurn, no_calls_in_turn}
-use Rattle.link_simulation.specs.Laws.Isolation.{answers_in_turn}
-use Rattle.link_simulation.specs.Laws.Replies.{AreInTurn, AreAdvancedFirst}
+use Rattle.link_simulation.proofs.Common.{common_steps, ◌≡◌, ℕ, ◌<◌, ◌≤◌, List, [], ◌∷◌, Some, zero, suc, refl, ◌∙◌}
+use Rattle.link_simulation.proofs.Common.{subst, arith, IfSome, AllZip, Ordering, IsTotalOrder, World, new_world}
+use Rattle.link_simulation.proofs.Common.{Completed, goes, IsQuiet, Call, call_advance, call_next, moment_of, Runs}
+use Rattle.link_simulation.proofs.Common.{IsBeforeNext, IsInTurn, Reply, reply_done, reply_next, reply_refused}
+use Rattle.link_simulation.proofs.Common.{SameCompletion, Agrees, made, completions_in, Answers, no_calls, call_answers}
+use Rattle.link_simulation.proofs.Common.{AreInTurn}
+use Rattle.std.specs.Prelude.{take}
+use Rattle.link_simulation.specs.Laws.Isolation.{AnswersInTurn, no_calls_in_turn, answers_in_turn}
+use Rattle.link_simulation.specs.Laws.Replies.{AreAdvancedFirst}
 use Rattle.link_simulation.proofs.Simulation.QuietInstants.{next_is_later, call_ends_quiet}
 use Rattle.link_simulation.proofs.Rule.Limit.{new_stands}
 use Rattle.link_simulation.proofs.Rule.Stepwise.{agrees_next, agrees_refused, agrees_done, IsMade}
@@ -19,14 +15,9 @@ use Rattle.link_simulation.proofs.Rule.Stepwise.{agrees_next, agrees_refused, ag
 module _ {P : Type 0} (cmp : P → P → Ordering) (order : IsTotalOrder cmp) where
   pub turn_later : (w : World P) (call : Call P) (now : ℕ) → moment_of call ≡ Some now → IsInTurn cmp w call
       → w.moment ≤ now
-  turn_later w (call_limit t peer egress ingress) now e h =
-      let same : t ≡ now = cc in let le : w.moment ≤ t = h.0 in omega arith
-  turn_later w (call_limit_link t origin recipient link) now e h =
-      let same : t ≡ now = cc in let le : w.moment ≤ t = h.0 in omega arith
-  turn_later w (call_enqueue t m) now e h = let same : t ≡ now = cc in let le : w.moment ≤ t = h.0 in omega arith
-  turn_later w (call_enqueue_all t ms) now e h = let same : t ≡ now = cc in let le : w.moment ≤ t = h.0 in omega arith
-  turn_later w (call_advance t) now e h = let same : t ≡ now = cc in let le : w.moment ≤ t = h in omega arith
+  turn_later w (call_advance t) now e h = grind arith
   turn_later w call_next now e h = cc
+  turn_later w call now e h = grind arith
 
   pub any_turn : {w : World P} {calls : List (Call P)} {css : List (List (Completed P))} → AnswersInTurn cmp w calls css
       → Answers cmp w calls css
@@ -63,9 +54,7 @@ module _ {P : Type 0} (cmp : P → P → Ordering) (order : IsTotalOrder cmp) wh
       → moment_of call ≡ Some now → w.moment ≤ now → Runs cmp w call now (goes cs v)
       → (v.moment ≡ now) × IsQuiet cmp v.moment v
   run_ends w v call now cs quiet at le runs =
-      let ends : IsQuiet cmp now v × (v.moment ≡ now) =
-      call_ends_quiet cmp order w call now (goes cs v) quiet at le runs in
-      (ends.1, subst (λ (t : ℕ). IsQuiet cmp t v) (sym ends.1) ends.0)
+      grind (arith, common_steps, (call_ends_quiet cmp order w call now (goes cs v) quiet at le runs))
 
   pub before_next : (w : World P) (now : ℕ) → w.moment ≡ now → IsBeforeNext cmp now w
   before_next w now same = λ next is.
@@ -98,42 +87,22 @@ module _ {P : Type 0} (cmp : P → P → Ordering) (order : IsTotalOrder cmp) wh
       → AreInTurn cmp w calls replies
   advanced_in_turn [] replies w at same quiet first = tt
   advanced_in_turn (call ∷ calls) [] w at same quiet first = tt
-  advanced_in_turn (call_limit now peer egress ingress ∷ calls) (reply ∷ replies) w at same quiet first =
-      let equal : now ≡ at = first.0 in
-      at_the_moment w (call_limit now peer egress ingress) calls reply replies at (ap Some equal) same quiet
-      (omega arith, before_next w now (omega arith))
-      (λ v there calm. advanced_in_turn calls replies v at there calm first.1)
-  advanced_in_turn (call_limit_link now origin recipient cap ∷ calls) (reply ∷ replies) w at same quiet first =
-      let equal : now ≡ at = first.0 in
-      at_the_moment w (call_limit_link now origin recipient cap) calls reply replies at (ap Some equal) same quiet
-      (omega arith, before_next w now (omega arith))
-      (λ v there calm. advanced_in_turn calls replies v at there calm first.1)
-  advanced_in_turn (call_enqueue now m ∷ calls) (reply ∷ replies) w at same quiet first =
-      let equal : now ≡ at = first.0 in
-      at_the_moment w (call_enqueue now m) calls reply replies at (ap Some equal) same quiet
-      (omega arith, before_next w now (omega arith))
-      (λ v there calm. advanced_in_turn calls replies v at there calm first.1)
-  advanced_in_turn (call_enqueue_all now ms ∷ calls) (reply ∷ replies) w at same quiet first =
-      let equal : now ≡ at = first.0 in
-      at_the_moment w (call_enqueue_all now ms) calls reply replies at (ap Some equal) same quiet
-      (omega arith, before_next w now (omega arith))
-      (λ v there calm. advanced_in_turn calls replies v at there calm first.1)
   advanced_in_turn (call_advance now ∷ calls) (reply_done cs ∷ replies) w at same quiet first =
-      let le : at ≤ now = first.0 in (
+      (
         omega arith,
         λ t ds v there runs.
             let equal : t ≡ now = cc in
-            let ends : (v.moment ≡ t) × IsQuiet cmp v.moment v =
-            run_ends w v (call_advance now) t ds quiet there (omega arith) runs in
+            let ends = run_ends w v (call_advance now) t ds quiet there (omega arith) runs in
             advanced_in_turn calls replies v now (ends.0 ∙ equal) ends.1 first.1,
       )
   advanced_in_turn (call_advance now ∷ calls) (reply_next next ∷ replies) w at same quiet first =
-      let le : at ≤ now = first.0 in (omega arith, advanced_in_turn calls replies w at same quiet first.1)
+      (omega arith, advanced_in_turn calls replies w at same quiet first.1)
   advanced_in_turn (call_advance now ∷ calls) (reply_refused why ∷ replies) w at same quiet first =
-      let le : at ≤ now = first.0 in (omega arith, advanced_in_turn calls replies w at same quiet first.1)
+      (omega arith, advanced_in_turn calls replies w at same quiet first.1)
   advanced_in_turn (call_next ∷ calls) (reply ∷ replies) w at same quiet first =
-      by_reply w call_next calls reply replies tt (advanced_in_turn calls replies w at same quiet first)
-      (λ now cs v there runs. cc)
+      grind (arith, (advanced_in_turn calls replies w at same quiet first))
+  advanced_in_turn (call ∷ calls) (reply ∷ replies) w at same quiet first =
+      grind (arith, at_the_moment, before_next, (advanced_in_turn calls replies))
 
   pub new_in_turn : (calls : List (Call P)) (replies : List (Reply P)) → AreAdvancedFirst 0 calls replies
       → AreInTurn cmp (new_world 0) calls replies

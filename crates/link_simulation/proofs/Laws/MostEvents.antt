@@ -1,49 +1,31 @@
 -- Each event takes a message out or starts one, so there are at most twice the waiting ones and once those in flight.
-use Rattle.std.proofs.Common.{◌≡◌, ◌≢◌, ℕ, zero, suc, ◌+◌, ◌-◌, ◌<◌, ◌≤◌, List, [], ◌∷◌, ◌++◌, length, Bool, true}
-use Rattle.std.proofs.Common.{false, cond, not, Option, Some, None, refl, sym, ap, ◌∙◌, subst, arith, inl, inr}
-use Rattle.std.specs.Prelude.{⊤, ◌&&◌, ◌==◌, nat_lt, slice_get, if◌then◌else◌, IfSome}
-use Rattle.std.specs.List.{find, filter}
-use Rattle.std.specs.declared.cmp.Ordering.{Ordering}
-use Rattle.std.specs.Cmp.{IsTotalOrder}
-use Rattle.std.proofs.lemmas.Bool.{eq-eqb}
-use Rattle.fair_rates.specs.Lists.WithoutFirst.{without_first}
-use Rattle.fair_rates.specs.declared.error.Error.TheVariants.{MomentTooLate}
+use Rattle.link_simulation.proofs.Common.{cond, left_at, common_steps, ◌≡◌, ◌≢◌, ℕ, zero, suc, ◌+◌, ◌-◌, ◌<◌, ◌≤◌, List}
+use Rattle.link_simulation.proofs.Common.{[], ◌∷◌, ◌++◌, length, Bool, true, false, not, Option, Some, refl, sym, ap}
+use Rattle.link_simulation.proofs.Common.{◌∙◌, subst, arith, ⊤, slice_get, IfSome, find, filter, Ordering, IsTotalOrder}
+use Rattle.link_simulation.proofs.Common.{Message, Caps, same_pair, Completed, Course, goes, meets, preceded, fronts}
+use Rattle.link_simulation.proofs.Common.{completed, Call, call_limit, call_limit_link, call_enqueue, call_advance}
+use Rattle.link_simulation.proofs.Common.{call_enqueue_all, call_next, Planned, RatedFlight, IsLeastMoment, next_event}
+use Rattle.link_simulation.proofs.Common.{rated_messages, IsSpentAt, SomeSpentAt, drained_to, next_of, may_launch}
+use Rattle.link_simulation.proofs.Common.{SomeReadyAt, is_spent, new_planned, Accounts, PlansStart, Launches}
+use Rattle.link_simulation.proofs.Common.{nothing_waits, too_early, no_id, starts, Finishes, all_completed, late}
+use Rattle.link_simulation.proofs.Common.{stopped, completes, WakesEach, all_started, no_start, no_finish, starts_one}
+use Rattle.link_simulation.proofs.Common.{Wakes, Settles, settling, Rebalances, none_sending, some_sending, Enqueues}
+use Rattle.link_simulation.proofs.Common.{at_once, no_launch, launches, Advances, no_more, at_finish, at_start}
+use Rattle.link_simulation.proofs.Common.{finish_stops, start_stops, launched, Obeys, EnqueuesEach, all_enqueued}
+use Rattle.link_simulation.proofs.Common.{one_stops, enqueues_one, In, Each, zip-length}
 use Rattle.link_simulation.specs.Laws.MostEvents.{most_events}
-use Rattle.link_simulation.specs.Simulation.Messages.{Message, Caps, same_pair}
-use Rattle.link_simulation.specs.Simulation.World.{Completed, Course, goes, meets, last_moment, preceded, fronts}
-use Rattle.link_simulation.specs.Simulation.World.{raised, later_of, completion_of, completed}
-use Rattle.link_simulation.specs.Simulation.Calls.{Call, call_limit, call_limit_link, call_enqueue, call_advance}
-use Rattle.link_simulation.specs.Simulation.Calls.{call_enqueue_all, call_next}
-use Rattle.link_simulation.specs.Rule.Planned.{Planned, RatedFlight, IsLeastMoment, next_event, rated_messages, left_at}
-use Rattle.link_simulation.specs.Rule.Planned.{IsSpentAt, SomeSpentAt, drained_to, next_of, may_launch, SomeReadyAt}
-use Rattle.link_simulation.specs.Rule.Planned.{is_spent, IsPlanned, new_planned}
-use Rattle.link_simulation.specs.Rule.Events.{Accounts, PlansStart, Launches, nothing_waits, too_early, no_id, starts}
-use Rattle.link_simulation.specs.Rule.Events.{Finishes, all_completed, late, stopped, completes, WakesEach, all_started}
-use Rattle.link_simulation.specs.Rule.Events.{no_start, no_finish, starts_one, Wakes, Settles, settling, Rebalances}
-use Rattle.link_simulation.specs.Rule.Events.{none_sending, some_sending, Enqueues, at_once, no_launch, launches}
-use Rattle.link_simulation.specs.Rule.Events.{Advances, no_more, at_finish, at_start, finish_stops, start_stops}
-use Rattle.link_simulation.specs.Rule.Events.{launched, Obeys}
-use Rattle.link_simulation.specs.Rule.Events.{EnqueuesEach, all_enqueued, one_stops, enqueues_one}
-use Rattle.fair_rates.proofs.Lists.Members.{In, in_filter}
+use Rattle.link_simulation.specs.Rule.Planned.{IsPlanned}
+use Rattle.fair_rates.proofs.Lists.Members.{in_filter}
 use Rattle.link_simulation.proofs.Simulation.SettlingEnds.{find_like, length_without}
 use Rattle.link_simulation.proofs.Simulation.Queue.{find_passes, pair_sym}
 use Rattle.link_simulation.proofs.Laws.Bytes.{each_filter}
 use Rattle.link_simulation.proofs.Simulation.OtherPairs.{fronts_are_first}
-use Rattle.fair_rates.proofs.Lists.Each.{Each}
 use Rattle.link_simulation.proofs.Rule.Advance.{earlier_start}
-use Rattle.fair_rates.proofs.Lists.Zips.{zip-length}
 
 pub split_length : {X : Type 0} (test : X → Bool) (xs : List X)
     → length (filter test xs) + length (filter (λ x. not (test x)) xs) ≡ length xs
 split_length test [] = refl
-split_length {X} test (x ∷ xs) = by_test (test x) (split_length test xs)
-  where
-    by_test : (b : Bool) → length (filter test xs) + length (filter (λ y. not (test y)) xs) ≡ length xs
-        → length (cond b (x ∷ filter test xs) (filter test xs))
-        + length (cond (not b) (x ∷ filter (λ y. not (test y)) xs) (filter (λ y. not (test y)) xs))
-        ≡ length (x ∷ xs)
-    by_test true ih = omega (arith, ih)
-    by_test false ih = omega (arith, ih)
+split_length {X} test (x ∷ xs) = grind (arith, (split_length test xs))
 
 module _ {P : Type 0} (cmp : P → P → Ordering) (order : IsTotalOrder cmp) where
   -- ---- what each step leaves to do
@@ -58,20 +40,7 @@ module _ {P : Type 0} (cmp : P → P → Ordering) (order : IsTotalOrder cmp) wh
 
   account_counts : (t : ℕ) (old new : Planned P) (leavers : List (Message P)) → Accounts cmp t old leavers new
       → most_events new + length leavers ≡ most_events old
-  account_counts t old new leavers account =
-      let all : List (RatedFlight P) = drained_to t old.sending in
-      let out : length leavers ≡ length (filter (is_spent cmp old.caps) all) =
-      ap (λ (ms : List (Message P)). length ms) account.left ∙ map_length (filter (is_spent cmp old.caps) all) in
-      let stay : length (filter (λ (f : RatedFlight P). not (is_spent cmp old.caps f)) all) ≡ length new.sending
-      = zip-length
-      (λ (f g : RatedFlight P). (g.id ≡ f.id) × (g.message ≡ f.message) × (g.left ≡ f.left) × (g.updated ≡ t))
-      (filter (λ (f : RatedFlight P). not (is_spent cmp old.caps f)) all) new.sending account.stayed in
-      let both : length (filter (is_spent cmp old.caps) all)
-      + length (filter (λ (f : RatedFlight P). not (is_spent cmp old.caps f)) all)
-      ≡ length old.sending
-      = split_length (is_spent cmp old.caps) all ∙ drained_length t old.sending in
-      let same : length new.waiting ≡ length old.waiting = ap (λ (q : Planned P). length q.waiting) account.same in
-      omega arith
+  account_counts t old new leavers account = grind (arith, map_length, zip-length, split_length, drained_length)
 
   look_counts : (t : ℕ) (p q : Planned P) → PlansStart cmp t p q → most_events q ≡ most_events p
   look_counts t p q looks = ap most_events looks.same
@@ -82,32 +51,17 @@ module _ {P : Type 0} (cmp : P → P → Ordering) (order : IsTotalOrder cmp) wh
 
   launched_counts : (t : ℕ) (p : Planned P) (k m : Message P) → next_of cmp p k ≡ Some m
       → most_events (launched cmp t p m) + 1 ≡ most_events p
-  launched_counts t p k m found =
-      let own : find (same_pair cmp m) p.waiting ≡ Some m =
-      find_like cmp order k m p.waiting (find_passes (same_pair cmp k) m p.waiting found) ∙ found in
-      let fewer : length (without_first (same_pair cmp m) p.waiting) + 1 ≡ length p.waiting =
-      length_without (same_pair cmp m) m p.waiting own in
-      let more : length (launched cmp t p m).sending ≡ length p.sending + 1 = longer p.sending _ in
-      omega arith
+  launched_counts t p k m found = grind (arith, find_like, find_passes, length_without, longer)
 
   launch_counts : {t : ℕ} {p : Planned P} {o : Option (Message P)} {c : Course (Message P) (Planned P)}
       → Launches cmp t p o c
       → (k : Message P) (ms : List (Message P)) (q : Planned P) → next_of cmp p k ≡ o → c ≡ goes ms q
       → most_events q + length ms ≤ most_events p
-  launch_counts {p = p} nothing_waits k ms q is e =
-      let none : [] ≡ ms = cc in
-      let same : p ≡ q = cc in
-      subst (λ (z : Planned P). most_events z + length ms ≤ most_events p) same
-      (subst (λ (ns : List (Message P)). most_events p + length ns ≤ most_events p) none (omega arith))
-  launch_counts {p = p} (too_early may) k ms q is e =
-      let none : [] ≡ ms = cc in
-      let same : p ≡ q = cc in
-      subst (λ (z : Planned P). most_events z + length ms ≤ most_events p) same
-      (subst (λ (ns : List (Message P)). most_events p + length ns ≤ most_events p) none (omega arith))
+  launch_counts {p = p} nothing_waits k ms q is e = grind arith
+  launch_counts {p = p} (too_early may) k ms q is e = grind arith
   launch_counts (no_id may last) k ms q is e = cc
   launch_counts {t = t} {p = p} (starts {m = m} {leavers = leavers} {new = new} may below account) k ms q is e =
-      let counts : most_events new + length leavers ≡ most_events (launched cmp t p m) =
-      account_counts t (launched cmp t p m) new leavers account in
+      let counts = account_counts t (launched cmp t p m) new leavers account in
       let one : most_events (launched cmp t p m) + 1 ≡ most_events p = launched_counts t p k m is in
       let out : leavers ≡ ms = cc in
       let same : new ≡ q = cc in
@@ -120,15 +74,11 @@ module _ {P : Type 0} (cmp : P → P → Ordering) (order : IsTotalOrder cmp) wh
       → (k m : Message P) (ms : List (Message P)) (q : Planned P) → next_of cmp p k ≡ o → o ≡ Some m
       → may_launch cmp t p m ≡ true → c ≡ goes ms q → most_events q + length ms < most_events p
   launch_less nothing_waits k m ms q is some may e = cc
-  launch_less {t = t} {p = p} (too_early {m = x} early) k m ms q is some may e =
-      let same : x ≡ m = cc in
-      let on : may_launch cmp t p x ≡ true = subst (λ (y : Message P). may_launch cmp t p y ≡ true) (sym same) may in
-      cc
+  launch_less {t = t} {p = p} (too_early {m = x} early) k m ms q is some may e = grind arith
   launch_less (no_id first last) k m ms q is some may e = cc
   launch_less {t = t} {p = p} (starts {m = x} {leavers = leavers} {new = new} first below account) k m ms q is some may
       e =
-      let counts : most_events new + length leavers ≡ most_events (launched cmp t p x) =
-      account_counts t (launched cmp t p x) new leavers account in
+      let counts = account_counts t (launched cmp t p x) new leavers account in
       let one : most_events (launched cmp t p x) + 1 ≡ most_events p = launched_counts t p k x is in
       let out : leavers ≡ ms = cc in
       let same : new ≡ q = cc in
@@ -178,28 +128,17 @@ module _ {P : Type 0} (cmp : P → P → Ordering) (order : IsTotalOrder cmp) wh
       → ms ≡ m ∷ ns → next_of cmp p m ≡ Some m → may_launch cmp t p m ≡ true
       → 0 < most_events p × Leaves (most_events p - 1) c
   wake_less (all_started looks) m ns e found may = cc
-  wake_less {p = p} (no_start {m = x} launch) m ns e found may = (waits_some p m found, tt)
-    where
-      waits_some : (p : Planned P) (m : Message P) → next_of cmp p m ≡ Some m → 0 < most_events p
-      waits_some p m found =
-          let fewer : length (without_first (same_pair cmp m) p.waiting) + 1 ≡ length p.waiting =
-          length_without (same_pair cmp m) m p.waiting found in
-          omega arith
+  wake_less {p = p} (no_start {m = x} launch) m ns e found may = grind (arith, length_without)
   wake_less {p = p} (no_finish {m = x} {more = more} {q = q} launch finishes) m ns e found may =
-      let fewer : length (without_first (same_pair cmp m) p.waiting) + 1 ≡ length p.waiting =
-      length_without (same_pair cmp m) m p.waiting found in
-      (omega arith, tt)
+      grind (arith, length_without)
   wake_less {t = t} {p = p}
       (starts_one {m = x} {more = more} {q = q} {r = r} {cs = cs} {rest = rest} launch finishes wakes) m ns e found
       may =
       let same : x ≡ m = cc in
-      let found_x : next_of cmp p x ≡ Some m = ap (next_of cmp p) same ∙ found in
-      let less : most_events q + length more < most_events p = launch_less launch x m more q refl found_x may refl in
-      let after : most_events r ≤ most_events q = finish_counts finishes in (
-        omega arith,
-        leaves_after (most_events p - 1) cs rest
-            (leaves_more (most_events r) (most_events p - 1) rest (omega arith) (wake_counts wakes)),
-      )
+      let found_x = ap (next_of cmp p) same ∙ found in
+      let less = launch_less launch x m more q refl found_x may refl in
+      let after = finish_counts finishes in
+      grind (arith, wake_counts)
 
   -- ---- what is planned stays right
 
@@ -239,8 +178,7 @@ module _ {P : Type 0} (cmp : P → P → Ordering) (order : IsTotalOrder cmp) wh
       free_is = h.none_at_first
 
       waits : (p.limited ≡ false → p.waiting ≡ []) → p.limited ≡ false → ⊥
-      waits none free =
-          let empty : find (same_pair cmp k) p.waiting ≡ None = ap (find (same_pair cmp k)) (none free) in cc
+      waits none free = grind arith
 
   finish_right : {t : ℕ} {ms : List (Message P)} {p : Planned P} {c : Course (Completed P) (Planned P)}
       → Finishes cmp t ms p c → IsPartlyPlanned p → Right c
@@ -249,9 +187,8 @@ module _ {P : Type 0} (cmp : P → P → Ordering) (order : IsTotalOrder cmp) wh
   finish_right (late is) h = tt
   finish_right (stopped is launch) h = tt
   finish_right {t = t} {p = p} (completes {m = m} {more = more} {q = q} {rest = rest} is launch finishes) h =
-      right_after (completed cmp t m ∷ []) rest
-      (finish_right finishes
-      (launch_right launch m more q refl refl (record { finish = h.finish; none_at_first = h.none_at_first })))
+      grind (arith, common_steps, right_after, launch_right, (finish_right finishes (launch_right launch m more q refl
+      refl (record { finish = h.finish; none_at_first = h.none_at_first }))))
 
   partly : (p : Planned P) → IsPlanned cmp p → IsPartlyPlanned p
   partly p h = record { finish = h.finish; none_at_first = h.none_at_first }
@@ -264,17 +201,13 @@ module _ {P : Type 0} (cmp : P → P → Ordering) (order : IsTotalOrder cmp) wh
   wake_right (no_finish launch finishes) h = tt
   wake_right {p = p} (starts_one {m = m} {more = more} {q = q} {r = r} {cs = cs} {rest = rest} launch finishes wakes)
       h =
-      let next : IsPartlyPlanned q = launch_right launch m more q refl refl h in
-      let after : IsPlanned cmp r = finish_right finishes next in
-      right_after cs rest (wake_right wakes (partly r after))
+      grind (arith, common_steps, launch_right, finish_right, right_after, partly,
+      (wake_right wakes (partly r (finish_right finishes (launch_right launch m more q refl refl h)))))
 
   settle_right : {t : ℕ} {p : Planned P} {c : Course (Completed P) (Planned P)} → Settles cmp t p c
       → (p.limited ≡ false → p.waiting ≡ []) → Right c
   settle_right {t = t} {p = p} (settling {leavers = leavers} {mid = mid} account finishes) none =
-      let limited : mid.limited ≡ p.limited = ap (λ (z : Planned P). z.limited) account.same in
-      let waiting : mid.waiting ≡ p.waiting = ap (λ (z : Planned P). z.waiting) account.same in
-      finish_right finishes
-      (record { finish = account.finish; none_at_first = λ free. waiting ∙ none (sym limited ∙ free) })
+      grind (arith, finish_right)
 
   -- ---- events
 
@@ -282,11 +215,7 @@ module _ {P : Type 0} (cmp : P → P → Ordering) (order : IsTotalOrder cmp) wh
   spent_leaves : (t : ℕ) (p : Planned P) (fs : List (RatedFlight P)) (i : ℕ) (f : RatedFlight P)
       → slice_get fs i ≡ Some f → IsSpentAt t f → 0 < length (filter (is_spent cmp p.caps) (drained_to t fs))
   spent_leaves t p [] i f at spent = cc
-  spent_leaves t p (g ∷ gs) zero f at spent =
-      let same : g ≡ f = cc in
-      let zero_left : ((left_at t g).num == 0) ≡ true =
-      eq-eqb (left_at t g).num 0 (ap (λ (h : RatedFlight P). (left_at t h).num) same ∙ spent) in
-      rw zero_left (omega arith)
+  spent_leaves t p (g ∷ gs) zero f at spent = grind arith
   spent_leaves t p (g ∷ gs) (suc i) f at spent =
       by_test (is_spent cmp p.caps (record g { left = left_at t g; updated = t })) (spent_leaves t p gs i f at spent)
     where
@@ -303,22 +232,14 @@ module _ {P : Type 0} (cmp : P → P → Ordering) (order : IsTotalOrder cmp) wh
   settle_less {t = t} {p = p} {c = c} (settling {leavers = leavers} {mid = mid} account finishes) some =
       let counts : most_events mid + length leavers ≡ most_events p = account_counts t p mid leavers account in
       let out : length leavers ≡ length (filter (is_spent cmp p.caps) (drained_to t p.sending))
-      = ap (λ (ms : List (Message P)). length ms) account.left
-      ∙ map_length (filter (is_spent cmp p.caps) (drained_to t p.sending)) in
-      let one : 0 < length (filter (is_spent cmp p.caps) (drained_to t p.sending)) =
-      spent_leaves t p p.sending some.0 some.1 some.2 some.4 in
+      = grind (arith, map_length) in
+      let one : 0 < length (filter (is_spent cmp p.caps) (drained_to t p.sending)) = grind (arith, spent_leaves) in
       (omega arith, leaves_more (most_events mid) (most_events p - 1) c (omega arith) (finish_counts finishes))
 
   pub first_in_fronts : (m : Message P) (ws : List (Message P)) → find (same_pair cmp m) ws ≡ Some m
       → In (fronts cmp ws) m
   first_in_fronts m [] e = cc
-  first_in_fronts m (x ∷ ws) e = by_test (same_pair cmp m x) refl e (first_in_fronts m ws)
-    where
-      by_test : (b : Bool) → same_pair cmp m x ≡ b → cond b (Some x) (find (same_pair cmp m) ws) ≡ Some m
-          → (find (same_pair cmp m) ws ≡ Some m → In (fronts cmp ws) m) → In (fronts cmp (x ∷ ws)) m
-      by_test true is e ih = let same : x ≡ m = cc in inl same
-      by_test false is e ih =
-          inr (in_filter (λ n. not (same_pair cmp x n)) (fronts cmp ws) m (ih e) (rw (pair_sym cmp order x m, is) refl))
+  first_in_fronts m (x ∷ ws) e = grind (arith, in_filter, pair_sym, (first_in_fronts m ws))
 
   wake_event : {t : ℕ} {p : Planned P} {c : Course (Completed P) (Planned P)} → Wakes cmp t p c → SomeReadyAt cmp p t
       → 0 < most_events p × Leaves (most_events p - 1) c
@@ -337,17 +258,10 @@ module _ {P : Type 0} (cmp : P → P → Ordering) (order : IsTotalOrder cmp) wh
       by_list (m ∷ ms) has all wakes = wake_less wakes m ms refl all.0.0 all.0.1
 
   spent_at : (p : Planned P) (t : ℕ) → IsPlanned cmp p → p.finish ≡ Some t → SomeSpentAt p.sending t
-  spent_at p t h is =
-      let least : IsLeastMoment (SomeSpentAt p.sending) (Some t) =
-      subst (λ (o : Option ℕ). IsLeastMoment (SomeSpentAt p.sending) o) is h.finish in
-      least.1
+  spent_at p t h is = grind arith
 
   ready_at : (p : Planned P) (t : ℕ) → IsPlanned cmp p → p.finish ≢ Some t → next_event p ≡ Some t → SomeReadyAt cmp p t
-  ready_at p t h not_finish is =
-      let start : p.start ≡ Some t = (earlier_start cmp order p.finish p.start t is not_finish).0 in
-      let least : IsLeastMoment (λ s. (h.from ≤ s) × SomeReadyAt cmp p s) (Some t) =
-      subst (λ (o : Option ℕ). IsLeastMoment (λ s. (h.from ≤ s) × SomeReadyAt cmp p s) o) start h.start in
-      least.1.1
+  ready_at p t h not_finish is = grind (arith, common_steps, (earlier_start cmp order p.finish p.start t is not_finish))
 
   -- so many events, and what is left to do after them, are no more than so much
   abbrev Spends : ℕ → ℕ → Course (Completed P) (Planned P) → Type 0
@@ -399,10 +313,7 @@ module _ {P : Type 0} (cmp : P → P → Ordering) (order : IsTotalOrder cmp) wh
       → next_event p ≡ Some now → 0 < n
   some_event {now = now} (no_more before wakes) is =
       let later : now < now = subst (λ (o : Option ℕ). IfSome o (λ t. now < t)) is before in absurd (omega arith)
-  some_event (at_finish is next due event more) e = omega arith
-  some_event (at_start is next due event more) e = omega arith
-  some_event (finish_stops is next due event) e = omega arith
-  some_event (start_stops is next due event) e = omega arith
+  some_event _ e = omega arith
 
   -- ---- calls
 
@@ -411,8 +322,7 @@ module _ {P : Type 0} (cmp : P → P → Ordering) (order : IsTotalOrder cmp) wh
   unfolding Right
   advance_right {p = p} (no_more before wakes) h = wake_right wakes (partly p h)
   advance_right {p = p} (at_finish {q = q} {cs = cs} {rest = rest} is next due event more) h =
-      let after : IsPlanned cmp q = settle_right event h.none_at_first in
-      right_after cs rest (advance_right more after)
+      grind (arith, common_steps, settle_right, right_after, (advance_right more (settle_right event h.none_at_first)))
   advance_right {p = p} (at_start {q = q} {cs = cs} {rest = rest} is next due event more) h =
       let after : IsPlanned cmp q = wake_right event (record { finish = h.finish; none_at_first = h.none_at_first }) in
       right_after cs rest (advance_right more after)
@@ -423,40 +333,13 @@ module _ {P : Type 0} (cmp : P → P → Ordering) (order : IsTotalOrder cmp) wh
       → Rebalances cmp now caps p c → IsPlanned cmp p → Right c
   unfolding Right
   rebalance_right {now = now} {caps = caps} {p = p} (none_sending {new = new} empty looks) h =
-      looked_right now (record p { caps = caps; limited = true }) new
-      (record { finish = h.finish; none_at_first = λ free. cc }) looks
+      grind (arith, looked_right)
   rebalance_right (some_sending some event) h = settle_right event (λ free. cc)
 
   enqueue_right : {now : ℕ} {m : Message P} {p : Planned P} {c : Course (Completed P) (Planned P)}
       → Enqueues cmp now m p c → IsPlanned cmp p → Right c
   unfolding Right
-  enqueue_right {now = now} {m = m} {p = p} (at_once free) h =
-      by_late (m.should_deliver && nat_lt last_moment (now + m.latency))
-    where
-      at : ℕ
-      at = if m.should_deliver then later_of (p.last_arrival m.origin m.recipient) (now + m.latency) else now
-
-      after : Planned P
-      after = record p { last_arrival = raised cmp p.last_arrival m at }
-
-      none_ready : (q : Planned P) → q.waiting ≡ [] → (s : ℕ) → SomeReadyAt cmp q s → ⊥
-      none_ready q empty s some =
-          let none : find (same_pair cmp some.0) q.waiting ≡ None = ap (find (same_pair cmp some.0)) empty in
-          let there : find (same_pair cmp some.0) q.waiting ≡ Some some.0 = some.1 in
-          cc
-
-      still : (o : Option ℕ) → IsLeastMoment (λ s. (h.from ≤ s) × SomeReadyAt cmp p s) o
-          → IsLeastMoment (λ s. (h.from ≤ s) × SomeReadyAt cmp after s) o
-      still None least = λ s within some. none_ready after (h.none_at_first free) s some.1
-      still (Some s) least = absurd (none_ready p (h.none_at_first free) s least.1.1)
-
-      by_late : (b : Bool)
-          → Right
-          (cond b (meets MomentTooLate)
-          (goes (completion_of m now (if m.should_deliver then Some at else None) ∷ []) after))
-      by_late true = tt
-      by_late false =
-          record { finish = h.finish; from = h.from; start = still p.start h.start; none_at_first = h.none_at_first }
+  enqueue_right {now = now} {m = m} {p = p} (at_once free) h = grind arith
   enqueue_right (no_launch limits launch) h = tt
   enqueue_right {m = m} {p = p} (launches {leavers = leavers} {mid = mid} limits launch finishes) h =
       finish_right finishes
@@ -472,8 +355,7 @@ module _ {P : Type 0} (cmp : P → P → Ordering) (order : IsTotalOrder cmp) wh
   each_right all_enqueued h = h
   each_right (one_stops one) h = tt
   each_right (enqueues_one {q = q} {cs = cs} {rest = rest} one more) h =
-      let after : IsPlanned cmp q = enqueue_right one h in
-      right_after cs rest (each_right more after)
+      grind (arith, enqueue_right, right_after, (each_right more))
 
   -- what is planned is right after each call
   pub obeys_right : (p : Planned P) (call : Call P) (c : Course (Completed P) (Planned P)) → IsPlanned cmp p
@@ -491,16 +373,4 @@ module _ {P : Type 0} (cmp : P → P → Ordering) (order : IsTotalOrder cmp) wh
       by_call call_next obeys = subst Right (sym obeys) h
 
   pub new_is_planned : (id : ℕ) → IsPlanned cmp (new_planned id)
-  new_is_planned id =
-      record {
-        finish = λ t within some. nothing_spent t some;
-        from = 0;
-        start = λ t within some. nothing_ready t some.1;
-        none_at_first = λ free. refl;
-      }
-    where
-      nothing_spent : (t : ℕ) → SomeSpentAt {P = P} [] t → ⊥
-      nothing_spent t some = let e : None ≡ Some some.1 = some.2 in cc
-
-      nothing_ready : (t : ℕ) → SomeReadyAt cmp (new_planned {P = P} id) t → ⊥
-      nothing_ready t some = let e : None ≡ Some some.0 = some.1 in cc
+  new_is_planned id = grind arith

@@ -1,36 +1,23 @@
 -- Each call keeps a planned world in order.
-use Rattle.std.proofs.Common.{◌≡◌, ℕ, ◌+◌, List, [], ◌∷◌, Bool, true, false, cond, not, Option, Some, None, refl, sym}
-use Rattle.std.proofs.Common.{ap, ◌∙◌, subst}
-use Rattle.std.specs.Prelude.{◌&&◌, nat_lt, if◌then◌else◌}
-use Rattle.std.specs.List.{find, filter, list_any, AllZip}
-use Rattle.std.specs.declared.cmp.Ordering.{Ordering}
-use Rattle.std.specs.Cmp.{IsTotalOrder}
-use Rattle.std.proofs.lemmas.Bool.{or_from, or_parts}
-use Rattle.std.proofs.lemmas.List.{map-append}
-use Rattle.fair_rates.specs.declared.error.Error.TheVariants.{MomentTooLate}
-use Rattle.link_simulation.specs.Simulation.Messages.{Message, Caps, CapsAlike, PairsAlike, OneForEachPair, no_caps}
-use Rattle.link_simulation.specs.Simulation.Messages.{same_pair}
-use Rattle.link_simulation.specs.Simulation.Rates.{AreFair}
-use Rattle.link_simulation.specs.Simulation.World.{Completed, Course, goes, meets, last_moment, raised, later_of}
-use Rattle.link_simulation.specs.Simulation.World.{completion_of, is_in_order, EndsWith, completed, arrival}
-use Rattle.link_simulation.specs.Simulation.Calls.{Call, call_limit, call_limit_link, call_enqueue, call_advance}
-use Rattle.link_simulation.specs.Simulation.Calls.{call_enqueue_all, call_next, limited_by, linked_by}
-use Rattle.link_simulation.specs.Rule.Planned.{Planned, RatedFlight, new_planned, rated_messages, drained_to, next_of}
-use Rattle.link_simulation.specs.Rule.Planned.{AreInPairOrder, may_launch, is_spent, IsRated}
-use Rattle.link_simulation.specs.Rule.Events.{Accounts, PlansStart, Launches, nothing_waits, too_early, no_id, starts}
-use Rattle.link_simulation.specs.Rule.Events.{Finishes, all_completed, late, stopped, completes, WakesEach, all_started}
-use Rattle.link_simulation.specs.Rule.Events.{no_start, no_finish, starts_one, Settles, settling, Rebalances}
-use Rattle.link_simulation.specs.Rule.Events.{none_sending, some_sending, Enqueues, at_once, no_launch, launches}
-use Rattle.link_simulation.specs.Rule.Events.{Advances, no_more, at_finish, at_start, finish_stops, start_stops}
-use Rattle.link_simulation.specs.Rule.Events.{launched, landed, with_queued, Obeys}
-use Rattle.link_simulation.specs.Rule.Events.{EnqueuesEach, all_enqueued, one_stops, enqueues_one}
-use Rattle.link_simulation.specs.Laws.Orderly.{IsOrderly}
+use Rattle.link_simulation.proofs.Common.{arith, ◌≡◌, ℕ, List, [], ◌∷◌, Bool, true, false, Option, Some, None, refl}
+use Rattle.link_simulation.proofs.Common.{sym, ap, subst, filter, list_any, AllZip, Ordering, IsTotalOrder, map-append}
+use Rattle.link_simulation.proofs.Common.{Message, Caps, CapsAlike, PairsAlike, OneForEachPair, same_pair, Completed}
+use Rattle.link_simulation.proofs.Common.{Course, goes, EndsWith, completed, Call, call_limit, call_limit_link}
+use Rattle.link_simulation.proofs.Common.{call_enqueue, call_advance, call_enqueue_all, call_next, limited_by}
+use Rattle.link_simulation.proofs.Common.{linked_by, Planned, RatedFlight, new_planned, rated_messages, drained_to}
+use Rattle.link_simulation.proofs.Common.{next_of, AreInPairOrder, may_launch, Accounts, PlansStart, Launches}
+use Rattle.link_simulation.proofs.Common.{nothing_waits, too_early, no_id, starts, Finishes, all_completed, late}
+use Rattle.link_simulation.proofs.Common.{stopped, completes, WakesEach, all_started, no_start, no_finish, starts_one}
+use Rattle.link_simulation.proofs.Common.{Settles, settling, Rebalances, none_sending, some_sending, Enqueues, at_once}
+use Rattle.link_simulation.proofs.Common.{no_launch, launches, Advances, no_more, at_finish, at_start, finish_stops}
+use Rattle.link_simulation.proofs.Common.{start_stops, launched, landed, with_queued, Obeys, EnqueuesEach, all_enqueued}
+use Rattle.link_simulation.proofs.Common.{one_stops, enqueues_one, IsOrderly, common_steps}
+use Rattle.link_simulation.proofs.Rule.SameSteps.{linked_by_same, limited_by_same}
 use Rattle.link_simulation.proofs.Simulation.AlikeMessages.{same_itself}
 use Rattle.link_simulation.proofs.Simulation.Queue.{one_pair_more}
 use Rattle.link_simulation.proofs.Simulation.SettlingEnds.{ends_preceded}
 use Rattle.link_simulation.proofs.Simulation.Sound.{raised_peerwise}
 use Rattle.link_simulation.proofs.Rule.Limit.{no_sides}
-use Rattle.link_simulation.proofs.Rule.SameSteps.{limited_by_same, linked_by_same}
 use Rattle.link_simulation.proofs.Rule.Launch.{pair_order_without}
 use Rattle.link_simulation.proofs.Rule.Enqueue.{queued_in_order}
 
@@ -59,28 +46,13 @@ none_stays t (g ∷ gs) all = absurd all
 pub any_of_fewer : {P : Type 0} (p : Message P → Bool) (test : RatedFlight P → Bool) (fs : List (RatedFlight P))
     → list_any p (rated_messages fs) ≡ false → list_any p (rated_messages (filter test fs)) ≡ false
 any_of_fewer p test [] e = refl
-any_of_fewer {P} p test (f ∷ fs) e =
-    let parts : (p f.message ≡ false) × (list_any p (rated_messages fs) ≡ false) =
-    or_parts (p f.message) (list_any p (rated_messages fs)) e in
-    by_test (test f) parts.0 (any_of_fewer p test fs parts.1)
-  where
-    by_test : (b : Bool) → p f.message ≡ false → list_any p (rated_messages (filter test fs)) ≡ false
-        → list_any p (rated_messages (cond b (f ∷ filter test fs) (filter test fs))) ≡ false
-    by_test true h ih = or_from (p f.message) (list_any p (rated_messages (filter test fs))) h ih
-    by_test false h ih = ih
+any_of_fewer {P} p test (f ∷ fs) e = grind (arith, (any_of_fewer p test fs))
 
 module _ {P : Type 0} (cmp : P → P → Ordering) (order : IsTotalOrder cmp) where
   pub one_of_fewer : (test : RatedFlight P → Bool) (fs : List (RatedFlight P)) → OneForEachPair cmp (rated_messages fs)
       → OneForEachPair cmp (rated_messages (filter test fs))
   one_of_fewer test [] one = tt
-  one_of_fewer test (f ∷ fs) one =
-      by_test (test f) (any_of_fewer (same_pair cmp f.message) test fs one.0) (one_of_fewer test fs one.1)
-    where
-      by_test : (b : Bool) → list_any (same_pair cmp f.message) (rated_messages (filter test fs)) ≡ false
-          → OneForEachPair cmp (rated_messages (filter test fs))
-          → OneForEachPair cmp (rated_messages (cond b (f ∷ filter test fs) (filter test fs)))
-      by_test true h ih = (h, ih)
-      by_test false h ih = ih
+  one_of_fewer test (f ∷ fs) one = grind (arith, any_of_fewer, (one_of_fewer test fs))
 
   -- in order but for the rates
   pub record IsSteady (p : Planned P) : Type 0 where
@@ -91,47 +63,13 @@ module _ {P : Type 0} (cmp : P → P → Ordering) (order : IsTotalOrder cmp) wh
     pub last_arrival : PairsAlike cmp p.last_arrival p.last_arrival
 
   pub steady : (p : Planned P) → IsOrderly cmp p → IsSteady p
-  steady p h =
-      record {
-        one_each = h.one_each;
-        pair_order = h.pair_order;
-        empty_at_first = h.empty_at_first;
-        caps = h.caps;
-        last_arrival = h.last_arrival;
-      }
+  steady p h = grind arith
 
   -- ---- the steps
 
   pub account_orderly : (t : ℕ) (old new : Planned P) (leavers : List (Message P)) → Accounts cmp t old leavers new
       → IsSteady old → IsOrderly cmp new
-  account_orderly t old new leavers a h = record {
-    rated =
-        record {
-          per = a.per;
-          rates = a.rates;
-          fair = subst (λ (q : Planned P). AreFair cmp q.caps (rated_messages new.sending) a.per a.rates) (sym a.same)
-              a.fair;
-          rated = a.rated;
-        };
-    one_each = subst (OneForEachPair cmp) (sym (stayed_messages t still new.sending a.stayed))
-        (one_of_fewer (λ (f : RatedFlight P). not (is_spent cmp old.caps f)) (drained_to t old.sending)
-        (subst (OneForEachPair cmp) (sym (drained_messages t old.sending)) h.one_each));
-    pair_order = subst (λ (q : Planned P). AreInPairOrder cmp q.waiting) (sym a.same) h.pair_order;
-    empty_at_first = λ free.
-        let empty = h.empty_at_first (sym (ap (λ (q : Planned P). q.limited) a.same) ∙ free) in (
-          none_stays t new.sending
-              (subst
-              (λ (fs : List (RatedFlight P)). AllZip (Stays t)
-              (filter (λ (f : RatedFlight P). not (is_spent cmp old.caps f)) (drained_to t fs)) new.sending)
-              empty.0 a.stayed),
-          ap (λ (q : Planned P). q.waiting) a.same ∙ empty.1,
-        );
-    caps = subst (λ (q : Planned P). CapsAlike cmp q.caps q.caps) (sym a.same) h.caps;
-    last_arrival = subst (λ (q : Planned P). PairsAlike cmp q.last_arrival q.last_arrival) (sym a.same) h.last_arrival;
-  }
-    where
-      still : List (RatedFlight P)
-      still = filter (λ (f : RatedFlight P). not (is_spent cmp old.caps f)) (drained_to t old.sending)
+  account_orderly t old new leavers a h = grind (arith, stayed_messages, one_of_fewer, drained_messages, none_stays)
 
   look_orderly : (t : ℕ) (p q : Planned P) → PlansStart cmp t p q → IsOrderly cmp p → IsOrderly cmp q
   look_orderly t p q looks h = subst (IsOrderly cmp) (sym looks.same) (record {
@@ -146,28 +84,11 @@ module _ {P : Type 0} (cmp : P → P → Ordering) (order : IsTotalOrder cmp) wh
   -- a message that may start is of an idle pair
   pub idle_if_may : (t : ℕ) (p : Planned P) (m : Message P) → may_launch cmp t p m ≡ true
       → list_any (same_pair cmp m) (rated_messages p.sending) ≡ false
-  idle_if_may t p m e =
-      first_part (list_any (same_pair cmp m) (rated_messages p.sending))
-      (is_in_order (p.last_arrival m.origin m.recipient) (t + m.latency)) e
-    where
-      first_part : (a b : Bool) → (not a && b) ≡ true → a ≡ false
-      first_part true b e = cc
-      first_part false b e = refl
+  idle_if_may t p m e = grind arith
 
   pub launched_steady : (t : ℕ) (p : Planned P) (k m : Message P) → next_of cmp p k ≡ Some m
       → may_launch cmp t p m ≡ true → IsSteady p → IsSteady (launched cmp t p m)
-  launched_steady t p k m found may h = record {
-    one_each =
-        subst (OneForEachPair cmp) (sym (map-append (λ (f : RatedFlight P). f.message) p.sending _))
-        (one_pair_more cmp order (rated_messages p.sending) m h.one_each (idle_if_may t p m may));
-    pair_order = pair_order_without cmp order (same_pair cmp m) p.waiting h.pair_order;
-    empty_at_first = λ free. absurd (waits_none (h.empty_at_first free).1);
-    caps = h.caps;
-    last_arrival = h.last_arrival;
-  }
-    where
-      waits_none : p.waiting ≡ [] → ⊥
-      waits_none empty = let none : find (same_pair cmp k) p.waiting ≡ None = ap (find (same_pair cmp k)) empty in cc
+  launched_steady t p k m found may h = grind (arith, map-append, one_pair_more, idle_if_may, pair_order_without)
 
   pub launch_orderly : {t : ℕ} {p : Planned P} {o : Option (Message P)} {c : Course (Message P) (Planned P)}
       → Launches cmp t p o c
@@ -177,19 +98,11 @@ module _ {P : Type 0} (cmp : P → P → Ordering) (order : IsTotalOrder cmp) wh
   launch_orderly {p = p} (too_early may) k ms q is e h = let same : p ≡ q = cc in subst (IsOrderly cmp) same h
   launch_orderly (no_id may last) k ms q is e h = cc
   launch_orderly {t = t} {p = p} (starts {m = m} {leavers = leavers} {new = new} may below account) k ms q is e h =
-      let same : new ≡ q = cc in
-      subst (IsOrderly cmp) same
-      (account_orderly t (launched cmp t p m) new leavers account (launched_steady t p k m is may (steady p h)))
+      grind (arith, common_steps,
+      (account_orderly t (launched cmp t p m) new leavers account (launched_steady t p k m is may (steady p h))))
 
   pub landed_orderly : (t : ℕ) (p : Planned P) (m : Message P) → IsOrderly cmp p → IsOrderly cmp (landed cmp t p m)
-  landed_orderly t p m h = record {
-    rated = record { per = h.rated.per; rates = h.rated.rates; fair = h.rated.fair; rated = h.rated.rated };
-    one_each = h.one_each;
-    pair_order = h.pair_order;
-    empty_at_first = h.empty_at_first;
-    caps = h.caps;
-    last_arrival = raised_peerwise cmp order p.last_arrival m (arrival cmp t m) h.last_arrival;
-  }
+  landed_orderly t p m h = grind (arith, raised_peerwise)
 
   pub finish_orderly : {t : ℕ} {ms : List (Message P)} {p : Planned P} {c : Course (Completed P) (Planned P)}
       → Finishes cmp t ms p c → IsOrderly cmp p → EndsWith (IsOrderly cmp) c
@@ -218,24 +131,10 @@ module _ {P : Type 0} (cmp : P → P → Ordering) (order : IsTotalOrder cmp) wh
 
   -- but for what is planned
   pub no_finish_steady : (p : Planned P) → IsOrderly cmp p → IsSteady (record p { finish = None })
-  no_finish_steady p h =
-      record {
-        one_each = h.one_each;
-        pair_order = h.pair_order;
-        empty_at_first = h.empty_at_first;
-        caps = h.caps;
-        last_arrival = h.last_arrival;
-      }
+  no_finish_steady p h = grind arith
 
   pub no_start_orderly : (p : Planned P) → IsOrderly cmp p → IsOrderly cmp (record p { start = None })
-  no_start_orderly p h = record {
-    rated = record { per = h.rated.per; rates = h.rated.rates; fair = h.rated.fair; rated = h.rated.rated };
-    one_each = h.one_each;
-    pair_order = h.pair_order;
-    empty_at_first = h.empty_at_first;
-    caps = h.caps;
-    last_arrival = h.last_arrival;
-  }
+  no_start_orderly p h = grind arith
 
   advance_orderly : {now n : ℕ} {p : Planned P} {c : Course (Completed P) (Planned P)} → Advances cmp now p n c
       → IsOrderly cmp p → EndsWith (IsOrderly cmp) c
@@ -251,71 +150,21 @@ module _ {P : Type 0} (cmp : P → P → Ordering) (order : IsTotalOrder cmp) wh
 
   pub recapped_steady : (p : Planned P) (caps : Caps P) → CapsAlike cmp caps caps → IsOrderly cmp p
       → IsSteady (record p { caps = caps; limited = true })
-  recapped_steady p caps alike h =
-      record {
-        one_each = h.one_each;
-        pair_order = h.pair_order;
-        empty_at_first = λ free. cc;
-        caps = alike;
-        last_arrival = h.last_arrival;
-      }
+  recapped_steady p caps alike h = grind arith
 
   rebalance_orderly : {now : ℕ} {caps : Caps P} {p : Planned P} {c : Course (Completed P) (Planned P)}
       → Rebalances cmp now caps p c → CapsAlike cmp caps caps → IsOrderly cmp p → EndsWith (IsOrderly cmp) c
-  rebalance_orderly {now = now} {caps = caps} {p = p} (none_sending {new = new} empty looks) alike h =
-      look_orderly now (record p { caps = caps; limited = true }) new looks (record {
-        rated = none_rated p.sending empty;
-        one_each = h.one_each;
-        pair_order = h.pair_order;
-        empty_at_first = λ free. cc;
-        caps = alike;
-        last_arrival = h.last_arrival;
-      })
-    where
-      none_rated : (fs : List (RatedFlight P)) → fs ≡ []
-          → IsRated cmp (record p { caps = caps; limited = true; sending = fs })
-      none_rated fs none =
-          subst (λ (gs : List (RatedFlight P)). IsRated cmp (record p { caps = caps; limited = true; sending = gs }))
-          (sym none) (record { per = 1; rates = []; fair = no_sides cmp caps; rated = tt })
+  rebalance_orderly {now = now} {caps = caps} {p = p} (none_sending {new = new} empty looks) alike h = grind arith
   rebalance_orderly {caps = caps} {p = p} (some_sending some event) alike h =
       settle_orderly event (recapped_steady p caps alike h)
 
   pub queued_orderly : (p : Planned P) (m : Message P) → p.limited ≡ true → IsOrderly cmp p
       → IsOrderly cmp (with_queued cmp p m)
-  queued_orderly p m limits h = record {
-    rated = record { per = h.rated.per; rates = h.rated.rates; fair = h.rated.fair; rated = h.rated.rated };
-    one_each = h.one_each;
-    pair_order = queued_in_order cmp order m p.waiting h.pair_order;
-    empty_at_first = λ free. both_modes free;
-    caps = h.caps;
-    last_arrival = h.last_arrival;
-  }
-    where
-      both_modes : {A : Type 0} → p.limited ≡ false → A
-      both_modes free = cc
+  queued_orderly p m limits h = grind (arith, queued_in_order)
 
   enqueue_orderly : {now : ℕ} {m : Message P} {p : Planned P} {c : Course (Completed P) (Planned P)}
       → Enqueues cmp now m p c → IsOrderly cmp p → EndsWith (IsOrderly cmp) c
-  enqueue_orderly {now = now} {m = m} {p = p} (at_once free) h =
-      by_late (m.should_deliver && nat_lt last_moment (now + m.latency))
-    where
-      at : ℕ
-      at = if m.should_deliver then later_of (p.last_arrival m.origin m.recipient) (now + m.latency) else now
-
-      by_late : (b : Bool)
-          → EndsWith (IsOrderly cmp)
-          (cond b (meets MomentTooLate)
-          (goes (completion_of m now (if m.should_deliver then Some at else None) ∷ [])
-          (record p { last_arrival = raised cmp p.last_arrival m at })))
-      by_late true = tt
-      by_late false = record {
-        rated = record { per = h.rated.per; rates = h.rated.rates; fair = h.rated.fair; rated = h.rated.rated };
-        one_each = h.one_each;
-        pair_order = h.pair_order;
-        empty_at_first = h.empty_at_first;
-        caps = h.caps;
-        last_arrival = raised_peerwise cmp order p.last_arrival m at h.last_arrival;
-      }
+  enqueue_orderly {now = now} {m = m} {p = p} (at_once free) h = grind arith
   enqueue_orderly (no_launch limits launch) h = tt
   enqueue_orderly {m = m} {p = p} (launches {leavers = leavers} {mid = mid} limits launch finishes) h =
       finish_orderly finishes (launch_orderly launch m leavers mid refl refl (queued_orderly p m limits h))
@@ -355,11 +204,4 @@ module _ {P : Type 0} (cmp : P → P → Ordering) (order : IsTotalOrder cmp) wh
   obeys_orderly p q call cs obeys h = call_orderly p call (goes cs q) obeys h
 
   pub new_orderly : (id : ℕ) → IsOrderly cmp (new_planned id)
-  new_orderly id = record {
-    rated = record { per = 1; rates = []; fair = no_sides cmp no_caps; rated = tt };
-    one_each = tt;
-    pair_order = tt;
-    empty_at_first = λ free. (refl, refl);
-    caps = record { egress = λ p q e. refl; ingress = λ p q e. refl; link = λ p q r s e f. refl };
-    last_arrival = λ p q r s e f. refl;
-  }
+  new_orderly id = grind (arith, no_sides)

@@ -1,13 +1,6 @@
 -- Planned worlds that are the same up to equal peers are in order alike.
-use Rattle.std.proofs.Common.{List, ◌∙◌}
-use Rattle.std.specs.declared.cmp.Ordering.{Ordering}
-use Rattle.std.specs.Cmp.{IsTotalOrder}
-use Rattle.link_simulation.specs.Simulation.Messages.{SameMessage}
-use Rattle.link_simulation.specs.Simulation.World.{Completed}
-use Rattle.link_simulation.specs.Simulation.Calls.{Call}
-use Rattle.link_simulation.specs.Rule.Planned.{Planned, rated_messages}
-use Rattle.link_simulation.specs.Rule.SamePlanned.{IsSameRatedFlight, IsSamePlanned, GoesByRule}
-use Rattle.link_simulation.specs.Laws.Orderly.{IsOrderly}
+use Rattle.link_simulation.proofs.Common.{◌∙◌, SameMessage, IsSameRatedFlight, List, Ordering, IsTotalOrder, Completed}
+use Rattle.link_simulation.proofs.Common.{Call, Planned, rated_messages, IsSamePlanned, GoesByRule, IsOrderly}
 use Rattle.link_simulation.proofs.Laws.Orderly.{obeys_orderly}
 use Rattle.link_simulation.proofs.Rule.SamePlanned.{pairs_turned, pairs_chain, caps_turned, caps_chain}
 use Rattle.link_simulation.proofs.Rule.SameSteps.{none_same, flows_same}

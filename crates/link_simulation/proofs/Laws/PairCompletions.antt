@@ -1,28 +1,17 @@
 -- The messages of a pair complete in the order in which they were enqueued, and are delivered in it.
-use Rattle.std.proofs.Common.{◌≡◌, ℕ, suc, ◌+◌, ◌-◌, ◌≤◌, List, [], ◌∷◌, ◌++◌, map, Bool, true, false}
-use Rattle.std.proofs.Common.{cond, max, Option, Some, None, refl, sym, ap, ◌∙◌, subst, arith, append_assoc}
-use Rattle.std.proofs.Common.{append-nil}
-use Rattle.std.specs.Prelude.{◌&&◌, IfSome, nat_lt, if◌then◌else◌}
-use Rattle.std.specs.List.{filter, AllZip}
-use Rattle.std.specs.declared.cmp.Ordering.{Ordering}
-use Rattle.std.specs.Cmp.{IsTotalOrder}
-use Rattle.std.proofs.lemmas.List.Elements.{filter-append}
-use Rattle.std.proofs.lemmas.Bool.{leb-true, le-leb}
-use Rattle.fair_rates.specs.declared.error.Error.TheVariants.{MomentTooLate}
-use Rattle.fair_rates.specs.Sides.Subjects.{same_peer}
-use Rattle.link_simulation.specs.Simulation.Messages.{Message, Caps, PairsAlike, same_pair}
-use Rattle.link_simulation.specs.Simulation.World.{World, Flight, Completed, completion_of, Course, goes, meets}
-use Rattle.link_simulation.specs.Simulation.World.{last_moment, preceded, and_then, is_in_order, later_of, new_world}
-use Rattle.link_simulation.specs.Simulation.World.{first_waiting, start_next, raised}
-use Rattle.link_simulation.specs.Simulation.World.{settle}
-use Rattle.link_simulation.specs.Simulation.World.{instant, EndsWith}
-use Rattle.link_simulation.specs.Simulation.Time.{IsSound, Drains, Ticks, no_tick, one_tick, tick_faults}
-use Rattle.link_simulation.specs.Simulation.Calls.{Call, call_limit, call_limit_link, call_enqueue, call_advance}
-use Rattle.link_simulation.specs.Simulation.Calls.{rebalance, join, complete_at_once, act, moment_of, Runs}
-use Rattle.link_simulation.specs.Simulation.Calls.{call_enqueue_all, call_next}
-use Rattle.link_simulation.specs.Simulation.Calls.{limited_by, linked_by, enqueue, enqueue_each}
-use Rattle.link_simulation.specs.Laws.PairCompletions.{enqueued, answered, IsCompletionOf, NeverGoDown, IsInPairOrder}
-use Rattle.link_simulation.specs.Laws.Isolation.{Answers, no_calls, call_answers}
+use Rattle.link_simulation.proofs.Common.{preceded, EndsWith, common_steps, ◌≡◌, ℕ, suc, ◌+◌, ◌-◌, ◌≤◌, List, [], ◌∷◌}
+use Rattle.link_simulation.proofs.Common.{◌++◌, map, Bool, true, false, cond, Option, Some, None, refl, sym, ap, ◌∙◌}
+use Rattle.link_simulation.proofs.Common.{subst, arith, append_assoc, append-nil, ◌&&◌, IfSome, nat_lt, if◌then◌else◌}
+use Rattle.link_simulation.proofs.Common.{filter, AllZip, Ordering, IsTotalOrder, filter-append, leb-true, le-leb}
+use Rattle.link_simulation.proofs.Common.{MomentTooLate, Message, Caps, PairsAlike, same_pair, World, Flight, Completed}
+use Rattle.link_simulation.proofs.Common.{completion_of, Course, goes, meets, last_moment, and_then, is_in_order}
+use Rattle.link_simulation.proofs.Common.{later_of, new_world, raised, instant, IsSound, Drains, Ticks, no_tick}
+use Rattle.link_simulation.proofs.Common.{one_tick, tick_faults, Call, call_limit, call_limit_link, call_enqueue}
+use Rattle.link_simulation.proofs.Common.{call_advance, complete_at_once, act, moment_of, Runs, call_enqueue_all}
+use Rattle.link_simulation.proofs.Common.{call_next, limited_by, linked_by, enqueue, enqueue_each, enqueued, answered}
+use Rattle.link_simulation.proofs.Common.{IsCompletionOf, NeverGoDown, Answers, no_calls, call_answers}
+use Rattle.link_simulation.specs.Simulation.Calls.{join}
+use Rattle.link_simulation.specs.Laws.PairCompletions.{IsInPairOrder}
 use Rattle.link_simulation.proofs.Simulation.Queue.{pair_sym}
 use Rattle.link_simulation.proofs.Simulation.Stretch.{flows_drained}
 use Rattle.link_simulation.proofs.Simulation.Split.{rest_is}
@@ -31,66 +20,33 @@ use Rattle.link_simulation.proofs.Simulation.Sound.{new_world_sound, act_keeps_s
 use Rattle.link_simulation.proofs.Simulation.QuietInstants.{ends_at}
 use Rattle.link_simulation.proofs.Laws.PairHistories.{held, told_of_k, waits, last, NotPast, AllNotPast, IsHistory}
 use Rattle.link_simulation.proofs.Laws.PairHistories.{deliveries_push, not_past_later, not_past_push, raises}
-use Rattle.link_simulation.proofs.Laws.PairHistories.{reaches_it, told_push, told_more, told_same, last_of}
-use Rattle.link_simulation.proofs.Laws.PairHistories.{GoesByRule, goes_preceded, goes_then, stays, next_goes}
-use Rattle.link_simulation.proofs.Laws.PairHistories.{settle_goes, instant_goes}
+use Rattle.link_simulation.proofs.Laws.PairHistories.{reaches_it, told_push, told_more, told_same, last_of, GoesByRule}
+use Rattle.link_simulation.proofs.Laws.PairHistories.{goes_preceded, goes_then, stays, next_goes, settle_goes}
+use Rattle.link_simulation.proofs.Laws.PairHistories.{instant_goes}
 
 -- what the first call enqueues stands in front
 pub enqueued_split : {P : Type 0} (call : Call P) (calls : List (Call P))
     → enqueued (call ∷ []) ++ enqueued calls ≡ enqueued (call ∷ calls)
-enqueued_split (call_limit now peer egress ingress) calls = refl
-enqueued_split (call_limit_link now origin recipient cap) calls = refl
-enqueued_split (call_enqueue now m) calls = refl
 enqueued_split (call_enqueue_all now ms) calls = ap (λ ns. ns ++ enqueued calls) (append-nil ms)
-enqueued_split (call_advance now) calls = refl
-enqueued_split call_next calls = refl
+enqueued_split call calls = refl
 
 module _ {P : Type 0} (cmp : P → P → Ordering) (order : IsTotalOrder cmp) (k : Message P) where
   -- ---- time
 
   drain_history : (messages : List (Message P)) (t : ℕ) (cs : List (Completed P)) (w v : World P) → Drains cmp w v
       → IsHistory cmp order k messages t cs w → IsHistory cmp order k messages (suc t) cs v
-  drain_history messages t cs w v d h = subst (IsHistory cmp order k messages (suc t) cs) (sym d.world) (record {
-    done = h.done;
-    flying = h.flying;
-    told = h.told;
-    in_flight = ap (filter (same_pair cmp k)) (flows_drained cmp d.per d.rates 1 w.sending) ∙ h.in_flight;
-    queue = h.queue;
-    deliveries = h.deliveries;
-    not_past = h.not_past;
-    in_order = later h.flying h.in_order;
-    alike = h.alike;
-    now = let at : w.moment ≡ t = h.now in omega arith;
-  })
-    where
-      no_less : (l : Option ℕ) (a b : ℕ) → a ≤ b → is_in_order l a ≡ true → is_in_order l b ≡ true
-      no_less None a b le e = refl
-      no_less (Some last) a b le e = let under : last ≤ a = leb-true last a e in le-leb last b (omega arith)
-
-      later : (o : Option (Message P)) → IfSome o (λ m. is_in_order (last cmp order k w) (t + m.latency) ≡ true)
-          → IfSome o (λ m. is_in_order (last cmp order k w) (suc t + m.latency) ≡ true)
-      later None e = tt
-      later (Some m) e = no_less (last cmp order k w) (t + m.latency) (suc t + m.latency) (omega arith) e
+  drain_history messages t cs w v d h = grind (arith, flows_drained, leb-true, le-leb)
 
   ticks_history : {n : ℕ} {w : World P} {c : Course (Completed P) (World P)} → Ticks cmp n w c
       → (messages : List (Message P)) (t : ℕ) (cs ds : List (Completed P)) (v : World P)
       → c ≡ goes ds v → IsHistory cmp order k messages t cs w → IsHistory cmp order k messages (t + n) (cs ++ ds) v
   unfolding GoesByRule
-  ticks_history {w = w} no_tick messages t cs ds v e h =
-      let none : [] ≡ ds = cc in
-      let same : w ≡ v = cc in
-      let count : t ≡ t + 0 = omega arith in
-      subst (λ (s : ℕ). IsHistory cmp order k messages s (cs ++ ds) v) count
-      (subst (λ (xs : List (Completed P)). IsHistory cmp order k messages t xs v)
-      (sym (append-nil cs) ∙ ap (λ (xs : List (Completed P)). cs ++ xs) none)
-      (subst (IsHistory cmp order k messages t cs) same h))
+  ticks_history {w = w} no_tick messages t cs ds v e h = grind (arith, append-nil)
   ticks_history {w = w} (one_tick {n = n} {v = z} {u = u} {cs = es} {rest = rest} d i more) messages t cs ds v e h =
       let r : (fs : List (Completed P)) × (rest ≡ goes fs v) × (es ++ fs ≡ ds) = rest_is cmp es rest ds v e in
-      let after : IsHistory cmp order k messages (suc t) (cs ++ es) u =
-      lands (instant cmp z) i
+      let after = lands (instant cmp z) i
       (instant_goes cmp order k messages (suc t) cs z (drain_history messages t cs w z d h)) in
-      let on : IsHistory cmp order k messages (suc t + n) ((cs ++ es) ++ r.0) v =
-      ticks_history more messages (suc t) (cs ++ es) r.0 v r.1 after in
+      let on = ticks_history more messages (suc t) (cs ++ es) r.0 v r.1 after in
       let count : suc t + n ≡ t + suc n = omega arith in
       subst (λ (s : ℕ). IsHistory cmp order k messages s (cs ++ ds) v) count
       (subst (λ (xs : List (Completed P)). IsHistory cmp order k messages (suc t + n) xs v)
@@ -110,26 +66,7 @@ module _ {P : Type 0} (cmp : P → P → Ordering) (order : IsTotalOrder cmp) (k
   queued_history : (messages : List (Message P)) (t : ℕ) (cs : List (Completed P)) (w : World P) (m : Message P)
       → IsHistory cmp order k messages t cs w
       → IsHistory cmp order k (messages ++ m ∷ []) t cs (record w { waiting = w.waiting ++ m ∷ [] })
-  queued_history messages t cs w m h = record {
-    done = h.done;
-    flying = h.flying;
-    told = h.told;
-    in_flight = h.in_flight;
-    queue =
-        filter-append (same_pair cmp k) messages (m ∷ [])
-        ∙ ap (λ (ms : List (Message P)). ms ++ filter (same_pair cmp k) (m ∷ [])) h.queue
-        ∙ regroup h.done (held h.flying) (waits cmp order k w) (filter (same_pair cmp k) (m ∷ []))
-        ∙ ap (λ (ms : List (Message P)). h.done ++ (held h.flying ++ ms))
-        (sym (filter-append (same_pair cmp k) w.waiting (m ∷ [])));
-    deliveries = h.deliveries;
-    not_past = h.not_past;
-    in_order = h.in_order;
-    alike = h.alike;
-    now = h.now;
-  }
-    where
-      regroup : (a b c d : List (Message P)) → (a ++ (b ++ c)) ++ d ≡ a ++ (b ++ (c ++ d))
-      regroup a b c d = append_assoc a (b ++ c) d ∙ ap (λ (ms : List (Message P)). a ++ ms) (append_assoc b c d)
+  queued_history messages t cs w m h = grind (arith, filter-append, held, append_assoc)
 
   none_more : (messages : List (Message P)) (t : ℕ) (cs : List (Completed P)) (w : World P)
       → IsHistory cmp order k messages t cs w → IsHistory cmp order k (messages ++ []) t cs w
@@ -139,19 +76,7 @@ module _ {P : Type 0} (cmp : P → P → Ordering) (order : IsTotalOrder cmp) (k
   recapped_history : (messages : List (Message P)) (t : ℕ) (cs : List (Completed P)) (w : World P) (caps : Caps P)
       → IsHistory cmp order k messages t cs w
       → IsHistory cmp order k messages t cs (record w { caps = caps; limited = true })
-  recapped_history messages t cs w caps h =
-      record {
-        done = h.done;
-        flying = h.flying;
-        told = h.told;
-        in_flight = h.in_flight;
-        queue = h.queue;
-        deliveries = h.deliveries;
-        not_past = h.not_past;
-        in_order = h.in_order;
-        alike = h.alike;
-        now = h.now;
-      }
+  recapped_history messages t cs w caps h = grind arith
 
   -- before any limit a message completes at once, with none ahead of it
   at_once_goes : (messages : List (Message P)) (t : ℕ) (cs : List (Completed P)) (w : World P) (m : Message P)
@@ -173,8 +98,7 @@ module _ {P : Type 0} (cmp : P → P → Ordering) (order : IsTotalOrder cmp) (k
       alike_too = raised_peerwise cmp order w.last_arrival m at h.alike
 
       none_flies : held h.flying ≡ []
-      none_flies = sym h.in_flight
-          ∙ ap (λ (fs : List (Flight P)). filter (same_pair cmp k) (map (λ (f : Flight P). f.message) fs)) sends
+      none_flies = grind arith
 
       all_done : filter (same_pair cmp k) messages ≡ h.done
       all_done =
@@ -182,22 +106,15 @@ module _ {P : Type 0} (cmp : P → P → Ordering) (order : IsTotalOrder cmp) (k
           ∙ ap (λ (ms : List (Message P)). h.done ++ filter (same_pair cmp k) ms) none_waits ∙ append-nil h.done
 
       own_last : same_pair cmp k m ≡ true → last cmp order k after ≡ Some (later_of (last cmp order k w) at)
-      own_last own = let here : (same_peer cmp m.origin k.origin && same_peer cmp m.recipient k.recipient) ≡ true =
-          pair_sym cmp order m k ∙ own in rw here refl
+      own_last own = grind (arith, pair_sym)
 
       other_last : same_pair cmp k m ≡ false → last cmp order k after ≡ last cmp order k w
-      other_last off = let out : (same_peer cmp m.origin k.origin && same_peer cmp m.recipient k.recipient) ≡ false =
-          pair_sym cmp order m k ∙ off in rw out refl
+      other_last off = grind (arith, pair_sym)
 
       grows : same_pair cmp k m ≡ true → (b : Bool)
           → IfSome (if b then Some (if b then later_of (w.last_arrival m.origin m.recipient) (t + m.latency) else t)
           else None) (λ s. is_in_order (last cmp order k w) s ≡ true)
-      grows own true = subst (λ (l : Option ℕ). is_in_order (last cmp order k w) (later_of l (t + m.latency)) ≡ true)
-          (sym (last_of cmp order k w m h.alike own)) (not_before (last cmp order k w))
-        where
-          not_before : (l : Option ℕ) → is_in_order l (later_of l (t + m.latency)) ≡ true
-          not_before None = refl
-          not_before (Some last) = le-leb last (max last (t + m.latency)) (omega arith)
+      grows own true = grind (arith, last_of, le-leb)
       grows own false = tt
 
       reached : (b : Bool)
@@ -205,14 +122,12 @@ module _ {P : Type 0} (cmp : P → P → Ordering) (order : IsTotalOrder cmp) (k
           (t + m.latency) else t) else None) (NotPast cmp order k (Some
           (later_of (last cmp order k w)
           (if b then later_of (w.last_arrival m.origin m.recipient) (t + m.latency) else t))))
-      reached true =
-          reaches_it cmp order k (last cmp order k w) (later_of (w.last_arrival m.origin m.recipient) (t + m.latency))
+      reached true = grind (arith, reaches_it)
       reached false = tt
 
       by_pair : (b : Bool) → same_pair cmp k m ≡ b → IsHistory cmp order k (messages ++ m ∷ []) t (cs ++ c ∷ []) after
       by_pair true own =
-          let list_is : told_of_k cmp order k (cs ++ c ∷ []) ≡ told_of_k cmp order k cs ++ c ∷ [] =
-          told_more cmp order k cs c own in
+          let list_is = told_more cmp order k cs c own in
           record {
             done = h.done ++ m ∷ [];
             flying = None;
@@ -243,8 +158,7 @@ module _ {P : Type 0} (cmp : P → P → Ordering) (order : IsTotalOrder cmp) (k
             now = h.now;
           }
       by_pair false off =
-          let list_is : told_of_k cmp order k (cs ++ c ∷ []) ≡ told_of_k cmp order k cs =
-          told_same cmp order k cs c off in
+          let list_is = told_same cmp order k cs c off in
           record {
             done = h.done;
             flying = None;
@@ -281,12 +195,7 @@ module _ {P : Type 0} (cmp : P → P → Ordering) (order : IsTotalOrder cmp) (k
       waiting = record w { waiting = w.waiting ++ m ∷ [] }
 
       joins : GoesByRule cmp order k (messages ++ m ∷ []) t cs (join cmp t w m)
-      joins =
-          goes_then cmp order k (messages ++ m ∷ []) t cs (start_next cmp t waiting (first_waiting cmp waiting m))
-          (settle cmp t)
-          (next_goes cmp order k (messages ++ m ∷ []) t cs waiting m (first_waiting cmp waiting m) refl
-          (queued_history messages t cs w m h))
-          (λ ds u g. settle_goes cmp order k (messages ++ m ∷ []) t ds u g)
+      joins = grind (arith, goes_then, waiting, next_goes, queued_history, settle_goes)
 
       by_mode : (b : Bool) → w.limited ≡ b
           → GoesByRule cmp order k (messages ++ m ∷ []) t cs (cond b (join cmp t w m) (complete_at_once cmp t w m))
@@ -320,32 +229,15 @@ module _ {P : Type 0} (cmp : P → P → Ordering) (order : IsTotalOrder cmp) (k
       → IsSound cmp w → IsHistory cmp order k messages t cs w
       → GoesByRule cmp order k (messages ++ added call) t cs (act cmp w call)
   act_goes messages t cs w (call_limit s peer egress ingress) e sound h =
-      let same : t ≡ s = cc in
-      subst (λ (n : ℕ). GoesByRule cmp order k (messages ++ []) t cs
-      (rebalance cmp n w (limited_by cmp w.caps peer egress ingress))) same
-      (settle_goes cmp order k (messages ++ []) t cs (record w {
-        caps = limited_by cmp w.caps peer egress ingress;
-        limited = true;
-      }) (none_more messages t cs _ (recapped_history messages t cs w
-      (limited_by cmp w.caps peer egress ingress) h)))
+      grind (arith, common_steps, (limited_by cmp w.caps peer egress ingress), (settle_goes cmp order k (messages ++
+      []) t cs (record w { caps = limited_by cmp w.caps peer egress ingress; limited = true; }) (none_more messages t
+      cs _ (recapped_history messages t cs w (limited_by cmp w.caps peer egress ingress) h))))
   act_goes messages t cs w (call_limit_link s origin recipient cap) e sound h =
-      let same : t ≡ s = cc in
-      subst (λ (n : ℕ). GoesByRule cmp order k (messages ++ []) t cs
-      (rebalance cmp n w (linked_by cmp w.caps origin recipient cap))) same
-      (settle_goes cmp order k (messages ++ []) t cs (record w {
-        caps = linked_by cmp w.caps origin recipient cap;
-        limited = true;
-      }) (none_more messages t cs _ (recapped_history messages t cs w
-      (linked_by cmp w.caps origin recipient cap) h)))
-  act_goes messages t cs w (call_enqueue s m) e sound h =
-      let same : t ≡ s = cc in
-      subst (λ (n : ℕ). GoesByRule cmp order k (messages ++ m ∷ []) t cs (enqueue cmp n w m)) same
-      (enqueue_goes messages t cs w m sound h)
-  act_goes messages t cs w (call_enqueue_all s ms) e sound h =
-      let same : t ≡ s = cc in
-      subst (λ (n : ℕ). GoesByRule cmp order k (messages ++ (ms ++ [])) t cs (enqueue_each cmp n w ms)) same
-      (subst (λ (ns : List (Message P)). GoesByRule cmp order k (messages ++ ns) t cs (enqueue_each cmp t w ms))
-      (sym (append-nil ms)) (each_goes ms messages t cs w sound h))
+      grind (arith, common_steps, (settle_goes cmp order k (messages ++ []) t cs (record w { caps = linked_by cmp
+      w.caps origin recipient cap; limited = true; }) (none_more messages t cs _ (recapped_history messages t cs w
+      (linked_by cmp w.caps origin recipient cap) h))))
+  act_goes messages t cs w (call_enqueue s m) e sound h = grind (arith, enqueue_goes)
+  act_goes messages t cs w (call_enqueue_all s ms) e sound h = grind (arith, append-nil, each_goes)
   act_goes messages t cs w (call_advance s) e sound h =
       stays cmp order k (messages ++ []) t cs w (none_more messages t cs w h)
   act_goes messages t cs w call_next e sound h = cc
@@ -359,53 +251,35 @@ module _ {P : Type 0} (cmp : P → P → Ordering) (order : IsTotalOrder cmp) (k
     where
       by_ticked : (c : Course (Completed P) (World P)) → runs.ticked ≡ c
           → IsHistory cmp order k (messages ++ added call) now (cs ++ ds) u
-      by_ticked (meets fault) is = let clash : goes ds u ≡ meets fault =
-          runs.acts ∙ ap (λ (c : Course (Completed P) (World P)). and_then c (λ v. act cmp v call)) is in cc
+      by_ticked (meets fault) is = grind arith
       by_ticked (goes es v) is =
           let count : w.moment + (now - w.moment) ≡ now = omega arith in
-          let there : IsHistory cmp order k messages now (cs ++ es) v =
-          subst (λ (s : ℕ). IsHistory cmp order k messages s (cs ++ es) v) count
+          let there = subst (λ (s : ℕ). IsHistory cmp order k messages s (cs ++ es) v) count
           (ticks_history runs.ticks messages w.moment cs es v is h) in
           let sound_v : IsSound cmp v =
           ends_at cmp order (IsSound cmp) runs.ticked es v is (ticks_keep_sound cmp order runs.ticks sound) in
-          let acts : goes ds u ≡ preceded es (act cmp v call) =
-          runs.acts ∙ ap (λ (c : Course (Completed P) (World P)). and_then c (λ x. act cmp x call)) is in
-          let all : GoesByRule cmp order k (messages ++ added call) now cs (preceded es (act cmp v call))
-          = goes_preceded cmp order k (messages ++ added call) now cs es (act cmp v call)
+          let acts = runs.acts ∙ ap (λ (c : Course (Completed P) (World P)). and_then c (λ x. act cmp x call)) is in
+          let all = goes_preceded cmp order k (messages ++ added call) now cs es (act cmp v call)
           (act_goes messages now (cs ++ es) v call at sound_v there) in
           subst (GoesByRule cmp order k (messages ++ added call) now cs) (sym acts) all
 
   ends_in_order : (messages : List (Message P)) (t : ℕ) (cs : List (Completed P)) (w : World P)
       → IsHistory cmp order k messages t cs w → IsInPairOrder cmp k messages cs
-  ends_in_order messages t cs w h = record {
-    done = h.done;
-    rest = held h.flying ++ waits cmp order k w;
-    messages_are = h.queue;
-    completions_are = h.told;
-    deliveries = h.deliveries;
-  }
+  ends_in_order messages t cs w h = grind arith
 
   answers_in_order : {w : World P} {calls : List (Call P)} {css : List (List (Completed P))} → Answers cmp w calls css
       → (messages : List (Message P)) (cs : List (Completed P))
       → IsSound cmp w → IsHistory cmp order k messages w.moment cs w
       → IsInPairOrder cmp k (messages ++ enqueued calls) (cs ++ answered css)
-  answers_in_order {w = w} no_calls messages cs sound h =
-      subst (λ (ms : List (Message P)). IsInPairOrder cmp k ms (cs ++ [])) (sym (append-nil messages))
-      (subst (IsInPairOrder cmp k messages) (sym (append-nil cs)) (ends_in_order messages w.moment cs w h))
+  answers_in_order {w = w} no_calls messages cs sound h = grind (arith, append-nil, ends_in_order)
   answers_in_order {w = w} (call_answers {u = u} {call = call} {now = now} {calls = calls} {cs = ds} {css = css} at
       after runs more) messages cs sound h =
-      let next : IsHistory cmp order k (messages ++ added call) now (cs ++ ds) u =
-      run_history messages cs ds w u call now at after runs sound h in
-      let sound_u : EndsWith (IsSound cmp) (goes ds u) = call_keeps_sound cmp order w call now (goes ds u) sound runs in
-      let here : IsHistory cmp order k (messages ++ added call) u.moment (cs ++ ds) u =
-      subst (λ (s : ℕ). IsHistory cmp order k (messages ++ added call) s (cs ++ ds) u) (sym next.now) next in
-      let rest : IsInPairOrder cmp k ((messages ++ added call) ++ enqueued calls) ((cs ++ ds) ++ answered css) =
-      answers_in_order more (messages ++ added call) (cs ++ ds) sound_u here in
-      subst (λ (ms : List (Message P)). IsInPairOrder cmp k ms (cs ++ (ds ++ answered css)))
-      (append_assoc messages (added call) (enqueued calls)
-      ∙ ap (λ (ms : List (Message P)). messages ++ ms) (enqueued_split call calls))
-      (subst (IsInPairOrder cmp k ((messages ++ added call) ++ enqueued calls)) (append_assoc cs ds (answered css))
-      rest)
+      let next = run_history messages cs ds w u call now at after runs sound h in
+      let sound_u = call_keeps_sound cmp order w call now (goes ds u) sound runs in
+      let here : IsHistory cmp order k (messages ++ added call) u.moment (cs ++ ds) u = grind arith in
+      let rest = answers_in_order more (messages ++ added call) (cs ++ ds) sound_u here in
+      grind (arith, (append_assoc messages (added call) (enqueued calls)), (enqueued_split call calls),
+      (append_assoc cs ds (answered css)))
 
   new_history : (id : ℕ) → IsHistory cmp order k [] 0 [] (new_world id)
   new_history id = record {

@@ -1,32 +1,21 @@
 -- How far a pair is: which of its messages completed, which is in flight, which wait. Starts, completions and whole
 -- instants keep it.
-use Rattle.std.proofs.Common.{◌≡◌, ℕ, zero, suc, ◌+◌, ◌≤◌, List, [], ◌∷◌, ◌++◌, map, length, Bool, true, false}
-use Rattle.std.proofs.Common.{cond, not, Option, Some, None, refl, sym, ap, ◌∙◌, subst, arith, append_assoc}
-use Rattle.std.proofs.Common.{append-nil}
-use Rattle.std.specs.Prelude.{⊤, ◌&&◌, ◌||◌, IfSome, nat_le, if◌then◌else◌}
-use Rattle.std.specs.List.{list_any, find, filter, AllZip}
-use Rattle.std.specs.declared.cmp.Ordering.{Ordering}
-use Rattle.std.specs.Cmp.{IsTotalOrder}
-use Rattle.std.proofs.lemmas.List.Elements.{filter-append}
-use Rattle.std.proofs.lemmas.List.{map-append}
-use Rattle.std.proofs.lemmas.Bool.{leb-true, and_parts}
-use Rattle.fair_rates.specs.Lists.WithoutFirst.{without_first}
-use Rattle.fair_rates.specs.declared.error.Error.TheVariants.{MomentTooLate, FlowIdsUsedUp}
-use Rattle.fair_rates.specs.Sides.Subjects.{same_peer}
-use Rattle.link_simulation.specs.Simulation.Messages.{Message, PairsAlike, same_pair, is_delivered}
-use Rattle.link_simulation.specs.Simulation.World.{World, Flight, Completed, completion_of, Course, goes, meets}
-use Rattle.link_simulation.specs.Simulation.World.{last_moment, preceded, and_then, is_in_order, later_of}
-use Rattle.link_simulation.specs.Simulation.World.{flows, first_waiting, may_start, start, start_next, is_done}
-use Rattle.link_simulation.specs.Simulation.World.{complete, settle_within, settle, least_pair, ready, turn}
-use Rattle.link_simulation.specs.Simulation.World.{wake_within, wake, instant, fronts, out_of_flight, is_late}
-use Rattle.link_simulation.specs.Simulation.World.{completed, arrival, flight_of}
-use Rattle.link_simulation.specs.Laws.PairCompletions.{IsCompletionOf, NoneBefore, NeverGoDown}
-use Rattle.link_simulation.specs.Laws.PairCompletions.{completes_pair}
+use Rattle.link_simulation.proofs.Common.{nat_le, FlowIdsUsedUp, completion_of, last_moment, ◌≡◌, ℕ, zero, suc, ◌+◌}
+use Rattle.link_simulation.proofs.Common.{◌≤◌, List, [], ◌∷◌, ◌++◌, map, length, Bool, true, false, cond, not, Option}
+use Rattle.link_simulation.proofs.Common.{Some, None, refl, sym, ap, ◌∙◌, subst, arith, append_assoc, append-nil, ⊤}
+use Rattle.link_simulation.proofs.Common.{◌&&◌, IfSome, if◌then◌else◌, list_any, find, filter, AllZip, Ordering}
+use Rattle.link_simulation.proofs.Common.{IsTotalOrder, filter-append, map-append, leb-true, without_first}
+use Rattle.link_simulation.proofs.Common.{MomentTooLate, same_peer, Message, PairsAlike, same_pair, is_delivered, World}
+use Rattle.link_simulation.proofs.Common.{Flight, Completed, Course, goes, meets, preceded, and_then, is_in_order}
+use Rattle.link_simulation.proofs.Common.{later_of, flows, first_waiting, may_start, start, start_next, is_done}
+use Rattle.link_simulation.proofs.Common.{complete, settle_within, settle, least_pair, ready, turn, wake_within}
+use Rattle.link_simulation.proofs.Common.{instant, fronts, out_of_flight, is_late, completed, arrival, flight_of}
+use Rattle.link_simulation.proofs.Common.{IsCompletionOf, NeverGoDown, Each, rules}
+use Rattle.link_simulation.specs.Laws.PairCompletions.{NoneBefore, completes_pair}
 use Rattle.link_simulation.proofs.Simulation.Queue.{pair_like, pair_sym, find_passes, settle_none, settle_first}
 use Rattle.link_simulation.proofs.Simulation.SettlingEnds.{find_like}
 use Rattle.link_simulation.proofs.Laws.Bytes.{wake_none, each_least, each_filter}
 use Rattle.link_simulation.proofs.Simulation.OtherPairs.{fronts_are_first}
-use Rattle.fair_rates.proofs.Lists.Each.{Each}
 use Rattle.fair_rates.proofs.Lists.Members.{filter_nothing}
 use Rattle.link_simulation.proofs.Simulation.Sound.{raised_peerwise}
 
@@ -51,8 +40,7 @@ taken_out {X} {Y} p f test x y (z ∷ zs) e own one =
         → (f x ≡ y) × (filter p (map f (without_first test zs)) ≡ []))
         → (f x ≡ y) × (filter p (map f (cond b zs (z ∷ without_first test zs))) ≡ [])
     by_test true is true at e one ih = let same : z ≡ x = cc in let head : f z ≡ y = cc in (ap f (sym same) ∙ head, cc)
-    by_test true is false at e one ih =
-        let same : z ≡ x = cc in let off : p (f x) ≡ false = ap (λ w. p (f w)) (sym same) ∙ at in cc
+    by_test true is false at e one ih = grind arith
     by_test false is true at e one ih =
         let none : filter p (map f zs) ≡ [] = cc in
         let there : list_any p (map f zs) ≡ true = has_one (find_in zs e) in
@@ -60,28 +48,14 @@ taken_out {X} {Y} p f test x y (z ∷ zs) e own one =
       where
         find_in : (ws : List X) → find test ws ≡ Some x → list_any p (map f ws) ≡ true
         find_in [] e = cc
-        find_in (w ∷ ws) e = by_head (test w) e (find_in ws)
-          where
-            by_head : (b : Bool) → cond b (Some w) (find test ws) ≡ Some x
-                → (find test ws ≡ Some x → list_any p (map f ws) ≡ true) → (p (f w) || list_any p (map f ws)) ≡ true
-            by_head true e ih = let same : w ≡ x = cc in rw (ap (λ v. p (f v)) same ∙ own) refl
-            by_head false e ih = or_right (p (f w)) (ih e)
-              where
-                or_right : (a : Bool) {b : Bool} → b ≡ true → (a || b) ≡ true
-                or_right true h = refl
-                or_right false h = h
+        find_in (w ∷ ws) e = grind (arith, (find_in ws))
 
         has_one : list_any p (map f zs) ≡ true → list_any p (map f zs) ≡ true
         has_one h = h
 
         none_there : (ws : List Y) → filter p ws ≡ [] → list_any p ws ≡ false
         none_there [] e = refl
-        none_there (w ∷ ws) e = by_head (p w) e (none_there ws)
-          where
-            by_head : (b : Bool) → cond b (w ∷ filter p ws) (filter p ws) ≡ []
-                → (filter p ws ≡ [] → list_any p ws ≡ false) → (b || list_any p ws) ≡ false
-            by_head true e ih = cc
-            by_head false e ih = ih e
+        none_there (w ∷ ws) e = grind (arith, (none_there ws))
 
         not_both : {a : Bool} → a ≡ false → a ≡ true → ⊥
         not_both e g = cc
@@ -91,13 +65,7 @@ taken_out {X} {Y} p f test x y (z ∷ zs) e own one =
 not_taken : {X Y : Type 0} (p : Y → Bool) (f : X → Y) (test : X → Bool) (x : X) (xs : List X) → find test xs ≡ Some x
     → p (f x) ≡ false → filter p (map f (without_first test xs)) ≡ filter p (map f xs)
 not_taken p f test x [] e off = refl
-not_taken {X} {Y} p f test x (z ∷ zs) e off = by_test (test z) e (not_taken p f test x zs)
-  where
-    by_test : (b : Bool) → cond b (Some z) (find test zs) ≡ Some x
-        → (find test zs ≡ Some x → p (f x) ≡ false → filter p (map f (without_first test zs)) ≡ filter p (map f zs))
-        → filter p (map f (cond b zs (z ∷ without_first test zs))) ≡ filter p (map f (z ∷ zs))
-    by_test true e ih = let same : z ≡ x = cc in let out : p (f z) ≡ false = ap (λ w. p (f w)) same ∙ off in rw out refl
-    by_test false e ih = ap (λ ys. cond (p (f z)) (f z ∷ ys) ys) (ih e off)
+not_taken {X} {Y} p f test x (z ∷ zs) e off = grind (arith, (not_taken p f test x zs))
 
 module _ {P : Type 0} (cmp : P → P → Ordering) (order : IsTotalOrder cmp) (k : Message P) where
   -- what completed of the pair, what of it waits, what is in flight, and its last arrival
@@ -144,32 +112,13 @@ module _ {P : Type 0} (cmp : P → P → Ordering) (order : IsTotalOrder cmp) (k
   -- a delivery that no earlier one is past joins them
   pub deliveries_push : (l : Option ℕ) (cs : List (Completed P)) (c : Completed P) → NeverGoDown cs → AllNotPast l cs
       → IfSome c.deliver_at (λ s. is_in_order l s ≡ true) → NeverGoDown (cs ++ c ∷ [])
-  deliveries_push l [] c h past own = (none_after c.deliver_at, tt)
-    where
-      none_after : (o : Option ℕ) → IfSome o (λ t. NoneBefore {P = P} t [])
-      none_after None = tt
-      none_after (Some t) = tt
-  deliveries_push l (d ∷ ds) c h past own = (by_moment d.deliver_at h.0 past.0, deliveries_push l ds c h.1 past.1 own)
-    where
-      later : (t : ℕ) (l : Option ℕ) (o : Option ℕ) → NotPast l t → IfSome o (λ s. is_in_order l s ≡ true)
-          → IfSome o (λ s. t ≤ s)
-      later t None o np h = absurd np
-      later t (Some last) None np h = tt
-      later t (Some last) (Some s) np h = let le : last ≤ s = leb-true last s h in omega arith
-
-      by_moment : (o : Option ℕ) → IfSome o (λ t. NoneBefore t ds) → IfSome o (NotPast l)
-          → IfSome o (λ t. NoneBefore t (ds ++ c ∷ []))
-      by_moment None h np = tt
-      by_moment (Some t) h np = none_before_push t ds c h (later t l c.deliver_at np own)
+  deliveries_push l [] c h past own = grind arith
+  deliveries_push l (d ∷ ds) c h past own = grind (arith, leb-true, none_before_push, (deliveries_push l ds c))
 
   pub not_past_later : (l m : Option ℕ) (cs : List (Completed P)) → ((s : ℕ) → NotPast l s → NotPast m s)
       → AllNotPast l cs → AllNotPast m cs
   not_past_later l m [] grows h = tt
-  not_past_later l m (c ∷ cs) grows h = (by_moment c.deliver_at h.0, not_past_later l m cs grows h.1)
-    where
-      by_moment : (o : Option ℕ) → IfSome o (NotPast l) → IfSome o (NotPast m)
-      by_moment None np = tt
-      by_moment (Some s) np = grows s np
+  not_past_later l m (c ∷ cs) grows h = grind (arith, (not_past_later l m cs grows))
 
   pub not_past_push : (l : Option ℕ) (cs : List (Completed P)) (c : Completed P) → AllNotPast l cs
       → IfSome c.deliver_at (NotPast l) → AllNotPast l (cs ++ c ∷ [])
@@ -204,9 +153,7 @@ module _ {P : Type 0} (cmp : P → P → Ordering) (order : IsTotalOrder cmp) (k
 
   pub last_of : (w : World P) (m : Message P) → PairsAlike cmp w.last_arrival w.last_arrival
       → same_pair cmp k m ≡ true → w.last_arrival m.origin m.recipient ≡ last w
-  last_of w m alike own =
-      let parts = and_parts (same_peer cmp k.origin m.origin) (same_peer cmp k.recipient m.recipient) own in
-      sym (alike k.origin m.origin k.recipient m.recipient parts.0 parts.1)
+  last_of w m alike own = grind arith
 
   first_of_waits : (w : World P) (m : Message P) → same_pair cmp k m ≡ true → find (same_pair cmp m) w.waiting ≡ Some m
       → waits w ≡ m ∷ filter (same_pair cmp k) (without_first (same_pair cmp m) w.waiting)
@@ -215,20 +162,7 @@ module _ {P : Type 0} (cmp : P → P → Ordering) (order : IsTotalOrder cmp) (k
       by_list : (ws : List (Message P)) → find (same_pair cmp k) ws ≡ Some m
           → filter (same_pair cmp k) ws ≡ m ∷ filter (same_pair cmp k) (without_first (same_pair cmp m) ws)
       by_list [] e = cc
-      by_list (x ∷ ws) e = by_test (same_pair cmp k x) refl (same_pair cmp m x) refl e (by_list ws)
-        where
-          by_test : (b : Bool) → same_pair cmp k x ≡ b → (c : Bool) → same_pair cmp m x ≡ c
-              → cond b (Some x) (find (same_pair cmp k) ws) ≡ Some m
-              → (find (same_pair cmp k) ws ≡ Some m
-              → filter (same_pair cmp k) ws ≡ m ∷ filter (same_pair cmp k) (without_first (same_pair cmp m) ws))
-              → cond b (x ∷ filter (same_pair cmp k) ws) (filter (same_pair cmp k) ws)
-              ≡ m ∷ filter (same_pair cmp k) (cond c ws (x ∷ without_first (same_pair cmp m) ws))
-          by_test true is true at e ih =
-              let same : x ≡ m = cc in ap (λ (y : Message P). y ∷ filter (same_pair cmp k) ws) same
-          by_test true is false at e ih = let on : same_pair cmp m x ≡ true = pair_like cmp order k m x own ∙ is in cc
-          by_test false is true at e ih =
-              let off : same_pair cmp k x ≡ true = sym (pair_like cmp order k m x own) ∙ at in cc
-          by_test false is false at e ih = ih e ∙ ap (λ (ms : List (Message P)). m ∷ ms) (sym (rw is refl))
+      by_list (x ∷ ws) e = grind (arith, pair_like, (by_list ws))
 
   waits_without : (ws : List (Message P)) (m : Message P) → same_pair cmp k m ≡ false
       → filter (same_pair cmp k) (without_first (same_pair cmp m) ws) ≡ filter (same_pair cmp k) ws
@@ -252,10 +186,7 @@ module _ {P : Type 0} (cmp : P → P → Ordering) (order : IsTotalOrder cmp) (k
 
   flies_more : (w : World P) (m : Message P) → flies (joined w m) ≡ flies w ++ filter (same_pair cmp k) (m ∷ [])
   unfolding joined
-  flies_more w m =
-      ap (filter (same_pair cmp k)) (map-append (λ (f : Flight P). f.message) w.sending (flight_of m ∷ []))
-      ∙ filter-append
-      (same_pair cmp k) (flows w) (m ∷ [])
+  flies_more w m = grind (arith, map-append, (filter-append (same_pair cmp k) (flows w) (m ∷ [])))
 
   start_history : (messages : List (Message P)) (t : ℕ) (cs : List (Completed P)) (w : World P) (m : Message P)
       → find (same_pair cmp m) w.waiting ≡ Some m
@@ -269,19 +200,12 @@ module _ {P : Type 0} (cmp : P → P → Ordering) (order : IsTotalOrder cmp) (k
 
       apart : (list_any (same_pair cmp m) (flows w) ≡ false)
           × (is_in_order (w.last_arrival m.origin m.recipient) (t + m.latency) ≡ true)
-      apart = may_parts (list_any (same_pair cmp m) (flows w))
-          (is_in_order (w.last_arrival m.origin m.recipient) (t + m.latency)) may
+      apart = grind (arith, may_parts)
 
       like_any : (ns : List (Message P)) → same_pair cmp k m ≡ true → list_any (same_pair cmp m) ns ≡ false
           → list_any (same_pair cmp k) ns ≡ false
       like_any [] own e = refl
-      like_any (n ∷ ns) own e = rw (← pair_like cmp order k m n own) (by_head (same_pair cmp m n) e (like_any ns own))
-        where
-          by_head : (b : Bool) → (b || list_any (same_pair cmp m) ns) ≡ false
-              → (list_any (same_pair cmp m) ns ≡ false → list_any (same_pair cmp k) ns ≡ false)
-              → (b || list_any (same_pair cmp k) ns) ≡ false
-          by_head true e ih = cc
-          by_head false e ih = ih e
+      like_any (n ∷ ns) own e = grind (arith, pair_like, (like_any ns own))
 
       idle_is : flies w ≡ [] → held h.flying ≡ []
       idle_is e = sym h.in_flight ∙ e
@@ -293,30 +217,15 @@ module _ {P : Type 0} (cmp : P → P → Ordering) (order : IsTotalOrder cmp) (k
             done = h.done;
             flying = Some m;
             told = h.told;
-            in_flight = flies_more w m ∙ ap (λ (ms : List (Message P)). ms ++ filter (same_pair cmp k) (m ∷ [])) none
-                ∙ rw own refl;
-            queue = h.queue ∙ ap (λ (ms : List (Message P)). h.done ++ (ms ++ waits w)) (idle_is none)
-                ∙ ap (λ (ms : List (Message P)). h.done ++ ms) (first_of_waits w m own found);
+            in_flight = grind (arith, flies_more);
+            queue = grind (arith, idle_is, first_of_waits);
             deliveries = h.deliveries;
             not_past = h.not_past;
             in_order = subst (λ (o : Option ℕ). is_in_order o (t + m.latency) ≡ true) (last_of w m h.alike own) apart.1;
             alike = h.alike;
             now = h.now;
           }
-      by_pair false off = record {
-        done = h.done;
-        flying = h.flying;
-        told = h.told;
-        in_flight = flies_more w m ∙ ap (λ (ms : List (Message P)). ms ++ filter (same_pair cmp k) (m ∷ []))
-            h.in_flight ∙ rw off (append-nil (held h.flying));
-        queue = h.queue ∙ ap (λ (ms : List (Message P)). h.done ++ (held h.flying ++ ms))
-            (sym (waits_without w.waiting m off));
-        deliveries = h.deliveries;
-        not_past = h.not_past;
-        in_order = h.in_order;
-        alike = h.alike;
-        now = h.now;
-      }
+      by_pair false off = grind (arith, flies_more, append-nil, held, waits_without)
 
   -- ---- courses
 
@@ -357,12 +266,7 @@ module _ {P : Type 0} (cmp : P → P → Ordering) (order : IsTotalOrder cmp) (k
     pub next_goes : (cs : List (Completed P)) (w : World P) (n : Message P) (o : Option (Message P))
         → find (same_pair cmp n) w.waiting ≡ o → IsHistory messages t cs w → GoesByRule cs (start_next cmp t w o)
     next_goes cs w n None is h = stays cs w h
-    next_goes cs w n (Some m) is h = by_may (may_start cmp t w m) refl
-      where
-        by_may : (b : Bool) → may_start cmp t w m ≡ b → GoesByRule cs (cond b (start cmp w m) (goes [] w))
-        by_may true may = start_goes cs w m
-            (find_like cmp order n m w.waiting (find_passes (same_pair cmp n) m w.waiting is) ∙ is) may h
-        by_may false may = stays cs w h
+    next_goes cs w n (Some m) is h = search (rules, start, start_goes, find_like, find_passes, stays)
 
     -- ---- a completion
 
@@ -516,15 +420,7 @@ module _ {P : Type 0} (cmp : P → P → Ordering) (order : IsTotalOrder cmp) (k
         → GoesByRule cs (settle_within cmp n t w)
     settle_within_goes zero cs w h = stays cs w h
     settle_within_goes (suc n) cs w h =
-        by_first (find (is_done cmp w) w.sending) refl (λ ds u g. settle_within_goes n ds u g)
-      where
-        by_first : (o : Option (Flight P)) → find (is_done cmp w) w.sending ≡ o
-            → ((ds : List (Completed P)) (u : World P) → IsHistory messages t ds u
-            → GoesByRule ds (settle_within cmp n t u)) → GoesByRule cs (settle_within cmp (suc n) t w)
-        by_first None e ih = subst (GoesByRule cs) (sym (settle_none cmp order n t w e)) (stays cs w h)
-        by_first (Some f) e ih =
-            subst (GoesByRule cs) (sym (settle_first cmp order n t w f e))
-            (goes_then cs (complete cmp t w f.message) (settle_within cmp n t) (complete_goes cs w f e h) ih)
+        grind (arith, settle_none, stays, settle_first, goes_then, complete_goes, (settle_within_goes n))
 
     pub settle_goes : (cs : List (Completed P)) (w : World P) → IsHistory messages t cs w
         → GoesByRule cs (settle cmp t w)
@@ -548,20 +444,8 @@ module _ {P : Type 0} (cmp : P → P → Ordering) (order : IsTotalOrder cmp) (k
     wake_within_goes : (n : ℕ) (cs : List (Completed P)) (w : World P) → IsHistory messages t cs w
         → GoesByRule cs (wake_within cmp n t w)
     wake_within_goes zero cs w h = stays cs w h
-    wake_within_goes (suc n) cs w h =
-        by_least (least_pair cmp (ready cmp t w)) refl (λ ds u g. wake_within_goes n ds u g)
-      where
-        by_least : (o : Option (Message P)) → least_pair cmp (ready cmp t w) ≡ o
-            → ((ds : List (Completed P)) (u : World P) → IsHistory messages t ds u
-            → GoesByRule ds (wake_within cmp n t u)) → GoesByRule cs (wake_within cmp (suc n) t w)
-        by_least None e ih = subst (GoesByRule cs) (sym (wake_none cmp order n t w e)) (stays cs w h)
-        by_least (Some m) e ih = subst (GoesByRule cs) (sym (rw (e, wake_within) refl))
-            (goes_then cs (turn cmp t w m) (wake_within cmp n t) (turn_goes cs w m e h) ih)
+    wake_within_goes (suc n) cs w h = grind (arith, wake_none, stays, goes_then, turn, turn_goes, (wake_within_goes n))
 
     pub instant_goes : (cs : List (Completed P)) (w : World P) → IsHistory messages t cs w
         → GoesByRule cs (instant cmp w)
-    instant_goes cs w h =
-        goes_then cs (settle cmp w.moment w) (λ v. wake cmp v.moment v)
-        (subst (λ (s : ℕ). GoesByRule cs (settle cmp s w)) (sym h.now) (settle_goes cs w h))
-        (λ ds u g. subst (λ (s : ℕ). GoesByRule ds (wake cmp s u)) (sym g.now)
-        (wake_within_goes (length u.waiting) ds u g))
+    instant_goes cs w h = grind (arith, goes_then, settle_goes, wake_within_goes)

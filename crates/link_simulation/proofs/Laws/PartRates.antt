@@ -1,22 +1,15 @@
 -- Fair rates of messages that share no side with the others are fair for them alone.
-use Rattle.std.proofs.Common.{◌≡◌, ℕ, zero, suc, ◌+◌, ◌*◌, ◌≤◌, List, [], ◌∷◌, ◌++◌, map, Bool, true, false, cond}
-use Rattle.std.proofs.Common.{Option, Some, None, All, Contains, sum_by, refl, sym, ap, ◌∙◌, subst, arith, ◌⊎◌, inl}
-use Rattle.std.proofs.Common.{inr}
-use Rattle.std.specs.Prelude.{◌&&◌, slice_get, if◌then◌else◌}
-use Rattle.std.specs.List.{filter}
-use Rattle.std.specs.declared.cmp.Ordering.{Ordering}
-use Rattle.std.proofs.lemmas.List.Elements.{All-contains}
+use Rattle.link_simulation.proofs.Common.{common_steps, ◌≡◌, ℕ, zero, suc, ◌+◌, ◌*◌, ◌≤◌, List, [], ◌∷◌, map, Bool}
+use Rattle.link_simulation.proofs.Common.{true, false, cond, Option, Some, None, All, Contains, sum_by, refl, sym, ap}
+use Rattle.link_simulation.proofs.Common.{◌∙◌, subst, arith, inl, inr, ◌&&◌, slice_get, if◌then◌else◌, filter, Ordering}
+use Rattle.link_simulation.proofs.Common.{All-contains, Side, load, IsFair, flagged, same_peer, Message, Caps}
+use Rattle.link_simulation.proofs.Common.{same_pair, is_delivered, AreFair, Parts, capped_sides, sides_for, rates_from}
+use Rattle.link_simulation.proofs.Common.{is_unlimited, All-from_contains, In, places_from, rules}
 use Rattle.std.proofs.lemmas.List.Sums.{sum_by-cons}
-use Rattle.fair_rates.specs.Fairness.Fair.{Side, load, IsLimited, HasBottleneck, IsFair}
-use Rattle.fair_rates.specs.Fairness.Part.{flagged}
-use Rattle.fair_rates.specs.Sides.Subjects.{same_peer}
-use Rattle.link_simulation.specs.Simulation.Messages.{Message, Caps, same_pair, is_delivered}
-use Rattle.link_simulation.specs.Simulation.Rates.{AreFair, Parts, capped_sides, sides_for, rates_from, is_unlimited}
-use Rattle.link_simulation.specs.Simulation.Rates.{egress_side, ingress_side, link_side, capped_side}
-use Rattle.fair_rates.proofs.Lists.SumOrder.{All-from_contains}
-use Rattle.fair_rates.proofs.Lists.Members.{In, in_from_contains, contains_from_in, in_left, in_right, in_either}
-use Rattle.fair_rates.proofs.Lists.Members.{in_filter, from_filter, in_get, from_flat_map, in_flat_map}
-use Rattle.fair_rates.specs.Lists.Places.{places_from}
+use Rattle.fair_rates.specs.Fairness.Fair.{IsLimited, HasBottleneck}
+use Rattle.link_simulation.specs.Simulation.Rates.{capped_side}
+use Rattle.fair_rates.proofs.Lists.Members.{in_from_contains, contains_from_in, in_either, in_filter, from_filter}
+use Rattle.fair_rates.proofs.Lists.Members.{in_get, from_flat_map, in_flat_map}
 use Rattle.fair_rates.proofs.Lists.Places.{place_here, passes_here}
 
 -- which of the caps makes a side
@@ -64,14 +57,7 @@ sum_shifted {X} f g p q test (x ∷ xs) same =
     by_test : (b : Bool) → sum_by f (places_from (p + 1) test xs) ≡ sum_by g (places_from (q + 1) test xs)
         → sum_by f (cond b (p ∷ places_from (p + 1) test xs) (places_from (p + 1) test xs))
         ≡ sum_by g (cond b (q ∷ places_from (q + 1) test xs) (places_from (q + 1) test xs))
-    by_test true ih =
-        omega (
-          arith,
-          here,
-          ih,
-          sum_by-cons f p (places_from (p + 1) test xs),
-          sum_by-cons g q (places_from (q + 1) test xs),
-        )
+    by_test true ih = grind (arith, here, sum_by-cons, places_from)
     by_test false ih = ih
 
 -- a side whose users are all kept has the same load
@@ -87,12 +73,7 @@ kept_load {X} mine uses f (x ∷ xs) all =
 
     later : sum_by (λ i. f (suc (stood (map mine xs) i))) (places_from 0 uses (filter mine xs))
         ≡ sum_by (λ i. f (stood (true ∷ map mine xs) i)) (places_from 1 uses (filter mine xs))
-    later =
-        sum_shifted (λ i. f (suc (stood (map mine xs) i))) (λ i. f (stood (true ∷ map mine xs) i)) 0 1 uses
-        (filter mine xs) (λ i. at_next i)
-      where
-        at_next : (i : ℕ) → f (suc (stood (map mine xs) (0 + i))) ≡ f (stood (true ∷ map mine xs) (1 + i))
-        at_next i = let a : 0 + i ≡ i = omega arith in let b : 1 + i ≡ suc i = omega arith in rw (a, b) refl
+    later = grind (arith, sum_shifted)
 
     by_test : (b : Bool) → mine x ≡ b → (u : Bool) → uses x ≡ u
         → sum_by (λ i. f (suc (stood (map mine xs) i))) (places_from 0 uses (filter mine xs))
@@ -135,12 +116,7 @@ module _ {P : Type 0} (cmp : P → P → Ordering) (caps : Caps P) where
 
       later : rates_from cmp caps (λ i. f (suc (stood (map mine ms) i))) 0 (filter mine ms)
           ≡ rates_from cmp caps (λ i. f (stood (true ∷ map mine ms) i)) 1 (filter mine ms)
-      later =
-          rates_shifted (λ i. f (suc (stood (map mine ms) i))) (λ i. f (stood (true ∷ map mine ms) i)) 0 1
-          (filter mine ms) (λ i. at_next i)
-        where
-          at_next : (i : ℕ) → f (suc (stood (map mine ms) (0 + i))) ≡ f (stood (true ∷ map mine ms) (1 + i))
-          at_next i = let a : 0 + i ≡ i = omega arith in let b : 1 + i ≡ suc i = omega arith in rw (a, b) refl
+      later = grind (arith, rates_shifted)
 
       by_test : (b : Bool)
           → flagged (map mine ms) (rates_from cmp caps (λ i. f (suc i)) 0 ms)
@@ -177,60 +153,26 @@ module _ {P : Type 0} (cmp : P → P → Ordering) (caps : Caps P) where
   from_side_of (Some c) uses ms s (inl e) = (c, refl, sym e)
   from_side_of (Some c) uses ms s (inr h) = absurd h
 
-  to_side_of : (o : Option ℕ) (uses : Message P → Bool) (ms : List (Message P)) (cap : ℕ) → o ≡ Some cap
-      → In (capped_side cmp o uses ms) (record { cap = cap; users = places_from 0 uses ms })
-  to_side_of None uses ms cap e = cc
-  to_side_of (Some c) uses ms cap e =
-      let same : c ≡ cap = cc in inl (ap (λ k. record { cap = k; users = places_from 0 uses ms }) same)
-
   abbrev Brings : List (Message P) → Message P → Side → Type 0
   Brings ms m s = (k : Kind) × (cap : ℕ) × (cap_at k m ≡ Some cap) × (s ≡ side_at k ms m cap)
 
   from_sides_for : (ms : List (Message P)) (m : Message P) (s : Side) → In (sides_for cmp caps ms m) s → Brings ms m s
-  from_sides_for ms m s h =
-      by_kind (in_either (egress_side cmp caps ms m ++ ingress_side cmp caps ms m) (link_side cmp caps ms m) s h)
-    where
-      of_kind : (k : Kind) → (c : ℕ) × (cap_at k m ≡ Some c) × (s ≡ side_at k ms m c) → Brings ms m s
-      of_kind k (c, is, e) = (k, c, is, e)
-
-      by_first : In (egress_side cmp caps ms m) s ⊎ In (ingress_side cmp caps ms m) s → Brings ms m s
-      by_first (inl g) = of_kind at_egress (from_side_of (cap_at at_egress m) (uses_at at_egress m) ms s g)
-      by_first (inr g) = of_kind at_ingress (from_side_of (cap_at at_ingress m) (uses_at at_ingress m) ms s g)
-
-      by_kind : In (egress_side cmp caps ms m ++ ingress_side cmp caps ms m) s ⊎ In (link_side cmp caps ms m) s
-          → Brings ms m s
-      by_kind (inl g) = by_first (in_either (egress_side cmp caps ms m) (ingress_side cmp caps ms m) s g)
-      by_kind (inr g) = of_kind at_link (from_side_of (cap_at at_link m) (uses_at at_link m) ms s g)
+  from_sides_for ms m s h = search (rules, in_either, from_side_of)
 
   to_sides_for : (k : Kind) (ms : List (Message P)) (m : Message P) (c : ℕ) → cap_at k m ≡ Some c
       → In (sides_for cmp caps ms m) (side_at k ms m c)
-  to_sides_for at_egress ms m c e =
-      in_left (egress_side cmp caps ms m ++ ingress_side cmp caps ms m) (link_side cmp caps ms m)
-      (side_at at_egress ms m c)
-      (in_left (egress_side cmp caps ms m) (ingress_side cmp caps ms m) (side_at at_egress ms m c)
-      (to_side_of (cap_at at_egress m) (uses_at at_egress m) ms c e))
-  to_sides_for at_ingress ms m c e =
-      in_left (egress_side cmp caps ms m ++ ingress_side cmp caps ms m) (link_side cmp caps ms m)
-      (side_at at_ingress ms m c)
-      (in_right (egress_side cmp caps ms m) (ingress_side cmp caps ms m) (side_at at_ingress ms m c)
-      (to_side_of (cap_at at_ingress m) (uses_at at_ingress m) ms c e))
-  to_sides_for at_link ms m c e =
-      in_right (egress_side cmp caps ms m ++ ingress_side cmp caps ms m) (link_side cmp caps ms m)
-      (side_at at_link ms m c) (to_side_of (cap_at at_link m) (uses_at at_link m) ms c e)
+  to_sides_for _ ms m c e = grind arith
 
   -- what brings a side to the messages, and which side
   pub from_sides : (ms : List (Message P)) (s : Side) → Contains (capped_sides cmp caps ms) s
       → (m : Message P) × In ms m × Brings ms m s
   from_sides ms s has =
-      let r : (m : Message P) × In ms m × In (sides_for cmp caps ms m) s =
-      from_flat_map (sides_for cmp caps ms) ms s (in_from_contains (capped_sides cmp caps ms) s has) in
+      let r = from_flat_map (sides_for cmp caps ms) ms s (in_from_contains (capped_sides cmp caps ms) s has) in
       (r.0, r.1, from_sides_for ms r.0 s r.2)
 
   pub to_sides : (k : Kind) (ms : List (Message P)) (m : Message P) (c : ℕ) → In ms m → cap_at k m ≡ Some c
       → Contains (capped_sides cmp caps ms) (side_at k ms m c)
-  to_sides k ms m c has e =
-      contains_from_in (capped_sides cmp caps ms) (side_at k ms m c)
-      (in_flat_map (sides_for cmp caps ms) ms m (side_at k ms m c) has (to_sides_for k ms m c e))
+  to_sides k ms m c has e = grind (arith, contains_from_in, in_flat_map, to_sides_for)
 
   -- a side that a message of the set brings is used by messages of the set alone
   abbrev pub SharesNoSide : (Message P → Bool) → List (Message P) → Type 0
@@ -250,18 +192,13 @@ module _ {P : Type 0} (cmp : P → P → Ordering) (caps : Caps P) where
 
     of_part : (s : Side) → Contains (capped_sides cmp caps (filter mine ms)) s → Of s
     of_part s has =
-        let r : (m : Message P) × In (filter mine ms) m × Brings (filter mine ms) m s =
-        from_sides (filter mine ms) s has in
+        let r = from_sides (filter mine ms) s has in
         let g : In ms r.0 × (mine r.0 ≡ true) = from_filter mine ms r.0 r.1 in
         (r.0, g.0, g.1, r.2)
 
     part_within : (s : Side) → Of s → load own_parts s ≤ s.cap * per
     part_within s (m, has, own, (k, c, is, e)) =
-        let fits : load parts (side_at k ms m c) ≤ c * per
-        = All-contains (λ side. load parts side ≤ side.cap * per) (capped_sides cmp caps ms) (side_at k ms m c)
-        fair.within (to_sides k ms m c has is) in
-        subst (λ (z : Side). load own_parts z ≤ z.cap * per) (sym e)
-        (subst (λ n. n ≤ c * per) (sym (same_load k m c has own)) fits)
+        grind (arith, All-contains, (same_load k m c has own), (to_sides k ms m c has is))
 
     -- the bottleneck of a message in the whole list is one in the part
     part_bottleneck : (i : ℕ) (x : Message P) → slice_get (filter mine ms) i ≡ Some x
@@ -275,18 +212,14 @@ module _ {P : Type 0} (cmp : P → P → Ordering) (caps : Caps P) where
         by_side : (m : Message P) × In ms m × Brings ms m b.side
             → HasBottleneck (capped_sides cmp caps (filter mine ms)) per own_parts i
         by_side (m, has, (k, c, is, e)) =
-            let used : Contains (places_from 0 (uses_at k m) ms) (stood (map mine ms) i) =
-            subst (λ (z : Side). Contains z.users (stood (map mine ms) i)) e b.uses.used in
-            let there =
-            passes_here (uses_at k m) ms (stood (map mine ms) i)
+            let used = subst (λ (z : Side). Contains z.users (stood (map mine ms) i)) e b.uses.used in
+            let there = passes_here (uses_at k m) ms (stood (map mine ms) i)
             (in_from_contains (places_from 0 (uses_at k m) ms) (stood (map mine ms) i) used) in
             let same_x : Some there.0 ≡ Some x = sym there.1 ∙ stands.0 in
             let it : there.0 ≡ x = cc in
             let uses_x : uses_at k m x ≡ true = subst (λ (z : Message P). uses_at k m z ≡ true) it there.2 in
-            let own_m : mine m ≡ true =
-            apart k m x has (in_get ms (stood (map mine ms) i) x stands.0) uses_x ∙ stands.1 in
-            let filled : load parts (side_at k ms m c) ≡ c * per =
-            subst (λ (z : Side). load parts z ≡ z.cap * per) e b.full in
+            let own_m = apart k m x has (in_get ms (stood (map mine ms) i) x stands.0) uses_x ∙ stands.1 in
+            let filled = subst (λ (z : Side). load parts z ≡ z.cap * per) e b.full in
             let most : All (λ other. parts other ≤ parts (stood (map mine ms) i)) (places_from 0 (uses_at k m) ms)
             = subst (λ (z : Side). All (λ other. parts other ≤ parts (stood (map mine ms) i)) z.users) e b.greatest in
             record {
@@ -308,8 +241,7 @@ module _ {P : Type 0} (cmp : P → P → Ordering) (caps : Caps P) where
                 → All (λ o. parts o ≤ parts (stood (map mine ms) i)) (places_from 0 (uses_at k m) ms)
                 → own_parts other ≤ own_parts i
             greatest k m other has_other most =
-                let at =
-                passes_here (uses_at k m) (filter mine ms) other
+                let at = passes_here (uses_at k m) (filter mine ms) other
                 (in_from_contains (places_from 0 (uses_at k m) (filter mine ms)) other has_other) in
                 All-contains (λ o. parts o ≤ parts (stood (map mine ms) i)) (places_from 0 (uses_at k m) ms)
                 (stood (map mine ms) other) most
@@ -322,10 +254,8 @@ module _ {P : Type 0} (cmp : P → P → Ordering) (caps : Caps P) where
       where
         by_side : Of limited.0 → HasBottleneck (capped_sides cmp caps (filter mine ms)) per own_parts i
         by_side (m, has, own, (k, c, is, e)) =
-            let used : Contains (places_from 0 (uses_at k m) (filter mine ms)) i =
-            subst (λ (z : Side). Contains z.users i) e limited.1.used in
-            let at =
-            passes_here (uses_at k m) (filter mine ms) i
+            let used = subst (λ (z : Side). Contains z.users i) e limited.1.used in
+            let at = passes_here (uses_at k m) (filter mine ms) i
             (in_from_contains (places_from 0 (uses_at k m) (filter mine ms)) i used) in
             let there : slice_get ms (stood (map mine ms) i) ≡ Some at.0 = (stood_at mine ms i at.0 at.1).0 in
             part_bottleneck i at.0 at.1
@@ -350,8 +280,6 @@ module _ {P : Type 0} (cmp : P → P → Ordering) (caps : Caps P) where
   pub fair_part : (mine : Message P → Bool) (ms : List (Message P)) (per : ℕ) (rates : Parts) → SharesNoSide mine ms
       → AreFair cmp caps ms per rates
       → AreFair cmp caps (filter mine ms) per (flagged (map mine ms) rates)
-  fair_part mine ms per rates apart fair = record {
-    parts = λ i. fair.parts (stood (map mine ms) i);
-    fair = part_is_fair mine ms per fair.parts apart fair.fair;
-    rated = ap (flagged (map mine ms)) fair.rated ∙ kept_rates mine fair.parts ms;
-  }
+  fair_part mine ms per rates apart fair =
+      grind (arith, common_steps, (part_is_fair mine ms per fair.parts apart fair.fair),
+      (kept_rates mine fair.parts ms))

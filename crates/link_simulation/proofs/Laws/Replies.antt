@@ -1,25 +1,16 @@
 -- Replies that agree with the simulation, to calls in turn, keep the order of each pair and isolate sets of peers.
-use Rattle.std.proofs.Common.{◌≡◌, ℕ, zero, suc, ◌≤◌, List, [], ◌∷◌, Bool, true, false, cond, Option, Some, None, refl}
-use Rattle.std.proofs.Common.{sym, subst}
-use Rattle.std.specs.Prelude.{⊤, IfSome, take}
-use Rattle.std.specs.List.{filter, AllZip}
-use Rattle.std.specs.declared.cmp.Ordering.{Ordering}
-use Rattle.std.specs.Cmp.{IsTotalOrder}
-use Rattle.fair_rates.specs.Sides.Subjects.{same_peer}
-use Rattle.link_simulation.specs.Simulation.Messages.{Message}
-use Rattle.link_simulation.specs.Simulation.World.{new_world, Completed}
-use Rattle.link_simulation.specs.Simulation.Calls.{Call}
-use Rattle.link_simulation.specs.Simulation.Replies.{Reply, reply_done, reply_next, reply_refused, SameCompletion}
-use Rattle.link_simulation.specs.Simulation.Replies.{Agrees, made, completions_in}
-use Rattle.link_simulation.specs.Laws.PairCompletions.{enqueued, answered, IsCompletionOf, NoneBefore, NeverGoDown}
-use Rattle.link_simulation.specs.Laws.PairCompletions.{completes_pair, IsInPairOrder}
-use Rattle.link_simulation.specs.Laws.Isolation.{Answers, InTime, IsSet, NothingElse, inside_alone, is_kept}
-use Rattle.link_simulation.specs.Laws.Isolation.{kept_calls, kept_completions}
-use Rattle.link_simulation.specs.Laws.Replies.{AlwaysSoFar, Completes, CompletesInOrder, CompletePairsInOrder}
-use Rattle.link_simulation.specs.Laws.Replies.{IsolateSets}
+use Rattle.link_simulation.proofs.Common.{same_peer, arith, ◌≡◌, ℕ, zero, suc, List, [], ◌∷◌, Bool, true, false, cond}
+use Rattle.link_simulation.proofs.Common.{Option, Some, None, refl, ⊤, IfSome, filter, AllZip, Ordering, IsTotalOrder}
+use Rattle.link_simulation.proofs.Common.{Message, new_world, Completed, Call, Reply, reply_done, reply_next}
+use Rattle.link_simulation.proofs.Common.{reply_refused, SameCompletion, Agrees, made, completions_in, enqueued}
+use Rattle.link_simulation.proofs.Common.{answered, IsCompletionOf, NeverGoDown, InTime, Completes, zip-append}
+use Rattle.link_simulation.proofs.Common.{zip-filter}
 use Rattle.link_simulation.proofs.Simulation.Queue.{both_alike}
 use Rattle.link_simulation.proofs.Simulation.AlikeMessages.{same_itself, peers_alike}
-use Rattle.fair_rates.proofs.Lists.Zips.{zip-append, zip-filter}
+use Rattle.std.specs.Prelude.{take}
+use Rattle.link_simulation.specs.Laws.PairCompletions.{NoneBefore, completes_pair, IsInPairOrder}
+use Rattle.link_simulation.specs.Laws.Isolation.{IsSet, NothingElse, inside_alone, is_kept, kept_completions}
+use Rattle.link_simulation.specs.Laws.Replies.{AlwaysSoFar, CompletesInOrder, CompletePairsInOrder, IsolateSets}
 use Rattle.link_simulation.proofs.Laws.PairCompletions.{pair_in_order}
 use Rattle.link_simulation.proofs.Laws.IsolatedCalls.{isolation}
 use Rattle.link_simulation.proofs.Laws.MadeCalls.{Bridged, made_in_turn, any_turn}
@@ -76,51 +67,33 @@ module _ {P : Type 0} (cmp : P → P → Ordering) (order : IsTotalOrder cmp) wh
   completions_of [] (d ∷ ds) ms same all = absurd same
   completions_of (c ∷ cs) [] ms same all = absurd same
   completions_of (c ∷ cs) (d ∷ ds) [] same all = absurd all
-  completions_of (c ∷ cs) (d ∷ ds) (m ∷ ms) same all = (
-    (all.0.0, all.0.1, subst (λ (e : Completed P). SameCompletion cmp c e) all.0.2 same.0),
-    completions_of cs ds ms same.1 all.1,
-  )
+  completions_of (c ∷ cs) (d ∷ ds) (m ∷ ms) same all = grind (arith, (completions_of cs ds ms))
 
   none_before : (t : ℕ) (cs ds : List (Completed P)) → AllZip (SameCompletion cmp) cs ds → NoneBefore t ds
       → NoneBefore t cs
   none_before t [] ds same none = tt
   none_before t (c ∷ cs) [] same none = absurd same
-  none_before t (c ∷ cs) (d ∷ ds) same none = (
-    subst (λ (o : Option ℕ). IfSome o (λ s. t ≤ s)) (sym same.0.deliver_at) none.0,
-    none_before t cs ds same.1 none.1,
-  )
+  none_before t (c ∷ cs) (d ∷ ds) same none = grind (arith, (none_before t cs ds))
 
   never_down : (cs ds : List (Completed P)) → AllZip (SameCompletion cmp) cs ds → NeverGoDown ds → NeverGoDown cs
   never_down [] ds same never = tt
   never_down (c ∷ cs) [] same never = absurd same
-  never_down (c ∷ cs) (d ∷ ds) same never = (
-    if_more (λ t. NoneBefore t ds) (λ t. NoneBefore t cs) c.deliver_at (λ t none. none_before t cs ds same.1 none)
-        (subst (λ (o : Option ℕ). IfSome o (λ t. NoneBefore t ds)) (sym same.0.deliver_at) never.0),
-    never_down cs ds same.1 never.1,
-  )
+  never_down (c ∷ cs) (d ∷ ds) same never = grind (arith, if_more, none_before, (never_down cs ds))
 
   in_order_alike : (k : Message P) (messages : List (Message P)) (cs ds : List (Completed P))
       → AllZip (SameCompletion cmp) cs ds → IsInPairOrder cmp k messages ds
       → CompletesInOrder cmp k messages cs
   in_order_alike k messages cs ds same order_of =
-      let those : AllZip (SameCompletion cmp) (filter (completes_pair cmp k) cs) (filter (completes_pair cmp k) ds)
-      = zip-filter (SameCompletion cmp) (completes_pair cmp k) (completes_pair cmp k) (completes_alike k) cs ds same in
-      record {
-        done = order_of.done;
-        rest = order_of.rest;
-        messages_are = order_of.messages_are;
-        completions_are =
-            completions_of (filter (completes_pair cmp k) cs) (filter (completes_pair cmp k) ds) order_of.done those
-            order_of.completions_are;
-        deliveries =
-            never_down (filter (completes_pair cmp k) cs) (filter (completes_pair cmp k) ds) those order_of.deliveries;
-      }
+      let those = zip-filter (SameCompletion cmp) (completes_pair cmp k) (completes_pair cmp k) (completes_alike k) cs
+      ds same in
+      grind (arith, (completions_of (filter (completes_pair cmp k) cs) (filter (completes_pair cmp k) ds) order_of.done
+      those order_of.completions_are),
+      (never_down (filter (completes_pair cmp k) cs) (filter (completes_pair cmp k) ds) those order_of.deliveries))
 
   pub pairs_complete_in_order : (calls : List (Call P)) (replies : List (Reply P))
       → Agrees cmp (new_world 0) calls replies → AlwaysSoFar (CompletePairsInOrder cmp) calls replies
   pairs_complete_in_order calls replies agrees n k turns =
-      let bridged : Bridged cmp order (new_world 0) (take n calls) (take n replies) =
-      made_in_turn cmp order n calls replies (new_world 0) agrees turns in
+      let bridged : Bridged cmp order (new_world 0) (take n calls) (take n replies) = grind (arith, made_in_turn) in
       in_order_alike k (enqueued (made (take n calls) (take n replies))) (answered (completions_in (take n replies)))
       (answered bridged.0) (answered_alike (SameCompletion cmp) (completions_in (take n replies)) bridged.0 bridged.2)
       (pair_in_order cmp order k 0 (made (take n calls) (take n replies)) bridged.0 (any_turn cmp order bridged.1))
@@ -141,17 +114,7 @@ module _ {P : Type 0} (cmp : P → P → Ordering) (order : IsTotalOrder cmp) wh
     kept_alike (call ∷ calls) [] [] same = tt
     kept_alike (call ∷ calls) [] (ds ∷ dss) same = absurd same
     kept_alike (call ∷ calls) (cs ∷ css) [] same = absurd same
-    kept_alike (call ∷ calls) (cs ∷ css) (ds ∷ dss) same =
-        by_kept (is_kept inside call) (kept_alike calls css dss same.1)
-      where
-        by_kept : (b : Bool)
-            → AllZip (AllZip (SameCompletion cmp)) (kept_completions inside calls css)
-            (kept_completions inside calls dss)
-            → AllZip (AllZip (SameCompletion cmp))
-            (cond b (inside_alone inside cs ∷ kept_completions inside calls css) (kept_completions inside calls css))
-            (cond b (inside_alone inside ds ∷ kept_completions inside calls dss) (kept_completions inside calls dss))
-        by_kept true rest = (alone_alike cs ds same.0, rest)
-        by_kept false rest = rest
+    kept_alike (call ∷ calls) (cs ∷ css) (ds ∷ dss) same = grind (arith, alone_alike, (kept_alike calls css dss))
 
     nothing_alike : (calls : List (Call P)) (css dss : List (List (Completed P)))
         → AllZip (AllZip (SameCompletion cmp)) css dss → NothingElse inside calls dss → NothingElse inside calls css
@@ -170,18 +133,9 @@ module _ {P : Type 0} (cmp : P → P → Ordering) (order : IsTotalOrder cmp) wh
   pub sets_are_isolated : (calls : List (Call P)) (replies : List (Reply P)) → InTime calls
       → Agrees cmp (new_world 0) calls replies → AlwaysSoFar (IsolateSets cmp) calls replies
   sets_are_isolated calls replies in_time agrees n inside together apart turns =
-      let bridged : Bridged cmp order (new_world 0) (take n calls) (take n replies) =
-      made_in_turn cmp order n calls replies (new_world 0) agrees turns in
-      let calls_made : List (Call P) = made (take n calls) (take n replies) in
-      let isolated : Answers cmp (new_world 0) (kept_calls inside calls_made)
-      (kept_completions inside calls_made bridged.0)
-      × NothingElse inside calls_made bridged.0
-      = isolation cmp order inside together 0 calls_made bridged.0 bridged.1 apart
+      let bridged : Bridged cmp order (new_world 0) (take n calls) (take n replies) = grind (arith, made_in_turn) in
+      let calls_made = made (take n calls) (take n replies) in
+      let isolated = isolation cmp order inside together 0 calls_made bridged.0 bridged.1 apart
       (made_in_time (take n calls) (take n replies) (first_in_time n calls in_time)) in
-      record {
-        alone = kept_completions inside calls_made bridged.0;
-        answers = isolated.0;
-        same = kept_alike inside together calls_made (completions_in (take n replies)) bridged.0 bridged.2;
-        nothing_else =
-            nothing_alike inside together calls_made (completions_in (take n replies)) bridged.0 bridged.2 isolated.1;
-      }
+      grind (arith, (kept_alike inside together calls_made (completions_in (take n replies)) bridged.0 bridged.2),
+      (nothing_alike inside together calls_made (completions_in (take n replies)) bridged.0 bridged.2 isolated.1))

@@ -1,16 +1,9 @@
 -- An advance that goes by the event rule is an advance to any moment on the way and then on.
-use Rattle.std.proofs.Common.{◌≡◌, ℕ, ◌+◌, ◌-◌, ◌≤◌, List, ◌++◌, refl, sym, subst, arith}
-use Rattle.std.specs.List.{AllZip}
-use Rattle.std.specs.declared.cmp.Ordering.{Ordering}
-use Rattle.std.specs.Cmp.{IsTotalOrder}
-use Rattle.link_simulation.specs.Simulation.World.{World, Completed, Course, goes, meets, preceded, last_moment}
-use Rattle.link_simulation.specs.Simulation.Time.{Ticks, Continues}
-use Rattle.link_simulation.specs.Simulation.Calls.{call_advance, Runs}
-use Rattle.link_simulation.specs.Simulation.Replies.{SameCompletion}
-use Rattle.link_simulation.specs.Rule.Planned.{Planned}
-use Rattle.link_simulation.specs.Rule.StandsFor.{StandsFor}
-use Rattle.link_simulation.specs.Rule.SamePlanned.{GoesByRule}
-use Rattle.link_simulation.specs.Rule.Simulated.{IsRun, RunsInTwo, IsSplitAnywhere}
+use Rattle.link_simulation.proofs.Common.{◌≡◌, ℕ, ◌+◌, ◌-◌, ◌≤◌, List, refl, sym, subst, arith, Ordering, IsTotalOrder}
+use Rattle.link_simulation.proofs.Common.{World, Completed, Course, goes, meets, preceded, last_moment, Ticks}
+use Rattle.link_simulation.proofs.Common.{call_advance, Runs, Planned, GoesByRule, IsRun}
+use Rattle.link_simulation.specs.Simulation.Time.{Continues}
+use Rattle.link_simulation.specs.Rule.Simulated.{RunsInTwo, IsSplitAnywhere}
 use Rattle.link_simulation.proofs.Simulation.Split.{ticks_apart}
 use Rattle.link_simulation.proofs.Simulation.QuietInstants.{IsAt, ends_at, ticks_end_at}
 use Rattle.link_simulation.proofs.Laws.AdvanceOnward.{nothing_more, ticks_of}
@@ -25,13 +18,10 @@ module _ {P : Type 0} (cmp : P → P → Ordering) (order : IsTotalOrder cmp) wh
       → GoesByRule cmp p (call_advance now) completions q
       → IsSplitAnywhere cmp p now completions q
   advance_split_anywhere p q now completions in_time go w between stands after before =
-      let run : IsRun cmp w (call_advance now) now completions q
-      = calls_simulated cmp order p q (call_advance now) completions
-      (λ t at. let same : now ≡ t = cc in subst (λ (s : ℕ). s ≤ last_moment) same in_time) go w now
-      (record { stands = stands; moment = refl; turn = omega arith }) in
-      let apart : (first : Course (Completed P) (World P)) × Ticks cmp (between - w.moment) w first
-      × Continues cmp (now - between) first (goes run.answers run.after)
-      = ticks_apart cmp (ticks_of cmp order w now (goes run.answers run.after) run.runs) (between - w.moment)
+      let run = calls_simulated cmp order p q (call_advance now) completions (λ t at. let same : now ≡ t = cc in
+      subst (λ (s : ℕ). s ≤ last_moment) same in_time) go w now (record { stands = stands; moment = refl; turn =
+      omega arith }) in
+      let apart = ticks_apart cmp (ticks_of cmp order w now (goes run.answers run.after) run.runs) (between - w.moment)
       (now - between) (omega arith) in
       by_first run apart.0 apart.1 apart.2
     where
@@ -39,29 +29,14 @@ module _ {P : Type 0} (cmp : P → P → Ordering) (order : IsTotalOrder cmp) wh
           → Runs cmp w (call_advance between) between (goes ds v) → v.moment ≡ between
           → (rest : Course (Completed P) (World P)) → Ticks cmp (now - between) v rest
           → goes run.answers run.after ≡ preceded ds rest → RunsInTwo cmp w between now completions q
-      by_rest run ds v first at (goes es u) ticks is =
-          let answers : run.answers ≡ ds ++ es = cc in
-          let world : run.after ≡ u = cc in
-          let ticked : Ticks cmp (now - v.moment) v (goes es u) =
-          subst (λ (s : ℕ). Ticks cmp (now - s) v (goes es u)) (sym at) ticks in
-          record {
-            first_answers = ds;
-            between = v;
-            runs_first = first;
-            second_answers = es;
-            after = u;
-            runs_second = runs_of v now (goes es u) ticked;
-            same = subst (λ (xs : List (Completed P)). AllZip (SameCompletion cmp) completions xs) answers run.same;
-            stands = subst (λ (x : World P). StandsFor cmp q x) world run.stands;
-          }
+      by_rest run ds v first at (goes es u) ticks is = grind (arith, runs_of)
       by_rest run ds v first at (meets fault) ticks is = cc
 
       by_first : (run : IsRun cmp w (call_advance now) now completions q) (first : Course (Completed P) (World P))
           → Ticks cmp (between - w.moment) w first
           → Continues cmp (now - between) first (goes run.answers run.after) → RunsInTwo cmp w between now completions q
       by_first run (goes ds v) ticks (rest, more, is) =
-          let at : v.moment ≡ w.moment + (between - w.moment) =
-          ends_at cmp order (IsAt cmp order (w.moment + (between - w.moment))) (goes ds v) ds v refl
+          let at = ends_at cmp order (IsAt cmp order (w.moment + (between - w.moment))) (goes ds v) ds v refl
           (ticks_end_at cmp order ticks) in
           by_rest run ds v (runs_of w between (goes ds v) ticks) (omega arith) rest more is
       by_first run (meets fault) ticks is = cc

@@ -1,21 +1,12 @@
 -- Calls before the planned next event, and those that go by what `next` answers, come in their turn.
-use Rattle.std.proofs.Common.{◌≡◌, ℕ, ◌+◌, ◌<◌, ◌≤◌, List, [], ◌∷◌, Option, Some, None, refl, sym, subst, arith}
-use Rattle.std.proofs.Common.{◌++◌, ap, append_assoc, ◌∙◌}
-use Rattle.std.specs.Prelude.{IfSome}
-use Rattle.std.specs.declared.cmp.Ordering.{Ordering}
-use Rattle.std.specs.Cmp.{IsTotalOrder}
-use Rattle.link_simulation.specs.Simulation.World.{Course, preceded, and_then, meets}
-use Rattle.link_simulation.specs.Simulation.Messages.{Message}
-use Rattle.link_simulation.specs.Simulation.Calls.{enqueue, enqueue_each}
-use Rattle.link_simulation.specs.Simulation.World.{World, Completed, goes, new_world, IsQuiet}
-use Rattle.link_simulation.specs.Simulation.Time.{NextIs, IsSound}
-use Rattle.link_simulation.specs.Simulation.Calls.{Call, call_limit, call_limit_link, call_enqueue, call_advance}
-use Rattle.link_simulation.specs.Simulation.Calls.{call_enqueue_all, call_next, moment_of, Runs, IsInTurn, IsBeforeNext}
-use Rattle.link_simulation.specs.Simulation.Replies.{Reply, reply_done, reply_next, reply_refused, Agrees}
-use Rattle.link_simulation.specs.Rule.Planned.{Planned, next_event}
-use Rattle.link_simulation.specs.Rule.StandsFor.{StandsFor}
-use Rattle.link_simulation.specs.Rule.Simulated.{IsCalled, IsRun}
-use Rattle.link_simulation.specs.Laws.Replies.{IsBetween, GoByNext, AreInTurn}
+use Rattle.link_simulation.proofs.Common.{◌≡◌, ℕ, ◌+◌, ◌<◌, ◌≤◌, List, [], ◌∷◌, Option, Some, refl, sym, subst, arith}
+use Rattle.link_simulation.proofs.Common.{ap, append_assoc, ◌∙◌, IfSome, Ordering, IsTotalOrder, Course, preceded}
+use Rattle.link_simulation.proofs.Common.{and_then, meets, Message, enqueue, enqueue_each, World, Completed, goes}
+use Rattle.link_simulation.proofs.Common.{new_world, IsQuiet, NextIs, IsSound, Call, call_enqueue, call_advance}
+use Rattle.link_simulation.proofs.Common.{call_enqueue_all, call_next, moment_of, Runs, IsInTurn, IsBeforeNext, Reply}
+use Rattle.link_simulation.proofs.Common.{reply_done, reply_next, reply_refused, Agrees, Planned, next_event, StandsFor}
+use Rattle.link_simulation.proofs.Common.{IsCalled, IsRun, AreInTurn}
+use Rattle.link_simulation.specs.Laws.Replies.{IsBetween, GoByNext}
 use Rattle.link_simulation.proofs.Rule.Limit.{new_stands}
 use Rattle.link_simulation.proofs.Laws.MadeCalls.{run_ends, turn_later, before_next}
 use Rattle.link_simulation.proofs.Rule.Obeys.{acts_at_once}
@@ -33,16 +24,10 @@ module _ {P : Type 0} (cmp : P → P → Ordering) (order : IsTotalOrder cmp) wh
   -- a call no earlier than the world, and before its next event
   in_turn : (w : World P) (call : Call P) (now : ℕ) → moment_of call ≡ Some now → w.moment ≤ now
       → IsBeforeNext cmp now w → IsInTurn cmp w call
-  in_turn w (call_limit t peer egress ingress) now is le before =
-      let same : now ≡ t = cc in (omega arith, subst (λ (s : ℕ). IsBeforeNext cmp s w) same before)
-  in_turn w (call_limit_link t origin recipient cap) now is le before =
-      let same : now ≡ t = cc in (omega arith, subst (λ (s : ℕ). IsBeforeNext cmp s w) same before)
-  in_turn w (call_enqueue t m) now is le before =
-      let same : now ≡ t = cc in (omega arith, subst (λ (s : ℕ). IsBeforeNext cmp s w) same before)
-  in_turn w (call_enqueue_all t ms) now is le before =
-      let same : now ≡ t = cc in (omega arith, subst (λ (s : ℕ). IsBeforeNext cmp s w) same before)
   in_turn w (call_advance t) now is le before = let same : now ≡ t = cc in omega arith
   in_turn w call_next now is le before = tt
+  in_turn w call now is le before =
+      let same : now ≡ _ = cc in (omega arith, subst (λ (s : ℕ). IsBeforeNext cmp s w) same before)
 
   pub turn_by_next : (p : Planned P) (w : World P) (call : Call P) (now : ℕ) → StandsFor cmp p w
       → moment_of call ≡ Some now → w.moment ≤ now
@@ -55,13 +40,7 @@ module _ {P : Type 0} (cmp : P → P → Ordering) (order : IsTotalOrder cmp) wh
   pub called_at_once : (w : World P) (q : Planned P) (call other : Call P) (now : ℕ) (cs : List (Completed P))
       → moment_of other ≡ Some now
       → (run : IsRun cmp w call now cs q) → IsCalled cmp q other now run.after
-  called_at_once w q call other now cs is run = record {
-    stands = run.stands;
-    moment = is;
-    turn =
-        let at : run.after.moment ≡ now =
-        run.moment in turn_by_next q run.after other now run.stands is (omega arith) run.next;
-  }
+  called_at_once w q call other now cs is run = grind (arith, turn_by_next)
 
   -- ---- a list of messages
 
@@ -70,23 +49,13 @@ module _ {P : Type 0} (cmp : P → P → Ordering) (order : IsTotalOrder cmp) wh
       → IsQuiet cmp w.moment w → IsInTurn cmp w (call_enqueue_all now (m ∷ ms))
       → Runs cmp w (call_enqueue now m) now (goes cs v) → IsInTurn cmp v (call_enqueue_all now ms)
   rest_in_turn w v now m ms cs quiet turn runs =
-      let ends : (v.moment ≡ now) × IsQuiet cmp v.moment v =
-      run_ends cmp order w v (call_enqueue now m) now cs quiet refl turn.0 runs in
+      let ends = run_ends cmp order w v (call_enqueue now m) now cs quiet refl turn.0 runs in
       let at : v.moment ≡ now = ends.0 in
       (omega arith, before_next cmp order v now at)
 
   then_then : (c : Course (Completed P) (World P)) (f g : World P → Course (Completed P) (World P))
       → and_then c (λ v. and_then (f v) g) ≡ and_then (and_then c f) g
-  then_then (goes cs v) f g = both (f v)
-    where
-      after : (ds : List (Completed P)) (e : Course (Completed P) (World P))
-          → preceded cs (preceded ds e) ≡ preceded (cs ++ ds) e
-      after ds (goes es u) = ap (λ (l : List (Completed P)). goes l u) (sym (append_assoc cs ds es))
-      after ds (meets fault) = refl
-
-      both : (d : Course (Completed P) (World P)) → preceded cs (and_then d g) ≡ and_then (preceded cs d) g
-      both (goes ds u) = after ds (g u)
-      both (meets fault) = refl
+  then_then (goes cs v) f g = grind (arith, append_assoc)
   then_then (meets fault) f g = refl
 
   -- the first message and then the rest are the list
@@ -111,41 +80,24 @@ module _ {P : Type 0} (cmp : P → P → Ordering) (order : IsTotalOrder cmp) wh
 
   known_at_once : (w : World P) (at : ℕ) → w.moment ≡ at → Known (Some (at + 1)) w
   unfolding Known
-  known_at_once w at same now below next is = by_next next (next_is_later cmp order w next is)
-    where
-      by_next : (o : Option ℕ) → IfSome o (λ t. w.moment < t) → IfSome o (λ t. now < t)
-      by_next None later = tt
-      by_next (Some t) later = omega arith
+  known_at_once w at same now below next is = grind (arith, next_is_later)
 
   known_by_next : (w : World P) (next : Option ℕ) → IsSound cmp w → NextIs cmp w next → Known next w
   unfolding Known
-  known_by_next w next sound is now below other there =
-      subst (λ (o : Option ℕ). IfSome o (λ t. now < t)) (next_is_one cmp order w next other sound.positive is there)
-      below
+  known_by_next w next sound is now below other there = grind (arith, next_is_one)
 
   turn_between : (w : World P) (call : Call P) (from : ℕ) (before : Option ℕ) → w.moment ≡ from → Known before w
       → IsBetween from before call → IsInTurn cmp w call
   unfolding Known
-  turn_between w (call_limit now peer egress ingress) from before same known between =
-      (let le : from ≤ now = between.0 in omega arith, known now between.1)
-  turn_between w (call_limit_link now origin recipient cap) from before same known between =
-      (let le : from ≤ now = between.0 in omega arith, known now between.1)
-  turn_between w (call_enqueue now m) from before same known between =
-      (let le : from ≤ now = between.0 in omega arith, known now between.1)
-  turn_between w (call_enqueue_all now ms) from before same known between =
-      (let le : from ≤ now = between.0 in omega arith, known now between.1)
-  turn_between w (call_advance now) from before same known between = let le : from ≤ now = between in omega arith
+  turn_between w (call_advance now) from before same known between = omega arith
   turn_between w call_next from before same known between = tt
+  turn_between w call from before same known between = (omega arith, known _ between.1)
 
   asked : (w : World P) (calls : List (Call P)) (replies : List (Reply P)) (call : Call P) (next : Option ℕ)
       → Agrees cmp w (call ∷ calls) (reply_next next ∷ replies)
       → IsInTurn cmp w call × NextIs cmp w next
-  asked w calls replies (call_limit now peer egress ingress) next agrees = absurd agrees
-  asked w calls replies (call_limit_link now origin recipient cap) next agrees = absurd agrees
-  asked w calls replies (call_enqueue now m) next agrees = absurd agrees
-  asked w calls replies (call_enqueue_all now ms) next agrees = absurd agrees
-  asked w calls replies (call_advance now) next agrees = absurd agrees
   asked w calls replies call_next next agrees = (tt, agrees.0)
+  asked w calls replies call next agrees = absurd agrees
 
   Follow : List (Call P) → List (Reply P) → Type 0
   Follow calls replies =
@@ -157,17 +109,9 @@ module _ {P : Type 0} (cmp : P → P → Ordering) (order : IsTotalOrder cmp) wh
   by_next_in_turn [] replies w from before same sound quiet known go agrees = tt
   by_next_in_turn (call ∷ calls) [] w from before same sound quiet known go agrees = tt
   by_next_in_turn (call ∷ calls) (reply_next next ∷ replies) w from before same sound quiet known go agrees =
-      let here : IsInTurn cmp w call × NextIs cmp w next = asked w calls replies call next agrees in (
-        here.0,
-        by_next_in_turn calls replies w from next same sound quiet (known_by_next w next sound here.1) go
-            (agrees_next cmp w calls replies call next agrees),
-      )
+      grind (arith, asked, known_by_next, agrees_next, (by_next_in_turn calls replies w from next same sound quiet))
   by_next_in_turn (call ∷ calls) (reply_refused why ∷ replies) w from before same sound quiet known go agrees =
-      let turn : IsInTurn cmp w call = turn_between w call from before same known go.0 in (
-        turn,
-        by_next_in_turn calls replies w from before same sound quiet known go.1
-            (agrees_refused cmp w calls replies call why agrees turn),
-      )
+      grind (arith, turn_between, agrees_refused, (by_next_in_turn calls replies w from before same sound quiet known))
   by_next_in_turn (call ∷ calls) (reply_done cs ∷ replies) w from before same sound quiet known go agrees =
       (turn, after (by_next_in_turn calls replies))
     where
@@ -179,13 +123,10 @@ module _ {P : Type 0} (cmp : P → P → Ordering) (order : IsTotalOrder cmp) wh
       after ih now ds v is runs =
           let one : IsMade cmp w calls replies call cs = agrees_done cmp w calls replies call cs agrees turn in
           let at : now ≡ one.now = cc in
-          let both : goes ds v ≡ goes one.answers one.after
-          =
-          runs_are_one cmp order w call now (goes ds v) (goes one.answers one.after) sound runs
+          let both = runs_are_one cmp order w call now (goes ds v) (goes one.answers one.after) sound runs
           (subst (λ (t : ℕ). Runs cmp w call t (goes one.answers one.after)) (sym at) one.runs) in
           let there : one.after ≡ v = cc in
-          let ends : (v.moment ≡ now) × IsQuiet cmp v.moment v =
-          run_ends cmp order w v call now ds quiet is (turn_later cmp order w call now is turn) runs in
+          let ends = run_ends cmp order w v call now ds quiet is (turn_later cmp order w call now is turn) runs in
           let still : IsSound cmp v = call_keeps_sound cmp order w call now (goes ds v) sound runs in
           ih v now (Some (now + 1)) ends.0 still ends.1 (known_at_once v now ends.0)
           (subst (λ (o : Option ℕ). IfSome o (λ t. GoByNext t (Some (t + 1)) calls replies)) is go.1)

@@ -1,40 +1,23 @@
 -- An account at t takes out what is done in the world at t, and leaves the rest as it is there.
-use Rattle.std.proofs.Common.{◌≡◌, ℕ, suc, ◌-◌, ◌<◌, List, [], ◌∷◌, map, Bool, true, false, cond, not, Option, Some}
-use Rattle.std.proofs.Common.{None, refl, sym, ap, ◌∙◌, subst, arith}
-use Rattle.std.specs.Prelude.{◌==◌, IfSome, slice_get}
-use Rattle.std.specs.List.{filter, list_any, AllZip}
-use Rattle.std.specs.declared.cmp.Ordering.{Ordering}
-use Rattle.std.specs.Cmp.{IsTotalOrder}
-use Rattle.std.proofs.lemmas.Bool.{or_parts, not-true}
-use Rattle.fair_rates.specs.Numbers.Amount.{Amount, drained, reduced}
-use Rattle.fair_rates.specs.Numbers.LowestTerms.{reduced_positive}
-use Rattle.link_simulation.specs.Simulation.World.{Flight, World, is_done}
-use Rattle.link_simulation.specs.Rule.Events.{Accounts}
-use Rattle.link_simulation.specs.Simulation.Messages.{Message, OneForEachPair, PairsAlike, SameMessage, same_pair}
-use Rattle.link_simulation.specs.Simulation.Messages.{CapsAlike}
-use Rattle.link_simulation.specs.Rule.Planned.{AreInPairOrder, RatedFlight, Planned, drained_to, is_spent, left_at}
-use Rattle.link_simulation.specs.Rule.Planned.{rated_messages}
-use Rattle.link_simulation.specs.Simulation.Rates.{AreFair, IsLowest, Parts, drained_by, is_unlimited, rate_of}
-use Rattle.link_simulation.specs.Rule.StandsFor.{Follows, IsSameFlight, Tallies}
+use Rattle.link_simulation.proofs.Common.{common_steps, ◌≡◌, ℕ, suc, ◌-◌, ◌<◌, List, [], ◌∷◌, map, Bool, true, false}
+use Rattle.link_simulation.proofs.Common.{not, Some, None, refl, sym, ap, ◌∙◌, subst, arith, slice_get, filter, AllZip}
+use Rattle.link_simulation.proofs.Common.{Ordering, IsTotalOrder, Amount, reduced, reduced_positive, Flight, World}
+use Rattle.link_simulation.proofs.Common.{is_done, Accounts, Message, OneForEachPair, PairsAlike, SameMessage}
+use Rattle.link_simulation.proofs.Common.{same_pair, CapsAlike, AreInPairOrder, RatedFlight, Planned, drained_to}
+use Rattle.link_simulation.proofs.Common.{is_spent, left_at, rated_messages, IsLowest, Parts, is_unlimited, rate_of}
+use Rattle.link_simulation.proofs.Common.{Follows, IsSameFlight, Tallies, leaving, staying, Each, zip-filter}
 use Rattle.link_simulation.proofs.Simulation.LowestTerms.{drained_by_lowest, drained_none}
-use Rattle.link_simulation.specs.Simulation.Queue.{leaving, staying}
 use Rattle.link_simulation.proofs.Simulation.Queue.{any_filter}
 use Rattle.link_simulation.proofs.Simulation.AlikeMessages.{unlimited_alike}
-use Rattle.fair_rates.proofs.Lists.Each.{Each, each_at}
+use Rattle.fair_rates.proofs.Lists.Each.{each_at}
 use Rattle.link_simulation.proofs.Simulation.Rates.{all_rated}
-use Rattle.fair_rates.proofs.Lists.Zips.{zip-filter}
 
 -- ---- lists
 
 -- each that stays passes
 pub each_passes : {X : Type 0} (test : X → Bool) (xs : List X) → Each (λ x. test x ≡ true) (filter test xs)
 each_passes test [] = tt
-each_passes {X} test (x ∷ xs) = by_test (test x) refl (each_passes test xs)
-  where
-    by_test : (b : Bool) → test x ≡ b → Each (λ x. test x ≡ true) (filter test xs)
-        → Each (λ x. test x ≡ true) (cond b (x ∷ filter test xs) (filter test xs))
-    by_test true e ih = (e, ih)
-    by_test false e ih = ih
+each_passes {X} test (x ∷ xs) = grind (arith, (each_passes test xs))
 
 -- what matches nothing is nothing
 pub none_matched : {X Y : Type 0} (R : X → Y → Type 0) (ys : List Y) → AllZip R [] ys → ys ≡ []
@@ -55,14 +38,7 @@ module _ {P : Type 0} (cmp : P → P → Ordering) (order : IsTotalOrder cmp) wh
   drawn t [] [] all = tt
   drawn t [] (g ∷ gs) all = absurd all
   drawn t (f ∷ fs) [] all = absurd all
-  drawn t (f ∷ fs) (g ∷ gs) all = (
-    record {
-      message = all.0.message;
-      lowest = drained_by_lowest f.rate (t - f.updated) f.left all.0.rate all.0.lowest.positive;
-      left = all.0.left;
-    },
-    drawn t fs gs all.1,
-  )
+  drawn t (f ∷ fs) (g ∷ gs) all = grind (arith, drained_by_lowest, (drawn t fs gs))
 
   spent_alike : (p : Planned P) (w : World P) → CapsAlike cmp p.caps w.caps → (n : RatedFlight P) (g : Flight P)
       → IsDrawn n g → is_spent cmp p.caps n ≡ is_done cmp w g
@@ -95,15 +71,8 @@ module _ {P : Type 0} (cmp : P → P → Ordering) (order : IsTotalOrder cmp) wh
       let low : IsLowest n.left = subst IsLowest (sym stayed.0.2) all.0.lowest in
       let no_time : t - n.updated ≡ 0 = omega arith in
       let left : left_at t n ≡ n.left
-      = ap (λ (r : Option Amount). drained_by r (t - n.updated) n.left) rated.0
-      ∙ ap (λ (k : ℕ). drained n.left rate k) no_time ∙ drained_none n.left rate low positive in (
-        record {
-          message = subst (λ (m : Message P). SameMessage cmp m g.message) (sym stayed.0.1) all.0.message;
-          updated = omega arith;
-          lowest = low;
-          rate = subst (λ (r : Option Amount). IfSome r (λ x. 0 < x.den)) (sym rated.0) positive;
-          left = all.0.left ∙ sym stayed.0.2 ∙ sym left;
-        },
+      = grind (arith, drained_none) in (
+        grind arith,
         rated_flights t per rates ss ns gs some all.1 stayed.1 rated.1 (λ i. none (suc i)),
       )
 
@@ -115,40 +84,22 @@ module _ {P : Type 0} (cmp : P → P → Ordering) (order : IsTotalOrder cmp) wh
   each_limited p t [] [] stay stayed = tt
   each_limited p t [] (n ∷ ns) stay stayed = absurd stayed
   each_limited p t (s ∷ ss) [] stay stayed = absurd stayed
-  each_limited p t (s ∷ ss) (n ∷ ns) stay stayed =
-      let parts : ((s.left.num == 0) ≡ false) × (is_unlimited cmp p.caps s.message ≡ false) =
-      or_parts (s.left.num == 0) (is_unlimited cmp p.caps s.message) (not-true (is_spent cmp p.caps s) stay.0) in (
-        subst (λ (m : Message P). is_unlimited cmp p.caps m ≡ false) (sym stayed.0.1) parts.1,
-        each_limited p t ss ns stay.1 stayed.1,
-      )
+  each_limited p t (s ∷ ss) (n ∷ ns) stay stayed = grind (arith, (each_limited p t ss ns))
 
   one_filter : (test : Flight P → Bool) (fs : List (Flight P))
       → OneForEachPair cmp (map (λ (f : Flight P). f.message) fs)
       → OneForEachPair cmp (map (λ (f : Flight P). f.message) (filter test fs))
   one_filter test [] one = tt
   one_filter test (f ∷ fs) one =
-      by_test (test f) (any_filter cmp order (same_pair cmp f.message) test fs one.0) (one_filter test fs one.1)
-    where
-      by_test : (b : Bool)
-          → list_any (same_pair cmp f.message) (map (λ (f : Flight P). f.message) (filter test fs)) ≡ false
-          → OneForEachPair cmp (map (λ (f : Flight P). f.message) (filter test fs))
-          → OneForEachPair cmp (map (λ (f : Flight P). f.message) (cond b (f ∷ filter test fs) (filter test fs)))
-      by_test true h ih = (h, ih)
-      by_test false h ih = ih
+      grind (arith, common_steps, (any_filter cmp order (same_pair cmp f.message) test fs one.0),
+      (one_filter test fs one.1))
 
   -- an account at t takes out what is done in the world at t, and leaves the rest as it is there
   pub leavers_alike : (t : ℕ) (old new : Planned P) (leavers : List (Message P)) (w : World P) → Tallies cmp t old w
       → Accounts cmp t old leavers new
       → AllZip (SameMessage cmp) leavers (map (λ (g : Flight P). g.message) (leaving cmp w))
   unfolding leaving
-  leavers_alike t old new leavers w same account =
-      subst
-      (λ (ms : List (Message P)). AllZip (SameMessage cmp) ms
-      (map (λ (g : Flight P). g.message) (filter (is_done cmp w) w.sending)))
-      (sym account.left)
-      (drawn_messages (filter (is_spent cmp old.caps) (drained_to t old.sending)) (filter (is_done cmp w) w.sending)
-      (zip-filter IsDrawn (is_spent cmp old.caps) (is_done cmp w) (spent_alike old w same.caps)
-      (drained_to t old.sending) w.sending (drawn t old.sending w.sending same.sending)))
+  leavers_alike t old new leavers w same account = grind (arith, drawn_messages, zip-filter, spent_alike, drawn)
 
   pub account_follows : (t : ℕ) (old new : Planned P) (leavers : List (Message P)) (w : World P) → Tallies cmp t old w
       → Accounts cmp t old leavers new → Follows cmp t new (staying cmp w)
@@ -183,28 +134,12 @@ module _ {P : Type 0} (cmp : P → P → Ordering) (order : IsTotalOrder cmp) wh
       empty_at_first = λ free.
           still_empty (same.empty_at_first (sym (ap (λ (q : Planned P). q.limited) account.same) ∙ free));
     };
-    rated = record {
-      per = account.per;
-      rates = account.rates;
-      fair =
-          subst (λ (q : Planned P). AreFair cmp q.caps (rated_messages new.sending) account.per account.rates)
-          (sym account.same) account.fair;
-      rated = account.rated;
-    };
+    rated = grind arith;
     finish = account.finish;
   }
     where
       still_empty : (old.sending ≡ []) × (old.waiting ≡ []) → (new.sending ≡ []) × (new.waiting ≡ [])
-      still_empty (sends, waits) = (
-        none_matched {X = RatedFlight P} {Y = RatedFlight P}
-            (λ f g. (g.id ≡ f.id) × (g.message ≡ f.message) × (g.left ≡ f.left) × (g.updated ≡ t)) new.sending
-            (subst
-            (λ (fs : List (RatedFlight P)). AllZip
-            (λ f g. (g.id ≡ f.id) × (g.message ≡ f.message) × (g.left ≡ f.left) × (g.updated ≡ t))
-            (filter (λ (f : RatedFlight P). not (is_spent cmp old.caps f)) (drained_to t fs)) new.sending)
-            sends account.stayed),
-        ap (λ (q : Planned P). q.waiting) account.same ∙ waits,
-      )
+      still_empty (sends, waits) = grind (arith, none_matched)
 
       stays : List (RatedFlight P)
       stays = filter (λ (f : RatedFlight P). not (is_spent cmp old.caps f)) (drained_to t old.sending)

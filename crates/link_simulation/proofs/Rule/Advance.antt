@@ -1,22 +1,16 @@
 -- Advancing the planned world event by event is ticking the world nanosecond by nanosecond.
-use Rattle.std.proofs.Common.{◌≡◌, ℕ, zero, suc, ◌+◌, ◌-◌, ◌<◌, ◌≤◌, min, List, [], ◌++◌, length, true, false, Option}
-use Rattle.std.proofs.Common.{Some, None, refl, sym, ap, ◌∙◌, subst, arith, ◌⊎◌, inl, inr}
-use Rattle.std.specs.Prelude.{◌≢◌, IfSome}
-use Rattle.std.specs.List.{list_any}
-use Rattle.std.specs.declared.cmp.Ordering.{Ordering}
-use Rattle.std.specs.Cmp.{IsTotalOrder}
-use Rattle.std.proofs.lemmas.Bool.{cases_lt}
-use Rattle.link_simulation.specs.Simulation.World.{Completed, Course, IsQuiet, World, and_then, goes, instant, is_done}
-use Rattle.link_simulation.specs.Simulation.World.{last_moment, meets, preceded, ready, settle, wake}
-use Rattle.link_simulation.specs.Rule.Events.{Advances, Settles, Wakes, at_finish, at_start, finish_stops, no_more}
-use Rattle.link_simulation.specs.Rule.Events.{start_stops}
-use Rattle.link_simulation.specs.Rule.Planned.{IsLeastMoment, Planned, SomeReadyAt, SomeSpentAt, earlier, next_event}
-use Rattle.link_simulation.specs.Simulation.Rates.{is_unlimited}
-use Rattle.link_simulation.specs.Rule.StandsFor.{CoursesAlike, Follows, IsSettled, StandsFor, Tallies}
-use Rattle.link_simulation.specs.Simulation.Time.{Drains, Passes, Ticks, no_tick}
-use Rattle.fair_rates.specs.declared.error.Error.{Error}
-use Rattle.link_simulation.proofs.Rule.BeforeNext.{later, follows_later, both_before, none_done_before, quiet_before}
-use Rattle.link_simulation.proofs.Rule.BeforeNext.{passes_before, passes_to, finish_is_later, spent_at_finish, done_at}
+use Rattle.link_simulation.proofs.Common.{IsQuiet, ◌≡◌, ℕ, zero, suc, ◌+◌, ◌-◌, ◌<◌, ◌≤◌, List, [], length, false}
+use Rattle.link_simulation.proofs.Common.{Option, Some, None, refl, sym, ap, ◌∙◌, subst, arith, ◌⊎◌, inl, inr, IfSome}
+use Rattle.link_simulation.proofs.Common.{list_any, Ordering, IsTotalOrder, cases_lt, Completed, Course, World}
+use Rattle.link_simulation.proofs.Common.{and_then, goes, instant, is_done, last_moment, meets, preceded, ready, settle}
+use Rattle.link_simulation.proofs.Common.{wake, Advances, Settles, Wakes, at_finish, at_start, finish_stops, no_more}
+use Rattle.link_simulation.proofs.Common.{start_stops, IsLeastMoment, Planned, SomeReadyAt, SomeSpentAt, next_event}
+use Rattle.link_simulation.proofs.Common.{is_unlimited, CoursesAlike, Follows, IsSettled, StandsFor, Tallies, Ticks}
+use Rattle.link_simulation.proofs.Common.{no_tick, Error, rules}
+use Rattle.std.specs.Prelude.{◌≢◌}
+use Rattle.link_simulation.specs.Rule.Planned.{earlier}
+use Rattle.link_simulation.proofs.Rule.BeforeNext.{later, follows_later, none_done_before, quiet_before, passes_before}
+use Rattle.link_simulation.proofs.Rule.BeforeNext.{passes_to, finish_is_later, spent_at_finish, done_at}
 use Rattle.link_simulation.proofs.Rule.Settling.{settles_alike}
 use Rattle.link_simulation.proofs.Rule.FinishEvent.{settle_quiet, instant_is, ticks_through, ticks_quiet}
 use Rattle.link_simulation.proofs.Rule.FinishEvent.{settled_stands, settled_wakes, ready_later, start_is}
@@ -32,40 +26,17 @@ module _ {P : Type 0} (cmp : P → P → Ordering) (order : IsTotalOrder cmp) wh
   -- what is planned does not matter to what tallies
   unplanned : (t : ℕ) (p : Planned P) (w : World P) (finish start : Option ℕ) → Tallies cmp t p w
       → Tallies cmp t (record p { finish = finish; start = start }) w
-  unplanned t p w finish start same = record {
-    moment = same.moment;
-    caps = same.caps;
-    limited = same.limited;
-    last_arrival = same.last_arrival;
-    next_id = same.next_id;
-    waiting = same.waiting;
-    pair_order = same.pair_order;
-    sending = same.sending;
-    one_each = same.one_each;
-    empty_at_first = same.empty_at_first;
-  }
+  unplanned t p w finish start same = grind arith
 
   unstarted : (t : ℕ) (p : Planned P) (w : World P) (start : Option ℕ) → Follows cmp t p w
       → Follows cmp t (record p { start = start }) w
-  unstarted t p w start follows = record {
-    tallies = unplanned t p w p.finish start follows.tallies;
-    rated =
-        record {
-          per = follows.rated.per;
-          rates = follows.rated.rates;
-          fair = follows.rated.fair;
-          rated = follows.rated.rated;
-        };
-    finish = follows.finish;
-  }
+  unstarted t p w start follows = grind arith
 
   -- a wake in the planned world is a wake in the world
   pub wake_alike : {t : ℕ} {p : Planned P} {course : Course (Completed P) (Planned P)} → Wakes cmp t p course
       → (w : World P) → Follows cmp t p w
       → list_any (is_done cmp w) w.sending ≡ false → CoursesAlike cmp (IsWoken cmp order t) course (wake cmp t w)
-  wake_alike {t = t} {p = p} wakes w follows none_done =
-      wakes_alike cmp order wakes (length w.waiting) w follows (each_none (is_done cmp w) w.sending none_done)
-      (picks_ready cmp order t p w follows.tallies) (omega arith)
+  wake_alike {t = t} {p = p} wakes w follows none_done = search (rules, wakes_alike, each_none, picks_ready)
 
   pub woken_stands : (t : ℕ) (p : Planned P) (w : World P) → t ≤ last_moment → IsWoken cmp order t p w
       → StandsFor cmp p w
@@ -95,24 +66,16 @@ module _ {P : Type 0} (cmp : P → P → Ordering) (order : IsTotalOrder cmp) wh
   joined_ticks : (a t now : ℕ) (w : World P) (ds : List (Completed P)) (x c : Course (Completed P) (World P))
       → Ticks cmp a w (preceded ds x) → OnFrom t now x c
       → Ticks cmp (now - t + a) w (preceded ds c)
-  joined_ticks a t now w ds (goes es u) c ticks on =
-      let more : Ticks cmp (now - t + a) w (preceded (ds ++ es) on.0) =
-      ticks_on cmp ticks (now - t) u (ds ++ es) on.0 refl on.1 in
-      subst (λ (d : Course (Completed P) (World P)). Ticks cmp (now - t + a) w d)
-      (sym (preceded_append cmp ds es on.0) ∙ ap (preceded ds) (sym on.2)) more
-  joined_ticks a t now w ds (meets fault) c ticks on =
-      subst (λ (d : Course (Completed P) (World P)). Ticks cmp (now - t + a) w (preceded ds d)) (sym on)
-      (ticks_stop cmp ticks (now - t) fault refl)
+  joined_ticks a t now w ds (goes es u) c ticks on = grind (arith, ticks_on, preceded_append)
+  joined_ticks a t now w ds (meets fault) c ticks on = grind (arith, ticks_stop)
 
   -- the tick to the next event, and the whole way there
   to_event : (p : Planned P) (w : World P) (stands : StandsFor cmp p w) (e k : ℕ) → w.moment + suc k ≡ e
       → e ≤ last_moment → next_event p ≡ Some e
       → Ticks cmp (suc k) w (instant cmp (later cmp order p w stands (suc k)))
   to_event p w stands e k at within next =
-      let before : IfSome (next_event p) (λ t. w.moment + k < t) =
-      subst (λ (o : Option ℕ). IfSome o (λ t. w.moment + k < t)) (sym next) (omega arith) in
-      let way : (v : World P) × Passes cmp k w v × Drains cmp v (later cmp order p w stands (suc k)) =
-      passes_before cmp order p w stands k (omega arith) before in
+      let before : IfSome (next_event p) (λ t. w.moment + k < t) = grind arith in
+      let way = passes_before cmp order p w stands k (omega arith) before in
       ticks_through cmp order way.1 (later cmp order p w stands (suc k))
       (instant cmp (later cmp order p w stands (suc k))) way.2 refl
 
@@ -120,44 +83,28 @@ module _ {P : Type 0} (cmp : P → P → Ordering) (order : IsTotalOrder cmp) wh
       → (b ≡ Some e) × IfSome a (λ f. e < f)
   earlier_start None b e is not_a = (is, tt)
   earlier_start (Some f) None e is not_a = absurd (not_a is)
-  earlier_start (Some f) (Some s) e is not_a = by_order (cases_lt e f)
-    where
-      least : min f s ≡ e
-      least = cc
-
-      by_order : (e < f) ⊎ (f ≤ e) → (Some s ≡ Some e) × (e < f)
-      by_order (inl lt) = (let same : s ≡ e = omega (arith, least) in ap Some same, lt)
-      by_order (inr le) = absurd (not_a (let same : f ≡ e = omega (arith, least) in ap Some same))
+  earlier_start (Some f) (Some s) e is not_a = grind arith
 
   earlier_first : (a b : Option ℕ) (e t : ℕ) → earlier a b ≡ Some e → a ≡ Some e → b ≡ Some t → e ≤ t
   earlier_first None b e t is left right = cc
   earlier_first (Some f) None e t is left right = cc
-  earlier_first (Some f) (Some s) e t is left right =
-      let least : min f s ≡ e = cc in
-      let same : s ≡ t = cc in
-      omega arith
+  earlier_first (Some f) (Some s) e t is left right = grind arith
 
   -- in a settled world no finish is planned up to its moment
   no_early_finish : (t e : ℕ) (q : Planned P) (v : World P) → IsSettled cmp t q v → q.finish ≡ Some e → e ≤ t → ⊥
   no_early_finish t e q v settled is le =
-      let least : IsLeastMoment (SomeSpentAt q.sending) (Some e) =
-      subst (λ (o : Option ℕ). IsLeastMoment (SomeSpentAt q.sending) o) is settled.follows.finish in
-      let spent : SomeSpentAt q.sending e = least.1 in
-      let done : list_any (is_done cmp v) v.sending ≡ true =
-      done_at cmp order (is_unlimited cmp v.caps) e t q.sending v.sending spent.0 spent.1 le
+      let least = subst (λ (o : Option ℕ). IsLeastMoment (SomeSpentAt q.sending) o) is settled.follows.finish in
+      let spent = least.1 in
+      let done = done_at cmp order (is_unlimited cmp v.caps) e t q.sending v.sending spent.0 spent.1 le
       settled.follows.tallies.sending spent.2 spent.4 in
-      let none : list_any (is_done cmp v) v.sending ≡ false = settled.none_done in
-      differ (sym done ∙ none)
-    where
-      differ : true ≡ false → ⊥
-      differ e = cc
+      let none = settled.none_done in
+      grind arith
 
   -- a planned start comes after the moment of a world at rest
   pub start_is_later : (p : Planned P) (w : World P) → StandsFor cmp p w → (e : ℕ) → p.start ≡ Some e
       → (e ≤ last_moment) × (w.moment < e)
   start_is_later p w stands e is =
-      let least : IsLeastMoment (SomeReadyAt cmp p) (Some e) =
-      subst (λ (o : Option ℕ). IsLeastMoment (SomeReadyAt cmp p) o) is stands.start in
+      let least = subst (λ (o : Option ℕ). IsLeastMoment (SomeReadyAt cmp p) o) is stands.start in
       (least.0, by_order (cases_lt w.moment e) least.1)
     where
       by_order : (w.moment < e) ⊎ (e ≤ w.moment) → SomeReadyAt cmp p e → w.moment < e
@@ -194,30 +141,18 @@ module _ {P : Type 0} (cmp : P → P → Ordering) (order : IsTotalOrder cmp) wh
 
   pub decide_start : (o : Option ℕ) (t : ℕ) → (o ≡ Some t) ⊎ (o ≢ Some t)
   decide_start None t = inr (λ e. cc)
-  decide_start (Some s) t = by_order (cases_lt s t) (cases_lt t s)
-    where
-      by_order : (s < t) ⊎ (t ≤ s) → (t < s) ⊎ (s ≤ t) → (Some s ≡ Some t) ⊎ (Some s ≢ Some t)
-      by_order (inl lt) other = inr (λ e. let same : s ≡ t = cc in omega arith)
-      by_order (inr le) (inl lt) = inr (λ e. let same : s ≡ t = cc in omega arith)
-      by_order (inr le) (inr ge) = inl (let same : s ≡ t = omega arith in ap Some same)
+  decide_start (Some s) t = grind arith
 
   -- where nothing may start at once, the settled world is at rest
   at_rest : (t now : ℕ) (p : Planned P) (v : World P) (course : Course (Completed P) (Planned P))
       → FromRest now p course → t ≤ now → now ≤ last_moment → IsSettled cmp t p v
       → p.start ≢ Some t → WakesAlike t now v course
   at_rest t now p v course rest le within settled not_now =
-      let never : ¬ SomeReadyAt cmp p t = λ some.
-      not_now (start_is cmp order p t p.start settled.start (omega arith) some) in
-      let moment : v.moment ≡ t = settled.follows.tallies.moment in
-      let sleeps : wake cmp t v ≡ goes [] v =
-      ap (λ (s : ℕ). wake cmp s v) (sym moment) ∙ settled_wakes cmp order t p v settled never in
-      let way : TicksAlike now v course =
-      rest v (settled_stands cmp order t p v (omega arith) settled never) (omega arith) in (
-        way.0,
-        subst (λ (x : Course (Completed P) (World P)). OnFrom t now x way.0) (sym sleeps)
-            (way.0, subst (λ (s : ℕ). Ticks cmp (now - s) v way.0) moment way.1, sym (preceded_none way.0)),
-        way.2,
-      )
+      let never : ¬ SomeReadyAt cmp p t = grind (arith, start_is) in
+      let moment = settled.follows.tallies.moment in
+      let sleeps : wake cmp t v ≡ goes [] v = grind (arith, settled_wakes) in
+      let way : TicksAlike now v course = grind (arith, settled_stands) in
+      grind (arith, (preceded_none way.0))
 
   -- a wake, and then the rest
   wake_on : (t now : ℕ) (p q : Planned P) (v : World P) (cs : List (Completed P))
@@ -244,14 +179,7 @@ module _ {P : Type 0} (cmp : P → P → Ordering) (order : IsTotalOrder cmp) wh
   wake_stops : (t now : ℕ) (p : Planned P) (v : World P) (fault : Error)
       → Wakes cmp t (record p { start = None }) (meets fault) → Follows cmp t p v
       → list_any (is_done cmp v) v.sending ≡ false → WakesAlike t now v (meets fault)
-  wake_stops t now p v fault wakes follows none_done =
-      by_course (wake cmp t v) refl (wake_alike wakes v (unstarted t p v None follows) none_done)
-    where
-      by_course : (c : Course (Completed P) (World P)) → wake cmp t v ≡ c
-          → CoursesAlike cmp (IsWoken cmp order t) (meets fault) c → WakesAlike t now v (meets fault)
-      by_course (goes ds u) e h = absurd h
-      by_course (meets g) e h =
-          (meets g, subst (λ (x : Course (Completed P) (World P)). OnFrom t now x (meets g)) (sym e) refl, h)
+  wake_stops t now p v fault wakes follows none_done = grind (arith, (wake_alike wakes v))
 
   -- the tick to a planned start is a wake
   start_ticks : (e now : ℕ) (p : Planned P) (w : World P) (stands : StandsFor cmp p w)
@@ -260,33 +188,19 @@ module _ {P : Type 0} (cmp : P → P → Ordering) (order : IsTotalOrder cmp) wh
       → ((v : World P) → Follows cmp e p v → list_any (is_done cmp v) v.sending ≡ false → WakesAlike e now v course)
       → TicksAlike now w course
   start_ticks e now p w stands course not_finish next le wakes =
-      let first : (p.start ≡ Some e) × IfSome p.finish (λ f. e < f) =
-      earlier_start p.finish p.start e next not_finish in
-      let after : (e ≤ last_moment) × (w.moment < e) = start_is_later p w stands e first.0 in
-      let steps : (k : ℕ) × (w.moment + suc k ≡ e) = gap w.moment e after.1 in
-      let u : World P = later cmp order p w stands (suc steps.0) in
-      let follows : Follows cmp e p u =
-      subst (λ (s : ℕ). Follows cmp s p u) steps.1 (follows_later cmp order p w stands (suc steps.0)) in
-      let none_done : list_any (is_done cmp u) u.sending ≡ false
-      = none_done_before cmp order p w stands (suc steps.0) (omega (arith, steps.1, after.0))
-      (subst (λ (s : ℕ). IfSome p.finish (λ f. s < f)) (sym steps.1) first.1) in
-      let way : WakesAlike e now u course = wakes u follows none_done in
-      let instant_u : instant cmp u ≡ preceded [] (wake cmp e u) =
-      instant_is cmp order u u [] (settle_quiet cmp order (length u.sending + length u.waiting) u.moment u none_done)
-      ∙ ap (λ (s : ℕ). preceded [] (wake cmp s u)) steps.1 in
-      let ticks : Ticks cmp (now - e + suc steps.0) w (preceded [] way.0)
-      = joined_ticks (suc steps.0) e now w [] (wake cmp e u) way.0
-      (subst (λ (c : Course (Completed P) (World P)). Ticks cmp (suc steps.0) w c) instant_u
-      (to_event p w stands e steps.0 steps.1 after.0 next))
-      way.1 in
-      let count : now - e + suc steps.0 ≡ now - w.moment = omega (arith, steps.1, after.1) in (
-        way.0,
-        subst (λ (k : ℕ). Ticks cmp k w way.0) count
-            (subst (λ (c : Course (Completed P) (World P)). Ticks cmp (now - e + suc steps.0) w c)
-            ((preceded_none way.0))
-            ticks),
-        way.2,
-      )
+      let first : (p.start ≡ Some e) × IfSome p.finish (λ f. e < f) = grind (arith, earlier_start) in
+      let after = start_is_later p w stands e first.0 in
+      let steps = gap w.moment e after.1 in
+      let u = later cmp order p w stands (suc steps.0) in
+      let follows = subst (λ (s : ℕ). Follows cmp s p u) steps.1 (follows_later cmp order p w stands (suc steps.0)) in
+      let none_done : list_any (is_done cmp u) u.sending ≡ false = grind (arith, none_done_before) in
+      let way = wakes u follows none_done in
+      let instant_u : instant cmp u ≡ preceded [] (wake cmp e u) = grind (arith, instant_is, settle_quiet) in
+      let ticks = joined_ticks (suc steps.0) e now w [] (wake cmp e u) way.0 (subst
+      (λ (c : Course (Completed P) (World P)). Ticks cmp (suc steps.0) w c) instant_u
+      (to_event p w stands e steps.0 steps.1 after.0 next)) way.1 in
+      let count : now - e + suc steps.0 ≡ now - w.moment = omega (arith, steps.1, after.1) in
+      grind (arith, (preceded_none way.0))
 
   -- the tick to a planned finish is a settling, and the wake that follows
   finish_ticks : (e now : ℕ) (p q : Planned P) (w : World P) (stands : StandsFor cmp p w) (cs : List (Completed P))
@@ -299,8 +213,7 @@ module _ {P : Type 0} (cmp : P → P → Ordering) (order : IsTotalOrder cmp) wh
       let after : w.moment < e = finish_is_later cmp order p w stands e finish in
       let within : e ≤ last_moment = (spent_at_finish cmp order p w stands e finish).0 in
       let steps : (k : ℕ) × (w.moment + suc k ≡ e) = gap w.moment e after in
-      let follows : Follows cmp e p (later cmp order p w stands (suc steps.0))
-      = subst (λ (s : ℕ). Follows cmp s p (later cmp order p w stands (suc steps.0))) steps.1
+      let follows = subst (λ (s : ℕ). Follows cmp s p (later cmp order p w stands (suc steps.0))) steps.1
       (follows_later cmp order p w stands (suc steps.0)) in
       by_course steps.0 steps.1 after (to_event p w stands e steps.0 steps.1 within next)
       (settle cmp e (later cmp order p w stands (suc steps.0))) refl
@@ -315,12 +228,10 @@ module _ {P : Type 0} (cmp : P → P → Ordering) (order : IsTotalOrder cmp) wh
       by_course k at after ticks (meets g) is h = absurd h
       by_course k at after ticks (goes ds v) is h =
           let way : WakesAlike e now v course = rest e v le h.1 in
-          let instant_u : instant cmp (later cmp order p w stands (suc k)) ≡ preceded ds (wake cmp e v) =
-          instant_is cmp order (later cmp order p w stands (suc k)) v ds
-          (ap (λ (s : ℕ). settle cmp s (later cmp order p w stands (suc k))) at ∙ is)
-          ∙ ap (λ (s : ℕ). preceded ds (wake cmp s v)) h.1.follows.tallies.moment in
-          let on : Ticks cmp (now - e + suc k) w (preceded ds way.0)
-          = joined_ticks (suc k) e now w ds (wake cmp e v) way.0
+          let instant_u = instant_is cmp order (later cmp order p w stands (suc k)) v ds
+          (ap (λ (s : ℕ). settle cmp s (later cmp order p w stands (suc k))) at ∙ is) ∙ ap
+          (λ (s : ℕ). preceded ds (wake cmp s v)) h.1.follows.tallies.moment in
+          let on = joined_ticks (suc k) e now w ds (wake cmp e v) way.0
           (subst (λ (c : Course (Completed P) (World P)). Ticks cmp (suc k) w c) instant_u ticks) way.1 in
           let count : now - e + suc k ≡ now - w.moment = omega arith in (
             preceded ds way.0,
@@ -335,8 +246,7 @@ module _ {P : Type 0} (cmp : P → P → Ordering) (order : IsTotalOrder cmp) wh
       let after : w.moment < e = finish_is_later cmp order p w stands e finish in
       let within : e ≤ last_moment = (spent_at_finish cmp order p w stands e finish).0 in
       let steps : (k : ℕ) × (w.moment + suc k ≡ e) = gap w.moment e after in
-      let follows : Follows cmp e p (later cmp order p w stands (suc steps.0))
-      = subst (λ (s : ℕ). Follows cmp s p (later cmp order p w stands (suc steps.0))) steps.1
+      let follows = subst (λ (s : ℕ). Follows cmp s p (later cmp order p w stands (suc steps.0))) steps.1
       (follows_later cmp order p w stands (suc steps.0)) in
       by_course steps.0 steps.1 after (to_event p w stands e steps.0 steps.1 within next)
       (settle cmp e (later cmp order p w stands (suc steps.0))) refl
@@ -350,12 +260,10 @@ module _ {P : Type 0} (cmp : P → P → Ordering) (order : IsTotalOrder cmp) wh
           → TicksAlike now w (meets fault)
       by_course k at after ticks (goes ds v) is h = absurd h
       by_course k at after ticks (meets g) is h =
-          let instant_u : instant cmp (later cmp order p w stands (suc k)) ≡ meets g =
-          ap (λ (c : Course (Completed P) (World P)). and_then c (λ v. wake cmp v.moment v))
+          let instant_u = ap (λ (c : Course (Completed P) (World P)). and_then c (λ v. wake cmp v.moment v))
           (ap (λ (s : ℕ). settle cmp s (later cmp order p w stands (suc k))) at ∙ is) in
-          let on : Ticks cmp (now - e + suc k) w (meets g) =
-          ticks_stop cmp (subst (λ (c : Course (Completed P) (World P)). Ticks cmp (suc k) w c) instant_u ticks)
-          (now - e) g refl in
+          let on = ticks_stop cmp
+          (subst (λ (c : Course (Completed P) (World P)). Ticks cmp (suc k) w c) instant_u ticks) (now - e) g refl in
           let count : now - e + suc k ≡ now - w.moment = omega arith in
           (meets g, subst (λ (n : ℕ). Ticks cmp n w (meets g)) count on, h)
 
@@ -414,20 +322,13 @@ module _ {P : Type 0} (cmp : P → P → Ordering) (order : IsTotalOrder cmp) wh
   not_after : (now : ℕ) (p : Planned P) (course : Course (Completed P) (Planned P))
       → IfSome (next_event p) (λ t. now < t) → (t : ℕ) (v : World P) → t ≤ now → p.start ≡ Some t
       → WakesAlike t now v course
-  not_after now p course before t v le now_is =
-      let after : IfSome (Some t) (λ e. now < e) =
-      subst (λ (o : Option ℕ). IfSome o (λ e. now < e)) now_is (both_before p.finish p.start now before).1 in
-      absurd (omega arith)
+  not_after now p course before t v le now_is = grind arith
 
   wake_at : (e now : ℕ) (p : Planned P) (course : Course (Completed P) (Planned P)) → p.finish ≢ Some e
       → next_event p ≡ Some e
       → ((v : World P) → Follows cmp e p v → list_any (is_done cmp v) v.sending ≡ false → WakesAlike e now v course)
       → (t : ℕ) (v : World P) → IsSettled cmp t p v → p.start ≡ Some t → WakesAlike t now v course
-  wake_at e now p course not_finish next wakes t v is now_is =
-      let first : p.start ≡ Some e = (earlier_start p.finish p.start e next not_finish).0 in
-      let same : e ≡ t = cc in
-      subst (λ (s : ℕ). WakesAlike s now v course) same
-      (wakes v (subst (λ (s : ℕ). Follows cmp s p v) (sym same) is.follows) is.none_done)
+  wake_at e now p course not_finish next wakes t v is now_is = grind arith
 
   -- advancing event by event is ticking, from a world at rest, and from a settled one
   pub advances_alike : {now n : ℕ} {p : Planned P} {course : Course (Completed P) (Planned P)}

@@ -1,40 +1,17 @@
 -- Replies by the event rule agree with the simulation.
-use Rattle.std.proofs.Common.{◌≡◌, ℕ, ◌≤◌, List, [], ◌∷◌, Option, Some, true, refl, sym, ◌∙◌, subst}
-use Rattle.std.specs.List.{AllZip}
-use Rattle.std.specs.declared.cmp.Ordering.{Ordering}
-use Rattle.std.specs.Cmp.{IsTotalOrder}
-use Rattle.fair_rates.specs.declared.error.Error.{Error}
-use Rattle.fair_rates.specs.declared.error.Error.TheVariants.{OutOfMemory, NumberTooLarge, MomentTooLate, FlowIdsUsedUp}
-use Rattle.fair_rates.specs.Sides.Subjects.{same_peer}
-use Rattle.link_simulation.specs.Simulation.World.{World, new_world, Completed, Course, goes, meets, last_moment}
-use Rattle.link_simulation.specs.Simulation.Time.{NextIs}
-use Rattle.link_simulation.specs.Simulation.Calls.{Call, call_limit, call_limit_link, call_enqueue, call_advance}
-use Rattle.link_simulation.specs.Simulation.Calls.{call_enqueue_all, call_next, moment_of, Runs, IsInTurn}
-use Rattle.link_simulation.specs.Simulation.Replies.{Reply, reply_done, reply_next, reply_refused, SameCompletion}
-use Rattle.link_simulation.specs.Simulation.Replies.{Faults, MayRefuse, Agrees}
-use Rattle.link_simulation.specs.Rule.Planned.{Planned, new_planned}
-use Rattle.link_simulation.specs.Rule.Events.{Obeys}
-use Rattle.link_simulation.specs.Rule.Refusals.{MayBeRefused, Obeyed}
-use Rattle.link_simulation.specs.Laws.Isolation.{InTime}
-use Rattle.link_simulation.specs.Rule.StandsFor.{StandsFor, CoursesAlike}
-use Rattle.link_simulation.proofs.Simulation.Queue.{peer_like}
+use Rattle.link_simulation.proofs.Common.{arith, ◌≡◌, ℕ, ◌≤◌, List, [], ◌∷◌, Some, refl, AllZip, Ordering, IsTotalOrder}
+use Rattle.link_simulation.proofs.Common.{Error, OutOfMemory, NumberTooLarge, MomentTooLate, FlowIdsUsedUp, World}
+use Rattle.link_simulation.proofs.Common.{new_world, Completed, goes, meets, last_moment, Call, call_next, moment_of}
+use Rattle.link_simulation.proofs.Common.{Runs, IsInTurn, Reply, reply_done, reply_next, reply_refused, SameCompletion}
+use Rattle.link_simulation.proofs.Common.{Faults, MayRefuse, Agrees, Planned, new_planned, Obeys, MayBeRefused, Obeyed}
+use Rattle.link_simulation.proofs.Common.{InTime, StandsFor}
 use Rattle.link_simulation.proofs.Rule.Limit.{new_stands}
 use Rattle.link_simulation.proofs.Rule.NextEvent.{next_is_planned}
 use Rattle.link_simulation.proofs.Rule.Obeys.{obeys_alike}
 
 module _ {P : Type 0} (cmp : P → P → Ordering) (order : IsTotalOrder cmp) where
   pub same_trans : (c d e : Completed P) → SameCompletion cmp c d → SameCompletion cmp d e → SameCompletion cmp c e
-  same_trans c d e f g = record {
-    origin = peer_left c.origin d.origin e.origin f.origin ∙ g.origin;
-    recipient = peer_left c.recipient d.recipient e.recipient f.recipient ∙ g.recipient;
-    channel = f.channel ∙ g.channel;
-    bytes = f.bytes ∙ g.bytes;
-    done_at = f.done_at ∙ g.done_at;
-    deliver_at = f.deliver_at ∙ g.deliver_at;
-  }
-    where
-      peer_left : (p q r : P) → same_peer cmp p q ≡ true → same_peer cmp p r ≡ same_peer cmp q r
-      peer_left p q r same = sym (peer_like cmp order p q r same)
+  same_trans c d e f g = grind arith
 
   pub all_trans : (cs ds es : List (Completed P)) → AllZip (SameCompletion cmp) cs ds
       → AllZip (SameCompletion cmp) ds es → AllZip (SameCompletion cmp) cs es
@@ -52,25 +29,12 @@ module _ {P : Type 0} (cmp : P → P → Ordering) (order : IsTotalOrder cmp) wh
   leads : (p : Planned P) (w : World P) (call : Call P) (now : ℕ) (ds : List (Completed P)) (q : Planned P)
       → StandsFor cmp p w → moment_of call ≡ Some now → now ≤ last_moment
       → IsInTurn cmp w call → Obeys cmp p call (goes ds q) → Led p w call now ds q
-  leads p w call now ds q stands at within turn obeys =
-      let f = obeys_alike cmp order p w call now (goes ds q) stands at within turn obeys in by_course f.0 f.1 f.2
-    where
-      by_course : (c : Course (Completed P) (World P)) → Runs cmp w call now c
-          → CoursesAlike cmp (λ r v. StandsFor cmp r v × (v.moment ≡ now)) (goes ds q) c → Led p w call now ds q
-      by_course (goes es v) runs alike = (es, v, runs, alike.0, alike.1.0)
-      by_course (meets fault) runs alike = absurd alike
+  leads p w call now ds q stands at within turn obeys = grind (arith, obeys_alike)
 
   meets_too : (p : Planned P) (w : World P) (call : Call P) (now : ℕ) (fault : Error) → StandsFor cmp p w
       → moment_of call ≡ Some now → now ≤ last_moment → IsInTurn cmp w call
       → Obeys cmp p call (meets fault) → Faults cmp w call fault
-  meets_too p w call now fault stands at within turn obeys =
-      let f = obeys_alike cmp order p w call now (meets fault) stands at within turn obeys in by_course f.0 f.1 f.2
-    where
-      by_course : (c : Course (Completed P) (World P)) → Runs cmp w call now c
-          → CoursesAlike cmp (λ r v. StandsFor cmp r v × (v.moment ≡ now)) (meets fault) c → Faults cmp w call fault
-      by_course (goes es v) runs alike = absurd alike
-      by_course (meets other) runs alike =
-          (now, at, subst (λ (e : Error). Runs cmp w call now (meets e)) (sym alike) runs)
+  meets_too p w call now fault stands at within turn obeys = grind (arith, obeys_alike)
 
   refuses : (p : Planned P) (w : World P) (call : Call P) (now : ℕ) (why : Error) → StandsFor cmp p w
       → moment_of call ≡ Some now
@@ -100,8 +64,7 @@ module _ {P : Type 0} (cmp : P → P → Ordering) (order : IsTotalOrder cmp) wh
       × Obeyed cmp q calls replies → Accepted w call calls cs replies
   unfolding Follow
   accepts call calls now cs replies p w ih stands at within in_time turn (ds, q, obeys, same, rest) =
-      let led : Led p w call now ds q = leads p w call now ds q stands at within turn obeys in
-      (now, led.0, led.1, at, led.2, all_trans cs ds led.0 same led.3, ih replies q led.1 led.4 in_time rest)
+      grind (arith, leads, all_trans)
 
   -- replies by the event rule agree with the simulation
   follows : (calls : List (Call P)) → Follow calls
@@ -109,61 +72,17 @@ module _ {P : Type 0} (cmp : P → P → Ordering) (order : IsTotalOrder cmp) wh
   follows [] [] p w stands in_time obeyed = tt
   follows [] (reply ∷ replies) p w stands in_time obeyed = obeyed
   follows (call ∷ calls) [] p w stands in_time obeyed = obeyed
-  follows (call_next ∷ calls) (reply_next t ∷ replies) p w stands in_time obeyed = (
-    subst (λ (o : Option ℕ). NextIs cmp w o) (sym obeyed.0) (next_is_planned cmp order p w stands),
-    follows calls
-        replies p w stands in_time.1 obeyed.1,
-  )
+  follows (call_next ∷ calls) (reply_next t ∷ replies) p w stands in_time obeyed =
+      grind (arith, next_is_planned, (follows calls replies p w stands))
   follows (call_next ∷ calls) (reply_done cs ∷ replies) p w stands in_time obeyed = obeyed
   follows (call_next ∷ calls) (reply_refused why ∷ replies) p w stands in_time obeyed = obeyed
-  follows (call_limit now peer egress ingress ∷ calls) (reply_next t ∷ replies) p w stands in_time obeyed = obeyed
-  follows (call_limit now peer egress ingress ∷ calls) (reply_done cs ∷ replies) p w stands in_time obeyed =
-      λ turn. accepts (call_limit now peer egress ingress) calls now cs replies p w (follows calls) stands refl
-      (in_time.0 now refl) in_time.1 turn obeyed
-  follows (call_limit now peer egress ingress ∷ calls) (reply_refused why ∷ replies) p w stands in_time obeyed =
+  follows (call ∷ calls) (reply_next t ∷ replies) p w stands in_time obeyed = obeyed
+  follows (call ∷ calls) (reply_done cs ∷ replies) p w stands in_time obeyed =
+      λ turn. accepts call calls _ cs replies p w (follows calls) stands refl (in_time.0 _ refl) in_time.1 turn obeyed
+  follows (call ∷ calls) (reply_refused why ∷ replies) p w stands in_time obeyed =
       λ turn. (
-        refuses p w (call_limit now peer egress ingress) now why stands refl (in_time.0 now refl) turn obeyed.0,
+        refuses p w call _ why stands refl (in_time.0 _ refl) turn obeyed.0,
         follows calls replies p w stands in_time.1 obeyed.1,
-      )
-  follows (call_limit_link now origin recipient cap ∷ calls) (reply_next t ∷ replies) p w stands in_time obeyed = obeyed
-  follows (call_limit_link now origin recipient cap ∷ calls) (reply_done cs ∷ replies) p w stands in_time obeyed =
-      λ turn. accepts (call_limit_link now origin recipient cap) calls now cs replies p w (follows calls) stands refl
-      (in_time.0 now refl) in_time.1 turn obeyed
-  follows (call_limit_link now origin recipient cap ∷ calls) (reply_refused why ∷ replies) p w stands in_time obeyed =
-      λ turn. (
-        refuses p w (call_limit_link now origin recipient cap) now why stands refl (in_time.0 now refl) turn
-            obeyed.0,
-        follows calls replies p w stands in_time.1 obeyed.1,
-      )
-  follows (call_enqueue now m ∷ calls) (reply_next t ∷ replies) p w stands in_time obeyed = obeyed
-  follows (call_enqueue_all now ms ∷ calls) (reply_next t ∷ replies) p w stands in_time obeyed = obeyed
-  follows (call_enqueue now m ∷ calls) (reply_done cs ∷ replies) p w stands in_time obeyed =
-      λ turn. accepts (call_enqueue now m) calls now cs replies p w (follows calls) stands refl (in_time.0 now refl)
-      in_time.1 turn obeyed
-  follows (call_enqueue_all now ms ∷ calls) (reply_done cs ∷ replies) p w stands in_time obeyed =
-      λ turn. accepts (call_enqueue_all now ms) calls now cs replies p w (follows calls) stands refl
-      (in_time.0 now refl) in_time.1 turn obeyed
-  follows (call_enqueue now m ∷ calls) (reply_refused why ∷ replies) p w stands in_time obeyed =
-      λ turn. (
-        refuses p w (call_enqueue now m) now why stands refl (in_time.0 now refl) turn obeyed.0,
-        follows calls
-            replies p w stands in_time.1 obeyed.1,
-      )
-  follows (call_enqueue_all now ms ∷ calls) (reply_refused why ∷ replies) p w stands in_time obeyed =
-      λ turn. (
-        refuses p w (call_enqueue_all now ms) now why stands refl (in_time.0 now refl) turn obeyed.0,
-        follows calls
-            replies p w stands in_time.1 obeyed.1,
-      )
-  follows (call_advance now ∷ calls) (reply_next t ∷ replies) p w stands in_time obeyed = obeyed
-  follows (call_advance now ∷ calls) (reply_done cs ∷ replies) p w stands in_time obeyed =
-      λ turn. accepts (call_advance now) calls now cs replies p w (follows calls) stands refl (in_time.0 now refl)
-      in_time.1 turn obeyed
-  follows (call_advance now ∷ calls) (reply_refused why ∷ replies) p w stands in_time obeyed =
-      λ turn. (
-        refuses p w (call_advance now) now why stands refl (in_time.0 now refl) turn obeyed.0,
-        follows calls
-            replies p w stands in_time.1 obeyed.1,
       )
 
   pub obeyed_agree : (calls : List (Call P)) (replies : List (Reply P)) → InTime calls

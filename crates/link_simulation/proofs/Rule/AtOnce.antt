@@ -1,31 +1,21 @@
 -- Before any limit, a message completes at once in both worlds.
-use Rattle.std.proofs.Common.{◌≡◌, ℕ, ◌+◌, ◌<◌, ◌≤◌, [], ◌∷◌, Bool, true, false, cond, Option, Some, None, refl, sym}
-use Rattle.std.proofs.Common.{ap, ◌∙◌, subst}
-use Rattle.std.specs.Prelude.{◌&&◌, nat_lt, IfSome, if◌then◌else◌}
-use Rattle.std.specs.List.{find, list_any}
-use Rattle.std.specs.declared.cmp.Ordering.{Ordering}
-use Rattle.std.specs.Cmp.{IsTotalOrder}
-use Rattle.link_simulation.specs.Simulation.World.{Completed, Course, World, completion_of, goes, is_done, last_moment}
-use Rattle.link_simulation.specs.Simulation.World.{later_of, meets, raised, ready}
-use Rattle.link_simulation.specs.Simulation.Calls.{Runs, act, call_enqueue, complete_at_once}
-use Rattle.link_simulation.specs.Rule.Events.{completed_at_once}
-use Rattle.link_simulation.specs.Simulation.Messages.{Message, same_pair}
-use Rattle.link_simulation.specs.Rule.Planned.{IsLeastMoment, Planned, SomeReadyAt, next_event}
-use Rattle.link_simulation.specs.Rule.StandsFor.{CoursesAlike, Follows, StandsFor, Tallies}
-use Rattle.fair_rates.specs.declared.error.Error.TheVariants.{MomentTooLate}
+use Rattle.link_simulation.proofs.Common.{arith, ◌≡◌, ℕ, ◌+◌, ◌<◌, ◌≤◌, [], ◌∷◌, Bool, true, false, cond, Option, Some}
+use Rattle.link_simulation.proofs.Common.{None, refl, ap, ◌∙◌, ◌&&◌, nat_lt, IfSome, if◌then◌else◌, list_any, Ordering}
+use Rattle.link_simulation.proofs.Common.{IsTotalOrder, Completed, Course, World, completion_of, goes, is_done}
+use Rattle.link_simulation.proofs.Common.{last_moment, later_of, meets, raised, ready, Runs, act, call_enqueue}
+use Rattle.link_simulation.proofs.Common.{complete_at_once, completed_at_once, Message, IsLeastMoment, Planned}
+use Rattle.link_simulation.proofs.Common.{SomeReadyAt, next_event, CoursesAlike, Follows, StandsFor, Tallies}
+use Rattle.link_simulation.proofs.Common.{MomentTooLate}
 use Rattle.link_simulation.proofs.Simulation.AlikeMessages.{same_itself, message_itself}
 use Rattle.link_simulation.proofs.Rule.BeforeNext.{none_ready_at}
 use Rattle.link_simulation.proofs.Rule.Settling.{raised_alike}
-use Rattle.link_simulation.proofs.Rule.Limit.{IsReached, reaches}
+use Rattle.link_simulation.proofs.Rule.Limit.{reaches}
 use Rattle.link_simulation.proofs.Simulation.Queue.{preceded_none}
 
 module _ {P : Type 0} (cmp : P → P → Ordering) (order : IsTotalOrder cmp) where
   -- with nothing waiting, nothing is ever ready
   none_waits : (p : Planned P) (t : ℕ) → p.waiting ≡ [] → SomeReadyAt cmp p t → ⊥
-  none_waits p t empty some = absurd_some (ap (find (same_pair cmp some.0)) (sym empty) ∙ some.1)
-    where
-      absurd_some : None ≡ Some some.0 → ⊥
-      absurd_some e = cc
+  none_waits p t empty some = grind arith
 
   start_kept : (p q : Planned P) (o : Option ℕ) → p.waiting ≡ [] → q.waiting ≡ [] → IsLeastMoment (SomeReadyAt cmp p) o
       → IsLeastMoment (SomeReadyAt cmp q) o
@@ -46,10 +36,7 @@ module _ {P : Type 0} (cmp : P → P → Ordering) (order : IsTotalOrder cmp) wh
       at_u = if m.should_deliver then later_of (u.last_arrival m.origin m.recipient) (now + m.latency) else now
 
       arrivals : at_p ≡ at_u
-      arrivals =
-          rw (follows.tallies.last_arrival m.origin m.origin m.recipient m.recipient (same_itself cmp order m.origin)
-          (same_itself cmp order m.recipient))
-          refl
+      arrivals = grind (arith, same_itself)
 
       landed_p : Planned P
       landed_p = record p { last_arrival = raised cmp p.last_arrival m at_p }
@@ -58,34 +45,11 @@ module _ {P : Type 0} (cmp : P → P → Ordering) (order : IsTotalOrder cmp) wh
       landed_u = record u { last_arrival = raised cmp u.last_arrival m at_u }
 
       tallied : at_p ≡ at_u → Tallies cmp now landed_p landed_u
-      tallied same = record {
-        moment = follows.tallies.moment;
-        caps = follows.tallies.caps;
-        limited = follows.tallies.limited;
-        last_arrival =
-            raised_alike cmp order p.last_arrival u.last_arrival m m at_p at_u follows.tallies.last_arrival
-            (message_itself cmp order m) same;
-        next_id = follows.tallies.next_id;
-        waiting = follows.tallies.waiting;
-        pair_order = follows.tallies.pair_order;
-        sending = follows.tallies.sending;
-        one_each = follows.tallies.one_each;
-        empty_at_first = follows.tallies.empty_at_first;
-      }
+      tallied same = grind (arith, raised_alike, at_p, at_u, message_itself)
 
       stands : at_p ≡ at_u → StandsFor cmp landed_p landed_u
       stands same = record {
-        follows = subst (λ (t : ℕ). Follows cmp t landed_p landed_u) (sym follows.tallies.moment) (record {
-          tallies = tallied same;
-          rated =
-              record {
-                per = follows.rated.per;
-                rates = follows.rated.rates;
-                fair = follows.rated.fair;
-                rated = follows.rated.rated;
-              };
-          finish = follows.finish;
-        });
+        follows = grind (arith, landed_p, landed_u, tallied);
         quiet =
             record {
               none_done = none_done;
@@ -123,16 +87,6 @@ module _ {P : Type 0} (cmp : P → P → Ordering) (order : IsTotalOrder cmp) wh
       → (c : Course (Completed P) (World P)) × Runs cmp w (call_enqueue now m) now c
       × CoursesAlike cmp (λ q v. StandsFor cmp q v × (v.moment ≡ now)) (completed_at_once cmp now p m) c
   at_once_alike p w now m stands free le within before =
-      let empty : p.waiting ≡ [] = (stands.follows.tallies.empty_at_first free).1 in
-      let there : IsReached cmp order now p w = reaches cmp order now p w stands le within before in
-      let under : there.world.limited ≡ false = sym there.follows.tallies.limited ∙ free in
-      let c : Course (Completed P) (World P) = complete_at_once cmp now there.world m in
-      let acts : act cmp there.world (call_enqueue now m) ≡ c = rw under refl in (
-        c,
-        record {
-          ticked = goes [] there.world;
-          ticks = there.ticks;
-          acts = sym acts ∙ sym (preceded_none (act cmp there.world (call_enqueue now m)));
-        },
-        at_once now p there.world m there.follows there.none_done empty stands.start,
-      )
+      grind (arith, (reaches cmp order now p w stands le within before),
+      (preceded_none (act cmp (reaches cmp order now p w stands le within before).world (call_enqueue now m))),
+      (at_once now p))

@@ -1,29 +1,22 @@
 -- Before its next event a world that a planned world stands for only drains, and at the planned finish something is
 -- done.
-use Rattle.std.proofs.Common.{◌≡◌, ℕ, zero, suc, ◌+◌, ◌-◌, ◌<◌, ◌≤◌, List, [], ◌∷◌, map, Bool, true, false, cond, not}
-use Rattle.std.proofs.Common.{Option, Some, None, refl, sym, ap, ◌∙◌, subst, arith, add-one, ◌⊎◌, inl, inr}
-use Rattle.std.specs.Prelude.{◌||◌, ◌==◌, IfSome, slice_get}
-use Rattle.std.specs.List.{filter, find, list_any, AllZip}
-use Rattle.std.specs.declared.cmp.Ordering.{Ordering}
-use Rattle.std.specs.Cmp.{IsTotalOrder}
-use Rattle.std.proofs.lemmas.Bool.{or_from, or_parts, cases_lt, or_right, not-true}
-use Rattle.fair_rates.specs.Numbers.Amount.{Amount}
-use Rattle.fair_rates.specs.Sides.Subjects.{same_peer}
-use Rattle.link_simulation.specs.Simulation.World.{Flight, IsQuiet, World, flows, fronts, is_done, last_moment}
-use Rattle.link_simulation.specs.Simulation.World.{may_start, ready}
-use Rattle.link_simulation.specs.Simulation.Messages.{Message, OneForEachPair, PairsAlike, SameMessage, same_pair}
-use Rattle.link_simulation.specs.Rule.Planned.{IsLeastMoment, IsRated, RatedFlight, Planned, SomeReadyAt, SomeSpentAt}
-use Rattle.link_simulation.specs.Rule.Planned.{earlier, left_at, may_launch, next_event, rated_messages, IsSpentAt}
-use Rattle.link_simulation.specs.Simulation.Rates.{AreFair, IsLowest, Parts, drained_by, is_unlimited, rate_of}
-use Rattle.link_simulation.specs.Rule.StandsFor.{Follows, IsSameFlight, StandsFor, Tallies}
-use Rattle.link_simulation.specs.Simulation.Time.{ArePositive, Drains, NextIs, Passes, comes_next, drain_each, drifted}
-use Rattle.link_simulation.specs.Simulation.Time.{never_comes, no_time}
+use Rattle.link_simulation.proofs.Common.{common_steps, ◌≡◌, ℕ, zero, suc, ◌+◌, ◌-◌, ◌<◌, ◌≤◌, List, [], ◌∷◌, map, Bool}
+use Rattle.link_simulation.proofs.Common.{true, false, not, Option, Some, None, refl, sym, ap, ◌∙◌, subst, arith}
+use Rattle.link_simulation.proofs.Common.{add-one, ◌⊎◌, inl, inr, ◌||◌, ◌==◌, IfSome, slice_get, filter, find, list_any}
+use Rattle.link_simulation.proofs.Common.{AllZip, Ordering, IsTotalOrder, or_from, or_parts, cases_lt, not-true, Amount}
+use Rattle.link_simulation.proofs.Common.{Flight, IsQuiet, World, flows, fronts, is_done, last_moment, may_start, ready}
+use Rattle.link_simulation.proofs.Common.{Message, PairsAlike, SameMessage, same_pair, IsLeastMoment, IsRated}
+use Rattle.link_simulation.proofs.Common.{RatedFlight, Planned, SomeReadyAt, SomeSpentAt, left_at, may_launch}
+use Rattle.link_simulation.proofs.Common.{next_event, rated_messages, IsSpentAt, AreFair, Parts, is_unlimited, rate_of}
+use Rattle.link_simulation.proofs.Common.{Follows, IsSameFlight, StandsFor, Tallies, ArePositive, Drains, NextIs}
+use Rattle.link_simulation.proofs.Common.{Passes, comes_next, drain_each, drifted, never_comes, no_time, Each, each_map}
+use Rattle.link_simulation.proofs.Common.{each_filtered}
+use Rattle.link_simulation.specs.Rule.Planned.{earlier}
 use borrow.Author.Tests.{eqb-true, eq-eqb}
 use Rattle.link_simulation.proofs.Simulation.LowestTerms.{drained_by_lowest, drained_by_twice, spent_later}
 use Rattle.link_simulation.proofs.Simulation.Queue.{pair_sym, both_alike, find_passes}
 use Rattle.link_simulation.proofs.Simulation.AlikeMessages.{same_itself, pairs_alike, any_alike, fair_alike}
 use Rattle.link_simulation.proofs.Simulation.Stretch.{stretch, drifts_on, flows_drained}
-use Rattle.fair_rates.proofs.Lists.Each.{Each, each_map, each_filtered}
 use Rattle.link_simulation.proofs.Simulation.SettlingEnds.{find_like}
 
 -- ---- lists
@@ -68,26 +61,14 @@ module _ {P : Type 0} (cmp : P → P → Ordering) (order : IsTotalOrder cmp) wh
   drained_on t k per (rate ∷ rates) [] gs rated all = absurd rated
   drained_on t k per (rate ∷ rates) (f ∷ fs) [] rated all = absurd all
   drained_on t k per (rate ∷ rates) (f ∷ fs) (g ∷ gs) rated all =
-      let same : IsSameFlight cmp t f g = all.0 in
-      let early : f.updated ≤ t = same.updated in
-      let count : t - f.updated + k ≡ t + k - f.updated = omega arith in
-      let left : drained_by (rate_of per rate) k g.left ≡ left_at (t + k) f =
-      ap (λ (r : Option Amount). drained_by r k g.left) (sym rated.0) ∙ ap (drained_by f.rate k) same.left
-      ∙ drained_by_twice f.rate (t - f.updated) k f.left same.rate same.lowest.positive
-      ∙ ap (λ (n : ℕ). drained_by f.rate n f.left) count in (
-        record { message = same.message; updated = omega arith; lowest = same.lowest; rate = same.rate; left = left },
-        drained_on t k per rates fs gs rated.1 all.1,
-      )
+      grind (arith, rate_of, drained_by_twice, (drained_on t k per rates fs gs))
 
   pub positive_flights : (t : ℕ) (fs : List (RatedFlight P)) (gs : List (Flight P)) → AllZip (IsSameFlight cmp t) fs gs
       → ArePositive gs
   positive_flights t [] [] all = tt
   positive_flights t [] (g ∷ gs) all = absurd all
   positive_flights t (f ∷ fs) [] all = absurd all
-  positive_flights t (f ∷ fs) (g ∷ gs) all =
-      let low : IsLowest (left_at t f) =
-      drained_by_lowest f.rate (t - f.updated) f.left all.0.rate all.0.lowest.positive in
-      (subst (λ (a : Amount). 0 < a.den) (sym all.0.left) low.positive, positive_flights t fs gs all.1)
+  positive_flights t (f ∷ fs) (g ∷ gs) all = grind (arith, drained_by_lowest, (positive_flights t fs gs))
 
   -- ---- nothing is done before the planned finish
 
@@ -95,11 +76,7 @@ module _ {P : Type 0} (cmp : P → P → Ordering) (order : IsTotalOrder cmp) wh
       → list_any (λ (g : Flight P). a g || u g.message) gs ≡ false
       → list_any u (map (λ (g : Flight P). g.message) gs) ≡ false
   unlimited_none a u [] e = refl
-  unlimited_none a u (g ∷ gs) e =
-      let parts : ((a g || u g.message) ≡ false) × (list_any (λ (g : Flight P). a g || u g.message) gs ≡ false)
-      = or_parts (a g || u g.message) (list_any (λ (g : Flight P). a g || u g.message) gs) e in
-      let head : (a g ≡ false) × (u g.message ≡ false) = or_parts (a g) (u g.message) parts.0 in
-      or_from (u g.message) (list_any u (map (λ (g : Flight P). g.message) gs)) head.1 (unlimited_none a u gs parts.1)
+  unlimited_none a u (g ∷ gs) e = grind (arith, (unlimited_none a u gs))
 
   none_done_at : (u : Message P → Bool) (t : ℕ) (fs : List (RatedFlight P)) (gs : List (Flight P))
       → AllZip (IsSameFlight cmp t) fs gs
@@ -110,8 +87,7 @@ module _ {P : Type 0} (cmp : P → P → Ordering) (order : IsTotalOrder cmp) wh
   none_done_at u t [] (g ∷ gs) all none e = absurd all
   none_done_at u t (f ∷ fs) [] all none e = absurd all
   none_done_at u t (f ∷ fs) (g ∷ gs) all none e =
-      let parts : (u g.message ≡ false) × (list_any u (map (λ (g : Flight P). g.message) gs) ≡ false) =
-      or_parts (u g.message) (list_any u (map (λ (g : Flight P). g.message) gs)) e in
+      let parts = or_parts (u g.message) (list_any u (map (λ (g : Flight P). g.message) gs)) e in
       or_from ((g.left.num == 0) || u g.message) (list_any (λ (g : Flight P). (g.left.num == 0) || u g.message) gs)
       (or_from (g.left.num == 0) (u g.message) (by_test (g.left.num == 0) refl) parts.0)
       (none_done_at u t fs gs all.1 (λ i. none (suc i)) parts.1)
@@ -130,17 +106,8 @@ module _ {P : Type 0} (cmp : P → P → Ordering) (order : IsTotalOrder cmp) wh
       → list_any (λ (g : Flight P). (g.left.num == 0) || u g.message) gs ≡ true
   done_at u s t [] gs i f le all at spent = cc
   done_at u s t (x ∷ fs) [] i f le all at spent = absurd all
-  done_at u s t (x ∷ fs) (g ∷ gs) zero f le all at spent =
-      let same : f ≡ x = cc in
-      let spent_x : IsSpentAt s x = subst (λ (y : RatedFlight P). IsSpentAt s y) same spent in
-      let spent_now : IsSpentAt t x =
-      spent_later x.rate (s - x.updated) (t - x.updated) x.left all.0.rate all.0.lowest.positive (omega arith)
-      spent_x in
-      let none : g.left.num ≡ 0 = ap (λ (a : Amount). a.num) all.0.left ∙ spent_now in
-      rw (eq-eqb g.left.num 0 none) refl
-  done_at u s t (x ∷ fs) (g ∷ gs) (suc i) f le all at spent =
-      or_right ((g.left.num == 0) || u g.message) (list_any (λ (g : Flight P). (g.left.num == 0) || u g.message) gs)
-      (done_at u s t fs gs i f le all.1 at spent)
+  done_at u s t (x ∷ fs) (g ∷ gs) zero f le all at spent = grind (arith, spent_later, eq-eqb)
+  done_at u s t (x ∷ fs) (g ∷ gs) (suc i) f le all at spent = grind (arith, (done_at u s t fs gs i f le))
 
   -- ---- nothing is ready before the planned start
 
@@ -157,29 +124,19 @@ module _ {P : Type 0} (cmp : P → P → Ordering) (order : IsTotalOrder cmp) wh
   fronts_first (x ∷ ws) = (
     (
       filter (same_pair cmp x) ws,
-      rw (both_alike cmp order (same_peer cmp x.origin x.origin) true (same_peer cmp x.recipient x.recipient) true
-          (same_itself cmp order x.origin) (same_itself cmp order x.recipient))
-          refl,
+      grind (arith, both_alike, same_itself),
     ),
-    each_map (λ m. IsFront ws m × (not (same_pair cmp x m) ≡ true)) (IsFront (x ∷ ws))
-        (filter (λ n. not (same_pair cmp x n)) (fronts cmp ws)) (λ m h. later m h.0 h.1)
-        (each_filtered (IsFront ws) (λ n. not (same_pair cmp x n)) (fronts cmp ws) (fronts_first ws)),
+    grind (arith, each_map, later, each_filtered, (fronts_first ws)),
   )
     where
       later : (m : Message P) → IsFront ws m → not (same_pair cmp x m) ≡ true → IsFront (x ∷ ws) m
-      later m front apart =
-          (front.0, skipped m x ws (pair_sym cmp order m x ∙ not-true (same_pair cmp x m) apart) ∙ front.1)
+      later m front apart = grind (arith, skipped, pair_sym, not-true)
 
   -- what stands first among a pair's is what is found first
   pub first_found : {X : Type 0} (test : X → Bool) (x : X) (rest xs : List X) → filter test xs ≡ x ∷ rest
       → find test xs ≡ Some x
   first_found test x rest [] e = cc
-  first_found {X} test x rest (y ∷ ys) e = by_test (test y) e (first_found test x rest ys)
-    where
-      by_test : (b : Bool) → cond b (y ∷ filter test ys) (filter test ys) ≡ x ∷ rest
-          → (filter test ys ≡ x ∷ rest → find test ys ≡ Some x) → cond b (Some y) (find test ys) ≡ Some x
-      by_test true e ih = cc
-      by_test false e ih = ih e
+  first_found {X} test x rest (y ∷ ys) e = grind (arith, (first_found test x rest ys))
 
   -- the first of a pair is the first of its own pair
   pub own_first : (m x : Message P) (rest ms : List (Message P)) → filter (same_pair cmp m) ms ≡ x ∷ rest
@@ -192,14 +149,7 @@ module _ {P : Type 0} (cmp : P → P → Ordering) (order : IsTotalOrder cmp) wh
   pub may_alike : (t : ℕ) (p : Planned P) (w : World P) (m n : Message P) → PairsAlike cmp p.last_arrival w.last_arrival
       → AllZip (SameMessage cmp) (rated_messages p.sending) (flows w) → SameMessage cmp m n
       → may_launch cmp t p m ≡ may_start cmp t w n
-  may_alike t p w m n last all same =
-      rw (
-        any_alike cmp order (SameMessage cmp) (same_pair cmp m) (same_pair cmp n)
-            (λ k l e. pairs_alike cmp order m n k l same e) (rated_messages p.sending) (flows w) all,
-        last m.origin n.origin m.recipient n.recipient same.origin same.recipient,
-        same.latency,
-      )
-      refl
+  may_alike t p w m n last all same = grind (arith, any_alike, pairs_alike)
 
   first_alike : (xs : List (Message P)) (y : Message P) (ys : List (Message P)) → AllZip (SameMessage cmp) xs (y ∷ ys)
       → (x : Message P) × (rest : List (Message P)) × (xs ≡ x ∷ rest) × SameMessage cmp x y
@@ -216,10 +166,8 @@ module _ {P : Type 0} (cmp : P → P → Ordering) (order : IsTotalOrder cmp) wh
       not_ready : (m : Message P) (rest : List (Message P)) → filter (same_pair cmp m) w.waiting ≡ m ∷ rest
           → may_start cmp t w m ≡ false
       not_ready m rest e =
-          let first : (x : Message P) × (xs : List (Message P)) × (filter (same_pair cmp m) p.waiting ≡ x ∷ xs)
-          × SameMessage cmp x m
-          = first_alike (filter (same_pair cmp m) p.waiting) m rest
-          (subst (λ (ms : List (Message P)). AllZip (SameMessage cmp) (filter (same_pair cmp m) p.waiting) ms) e
+          let first = first_alike (filter (same_pair cmp m) p.waiting) m rest (subst
+          (λ (ms : List (Message P)). AllZip (SameMessage cmp) (filter (same_pair cmp m) p.waiting) ms) e
           (same.waiting m)) in
           let alike : may_launch cmp t p first.0 ≡ may_start cmp t w m =
           may_alike t p w first.0 m same.last_arrival (messages_alike t p.sending w.sending same.sending) first.3 in
@@ -240,40 +188,20 @@ module _ {P : Type 0} (cmp : P → P → Ordering) (order : IsTotalOrder cmp) wh
     later k = drifted w stands.follows.rated.per stands.follows.rated.rates k
 
     pub rates_fair : AreFair cmp w.caps (flows w) stands.follows.rated.per stands.follows.rated.rates
-    rates_fair =
-        fair_alike cmp order p.caps w.caps stands.follows.tallies.caps (rated_messages p.sending) (flows w)
-        stands.follows.rated.per stands.follows.rated.rates
-        (messages_alike w.moment p.sending w.sending stands.follows.tallies.sending) stands.follows.rated.fair
+    rates_fair = grind (arith, fair_alike, rated, messages_alike)
 
     pub all_positive : ArePositive w.sending
     all_positive = positive_flights w.moment p.sending w.sending stands.follows.tallies.sending
 
     flights_later : (k : ℕ) → AllZip (IsSameFlight cmp (w.moment + k)) p.sending (later k).sending
-    flights_later k =
-        drained_on w.moment k stands.follows.rated.per stands.follows.rated.rates p.sending w.sending
-        stands.follows.rated.rated stands.follows.tallies.sending
+    flights_later k = grind (arith, drained_on, rated)
 
     flows_later : (k : ℕ) → map (λ (g : Flight P). g.message) (later k).sending ≡ flows w
     flows_later k = flows_drained cmp stands.follows.rated.per stands.follows.rated.rates k w.sending
 
     -- the drained world is what the planned world says of that moment
     pub follows_later : (k : ℕ) → Follows cmp (w.moment + k) p (later k)
-    follows_later k = record {
-      tallies = record {
-        moment = refl;
-        caps = stands.follows.tallies.caps;
-        limited = stands.follows.tallies.limited;
-        last_arrival = stands.follows.tallies.last_arrival;
-        next_id = stands.follows.tallies.next_id;
-        waiting = stands.follows.tallies.waiting;
-        pair_order = stands.follows.tallies.pair_order;
-        sending = flights_later k;
-        one_each = subst (OneForEachPair cmp) (sym (flows_later k)) stands.follows.tallies.one_each;
-        empty_at_first = stands.follows.tallies.empty_at_first;
-      };
-      rated = stands.follows.rated;
-      finish = stands.follows.finish;
-    }
+    follows_later k = grind (arith, flights_later, flows_later, rated)
 
     none_unlimited : list_any (is_unlimited cmp w.caps) (flows w) ≡ false
     none_unlimited =
@@ -292,14 +220,9 @@ module _ {P : Type 0} (cmp : P → P → Ordering) (order : IsTotalOrder cmp) wh
     pub quiet_before : (k : ℕ) → w.moment + k ≤ last_moment → IfSome (next_event p) (λ e. w.moment + k < e)
         → IsQuiet cmp (w.moment + k) (later k)
     quiet_before k within before =
-        let apart : IfSome p.finish (λ e. w.moment + k < e) × IfSome p.start (λ e. w.moment + k < e) =
-        both_before p.finish p.start (w.moment + k) before in
-        record {
-          none_done = none_done_before k within apart.0;
-          none_ready =
-              none_ready_at (w.moment + k) p (later k) (follows_later k).tallies
-              (none_before (SomeReadyAt cmp p) p.start stands.start (w.moment + k) within apart.1);
-        }
+        grind (arith, (none_done_before k within), (none_ready_at (w.moment + k) p (later k) (follows_later k).tallies
+        (none_before (SomeReadyAt cmp p) p.start stands.start (w.moment + k) within
+        (both_before p.finish p.start (w.moment + k) before).1)))
 
     -- ---- the next event
 
@@ -319,18 +242,13 @@ module _ {P : Type 0} (cmp : P → P → Ordering) (order : IsTotalOrder cmp) wh
         → (v : World P) × Passes cmp n w v × Drains cmp v (later (suc n))
     passes_before zero within before = (w, no_time, first_drain)
     passes_before (suc n) within before =
-        let on : Drains cmp (later (suc n)) (later (suc n + 1)) =
-        drifts_on cmp w stands.follows.rated.per stands.follows.rated.rates (suc n) rates_fair all_positive in (
-          later (suc n),
-          passes_to n within before,
-          subst (λ (m : ℕ). Drains cmp (later (suc n)) (later m)) (add-one (suc n)) on,
-        )
+        grind (arith, common_steps, later, (later (suc n)), (passes_to n within before), (add-one (suc n)),
+        (drifts_on cmp w stands.follows.rated.per stands.follows.rated.rates (suc n) rates_fair all_positive))
 
     pub comes_at : (n : ℕ) → w.moment + suc n ≤ last_moment → IfSome (next_event p) (λ e. w.moment + n < e)
         → ¬ IsQuiet cmp (w.moment + suc n) (later (suc n)) → NextIs cmp w (Some (w.moment + suc n))
     comes_at n within before event =
-        let way : (v : World P) × Passes cmp n w v × Drains cmp v (later (suc n)) =
-        passes_before n (omega arith) before in
+        let way : (v : World P) × Passes cmp n w v × Drains cmp v (later (suc n)) = grind (arith, passes_before) in
         comes_next way.1 way.2 event within
 
     pub nothing_comes : next_event p ≡ None → NextIs cmp w None
@@ -344,10 +262,7 @@ module _ {P : Type 0} (cmp : P → P → Ordering) (order : IsTotalOrder cmp) wh
             (passes_to n (omega arith) (subst (λ (o : Option ℕ). IfSome o (λ e. w.moment + suc n < e)) (sym e) tt)))
 
     pub spent_at_finish : (e : ℕ) → p.finish ≡ Some e → (e ≤ last_moment) × SomeSpentAt p.sending e
-    spent_at_finish e is =
-        let least : IsLeastMoment (SomeSpentAt p.sending) (Some e) =
-        subst (λ (o : Option ℕ). IsLeastMoment (SomeSpentAt p.sending) o) is stands.follows.finish in
-        (least.0, least.1)
+    spent_at_finish e is = grind arith
 
     pub finish_is_later : (e : ℕ) → p.finish ≡ Some e → w.moment < e
     finish_is_later e is = by_order (cases_lt w.moment e) (spent_at_finish e is).1
@@ -355,8 +270,7 @@ module _ {P : Type 0} (cmp : P → P → Ordering) (order : IsTotalOrder cmp) wh
         by_order : (w.moment < e) ⊎ (e ≤ w.moment) → SomeSpentAt p.sending e → w.moment < e
         by_order (inl lt) spent = lt
         by_order (inr le) spent =
-            let done : list_any (is_done cmp w) w.sending ≡ true =
-            done_at (is_unlimited cmp w.caps) e w.moment p.sending w.sending spent.0 spent.1 le
+            let done = done_at (is_unlimited cmp w.caps) e w.moment p.sending w.sending spent.0 spent.1 le
             stands.follows.tallies.sending spent.2 spent.4 in
             let quiet : list_any (is_done cmp w) w.sending ≡ false = stands.quiet.none_done in
             cc
@@ -364,9 +278,8 @@ module _ {P : Type 0} (cmp : P → P → Ordering) (order : IsTotalOrder cmp) wh
     pub busy_at_finish : (e k : ℕ) → p.finish ≡ Some e → w.moment + k ≡ e → ¬ IsQuiet cmp (w.moment + k) (later k)
     busy_at_finish e k is at quiet =
         let spent : SomeSpentAt p.sending e = (spent_at_finish e is).1 in
-        let done : list_any (is_done cmp (later k)) (later k).sending ≡ true
-        = done_at (is_unlimited cmp w.caps) e (w.moment + k) p.sending (later k).sending spent.0 spent.1 (omega arith)
-        (flights_later k) spent.2 spent.4 in
+        let done = done_at (is_unlimited cmp w.caps) e (w.moment + k) p.sending (later k).sending spent.0 spent.1
+        (omega arith) (flights_later k) spent.2 spent.4 in
         let none : list_any (is_done cmp (later k)) (later k).sending ≡ false = quiet.none_done in
         cc
 

@@ -1,37 +1,27 @@
 -- A message that joins the planned waiting ones stands last among those of its pair, and their order by pairs stays.
-use Rattle.std.proofs.Common.{◌≡◌, ℕ, ◌+◌, ◌<◌, ◌≤◌, length, arith, inl, inr, List, [], ◌∷◌, ◌++◌, Bool, true, false}
-use Rattle.std.proofs.Common.{cond, Option, Some, refl, sym, ap, ◌∙◌, subst}
-use Rattle.std.specs.Prelude.{IfSome}
-use Rattle.std.specs.List.{filter, find, list_any, AllZip}
-use Rattle.std.specs.declared.cmp.Ordering.{Ordering}
-use Rattle.std.specs.Cmp.{IsTotalOrder}
-use Rattle.std.proofs.lemmas.Bool.{or_from, or_parts, or_left}
+use Rattle.link_simulation.proofs.Common.{◌≡◌, ℕ, ◌+◌, ◌<◌, ◌≤◌, length, arith, inl, inr, List, [], ◌∷◌, ◌++◌, Bool}
+use Rattle.link_simulation.proofs.Common.{true, false, cond, Option, Some, refl, sym, ap, ◌∙◌, subst, IfSome, filter}
+use Rattle.link_simulation.proofs.Common.{find, list_any, AllZip, Ordering, IsTotalOrder, or_from, or_left}
+use Rattle.link_simulation.proofs.Common.{filter-append, Completed, Course, World, and_then, goes, is_done, last_moment}
+use Rattle.link_simulation.proofs.Common.{may_start, meets, ready, settle, start, start_next, EndsWith, flight_of, Runs}
+use Rattle.link_simulation.proofs.Common.{act, call_enqueue, Enqueues, Launches, launches, no_id, no_launch}
+use Rattle.link_simulation.proofs.Common.{nothing_waits, starts, too_early, at_once, Message, SameMessage, pair_before}
+use Rattle.link_simulation.proofs.Common.{same_pair, AreInPairOrder, Planned, next_event, next_of, queued, CoursesAlike}
+use Rattle.link_simulation.proofs.Common.{Follows, IsSettled, StandsFor, Tallies, out_of_waiting, joined, Each}
+use Rattle.link_simulation.proofs.Common.{each_map, zip-append}
+use Rattle.link_simulation.proofs.Rule.Limit.{reaches, settled_rests}
 use Rattle.std.proofs.lemmas.List.{append-nil}
-use Rattle.std.proofs.lemmas.List.Elements.{filter-append}
-use Rattle.link_simulation.specs.Simulation.World.{Completed, Course, World, and_then, goes, is_done, last_moment}
-use Rattle.link_simulation.specs.Simulation.World.{may_start, meets, ready, settle, start, start_next, EndsWith}
-use Rattle.link_simulation.specs.Simulation.World.{flight_of}
-use Rattle.link_simulation.specs.Simulation.Calls.{Runs, act, call_enqueue}
-use Rattle.link_simulation.specs.Rule.Events.{Enqueues, Launches, launches, no_id, no_launch, nothing_waits, starts}
-use Rattle.link_simulation.specs.Rule.Events.{too_early, at_once}
-use Rattle.link_simulation.specs.Simulation.Messages.{Message, SameMessage, pair_before, same_pair}
-use Rattle.link_simulation.specs.Rule.Planned.{AreInPairOrder, Planned, may_launch, next_event, next_of, queued}
-use Rattle.link_simulation.specs.Rule.StandsFor.{CoursesAlike, Follows, IsSettled, StandsFor, Tallies}
-use Rattle.link_simulation.specs.Simulation.Queue.{out_of_waiting, joined, finish_within}
 use Rattle.link_simulation.proofs.Simulation.Queue.{pair_sym, pair_like, find_passes, preceded_none}
 use Rattle.link_simulation.proofs.Rule.BeforeNext.{filter_none, may_alike, messages_alike}
 use Rattle.link_simulation.proofs.Simulation.SettlingEnds.{find_like}
-use Rattle.fair_rates.proofs.Lists.Each.{Each, each_map}
 use Rattle.link_simulation.proofs.Simulation.AlikeMessages.{pair_itself, message_itself}
 use Rattle.link_simulation.proofs.Rule.Settling.{finishes_alike, no_queue}
-use Rattle.fair_rates.proofs.Lists.Zips.{zip-append}
 use Rattle.link_simulation.proofs.Rule.Launch.{NoneDone, joining, started, OptionsAlike, next_alike, StartsSo}
 use Rattle.link_simulation.proofs.Rule.Launch.{start_alike}
 use Rattle.link_simulation.proofs.Rule.FinishEvent.{settle_quiet}
 use Rattle.link_simulation.proofs.Simulation.OnePair.{IsRested, only_taken, only_joined, rested_joined}
 use Rattle.link_simulation.proofs.Simulation.NoneReadied.{IsHeld, rested_other, find_without, all_rested, finish_rests}
 use Rattle.link_simulation.proofs.Simulation.NoneReadied.{none_then}
-use Rattle.link_simulation.proofs.Rule.Limit.{IsReached, reaches, settled_rests}
 use Rattle.link_simulation.proofs.Rule.Waking.{each_none, round_is, round_fuel, round_alike}
 use Rattle.link_simulation.proofs.Simulation.FilteredFronts.{before_both}
 use Rattle.link_simulation.proofs.Simulation.PairOrder.{apart_if_before, not_before_back}
@@ -54,14 +44,7 @@ module _ {P : Type 0} (cmp : P → P → Ordering) (order : IsTotalOrder cmp) wh
   any_queued : (test : Message P → Bool) (m : Message P) (ms : List (Message P)) → test m ≡ false
       → list_any test ms ≡ false → list_any test (queued cmp m ms) ≡ false
   any_queued test m [] e none = or_from (test m) false e refl
-  any_queued test m (n ∷ ns) e none =
-      let parts : (test n ≡ false) × (list_any test ns ≡ false) = or_parts (test n) (list_any test ns) none in
-      by_test (pair_before cmp m n) parts.0 (any_queued test m ns e parts.1)
-    where
-      by_test : (b : Bool) → test n ≡ false → list_any test (queued cmp m ns) ≡ false
-          → list_any test (cond b (m ∷ n ∷ ns) (n ∷ queued cmp m ns)) ≡ false
-      by_test true h ih = or_from (test m) (list_any test (n ∷ ns)) e none
-      by_test false h ih = or_from (test n) (list_any test (queued cmp m ns)) h ih
+  any_queued test m (n ∷ ns) e none = grind (arith, (any_queued test m ns e))
 
   pub queued_in_order : (m : Message P) (ms : List (Message P)) → AreInPairOrder cmp ms
       → AreInPairOrder cmp (queued cmp m ms)
@@ -87,13 +70,7 @@ module _ {P : Type 0} (cmp : P → P → Ordering) (order : IsTotalOrder cmp) wh
       behind : (b : Bool) → same_pair cmp k m ≡ b → Each (λ z. pair_before cmp m z ≡ true) (n ∷ ns)
           → cond b (m ∷ filter (same_pair cmp k) (n ∷ ns)) (filter (same_pair cmp k) (n ∷ ns))
           ≡ filter (same_pair cmp k) (n ∷ ns) ++ cond b (m ∷ []) []
-      behind true e after =
-          let none : filter (same_pair cmp k) (n ∷ ns) ≡ []
-          = filter_none (same_pair cmp k) (n ∷ ns)
-          (each_map (λ z. pair_before cmp m z ≡ true) (λ z. same_pair cmp k z ≡ false) (n ∷ ns)
-          (λ z d. sym (pair_like cmp order k m z e) ∙ apart_if_before cmp order m z d) after)
-          in
-          ap (λ (q : List (Message P)). m ∷ q) none ∙ sym (ap (λ (q : List (Message P)). q ++ m ∷ []) none)
+      behind true e after = grind (arith, filter_none, each_map, pair_like, apart_if_before)
       behind false e after = sym (append-nil (filter (same_pair cmp k) (n ∷ ns)))
 
       later : (b : Bool)
@@ -115,45 +92,15 @@ module _ {P : Type 0} (cmp : P → P → Ordering) (order : IsTotalOrder cmp) wh
   -- the worlds still tally with the message among those that wait
   pub queued_tallies : (t : ℕ) (p : Planned P) (w : World P) (m : Message P) → p.limited ≡ true → Tallies cmp t p w
       → Tallies cmp t (record p { waiting = queued cmp m p.waiting }) (record w { waiting = w.waiting ++ m ∷ [] })
-  queued_tallies t p w m limits same = record {
-    moment = same.moment;
-    caps = same.caps;
-    limited = same.limited;
-    last_arrival = same.last_arrival;
-    next_id = same.next_id;
-    waiting = λ k.
-        subst (λ (xs : List (Message P)). AllZip (SameMessage cmp) xs (filter (same_pair cmp k) (w.waiting ++ m ∷ [])))
-        (sym (queued_last k m p.waiting same.pair_order))
-        (subst (λ (ys : List (Message P)). AllZip (SameMessage cmp)
-        (filter (same_pair cmp k) p.waiting ++ filter (same_pair cmp k) (m ∷ [])) ys)
-        (sym (filter-append (same_pair cmp k) w.waiting (m ∷ [])))
-        (zip-append (SameMessage cmp) (filter (same_pair cmp k) p.waiting) (filter (same_pair cmp k) (m ∷ []))
-        (filter (same_pair cmp k) w.waiting) (filter (same_pair cmp k) (m ∷ [])) (same.waiting k)
-        (itself (same_pair cmp k m))));
-    pair_order = queued_in_order m p.waiting same.pair_order;
-    sending = same.sending;
-    one_each = same.one_each;
-    empty_at_first = λ free. absurd (both_modes limits free);
-  }
-    where
-      both_modes : p.limited ≡ true → p.limited ≡ false → ⊥
-      both_modes on off = cc
-
-      itself : (b : Bool) → AllZip (SameMessage cmp) (cond b (m ∷ []) []) (cond b (m ∷ []) [])
-      itself true = (message_itself cmp order m, tt)
-      itself false = tt
+  queued_tallies t p w m limits same =
+      grind (arith, queued_last, filter-append, zip-append, queued_in_order, message_itself)
 
   -- ---- the call
 
   find_end : {X : Type 0} (test : X → Bool) (x : X) (xs : List X) → test x ≡ false
       → find test (xs ++ x ∷ []) ≡ find test xs
   find_end test x [] e = rw e refl
-  find_end {X} test x (z ∷ xs) e = by_test (test z) (find_end test x xs e)
-    where
-      by_test : (b : Bool) → find test (xs ++ x ∷ []) ≡ find test xs
-          → cond b (Some z) (find test (xs ++ x ∷ [])) ≡ cond b (Some z) (find test xs)
-      by_test true ih = refl
-      by_test false ih = ih
+  find_end {X} test x (z ∷ xs) e = grind (arith, (find_end test x xs e))
 
   found_end : {X : Type 0} (test : X → Bool) (x : X) (xs : List X) → test x ≡ true
       → (z : X) × (find test (xs ++ x ∷ []) ≡ Some z)
@@ -202,17 +149,7 @@ module _ {P : Type 0} (cmp : P → P → Ordering) (order : IsTotalOrder cmp) wh
       → find (same_pair cmp m) (waits_too u m).waiting ≡ Some y → may_start cmp t (waits_too u m) y ≡ false
       → (k : Message P) → IsRested cmp order k t (waits_too u m)
   unfolding IsRested
-  all_rest t u m y none_ready found early k = by_pair (same_pair cmp k m) refl
-    where
-      own : same_pair cmp k m ≡ true → IsRested cmp order k t (waits_too u m)
-      own e x there =
-          let same : Some y ≡ Some x = sym found ∙ find_like cmp order k m (waits_too u m).waiting e ∙ there in
-          let it : y ≡ x = cc in
-          subst (λ (z : Message P). may_start cmp t (waits_too u m) z ≡ false) it early
-
-      by_pair : (b : Bool) → same_pair cmp k m ≡ b → IsRested cmp order k t (waits_too u m)
-      by_pair true e = own e
-      by_pair false e = others_rest t u m k none_ready e
+  all_rest t u m y none_ready found early k = grind (arith, find_like, others_rest)
 
   -- a launch that is too early changes nothing
   stays_out : {t : ℕ} {p : Planned P} {o : Option (Message P)} {course : Course (Message P) (Planned P)}
@@ -220,16 +157,9 @@ module _ {P : Type 0} (cmp : P → P → Ordering) (order : IsTotalOrder cmp) wh
       → Follows cmp t p w → may_start cmp t w y ≡ false → OptionsAlike (SameMessage cmp) o (Some y) → course ≡ goes [] p
   stays_out nothing_waits w y follows early alike = refl
   stays_out (too_early e) w y follows early alike = refl
-  stays_out {t = t} {p = p} (no_id {m = x} may last) w y follows early alike =
-      let same : may_launch cmp t p x ≡ may_start cmp t w y
-      = may_alike cmp order t p w x y follows.tallies.last_arrival
-      (messages_alike cmp order t p.sending w.sending follows.tallies.sending) alike in
-      cc
+  stays_out {t = t} {p = p} (no_id {m = x} may last) w y follows early alike = grind (arith, may_alike, messages_alike)
   stays_out {t = t} {p = p} (starts {m = x} may below account) w y follows early alike =
-      let same : may_launch cmp t p x ≡ may_start cmp t w y
-      = may_alike cmp order t p w x y follows.tallies.last_arrival
-      (messages_alike cmp order t p.sending w.sending follows.tallies.sending) alike in
-      cc
+      grind (arith, may_alike, messages_alike)
 
   begins : (t : ℕ) (w : World P) (y : Message P) → may_start cmp t w y ≡ true
       → start_next cmp t w (Some y) ≡ start cmp w y
@@ -248,22 +178,11 @@ module _ {P : Type 0} (cmp : P → P → Ordering) (order : IsTotalOrder cmp) wh
       × EndsWith (λ v. ready cmp t v ≡ [])
       (and_then (start_next cmp t (waits_too u m) (find (same_pair cmp m) (waits_too u m).waiting)) (settle cmp t))
   joins t p u m course limits follows none_done none_ready enqueues =
-      let found : (y : Message P) × (find (same_pair cmp m) (u.waiting ++ m ∷ []) ≡ Some y) =
-      found_end (same_pair cmp m) m u.waiting (pair_itself cmp order m) in
+      let found = found_end (same_pair cmp m) m u.waiting (pair_itself cmp order m) in
       by_may found.0 found.1 (may_start cmp t (waits_too u m) found.0) refl enqueues
     where
       there : Follows cmp t (record p { waiting = queued cmp m p.waiting }) (waits_too u m)
-      there = record {
-        tallies = queued_tallies t p u m limits follows.tallies;
-        rated =
-            record {
-              per = follows.rated.per;
-              rates = follows.rated.rates;
-              fair = follows.rated.fair;
-              rated = follows.rated.rated;
-            };
-        finish = follows.finish;
-      }
+      there = grind (arith, queued_tallies)
 
       idle : NoneDone cmp order (waits_too u m)
       idle = each_none (is_done cmp u) u.sending none_done
@@ -280,9 +199,7 @@ module _ {P : Type 0} (cmp : P → P → Ordering) (order : IsTotalOrder cmp) wh
 
       own_first : (y : Message P) → find (same_pair cmp m) (u.waiting ++ m ∷ []) ≡ Some y
           → find (same_pair cmp y) (u.waiting ++ m ∷ []) ≡ Some y
-      own_first y found =
-          find_like cmp order m y (u.waiting ++ m ∷ []) (find_passes (same_pair cmp m) y (u.waiting ++ m ∷ []) found)
-          ∙ found
+      own_first y found = grind (arith, find_like, find_passes)
 
       other_mode : {A : Type 0} → p.limited ≡ false → A
       other_mode off = cc
@@ -295,18 +212,13 @@ module _ {P : Type 0} (cmp : P → P → Ordering) (order : IsTotalOrder cmp) wh
           (start_next cmp t (waits_too u m) (find (same_pair cmp m) (waits_too u m).waiting)) (settle cmp t))
           × EndsWith (λ v. ready cmp t v ≡ []) (and_then
           (start_next cmp t (waits_too u m) (find (same_pair cmp m) (waits_too u m).waiting)) (settle cmp t))
-      result c x e h k = (
-        subst (λ (d : Course (Completed P) (World P)). CoursesAlike cmp (IsSettled cmp t) x d) (sym e) h,
-        subst (λ (d : Course (Completed P) (World P)). EndsWith (λ v. ready cmp t v ≡ []) d) (sym e) k,
-      )
+      result c x e h k = grind arith
 
       first_is : (y : Message P) (c : Course (Completed P) (World P))
           → find (same_pair cmp m) (u.waiting ++ m ∷ []) ≡ Some y → start_next cmp t (waits_too u m) (Some y) ≡ c
           → and_then (start_next cmp t (waits_too u m) (find (same_pair cmp m) (waits_too u m).waiting)) (settle cmp t)
           ≡ and_then c (settle cmp t)
-      first_is y c found e =
-          ap (λ (o : Option (Message P)). and_then (start_next cmp t (waits_too u m) o) (settle cmp t)) found
-          ∙ ap (λ (d : Course (Completed P) (World P)). and_then d (settle cmp t)) e
+      first_is y c found e = grind arith
 
       by_may : (y : Message P) → find (same_pair cmp m) (u.waiting ++ m ∷ []) ≡ Some y → (b : Bool)
           → may_start cmp t (waits_too u m) y ≡ b → {x : Course (Completed P) (Planned P)}
@@ -323,35 +235,27 @@ module _ {P : Type 0} (cmp : P → P → Ordering) (order : IsTotalOrder cmp) wh
       by_may y found true may {x} (launches {leavers = leavers} {mid = mid} under launch finishes) =
           let so : StartsSo cmp order t (waits_too u m) y leavers mid =
           start_alike cmp order launch (waits_too u m) y there idle may (own_first y found) (abreast y found) in
-          let alike : CoursesAlike cmp (IsSettled cmp t) x (settle cmp t (joined cmp (waits_too u m) y)) =
-          round_alike cmp order finishes (waits_too u m) y idle so in
+          let alike = round_alike cmp order finishes (waits_too u m) y idle so in
           let pair : same_pair cmp m y ≡ true = find_passes (same_pair cmp m) y (u.waiting ++ m ∷ []) found in
-          let rests : EndsWith (λ v. ready cmp t v ≡ []) (settle cmp t (joined cmp (waits_too u m) y)) =
-          none_then cmp order t (settle cmp t (joined cmp (waits_too u m) y))
-          (λ k. subst (λ (c : Course (Completed P) (World P)). EndsWith (IsRested cmp order k t) c)
-          (sym (round_is cmp order t (waits_too u m) y idle so.one_each))
-          (finish_rests cmp order k (length (joined cmp (waits_too u m) y).sending + length
-          (joined cmp (waits_too u m) y).waiting) t (joining cmp order (waits_too u m) y)
-          (started cmp order (waits_too u m) y) (round_fuel cmp order (waits_too u m) y)
-          (held_after t u m y k none_ready pair))) in
+          let rests = none_then cmp order t (settle cmp t (joined cmp (waits_too u m) y)) (λ k. subst
+          (λ (c : Course (Completed P) (World P)). EndsWith (IsRested cmp order k t) c)
+          (sym (round_is cmp order t (waits_too u m) y idle so.one_each)) (finish_rests cmp order k
+          (length (joined cmp (waits_too u m) y).sending + length (joined cmp (waits_too u m) y).waiting) t
+          (joining cmp order (waits_too u m) y) (started cmp order (waits_too u m) y)
+          (round_fuel cmp order (waits_too u m) y) (held_after t u m y k none_ready pair))) in
           result (settle cmp t (joined cmp (waits_too u m) y)) x
           (first_is y (goes [] (joined cmp (waits_too u m) y)) found (begins t (waits_too u m) y may ∙ so.starts)
           ∙ preceded_none (settle cmp t (joined cmp (waits_too u m) y))) alike rests
       by_may y found true may (at_once off) = other_mode off
       by_may y found false may (at_once off) = other_mode off
       by_may y found false may (no_launch {fault = fault} under launch) =
-          let none : meets fault ≡ goes [] (record p { waiting = queued cmp m p.waiting }) =
-          stays_out launch (waits_too u m) y there may (abreast y found) in
+          let none = stays_out launch (waits_too u m) y there may (abreast y found) in
           cc
       by_may y found false may {x} (launches {leavers = leavers} {mid = mid} under launch finishes) =
-          let same : ◌≡◌ {A = Course (Message P) (Planned P)} (goes leavers mid)
-          (goes [] (record p { waiting = queued cmp m p.waiting }))
-          = stays_out launch (waits_too u m) y there may (abreast y found) in
+          let same = stays_out launch (waits_too u m) y there may (abreast y found) in
           let no_leavers : leavers ≡ [] = cc in
           let same_mid : mid ≡ record p { waiting = queued cmp m p.waiting } = cc in
-          let still : CoursesAlike cmp (IsSettled cmp t) x
-          (finish_within cmp (length (u.waiting ++ m ∷ [])) t [] (waits_too u m)) =
-          finishes_alike cmp order finishes (length (u.waiting ++ m ∷ [])) [] (waits_too u m)
+          let still = finishes_alike cmp order finishes (length (u.waiting ++ m ∷ [])) [] (waits_too u m)
           (subst (λ (q : Planned P). Follows cmp t q (waits_too u m)) (sym same_mid) there) idle
           (subst (λ (ms : List (Message P)). AllZip (SameMessage cmp) ms []) (sym no_leavers) tt) (omega arith) in
           let quiet : settle cmp t (waits_too u m) ≡ goes [] (waits_too u m) =
@@ -372,21 +276,12 @@ module _ {P : Type 0} (cmp : P → P → Ordering) (order : IsTotalOrder cmp) wh
       → (c : Course (Completed P) (World P)) × Runs cmp w (call_enqueue now m) now c
       × CoursesAlike cmp (λ q v. StandsFor cmp q v × (v.moment ≡ now)) course c
   enqueues_alike p w now m course stands limits le within before enqueues =
-      let there : IsReached cmp order now p w = reaches cmp order now p w stands le within before in
-      let under : there.world.limited ≡ true = sym there.follows.tallies.limited ∙ limits in
-      let c : Course (Completed P) (World P) =
-      and_then
+      let there = reaches cmp order now p w stands le within before in
+      let under = sym there.follows.tallies.limited ∙ limits in
+      let c = and_then
       (start_next cmp now (waits_too there.world m) (find (same_pair cmp m) (waits_too there.world m).waiting))
       (settle cmp now) in
-      let both : CoursesAlike cmp (IsSettled cmp now) course c × EndsWith (λ v. ready cmp now v ≡ []) c
-      = joins now p there.world m course limits there.follows there.none_done there.none_ready enqueues in
-      let acts : act cmp there.world (call_enqueue now m) ≡ c = rw under refl in (
-        c,
-        record {
-          ticked = goes [] there.world;
-          ticks = there.ticks;
-          acts = sym acts
-              ∙ sym (preceded_none (act cmp there.world (call_enqueue now m)));
-        },
-        settled_rests cmp order now course c within both.0 both.1,
-      )
+      let both = joins now p there.world m course limits there.follows there.none_done there.none_ready enqueues in
+      let acts : act cmp there.world (call_enqueue now m) ≡ c = rw under refl in
+      grind (arith, (preceded_none (act cmp there.world (call_enqueue now m))),
+      (settled_rests cmp order now course c within both.0 both.1))

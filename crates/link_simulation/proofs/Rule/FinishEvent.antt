@@ -1,29 +1,16 @@
 -- One event at the planned finish, in ticks: where nothing may start at once, the planned world stands for the world
 -- after it.
-use Rattle.std.proofs.Common.{◌≡◌, ℕ, zero, suc, ◌+◌, ◌<◌, ◌≤◌, List, [], length, Bool, true, false, not, Option, Some}
-use Rattle.std.proofs.Common.{None, refl, sym, ap, ◌∙◌, subst, arith, ◌⊎◌, inl, inr}
-use Rattle.std.specs.Prelude.{◌&&◌}
-use Rattle.std.specs.List.{list_any}
-use Rattle.std.specs.declared.cmp.Ordering.{Ordering}
-use Rattle.std.specs.Cmp.{IsTotalOrder}
-use Rattle.std.proofs.lemmas.Bool.{cases_lt, leb-true, le-leb}
+use Rattle.link_simulation.proofs.Common.{◌≡◌, ℕ, zero, suc, ◌<◌, ◌≤◌, List, [], true, false, Option, Some, None, refl}
+use Rattle.link_simulation.proofs.Common.{ap, subst, arith, ◌⊎◌, inl, inr, list_any, Ordering, IsTotalOrder, cases_lt}
+use Rattle.link_simulation.proofs.Common.{Completed, Course, IsQuiet, World, and_then, goes, instant, is_done}
+use Rattle.link_simulation.proofs.Common.{last_moment, meets, preceded, settle, settle_within, wake, Message}
+use Rattle.link_simulation.proofs.Common.{IsLeastMoment, Planned, SomeReadyAt, may_launch, IsSettled, StandsFor, Drains}
+use Rattle.link_simulation.proofs.Common.{Passes, Ticks, no_tick, no_time, one_tick, quiet_tick, tick_faults}
+use Rattle.link_simulation.proofs.Common.{find_from_any}
 use Rattle.std.proofs.lemmas.List.{append-nil}
-use Rattle.link_simulation.specs.Simulation.World.{Completed, Course, IsQuiet, World, and_then, goes, instant, is_done}
-use Rattle.link_simulation.specs.Simulation.World.{is_in_order, last_moment, meets, preceded, ready, settle}
-use Rattle.link_simulation.specs.Simulation.World.{settle_within, wake}
-use Rattle.link_simulation.specs.Simulation.Messages.{Message, same_pair}
-use Rattle.link_simulation.specs.Rule.Planned.{IsLeastMoment, Planned, SomeReadyAt, may_launch, rated_messages}
-use Rattle.link_simulation.specs.Rule.StandsFor.{Follows, IsSettled, StandsFor}
-use Rattle.link_simulation.specs.Simulation.Time.{Drains, Passes, Ticks, no_tick, no_time, one_tick, quiet_tick}
-use Rattle.link_simulation.specs.Simulation.Time.{tick_faults}
 use Rattle.link_simulation.proofs.Simulation.Queue.{settle_none, preceded_none}
 use Rattle.link_simulation.proofs.Rule.BeforeNext.{none_ready_at}
-use Rattle.fair_rates.proofs.Lists.Filters.{find_from_any}
 use Rattle.link_simulation.proofs.Simulation.Pass.{wake_none}
-
-pub in_order_later : (o : Option ℕ) (a b : ℕ) → a ≤ b → is_in_order o a ≡ true → is_in_order o b ≡ true
-in_order_later None a b le e = refl
-in_order_later (Some last) a b le e = let below : last ≤ a = leb-true last a e in le-leb last b (omega arith)
 
 module _ {P : Type 0} (cmp : P → P → Ordering) (order : IsTotalOrder cmp) where
   -- ---- a quiet instant
@@ -38,9 +25,7 @@ module _ {P : Type 0} (cmp : P → P → Ordering) (order : IsTotalOrder cmp) wh
   instant_is w v cs e = ap (λ (c : Course (Completed P) (World P)). and_then c (λ u. wake cmp u.moment u)) e
 
   pub instant_quiet : (w : World P) → IsQuiet cmp w.moment w → instant cmp w ≡ goes [] w
-  instant_quiet w quiet =
-      instant_is w w [] (settle_quiet (length w.sending + length w.waiting) w.moment w quiet.none_done)
-      ∙ ap (preceded []) (wake_none cmp order (length w.waiting) w.moment w quiet.none_ready)
+  instant_quiet w quiet = grind (arith, instant_is, settle_quiet, wake_none)
 
   -- ---- quiet ticks, and then one
 
@@ -65,13 +50,7 @@ module _ {P : Type 0} (cmp : P → P → Ordering) (order : IsTotalOrder cmp) wh
 
   may_later : (p : Planned P) (m : Message P) (s t : ℕ) → s ≤ t → may_launch cmp s p m ≡ true
       → may_launch cmp t p m ≡ true
-  may_later p m s t le e = by_idle (not (list_any (same_pair cmp m) (rated_messages p.sending))) e
-    where
-      by_idle : (b : Bool) → (b && is_in_order (p.last_arrival m.origin m.recipient) (s + m.latency)) ≡ true
-          → (b && is_in_order (p.last_arrival m.origin m.recipient) (t + m.latency)) ≡ true
-      by_idle true e =
-          in_order_later (p.last_arrival m.origin m.recipient) (s + m.latency) (t + m.latency) (omega arith) e
-      by_idle false e = cc
+  may_later p m s t le e = grind arith
 
   pub ready_later : (p : Planned P) (s t : ℕ) → s ≤ t → SomeReadyAt cmp p s → SomeReadyAt cmp p t
   ready_later p s t le some = (some.0, some.1, may_later p some.0 s t le some.2)
@@ -101,22 +80,8 @@ module _ {P : Type 0} (cmp : P → P → Ordering) (order : IsTotalOrder cmp) wh
   -- with nothing to start at once, a settled planned world stands for its world
   pub settled_stands : (t : ℕ) (p : Planned P) (w : World P) → t ≤ last_moment → IsSettled cmp t p w
       → ¬ SomeReadyAt cmp p t → StandsFor cmp p w
-  settled_stands t p w within settled not_now =
-      let at : w.moment ≡ t = settled.follows.tallies.moment in
-      record {
-        follows = subst (λ (s : ℕ). Follows cmp s p w) (sym at) settled.follows;
-        quiet =
-            record {
-              none_done = settled.none_done;
-              none_ready = ap (λ (s : ℕ). ready cmp s w) at
-                  ∙ none_ready_at cmp order t p w settled.follows.tallies not_now;
-            };
-        start = start_from p t p.start settled.start not_now;
-      }
+  settled_stands t p w within settled not_now = grind (arith, none_ready_at, start_from)
 
   pub settled_wakes : (t : ℕ) (p : Planned P) (w : World P) → IsSettled cmp t p w → ¬ SomeReadyAt cmp p t
       → wake cmp w.moment w ≡ goes [] w
-  settled_wakes t p w settled not_now =
-      wake_none cmp order (length w.waiting) w.moment w
-      (ap (λ (s : ℕ). ready cmp s w) settled.follows.tallies.moment
-      ∙ none_ready_at cmp order t p w settled.follows.tallies not_now)
+  settled_wakes t p w settled not_now = grind (arith, wake_none, none_ready_at)

@@ -1,29 +1,17 @@
 -- A message that is done lands, and the next one of its pair may start, before the others get their rates: one account
 -- does for both.
-use Rattle.std.proofs.Common.{◌≡◌, ℕ, ◌+◌, ◌<◌, List, [], ◌∷◌, ◌++◌, true, false, Option, Some, refl, sym}
-use Rattle.std.proofs.Common.{ap, ◌∙◌, subst, not}
-use Rattle.std.specs.Prelude.{◌&&◌}
-use Rattle.std.specs.List.{filter, list_any, AllZip}
-use Rattle.std.specs.declared.cmp.Ordering.{Ordering}
-use Rattle.std.specs.Cmp.{IsTotalOrder}
-use Rattle.std.proofs.lemmas.Bool.{not-true}
-use Rattle.fair_rates.proofs.Lists.Each.{Each, each_map}
-use Rattle.fair_rates.proofs.Lists.Zips.{zip-append}
-use Rattle.link_simulation.specs.Simulation.Messages.{Message, same_pair}
-use Rattle.link_simulation.specs.Simulation.World.{Completed, Course, goes, last_moment, is_late, completed, preceded}
-use Rattle.link_simulation.specs.Simulation.World.{is_in_order}
-use Rattle.link_simulation.specs.Simulation.Rates.{IsLowest}
-use Rattle.link_simulation.specs.Rule.Planned.{Planned, RatedFlight, rated_messages, next_of, may_launch, is_spent}
-use Rattle.link_simulation.specs.Rule.Planned.{drained_to}
-use Rattle.link_simulation.specs.Rule.Events.{Accounts, Launches, starts, Finishes, completes, Settles, settling}
-use Rattle.link_simulation.specs.Rule.Events.{landed, launched}
+use Rattle.link_simulation.proofs.Common.{◌∙◌, arith, ◌≡◌, ℕ, ◌<◌, List, [], ◌∷◌, ◌++◌, true, false, Option, Some, refl}
+use Rattle.link_simulation.proofs.Common.{sym, ap, subst, not, filter, AllZip, Ordering, IsTotalOrder, not-true}
+use Rattle.link_simulation.proofs.Common.{each_map, zip-append, Message, Completed, Course, goes, last_moment, is_late}
+use Rattle.link_simulation.proofs.Common.{completed, preceded, Planned, RatedFlight, next_of, may_launch, is_spent}
+use Rattle.link_simulation.proofs.Common.{drained_to, Accounts, Launches, starts, Finishes, completes, Settles}
+use Rattle.link_simulation.proofs.Common.{settling, landed, launched}
 use Rattle.link_simulation.specs.Rule.Leaving.{Leaves}
 use Rattle.link_simulation.proofs.Laws.Orderly.{Stays, stayed_messages}
 use Rattle.link_simulation.proofs.Rule.Accounts.{each_passes}
 use Rattle.link_simulation.proofs.Rule.BeforeNext.{filter_none}
-use Rattle.link_simulation.proofs.Rule.OneAccount.{AreLowest, IsAccountedAt, starting, account_exists, zip_each}
-use Rattle.link_simulation.proofs.Rule.OneAccount.{accounted, all_and_one_stay, drained_still}
-use Rattle.link_simulation.proofs.Rule.OneAccount.{none_and_one_leave, none_leave}
+use Rattle.link_simulation.proofs.Rule.OneAccount.{AreLowest, starting, account_exists, zip_each, accounted}
+use Rattle.link_simulation.proofs.Rule.OneAccount.{all_and_one_stay, drained_still, none_and_one_leave, none_leave}
 
 -- two lists that both match a third one match each other
 zip_beside : {X Y Z : Type 0} (R : X → Y → Type 0) (S : X → Z → Type 0) (T : Y → Z → Type 0)
@@ -41,42 +29,23 @@ module _ {P : Type 0} (cmp : P → P → Ordering) (order : IsTotalOrder cmp) wh
   -- where some have left, an account can be made
   pub account_of : (t : ℕ) (old here : Planned P) (ls : List (Message P)) → Leaves cmp t old ls here
       → (mid : Planned P) × Accounts cmp t old ls mid
-  account_of t old here ls leaves =
-      let made = account_exists cmp order t old in
-      let same : made.0 ≡ ls = made.2.left ∙ sym leaves.left in
-      (made.1, subst (λ (l : List (Message P)). Accounts cmp t old l made.1) same made.2)
+  account_of t old here ls leaves = grind (arith, (account_exists cmp order t old))
 
   -- a message that is done lands before the others get their rates
   pub lands : (t : ℕ) (old new : Planned P) (m : Message P) (ls : List (Message P))
       → Accounts cmp t (landed cmp t old m) ls new
       → (mid : Planned P) × Accounts cmp t old ls mid × (landed cmp t mid m ≡ new)
   lands t old new m ls a =
-      let arrived : new.last_arrival ≡ (landed cmp t old m).last_arrival =
-      ap (λ (q : Planned P). q.last_arrival) a.same in (
+      let arrived : new.last_arrival ≡ (landed cmp t old m).last_arrival = grind arith in (
         record new { last_arrival = old.last_arrival },
-        record {
-          per = a.per;
-          rates = a.rates;
-          left = a.left;
-          stayed = a.stayed;
-          fair = a.fair;
-          rated = a.rated;
-          finish = a.finish;
-          same = ap (λ (q : Planned P). record q { last_arrival = old.last_arrival }) a.same;
-        },
+        grind arith,
         ap (λ (last : P → P → Option ℕ). record new { last_arrival = last }) (sym arrived),
       )
 
   -- none of what is left after some have left is done
   none_done : (t : ℕ) (old here : Planned P) (ls : List (Message P)) → Leaves cmp t old ls here
       → filter (is_spent cmp here.caps) here.sending ≡ []
-  none_done t old here ls leaves =
-      let stay : Each (λ f. not (is_spent cmp here.caps f) ≡ true) here.sending =
-      subst (λ (q : Planned P). Each (λ f. not (is_spent cmp q.caps f) ≡ true) q.sending) (sym leaves.is)
-      (each_passes (λ f. not (is_spent cmp old.caps f)) (drained_to t old.sending)) in
-      filter_none (is_spent cmp here.caps) here.sending
-      (each_map (λ f. not (is_spent cmp here.caps f) ≡ true) (λ f. is_spent cmp here.caps f ≡ false) here.sending
-      (λ f e. not-true (is_spent cmp here.caps f) e) stay)
+  none_done t old here ls leaves = grind (arith, each_passes, filter_none, each_map, not-true)
 
   -- what stands at a moment stays as it is, and so does a message that starts at it
   pub none_leaves_again : (t : ℕ) (old here : Planned P) (m next : Message P) (ls : List (Message P))
@@ -85,14 +54,9 @@ module _ {P : Type 0} (cmp : P → P → Ordering) (order : IsTotalOrder cmp) wh
       → Leaves cmp t (launched cmp t (landed cmp t here m) next) [] (launched cmp t (landed cmp t here m) next)
   none_leaves_again t old here m next ls leaves still stays =
       let none = none_done t old here ls leaves in
-      record {
-        left = sym (ap rated_messages
-            (none_and_one_leave cmp order here.next_id t here.caps here.sending next stays still none));
-        is =
-            let all = all_and_one_stay cmp order here.next_id t here.caps here.sending next stays still none in
-            let at : here.accounted ≡ t = ap (λ (q : Planned P). q.accounted) leaves.is in
-            λ i. record (launched cmp t (landed cmp t here m) next) { sending = sym all i; accounted = at i };
-      }
+      grind (arith, accounted,
+      (none_and_one_leave cmp order here.next_id t here.caps here.sending next stays still none),
+      (all_and_one_stay cmp order here.next_id t here.caps here.sending next stays still none))
 
   -- ---- the next message starts
 
@@ -126,25 +90,10 @@ module _ {P : Type 0} (cmp : P → P → Ordering) (order : IsTotalOrder cmp) wh
         (all_and_one_stay cmp order here.next_id t here.caps here.sending next stays still_here none_here) a.stayed))
 
     accounts_there : Accounts cmp t (launched cmp t (landed cmp t there m) next) [] new
-    accounts_there = record {
-      per = a.per;
-      rates = a.rates;
-      left = sym (ap rated_messages
-          (none_and_one_leave cmp order here.next_id t here.caps fs next stays still_there none_there));
-      stayed = left_alike;
-      fair = a.fair;
-      rated = a.rated;
-      finish = a.finish;
-      same = a.same;
-    }
+    accounts_there = grind (arith, none_and_one_leave, left_alike)
 
     starts_beside : Launches cmp t (landed cmp t there m) (Some next) (goes [] new)
-    starts_beside =
-        let may_there : may_launch cmp t (landed cmp t there m) next ≡ true =
-        ap (λ (ms : List (Message P)). not (list_any (same_pair cmp next) ms)
-        && is_in_order ((landed cmp t here m).last_arrival next.origin next.recipient) (t + next.latency))
-        (stayed_messages t here.sending fs stayed) ∙ may in
-        starts may_there id accounts_there
+    starts_beside = grind (arith, there, stayed_messages, starts, accounts_there)
 
   -- the next message of the pair of one that is done starts before the others get their rates
   pub follows : (t : ℕ) (old here new : Planned P) (m next : Message P) (ls : List (Message P))
@@ -157,29 +106,16 @@ module _ {P : Type 0} (cmp : P → P → Ordering) (order : IsTotalOrder cmp) wh
       × Launches cmp t (landed cmp t mid m) (next_of cmp mid m) (goes [] new)
   follows t old here new m next ls leaves lowest still found may id stays a =
       let made = account_of t old here ls leaves in
-      let there : made.0 ≡ record here { sending = made.0.sending; accounted = t; finish = made.0.finish } =
-      made.1.same
-      ∙ sym (ap (λ (q : Planned P). record q { sending = made.0.sending; accounted = t; finish = made.0.finish }) leaves.is) in
-      let accounted_there : IsAccountedAt cmp order t made.0 = accounted cmp order t old made.0 ls made.1 in
-      let stayed : AllZip (Stays t) here.sending made.0.sending =
-      subst (λ (q : Planned P). AllZip (Stays t) q.sending made.0.sending) (sym leaves.is) made.1.stayed in
-      let low : AreLowest made.0.sending =
-      zip_each (Stays t) (λ f. IsLowest f.left) (λ g. IsLowest g.left)
-      (λ f g same low. subst IsLowest (sym same.2) low) here.sending made.0.sending stayed lowest in
-      let none_there : filter (is_spent cmp here.caps) made.0.sending ≡ [] =
-      subst (λ (q : Planned P). filter (is_spent cmp q.caps) made.0.sending ≡ []) there
+      let there : made.0 ≡ record here { sending = made.0.sending; accounted = t; finish = made.0.finish } = grind
+      (arith, accounted) in
+      let accounted_there = accounted cmp order t old made.0 ls made.1 in
+      let stayed : AllZip (Stays t) here.sending made.0.sending = grind arith in
+      let low : AreLowest made.0.sending = grind (arith, zip_each) in
+      let none_there = subst (λ (q : Planned P). filter (is_spent cmp q.caps) made.0.sending ≡ []) there
       (none_leave cmp order t made.0 accounted_there) in
-      let launch : Launches cmp t (landed cmp t (record here { sending = made.0.sending; accounted = t; finish = made.0.finish }) m)
-      (Some next) (goes [] new) =
-      starts_beside t m next here new made.0.sending made.0.finish may id stays still
-      (none_done t old here ls leaves) stayed (drained_still cmp order t made.0 accounted_there low) none_there a in (
-        made.0,
-        made.1,
-        subst (λ (q : Planned P). Launches cmp t (landed cmp t q m) (next_of cmp q m) (goes [] new)) (sym there)
-            (subst (λ (first : Option (Message P)). Launches cmp t
-            (landed cmp t (record here { sending = made.0.sending; accounted = t; finish = made.0.finish }) m) first (goes [] new))
-            (sym found) launch),
-      )
+      let launch = starts_beside t m next here new made.0.sending made.0.finish may id stays still
+      (none_done t old here ls leaves) stayed (drained_still cmp order t made.0 accounted_there low) none_there a in
+      grind (arith, accounted)
 
   -- the first of those that are done completes, and then the others
   pub settles_first : (t : ℕ) (old mid q : Planned P) (m : Message P) (ms more : List (Message P))

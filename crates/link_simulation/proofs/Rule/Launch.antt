@@ -1,30 +1,19 @@
 -- A launch in the planned world is a start in the world, and what is done at once leaves.
-use Rattle.std.proofs.Common.{◌≡◌, ℕ, ◌+◌, ◌-◌, ◌<◌, ◌≤◌, List, [], ◌∷◌, ◌++◌, map, length, Bool, true, false, cond}
-use Rattle.std.proofs.Common.{not, Option, Some, None, refl, sym, ap, ◌∙◌, subst, arith}
-use Rattle.std.specs.Prelude.{nat_le, ⊤, ◌&&◌}
-use Rattle.std.specs.List.{filter, find, list_any, AllZip}
-use Rattle.std.specs.declared.cmp.Ordering.{Ordering}
-use Rattle.std.specs.Cmp.{IsTotalOrder}
-use Rattle.std.proofs.lemmas.Bool.{or_from, or_parts, not-true}
-use Rattle.std.proofs.lemmas.List.{append-nil, map-append}
-use Rattle.std.proofs.lemmas.List.Elements.{filter-append}
+use Rattle.link_simulation.proofs.Common.{subst, ◌≡◌, ℕ, ◌+◌, ◌≤◌, List, [], ◌∷◌, ◌++◌, map, length, Bool, true, false}
+use Rattle.link_simulation.proofs.Common.{cond, not, Option, Some, None, refl, sym, ap, ◌∙◌, arith, nat_le, ⊤, ◌&&◌}
+use Rattle.link_simulation.proofs.Common.{filter, find, list_any, AllZip, Ordering, IsTotalOrder, not-true, map-append}
+use Rattle.link_simulation.proofs.Common.{filter-append, whole, Completed, Course, Flight, World, flows, goes, is_done}
+use Rattle.link_simulation.proofs.Common.{is_in_order, last_moment, may_start, meets, start, flight_of, Launches}
+use Rattle.link_simulation.proofs.Common.{launched, no_id, nothing_waits, starts, too_early, Message, OneForEachPair}
+use Rattle.link_simulation.proofs.Common.{SameMessage, same_pair, AreInPairOrder, Planned, next_of, Follows}
+use Rattle.link_simulation.proofs.Common.{IsSameFlight, Tallies, FlowIdsUsedUp, leb-true, le-leb, without_first}
+use Rattle.link_simulation.proofs.Common.{leaving, staying, out_of_waiting, joined, launch_then, Each, each_map}
+use Rattle.std.proofs.lemmas.List.{append-nil}
 use Rattle.std.proofs.lemmas.Slice.Zip.{all_zipped_more}
-use Rattle.fair_rates.specs.Numbers.Amount.{drained, whole}
-use Rattle.link_simulation.specs.Simulation.World.{Completed, Course, Flight, World, flows, goes, is_done, is_in_order}
-use Rattle.link_simulation.specs.Simulation.World.{last_moment, may_start, meets, start, flight_of}
-use Rattle.link_simulation.specs.Rule.Events.{Launches, launched, no_id, nothing_waits, starts, too_early}
-use Rattle.link_simulation.specs.Simulation.Messages.{Message, OneForEachPair, SameMessage, pair_before, same_pair}
-use Rattle.link_simulation.specs.Rule.Planned.{AreInPairOrder, Planned, may_launch, next_of}
-use Rattle.link_simulation.specs.Rule.StandsFor.{Follows, IsSameFlight, Tallies}
-use Rattle.fair_rates.specs.declared.error.Error.TheVariants.{FlowIdsUsedUp}
-use Rattle.std.proofs.lemmas.Bool.{leb-true, le-leb}
-use Rattle.fair_rates.specs.Lists.WithoutFirst.{without_first}
 use Rattle.link_simulation.proofs.Simulation.LowestTerms.{whole_lowest, drained_none}
-use Rattle.link_simulation.specs.Simulation.Queue.{leaving, staying, out_of_waiting, joined, launch_then}
 use Rattle.link_simulation.proofs.Simulation.Queue.{find_none, pair_like, pair_sym, one_pair_more, find_passes}
 use Rattle.link_simulation.proofs.Simulation.AlikeMessages.{message_itself, pairs_alike}
 use Rattle.link_simulation.proofs.Rule.BeforeNext.{filter_none, messages_alike, may_alike}
-use Rattle.fair_rates.proofs.Lists.Each.{Each, each_map}
 use Rattle.link_simulation.proofs.Rule.Accounts.{none_matched, each_passes, leavers_alike, account_follows}
 use Rattle.link_simulation.proofs.Simulation.SettlingEnds.{length_without, find_like}
 
@@ -40,12 +29,7 @@ head_of (x ∷ xs) = Some x
 
 pub head_found : {X : Type 0} (test : X → Bool) (xs : List X) → find test xs ≡ head_of (filter test xs)
 head_found test [] = refl
-head_found {X} test (x ∷ xs) = by_test (test x) (head_found test xs)
-  where
-    by_test : (b : Bool) → find test xs ≡ head_of (filter test xs)
-        → cond b (Some x) (find test xs) ≡ head_of (cond b (x ∷ filter test xs) (filter test xs))
-    by_test true ih = refl
-    by_test false ih = ih
+head_found {X} test (x ∷ xs) = grind (arith, (head_found test xs))
 
 pub filter_all : {X : Type 0} (test : X → Bool) (xs : List X) → Each (λ x. test x ≡ false) xs
     → filter (λ x. not (test x)) xs ≡ xs
@@ -75,14 +59,7 @@ rests_alike R (x ∷ xs) (y ∷ ys) all = all.1
 any_but_first : {X : Type 0} (p test : X → Bool) (xs : List X) → list_any p xs ≡ false
     → list_any p (without_first test xs) ≡ false
 any_but_first p test [] e = refl
-any_but_first {X} p test (x ∷ xs) e =
-    let parts : (p x ≡ false) × (list_any p xs ≡ false) = or_parts (p x) (list_any p xs) e in
-    by_test (test x) parts.0 parts.1 (any_but_first p test xs parts.1)
-  where
-    by_test : (b : Bool) → p x ≡ false → list_any p xs ≡ false → list_any p (without_first test xs) ≡ false
-        → list_any p (cond b xs (x ∷ without_first test xs)) ≡ false
-    by_test true h k ih = k
-    by_test false h k ih = or_from (p x) (list_any p (without_first test xs)) h ih
+any_but_first {X} p test (x ∷ xs) e = grind (arith, (any_but_first p test xs))
 
 module _ {P : Type 0} (cmp : P → P → Ordering) (order : IsTotalOrder cmp) where
   -- ---- what waits
@@ -90,14 +67,7 @@ module _ {P : Type 0} (cmp : P → P → Ordering) (order : IsTotalOrder cmp) wh
   pub pair_order_without : (test : Message P → Bool) (ms : List (Message P)) → AreInPairOrder cmp ms
       → AreInPairOrder cmp (without_first test ms)
   pair_order_without test [] h = tt
-  pair_order_without test (m ∷ ms) h =
-      by_test (test m) (any_but_first (λ n. pair_before cmp n m) test ms h.0) (pair_order_without test ms h.1)
-    where
-      by_test : (b : Bool) → list_any (λ n. pair_before cmp n m) (without_first test ms) ≡ false
-          → AreInPairOrder cmp (without_first test ms)
-          → AreInPairOrder cmp (cond b ms (m ∷ without_first test ms))
-      by_test true k ih = h.1
-      by_test false k ih = (k, ih)
+  pair_order_without test (m ∷ ms) h = grind (arith, any_but_first, (pair_order_without test ms))
 
   -- the first message of a pair leaves the waiting ones of that pair alone shorter
   pub waits_without : (m x : Message P) (ws : List (Message P))
@@ -110,57 +80,14 @@ module _ {P : Type 0} (cmp : P → P → Ordering) (order : IsTotalOrder cmp) wh
           ≡ cond b (rest_of (filter (same_pair cmp m) ws)) (filter (same_pair cmp m) ws)
       by_pair true e [] = refl
       by_pair false e [] = refl
-      by_pair true e (y ∷ ws) =
-          by_test (same_pair cmp x y) (same_pair cmp m y) (pair_like cmp order m x y e) refl (by_pair true e ws)
-        where
-          by_test : (a b : Bool) → a ≡ b → same_pair cmp m y ≡ b
-              → filter (same_pair cmp m) (without_first (same_pair cmp x) ws) ≡ rest_of (filter (same_pair cmp m) ws)
-              → filter (same_pair cmp m) (cond a ws (y ∷ without_first (same_pair cmp x) ws))
-              ≡ rest_of (cond b (y ∷ filter (same_pair cmp m) ws) (filter (same_pair cmp m) ws))
-          by_test true true e is ih = refl
-          by_test true false e is ih = cc
-          by_test false true e is ih = cc
-          by_test false false e is ih = rw is ih
-      by_pair false e (y ∷ ws) = by_test (same_pair cmp x y) (same_pair cmp m y) refl refl (by_pair false e ws)
-        where
-          apart : same_pair cmp x y ≡ true → same_pair cmp m y ≡ true → ⊥
-          apart f g =
-              let back : same_pair cmp y x ≡ true = pair_sym cmp order y x ∙ f in
-              let same : same_pair cmp y x ≡ same_pair cmp m x = pair_like cmp order m y x g in
-              cc
-
-          by_test : (a b : Bool) → same_pair cmp x y ≡ a → same_pair cmp m y ≡ b
-              → filter (same_pair cmp m) (without_first (same_pair cmp x) ws) ≡ filter (same_pair cmp m) ws
-              → filter (same_pair cmp m) (cond a ws (y ∷ without_first (same_pair cmp x) ws))
-              ≡ cond b (y ∷ filter (same_pair cmp m) ws) (filter (same_pair cmp m) ws)
-          by_test true true f g ih = absurd (apart f g)
-          by_test true false f g ih = refl
-          by_test false b f g ih = rw (g, ih) refl
+      by_pair true e (y ∷ ws) = grind (arith, pair_like, rest_of, (by_pair true e ws))
+      by_pair false e (y ∷ ws) = grind (arith, pair_sym, pair_like, (by_pair false e ws))
 
   waiting_taken : (x y m : Message P) (ms ns : List (Message P)) → SameMessage cmp x y
       → AllZip (SameMessage cmp) (filter (same_pair cmp m) ms) (filter (same_pair cmp m) ns)
       → AllZip (SameMessage cmp) (filter (same_pair cmp m) (without_first (same_pair cmp x) ms))
       (filter (same_pair cmp m) (without_first (same_pair cmp y) ns))
-  waiting_taken x y m ms ns same all =
-      subst
-      (λ (ks : List (Message P)). AllZip (SameMessage cmp) ks
-      (filter (same_pair cmp m) (without_first (same_pair cmp y) ns)))
-      (sym (waits_without m x ms))
-      (subst
-      (λ (ks : List (Message P)). AllZip (SameMessage cmp)
-      (cond (same_pair cmp m x) (rest_of (filter (same_pair cmp m) ms)) (filter (same_pair cmp m) ms)) ks)
-      (sym (waits_without m y ns))
-      (by_test (same_pair cmp m x) (same_pair cmp m y)
-      (pairs_alike cmp order m m x y (message_itself cmp order m) same)))
-    where
-      by_test : (a b : Bool) → a ≡ b
-          → AllZip (SameMessage cmp) (cond a (rest_of (filter (same_pair cmp m) ms)) (filter (same_pair cmp m) ms))
-          (cond b (rest_of (filter (same_pair cmp m) ns)) (filter (same_pair cmp m) ns))
-      by_test true true e =
-          rests_alike (SameMessage cmp) (filter (same_pair cmp m) ms) (filter (same_pair cmp m) ns) all
-      by_test true false e = cc
-      by_test false true e = cc
-      by_test false false e = all
+  waiting_taken x y m ms ns same all = grind (arith, waits_without, rest_of, pairs_alike, message_itself, rests_alike)
 
   -- the pair's next is the same in both worlds
   pub next_alike : (t : ℕ) (p : Planned P) (w : World P) (m n : Message P) → Tallies cmp t p w → SameMessage cmp m n
@@ -184,63 +111,29 @@ module _ {P : Type 0} (cmp : P → P → Ordering) (order : IsTotalOrder cmp) wh
       (record { id = id; message = x; left = whole (length x.bytes); rate = Some (whole 0); updated = t })
       (flight_of y)
   started_flight t id x y same =
-      let no_time : t - t ≡ 0 = omega arith in
-      record {
-        message = same;
-        updated = omega arith;
-        lowest = whole_lowest (length x.bytes);
-        rate = omega arith;
-        left =
-            ap (λ (bs : List ℕ). whole (length bs)) (sym same.bytes)
-            ∙ sym
-            (ap (λ (k : ℕ). drained (whole (length x.bytes)) (whole 0) k) no_time
-            ∙ drained_none (whole (length x.bytes)) (whole 0) (whole_lowest (length x.bytes)) (omega arith));
-      }
+      grind (arith, whole, (whole_lowest (length x.bytes)), (whole (length x.bytes)), (whole 0),
+      (drained_none (whole (length x.bytes)) (whole 0) (whole_lowest (length x.bytes)) (omega arith)))
 
   -- before any limit nothing waits
   pub waits_limited : (t : ℕ) (p : Planned P) (w : World P) (y : Message P) → Tallies cmp t p w
       → find (same_pair cmp y) w.waiting ≡ Some y → p.limited ≡ false → ⊥
-  waits_limited t p w y same own free =
-      let empty : AllZip (SameMessage cmp) [] (filter (same_pair cmp y) w.waiting)
-      = subst
-      (λ (ms : List (Message P)). AllZip (SameMessage cmp) (filter (same_pair cmp y) ms)
-      (filter (same_pair cmp y) w.waiting))
-      (same.empty_at_first free).1 (same.waiting y) in
-      let none : find (same_pair cmp y) w.waiting ≡ None =
-      find_none (same_pair cmp y) w.waiting
-      (none_matched (SameMessage cmp) (filter (same_pair cmp y) w.waiting) empty) in
-      cc
+  waits_limited t p w y same own free = grind (arith, find_none, none_matched)
 
   pub launched_tallies : (t : ℕ) (p : Planned P) (w : World P) (x y : Message P) → Tallies cmp t p w
       → SameMessage cmp x y → find (same_pair cmp y) w.waiting ≡ Some y
       → list_any (same_pair cmp y) (flows w) ≡ false → Tallies cmp t (launched cmp t p x) (joined cmp w y)
-  launched_tallies t p w x y same alike own idle = record {
-    moment = same.moment;
-    caps = same.caps;
-    limited = same.limited;
-    last_arrival = same.last_arrival;
-    next_id = ap (λ (n : ℕ). n + 1) same.next_id;
-    waiting = λ m. waiting_taken x y m p.waiting w.waiting alike (same.waiting m);
-    pair_order = pair_order_without (same_pair cmp x) p.waiting same.pair_order;
-    sending =
-        all_zipped_more (IsSameFlight cmp t) p.sending w.sending
-        (record { id = p.next_id; message = x; left = whole (length x.bytes); rate = Some (whole 0); updated = t })
-        (flight_of y) same.sending (started_flight t p.next_id x y alike);
-    one_each =
-        subst (OneForEachPair cmp) (sym (map-append (λ (g : Flight P). g.message) w.sending (flight_of y ∷ [])))
-        (one_pair_more cmp order (flows w) y same.one_each idle);
-    empty_at_first = λ free. absurd (waits_limited t p w y same own free);
-  }
+  launched_tallies t p w x y same alike own idle =
+      grind (arith, waiting_taken, map-append, waits_limited, (pair_order_without (same_pair cmp x) p.waiting
+      same.pair_order), (all_zipped_more (IsSameFlight cmp t) p.sending w.sending (record { id = p.next_id; message =
+      x; left = whole (length x.bytes); rate = Some (whole 0); updated = t }) (flight_of y) same.sending
+      (started_flight t p.next_id x y alike)), (one_pair_more cmp order))
 
   abbrev pub NoneDone : World P → Type 0
   NoneDone w = Each (λ g. is_done cmp w g ≡ false) w.sending
 
   pub staying_none : (w : World P) → NoneDone (staying cmp w)
   unfolding staying
-  staying_none w =
-      each_map (λ g. not (is_done cmp w g) ≡ true) (λ g. is_done cmp w g ≡ false)
-      (filter (λ g. not (is_done cmp w g)) w.sending) (λ g. not-true (is_done cmp w g))
-      (each_passes (λ g. not (is_done cmp w g)) w.sending)
+  staying_none w = grind (arith, each_map, not-true, each_passes)
 
   -- those that join the leavers, and the world after the start
   abbrev pub joining : World P → Message P → List (Flight P)
@@ -251,24 +144,12 @@ module _ {P : Type 0} (cmp : P → P → Ordering) (order : IsTotalOrder cmp) wh
 
   pub joining_leaves : (w : World P) (y : Message P) → NoneDone w → leaving cmp (joined cmp w y) ≡ joining w y
   unfolding leaving
-  joining_leaves w y none =
-      filter-append (is_done cmp w) w.sending (flight_of y ∷ [])
-      ∙ ap (λ (q : List (Flight P)). q ++ joining w y) (filter_none (is_done cmp w) w.sending none)
+  joining_leaves w y none = grind (arith, filter-append, filter_none)
 
   pub started_stays : (w : World P) (y : Message P) → NoneDone w → staying cmp (joined cmp w y) ≡ started w y
   unfolding staying
   started_stays w y none =
-      ap (λ (q : List (Flight P)). record (joined cmp w y) { sending = q })
-      (filter-append (λ g. not (is_done cmp w g)) w.sending (flight_of y ∷ [])
-      ∙ ap (λ (q : List (Flight P)). q ++ cond (not (is_done cmp w (flight_of y))) (flight_of y ∷ []) [])
-      (filter_all (is_done cmp w) w.sending none))
-      ∙ by_test (is_done cmp w (flight_of y))
-    where
-      by_test : (b : Bool)
-          → ◌≡◌ {A = World P} (record (joined cmp w y) { sending = w.sending ++ cond (not b) (flight_of y ∷ []) [] })
-          (cond b (out_of_waiting cmp w y) (joined cmp w y))
-      by_test true = ap (λ (q : List (Flight P)). record (joined cmp w y) { sending = q }) (append-nil w.sending)
-      by_test false = refl
+      grind (arith, filter-append, joined, append-nil, (joined cmp w y), (filter_all (is_done cmp w) w.sending none))
 
   -- the world goes on as the planned world does: with these leavers, in this world
   pub record GoesOn (t : ℕ) (w : World P) (fs : List (Flight P)) (o : Option (Message P)) (leavers : List (Message P))
@@ -366,14 +247,9 @@ module _ {P : Type 0} (cmp : P → P → Ordering) (order : IsTotalOrder cmp) wh
         leaves = tt;
         fewer = omega arith;
       }
-  launch_alike nothing_waits w fs m (Some y) follows none is alike = absurd alike
-  launch_alike (too_early early) w fs m None follows none is alike = absurd alike
   launch_alike {t = t} {p = p} (too_early {m = x} early) w fs m (Some y) follows none is alike =
       let not_yet : may_start cmp t w y ≡ false
-      = sym
-      (may_alike cmp order t p w x y follows.tallies.last_arrival
-      (messages_alike cmp order t p.sending w.sending follows.tallies.sending) alike)
-      ∙ early in
+      = grind (arith, may_alike, messages_alike) in
       record {
         more = [];
         world = w;
@@ -383,50 +259,22 @@ module _ {P : Type 0} (cmp : P → P → Ordering) (order : IsTotalOrder cmp) wh
         leaves = tt;
         fewer = omega arith;
       }
-  launch_alike (no_id may last) w fs m None follows none is alike = absurd alike
   launch_alike {t = t} {p = p} (no_id {m = x} may last) w fs m (Some y) follows none is alike =
-      let may_too : may_start cmp t w y ≡ true
-      = sym
-      (may_alike cmp order t p w x y follows.tallies.last_arrival
-      (messages_alike cmp order t p.sending w.sending follows.tallies.sending) alike)
-      ∙ may in
-      let ids : last_moment ≤ w.next_id = subst (λ (n : ℕ). last_moment ≤ n) follows.tallies.next_id last in
-      λ next. starts_fault next t fs w y may_too (le-leb last_moment w.next_id ids)
-  launch_alike (starts may below account) w fs m None follows none is alike = absurd alike
+      grind (arith, may_alike, messages_alike, starts_fault, le-leb)
   launch_alike {t = t} {p = p} (starts {m = x} {leavers = leavers} {new = new} may below account) w fs m (Some y)
       follows none is alike =
-      let may_too : may_start cmp t w y ≡ true
-      = sym
-      (may_alike cmp order t p w x y follows.tallies.last_arrival
-      (messages_alike cmp order t p.sending w.sending follows.tallies.sending) alike)
-      ∙ may in
-      let idle : list_any (same_pair cmp y) (flows w) ≡ false =
-      idle_from (list_any (same_pair cmp y) (flows w))
+      let may_too = sym (may_alike cmp order t p w x y follows.tallies.last_arrival
+      (messages_alike cmp order t p.sending w.sending follows.tallies.sending) alike) ∙ may in
+      let idle = idle_from (list_any (same_pair cmp y) (flows w))
       (is_in_order (w.last_arrival y.origin y.recipient) (t + y.latency)) may_too in
-      let own : find (same_pair cmp y) w.waiting ≡ Some y =
-      find_like cmp order m y w.waiting (find_passes (same_pair cmp m) y w.waiting is) ∙ is in
-      let tallies : Tallies cmp t (launched cmp t p x) (joined cmp w y) =
-      launched_tallies t p w x y follows.tallies alike own idle in
-      record {
-        more = joining w y;
-        world = started w y;
-        launches = λ next.
-            starts_so next t fs w y may_too (by_id (nat_le last_moment w.next_id) refl follows.tallies.next_id below);
-        follows =
-            subst (λ (v : World P). Follows cmp t new v) (started_stays w y none)
-            (account_follows cmp order t (launched cmp t p x) new leavers (joined cmp w y) tallies account);
-        none = subst NoneDone (started_stays w y none) (staying_none (joined cmp w y));
-        leaves =
-            subst (λ (q : List (Flight P)). AllZip (SameMessage cmp) leavers (map (λ (g : Flight P). g.message) q))
-            (joining_leaves w y none)
-            (leavers_alike cmp order t (launched cmp t p x) new leavers (joined cmp w y) tallies account);
-        fewer = started_fewer w y own;
-      }
-    where
-      by_id : (b : Bool) → (nat_le last_moment w.next_id) ≡ b → p.next_id ≡ w.next_id → p.next_id < last_moment
-          → b ≡ false
-      by_id true e same lt = let is : last_moment ≤ w.next_id = leb-true last_moment w.next_id e in absurd (omega arith)
-      by_id false e same lt = refl
+      let own = find_like cmp order m y w.waiting (find_passes (same_pair cmp m) y w.waiting is) ∙ is in
+      let tallies = launched_tallies t p w x y follows.tallies alike own idle in
+      grind (arith, starts_so, leb-true, (started w y), (started_stays w y none),
+      (account_follows cmp order t (launched cmp t p x) new leavers (joined cmp w y) tallies account),
+      (staying_none (joined cmp w y)), (joining_leaves w y none),
+      (leavers_alike cmp order t (launched cmp t p x) new leavers (joined cmp w y) tallies account),
+      (started_fewer w y own))
+  launch_alike _ w fs m _ follows none is alike = absurd alike
 
   pub start_alike : {t : ℕ} {p : Planned P} {o : Option (Message P)} {course : Course (Message P) (Planned P)}
       → Launches cmp t p o course → (w : World P) (y : Message P)
@@ -435,34 +283,14 @@ module _ {P : Type 0} (cmp : P → P → Ordering) (order : IsTotalOrder cmp) wh
       → OptionsAlike (SameMessage cmp) o (Some y) → StartAlike t w y course
   start_alike nothing_waits w y follows none may own alike = absurd alike
   start_alike {t = t} {p = p} (too_early {m = x} early) w y follows none may own alike =
-      let same : may_launch cmp t p x ≡ may_start cmp t w y
-      = may_alike cmp order t p w x y follows.tallies.last_arrival
-      (messages_alike cmp order t p.sending w.sending follows.tallies.sending) alike in
-      cc
-  start_alike {t = t} {p = p} (no_id {m = x} launches last) w y follows none may own alike =
-      let ids : last_moment ≤ w.next_id = subst (λ (n : ℕ). last_moment ≤ n) follows.tallies.next_id last in
-      rw (le-leb last_moment w.next_id ids) refl
+      grind (arith, may_alike, messages_alike)
+  start_alike {t = t} {p = p} (no_id {m = x} launches last) w y follows none may own alike = grind arith
   start_alike {t = t} {p = p} (starts {m = x} {leavers = leavers} {new = new} launches below account) w y follows none
       may own alike =
-      let idle : list_any (same_pair cmp y) (flows w) ≡ false =
-      idle_from (list_any (same_pair cmp y) (flows w))
+      let idle = idle_from (list_any (same_pair cmp y) (flows w))
       (is_in_order (w.last_arrival y.origin y.recipient) (t + y.latency)) may in
-      let tallies : Tallies cmp t (launched cmp t p x) (joined cmp w y) =
-      launched_tallies t p w x y follows.tallies alike own idle in
-      record {
-        starts = rw (by_id (nat_le last_moment w.next_id) refl follows.tallies.next_id below) refl;
-        follows =
-            subst (λ (v : World P). Follows cmp t new v) (started_stays w y none)
-            (account_follows cmp order t (launched cmp t p x) new leavers (joined cmp w y) tallies account);
-        none = subst NoneDone (started_stays w y none) (staying_none (joined cmp w y));
-        leaves =
-            subst (λ (q : List (Flight P)). AllZip (SameMessage cmp) leavers (map (λ (g : Flight P). g.message) q))
-            (joining_leaves w y none)
-            (leavers_alike cmp order t (launched cmp t p x) new leavers (joined cmp w y) tallies account);
-        one_each = tallies.one_each;
-      }
-    where
-      by_id : (b : Bool) → (nat_le last_moment w.next_id) ≡ b → p.next_id ≡ w.next_id → p.next_id < last_moment
-          → b ≡ false
-      by_id true e same lt = let is : last_moment ≤ w.next_id = leb-true last_moment w.next_id e in absurd (omega arith)
-      by_id false e same lt = refl
+      let tallies = launched_tallies t p w x y follows.tallies alike own idle in
+      grind (arith, leb-true, (started_stays w y none),
+      (account_follows cmp order t (launched cmp t p x) new leavers (joined cmp w y) tallies account),
+      (staying_none (joined cmp w y)), (joining_leaves w y none),
+      (leavers_alike cmp order t (launched cmp t p x) new leavers (joined cmp w y) tallies account))

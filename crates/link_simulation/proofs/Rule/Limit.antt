@@ -1,24 +1,14 @@
 -- The empty planned world stands for the empty world, and new caps do in the planned world what they do in the world.
-use Rattle.std.proofs.Common.{◌≡◌, ℕ, zero, suc, ◌+◌, ◌-◌, ◌<◌, ◌≤◌, List, [], ◌∷◌, length, true, false, Option, Some}
-use Rattle.std.proofs.Common.{None, refl, sym, ap, ◌∙◌, subst, arith, lit<}
-use Rattle.std.specs.Prelude.{IfSome}
-use Rattle.std.specs.List.{list_any, AllZip}
-use Rattle.std.specs.declared.cmp.Ordering.{Ordering}
-use Rattle.std.specs.Cmp.{IsTotalOrder}
-use Rattle.link_simulation.specs.Simulation.World.{Completed, Course, Flight, IsQuiet, World, goes, is_done}
-use Rattle.link_simulation.specs.Simulation.World.{last_moment, meets, new_world, ready, settle, EndsWith}
-use Rattle.link_simulation.specs.Simulation.Calls.{Runs, act, call_limit, Call, rebalance, limited_by, linked_by}
-use Rattle.link_simulation.specs.Simulation.Calls.{call_limit_link}
-use Rattle.link_simulation.specs.Rule.Events.{none_sending, some_sending, Rebalances}
-use Rattle.link_simulation.specs.Simulation.Messages.{AnswerAlike, Message, with_cap, Caps, no_caps, PairsAlike}
-use Rattle.link_simulation.specs.Simulation.Messages.{with_link, CapsAlike}
-use Rattle.link_simulation.specs.Rule.Planned.{RatedFlight, Planned, SomeReadyAt, SomeSpentAt, new_planned, next_event}
-use Rattle.link_simulation.specs.Rule.Planned.{rated_messages}
-use Rattle.link_simulation.specs.Simulation.Rates.{AreFair, rate_of}
-use Rattle.link_simulation.specs.Rule.StandsFor.{CoursesAlike, Follows, IsSameFlight, IsSettled, StandsFor, Tallies}
-use Rattle.link_simulation.specs.Simulation.Time.{Ticks, no_tick}
+use Rattle.link_simulation.proofs.Common.{◌≡◌, ℕ, zero, suc, ◌+◌, ◌-◌, ◌<◌, ◌≤◌, List, [], ◌∷◌, length, true, false}
+use Rattle.link_simulation.proofs.Common.{Option, refl, sym, ap, ◌∙◌, subst, arith, IfSome, list_any, AllZip, Ordering}
+use Rattle.link_simulation.proofs.Common.{IsTotalOrder, Completed, Course, Flight, World, goes, is_done, last_moment}
+use Rattle.link_simulation.proofs.Common.{meets, new_world, ready, settle, EndsWith, Runs, act, call_limit, Call}
+use Rattle.link_simulation.proofs.Common.{rebalance, limited_by, linked_by, call_limit_link, none_sending, some_sending}
+use Rattle.link_simulation.proofs.Common.{Rebalances, Message, Caps, PairsAlike, CapsAlike, RatedFlight, Planned}
+use Rattle.link_simulation.proofs.Common.{new_planned, next_event, AreFair, rate_of, CoursesAlike, Follows}
+use Rattle.link_simulation.proofs.Common.{IsSameFlight, IsSettled, StandsFor, Tallies, Ticks, no_tick, leaving}
+use Rattle.link_simulation.specs.Simulation.Messages.{AnswerAlike, with_cap, with_link}
 use Rattle.link_simulation.proofs.Simulation.AlikeMessages.{same_itself, peers_alike}
-use Rattle.link_simulation.specs.Simulation.Queue.{leaving, staying}
 use Rattle.link_simulation.proofs.Rule.BeforeNext.{later, follows_later, quiet_before, passes_to}
 use Rattle.link_simulation.proofs.Rule.Settling.{settles_alike, looked, leaving_fewer, staying_waiting}
 use Rattle.link_simulation.proofs.Rule.FinishEvent.{settle_quiet, ticks_quiet}
@@ -30,12 +20,7 @@ use Rattle.link_simulation.proofs.Simulation.Queue.{preceded_none}
 pub no_sides : {P : Type 0} (cmp : P → P → Ordering) (caps : Caps P) → AreFair cmp caps [] 1 []
 no_sides cmp caps = record {
   parts = λ flow. 0;
-  fair =
-      record {
-        some_part = lit< tt;
-        within = λ k d below. absurd (nothing_in below);
-        held = λ flow limited. absurd (nothing_in limited.1.listed.1);
-      };
+  fair = grind (arith, nothing_in);
   rated = refl;
 }
   where
@@ -45,32 +30,7 @@ no_sides cmp caps = record {
 module _ {P : Type 0} (cmp : P → P → Ordering) (order : IsTotalOrder cmp) where
   -- the empty planned world stands for the empty world
   pub new_stands : (id : ℕ) → StandsFor cmp (new_planned id) (new_world id)
-  new_stands id = record {
-    follows = record {
-      tallies = record {
-        moment = refl;
-        caps = record { egress = λ p q e. refl; ingress = λ p q e. refl; link = λ p q r s e f. refl };
-        limited = refl;
-        last_arrival = λ p q r s e f. refl;
-        next_id = refl;
-        waiting = λ m. tt;
-        pair_order = tt;
-        sending = tt;
-        one_each = tt;
-        empty_at_first = λ free. (refl, refl);
-      };
-      rated = record { per = 1; rates = []; fair = no_sides cmp no_caps; rated = tt };
-      finish = λ t within some. nothing_spent t some;
-    };
-    quiet = record { none_done = refl; none_ready = refl };
-    start = λ t within some. nothing_ready t some;
-  }
-    where
-      nothing_spent : (t : ℕ) → SomeSpentAt {P = P} [] t → ⊥
-      nothing_spent t some = let e : None ≡ Some some.1 = some.2 in cc
-
-      nothing_ready : (t : ℕ) → SomeReadyAt cmp (new_planned {P = P} id) t → ⊥
-      nothing_ready t some = let e : None ≡ Some some.0 = some.1 in cc
+  new_stands id = grind (arith, no_sides)
 
   -- ---- new caps
 
@@ -98,18 +58,7 @@ module _ {P : Type 0} (cmp : P → P → Ordering) (order : IsTotalOrder cmp) wh
 
   recapped_tallies : (t : ℕ) (p : Planned P) (w : World P) (caps others : Caps P) → CapsAlike cmp caps others
       → Tallies cmp t p w → Tallies cmp t (replanned p caps) (rebalanced w others)
-  recapped_tallies t p w caps others alike same = record {
-    moment = same.moment;
-    caps = alike;
-    limited = refl;
-    last_arrival = same.last_arrival;
-    next_id = same.next_id;
-    waiting = same.waiting;
-    pair_order = same.pair_order;
-    sending = same.sending;
-    one_each = same.one_each;
-    empty_at_first = λ free. cc;
-  }
+  recapped_tallies t p w caps others alike same = grind arith
 
   -- a moment before the next event is reached with nothing done and nothing ready
   pub record IsReached (now : ℕ) (p : Planned P) (w : World P) : Type 0 where
@@ -135,10 +84,8 @@ module _ {P : Type 0} (cmp : P → P → Ordering) (order : IsTotalOrder cmp) wh
           }
       by_count (suc k) is =
           let same : w.moment + suc k ≡ now = omega arith in
-          let still : IfSome (next_event p) (λ t. w.moment + suc k < t) =
-          subst (λ (s : ℕ). IfSome (next_event p) (λ t. s < t)) (sym same) before in
-          let quiet : IsQuiet cmp (w.moment + suc k) (later cmp order p w stands (suc k)) =
-          quiet_before cmp order p w stands (suc k) (omega arith) still in
+          let still = subst (λ (s : ℕ). IfSome (next_event p) (λ t. s < t)) (sym same) before in
+          let quiet = quiet_before cmp order p w stands (suc k) (omega arith) still in
           record {
             world = later cmp order p w stands (suc k);
             ticks =
@@ -179,8 +126,7 @@ module _ {P : Type 0} (cmp : P → P → Ordering) (order : IsTotalOrder cmp) wh
       rests =
           let x : World P = rebalanced u others in
           let few : length (leaving cmp x) ≤ length x.sending = leaving_fewer cmp order x in
-          let kept : length (staying cmp x).waiting ≡ length x.waiting =
-          ap (λ (q : List (Message P)). length q) (staying_waiting cmp order x) in
+          let kept = ap (λ (q : List (Message P)). length q) (staying_waiting cmp order x) in
           settle_keeps_rest cmp order now x follows.tallies.one_each none_ready (omega arith)
 
       by_case : {course : Course (Completed P) (Planned P)} → Rebalances cmp now caps p course
@@ -194,25 +140,10 @@ module _ {P : Type 0} (cmp : P → P → Ordering) (order : IsTotalOrder cmp) wh
           let x : World P = rebalanced u others in
           let gone : u.sending ≡ [] = none_flies now p.sending u.sending follows.tallies.sending empty in
           let none_done : list_any (is_done cmp x) x.sending ≡ false = ap (list_any (is_done cmp x)) gone in
-          let same : settle cmp now x ≡ goes [] x =
-          settle_quiet cmp order (length x.sending + length x.waiting) now x none_done in
-          let follows_too : Follows cmp now (replanned p caps) x = record {
-            tallies = recapped_tallies now p u caps others alike follows.tallies;
-            rated = record {
-              per = 1;
-              rates = [];
-              fair =
-                  subst (λ (ms : List (RatedFlight P)). AreFair cmp caps (rated_messages ms) 1 []) (sym empty)
-                  (no_sides cmp caps);
-              rated =
-                  subst (λ (ms : List (RatedFlight P)). AllZip (λ rate f. f.rate ≡ rate_of 1 rate) [] ms) (sym empty)
-                  tt;
-            };
-            finish = follows.finish;
-          } in
-          let settled : IsSettled cmp now new x =
-          looked cmp order now (replanned p caps) new x follows_too (each_none (is_done cmp x) x.sending none_done)
-          looks in
+          let same = settle_quiet cmp order (length x.sending + length x.waiting) now x none_done in
+          let follows_too : Follows cmp now (replanned p caps) x = grind (arith, recapped_tallies, no_sides, rate_of) in
+          let settled = looked cmp order now (replanned p caps) new x follows_too
+          (each_none (is_done cmp x) x.sending none_done) looks in
           settled_rests now (goes [] new) (settle cmp now x) within
           (subst (λ (c : Course (Completed P) (World P)). CoursesAlike cmp (IsSettled cmp now) (goes [] new) c)
           (sym same) (tt, settled))
@@ -228,16 +159,9 @@ module _ {P : Type 0} (cmp : P → P → Ordering) (order : IsTotalOrder cmp) wh
       → (c : Course (Completed P) (World P)) × Runs cmp w call now c
       × CoursesAlike cmp (λ q v. StandsFor cmp q v × (v.moment ≡ now)) course c
   rebalancing p w now call new course acts alike stands le within before recaps =
-      let there : IsReached now p w = reaches now p w stands le within before in (
-        rebalance cmp now there.world (new there.world.caps),
-        record {
-          ticked = goes [] there.world;
-          ticks = there.ticks;
-          acts = sym (acts there.world) ∙ sym (preceded_none (act cmp there.world call));
-        },
-        rebalances_there p now there.world (new p.caps) (new there.world.caps) course
-            (alike p.caps there.world.caps there.follows.tallies.caps) within there.follows there.none_ready recaps,
-      )
+      let there = reaches now p w stands le within before in
+      grind (arith, preceded_none, (rebalances_there p now there.world (new p.caps) (new there.world.caps) course
+      (alike p.caps there.world.caps there.follows.tallies.caps) within there.follows there.none_ready recaps))
 
   pub limits_alike : (p : Planned P) (w : World P) (now : ℕ) (peer : P) (egress ingress : Option ℕ)
       (course : Course (Completed P) (Planned P))

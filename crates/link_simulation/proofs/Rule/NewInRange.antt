@@ -1,26 +1,6 @@
 -- An advance of a new planned world is in the range.
-use Rattle.std.proofs.Common.{ℕ, ◌<◌, ◌^◌, [], ◌∷◌, arith}
-use Rattle.std.specs.Prelude.{IfSome}
-use Rattle.std.proofs.lemmas.List.Elements.{All-nil}
-use Rattle.link_simulation.specs.Simulation.Messages.{Message}
-use Rattle.link_simulation.specs.Simulation.Calls.{Call, call_advance, moment_of}
-use Rattle.link_simulation.specs.Rule.Planned.{RatedFlight, new_planned}
+use Rattle.link_simulation.proofs.Common.{ℕ, arith, call_advance, new_planned}
 use Rattle.link_simulation.specs.Rule.Range.{IsCallInRange}
-use Rattle.fair_rates.proofs.Lists.Each.{all_of_each}
 
 pub advance_in_range : IsCallInRange (new_planned {P = ℕ} 0) (call_advance 0)
-advance_in_range = record {
-  planned = record {
-    sending = All-nil (λ (f : RatedFlight ℕ). f.message.latency < 2 ^ 63);
-    waiting = All-nil (λ (m : Message ℕ). m.latency < 2 ^ 63);
-    ids = omega arith;
-  };
-  call_itself = record {
-    moments =
-        all_of_each (λ (call : Call ℕ). IfSome (moment_of call) (λ now. now < 2 ^ 63)) (call_advance 0 ∷ [])
-        (omega arith, tt);
-    latencies = All-nil (λ (m : Message ℕ). m.latency < 2 ^ 63);
-    messages = omega arith;
-  };
-  messages = omega arith;
-}
+advance_in_range = grind arith

@@ -1,19 +1,8 @@
 -- Replies by the event rule have no refusal for a number.
-use Rattle.std.proofs.Common.{List, [], ◌∷◌, Contains}
-use Rattle.std.specs.Prelude.{⊤}
-use Rattle.std.specs.List.{AllZip}
-use Rattle.std.specs.declared.cmp.Ordering.{Ordering}
-use Rattle.std.proofs.lemmas.List.Elements.{All-contains}
-use Rattle.fair_rates.specs.declared.error.Error.{Error}
-use Rattle.fair_rates.specs.declared.error.Error.TheVariants.{OutOfMemory, NumberTooLarge, MomentTooLate, FlowIdsUsedUp}
-use Rattle.link_simulation.specs.Simulation.World.{Completed, goes}
-use Rattle.link_simulation.specs.Simulation.Calls.{Call}
-use Rattle.link_simulation.specs.Simulation.Replies.{Reply, reply_done, reply_next, reply_refused, SameCompletion}
-use Rattle.link_simulation.specs.Rule.Planned.{Planned}
-use Rattle.link_simulation.specs.Rule.Events.{Obeys}
-use Rattle.link_simulation.specs.Rule.Refusals.{MayBeRefused, Obeyed}
-use Rattle.fair_rates.proofs.Lists.Each.{Each, all_of_each}
-use Rattle.link_simulation.proofs.Rule.Stepwise.{obeyed_next, obeyed_refused, obeyed_done}
+use Rattle.link_simulation.proofs.Common.{arith, List, [], ◌∷◌, Contains, ⊤, Ordering, All-contains, OutOfMemory}
+use Rattle.link_simulation.proofs.Common.{NumberTooLarge, MomentTooLate, FlowIdsUsedUp, Call, Reply, reply_done}
+use Rattle.link_simulation.proofs.Common.{reply_next, reply_refused, Planned, Obeyed, Each, all_of_each}
+use Rattle.link_simulation.proofs.Rule.Stepwise.{obeyed_next, obeyed_done}
 
 IsNoNumber : {P : Type 0} → Reply P → Type 0
 IsNoNumber (reply_done cs) = ⊤
@@ -24,14 +13,6 @@ IsNoNumber (reply_refused MomentTooLate) = ⊤
 IsNoNumber (reply_refused FlowIdsUsedUp) = ⊤
 
 module _ {P : Type 0} (cmp : P → P → Ordering) where
-  refused : (p : Planned P) (call : Call P) (why : Error) → MayBeRefused cmp p call why
-      → IsNoNumber {P = P} (reply_refused why)
-  unfolding IsNoNumber
-  refused p call OutOfMemory may = tt
-  refused p call NumberTooLarge may = may
-  refused p call MomentTooLate may = tt
-  refused p call FlowIdsUsedUp may = tt
-
   none_for_a_number : (p : Planned P) (calls : List (Call P)) (replies : List (Reply P)) → Obeyed cmp p calls replies
       → Each IsNoNumber replies
   unfolding IsNoNumber
@@ -41,19 +22,13 @@ module _ {P : Type 0} (cmp : P → P → Ordering) where
   none_for_a_number p (call ∷ calls) (reply_next next ∷ replies) obeyed =
       (tt, none_for_a_number p calls replies (obeyed_next cmp p calls replies call next obeyed))
   none_for_a_number p (call ∷ calls) (reply_refused why ∷ replies) obeyed =
-      let both : MayBeRefused cmp p call why × Obeyed cmp p calls replies
-      = obeyed_refused cmp p calls replies call why obeyed in
-      (refused p call why both.0, none_for_a_number p calls replies both.1)
+      grind (arith, (none_for_a_number p calls replies))
   none_for_a_number p (call ∷ calls) (reply_done cs ∷ replies) obeyed =
-      let step : (ds : List (Completed P)) × (q : Planned P) × Obeys cmp p call (goes ds q)
-      × AllZip (SameCompletion cmp) cs ds × Obeyed cmp q calls replies
-      = obeyed_done cmp p calls replies call cs obeyed in
-      (tt, none_for_a_number step.1 calls replies step.4)
+      grind (arith, (none_for_a_number (obeyed_done cmp p calls replies call cs obeyed).1 calls replies
+      (obeyed_done cmp p calls replies call cs obeyed).4))
 
   pub never_for_a_number : (p : Planned P) (calls : List (Call P)) (replies : List (Reply P))
       → Obeyed cmp p calls replies
       → ¬ Contains replies (reply_refused NumberTooLarge)
   unfolding IsNoNumber
-  never_for_a_number p calls replies obeyed has =
-      All-contains (IsNoNumber {P = P}) replies (reply_refused NumberTooLarge)
-      (all_of_each (IsNoNumber {P = P}) replies (none_for_a_number p calls replies obeyed)) has
+  never_for_a_number p calls replies obeyed has = grind (arith, All-contains, all_of_each, none_for_a_number)

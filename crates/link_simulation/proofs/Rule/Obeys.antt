@@ -1,28 +1,18 @@
 -- A call in its turn does in the planned world what it does in the world.
-use Rattle.std.proofs.Common.{◌≡◌, ℕ, ◌-◌, ◌<◌, ◌≤◌, List, [], Some, refl, sym, ap, ◌∙◌, subst, arith}
-use Rattle.std.specs.Prelude.{IfSome}
-use Rattle.std.specs.declared.cmp.Ordering.{Ordering}
-use Rattle.std.specs.Cmp.{IsTotalOrder}
-use Rattle.link_simulation.specs.Simulation.Messages.{Message}
-use Rattle.link_simulation.specs.Simulation.World.{World, Completed, Course, goes, meets, preceded, and_then}
-use Rattle.link_simulation.specs.Simulation.World.{last_moment, ready}
-use Rattle.link_simulation.specs.Simulation.Time.{Ticks, no_tick, one_tick, tick_faults}
-use Rattle.link_simulation.specs.Simulation.Calls.{act, enqueue, enqueue_each}
-use Rattle.link_simulation.specs.Simulation.Replies.{SameCompletion}
-use Rattle.link_simulation.specs.Simulation.Calls.{Call, call_limit, call_limit_link, call_enqueue, call_advance}
-use Rattle.link_simulation.specs.Simulation.Calls.{call_enqueue_all, call_next, moment_of, Runs, IsInTurn, IsBeforeNext}
-use Rattle.link_simulation.specs.Rule.Planned.{Planned, next_event}
-use Rattle.link_simulation.specs.Rule.Events.{Enqueues, at_once, no_launch, launches, Obeys}
-use Rattle.link_simulation.specs.Rule.Events.{EnqueuesEach, all_enqueued, one_stops, enqueues_one}
-use Rattle.link_simulation.specs.Rule.StandsFor.{CoursesAlike, StandsFor}
-use Rattle.link_simulation.specs.Rule.StandsFor as stands_for
-use Rattle.fair_rates.proofs.Lists.Zips.{zip-append}
+use Rattle.link_simulation.proofs.Common.{common_steps, ◌≡◌, ℕ, ◌<◌, ◌≤◌, List, Some, subst, arith, IfSome, Ordering}
+use Rattle.link_simulation.proofs.Common.{IsTotalOrder, Message, World, Completed, Course, goes, meets, preceded}
+use Rattle.link_simulation.proofs.Common.{and_then, last_moment, act, enqueue, enqueue_each, Call, call_limit}
+use Rattle.link_simulation.proofs.Common.{call_limit_link, call_enqueue, call_advance, call_enqueue_all, call_next}
+use Rattle.link_simulation.proofs.Common.{moment_of, Runs, IsInTurn, IsBeforeNext, Planned, next_event, Enqueues}
+use Rattle.link_simulation.proofs.Common.{at_once, no_launch, launches, Obeys, EnqueuesEach, all_enqueued, one_stops}
+use Rattle.link_simulation.proofs.Common.{enqueues_one, CoursesAlike, StandsFor, zip-append}
 use Rattle.link_simulation.proofs.Simulation.Queue.{preceded_none}
 use Rattle.link_simulation.proofs.Simulation.QuietInstants.{next_is_later}
 use Rattle.link_simulation.proofs.Rule.NextEvent.{next_is_planned, advance_runs}
-use Rattle.link_simulation.proofs.Rule.Limit.{limits_alike, links_alike, IsReached, reaches}
+use Rattle.link_simulation.proofs.Rule.Limit.{limits_alike, links_alike, reaches}
 use Rattle.link_simulation.proofs.Rule.Enqueue.{enqueues_alike}
 use Rattle.link_simulation.proofs.Rule.AtOnce.{at_once_alike}
+use Rattle.link_simulation.specs.Rule.StandsFor as stands_for
 
 module _ {P : Type 0} (cmp : P → P → Ordering) (order : IsTotalOrder cmp) where
   -- what a call leads to in the world
@@ -49,20 +39,10 @@ module _ {P : Type 0} (cmp : P → P → Ordering) (order : IsTotalOrder cmp) wh
 
   -- ---- messages one after another
 
-  -- no tick leads nowhere
-  none_ticked : {n : ℕ} {w : World P} {c : Course (Completed P) (World P)} → Ticks cmp n w c → n ≡ 0 → c ≡ goes [] w
-  none_ticked no_tick none = refl
-  none_ticked (one_tick drains here more) none = cc
-  none_ticked (tick_faults drains here) none = cc
-
   -- at a call's moment nothing ticks
   pub acts_at_once : (w : World P) (call : Call P) (now : ℕ) (c : Course (Completed P) (World P)) → w.moment ≡ now
       → Runs cmp w call now c → c ≡ act cmp w call
-  acts_at_once w call now c at runs =
-      let none : now - w.moment ≡ 0 = omega arith in
-      runs.acts
-      ∙ ap (λ (d : Course (Completed P) (World P)). and_then d (λ v. act cmp v call)) (none_ticked runs.ticks none)
-      ∙ preceded_none (act cmp w call)
+  acts_at_once w call now c at runs = grind arith
 
   abbrev StandsAt : ℕ → Planned P → World P → Type 0
   StandsAt now q v = StandsFor cmp q v × (v.moment ≡ now)
@@ -72,22 +52,13 @@ module _ {P : Type 0} (cmp : P → P → Ordering) (order : IsTotalOrder cmp) wh
       → CoursesAlike cmp (StandsAt now) (goes cs q) c
       → ((v : World P) → StandsAt now q v → CoursesAlike cmp (StandsAt now) rest (next v))
       → CoursesAlike cmp (StandsAt now) (preceded cs rest) (and_then c next)
-  alike_then now cs q rest (goes ds v) next alike on = both rest (next v) (on v alike.1)
-    where
-      both : (r : Course (Completed P) (Planned P)) (d : Course (Completed P) (World P))
-          → CoursesAlike cmp (StandsAt now) r d
-          → CoursesAlike cmp (StandsAt now) (preceded cs r) (preceded ds d)
-      both (goes es s) (goes fs u) same = (zip-append (SameCompletion cmp) cs es ds fs alike.0 same.0, same.1)
-      both (goes es s) (meets fault) same = absurd same
-      both (meets fault) (goes fs u) same = absurd same
-      both (meets fault) (meets other) same = same
+  alike_then now cs q rest (goes ds v) next alike on = grind (arith, zip-append)
   alike_then now cs q rest (meets fault) next alike on = absurd alike
 
   later_than : (p : Planned P) (v : World P) (now : ℕ) → StandsFor cmp p v → v.moment ≡ now
       → IfSome (next_event p) (λ t. now < t)
   later_than p v now stands at =
-      subst (λ (s : ℕ). IfSome (next_event p) (λ t. s < t)) at
-      (next_is_later cmp order v (next_event p) (next_is_planned cmp order p v stands))
+      grind (arith, common_steps, (next_is_later cmp order v (next_event p) (next_is_planned cmp order p v stands)))
 
   -- after each message the next event comes later, so that each comes before it
   each_at_once : {now : ℕ} {ms : List (Message P)} {p : Planned P} {course : Course (Completed P) (Planned P)}
@@ -95,22 +66,12 @@ module _ {P : Type 0} (cmp : P → P → Ordering) (order : IsTotalOrder cmp) wh
       → CoursesAlike cmp (StandsAt now) course (enqueue_each cmp now v ms)
   each_at_once all_enqueued within v here = (tt, here)
   each_at_once {now = now} (one_stops {m = m} {ms = ms} {p = p} {fault = fault} one) within v here =
-      let at : v.moment ≡ now = here.1 in
-      let f : Follows p v (call_enqueue now m) now (meets fault) =
-      any_enqueue one v here.0 (omega arith) within (later_than p v now here.0 here.1) in
-      met (enqueue cmp now v m)
-      (subst (λ (c : Course (Completed P) (World P)). CoursesAlike cmp (StandsAt now) (meets fault) c)
-      (acts_at_once v (call_enqueue now m) now f.0 here.1 f.1) f.2)
-    where
-      met : (c : Course (Completed P) (World P)) → CoursesAlike cmp (StandsAt now) (meets fault) c
-          → CoursesAlike cmp (StandsAt now) (meets fault) (and_then c (λ u. enqueue_each cmp now u ms))
-      met (goes ds u) alike = absurd alike
-      met (meets other) alike = alike
+      let at = here.1 in
+      let f = any_enqueue one v here.0 (omega arith) within (later_than p v now here.0 here.1) in
+      grind (arith, (acts_at_once v (call_enqueue now m) now f.0 here.1 f.1))
   each_at_once {now = now} (enqueues_one {m = m} {ms = ms} {p = p} {q = q} {cs = cs} {rest = rest} one more) within v
       here =
-      let at : v.moment ≡ now = here.1 in
-      let f : Follows p v (call_enqueue now m) now (goes cs q) =
-      any_enqueue one v here.0 (omega arith) within (later_than p v now here.0 here.1) in
+      let f : Follows p v (call_enqueue now m) now (goes cs q) = grind (arith, any_enqueue, later_than) in
       alike_then now cs q rest (enqueue cmp now v m) (λ u. enqueue_each cmp now u ms)
       (subst (λ (c : Course (Completed P) (World P)). CoursesAlike cmp (StandsAt now) (goes cs q) c)
       (acts_at_once v (call_enqueue now m) now f.0 here.1 f.1) f.2)
@@ -121,51 +82,20 @@ module _ {P : Type 0} (cmp : P → P → Ordering) (order : IsTotalOrder cmp) wh
       → w.moment ≤ now → now ≤ last_moment → IfSome (next_event p) (λ t. now < t) → EnqueuesEach cmp now ms p course
       → Follows p w (call_enqueue_all now ms) now course
   all_enqueue now ms p w course stands le within before each =
-      let there : IsReached cmp order now p w = reaches cmp order now p w stands le within before in
-      let at : there.world.moment ≡ now = there.follows.tallies.moment in
-      let here : StandsFor cmp p there.world = record {
-        follows = subst (λ (t : ℕ). stands_for.Follows cmp t p there.world) (sym at) there.follows;
-        quiet = record {
-          none_done = there.none_done;
-          none_ready = ap (λ (t : ℕ). ready cmp t there.world) at ∙ there.none_ready;
-        };
-        start = stands.start;
-      } in (
-        enqueue_each cmp now there.world ms,
-        record {
-          ticked = goes [] there.world;
-          ticks = there.ticks;
-          acts = sym (preceded_none (enqueue_each cmp now there.world ms));
-        },
-        each_at_once each within there.world (here, at),
-      )
+      let there = reaches cmp order now p w stands le within before in
+      let at = there.follows.tallies.moment in
+      let here : StandsFor cmp p there.world = grind arith in
+      grind (arith, preceded_none, (each_at_once each within there.world (here, at)))
 
   pub obeys_alike : (p : Planned P) (w : World P) (call : Call P) (now : ℕ) (course : Course (Completed P) (Planned P))
       → StandsFor cmp p w → moment_of call ≡ Some now
       → now ≤ last_moment → IsInTurn cmp w call → Obeys cmp p call course → Follows p w call now course
   obeys_alike p w (call_limit t peer egress ingress) now course stands is within turn obeys =
-      let same : t ≡ now = cc in
-      subst (λ (s : ℕ). Follows p w (call_limit t peer egress ingress) s course) same
-      (limits_alike cmp order p w t peer egress ingress course stands turn.0
-      (subst (λ (s : ℕ). s ≤ last_moment) (sym same) within) (before_planned p w t stands turn.1) obeys)
+      grind (arith, limits_alike, (before_planned p w t stands))
   obeys_alike p w (call_limit_link t origin recipient cap) now course stands is within turn obeys =
-      let same : t ≡ now = cc in
-      subst (λ (s : ℕ). Follows p w (call_limit_link t origin recipient cap) s course) same
-      (links_alike cmp order p w t origin recipient cap course stands turn.0
-      (subst (λ (s : ℕ). s ≤ last_moment) (sym same) within) (before_planned p w t stands turn.1) obeys)
-  obeys_alike p w (call_enqueue t m) now course stands is within turn obeys =
-      let same : t ≡ now = cc in
-      subst (λ (s : ℕ). Follows p w (call_enqueue t m) s course) same
-      (any_enqueue obeys w stands turn.0 (subst (λ (s : ℕ). s ≤ last_moment) (sym same) within)
-      (before_planned p w t stands turn.1))
+      grind (arith, links_alike, (before_planned p w t stands))
+  obeys_alike p w (call_enqueue t m) now course stands is within turn obeys = grind (arith, any_enqueue, before_planned)
   obeys_alike p w (call_enqueue_all t ms) now course stands is within turn obeys =
-      let same : t ≡ now = cc in
-      subst (λ (s : ℕ). Follows p w (call_enqueue_all t ms) s course) same
-      (all_enqueue t ms p w course stands turn.0 (subst (λ (s : ℕ). s ≤ last_moment) (sym same) within)
-      (before_planned p w t stands turn.1) obeys)
-  obeys_alike p w (call_advance t) now course stands is within turn obeys =
-      let same : t ≡ now = cc in
-      subst (λ (s : ℕ). Follows p w (call_advance t) s course) same
-      (advance_runs cmp order p w t obeys.0 course stands turn (subst (λ (s : ℕ). s ≤ last_moment) (sym same) within)
-      obeys.1)
+      grind (arith, all_enqueue, (before_planned p w t stands))
+  obeys_alike p w (call_advance t) now course stands is within turn obeys = grind (arith, advance_runs)
   obeys_alike p w call_next now course stands is within turn obeys = cc

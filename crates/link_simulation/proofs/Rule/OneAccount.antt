@@ -1,33 +1,24 @@
 -- Where an account was made at a moment, nothing is due to leave at it; and for several messages that start then one
 -- account is enough.
-use Rattle.std.proofs.Common.{◌≡◌, ℕ, zero, suc, ◌+◌, ◌-◌, ◌<◌, ◌≤◌, List, [], ◌∷◌, ◌++◌, length, Bool, true, false}
-use Rattle.std.proofs.Common.{cond, not, Option, Some, None, refl, sym, ap, ◌∙◌, subst, arith, ◌⊎◌, inl, inr}
-use Rattle.std.specs.Prelude.{◌==◌, ◌||◌, ◌&&◌, slice_get, nat_lt, if◌then◌else◌, IfSome}
-use Rattle.std.specs.List.{filter, find, list_any, AllZip}
-use Rattle.std.specs.declared.cmp.Ordering.{Ordering}
-use Rattle.std.specs.Cmp.{IsTotalOrder}
-use Rattle.std.proofs.lemmas.Bool.{cases_lt, cases_eq, or_parts}
-use Rattle.std.proofs.lemmas.List.{map-append}
-use Rattle.std.proofs.lemmas.List.Elements.{filter-append}
-use Rattle.fair_rates.specs.declared.error.Error.TheVariants.{MomentTooLate}
-use Rattle.fair_rates.proofs.Lists.Each.{Each, each_map}
-use Rattle.fair_rates.proofs.Lists.Zips.{zip-append, zip_chain}
-use Rattle.fair_rates.specs.Numbers.Amount.{Amount, whole, reduced}
-use Rattle.fair_rates.specs.Numbers.LowestTerms.{reduced_positive}
-use Rattle.link_simulation.specs.Simulation.Messages.{Message, Caps, same_pair}
-use Rattle.link_simulation.specs.Simulation.Rates.{Parts, rate_of, rates_from, drained_by, is_unlimited, AreFair}
-use Rattle.link_simulation.specs.Simulation.Rates.{IsLowest}
-use Rattle.link_simulation.specs.Simulation.World.{Completed, Course, goes, meets, last_moment, EndsWith}
-use Rattle.link_simulation.specs.Simulation.World.{completed, completion_of, raised, later_of, is_in_order}
-use Rattle.link_simulation.specs.Rule.Planned.{Planned, RatedFlight, IsLeastMoment, SomeSpentAt, rated_messages}
-use Rattle.link_simulation.specs.Rule.Planned.{drained_to, left_at, is_spent, may_launch, next_of, SomeReadyAt}
-use Rattle.link_simulation.specs.Rule.Events.{Accounts, PlansStart, launched, Launches, nothing_waits, too_early, no_id}
-use Rattle.link_simulation.specs.Rule.Events.{starts, Finishes, all_completed, late, stopped, completes, with_queued}
-use Rattle.link_simulation.specs.Rule.Events.{Enqueues, at_once, no_launch, launches, completed_at_once, landed}
+use Rattle.link_simulation.proofs.Common.{common_steps, ◌≡◌, ℕ, zero, suc, ◌+◌, ◌-◌, ◌<◌, ◌≤◌, List, [], ◌∷◌, ◌++◌}
+use Rattle.link_simulation.proofs.Common.{length, Bool, true, false, not, Option, Some, None, refl, sym, ap, ◌∙◌, subst}
+use Rattle.link_simulation.proofs.Common.{arith, ◌⊎◌, inl, inr, ◌==◌, ◌&&◌, slice_get, if◌then◌else◌, IfSome, filter}
+use Rattle.link_simulation.proofs.Common.{find, list_any, AllZip, Ordering, IsTotalOrder, cases_lt, or_parts}
+use Rattle.link_simulation.proofs.Common.{map-append, filter-append, Each, each_map, zip-append, zip_chain, Amount}
+use Rattle.link_simulation.proofs.Common.{whole, reduced, reduced_positive, Message, Caps, same_pair, Parts, rate_of}
+use Rattle.link_simulation.proofs.Common.{rates_from, is_unlimited, AreFair, IsLowest, Completed, Course, goes}
+use Rattle.link_simulation.proofs.Common.{last_moment, EndsWith, completed, is_in_order, Planned, RatedFlight}
+use Rattle.link_simulation.proofs.Common.{IsLeastMoment, SomeSpentAt, rated_messages, drained_to, left_at, is_spent}
+use Rattle.link_simulation.proofs.Common.{may_launch, next_of, SomeReadyAt, Accounts, PlansStart, launched, Launches}
+use Rattle.link_simulation.proofs.Common.{nothing_waits, too_early, no_id, starts, Finishes, all_completed, late}
+use Rattle.link_simulation.proofs.Common.{stopped, completes, with_queued, Enqueues, at_once, no_launch, launches}
+use Rattle.link_simulation.proofs.Common.{completed_at_once, landed, rules}
+use Rattle.std.proofs.lemmas.Bool.{cases_eq}
 use Rattle.link_simulation.proofs.Laws.Orderly.{drained_messages, stayed_messages}
 use Rattle.link_simulation.proofs.Rule.Accounts.{each_passes}
 use Rattle.link_simulation.proofs.Rule.BeforeNext.{filter_none}
 use Rattle.link_simulation.proofs.Rule.SameSteps.{least_same}
+use Rattle.link_simulation.proofs.Simulation.InOrder.{each_in_filter}
 use Rattle.link_simulation.proofs.Simulation.Continuing.{rates_exist}
 use Rattle.link_simulation.proofs.Simulation.LowestTerms.{drained_none, drained_by_lowest, whole_lowest}
 use Rattle.link_simulation.proofs.Simulation.SettlingEnds.{ends_preceded}
@@ -61,19 +52,11 @@ least_from Q decide (suc n) from end first =
     by_case (cases_lt last_moment from) (decide from) (least_from Q decide n (from + 1) (omega (arith, end)))
   where
     later : (Q from → ⊥) → (s : ℕ) → Q s → from + 1 ≤ s
-    later none s q = by_order (cases_lt from s)
-      where
-        by_order : from < s ⊎ s ≤ from → from + 1 ≤ s
-        by_order (inl lt) = omega arith
-        by_order (inr le) =
-            let ge : from ≤ s = first s q in
-            let same : s ≡ from = omega arith in
-            absurd (none (subst Q same q))
+    later none s q = grind (arith, cases_lt)
 
     by_case : last_moment < from ⊎ from ≤ last_moment → Q from ⊎ (Q from → ⊥)
         → (((s : ℕ) → Q s → from + 1 ≤ s) → (o : Option ℕ) × IsLeastMoment Q o) → (o : Option ℕ) × IsLeastMoment Q o
-    by_case (inl past) d ih =
-        (None, λ t le q. let ge : from ≤ t = first t q in absurd (omega (arith, past, le, ge)))
+    by_case (inl past) d ih = grind arith
     by_case (inr le) (inl q) ih = (Some from, (le, q, first))
     by_case (inr le) (inr none) ih = ih (later none)
 
@@ -82,10 +65,7 @@ least_exists Q decide = least_from Q decide (suc last_moment) 0 (omega arith) (�
 
 -- whether something is spent can be told
 spent_or_not : {P : Type 0} (fs : List (RatedFlight P)) (t : ℕ) → SomeSpentAt fs t ⊎ (SomeSpentAt fs t → ⊥)
-spent_or_not {P} [] t = inr (λ h. none h.0 h.1 h.2)
-  where
-    none : (i : ℕ) (f : RatedFlight P) → slice_get [] i ≡ Some f → ⊥
-    none i f e = cc
+spent_or_not {P} [] t = grind arith
 spent_or_not {P} (f ∷ fs) t = by_rest (cases_lt t f.updated) (cases_eq (left_at t f).num 0) (spent_or_not fs t)
   where
     rest : ((f.updated ≤ t) → ((left_at t f).num ≡ 0) → ⊥) → (SomeSpentAt fs t → ⊥) → SomeSpentAt (f ∷ fs) t → ⊥
@@ -93,10 +73,7 @@ spent_or_not {P} (f ∷ fs) t = by_rest (cases_lt t f.updated) (cases_eq (left_a
       where
         at_place : (i : ℕ) (g : RatedFlight P) → slice_get (f ∷ fs) i ≡ Some g → g.updated ≤ t
             → (left_at t g).num ≡ 0 → ⊥
-        at_place zero g at le spent =
-            let same : g ≡ f = cc in
-            never (subst (λ (k : RatedFlight P). k.updated ≤ t) same le)
-            (subst (λ (k : RatedFlight P). (left_at t k).num ≡ 0) same spent)
+        at_place zero g at le spent = grind arith
         at_place (suc i) g at le spent = others (i, g, at, le, spent)
 
     by_rest : t < f.updated ⊎ f.updated ≤ t → ((left_at t f).num ≡ 0) ⊎ ((left_at t f).num ≡ 0 → ⊥)
@@ -125,9 +102,7 @@ IsKept t f = (f.updated ≡ t) × (left_at t f ≡ f.left)
 
 drained_kept : {P : Type 0} (t : ℕ) (fs : List (RatedFlight P)) → Each (IsKept t) fs → drained_to t fs ≡ fs
 drained_kept t [] each = refl
-drained_kept t (f ∷ fs) each =
-    let rest = drained_kept t fs each.1 in
-    λ i. record f { left = each.0.1 i; updated = sym each.0.0 i } ∷ rest i
+drained_kept t (f ∷ fs) each = grind (arith, (drained_kept t fs))
 
 drained-append : {P : Type 0} (t : ℕ) (fs gs : List (RatedFlight P))
     → drained_to t (fs ++ gs) ≡ drained_to t fs ++ drained_to t gs
@@ -136,10 +111,7 @@ drained-append t (f ∷ fs) gs = ap (λ l. record f { left = left_at t f; update
 
 no_time : {P : Type 0} (t : ℕ) (f : RatedFlight P) (r : Amount) → f.updated ≡ t → f.rate ≡ Some r → 0 < r.den
     → IsLowest f.left → left_at t f ≡ f.left
-no_time t f r at rate positive low =
-    let none : t - f.updated ≡ 0 = omega (arith, at) in
-    ap (λ (o : Option Amount). drained_by o (t - f.updated) f.left) rate
-    ∙ ap (λ (n : ℕ). drained_by (Some r) n f.left) none ∙ drained_none f.left r low positive
+no_time t f r at rate positive low = grind (arith, drained_none)
 
 left_lowest : {P : Type 0} (t : ℕ) (f : RatedFlight P) → (0 < f.left.den) × IfSome f.rate (λ r. 0 < r.den)
     → IsLowest (left_at t f)
@@ -148,15 +120,6 @@ left_lowest t f h = drained_by_lowest f.rate (t - f.updated) f.left h.1 h.0
 all_lowest : {P : Type 0} (t : ℕ) (fs : List (RatedFlight P)) → ArePositive fs → AreLowest (drained_to t fs)
 all_lowest t [] each = tt
 all_lowest t (f ∷ fs) each = (left_lowest t f each.0, all_lowest t fs each.1)
-
-each_filtered_too : {X : Type 0} (Q : X → Type 0) (test : X → Bool) (xs : List X) → Each Q xs
-    → Each Q (filter test xs)
-each_filtered_too Q test [] each = tt
-each_filtered_too {X} Q test (x ∷ xs) each = by_test (test x) (each_filtered_too Q test xs each.1)
-  where
-    by_test : (b : Bool) → Each Q (filter test xs) → Each Q (cond b (x ∷ filter test xs) (filter test xs))
-    by_test true ih = (each.0, ih)
-    by_test false ih = ih
 
 module _ {P : Type 0} (cmp : P → P → Ordering) (order : IsTotalOrder cmp) where
   -- at that moment an account was made: what is in flight is accounted for, none of it is done, and the rates and the
@@ -174,46 +137,15 @@ module _ {P : Type 0} (cmp : P → P → Ordering) (order : IsTotalOrder cmp) wh
 
   stayed_unspent : (caps : Caps P) (t : ℕ) (f g : RatedFlight P) → Stays t f g
       → not (is_spent cmp caps f) ≡ true → (g.updated ≡ t) × (is_spent cmp caps g ≡ false)
-  stayed_unspent caps t f g stays test =
-      let same : is_spent cmp caps g ≡ is_spent cmp caps f =
-      ap (λ (a : Amount). (a.num == 0) || is_unlimited cmp caps g.message) stays.2
-      ∙ ap (λ (m : Message P). (f.left.num == 0) || is_unlimited cmp caps m) stays.1 in
-      (stays.3, same ∙ turned (is_spent cmp caps f) test)
-    where
-      turned : (b : Bool) → not b ≡ true → b ≡ false
-      turned true e = cc
-      turned false e = refl
+  stayed_unspent caps t f g stays test = grind arith
 
   pub accounted : (t : ℕ) (old new : Planned P) (ls : List (Message P)) → Accounts cmp t old ls new
       → IsAccountedAt t new
-  accounted t old new ls a =
-      let caps : new.caps ≡ old.caps = ap (λ (q : Planned P). q.caps) a.same in
-      record {
-        per = a.per;
-        rates = a.rates;
-        none_spent =
-            subst (λ (c : Caps P). Each (λ f. (f.updated ≡ t) × (is_spent cmp c f ≡ false)) new.sending) (sym caps)
-            (zip_each (Stays t) (λ f. not (is_spent cmp old.caps f) ≡ true)
-            (λ f. (f.updated ≡ t) × (is_spent cmp old.caps f ≡ false)) (stayed_unspent old.caps t)
-            (filter (λ f. not (is_spent cmp old.caps f)) (drained_to t old.sending)) new.sending a.stayed
-            (each_passes (λ f. not (is_spent cmp old.caps f)) (drained_to t old.sending)));
-        fair = subst (λ (c : Caps P). AreFair cmp c (rated_messages new.sending) a.per a.rates) (sym caps) a.fair;
-        rated = a.rated;
-        at = ap (λ (q : Planned P). q.accounted) a.same;
-        finish = a.finish;
-      }
+  accounted t old new ls a = grind (arith, zip_each, stayed_unspent, each_passes)
 
   planned_accounted : (t : ℕ) (p q : Planned P) → PlansStart cmp t p q → IsAccountedAt t p → IsAccountedAt t q
   planned_accounted t p q looks h =
-      subst (IsAccountedAt t) (sym looks.same) (record {
-        per = h.per;
-        rates = h.rates;
-        none_spent = h.none_spent;
-        fair = h.fair;
-        rated = h.rated;
-        at = h.at;
-        finish = h.finish;
-      })
+      subst (IsAccountedAt t) (sym looks.same) (grind arith)
 
   launch_accounted : {t : ℕ} {p : Planned P} {o : Option (Message P)} {c : Course (Message P) (Planned P)}
       → Launches cmp t p o c → (ms : List (Message P)) (q : Planned P) → c ≡ goes ms q → IsAccountedAt t p
@@ -222,20 +154,10 @@ module _ {P : Type 0} (cmp : P → P → Ordering) (order : IsTotalOrder cmp) wh
   launch_accounted {t = t} {p = p} (too_early may) ms q e h = let same : p ≡ q = cc in subst (IsAccountedAt t) same h
   launch_accounted (no_id may last) ms q e h = cc
   launch_accounted {t = t} {p = p} (starts {m = m} {leavers = leavers} {new = new} may below account) ms q e h =
-      let same : new ≡ q = cc in
-      subst (IsAccountedAt t) same (accounted t (launched cmp t p m) new leavers account)
+      grind (arith, common_steps, (accounted t (launched cmp t p m) new leavers account))
 
   landed_accounted : (t : ℕ) (p : Planned P) (m : Message P) → IsAccountedAt t p → IsAccountedAt t (landed cmp t p m)
-  landed_accounted t p m h =
-      record {
-        per = h.per;
-        rates = h.rates;
-        none_spent = h.none_spent;
-        fair = h.fair;
-        rated = h.rated;
-        at = h.at;
-        finish = h.finish;
-      }
+  landed_accounted t p m h = grind arith
 
   finish_accounted : {t : ℕ} {ms : List (Message P)} {p : Planned P} {c : Course (Completed P) (Planned P)}
       → Finishes cmp t ms p c → IsAccountedAt t p → EndsWith (IsAccountedAt t) c
@@ -248,37 +170,11 @@ module _ {P : Type 0} (cmp : P → P → Ordering) (order : IsTotalOrder cmp) wh
 
   queued_accounted : (t : ℕ) (p : Planned P) (m : Message P) → IsAccountedAt t p
       → IsAccountedAt t (with_queued cmp p m)
-  queued_accounted t p m h =
-      record {
-        per = h.per;
-        rates = h.rates;
-        none_spent = h.none_spent;
-        fair = h.fair;
-        rated = h.rated;
-        at = h.at;
-        finish = h.finish;
-      }
+  queued_accounted t p m h = grind arith
 
   at_once_accounted : (t : ℕ) (p : Planned P) (m : Message P) → IsAccountedAt t p
       → EndsWith (IsAccountedAt t) (completed_at_once cmp t p m)
-  at_once_accounted t p m h = by_late (m.should_deliver && nat_lt last_moment (t + m.latency))
-    where
-      at : ℕ
-      at = if m.should_deliver then later_of (p.last_arrival m.origin m.recipient) (t + m.latency) else t
-
-      by_late : (b : Bool) → EndsWith (IsAccountedAt t) (cond b (meets MomentTooLate)
-          (goes (completion_of m t (if m.should_deliver then Some at else None) ∷ [])
-          (record p { last_arrival = raised cmp p.last_arrival m at })))
-      by_late true = tt
-      by_late false = record {
-        per = h.per;
-        rates = h.rates;
-        none_spent = h.none_spent;
-        fair = h.fair;
-        rated = h.rated;
-        at = h.at;
-        finish = h.finish;
-      }
+  at_once_accounted t p m h = grind arith
 
   -- where an account was made, a message that is sent leaves it so
   pub enqueue_accounted : {t : ℕ} {m : Message P} {p : Planned P} {c : Course (Completed P) (Planned P)}
@@ -292,21 +188,16 @@ module _ {P : Type 0} (cmp : P → P → Ordering) (order : IsTotalOrder cmp) wh
       → Launches cmp t p o c → (k : Message P) → o ≡ Some k → may_launch cmp t p k ≡ true
       → (ms : List (Message P)) (q : Planned P) → c ≡ goes ms q → IsAccountedAt t q
   start_accounted nothing_waits k is may ms q e = cc
-  start_accounted {t = t} {p = p} (too_early {m = m} early) k is may ms q e =
-      let same : m ≡ k = cc in
-      let there : may_launch cmp t p k ≡ false = subst (λ (n : Message P). may_launch cmp t p n ≡ false) same early in
-      let wrong : true ≡ false = sym may ∙ there in
-      cc
+  start_accounted {t = t} {p = p} (too_early {m = m} early) k is may ms q e = grind arith
   start_accounted (no_id ready last) k is may ms q e = cc
   start_accounted {t = t} {p = p} (starts {m = m} {leavers = ls} {new = new} ready below account) k is may ms q e =
-      let same : new ≡ q = cc in
-      subst (IsAccountedAt t) same (accounted t (launched cmp t p m) new ls account)
+      grind (arith, common_steps, (accounted t (launched cmp t p m) new ls account))
 
   -- and a message that starts makes it so
   pub enqueue_starts : {t : ℕ} {m : Message P} {p : Planned P} {c : Course (Completed P) (Planned P)}
       → Enqueues cmp t m p c → p.limited ≡ true → next_of cmp (with_queued cmp p m) m ≡ Some m
       → may_launch cmp t p m ≡ true → EndsWith (IsAccountedAt t) c
-  enqueue_starts {p = p} (at_once free) limited found may = let wrong : true ≡ false = sym limited ∙ free in cc
+  enqueue_starts {p = p} (at_once free) limited found may = cc
   enqueue_starts (no_launch limited launch) l found may = tt
   enqueue_starts {m = m} (launches {leavers = ls} {mid = mid} limited launch finishes) l found may =
       finish_accounted finishes (start_accounted launch m found may ls mid refl)
@@ -327,27 +218,19 @@ module _ {P : Type 0} (cmp : P → P → Ordering) (order : IsTotalOrder cmp) wh
       → Each HasRate fs
   all_have_rates caps per parts place [] some limited rated = tt
   all_have_rates caps per parts place (f ∷ fs) some limited rated =
-      let own : (if is_unlimited cmp caps f.message then None else Some (parts place)) ≡ Some (parts place) =
-      ap (λ (b : Bool). if b then None else Some (parts place)) limited.0 in (
+      let own = ap (λ (b : Bool). if b then None else Some (parts place)) limited.0 in (
         (reduced (parts place) per, rated.0 ∙ ap (rate_of per) own, reduced_positive (parts place) per some),
         all_have_rates caps per parts (place + 1) fs some limited.1 rated.1,
       )
 
   have_rates : (t : ℕ) (p : Planned P) → IsAccountedAt t p → Each HasRate p.sending
-  have_rates t p h =
-      all_have_rates p.caps h.per h.fair.parts 0 p.sending h.fair.fair.some_part
-      (each_map (λ f. (f.updated ≡ t) × (is_spent cmp p.caps f ≡ false))
-      (λ f. is_unlimited cmp p.caps f.message ≡ false) p.sending (λ f e. unspent_limited p.caps f e.1) h.none_spent)
-      (subst (λ (rates : Parts). AllZip (λ rate f. f.rate ≡ rate_of h.per rate) rates p.sending) h.fair.rated h.rated)
+  have_rates t p h = grind (arith, all_have_rates, each_map, unspent_limited, rate_of)
 
   all_kept : (t : ℕ) (caps : Caps P) (fs : List (RatedFlight P))
       → Each (λ f. (f.updated ≡ t) × (is_spent cmp caps f ≡ false)) fs → Each HasRate fs → AreLowest fs
       → Each (IsKept t) fs
   all_kept t caps [] none rates low = tt
-  all_kept t caps (f ∷ fs) none rates low = (
-    (none.0.0, no_time t f rates.0.0 none.0.0 rates.0.1 rates.0.2 low.0),
-    all_kept t caps fs none.1 rates.1 low.1,
-  )
+  all_kept t caps (f ∷ fs) none rates low = grind (arith, (no_time t f), (all_kept t caps fs))
 
   pub drained_still : (t : ℕ) (p : Planned P) → IsAccountedAt t p → AreLowest p.sending
       → drained_to t p.sending ≡ p.sending
@@ -355,17 +238,11 @@ module _ {P : Type 0} (cmp : P → P → Ordering) (order : IsTotalOrder cmp) wh
       drained_kept t p.sending (all_kept t p.caps p.sending h.none_spent (have_rates t p h) low)
 
   pub none_leave : (t : ℕ) (p : Planned P) → IsAccountedAt t p → filter (is_spent cmp p.caps) p.sending ≡ []
-  none_leave t p h =
-      filter_none (is_spent cmp p.caps) p.sending
-      (each_map (λ f. (f.updated ≡ t) × (is_spent cmp p.caps f ≡ false)) (λ f. is_spent cmp p.caps f ≡ false) p.sending
-      (λ f e. e.1) h.none_spent)
+  none_leave t p h = grind (arith, filter_none, each_map)
 
   all_stay : (t : ℕ) (p : Planned P) → IsAccountedAt t p
       → filter (λ f. not (is_spent cmp p.caps f)) p.sending ≡ p.sending
-  all_stay t p h =
-      filter_all (λ f. not (is_spent cmp p.caps f)) p.sending
-      (each_map (λ f. (f.updated ≡ t) × (is_spent cmp p.caps f ≡ false)) (λ f. not (is_spent cmp p.caps f) ≡ true)
-      p.sending (λ f e. ap not e.1) h.none_spent)
+  all_stay t p h = grind (arith, filter_all, each_map)
 
   stay_as_they_are : (t : ℕ) (fs : List (RatedFlight P)) (caps : Caps P)
       → Each (λ f. (f.updated ≡ t) × (is_spent cmp caps f ≡ false)) fs → AllZip (Stays t) fs fs
@@ -375,20 +252,8 @@ module _ {P : Type 0} (cmp : P → P → Ordering) (order : IsTotalOrder cmp) wh
   -- an account at that moment once more changes nothing
   pub account_again : (t : ℕ) (p : Planned P) → IsAccountedAt t p → AreLowest p.sending → Accounts cmp t p [] p
   account_again t p h low =
-      let still : drained_to t p.sending ≡ p.sending = drained_still t p h low in
-      record {
-        per = h.per;
-        rates = h.rates;
-        left = sym (ap (λ (fs : List (RatedFlight P)). rated_messages (filter (is_spent cmp p.caps) fs)) still
-            ∙ ap rated_messages (none_leave t p h));
-        stayed = subst (λ (fs : List (RatedFlight P)). AllZip (Stays t) fs p.sending)
-            (sym (ap (filter (λ f. not (is_spent cmp p.caps f))) still ∙ all_stay t p h))
-            (stay_as_they_are t p.sending p.caps h.none_spent);
-        fair = h.fair;
-        rated = h.rated;
-        finish = h.finish;
-        same = λ i. record p { accounted = h.at i };
-      }
+      grind (arith, common_steps, accounted, (drained_still t p h low), (none_leave t p h), (all_stay t p h),
+      (stay_as_they_are t p.sending p.caps h.none_spent))
 
   -- ---- an account can always be made
 
@@ -434,29 +299,15 @@ module _ {P : Type 0} (cmp : P → P → Ordering) (order : IsTotalOrder cmp) wh
       → IsLeastMoment (SomeSpentAt (with_rates p.caps per fair.parts t 0 (Staying t p))) o
       → Accounts cmp t p (rated_messages (filter (is_spent cmp p.caps) (drained_to t p.sending)))
       (record p { sending = with_rates p.caps per fair.parts t 0 (Staying t p); accounted = t; finish = o })
-  account_with t p per rates fair o least = record {
-    per = per;
-    rates = rates;
-    left = refl;
-    stayed = stay_with_rates p.caps per fair.parts t 0 (Staying t p);
-    fair = subst (λ (ms : List (Message P)). AreFair cmp p.caps ms per rates)
-        (sym (rated_messages_same p.caps per fair.parts t 0 (Staying t p))) fair;
-    rated = subst (λ (rs : Parts). AllZip (λ rate f. f.rate ≡ rate_of per rate) rs
-        (with_rates p.caps per fair.parts t 0 (Staying t p))) (sym fair.rated)
-        (rated_so p.caps per fair.parts t 0 (Staying t p));
-    finish = least;
-    same = refl;
-  }
+  account_with t p per rates fair o least =
+      grind (arith, stay_with_rates, rated_messages_same, rate_of, with_rates, rated_so)
 
   pub account_exists : (t : ℕ) (p : Planned P) → (ls : List (Message P)) × (q : Planned P) × Accounts cmp t p ls q
   account_exists t p =
       let f = rates_exist cmp order p.caps (rated_messages (Staying t p)) in
       let sending = with_rates p.caps f.0 f.2.parts t 0 (Staying t p) in
-      let least = least_exists (SomeSpentAt sending) (spent_or_not sending) in (
-        rated_messages (filter (is_spent cmp p.caps) (drained_to t p.sending)),
-        record p { sending = sending; accounted = t; finish = least.0 },
-        account_with t p f.0 f.1 f.2 least.0 least.1,
-      )
+      let least = least_exists (SomeSpentAt sending) (spent_or_not sending) in
+      grind (arith, accounted, (account_with t p f.0 f.1 f.2 least.0 least.1))
 
   -- ---- a message that starts, and the account that follows the last one
 
@@ -475,43 +326,26 @@ module _ {P : Type 0} (cmp : P → P → Ordering) (order : IsTotalOrder cmp) wh
       → filter (λ f. not (is_spent cmp caps f)) (drained_to t (fs ++ starting id t m ∷ []))
       ≡ filter (λ f. not (is_spent cmp caps f)) (drained_to t fs) ++ starting id t m ∷ []
   one_more_stays id t caps fs m limited =
-      let test : RatedFlight P → Bool = λ f. not (is_spent cmp caps f) in
-      let alone : filter test (starting id t m ∷ []) ≡ starting id t m ∷ [] =
-      filter_all test (starting id t m ∷ []) (ap not limited, tt) in
-      ap (filter test) (drained-append t fs (starting id t m ∷ []))
-      ∙ ap (λ l. filter test (drained_to t fs ++ l)) (starting_kept id t m)
-      ∙ filter-append test (drained_to t fs) (starting id t m ∷ [])
-      ∙ ap (λ l. filter test (drained_to t fs) ++ l) alone
+      grind (arith, filter-append, filter_all, (drained-append t fs), (starting_kept id t m), (starting id t m))
 
   none_more_leaves : (id t : ℕ) (caps : Caps P) (fs : List (RatedFlight P)) (m : Message P)
       → is_spent cmp caps (starting id t m) ≡ false → filter (is_spent cmp caps) (drained_to t fs) ≡ []
       → filter (is_spent cmp caps) (drained_to t (fs ++ starting id t m ∷ [])) ≡ []
   none_more_leaves id t caps fs m limited none =
-      ap (filter (is_spent cmp caps)) (drained-append t fs (starting id t m ∷ []))
-      ∙ ap (λ l. filter (is_spent cmp caps) (drained_to t fs ++ l)) (starting_kept id t m)
-      ∙ filter-append (is_spent cmp caps) (drained_to t fs) (starting id t m ∷ [])
-      ∙ ap (λ l. l ++ filter (is_spent cmp caps) (starting id t m ∷ [])) none
-      ∙ filter_none (is_spent cmp caps) (starting id t m ∷ []) (limited, tt)
+      search (rules, drained-append, starting, starting_kept, filter-append, filter_none)
 
   all_but_none : (test : RatedFlight P → Bool) (fs : List (RatedFlight P)) → filter test fs ≡ []
       → filter (λ f. not (test f)) fs ≡ fs
   all_but_none test [] e = refl
-  all_but_none test (f ∷ fs) e = by_test (test f) e (all_but_none test fs)
-    where
-      by_test : (b : Bool) → cond b (f ∷ filter test fs) (filter test fs) ≡ []
-          → (filter test fs ≡ [] → filter (λ g. not (test g)) fs ≡ fs)
-          → cond (not b) (f ∷ filter (λ g. not (test g)) fs) (filter (λ g. not (test g)) fs) ≡ f ∷ fs
-      by_test true e ih = cc
-      by_test false e ih = ap (λ l. f ∷ l) (ih e)
+  all_but_none test (f ∷ fs) e = grind (arith, (all_but_none test fs))
 
   -- where the first have drained and none of them is done, all stay, and so does the message that starts
   pub all_and_one_stay : (id t : ℕ) (caps : Caps P) (fs : List (RatedFlight P)) (m : Message P)
       → is_spent cmp caps (starting id t m) ≡ false → drained_to t fs ≡ fs → filter (is_spent cmp caps) fs ≡ []
       → filter (λ f. not (is_spent cmp caps f)) (drained_to t (fs ++ starting id t m ∷ [])) ≡ fs ++ starting id t m ∷ []
   all_and_one_stay id t caps fs m limited still none =
-      one_more_stays id t caps fs m limited
-      ∙ ap (λ l. filter (λ f. not (is_spent cmp caps f)) l ++ starting id t m ∷ []) still
-      ∙ ap (λ l. l ++ starting id t m ∷ []) (all_but_none (is_spent cmp caps) fs none)
+      grind (arith, (one_more_stays id t caps fs m limited), (starting id t m),
+      (all_but_none (is_spent cmp caps) fs none))
 
   -- and nothing leaves
   pub none_and_one_leave : (id t : ℕ) (caps : Caps P) (fs : List (RatedFlight P)) (m : Message P)
@@ -523,11 +357,7 @@ module _ {P : Type 0} (cmp : P → P → Ordering) (order : IsTotalOrder cmp) wh
   -- what is left after an account is in lowest terms
   pub account_lowest : (t : ℕ) (p q : Planned P) (ls : List (Message P)) → Accounts cmp t p ls q
       → ArePositive p.sending → AreLowest q.sending
-  account_lowest t p q ls a positive =
-      zip_each (Stays t) (λ f. IsLowest f.left) (λ g. IsLowest g.left)
-      (λ f g stays low. subst IsLowest (sym stays.2) low) (Staying t p) q.sending a.stayed
-      (each_filtered_too (λ f. IsLowest f.left) (λ f. not (is_spent cmp p.caps f)) (drained_to t p.sending)
-      (all_lowest t p.sending positive))
+  account_lowest t p q ls a positive = grind (arith, zip_each, each_in_filter, all_lowest)
 
   -- ---- the same messages in flight
 
@@ -594,9 +424,7 @@ module _ {P : Type 0} (cmp : P → P → Ordering) (order : IsTotalOrder cmp) wh
         (none_leave t (record here { sending = fs; accounted = t; finish = o }) h)
 
     none_there : filter (is_spent cmp here.caps) (drained_to t (fs ++ starting here.next_id t m ∷ [])) ≡ []
-    none_there =
-        none_and_one_leave here.next_id t here.caps fs m stays still
-        (none_leave t (record here { sending = fs; accounted = t; finish = o }) h)
+    none_there = search (none_and_one_leave, still, none_leave, accounted, h)
 
     none_here : filter (is_spent cmp here.caps) (drained_to t here.sending) ≡ []
     none_here = no_messages (filter (is_spent cmp here.caps) (drained_to t here.sending)) a.left
@@ -609,18 +437,15 @@ module _ {P : Type 0} (cmp : P → P → Ordering) (order : IsTotalOrder cmp) wh
         → Enqueues cmp t m (record here { sending = fs; accounted = t; finish = o }) (goes [] (record x { start = next.start }))
     enqueues_there x ax =
         let may_there : may_launch cmp t (record here { sending = fs; accounted = t; finish = o }) m ≡ true =
-        ap (λ (ms : List (Message P)). not (list_any (same_pair cmp m) ms)
-        && is_in_order (here.last_arrival m.origin m.recipient) (t + m.latency)) flying ∙ may in
+            grind (arith, flying) in
         let launch =
         subst (λ (first : Option (Message P)). Launches cmp t
         (with_queued cmp (record here { sending = fs; accounted = t; finish = o }) m) first (goes [] x)) (sym found)
         (starts may_there id ax) in
-        let flies : rated_messages x.sending
-        ≡ rated_messages (launched cmp t (with_queued cmp here m) m).sending =
-        messages_stay t (launched cmp t (with_queued cmp (record here { sending = fs; accounted = t; finish = o }) m) m) x ax
-        ∙ map-append (λ f. f.message) fs (starting here.next_id t m ∷ [])
-        ∙ ap (λ (ms : List (Message P)). ms ++ m ∷ []) flying
-        ∙ sym (map-append (λ f. f.message) here.sending (starting here.next_id t m ∷ [])) in
+        let flies = messages_stay t (launched cmp t (with_queued cmp (record here { sending = fs; accounted = t;
+        finish = o }) m) m) x ax ∙ map-append (λ f. f.message) fs (starting here.next_id t m ∷ []) ∙ ap (λ (ms : List
+        (Message P)). ms ++ m ∷ []) flying ∙ sym (map-append (λ f. f.message) here.sending (starting here.next_id t m
+        ∷ [])) in
         launches limited launch
         (all_completed (planned_alike t (launched cmp t (with_queued cmp here m) m) x next looks
         (ap (λ (q : Planned P). q.waiting) ax.same) (ap (λ (q : Planned P). q.last_arrival) ax.same) flies))

@@ -1,28 +1,19 @@
 -- By the event rule a call has one course, and an advance one number of events.
-use Rattle.std.proofs.Common.{◌≡◌, ◌≢◌, ℕ, suc, ◌+◌, ◌*◌, ◌<◌, ◌≤◌, List, [], ◌∷◌, ◌++◌, true, false, not}
-use Rattle.std.proofs.Common.{Option, Some, None, refl, sym, ap, ◌∙◌, subst, arith, ◌⊎◌, inl, inr}
-use Rattle.std.specs.Prelude.{IfSome}
-use Rattle.std.specs.List.{filter, AllZip}
-use Rattle.std.specs.declared.cmp.Ordering.{Ordering}
-use Rattle.std.specs.Cmp.{IsTotalOrder}
-use Rattle.fair_rates.specs.declared.error.Error.{Error}
-use Rattle.fair_rates.specs.declared.error.Error.TheVariants.{MomentTooLate, FlowIdsUsedUp}
+use Rattle.link_simulation.proofs.Common.{common_steps, ◌≡◌, ◌≢◌, ℕ, suc, ◌+◌, ◌*◌, ◌<◌, ◌≤◌, List, [], ◌∷◌, ◌++◌, true}
+use Rattle.link_simulation.proofs.Common.{false, not, Option, Some, None, refl, sym, ap, ◌∙◌, subst, arith, ◌⊎◌, inl}
+use Rattle.link_simulation.proofs.Common.{inr, IfSome, filter, AllZip, Ordering, IsTotalOrder, Error, MomentTooLate}
+use Rattle.link_simulation.proofs.Common.{FlowIdsUsedUp, Message, Caps, Parts, rate_of, AreFair, Completed, Course}
+use Rattle.link_simulation.proofs.Common.{goes, meets, last_moment, preceded, is_late, completed, Call, call_limit}
+use Rattle.link_simulation.proofs.Common.{call_limit_link, call_enqueue, call_advance, call_enqueue_all, call_next}
+use Rattle.link_simulation.proofs.Common.{Planned, RatedFlight, IsLeastMoment, next_event, rated_messages, SomeSpentAt}
+use Rattle.link_simulation.proofs.Common.{drained_to, next_of, may_launch, is_spent, Accounts, PlansStart, launched}
+use Rattle.link_simulation.proofs.Common.{Launches, nothing_waits, too_early, no_id, starts, landed, Finishes}
+use Rattle.link_simulation.proofs.Common.{all_completed, late, stopped, completes, WakesEach, all_started, no_start}
+use Rattle.link_simulation.proofs.Common.{no_finish, starts_one, Wakes, Settles, settling, Rebalances, none_sending}
+use Rattle.link_simulation.proofs.Common.{some_sending, Enqueues, at_once, no_launch, launches, Advances, no_more}
+use Rattle.link_simulation.proofs.Common.{at_finish, at_start, finish_stops, start_stops, Obeys, EnqueuesEach}
+use Rattle.link_simulation.proofs.Common.{all_enqueued, one_stops, enqueues_one}
 use Rattle.fair_rates.specs.Numbers.LowestTerms.{reduced_same}
-use Rattle.link_simulation.specs.Simulation.Messages.{Message, Caps}
-use Rattle.link_simulation.specs.Simulation.Rates.{Parts, rate_of, AreFair}
-use Rattle.link_simulation.specs.Simulation.World.{Completed, Course, goes, meets, last_moment, preceded, is_late}
-use Rattle.link_simulation.specs.Simulation.World.{completed}
-use Rattle.link_simulation.specs.Simulation.Calls.{Call, call_limit, call_limit_link, call_enqueue, call_advance}
-use Rattle.link_simulation.specs.Simulation.Calls.{call_enqueue_all, call_next}
-use Rattle.link_simulation.specs.Rule.Planned.{Planned, RatedFlight, IsLeastMoment, next_event, rated_messages}
-use Rattle.link_simulation.specs.Rule.Planned.{SomeSpentAt, drained_to, next_of, may_launch, SomeReadyAt, is_spent}
-use Rattle.link_simulation.specs.Rule.Events.{Accounts, PlansStart, launched, Launches, nothing_waits, too_early, no_id}
-use Rattle.link_simulation.specs.Rule.Events.{starts, landed, Finishes, all_completed, late, stopped, completes}
-use Rattle.link_simulation.specs.Rule.Events.{WakesEach, all_started, no_start, no_finish, starts_one, Wakes, Settles}
-use Rattle.link_simulation.specs.Rule.Events.{settling, Rebalances, none_sending, some_sending, Enqueues, at_once}
-use Rattle.link_simulation.specs.Rule.Events.{no_launch, launches, Advances, no_more, at_finish, at_start}
-use Rattle.link_simulation.specs.Rule.Events.{finish_stops, start_stops, Obeys}
-use Rattle.link_simulation.specs.Rule.Events.{EnqueuesEach, all_enqueued, one_stops, enqueues_one}
 use Rattle.link_simulation.proofs.Simulation.AlikeMessages.{same_itself}
 use Rattle.link_simulation.proofs.Simulation.Rates.{Match, rates_match}
 
@@ -33,11 +24,7 @@ pub least_is_one : (Q : ℕ → Type 0) (a b : Option ℕ) → IsLeastMoment Q a
 least_is_one Q None None e f = refl
 least_is_one Q None (Some t) e f = absurd (e t f.0 f.1)
 least_is_one Q (Some s) None e f = absurd (f s e.0 e.1)
-least_is_one Q (Some s) (Some t) e f =
-    let le : s ≤ t = e.2 t f.1 in
-    let ge : t ≤ s = f.2 s e.1 in
-    let same : s ≡ t = omega arith in
-    ap Some same
+least_is_one Q (Some s) (Some t) e f = grind arith
 
 -- ---- an account
 
@@ -68,12 +55,9 @@ sending_is_one t xs ys d e (b ∷ bs) (f ∷ fs) [] i j h k r s to from = absurd
 sending_is_one t [] ys d e (b ∷ bs) (f ∷ fs) (g ∷ gs) i j h k r s to from = absurd r
 sending_is_one t (x ∷ xs) [] d e (b ∷ bs) (f ∷ fs) (g ∷ gs) i j h k r s to from = absurd s
 sending_is_one {P} t (x ∷ xs) (y ∷ ys) d e (b ∷ bs) (f ∷ fs) (g ∷ gs) i j h k r s to from =
-    let rate : rate_of d x ≡ rate_of e y
-    =
-    rate_is_one x y d e i j (λ a is. head x y a e d (to 0 a (ap Some is)))
+    let rate = rate_is_one x y d e i j (λ a is. head x y a e d (to 0 a (ap Some is)))
     (λ c is. head y x c d e (from 0 c (ap Some is))) in
-    let rest : fs ≡ gs =
-    sending_is_one t xs ys d e bs fs gs i j h.1 k.1 r.1 s.1 (λ n. to (suc n)) (λ n. from (suc n)) in
+    let rest = sending_is_one t xs ys d e bs fs gs i j h.1 k.1 r.1 s.1 (λ n. to (suc n)) (λ n. from (suc n)) in
     let id : f.id ≡ g.id = h.0.0 ∙ sym k.0.0 in
     let message : f.message ≡ g.message = h.0.1 ∙ sym k.0.1 in
     let left : f.left ≡ g.left = h.0.2 ∙ sym k.0.2 in
@@ -97,40 +81,26 @@ module _ {P : Type 0} (cmp : P → P → Ordering) (order : IsTotalOrder cmp) wh
       → Accounts cmp t old ms other
       → goes ls new ≡ goes ms other
   account_is_one t old new other ls ms f g =
-      let flows : rated_messages other.sending ≡ rated_messages new.sending
-      = stays_flows t (filter (λ h. not (is_spent cmp old.caps h)) (drained_to t old.sending)) other.sending g.stayed
-      ∙ sym (stays_flows t (filter (λ h. not (is_spent cmp old.caps h)) (drained_to t old.sending)) new.sending
-      f.stayed) in
-      let fair : AreFair cmp old.caps (rated_messages new.sending) g.per g.rates =
-      subst (λ (fs : List (Message P)). AreFair cmp old.caps fs g.per g.rates) flows g.fair in
-      let sending : new.sending ≡ other.sending
-      =
-      sending_is_one t f.rates g.rates f.per g.per
+      let flows : rated_messages other.sending ≡ rated_messages new.sending = grind (arith, stays_flows) in
+      let fair : AreFair cmp old.caps (rated_messages new.sending) g.per g.rates = grind arith in
+      let sending = sending_is_one t f.rates g.rates f.per g.per
       (filter (λ h. not (is_spent cmp old.caps h)) (drained_to t old.sending)) new.sending other.sending
-      f.fair.fair.some_part g.fair.fair.some_part f.stayed g.stayed f.rated g.rated
-      (rates_match cmp (same_itself cmp order) old.caps (rated_messages new.sending) f.per g.per f.rates g.rates f.fair
-      fair)
+      f.fair.fair.some_part g.fair.fair.some_part f.stayed g.stayed f.rated g.rated (rates_match cmp
+      (same_itself cmp order) old.caps (rated_messages new.sending) f.per g.per f.rates g.rates f.fair fair)
       (rates_match cmp (same_itself cmp order) old.caps (rated_messages new.sending) g.per f.per g.rates f.rates fair
       f.fair) in
-      let finish : new.finish ≡ other.finish
-      =
-      least_is_one (SomeSpentAt new.sending) new.finish other.finish f.finish
+      let finish = least_is_one (SomeSpentAt new.sending) new.finish other.finish f.finish
       (subst (λ (fs : List (RatedFlight P)). IsLeastMoment (SomeSpentAt fs) other.finish) (sym sending) g.finish) in
-      let here : record old { sending = new.sending; accounted = t; finish = new.finish } ≡ record old
-      { sending = other.sending; accounted = t; finish = other.finish }
-      = λ i. record old { sending = sending i; accounted = t; finish = finish i } in
-      let world : new ≡ other = f.same ∙ here ∙ sym g.same in
-      let left : ls ≡ ms = f.left ∙ sym g.left in
-      λ i. goes (left i) (world i)
+      let here : record old { sending = new.sending; accounted = t; finish = new.finish } ≡ record old { sending =
+      other.sending; accounted = t; finish = other.finish } = λ i. record old { sending = sending i; accounted = t;
+      finish = finish i } in
+      let world = f.same ∙ here ∙ sym g.same in
+      let left = f.left ∙ sym g.left in
+      grind arith
 
   look_is_one : (t : ℕ) (old new other : Planned P) → PlansStart cmp t old new → PlansStart cmp t old other
       → new ≡ other
-  look_is_one t old new other f g =
-      let start : new.start ≡ other.start =
-      least_is_one (λ s. (t ≤ s) × SomeReadyAt cmp old s) new.start other.start f.start g.start in
-      let here : record old { start = new.start } ≡ record old { start = other.start } =
-      λ i. record old { start = start i } in
-      f.same ∙ here ∙ sym g.same
+  look_is_one t old new other f g = grind (arith, least_is_one)
 
   -- ---- a launch
 
@@ -146,9 +116,7 @@ module _ {P : Type 0} (cmp : P → P → Ordering) (order : IsTotalOrder cmp) wh
   no_launch_of : {t : ℕ} {old : Planned P} {o : Option (Message P)} {c : Course (Message P) (Planned P)}
       → Launches cmp t old o c → o ≡ None → c ≡ goes [] old
   no_launch_of nothing_waits e = refl
-  no_launch_of (too_early may) e = cc
-  no_launch_of (no_id may last) e = cc
-  no_launch_of (starts may below account) e = cc
+  no_launch_of _ e = cc
 
   launch_of : {t : ℕ} {old : Planned P} {o : Option (Message P)} {c : Course (Message P) (Planned P)}
       → Launches cmp t old o c → (m : Message P) → o ≡ Some m → Launch t old m c
@@ -157,30 +125,14 @@ module _ {P : Type 0} (cmp : P → P → Ordering) (order : IsTotalOrder cmp) wh
       let same : m ≡ n = cc in inl (subst (λ (k : Message P). may_launch cmp t old k ≡ false) same may, refl)
   launch_of {t = t} {old = old} (no_id {m = m} may last) n e =
       let same : m ≡ n = cc in inr (inl (subst (λ (k : Message P). may_launch cmp t old k ≡ true) same may, last, refl))
-  launch_of {t = t} {old = old} (starts {m = m} {leavers = ls} {new = new} may below account) n e =
-      let same : m ≡ n = cc in
-      inr (inr (
-        subst (λ (k : Message P). may_launch cmp t old k ≡ true) same may,
-        below,
-        (ls, new, subst (λ (k : Message P). Accounts cmp t (launched cmp t old k) ls new) same account, refl),
-      ))
+  launch_of {t = t} {old = old} (starts {m = m} {leavers = ls} {new = new} may below account) n e = grind arith
 
   launch_is_one : {t : ℕ} {old : Planned P} {o : Option (Message P)} {c : Course (Message P) (Planned P)}
       → Launches cmp t old o c
       → (d : Course (Message P) (Planned P)) → Launches cmp t old o d → c ≡ d
   launch_is_one nothing_waits d l = sym (no_launch_of l refl)
-  launch_is_one {t = t} {old = old} (too_early {m = m} may) d l = by_case (launch_of l m refl)
-    where
-      by_case : Launch t old m d → goes [] old ≡ d
-      by_case (inl h) = sym h.1
-      by_case (inr (inl h)) = cc
-      by_case (inr (inr h)) = cc
-  launch_is_one {t = t} {old = old} (no_id {m = m} may last) d l = by_case (launch_of l m refl)
-    where
-      by_case : Launch t old m d → meets FlowIdsUsedUp ≡ d
-      by_case (inl h) = cc
-      by_case (inr (inl h)) = sym h.2
-      by_case (inr (inr h)) = absurd (omega (arith, h.1))
+  launch_is_one {t = t} {old = old} (too_early {m = m} may) d l = grind (arith, launch_of)
+  launch_is_one {t = t} {old = old} (no_id {m = m} may last) d l = grind (arith, launch_of)
   launch_is_one {t = t} {old = old} (starts {m = m} {leavers = ls} {new = new} may below account) d l =
       by_case (launch_of l m refl)
     where
@@ -213,9 +165,7 @@ module _ {P : Type 0} (cmp : P → P → Ordering) (order : IsTotalOrder cmp) wh
       → Finishes cmp t ms p c → ms ≡ []
       → (q : Planned P) × PlansStart cmp t p q × (c ≡ goes [] q)
   no_finish_of (all_completed {q = q} looks) e = (q, looks, refl)
-  no_finish_of (late is) e = cc
-  no_finish_of (stopped in_time launch) e = cc
-  no_finish_of (completes in_time launch rest) e = cc
+  no_finish_of _ e = cc
 
   finish_of : {t : ℕ} {ms : List (Message P)} {p : Planned P} {c : Course (Completed P) (Planned P)}
       → Finishes cmp t ms p c → (m : Message P) (ns : List (Message P)) → ms ≡ m ∷ ns
@@ -223,67 +173,19 @@ module _ {P : Type 0} (cmp : P → P → Ordering) (order : IsTotalOrder cmp) wh
   finish_of (all_completed looks) n ns e = cc
   finish_of {t = t} (late {m = m} is) n ns e =
       let same : m ≡ n = cc in inl (subst (λ (k : Message P). is_late cmp t k ≡ true) same is, refl)
-  finish_of {t = t} {p = p} (stopped {m = m} {fault = fault} in_time launch) n ns e =
-      let same : m ≡ n = cc in
-      inr (
-        subst (λ (k : Message P). is_late cmp t k ≡ false) same in_time,
-        (
-          meets fault,
-          subst (λ (k : Message P). Launches cmp t (landed cmp t p k) (next_of cmp p k) (meets fault))
-              same launch,
-          refl,
-        ),
-      )
+  finish_of {t = t} {p = p} (stopped {m = m} {fault = fault} in_time launch) n ns e = grind arith
   finish_of {t = t} {p = p} (completes {m = m} {ms = ms} {more = more} {q = q} {rest = rest} in_time launch finishes) n
-      ns e =
-      let same : m ≡ n = cc in
-      let others : ms ≡ ns = cc in
-      inr (
-        subst (λ (k : Message P). is_late cmp t k ≡ false) same in_time,
-        (
-          goes more q,
-          subst (λ (k : Message P). Launches cmp t (landed cmp t p k) (next_of cmp p k) (goes more q)) same
-              launch,
-          (
-            rest,
-            subst (λ (ks : List (Message P)). Finishes cmp t (ks ++ more) q rest) others finishes,
-            ap
-                (λ (k : Message P). preceded (completed cmp t k ∷ []) rest) same,
-          ),
-        ),
-      )
+      ns e = grind arith
 
   finish_is_one : {t : ℕ} {ms : List (Message P)} {p : Planned P} {c : Course (Completed P) (Planned P)}
       → Finishes cmp t ms p c
       → (d : Course (Completed P) (Planned P)) → Finishes cmp t ms p d → c ≡ d
-  finish_is_one {t = t} {p = p} (all_completed {q = q} looks) d f =
-      let g : (r : Planned P) × PlansStart cmp t p r × (d ≡ goes [] r) = no_finish_of f refl in
-      ap (goes []) (look_is_one t p q g.0 looks g.1) ∙ sym g.2
-  finish_is_one {t = t} {p = p} (late {m = m} {ms = ms} is) d f = by_case (finish_of f m ms refl)
-    where
-      by_case : Finish t m ms p d → meets MomentTooLate ≡ d
-      by_case (inl h) = sym h.1
-      by_case (inr h) = cc
+  finish_is_one {t = t} {p = p} (all_completed {q = q} looks) d f = grind (arith, no_finish_of, look_is_one)
+  finish_is_one {t = t} {p = p} (late {m = m} {ms = ms} is) d f = grind (arith, (finish_of f m ms refl))
   finish_is_one {t = t} {p = p} (stopped {m = m} {ms = ms} {fault = fault} in_time launch) d f =
-      by_case (finish_of f m ms refl)
-    where
-      by_case : Finish t m ms p d → meets fault ≡ d
-      by_case (inl h) = cc
-      by_case (inr h) =
-          let same : meets fault ≡ h.1.0 = launch_is_one launch h.1.0 h.1.1 in
-          sym (subst (λ (l : Course (Message P) (Planned P)). FinishOn t m ms l d) (sym same) h.1.2)
+      grind (arith, launch_is_one, (finish_of f m ms refl))
   finish_is_one {t = t} {p = p} (completes {m = m} {ms = ms} {more = more} {q = q} {rest = rest} in_time launch
-      finishes) d f =
-      by_case (finish_is_one finishes) (finish_of f m ms refl)
-    where
-      by_case : ((e : Course (Completed P) (Planned P)) → Finishes cmp t (ms ++ more) q e → rest ≡ e)
-          → Finish t m ms p d → preceded (completed cmp t m ∷ []) rest ≡ d
-      by_case ih (inl h) = cc
-      by_case ih (inr h) =
-          let same : goes more q ≡ h.1.0 = launch_is_one launch h.1.0 h.1.1 in
-          let on : FinishOn t m ms (goes more q) d =
-          subst (λ (l : Course (Message P) (Planned P)). FinishOn t m ms l d) (sym same) h.1.2 in
-          preceded_alike (completed cmp t m ∷ []) rest on.0 (ih on.0 on.1) ∙ sym on.2
+      finishes) d f = grind (arith, launch_is_one, preceded_alike, (finish_is_one finishes), (finish_of f m ms refl))
 
   -- ---- wakes
 
@@ -303,59 +205,32 @@ module _ {P : Type 0} (cmp : P → P → Ordering) (order : IsTotalOrder cmp) wh
       → WakesEach cmp t ms p c → ms ≡ []
       → (q : Planned P) × PlansStart cmp t p q × (c ≡ goes [] q)
   no_wake_of (all_started {q = q} looks) e = (q, looks, refl)
-  no_wake_of (no_start launch) e = cc
-  no_wake_of (no_finish launch finishes) e = cc
-  no_wake_of (starts_one launch finishes rest) e = cc
+  no_wake_of _ e = cc
 
   wake_of : {t : ℕ} {ms : List (Message P)} {p : Planned P} {c : Course (Completed P) (Planned P)}
       → WakesEach cmp t ms p c → (m : Message P) (ns : List (Message P)) → ms ≡ m ∷ ns
       → Wake t m ns p c
   wake_of (all_started looks) n ns e = cc
-  wake_of {t = t} {p = p} (no_start {m = m} {fault = fault} launch) n ns e =
-      let same : m ≡ n =
-      cc in (meets fault, subst (λ (k : Message P). Launches cmp t p (next_of cmp p k) (meets fault)) same launch, refl)
-  wake_of {t = t} {p = p} (no_finish {m = m} {more = more} {q = q} {fault = fault} launch finishes) n ns e =
-      let same : m ≡ n =
-      cc in (
-        goes more q,
-        subst (λ (k : Message P). Launches cmp t p (next_of cmp p k) (goes more q)) same launch,
-        (meets fault, finishes, refl),
-      )
+  wake_of {t = t} {p = p} (no_start {m = m} {fault = fault} launch) n ns e = grind arith
+  wake_of {t = t} {p = p} (no_finish {m = m} {more = more} {q = q} {fault = fault} launch finishes) n ns e = grind arith
   wake_of {t = t} {p = p} (starts_one {m = m} {ms = ms} {more = more} {q = q} {r = r} {cs = cs} {rest = rest} launch
-      finishes wakes) n ns e =
-      let same : m ≡ n = cc in
-      let others : ms ≡ ns = cc in (
-        goes more q,
-        subst (λ (k : Message P). Launches cmp t p (next_of cmp p k) (goes more q)) same launch,
-        (goes cs r, finishes, (rest, subst (λ (ks : List (Message P)). WakesEach cmp t ks r rest) others wakes, refl)),
-      )
+      finishes wakes) n ns e = grind arith
 
   wake_is_one : {t : ℕ} {ms : List (Message P)} {p : Planned P} {c : Course (Completed P) (Planned P)}
       → WakesEach cmp t ms p c
       → (d : Course (Completed P) (Planned P)) → WakesEach cmp t ms p d → c ≡ d
-  wake_is_one {t = t} {p = p} (all_started {q = q} looks) d w =
-      let g : (r : Planned P) × PlansStart cmp t p r × (d ≡ goes [] r) = no_wake_of w refl in
-      ap (goes []) (look_is_one t p q g.0 looks g.1) ∙ sym g.2
+  wake_is_one {t = t} {p = p} (all_started {q = q} looks) d w = grind (arith, no_wake_of, look_is_one)
   wake_is_one {t = t} {p = p} (no_start {m = m} {ms = ms} {fault = fault} launch) d w =
-      let h : Wake t m ms p d = wake_of w m ms refl in
-      let same : meets fault ≡ h.0 = launch_is_one launch h.0 h.1 in
-      sym (subst (λ (l : Course (Message P) (Planned P)). WakeFrom t ms l d) (sym same) h.2)
+      grind (arith, (launch_is_one launch), (wake_of w m ms refl))
   wake_is_one {t = t} {p = p} (no_finish {m = m} {ms = ms} {more = more} {q = q} {fault = fault} launch finishes) d w =
-      let h : Wake t m ms p d = wake_of w m ms refl in
-      let same : goes more q ≡ h.0 = launch_is_one launch h.0 h.1 in
-      let from : WakeFrom t ms (goes more q) d =
-      subst (λ (l : Course (Message P) (Planned P)). WakeFrom t ms l d) (sym same) h.2 in
-      let ends : meets fault ≡ from.0 = finish_is_one finishes from.0 from.1 in
-      sym (subst (λ (f : Course (Completed P) (Planned P)). WakeOn t ms f d) (sym ends) from.2)
+      grind (arith, finish_is_one, (launch_is_one launch), (wake_of w m ms refl))
   wake_is_one {t = t} {p = p} (starts_one {m = m} {ms = ms} {more = more} {q = q} {r = r} {cs = cs} {rest = rest} launch
       finishes wakes) d w =
       let h : Wake t m ms p d = wake_of w m ms refl in
       let same : goes more q ≡ h.0 = launch_is_one launch h.0 h.1 in
-      let from : WakeFrom t ms (goes more q) d =
-      subst (λ (l : Course (Message P) (Planned P)). WakeFrom t ms l d) (sym same) h.2 in
+      let from : WakeFrom t ms (goes more q) d = grind arith in
       let ends : goes cs r ≡ from.0 = finish_is_one finishes from.0 from.1 in
-      let on : WakeOn t ms (goes cs r) d =
-      subst (λ (f : Course (Completed P) (Planned P)). WakeOn t ms f d) (sym ends) from.2 in
+      let on = subst (λ (f : Course (Completed P) (Planned P)). WakeOn t ms f d) (sym ends) from.2 in
       preceded_alike cs rest on.0 (wake_is_one wakes on.0 on.1) ∙ sym on.2
 
   -- ---- settlings, new caps and messages
@@ -373,8 +248,7 @@ module _ {P : Type 0} (cmp : P → P → Ordering) (order : IsTotalOrder cmp) wh
   rebalance_is_one : (now : ℕ) (caps : Caps P) (p : Planned P) (c d : Course (Completed P) (Planned P))
       → Rebalances cmp now caps p c → Rebalances cmp now caps p d → c ≡ d
   rebalance_is_one now caps p c d (none_sending {new = new} none looks)
-      (none_sending {new = other} none_too looks_too) =
-      ap (goes []) (look_is_one now (record p { caps = caps; limited = true }) new other looks looks_too)
+      (none_sending {new = other} none_too looks_too) = grind (arith, look_is_one)
   rebalance_is_one now caps p c d (none_sending none looks) (some_sending some settles) = absurd (some none)
   rebalance_is_one now caps p c d (some_sending some settles) (none_sending none looks) = absurd (some none)
   rebalance_is_one now caps p c d (some_sending some settles) (some_sending some_too settles_too) =
@@ -387,27 +261,15 @@ module _ {P : Type 0} (cmp : P → P → Ordering) (order : IsTotalOrder cmp) wh
   enqueue_is_one now m p c d (at_once free) (launches limited launch finishes) = cc
   enqueue_is_one now m p c d (no_launch limited launch) (at_once free) = cc
   enqueue_is_one now m p c d (no_launch {fault = fault} limited launch)
-      (no_launch {fault = other} limited_too launch_too) =
-      let same : ◌≡◌ {A = Course (Message P) (Planned P)} (meets fault) (meets other) =
-      launch_is_one launch (meets other) launch_too in
-      let one : fault ≡ other = cc in
-      ap meets one
+      (no_launch {fault = other} limited_too launch_too) = grind (arith, launch_is_one)
   enqueue_is_one now m p c d (no_launch {fault = fault} limited launch)
-      (launches {leavers = ls} {mid = mid} limited_too launch_too finishes) =
-      let same : meets fault ≡ goes ls mid = launch_is_one launch (goes ls mid) launch_too in
-      cc
+      (launches {leavers = ls} {mid = mid} limited_too launch_too finishes) = grind (arith, launch_is_one)
   enqueue_is_one now m p c d (launches limited launch finishes) (at_once free) = cc
   enqueue_is_one now m p c d (launches {leavers = ls} {mid = mid} limited launch finishes)
-      (no_launch {fault = fault} limited_too launch_too) =
-      let same : goes ls mid ≡ meets fault = launch_is_one launch (meets fault) launch_too in
-      cc
+      (no_launch {fault = fault} limited_too launch_too) = grind (arith, launch_is_one)
   enqueue_is_one now m p c d (launches {leavers = ls} {mid = mid} limited launch finishes)
       (launches {leavers = ms} {mid = other} limited_too launch_too finishes_too) =
-      let same : goes ls mid ≡ goes ms other = launch_is_one launch (goes ms other) launch_too in
-      let left : ms ≡ ls = cc in
-      let world : other ≡ mid = cc in
-      finish_is_one finishes d (subst (λ (q : Planned P). Finishes cmp now ls q d) world
-      (subst (λ (ks : List (Message P)). Finishes cmp now ks other d) left finishes_too))
+      grind (arith, launch_is_one, finish_is_one)
 
   -- ---- an advance
 
@@ -467,38 +329,20 @@ module _ {P : Type 0} (cmp : P → P → Ordering) (order : IsTotalOrder cmp) wh
       (rest d : Course (Completed P) (Planned P)) → EventAt now p t (goes cs q)
       → ((k : ℕ) (e : Course (Completed P) (Planned P)) → Advances cmp now q k e → (n ≡ k) × (rest ≡ e))
       → Advance now p m d → (n + 1 ≡ m) × (preceded cs rest ≡ d)
-  after_event now p q t n m cs rest d event ih (inl h) =
-      let due : (next_event p ≡ Some t) × (t ≤ now) =
-      due_at now p t (goes cs q) event in absurd (none_due now p t h.0 due.0 due.1)
+  after_event now p q t n m cs rest d event ih (inl h) = grind arith
   after_event now p q t n m cs rest d event ih (inr h) =
-      let same : goes cs q ≡ h.1 = event_is_one now p t h.0 (goes cs q) h.1 event h.2 in
-      let on : AdvanceOn now (goes cs q) m d =
-      subst (λ (e : Course (Completed P) (Planned P)). AdvanceOn now e m d) (sym same) h.3 in
-      let both : (n ≡ on.0) × (rest ≡ on.1) = ih on.0 on.1 on.2 in
-      let count : n ≡ on.0 = both.0 in
-      let more : m ≡ on.0 + 1 = on.3 in
-      (omega arith, preceded_alike cs rest on.1 both.1 ∙ sym on.4)
+      grind (arith, common_steps, preceded_alike, (event_is_one now p t h.0 (goes cs q) h.1 event h.2))
 
   event_stops : (now : ℕ) (p : Planned P) (t m : ℕ) (fault : Error) (d : Course (Completed P) (Planned P))
       → EventAt now p t (meets fault) → Advance now p m d → (1 ≡ m) × (meets fault ≡ d)
-  event_stops now p t m fault d event (inl h) =
-      let due : (next_event p ≡ Some t) × (t ≤ now) =
-      due_at now p t (meets fault) event in absurd (none_due now p t h.0 due.0 due.1)
+  event_stops now p t m fault d event (inl h) = grind arith
   event_stops now p t m fault d event (inr h) =
-      let same : meets fault ≡ h.1 = event_is_one now p t h.0 (meets fault) h.1 event h.2 in
-      let on : AdvanceOn now (meets fault) m d =
-      subst (λ (e : Course (Completed P) (Planned P)). AdvanceOn now e m d) (sym same) h.3 in
-      (sym on.0, sym on.1)
+      grind (arith, common_steps, (event_is_one now p t h.0 (meets fault) h.1 event h.2))
 
   pub advance_is_one : {now n : ℕ} {p : Planned P} {c : Course (Completed P) (Planned P)} → Advances cmp now p n c
       → (m : ℕ) (d : Course (Completed P) (Planned P)) → Advances cmp now p m d → (n ≡ m) × (c ≡ d)
-  advance_is_one {now = now} {p = p} {c = c} (no_more before wakes) m d a = by_case (advance_of a)
-    where
-      by_case : Advance now p m d → (0 ≡ m) × (c ≡ d)
-      by_case (inl h) = (sym h.2, wake_is_one wakes d h.1)
-      by_case (inr h) =
-          let due : (next_event p ≡ Some h.0) × (h.0 ≤ now) =
-          due_at now p h.0 h.1 h.2 in absurd (none_due now p h.0 before due.0 due.1)
+  advance_is_one {now = now} {p = p} {c = c} (no_more before wakes) m d a =
+      grind (arith, advance_of, wake_is_one, due_at, none_due)
   advance_is_one {now = now} {p = p} (at_finish {q = q} {t = t} {n = n} {cs = cs} {rest = rest} finish next due event
       more) m d a =
       after_event now p q t n m cs rest d (inl (finish, next, due, event)) (advance_is_one more) (advance_of a)
@@ -516,22 +360,14 @@ module _ {P : Type 0} (cmp : P → P → Ordering) (order : IsTotalOrder cmp) wh
       → EnqueuesEach cmp now ms p c → EnqueuesEach cmp now ms p d → c ≡ d
   each_is_one now [] p c d all_enqueued all_enqueued = refl
   each_is_one now (m ∷ ms) p c d (one_stops {fault = fault} one) (one_stops {fault = other} one_too) =
-      let same : ◌≡◌ {A = Course (Completed P) (Planned P)} (meets fault) (meets other) =
-      enqueue_is_one now m p (meets fault) (meets other) one one_too in
-      let faults : fault ≡ other = cc in
-      ap meets faults
+      grind (arith, enqueue_is_one)
   each_is_one now (m ∷ ms) p c d (one_stops {fault = fault} one) (enqueues_one {q = q} {cs = cs} one_too more) =
       let same : meets fault ≡ goes cs q = enqueue_is_one now m p (meets fault) (goes cs q) one one_too in cc
   each_is_one now (m ∷ ms) p c d (enqueues_one {q = q} {cs = cs} one more) (one_stops {fault = fault} one_too) =
       let same : goes cs q ≡ meets fault = enqueue_is_one now m p (goes cs q) (meets fault) one one_too in cc
   each_is_one now (m ∷ ms) p c d (enqueues_one {q = q} {cs = cs} {rest = rest} one more)
       (enqueues_one {q = r} {cs = ds} {rest = on} one_too more_too) =
-      let same : goes cs q ≡ goes ds r = enqueue_is_one now m p (goes cs q) (goes ds r) one one_too in
-      let first : cs ≡ ds = cc in
-      let world : r ≡ q = cc in
-      let later : rest ≡ on =
-      each_is_one now ms q rest on more (subst (λ (n : Planned P). EnqueuesEach cmp now ms n on) world more_too) in
-      ap (λ (es : List (Completed P)). preceded es rest) first ∙ preceded_alike ds rest on later
+      grind (arith, enqueue_is_one, preceded_alike, (each_is_one now ms q rest on more))
 
   -- ---- any call
 

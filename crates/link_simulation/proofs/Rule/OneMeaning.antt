@@ -1,22 +1,12 @@
 -- What is simulated is the one course of the simulation.
-use Rattle.std.proofs.Common.{◌≡◌, ℕ, ◌≤◌, List, ◌++◌, Option, Some, refl, sym, ◌∙◌, subst}
-use Rattle.std.specs.List.{AllZip}
-use Rattle.std.specs.declared.cmp.Ordering.{Ordering}
-use Rattle.std.specs.Cmp.{IsTotalOrder}
-use Rattle.fair_rates.specs.declared.error.Error.{Error}
-use Rattle.fair_rates.specs.declared.error.Error.TheVariants.{OutOfMemory, NumberTooLarge, MomentTooLate, FlowIdsUsedUp}
+use Rattle.link_simulation.proofs.Common.{arith, ◌≡◌, ℕ, ◌≤◌, List, ◌++◌, Option, Some, refl, sym, ◌∙◌, subst, AllZip}
+use Rattle.link_simulation.proofs.Common.{Ordering, IsTotalOrder, Error, OutOfMemory, NumberTooLarge, MomentTooLate}
+use Rattle.link_simulation.proofs.Common.{FlowIdsUsedUp, IsSamePlanned, GoesByRule, World, Completed, goes, meets}
+use Rattle.link_simulation.proofs.Common.{Obeys, MayBeRefused, NextIs, Call, call_advance, Runs, SameCompletion, Faults}
+use Rattle.link_simulation.proofs.Common.{Planned, StandsFor, IsCalled}
 use Rattle.link_simulation.specs.Simulation.RefusalCauses.{IsRefusedFor}
-use Rattle.link_simulation.specs.Rule.SamePlanned.{IsSamePlanned, GoesByRule}
-use Rattle.link_simulation.specs.Simulation.World.{World, Completed, goes, meets}
-use Rattle.link_simulation.specs.Rule.Events.{Obeys}
-use Rattle.link_simulation.specs.Rule.Refusals.{MayBeRefused}
-use Rattle.link_simulation.specs.Simulation.Time.{NextIs}
-use Rattle.link_simulation.specs.Simulation.Calls.{Call, call_advance, Runs}
-use Rattle.link_simulation.specs.Simulation.Replies.{SameCompletion, Faults}
-use Rattle.link_simulation.specs.Rule.Planned.{Planned}
-use Rattle.link_simulation.specs.Rule.StandsFor.{StandsFor}
-use Rattle.link_simulation.specs.Rule.Simulated.{IsCalled, IsRun, RunsInTwo, IsSimulated, IsSplitAnywhere}
-use Rattle.link_simulation.specs.Rule.Simulated.{IsNextInSimulation, MeetsFault, IsRefusedInSimulation}
+use Rattle.link_simulation.specs.Rule.Simulated.{IsSimulated, IsSplitAnywhere, IsNextInSimulation, MeetsFault}
+use Rattle.link_simulation.specs.Rule.Simulated.{IsRefusedInSimulation}
 use Rattle.link_simulation.proofs.Laws.AdvanceOnward.{advance_splits}
 use Rattle.link_simulation.proofs.Rule.OneCourse.{course_is_one}
 use Rattle.link_simulation.proofs.Simulation.OneNext.{next_is_one}
@@ -28,23 +18,16 @@ module _ {P : Type 0} (cmp : P → P → Ordering) (order : IsTotalOrder cmp) wh
   alike : (cs ds es : List (Completed P)) (q : Planned P) (v u : World P) → goes ds v ≡ goes es u
       → AllZip (SameCompletion cmp) cs es
       → StandsFor cmp q u → AllZip (SameCompletion cmp) cs ds × StandsFor cmp q v
-  alike cs ds es q v u one same stands =
-      let answers : ds ≡ es = cc in
-      let world : v ≡ u = cc in (
-        subst (λ (xs : List (Completed P)). AllZip (SameCompletion cmp) cs xs) (sym answers) same,
-        subst (λ (x : World P). StandsFor cmp q x) (sym world) stands,
-      )
+  alike cs ds es q v u one same stands = grind arith
 
   pub one_run : (p q : Planned P) (w v : World P) (call : Call P) (now : ℕ) (cs ds : List (Completed P))
       → IsSimulated cmp p call cs q
       → IsCalled cmp p call now w → Runs cmp w call now (goes ds v)
       → AllZip (SameCompletion cmp) cs ds × StandsFor cmp q v
   one_run p q w v call now cs ds simulated called runs =
-      let run : IsRun cmp w call now cs q = simulated w now called in
-      alike cs ds run.answers q v run.after
-      (runs_are_one cmp order w call now (goes ds v) (goes run.answers run.after)
-      (sound_of_stands cmp order p w called.stands) runs run.runs)
-      run.same run.stands
+      let run = simulated w now called in
+      grind (arith, (alike cs ds run.answers q v run.after (runs_are_one cmp order w call now (goes ds v)
+      (goes run.answers run.after) (sound_of_stands cmp order p w called.stands) runs run.runs) run.same run.stands))
 
   pub no_fault : (p q : Planned P) (w : World P) (call : Call P) (now : ℕ) (cs : List (Completed P))
       → IsSimulated cmp p call cs q
@@ -56,14 +39,11 @@ module _ {P : Type 0} (cmp : P → P → Ordering) (order : IsTotalOrder cmp) wh
       → StandsFor cmp p w → w.moment ≤ between → between ≤ now → Runs cmp w (call_advance now) now (goes ds v)
       → AllZip (SameCompletion cmp) cs ds × StandsFor cmp q v
   one_split p q w v between now cs ds split stands after before runs =
-      let two : RunsInTwo cmp w between now cs q = split w between stands after before in
-      alike cs ds (two.first_answers ++ two.second_answers) q v two.after
-      (runs_are_one cmp order w (call_advance now) now (goes ds v)
-      (goes (two.first_answers ++ two.second_answers) two.after)
-      (sound_of_stands cmp order p w stands) runs
-      (advance_splits cmp order w two.between between now two.first_answers (goes two.second_answers two.after) after
-      before two.runs_first two.runs_second))
-      two.same two.stands
+      let two = split w between stands after before in
+      grind (arith, (alike cs ds (two.first_answers ++ two.second_answers) q v two.after (runs_are_one cmp order w
+      (call_advance now) now (goes ds v) (goes (two.first_answers ++ two.second_answers) two.after)
+      (sound_of_stands cmp order p w stands) runs (advance_splits cmp order w two.between between now two.first_answers
+      (goes two.second_answers two.after) after before two.runs_first two.runs_second)) two.same two.stands))
 
   pub one_next : (p : Planned P) (w : World P) (told next : Option ℕ) → IsNextInSimulation cmp p told
       → StandsFor cmp p w
@@ -77,31 +57,13 @@ module _ {P : Type 0} (cmp : P → P → Ordering) (order : IsTotalOrder cmp) wh
   pub one_going : (p q r : Planned P) (call : Call P) (cs ds : List (Completed P)) → GoesByRule cmp p call cs q
       → Obeys cmp p call (goes ds r)
       → AllZip (SameCompletion cmp) cs ds × IsSamePlanned cmp r q
-  one_going p q r call cs ds went obeys =
-      by_course (course_is_one cmp order p call (goes ds r) (goes went.answers went.after) obeys went.obeys)
-    where
-      by_course : goes ds r ≡ goes went.answers went.after → AllZip (SameCompletion cmp) cs ds × IsSamePlanned cmp r q
-      by_course one =
-          let answers : ds ≡ went.answers = cc in
-          let after : r ≡ went.after = cc in (
-            subst (λ (xs : List (Completed P)). AllZip (SameCompletion cmp) cs xs) (sym answers) went.same_answers,
-            subst (λ (x : Planned P). IsSamePlanned cmp x q) (sym after) went.same_after,
-          )
+  one_going p q r call cs ds went obeys = grind (arith, course_is_one)
 
   -- it is refused for memory alone
   pub not_refused : (p q : Planned P) (call : Call P) (why : Error) (cs : List (Completed P))
       → MayBeRefused cmp p call why
       → Obeys cmp p call (goes cs q) → why ≡ OutOfMemory
-  not_refused p q call why cs may obeys = by_cause why may
-    where
-      never : (fault : Error) → Obeys cmp p call (meets fault) → ⊥
-      never fault met = let one = course_is_one cmp order p call (goes cs q) (meets fault) obeys met in cc
-
-      by_cause : (why : Error) → MayBeRefused cmp p call why → why ≡ OutOfMemory
-      by_cause OutOfMemory may = refl
-      by_cause NumberTooLarge may = absurd may
-      by_cause MomentTooLate may = absurd (never MomentTooLate may)
-      by_cause FlowIdsUsedUp may = absurd (never FlowIdsUsedUp may)
+  not_refused p q call why cs may obeys = grind (arith, course_is_one)
 
   -- and so in the simulation
   pub not_refused_in_simulation : (p : Planned P) (w v : World P) (call : Call P) (now : ℕ) (why : Error)
@@ -117,8 +79,7 @@ module _ {P : Type 0} (cmp : P → P → Ordering) (order : IsTotalOrder cmp) wh
           by_fault (at, is, faults) =
               let both : Some at ≡ Some now = sym is ∙ called.moment in
               let same : at ≡ now = cc in
-              let one =
-              runs_are_one cmp order w call now (goes cs v) (meets fault)
+              let one = runs_are_one cmp order w call now (goes cs v) (meets fault)
               (sound_of_stands cmp order p w called.stands) runs
               (subst (λ (t : ℕ). Runs cmp w call t (meets fault)) same faults) in
               cc

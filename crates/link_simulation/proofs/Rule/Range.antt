@@ -1,26 +1,16 @@
 -- In the range no call meets a fault, and it leaves the planned world in the range.
-use Rattle.std.proofs.Common.{◌≡◌, ℕ, ◌+◌, ◌<◌, ◌≤◌, ◌^◌, List, [], ◌∷◌, ◌++◌, length, Bool, true, false, cond, not}
-use Rattle.std.proofs.Common.{Option, Some, None, refl, sym, ◌∙◌, subst, arith}
-use Rattle.std.specs.Prelude.{◌&&◌, nat_lt, if◌then◌else◌}
-use Rattle.std.specs.List.{filter, find, AllZip}
-use Rattle.std.specs.declared.cmp.Ordering.{Ordering}
-use Rattle.std.specs.Cmp.{IsTotalOrder}
-use Rattle.std.proofs.lemmas.Bool.{ltb-true, and_parts}
-use Rattle.fair_rates.specs.Lists.WithoutFirst.{without_first}
-use Rattle.fair_rates.specs.declared.error.Error.TheVariants.{MomentTooLate}
-use Rattle.fair_rates.specs.Numbers.Amount.{whole}
-use Rattle.link_simulation.specs.Simulation.Messages.{Message, Caps, same_pair, pair_before, is_delivered}
-use Rattle.link_simulation.specs.Simulation.World.{Completed, completion_of, Course, goes, meets, last_moment, preceded}
-use Rattle.link_simulation.specs.Simulation.World.{raised, later_of, is_late, completed}
-use Rattle.link_simulation.specs.Rule.Planned.{Planned, RatedFlight, rated_messages, drained_to, is_spent, next_of}
-use Rattle.link_simulation.specs.Rule.Planned.{queued}
-use Rattle.link_simulation.specs.Rule.Events.{Accounts, PlansStart, Launches, nothing_waits, too_early, no_id, starts}
-use Rattle.link_simulation.specs.Rule.Events.{Finishes, all_completed, late, stopped, completes, WakesEach, all_started}
-use Rattle.link_simulation.specs.Rule.Events.{no_start, no_finish, starts_one, Settles, settling, Rebalances}
-use Rattle.link_simulation.specs.Rule.Events.{none_sending, some_sending, Enqueues, at_once, no_launch, launches}
-use Rattle.link_simulation.specs.Rule.Events.{completed_at_once, with_queued, Advances, no_more, at_finish, at_start}
-use Rattle.link_simulation.specs.Rule.Events.{finish_stops, start_stops, launched, landed}
-use Rattle.fair_rates.proofs.Lists.Each.{Each, each_find, each_without, each_joined, each_map, each_filtered}
+use Rattle.link_simulation.proofs.Common.{common_steps, ◌≡◌, ℕ, ◌+◌, ◌<◌, ◌≤◌, ◌^◌, List, [], ◌∷◌, ◌++◌, length, Bool}
+use Rattle.link_simulation.proofs.Common.{true, Option, Some, None, refl, sym, subst, arith, filter, AllZip, Ordering}
+use Rattle.link_simulation.proofs.Common.{IsTotalOrder, whole, Message, Caps, Completed, Course, goes, meets}
+use Rattle.link_simulation.proofs.Common.{last_moment, preceded, is_late, completed, Planned, RatedFlight}
+use Rattle.link_simulation.proofs.Common.{rated_messages, drained_to, next_of, queued, Accounts, PlansStart, Launches}
+use Rattle.link_simulation.proofs.Common.{nothing_waits, too_early, no_id, starts, Finishes, all_completed, late}
+use Rattle.link_simulation.proofs.Common.{stopped, completes, WakesEach, all_started, no_start, no_finish, starts_one}
+use Rattle.link_simulation.proofs.Common.{Settles, settling, Rebalances, none_sending, some_sending, Enqueues, at_once}
+use Rattle.link_simulation.proofs.Common.{no_launch, launches, completed_at_once, with_queued, Advances, no_more}
+use Rattle.link_simulation.proofs.Common.{at_finish, at_start, finish_stops, start_stops, launched, landed, Each}
+use Rattle.link_simulation.proofs.Common.{each_joined, each_map, each_filtered}
+use Rattle.fair_rates.proofs.Lists.Each.{each_find, each_without}
 use Rattle.link_simulation.proofs.Simulation.SettlingEnds.{find_like, length_without}
 use Rattle.link_simulation.proofs.Simulation.Queue.{find_passes}
 
@@ -54,9 +44,7 @@ leavers_near (f ∷ fs) near = (near.0, leavers_near fs near.1)
 
 some_near : {P : Type 0} (t : ℕ) (test : RatedFlight P → Bool) (fs : List (RatedFlight P)) → Each IsNearFlight fs
     → Each IsNearFlight (filter test (drained_to t fs))
-some_near t test fs near =
-    each_map (λ f. IsNearFlight f × (test f ≡ true)) IsNearFlight (filter test (drained_to t fs)) (λ f h. h.0)
-    (each_filtered IsNearFlight test (drained_to t fs) (drained_near t fs near))
+some_near t test fs near = grind (arith, each_map, each_filtered, drained_near)
 
 both_leave : {P : Type 0} (ms ns : List (Message P)) → Each IsNear ms → Each IsNear ns → Each IsNear (ms ++ ns)
 both_leave [] ns e f = f
@@ -80,39 +68,14 @@ module _ {P : Type 0} (cmp : P → P → Ordering) (order : IsTotalOrder cmp) (m
 
   account_holds : (t : ℕ) (old new : Planned P) (leavers : List (Message P)) → Holds old
       → Accounts cmp t old leavers new → Each IsNear leavers × Holds new
-  account_holds t old new leavers h account =
-      let stay : Each IsNearFlight new.sending
-      =
-      stays_near t (filter (λ f. not (is_spent cmp old.caps f)) (drained_to t old.sending)) new.sending
-      account.stayed (some_near t (λ f. not (is_spent cmp old.caps f)) old.sending h.sending) in (
-        subst (Each IsNear) (sym account.left) (leavers_near (filter (is_spent cmp old.caps) (drained_to t old.sending))
-            (some_near t (is_spent cmp old.caps) old.sending h.sending)),
-        subst Holds (sym account.same) (record { sending = stay; waiting = h.waiting; ids = h.ids }),
-      )
+  account_holds t old new leavers h account = grind (arith, stays_near, some_near, leavers_near)
 
   -- ---- a launch
 
   launched_holds : (t : ℕ) (p : Planned P) (k m : Message P) → Holds p → next_of cmp p k ≡ Some m
       → Holds (launched cmp t p m)
   launched_holds t p k m h found =
-      let own : find (same_pair cmp m) p.waiting ≡ Some m =
-      find_like cmp order k m p.waiting (find_passes (same_pair cmp k) m p.waiting found) ∙ found in
-      let fewer : length (without_first (same_pair cmp m) p.waiting) + 1 ≡ length p.waiting =
-      length_without (same_pair cmp m) m p.waiting own in
-      let ids : p.next_id + length p.waiting ≤ most = h.ids in
-      record {
-        sending =
-            each_joined IsNearFlight p.sending (record {
-              id = p.next_id;
-              message = m;
-              left = whole (length m.bytes);
-              rate = Some
-                  (whole 0);
-              updated = t;
-            }) h.sending (each_find IsNear (same_pair cmp k) p.waiting m h.waiting found);
-        waiting = each_without IsNear (same_pair cmp m) p.waiting h.waiting;
-        ids = omega arith;
-      }
+      grind (arith, find_like, find_passes, length_without, each_joined, whole, each_find, each_without)
 
   -- a launch goes, and what leaves is in the range
   unfoldable LaunchesWell : Course (Message P) (Planned P) → Type 0
@@ -120,11 +83,7 @@ module _ {P : Type 0} (cmp : P → P → Ordering) (order : IsTotalOrder cmp) (m
   LaunchesWell (meets fault) = ⊥
 
   has_id : (p : Planned P) (k m : Message P) → Holds p → next_of cmp p k ≡ Some m → last_moment ≤ p.next_id → ⊥
-  has_id p k m h found last =
-      let fewer : length (without_first (same_pair cmp k) p.waiting) + 1 ≡ length p.waiting =
-      length_without (same_pair cmp k) m p.waiting found in
-      let ids : p.next_id + length p.waiting ≤ most = h.ids in
-      absurd (omega arith)
+  has_id p k m h found last = grind (arith, length_without)
 
   launches_well : {t : ℕ} {p : Planned P} {o : Option (Message P)} {c : Course (Message P) (Planned P)}
       → Launches cmp t p o c → (k : Message P) → next_of cmp p k ≡ o → Holds p → LaunchesWell c
@@ -141,10 +100,7 @@ module _ {P : Type 0} (cmp : P → P → Ordering) (order : IsTotalOrder cmp) (m
   landed_holds t p m h = record { sending = h.sending; waiting = h.waiting; ids = h.ids }
 
   not_late : (t : ℕ) (m : Message P) → t < 2 ^ 63 → IsNear m → is_late cmp t m ≡ true → ⊥
-  not_late t m early near e =
-      let past : last_moment < t + m.latency =
-      ltb-true last_moment (t + m.latency) (and_parts (is_delivered cmp m) (nat_lt last_moment (t + m.latency)) e).1 in
-      absurd (omega arith)
+  not_late t m early near e = grind arith
 
   looked_holds : (t : ℕ) (p q : Planned P) → Holds p → PlansStart cmp t p q → Holds q
   looked_holds t p q h looks =
@@ -173,9 +129,8 @@ module _ {P : Type 0} (cmp : P → P → Ordering) (order : IsTotalOrder cmp) (m
       let next : Each IsNear more × Holds q = launches_well launch m refl h in
       finishes_well finishes early next.0 next.1
   wakes_well (starts_one {m = m} {more = more} {q = q} {r = r} {cs = cs} {rest = rest} launch finishes wakes) early h =
-      let next : Each IsNear more × Holds q = launches_well launch m refl h in
-      let after : Holds r = finishes_well finishes early next.0 next.1 in
-      goes_on cs rest (wakes_well wakes early after)
+      grind (arith, common_steps, launches_well, finishes_well, goes_on, (wakes_well wakes early
+      (finishes_well finishes early (launches_well launch m refl h).0 (launches_well launch m refl h).1)))
 
   -- ---- settlings
 
@@ -221,46 +176,19 @@ module _ {P : Type 0} (cmp : P → P → Ordering) (order : IsTotalOrder cmp) (m
   queued_each : (Q : Message P → Type 0) (m : Message P) (ms : List (Message P)) → Q m → Each Q ms
       → Each Q (queued cmp m ms)
   queued_each Q m [] own all = (own, tt)
-  queued_each Q m (n ∷ ns) own all = by_test (pair_before cmp m n) (queued_each Q m ns own all.1)
-    where
-      by_test : (b : Bool) → Each Q (queued cmp m ns) → Each Q (if b then m ∷ n ∷ ns else n ∷ queued cmp m ns)
-      by_test true ih = (own, all)
-      by_test false ih = (all.0, ih)
+  queued_each Q m (n ∷ ns) own all = grind (arith, (queued_each Q m ns own))
 
   queued_length : (m : Message P) (ms : List (Message P)) → length (queued cmp m ms) ≡ length ms + 1
   queued_length m [] = refl
-  queued_length m (n ∷ ns) = by_test (pair_before cmp m n) (queued_length m ns)
-    where
-      by_test : (b : Bool) → length (queued cmp m ns) ≡ length ns + 1
-          → length (if b then m ∷ n ∷ ns else n ∷ queued cmp m ns) ≡ length (n ∷ ns) + 1
-      by_test true ih = omega arith
-      by_test false ih = omega (arith, ih)
+  queued_length m (n ∷ ns) = grind (arith, (queued_length m ns))
 
   queued_holds : (p : Planned P) (m : Message P) → IsNear m → p.next_id + length p.waiting + 1 ≤ most → Holds p
       → Holds (with_queued cmp p m)
-  queued_holds p m near fits h = record {
-    sending = h.sending;
-    waiting = queued_each IsNear m p.waiting near h.waiting;
-    ids = let more : length (queued cmp m p.waiting) ≡ length p.waiting + 1 = queued_length m p.waiting in omega arith;
-  }
+  queued_holds p m near fits h = grind (arith, queued_each, queued_length)
 
   at_once_well : (now : ℕ) (p : Planned P) (m : Message P) → now < 2 ^ 63 → IsNear m → Holds p
       → GoesWell (completed_at_once cmp now p m)
-  at_once_well now p m early near h = by_late (m.should_deliver && nat_lt last_moment (now + m.latency)) refl
-    where
-      at : ℕ
-      at = if m.should_deliver then later_of (p.last_arrival m.origin m.recipient) (now + m.latency) else now
-
-      by_late : (b : Bool) → (m.should_deliver && nat_lt last_moment (now + m.latency)) ≡ b
-          → GoesWell (cond b (meets MomentTooLate) (goes (completion_of m now
-          (if m.should_deliver then Some at else None) ∷ [])
-          (record p { last_arrival = raised cmp p.last_arrival m at })))
-      by_late true is =
-          let past : last_moment < now + m.latency =
-          ltb-true last_moment (now + m.latency) (and_parts m.should_deliver (nat_lt last_moment (now + m.latency))
-          is).1 in
-          absurd (omega arith)
-      by_late false is = record { sending = h.sending; waiting = h.waiting; ids = h.ids }
+  at_once_well now p m early near h = grind arith
 
   pub enqueues_well : {now : ℕ} {m : Message P} {p : Planned P} {c : Course (Completed P) (Planned P)}
       → Enqueues cmp now m p c → now < 2 ^ 63 → IsNear m

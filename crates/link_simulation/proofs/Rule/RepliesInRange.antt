@@ -1,28 +1,18 @@
 -- A call in the range is refused for memory alone, and so are the calls of a list, each with those that were made
 -- before it.
-use Rattle.std.proofs.Common.{◌≡◌, ℕ, ◌+◌, ◌<◌, ◌≤◌, ◌^◌, List, [], ◌∷◌, ◌++◌, length, All, refl, sym, ◌∙◌, ap, subst}
-use Rattle.std.proofs.Common.{append_assoc, append-nil, arith}
-use Rattle.std.specs.Prelude.{IfSome}
-use Rattle.std.specs.List.{AllZip}
-use Rattle.std.specs.declared.cmp.Ordering.{Ordering}
-use Rattle.std.specs.Cmp.{IsTotalOrder}
+use Rattle.link_simulation.proofs.Common.{◌≡◌, ℕ, ◌+◌, ◌<◌, ◌≤◌, ◌^◌, List, [], ◌∷◌, ◌++◌, length, refl, sym, subst}
+use Rattle.link_simulation.proofs.Common.{append_assoc, append-nil, arith, IfSome, Ordering, IsTotalOrder, All-nil}
+use Rattle.link_simulation.proofs.Common.{Error, OutOfMemory, NumberTooLarge, MomentTooLate, FlowIdsUsedUp, Message}
+use Rattle.link_simulation.proofs.Common.{Completed, Course, goes, meets, Call, call_enqueue, call_advance}
+use Rattle.link_simulation.proofs.Common.{call_enqueue_all, call_next, moment_of, enqueued, Reply, reply_done}
+use Rattle.link_simulation.proofs.Common.{reply_next, reply_refused, Planned, new_planned, Obeys, EnqueuesEach}
+use Rattle.link_simulation.proofs.Common.{all_enqueued, one_stops, enqueues_one, IsInRange, MayBeRefused, Obeyed, Each}
+use Rattle.link_simulation.proofs.Common.{all_of_each}
 use Rattle.std.proofs.lemmas.List.{length-append}
-use Rattle.std.proofs.lemmas.List.Elements.{All-nil, All-head}
-use Rattle.fair_rates.specs.declared.error.Error.{Error}
-use Rattle.fair_rates.specs.declared.error.Error.TheVariants.{OutOfMemory, NumberTooLarge, MomentTooLate, FlowIdsUsedUp}
-use Rattle.link_simulation.specs.Simulation.Messages.{Message}
-use Rattle.link_simulation.specs.Simulation.World.{Completed, Course, goes, meets}
-use Rattle.link_simulation.specs.Simulation.Calls.{Call, call_limit, call_limit_link, call_enqueue, call_advance}
-use Rattle.link_simulation.specs.Simulation.Calls.{call_enqueue_all, call_next, moment_of}
-use Rattle.link_simulation.specs.Laws.PairCompletions.{enqueued}
-use Rattle.link_simulation.specs.Simulation.Replies.{Reply, reply_done, reply_next, reply_refused, SameCompletion}
-use Rattle.link_simulation.specs.Rule.Planned.{Planned, new_planned}
-use Rattle.link_simulation.specs.Rule.Events.{Obeys}
-use Rattle.link_simulation.specs.Rule.Events.{EnqueuesEach, all_enqueued, one_stops, enqueues_one}
-use Rattle.link_simulation.specs.Rule.Range.{AreInRange, IsInRange, IsCallInRange}
-use Rattle.link_simulation.specs.Rule.Refusals.{MayBeRefused, Obeyed}
+use Rattle.std.proofs.lemmas.List.Elements.{All-head}
+use Rattle.link_simulation.specs.Rule.Range.{AreInRange, IsCallInRange}
 use Rattle.link_simulation.specs.Laws.Replies.{RefusesForMemoryAlone}
-use Rattle.fair_rates.proofs.Lists.Each.{Each, each_of_all, all_of_each, all_of_both}
+use Rattle.fair_rates.proofs.Lists.Each.{each_of_all, all_of_both}
 use Rattle.link_simulation.proofs.Laws.PairCompletions.{enqueued_split}
 use Rattle.link_simulation.proofs.Rule.Range.{Holds, IsNear, IsNearFlight, GoesWell, rebalances_well, enqueues_well}
 use Rattle.link_simulation.proofs.Rule.Range.{advances_well, goes_on}
@@ -36,11 +26,7 @@ IsSoon call = IfSome (moment_of call) (λ now. now < 2 ^ 63)
 enqueued_joined : {P : Type 0} (calls : List (Call P)) (call : Call P)
     → enqueued (calls ++ call ∷ []) ≡ enqueued calls ++ enqueued (call ∷ [])
 enqueued_joined [] call = refl
-enqueued_joined (first ∷ calls) call =
-    sym (enqueued_split first (calls ++ call ∷ []))
-    ∙ ap (λ ms. enqueued (first ∷ []) ++ ms) (enqueued_joined calls call)
-    ∙ sym (append_assoc (enqueued (first ∷ [])) (enqueued calls) (enqueued (call ∷ [])))
-    ∙ ap (λ ms. ms ++ enqueued (call ∷ [])) (enqueued_split first calls)
+enqueued_joined (first ∷ calls) call = grind (arith, enqueued_split, append_assoc, (enqueued_joined calls call))
 
 -- the calls before the last one are in the range, and so is that one
 record IsSplit {P : Type 0} (calls : List (Call P)) (call : Call P) : Type 0 where
@@ -50,21 +36,7 @@ record IsSplit {P : Type 0} (calls : List (Call P)) (call : Call P) : Type 0 whe
 
 range_splits : {P : Type 0} (calls : List (Call P)) (call : Call P) → AreInRange (calls ++ call ∷ [])
     → IsSplit calls call
-range_splits {P} calls call range =
-    let moments : All (IsSoon {P = P}) calls × All (IsSoon {P = P}) (call ∷ []) =
-    all_of_both (IsSoon {P = P}) calls (call ∷ []) range.moments in
-    let latencies : All (IsNear {P = P}) (enqueued calls) × All (IsNear {P = P}) (enqueued (call ∷ []))
-    =
-    all_of_both (IsNear {P = P}) (enqueued calls) (enqueued (call ∷ []))
-    (subst (λ (ms : List (Message P)). All (IsNear {P = P}) ms) (enqueued_joined calls call) range.latencies) in
-    let count : length (enqueued (calls ++ call ∷ [])) ≡ length (enqueued calls) + length (enqueued (call ∷ []))
-    = ap length (enqueued_joined calls call) ∙ length-append (enqueued calls) (enqueued (call ∷ [])) in
-    let all : length (enqueued (calls ++ call ∷ [])) < 2 ^ 64 = range.messages in
-    record {
-      before = record { moments = moments.0; latencies = latencies.0; messages = omega arith };
-      call_itself = record { moments = moments.1; latencies = latencies.1; messages = omega arith };
-      count = count;
-    }
+range_splits {P} calls call range = grind (arith, all_of_both, enqueued_joined, length-append)
 
 pub new_in_range : {P : Type 0} (id : ℕ) → id < 2 ^ 64 → IsInRange {P = P} (new_planned id)
 new_in_range {P} id fits =
@@ -73,9 +45,7 @@ new_in_range {P} id fits =
 module _ {P : Type 0} (cmp : P → P → Ordering) (order : IsTotalOrder cmp) where
   more_room : (most more : ℕ) (room : most < 2 ^ 64) (wide : more < 2 ^ 64) (p : Planned P) → most ≤ more
       → Holds cmp order most room p → Holds cmp order more wide p
-  more_room most more room wide p le h =
-      let ids : p.next_id + length p.waiting ≤ most = h.ids in
-      record { sending = h.sending; waiting = h.waiting; ids = omega arith }
+  more_room most more room wide p le h = grind arith
 
   -- messages in the range, one after another
   each_well : {now : ℕ} {ms : List (Message P)} {p : Planned P} {c : Course (Completed P) (Planned P)}
@@ -89,11 +59,8 @@ module _ {P : Type 0} (cmp : P → P → Ordering) (order : IsTotalOrder cmp) wh
       h =
       let first : ℕ = p.next_id + length p.waiting + 1 in
       let some : first < 2 ^ 64 = omega arith in
-      let narrow : Holds cmp order first some p =
-      record { sending = h.sending; waiting = h.waiting; ids = omega arith } in
-      let next : Holds cmp order first some q =
-      enqueues_well cmp order first some one early near.0 (omega arith) narrow in
-      let ids : q.next_id + length q.waiting ≤ first = next.ids in
+      let narrow : Holds cmp order first some p = grind arith in
+      let next = enqueues_well cmp order first some one early near.0 (omega arith) narrow in
       goes_on cmp order most room cs rest
       (each_well more early near.1 most room (omega arith) (more_room first most some room q (omega arith) next))
 
@@ -107,21 +74,12 @@ module _ {P : Type 0} (cmp : P → P → Ordering) (order : IsTotalOrder cmp) wh
     obeys_well : (p : Planned P) (call : Call P) (c : Course (Completed P) (Planned P)) → AreInRange (call ∷ [])
         → p.next_id + length p.waiting + length (enqueued (call ∷ [])) ≤ most → Holds cmp order most room p
         → Obeys cmp p call c → GoesWell cmp order most room c
-    obeys_well p (call_limit now peer egress ingress) c own fits h obeys =
-        rebalances_well cmp order most room obeys (soon (call_limit now peer egress ingress) own) h
-    obeys_well p (call_limit_link now origin recipient cap) c own fits h obeys =
-        rebalances_well cmp order most room obeys (soon (call_limit_link now origin recipient cap) own) h
-    obeys_well p (call_enqueue now m) c own fits h obeys =
-        enqueues_well cmp order most room obeys (soon (call_enqueue now m) own)
-        (All-head (IsNear {P = P}) m [] own.latencies) fits h
-    obeys_well p (call_enqueue_all now ms) c own fits h obeys =
-        each_well obeys (soon (call_enqueue_all now ms) own)
-        (each_of_all (IsNear {P = P}) ms
-        (subst (λ (ns : List (Message P)). All (IsNear {P = P}) ns) (append-nil ms) own.latencies)) most room
-        (subst (λ (ns : List (Message P)). p.next_id + length p.waiting + length ns ≤ most) (append-nil ms) fits) h
+    obeys_well p (call_enqueue now m) c own fits h obeys = grind (arith, enqueues_well, soon, All-head)
+    obeys_well p (call_enqueue_all now ms) c own fits h obeys = search (each_well, soon, each_of_all, append-nil)
     obeys_well p (call_advance now) c own fits h obeys =
         advances_well cmp order most room obeys.1 (soon (call_advance now) own) h
     obeys_well p call_next c own fits h obeys = subst (GoesWell cmp order most room) (sym obeys) h
+    obeys_well p call c own fits h obeys = rebalances_well cmp order most room obeys (soon call own) h
 
     -- and is refused for memory alone
     refused_for_memory : (p : Planned P) (call : Call P) (why : Error) → AreInRange (call ∷ [])
@@ -138,20 +96,10 @@ module _ {P : Type 0} (cmp : P → P → Ordering) (order : IsTotalOrder cmp) wh
 
   holds_in_range : (most : ℕ) (room : most < 2 ^ 64) (p : Planned P) → IsInRange p → p.next_id + length p.waiting ≤ most
       → Holds cmp order most room p
-  holds_in_range most room p range fits = record {
-    sending = each_of_all (IsNearFlight {P = P}) p.sending range.sending;
-    waiting = each_of_all (IsNear {P = P}) p.waiting range.waiting;
-    ids = fits;
-  }
+  holds_in_range most room p range fits = grind (arith, each_of_all)
 
   range_of_holds : (most : ℕ) (room : most < 2 ^ 64) (p : Planned P) → Holds cmp order most room p → IsInRange p
-  range_of_holds most room p h =
-      let ids : p.next_id + length p.waiting ≤ most = h.ids in
-      record {
-        sending = all_of_each (IsNearFlight {P = P}) p.sending h.sending;
-        waiting = all_of_each (IsNear {P = P}) p.waiting h.waiting;
-        ids = omega arith;
-      }
+  range_of_holds most room p h = grind (arith, all_of_each)
 
   -- a call in the range leads from the range to the range
   pub obeys_in_range : (p : Planned P) (call : Call P) (c : Course (Completed P) (Planned P)) → IsCallInRange p call
@@ -186,7 +134,6 @@ module _ {P : Type 0} (cmp : P → P → Ordering) (order : IsTotalOrder cmp) wh
   reached_next earlier call p q cs reached obeys range =
       let both : IsSplit earlier call = range_splits earlier call range in
       let before : Holds cmp order (length (enqueued earlier)) both.before.messages p = reached both.before in
-      let ids : p.next_id + length p.waiting ≤ length (enqueued earlier) = before.ids in
       obeys_well (length (enqueued (earlier ++ call ∷ []))) range.messages p call (goes cs q) both.call_itself
       (omega arith)
       (more_room (length (enqueued earlier)) (length (enqueued (earlier ++ call ∷ []))) both.before.messages
@@ -198,7 +145,6 @@ module _ {P : Type 0} (cmp : P → P → Ordering) (order : IsTotalOrder cmp) wh
   for_memory earlier call p why reached may range =
       let both : IsSplit earlier call = range_splits earlier call range in
       let before : Holds cmp order (length (enqueued earlier)) both.before.messages p = reached both.before in
-      let ids : p.next_id + length p.waiting ≤ length (enqueued earlier) = before.ids in
       refused_for_memory (length (enqueued (earlier ++ call ∷ []))) range.messages p call why both.call_itself
       (omega arith)
       (more_room (length (enqueued earlier)) (length (enqueued (earlier ++ call ∷ []))) both.before.messages
@@ -211,19 +157,13 @@ module _ {P : Type 0} (cmp : P → P → Ordering) (order : IsTotalOrder cmp) wh
   from_there (call ∷ calls) (reply_next next ∷ replies) earlier p reached obeyed =
       from_there calls replies earlier p reached (obeyed_next cmp p calls replies call next obeyed)
   from_there (call ∷ calls) (reply_refused why ∷ replies) earlier p reached obeyed =
-      let both : MayBeRefused cmp p call why × Obeyed cmp p calls replies =
-      obeyed_refused cmp p calls replies call why obeyed in
-      (for_memory earlier call p why reached both.0, from_there calls replies earlier p reached both.1)
+      grind (arith, obeyed_refused, for_memory, (from_there calls replies earlier p reached))
   from_there (call ∷ calls) (reply_done cs ∷ replies) earlier p reached obeyed =
-      let step : (ds : List (Completed P)) × (q : Planned P) × Obeys cmp p call (goes ds q)
-      × AllZip (SameCompletion cmp) cs ds × Obeyed cmp q calls replies
-      = obeyed_done cmp p calls replies call cs obeyed in
+      let step = obeyed_done cmp p calls replies call cs obeyed in
       from_there calls replies (earlier ++ call ∷ []) step.1 (reached_next earlier call p step.1 step.0 reached step.2)
       step.4
 
   pub refuses_for_memory : (calls : List (Call P)) (replies : List (Reply P)) → Obeyed cmp (new_planned 0) calls replies
       → RefusesForMemoryAlone [] calls replies
   unfolding Reached
-  refuses_for_memory calls replies obeyed =
-      from_there calls replies [] (new_planned 0) (λ range. record { sending = tt; waiting = tt; ids = omega arith })
-      obeyed
+  refuses_for_memory calls replies obeyed = grind (arith, from_there)

@@ -1,32 +1,22 @@
 -- A call has the same course on planned worlds that are the same up to equal peers.
-use Rattle.std.proofs.Common.{◌≡◌, ℕ, ◌<◌, ◌≤◌, List, [], ◌∷◌, ◌++◌, true, not, Option, Some, None, refl, sym, ◌∙◌}
-use Rattle.std.proofs.Common.{subst}
-use Rattle.std.specs.Prelude.{IfSome}
-use Rattle.std.specs.List.{filter, AllZip}
-use Rattle.std.specs.declared.cmp.Ordering.{Ordering}
-use Rattle.std.specs.Cmp.{IsTotalOrder}
-use Rattle.fair_rates.specs.declared.error.Error.TheVariants.{MomentTooLate, FlowIdsUsedUp}
-use Rattle.link_simulation.specs.Simulation.Messages.{Message, Caps, CapsAlike, SameMessage}
-use Rattle.link_simulation.specs.Simulation.Rates.{Parts, rate_of}
-use Rattle.link_simulation.specs.Simulation.World.{Completed, Course, goes, meets, last_moment, preceded, fronts}
-use Rattle.link_simulation.specs.Simulation.World.{completed}
-use Rattle.link_simulation.specs.Simulation.Calls.{Call, limited_by, linked_by}
-use Rattle.link_simulation.specs.Simulation.Replies.{SameCompletion}
-use Rattle.link_simulation.specs.Rule.Planned.{Planned, RatedFlight, IsLeastMoment, SomeSpentAt, SomeReadyAt}
-use Rattle.link_simulation.specs.Rule.Planned.{rated_messages, drained_to, next_of, may_launch, is_spent}
-use Rattle.link_simulation.specs.Rule.Events.{Accounts, PlansStart, Launches, nothing_waits, too_early, no_id, starts}
-use Rattle.link_simulation.specs.Rule.Events.{launched, landed, Finishes, all_completed, late, stopped, completes}
-use Rattle.link_simulation.specs.Rule.Events.{WakesEach, all_started, no_start, no_finish, starts_one, Wakes, Settles}
-use Rattle.link_simulation.specs.Rule.Events.{settling, Rebalances, none_sending, some_sending, completed_at_once}
-use Rattle.link_simulation.specs.Rule.Events.{with_queued, Enqueues, at_once, no_launch, launches, Advances, no_more}
-use Rattle.link_simulation.specs.Rule.Events.{at_finish, at_start, finish_stops, start_stops, Obeys}
-use Rattle.link_simulation.specs.Rule.Events.{EnqueuesEach, all_enqueued, one_stops, enqueues_one}
-use Rattle.link_simulation.specs.Rule.SamePlanned.{IsSameRatedFlight, IsSamePlanned, IsSameCall, same_limit}
-use Rattle.link_simulation.specs.Rule.SamePlanned.{same_limit_link, same_enqueue, same_enqueue_all}
-use Rattle.link_simulation.specs.Rule.SamePlanned.{same_advance, same_next, IsSameCourse}
+use Rattle.link_simulation.proofs.Common.{arith, ◌≡◌, ℕ, ◌<◌, ◌≤◌, List, [], ◌∷◌, ◌++◌, true, not, Option, Some, None}
+use Rattle.link_simulation.proofs.Common.{refl, sym, ◌∙◌, subst, IfSome, filter, AllZip, Ordering, IsTotalOrder}
+use Rattle.link_simulation.proofs.Common.{MomentTooLate, FlowIdsUsedUp, Message, Caps, CapsAlike, SameMessage, Parts}
+use Rattle.link_simulation.proofs.Common.{rate_of, Completed, Course, goes, meets, last_moment, preceded, fronts}
+use Rattle.link_simulation.proofs.Common.{completed, Call, limited_by, linked_by, SameCompletion, Planned, RatedFlight}
+use Rattle.link_simulation.proofs.Common.{IsLeastMoment, SomeSpentAt, SomeReadyAt, rated_messages, drained_to, next_of}
+use Rattle.link_simulation.proofs.Common.{may_launch, is_spent, Accounts, PlansStart, Launches, nothing_waits}
+use Rattle.link_simulation.proofs.Common.{too_early, no_id, starts, launched, landed, Finishes, all_completed, late}
+use Rattle.link_simulation.proofs.Common.{stopped, completes, WakesEach, all_started, no_start, no_finish, starts_one}
+use Rattle.link_simulation.proofs.Common.{Wakes, Settles, settling, Rebalances, none_sending, some_sending}
+use Rattle.link_simulation.proofs.Common.{completed_at_once, with_queued, Enqueues, at_once, no_launch, launches}
+use Rattle.link_simulation.proofs.Common.{Advances, no_more, at_finish, at_start, finish_stops, start_stops, Obeys}
+use Rattle.link_simulation.proofs.Common.{EnqueuesEach, all_enqueued, one_stops, enqueues_one, IsSameRatedFlight}
+use Rattle.link_simulation.proofs.Common.{IsSamePlanned, same_limit, same_limit_link, same_enqueue, same_enqueue_all}
+use Rattle.link_simulation.proofs.Common.{same_advance, same_next, zip-append}
+use Rattle.link_simulation.specs.Rule.SamePlanned.{IsSameCall, IsSameCourse}
 use Rattle.link_simulation.proofs.Simulation.AlikeMessages.{fair_alike}
 use Rattle.link_simulation.proofs.Rule.Launch.{OptionsAlike}
-use Rattle.fair_rates.proofs.Lists.Zips.{zip-append}
 use Rattle.link_simulation.proofs.Rule.SameSteps.{least_same, none_same, some_same, IsSameLaunch, course_went}
 use Rattle.link_simulation.proofs.Rule.SameSteps.{course_met, launch_went, launch_met, limited_by_same, linked_by_same}
 use Rattle.link_simulation.proofs.Rule.SameSteps.{flows_same, some_spent_same, leaving_same, staying_same, may_same}
@@ -55,16 +45,7 @@ module _ {P : Type 0} (cmp : P → P → Ordering) (order : IsTotalOrder cmp) wh
   rerated_same t [] (n ∷ ns) gs stays all = absurd stays
   rerated_same t (f ∷ fs) [] gs stays all = absurd stays
   rerated_same t (f ∷ fs) (n ∷ ns) [] stays all = absurd all
-  rerated_same t (f ∷ fs) (n ∷ ns) (g ∷ gs) stays all = (
-    record {
-      id = stays.0.0 ∙ all.0.id;
-      message = subst (λ (m : Message P). SameMessage cmp m g.message) (sym stays.0.1) all.0.message;
-      left = stays.0.2 ∙ all.0.left;
-      rate = refl;
-      updated = stays.0.3;
-    },
-    rerated_same t fs ns gs stays.1 all.1,
-  )
+  rerated_same t (f ∷ fs) (n ∷ ns) (g ∷ gs) stays all = grind (arith, (rerated_same t fs ns gs))
 
   rerated_stays : (t : ℕ) (fs ns gs : List (RatedFlight P)) → AllZip (Stays t) fs ns
       → AllZip (IsSameRatedFlight cmp) fs gs → AllZip (Stays t) gs (rerated t ns gs)
@@ -90,10 +71,7 @@ module _ {P : Type 0} (cmp : P → P → Ordering) (order : IsTotalOrder cmp) wh
   -- something has nothing left at the same moments
   pub finish_so : (fs gs : List (RatedFlight P)) (o : Option ℕ) → AllZip (IsSameRatedFlight cmp) fs gs
       → IsLeastMoment (λ s. SomeSpentAt fs s) o → IsLeastMoment (λ s. SomeSpentAt gs s) o
-  finish_so fs gs o all least =
-      least_same (λ s. SomeSpentAt fs s) (λ s. SomeSpentAt gs s) o (λ s. some_spent_same cmp order fs gs s all)
-      (λ s. some_spent_same cmp order gs fs s (zip_turned (IsSameRatedFlight cmp) (IsSameRatedFlight cmp)
-      (paced_turned cmp order) fs gs all)) least
+  finish_so fs gs o all least = search (least_same, some_spent_same, zip_turned, paced_turned)
 
   -- the same account of a planned world
   abbrev pub Accounted : ℕ → Planned P → List (Message P) → Planned P → Type 0
@@ -153,37 +131,28 @@ module _ {P : Type 0} (cmp : P → P → Ordering) (order : IsTotalOrder cmp) wh
         subst (λ (z : Planned P). IsSamePlanned cmp z n) (sym looks.same) (planned_same cmp order p q same new.start),
       )
 
-  abbrev pub LaunchWent : ℕ → Planned P → Option (Message P) → List (Message P) → Planned P → Type 0
-  LaunchWent t q r ms p =
-      (ns : List (Message P)) × (s : Planned P) × Launches cmp t q r (goes ns s) × AllZip (SameMessage cmp) ms ns
-      × IsSamePlanned cmp p s
-
   launch_same : {t : ℕ} {p : Planned P} {o : Option (Message P)} {course : Course (Message P) (Planned P)}
       → Launches cmp t p o course → (q : Planned P) (r : Option (Message P))
       → IsSamePlanned cmp p q → OptionsAlike (SameMessage cmp) o r
       → (c : Course (Message P) (Planned P)) × Launches cmp t q r c × IsSameLaunch cmp order course c
   launch_same nothing_waits q None same alike = (goes [] q, nothing_waits, (tt, same))
-  launch_same nothing_waits q (Some n) same alike = absurd alike
-  launch_same (too_early early) q None same alike = absurd alike
   launch_same {t = t} {p = p} (too_early {m = m} early) q (Some n) same alike =
       (goes [] q, too_early (sym (may_same cmp order p q same t m n alike) ∙ early), (tt, same))
-  launch_same (no_id may last) q None same alike = absurd alike
   launch_same {t = t} {p = p} (no_id {m = m} may last) q (Some n) same alike = (
     meets FlowIdsUsedUp,
     no_id (sym (may_same cmp order p q same t m n alike) ∙ may)
         (subst (λ (k : ℕ). last_moment ≤ k) same.next_id last),
     refl,
   )
-  launch_same (starts may below account) q None same alike = absurd alike
   launch_same {t = t} {p = p} (starts {m = m} {leavers = leavers} {new = new} may below account) q (Some n) same alike =
-      let a : Accounted t (launched cmp t q n) leavers new =
-      accounts_same t (launched cmp t p m) (launched cmp t q n) leavers new
+      let a = accounts_same t (launched cmp t p m) (launched cmp t q n) leavers new
       (launched_same cmp order p q same t m n alike) account in (
         goes a.0 a.1,
         starts (sym (may_same cmp order p q same t m n alike) ∙ may)
             (subst (λ (k : ℕ). k < last_moment) same.next_id below) a.2,
         (a.3, a.4),
       )
+  launch_same _ q _ same alike = absurd alike
 
   pub preceded_same : (cs ds : List (Completed P)) (x y : Course (Completed P) (Planned P))
       → AllZip (SameCompletion cmp) cs ds → IsSameCourse cmp x y
@@ -201,11 +170,8 @@ module _ {P : Type 0} (cmp : P → P → Ordering) (order : IsTotalOrder cmp) wh
   finish_same {t = t} (all_completed {p = p} {q = r} looks) [] q same all =
       let l : (n : Planned P) × PlansStart cmp t q n × IsSamePlanned cmp r n = looks_same t p q r same looks in
       (goes [] l.0, all_completed l.1, (tt, l.2))
-  finish_same (all_completed looks) (n ∷ ns) q same all = absurd all
-  finish_same (late is) [] q same all = absurd all
   finish_same {t = t} (late {m = m} is) (n ∷ ns) q same all =
       (meets MomentTooLate, late (sym (late_alike cmp order t m n all.0) ∙ is), refl)
-  finish_same (stopped is launch) [] q same all = absurd all
   finish_same {t = t} (stopped {m = m} {p = p} {fault = fault} is launch) (n ∷ ns) q same all = (
     meets fault,
     stopped (sym (late_alike cmp order t m n all.0) ∙ is)
@@ -214,16 +180,12 @@ module _ {P : Type 0} (cmp : P → P → Ordering) (order : IsTotalOrder cmp) wh
         (next_same cmp order p q same m n all.0))),
     refl,
   )
-  finish_same (completes is launch finishes) [] q same all = absurd all
   finish_same {t = t} (completes {m = m} {ms = ms} {more = more} {p = p} {q = s} {rest = rest} is launch finishes)
       (n ∷ ns) q same all =
-      let went : LaunchWent t (landed cmp t q n) (next_of cmp q n) more s
-      = launch_went cmp order (λ c. Launches cmp t (landed cmp t q n) (next_of cmp q n) c) more s
-      (launch_same launch (landed cmp t q n) (next_of cmp q n) (landed_same cmp order p q same t m n all.0)
+      let went = launch_went cmp order (λ c. Launches cmp t (landed cmp t q n) (next_of cmp q n) c) more s (launch_same
+      launch (landed cmp t q n) (next_of cmp q n) (landed_same cmp order p q same t m n all.0)
       (next_same cmp order p q same m n all.0)) in
-      let later : (c : Course (Completed P) (Planned P)) × Finishes cmp t (ns ++ went.0) went.1 c
-      × IsSameCourse cmp rest c
-      = finish_same finishes (ns ++ went.0) went.1 went.4
+      let later = finish_same finishes (ns ++ went.0) went.1 went.4
       (zip-append (SameMessage cmp) ms more ns went.0 all.1 went.3) in (
         preceded (completed cmp t n ∷ []) later.0,
         completes {rest = later.0}
@@ -231,13 +193,9 @@ module _ {P : Type 0} (cmp : P → P → Ordering) (order : IsTotalOrder cmp) wh
         preceded_same (completed cmp t m ∷ []) (completed cmp t n ∷ []) rest later.0
             (completed_alike cmp order t m n all.0, tt) later.2,
       )
+  finish_same _ _ q same all = absurd all
 
   -- ---- waking and settling
-
-  abbrev FinishWent : ℕ → List (Message P) → Planned P → List (Completed P) → Planned P → Type 0
-  FinishWent t ns q cs p =
-      (ds : List (Completed P)) × (s : Planned P) × Finishes cmp t ns q (goes ds s) × AllZip (SameCompletion cmp) cs ds
-      × IsSamePlanned cmp p s
 
   wake_same : {t : ℕ} {ms : List (Message P)} {p : Planned P} {course : Course (Completed P) (Planned P)}
       → WakesEach cmp t ms p course → (ns : List (Message P)) (q : Planned P)
@@ -246,8 +204,6 @@ module _ {P : Type 0} (cmp : P → P → Ordering) (order : IsTotalOrder cmp) wh
   wake_same {t = t} (all_started {p = p} {q = r} looks) [] q same all =
       let l : (n : Planned P) × PlansStart cmp t q n × IsSamePlanned cmp r n = looks_same t p q r same looks in
       (goes [] l.0, all_started l.1, (tt, l.2))
-  wake_same (all_started looks) (n ∷ ns) q same all = absurd all
-  wake_same (no_start launch) [] q same all = absurd all
   wake_same {t = t} (no_start {m = m} {p = p} {fault = fault} launch) (n ∷ ns) q same all = (
     meets fault,
     no_start
@@ -255,11 +211,9 @@ module _ {P : Type 0} (cmp : P → P → Ordering) (order : IsTotalOrder cmp) wh
         (launch_same launch q (next_of cmp q n) same (next_same cmp order p q same m n all.0))),
     refl,
   )
-  wake_same (no_finish launch finishes) [] q same all = absurd all
   wake_same {t = t} (no_finish {m = m} {more = more} {p = p} {q = s} {fault = fault} launch finishes) (n ∷ ns) q same
       all =
-      let went : LaunchWent t q (next_of cmp q n) more s
-      = launch_went cmp order (λ c. Launches cmp t q (next_of cmp q n) c) more s
+      let went = launch_went cmp order (λ c. Launches cmp t q (next_of cmp q n) c) more s
       (launch_same launch q (next_of cmp q n) same (next_same cmp order p q same m n all.0)) in (
         meets fault,
         no_finish went.2
@@ -267,22 +221,19 @@ module _ {P : Type 0} (cmp : P → P → Ordering) (order : IsTotalOrder cmp) wh
             (finish_same finishes went.0 went.1 went.4 went.3)),
         refl,
       )
-  wake_same (starts_one launch finishes wakes) [] q same all = absurd all
   wake_same {t = t}
       (starts_one {m = m} {ms = ms} {more = more} {p = p} {q = s} {r = r} {cs = cs} {rest = rest} launch finishes wakes)
       (n ∷ ns) q same all =
-      let went : LaunchWent t q (next_of cmp q n) more s
-      = launch_went cmp order (λ c. Launches cmp t q (next_of cmp q n) c) more s
+      let went = launch_went cmp order (λ c. Launches cmp t q (next_of cmp q n) c) more s
       (launch_same launch q (next_of cmp q n) same (next_same cmp order p q same m n all.0)) in
-      let done : FinishWent t went.0 went.1 cs r
-      = course_went cmp order (λ c. Finishes cmp t went.0 went.1 c) cs r
+      let done = course_went cmp order (λ c. Finishes cmp t went.0 went.1 c) cs r
       (finish_same finishes went.0 went.1 went.4 went.3) in
-      let later : (c : Course (Completed P) (Planned P)) × WakesEach cmp t ns done.1 c × IsSameCourse cmp rest c =
-      wake_same wakes ns done.1 done.4 all.1 in (
+      let later = wake_same wakes ns done.1 done.4 all.1 in (
         preceded done.0 later.0,
         starts_one {rest = later.0} went.2 done.2 later.1,
         preceded_same cs done.0 rest later.0 done.3 later.2,
       )
+  wake_same _ _ q same all = absurd all
 
   pub wakes_same : (t : ℕ) (p q : Planned P) (course : Course (Completed P) (Planned P)) → IsSamePlanned cmp p q
       → Wakes cmp t p course
@@ -295,8 +246,7 @@ module _ {P : Type 0} (cmp : P → P → Ordering) (order : IsTotalOrder cmp) wh
       → (c : Course (Completed P) (Planned P)) × Settles cmp t q c × IsSameCourse cmp course c
   settle_same {t = t} {p = p} {course = course} (settling {leavers = leavers} {mid = mid} accounts finishes) q same =
       let a : Accounted t q leavers mid = accounts_same t p q leavers mid same accounts in
-      let done : (c : Course (Completed P) (Planned P)) × Finishes cmp t a.0 a.1 c × IsSameCourse cmp course c =
-      finish_same finishes a.0 a.1 a.4 a.3 in
+      let done = finish_same finishes a.0 a.1 a.4 a.3 in
       (done.0, settling a.2 done.1, done.2)
 
   -- ---- calls
@@ -306,19 +256,15 @@ module _ {P : Type 0} (cmp : P → P → Ordering) (order : IsTotalOrder cmp) wh
       → CapsAlike cmp caps others → IsSamePlanned cmp p q
       → (c : Course (Completed P) (Planned P)) × Rebalances cmp now others q c × IsSameCourse cmp course c
   rebalance_same {now = now} {caps = caps} {p = p} (none_sending {new = new} empty looks) others q alike same =
-      let l : (n : Planned P) × PlansStart cmp now (record q { caps = others; limited = true }) n
-      × IsSamePlanned cmp new n
-      = looks_same now (record p { caps = caps; limited = true }) (record q { caps = others; limited = true }) new
-      (recapped_same cmp order p q same caps others alike) looks in (
+      let l = looks_same now (record p { caps = caps; limited = true }) (record q { caps = others; limited = true })
+      new (recapped_same cmp order p q same caps others alike) looks in (
         goes [] l.0,
         none_sending (none_same (IsSameRatedFlight cmp) p.sending q.sending same.sending empty) l.1,
         (tt, l.2),
       )
   rebalance_same {now = now} {caps = caps} {p = p} {course = course} (some_sending some settles) others q alike same =
-      let done : (c : Course (Completed P) (Planned P)) × Settles cmp now (record q { caps = others; limited = true }) c
-      × IsSameCourse cmp course c
-      = settle_same settles (record q { caps = others; limited = true })
-      (recapped_same cmp order p q same caps others alike) in
+      let done = settle_same settles (record q { caps = others; limited = true }) (recapped_same cmp order p q same
+      caps others alike) in
       (done.0, some_sending (some_same (IsSameRatedFlight cmp) p.sending q.sending same.sending some) done.1, done.2)
 
   enqueue_same : {now : ℕ} {m : Message P} {p : Planned P} {course : Course (Completed P) (Planned P)}
@@ -331,8 +277,7 @@ module _ {P : Type 0} (cmp : P → P → Ordering) (order : IsTotalOrder cmp) wh
     at_once_same cmp order p q same now m n messages,
   )
   enqueue_same {now = now} {m = m} {p = p} (no_launch {fault = fault} limited launch) n q messages same =
-      let queues : IsSamePlanned cmp (with_queued cmp p m) (with_queued cmp q n) =
-      with_queued_same cmp order p q same m n messages in (
+      let queues : IsSamePlanned cmp (with_queued cmp p m) (with_queued cmp q n) = grind (arith, with_queued_same) in (
         meets fault,
         no_launch (sym same.limited ∙ limited)
             (launch_met cmp order (λ c. Launches cmp now (with_queued cmp q n)
@@ -343,15 +288,12 @@ module _ {P : Type 0} (cmp : P → P → Ordering) (order : IsTotalOrder cmp) wh
       )
   enqueue_same {now = now} {m = m} {p = p} {course = course}
       (launches {leavers = leavers} {mid = mid} limited launch finishes) n q messages same =
-      let queues : IsSamePlanned cmp (with_queued cmp p m) (with_queued cmp q n) =
-      with_queued_same cmp order p q same m n messages in
-      let went : LaunchWent now (with_queued cmp q n) (next_of cmp (with_queued cmp q n) n) leavers mid
-      = launch_went cmp order (λ c. Launches cmp now (with_queued cmp q n)
-      (next_of cmp (with_queued cmp q n) n) c) leavers mid
-      (launch_same launch (with_queued cmp q n) (next_of cmp (with_queued cmp q n) n) queues
+      let queues : IsSamePlanned cmp (with_queued cmp p m) (with_queued cmp q n) = grind (arith, with_queued_same) in
+      let went = launch_went cmp order
+      (λ c. Launches cmp now (with_queued cmp q n) (next_of cmp (with_queued cmp q n) n) c) leavers mid (launch_same
+      launch (with_queued cmp q n) (next_of cmp (with_queued cmp q n) n) queues
       (next_same cmp order (with_queued cmp p m) (with_queued cmp q n) queues m n messages)) in
-      let done : (c : Course (Completed P) (Planned P)) × Finishes cmp now went.0 went.1 c × IsSameCourse cmp course c =
-      finish_same finishes went.0 went.1 went.4 went.3 in
+      let done = finish_same finishes went.0 went.1 went.4 went.3 in
       (done.0, launches {course = done.0} (sym same.limited ∙ limited) went.2 done.1, done.2)
 
   abbrev pub Went : (Course (Completed P) (Planned P) → Type 0) → List (Completed P) → Planned P → Type 0
@@ -364,41 +306,34 @@ module _ {P : Type 0} (cmp : P → P → Ordering) (order : IsTotalOrder cmp) wh
       → AllZip (SameMessage cmp) ms ns → IsSamePlanned cmp p q
       → (c : Course (Completed P) (Planned P)) × EnqueuesEach cmp now ns q c × IsSameCourse cmp course c
   each_same all_enqueued [] q messages same = (goes [] q, all_enqueued, (tt, same))
-  each_same all_enqueued (n ∷ ns) q messages same = absurd messages
-  each_same (one_stops one) [] q messages same = absurd messages
   each_same {now = now} (one_stops {fault = fault} one) (n ∷ ns) q messages same = (
     meets fault,
     one_stops (course_met cmp order (λ c. Enqueues cmp now n q c) fault (enqueue_same one n q messages.0 same)),
     refl,
   )
-  each_same (enqueues_one one more) [] q messages same = absurd messages
   each_same {now = now} (enqueues_one {q = r} {cs = cs} {rest = rest} one more) (n ∷ ns) q messages same =
-      let done : Went (λ c. Enqueues cmp now n q c) cs r =
-      course_went cmp order (λ c. Enqueues cmp now n q c) cs r (enqueue_same one n q messages.0 same) in
-      let later : (c : Course (Completed P) (Planned P)) × EnqueuesEach cmp now ns done.1 c × IsSameCourse cmp rest c =
-      each_same more ns done.1 messages.1 done.4 in (
+      let done : Went (λ c. Enqueues cmp now n q c) cs r = grind (arith, course_went, enqueue_same) in
+      let later = each_same more ns done.1 messages.1 done.4 in (
         preceded done.0 later.0,
         enqueues_one {rest = later.0} done.2 later.1,
         preceded_same cs done.0 rest later.0 done.3 later.2,
       )
+  each_same _ _ q messages same = absurd messages
 
   advance_same : {now : ℕ} {p : Planned P} {n : ℕ} {course : Course (Completed P) (Planned P)}
       → Advances cmp now p n course → (q : Planned P) → IsSamePlanned cmp p q
       → (c : Course (Completed P) (Planned P)) × Advances cmp now q n c × IsSameCourse cmp course c
   advance_same {now = now} (no_more {p = p} {course = course} after wakes) q same =
-      let done : (c : Course (Completed P) (Planned P)) × Wakes cmp now q c × IsSameCourse cmp course c =
-      wakes_same now p q course same wakes in (
+      let done = wakes_same now p q course same wakes in (
         done.0,
         no_more (subst (λ (o : Option ℕ). IfSome o (λ t. now < t)) (next_event_same cmp order p q same) after) done.1,
         done.2,
       )
   advance_same {now = now}
       (at_finish {p = p} {q = r} {t = t} {n = n} {cs = cs} {rest = rest} finish next within settles advances) q same =
-      let done : Went (λ c. Settles cmp t (record q { finish = None }) c) cs r
-      = course_went cmp order (λ c. Settles cmp t (record q { finish = None }) c) cs r
-      (settle_same settles (record q { finish = None }) (no_finish_same cmp order p q same)) in
-      let later : (c : Course (Completed P) (Planned P)) × Advances cmp now done.1 n c × IsSameCourse cmp rest c =
-      advance_same advances done.1 done.4 in (
+      let done = course_went cmp order (λ c. Settles cmp t (record q { finish = None }) c) cs r (settle_same settles
+      (record q { finish = None }) (no_finish_same cmp order p q same)) in
+      let later = advance_same advances done.1 done.4 in (
         preceded done.0 later.0,
         at_finish {rest = later.0} (sym same.finish ∙ finish)
             (sym (next_event_same cmp order p q same) ∙ next) within done.2 later.1,
@@ -406,12 +341,9 @@ module _ {P : Type 0} (cmp : P → P → Ordering) (order : IsTotalOrder cmp) wh
       )
   advance_same {now = now}
       (at_start {p = p} {q = r} {t = t} {n = n} {cs = cs} {rest = rest} not_finish next within wakes advances) q same =
-      let done : Went (λ c. Wakes cmp t (record q { start = None }) c) cs r
-      = course_went cmp order (λ c. Wakes cmp t (record q { start = None }) c) cs r
-      (wakes_same t (record p { start = None }) (record q { start = None }) (goes cs r)
-      (no_start_same cmp order p q same) wakes) in
-      let later : (c : Course (Completed P) (Planned P)) × Advances cmp now done.1 n c × IsSameCourse cmp rest c =
-      advance_same advances done.1 done.4 in (
+      let done = course_went cmp order (λ c. Wakes cmp t (record q { start = None }) c) cs r (wakes_same t (record p
+      { start = None }) (record q { start = None }) (goes cs r) (no_start_same cmp order p q same) wakes) in
+      let later = advance_same advances done.1 done.4 in (
         preceded done.0 later.0,
         at_start {rest = later.0} (λ e. not_finish (same.finish ∙ e))
             (sym (next_event_same cmp order p q same) ∙ next) within done.2 later.1,
@@ -456,15 +388,8 @@ module _ {P : Type 0} (cmp : P → P → Ordering) (order : IsTotalOrder cmp) wh
       enqueue_same obeys n q messages same
   obey_same (same_enqueue_all {now = now} {ms = ms} {ns = ns} messages) p q course same obeys =
       each_same obeys ns q messages same
-  obey_same (same_advance {now = now}) p q course same (n, advances) =
-      let done : (c : Course (Completed P) (Planned P)) × Advances cmp now q n c × IsSameCourse cmp course c =
-      advance_same advances q same in
-      (done.0, (n, done.1), done.2)
-  obey_same same_next p q course same obeys = (
-    goes [] q,
-    refl,
-    subst (λ (c : Course (Completed P) (Planned P)). IsSameCourse cmp c (goes [] q)) (sym obeys) (tt, same),
-  )
+  obey_same (same_advance {now = now}) p q course same (n, advances) = grind (arith, advance_same)
+  obey_same same_next p q course same obeys = grind arith
 
   pub obeys_same : (p q : Planned P) (call other : Call P) (course : Course (Completed P) (Planned P))
       → IsSamePlanned cmp p q → IsSameCall cmp call other → Obeys cmp p call course

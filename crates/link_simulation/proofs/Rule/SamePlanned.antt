@@ -1,17 +1,11 @@
 -- Planned worlds that are the same up to equal peers: each is the same as itself, whichever stands first, and along a
 -- chain.
-use Rattle.std.proofs.Common.{◌≡◌, List, [], ◌∷◌, refl, sym, ◌∙◌, true}
-use Rattle.std.specs.List.{AllZip}
-use Rattle.std.specs.declared.cmp.Ordering.{Ordering}
-use Rattle.std.specs.Cmp.{IsTotalOrder}
-use Rattle.fair_rates.specs.Sides.Subjects.{same_peer}
-use Rattle.link_simulation.specs.Simulation.Messages.{Message, Caps, AnswerAlike, CapsAlike, PairsAlike, SameMessage}
-use Rattle.link_simulation.specs.Rule.Planned.{RatedFlight, Planned}
-use Rattle.link_simulation.specs.Rule.SamePlanned.{IsSameRatedFlight, IsSamePlanned}
-use Rattle.link_simulation.proofs.Simulation.Queue.{peer_like}
-use Rattle.fair_rates.proofs.Sides.Subjects.{peer_sym}
+use Rattle.link_simulation.proofs.Common.{arith, ◌≡◌, List, [], ◌∷◌, refl, sym, ◌∙◌, true, AllZip, Ordering}
+use Rattle.link_simulation.proofs.Common.{IsTotalOrder, same_peer, Message, Caps, CapsAlike, PairsAlike, SameMessage}
+use Rattle.link_simulation.proofs.Common.{RatedFlight, Planned, IsSameRatedFlight, IsSamePlanned, peer_sym, zip_chain}
+use Rattle.link_simulation.proofs.Common.{zip-same}
+use Rattle.link_simulation.specs.Simulation.Messages.{AnswerAlike}
 use Rattle.link_simulation.proofs.Simulation.AlikeMessages.{same_itself as one_peer, message_itself}
-use Rattle.fair_rates.proofs.Lists.Zips.{zip_chain, zip-same}
 
 -- ---- lists
 
@@ -28,33 +22,13 @@ module _ {P : Type 0} (cmp : P → P → Ordering) (order : IsTotalOrder cmp) wh
   pub peer_turned : (p q : P) → same_peer cmp p q ≡ true → same_peer cmp q p ≡ true
   peer_turned p q e = peer_sym cmp order q p ∙ e
 
-  pub peer_chain : (p q r : P) → same_peer cmp p q ≡ true → same_peer cmp q r ≡ true → same_peer cmp p r ≡ true
-  peer_chain p q r e f = sym (peer_like cmp order p q r e) ∙ f
-
   pub message_turned : (m n : Message P) → SameMessage cmp m n → SameMessage cmp n m
-  message_turned m n e = record {
-    origin = peer_turned m.origin n.origin e.origin;
-    recipient = peer_turned m.recipient n.recipient e.recipient;
-    channel = sym e.channel;
-    bytes = sym e.bytes;
-    latency = sym e.latency;
-    should_deliver = sym e.should_deliver;
-  }
+  message_turned m n e = grind arith
 
   pub message_chain : (m n k : Message P) → SameMessage cmp m n → SameMessage cmp n k → SameMessage cmp m k
-  message_chain m n k e f = record {
-    origin = peer_chain m.origin n.origin k.origin e.origin f.origin;
-    recipient = peer_chain m.recipient n.recipient k.recipient e.recipient f.recipient;
-    channel = e.channel ∙ f.channel;
-    bytes = e.bytes ∙ f.bytes;
-    latency = e.latency ∙ f.latency;
-    should_deliver = e.should_deliver ∙ f.should_deliver;
-  }
+  message_chain m n k e f = grind arith
 
   -- ---- caps and last arrivals
-
-  answers_turned : {X : Type 0} (f g : P → X) → AnswerAlike cmp f g → AnswerAlike cmp g f
-  answers_turned f g alike p q e = sym (alike q p (peer_turned p q e))
 
   answers_chain : {X : Type 0} (f g h : P → X) → AnswerAlike cmp f g → AnswerAlike cmp g h → AnswerAlike cmp f h
   answers_chain f g h first second p q e = first p q e ∙ second q q (one_peer cmp order q)
@@ -67,19 +41,11 @@ module _ {P : Type 0} (cmp : P → P → Ordering) (order : IsTotalOrder cmp) wh
       first p q r s e k ∙ second q q s s (one_peer cmp order q) (one_peer cmp order s)
 
   pub caps_turned : (caps others : Caps P) → CapsAlike cmp caps others → CapsAlike cmp others caps
-  caps_turned caps others alike = record {
-    egress = answers_turned caps.egress others.egress alike.egress;
-    ingress = answers_turned caps.ingress others.ingress alike.ingress;
-    link = pairs_turned caps.link others.link alike.link;
-  }
+  caps_turned caps others alike = grind arith
 
   pub caps_chain : (caps others last : Caps P) → CapsAlike cmp caps others → CapsAlike cmp others last
       → CapsAlike cmp caps last
-  caps_chain caps others last first second = record {
-    egress = answers_chain caps.egress others.egress last.egress first.egress second.egress;
-    ingress = answers_chain caps.ingress others.ingress last.ingress first.ingress second.ingress;
-    link = pairs_chain caps.link others.link last.link first.link second.link;
-  }
+  caps_chain caps others last first second = search (answers_chain, pairs_chain)
 
   -- ---- what is in flight
 
@@ -88,68 +54,25 @@ module _ {P : Type 0} (cmp : P → P → Ordering) (order : IsTotalOrder cmp) wh
       record { id = refl; message = message_itself cmp order f.message; left = refl; rate = refl; updated = refl }
 
   pub paced_turned : (f g : RatedFlight P) → IsSameRatedFlight cmp f g → IsSameRatedFlight cmp g f
-  paced_turned f g e =
-      record {
-        id = sym e.id;
-        message = message_turned f.message g.message e.message;
-        left = sym e.left;
-        rate = sym e.rate;
-        updated = sym e.updated;
-      }
+  paced_turned f g e = grind arith
 
   paced_chain : (f g h : RatedFlight P) → IsSameRatedFlight cmp f g → IsSameRatedFlight cmp g h
       → IsSameRatedFlight cmp f h
-  paced_chain f g h d e =
-      record {
-        id = d.id ∙ e.id;
-        message = message_chain f.message g.message h.message d.message e.message;
-        left = d.left ∙ e.left;
-        rate = d.rate ∙ e.rate;
-        updated = d.updated ∙ e.updated;
-      }
+  paced_chain f g h d e = grind arith
 
   -- ---- planned worlds
 
   pub same_itself : (p : Planned P) → CapsAlike cmp p.caps p.caps → PairsAlike cmp p.last_arrival p.last_arrival
       → IsSamePlanned cmp p p
-  same_itself p caps arrivals = record {
-    caps = caps;
-    limited = refl;
-    sending = zip-same (IsSameRatedFlight cmp) paced_itself p.sending;
-    waiting = zip-same (SameMessage cmp) (message_itself cmp order) p.waiting;
-    last_arrival = arrivals;
-    next_id = refl;
-    accounted = refl;
-    finish = refl;
-    start = refl;
-  }
+  same_itself p caps arrivals = grind (arith, zip-same, paced_itself, message_itself)
 
   pub same_turned : (p q : Planned P) → IsSamePlanned cmp p q → IsSamePlanned cmp q p
-  same_turned p q same = record {
-    caps = caps_turned p.caps q.caps same.caps;
-    limited = sym same.limited;
-    sending = zip_turned (IsSameRatedFlight cmp) (IsSameRatedFlight cmp) paced_turned p.sending q.sending same.sending;
-    waiting = zip_turned (SameMessage cmp) (SameMessage cmp) message_turned p.waiting q.waiting same.waiting;
-    last_arrival = pairs_turned p.last_arrival q.last_arrival same.last_arrival;
-    next_id = sym same.next_id;
-    accounted = sym same.accounted;
-    finish = sym same.finish;
-    start = sym same.start;
-  }
+  same_turned p q same = grind (arith, caps_turned, zip_turned, paced_turned, message_turned, pairs_turned)
 
   pub same_chain : (p q r : Planned P) → IsSamePlanned cmp p q → IsSamePlanned cmp q r → IsSamePlanned cmp p r
-  same_chain p q r first second = record {
-    caps = caps_chain p.caps q.caps r.caps first.caps second.caps;
-    limited = first.limited ∙ second.limited;
-    sending =
-        zip_chain (IsSameRatedFlight cmp) (IsSameRatedFlight cmp) (IsSameRatedFlight cmp) paced_chain p.sending
-        q.sending r.sending first.sending second.sending;
-    waiting =
-        zip_chain (SameMessage cmp) (SameMessage cmp) (SameMessage cmp) message_chain p.waiting q.waiting r.waiting
-        first.waiting second.waiting;
-    last_arrival = pairs_chain p.last_arrival q.last_arrival r.last_arrival first.last_arrival second.last_arrival;
-    next_id = first.next_id ∙ second.next_id;
-    accounted = first.accounted ∙ second.accounted;
-    finish = first.finish ∙ second.finish;
-    start = first.start ∙ second.start;
-  }
+  same_chain p q r first second =
+      grind (arith, (caps_chain p.caps q.caps r.caps first.caps second.caps), (zip_chain (IsSameRatedFlight cmp)
+      (IsSameRatedFlight cmp) (IsSameRatedFlight cmp) paced_chain p.sending q.sending r.sending first.sending
+      second.sending), (zip_chain (SameMessage cmp) (SameMessage cmp) (SameMessage cmp) message_chain p.waiting
+      q.waiting r.waiting first.waiting second.waiting),
+      (pairs_chain p.last_arrival q.last_arrival r.last_arrival first.last_arrival second.last_arrival))

@@ -1,38 +1,25 @@
 -- A call may be refused alike on planned worlds that are the same up to equal peers.
-use Rattle.std.proofs.Common.{List, [], ◌∷◌, ◌∙◌}
-use Rattle.std.specs.List.{AllZip}
-use Rattle.std.specs.declared.cmp.Ordering.{Ordering}
-use Rattle.std.specs.Cmp.{IsTotalOrder}
-use Rattle.fair_rates.specs.declared.error.Error.{Error}
-use Rattle.link_simulation.specs.Simulation.Messages.{SameMessage}
-use Rattle.link_simulation.specs.Simulation.World.{Completed, goes, meets}
-use Rattle.link_simulation.specs.Simulation.Calls.{Call, call_limit, call_limit_link, call_enqueue, call_advance}
-use Rattle.link_simulation.specs.Simulation.Calls.{call_enqueue_all, call_next}
-use Rattle.link_simulation.specs.Simulation.Replies.{Reply, reply_done, reply_next, reply_refused, SameCompletion}
-use Rattle.link_simulation.specs.Rule.Planned.{Planned}
-use Rattle.link_simulation.specs.Rule.Events.{Obeys}
-use Rattle.link_simulation.specs.Rule.Refusals.{MayBeRefused, Obeyed}
-use Rattle.link_simulation.specs.Rule.SamePlanned.{IsSamePlanned, IsSameCall, same_limit, same_limit_link, same_enqueue}
-use Rattle.link_simulation.specs.Rule.SamePlanned.{same_enqueue_all, same_advance, same_next}
-use Rattle.fair_rates.proofs.Lists.Zips.{zip-same}
+use Rattle.link_simulation.proofs.Common.{arith, List, [], ◌∷◌, ◌∙◌, AllZip, Ordering, IsTotalOrder, Error, SameMessage}
+use Rattle.link_simulation.proofs.Common.{Completed, goes, meets, Call, call_limit, call_limit_link, call_enqueue}
+use Rattle.link_simulation.proofs.Common.{call_advance, call_enqueue_all, call_next, Reply, reply_done, reply_next}
+use Rattle.link_simulation.proofs.Common.{reply_refused, SameCompletion, Planned, Obeys, MayBeRefused, Obeyed}
+use Rattle.link_simulation.proofs.Common.{IsSamePlanned, same_limit, same_limit_link, same_enqueue, same_enqueue_all}
+use Rattle.link_simulation.proofs.Common.{same_advance, same_next, zip-same}
+use Rattle.link_simulation.specs.Rule.SamePlanned.{IsSameCall}
 use Rattle.link_simulation.proofs.Simulation.RefusalCauses.{refused_more}
 use Rattle.link_simulation.proofs.Simulation.AlikeMessages.{same_itself as one_peer, message_itself}
 use Rattle.link_simulation.proofs.Rule.Agreeing.{all_trans}
 use Rattle.link_simulation.proofs.Rule.SameSteps.{course_went, course_met, next_event_same}
-use Rattle.link_simulation.proofs.Rule.SameCourses.{obeys_same, Went}
+use Rattle.link_simulation.proofs.Rule.SameCourses.{obeys_same}
 
 module _ {P : Type 0} (cmp : P → P → Ordering) (order : IsTotalOrder cmp) where
   obeys_met_same : (p q : Planned P) (call other : Call P) (fault : Error) → IsSamePlanned cmp p q
       → IsSameCall cmp call other → Obeys cmp p call (meets fault) → Obeys cmp q other (meets fault)
-  obeys_met_same p q call other fault same calls obeys =
-      course_met cmp order (Obeys cmp q other) fault
-      (obeys_same cmp order p q call other (meets fault) same calls obeys)
+  obeys_met_same p q call other fault same calls obeys = grind (arith, course_met, obeys_same)
 
   pub refused_same : (p q : Planned P) (call other : Call P) (why : Error) → IsSamePlanned cmp p q
       → IsSameCall cmp call other → MayBeRefused cmp p call why → MayBeRefused cmp q other why
-  refused_same p q call other why same calls refused =
-      refused_more (λ fault. Obeys cmp p call (meets fault)) (λ fault. Obeys cmp q other (meets fault))
-      (λ fault obeys. obeys_met_same p q call other fault same calls obeys) why refused
+  refused_same p q call other why same calls refused = grind (arith, refused_more, obeys_met_same)
 
   -- ---- replies
 
@@ -57,8 +44,7 @@ module _ {P : Type 0} (cmp : P → P → Ordering) (order : IsTotalOrder cmp) wh
       → ((n r : Planned P) → IsSamePlanned cmp n r → Obeyed cmp n calls replies → Obeyed cmp r calls replies)
       → Accepted p call calls cs replies → Accepted q call calls cs replies
   accepted_same p q call calls cs replies same rest (ds, n, obeys, alike, obeyed) =
-      let went : (Went cmp order) (Obeys cmp q call) ds n =
-      course_went cmp order (Obeys cmp q call) ds n
+      let went = course_went cmp order (Obeys cmp q call) ds n
       (obeys_same cmp order p q call call (goes ds n) same (call_itself call) obeys) in
       (went.0, went.1, went.2, all_trans cmp order cs ds went.0 alike went.3, rest n went.1 went.4 obeyed)
 
@@ -71,43 +57,8 @@ module _ {P : Type 0} (cmp : P → P → Ordering) (order : IsTotalOrder cmp) wh
       (obeyed.0 ∙ next_event_same cmp order p q same, obeyed_same p q calls replies same obeyed.1)
   obeyed_same p q (call_next ∷ calls) (reply_done cs ∷ replies) same obeyed = obeyed
   obeyed_same p q (call_next ∷ calls) (reply_refused why ∷ replies) same obeyed = obeyed
-  obeyed_same p q (call_limit now peer egress ingress ∷ calls) (reply_next t ∷ replies) same obeyed = obeyed
-  obeyed_same p q (call_limit now peer egress ingress ∷ calls) (reply_done cs ∷ replies) same obeyed =
-      accepted_same p q (call_limit now peer egress ingress) calls cs replies same
-      (λ n r. obeyed_same n r calls replies) obeyed
-  obeyed_same p q (call_limit now peer egress ingress ∷ calls) (reply_refused why ∷ replies) same obeyed = (
-    refused_same p q (call_limit now peer egress ingress) (call_limit now peer egress ingress) why same
-        (call_itself (call_limit now peer egress ingress)) obeyed.0,
-    obeyed_same p q calls replies same obeyed.1,
-  )
-  obeyed_same p q (call_limit_link now origin recipient cap ∷ calls) (reply_next t ∷ replies) same obeyed = obeyed
-  obeyed_same p q (call_limit_link now origin recipient cap ∷ calls) (reply_done cs ∷ replies) same obeyed =
-      accepted_same p q (call_limit_link now origin recipient cap) calls cs replies same
-      (λ n r. obeyed_same n r calls replies) obeyed
-  obeyed_same p q (call_limit_link now origin recipient cap ∷ calls) (reply_refused why ∷ replies) same obeyed = (
-    refused_same p q (call_limit_link now origin recipient cap) (call_limit_link now origin recipient cap) why same
-        (call_itself (call_limit_link now origin recipient cap)) obeyed.0,
-    obeyed_same p q calls replies same obeyed.1,
-  )
-  obeyed_same p q (call_enqueue now m ∷ calls) (reply_next t ∷ replies) same obeyed = obeyed
-  obeyed_same p q (call_enqueue_all now ms ∷ calls) (reply_next t ∷ replies) same obeyed = obeyed
-  obeyed_same p q (call_enqueue now m ∷ calls) (reply_done cs ∷ replies) same obeyed =
-      accepted_same p q (call_enqueue now m) calls cs replies same (λ n r. obeyed_same n r calls replies) obeyed
-  obeyed_same p q (call_enqueue_all now ms ∷ calls) (reply_done cs ∷ replies) same obeyed =
-      accepted_same p q (call_enqueue_all now ms) calls cs replies same (λ n r. obeyed_same n r calls replies) obeyed
-  obeyed_same p q (call_enqueue now m ∷ calls) (reply_refused why ∷ replies) same obeyed = (
-    refused_same p q (call_enqueue now m) (call_enqueue now m) why same (call_itself (call_enqueue now m)) obeyed.0,
-    obeyed_same p q calls replies same obeyed.1,
-  )
-  obeyed_same p q (call_enqueue_all now ms ∷ calls) (reply_refused why ∷ replies) same obeyed = (
-    refused_same p q (call_enqueue_all now ms) (call_enqueue_all now ms) why same
-        (call_itself (call_enqueue_all now ms)) obeyed.0,
-    obeyed_same p q calls replies same obeyed.1,
-  )
-  obeyed_same p q (call_advance now ∷ calls) (reply_next t ∷ replies) same obeyed = obeyed
-  obeyed_same p q (call_advance now ∷ calls) (reply_done cs ∷ replies) same obeyed =
-      accepted_same p q (call_advance now) calls cs replies same (λ n r. obeyed_same n r calls replies) obeyed
-  obeyed_same p q (call_advance now ∷ calls) (reply_refused why ∷ replies) same obeyed = (
-    refused_same p q (call_advance now) (call_advance now) why same (call_itself (call_advance now)) obeyed.0,
-    obeyed_same p q calls replies same obeyed.1,
-  )
+  obeyed_same p q (call ∷ calls) (reply_next t ∷ replies) same obeyed = obeyed
+  obeyed_same p q (call ∷ calls) (reply_done cs ∷ replies) same obeyed =
+      accepted_same p q call calls cs replies same (λ n r. obeyed_same n r calls replies) obeyed
+  obeyed_same p q (call ∷ calls) (reply_refused why ∷ replies) same obeyed =
+      (refused_same p q call call why same (call_itself call) obeyed.0, obeyed_same p q calls replies same obeyed.1)

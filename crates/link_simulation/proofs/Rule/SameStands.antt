@@ -1,27 +1,15 @@
 -- Planned worlds that are the same up to equal peers stand for the same worlds, and are in the range alike.
-use Rattle.std.proofs.Common.{◌≡◌, ℕ, ◌+◌, ◌<◌, ◌≤◌, ◌^◌, List, [], ◌∷◌, length, Option, sym, ◌∙◌, subst}
-use Rattle.std.proofs.Common.{All}
-use Rattle.std.specs.Prelude.{IfSome}
-use Rattle.std.specs.List.{filter, list_any, AllZip}
-use Rattle.std.specs.declared.cmp.Ordering.{Ordering}
-use Rattle.std.specs.Cmp.{IsTotalOrder}
-use Rattle.std.proofs.lemmas.List.Elements.{All-nil, All-cons, All-head, All-tail, length_all_zip}
-use Rattle.fair_rates.specs.Numbers.Amount.{Amount}
-use Rattle.link_simulation.specs.Simulation.Messages.{Message, SameMessage, OneForEachPair, same_pair, pair_before}
-use Rattle.link_simulation.specs.Simulation.Rates.{IsLowest, rate_of}
-use Rattle.link_simulation.specs.Simulation.World.{World, Flight}
-use Rattle.link_simulation.specs.Rule.Planned.{Planned, RatedFlight, IsRated, AreInPairOrder, IsLeastMoment}
-use Rattle.link_simulation.specs.Rule.Planned.{SomeSpentAt, SomeReadyAt, rated_messages}
-use Rattle.link_simulation.specs.Rule.Range.{IsInRange}
-use Rattle.link_simulation.specs.Rule.StandsFor.{IsSameFlight, Tallies, StandsFor}
-use Rattle.link_simulation.specs.Rule.SamePlanned.{IsSameRatedFlight, IsSamePlanned}
-use Rattle.link_simulation.proofs.Simulation.AlikeMessages.{pairs_alike, message_itself, any_alike}
-use Rattle.link_simulation.proofs.Simulation.AlikeMessages.{fair_alike}
+use Rattle.link_simulation.proofs.Common.{arith, ◌≡◌, ℕ, ◌<◌, ◌^◌, List, [], ◌∷◌, sym, ◌∙◌, subst, All, filter}
+use Rattle.link_simulation.proofs.Common.{list_any, AllZip, Ordering, IsTotalOrder, All-nil, Message, SameMessage}
+use Rattle.link_simulation.proofs.Common.{OneForEachPair, same_pair, pair_before, rate_of, World, Flight, Planned}
+use Rattle.link_simulation.proofs.Common.{RatedFlight, IsRated, AreInPairOrder, IsLeastMoment, SomeSpentAt, SomeReadyAt}
+use Rattle.link_simulation.proofs.Common.{rated_messages, IsInRange, IsSameFlight, Tallies, StandsFor}
+use Rattle.link_simulation.proofs.Common.{IsSameRatedFlight, IsSamePlanned, zip_chain, zip-filter, common_steps, rules}
+use Rattle.std.proofs.lemmas.List.Elements.{All-cons, All-head, All-tail, length_all_zip}
+use Rattle.link_simulation.proofs.Simulation.AlikeMessages.{pairs_alike, message_itself, any_alike, fair_alike}
 use Rattle.link_simulation.proofs.Simulation.InOrder.{before_alike}
 use Rattle.link_simulation.proofs.Rule.SamePlanned.{message_chain, pairs_chain, caps_chain, same_turned}
-use Rattle.fair_rates.proofs.Lists.Zips.{zip_chain, zip-filter}
-use Rattle.link_simulation.proofs.Rule.SameSteps.{none_same, least_same, flows_same, left_same, some_spent_same}
-use Rattle.link_simulation.proofs.Rule.SameSteps.{some_ready_same}
+use Rattle.link_simulation.proofs.Rule.SameSteps.{none_same, least_same, flows_same, some_spent_same, some_ready_same}
 
 -- ---- lists
 
@@ -38,35 +26,20 @@ module _ {P : Type 0} (cmp : P → P → Ordering) (order : IsTotalOrder cmp) wh
   -- ---- rates
 
   pub rated_same : (p q : Planned P) → IsSamePlanned cmp p q → IsRated cmp p → IsRated cmp q
-  rated_same p q same rated = record {
-    per = rated.per;
-    rates = rated.rates;
-    fair =
-        fair_alike cmp order p.caps q.caps same.caps (rated_messages p.sending) (rated_messages q.sending) rated.per
-        rated.rates (flows_same cmp order p.sending q.sending same.sending) rated.fair;
-    rated =
-        zip_chain (λ rate f. f.rate ≡ rate_of rated.per rate) (IsSameRatedFlight cmp)
-        (λ rate f. f.rate ≡ rate_of rated.per rate) (λ rate f g e h. sym h.rate ∙ e) rated.rates p.sending q.sending
-        rated.rated same.sending;
-  }
+  rated_same p q same rated =
+      grind (arith, common_steps, zip_chain, rate_of, (fair_alike cmp order p.caps q.caps same.caps
+      (rated_messages p.sending) (rated_messages q.sending) rated.per rated.rates
+      (flows_same cmp order p.sending q.sending same.sending) rated.fair))
 
   -- ---- standing for a world
 
   flight_same : (t : ℕ) (f g : RatedFlight P) (h : Flight P) → IsSameRatedFlight cmp f g → IsSameFlight cmp t g h
       → IsSameFlight cmp t f h
-  flight_same t f g h same flight = record {
-    message = message_chain cmp order f.message g.message h.message same.message flight.message;
-    updated = subst (λ (n : ℕ). n ≤ t) (sym same.updated) flight.updated;
-    lowest = subst IsLowest (sym same.left) flight.lowest;
-    rate = subst (λ (r : Option Amount). IfSome r (λ x. 0 < x.den)) (sym same.rate) flight.rate;
-    left = flight.left ∙ sym (left_same cmp order t f g same);
-  }
+  flight_same t f g h same flight = grind arith
 
   none_before_same : (m n : Message P) (ms ns : List (Message P)) → SameMessage cmp m n → AllZip (SameMessage cmp) ms ns
       → list_any (λ k. pair_before cmp k m) ms ≡ list_any (λ k. pair_before cmp k n) ns
-  none_before_same m n ms ns same all =
-      any_alike cmp order (SameMessage cmp) (λ k. pair_before cmp k m) (λ k. pair_before cmp k n)
-      (λ k l e. before_alike cmp order k l m n e same) ms ns all
+  none_before_same m n ms ns same all = grind (arith, any_alike, before_alike)
 
   pub order_same : (ms ns : List (Message P)) → AllZip (SameMessage cmp) ms ns → AreInPairOrder cmp ms
       → AreInPairOrder cmp ns
@@ -129,13 +102,7 @@ module _ {P : Type 0} (cmp : P → P → Ordering) (order : IsTotalOrder cmp) wh
   one_each_same [] [] all h = tt
   one_each_same [] (n ∷ ns) all h = absurd all
   one_each_same (m ∷ ms) [] all h = absurd all
-  one_each_same (m ∷ ms) (n ∷ ns) all h = (
-    sym
-        (any_alike cmp order (SameMessage cmp) (same_pair cmp m) (same_pair cmp n)
-        (λ k l e. pairs_alike cmp order m n k l all.0 e) ms ns all.1)
-        ∙ h.0,
-    one_each_same ms ns all.1 h.1,
-  )
+  one_each_same (m ∷ ms) (n ∷ ns) all h = grind (arith, any_alike, pairs_alike, (one_each_same ms ns))
 
   near_flight_same : (f g : RatedFlight P) → IsSameRatedFlight cmp f g → f.message.latency < 2 ^ 63
       → g.message.latency < 2 ^ 63
@@ -145,15 +112,4 @@ module _ {P : Type 0} (cmp : P → P → Ordering) (order : IsTotalOrder cmp) wh
   near_same m n same near = subst (λ (k : ℕ). k < 2 ^ 63) same.latency near
 
   pub range_same : (p q : Planned P) → IsSamePlanned cmp p q → IsInRange p → IsInRange q
-  range_same p q same range = record {
-    sending =
-        all_across (IsSameRatedFlight cmp) (λ f. f.message.latency < 2 ^ 63) near_flight_same p.sending q.sending
-        same.sending
-        range.sending;
-    waiting =
-        all_across (SameMessage cmp) (λ m. m.latency < 2 ^ 63) near_same p.waiting q.waiting same.waiting range.waiting;
-    ids =
-        subst (λ (n : ℕ). n + length q.waiting < 2 ^ 64) same.next_id
-        (subst (λ (n : ℕ). p.next_id + n < 2 ^ 64) (length_all_zip (SameMessage cmp) p.waiting q.waiting same.waiting)
-        range.ids);
-  }
+  range_same p q same range = search (rules, all_across, near_flight_same, near_same, length_all_zip)

@@ -1,34 +1,22 @@
 -- The parts of the event rule's steps are the same on planned worlds that are the same up to equal peers.
-use Rattle.std.proofs.Common.{◌≡◌, ℕ, zero, suc, length, ◌+◌, ◌≤◌, List, [], ◌∷◌, Bool, true, false, not, cond, Option}
-use Rattle.std.proofs.Common.{Some, None, refl, sym, ap, ◌∙◌, subst}
-use Rattle.std.specs.Prelude.{◌&&◌, nat_lt, if◌then◌else◌, slice_get}
-use Rattle.std.specs.List.{filter, find, AllZip}
-use Rattle.std.specs.declared.cmp.Ordering.{Ordering}
-use Rattle.std.specs.Cmp.{IsTotalOrder}
-use Rattle.fair_rates.specs.Lists.WithoutFirst.{without_first}
-use Rattle.fair_rates.specs.declared.error.Error.{Error}
-use Rattle.fair_rates.specs.Sides.Subjects.{same_peer}
-use Rattle.link_simulation.specs.Simulation.Messages.{Message, Caps, CapsAlike, PairsAlike, SameMessage, same_pair}
-use Rattle.link_simulation.specs.Simulation.Messages.{pair_before}
-use Rattle.link_simulation.specs.Simulation.World.{Completed, Course, goes, meets, last_moment, completion_of, later_of}
-use Rattle.link_simulation.specs.Simulation.World.{raised, fronts, arrival}
-use Rattle.link_simulation.specs.Simulation.Calls.{limited_by, linked_by}
-use Rattle.link_simulation.specs.Simulation.Replies.{SameCompletion}
-use Rattle.link_simulation.specs.Rule.Planned.{Planned, RatedFlight, IsLeastMoment, SomeSpentAt, SomeReadyAt}
-use Rattle.link_simulation.specs.Rule.Planned.{next_event, rated_messages, left_at, drained_to, next_of, queued}
-use Rattle.link_simulation.specs.Rule.Planned.{may_launch, is_spent}
-use Rattle.link_simulation.specs.Rule.Events.{launched, landed, with_queued, completed_at_once}
-use Rattle.link_simulation.specs.Rule.SamePlanned.{IsSameRatedFlight, IsSamePlanned, IsSameCourse}
-use Rattle.fair_rates.specs.declared.error.Error.TheVariants.{MomentTooLate}
-use Rattle.fair_rates.specs.Numbers.Amount.{Amount, whole}
+use Rattle.link_simulation.proofs.Common.{pair_before, arith, ◌≡◌, ℕ, zero, suc, length, ◌≤◌, List, [], ◌∷◌, Bool, true}
+use Rattle.link_simulation.proofs.Common.{not, Option, Some, None, refl, sym, ap, ◌∙◌, subst, slice_get, filter, find}
+use Rattle.link_simulation.proofs.Common.{AllZip, Ordering, IsTotalOrder, without_first, Error, same_peer, Message}
+use Rattle.link_simulation.proofs.Common.{Caps, CapsAlike, PairsAlike, SameMessage, same_pair, Completed, Course, goes}
+use Rattle.link_simulation.proofs.Common.{meets, raised, fronts, limited_by, linked_by, SameCompletion, Planned}
+use Rattle.link_simulation.proofs.Common.{RatedFlight, IsLeastMoment, SomeSpentAt, SomeReadyAt, next_event}
+use Rattle.link_simulation.proofs.Common.{rated_messages, left_at, drained_to, next_of, queued, may_launch, is_spent}
+use Rattle.link_simulation.proofs.Common.{launched, landed, with_queued, completed_at_once, IsSameRatedFlight}
+use Rattle.link_simulation.proofs.Common.{IsSamePlanned, Amount, whole, zip-filter, zip-append}
+use Rattle.fair_rates.proofs.Lists.Zips.{zip-if}
+use Rattle.link_simulation.proofs.Simulation.InOrder.{before_alike}
+use Rattle.link_simulation.specs.Rule.SamePlanned.{IsSameCourse}
 use Rattle.link_simulation.proofs.Simulation.AlikeMessages.{peers_alike, pairs_alike, message_itself, any_alike}
 use Rattle.link_simulation.proofs.Simulation.AlikeMessages.{unlimited_alike}
 use Rattle.link_simulation.proofs.Simulation.SettlingEnds.{find_like}
 use Rattle.link_simulation.proofs.Rule.Launch.{OptionsAlike}
 use Rattle.link_simulation.proofs.Simulation.Queue.{find_passes}
-use Rattle.fair_rates.proofs.Lists.Zips.{zip-filter, zip-append, zip-if}
 use Rattle.link_simulation.proofs.Rule.Settling.{arrival_alike}
-use Rattle.link_simulation.proofs.Simulation.InOrder.{before_alike}
 
 -- ---- lists
 
@@ -38,15 +26,7 @@ pub find_same : {X Y : Type 0} (R : X → Y → Type 0) (f : X → Bool) (g : Y 
 find_same R f g alike [] [] all = tt
 find_same R f g alike [] (y ∷ ys) all = absurd all
 find_same R f g alike (x ∷ xs) [] all = absurd all
-find_same R f g alike (x ∷ xs) (y ∷ ys) all =
-    first_or_later (f x) (g y) (alike x y all.0) (find_same R f g alike xs ys all.1)
-  where
-    first_or_later : (a b : Bool) → a ≡ b → OptionsAlike R (find f xs) (find g ys)
-        → OptionsAlike R (cond a (Some x) (find f xs)) (cond b (Some y) (find g ys))
-    first_or_later true true e ih = all.0
-    first_or_later true false e ih = cc
-    first_or_later false true e ih = cc
-    first_or_later false false e ih = ih
+find_same R f g alike (x ∷ xs) (y ∷ ys) all = grind (arith, (find_same R f g alike xs ys))
 
 pub without_same : {X Y : Type 0} (R : X → Y → Type 0) (f : X → Bool) (g : Y → Bool)
     → ((x : X) (y : Y) → R x y → f x ≡ g y) → (xs : List X) (ys : List Y)
@@ -54,9 +34,7 @@ pub without_same : {X Y : Type 0} (R : X → Y → Type 0) (f : X → Bool) (g :
 without_same R f g alike [] [] all = tt
 without_same R f g alike [] (y ∷ ys) all = absurd all
 without_same R f g alike (x ∷ xs) [] all = absurd all
-without_same R f g alike (x ∷ xs) (y ∷ ys) all =
-    zip-if R (f x) (g y) xs (x ∷ without_first f xs) ys (y ∷ without_first g ys) (alike x y all.0) all.1
-    (all.0, without_same R f g alike xs ys all.1)
+without_same R f g alike (x ∷ xs) (y ∷ ys) all = grind (arith, (without_same R f g alike xs ys))
 
 -- the item at a place has one that is the same
 pub at_same : {X Y : Type 0} (R : X → Y → Type 0) (xs : List X) (ys : List Y) (i : ℕ) (x : X) → AllZip R xs ys
@@ -198,16 +176,12 @@ module _ {P : Type 0} (cmp : P → P → Ordering) (order : IsTotalOrder cmp) wh
   drained_same t [] [] all = tt
   drained_same t [] (g ∷ gs) all = absurd all
   drained_same t (f ∷ fs) [] all = absurd all
-  drained_same t (f ∷ fs) (g ∷ gs) all = (
-    record { id = all.0.id; message = all.0.message; left = left_same t f g all.0; rate = all.0.rate; updated = refl },
-    drained_same t fs gs all.1,
-  )
+  drained_same t (f ∷ fs) (g ∷ gs) all = grind (arith, (drained_same t fs gs))
 
   pub some_spent_same : (fs gs : List (RatedFlight P)) (t : ℕ) → AllZip (IsSameRatedFlight cmp) fs gs → SomeSpentAt fs t
       → SomeSpentAt gs t
   some_spent_same fs gs t all (i, f, at, before, spent) =
-      let found : (g : RatedFlight P) × (slice_get gs i ≡ Some g) × IsSameRatedFlight cmp f g =
-      at_same (IsSameRatedFlight cmp) fs gs i f all at in (
+      let found = at_same (IsSameRatedFlight cmp) fs gs i f all at in (
         i,
         found.0,
         found.1,
@@ -223,13 +197,6 @@ module _ {P : Type 0} (cmp : P → P → Ordering) (order : IsTotalOrder cmp) wh
   launching_same i j t m n same e =
       record { id = same; message = e; left = rw e.bytes refl; rate = refl; updated = refl }
 
-  -- when a message lands that completes as it is enqueued, and when it is delivered
-  abbrev landing : ℕ → Planned P → Message P → ℕ
-  landing now p m = if m.should_deliver then later_of (p.last_arrival m.origin m.recipient) (now + m.latency) else now
-
-  abbrev delivery : ℕ → Planned P → Message P → Option ℕ
-  delivery now p m = if m.should_deliver then Some (landing now p m) else None
-
   module _ (p q : Planned P) (same : IsSamePlanned cmp p q) where
     pub spent_same : (f g : RatedFlight P) → IsSameRatedFlight cmp f g → is_spent cmp p.caps f ≡ is_spent cmp q.caps g
     spent_same f g e = rw (e.left, unlimited_alike cmp order p.caps q.caps same.caps f.message g.message e.message) refl
@@ -238,17 +205,12 @@ module _ {P : Type 0} (cmp : P → P → Ordering) (order : IsTotalOrder cmp) wh
     pub leaving_same : (t : ℕ)
         → AllZip (IsSameRatedFlight cmp) (filter (is_spent cmp p.caps) (drained_to t p.sending))
         (filter (is_spent cmp q.caps) (drained_to t q.sending))
-    leaving_same t =
-        zip-filter (IsSameRatedFlight cmp) (is_spent cmp p.caps) (is_spent cmp q.caps) spent_same
-        (drained_to t p.sending) (drained_to t q.sending) (drained_same t p.sending q.sending same.sending)
+    leaving_same t = grind (arith, zip-filter, spent_same, drained_same)
 
     pub staying_same : (t : ℕ) → AllZip (IsSameRatedFlight cmp)
         (filter (λ f. not (is_spent cmp p.caps f)) (drained_to t p.sending))
         (filter (λ f. not (is_spent cmp q.caps f)) (drained_to t q.sending))
-    staying_same t =
-        zip-filter (IsSameRatedFlight cmp) (λ f. not (is_spent cmp p.caps f)) (λ f. not (is_spent cmp q.caps f))
-        (λ f g e. ap not (spent_same f g e)) (drained_to t p.sending) (drained_to t q.sending)
-        (drained_same t p.sending q.sending same.sending)
+    staying_same t = grind (arith, zip-filter, spent_same, drained_same)
 
     -- ---- what waits
 
@@ -264,17 +226,13 @@ module _ {P : Type 0} (cmp : P → P → Ordering) (order : IsTotalOrder cmp) wh
 
     pub next_same : (m n : Message P) → SameMessage cmp m n
         → OptionsAlike (SameMessage cmp) (next_of cmp p m) (next_of cmp q n)
-    next_same m n e =
-        find_same (SameMessage cmp) (same_pair cmp m) (same_pair cmp n) (λ k l f. pairs_alike cmp order m n k l e f)
-        p.waiting q.waiting same.waiting
+    next_same m n e = grind (arith, find_same, pairs_alike)
 
     -- the pairs that a wake at t finds ready
     pub ready_same : (t : ℕ)
         → AllZip (SameMessage cmp) (filter (may_launch cmp t p) (fronts cmp p.waiting))
         (filter (may_launch cmp t q) (fronts cmp q.waiting))
-    ready_same t =
-        zip-filter (SameMessage cmp) (may_launch cmp t p) (may_launch cmp t q) (may_same t) (fronts cmp p.waiting)
-        (fronts cmp q.waiting) (fronts_same p.waiting q.waiting same.waiting)
+    ready_same t = grind (arith, zip-filter, may_same, fronts_same)
 
     pub some_ready_same : (t : ℕ) → SomeReadyAt cmp p t → SomeReadyAt cmp q t
     some_ready_same t (m, own, may) =
@@ -298,159 +256,41 @@ module _ {P : Type 0} (cmp : P → P → Ordering) (order : IsTotalOrder cmp) wh
 
     pub recapped_same : (caps others : Caps P) → CapsAlike cmp caps others
         → IsSamePlanned cmp (record p { caps = caps; limited = true }) (record q { caps = others; limited = true })
-    recapped_same caps others alike = record {
-      caps = alike;
-      limited = refl;
-      sending = same.sending;
-      waiting = same.waiting;
-      last_arrival = same.last_arrival;
-      next_id = same.next_id;
-      accounted = same.accounted;
-      finish = same.finish;
-      start = same.start;
-    }
+    recapped_same caps others alike = grind arith
 
     -- with other flows, accounted for at a moment, and another moment when the first of them is done
     pub accounted_same : (t : ℕ) (fs gs : List (RatedFlight P)) (finish : Option ℕ)
         → AllZip (IsSameRatedFlight cmp) fs gs
         → IsSamePlanned cmp (record p { sending = fs; accounted = t; finish = finish })
         (record q { sending = gs; accounted = t; finish = finish })
-    accounted_same t fs gs finish sending = record {
-      caps = same.caps;
-      limited = same.limited;
-      sending = sending;
-      waiting = same.waiting;
-      last_arrival = same.last_arrival;
-      next_id = same.next_id;
-      accounted = refl;
-      finish = refl;
-      start = same.start;
-    }
+    accounted_same t fs gs finish sending = grind arith
 
     -- with another moment when the first may start
     pub planned_same : (start : Option ℕ) → IsSamePlanned cmp (record p { start = start }) (record q { start = start })
-    planned_same start = record {
-      caps = same.caps;
-      limited = same.limited;
-      sending = same.sending;
-      waiting = same.waiting;
-      last_arrival = same.last_arrival;
-      next_id = same.next_id;
-      accounted = same.accounted;
-      finish = same.finish;
-      start = refl;
-    }
+    planned_same start = grind arith
 
     pub no_finish_same : IsSamePlanned cmp (record p { finish = None }) (record q { finish = None })
-    no_finish_same = record {
-      caps = same.caps;
-      limited = same.limited;
-      sending = same.sending;
-      waiting = same.waiting;
-      last_arrival = same.last_arrival;
-      next_id = same.next_id;
-      accounted = same.accounted;
-      finish = refl;
-      start = same.start;
-    }
+    no_finish_same = grind arith
 
     pub no_start_same : IsSamePlanned cmp (record p { start = None }) (record q { start = None })
     no_start_same = planned_same None
 
     pub launched_same : (t : ℕ) (m n : Message P) → SameMessage cmp m n
         → IsSamePlanned cmp (launched cmp t p m) (launched cmp t q n)
-    launched_same t m n e = record {
-      caps = same.caps;
-      limited = same.limited;
-      sending =
-          zip-append (IsSameRatedFlight cmp) p.sending (launching p.next_id t m ∷ []) q.sending
-          (launching q.next_id t n ∷ []) same.sending (launching_same p.next_id q.next_id t m n same.next_id e, tt);
-      waiting =
-          without_same (SameMessage cmp) (same_pair cmp m) (same_pair cmp n)
-          (λ k l f. pairs_alike cmp order m n k l e f) p.waiting q.waiting same.waiting;
-      last_arrival = same.last_arrival;
-      next_id = ap (λ (k : ℕ). k + 1) same.next_id;
-      accounted = same.accounted;
-      finish = same.finish;
-      start = same.start;
-    }
+    launched_same t m n e = grind (arith, zip-append, launching_same, without_same, pairs_alike)
 
     arrived_same : (last others : P → P → Option ℕ) → PairsAlike cmp last others
         → IsSamePlanned cmp (record p { last_arrival = last }) (record q { last_arrival = others })
-    arrived_same last others alike = record {
-      caps = same.caps;
-      limited = same.limited;
-      sending = same.sending;
-      waiting = same.waiting;
-      last_arrival = alike;
-      next_id = same.next_id;
-      accounted = same.accounted;
-      finish = same.finish;
-      start = same.start;
-    }
+    arrived_same last others alike = grind arith
 
     pub landed_same : (t : ℕ) (m n : Message P) → SameMessage cmp m n
         → IsSamePlanned cmp (landed cmp t p m) (landed cmp t q n)
-    landed_same t m n e =
-        arrived_same (raised cmp p.last_arrival m (arrival cmp t m)) (raised cmp q.last_arrival n (arrival cmp t n))
-        (subst (λ (at : ℕ). PairsAlike cmp (raised cmp p.last_arrival m (arrival cmp t m))
-        (raised cmp q.last_arrival n at)) (arrival_alike cmp order t m n e)
-        (raised_same p.last_arrival q.last_arrival m n (arrival cmp t m) same.last_arrival e))
+    landed_same t m n e = grind (arith, arrived_same, arrival_alike, raised_same)
 
     pub with_queued_same : (m n : Message P) → SameMessage cmp m n
         → IsSamePlanned cmp (with_queued cmp p m) (with_queued cmp q n)
-    with_queued_same m n e = record {
-      caps = same.caps;
-      limited = same.limited;
-      sending = same.sending;
-      waiting = queued_same m n p.waiting q.waiting e same.waiting;
-      last_arrival = same.last_arrival;
-      next_id = same.next_id;
-      accounted = same.accounted;
-      finish = same.finish;
-      start = same.start;
-    }
+    with_queued_same m n e = grind (arith, queued_same)
 
     pub at_once_same : (now : ℕ) (m n : Message P) → SameMessage cmp m n
         → IsSameCourse cmp (completed_at_once cmp now p m) (completed_at_once cmp now q n)
-    at_once_same now m n e =
-        by_late (m.should_deliver && nat_lt last_moment (now + m.latency))
-        (n.should_deliver && nat_lt last_moment (now + n.latency)) (rw (e.should_deliver, e.latency) refl)
-        (rw (
-          e.should_deliver,
-          same.last_arrival m.origin n.origin m.recipient n.recipient e.origin e.recipient,
-          e.latency,
-        ) refl) (rw (
-          e.should_deliver,
-          same.last_arrival m.origin n.origin m.recipient n.recipient e.origin e.recipient,
-          e.latency,
-        ) refl)
-      where
-        by_late : (a b : Bool) → a ≡ b → landing now p m ≡ landing now q n → delivery now p m ≡ delivery now q n
-            → IsSameCourse cmp
-            (cond a (meets MomentTooLate)
-            (goes (completion_of m now (delivery now p m) ∷ [])
-            (record p { last_arrival = raised cmp p.last_arrival m (landing now p m) })))
-            (cond b (meets MomentTooLate)
-            (goes (completion_of n now (delivery now q n) ∷ [])
-            (record q { last_arrival = raised cmp q.last_arrival n (landing now q n) })))
-        by_late true true f at wanted = refl
-        by_late true false f at wanted = cc
-        by_late false true f at wanted = cc
-        by_late false false f at wanted = (
-          (
-            record {
-              origin = e.origin;
-              recipient = e.recipient;
-              channel = e.channel;
-              bytes = e.bytes;
-              done_at = refl;
-              deliver_at = wanted;
-            },
-            tt,
-          ),
-          arrived_same (raised cmp p.last_arrival m (landing now p m)) (raised cmp q.last_arrival n (landing now q n))
-              (subst (λ (k : ℕ). PairsAlike cmp (raised cmp p.last_arrival m (landing now p m))
-              (raised cmp q.last_arrival n k)) at (raised_same p.last_arrival q.last_arrival m n
-              (landing now p m) same.last_arrival e)),
-        )
+    at_once_same now m n e = grind arith

@@ -1,42 +1,27 @@
 -- Settling in the planned world is settling in the world: the same completions or the same fault, and the two agree
 -- afterwards.
-use Rattle.std.proofs.Common.{◌≡◌, ℕ, zero, suc, ◌+◌, ◌≤◌, List, [], ◌∷◌, ◌++◌, map, length, Bool, true, false, cond}
-use Rattle.std.proofs.Common.{not, Option, Some, None, refl, sym, ap, ◌∙◌, subst, arith, length-append}
-use Rattle.std.specs.List.{filter, find, list_any, AllZip}
-use Rattle.std.specs.declared.cmp.Ordering.{Ordering}
-use Rattle.std.specs.Cmp.{IsTotalOrder}
-use Rattle.std.proofs.lemmas.List.{map-append}
-use Rattle.std.proofs.lemmas.Bool.{or_from}
-use Rattle.link_simulation.specs.Simulation.World.{Completed, Course, Flight, World, flows, goes, is_done, meets}
-use Rattle.link_simulation.specs.Simulation.World.{preceded, raised, settle, EndsWith, is_late, completed, arrival}
-use Rattle.link_simulation.specs.Rule.Events.{Finishes, PlansStart, Settles, all_completed, completes, landed, late}
-use Rattle.link_simulation.specs.Rule.Events.{settling, stopped}
-use Rattle.link_simulation.specs.Simulation.Messages.{Message, OneForEachPair, PairsAlike, SameMessage, same_pair}
-use Rattle.link_simulation.specs.Rule.Planned.{IsLeastMoment, Planned, SomeReadyAt}
-use Rattle.link_simulation.specs.Simulation.Replies.{SameCompletion}
-use Rattle.link_simulation.specs.Rule.StandsFor.{CoursesAlike, Follows, IsSettled, Tallies}
-use Rattle.fair_rates.specs.declared.error.Error.TheVariants.{MomentTooLate}
-use Rattle.link_simulation.specs.Simulation.Queue.{leaving, staying, arrived, launch_then, finish_within}
+use Rattle.link_simulation.proofs.Common.{◌≡◌, ℕ, zero, suc, ◌+◌, ◌≤◌, List, [], ◌∷◌, ◌++◌, map, length, Bool, true}
+use Rattle.link_simulation.proofs.Common.{false, not, Option, None, refl, sym, ap, ◌∙◌, subst, arith, length-append}
+use Rattle.link_simulation.proofs.Common.{filter, find, list_any, AllZip, Ordering, IsTotalOrder, map-append, or_from}
+use Rattle.link_simulation.proofs.Common.{Completed, Course, Flight, World, flows, goes, is_done, meets, preceded}
+use Rattle.link_simulation.proofs.Common.{raised, settle, EndsWith, is_late, completed, arrival, Finishes, PlansStart}
+use Rattle.link_simulation.proofs.Common.{Settles, all_completed, completes, landed, late, settling, stopped, Message}
+use Rattle.link_simulation.proofs.Common.{OneForEachPair, PairsAlike, SameMessage, same_pair, IsLeastMoment, Planned}
+use Rattle.link_simulation.proofs.Common.{SomeReadyAt, SameCompletion, CoursesAlike, Follows, IsSettled, Tallies}
+use Rattle.link_simulation.proofs.Common.{MomentTooLate, leaving, staying, arrived, launch_then, finish_within, Each}
+use Rattle.link_simulation.proofs.Common.{zip-append}
+use Rattle.link_simulation.proofs.Rule.Launch.{LaunchAlike, NoneDone, staying_none, next_alike, launch_alike}
 use Rattle.link_simulation.proofs.Simulation.Queue.{over_state, settles_as_queue}
 use Rattle.link_simulation.proofs.Simulation.AlikeMessages.{delivered_alike, peers_alike}
-use Rattle.fair_rates.proofs.Lists.Each.{Each}
 use Rattle.link_simulation.proofs.Rule.Accounts.{leavers_alike, account_follows}
-use Rattle.link_simulation.proofs.Rule.Launch.{NoneDone, staying_none, next_alike, GoesOn, LaunchAlike, launch_alike}
 use Rattle.link_simulation.proofs.Simulation.SettlingEnds.{settle_rests}
 use Rattle.fair_rates.proofs.Lists.Filters.{length-filter}
-use Rattle.fair_rates.proofs.Lists.Zips.{zip-append}
 
 -- ---- lists
 
 all_without : {X : Type 0} (test : X → Bool) (xs : List X) → find test xs ≡ None → filter (λ x. not (test x)) xs ≡ xs
 all_without test [] e = refl
-all_without {X} test (x ∷ xs) e = by_test (test x) e (all_without test xs)
-  where
-    by_test : (b : Bool) → cond b (Some x) (find test xs) ≡ None
-        → (find test xs ≡ None → filter (λ x. not (test x)) xs ≡ xs)
-        → cond (not b) (x ∷ filter (λ x. not (test x)) xs) (filter (λ x. not (test x)) xs) ≡ x ∷ xs
-    by_test true e ih = cc
-    by_test false e ih = ap (λ (q : List X). x ∷ q) (ih e)
+all_without {X} test (x ∷ xs) e = grind (arith, (all_without test xs))
 
 module _ {P : Type 0} (cmp : P → P → Ordering) (order : IsTotalOrder cmp) where
   -- ---- a message lands
@@ -73,30 +58,7 @@ module _ {P : Type 0} (cmp : P → P → Ordering) (order : IsTotalOrder cmp) wh
 
   landed_follows : (t : ℕ) (p : Planned P) (w : World P) (m n : Message P) → Follows cmp t p w → SameMessage cmp m n
       → Follows cmp t (landed cmp t p m) (arrived cmp t w n)
-  landed_follows t p w m n follows e = record {
-    tallies = record {
-      moment = follows.tallies.moment;
-      caps = follows.tallies.caps;
-      limited = follows.tallies.limited;
-      last_arrival =
-          raised_alike p.last_arrival w.last_arrival m n (arrival cmp t m) (arrival cmp t n)
-          follows.tallies.last_arrival e (arrival_alike t m n e);
-      next_id = follows.tallies.next_id;
-      waiting = follows.tallies.waiting;
-      pair_order = follows.tallies.pair_order;
-      sending = follows.tallies.sending;
-      one_each = follows.tallies.one_each;
-      empty_at_first = follows.tallies.empty_at_first;
-    };
-    rated =
-        record {
-          per = follows.rated.per;
-          rates = follows.rated.rates;
-          fair = follows.rated.fair;
-          rated = follows.rated.rated;
-        };
-    finish = follows.finish;
-  }
+  landed_follows t p w m n follows e = grind (arith, raised_alike, arrival_alike)
 
   -- ---- courses
 
@@ -119,28 +81,7 @@ module _ {P : Type 0} (cmp : P → P → Ordering) (order : IsTotalOrder cmp) wh
   pub looked : (t : ℕ) (p q : Planned P) (w : World P) → Follows cmp t p w → NoneDone cmp order w → PlansStart cmp t p q
       → IsSettled cmp t q w
   looked t p q w follows none looks = record {
-    follows = subst (λ (x : Planned P). Follows cmp t x w) (sym looks.same) (record {
-      tallies = record {
-        moment = follows.tallies.moment;
-        caps = follows.tallies.caps;
-        limited = follows.tallies.limited;
-        last_arrival = follows.tallies.last_arrival;
-        next_id = follows.tallies.next_id;
-        waiting = follows.tallies.waiting;
-        pair_order = follows.tallies.pair_order;
-        sending = follows.tallies.sending;
-        one_each = follows.tallies.one_each;
-        empty_at_first = follows.tallies.empty_at_first;
-      };
-      rated =
-          record {
-            per = follows.rated.per;
-            rates = follows.rated.rates;
-            fair = follows.rated.fair;
-            rated = follows.rated.rated;
-          };
-      finish = follows.finish;
-    });
+    follows = subst (λ (x : Planned P). Follows cmp t x w) (sym looks.same) (grind arith);
     none_done = none_of (is_done cmp w) w.sending none;
     start =
         subst (λ (x : Planned P). IsLeastMoment (λ s. (t ≤ s) × SomeReadyAt cmp x s) q.start) (sym looks.same)
@@ -176,14 +117,12 @@ module _ {P : Type 0} (cmp : P → P → Ordering) (order : IsTotalOrder cmp) wh
   pub finishes_alike : {t : ℕ} {ms : List (Message P)} {p : Planned P} {course : Course (Completed P) (Planned P)}
       → Finishes cmp t ms p course → WhenFollowed t ms p course
   finishes_alike {t = t} {p = p} (all_completed {q = q} looks) n [] w follows none all fuel =
-      subst (λ (c : Course (Completed P) (World P)). CourseAlike t (goes [] q) c) (sym (no_queue n t w))
-      (tt, looked t p q w follows none looks)
+      grind (arith, no_queue, looked)
   finishes_alike (all_completed looks) n (f ∷ fs) w follows none all fuel = absurd all
   finishes_alike (late too) n [] w follows none all fuel = absurd all
   finishes_alike (late too) zero (f ∷ fs) w follows none all fuel = absurd (omega arith)
   finishes_alike {t = t} (late {m = m} too) (suc n) (f ∷ fs) w follows none all fuel =
-      subst (λ (c : Course (Completed P) (World P)). CourseAlike t (meets MomentTooLate) c)
-      (sym (first_late n t f fs w (sym (late_alike t m f.message all.0) ∙ too))) refl
+      grind (arith, first_late, late_alike)
   finishes_alike (stopped not_late launch) n [] w follows none all fuel = absurd all
   finishes_alike (stopped not_late launch) zero (f ∷ fs) w follows none all fuel = absurd (omega arith)
   finishes_alike {t = t} {p = p} (stopped {m = m} {fault = fault} not_late launch) (suc n) (f ∷ fs) w follows none all
@@ -203,26 +142,19 @@ module _ {P : Type 0} (cmp : P → P → Ordering) (order : IsTotalOrder cmp) wh
   finishes_alike (completes not_late launch rest) zero (f ∷ fs) w follows none all fuel = absurd (omega arith)
   finishes_alike {t = t} {p = p} (completes {m = m} {ms = ms} {more = more} {q = q} {rest = after} not_late launch rest)
       (suc n) (f ∷ fs) w follows none all fuel =
-      let there : Follows cmp t (landed cmp t p m) (arrived cmp t w f.message) =
-      landed_follows t p w m f.message follows all.0 in
-      let on : GoesOn cmp order t (arrived cmp t w f.message) fs (find (same_pair cmp f.message) w.waiting) more q =
-      launch_alike cmp order launch (arrived cmp t w f.message) fs f.message (find (same_pair cmp f.message) w.waiting)
-      there none refl (next_alike cmp order t p w m f.message follows.tallies all.0) in
-      let leavers : AllZip (SameMessage cmp) (ms ++ more) (map (λ (g : Flight P). g.message) (fs ++ on.more)) =
-      subst (λ (ns : List (Message P)). AllZip (SameMessage cmp) (ms ++ more) ns)
-      (sym (map-append (λ (g : Flight P). g.message) fs on.more))
-      (zip-append (SameMessage cmp) ms more (map (λ (g : Flight P). g.message) fs)
-      (map (λ (g : Flight P). g.message) on.more) all.1 on.leaves) in
-      let many : length (fs ++ on.more) ≡ length fs + length on.more = length-append fs on.more in
-      let enough : length on.more + length on.world.waiting ≤ length w.waiting = on.fewer in
-      let ih : CourseAlike t after (finish_within cmp n t (fs ++ on.more) on.world) =
-      finishes_alike rest n (fs ++ on.more) on.world on.follows on.none leavers (omega arith) in
-      subst (λ (c : Course (Completed P) (World P)). CourseAlike t (preceded (completed cmp t m ∷ []) after) c)
-      (sym
-      (first_lands n t f fs w (sym (late_alike t m f.message all.0) ∙ not_late)
-      ∙ ap (preceded (completed cmp t f.message ∷ [])) (on.launches (finish_within cmp n t))))
-      (preceded_alike t (completed cmp t m) (completed cmp t f.message) after
-      (finish_within cmp n t (fs ++ on.more) on.world) (completed_alike t m f.message all.0) ih)
+      let there = landed_follows t p w m f.message follows all.0 in
+      let on = launch_alike cmp order launch (arrived cmp t w f.message) fs f.message
+      (find (same_pair cmp f.message) w.waiting) there none refl
+      (next_alike cmp order t p w m f.message follows.tallies all.0) in
+      let leavers = subst (λ (ns : List (Message P)). AllZip (SameMessage cmp) (ms ++ more) ns)
+      (sym (map-append (λ (g : Flight P). g.message) fs on.more)) (zip-append (SameMessage cmp) ms more
+      (map (λ (g : Flight P). g.message) fs) (map (λ (g : Flight P). g.message) on.more) all.1 on.leaves) in
+      let many = length-append fs on.more in
+      let enough = on.fewer in
+      let ih = finishes_alike rest n (fs ++ on.more) on.world on.follows on.none leavers (omega arith) in
+      grind (arith, (first_lands n t f fs w (sym (late_alike t m f.message all.0) ∙ not_late)), (preceded_alike t
+      (completed cmp t m) (completed cmp t f.message) after (finish_within cmp n t (fs ++ on.more) on.world)
+      (completed_alike t m f.message all.0) ih))
 
   -- ---- settling
 
@@ -258,12 +190,9 @@ module _ {P : Type 0} (cmp : P → P → Ordering) (order : IsTotalOrder cmp) wh
   settles_alike {t = t} {p = p} {course = course} (settling {leavers = leavers} {mid = mid} account finishes) w same =
       let n : ℕ = length w.sending + length w.waiting in
       let few : length (leaving cmp w) ≤ length w.sending = leaving_fewer w in
-      let kept : length (staying cmp w).waiting ≡ length w.waiting =
-      ap (λ (q : List (Message P)). length q) (staying_waiting w) in
-      let queued : CourseAlike t course (finish_within cmp n t (leaving cmp w) (staying cmp w)) =
-      finishes_alike finishes n (leaving cmp w) (staying cmp w)
+      let kept : length (staying cmp w).waiting ≡ length w.waiting = grind (arith, staying_waiting) in
+      let queued = finishes_alike finishes n (leaving cmp w) (staying cmp w)
       (account_follows cmp order t p mid leavers w same account) (staying_none cmp order w)
       (leavers_alike cmp order t p mid leavers w same account) (omega arith) in
-      let way : settle cmp t w ≡ finish_within cmp n t (leaving cmp w) (staying cmp w) =
-      settle_is_finish t w same.one_each in
+      let way = settle_is_finish t w same.one_each in
       subst (λ (c : Course (Completed P) (World P)). CourseAlike t course c) (sym way) queued

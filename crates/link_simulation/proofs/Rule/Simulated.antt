@@ -1,23 +1,10 @@
 -- A call that goes by the event rule runs in the simulation, and one that is refused is refused for a cause.
-use Rattle.std.proofs.Common.{◌≡◌, ℕ, ◌<◌, ◌≤◌, ◌^◌, List, [], ◌∷◌, Bool, true, false, cond, Some, refl, sym, ◌∙◌}
-use Rattle.std.proofs.Common.{subst, arith}
-use Rattle.std.specs.Prelude.{IfSome}
-use Rattle.std.specs.List.{filter, AllZip}
-use Rattle.std.specs.declared.cmp.Ordering.{Ordering}
-use Rattle.std.specs.Cmp.{IsTotalOrder}
-use Rattle.fair_rates.specs.declared.error.Error.{Error}
-use Rattle.link_simulation.specs.Simulation.Messages.{Message, SameMessage, same_pair, CapsAlike}
-use Rattle.link_simulation.specs.Simulation.World.{World, Completed, Course, goes, meets, last_moment}
-use Rattle.link_simulation.specs.Simulation.Time.{IsSound}
-use Rattle.link_simulation.specs.Simulation.Calls.{Call, moment_of, Runs}
-use Rattle.link_simulation.specs.Simulation.Replies.{Faults}
-use Rattle.link_simulation.specs.Rule.Planned.{Planned, next_event}
-use Rattle.link_simulation.specs.Rule.Events.{Obeys}
-use Rattle.link_simulation.specs.Rule.Refusals.{MayBeRefused}
-use Rattle.link_simulation.specs.Rule.Range.{IsInRange}
-use Rattle.link_simulation.specs.Rule.StandsFor.{StandsFor, CoursesAlike}
-use Rattle.link_simulation.specs.Rule.SamePlanned.{GoesByRule}
-use Rattle.link_simulation.specs.Rule.Simulated.{IsRun, IsSimulated, IsNextInSimulation, KeepsRange, MeetsFault}
+use Rattle.link_simulation.proofs.Common.{◌≡◌, ℕ, ◌<◌, ◌≤◌, ◌^◌, List, [], ◌∷◌, Some, refl, sym, ◌∙◌, subst, arith}
+use Rattle.link_simulation.proofs.Common.{IfSome, filter, AllZip, Ordering, IsTotalOrder, Error, Message, SameMessage}
+use Rattle.link_simulation.proofs.Common.{same_pair, CapsAlike, World, Completed, Course, goes, meets, last_moment}
+use Rattle.link_simulation.proofs.Common.{IsSound, Call, moment_of, Runs, Faults, Planned, next_event, Obeys}
+use Rattle.link_simulation.proofs.Common.{MayBeRefused, StandsFor, CoursesAlike, GoesByRule, IsRun}
+use Rattle.link_simulation.specs.Rule.Simulated.{IsSimulated, IsNextInSimulation, KeepsRange, MeetsFault}
 use Rattle.link_simulation.specs.Rule.Simulated.{IsRefusedInSimulation}
 use Rattle.link_simulation.proofs.Simulation.AlikeMessages.{same_itself, pair_itself}
 use Rattle.link_simulation.proofs.Rule.BeforeNext.{positive_flights}
@@ -38,12 +25,7 @@ module _ {P : Type 0} (cmp : P → P → Ordering) (order : IsTotalOrder cmp) wh
       → ((m : Message P) → AllZip (SameMessage cmp) (filter (same_pair cmp m) ms) (filter (same_pair cmp m) ns))
       → ms ≡ [] → ns ≡ []
   none_waits ms [] same e = refl
-  none_waits [] (n ∷ ns) same e = absurd (by_test (same_pair cmp n n) (pair_itself cmp order n) (same n))
-    where
-      by_test : (b : Bool) → b ≡ true
-          → AllZip (SameMessage cmp) [] (cond b (n ∷ filter (same_pair cmp n) ns) (filter (same_pair cmp n) ns)) → ⊥
-      by_test true is all = all
-      by_test false is all = cc
+  none_waits [] (n ∷ ns) same e = grind (arith, (pair_itself cmp order n))
   none_waits (m ∷ ms) (n ∷ ns) same e = cc
 
   caps_stand : (p : Planned P) (w : World P) → CapsAlike cmp p.caps w.caps → CapsAlike cmp w.caps w.caps
@@ -62,12 +44,7 @@ module _ {P : Type 0} (cmp : P → P → Ordering) (order : IsTotalOrder cmp) wh
         ∙ stands.follows.tallies.last_arrival a b c d e f;
     positive = positive_flights cmp order w.moment p.sending w.sending stands.follows.tallies.sending;
     one_each = stands.follows.tallies.one_each;
-    empty_at_first = λ e.
-        let empty : (p.sending ≡ []) × (p.waiting ≡ []) =
-        stands.follows.tallies.empty_at_first (stands.follows.tallies.limited ∙ e) in (
-          none_flies cmp order w.moment p.sending w.sending stands.follows.tallies.sending empty.0,
-          none_waits p.waiting w.waiting stands.follows.tallies.waiting empty.1,
-        );
+    empty_at_first = grind (arith, none_flies, none_waits);
   }
 
   -- ---- a call that goes
@@ -83,12 +60,7 @@ module _ {P : Type 0} (cmp : P → P → Ordering) (order : IsTotalOrder cmp) wh
   pub calls_simulated : (p q : Planned P) (call : Call P) (completions : List (Completed P))
       → ((t : ℕ) → moment_of call ≡ Some t → t ≤ last_moment) → GoesByRule cmp p call completions q
       → IsSimulated cmp p call completions q
-  calls_simulated p q call completions in_time go w now called =
-      let f : (c : Course (Completed P) (World P)) × Runs cmp w call now c
-      × CoursesAlike cmp (λ r v. StandsFor cmp r v × (v.moment ≡ now)) (goes go.answers go.after) c
-      = obeys_alike cmp order p w call now (goes go.answers go.after) called.stands called.moment
-      (in_time now called.moment) called.turn go.obeys in
-      by_course f.0 f.1 f.2
+  calls_simulated p q call completions in_time go w now called = grind (arith, obeys_alike, by_course)
     where
       later_next : (v : World P) → StandsFor cmp q v → v.moment ≡ now → IfSome (next_event q) (λ t. now < t)
       later_next v stands at =
@@ -99,8 +71,7 @@ module _ {P : Type 0} (cmp : P → P → Ordering) (order : IsTotalOrder cmp) wh
           → ¬ Faults cmp w call fault
       never_faults ds v runs fault (t, at, stops) =
           let same : t ≡ now = cc in
-          let one : goes ds v ≡ meets fault
-          = runs_are_one cmp order w call now (goes ds v) (meets fault) (sound_of_stands p w called.stands) runs
+          let one = runs_are_one cmp order w call now (goes ds v) (meets fault) (sound_of_stands p w called.stands) runs
           (subst (λ (s : ℕ). Runs cmp w call s (meets fault)) same stops) in
           cc
 
@@ -123,35 +94,15 @@ module _ {P : Type 0} (cmp : P → P → Ordering) (order : IsTotalOrder cmp) wh
 
   pub call_keeps_range : (p q : Planned P) (call : Call P) (completions : List (Completed P))
       → GoesByRule cmp p call completions q → KeepsRange cmp p call q
-  call_keeps_range p q call completions go in_range =
-      let f : (cs : List (Completed P)) × (r : Planned P) × (goes go.answers go.after ≡ goes cs r) × IsInRange r
-      = obeys_in_range cmp order p call (goes go.answers go.after) in_range go.obeys in
-      let same : f.1 ≡ go.after = cc in
-      range_same cmp order go.after q go.same_after (subst (λ (r : Planned P). IsInRange r) same f.3)
+  call_keeps_range p q call completions go in_range = grind (arith, obeys_in_range, range_same)
 
   -- ---- a call that is refused
 
   fault_is_met : (p : Planned P) (call : Call P) (fault : Error) → ((t : ℕ) → moment_of call ≡ Some t → t ≤ last_moment)
       → Obeys cmp p call (meets fault) → MeetsFault cmp p call fault
-  fault_is_met p call fault in_time obeys w now called =
-      let f : (c : Course (Completed P) (World P)) × Runs cmp w call now c
-      × CoursesAlike cmp (λ r v. StandsFor cmp r v × (v.moment ≡ now)) (meets fault) c
-      = obeys_alike cmp order p w call now (meets fault) called.stands called.moment (in_time now called.moment)
-      called.turn obeys in
-      by_course f.0 f.1 f.2
-    where
-      by_course : (c : Course (Completed P) (World P)) → Runs cmp w call now c
-          → CoursesAlike cmp (λ r v. StandsFor cmp r v × (v.moment ≡ now)) (meets fault) c → Faults cmp w call fault
-      by_course (goes ds v) runs alike = absurd alike
-      by_course (meets other) runs alike =
-          (now, called.moment, subst (λ (e : Error). Runs cmp w call now (meets e)) (sym alike) runs)
+  fault_is_met p call fault in_time obeys w now called = grind (arith, obeys_alike)
 
   pub refusals_simulated : (p : Planned P) (call : Call P) (why : Error)
       → ((t : ℕ) → moment_of call ≡ Some t → t ≤ last_moment) → MayBeRefused cmp p call why
       → IsRefusedInSimulation cmp p call why
-  refusals_simulated p call why in_time may = record {
-    cause =
-        refused_more (λ fault. Obeys cmp p call (meets fault)) (MeetsFault cmp p call)
-        (λ fault. fault_is_met p call fault in_time) why may;
-    in_range = λ range. refused_in_range cmp order p call why range may;
-  }
+  refusals_simulated p call why in_time may = search (refused_more, fault_is_met, refused_in_range)

@@ -1,41 +1,28 @@
 -- Waking in the planned world is waking in the world.
-use Rattle.std.proofs.Common.{◌≡◌, ℕ, zero, suc, ◌+◌, ◌≤◌, List, [], ◌∷◌, ◌++◌, length, Bool, true, false, cond, Option}
-use Rattle.std.proofs.Common.{Some, refl, sym, ap, ◌∙◌, subst, arith, length-append}
-use Rattle.std.specs.List.{filter, find, list_any, AllZip}
-use Rattle.std.specs.declared.cmp.Ordering.{Ordering}
-use Rattle.std.specs.Cmp.{IsTotalOrder}
-use Rattle.std.proofs.lemmas.Bool.{or_parts}
-use Rattle.fair_rates.specs.Lists.WithoutFirst.{without_first}
-use Rattle.link_simulation.specs.Simulation.World.{Completed, Course, Flight, World, and_then, flows, fronts, goes}
-use Rattle.link_simulation.specs.Simulation.World.{is_done, least_pair, may_start, meets, preceded, ready, settle}
-use Rattle.link_simulation.specs.Simulation.World.{start, wake_within, EndsWith, flight_of}
-use Rattle.link_simulation.specs.Rule.Events.{Finishes, Launches, WakesEach, all_started, no_finish, no_start}
-use Rattle.link_simulation.specs.Rule.Events.{starts_one}
-use Rattle.link_simulation.specs.Simulation.Messages.{Message, OneForEachPair, SameMessage, same_pair}
-use Rattle.link_simulation.specs.Rule.Planned.{Planned, next_of}
-use Rattle.link_simulation.specs.Simulation.Replies.{SameCompletion}
-use Rattle.link_simulation.specs.Rule.StandsFor.{CoursesAlike, Follows, IsSettled}
-use Rattle.link_simulation.specs.Simulation.Queue.{staying, out_of_waiting, joined, finish_within}
-use Rattle.link_simulation.proofs.Simulation.Queue.{preceded_none}
-use Rattle.link_simulation.proofs.Rule.BeforeNext.{IsFront, fronts_first, first_found}
-use Rattle.fair_rates.proofs.Lists.Each.{Each, each_filtered}
-use Rattle.link_simulation.proofs.Rule.Launch.{NoneDone, joining, started, joining_leaves, started_stays, OptionsAlike}
-use Rattle.link_simulation.proofs.Rule.Launch.{next_alike, StartsSo, StartAlike, start_alike}
+use Rattle.link_simulation.proofs.Common.{common_steps, ◌≡◌, ℕ, zero, suc, ◌+◌, ◌≤◌, List, [], ◌∷◌, length, Bool, true}
+use Rattle.link_simulation.proofs.Common.{false, cond, Some, refl, sym, subst, arith, length-append, filter, find}
+use Rattle.link_simulation.proofs.Common.{list_any, AllZip, Ordering, IsTotalOrder, without_first, Completed, Course}
+use Rattle.link_simulation.proofs.Common.{Flight, World, and_then, flows, goes, is_done, least_pair, may_start, meets}
+use Rattle.link_simulation.proofs.Common.{preceded, ready, settle, start, wake_within, EndsWith, flight_of, Finishes}
+use Rattle.link_simulation.proofs.Common.{Launches, WakesEach, all_started, no_finish, no_start, starts_one, Message}
+use Rattle.link_simulation.proofs.Common.{OneForEachPair, SameMessage, same_pair, Planned, next_of, SameCompletion}
+use Rattle.link_simulation.proofs.Common.{CoursesAlike, Follows, IsSettled, out_of_waiting, joined, finish_within, Each}
+use Rattle.link_simulation.proofs.Common.{each_filtered, zip-append}
+use Rattle.link_simulation.proofs.Rule.BeforeNext.{fronts_first, first_found}
+use Rattle.link_simulation.proofs.Rule.Launch.{NoneDone, joining, started, joining_leaves, started_stays, next_alike}
+use Rattle.link_simulation.proofs.Rule.Launch.{StartsSo, StartAlike, start_alike}
 use Rattle.link_simulation.proofs.Rule.Settling.{CourseAlike, looked, finishes_alike, settle_is_finish}
 use Rattle.link_simulation.proofs.Simulation.Pass.{wake_none}
 use Rattle.link_simulation.proofs.Simulation.AlikeMessages.{pair_itself}
 use Rattle.link_simulation.proofs.Simulation.OnePair.{apart, OnlyPair, only_both, IsRested, IsAfter, only_taken}
 use Rattle.link_simulation.proofs.Simulation.OnePair.{only_joined, rested_joined, finish_only, ready_after, ends_so}
 use Rattle.link_simulation.proofs.Simulation.SettlingEnds.{length_without}
-use Rattle.fair_rates.proofs.Lists.Zips.{zip-append}
 use Rattle.link_simulation.proofs.Laws.Bytes.{each_least, wake_first}
 
 -- each of a list of which none passes
 pub each_none : {X : Type 0} (test : X → Bool) (xs : List X) → list_any test xs ≡ false → Each (λ x. test x ≡ false) xs
 each_none test [] e = tt
-each_none test (x ∷ xs) e =
-    let parts : (test x ≡ false) × (list_any test xs ≡ false) = or_parts (test x) (list_any test xs) e in
-    (parts.0, each_none test xs parts.1)
+each_none test (x ∷ xs) e = grind (arith, (each_none test xs))
 
 module _ {P : Type 0} (cmp : P → P → Ordering) (order : IsTotalOrder cmp) where
   -- ---- a round: one pair starts, and what is done then completes
@@ -45,30 +32,12 @@ module _ {P : Type 0} (cmp : P → P → Ordering) (order : IsTotalOrder cmp) wh
       → settle cmp t (joined cmp w y)
       ≡ finish_within cmp (length (joined cmp w y).sending + length (joined cmp w y).waiting) t
       (joining cmp order w y) (started cmp order w y)
-  round_is t w y none one = settle_is_finish cmp order t (joined cmp w y) one
-      ∙ ap
-      (λ (q : List (Flight P)). finish_within cmp (length (joined cmp w y).sending + length (joined cmp w y).waiting)
-      t q (staying cmp (joined cmp w y)))
-      (joining_leaves cmp order w y none)
-      ∙ ap
-      (λ (v : World P). finish_within cmp (length (joined cmp w y).sending + length (joined cmp w y).waiting) t
-      (joining cmp order w y) v)
-      (started_stays cmp order w y none)
+  round_is t w y none one = grind (arith, settle_is_finish, joined, joining_leaves, started_stays)
 
   pub round_fuel : (w : World P) (y : Message P)
       → length (joining cmp order w y) + length (started cmp order w y).waiting
       ≤ length (joined cmp w y).sending + length (joined cmp w y).waiting
-  round_fuel w y =
-      let many : length (w.sending ++ flight_of y ∷ []) ≡ length w.sending + 1 =
-      length-append w.sending (flight_of y ∷ []) in
-      by_test (is_done cmp w (flight_of y)) many
-    where
-      by_test : (b : Bool) → length (w.sending ++ flight_of y ∷ []) ≡ length w.sending + 1
-          → length (cond b (flight_of y ∷ []) []) + length
-          (cond b (out_of_waiting cmp w y) (joined cmp w y)).waiting ≤ length (w.sending ++ flight_of y ∷ []) + length
-          (without_first (same_pair cmp y) w.waiting)
-      by_test true h = omega arith
-      by_test false h = omega arith
+  round_fuel w y = grind (arith, length-append, joined)
 
   -- after a round the others are as they were, the pair may not start, and fewer wait
   abbrev pub IsRound : ℕ → Message P → World P → World P → Type 0
@@ -126,11 +95,7 @@ module _ {P : Type 0} (cmp : P → P → Ordering) (order : IsTotalOrder cmp) wh
   wake_round : (n t : ℕ) (w : World P) (y : Message P) (c : Course (Completed P) (World P))
       → least_pair cmp (ready cmp t w) ≡ Some y → start cmp w y ≡ goes [] (joined cmp w y)
       → settle cmp t (joined cmp w y) ≡ c → wake_within cmp (suc n) t w ≡ and_then c (wake_within cmp n t)
-  wake_round n t w y c least starts e =
-      wake_first cmp order n t w y least ∙ ap (λ (d : Course (Completed P) (World P)). and_then d
-      (λ v. and_then (settle cmp t v) (wake_within cmp n t))) starts
-      ∙ preceded_none (and_then (settle cmp t (joined cmp w y)) (wake_within cmp n t))
-      ∙ ap (λ (d : Course (Completed P) (World P)). and_then d (wake_within cmp n t)) e
+  wake_round n t w y c least starts e = grind arith
 
   pub preceded_by : (R : Planned P → World P → Type 0) (cs ds : List (Completed P))
       (x : Course (Completed P) (Planned P)) (c : Course (Completed P) (World P))
@@ -151,13 +116,7 @@ module _ {P : Type 0} (cmp : P → P → Ordering) (order : IsTotalOrder cmp) wh
     pub may : may_start cmp t w y ≡ true
 
   next_is : (t : ℕ) (w : World P) (y : Message P) → least_pair cmp (ready cmp t w) ≡ Some y → IsNext t w y
-  next_is t w y least =
-      let known : IsFront cmp order w.waiting y × (may_start cmp t w y ≡ true)
-      = each_least cmp order (λ m. IsFront cmp order w.waiting m × (may_start cmp t w m ≡ true)) (ready cmp t w) y
-      (each_filtered (IsFront cmp order w.waiting) (may_start cmp t w) (fronts cmp w.waiting)
-      (fronts_first cmp order w.waiting))
-      least in
-      record { found = first_found cmp order (same_pair cmp y) y known.0.0 w.waiting known.0.1; may = known.1 }
+  next_is t w y least = grind (arith, each_least, each_filtered, fronts_first, first_found)
 
   abbrev WhenPicked : ℕ → List (Message P) → Planned P → Course (Completed P) (Planned P) → Type 0
   WhenPicked t ms p course =
@@ -169,57 +128,33 @@ module _ {P : Type 0} (cmp : P → P → Ordering) (order : IsTotalOrder cmp) wh
       → Launches cmp t p (next_of cmp p m) course → (w : World P) (y : Message P)
       → Follows cmp t p w → NoneDone cmp order w → IsNext t w y → SameMessage cmp m y
       → StartAlike cmp order t w y course
-  launch_starts {t = t} {m = m} {p = p} launch w y follows none next same =
-      start_alike cmp order launch w y follows none next.may next.found
-      (subst (λ (o : Option (Message P)). OptionsAlike (SameMessage cmp) (next_of cmp p m) o) next.found
-      (next_alike cmp order t p w m y follows.tallies same))
+  launch_starts {t = t} {m = m} {p = p} launch w y follows none next same = grind (arith, start_alike, next_alike)
 
   pub round_alike : {t : ℕ} {more : List (Message P)} {q : Planned P} {course : Course (Completed P) (Planned P)}
       → Finishes cmp t more q course → (w : World P) (y : Message P)
       → NoneDone cmp order w → StartsSo cmp order t w y more q
       → CourseAlike cmp order t course (settle cmp t (joined cmp w y))
   round_alike {t = t} {course = course} finish w y none so =
-      subst (λ (c : Course (Completed P) (World P)). CourseAlike cmp order t course c)
-      (sym (round_is t w y none so.one_each))
-      (finishes_alike cmp order finish (length (joined cmp w y).sending + length (joined cmp w y).waiting)
-      (joining cmp order w y) (started cmp order w y) so.follows so.none so.leaves (round_fuel w y))
+      search (round_is, finishes_alike, joined, started, round_fuel)
 
   no_fuel : (t : ℕ) (w : World P) (y : Message P) → IsNext t w y → length w.waiting ≤ 0 → ⊥
-  no_fuel t w y next fuel =
-      let fewer : length (without_first (same_pair cmp y) w.waiting) + 1 ≡ length w.waiting =
-      length_without (same_pair cmp y) y w.waiting next.found in
-      omega arith
+  no_fuel t w y next fuel = grind (arith, length_without)
 
   pub wakes_alike : {t : ℕ} {ms : List (Message P)} {p : Planned P} {course : Course (Completed P) (Planned P)}
       → WakesEach cmp t ms p course → WhenPicked t ms p course
   wakes_alike {t = t} {p = p} (all_started {q = q} looks) n w follows none picks fuel =
-      subst (λ (c : Course (Completed P) (World P)). CoursesAlike cmp (IsWoken t) (goes [] q) c)
-      (sym (wake_none cmp order n t w picks)) (tt, (looked cmp order t p q w follows none looks, picks))
+      grind (arith, (wake_none cmp order n t w picks), (looked cmp order t p q w follows none looks))
   wakes_alike {t = t} (no_start launch) zero w follows none picks fuel =
       absurd (no_fuel t w picks.0 (next_is t w picks.0 picks.1) fuel)
   wakes_alike {t = t} (no_start {fault = fault} launch) (suc n) w follows none picks fuel =
-      let fails : start cmp w picks.0 ≡ meets fault =
-      launch_starts launch w picks.0 follows none (next_is t w picks.0 picks.1) picks.2 in
-      subst (λ (c : Course (Completed P) (World P)). CoursesAlike cmp (IsWoken t) (meets fault) c)
-      (sym (wake_first cmp order n t w picks.0 picks.1
-      ∙ ap (λ (d : Course (Completed P) (World P)). and_then d
-      (λ v. and_then (settle cmp t v) (wake_within cmp n t))) fails)) refl
+      grind (arith, common_steps, (wake_first cmp order n t w picks.0 picks.1),
+      (launch_starts launch w picks.0 follows none (next_is t w picks.0 picks.1) picks.2))
   wakes_alike {t = t} (no_finish launch finish) zero w follows none picks fuel =
       absurd (no_fuel t w picks.0 (next_is t w picks.0 picks.1) fuel)
   wakes_alike {t = t} (no_finish {more = more} {q = q} {fault = fault} launch finish) (suc n) w follows none picks
       fuel =
-      let so : StartsSo cmp order t w picks.0 more q =
-      launch_starts launch w picks.0 follows none (next_is t w picks.0 picks.1) picks.2 in
-      by_course so.starts (settle cmp t (joined cmp w picks.0)) refl (round_alike finish w picks.0 none so)
-    where
-      by_course : start cmp w picks.0 ≡ goes [] (joined cmp w picks.0) → (c : Course (Completed P) (World P))
-          → settle cmp t (joined cmp w picks.0) ≡ c
-          → CourseAlike cmp order t (meets fault) c
-          → CoursesAlike cmp (IsWoken t) (meets fault) (wake_within cmp (suc n) t w)
-      by_course starts (goes ds v) e h = absurd h
-      by_course starts (meets g) e h =
-          subst (λ (c : Course (Completed P) (World P)). CoursesAlike cmp (IsWoken t) (meets fault) c)
-          (sym (wake_round n t w picks.0 (meets g) picks.1 starts e)) h
+      let so = launch_starts launch w picks.0 follows none (next_is t w picks.0 picks.1) picks.2 in
+      grind (arith, start, joined, wake_round, (joined cmp w picks.0), (round_alike finish w picks.0 none so))
   wakes_alike {t = t} (starts_one launch finish wakes) zero w follows none picks fuel =
       absurd (no_fuel t w picks.0 (next_is t w picks.0 picks.1) fuel)
   wakes_alike {t = t}
@@ -238,10 +173,8 @@ module _ {P : Type 0} (cmp : P → P → Ordering) (order : IsTotalOrder cmp) wh
           → CoursesAlike cmp (IsWoken t) (preceded cs rest) (wake_within cmp (suc n) t w)
       by_course starts (meets g) e h after ih = absurd h
       by_course starts (goes ds v) e h after ih =
-          let fewer : length v.waiting + 1 ≤ length w.waiting = after.1 in
-          let picked : Picks (ready cmp t v) ms =
-          subst (λ (xs : List (Message P)). Picks xs ms) (sym (ready_after cmp order picks.0 t w v after.0))
-          picks.3 in
+          let picked = subst (λ (xs : List (Message P)). Picks xs ms)
+          (sym (ready_after cmp order picks.0 t w v after.0)) picks.3 in
           subst (λ (c : Course (Completed P) (World P)). CoursesAlike cmp (IsWoken t) (preceded cs rest) c)
           (sym (wake_round n t w picks.0 (goes ds v) picks.1 starts e))
           (preceded_by (IsWoken t) cs ds rest (wake_within cmp n t v) h.0

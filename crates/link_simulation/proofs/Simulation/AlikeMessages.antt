@@ -1,20 +1,12 @@
 -- Lists of messages that are the same up to equal peers have the same sides, and so the same fair rates.
-use Rattle.std.proofs.Common.{◌+◌, ◌≡◌, ℕ, List, [], ◌∷◌, Bool, true, not, Option, Some, None, refl, sym, ap, ◌∙◌}
-use Rattle.std.proofs.Common.{subst}
-use Rattle.std.specs.Prelude.{◌&&◌, if◌then◌else◌}
-use Rattle.std.specs.List.{list_any, flat_map, AllZip}
-use Rattle.std.specs.declared.cmp.Ordering.{Ordering}
-use Rattle.std.specs.Ordering.{is_eq}
-use Rattle.std.specs.Cmp.{IsTotalOrder}
-use Rattle.std.proofs.lemmas.Cmp.{tied_itself}
-use Rattle.fair_rates.specs.Fairness.Fair.{IsFair, Side}
-use Rattle.fair_rates.specs.Sides.Subjects.{same_peer}
-use Rattle.link_simulation.specs.Simulation.Messages.{Message, SameMessage, is_delivered, same_pair, Caps, CapsAlike}
-use Rattle.link_simulation.specs.Simulation.Rates.{AreFair, Parts, capped_sides, is_unlimited, sides_for, rates_from}
-use Rattle.link_simulation.specs.Simulation.Rates.{egress_side, ingress_side, link_side, capped_side}
+use Rattle.link_simulation.proofs.Common.{not, sym, ◌∙◌, ◌&&◌, peer_sym, arith, ◌+◌, ◌≡◌, ℕ, List, [], ◌∷◌, Bool, true}
+use Rattle.link_simulation.proofs.Common.{Option, Some, None, refl, ap, if◌then◌else◌, list_any, flat_map, AllZip}
+use Rattle.link_simulation.proofs.Common.{Ordering, is_eq, IsTotalOrder, same_peer, Message, SameMessage, is_delivered}
+use Rattle.link_simulation.proofs.Common.{same_pair, Caps, CapsAlike, AreFair, Parts, capped_sides, is_unlimited}
+use Rattle.link_simulation.proofs.Common.{sides_for, rates_from, egress_side, ingress_side, link_side, places_from}
 use Rattle.link_simulation.proofs.Simulation.Queue.{peer_like, both_alike}
-use Rattle.fair_rates.proofs.Sides.Subjects.{peer_sym}
-use Rattle.fair_rates.specs.Lists.Places.{places_from}
+use Rattle.std.proofs.lemmas.Cmp.{tied_itself}
+use Rattle.link_simulation.specs.Simulation.Rates.{capped_side}
 use Rattle.fair_rates.proofs.Lists.Places.{places_alike}
 
 module _ {P : Type 0} (cmp : P → P → Ordering) (order : IsTotalOrder cmp) where
@@ -45,15 +37,7 @@ module _ {P : Type 0} (cmp : P → P → Ordering) (order : IsTotalOrder cmp) wh
       e.should_deliver (ap not (peers_alike m.origin n.origin m.recipient n.recipient e.origin e.recipient))
 
   pub message_itself : (m : Message P) → SameMessage cmp m m
-  message_itself m =
-      record {
-        origin = same_itself m.origin;
-        recipient = same_itself m.recipient;
-        channel = refl;
-        bytes = refl;
-        latency = refl;
-        should_deliver = refl;
-      }
+  message_itself m = grind arith
 
   pub any_alike : {X Y : Type 0} (R : X → Y → Type 0) (f : X → Bool) (g : Y → Bool)
       → ((x : X) (y : Y) → R x y → f x ≡ g y) → (xs : List X) (ys : List Y) → AllZip R xs ys
@@ -99,12 +83,7 @@ module _ {P : Type 0} (cmp : P → P → Ordering) (order : IsTotalOrder cmp) wh
 
     link_alike : (m n : Message P) (ms ns : List (Message P)) → SameMessage cmp m n → AllZip (SameMessage cmp) ms ns
         → link_side cmp caps ms m ≡ link_side cmp others ns n
-    link_alike m n ms ns e all =
-        side_alike (caps.link m.origin m.recipient) (others.link n.origin n.recipient) (same_pair cmp m)
-        (same_pair cmp n) ms ns
-        (same.link m.origin n.origin m.recipient n.recipient e.origin e.recipient)
-        (places_alike (SameMessage cmp) (same_pair cmp m) (same_pair cmp n) (λ k l f. pairs_alike m n k l e f) 0 ms ns
-        all)
+    link_alike m n ms ns e all = grind (arith, side_alike, places_alike, pairs_alike)
 
     sides_for_alike : (ms ns ks ls : List (Message P)) → AllZip (SameMessage cmp) ms ns → AllZip (SameMessage cmp) ks ls
         → flat_map (sides_for cmp caps ms) ks ≡ flat_map (sides_for cmp others ns) ls
@@ -112,13 +91,7 @@ module _ {P : Type 0} (cmp : P → P → Ordering) (order : IsTotalOrder cmp) wh
     sides_for_alike ms ns [] (l ∷ ls) all some = absurd some
     sides_for_alike ms ns (k ∷ ks) [] all some = absurd some
     sides_for_alike ms ns (k ∷ ks) (l ∷ ls) all some =
-        rw (
-          egress_alike k l ms ns some.0 all,
-          ingress_alike k l ms ns some.0 all,
-          link_alike k l ms ns some.0 all,
-          sides_for_alike ms ns ks ls all some.1,
-        )
-        refl
+        grind (arith, egress_alike, ingress_alike, link_alike, (sides_for_alike ms ns ks ls all))
 
     -- the same sides
     pub sides_alike : (ms ns : List (Message P)) → AllZip (SameMessage cmp) ms ns
@@ -145,8 +118,4 @@ module _ {P : Type 0} (cmp : P → P → Ordering) (order : IsTotalOrder cmp) wh
     -- and so the same fair rates
     pub fair_alike : (ms ns : List (Message P)) (per : ℕ) (rates : Parts) → AllZip (SameMessage cmp) ms ns
         → AreFair cmp caps ms per rates → AreFair cmp others ns per rates
-    fair_alike ms ns per rates all fair = record {
-      parts = fair.parts;
-      fair = subst (λ (s : List Side). IsFair s per fair.parts) (sides_alike ms ns all) fair.fair;
-      rated = fair.rated ∙ rates_alike fair.parts 0 ms ns all;
-    }
+    fair_alike ms ns per rates all fair = grind (arith, sides_alike, rates_alike)

@@ -1,16 +1,12 @@
 -- Fair rates exist for each world, so time goes on from it, and it has a next event or none.
-use Rattle.std.proofs.Common.{◌≡◌, ℕ, zero, suc, ◌+◌, ◌-◌, ◌<◌, ◌⊎◌, inl, inr, List, [], ◌∷◌, length, Bool, true, false}
-use Rattle.std.proofs.Common.{Option, Some, None, refl, arith, le_refl}
-use Rattle.std.specs.List.{list_any}
-use Rattle.std.specs.declared.cmp.Ordering.{Ordering}
-use Rattle.std.specs.Cmp.{IsTotalOrder}
-use Rattle.link_simulation.specs.Simulation.World.{World, Completed, Course, goes, meets, and_then, preceded, flows}
-use Rattle.link_simulation.specs.Simulation.World.{instant, is_done, ready, IsQuiet, last_moment}
-use Rattle.link_simulation.specs.Simulation.Calls.{Call, Runs, act}
-use Rattle.link_simulation.specs.Simulation.Messages.{Message, Caps}
-use Rattle.link_simulation.specs.Simulation.Rates.{Parts, AreFair, capped_sides, rates_from}
-use Rattle.link_simulation.specs.Simulation.Time.{Drains, Passes, no_time, quiet_tick, Ticks, no_tick, one_tick}
-use Rattle.link_simulation.specs.Simulation.Time.{tick_faults, NextIs, never_comes, comes_next, drifted}
+use Rattle.link_simulation.proofs.Common.{◌≡◌, ℕ, zero, suc, ◌+◌, ◌-◌, ◌<◌, ◌⊎◌, inl, inr, List, [], ◌∷◌, length, Bool}
+use Rattle.link_simulation.proofs.Common.{true, false, Option, Some, None, refl, arith, list_any, Ordering}
+use Rattle.link_simulation.proofs.Common.{IsTotalOrder, World, Completed, Course, goes, meets, and_then, preceded}
+use Rattle.link_simulation.proofs.Common.{flows, instant, is_done, ready, IsQuiet, last_moment, Call, Runs, act}
+use Rattle.link_simulation.proofs.Common.{Message, Caps, Parts, AreFair, capped_sides, rates_from, Drains, Passes}
+use Rattle.link_simulation.proofs.Common.{no_time, quiet_tick, Ticks, no_tick, one_tick, tick_faults, NextIs}
+use Rattle.link_simulation.proofs.Common.{never_comes, comes_next, drifted}
+use Rattle.std.proofs.Common.{le_refl}
 use Rattle.fair_rates.proofs.Fairness.Denominators.{denominator_of}
 use Rattle.fair_rates.proofs.Filling.FairPartsExist.{fair_parts}
 use Rattle.link_simulation.proofs.Simulation.AlikeMessages.{same_itself}
@@ -22,10 +18,8 @@ module _ {P : Type 0} (cmp : P → P → Ordering) (order : IsTotalOrder cmp) wh
       → (per : ℕ) × (rates : Parts) × AreFair cmp caps ms per rates
   rates_exist caps ms =
       let own = same_itself cmp order in
-      let parts =
-      fair_parts (length ms) (capped_sides cmp caps ms)
-      (users_below cmp order own caps ms (length ms) (le_refl (length ms)))
-      (users_distinct cmp order own caps ms) in (
+      let parts = fair_parts (length ms) (capped_sides cmp caps ms)
+      (users_below cmp order own caps ms (length ms) (le_refl (length ms))) (users_distinct cmp order own caps ms) in (
         denominator_of (length ms),
         rates_from cmp caps parts.0 0 ms,
         record { parts = parts.0; fair = parts.1; rated = refl },
@@ -56,15 +50,14 @@ module _ {P : Type 0} (cmp : P → P → Ordering) (order : IsTotalOrder cmp) wh
 
   -- ---- the next event
 
-  quiet_or_not : (w : World P) → IsQuiet cmp w.moment w ⊎ (¬ IsQuiet cmp w.moment w)
+  pub quiet_or_not : (w : World P) → IsQuiet cmp w.moment w ⊎ (¬ IsQuiet cmp w.moment w)
   quiet_or_not w = by_test (list_any (is_done cmp w) w.sending) refl (ready cmp w.moment w) refl
     where
       by_test : (b : Bool) → list_any (is_done cmp w) w.sending ≡ b → (ms : List (Message P))
           → ready cmp w.moment w ≡ ms → IsQuiet cmp w.moment w ⊎ (¬ IsQuiet cmp w.moment w)
-      by_test true done ms is =
-          inr (λ quiet. let none : list_any (is_done cmp w) w.sending ≡ false = quiet.none_done in cc)
+      by_test true done ms is = grind arith
       by_test false done [] is = inl (record { none_done = done; none_ready = is })
-      by_test false done (m ∷ ms) is = inr (λ quiet. let none : ready cmp w.moment w ≡ [] = quiet.none_ready in cc)
+      by_test false done (m ∷ ms) is = inr (λ quiet. cc)
 
   -- within so many nanoseconds some event comes
   record ComesWithin (n : ℕ) (w : World P) : Type 0 where
@@ -113,8 +106,7 @@ module _ {P : Type 0} (cmp : P → P → Ordering) (order : IsTotalOrder cmp) wh
       by_cases (inl (v, passes)) = (None, never_comes passes)
       by_cases (inr comes) =
           let end : comes.last.moment ≡ w.moment + comes.before = passes_end_at cmp order comes.passes in
-          let on : comes.first.moment ≡ comes.last.moment + 1 =
-          next_moment cmp order comes.last comes.first comes.drains in (
+          let on = next_moment cmp order comes.last comes.first comes.drains in (
             Some comes.first.moment,
             comes_next comes.passes comes.drains comes.busy (omega (arith, end, on, comes.less)),
           )

@@ -1,20 +1,13 @@
 -- What every instant keeps: the moment, and that nothing is done at its end.
-use Rattle.std.proofs.Common.{◌≡◌, ℕ, zero, suc, ◌+◌, ◌≤◌, List, [], ◌∷◌, ◌++◌, length, Bool, true, false, Option, Some}
-use Rattle.std.proofs.Common.{None, refl, sym, ap, ◌∙◌, subst, arith, ◌⊎◌, inl, inr}
-use Rattle.std.specs.Prelude.{⊤, nat_le}
-use Rattle.std.specs.List.{find, list_any}
-use Rattle.std.specs.declared.cmp.Ordering.{Ordering}
-use Rattle.std.specs.Cmp.{IsTotalOrder}
-use Rattle.fair_rates.specs.Lists.WithoutFirst.{without_first}
-use Rattle.link_simulation.specs.Simulation.World.{Completed, Course, Flight, IsQuiet, World, and_then, complete}
-use Rattle.link_simulation.specs.Simulation.World.{first_waiting, goes, instant, is_done, last_moment, least_pair}
-use Rattle.link_simulation.specs.Simulation.World.{may_start, meets, raised, ready, settle, settle_within, start}
-use Rattle.link_simulation.specs.Simulation.World.{start_next, wake, wake_within, EndsWith, out_of_flight, is_late}
-use Rattle.link_simulation.specs.Simulation.World.{completed, arrival, flight_of}
-use Rattle.link_simulation.specs.Simulation.Messages.{Message, same_pair}
-use Rattle.link_simulation.specs.Simulation.Time.{Drains, NextIs, Ticks, comes_next, never_comes, no_tick, no_time}
-use Rattle.link_simulation.specs.Simulation.Time.{one_tick, quiet_tick, tick_faults}
-use Rattle.fair_rates.specs.declared.error.Error.TheVariants.{FlowIdsUsedUp, MomentTooLate}
+use Rattle.link_simulation.proofs.Common.{find, Flight, common_steps, ◌≡◌, ℕ, zero, suc, ◌+◌, ◌≤◌, List, [], ◌∷◌, ◌++◌}
+use Rattle.link_simulation.proofs.Common.{length, Option, Some, None, refl, sym, ap, ◌∙◌, subst, arith, ◌⊎◌, inl, inr}
+use Rattle.link_simulation.proofs.Common.{⊤, nat_le, Ordering, IsTotalOrder, without_first, Completed, Course, IsQuiet}
+use Rattle.link_simulation.proofs.Common.{World, and_then, complete, goes, instant, is_done, last_moment, least_pair}
+use Rattle.link_simulation.proofs.Common.{may_start, meets, raised, ready, settle, settle_within, start, start_next}
+use Rattle.link_simulation.proofs.Common.{wake_within, EndsWith, flight_of, Message, same_pair, Drains, NextIs, Ticks}
+use Rattle.link_simulation.proofs.Common.{comes_next, never_comes, no_tick, no_time, one_tick, quiet_tick, tick_faults}
+use Rattle.link_simulation.proofs.Common.{FlowIdsUsedUp}
+use Rattle.link_simulation.proofs.Simulation.Continuing.{quiet_or_not}
 use Rattle.link_simulation.proofs.Simulation.Queue.{settle_none, settle_first}
 use Rattle.link_simulation.proofs.Simulation.SettlingEnds.{ends_preceded, ends_and_then, ends_cond, NoneDone}
 use Rattle.link_simulation.proofs.Simulation.SettlingEnds.{settle_rests}
@@ -48,11 +41,7 @@ module _ {P : Type 0} (cmp : P → P → Ordering) (order : IsTotalOrder cmp) wh
         ends_cond Q (may_start cmp t w m) (start cmp w m) (goes [] w) (start_keeps w m h) h
 
     complete_keeps : (t : ℕ) (w : World P) (m : Message P) → Q w → EndsWith Q (complete cmp t w m)
-    complete_keeps t w m h =
-        let landed : World P = out_of_flight cmp t w m in
-        ends_cond Q (is_late cmp t m) (meets MomentTooLate) _ tt
-        (ends_preceded Q (completed cmp t m ∷ []) (start_next cmp t landed (first_waiting cmp landed m))
-        (start_next_keeps t landed (first_waiting cmp landed m) (lands w m (arrival cmp t m) h)))
+    complete_keeps t w m h = grind (arith, ends_cond, ends_preceded, start_next_keeps)
 
     settle_within_keeps : (n t : ℕ) (w : World P) → Q w → EndsWith Q (settle_within cmp n t w)
     settle_within_keeps zero t w h = h
@@ -76,8 +65,7 @@ module _ {P : Type 0} (cmp : P → P → Ordering) (order : IsTotalOrder cmp) wh
       where
         by_least : (o : Option (Message P)) → least_pair cmp (ready cmp t w) ≡ o
             → ((v : World P) → Q v → EndsWith Q (wake_within cmp n t v)) → EndsWith Q (wake_within cmp (suc n) t w)
-        by_least None e ih =
-            subst (λ (c : Course (Completed P) (World P)). EndsWith Q c) (sym (wake_none cmp order n t w e)) h
+        by_least None e ih = grind (arith, wake_none)
         by_least (Some m) e ih =
             subst (λ (c : Course (Completed P) (World P)). EndsWith Q c) (sym (wake_first cmp order n t w m e))
             (ends_and_then Q Q (start cmp w m) (λ v. and_then (settle cmp t v) (wake_within cmp n t))
@@ -85,9 +73,7 @@ module _ {P : Type 0} (cmp : P → P → Ordering) (order : IsTotalOrder cmp) wh
             (λ v g. ends_and_then Q Q (settle cmp t v) (wake_within cmp n t) (settle_keeps t v g) ih))
 
     pub instant_keeps : (w : World P) → Q w → EndsWith Q (instant cmp w)
-    instant_keeps w h =
-        ends_and_then Q Q (settle cmp w.moment w) (λ v. wake cmp v.moment v) (settle_keeps w.moment w h)
-        (λ v g. wake_within_keeps (length v.waiting) v.moment v g)
+    instant_keeps w h = grind (arith, ends_and_then, settle_keeps, wake_within_keeps)
 
   -- ---- the moment
 
@@ -114,9 +100,7 @@ module _ {P : Type 0} (cmp : P → P → Ordering) (order : IsTotalOrder cmp) wh
       by_least : (o : Option (Message P)) → least_pair cmp (ready cmp t w) ≡ o
           → ((v : World P) → NoneDone cmp order v → EndsWith (NoneDone cmp order) (wake_within cmp n t v))
           → EndsWith (NoneDone cmp order) (wake_within cmp (suc n) t w)
-      by_least None e ih =
-          subst (λ (c : Course (Completed P) (World P)). EndsWith (NoneDone cmp order) c)
-          (sym (wake_none cmp order n t w e)) h
+      by_least None e ih = grind (arith, wake_none)
       by_least (Some m) e ih =
           subst (λ (c : Course (Completed P) (World P)). EndsWith (NoneDone cmp order) c)
           (sym (wake_first cmp order n t w m e))
@@ -126,41 +110,20 @@ module _ {P : Type 0} (cmp : P → P → Ordering) (order : IsTotalOrder cmp) wh
           (settle_rests cmp order t v) ih))
 
   pub instant_rests : (w : World P) → EndsWith (NoneDone cmp order) (instant cmp w)
-  instant_rests w =
-      ends_and_then (NoneDone cmp order) (NoneDone cmp order) (settle cmp w.moment w) (λ v. wake cmp v.moment v)
-      (settle_rests cmp order w.moment w) (λ v g. wake_rests (length v.waiting) v.moment v g)
+  instant_rests w = grind (arith, ends_and_then, settle_rests, wake_rests)
 
   -- ---- ticks
 
   pub ticks_end : {n : ℕ} {w : World P} {course : Course (Completed P) (World P)} → Ticks cmp n w course
       → (cs : List (Completed P)) (v : World P) → course ≡ goes cs v
       → NoneDone cmp order w → (v.moment ≡ w.moment + n) × NoneDone cmp order v
-  ticks_end {w = w} no_tick cs v e h =
-      let same : w ≡ v = cc in
-      subst (λ (z : World P). (z.moment ≡ w.moment + 0) × NoneDone cmp order z) same (omega arith, h)
+  ticks_end {w = w} no_tick cs v e h = grind arith
   ticks_end {w = w} (one_tick {n = n} {v = z} {u = u} {cs = ds} {rest = rest} d i t) cs v e h =
-      let r : (es : List (Completed P)) × (rest ≡ goes es v) × (ds ++ es ≡ cs) = rest_is cmp ds rest cs v e in
-      let at : z.moment ≡ w.moment + 1 = ap (λ (y : World P). y.moment) d.world in
-      let then_at : u.moment ≡ w.moment + 1 =
-      subst (λ (c : Course (Completed P) (World P)). EndsWith (λ y. y.moment ≡ w.moment + 1) c) i
-      (instant_moment z (w.moment + 1) at) in
-      let rests : NoneDone cmp order u =
-      subst (λ (c : Course (Completed P) (World P)). EndsWith (NoneDone cmp order) c) i (instant_rests z) in
-      let later : (v.moment ≡ u.moment + n) × NoneDone cmp order v = ticks_end t r.0 v r.1 rests in
-      let first : v.moment ≡ u.moment + n = later.0 in
-      (omega arith, later.1)
+      grind (arith, common_steps, rest_is, instant_moment, instant_rests,
+      (ticks_end t (rest_is cmp ds rest cs v e).0 v (rest_is cmp ds rest cs v e).1))
   ticks_end (tick_faults d i) cs v e h = cc
 
   -- ---- quiet nanoseconds
-
-  is_quiet_or_not : (v : World P) → IsQuiet cmp v.moment v ⊎ (¬ IsQuiet cmp v.moment v)
-  is_quiet_or_not v = by_done (list_any (is_done cmp v) v.sending) refl (ready cmp v.moment v) refl
-    where
-      by_done : (b : Bool) → list_any (is_done cmp v) v.sending ≡ b → (ms : List (Message P))
-          → ready cmp v.moment v ≡ ms → IsQuiet cmp v.moment v ⊎ (¬ IsQuiet cmp v.moment v)
-      by_done true e ms f = inr (λ q. let g : list_any (is_done cmp v) v.sending ≡ false = q.none_done in cc)
-      by_done false e [] f = inl (record { none_done = e; none_ready = f })
-      by_done false e (m ∷ ms) f = inr (λ q. let g : ready cmp v.moment v ≡ [] = q.none_ready in cc)
 
   next_later : (w v : World P) (o : Option ℕ) (t : ℕ) → Drains cmp w v → IsQuiet cmp v.moment v → o ≡ Some t
       → NextIs cmp v o → NextIs cmp w (Some t)
@@ -176,13 +139,12 @@ module _ {P : Type 0} (cmp : P → P → Ordering) (order : IsTotalOrder cmp) wh
   first_event {w = w} (one_tick {n = n} {v = z} {u = u} {cs = ds} {rest = rest} d i t) cs v e le =
       let r : (es : List (Completed P)) × (rest ≡ goes es v) × (ds ++ es ≡ cs) = rest_is cmp ds rest cs v e in
       let at : z.moment ≡ w.moment + 1 = ap (λ (y : World P). y.moment) d.world in
-      by_quiet (is_quiet_or_not z) at r.2 (λ h. first_event t r.0 v r.1 h)
+      by_quiet (quiet_or_not cmp order z) at r.2 (λ h. first_event t r.0 v r.1 h)
     where
       by_rest : IsQuiet cmp z.moment z → ds ≡ [] → u ≡ z → u.moment ≡ w.moment + 1 → {es : List (Completed P)}
           → ds ++ es ≡ cs → (es ≡ []) ⊎ ((t : ℕ) × (t ≤ u.moment + n) × NextIs cmp u (Some t))
           → (cs ≡ []) ⊎ ((t : ℕ) × (t ≤ w.moment + suc n) × NextIs cmp w (Some t))
-      by_rest q empty here at {es} join (inl no_more) =
-          inl (sym join ∙ ap (λ (xs : List (Completed P)). xs ++ es) empty ∙ no_more)
+      by_rest q empty here at {es} join (inl no_more) = grind arith
       by_rest q empty here at join (inr (t, below, next)) =
           inr (
             t,

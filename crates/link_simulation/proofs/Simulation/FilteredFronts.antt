@@ -1,114 +1,50 @@
 -- What a filter leaves of first elements, fronts and least pairs.
-use Rattle.std.proofs.Common.{◌≡◌, List, [], ◌∷◌, map, Bool, true, false, cond, not, Option, Some, None, refl, sym, ap}
-use Rattle.std.proofs.Common.{◌∙◌, subst}
-use Rattle.std.specs.Prelude.{◌||◌, if◌then◌else◌}
-use Rattle.std.specs.List.{filter, find, list_any}
-use Rattle.std.specs.declared.cmp.Ordering.{Ordering}
-use Rattle.std.specs.declared.cmp.Ordering.TheVariants.{Less, Equal, Greater}
-use Rattle.std.specs.Ordering.{is_lt, ordering_reverse}
-use Rattle.std.specs.Cmp.{IsTotalOrder}
+use Rattle.link_simulation.proofs.Common.{Less, Equal, Greater, is_lt, arith, ◌≡◌, List, [], ◌∷◌, map, Bool, true}
+use Rattle.link_simulation.proofs.Common.{false, cond, Option, Some, None, refl, sym, ap, ◌∙◌, subst, if◌then◌else◌}
+use Rattle.link_simulation.proofs.Common.{filter, find, list_any, Ordering, IsTotalOrder, without_first, fronts}
+use Rattle.link_simulation.proofs.Common.{least_pair, Message, pair_before, same_pair, Each, each_map, filter_stronger}
+use Rattle.link_simulation.proofs.Common.{rules}
+use Rattle.std.specs.Ordering.{ordering_reverse}
 use Rattle.std.proofs.lemmas.Cmp.{alike_right}
-use Rattle.std.proofs.lemmas.Bool.{false_from_ne_true}
-use Rattle.fair_rates.specs.Lists.WithoutFirst.{without_first}
-use Rattle.link_simulation.specs.Simulation.World.{fronts, least_pair}
-use Rattle.link_simulation.specs.Simulation.Messages.{Message, pair_before, same_pair}
-use Rattle.link_simulation.proofs.Laws.Bytes.{each_filter, each_least}
-use Rattle.fair_rates.proofs.Lists.Each.{Each, each_map}
-use Rattle.fair_rates.proofs.Lists.Filters.{filter_stronger}
-use Rattle.link_simulation.proofs.Simulation.PairOrder.{least_none, pair_cmp, pairs_total, not_before_itself}
+use Rattle.link_simulation.proofs.Simulation.PairOrder.{pair_cmp, pairs_total, least_none, not_before_itself}
 use Rattle.link_simulation.proofs.Simulation.PairOrder.{not_before_back}
 use Rattle.fair_rates.proofs.Lists.Sorted.{is_lt_less}
+use Rattle.std.proofs.lemmas.Bool.{false_from_ne_true}
+use Rattle.link_simulation.proofs.Laws.Bytes.{each_filter, each_least}
 
 -- ---- the first that passes, in the list and in what a filter leaves
 
 pub first_kept : {X : Type 0} (p q : X → Bool) (xs : List X) (x : X) → find q xs ≡ Some x → p x ≡ true
     → (find q (filter p xs) ≡ Some x) × (filter p (without_first q xs) ≡ without_first q (filter p xs))
 first_kept p q [] x e h = cc
-first_kept {X} p q (y ∷ ys) x e h = by_test (q y) refl e (λ g. first_kept p q ys x g h)
-  where
-    by_kept : (b : Bool) → q y ≡ false
-        → (find q (filter p ys) ≡ Some x) × (filter p (without_first q ys) ≡ without_first q (filter p ys))
-        → (find q (cond b (y ∷ filter p ys) (filter p ys)) ≡ Some x)
-        × (cond b (y ∷ filter p (without_first q ys)) (filter p (without_first q ys))
-        ≡ without_first q (cond b (y ∷ filter p ys) (filter p ys)))
-    by_kept true is g = (rw is g.0, rw is (ap (λ zs. y ∷ zs) g.1))
-    by_kept false is g = g
-
-    here : (b : Bool) → q y ≡ true → b ≡ true → y ≡ x
-        → (find q (cond b (y ∷ filter p ys) (filter p ys)) ≡ Some x)
-        × (filter p ys ≡ without_first q (cond b (y ∷ filter p ys) (filter p ys)))
-    here true is own same = (rw is (ap Some same), rw is refl)
-    here false is own same = cc
-
-    by_test : (b : Bool) → q y ≡ b → cond b (Some y) (find q ys) ≡ Some x
-        → (find q ys ≡ Some x
-        → (find q (filter p ys) ≡ Some x) × (filter p (without_first q ys) ≡ without_first q (filter p ys)))
-        → (find q (filter p (y ∷ ys)) ≡ Some x)
-        × (filter p (cond b ys (y ∷ without_first q ys)) ≡ without_first q (filter p (y ∷ ys)))
-    by_test true is g ih = let same : y ≡ x = cc in here (p y) is (ap p same ∙ h) same
-    by_test false is g ih = by_kept (p y) is (ih g)
+first_kept {X} p q (y ∷ ys) x e h = grind (arith, (first_kept p q ys x))
 
 pub first_dropped : {X : Type 0} (p q : X → Bool) (xs : List X) (x : X) → find q xs ≡ Some x → p x ≡ false
     → filter p (without_first q xs) ≡ filter p xs
 first_dropped p q [] x e h = refl
-first_dropped {X} p q (y ∷ ys) x e h = by_test (q y) e (λ g. first_dropped p q ys x g h)
-  where
-    by_test : (b : Bool) → cond b (Some y) (find q ys) ≡ Some x
-        → (find q ys ≡ Some x → filter p (without_first q ys) ≡ filter p ys)
-        → filter p (cond b ys (y ∷ without_first q ys)) ≡ filter p (y ∷ ys)
-    by_test true g ih = let same : y ≡ x = cc in let off : p y ≡ false = ap p same ∙ h in rw off refl
-    by_test false g ih = rw (ih g) refl
+first_dropped {X} p q (y ∷ ys) x e h = grind (arith, (first_dropped p q ys x))
 
 pub none_kept : {X : Type 0} (p q : X → Bool) (xs : List X) → find q xs ≡ None → find q (filter p xs) ≡ None
 none_kept p q [] e = refl
-none_kept {X} p q (y ∷ ys) e = by_test (q y) refl e (λ g. none_kept p q ys g)
-  where
-    by_kept : (b : Bool) → q y ≡ false → find q (filter p ys) ≡ None
-        → find q (cond b (y ∷ filter p ys) (filter p ys)) ≡ None
-    by_kept true is g = rw is g
-    by_kept false is g = g
-
-    by_test : (b : Bool) → q y ≡ b → cond b (Some y) (find q ys) ≡ None
-        → (find q ys ≡ None → find q (filter p ys) ≡ None) → find q (filter p (y ∷ ys)) ≡ None
-    by_test true is g ih = cc
-    by_test false is g ih = by_kept (p y) is (ih g)
+none_kept {X} p q (y ∷ ys) e = grind (arith, (none_kept p q ys))
 
 -- what passes is kept
 pub find_kept : {X : Type 0} (p q : X → Bool) (xs : List X) → ((x : X) → q x ≡ true → p x ≡ true)
     → find q (filter p xs) ≡ find q xs
 find_kept p q [] h = refl
-find_kept {X} p q (y ∷ ys) h = by_test (p y) (q y) refl refl (find_kept p q ys h)
-  where
-    by_test : (b c : Bool) → p y ≡ b → q y ≡ c → find q (filter p ys) ≡ find q ys
-        → find q (cond b (y ∷ filter p ys) (filter p ys)) ≡ cond c (Some y) (find q ys)
-    by_test true c is at ih = rw (at, ih) refl
-    by_test false false is at ih = ih
-    by_test false true is at ih = let k : p y ≡ true = h y at in cc
+find_kept {X} p q (y ∷ ys) h = grind (arith, (find_kept p q ys h))
 
 pub any_kept : {X Y : Type 0} (f : X → Y) (p : X → Bool) (q : Y → Bool) (xs : List X)
     → ((x : X) → q (f x) ≡ true → p x ≡ true) → list_any q (map f (filter p xs)) ≡ list_any q (map f xs)
 any_kept f p q [] h = refl
-any_kept {X} {Y} f p q (y ∷ ys) h = by_test (p y) (q (f y)) refl refl (any_kept f p q ys h)
-  where
-    by_test : (b c : Bool) → p y ≡ b → q (f y) ≡ c → list_any q (map f (filter p ys)) ≡ list_any q (map f ys)
-        → list_any q (map f (cond b (y ∷ filter p ys) (filter p ys))) ≡ (c || list_any q (map f ys))
-    by_test true c is at ih = rw (at, ih) refl
-    by_test false false is at ih = ih
-    by_test false true is at ih = let k : p y ≡ true = h y at in cc
+any_kept {X} {Y} f p q (y ∷ ys) h = grind (arith, (any_kept f p q ys h))
 
 -- ---- two filters
 
 pub filter_swap : {X : Type 0} (p q r : X → Bool) (xs : List X) → ((x : X) → p x ≡ true → q x ≡ r x)
     → filter q (filter p xs) ≡ filter p (filter r xs)
 filter_swap p q r [] h = refl
-filter_swap {X} p q r (y ∷ ys) h = by_test (p y) (r y) refl refl (filter_swap p q r ys h)
-  where
-    by_test : (b c : Bool) → p y ≡ b → r y ≡ c → filter q (filter p ys) ≡ filter p (filter r ys)
-        → filter q (cond b (y ∷ filter p ys) (filter p ys)) ≡ filter p (cond c (y ∷ filter r ys) (filter r ys))
-    by_test true true is at ih = let k : q y ≡ true = h y is ∙ at in rw (k, is, ih) refl
-    by_test true false is at ih = let k : q y ≡ false = h y is ∙ at in rw (k, ih) refl
-    by_test false true is at ih = rw (is, ih) refl
-    by_test false false is at ih = ih
+filter_swap {X} p q r (y ∷ ys) h = grind (arith, (filter_swap p q r ys h))
 
 module _ {P : Type 0} (cmp : P → P → Ordering) (order : IsTotalOrder cmp) where
   -- ---- the order of pairs
@@ -136,27 +72,7 @@ module _ {P : Type 0} (cmp : P → P → Ordering) (order : IsTotalOrder cmp) wh
       (ms : List (Message P))
       → fronts cmp (filter mine ms) ≡ filter mine (fronts cmp ms)
   fronts_kept mine alike [] = refl
-  fronts_kept mine alike (m ∷ ms) = by_test (mine m) refl (fronts_kept mine alike ms)
-    where
-      by_pair : (n : Message P) (b : Bool) → same_pair cmp m n ≡ b → mine m ≡ false → mine n ≡ true → not b ≡ true
-      by_pair n true is off own = let same : mine m ≡ mine n = alike m n is in cc
-      by_pair n false is off own = refl
-
-      by_test : (b : Bool) → mine m ≡ b → fronts cmp (filter mine ms) ≡ filter mine (fronts cmp ms)
-          → fronts cmp (cond b (m ∷ filter mine ms) (filter mine ms))
-          ≡ filter mine (m ∷ filter (λ n. not (same_pair cmp m n)) (fronts cmp ms))
-      by_test true is ih =
-          ap (λ (ns : List (Message P)). m ∷ filter (λ n. not (same_pair cmp m n)) ns) ih
-          ∙ ap (λ (ns : List (Message P)). m ∷ ns)
-          (filter_swap mine (λ n. not (same_pair cmp m n)) (λ n. not (same_pair cmp m n)) (fronts cmp ms)
-          (λ n own. refl))
-          ∙ (rw is refl)
-      by_test false is ih =
-          ih
-          ∙ sym
-          (filter_stronger mine (λ n. not (same_pair cmp m n)) (fronts cmp ms)
-          (λ n own. by_pair n (same_pair cmp m n) refl is own))
-          ∙ (rw is refl)
+  fronts_kept mine alike (m ∷ ms) = search (rules, filter_swap, filter_stronger, (fronts_kept mine alike ms))
 
   least_is : (m : Message P) (ms : List (Message P)) (o : Option (Message P)) → least_pair cmp ms ≡ o
       → least_pair cmp (m ∷ ms) ≡ Some (elim o [ None ↦ m | Some n ↦ if pair_before cmp n m then n else m ])
@@ -170,29 +86,13 @@ module _ {P : Type 0} (cmp : P → P → Ordering) (order : IsTotalOrder cmp) wh
     where
       by_test : (n : Message P) (b : Bool) → pair_before cmp n m ≡ b → Some (cond b n m) ≡ Some x
           → Each (λ k. pair_before cmp k n ≡ false) ms → Each (λ k. pair_before cmp k x ≡ false) (m ∷ ms)
-      by_test n true is s g =
-          let same : n ≡ x = cc in
-          subst (λ (z : Message P). Each (λ k. pair_before cmp k z ≡ false) (m ∷ ms)) same
-          (not_before_back cmp order n m is, g)
-      by_test n false is s g =
-          let same : m ≡ x = cc in
-          subst (λ (z : Message P). Each (λ k. pair_before cmp k z ≡ false) (m ∷ ms)) same (
-            not_before_itself cmp order m,
-            each_map (λ k. pair_before cmp k n ≡ false) (λ k. pair_before cmp k m ≡ false) ms
-                (λ k h. not_below k m n is h) g,
-          )
+      by_test n true is s g = grind (arith, not_before_back)
+      by_test n false is s g = grind (arith, not_before_itself, each_map, not_below)
 
       by_rest : (o : Option (Message P)) → least_pair cmp ms ≡ o
           → ((y : Message P) → least_pair cmp ms ≡ Some y → Each (λ k. pair_before cmp k y ≡ false) ms)
           → Each (λ k. pair_before cmp k x ≡ false) (m ∷ ms)
-      by_rest None is ih =
-          let s : Some m ≡ Some x = sym (least_is m ms None is) ∙ e in
-          let same : m ≡ x = cc in
-          let none : ms ≡ [] = least_none cmp order ms is in
-          subst (λ (z : Message P). Each (λ k. pair_before cmp k z ≡ false) (m ∷ ms)) same (
-            not_before_itself cmp order m,
-            subst (λ (ks : List (Message P)). Each (λ k. pair_before cmp k m ≡ false) ks) (sym none) tt,
-          )
+      by_rest None is ih = grind (arith, least_is, least_none, not_before_itself)
       by_rest (Some n) is ih = by_test n (pair_before cmp n m) refl (sym (least_is m ms (Some n) is) ∙ e) (ih n is)
 
   pub least_kept : (mine : Message P → Bool) (ms : List (Message P)) (x : Message P) → least_pair cmp ms ≡ Some x
@@ -210,22 +110,18 @@ module _ {P : Type 0} (cmp : P → P → Ordering) (order : IsTotalOrder cmp) wh
           → ((n : Message P) → least_pair cmp (filter mine ms) ≡ Some n → pair_before cmp n m ≡ false)
           → least_pair cmp (m ∷ filter mine ms) ≡ Some m
       first None is h = least_is m (filter mine ms) None is
-      first (Some n) is h =
-          least_is m (filter mine ms) (Some n) is ∙ (let k : pair_before cmp n m ≡ false = h n is in rw k refl)
+      first (Some n) is h = grind (arith, least_is)
 
       by_test : (n : Message P) (b : Bool) → pair_before cmp n m ≡ b → Some (cond b n m) ≡ Some x
           → (mine n ≡ true → least_pair cmp (filter mine ms) ≡ Some n)
           → Each (λ k. pair_before cmp k x ≡ false) ms → least_pair cmp (filter mine (m ∷ ms)) ≡ Some x
-      by_test n true is s ih below =
-          let same : n ≡ x = cc in keeps (mine m) n is (ih (ap mine same ∙ own)) ∙ ap Some same
+      by_test n true is s ih below = grind (arith, keeps)
       by_test n false is s ih below =
           let same : m ≡ x = cc in
           let here : mine m ≡ true = ap mine same ∙ own in
-          let low : Each (λ k. pair_before cmp k m ≡ false) ms =
-          subst (λ (z : Message P). Each (λ k. pair_before cmp k z ≡ false) ms) (sym same) below in
-          let rest : Each (λ k. pair_before cmp k m ≡ false) (filter mine ms) =
-          each_filter (λ k. pair_before cmp k m ≡ false) (λ k. pair_before cmp k m ≡ false) mine ms (λ k t h. h)
-          low in
+          let low = subst (λ (z : Message P). Each (λ k. pair_before cmp k z ≡ false) ms) (sym same) below in
+          let rest = each_filter (λ k. pair_before cmp k m ≡ false) (λ k. pair_before cmp k m ≡ false) mine ms
+          (λ k t h. h) low in
           rw here
           (first (least_pair cmp (filter mine ms)) refl
           (λ k g. each_least cmp order (λ j. pair_before cmp j m ≡ false) (filter mine ms) k rest g)
@@ -234,11 +130,6 @@ module _ {P : Type 0} (cmp : P → P → Ordering) (order : IsTotalOrder cmp) wh
       by_rest : (o : Option (Message P)) → least_pair cmp ms ≡ o
           → ((y : Message P) → least_pair cmp ms ≡ Some y → mine y ≡ true → least_pair cmp (filter mine ms) ≡ Some y)
           → Each (λ k. pair_before cmp k x ≡ false) (m ∷ ms) → least_pair cmp (filter mine (m ∷ ms)) ≡ Some x
-      by_rest None is ih below =
-          let s : Some m ≡ Some x = sym (least_is m ms None is) ∙ e in
-          let same : m ≡ x = cc in
-          let here : mine m ≡ true = ap mine same ∙ own in
-          let none : ms ≡ [] = least_none cmp order ms is in
-          rw (here, none) s
+      by_rest None is ih below = grind (arith, least_is, least_none)
       by_rest (Some n) is ih below =
           by_test n (pair_before cmp n m) refl (sym (least_is m ms (Some n) is) ∙ e) (λ h. ih n is h) below.1

@@ -1,30 +1,20 @@
 -- Going once through the pairs that are ready, in their order, is picking the least pair again and again.
-use Rattle.std.proofs.Common.{◌≡◌, ℕ, List, [], ◌∷◌, Bool, true, false, cond, not, Option, Some, None, refl, sym, ap}
-use Rattle.std.proofs.Common.{◌∙◌, subst, ◌⊎◌, inl, inr}
-use Rattle.std.specs.Prelude.{⊤, ◌&&◌, if◌then◌else◌}
-use Rattle.std.specs.List.{filter, find}
-use Rattle.std.specs.declared.cmp.Ordering.{Ordering}
-use Rattle.std.specs.declared.cmp.Ordering.TheVariants.{Less, Equal, Greater}
-use Rattle.std.specs.Ordering.{is_eq, is_lt, ordering_then}
-use Rattle.std.specs.Cmp.{IsTotalOrder}
-use Rattle.std.proofs.lemmas.Cmp.{alike_right}
-use Rattle.std.proofs.lemmas.Bool.{not-true, not_from_false}
-use Rattle.link_simulation.specs.Simulation.World.{World, fronts, least_pair, may_start, ready}
-use Rattle.link_simulation.specs.Simulation.Messages.{Message, SameMessage, pair_before, same_pair}
-use Rattle.link_simulation.specs.Rule.Planned.{AreInPairOrder, Planned, SomeReadyAt, may_launch, next_of}
-use Rattle.link_simulation.specs.Rule.StandsFor.{Tallies}
+use Rattle.link_simulation.proofs.Common.{arith, ◌≡◌, ℕ, List, [], ◌∷◌, Bool, true, false, cond, not, Option, Some}
+use Rattle.link_simulation.proofs.Common.{None, refl, sym, ◌∙◌, subst, ◌⊎◌, inl, inr, ⊤, if◌then◌else◌, filter, find}
+use Rattle.link_simulation.proofs.Common.{Ordering, IsTotalOrder, not-true, World, fronts, least_pair, may_start, ready}
+use Rattle.link_simulation.proofs.Common.{Message, SameMessage, pair_before, same_pair, AreInPairOrder, Planned}
+use Rattle.link_simulation.proofs.Common.{SomeReadyAt, may_launch, next_of, Tallies, Each, each_map, each_filtered}
+use Rattle.link_simulation.proofs.Rule.BeforeNext.{IsFront, fronts_first, first_found, may_alike, messages_alike}
+use Rattle.std.proofs.lemmas.Bool.{not_from_false}
 use Rattle.link_simulation.proofs.Simulation.Queue.{pair_sym, find_passes}
 use Rattle.link_simulation.proofs.Simulation.AlikeMessages.{pair_itself, message_itself, pairs_alike}
-use Rattle.link_simulation.proofs.Rule.BeforeNext.{IsFront, fronts_first, first_found, may_alike, messages_alike}
 use Rattle.link_simulation.proofs.Simulation.SettlingEnds.{find_like}
-use Rattle.fair_rates.proofs.Lists.Each.{Each, each_map, each_filtered}
 use Rattle.link_simulation.proofs.Rule.Launch.{OptionsAlike, next_alike}
 use Rattle.link_simulation.proofs.Simulation.OnePair.{apart}
 use Rattle.link_simulation.proofs.Rule.Waking.{Picks, each_none}
 use Rattle.link_simulation.proofs.Laws.Bytes.{each_least}
-use Rattle.link_simulation.proofs.Simulation.PairOrder.{before_if_not, apart_if_before, pair_cmp, pairs_total}
+use Rattle.link_simulation.proofs.Simulation.PairOrder.{before_if_not, apart_if_before}
 use Rattle.link_simulation.proofs.Simulation.FilteredFronts.{none_below}
-use Rattle.fair_rates.proofs.Lists.Sorted.{is_eq_equal}
 
 -- ---- lists
 
@@ -42,11 +32,7 @@ pub some_filtered : {X : Type 0} (Q : X → Type 0) (test : X → Bool) (xs : Li
     → Somewhere (λ x. Q x × (test x ≡ true)) xs → Somewhere Q (filter test xs)
 some_filtered Q test [] h = absurd h
 some_filtered Q test (x ∷ xs) (inl q) = rw q.1 (inl q.0)
-some_filtered {X} Q test (x ∷ xs) (inr h) = by_test (test x) (some_filtered Q test xs h)
-  where
-    by_test : (b : Bool) → Somewhere Q (filter test xs) → Somewhere Q (cond b (x ∷ filter test xs) (filter test xs))
-    by_test true ih = inr ih
-    by_test false ih = ih
+some_filtered {X} Q test (x ∷ xs) (inr h) = grind (arith, (some_filtered Q test xs h))
 
 -- what holds of each holds of the one that is found
 some_each : {X : Type 0} (Q R : X → Type 0) (xs : List X) → Each Q xs → Somewhere R xs → (x : X) × Q x × R x
@@ -54,33 +40,16 @@ some_each Q R [] e h = absurd h
 some_each Q R (x ∷ xs) e (inl r) = (x, e.0, r)
 some_each Q R (x ∷ xs) e (inr h) = some_each Q R xs e.1 h
 
-each_in_filter : {X : Type 0} (Q : X → Type 0) (test : X → Bool) (xs : List X) → Each Q xs → Each Q (filter test xs)
+pub each_in_filter : {X : Type 0} (Q : X → Type 0) (test : X → Bool) (xs : List X) → Each Q xs → Each Q (filter test xs)
 each_in_filter Q test [] h = tt
-each_in_filter {X} Q test (x ∷ xs) h = by_test (test x) (each_in_filter Q test xs h.1)
-  where
-    by_test : (b : Bool) → Each Q (filter test xs) → Each Q (cond b (x ∷ filter test xs) (filter test xs))
-    by_test true ih = (h.0, ih)
-    by_test false ih = ih
+each_in_filter {X} Q test (x ∷ xs) h = grind (arith, (each_in_filter Q test xs))
 
 module _ {P : Type 0} (cmp : P → P → Ordering) (order : IsTotalOrder cmp) where
   -- ---- the order of pairs
 
-  both_equal : (a b : Ordering) → (is_eq a && is_eq b) ≡ is_eq (ordering_then a b)
-  both_equal Less b = refl
-  both_equal Equal b = refl
-  both_equal Greater b = refl
-
-  same_is : (m n : Message P) → same_pair cmp m n ≡ is_eq (pair_cmp cmp order m n)
-  same_is m n = both_equal (cmp m.origin n.origin) (cmp m.recipient n.recipient)
-
   pub before_alike : (m n k l : Message P) → SameMessage cmp m n → SameMessage cmp k l
       → pair_before cmp m k ≡ pair_before cmp n l
-  before_alike m n k l f g =
-      let first : pair_cmp cmp order m n ≡ Equal =
-      is_eq_equal (pair_cmp cmp order m n) (sym (same_is m n) ∙ rw (f.origin, f.recipient) refl) in
-      let second : pair_cmp cmp order k l ≡ Equal =
-      is_eq_equal (pair_cmp cmp order k l) (sym (same_is k l) ∙ rw (g.origin, g.recipient) refl) in
-      ap is_lt ((pairs_total cmp order).congr m n k first ∙ alike_right (pairs_total cmp order) k l n second)
+  before_alike m n k l f g = grind arith
 
   -- ---- the least pair
 
@@ -95,11 +64,7 @@ module _ {P : Type 0} (cmp : P → P → Ordering) (order : IsTotalOrder cmp) wh
 
   sorted_filter : (test : Message P → Bool) (ms : List (Message P)) → IsSorted ms → IsSorted (filter test ms)
   sorted_filter test [] h = tt
-  sorted_filter test (m ∷ ms) h = by_test (test m) (sorted_filter test ms h.1)
-    where
-      by_test : (b : Bool) → IsSorted (filter test ms) → IsSorted (cond b (m ∷ filter test ms) (filter test ms))
-      by_test true ih = (each_in_filter (λ n. pair_before cmp m n ≡ true) test ms h.0, ih)
-      by_test false ih = ih
+  sorted_filter test (m ∷ ms) h = grind (arith, each_in_filter, (sorted_filter test ms))
 
   each_front : (Q : Message P → Type 0) (ms : List (Message P)) → Each Q ms → Each Q (fronts cmp ms)
   each_front Q [] h = tt
@@ -140,13 +105,10 @@ module _ {P : Type 0} (cmp : P → P → Ordering) (order : IsTotalOrder cmp) wh
       by_place : SameMessage cmp m y ⊎ IsAmong ms y → SameMessage cmp m y
       by_place (inl same) = same
       by_place (inr rest) =
-          let later : (n : Message P) × (pair_before cmp m n ≡ true) × SameMessage cmp n y =
-          some_each (λ n. pair_before cmp m n ≡ true) (λ n. SameMessage cmp n y) ms sorted.0 rest in
-          let there : (z : Message P) × (pair_before cmp z y ≡ false) × SameMessage cmp m z
-          = some_each (λ z. pair_before cmp z y ≡ false) (λ z. SameMessage cmp m z) (x ∷ xs)
+          let later = some_each (λ n. pair_before cmp m n ≡ true) (λ n. SameMessage cmp n y) ms sorted.0 rest in
+          let there = some_each (λ z. pair_before cmp z y ≡ false) (λ z. SameMessage cmp m z) (x ∷ xs)
           (none_below cmp order (x ∷ xs) y least) has.0 in
-          let same : pair_before cmp m later.0 ≡ pair_before cmp there.0 y =
-          before_alike m there.0 later.0 y there.2 later.2 in
+          let same = before_alike m there.0 later.0 y there.2 later.2 in
           absurd (differ (sym later.1 ∙ same ∙ there.1))
         where
           differ : true ≡ false → ⊥
@@ -163,8 +125,7 @@ module _ {P : Type 0} (cmp : P → P → Ordering) (order : IsTotalOrder cmp) wh
         where
           by_head : (z : Message P) → SameMessage cmp m z ⊎ IsAmong ms z → apart cmp order y z ≡ true → IsAmong ms z
           by_head z (inl same) off =
-              let pair : same_pair cmp y z ≡ true =
-              sym (pairs_alike cmp order m y m z own same) ∙ pair_itself cmp order m in
+              let pair = sym (pairs_alike cmp order m y m z own same) ∙ pair_itself cmp order m in
               let none : same_pair cmp y z ≡ false = not-true (same_pair cmp y z) off in
               cc
           by_head z (inr rest) off = rest
@@ -225,16 +186,11 @@ module _ {P : Type 0} (cmp : P → P → Ordering) (order : IsTotalOrder cmp) wh
   pub in_ready : (t : ℕ) (p : Planned P) (w : World P) (m : Message P) → Tallies cmp t p w → next_of cmp p m ≡ Some m
       → may_launch cmp t p m ≡ true → HasIn (ready cmp t w) m
   in_ready t p w m same next may =
-      let there : (y : Message P) × (find (same_pair cmp m) w.waiting ≡ Some y) × SameMessage cmp m y
-      = alike_some (find (same_pair cmp m) w.waiting) m
-      (subst (λ (o : Option (Message P)). OptionsAlike (SameMessage cmp) o (find (same_pair cmp m) w.waiting)) next
-      (next_alike cmp order t p w m m same (message_itself cmp order m)))
-      in
-      let may_too : may_start cmp t w there.0 ≡ true =
-      sym
-      (may_alike cmp order t p w m there.0 same.last_arrival
-      (messages_alike cmp order t p.sending w.sending same.sending) there.2)
-      ∙ may in
+      let there = alike_some (find (same_pair cmp m) w.waiting) m (subst
+      (λ (o : Option (Message P)). OptionsAlike (SameMessage cmp) o (find (same_pair cmp m) w.waiting)) next
+      (next_alike cmp order t p w m m same (message_itself cmp order m))) in
+      let may_too = sym (may_alike cmp order t p w m there.0 same.last_arrival
+      (messages_alike cmp order t p.sending w.sending same.sending) there.2) ∙ may in
       some_filtered (λ y. SameMessage cmp m y) (may_start cmp t w) (fronts cmp w.waiting)
       (in_fronts (λ y. SameMessage cmp m y × (may_start cmp t w y ≡ true)) there.0 w.waiting
       (found_own m there.0 w.waiting there.1) (there.2, may_too))
@@ -243,14 +199,11 @@ module _ {P : Type 0} (cmp : P → P → Ordering) (order : IsTotalOrder cmp) wh
       → find (same_pair cmp y) w.waiting ≡ Some y → may_start cmp t w y ≡ true
       → IsAmong (filter (may_launch cmp t p) (fronts cmp p.waiting)) y
   in_launching t p w y same next may =
-      let there : (x : Message P) × (next_of cmp p y ≡ Some x) × SameMessage cmp x y
-      = alike_some_back (next_of cmp p y) y
-      (subst (λ (o : Option (Message P)). OptionsAlike (SameMessage cmp) (next_of cmp p y) o) next
+      let there = alike_some_back (next_of cmp p y) y (subst
+      (λ (o : Option (Message P)). OptionsAlike (SameMessage cmp) (next_of cmp p y) o) next
       (next_alike cmp order t p w y y same (message_itself cmp order y))) in
-      let may_too : may_launch cmp t p there.0 ≡ true =
-      may_alike cmp order t p w there.0 y same.last_arrival
-      (messages_alike cmp order t p.sending w.sending same.sending) there.2
-      ∙ may in
+      let may_too = may_alike cmp order t p w there.0 y same.last_arrival
+      (messages_alike cmp order t p.sending w.sending same.sending) there.2 ∙ may in
       some_filtered (λ x. SameMessage cmp x y) (may_launch cmp t p) (fronts cmp p.waiting)
       (in_fronts (λ x. SameMessage cmp x y × (may_launch cmp t p x ≡ true)) there.0 p.waiting
       (found_own y there.0 p.waiting there.1) (there.2, may_too))

@@ -1,11 +1,9 @@
 -- Amounts in lowest terms stay so, and draining for no time changes none of them.
-use Rattle.std.proofs.Common.{◌≡◌, ℕ, zero, suc, ◌+◌, ◌-◌, ◌*◌, ◌<◌, ◌≤◌, Some, None, refl, sym, ap, ◌∙◌, arith, Option}
-use Rattle.std.specs.Prelude.{IfSome}
-use Rattle.std.proofs.Math.Nat.{mul_comm, mul-pos, mul-le-mul_right}
-use Rattle.fair_rates.specs.Numbers.Amount.{Amount, Covers, billion, drained, reduced, whole}
-use Rattle.link_simulation.specs.Simulation.Rates.{IsLowest, drained_by}
-use Rattle.fair_rates.specs.Numbers.LowestTerms.{IsScaled, reduced_scales, reduced_scaled, reduced_positive}
-use Rattle.fair_rates.specs.Numbers.LowestTerms.{reduced_alike}
+use Rattle.link_simulation.proofs.Common.{◌≡◌, ℕ, zero, suc, ◌+◌, ◌-◌, ◌*◌, ◌<◌, ◌≤◌, Some, None, refl, sym, ◌∙◌, arith}
+use Rattle.link_simulation.proofs.Common.{Option, IfSome, mul-pos, Amount, billion, drained, reduced, whole, IsLowest}
+use Rattle.link_simulation.proofs.Common.{drained_by, reduced_positive}
+use Rattle.std.proofs.Math.Nat.{mul_comm, mul-le-mul_right}
+use Rattle.fair_rates.specs.Numbers.LowestTerms.{IsScaled, reduced_scales, reduced_scaled, reduced_alike}
 use Rattle.fair_rates.proofs.Numbers.Draining.{drained_twice, spent_if_covers, covers_if_spent}
 
 pub reduced_lowest : (n d : ℕ) → 0 < d → IsLowest (reduced n d)
@@ -27,15 +25,8 @@ product_one (suc (suc f)) (suc q) e = absurd (omega arith)
 
 pub whole_lowest : (n : ℕ) → IsLowest (whole n)
 whole_lowest n =
-    let a : Amount = reduced n 1 in
-    let s : IsScaled n 1 a = reduced_scales n 1 (omega arith) in
-    let one : (s.factor ≡ 1) × (a.den ≡ 1) = product_one s.factor a.den s.den in
-    let num : a.num ≡ n = sym (s.num ∙ ap (λ f. f * a.num) one.0 ∙ omega arith) in
-    record { positive = omega arith; lowest = amount_is a.num n a.den 1 num one.1 }
-  where
-    amount_is : (a b c d : ℕ) → a ≡ b → c ≡ d
-        → ◌≡◌ {A = Amount} (record { num = a; den = c }) (record { num = b; den = d })
-    amount_is a b c d e f = rw (e, f) refl
+    grind (arith,
+    (product_one (reduced_scales n 1 (omega arith)).factor (reduced n 1).den (reduced_scales n 1 (omega arith)).den))
 
 pub drained_none : (left rate : Amount) → IsLowest left → 0 < rate.den → drained left rate 0 ≡ left
 drained_none left rate low h =
@@ -51,9 +42,7 @@ drained_none left rate low h =
 pub drained_by_lowest : (rate : Option Amount) (n : ℕ) (left : Amount) → IfSome rate (λ r. 0 < r.den) → 0 < left.den
     → IsLowest (drained_by rate n left)
 drained_by_lowest None n left h j = whole_lowest 0
-drained_by_lowest (Some r) n left h j =
-    reduced_lowest (left.num * (r.den * billion) - n * (r.num * left.den)) (left.den * (r.den * billion))
-    (mul-pos j (mul-pos h (omega arith)))
+drained_by_lowest (Some r) n left h j = grind (arith, reduced_lowest, mul-pos)
 
 pub drained_by_twice : (rate : Option Amount) (a b : ℕ) (left : Amount) → IfSome rate (λ r. 0 < r.den) → 0 < left.den
     → drained_by rate b (drained_by rate a left) ≡ drained_by rate (a + b) left
@@ -64,7 +53,4 @@ drained_by_twice (Some r) a b left h j = drained_twice left r a b j h
 pub spent_later : (rate : Option Amount) (a b : ℕ) (left : Amount) → IfSome rate (λ r. 0 < r.den) → 0 < left.den → a ≤ b
     → (drained_by rate a left).num ≡ 0 → (drained_by rate b left).num ≡ 0
 spent_later None a b left h j le e = refl
-spent_later (Some r) a b left h j le e =
-    let c : Covers r a left = covers_if_spent left r a j h e in
-    let more : a * (r.num * left.den) ≤ b * (r.num * left.den) = mul-le-mul_right (r.num * left.den) le in
-    spent_if_covers left r b j h (omega arith)
+spent_later (Some r) a b left h j le e = grind (arith, covers_if_spent, mul-le-mul_right, spent_if_covers)

@@ -1,25 +1,16 @@
 -- Settling makes no pair ready.
-use Rattle.std.proofs.Common.{◌≡◌, ℕ, zero, suc, ◌+◌, ◌≤◌, List, [], ◌∷◌, ◌++◌, map, length, Bool, true, false, cond}
-use Rattle.std.proofs.Common.{not, Option, Some, None, refl, sym, ap, ◌∙◌, subst, arith, length-append, ◌⊎◌, inl, inr}
-use Rattle.std.specs.Prelude.{nat_le, ⊤, ◌&&◌, ◌||◌}
-use Rattle.std.specs.List.{filter, find, list_any}
-use Rattle.std.specs.declared.cmp.Ordering.{Ordering}
-use Rattle.std.specs.Cmp.{IsTotalOrder}
-use Rattle.std.proofs.lemmas.Bool.{or_parts, or_left, or_right}
-use Rattle.std.proofs.lemmas.List.{map-append}
-use Rattle.std.proofs.lemmas.List.Folds.{list_any-append}
-use Rattle.fair_rates.specs.Lists.WithoutFirst.{without_first}
-use Rattle.link_simulation.specs.Simulation.World.{Completed, Course, Flight, World, flows, fronts, goes, is_done}
-use Rattle.link_simulation.specs.Simulation.World.{is_in_order, last_moment, may_start, meets, ready, settle, EndsWith}
-use Rattle.link_simulation.specs.Simulation.World.{is_late, completed, flight_of}
-use Rattle.link_simulation.specs.Simulation.Messages.{Message, OneForEachPair, same_pair}
-use Rattle.fair_rates.specs.declared.error.Error.TheVariants.{FlowIdsUsedUp, MomentTooLate}
-use Rattle.link_simulation.specs.Simulation.Queue.{leaving, staying, out_of_waiting, joined, arrived, launch_then}
-use Rattle.link_simulation.specs.Simulation.Queue.{finish_within}
+use Rattle.link_simulation.proofs.Common.{◌≡◌, ℕ, zero, suc, ◌+◌, ◌≤◌, List, [], ◌∷◌, ◌++◌, map, length, Bool, true}
+use Rattle.link_simulation.proofs.Common.{false, cond, not, Option, Some, None, refl, sym, ap, ◌∙◌, subst, arith}
+use Rattle.link_simulation.proofs.Common.{length-append, ◌⊎◌, inl, inr, nat_le, ⊤, ◌&&◌, ◌||◌, filter, find, list_any}
+use Rattle.link_simulation.proofs.Common.{Ordering, IsTotalOrder, or_left, or_right, map-append, list_any-append}
+use Rattle.link_simulation.proofs.Common.{without_first, Completed, Course, Flight, World, flows, fronts, goes, is_done}
+use Rattle.link_simulation.proofs.Common.{is_in_order, last_moment, may_start, meets, ready, settle, EndsWith, is_late}
+use Rattle.link_simulation.proofs.Common.{completed, flight_of, Message, OneForEachPair, same_pair, FlowIdsUsedUp}
+use Rattle.link_simulation.proofs.Common.{MomentTooLate, leaving, staying, out_of_waiting, joined, arrived, launch_then}
+use Rattle.link_simulation.proofs.Common.{finish_within, each_map}
 use Rattle.link_simulation.proofs.Simulation.Queue.{any_like, find_passes, pair_sym, pair_like}
 use Rattle.link_simulation.proofs.Rule.BeforeNext.{filter_none, IsFront, fronts_first, first_found}
-use Rattle.fair_rates.proofs.Lists.Each.{each_map}
-use Rattle.link_simulation.proofs.Rule.Launch.{head_found, head_of, waits_without}
+use Rattle.link_simulation.proofs.Rule.Launch.{head_found, waits_without}
 use Rattle.link_simulation.proofs.Rule.Settling.{settle_is_finish}
 use Rattle.link_simulation.proofs.Simulation.OnePair.{OnlyPair, only_arrived, only_taken, only_joined, IsRested}
 use Rattle.link_simulation.proofs.Simulation.OnePair.{rested_joined, may_others}
@@ -30,17 +21,7 @@ use Rattle.link_simulation.proofs.Simulation.SettlingEnds.{ends_preceded, ends_c
 any_split : {X : Type 0} (p test : X → Bool) (xs : List X) → list_any p (filter test xs) ≡ false
     → list_any p (filter (λ x. not (test x)) xs) ≡ list_any p xs
 any_split p test [] e = refl
-any_split {X} p test (x ∷ xs) e = by_test (test x) e (any_split p test xs)
-  where
-    by_test : (b : Bool) → list_any p (cond b (x ∷ filter test xs) (filter test xs)) ≡ false
-        → (list_any p (filter test xs) ≡ false → list_any p (filter (λ x. not (test x)) xs) ≡ list_any p xs)
-        → list_any p (cond (not b) (x ∷ filter (λ x. not (test x)) xs) (filter (λ x. not (test x)) xs))
-        ≡ (p x || list_any p xs)
-    by_test true e ih =
-        let parts : (p x ≡ false) × (list_any p (filter test xs) ≡ false) =
-        or_parts (p x) (list_any p (filter test xs)) e in
-        rw parts.0 (ih parts.1)
-    by_test false e ih = ap (λ (b : Bool). p x || b) (ih e)
+any_split {X} p test (x ∷ xs) e = grind (arith, (any_split p test xs))
 
 any_map : {X Y : Type 0} (p : Y → Bool) (f : X → Y) (xs : List X) → list_any p (map f xs) ≡ list_any (λ x. p (f x)) xs
 any_map p f [] = refl
@@ -63,16 +44,12 @@ module _ {P : Type 0} (cmp : P → P → Ordering) (order : IsTotalOrder cmp) (y
 
   pub find_without : (x : Message P) (ws : List (Message P)) → same_pair cmp y x ≡ false
       → find (same_pair cmp y) (without_first (same_pair cmp x) ws) ≡ find (same_pair cmp y) ws
-  find_without x ws off =
-      head_found (same_pair cmp y) (without_first (same_pair cmp x) ws)
-      ∙ ap head_of (rw off at (waits_without cmp order y x ws)) ∙ sym (head_found (same_pair cmp y) ws)
+  find_without x ws off = grind (arith, head_found, waits_without)
 
   any_end : (fs : List (Flight P)) (x : Message P)
       → list_any (same_pair cmp y) (map (λ (f : Flight P). f.message) (fs ++ flight_of x ∷ []))
       ≡ (list_any (same_pair cmp y) (map (λ (f : Flight P). f.message) fs) || (same_pair cmp y x || false))
-  any_end fs x =
-      ap (list_any (same_pair cmp y)) (map-append (λ (f : Flight P). f.message) fs (flight_of x ∷ []))
-      ∙ list_any-append (same_pair cmp y) (map (λ (f : Flight P). f.message) fs) (x ∷ [])
+  any_end fs x = grind (arith, map-append, list_any-append)
 
   WhenHeld : ℕ → ℕ → Type 0
   WhenHeld n t =
@@ -85,12 +62,7 @@ module _ {P : Type 0} (cmp : P → P → Ordering) (order : IsTotalOrder cmp) (y
       → (same_pair cmp y z ≡ true) ⊎ ((same_pair cmp y z ≡ false) × IsHeld t fs w)
       → EndsWith (IsRested cmp order y t) (launch_then cmp (finish_within cmp n t) t fs w o)
   unfolding launch_then WhenHeld IsRested
-  launch_rests n t fs z w None ih fuel is (inl own) =
-      ih fs w fuel
-      (inr
-      (λ x found. let none : find (same_pair cmp y) w.waiting ≡ None = sym (find_like cmp order y z w.waiting own)
-      ∙ is in
-      cc))
+  launch_rests n t fs z w None ih fuel is (inl own) = grind arith
   launch_rests n t fs z w None ih fuel is (inr off) = ih fs w fuel off.1
   launch_rests n t fs z w (Some x) ih fuel is held = by_may (may_start cmp t w x) refl held
     where
@@ -118,9 +90,7 @@ module _ {P : Type 0} (cmp : P → P → Ordering) (order : IsTotalOrder cmp) (y
           (any_end fs x
           ∙ or_left (list_any (same_pair cmp y) (map (λ (f : Flight P). f.message) fs)) (same_pair cmp y x || false)
           among)
-      held_taken (inr (off, inr rested)) =
-          inr (rested_other x t w (out_of_waiting cmp w x) (y_x ∙ off)
-          (only_taken cmp order x w x (pair_itself cmp order x)) (find_without x w.waiting (y_x ∙ off)) rested)
+      held_taken (inr (off, inr rested)) = grind (arith, rested_other, y_x, only_taken, pair_itself, find_without)
 
       held_joined : (same_pair cmp y z ≡ true) ⊎ ((same_pair cmp y z ≡ false) × IsHeld t fs w)
           → IsHeld t fs (joined cmp w x)
@@ -142,9 +112,7 @@ module _ {P : Type 0} (cmp : P → P → Ordering) (order : IsTotalOrder cmp) (y
 
       held_still : may_start cmp t w x ≡ false
           → (same_pair cmp y z ≡ true) ⊎ ((same_pair cmp y z ≡ false) × IsHeld t fs w) → IsHeld t fs w
-      held_still e (inl own) =
-          inr (λ k found. let same : Some x ≡ Some k = sym is ∙ find_like cmp order y z w.waiting own
-          ∙ found in let it : x ≡ k = cc in subst (λ (m : Message P). may_start cmp t w m ≡ false) it e)
+      held_still e (inl own) = grind (arith, find_like)
       held_still e (inr off) = off.1
 
       by_may : (b : Bool) → may_start cmp t w x ≡ b
@@ -215,16 +183,13 @@ module _ {P : Type 0} (cmp : P → P → Ordering) (order : IsTotalOrder cmp) wh
       by_test true e rested = inl e
       by_test false e rested = inr (λ x found.
           let own : same_pair cmp y x ≡ true = find_passes (same_pair cmp y) x w.waiting found in
-          let none_leaves : list_any (λ (f : Flight P). same_pair cmp x f.message) (filter (is_done cmp w) w.sending)
-          ≡ false =
-          sym (any_map (same_pair cmp x) (λ (f : Flight P). f.message) (filter (is_done cmp w) w.sending))
-          ∙ any_like cmp order y x (map (λ (f : Flight P). f.message) (filter (is_done cmp w) w.sending)) own ∙ e in
-          let busy : list_any (same_pair cmp x)
-          (map (λ (f : Flight P). f.message) (filter (λ f. not (is_done cmp w f)) w.sending))
-          ≡ list_any (same_pair cmp x) (flows w) =
-          any_map (same_pair cmp x) (λ (f : Flight P). f.message) (filter (λ f. not (is_done cmp w f)) w.sending)
-          ∙ any_split (λ (f : Flight P). same_pair cmp x f.message) (is_done cmp w) w.sending none_leaves
-          ∙ sym (any_map (same_pair cmp x) (λ (f : Flight P). f.message) w.sending) in
+          let none_leaves = sym
+          (any_map (same_pair cmp x) (λ (f : Flight P). f.message) (filter (is_done cmp w) w.sending)) ∙ any_like cmp
+          order y x (map (λ (f : Flight P). f.message) (filter (is_done cmp w) w.sending)) own ∙ e in
+          let busy = any_map (same_pair cmp x) (λ (f : Flight P). f.message)
+          (filter (λ f. not (is_done cmp w f)) w.sending) ∙ any_split (λ (f : Flight P). same_pair cmp x f.message)
+          (is_done cmp w) w.sending none_leaves ∙ sym
+          (any_map (same_pair cmp x) (λ (f : Flight P). f.message) w.sending) in
           ap (λ b. not b && is_in_order (w.last_arrival x.origin x.recipient) (t + x.latency)) busy ∙ rested x found)
 
   pub none_then : (t : ℕ) (c : Course (Completed P) (World P)) → ((y : Message P) → EndsWith (IsRested cmp order y t) c)
@@ -241,9 +206,4 @@ module _ {P : Type 0} (cmp : P → P → Ordering) (order : IsTotalOrder cmp) wh
   pub settle_keeps_rest : (t : ℕ) (w : World P) → OneForEachPair cmp (flows w) → ready cmp t w ≡ []
       → length (leaving cmp w) + length (staying cmp w).waiting ≤ length w.sending + length w.waiting
       → EndsWith (λ v. ready cmp t v ≡ []) (settle cmp t w)
-  settle_keeps_rest t w one none fuel =
-      none_then t (settle cmp t w)
-      (λ y. subst (λ (c : Course (Completed P) (World P)). EndsWith (IsRested cmp order y t) c)
-      (sym (settle_is_finish cmp order t w one))
-      (finish_rests cmp order y (length w.sending + length w.waiting) t (leaving cmp w) (staying cmp w) fuel
-      (held_first t w y none)))
+  settle_keeps_rest t w one none fuel = grind (arith, none_then, settle_is_finish, finish_rests, held_first)

@@ -1,16 +1,9 @@
 -- There is at most one next event.
-use Rattle.std.proofs.Common.{◌≡◌, ℕ, zero, suc, ◌+◌, ◌-◌, ◌*◌, ◌<◌, ◌≤◌, List, [], ◌∷◌, Option, Some, None, refl, sym}
-use Rattle.std.proofs.Common.{ap, subst, arith, ◌⊎◌, inl, inr}
-use Rattle.std.specs.declared.cmp.Ordering.{Ordering}
-use Rattle.std.specs.Cmp.{IsTotalOrder}
-use Rattle.std.proofs.lemmas.Bool.{cases_lt}
-use Rattle.std.proofs.Math.Nat.{mul-pos}
-use Rattle.fair_rates.specs.Numbers.Amount.{Amount, billion, reduced}
-use Rattle.link_simulation.specs.Simulation.World.{Flight, IsQuiet, World, last_moment}
-use Rattle.link_simulation.specs.Simulation.Rates.{Parts, drained_by, rate_of}
-use Rattle.link_simulation.specs.Simulation.Time.{ArePositive, Drains, NextIs, Passes, comes_next, drain_each}
-use Rattle.link_simulation.specs.Simulation.Time.{never_comes, no_time, quiet_tick}
-use Rattle.fair_rates.specs.Numbers.LowestTerms.{reduced_positive}
+use Rattle.link_simulation.proofs.Common.{◌≡◌, ℕ, zero, suc, ◌+◌, ◌-◌, ◌*◌, ◌<◌, ◌≤◌, List, [], ◌∷◌, Option, Some, None}
+use Rattle.link_simulation.proofs.Common.{refl, ap, subst, arith, ◌⊎◌, inl, inr, Ordering, IsTotalOrder, cases_lt}
+use Rattle.link_simulation.proofs.Common.{mul-pos, Amount, billion, reduced, Flight, IsQuiet, World, last_moment, Parts}
+use Rattle.link_simulation.proofs.Common.{drained_by, rate_of, ArePositive, Drains, NextIs, Passes, comes_next}
+use Rattle.link_simulation.proofs.Common.{drain_each, never_comes, no_time, quiet_tick, reduced_positive}
 use Rattle.link_simulation.proofs.Simulation.OneWorld.{one_world}
 use Rattle.link_simulation.proofs.Simulation.AlikeMessages.{same_itself}
 use Rattle.link_simulation.proofs.Simulation.QuietInstants.{next_moment, passes_end_at, IsQuietNow}
@@ -28,19 +21,13 @@ module _ {P : Type 0} (cmp : P → P → Ordering) (order : IsTotalOrder cmp) wh
 
   pub drain_each_positive : (per : ℕ) (rates : Parts) (n : ℕ) (fs : List (Flight P)) → 0 < per → ArePositive fs
       → ArePositive (drain_each per rates n fs)
-  drain_each_positive per rates n [] h pos = nothing rates
-    where
-      nothing : (rates : Parts) → ArePositive (drain_each {P = P} per rates n [])
-      nothing [] = tt
-      nothing (r ∷ rs) = tt
+  drain_each_positive per rates n [] h pos = grind arith
   drain_each_positive per [] n (f ∷ fs) h pos = pos
   drain_each_positive per (r ∷ rs) n (f ∷ fs) h pos =
       (drained_positive per r n f.left h pos.0, drain_each_positive per rs n fs h pos.1)
 
   pub drains_positive : (w v : World P) → Drains cmp w v → ArePositive w.sending → ArePositive v.sending
-  drains_positive w v d pos =
-      subst (λ (u : World P). ArePositive u.sending) (sym d.world)
-      (drain_each_positive d.per d.rates 1 w.sending d.fair.fair.some_part pos)
+  drains_positive w v d pos = grind (arith, drain_each_positive)
 
   -- ---- passing is one way
 
@@ -58,8 +45,7 @@ module _ {P : Type 0} (cmp : P → P → Ordering) (order : IsTotalOrder cmp) wh
       subst (λ (v : World P). IsQuiet cmp v.moment v) (one_world cmp (same_itself cmp order) w f.0 u pos f.1 d) f.2
   passes_through (quiet_tick here quiet rest) zero x u p le pos d = absurd (omega arith)
   passes_through (quiet_tick {n = n} {w = w} {v = v} here quiet rest) (suc k) x u p le pos d =
-      let f : (y : World P) × Drains cmp w y × IsQuiet cmp y.moment y × Passes cmp (suc k) y x =
-      first_step p (suc k) refl in
+      let f = first_step p (suc k) refl in
       passes_through rest k x u
       (subst (λ (y : World P). Passes cmp (suc k) y x) (one_world cmp (same_itself cmp order) w f.0 v pos f.1 here)
       f.3)
@@ -83,12 +69,7 @@ module _ {P : Type 0} (cmp : P → P → Ordering) (order : IsTotalOrder cmp) wh
       let on : u.moment ≡ v.moment + 1 = next_moment cmp order v u d in
       absurd (not_passed w n (last_moment - w.moment) v u x pos q d event p (omega arith))
   next_is_one w a b pos (comes_next {n = n} {v = v} {u = u} q d event h)
-      (comes_next {n = k} {v = y} {u = x} p e other j) =
-      let at : v.moment ≡ w.moment + n = passes_end_at cmp order q in
-      let on : u.moment ≡ v.moment + 1 = next_moment cmp order v u d in
-      let at_other : y.moment ≡ w.moment + k = passes_end_at cmp order p in
-      let on_other : x.moment ≡ y.moment + 1 = next_moment cmp order y x e in
-      by_order (cases_lt n k) (cases_lt k n) at on at_other on_other
+      (comes_next {n = k} {v = y} {u = x} p e other j) = grind (arith, passes_end_at, next_moment, by_order, cases_lt)
     where
       by_order : (n < k) ⊎ (k ≤ n) → (k < n) ⊎ (n ≤ k) → v.moment ≡ w.moment + n → u.moment ≡ v.moment + 1
           → y.moment ≡ w.moment + k → x.moment ≡ y.moment + 1 → Some u.moment ≡ Some x.moment

@@ -1,26 +1,17 @@
 -- Settling what one pair starts touches that pair alone, and leaves it unable to start again at that moment.
-use Rattle.std.proofs.Common.{◌≡◌, ℕ, zero, suc, ◌+◌, ◌≤◌, List, [], ◌∷◌, ◌++◌, length, Bool, true, false, cond, not}
-use Rattle.std.proofs.Common.{Option, Some, None, refl, sym, ap, ◌∙◌, subst, arith, length-append}
-use Rattle.std.specs.Prelude.{nat_le, ◌&&◌, ◌||◌}
-use Rattle.std.specs.List.{filter, find, list_any}
-use Rattle.std.specs.declared.cmp.Ordering.{Ordering}
-use Rattle.std.specs.Cmp.{IsTotalOrder}
-use Rattle.std.proofs.lemmas.List.{map-append}
-use Rattle.std.proofs.lemmas.List.Folds.{list_any-append}
-use Rattle.fair_rates.specs.Sides.Subjects.{same_peer}
-use Rattle.link_simulation.specs.Simulation.World.{Completed, Course, Flight, World, flows, fronts, goes, is_done}
-use Rattle.link_simulation.specs.Simulation.World.{last_moment, may_start, meets, ready, EndsWith, is_late, completed}
-use Rattle.link_simulation.specs.Simulation.World.{flight_of}
-use Rattle.link_simulation.specs.Simulation.Messages.{Message, same_pair}
-use Rattle.fair_rates.specs.declared.error.Error.TheVariants.{FlowIdsUsedUp, MomentTooLate}
-use Rattle.link_simulation.specs.Simulation.Queue.{out_of_waiting, joined, arrived, launch_then, finish_within}
-use Rattle.link_simulation.proofs.Simulation.Queue.{both_alike, pair_like, pair_sym, peer_like, find_passes}
+use Rattle.link_simulation.proofs.Common.{subst, ◌||◌, not-true, ◌≡◌, ℕ, zero, suc, ◌+◌, ◌≤◌, List, [], ◌∷◌, ◌++◌}
+use Rattle.link_simulation.proofs.Common.{length, Bool, true, false, cond, not, Option, Some, None, refl, sym, ap, ◌∙◌}
+use Rattle.link_simulation.proofs.Common.{arith, length-append, nat_le, ◌&&◌, filter, find, list_any, Ordering}
+use Rattle.link_simulation.proofs.Common.{IsTotalOrder, map-append, list_any-append, same_peer, Completed, Course}
+use Rattle.link_simulation.proofs.Common.{Flight, World, flows, fronts, goes, is_done, last_moment, may_start, meets}
+use Rattle.link_simulation.proofs.Common.{ready, EndsWith, is_late, completed, flight_of, Message, same_pair}
+use Rattle.link_simulation.proofs.Common.{FlowIdsUsedUp, MomentTooLate, out_of_waiting, joined, arrived, launch_then}
+use Rattle.link_simulation.proofs.Common.{finish_within, Each, each_map, each_joined, filter_swap, filter_stronger}
+use Rattle.link_simulation.proofs.Common.{length-without_first, or_left, or_right, without_first}
+use Rattle.link_simulation.proofs.Simulation.Queue.{pair_like, pair_sym, find_passes}
 use Rattle.link_simulation.proofs.Rule.BeforeNext.{IsFront, fronts_first, first_found}
-use Rattle.fair_rates.proofs.Lists.Each.{Each, each_map, each_joined}
 use Rattle.link_simulation.proofs.Simulation.SettlingEnds.{ends_preceded, ends_cond, length_without, find_like}
-use Rattle.fair_rates.proofs.Lists.Filters.{filter_swap, filter_stronger, length-without_first}
-use Rattle.std.proofs.lemmas.Bool.{and_parts, not-true, not-false, or_left, or_right}
-use Rattle.fair_rates.specs.Lists.WithoutFirst.{without_first}
+use Rattle.std.proofs.lemmas.Bool.{not-false}
 
 -- ---- lists
 
@@ -28,24 +19,12 @@ use Rattle.fair_rates.specs.Lists.WithoutFirst.{without_first}
 filter_only : {X : Type 0} (f g : X → Bool) (xs : List X) → Each (λ x. g x ≡ false → f x ≡ false) xs
     → filter f xs ≡ filter f (filter g xs)
 filter_only f g [] h = refl
-filter_only {X} f g (x ∷ xs) h = by_test (f x) (g x) refl refl (filter_only f g xs h.1)
-  where
-    by_test : (a b : Bool) → f x ≡ a → g x ≡ b → filter f xs ≡ filter f (filter g xs)
-        → cond a (x ∷ filter f xs) (filter f xs) ≡ filter f (cond b (x ∷ filter g xs) (filter g xs))
-    by_test true true d e ih = rw d (ap (λ (q : List X). x ∷ q) ih)
-    by_test true false d e ih = let k : f x ≡ false = h.0 e in cc
-    by_test false true d e ih = rw d ih
-    by_test false false d e ih = ih
+filter_only {X} f g (x ∷ xs) h = grind (arith, (filter_only f g xs))
 
 filter_where : {X : Type 0} (f h g : X → Bool) (xs : List X) → ((x : X) → g x ≡ true → f x ≡ h x)
     → filter f (filter g xs) ≡ filter h (filter g xs)
 filter_where f h g [] same = refl
-filter_where {X} f h g (x ∷ xs) same = by_test (g x) refl (filter_where f h g xs same)
-  where
-    by_test : (b : Bool) → g x ≡ b → filter f (filter g xs) ≡ filter h (filter g xs)
-        → filter f (cond b (x ∷ filter g xs) (filter g xs)) ≡ filter h (cond b (x ∷ filter g xs) (filter g xs))
-    by_test true e ih = rw (same x e, ih) refl
-    by_test false e ih = ih
+filter_where {X} f h g (x ∷ xs) same = grind (arith, (filter_where f h g xs same))
 
 pub no_nil : {X : Type 0} (xs : List X) (x : X) → xs ++ x ∷ [] ≡ [] → ⊥
 no_nil [] x e = cc
@@ -94,62 +73,20 @@ module _ {P : Type 0} (cmp : P → P → Ordering) (order : IsTotalOrder cmp) (y
           → filter apart (fronts cmp (without_first (same_pair cmp x) ws)) ≡ filter apart (fronts cmp ws)
           → filter apart (fronts cmp (cond b ws (z ∷ without_first (same_pair cmp x) ws)))
           ≡ filter apart (z ∷ filter (λ n. not (same_pair cmp z n)) (fronts cmp ws))
-      by_test true is ih =
-          let own : same_pair cmp y z ≡ true = sym same ∙ is in
-          rw own
-          (sym
-          (filter_stronger apart (λ n. not (same_pair cmp z n)) (fronts cmp ws)
-          (λ n k. ap not (pair_like cmp order y z n own) ∙ k)))
-      by_test false is ih =
-          let own : same_pair cmp y z ≡ false = sym same ∙ is in
-          rw own
-          (ap (λ (q : List (Message P)). z ∷ q)
-          (filter_swap apart (λ n. not (same_pair cmp z n)) (fronts cmp (without_first (same_pair cmp x) ws))
-          ∙ ap (filter (λ n. not (same_pair cmp z n))) ih
-          ∙ filter_swap (λ n. not (same_pair cmp z n)) apart (fronts cmp ws)))
+      by_test true is ih = grind (arith, same, filter_stronger, apart, pair_like)
+      by_test false is ih = grind (arith, same, filter_swap, apart)
 
   -- ---- steps
 
   pub only_arrived : (t : ℕ) (w : World P) (m : Message P) → same_pair cmp y m ≡ true → OnlyPair w (arrived cmp t w m)
-  only_arrived t w m e =
-      let parts : (same_peer cmp y.origin m.origin ≡ true) × (same_peer cmp y.recipient m.recipient ≡ true)
-      = and_parts (same_peer cmp y.origin m.origin) (same_peer cmp y.recipient m.recipient) e in
-      record {
-        last = λ p q off.
-            rw (both_alike cmp order (same_peer cmp m.origin p) (same_peer cmp y.origin p) (same_peer cmp m.recipient q)
-            (same_peer cmp y.recipient q) (peer_like cmp order y.origin m.origin p parts.0)
-            (peer_like cmp order y.recipient m.recipient q parts.1)
-            ∙ off)
-            refl;
-        busy = λ m e. refl;
-        others = refl;
-        fewer = omega arith;
-      }
+  only_arrived t w m e = grind arith
 
   pub only_taken : (w : World P) (x : Message P) → same_pair cmp y x ≡ true → OnlyPair w (out_of_waiting cmp w x)
-  only_taken w x e =
-      record {
-        last = λ p q off. refl;
-        busy = λ m off. refl;
-        others = fronts_without x w.waiting e;
-        fewer = length-without_first (same_pair cmp x) w.waiting;
-      }
+  only_taken w x e = grind (arith, fronts_without, length-without_first)
 
   pub only_joined : (w : World P) (x : Message P) → same_pair cmp y x ≡ true → OnlyPair w (joined cmp w x)
-  only_joined w x e = record {
-    last = λ p q off. refl;
-    busy = λ m off.
-        ap (list_any (same_pair cmp m)) (map-append (λ (g : Flight P). g.message) w.sending (flight_of x ∷ []))
-        ∙ list_any-append (same_pair cmp m) (flows w) (x ∷ [])
-        ∙ by_pair m (list_any (same_pair cmp m) (flows w))
-        (pair_sym cmp order m x ∙ pair_like cmp order y x m e ∙ off);
-    others = fronts_without x w.waiting e;
-    fewer = length-without_first (same_pair cmp x) w.waiting;
-  }
-    where
-      by_pair : (m : Message P) (b : Bool) → same_pair cmp m x ≡ false → (b || (same_pair cmp m x || false)) ≡ b
-      by_pair m true k = refl
-      by_pair m false k = rw k refl
+  only_joined w x e =
+      grind (arith, map-append, list_any-append, pair_sym, pair_like, fronts_without, length-without_first)
 
   -- ---- the pair may not start again
 

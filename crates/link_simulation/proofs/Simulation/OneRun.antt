@@ -1,11 +1,8 @@
 -- A call has one course.
-use Rattle.std.proofs.Common.{◌≡◌, ℕ, suc, List, [], refl, sym, ap, ◌∙◌, subst, arith, ◌⊎◌, inl, inr}
-use Rattle.std.specs.declared.cmp.Ordering.{Ordering}
-use Rattle.std.specs.Cmp.{IsTotalOrder}
-use Rattle.link_simulation.specs.Simulation.World.{Completed, Course, World, and_then, goes, instant, meets, preceded}
-use Rattle.link_simulation.specs.Simulation.Calls.{Call, Runs, act}
-use Rattle.link_simulation.specs.Simulation.Time.{Drains, IsSound, Ticks, no_tick, one_tick, tick_faults}
-use Rattle.fair_rates.specs.declared.error.Error.{Error}
+use Rattle.link_simulation.proofs.Common.{◌≡◌, ℕ, suc, List, [], refl, sym, ap, ◌∙◌, subst, arith, ◌⊎◌, inl, inr}
+use Rattle.link_simulation.proofs.Common.{Ordering, IsTotalOrder, Completed, Course, World, goes, instant, meets}
+use Rattle.link_simulation.proofs.Common.{preceded, Call, Runs, Drains, IsSound, Ticks, no_tick, one_tick, tick_faults}
+use Rattle.link_simulation.proofs.Common.{Error}
 use Rattle.link_simulation.proofs.Simulation.OneWorld.{one_world}
 use Rattle.link_simulation.proofs.Simulation.AlikeMessages.{same_itself}
 use Rattle.link_simulation.proofs.Simulation.QuietInstants.{ends_at}
@@ -60,9 +57,7 @@ module _ {P : Type 0} (cmp : P → P → Ordering) (order : IsTotalOrder cmp) wh
           let world : g.0 ≡ v = one_world cmp (same_itself cmp order) w g.0 v fit.positive g.4 here in
           let same : goes g.2 g.1 ≡ goes cs u = sym g.5 ∙ ap (instant cmp) world ∙ i in
           let state : g.1 ≡ u = state_of g.2 cs g.1 u same in
-          let rests : rest ≡ g.3
-          = ih g.3
-          (ends_at cmp order (IsFit cmp order) (instant cmp v) cs u i
+          let rests = ih g.3 (ends_at cmp order (IsFit cmp order) (instant cmp v) cs u i
           (instant_fit cmp order v (drains_fit cmp order w v here fit)))
           (subst (λ (x : World P). Ticks cmp n x g.3) state g.6) in
           preceded_alike cs g.2 rest g.3 (sym (outcome_of g.2 cs g.1 u same)) rests ∙ sym g.7
@@ -85,8 +80,4 @@ module _ {P : Type 0} (cmp : P → P → Ordering) (order : IsTotalOrder cmp) wh
   -- a call has one course
   pub runs_are_one : (w : World P) (call : Call P) (now : ℕ) (c d : Course (Completed P) (World P)) → IsSound cmp w
       → Runs cmp w call now c → Runs cmp w call now d → c ≡ d
-  runs_are_one w call now c d sound r s =
-      r.acts
-      ∙ ap (λ (x : Course (Completed P) (World P)). and_then x (λ v. act cmp v call))
-      (ticks_are_one r.ticks s.ticked (record { positive = sound.positive; one_each = sound.one_each }) s.ticks)
-      ∙ sym s.acts
+  runs_are_one w call now c d sound r s = grind (arith, ticks_are_one)

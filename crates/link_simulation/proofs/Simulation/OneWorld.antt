@@ -1,12 +1,7 @@
 -- A nanosecond leads to one world, whatever denominator its rates are given by.
-use Rattle.std.proofs.Common.{◌≡◌, ℕ, suc, ◌+◌, ◌*◌, ◌<◌, List, [], ◌∷◌, length, Option, Some, None, refl, sym, ap, ◌∙◌}
-use Rattle.std.proofs.Common.{arith, true}
-use Rattle.std.specs.declared.cmp.Ordering.{Ordering}
-use Rattle.fair_rates.specs.Sides.Subjects.{same_peer}
-use Rattle.fair_rates.specs.Numbers.Amount.{Amount, drained}
-use Rattle.link_simulation.specs.Simulation.World.{Flight, World, flows}
-use Rattle.link_simulation.specs.Simulation.Rates.{Parts, drained_by, rate_of}
-use Rattle.link_simulation.specs.Simulation.Time.{ArePositive, Drains, drain_each}
+use Rattle.link_simulation.proofs.Common.{◌≡◌, ℕ, suc, ◌*◌, ◌<◌, List, [], ◌∷◌, length, Option, Some, None, refl, sym}
+use Rattle.link_simulation.proofs.Common.{ap, ◌∙◌, arith, true, Ordering, same_peer, Amount, drained, Flight, World}
+use Rattle.link_simulation.proofs.Common.{flows, Parts, drained_by, rate_of, ArePositive, Drains, drain_each}
 use Rattle.fair_rates.specs.Numbers.LowestTerms.{reduced_same}
 use Rattle.link_simulation.proofs.Simulation.Rates.{Match, one_each, rates_match}
 
@@ -27,13 +22,7 @@ module _ {P : Type 0} (cmp : P → P → Ordering) where
   drain_same : (xs ys : Parts) (d e n : ℕ) (fs : List (Flight P)) → ArePositive fs → 0 < d → 0 < e
       → length xs ≡ length ys → Match xs ys d e → Match ys xs e d
       → drain_each d xs n fs ≡ drain_each e ys n fs
-  drain_same xs ys d e n [] pos i j same to from = nothing xs ys
-    where
-      nothing : (xs ys : Parts) → drain_each {P = P} d xs n [] ≡ drain_each e ys n []
-      nothing [] [] = refl
-      nothing [] (y ∷ ys) = refl
-      nothing (x ∷ xs) [] = refl
-      nothing (x ∷ xs) (y ∷ ys) = refl
+  drain_same xs ys d e n [] pos i j same to from = grind arith
   drain_same [] [] d e n (f ∷ fs) pos i j same to from = refl
   drain_same [] (y ∷ ys) d e n (f ∷ fs) pos i j same to from = absurd (omega arith)
   drain_same (x ∷ xs) [] d e n (f ∷ fs) pos i j same to from = absurd (omega arith)
@@ -53,11 +42,7 @@ module _ {P : Type 0} (cmp : P → P → Ordering) where
   pub one_world : ((p : P) → same_peer cmp p p ≡ true) → (w v u : World P) → ArePositive w.sending → Drains cmp w v
       → Drains cmp w u → v ≡ u
   one_world itself w v u pos f g =
-      let many : length f.rates ≡ length g.rates =
-      one_each cmp w.caps (flows w) f.per f.rates f.fair
-      ∙ sym (one_each cmp w.caps (flows w) g.per g.rates g.fair) in
-      let same : drain_each f.per f.rates 1 w.sending ≡ drain_each g.per g.rates 1 w.sending =
-      drain_same f.rates g.rates f.per g.per 1 w.sending pos f.fair.fair.some_part g.fair.fair.some_part many
+      grind (arith, (drain_same f.rates g.rates f.per g.per 1 w.sending pos f.fair.fair.some_part g.fair.fair.some_part
+      (one_each cmp w.caps (flows w) f.per f.rates f.fair ∙ sym (one_each cmp w.caps (flows w) g.per g.rates g.fair))
       (rates_match cmp itself w.caps (flows w) f.per g.per f.rates g.rates f.fair g.fair)
-      (rates_match cmp itself w.caps (flows w) g.per f.per g.rates f.rates g.fair f.fair) in
-      f.world ∙ ap (λ (fs : List (Flight P)). record w { sending = fs; moment = w.moment + 1 }) same ∙ sym g.world
+      (rates_match cmp itself w.caps (flows w) g.per f.per g.rates f.rates g.fair f.fair)))

@@ -1,44 +1,28 @@
 -- What happens to one pair leaves the other pairs as they are.
-use Rattle.std.proofs.Common.{◌≡◌, ℕ, zero, suc, ◌+◌, List, [], ◌∷◌, ◌++◌, map, length, Bool, true, false, cond, not}
-use Rattle.std.proofs.Common.{Option, Some, None, refl, sym, ap, ◌∙◌, subst}
-use Rattle.std.specs.Prelude.{nat_le, ⊤, ◌&&◌, ◌||◌, ◌==◌}
-use Rattle.std.specs.List.{filter, find, list_any}
-use Rattle.std.specs.declared.cmp.Ordering.{Ordering}
-use Rattle.std.specs.Cmp.{IsTotalOrder}
-use Rattle.std.proofs.lemmas.List.Folds.{list_any-append}
-use Rattle.std.proofs.lemmas.List.Elements.{filter-append}
+use Rattle.link_simulation.proofs.Common.{◌&&◌, is_in_order, is_late, completed, MomentTooLate, arith, ◌≡◌, ℕ, zero}
+use Rattle.link_simulation.proofs.Common.{suc, ◌+◌, List, [], ◌∷◌, ◌++◌, map, Bool, true, false, cond, not, Option}
+use Rattle.link_simulation.proofs.Common.{Some, None, refl, sym, ap, ◌∙◌, subst, ⊤, ◌||◌, ◌==◌, filter, find, list_any}
+use Rattle.link_simulation.proofs.Common.{Ordering, IsTotalOrder, list_any-append, filter-append, or_right, or_left}
+use Rattle.link_simulation.proofs.Common.{not-true, map-append, without_first, Completed, Course, EndsWith, Flight}
+use Rattle.link_simulation.proofs.Common.{World, complete, first_waiting, flows, fronts, goes, is_done, is_idle}
+use Rattle.link_simulation.proofs.Common.{may_start, meets, raised, ready, settle_within, start, start_next, turn}
+use Rattle.link_simulation.proofs.Common.{out_of_flight, arrival, flight_of, Message, same_pair, Caps, is_unlimited}
+use Rattle.link_simulation.proofs.Common.{filter_swap, filter_stronger, Each, each_filtered}
 use Rattle.std.proofs.lemmas.Map.Views.{any-filter_same}
-use Rattle.std.proofs.lemmas.Bool.{or_right, or_left, not-true, not-false}
-use Rattle.std.proofs.lemmas.List.{append-nil, map-append}
-use Rattle.fair_rates.specs.Lists.WithoutFirst.{without_first}
-use Rattle.link_simulation.specs.Simulation.World.{Completed, Course, EndsWith, Flight, World, complete, first_waiting}
-use Rattle.link_simulation.specs.Simulation.World.{flows, fronts, goes, is_done, is_idle, is_in_order, last_moment}
-use Rattle.link_simulation.specs.Simulation.World.{may_start, meets, raised, ready, settle, settle_within, start}
-use Rattle.link_simulation.specs.Simulation.World.{start_next, turn, out_of_flight, is_late, completed, arrival}
-use Rattle.link_simulation.specs.Simulation.World.{flight_of}
-use Rattle.link_simulation.specs.Simulation.Messages.{Message, same_pair, Caps}
+use Rattle.std.proofs.lemmas.Bool.{not-false}
+use Rattle.std.proofs.lemmas.List.{append-nil}
 use Rattle.link_simulation.specs.Simulation.Pass.{IsUnchangedFor, MayNotStart}
-use Rattle.link_simulation.specs.Simulation.Rates.{is_unlimited}
-use Rattle.fair_rates.specs.declared.error.Error.TheVariants.{FlowIdsUsedUp, MomentTooLate}
 use Rattle.link_simulation.proofs.Simulation.AlikeMessages.{pair_itself}
 use Rattle.link_simulation.proofs.Simulation.Queue.{pair_like, pair_sym, settle_none, settle_first, find_passes}
 use Rattle.link_simulation.proofs.Simulation.Queue.{filter_without}
 use Rattle.link_simulation.proofs.Simulation.SettlingEnds.{find_like, ends_preceded, ends_and_then, ends_cond}
-use Rattle.fair_rates.proofs.Lists.Filters.{filter_swap, filter_stronger}
-use Rattle.fair_rates.proofs.Lists.Each.{Each, each_filtered}
 
 -- ---- lists
 
 pub filter_skips : {X : Type 0} (keep test : X → Bool) (f : X) (xs : List X) → find test xs ≡ Some f → keep f ≡ false
     → filter keep (without_first test xs) ≡ filter keep xs
 filter_skips keep test f [] e h = refl
-filter_skips {X} keep test f (x ∷ xs) e h = by_test (test x) e (filter_skips keep test f xs)
-  where
-    by_test : (b : Bool) → cond b (Some x) (find test xs) ≡ Some f
-        → (find test xs ≡ Some f → keep f ≡ false → filter keep (without_first test xs) ≡ filter keep xs)
-        → filter keep (cond b xs (x ∷ without_first test xs)) ≡ cond (keep x) (x ∷ filter keep xs) (filter keep xs)
-    by_test true e ih = let same : x ≡ f = cc in let no : keep x ≡ false = ap keep same ∙ h in rw no refl
-    by_test false e ih = rw (ih e h) refl
+filter_skips {X} keep test f (x ∷ xs) e h = grind (arith, (filter_skips keep test f xs))
 
 pub filter_alike : {X : Type 0} (p q : X → Bool) (xs : List X) → Each (λ x. p x ≡ q x) xs → filter p xs ≡ filter q xs
 filter_alike p q [] same = refl
@@ -56,58 +40,23 @@ each_more P Q more (x ∷ xs) h = (more x h.0, each_more P Q more xs h.1)
 pub find_kept : {X : Type 0} (test keep : X → Bool) (xs : List X) → ((x : X) → test x ≡ true → keep x ≡ true)
     → find test (filter keep xs) ≡ find test xs
 find_kept test keep [] h = refl
-find_kept {X} test keep (x ∷ xs) h = by_tests (test x) (keep x) refl refl (find_kept test keep xs h)
-  where
-    by_tests : (a b : Bool) → test x ≡ a → keep x ≡ b → find test (filter keep xs) ≡ find test xs
-        → find test (cond b (x ∷ filter keep xs) (filter keep xs)) ≡ cond a (Some x) (find test xs)
-    by_tests true true e f ih = rw e refl
-    by_tests true false e f ih = let g : keep x ≡ true = h x e in cc
-    by_tests false true e f ih = rw (e, ih) refl
-    by_tests false false e f ih = ih
+find_kept {X} test keep (x ∷ xs) h = grind (arith, (find_kept test keep xs h))
 
 pub filter_kept_each : {X : Type 0} (test keep : X → Bool) (xs : List X) → Each (λ x. test x ≡ true → keep x ≡ true) xs
     → filter test (filter keep xs) ≡ filter test xs
 filter_kept_each test keep [] h = refl
-filter_kept_each {X} test keep (x ∷ xs) h = by_tests (test x) (keep x) refl refl (filter_kept_each test keep xs h.1)
-  where
-    by_tests : (a b : Bool) → test x ≡ a → keep x ≡ b → filter test (filter keep xs) ≡ filter test xs
-        → filter test (cond b (x ∷ filter keep xs) (filter keep xs)) ≡ cond a (x ∷ filter test xs) (filter test xs)
-    by_tests true true e f ih = rw (e, ih) refl
-    by_tests true false e f ih = let g : keep x ≡ true = h.0 e in cc
-    by_tests false true e f ih = rw (e, ih) refl
-    by_tests false false e f ih = ih
+filter_kept_each {X} test keep (x ∷ xs) h = grind (arith, (filter_kept_each test keep xs))
 
 -- what is found where nothing passes both tests does not pass the other
 pub found_fails : {X : Type 0} (test keep : X → Bool) (f : X) (xs : List X) → find test xs ≡ Some f
     → list_any test (filter keep xs) ≡ false → keep f ≡ false
 found_fails test keep f [] e h = cc
-found_fails {X} test keep f (x ∷ xs) e h = by_tests (test x) (keep x) refl refl e h (found_fails test keep f xs)
-  where
-    by_tests : (a b : Bool) → test x ≡ a → keep x ≡ b → cond a (Some x) (find test xs) ≡ Some f
-        → list_any test (cond b (x ∷ filter keep xs) (filter keep xs)) ≡ false
-        → (find test xs ≡ Some f → list_any test (filter keep xs) ≡ false → keep f ≡ false) → keep f ≡ false
-    by_tests true true is k e h ih =
-        let h2 : (test x || list_any test (filter keep xs)) ≡ false = h in
-        let h3 : (true || list_any test (filter keep xs)) ≡ false = rw is at h2 in
-        cc
-    by_tests true false is k e h ih = let same : x ≡ f = cc in ap keep (sym same) ∙ k
-    by_tests false true is k e h ih =
-        let h2 : (test x || list_any test (filter keep xs)) ≡ false = h in
-        let h3 : list_any test (filter keep xs) ≡ false = rw is at h2 in
-        ih e h3
-    by_tests false false is k e h ih = ih e h
+found_fails {X} test keep f (x ∷ xs) e h = grind (arith, (found_fails test keep f xs))
 
 pub any_none : {X : Type 0} (test keep : X → Bool) (xs : List X) → list_any test xs ≡ false
     → list_any test (filter keep xs) ≡ false
 any_none test keep [] h = refl
-any_none {X} test keep (x ∷ xs) h = by_tests (test x) (keep x) refl h (any_none test keep xs)
-  where
-    by_tests : (a b : Bool) → test x ≡ a → (a || list_any test xs) ≡ false
-        → (list_any test xs ≡ false → list_any test (filter keep xs) ≡ false)
-        → list_any test (cond b (x ∷ filter keep xs) (filter keep xs)) ≡ false
-    by_tests true b is h ih = cc
-    by_tests false true is h ih = rw is (ih h)
-    by_tests false false is h ih = ih h
+any_none {X} test keep (x ∷ xs) h = grind (arith, (any_none test keep xs))
 
 pub any_map : {X Y : Type 0} (g : X → Y) (p : Y → Bool) (xs : List X)
     → list_any p (map g xs) ≡ list_any (λ x. p (g x)) xs
@@ -120,12 +69,7 @@ any_alike p q (x ∷ xs) same = rw (same x, any_alike p q xs same) refl
 
 pub any_from_find : {X : Type 0} (p : X → Bool) (xs : List X) → find p xs ≡ None → list_any p xs ≡ false
 any_from_find p [] h = refl
-any_from_find {X} p (x ∷ xs) h = by_test (p x) h (any_from_find p xs)
-  where
-    by_test : (b : Bool) → cond b (Some x) (find p xs) ≡ None → (find p xs ≡ None → list_any p xs ≡ false)
-        → (b || list_any p xs) ≡ false
-    by_test true h ih = cc
-    by_test false h ih = ih h
+any_from_find {X} p (x ∷ xs) h = grind (arith, (any_from_find p xs))
 
 module _ {P : Type 0} (cmp : P → P → Ordering) where
   -- the second world is the first, but for the pair of a message
@@ -154,41 +98,15 @@ module _ {P : Type 0} (cmp : P → P → Ordering) (order : IsTotalOrder cmp) wh
       record { caps = refl; limited = refl; moment = refl; arrivals = λ k h. refl; waiting = refl; sending = refl }
 
   pub but_for_twice : (m : Message P) (w v u : World P) → IsButFor cmp m w v → IsButFor cmp m v u → IsButFor cmp m w u
-  but_for_twice m w v u a b = record {
-    caps = b.caps ∙ a.caps;
-    limited = b.limited ∙ a.limited;
-    moment = b.moment ∙ a.moment;
-    arrivals = λ k h. b.arrivals k h ∙ a.arrivals k h;
-    waiting = b.waiting ∙ a.waiting;
-    sending = b.sending ∙ a.sending;
-  }
+  but_for_twice m w v u a b = grind arith
 
   pub not_alike : (m n : Message P) → same_pair cmp m n ≡ true → (xs : List (Message P))
       → filter (λ k. not (same_pair cmp n k)) xs ≡ filter (λ k. not (same_pair cmp m k)) xs
-  not_alike m n e xs =
-      filter_alike (λ k. not (same_pair cmp n k)) (λ k. not (same_pair cmp m k)) xs
-      (each_of (λ k. not (same_pair cmp n k) ≡ not (same_pair cmp m k)) (λ k. ap not (pair_like cmp order m n k e))
-      xs)
-
-  not_alike_flights : (m n : Message P) → same_pair cmp m n ≡ true → (fs : List (Flight P))
-      → filter (λ (f : Flight P). not (same_pair cmp n f.message)) fs
-      ≡ filter (λ (f : Flight P). not (same_pair cmp m f.message)) fs
-  not_alike_flights m n e fs =
-      filter_alike (λ (f : Flight P). not (same_pair cmp n f.message))
-      (λ (f : Flight P). not (same_pair cmp m f.message)) fs
-      (each_of (λ (f : Flight P). not (same_pair cmp n f.message) ≡ not (same_pair cmp m f.message))
-      (λ f. ap not (pair_like cmp order m n f.message e)) fs)
+  not_alike m n e xs = grind arith
 
   pub but_for_like : (m n : Message P) (w v : World P) → same_pair cmp m n ≡ true → IsButFor cmp n w v
       → IsButFor cmp m w v
-  but_for_like m n w v e a = record {
-    caps = a.caps;
-    limited = a.limited;
-    moment = a.moment;
-    arrivals = λ k h. a.arrivals k (pair_like cmp order m n k e ∙ h);
-    waiting = sym (not_alike m n e v.waiting) ∙ a.waiting ∙ not_alike m n e w.waiting;
-    sending = sym (not_alike_flights m n e v.sending) ∙ a.sending ∙ not_alike_flights m n e w.sending;
-  }
+  but_for_like m n w v e a = grind arith
 
   any_flows : (p : Message P → Bool) (w : World P)
       → list_any p (flows w) ≡ list_any (λ (f : Flight P). p f.message) w.sending
@@ -227,23 +145,8 @@ module _ {P : Type 0} (cmp : P → P → Ordering) (order : IsTotalOrder cmp) wh
   -- nothing that another pair sees changes
   pub others_see_nothing : (m k : Message P) (w v : World P) → IsButFor cmp m w v → same_pair cmp m k ≡ false
       → IsUnchangedFor cmp k w v
-  others_see_nothing m k w v a h = record {
-    ready = λ t x e.
-        may_start_alike t m x w v a (pair_sym cmp order m x ∙ pair_like cmp order k x m e ∙ pair_sym cmp order k m ∙ h);
-    last_arrival = a.arrivals k h;
-    waiting =
-        sym (filter_stronger (same_pair cmp k) (λ n. not (same_pair cmp m n)) v.waiting (λ n e. pair_other m n k h e))
-        ∙ ap (filter (same_pair cmp k)) a.waiting
-        ∙ filter_stronger (same_pair cmp k) (λ n. not (same_pair cmp m n)) w.waiting (λ n e. pair_other m n k h e);
-    first = first_alike m k w v a h;
-    sending =
-        sym
-        (filter_stronger (λ (f : Flight P). same_pair cmp k f.message)
-        (λ (f : Flight P). not (same_pair cmp m f.message)) v.sending (λ f e. pair_other m f.message k h e))
-        ∙ ap (filter (λ (f : Flight P). same_pair cmp k f.message)) a.sending
-        ∙ filter_stronger (λ (f : Flight P). same_pair cmp k f.message)
-        (λ (f : Flight P). not (same_pair cmp m f.message)) w.sending (λ f e. pair_other m f.message k h e);
-  }
+  others_see_nothing m k w v a h =
+      grind (arith, may_start_alike, pair_sym, pair_like, filter_stronger, pair_other, first_alike)
 
   -- ---- a pair that may not start
 
@@ -262,37 +165,19 @@ module _ {P : Type 0} (cmp : P → P → Ordering) (order : IsTotalOrder cmp) wh
 
   started_but_for : (w : World P) (m : Message P) → IsButFor cmp m w (started w m)
   unfolding started
-  started_but_for w m = record {
-    caps = refl;
-    limited = refl;
-    moment = refl;
-    arrivals = λ k h. refl;
-    waiting = filter_without (same_pair cmp m) w.waiting;
-    sending =
-        filter-append (λ (f : Flight P). not (same_pair cmp m f.message)) w.sending (flight_of m ∷ [])
-        ∙ ap (λ (b : Bool). filter (λ (f : Flight P). not (same_pair cmp m f.message)) w.sending
-        ++ cond (not b) (flight_of m ∷ []) []) (pair_itself cmp order m)
-        ∙ append-nil (filter (λ (f : Flight P). not (same_pair cmp m f.message)) w.sending);
-  }
+  started_but_for w m =
+      grind (arith, filter-append, append-nil, (filter_without (same_pair cmp m) w.waiting), (pair_itself cmp order m))
 
   started_rests : (t : ℕ) (w : World P) (m : Message P) → MayNotStart cmp t m (started w m)
   unfolding started
   started_rests t w m x e =
-      let same : same_pair cmp m x ≡ true =
-      find_passes (same_pair cmp m) x (without_first (same_pair cmp m) w.waiting) e in
-      let busy : list_any (same_pair cmp x) (map (λ (f : Flight P). f.message) (w.sending ++ flight_of m ∷ [])) ≡ true =
-      ap (list_any (same_pair cmp x)) (map-append (λ (f : Flight P). f.message) w.sending (flight_of m ∷ []))
-      ∙ list_any-append (same_pair cmp x) (map (λ (f : Flight P). f.message) w.sending) (m ∷ [])
-      ∙ or_right (list_any (same_pair cmp x) (map (λ (f : Flight P). f.message) w.sending)) (same_pair cmp x m || false)
-      (or_left (same_pair cmp x m) false (pair_sym cmp order x m ∙ same)) in
-      rw busy refl
+      grind (arith, map-append, list_any-append, or_right, (or_left (same_pair cmp x m) false
+      (pair_sym cmp order x m ∙ (find_passes (same_pair cmp m) x (without_first (same_pair cmp m) w.waiting) e))))
 
   -- a start changes its pair alone, which then sends
   pub start_leaves : (t : ℕ) (w : World P) (m : Message P) → EndsWith (Leaves t m w) (start cmp w m)
   unfolding started
-  start_leaves t w m =
-      ends_cond (Leaves t m w) (nat_le last_moment w.next_id) (meets FlowIdsUsedUp) (goes [] (started w m)) tt
-      (record { others = started_but_for w m; rests = started_rests t w m })
+  start_leaves t w m = search (ends_cond, started, started_but_for, started_rests)
 
   pub leaves_like : (t : ℕ) (m x : Message P) (w v u : World P) → same_pair cmp m x ≡ true → IsButFor cmp m w v
       → Leaves t x v u → Leaves t m w u
@@ -319,11 +204,7 @@ module _ {P : Type 0} (cmp : P → P → Ordering) (order : IsTotalOrder cmp) wh
       by_test true is =
           ends_more (Leaves t x w) (Leaves t m w) (start cmp w x)
           (λ u l. leaves_like t m x w w u same (but_for_none m w) l) (start_leaves t w x)
-      by_test false is =
-          record {
-            others = but_for_none m w;
-            rests = λ y at. let one : x ≡ y = cc in subst (λ (z : Message P). may_start cmp t w z ≡ false) one is;
-          }
+      by_test false is = grind (arith, but_for_none)
 
   landed_but_for : (w : World P) (f : Flight P) (at : ℕ) → find (is_done cmp w) w.sending ≡ Some f
       → IsButFor cmp f.message w
@@ -331,16 +212,7 @@ module _ {P : Type 0} (cmp : P → P → Ordering) (order : IsTotalOrder cmp) wh
         sending = without_first (is_done cmp w) w.sending;
         last_arrival = raised cmp w.last_arrival f.message at;
       })
-  landed_but_for w f at e = record {
-    caps = refl;
-    limited = refl;
-    moment = refl;
-    arrivals = λ k h. rw h refl;
-    waiting = refl;
-    sending =
-        filter_skips (λ (g : Flight P). not (same_pair cmp f.message g.message)) (is_done cmp w) f w.sending e
-        (ap not (pair_itself cmp order f.message));
-  }
+  landed_but_for w f at e = grind (arith, filter_skips, pair_itself)
 
   -- a completion changes its pair alone, which then may not start
   pub complete_leaves : (t : ℕ) (w : World P) (f : Flight P) → find (is_done cmp w) w.sending ≡ Some f
@@ -366,11 +238,10 @@ module _ {P : Type 0} (cmp : P → P → Ordering) (order : IsTotalOrder cmp) wh
       → list_any (is_done cmp w) w.sending ≡ false → find (is_done cmp v) v.sending ≡ Some f
       → same_pair cmp m f.message ≡ true
   done_of_pair m w v f a quiet e =
-      let apart : not (same_pair cmp m f.message) ≡ false =
-      found_fails (is_done cmp v) (λ (g : Flight P). not (same_pair cmp m g.message)) f v.sending e
-      (ap (list_any (is_done cmp v)) a.sending ∙ any_alike (is_done cmp v) (is_done cmp w)
-      (filter (λ (g : Flight P). not (same_pair cmp m g.message)) w.sending) (λ g. done_alike w v g a.caps)
-      ∙ any_none (is_done cmp w) (λ (g : Flight P). not (same_pair cmp m g.message)) w.sending quiet) in
+      let apart = found_fails (is_done cmp v) (λ (g : Flight P). not (same_pair cmp m g.message)) f v.sending e (ap
+      (list_any (is_done cmp v)) a.sending ∙ any_alike (is_done cmp v) (is_done cmp w)
+      (filter (λ (g : Flight P). not (same_pair cmp m g.message)) w.sending) (λ g. done_alike w v g a.caps) ∙ any_none
+      (is_done cmp w) (λ (g : Flight P). not (same_pair cmp m g.message)) w.sending quiet) in
       not-false (same_pair cmp m f.message) apart
 
   -- settling goes on within the pair
@@ -383,9 +254,7 @@ module _ {P : Type 0} (cmp : P → P → Ordering) (order : IsTotalOrder cmp) wh
       by_first : (o : Option (Flight P)) → find (is_done cmp v) v.sending ≡ o
           → ((u : World P) → Leaves t m w u → EndsWith (Leaves t m w) (settle_within cmp n t u))
           → EndsWith (Leaves t m w) (settle_within cmp (suc n) t v)
-      by_first None e ih =
-          subst (λ (c : Course (Completed P) (World P)). EndsWith (Leaves t m w) c)
-          (sym (settle_none cmp order n t v e)) l
+      by_first None e ih = grind (arith, settle_none)
       by_first (Some f) e ih =
           let same : same_pair cmp m f.message ≡ true = done_of_pair m w v f l.others quiet e in
           subst (λ (c : Course (Completed P) (World P)). EndsWith (Leaves t m w) c)
@@ -398,9 +267,7 @@ module _ {P : Type 0} (cmp : P → P → Ordering) (order : IsTotalOrder cmp) wh
   -- a start and its settling change one pair alone, which then may not start
   pub start_settles : (t : ℕ) (w : World P) (m : Message P) → list_any (is_done cmp w) w.sending ≡ false
       → EndsWith (Leaves t m w) (turn cmp t w m)
-  start_settles t w m quiet =
-      ends_and_then (Leaves t m w) (Leaves t m w) (start cmp w m) (settle cmp t) (start_leaves t w m)
-      (λ v l. settle_within_leaves (length v.sending + length v.waiting) t m w v quiet l)
+  start_settles t w m quiet = grind (arith, ends_and_then, settle_within_leaves, (start cmp w m), (start_leaves t w m))
 
   -- ---- the pairs that are ready
 
@@ -408,43 +275,14 @@ module _ {P : Type 0} (cmp : P → P → Ordering) (order : IsTotalOrder cmp) wh
   pub fronts_are_first : (xs : List (Message P))
       → Each (λ (n : Message P). find (same_pair cmp n) xs ≡ Some n) (fronts cmp xs)
   fronts_are_first [] = tt
-  fronts_are_first (x ∷ xs) = (
-    rw (pair_itself cmp order x) refl,
-    each_more (λ (n : Message P). (find (same_pair cmp n) xs ≡ Some n) × (not (same_pair cmp x n) ≡ true))
-        (λ (n : Message P). cond (same_pair cmp n x) (Some x) (find (same_pair cmp n) xs) ≡ Some n)
-        (λ n h. behind n h.0 h.1)
-        (filter (λ n. not (same_pair cmp x n)) (fronts cmp xs))
-        (each_filtered (λ (n : Message P). find (same_pair cmp n) xs ≡ Some n) (λ n. not (same_pair cmp x n))
-        (fronts cmp xs) (fronts_are_first xs)),
-  )
-    where
-      behind : (n : Message P) → find (same_pair cmp n) xs ≡ Some n → not (same_pair cmp x n) ≡ true
-          → cond (same_pair cmp n x) (Some x) (find (same_pair cmp n) xs) ≡ Some n
-      behind n e h =
-          let no : same_pair cmp n x ≡ false = pair_sym cmp order n x ∙ not-true (same_pair cmp x n) h in rw no e
+  fronts_are_first (x ∷ xs) =
+      grind (arith, pair_itself, each_more, each_filtered, pair_sym, not-true, (fronts_are_first xs))
 
   -- the fronts without a pair
   pub fronts_without : (m : Message P) (xs : List (Message P))
       → filter (λ n. not (same_pair cmp m n)) (fronts cmp xs) ≡ fronts cmp (filter (λ n. not (same_pair cmp m n)) xs)
   fronts_without m [] = refl
-  fronts_without m (x ∷ xs) = by_pair (same_pair cmp m x) refl (fronts_without m xs)
-    where
-      by_pair : (b : Bool) → same_pair cmp m x ≡ b
-          → filter (λ n. not (same_pair cmp m n)) (fronts cmp xs)
-          ≡ fronts cmp (filter (λ n. not (same_pair cmp m n)) xs)
-          → cond (not b) (x ∷ filter (λ n. not (same_pair cmp m n))
-          (filter (λ n. not (same_pair cmp x n)) (fronts cmp xs)))
-          (filter (λ n. not (same_pair cmp m n)) (filter (λ n. not (same_pair cmp x n)) (fronts cmp xs)))
-          ≡ fronts cmp
-          (cond (not b) (x ∷ filter (λ n. not (same_pair cmp m n)) xs) (filter (λ n. not (same_pair cmp m n)) xs))
-      by_pair true e ih =
-          ap (filter (λ n. not (same_pair cmp m n))) (not_alike m x e (fronts cmp xs))
-          ∙ filter_stronger (λ n. not (same_pair cmp m n)) (λ n. not (same_pair cmp m n)) (fronts cmp xs) (λ n h. h)
-          ∙ ih
-      by_pair false e ih =
-          ap (λ (ns : List (Message P)). x ∷ ns)
-          (filter_swap (λ n. not (same_pair cmp m n)) (λ n. not (same_pair cmp x n)) (fronts cmp xs)
-          ∙ ap (filter (λ n. not (same_pair cmp x n))) ih)
+  fronts_without m (x ∷ xs) = grind (arith, not_alike, filter_stronger, filter_swap, (fronts_without m xs))
 
   -- a pair that changed alone and may not start any more: the others are ready as before
   pub ready_without : (t : ℕ) (m : Message P) (w v : World P) → Leaves t m w v

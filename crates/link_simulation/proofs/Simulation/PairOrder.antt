@@ -1,20 +1,15 @@
 -- The order of pairs, and lists in that order.
-use Rattle.std.proofs.Common.{◌≡◌, List, [], ◌∷◌, Bool, true, false, cond, Option, Some, None, refl, sym, ap, ◌∙◌}
-use Rattle.std.proofs.Common.{subst}
-use Rattle.std.specs.List.{find}
-use Rattle.std.specs.declared.cmp.Ordering.{Ordering}
-use Rattle.std.specs.declared.cmp.Ordering.TheVariants.{Less, Equal, Greater}
-use Rattle.std.specs.Ordering.{is_eq, is_lt, is_gt, ordering_reverse, ordering_then}
-use Rattle.std.specs.Cmp.{IsTotalOrder, then_total, tied_then, upto}
+use Rattle.link_simulation.proofs.Common.{arith, ◌≡◌, List, [], ◌∷◌, Bool, true, false, cond, Option, Some, None, refl}
+use Rattle.link_simulation.proofs.Common.{sym, ap, ◌∙◌, subst, find, Ordering, Less, Equal, Greater, is_eq, is_lt}
+use Rattle.link_simulation.proofs.Common.{IsTotalOrder, least_pair, Message, OneForEachPair, pair_before, same_pair}
+use Rattle.link_simulation.proofs.Common.{Each, find_from_any}
+use Rattle.link_simulation.proofs.Simulation.Queue.{pair_like}
+use Rattle.std.specs.Ordering.{is_gt, ordering_reverse, ordering_then}
+use Rattle.std.specs.Cmp.{then_total, tied_then, upto}
 use Rattle.std.proofs.lemmas.Cmp.{on_total, tied_itself}
-use Rattle.link_simulation.specs.Simulation.World.{least_pair}
-use Rattle.link_simulation.specs.Simulation.Messages.{Message, OneForEachPair, pair_before, same_pair}
 use Rattle.link_simulation.specs.Simulation.Pass.{IsBeforeEach, IsByPair, by_pair, insert_by_pair}
-use Rattle.link_simulation.proofs.Simulation.Queue.{pair_like, pair_sym}
 use Rattle.link_simulation.proofs.Simulation.OtherPairs.{each_more}
 use Rattle.link_simulation.proofs.Simulation.AlikeMessages.{pair_itself}
-use Rattle.fair_rates.proofs.Lists.Each.{Each}
-use Rattle.fair_rates.proofs.Lists.Filters.{find_from_any}
 use Rattle.fair_rates.proofs.Lists.Sorted.{is_lt_less}
 
 lt_turned : (r : Ordering) → is_lt (ordering_reverse r) ≡ is_gt r
@@ -26,11 +21,6 @@ not_eq_if_lt : (r : Ordering) → is_lt r ≡ true → is_eq r ≡ false
 not_eq_if_lt Less e = refl
 not_eq_if_lt Equal e = cc
 not_eq_if_lt Greater e = cc
-
-gt_if_neither : (r : Ordering) → is_lt r ≡ false → is_eq r ≡ false → is_gt r ≡ true
-gt_if_neither Less e f = cc
-gt_if_neither Equal e f = cc
-gt_if_neither Greater e f = refl
 
 not_gt_if_lt : (r : Ordering) → is_lt r ≡ true → is_gt r ≡ false
 not_gt_if_lt Less e = refl
@@ -69,10 +59,7 @@ module _ {P : Type 0} (cmp : P → P → Ordering) (order : IsTotalOrder cmp) wh
 
   pub before_if_not : (m n : Message P) → pair_before cmp n m ≡ false → same_pair cmp m n ≡ false
       → pair_before cmp m n ≡ true
-  before_if_not m n e f =
-      turned m n
-      ∙ gt_if_neither (pair_cmp n m) e
-      (sym (tied_then (cmp n.origin m.origin) (cmp n.recipient m.recipient)) ∙ pair_sym cmp order n m ∙ f)
+  before_if_not m n e f = grind arith
 
   -- ---- the least pair
 
@@ -91,28 +78,13 @@ module _ {P : Type 0} (cmp : P → P → Ordering) (order : IsTotalOrder cmp) wh
       itself = ((rw (pair_itself cmp order m) refl, (not_before_itself m, tt)), rw (pair_itself cmp order m) refl)
 
       by_test : (n : Message P) (b : Bool) → pair_before cmp n m ≡ b → IsLeast n ms → IsLeast (cond b n m) (m ∷ ms)
-      by_test n true before least =
-          let apart : same_pair cmp n m ≡ false = apart_if_before n m before in
-          (rw apart least.0, (not_before_back n m before, least.1))
-      by_test n false before least = (
-        itself.1,
-        (
-          not_before_itself m,
-          each_more (λ (k : Message P). pair_before cmp k n ≡ false)
-              (λ (k : Message P). pair_before cmp k m ≡ false) (λ k h. not_before_on k n m h before) ms least.1,
-        ),
-      )
+      by_test n true before least = grind (arith, apart_if_before, not_before_back)
+      by_test n false before least = grind (arith, itself, not_before_itself, each_more, not_before_on)
 
       by_rest : (o : Option (Message P)) → least_pair cmp ms ≡ o
           → Some (elim o [ None ↦ m | Some n ↦ cond (pair_before cmp n m) n m ]) ≡ Some l
           → ((n : Message P) → least_pair cmp ms ≡ Some n → IsLeast n ms) → IsLeast l (m ∷ ms)
-      by_rest None is at ih =
-          let same : m ≡ l = cc in
-          let empty : ms ≡ [] = least_none ms is in
-          subst (λ (k : Message P). IsLeast k (m ∷ ms)) same (
-            itself.1,
-            (not_before_itself m, subst (Each (λ (k : Message P). pair_before cmp k m ≡ false)) (sym empty) tt),
-          )
+      by_rest None is at ih = grind (arith, least_none, itself, not_before_itself)
       by_rest (Some n) is at ih =
           let same : cond (pair_before cmp n m) n m ≡ l = cc in
           subst (λ (k : Message P). IsLeast k (m ∷ ms)) same (by_test n (pair_before cmp n m) refl (ih n is))
@@ -122,11 +94,7 @@ module _ {P : Type 0} (cmp : P → P → Ordering) (order : IsTotalOrder cmp) wh
   pub found_in : (Q : Message P → Type 0) (p : Message P → Bool) (x : Message P) (ms : List (Message P)) → Each Q ms
       → find p ms ≡ Some x → Q x
   found_in Q p x [] h e = cc
-  found_in Q p x (m ∷ ms) h e = by_test (p m) e (found_in Q p x ms h.1)
-    where
-      by_test : (b : Bool) → cond b (Some m) (find p ms) ≡ Some x → (find p ms ≡ Some x → Q x) → Q x
-      by_test true e ih = let same : m ≡ x = cc in subst Q same h.0
-      by_test false e ih = ih e
+  found_in Q p x (m ∷ ms) h e = grind (arith, (found_in Q p x ms))
 
   pub as_each : (m : Message P) (ms : List (Message P)) → IsBeforeEach cmp m ms
       → Each (λ (n : Message P). pair_before cmp m n ≡ true) ms
@@ -174,12 +142,7 @@ module _ {P : Type 0} (cmp : P → P → Ordering) (order : IsTotalOrder cmp) wh
   before_inserted : (k m : Message P) (ns : List (Message P)) → pair_before cmp k m ≡ true → IsBeforeEach cmp k ns
       → IsBeforeEach cmp k (insert_by_pair cmp m ns)
   before_inserted k m [] e h = (e, tt)
-  before_inserted k m (n ∷ ns) e h = by_order (pair_before cmp n m) (before_inserted k m ns e h.1)
-    where
-      by_order : (b : Bool) → IsBeforeEach cmp k (insert_by_pair cmp m ns)
-          → IsBeforeEach cmp k (cond b (n ∷ insert_by_pair cmp m ns) (m ∷ n ∷ ns))
-      by_order true ih = (h.0, ih)
-      by_order false ih = (e, h)
+  before_inserted k m (n ∷ ns) e h = grind (arith, (before_inserted k m ns e))
 
   before_all : (m n : Message P) (ks : List (Message P)) → pair_before cmp m n ≡ true → IsBeforeEach cmp n ks
       → IsBeforeEach cmp m ks
@@ -190,20 +153,8 @@ module _ {P : Type 0} (cmp : P → P → Ordering) (order : IsTotalOrder cmp) wh
       → IsByPair cmp (insert_by_pair cmp m ns)
   inserted_by_pair m [] none h = (tt, tt)
   inserted_by_pair m (n ∷ ns) none h =
-      by_order (pair_before cmp n m) (same_pair cmp m n) refl refl none (λ e. inserted_by_pair m ns e h.1)
-    where
-      by_order : (a b : Bool) → pair_before cmp n m ≡ a → same_pair cmp m n ≡ b
-          → cond b (Some n) (find (same_pair cmp m) ns) ≡ None
-          → (find (same_pair cmp m) ns ≡ None → IsByPair cmp (insert_by_pair cmp m ns))
-          → IsByPair cmp (cond a (n ∷ insert_by_pair cmp m ns) (m ∷ n ∷ ns))
-      by_order a true before is e ih = cc
-      by_order true false before is e ih = (before_inserted n m ns before h.0, ih e)
-      by_order false false before is e ih =
-          let first : pair_before cmp m n ≡ true = before_if_not m n before is in
-          ((first, before_all m n ns first h.0), h)
+      grind (arith, before_inserted, before_if_not, before_all, (inserted_by_pair m ns))
 
   pub ordered_by_pair : (ms : List (Message P)) → OneForEachPair cmp ms → IsByPair cmp (by_pair cmp ms)
   ordered_by_pair [] one = tt
-  ordered_by_pair (m ∷ ms) one =
-      inserted_by_pair m (by_pair cmp ms) (find_by_pair ms one.1 m ∙ find_from_any (same_pair cmp m) ms one.0)
-      (ordered_by_pair ms one.1)
+  ordered_by_pair (m ∷ ms) one = grind (arith, inserted_by_pair, find_by_pair, find_from_any, (ordered_by_pair ms))

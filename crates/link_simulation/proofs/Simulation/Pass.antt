@@ -1,21 +1,13 @@
 -- Waking is one pass through the pairs that are ready, in the order of pairs, and ends with nothing done and nothing
 -- ready.
-use Rattle.std.proofs.Common.{◌≡◌, ℕ, zero, suc, ◌+◌, ◌≤◌, List, [], ◌∷◌, length, Bool, true, false, cond, not, Option}
-use Rattle.std.proofs.Common.{Some, None, refl, sym, ap, ◌∙◌, subst, arith}
-use Rattle.std.specs.Prelude.{nat_le, ⊤}
-use Rattle.std.specs.List.{filter, find, list_any}
-use Rattle.std.specs.declared.cmp.Ordering.{Ordering}
-use Rattle.std.specs.Cmp.{IsTotalOrder}
-use Rattle.std.proofs.lemmas.Bool.{not-true}
-use Rattle.fair_rates.specs.Lists.WithoutFirst.{without_first}
-use Rattle.link_simulation.specs.Simulation.World.{Completed, Course, EndsWith, Flight, IsQuiet, World, and_then}
-use Rattle.link_simulation.specs.Simulation.World.{complete, first_waiting, fronts, goes, is_done, last_moment}
-use Rattle.link_simulation.specs.Simulation.World.{least_pair, may_start, meets, preceded, ready, settle, settle_within}
-use Rattle.link_simulation.specs.Simulation.World.{start, start_next, turn, wake, wake_within, out_of_flight, is_late}
-use Rattle.link_simulation.specs.Simulation.World.{completed}
-use Rattle.link_simulation.specs.Simulation.Messages.{Message, OneForEachPair, pair_before, same_pair}
+use Rattle.link_simulation.proofs.Common.{◌≡◌, ℕ, zero, suc, ◌≤◌, List, [], ◌∷◌, length, Bool, true, false, cond, not}
+use Rattle.link_simulation.proofs.Common.{Option, Some, None, refl, sym, ap, ◌∙◌, subst, arith, ⊤, filter, find}
+use Rattle.link_simulation.proofs.Common.{list_any, Ordering, IsTotalOrder, not-true, Completed, Course, EndsWith}
+use Rattle.link_simulation.proofs.Common.{Flight, IsQuiet, World, and_then, complete, fronts, goes, is_done, least_pair}
+use Rattle.link_simulation.proofs.Common.{may_start, meets, preceded, ready, settle, settle_within, start, start_next}
+use Rattle.link_simulation.proofs.Common.{turn, wake, wake_within, Message, OneForEachPair, pair_before, same_pair}
+use Rattle.link_simulation.proofs.Common.{each_filtered, find_from_any, length-without_first, rules}
 use Rattle.link_simulation.specs.Simulation.Pass.{IsByPair, by_pair, wake_each}
-use Rattle.fair_rates.specs.declared.error.Error.TheVariants.{FlowIdsUsedUp, MomentTooLate}
 use Rattle.link_simulation.proofs.Simulation.Queue.{pair_like, pair_sym, settle_none, settle_first}
 use Rattle.link_simulation.proofs.Simulation.SettlingEnds.{length_without, ends_preceded, ends_and_then, ends_cond}
 use Rattle.link_simulation.proofs.Simulation.SettlingEnds.{NoneDone, settle_rests}
@@ -23,8 +15,7 @@ use Rattle.link_simulation.proofs.Simulation.OtherPairs.{each_more, each_of, fin
 use Rattle.link_simulation.proofs.Simulation.OtherPairs.{pair_other, ends_more, fronts_are_first, ready_without}
 use Rattle.link_simulation.proofs.Simulation.OtherPairs.{start_settles, any_none}
 use Rattle.link_simulation.proofs.Simulation.AlikeMessages.{pair_itself}
-use Rattle.fair_rates.proofs.Lists.Each.{Each, each_filtered}
-use Rattle.fair_rates.proofs.Lists.Filters.{find_from_any, length-without_first, none_long}
+use Rattle.fair_rates.proofs.Lists.Filters.{none_long}
 use Rattle.link_simulation.proofs.Simulation.PairOrder.{apart_if_before, least_none, least_is, found_in, as_each}
 use Rattle.link_simulation.proofs.Simulation.PairOrder.{find_nowhere, find_by_pair, ordered_by_pair}
 
@@ -53,17 +44,11 @@ module _ {P : Type 0} (cmp : P → P → Ordering) (order : IsTotalOrder cmp) wh
   WaitAtMost n v = length v.waiting ≤ n
 
   start_waits : (n : ℕ) (w : World P) (m : Message P) → WaitAtMost n w → EndsWith (WaitAtMost n) (start cmp w m)
-  start_waits n w m h =
-      let fewer : length (without_first (same_pair cmp m) w.waiting) ≤ length w.waiting =
-      length-without_first (same_pair cmp m) w.waiting in
-      ends_cond (WaitAtMost n) (nat_le last_moment w.next_id) (meets FlowIdsUsedUp) _ tt (omega arith)
+  start_waits n w m h = grind (arith, length-without_first, ends_cond)
 
   start_takes : (n : ℕ) (w : World P) (m x : Message P) → find (same_pair cmp m) w.waiting ≡ Some x
       → WaitAtMost (suc n) w → EndsWith (WaitAtMost n) (start cmp w m)
-  start_takes n w m x e h =
-      let fewer : length (without_first (same_pair cmp m) w.waiting) + 1 ≡ length w.waiting =
-      length_without (same_pair cmp m) x w.waiting e in
-      ends_cond (WaitAtMost n) (nat_le last_moment w.next_id) (meets FlowIdsUsedUp) _ tt (omega arith)
+  start_takes n w m x e h = grind (arith, length_without, ends_cond)
 
   next_waits : (n t : ℕ) (w : World P) (o : Option (Message P)) → WaitAtMost n w
       → EndsWith (WaitAtMost n) (start_next cmp t w o)
@@ -73,11 +58,7 @@ module _ {P : Type 0} (cmp : P → P → Ordering) (order : IsTotalOrder cmp) wh
 
   complete_waits : (n t : ℕ) (w : World P) (m : Message P) → WaitAtMost n w
       → EndsWith (WaitAtMost n) (complete cmp t w m)
-  complete_waits n t w m h =
-      let landed : World P = out_of_flight cmp t w m in
-      ends_cond (WaitAtMost n) (is_late cmp t m) (meets MomentTooLate) _ tt
-      (ends_preceded (WaitAtMost n) (completed cmp t m ∷ []) (start_next cmp t landed (first_waiting cmp landed m))
-      (next_waits n t landed (first_waiting cmp landed m) h))
+  complete_waits n t w m h = search (ends_cond, ends_preceded, next_waits)
 
   -- what a property of worlds needs to outlast settling
   pub settle_keeps : (Q : World P → Type 0) (t : ℕ)
@@ -85,20 +66,11 @@ module _ {P : Type 0} (cmp : P → P → Ordering) (order : IsTotalOrder cmp) wh
       → EndsWith Q (complete cmp t w f.message))
       → (n : ℕ) (w : World P) → Q w → EndsWith Q (settle_within cmp n t w)
   settle_keeps Q t step zero w h = h
-  settle_keeps Q t step (suc n) w h = by_first (find (is_done cmp w) w.sending) refl (settle_keeps Q t step n)
-    where
-      by_first : (o : Option (Flight P)) → find (is_done cmp w) w.sending ≡ o
-          → ((v : World P) → Q v → EndsWith Q (settle_within cmp n t v)) → EndsWith Q (settle_within cmp (suc n) t w)
-      by_first None e ih =
-          subst (λ (c : Course (Completed P) (World P)). EndsWith Q c) (sym (settle_none cmp order n t w e)) h
-      by_first (Some f) e ih =
-          subst (λ (c : Course (Completed P) (World P)). EndsWith Q c) (sym (settle_first cmp order n t w f e))
-          (ends_and_then Q Q (complete cmp t w f.message) (settle_within cmp n t) (step w f e h) ih)
+  settle_keeps Q t step (suc n) w h =
+      search (rules, settle_none, settle_first, ends_and_then, (settle_keeps Q t step n))
 
   settle_waits : (n t : ℕ) (w : World P) → WaitAtMost n w → EndsWith (WaitAtMost n) (settle cmp t w)
-  settle_waits n t w h =
-      settle_keeps (WaitAtMost n) t (λ v f e k. complete_waits n t v f.message k) (length w.sending + length w.waiting)
-      w h
+  settle_waits n t w h = search (settle_keeps, complete_waits)
 
   -- ---- one start with its settling
 
@@ -125,13 +97,7 @@ module _ {P : Type 0} (cmp : P → P → Ordering) (order : IsTotalOrder cmp) wh
 
   ready_is_front : (t : ℕ) (w : World P) (k x : Message P) → find (same_pair cmp k) (ready cmp t w) ≡ Some x
       → find (same_pair cmp x) w.waiting ≡ Some x
-  ready_is_front t w k x e =
-      (found_in cmp order
-      (λ (n : Message P). (find (same_pair cmp n) w.waiting ≡ Some n) × (may_start cmp t w n ≡ true))
-      (same_pair cmp k) x (ready cmp t w)
-      (each_filtered (λ (n : Message P). find (same_pair cmp n) w.waiting ≡ Some n) (may_start cmp t w)
-      (fronts cmp w.waiting) (fronts_are_first cmp order w.waiting))
-      e).0
+  ready_is_front t w k x e = grind (arith, found_in, each_filtered, fronts_are_first)
 
   ready_in_none : (t : ℕ) (w : World P) → w.waiting ≡ [] → ready cmp t w ≡ []
   ready_in_none t w e = rw e refl
@@ -149,10 +115,7 @@ module _ {P : Type 0} (cmp : P → P → Ordering) (order : IsTotalOrder cmp) wh
       by_least : (o : Option (Message P)) → least_pair cmp (ready cmp t w) ≡ o
           → ((v : World P) → NoneDone cmp order v → WaitAtMost n v → EndsWith (NothingLeft t) (wake_within cmp n t v))
           → EndsWith (NothingLeft t) (wake_within cmp (suc n) t w)
-      by_least None e ih =
-          let empty : ready cmp t w ≡ [] = least_none cmp order (ready cmp t w) e in
-          subst (λ (c : Course (Completed P) (World P)). EndsWith (NothingLeft t) c) (sym (wake_none (suc n) t w empty))
-          (none, empty)
+      by_least None e ih = grind (arith, least_none, wake_none)
       by_least (Some m) e ih =
           let found : find (same_pair cmp m) (ready cmp t w) ≡ Some m = (least_is cmp order m (ready cmp t w) e).0 in
           subst (λ (c : Course (Completed P) (World P)). EndsWith (NothingLeft t) c) (sym (wake_first n t w m e))
@@ -165,10 +128,7 @@ module _ {P : Type 0} (cmp : P → P → Ordering) (order : IsTotalOrder cmp) wh
   -- after waking a settled world, nothing is done and nothing may start
   pub wake_ends_quiet : (t : ℕ) (w : World P) → list_any (is_done cmp w) w.sending ≡ false
       → EndsWith (IsQuiet cmp t) (wake cmp t w)
-  wake_ends_quiet t w none =
-      ends_more cmp order (NothingLeft t) (IsQuiet cmp t) (wake cmp t w)
-      (λ v k. record { none_done = any_from_find (is_done cmp v) v.sending k.0; none_ready = k.1 })
-      (wake_within_ends (length w.waiting) t w (find_from_any (is_done cmp w) w.sending none) (omega arith))
+  wake_ends_quiet t w none = grind (arith, ends_more, any_from_find, wake_within_ends, find_from_any)
 
   -- ---- waking is one pass
 
@@ -199,11 +159,7 @@ module _ {P : Type 0} (cmp : P → P → Ordering) (order : IsTotalOrder cmp) wh
           (λ (n : Message P). same_pair cmp k n ≡ false)
           (λ n b. pair_like cmp order m k n e ∙ apart_if_before cmp order m n b) ms (as_each cmp order m ms h.0))
           ∙ sym (find_without k m rs e)
-      by_pair_of false e =
-          let apart : same_pair cmp k m ≡ false = pair_sym cmp order k m ∙ e in
-          ap (λ (b : Bool). cond b (Some m) (find (same_pair cmp k) ms)) (sym apart) ∙ same k
-          ∙ sym (find_kept (same_pair cmp k) (λ n. not (same_pair cmp m n)) rs
-          (λ n f. pair_other cmp order m n k e f))
+      by_pair_of false e = grind (arith, pair_sym, find_kept, pair_other)
 
   -- its first pair is the least
   least_first : (m : Message P) (ms rs : List (Message P)) → IsByPair cmp (m ∷ ms) → FindsAlike (m ∷ ms) rs
@@ -217,16 +173,14 @@ module _ {P : Type 0} (cmp : P → P → Ordering) (order : IsTotalOrder cmp) wh
           → pair_before cmp m l ≡ false → Some l ≡ Some m
       by_test l true e after = sym e
       by_test l false e after =
-          let yes : pair_before cmp m l ≡ true =
-          found_in cmp order (λ (n : Message P). pair_before cmp m n ≡ true) (same_pair cmp l) l ms
+          let yes = found_in cmp order (λ (n : Message P). pair_before cmp m n ≡ true) (same_pair cmp l) l ms
           (as_each cmp order m ms h.0) e in
           cc
 
       by_least : (o : Option (Message P)) → least_pair cmp rs ≡ o → o ≡ Some m
       by_least None e = sym (ap (find (same_pair cmp m)) (least_none cmp order rs e)) ∙ there
       by_least (Some l) e =
-          let least : (find (same_pair cmp l) rs ≡ Some l) × Each (λ (n : Message P). pair_before cmp n l ≡ false) rs =
-          least_is cmp order l rs e in
+          let least = least_is cmp order l rs e in
           by_test l (same_pair cmp l m) (same l ∙ least.0)
           (found_in cmp order (λ (n : Message P). pair_before cmp n l ≡ false) (same_pair cmp m) m rs least.1 there)
 
@@ -234,8 +188,7 @@ module _ {P : Type 0} (cmp : P → P → Ordering) (order : IsTotalOrder cmp) wh
   empty_alike [] same = refl
   empty_alike (r ∷ rs) same =
       let e : None ≡ cond (same_pair cmp r r) (Some r) (find (same_pair cmp r) rs) = same r in
-      let f : None ≡ Some r =
-      e ∙ ap (λ (b : Bool). cond b (Some r) (find (same_pair cmp r) rs)) (pair_itself cmp order r) in
+      let f : None ≡ Some r = grind (arith, pair_itself) in
       cc
 
   -- going once through any list, in the order of pairs, of those that are ready
@@ -271,29 +224,17 @@ module _ {P : Type 0} (cmp : P → P → Ordering) (order : IsTotalOrder cmp) wh
   one_in_filter : (keep : Message P → Bool) (xs : List (Message P)) → OneForEachPair cmp xs
       → OneForEachPair cmp (filter keep xs)
   one_in_filter keep [] one = tt
-  one_in_filter keep (x ∷ xs) one = by_test (keep x) (one_in_filter keep xs one.1)
-    where
-      by_test : (b : Bool) → OneForEachPair cmp (filter keep xs)
-          → OneForEachPair cmp (cond b (x ∷ filter keep xs) (filter keep xs))
-      by_test true ih = (any_none (same_pair cmp x) keep xs one.0, ih)
-      by_test false ih = ih
+  one_in_filter keep (x ∷ xs) one = grind (arith, any_none, (one_in_filter keep xs))
 
   pub one_in_fronts : (xs : List (Message P)) → OneForEachPair cmp (fronts cmp xs)
   one_in_fronts [] = tt
-  one_in_fronts (x ∷ xs) = (
-    any_from_find (same_pair cmp x) (filter (λ n. not (same_pair cmp x n)) (fronts cmp xs))
-        (find_without x x (fronts cmp xs) (pair_itself cmp order x)),
-    one_in_filter (λ n. not (same_pair cmp x n)) (fronts cmp xs) (one_in_fronts xs),
-  )
+  one_in_fronts (x ∷ xs) = grind (arith, any_from_find, find_without, pair_itself, one_in_filter, (one_in_fronts xs))
 
   -- waking goes once through those that are ready, in the order of pairs, with as many steps as wait or more
   pub wake_more_is_pass : (n t : ℕ) (w : World P) → list_any (is_done cmp w) w.sending ≡ false → WaitAtMost n w
       → wake_within cmp n t w ≡ wake_each cmp t (by_pair cmp (ready cmp t w)) w
   wake_more_is_pass n t w none h =
-      let one : OneForEachPair cmp (ready cmp t w) =
-      one_in_filter (may_start cmp t w) (fronts cmp w.waiting) (one_in_fronts w.waiting) in
-      wake_within_is_pass n t (by_pair cmp (ready cmp t w)) w none h (ordered_by_pair cmp order (ready cmp t w) one)
-      (find_by_pair cmp order (ready cmp t w) one)
+      grind (arith, one_in_filter, one_in_fronts, wake_within_is_pass, ordered_by_pair, find_by_pair)
 
   pub wake_is_one_pass : (t : ℕ) (w : World P) → list_any (is_done cmp w) w.sending ≡ false
       → wake cmp t w ≡ wake_each cmp t (by_pair cmp (ready cmp t w)) w

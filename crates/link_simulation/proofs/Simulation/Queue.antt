@@ -1,36 +1,21 @@
 -- Settling the list of messages in flight is finishing a queue of the done ones, whose leavers join at its end.
-use Rattle.std.proofs.Common.{append_assoc, ◌≡◌, ℕ, zero, suc, ◌+◌, List, [], ◌∷◌, ◌++◌, map, Bool, true, false, cond}
-use Rattle.std.proofs.Common.{not, Option, Some, None, refl, sym, ap, ◌∙◌, subst}
-use Rattle.std.specs.Prelude.{nat_le, ◌&&◌, ◌||◌}
-use Rattle.std.specs.List.{filter, find, list_any}
-use Rattle.std.specs.declared.cmp.Ordering.{Ordering}
-use Rattle.std.specs.Ordering.{is_eq}
-use Rattle.std.specs.Cmp.{IsTotalOrder}
-use Rattle.std.proofs.lemmas.List.Folds.{list_any-append}
-use Rattle.std.proofs.lemmas.List.Elements.{filter-append}
-use Rattle.std.proofs.lemmas.Bool.{or_from, or_parts, and_parts}
-use Rattle.std.proofs.lemmas.List.{append-nil, map-append}
-use Rattle.fair_rates.specs.Lists.WithoutFirst.{without_first}
-use Rattle.fair_rates.specs.Sides.Subjects.{same_peer}
-use Rattle.link_simulation.specs.Simulation.World.{Completed, Course, Flight, World, and_then, complete, goes, is_done}
-use Rattle.link_simulation.specs.Simulation.World.{is_in_order, last_moment, may_start, meets, preceded, settle_within}
-use Rattle.link_simulation.specs.Simulation.World.{start, start_next, is_late, completed, flight_of}
-use Rattle.link_simulation.specs.Simulation.Queue.{leaving, staying, arrived, out_of_waiting, joined, launch_then}
-use Rattle.link_simulation.specs.Simulation.Queue.{finish_within}
-use Rattle.link_simulation.specs.Simulation.Messages.{Message, OneForEachPair, same_pair}
-use Rattle.fair_rates.specs.declared.error.Error.TheVariants.{FlowIdsUsedUp, MomentTooLate}
+use Rattle.link_simulation.proofs.Common.{and_parts, arith, append_assoc, ◌≡◌, ℕ, zero, suc, ◌+◌, List, [], ◌∷◌, ◌++◌}
+use Rattle.link_simulation.proofs.Common.{map, Bool, true, false, cond, not, Option, Some, None, refl, sym, ap, ◌∙◌}
+use Rattle.link_simulation.proofs.Common.{subst, nat_le, ◌&&◌, filter, find, list_any, Ordering, is_eq, IsTotalOrder}
+use Rattle.link_simulation.proofs.Common.{list_any-append, filter-append, or_from, or_parts, map-append, without_first}
+use Rattle.link_simulation.proofs.Common.{same_peer, Completed, Course, Flight, World, and_then, complete, goes}
+use Rattle.link_simulation.proofs.Common.{is_done, is_in_order, last_moment, may_start, meets, preceded, settle_within}
+use Rattle.link_simulation.proofs.Common.{start, start_next, is_late, completed, flight_of, leaving, staying, arrived}
+use Rattle.link_simulation.proofs.Common.{out_of_waiting, joined, launch_then, finish_within, Message, OneForEachPair}
+use Rattle.link_simulation.proofs.Common.{same_pair, FlowIdsUsedUp, MomentTooLate}
+use Rattle.std.proofs.lemmas.List.{append-nil}
 use Rattle.fair_rates.proofs.Lists.Sorted.{is_eq_equal}
-use Rattle.fair_rates.proofs.Sides.Subjects.{peer_sym}
 
 -- ---- courses
 
 preceded_then : {X S : Type 0} (xs : List X) (c : Course X S) (next : S → Course X S)
     → and_then (preceded xs c) next ≡ preceded xs (and_then c next)
-preceded_then {X} {S} xs (goes ys s) next = by_rest (next s)
-  where
-    by_rest : (d : Course X S) → preceded (xs ++ ys) d ≡ preceded xs (preceded ys d)
-    by_rest (goes zs u) = rw (append_assoc xs ys zs) refl
-    by_rest (meets fault) = refl
+preceded_then {X} {S} xs (goes ys s) next = grind (arith, append_assoc)
 preceded_then xs (meets fault) next = refl
 
 -- a course, the next one, and the one after
@@ -47,66 +32,26 @@ unfoldable pub over_state : {X S : Type 0} → (S → S) → Course X S → Cour
 over_state f (goes xs s) = goes xs (f s)
 over_state f (meets fault) = meets fault
 
-over_state-preceded : {X S : Type 0} (f : S → S) (xs : List X) (c : Course X S)
-    → over_state f (preceded xs c) ≡ preceded xs (over_state f c)
-unfolding over_state
-over_state-preceded f xs (goes ys s) = refl
-over_state-preceded f xs (meets fault) = refl
-
-preceded_twice : {X S : Type 0} (x : X) (xs : List X) (c : Course X S)
-    → preceded (x ∷ xs) c ≡ preceded (x ∷ []) (preceded xs c)
-preceded_twice x xs (goes ys s) = refl
-preceded_twice x xs (meets fault) = refl
-
-and_then-preceded : {X S : Type 0} (x : X) (c : Course X S) (k : S → Course X S)
-    → and_then (preceded (x ∷ []) c) k ≡ preceded (x ∷ []) (and_then c k)
-and_then-preceded x (goes ys s) k = preceded_twice x ys (k s)
-and_then-preceded x (meets fault) k = refl
-
 -- ---- lists
 
 pub filter_without : {X : Type 0} (test : X → Bool) (xs : List X)
     → filter (λ x. not (test x)) (without_first test xs) ≡ filter (λ x. not (test x)) xs
 filter_without test [] = refl
-filter_without {X} test (x ∷ xs) = by_test (test x) (filter_without test xs) refl
-  where
-    by_test : (b : Bool) → filter (λ y. not (test y)) (without_first test xs) ≡ filter (λ y. not (test y)) xs
-        → test x ≡ b
-        → filter (λ y. not (test y)) (cond b xs (x ∷ without_first test xs))
-        ≡ cond (not b) (x ∷ filter (λ y. not (test y)) xs) (filter (λ y. not (test y)) xs)
-    by_test true ih e = refl
-    by_test false ih e = rw (e, ih) refl
+filter_without {X} test (x ∷ xs) = grind (arith, (filter_without test xs))
 
 -- the passing ones, without the first
 pub leaving_without : {X : Type 0} (test : X → Bool) (f : X) (fs xs : List X) → filter test xs ≡ f ∷ fs
     → (find test xs ≡ Some f) × (filter test (without_first test xs) ≡ fs)
 leaving_without test f fs [] e = cc
-leaving_without {X} test f fs (x ∷ xs) e = by_test (test x) refl e (leaving_without test f fs xs)
-  where
-    by_test : (b : Bool) → test x ≡ b → cond b (x ∷ filter test xs) (filter test xs) ≡ f ∷ fs
-        → (filter test xs ≡ f ∷ fs → (find test xs ≡ Some f) × (filter test (without_first test xs) ≡ fs))
-        → (cond b (Some x) (find test xs) ≡ Some f) × (filter test (cond b xs (x ∷ without_first test xs)) ≡ fs)
-    by_test true is e ih = (cc, cc)
-    by_test false is e ih =
-        let h : (find test xs ≡ Some f) × (filter test (without_first test xs) ≡ fs) = ih e in (h.0, rw is h.1)
+leaving_without {X} test f fs (x ∷ xs) e = grind (arith, (leaving_without test f fs xs))
 
 pub find_none : {X : Type 0} (test : X → Bool) (xs : List X) → filter test xs ≡ [] → find test xs ≡ None
 find_none test [] e = refl
-find_none {X} test (x ∷ xs) e = by_test (test x) e (find_none test xs)
-  where
-    by_test : (b : Bool) → cond b (x ∷ filter test xs) (filter test xs) ≡ []
-        → (filter test xs ≡ [] → find test xs ≡ None) → cond b (Some x) (find test xs) ≡ None
-    by_test true e ih = cc
-    by_test false e ih = ih e
+find_none {X} test (x ∷ xs) e = grind (arith, (find_none test xs))
 
 pub find_passes : {X : Type 0} (test : X → Bool) (y : X) (ys : List X) → find test ys ≡ Some y → test y ≡ true
 find_passes test y [] g = cc
-find_passes {X} test y (z ∷ zs) g = by_test (test z) refl g (find_passes test y zs)
-  where
-    by_test : (b : Bool) → test z ≡ b → cond b (Some z) (find test zs) ≡ Some y
-        → (find test zs ≡ Some y → test y ≡ true) → test y ≡ true
-    by_test true is g ih = let same : z ≡ y = cc in subst (λ (x : X). test x ≡ true) same is
-    by_test false is g ih = ih g
+find_passes {X} test y (z ∷ zs) g = grind (arith, (find_passes test y zs))
 
 module _ {P : Type 0} (cmp : P → P → Ordering) (order : IsTotalOrder cmp) where
   -- ---- pairs
@@ -126,10 +71,7 @@ module _ {P : Type 0} (cmp : P → P → Ordering) (order : IsTotalOrder cmp) wh
       (peer_like m.origin n.origin k.origin parts.0) (peer_like m.recipient n.recipient k.recipient parts.1)
 
   pub pair_sym : (m n : Message P) → same_pair cmp m n ≡ same_pair cmp n m
-  pair_sym m n =
-      both_alike (same_peer cmp m.origin n.origin) (same_peer cmp n.origin m.origin)
-      (same_peer cmp m.recipient n.recipient) (same_peer cmp n.recipient m.recipient)
-      (peer_sym cmp order m.origin n.origin) (peer_sym cmp order m.recipient n.recipient)
+  pair_sym m n = grind arith
 
   pub any_like : (m n : Message P) (ks : List (Message P)) → same_pair cmp m n ≡ true
       → list_any (same_pair cmp n) ks ≡ list_any (same_pair cmp m) ks
@@ -144,87 +86,34 @@ module _ {P : Type 0} (cmp : P → P → Ordering) (order : IsTotalOrder cmp) wh
   any_without : (p : Message P → Bool) (test : Flight P → Bool) (fs : List (Flight P))
       → list_any p (messages fs) ≡ false → list_any p (messages (without_first test fs)) ≡ false
   any_without p test [] e = refl
-  any_without p test (f ∷ fs) e =
-      let parts : (p f.message ≡ false) × (list_any p (messages fs) ≡ false) =
-      or_parts (p f.message) (list_any p (messages fs)) e in
-      by_test (test f) parts.0 parts.1 (any_without p test fs parts.1)
-    where
-      by_test : (b : Bool) → p f.message ≡ false → list_any p (messages fs) ≡ false
-          → list_any p (messages (without_first test fs)) ≡ false
-          → list_any p (messages (cond b fs (f ∷ without_first test fs))) ≡ false
-      by_test true h j ih = j
-      by_test false h j ih = or_from (p f.message) (list_any p (messages (without_first test fs))) h ih
+  any_without p test (f ∷ fs) e = grind (arith, (any_without p test fs))
 
   pub any_filter : (p : Message P → Bool) (test : Flight P → Bool) (fs : List (Flight P))
       → list_any p (messages fs) ≡ false → list_any p (messages (filter test fs)) ≡ false
   any_filter p test [] e = refl
-  any_filter p test (f ∷ fs) e =
-      let parts : (p f.message ≡ false) × (list_any p (messages fs) ≡ false) =
-      or_parts (p f.message) (list_any p (messages fs)) e in
-      by_test (test f) parts.0 (any_filter p test fs parts.1)
-    where
-      by_test : (b : Bool) → p f.message ≡ false → list_any p (messages (filter test fs)) ≡ false
-          → list_any p (messages (cond b (f ∷ filter test fs) (filter test fs))) ≡ false
-      by_test true h ih = or_from (p f.message) (list_any p (messages (filter test fs))) h ih
-      by_test false h ih = ih
+  any_filter p test (f ∷ fs) e = grind (arith, (any_filter p test fs))
 
   pub one_without : (test : Flight P → Bool) (fs : List (Flight P)) → OneForEachPair cmp (messages fs)
       → OneForEachPair cmp (messages (without_first test fs))
   one_without test [] one = tt
-  one_without test (f ∷ fs) one =
-      by_test (test f) (any_without (same_pair cmp f.message) test fs one.0) (one_without test fs one.1)
-    where
-      by_test : (b : Bool) → list_any (same_pair cmp f.message) (messages (without_first test fs)) ≡ false
-          → OneForEachPair cmp (messages (without_first test fs))
-          → OneForEachPair cmp (messages (cond b fs (f ∷ without_first test fs)))
-      by_test true h ih = one.1
-      by_test false h ih = (h, ih)
+  one_without test (f ∷ fs) one = grind (arith, any_without, (one_without test fs))
 
   -- the one that is found was the only one of its pair
   found_apart : (p : Message P → Bool) (test : Flight P → Bool) (f : Flight P) (fs : List (Flight P))
       → find test fs ≡ Some f → list_any p (messages fs) ≡ false → p f.message ≡ false
   found_apart p test f [] e h = cc
-  found_apart p test f (g ∷ gs) e h =
-      let parts : (p g.message ≡ false) × (list_any p (messages gs) ≡ false) =
-      or_parts (p g.message) (list_any p (messages gs)) h in
-      by_test (test g) e parts.0 (λ is. found_apart p test f gs is parts.1)
-    where
-      by_test : (b : Bool) → cond b (Some g) (find test gs) ≡ Some f → p g.message ≡ false
-          → (find test gs ≡ Some f → p f.message ≡ false) → p f.message ≡ false
-      by_test true e h ih = let same : g ≡ f = cc in subst (λ (x : Flight P). p x.message ≡ false) same h
-      by_test false e h ih = ih e
+  found_apart p test f (g ∷ gs) e h = grind (arith, (found_apart p test f gs))
 
   pub pair_is_idle : (test : Flight P → Bool) (f : Flight P) (fs : List (Flight P)) → find test fs ≡ Some f
       → OneForEachPair cmp (messages fs)
       → list_any (same_pair cmp f.message) (messages (without_first test fs)) ≡ false
   pair_is_idle test f [] e one = cc
-  pair_is_idle test f (g ∷ gs) e one =
-      by_test (test g) e (λ is. pair_is_idle test f gs is one.1)
-      (λ is. found_apart (same_pair cmp g.message) test f gs is one.0)
-    where
-      by_test : (b : Bool) → cond b (Some g) (find test gs) ≡ Some f
-          → (find test gs ≡ Some f → list_any (same_pair cmp f.message) (messages (without_first test gs)) ≡ false)
-          → (find test gs ≡ Some f → same_pair cmp g.message f.message ≡ false)
-          → list_any (same_pair cmp f.message) (messages (cond b gs (g ∷ without_first test gs))) ≡ false
-      by_test true e ih apart =
-          let same : g ≡ f = cc in
-          subst (λ (x : Flight P). list_any (same_pair cmp x.message) (messages gs) ≡ false) same one.0
-      by_test false e ih apart =
-          or_from (same_pair cmp f.message g.message)
-          (list_any (same_pair cmp f.message) (messages (without_first test gs)))
-          (pair_sym f.message g.message ∙ apart e) (ih e)
+  pair_is_idle test f (g ∷ gs) e one = grind (arith, found_apart, or_from, pair_sym, (pair_is_idle test f gs))
 
   pub one_pair_more : (ms : List (Message P)) (m : Message P) → OneForEachPair cmp ms
       → list_any (same_pair cmp m) ms ≡ false → OneForEachPair cmp (ms ++ m ∷ [])
   one_pair_more [] m one h = (refl, tt)
-  one_pair_more (n ∷ ns) m one h =
-      let parts : (same_pair cmp m n ≡ false) × (list_any (same_pair cmp m) ns ≡ false) =
-      or_parts (same_pair cmp m n) (list_any (same_pair cmp m) ns) h in (
-        list_any-append (same_pair cmp n) ns (m ∷ [])
-            ∙ or_from (list_any (same_pair cmp n) ns) (same_pair cmp n m || false) one.0
-            (or_from (same_pair cmp n m) false (pair_sym n m ∙ parts.0) refl),
-        one_pair_more ns m one.1 parts.1,
-      )
+  one_pair_more (n ∷ ns) m one h = grind (arith, or_parts, list_any-append, or_from, pair_sym, (one_pair_more ns m))
 
   -- ---- settling is finishing the queue
 
@@ -235,9 +124,7 @@ module _ {P : Type 0} (cmp : P → P → Ordering) (order : IsTotalOrder cmp) wh
       ≡ cond b (meets MomentTooLate) (preceded (c ∷ []) l)
   unfolding over_state
   late_or_not true c s l k e = refl
-  late_or_not false c s l k e =
-      ap (over_state (staying cmp)) (and_then-preceded c s k)
-      ∙ over_state-preceded (staying cmp) (c ∷ []) (and_then s k) ∙ ap (preceded (c ∷ [])) e
+  late_or_not false c s l k e = grind arith
 
   nothing_first : (k : World P → Course (Completed P) (World P)) (w : World P)
       → over_state (staying cmp) (and_then (goes [] w) k) ≡ over_state (staying cmp) (k w)
@@ -252,11 +139,7 @@ module _ {P : Type 0} (cmp : P → P → Ordering) (order : IsTotalOrder cmp) wh
       (record (out_of_waiting cmp v m) { sending = v.sending ++ cond (not b) (flight_of m ∷ []) [] })
       ≡ cond b (finish_within cmp n t (fs ++ flight_of m ∷ []) (out_of_waiting cmp v m))
       (finish_within cmp n t fs (joined cmp v m))
-  done_or_not true n t fs v m =
-      ap
-      (λ (rest : List (Flight P)). finish_within cmp n t (fs ++ flight_of m ∷ [])
-      (record (out_of_waiting cmp v m) { sending = rest }))
-      (append-nil v.sending)
+  done_or_not true n t fs v m = grind (arith, append-nil)
   done_or_not false n t fs v m =
       ap (λ (rest : List (Flight P)). finish_within cmp n t rest (joined cmp v m)) (append-nil fs)
 
@@ -275,47 +158,7 @@ module _ {P : Type 0} (cmp : P → P → Ordering) (order : IsTotalOrder cmp) wh
         (finish_within cmp n t fs (joined cmp v m)))
     unfolding leaving staying over_state
     starting w fs v m one idle e f =
-        subst
-        (λ (u : World P). over_state (staying cmp) (and_then (start cmp w m) (settle_within cmp n t))
-        ≡ cond (nat_le last_moment u.next_id) (meets FlowIdsUsedUp)
-        (cond (is_done cmp u (flight_of m))
-        (finish_within cmp n t (fs ++ flight_of m ∷ []) (out_of_waiting cmp u m))
-        (finish_within cmp n t fs (joined cmp u m))))
-        f
-        (by_id (nat_le last_moment w.next_id))
-      where
-        after : World P
-        after =
-            record w {
-              sending = w.sending ++ flight_of m ∷ [];
-              waiting = without_first (same_pair cmp m) w.waiting;
-              next_id = w.next_id + 1;
-            }
-
-        one_after : OneForEachPair cmp (messages (w.sending ++ flight_of m ∷ []))
-        one_after =
-            subst (OneForEachPair cmp) (sym (map-append (λ (g : Flight P). g.message) w.sending (flight_of m ∷ [])))
-            (one_pair_more (messages w.sending) m one idle)
-
-        by_id : (b : Bool)
-            → over_state (staying cmp) (and_then (cond b (meets FlowIdsUsedUp) (goes [] after)) (settle_within cmp n t))
-            ≡ cond b (meets FlowIdsUsedUp)
-            (cond (is_done cmp (staying cmp w) (flight_of m))
-            (finish_within cmp n t (fs ++ flight_of m ∷ []) (out_of_waiting cmp (staying cmp w) m))
-            (finish_within cmp n t fs (joined cmp (staying cmp w) m)))
-        by_id true = refl
-        by_id false = nothing_first (settle_within cmp n t) after ∙ ih after one_after
-            ∙ finish_alike n t (leaving cmp after) (fs ++ cond (is_done cmp w (flight_of m)) (flight_of m ∷ []) [])
-            (staying cmp after)
-            (record (out_of_waiting cmp (staying cmp w) m) {
-              sending = (staying cmp w).sending
-                  ++ cond (not (is_done cmp w (flight_of m))) (flight_of m ∷ []) [];
-            })
-            (filter-append (is_done cmp w) w.sending (flight_of m ∷ [])
-            ∙ ap (λ (q : List (Flight P)). q ++ cond (is_done cmp w (flight_of m)) (flight_of m ∷ []) []) e)
-            (ap (λ (q : List (Flight P)). record (staying cmp after) { sending = q })
-            (filter-append (λ g. not (is_done cmp w g)) w.sending (flight_of m ∷ [])))
-            ∙ done_or_not (is_done cmp w (flight_of m)) n t fs (staying cmp w) m
+        grind (arith, start, joined, map-append, one_pair_more, nothing_first, finish_alike, filter-append, done_or_not)
 
     -- the pair's next starts if it may, in the one world and in the other
     next_alike : (w : World P) (fs : List (Flight P)) (v : World P) (m : Message P) (o : Option (Message P))
@@ -329,12 +172,10 @@ module _ {P : Type 0} (cmp : P → P → Ordering) (order : IsTotalOrder cmp) wh
         nothing_first (settle_within cmp n t) w ∙ ih w one ∙ finish_alike n t (leaving cmp w) fs (staying cmp w) v e f
     next_alike w fs v m (Some x) one idle e f is =
         let same : same_pair cmp m x ≡ true = find_passes (same_pair cmp m) x w.waiting is in
-        let idle_in_w : list_any (same_pair cmp x) (messages w.sending) ≡ false =
-        any_like m x (messages w.sending) same ∙ idle in
+        let idle_in_w = any_like m x (messages w.sending) same ∙ idle in
         let order_is : Bool = is_in_order (w.last_arrival x.origin x.recipient) (t + x.latency) in
         let in_w : may_start cmp t w x ≡ order_is = ap (λ b. not b && order_is) idle_in_w in
-        let in_v : may_start cmp t v x ≡ order_is =
-        subst (λ (u : World P). may_start cmp t u x ≡ order_is) f (idle_still w x idle_in_w) in
+        let in_v = subst (λ (u : World P). may_start cmp t u x ≡ order_is) f (idle_still w x idle_in_w) in
         rw (in_w, in_v) (by_order order_is idle_in_w)
       where
         idle_still : (w : World P) (x : Message P) → list_any (same_pair cmp x) (messages w.sending) ≡ false
@@ -352,9 +193,7 @@ module _ {P : Type 0} (cmp : P → P → Ordering) (order : IsTotalOrder cmp) wh
             (finish_within cmp n t fs (joined cmp v x))))
             (finish_within cmp n t fs v)
         by_order true h = starting w fs v x one h e f
-        by_order false h =
-            nothing_first (settle_within cmp n t) w ∙ ih w one
-            ∙ finish_alike n t (leaving cmp w) fs (staying cmp w) v e f
+        by_order false h = grind (arith, nothing_first, finish_alike)
 
   as_filter : (w : World P) (q : List (Flight P)) → leaving cmp w ≡ q → filter (is_done cmp w) w.sending ≡ q
   unfolding leaving
@@ -368,9 +207,7 @@ module _ {P : Type 0} (cmp : P → P → Ordering) (order : IsTotalOrder cmp) wh
       → staying cmp (record (arrived cmp t w m) { sending = without_first (is_done cmp w) w.sending })
       ≡ arrived cmp t (staying cmp w) m
   unfolding staying
-  landed_alike t w m =
-      ap (λ (q : List (Flight P)). record (arrived cmp t w m) { sending = q })
-      (filter_without (is_done cmp w) w.sending)
+  landed_alike t w m = grind (arith, (filter_without (is_done cmp w) w.sending))
 
   pub settle_none : (n t : ℕ) (w : World P) → find (is_done cmp w) w.sending ≡ None
       → settle_within cmp (suc n) t w ≡ goes [] w
@@ -392,12 +229,9 @@ module _ {P : Type 0} (cmp : P → P → Ordering) (order : IsTotalOrder cmp) wh
           → over_state (staying cmp) (settle_within cmp n t u)
           ≡ finish_within cmp n t (leaving cmp u) (staying cmp u))
           → over_state (staying cmp) (settle_within cmp (suc n) t w) ≡ finish_within cmp (suc n) t q (staying cmp w)
-      by_queue [] e ih =
-          ap (over_state (staying cmp)) (settle_none n t w (find_none (is_done cmp w) w.sending (as_filter w [] e)))
+      by_queue [] e ih = grind (arith, settle_none, find_none, as_filter)
       by_queue (f ∷ fs) e ih =
-          let first : (find (is_done cmp w) w.sending ≡ Some f)
-          × (filter (is_done cmp w) (without_first (is_done cmp w) w.sending) ≡ fs)
-          = leaving_without (is_done cmp w) f fs w.sending (as_filter w (f ∷ fs) e) in
+          let first = leaving_without (is_done cmp w) f fs w.sending (as_filter w (f ∷ fs) e) in
           ap (over_state (staying cmp)) (settle_first n t w f first.0)
           ∙ (late_or_not (is_late cmp t f.message) (completed cmp t f.message) _ _ (settle_within cmp n t)
           (next_alike n t ih (record (arrived cmp t w f.message) { sending = without_first (is_done cmp w) w.sending })

@@ -1,55 +1,34 @@
 -- An instant ends in quiet, and leaves a quiet world as it is; so does each call end in quiet, and the next event comes
 -- later.
-use Rattle.std.proofs.Common.{◌≡◌, ℕ, zero, suc, ◌+◌, ◌-◌, ◌<◌, ◌≤◌, List, [], ◌∷◌, ◌++◌, length, Bool, true, false}
-use Rattle.std.proofs.Common.{cond, not, Option, Some, None, refl, sym, ap, ◌∙◌, subst, arith}
-use Rattle.std.specs.Prelude.{◌&&◌, nat_lt, nat_le, max, if◌then◌else◌, IfSome}
-use Rattle.std.specs.List.{filter, find}
-use Rattle.std.specs.declared.cmp.Ordering.{Ordering}
-use Rattle.std.specs.Cmp.{IsTotalOrder}
-use Rattle.std.proofs.lemmas.List.Elements.{filter-append}
+use Rattle.link_simulation.proofs.Common.{common_steps, ◌≡◌, ℕ, zero, suc, ◌+◌, ◌<◌, ◌≤◌, List, [], ◌∷◌, ◌++◌, length}
+use Rattle.link_simulation.proofs.Common.{Bool, true, not, Option, Some, None, refl, ap, ◌∙◌, subst, arith, IfSome}
+use Rattle.link_simulation.proofs.Common.{filter, find, Ordering, IsTotalOrder, filter-append, Completed, Course}
+use Rattle.link_simulation.proofs.Common.{EndsWith, IsQuiet, World, and_then, complete, first_waiting, goes, instant}
+use Rattle.link_simulation.proofs.Common.{is_done, is_in_order, later_of, least_pair, raised, ready, settle}
+use Rattle.link_simulation.proofs.Common.{settle_within, start, start_next, turn, wake, wake_within, Call, Runs, act}
+use Rattle.link_simulation.proofs.Common.{call_advance, call_enqueue, call_limit, call_enqueue_all, call_next}
+use Rattle.link_simulation.proofs.Common.{complete_at_once, moment_of, limited_by, rebalance, call_limit_link}
+use Rattle.link_simulation.proofs.Common.{linked_by, enqueue, Message, same_pair, Caps, no_time, Drains, NextIs, Passes}
+use Rattle.link_simulation.proofs.Common.{Ticks, comes_next, never_comes, no_tick, one_tick, quiet_tick, tick_faults}
+use Rattle.link_simulation.proofs.Common.{find_from_any}
 use Rattle.std.proofs.lemmas.List.{append-nil}
-use Rattle.std.proofs.lemmas.Bool.Decides.{nat_tests}
-use Rattle.link_simulation.specs.Simulation.World.{Completed, Course, EndsWith, IsQuiet, World, and_then, complete}
-use Rattle.link_simulation.specs.Simulation.World.{first_waiting, fronts, goes, instant, is_done, is_idle, is_in_order}
-use Rattle.link_simulation.specs.Simulation.World.{last_moment, later_of, least_pair, may_start, meets, raised, ready}
-use Rattle.link_simulation.specs.Simulation.World.{settle, settle_within, start, start_next, turn, wake, wake_within}
-use Rattle.link_simulation.specs.Simulation.Calls.{Call, Runs, act, call_advance, call_enqueue, call_limit}
-use Rattle.link_simulation.specs.Simulation.Calls.{call_enqueue_all, call_next}
-use Rattle.link_simulation.specs.Simulation.Calls.{complete_at_once, moment_of, limited_by, rebalance, call_limit_link}
-use Rattle.link_simulation.specs.Simulation.Calls.{linked_by, enqueue, enqueue_each}
-use Rattle.link_simulation.specs.Simulation.Messages.{Message, same_pair, Caps}
-use Rattle.link_simulation.specs.Simulation.Time.{no_time, Drains, NextIs, Passes, Ticks, comes_next, never_comes}
-use Rattle.link_simulation.specs.Simulation.Time.{no_tick, one_tick, quiet_tick, tick_faults}
-use Rattle.fair_rates.specs.declared.error.Error.TheVariants.{MomentTooLate}
 use Rattle.link_simulation.proofs.Simulation.Queue.{settle_none, preceded_none}
-use Rattle.link_simulation.proofs.Simulation.SettlingEnds.{ends_preceded, ends_and_then, ends_cond, NoneDone}
-use Rattle.link_simulation.proofs.Simulation.SettlingEnds.{each_ends}
+use Rattle.link_simulation.proofs.Simulation.SettlingEnds.{ends_preceded, ends_and_then, ends_cond, each_ends}
 use Rattle.link_simulation.proofs.Simulation.SettlingEnds.{settle_rests}
 use Rattle.link_simulation.proofs.Simulation.OtherPairs.{Leaves, ends_more, leaves_like, next_leaves, start_leaves}
 use Rattle.link_simulation.proofs.Simulation.OtherPairs.{complete_leaves, ready_without, any_from_find, IsButFor}
 use Rattle.link_simulation.proofs.Simulation.AlikeMessages.{pair_itself}
-use Rattle.fair_rates.proofs.Lists.Filters.{find_from_any}
-use Rattle.link_simulation.proofs.Simulation.Pass.{ends_both, settle_keeps, wake_none, wake_first, wake_ends_quiet}
+use Rattle.link_simulation.proofs.Simulation.Pass.{ends_both, settle_keeps, wake_none, wake_ends_quiet}
 
 filter_none : {X : Type 0} (p q : X → Bool) (xs : List X) → ((x : X) → p x ≡ true → q x ≡ true) → filter q xs ≡ []
     → filter p xs ≡ []
 filter_none p q [] more e = refl
-filter_none {X} p q (x ∷ xs) more e = by_tests (p x) (q x) refl refl e (filter_none p q xs more)
-  where
-    by_tests : (a b : Bool) → p x ≡ a → q x ≡ b → cond b (x ∷ filter q xs) (filter q xs) ≡ []
-        → (filter q xs ≡ [] → filter p xs ≡ []) → cond a (x ∷ filter p xs) (filter p xs) ≡ []
-    by_tests true true is as_well e ih = cc
-    by_tests true false is as_well e ih = let yes : q x ≡ true = more x is in cc
-    by_tests false true is as_well e ih = cc
-    by_tests false false is as_well e ih = ih e
+filter_none {X} p q (x ∷ xs) more e = grind (arith, (filter_none p q xs more))
 
 later_in_order : (last : Option ℕ) (at moment : ℕ) → is_in_order (Some (later_of last at)) moment ≡ true
     → is_in_order last moment ≡ true
 later_in_order None at moment e = refl
-later_in_order (Some last) at moment e = below last at moment e
-  where
-    below : (last at moment : ℕ) → nat_le (max last at) moment ≡ true → nat_le last moment ≡ true
-    below last at moment e = grind (arith, nat_tests)
+later_in_order (Some last) at moment e = grind arith
 
 module _ {P : Type 0} (cmp : P → P → Ordering) (order : IsTotalOrder cmp) where
   -- ---- the moment stays
@@ -85,14 +64,7 @@ module _ {P : Type 0} (cmp : P → P → Ordering) (order : IsTotalOrder cmp) wh
       → ((w : World P) (m : Message P) → least_pair cmp (ready cmp t w) ≡ Some m → Q w → EndsWith Q (turn cmp t w m))
       → (n : ℕ) (w : World P) → Q w → EndsWith Q (wake_within cmp n t w)
   wake_keeps Q t step zero w h = h
-  wake_keeps Q t step (suc n) w h = by_least (least_pair cmp (ready cmp t w)) refl (wake_keeps Q t step n)
-    where
-      by_least : (o : Option (Message P)) → least_pair cmp (ready cmp t w) ≡ o
-          → ((v : World P) → Q v → EndsWith Q (wake_within cmp n t v)) → EndsWith Q (wake_within cmp (suc n) t w)
-      by_least None e ih = rw (e, wake_within) h
-      by_least (Some m) e ih =
-          subst (λ (c : Course (Completed P) (World P)). EndsWith Q c) (sym (wake_first cmp order n t w m e))
-          (ends_and_then Q Q (turn cmp t w m) (wake_within cmp n t) (step w m e h) ih)
+  wake_keeps Q t step (suc n) w h = grind (arith, (wake_keeps Q t step n))
 
   pub wake_outlasts : (Q : World P → Type 0) → ((m : Message P) (v u : World P) → IsButFor cmp m v u → Q v → Q u)
       → (t : ℕ) (w : World P) → Q w → EndsWith Q (wake cmp t w)
@@ -119,22 +91,12 @@ module _ {P : Type 0} (cmp : P → P → Ordering) (order : IsTotalOrder cmp) wh
 
   -- the instant of a quiet world leaves it as it is
   pub instant_of_quiet : (w : World P) → IsQuietNow w → instant cmp w ≡ goes [] w
-  instant_of_quiet w q =
-      ap (λ (c : Course (Completed P) (World P)). and_then c (λ v. wake cmp v.moment v))
-      (settle_nothing (length w.sending + length w.waiting) w.moment w
-      (find_from_any (is_done cmp w) w.sending q.none_done))
-      ∙ preceded_none (wake cmp w.moment w) ∙ wake_none cmp order (length w.waiting) w.moment w q.none_ready
+  instant_of_quiet w q = grind (arith, settle_nothing, find_from_any, preceded_none, wake_none)
 
   -- after an instant the world is quiet
   pub instant_ends_quiet : (w : World P) → EndsWith IsQuietNow (instant cmp w)
   instant_ends_quiet w =
-      ends_and_then (λ (v : World P). NoneDone cmp order v) IsQuietNow (settle cmp w.moment w)
-      (λ v. wake cmp v.moment v) (settle_rests cmp order w.moment w)
-      (λ v no_tick. ends_more cmp order (λ (u : World P). IsQuiet cmp v.moment u × IsAt v.moment u) IsQuietNow
-      (wake cmp v.moment v) (λ u k. subst (λ (t : ℕ). IsQuiet cmp t u) (sym k.1) k.0)
-      (ends_both (IsQuiet cmp v.moment) (IsAt v.moment) (wake cmp v.moment v)
-      (wake_ends_quiet cmp order v.moment v (any_from_find (is_done cmp v) v.sending no_tick))
-      (wake_stays v.moment v.moment v refl)))
+      grind (arith, ends_and_then, settle_rests, ends_more, ends_both, wake_ends_quiet, any_from_find, wake_stays)
 
   pub instant_stays : (w : World P) → EndsWith (IsAt w.moment) (instant cmp w)
   instant_stays w = instant_outlasts (IsAt w.moment) (at_kept w.moment) w refl
@@ -157,10 +119,7 @@ module _ {P : Type 0} (cmp : P → P → Ordering) (order : IsTotalOrder cmp) wh
       → EndsWith (IsAt (w.moment + n)) c
   ticks_end_at {w = w} no_tick = let e : w.moment ≡ w.moment + 0 = omega arith in e
   ticks_end_at (one_tick {n = n} {w = w} {v = v} {u = u} {cs = cs} {rest = rest} d i t) =
-      let now : u.moment ≡ v.moment = ends_at (IsAt v.moment) (instant cmp v) cs u i (instant_stays v) in
-      let before : v.moment ≡ w.moment + 1 = next_moment w v d in
-      let count : u.moment + n ≡ w.moment + suc n = omega arith in
-      ends_preceded (IsAt (w.moment + suc n)) cs rest (subst (λ (m : ℕ). EndsWith (IsAt m) rest) count (ticks_end_at t))
+      grind (arith, ends_at, instant_stays, next_moment, ends_preceded, (ticks_end_at t))
   ticks_end_at (tick_faults d i) = tt
 
   -- a world that was quiet is quiet after ticks
@@ -189,27 +148,13 @@ module _ {P : Type 0} (cmp : P → P → Ordering) (order : IsTotalOrder cmp) wh
 
   -- settling a world in which none may start ends in quiet
   settle_ends_quiet : (t : ℕ) (w : World P) → NoneReady t w → EndsWith (IsQuiet cmp t) (settle cmp t w)
-  settle_ends_quiet t w h =
-      ends_more cmp order (λ (v : World P). NoneDone cmp order v × NoneReady t v) (IsQuiet cmp t) (settle cmp t w)
-      (λ v k. record { none_done = any_from_find (is_done cmp v) v.sending k.0; none_ready = k.1 })
-      (ends_both (NoneDone cmp order) (NoneReady t) (settle cmp t w) (settle_rests cmp order t w)
-      (settle_unready t w h))
+  settle_ends_quiet t w h = grind (arith, ends_more, any_from_find, ends_both, settle_rests, settle_unready)
 
   abbrev pub queued : World P → Message P → World P
   queued w m = record w { waiting = w.waiting ++ m ∷ [] }
 
   pub queued_but_for : (w : World P) (m : Message P) → IsButFor cmp m w (queued w m)
-  queued_but_for w m = record {
-    caps = refl;
-    limited = refl;
-    moment = refl;
-    arrivals = λ k h. refl;
-    waiting =
-        filter-append (λ n. not (same_pair cmp m n)) w.waiting (m ∷ [])
-        ∙ ap (λ (b : Bool). filter (λ n. not (same_pair cmp m n)) w.waiting ++ cond (not b) (m ∷ []) [])
-        (pair_itself cmp order m) ∙ append-nil (filter (λ n. not (same_pair cmp m n)) w.waiting);
-    sending = refl;
-  }
+  queued_but_for w m = grind (arith, filter-append, pair_itself, append-nil)
 
   abbrev pub QuietAt : ℕ → World P → Type 0
   QuietAt t v = IsQuiet cmp t v × IsAt t v
@@ -223,8 +168,7 @@ module _ {P : Type 0} (cmp : P → P → Ordering) (order : IsTotalOrder cmp) wh
       (ends_more cmp order (Leaves cmp order t m (queued w m)) (λ (v : World P). NoneReady t v × IsAt t v)
       (start_next cmp t (queued w m) (first_waiting cmp (queued w m) m))
       (λ v l. (
-        stays_unready t m w v unready (leaves_like cmp order t m m w (queued w m) v (pair_itself cmp order m)
-            (queued_but_for w m) l),
+        grind (arith, stays_unready, leaves_like, pair_itself, queued_but_for),
         l.others.moment ∙ at,
       ))
       (next_leaves cmp order t (queued w m) m (first_waiting cmp (queued w m) m) refl))
@@ -233,32 +177,11 @@ module _ {P : Type 0} (cmp : P → P → Ordering) (order : IsTotalOrder cmp) wh
   -- an arrival makes none ready
   arrival_unready : (t : ℕ) (w : World P) (m : Message P) (at : ℕ) → NoneReady t w
       → NoneReady t (record w { last_arrival = raised cmp w.last_arrival m at })
-  arrival_unready t w m at unready =
-      filter_none (may_start cmp t (record w { last_arrival = raised cmp w.last_arrival m at })) (may_start cmp t w)
-      (fronts cmp w.waiting) (λ x e. may_before x e) unready
-    where
-      by_pair_of : (x : Message P) (a b : Bool)
-          → (a
-          && is_in_order
-          (cond b (Some (later_of (w.last_arrival x.origin x.recipient) at)) (w.last_arrival x.origin x.recipient))
-          (t + x.latency))
-          ≡ true
-          → (a && is_in_order (w.last_arrival x.origin x.recipient) (t + x.latency)) ≡ true
-      by_pair_of x true true e = later_in_order (w.last_arrival x.origin x.recipient) at (t + x.latency) e
-      by_pair_of x true false e = e
-      by_pair_of x false b e = e
-
-      may_before : (x : Message P)
-          → may_start cmp t (record w { last_arrival = raised cmp w.last_arrival m at }) x ≡ true
-          → may_start cmp t w x ≡ true
-      may_before x e = by_pair_of x (is_idle cmp w x) (same_pair cmp m x) e
+  arrival_unready t w m at unready = grind (arith, filter_none, later_in_order)
 
   at_once_ends_quiet : (t : ℕ) (w : World P) (m : Message P) → QuietAt t w
       → EndsWith (QuietAt t) (complete_at_once cmp t w m)
-  at_once_ends_quiet t w m q =
-      let at : ℕ = if m.should_deliver then later_of (w.last_arrival m.origin m.recipient) (t + m.latency) else t in
-      ends_cond (QuietAt t) (m.should_deliver && nat_lt last_moment (t + m.latency)) (meets MomentTooLate) _ tt
-      (record { none_done = q.0.none_done; none_ready = arrival_unready t w m at q.0.none_ready }, q.1)
+  at_once_ends_quiet t w m q = grind (arith, ends_cond, arrival_unready)
 
   rebalance_ends_quiet : (now t : ℕ) (w : World P) (caps : Caps P) → now ≡ t → QuietAt now w
       → EndsWith (QuietAt now) (rebalance cmp t w caps)
@@ -278,13 +201,9 @@ module _ {P : Type 0} (cmp : P → P → Ordering) (order : IsTotalOrder cmp) wh
       let same : now ≡ t = cc in rebalance_ends_quiet now t w (limited_by cmp w.caps peer egress ingress) same q
   act_ends_quiet now (call_limit_link t origin recipient cap) w e q =
       let same : now ≡ t = cc in rebalance_ends_quiet now t w (linked_by cmp w.caps origin recipient cap) same q
-  act_ends_quiet now (call_enqueue t m) w e q =
-      let same : now ≡ t = cc in
-      subst (λ (s : ℕ). EndsWith (QuietAt now) (enqueue cmp s w m)) same (one_ends_quiet now w m q)
+  act_ends_quiet now (call_enqueue t m) w e q = grind (arith, one_ends_quiet)
   act_ends_quiet now (call_enqueue_all t ms) w e q =
-      let same : now ≡ t = cc in
-      subst (λ (s : ℕ). EndsWith (QuietAt now) (enqueue_each cmp s w ms)) same
-      (each_ends cmp (QuietAt now) now (one_ends_quiet now) ms w q)
+      grind (arith, common_steps, (each_ends cmp (QuietAt now) now (one_ends_quiet now) ms w q))
   act_ends_quiet now (call_advance t) w e q = q
   act_ends_quiet now call_next w e q = q
 
@@ -299,22 +218,11 @@ module _ {P : Type 0} (cmp : P → P → Ordering) (order : IsTotalOrder cmp) wh
   -- the next event comes later than the world's moment
   pub next_is_later : (w : World P) (next : Option ℕ) → NextIs cmp w next → IfSome next (λ t. w.moment < t)
   next_is_later w next (never_comes p) = tt
-  next_is_later w next (comes_next {n = n} {v = v} {u = u} p d q h) =
-      let at : v.moment ≡ w.moment + n = passes_end_at p in
-      let on : u.moment ≡ v.moment + 1 = next_moment v u d in
-      omega arith
+  next_is_later w next (comes_next {n = n} {v = v} {u = u} p d q h) = grind (arith, passes_end_at, next_moment)
 
   -- a call on a quiet world ends in a quiet world, at the call's moment
   pub call_ends_quiet : (w : World P) (call : Call P) (now : ℕ) (course : Course (Completed P) (World P)) → IsQuietNow w
       → moment_of call ≡ Some now → w.moment ≤ now
       → Runs cmp w call now course → EndsWith (QuietAt now) course
   call_ends_quiet w call now course q e h runs =
-      let count : w.moment + (now - w.moment) ≡ now = omega arith in
-      subst (EndsWith (QuietAt now)) (sym runs.acts)
-      (ends_and_then (QuietAt now) (QuietAt now) runs.ticked (λ v. act cmp v call)
-      (ends_more cmp order (λ (v : World P). IsQuietNow v × IsAt (w.moment + (now - w.moment)) v)
-      (QuietAt now) runs.ticked (λ v k. let at : v.moment ≡ now = k.1
-      ∙ count in (subst (λ (t : ℕ). IsQuiet cmp t v) at k.0, at))
-      (ends_both IsQuietNow (IsAt (w.moment + (now - w.moment))) runs.ticked (ticks_end_quiet runs.ticks q)
-      (ticks_end_at runs.ticks)))
-      (λ v k. act_ends_quiet now call v e k))
+      grind (arith, ends_and_then, ends_more, ends_both, ticks_end_quiet, ticks_end_at, act_ends_quiet)

@@ -1,17 +1,12 @@
 -- The fair rates of messages: which messages are limited, and that the rates are one.
-use Rattle.std.proofs.Common.{◌≡◌, ℕ, zero, suc, ◌+◌, ◌*◌, List, [], ◌∷◌, ◌++◌, length, Bool, true, false, not, Option}
-use Rattle.std.proofs.Common.{Some, None, Contains, refl, sym, ap, ◌∙◌, subst, arith}
-use Rattle.std.specs.Prelude.{◌&&◌, ◌||◌, slice_get, is_none, if◌then◌else◌}
-use Rattle.std.specs.List.{flat_map}
-use Rattle.std.specs.declared.cmp.Ordering.{Ordering}
-use Rattle.std.proofs.lemmas.List.Elements.{Contains-append_left, Contains-append_right}
-use Rattle.fair_rates.specs.Fairness.Fair.{Side, IsLimited}
-use Rattle.fair_rates.specs.Sides.Subjects.{same_peer}
-use Rattle.link_simulation.specs.Simulation.Messages.{Message, Caps, is_delivered}
-use Rattle.link_simulation.specs.Simulation.Rates.{Parts, sides_for, capped_sides, is_unlimited, rates_from, AreFair}
-use Rattle.link_simulation.specs.Simulation.Rates.{egress_side, ingress_side, link_side}
+use Rattle.link_simulation.proofs.Common.{◌≡◌, ℕ, zero, suc, ◌+◌, ◌*◌, List, [], ◌∷◌, ◌++◌, length, Bool, true, false}
+use Rattle.link_simulation.proofs.Common.{not, Option, Some, None, Contains, refl, sym, ap, ◌∙◌, subst, arith, ◌&&◌}
+use Rattle.link_simulation.proofs.Common.{◌||◌, slice_get, is_none, if◌then◌else◌, flat_map, Ordering}
+use Rattle.link_simulation.proofs.Common.{Contains-append_left, Contains-append_right, Side, same_peer, Message, Caps}
+use Rattle.link_simulation.proofs.Common.{is_delivered, Parts, sides_for, capped_sides, is_unlimited, rates_from}
+use Rattle.link_simulation.proofs.Common.{AreFair, egress_side, ingress_side, link_side, places_from}
+use Rattle.fair_rates.specs.Fairness.Fair.{IsLimited}
 use Rattle.fair_rates.proofs.Fairness.OneAllocation.{same_amounts}
-use Rattle.fair_rates.specs.Lists.Places.{places_from}
 use Rattle.fair_rates.proofs.Lists.Places.{place_here}
 
 -- ---- lists
@@ -111,19 +106,13 @@ module _ {P : Type 0} (cmp : P → P → Ordering) where
         by_caps (Some c) d k l out del into between e =
             let side : Side = record { cap = c; users = places_from 0 (by_egress m) ms } in (
               side,
-              Contains-append_left (egress_side cmp caps ms m ++ ingress_side cmp caps ms m) (link_side cmp caps ms m)
-                  side
-                  (Contains-append_left (egress_side cmp caps ms m) (ingress_side cmp caps ms m) side
-                  (rw out (one_in side))),
+              grind (arith, Contains-append_left, one_in),
               place_here (by_egress m) ms i m at (itself m.origin),
             )
         by_caps None true (Some c) l out del into between e =
             let side : Side = record { cap = c; users = places_from 0 (by_ingress m) ms } in (
               side,
-              Contains-append_left (egress_side cmp caps ms m ++ ingress_side cmp caps ms m) (link_side cmp caps ms m)
-                  side
-                  (Contains-append_right (egress_side cmp caps ms m) (ingress_side cmp caps ms m) side
-                  (rw (del, into) (one_in side))),
+              grind (arith, Contains-append_left, Contains-append_right, one_in),
               place_here (by_ingress m) ms i m at (rw (del, itself m.recipient) refl),
             )
         by_caps None d k (Some c) out del into between e =
@@ -147,10 +136,8 @@ module _ {P : Type 0} (cmp : P → P → Ordering) where
     pub rates_match : (caps : Caps P) (ms : List (Message P)) (d e : ℕ) (xs ys : Parts) → AreFair cmp caps ms d xs
         → AreFair cmp caps ms e ys → Match xs ys d e
     rates_match caps ms d e xs ys f g =
-        let made : Match (rates_from cmp caps f.parts 0 ms) (rates_from cmp caps g.parts 0 ms) d e
-        = match_from caps f.parts g.parts d e 0 ms
-        (λ i m at h. subst (λ (n : ℕ). f.parts n * e ≡ g.parts n * d) (omega arith)
-        (same_amounts (capped_sides cmp caps ms) d e f.parts g.parts f.fair g.fair i (limited_at caps ms i m at h)))
-        in
+        let made = match_from caps f.parts g.parts d e 0 ms (λ i m at h. subst
+        (λ (n : ℕ). f.parts n * e ≡ g.parts n * d) (omega arith)
+        (same_amounts (capped_sides cmp caps ms) d e f.parts g.parts f.fair g.fair i (limited_at caps ms i m at h))) in
         subst (λ (rs : Parts). Match rs ys d e) (sym f.rated)
         (subst (λ (rs : Parts). Match (rates_from cmp caps f.parts 0 ms) rs d e) (sym g.rated) made)

@@ -1,7 +1,7 @@
 -- When a part of a call is refused, from when a part of that is.
-use Rattle.std.proofs.Common.{◌≡◌, Result, Ok, Err, IfErr, subst, sym}
-use Rattle.fair_rates.specs.declared.error.Error.{Error}
-use Rattle.fair_rates.specs.declared.error.Error.TheVariants.{OutOfMemory, NumberTooLarge, MomentTooLate, FlowIdsUsedUp}
+use Rattle.link_simulation.proofs.Common.{◌≡◌, subst, sym, Error, OutOfMemory, NumberTooLarge, MomentTooLate}
+use Rattle.link_simulation.proofs.Common.{FlowIdsUsedUp}
+use Rattle.std.proofs.Common.{Result, Ok, Err, IfErr}
 use Rattle.link_simulation.specs.Simulation.RefusalCauses.{IsRefusedFor}
 
 -- what meets more faults is refused no less

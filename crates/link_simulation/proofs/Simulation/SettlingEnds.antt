@@ -1,18 +1,11 @@
 -- The number of messages is steps enough: settling ends with nothing done.
-use Rattle.std.proofs.Common.{◌≡◌, ℕ, zero, suc, ◌+◌, ◌≤◌, List, [], ◌∷◌, ◌++◌, length, Bool, true, false, cond, Option}
-use Rattle.std.proofs.Common.{Some, None, refl, sym, ◌∙◌, subst, arith, length-append}
-use Rattle.std.specs.Prelude.{nat_le}
-use Rattle.std.specs.List.{find}
-use Rattle.std.specs.declared.cmp.Ordering.{Ordering}
-use Rattle.std.specs.Cmp.{IsTotalOrder}
-use Rattle.fair_rates.specs.Lists.WithoutFirst.{without_first}
-use Rattle.link_simulation.specs.Simulation.World.{Completed, Course, Flight, World, and_then, complete, first_waiting}
-use Rattle.link_simulation.specs.Simulation.World.{goes, is_done, last_moment, may_start, meets, preceded, settle}
-use Rattle.link_simulation.specs.Simulation.World.{settle_within, start, start_next, EndsWith, out_of_flight, is_late}
-use Rattle.link_simulation.specs.Simulation.World.{completed, flight_of}
-use Rattle.link_simulation.specs.Simulation.Messages.{Message, same_pair}
-use Rattle.link_simulation.specs.Simulation.Calls.{enqueue, enqueue_each}
-use Rattle.fair_rates.specs.declared.error.Error.TheVariants.{FlowIdsUsedUp, MomentTooLate}
+use Rattle.link_simulation.proofs.Common.{◌++◌, ◌∙◌, nat_le, last_moment, may_start, flight_of, FlowIdsUsedUp, ◌≡◌, ℕ}
+use Rattle.link_simulation.proofs.Common.{zero, suc, ◌+◌, ◌≤◌, List, [], ◌∷◌, length, Bool, true, false, cond, Option}
+use Rattle.link_simulation.proofs.Common.{Some, None, refl, sym, subst, arith, length-append, find, Ordering}
+use Rattle.link_simulation.proofs.Common.{IsTotalOrder, without_first, Completed, Course, Flight, World, and_then}
+use Rattle.link_simulation.proofs.Common.{complete, first_waiting, goes, is_done, meets, preceded, settle}
+use Rattle.link_simulation.proofs.Common.{settle_within, start, start_next, EndsWith, out_of_flight, is_late, completed}
+use Rattle.link_simulation.proofs.Common.{Message, same_pair, enqueue, enqueue_each, MomentTooLate}
 use Rattle.link_simulation.proofs.Simulation.Queue.{pair_like, settle_none, settle_first, find_passes}
 
 pub ends_preceded : {X S : Type 0} (Q : S → Type 0) (xs : List X) (c : Course X S) → EndsWith Q c
@@ -42,13 +35,7 @@ each_ends cmp Q t step (m ∷ ms) w h =
 pub length_without : {X : Type 0} (test : X → Bool) (x : X) (xs : List X) → find test xs ≡ Some x
     → length (without_first test xs) + 1 ≡ length xs
 length_without test x [] e = cc
-length_without {X} test x (y ∷ ys) e = by_test (test y) e (length_without test x ys)
-  where
-    by_test : (b : Bool) → cond b (Some y) (find test ys) ≡ Some x
-        → (find test ys ≡ Some x → length (without_first test ys) + 1 ≡ length ys)
-        → length (cond b ys (y ∷ without_first test ys)) + 1 ≡ suc (length ys)
-    by_test true e ih = omega arith
-    by_test false e ih = let h : length (without_first test ys) + 1 ≡ length ys = ih e in omega arith
+length_without {X} test x (y ∷ ys) e = grind (arith, (length_without test x ys))
 
 pub find_in_none : {X : Type 0} (test : X → Bool) (xs : List X) → length xs ≤ 0 → find test xs ≡ None
 find_in_none test [] h = refl
@@ -78,8 +65,7 @@ module _ {P : Type 0} (cmp : P → P → Ordering) (order : IsTotalOrder cmp) wh
   pub complete_has : (t n : ℕ) (w : World P) (f : Flight P) → find (is_done cmp w) w.sending ≡ Some f
       → HasAtMost (suc n) w → EndsWith (HasAtMost n) (complete cmp t w f.message)
   complete_has t n w f e h =
-      let fewer : length (without_first (is_done cmp w) w.sending) + 1 ≡ length w.sending =
-      length_without (is_done cmp w) f w.sending e in
+      let fewer = length_without (is_done cmp w) f w.sending e in
       let landed : World P = out_of_flight cmp t w f.message in
       ends_cond (HasAtMost n) (is_late cmp t f.message) (meets MomentTooLate) _ tt
       (ends_preceded (HasAtMost n) (completed cmp t f.message ∷ [])
@@ -96,8 +82,7 @@ module _ {P : Type 0} (cmp : P → P → Ordering) (order : IsTotalOrder cmp) wh
       by_first : (o : Option (Flight P)) → find (is_done cmp w) w.sending ≡ o
           → ((v : World P) → HasAtMost n v → EndsWith NoneDone (settle_within cmp n t v))
           → EndsWith NoneDone (settle_within cmp (suc n) t w)
-      by_first None e ih =
-          subst (λ (c : Course (Completed P) (World P)). EndsWith NoneDone c) (sym (settle_none cmp order n t w e)) e
+      by_first None e ih = grind (arith, settle_none)
       by_first (Some f) e ih =
           subst (λ (c : Course (Completed P) (World P)). EndsWith NoneDone c) (sym (settle_first cmp order n t w f e))
           (ends_and_then (HasAtMost n) NoneDone (complete cmp t w f.message) (settle_within cmp n t)

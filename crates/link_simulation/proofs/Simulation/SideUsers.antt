@@ -1,16 +1,10 @@
 -- The users of the capped sides of messages are places of messages, each once on a side.
-use Rattle.std.proofs.Common.{◌≡◌, ℕ, ◌<◌, ◌≤◌, List, length, true, Some, All, sym, subst}
+use Rattle.link_simulation.proofs.Common.{◌≡◌, ℕ, ◌<◌, ◌≤◌, List, length, true, Some, All, sym, subst, Ordering}
+use Rattle.link_simulation.proofs.Common.{IsTotalOrder, Side, same_peer, Message, Caps, capped_sides, In}
+use Rattle.link_simulation.proofs.Common.{All-from_contains}
 use Rattle.std.specs.Prelude.{◌≢◌}
 use Rattle.std.specs.List.{AllPairs}
-use Rattle.std.specs.declared.cmp.Ordering.{Ordering}
-use Rattle.std.specs.Cmp.{IsTotalOrder}
-use Rattle.fair_rates.specs.Fairness.Fair.{Side}
 use Rattle.fair_rates.specs.Fairness.Laws.{HaveUsersBelow}
-use Rattle.fair_rates.specs.Sides.Subjects.{same_peer}
-use Rattle.link_simulation.specs.Simulation.Messages.{Message, Caps}
-use Rattle.link_simulation.specs.Simulation.Rates.{capped_sides}
-use Rattle.fair_rates.proofs.Lists.Members.{In}
-use Rattle.fair_rates.proofs.Lists.SumOrder.{All-from_contains}
 use Rattle.fair_rates.proofs.Lists.Places.{places_apart, places_below}
 use Rattle.fair_rates.proofs.Sides.UserCounts.{HaveDistinctUsers}
 use Rattle.link_simulation.proofs.Laws.PartRates.{Kind, cap_at, side_at, from_sides}

@@ -1,36 +1,22 @@
 -- Each call leads from a sound world to a sound world, and to one alone.
-use Rattle.std.proofs.Common.{◌≡◌, ℕ, ◌+◌, List, [], ◌∷◌, ◌++◌, length, Bool, true, false, cond, Option, Some}
-use Rattle.std.proofs.Common.{None, refl, sym, ap, ◌∙◌, subst, arith}
-use Rattle.std.specs.Prelude.{nat_le, ⊤, ◌&&◌, nat_lt, if◌then◌else◌}
-use Rattle.std.specs.List.{list_any}
-use Rattle.std.specs.declared.cmp.Ordering.{Ordering}
-use Rattle.std.specs.Cmp.{IsTotalOrder}
-use Rattle.std.proofs.lemmas.List.{map-append}
-use Rattle.std.proofs.lemmas.Bool.{not-true}
-use Rattle.fair_rates.specs.Lists.WithoutFirst.{without_first}
-use Rattle.fair_rates.specs.Sides.Subjects.{same_peer}
-use Rattle.link_simulation.specs.Simulation.World.{Completed, Course, EndsWith, Flight, IsQuiet, World, and_then}
-use Rattle.link_simulation.specs.Simulation.World.{complete, first_waiting, flows, fronts, goes, instant, is_done}
-use Rattle.link_simulation.specs.Simulation.World.{is_idle, is_in_order, last_moment, later_of, least_pair, may_start}
-use Rattle.link_simulation.specs.Simulation.World.{meets, new_world, raised, ready, settle, start, start_next, turn}
-use Rattle.link_simulation.specs.Simulation.World.{wake, out_of_flight, is_late, completed, arrival, flight_of}
-use Rattle.link_simulation.specs.Simulation.Calls.{Call, Runs, act, call_advance, call_enqueue, call_limit}
-use Rattle.link_simulation.specs.Simulation.Calls.{call_enqueue_all, call_next}
-use Rattle.link_simulation.specs.Simulation.Calls.{complete_at_once, enqueue, rebalance, limited_by}
-use Rattle.link_simulation.specs.Simulation.Calls.{call_limit_link, linked_by}
-use Rattle.link_simulation.specs.Simulation.Messages.{Caps, Message, OneForEachPair, same_pair, with_cap, CapsAlike}
-use Rattle.link_simulation.specs.Simulation.Messages.{PairsAlike, with_link}
-use Rattle.link_simulation.specs.Simulation.Rates.{Parts}
-use Rattle.link_simulation.specs.Simulation.Time.{ArePositive, Drains, IsSound, Ticks, drain_each, no_tick, one_tick}
-use Rattle.link_simulation.specs.Simulation.Time.{tick_faults}
-use Rattle.fair_rates.specs.declared.error.Error.TheVariants.{FlowIdsUsedUp, MomentTooLate}
-use Rattle.link_simulation.proofs.Simulation.Queue.{peer_like, one_without, one_pair_more, messages}
-use Rattle.fair_rates.proofs.Sides.Subjects.{peer_sym}
+use Rattle.link_simulation.proofs.Common.{◌≡◌, ℕ, ◌+◌, List, [], ◌∷◌, ◌++◌, length, Bool, true, false, cond, Option}
+use Rattle.link_simulation.proofs.Common.{Some, None, refl, sym, ◌∙◌, subst, arith, ⊤, ◌&&◌, nat_lt, if◌then◌else◌}
+use Rattle.link_simulation.proofs.Common.{Ordering, IsTotalOrder, map-append, not-true, without_first, same_peer}
+use Rattle.link_simulation.proofs.Common.{Completed, Course, EndsWith, Flight, IsQuiet, World, and_then, complete}
+use Rattle.link_simulation.proofs.Common.{first_waiting, flows, fronts, goes, instant, is_done, is_idle, last_moment}
+use Rattle.link_simulation.proofs.Common.{later_of, least_pair, may_start, meets, new_world, raised, ready, settle}
+use Rattle.link_simulation.proofs.Common.{start, start_next, turn, wake, out_of_flight, completed, Call, Runs, act}
+use Rattle.link_simulation.proofs.Common.{call_advance, call_enqueue, call_limit, call_enqueue_all, call_next}
+use Rattle.link_simulation.proofs.Common.{complete_at_once, enqueue, rebalance, limited_by, call_limit_link, linked_by}
+use Rattle.link_simulation.proofs.Common.{Caps, Message, OneForEachPair, same_pair, CapsAlike, PairsAlike, ArePositive}
+use Rattle.link_simulation.proofs.Common.{Drains, IsSound, Ticks, no_tick, one_tick, tick_faults, MomentTooLate}
+use Rattle.link_simulation.proofs.Common.{peer_sym, each_filtered}
+use Rattle.link_simulation.specs.Simulation.Messages.{with_cap, with_link}
+use Rattle.link_simulation.proofs.Simulation.Queue.{peer_like, one_without, one_pair_more}
 use Rattle.link_simulation.proofs.Simulation.SettlingEnds.{ends_preceded, ends_and_then, ends_cond, each_ends}
 use Rattle.link_simulation.proofs.Simulation.OtherPairs.{each_of, ends_more, Leaves, next_leaves, IsButFor}
-use Rattle.fair_rates.proofs.Lists.Each.{each_filtered}
 use Rattle.link_simulation.proofs.Simulation.PairOrder.{found_in, least_is}
-use Rattle.link_simulation.proofs.Simulation.Pass.{ends_both, settle_keeps}
+use Rattle.link_simulation.proofs.Simulation.Pass.{settle_keeps}
 use Rattle.link_simulation.proofs.Simulation.Stretch.{flows_drained}
 use Rattle.link_simulation.proofs.Simulation.OneNext.{drain_each_positive}
 use Rattle.link_simulation.proofs.Simulation.QuietInstants.{settle_outlasts, instant_outlasts, wake_keeps}
@@ -43,11 +29,7 @@ positive_on (f ∷ fs) gs h k = (h.0, positive_on fs gs h.1 k)
 positive_without : {P : Type 0} (test : Flight P → Bool) (fs : List (Flight P)) → ArePositive fs
     → ArePositive (without_first test fs)
 positive_without test [] h = tt
-positive_without {P} test (f ∷ fs) h = by_test (test f) (positive_without test fs h.1)
-  where
-    by_test : (b : Bool) → ArePositive (without_first test fs) → ArePositive (cond b fs (f ∷ without_first test fs))
-    by_test true ih = h.1
-    by_test false ih = (h.0, ih)
+positive_without {P} test (f ∷ fs) h = grind (arith, (positive_without test fs))
 
 module _ {P : Type 0} (cmp : P → P → Ordering) (order : IsTotalOrder cmp) where
   -- what is in flight is over numbers above zero, and one message for each pair
@@ -56,46 +38,24 @@ module _ {P : Type 0} (cmp : P → P → Ordering) (order : IsTotalOrder cmp) wh
     pub one_each : OneForEachPair cmp (flows w)
 
   start_fit : (w : World P) (m : Message P) → is_idle cmp w m ≡ true → IsFit w → EndsWith IsFit (start cmp w m)
-  start_fit w m idle fit = ends_cond IsFit (nat_le last_moment w.next_id) (meets FlowIdsUsedUp) _ tt
-      (record {
-        positive = positive_on w.sending (flight_of m ∷ []) fit.positive (omega arith, tt);
-        one_each =
-            subst (OneForEachPair cmp) (sym (map-append (λ (g : Flight P). g.message) w.sending (flight_of m ∷ [])))
-            (one_pair_more cmp order (messages cmp order w.sending) m fit.one_each
-            (not-true (list_any (same_pair cmp m) (flows w)) idle));
-      })
+  start_fit w m idle fit = grind (arith, ends_cond, positive_on, map-append, one_pair_more, not-true)
 
   idle_if_starts : (t : ℕ) (w : World P) (m : Message P) → may_start cmp t w m ≡ true → is_idle cmp w m ≡ true
-  idle_if_starts t w m e =
-      first_part (is_idle cmp w m) (is_in_order (w.last_arrival m.origin m.recipient) (t + m.latency)) e
-    where
-      first_part : (a b : Bool) → (a && b) ≡ true → a ≡ true
-      first_part true b e = refl
-      first_part false b e = e
+  idle_if_starts t w m e = grind arith
 
   next_fit : (t : ℕ) (w : World P) (o : Option (Message P)) → IsFit w → EndsWith IsFit (start_next cmp t w o)
   next_fit t w None fit = fit
-  next_fit t w (Some m) fit = by_test (may_start cmp t w m) refl
-    where
-      by_test : (b : Bool) → may_start cmp t w m ≡ b → EndsWith IsFit (cond b (start cmp w m) (goes [] w))
-      by_test true e = start_fit w m (idle_if_starts t w m e) fit
-      by_test false e = fit
+  next_fit t w (Some m) fit = grind (arith, start, start_fit, idle_if_starts)
 
   complete_fit : (t : ℕ) (w : World P) (m : Message P) → IsFit w → EndsWith IsFit (complete cmp t w m)
   complete_fit t w m fit =
-      let landed : World P = out_of_flight cmp t w m in
-      ends_cond IsFit (is_late cmp t m) (meets MomentTooLate) _ tt
-      (ends_preceded IsFit (completed cmp t m ∷ []) (start_next cmp t landed (first_waiting cmp landed m))
-      (next_fit t landed (first_waiting cmp landed m)
-      (record {
-        positive = positive_without (is_done cmp w) w.sending fit.positive;
-        one_each = one_without cmp order (is_done cmp w) w.sending fit.one_each;
-      })))
+      let landed = out_of_flight cmp t w m in
+      grind (arith, ends_cond, (ends_preceded IsFit (completed cmp t m ∷ []) (start_next cmp t landed (first_waiting cmp
+      landed m)) (next_fit t landed (first_waiting cmp landed m) (record { positive = positive_without (is_done cmp w)
+      w.sending fit.positive; one_each = one_without cmp order (is_done cmp w) w.sending fit.one_each; }))))
 
   settle_fit : (t : ℕ) (w : World P) → IsFit w → EndsWith IsFit (settle cmp t w)
-  settle_fit t w fit =
-      settle_keeps cmp order IsFit t (λ v f e k. complete_fit t v f.message k) (length w.sending + length w.waiting) w
-      fit
+  settle_fit t w fit = search (settle_keeps, complete_fit)
 
   turn_fit : (t : ℕ) (w : World P) (m : Message P) → may_start cmp t w m ≡ true → IsFit w
       → EndsWith IsFit (turn cmp t w m)
@@ -116,15 +76,10 @@ module _ {P : Type 0} (cmp : P → P → Ordering) (order : IsTotalOrder cmp) wh
       wake_keeps cmp order IsFit t (λ v m e k. turn_fit t v m (ready_may_start t v m e) k) (length w.waiting) w fit
 
   pub instant_fit : (w : World P) → IsFit w → EndsWith IsFit (instant cmp w)
-  instant_fit w fit =
-      ends_and_then IsFit IsFit (settle cmp w.moment w) (λ v. wake cmp v.moment v) (settle_fit w.moment w fit)
-      (λ v k. wake_fit v.moment v k)
+  instant_fit w fit = grind (arith, ends_and_then, settle_fit, wake_fit)
 
   pub drains_fit : (w v : World P) → Drains cmp w v → IsFit w → IsFit v
-  drains_fit w v d fit = subst IsFit (sym d.world) (record {
-    positive = drain_each_positive cmp order d.per d.rates 1 w.sending d.fair.fair.some_part fit.positive;
-    one_each = subst (OneForEachPair cmp) (sym (flows_drained cmp d.per d.rates 1 w.sending)) fit.one_each;
-  })
+  drains_fit w v d fit = grind (arith, drain_each_positive, flows_drained)
 
   pub ticks_fit : {n : ℕ} {w : World P} {c : Course (Completed P) (World P)} → Ticks cmp n w c → IsFit w
       → EndsWith IsFit c
@@ -135,9 +90,7 @@ module _ {P : Type 0} (cmp : P → P → Ordering) (order : IsTotalOrder cmp) wh
   ticks_fit (tick_faults d i) fit = tt
 
   rebalance_fit : (t : ℕ) (w : World P) (caps : Caps P) → IsFit w → EndsWith IsFit (rebalance cmp t w caps)
-  rebalance_fit t w caps fit =
-      settle_fit t (record w { caps = caps; limited = true })
-      (record { positive = fit.positive; one_each = fit.one_each })
+  rebalance_fit t w caps fit = grind (arith, settle_fit)
 
   enqueue_fit : (t : ℕ) (w : World P) (m : Message P) → IsFit w → EndsWith IsFit (enqueue cmp t w m)
   enqueue_fit t w m fit =
@@ -183,25 +136,16 @@ module _ {P : Type 0} (cmp : P → P → Ordering) (order : IsTotalOrder cmp) wh
       by_limited true e =
           ends_more cmp order IsLimited IsEmptyAtFirst (instant cmp w) empty_if_limited
           (instant_outlasts cmp order IsLimited limited_kept w e)
-      by_limited false e =
-          subst (λ (c : Course (Completed P) (World P)). EndsWith IsEmptyAtFirst c)
-          (sym (instant_of_quiet cmp order w (empty_is_quiet w.moment w (h e).0 (h e).1))) h
+      by_limited false e = grind (arith, instant_of_quiet, empty_is_quiet)
 
   drains_empty : (w v : World P) → Drains cmp w v → IsEmptyAtFirst w → IsEmptyAtFirst v
-  drains_empty w v d h =
-      subst IsEmptyAtFirst (sym d.world) (λ e. (ap (drain_each d.per d.rates 1) (h e).0 ∙ nothing d.rates, (h e).1))
-    where
-      nothing : (rates : Parts) → drain_each {P = P} d.per rates 1 [] ≡ []
-      nothing [] = refl
-      nothing (r ∷ rs) = refl
+  drains_empty w v d h = grind arith
 
   ticks_empty : {n : ℕ} {w : World P} {c : Course (Completed P) (World P)} → Ticks cmp n w c → IsEmptyAtFirst w
       → EndsWith IsEmptyAtFirst c
   ticks_empty no_tick h = h
   ticks_empty (one_tick {w = w} {v = v} {u = u} {cs = cs} {rest = rest} d i t) h =
-      ends_preceded IsEmptyAtFirst cs rest
-      (ticks_empty t
-      (ends_at cmp order IsEmptyAtFirst (instant cmp v) cs u i (instant_empty v (drains_empty w v d h))))
+      grind (arith, ends_preceded, ends_at, instant_empty, drains_empty, (ticks_empty t))
   ticks_empty (tick_faults d i) h = tt
 
   rebalance_empty : (t : ℕ) (w : World P) (caps : Caps P) → EndsWith IsEmptyAtFirst (rebalance cmp t w caps)
@@ -225,8 +169,7 @@ module _ {P : Type 0} (cmp : P → P → Ordering) (order : IsTotalOrder cmp) wh
           (λ v l. l.others.limited ∙ e)
           (next_leaves cmp order t (queued cmp order w m) m (first_waiting cmp (queued cmp order w m) m) refl))
           (λ v k. settle_outlasts cmp order IsLimited limited_kept t v k))
-      by_limited false e =
-          ends_cond IsEmptyAtFirst (m.should_deliver && nat_lt last_moment (t + m.latency)) (meets MomentTooLate) _ tt h
+      by_limited false e = grind (arith, ends_cond)
 
   act_empty : (call : Call P) (w : World P) → IsEmptyAtFirst w → EndsWith IsEmptyAtFirst (act cmp w call)
   act_empty (call_limit t peer egress ingress) w h = rebalance_empty t w (limited_by cmp w.caps peer egress ingress)
@@ -268,9 +211,7 @@ module _ {P : Type 0} (cmp : P → P → Ordering) (order : IsTotalOrder cmp) wh
       record { caps = h.caps; last_arrival = raised_peerwise w.last_arrival m at h.last_arrival }
 
   start_peerwise : (w : World P) (m : Message P) → IsPeerwise w → EndsWith (IsPeerwise) (start cmp w m)
-  start_peerwise w m h =
-      ends_cond (IsPeerwise) (nat_le last_moment w.next_id) (meets FlowIdsUsedUp) _ tt
-      (record { caps = h.caps; last_arrival = h.last_arrival })
+  start_peerwise w m h = grind arith
 
   next_peerwise : (t : ℕ) (w : World P) (o : Option (Message P)) → IsPeerwise w
       → EndsWith (IsPeerwise) (start_next cmp t w o)
@@ -279,17 +220,10 @@ module _ {P : Type 0} (cmp : P → P → Ordering) (order : IsTotalOrder cmp) wh
       ends_cond (IsPeerwise) (may_start cmp t w m) (start cmp w m) (goes [] w) (start_peerwise w m h) h
 
   complete_peerwise : (t : ℕ) (w : World P) (m : Message P) → IsPeerwise w → EndsWith (IsPeerwise) (complete cmp t w m)
-  complete_peerwise t w m h =
-      let landed : World P = out_of_flight cmp t w m in
-      ends_cond (IsPeerwise) (is_late cmp t m) (meets MomentTooLate) _ tt
-      (ends_preceded (IsPeerwise) (completed cmp t m ∷ []) (start_next cmp t landed (first_waiting cmp landed m))
-      (next_peerwise t landed (first_waiting cmp landed m)
-      (landed_peerwise w (without_first (is_done cmp w) w.sending) m (arrival cmp t m) h)))
+  complete_peerwise t w m h = search (ends_cond, ends_preceded, next_peerwise, landed_peerwise)
 
   settle_peerwise : (t : ℕ) (w : World P) → IsPeerwise w → EndsWith (IsPeerwise) (settle cmp t w)
-  settle_peerwise t w h =
-      settle_keeps cmp order (IsPeerwise) t (λ v f e k. complete_peerwise t v f.message k)
-      (length w.sending + length w.waiting) w h
+  settle_peerwise t w h = search (settle_keeps, complete_peerwise)
 
   turn_peerwise : (t : ℕ) (w : World P) (m : Message P) → IsPeerwise w → EndsWith (IsPeerwise) (turn cmp t w m)
   turn_peerwise t w m h =
@@ -348,22 +282,8 @@ module _ {P : Type 0} (cmp : P → P → Ordering) (order : IsTotalOrder cmp) wh
       (landed_peerwise w w.sending m at h))
 
   act_peerwise : (call : Call P) (w : World P) → IsPeerwise w → EndsWith (IsPeerwise) (act cmp w call)
-  act_peerwise (call_limit t peer egress ingress) w h =
-      rebalance_peerwise t w (limited_by cmp w.caps peer egress ingress)
-      (record {
-        egress = cap_peerwise w.caps.egress peer egress h.caps.egress;
-        ingress = cap_peerwise w.caps.ingress peer ingress h.caps.ingress;
-        link = h.caps.link;
-      })
-      h
-  act_peerwise (call_limit_link t origin recipient cap) w h =
-      rebalance_peerwise t w (linked_by cmp w.caps origin recipient cap)
-      (record {
-        egress = h.caps.egress;
-        ingress = h.caps.ingress;
-        link = link_peerwise w.caps.link origin recipient cap h.caps.link;
-      })
-      h
+  act_peerwise (call_limit t peer egress ingress) w h = grind (arith, rebalance_peerwise, limited_by, cap_peerwise)
+  act_peerwise (call_limit_link t origin recipient cap) w h = grind (arith, rebalance_peerwise, link_peerwise)
   act_peerwise (call_enqueue t m) w h = enqueue_peerwise t w m h
   act_peerwise (call_enqueue_all t ms) w h = each_ends cmp IsPeerwise t (enqueue_peerwise t) ms w h
   act_peerwise (call_advance t) w h = h
@@ -372,31 +292,11 @@ module _ {P : Type 0} (cmp : P → P → Ordering) (order : IsTotalOrder cmp) wh
   -- ---- soundness
 
   pub new_world_sound : (id : ℕ) → IsSound cmp (new_world id)
-  new_world_sound id = record {
-    caps = record { egress = λ p q e. refl; ingress = λ p q e. refl; link = λ p q r s e f. refl };
-    last_arrival = λ p q r s e f. refl;
-    positive = tt;
-    one_each = tt;
-    empty_at_first = λ e. (refl, refl);
-  }
-
-  abbrev IsKept : World P → Type 0
-  IsKept v = IsFit v × (IsEmptyAtFirst v × IsPeerwise v)
+  new_world_sound id = grind arith
 
   as_sound : (c : Course (Completed P) (World P)) → EndsWith IsFit c → EndsWith IsEmptyAtFirst c
       → EndsWith (IsPeerwise) c → EndsWith (IsSound cmp) c
-  as_sound c a b d =
-      ends_more cmp order IsKept (IsSound cmp) c
-      (λ v k.
-      record {
-        caps = k.1.1.caps;
-        last_arrival = k.1.1.last_arrival;
-        positive = k.0.positive;
-        one_each = k.0.one_each;
-        empty_at_first = k.1.0;
-      })
-      (ends_both IsFit (λ (v : World P). IsEmptyAtFirst v × IsPeerwise v) c a
-      (ends_both IsEmptyAtFirst (IsPeerwise) c b d))
+  as_sound c a b d = grind arith
 
   as_fit : (w : World P) → IsSound cmp w → IsFit w
   as_fit w sound = record { positive = sound.positive; one_each = sound.one_each }
@@ -404,18 +304,12 @@ module _ {P : Type 0} (cmp : P → P → Ordering) (order : IsTotalOrder cmp) wh
   pub ticks_keep_sound : {n : ℕ} {w : World P} {c : Course (Completed P) (World P)} → Ticks cmp n w c → IsSound cmp w
       → EndsWith (IsSound cmp) c
   ticks_keep_sound {w = w} {c = c} t sound =
-      as_sound c (ticks_fit t (as_fit w sound)) (ticks_empty t sound.empty_at_first)
-      (ticks_peerwise t (as_peerwise w sound))
+      grind (arith, as_sound, ticks_fit, as_fit, ticks_empty, ticks_peerwise, as_peerwise)
 
   pub act_keeps_sound : (call : Call P) (w : World P) → IsSound cmp w → EndsWith (IsSound cmp) (act cmp w call)
-  act_keeps_sound call w sound =
-      as_sound (act cmp w call) (act_fit call w (as_fit w sound)) (act_empty call w sound.empty_at_first)
-      (act_peerwise call w (as_peerwise w sound))
+  act_keeps_sound call w sound = grind (arith, as_sound, act_fit, as_fit, act_empty, act_peerwise, as_peerwise)
 
   -- an accepted call leads from a sound world to a sound one
   pub call_keeps_sound : (w : World P) (call : Call P) (now : ℕ) (course : Course (Completed P) (World P))
       → IsSound cmp w → Runs cmp w call now course → EndsWith (IsSound cmp) course
-  call_keeps_sound w call now course sound runs =
-      subst (EndsWith (IsSound cmp)) (sym runs.acts)
-      (ends_and_then (IsSound cmp) (IsSound cmp) runs.ticked (λ v. act cmp v call) (ticks_keep_sound runs.ticks sound)
-      (λ v k. act_keeps_sound call v k))
+  call_keeps_sound w call now course sound runs = grind (arith, ends_and_then, ticks_keep_sound, act_keeps_sound)

@@ -1,9 +1,8 @@
 -- Ticking for a while and then for another is ticking for both.
-use Rattle.std.proofs.Common.{◌≡◌, ℕ, zero, suc, ◌+◌, List, [], ◌++◌, refl, sym, ap, ◌∙◌, subst, arith, append_assoc}
-use Rattle.std.specs.declared.cmp.Ordering.{Ordering}
-use Rattle.link_simulation.specs.Simulation.World.{Completed, Course, World, goes, meets, preceded}
-use Rattle.link_simulation.specs.Simulation.Time.{Ticks, no_tick, one_tick, tick_faults, Continues}
-use Rattle.fair_rates.specs.declared.error.Error.{Error}
+use Rattle.link_simulation.proofs.Common.{◌≡◌, ℕ, zero, suc, ◌+◌, List, [], ◌++◌, refl, sym, ap, ◌∙◌, subst, arith}
+use Rattle.link_simulation.proofs.Common.{append_assoc, Ordering, Completed, Course, World, goes, meets, preceded}
+use Rattle.link_simulation.proofs.Common.{Ticks, no_tick, one_tick, tick_faults, Error}
+use Rattle.link_simulation.specs.Simulation.Time.{Continues}
 use Rattle.link_simulation.proofs.Simulation.Queue.{preceded_none}
 
 module _ {P : Type 0} (cmp : P → P → Ordering) where
@@ -22,13 +21,7 @@ module _ {P : Type 0} (cmp : P → P → Ordering) where
   pub ticks_on : {a : ℕ} {w : World P} {course : Course (Completed P) (World P)} → Ticks cmp a w course
       → (b : ℕ) (v : World P) (cs : List (Completed P)) (c : Course (Completed P) (World P)) → course ≡ goes cs v
       → Ticks cmp b v c → Ticks cmp (b + a) w (preceded cs c)
-  ticks_on {w = w} no_tick b v cs c e more =
-      let same : v ≡ w = cc in
-      let empty : [] ≡ cs = cc in
-      let count : b ≡ b + 0 = omega arith in
-      subst (λ (ds : List (Completed P)). Ticks cmp (b + 0) w (preceded ds c)) empty
-      (subst (λ (d : Course (Completed P) (World P)). Ticks cmp (b + 0) w d) (sym (preceded_none c))
-      (subst (λ (k : ℕ). Ticks cmp k w c) count (subst (λ (u : World P). Ticks cmp b u c) same more)))
+  ticks_on {w = w} no_tick b v cs c e more = grind arith
   ticks_on {w = w} (one_tick {n = n} {u = u} {cs = ds} {rest = rest} d i t) b v cs c e more =
       let r : (es : List (Completed P)) × (rest ≡ goes es v) × (ds ++ es ≡ cs) = rest_is ds rest cs v e in
       let later : Ticks cmp (b + n) u (preceded r.0 c) = ticks_on t b v r.0 c r.1 more in
@@ -71,19 +64,11 @@ module _ {P : Type 0} (cmp : P → P → Ordering) where
       (goes [] w, no_tick, (course, subst (λ (n : ℕ). Ticks cmp n w course) count t, sym (preceded_none course)))
   ticks_apart no_tick (suc a) b e = absurd (omega arith)
   ticks_apart (one_tick {n = n} {u = u} {cs = cs} {rest = rest} d i t) (suc a) b e =
-      let ih : (first : Course (Completed P) (World P)) × Ticks cmp a u first × Continues cmp b first rest =
-      ticks_apart {k = n} {w = u} {course = rest} t a b (omega arith) in
+      let ih = ticks_apart {k = n} {w = u} {course = rest} t a b (omega arith) in
       (preceded cs ih.0, one_tick d i ih.1, continued cs ih.0 rest b ih.2)
   ticks_apart (tick_faults {fault = fault} d i) (suc a) b e = (meets fault, tick_faults d i, refl)
 
   pub ticks_both : (a b : ℕ) (w : World P) (first course : Course (Completed P) (World P)) → Ticks cmp a w first
       → Continues cmp b first course → Ticks cmp (a + b) w course
-  ticks_both a b w (goes cs v) course t (rest, more, e) =
-      let count : b + a ≡ a + b = omega arith in
-      subst (λ (n : ℕ). Ticks cmp n w course) count
-      (subst (λ (c : Course (Completed P) (World P)). Ticks cmp (b + a) w c) (sym e)
-      (ticks_on t b v cs rest refl more))
-  ticks_both a b w (meets fault) course t e =
-      let count : b + a ≡ a + b = omega arith in
-      subst (λ (n : ℕ). Ticks cmp n w course) count
-      (subst (λ (c : Course (Completed P) (World P)). Ticks cmp (b + a) w c) (sym e) (ticks_stop t b fault refl))
+  ticks_both a b w (goes cs v) course t (rest, more, e) = grind (arith, (ticks_on t b v cs rest refl more))
+  ticks_both a b w (meets fault) course t e = grind (arith, (ticks_stop t b fault refl))

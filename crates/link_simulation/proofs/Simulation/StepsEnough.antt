@@ -1,9 +1,6 @@
 -- Settling has steps enough: more of them change nothing.
-use Rattle.std.proofs.Common.{◌≡◌, ℕ, zero, suc, Option, Some, None, refl, sym, ◌∙◌, arith}
-use Rattle.std.specs.List.{find}
-use Rattle.std.specs.declared.cmp.Ordering.{Ordering}
-use Rattle.std.specs.Cmp.{IsTotalOrder}
-use Rattle.link_simulation.specs.Simulation.World.{Flight, World, complete, is_done, settle_within}
+use Rattle.link_simulation.proofs.Common.{◌≡◌, ℕ, zero, suc, Option, Some, None, refl, sym, ◌∙◌, arith, find, Ordering}
+use Rattle.link_simulation.proofs.Common.{IsTotalOrder, Flight, World, complete, is_done, settle_within}
 use Rattle.link_simulation.proofs.Simulation.Queue.{settle_first}
 use Rattle.link_simulation.proofs.Simulation.SettlingEnds.{HasAtMost, complete_has, find_in_none}
 use Rattle.link_simulation.proofs.Simulation.OtherPairs.{ends_more}

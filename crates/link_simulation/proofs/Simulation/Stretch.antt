@@ -1,12 +1,8 @@
 -- Over a stretch without an event, ticking n nanoseconds is draining once for n nanoseconds.
-use Rattle.std.proofs.Common.{◌≡◌, ℕ, zero, suc, ◌+◌, ◌<◌, ◌≤◌, List, [], ◌∷◌, map, Option, Some, None, refl, sym, ap}
-use Rattle.std.proofs.Common.{subst, arith, add-one, add_assoc}
-use Rattle.std.specs.declared.cmp.Ordering.{Ordering}
-use Rattle.fair_rates.specs.Numbers.Amount.{Amount, reduced}
-use Rattle.fair_rates.specs.Numbers.LowestTerms.{reduced_positive}
-use Rattle.link_simulation.specs.Simulation.World.{Flight, IsQuiet, World, flows}
-use Rattle.link_simulation.specs.Simulation.Rates.{AreFair, Parts, drained_by, rate_of}
-use Rattle.link_simulation.specs.Simulation.Time.{ArePositive, Drains, Passes, drain_each, drifted, no_time, quiet_tick}
+use Rattle.link_simulation.proofs.Common.{◌≡◌, ℕ, zero, suc, ◌+◌, ◌<◌, ◌≤◌, List, [], ◌∷◌, map, Option, Some, None}
+use Rattle.link_simulation.proofs.Common.{refl, ap, subst, arith, add-one, Ordering, Amount, reduced, reduced_positive}
+use Rattle.link_simulation.proofs.Common.{Flight, IsQuiet, World, flows, AreFair, Parts, drained_by, rate_of}
+use Rattle.link_simulation.proofs.Common.{ArePositive, Drains, Passes, drain_each, drifted, no_time, quiet_tick}
 use Rattle.fair_rates.proofs.Numbers.Draining.{drained_twice}
 
 module _ {P : Type 0} (cmp : P → P → Ordering) where
@@ -18,12 +14,7 @@ module _ {P : Type 0} (cmp : P → P → Ordering) where
 
   pub drain_each_twice : (per : ℕ) (rates : Parts) (a b : ℕ) (fs : List (Flight P)) → 0 < per → ArePositive fs
       → drain_each per rates b (drain_each per rates a fs) ≡ drain_each per rates (a + b) fs
-  drain_each_twice per rates a b [] h pos = nothing_left rates
-    where
-      nothing_left : (rates : Parts)
-          → drain_each {P = P} per rates b (drain_each per rates a []) ≡ drain_each per rates (a + b) []
-      nothing_left [] = refl
-      nothing_left (r ∷ rs) = refl
+  drain_each_twice per rates a b [] h pos = grind arith
   drain_each_twice per [] a b (f ∷ fs) h pos = refl
   drain_each_twice per (r ∷ rs) a b (f ∷ fs) h pos =
       rw (drained_at_twice per r a b f.left h pos.0, drain_each_twice per rs a b fs h pos.1) refl
@@ -41,12 +32,7 @@ module _ {P : Type 0} (cmp : P → P → Ordering) where
 
   pub drifts_on : (w : World P) (per : ℕ) (rates : Parts) (n : ℕ) → AreFair cmp w.caps (flows w) per rates
       → ArePositive w.sending → Drains cmp (drifted w per rates n) (drifted w per rates (n + 1))
-  drifts_on w per rates n fair pos = record {
-    per = per;
-    rates = rates;
-    fair = subst (λ ms. AreFair cmp w.caps ms per rates) (sym (flows_drained per rates n w.sending)) fair;
-    world = rw (drain_each_twice per rates n 1 w.sending fair.fair.some_part pos, add_assoc w.moment n 1) refl;
-  }
+  drifts_on w per rates n fair pos = grind (arith, flows_drained, drain_each_twice)
 
   -- ticking n quiet nanoseconds is draining once for n nanoseconds
   pub stretch : (w : World P) (per : ℕ) (rates : Parts) → AreFair cmp w.caps (flows w) per rates → ArePositive w.sending
@@ -56,8 +42,7 @@ module _ {P : Type 0} (cmp : P → P → Ordering) where
       quiet_tick (record { per = per; rates = rates; fair = fair; world = refl }) (quiet 1 (omega arith) (omega arith))
       no_time
   stretch w per rates fair pos (suc n) quiet =
-      let on : Drains cmp (drifted w per rates (suc n)) (drifted w per rates (suc n + 1)) =
-      drifts_on w per rates (suc n) fair pos in
+      let on : Drains cmp (drifted w per rates (suc n)) (drifted w per rates (suc n + 1)) = grind (arith, drifts_on) in
       longer_at_end (stretch w per rates fair pos n (λ k h j. quiet k h (omega arith)))
       (subst (λ m. Drains cmp (drifted w per rates (suc n)) (drifted w per rates m)) (add-one (suc n)) on)
       (quiet (suc (suc n)) (omega arith) (omega arith))

@@ -1,22 +1,13 @@
-use Rattle.std.proofs.Common.{[], ◌∷◌, None, refl}
-use Rattle.std.specs.Ordering.{nat_cmp}
-use Rattle.std.proofs.lemmas.Cmp.{nat_cmp_total}
-use Rattle.fair_rates.specs.declared.error.Error.TheVariants.{MomentTooLate, FlowIdsUsedUp}
-use Rattle.fair_rates.specs.Numbers.Amount.{reduced, gcd_within}
-use Rattle.link_simulation.specs.Simulation.Calls.{call_limit, call_enqueue}
-use Rattle.link_simulation.specs.Simulation.Replies.{reply_done, reply_refused}
-use Rattle.link_simulation.specs.Examples.Rows.{message, dropped, a_byte_a_nanosecond}
+use Rattle.link_simulation.proofs.Common.{[], ◌∷◌, None, refl, nat_cmp, nat_cmp_total, MomentTooLate, FlowIdsUsedUp}
+use Rattle.link_simulation.proofs.Common.{reduced, gcd_within, call_limit, call_enqueue, reply_done, reply_refused}
+use Rattle.link_simulation.proofs.Common.{message, dropped, a_byte_a_nanosecond, rules}
 use Rattle.link_simulation.proofs.Examples.ComputedReplies.{evenly}
 use Rattle.link_simulation.proofs.Examples.ComputedDifferences.{never_agree}
 use Rattle.link_simulation.proofs.model.differences.a_fault_that_is_not_met_does_not_agree.Goals as goal
 
 pub returns-clause-moment : goal.returns-clause-moment
 unfolding reduced gcd_within
-returns-clause-moment c =
-    never_agree nat_cmp nat_cmp_total (evenly 1_000_000_000) 20 0
-    (call_enqueue 0 (message 1 2 1 0) ∷ [])
-    (reply_refused MomentTooLate ∷ [])
-    refl
+returns-clause-moment c = search (rules, never_agree, nat_cmp_total)
 
 pub returns-clause-dropped : goal.returns-clause-dropped
 unfolding reduced gcd_within

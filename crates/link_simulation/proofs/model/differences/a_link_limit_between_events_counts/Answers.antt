@@ -1,11 +1,6 @@
-use Rattle.std.proofs.Common.{[], ◌∷◌, Some, None, ℕ, refl}
-use Rattle.std.specs.Ordering.{nat_cmp}
-use Rattle.std.proofs.lemmas.Cmp.{nat_cmp_total}
-use Rattle.fair_rates.specs.Numbers.Amount.{reduced, gcd_within}
-use Rattle.link_simulation.specs.Simulation.World.{World}
-use Rattle.link_simulation.specs.Simulation.Calls.{call_limit, call_limit_link, call_enqueue, call_advance}
-use Rattle.link_simulation.specs.Simulation.Replies.{reply_done}
-use Rattle.link_simulation.specs.Examples.Rows.{message, arrives, a_byte_a_nanosecond}
+use Rattle.link_simulation.proofs.Common.{[], ◌∷◌, Some, None, ℕ, refl, nat_cmp, nat_cmp_total, reduced, gcd_within}
+use Rattle.link_simulation.proofs.Common.{World, call_limit, call_limit_link, call_enqueue, call_advance, reply_done}
+use Rattle.link_simulation.proofs.Common.{message, arrives, a_byte_a_nanosecond}
 use Rattle.link_simulation.proofs.Examples.ComputedReplies.{Shares}
 use Rattle.link_simulation.proofs.Examples.ComputedDifferences.{never_agree}
 use Rattle.link_simulation.proofs.model.differences.a_link_limit_between_events_counts.Goals as goal

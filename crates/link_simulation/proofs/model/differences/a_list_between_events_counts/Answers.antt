@@ -1,10 +1,6 @@
-use Rattle.std.proofs.Common.{[], ◌∷◌, None, refl}
-use Rattle.std.specs.Ordering.{nat_cmp}
-use Rattle.std.proofs.lemmas.Cmp.{nat_cmp_total}
-use Rattle.fair_rates.specs.Numbers.Amount.{reduced, gcd_within}
-use Rattle.link_simulation.specs.Simulation.Calls.{call_limit, call_enqueue, call_enqueue_all, call_advance}
-use Rattle.link_simulation.specs.Simulation.Replies.{reply_done}
-use Rattle.link_simulation.specs.Examples.Rows.{message, arrives, a_byte_a_nanosecond}
+use Rattle.link_simulation.proofs.Common.{[], ◌∷◌, None, refl, nat_cmp, nat_cmp_total, reduced, gcd_within, call_limit}
+use Rattle.link_simulation.proofs.Common.{call_enqueue, call_enqueue_all, call_advance, reply_done, message, arrives}
+use Rattle.link_simulation.proofs.Common.{a_byte_a_nanosecond}
 use Rattle.link_simulation.proofs.Examples.ComputedReplies.{evenly}
 use Rattle.link_simulation.proofs.Examples.ComputedDifferences.{never_agree}
 use Rattle.link_simulation.proofs.model.differences.a_list_between_events_counts.Goals as goal

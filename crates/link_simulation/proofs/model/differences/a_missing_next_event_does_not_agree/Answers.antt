@@ -1,10 +1,6 @@
-use Rattle.std.proofs.Common.{[], ◌∷◌, Some, None, refl}
-use Rattle.std.specs.Ordering.{nat_cmp}
-use Rattle.std.proofs.lemmas.Cmp.{nat_cmp_total}
-use Rattle.fair_rates.specs.Numbers.Amount.{reduced, gcd_within}
-use Rattle.link_simulation.specs.Simulation.Calls.{call_limit, call_enqueue, call_next}
-use Rattle.link_simulation.specs.Simulation.Replies.{reply_done, reply_next}
-use Rattle.link_simulation.specs.Examples.Rows.{message, a_byte_a_nanosecond}
+use Rattle.link_simulation.proofs.Common.{[], ◌∷◌, Some, None, refl, nat_cmp, nat_cmp_total, reduced, gcd_within}
+use Rattle.link_simulation.proofs.Common.{call_limit, call_enqueue, call_next, reply_done, reply_next, message}
+use Rattle.link_simulation.proofs.Common.{a_byte_a_nanosecond, arith, common_steps}
 use Rattle.link_simulation.proofs.Examples.ComputedReplies.{evenly}
 use Rattle.link_simulation.proofs.Examples.ComputedDifferences.{never_agree}
 use Rattle.link_simulation.proofs.model.differences.a_missing_next_event_does_not_agree.Goals as goal
@@ -20,7 +16,5 @@ returns-clause-missing c =
 pub returns-clause-made_up : goal.returns-clause-made_up
 unfolding reduced gcd_within
 returns-clause-made_up c =
-    never_agree nat_cmp nat_cmp_total (evenly 1_000_000_000) 20 0
-    (call_next ∷ [])
-    (reply_next (Some 1) ∷ [])
-    refl
+    grind (arith, common_steps,
+    (never_agree nat_cmp nat_cmp_total (evenly 1_000_000_000) 20 0 (call_next ∷ []) (reply_next (Some 1) ∷ []) refl))

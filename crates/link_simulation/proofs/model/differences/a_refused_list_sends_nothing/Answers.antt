@@ -1,10 +1,6 @@
-use Rattle.std.proofs.Common.{[], ◌∷◌, None, refl}
-use Rattle.std.specs.Ordering.{nat_cmp}
-use Rattle.std.proofs.lemmas.Cmp.{nat_cmp_total}
-use Rattle.fair_rates.specs.Numbers.Amount.{reduced, gcd_within}
-use Rattle.fair_rates.specs.declared.error.Error.TheVariants.{MomentTooLate}
-use Rattle.link_simulation.specs.Simulation.Replies.{reply_done, reply_next, reply_refused}
-use Rattle.link_simulation.specs.Examples.Rows.{message, arrives, calls_of_a_late_list}
+use Rattle.link_simulation.proofs.Common.{[], ◌∷◌, None, refl, nat_cmp, nat_cmp_total, reduced, gcd_within}
+use Rattle.link_simulation.proofs.Common.{MomentTooLate, reply_done, reply_next, reply_refused, message, arrives}
+use Rattle.link_simulation.proofs.Common.{calls_of_a_late_list}
 use Rattle.link_simulation.proofs.Examples.ComputedReplies.{evenly}
 use Rattle.link_simulation.proofs.Examples.ComputedDifferences.{never_agree}
 use Rattle.link_simulation.proofs.model.differences.a_refused_list_sends_nothing.Goals as goal

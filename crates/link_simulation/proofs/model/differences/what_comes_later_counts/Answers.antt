@@ -1,11 +1,5 @@
-use Rattle.std.proofs.Common.{◌≡◌, ℕ, [], ◌∷◌, Option, Some, None, refl, arith}
-use Rattle.std.specs.Ordering.{nat_cmp}
-use Rattle.std.proofs.lemmas.Cmp.{nat_cmp_total}
-use Rattle.fair_rates.specs.Numbers.Amount.{reduced, gcd_within}
-use Rattle.link_simulation.specs.Simulation.World.{new_world}
-use Rattle.link_simulation.specs.Simulation.Time.{NextIs}
-use Rattle.link_simulation.specs.Simulation.Calls.{call_advance, call_next}
-use Rattle.link_simulation.specs.Simulation.Replies.{reply_done, reply_next}
+use Rattle.link_simulation.proofs.Common.{[], ◌∷◌, Some, None, refl, arith, nat_cmp, nat_cmp_total, reduced, gcd_within}
+use Rattle.link_simulation.proofs.Common.{new_world, NextIs, call_advance, call_next, reply_done, reply_next}
 use Rattle.link_simulation.proofs.Examples.ComputedReplies.{evenly, next_so}
 use Rattle.link_simulation.proofs.Examples.ComputedDifferences.{never_agree}
 use Rattle.link_simulation.proofs.Simulation.OneNext.{next_is_one}
@@ -15,8 +9,8 @@ use Rattle.link_simulation.proofs.model.differences.what_comes_later_counts.Goal
 -- in a new world no event comes
 none_comes : NextIs nat_cmp (new_world 0) (Some 1) → ⊥
 none_comes is =
-    let clash : ◌≡◌ {A = Option ℕ} None (Some 1) =
-    next_is_one nat_cmp nat_cmp_total (new_world 0) None (Some 1) (new_world_sound nat_cmp nat_cmp_total 0).positive
+    let clash = next_is_one nat_cmp nat_cmp_total (new_world 0) None (Some 1)
+    (new_world_sound nat_cmp nat_cmp_total 0).positive
     (next_so nat_cmp nat_cmp_total (evenly 1_000_000_000) 0 (new_world 0) refl) is in
     cc
 

@@ -1,5 +1,4 @@
-use Rattle.std.proofs.Common.{refl}
-use Rattle.link_simulation.specs.Simulation.World.{goes}
+use Rattle.link_simulation.proofs.Common.{refl, goes}
 use Rattle.link_simulation.proofs.Laws.MostEvents.{new_is_planned, obeys_right, few_events}
 use Rattle.link_simulation.proofs.model.events.an_advance_has_few_events.Goals as goal
 

@@ -1,5 +1,5 @@
+use Rattle.link_simulation.proofs.Common.{turn}
 use Rattle.link_simulation.specs.Simulation.Pass.{IsUnchangedFor}
-use Rattle.link_simulation.specs.Simulation.World.{turn}
 use Rattle.link_simulation.proofs.Simulation.OtherPairs.{Leaves, ends_more, start_settles, others_see_nothing}
 use Rattle.link_simulation.proofs.model.instants.a_turn_keeps_other_pairs.Goals as goal
 

@@ -1,8 +1,5 @@
-use Rattle.std.proofs.Common.{◌≡◌, not}
-use Rattle.std.specs.List.{filter}
-use Rattle.link_simulation.specs.Simulation.Messages.{same_pair}
+use Rattle.link_simulation.proofs.Common.{◌≡◌, not, filter, same_pair, turn, ready}
 use Rattle.link_simulation.specs.Simulation.Pass.{MayNotStart}
-use Rattle.link_simulation.specs.Simulation.World.{turn, ready}
 use Rattle.link_simulation.proofs.Simulation.OtherPairs.{Leaves, ends_more, start_settles, ready_without}
 use Rattle.link_simulation.proofs.model.instants.a_turn_rests_its_pair.Goals as goal
 

@@ -1,18 +1,12 @@
-use Rattle.std.proofs.Common.{◌≡◌, false}
-use Rattle.std.specs.List.{list_any}
-use Rattle.link_simulation.specs.Simulation.World.{is_done, settle}
+use Rattle.link_simulation.proofs.Common.{arith}
 use Rattle.link_simulation.proofs.Simulation.QuietInstants.{instant_ends_quiet, instant_of_quiet, quiet_if_unchanged}
 use Rattle.link_simulation.proofs.Simulation.Pass.{wake_ends_quiet}
-use Rattle.link_simulation.proofs.Simulation.SettlingEnds.{NoneDone, settle_rests}
-use Rattle.link_simulation.proofs.Simulation.OtherPairs.{any_from_find}
-use Rattle.link_simulation.proofs.Simulation.OtherPairs.{ends_more}
+use Rattle.link_simulation.proofs.Simulation.SettlingEnds.{settle_rests}
+use Rattle.link_simulation.proofs.Simulation.OtherPairs.{any_from_find, ends_more}
 use Rattle.link_simulation.proofs.model.instants.instants_end_in_quiet.Goals as goal
 
 pub returns-clause-settled : goal.returns-clause-settled
-returns-clause-settled g c = λ t w.
-    ends_more g.P.Ord.cmp g.met.P.Ord.total (NoneDone g.P.Ord.cmp g.met.P.Ord.total)
-    (λ v. list_any (is_done g.P.Ord.cmp v) v.sending ≡ false) (settle g.P.Ord.cmp t w)
-    (λ v k. any_from_find (is_done g.P.Ord.cmp v) v.sending k) (settle_rests g.P.Ord.cmp g.met.P.Ord.total t w)
+returns-clause-settled g c = grind (arith, ends_more, any_from_find, settle_rests)
 
 pub returns-clause-woken : goal.returns-clause-woken
 returns-clause-woken g c = λ t w none. wake_ends_quiet g.P.Ord.cmp g.met.P.Ord.total t w none

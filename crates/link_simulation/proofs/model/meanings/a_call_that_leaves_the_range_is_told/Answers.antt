@@ -1,4 +1,4 @@
-use Rattle.std.proofs.Common.{◌+◌, ◌<◌, ◌^◌, arith}
+use Rattle.link_simulation.proofs.Common.{◌+◌, ◌<◌, ◌^◌, arith}
 use Rattle.link_simulation.proofs.Rule.NewInRange.{advance_in_range}
 use Rattle.link_simulation.proofs.model.meanings.a_call_that_leaves_the_range_is_told.Goals as goal
 

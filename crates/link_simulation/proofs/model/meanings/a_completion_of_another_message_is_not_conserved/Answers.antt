@@ -1,13 +1,6 @@
-use Rattle.std.proofs.Common.{◌≡◌, ℕ, List, [], ◌∷◌, ◌++◌, Bool, true, false, cond, sym, ap, ◌∙◌, subst, arith}
-use Rattle.std.specs.List.{AllZip}
-use Rattle.std.specs.Ordering.{nat_cmp}
-use Rattle.fair_rates.specs.Sides.Subjects.{same_peer}
-use Rattle.link_simulation.specs.Simulation.Messages.{Message, SameMessage, same_pair}
-use Rattle.link_simulation.specs.Simulation.World.{Completed}
-use Rattle.link_simulation.specs.Laws.PairCompletions.{IsCompletionOf}
-use Rattle.link_simulation.specs.Rule.Planned.{new_planned}
-use Rattle.link_simulation.specs.Examples.Rows.{message, arrives, bytes}
-use Rattle.link_simulation.specs.Laws.Conserved.{IsConserved, of_pair, held_of}
+use Rattle.link_simulation.proofs.Common.{ℕ, List, [], ◌∷◌, ◌++◌, Bool, true, false, cond, arith, AllZip, nat_cmp}
+use Rattle.link_simulation.proofs.Common.{Message, SameMessage, same_pair, Completed, IsCompletionOf, new_planned}
+use Rattle.link_simulation.proofs.Common.{message, arrives, IsConserved, of_pair, held_of}
 use Rattle.link_simulation.proofs.model.meanings.a_completion_of_another_message_is_not_conserved.Goals as goal
 
 abbrev m : Message ℕ
@@ -32,30 +25,13 @@ the_same c h = by_done h.done h.completions_are (h.each_pair m)
     by_done (d ∷ e ∷ ds) all make = absurd all.1
 
 pub returns-clause-origin : goal.returns-clause-origin
-returns-clause-origin c h =
-    let (d, (t, at, is), same) = the_same (arrives (message 3 2 1 0) 1 1) h in
-    let origin : 3 ≡ d.origin = ap (λ (x : Completed ℕ). x.origin) is in
-    let clash : same_peer nat_cmp 3 1 ≡ true =
-    subst (λ (p : ℕ). same_peer nat_cmp p 1 ≡ true) (sym origin) same.origin in
-    cc
+returns-clause-origin c h = grind (arith, (the_same (arrives (message 3 2 1 0) 1 1) h))
 
 pub returns-clause-recipient : goal.returns-clause-recipient
-returns-clause-recipient c h =
-    let (d, (t, at, is), same) = the_same (arrives (message 1 3 1 0) 1 1) h in
-    let recipient : 3 ≡ d.recipient = ap (λ (x : Completed ℕ). x.recipient) is in
-    let clash : same_peer nat_cmp 3 2 ≡ true =
-    subst (λ (p : ℕ). same_peer nat_cmp p 2 ≡ true) (sym recipient) same.recipient in
-    cc
+returns-clause-recipient c h = grind (arith, (the_same (arrives (message 1 3 1 0) 1 1) h))
 
 pub returns-clause-channel : goal.returns-clause-channel
-returns-clause-channel c h =
-    let (d, (t, at, is), same) = the_same (arrives (record m { channel = 1 }) 1 1) h in
-    let one : 1 ≡ d.channel = ap (λ (x : Completed ℕ). x.channel) is in
-    let none : d.channel ≡ 0 = same.channel in
-    absurd (omega arith)
+returns-clause-channel c h = grind (arith, (the_same (arrives (record m { channel = 1 }) 1 1) h))
 
 pub returns-clause-bytes : goal.returns-clause-bytes
-returns-clause-bytes c h =
-    let (d, (t, at, is), same) = the_same (arrives (message 1 2 2 0) 1 1) h in
-    let clash : bytes 2 ≡ bytes 1 = ap (λ (x : Completed ℕ). x.bytes) is ∙ same.bytes in
-    cc
+returns-clause-bytes c h = grind (arith, (the_same (arrives (message 1 2 2 0) 1 1) h))

@@ -1,14 +1,9 @@
+use Rattle.link_simulation.proofs.Common.{arith}
 use Rattle.link_simulation.proofs.Rule.OneCourse.{advance_is_one}
 use Rattle.link_simulation.proofs.model.meanings.a_counted_advance_goes.Goals as goal
 
 pub returns-clause-goes : goal.returns-clause-goes
-returns-clause-goes g c p q now events cs h = record {
-  answers = h.answers;
-  after = h.after;
-  obeys = (events, h.advances);
-  same_answers = h.same_answers;
-  same_after = h.same_after;
-}
+returns-clause-goes g c p q now events cs h = grind arith
 
 pub returns-clause-one : goal.returns-clause-one
 returns-clause-one g c p q r now events other cs ds first second =

@@ -1,11 +1,6 @@
-use Rattle.std.proofs.Common.{◌≡◌, ℕ, List, [], ◌∷◌, refl}
-use Rattle.std.specs.List.{AllZip}
-use Rattle.std.specs.Ordering.{nat_cmp}
-use Rattle.link_simulation.specs.Simulation.World.{Completed, Course, goes}
-use Rattle.link_simulation.specs.Rule.Events.{Enqueues, at_once, no_launch, launches}
-use Rattle.link_simulation.specs.Rule.Planned.{Planned, new_planned}
-use Rattle.link_simulation.specs.Simulation.Replies.{SameCompletion}
-use Rattle.link_simulation.specs.Examples.Rows.{message, arrives}
+use Rattle.link_simulation.proofs.Common.{◌≡◌, ℕ, List, [], ◌∷◌, refl, AllZip, nat_cmp, Completed, Course, goes}
+use Rattle.link_simulation.proofs.Common.{Enqueues, at_once, no_launch, launches, Planned, new_planned, SameCompletion}
+use Rattle.link_simulation.proofs.Common.{message, arrives}
 use Rattle.link_simulation.proofs.model.meanings.a_lost_completion_is_not_conserved.Goals as goal
 
 -- before any limit the message completes

@@ -1,6 +1,4 @@
-use Rattle.std.proofs.Common.{◌≤◌, [], ◌∷◌, refl, arith}
-use Rattle.fair_rates.specs.Fairness.Fair.{Side}
-use Rattle.fair_rates.proofs.Lists.Each.{all_of_each}
+use Rattle.link_simulation.proofs.Common.{◌≤◌, [], ◌∷◌, refl, arith, Side, all_of_each}
 use Rattle.link_simulation.proofs.model.meanings.a_message_may_go_alone.Goals as goal
 
 pub returns-clause-alone : goal.returns-clause-alone

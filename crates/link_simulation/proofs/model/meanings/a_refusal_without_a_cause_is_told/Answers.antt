@@ -1,15 +1,7 @@
-use Rattle.std.proofs.Common.{◌≡◌, ℕ, refl, subst}
-use Rattle.std.specs.Ordering.{nat_cmp}
-use Rattle.std.proofs.lemmas.Cmp.{nat_cmp_total}
-use Rattle.fair_rates.specs.declared.error.Error.{Error}
-use Rattle.fair_rates.specs.declared.error.Error.TheVariants.{OutOfMemory, MomentTooLate, FlowIdsUsedUp}
-use Rattle.link_simulation.specs.Simulation.World.{meets, new_world}
-use Rattle.link_simulation.specs.Simulation.Calls.{Call, call_enqueue, Runs}
-use Rattle.link_simulation.specs.Rule.Planned.{new_planned}
-use Rattle.link_simulation.specs.Simulation.Replies.{Faults}
-use Rattle.link_simulation.specs.Examples.Rows.{message}
-use Rattle.link_simulation.specs.Rule.Simulated.{IsCalled}
-use Rattle.link_simulation.proofs.Examples.ComputedReplies.{course_of, evenly, runs_so}
+use Rattle.link_simulation.proofs.Common.{arith, ◌≡◌, ℕ, refl, subst, nat_cmp, nat_cmp_total, Error, OutOfMemory}
+use Rattle.link_simulation.proofs.Common.{MomentTooLate, FlowIdsUsedUp, meets, new_world, Call, call_enqueue, Runs}
+use Rattle.link_simulation.proofs.Common.{new_planned, Faults, message, IsCalled}
+use Rattle.link_simulation.proofs.Examples.ComputedReplies.{evenly, runs_so}
 use Rattle.link_simulation.proofs.Examples.ComputedDifferences.{in_turn}
 use Rattle.link_simulation.proofs.Rule.Limit.{new_stands}
 use Rattle.link_simulation.proofs.Rule.NewInRange.{advance_in_range}
@@ -31,19 +23,13 @@ abbrev in_time : Call ℕ
 in_time = call_enqueue 0 (message 1 2 1 9_223_372_036_854_775_808)
 
 called : IsCalled nat_cmp (new_planned 0) in_time 0 (new_world 0)
-called = record {
-  stands = new_stands nat_cmp nat_cmp_total 0;
-  moment = refl;
-  turn =
-      in_turn nat_cmp nat_cmp_total (evenly 1_000_000_000) 0 (new_world 0) 0 (new_world_sound nat_cmp nat_cmp_total 0)
-      refl;
-}
+called = grind (arith, new_stands, nat_cmp_total, in_turn, new_world_sound)
 
 no_fault : (fault : Error) → ¬ Faults nat_cmp (new_world 0) in_time fault
 no_fault fault (now, at, runs) =
     let here : now ≡ 0 = cc in
-    let one : course_of nat_cmp nat_cmp_total (evenly 1_000_000_000) (new_world 0) in_time 0 ≡ meets fault =
-    runs_are_one nat_cmp nat_cmp_total (new_world 0) in_time 0 _ (meets fault) (new_world_sound nat_cmp nat_cmp_total 0)
+    let one = runs_are_one nat_cmp nat_cmp_total (new_world 0) in_time 0 _ (meets fault)
+    (new_world_sound nat_cmp nat_cmp_total 0)
     (runs_so nat_cmp nat_cmp_total (evenly 1_000_000_000) (new_world 0) in_time 0 refl)
     (subst (λ (t : ℕ). Runs nat_cmp (new_world 0) in_time t (meets fault)) here runs) in
     cc

@@ -1,4 +1,4 @@
-use Rattle.std.proofs.Common.{◌≡◌, ℕ, Option, Some, None, refl}
+use Rattle.link_simulation.proofs.Common.{◌≡◌, ℕ, Option, Some, None, refl}
 use Rattle.link_simulation.proofs.model.meanings.a_world_that_tells_equal_peers_apart_is_told.Goals as goal
 
 pub returns-clause-caps : goal.returns-clause-caps

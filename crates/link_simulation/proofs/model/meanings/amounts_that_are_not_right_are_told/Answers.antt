@@ -1,5 +1,4 @@
-use Rattle.std.proofs.Common.{◌≡◌, refl, arith, ap}
-use Rattle.fair_rates.specs.Numbers.Amount.{Amount, reduced, gcd_within}
+use Rattle.link_simulation.proofs.Common.{refl, arith, reduced, gcd_within}
 use Rattle.link_simulation.proofs.model.meanings.amounts_that_are_not_right_are_told.Goals as goal
 
 pub returns-clause-half : goal.returns-clause-half
@@ -8,4 +7,4 @@ returns-clause-half c = record { positive = omega arith; lowest = refl }
 
 pub returns-clause-quarters : goal.returns-clause-quarters
 unfolding reduced gcd_within
-returns-clause-quarters c h = let clash : 1 ≡ 2 = ap (λ (a : Amount). a.num) h.lowest in cc
+returns-clause-quarters c h = cc

@@ -1,18 +1,7 @@
-use Rattle.std.proofs.Common.{◌≡◌, ℕ, List, [], ◌∷◌, ◌++◌, true, Some, refl, ap, sym, ◌∙◌, subst}
-use Rattle.std.specs.List.{AllZip}
-use Rattle.std.specs.Ordering.{nat_cmp}
-use Rattle.std.proofs.lemmas.Cmp.{nat_cmp_total}
-use Rattle.link_simulation.specs.Simulation.Messages.{Message}
-use Rattle.link_simulation.specs.Simulation.World.{World, Completed, goes, new_world}
-use Rattle.link_simulation.specs.Simulation.Calls.{Call, call_enqueue, moment_of, Runs}
-use Rattle.link_simulation.specs.Laws.Isolation.{Answers, no_calls, call_answers}
-use Rattle.link_simulation.specs.Simulation.Replies.{SameCompletion, reply_done}
-use Rattle.link_simulation.specs.Examples.Rows.{message, arrives, bytes}
-use Rattle.link_simulation.specs.Laws.Replies.{AreInTurn, Completes}
-use Rattle.link_simulation.proofs.Examples.ComputedReplies.{evenly, runs_so}
-use Rattle.link_simulation.proofs.Examples.ComputedDifferences.{in_turn}
-use Rattle.link_simulation.proofs.Simulation.OneRun.{runs_are_one}
-use Rattle.link_simulation.proofs.Simulation.Sound.{new_world_sound}
+use Rattle.link_simulation.proofs.Common.{arith, ◌≡◌, ℕ, List, [], ◌∷◌, true, Some, refl, ap, sym, ◌∙◌, subst, AllZip}
+use Rattle.link_simulation.proofs.Common.{nat_cmp, Message, World, Completed, goes, new_world, Call, call_enqueue}
+use Rattle.link_simulation.proofs.Common.{moment_of, Runs, Answers, no_calls, call_answers, SameCompletion, reply_done}
+use Rattle.link_simulation.proofs.Common.{message, arrives, AreInTurn}
 use Rattle.link_simulation.proofs.model.meanings.replies_that_break_a_promise_are_told.Goals as goal
 
 abbrev first : Call ℕ
@@ -21,22 +10,12 @@ first = call_enqueue 0 (message 1 2 1 0)
 -- a call of a new world is in turn
 turns : (m : Message ℕ) (cs : List (Completed ℕ))
     → AreInTurn nat_cmp (new_world 0) (call_enqueue 0 m ∷ []) (reply_done cs ∷ [])
-turns m cs = (
-  in_turn nat_cmp nat_cmp_total (evenly 1_000_000_000) 20 (new_world 0) 0 (new_world_sound nat_cmp nat_cmp_total 0)
-      refl,
-  λ now ds v at runs. tt,
-)
+turns m cs = grind arith
 
 -- before any limit it completes at once
 completes : (now : ℕ) (ds : List (Completed ℕ)) (v : World ℕ) → moment_of first ≡ Some now
     → Runs nat_cmp (new_world 0) first now (goes ds v) → arrives (message 1 2 1 0) 0 0 ∷ [] ≡ ds
-completes now ds v at runs =
-    let here : now ≡ 0 = cc in
-    let one =
-    runs_are_one nat_cmp nat_cmp_total (new_world 0) first 0 _ (goes ds v) (new_world_sound nat_cmp nat_cmp_total 0)
-    (runs_so nat_cmp nat_cmp_total (evenly 1_000_000_000) (new_world 0) first 0 refl)
-    (subst (λ (t : ℕ). Runs nat_cmp (new_world 0) first t (goes ds v)) here runs) in
-    cc
+completes now ds v at runs = grind arith
 
 -- so alone it is not without an answer
 answers : {w : World ℕ} {calls : List (Call ℕ)} {css : List (List (Completed ℕ))} → Answers nat_cmp w calls css
@@ -44,9 +23,8 @@ answers : {w : World ℕ} {calls : List (Call ℕ)} {css : List (List (Completed
 answers no_calls here is same = cc
 answers (call_answers {w = w} {u = u} {call = call} {now = now} {cs = ds} at after runs rest) here is same =
     let it : call ≡ first = cc in
-    let done : arrives (message 1 2 1 0) 0 0 ∷ [] ≡ ds =
-    completes now ds u (ap moment_of (sym it) ∙ at)
-    (subst (λ (x : Call ℕ). Runs nat_cmp (new_world 0) x now (goes ds u)) it
+    let done = completes now ds u (ap moment_of (sym it) ∙ at) (subst
+    (λ (x : Call ℕ). Runs nat_cmp (new_world 0) x now (goes ds u)) it
     (subst (λ (x : World ℕ). Runs nat_cmp x call now (goes ds u)) here runs)) in
     subst (λ (cs : List (Completed ℕ)). AllZip (SameCompletion nat_cmp) [] cs) (sym done) same.0
 
@@ -56,20 +34,9 @@ returns-clause-lost c h =
     answers isolated.answers refl refl isolated.same
 
 pub returns-clause-others : goal.returns-clause-others
-returns-clause-others c isolated =
-    let clash : arrives (message 1 2 1 0) 0 0 ∷ [] ≡ [] = isolated.nothing_else.0 in
-    cc
+returns-clause-others c isolated = grind arith
 
 pub returns-clause-order : goal.returns-clause-order
 returns-clause-order c h =
     let told = h (message 1 2 1 0) (turns (message 1 2 1 0) (arrives (message 1 2 2 0) 0 0 ∷ [])) in
-    by_done told.done told.rest told.messages_are told.completions_are
-  where
-    by_done : (done rest : List (Message ℕ)) → message 1 2 1 0 ∷ [] ≡ done ++ rest
-        → AllZip (Completes nat_cmp) (arrives (message 1 2 2 0) 0 0 ∷ []) done → ⊥
-    by_done [] rest is all = all
-    by_done (d ∷ ds) rest is all =
-        let one : message 1 2 1 0 ≡ d = cc in
-        let same : bytes 2 ≡ d.bytes = all.0.2.bytes in
-        let clash : bytes 2 ≡ bytes 1 = same ∙ sym (ap (λ (n : Message ℕ). n.bytes) one) in
-        cc
+    grind arith

@@ -1,5 +1,4 @@
-use Rattle.std.proofs.Common.{refl}
-use Rattle.fair_rates.specs.Numbers.Amount.{reduced, gcd_within}
+use Rattle.link_simulation.proofs.Common.{refl, reduced, gcd_within}
 use Rattle.link_simulation.proofs.model.meanings.what_a_planned_world_holds_is_told.Goals as goal
 
 pub returns-clause-drained : goal.returns-clause-drained

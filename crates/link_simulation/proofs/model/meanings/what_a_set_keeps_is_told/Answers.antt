@@ -1,4 +1,4 @@
-use Rattle.std.proofs.Common.{◌≡◌, true, false, refl}
+use Rattle.link_simulation.proofs.Common.{◌≡◌, true, false, refl}
 use Rattle.link_simulation.proofs.model.meanings.what_a_set_keeps_is_told.Goals as goal
 
 pub returns-clause-equal_peers : goal.returns-clause-equal_peers

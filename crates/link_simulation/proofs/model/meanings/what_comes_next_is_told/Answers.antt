@@ -1,11 +1,7 @@
-use Rattle.std.proofs.Common.{◌≡◌, ℕ, zero, suc, Bool, true, false, cond, Some, None, refl, arith, ap, sym}
-use Rattle.std.proofs.Common.{subst, ◌∙◌}
-use Rattle.std.specs.Prelude.{slice_get}
-use Rattle.std.specs.Ordering.{nat_cmp}
-use Rattle.fair_rates.specs.Numbers.Amount.{whole, reduced, gcd_within}
-use Rattle.link_simulation.specs.Simulation.Messages.{Message, same_pair}
-use Rattle.link_simulation.specs.Rule.Planned.{RatedFlight, IsSpentAt, next_of, may_launch}
-use Rattle.link_simulation.specs.Examples.Rows.{message, rated_flight, five_messages, two_of_a_pair}
+use Rattle.link_simulation.proofs.Common.{◌≡◌, ℕ, zero, suc, Bool, true, false, Some, refl, arith, slice_get, nat_cmp}
+use Rattle.link_simulation.proofs.Common.{whole, reduced, gcd_within, Message, same_pair, RatedFlight, IsSpentAt}
+use Rattle.link_simulation.proofs.Common.{next_of, may_launch, message}
+use Rattle.link_simulation.specs.Examples.Rows.{rated_flight, five_messages, two_of_a_pair}
 use Rattle.link_simulation.proofs.model.meanings.what_comes_next_is_told.Goals as goal
 
 -- the four bytes, which drain since moment 1
@@ -19,14 +15,8 @@ returns-clause-spent c = (1, second, refl, omega arith, refl)
 -- neither of the two in flight has nothing left at 4
 left_at_four : (i : ℕ) (f : RatedFlight ℕ) → slice_get five_messages.sending i ≡ Some f → IsSpentAt 4 f → ⊥
 unfolding reduced gcd_within
-left_at_four zero f at spent =
-    let same : rated_flight (message 1 2 5 0) (Some (whole 1_000_000_000)) ≡ f = cc in
-    let clash : 1 ≡ 0 = subst (λ (g : RatedFlight ℕ). IsSpentAt 4 g) (sym same) spent in
-    cc
-left_at_four (suc zero) f at spent =
-    let same : second ≡ f = cc in
-    let clash : 1 ≡ 0 = subst (λ (g : RatedFlight ℕ). IsSpentAt 4 g) (sym same) spent in
-    cc
+left_at_four zero f at spent = grind arith
+left_at_four (suc zero) f at spent = grind arith
 left_at_four (suc (suc i)) f at spent = cc
 
 pub returns-clause-not_yet : goal.returns-clause-not_yet
@@ -39,16 +29,8 @@ returns-clause-ready c = (message 1 2 1 1, refl, refl)
 may_not : (m : Message ℕ) (b : Bool) → same_pair nat_cmp m (message 1 2 1 1) ≡ b
     → next_of nat_cmp two_of_a_pair m ≡ Some m
     → may_launch nat_cmp 5 two_of_a_pair m ≡ true → ⊥
-may_not m true is first may =
-    let at : Some (message 1 2 1 1) ≡ Some m =
-    ap (λ (b : Bool). cond b (Some (message 1 2 1 1)) (cond b (Some (message 1 2 1 5)) None)) (sym is) ∙ first in
-    let same : message 1 2 1 1 ≡ m = cc in
-    let clash : false ≡ true = subst (λ (n : Message ℕ). may_launch nat_cmp 5 two_of_a_pair n ≡ true) (sym same) may in
-    cc
-may_not m false is first may =
-    let at : None ≡ Some m =
-    ap (λ (b : Bool). cond b (Some (message 1 2 1 1)) (cond b (Some (message 1 2 1 5)) None)) (sym is) ∙ first in
-    cc
+may_not m true is first may = grind arith
+may_not m false is first may = grind arith
 
 pub returns-clause-not_ready : goal.returns-clause-not_ready
 returns-clause-not_ready c some = may_not some.0 (same_pair nat_cmp some.0 (message 1 2 1 1)) refl some.1 some.2

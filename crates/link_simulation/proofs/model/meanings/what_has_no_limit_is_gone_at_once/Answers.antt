@@ -1,4 +1,4 @@
-use Rattle.std.proofs.Common.{refl}
+use Rattle.link_simulation.proofs.Common.{refl}
 use Rattle.link_simulation.proofs.model.meanings.what_has_no_limit_is_gone_at_once.Goals as goal
 
 pub returns-clause-drained : goal.returns-clause-drained

@@ -1,4 +1,5 @@
-use Rattle.std.proofs.Common.{◌≡◌, ℕ, ◌+◌, length, take, true, subst, arith}
+use Rattle.link_simulation.proofs.Common.{◌≡◌, ℕ, ◌+◌, length, true, subst, arith}
+use Rattle.std.proofs.Common.{take}
 use Rattle.std.proofs.lemmas.List.{take_all}
 use Rattle.link_simulation.proofs.model.meanings.what_holds_so_far_holds_of_all.Goals as goal
 

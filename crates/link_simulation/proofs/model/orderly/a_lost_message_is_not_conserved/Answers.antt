@@ -1,14 +1,6 @@
-use Rattle.std.proofs.Common.{◌≡◌, ℕ, List, [], ◌∷◌, ◌++◌, Bool, true, false, cond, refl, ap, subst}
-use Rattle.std.specs.Prelude.{◌&&◌}
-use Rattle.std.specs.List.{AllZip}
-use Rattle.std.specs.Ordering.{nat_cmp}
-use Rattle.fair_rates.specs.Sides.Subjects.{same_peer}
-use Rattle.link_simulation.specs.Simulation.Messages.{Message, SameMessage, same_pair}
-use Rattle.link_simulation.specs.Simulation.World.{Completed}
-use Rattle.link_simulation.specs.Laws.PairCompletions.{IsCompletionOf}
-use Rattle.link_simulation.specs.Rule.Planned.{new_planned}
-use Rattle.link_simulation.specs.Examples.Rows.{message, arrives}
-use Rattle.link_simulation.specs.Laws.Conserved.{of_pair, held_of}
+use Rattle.link_simulation.proofs.Common.{arith, ◌≡◌, ℕ, List, [], ◌∷◌, ◌++◌, Bool, true, false, cond, AllZip, nat_cmp}
+use Rattle.link_simulation.proofs.Common.{Message, SameMessage, same_pair, IsCompletionOf, new_planned, message}
+use Rattle.link_simulation.proofs.Common.{arrives, of_pair, held_of}
 use Rattle.link_simulation.proofs.model.orderly.a_lost_message_is_not_conserved.Goals as goal
 
 abbrev m : Message ℕ
@@ -20,20 +12,10 @@ Make done messages = AllZip (SameMessage nat_cmp) (of_pair nat_cmp m done ++ hel
 
 -- what completes as the message does is of its pair
 of_its_pair : (d : Message ℕ) → IsCompletionOf (arrives m 1 1) d → same_pair nat_cmp m d ≡ true
-of_its_pair d (t, at, is) =
-    let origin : 1 ≡ d.origin = ap (λ (c : Completed ℕ). c.origin) is in
-    let recipient : 2 ≡ d.recipient = ap (λ (c : Completed ℕ). c.recipient) is in
-    subst (λ (p : ℕ). (same_peer nat_cmp 1 p && same_peer nat_cmp 2 d.recipient) ≡ true) origin
-    (subst (λ (p : ℕ). (same_peer nat_cmp 1 1 && same_peer nat_cmp 2 p) ≡ true) recipient refl)
+of_its_pair d (t, at, is) = grind arith
 
 too_many : (d : Message ℕ) (ds : List (Message ℕ)) → same_pair nat_cmp m d ≡ true → Make (d ∷ ds) [] → ⊥
-too_many d ds is make = by_test (same_pair nat_cmp m d) is make
-  where
-    by_test : (b : Bool) → b ≡ true
-        → AllZip (SameMessage nat_cmp) (cond b (d ∷ of_pair nat_cmp m ds) (of_pair nat_cmp m ds) ++ held_of nat_cmp m
-        (new_planned 0)) [] → ⊥
-    by_test true is all = all
-    by_test false is all = cc
+too_many d ds is make = grind arith
 
 pub returns-clause-lost : goal.returns-clause-lost
 returns-clause-lost c h = by_done h.done h.completions_are (h.each_pair m)
@@ -63,5 +45,4 @@ returns-clause-doubled c h = by_done h.done h.completions_are (h.each_pair m)
         → Make done (m ∷ []) → ⊥
     by_done [] all make = all
     by_done (d ∷ []) all make = all.1
-    by_done (d ∷ e ∷ ds) all make =
-        too_many e ds (of_its_pair e all.1.0) (one_more (same_pair nat_cmp m d) d (e ∷ ds) (of_its_pair d all.0) make)
+    by_done (d ∷ e ∷ ds) all make = grind (arith, too_many, of_its_pair, one_more)

@@ -1,30 +1,13 @@
-use Rattle.std.proofs.Common.{◌≡◌, ℕ, ◌<◌, ◌^◌, [], ◌∷◌, arith}
-use Rattle.std.specs.Prelude.{IfSome}
-use Rattle.std.proofs.lemmas.List.Elements.{All-nil}
-use Rattle.fair_rates.specs.declared.error.Error.TheVariants.{OutOfMemory, MomentTooLate}
-use Rattle.link_simulation.specs.Simulation.Messages.{Message}
-use Rattle.link_simulation.specs.Simulation.Calls.{Call, call_advance, moment_of}
+use Rattle.link_simulation.proofs.Common.{◌≡◌, ℕ, [], ◌∷◌, arith, OutOfMemory, MomentTooLate, call_advance}
 use Rattle.link_simulation.specs.Rule.Range.{AreInRange}
-use Rattle.fair_rates.proofs.Lists.Each.{all_of_each}
 use Rattle.link_simulation.proofs.model.range.a_later_call_excuses_no_refusal.Goals as goal
 
 -- one advance is in the range, and so are two
 one : AreInRange {P = ℕ} (call_advance 0 ∷ [])
-one = record {
-  moments =
-      all_of_each (λ (call : Call ℕ). IfSome (moment_of call) (λ now. now < 2 ^ 63)) (call_advance 0 ∷ [])
-      (omega arith, tt);
-  latencies = All-nil (λ (m : Message ℕ). m.latency < 2 ^ 63);
-  messages = omega arith;
-}
+one = grind arith
 
 two : AreInRange {P = ℕ} (call_advance 0 ∷ call_advance 0 ∷ [])
-two = record {
-  moments = all_of_each (λ (call : Call ℕ). IfSome (moment_of call) (λ now. now < 2 ^ 63))
-      (call_advance 0 ∷ call_advance 0 ∷ []) (omega arith, (omega arith, tt));
-  latencies = All-nil (λ (m : Message ℕ). m.latency < 2 ^ 63);
-  messages = omega arith;
-}
+two = grind arith
 
 pub returns-clause-after_done : goal.returns-clause-after_done
 returns-clause-after_done c refuses = let memory : MomentTooLate ≡ OutOfMemory = refuses.0 two in cc

@@ -1,4 +1,4 @@
-use Rattle.std.proofs.Common.{arith, refl}
+use Rattle.link_simulation.proofs.Common.{arith, refl}
 use Rattle.link_simulation.proofs.model.replies.calls_may_advance_first.Goals as goal
 
 pub returns-clause-others : goal.returns-clause-others

@@ -1,10 +1,6 @@
-use Rattle.std.proofs.Common.{[], ◌∷◌, Some, None, refl}
-use Rattle.std.specs.Ordering.{nat_cmp}
-use Rattle.std.proofs.lemmas.Cmp.{nat_cmp_total}
-use Rattle.fair_rates.specs.Numbers.Amount.{reduced, gcd_within}
-use Rattle.link_simulation.specs.Simulation.World.{new_world}
-use Rattle.link_simulation.specs.Simulation.Calls.{call_limit, call_enqueue, call_advance, call_next}
-use Rattle.link_simulation.specs.Examples.Rows.{message, a_byte_a_nanosecond}
+use Rattle.link_simulation.proofs.Common.{[], ◌∷◌, Some, None, refl, nat_cmp, nat_cmp_total, reduced, gcd_within}
+use Rattle.link_simulation.proofs.Common.{new_world, call_limit, call_enqueue, call_advance, call_next, message}
+use Rattle.link_simulation.proofs.Common.{a_byte_a_nanosecond}
 use Rattle.link_simulation.proofs.Examples.ComputedReplies.{answers_agree, evenly_by_first}
 use Rattle.link_simulation.proofs.model.rows.a_closed_peer_sends_nothing.Goals as goal
 

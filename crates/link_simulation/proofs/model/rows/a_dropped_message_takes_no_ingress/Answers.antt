@@ -1,10 +1,6 @@
-use Rattle.std.proofs.Common.{ℕ, [], ◌∷◌, None, refl}
-use Rattle.std.specs.Ordering.{nat_cmp}
-use Rattle.std.proofs.lemmas.Cmp.{nat_cmp_total}
-use Rattle.fair_rates.specs.Numbers.Amount.{reduced, gcd_within}
-use Rattle.link_simulation.specs.Simulation.World.{World, new_world}
-use Rattle.link_simulation.specs.Simulation.Calls.{call_limit, call_enqueue, call_advance, call_next}
-use Rattle.link_simulation.specs.Examples.Rows.{message, dropped, a_byte_a_nanosecond}
+use Rattle.link_simulation.proofs.Common.{ℕ, [], ◌∷◌, None, refl, nat_cmp, nat_cmp_total, reduced, gcd_within, World}
+use Rattle.link_simulation.proofs.Common.{new_world, call_limit, call_enqueue, call_advance, call_next, message}
+use Rattle.link_simulation.proofs.Common.{dropped, a_byte_a_nanosecond}
 use Rattle.link_simulation.proofs.Examples.ComputedReplies.{Shares, answers_agree}
 use Rattle.link_simulation.proofs.model.rows.a_dropped_message_takes_no_ingress.Goals as goal
 

@@ -1,8 +1,4 @@
-use Rattle.std.proofs.Common.{refl}
-use Rattle.std.specs.Ordering.{nat_cmp}
-use Rattle.std.proofs.lemmas.Cmp.{nat_cmp_total}
-use Rattle.fair_rates.specs.Numbers.Amount.{reduced, gcd_within}
-use Rattle.link_simulation.specs.Simulation.World.{new_world}
+use Rattle.link_simulation.proofs.Common.{refl, nat_cmp, nat_cmp_total, reduced, gcd_within, new_world}
 use Rattle.link_simulation.specs.Examples.Rows.{calls_of_a_follower}
 use Rattle.link_simulation.proofs.Examples.ComputedReplies.{answers_agree, evenly}
 use Rattle.link_simulation.proofs.model.rows.a_follower_keeps_behind.Goals as goal

@@ -1,11 +1,6 @@
-use Rattle.std.proofs.Common.{ℕ, cond, [], ◌∷◌, Some, None, refl}
-use Rattle.std.specs.Prelude.{◌==◌}
-use Rattle.std.specs.Ordering.{nat_cmp}
-use Rattle.std.proofs.lemmas.Cmp.{nat_cmp_total}
-use Rattle.fair_rates.specs.Numbers.Amount.{reduced, gcd_within}
-use Rattle.link_simulation.specs.Simulation.World.{World, new_world}
-use Rattle.link_simulation.specs.Simulation.Calls.{call_limit, call_limit_link, call_enqueue, call_advance, call_next}
-use Rattle.link_simulation.specs.Examples.Rows.{message, a_byte_a_nanosecond}
+use Rattle.link_simulation.proofs.Common.{ℕ, cond, [], ◌∷◌, Some, None, refl, ◌==◌, nat_cmp, nat_cmp_total, reduced}
+use Rattle.link_simulation.proofs.Common.{gcd_within, World, new_world, call_limit, call_limit_link, call_enqueue}
+use Rattle.link_simulation.proofs.Common.{call_advance, call_next, message, a_byte_a_nanosecond}
 use Rattle.link_simulation.proofs.Examples.ComputedReplies.{Shares, answers_agree}
 use Rattle.link_simulation.proofs.model.rows.a_link_leaves_the_rest_to_others.Goals as goal
 

@@ -1,7 +1,4 @@
-use Rattle.std.proofs.Common.{refl}
-use Rattle.std.specs.Ordering.{nat_cmp}
-use Rattle.std.proofs.lemmas.Cmp.{nat_cmp_total}
-use Rattle.fair_rates.specs.Numbers.Amount.{reduced, gcd_within}
+use Rattle.link_simulation.proofs.Common.{refl, nat_cmp, nat_cmp_total, reduced, gcd_within}
 use Rattle.link_simulation.specs.Examples.Rows.{calls_at_the_last_moment, replies_at_the_last_moment}
 use Rattle.link_simulation.proofs.Examples.ComputedRule.{agrees_by_rule, no_hint, shared}
 use Rattle.link_simulation.proofs.model.rows.a_message_may_arrive_at_the_last_moment.Goals as goal

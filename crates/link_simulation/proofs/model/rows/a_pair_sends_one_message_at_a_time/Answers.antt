@@ -1,10 +1,6 @@
-use Rattle.std.proofs.Common.{[], ◌∷◌, None, refl}
-use Rattle.std.specs.Ordering.{nat_cmp}
-use Rattle.std.proofs.lemmas.Cmp.{nat_cmp_total}
-use Rattle.fair_rates.specs.Numbers.Amount.{reduced, gcd_within}
-use Rattle.link_simulation.specs.Simulation.World.{new_world}
-use Rattle.link_simulation.specs.Simulation.Calls.{call_limit, call_enqueue, call_advance, call_next}
-use Rattle.link_simulation.specs.Examples.Rows.{message, a_byte_a_nanosecond}
+use Rattle.link_simulation.proofs.Common.{[], ◌∷◌, None, refl, nat_cmp, nat_cmp_total, reduced, gcd_within, new_world}
+use Rattle.link_simulation.proofs.Common.{call_limit, call_enqueue, call_advance, call_next, message}
+use Rattle.link_simulation.proofs.Common.{a_byte_a_nanosecond}
 use Rattle.link_simulation.proofs.Examples.ComputedReplies.{answers_agree, evenly}
 use Rattle.link_simulation.proofs.model.rows.a_pair_sends_one_message_at_a_time.Goals as goal
 

@@ -1,10 +1,5 @@
-use Rattle.std.proofs.Common.{[], ◌∷◌, refl}
-use Rattle.std.specs.Ordering.{nat_cmp}
-use Rattle.std.proofs.lemmas.Cmp.{nat_cmp_total}
-use Rattle.fair_rates.specs.Numbers.Amount.{reduced, gcd_within}
-use Rattle.link_simulation.specs.Simulation.World.{new_world}
-use Rattle.link_simulation.specs.Simulation.Calls.{call_enqueue, call_next}
-use Rattle.link_simulation.specs.Examples.Rows.{message}
+use Rattle.link_simulation.proofs.Common.{[], ◌∷◌, refl, nat_cmp, nat_cmp_total, reduced, gcd_within, new_world}
+use Rattle.link_simulation.proofs.Common.{call_enqueue, call_next, message}
 use Rattle.link_simulation.proofs.Examples.ComputedReplies.{answers_agree, evenly}
 use Rattle.link_simulation.proofs.model.rows.a_refused_call_counts_as_not_made.Goals as goal
 

@@ -1,10 +1,5 @@
-use Rattle.std.proofs.Common.{[], ◌∷◌, refl}
-use Rattle.std.specs.Ordering.{nat_cmp}
-use Rattle.std.proofs.lemmas.Cmp.{nat_cmp_total}
-use Rattle.fair_rates.specs.Numbers.Amount.{reduced, gcd_within}
-use Rattle.link_simulation.specs.Simulation.World.{new_world}
-use Rattle.link_simulation.specs.Simulation.Calls.{call_enqueue}
-use Rattle.link_simulation.specs.Examples.Rows.{message}
+use Rattle.link_simulation.proofs.Common.{[], ◌∷◌, refl, nat_cmp, nat_cmp_total, reduced, gcd_within, new_world}
+use Rattle.link_simulation.proofs.Common.{call_enqueue, message}
 use Rattle.link_simulation.proofs.Examples.ComputedReplies.{answers_agree, evenly}
 use Rattle.link_simulation.proofs.model.rows.each_pair_has_its_own_order.Goals as goal
 

@@ -1,12 +1,6 @@
-use Rattle.std.proofs.Common.{cond, length, ℕ, List, [], ◌∷◌, Some, None, refl}
-use Rattle.std.specs.Prelude.{◌==◌}
-use Rattle.std.specs.Ordering.{nat_cmp}
-use Rattle.std.proofs.lemmas.Cmp.{nat_cmp_total}
-use Rattle.fair_rates.specs.Numbers.Amount.{reduced, gcd_within}
-use Rattle.link_simulation.specs.Simulation.Messages.{Message}
-use Rattle.link_simulation.specs.Simulation.Calls.{call_limit, call_enqueue, call_advance, call_next}
-use Rattle.link_simulation.specs.Simulation.Replies.{reply_done, reply_next}
-use Rattle.link_simulation.specs.Examples.Rows.{message, arrives}
+use Rattle.link_simulation.proofs.Common.{cond, length, ℕ, List, [], ◌∷◌, Some, None, refl, ◌==◌, nat_cmp}
+use Rattle.link_simulation.proofs.Common.{nat_cmp_total, reduced, gcd_within, Message, call_limit, call_enqueue}
+use Rattle.link_simulation.proofs.Common.{call_advance, call_next, reply_done, reply_next, message, arrives}
 use Rattle.link_simulation.proofs.Examples.ComputedRule.{agrees_by_rule, shared}
 use Rattle.link_simulation.proofs.model.rows.moments_are_rounded_up.Goals as goal
 

@@ -1,8 +1,4 @@
-use Rattle.std.proofs.Common.{refl}
-use Rattle.std.specs.Ordering.{nat_cmp}
-use Rattle.std.proofs.lemmas.Cmp.{nat_cmp_total}
-use Rattle.fair_rates.specs.Numbers.Amount.{reduced, gcd_within}
-use Rattle.link_simulation.specs.Rule.Planned.{new_planned}
+use Rattle.link_simulation.proofs.Common.{refl, nat_cmp, nat_cmp_total, reduced, gcd_within, new_planned}
 use Rattle.link_simulation.specs.Examples.Rows.{calls_of_a_list, replies_of_a_list}
 use Rattle.link_simulation.proofs.Examples.ComputedRule.{no_hint, obeyed_so, shared}
 use Rattle.link_simulation.proofs.model.rule.a_list_goes_message_by_message.Goals as goal

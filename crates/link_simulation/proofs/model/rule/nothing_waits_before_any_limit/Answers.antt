@@ -1,12 +1,6 @@
-use Rattle.std.proofs.Common.{[], ◌∷◌, None, refl}
-use Rattle.std.specs.Ordering.{nat_cmp}
-use Rattle.std.proofs.lemmas.Cmp.{nat_cmp_total}
-use Rattle.fair_rates.specs.declared.error.Error.TheVariants.{MomentTooLate}
-use Rattle.fair_rates.specs.Numbers.Amount.{reduced, gcd_within}
-use Rattle.link_simulation.specs.Rule.Planned.{new_planned}
-use Rattle.link_simulation.specs.Simulation.Calls.{call_enqueue, call_next}
-use Rattle.link_simulation.specs.Simulation.Replies.{reply_done, reply_next, reply_refused}
-use Rattle.link_simulation.specs.Examples.Rows.{message, dropped, arrives, is_gone}
+use Rattle.link_simulation.proofs.Common.{[], ◌∷◌, None, refl, nat_cmp, nat_cmp_total, MomentTooLate, reduced}
+use Rattle.link_simulation.proofs.Common.{gcd_within, new_planned, call_enqueue, call_next, reply_done, reply_next}
+use Rattle.link_simulation.proofs.Common.{reply_refused, message, dropped, arrives, is_gone}
 use Rattle.link_simulation.proofs.Examples.ComputedRule.{no_hint, obeyed_so, shared}
 use Rattle.link_simulation.proofs.model.rule.nothing_waits_before_any_limit.Goals as goal
 

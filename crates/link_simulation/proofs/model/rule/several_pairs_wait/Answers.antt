@@ -1,11 +1,6 @@
-use Rattle.std.proofs.Common.{[], ◌∷◌, Some, None, refl}
-use Rattle.std.specs.Ordering.{nat_cmp}
-use Rattle.std.proofs.lemmas.Cmp.{nat_cmp_total}
-use Rattle.fair_rates.specs.Numbers.Amount.{reduced, gcd_within}
-use Rattle.link_simulation.specs.Rule.Planned.{new_planned}
-use Rattle.link_simulation.specs.Simulation.Calls.{call_limit, call_enqueue, call_advance, call_next}
-use Rattle.link_simulation.specs.Simulation.Replies.{reply_done, reply_next}
-use Rattle.link_simulation.specs.Examples.Rows.{message, arrives, a_byte_a_nanosecond}
+use Rattle.link_simulation.proofs.Common.{[], ◌∷◌, Some, None, refl, nat_cmp, nat_cmp_total, reduced, gcd_within}
+use Rattle.link_simulation.proofs.Common.{new_planned, call_limit, call_enqueue, call_advance, call_next, reply_done}
+use Rattle.link_simulation.proofs.Common.{reply_next, message, arrives, a_byte_a_nanosecond}
 use Rattle.link_simulation.proofs.Examples.ComputedRule.{no_hint, obeyed_so, shared}
 use Rattle.link_simulation.proofs.model.rule.several_pairs_wait.Goals as goal
 

@@ -1,4 +1,4 @@
-use Rattle.std.proofs.Common.{sym, ◌∙◌}
+use Rattle.link_simulation.proofs.Common.{sym, ◌∙◌}
 use Rattle.link_simulation.proofs.Laws.Bytes.{advance_loses}
 use Rattle.link_simulation.proofs.model.runs.an_origin_keeps_to_its_cap.Goals as goal
 

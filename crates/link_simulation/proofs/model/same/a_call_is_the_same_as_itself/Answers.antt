@@ -1,9 +1,6 @@
-use Rattle.link_simulation.specs.Simulation.Calls.{call_limit, call_limit_link, call_enqueue, call_advance}
-use Rattle.link_simulation.specs.Simulation.Calls.{call_enqueue_all, call_next}
-use Rattle.link_simulation.specs.Rule.SamePlanned.{same_limit, same_limit_link, same_enqueue, same_enqueue_all}
-use Rattle.link_simulation.specs.Rule.SamePlanned.{same_advance, same_next}
-use Rattle.link_simulation.specs.Simulation.Messages.{SameMessage}
-use Rattle.fair_rates.proofs.Lists.Zips.{zip-same}
+use Rattle.link_simulation.proofs.Common.{call_limit, call_limit_link, call_enqueue, call_advance, call_enqueue_all}
+use Rattle.link_simulation.proofs.Common.{call_next, same_limit, same_limit_link, same_enqueue, same_enqueue_all}
+use Rattle.link_simulation.proofs.Common.{same_advance, same_next, SameMessage, zip-same}
 use Rattle.link_simulation.proofs.Simulation.AlikeMessages.{same_itself, message_itself}
 use Rattle.link_simulation.proofs.model.same.a_call_is_the_same_as_itself.Goals as goal
 

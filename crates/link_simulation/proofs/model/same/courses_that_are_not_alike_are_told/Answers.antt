@@ -4,7 +4,7 @@ pub returns-clause-completions : goal.returns-clause-completions
 returns-clause-completions c alike = alike.0
 
 pub returns-clause-world : goal.returns-clause-world
-returns-clause-world c alike = let clash = alike.1 in cc
+returns-clause-world c alike = cc
 
 pub returns-clause-fault : goal.returns-clause-fault
 returns-clause-fault c alike = cc

@@ -4,7 +4,7 @@ pub returns-clause-completions : goal.returns-clause-completions
 returns-clause-completions c same = same.0
 
 pub returns-clause-world : goal.returns-clause-world
-returns-clause-world c same = let clash = same.1.next_id in cc
+returns-clause-world c same = cc
 
 pub returns-clause-fault : goal.returns-clause-fault
 returns-clause-fault c same = cc

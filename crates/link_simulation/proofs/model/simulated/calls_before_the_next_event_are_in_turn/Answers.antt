@@ -1,6 +1,5 @@
-use Rattle.std.proofs.Common.{◌<◌, ◌≤◌, IfSome, refl, sym, subst, arith}
-use Rattle.link_simulation.specs.Rule.Planned.{next_event}
-use Rattle.link_simulation.specs.Simulation.World.{new_world}
+use Rattle.link_simulation.proofs.Common.{◌<◌, ◌≤◌, refl, sym, subst, arith, next_event, new_world}
+use Rattle.std.proofs.Common.{IfSome}
 use Rattle.link_simulation.proofs.Laws.TurnByNext.{turn_by_next, called_at_once}
 use Rattle.link_simulation.proofs.model.simulated.calls_before_the_next_event_are_in_turn.Goals as goal
 
@@ -16,13 +15,9 @@ returns-clause-called g c p w call now stands moment later next = record {
 
 pub returns-clause-first : goal.returns-clause-first
 returns-clause-first g c p id now call new stands moment =
-    let next : IfSome (next_event p) (λ t. now < t) = subst (λ q. IfSome (next_event q) (λ t. now < t)) (sym new) tt in
+    let next = subst (λ q. IfSome (next_event q) (λ t. now < t)) (sym new) tt in
     let later : 0 ≤ now = omega arith in
-    record {
-      stands = stands;
-      moment = moment;
-      turn = turn_by_next g.P.Ord.cmp g.met.P.Ord.total p (new_world id) call now stands moment later next;
-    }
+    grind (arith, (turn_by_next g.P.Ord.cmp g.met.P.Ord.total p (new_world id) call now stands moment later next))
 
 pub returns-clause-advance : goal.returns-clause-advance
 returns-clause-advance g c p w now stands later = record { stands = stands; moment = refl; turn = later }

@@ -1,7 +1,4 @@
-use Rattle.std.proofs.Common.{◌≡◌, ℕ, ◌<◌, Option, subst}
-use Rattle.std.specs.Prelude.{IfSome}
-use Rattle.link_simulation.specs.Simulation.World.{IsQuiet}
-use Rattle.link_simulation.specs.Simulation.Time.{NextIs}
+use Rattle.link_simulation.proofs.Common.{◌≡◌, ℕ, ◌<◌, Option, IfSome, IsQuiet, NextIs, arith}
 use Rattle.link_simulation.proofs.Simulation.OtherPairs.{ends_more}
 use Rattle.link_simulation.proofs.Simulation.QuietInstants.{next_is_later, call_ends_quiet, QuietAt}
 use Rattle.link_simulation.proofs.Simulation.Sound.{new_world_sound, call_keeps_sound}
@@ -27,7 +24,6 @@ returns-clause-quiet g c = λ w call now course quiet is after runs.
     (λ v k. (
       k.0,
       k.1,
-      λ next n.
-          subst (λ (m : ℕ). IfSome next (λ t. m < t)) k.1 (next_is_later g.P.Ord.cmp g.met.P.Ord.total v next n),
+      grind (arith, next_is_later),
     ))
     (call_ends_quiet g.P.Ord.cmp g.met.P.Ord.total w call now course quiet is after runs)

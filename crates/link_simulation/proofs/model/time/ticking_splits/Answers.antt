@@ -1,4 +1,4 @@
-use Rattle.std.proofs.Common.{refl}
+use Rattle.link_simulation.proofs.Common.{refl}
 use Rattle.link_simulation.proofs.Simulation.Split.{ticks_apart, ticks_both}
 use Rattle.link_simulation.proofs.model.time.ticking_splits.Goals as goal
 
