@@ -1,16 +1,10 @@
 -- What is answered is the allocation.
-use Rattle.std.proofs.Common.{◌≡◌, ℕ, ◌<◌, ◌≤◌, List, length, map, Option, All, AllPairs, sym, ap, ◌∙◌, subst, arith}
-use Rattle.std.proofs.lemmas.List.{length-map}
-use Rattle.std.specs.declared.cmp.Ordering.{Ordering}
-use Rattle.fair_rates.specs.declared.bandwidth.Flow.{Flow}
-use Rattle.fair_rates.specs.declared.bandwidth.Rate.{Rate}
+use Rattle.fair_rates.proofs.Common.{◌≡◌, ℕ, ◌<◌, ◌≤◌, List, length, map, Option, All, AllPairs, sym, ap, ◌∙◌, subst}
+use Rattle.fair_rates.proofs.Common.{arith, length-map, Ordering, Flow, Rate, IsAllocation, Calls, PairCalls, States}
+use Rattle.fair_rates.proofs.Common.{Answered, AnswerInOrder, side_of, HaveUsersBelow, AreFairRates, HasDifferentRates}
+use Rattle.fair_rates.proofs.Common.{last_rate, sides_of}
 use Rattle.fair_rates.specs.declared.bandwidth.sides.Side as declared_side
-use Rattle.fair_rates.specs.Fairness.Allocation.{IsAllocation, IsCountedAllocation}
-use Rattle.fair_rates.specs.Sides.Answers.{Calls, PairCalls, States, Answered, AnswerInOrder}
-use Rattle.fair_rates.specs.Sides.SideOf.{side_of}
-use Rattle.fair_rates.specs.Fairness.Laws.{HaveUsersBelow}
-use Rattle.fair_rates.specs.Fairness.Rates.{AreFairRates, HasDifferentRates, last_rate}
-use Rattle.fair_rates.specs.Sides.Subjects.{sides_of}
+use Rattle.fair_rates.specs.Fairness.Allocation.{IsCountedAllocation}
 use Rattle.fair_rates.proofs.Sides.UserCounts.{HaveDistinctUsers}
 use Rattle.fair_rates.proofs.Fairness.Allocation.{the_allocation}
 use Rattle.fair_rates.proofs.Refusals.Promise.{distinct_sides, users_below_sides, twelfths, whole_of_sixteen}

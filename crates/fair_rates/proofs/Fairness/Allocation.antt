@@ -1,13 +1,8 @@
 -- What is allocated is the one max-min allocation.
-use Rattle.std.proofs.Common.{ℕ, List, length, subst}
-use Rattle.std.specs.declared.cmp.Ordering.{Ordering}
-use Rattle.fair_rates.specs.declared.bandwidth.Rate.{Rate}
+use Rattle.fair_rates.proofs.Common.{ℕ, List, length, subst, Ordering, Rate, Answered, Calls, PairCalls, Side}
+use Rattle.fair_rates.proofs.Common.{HaveUsersBelow, AreFairRates, sides_of}
 use Rattle.fair_rates.specs.Fairness.AllocationUnderCaps.{AllocatesUnderCaps}
-use Rattle.fair_rates.specs.Sides.Answers.{Answered, Calls, PairCalls}
-use Rattle.fair_rates.specs.Fairness.Fair.{Side}
-use Rattle.fair_rates.specs.Fairness.Laws.{HaveUsersBelow, IsTheOnlyFair, AreMaxMin, AreZeroWhereClosed}
-use Rattle.fair_rates.specs.Fairness.Rates.{AreFairRates}
-use Rattle.fair_rates.specs.Sides.Subjects.{sides_of}
+use Rattle.fair_rates.specs.Fairness.Laws.{IsTheOnlyFair, AreMaxMin, AreZeroWhereClosed}
 use Rattle.fair_rates.proofs.Sides.Answers.{answers_are_those_of_the_caps}
 use Rattle.fair_rates.proofs.Fairness.ClosedSides.{fair_rates_are_zero_where_closed}
 use Rattle.fair_rates.proofs.Fairness.MaxMin.{fair_rates_are_max_min}

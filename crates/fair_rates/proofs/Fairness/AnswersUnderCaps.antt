@@ -1,16 +1,11 @@
 -- What closures that answer by caps are answered, and refused, under these caps.
-use Rattle.std.proofs.Common.{◌≡◌, ◌⊎◌, ◌<◌, ℕ, List, Option, Result, Ok, Err, IfOk, IfErr, inl, inr, length, subst}
-use Rattle.std.proofs.Common.{sym, ◌∙◌}
-use Rattle.std.specs.declared.cmp.Ordering.{Ordering}
-use Rattle.fair_rates.specs.declared.bandwidth.Flow.{Flow}
-use Rattle.fair_rates.specs.declared.bandwidth.Rate.{Rate}
-use Rattle.fair_rates.specs.declared.error.Error.{Error}
+use Rattle.fair_rates.proofs.Common.{◌≡◌, ◌⊎◌, ◌<◌, ℕ, List, Option, Result, Ok, Err, IfErr, inl, inr, length, subst}
+use Rattle.fair_rates.proofs.Common.{sym, ◌∙◌, Ordering, Flow, Rate, Error, IsAllocation, Answered, Calls, PairCalls}
+use Rattle.fair_rates.proofs.Common.{States, sides_of, FairRatesFit, HasLargeRate, IsTooLarge}
+use Rattle.std.proofs.Common.{IfOk}
 use Rattle.fair_rates.specs.declared.error.Error.TheVariants.{OutOfMemory, NumberTooLarge}
-use Rattle.fair_rates.specs.Fairness.Allocation.{IsAllocation, IsFairUnderCaps}
-use Rattle.fair_rates.specs.Sides.Answers.{Answered, Calls, PairCalls, States}
-use Rattle.fair_rates.specs.Sides.Subjects.{sides_of}
-use Rattle.fair_rates.specs.Refusals.FairRatesFit.{FairRatesFit}
-use Rattle.fair_rates.specs.Refusals.TooLarge.{HasLargeAnswer, HasLargeRate, IsTooLarge, AreTooLargeUnderCaps}
+use Rattle.fair_rates.specs.Fairness.Allocation.{IsFairUnderCaps}
+use Rattle.fair_rates.specs.Refusals.TooLarge.{HasLargeAnswer, AreTooLargeUnderCaps}
 use Rattle.fair_rates.proofs.Fairness.Allocation.{allocates_under_caps}
 use Rattle.fair_rates.proofs.Sides.Answers.{answers_are_those_of_the_caps}
 

@@ -1,17 +1,10 @@
 -- A part of the flows that shares no side with the rest, by places.
-use Rattle.std.proofs.Common.{◌≡◌, ℕ, zero, suc, ◌+◌, ◌*◌, ◌≤◌, ◌⊎◌, inl, inr, Bool, true, false, cond, List, [], ◌∷◌}
-use Rattle.std.proofs.Common.{Some, All, length, map, take, get_or, sum_by, refl, sym, ap, ◌∙◌, subst, arith}
-use Rattle.std.specs.Prelude.{slice_get}
-use Rattle.std.specs.List.{list_any}
-use Rattle.std.proofs.lemmas.Bool.{false≢true}
+use Rattle.fair_rates.proofs.Common.{◌≡◌, ℕ, zero, suc, ◌+◌, ◌*◌, ◌≤◌, ◌⊎◌, inl, inr, Bool, true, false, cond, List, []}
+use Rattle.fair_rates.proofs.Common.{◌∷◌, Some, All, length, map, take, get_or, sum_by, refl, sym, ap, ◌∙◌, subst}
+use Rattle.fair_rates.proofs.Common.{arith, slice_get, list_any, false≢true, All-contains, sum_by-cons, Rate, Unlimited}
+use Rattle.fair_rates.proofs.Common.{Finite, Side, load, Uses, IsLimited, IsFair, HasBottleneck, flagged, IsRateOf}
 use Rattle.std.proofs.lemmas.Option.{slice_get-get_or}
-use Rattle.std.proofs.lemmas.List.Elements.{All-contains}
-use Rattle.std.proofs.lemmas.List.Sums.{sum_by-cons}
-use Rattle.fair_rates.specs.declared.bandwidth.Rate.{Rate}
-use Rattle.fair_rates.specs.declared.bandwidth.Rate.TheVariants.{Unlimited, Finite}
-use Rattle.fair_rates.specs.Fairness.Fair.{Side, load, Uses, IsLimited, IsFair, HasBottleneck}
-use Rattle.fair_rates.specs.Fairness.Part.{flagged, is_in, place_in, sides_in, SharesNoSide, FlowsApartAreFair}
-use Rattle.fair_rates.specs.Fairness.Rates.{IsRateOf}
+use Rattle.fair_rates.specs.Fairness.Part.{is_in, place_in, sides_in, SharesNoSide, FlowsApartAreFair}
 use Rattle.fair_rates.proofs.Lists.Members.{In, in_map, from_map, in_left, in_right, in_either, in_from_contains}
 use Rattle.fair_rates.proofs.Lists.Members.{contains_from_in, some_or_none, any_fails, any_passes}
 use Rattle.fair_rates.proofs.Fairness.MaxMin.{rate_at}

@@ -1,21 +1,10 @@
 -- Rates by id under the caps of peers.
-use Rattle.std.proofs.Common.{◌≡◌, ◌↔◌, ℕ, ◌≤◌, Bool, true, false, cond, List, [], ◌∷◌, Option, Some, count_by, length}
-use Rattle.std.proofs.Common.{map, refl, sym, ap, ap₂, ◌∙◌, subst, arith}
-use Rattle.std.specs.Prelude.{slice_get}
-use Rattle.std.specs.List.{filter}
-use Rattle.std.specs.Cmp.{IsTotalOrder}
-use Rattle.std.specs.declared.cmp.Ordering.{Ordering}
-use Rattle.std.proofs.lemmas.Bool.{eq-eqb}
-use Rattle.std.proofs.lemmas.Option.{slice_get-map}
-use Rattle.std.proofs.lemmas.List.Sums.{sum_by-cons}
-use Rattle.fair_rates.specs.declared.bandwidth.Flow.{Flow}
-use Rattle.fair_rates.specs.declared.bandwidth.Rate.{Rate}
-use Rattle.fair_rates.specs.declared.bandwidth.Rate.TheVariants.{Unlimited}
-use Rattle.fair_rates.specs.Fairness.UnderCaps.{AreOfPeers, sides_under, UsesNoCap, HaveDistinctIds, IsFairById}
+use Rattle.fair_rates.proofs.Common.{◌≡◌, ◌↔◌, ℕ, ◌≤◌, Bool, true, false, cond, List, [], ◌∷◌, Option, Some, count_by}
+use Rattle.fair_rates.proofs.Common.{length, map, refl, sym, ap, ap₂, ◌∙◌, subst, arith, slice_get, filter}
+use Rattle.fair_rates.proofs.Common.{IsTotalOrder, Ordering, eq-eqb, slice_get-map, sum_by-cons, Flow, Rate, Unlimited}
+use Rattle.fair_rates.proofs.Common.{AreOfPeers, sides_under, flagged, last_rate, Caps}
+use Rattle.fair_rates.specs.Fairness.UnderCaps.{UsesNoCap, HaveDistinctIds, IsFairById}
 use Rattle.fair_rates.specs.Fairness.UnderCaps.{UnlimitedByIdWhereUncapped, OthersDoNotMatter, is_of_set}
-use Rattle.fair_rates.specs.Fairness.Part.{flagged}
-use Rattle.fair_rates.specs.Fairness.Rates.{last_rate}
-use Rattle.fair_rates.specs.Sides.Caps.{Caps}
 use Rattle.fair_rates.proofs.Fairness.Among.{Allotted, IsSaidAmong, flows_of, rates_of, among_from, rate_there}
 use Rattle.fair_rates.proofs.Lists.Members.{In, from_map, from_filter, in_filter, get_in, in_from_contains}
 use Rattle.fair_rates.proofs.Fairness.OneAllocation.{one_allocation}

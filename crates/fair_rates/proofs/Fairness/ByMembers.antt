@@ -1,13 +1,8 @@
 -- Sides that are those of the capped subjects, however they are made and in whatever order they stand.
-use Rattle.std.proofs.Common.{ℕ, List, Contains}
+use Rattle.fair_rates.proofs.Common.{ℕ, List, Contains, IsTotalOrder, Ordering, Flow, Side, IsFair, AreOfPeers}
+use Rattle.fair_rates.proofs.Common.{sides_under, IsCappedSide, Caps}
 use Rattle.std.specs.Prelude.{◌↔◌}
-use Rattle.std.specs.Cmp.{IsTotalOrder}
-use Rattle.std.specs.declared.cmp.Ordering.{Ordering}
-use Rattle.fair_rates.specs.declared.bandwidth.Flow.{Flow}
-use Rattle.fair_rates.specs.Fairness.Fair.{Side, IsFair}
 use Rattle.fair_rates.specs.Fairness.Laws.{AreTheSameSides}
-use Rattle.fair_rates.specs.Fairness.UnderCaps.{AreOfPeers, sides_under, IsCappedSide}
-use Rattle.fair_rates.specs.Sides.Caps.{Caps}
 use Rattle.fair_rates.proofs.Fairness.SameSides.{still_fair}
 use Rattle.fair_rates.proofs.Sides.CapSides.{sides_are_of_the_caps}
 

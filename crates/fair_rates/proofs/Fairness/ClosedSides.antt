@@ -1,10 +1,6 @@
 -- A rate is zero at a cap of zero, and nowhere else.
-use Rattle.std.proofs.Common.{◌≡◌, ℕ, ◌*◌, ◌≤◌, List, Contains, sum_by, subst, ap, arith}
-use Rattle.std.proofs.Math.Nat.{eq_of_mul-eq-mul_right}
-use Rattle.std.proofs.lemmas.List.Elements.{All-contains}
-use Rattle.std.proofs.lemmas.List.Sums.{get_or-le-sum_by}
-use Rattle.fair_rates.specs.declared.bandwidth.Rate.TheVariants.{Finite}
-use Rattle.fair_rates.specs.Fairness.Fair.{Side, load, IsLimited, IsFair}
+use Rattle.fair_rates.proofs.Common.{◌≡◌, ℕ, ◌*◌, ◌≤◌, List, Contains, sum_by, subst, ap, arith, eq_of_mul-eq-mul_right}
+use Rattle.fair_rates.proofs.Common.{All-contains, get_or-le-sum_by, Finite, Side, load, IsLimited, IsFair}
 use Rattle.fair_rates.specs.Fairness.Laws.{UsesClosedSide, FairRatesAreZeroWhereClosed}
 use Rattle.fair_rates.proofs.Lists.SumOrder.{All-from_contains, sum_by-zero}
 use Rattle.fair_rates.proofs.Fairness.MaxMin.{rate_at}

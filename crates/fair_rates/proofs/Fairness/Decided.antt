@@ -1,14 +1,12 @@
 -- Fairness can be decided: where it is known that rates are fair, each flow's bottleneck can be found.
-use Rattle.std.proofs.Common.{◌≡◌, ℕ, ◌*◌, ◌≤◌, Bool, true, ◌&&◌, List, refl, sym, ◌∙◌}
-use Rattle.std.proofs.Common.{subst, inl, inr}
+use Rattle.fair_rates.proofs.Common.{◌≡◌, ℕ, ◌*◌, ◌≤◌, Bool, true, ◌&&◌, List, refl, sym, ◌∙◌, subst, inl, inr}
+use Rattle.fair_rates.proofs.Common.{list_all, list_any, and_from, eqb-true, eq-eqb, false≢true, All-contains, Side}
+use Rattle.fair_rates.proofs.Common.{load, HasBottleneck, IsFair}
 use Rattle.std.specs.Prelude.{nat_le}
 use Rattle.std.proofs.Math.Dec.{eqb}
-use Rattle.std.specs.List.{list_all, list_any}
 use Rattle.std.proofs.Math.Logic.{∥∥₁_elim}
 use Rattle.std.proofs.Props.{props}
-use Rattle.std.proofs.lemmas.Bool.{and_from, eqb-true, eq-eqb, leb-true, le-leb, false≢true}
-use Rattle.std.proofs.lemmas.List.Elements.{All-contains}
-use Rattle.fair_rates.specs.Fairness.Fair.{Side, load, HasBottleneck, IsFair}
+use Rattle.std.proofs.lemmas.Bool.{leb-true, le-leb}
 use Rattle.fair_rates.proofs.Lists.Booleans.{first_of_both, second_of_both}
 use Rattle.fair_rates.proofs.Lists.Members.{In, in_from_contains, contains_from_in, some_or_none, any_passes, any_fails}
 use Rattle.fair_rates.proofs.Lists.Members.{all_pass, all_passed}

@@ -1,19 +1,17 @@
 -- The least common multiple of all products of whole numbers above zero whose sum is at most n.
-use Prim.Native.Nat.{◌∣◌}
-use Rattle.std.proofs.Common.{◌≡◌, ℕ, zero, suc, ◌+◌, ◌-◌, ◌*◌, ◌/◌, ◌<◌, ◌≤◌, inl, inr, List, [], ◌∷◌, length, get_or}
-use Rattle.std.proofs.Common.{All, refl, sym, ap, ◌∙◌, subst, arith}
+use Rattle.fair_rates.proofs.Common.{◌∣◌, ◌≡◌, ℕ, zero, suc, ◌+◌, ◌-◌, ◌*◌, ◌/◌, ◌<◌, ◌≤◌, inl, inr, List, [], ◌∷◌}
+use Rattle.fair_rates.proofs.Common.{length, get_or, All, refl, sym, ap, ◌∙◌, subst, arith, dvd-zero, dvd-mul_left}
+use Rattle.fair_rates.proofs.Common.{dvd-mul_right, mul-div_cancel', mul-pos, cases_lt, All-head, All-tail, All-nil}
+use Rattle.fair_rates.proofs.Common.{All-cons, sum_by-cons, gcd, product, gcd-IsGcd, gcd-pos}
 use Rattle.std.specs.List.{sum}
-use Rattle.std.proofs.Math.Nat.{dvd_refl, dvd_trans, dvd-zero, le_of_dvd, dvd-mul_left, dvd-mul_right, one-dvd}
-use Rattle.std.proofs.Math.Nat.{mul-dvd-mul_left, mul-dvd-mul_right, mul-div_cancel', dvd_of_mul-dvd-mul_left}
-use Rattle.std.proofs.Math.Nat.{dvd_of_mul-dvd-mul_right, mul-pos}
+use Rattle.std.proofs.Math.Nat.{dvd_refl, dvd_trans, le_of_dvd, one-dvd}
+use Rattle.std.proofs.Math.Nat.{mul-dvd-mul_left, mul-dvd-mul_right, dvd_of_mul-dvd-mul_left}
+use Rattle.std.proofs.Math.Nat.{dvd_of_mul-dvd-mul_right}
 use Rattle.std.proofs.lemmas.Nat.Gcd.{dvd_antisymm}
-use Rattle.std.proofs.lemmas.Bool.{cases_lt}
-use Rattle.std.proofs.lemmas.List.Elements.{All-head, All-tail, All-nil, All-cons}
-use Rattle.std.proofs.lemmas.List.Sums.{sum_by-cons}
-use Rattle.fair_rates.specs.Numbers.Amount.{gcd, gcd_within}
-use Rattle.fair_rates.specs.Fairness.Exists.{product, AreAddends, IsMultipleOfAll, IsLeastMultiple}
+use Rattle.fair_rates.specs.Numbers.Amount.{gcd_within}
+use Rattle.fair_rates.specs.Fairness.Exists.{AreAddends, IsMultipleOfAll, IsLeastMultiple}
 use Rattle.fair_rates.specs.Fairness.Exists.{AreLeastMultiplesFrom}
-use Rattle.fair_rates.specs.Numbers.Gcd.{gcd-IsGcd, gcd-pos, gcd-scaled}
+use Rattle.fair_rates.specs.Numbers.Gcd.{gcd-scaled}
 
 -- ---- of two numbers
 

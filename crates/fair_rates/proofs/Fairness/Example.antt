@@ -1,11 +1,8 @@
 -- The example of a shared cap.
-use Rattle.std.proofs.Common.{◌≡◌, ℕ, zero, suc, ◌*◌, ◌<◌, ◌≤◌, [], ◌∷◌, Contains, get_or, refl, sym, ap, subst, arith}
-use Rattle.std.proofs.Math.Nat.{eq_of_mul-eq-mul_right, eq-one_of_dvd-one}
-use Rattle.fair_rates.specs.declared.bandwidth.Rate.{Rate}
-use Rattle.fair_rates.specs.declared.bandwidth.Rate.TheVariants.{Unlimited, Finite}
-use Rattle.fair_rates.specs.declared.ratio.Ratio.{Ratio}
-use Rattle.fair_rates.specs.Fairness.Fair.{Side, load, IsLimited, IsFair}
-use Rattle.fair_rates.specs.Fairness.Rates.{IsRateOf}
+use Rattle.fair_rates.proofs.Common.{◌≡◌, ℕ, zero, suc, ◌*◌, ◌<◌, ◌≤◌, [], ◌∷◌, Contains, get_or, refl, sym, ap, subst}
+use Rattle.fair_rates.proofs.Common.{arith, eq_of_mul-eq-mul_right, Rate, Unlimited, Finite, Ratio, Side, load}
+use Rattle.fair_rates.proofs.Common.{IsLimited, IsFair, IsRateOf}
+use Rattle.std.proofs.Math.Nat.{eq-one_of_dvd-one}
 use Rattle.fair_rates.specs.Fairness.Example.{shared, IsHalf, AreFairForThree, HalfExists, HalvesAreFair, LessIsUnfair}
 use Rattle.fair_rates.specs.Fairness.Example.{MoreIsUnfair, NoLimitIsUnfair, LimitIsUnfair}
 use Rattle.fair_rates.proofs.Lists.SumOrder.{All-from_contains}

@@ -1,11 +1,9 @@
 -- The rate of the last flow with an id, while the flows are gone through from the first on.
-use Rattle.std.proofs.Common.{◌≡◌, ℕ, ◌==◌, ◌⊎◌, Bool, true, false, cond, List, [], ◌∷◌, Option, Some, None, refl, sym}
-use Rattle.std.proofs.Common.{ap, ◌∙◌, ⊎_elim}
+use Rattle.fair_rates.proofs.Common.{◌≡◌, ℕ, ◌⊎◌, Bool, true, false, cond, List, [], ◌∷◌, Option, Some, None, refl, sym}
+use Rattle.fair_rates.proofs.Common.{ap, ◌∙◌, ⊎_elim, is_eq, nat_cmp, Flow, Rate, last_rate}
+use Rattle.std.proofs.Common.{◌==◌}
 use Rattle.std.specs.Cmp.{unsigned_tied}
-use Rattle.std.specs.Ordering.{is_eq, nat_cmp}
-use Rattle.fair_rates.specs.declared.bandwidth.Flow.{Flow}
-use Rattle.fair_rates.specs.declared.bandwidth.Rate.{Rate}
-use Rattle.fair_rates.specs.Fairness.Rates.{or_else, last_rate}
+use Rattle.fair_rates.specs.Fairness.Rates.{or_else}
 
 or_else_twice : (later : Option Rate) (b : Bool) (r : Rate) (old : Option Rate)
     → or_else (or_else later (cond b (Some r) None)) old ≡ or_else later (cond b (Some r) old)

@@ -1,15 +1,10 @@
 -- Who gets more than a fair rate takes it from a flow whose fair rate is no greater.
-use Rattle.std.proofs.Common.{◌≡◌, ℕ, ◌*◌, ◌<◌, ◌≤◌, inl, inr, List, Some, get_or, length, All, ap, subst, arith}
-use Rattle.std.proofs.Common.{mul-le-mul_right}
-use Rattle.std.specs.Prelude.{slice_get}
-use Rattle.std.proofs.Math.Nat.{lt_of_mul-lt-mul_right, mul-lt-mul_of_pos_right, le_of_mul-le-mul_right}
-use Rattle.std.proofs.lemmas.List.Elements.{All-contains}
+use Rattle.fair_rates.proofs.Common.{◌≡◌, ℕ, ◌*◌, ◌<◌, ◌≤◌, inl, inr, List, Some, get_or, length, All, ap, subst, arith}
+use Rattle.fair_rates.proofs.Common.{mul-le-mul_right, slice_get, lt_of_mul-lt-mul_right, le_of_mul-le-mul_right}
+use Rattle.fair_rates.proofs.Common.{All-contains, Rate, Unlimited, Finite, Ratio, Side, load, IsLimited, IsRateOf}
+use Rattle.fair_rates.proofs.Common.{AreFairRates}
+use Rattle.std.proofs.Math.Nat.{mul-lt-mul_of_pos_right}
 use Rattle.std.proofs.lemmas.Option.{slice_get-get_or, slice_get_within, get_or_from_slice_get}
-use Rattle.fair_rates.specs.declared.bandwidth.Rate.{Rate}
-use Rattle.fair_rates.specs.declared.bandwidth.Rate.TheVariants.{Unlimited, Finite}
-use Rattle.fair_rates.specs.declared.ratio.Ratio.{Ratio}
-use Rattle.fair_rates.specs.Fairness.Fair.{Side, load, IsLimited}
-use Rattle.fair_rates.specs.Fairness.Rates.{IsRateOf, AreFairRates}
 use Rattle.fair_rates.specs.Fairness.Laws.{HasRate, FairIsMaxMin, FairRatesAreMaxMin}
 use Rattle.fair_rates.proofs.Lists.SumOrder.{sum_by-scaled, sum_by-under, at_most_or_more}
 

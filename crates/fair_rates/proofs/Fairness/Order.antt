@@ -1,22 +1,16 @@
 -- The order of the flows does not matter.
-use Rattle.std.proofs.Common.{◌≡◌, ℕ, ◌<◌, ◌≤◌, Bool, true, false, cond, List, [], ◌∷◌, Option, Some, None, map, set}
-use Rattle.std.proofs.Common.{get_or, length, count_by, refl, sym, ap, ap₂, ◌∙◌, subst, inl, inr, arith}
+use Rattle.fair_rates.proofs.Common.{◌≡◌, ℕ, ◌<◌, ◌≤◌, Bool, true, false, cond, List, [], ◌∷◌, Option, Some, None, map}
+use Rattle.fair_rates.proofs.Common.{set, get_or, length, count_by, refl, sym, ap, ap₂, ◌∙◌, subst, inl, inr, arith}
+use Rattle.fair_rates.proofs.Common.{IsTotalOrder, Ordering, get_or-map, length-map, sum_by-cons, IsPermutation-refl}
+use Rattle.fair_rates.proofs.Common.{IsPermutation-sym, Contains-permutation, Flow, Rate, Subject, last_rate, Caps}
+use Rattle.fair_rates.proofs.Common.{AreOfPeers, limits, sides_under, AreFairUnder}
 use Rattle.std.specs.Prelude.{◌==◌}
 use Rattle.std.specs.List.{swap}
 use Rattle.std.specs.List.Sorted.{IsPermutation}
-use Rattle.std.specs.Cmp.{IsTotalOrder}
-use Rattle.std.specs.declared.cmp.Ordering.{Ordering}
-use Rattle.std.proofs.lemmas.List.{map-set, get_or-map, length-map}
-use Rattle.std.proofs.lemmas.List.Sums.{sum_by-cons}
-use Rattle.std.proofs.lemmas.List.Sorted.{IsPermutation-refl, IsPermutation-sym, IsPermutation-trans}
+use Rattle.std.proofs.lemmas.List.{map-set}
+use Rattle.std.proofs.lemmas.List.Sorted.{IsPermutation-trans}
 use Rattle.std.proofs.lemmas.List.Sorted.{IsPermutation-swap, IsPermutation-keeps, sum_by-IsPermutation}
-use Rattle.std.proofs.lemmas.List.Sorted.{Contains-permutation}
-use Rattle.fair_rates.specs.declared.bandwidth.Flow.{Flow}
-use Rattle.fair_rates.specs.declared.bandwidth.Rate.{Rate}
-use Rattle.fair_rates.specs.Sides.Subjects.{Subject}
-use Rattle.fair_rates.specs.Fairness.Rates.{last_rate}
-use Rattle.fair_rates.specs.Sides.Caps.{Caps}
-use Rattle.fair_rates.specs.Fairness.UnderCaps.{AreOfPeers, limits, sides_under, AreFairUnder, HaveDistinctIds}
+use Rattle.fair_rates.specs.Fairness.UnderCaps.{HaveDistinctIds}
 use Rattle.fair_rates.specs.Fairness.UnderCaps.{OrderDoesNotMatter}
 use Rattle.fair_rates.proofs.Lists.Members.{In, in_from_contains, contains_from_in, some_or_none}
 use Rattle.fair_rates.proofs.Fairness.OneAllocation.{one_allocation}

@@ -1,19 +1,11 @@
 -- A part of the flows that shares no side with the rest.
-use Rattle.std.proofs.Common.{◌≡◌, ℕ, Bool, true, false, cond, List, [], ◌∷◌, map, refl, sym, ap, ◌∙◌, subst}
-use Rattle.std.proofs.Common.{subst₂, ap₂}
-use Rattle.std.specs.List.{filter}
-use Rattle.std.specs.Cmp.{IsTotalOrder}
-use Rattle.std.specs.declared.cmp.Ordering.{Ordering}
-use Rattle.std.proofs.lemmas.Bool.{and_parts}
-use Rattle.std.proofs.lemmas.Cmp.{eq_by_cmp_equiv}
-use Rattle.std.proofs.lemmas.List.Elements.{All-contains}
+use Rattle.fair_rates.proofs.Common.{◌≡◌, ℕ, Bool, true, false, cond, List, [], ◌∷◌, map, refl, sym, ap, ◌∙◌, subst}
+use Rattle.fair_rates.proofs.Common.{ap₂, filter, IsTotalOrder, Ordering, and_parts, eq_by_cmp_equiv, All-contains}
+use Rattle.fair_rates.proofs.Common.{Flow, Rate, flagged, Subject, sent_by, received_by, sent_between, same_peer, Caps}
+use Rattle.fair_rates.proofs.Common.{limits, AreFairUnder}
+use Rattle.std.proofs.Common.{subst₂}
 use Rattle.std.proofs.lemmas.Map.Steps.{list_any_congr}
-use Rattle.fair_rates.specs.declared.bandwidth.Flow.{Flow}
-use Rattle.fair_rates.specs.declared.bandwidth.Rate.{Rate}
-use Rattle.fair_rates.specs.Fairness.Part.{flagged}
-use Rattle.fair_rates.specs.Sides.Subjects.{Subject, sent_by, received_by, sent_between, same_peer}
-use Rattle.fair_rates.specs.Sides.Caps.{Caps}
-use Rattle.fair_rates.specs.Fairness.UnderCaps.{limits, is_among, is_of_set, HaveBothEndsOrNone, AreFairUnder}
+use Rattle.fair_rates.specs.Fairness.UnderCaps.{is_among, is_of_set, HaveBothEndsOrNone}
 use Rattle.fair_rates.specs.Fairness.UnderCaps.{PartIsFair}
 use Rattle.fair_rates.proofs.Lists.Members.{In, in_map, from_filter, contains_from_in}
 use Rattle.fair_rates.proofs.Fairness.Among.{Allotted, flow_of, parts_of, flows_of, rates_of, AreFairAmong, among_from}

@@ -1,11 +1,7 @@
 -- Fairness depends on the set of sides alone.
-use Rattle.std.proofs.Common.{ℕ, ◌*◌, ◌≤◌, List, get_or}
+use Rattle.fair_rates.proofs.Common.{ℕ, ◌*◌, ◌≤◌, List, get_or, All-contains, Rate, Unlimited, Finite, Side, load}
+use Rattle.fair_rates.proofs.Common.{IsLimited, IsFair, HasBottleneck, IsRateOf}
 use Rattle.std.specs.Prelude.{◌↔◌}
-use Rattle.std.proofs.lemmas.List.Elements.{All-contains}
-use Rattle.fair_rates.specs.declared.bandwidth.Rate.{Rate}
-use Rattle.fair_rates.specs.declared.bandwidth.Rate.TheVariants.{Unlimited, Finite}
-use Rattle.fair_rates.specs.Fairness.Fair.{Side, load, IsLimited, IsFair, HasBottleneck}
-use Rattle.fair_rates.specs.Fairness.Rates.{IsRateOf}
 use Rattle.fair_rates.specs.Fairness.Laws.{AreTheSameSides, FairnessIsOfTheSet}
 use Rattle.fair_rates.proofs.Lists.SumOrder.{All-from_contains}
 

@@ -1,16 +1,10 @@
 -- Fairness beside those that keep their rates, of elements that have a flow and parts each, said without their places.
-use Rattle.std.proofs.Common.{◌≡◌, ℕ, ◌+◌, ◌*◌, ◌<◌, ◌≤◌, Bool, true, false, cond, not, List, [], ◌∷◌, ◌&&◌}
-use Rattle.std.proofs.Common.{Option, Some, None, refl, sym, ap, ◌∙◌, subst, inl, inr, arith}
-use Rattle.std.specs.Prelude.{option_map}
-use Rattle.std.specs.List.{filter}
-use Rattle.std.proofs.Math.Nat.{mul-pos}
-use Rattle.std.specs.declared.cmp.Ordering.{Ordering}
-use Rattle.std.proofs.lemmas.Bool.{and_parts, cases_lt}
-use Rattle.std.proofs.lemmas.Option.{same_Some}
-use Rattle.fair_rates.specs.declared.bandwidth.Flow.{Flow}
-use Rattle.fair_rates.specs.Fairness.UnderCaps.{cap_of, limits}
-use Rattle.fair_rates.specs.Sides.Caps.{Caps, times_caps}
-use Rattle.fair_rates.specs.Sides.Subjects.{Subject, sent_by, received_by, sent_between}
+use Rattle.fair_rates.proofs.Common.{◌≡◌, ℕ, ◌+◌, ◌*◌, ◌<◌, ◌≤◌, Bool, true, false, cond, List, [], ◌∷◌, ◌&&◌, Option}
+use Rattle.fair_rates.proofs.Common.{Some, None, refl, sym, ap, ◌∙◌, subst, inl, inr, arith, option_map, filter}
+use Rattle.fair_rates.proofs.Common.{mul-pos, Ordering, and_parts, cases_lt, same_Some, Flow, cap_of, limits, Caps}
+use Rattle.fair_rates.proofs.Common.{Subject, sent_by, received_by, sent_between}
+use Rattle.std.proofs.Common.{not}
+use Rattle.fair_rates.specs.Sides.Caps.{times_caps}
 use Rattle.fair_rates.proofs.Fairness.Sharing.{IsCapped, IsHeldAmong, AreShared, total, total-cons, total_same}
 use Rattle.fair_rates.proofs.Fairness.Sharing.{total_at_most}
 use Rattle.fair_rates.proofs.Lists.Booleans.{by_bool}

@@ -1,24 +1,14 @@
 -- Fairness under caps of elements that have a flow and parts each, said without their places: so it holds in every
 -- order, of a part, and of two parts together.
-use Rattle.std.proofs.Common.{◌≡◌, ℕ, zero, suc, ◌+◌, ◌*◌, ◌<◌, ◌≤◌, Bool, true, false, cond, List, [], ◌∷◌, Some}
-use Rattle.std.proofs.Common.{map, length, get_or, sum_by, Contains, refl, sym, ap, ◌∙◌, subst, inl, inr, arith}
-use Rattle.std.specs.Prelude.{slice_get}
-use Rattle.std.specs.List.{filter}
-use Rattle.std.specs.Cmp.{IsTotalOrder}
-use Rattle.std.specs.declared.cmp.Ordering.{Ordering}
-use Rattle.std.proofs.lemmas.List.Elements.{All-contains}
-use Rattle.std.proofs.lemmas.List.Sums.{sum_by-cons}
-use Rattle.std.proofs.lemmas.Option.{slice_get-map, same_Some}
-use Rattle.fair_rates.specs.declared.bandwidth.Flow.{Flow}
-use Rattle.fair_rates.specs.Fairness.Fair.{Side, load, Uses, IsLimited, IsFair, HasBottleneck}
-use Rattle.fair_rates.specs.Sides.Subjects.{Subject}
-use Rattle.fair_rates.specs.Sides.Caps.{Caps}
-use Rattle.fair_rates.specs.Fairness.UnderCaps.{cap_of, AreOfPeers, limits, sides_under, IsCappedSide}
+use Rattle.fair_rates.proofs.Common.{◌≡◌, ℕ, zero, suc, ◌+◌, ◌*◌, ◌<◌, ◌≤◌, Bool, true, false, cond, List, [], ◌∷◌}
+use Rattle.fair_rates.proofs.Common.{Some, map, length, get_or, sum_by, Contains, refl, sym, ap, ◌∙◌, subst, inl, inr}
+use Rattle.fair_rates.proofs.Common.{arith, slice_get, filter, IsTotalOrder, Ordering, All-contains, sum_by-cons}
+use Rattle.fair_rates.proofs.Common.{slice_get-map, same_Some, Flow, Side, load, Uses, IsLimited, IsFair, HasBottleneck}
+use Rattle.fair_rates.proofs.Common.{Subject, Caps, cap_of, AreOfPeers, limits, sides_under, IsCappedSide, places_from}
 use Rattle.fair_rates.proofs.Lists.Members.{In, in_map, in_get, get_in, in_from_contains, from_filter}
 use Rattle.fair_rates.proofs.Lists.Members.{some_or_none, get_from_map}
 use Rattle.fair_rates.proofs.Lists.SumOrder.{All-from_contains}
 use Rattle.fair_rates.proofs.Sides.CapSides.{capped_from_listed, listed_from_capped, side_of_subject}
-use Rattle.fair_rates.specs.Lists.Places.{places_from}
 use Rattle.fair_rates.proofs.Lists.Places.{place_here, passes_here}
 
 -- a subject with a cap, whose side limits the flow

@@ -1,16 +1,9 @@
 -- A flow is unlimited exactly where it uses no capped side.
-use Rattle.std.proofs.Common.{◌≡◌, ℕ, true, List, Option, Some, None, refl, sym, ap, ◌∙◌, subst}
-use Rattle.std.specs.Prelude.{slice_get}
-use Rattle.std.specs.Cmp.{IsTotalOrder}
-use Rattle.std.specs.declared.cmp.Ordering.{Ordering}
-use Rattle.std.proofs.lemmas.Bool.{and_from, and_parts}
-use Rattle.std.proofs.lemmas.Option.{same_Some}
-use Rattle.fair_rates.specs.declared.bandwidth.Flow.{Flow}
-use Rattle.fair_rates.specs.declared.bandwidth.Rate.{Rate}
-use Rattle.fair_rates.specs.declared.bandwidth.Rate.TheVariants.{Unlimited, Finite}
-use Rattle.fair_rates.specs.Sides.Subjects.{Subject, sent_by, received_by, sent_between, same_peer}
-use Rattle.fair_rates.specs.Sides.Caps.{Caps}
-use Rattle.fair_rates.specs.Fairness.UnderCaps.{cap_of, AreOfPeers, UsesNoCap, limits, UnlimitedWhereUncapped}
+use Rattle.fair_rates.proofs.Common.{◌≡◌, ℕ, true, List, Option, Some, None, refl, sym, ap, ◌∙◌, subst, slice_get}
+use Rattle.fair_rates.proofs.Common.{IsTotalOrder, Ordering, and_from, and_parts, same_Some, Flow, Rate, Unlimited}
+use Rattle.fair_rates.proofs.Common.{Finite, Subject, sent_by, received_by, sent_between, same_peer, Caps, cap_of}
+use Rattle.fair_rates.proofs.Common.{AreOfPeers, limits}
+use Rattle.fair_rates.specs.Fairness.UnderCaps.{UsesNoCap, UnlimitedWhereUncapped}
 use Rattle.fair_rates.proofs.Sides.Subjects.{same_itself}
 use Rattle.fair_rates.proofs.Lists.Members.{in_get, get_from_map}
 use Rattle.fair_rates.proofs.Sides.EqualSubjects.{same_peer_itself, one_cap}

@@ -1,13 +1,9 @@
 -- The fair rates of n flows are whole over their denominator.
-use Rattle.std.proofs.Common.{◌≡◌, ℕ, ◌*◌, ◌<◌, ◌≤◌, List, get_or, ap, arith}
-use Rattle.std.proofs.Math.Nat.{eq_of_mul-eq-mul_right}
-use Rattle.fair_rates.specs.Fairness.Fair.{Side, IsFair}
+use Rattle.fair_rates.proofs.Common.{◌≡◌, ℕ, ◌*◌, ◌<◌, ◌≤◌, List, get_or, ap, arith, eq_of_mul-eq-mul_right, Side}
+use Rattle.fair_rates.proofs.Common.{IsFair, HaveUsersBelow, IsRateOf, AreFairRates, AreWholeOver, Rate, Unlimited}
+use Rattle.fair_rates.proofs.Common.{Finite}
 use Rattle.fair_rates.specs.Fairness.Exists.{HaveDistinctUsers}
-use Rattle.fair_rates.specs.Fairness.Laws.{HaveUsersBelow}
-use Rattle.fair_rates.specs.Fairness.Rates.{IsRateOf, AreFairRates}
-use Rattle.fair_rates.specs.Refusals.FairRatesFit.{IsWholeOver, AreWholeOver}
-use Rattle.fair_rates.specs.declared.bandwidth.Rate.{Rate}
-use Rattle.fair_rates.specs.declared.bandwidth.Rate.TheVariants.{Unlimited, Finite}
+use Rattle.fair_rates.specs.Refusals.FairRatesFit.{IsWholeOver}
 use Rattle.fair_rates.proofs.Fairness.Denominators.{denominator_of}
 use Rattle.fair_rates.proofs.Fairness.OneAllocation.{same_amounts}
 use Rattle.fair_rates.proofs.Filling.FairPartsExist.{fair_parts}

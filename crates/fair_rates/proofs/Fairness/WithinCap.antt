@@ -1,14 +1,9 @@
 -- The flows that a side limits get no more than its cap together.
-use Rattle.std.proofs.Common.{◌≡◌, ◌⊎◌, inl, inr, ℕ, ◌+◌, ◌*◌, ◌≤◌, List, [], ◌∷◌, Bool, true, false, cond, refl}
-use Rattle.std.proofs.Common.{sym, subst, arith}
+use Rattle.fair_rates.proofs.Common.{◌≡◌, ◌⊎◌, inl, inr, ℕ, ◌+◌, ◌*◌, ◌≤◌, List, [], ◌∷◌, Bool, true, false, cond, refl}
+use Rattle.fair_rates.proofs.Common.{sym, subst, arith, IsTotalOrder, Ordering, All-contains, Flow, Side, load, limits}
+use Rattle.fair_rates.proofs.Common.{sides_under, IsCappedSide, places_from}
 use Rattle.std.specs.Prelude.{sum_by}
-use Rattle.std.specs.Cmp.{IsTotalOrder}
-use Rattle.std.specs.declared.cmp.Ordering.{Ordering}
-use Rattle.std.proofs.lemmas.List.Elements.{All-contains}
-use Rattle.fair_rates.specs.declared.bandwidth.Flow.{Flow}
-use Rattle.fair_rates.specs.Fairness.Fair.{Side, load}
-use Rattle.fair_rates.specs.Fairness.UnderCaps.{limits, sides_under, IsCappedSide, KeepsToItsCap}
-use Rattle.fair_rates.specs.Lists.Places.{places_from}
+use Rattle.fair_rates.specs.Fairness.UnderCaps.{KeepsToItsCap}
 use Rattle.fair_rates.proofs.Sides.CapSides.{sides_are_of_the_caps}
 use Rattle.fair_rates.proofs.Lists.Members.{In, contains_from_in}
 

@@ -1,15 +1,14 @@
 -- How an open side keeps account of a side.
-use Rattle.std.proofs.Common.{◌≡◌, ℕ, ◌+◌, ◌*◌, ◌<◌, ◌≤◌, inl, inr, List, [], ◌∷◌, ◌++◌, length, get_or, All, sum_by}
-use Rattle.std.proofs.Common.{Option, Some, None, IsSome, sym, ap, subst, ◌∙◌, arith, mul-le-mul_right}
+use Rattle.fair_rates.proofs.Common.{◌≡◌, ℕ, ◌+◌, ◌*◌, ◌<◌, ◌≤◌, inl, inr, List, [], ◌∷◌, ◌++◌, length, get_or, All}
+use Rattle.fair_rates.proofs.Common.{sum_by, Option, Some, None, IsSome, sym, ap, subst, ◌∙◌, arith, mul-le-mul_right}
+use Rattle.fair_rates.proofs.Common.{IsPermutation, cases_lt, All-nil, All-head, All-push, All-tail, All-append}
+use Rattle.fair_rates.proofs.Common.{All-weaker, IsPermutation-refl, IsPermutation-sym, All-permutation, sum_by-cons}
+use Rattle.fair_rates.proofs.Common.{Side, load, at_level, AllRise, AllFrozen, IsWithinSlack, HaveNoMore, KeepsAccount}
 use Rattle.std.proofs.Common.{le_of_mul-le-mul_right}
-use Rattle.std.specs.Prelude.{IsPermutation, swap_remove}
-use Rattle.std.proofs.lemmas.Bool.{cases_lt}
-use Rattle.std.proofs.lemmas.List.Elements.{All-nil, All-head, All-push, All-tail, All-append, All-weaker}
-use Rattle.std.proofs.lemmas.List.Sorted.{IsPermutation-refl, IsPermutation-sym, IsPermutation-pop_more}
-use Rattle.std.proofs.lemmas.List.Sorted.{IsPermutation-swap_remove, All-permutation, sum_by-IsPermutation}
-use Rattle.std.proofs.lemmas.List.Sums.{sum_by-append, sum_by-cons}
-use Rattle.fair_rates.specs.Fairness.Fair.{Side, load}
-use Rattle.fair_rates.specs.Filling.States.{at_level, AllRise, AllFrozen, IsWithinSlack, HaveNoMore, KeepsAccount}
+use Rattle.std.specs.Prelude.{swap_remove}
+use Rattle.std.proofs.lemmas.List.Sorted.{IsPermutation-pop_more}
+use Rattle.std.proofs.lemmas.List.Sorted.{IsPermutation-swap_remove, sum_by-IsPermutation}
+use Rattle.std.proofs.lemmas.List.Sums.{sum_by-append}
 use Rattle.fair_rates.proofs.Filling.Frozen.{none_or_some, some_is, at_some, at_none, at_any}
 use Rattle.fair_rates.proofs.Lists.Sums.{sum_by_same}
 

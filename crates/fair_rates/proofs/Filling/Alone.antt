@@ -1,14 +1,9 @@
 -- The fair rate of a flow alone: the least of its caps.
-use Rattle.std.proofs.Common.{◌≡◌, ℕ, ◌*◌, ◌<◌, ◌≤◌, List, [], ◌∷◌, map, Contains, Bool, Option, Some, None}
-use Rattle.std.proofs.Common.{refl, sym, ap, subst, ◌∙◌, arith, mul-le-mul_right}
-use Rattle.std.specs.Prelude.{option_map, slice_index, unwrap_or}
-use Rattle.std.specs.declared.cmp.Ordering.{Ordering}
-use Rattle.std.proofs.lemmas.List.Elements.{All-nil, All-cons, All-map, All-weaker, All-contains}
-use Rattle.fair_rates.specs.Fairness.Fair.{Side, Uses, IsWithinCaps, HasBottleneck, IsFair, load}
-use Rattle.fair_rates.specs.Fairness.UnderCaps.{sides_under}
+use Rattle.fair_rates.proofs.Common.{◌≡◌, ℕ, ◌*◌, ◌<◌, ◌≤◌, List, [], ◌∷◌, map, Contains, Bool, Option, Some, None}
+use Rattle.fair_rates.proofs.Common.{refl, sym, ap, subst, ◌∙◌, arith, mul-le-mul_right, option_map, slice_index}
+use Rattle.fair_rates.proofs.Common.{unwrap_or, Ordering, All-nil, All-cons, All-map, All-weaker, All-contains, Side}
+use Rattle.fair_rates.proofs.Common.{Uses, IsWithinCaps, HasBottleneck, IsFair, load, sides_under, Caps, Flow}
 use Rattle.fair_rates.specs.Sides.Alone.{least_cap_of}
-use Rattle.fair_rates.specs.Sides.Caps.{Caps}
-use Rattle.fair_rates.specs.declared.bandwidth.Flow.{Flow}
 use Rattle.fair_rates.specs.declared.bandwidth.FlowCaps.{FlowCaps}
 use Rattle.fair_rates.proofs.Lists.Different.{in_one}
 use Rattle.fair_rates.proofs.Lists.Members.{in_from_contains, contains_from_in, in_map}

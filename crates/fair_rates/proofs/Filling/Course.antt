@@ -1,15 +1,11 @@
 -- A round of filling: the users of the side with the least share freeze at it.
-use Rattle.std.proofs.Common.{◌≡◌, ℕ, ◌*◌, ◌<◌, ◌≤◌, ◌⊎◌, inl, inr, List, ◌∷◌, ◌++◌, length, All, Contains, Option}
-use Rattle.std.proofs.Common.{Some, None, IsSome, sym, ap, subst, ◌∙◌, arith, le_of_mul-le-mul_right}
-use Rattle.std.specs.Prelude.{unwrap_or}
-use Rattle.std.specs.declared.cmp.Reverse.{Reverse}
-use Rattle.std.proofs.lemmas.List.Elements.{All-head, All-tail, All-append, All-contains, All-weaker}
-use Rattle.std.proofs.lemmas.List.Elements.{Contains-append_right}
-use Rattle.std.proofs.lemmas.List.Sorted.{All-permutation, Contains-permutation, IsPermutation-sym}
-use Rattle.fair_rates.specs.Fairness.Fair.{Side, load}
-use Rattle.fair_rates.specs.Filling.States.{at_level, AllRise, AllFrozen, IsWithinSlack, HaveNoMore, KeepsAccount}
-use Rattle.fair_rates.specs.Filling.States.{IsOpen, IsCovered, IsQueue, AreAbove}
-use Rattle.fair_rates.specs.declared.bandwidth.filling.open.OpenSide.{OpenSide}
+use Rattle.fair_rates.proofs.Common.{◌≡◌, ℕ, ◌*◌, ◌<◌, ◌≤◌, ◌⊎◌, inl, inr, List, ◌∷◌, ◌++◌, length, All, Contains}
+use Rattle.fair_rates.proofs.Common.{Option, Some, None, IsSome, sym, ap, subst, ◌∙◌, arith, unwrap_or, Reverse}
+use Rattle.fair_rates.proofs.Common.{All-head, All-tail, All-append, All-contains, All-weaker, Contains-append_right}
+use Rattle.fair_rates.proofs.Common.{All-permutation, Contains-permutation, IsPermutation-sym, Side, load, at_level}
+use Rattle.fair_rates.proofs.Common.{AllRise, AllFrozen, IsWithinSlack, HaveNoMore, KeepsAccount, IsOpen, IsCovered}
+use Rattle.fair_rates.proofs.Common.{IsQueue, AreAbove, OpenSide}
+use Rattle.std.proofs.Common.{le_of_mul-le-mul_right}
 use Rattle.fair_rates.proofs.Lists.SumOrder.{All-from_contains}
 use Rattle.fair_rates.proofs.Filling.Account.{has_room, is_full}
 use Rattle.fair_rates.proofs.Filling.Frozen.{some_value, some_is, at_some, at_any}

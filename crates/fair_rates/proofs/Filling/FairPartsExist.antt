@@ -1,17 +1,12 @@
 -- There are fair parts, of which the denominator of that many flows makes one: filling finds them.
-use Prim.Native.Nat.{◌∣◌}
-use Rattle.std.proofs.Common.{◌≡◌, ℕ, zero, suc, ◌+◌, ◌-◌, ◌*◌, ◌<◌, ◌≤◌, inl, inr, Bool, true, false, cond, List}
-use Rattle.std.proofs.Common.{get_or, All, Contains, count_by, refl, sym, ap, ◌∙◌, subst, arith, Option, Some, None}
-use Rattle.std.proofs.Common.{is_none, IsSome}
-use Rattle.std.specs.Prelude.{unwrap_or, ◌==◌}
-use Rattle.std.specs.List.{list_any}
-use Rattle.std.proofs.Math.Nat.{le_of_mul-le-mul_right, dvd-zero}
-use Rattle.std.proofs.lemmas.Bool.{cases_Bool, cond-true, cond-false, eq-eqb, eqb-true}
+use Rattle.fair_rates.proofs.Common.{◌∣◌, ◌≡◌, ℕ, zero, suc, ◌+◌, ◌-◌, ◌*◌, ◌<◌, ◌≤◌, inl, inr, Bool, true, false, cond}
+use Rattle.fair_rates.proofs.Common.{List, get_or, All, Contains, count_by, refl, sym, ap, ◌∙◌, subst, arith, Option}
+use Rattle.fair_rates.proofs.Common.{Some, None, IsSome, unwrap_or, list_any, le_of_mul-le-mul_right, dvd-zero, eq-eqb}
+use Rattle.fair_rates.proofs.Common.{eqb-true, All-contains, get_or-le-sum_by, Side, IsFair, HaveUsersBelow}
+use Rattle.std.proofs.Common.{is_none}
+use Rattle.std.specs.Prelude.{◌==◌}
+use Rattle.std.proofs.lemmas.Bool.{cases_Bool, cond-true, cond-false}
 use Rattle.std.proofs.lemmas.List.Folds.{list_any_at, Any-from_list_any}
-use Rattle.std.proofs.lemmas.List.Elements.{All-contains}
-use Rattle.std.proofs.lemmas.List.Sums.{get_or-le-sum_by}
-use Rattle.fair_rates.specs.Fairness.Fair.{Side, IsFair}
-use Rattle.fair_rates.specs.Fairness.Laws.{HaveUsersBelow}
 use Rattle.fair_rates.proofs.Fairness.Denominators.{denominator_of, positive}
 use Rattle.fair_rates.proofs.Filling.Frozen.{none_or_some, some_is, at_some, at_none}
 use Rattle.fair_rates.proofs.Filling.Rounds.{start, end, next}

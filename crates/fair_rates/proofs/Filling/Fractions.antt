@@ -1,18 +1,13 @@
 -- Parts over a product of small factors, brought to lowest terms factor by factor.
-use Prim.Native.Nat.{◌∣◌}
-use Rattle.std.proofs.Common.{◌≡◌, ℕ, ◌+◌, ◌*◌, ◌/◌, ◌%◌, ◌^◌, ◌<◌, List, [], ◌∷◌, ◌++◌, length, get_or, take, All, sym}
-use Rattle.std.proofs.Common.{ap, subst, ◌∙◌, arith}
-use Rattle.std.proofs.Math.Nat.{div-mul_cancel, mul-pos, dvd-mul_right}
+use Rattle.fair_rates.proofs.Common.{◌∣◌, ◌≡◌, ℕ, ◌+◌, ◌*◌, ◌/◌, ◌^◌, ◌<◌, List, [], ◌∷◌, ◌++◌, length, get_or, take}
+use Rattle.fair_rates.proofs.Common.{All, sym, ap, subst, ◌∙◌, arith, mul-pos, dvd-mul_right, All-head, All-tail}
+use Rattle.fair_rates.proofs.Common.{product, gcd, parts_over, reduced, ReducedFits, IsReduced, gcd-IsGcd, gcd-pos}
+use Rattle.fair_rates.proofs.Common.{gcd-mod, reduced_same, reduced_lowest}
+use Rattle.std.proofs.Common.{◌%◌}
+use Rattle.std.proofs.Math.Nat.{div-mul_cancel}
 use Rattle.std.proofs.lemmas.List.{take_more}
-use Rattle.std.proofs.lemmas.List.Elements.{All-head, All-tail}
 use Rattle.std.proofs.lemmas.Nat.Gcd.{dvd_refl}
-use Rattle.fair_rates.specs.Fairness.Exists.{product}
-use Rattle.fair_rates.specs.Numbers.Amount.{gcd, parts_over, reduced}
-use Rattle.fair_rates.specs.Numbers.Fits.{ReducedFits}
-use Rattle.fair_rates.specs.Numbers.Fraction.{IsReduced}
-use Rattle.fair_rates.specs.Numbers.Gcd.{gcd-IsGcd, gcd-pos, gcd-mod}
 use Rattle.fair_rates.specs.Numbers.LowestTerms.{coprime_parts, IsReduced-part, IsReduced-mul, IsReduced-swap}
-use Rattle.fair_rates.specs.Numbers.LowestTerms.{reduced_same, reduced_lowest}
 use Rattle.fair_rates.proofs.Filling.Share.{quotient_positive}
 
 -- ---- products

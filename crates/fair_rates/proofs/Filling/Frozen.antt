@@ -1,9 +1,8 @@
 -- What a frozen flow has, and what one that rises.
-use Rattle.std.proofs.Common.{◌≡◌, ℕ, ◌⊎◌, inl, inr, Option, Some, None, IsSome, refl, sym, ap, subst, ◌∙◌}
+use Rattle.fair_rates.proofs.Common.{◌≡◌, ℕ, ◌⊎◌, inl, inr, Option, Some, None, IsSome, refl, sym, ap, subst, ◌∙◌}
+use Rattle.fair_rates.proofs.Common.{unwrap_or, at_level, Error}
 use Rattle.std.specs.Option.{ok_or}
-use Rattle.std.specs.Prelude.{OnOk, OnSome, Result, Ok, Err, IfErr, IsErrAnd, unwrap_or, IfSome, MatchOption}
-use Rattle.fair_rates.specs.Filling.States.{at_level}
-use Rattle.fair_rates.specs.declared.error.Error.{Error}
+use Rattle.std.specs.Prelude.{OnOk, OnSome, Result, Ok, Err, IfErr, IsErrAnd, IfSome, MatchOption}
 
 pub none_or_some : {X : Type 0} (o : Option X) → (o ≡ None) ⊎ ((x : X) × (o ≡ Some x))
 none_or_some None = inl refl

@@ -1,15 +1,12 @@
 -- The scale grows: all that is kept is so many times what it was.
-use Rattle.std.proofs.Common.{◌≡◌, ℕ, ◌*◌, ◌<◌, ◌≤◌, inl, inr, List, [], ◌∷◌, ◌++◌, length, All, Contains, sum_by}
-use Rattle.std.proofs.Common.{Option, Some, None, IsSome, refl, sym, ap, subst, ◌∙◌, arith, mul-le-mul_right}
-use Rattle.std.specs.Prelude.{IsPermutation, option_map, unwrap_or}
-use Rattle.std.specs.declared.cmp.Reverse.{Reverse}
-use Rattle.std.proofs.lemmas.List.Elements.{All-cons, All-push, All-weaker, All-contains, All-contains_itself}
-use Rattle.std.proofs.lemmas.List.Elements.{Contains-append_left, Contains-push}
-use Rattle.std.proofs.lemmas.List.Sorted.{All-permutation, Contains-permutation}
-use Rattle.fair_rates.specs.Fairness.Fair.{Side, load}
-use Rattle.fair_rates.specs.Filling.States.{at_level, AllRise, HaveNoMore, KeepsAccount, IsOpen, IsCovered, IsQueue}
-use Rattle.fair_rates.specs.Filling.States.{IsGrown, AreGrown}
-use Rattle.fair_rates.specs.declared.bandwidth.filling.open.OpenSide.{OpenSide}
+use Rattle.fair_rates.proofs.Common.{◌≡◌, ℕ, ◌*◌, ◌<◌, ◌≤◌, inl, inr, List, [], ◌∷◌, ◌++◌, length, All, Contains}
+use Rattle.fair_rates.proofs.Common.{sum_by, Option, Some, None, IsSome, refl, sym, ap, subst, ◌∙◌, arith}
+use Rattle.fair_rates.proofs.Common.{mul-le-mul_right, IsPermutation, option_map, unwrap_or, Reverse, All-cons}
+use Rattle.fair_rates.proofs.Common.{All-push, All-weaker, All-contains, Contains-append_left, Contains-push}
+use Rattle.fair_rates.proofs.Common.{All-permutation, Contains-permutation, Side, load, at_level, AllRise, HaveNoMore}
+use Rattle.fair_rates.proofs.Common.{KeepsAccount, IsOpen, IsCovered, IsQueue, AreGrown, OpenSide}
+use Rattle.std.proofs.lemmas.List.Elements.{All-contains_itself}
+use Rattle.fair_rates.specs.Filling.States.{IsGrown}
 use Rattle.fair_rates.proofs.Lists.SumOrder.{sum_by-scaled}
 use Rattle.fair_rates.proofs.Filling.States.{IsFilledTo}
 use Rattle.fair_rates.proofs.Lists.Sums.{sum_by_same}

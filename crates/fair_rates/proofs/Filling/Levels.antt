@@ -1,16 +1,16 @@
 -- The levels so far: different, rising, each of some frozen flow.
-use Rattle.std.proofs.Common.{◌≡◌, ℕ, ◌+◌, ◌-◌, ◌*◌, ◌<◌, ◌≤◌, ◌⊎◌, inl, inr, List, [], ◌∷◌, ◌++◌, length, get_or, map}
-use Rattle.std.proofs.Common.{set, take, All, AllPairs, Contains, Option, Some, None, IfSome, refl, sym, ap, subst, ◌∙◌}
-use Rattle.std.proofs.Common.{arith, length-append, get_or-set_other, get_or-set_same}
-use Rattle.std.specs.Prelude.{option_map, slice_index}
+use Rattle.fair_rates.proofs.Common.{◌≡◌, ℕ, ◌+◌, ◌-◌, ◌*◌, ◌<◌, ◌≤◌, ◌⊎◌, inl, inr, List, [], ◌∷◌, ◌++◌, length}
+use Rattle.fair_rates.proofs.Common.{get_or, map, set, take, All, AllPairs, Contains, Option, Some, None, IfSome, refl}
+use Rattle.fair_rates.proofs.Common.{sym, ap, subst, ◌∙◌, arith, length-append, option_map, slice_index, cases_eq}
+use Rattle.fair_rates.proofs.Common.{cases_lt, get_or-map, get_or_default, get_or_past, get_or_append_left, length-map}
+use Rattle.fair_rates.proofs.Common.{All-push, All-weaker, All-contains, Contains-push, Contains-append_left, level_at}
+use Rattle.fair_rates.proofs.Common.{frozen_at, top, IsRaised, AreAtTop}
+use Rattle.std.proofs.Common.{get_or-set_other, get_or-set_same}
 use Rattle.std.proofs.Math.ListN.{get_or-map as get_or_map}
 use Rattle.std.proofs.Math.Nat.{mul-lt-mul_of_pos_right}
-use Rattle.std.proofs.lemmas.Bool.{cases_eq, cases_lt}
-use Rattle.std.proofs.lemmas.List.{take_more, get_or-map, get_or_default, get_or_past, get_or_append_left, length-map}
-use Rattle.std.proofs.lemmas.List.Elements.{All-push, All-weaker, All-contains, Contains-push, Contains-append_left}
+use Rattle.std.proofs.lemmas.List.{take_more}
 use Rattle.std.proofs.lemmas.List.Quantifiers.{all_pairs_push}
-use Rattle.fair_rates.specs.Filling.FairParts.{level_at}
-use Rattle.fair_rates.specs.Filling.States.{frozen_at, top, AreInside, IsRaised, AreAtTop}
+use Rattle.fair_rates.specs.Filling.States.{AreInside}
 use Rattle.fair_rates.proofs.Filling.Course.{Freezes}
 use Rattle.fair_rates.proofs.Filling.Frozen.{some_of_if}
 use Rattle.fair_rates.proofs.Filling.Growing.{AreScaled}

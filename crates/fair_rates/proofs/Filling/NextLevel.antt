@@ -1,10 +1,8 @@
 -- Over parts, the least of what the sides have left for each of their rising users is the next level.
-use Rattle.std.proofs.Common.{◌≡◌, ℕ, ◌+◌, ◌-◌, ◌*◌, ◌<◌, ◌≤◌, cond, List, [], ◌∷◌, All, Contains, sum_by, count_by, ap}
-use Rattle.std.proofs.Common.{◌∙◌, arith, le_of_mul-le-mul_right, Option, Some, None, is_none}
-use Rattle.std.specs.Prelude.{unwrap_or}
-use Rattle.std.proofs.lemmas.List.Elements.{All-contains}
-use Rattle.std.proofs.lemmas.List.Sums.{sum_by-cons}
-use Rattle.fair_rates.specs.Fairness.Fair.{Side, load, IsWithinCaps}
+use Rattle.fair_rates.proofs.Common.{◌≡◌, ℕ, ◌+◌, ◌-◌, ◌*◌, ◌<◌, ◌≤◌, cond, List, [], ◌∷◌, All, Contains, sum_by}
+use Rattle.fair_rates.proofs.Common.{count_by, ap, ◌∙◌, arith, Option, Some, None, unwrap_or, All-contains, sum_by-cons}
+use Rattle.fair_rates.proofs.Common.{Side, load, IsWithinCaps}
+use Rattle.std.proofs.Common.{le_of_mul-le-mul_right, is_none}
 use Rattle.fair_rates.proofs.Lists.SumOrder.{All-from_contains}
 
 -- what each flow has: the parts at which it is frozen, or else the level

@@ -1,25 +1,19 @@
 -- The queue of open sides, as the one with the least share is taken out and another put in.
-use Rattle.std.proofs.Common.{◌≡◌, ℕ, ◌*◌, ◌<◌, ◌≤◌, ◌⊎◌, inl, inr, List, [], ◌∷◌, ◌++◌, length, map, All, Contains}
-use Rattle.std.proofs.Common.{Option, refl, sym, subst, arith}
-use Rattle.std.specs.Prelude.{IsPermutation}
-use Rattle.std.specs.BinaryHeap.{IsUpperBound, IsHeap}
+use Rattle.fair_rates.proofs.Common.{◌≡◌, ℕ, ◌*◌, ◌<◌, ◌≤◌, ◌⊎◌, inl, inr, List, [], ◌∷◌, ◌++◌, length, map, All}
+use Rattle.fair_rates.proofs.Common.{Contains, Option, refl, sym, subst, arith, IsPermutation, IsHeap, nat_cmp, is_lt}
+use Rattle.fair_rates.proofs.Common.{Less, Reverse, cases_lt, All-nil, All-head, All-tail, All-cons, All-push}
+use Rattle.fair_rates.proofs.Common.{All-weaker, All-contains, Contains-append_left, Contains-append_right}
+use Rattle.fair_rates.proofs.Common.{Contains-push, All-permutation, Contains-permutation, IsPermutation-refl}
+use Rattle.fair_rates.proofs.Common.{IsPermutation-sym, Side, AllFrozen, KeepsAccount, IsOpen, IsCovered, IsQueue}
+use Rattle.fair_rates.proofs.Common.{IsShareQueue, HaveNoMore, AreAbove, IsWithinSlack, AllFilled, AreOpened, queue_cmp}
+use Rattle.fair_rates.proofs.Common.{side_of, OpenSide}
+use Rattle.std.specs.BinaryHeap.{IsUpperBound}
 use Rattle.std.specs.Cmp.{nat_cmp_is}
-use Rattle.std.specs.Ordering.{nat_cmp, is_lt}
-use Rattle.std.specs.declared.cmp.Ordering.TheVariants.{Less}
-use Rattle.std.specs.declared.cmp.Reverse.{Reverse}
 use Rattle.std.specs.Prelude.{false}
-use Rattle.std.proofs.lemmas.Bool.{cases_lt}
 use Rattle.std.proofs.lemmas.List.{map_push}
-use Rattle.std.proofs.lemmas.List.Elements.{All-nil, All-head, All-tail, All-cons, All-push, All-from_recursion}
-use Rattle.std.proofs.lemmas.List.Elements.{All-weaker, All-contains, Contains-append_left, Contains-append_right}
-use Rattle.std.proofs.lemmas.List.Elements.{Contains-append_cases, Contains-push, Contains-push_cases}
-use Rattle.std.proofs.lemmas.List.Sorted.{All-permutation, Contains-permutation}
-use Rattle.std.proofs.lemmas.List.Sorted.{IsPermutation-refl, IsPermutation-sym, IsPermutation-push_more}
-use Rattle.fair_rates.specs.Fairness.Fair.{Side}
-use Rattle.fair_rates.specs.Filling.States.{AllFrozen, KeepsAccount, IsOpen, IsCovered, IsQueue, IsShareQueue}
-use Rattle.fair_rates.specs.Filling.States.{HaveNoMore, AreAbove, IsWithinSlack, AllFilled, AreOpened, queue_cmp}
-use Rattle.fair_rates.specs.Sides.SideOf.{side_of}
-use Rattle.fair_rates.specs.declared.bandwidth.filling.open.OpenSide.{OpenSide}
+use Rattle.std.proofs.lemmas.List.Elements.{All-from_recursion}
+use Rattle.std.proofs.lemmas.List.Elements.{Contains-append_cases, Contains-push_cases}
+use Rattle.std.proofs.lemmas.List.Sorted.{IsPermutation-push_more}
 use Rattle.fair_rates.specs.declared.bandwidth.sides.Side as declared
 use Rattle.fair_rates.proofs.Filling.Account.{account_start}
 use Rattle.fair_rates.proofs.Lists.SumOrder.{All-from_contains}

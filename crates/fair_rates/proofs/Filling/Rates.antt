@@ -1,23 +1,15 @@
 -- The fair parts of the flows as rates.
-use Rattle.std.proofs.Common.{◌≡◌, ◌≢◌, ℕ, ◌<◌, inl, inr, List, [], ◌∷◌, ◌++◌, length, get_or, AllPairs, Contains}
-use Rattle.std.proofs.Common.{Option, Some, None, refl, sym, subst, ap, ◌∙◌, arith, length-append}
-use Rattle.std.proofs.Math.Nat.{eq_of_mul-eq-mul_right}
-use Rattle.std.proofs.lemmas.Bool.{cases_eq, cases_lt}
-use Rattle.std.proofs.lemmas.List.{get_or_push, get_or_past, get_or_append_left}
-use Rattle.fair_rates.specs.Numbers.Amount.{parts_over}
-use Rattle.fair_rates.specs.Fairness.Fair.{Side}
-use Rattle.fair_rates.specs.Filling.FairParts.{level_at, parts_of_level, flow_parts, IsRateAt, AreRatesAt}
+use Rattle.fair_rates.proofs.Common.{◌≡◌, ◌≢◌, ℕ, ◌<◌, inl, inr, List, [], ◌∷◌, ◌++◌, length, get_or, AllPairs}
+use Rattle.fair_rates.proofs.Common.{Contains, Option, Some, None, refl, sym, subst, ap, ◌∙◌, arith, length-append}
+use Rattle.fair_rates.proofs.Common.{eq_of_mul-eq-mul_right, cases_eq, cases_lt, get_or_past, get_or_append_left}
+use Rattle.fair_rates.proofs.Common.{parts_over, Side, level_at, flow_parts, IsRateAt, ReducedFits, whole_IsReduced}
+use Rattle.fair_rates.proofs.Common.{IsWorth, IsRateOf, AreFairRates, HasDifferentRates, HasLargeRate, Rate, Finite}
+use Rattle.fair_rates.proofs.Common.{Ratio}
+use Rattle.std.proofs.lemmas.List.{get_or_push}
+use Rattle.fair_rates.specs.Filling.FairParts.{parts_of_level, AreRatesAt}
 use Rattle.fair_rates.specs.Filling.FairParts.{HasLargeLevel}
 use Rattle.fair_rates.specs.Filling.States.{AreFilled}
-use Rattle.fair_rates.specs.Numbers.Fits.{ReducedFits}
-use Rattle.fair_rates.specs.Numbers.LowestTerms.{whole_IsReduced}
-use Rattle.fair_rates.specs.Numbers.Ratio.{IsWorth}
-use Rattle.fair_rates.specs.Fairness.Rates.{IsRateOf, AreFairRates, HasDifferentRates}
-use Rattle.fair_rates.specs.Refusals.TooLarge.{HasLargeRate}
-use Rattle.fair_rates.specs.declared.bandwidth.Rate.{Rate}
-use Rattle.fair_rates.specs.declared.bandwidth.Rate.TheVariants.{Finite}
 use Rattle.fair_rates.specs.declared.bandwidth.parts.FairParts.{FairParts}
-use Rattle.fair_rates.specs.declared.ratio.Ratio.{Ratio}
 use Rattle.fair_rates.proofs.Filling.Frozen.{not_some, some_is}
 
 zero_ratio : Ratio

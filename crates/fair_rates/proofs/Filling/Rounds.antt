@@ -1,9 +1,7 @@
 -- Filling keeps its state, round by round, and ends in a fair allocation.
-use Rattle.std.proofs.Common.{◌≡◌, ℕ, ◌*◌, ◌<◌, ◌≤◌, inl, inr, List, Contains, sym, ◌∙◌, arith, Option, None, IsSome}
-use Rattle.std.proofs.lemmas.List.Elements.{All-contains}
-use Rattle.fair_rates.specs.Fairness.Fair.{Side, load, IsLimited, IsFair}
+use Rattle.fair_rates.proofs.Common.{◌≡◌, ℕ, ◌*◌, ◌<◌, ◌≤◌, inl, inr, List, Contains, sym, ◌∙◌, arith, Option, None}
+use Rattle.fair_rates.proofs.Common.{IsSome, All-contains, Side, load, IsLimited, IsFair, at_level}
 use Rattle.fair_rates.proofs.Filling.Frozen.{none_or_some, some_value, some_is, at_some, at_none, at_any}
-use Rattle.fair_rates.specs.Filling.States.{at_level}
 use Rattle.fair_rates.proofs.Filling.States.{IsHeld, IsFilledTo, IsNextRound}
 use Rattle.fair_rates.proofs.Lists.Sums.{sum_by_same, sum_by-zero}
 use Rattle.fair_rates.proofs.Lists.SumOrder.{All-from_contains}

@@ -1,20 +1,18 @@
 -- What holds between two rounds, how a round keeps it, and what it gives at the end.
-use Rattle.std.proofs.Common.{◌≡◌, ℕ, ◌*◌, ◌/◌, ◌^◌, ◌<◌, ◌≤◌, inl, inr, List, [], ◌∷◌, length, get_or, map, All}
-use Rattle.std.proofs.Common.{AllPairs, Contains, Option, Some, None, IsSome, IfSome, refl, sym, ap, subst, arith}
-use Rattle.std.proofs.Common.{mul-le-mul_right, le_of_mul-le-mul_right}
-use Rattle.std.specs.Prelude.{◌↔◌, option_map, unwrap_or, slice_index, replicate}
-use Rattle.std.specs.BinaryHeap.{IsHeap}
-use Rattle.std.specs.declared.cmp.Reverse.{Reverse}
-use Rattle.std.proofs.Math.Nat.{mul-pos}
-use Rattle.std.proofs.lemmas.Bool.{cases_lt}
-use Rattle.std.proofs.lemmas.List.{get_or-replicate, length-map, length-replicate, get_or_past}
-use Rattle.std.proofs.lemmas.List.Elements.{All-head, All-weaker, All-contains, All-replicate}
-use Rattle.fair_rates.specs.Fairness.Fair.{Side, IsLimited, IsFair}
-use Rattle.fair_rates.specs.Filling.FairParts.{level_at, parts_of_level, flow_parts}
-use Rattle.fair_rates.specs.Filling.States.{frozen_at, at_level, top, AllRise, AllFrozen, AreInside, IsRaised, AreAtTop}
-use Rattle.fair_rates.specs.Filling.States.{IsWithinSlack, HaveNoMore, IsQueue, IsShareQueue, AreAbove, IsLeast}
-use Rattle.fair_rates.specs.Filling.States.{AllFilled, AreGrown, queue_cmp}
-use Rattle.fair_rates.specs.declared.bandwidth.filling.open.OpenSide.{OpenSide}
+use Rattle.fair_rates.proofs.Common.{◌≡◌, ℕ, ◌*◌, ◌/◌, ◌^◌, ◌<◌, ◌≤◌, inl, inr, List, [], ◌∷◌, length, get_or, map, All}
+use Rattle.fair_rates.proofs.Common.{AllPairs, Contains, Option, Some, None, IsSome, IfSome, refl, sym, ap, subst}
+use Rattle.fair_rates.proofs.Common.{arith, mul-le-mul_right, option_map, unwrap_or, slice_index, IsHeap, Reverse}
+use Rattle.fair_rates.proofs.Common.{mul-pos, cases_lt, length-map, get_or_past, All-head, All-weaker, All-contains}
+use Rattle.fair_rates.proofs.Common.{Side, IsLimited, IsFair, level_at, flow_parts, frozen_at, at_level, top, AllRise}
+use Rattle.fair_rates.proofs.Common.{AllFrozen, IsRaised, AreAtTop, IsWithinSlack, HaveNoMore, IsQueue, IsShareQueue}
+use Rattle.fair_rates.proofs.Common.{AreAbove, AllFilled, AreGrown, queue_cmp, OpenSide}
+use Rattle.std.proofs.Common.{le_of_mul-le-mul_right}
+use Rattle.std.specs.Prelude.{◌↔◌, replicate}
+use Rattle.std.proofs.lemmas.List.{get_or-replicate, length-replicate}
+use Rattle.std.proofs.lemmas.List.Elements.{All-replicate}
+use Rattle.fair_rates.specs.Filling.FairParts.{parts_of_level}
+use Rattle.fair_rates.specs.Filling.States.{AreInside}
+use Rattle.fair_rates.specs.Filling.States.{IsLeast}
 use Rattle.fair_rates.proofs.Filling.Account.{risers_have_no_more}
 use Rattle.fair_rates.proofs.Filling.Course.{Freezes, queue_on, no_more_on, filled_on, share_within}
 use Rattle.fair_rates.proofs.Filling.Frozen.{none_or_some}

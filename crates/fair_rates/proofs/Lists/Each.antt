@@ -1,8 +1,8 @@
 -- A property of each element of a list, by recursion.
-use Rattle.std.proofs.Common.{◌≡◌, ℕ, zero, suc, List, [], ◌∷◌, ◌++◌, Bool, true, false, cond, Some, All, refl, subst}
-use Rattle.std.specs.Prelude.{⊤, slice_get}
-use Rattle.std.proofs.lemmas.List.Elements.{All-cons, All-nil, All-head, All-tail}
-use Rattle.std.specs.List.{filter, find}
+use Rattle.fair_rates.proofs.Common.{◌≡◌, ℕ, zero, suc, List, [], ◌∷◌, ◌++◌, Bool, true, false, cond, Some, All, refl}
+use Rattle.fair_rates.proofs.Common.{subst, slice_get, All-cons, All-nil, All-head, All-tail, filter}
+use Rattle.std.specs.Prelude.{⊤}
+use Rattle.std.specs.List.{find}
 use Rattle.fair_rates.specs.Lists.WithoutFirst.{without_first}
 
 -- Q holds of each

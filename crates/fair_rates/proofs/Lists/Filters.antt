@@ -1,7 +1,8 @@
 -- What a filter keeps, and what is found.
-use Rattle.std.proofs.Common.{◌≡◌, suc, ◌≤◌, List, [], ◌∷◌, length, Bool, true, false, cond, Some, None, refl, arith}
+use Rattle.fair_rates.proofs.Common.{◌≡◌, suc, ◌≤◌, List, [], ◌∷◌, length, Bool, true, false, cond, Some, None, refl}
+use Rattle.fair_rates.proofs.Common.{arith, filter, list_any}
 use Rattle.std.specs.Prelude.{◌||◌}
-use Rattle.std.specs.List.{filter, find, list_any}
+use Rattle.std.specs.List.{find}
 use Rattle.fair_rates.specs.Lists.WithoutFirst.{without_first}
 
 pub filter_swap : {X : Type 0} (f g : X → Bool) (xs : List X) → filter f (filter g xs) ≡ filter g (filter f xs)

@@ -1,8 +1,7 @@
 -- A loop that changes a list in place, element by element.
-use Rattle.std.proofs.Common.{◌≡◌, ℕ, ◌+◌, ◌<◌, ◌≤◌, List, [], ◌∷◌, ◌++◌, length, get_or, set, refl, sym, ◌∙◌, ap}
-use Rattle.std.proofs.Common.{subst, arith, append_assoc}
-use Rattle.std.specs.List.{AllZip}
-use Rattle.std.proofs.lemmas.List.{length-append, append-nil}
+use Rattle.fair_rates.proofs.Common.{◌≡◌, ℕ, ◌+◌, ◌<◌, ◌≤◌, List, [], ◌∷◌, ◌++◌, length, get_or, set, refl, sym, ◌∙◌}
+use Rattle.fair_rates.proofs.Common.{ap, subst, arith, append_assoc, AllZip, append-nil}
+use Rattle.std.proofs.lemmas.List.{length-append}
 use Rattle.fair_rates.proofs.Lists.Sorted.{get_or-seam, set-seam}
 use Rattle.fair_rates.proofs.Lists.Zips.{zip-push}
 

@@ -1,18 +1,17 @@
 -- Lists in the order of keys: what a search finds, and what the entry of a key says after a change.
-use Rattle.std.proofs.Common.{◌≡◌, ℕ, zero, suc, ◌+◌, ◌<◌, ◌≤◌, Bool, true, false, if◌then◌else◌, ◌&&◌, List, [], ◌∷◌}
-use Rattle.std.proofs.Common.{◌++◌, length, map, get_or, take, drop, set, Result, Ok, Err, IfOk, IfErr, refl, sym, ◌∙◌}
-use Rattle.std.proofs.Common.{ap, subst, arith}
-use Rattle.std.specs.List.{list_all, insert, HoldsAt, AllWithin}
+use Rattle.fair_rates.proofs.Common.{◌≡◌, ℕ, zero, suc, ◌+◌, ◌<◌, ◌≤◌, Bool, true, false, ◌&&◌, List, [], ◌∷◌, ◌++◌}
+use Rattle.fair_rates.proofs.Common.{length, map, get_or, take, drop, set, Result, Ok, Err, IfErr, refl, sym, ◌∙◌, ap}
+use Rattle.fair_rates.proofs.Common.{subst, arith, list_all, insert, Ordering, Less, Equal, Greater, is_lt, is_eq}
+use Rattle.fair_rates.proofs.Common.{IsTotalOrder, map-append, and_from, IsGap}
+use Rattle.std.proofs.Common.{if◌then◌else◌}
+use Rattle.std.proofs.Common.{IfOk}
+use Rattle.std.specs.List.{HoldsAt, AllWithin}
 use Rattle.std.specs.List.Sorted.{IsSearchInRange, IsBinarySearchResult, IsNonDecreasingBy, IsPartitionPoint}
-use Rattle.std.specs.declared.cmp.Ordering.{Ordering}
-use Rattle.std.specs.declared.cmp.Ordering.TheVariants.{Less, Equal, Greater}
-use Rattle.std.specs.Ordering.{is_lt, is_eq, is_gt, ordering_index}
-use Rattle.std.specs.Cmp.{IsTotalOrder}
+use Rattle.std.specs.Ordering.{is_gt, ordering_index}
 use Rattle.std.proofs.lemmas.Cmp.{tied_itself, tied_back, alike_right}
-use Rattle.std.proofs.lemmas.List.{take-append-drop, get_or-drop, length-drop, map-append}
-use Rattle.std.proofs.lemmas.Bool.{and_from}
+use Rattle.std.proofs.lemmas.List.{take-append-drop, get_or-drop, length-drop}
 use Rattle.fair_rates.proofs.Lists.Booleans.{by_bool, first_of_both, second_of_both}
-use Rattle.fair_rates.specs.Lists.Sorted.{are_ascending, value_at, IsPlace, IsGap}
+use Rattle.fair_rates.specs.Lists.Sorted.{are_ascending, value_at, IsPlace}
 
 -- ---- tests
 

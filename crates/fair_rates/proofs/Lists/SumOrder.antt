@@ -1,10 +1,10 @@
 -- Sums of two amounts over one list.
-use Rattle.std.proofs.Common.{◌≡◌, ℕ, zero, suc, ◌+◌, ◌*◌, ◌<◌, ◌≤◌, ◌⊎◌, inl, inr, List, [], ◌∷◌, length, get_or, All}
-use Rattle.std.proofs.Common.{Contains, sum_by, refl, sym, subst, arith, le_refl, add-mul}
-use Rattle.std.proofs.lemmas.Bool.{cases_lt}
-use Rattle.std.proofs.lemmas.List.Elements.{All-cons, All-head, All-tail, All-nil, Contains-append_left}
-use Rattle.std.proofs.lemmas.List.Elements.{Contains-append_right, Contains-get_or}
-use Rattle.std.proofs.lemmas.List.Sums.{sum_by-cons}
+use Rattle.fair_rates.proofs.Common.{◌≡◌, ℕ, zero, suc, ◌+◌, ◌*◌, ◌<◌, ◌≤◌, ◌⊎◌, inl, inr, List, [], ◌∷◌, length}
+use Rattle.fair_rates.proofs.Common.{get_or, All, Contains, sum_by, refl, sym, subst, arith, le_refl, cases_lt}
+use Rattle.fair_rates.proofs.Common.{All-cons, All-head, All-tail, All-nil, Contains-append_left, Contains-append_right}
+use Rattle.fair_rates.proofs.Common.{sum_by-cons}
+use Rattle.std.proofs.Common.{add-mul}
+use Rattle.std.proofs.lemmas.List.Elements.{Contains-get_or}
 
 -- what each member has, all elements have
 pub All-from_contains : {X : Type 0} (P : X → Type 0) (xs : List X) → ((x : X) → Contains xs x → P x) → All P xs

@@ -1,6 +1,6 @@
 -- Lists that match element by element.
-use Rattle.std.proofs.Common.{◌≡◌, suc, List, [], ◌∷◌, ◌++◌, length, Bool, true, false, cond, refl, ap}
-use Rattle.std.specs.List.{filter, AllZip}
+use Rattle.fair_rates.proofs.Common.{◌≡◌, suc, List, [], ◌∷◌, ◌++◌, length, Bool, true, false, cond, refl, ap, filter}
+use Rattle.fair_rates.proofs.Common.{AllZip}
 
 pub zip-length : {X Y : Type 0} (R : X → Y → Type 0) (xs : List X) (ys : List Y) → AllZip R xs ys
     → length xs ≡ length ys

@@ -1,12 +1,10 @@
 -- Draining splits, and leaves nothing exactly where the time covers what is left.
-use Rattle.std.proofs.Common.{◌≡◌, ℕ, zero, suc, ◌+◌, ◌-◌, ◌*◌, ◌<◌, ◌≤◌, ◌↔◌, refl, sym, ap, ◌∙◌, arith}
-use Rattle.std.proofs.Common.{mul-le-mul_right}
-use Rattle.std.proofs.Math.Nat.{mul_comm, mul-sub, mul-pos, mul-zero}
-use Rattle.fair_rates.specs.Numbers.Amount.{Amount, reduced, drained, billion, Covers, IsLeastTime}
-use Rattle.fair_rates.specs.Numbers.Ratio.{amount_of}
+use Rattle.fair_rates.proofs.Common.{◌≡◌, ℕ, zero, suc, ◌+◌, ◌-◌, ◌*◌, ◌<◌, ◌≤◌, ◌↔◌, refl, sym, ap, ◌∙◌, arith}
+use Rattle.fair_rates.proofs.Common.{mul-le-mul_right, mul-sub, mul-pos, Amount, reduced, billion, Covers, amount_of}
+use Rattle.fair_rates.proofs.Common.{Rate, Unlimited, Finite}
+use Rattle.std.proofs.Math.Nat.{mul_comm, mul-zero}
+use Rattle.fair_rates.specs.Numbers.Amount.{drained, IsLeastTime}
 use Rattle.fair_rates.specs.Numbers.Draining.{left_after}
-use Rattle.fair_rates.specs.declared.bandwidth.Rate.{Rate}
-use Rattle.fair_rates.specs.declared.bandwidth.Rate.TheVariants.{Unlimited, Finite}
 use Rattle.fair_rates.specs.Numbers.LowestTerms.{IsScaled, reduced_alike, reduced_scaled, reduced_scales}
 use Rattle.fair_rates.specs.Numbers.LowestTerms.{reduced_positive}
 

@@ -1,18 +1,17 @@
 -- What the arithmetic of fractions computes over a common denominator, and when it fits.
-use Prim.Native.Nat.{◌∣◌}
-use Rattle.std.proofs.Common.{◌≡◌, ℕ, zero, suc, ◌+◌, ◌-◌, ◌*◌, ◌/◌, ◌^◌, ◌<◌, ◌≤◌, ◌↔◌}
-use Rattle.std.proofs.Common.{Option, Some, None, IsSome, refl, sym, ap, ◌∙◌, subst, arith, mul-le-mul_left}
+use Rattle.fair_rates.proofs.Common.{◌∣◌, ◌≡◌, ℕ, zero, suc, ◌+◌, ◌-◌, ◌*◌, ◌/◌, ◌^◌, ◌<◌, ◌≤◌, ◌↔◌, Option, Some, None}
+use Rattle.fair_rates.proofs.Common.{IsSome, refl, sym, ap, ◌∙◌, subst, arith, mul-pos, mul-sub, mul-div_cancel'}
+use Rattle.fair_rates.proofs.Common.{dvd-mul_left, Amount, AreEqual, reduced, gcd, ReducedFits, IsReduced, amount_of}
+use Rattle.fair_rates.proofs.Common.{IsWorth, Ratio, gcd-IsGcd, gcd-pos, reduced_lowest}
+use Rattle.std.proofs.Common.{mul-le-mul_left}
 use Rattle.std.specs.Int.{IsGcd}
-use Rattle.std.proofs.Math.Nat.{mul_assoc, mul-pos, mul-sub, div_self, mul-div_cancel', dvd-mul_left}
+use Rattle.std.proofs.Math.Nat.{mul_assoc, div_self}
 use Rattle.std.proofs.Math.Nat.{le_of_mul-le-mul_left}
-use Rattle.fair_rates.specs.Numbers.Amount.{Amount, AreEqual, plus, minus, reduced, gcd}
+use Rattle.fair_rates.specs.Numbers.Amount.{plus, minus}
 use Rattle.fair_rates.specs.Numbers.Fits.{raised_numerator, other_raised_numerator, least_common, AreOverCommon}
-use Rattle.fair_rates.specs.Numbers.Fits.{CommonFits, ReducedFits}
-use Rattle.fair_rates.specs.Numbers.Fraction.{IsReduced}
-use Rattle.fair_rates.specs.Numbers.Ratio.{amount_of, IsWorth}
-use Rattle.fair_rates.specs.declared.ratio.Ratio.{Ratio}
-use Rattle.fair_rates.specs.Numbers.Gcd.{gcd-IsGcd, gcd-pos, gcd-self}
-use Rattle.fair_rates.specs.Numbers.LowestTerms.{reduced_alike, reduced_scaled, reduced_worth, reduced_lowest}
+use Rattle.fair_rates.specs.Numbers.Fits.{CommonFits}
+use Rattle.fair_rates.specs.Numbers.Gcd.{gcd-self}
+use Rattle.fair_rates.specs.Numbers.LowestTerms.{reduced_alike, reduced_scaled, reduced_worth}
 use Rattle.fair_rates.specs.Numbers.LowestTerms.{coprime_parts, IsReduced-part, IsReduced-swap, IsReduced-mul}
 
 -- what is an amount in lowest terms has its value

@@ -1,12 +1,10 @@
 -- The least time: there is one, and the least whole number of nanoseconds that is not below the quotient is it.
-use Rattle.std.proofs.Common.{◌≡◌, ℕ, zero, suc, ◌*◌, ◌<◌, ◌≤◌, ◌↔◌, inl, inr, arith, mul-le-mul_right}
-use Rattle.std.proofs.Math.Nat.{mul-pos, lt_of_mul-lt-mul_right, le-mul_of_pos_right, le_of_mul-le-mul_right}
-use Rattle.std.proofs.lemmas.Bool.{cases_lt}
-use Rattle.fair_rates.specs.Numbers.Amount.{Amount, AreEqual, whole, times, billion, Covers, IsLeastTime}
-use Rattle.fair_rates.specs.Numbers.Fits.{ReducedFits}
+use Rattle.fair_rates.proofs.Common.{◌≡◌, ℕ, zero, suc, ◌*◌, ◌<◌, ◌≤◌, ◌↔◌, inl, inr, arith, mul-le-mul_right, mul-pos}
+use Rattle.fair_rates.proofs.Common.{lt_of_mul-lt-mul_right, le_of_mul-le-mul_right, cases_lt, Amount, AreEqual, times}
+use Rattle.fair_rates.proofs.Common.{billion, Covers, ReducedFits, amount_of, IsWorth, Ratio}
+use Rattle.std.proofs.Math.Nat.{le-mul_of_pos_right}
+use Rattle.fair_rates.specs.Numbers.Amount.{whole, IsLeastTime}
 use Rattle.fair_rates.specs.Numbers.Draining.{seconds}
-use Rattle.fair_rates.specs.Numbers.Ratio.{amount_of, IsWorth}
-use Rattle.fair_rates.specs.declared.ratio.Ratio.{Ratio}
 use Rattle.fair_rates.proofs.Numbers.EqualAmounts.{equal_sym, equal_trans, equal_if_same, equal_fits, times_equal}
 
 above : (n k l u : ℕ) → n * u < l → l ≤ k * u → suc n ≤ k

@@ -1,13 +1,12 @@
 -- What the code takes off, and what it leaves: it drains as meant, and fits where that fits.
-use Rattle.std.proofs.Common.{◌≡◌, ℕ, ◌-◌, ◌*◌, ◌<◌, ◌≤◌, ◌↔◌, ◌⊎◌, inl, inr, Option, Some, None, IfSome, refl, sym, ap}
-use Rattle.std.proofs.Common.{◌∙◌, subst, arith}
-use Rattle.std.proofs.Common.{mul-le-mul_right}
-use Rattle.std.proofs.Math.Nat.{zero-mul, mul-zero, mul-sub, mul_comm, mul-pos, le_of_mul-le-mul_right}
-use Rattle.fair_rates.specs.Numbers.Amount.{Amount, AreEqual, whole, minus, times, reduced, drained, billion, Covers}
-use Rattle.fair_rates.specs.Numbers.Fits.{ReducedFits, DifferenceFits}
+use Rattle.fair_rates.proofs.Common.{◌≡◌, ℕ, ◌-◌, ◌*◌, ◌<◌, ◌≤◌, ◌↔◌, ◌⊎◌, inl, inr, Option, Some, None, IfSome, refl}
+use Rattle.fair_rates.proofs.Common.{sym, ap, ◌∙◌, subst, arith, mul-le-mul_right, mul-sub, mul-pos}
+use Rattle.fair_rates.proofs.Common.{le_of_mul-le-mul_right, Amount, AreEqual, times, reduced, billion, Covers}
+use Rattle.fair_rates.proofs.Common.{ReducedFits, amount_of, IsWorth, Ratio}
+use Rattle.std.proofs.Math.Nat.{zero-mul, mul-zero, mul_comm}
+use Rattle.fair_rates.specs.Numbers.Amount.{whole, minus, drained}
+use Rattle.fair_rates.specs.Numbers.Fits.{DifferenceFits}
 use Rattle.fair_rates.specs.Numbers.Draining.{transferred}
-use Rattle.fair_rates.specs.Numbers.Ratio.{amount_of, IsWorth}
-use Rattle.fair_rates.specs.declared.ratio.Ratio.{Ratio}
 use Rattle.fair_rates.proofs.Numbers.EqualAmounts.{equal_trans, equal_fits, times_equal}
 use Rattle.fair_rates.proofs.Numbers.Ratio.{worth_is_reduced}
 use Rattle.fair_rates.proofs.Numbers.Draining.{same_difference}

@@ -1,17 +1,12 @@
 -- A refusal in the words of what the closures answered.
-use Rattle.std.proofs.Common.{◌≡◌, inl, inr, ℕ, ◌+◌, ◌^◌, ◌<◌, ◌≤◌, Bool, true, false, cond, List, [], ◌∷◌, ◌++◌}
-use Rattle.std.proofs.Common.{length, map, All, AllPairs, Contains, Option, Some, None, refl, subst}
-use Rattle.std.specs.declared.cmp.Ordering.{Ordering}
-use Rattle.std.proofs.lemmas.List.Elements.{All-nil, All-cons, All-append, All-head, All-tail, All-weaker, All-contains}
+use Rattle.fair_rates.proofs.Common.{◌≡◌, inl, inr, ℕ, ◌+◌, ◌^◌, ◌<◌, ◌≤◌, Bool, true, false, cond, List, [], ◌∷◌, ◌++◌}
+use Rattle.fair_rates.proofs.Common.{length, map, All, AllPairs, Contains, Option, Some, None, refl, subst, Ordering}
+use Rattle.fair_rates.proofs.Common.{All-nil, All-cons, All-append, All-head, All-tail, All-weaker, All-contains}
+use Rattle.fair_rates.proofs.Common.{Answered, Calls, PairCalls, States, AnswerInOrder, side_of, Side, Ask, sent_by}
+use Rattle.fair_rates.proofs.Common.{received_by, sent_between, asks_of_one, asks_from, is_open, opened, sides_after}
+use Rattle.fair_rates.proofs.Common.{sides_of, FairRatesFit, HasLargeRate, IsTooLarge, Flow}
 use Rattle.std.proofs.lemmas.List.Elements.{All-contains_itself}
-use Rattle.fair_rates.specs.Sides.Answers.{Answered, Calls, PairCalls, States, AnswerInOrder}
-use Rattle.fair_rates.specs.Sides.SideOf.{side_of}
-use Rattle.fair_rates.specs.Fairness.Fair.{Side}
-use Rattle.fair_rates.specs.Sides.Subjects.{Ask, sent_by, received_by, sent_between, asks_of_one, asks_from, is_open}
-use Rattle.fair_rates.specs.Sides.Subjects.{opened, sides_after, sides_of}
-use Rattle.fair_rates.specs.Refusals.FairRatesFit.{FairRatesFit}
-use Rattle.fair_rates.specs.Refusals.TooLarge.{IsAnswer, HasLargeAnswer, HasLargeRate, IsTooLarge}
-use Rattle.fair_rates.specs.declared.bandwidth.Flow.{Flow}
+use Rattle.fair_rates.specs.Refusals.TooLarge.{IsAnswer, HasLargeAnswer}
 use Rattle.fair_rates.specs.declared.bandwidth.sides.Side as declared_side
 use Rattle.fair_rates.proofs.Refusals.Fitting.{large_does_not_fit}
 use Rattle.fair_rates.proofs.Refusals.Promise.{distinct_sides, users_below_sides, too_many_or_large}

@@ -1,16 +1,10 @@
 -- Where fair rates fit, each of them is a fraction of 128 bits.
-use Rattle.std.proofs.Common.{◌≡◌, ℕ, ◌*◌, ◌^◌, ◌<◌, ◌≤◌, inl, inr, List, All, sym, ap, subst, ◌∙◌, arith, lit<}
+use Rattle.fair_rates.proofs.Common.{◌≡◌, ℕ, ◌*◌, ◌^◌, ◌<◌, ◌≤◌, inl, inr, List, All, sym, ap, subst, ◌∙◌, arith}
+use Rattle.fair_rates.proofs.Common.{cases_lt, All-contains, get_or-le-sum_by, parts_over, reduced, Side}
+use Rattle.fair_rates.proofs.Common.{HaveUsersBelow, ReducedFits, reduced_same, FairRatesFit, HasLargeRate}
+use Rattle.std.proofs.Common.{lit<}
 use Rattle.std.proofs.Math.Nat.{lt_of_le_of_lt, mul-le-mul_left}
-use Rattle.std.proofs.lemmas.Bool.{cases_lt}
-use Rattle.std.proofs.lemmas.List.Elements.{All-contains}
-use Rattle.std.proofs.lemmas.List.Sums.{get_or-le-sum_by}
-use Rattle.fair_rates.specs.Numbers.Amount.{parts_over, reduced}
-use Rattle.fair_rates.specs.Fairness.Fair.{Side}
-use Rattle.fair_rates.specs.Fairness.Laws.{HaveUsersBelow}
-use Rattle.fair_rates.specs.Numbers.Fits.{ReducedFits}
-use Rattle.fair_rates.specs.Numbers.LowestTerms.{reduced_same, reduced_scales}
-use Rattle.fair_rates.specs.Refusals.FairRatesFit.{FairRatesFit}
-use Rattle.fair_rates.specs.Refusals.TooLarge.{HasLargeRate}
+use Rattle.fair_rates.specs.Numbers.LowestTerms.{reduced_scales}
 use Rattle.fair_rates.proofs.Fairness.OneAllocation.{same_amounts}
 
 -- lowest terms are no greater

@@ -1,18 +1,10 @@
 -- Where a fair rate is no fraction of 128 bits, no rates that are such fractions are fair.
-use Rattle.std.proofs.Common.{ℕ, ◌^◌, ◌<◌, List, All, get_or, length, subst, arith}
-use Rattle.std.specs.declared.cmp.Ordering.{Ordering}
-use Rattle.std.specs.Cmp.{IsTotalOrder}
-use Rattle.std.proofs.lemmas.List.Elements.{All-contains, All-get_or}
+use Rattle.fair_rates.proofs.Common.{ℕ, ◌^◌, ◌<◌, List, All, get_or, length, subst, arith, Ordering, IsTotalOrder}
+use Rattle.fair_rates.proofs.Common.{All-contains, HasLargeRate, Amount, parts_over, Side, HaveUsersBelow, ReducedFits}
+use Rattle.fair_rates.proofs.Common.{sides_under, IsRateOf, AreFairRates, Rate, Unlimited, Finite}
+use Rattle.std.proofs.lemmas.List.Elements.{All-get_or}
 use Rattle.fair_rates.specs.Refusals.FairRatesFit.{IsFraction}
-use Rattle.fair_rates.specs.Refusals.TooLarge.{HasLargeRate, TooLargeHasNoRates}
-use Rattle.fair_rates.specs.Numbers.Amount.{Amount, parts_over}
-use Rattle.fair_rates.specs.Fairness.Fair.{Side}
-use Rattle.fair_rates.specs.Fairness.Laws.{HaveUsersBelow}
-use Rattle.fair_rates.specs.Numbers.Fits.{ReducedFits}
-use Rattle.fair_rates.specs.Fairness.UnderCaps.{sides_under}
-use Rattle.fair_rates.specs.Fairness.Rates.{IsRateOf, AreFairRates}
-use Rattle.fair_rates.specs.declared.bandwidth.Rate.{Rate}
-use Rattle.fair_rates.specs.declared.bandwidth.Rate.TheVariants.{Unlimited, Finite}
+use Rattle.fair_rates.specs.Refusals.TooLarge.{TooLargeHasNoRates}
 use Rattle.fair_rates.proofs.Fairness.OneAllocation.{same_amounts}
 use Rattle.fair_rates.proofs.Numbers.Ratio.{worth_is_reduced}
 use Rattle.fair_rates.proofs.Refusals.Fitting.{fits_alike}

@@ -1,18 +1,13 @@
 -- The promises: sixteen flows with caps below 2^64 fit, and of what the rates of a few flows are whole.
-use Rattle.std.proofs.Common.{◌⊎◌, inl, inr, refl, [], ◌∷◌, AllPairs, ℕ, ◌*◌, ◌^◌, ◌<◌, ◌≤◌, List, get_or, All}
-use Rattle.std.proofs.Common.{Contains, subst, arith, lit<, mul-le-mul, le_of_lt}
+use Rattle.fair_rates.proofs.Common.{◌⊎◌, inl, inr, refl, [], ◌∷◌, AllPairs, ℕ, ◌*◌, ◌^◌, ◌<◌, ◌≤◌, List, get_or, All}
+use Rattle.fair_rates.proofs.Common.{Contains, subst, arith, side_of, Side, AreFairRates, HaveUsersBelow, FairRatesFit}
+use Rattle.fair_rates.proofs.Common.{AreWholeOver, Rate, cases_lt, All-nil, All-cons, All-map, Contains-append_left}
+use Rattle.fair_rates.proofs.Common.{Contains-append_right}
+use Rattle.std.proofs.Common.{lit<, mul-le-mul, le_of_lt}
 use Rattle.std.proofs.Math.Nat.{lt_of_le_of_lt}
 use Rattle.std.specs.Prelude.{map}
-use Rattle.fair_rates.specs.Sides.SideOf.{side_of}
-use Rattle.fair_rates.specs.Fairness.Fair.{Side}
 use Rattle.fair_rates.specs.declared.bandwidth.sides.Side as declared_side
-use Rattle.fair_rates.specs.Fairness.Rates.{AreFairRates}
-use Rattle.fair_rates.specs.Fairness.Laws.{HaveUsersBelow}
-use Rattle.fair_rates.specs.Refusals.FairRatesFit.{FairRatesFit, AreWholeOver}
-use Rattle.fair_rates.specs.declared.bandwidth.Rate.{Rate}
 use Rattle.fair_rates.proofs.Fairness.Denominators.{denominator_of, of_four, of_sixteen, at_most}
-use Rattle.std.proofs.lemmas.Bool.{cases_lt}
-use Rattle.std.proofs.lemmas.List.Elements.{All-nil, All-cons, All-map, Contains-append_left, Contains-append_right}
 use Rattle.fair_rates.proofs.Filling.FairPartsExist.{fair_parts}
 use Rattle.fair_rates.proofs.Fairness.WholeRates.{whole_rates}
 use Rattle.fair_rates.proofs.Sides.UserCounts.{AreDistinct, HaveDistinctUsers}

@@ -1,21 +1,13 @@
 -- The sides of one flow, and its least cap.
-use Rattle.std.proofs.Common.{◌≡◌, ℕ, ◌≤◌, inl, inr, List, [], ◌∷◌, ◌++◌, map, All, Contains, Bool, true, false, cond}
-use Rattle.std.proofs.Common.{Option, Some, None, min, refl, sym, ap, subst, ◌∙◌, arith}
+use Rattle.fair_rates.proofs.Common.{◌≡◌, ℕ, ◌≤◌, inl, inr, List, [], ◌∷◌, ◌++◌, map, All, Contains, Bool, true, false}
+use Rattle.fair_rates.proofs.Common.{cond, Option, Some, None, refl, sym, ap, subst, ◌∙◌, arith, Ordering, cases_lt}
+use Rattle.fair_rates.proofs.Common.{append-nil, All-nil, All-cons, All-append, All-weaker, Contains-append_left}
+use Rattle.fair_rates.proofs.Common.{Contains-append_right, Side, sides_under, Answered, Caps, Flow, sides_of}
+use Rattle.std.proofs.Common.{min}
 use Rattle.std.specs.Option.{option_to_list}
-use Rattle.std.specs.declared.cmp.Ordering.{Ordering}
 use Rattle.std.proofs.Math.Nat.{min-eq_left, min-eq_right}
-use Rattle.std.proofs.lemmas.Bool.{cases_lt}
-use Rattle.std.proofs.lemmas.List.{append-nil}
-use Rattle.std.proofs.lemmas.List.Elements.{All-nil, All-cons, All-append, All-weaker}
-use Rattle.std.proofs.lemmas.List.Elements.{Contains-append_left, Contains-append_right}
-use Rattle.fair_rates.specs.Fairness.Fair.{Side}
-use Rattle.fair_rates.specs.Fairness.UnderCaps.{sides_under}
-use Rattle.fair_rates.specs.Sides.Answers.{Answered}
-use Rattle.fair_rates.specs.Sides.Caps.{Caps}
 use Rattle.fair_rates.specs.Sides.Alone.{least_of, least_cap_of}
-use Rattle.fair_rates.specs.declared.bandwidth.Flow.{Flow}
 use Rattle.fair_rates.specs.declared.bandwidth.FlowCaps.{FlowCaps}
-use Rattle.fair_rates.specs.Sides.Subjects.{sides_of}
 
 -- a side that the flow at the place 0 alone uses
 abbrev pub side_alone : ℕ → Side

@@ -1,11 +1,7 @@
 -- What one flow asks for, one side after another.
-use Rattle.std.proofs.Common.{subst, ◌≡◌, ℕ, Bool, true, false, cond, List, [], ◌∷◌, ◌++◌, sym, append_assoc}
-use Rattle.std.proofs.lemmas.List.{append-nil}
-use Rattle.std.specs.declared.cmp.Ordering.{Ordering}
-use Rattle.fair_rates.specs.declared.bandwidth.sides.Registry.{Registry}
-use Rattle.fair_rates.specs.Sides.Answers.{Answered}
-use Rattle.fair_rates.specs.Sides.Subjects.{Ask, sent_by, received_by, sent_between, asks_of_one}
-use Rattle.fair_rates.specs.Sides.Registry.{IsRegistryOf, Registers, FindsSides}
+use Rattle.fair_rates.proofs.Common.{subst, ◌≡◌, ℕ, Bool, true, false, cond, List, [], ◌∷◌, ◌++◌, sym, append_assoc}
+use Rattle.fair_rates.proofs.Common.{append-nil, Ordering, Registry, Answered, Ask, sent_by, received_by, sent_between}
+use Rattle.fair_rates.proofs.Common.{asks_of_one, IsRegistryOf, Registers, FindsSides}
 
 module _ {P : Type 0} (cmp : P → P → Ordering) where
   -- some asks, and then others

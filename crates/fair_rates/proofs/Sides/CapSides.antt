@@ -1,24 +1,19 @@
 -- Which sides the caps make.
-use Rattle.std.proofs.Common.{◌≡◌, ℕ, ◌+◌, Bool, true, false, cond, ◌&&◌, List, [], ◌∷◌, ◌++◌, Option, Some, None, map}
-use Rattle.std.proofs.Common.{is_some, Contains, refl, sym, ap, ◌∙◌, subst, inl, inr, ◌⊎◌, ap₂}
-use Rattle.std.proofs.lemmas.Bool.{and_right, and_from, and_parts}
+use Rattle.fair_rates.proofs.Common.{◌≡◌, ℕ, ◌+◌, Bool, true, false, cond, ◌&&◌, List, [], ◌∷◌, ◌++◌, Option, Some}
+use Rattle.fair_rates.proofs.Common.{None, map, Contains, refl, sym, ap, ◌∙◌, subst, inl, inr, ◌⊎◌, ap₂, and_from}
+use Rattle.fair_rates.proofs.Common.{and_parts, map-append, filter, IsTotalOrder, Ordering, Flow, Side, Subject}
+use Rattle.fair_rates.proofs.Common.{sent_by, received_by, sent_between, Ask, same_peer, same_subject, is_same, is_open}
+use Rattle.fair_rates.proofs.Common.{opened, sides_after, asks_from, Caps, cap_of, AreOfPeers, limits, sides_under}
+use Rattle.fair_rates.proofs.Common.{IsCappedSide, places_from}
+use Rattle.std.proofs.Common.{is_some}
+use Rattle.std.proofs.lemmas.Bool.{and_right}
 use Rattle.std.proofs.lemmas.List.Elements.{filter_agree, filter-append}
-use Rattle.std.proofs.lemmas.List.{map-append}
-use Rattle.std.specs.List.{filter}
-use Rattle.std.specs.Cmp.{IsTotalOrder}
-use Rattle.std.specs.declared.cmp.Ordering.{Ordering}
-use Rattle.fair_rates.specs.declared.bandwidth.Flow.{Flow}
-use Rattle.fair_rates.specs.Fairness.Fair.{Side}
-use Rattle.fair_rates.specs.Sides.Subjects.{Subject, sent_by, received_by, sent_between, Ask, same_peer, same_subject}
-use Rattle.fair_rates.specs.Sides.Subjects.{is_same, is_open, opened, sides_after, asks_from}
-use Rattle.fair_rates.specs.Sides.Caps.{Caps}
-use Rattle.fair_rates.specs.Fairness.UnderCaps.{cap_of, answered_under, AreOfPeers, limits, sides_under, IsCappedSide}
+use Rattle.fair_rates.specs.Fairness.UnderCaps.{answered_under}
 use Rattle.fair_rates.specs.Fairness.UnderCaps.{SidesAreOfTheCaps}
 use Rattle.fair_rates.proofs.Sides.Subjects.{same_itself, same_symm, same_congr}
 use Rattle.fair_rates.proofs.Lists.Members.{In, in_left, in_right, in_either, in_from_contains, contains_from_in}
 use Rattle.fair_rates.proofs.Lists.Members.{none_passes, any_fails}
 use Rattle.fair_rates.proofs.Sides.EqualSubjects.{same_peer_itself, one_cap, same_limits}
-use Rattle.fair_rates.specs.Lists.Places.{places_from}
 
 module _ {P : Type 0} (cmp : P → P → Ordering) (order : IsTotalOrder cmp) (caps : Caps P)
     (of : AreOfPeers cmp caps) where

@@ -1,13 +1,8 @@
 -- What subjects of sides have in common that are one by the order of peers.
-use Rattle.std.proofs.Common.{◌≡◌, true, ◌&&◌, refl}
-use Rattle.std.specs.Cmp.{IsTotalOrder, IsEquivalence}
-use Rattle.std.specs.declared.cmp.Ordering.{Ordering}
-use Rattle.std.proofs.lemmas.Bool.{and_parts, false≢true}
-use Rattle.std.proofs.lemmas.Cmp.{eq_by_cmp_equiv}
-use Rattle.fair_rates.specs.declared.bandwidth.Flow.{Flow}
-use Rattle.fair_rates.specs.Sides.Subjects.{Subject, sent_by, received_by, sent_between, same_peer, same_subject}
-use Rattle.fair_rates.specs.Sides.Caps.{Caps}
-use Rattle.fair_rates.specs.Fairness.UnderCaps.{cap_of, AreOfPeers, limits}
+use Rattle.fair_rates.proofs.Common.{◌≡◌, true, ◌&&◌, refl, IsTotalOrder, Ordering, and_parts, false≢true}
+use Rattle.fair_rates.proofs.Common.{eq_by_cmp_equiv, Flow, Subject, sent_by, received_by, sent_between, same_peer}
+use Rattle.fair_rates.proofs.Common.{same_subject, Caps, cap_of, AreOfPeers, limits}
+use Rattle.std.specs.Cmp.{IsEquivalence}
 
 module _ {P : Type 0} (cmp : P → P → Ordering) (order : IsTotalOrder cmp) where
   abbrev laws : IsEquivalence (same_peer cmp)

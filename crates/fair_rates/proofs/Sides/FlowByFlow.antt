@@ -1,18 +1,15 @@
 -- The pass over the flows, one flow at a time.
-use Rattle.std.proofs.Common.{subst, suc, ◌≡◌, ℕ, ◌+◌, ◌<◌, Bool, true, false, cond, List, [], ◌∷◌, ◌++◌, Option, None}
-use Rattle.std.proofs.Common.{length, take, get_or, map, sym, ap, ◌∙◌, arith, add-one, length-append, drop}
-use Rattle.std.proofs.Common.{drop-cons, append_assoc}
+use Rattle.fair_rates.proofs.Common.{subst, suc, ◌≡◌, ℕ, ◌+◌, ◌<◌, Bool, true, false, cond, List, [], ◌∷◌, ◌++◌, Option}
+use Rattle.fair_rates.proofs.Common.{None, length, take, get_or, map, sym, ap, ◌∙◌, arith, length-append, drop}
+use Rattle.fair_rates.proofs.Common.{append_assoc, append-nil, map-append, FoldsTo, Ordering, Flow, Registry, Answered}
+use Rattle.fair_rates.proofs.Common.{Calls, PairCalls, CalledIfDelivered, States, CallsFor, CallableOnEach}
+use Rattle.fair_rates.proofs.Common.{CallableOnEachPair, recipients, pairs, asks_of_one, asks_from, IsRegistryOf}
+use Rattle.fair_rates.proofs.Common.{Registers}
+use Rattle.std.proofs.Common.{add-one}
+use Rattle.std.proofs.Common.{drop-cons}
 use Rattle.std.proofs.Math.Seq.{take-suc}
-use Rattle.std.proofs.lemmas.List.{append-nil, map-append}
 use Rattle.std.proofs.lemmas.Fn.{FoldsTo-push}
-use Rattle.std.specs.List.{FoldsTo}
-use Rattle.std.specs.declared.cmp.Ordering.{Ordering}
-use Rattle.fair_rates.specs.declared.bandwidth.Flow.{Flow}
-use Rattle.fair_rates.specs.declared.bandwidth.sides.Registry.{Registry}
-use Rattle.fair_rates.specs.Sides.Answers.{Answered, Calls, PairCalls, CalledIfDelivered, States, CallsFor}
-use Rattle.fair_rates.specs.Sides.Answers.{CallableOnEach, CallableOnEachPair, origins, recipients, pairs}
-use Rattle.fair_rates.specs.Sides.Subjects.{asks_of_one, asks_from}
-use Rattle.fair_rates.specs.Sides.Registry.{IsRegistryOf, Registers}
+use Rattle.fair_rates.specs.Sides.Answers.{origins}
 
 -- what one flow more asks for stands at the end
 asks_from-push : {P : Type 0} (n m : ℕ) (answered : List (Answered P)) (a : Answered P) → m ≡ n + length answered

@@ -1,14 +1,9 @@
 -- Where no link closure answers a number, there is none.
-use Rattle.std.proofs.Common.{◌≡◌, ℕ, List, [], ◌∷◌, Option, None, ap, ◌⊎◌, inl, inr, Result, Ok, Err, IfErr}
-use Rattle.std.specs.List.{FoldsTo}
-use Rattle.std.specs.declared.cmp.Ordering.{Ordering}
-use Rattle.fair_rates.specs.declared.bandwidth.Flow.{Flow}
-use Rattle.fair_rates.specs.declared.bandwidth.Rate.{Rate}
-use Rattle.fair_rates.specs.Sides.Answers.{Answered, Calls, PairCalls, NoLink, States, CallsFor, AnswerInOrder}
-use Rattle.fair_rates.specs.Fairness.Allocation.{IsAllocation, IsCountedAllocation}
-use Rattle.fair_rates.specs.declared.error.Error.{Error}
+use Rattle.fair_rates.proofs.Common.{◌≡◌, ℕ, List, [], ◌∷◌, Option, None, ap, ◌⊎◌, inl, inr, Result, Ok, Err, IfErr}
+use Rattle.fair_rates.proofs.Common.{FoldsTo, Ordering, Flow, Rate, Answered, Calls, PairCalls, NoLink, States}
+use Rattle.fair_rates.proofs.Common.{CallsFor, AnswerInOrder, IsAllocation, Error, IsTooLarge}
+use Rattle.fair_rates.specs.Fairness.Allocation.{IsCountedAllocation}
 use Rattle.fair_rates.specs.declared.error.Error.TheVariants.{OutOfMemory, NumberTooLarge}
-use Rattle.fair_rates.specs.Refusals.TooLarge.{IsTooLarge}
 
 module _ {P E I L : Type 0} (egress : Calls E P) (ingress : Calls I P) (link : PairCalls L P)
     (no_number : (l : L) (p q : P) (a : Option ℕ) (l' : L) → link l p q a l' → a ≡ None) where

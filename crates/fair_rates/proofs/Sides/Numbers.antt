@@ -1,19 +1,14 @@
 -- The numbers of keys, which stand in a list in their order, or in a map.
-use Rattle.std.proofs.Common.{◌≡◌, ℕ, ◌+◌, ◌<◌, ◌≤◌, Bool, true, false, cond, if◌then◌else◌, List, [], ◌∷◌, length, map}
-use Rattle.std.proofs.Common.{get_or, Option, Some, None, Ok, Err, refl, sym, ap, ap₂, subst, ◌∙◌, arith}
-use Rattle.std.specs.List.{insert, HoldsAt}
-use Rattle.std.specs.Prelude.{is_some}
+use Rattle.fair_rates.proofs.Common.{◌≡◌, ℕ, ◌+◌, ◌<◌, ◌≤◌, Bool, true, false, cond, List, [], ◌∷◌, length, map, get_or}
+use Rattle.fair_rates.proofs.Common.{Option, Some, None, Ok, Err, refl, sym, ap, ap₂, subst, ◌∙◌, arith, insert}
+use Rattle.fair_rates.proofs.Common.{is_some, lookup, option_or, IsTotalOrder, Ordering, Less, Equal, Greater, is_eq}
+use Rattle.fair_rates.proofs.Common.{eq_by_cmp_equiv, get_or_default, IsGap}
+use Rattle.std.proofs.Common.{if◌then◌else◌}
+use Rattle.std.specs.List.{HoldsAt}
 use Rattle.std.specs.List.Sorted.{IsNonDecreasingBy}
-use Rattle.std.specs.Map.{lookup}
-use Rattle.std.specs.Option.{option_or}
-use Rattle.std.specs.Cmp.{IsTotalOrder}
-use Rattle.std.specs.declared.cmp.Ordering.{Ordering}
-use Rattle.std.specs.declared.cmp.Ordering.TheVariants.{Less, Equal, Greater}
-use Rattle.std.specs.Ordering.{is_eq, ordering_index}
-use Rattle.std.proofs.lemmas.Cmp.{eq_by_cmp_equiv}
-use Rattle.std.proofs.lemmas.List.{get_or_default}
+use Rattle.std.specs.Ordering.{ordering_index}
 use Rattle.std.proofs.lemmas.Map.{lookup-insert, none_passes_from_lookup}
-use Rattle.fair_rates.specs.Lists.Sorted.{are_ascending, value_at, IsPlace, IsGap}
+use Rattle.fair_rates.specs.Lists.Sorted.{are_ascending, value_at, IsPlace}
 use Rattle.fair_rates.specs.Sides.Numbers.{number_in, AreInOrder}
 use Rattle.fair_rates.specs.declared.bandwidth.numbers.Numbers.{Numbers}
 use Rattle.fair_rates.proofs.Lists.Sorted.{searched, value_there, at_gap, ascending_insert_at}

@@ -1,16 +1,12 @@
 -- The sides with their subjects, and what one ask more makes of them.
-use Rattle.std.proofs.Common.{◌≡◌, ℕ, Bool, true, false, cond, ◌&&◌, ◌||◌, List, [], ◌∷◌, ◌++◌, Option, Some, None, map}
-use Rattle.std.proofs.Common.{refl, sym, ap, ◌∙◌, append_assoc}
-use Rattle.std.specs.Prelude.{is_some}
-use Rattle.std.specs.List.{filter, list_any}
-use Rattle.std.proofs.lemmas.List.{append-nil, map-append}
+use Rattle.fair_rates.proofs.Common.{◌≡◌, ℕ, Bool, true, false, cond, ◌&&◌, List, [], ◌∷◌, ◌++◌, Option, Some, None}
+use Rattle.fair_rates.proofs.Common.{map, refl, sym, ap, ◌∙◌, append_assoc, is_some, filter, list_any, append-nil}
+use Rattle.fair_rates.proofs.Common.{map-append, IsTotalOrder, Ordering, Side, Subject, Ask, same_subject, is_same}
+use Rattle.fair_rates.proofs.Common.{is_open, opened, sides_after}
+use Rattle.std.proofs.Common.{◌||◌}
 use Rattle.std.proofs.lemmas.List.Elements.{filter-append}
 use Rattle.std.proofs.lemmas.List.Folds.{list_any-append}
-use Rattle.std.specs.Cmp.{IsTotalOrder}
-use Rattle.std.specs.declared.cmp.Ordering.{Ordering}
 use Rattle.fair_rates.proofs.Lists.Booleans.{second_of_both}
-use Rattle.fair_rates.specs.Fairness.Fair.{Side}
-use Rattle.fair_rates.specs.Sides.Subjects.{Subject, Ask, same_subject, is_same, is_open, opened, sides_after}
 use Rattle.fair_rates.specs.Sides.Registry.{subjects_after}
 use Rattle.fair_rates.proofs.Sides.Subjects.{same_symm, same_congr}
 

@@ -1,27 +1,24 @@
 -- What registering one ask does to the sides and to the numbers of their subjects.
-use Rattle.std.proofs.Common.{◌≡◌, ◌↔◌, ◌≢◌, ◌==◌, ℕ, suc, zero, ◌+◌, ◌<◌, Bool, true, false, cond, ◌||◌, ◌&&◌, List}
-use Rattle.std.proofs.Common.{[]}
-use Rattle.std.proofs.Common.{◌∷◌, Bor, ◌++◌, Option, Some, None, map, length, get_or, refl, sym, ap, ◌∙◌, arith, subst}
-use Rattle.std.proofs.Common.{⊎_elim, vec_len}
+use Rattle.fair_rates.proofs.Common.{◌≡◌, ◌↔◌, ◌≢◌, ℕ, suc, zero, ◌+◌, ◌<◌, Bool, true, false, cond, ◌&&◌, List, []}
+use Rattle.fair_rates.proofs.Common.{◌∷◌, ◌++◌, Option, Some, None, map, length, get_or, refl, sym, ap, ◌∙◌, arith}
+use Rattle.fair_rates.proofs.Common.{subst, ⊎_elim, append-nil, map-append, length-map, get_or-map, get_or_append_left}
+use Rattle.fair_rates.proofs.Common.{get_or_default, same_Some, eqb-true, cases_lt, is_some, list_any, IsTotalOrder}
+use Rattle.fair_rates.proofs.Common.{Ordering, Less, Equal, Greater, is_eq, side_of, Subject, Ask, same_peer}
+use Rattle.fair_rates.proofs.Common.{same_subject, sent_by, received_by, sent_between, number_of, IsRegistryOf}
+use Rattle.fair_rates.proofs.Common.{FindsSides, HasNumber, Registers, Registry}
+use Rattle.std.proofs.Common.{◌==◌, ◌||◌}
+use Rattle.std.proofs.Common.{Bor}
+use Rattle.std.proofs.Common.{vec_len}
 use Rattle.std.proofs.Math.ListN.{set}
-use Rattle.std.proofs.lemmas.List.{append-nil, map-append, map-set, length-set, length-map, same_lists, get_or-set_same}
-use Rattle.std.proofs.lemmas.List.{get_or-set_other, get_or-map, get_or_append_left, get_or_push, get_or_default}
+use Rattle.std.proofs.lemmas.List.{map-set, length-set, same_lists, get_or-set_same}
+use Rattle.std.proofs.lemmas.List.{get_or-set_other, get_or_push}
 use Rattle.std.proofs.lemmas.List.{length_push}
-use Rattle.std.proofs.lemmas.Option.{same_Some}
-use Rattle.std.proofs.lemmas.Bool.{eqb-true, eqb-false, cases_lt, false_from_ne_true as is_false, or_right}
-use Rattle.std.specs.Prelude.{is_some}
-use Rattle.std.specs.List.{list_any}
-use Rattle.std.specs.Cmp.{IsTotalOrder}
-use Rattle.std.specs.declared.cmp.Ordering.{Ordering}
-use Rattle.std.specs.declared.cmp.Ordering.TheVariants.{Less, Equal, Greater}
-use Rattle.std.specs.Ordering.{is_eq, ordering_then}
-use Rattle.fair_rates.specs.Sides.SideOf.{side_of}
-use Rattle.fair_rates.specs.Sides.Subjects.{Subject, Ask, same_peer, same_subject, sent_by, received_by, sent_between}
-use Rattle.fair_rates.specs.Sides.Registry.{subjects_after, number_of, IsNumberOf, AreRegistered}
-use Rattle.fair_rates.specs.Sides.Registry.{IsRegistryOf, IsInOrder, FindsSides, HasNumber, Registers}
+use Rattle.std.proofs.lemmas.Bool.{eqb-false, false_from_ne_true as is_false, or_right}
+use Rattle.std.specs.Ordering.{ordering_then}
+use Rattle.fair_rates.specs.Sides.Registry.{subjects_after, IsNumberOf, AreRegistered}
+use Rattle.fair_rates.specs.Sides.Registry.{IsInOrder}
 use Rattle.fair_rates.specs.Sides.Numbers.{number_in, HaveNone}
 use Rattle.fair_rates.specs.declared.bandwidth.numbers.Numbers.{Numbers}
-use Rattle.fair_rates.specs.declared.bandwidth.sides.Registry.{Registry}
 use Rattle.fair_rates.specs.declared.bandwidth.sides.Side as declared_side
 use Rattle.fair_rates.proofs.Sides.Numbers.{numbers_agree}
 use Rattle.fair_rates.proofs.Sides.Subjects.{same_symm, same_congr}

@@ -1,11 +1,9 @@
 -- That two subjects are one is an equivalence.
-use Rattle.std.proofs.Common.{◌≡◌, true, ◌&&◌, refl, ap, ◌∙◌}
-use Rattle.std.specs.declared.cmp.Ordering.TheVariants.{Less, Equal, Greater}
-use Rattle.std.specs.Ordering.{is_eq, ordering_reverse}
-use Rattle.std.specs.Cmp.{IsTotalOrder, eq_by_cmp_equiv}
-use Rattle.std.specs.declared.cmp.Ordering.{Ordering}
+use Rattle.fair_rates.proofs.Common.{◌≡◌, true, ◌&&◌, refl, ap, ◌∙◌, Less, Equal, Greater, is_eq, IsTotalOrder}
+use Rattle.fair_rates.proofs.Common.{Ordering, Subject, sent_by, received_by, sent_between, same_peer, same_subject}
+use Rattle.std.specs.Ordering.{ordering_reverse}
+use Rattle.std.specs.Cmp.{eq_by_cmp_equiv}
 use Rattle.fair_rates.proofs.Lists.Booleans.{first_of_both, second_of_both}
-use Rattle.fair_rates.specs.Sides.Subjects.{Subject, sent_by, received_by, sent_between, same_peer, same_subject}
 
 reversed : (o : Ordering) → is_eq (ordering_reverse o) ≡ is_eq o
 reversed Less = refl

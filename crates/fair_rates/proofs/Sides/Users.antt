@@ -1,18 +1,13 @@
 -- The users of a side are places in the list of flows, each above those before it.
-use Rattle.std.proofs.Common.{◌≡◌, ℕ, ◌+◌, ◌<◌, ◌≤◌, Bool, true, false, cond, List, [], ◌∷◌, ◌++◌, Option, Some, None}
-use Rattle.std.proofs.Common.{length, get_or, map, refl, sym, ◌∙◌, arith, subst}
+use Rattle.fair_rates.proofs.Common.{◌≡◌, ℕ, ◌+◌, ◌<◌, ◌≤◌, Bool, true, false, cond, List, [], ◌∷◌, ◌++◌, Option, Some}
+use Rattle.fair_rates.proofs.Common.{None, length, get_or, map, refl, sym, ◌∙◌, arith, subst, filter, All-nil, All-cons}
+use Rattle.fair_rates.proofs.Common.{All-append, All-weaker, All-map, All-head, All-tail, IsTotalOrder, Ordering}
+use Rattle.fair_rates.proofs.Common.{side_of, get_or-map, length-map, Answered, Ask, sent_by, received_by, sent_between}
+use Rattle.fair_rates.proofs.Common.{asks_of_one, asks_from, is_same, is_open, opened, sides_after, sides_of}
 use Rattle.std.specs.Prelude.{All}
-use Rattle.std.specs.List.{filter}
-use Rattle.std.proofs.lemmas.List.Elements.{All-nil, All-cons, All-append, All-weaker, All-filter, All-map, All-head}
-use Rattle.std.proofs.lemmas.List.Elements.{All-tail, filter_passes}
-use Rattle.std.specs.Cmp.{IsTotalOrder}
-use Rattle.std.specs.declared.cmp.Ordering.{Ordering}
-use Rattle.fair_rates.specs.Sides.SideOf.{side_of}
+use Rattle.std.proofs.lemmas.List.Elements.{All-filter}
+use Rattle.std.proofs.lemmas.List.Elements.{filter_passes}
 use Rattle.fair_rates.specs.declared.bandwidth.sides.Side as declared_side
-use Rattle.std.proofs.lemmas.List.{get_or-map, length-map}
-use Rattle.fair_rates.specs.Sides.Answers.{Answered}
-use Rattle.fair_rates.specs.Sides.Subjects.{Ask, sent_by, received_by, sent_between, asks_of_one, asks_from, is_same}
-use Rattle.fair_rates.specs.Sides.Subjects.{is_open, opened, sides_after, sides_of}
 use Rattle.fair_rates.proofs.Lists.AllPairs.{EachLater}
 use Rattle.fair_rates.proofs.Sides.Subjects.{same_congr}
 
