@@ -1,17 +1,18 @@
 -- Rows that come in anew, once those that stand in no chain are gone.
-use Rattle.std.proofs.Common.{◌≡◌, ℕ, zero, suc, ◌+◌, ◌<◌, ◌≤◌, Option, Some, None, refl, sym, ap, ◌∙◌, subst, arith}
-use Rattle.std.proofs.Common.{List, [], ◌∷◌, length, map, take, replicate, slice_set, slice_get, slice_index_or, filter, is_some, Bool, cond, true, false}
-use Rattle.std.proofs.lemmas.List.{get_or-take, take_more_set, length-take-le, get_or-replicate, length-replicate, length-map, take_all}
+use Rattle.chains.proofs.Common.{◌≡◌, ℕ, suc, ◌+◌, ◌<◌, ◌≤◌, Option, Some, None, refl, sym, ap, ◌∙◌, subst, arith, List}
+use Rattle.chains.proofs.Common.{[], ◌∷◌, length, map, take, replicate, slice_set, slice_index_or, false, length-map}
+use Rattle.chains.proofs.Common.{map-set_same, Rows, owner_of, IsPlace, Table, link_of, end_of, no_link, no_end, Stands}
+use Rattle.chains.proofs.Common.{with_next, with_prev, with_link, added, rows_in, IsChained, Link, End}
+use Rattle.std.proofs.Common.{zero}
+use Rattle.std.proofs.Common.{slice_get, filter, is_some, Bool, cond, true}
+use Rattle.std.proofs.lemmas.List.{get_or-take, take_more_set, length-take-le, get_or-replicate, length-replicate}
+use Rattle.std.proofs.lemmas.List.{take_all}
 use Rattle.std.proofs.lemmas.Option.{slice_get-get_or}
-use Rattle.std.proofs.Math.Seq.{map-set_same}
-use Rattle.chains.specs.Chains.{Rows, owner_of, without_gaps}
-use Rattle.chains.specs.Places.{IsPlace}
-use Rattle.chains.specs.Tables.{Table, link_of, end_of, no_link, no_end, Stands, with_next, with_prev, with_link, added, relinked}
-use Rattle.chains.specs.Tables.{rows_in, IsChained, AreFilled}
+use Rattle.chains.specs.Chains.{without_gaps}
+use Rattle.chains.specs.Tables.{relinked}
+use Rattle.chains.specs.Tables.{AreFilled}
 use Rattle.chains.proofs.Adding.{added_chained}
 use Rattle.chains.proofs.Places.{some_same}
-use Rattle.chains.specs.declared.tables.Link.{Link}
-use Rattle.chains.specs.declared.tables.End.{End}
 use Rattle.chains.proofs.Linking.{next_ends, prev_ends}
 use Rattle.chains.proofs.Taking.{row_below, place_map, place_of_last}
 use Rattle.chains.proofs.Views.{owner_in, next_stands, prev_stands, rows_are, owner_is}

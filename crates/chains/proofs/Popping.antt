@@ -1,12 +1,10 @@
 -- A table, once its last row is gone, which stood in no chain.
-use Rattle.std.proofs.Common.{◌≡◌, ℕ, ◌-◌, ◌<◌, ◌≤◌, Option, Some, None, refl, sym, ap, ◌∙◌, arith}
-use Rattle.std.proofs.Common.{length, map, take, subst}
-use Rattle.std.proofs.lemmas.Bool.{cases_lt}
-use Rattle.std.proofs.lemmas.List.{get_or-take, length-take-le, length-map, take-map}
+use Rattle.chains.proofs.Common.{◌≡◌, ℕ, ◌-◌, ◌<◌, ◌≤◌, Option, Some, None, refl, sym, ap, ◌∙◌, arith, length, map}
+use Rattle.chains.proofs.Common.{take, subst, cases_lt, length-map, IsFirst, IsLast, IsPlace, behind, end_at, Table}
+use Rattle.chains.proofs.Common.{link_of, no_link, Stands, next_at, prev_at, rows_in, IsChained, Link}
+use Rattle.std.proofs.lemmas.List.{get_or-take, length-take-le, take-map}
 use Rattle.chains.specs.Chains.{without_last as fewer}
-use Rattle.chains.specs.Places.{IsFirst, IsLast, IsPlace, behind, end_at}
-use Rattle.chains.specs.Tables.{Table, link_of, no_link, Stands, next_at, prev_at, without_last, rows_in, IsChained}
-use Rattle.chains.specs.declared.tables.Link.{Link}
+use Rattle.chains.specs.Tables.{without_last}
 use Rattle.chains.proofs.Places.{by_cases, first_same, last_same}
 use Rattle.chains.proofs.Taking.{row_below, place_map}
 use Rattle.chains.proofs.Views.{owner_in, rows_are}

@@ -1,19 +1,11 @@
 -- A flow alone.
-use Rattle.std.proofs.Common.{◌≡◌, ℕ, ◌*◌, ◌<◌, ◌≤◌, List, [], ◌∷◌, Bool, true, false, cond, Option, Some, None, get_or}
-use Rattle.std.proofs.Common.{Contains, sum_by, refl, sym, ap, ◌∙◌, inl, inr, arith}
-use Rattle.std.specs.Prelude.{◌||◌}
-use Rattle.std.proofs.Math.Nat.{eq_of_mul-eq-mul_right, le_of_mul-le-mul_right}
-use Rattle.std.proofs.lemmas.List.Elements.{All-contains}
-use Rattle.std.proofs.lemmas.List.Sums.{sum_by-cons}
-use Rattle.fair_rates.specs.Fairness.Fair.{Side, load, IsLimited, IsFair}
-use Rattle.fair_rates.specs.Fairness.Rates.{IsRateOf}
+use Rattle.fair_routes.proofs.Common.{◌≡◌, ℕ, ◌*◌, ◌<◌, ◌≤◌, List, [], ◌∷◌, Bool, true, false, cond, Option, Some, None}
+use Rattle.fair_routes.proofs.Common.{get_or, Contains, sum_by, refl, sym, ap, ◌∙◌, inl, inr, arith, ◌||◌}
+use Rattle.fair_routes.proofs.Common.{eq_of_mul-eq-mul_right, All-contains, sum_by-cons, Side, load, IsLimited, IsFair}
+use Rattle.fair_routes.proofs.Common.{IsRateOf, Rate, Unlimited, Finite, Ratio, none_or_some, has_link, sides_over}
+use Rattle.std.proofs.Math.Nat.{le_of_mul-le-mul_right}
 use Rattle.fair_rates.specs.Numbers.Ratio.{IsWorth}
-use Rattle.fair_rates.specs.declared.bandwidth.Rate.{Rate}
-use Rattle.fair_rates.specs.declared.bandwidth.Rate.TheVariants.{Unlimited, Finite}
-use Rattle.fair_rates.specs.declared.ratio.Ratio.{Ratio}
-use Rattle.fair_rates.proofs.Filling.Frozen.{none_or_some}
 use Rattle.fair_routes.specs.Network.Laws.{IsLeastCap, IsLeastOfCaps, AloneIsTheLeastCap}
-use Rattle.fair_routes.specs.Network.Sides.{has_link, sides_over}
 use Rattle.fair_routes.proofs.Network.LinkSides.{link_side, side_listed}
 
 module _ (caps : List (Option ℕ)) (route : List ℕ) where

@@ -1,19 +1,15 @@
 -- A part of the flows that uses no link together with the rest.
-use Rattle.std.proofs.Common.{◌≡◌, ℕ, suc, ◌+◌, ◌<◌, List, [], ◌∷◌, ◌++◌, Bool, true, false, cond, Option, Some, None}
-use Rattle.std.proofs.Common.{map, length, take, All, ◌⊎◌, inl, inr, refl, sym, ap, ◌∙◌, subst, arith}
-use Rattle.std.specs.Prelude.{◌||◌}
-use Rattle.std.specs.List.{filter, list_any}
-use Rattle.std.proofs.lemmas.List.{append_assoc, length-map}
-use Rattle.std.proofs.lemmas.List.Elements.{All-contains}
-use Rattle.std.proofs.lemmas.List.Sums.{sum_by-cons}
-use Rattle.fair_rates.specs.Fairness.Fair.{Side}
+use Rattle.fair_routes.proofs.Common.{◌≡◌, ℕ, suc, ◌+◌, ◌<◌, List, [], ◌∷◌, ◌++◌, Bool, true, false, cond, Option, Some}
+use Rattle.fair_routes.proofs.Common.{None, map, length, take, All, ◌⊎◌, inl, inr, refl, sym, ap, ◌∙◌, subst, arith}
+use Rattle.fair_routes.proofs.Common.{◌||◌, list_any, length-map, All-contains, sum_by-cons, Side, AreFairRates}
+use Rattle.fair_routes.proofs.Common.{places_from, In, in_left, in_right, contains_from_in, any_passes, has_link}
+use Rattle.fair_routes.proofs.Common.{users_of, side_of_link, sides_from, sides_over}
+use Rattle.std.specs.List.{filter}
+use Rattle.std.proofs.lemmas.List.{append_assoc}
 use Rattle.fair_rates.specs.Fairness.Part.{flagged, is_in, place_in, sides_in}
-use Rattle.fair_rates.specs.Fairness.Rates.{AreFairRates}
-use Rattle.fair_rates.specs.Lists.Places.{places_from}
 use Rattle.fair_rates.proofs.Fairness.Apart.{flows_apart_are_fair}
-use Rattle.fair_rates.proofs.Lists.Members.{In, in_left, in_right, contains_from_in, any_passes, any_fails}
+use Rattle.fair_rates.proofs.Lists.Members.{any_fails}
 use Rattle.fair_routes.specs.Network.Laws.{RoutesApartAreFair}
-use Rattle.fair_routes.specs.Network.Sides.{has_link, users_of, side_of_link, sides_from, sides_over}
 use Rattle.fair_routes.proofs.Network.Sides.{some_user, no_user}
 
 -- ---- places behind the first

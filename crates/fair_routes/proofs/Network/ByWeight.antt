@@ -1,26 +1,23 @@
 -- Users that count as often as their weights say: what they have together, and a round of filling.
-use Rattle.std.proofs.Common.{◌≡◌, ◌⊎◌, ℕ, zero, suc, ◌+◌, ◌*◌, ◌<◌, ◌≤◌, List, [], ◌∷◌, All, Contains, Option, Some, None, IsSome}
-use Rattle.std.proofs.Common.{cond, get_or, length, map, replicate, sum_by, inl, inr, refl, sym, ap, ◌∙◌, subst, arith}
-use Rattle.std.proofs.Common.{mul-le-mul_right, le_of_mul-le-mul_right}
-use Rattle.std.specs.Option.{is_none}
-use Rattle.std.specs.Prelude.{count_by, option_map}
-use Rattle.std.proofs.lemmas.List.Elements.{All-contains, All-tail}
+use Rattle.fair_routes.proofs.Common.{◌≡◌, ◌⊎◌, ℕ, zero, suc, ◌+◌, ◌*◌, ◌<◌, ◌≤◌, List, [], ◌∷◌, All, Contains, Option}
+use Rattle.fair_routes.proofs.Common.{Some, None, cond, get_or, length, map, replicate, sum_by, inl, inr, refl, sym, ap}
+use Rattle.fair_routes.proofs.Common.{◌∙◌, subst, arith, mul-le-mul_right, is_none, count_by, option_map, All-contains}
+use Rattle.fair_routes.proofs.Common.{All-tail, sum_by-cons, Side, load, IsLimited, IsFair, at_level, listed_on}
+use Rattle.fair_routes.proofs.Common.{listed_from, none_or_some, some_is, IsFilledTo, In, in_left, in_right}
+use Rattle.fair_routes.proofs.Common.{in_from_contains, contains_from_in, All-from_contains, sum_by-scaled, sum_by_same}
+use Rattle.fair_routes.proofs.Common.{frozen_in, rising_weight, AreAllHeld, HasLeastRoom, HasFrozen, Room, weight_at}
+use Rattle.fair_routes.proofs.Common.{as_often, weighted}
+use Rattle.std.proofs.Common.{IsSome}
+use Rattle.std.proofs.Common.{le_of_mul-le-mul_right}
 use Rattle.std.proofs.lemmas.List.Folds.{sum_by-replicate}
-use Rattle.std.proofs.lemmas.List.Sums.{sum_by-append, sum_by-cons}
-use Rattle.fair_rates.specs.Fairness.Fair.{Side, load, IsLimited, IsFair}
-use Rattle.fair_rates.specs.Filling.States.{at_level}
-use Rattle.fair_rates.proofs.Fairness.MappedSides.{listed_on, listed_from}
-use Rattle.fair_rates.proofs.Filling.Frozen.{none_or_some, some_is, at_some, at_none}
+use Rattle.std.proofs.lemmas.List.Sums.{sum_by-append}
+use Rattle.fair_rates.proofs.Filling.Frozen.{at_some, at_none}
 use Rattle.fair_rates.proofs.Filling.Growing.{AreScaled, filled_scaled, none_scaled}
 use Rattle.fair_rates.proofs.Filling.Rounds.{end, next}
-use Rattle.fair_rates.proofs.Filling.States.{IsFilledTo, IsFilledBy}
-use Rattle.fair_rates.proofs.Lists.Members.{In, in_either, in_left, in_right, in_from_contains, contains_from_in}
-use Rattle.fair_rates.proofs.Lists.SumOrder.{All-from_contains, sum_by-scaled}
-use Rattle.fair_rates.proofs.Lists.Sums.{sum_by_same}
-use Rattle.fair_routes.specs.Network.Rising.{frozen_in, rising_weight, slack_of, AreAllHeld, HasLeastRoom, HasFrozen}
-use Rattle.fair_routes.specs.declared.routes.weighted.room.Room.{Room}
+use Rattle.fair_rates.proofs.Filling.States.{IsFilledBy}
+use Rattle.fair_rates.proofs.Lists.Members.{in_either}
+use Rattle.fair_routes.specs.Network.Rising.{slack_of}
 use Rattle.fair_routes.proofs.Network.Rising.{all_multiplied}
-use Rattle.fair_routes.specs.Network.Weights.{weight_at, as_often, weighted}
 
 -- ---- as often as their weights say
 

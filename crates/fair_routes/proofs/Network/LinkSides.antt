@@ -1,15 +1,14 @@
 -- Which sides there are.
-use Rattle.std.proofs.Common.{◌≡◌, ◌≢◌, ℕ, zero, suc, ◌+◌, ◌<◌, ◌⊎◌, List, [], ◌∷◌, Bool, true, false, cond, All, AllPairs, Contains, length}
-use Rattle.std.proofs.Common.{Option, Some, None, get_or, refl, sym, ap, ◌∙◌, subst, inl, inr, arith}
-use Rattle.std.specs.List.{list_any}
+use Rattle.fair_routes.proofs.Common.{◌≡◌, ℕ, zero, suc, ◌+◌, ◌<◌, ◌⊎◌, List, [], ◌∷◌, Bool, true, false, cond, All}
+use Rattle.fair_routes.proofs.Common.{Contains, length, Option, Some, None, get_or, refl, sym, ap, ◌∙◌, subst, inl, inr}
+use Rattle.fair_routes.proofs.Common.{arith, list_any, Side, HaveUsersBelow, In, in_left, in_right, in_from_contains}
+use Rattle.fair_routes.proofs.Common.{contains_from_in, All-from_contains, IsLinkSide, has_link, users_of, side_of_link}
+use Rattle.fair_routes.proofs.Common.{sides_from, sides_over}
+use Rattle.std.proofs.Common.{◌≢◌, AllPairs}
 use Rattle.fair_rates.specs.Fairness.Exists.{HaveDistinctUsers}
-use Rattle.fair_rates.specs.Fairness.Fair.{Side}
-use Rattle.fair_rates.specs.Fairness.Laws.{HaveUsersBelow}
-use Rattle.fair_rates.proofs.Lists.Members.{In, in_left, in_right, in_either, in_from_contains, contains_from_in}
+use Rattle.fair_rates.proofs.Lists.Members.{in_either}
 use Rattle.fair_rates.proofs.Lists.Places.{places_below, places_apart}
-use Rattle.fair_rates.proofs.Lists.SumOrder.{All-from_contains}
-use Rattle.fair_routes.specs.Network.Laws.{IsLinkSide, SidesAreOfTheLinks}
-use Rattle.fair_routes.specs.Network.Sides.{has_link, users_of, side_of_link, sides_from, sides_over}
+use Rattle.fair_routes.specs.Network.Laws.{SidesAreOfTheLinks}
 
 -- the side is that of a link from that one on
 record IsFrom (first : ℕ) (caps : List (Option ℕ)) (routes : List (List ℕ)) (side : Side) : Type 0 where

@@ -1,24 +1,19 @@
 -- Flows between peers are flows over three links.
-use Rattle.std.proofs.Common.{◌≡◌, ◌==◌, ℕ, List, [], ◌∷◌, Bool, true, false, cond, ◌&&◌, Option, None, get_or, map, length}
-use Rattle.std.proofs.Common.{refl, sym, ap, ◌∙◌, inl, inr}
-use Rattle.std.specs.Prelude.{◌||◌}
+use Rattle.fair_routes.proofs.Common.{◌≡◌, ◌==◌, ℕ, List, [], ◌∷◌, Bool, true, false, cond, Option, None, get_or, map}
+use Rattle.fair_routes.proofs.Common.{length, refl, sym, ap, ◌∙◌, inl, inr, ◌||◌, AllZip, list_any, eqb-true, Side}
+use Rattle.fair_routes.proofs.Common.{places_from, In, in_map, from_map, in_from_contains, contains_from_in, any_passes}
+use Rattle.fair_routes.proofs.Common.{places_alike, IsLinkSide, has_link, users_of, sides_over}
+use Rattle.std.proofs.Common.{◌&&◌}
 use Rattle.std.specs.Cmp.{IsTotalOrder}
-use Rattle.std.specs.List.{AllZip, list_any}
 use Rattle.std.specs.declared.cmp.Ordering.{Ordering}
 use Rattle.std.proofs.Math.Bool.{or-false}
-use Rattle.std.proofs.lemmas.Bool.{eqb-true}
-use Rattle.fair_rates.specs.Fairness.Fair.{Side}
 use Rattle.fair_rates.specs.Fairness.UnderCaps.{AreOfPeers, IsCappedSide, limits, sides_under}
-use Rattle.fair_rates.specs.Lists.Places.{places_from}
 use Rattle.fair_rates.specs.Sides.Caps.{Caps}
 use Rattle.fair_rates.specs.Sides.Subjects.{Subject, sent_by, received_by, sent_between, same_peer}
 use Rattle.fair_rates.specs.declared.bandwidth.Flow.{Flow}
 use Rattle.fair_rates.proofs.Fairness.SameSides.{fairness_is_of_the_set}
-use Rattle.fair_rates.proofs.Lists.Members.{In, in_map, from_map, in_from_contains, contains_from_in, any_passes}
-use Rattle.fair_rates.proofs.Lists.Places.{places_alike}
 use Rattle.fair_rates.proofs.Sides.CapSides.{sides_are_of_the_caps}
-use Rattle.fair_routes.specs.Network.Laws.{IsLinkSide, AreLinks, route_of, LinkedIsOverThreeLinks}
-use Rattle.fair_routes.specs.Network.Sides.{has_link, users_of, sides_over}
+use Rattle.fair_routes.specs.Network.Laws.{AreLinks, route_of, LinkedIsOverThreeLinks}
 use Rattle.fair_routes.proofs.Network.LinkSides.{link_side, side_listed}
 use Rattle.fair_routes.proofs.Network.Said.{found}
 

@@ -1,13 +1,9 @@
 -- Flows that stand at other places: where each flow of a list is one of another list, and the sides go together, so do
 -- the fair rates.
-use Rattle.std.proofs.Common.{◌≡◌, ℕ, ◌*◌, ◌<◌, ◌≤◌, List, All, Contains, sym, ap, ◌∙◌, arith}
-use Rattle.std.proofs.lemmas.List.Elements.{All-contains}
-use Rattle.fair_rates.specs.Fairness.Fair.{Side, load, IsLimited, IsFair, HasBottleneck}
-use Rattle.fair_rates.specs.Fairness.Laws.{HaveUsersBelow}
-use Rattle.fair_rates.specs.Fairness.Rates.{IsRateOf}
-use Rattle.fair_rates.specs.declared.bandwidth.Rate.{Rate}
-use Rattle.fair_rates.specs.declared.bandwidth.Rate.TheVariants.{Unlimited, Finite}
-use Rattle.fair_rates.proofs.Lists.SumOrder.{All-from_contains}
+use Rattle.fair_routes.proofs.Common.{◌≡◌, ℕ, ◌*◌, ◌<◌, ◌≤◌, List, All, Contains, sym, ap, ◌∙◌, arith, All-contains}
+use Rattle.fair_routes.proofs.Common.{Side, load, IsLimited, IsFair, HaveUsersBelow, IsRateOf, Rate, Unlimited, Finite}
+use Rattle.fair_routes.proofs.Common.{All-from_contains}
+use Rattle.fair_rates.specs.Fairness.Fair.{HasBottleneck}
 
 -- `of` says which old flow a new one is. A new side is an old one: its cap and its load are the same, and its users are
 -- those of the new flows that use the old side

@@ -1,25 +1,19 @@
 -- Flows in another order.
-use Rattle.std.proofs.Common.{◌≡◌, ℕ, suc, ◌+◌, ◌<◌, List, [], ◌∷◌, Bool, true, false, cond, Option, Some}
-use Rattle.std.proofs.Common.{map, length, get_or, All, Contains, sum_by, refl, sym, ap, ◌∙◌, subst, inl, inr, arith}
-use Rattle.std.specs.Prelude.{slice_get}
-use Rattle.std.specs.List.{list_any, range_with_len}
+use Rattle.fair_routes.proofs.Common.{◌≡◌, ℕ, suc, ◌+◌, ◌<◌, List, [], ◌∷◌, Bool, true, false, cond, Option, Some, map}
+use Rattle.fair_routes.proofs.Common.{length, get_or, All, Contains, sum_by, refl, sym, ap, ◌∙◌, subst, inl, inr, arith}
+use Rattle.fair_routes.proofs.Common.{slice_get, list_any, length-map, get_or-map, get_or_default, All-contains}
+use Rattle.fair_routes.proofs.Common.{sum_by-cons, slice_get-get_or, slice_get-map, get_or_from_slice_get, Side}
+use Rattle.fair_routes.proofs.Common.{HaveUsersBelow, IsRateOf, places_from, Unlimited, In, in_map, in_from_contains}
+use Rattle.fair_routes.proofs.Common.{contains_from_in, from_map, any_passes, routes_at, has_link, users_of, sides_over}
+use Rattle.std.specs.List.{range_with_len}
 use Rattle.std.specs.List.Sorted.{IsPermutation}
-use Rattle.std.proofs.lemmas.List.{length-map, get_or-map, get_or_default, same_lists}
-use Rattle.std.proofs.lemmas.List.Elements.{All-contains}
+use Rattle.std.proofs.lemmas.List.{same_lists}
 use Rattle.std.proofs.lemmas.List.FromFn.{length-range_with_len, get_or-range_with_len}
 use Rattle.std.proofs.lemmas.List.Sorted.{sum_by-IsPermutation, Contains-permutation, All-permutation}
-use Rattle.std.proofs.lemmas.List.Sums.{sum_by-cons}
-use Rattle.std.proofs.lemmas.Option.{slice_get-get_or, slice_get-map, get_or_from_slice_get}
-use Rattle.fair_rates.specs.Fairness.Fair.{Side}
-use Rattle.fair_rates.specs.Fairness.Laws.{HaveUsersBelow}
-use Rattle.fair_rates.specs.Fairness.Rates.{IsRateOf}
-use Rattle.fair_rates.specs.Lists.Places.{places_from}
-use Rattle.fair_rates.specs.declared.bandwidth.Rate.TheVariants.{Unlimited}
-use Rattle.fair_rates.proofs.Lists.Members.{In, in_map, in_get, get_in, in_from_contains, contains_from_in, from_map}
-use Rattle.fair_rates.proofs.Lists.Members.{any_passes, get_from_map}
+use Rattle.fair_rates.proofs.Lists.Members.{in_get, get_in}
+use Rattle.fair_rates.proofs.Lists.Members.{get_from_map}
 use Rattle.fair_rates.proofs.Lists.Places.{place_here, passes_here, below_length}
-use Rattle.fair_routes.specs.Network.Laws.{routes_at, rates_at, OrderOfFlowsDoesNotMatter}
-use Rattle.fair_routes.specs.Network.Sides.{has_link, users_of, sides_over}
+use Rattle.fair_routes.specs.Network.Laws.{rates_at, OrderOfFlowsDoesNotMatter}
 use Rattle.fair_routes.proofs.Network.LinkSides.{link_side, side_listed, users_are_flows}
 use Rattle.fair_routes.proofs.Network.Relabelled.{IsTheSide, AreRelabelled, relabelled_fair, relabelled_rate}
 use Rattle.fair_routes.proofs.Network.Said.{found}

@@ -1,19 +1,19 @@
 -- Flows are held, one after another, and what they have is multiplied and weighed.
-use Rattle.std.proofs.Common.{◌≡◌, ℕ, ◌+◌, ◌*◌, ◌<◌, ◌≤◌, List, [], ◌∷◌, ◌++◌, All, Contains, Option, Some, None, IsSome}
-use Rattle.std.proofs.Common.{cond, length, map, get_or, set, inl, inr, refl, sym, ap, ◌∙◌, subst, arith}
-use Rattle.std.proofs.Common.{get_or-set_other, get_or-set_same, length-append, mul-le-mul_right, le_of_mul-le-mul_right}
-use Rattle.std.specs.Prelude.{MatchOption, count_by, option_map, unwrap_or}
-use Rattle.std.specs.Option.{is_none}
+use Rattle.fair_routes.proofs.Common.{◌≡◌, ℕ, ◌+◌, ◌*◌, ◌<◌, ◌≤◌, List, [], ◌∷◌, ◌++◌, All, Contains, Option, Some}
+use Rattle.fair_routes.proofs.Common.{None, cond, length, map, get_or, set, inl, inr, refl, sym, ap, ◌∙◌, subst, arith}
+use Rattle.fair_routes.proofs.Common.{mul-le-mul_right, count_by, option_map, unwrap_or, is_none, All-nil, All-push}
+use Rattle.fair_routes.proofs.Common.{Side, none_or_some, some_is, not_some, frozen_in, rising_weight, AreAllHeld}
+use Rattle.fair_routes.proofs.Common.{HasLeastRoom, HasFrozen, Room}
+use Rattle.std.proofs.Common.{IsSome}
+use Rattle.std.proofs.Common.{get_or-set_other, get_or-set_same, length-append, le_of_mul-le-mul_right}
+use Rattle.std.specs.Prelude.{MatchOption}
 use Rattle.std.proofs.Math.ListN.{length-set, get_or-map as get_or_map}
 use Rattle.std.proofs.lemmas.Bool.{cases_eq}
 use Rattle.std.proofs.lemmas.List.{get_or_push, get_or_append_left}
-use Rattle.std.proofs.lemmas.List.Elements.{All-nil, All-push, All-weaker, Contains-push, Contains-append_left}
+use Rattle.std.proofs.lemmas.List.Elements.{All-weaker, Contains-push, Contains-append_left}
 use Rattle.std.proofs.lemmas.List.Sums.{sum_by-set}
-use Rattle.fair_rates.specs.Fairness.Fair.{Side}
 use Rattle.fair_rates.proofs.Filling.Growing.{AreScaled}
-use Rattle.fair_rates.proofs.Filling.Frozen.{none_or_some, some_is, not_some}
-use Rattle.fair_routes.specs.Network.Rising.{frozen_in, rising_weight, slack_of, AreAllHeld, HasLeastRoom, IsLesser, HasFrozen}
-use Rattle.fair_routes.specs.declared.routes.weighted.room.Room.{Room}
+use Rattle.fair_routes.specs.Network.Rising.{slack_of, IsLesser}
 
 -- nobody was to be held
 pub frozen_none : (parts : List (Option ℕ)) (share : ℕ) → HasFrozen [] parts parts share

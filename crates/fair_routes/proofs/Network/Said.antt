@@ -1,17 +1,15 @@
 -- The same network said otherwise: with its routes as sets of links, or with other numbers for its links.
-use Rattle.std.proofs.Common.{◌≡◌, ◌==◌, ℕ, ◌+◌, List, [], ◌∷◌, Bool, true, Option, Some, None, map, length}
-use Rattle.std.proofs.Common.{get_or, refl, sym, ap, ◌∙◌, subst, inl, inr, eq-eqb}
-use Rattle.std.specs.List.{AllZip, list_any}
-use Rattle.std.proofs.lemmas.Bool.{eqb-true, false≢true}
-use Rattle.std.proofs.lemmas.Bool.Decides.{eqb_tells}
-use Rattle.fair_rates.specs.Fairness.Fair.{Side}
+use Rattle.fair_routes.proofs.Common.{◌≡◌, ◌==◌, ℕ, ◌+◌, List, [], ◌∷◌, Bool, true, Option, Some, None, map, length}
+use Rattle.fair_routes.proofs.Common.{get_or, refl, sym, ap, ◌∙◌, subst, inl, inr, AllZip, list_any, eqb-true}
+use Rattle.fair_routes.proofs.Common.{eqb_tells, Side, In, from_map, places_alike, IsLinkSide, has_link, users_of}
+use Rattle.fair_routes.proofs.Common.{side_of_link, sides_from, sides_over}
+use Rattle.std.proofs.Common.{eq-eqb}
+use Rattle.std.proofs.lemmas.Bool.{false≢true}
 use Rattle.fair_rates.specs.Fairness.Laws.{AreTheSameSides}
 use Rattle.fair_rates.proofs.Fairness.SameSides.{fairness_is_of_the_set}
-use Rattle.fair_rates.proofs.Lists.Members.{In, from_map, some_or_none, any_fails}
-use Rattle.fair_rates.proofs.Lists.Places.{places_alike}
-use Rattle.fair_routes.specs.Network.Laws.{IsLinkSide, HaveTheSameLinks, RoutesAreSetsOfLinks, AreRenamed}
+use Rattle.fair_rates.proofs.Lists.Members.{some_or_none, any_fails}
+use Rattle.fair_routes.specs.Network.Laws.{HaveTheSameLinks, RoutesAreSetsOfLinks, AreRenamed}
 use Rattle.fair_routes.specs.Network.Laws.{OrderOfLinksDoesNotMatter}
-use Rattle.fair_routes.specs.Network.Sides.{has_link, users_of, side_of_link, sides_from, sides_over}
 use Rattle.fair_routes.proofs.Network.LinkSides.{link_side, side_listed}
 
 -- ---- tests

@@ -1,16 +1,13 @@
 -- The sides that links make, from the flows that use each link.
-use Rattle.std.proofs.Common.{◌≡◌, ℕ, ◌+◌, ◌<◌, List, [], ◌∷◌, ◌++◌, Bool, true, false, cond, length, get_or, drop, map}
-use Rattle.std.proofs.Common.{Option, Some, None, reverse, refl, sym, ap, ◌∙◌, subst, arith}
-use Rattle.std.specs.Prelude.{◌||◌}
-use Rattle.std.specs.List.{list_any}
-use Rattle.std.specs.declared.alloc.Global.{Global}
-use Rattle.std.specs.declared.vec.Vec.{Vec}
-use Rattle.std.proofs.lemmas.List.{map-append, reverse-append, drop_more, drop_all, get_or_push}
-use Rattle.std.proofs.lemmas.List.{get_or_append_left, length-map, reverse-reverse}
-use Rattle.fair_rates.specs.Lists.Places.{places_from}
-use Rattle.fair_routes.specs.Network.Sides.{side_of, has_link, users_of, side_of_link, sides_from, sides_over}
+use Rattle.fair_routes.proofs.Common.{◌≡◌, ℕ, ◌+◌, ◌<◌, List, [], ◌∷◌, ◌++◌, Bool, true, false, cond, length, get_or}
+use Rattle.fair_routes.proofs.Common.{map, Option, Some, None, refl, sym, ap, ◌∙◌, subst, arith, ◌||◌, list_any, Global}
+use Rattle.fair_routes.proofs.Common.{Vec, map-append, length-map, places_from, side_of, has_link, users_of}
+use Rattle.fair_routes.proofs.Common.{side_of_link, sides_from, sides_over, lists, users_at, AreUsers}
+use Rattle.std.proofs.Common.{drop}
+use Rattle.std.proofs.Common.{reverse}
+use Rattle.std.proofs.lemmas.List.{reverse-append, drop_more, drop_all, get_or_push}
+use Rattle.std.proofs.lemmas.List.{get_or_append_left, reverse-reverse}
 use Rattle.fair_routes.specs.declared.routes.sides.LinkSide as declared
-use Rattle.fair_routes.specs.Network.Users.{lists, users_at, AreUsers}
 
 -- ---- whether a link has a user
 

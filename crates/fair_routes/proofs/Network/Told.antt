@@ -1,30 +1,29 @@
 -- A network that is told bit by bit: its routes by the places of their links, and the sides that these make.
-use Rattle.std.proofs.Common.{◌≡◌, ◌↔◌, ℕ, suc, ◌+◌, ◌<◌, ◌≤◌, ◌==◌, List, [], ◌∷◌, ◌++◌, Option, Some, None, Result, Ok, Err, All}
-use Rattle.std.proofs.Common.{false, map, length, get_or, slice_get, refl, sym, ap, ap₂, ◌∙◌, subst, inl, inr, arith}
-use Rattle.std.specs.List.{AllPairs, AllZip, flat_map, zip}
+use Rattle.fair_routes.proofs.Common.{◌≡◌, ℕ, suc, ◌+◌, ◌<◌, ◌≤◌, ◌==◌, List, [], ◌∷◌, ◌++◌, Option, Some, None, All}
+use Rattle.fair_routes.proofs.Common.{false, map, length, get_or, refl, sym, ap, ap₂, ◌∙◌, subst, inl, inr, arith}
+use Rattle.fair_routes.proofs.Common.{AllZip, zip, ◌||◌, option_map, unwrap_or, cases_lt, eqb_tells, length-map}
+use Rattle.fair_routes.proofs.Common.{All-nil, All-map, All-contains, slice_get-get_or, slice_get_within}
+use Rattle.fair_routes.proofs.Common.{get_or_from_slice_get, Rate, places_alike, has_link, side_of_link, sides_from}
+use Rattle.fair_routes.proofs.Common.{sides_over, AreListed, IsNumbered, AreWeightedRates, IsWeightRefusal}
+use Rattle.std.proofs.Common.{◌↔◌, Result, Ok, Err}
+use Rattle.std.proofs.Common.{slice_get}
+use Rattle.std.specs.List.{AllPairs, flat_map}
 use Rattle.std.specs.List.Sorted.{IsBinarySearchResult}
 use Rattle.std.specs.Map.{keys_of, values_of}
 use Rattle.std.specs.BTreeMap.{get, keys, values}
 use Rattle.std.specs.Int.NonZero.{non_zero_u64_get}
 use Rattle.std.specs.declared.num.NonZeroU64.{NonZeroU64}
 use Rattle.std.specs.Ordering.{nat_cmp}
-use Rattle.std.specs.Prelude.{◌||◌, option_map, unwrap_or}
 use Rattle.std.specs.Result.{result_ok}
 use Rattle.std.proofs.Math.Bool.{or-false}
-use Rattle.std.proofs.lemmas.Bool.{cases_lt}
-use Rattle.std.proofs.lemmas.Bool.Decides.{eqb_tells}
-use Rattle.std.proofs.lemmas.List.{length-map}
-use Rattle.std.proofs.lemmas.List.Elements.{All-nil, All-cons, All-append, All-map, All-contains}
+use Rattle.std.proofs.lemmas.List.Elements.{All-cons, All-append}
 use Rattle.std.proofs.lemmas.List.Folds.{list_any-append}
 use Rattle.std.proofs.lemmas.List.Sorted.{searched}
 use Rattle.std.proofs.lemmas.Slice.Zip.{firsts-zip, seconds-zip}
-use Rattle.std.proofs.lemmas.Option.{slice_get-get_or, slice_get_within, get_or_from_slice_get}
-use Rattle.fair_rates.specs.declared.bandwidth.Rate.{Rate}
-use Rattle.fair_rates.proofs.Lists.Places.{places_alike}
 use Rattle.fair_rates.proofs.Lists.Zips.{zip-length}
-use Rattle.fair_routes.specs.Network.Sides.{has_link, side_of_link, sides_from, sides_over, AreListed}
-use Rattle.fair_routes.specs.Network.Told.{IsNumbered, told_routes, told_weight, told_weights, told_sides, AreRatesTold, MayRefuseTold, error_of}
-use Rattle.fair_routes.specs.Network.Weights.{AreWeightedRates, IsWeightedAllocation, IsWeightRefusal, HasLargeWeightedRate, HasMuchWeight}
+use Rattle.fair_routes.specs.Network.Told.{told_routes, told_weight, told_weights, told_sides, AreRatesTold}
+use Rattle.fair_routes.specs.Network.Told.{MayRefuseTold, error_of}
+use Rattle.fair_routes.specs.Network.Weights.{IsWeightedAllocation, HasLargeWeightedRate, HasMuchWeight}
 use Rattle.fair_routes.specs.declared.routes.network.Network.{Network}
 use Rattle.fair_routes.specs.declared.routes.weighted.error.WeightError.{WeightError}
 use Rattle.fair_routes.specs.declared.routes.weighted.error.WeightError.TheVariants.{Routes, OtherCount, NoWeight, TooMuchWeight}

@@ -1,18 +1,16 @@
 -- Flow after flow comes to its links.
-use Rattle.std.proofs.Common.{◌≡◌, ℕ, zero, suc, ◌+◌, ◌-◌, ◌<◌, ◌≤◌, ◌==◌, Some, List, [], ◌∷◌, ◌++◌, Bool, true, false, cond, All, length, replicate}
-use Rattle.std.proofs.Common.{get_or, set, map, take, refl, sym, ap, ◌∙◌, subst, inl, inr, arith, eq-eqb}
-use Rattle.std.specs.Prelude.{◌||◌, slice_get}
-use Rattle.std.specs.declared.alloc.Global.{Global}
-use Rattle.std.specs.declared.vec.Vec.{Vec}
+use Rattle.fair_routes.proofs.Common.{◌≡◌, ℕ, zero, suc, ◌+◌, ◌-◌, ◌<◌, ◌≤◌, ◌==◌, Some, List, [], ◌∷◌, ◌++◌, Bool}
+use Rattle.fair_routes.proofs.Common.{true, false, cond, All, length, replicate, get_or, set, map, take, refl, sym, ap}
+use Rattle.fair_routes.proofs.Common.{◌∙◌, subst, inl, inr, arith, ◌||◌, slice_get, Global, Vec, map-append, length-map}
+use Rattle.fair_routes.proofs.Common.{take_more, get_or-replicate, length-replicate, get_or_default, All-tail}
+use Rattle.fair_routes.proofs.Common.{places_from, has_link, users_of, lists, users_at, AreUsers}
+use Rattle.std.proofs.Common.{eq-eqb}
 use Rattle.std.proofs.Math.Bool.{or_comm}
 use Rattle.std.proofs.lemmas.Bool.{cases_eq, ne_eqb}
-use Rattle.std.proofs.lemmas.List.{append-nil, get_or-set_same, get_or-set_other, map-set, map-append}
-use Rattle.std.proofs.lemmas.List.{length-map, take_more, get_or-replicate, length-replicate, get_or_default}
-use Rattle.std.proofs.lemmas.List.Elements.{All-head, All-tail, All-get_or}
+use Rattle.std.proofs.lemmas.List.{append-nil, get_or-set_same, get_or-set_other, map-set}
+use Rattle.std.proofs.lemmas.List.Elements.{All-head, All-get_or}
 use Rattle.std.proofs.lemmas.List.Folds.{list_any-append}
-use Rattle.fair_rates.specs.Lists.Places.{places_from}
-use Rattle.fair_routes.specs.Network.Sides.{has_link, users_of}
-use Rattle.fair_routes.specs.Network.Users.{ends_with, lists, noted, users_at, AreUsers, HasJoined, IsNoLinkOf, IsNoLink}
+use Rattle.fair_routes.specs.Network.Users.{ends_with, noted, HasJoined, IsNoLinkOf, IsNoLink}
 use Rattle.fair_routes.specs.declared.routes.error.RouteError.{RouteError}
 use Rattle.fair_routes.specs.declared.routes.error.RouteError.TheVariants.{Refused, NoSuchLink}
 use Rattle.fair_rates.proofs.Lists.Places.{places_below}

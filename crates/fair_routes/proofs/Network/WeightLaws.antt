@@ -1,22 +1,15 @@
 -- Weights of one, and the same network with weights said otherwise.
-use Rattle.std.proofs.Common.{◌≡◌, ℕ, ◌*◌, ◌<◌, List, [], ◌∷◌, ◌++◌, All, Contains}
-use Rattle.std.proofs.Common.{length, map, get_or, replicate, refl, sym, ap, ◌∙◌, subst, arith}
-use Rattle.std.specs.Prelude.{slice_index}
-use Rattle.std.proofs.lemmas.List.{get_or-map, get_or-replicate, length-map, length-replicate}
-use Rattle.std.proofs.lemmas.List.Elements.{All-contains, All-head, All-tail}
-use Rattle.fair_rates.specs.Fairness.Fair.{Side, IsLimited, IsFair}
-use Rattle.fair_rates.specs.Fairness.Laws.{AreTheSameSides, HaveUsersBelow}
-use Rattle.fair_rates.specs.Fairness.Rates.{IsRateOf}
-use Rattle.fair_rates.specs.declared.bandwidth.Rate.{Rate}
-use Rattle.fair_rates.specs.declared.bandwidth.Rate.TheVariants.{Unlimited, Finite}
-use Rattle.fair_rates.proofs.Fairness.MappedSides.{listed_on, listed_from}
+use Rattle.fair_routes.proofs.Common.{◌≡◌, ℕ, ◌*◌, ◌<◌, List, [], ◌∷◌, ◌++◌, All, Contains, length, map, get_or}
+use Rattle.fair_routes.proofs.Common.{replicate, refl, sym, ap, ◌∙◌, subst, arith, slice_index, get_or-map}
+use Rattle.fair_routes.proofs.Common.{get_or-replicate, length-map, length-replicate, All-contains, All-tail, Side}
+use Rattle.fair_routes.proofs.Common.{IsLimited, IsFair, HaveUsersBelow, IsRateOf, Rate, Unlimited, Finite, listed_on}
+use Rattle.fair_routes.proofs.Common.{listed_from, sum_by_same, All-from_contains, routes_at, sides_over, weight_at}
+use Rattle.fair_routes.proofs.Common.{as_often, weighted, by_weight, AreWeightedRates}
+use Rattle.std.proofs.lemmas.List.Elements.{All-head}
+use Rattle.fair_rates.specs.Fairness.Laws.{AreTheSameSides}
 use Rattle.fair_rates.proofs.Fairness.SameSides.{still_fair}
-use Rattle.fair_rates.proofs.Lists.Sums.{sum_by_same}
-use Rattle.fair_rates.proofs.Lists.SumOrder.{All-from_contains}
-use Rattle.fair_routes.specs.Network.Laws.{routes_at, rates_at}
-use Rattle.fair_routes.specs.Network.Sides.{sides_over}
+use Rattle.fair_routes.specs.Network.Laws.{rates_at}
 use Rattle.fair_routes.specs.Network.WeightLaws.{WeightsOfOneChangeNothing, OrderOfLinksDoesNotMatterByWeight, OrderOfFlowsDoesNotMatterByWeight, weights_at}
-use Rattle.fair_routes.specs.Network.Weights.{weight_at, as_often, weighted, by_weight, AreWeightedRates}
 use Rattle.fair_routes.proofs.Network.ByWeight.{sum_often, uses_often, often_uses}
 use Rattle.fair_routes.proofs.Network.LinkSides.{users_are_flows}
 use Rattle.fair_routes.proofs.Network.Relabelled.{IsTheSide, AreRelabelled, relabelled_fair, rate_on}

@@ -1,32 +1,28 @@
 -- Rates that are fair by weight: what is found is such a list, there is one, and where it is zero.
-use Rattle.std.proofs.Common.{◌≡◌, ℕ, ◌*◌, ◌^◌, ◌<◌, ◌≤◌, List, All, Contains, Option, Some, None, IfSome}
-use Rattle.std.proofs.Common.{length, map, get_or, sum_by, inl, inr, refl, sym, ap, ◌∙◌, subst, arith}
-use Rattle.std.specs.Prelude.{option_map, slice_index}
-use Rattle.std.proofs.Math.Nat.{eq_of_mul-eq-mul_right}
-use Rattle.std.proofs.lemmas.List.{ext_get_or, get_or_default}
-use Rattle.std.proofs.lemmas.List.Elements.{All-contains}
+use Rattle.fair_routes.proofs.Common.{◌≡◌, ℕ, ◌*◌, ◌^◌, ◌<◌, ◌≤◌, List, All, Contains, Option, Some, None, length, map}
+use Rattle.fair_routes.proofs.Common.{get_or, sum_by, inl, inr, refl, sym, ap, ◌∙◌, subst, arith, option_map}
+use Rattle.fair_routes.proofs.Common.{slice_index, eq_of_mul-eq-mul_right, get_or_default, All-contains}
+use Rattle.fair_routes.proofs.Common.{slice_get_within, get_or_from_slice_get, Side, load, IsLimited, IsFair, IsRateOf}
+use Rattle.fair_routes.proofs.Common.{at_level, Rate, Unlimited, Finite, Ratio, listed_on, listed_from, none_or_some}
+use Rattle.fair_routes.proofs.Common.{not_some, some_is, All-from_contains, frozen_in, weight_at, weighted, as_often}
+use Rattle.fair_routes.proofs.Common.{by_weight, AreWeightedRates}
+use Rattle.std.proofs.Common.{IfSome}
+use Rattle.std.proofs.lemmas.List.{ext_get_or}
 use Rattle.std.proofs.lemmas.List.Sums.{get_or-le-sum_by}
-use Rattle.std.proofs.lemmas.Option.{slice_get_within, get_or_from_slice_get}
-use Rattle.fair_rates.specs.Fairness.Fair.{Side, load, IsLimited, IsFair}
 use Rattle.fair_rates.specs.Fairness.Laws.{UsesClosedSide, AreZeroWhereClosed}
-use Rattle.fair_rates.specs.Fairness.Rates.{IsRateOf}
 use Rattle.fair_rates.specs.Filling.FairParts.{level_at, IsRateAt, AreRatesAt, HasLargeLevel}
-use Rattle.fair_rates.specs.Filling.States.{at_level, AreInside}
+use Rattle.fair_rates.specs.Filling.States.{AreInside}
 use Rattle.fair_rates.specs.Numbers.Amount.{Amount, parts_over}
 use Rattle.fair_rates.specs.Numbers.Fits.{ReducedFits}
 use Rattle.fair_rates.specs.Numbers.LowestTerms.{whole_IsReduced}
 use Rattle.fair_rates.specs.Numbers.Ratio.{IsWorth}
-use Rattle.fair_rates.specs.declared.bandwidth.Rate.{Rate}
-use Rattle.fair_rates.specs.declared.bandwidth.Rate.TheVariants.{Unlimited, Finite}
 use Rattle.fair_rates.specs.declared.bandwidth.parts.FairParts.{FairParts}
-use Rattle.fair_rates.specs.declared.ratio.Ratio.{Ratio}
-use Rattle.fair_rates.proofs.Fairness.MappedSides.{listed_on, listed_from}
 use Rattle.fair_rates.proofs.Fairness.OneAllocation.{same_amounts}
-use Rattle.fair_rates.proofs.Filling.Frozen.{none_or_some, not_some, some_is, at_none}
-use Rattle.fair_rates.proofs.Lists.SumOrder.{All-from_contains, sum_by-zero}
+use Rattle.fair_rates.proofs.Filling.Frozen.{at_none}
+use Rattle.fair_rates.proofs.Lists.SumOrder.{sum_by-zero}
 use Rattle.fair_rates.proofs.Numbers.Ratio.{one_ratio, worth_is_reduced}
-use Rattle.fair_routes.specs.Network.Rising.{frozen_in, AreFilledByWeight, AreWeighed}
-use Rattle.fair_routes.specs.Network.Weights.{weight_at, weighted, as_often, by_weight, AreWeightedRates, IsTheOnlyWeighted, HasLargeWeightedRate}
+use Rattle.fair_routes.specs.Network.Rising.{AreFilledByWeight, AreWeighed}
+use Rattle.fair_routes.specs.Network.Weights.{IsTheOnlyWeighted, HasLargeWeightedRate}
 use Rattle.fair_routes.specs.declared.routes.weighted.rising.Rising.{Rising}
 use Rattle.fair_routes.proofs.Network.ByWeight.{limited_wide, uses_often, often_uses, some_weight}
 

@@ -1,7 +1,7 @@
-use Rattle.std.proofs.Common.{◌≡◌, ◌-◌, ◌<◌, ◌∙◌, None, length, sym, ap, subst, arith}
-use Rattle.std.proofs.lemmas.List.{length-map}
-use Rattle.chains.specs.Chains.{Versions, owner_of, without_last}
-use Rattle.chains.specs.Tables.{Table, now_of, before_of, link_of, rows_in, IsChained}
+use Rattle.chains.proofs.Common.{◌≡◌, ◌-◌, ◌<◌, ◌∙◌, None, length, sym, ap, subst, arith, length-map, Versions}
+use Rattle.chains.proofs.Common.{owner_of, Table, now_of, link_of, rows_in, IsChained}
+use Rattle.chains.specs.Chains.{without_last}
+use Rattle.chains.specs.Tables.{before_of}
 use Rattle.chains.proofs.Popping.{popped_chained, rows_of_popped}
 use Rattle.chains.proofs.Views.{owner_in, owner_is}
 use Rattle.chains.proofs.chains.Chains.pop.Goals as goal

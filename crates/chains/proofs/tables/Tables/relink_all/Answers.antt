@@ -1,7 +1,5 @@
-use Rattle.std.proofs.Common.{◌<◌, ◌+◌, sym, ap, ◌∙◌, subst, length, arith}
-use Rattle.std.proofs.lemmas.Option.{get_or_from_slice_get}
-use Rattle.chains.specs.Tables.{Table, now_of, no_link, Stands, rows_in, IsChained}
-use Rattle.chains.specs.declared.tables.Link.{Link}
+use Rattle.chains.proofs.Common.{◌<◌, ◌+◌, sym, ap, ◌∙◌, subst, length, arith, get_or_from_slice_get, Table, now_of}
+use Rattle.chains.proofs.Common.{no_link, Stands, rows_in, IsChained, Link}
 use Rattle.chains.proofs.Closing.{front, front_all, same_lengths, flag_set, never_empty, owner_within, last_free, one_more, rows_still}
 use Rattle.chains.proofs.tables.Tables.relink_all.Goals as goal
 
