@@ -1,17 +1,16 @@
 -- What is kept beside the slots, where a row comes, changes or leaves.
-use Rattle.std.proofs.Common.{◌≡◌, ℕ, suc, ◌+◌, ◌≤◌, List, [], ◌∷◌, ◌++◌, Option, Some, None, length, map, refl, sym, ap, ap₂, ◌∙◌, arith}
-use Rattle.std.proofs.Common.{subst, is_some, Result, Ok, Err, OnOk, slice_set, option_map}
-use Rattle.std.specs.List.{filter, remove}
-use Rattle.std.specs.Vec.{vec_capacity}
+use Rattle.row_table.proofs.Common.{◌≡◌, ℕ, suc, ◌+◌, ◌≤◌, List, [], ◌∷◌, ◌++◌, Option, Some, None, length, map, refl}
+use Rattle.row_table.proofs.Common.{sym, ap, ◌∙◌, arith, subst, is_some, slice_set, filter, vec_capacity, live, held}
+use Rattle.row_table.proofs.Common.{filled_from, sender_of, receiver_of, moment_of, Finds, Stands, Marked, Row, Parts}
+use Rattle.std.proofs.Common.{ap₂}
+use Rattle.std.proofs.Common.{Result, Ok, Err, OnOk, option_map}
+use Rattle.std.specs.List.{remove}
 use Rattle.std.proofs.lemmas.List.{map-set, map-append, length-map}
 use Rattle.std.proofs.Math.Seq.{map-set_same}
 use Rattle.chains.specs.Chains.{Versions, Rows}
 use Rattle.row_table.specs.Rows.{with_item}
-use Rattle.row_table.specs.Slots.{live, held, filled_from}
-use Rattle.row_table.specs.Index.{sender_of, receiver_of, moment_of, Finds, Found, Stands, Marked}
-use Rattle.row_table.specs.declared.row.Row.{Row}
+use Rattle.row_table.specs.Index.{Found}
 use Rattle.row_table.specs.declared.index.Index.{Index}
-use Rattle.row_table.specs.declared.parts.Parts.{Parts}
 use Rattle.row_table.proofs.Slots.{IsSlot, filled_append, filled_changed, filled_taken, some_same}
 
 -- owners are those of rows that are there

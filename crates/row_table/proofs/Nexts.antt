@@ -1,17 +1,18 @@
 -- The next row that passes a test, by places and by slots.
-use Rattle.std.proofs.Common.{◌≡◌, ℕ, zero, suc, ◌<◌, ◌≤◌, ◌==◌, Bool, true, false, List, [], ◌∷◌, Option, Some, None, length, map, refl, sym, ap, ◌∙◌, arith}
-use Rattle.std.proofs.Common.{◌||◌, IfSome, IfNone, slice_get, slice_index_or, option_map, eq-eqb}
+use Rattle.row_table.proofs.Common.{◌≡◌, ℕ, zero, suc, ◌<◌, ◌≤◌, Bool, true, false, List, [], ◌∷◌, Option, Some, None}
+use Rattle.row_table.proofs.Common.{length, map, refl, sym, ap, ◌∙◌, arith, IfSome, IfNone, slice_get, cases_lt}
+use Rattle.row_table.proofs.Common.{slice_get_within, by_cases, IsNext, is_due_by, live, held, filled_from, IsPlaceOf}
+use Rattle.row_table.proofs.Common.{moment_of, Row}
+use Rattle.std.proofs.Common.{◌==◌}
+use Rattle.std.proofs.Common.{◌||◌, slice_index_or, option_map, eq-eqb}
 use Rattle.std.specs.List.{list_any}
-use Rattle.std.proofs.lemmas.Bool.{cases_Bool, cases_lt, eqb-true, le-leb, leb-true}
-use Rattle.std.proofs.lemmas.Option.{slice_get_within}
+use Rattle.std.proofs.lemmas.Bool.{cases_Bool, eqb-true, le-leb, leb-true}
 use Rattle.std.proofs.Math.ListN.{get_or-map}
 use Rattle.chains.specs.Places.{IsFirst}
-use Rattle.chains.proofs.Places.{by_cases, first_same}
+use Rattle.chains.proofs.Places.{first_same}
 use Rattle.least_moment.specs.Moments.{HasCome, IsDue, moment_at, IsNextDue, NoneDue, IsLeast}
-use Rattle.row_table.specs.Rows.{passes, IsNext, has_come, is_due_by}
-use Rattle.row_table.specs.Slots.{live, held, filled_from, IsNextSlot, IsPlaceOf}
-use Rattle.row_table.specs.Index.{moment_of}
-use Rattle.row_table.specs.declared.row.Row.{Row}
+use Rattle.row_table.specs.Rows.{passes, has_come}
+use Rattle.row_table.specs.Slots.{IsNextSlot}
 use Rattle.row_table.proofs.Slots.{IsSlot, slot_at, held_at, slot_of_row, slots_below, places_below, some_same}
 
 or_true : (a b : Bool) → b ≡ true → (a || b) ≡ true

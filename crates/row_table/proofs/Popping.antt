@@ -1,17 +1,14 @@
 -- What is kept beside the slots, once the last slot is empty and gone.
-use Rattle.std.proofs.Common.{◌≡◌, ℕ, suc, ◌+◌, ◌-◌, List, [], ◌∷◌, ◌++◌, Option, Some, None, false, IsSome, is_some}
-use Rattle.std.proofs.Common.{length, map, take, refl, sym, subst, ap, ◌∙◌, arith}
+use Rattle.row_table.proofs.Common.{◌≡◌, ℕ, suc, ◌+◌, ◌-◌, List, [], ◌∷◌, ◌++◌, Option, Some, None, false, IsSome}
+use Rattle.row_table.proofs.Common.{is_some, length, map, take, refl, sym, subst, ap, ◌∙◌, arith, live, held}
+use Rattle.row_table.proofs.Common.{filled_from, sender_of, receiver_of, moment_of, Finds, Stands, Row, Parts}
 use Rattle.std.specs.Option.{option_to_list}
 use Rattle.std.specs.Prelude.{slice_set, slice_index_or}
 use Rattle.std.proofs.lemmas.List.{set-get_or, take-set-le, take_all, take-map, get_or-set_same, append-nil, length-append}
 use Rattle.std.proofs.Math.Seq.{take-append_seam}
 use Rattle.std.proofs.Math.ListN.{get_or-map}
 use Rattle.chains.specs.Chains.{owner_of}
-use Rattle.row_table.specs.Slots.{live, held, filled_from}
-use Rattle.row_table.specs.Index.{sender_of, receiver_of, moment_of, Finds, Stands}
-use Rattle.row_table.specs.declared.row.Row.{Row}
 use Rattle.row_table.specs.declared.index.Index.{Index}
-use Rattle.row_table.specs.declared.parts.Parts.{Parts}
 use Rattle.row_table.proofs.Slots.{filled_more, live_append}
 
 pub none_there : {A : Type 0} (o : Option A) → is_some o ≡ false → o ≡ None

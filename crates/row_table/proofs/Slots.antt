@@ -1,16 +1,15 @@
 -- The slots that hold a row, where a row comes, changes or leaves.
-use Rattle.std.proofs.Common.{◌≡◌, ℕ, zero, suc, ◌+◌, ◌<◌, ◌≤◌, List, [], ◌∷◌, ◌++◌, Option, Some, None, length, map, take, refl, sym, subst, ap, ◌∙◌, arith}
-use Rattle.std.proofs.Common.{slice_get, slice_set, get_or, IsSome, is_some, IfSome, IfNone, add-one, length-take-le}
-use Rattle.std.specs.List.{filter, remove, All, AllPairs}
-use Rattle.std.specs.Vec.{vec_capacity, vec_len}
+use Rattle.row_table.proofs.Common.{◌≡◌, ℕ, zero, suc, ◌+◌, ◌<◌, ◌≤◌, List, [], ◌∷◌, ◌++◌, Option, Some, None, length}
+use Rattle.row_table.proofs.Common.{map, take, refl, sym, subst, ap, ◌∙◌, arith, slice_get, slice_set, IsSome, is_some}
+use Rattle.row_table.proofs.Common.{IfSome, IfNone, filter, vec_capacity, get_or_from_slice_get, slice_get_within}
+use Rattle.row_table.proofs.Common.{cases_lt, by_cases, live, held, filled_from, IsPlaceOf, Row}
+use Rattle.std.proofs.Common.{get_or, add-one, length-take-le}
+use Rattle.std.specs.List.{remove, All, AllPairs}
+use Rattle.std.specs.Vec.{vec_len}
 use Rattle.std.specs.declared.vec.Vec.{Vec}
-use Rattle.std.proofs.lemmas.Option.{get_or_from_slice_get, slice_get-get_or, slice_get_read, slice_get_within}
+use Rattle.std.proofs.lemmas.Option.{slice_get-get_or, slice_get_read}
 use Rattle.std.proofs.Math.Seq.{take-suc}
 use Rattle.std.proofs.lemmas.List.Kept.{AllPairs-cons}
-use Rattle.std.proofs.lemmas.Bool.{cases_lt}
-use Rattle.chains.proofs.Places.{by_cases}
-use Rattle.row_table.specs.Slots.{live, held, filled_from, IsPlaceOf}
-use Rattle.row_table.specs.declared.row.Row.{Row}
 
 pub some_same : (a b : ℕ) → Some a ≡ Some b → a ≡ b
 some_same a b e = cc

@@ -1,7 +1,5 @@
-use Rattle.std.proofs.Common.{◌≡◌, ◌∙◌, Some, All, false, ap, sym, subst, slice_get, List, Option}
+use Rattle.row_table.proofs.Common.{◌≡◌, ◌∙◌, Some, All, false, ap, sym, subst, slice_get, List, Option, emptied, Row}
 use Rattle.std.proofs.lemmas.List.Elements.{All-pop}
-use Rattle.row_table.specs.Slots.{emptied}
-use Rattle.row_table.specs.declared.row.Row.{Row}
 use Rattle.row_table.proofs.Leaving.{emptied_more}
 use Rattle.row_table.proofs.slot_list.let_go.Goals as goal
 

@@ -1,6 +1,4 @@
-use Rattle.std.proofs.Common.{List, Option, Some, [], ◌∷◌, ◌++◌, ap, ◌∙◌}
-use Rattle.row_table.specs.Slots.{live}
-use Rattle.row_table.specs.declared.row.Row.{Row}
+use Rattle.row_table.proofs.Common.{List, Option, Some, [], ◌∷◌, ◌++◌, ap, ◌∙◌, live, Row}
 use Rattle.row_table.proofs.Slots.{live_append}
 use Rattle.row_table.proofs.Finding.{stands_added, on_ok, on_all}
 use Rattle.row_table.proofs.parts.Parts.add_row.Goals as goal

@@ -1,10 +1,6 @@
-use Rattle.std.proofs.Common.{◌≡◌, ◌≤◌, ◌∙◌, map, Some, List, Option, refl, sym, subst, ap, length, arith}
-use Rattle.std.specs.Vec.{vec_capacity}
+use Rattle.row_table.proofs.Common.{◌≡◌, ◌≤◌, ◌∙◌, map, Some, List, Option, refl, sym, subst, ap, length, arith}
+use Rattle.row_table.proofs.Common.{vec_capacity, live, filled_from, moment_of, Finds, Row, Parts}
 use Rattle.std.proofs.lemmas.List.{length-map}
-use Rattle.row_table.specs.Slots.{live, filled_from}
-use Rattle.row_table.specs.Index.{moment_of, Finds}
-use Rattle.row_table.specs.declared.row.Row.{Row}
-use Rattle.row_table.specs.declared.parts.Parts.{Parts}
 use Rattle.row_table.proofs.Slots.{live_filter, live_whole, length-live, room_for}
 use Rattle.row_table.proofs.Finding.{found_closed, stands_whole, marked_now}
 use Rattle.row_table.proofs.parts.Parts.commit.Given as given

@@ -1,5 +1,4 @@
-use Rattle.std.proofs.Common.{◌-◌, ◌∙◌, ap, sym, take}
-use Rattle.row_table.specs.Slots.{held}
+use Rattle.row_table.proofs.Common.{◌-◌, ◌∙◌, ap, sym, take, held}
 use Rattle.row_table.proofs.Finding.{found_taken}
 use Rattle.row_table.proofs.Popping.{none_there, found_empty, filled_none, filled_rest}
 use Rattle.row_table.proofs.parts.Parts.forget.Goals as goal

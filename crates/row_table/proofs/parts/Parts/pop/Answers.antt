@@ -1,6 +1,4 @@
-use Rattle.std.proofs.Common.{◌≡◌, [], ◌∷◌, ◌++◌, refl, subst, arith}
-use Rattle.row_table.specs.declared.parts.Parts.{Parts}
-use Rattle.row_table.specs.Slots.{SlotVersions}
+use Rattle.row_table.proofs.Common.{◌≡◌, [], ◌∷◌, ◌++◌, refl, subst, arith, Parts, SlotVersions}
 use Rattle.row_table.proofs.Popping.{sent_gone, received_gone, live_popped, stands_popped}
 use Rattle.row_table.proofs.parts.Parts.pop.Goals as goal
 

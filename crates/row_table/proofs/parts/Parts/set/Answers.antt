@@ -1,6 +1,4 @@
-use Rattle.std.proofs.Common.{List, Option, refl, sym, ap, ◌∙◌, slice_set}
-use Rattle.row_table.specs.Slots.{live, held}
-use Rattle.row_table.specs.declared.row.Row.{Row}
+use Rattle.row_table.proofs.Common.{List, Option, refl, sym, ap, ◌∙◌, slice_set, live, held, Row}
 use Rattle.row_table.proofs.Slots.{IsSlot, slot_at, held_at, live_changed}
 use Rattle.row_table.proofs.Finding.{stands_changed, with_owners}
 use Rattle.row_table.proofs.parts.Parts.set.Given as given

@@ -1,6 +1,5 @@
-use Rattle.std.proofs.Common.{length, ap, sym, ◌∙◌, arith}
+use Rattle.row_table.proofs.Common.{length, ap, sym, ◌∙◌, arith, live}
 use Rattle.std.proofs.lemmas.Option.{slice_get_read}
-use Rattle.row_table.specs.Slots.{live}
 use Rattle.row_table.proofs.Slots.{len-filled, length-filled, slot_at, slot_holds}
 use Rattle.row_table.proofs.parts.Parts.slot_at.Goals as goal
 

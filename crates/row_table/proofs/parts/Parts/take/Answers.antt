@@ -1,6 +1,4 @@
-use Rattle.std.proofs.Common.{List, Option, ap, ◌∙◌}
-use Rattle.row_table.specs.Slots.{live}
-use Rattle.row_table.specs.declared.row.Row.{Row}
+use Rattle.row_table.proofs.Common.{List, Option, ap, ◌∙◌, live, Row}
 use Rattle.row_table.proofs.Slots.{slot_at, live_taken}
 use Rattle.row_table.proofs.Finding.{stands_taken}
 use Rattle.row_table.proofs.parts.Parts.take.Goals as goal

@@ -1,7 +1,5 @@
-use Rattle.std.proofs.Common.{◌∙◌, None, IsSome, Option, ap, sym, subst}
-use Rattle.std.proofs.lemmas.Option.{get_or_from_slice_get}
-use Rattle.row_table.specs.Slots.{SlotVersions, held}
-use Rattle.row_table.specs.declared.row.Row.{Row}
+use Rattle.row_table.proofs.Common.{◌∙◌, None, IsSome, Option, ap, sym, subst, get_or_from_slice_get, SlotVersions}
+use Rattle.row_table.proofs.Common.{held, Row}
 use Rattle.row_table.proofs.Leaving.{emptied_within, held_still}
 use Rattle.row_table.proofs.slot_list.Slots.at.Goals as goal
 

@@ -1,7 +1,5 @@
-use Rattle.std.proofs.Common.{◌∙◌, None, Option, is_some, length, ap, sym, arith}
-use Rattle.std.proofs.lemmas.Option.{get_or_from_slice_get}
-use Rattle.row_table.specs.Slots.{SlotVersions, held}
-use Rattle.row_table.specs.declared.row.Row.{Row}
+use Rattle.row_table.proofs.Common.{◌∙◌, None, Option, is_some, length, ap, sym, arith, get_or_from_slice_get}
+use Rattle.row_table.proofs.Common.{SlotVersions, held, Row}
 use Rattle.row_table.proofs.Leaving.{length_emptied, held_behind}
 use Rattle.row_table.proofs.slot_list.Slots.is_filled.Goals as goal
 

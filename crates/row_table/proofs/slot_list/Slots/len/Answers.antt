@@ -1,5 +1,4 @@
-use Rattle.std.proofs.Common.{length, ap, sym, ◌∙◌}
-use Rattle.row_table.specs.Slots.{SlotVersions}
+use Rattle.row_table.proofs.Common.{length, ap, sym, ◌∙◌, SlotVersions}
 use Rattle.row_table.proofs.Leaving.{length_emptied}
 use Rattle.row_table.proofs.slot_list.Slots.len.Goals as goal
 

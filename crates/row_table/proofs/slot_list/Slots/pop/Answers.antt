@@ -1,6 +1,6 @@
-use Rattle.std.proofs.Common.{◌<◌, ◌∷◌, ◌∙◌, [], All, List, Option, length, ap, sym, subst, arith}
-use Rattle.row_table.specs.Slots.{SlotVersions, emptied, IsLeft}
-use Rattle.row_table.specs.declared.row.Row.{Row}
+use Rattle.row_table.proofs.Common.{◌<◌, ◌∷◌, ◌∙◌, [], All, List, Option, length, ap, sym, subst, arith, SlotVersions}
+use Rattle.row_table.proofs.Common.{emptied, Row}
+use Rattle.row_table.specs.Slots.{IsLeft}
 use Rattle.row_table.proofs.Leaving.{length_emptied, emptied_append, left_popped, left_within}
 use Rattle.row_table.proofs.slot_list.Slots.pop.Given as given
 use Rattle.row_table.proofs.slot_list.Slots.pop.Goals as goal

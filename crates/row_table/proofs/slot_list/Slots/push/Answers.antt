@@ -1,6 +1,4 @@
-use Rattle.std.proofs.Common.{◌++◌, ◌∷◌, ◌∙◌, [], Some, List, Option, ap}
-use Rattle.row_table.specs.Slots.{SlotVersions, emptied}
-use Rattle.row_table.specs.declared.row.Row.{Row}
+use Rattle.row_table.proofs.Common.{◌++◌, ◌∷◌, ◌∙◌, [], Some, List, Option, ap, SlotVersions, emptied, Row}
 use Rattle.row_table.proofs.Leaving.{emptied_append, left_pushed, left_within}
 use Rattle.row_table.proofs.slot_list.Slots.push.Goals as goal
 

@@ -1,6 +1,5 @@
-use Rattle.std.proofs.Common.{◌∙◌, Some, IsSome, List, Option, ap, sym, subst, slice_set}
-use Rattle.row_table.specs.Slots.{SlotVersions, held, emptied}
-use Rattle.row_table.specs.declared.row.Row.{Row}
+use Rattle.row_table.proofs.Common.{◌∙◌, Some, IsSome, List, Option, ap, sym, subst, slice_set, SlotVersions, held}
+use Rattle.row_table.proofs.Common.{emptied, Row}
 use Rattle.row_table.proofs.Leaving.{emptied_within, emptied_set, left_changed}
 use Rattle.row_table.proofs.slot_list.Slots.set.Goals as goal
 

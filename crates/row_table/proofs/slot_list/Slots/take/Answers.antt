@@ -1,6 +1,5 @@
-use Rattle.std.proofs.Common.{◌<◌, ◌∙◌, None, IsSome, List, Option, length, ap, sym, subst, slice_set, arith}
-use Rattle.row_table.specs.Slots.{SlotVersions, held, emptied}
-use Rattle.row_table.specs.declared.row.Row.{Row}
+use Rattle.row_table.proofs.Common.{◌<◌, ◌∙◌, None, IsSome, List, Option, length, ap, sym, subst, slice_set, arith}
+use Rattle.row_table.proofs.Common.{SlotVersions, held, emptied, Row}
 use Rattle.row_table.proofs.Leaving.{emptied_within, emptied_set, emptied_taken, left_changed, left_more}
 use Rattle.row_table.proofs.slot_list.Slots.take.Goals as goal
 

@@ -1,5 +1,4 @@
-use Rattle.std.proofs.Common.{slice_get, sym, ap, ◌∙◌}
-use Rattle.row_table.specs.Rows.{Versions}
+use Rattle.row_table.proofs.Common.{slice_get, sym, ap, ◌∙◌, Versions}
 use Rattle.row_table.proofs.Slots.{slot_at, held_at}
 use Rattle.row_table.proofs.table.RowTable.at.Goals as goal
 

@@ -1,7 +1,6 @@
-use Rattle.std.proofs.Common.{◌≡◌, ℕ, Some, suc, slice_get, subst, sym, ap, ◌∙◌}
-use Rattle.row_table.specs.Rows.{Versions, IsNext, is_received_by}
-use Rattle.row_table.specs.Index.{receiver_of}
-use Rattle.row_table.specs.declared.row.Row.{Row}
+use Rattle.row_table.proofs.Common.{◌≡◌, ℕ, Some, suc, slice_get, subst, sym, ap, ◌∙◌, Versions, IsNext, receiver_of}
+use Rattle.row_table.proofs.Common.{Row}
+use Rattle.row_table.specs.Rows.{is_received_by}
 use Rattle.row_table.proofs.Slots.{IsSlot, slot_at, held_at, some_same}
 use Rattle.row_table.proofs.Nexts.{from_behind, next_of_owner, next_place, next_within}
 use Rattle.row_table.proofs.table.RowTable.next_received.Given as given
