@@ -3,14 +3,12 @@ use Rattle.chains.proofs.Common.{◌≡◌, ℕ, suc, ◌+◌, ◌<◌, ◌≤�
 use Rattle.chains.proofs.Common.{[], ◌∷◌, length, map, take, replicate, slice_set, slice_index_or, false, length-map}
 use Rattle.chains.proofs.Common.{map-set_same, Rows, owner_of, IsPlace, Table, link_of, end_of, no_link, no_end, Stands}
 use Rattle.chains.proofs.Common.{with_next, with_prev, with_link, added, rows_in, IsChained, Link, End}
-use Rattle.std.proofs.Common.{zero}
-use Rattle.std.proofs.Common.{slice_get, filter, is_some, Bool, cond, true}
+use Rattle.std.proofs.Common.{zero, slice_get, filter, is_some, Bool, cond, true}
 use Rattle.std.proofs.lemmas.List.{get_or-take, take_more_set, length-take-le, get_or-replicate, length-replicate}
 use Rattle.std.proofs.lemmas.List.{take_all}
 use Rattle.std.proofs.lemmas.Option.{slice_get-get_or}
 use Rattle.chains.specs.Chains.{without_gaps}
-use Rattle.chains.specs.Tables.{relinked}
-use Rattle.chains.specs.Tables.{AreFilled}
+use Rattle.chains.specs.Tables.{relinked, AreFilled}
 use Rattle.chains.proofs.Adding.{added_chained}
 use Rattle.chains.proofs.Places.{some_same}
 use Rattle.chains.proofs.Linking.{next_ends, prev_ends}

@@ -1,9 +1,8 @@
 -- What is kept beside the slots, where a row comes, changes or leaves.
-use Rattle.row_table.proofs.Common.{◌≡◌, ℕ, suc, ◌+◌, ◌≤◌, List, [], ◌∷◌, ◌++◌, Option, Some, None, length, map, refl}
-use Rattle.row_table.proofs.Common.{sym, ap, ◌∙◌, arith, subst, is_some, slice_set, filter, vec_capacity, live, held}
+use Rattle.row_table.proofs.Common.{◌≡◌, ℕ, ◌+◌, ◌≤◌, List, [], ◌∷◌, ◌++◌, Option, Some, None, length, map, refl, sym}
+use Rattle.row_table.proofs.Common.{ap, ◌∙◌, arith, subst, is_some, slice_set, filter, vec_capacity, live, held}
 use Rattle.row_table.proofs.Common.{filled_from, sender_of, receiver_of, moment_of, Finds, Stands, Marked, Row, Parts}
-use Rattle.std.proofs.Common.{ap₂}
-use Rattle.std.proofs.Common.{Result, Ok, Err, OnOk, option_map}
+use Rattle.std.proofs.Common.{ap₂, Result, Ok, Err, OnOk, option_map}
 use Rattle.std.specs.List.{remove}
 use Rattle.std.proofs.lemmas.List.{map-set, map-append, length-map}
 use Rattle.std.proofs.Math.Seq.{map-set_same}

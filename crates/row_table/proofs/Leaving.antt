@@ -2,8 +2,7 @@
 use Rattle.row_table.proofs.Common.{◌≡◌, ℕ, zero, suc, ◌<◌, ◌-◌, Bool, true, false, List, [], ◌∷◌, ◌++◌, Option, Some}
 use Rattle.row_table.proofs.Common.{None, All, IsSome, length, take, refl, sym, subst, ap, ◌∙◌, arith, slice_get}
 use Rattle.row_table.proofs.Common.{slice_set, get_or_from_slice_get, slice_get_within, held, emptied, Row}
-use Rattle.std.proofs.Common.{◌≢◌}
-use Rattle.std.proofs.Common.{slice_index_or}
+use Rattle.std.proofs.Common.{◌≢◌, slice_index_or}
 use Rattle.std.proofs.lemmas.List.{set_comm, length-set, length-append, set-append_left, get_or-set_other, get_or-take}
 use Rattle.std.proofs.Math.ListN.{get_or-append}
 use Rattle.std.proofs.lemmas.List.Elements.{All-push}

@@ -3,8 +3,7 @@ use Rattle.row_table.proofs.Common.{◌≡◌, ℕ, zero, suc, ◌<◌, ◌≤�
 use Rattle.row_table.proofs.Common.{length, map, refl, sym, ap, ◌∙◌, arith, IfSome, IfNone, slice_get, cases_lt}
 use Rattle.row_table.proofs.Common.{slice_get_within, by_cases, IsNext, is_due_by, live, held, filled_from, IsPlaceOf}
 use Rattle.row_table.proofs.Common.{moment_of, Row}
-use Rattle.std.proofs.Common.{◌==◌}
-use Rattle.std.proofs.Common.{◌||◌, slice_index_or, option_map, eq-eqb}
+use Rattle.std.proofs.Common.{◌==◌, ◌||◌, slice_index_or, option_map, eq-eqb}
 use Rattle.std.specs.List.{list_any}
 use Rattle.std.proofs.lemmas.Bool.{cases_Bool, eqb-true, le-leb, leb-true}
 use Rattle.std.proofs.Math.ListN.{get_or-map}

@@ -4,7 +4,8 @@ use Rattle.row_table.proofs.Common.{is_some, length, map, take, refl, sym, subst
 use Rattle.row_table.proofs.Common.{filled_from, sender_of, receiver_of, moment_of, Finds, Stands, Row, Parts}
 use Rattle.std.specs.Option.{option_to_list}
 use Rattle.std.specs.Prelude.{slice_set, slice_index_or}
-use Rattle.std.proofs.lemmas.List.{set-get_or, take-set-le, take_all, take-map, get_or-set_same, append-nil, length-append}
+use Rattle.std.proofs.lemmas.List.{set-get_or, take-set-le, take_all, take-map, get_or-set_same, append-nil}
+use Rattle.std.proofs.lemmas.List.{length-append}
 use Rattle.std.proofs.Math.Seq.{take-append_seam}
 use Rattle.std.proofs.Math.ListN.{get_or-map}
 use Rattle.chains.specs.Chains.{owner_of}

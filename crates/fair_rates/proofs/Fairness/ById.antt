@@ -1,10 +1,10 @@
 -- Rates by id under the caps of peers.
-use Rattle.fair_rates.proofs.Common.{◌≡◌, ◌↔◌, ℕ, ◌≤◌, Bool, true, false, cond, List, [], ◌∷◌, Option, Some, count_by}
-use Rattle.fair_rates.proofs.Common.{length, map, refl, sym, ap, ap₂, ◌∙◌, subst, arith, slice_get, filter}
-use Rattle.fair_rates.proofs.Common.{IsTotalOrder, Ordering, eq-eqb, slice_get-map, sum_by-cons, Flow, Rate, Unlimited}
-use Rattle.fair_rates.proofs.Common.{AreOfPeers, sides_under, flagged, last_rate, Caps}
-use Rattle.fair_rates.specs.Fairness.UnderCaps.{UsesNoCap, HaveDistinctIds, IsFairById}
-use Rattle.fair_rates.specs.Fairness.UnderCaps.{UnlimitedByIdWhereUncapped, OthersDoNotMatter, is_of_set}
+use Rattle.fair_rates.proofs.Common.{◌≡◌, ◌↔◌, ℕ, ◌≤◌, Bool, true, List, [], ◌∷◌, Option, Some, count_by, length, map}
+use Rattle.fair_rates.proofs.Common.{refl, sym, ap, ap₂, ◌∙◌, subst, arith, slice_get, filter, IsTotalOrder, Ordering}
+use Rattle.fair_rates.proofs.Common.{eq-eqb, slice_get-map, sum_by-cons, Flow, Rate, Unlimited, AreOfPeers, sides_under}
+use Rattle.fair_rates.proofs.Common.{flagged, last_rate, Caps, common_steps}
+use Rattle.fair_rates.specs.Fairness.UnderCaps.{UsesNoCap, HaveDistinctIds, IsFairById, UnlimitedByIdWhereUncapped}
+use Rattle.fair_rates.specs.Fairness.UnderCaps.{OthersDoNotMatter, is_of_set}
 use Rattle.fair_rates.proofs.Fairness.Among.{Allotted, IsSaidAmong, flows_of, rates_of, among_from, rate_there}
 use Rattle.fair_rates.proofs.Lists.Members.{In, from_map, from_filter, in_filter, get_in, in_from_contains}
 use Rattle.fair_rates.proofs.Fairness.OneAllocation.{one_allocation}
@@ -15,13 +15,7 @@ use Rattle.fair_rates.proofs.Fairness.Uncapped.{unlimited_where_uncapped}
 -- a filter leaves no more that pass a test
 count_by-filter : {X : Type 0} (p q : X → Bool) (xs : List X) → count_by p (filter q xs) ≤ count_by p xs
 count_by-filter p q [] = omega arith
-count_by-filter {X} p q (x ∷ xs) = by_test (q x) (count_by-filter p q xs)
-  where
-    by_test : (b : Bool) → count_by p (filter q xs) ≤ count_by p xs
-        → count_by p (cond b (x ∷ filter q xs) (filter q xs)) ≤ count_by p (x ∷ xs)
-    by_test true ih =
-        omega (arith, ih, sum_by-cons (λ y. cond (p y) 1 0) x (filter q xs), sum_by-cons (λ y. cond (p y) 1 0) x xs)
-    by_test false ih = omega (arith, ih, sum_by-cons (λ y. cond (p y) 1 0) x xs)
+count_by-filter {X} p q (x ∷ xs) = grind (arith, common_steps, sum_by-cons, count_by-filter p q xs)
 
 -- where ids are distinct, the rate by the id of a flow is its own
 pub rate_by_id : {P : Type 0} (xs : List (Allotted P)) (x : Allotted P) → HaveDistinctIds (flows_of xs) → In xs x

@@ -1,17 +1,16 @@
 -- The order of the flows does not matter.
 use Rattle.fair_rates.proofs.Common.{◌≡◌, ℕ, ◌<◌, ◌≤◌, Bool, true, false, cond, List, [], ◌∷◌, Option, Some, None, map}
-use Rattle.fair_rates.proofs.Common.{set, get_or, length, count_by, refl, sym, ap, ap₂, ◌∙◌, subst, inl, inr, arith}
-use Rattle.fair_rates.proofs.Common.{IsTotalOrder, Ordering, get_or-map, length-map, sum_by-cons, IsPermutation-refl}
+use Rattle.fair_rates.proofs.Common.{length, count_by, refl, sym, ap, ap₂, ◌∙◌, subst, inl, inr, arith, IsTotalOrder}
+use Rattle.fair_rates.proofs.Common.{Ordering, get_or-map, length-map, sum_by-cons, IsPermutation-refl}
 use Rattle.fair_rates.proofs.Common.{IsPermutation-sym, Contains-permutation, Flow, Rate, Subject, last_rate, Caps}
-use Rattle.fair_rates.proofs.Common.{AreOfPeers, limits, sides_under, AreFairUnder}
+use Rattle.fair_rates.proofs.Common.{AreOfPeers, limits, sides_under, AreFairUnder, rules}
 use Rattle.std.specs.Prelude.{◌==◌}
 use Rattle.std.specs.List.{swap}
 use Rattle.std.specs.List.Sorted.{IsPermutation}
 use Rattle.std.proofs.lemmas.List.{map-set}
-use Rattle.std.proofs.lemmas.List.Sorted.{IsPermutation-trans}
-use Rattle.std.proofs.lemmas.List.Sorted.{IsPermutation-swap, IsPermutation-keeps, sum_by-IsPermutation}
-use Rattle.fair_rates.specs.Fairness.UnderCaps.{HaveDistinctIds}
-use Rattle.fair_rates.specs.Fairness.UnderCaps.{OrderDoesNotMatter}
+use Rattle.std.proofs.lemmas.List.Sorted.{IsPermutation-trans, IsPermutation-swap, IsPermutation-keeps}
+use Rattle.std.proofs.lemmas.List.Sorted.{sum_by-IsPermutation}
+use Rattle.fair_rates.specs.Fairness.UnderCaps.{HaveDistinctIds, OrderDoesNotMatter}
 use Rattle.fair_rates.proofs.Lists.Members.{In, in_from_contains, contains_from_in, some_or_none}
 use Rattle.fair_rates.proofs.Fairness.OneAllocation.{one_allocation}
 use Rattle.fair_rates.proofs.Fairness.Among.{Allotted, flow_of, parts_of, flows_of, rates_of, AreFairAmong, among_from}
@@ -21,12 +20,7 @@ use Rattle.fair_rates.proofs.Fairness.Sharing.{total}
 map-swap : {X Y : Type 0} (f : X → Y) (xs : List X) (i j : ℕ) → i < length xs → j < length xs
     → map f (swap xs i j) ≡ swap (map f xs) i j
 map-swap f [] i j il jl = refl
-map-swap f (x ∷ xs) i j il jl =
-    map-set f (set (x ∷ xs) i (get_or (x ∷ xs) j x)) j (get_or (x ∷ xs) i x)
-    ∙ ap₂ (λ ys y. set ys j y)
-    (map-set f (x ∷ xs) i (get_or (x ∷ xs) j x)
-    ∙ ap (set (map f (x ∷ xs)) i) (sym (get_or-map f (x ∷ xs) j x (f x) jl)))
-    (sym (get_or-map f (x ∷ xs) i x (f x) il))
+map-swap f (x ∷ xs) i j il jl = search (rules, map-set, get_or-map)
 
 -- the elements that the images come from, in the order of the images
 record Lifted {X Y : Type 0} (f : X → Y) (xs : List X) (images : List Y) : Type 0 where

@@ -1,12 +1,11 @@
 -- A part of the flows that shares no side with the rest.
-use Rattle.fair_rates.proofs.Common.{◌≡◌, ℕ, Bool, true, false, cond, List, [], ◌∷◌, map, refl, sym, ap, ◌∙◌, subst}
-use Rattle.fair_rates.proofs.Common.{ap₂, filter, IsTotalOrder, Ordering, and_parts, eq_by_cmp_equiv, All-contains}
-use Rattle.fair_rates.proofs.Common.{Flow, Rate, flagged, Subject, sent_by, received_by, sent_between, same_peer, Caps}
-use Rattle.fair_rates.proofs.Common.{limits, AreFairUnder}
+use Rattle.fair_rates.proofs.Common.{◌≡◌, ℕ, Bool, true, List, [], ◌∷◌, map, refl, sym, ap, ◌∙◌, subst, ap₂, filter}
+use Rattle.fair_rates.proofs.Common.{IsTotalOrder, Ordering, and_parts, eq_by_cmp_equiv, All-contains, Flow, Rate}
+use Rattle.fair_rates.proofs.Common.{flagged, Subject, sent_by, received_by, sent_between, same_peer, Caps, limits}
+use Rattle.fair_rates.proofs.Common.{AreFairUnder, rules}
 use Rattle.std.proofs.Common.{subst₂}
 use Rattle.std.proofs.lemmas.Map.Steps.{list_any_congr}
-use Rattle.fair_rates.specs.Fairness.UnderCaps.{is_among, is_of_set, HaveBothEndsOrNone}
-use Rattle.fair_rates.specs.Fairness.UnderCaps.{PartIsFair}
+use Rattle.fair_rates.specs.Fairness.UnderCaps.{is_among, is_of_set, HaveBothEndsOrNone, PartIsFair}
 use Rattle.fair_rates.proofs.Lists.Members.{In, in_map, from_filter, contains_from_in}
 use Rattle.fair_rates.proofs.Fairness.Among.{Allotted, flow_of, parts_of, flows_of, rates_of, AreFairAmong, among_from}
 use Rattle.fair_rates.proofs.Fairness.Among.{under_from}
@@ -19,24 +18,11 @@ module _ {P : Type 0} (cmp : P → P → Ordering) (caps : Caps P) (mine : Flow 
 
   pub flows_of_part : (xs : List (Allotted P)) → flows_of (part xs) ≡ filter mine (flows_of xs)
   flows_of_part [] = refl
-  flows_of_part (x ∷ xs) = by_test (mine x.flow) (flows_of_part xs)
-    where
-      by_test : (b : Bool) → flows_of (part xs) ≡ filter mine (flows_of xs)
-          → flows_of (cond b (x ∷ part xs) (part xs))
-          ≡ cond b (x.flow ∷ filter mine (flows_of xs)) (filter mine (flows_of xs))
-      by_test true ih = ap (λ (fs : List (Flow P)). x.flow ∷ fs) ih
-      by_test false ih = ih
+  flows_of_part (x ∷ xs) = search (rules, flows_of_part xs)
 
   pub rates_of_part : (xs : List (Allotted P)) → rates_of (part xs) ≡ flagged (map mine (flows_of xs)) (rates_of xs)
   rates_of_part [] = refl
-  rates_of_part (x ∷ xs) = by_test (mine x.flow) (rates_of_part xs)
-    where
-      by_test : (b : Bool) → rates_of (part xs) ≡ flagged (map mine (flows_of xs)) (rates_of xs)
-          → rates_of (cond b (x ∷ part xs) (part xs))
-          ≡ cond b (x.rate ∷ flagged (map mine (flows_of xs)) (rates_of xs))
-          (flagged (map mine (flows_of xs)) (rates_of xs))
-      by_test true ih = ap (λ (rs : List Rate). x.rate ∷ rs) ih
-      by_test false ih = ih
+  rates_of_part (x ∷ xs) = search (rules, rates_of_part xs)
 
   -- fairness of the part
   pub part_among : (per : ℕ) (xs : List (Allotted P)) → AreFairAmong cmp caps per xs
@@ -59,14 +45,8 @@ module _ {P : Type 0} (cmp : P → P → Ordering) (order : IsTotalOrder cmp) (p
       → is_among cmp peers g.origin ≡ is_among cmp peers g.recipient
       → limits cmp s f ≡ true → limits cmp s g ≡ true → is_of_set cmp peers f ≡ is_of_set cmp peers g
   apart (sent_by p) f g at_f at_g lf lg = sym (same_among p f.origin lf) ∙ same_among p g.origin lg
-  apart (received_by p) f g at_f at_g lf lg =
-      at_f
-      ∙ sym (same_among p f.recipient (and_parts f.delivered (same_peer cmp p f.recipient) lf).1)
-      ∙ same_among p g.recipient (and_parts g.delivered (same_peer cmp p g.recipient) lg).1
-      ∙ sym at_g
-  apart (sent_between p q) f g at_f at_g lf lg =
-      sym (same_among p f.origin (and_parts (same_peer cmp p f.origin) (same_peer cmp q f.recipient) lf).0)
-      ∙ same_among p g.origin (and_parts (same_peer cmp p g.origin) (same_peer cmp q g.recipient) lg).0
+  apart (received_by p) f g at_f at_g lf lg = search (rules, same_among, and_parts)
+  apart (sent_between p q) f g at_f at_g lf lg = search (rules, same_among, and_parts)
 
   module _ (caps : Caps P) (flows : List (Flow P)) (ends : HaveBothEndsOrNone cmp peers flows) (xs : List (Allotted P))
       (same : flows_of xs ≡ flows) where

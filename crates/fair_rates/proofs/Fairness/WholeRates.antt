@@ -1,7 +1,7 @@
 -- The fair rates of n flows are whole over their denominator.
 use Rattle.fair_rates.proofs.Common.{◌≡◌, ℕ, ◌*◌, ◌<◌, ◌≤◌, List, get_or, ap, arith, eq_of_mul-eq-mul_right, Side}
 use Rattle.fair_rates.proofs.Common.{IsFair, HaveUsersBelow, IsRateOf, AreFairRates, AreWholeOver, Rate, Unlimited}
-use Rattle.fair_rates.proofs.Common.{Finite}
+use Rattle.fair_rates.proofs.Common.{Finite, common_steps}
 use Rattle.fair_rates.specs.Fairness.Exists.{HaveDistinctUsers}
 use Rattle.fair_rates.specs.Refusals.FairRatesFit.{IsWholeOver}
 use Rattle.fair_rates.proofs.Fairness.Denominators.{denominator_of}
@@ -18,11 +18,10 @@ whole_rate : (sides : List Side) (per last : ℕ) (parts other : ℕ → ℕ)
     → IsFair sides per parts → IsFair sides last other → (flow : ℕ) (rate : Rate) → IsRateOf sides per parts flow rate
     → IsWholeOver last rate
 whole_rate sides per last parts other fair fair' flow Unlimited rated = tt
-whole_rate sides per last parts other fair fair' flow (Finite ratio) rated = (
-  other flow,
-  same_worth ratio.numerator ratio.denominator per (parts flow) last (other flow) fair.some_part rated.1
-      (same_amounts sides per last parts other fair fair' flow rated.0),
-)
+whole_rate sides per last parts other fair fair' flow (Finite ratio) rated =
+    grind (arith, common_steps,
+    same_worth ratio.numerator ratio.denominator per (parts flow) last (other flow) fair.some_part rated.1 (same_amounts sides per last parts other fair fair' flow rated.0),
+    same_amounts sides per last parts other fair fair' flow rated.0)
 
 -- the fair rates of at most n flows are whole over the denominator of n
 pub whole_rates : (n : ℕ) (sides : List Side) (flows : ℕ) (rates : List Rate)

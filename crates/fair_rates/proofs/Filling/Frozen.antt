@@ -1,6 +1,6 @@
 -- What a frozen flow has, and what one that rises.
-use Rattle.fair_rates.proofs.Common.{◌≡◌, ℕ, ◌⊎◌, inl, inr, Option, Some, None, IsSome, refl, sym, ap, subst, ◌∙◌}
-use Rattle.fair_rates.proofs.Common.{unwrap_or, at_level, Error}
+use Rattle.fair_rates.proofs.Common.{◌≡◌, ℕ, ◌⊎◌, inl, inr, Option, Some, None, IsSome, refl, ap, subst, unwrap_or}
+use Rattle.fair_rates.proofs.Common.{at_level, Error, rules}
 use Rattle.std.specs.Option.{ok_or}
 use Rattle.std.specs.Prelude.{OnOk, OnSome, Result, Ok, Err, IfErr, IsErrAnd, IfSome, MatchOption}
 
@@ -26,8 +26,7 @@ module _ (frozen : ℕ → Option ℕ) (level : ℕ) where
 -- a frozen flow has the same at every level
 pub at_any : (frozen : ℕ → Option ℕ) (level other i : ℕ) → IsSome (frozen i)
     → at_level frozen level i ≡ at_level frozen other i
-at_any frozen level other i h =
-    let v = some_value (frozen i) h in at_some frozen level i v.0 v.1 ∙ sym (at_some frozen other i v.0 v.1)
+at_any frozen level other i h = search (rules, some_value, at_some)
 
 pub some_of_if : {X : Type 0} (P : X → Type 0) (o : Option X) → IfSome o P → (x : X) → o ≡ Some x → P x
 some_of_if P o h x e = let at : IfSome (Some x) P = subst (λ o. IfSome o P) e h in at

@@ -1,13 +1,12 @@
 -- The fair parts of the flows as rates.
 use Rattle.fair_rates.proofs.Common.{◌≡◌, ◌≢◌, ℕ, ◌<◌, inl, inr, List, [], ◌∷◌, ◌++◌, length, get_or, AllPairs}
-use Rattle.fair_rates.proofs.Common.{Contains, Option, Some, None, refl, sym, subst, ap, ◌∙◌, arith, length-append}
+use Rattle.fair_rates.proofs.Common.{Contains, Option, Some, None, sym, subst, ap, ◌∙◌, arith, length-append}
 use Rattle.fair_rates.proofs.Common.{eq_of_mul-eq-mul_right, cases_eq, cases_lt, get_or_past, get_or_append_left}
 use Rattle.fair_rates.proofs.Common.{parts_over, Side, level_at, flow_parts, IsRateAt, ReducedFits, whole_IsReduced}
 use Rattle.fair_rates.proofs.Common.{IsWorth, IsRateOf, AreFairRates, HasDifferentRates, HasLargeRate, Rate, Finite}
-use Rattle.fair_rates.proofs.Common.{Ratio}
+use Rattle.fair_rates.proofs.Common.{Ratio, rules}
 use Rattle.std.proofs.lemmas.List.{get_or_push}
-use Rattle.fair_rates.specs.Filling.FairParts.{parts_of_level, AreRatesAt}
-use Rattle.fair_rates.specs.Filling.FairParts.{HasLargeLevel}
+use Rattle.fair_rates.specs.Filling.FairParts.{parts_of_level, AreRatesAt, HasLargeLevel}
 use Rattle.fair_rates.specs.Filling.States.{AreFilled}
 use Rattle.fair_rates.specs.declared.bandwidth.parts.FairParts.{FairParts}
 use Rattle.fair_rates.proofs.Filling.Frozen.{not_some, some_is}
@@ -19,13 +18,8 @@ zero_ratio = record { numerator = 0; denominator = 1; positive = omega arith; re
 pub rated_push : (Holds : ℕ → Rate → Type 0) (rates : List Rate) (rate : Rate) (n : ℕ) → length rates ≡ n → Holds n rate
     → ((flow : ℕ) (d : Rate) → flow < length rates → Holds flow (get_or rates flow d))
     → (flow : ℕ) (d : Rate) → flow < length (rates ++ rate ∷ []) → Holds flow (get_or (rates ++ rate ∷ []) flow d)
-rated_push Holds rates rate n len here all flow d inside = elim (cases_eq flow n) [
-  | inl same ↦ subst (λ j. Holds j (get_or (rates ++ rate ∷ []) j d)) (sym same)
-      (subst (Holds n) (sym (get_or_push rates rate d n len)) here)
-  | inr other ↦
-      let within : flow < length rates = omega (arith, len, inside, length-append {A = Rate} rates (rate ∷ [])) in
-      subst (Holds flow) (sym (get_or_append_left rates (rate ∷ []) d flow within)) (all flow d within)
-]
+rated_push Holds rates rate n len here all flow d inside =
+    search (rules, cases_eq, get_or_push, length-append, get_or_append_left)
 
 -- ---- the rates are fair
 
@@ -52,31 +46,12 @@ module _ (sides : List Side) (flows : ℕ) (found : FairParts) (rates : List Rat
       )
 
   pub rates_are_fair : AreFairRates sides flows rates
-  rates_are_fair = record {
-    one_each = are.one_each ∙ filled.one_each;
-    per = found.scale;
-    parts = flow_parts levels level_of;
-    fair = filled.fair;
-    rated = λ flow d inside.
-        rate_of flow (level_at level_of flow) (get_or rates flow d) refl
-        (are.rated flow d (omega (arith, inside, are.one_each, filled.one_each)));
-  }
+  rates_are_fair = search (rules, rate_of)
 
   -- ---- and as many as there are levels
 
   apart : AllPairs (λ a b. a ≢ b) are.fractions
-  apart i j d less inside same =
-      let r = get_or are.fractions j d in
-      let first : IsWorth r (parts_over found.scale (get_or levels i 0)) =
-      subst (λ q. IsWorth q (parts_over found.scale (get_or levels i 0))) same
-      (are.levels.worth i d (omega (arith, less, inside))) in
-      let second : IsWorth r (parts_over found.scale (get_or levels j 0)) = are.levels.worth j d inside in
-      let equal : get_or levels i 0 ≡ get_or levels j 0 =
-      eq_of_mul-eq-mul_right r.denominator r.positive (get_or levels i 0) (get_or levels j 0)
-      (omega (arith, first, second)) in
-      let lt : get_or levels i 0 < get_or levels j 0 =
-      filled.rising i j 0 less (omega (arith, inside, are.levels.one_each)) in
-      omega (arith, equal, lt)
+  apart i j d less inside same = search (rules, eq_of_mul-eq-mul_right)
 
   is_level : (ratio : Ratio) (o : Option ℕ) → IsRateAt are.fractions o (Finite ratio) → Contains are.fractions ratio
   is_level ratio None e = cc
@@ -84,9 +59,7 @@ module _ (sides : List Side) (flows : ℕ) (found : FairParts) (rates : List Rat
       let e = is ratio in let same : ratio ≡ get_or are.fractions place ratio = cc in (place, inside, sym same)
 
   is_rated : (ratio : Ratio) → Contains rates (Finite ratio) → Contains are.fractions ratio
-  is_rated ratio (flow, inside, is) =
-      is_level ratio (level_at level_of flow)
-      (subst (IsRateAt are.fractions (level_at level_of flow)) is (are.rated flow (Finite ratio) inside))
+  is_rated ratio (flow, inside, is) = search (rules, is_level)
 
   is_some : (ratio : Ratio) → Contains are.fractions ratio → Contains rates (Finite ratio)
   is_some ratio (place, inside, is) =

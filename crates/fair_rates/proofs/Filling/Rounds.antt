@@ -1,6 +1,6 @@
 -- Filling keeps its state, round by round, and ends in a fair allocation.
 use Rattle.fair_rates.proofs.Common.{◌≡◌, ℕ, ◌*◌, ◌<◌, ◌≤◌, inl, inr, List, Contains, sym, ◌∙◌, arith, Option, None}
-use Rattle.fair_rates.proofs.Common.{IsSome, All-contains, Side, load, IsLimited, IsFair, at_level}
+use Rattle.fair_rates.proofs.Common.{IsSome, All-contains, Side, load, IsLimited, IsFair, at_level, rules}
 use Rattle.fair_rates.proofs.Filling.Frozen.{none_or_some, some_value, some_is, at_some, at_none, at_any}
 use Rattle.fair_rates.proofs.Filling.States.{IsHeld, IsFilledTo, IsNextRound}
 use Rattle.fair_rates.proofs.Lists.Sums.{sum_by_same, sum_by-zero}
@@ -40,31 +40,17 @@ module _ (sides : List Side) (per : ℕ) (frozen : ℕ → Option ℕ) (level : 
     (round : IsNextRound sides per frozen level after next_level) where
   -- at the next level nothing moves
   same_at : (j : ℕ) → at_level after next_level j ≡ at_level frozen next_level j
-  same_at j = elim (none_or_some (frozen j)) [
-    | inr (a, e) ↦ at_some after next_level j a (round.kept j a e) ∙ sym (at_some frozen next_level j a e)
-    | inl e ↦ elim (none_or_some (after j)) [
-      | inl e' ↦ at_none after next_level j e' ∙ sym (at_none frozen next_level j e)
-      | inr (a, e') ↦ omega
-          (arith, at_some after next_level j a e', at_none frozen next_level j e, (round.fresh j a e e').0)
-    ]
-  ]
+  same_at j = search (rules, none_or_some, at_some, at_none)
 
   -- a frozen flow keeps its parts
   kept_at : (j : ℕ) → IsSome (frozen j) → at_level after 0 j ≡ at_level frozen 0 j
-  kept_at j h =
-      let v = some_value (frozen j) h in at_some after 0 j v.0 (round.kept j v.0 v.1) ∙ sym (at_some frozen 0 j v.0 v.1)
+  kept_at j h = search (rules, some_value, at_some)
 
   still : (j : ℕ) → IsSome (frozen j) → IsSome (after j)
   still j h = let v = some_value (frozen j) h in some_is (after j) v.0 (round.kept j v.0 v.1)
 
   below : (j : ℕ) → at_level after 0 j ≤ next_level
-  below j = elim (none_or_some (frozen j)) [
-    | inr (a, e) ↦ omega (arith, kept_at j (some_is (frozen j) a e), filled.below j, round.raised)
-    | inl e ↦ elim (none_or_some (after j)) [
-      | inl e' ↦ omega (arith, at_none after 0 j e')
-      | inr (a, e') ↦ omega (arith, at_some after 0 j a e', (round.fresh j a e e').0)
-    ]
-  ]
+  below j = search (rules, none_or_some, kept_at, some_is, at_none, at_some)
 
   held : (i : ℕ) → IsSome (after i) → IsHeld sides per after i
   held i now = elim (none_or_some (frozen i)) [
@@ -114,16 +100,7 @@ module _ (sides : List Side) (per : ℕ) (frozen : ℕ → Option ℕ) (level : 
   ]
 
   pub next : IsFilledTo sides per after next_level
-  next = record {
-    within = All-from_contains (λ s. load (at_level after next_level) s ≤ s.cap * per) sides (λ s c.
-        omega (
-          arith,
-          sum_by_same (at_level after next_level) (at_level frozen next_level) s.users (λ k d l. same_at _),
-          All-contains (λ s. load (at_level frozen next_level) s ≤ s.cap * per) sides s round.within c,
-        ));
-    below = below;
-    held = held;
-  }
+  next = search (rules, All-from_contains, sum_by_same, same_at, All-contains, below, held)
 
 -- parts that are the same are fair
 pub fair_same : (sides : List Side) (per : ℕ) (parts other : ℕ → ℕ) → ((flow : ℕ) → parts flow ≡ other flow)

@@ -1,18 +1,17 @@
 -- What holds between two rounds, how a round keeps it, and what it gives at the end.
-use Rattle.fair_rates.proofs.Common.{◌≡◌, ℕ, ◌*◌, ◌/◌, ◌^◌, ◌<◌, ◌≤◌, inl, inr, List, [], ◌∷◌, length, get_or, map, All}
-use Rattle.fair_rates.proofs.Common.{AllPairs, Contains, Option, Some, None, IsSome, IfSome, refl, sym, ap, subst}
-use Rattle.fair_rates.proofs.Common.{arith, mul-le-mul_right, option_map, unwrap_or, slice_index, IsHeap, Reverse}
-use Rattle.fair_rates.proofs.Common.{mul-pos, cases_lt, length-map, get_or_past, All-head, All-weaker, All-contains}
-use Rattle.fair_rates.proofs.Common.{Side, IsLimited, IsFair, level_at, flow_parts, frozen_at, at_level, top, AllRise}
-use Rattle.fair_rates.proofs.Common.{AllFrozen, IsRaised, AreAtTop, IsWithinSlack, HaveNoMore, IsQueue, IsShareQueue}
-use Rattle.fair_rates.proofs.Common.{AreAbove, AllFilled, AreGrown, queue_cmp, OpenSide}
+use Rattle.fair_rates.proofs.Common.{◌≡◌, ℕ, ◌*◌, ◌/◌, ◌^◌, ◌<◌, ◌≤◌, List, [], ◌∷◌, length, get_or, map, All, AllPairs}
+use Rattle.fair_rates.proofs.Common.{Contains, Option, Some, None, IsSome, IfSome, refl, sym, ap, subst, arith}
+use Rattle.fair_rates.proofs.Common.{mul-le-mul_right, option_map, unwrap_or, slice_index, IsHeap, Reverse, mul-pos}
+use Rattle.fair_rates.proofs.Common.{cases_lt, length-map, get_or_past, All-head, All-weaker, All-contains, Side}
+use Rattle.fair_rates.proofs.Common.{IsLimited, IsFair, level_at, flow_parts, frozen_at, at_level, top, AllRise}
+use Rattle.fair_rates.proofs.Common.{IsRaised, AreAtTop, IsWithinSlack, HaveNoMore, IsQueue, IsShareQueue, AreAbove}
+use Rattle.fair_rates.proofs.Common.{AllFilled, AreGrown, queue_cmp, OpenSide, rules}
 use Rattle.std.proofs.Common.{le_of_mul-le-mul_right}
 use Rattle.std.specs.Prelude.{◌↔◌, replicate}
 use Rattle.std.proofs.lemmas.List.{get_or-replicate, length-replicate}
 use Rattle.std.proofs.lemmas.List.Elements.{All-replicate}
 use Rattle.fair_rates.specs.Filling.FairParts.{parts_of_level}
-use Rattle.fair_rates.specs.Filling.States.{AreInside}
-use Rattle.fair_rates.specs.Filling.States.{IsLeast}
+use Rattle.fair_rates.specs.Filling.States.{AreInside, IsLeast}
 use Rattle.fair_rates.proofs.Filling.Account.{risers_have_no_more}
 use Rattle.fair_rates.proofs.Filling.Course.{Freezes, queue_on, no_more_on, filled_on, share_within}
 use Rattle.fair_rates.proofs.Filling.Frozen.{none_or_some}
@@ -42,10 +41,7 @@ pub record IsCourse (sides : List Side) (scale : ℕ) (levels : List ℕ) (level
 -- ---- before the first round
 
 pub none_at : (count flow : ℕ) → level_at (replicate count None) flow ≡ None
-none_at count flow = elim (cases_lt flow count) [
-  | inl inside ↦ get_or-replicate count flow None None inside
-  | inr past ↦ get_or_past (replicate count None) flow None (omega (arith, length-replicate {A = Option ℕ} count None))
-]
+none_at count flow = search (rules, cases_lt, get_or-replicate, get_or_past, length-replicate)
 
 pub course_none : (sides : List Side) (scale count : ℕ) (opens : List (Reverse OpenSide)) → 0 < scale
     → ((frozen : ℕ → Option ℕ) → IsQueue sides scale frozen opens)
@@ -126,9 +122,7 @@ module _ (sides : List Side) (scale factor : ℕ) (levels after : List ℕ) (lev
   all_grown = grown_first factor x rest opens wide (record { slack = refl; rising = refl }) grown
 
   wide_queue : IsQueue sides (scale * factor) scaled_frozen (wide ∷ opens)
-  wide_queue =
-      queue_grown factor frozen scaled_frozen scaled sides scale (record { 0 = x } ∷ rest) (wide ∷ opens) all_grown
-      taken.queue
+  wide_queue = search (rules, queue_grown, scaled, all_grown)
 
   no_more : All (λ o. HaveNoMore scaled_frozen o.0.slack o.0.rising.items) opens
   no_more = no_more_grown factor frozen scaled_frozen scaled rest opens grown taken.sound.no_more
@@ -137,14 +131,7 @@ module _ (sides : List Side) (scale factor : ℕ) (levels after : List ℕ) (lev
   rise = still_rise factor frozen scaled_frozen scaled x.rising.items taken.least.rise
 
   within : AreAbove level opens
-  within =
-      All-weaker
-      (λ (o : Reverse OpenSide). x.slack * factor * length o.0.rising.items ≤ o.0.slack * length x.rising.items)
-      (λ o. level * length o.0.rising.items ≤ o.0.slack)
-      (λ o le. share_within level (x.slack * factor) (length x.rising.items) o.0.slack (length o.0.rising.items) x.some
-      share le)
-      opens
-      (least_grown factor x.slack (length x.rising.items) rest opens grown taken.least.least)
+  within = search (rules, All-weaker, share_within, least_grown)
 
   no_lower : top scaled_levels ≤ level
   no_lower =
@@ -172,13 +159,7 @@ module _ (sides : List Side) (scale factor : ℕ) (levels after : List ℕ) (lev
       (filled_scaled factor frozen scaled_frozen scaled sides scale (top levels) course.filled)
 
   rising_none : (flow : ℕ) → Contains x.rising.items flow → level_at level_of flow ≡ None
-  rising_none flow used = elim (none_or_some (level_at level_of flow)) [
-    | inl none ↦ none
-    | inr (place, e) ↦
-        let has = frozen_there levels level_of flow place e in
-        let none = All-contains (λ j. frozen j ≡ None) x.rising.items flow taken.least.rise used in
-        absurd (cc)
-  ]
+  rising_none flow used = search (rules, none_or_some, frozen_there, All-contains)
 
   pub round : IsCourse sides (scale * factor) after later opens
   round = record {
@@ -222,15 +203,10 @@ module _ (sides : List Side) (scale : ℕ) (levels : List ℕ) (level_of : List 
   some_of_level (Some place) h = refl
 
   limited_frozen : (flow : ℕ) → IsLimited sides flow → IsSome (frozen_at levels level_of flow)
-  limited_frozen flow (side, uses) =
-      All-contains (λ j. IsSome (frozen_at levels level_of j)) side.users flow
-      (All-contains (λ s. AllFrozen (frozen_at levels level_of) s.users) sides side ended uses.listed) uses.used
+  limited_frozen flow (side, uses) = search (rules, All-contains)
 
   pub limited : (flow : ℕ) → IsSome (level_at level_of flow) ↔ IsLimited sides flow
-  limited flow = (
-    λ h. let b = (filled.held flow (some_of_level (level_at level_of flow) h)).bottleneck in (b.side, b.uses),
-    λ l. level_of_some (level_at level_of flow) (limited_frozen flow l),
-  )
+  limited flow = search (rules, some_of_level, level_of_some, limited_frozen)
 
   same_parts : (o : Option ℕ) → unwrap_or (option_map (slice_index levels) o) 0 ≡ parts_of_level levels o
   same_parts None = refl

@@ -1,6 +1,6 @@
 -- A loop that changes a list in place, element by element.
 use Rattle.fair_rates.proofs.Common.{◌≡◌, ℕ, ◌+◌, ◌<◌, ◌≤◌, List, [], ◌∷◌, ◌++◌, length, get_or, set, refl, sym, ◌∙◌}
-use Rattle.fair_rates.proofs.Common.{ap, subst, arith, append_assoc, AllZip, append-nil}
+use Rattle.fair_rates.proofs.Common.{ap, arith, append_assoc, AllZip, append-nil, common_steps}
 use Rattle.std.proofs.lemmas.List.{length-append}
 use Rattle.fair_rates.proofs.Lists.Sorted.{get_or-seam, set-seam}
 use Rattle.fair_rates.proofs.Lists.Zips.{zip-push}
@@ -44,11 +44,4 @@ module _ {X : Type 0} (R : X → X → Type 0) where
             }
 
     pub all_changed : length now ≤ at → AllZip R old now
-    all_changed le = by_rest h.rest h.old_is h.now_is
-      where
-        by_rest : (rest : List X) → old ≡ h.from ++ rest → now ≡ h.to ++ rest → AllZip R old now
-        by_rest [] old_is now_is =
-            subst (λ l. AllZip R l now) (sym (old_is ∙ append-nil h.from))
-            (subst (AllZip R h.from) (sym (now_is ∙ append-nil h.to)) h.changed)
-        by_rest (z ∷ rest) old_is now_is =
-            absurd (omega (arith, h.at_is, ap length now_is, length-append h.to (z ∷ rest)))
+    all_changed le = grind (arith, common_steps, append-nil, length-append)

@@ -1,7 +1,7 @@
 -- Draining splits, and leaves nothing exactly where the time covers what is left.
 use Rattle.fair_rates.proofs.Common.{◌≡◌, ℕ, zero, suc, ◌+◌, ◌-◌, ◌*◌, ◌<◌, ◌≤◌, ◌↔◌, refl, sym, ap, ◌∙◌, arith}
 use Rattle.fair_rates.proofs.Common.{mul-le-mul_right, mul-sub, mul-pos, Amount, reduced, billion, Covers, amount_of}
-use Rattle.fair_rates.proofs.Common.{Rate, Unlimited, Finite}
+use Rattle.fair_rates.proofs.Common.{Rate, Unlimited, Finite, rules}
 use Rattle.std.proofs.Math.Nat.{mul_comm, mul-zero}
 use Rattle.fair_rates.specs.Numbers.Amount.{drained, IsLeastTime}
 use Rattle.fair_rates.specs.Numbers.Draining.{left_after}
@@ -82,14 +82,7 @@ covers_if_spent left rate n h j spent =
 -- at a rate above zero, from the least time on
 pub spent_from_least : (left rate : Amount) (least n : ℕ) → 0 < left.den → 0 < rate.den → IsLeastTime rate left least
     → ((drained left rate n).num ≡ 0) ↔ (least ≤ n)
-spent_from_least left rate least n h j time = (
-  λ e. time.least n (covers_if_spent left rate n h j e),
-  λ le.
-      let more : least * (rate.num * left.den) ≤ n * (rate.num * left.den) =
-      mul-le-mul_right (rate.num * left.den) le in
-      let enough : Covers rate least left = time.covers in
-      spent_if_covers left rate n h j (omega arith),
-)
+spent_from_least left rate least n h j time = search (rules, covers_if_spent, mul-le-mul_right, spent_if_covers)
 
 -- what is left after a time and then after another is what is left after both
 pub left_after_twice : (rate : Rate) (left : Amount) (a b : ℕ) → 0 < left.den

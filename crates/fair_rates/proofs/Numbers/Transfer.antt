@@ -2,7 +2,7 @@
 use Rattle.fair_rates.proofs.Common.{◌≡◌, ℕ, ◌-◌, ◌*◌, ◌<◌, ◌≤◌, ◌↔◌, ◌⊎◌, inl, inr, Option, Some, None, IfSome, refl}
 use Rattle.fair_rates.proofs.Common.{sym, ap, ◌∙◌, subst, arith, mul-le-mul_right, mul-sub, mul-pos}
 use Rattle.fair_rates.proofs.Common.{le_of_mul-le-mul_right, Amount, AreEqual, times, reduced, billion, Covers}
-use Rattle.fair_rates.proofs.Common.{ReducedFits, amount_of, IsWorth, Ratio}
+use Rattle.fair_rates.proofs.Common.{ReducedFits, amount_of, IsWorth, Ratio, rules, common_steps}
 use Rattle.std.proofs.Math.Nat.{zero-mul, mul-zero, mul_comm}
 use Rattle.fair_rates.specs.Numbers.Amount.{whole, minus, drained}
 use Rattle.fair_rates.specs.Numbers.Fits.{DifferenceFits}
@@ -65,10 +65,8 @@ none_passes n m e = ap (λ x. x * m) e ∙ zero-mul m
 pub all_is_left : (left rate : Ratio) (n : ℕ) → (left.numerator ≡ 0) ⊎ ((rate.numerator ≡ 0) ⊎ (n ≡ 0))
     → amount_of left ≡ drained (amount_of left) (amount_of rate) n
 all_is_left left rate n (inl none) = nothing_stays left rate n none
-all_is_left left rate n (inr (inl none)) =
-    nothing_drains left rate n (none_first n rate.numerator left.denominator none)
-all_is_left left rate n (inr (inr none)) =
-    nothing_drains left rate n (none_passes n (rate.numerator * left.denominator) none)
+all_is_left left rate n (inr (inl none)) = search (rules, nothing_drains, none_first)
+all_is_left left rate n (inr (inr none)) = search (rules, nothing_drains, none_passes)
 
 -- ---- what is taken
 
@@ -176,13 +174,4 @@ pub leaves_iff : (left rate t : Ratio) (n : ℕ) → IsTaken (amount_of rate) n 
     (Covers (amount_of rate) n (amount_of left)
     ⊎ DifferenceFits (amount_of left)
     (reduced (transferred (amount_of rate) n).num (transferred (amount_of rate) n).den))
-leaves_iff left rate t n is less = (
-  λ fits. inr (subst (λ x. DifferenceFits (amount_of left) x) is.lowest fits),
-  λ either. elim either [
-    | inl covers ↦ absurd
-        (let le : left.numerator * t.denominator
-        ≤ t.numerator * left.denominator = (covers_iff left rate t n is).1 covers in
-        omega arith)
-    | inr fits ↦ subst (λ x. DifferenceFits (amount_of left) x) (sym is.lowest) fits
-  ],
-)
+leaves_iff left rate t n is less = grind (arith, common_steps, covers_iff)

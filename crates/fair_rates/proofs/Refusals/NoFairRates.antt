@@ -1,7 +1,7 @@
 -- Where a fair rate is no fraction of 128 bits, no rates that are such fractions are fair.
-use Rattle.fair_rates.proofs.Common.{ℕ, ◌^◌, ◌<◌, List, All, get_or, length, subst, arith, Ordering, IsTotalOrder}
-use Rattle.fair_rates.proofs.Common.{All-contains, HasLargeRate, Amount, parts_over, Side, HaveUsersBelow, ReducedFits}
-use Rattle.fair_rates.proofs.Common.{sides_under, IsRateOf, AreFairRates, Rate, Unlimited, Finite}
+use Rattle.fair_rates.proofs.Common.{ℕ, ◌^◌, ◌<◌, List, All, get_or, subst, arith, Ordering, IsTotalOrder, All-contains}
+use Rattle.fair_rates.proofs.Common.{HasLargeRate, Amount, parts_over, Side, HaveUsersBelow, ReducedFits, IsRateOf}
+use Rattle.fair_rates.proofs.Common.{AreFairRates, Rate, Unlimited, Finite, rules}
 use Rattle.std.proofs.lemmas.List.Elements.{All-get_or}
 use Rattle.fair_rates.specs.Refusals.FairRatesFit.{IsFraction}
 use Rattle.fair_rates.specs.Refusals.TooLarge.{TooLargeHasNoRates}
@@ -38,6 +38,4 @@ large_is_unfair sides flows rates among large small fair =
         fits)
 
 pub too_large_has_no_rates : {P : Type 0} (cmp : P → P → Ordering) → IsTotalOrder cmp → TooLargeHasNoRates cmp
-too_large_has_no_rates cmp order caps flows rates of large small fair =
-    large_is_unfair (sides_under cmp caps flows) (length flows) rates (users_below cmp order caps flows of)
-    large.large_rate small fair
+too_large_has_no_rates cmp order caps flows rates of large small fair = search (rules, large_is_unfair, users_below)

@@ -1,15 +1,13 @@
 -- Which sides the caps make.
-use Rattle.fair_rates.proofs.Common.{◌≡◌, ℕ, ◌+◌, Bool, true, false, cond, ◌&&◌, List, [], ◌∷◌, ◌++◌, Option, Some}
-use Rattle.fair_rates.proofs.Common.{None, map, Contains, refl, sym, ap, ◌∙◌, subst, inl, inr, ◌⊎◌, ap₂, and_from}
-use Rattle.fair_rates.proofs.Common.{and_parts, map-append, filter, IsTotalOrder, Ordering, Flow, Side, Subject}
-use Rattle.fair_rates.proofs.Common.{sent_by, received_by, sent_between, Ask, same_peer, same_subject, is_same, is_open}
-use Rattle.fair_rates.proofs.Common.{opened, sides_after, asks_from, Caps, cap_of, AreOfPeers, limits, sides_under}
-use Rattle.fair_rates.proofs.Common.{IsCappedSide, places_from}
-use Rattle.std.proofs.Common.{is_some}
+use Rattle.fair_rates.proofs.Common.{◌≡◌, ℕ, ◌+◌, Bool, true, false, cond, List, [], ◌∷◌, ◌++◌, Option, Some, None, map}
+use Rattle.fair_rates.proofs.Common.{Contains, refl, sym, ap, ◌∙◌, subst, inl, inr, ◌⊎◌, and_from, and_parts}
+use Rattle.fair_rates.proofs.Common.{map-append, filter, IsTotalOrder, Ordering, Flow, Side, Subject, sent_by}
+use Rattle.fair_rates.proofs.Common.{received_by, sent_between, Ask, same_peer, same_subject, is_same, is_open, opened}
+use Rattle.fair_rates.proofs.Common.{sides_after, asks_from, Caps, cap_of, AreOfPeers, limits, sides_under}
+use Rattle.fair_rates.proofs.Common.{IsCappedSide, places_from, rules}
 use Rattle.std.proofs.lemmas.Bool.{and_right}
 use Rattle.std.proofs.lemmas.List.Elements.{filter_agree, filter-append}
-use Rattle.fair_rates.specs.Fairness.UnderCaps.{answered_under}
-use Rattle.fair_rates.specs.Fairness.UnderCaps.{SidesAreOfTheCaps}
+use Rattle.fair_rates.specs.Fairness.UnderCaps.{answered_under, SidesAreOfTheCaps}
 use Rattle.fair_rates.proofs.Sides.Subjects.{same_itself, same_symm, same_congr}
 use Rattle.fair_rates.proofs.Lists.Members.{In, in_left, in_right, in_either, in_from_contains, contains_from_in}
 use Rattle.fair_rates.proofs.Lists.Members.{none_passes, any_fails}
@@ -35,22 +33,11 @@ module _ {P : Type 0} (cmp : P → P → Ordering) (order : IsTotalOrder cmp) (c
   fresh_from : (earlier : List (Ask P)) (a : Ask P) (cap : ℕ) → AllByCaps earlier → IsByCaps a → a.answer ≡ Some cap
       → is_open cmp earlier a ≡ false → (b : Ask P) → In earlier b
       → is_same cmp a b ≡ false
-  fresh_from earlier a cap all by has closed b among = by_same (is_same cmp b a) refl
-    where
-      by_same : (t : Bool) → is_same cmp b a ≡ t → is_same cmp a b ≡ false
-      by_same false e = same_symm cmp order a.subject b.subject ∙ e
-      by_same true e =
-          let same : cap_of caps b.subject ≡ cap_of caps a.subject = one_cap cmp order caps of b.subject a.subject e in
-          let number : b.answer ≡ Some cap = all b among ∙ same ∙ sym by ∙ has in
-          let off : (is_some b.answer && is_same cmp b a) ≡ false =
-          none_passes (λ b. is_some b.answer && is_same cmp b a) earlier closed b among in
-          let on : (is_some b.answer && is_same cmp b a) ≡ true = rw (number, e) refl in
-          cc
+  fresh_from earlier a cap all by has closed b among = search (rules, same_symm, one_cap, none_passes)
 
   open_from : (earlier : List (Ask P)) (a : Ask P) → ((b : Ask P) → In earlier b → is_same cmp a b ≡ false)
       → is_open cmp earlier a ≡ false
-  open_from earlier a fresh = any_fails (λ b. is_some b.answer && is_same cmp b a) earlier (λ b among.
-      and_right (is_some b.answer) (is_same cmp b a) (same_symm cmp order b.subject a.subject ∙ fresh b among))
+  open_from earlier a fresh = search (rules, any_fails, and_right, same_symm)
 
   one_more : (earlier : List (Ask P)) (x : Ask P) → AllByCaps earlier → IsByCaps x → AllByCaps (x ∷ earlier)
   one_more earlier x before by a (inl e) = subst IsByCaps e by
@@ -203,24 +190,9 @@ module _ {P : Type 0} (cmp : P → P → Ordering) (order : IsTotalOrder cmp) (c
   -- of the three asks of a flow at most one is for a subject
   one_place : (place : ℕ) (f : Flow P) (s : Subject P)
       → places_for s place f f.delivered ≡ cond (limits cmp s f) (place ∷ []) []
-  one_place place f (sent_by p) = by_delivered f.delivered
-    where
-      by_delivered : (d : Bool) → places_for (sent_by p) place f d ≡ cond (same_peer cmp p f.origin) (place ∷ []) []
-      by_delivered true = one_kept (same_peer cmp p f.origin) (sends place f)
-      by_delivered false = one_kept (same_peer cmp p f.origin) (sends place f)
-  one_place place f (received_by p) = by_delivered f.delivered
-    where
-      by_delivered : (d : Bool)
-          → places_for (received_by p) place f d ≡ cond (d && same_peer cmp p f.recipient) (place ∷ []) []
-      by_delivered true = one_kept (same_peer cmp p f.recipient) (receives place f true)
-      by_delivered false = refl
-  one_place place f (sent_between p q) = by_delivered f.delivered
-    where
-      by_delivered : (d : Bool)
-          → places_for (sent_between p q) place f d
-          ≡ cond (same_peer cmp p f.origin && same_peer cmp q f.recipient) (place ∷ []) []
-      by_delivered true = one_kept (same_peer cmp p f.origin && same_peer cmp q f.recipient) (links place f)
-      by_delivered false = one_kept (same_peer cmp p f.origin && same_peer cmp q f.recipient) (links place f)
+  one_place place f (sent_by p) = search (rules, one_kept)
+  one_place place f (received_by p) = search (rules, one_kept)
+  one_place place f (sent_between p q) = search (rules, one_kept)
 
   joined : (place : ℕ) (b : Bool) (rest : List ℕ) → cond b (place ∷ []) [] ++ rest ≡ cond b (place ∷ rest) rest
   joined place true rest = refl
@@ -231,27 +203,16 @@ module _ {P : Type 0} (cmp : P → P → Ordering) (order : IsTotalOrder cmp) (c
       → map (λ b. b.place) (filter (is_same cmp a) (asks place flows)) ≡ places_from place (limits cmp a.subject) flows
   places_asked place [] a = refl
   places_asked place (f ∷ flows) a =
-      ap (map (λ (b : Ask P). b.place))
-      (filter-append (is_same cmp a) (asks_if place f f.delivered) (asks (place + 1) flows))
-      ∙ map-append (λ (b : Ask P). b.place) (filter (is_same cmp a) (asks_if place f f.delivered))
-      (filter (is_same cmp a) (asks (place + 1) flows))
-      ∙ ap₂ (λ (xs ys : List ℕ). xs ++ ys) (one_place place f a.subject) (places_asked (place + 1) flows a)
-      ∙ joined place (limits cmp a.subject f) (places_from (place + 1) (limits cmp a.subject) flows)
+      search (rules, filter-append, map-append, one_place, joined, places_asked (place + 1) flows a)
 
   one_limits : (place : ℕ) (f : Flow P) (d : Bool) → f.delivered ≡ d → (a : Ask P) → In (asks_if place f d) a
       → limits cmp a.subject f ≡ true
-  one_limits place f true is a (inl e) =
-      subst (λ (b : Ask P). limits cmp b.subject f ≡ true) e (same_peer_itself cmp order f.origin)
-  one_limits place f true is a (inr (inl e)) =
-      subst (λ (b : Ask P). limits cmp b.subject f ≡ true) e
-      (and_from f.delivered (same_peer cmp f.recipient f.recipient) is (same_peer_itself cmp order f.recipient))
-  one_limits place f true is a (inr (inr (inl e))) =
-      subst (λ (b : Ask P). limits cmp b.subject f ≡ true) e (same_itself cmp order (sent_between f.origin f.recipient))
+  one_limits place f true is a (inl e) = search (rules, same_peer_itself)
+  one_limits place f true is a (inr (inl e)) = search (rules, and_from, same_peer_itself)
+  one_limits place f true is a (inr (inr (inl e))) = search (rules, same_itself)
   one_limits place f true is a (inr (inr (inr h))) = absurd h
-  one_limits place f false is a (inl e) =
-      subst (λ (b : Ask P). limits cmp b.subject f ≡ true) e (same_peer_itself cmp order f.origin)
-  one_limits place f false is a (inr (inl e)) =
-      subst (λ (b : Ask P). limits cmp b.subject f ≡ true) e (same_itself cmp order (sent_between f.origin f.recipient))
+  one_limits place f false is a (inl e) = search (rules, same_peer_itself)
+  one_limits place f false is a (inr (inl e)) = search (rules, same_itself)
   one_limits place f false is a (inr (inr h)) = absurd h
 
   -- an ask comes from a flow that its side would limit
@@ -302,9 +263,7 @@ module _ {P : Type 0} (cmp : P → P → Ordering) (order : IsTotalOrder cmp) (c
   same_places : (place : ℕ) (s t : Subject P) (flows : List (Flow P)) → same_subject cmp s t ≡ true
       → places_from place (limits cmp s) flows ≡ places_from place (limits cmp t) flows
   same_places place s t [] e = refl
-  same_places place s t (f ∷ flows) e =
-      ap₂ (λ (b : Bool) (ps : List ℕ). cond b (place ∷ ps) ps) (same_limits cmp order s t f e)
-      (same_places (place + 1) s t flows e)
+  same_places place s t (f ∷ flows) e = search (rules, same_limits, same_places (place + 1) s t flows e)
 
   -- ---- the sides
 

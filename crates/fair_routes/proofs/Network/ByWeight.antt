@@ -7,8 +7,7 @@ use Rattle.fair_routes.proofs.Common.{listed_from, none_or_some, some_is, IsFill
 use Rattle.fair_routes.proofs.Common.{in_from_contains, contains_from_in, All-from_contains, sum_by-scaled, sum_by_same}
 use Rattle.fair_routes.proofs.Common.{frozen_in, rising_weight, AreAllHeld, HasLeastRoom, HasFrozen, Room, weight_at}
 use Rattle.fair_routes.proofs.Common.{as_often, weighted}
-use Rattle.std.proofs.Common.{IsSome}
-use Rattle.std.proofs.Common.{le_of_mul-le-mul_right}
+use Rattle.std.proofs.Common.{IsSome, le_of_mul-le-mul_right}
 use Rattle.std.proofs.lemmas.List.Folds.{sum_by-replicate}
 use Rattle.std.proofs.lemmas.List.Sums.{sum_by-append}
 use Rattle.fair_rates.proofs.Filling.Frozen.{at_some, at_none}

@@ -13,8 +13,7 @@ use Rattle.std.proofs.lemmas.Bool.{cases_order}
 use Rattle.std.proofs.lemmas.List.{map-id}
 use Rattle.std.proofs.lemmas.List.FromFn.{length-range_with_len, get_or-range_with_len}
 use Rattle.fair_rates.proofs.Fairness.OneAllocation.{same_amounts}
-use Rattle.fair_rates.proofs.Lists.Members.{in_get, get_in}
-use Rattle.fair_rates.proofs.Lists.Members.{get_from_map}
+use Rattle.fair_rates.proofs.Lists.Members.{in_get, get_in, get_from_map}
 use Rattle.fair_rates.proofs.Lists.Places.{place_here, passes_here, below_length}
 use Rattle.fair_routes.specs.Network.WeightLaws.{copies, copies_of, IsTogether, WeightsAreCopies}
 use Rattle.fair_routes.specs.Network.Weights.{AreWeights}

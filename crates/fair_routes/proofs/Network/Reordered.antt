@@ -10,8 +10,7 @@ use Rattle.std.specs.List.Sorted.{IsPermutation}
 use Rattle.std.proofs.lemmas.List.{same_lists}
 use Rattle.std.proofs.lemmas.List.FromFn.{length-range_with_len, get_or-range_with_len}
 use Rattle.std.proofs.lemmas.List.Sorted.{sum_by-IsPermutation, Contains-permutation, All-permutation}
-use Rattle.fair_rates.proofs.Lists.Members.{in_get, get_in}
-use Rattle.fair_rates.proofs.Lists.Members.{get_from_map}
+use Rattle.fair_rates.proofs.Lists.Members.{in_get, get_in, get_from_map}
 use Rattle.fair_rates.proofs.Lists.Places.{place_here, passes_here, below_length}
 use Rattle.fair_routes.specs.Network.Laws.{rates_at, OrderOfFlowsDoesNotMatter}
 use Rattle.fair_routes.proofs.Network.LinkSides.{link_side, side_listed, users_are_flows}

@@ -4,8 +4,7 @@ use Rattle.fair_routes.proofs.Common.{None, cond, length, map, get_or, set, inl,
 use Rattle.fair_routes.proofs.Common.{mul-le-mul_right, count_by, option_map, unwrap_or, is_none, All-nil, All-push}
 use Rattle.fair_routes.proofs.Common.{Side, none_or_some, some_is, not_some, frozen_in, rising_weight, AreAllHeld}
 use Rattle.fair_routes.proofs.Common.{HasLeastRoom, HasFrozen, Room}
-use Rattle.std.proofs.Common.{IsSome}
-use Rattle.std.proofs.Common.{get_or-set_other, get_or-set_same, length-append, le_of_mul-le-mul_right}
+use Rattle.std.proofs.Common.{IsSome, get_or-set_other, get_or-set_same, length-append, le_of_mul-le-mul_right}
 use Rattle.std.specs.Prelude.{MatchOption}
 use Rattle.std.proofs.Math.ListN.{length-set, get_or-map as get_or_map}
 use Rattle.std.proofs.lemmas.Bool.{cases_eq}

@@ -3,10 +3,9 @@ use Rattle.fair_routes.proofs.Common.{◌≡◌, ℕ, ◌+◌, ◌<◌, List, []
 use Rattle.fair_routes.proofs.Common.{map, Option, Some, None, refl, sym, ap, ◌∙◌, subst, arith, ◌||◌, list_any, Global}
 use Rattle.fair_routes.proofs.Common.{Vec, map-append, length-map, places_from, side_of, has_link, users_of}
 use Rattle.fair_routes.proofs.Common.{side_of_link, sides_from, sides_over, lists, users_at, AreUsers}
-use Rattle.std.proofs.Common.{drop}
-use Rattle.std.proofs.Common.{reverse}
-use Rattle.std.proofs.lemmas.List.{reverse-append, drop_more, drop_all, get_or_push}
-use Rattle.std.proofs.lemmas.List.{get_or_append_left, reverse-reverse}
+use Rattle.std.proofs.Common.{drop, reverse}
+use Rattle.std.proofs.lemmas.List.{reverse-append, drop_more, drop_all, get_or_push, get_or_append_left}
+use Rattle.std.proofs.lemmas.List.{reverse-reverse}
 use Rattle.fair_routes.specs.declared.routes.sides.LinkSide as declared
 
 -- ---- whether a link has a user

@@ -5,8 +5,7 @@ use Rattle.fair_routes.proofs.Common.{AllZip, zip, ◌||◌, option_map, unwrap_
 use Rattle.fair_routes.proofs.Common.{All-nil, All-map, All-contains, slice_get-get_or, slice_get_within}
 use Rattle.fair_routes.proofs.Common.{get_or_from_slice_get, Rate, places_alike, has_link, side_of_link, sides_from}
 use Rattle.fair_routes.proofs.Common.{sides_over, AreListed, IsNumbered, AreWeightedRates, IsWeightRefusal}
-use Rattle.std.proofs.Common.{◌↔◌, Result, Ok, Err}
-use Rattle.std.proofs.Common.{slice_get}
+use Rattle.std.proofs.Common.{◌↔◌, Result, Ok, Err, slice_get}
 use Rattle.std.specs.List.{AllPairs, flat_map}
 use Rattle.std.specs.List.Sorted.{IsBinarySearchResult}
 use Rattle.std.specs.Map.{keys_of, values_of}
@@ -26,7 +25,8 @@ use Rattle.fair_routes.specs.Network.Told.{MayRefuseTold, error_of}
 use Rattle.fair_routes.specs.Network.Weights.{IsWeightedAllocation, HasLargeWeightedRate, HasMuchWeight}
 use Rattle.fair_routes.specs.declared.routes.network.Network.{Network}
 use Rattle.fair_routes.specs.declared.routes.weighted.error.WeightError.{WeightError}
-use Rattle.fair_routes.specs.declared.routes.weighted.error.WeightError.TheVariants.{Routes, OtherCount, NoWeight, TooMuchWeight}
+use Rattle.fair_routes.specs.declared.routes.weighted.error.WeightError.TheVariants.{Routes, OtherCount, NoWeight}
+use Rattle.fair_routes.specs.declared.routes.weighted.error.WeightError.TheVariants.{TooMuchWeight}
 use Rattle.fair_routes.specs.declared.routes.error.RouteError.TheVariants.{Refused, NoSuchLink}
 use Rattle.fair_routes.proofs.Network.Said.{any_alike, same_test}
 

@@ -9,7 +9,8 @@ use Rattle.std.proofs.lemmas.List.Elements.{All-head}
 use Rattle.fair_rates.specs.Fairness.Laws.{AreTheSameSides}
 use Rattle.fair_rates.proofs.Fairness.SameSides.{still_fair}
 use Rattle.fair_routes.specs.Network.Laws.{rates_at}
-use Rattle.fair_routes.specs.Network.WeightLaws.{WeightsOfOneChangeNothing, OrderOfLinksDoesNotMatterByWeight, OrderOfFlowsDoesNotMatterByWeight, weights_at}
+use Rattle.fair_routes.specs.Network.WeightLaws.{WeightsOfOneChangeNothing, OrderOfLinksDoesNotMatterByWeight}
+use Rattle.fair_routes.specs.Network.WeightLaws.{OrderOfFlowsDoesNotMatterByWeight, weights_at}
 use Rattle.fair_routes.proofs.Network.ByWeight.{sum_often, uses_often, often_uses}
 use Rattle.fair_routes.proofs.Network.LinkSides.{users_are_flows}
 use Rattle.fair_routes.proofs.Network.Relabelled.{IsTheSide, AreRelabelled, relabelled_fair, rate_on}

@@ -1,5 +1,5 @@
-use Rattle.row_table.proofs.Common.{◌≡◌, ◌≤◌, ℕ, Bool, true, false, List, [], ◌∷◌, ◌++◌, Option, Some, None, IsSome}
-use Rattle.row_table.proofs.Common.{is_some, take, refl, sym, subst, ap, ◌∙◌, arith, vec_capacity, held, filled_from}
+use Rattle.row_table.proofs.Common.{◌≡◌, ℕ, Bool, true, false, List, [], ◌∷◌, ◌++◌, Option, Some, None, is_some, take}
+use Rattle.row_table.proofs.Common.{refl, sym, ap, ◌∙◌, arith, vec_capacity, filled_from}
 use Rattle.std.proofs.Common.{if◌then◌else◌}
 use Rattle.std.proofs.lemmas.List.{append-nil}
 use Rattle.row_table.proofs.Slots.{the_entry, held_is, filled_more, len-filled, length-live_before}

@@ -1,6 +1,7 @@
 use Rattle.chains.proofs.Common.{◌<◌, ◌+◌, sym, ap, ◌∙◌, subst, length, arith, get_or_from_slice_get, Table, now_of}
 use Rattle.chains.proofs.Common.{no_link, Stands, rows_in, IsChained, Link}
-use Rattle.chains.proofs.Closing.{front, front_all, same_lengths, flag_set, never_empty, owner_within, last_free, one_more, rows_still}
+use Rattle.chains.proofs.Closing.{front, front_all, same_lengths, flag_set, never_empty, owner_within, last_free}
+use Rattle.chains.proofs.Closing.{one_more, rows_still}
 use Rattle.chains.proofs.tables.Tables.relink_all.Goals as goal
 
 pub loop-row-preserved-in_default : goal.loop-row-preserved-in_default

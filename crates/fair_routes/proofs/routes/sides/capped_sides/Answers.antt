@@ -3,7 +3,8 @@ use Rattle.fair_routes.proofs.Common.{common_steps}
 use Rattle.std.proofs.Common.{vec_len}
 use Rattle.std.proofs.lemmas.Bool.Decides.{nat_tests}
 use Rattle.fair_routes.specs.declared.routes.sides.LinkSide as declared
-use Rattle.fair_routes.proofs.Network.Sides.{AreMade, made_none, made_uncapped, made_unused, made_side, made_all, popped}
+use Rattle.fair_routes.proofs.Network.Sides.{AreMade, made_none, made_uncapped, made_unused, made_side, made_all}
+use Rattle.fair_routes.proofs.Network.Sides.{popped}
 use Rattle.fair_routes.proofs.routes.sides.capped_sides.Goals as goal
 
 pub loop-flows-init : goal.loop-flows-init

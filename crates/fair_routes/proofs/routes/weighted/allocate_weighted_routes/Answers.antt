@@ -5,7 +5,8 @@ use Rattle.fair_routes.specs.Network.Rising.{AreFilledByWeight}
 use Rattle.fair_routes.proofs.Network.Allocation.{code_users}
 use Rattle.fair_routes.proofs.Network.LinkSides.{users_are_flows}
 use Rattle.fair_routes.proofs.Network.WeightedMaxMin.{max_min_by_weight}
-use Rattle.fair_routes.proofs.Network.WeightedRates.{levels_inside, rates_by_weight, large_by_weight, one_by_weight, zero_by_weight}
+use Rattle.fair_routes.proofs.Network.WeightedRates.{levels_inside, rates_by_weight, large_by_weight, one_by_weight}
+use Rattle.fair_routes.proofs.Network.WeightedRates.{zero_by_weight}
 use Rattle.fair_routes.proofs.routes.weighted.allocate_weighted_routes.Goals as goal
 
 abbrev items : Vec ℕ Global → List ℕ

@@ -1,5 +1,4 @@
-use Rattle.row_table.proofs.Common.{◌≡◌, ℕ, Some, suc, slice_get, subst, sym, ap, ◌∙◌, Versions, IsNext, receiver_of}
-use Rattle.row_table.proofs.Common.{Row}
+use Rattle.row_table.proofs.Common.{◌≡◌, ℕ, suc, slice_get, subst, sym, ap, ◌∙◌, Versions, IsNext, receiver_of, Row}
 use Rattle.row_table.specs.Rows.{is_received_by}
 use Rattle.row_table.proofs.Slots.{IsSlot, slot_at, held_at, some_same}
 use Rattle.row_table.proofs.Nexts.{from_behind, next_of_owner, next_place, next_within}
