@@ -1,9 +1,10 @@
 -- A part of the flows that uses no link together with the rest.
+use Rattle.std.proofs.Common.{rules}
 use Rattle.fair_routes.proofs.Common.{◌≡◌, ℕ, suc, ◌+◌, ◌<◌, List, [], ◌∷◌, ◌++◌, Bool, true, false, cond, Option, Some}
 use Rattle.fair_routes.proofs.Common.{None, map, length, take, All, ◌⊎◌, inl, inr, refl, sym, ap, ◌∙◌, subst, arith}
-use Rattle.fair_routes.proofs.Common.{◌||◌, list_any, length-map, All-contains, sum_by-cons, Side, AreFairRates}
-use Rattle.fair_routes.proofs.Common.{places_from, In, in_left, in_right, contains_from_in, any_passes, has_link}
-use Rattle.fair_routes.proofs.Common.{users_of, side_of_link, sides_from, sides_over}
+use Rattle.fair_routes.proofs.Common.{list_any, length-map, All-contains, sum_by-cons, Side, AreFairRates, places_from}
+use Rattle.fair_routes.proofs.Common.{In, in_left, in_right, contains_from_in, any_passes, has_link, users_of}
+use Rattle.fair_routes.proofs.Common.{side_of_link, sides_from, sides_over, common_steps}
 use Rattle.std.specs.List.{filter}
 use Rattle.std.proofs.lemmas.List.{append_assoc}
 use Rattle.fair_rates.specs.Fairness.Part.{flagged, is_in, place_in, sides_in}
@@ -21,38 +22,17 @@ place_in-suc flag flags i = sum_by-cons (λ b. cond b 1 0) flag (take i flags)
 no_places : {X : Type 0} (place : ℕ) (test : X → Bool) (xs : List X) → list_any test xs ≡ false
     → places_from place test xs ≡ []
 no_places place test [] none = refl
-no_places {X} place test (x ∷ xs) none = by_test (test x) none (no_places (place + 1) test xs)
-  where
-    by_test : (b : Bool) → (b || list_any test xs) ≡ false
-        → (list_any test xs ≡ false → places_from (place + 1) test xs ≡ [])
-        → cond b (place ∷ places_from (place + 1) test xs) (places_from (place + 1) test xs) ≡ []
-    by_test true h ih = cc
-    by_test false h ih = ih h
+no_places {X} place test (x ∷ xs) none = search (rules, no_places (place + 1) test xs)
 
 used_places : {X : Type 0} (place : ℕ) (test : X → Bool) (xs : List X) → list_any test xs ≡ true
     → 0 < length (places_from place test xs)
 used_places place test [] some = cc
-used_places {X} place test (x ∷ xs) some = by_test (test x) some (used_places (place + 1) test xs)
-  where
-    by_test : (b : Bool) → (b || list_any test xs) ≡ true
-        → (list_any test xs ≡ true → 0 < length (places_from (place + 1) test xs))
-        → 0 < length (cond b (place ∷ places_from (place + 1) test xs) (places_from (place + 1) test xs))
-    by_test true h ih = omega arith
-    by_test false h ih = ih h
+used_places {X} place test (x ∷ xs) some = search (rules, used_places (place + 1) test xs)
 
 places-suc : {X : Type 0} (place : ℕ) (test : X → Bool) (xs : List X)
     → places_from (place + 1) test xs ≡ map suc (places_from place test xs)
 places-suc place test [] = refl
-places-suc {X} place test (x ∷ xs) = by_test (test x) (places-suc (place + 1) test xs)
-  where
-    next : place + 1 ≡ suc place
-    next = omega arith
-
-    by_test : (b : Bool) → places_from (place + 1 + 1) test xs ≡ map suc (places_from (place + 1) test xs)
-        → cond b ((place + 1) ∷ places_from (place + 1 + 1) test xs) (places_from (place + 1 + 1) test xs)
-        ≡ map suc (cond b (place ∷ places_from (place + 1) test xs) (places_from (place + 1) test xs))
-    by_test true ih = ap (λ n. n ∷ places_from (place + 1 + 1) test xs) next ∙ ap (λ ns. suc place ∷ ns) ih
-    by_test false ih = ih
+places-suc {X} place test (x ∷ xs) = search (rules, places-suc (place + 1) test xs)
 
 -- the places in the part, of those places whose flows are of it
 abbrev kept : List Bool → List ℕ → List ℕ
@@ -60,31 +40,11 @@ kept flags places = map (place_in flags) (filter (is_in flags) places)
 
 kept_behind : (flags : List Bool) (places : List ℕ) → kept (true ∷ flags) (map suc places) ≡ map suc (kept flags places)
 kept_behind flags [] = refl
-kept_behind flags (p ∷ places) = by_test (is_in flags p) (kept_behind flags places)
-  where
-    next : place_in (true ∷ flags) (suc p) ≡ suc (place_in flags p)
-    next = omega (arith, place_in-suc true flags p)
-
-    by_test : (b : Bool) → kept (true ∷ flags) (map suc places) ≡ map suc (kept flags places)
-        → map (place_in (true ∷ flags)) (cond b (suc p ∷ filter (is_in (true ∷ flags)) (map suc places))
-        (filter (is_in (true ∷ flags)) (map suc places)))
-        ≡ map suc (map (place_in flags) (cond b (p ∷ filter (is_in flags) places) (filter (is_in flags) places)))
-    by_test true ih = ap (λ n. n ∷ kept (true ∷ flags) (map suc places)) next ∙ ap (λ ns. suc (place_in flags p) ∷ ns) ih
-    by_test false ih = ih
+kept_behind flags (p ∷ places) = grind (arith, common_steps, place_in-suc, kept_behind flags places)
 
 kept_without : (flags : List Bool) (places : List ℕ) → kept (false ∷ flags) (map suc places) ≡ kept flags places
 kept_without flags [] = refl
-kept_without flags (p ∷ places) = by_test (is_in flags p) (kept_without flags places)
-  where
-    next : place_in (false ∷ flags) (suc p) ≡ place_in flags p
-    next = omega (arith, place_in-suc false flags p)
-
-    by_test : (b : Bool) → kept (false ∷ flags) (map suc places) ≡ kept flags places
-        → map (place_in (false ∷ flags)) (cond b (suc p ∷ filter (is_in (false ∷ flags)) (map suc places))
-        (filter (is_in (false ∷ flags)) (map suc places)))
-        ≡ map (place_in flags) (cond b (p ∷ filter (is_in flags) places) (filter (is_in flags) places))
-    by_test true ih = ap (λ n. n ∷ kept (false ∷ flags) (map suc places)) next ∙ ap (λ ns. place_in flags p ∷ ns) ih
-    by_test false ih = ih
+kept_without flags (p ∷ places) = search (rules, place_in-suc, kept_without flags places)
 
 kept_none : (places : List ℕ) → kept [] places ≡ []
 kept_none [] = refl
@@ -120,10 +80,7 @@ kept_places {X} (false ∷ flags) test (x ∷ xs) =
 
 sides_in-append : (flags : List Bool) (xs ys : List Side) → sides_in flags (xs ++ ys) ≡ sides_in flags xs ++ sides_in flags ys
 sides_in-append flags [] ys = refl
-sides_in-append flags (x ∷ xs) ys =
-    let here : List Side =
-    cond (list_any (is_in flags) x.users) (record { cap = x.cap; users = map (place_in flags) x.users } ∷ []) [] in
-    ap (λ ss. here ++ ss) (sides_in-append flags xs ys) ∙ sym (append_assoc here (sides_in flags xs) (sides_in flags ys))
+sides_in-append flags (x ∷ xs) ys = search (rules, append_assoc, sides_in-append flags xs ys)
 
 -- all of the users of a side are of the part, or none is
 abbrev IsApart : List Bool → Side → Type 0

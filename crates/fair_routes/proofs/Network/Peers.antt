@@ -1,15 +1,15 @@
 -- Flows between peers are flows over three links.
 use Rattle.fair_routes.proofs.Common.{◌≡◌, ◌==◌, ℕ, List, [], ◌∷◌, Bool, true, false, cond, Option, None, get_or, map}
-use Rattle.fair_routes.proofs.Common.{length, refl, sym, ap, ◌∙◌, inl, inr, ◌||◌, AllZip, list_any, eqb-true, Side}
-use Rattle.fair_routes.proofs.Common.{places_from, In, in_map, from_map, in_from_contains, contains_from_in, any_passes}
-use Rattle.fair_routes.proofs.Common.{places_alike, IsLinkSide, has_link, users_of, sides_over}
-use Rattle.std.proofs.Common.{◌&&◌}
+use Rattle.fair_routes.proofs.Common.{length, sym, ap, ◌∙◌, inl, inr, AllZip, eqb-true, Side, places_from, In, in_map}
+use Rattle.fair_routes.proofs.Common.{from_map, in_from_contains, contains_from_in, any_passes, places_alike}
+use Rattle.fair_routes.proofs.Common.{IsLinkSide, has_link, users_of, sides_over}
+use Rattle.std.proofs.Common.{rules}
 use Rattle.std.specs.Cmp.{IsTotalOrder}
 use Rattle.std.specs.declared.cmp.Ordering.{Ordering}
 use Rattle.std.proofs.Math.Bool.{or-false}
 use Rattle.fair_rates.specs.Fairness.UnderCaps.{AreOfPeers, IsCappedSide, limits, sides_under}
 use Rattle.fair_rates.specs.Sides.Caps.{Caps}
-use Rattle.fair_rates.specs.Sides.Subjects.{Subject, sent_by, received_by, sent_between, same_peer}
+use Rattle.fair_rates.specs.Sides.Subjects.{Subject, sent_by, received_by, sent_between}
 use Rattle.fair_rates.specs.declared.bandwidth.Flow.{Flow}
 use Rattle.fair_rates.proofs.Fairness.SameSides.{fairness_is_of_the_set}
 use Rattle.fair_rates.proofs.Sides.CapSides.{sides_are_of_the_caps}
@@ -21,58 +21,9 @@ module _ {P : Type 0} (cmp : P → P → Ordering) (order : IsTotalOrder cmp) (c
     (number : Subject P → ℕ) (of : AreOfPeers cmp caps) (are : AreLinks cmp caps links number) where
   -- a side of a subject limits the flow just where its link is on the flow's route
   on_route : (s : Subject P) (f : Flow P) → limits cmp s f ≡ has_link (number s) (route_of cmp number f)
-  on_route (sent_by p) f = by_test f.delivered
-    where
-      own : Subject P
-      own = sent_by p
-
-      by_test : (b : Bool) → same_peer cmp p f.origin
-          ≡ ((number (sent_by f.origin) == number (sent_by p))
-          || ((number (sent_between f.origin f.recipient) == number (sent_by p))
-          || list_any (λ other. other == number (sent_by p)) (cond b (number (received_by f.recipient) ∷ []) [])))
-      by_test true =
-          rw (
-            are.apart (sent_by p) (sent_by f.origin),
-            are.apart (sent_by p) (sent_between f.origin f.recipient),
-            are.apart (sent_by p) (received_by f.recipient),
-          ) (sym (or-false (same_peer cmp p f.origin)))
-      by_test false =
-          rw (are.apart (sent_by p) (sent_by f.origin), are.apart (sent_by p) (sent_between f.origin f.recipient))
-          (sym (or-false (same_peer cmp p f.origin)))
-  on_route (received_by p) f = by_test f.delivered
-    where
-      by_test : (b : Bool) → (b && same_peer cmp p f.recipient)
-          ≡ ((number (sent_by f.origin) == number (received_by p))
-          || ((number (sent_between f.origin f.recipient) == number (received_by p))
-          || list_any (λ other. other == number (received_by p)) (cond b (number (received_by f.recipient) ∷ []) [])))
-      by_test true =
-          rw (
-            are.apart (received_by p) (sent_by f.origin),
-            are.apart (received_by p) (sent_between f.origin f.recipient),
-            are.apart (received_by p) (received_by f.recipient),
-          ) (sym (or-false (same_peer cmp p f.recipient)))
-      by_test false =
-          rw (are.apart (received_by p) (sent_by f.origin), are.apart (received_by p) (sent_between f.origin f.recipient))
-          refl
-  on_route (sent_between p q) f = by_test f.delivered
-    where
-      by_test : (b : Bool) → (same_peer cmp p f.origin && same_peer cmp q f.recipient)
-          ≡ ((number (sent_by f.origin) == number (sent_between p q))
-          || ((number (sent_between f.origin f.recipient) == number (sent_between p q))
-          || list_any (λ other. other == number (sent_between p q)) (cond b (number (received_by f.recipient) ∷ []) [])))
-      by_test true =
-          rw (
-            are.apart (sent_between p q) (sent_by f.origin),
-            are.apart (sent_between p q) (sent_between f.origin f.recipient),
-            are.apart (sent_between p q) (received_by f.recipient),
-          )
-          (sym (or-false (same_peer cmp p f.origin && same_peer cmp q f.recipient)))
-      by_test false =
-          rw (
-            are.apart (sent_between p q) (sent_by f.origin),
-            are.apart (sent_between p q) (sent_between f.origin f.recipient),
-          )
-          (sym (or-false (same_peer cmp p f.origin && same_peer cmp q f.recipient)))
+  on_route (sent_by p) f = search (rules, or-false)
+  on_route (received_by p) f = search (rules, or-false)
+  on_route (sent_between p q) f = search (rules, or-false)
 
   -- a link of a route is that of a subject
   of_subject : (f : Flow P) (link : ℕ) → In (route_of cmp number f) link → (s : Subject P) × (number s ≡ link)

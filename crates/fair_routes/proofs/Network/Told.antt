@@ -3,13 +3,13 @@ use Rattle.fair_routes.proofs.Common.{◌≡◌, ℕ, suc, ◌+◌, ◌<◌, ◌
 use Rattle.fair_routes.proofs.Common.{false, map, length, get_or, refl, sym, ap, ap₂, ◌∙◌, subst, inl, inr, arith}
 use Rattle.fair_routes.proofs.Common.{AllZip, zip, ◌||◌, option_map, unwrap_or, cases_lt, eqb_tells, length-map}
 use Rattle.fair_routes.proofs.Common.{All-nil, All-map, All-contains, slice_get-get_or, slice_get_within}
-use Rattle.fair_routes.proofs.Common.{get_or_from_slice_get, Rate, places_alike, has_link, side_of_link, sides_from}
-use Rattle.fair_routes.proofs.Common.{sides_over, AreListed, IsNumbered, AreWeightedRates, IsWeightRefusal}
-use Rattle.std.proofs.Common.{◌↔◌, Result, Ok, Err, slice_get}
+use Rattle.fair_routes.proofs.Common.{get_or_from_slice_get, Rate, places_alike, side_of_link, sides_from, sides_over}
+use Rattle.fair_routes.proofs.Common.{AreListed, IsNumbered, IsWeightRefusal}
+use Rattle.std.proofs.Common.{◌↔◌, Result, Ok, Err, slice_get, rules}
 use Rattle.std.specs.List.{AllPairs, flat_map}
 use Rattle.std.specs.List.Sorted.{IsBinarySearchResult}
 use Rattle.std.specs.Map.{keys_of, values_of}
-use Rattle.std.specs.BTreeMap.{get, keys, values}
+use Rattle.std.specs.BTreeMap.{keys, values}
 use Rattle.std.specs.Int.NonZero.{non_zero_u64_get}
 use Rattle.std.specs.declared.num.NonZeroU64.{NonZeroU64}
 use Rattle.std.specs.Ordering.{nat_cmp}
@@ -47,12 +47,7 @@ module _ (xs : List ℕ) (up : AllPairs (λ one other. one < other) xs) where
       ]
 
   ascend : (i j : ℕ) → i ≤ j → j < length xs → get_or xs i 0 ≤ get_or xs j 0
-  ascend i j le inside = elim (cases_lt i j) [
-    | inl less ↦ omega (arith, up i j 0 less inside)
-    | inr other ↦
-        let same : i ≡ j = omega (arith, le, other) in
-        subst (λ k. get_or xs i 0 ≤ get_or xs k 0) same (omega arith)
-  ]
+  ascend i j le inside = search (rules, cases_lt)
 
   -- what a search finds is the place, and there is none where it finds nothing
   pub found_place : (x : ℕ) (r : Result ℕ ℕ) → IsBinarySearchResult (λ y. nat_cmp y x) xs r → (place : ℕ)
@@ -103,29 +98,12 @@ module _ (links : List ℕ) where
   -- and one that is none of these
   pub numbered_same : (route numbered : List ℕ) (link : ℕ) → IsNumbered links route numbered
       → IsPlace None link → IsNumbered links (route ++ link ∷ []) numbered
-  numbered_same route numbered link h is = record { below = h.below; same = same }
-    where
-      same : (p l : ℕ) → slice_get links p ≡ Some l → has_link l (route ++ link ∷ []) ≡ has_link p numbered
-      same p l e =
-          let other : (link == l) ≡ false = elim (eqb_tells link l) [
-            | inl one ↦
-                let none : None ≡ Some p = (is p).1 (e ∙ ap Some (sym one.1)) in
-                absurd (cc none)
-            | inr differ ↦ differ.0
-          ] in
-          list_any-append (λ o. o == l) route (link ∷ [])
-          ∙ ap (λ b. has_link l route || (b || false)) other
-          ∙ or-false (has_link l route) ∙ h.same p l e
+  numbered_same route numbered link h is = search (rules, eqb_tells, list_any-append, or-false)
 
   -- a link makes the same side
   same_side : (routes numbered : List (List ℕ)) → AllZip (IsNumbered links) routes numbered → (place link cap : ℕ)
       → slice_get links place ≡ Some link → side_of_link numbered place (Some cap) ≡ side_of_link routes link (Some cap)
-  same_side routes numbered all place link cap e =
-      rw (
-        any_alike (IsNumbered links) (has_link link) (has_link place) (λ r n h. h.same place link e) routes numbered all,
-        places_alike (IsNumbered links) (has_link link) (has_link place) (λ r n h. h.same place link e) 0 routes numbered
-            all,
-      ) refl
+  same_side routes numbered all place link cap e = search (rules, any_alike, places_alike)
 
   same_sides : (routes numbered : List (List ℕ)) → AllZip (IsNumbered links) routes numbered
       → (start : ℕ) (entries : List (ℕ × ℕ))
@@ -144,9 +122,7 @@ pub sides_told : (entries : List (ℕ × ℕ)) (routes numbered : List (List ℕ
     → AllZip (IsNumbered (keys_of entries)) routes numbered
     → sides_over (map Some (values_of entries)) numbered
     ≡ flat_map (λ entry. side_of_link routes entry.0 (Some entry.1)) entries
-sides_told entries routes numbered all =
-    same_sides (keys_of entries) routes numbered all 0 entries
-    (λ i link is. subst (λ n. slice_get (keys_of entries) n ≡ Some link) (omega arith) is)
+sides_told entries routes numbered all = search (rules, same_sides)
 
 -- and each place is one of theirs
 all_listed : (links : List ℕ) (routes numbered : List (List ℕ)) → AllZip (IsNumbered links) routes numbered
@@ -154,8 +130,7 @@ all_listed : (links : List ℕ) (routes numbered : List (List ℕ)) → AllZip (
 all_listed links [] [] all = All-nil (λ route. All (λ link. link < length links) route)
 all_listed links [] (n ∷ ns) all = absurd all
 all_listed links (r ∷ rs) [] all = absurd all
-all_listed links (r ∷ rs) (n ∷ ns) all =
-    All-cons (λ route. All (λ link. link < length links) route) n ns all.0.below (all_listed links rs ns all.1)
+all_listed links (r ∷ rs) (n ∷ ns) all = search (rules, All-cons, all_listed links rs ns all.1)
 
 -- ---- the rates
 
@@ -175,28 +150,17 @@ module _ (n : Network) (numbered : List (List ℕ)) (all : AllZip (IsNumbered (k
   many_links = length-map (values n.caps) Some ∙ length-map n.caps.entries (λ e. e.1) ∙ sym (length-map n.caps.entries (λ e. e.0))
 
   many_flows : length numbered ≡ length (keys n.routes)
-  many_flows = sym (zip-length (IsNumbered (keys n.caps)) (told_routes n) numbered all)
-      ∙ length-map (values n.routes) (λ route. route.items)
-      ∙ length-map n.routes.entries (λ e. e.1) ∙ sym (length-map n.routes.entries (λ e. e.0))
+  many_flows = search (rules, zip-length, length-map)
 
   many_weights : length (told_weights n) ≡ length (keys n.routes)
   many_weights = length-map (keys n.routes) (told_weight n)
 
   all_positive : All (λ weight. 0 < weight) (told_weights n)
-  all_positive =
-      All-map (λ weight. 0 < weight) (told_weight n) (keys n.routes)
-      (λ k d inside. some_weight (get nat_cmp n.weights (get_or (keys n.routes) k d)))
+  all_positive = search (rules, All-map, some_weight)
 
   pub rates_told : (rates : List Rate) → IsWeightedAllocation caps numbered (told_weights n) rates
       → AreRatesTold n (zip (keys n.routes) rates)
-  rates_told rates is =
-      let one_each : length rates ≡ length (keys n.routes) = is.fair.one_each ∙ many_weights in
-      record {
-        flows = firsts-zip (keys n.routes) rates one_each;
-        fair = subst (AreWeightedRates (told_sides n) (told_weights n))
-            (sym (seconds-zip (keys n.routes) rates one_each))
-            (subst (λ ss. AreWeightedRates ss (told_weights n) rates) sides_are is.fair);
-      }
+  rates_told rates is = search (rules, many_weights, firsts-zip, seconds-zip, sides_are)
 
   pub refusal_told : (e : WeightError) → IsWeightRefusal caps numbered (told_weights n) e
       → MayRefuseTold n (error_of e)
