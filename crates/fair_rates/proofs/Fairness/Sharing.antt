@@ -104,7 +104,8 @@ module _ {P X : Type 0} (cmp : P → P → Ordering) (caps : Caps P) (flow : X �
         → Uses S k (side_for c.subject c.cap)
     uses_side k x at c =
         grind (arith, common_steps,
-        listed_from_capped cmp order caps of (map flow xs) c.subject c.cap (flow x) c.capped (in_map flow xs x (in_get xs k x at)) c.limited,
+        listed_from_capped cmp order caps of (map flow xs) c.subject c.cap (flow x) c.capped
+        (in_map flow xs x (in_get xs k x at)) c.limited,
         in_map flow xs x (in_get xs k x at), in_get xs k x, place_in c.subject xs k x)
 
     pub limited_from_capped : (k : ℕ) (x : X) → slice_get xs k ≡ Some x → IsCapped cmp caps (flow x) → IsLimited S k

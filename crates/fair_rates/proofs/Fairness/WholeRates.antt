@@ -20,7 +20,8 @@ whole_rate : (sides : List Side) (per last : ℕ) (parts other : ℕ → ℕ)
 whole_rate sides per last parts other fair fair' flow Unlimited rated = tt
 whole_rate sides per last parts other fair fair' flow (Finite ratio) rated =
     grind (arith, common_steps,
-    same_worth ratio.numerator ratio.denominator per (parts flow) last (other flow) fair.some_part rated.1 (same_amounts sides per last parts other fair fair' flow rated.0),
+    same_worth ratio.numerator ratio.denominator per (parts flow) last (other flow) fair.some_part rated.1
+    (same_amounts sides per last parts other fair fair' flow rated.0),
     same_amounts sides per last parts other fair fair' flow rated.0)
 
 -- the fair rates of at most n flows are whole over the denominator of n

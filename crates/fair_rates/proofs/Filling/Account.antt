@@ -46,7 +46,8 @@ module _ (side : Side) (scale : ℕ) (frozen : ℕ → Option ℕ) (slack : ℕ)
       → later ≡ swap_remove rising i user → KeepsAccount side scale frozen rest later
   account_more i user parts rest later inside is_user is_frozen left removed =
       grind (arith, common_steps,
-      IsPermutation-pop_more side.users account.counted rising (swap_remove rising i user) user account.parted (IsPermutation-swap_remove rising i user inside is_user),
+      IsPermutation-pop_more side.users account.counted rising (swap_remove rising i user) user account.parted
+      (IsPermutation-swap_remove rising i user inside is_user),
       IsPermutation-swap_remove rising i user inside is_user, some_is (frozen user) parts is_frozen,
       sum_by-append (at_level frozen 0) account.counted (user ∷ []), sum_by-cons (at_level frozen 0) user [],
       at_some frozen 0 user parts is_frozen, All-push)

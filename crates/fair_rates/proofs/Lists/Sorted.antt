@@ -158,17 +158,6 @@ module _ {K : Type 0} (cmp : K → K → Ordering) (total : IsTotalOrder cmp) wh
       (ascending_insert ks ls k (second_of_both (list_all (λ l. is_lt (cmp j l)) (ks ++ ls)) _ h)
       (second_of_both (is_lt (cmp j k)) _ below) above)
 
-  -- without one of them they still ascend
-  ascending_less : (ks ls : List K) (k : K) → are_ascending cmp (ks ++ k ∷ ls) ≡ true
-      → are_ascending cmp (ks ++ ls) ≡ true
-  ascending_less [] ls k h = second_of_both (list_all (λ l. is_lt (cmp k l)) ls) _ h
-  ascending_less (j ∷ ks) ls k h =
-      let first = first_of_both (list_all (λ l. is_lt (cmp j l)) (ks ++ k ∷ ls)) _ h in
-      and_from _ _
-      (list_all-append (λ l. is_lt (cmp j l)) ks ls (list_all-left _ ks (k ∷ ls) first)
-      (second_of_both (is_lt (cmp j k)) _ (list_all-right _ ks (k ∷ ls) first)))
-      (ascending_less ks ls k (second_of_both (list_all (λ l. is_lt (cmp j l)) (ks ++ k ∷ ls)) _ h))
-
   module _ {E : Type 0} (key : E → K) where
     -- the comparisons with a key rise along an ascending list
     comparisons_rise : (es : List E) (k : K) → are_ascending cmp (map key es) ≡ true

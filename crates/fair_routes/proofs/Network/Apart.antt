@@ -56,25 +56,11 @@ pub kept_places : {X : Type 0} (flags : List Bool) (test : X → Bool) (xs : Lis
 kept_places [] test xs = kept_none (places_from 0 test xs)
 kept_places (flag ∷ flags) test [] = refl
 kept_places {X} (true ∷ flags) test (x ∷ xs) =
-    by_test (test x)
-    (ap (kept (true ∷ flags)) (places-suc 0 test xs) ∙ kept_behind flags (places_from 0 test xs)
-    ∙ ap (map suc) (kept_places flags test xs) ∙ sym (places-suc 0 test (flagged flags xs)))
-  where
-    by_test : (b : Bool) → kept (true ∷ flags) (places_from 1 test xs) ≡ places_from 1 test (flagged flags xs)
-        → kept (true ∷ flags) (cond b (0 ∷ places_from 1 test xs) (places_from 1 test xs))
-        ≡ cond b (0 ∷ places_from 1 test (flagged flags xs)) (places_from 1 test (flagged flags xs))
-    by_test true rest = ap (λ ns. 0 ∷ ns) rest
-    by_test false rest = rest
+    grind (arith, common_steps, places-suc 0 test xs, places-suc 0 test (flagged flags xs),
+    kept_behind flags (places_from 0 test xs), kept_places flags test xs)
 kept_places {X} (false ∷ flags) test (x ∷ xs) =
-    by_test (test x)
-    (ap (kept (false ∷ flags)) (places-suc 0 test xs) ∙ kept_without flags (places_from 0 test xs)
-    ∙ kept_places flags test xs)
-  where
-    by_test : (b : Bool) → kept (false ∷ flags) (places_from 1 test xs) ≡ places_from 0 test (flagged flags xs)
-        → kept (false ∷ flags) (cond b (0 ∷ places_from 1 test xs) (places_from 1 test xs))
-        ≡ places_from 0 test (flagged flags xs)
-    by_test true rest = rest
-    by_test false rest = rest
+    grind (arith, common_steps, places-suc 0 test xs, kept_without flags (places_from 0 test xs),
+    kept_places flags test xs)
 
 -- ---- sides
 
@@ -126,16 +112,9 @@ module _ (flags : List Bool) (routes : List (List ℕ)) (link cap : ℕ) where
   all_own : list_any (has_link link) routes ≡ true → All (λ user. is_in flags user ≡ true) users
       → sides_in flags (old ∷ []) ≡ one (list_any (has_link link) (flagged flags routes))
   all_own somebody all =
-      let own : (x : ℕ) → In users x → is_in flags x ≡ true = λ x h.
-      All-contains (λ user. is_in flags user ≡ true) users x all (contains_from_in users x h) in
-      let same : map (place_in flags) users ≡ others =
-      ap (map (place_in flags)) (sym (filter_all (is_in flags) users own)) ∙ kept_places flags (has_link link) routes in
-      let some : 0 < length users = used_places 0 (has_link link) routes somebody in
-      let any : list_any (is_in flags) users ≡ true = any_all (is_in flags) users some own in
-      let left : list_any (has_link link) (flagged flags routes) ≡ true =
-      some_user 0 (has_link link) (flagged flags routes)
-      (omega (arith, some, ap length same, length-map users (place_in flags))) in
-      rw (any, left, same) refl
+      grind (arith, common_steps, kept_places flags (has_link link) routes,
+      used_places 0 (has_link link) routes somebody, length-map users (place_in flags), All-contains, contains_from_in,
+      filter_all, any_all, some_user)
 
   -- or none of them
   none_own : All (λ user. is_in flags user ≡ false) users

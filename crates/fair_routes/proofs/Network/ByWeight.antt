@@ -204,21 +204,12 @@ module _ (weights : List ℕ) (sides : List Side) (positive : (u : ℕ) → u < 
       → (parts ≡ share) × Contains side.users flow) where
     within_at : (s : Side) → Contains sides s
         → load (at_level frozen level) (weighted weights s) ≤ s.cap * scale
-    within_at s c =
-        All-contains (λ (w : Side). load (at_level frozen level) w ≤ w.cap * scale) wide (weighted weights s)
-        filled.within (listed_on (weighted weights) sides s c)
+    within_at s c = grind (arith, common_steps, listed_on (weighted weights) sides s c, All-contains)
 
     raised : level * factor ≤ share
     raised =
-        no_lower slack weight level factor share some is_share
-        (omega (
-          arith,
-          is_slack,
-          slack_left scale level frozen side (within_at side listed),
-          within_at side listed,
-          load_split weights frozen level side,
-          ap (λ n. level * n) is_weight,
-        ))
+        grind (arith, common_steps, slack_left scale level frozen side (within_at side listed), within_at side listed,
+        load_split weights frozen level side, no_lower)
 
     within_narrow : (s : Side) → Contains sides s
         → load (at_level mid share) (weighted weights s) ≤ s.cap * (scale * factor)

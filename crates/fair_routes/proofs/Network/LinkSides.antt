@@ -3,7 +3,7 @@ use Rattle.fair_routes.proofs.Common.{◌≡◌, ℕ, zero, suc, ◌+◌, ◌<�
 use Rattle.fair_routes.proofs.Common.{Option, Some, None, get_or, sym, ap, ◌∙◌, subst, inl, inr, arith, list_any, Side}
 use Rattle.fair_routes.proofs.Common.{HaveUsersBelow, In, in_left, in_right, in_from_contains, contains_from_in}
 use Rattle.fair_routes.proofs.Common.{All-from_contains, IsLinkSide, has_link, users_of, side_of_link, sides_from}
-use Rattle.fair_routes.proofs.Common.{sides_over}
+use Rattle.fair_routes.proofs.Common.{sides_over, common_steps}
 use Rattle.std.proofs.Common.{◌≢◌, AllPairs, rules}
 use Rattle.fair_rates.specs.Fairness.Exists.{HaveDistinctUsers}
 use Rattle.fair_rates.proofs.Lists.Members.{in_either}
@@ -69,14 +69,8 @@ to_sides first (suc next) (cap ∷ caps) routes side capped used users =
 pub link_side : (caps : List (Option ℕ)) (routes : List (List ℕ)) (side : Side) → Contains (sides_over caps routes) side
     → IsLinkSide caps routes side
 link_side caps routes side listed =
-    let r = from_sides 0 caps routes side (in_from_contains (sides_over caps routes) side listed) in
-    let here : 0 + r.next ≡ r.next = omega arith in
-    record {
-      link = r.next;
-      capped = r.capped;
-      used = subst (λ (n : ℕ). list_any (has_link n) routes ≡ true) here r.used;
-      users = r.users ∙ ap (λ n. users_of n routes) here;
-    }
+    grind (arith, common_steps, from_sides 0 caps routes side (in_from_contains (sides_over caps routes) side listed),
+    in_from_contains (sides_over caps routes) side listed)
 
 pub side_listed : (caps : List (Option ℕ)) (routes : List (List ℕ)) (side : Side) → IsLinkSide caps routes side
     → Contains (sides_over caps routes) side

@@ -2,7 +2,7 @@
 use Rattle.fair_routes.proofs.Common.{◌≡◌, ◌==◌, ℕ, List, [], ◌∷◌, Bool, true, false, cond, Option, None, get_or, map}
 use Rattle.fair_routes.proofs.Common.{length, sym, ap, ◌∙◌, inl, inr, AllZip, eqb-true, Side, places_from, In, in_map}
 use Rattle.fair_routes.proofs.Common.{from_map, in_from_contains, contains_from_in, any_passes, places_alike}
-use Rattle.fair_routes.proofs.Common.{IsLinkSide, has_link, users_of, sides_over}
+use Rattle.fair_routes.proofs.Common.{IsLinkSide, has_link, users_of, sides_over, arith, common_steps}
 use Rattle.std.proofs.Common.{rules}
 use Rattle.std.specs.Cmp.{IsTotalOrder}
 use Rattle.std.specs.declared.cmp.Ordering.{Ordering}
@@ -49,19 +49,17 @@ module _ {P : Type 0} (cmp : P → P → Ordering) (order : IsTotalOrder cmp) (c
     each (f ∷ fs) = ((λ s. on_route s f), each fs)
 
     users_are : (s : Subject P) → places_from 0 (limits cmp s) flows ≡ users_of (number s) routes
-    users_are s =
-        places_alike IsRouteOf (limits cmp s) (has_link (number s)) (λ f route alike. alike s) 0 flows routes (each flows)
+    users_are s = grind (arith, common_steps, each flows, places_alike)
 
     there : (side : Side) → IsCappedSide cmp caps flows side → IsLinkSide links routes side
-    there side of_caps = record {
-      link = number of_caps.subject;
-      capped = are.same_cap of_caps.subject ∙ of_caps.capped;
-      used =
-          any_passes (has_link (number of_caps.subject)) routes (route_of cmp number of_caps.flow)
-          (in_map (route_of cmp number) flows of_caps.flow (in_from_contains flows of_caps.flow of_caps.among))
-          (sym (on_route of_caps.subject of_caps.flow) ∙ of_caps.limited);
-      users = of_caps.users ∙ users_are of_caps.subject;
-    }
+    there side of_caps =
+        grind (arith, common_steps,
+        any_passes (has_link (number of_caps.subject)) routes (route_of cmp number of_caps.flow)
+        (in_map (route_of cmp number) flows of_caps.flow (in_from_contains flows of_caps.flow of_caps.among))
+        (sym (on_route of_caps.subject of_caps.flow) ∙ of_caps.limited),
+        in_map (route_of cmp number) flows of_caps.flow (in_from_contains flows of_caps.flow of_caps.among),
+        in_from_contains flows of_caps.flow of_caps.among, on_route of_caps.subject of_caps.flow,
+        users_are of_caps.subject)
 
     back_at : (side : Side) (link : IsLinkSide links routes side) (s : Subject P) (f : Flow P) → number s ≡ link.link
         → In flows f → has_link link.link (route_of cmp number f) ≡ true → IsCappedSide cmp caps flows side

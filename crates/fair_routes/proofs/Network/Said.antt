@@ -2,7 +2,7 @@
 use Rattle.fair_routes.proofs.Common.{◌≡◌, ◌==◌, ℕ, ◌+◌, List, [], ◌∷◌, Bool, true, Option, Some, None, map, get_or}
 use Rattle.fair_routes.proofs.Common.{refl, sym, ap, ◌∙◌, inl, inr, AllZip, list_any, eqb-true, eqb_tells, Side, In}
 use Rattle.fair_routes.proofs.Common.{from_map, places_alike, IsLinkSide, has_link, users_of, side_of_link, sides_from}
-use Rattle.fair_routes.proofs.Common.{sides_over}
+use Rattle.fair_routes.proofs.Common.{sides_over, arith, common_steps}
 use Rattle.std.proofs.Common.{eq-eqb, rules}
 use Rattle.std.proofs.lemmas.Bool.{false≢true}
 use Rattle.fair_rates.specs.Fairness.Laws.{AreTheSameSides}
@@ -67,22 +67,13 @@ module _ (caps others : List (Option ℕ)) (name : ℕ → ℕ) (are : AreRename
   module _ (routes : List (List ℕ)) where
     any_renamed : (link : ℕ)
         → list_any (has_link link) routes ≡ list_any (has_link (name link)) (map (map name) routes)
-    any_renamed link =
-        any_alike Renames (has_link link) (has_link (name link)) (λ route other alike. alike link) routes
-        (map (map name) routes) (all_renamed routes)
+    any_renamed link = grind (arith, common_steps, all_renamed routes, any_alike)
 
     users_renamed : (link : ℕ) → users_of link routes ≡ users_of (name link) (map (map name) routes)
-    users_renamed link =
-        places_alike Renames (has_link link) (has_link (name link)) (λ route other alike. alike link) 0 routes
-        (map (map name) routes) (all_renamed routes)
+    users_renamed link = grind (arith, common_steps, all_renamed routes, places_alike)
 
     there : (side : Side) → IsLinkSide caps routes side → IsLinkSide others (map (map name) routes) side
-    there side of = record {
-      link = name of.link;
-      capped = are.same_cap of.link ∙ of.capped;
-      used = sym (any_renamed of.link) ∙ of.used;
-      users = of.users ∙ users_renamed of.link;
-    }
+    there side of = grind (arith, common_steps, any_renamed of.link, users_renamed of.link)
 
     back_at : (side : Side) (link at : ℕ) → name at ≡ link → get_or others link None ≡ Some side.cap
         → list_any (has_link link) (map (map name) routes) ≡ true

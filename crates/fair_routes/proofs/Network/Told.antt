@@ -1,10 +1,10 @@
 -- A network that is told bit by bit: its routes by the places of their links, and the sides that these make.
-use Rattle.fair_routes.proofs.Common.{◌≡◌, ℕ, suc, ◌+◌, ◌<◌, ◌≤◌, ◌==◌, List, [], ◌∷◌, ◌++◌, Option, Some, None, All}
-use Rattle.fair_routes.proofs.Common.{false, map, length, get_or, refl, sym, ap, ap₂, ◌∙◌, subst, inl, inr, arith}
-use Rattle.fair_routes.proofs.Common.{AllZip, zip, ◌||◌, option_map, unwrap_or, cases_lt, eqb_tells, length-map}
-use Rattle.fair_routes.proofs.Common.{All-nil, All-map, All-contains, slice_get-get_or, slice_get_within}
-use Rattle.fair_routes.proofs.Common.{get_or_from_slice_get, Rate, places_alike, side_of_link, sides_from, sides_over}
-use Rattle.fair_routes.proofs.Common.{AreListed, IsNumbered, IsWeightRefusal}
+use Rattle.fair_routes.proofs.Common.{◌≡◌, ℕ, suc, ◌+◌, ◌<◌, ◌≤◌, List, [], ◌∷◌, ◌++◌, Option, Some, None, All, map}
+use Rattle.fair_routes.proofs.Common.{length, get_or, refl, sym, ap, ap₂, ◌∙◌, subst, inl, inr, arith, AllZip, zip}
+use Rattle.fair_routes.proofs.Common.{option_map, unwrap_or, cases_lt, eqb_tells, length-map, All-nil, All-map}
+use Rattle.fair_routes.proofs.Common.{All-contains, slice_get-get_or, slice_get_within, get_or_from_slice_get, Rate}
+use Rattle.fair_routes.proofs.Common.{places_alike, side_of_link, sides_from, sides_over, AreListed, IsNumbered}
+use Rattle.fair_routes.proofs.Common.{IsWeightRefusal, common_steps}
 use Rattle.std.proofs.Common.{◌↔◌, Result, Ok, Err, slice_get, rules}
 use Rattle.std.specs.List.{AllPairs, flat_map}
 use Rattle.std.specs.List.Sorted.{IsBinarySearchResult}
@@ -36,15 +36,8 @@ use Rattle.fair_routes.proofs.Network.Said.{any_alike, same_test}
 module _ (xs : List ℕ) (up : AllPairs (λ one other. one < other) xs) where
   one_place : (i j x : ℕ) → slice_get xs i ≡ Some x → slice_get xs j ≡ Some x → i ≡ j
   one_place i j x first second =
-      let a = get_or_from_slice_get xs i x 0 first in
-      let b = get_or_from_slice_get xs j x 0 second in
-      elim (cases_lt i j) [
-        | inl less ↦ absurd (omega (arith, up i j 0 less (slice_get_within xs j x second), a, b))
-        | inr rest ↦ elim (cases_lt j i) [
-          | inl less ↦ absurd (omega (arith, up j i 0 less (slice_get_within xs i x first), a, b))
-          | inr other ↦ omega (arith, rest, other)
-        ]
-      ]
+      grind (arith, common_steps, get_or_from_slice_get xs i x 0 first, get_or_from_slice_get xs j x 0 second,
+      cases_lt i j, cases_lt j i, slice_get_within xs j x second, slice_get_within xs i x first)
 
   ascend : (i j : ℕ) → i ≤ j → j < length xs → get_or xs i 0 ≤ get_or xs j 0
   ascend i j le inside = search (rules, cases_lt)
@@ -83,17 +76,9 @@ module _ (links : List ℕ) where
   -- one more link that is one of these
   pub numbered_more : (route numbered : List ℕ) (link place : ℕ) → IsNumbered links route numbered
       → IsPlace (Some place) link → IsNumbered links (route ++ link ∷ []) (numbered ++ place ∷ [])
-  numbered_more route numbered link place h is = record {
-    below = All-append (λ p. p < length links) numbered (place ∷ []) h.below
-        (All-cons (λ p. p < length links) place [] (slice_get_within links place link ((is place).0 refl))
-        (All-nil (λ p. p < length links)));
-    same = λ p l e.
-        let there : link ≡ l → place ≡ p = λ same. cc ((is p).1 (e ∙ ap Some (sym same))) in
-        let back : place ≡ p → link ≡ l = λ same. cc (e, (is p).0 (ap Some same)) in
-        list_any-append (λ other. other == l) route (link ∷ [])
-        ∙ ap₂ (λ a b. a || (b || false)) (h.same p l e) (same_test link l place p there back)
-        ∙ sym (list_any-append (λ other. other == p) numbered (place ∷ []));
-  }
+  numbered_more route numbered link place h is =
+      grind (arith, common_steps, slice_get_within links place link ((is place).0 refl), All-append, All-cons, All-nil,
+      list_any-append, same_test)
 
   -- and one that is none of these
   pub numbered_same : (route numbered : List ℕ) (link : ℕ) → IsNumbered links route numbered

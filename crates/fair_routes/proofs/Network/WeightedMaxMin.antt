@@ -4,6 +4,7 @@ use Rattle.fair_routes.proofs.Common.{subst, arith, mul-le-mul_right, Contains, 
 use Rattle.fair_routes.proofs.Common.{slice_get-get_or, slice_get_within, get_or_from_slice_get, Side, load, IsLimited}
 use Rattle.fair_routes.proofs.Common.{IsFair, HaveUsersBelow, IsRateOf, Rate, Unlimited, Finite, Ratio, listed_from}
 use Rattle.fair_routes.proofs.Common.{sum_by-scaled, weight_at, weighted, as_often, by_weight, AreWeightedRates}
+use Rattle.fair_routes.proofs.Common.{common_steps}
 use Rattle.std.proofs.Math.Nat.{lt_of_mul-lt-mul_right, mul-lt-mul_of_pos_right, le_of_mul-le-mul_right}
 use Rattle.fair_rates.specs.Fairness.Fair.{IsWithinCaps}
 use Rattle.fair_rates.specs.Fairness.Laws.{HasRate}
@@ -87,9 +88,7 @@ module _ (sides : List Side) (weights : List ℕ) (rates : List Rate) (f : AreWe
   rate_at : (flow : ℕ) (r : Rate) → slice_get rates flow ≡ Some r
       → IsRateOf sides f.per (by_weight weights f.parts) flow r
   rate_at flow r has =
-      let within : flow < length rates = slice_get_within rates flow r has in
-      subst (λ x. IsRateOf sides f.per (by_weight weights f.parts) flow x) (get_or_from_slice_get rates flow r r has)
-      (f.rated flow r (omega (arith, within, f.one_each)))
+      grind (arith, common_steps, slice_get_within rates flow r has, get_or_from_slice_get rates flow r r has)
 
   -- a limited flow has a finite rate
   record HasFinite (flow : ℕ) : Type 0 where

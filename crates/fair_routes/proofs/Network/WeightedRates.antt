@@ -5,7 +5,7 @@ use Rattle.fair_routes.proofs.Common.{eq_of_mul-eq-mul_right, get_or_default, Al
 use Rattle.fair_routes.proofs.Common.{get_or_from_slice_get, Side, load, IsLimited, IsFair, IsRateOf, at_level, Rate}
 use Rattle.fair_routes.proofs.Common.{Unlimited, Finite, Ratio, listed_on, listed_from, none_or_some, not_some, some_is}
 use Rattle.fair_routes.proofs.Common.{All-from_contains, frozen_in, weight_at, weighted, as_often, by_weight}
-use Rattle.fair_routes.proofs.Common.{AreWeightedRates}
+use Rattle.fair_routes.proofs.Common.{AreWeightedRates, common_steps}
 use Rattle.std.proofs.Common.{IfSome, rules}
 use Rattle.std.proofs.lemmas.List.{ext_get_or}
 use Rattle.std.proofs.lemmas.List.Sums.{get_or-le-sum_by}
@@ -98,11 +98,8 @@ module _ (sides : List Side) (weights : List ℕ) (positive : (u : ℕ) → u < 
   pub same_by_weight : (D E : ℕ) (a b : ℕ → ℕ) → IsFair wide D a → IsFair wide E b → (i : ℕ) → IsLimited sides i
       → by_weight weights a i * E ≡ by_weight weights b i * D
   same_by_weight D E a b f g i limited =
-      omega (
-        arith,
-        ap (λ n. weight_at weights i * n)
-            (same_amounts wide D E a b f g i (limited_wide weights sides positive among i limited)),
-      )
+      grind (arith, common_steps, same_amounts wide D E a b f g i (limited_wide weights sides positive among i limited),
+      limited_wide weights sides positive among i limited)
 
   same_rate : (D E : ℕ) (a b : ℕ → ℕ) → IsFair wide D a → IsFair wide E b → (i : ℕ) (x y : Rate)
       → IsRateOf sides D (by_weight weights a) i x → IsRateOf sides E (by_weight weights b) i y → x ≡ y
