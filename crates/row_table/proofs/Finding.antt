@@ -1,4 +1,5 @@
 -- What is kept beside the slots, where a row comes, changes or leaves.
+use Rattle.std.proofs.lemmas.Grind.{common_steps}
 use Rattle.row_table.proofs.Common.{◌≡◌, ℕ, ◌+◌, ◌≤◌, List, [], ◌∷◌, ◌++◌, Option, Some, None, length, map, refl, sym}
 use Rattle.row_table.proofs.Common.{ap, ◌∙◌, arith, subst, is_some, slice_set, filter, vec_capacity, live, held}
 use Rattle.row_table.proofs.Common.{filled_from, sender_of, receiver_of, moment_of, Finds, Stands, Marked, Row, Parts}
@@ -64,11 +65,10 @@ module _ {T : Type 0} where
       → new.index.sent.now.stands ≡ slice_set parts.index.sent.now.stands slot None
       → new.index.received.now.stands ≡ slice_set parts.index.received.now.stands slot None
       → new.index.moments ≡ slice_set parts.index.moments slot None → Stands new
-  stands_taken parts new at slot stands is slots filled sent received moments = record {
-    found = subst (Finds new.index) (sym slots) (found_taken parts.index new.index parts.slots.items stands.found slot sent received moments);
-    filled = filled ∙ ap (λ filled. remove filled at) stands.filled ∙ sym (filled_taken parts.slots.items 0 at slot is)
-        ∙ ap (λ (slots : List (Option (Row T))). filled_from slots 0) (sym slots);
-  }
+  stands_taken parts new at slot stands is slots filled sent received moments =
+      grind (arith, common_steps,
+      found_taken parts.index new.index parts.slots.items stands.found slot sent received moments,
+      filled_taken parts.slots.items 0)
 
   pub stands_changed : (parts new : Parts T) (at slot : ℕ) (other : Row T) → Stands parts
       → IsSlot parts.slots.items at slot
@@ -77,12 +77,11 @@ module _ {T : Type 0} where
       → new.slots.items ≡ slice_set parts.slots.items slot (Some other) → new.filled.items ≡ parts.filled.items
       → new.index.sent ≡ parts.index.sent → new.index.received ≡ parts.index.received
       → new.index.moments ≡ slice_set parts.index.moments slot other.moment → Stands new
-  stands_changed parts new at slot other stands is sender receiver slots filled sent received moments = record {
-    found = subst (Finds new.index) (sym slots)
-        (found_changed parts.index new.index parts.slots.items stands.found slot other sender receiver sent received moments);
-    filled = filled ∙ stands.filled ∙ sym (filled_changed parts.slots.items 0 at slot other is)
-        ∙ ap (λ (slots : List (Option (Row T))). filled_from slots 0) (sym slots);
-  }
+  stands_changed parts new at slot other stands is sender receiver slots filled sent received moments =
+      grind (arith, common_steps,
+      found_changed parts.index new.index parts.slots.items stands.found slot other sender receiver sent received
+      moments,
+      filled_changed parts.slots.items 0)
 
   -- where no slot is empty
   pub stands_whole : (new : Parts T) (rows : List (Row T)) → new.slots.items ≡ map Some rows

@@ -1,10 +1,11 @@
 -- What is kept beside the slots, once the last slot is empty and gone.
+use Rattle.std.proofs.lemmas.Grind.{common_steps}
 use Rattle.std.proofs.Common.{rules}
 use Rattle.row_table.proofs.Common.{◌≡◌, ℕ, suc, ◌+◌, ◌-◌, List, [], ◌∷◌, ◌++◌, Option, Some, None, false, IsSome}
 use Rattle.row_table.proofs.Common.{is_some, length, take, refl, subst, ap, ◌∙◌, arith, live, held, filled_from}
 use Rattle.row_table.proofs.Common.{sender_of, receiver_of, Finds, Stands, Row, Parts}
 use Rattle.std.specs.Option.{option_to_list}
-use Rattle.std.specs.Prelude.{slice_set, slice_index_or}
+use Rattle.std.specs.Prelude.{slice_set}
 use Rattle.std.proofs.lemmas.List.{set-get_or, take-set-le, take_all, take-map, get_or-set_same, append-nil}
 use Rattle.std.proofs.lemmas.List.{length-append}
 use Rattle.std.proofs.Math.Seq.{take-append_seam}
@@ -52,16 +53,12 @@ module _ {T : Type 0} where
   pub sent_gone : (index : Index) (slots : List (Option (Row T))) (slot : ℕ) → Finds index (slice_set slots slot None)
       → length slots ≡ suc slot → owner_of index.sent.now slot ≡ None
   sent_gone index slots slot found long =
-      ap (λ (stands : List (Option ℕ)). slice_index_or stands slot None) found.sent
-      ∙ get_or-map sender_of (slice_set slots slot None) slot None
-      ∙ ap sender_of (get_or-set_same slots slot None None (omega (arith, long)))
+      grind (arith, common_steps, get_or-map sender_of (slice_set slots slot None) slot None, get_or-set_same)
 
   pub received_gone : (index : Index) (slots : List (Option (Row T))) (slot : ℕ) → Finds index (slice_set slots slot None)
       → length slots ≡ suc slot → owner_of index.received.now slot ≡ None
   received_gone index slots slot found long =
-      ap (λ (stands : List (Option ℕ)). slice_index_or stands slot None) found.received
-      ∙ get_or-map receiver_of (slice_set slots slot None) slot None
-      ∙ ap receiver_of (get_or-set_same slots slot None None (omega (arith, long)))
+      grind (arith, common_steps, get_or-map receiver_of (slice_set slots slot None) slot None, get_or-set_same)
 
   -- without the emptied slot
   pub found_popped : (index new : Index) (slots : List (Option (Row T))) (slot : ℕ) → Finds index (slice_set slots slot None)

@@ -1,4 +1,5 @@
 -- The slots that hold a row, where a row comes, changes or leaves.
+use Rattle.std.proofs.lemmas.Grind.{common_steps}
 use Rattle.row_table.proofs.Common.{◌≡◌, ℕ, zero, suc, ◌+◌, ◌<◌, ◌≤◌, List, [], ◌∷◌, ◌++◌, Option, Some, None, length}
 use Rattle.row_table.proofs.Common.{map, take, refl, sym, subst, ap, ◌∙◌, arith, slice_get, slice_set, IsSome, is_some}
 use Rattle.row_table.proofs.Common.{IfSome, IfNone, filter, vec_capacity, get_or_from_slice_get, slice_get_within}
@@ -216,10 +217,10 @@ module _ {T : Type 0} where
   same_slot : (slots : List (Option (Row T))) (a slot b other : ℕ) → IsSlot slots a slot → IsSlot slots b other
       → a ≡ b → slot ≡ other
   same_slot slots a slot b other is_a is_b same =
-      let listed : 0 + slot ≡ 0 + other = some_same (0 + slot) (0 + other)
-      (sym (slot_listed slots 0 a slot is_a) ∙ ap (slice_get (filled_from slots 0)) same
-      ∙ slot_listed slots 0 b other is_b) in
-      omega (arith, listed)
+      grind (arith, common_steps,
+      some_same (0 + slot) (0 + other) (sym (slot_listed slots 0 a slot is_a) ∙ ap
+      (slice_get (filled_from slots 0)) same ∙ slot_listed slots 0 b other is_b),
+      slot_listed slots 0 a slot is_a, slot_listed slots 0 b other is_b)
 
   pub places_below : (slots : List (Option (Row T))) (a slot b other : ℕ) → IsSlot slots a slot → IsSlot slots b other
       → slot < other → a < b

@@ -133,13 +133,7 @@ module _ (flags : List Bool) where
         let own = all_own f.side f.user f.listed f.used f.own r.0 r.1 in
         record {
           u = r.0;
-          limited = (
-            f.side,
-            record {
-              listed = contains_from_in sides f.side f.listed;
-              used = contains_from_in f.side.users r.0 r.1;
-            },
-          );
+          limited = search (rules, contains_from_in);
           own = own;
           place = r.2;
           was = ap (old flags) (sym r.2) ∙ old_of_place flags r.0 own;

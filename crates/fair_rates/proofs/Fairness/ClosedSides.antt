@@ -1,7 +1,7 @@
 -- A rate is zero at a cap of zero, and nowhere else.
 use Rattle.fair_rates.proofs.Common.{◌≡◌, ℕ, ◌*◌, ◌≤◌, List, Contains, sum_by, subst, ap, arith, eq_of_mul-eq-mul_right}
 use Rattle.fair_rates.proofs.Common.{All-contains, get_or-le-sum_by, Finite, Side, load, IsLimited, IsFair}
-use Rattle.fair_rates.proofs.Common.{common_steps}
+use Rattle.fair_rates.proofs.Common.{common_steps, rules}
 use Rattle.fair_rates.specs.Fairness.Laws.{UsesClosedSide, FairRatesAreZeroWhereClosed}
 use Rattle.fair_rates.proofs.Lists.SumOrder.{All-from_contains, sum_by-zero}
 use Rattle.fair_rates.proofs.Fairness.MaxMin.{rate_at}
@@ -30,8 +30,7 @@ pub fair_rates_are_zero_where_closed : FairRatesAreZeroWhereClosed
 fair_rates_are_zero_where_closed sides flows rates f flow r has =
     let is = rate_at sides flows rates f flow (Finite r) has in (
       (λ none.
-          let product : f.parts flow * r.denominator ≡ 0 * r.denominator =
-          omega (arith, is.1, ap (λ n. n * f.per) none) in
+          let product : f.parts flow * r.denominator ≡ 0 * r.denominator = search rules in
           zero_is_closed sides f.per f.parts f.fair flow is.0
           (eq_of_mul-eq-mul_right r.denominator r.positive (f.parts flow) 0 product)),
       (λ closed.

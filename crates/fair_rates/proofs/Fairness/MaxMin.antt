@@ -2,7 +2,7 @@
 use Rattle.fair_rates.proofs.Common.{◌≡◌, ℕ, ◌*◌, ◌<◌, ◌≤◌, inl, inr, List, Some, get_or, All, ap, arith}
 use Rattle.fair_rates.proofs.Common.{mul-le-mul_right, slice_get, lt_of_mul-lt-mul_right, le_of_mul-le-mul_right}
 use Rattle.fair_rates.proofs.Common.{All-contains, Rate, Unlimited, Finite, Ratio, Side, load, IsLimited, IsRateOf}
-use Rattle.fair_rates.proofs.Common.{AreFairRates, common_steps}
+use Rattle.fair_rates.proofs.Common.{AreFairRates, common_steps, rules}
 use Rattle.std.proofs.Math.Nat.{mul-lt-mul_of_pos_right}
 use Rattle.std.proofs.lemmas.Option.{slice_get-get_or, slice_get_within, get_or_from_slice_get}
 use Rattle.fair_rates.specs.Fairness.Laws.{HasRate, FairIsMaxMin, FairRatesAreMaxMin}
@@ -80,10 +80,6 @@ fair_rates_are_max_min sides flows rates users f E b within i r has more =
       payer = pays.payer;
       own = own.rate;
       has = own.has;
-      no_greater =
-          at_most_by_parts own.rate.numerator own.rate.denominator r.numerator r.denominator (f.parts pays.payer)
-          (f.parts i) f.per f.fair.some_part own.worth is.1 pays.no_greater;
-      loses =
-          below_by_parts own.rate.numerator own.rate.denominator (f.parts pays.payer) f.per (b pays.payer) E
-          own.rate.positive own.worth pays.loses;
+      no_greater = search (rules, at_most_by_parts);
+      loses = search (rules, below_by_parts);
     }

@@ -3,7 +3,7 @@ use Rattle.fair_rates.proofs.Common.{◌≡◌, ℕ, ◌<◌, ◌≤◌, Bool, t
 use Rattle.fair_rates.proofs.Common.{length, count_by, refl, sym, ap, ap₂, ◌∙◌, subst, inl, inr, arith, IsTotalOrder}
 use Rattle.fair_rates.proofs.Common.{Ordering, get_or-map, length-map, sum_by-cons, IsPermutation-refl}
 use Rattle.fair_rates.proofs.Common.{IsPermutation-sym, Contains-permutation, Flow, Rate, Subject, last_rate, Caps}
-use Rattle.fair_rates.proofs.Common.{AreOfPeers, limits, sides_under, AreFairUnder, rules}
+use Rattle.fair_rates.proofs.Common.{AreOfPeers, limits, AreFairUnder, rules}
 use Rattle.std.specs.Prelude.{◌==◌}
 use Rattle.std.specs.List.{swap}
 use Rattle.std.specs.List.Sorted.{IsPermutation}
@@ -39,9 +39,7 @@ lift {X} {Y} f xs ys p =
         let i_in : i < length h.all = omega arith in
         let j_in : j < length h.all = omega arith in record {
           all = swap h.all i j;
-          permuted =
-              IsPermutation-trans xs h.all (swap h.all i j) h.permuted
-              (IsPermutation-swap h.all (swap h.all i j) i j i_in j_in refl);
+          permuted = search (rules, IsPermutation-trans, IsPermutation-swap);
           are = map-swap f h.all i j i_in j_in ∙ ap (λ (zs : List Y). swap zs i j) h.are;
         }
 
@@ -84,12 +82,10 @@ module _ {P : Type 0} (id : ℕ) where
   own_rate (y ∷ xs) x few (inl e) is =
       let on : has y.flow ≡ true = subst (λ (z : Allotted P). has z.flow ≡ true) (sym e) is in
       let one : count_of (has y.flow) ≡ 1 = rw on refl in
-      let rest : count_by has (flows_of xs) ≡ 0 =
-      omega (arith, few, sum_by-cons (λ (f : Flow P). cond (has f) 1 0) y.flow (flows_of xs), one) in
+      let rest : count_by has (flows_of xs) ≡ 0 = search (rules, sum_by-cons) in
       rw (no_rate xs (counted_none xs rest), on) (ap (λ (z : Allotted P). Some z.rate) e)
   own_rate (y ∷ xs) x few (inr h) is =
-      let fewer : count_by has (flows_of xs) ≤ 1 =
-      omega (arith, few, sum_by-cons (λ (f : Flow P). cond (has f) 1 0) y.flow (flows_of xs)) in
+      let fewer : count_by has (flows_of xs) ≤ 1 = search (rules, sum_by-cons) in
       rw (own_rate xs x fewer h is) refl
 
   same_rate : (xs ys : List (Allotted P)) → IsPermutation xs ys → count_by has (flows_of xs) ≤ 1
@@ -137,16 +133,12 @@ same_last_rate {P} cmp order caps flows others rates other_rates of distinct p f
     (subst (λ (fs : List (Flow P)). IsPermutation fs others) (sym s.flows_are) p) in
     let whole =
     under_from cmp caps order of s.per l.all (permuted_among cmp caps s.per s.all l.all l.permuted s.fair) in
-    let under : AreFairUnder cmp caps others (rates_of l.all) =
-    subst (λ (fs : List (Flow P)). AreFairUnder cmp caps fs (rates_of l.all)) l.are whole in
-    let one : other_rates ≡ rates_of l.all =
-    one_allocation (sides_under cmp caps others) (length others) (rates_of l.all) under other_rates other_fair in
+    let under : AreFairUnder cmp caps others (rates_of l.all) = search rules in
+    let one : other_rates ≡ rates_of l.all = search (rules, one_allocation) in
     let few : count_by (has id) (flows_of s.all) ≤ 1 =
     subst (λ (fs : List (Flow P)). count_by (has id) fs ≤ 1) (sym s.flows_are) (distinct id) in
-    let same_count : count_by (has id) others ≡ count_by (has id) flows =
-    sum_by-IsPermutation (λ (f : Flow P). cond (has id f) 1 0) flows others p in
-    let few' : count_by (has id) (flows_of l.all) ≤ 1 =
-    subst (λ (fs : List (Flow P)). count_by (has id) fs ≤ 1) (sym l.are) (omega (arith, same_count, distinct id)) in
+    let same_count : count_by (has id) others ≡ count_by (has id) flows = search (rules, sum_by-IsPermutation) in
+    let few' : count_by (has id) (flows_of l.all) ≤ 1 = search rules in
     ap₂ (λ (fs : List (Flow P)) (rs : List Rate). last_rate id fs rs) (sym l.are) one
     ∙ same_rate id s.all l.all l.permuted few few'
     ∙ ap₂ (λ (fs : List (Flow P)) (rs : List Rate). last_rate id fs rs) s.flows_are s.rates_are

@@ -1,14 +1,13 @@
 -- A part of the flows that shares no side with the rest.
-use Rattle.fair_rates.proofs.Common.{◌≡◌, ℕ, Bool, true, List, [], ◌∷◌, map, refl, sym, ap, ◌∙◌, subst, ap₂, filter}
-use Rattle.fair_rates.proofs.Common.{IsTotalOrder, Ordering, and_parts, eq_by_cmp_equiv, All-contains, Flow, Rate}
-use Rattle.fair_rates.proofs.Common.{flagged, Subject, sent_by, received_by, sent_between, same_peer, Caps, limits}
-use Rattle.fair_rates.proofs.Common.{AreFairUnder, rules}
+use Rattle.fair_rates.proofs.Common.{◌≡◌, ℕ, Bool, true, List, [], ◌∷◌, map, refl, sym, ◌∙◌, subst, filter}
+use Rattle.fair_rates.proofs.Common.{IsTotalOrder, Ordering, and_parts, eq_by_cmp_equiv, All-contains, Flow, flagged}
+use Rattle.fair_rates.proofs.Common.{Subject, sent_by, received_by, sent_between, same_peer, Caps, limits, AreFairUnder}
+use Rattle.fair_rates.proofs.Common.{rules}
 use Rattle.std.proofs.Common.{subst₂}
 use Rattle.std.proofs.lemmas.Map.Steps.{list_any_congr}
 use Rattle.fair_rates.specs.Fairness.UnderCaps.{is_among, is_of_set, HaveBothEndsOrNone, PartIsFair}
 use Rattle.fair_rates.proofs.Lists.Members.{In, in_map, from_filter, contains_from_in}
-use Rattle.fair_rates.proofs.Fairness.Among.{Allotted, flow_of, parts_of, flows_of, rates_of, AreFairAmong, among_from}
-use Rattle.fair_rates.proofs.Fairness.Among.{under_from}
+use Rattle.fair_rates.proofs.Fairness.Among.{Allotted, flows_of, rates_of, AreFairAmong, among_from, under_from}
 use Rattle.fair_rates.proofs.Fairness.Sharing.{part_shared}
 
 module _ {P : Type 0} (cmp : P → P → Ordering) (caps : Caps P) (mine : Flow P → Bool) where
@@ -30,9 +29,7 @@ module _ {P : Type 0} (cmp : P → P → Ordering) (caps : Caps P) (mine : Flow 
       → limits cmp s y.flow ≡ true → mine x.flow ≡ mine y.flow)
       → AreFairAmong cmp caps per (part xs)
   part_among per xs f apart = record {
-    shared =
-        part_shared cmp caps flow_of parts_of (λ (x : Allotted P). mine x.flow) per xs f.shared
-        (λ s cap x y has. apart s x y);
+    shared = search (rules, part_shared);
     rated = λ x h. f.rated x (from_filter (λ (x : Allotted P). mine x.flow) xs x h).0;
   }
 
@@ -67,9 +64,7 @@ part_is_fair {P} cmp order caps peers flows rates of ends fair =
     let whole =
     under_from cmp caps order of s.per (part cmp caps mine s.all)
     (part_among cmp caps mine s.per s.all s.fair (together cmp order peers caps flows ends s.all s.flows_are)) in
-    let flows_is : flows_of (part cmp caps mine s.all) ≡ filter mine flows =
-    flows_of_part cmp caps mine s.all ∙ ap (filter mine) s.flows_are in
+    let flows_is : flows_of (part cmp caps mine s.all) ≡ filter mine flows = search (rules, flows_of_part) in
     let rates_is : rates_of (part cmp caps mine s.all) ≡ flagged (map mine flows) rates =
-    rates_of_part cmp caps mine s.all
-    ∙ ap₂ (λ (fs : List (Flow P)) (rs : List Rate). flagged (map mine fs) rs) s.flows_are s.rates_are in
+        search (rules, rates_of_part) in
     subst₂ (AreFairUnder cmp caps) flows_is rates_is whole

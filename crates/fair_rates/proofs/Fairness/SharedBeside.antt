@@ -73,13 +73,7 @@ module _ {P X : Type 0} (cmp : P → P → Ordering) (caps : Caps P) (flow : X �
     held_rated x h r b = record {
       by = b.by;
       full = b.full;
-      greatest = λ y among l.
-          by_bool (rated y) (λ on. b.greatest y among on l) (λ off. elim (cases_lt (parts y) level) [
-            | inl less ↦ omega (arith, less, high x h r)
-            | inr le ↦
-                not_both (limits cmp b.by.subject (flow x)) b.by.limited
-                ((apart y among off le b.by.subject b.by.cap b.by.capped l).0 x h r)
-          ]);
+      greatest = search (rules, by_bool, cases_lt, not_both);
     }
 
     -- of one that keeps its rate: its bottleneck before limited none that was rated, and limits none that is
@@ -97,9 +91,7 @@ module _ {P X : Type 0} (cmp : P → P → Ordering) (caps : Caps P) (flow : X �
       held_kept = record {
         by = b.by;
         full = sym (of_keeping b.by.subject xs none_now) ∙ kept_total;
-        greatest = λ y among l.
-            by_bool (rated y) (λ on. not_both (limits cmp b.by.subject (flow y)) l (none_now y among on))
-            (λ is. b.greatest y (kept_before y among is) l);
+        greatest = search (rules, by_bool, not_both, none_now, kept_before);
       }
 
     -- what was fair, and is fair beside those that keep their rates, is fair

@@ -46,12 +46,8 @@ unlimited_where_uncapped {P} cmp order caps flows rates of fair place f at =
     get_from_map (λ (x : Allotted P). x.flow) s.all place f
     (subst (λ (fs : List (Flow P)). slice_get fs place ≡ Some f) (sym s.flows_are) at) in
     let x = there.0 in
-    let rate : slice_get rates place ≡ Some x.rate =
-    subst (λ (rs : List Rate). slice_get rs place ≡ Some x.rate) s.rates_are
-    (rate_there cmp caps s.all place x there.1) in
-    let rated : IsRated cmp caps s.per x.parts f x.rate =
-    subst (λ (g : Flow P). IsRated cmp caps s.per x.parts g x.rate) there.2
-    (s.fair.rated x (in_get s.all place x there.1)) in (
+    let rate : slice_get rates place ≡ Some x.rate = search (rules, rate_there) in
+    let rated : IsRated cmp caps s.per x.parts f x.rate = search (rules, in_get) in (
       (λ unlimited. no_cap_from_free cmp order caps f
           (subst (IsRated cmp caps s.per x.parts f) (same_Some x.rate Unlimited (sym rate ∙ unlimited)) rated)),
       (λ n. rate

@@ -1,7 +1,7 @@
 -- The fair rates of n flows are whole over their denominator.
 use Rattle.fair_rates.proofs.Common.{◌≡◌, ℕ, ◌*◌, ◌<◌, ◌≤◌, List, get_or, ap, arith, eq_of_mul-eq-mul_right, Side}
 use Rattle.fair_rates.proofs.Common.{IsFair, HaveUsersBelow, IsRateOf, AreFairRates, AreWholeOver, Rate, Unlimited}
-use Rattle.fair_rates.proofs.Common.{Finite, common_steps}
+use Rattle.fair_rates.proofs.Common.{Finite, common_steps, rules}
 use Rattle.fair_rates.specs.Fairness.Exists.{HaveDistinctUsers}
 use Rattle.fair_rates.specs.Refusals.FairRatesFit.{IsWholeOver}
 use Rattle.fair_rates.proofs.Fairness.Denominators.{denominator_of}
@@ -29,9 +29,7 @@ pub whole_rates : (n : ℕ) (sides : List Side) (flows : ℕ) (rates : List Rate
     → flows ≤ n → HaveUsersBelow flows sides → HaveDistinctUsers sides → AreFairRates sides flows rates
     → AreWholeOver (denominator_of n) rates
 whole_rates n sides flows rates le among distinct fair =
-    let among_n : HaveUsersBelow n sides = λ k d l i e inside.
-    let below : get_or (get_or sides k d).users i e < flows = among k d l i e inside in
-    omega arith in
+    let among_n : HaveUsersBelow n sides = search rules in
     let other = fair_parts n sides among_n distinct in
     λ flow d l.
     whole_rate sides fair.per (denominator_of n) fair.parts other.0 fair.fair other.1 flow (get_or rates flow d)

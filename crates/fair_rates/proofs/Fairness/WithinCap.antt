@@ -23,14 +23,6 @@ keeps_to_its_cap {P} cmp order caps flows rates of fair subject cap is =
     by_flow (inl none) = subst (λ (us : List ℕ). sum_by fair.parts us ≤ cap * fair.per) (sym none) (omega arith)
     by_flow (inr (f, among, limited)) =
         let side : Side = record { cap = cap; users = places_from 0 (limits cmp subject) flows } in
-        let capped : IsCappedSide cmp caps flows side =
-        record {
-          subject = subject;
-          capped = is;
-          flow = f;
-          among = contains_from_in flows f among;
-          limited = limited;
-          users = refl;
-        } in
+        let capped : IsCappedSide cmp caps flows side = search (rules, contains_from_in) in
         All-contains (λ s. load fair.parts s ≤ s.cap * fair.per) (sides_under cmp caps flows) side fair.fair.within
         ((sides_are_of_the_caps cmp order caps flows side of).1 capped)

@@ -97,16 +97,8 @@ module _ (side : Side) (scale : ℕ) (frozen : ℕ → Option ℕ) (slack : ℕ)
       → load (at_level frozen level) side ≤ side.cap * scale
   has_room some within no_more =
       let each : All (λ j. at_level frozen level j * length rising ≤ slack) rising =
-      All-weaker (λ j. at_level frozen 0 j * length rising ≤ slack)
-      (λ j. at_level frozen level j * length rising ≤ slack)
-      (λ j le. elim (none_or_some (frozen j)) [
-        | inl e ↦ omega (arith, within, ap (λ k. k * length rising) (at_none frozen level j e))
-        | inr (parts, e) ↦ omega
-            (arith, le, ap (λ k. k * length rising) (at_any frozen level 0 j (some_is (frozen j) parts e)))
-      ]) rising no_more in
-      let total : sum_by (at_level frozen level) rising ≤ slack =
-      le_of_mul-le-mul_right {k = length rising}
-      (sum_within (at_level frozen level) slack (length rising) rising each) some in
+          search (rules, All-weaker, none_or_some, at_none, at_any, some_is) in
+      let total : sum_by (at_level frozen level) rising ≤ slack = search (rules, le_of_mul-le-mul_right, sum_within) in
       omega (
         arith,
         load_parted side scale frozen slack rising account (at_level frozen level),

@@ -97,9 +97,7 @@ module _ (sides : List Side) (scale : ℕ) (frozen after : ℕ → Option ℕ) (
         )
     room side listed (inr (o, c, account)) = elim (first_or_later x o opens c) [
       | inl same ↦
-          let here : KeepsAccount side scale frozen x.0.slack x.0.rising.items =
-          subst (λ (p : Reverse OpenSide). KeepsAccount side scale frozen p.0.slack p.0.rising.items) (sym same)
-          account in
+          let here : KeepsAccount side scale frozen x.0.slack x.0.rising.items = search rules in
           omega (arith, is_full side scale frozen x.0.slack x.0.rising.items here level rise share)
       | inr later ↦
           has_room side scale frozen o.0.slack o.0.rising.items account level (some_each o)

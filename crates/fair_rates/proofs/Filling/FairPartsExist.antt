@@ -93,9 +93,7 @@ over_after n m m' users level frozen flow le was now =
     let after = freeze users level frozen in
     elim (none_or_some (frozen flow)) [
       | inr (parts, e) ↦
-          let same : standing frozen 0 flow ≡ standing after 0 flow =
-          at_some frozen 0 flow parts e
-          ∙ sym (at_some after 0 flow parts (freeze_kept users level frozen flow parts e)) in
+          let same : standing frozen 0 flow ≡ standing after 0 flow = search (rules, at_some, freeze_kept) in
           subst (λ a. IsOver n m' a) same (later n m m' (standing frozen 0 flow) le was)
       | inl e ↦ elim (none_or_some (after flow)) [
         | inl e' ↦ subst (λ a. IsOver n m' a) (sym (at_none after 0 flow e')) (nothing_over n m')

@@ -76,11 +76,9 @@ module _ (factor : ℕ) (levels : List ℕ) where
   pub rising_scaled : 0 < factor → AllPairs (λ a b. a < b) levels → AllPairs (λ a b. a < b) (map times levels)
   rising_scaled some rising i j d less inside =
       let within : j < length levels = omega (arith, inside, length-map levels times) in
-      let first : get_or (map times levels) i d ≡ get_or levels i 0 * factor =
-      get_or-map times levels i 0 d (omega (arith, less, within)) in
+      let first : get_or (map times levels) i d ≡ get_or levels i 0 * factor = search (rules, get_or-map) in
       let second : get_or (map times levels) j d ≡ get_or levels j 0 * factor = get_or-map times levels j 0 d within in
-      let lt : get_or levels i 0 * factor < get_or levels j 0 * factor =
-      mul-lt-mul_of_pos_right (rising i j 0 less within) some in
+      let lt : get_or levels i 0 * factor < get_or levels j 0 * factor = search (rules, mul-lt-mul_of_pos_right) in
       omega (arith, first, second, lt)
 
   frozen_scaled_at : (o : Option ℕ)

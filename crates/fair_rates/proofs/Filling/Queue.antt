@@ -59,9 +59,7 @@ module _ (scale : ℕ) (frozen : ℕ → Option ℕ) where
     queue_counted x new rest keeps queue =
         let first = All-head (IsOpen sides scale frozen) x rest queue.each in
         record {
-          each =
-              All-cons (IsOpen sides scale frozen) new rest (first.0, first.1, keeps first.0 first.2)
-              (All-tail (IsOpen sides scale frozen) x rest queue.each);
+          each = search (rules, All-cons, All-tail);
           covered =
               All-weaker (IsCovered scale frozen (x ∷ rest)) (IsCovered scale frozen (new ∷ rest)) again sides
               queue.covered;
@@ -119,9 +117,7 @@ module _ (scale : ℕ) (frozen : ℕ → Option ℕ) where
         → KeepsAccount side scale frozen x.0.slack x.0.rising.items → IsQueue sides scale frozen opens
         → IsQueue (sides ++ side ∷ []) scale frozen (x ∷ opens)
     queue_more side x opens account queue = record {
-      each = All-cons (IsOpen (sides ++ side ∷ []) scale frozen) x opens (side, Contains-push sides side, account)
-          (All-weaker (IsOpen sides scale frozen) (IsOpen (sides ++ side ∷ []) scale frozen) (listed_more side) opens
-          queue.each);
+      each = search (rules, All-cons, Contains-push, All-weaker, listed_more);
       covered = All-push (IsCovered scale frozen (x ∷ opens)) sides side
           (All-weaker (IsCovered scale frozen opens) (IsCovered scale frozen (x ∷ opens))
           (λ other. covered_by opens (x ∷ opens) other (λ o. is_later x o opens)) sides queue.covered)
@@ -131,9 +127,7 @@ module _ (scale : ℕ) (frozen : ℕ → Option ℕ) where
     pub queue_without : (side : Side) (opens : List (Reverse OpenSide)) → length side.users ≡ 0
         → IsQueue sides scale frozen opens → IsQueue (sides ++ side ∷ []) scale frozen opens
     queue_without side opens none queue = record {
-      each =
-          All-weaker (IsOpen sides scale frozen) (IsOpen (sides ++ side ∷ []) scale frozen) (listed_more side) opens
-          queue.each;
+      each = search (rules, All-weaker, listed_more);
       covered =
           All-push (IsCovered scale frozen opens) sides side queue.covered
           (inl (λ k d inside. absurd (omega (arith, none, inside))));

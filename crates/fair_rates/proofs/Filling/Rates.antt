@@ -1,10 +1,9 @@
 -- The fair parts of the flows as rates.
-use Rattle.fair_rates.proofs.Common.{◌≡◌, ◌≢◌, ℕ, ◌<◌, inl, inr, List, [], ◌∷◌, ◌++◌, length, get_or, AllPairs}
-use Rattle.fair_rates.proofs.Common.{Contains, Option, Some, None, sym, subst, ap, ◌∙◌, arith, length-append}
-use Rattle.fair_rates.proofs.Common.{eq_of_mul-eq-mul_right, cases_eq, cases_lt, get_or_past, get_or_append_left}
-use Rattle.fair_rates.proofs.Common.{parts_over, Side, level_at, flow_parts, IsRateAt, ReducedFits, whole_IsReduced}
-use Rattle.fair_rates.proofs.Common.{IsWorth, IsRateOf, AreFairRates, HasDifferentRates, HasLargeRate, Rate, Finite}
-use Rattle.fair_rates.proofs.Common.{Ratio, rules}
+use Rattle.fair_rates.proofs.Common.{◌≡◌, ◌≢◌, ℕ, ◌<◌, List, [], ◌∷◌, ◌++◌, length, get_or, AllPairs, Contains, Option}
+use Rattle.fair_rates.proofs.Common.{Some, None, sym, subst, ap, ◌∙◌, arith, length-append, eq_of_mul-eq-mul_right}
+use Rattle.fair_rates.proofs.Common.{cases_eq, cases_lt, get_or_past, get_or_append_left, parts_over, Side, level_at}
+use Rattle.fair_rates.proofs.Common.{flow_parts, IsRateAt, whole_IsReduced, IsWorth, IsRateOf, AreFairRates}
+use Rattle.fair_rates.proofs.Common.{HasDifferentRates, HasLargeRate, Rate, Finite, Ratio, rules}
 use Rattle.std.proofs.lemmas.List.{get_or_push}
 use Rattle.fair_rates.specs.Filling.FairParts.{parts_of_level, AreRatesAt, HasLargeLevel}
 use Rattle.fair_rates.specs.Filling.States.{AreFilled}
@@ -65,15 +64,8 @@ module _ (sides : List Side) (flows : ℕ) (found : FairParts) (rates : List Rat
   is_some ratio (place, inside, is) =
       let user = filled.reached place (omega (arith, inside, are.levels.one_each)) in
       let flow = user.0 in
-      let within : flow < length level_of = elim (cases_lt flow (length level_of)) [
-        | inl lt ↦ lt
-        | inr past ↦ let none : level_at level_of flow ≡ None = get_or_past level_of flow None past in
-            let e = user.1 in
-            absurd (cc)
-      ] in
-      let has : IsRateAt are.fractions (Some place) (get_or rates flow (Finite ratio)) =
-      subst (λ o. IsRateAt are.fractions o (get_or rates flow (Finite ratio))) user.1
-      (are.rated flow (Finite ratio) (omega (arith, within, are.one_each))) in
+      let within : flow < length level_of = search (rules, cases_lt, get_or_past) in
+      let has : IsRateAt are.fractions (Some place) (get_or rates flow (Finite ratio)) = search rules in
       (flow, omega (arith, within, are.one_each), has.1 ratio ∙ ap Finite is)
 
   pub rates_are_different : HasDifferentRates rates (length levels)
@@ -94,7 +86,5 @@ large_rate sides flows found filled large =
       fair = filled.fair;
       flow = user.0;
       limited = (filled.limited user.0).0 (some_is (level_at found.level_of.items user.0) large.place user.1);
-      large =
-          subst (λ n. ¬ ReducedFits (parts_over found.scale n)) (sym (ap (parts_of_level found.levels.items) user.1))
-          large.large;
+      large = search rules;
     }

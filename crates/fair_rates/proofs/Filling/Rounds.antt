@@ -1,6 +1,6 @@
 -- Filling keeps its state, round by round, and ends in a fair allocation.
-use Rattle.fair_rates.proofs.Common.{◌≡◌, ℕ, ◌*◌, ◌<◌, ◌≤◌, inl, inr, List, Contains, sym, ◌∙◌, arith, Option, None}
-use Rattle.fair_rates.proofs.Common.{IsSome, All-contains, Side, load, IsLimited, IsFair, at_level, rules}
+use Rattle.fair_rates.proofs.Common.{◌≡◌, ℕ, ◌<◌, ◌≤◌, inl, inr, List, Contains, sym, ◌∙◌, arith, Option, None, IsSome}
+use Rattle.fair_rates.proofs.Common.{All-contains, Side, IsLimited, IsFair, at_level, rules}
 use Rattle.fair_rates.proofs.Filling.Frozen.{none_or_some, some_value, some_is, at_some, at_none, at_any}
 use Rattle.fair_rates.proofs.Filling.States.{IsHeld, IsFilledTo, IsNextRound}
 use Rattle.fair_rates.proofs.Lists.Sums.{sum_by_same, sum_by-zero}
@@ -10,12 +10,7 @@ use Rattle.fair_rates.proofs.Lists.SumOrder.{All-from_contains}
 pub start : (sides : List Side) (per : ℕ) (frozen : ℕ → Option ℕ) → ((flow : ℕ) → frozen flow ≡ None)
     → IsFilledTo sides per frozen 0
 start sides per frozen none = record {
-  within = All-from_contains (λ s. load (at_level frozen 0) s ≤ s.cap * per) sides (λ s c.
-      omega (
-        arith,
-        sum_by-zero s.users,
-        sum_by_same (at_level frozen 0) (λ _. 0) s.users (λ k d l. at_none frozen 0 _ (none _)),
-      ));
+  within = search (rules, All-from_contains, sum_by-zero, sum_by_same, at_none);
   below = λ j. omega (arith, at_none frozen 0 j (none j));
   held = λ j h. let v = some_value (frozen j) h in let e = none j in cc;
 }
@@ -26,12 +21,7 @@ pub end : (sides : List Side) (per : ℕ) (frozen : ℕ → Option ℕ) (level :
     → IsFair sides per (at_level frozen 0)
 end sides per frozen level some filled all = record {
   some_part = some;
-  within = All-from_contains (λ s. load (at_level frozen 0) s ≤ s.cap * per) sides (λ s c.
-      let same =
-      sum_by_same (at_level frozen 0) (at_level frozen level) s.users
-      (All-from_contains (λ j. at_level frozen 0 j ≡ at_level frozen level j) s.users (λ j used.
-      at_any frozen 0 level j (all j (s, record { listed = c; used = used })))) in
-      omega (arith, same, All-contains (λ s. load (at_level frozen level) s ≤ s.cap * per) sides s filled.within c));
+  within = search (rules, All-from_contains, sum_by_same, at_any, All-contains);
   held = λ i limited. (filled.held i (all i limited)).bottleneck;
 }
 
@@ -57,8 +47,7 @@ module _ (sides : List Side) (per : ℕ) (frozen : ℕ → Option ℕ) (level : 
     | inr (a, e) ↦
         let was = some_is (frozen i) a e in
         let s = filled.held i was in let h = s.bottleneck in let users = h.side.users in
-        let had : (j : ℕ) → Contains users j → IsSome (frozen j) = λ j used.
-        All-contains (λ j. IsSome (frozen j)) users j s.all_frozen used in
+        let had : (j : ℕ) → Contains users j → IsSome (frozen j) = search (rules, All-contains) in
         record {
           bottleneck = record {
             side = h.side;
@@ -81,8 +70,7 @@ module _ (sides : List Side) (per : ℕ) (frozen : ℕ → Option ℕ) (level : 
     | inl e ↦
         let v = some_value (after i) now in let f = round.fresh i v.0 e v.1 in let users = f.1.side.users in
         let same : (j : ℕ) → Contains users j → at_level after 0 j ≡ at_level frozen next_level j =
-        λ j used.
-        at_any after 0 next_level j (All-contains (λ j. IsSome (after j)) users j f.1.all_frozen used) ∙ same_at j in
+            search (rules, at_any, All-contains, same_at) in
         record {
           bottleneck = record {
             side = f.1.side;
@@ -107,12 +95,7 @@ pub fair_same : (sides : List Side) (per : ℕ) (parts other : ℕ → ℕ) → 
     → IsFair sides per parts → IsFair sides per other
 fair_same sides per parts other same fair = record {
   some_part = fair.some_part;
-  within = All-from_contains (λ s. load other s ≤ s.cap * per) sides (λ s c.
-      omega (
-        arith,
-        sum_by_same parts other s.users (λ k d inside. same _),
-        All-contains (λ s. load parts s ≤ s.cap * per) sides s fair.within c,
-      ));
+  within = search (rules, All-from_contains, sum_by_same, All-contains);
   held = λ flow limited. let h = fair.held flow limited in record {
     side = h.side;
     uses = h.uses;

@@ -1,11 +1,11 @@
 -- What holds between two rounds, how a round keeps it, and what it gives at the end.
-use Rattle.fair_rates.proofs.Common.{◌≡◌, ℕ, ◌*◌, ◌/◌, ◌^◌, ◌<◌, ◌≤◌, List, [], ◌∷◌, length, get_or, map, All, AllPairs}
+use Rattle.fair_rates.proofs.Common.{◌≡◌, ℕ, ◌*◌, ◌/◌, ◌^◌, ◌<◌, ◌≤◌, List, [], ◌∷◌, length, map, All, AllPairs}
 use Rattle.fair_rates.proofs.Common.{Contains, Option, Some, None, IsSome, IfSome, refl, sym, ap, subst, arith}
 use Rattle.fair_rates.proofs.Common.{mul-le-mul_right, option_map, unwrap_or, slice_index, IsHeap, Reverse, mul-pos}
 use Rattle.fair_rates.proofs.Common.{cases_lt, length-map, get_or_past, All-head, All-weaker, All-contains, Side}
 use Rattle.fair_rates.proofs.Common.{IsLimited, IsFair, level_at, flow_parts, frozen_at, at_level, top, AllRise}
-use Rattle.fair_rates.proofs.Common.{IsRaised, AreAtTop, IsWithinSlack, HaveNoMore, IsQueue, IsShareQueue, AreAbove}
-use Rattle.fair_rates.proofs.Common.{AllFilled, AreGrown, queue_cmp, OpenSide, rules}
+use Rattle.fair_rates.proofs.Common.{IsRaised, AreAtTop, HaveNoMore, IsQueue, IsShareQueue, AreAbove, AllFilled}
+use Rattle.fair_rates.proofs.Common.{AreGrown, queue_cmp, OpenSide, rules}
 use Rattle.std.proofs.Common.{le_of_mul-le-mul_right}
 use Rattle.std.specs.Prelude.{◌↔◌, replicate}
 use Rattle.std.proofs.lemmas.List.{get_or-replicate, length-replicate}
@@ -48,10 +48,8 @@ pub course_none : (sides : List Side) (scale count : ℕ) (opens : List (Reverse
     → All (λ o. All (λ flow. flow < count) o.0.rising.items) opens → IsHeap queue_cmp opens
     → IsCourse sides scale [] (replicate count None) opens
 course_none sides scale count opens some queue users order =
-    let none : (flow : ℕ) → frozen_at [] (replicate count None) flow ≡ None = λ flow.
-    ap (option_map (slice_index [])) (none_at count flow) in
-    let all_rise : (xs : List ℕ) → AllRise (frozen_at [] (replicate count None)) xs = λ xs k d inside.
-    none (get_or xs k d) in
+    let none : (flow : ℕ) → frozen_at [] (replicate count None) flow ≡ None = search (rules, none_at) in
+    let all_rise : (xs : List ℕ) → AllRise (frozen_at [] (replicate count None)) xs = search rules in
     record {
       some_part = some;
       inside = All-replicate (λ level. IfSome level (λ place. place < 0)) count None tt;
@@ -59,15 +57,7 @@ course_none sides scale count opens some queue users order =
       reached = λ place inside. absurd (omega arith);
       filled = start sides scale (frozen_at [] (replicate count None)) none;
       queue = queue (frozen_at [] (replicate count None));
-      sound = record {
-        users =
-            subst (λ n. All (λ (o : Reverse OpenSide). All (λ flow. flow < n) o.0.rising.items) opens)
-            (sym (length-replicate {A = Option ℕ} count None)) users;
-        no_more = λ k d inside.
-            risers_have_no_more (frozen_at [] (replicate count None)) (get_or opens k d).0.slack
-            (get_or opens k d).0.rising.items (all_rise (get_or opens k d).0.rising.items);
-        order = order;
-      };
+      sound = search (rules, length-replicate, risers_have_no_more);
       above = λ k d inside. omega arith;
     }
 
@@ -135,9 +125,7 @@ module _ (sides : List Side) (scale factor : ℕ) (levels after : List ℕ) (lev
 
   no_lower : top scaled_levels ≤ level
   no_lower =
-      let here : top levels * length x.rising.items ≤ x.slack =
-      All-head (λ (o : Reverse OpenSide). IsWithinSlack (top levels) o.0.slack o.0.rising.items) (record { 0 = x })
-      rest taken.above in
+      let here : top levels * length x.rising.items ≤ x.slack = search (rules, All-head) in
       le_of_mul-le-mul_right {k = length x.rising.items}
       (omega (
         arith,
@@ -174,18 +162,8 @@ module _ (sides : List Side) (scale factor : ℕ) (levels after : List ℕ) (lev
     filled = subst (IsFilledTo sides (scale * factor) now) (sym raised.last)
         (filled_on sides (scale * factor) scaled_frozen now wide opens level (top scaled_levels) wide_queue no_more rise
         within share freezing x.some (λ o. o.0.some) scaled_filled no_lower);
-    queue =
-        queue_on sides (scale * factor) scaled_frozen now wide opens level (top scaled_levels) wide_queue no_more rise
-        within share freezing;
-    sound = record {
-      users =
-          subst (λ n. All (λ (o : Reverse OpenSide). All (λ flow. flow < n) o.0.rising.items) opens)
-          (sym at_top.one_each) (users_grown factor (length level_of) rest opens grown taken.sound.users);
-      no_more =
-          no_more_on sides (scale * factor) scaled_frozen now wide opens level (top scaled_levels) wide_queue no_more
-          rise within share freezing;
-      order = order;
-    };
+    queue = search (rules, queue_on, wide_queue, no_more, rise, within, freezing);
+    sound = search (rules, users_grown, no_more, no_more_on, wide_queue, rise, within, freezing);
     above = subst (λ n. AreAbove n opens) (sym raised.last) within;
   }
 

@@ -126,9 +126,7 @@ module _ {K : Type 0} (cmp : K → K → Ordering) (total : IsTotalOrder cmp) wh
   ascending_split [] ls k h = record { lower = refl; higher = first_of_both (list_all (λ l. is_lt (cmp k l)) ls) _ h }
   ascending_split (j ∷ ks) ls k h =
       let rest = ascending_split ks ls k (second_of_both (list_all (λ l. is_lt (cmp j l)) (ks ++ k ∷ ls)) _ h) in
-      let first : list_all (λ l. is_lt (cmp j l)) (k ∷ ls) ≡ true =
-      list_all-right (λ l. is_lt (cmp j l)) ks (k ∷ ls)
-      (first_of_both (list_all (λ l. is_lt (cmp j l)) (ks ++ k ∷ ls)) _ h) in
+      let first : list_all (λ l. is_lt (cmp j l)) (k ∷ ls) ≡ true = search (rules, list_all-right, first_of_both) in
       record {
         lower = and_from (is_lt (cmp j k)) _ (first_of_both (is_lt (cmp j k)) _ first) rest.lower;
         higher = rest.higher;
@@ -166,8 +164,7 @@ module _ {K : Type 0} (cmp : K → K → Ordering) (total : IsTotalOrder cmp) wh
     comparisons_rise (e ∷ es) k h zero zero d le lt = omega arith
     comparisons_rise (e ∷ es) k h zero (suc j) d le lt =
         let below : list_all (λ f. is_lt (cmp (key e) (key f))) es ≡ true =
-        sym (list_all-map (λ l. is_lt (cmp (key e) l)) key es)
-        ∙ first_of_both (list_all (λ l. is_lt (cmp (key e) l)) (map key es)) _ h in
+            search (rules, list_all-map, first_of_both) in
         index_le (key e) (key (get_or es j d)) k
         (is_lt_less _ (within_from_all (λ f. is_lt (cmp (key e) (key f))) es below j d (omega arith)))
     comparisons_rise (e ∷ es) k h (suc i) zero d le lt = absurd (omega arith)

@@ -42,10 +42,7 @@ drained_twice left rate a b h j =
     let x : ℕ = rate.num * left.den in
     let d : ℕ = left.den * unit in
     let some : 0 < d = mul-pos h some_unit in
-    let num : (n - a * x) * unit - b * (rate.num * d) ≡ unit * (n - (a + b) * x) =
-    ap (λ y. y - b * (rate.num * d)) (mul_comm (n - a * x) unit)
-    ∙ ap (λ y. unit * (n - a * x) - y) (regroup b rate.num left.den unit)
-    ∙ sym (mul-sub unit (n - a * x) (b * x)) ∙ ap (λ y. unit * y) (twice_less n a b x) in
+    let num : (n - a * x) * unit - b * (rate.num * d) ≡ unit * (n - (a + b) * x) = search (rules, mul_comm, mul-sub) in
     drained_reduced (n - a * x) d rate b some j ∙ reduced_alike _ _ _ _ num (mul_comm d unit)
     ∙ reduced_scaled unit (n - (a + b) * x) d some_unit some
   where

@@ -69,8 +69,7 @@ difference_over_common a b c d h j =
     let k : CommonParts b d g = common_parts b d h j in
     let u : g * (a * (d / g)) ≡ a * d = times_num g (d / g) a d k.second in
     let v : g * (c * (b / g)) ≡ c * b = times_num g (b / g) c b k.first in
-    let num : g * (a * (d / g) - c * (b / g)) ≡ a * d - c * b =
-    mul-sub g (a * (d / g)) (c * (b / g)) ∙ same_difference _ _ _ _ u v in
+    let num : g * (a * (d / g) - c * (b / g)) ≡ a * d - c * b = search (rules, mul-sub, same_difference) in
     sym (reduced_scaled g (a * (d / g) - c * (b / g)) (b / g * d) k.positive (mul-pos k.first_positive j))
     ∙ reduced_alike _ _ _ _ num (times_den g (b / g) b d k.first)
 

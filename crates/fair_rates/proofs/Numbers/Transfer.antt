@@ -100,8 +100,7 @@ pub record IsTaken (rate : Amount) (n : ℕ) (t : Ratio) : Type 0 where
 pub taken_from_product : (rate product : Amount) (n : ℕ) (t : Ratio) → IsTaking rate product n → IsWorth t product
     → IsTaken rate n t
 taken_from_product rate product n t is worth =
-    let equal : AreEqual (amount_of t) (transferred rate n) =
-    equal_trans (amount_of t) product (transferred rate n) is.positive worth is.equal in
+    let equal : AreEqual (amount_of t) (transferred rate n) = search (rules, equal_trans) in
     record { equal = equal; lowest = worth_is_reduced t (transferred rate n) is.meant_positive equal }
 
 turned : (l d p q u m : ℕ) → p * u ≡ m * q → 0 < q → 0 < u → (l * q ≤ p * d) ↔ (l * u ≤ m * d)
@@ -139,9 +138,7 @@ drained_by_difference : (left rate t rest : Ratio) (n : ℕ) → IsTaken (amount
 unfolding left_is
 drained_by_difference left rate t rest n is worth =
     let l = amount_of left in
-    let across : AreEqual (minus l (amount_of t)) (left_is l (amount_of rate) n) =
-    over_other left.numerator left.denominator t.numerator t.denominator (rate.denominator * billion) n rate.numerator
-    is.equal in
+    let across : AreEqual (minus l (amount_of t)) (left_is l (amount_of rate) n) = search (rules, over_other) in
     drained_if_worth left rate n rest
     (equal_trans (amount_of rest) (minus l (amount_of t)) (left_is l (amount_of rate) n)
     (mul-pos left.positive t.positive) worth across)

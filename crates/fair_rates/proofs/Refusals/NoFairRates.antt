@@ -1,6 +1,6 @@
 -- Where a fair rate is no fraction of 128 bits, no rates that are such fractions are fair.
-use Rattle.fair_rates.proofs.Common.{ℕ, ◌^◌, ◌<◌, List, All, get_or, subst, arith, Ordering, IsTotalOrder, All-contains}
-use Rattle.fair_rates.proofs.Common.{HasLargeRate, Amount, parts_over, Side, HaveUsersBelow, ReducedFits, IsRateOf}
+use Rattle.fair_rates.proofs.Common.{ℕ, ◌<◌, List, All, get_or, arith, Ordering, IsTotalOrder, All-contains}
+use Rattle.fair_rates.proofs.Common.{HasLargeRate, parts_over, Side, HaveUsersBelow, ReducedFits, IsRateOf}
 use Rattle.fair_rates.proofs.Common.{AreFairRates, Rate, Unlimited, Finite, rules}
 use Rattle.std.proofs.lemmas.List.Elements.{All-get_or}
 use Rattle.fair_rates.specs.Refusals.FairRatesFit.{IsFraction}
@@ -27,10 +27,7 @@ large_is_unfair sides flows rates among large small fair =
     by_rate Unlimited none fraction = none large.limited
     by_rate (Finite ratio) (limited, worth) fraction =
         let is = worth_is_reduced ratio (parts_over fair.per (fair.parts large.flow)) fair.fair.some_part worth in
-        let fits : ReducedFits (parts_over fair.per (fair.parts large.flow)) = record {
-          numerator = subst (λ (a : Amount). a.num < 2 ^ 128) is fraction.0;
-          denominator = subst (λ (a : Amount). a.den < 2 ^ 128) is fraction.1;
-        } in
+        let fits : ReducedFits (parts_over fair.per (fair.parts large.flow)) = search rules in
         large.large
         (fits_alike (large.parts large.flow) large.per (fair.parts large.flow) fair.per large.fair.some_part
         fair.fair.some_part

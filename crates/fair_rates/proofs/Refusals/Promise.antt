@@ -53,8 +53,7 @@ pub distinct_sides : (sides : List declared_side.Side) → All (λ side. AllPair
     → HaveDistinctUsers (map side_of sides)
 distinct_sides sides rise =
     All-map (λ side. AreDistinct side.users) side_of sides (λ k d inside i j e before within same.
-    let less : get_or (get_or sides k d).users.items i e < get_or (get_or sides k d).users.items j e =
-    rise k d inside i j e before within in
+    let less : get_or (get_or sides k d).users.items i e < get_or (get_or sides k d).users.items j e = search rules in
     absurd (omega arith))
 
 pub users_below_sides : (flows : ℕ) (sides : List declared_side.Side)

@@ -109,12 +109,9 @@ module _ {P : Type 0} (cmp : P → P → Ordering) (order : IsTotalOrder cmp) (c
       head e =
           let number : x.answer ≡ Some cap =
           all x (inl refl) ∙ sym (one_cap cmp order caps of a.subject x.subject e) ∙ sym (all a h) ∙ has in
-          let closed : is_open cmp earlier x ≡ false =
-          open_from earlier x
-          (λ b among. sym (same_congr cmp order a.subject x.subject b.subject e) ∙ fresh b among) in
+          let closed : is_open cmp earlier x ≡ false = search (rules, open_from, same_congr) in
           let agree : filter (is_same cmp a) later ≡ filter (is_same cmp x) later =
-          filter_agree (is_same cmp a) (is_same cmp x) (λ b. same_congr cmp order a.subject x.subject b.subject e)
-          later in
+              search (rules, filter_agree, same_congr) in
           rw (closed, number, agree) (inl refl)
 
       by_same : (t : Bool) → is_same cmp a x ≡ t → In (x ∷ later) a
@@ -127,8 +124,7 @@ module _ {P : Type 0} (cmp : P → P → Ordering) (order : IsTotalOrder cmp) (c
           })
       by_same true e g ih = head e
       by_same false e (inl same) ih =
-          let on : is_same cmp a x ≡ true =
-          subst (λ (b : Ask P). is_same cmp a b ≡ true) (sym same) (same_itself cmp order a.subject) in
+          let on : is_same cmp a x ≡ true = search (rules, same_itself) in
           cc
       by_same false e (inr g) ih =
           in_right (cond (is_open cmp earlier x) [] (opened cmp x later x.answer)) (sides_after cmp (x ∷ earlier) later)
@@ -298,8 +294,7 @@ module _ {P : Type 0} (cmp : P → P → Ordering) (order : IsTotalOrder cmp) (c
       let listed =
       to_sides [] (asks 0 flows) a cap (λ b g. absurd g) (all_by_caps 0 flows) r.1 answered (λ b g. absurd g) in
       let same : side_asked (asks 0 flows) a cap ≡ side_of_subject flows s cap =
-      ap (λ (ps : List ℕ). record { cap = cap; users = ps })
-      (places_asked 0 flows a ∙ sym (same_places 0 s a.subject flows r.2)) in
+          search (rules, places_asked, same_places) in
       contains_from_in (sides_under cmp caps flows) (side_of_subject flows s cap)
       (subst (In (sides_under cmp caps flows)) same listed)
 

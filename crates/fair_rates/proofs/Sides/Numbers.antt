@@ -1,7 +1,7 @@
 -- The numbers of keys, which stand in a list in their order, or in a map.
 use Rattle.fair_rates.proofs.Common.{◌≡◌, ℕ, ◌+◌, ◌<◌, ◌≤◌, Bool, true, false, cond, List, [], ◌∷◌, length, map, get_or}
-use Rattle.fair_rates.proofs.Common.{Option, Some, None, Ok, Err, refl, sym, ap, ap₂, subst, ◌∙◌, arith, insert}
-use Rattle.fair_rates.proofs.Common.{is_some, lookup, option_or, IsTotalOrder, Ordering, Less, Equal, Greater, is_eq}
+use Rattle.fair_rates.proofs.Common.{Option, Some, None, Ok, Err, refl, ap, ap₂, subst, ◌∙◌, arith, insert, is_some}
+use Rattle.fair_rates.proofs.Common.{lookup, option_or, IsTotalOrder, Ordering, Less, Equal, Greater, is_eq}
 use Rattle.fair_rates.proofs.Common.{eq_by_cmp_equiv, get_or_default, IsGap, rules, common_steps}
 use Rattle.std.specs.List.{HoldsAt}
 use Rattle.std.specs.List.Sorted.{IsNonDecreasingBy}
@@ -68,8 +68,7 @@ module _ {K : Type 0} (cmp : K → K → Ordering) (total : IsTotalOrder cmp) wh
       rises : IsNonDecreasingBy (λ entry. ordering_index (cmp (first entry) k)) entries → (i : ℕ) (d : K × ℕ)
           → i < length entries → ordering_index (cmp (first (get_or entries i d)) k) ≤ ordering_index Less
       rises rise i d lt =
-          let there : get_or entries place d ≡ last =
-          get_or_default entries place d last (omega (arith, end)) ∙ sym is in
+          let there : get_or entries place d ≡ last = search (rules, get_or_default) in
           subst (λ o. ordering_index (cmp (first (get_or entries i d)) k) ≤ ordering_index o)
           (ap (λ e. cmp (first e) k) there ∙ below) (rise i place d (omega (arith, lt, end)) (omega (arith, end)))
 

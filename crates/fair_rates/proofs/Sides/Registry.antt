@@ -113,21 +113,16 @@ module _ {P : Type 0} (cmp : P → P → Ordering) (o : IsTotalOrder cmp) where
     found_then : (q : Subject P) (m : ℕ) (b : Bool) → same_subject cmp s q ≡ b
         → number' q ≡ Some m → IsNumberOf cmp more q m
     found_then q m true t e =
-        let last : length subjects ≡ m =
-        same_Some (length subjects) m (sym (are' q ∙ ap (λ b. cond b (Some (length subjects)) (number q)) t) ∙ e) in
+        let last : length subjects ≡ m = search (rules, same_Some) in
         record {
           within = omega (arith, longer, last);
-          same = λ u.
-              ap (same_subject cmp q) (get_or_push subjects s u m last)
-              ∙ same_symm cmp o q s ∙ t;
+          same = search (rules, get_or_push, same_symm);
         }
     found_then q m false t e =
         let i = (are q m).0 (sym (are' q ∙ ap (λ b. cond b (Some (length subjects)) (number q)) t) ∙ e) in
         record {
           within = omega (arith, longer, i.within);
-          same = λ u.
-              ap (same_subject cmp q) (get_or_append_left subjects (s ∷ []) u m i.within)
-              ∙ i.same u;
+          same = search (rules, get_or_append_left);
         }
 
     apart_from : (q : Subject P) (m : ℕ) → IsNumberOf cmp subjects q m
@@ -144,12 +139,7 @@ module _ {P : Type 0} (cmp : P → P → Ordering) (o : IsTotalOrder cmp) where
     at_old : (q : Subject P) (m : ℕ) → IsNumberOf cmp more q m → m < length subjects
         → number' q ≡ Some m
     at_old q m i below =
-        let was : IsNumberOf cmp subjects q m = record {
-          within = below;
-          same = λ u.
-              ap (same_subject cmp q) (sym (get_or_append_left subjects (s ∷ []) u m below))
-              ∙ i.same u;
-        } in
+        let was : IsNumberOf cmp subjects q m = search (rules, get_or_append_left) in
         are' q ∙ ap (λ b. cond b (Some (length subjects)) (number q)) (apart_from q m was) ∙ (are q m).1 was
 
     at_last : (q : Subject P) (m : ℕ) → IsNumberOf cmp more q m → length subjects ≡ m
@@ -241,11 +231,7 @@ module _ {P : Type 0} (cmp : P → P → Ordering) (o : IsTotalOrder cmp) where
           ∙ append-nil (map (with_user cmp t) shares) in
           let others : (k : ℕ) → k < length shares → k ≢ n
           → with_user cmp t (get_or shares k nobody) ≡ get_or shares k nobody =
-          λ k l apart.
-          unchanged t (get_or shares k nobody)
-          (is_false _
-          (λ same. let m : number s ≡ Some k = number_at s k nobody l same in
-          apart (same_Some k n (sym m ∙ e)))) in
+              search (rules, unchanged, nobody, is_false, number_at, same_Some) in
           let stay : subjects_after cmp [] asks ≡ subjects_after cmp [] (asks ++ t ∷ []) =
           sym (subjects_are cmp [] asks) ∙ sym (subjects_kept t shares) ∙ ap (map (λ u. u.subject)) (sym are)
           ∙ subjects_are cmp [] (asks ++ t ∷ []) in
