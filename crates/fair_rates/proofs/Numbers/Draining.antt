@@ -45,12 +45,6 @@ drained_twice left rate a b h j =
     let num : (n - a * x) * unit - b * (rate.num * d) ≡ unit * (n - (a + b) * x) = search (rules, mul_comm, mul-sub) in
     drained_reduced (n - a * x) d rate b some j ∙ reduced_alike _ _ _ _ num (mul_comm d unit)
     ∙ reduced_scaled unit (n - (a + b) * x) d some_unit some
-  where
-    regroup : (b r l u : ℕ) → b * (r * (l * u)) ≡ u * (b * (r * l))
-    regroup b r l u = omega arith
-
-    twice_less : (n a b x : ℕ) → n - a * x - b * x ≡ n - (a + b) * x
-    twice_less n a b x = omega arith
 
 -- ---- nothing is left exactly where the time covers it
 

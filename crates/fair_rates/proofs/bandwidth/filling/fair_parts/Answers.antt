@@ -1,7 +1,7 @@
 use Rattle.fair_rates.proofs.Common.{◌≡◌, ℕ, ◌*◌, ◌<◌, ◌∷◌, List, [], All, Option, None, length, map, sym, ap, subst}
-use Rattle.fair_rates.proofs.Common.{arith, ◌∙◌, heap_items, Reverse, common_steps, length-map, All-nil, product, Side}
-use Rattle.fair_rates.proofs.Common.{IsFair, frozen_at, top, IsQueue, IsShareQueue, AreAbove, AllFilled, IsRaised}
-use Rattle.fair_rates.proofs.Common.{AreAtTop, flow_parts, side_of, OpenSide}
+use Rattle.fair_rates.proofs.Common.{arith, ◌∙◌, heap_items, common_steps, length-map, All-nil, product, Side, IsFair}
+use Rattle.fair_rates.proofs.Common.{frozen_at, top, IsQueue, IsShareQueue, AreAbove, AllFilled, IsRaised, AreAtTop}
+use Rattle.fair_rates.proofs.Common.{flow_parts, side_of, OpenSide}
 use Rattle.std.proofs.lemmas.List.{length-replicate}
 use Rattle.fair_rates.specs.Filling.States.{IsLeast}
 use Rattle.fair_rates.proofs.Filling.Frozen.{some_of_if, match_some, match_none, on_some_of}
@@ -55,7 +55,6 @@ loop-found-preserved c =
     let e : E ≡ level_of = c.deref-in-loop-found.ensures.value in
     let old = heap_items c.loop-found.queue in
     let side : OpenSide = c.in-Some.side in
-    let first : Reverse OpenSide = record { 0 = side } in
     let rest = heap_items c.next_side.new.queue in
     let opens = heap_items c.in_ok-queue-2.queue in
     let o = c.in_ok-side.field-0 in
