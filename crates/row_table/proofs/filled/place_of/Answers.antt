@@ -1,4 +1,5 @@
-use Rattle.row_table.proofs.Common.{◌≡◌, ℕ, ◌+◌, ◌<◌, false, List, Some, slice_get, subst, sym, ap, ◌∙◌, IfNone, arith}
+use Rattle.std.proofs.lemmas.Grind.{common_steps}
+use Rattle.row_table.proofs.Common.{◌≡◌, ℕ, ◌+◌, ◌<◌, false, List, Some, slice_get, sym, ap, ◌∙◌, IfNone, arith}
 use Rattle.row_table.proofs.Common.{cases_lt, get_or_from_slice_get, slice_get_within, by_cases}
 use Rattle.std.proofs.Common.{Ok, Err, Result, get_or}
 use Rattle.std.specs.List.{AllPairs}
@@ -32,7 +33,4 @@ missing xs x (Err i) found = λ up at e.
     absurd (omega (arith, same)))
 
 pub returns-clause-none : goal.returns-clause-none
-returns-clause-none c =
-    subst (λ result. IfNone result (AllPairs (λ one other. one < other) c.args.filled.now → (at : ℕ)
-    → slice_get c.args.filled.now at ≡ Some c.args.slot → ⊥)) (sym c.ok.ensures.value)
-    (missing c.args.filled.now c.args.slot c.binary_search.result c.binary_search.ensures.position)
+returns-clause-none c = grind (arith, common_steps, missing)
