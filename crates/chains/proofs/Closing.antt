@@ -1,17 +1,16 @@
 -- Rows that come in anew, once those that stand in no chain are gone.
-use Rattle.std.proofs.Common.{◌≡◌, ℕ, zero, suc, ◌+◌, ◌<◌, ◌≤◌, Option, Some, None, refl, sym, ap, ◌∙◌, subst, arith}
-use Rattle.std.proofs.Common.{List, [], ◌∷◌, length, map, take, replicate, slice_set, slice_get, slice_index_or, filter, is_some, Bool, cond, true, false}
-use Rattle.std.proofs.lemmas.List.{get_or-take, take_more_set, length-take-le, get_or-replicate, length-replicate, length-map, take_all}
+use Rattle.chains.proofs.Common.{◌≡◌, ℕ, suc, ◌+◌, ◌<◌, ◌≤◌, Option, Some, None, refl, sym, ap, ◌∙◌, subst, arith, List}
+use Rattle.chains.proofs.Common.{[], ◌∷◌, length, map, take, replicate, slice_set, slice_index_or, false, length-map}
+use Rattle.chains.proofs.Common.{map-set_same, Rows, owner_of, IsPlace, Table, link_of, end_of, no_end, Stands}
+use Rattle.chains.proofs.Common.{with_next, added, rows_in, IsChained, Link, End}
+use Rattle.std.proofs.Common.{zero, slice_get, filter, is_some, Bool, cond, true, rules}
+use Rattle.std.proofs.lemmas.List.{get_or-take, take_more_set, length-take-le, get_or-replicate, length-replicate}
+use Rattle.std.proofs.lemmas.List.{take_all}
 use Rattle.std.proofs.lemmas.Option.{slice_get-get_or}
-use Rattle.std.proofs.Math.Seq.{map-set_same}
-use Rattle.chains.specs.Chains.{Rows, owner_of, without_gaps}
-use Rattle.chains.specs.Places.{IsPlace}
-use Rattle.chains.specs.Tables.{Table, link_of, end_of, no_link, no_end, Stands, with_next, with_prev, with_link, added, relinked}
-use Rattle.chains.specs.Tables.{rows_in, IsChained, AreFilled}
+use Rattle.chains.specs.Chains.{without_gaps}
+use Rattle.chains.specs.Tables.{relinked, AreFilled}
 use Rattle.chains.proofs.Adding.{added_chained}
 use Rattle.chains.proofs.Places.{some_same}
-use Rattle.chains.specs.declared.tables.Link.{Link}
-use Rattle.chains.specs.declared.tables.End.{End}
 use Rattle.chains.proofs.Linking.{next_ends, prev_ends}
 use Rattle.chains.proofs.Taking.{row_below, place_map, place_of_last}
 use Rattle.chains.proofs.Views.{owner_in, next_stands, prev_stands, rows_are, owner_is}
@@ -29,10 +28,7 @@ take_set (suc n) (y ∷ ys) (suc i) x = ap (λ l. y ∷ l) (take_set n ys i x)
 front_next : (n : ℕ) (t : Table) (owner : ℕ) (place to : Option ℕ) → IsPlace (λ row. row < n) place
     → front n (with_next t owner place to) ≡ with_next (front n t) owner place to
 front_next n t owner None to low = refl
-front_next n t owner (Some at) to low =
-    ap (λ links. record t { links = links })
-    (take_set n t.links at (record (link_of t at) { next = to })
-    ∙ ap (λ (link : Link). slice_set (take n t.links) at (record link { next = to })) (sym (get_or-take n t.links at no_link low)))
+front_next n t owner (Some at) to low = search (rules, take_set, get_or-take)
 
 module _ (t : Table) (owner row : ℕ) (low : row < length t.links) where
   abbrev last : Option ℕ
@@ -49,11 +45,7 @@ module _ (t : Table) (owner row : ℕ) (low : row < length t.links) where
 
   -- the rows so far, with one more
   pub front_more : IsPlace (λ n. n < row + 1) last → front (row + 1) (relinked t owner row) ≡ added (front row t) owner
-  front_more there =
-      ap (λ (s : Table). with_prev s owner None (Some row))
-      (front_next (row + 1) one owner last (Some row) there
-      ∙ ap (λ links. with_next (record t { links = links }) owner last (Some row)) (take_more_set t.links row new low))
-      ∙ ap (λ n. with_prev (with_next (with_link (front row t) owner) owner last (Some n)) owner None (Some n)) (sym long)
+  front_more there = search (rules, front_next, take_more_set, long)
 
   pub last_low : IsChained (front row t) → owner < length t.ends → IsPlace (λ n. n < row) last
   last_low chained within =
@@ -63,26 +55,17 @@ module _ (t : Table) (owner row : ℕ) (low : row < length t.links) where
 
   -- it stands in the chain in which it stood
   pub rows_relinked : Stands t owner row → rows_in (relinked t owner row) ≡ rows_in t
-  rows_relinked there =
-      let two : Table = with_next one owner last (Some row) in
-      rows_are (map owner_in (relinked t owner row).links) (map owner_in t.links) (length (relinked t owner row).ends) (length t.ends)
-      (prev_stands two owner None (Some row) ∙ next_stands one owner last (Some row)
-      ∙ map-set_same owner_in t.links row new no_link (sym there))
-      (prev_ends two owner None (Some row) ∙ next_ends one owner last (Some row))
+  rows_relinked there = search (rules, rows_are, prev_stands, next_stands, map-set_same, prev_ends, next_ends)
 
 -- no row yet
 module _ (t : Table) (empty : t.ends ≡ replicate (length t.ends) no_end) where
   none_at : (owner : ℕ) → owner < length t.ends → end_of t owner ≡ no_end
-  none_at owner within =
-      ap (λ ends. slice_index_or ends owner no_end) empty ∙ get_or-replicate (length t.ends) owner no_end no_end within
+  none_at owner within = search (rules, get_or-replicate)
 
 -- ---- one row comes in
 
 pub same_lengths : (s t : Table) → rows_in s ≡ rows_in t → (length s.links ≡ length t.links) × (length s.ends ≡ length t.ends)
-same_lengths s t is = (
-  sym (length-map s.links owner_in) ∙ ap (λ (rows : Rows). length rows.stands) is ∙ length-map t.links owner_in,
-  ap (λ (rows : Rows). rows.owners) is,
-)
+same_lengths s t is = search (rules, length-map)
 
 pub flag_set : (saved : List Bool) (n at : ℕ) → saved ≡ replicate n true → at < n → slice_get saved at ≡ Some true
 flag_set saved n at is low =
@@ -102,19 +85,14 @@ module _ (start t : Table) (row : ℕ) (filled_in : AreFilled (rows_in start)) (
   never_empty none = let e : None ≡ Some owner_there.0 = sym none ∙ owner_read in cc
 
   pub owner_within : (owner : ℕ) → Stands t owner row → owner < length t.ends
-  owner_within owner there =
-      let same : owner ≡ owner_there.0 = some_same owner owner_there.0 (sym there ∙ owner_read) in
-      omega (arith, same, owner_there.2, (same_lengths t start rows).1)
+  owner_within owner there = search (rules, some_same, owner_read, same_lengths)
 
   pub row_within : row < length t.links
   row_within = omega (arith, low, (same_lengths t start rows).0)
 
   pub last_free : (owner n : ℕ) (saved : List Bool) → Stands t owner row → IsChained (front row t) → saved ≡ replicate n true
       → n ≡ length start.links → IsPlace (λ at. slice_get saved at ≡ Some true) (end_of t owner).last
-  last_free owner n saved there chained is all =
-      place_map (λ at. at < row) (λ at. slice_get saved at ≡ Some true) (end_of t owner).last
-      (λ at less. flag_set saved n at is (omega (arith, less, low, all)))
-      (last_low t owner row row_within chained (owner_within owner there))
+  last_free owner n saved there chained is all = search (rules, place_map, flag_set, last_low, row_within, owner_within)
 
   pub one_more : (owner : ℕ) → Stands t owner row → IsChained (front row t) → IsChained (front (row + 1) (relinked t owner row))
   one_more owner there chained =
@@ -144,15 +122,11 @@ filter_cond false owner link links is = refl
 
 pub owners_kept : (links : List Link) → map owner_in (filter (λ (link : Link). is_some link.owner) links) ≡ filter is_some (map owner_in links)
 owners_kept [] = refl
-owners_kept (link ∷ more) =
-    filter_cond (is_some link.owner) link.owner link (filter (λ (link : Link). is_some link.owner) more) refl
-    ∙ ap (λ stands. cond (is_some link.owner) (link.owner ∷ stands) stands) (owners_kept more)
+owners_kept (link ∷ more) = search (rules, filter_cond, owners_kept more)
 
 pub gaps_closed : (t : Table) (links : List Link) (ends : List End) → links ≡ filter (λ (link : Link). is_some link.owner) t.links
     → ends ≡ replicate (length t.ends) no_end → rows_in (record { links = links; ends = ends }) ≡ without_gaps (rows_in t)
-gaps_closed t links ends kept empty =
-    rows_are (map owner_in links) (filter is_some (map owner_in t.links)) (length ends) (length t.ends)
-    (ap (map owner_in) kept ∙ owners_kept t.links) (ap length empty ∙ length-replicate (length t.ends) no_end)
+gaps_closed t links ends kept empty = search (rules, rows_are, owners_kept, length-replicate)
 
 pub filled_without : (t s : Table) → IsChained t → rows_in s ≡ without_gaps (rows_in t) → AreFilled (rows_in s)
 filled_without t s chained rows = subst AreFilled (sym rows)

@@ -1,13 +1,13 @@
 -- A table, once its last row is gone, which stood in no chain.
-use Rattle.std.proofs.Common.{◌≡◌, ℕ, ◌-◌, ◌<◌, ◌≤◌, Option, Some, None, refl, sym, ap, ◌∙◌, arith}
-use Rattle.std.proofs.Common.{length, map, take, subst}
-use Rattle.std.proofs.lemmas.Bool.{cases_lt}
-use Rattle.std.proofs.lemmas.List.{get_or-take, length-take-le, length-map, take-map}
+use Rattle.std.proofs.lemmas.Grind.{common_steps}
+use Rattle.std.proofs.Common.{rules}
+use Rattle.chains.proofs.Common.{◌≡◌, ℕ, ◌-◌, ◌<◌, ◌≤◌, Option, Some, None, refl, ap, ◌∙◌, arith, length, subst}
+use Rattle.chains.proofs.Common.{cases_lt, length-map, IsFirst, IsLast, IsPlace, behind, end_at, Table, link_of}
+use Rattle.chains.proofs.Common.{no_link, Stands, next_at, prev_at, rows_in, IsChained}
+use Rattle.std.proofs.lemmas.List.{get_or-take, length-take-le, take-map}
 use Rattle.chains.specs.Chains.{without_last as fewer}
-use Rattle.chains.specs.Places.{IsFirst, IsLast, IsPlace, behind, end_at}
-use Rattle.chains.specs.Tables.{Table, link_of, no_link, Stands, next_at, prev_at, without_last, rows_in, IsChained}
-use Rattle.chains.specs.declared.tables.Link.{Link}
-use Rattle.chains.proofs.Places.{by_cases, first_same, last_same}
+use Rattle.chains.specs.Tables.{without_last}
+use Rattle.chains.proofs.Places.{first_same, last_same}
 use Rattle.chains.proofs.Taking.{row_below, place_map}
 use Rattle.chains.proofs.Views.{owner_in, rows_are}
 
@@ -16,11 +16,7 @@ last_shorter : (P : ℕ → Type 0) (end less : ℕ) (prev : Option ℕ) → les
     → IsLast P end prev
     → IsLast P less prev
 last_shorter P end less None le below last = λ n low there. last n (omega (arith, low, le)) there
-last_shorter P end less (Some prev) le below last = record {
-  below = below prev last.there;
-  there = last.there;
-  last = λ n on low there. last.last n on (omega (arith, low, le)) there;
-}
+last_shorter P end less (Some prev) le below last = search rules
 
 module _ (t : Table) (some : 0 < length t.links) (apart : (link_of t (length t.links - 1)).owner ≡ None) where
   abbrev cut : Table
@@ -33,38 +29,28 @@ module _ (t : Table) (some : 0 < length t.links) (apart : (link_of t (length t.l
   link_same row low = get_or-take (length t.links - 1) t.links row no_link low
 
   below : (owner row : ℕ) → Stands t owner row → row < length t.links - 1
-  below owner row there =
-      let low : row < length t.links = row_below t owner row there in
-      by_cases (cases_lt row (length t.links - 1)) (λ less. less) (λ le.
-      let last : row ≡ length t.links - 1 = omega (arith, low, le) in
-      let none : None ≡ Some owner = sym apart ∙ ap (λ n. (link_of t n).owner) (sym last) ∙ there in cc)
+  below owner row there = search (rules, row_below, cases_lt)
 
   kept : (owner row : ℕ) → Stands t owner row → Stands cut owner row
   kept owner row there = ap owner_in (link_same row (below owner row there)) ∙ there
 
   still : (owner row : ℕ) → Stands cut owner row → Stands t owner row
-  still owner row there =
-      let low : row < length cut.links = row_below cut owner row there in
-      sym (ap owner_in (link_same row (omega (arith, low, long)))) ∙ there
+  still owner row there = grind (arith, common_steps, row_below, link_same, long)
 
   place_still : (owner : ℕ) (place : Option ℕ) → IsPlace (Stands cut owner) place → IsPlace (Stands t owner) place
   place_still owner place = place_map (Stands cut owner) (Stands t owner) place (still owner)
 
   next_same : (owner : ℕ) (place : Option ℕ) → IsPlace (Stands cut owner) place → next_at t owner place ≡ next_at cut owner place
   next_same owner None there = refl
-  next_same owner (Some row) there =
-      ap (λ (link : Link). link.next) (sym (link_same row (below owner row (still owner row there))))
+  next_same owner (Some row) there = grind (arith, common_steps, link_same, below, still)
 
   prev_same : (owner : ℕ) (place : Option ℕ) → IsPlace (Stands cut owner) place → prev_at t owner place ≡ prev_at cut owner place
   prev_same owner None there = refl
-  prev_same owner (Some row) there =
-      ap (λ (link : Link). link.prev) (sym (link_same row (below owner row (still owner row there))))
+  prev_same owner (Some row) there = grind (arith, common_steps, link_same, below, still)
 
   last_cut : (owner : ℕ) (place prev : Option ℕ) → IsLast (Stands t owner) (end_at (length t.links) place) prev
       → IsLast (Stands t owner) (end_at (length cut.links) place) prev
-  last_cut owner None prev last =
-      last_shorter (Stands t owner) (length t.links) (length cut.links) prev (omega (arith, long))
-      (λ row there. let low = below owner row there in omega (arith, low, long)) last
+  last_cut owner None prev last = search (rules, last_shorter, long, below)
   last_cut owner (Some row) prev last = last
 
   pub popped_chained : IsChained t → IsChained cut
@@ -82,8 +68,4 @@ module _ (t : Table) (some : 0 < length t.links) (apart : (link_of t (length t.l
   }
 
 pub rows_of_popped : (t : Table) → rows_in (without_last t) ≡ fewer (rows_in t)
-rows_of_popped t =
-    let same : length t.links - 1 ≡ length (map owner_in t.links) - 1 = ap (λ n. n - 1) (sym (length-map t.links owner_in)) in
-    rows_are (map owner_in (take (length t.links - 1) t.links)) (take (length (map owner_in t.links) - 1) (map owner_in t.links))
-    (length t.ends) (length t.ends)
-    (sym (take-map owner_in (length t.links - 1) t.links) ∙ ap (λ n. take n (map owner_in t.links)) same) refl
+rows_of_popped t = search (rules, length-map, rows_are, take-map)

@@ -4,3 +4,4 @@ pub mod Lists
 pub mod Numbers
 pub mod Refusals
 pub mod Sides
+mod Common

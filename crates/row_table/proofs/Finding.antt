@@ -1,17 +1,14 @@
 -- What is kept beside the slots, where a row comes, changes or leaves.
-use Rattle.std.proofs.Common.{◌≡◌, ℕ, suc, ◌+◌, ◌≤◌, List, [], ◌∷◌, ◌++◌, Option, Some, None, length, map, refl, sym, ap, ap₂, ◌∙◌, arith}
-use Rattle.std.proofs.Common.{subst, is_some, Result, Ok, Err, OnOk, slice_set, option_map}
-use Rattle.std.specs.List.{filter, remove}
-use Rattle.std.specs.Vec.{vec_capacity}
+use Rattle.std.proofs.lemmas.Grind.{common_steps}
+use Rattle.row_table.proofs.Common.{◌≡◌, ℕ, ◌+◌, ◌≤◌, List, [], ◌∷◌, ◌++◌, Option, Some, None, length, map, refl, sym}
+use Rattle.row_table.proofs.Common.{ap, ◌∙◌, arith, subst, is_some, slice_set, filter, vec_capacity, live, held}
+use Rattle.row_table.proofs.Common.{filled_from, sender_of, receiver_of, moment_of, Finds, Stands, Marked, Row, Parts}
+use Rattle.std.proofs.Common.{Result, Ok, Err, OnOk, option_map, rules}
+use Rattle.std.specs.List.{remove}
 use Rattle.std.proofs.lemmas.List.{map-set, map-append, length-map}
 use Rattle.std.proofs.Math.Seq.{map-set_same}
-use Rattle.chains.specs.Chains.{Versions, Rows}
 use Rattle.row_table.specs.Rows.{with_item}
-use Rattle.row_table.specs.Slots.{live, held, filled_from}
-use Rattle.row_table.specs.Index.{sender_of, receiver_of, moment_of, Finds, Found, Stands, Marked}
-use Rattle.row_table.specs.declared.row.Row.{Row}
 use Rattle.row_table.specs.declared.index.Index.{Index}
-use Rattle.row_table.specs.declared.parts.Parts.{Parts}
 use Rattle.row_table.proofs.Slots.{IsSlot, filled_append, filled_changed, filled_taken, some_same}
 
 -- owners are those of rows that are there
@@ -25,37 +22,17 @@ module _ {T : Type 0} (index new : Index) (slots : List (Option (Row T))) (found
   pub found_added : (row : Row T) → new.sent.now.stands ≡ index.sent.now.stands ++ Some row.sender ∷ []
       → new.received.now.stands ≡ index.received.now.stands ++ Some row.receiver ∷ []
       → new.moments ≡ index.moments ++ row.moment ∷ [] → Finds new (slots ++ Some row ∷ [])
-  found_added row sent received moments = record {
-    sent = sent ∙ ap (λ stands. stands ++ Some row.sender ∷ []) found.sent
-        ∙ sym (map-append sender_of slots (Some row ∷ []));
-    received = received ∙ ap (λ stands. stands ++ Some row.receiver ∷ []) found.received
-        ∙ sym (map-append receiver_of slots (Some row ∷ []));
-    moments = moments ∙ ap (λ moments. moments ++ row.moment ∷ []) found.moments
-        ∙ sym (map-append moment_of slots (Some row ∷ []));
-  }
+  found_added row sent received moments = search (rules, map-append)
 
   pub found_taken : (slot : ℕ) → new.sent.now.stands ≡ slice_set index.sent.now.stands slot None
       → new.received.now.stands ≡ slice_set index.received.now.stands slot None
       → new.moments ≡ slice_set index.moments slot None → Finds new (slice_set slots slot None)
-  found_taken slot sent received moments = record {
-    sent = sent ∙ ap (λ stands. slice_set stands slot None) found.sent ∙ sym (map-set sender_of slots slot None);
-    received = received ∙ ap (λ stands. slice_set stands slot None) found.received
-        ∙ sym (map-set receiver_of slots slot None);
-    moments = moments ∙ ap (λ moments. slice_set moments slot None) found.moments
-        ∙ sym (map-set moment_of slots slot None);
-  }
+  found_taken slot sent received moments = search (rules, map-set)
 
   pub found_changed : (slot : ℕ) (other : Row T) → sender_of (held slots slot) ≡ Some other.sender
       → receiver_of (held slots slot) ≡ Some other.receiver → new.sent ≡ index.sent → new.received ≡ index.received
       → new.moments ≡ slice_set index.moments slot other.moment → Finds new (slice_set slots slot (Some other))
-  found_changed slot other sender receiver sent received moments = record {
-    sent = ap (λ (chains : Versions). chains.now.stands) sent ∙ found.sent
-        ∙ sym (map-set_same sender_of slots slot (Some other) None (sym sender));
-    received = ap (λ (chains : Versions). chains.now.stands) received ∙ found.received
-        ∙ sym (map-set_same receiver_of slots slot (Some other) None (sym receiver));
-    moments = moments ∙ ap (λ moments. slice_set moments slot other.moment) found.moments
-        ∙ sym (map-set moment_of slots slot (Some other));
-  }
+  found_changed slot other sender receiver sent received moments = search (rules, map-set_same, map-set)
 
   -- without gaps
   pub found_closed : new.sent.now.stands ≡ filter is_some index.sent.now.stands
@@ -88,11 +65,10 @@ module _ {T : Type 0} where
       → new.index.sent.now.stands ≡ slice_set parts.index.sent.now.stands slot None
       → new.index.received.now.stands ≡ slice_set parts.index.received.now.stands slot None
       → new.index.moments ≡ slice_set parts.index.moments slot None → Stands new
-  stands_taken parts new at slot stands is slots filled sent received moments = record {
-    found = subst (Finds new.index) (sym slots) (found_taken parts.index new.index parts.slots.items stands.found slot sent received moments);
-    filled = filled ∙ ap (λ filled. remove filled at) stands.filled ∙ sym (filled_taken parts.slots.items 0 at slot is)
-        ∙ ap (λ (slots : List (Option (Row T))). filled_from slots 0) (sym slots);
-  }
+  stands_taken parts new at slot stands is slots filled sent received moments =
+      grind (arith, common_steps,
+      found_taken parts.index new.index parts.slots.items stands.found slot sent received moments,
+      filled_taken parts.slots.items 0)
 
   pub stands_changed : (parts new : Parts T) (at slot : ℕ) (other : Row T) → Stands parts
       → IsSlot parts.slots.items at slot
@@ -101,12 +77,11 @@ module _ {T : Type 0} where
       → new.slots.items ≡ slice_set parts.slots.items slot (Some other) → new.filled.items ≡ parts.filled.items
       → new.index.sent ≡ parts.index.sent → new.index.received ≡ parts.index.received
       → new.index.moments ≡ slice_set parts.index.moments slot other.moment → Stands new
-  stands_changed parts new at slot other stands is sender receiver slots filled sent received moments = record {
-    found = subst (Finds new.index) (sym slots)
-        (found_changed parts.index new.index parts.slots.items stands.found slot other sender receiver sent received moments);
-    filled = filled ∙ stands.filled ∙ sym (filled_changed parts.slots.items 0 at slot other is)
-        ∙ ap (λ (slots : List (Option (Row T))). filled_from slots 0) (sym slots);
-  }
+  stands_changed parts new at slot other stands is sender receiver slots filled sent received moments =
+      grind (arith, common_steps,
+      found_changed parts.index new.index parts.slots.items stands.found slot other sender receiver sent received
+      moments,
+      filled_changed parts.slots.items 0)
 
   -- where no slot is empty
   pub stands_whole : (new : Parts T) (rows : List (Row T)) → new.slots.items ≡ map Some rows
@@ -119,31 +94,14 @@ module _ {T : Type 0} where
       → new.index.sent.before ≡ parts.index.sent.now
       → new.index.received.before ≡ parts.index.received.now → new.index.moments ≡ parts.index.moments
       → length (live parts.slots.items) ≤ vec_capacity new.filled → Marked new
-  marked_now parts new stands before sent received moments room = record {
-    found = subst (Found new.index) (sym before) (record {
-      sent = ap (λ (rows : Rows). rows.stands) sent ∙ stands.found.sent;
-      received = ap (λ (rows : Rows). rows.stands) received ∙ stands.found.received;
-    });
-    moments = subst (λ (slots : List (Option (Row T))). length slots ≤ length new.index.moments) (sym before)
-        (let long = ap length (moments ∙ stands.found.moments) ∙ length-map parts.slots.items moment_of in
-        omega (arith, long));
-    room = subst (λ (slots : List (Option (Row T))). length (live slots) ≤ vec_capacity new.filled) (sym before) room;
-  }
+  marked_now parts new stands before sent received moments room = search (rules, length-map)
 
 -- the row with its owners is the row as it was but for its item and its moment
 pub with_owners : {T : Type 0} (held : Option (Row T)) (row : Row T) (item : T) (sender receiver : ℕ)
     (moment : Option ℕ)
     → held ≡ Some row → sender_of held ≡ Some sender → receiver_of held ≡ Some receiver
     → record { item = item; sender = sender; receiver = receiver; moment = moment } ≡ with_item item moment row
-with_owners {T} held row item sender receiver moment e sent received =
-    let owners : ℕ → ℕ → Row T = λ sender receiver. record {
-      item = item;
-      sender = sender;
-      receiver = receiver;
-      moment = moment;
-    } in
-    ap₂ owners (some_same sender row.sender (sym sent ∙ ap sender_of e))
-    (some_same receiver row.receiver (sym received ∙ ap receiver_of e))
+with_owners {T} held row item sender receiver moment e sent received = search (rules, some_same)
 
 pub on_ok : {A E P : Type 0} (r : Result A E) → P → OnOk r P
 on_ok (Ok a) p = p

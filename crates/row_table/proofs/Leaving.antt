@@ -1,13 +1,14 @@
 -- The slots whose rows left since the mark, and are kept until the next one.
-use Rattle.std.proofs.Common.{◌≡◌, ◌≢◌, ℕ, zero, suc, ◌<◌, ◌-◌, Bool, true, false, List, [], ◌∷◌, ◌++◌, Option, Some, None, All, IsSome}
-use Rattle.std.proofs.Common.{length, take, refl, sym, subst, ap, ◌∙◌, arith, slice_get, slice_set, slice_index_or}
+use Rattle.std.proofs.lemmas.Grind.{common_steps}
+use Rattle.row_table.proofs.Common.{◌≡◌, ℕ, zero, suc, ◌<◌, ◌-◌, Bool, true, false, List, [], ◌∷◌, ◌++◌, Option, Some}
+use Rattle.row_table.proofs.Common.{None, All, IsSome, length, take, refl, sym, ap, ◌∙◌, arith, slice_get, slice_set}
+use Rattle.row_table.proofs.Common.{get_or_from_slice_get, slice_get_within, held, emptied, Row}
+use Rattle.std.proofs.Common.{◌≢◌, slice_index_or, rules}
 use Rattle.std.proofs.lemmas.List.{set_comm, length-set, length-append, set-append_left, get_or-set_other, get_or-take}
-use Rattle.std.proofs.lemmas.Option.{get_or_from_slice_get, slice_get_within}
 use Rattle.std.proofs.Math.ListN.{get_or-append}
 use Rattle.std.proofs.lemmas.List.Elements.{All-push}
 use Rattle.undo_list.specs.Versions.{Versions}
-use Rattle.row_table.specs.Slots.{held, emptied, IsLeft}
-use Rattle.row_table.specs.declared.row.Row.{Row}
+use Rattle.row_table.specs.Slots.{IsLeft}
 use Rattle.row_table.proofs.Slots.{held_within}
 
 pub flag_there : (flags : List Bool) (i : ℕ) → slice_index_or flags i true ≡ false → slice_get flags i ≡ Some false
@@ -37,13 +38,11 @@ module _ {T : Type 0} where
 
   held_first : (slots : List (Option (Row T))) (first slot : ℕ) → IsSome (held (slice_set slots first None) slot)
       → held (slice_set slots first None) slot ≡ held slots slot
-  held_first slots first slot there =
-      get_or-set_other slots first slot None None (λ e. another slots first slot there (sym e))
+  held_first slots first slot there = search (rules, get_or-set_other, another)
 
   there_before : (slots : List (Option (Row T))) (first slot : ℕ) → IsSome (held (slice_set slots first None) slot)
       → IsSome (held slots slot)
-  there_before slots first slot there =
-      subst (λ (one : Option (Row T)). IsSome one) (held_first slots first slot there) there
+  there_before slots first slot there = search (rules, held_first)
 
   -- and it holds the row that it held
   pub held_still : (slots : List (Option (Row T))) (left : List ℕ) (slot : ℕ) → IsSome (held (emptied slots left) slot)
@@ -62,10 +61,7 @@ module _ {T : Type 0} where
 
   pub emptied_within : (slots : List (Option (Row T))) (left : List ℕ) (slot : ℕ) → IsSome (held (emptied slots left) slot)
       → slot < length slots
-  emptied_within slots left slot there =
-      let low = held_within (emptied slots left) slot there in
-      let long = length_emptied slots left in
-      omega (arith, low, long)
+  emptied_within slots left slot there = search (rules, held_within, length_emptied)
 
   -- what it holds changes
   pub emptied_set : (slots : List (Option (Row T))) (left : List ℕ) (slot : ℕ) (one : Option (Row T))
@@ -78,8 +74,7 @@ module _ {T : Type 0} where
 
   pub emptied_taken : (slots : List (Option (Row T))) (left new : List ℕ) (slot : ℕ) → IsSome (held (emptied slots left) slot)
       → new ≡ left ++ slot ∷ [] → emptied slots new ≡ slice_set (emptied slots left) slot None
-  emptied_taken slots left new slot there is =
-      ap (emptied slots) is ∙ emptied_more slots left slot ∙ emptied_set slots left slot None there
+  emptied_taken slots left new slot there is = search (rules, emptied_more, emptied_set)
 
   -- more slots
   pub emptied_append : (slots more : List (Option (Row T))) (left : List ℕ) → All (λ slot. slot < length slots) left
@@ -113,53 +108,18 @@ module _ {T : Type 0} (list : Versions (Option (Row T))) (left : List ℕ) (are 
   pub left_pushed : (new : Versions (Option (Row T))) (one : Option (Row T)) → new.items ≡ list.items ++ one ∷ []
       → new.before ≡ list.before → new.saved ≡ list.saved ++ true ∷ [] → All (IsLeft new) left
   left_pushed new one items before saved k d low =
-      let was = are k d low in
-      let slot = slice_index_or left k d in
-      let long = ap length items ∙ length-append list.items (one ∷ []) in
-      let flagged = slice_get_within list.saved slot false (flag_there list.saved slot was.unsaved) in
-      record {
-        before = let same = ap length before in let below = was.before in omega (arith, same, below);
-        within = let within = was.within in omega (arith, long, within);
-        unsaved = ap (λ flags. slice_index_or flags slot true) saved ∙ get_or-append list.saved (true ∷ []) true slot flagged
-            ∙ was.unsaved;
-      }
+      grind (arith, common_steps, length-append, slice_get_within, flag_there, get_or-append)
 
   pub left_popped : (new : Versions (Option (Row T))) (one : Option (Row T)) → length list.before < length (emptied list.items left)
       → list.items ≡ new.items ++ one ∷ [] → new.before ≡ list.before
       → new.saved ≡ take (length list.items - 1) list.saved → All (IsLeft new) left
-  left_popped new one after items before saved k d low =
-      let was = are k d low in
-      let slot = slice_index_or left k d in
-      let long = ap length items ∙ length-append new.items (one ∷ []) in
-      let below = was.before in
-      let all = length_emptied list.items left in
-      record {
-        before = let same = ap length before in omega (arith, same, below);
-        within = omega (arith, after, all, long, below);
-        unsaved = ap (λ flags. slice_index_or flags slot true) saved
-            ∙ get_or-take (length list.items - 1) list.saved slot true (omega (arith, after, all, below)) ∙ was.unsaved;
-      }
+  left_popped new one after items before saved k d low = search (rules, length-append, length_emptied, get_or-take)
 
   pub left_changed : (new : Versions (Option (Row T))) (slot : ℕ) (one : Option (Row T)) → IsSome (held (emptied list.items left) slot)
       → new.items ≡ slice_set list.items slot one → new.before ≡ list.before → new.saved ≡ slice_set list.saved slot true
       → All (IsLeft new) left
-  left_changed new slot one there items before saved k d low =
-      let was = are k d low in
-      let other = slice_index_or left k d in
-      let long = ap length items ∙ length-set list.items slot one in
-      record {
-        before = let same = ap length before in let below = was.before in omega (arith, same, below);
-        within = let within = was.within in omega (arith, long, within);
-        unsaved = ap (λ flags. slice_index_or flags other true) saved
-            ∙ get_or-set_other list.saved slot other true true (others list.items left slot there k d low) ∙ was.unsaved;
-      }
+  left_changed new slot one there items before saved k d low = search (rules, length-set, get_or-set_other, others)
 
   pub left_more : (new : List ℕ) (slot : ℕ) → new ≡ left ++ slot ∷ [] → slot < length list.before → slot < length list.items
       → slice_get list.saved slot ≡ Some false → All (IsLeft list) new
-  left_more new slot is before within unsaved =
-      subst (All (IsLeft list)) (sym is)
-      (All-push (IsLeft list) left slot are (record {
-        before = before;
-        within = within;
-        unsaved = get_or_from_slice_get list.saved slot false true unsaved;
-      }))
+  left_more new slot is before within unsaved = grind (arith, common_steps, All-push, get_or_from_slice_get)

@@ -3,3 +3,4 @@ pub mod Leaving
 pub mod Nexts
 pub mod Popping
 pub mod Slots
+mod Common

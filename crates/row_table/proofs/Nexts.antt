@@ -1,17 +1,17 @@
 -- The next row that passes a test, by places and by slots.
-use Rattle.std.proofs.Common.{◌≡◌, ℕ, zero, suc, ◌<◌, ◌≤◌, ◌==◌, Bool, true, false, List, [], ◌∷◌, Option, Some, None, length, map, refl, sym, ap, ◌∙◌, arith}
-use Rattle.std.proofs.Common.{◌||◌, IfSome, IfNone, slice_get, slice_index_or, option_map, eq-eqb}
+use Rattle.row_table.proofs.Common.{◌≡◌, ℕ, zero, suc, ◌<◌, ◌≤◌, Bool, true, false, List, [], ◌∷◌, Option, Some, None}
+use Rattle.row_table.proofs.Common.{length, map, refl, sym, ap, ◌∙◌, arith, IfSome, IfNone, slice_get, cases_lt}
+use Rattle.row_table.proofs.Common.{slice_get_within, by_cases, IsNext, is_due_by, live, held, filled_from, IsPlaceOf}
+use Rattle.row_table.proofs.Common.{moment_of, Row}
+use Rattle.std.proofs.Common.{◌==◌, ◌||◌, slice_index_or, option_map, eq-eqb, rules}
 use Rattle.std.specs.List.{list_any}
-use Rattle.std.proofs.lemmas.Bool.{cases_Bool, cases_lt, eqb-true, le-leb, leb-true}
-use Rattle.std.proofs.lemmas.Option.{slice_get_within}
+use Rattle.std.proofs.lemmas.Bool.{cases_Bool, eqb-true, le-leb, leb-true}
 use Rattle.std.proofs.Math.ListN.{get_or-map}
 use Rattle.chains.specs.Places.{IsFirst}
-use Rattle.chains.proofs.Places.{by_cases, first_same}
+use Rattle.chains.proofs.Places.{first_same}
 use Rattle.least_moment.specs.Moments.{HasCome, IsDue, moment_at, IsNextDue, NoneDue, IsLeast}
-use Rattle.row_table.specs.Rows.{passes, IsNext, has_come, is_due_by}
-use Rattle.row_table.specs.Slots.{live, held, filled_from, IsNextSlot, IsPlaceOf}
-use Rattle.row_table.specs.Index.{moment_of}
-use Rattle.row_table.specs.declared.row.Row.{Row}
+use Rattle.row_table.specs.Rows.{passes, has_come}
+use Rattle.row_table.specs.Slots.{IsNextSlot}
 use Rattle.row_table.proofs.Slots.{IsSlot, slot_at, held_at, slot_of_row, slots_below, places_below, some_same}
 
 or_true : (a b : Bool) → b ≡ true → (a || b) ≡ true
@@ -41,46 +41,24 @@ module _ {T : Type 0} (slots : List (Option (Row T))) where
   from_first = record { slot = λ at slot is on. omega arith; place = λ at slot is on. omega arith }
 
   pub from_behind : (from start : ℕ) → IsSlot slots from start → AreFrom slots (suc from) (suc start)
-  from_behind from start is = record {
-    slot = λ at slot there on. slots_below slots from start at slot is there on;
-    place = λ at slot there on. places_below slots from start at slot is there on;
-  }
+  from_behind from start is = search (rules, slots_below, places_below)
 
   pub from_there : (from start : ℕ) → IsSlot slots from start → AreFrom slots from start
-  from_there from start is = record {
-    slot = λ at slot there on. by_cases (cases_lt slot start)
-        (λ less. let low = places_below slots at slot from start there is less in absurd (omega (arith, on, low)))
-        (λ le. le);
-    place = λ at slot there on. by_cases (cases_lt at from)
-        (λ less. let low = slots_below slots at slot from start there is less in absurd (omega (arith, on, low)))
-        (λ le. le);
-  }
+  from_there from start is = search (rules, cases_lt, places_below, slots_below)
 
   module _ (test : Row T → Bool) where
     slot_of_passed : (at : ℕ) → passes test (slice_get (live slots) at) ≡ true
         → (slot : ℕ) × IsSlot slots at slot × (passes test (held slots slot) ≡ true)
-    slot_of_passed at e =
-        let found = the_row test (slice_get (live slots) at) e in
-        let slot = slot_of_row slots at found.0 found.1 in
-        (slot.0, slot.1, ap (passes test) (sym (held_at slots at slot.0 slot.1)) ∙ e)
+    slot_of_passed at e = search (rules, the_row, slot_of_row, held_at)
 
     next_none : (from start : ℕ) → AreFrom slots from start → IsNextSlot test slots start None
         → IsNext test (live slots) from None
-    next_none from start are none at on e =
-        let found = slot_of_passed at e in
-        none found.0 (are.slot at found.0 found.1 on) found.2
+    next_none from start are none at on e = search (rules, slot_of_passed)
 
     next_some : (from start at slot : ℕ) → AreFrom slots from start → IsSlot slots at slot
         → IsNextSlot test slots start (Some slot)
         → IsNext test (live slots) from (Some at)
-    next_some from start at slot are is next = record {
-      on = are.place at slot is next.on;
-      there = ap (passes test) (held_at slots at slot is) ∙ next.there;
-      first = λ n on low e.
-          let found = slot_of_passed n e in
-          next.first found.0 (are.slot n found.0 found.1 on)
-          (slots_below slots n found.0 at slot found.1 is low) found.2;
-    }
+    next_some from start at slot are is next = search (rules, held_at, slot_of_passed, slots_below)
 
     -- the place of the next slot is the next place
     pub next_place : (filled : List ℕ) (from start : ℕ) (slot at : Option ℕ) → filled ≡ filled_from slots 0
@@ -89,17 +67,14 @@ module _ {T : Type 0} (slots : List (Option (Row T))) where
     next_place filled from start None None e are is next = next_none from start are next
     next_place filled from start None (Some at) e are is next = absurd is
     next_place filled from start (Some slot) None e are is next = absurd is
-    next_place filled from start (Some slot) (Some at) e are is next =
-        next_some from start at slot are (slot_at slots filled at slot e is) next
+    next_place filled from start (Some slot) (Some at) e are is next = search (rules, next_some, slot_at)
 
 -- it is one of the places
 pub next_within : {T : Type 0} (test : Row T → Bool) (rows : List (Row T)) (from : ℕ) (result : Option ℕ)
     → IsNext test rows from result
     → IfSome result (λ at. at < length rows)
 next_within test rows from None next = tt
-next_within test rows from (Some at) next =
-    let found = the_row test (slice_get rows at) next.there in
-    slice_get_within rows at found.0 found.1
+next_within test rows from (Some at) next = search (rules, the_row, slice_get_within)
 
 -- ---- an owner's rows
 
@@ -125,9 +100,7 @@ module _ {T : Type 0} (owner_in : Row T → ℕ) (slots : List (Option (Row T)))
   pub next_of_owner : (from : ℕ) (result : Option ℕ)
       → IsFirst (λ slot. slice_index_or stands slot None ≡ Some owner) from result
       → IsNextSlot (λ row. owner_in row == owner) slots from result
-  next_of_owner = first_same (λ slot. slice_index_or stands slot None ≡ Some owner)
-      (λ slot. passes (λ row. owner_in row == owner) (held slots slot) ≡ true)
-      (λ slot there. owned (held slots slot) (sym (stand_at slot) ∙ there)) stands_if
+  next_of_owner = search (rules, first_same, owned, stand_at, stands_if)
 
 -- ---- moments
 
@@ -160,11 +133,7 @@ module _ {T : Type 0} (slots : List (Option (Row T))) (moments : List (Option �
   pub next_due_is : (time from : ℕ) (result : Option ℕ) → IfSome result (IsNextDue moments time from)
       → IfNone result (NoneDue moments time from) → IsNextSlot (is_due_by time) slots from result
   next_due_is time from None some none = λ n on e. none n on (is_due time n e)
-  next_due_is time from (Some at) some none = record {
-    on = some.on;
-    there = due_if time at some.due;
-    first = λ n on low e. some.first n on low (is_due time n e);
-  }
+  next_due_is time from (Some at) some none = search (rules, due_if, is_due)
 
   any_live : (test : Row T → Bool) (slots : List (Option (Row T))) (slot : ℕ) → passes test (held slots slot) ≡ true
       → list_any test (live slots) ≡ true
@@ -172,8 +141,7 @@ module _ {T : Type 0} (slots : List (Option (Row T))) (moments : List (Option �
   any_live test (None ∷ slots) zero e = cc
   any_live test (None ∷ slots) (suc slot) e = any_live test slots slot e
   any_live test (Some row ∷ slots) zero e = ap (λ b. b || list_any test (live slots)) e
-  any_live test (Some row ∷ slots) (suc slot) e = or_true (test row) (list_any test (live slots))
-      (any_live test slots slot e)
+  any_live test (Some row ∷ slots) (suc slot) e = search (rules, or_true, any_live test slots slot e)
 
   slot_of_any : (test : Row T → Bool) (slots : List (Option (Row T))) → list_any test (live slots) ≡ true
       → (slot : ℕ) × (passes test (held slots slot) ≡ true)
@@ -186,8 +154,4 @@ module _ {T : Type 0} (slots : List (Option (Row T))) (moments : List (Option �
   -- the least moment has come where one of those that are there has
   pub least_of_live : (least : Option ℕ) → IsLeast moments least → (time : ℕ)
       → has_come time least ≡ list_any (is_due_by time) (live slots)
-  least_of_live least is_least time = true_alike (has_come time least) (list_any (is_due_by time) (live slots))
-      (λ e. let found = (is_least time).1 (come_if time least e) in
-      any_live (is_due_by time) slots found.0 (due_if time found.0 found.1))
-      (λ e. let found = slot_of_any (is_due_by time) slots e in
-      comes time least ((is_least time).0 (found.0, is_due time found.0 found.1)))
+  least_of_live least is_least time = search (rules, true_alike, come_if, any_live, due_if, slot_of_any, comes, is_due)

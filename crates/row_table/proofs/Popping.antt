@@ -1,17 +1,17 @@
 -- What is kept beside the slots, once the last slot is empty and gone.
-use Rattle.std.proofs.Common.{◌≡◌, ℕ, suc, ◌+◌, ◌-◌, List, [], ◌∷◌, ◌++◌, Option, Some, None, false, IsSome, is_some}
-use Rattle.std.proofs.Common.{length, map, take, refl, sym, subst, ap, ◌∙◌, arith}
+use Rattle.std.proofs.lemmas.Grind.{common_steps}
+use Rattle.std.proofs.Common.{rules}
+use Rattle.row_table.proofs.Common.{◌≡◌, ℕ, suc, ◌+◌, ◌-◌, List, [], ◌∷◌, ◌++◌, Option, Some, None, false, IsSome}
+use Rattle.row_table.proofs.Common.{is_some, length, take, refl, subst, ap, ◌∙◌, arith, live, held, filled_from}
+use Rattle.row_table.proofs.Common.{sender_of, receiver_of, Finds, Stands, Row, Parts}
 use Rattle.std.specs.Option.{option_to_list}
-use Rattle.std.specs.Prelude.{slice_set, slice_index_or}
-use Rattle.std.proofs.lemmas.List.{set-get_or, take-set-le, take_all, take-map, get_or-set_same, append-nil, length-append}
+use Rattle.std.specs.Prelude.{slice_set}
+use Rattle.std.proofs.lemmas.List.{set-get_or, take-set-le, take_all, take-map, get_or-set_same, append-nil}
+use Rattle.std.proofs.lemmas.List.{length-append}
 use Rattle.std.proofs.Math.Seq.{take-append_seam}
 use Rattle.std.proofs.Math.ListN.{get_or-map}
 use Rattle.chains.specs.Chains.{owner_of}
-use Rattle.row_table.specs.Slots.{live, held, filled_from}
-use Rattle.row_table.specs.Index.{sender_of, receiver_of, moment_of, Finds, Stands}
-use Rattle.row_table.specs.declared.row.Row.{Row}
 use Rattle.row_table.specs.declared.index.Index.{Index}
-use Rattle.row_table.specs.declared.parts.Parts.{Parts}
 use Rattle.row_table.proofs.Slots.{filled_more, live_append}
 
 pub none_there : {A : Type 0} (o : Option A) → is_some o ≡ false → o ≡ None
@@ -22,15 +22,12 @@ module _ {T : Type 0} where
   -- an empty slot is emptied
   pub found_empty : (index : Index) (slots : List (Option (Row T))) (slot : ℕ) → Finds index slots → held slots slot ≡ None
       → Finds index (slice_set slots slot None)
-  found_empty index slots slot found none =
-      subst (Finds index) (sym (ap (slice_set slots slot) (sym none) ∙ set-get_or slots slot None)) found
+  found_empty index slots slot found none = search (rules, set-get_or)
 
   -- the last slot is listed last, if it holds a row
   pub filled_last : (slots : List (Option (Row T))) (slot : ℕ) (one : Option (Row T)) → length slots ≡ suc slot
       → held slots slot ≡ one → filled_from slots 0 ≡ filled_from (take slot slots) 0 ++ filled_from (one ∷ []) slot
-  filled_last slots slot one long is =
-      ap (λ (slots : List (Option (Row T))). filled_from slots 0) (sym (take_all (slot + 1) slots (omega (arith, long))))
-      ∙ filled_more slots slot one (omega (arith, long)) is
+  filled_last slots slot one long is = search (rules, take_all, filled_more)
 
   pub filled_none : (slots : List (Option (Row T))) (slot : ℕ) → length slots ≡ suc slot → held slots slot ≡ None
       → filled_from slots 0 ≡ filled_from (take slot slots) 0
@@ -56,30 +53,19 @@ module _ {T : Type 0} where
   pub sent_gone : (index : Index) (slots : List (Option (Row T))) (slot : ℕ) → Finds index (slice_set slots slot None)
       → length slots ≡ suc slot → owner_of index.sent.now slot ≡ None
   sent_gone index slots slot found long =
-      ap (λ (stands : List (Option ℕ)). slice_index_or stands slot None) found.sent
-      ∙ get_or-map sender_of (slice_set slots slot None) slot None
-      ∙ ap sender_of (get_or-set_same slots slot None None (omega (arith, long)))
+      grind (arith, common_steps, get_or-map sender_of (slice_set slots slot None) slot None, get_or-set_same)
 
   pub received_gone : (index : Index) (slots : List (Option (Row T))) (slot : ℕ) → Finds index (slice_set slots slot None)
       → length slots ≡ suc slot → owner_of index.received.now slot ≡ None
   received_gone index slots slot found long =
-      ap (λ (stands : List (Option ℕ)). slice_index_or stands slot None) found.received
-      ∙ get_or-map receiver_of (slice_set slots slot None) slot None
-      ∙ ap receiver_of (get_or-set_same slots slot None None (omega (arith, long)))
+      grind (arith, common_steps, get_or-map receiver_of (slice_set slots slot None) slot None, get_or-set_same)
 
   -- without the emptied slot
   pub found_popped : (index new : Index) (slots : List (Option (Row T))) (slot : ℕ) → Finds index (slice_set slots slot None)
       → new.sent.now.stands ≡ take slot index.sent.now.stands
       → new.received.now.stands ≡ take slot index.received.now.stands
       → new.moments ≡ take slot index.moments → Finds new (take slot slots)
-  found_popped index new slots slot found sent received moments =
-      let empty : List (Option (Row T)) = slice_set slots slot None in
-      let same : take slot empty ≡ take slot slots = take-set-le slot slots slot None (omega arith) in
-      record {
-        sent = sent ∙ ap (take slot) found.sent ∙ take-map sender_of slot empty ∙ ap (map sender_of) same;
-        received = received ∙ ap (take slot) found.received ∙ take-map receiver_of slot empty ∙ ap (map receiver_of) same;
-        moments = moments ∙ ap (take slot) found.moments ∙ take-map moment_of slot empty ∙ ap (map moment_of) same;
-      }
+  found_popped index new slots slot found sent received moments = search (rules, take-set-le, take-map)
 
   pub live_last : (slots new : List (Option (Row T))) (one : Option (Row T)) → slots ≡ new ++ one ∷ []
       → live slots ≡ live new ++ live (one ∷ [])

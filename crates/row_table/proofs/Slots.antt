@@ -1,16 +1,16 @@
 -- The slots that hold a row, where a row comes, changes or leaves.
-use Rattle.std.proofs.Common.{◌≡◌, ℕ, zero, suc, ◌+◌, ◌<◌, ◌≤◌, List, [], ◌∷◌, ◌++◌, Option, Some, None, length, map, take, refl, sym, subst, ap, ◌∙◌, arith}
-use Rattle.std.proofs.Common.{slice_get, slice_set, get_or, IsSome, is_some, IfSome, IfNone, add-one, length-take-le}
-use Rattle.std.specs.List.{filter, remove, All, AllPairs}
-use Rattle.std.specs.Vec.{vec_capacity, vec_len}
+use Rattle.std.proofs.lemmas.Grind.{common_steps}
+use Rattle.row_table.proofs.Common.{◌≡◌, ℕ, zero, suc, ◌+◌, ◌<◌, ◌≤◌, List, [], ◌∷◌, ◌++◌, Option, Some, None, length}
+use Rattle.row_table.proofs.Common.{map, take, refl, sym, subst, ap, ◌∙◌, arith, slice_get, slice_set, IsSome, is_some}
+use Rattle.row_table.proofs.Common.{IfSome, IfNone, filter, vec_capacity, get_or_from_slice_get, slice_get_within}
+use Rattle.row_table.proofs.Common.{cases_lt, live, held, filled_from, IsPlaceOf, Row}
+use Rattle.std.proofs.Common.{get_or, add-one, length-take-le, rules}
+use Rattle.std.specs.List.{remove, All, AllPairs}
+use Rattle.std.specs.Vec.{vec_len}
 use Rattle.std.specs.declared.vec.Vec.{Vec}
-use Rattle.std.proofs.lemmas.Option.{get_or_from_slice_get, slice_get-get_or, slice_get_read, slice_get_within}
+use Rattle.std.proofs.lemmas.Option.{slice_get-get_or, slice_get_read}
 use Rattle.std.proofs.Math.Seq.{take-suc}
 use Rattle.std.proofs.lemmas.List.Kept.{AllPairs-cons}
-use Rattle.std.proofs.lemmas.Bool.{cases_lt}
-use Rattle.chains.proofs.Places.{by_cases}
-use Rattle.row_table.specs.Slots.{live, held, filled_from, IsPlaceOf}
-use Rattle.row_table.specs.declared.row.Row.{Row}
 
 pub some_same : (a b : ℕ) → Some a ≡ Some b → a ≡ b
 some_same a b e = cc
@@ -36,13 +36,11 @@ module _ {T : Type 0} where
       → slice_get (filled_from slots from) at ≡ Some (from + slot)
   slot_listed [] from at slot is = absurd is
   slot_listed (None ∷ slots) from at zero is = absurd is
-  slot_listed (None ∷ slots) from at (suc slot) is =
-      let e : suc from + slot ≡ from + suc slot = omega arith in slot_listed slots (suc from) at slot is ∙ ap Some e
+  slot_listed (None ∷ slots) from at (suc slot) is = search (rules, slot_listed slots (suc from))
   slot_listed (Some row ∷ slots) from zero zero is = let e : from ≡ from + zero = omega arith in ap Some e
   slot_listed (Some row ∷ slots) from zero (suc slot) is = absurd is
   slot_listed (Some row ∷ slots) from (suc at) zero is = absurd is
-  slot_listed (Some row ∷ slots) from (suc at) (suc slot) is =
-      let e : suc from + slot ≡ from + suc slot = omega arith in slot_listed slots (suc from) at slot is ∙ ap Some e
+  slot_listed (Some row ∷ slots) from (suc at) (suc slot) is = search (rules, slot_listed slots (suc from))
 
   pub listed_slot : (slots : List (Option (Row T))) (from at listed : ℕ)
       → slice_get (filled_from slots from) at ≡ Some listed
@@ -59,10 +57,7 @@ module _ {T : Type 0} where
 
   pub slot_at : (slots : List (Option (Row T))) (filled : List ℕ) (at slot : ℕ) → filled ≡ filled_from slots 0
       → slice_get filled at ≡ Some slot → IsSlot slots at slot
-  slot_at slots filled at slot e listed =
-      let found = listed_slot slots 0 at slot (ap (λ filled. slice_get filled at) (sym e) ∙ listed) in
-      let same : found.0 ≡ slot = (let e = found.1 in omega (arith, e)) in
-      subst (IsSlot slots at) same found.2
+  slot_at slots filled at slot e listed = search (rules, listed_slot)
 
   -- what it holds is the row at that place
   pub held_at : (slots : List (Option (Row T))) (at slot : ℕ) → IsSlot slots at slot
@@ -109,8 +104,7 @@ module _ {T : Type 0} where
   live_changed (Some row ∷ slots) zero zero new is = refl
   live_changed (Some row ∷ slots) zero (suc slot) new is = absurd is
   live_changed (Some row ∷ slots) (suc at) zero new is = absurd is
-  live_changed (Some row ∷ slots) (suc at) (suc slot) new is =
-      ap (λ rows. row ∷ rows) (live_changed slots at slot new is)
+  live_changed (Some row ∷ slots) (suc at) (suc slot) new is = search (rules, live_changed slots)
 
   pub filled_changed : (slots : List (Option (Row T))) (from at slot : ℕ) (new : Row T) → IsSlot slots at slot
       → filled_from (slice_set slots slot (Some new)) from ≡ filled_from slots from
@@ -120,8 +114,7 @@ module _ {T : Type 0} where
   filled_changed (Some row ∷ slots) from zero zero new is = refl
   filled_changed (Some row ∷ slots) from zero (suc slot) new is = absurd is
   filled_changed (Some row ∷ slots) from (suc at) zero new is = absurd is
-  filled_changed (Some row ∷ slots) from (suc at) (suc slot) new is =
-      ap (λ filled. from ∷ filled) (filled_changed slots (suc from) at slot new is)
+  filled_changed (Some row ∷ slots) from (suc at) (suc slot) new is = search (rules, filled_changed slots (suc from))
 
   pub live_taken : (slots : List (Option (Row T))) (at slot : ℕ) → IsSlot slots at slot
       → live (slice_set slots slot None) ≡ remove (live slots) at
@@ -141,8 +134,7 @@ module _ {T : Type 0} where
   filled_taken (Some row ∷ slots) from zero zero is = refl
   filled_taken (Some row ∷ slots) from zero (suc slot) is = absurd is
   filled_taken (Some row ∷ slots) from (suc at) zero is = absurd is
-  filled_taken (Some row ∷ slots) from (suc at) (suc slot) is =
-      ap (λ filled. from ∷ filled) (filled_taken slots (suc from) at slot is)
+  filled_taken (Some row ∷ slots) from (suc at) (suc slot) is = search (rules, filled_taken slots (suc from))
 
   -- more slots
   pub live_append : (slots more : List (Option (Row T))) → live (slots ++ more) ≡ live slots ++ live more
@@ -203,18 +195,13 @@ module _ {T : Type 0} where
 
   -- they are listed in ascending order
   listed_past : (slots : List (Option (Row T))) (from : ℕ) → All (λ slot. from < slot) (filled_from slots (suc from))
-  listed_past slots from k d low =
-      let found = listed_slot slots (suc from) k _ (slice_get-get_or (filled_from slots (suc from)) k d low) in
-      let e = found.1 in
-      omega (arith, e)
+  listed_past slots from k d low = search (rules, listed_slot, slice_get-get_or)
 
   pub ascends : (slots : List (Option (Row T))) (from : ℕ)
       → AllPairs (λ one other. one < other) (filled_from slots from)
   ascends [] from = λ i j d less low. absurd (omega (arith, low))
   ascends (None ∷ slots) from = ascends slots (suc from)
-  ascends (Some row ∷ slots) from =
-      AllPairs-cons (λ one other. one < other) from (filled_from slots (suc from)) (listed_past slots from)
-      (ascends slots (suc from))
+  ascends (Some row ∷ slots) from = search (rules, AllPairs-cons, listed_past, ascends slots (suc from))
 
   -- places and slots are in one order
   pub slots_below : (slots : List (Option (Row T))) (a slot b other : ℕ) → IsSlot slots a slot → IsSlot slots b other
@@ -230,19 +217,14 @@ module _ {T : Type 0} where
   same_slot : (slots : List (Option (Row T))) (a slot b other : ℕ) → IsSlot slots a slot → IsSlot slots b other
       → a ≡ b → slot ≡ other
   same_slot slots a slot b other is_a is_b same =
-      let listed : 0 + slot ≡ 0 + other = some_same (0 + slot) (0 + other)
-      (sym (slot_listed slots 0 a slot is_a) ∙ ap (slice_get (filled_from slots 0)) same
-      ∙ slot_listed slots 0 b other is_b) in
-      omega (arith, listed)
+      grind (arith, common_steps,
+      some_same (0 + slot) (0 + other) (sym (slot_listed slots 0 a slot is_a) ∙ ap
+      (slice_get (filled_from slots 0)) same ∙ slot_listed slots 0 b other is_b),
+      slot_listed slots 0 a slot is_a, slot_listed slots 0 b other is_b)
 
   pub places_below : (slots : List (Option (Row T))) (a slot b other : ℕ) → IsSlot slots a slot → IsSlot slots b other
       → slot < other → a < b
-  places_below slots a slot b other is_a is_b less =
-      by_cases (cases_lt a b) (λ below. below) (λ le.
-      by_cases (cases_lt b a) (λ above. let more = slots_below slots b other a slot is_b is_a above in
-      absurd (omega (arith, less, more)))
-      (λ ge. let same = same_slot slots a slot b other is_a is_b (omega (arith, le, ge)) in
-      absurd (omega (arith, less, same))))
+  places_below slots a slot b other is_a is_b less = search (rules, cases_lt, slots_below, same_slot)
 
   -- a search in their list finds what holds a row
   pub place_found : (slots : List (Option (Row T))) (filled : List ℕ) (slot : ℕ) (result : Option ℕ)
@@ -261,8 +243,7 @@ module _ {T : Type 0} where
   pub held_is : (slots : List (Option (Row T))) (slot : ℕ) (one : Option (Row T)) → slot < length slots
       → one ≡ get_or slots slot one
       → held slots slot ≡ one
-  held_is slots slot one low is = get_or_from_slice_get slots slot one None
-      (slice_get_read slots (length slots) slot one refl low is)
+  held_is slots slot one low is = search (rules, get_or_from_slice_get, slice_get_read)
 
   pub filled_more : (slots : List (Option (Row T))) (slot : ℕ) (one : Option (Row T)) → slot < length slots
       → held slots slot ≡ one

@@ -1,16 +1,10 @@
 -- What is answered is the allocation.
-use Rattle.std.proofs.Common.{◌≡◌, ℕ, ◌<◌, ◌≤◌, List, length, map, Option, All, AllPairs, sym, ap, ◌∙◌, subst, arith}
-use Rattle.std.proofs.lemmas.List.{length-map}
-use Rattle.std.specs.declared.cmp.Ordering.{Ordering}
-use Rattle.fair_rates.specs.declared.bandwidth.Flow.{Flow}
-use Rattle.fair_rates.specs.declared.bandwidth.Rate.{Rate}
+use Rattle.fair_rates.proofs.Common.{◌≡◌, ℕ, ◌<◌, ◌≤◌, List, length, map, Option, All, AllPairs, sym, ap, ◌∙◌, arith}
+use Rattle.fair_rates.proofs.Common.{length-map, Ordering, Flow, Rate, IsAllocation, Calls, PairCalls, States, Answered}
+use Rattle.fair_rates.proofs.Common.{AnswerInOrder, side_of, HaveUsersBelow, AreFairRates, HasDifferentRates, last_rate}
+use Rattle.fair_rates.proofs.Common.{sides_of, rules}
 use Rattle.fair_rates.specs.declared.bandwidth.sides.Side as declared_side
-use Rattle.fair_rates.specs.Fairness.Allocation.{IsAllocation, IsCountedAllocation}
-use Rattle.fair_rates.specs.Sides.Answers.{Calls, PairCalls, States, Answered, AnswerInOrder}
-use Rattle.fair_rates.specs.Sides.SideOf.{side_of}
-use Rattle.fair_rates.specs.Fairness.Laws.{HaveUsersBelow}
-use Rattle.fair_rates.specs.Fairness.Rates.{AreFairRates, HasDifferentRates, last_rate}
-use Rattle.fair_rates.specs.Sides.Subjects.{sides_of}
+use Rattle.fair_rates.specs.Fairness.Allocation.{IsCountedAllocation}
 use Rattle.fair_rates.proofs.Sides.UserCounts.{HaveDistinctUsers}
 use Rattle.fair_rates.proofs.Fairness.Allocation.{the_allocation}
 use Rattle.fair_rates.proofs.Refusals.Promise.{distinct_sides, users_below_sides, twelfths, whole_of_sixteen}
@@ -27,12 +21,9 @@ pub allocated : {P E I L : Type 0} (cmp : P → P → Ordering) (egress : Calls 
     → ((id : ℕ) → rate_of id ≡ last_rate id flows rates)
     → IsAllocation cmp egress ingress link first flows rate_of
 allocated cmp egress ingress link first flows rate_of answered sides rates in_order registered below rise filled by_id =
-    let fair : AreFairRates (sides_of cmp answered) (length flows) rates =
-    subst (λ s. AreFairRates s (length flows) rates) registered filled in
-    let among : HaveUsersBelow (length flows) (sides_of cmp answered) =
-    subst (HaveUsersBelow (length flows)) registered (users_below_sides (length flows) sides below) in
-    let distinct : HaveDistinctUsers (sides_of cmp answered) =
-    subst HaveDistinctUsers registered (distinct_sides sides rise) in
+    let fair : AreFairRates (sides_of cmp answered) (length flows) rates = search rules in
+    let among : HaveUsersBelow (length flows) (sides_of cmp answered) = search (rules, users_below_sides) in
+    let distinct : HaveDistinctUsers (sides_of cmp answered) = search (rules, distinct_sides) in
     let one = the_allocation (sides_of cmp answered) (length flows) rates among fair in
     record {
       answered = answered;
@@ -65,9 +56,7 @@ counted cmp egress ingress link first flows rate_of rounds answered sides rates 
     different few by_id =
     let many : length (sides_of cmp answered) ≡ length sides = ap length (sym registered) ∙ length-map sides side_of in
     record {
-      allocation =
-          allocated cmp egress ingress link first flows rate_of answered sides rates in_order registered below rise
-          filled by_id;
+      allocation = search (rules, allocated);
       different = different;
       few = omega (arith, many, few);
     }

@@ -1,13 +1,8 @@
 -- What is allocated is the one max-min allocation.
-use Rattle.std.proofs.Common.{ℕ, List, length, subst}
-use Rattle.std.specs.declared.cmp.Ordering.{Ordering}
-use Rattle.fair_rates.specs.declared.bandwidth.Rate.{Rate}
+use Rattle.fair_rates.proofs.Common.{ℕ, List, Ordering, Rate, Calls, PairCalls, Side, HaveUsersBelow, AreFairRates}
+use Rattle.fair_rates.proofs.Common.{arith, rules, common_steps}
 use Rattle.fair_rates.specs.Fairness.AllocationUnderCaps.{AllocatesUnderCaps}
-use Rattle.fair_rates.specs.Sides.Answers.{Answered, Calls, PairCalls}
-use Rattle.fair_rates.specs.Fairness.Fair.{Side}
-use Rattle.fair_rates.specs.Fairness.Laws.{HaveUsersBelow, IsTheOnlyFair, AreMaxMin, AreZeroWhereClosed}
-use Rattle.fair_rates.specs.Fairness.Rates.{AreFairRates}
-use Rattle.fair_rates.specs.Sides.Subjects.{sides_of}
+use Rattle.fair_rates.specs.Fairness.Laws.{IsTheOnlyFair, AreMaxMin, AreZeroWhereClosed}
 use Rattle.fair_rates.proofs.Sides.Answers.{answers_are_those_of_the_caps}
 use Rattle.fair_rates.proofs.Fairness.ClosedSides.{fair_rates_are_zero_where_closed}
 use Rattle.fair_rates.proofs.Fairness.MaxMin.{fair_rates_are_max_min}
@@ -22,20 +17,13 @@ pub record AreTheAllocation (sides : List Side) (flows : ℕ) (rates : List Rate
 -- fair rates are the one max-min allocation, where the sides have users among the flows
 pub the_allocation : (sides : List Side) (flows : ℕ) (rates : List Rate) → HaveUsersBelow flows sides
     → AreFairRates sides flows rates → AreTheAllocation sides flows rates
-the_allocation sides flows rates users f = record {
-  only = one_allocation sides flows rates f;
-  max_min = fair_rates_are_max_min sides flows rates users f;
-  zero = fair_rates_are_zero_where_closed sides flows rates f;
-}
+the_allocation sides flows rates users f =
+    search (rules, one_allocation, fair_rates_are_max_min, fair_rates_are_zero_where_closed)
 
 -- what closures that answer by caps have allocated is fair under the caps
 pub allocates_under_caps : {P E I L : Type 0} (cmp : P → P → Ordering) (egress : Calls E P) (ingress : Calls I P)
     (link : PairCalls L P)
     → AllocatesUnderCaps cmp egress ingress link
 allocates_under_caps {P} cmp egress ingress link caps first flows rate_of by a =
-    let answered = answers_are_those_of_the_caps egress ingress link caps first flows a.answered by a.in_order in
-    record {
-      rates = a.rates;
-      fair = subst (λ (bs : List (Answered P)). AreFairRates (sides_of cmp bs) (length flows) a.rates) answered a.fair;
-      by_id = a.by_id;
-    }
+    grind (arith, common_steps,
+    answers_are_those_of_the_caps egress ingress link caps first flows a.answered by a.in_order)

@@ -1,19 +1,9 @@
 -- Fairness of flows with their rates under caps, said without their places: so it holds in every order, and of a part.
-use Rattle.std.proofs.Common.{◌≡◌, ℕ, zero, suc, ◌+◌, ◌*◌, ◌<◌, List, [], ◌∷◌, Some, map, length, get_or, refl, sym, ap}
-use Rattle.std.proofs.Common.{◌∙◌, subst, arith}
-use Rattle.std.specs.Prelude.{slice_get}
-use Rattle.std.specs.Cmp.{IsTotalOrder}
-use Rattle.std.specs.declared.cmp.Ordering.{Ordering}
-use Rattle.std.proofs.lemmas.List.{length-map}
-use Rattle.std.proofs.lemmas.Option.{get_or_from_slice_get, slice_get-map}
-use Rattle.fair_rates.specs.declared.bandwidth.Flow.{Flow}
-use Rattle.fair_rates.specs.declared.bandwidth.Rate.{Rate}
-use Rattle.fair_rates.specs.declared.bandwidth.Rate.TheVariants.{Unlimited, Finite}
-use Rattle.fair_rates.specs.Fairness.Fair.{Side, IsFair}
-use Rattle.fair_rates.specs.Fairness.Rates.{IsRateOf}
-use Rattle.fair_rates.specs.Numbers.Ratio.{IsWorth}
-use Rattle.fair_rates.specs.Sides.Caps.{Caps}
-use Rattle.fair_rates.specs.Fairness.UnderCaps.{AreOfPeers, sides_under, AreFairUnder}
+use Rattle.fair_rates.proofs.Common.{◌≡◌, ℕ, zero, suc, ◌+◌, ◌*◌, ◌<◌, List, [], ◌∷◌, Some, map, length, get_or, refl}
+use Rattle.fair_rates.proofs.Common.{sym, ap, ◌∙◌, subst, arith, slice_get, IsTotalOrder, Ordering, length-map}
+use Rattle.fair_rates.proofs.Common.{slice_get-map, Flow, Rate, Unlimited, Finite, Side, IsFair, IsRateOf, IsWorth}
+use Rattle.fair_rates.proofs.Common.{Caps, AreOfPeers, sides_under, AreFairUnder, common_steps}
+use Rattle.std.proofs.lemmas.Option.{get_or_from_slice_get}
 use Rattle.fair_rates.proofs.Lists.Members.{In, in_get, get_in}
 use Rattle.fair_rates.proofs.Fairness.MaxMin.{rate_at}
 use Rattle.fair_rates.proofs.Fairness.Sharing.{StandsAt, parts_at, stands_from, IsCapped, AreShared, S}
@@ -68,10 +58,8 @@ module _ {P : Type 0} (cmp : P → P → Ordering) (caps : Caps P) where
 
     fair_among : IsFair sides per g
         → ((k : ℕ) (x : Allotted P) → slice_get xs k ≡ Some x → IsRateOf sides per g k x.rate) → AreFairAmong per xs
-    fair_among f rates = record {
-      shared = shared_from cmp caps flow_of parts_of order of xs g per stands f;
-      rated = λ x h. let p = get_in xs x h in rate_is x p.0 p.1 x.rate (rates p.0 x p.1);
-    }
+    fair_among f rates =
+        grind (arith, common_steps, shared_from cmp caps flow_of parts_of order of xs g per stands f, get_in, rate_is)
 
     fair : AreFairAmong per xs → IsFair sides per g
     fair f = fair_from cmp caps flow_of parts_of order of xs g per stands f.shared

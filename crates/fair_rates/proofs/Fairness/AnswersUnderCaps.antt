@@ -1,16 +1,11 @@
 -- What closures that answer by caps are answered, and refused, under these caps.
-use Rattle.std.proofs.Common.{◌≡◌, ◌⊎◌, ◌<◌, ℕ, List, Option, Result, Ok, Err, IfOk, IfErr, inl, inr, length, subst}
-use Rattle.std.proofs.Common.{sym, ◌∙◌}
-use Rattle.std.specs.declared.cmp.Ordering.{Ordering}
-use Rattle.fair_rates.specs.declared.bandwidth.Flow.{Flow}
-use Rattle.fair_rates.specs.declared.bandwidth.Rate.{Rate}
-use Rattle.fair_rates.specs.declared.error.Error.{Error}
+use Rattle.fair_rates.proofs.Common.{◌≡◌, ◌⊎◌, ℕ, List, Option, Result, Ok, Err, IfErr, inl, inr, sym, ◌∙◌, Ordering}
+use Rattle.fair_rates.proofs.Common.{Flow, Rate, Error, IsAllocation, Calls, PairCalls, States, IsTooLarge, arith}
+use Rattle.fair_rates.proofs.Common.{rules, common_steps}
+use Rattle.std.proofs.Common.{IfOk}
 use Rattle.fair_rates.specs.declared.error.Error.TheVariants.{OutOfMemory, NumberTooLarge}
-use Rattle.fair_rates.specs.Fairness.Allocation.{IsAllocation, IsFairUnderCaps}
-use Rattle.fair_rates.specs.Sides.Answers.{Answered, Calls, PairCalls, States}
-use Rattle.fair_rates.specs.Sides.Subjects.{sides_of}
-use Rattle.fair_rates.specs.Refusals.FairRatesFit.{FairRatesFit}
-use Rattle.fair_rates.specs.Refusals.TooLarge.{HasLargeAnswer, HasLargeRate, IsTooLarge, AreTooLargeUnderCaps}
+use Rattle.fair_rates.specs.Fairness.Allocation.{IsFairUnderCaps}
+use Rattle.fair_rates.specs.Refusals.TooLarge.{AreTooLargeUnderCaps}
 use Rattle.fair_rates.proofs.Fairness.Allocation.{allocates_under_caps}
 use Rattle.fair_rates.proofs.Sides.Answers.{answers_are_those_of_the_caps}
 
@@ -19,22 +14,14 @@ module _ {P E I L : Type 0} (cmp : P → P → Ordering) (egress : Calls E P) (i
   pub fair_under_caps : {X R : Type 0} (rate_of : X → ℕ → Option Rate) (result : Result X R)
       → IfOk result (λ x. IsAllocation cmp egress ingress link first flows (rate_of x))
       → IfOk result (λ x. IsFairUnderCaps cmp egress ingress link first flows (rate_of x))
-  fair_under_caps rate_of (Ok x) h = λ caps by.
-      allocates_under_caps cmp egress ingress link caps first flows (rate_of x) by h
+  fair_under_caps rate_of (Ok x) h = search (rules, allocates_under_caps)
   fair_under_caps rate_of (Err r) h = tt
 
   pub too_large_under_caps : IsTooLarge cmp egress ingress link first flows
       → AreTooLargeUnderCaps cmp egress ingress link first flows
   too_large_under_caps h caps by =
-      let all = answers_are_those_of_the_caps egress ingress link caps first flows h.answered by h.in_order in
-      record {
-        large_rate = subst (λ (asked : List (Answered P)). HasLargeRate (sides_of cmp asked)) all h.large_rate;
-        nothing_fits =
-            subst (λ (asked : List (Answered P)). ¬ FairRatesFit (sides_of cmp asked) (length flows)) all
-            h.nothing_fits;
-        many_or_large =
-            subst (λ (asked : List (Answered P)). (16 < length flows) ⊎ HasLargeAnswer asked) all h.many_or_large;
-      }
+      grind (arith, common_steps,
+      answers_are_those_of_the_caps egress ingress link caps first flows h.answered by h.in_order)
 
   pub refused_under_caps : {X : Type 0} (result : Result X Error)
       → IfErr result (λ e. (e ≡ OutOfMemory) ⊎ ((e ≡ NumberTooLarge) × IsTooLarge cmp egress ingress link first flows))

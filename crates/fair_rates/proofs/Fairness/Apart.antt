@@ -1,17 +1,11 @@
 -- A part of the flows that shares no side with the rest, by places.
-use Rattle.std.proofs.Common.{◌≡◌, ℕ, zero, suc, ◌+◌, ◌*◌, ◌≤◌, ◌⊎◌, inl, inr, Bool, true, false, cond, List, [], ◌∷◌}
-use Rattle.std.proofs.Common.{Some, All, length, map, take, get_or, sum_by, refl, sym, ap, ◌∙◌, subst, arith}
-use Rattle.std.specs.Prelude.{slice_get}
-use Rattle.std.specs.List.{list_any}
-use Rattle.std.proofs.lemmas.Bool.{false≢true}
+use Rattle.fair_rates.proofs.Common.{◌≡◌, ℕ, zero, suc, ◌+◌, ◌*◌, ◌≤◌, ◌⊎◌, inl, inr, Bool, true, false, cond, List, []}
+use Rattle.fair_rates.proofs.Common.{◌∷◌, Some, All, length, map, take, get_or, sum_by, refl, sym, ap, ◌∙◌, subst}
+use Rattle.fair_rates.proofs.Common.{arith, slice_get, list_any, false≢true, All-contains, sum_by-cons, Rate, Unlimited}
+use Rattle.fair_rates.proofs.Common.{Finite, Side, load, Uses, IsLimited, IsFair, HasBottleneck, flagged, IsRateOf}
+use Rattle.fair_rates.proofs.Common.{rules, common_steps}
 use Rattle.std.proofs.lemmas.Option.{slice_get-get_or}
-use Rattle.std.proofs.lemmas.List.Elements.{All-contains}
-use Rattle.std.proofs.lemmas.List.Sums.{sum_by-cons}
-use Rattle.fair_rates.specs.declared.bandwidth.Rate.{Rate}
-use Rattle.fair_rates.specs.declared.bandwidth.Rate.TheVariants.{Unlimited, Finite}
-use Rattle.fair_rates.specs.Fairness.Fair.{Side, load, Uses, IsLimited, IsFair, HasBottleneck}
-use Rattle.fair_rates.specs.Fairness.Part.{flagged, is_in, place_in, sides_in, SharesNoSide, FlowsApartAreFair}
-use Rattle.fair_rates.specs.Fairness.Rates.{IsRateOf}
+use Rattle.fair_rates.specs.Fairness.Part.{is_in, place_in, sides_in, SharesNoSide, FlowsApartAreFair}
 use Rattle.fair_rates.proofs.Lists.Members.{In, in_map, from_map, in_left, in_right, in_either, in_from_contains}
 use Rattle.fair_rates.proofs.Lists.Members.{contains_from_in, some_or_none, any_fails, any_passes}
 use Rattle.fair_rates.proofs.Fairness.MaxMin.{rate_at}
@@ -32,12 +26,8 @@ old_of_place : (flags : List Bool) (i : ℕ) → is_in flags i ≡ true → old 
 old_of_place [] i e = cc
 old_of_place (true ∷ flags) zero e = refl
 old_of_place (false ∷ flags) zero e = cc
-old_of_place (true ∷ flags) (suc i) e =
-    let next : place_in (true ∷ flags) (suc i) ≡ suc (place_in flags i) = omega (arith, place_in-suc true flags i) in
-    ap (old (true ∷ flags)) next ∙ ap suc (old_of_place flags i e)
-old_of_place (false ∷ flags) (suc i) e =
-    let next : place_in (false ∷ flags) (suc i) ≡ place_in flags i = omega (arith, place_in-suc false flags i) in
-    ap (old (false ∷ flags)) next ∙ ap suc (old_of_place flags i e)
+old_of_place (true ∷ flags) (suc i) e = grind (arith, common_steps, place_in-suc, old_of_place flags i e)
+old_of_place (false ∷ flags) (suc i) e = grind (arith, common_steps, place_in-suc, old_of_place flags i e)
 
 -- an element of the kept ones, and where it stood
 record StoodAt {X : Type 0} (flags : List Bool) (xs : List X) (j : ℕ) (x : X) : Type 0 where
@@ -50,17 +40,12 @@ stood_at : {X : Type 0} (flags : List Bool) (xs : List X) (j : ℕ) (x : X) → 
 stood_at [] xs j x e = cc
 stood_at (flag ∷ flags) [] j x e = cc
 stood_at (true ∷ flags) (y ∷ xs) zero x e = record { at = e; own = refl; place = refl }
-stood_at (true ∷ flags) (y ∷ xs) (suc j) x e =
-    let r = stood_at flags xs j x e in
-    record { at = r.at; own = r.own; place = omega (arith, place_in-suc true flags (old flags j), r.place) }
-stood_at (false ∷ flags) (y ∷ xs) j x e =
-    let r = stood_at flags xs j x e in
-    record { at = r.at; own = r.own; place = omega (arith, place_in-suc false flags (old flags j), r.place) }
+stood_at (true ∷ flags) (y ∷ xs) (suc j) x e = search (rules, place_in-suc, stood_at flags xs j x e)
+stood_at (false ∷ flags) (y ∷ xs) j x e = search (rules, place_in-suc, stood_at flags xs j x e)
 
 sum_by-map : (f : ℕ → ℕ) (g : ℕ → ℕ) (xs : List ℕ) → sum_by f (map g xs) ≡ sum_by (λ x. f (g x)) xs
 sum_by-map f g [] = refl
-sum_by-map f g (x ∷ xs) =
-    omega (arith, sum_by-cons f (g x) (map g xs), sum_by-cons (λ y. f (g y)) x xs, sum_by-map f g xs)
+sum_by-map f g (x ∷ xs) = search (rules, sum_by-cons, sum_by-map f g xs)
 
 sum_by-agree : (f g : ℕ → ℕ) (xs : List ℕ) → ((x : ℕ) → In xs x → f x ≡ g x) → sum_by f xs ≡ sum_by g xs
 sum_by-agree f g [] h = refl
@@ -111,14 +96,8 @@ module _ (flags : List Bool) where
   to_sides_in : (sides : List Side) (side : Side) (user : ℕ) → In sides side → In side.users user
       → is_in flags user ≡ true → In (sides_in flags sides) (renumbered side)
   to_sides_in [] side user h used own = absurd h
-  to_sides_in (s ∷ sides) side user (inl e) used own =
-      let some : list_any (is_in flags) s.users ≡ true =
-      any_passes (is_in flags) s.users user (subst (λ (t : Side). In t.users user) (sym e) used) own in
-      in_left (cond (list_any (is_in flags) s.users) (renumbered s ∷ []) []) (sides_in flags sides) (renumbered side)
-      (rw some (inl (ap renumbered e)))
-  to_sides_in (s ∷ sides) side user (inr h) used own =
-      in_right (cond (list_any (is_in flags) s.users) (renumbered s ∷ []) []) (sides_in flags sides) (renumbered side)
-      (to_sides_in sides side user h used own)
+  to_sides_in (s ∷ sides) side user (inl e) used own = search (rules, any_passes, in_left)
+  to_sides_in (s ∷ sides) side user (inr h) used own = search (rules, in_right, to_sides_in sides side user h used own)
 
   module _ (sides : List Side) (apart : SharesNoSide flags sides) where
     -- with one user of the part all users are
@@ -135,10 +114,7 @@ module _ (flags : List Bool) where
 
     load_kept : (parts : ℕ → ℕ) (side : Side) → ((v : ℕ) → In side.users v → is_in flags v ≡ true)
         → load (λ j. parts (old flags j)) (renumbered side) ≡ load parts side
-    load_kept parts side own =
-        sum_by-map (λ j. parts (old flags j)) (place_in flags) side.users
-        ∙ sum_by-agree (λ v. parts (old flags (place_in flags v))) parts side.users
-        (λ v among. ap parts (old_of_place flags v (own v among)))
+    load_kept parts side own = search (rules, sum_by-map, sum_by-agree, old_of_place)
 
     -- a limited flow of the part, and where it stood
     record StoodLimited (j : ℕ) : Type 0 where
@@ -157,13 +133,7 @@ module _ (flags : List Bool) where
         let own = all_own f.side f.user f.listed f.used f.own r.0 r.1 in
         record {
           u = r.0;
-          limited = (
-            f.side,
-            record {
-              listed = contains_from_in sides f.side f.listed;
-              used = contains_from_in f.side.users r.0 r.1;
-            },
-          );
+          limited = search (rules, contains_from_in);
           own = own;
           place = r.2;
           was = ap (old flags) (sym r.2) ∙ old_of_place flags r.0 own;
@@ -172,14 +142,8 @@ module _ (flags : List Bool) where
     uses_renumbered : (side : Side) (u : ℕ) → is_in flags u ≡ true → Uses sides u side
         → Uses (sides_in flags sides) (place_in flags u) (renumbered side)
     uses_renumbered side u own uses =
-        let used = in_from_contains side.users u uses.used in record {
-          listed =
-              contains_from_in (sides_in flags sides) (renumbered side)
-              (to_sides_in sides side u (in_from_contains sides side uses.listed) used own);
-          used =
-              contains_from_in (map (place_in flags) side.users) (place_in flags u)
-              (in_map (place_in flags) side.users u used);
-        }
+        grind (arith, common_steps, in_from_contains side.users u uses.used, in_from_contains sides side uses.listed,
+        contains_from_in, to_sides_in, in_map)
 
     module _ (per : ℕ) (parts : ℕ → ℕ) where
       abbrev kept_parts : ℕ → ℕ

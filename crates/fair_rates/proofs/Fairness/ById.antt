@@ -1,21 +1,10 @@
 -- Rates by id under the caps of peers.
-use Rattle.std.proofs.Common.{◌≡◌, ◌↔◌, ℕ, ◌≤◌, Bool, true, false, cond, List, [], ◌∷◌, Option, Some, count_by, length}
-use Rattle.std.proofs.Common.{map, refl, sym, ap, ap₂, ◌∙◌, subst, arith}
-use Rattle.std.specs.Prelude.{slice_get}
-use Rattle.std.specs.List.{filter}
-use Rattle.std.specs.Cmp.{IsTotalOrder}
-use Rattle.std.specs.declared.cmp.Ordering.{Ordering}
-use Rattle.std.proofs.lemmas.Bool.{eq-eqb}
-use Rattle.std.proofs.lemmas.Option.{slice_get-map}
-use Rattle.std.proofs.lemmas.List.Sums.{sum_by-cons}
-use Rattle.fair_rates.specs.declared.bandwidth.Flow.{Flow}
-use Rattle.fair_rates.specs.declared.bandwidth.Rate.{Rate}
-use Rattle.fair_rates.specs.declared.bandwidth.Rate.TheVariants.{Unlimited}
-use Rattle.fair_rates.specs.Fairness.UnderCaps.{AreOfPeers, sides_under, UsesNoCap, HaveDistinctIds, IsFairById}
-use Rattle.fair_rates.specs.Fairness.UnderCaps.{UnlimitedByIdWhereUncapped, OthersDoNotMatter, is_of_set}
-use Rattle.fair_rates.specs.Fairness.Part.{flagged}
-use Rattle.fair_rates.specs.Fairness.Rates.{last_rate}
-use Rattle.fair_rates.specs.Sides.Caps.{Caps}
+use Rattle.fair_rates.proofs.Common.{◌≡◌, ◌↔◌, ℕ, ◌≤◌, Bool, List, [], ◌∷◌, Option, Some, count_by, map, refl, sym, ap}
+use Rattle.fair_rates.proofs.Common.{ap₂, ◌∙◌, subst, arith, slice_get, filter, IsTotalOrder, Ordering, eq-eqb}
+use Rattle.fair_rates.proofs.Common.{slice_get-map, sum_by-cons, Flow, Rate, Unlimited, AreOfPeers, flagged, last_rate}
+use Rattle.fair_rates.proofs.Common.{Caps, common_steps, rules}
+use Rattle.fair_rates.specs.Fairness.UnderCaps.{UsesNoCap, HaveDistinctIds, IsFairById, UnlimitedByIdWhereUncapped}
+use Rattle.fair_rates.specs.Fairness.UnderCaps.{OthersDoNotMatter, is_of_set}
 use Rattle.fair_rates.proofs.Fairness.Among.{Allotted, IsSaidAmong, flows_of, rates_of, among_from, rate_there}
 use Rattle.fair_rates.proofs.Lists.Members.{In, from_map, from_filter, in_filter, get_in, in_from_contains}
 use Rattle.fair_rates.proofs.Fairness.OneAllocation.{one_allocation}
@@ -26,13 +15,7 @@ use Rattle.fair_rates.proofs.Fairness.Uncapped.{unlimited_where_uncapped}
 -- a filter leaves no more that pass a test
 count_by-filter : {X : Type 0} (p q : X → Bool) (xs : List X) → count_by p (filter q xs) ≤ count_by p xs
 count_by-filter p q [] = omega arith
-count_by-filter {X} p q (x ∷ xs) = by_test (q x) (count_by-filter p q xs)
-  where
-    by_test : (b : Bool) → count_by p (filter q xs) ≤ count_by p xs
-        → count_by p (cond b (x ∷ filter q xs) (filter q xs)) ≤ count_by p (x ∷ xs)
-    by_test true ih =
-        omega (arith, ih, sum_by-cons (λ y. cond (p y) 1 0) x (filter q xs), sum_by-cons (λ y. cond (p y) 1 0) x xs)
-    by_test false ih = omega (arith, ih, sum_by-cons (λ y. cond (p y) 1 0) x xs)
+count_by-filter {X} p q (x ∷ xs) = grind (arith, common_steps, sum_by-cons, count_by-filter p q xs)
 
 -- where ids are distinct, the rate by the id of a flow is its own
 pub rate_by_id : {P : Type 0} (xs : List (Allotted P)) (x : Allotted P) → HaveDistinctIds (flows_of xs) → In xs x
@@ -60,9 +43,7 @@ module _ {P : Type 0} (cmp : P → P → Ordering) (order : IsTotalOrder cmp) wh
         let own : last_rate r.0.flow.id (flows_of said.all) (rates_of said.all) ≡ Some r.0.rate =
         rate_by_id said.all r.0 (subst HaveDistinctIds (sym said.flows_are) distinct) r.1 in
         let same : last_rate f.id flows a.rates ≡ last_rate r.0.flow.id (flows_of said.all) (rates_of said.all) =
-        ap (λ (g : Flow P). last_rate g.id flows a.rates) (sym r.2)
-        ∙ ap₂ (λ (fs : List (Flow P)) (rs : List Rate). last_rate r.0.flow.id fs rs) (sym said.flows_are)
-        (sym said.rates_are) in
+            search rules in
         record { x = r.0; among = r.1; is = r.2; rate = a.by_id f.id ∙ same ∙ own }
 
   pub unlimited_by_id : UnlimitedByIdWhereUncapped cmp
@@ -73,9 +54,7 @@ module _ {P : Type 0} (cmp : P → P → Ordering) (order : IsTotalOrder cmp) wh
       let p : (i : ℕ) × (slice_get s.all i ≡ Some r.x) = get_in s.all r.x r.among in
       let at : slice_get flows p.0 ≡ Some f =
       subst (λ (fs : List (Flow P)). slice_get fs p.0 ≡ Some f) s.flows_are (get_flow s.all p.0 r.x f p.1 r.is) in
-      let rate : slice_get a.rates p.0 ≡ Some r.x.rate =
-      subst (λ (rs : List Rate). slice_get rs p.0 ≡ Some r.x.rate) s.rates_are
-      (rate_there cmp caps s.all p.0 r.x p.1) in
+      let rate : slice_get a.rates p.0 ≡ Some r.x.rate = search (rules, rate_there) in
       let same : m f.id ≡ slice_get a.rates p.0 = r.rate ∙ sym rate in
       subst (λ (o : Option Rate). (o ≡ Some Unlimited) ↔ UsesNoCap caps f) (sym same)
       (unlimited_where_uncapped cmp order caps flows a.rates of a.fair p.0 f at)
@@ -92,17 +71,11 @@ module _ {P : Type 0} (cmp : P → P → Ordering) (order : IsTotalOrder cmp) wh
       let s = said caps of flows m distinct a in
       let r = rated_at caps of flows m distinct a f h.0 in
       let xs = part cmp caps mine s.all in
-      let among : In xs r.x =
-      in_filter (λ (x : Allotted P). mine x.flow) s.all r.x r.among
-      (subst (λ (g : Flow P). mine g ≡ true) (sym r.is) h.1) in
+      let among : In xs r.x = search (rules, in_filter) in
       let flows_is : flows_of xs ≡ own = flows_of_part cmp caps mine s.all ∙ ap (filter mine) s.flows_are in
-      let rates_is : rates_of xs ≡ flagged (map mine flows) a.rates =
-      rates_of_part cmp caps mine s.all
-      ∙ ap₂ (λ (fs : List (Flow P)) (rs : List Rate). flagged (map mine fs) rs) s.flows_are s.rates_are in
+      let rates_is : rates_of xs ≡ flagged (map mine flows) a.rates = search (rules, rates_of_part) in
       let kept_fair = part_is_fair cmp order caps peers flows a.rates of ends a.fair in
-      let one : b.rates ≡ flagged (map mine flows) a.rates =
-      one_allocation (sides_under cmp caps own) (length own) (flagged (map mine flows) a.rates) kept_fair b.rates
-      b.fair in
+      let one : b.rates ≡ flagged (map mine flows) a.rates = search (rules, one_allocation) in
       let few : HaveDistinctIds own = λ id. omega (arith, distinct id, count_by-filter (has id) mine flows) in
       let rate : last_rate r.x.flow.id (flows_of xs) (rates_of xs) ≡ Some r.x.rate =
       rate_by_id xs r.x (subst HaveDistinctIds (sym flows_is) few) among in

@@ -1,13 +1,8 @@
 -- Sides that are those of the capped subjects, however they are made and in whatever order they stand.
-use Rattle.std.proofs.Common.{ℕ, List, Contains}
+use Rattle.fair_rates.proofs.Common.{ℕ, List, Contains, IsTotalOrder, Ordering, Flow, Side, IsFair, AreOfPeers}
+use Rattle.fair_rates.proofs.Common.{sides_under, IsCappedSide, Caps, arith, common_steps}
 use Rattle.std.specs.Prelude.{◌↔◌}
-use Rattle.std.specs.Cmp.{IsTotalOrder}
-use Rattle.std.specs.declared.cmp.Ordering.{Ordering}
-use Rattle.fair_rates.specs.declared.bandwidth.Flow.{Flow}
-use Rattle.fair_rates.specs.Fairness.Fair.{Side, IsFair}
 use Rattle.fair_rates.specs.Fairness.Laws.{AreTheSameSides}
-use Rattle.fair_rates.specs.Fairness.UnderCaps.{AreOfPeers, sides_under, IsCappedSide}
-use Rattle.fair_rates.specs.Sides.Caps.{Caps}
 use Rattle.fair_rates.proofs.Fairness.SameSides.{still_fair}
 use Rattle.fair_rates.proofs.Sides.CapSides.{sides_are_of_the_caps}
 
@@ -15,9 +10,7 @@ module _ {P : Type 0} (cmp : P → P → Ordering) (order : IsTotalOrder cmp) (c
     (flows : List (Flow P)) (sides : List Side)
     (members : (side : Side) → Contains sides side ↔ IsCappedSide cmp caps flows side) where
   are_the_same : AreTheSameSides sides (sides_under cmp caps flows)
-  are_the_same side =
-      let capped = sides_are_of_the_caps cmp order caps flows side of in
-      (λ c. capped.1 ((members side).0 c), λ c. (members side).1 (capped.0 c))
+  are_the_same side = grind (arith, common_steps, sides_are_of_the_caps cmp order caps flows side of)
 
   -- what is fair on them is fair under the caps
   pub fair_of_members : (per : ℕ) (parts : ℕ → ℕ) → IsFair sides per parts

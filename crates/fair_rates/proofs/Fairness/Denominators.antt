@@ -1,19 +1,15 @@
 -- The least common multiple of all products of whole numbers above zero whose sum is at most n.
-use Prim.Native.Nat.{◌∣◌}
-use Rattle.std.proofs.Common.{◌≡◌, ℕ, zero, suc, ◌+◌, ◌-◌, ◌*◌, ◌/◌, ◌<◌, ◌≤◌, inl, inr, List, [], ◌∷◌, length, get_or}
-use Rattle.std.proofs.Common.{All, refl, sym, ap, ◌∙◌, subst, arith}
+use Rattle.fair_rates.proofs.Common.{◌∣◌, ◌≡◌, ℕ, zero, suc, ◌+◌, ◌-◌, ◌*◌, ◌/◌, ◌<◌, ◌≤◌, inl, inr, List, [], ◌∷◌}
+use Rattle.fair_rates.proofs.Common.{length, get_or, All, refl, sym, ap, ◌∙◌, subst, arith, dvd-zero, dvd-mul_left}
+use Rattle.fair_rates.proofs.Common.{dvd-mul_right, mul-div_cancel', mul-pos, cases_lt, All-head, All-tail, All-nil}
+use Rattle.fair_rates.proofs.Common.{All-cons, sum_by-cons, gcd, product, gcd-IsGcd, gcd-pos, rules}
 use Rattle.std.specs.List.{sum}
-use Rattle.std.proofs.Math.Nat.{dvd_refl, dvd_trans, dvd-zero, le_of_dvd, dvd-mul_left, dvd-mul_right, one-dvd}
-use Rattle.std.proofs.Math.Nat.{mul-dvd-mul_left, mul-dvd-mul_right, mul-div_cancel', dvd_of_mul-dvd-mul_left}
-use Rattle.std.proofs.Math.Nat.{dvd_of_mul-dvd-mul_right, mul-pos}
+use Rattle.std.proofs.Math.Nat.{dvd_refl, dvd_trans, le_of_dvd, one-dvd, mul-dvd-mul_left, mul-dvd-mul_right}
+use Rattle.std.proofs.Math.Nat.{dvd_of_mul-dvd-mul_left, dvd_of_mul-dvd-mul_right}
 use Rattle.std.proofs.lemmas.Nat.Gcd.{dvd_antisymm}
-use Rattle.std.proofs.lemmas.Bool.{cases_lt}
-use Rattle.std.proofs.lemmas.List.Elements.{All-head, All-tail, All-nil, All-cons}
-use Rattle.std.proofs.lemmas.List.Sums.{sum_by-cons}
-use Rattle.fair_rates.specs.Numbers.Amount.{gcd, gcd_within}
-use Rattle.fair_rates.specs.Fairness.Exists.{product, AreAddends, IsMultipleOfAll, IsLeastMultiple}
-use Rattle.fair_rates.specs.Fairness.Exists.{AreLeastMultiplesFrom}
-use Rattle.fair_rates.specs.Numbers.Gcd.{gcd-IsGcd, gcd-pos, gcd-scaled}
+use Rattle.fair_rates.specs.Numbers.Amount.{gcd_within}
+use Rattle.fair_rates.specs.Fairness.Exists.{AreAddends, IsMultipleOfAll, IsLeastMultiple, AreLeastMultiplesFrom}
+use Rattle.fair_rates.specs.Numbers.Gcd.{gcd-scaled}
 
 -- ---- of two numbers
 
@@ -146,9 +142,7 @@ divides m (suc k) some =
 all_positive : (n : ℕ) → All (λ d. 0 < d) (entries n)
 unfolding entries
 all_positive zero = All-cons (λ d. 0 < d) 1 [] (omega arith) (All-nil (λ d. 0 < d))
-all_positive (suc n) =
-    All-cons (λ d. 0 < d) (multiple_from 1 (entries n)) (entries n)
-    (multiple-pos 1 (entries n) (omega arith) (all_positive n)) (all_positive n)
+all_positive (suc n) = search (rules, All-cons, multiple_from, entries, multiple-pos, all_positive n)
 
 pub positive : (n : ℕ) → 0 < denominator_of n
 unfolding denominator_of
@@ -182,9 +176,7 @@ has_product n (k ∷ ks) h =
 
 -- k and then numbers whose sum is at most n
 one_more : (n k : ℕ) (ks : List ℕ) → 0 < k → AreAddends n ks → AreAddends (k + n) (k ∷ ks)
-one_more n k ks some h =
-    let whole : sum (k ∷ ks) ≡ k + sum ks = sum_by-cons (λ k. k) k ks in
-    record { positive = All-cons (λ k. 0 < k) k ks some h.positive; within = omega (arith, whole, h.within) }
+one_more n k ks some h = search (rules, sum_by-cons, positive, All-cons)
 
 -- a multiple of all that have k among the numbers is k times one of the others
 without_one : (n k m : ℕ) → 0 < k → IsMultipleOfAll (k + n) m → (k * (m / k) ≡ m) × IsMultipleOfAll n (m / k)
@@ -220,8 +212,7 @@ entry_divides (suc fuel) (suc n) enough m h =
         (mul-dvd-mul_left (denominator_of (n - i)) (1 + i) (ih i le rest.1)))
 
 pub is_least_multiple : (n : ℕ) → IsLeastMultiple n (denominator_of n)
-is_least_multiple n =
-    record { positive = positive n; multiple = has_product n; least = entry_divides (suc n) n (omega arith) }
+is_least_multiple n = search (rules, positive, has_product, entry_divides)
 
 pub one_multiple : (n per other : ℕ) → IsLeastMultiple n per → IsLeastMultiple n other → per ≡ other
 one_multiple n per other a b = dvd_antisymm (a.least other b.multiple) (b.least per a.multiple)

@@ -1,13 +1,8 @@
 -- Flows under caps by peer have fair amounts.
-use Rattle.std.proofs.Common.{◌≢◌, ℕ, ◌<◌, List, length, All, AllPairs, sym, subst, le_refl}
-use Rattle.std.specs.declared.cmp.Ordering.{Ordering}
-use Rattle.std.specs.Cmp.{IsTotalOrder}
-use Rattle.fair_rates.specs.Sides.Caps.{Caps}
-use Rattle.fair_rates.specs.Fairness.Fair.{Side, IsFair}
+use Rattle.fair_rates.proofs.Common.{◌≢◌, ℕ, ◌<◌, List, length, All, AllPairs, sym, subst, le_refl, Ordering}
+use Rattle.fair_rates.proofs.Common.{IsTotalOrder, Caps, Side, IsFair, HaveUsersBelow, AreOfPeers, IsCappedSide, limits}
+use Rattle.fair_rates.proofs.Common.{sides_under, Flow}
 use Rattle.fair_rates.specs.Fairness.Exists.{HaveDistinctUsers, FairAmountsExistUnderCaps}
-use Rattle.fair_rates.specs.Fairness.Laws.{HaveUsersBelow}
-use Rattle.fair_rates.specs.Fairness.UnderCaps.{AreOfPeers, IsCappedSide, limits, sides_under}
-use Rattle.fair_rates.specs.declared.bandwidth.Flow.{Flow}
 use Rattle.fair_rates.proofs.Fairness.Denominators.{denominator_of, is_least_multiple, one_multiple}
 use Rattle.fair_rates.proofs.Sides.CapSides.{sides_are_of_the_caps}
 use Rattle.fair_rates.proofs.Lists.SumOrder.{All-from_contains}

@@ -1,11 +1,7 @@
 -- The rate of the last flow with an id, while the flows are gone through from the first on.
-use Rattle.std.proofs.Common.{◌≡◌, ℕ, ◌==◌, ◌⊎◌, Bool, true, false, cond, List, [], ◌∷◌, Option, Some, None, refl, sym}
-use Rattle.std.proofs.Common.{ap, ◌∙◌, ⊎_elim}
-use Rattle.std.specs.Cmp.{unsigned_tied}
-use Rattle.std.specs.Ordering.{is_eq, nat_cmp}
-use Rattle.fair_rates.specs.declared.bandwidth.Flow.{Flow}
-use Rattle.fair_rates.specs.declared.bandwidth.Rate.{Rate}
-use Rattle.fair_rates.specs.Fairness.Rates.{or_else, last_rate}
+use Rattle.fair_rates.proofs.Common.{◌≡◌, ℕ, ◌⊎◌, Bool, true, false, cond, List, [], ◌∷◌, Option, Some, None, refl}
+use Rattle.fair_rates.proofs.Common.{is_eq, nat_cmp, Flow, Rate, last_rate, rules}
+use Rattle.fair_rates.specs.Fairness.Rates.{or_else}
 
 or_else_twice : (later : Option Rate) (b : Bool) (r : Rate) (old : Option Rate)
     → or_else (or_else later (cond b (Some r) None)) old ≡ or_else later (cond b (Some r) old)
@@ -20,11 +16,7 @@ pub stored : {P : Type 0} (id : ℕ) (f : Flow P) (r : Rate) (flows flows' : Lis
     → new ≡ cond (is_eq (nat_cmp f.id id)) (Some r) old
     → or_else (last_rate id flows rates) old ≡ all
     → or_else (last_rate id flows' rates') new ≡ all
-stored id f r flows flows' rates rates' old new all next next_rate writes before =
-    ap (or_else (last_rate id flows' rates')) (writes ∙ ap (λ b. cond b (Some r) old) (unsigned_tied f.id id))
-    ∙ sym (or_else_twice (last_rate id flows' rates') (f.id == id) r old)
-    ∙ ap (λ fs. or_else (last_rate id fs (r ∷ rates')) old) (sym next)
-    ∙ ap (λ rs. or_else (last_rate id flows rs) old) (sym next_rate) ∙ before
+stored id f r flows flows' rates rates' old new all next next_rate writes before = search (rules, or_else_twice)
 
 none_to_come : {P : Type 0} (id : ℕ) (flows : List (Flow P)) → last_rate id flows [] ≡ None
 none_to_come id [] = refl
@@ -33,9 +25,4 @@ none_to_come id (f ∷ flows) = refl
 -- none to come
 pub all_stored : {P : Type 0} (id : ℕ) (flows : List (Flow P)) (rates : List Rate) (old all : Option Rate)
     → (flows ≡ []) ⊎ (rates ≡ []) → or_else (last_rate id flows rates) old ≡ all → old ≡ all
-all_stored id flows rates old all over h =
-    ap (λ x. or_else x old)
-    (sym
-    (⊎_elim (λ e. ap (λ fs. last_rate id fs rates) e) (λ e. ap (last_rate id flows) e ∙ none_to_come id flows)
-    over))
-    ∙ h
+all_stored id flows rates old all over h = search (rules, none_to_come)

@@ -1,7 +1,5 @@
 -- Sides that are made of others, each of one.
-use Rattle.std.proofs.Common.{◌≡◌, List, map, All, Contains}
-use Rattle.std.proofs.lemmas.List.Elements.{All-contains}
-use Rattle.fair_rates.specs.Fairness.Fair.{Side}
+use Rattle.fair_rates.proofs.Common.{◌≡◌, List, map, All, Contains, All-contains, Side}
 use Rattle.fair_rates.proofs.Lists.Members.{in_from_contains, contains_from_in, in_map, from_map}
 use Rattle.fair_rates.proofs.Lists.SumOrder.{All-from_contains}
 

@@ -1,15 +1,10 @@
 -- Who gets more than a fair rate takes it from a flow whose fair rate is no greater.
-use Rattle.std.proofs.Common.{◌≡◌, ℕ, ◌*◌, ◌<◌, ◌≤◌, inl, inr, List, Some, get_or, length, All, ap, subst, arith}
-use Rattle.std.proofs.Common.{mul-le-mul_right}
-use Rattle.std.specs.Prelude.{slice_get}
-use Rattle.std.proofs.Math.Nat.{lt_of_mul-lt-mul_right, mul-lt-mul_of_pos_right, le_of_mul-le-mul_right}
-use Rattle.std.proofs.lemmas.List.Elements.{All-contains}
+use Rattle.fair_rates.proofs.Common.{◌≡◌, ℕ, ◌*◌, ◌<◌, ◌≤◌, inl, inr, List, Some, get_or, All, ap, arith}
+use Rattle.fair_rates.proofs.Common.{mul-le-mul_right, slice_get, lt_of_mul-lt-mul_right, le_of_mul-le-mul_right}
+use Rattle.fair_rates.proofs.Common.{All-contains, Rate, Unlimited, Finite, Ratio, Side, load, IsLimited, IsRateOf}
+use Rattle.fair_rates.proofs.Common.{AreFairRates, common_steps, rules}
+use Rattle.std.proofs.Math.Nat.{mul-lt-mul_of_pos_right}
 use Rattle.std.proofs.lemmas.Option.{slice_get-get_or, slice_get_within, get_or_from_slice_get}
-use Rattle.fair_rates.specs.declared.bandwidth.Rate.{Rate}
-use Rattle.fair_rates.specs.declared.bandwidth.Rate.TheVariants.{Unlimited, Finite}
-use Rattle.fair_rates.specs.declared.ratio.Ratio.{Ratio}
-use Rattle.fair_rates.specs.Fairness.Fair.{Side, load, IsLimited}
-use Rattle.fair_rates.specs.Fairness.Rates.{IsRateOf, AreFairRates}
 use Rattle.fair_rates.specs.Fairness.Laws.{HasRate, FairIsMaxMin, FairRatesAreMaxMin}
 use Rattle.fair_rates.proofs.Lists.SumOrder.{sum_by-scaled, sum_by-under, at_most_or_more}
 
@@ -35,9 +30,7 @@ fair_is_max_min sides D a fair E b within i limited more =
 module _ (sides : List Side) (flows : ℕ) (rates : List Rate) (f : AreFairRates sides flows rates) where
   pub rate_at : (flow : ℕ) (r : Rate) → slice_get rates flow ≡ Some r → IsRateOf sides f.per f.parts flow r
   rate_at flow r has =
-      let within : flow < length rates = slice_get_within rates flow r has in
-      subst (λ x. IsRateOf sides f.per f.parts flow x) (get_or_from_slice_get rates flow r r has)
-      (f.rated flow r (omega (arith, within, f.one_each)))
+      grind (arith, common_steps, slice_get_within rates flow r has, get_or_from_slice_get rates flow r r has)
 
   -- a limited flow has a finite rate
   pub record HasFinite (flow : ℕ) : Type 0 where
@@ -87,10 +80,6 @@ fair_rates_are_max_min sides flows rates users f E b within i r has more =
       payer = pays.payer;
       own = own.rate;
       has = own.has;
-      no_greater =
-          at_most_by_parts own.rate.numerator own.rate.denominator r.numerator r.denominator (f.parts pays.payer)
-          (f.parts i) f.per f.fair.some_part own.worth is.1 pays.no_greater;
-      loses =
-          below_by_parts own.rate.numerator own.rate.denominator (f.parts pays.payer) f.per (b pays.payer) E
-          own.rate.positive own.worth pays.loses;
+      no_greater = search (rules, at_most_by_parts);
+      loses = search (rules, below_by_parts);
     }

@@ -1,14 +1,9 @@
 -- One list of rates is fair.
-use Rattle.std.proofs.Common.{◌≡◌, ℕ, zero, suc, ◌*◌, ◌<◌, inl, inr, List, get_or, refl, sym, ap, ◌∙◌, arith}
-use Rattle.std.proofs.Common.{mul-le-mul_right}
-use Rattle.std.proofs.Math.Nat.{lt_of_mul-lt-mul_right, eq_of_mul-eq-mul_right}
+use Rattle.fair_rates.proofs.Common.{◌≡◌, ℕ, zero, suc, ◌*◌, ◌<◌, inl, inr, List, get_or, refl, sym, ap, ◌∙◌, arith}
+use Rattle.fair_rates.proofs.Common.{mul-le-mul_right, lt_of_mul-lt-mul_right, eq_of_mul-eq-mul_right, Rate, Unlimited}
+use Rattle.fair_rates.proofs.Common.{Finite, Amount, Side, IsLimited, IsFair, IsRateOf}
 use Rattle.std.proofs.lemmas.List.{ext_get_or}
 use Rattle.std.proofs.lemmas.Bool.{cases_order}
-use Rattle.fair_rates.specs.declared.bandwidth.Rate.{Rate}
-use Rattle.fair_rates.specs.declared.bandwidth.Rate.TheVariants.{Unlimited, Finite}
-use Rattle.fair_rates.specs.Numbers.Amount.{Amount}
-use Rattle.fair_rates.specs.Fairness.Fair.{Side, IsLimited, IsFair}
-use Rattle.fair_rates.specs.Fairness.Rates.{IsRateOf}
 use Rattle.fair_rates.specs.Fairness.Laws.{OneAllocation}
 use Rattle.fair_rates.proofs.Numbers.Ratio.{one_ratio}
 use Rattle.fair_rates.proofs.Fairness.MaxMin.{fair_is_max_min}

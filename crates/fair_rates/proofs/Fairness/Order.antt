@@ -1,23 +1,16 @@
 -- The order of the flows does not matter.
-use Rattle.std.proofs.Common.{◌≡◌, ℕ, ◌<◌, ◌≤◌, Bool, true, false, cond, List, [], ◌∷◌, Option, Some, None, map, set}
-use Rattle.std.proofs.Common.{get_or, length, count_by, refl, sym, ap, ap₂, ◌∙◌, subst, inl, inr, arith}
+use Rattle.fair_rates.proofs.Common.{◌≡◌, ℕ, ◌<◌, ◌≤◌, Bool, true, false, cond, List, [], ◌∷◌, Option, Some, None, map}
+use Rattle.fair_rates.proofs.Common.{length, count_by, refl, sym, ap, ap₂, ◌∙◌, subst, inl, inr, arith, IsTotalOrder}
+use Rattle.fair_rates.proofs.Common.{Ordering, get_or-map, length-map, sum_by-cons, IsPermutation-refl}
+use Rattle.fair_rates.proofs.Common.{IsPermutation-sym, Contains-permutation, Flow, Rate, Subject, last_rate, Caps}
+use Rattle.fair_rates.proofs.Common.{AreOfPeers, limits, AreFairUnder, rules}
 use Rattle.std.specs.Prelude.{◌==◌}
 use Rattle.std.specs.List.{swap}
 use Rattle.std.specs.List.Sorted.{IsPermutation}
-use Rattle.std.specs.Cmp.{IsTotalOrder}
-use Rattle.std.specs.declared.cmp.Ordering.{Ordering}
-use Rattle.std.proofs.lemmas.List.{map-set, get_or-map, length-map}
-use Rattle.std.proofs.lemmas.List.Sums.{sum_by-cons}
-use Rattle.std.proofs.lemmas.List.Sorted.{IsPermutation-refl, IsPermutation-sym, IsPermutation-trans}
-use Rattle.std.proofs.lemmas.List.Sorted.{IsPermutation-swap, IsPermutation-keeps, sum_by-IsPermutation}
-use Rattle.std.proofs.lemmas.List.Sorted.{Contains-permutation}
-use Rattle.fair_rates.specs.declared.bandwidth.Flow.{Flow}
-use Rattle.fair_rates.specs.declared.bandwidth.Rate.{Rate}
-use Rattle.fair_rates.specs.Sides.Subjects.{Subject}
-use Rattle.fair_rates.specs.Fairness.Rates.{last_rate}
-use Rattle.fair_rates.specs.Sides.Caps.{Caps}
-use Rattle.fair_rates.specs.Fairness.UnderCaps.{AreOfPeers, limits, sides_under, AreFairUnder, HaveDistinctIds}
-use Rattle.fair_rates.specs.Fairness.UnderCaps.{OrderDoesNotMatter}
+use Rattle.std.proofs.lemmas.List.{map-set}
+use Rattle.std.proofs.lemmas.List.Sorted.{IsPermutation-trans, IsPermutation-swap, IsPermutation-keeps}
+use Rattle.std.proofs.lemmas.List.Sorted.{sum_by-IsPermutation}
+use Rattle.fair_rates.specs.Fairness.UnderCaps.{HaveDistinctIds, OrderDoesNotMatter}
 use Rattle.fair_rates.proofs.Lists.Members.{In, in_from_contains, contains_from_in, some_or_none}
 use Rattle.fair_rates.proofs.Fairness.OneAllocation.{one_allocation}
 use Rattle.fair_rates.proofs.Fairness.Among.{Allotted, flow_of, parts_of, flows_of, rates_of, AreFairAmong, among_from}
@@ -27,12 +20,7 @@ use Rattle.fair_rates.proofs.Fairness.Sharing.{total}
 map-swap : {X Y : Type 0} (f : X → Y) (xs : List X) (i j : ℕ) → i < length xs → j < length xs
     → map f (swap xs i j) ≡ swap (map f xs) i j
 map-swap f [] i j il jl = refl
-map-swap f (x ∷ xs) i j il jl =
-    map-set f (set (x ∷ xs) i (get_or (x ∷ xs) j x)) j (get_or (x ∷ xs) i x)
-    ∙ ap₂ (λ ys y. set ys j y)
-    (map-set f (x ∷ xs) i (get_or (x ∷ xs) j x)
-    ∙ ap (set (map f (x ∷ xs)) i) (sym (get_or-map f (x ∷ xs) j x (f x) jl)))
-    (sym (get_or-map f (x ∷ xs) i x (f x) il))
+map-swap f (x ∷ xs) i j il jl = search (rules, map-set, get_or-map)
 
 -- the elements that the images come from, in the order of the images
 record Lifted {X Y : Type 0} (f : X → Y) (xs : List X) (images : List Y) : Type 0 where
@@ -51,9 +39,7 @@ lift {X} {Y} f xs ys p =
         let i_in : i < length h.all = omega arith in
         let j_in : j < length h.all = omega arith in record {
           all = swap h.all i j;
-          permuted =
-              IsPermutation-trans xs h.all (swap h.all i j) h.permuted
-              (IsPermutation-swap h.all (swap h.all i j) i j i_in j_in refl);
+          permuted = search (rules, IsPermutation-trans, IsPermutation-swap);
           are = map-swap f h.all i j i_in j_in ∙ ap (λ (zs : List Y). swap zs i j) h.are;
         }
 
@@ -96,12 +82,10 @@ module _ {P : Type 0} (id : ℕ) where
   own_rate (y ∷ xs) x few (inl e) is =
       let on : has y.flow ≡ true = subst (λ (z : Allotted P). has z.flow ≡ true) (sym e) is in
       let one : count_of (has y.flow) ≡ 1 = rw on refl in
-      let rest : count_by has (flows_of xs) ≡ 0 =
-      omega (arith, few, sum_by-cons (λ (f : Flow P). cond (has f) 1 0) y.flow (flows_of xs), one) in
+      let rest : count_by has (flows_of xs) ≡ 0 = search (rules, sum_by-cons) in
       rw (no_rate xs (counted_none xs rest), on) (ap (λ (z : Allotted P). Some z.rate) e)
   own_rate (y ∷ xs) x few (inr h) is =
-      let fewer : count_by has (flows_of xs) ≤ 1 =
-      omega (arith, few, sum_by-cons (λ (f : Flow P). cond (has f) 1 0) y.flow (flows_of xs)) in
+      let fewer : count_by has (flows_of xs) ≤ 1 = search (rules, sum_by-cons) in
       rw (own_rate xs x fewer h is) refl
 
   same_rate : (xs ys : List (Allotted P)) → IsPermutation xs ys → count_by has (flows_of xs) ≤ 1
@@ -149,16 +133,12 @@ same_last_rate {P} cmp order caps flows others rates other_rates of distinct p f
     (subst (λ (fs : List (Flow P)). IsPermutation fs others) (sym s.flows_are) p) in
     let whole =
     under_from cmp caps order of s.per l.all (permuted_among cmp caps s.per s.all l.all l.permuted s.fair) in
-    let under : AreFairUnder cmp caps others (rates_of l.all) =
-    subst (λ (fs : List (Flow P)). AreFairUnder cmp caps fs (rates_of l.all)) l.are whole in
-    let one : other_rates ≡ rates_of l.all =
-    one_allocation (sides_under cmp caps others) (length others) (rates_of l.all) under other_rates other_fair in
+    let under : AreFairUnder cmp caps others (rates_of l.all) = search rules in
+    let one : other_rates ≡ rates_of l.all = search (rules, one_allocation) in
     let few : count_by (has id) (flows_of s.all) ≤ 1 =
     subst (λ (fs : List (Flow P)). count_by (has id) fs ≤ 1) (sym s.flows_are) (distinct id) in
-    let same_count : count_by (has id) others ≡ count_by (has id) flows =
-    sum_by-IsPermutation (λ (f : Flow P). cond (has id f) 1 0) flows others p in
-    let few' : count_by (has id) (flows_of l.all) ≤ 1 =
-    subst (λ (fs : List (Flow P)). count_by (has id) fs ≤ 1) (sym l.are) (omega (arith, same_count, distinct id)) in
+    let same_count : count_by (has id) others ≡ count_by (has id) flows = search (rules, sum_by-IsPermutation) in
+    let few' : count_by (has id) (flows_of l.all) ≤ 1 = search rules in
     ap₂ (λ (fs : List (Flow P)) (rs : List Rate). last_rate id fs rs) (sym l.are) one
     ∙ same_rate id s.all l.all l.permuted few few'
     ∙ ap₂ (λ (fs : List (Flow P)) (rs : List Rate). last_rate id fs rs) s.flows_are s.rates_are

@@ -1,23 +1,13 @@
 -- A part of the flows that shares no side with the rest.
-use Rattle.std.proofs.Common.{◌≡◌, ℕ, Bool, true, false, cond, List, [], ◌∷◌, map, refl, sym, ap, ◌∙◌, subst}
-use Rattle.std.proofs.Common.{subst₂, ap₂}
-use Rattle.std.specs.List.{filter}
-use Rattle.std.specs.Cmp.{IsTotalOrder}
-use Rattle.std.specs.declared.cmp.Ordering.{Ordering}
-use Rattle.std.proofs.lemmas.Bool.{and_parts}
-use Rattle.std.proofs.lemmas.Cmp.{eq_by_cmp_equiv}
-use Rattle.std.proofs.lemmas.List.Elements.{All-contains}
+use Rattle.fair_rates.proofs.Common.{◌≡◌, ℕ, Bool, true, List, [], ◌∷◌, map, refl, sym, ◌∙◌, subst, filter}
+use Rattle.fair_rates.proofs.Common.{IsTotalOrder, Ordering, and_parts, eq_by_cmp_equiv, All-contains, Flow, flagged}
+use Rattle.fair_rates.proofs.Common.{Subject, sent_by, received_by, sent_between, same_peer, Caps, limits, AreFairUnder}
+use Rattle.fair_rates.proofs.Common.{rules}
+use Rattle.std.proofs.Common.{subst₂}
 use Rattle.std.proofs.lemmas.Map.Steps.{list_any_congr}
-use Rattle.fair_rates.specs.declared.bandwidth.Flow.{Flow}
-use Rattle.fair_rates.specs.declared.bandwidth.Rate.{Rate}
-use Rattle.fair_rates.specs.Fairness.Part.{flagged}
-use Rattle.fair_rates.specs.Sides.Subjects.{Subject, sent_by, received_by, sent_between, same_peer}
-use Rattle.fair_rates.specs.Sides.Caps.{Caps}
-use Rattle.fair_rates.specs.Fairness.UnderCaps.{limits, is_among, is_of_set, HaveBothEndsOrNone, AreFairUnder}
-use Rattle.fair_rates.specs.Fairness.UnderCaps.{PartIsFair}
+use Rattle.fair_rates.specs.Fairness.UnderCaps.{is_among, is_of_set, HaveBothEndsOrNone, PartIsFair}
 use Rattle.fair_rates.proofs.Lists.Members.{In, in_map, from_filter, contains_from_in}
-use Rattle.fair_rates.proofs.Fairness.Among.{Allotted, flow_of, parts_of, flows_of, rates_of, AreFairAmong, among_from}
-use Rattle.fair_rates.proofs.Fairness.Among.{under_from}
+use Rattle.fair_rates.proofs.Fairness.Among.{Allotted, flows_of, rates_of, AreFairAmong, among_from, under_from}
 use Rattle.fair_rates.proofs.Fairness.Sharing.{part_shared}
 
 module _ {P : Type 0} (cmp : P → P → Ordering) (caps : Caps P) (mine : Flow P → Bool) where
@@ -27,24 +17,11 @@ module _ {P : Type 0} (cmp : P → P → Ordering) (caps : Caps P) (mine : Flow 
 
   pub flows_of_part : (xs : List (Allotted P)) → flows_of (part xs) ≡ filter mine (flows_of xs)
   flows_of_part [] = refl
-  flows_of_part (x ∷ xs) = by_test (mine x.flow) (flows_of_part xs)
-    where
-      by_test : (b : Bool) → flows_of (part xs) ≡ filter mine (flows_of xs)
-          → flows_of (cond b (x ∷ part xs) (part xs))
-          ≡ cond b (x.flow ∷ filter mine (flows_of xs)) (filter mine (flows_of xs))
-      by_test true ih = ap (λ (fs : List (Flow P)). x.flow ∷ fs) ih
-      by_test false ih = ih
+  flows_of_part (x ∷ xs) = search (rules, flows_of_part xs)
 
   pub rates_of_part : (xs : List (Allotted P)) → rates_of (part xs) ≡ flagged (map mine (flows_of xs)) (rates_of xs)
   rates_of_part [] = refl
-  rates_of_part (x ∷ xs) = by_test (mine x.flow) (rates_of_part xs)
-    where
-      by_test : (b : Bool) → rates_of (part xs) ≡ flagged (map mine (flows_of xs)) (rates_of xs)
-          → rates_of (cond b (x ∷ part xs) (part xs))
-          ≡ cond b (x.rate ∷ flagged (map mine (flows_of xs)) (rates_of xs))
-          (flagged (map mine (flows_of xs)) (rates_of xs))
-      by_test true ih = ap (λ (rs : List Rate). x.rate ∷ rs) ih
-      by_test false ih = ih
+  rates_of_part (x ∷ xs) = search (rules, rates_of_part xs)
 
   -- fairness of the part
   pub part_among : (per : ℕ) (xs : List (Allotted P)) → AreFairAmong cmp caps per xs
@@ -52,9 +29,7 @@ module _ {P : Type 0} (cmp : P → P → Ordering) (caps : Caps P) (mine : Flow 
       → limits cmp s y.flow ≡ true → mine x.flow ≡ mine y.flow)
       → AreFairAmong cmp caps per (part xs)
   part_among per xs f apart = record {
-    shared =
-        part_shared cmp caps flow_of parts_of (λ (x : Allotted P). mine x.flow) per xs f.shared
-        (λ s cap x y has. apart s x y);
+    shared = search (rules, part_shared);
     rated = λ x h. f.rated x (from_filter (λ (x : Allotted P). mine x.flow) xs x h).0;
   }
 
@@ -67,14 +42,8 @@ module _ {P : Type 0} (cmp : P → P → Ordering) (order : IsTotalOrder cmp) (p
       → is_among cmp peers g.origin ≡ is_among cmp peers g.recipient
       → limits cmp s f ≡ true → limits cmp s g ≡ true → is_of_set cmp peers f ≡ is_of_set cmp peers g
   apart (sent_by p) f g at_f at_g lf lg = sym (same_among p f.origin lf) ∙ same_among p g.origin lg
-  apart (received_by p) f g at_f at_g lf lg =
-      at_f
-      ∙ sym (same_among p f.recipient (and_parts f.delivered (same_peer cmp p f.recipient) lf).1)
-      ∙ same_among p g.recipient (and_parts g.delivered (same_peer cmp p g.recipient) lg).1
-      ∙ sym at_g
-  apart (sent_between p q) f g at_f at_g lf lg =
-      sym (same_among p f.origin (and_parts (same_peer cmp p f.origin) (same_peer cmp q f.recipient) lf).0)
-      ∙ same_among p g.origin (and_parts (same_peer cmp p g.origin) (same_peer cmp q g.recipient) lg).0
+  apart (received_by p) f g at_f at_g lf lg = search (rules, same_among, and_parts)
+  apart (sent_between p q) f g at_f at_g lf lg = search (rules, same_among, and_parts)
 
   module _ (caps : Caps P) (flows : List (Flow P)) (ends : HaveBothEndsOrNone cmp peers flows) (xs : List (Allotted P))
       (same : flows_of xs ≡ flows) where
@@ -95,9 +64,7 @@ part_is_fair {P} cmp order caps peers flows rates of ends fair =
     let whole =
     under_from cmp caps order of s.per (part cmp caps mine s.all)
     (part_among cmp caps mine s.per s.all s.fair (together cmp order peers caps flows ends s.all s.flows_are)) in
-    let flows_is : flows_of (part cmp caps mine s.all) ≡ filter mine flows =
-    flows_of_part cmp caps mine s.all ∙ ap (filter mine) s.flows_are in
+    let flows_is : flows_of (part cmp caps mine s.all) ≡ filter mine flows = search (rules, flows_of_part) in
     let rates_is : rates_of (part cmp caps mine s.all) ≡ flagged (map mine flows) rates =
-    rates_of_part cmp caps mine s.all
-    ∙ ap₂ (λ (fs : List (Flow P)) (rs : List Rate). flagged (map mine fs) rs) s.flows_are s.rates_are in
+        search (rules, rates_of_part) in
     subst₂ (AreFairUnder cmp caps) flows_is rates_is whole

@@ -1,7 +1,5 @@
 -- The list has one number of different finite rates.
-use Rattle.std.proofs.Common.{◌≡◌, ℕ, List, arith}
-use Rattle.fair_rates.specs.Fairness.Rates.{HasDifferentRates}
-use Rattle.fair_rates.specs.declared.bandwidth.Rate.{Rate}
+use Rattle.fair_rates.proofs.Common.{◌≡◌, ℕ, List, arith, HasDifferentRates, Rate}
 use Rattle.fair_rates.proofs.Lists.Different.{no_more}
 
 pub one_number : (rates : List Rate) (m n : ℕ) → HasDifferentRates rates m → HasDifferentRates rates n → m ≡ n

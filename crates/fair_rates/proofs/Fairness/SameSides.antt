@@ -1,11 +1,7 @@
 -- Fairness depends on the set of sides alone.
-use Rattle.std.proofs.Common.{ℕ, ◌*◌, ◌≤◌, List, get_or}
+use Rattle.fair_rates.proofs.Common.{ℕ, ◌*◌, ◌≤◌, List, All-contains, Rate, Unlimited, Finite, Side, load, IsLimited}
+use Rattle.fair_rates.proofs.Common.{IsFair, HasBottleneck, IsRateOf, arith, common_steps}
 use Rattle.std.specs.Prelude.{◌↔◌}
-use Rattle.std.proofs.lemmas.List.Elements.{All-contains}
-use Rattle.fair_rates.specs.declared.bandwidth.Rate.{Rate}
-use Rattle.fair_rates.specs.declared.bandwidth.Rate.TheVariants.{Unlimited, Finite}
-use Rattle.fair_rates.specs.Fairness.Fair.{Side, load, IsLimited, IsFair, HasBottleneck}
-use Rattle.fair_rates.specs.Fairness.Rates.{IsRateOf}
 use Rattle.fair_rates.specs.Fairness.Laws.{AreTheSameSides, FairnessIsOfTheSet}
 use Rattle.fair_rates.proofs.Lists.SumOrder.{All-from_contains}
 
@@ -41,10 +37,5 @@ module _ (xs ys : List Side) (same : AreTheSameSides xs ys) where
   still_rate per parts flow (Finite r) h = (there flow h.0, h.1)
 
 pub fairness_is_of_the_set : FairnessIsOfTheSet
-fairness_is_of_the_set xs ys flows rates same f = record {
-  one_each = f.one_each;
-  per = f.per;
-  parts = f.parts;
-  fair = still_fair xs ys same f.per f.parts f.fair;
-  rated = λ flow d within. still_rate xs ys same f.per f.parts flow (get_or rates flow d) (f.rated flow d within);
-}
+fairness_is_of_the_set xs ys flows rates same f =
+    grind (arith, common_steps, still_fair xs ys same f.per f.parts f.fair, still_rate)

@@ -1,16 +1,10 @@
 -- Fairness beside those that keep their rates, of elements that have a flow and parts each, said without their places.
-use Rattle.std.proofs.Common.{◌≡◌, ℕ, ◌+◌, ◌*◌, ◌<◌, ◌≤◌, Bool, true, false, cond, not, List, [], ◌∷◌, ◌&&◌}
-use Rattle.std.proofs.Common.{Option, Some, None, refl, sym, ap, ◌∙◌, subst, inl, inr, arith}
-use Rattle.std.specs.Prelude.{option_map}
-use Rattle.std.specs.List.{filter}
-use Rattle.std.proofs.Math.Nat.{mul-pos}
-use Rattle.std.specs.declared.cmp.Ordering.{Ordering}
-use Rattle.std.proofs.lemmas.Bool.{and_parts, cases_lt}
-use Rattle.std.proofs.lemmas.Option.{same_Some}
-use Rattle.fair_rates.specs.declared.bandwidth.Flow.{Flow}
-use Rattle.fair_rates.specs.Fairness.UnderCaps.{cap_of, limits}
-use Rattle.fair_rates.specs.Sides.Caps.{Caps, times_caps}
-use Rattle.fair_rates.specs.Sides.Subjects.{Subject, sent_by, received_by, sent_between}
+use Rattle.fair_rates.proofs.Common.{◌≡◌, ℕ, ◌+◌, ◌*◌, ◌<◌, ◌≤◌, Bool, true, false, List, [], ◌∷◌, ◌&&◌, Option, Some}
+use Rattle.fair_rates.proofs.Common.{None, refl, sym, ap, ◌∙◌, subst, inl, inr, arith, option_map, filter, mul-pos}
+use Rattle.fair_rates.proofs.Common.{Ordering, and_parts, cases_lt, same_Some, Flow, cap_of, limits, Caps, Subject}
+use Rattle.fair_rates.proofs.Common.{sent_by, received_by, sent_between, rules, common_steps}
+use Rattle.std.proofs.Common.{not}
+use Rattle.fair_rates.specs.Sides.Caps.{times_caps}
 use Rattle.fair_rates.proofs.Fairness.Sharing.{IsCapped, IsHeldAmong, AreShared, total, total-cons, total_same}
 use Rattle.fair_rates.proofs.Fairness.Sharing.{total_at_most}
 use Rattle.fair_rates.proofs.Lists.Booleans.{by_bool}
@@ -46,32 +40,8 @@ module _ {P X : Type 0} (cmp : P → P → Ordering) (caps : Caps P) (flow : X �
       → limits cmp s (flow x) ≡ true
       → parts x + total cmp caps flow parts s (keeping rated xs) ≤ total cmp caps flow parts s xs
   more_than rated s [] x h r l = absurd h
-  more_than rated s (y ∷ ys) x (inl e) r l =
-      let adds : cond (limits cmp s (flow x)) (parts x) 0 ≡ parts x = rw l refl in
-      let off : not (rated x) ≡ false = ap not r in
-      subst
-      (λ (z : X). parts x + total cmp caps flow parts s (keeping rated (z ∷ ys)) ≤ total cmp caps flow parts s (z ∷ ys))
-      (sym e)
-      (rw off (omega (
-        arith,
-        adds,
-        total_at_most cmp caps flow parts (λ z. not (rated z)) s ys,
-        total-cons cmp caps flow parts s x ys,
-      )))
-  more_than rated s (y ∷ ys) x (inr h) r l = by_test (not (rated y)) (more_than rated s ys x h r l)
-    where
-      by_test : (b : Bool)
-          → parts x + total cmp caps flow parts s (keeping rated ys) ≤ total cmp caps flow parts s ys
-          → parts x + total cmp caps flow parts s (cond b (y ∷ keeping rated ys) (keeping rated ys))
-          ≤ total cmp caps flow parts s (y ∷ ys)
-      by_test true ih =
-          omega (
-            arith,
-            ih,
-            total-cons cmp caps flow parts s y ys,
-            total-cons cmp caps flow parts s y (keeping rated ys),
-          )
-      by_test false ih = omega (arith, ih, total-cons cmp caps flow parts s y ys)
+  more_than rated s (y ∷ ys) x (inl e) r l = search (rules, total_at_most, total-cons)
+  more_than rated s (y ∷ ys) x (inr h) r l = search (rules, total-cons, more_than rated s ys x h r l)
 
   module _ (rated : X → Bool) (per level : ℕ) (vs xs : List X) (old : AreShared cmp caps flow parts per vs)
       (same : keeping rated vs ≡ keeping rated xs)
@@ -92,23 +62,10 @@ module _ {P X : Type 0} (cmp : P → P → Ordering) (caps : Caps P) (flow : X �
     of_keeping : (s : Subject P) (ys : List X)
         → ((y : X) → In ys y → rated y ≡ true → limits cmp s (flow y) ≡ false)
         → total cmp caps flow parts s (keeping rated ys) ≡ total cmp caps flow parts s ys
-    of_keeping s ys none =
-        total_same cmp caps flow parts (λ y. not (rated y)) s ys
-        (λ y h l. by_bool (rated y) (λ r. not_both (limits cmp s (flow y)) l (none y h r)) (λ off. ap not off))
+    of_keeping s ys none = search (rules, total_same, by_bool, not_both)
 
     within : (s : Subject P) (cap : ℕ) → cap_of caps s ≡ Some cap → total cmp caps flow parts s xs ≤ cap * per
-    within s cap has = elim (some_or_none (λ (x : X). rated x && limits cmp s (flow x)) xs) [
-      | inl (x, h, t) ↦
-          let both = and_parts (rated x) (limits cmp s (flow x)) t in beside.within s cap has x h both.0 both.1
-      | inr none ↦
-          omega (
-            arith,
-            of_keeping s xs (λ x h r. not_limited (rated x) (limits cmp s (flow x)) r (none x h)),
-            ap (total cmp caps flow parts s) same,
-            total_at_most cmp caps flow parts (λ x. not (rated x)) s vs,
-            old.within s cap has,
-          )
-    ]
+    within s cap has = search (rules, some_or_none, and_parts, of_keeping, not_limited, total_at_most)
 
     -- of one that is rated
     held_rated : (x : X) → In xs x → rated x ≡ true → IsHeldBeside rated per xs x
@@ -116,50 +73,25 @@ module _ {P X : Type 0} (cmp : P → P → Ordering) (caps : Caps P) (flow : X �
     held_rated x h r b = record {
       by = b.by;
       full = b.full;
-      greatest = λ y among l.
-          by_bool (rated y) (λ on. b.greatest y among on l) (λ off. elim (cases_lt (parts y) level) [
-            | inl less ↦ omega (arith, less, high x h r)
-            | inr le ↦
-                not_both (limits cmp b.by.subject (flow x)) b.by.limited
-                ((apart y among off le b.by.subject b.by.cap b.by.capped l).0 x h r)
-          ]);
+      greatest = search (rules, by_bool, cases_lt, not_both);
     }
 
     -- of one that keeps its rate: its bottleneck before limited none that was rated, and limits none that is
     module _ (k : X) (h : In xs k) (off : rated k ≡ false) (b : IsHeldAmong cmp caps flow parts per vs k) where
       none_before : (y : X) → In vs y → rated y ≡ true → limits cmp b.by.subject (flow y) ≡ false
-      none_before y among r = elim (cases_lt (parts k) level) [
-        | inl less ↦
-            by_bool (limits cmp b.by.subject (flow y))
-            (λ l. absurd (omega (arith, less, gone y among r, b.greatest y among l))) (λ e. e)
-        | inr le ↦ (apart k h off le b.by.subject b.by.cap b.by.capped b.by.limited).1 y among r
-      ]
+      none_before y among r = search (rules, cases_lt, by_bool)
 
       kept_total : total cmp caps flow parts b.by.subject (keeping rated xs) ≡ b.by.cap * per
-      kept_total =
-          sym (ap (total cmp caps flow parts b.by.subject) same) ∙ of_keeping b.by.subject vs none_before ∙ b.full
+      kept_total = search (rules, of_keeping, none_before)
 
       none_now : (x : X) → In xs x → rated x ≡ true → limits cmp b.by.subject (flow x) ≡ false
-      none_now x among r = elim (cases_lt (parts k) level) [
-        | inl less ↦
-            by_bool (limits cmp b.by.subject (flow x)) (λ l. absurd (omega (
-              arith,
-              less,
-              high x among r,
-              kept_total,
-              more_than rated b.by.subject xs x among r l,
-              beside.within b.by.subject b.by.cap b.by.capped x among r l,
-            ))) (λ e. e)
-        | inr le ↦ (apart k h off le b.by.subject b.by.cap b.by.capped b.by.limited).0 x among r
-      ]
+      none_now x among r = search (rules, cases_lt, by_bool, kept_total, more_than)
 
       held_kept : IsHeldAmong cmp caps flow parts per xs k
       held_kept = record {
         by = b.by;
         full = sym (of_keeping b.by.subject xs none_now) ∙ kept_total;
-        greatest = λ y among l.
-            by_bool (rated y) (λ on. not_both (limits cmp b.by.subject (flow y)) l (none_now y among on))
-            (λ is. b.greatest y (kept_before y among is) l);
+        greatest = search (rules, by_bool, not_both, none_now, kept_before);
       }
 
     -- what was fair, and is fair beside those that keep their rates, is fair
@@ -177,28 +109,7 @@ module _ {P X : Type 0} (cmp : P → P → Ordering) (caps : Caps P) (flow : X �
       → total cmp caps flow parts s (filter rated xs) + total cmp caps flow parts s (keeping rated xs)
       ≡ total cmp caps flow parts s xs
   total_parted rated s [] = refl
-  total_parted rated s (x ∷ xs) = by_test (rated x) (total_parted rated s xs)
-    where
-      by_test : (b : Bool)
-          → total cmp caps flow parts s (filter rated xs) + total cmp caps flow parts s (keeping rated xs)
-          ≡ total cmp caps flow parts s xs
-          → total cmp caps flow parts s (cond b (x ∷ filter rated xs) (filter rated xs))
-          + total cmp caps flow parts s (cond (not b) (x ∷ keeping rated xs) (keeping rated xs))
-          ≡ total cmp caps flow parts s (x ∷ xs)
-      by_test true ih =
-          omega (
-            arith,
-            ih,
-            total-cons cmp caps flow parts s x (filter rated xs),
-            total-cons cmp caps flow parts s x xs,
-          )
-      by_test false ih =
-          omega (
-            arith,
-            ih,
-            total-cons cmp caps flow parts s x (keeping rated xs),
-            total-cons cmp caps flow parts s x xs,
-          )
+  total_parted rated s (x ∷ xs) = search (rules, total-cons, total_parted rated s xs)
 
   -- what is fair under what the others leave, for those that are rated alone, is fair beside the others; what is left is
   -- in parts so many times as large
@@ -211,9 +122,7 @@ module _ {P X : Type 0} (cmp : P → P → Ordering) (caps : Caps P) (flow : X �
       (fair : AreShared cmp left flow parts times (filter rated xs)) where
     within_left : (s : Subject P) (cap : ℕ) → cap_of caps s ≡ Some cap → (x : X) → In xs x → rated x ≡ true
         → limits cmp s (flow x) ≡ true → total cmp caps flow parts s xs ≤ cap * per
-    within_left s cap has x h r l =
-        let rest = leaves x h r s l cap has in
-        omega (arith, rest.2, fair.within s rest.0 rest.1, total_parted rated s xs)
+    within_left s cap has x h r l = grind (arith, common_steps, total_parted rated s xs)
 
     held_left : (x : X) (h : In xs x) (r : rated x ≡ true)
         → IsHeldAmong cmp left flow parts times (filter rated xs) x → IsHeldBeside rated per xs x

@@ -1,24 +1,15 @@
 -- Fairness under caps of elements that have a flow and parts each, said without their places: so it holds in every
 -- order, of a part, and of two parts together.
-use Rattle.std.proofs.Common.{◌≡◌, ℕ, zero, suc, ◌+◌, ◌*◌, ◌<◌, ◌≤◌, Bool, true, false, cond, List, [], ◌∷◌, Some}
-use Rattle.std.proofs.Common.{map, length, get_or, sum_by, Contains, refl, sym, ap, ◌∙◌, subst, inl, inr, arith}
-use Rattle.std.specs.Prelude.{slice_get}
-use Rattle.std.specs.List.{filter}
-use Rattle.std.specs.Cmp.{IsTotalOrder}
-use Rattle.std.specs.declared.cmp.Ordering.{Ordering}
-use Rattle.std.proofs.lemmas.List.Elements.{All-contains}
-use Rattle.std.proofs.lemmas.List.Sums.{sum_by-cons}
-use Rattle.std.proofs.lemmas.Option.{slice_get-map, same_Some}
-use Rattle.fair_rates.specs.declared.bandwidth.Flow.{Flow}
-use Rattle.fair_rates.specs.Fairness.Fair.{Side, load, Uses, IsLimited, IsFair, HasBottleneck}
-use Rattle.fair_rates.specs.Sides.Subjects.{Subject}
-use Rattle.fair_rates.specs.Sides.Caps.{Caps}
-use Rattle.fair_rates.specs.Fairness.UnderCaps.{cap_of, AreOfPeers, limits, sides_under, IsCappedSide}
-use Rattle.fair_rates.proofs.Lists.Members.{In, in_map, in_get, get_in, in_from_contains, from_filter}
-use Rattle.fair_rates.proofs.Lists.Members.{some_or_none, get_from_map}
+use Rattle.fair_rates.proofs.Common.{◌≡◌, ℕ, zero, suc, ◌+◌, ◌*◌, ◌<◌, ◌≤◌, Bool, true, false, cond, List, [], ◌∷◌}
+use Rattle.fair_rates.proofs.Common.{Some, map, length, get_or, sum_by, Contains, refl, sym, ap, ◌∙◌, subst, inl, inr}
+use Rattle.fair_rates.proofs.Common.{arith, slice_get, filter, IsTotalOrder, Ordering, All-contains, sum_by-cons}
+use Rattle.fair_rates.proofs.Common.{slice_get-map, same_Some, Flow, Side, load, Uses, IsLimited, IsFair, HasBottleneck}
+use Rattle.fair_rates.proofs.Common.{Subject, Caps, cap_of, AreOfPeers, limits, sides_under, IsCappedSide, places_from}
+use Rattle.fair_rates.proofs.Common.{rules, common_steps}
+use Rattle.fair_rates.proofs.Lists.Members.{In, in_map, in_get, get_in, in_from_contains, from_filter, some_or_none}
+use Rattle.fair_rates.proofs.Lists.Members.{get_from_map}
 use Rattle.fair_rates.proofs.Lists.SumOrder.{All-from_contains}
 use Rattle.fair_rates.proofs.Sides.CapSides.{capped_from_listed, listed_from_capped, side_of_subject}
-use Rattle.fair_rates.specs.Lists.Places.{places_from}
 use Rattle.fair_rates.proofs.Lists.Places.{place_here, passes_here}
 
 -- a subject with a cap, whose side limits the flow
@@ -40,13 +31,8 @@ module _ {P X : Type 0} (flow : X → Flow P) (parts : X → ℕ) where
   pub parts_at : (g : ℕ → ℕ) (place : ℕ) (xs : List X) (k : ℕ) (x : X) → StandsAt g place xs → slice_get xs k ≡ Some x
       → g (place + k) ≡ parts x
   parts_at g place [] k x stands at = cc
-  parts_at g place (y ∷ xs) zero x stands at =
-      let e : place + 0 ≡ place = omega arith in
-      let same : y ≡ x = cc in
-      ap g e ∙ stands.0 ∙ ap parts same
-  parts_at g place (y ∷ xs) (suc k) x stands at =
-      let e : place + suc k ≡ place + 1 + k = omega arith in
-      ap g e ∙ parts_at g (place + 1) xs k x stands.1 at
+  parts_at g place (y ∷ xs) zero x stands at = search rules
+  parts_at g place (y ∷ xs) (suc k) x stands at = search (rules, parts_at g (place + 1) xs k x stands.1)
 
   pub stands_from : (g : ℕ → ℕ) (place : ℕ) (xs : List X)
       → ((k : ℕ) → k < length xs → g (place + k) ≡ get_or (map parts xs) k 0) → StandsAt g place xs
@@ -93,16 +79,7 @@ module _ {P X : Type 0} (cmp : P → P → Ordering) (caps : Caps P) (flow : X �
   pub load_is : (s : Subject P) (g : ℕ → ℕ) (place : ℕ) (xs : List X) → StandsAt flow parts g place xs
       → sum_by g (places_from place (limits cmp s) (map flow xs)) ≡ total s xs
   load_is s g place [] stands = refl
-  load_is s g place (x ∷ xs) stands =
-      both (limits cmp s (flow x)) (load_is s g (place + 1) xs stands.1) ∙ sym (total-cons s x xs)
-    where
-      users : List ℕ
-      users = places_from (place + 1) (limits cmp s) (map flow xs)
-
-      both : (t : Bool) → sum_by g users ≡ total s xs
-          → sum_by g (cond t (place ∷ users) users) ≡ cond t (parts x) 0 + total s xs
-      both true ih = omega (arith, ih, stands.0, sum_by-cons g place users)
-      both false ih = omega (arith, ih)
+  load_is s g place (x ∷ xs) stands = search (rules, total-cons, sum_by-cons, load_is s g (place + 1) xs stands.1)
 
   pub place_in : (s : Subject P) (xs : List X) (k : ℕ) (x : X) → slice_get xs k ≡ Some x → limits cmp s (flow x) ≡ true
       → Contains (places_from 0 (limits cmp s) (map flow xs)) k
@@ -112,11 +89,9 @@ module _ {P X : Type 0} (cmp : P → P → Ordering) (caps : Caps P) (flow : X �
   from_place : (s : Subject P) (xs : List X) (k : ℕ) → Contains (places_from 0 (limits cmp s) (map flow xs)) k
       → (x : X) × (slice_get xs k ≡ Some x) × (limits cmp s (flow x) ≡ true)
   from_place s xs k has =
-      let r =
-      passes_here (limits cmp s) (map flow xs) k
-      (in_from_contains (places_from 0 (limits cmp s) (map flow xs)) k has) in
-      let x = get_from_map flow xs k r.0 r.1 in
-      (x.0, x.1, subst (λ (f : Flow P). limits cmp s f ≡ true) (sym x.2) r.2)
+      grind (arith, common_steps,
+      passes_here (limits cmp s) (map flow xs) k (in_from_contains (places_from 0 (limits cmp s) (map flow xs)) k has),
+      in_from_contains (places_from 0 (limits cmp s) (map flow xs)) k has, get_from_map)
 
   module _ (order : IsTotalOrder cmp) (of : AreOfPeers cmp caps) (xs : List X) where
     abbrev pub S : List Side
@@ -127,12 +102,11 @@ module _ {P X : Type 0} (cmp : P → P → Ordering) (caps : Caps P) (flow : X �
 
     uses_side : (k : ℕ) (x : X) → slice_get xs k ≡ Some x → (c : IsCapped cmp caps (flow x))
         → Uses S k (side_for c.subject c.cap)
-    uses_side k x at c = record {
-      listed =
-          listed_from_capped cmp order caps of (map flow xs) c.subject c.cap (flow x) c.capped
-          (in_map flow xs x (in_get xs k x at)) c.limited;
-      used = place_in c.subject xs k x at c.limited;
-    }
+    uses_side k x at c =
+        grind (arith, common_steps,
+        listed_from_capped cmp order caps of (map flow xs) c.subject c.cap (flow x) c.capped
+        (in_map flow xs x (in_get xs k x at)) c.limited,
+        in_map flow xs x (in_get xs k x at), in_get xs k x, place_in c.subject xs k x)
 
     pub limited_from_capped : (k : ℕ) (x : X) → slice_get xs k ≡ Some x → IsCapped cmp caps (flow x) → IsLimited S k
     limited_from_capped k x at c = (side_for c.subject c.cap, uses_side k x at c)
@@ -250,12 +224,7 @@ module _ {P X : Type 0} (cmp : P → P → Ordering) (caps : Caps P) (flow : X �
 
   pub total_at_most : (mine : X → Bool) (s : Subject P) (xs : List X) → total s (filter mine xs) ≤ total s xs
   total_at_most mine s [] = omega arith
-  total_at_most mine s (x ∷ xs) = by_test (mine x) (total_at_most mine s xs)
-    where
-      by_test : (b : Bool) → total s (filter mine xs) ≤ total s xs
-          → total s (cond b (x ∷ filter mine xs) (filter mine xs)) ≤ total s (x ∷ xs)
-      by_test true ih = omega (arith, ih, total-cons s x (filter mine xs), total-cons s x xs)
-      by_test false ih = omega (arith, ih, total-cons s x xs)
+  total_at_most mine s (x ∷ xs) = search (rules, total-cons, total_at_most mine s xs)
 
   -- two that a capped side limits both pass the test or both fail it
   abbrev pub AreApart : (X → Bool) → List X → Type 0

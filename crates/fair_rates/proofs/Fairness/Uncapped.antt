@@ -1,16 +1,9 @@
 -- A flow is unlimited exactly where it uses no capped side.
-use Rattle.std.proofs.Common.{◌≡◌, ℕ, true, List, Option, Some, None, refl, sym, ap, ◌∙◌, subst}
-use Rattle.std.specs.Prelude.{slice_get}
-use Rattle.std.specs.Cmp.{IsTotalOrder}
-use Rattle.std.specs.declared.cmp.Ordering.{Ordering}
-use Rattle.std.proofs.lemmas.Bool.{and_from, and_parts}
-use Rattle.std.proofs.lemmas.Option.{same_Some}
-use Rattle.fair_rates.specs.declared.bandwidth.Flow.{Flow}
-use Rattle.fair_rates.specs.declared.bandwidth.Rate.{Rate}
-use Rattle.fair_rates.specs.declared.bandwidth.Rate.TheVariants.{Unlimited, Finite}
-use Rattle.fair_rates.specs.Sides.Subjects.{Subject, sent_by, received_by, sent_between, same_peer}
-use Rattle.fair_rates.specs.Sides.Caps.{Caps}
-use Rattle.fair_rates.specs.Fairness.UnderCaps.{cap_of, AreOfPeers, UsesNoCap, limits, UnlimitedWhereUncapped}
+use Rattle.fair_rates.proofs.Common.{◌≡◌, ℕ, true, List, Option, Some, None, refl, sym, ap, ◌∙◌, subst, slice_get}
+use Rattle.fair_rates.proofs.Common.{IsTotalOrder, Ordering, and_from, and_parts, same_Some, Flow, Rate, Unlimited}
+use Rattle.fair_rates.proofs.Common.{Finite, Subject, sent_by, received_by, sent_between, same_peer, Caps, cap_of}
+use Rattle.fair_rates.proofs.Common.{AreOfPeers, limits, rules}
+use Rattle.fair_rates.specs.Fairness.UnderCaps.{UsesNoCap, UnlimitedWhereUncapped}
 use Rattle.fair_rates.proofs.Sides.Subjects.{same_itself}
 use Rattle.fair_rates.proofs.Lists.Members.{in_get, get_from_map}
 use Rattle.fair_rates.proofs.Sides.EqualSubjects.{same_peer_itself, one_cap}
@@ -39,22 +32,7 @@ module _ {P : Type 0} (cmp : P → P → Ordering) (order : IsTotalOrder cmp) (c
   }
 
   free_from_no_cap : AreOfPeers cmp caps → (f : Flow P) → UsesNoCap caps f → ¬ IsCapped cmp caps f
-  free_from_no_cap of f n c = by_subject c.subject c.capped c.limited
-    where
-      by_subject : (s : Subject P) → cap_of caps s ≡ Some c.cap → limits cmp s f ≡ true → ⊥
-      by_subject (sent_by p) e l =
-          let same : caps.egress p ≡ caps.egress f.origin =
-          one_cap cmp order caps of (sent_by p) (sent_by f.origin) l in
-          let none : caps.egress f.origin ≡ None = n.origin in cc
-      by_subject (received_by p) e l =
-          let both = and_parts f.delivered (same_peer cmp p f.recipient) l in
-          let same : caps.ingress p ≡ caps.ingress f.recipient =
-          one_cap cmp order caps of (received_by p) (received_by f.recipient) both.1 in
-          let none : caps.ingress f.recipient ≡ None = n.recipient both.0 in cc
-      by_subject (sent_between p q) e l =
-          let same : caps.link p q ≡ caps.link f.origin f.recipient =
-          one_cap cmp order caps of (sent_between p q) (sent_between f.origin f.recipient) l in
-          let none : caps.link f.origin f.recipient ≡ None = n.pair in cc
+  free_from_no_cap of f n c = search (rules, one_cap, and_parts)
 
   unlimited_from_free : (per parts : ℕ) (f : Flow P) (r : Rate) → ¬ IsCapped cmp caps f → IsRated cmp caps per parts f r
       → r ≡ Unlimited
@@ -68,12 +46,8 @@ unlimited_where_uncapped {P} cmp order caps flows rates of fair place f at =
     get_from_map (λ (x : Allotted P). x.flow) s.all place f
     (subst (λ (fs : List (Flow P)). slice_get fs place ≡ Some f) (sym s.flows_are) at) in
     let x = there.0 in
-    let rate : slice_get rates place ≡ Some x.rate =
-    subst (λ (rs : List Rate). slice_get rs place ≡ Some x.rate) s.rates_are
-    (rate_there cmp caps s.all place x there.1) in
-    let rated : IsRated cmp caps s.per x.parts f x.rate =
-    subst (λ (g : Flow P). IsRated cmp caps s.per x.parts g x.rate) there.2
-    (s.fair.rated x (in_get s.all place x there.1)) in (
+    let rate : slice_get rates place ≡ Some x.rate = search (rules, rate_there) in
+    let rated : IsRated cmp caps s.per x.parts f x.rate = search (rules, in_get) in (
       (λ unlimited. no_cap_from_free cmp order caps f
           (subst (IsRated cmp caps s.per x.parts f) (same_Some x.rate Unlimited (sym rate ∙ unlimited)) rated)),
       (λ n. rate

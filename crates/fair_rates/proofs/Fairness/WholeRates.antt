@@ -1,13 +1,9 @@
 -- The fair rates of n flows are whole over their denominator.
-use Rattle.std.proofs.Common.{◌≡◌, ℕ, ◌*◌, ◌<◌, ◌≤◌, List, get_or, ap, arith}
-use Rattle.std.proofs.Math.Nat.{eq_of_mul-eq-mul_right}
-use Rattle.fair_rates.specs.Fairness.Fair.{Side, IsFair}
+use Rattle.fair_rates.proofs.Common.{◌≡◌, ℕ, ◌*◌, ◌<◌, ◌≤◌, List, get_or, ap, arith, eq_of_mul-eq-mul_right, Side}
+use Rattle.fair_rates.proofs.Common.{IsFair, HaveUsersBelow, IsRateOf, AreFairRates, AreWholeOver, Rate, Unlimited}
+use Rattle.fair_rates.proofs.Common.{Finite, common_steps, rules}
 use Rattle.fair_rates.specs.Fairness.Exists.{HaveDistinctUsers}
-use Rattle.fair_rates.specs.Fairness.Laws.{HaveUsersBelow}
-use Rattle.fair_rates.specs.Fairness.Rates.{IsRateOf, AreFairRates}
-use Rattle.fair_rates.specs.Refusals.FairRatesFit.{IsWholeOver, AreWholeOver}
-use Rattle.fair_rates.specs.declared.bandwidth.Rate.{Rate}
-use Rattle.fair_rates.specs.declared.bandwidth.Rate.TheVariants.{Unlimited, Finite}
+use Rattle.fair_rates.specs.Refusals.FairRatesFit.{IsWholeOver}
 use Rattle.fair_rates.proofs.Fairness.Denominators.{denominator_of}
 use Rattle.fair_rates.proofs.Fairness.OneAllocation.{same_amounts}
 use Rattle.fair_rates.proofs.Filling.FairPartsExist.{fair_parts}
@@ -22,20 +18,18 @@ whole_rate : (sides : List Side) (per last : ℕ) (parts other : ℕ → ℕ)
     → IsFair sides per parts → IsFair sides last other → (flow : ℕ) (rate : Rate) → IsRateOf sides per parts flow rate
     → IsWholeOver last rate
 whole_rate sides per last parts other fair fair' flow Unlimited rated = tt
-whole_rate sides per last parts other fair fair' flow (Finite ratio) rated = (
-  other flow,
-  same_worth ratio.numerator ratio.denominator per (parts flow) last (other flow) fair.some_part rated.1
-      (same_amounts sides per last parts other fair fair' flow rated.0),
-)
+whole_rate sides per last parts other fair fair' flow (Finite ratio) rated =
+    grind (arith, common_steps,
+    same_worth ratio.numerator ratio.denominator per (parts flow) last (other flow) fair.some_part rated.1
+    (same_amounts sides per last parts other fair fair' flow rated.0),
+    same_amounts sides per last parts other fair fair' flow rated.0)
 
 -- the fair rates of at most n flows are whole over the denominator of n
 pub whole_rates : (n : ℕ) (sides : List Side) (flows : ℕ) (rates : List Rate)
     → flows ≤ n → HaveUsersBelow flows sides → HaveDistinctUsers sides → AreFairRates sides flows rates
     → AreWholeOver (denominator_of n) rates
 whole_rates n sides flows rates le among distinct fair =
-    let among_n : HaveUsersBelow n sides = λ k d l i e inside.
-    let below : get_or (get_or sides k d).users i e < flows = among k d l i e inside in
-    omega arith in
+    let among_n : HaveUsersBelow n sides = search rules in
     let other = fair_parts n sides among_n distinct in
     λ flow d l.
     whole_rate sides fair.per (denominator_of n) fair.parts other.0 fair.fair other.1 flow (get_or rates flow d)

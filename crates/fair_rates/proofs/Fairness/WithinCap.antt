@@ -1,14 +1,9 @@
 -- The flows that a side limits get no more than its cap together.
-use Rattle.std.proofs.Common.{◌≡◌, ◌⊎◌, inl, inr, ℕ, ◌+◌, ◌*◌, ◌≤◌, List, [], ◌∷◌, Bool, true, false, cond, refl}
-use Rattle.std.proofs.Common.{sym, subst, arith}
+use Rattle.fair_rates.proofs.Common.{◌≡◌, ◌⊎◌, inl, inr, ℕ, ◌+◌, ◌*◌, ◌≤◌, List, [], ◌∷◌, Bool, true, refl, sym, subst}
+use Rattle.fair_rates.proofs.Common.{arith, IsTotalOrder, Ordering, All-contains, Flow, Side, load, limits, sides_under}
+use Rattle.fair_rates.proofs.Common.{IsCappedSide, places_from, rules}
 use Rattle.std.specs.Prelude.{sum_by}
-use Rattle.std.specs.Cmp.{IsTotalOrder}
-use Rattle.std.specs.declared.cmp.Ordering.{Ordering}
-use Rattle.std.proofs.lemmas.List.Elements.{All-contains}
-use Rattle.fair_rates.specs.declared.bandwidth.Flow.{Flow}
-use Rattle.fair_rates.specs.Fairness.Fair.{Side, load}
-use Rattle.fair_rates.specs.Fairness.UnderCaps.{limits, sides_under, IsCappedSide, KeepsToItsCap}
-use Rattle.fair_rates.specs.Lists.Places.{places_from}
+use Rattle.fair_rates.specs.Fairness.UnderCaps.{KeepsToItsCap}
 use Rattle.fair_rates.proofs.Sides.CapSides.{sides_are_of_the_caps}
 use Rattle.fair_rates.proofs.Lists.Members.{In, contains_from_in}
 
@@ -16,14 +11,7 @@ use Rattle.fair_rates.proofs.Lists.Members.{In, contains_from_in}
 some_passes : {X : Type 0} (place : ℕ) (test : X → Bool) (xs : List X)
     → (places_from place test xs ≡ []) ⊎ ((x : X) × In xs x × (test x ≡ true))
 some_passes place test [] = inl refl
-some_passes {X} place test (x ∷ xs) = by_test (test x) refl (some_passes (place + 1) test xs)
-  where
-    by_test : (b : Bool) → test x ≡ b → (places_from (place + 1) test xs ≡ []) ⊎ ((y : X) × In xs y × (test y ≡ true))
-        → (cond b (place ∷ places_from (place + 1) test xs) (places_from (place + 1) test xs) ≡ [])
-        ⊎ ((y : X) × In (x ∷ xs) y × (test y ≡ true))
-    by_test true e rest = inr (x, inl refl, e)
-    by_test false e (inl none) = inl none
-    by_test false e (inr (y, among, passes)) = inr (y, inr among, passes)
+some_passes {X} place test (x ∷ xs) = search (rules, some_passes (place + 1) test xs)
 
 pub keeps_to_its_cap : {P : Type 0} (cmp : P → P → Ordering) → IsTotalOrder cmp → KeepsToItsCap cmp
 keeps_to_its_cap {P} cmp order caps flows rates of fair subject cap is =
@@ -35,14 +23,6 @@ keeps_to_its_cap {P} cmp order caps flows rates of fair subject cap is =
     by_flow (inl none) = subst (λ (us : List ℕ). sum_by fair.parts us ≤ cap * fair.per) (sym none) (omega arith)
     by_flow (inr (f, among, limited)) =
         let side : Side = record { cap = cap; users = places_from 0 (limits cmp subject) flows } in
-        let capped : IsCappedSide cmp caps flows side =
-        record {
-          subject = subject;
-          capped = is;
-          flow = f;
-          among = contains_from_in flows f among;
-          limited = limited;
-          users = refl;
-        } in
+        let capped : IsCappedSide cmp caps flows side = search (rules, contains_from_in) in
         All-contains (λ s. load fair.parts s ≤ s.cap * fair.per) (sides_under cmp caps flows) side fair.fair.within
         ((sides_are_of_the_caps cmp order caps flows side of).1 capped)

@@ -1,15 +1,14 @@
 -- How an open side keeps account of a side.
-use Rattle.std.proofs.Common.{◌≡◌, ℕ, ◌+◌, ◌*◌, ◌<◌, ◌≤◌, inl, inr, List, [], ◌∷◌, ◌++◌, length, get_or, All, sum_by}
-use Rattle.std.proofs.Common.{Option, Some, None, IsSome, sym, ap, subst, ◌∙◌, arith, mul-le-mul_right}
+use Rattle.fair_rates.proofs.Common.{◌≡◌, ℕ, ◌+◌, ◌*◌, ◌<◌, ◌≤◌, inl, inr, List, [], ◌∷◌, ◌++◌, length, get_or, All}
+use Rattle.fair_rates.proofs.Common.{sum_by, Option, Some, IsSome, sym, ap, subst, ◌∙◌, arith, mul-le-mul_right}
+use Rattle.fair_rates.proofs.Common.{cases_lt, All-nil, All-head, All-push, All-tail, All-append, All-weaker}
+use Rattle.fair_rates.proofs.Common.{IsPermutation-refl, IsPermutation-sym, All-permutation, sum_by-cons, Side, load}
+use Rattle.fair_rates.proofs.Common.{at_level, AllRise, AllFrozen, IsWithinSlack, HaveNoMore, KeepsAccount, rules}
+use Rattle.fair_rates.proofs.Common.{common_steps}
 use Rattle.std.proofs.Common.{le_of_mul-le-mul_right}
-use Rattle.std.specs.Prelude.{IsPermutation, swap_remove}
-use Rattle.std.proofs.lemmas.Bool.{cases_lt}
-use Rattle.std.proofs.lemmas.List.Elements.{All-nil, All-head, All-push, All-tail, All-append, All-weaker}
-use Rattle.std.proofs.lemmas.List.Sorted.{IsPermutation-refl, IsPermutation-sym, IsPermutation-pop_more}
-use Rattle.std.proofs.lemmas.List.Sorted.{IsPermutation-swap_remove, All-permutation, sum_by-IsPermutation}
-use Rattle.std.proofs.lemmas.List.Sums.{sum_by-append, sum_by-cons}
-use Rattle.fair_rates.specs.Fairness.Fair.{Side, load}
-use Rattle.fair_rates.specs.Filling.States.{at_level, AllRise, AllFrozen, IsWithinSlack, HaveNoMore, KeepsAccount}
+use Rattle.std.specs.Prelude.{swap_remove}
+use Rattle.std.proofs.lemmas.List.Sorted.{IsPermutation-pop_more, IsPermutation-swap_remove, sum_by-IsPermutation}
+use Rattle.std.proofs.lemmas.List.Sums.{sum_by-append}
 use Rattle.fair_rates.proofs.Filling.Frozen.{none_or_some, some_is, at_some, at_none, at_any}
 use Rattle.fair_rates.proofs.Lists.Sums.{sum_by_same}
 
@@ -31,12 +30,7 @@ still_within parts had slack rest n m fewer left le had_le =
 -- before any user is frozen
 pub account_start : (side : Side) (scale : ℕ) (frozen : ℕ → Option ℕ) (slack : ℕ) (rising : List ℕ)
     → slack ≡ side.cap * scale → side.users ≡ rising → KeepsAccount side scale frozen slack rising
-account_start side scale frozen slack rising all users = record {
-  counted = [];
-  parted = subst (λ xs. IsPermutation side.users xs) users (IsPermutation-refl side.users);
-  done = All-nil (λ flow. IsSome (frozen flow));
-  left = omega (arith, all);
-}
+account_start side scale frozen slack rising all users = search (rules, IsPermutation-refl, All-nil)
 
 module _ (side : Side) (scale : ℕ) (frozen : ℕ → Option ℕ) (slack : ℕ) (rising : List ℕ)
     (account : KeepsAccount side scale frozen slack rising) where
@@ -50,21 +44,13 @@ module _ (side : Side) (scale : ℕ) (frozen : ℕ → Option ℕ) (slack : ℕ)
   pub account_more : (i user parts rest : ℕ) (later : List ℕ) → i < length rising → user ≡ get_or rising i user
       → frozen user ≡ Some parts → rest + parts ≡ slack
       → later ≡ swap_remove rising i user → KeepsAccount side scale frozen rest later
-  account_more i user parts rest later inside is_user is_frozen left removed = record {
-    counted = account.counted ++ user ∷ [];
-    parted = subst (λ xs. IsPermutation side.users ((account.counted ++ user ∷ []) ++ xs)) (sym removed)
-        (IsPermutation-pop_more side.users account.counted rising (swap_remove rising i user) user account.parted
-        (IsPermutation-swap_remove rising i user inside is_user));
-    done = All-push (λ j. IsSome (frozen j)) account.counted user account.done (some_is (frozen user) parts is_frozen);
-    left = omega (
-      arith,
-      sum_by-append (at_level frozen 0) account.counted (user ∷ []),
-      sum_by-cons (at_level frozen 0) user [],
-      at_some frozen 0 user parts is_frozen,
-      left,
-      account.left,
-    );
-  }
+  account_more i user parts rest later inside is_user is_frozen left removed =
+      grind (arith, common_steps,
+      IsPermutation-pop_more side.users account.counted rising (swap_remove rising i user) user account.parted
+      (IsPermutation-swap_remove rising i user inside is_user),
+      IsPermutation-swap_remove rising i user inside is_user, some_is (frozen user) parts is_frozen,
+      sum_by-append (at_level frozen 0) account.counted (user ∷ []), sum_by-cons (at_level frozen 0) user [],
+      at_some frozen 0 user parts is_frozen, All-push)
 
   -- none is left: all are frozen
   pub all_counted : length rising ≡ 0 → AllFrozen frozen side.users
@@ -76,10 +62,7 @@ module _ (side : Side) (scale : ℕ) (frozen : ℕ → Option ℕ) (slack : ℕ)
 
   -- what the counted users have does not depend on the level
   counted_at : (level : ℕ) → sum_by (at_level frozen level) account.counted ≡ sum_by (at_level frozen 0) account.counted
-  counted_at level =
-      sum_by_same (at_level frozen level) (at_level frozen 0) account.counted
-      (All-weaker (λ j. IsSome (frozen j)) (λ j. at_level frozen level j ≡ at_level frozen 0 j)
-      (λ j some. at_any frozen level 0 j some) account.counted account.done)
+  counted_at level = search (rules, sum_by_same, All-weaker, at_any)
 
 -- so many amounts of at most the share are no more than what is shared
 sum_within : (f : ℕ → ℕ) (slack n : ℕ) (users : List ℕ) → All (λ j. f j * n ≤ slack) users
@@ -114,16 +97,8 @@ module _ (side : Side) (scale : ℕ) (frozen : ℕ → Option ℕ) (slack : ℕ)
       → load (at_level frozen level) side ≤ side.cap * scale
   has_room some within no_more =
       let each : All (λ j. at_level frozen level j * length rising ≤ slack) rising =
-      All-weaker (λ j. at_level frozen 0 j * length rising ≤ slack)
-      (λ j. at_level frozen level j * length rising ≤ slack)
-      (λ j le. elim (none_or_some (frozen j)) [
-        | inl e ↦ omega (arith, within, ap (λ k. k * length rising) (at_none frozen level j e))
-        | inr (parts, e) ↦ omega
-            (arith, le, ap (λ k. k * length rising) (at_any frozen level 0 j (some_is (frozen j) parts e)))
-      ]) rising no_more in
-      let total : sum_by (at_level frozen level) rising ≤ slack =
-      le_of_mul-le-mul_right {k = length rising}
-      (sum_within (at_level frozen level) slack (length rising) rising each) some in
+          search (rules, All-weaker, none_or_some, at_none, at_any, some_is) in
+      let total : sum_by (at_level frozen level) rising ≤ slack = search (rules, le_of_mul-le-mul_right, sum_within) in
       omega (
         arith,
         load_parted side scale frozen slack rising account (at_level frozen level),
@@ -136,25 +111,13 @@ module _ (side : Side) (scale : ℕ) (frozen : ℕ → Option ℕ) (slack : ℕ)
   pub is_full : AllRise frozen rising → level * length rising ≡ slack
       → load (at_level frozen level) side ≡ side.cap * scale
   is_full rise exact =
-      let total =
-      sum_even (at_level frozen level) level rising
-      (All-weaker (λ j. frozen j ≡ None) (λ j. at_level frozen level j ≡ level) (λ j e. at_none frozen level j e)
-      rising rise) in
-      omega (
-        arith,
-        load_parted side scale frozen slack rising account (at_level frozen level),
-        counted_at side scale frozen slack rising account level,
-        total,
-        exact,
-        account.left,
-      )
+      grind (arith, common_steps, load_parted side scale frozen slack rising account (at_level frozen level),
+      counted_at side scale frozen slack rising account level, sum_even, All-weaker, at_none)
 
 -- who rises has nothing yet
 pub risers_have_no_more : (frozen : ℕ → Option ℕ) (slack : ℕ) (users : List ℕ) → AllRise frozen users
     → HaveNoMore frozen slack users
-risers_have_no_more frozen slack users rise =
-    All-weaker (λ j. frozen j ≡ None) (λ j. at_level frozen 0 j * length users ≤ slack)
-    (λ j e. omega (arith, ap (λ k. k * length users) (at_none frozen 0 j e))) users rise
+risers_have_no_more frozen slack users rise = search (rules, All-weaker, at_none)
 
 -- the users that are left keep what holds of all
 pub rest_of : (P : ℕ → Type 0) (users rest : List ℕ) (i user : ℕ) → i < length users → user ≡ get_or users i user

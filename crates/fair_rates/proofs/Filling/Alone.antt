@@ -1,14 +1,10 @@
 -- The fair rate of a flow alone: the least of its caps.
-use Rattle.std.proofs.Common.{◌≡◌, ℕ, ◌*◌, ◌<◌, ◌≤◌, List, [], ◌∷◌, map, Contains, Bool, Option, Some, None}
-use Rattle.std.proofs.Common.{refl, sym, ap, subst, ◌∙◌, arith, mul-le-mul_right}
-use Rattle.std.specs.Prelude.{option_map, slice_index, unwrap_or}
-use Rattle.std.specs.declared.cmp.Ordering.{Ordering}
-use Rattle.std.proofs.lemmas.List.Elements.{All-nil, All-cons, All-map, All-weaker, All-contains}
-use Rattle.fair_rates.specs.Fairness.Fair.{Side, Uses, IsWithinCaps, HasBottleneck, IsFair, load}
-use Rattle.fair_rates.specs.Fairness.UnderCaps.{sides_under}
+use Rattle.fair_rates.proofs.Common.{◌≡◌, ℕ, ◌*◌, ◌<◌, ◌≤◌, List, [], ◌∷◌, map, Contains, Bool, Option, Some, None}
+use Rattle.fair_rates.proofs.Common.{refl, sym, ap, subst, ◌∙◌, arith, mul-le-mul_right, option_map, slice_index}
+use Rattle.fair_rates.proofs.Common.{unwrap_or, Ordering, All-nil, All-cons, All-map, All-weaker, All-contains, Side}
+use Rattle.fair_rates.proofs.Common.{Uses, IsWithinCaps, HasBottleneck, IsFair, load, sides_under, Caps, Flow, rules}
+use Rattle.fair_rates.proofs.Common.{common_steps}
 use Rattle.fair_rates.specs.Sides.Alone.{least_cap_of}
-use Rattle.fair_rates.specs.Sides.Caps.{Caps}
-use Rattle.fair_rates.specs.declared.bandwidth.Flow.{Flow}
 use Rattle.fair_rates.specs.declared.bandwidth.FlowCaps.{FlowCaps}
 use Rattle.fair_rates.proofs.Lists.Different.{in_one}
 use Rattle.fair_rates.proofs.Lists.Members.{in_from_contains, contains_from_in, in_map}
@@ -35,19 +31,10 @@ module _ (caps : List ℕ) (cap : ℕ) (is : IsLeastOf cap caps) (per : ℕ) (so
       sym (in_one 0 flow (subst (λ xs. Contains xs flow) users uses.used))
 
   pub uses_least : Uses sides 0 (side_alone cap)
-  uses_least = record {
-    listed = contains_from_in sides (side_alone cap) (in_map side_alone caps cap (in_from_contains caps cap is.among));
-    used = (0, omega arith, refl);
-  }
+  uses_least = grind (arith, common_steps, contains_from_in, in_map, in_from_contains)
 
   bottleneck : HasBottleneck sides per parts 0
-  bottleneck = record {
-    side = side_alone cap;
-    uses = uses_least;
-    full = omega (arith, has);
-    greatest =
-        All-cons (λ other. parts other ≤ parts 0) 0 [] (omega arith) (All-nil (λ other. parts other ≤ parts 0));
-  }
+  bottleneck = search (rules, uses_least, All-cons, All-nil)
 
   pub fair_alone : IsFair sides per parts
   fair_alone = record {
@@ -58,11 +45,7 @@ module _ (caps : List ℕ) (cap : ℕ) (is : IsLeastOf cap caps) (per : ℕ) (so
 
 -- nothing limits a flow without caps
 fair_without : (per : ℕ) → 0 < per → (parts : ℕ → ℕ) → IsFair [] per parts
-fair_without per some parts = record {
-  some_part = some;
-  within = All-nil (λ side. load parts side ≤ side.cap * per);
-  held = λ flow limited. absurd (in_from_contains [] limited.0 limited.1.listed);
-}
+fair_without per some parts = search (rules, within, All-nil, in_from_contains)
 
 -- ---- under caps
 
@@ -73,9 +56,7 @@ times_least scale least = option_map (λ cap. scale * cap) least
 module _ (scale : ℕ) (some : 0 < scale) where
   fair_by : (least : Option ℕ) (caps : List ℕ) → IsLeast least caps
       → IsFair (map side_alone caps) scale (slice_index (unwrap_or (times_least scale least) 0 ∷ []))
-  fair_by None caps none =
-      subst (λ (cs : List ℕ). IsFair (map side_alone cs) scale (slice_index (0 ∷ []))) (sym none)
-      (fair_without scale some (slice_index (0 ∷ [])))
+  fair_by None caps none = search (rules, fair_without)
   fair_by (Some cap) caps is = fair_alone caps cap is scale some (slice_index (scale * cap ∷ [])) refl
 
   module _ {P : Type 0} (cmp : P → P → Ordering) (caps : Caps P) (f : Flow P) (own : FlowCaps) (delivered : Bool)
@@ -90,9 +71,4 @@ module _ (scale : ℕ) (some : 0 < scale) where
 
     -- the flow has its least cap
     pub parts_alone_fair : IsFair (sides_under cmp caps (f ∷ [])) scale (slice_index (unwrap_or parts 0 ∷ []))
-    parts_alone_fair =
-        subst (λ (o : Option ℕ). IsFair (sides_under cmp caps (f ∷ [])) scale (slice_index (unwrap_or o 0 ∷ [])))
-        (sym here)
-        (subst (λ (s : List Side). IsFair s scale
-        (slice_index (unwrap_or (times_least scale (least_cap_of own f.delivered)) 0 ∷ []))) (sym sides_are)
-        (fair_by (least_cap_of own f.delivered) (caps_of own f.delivered) (least_cap_is own f.delivered)))
+    parts_alone_fair = search (rules, here, sides_are, fair_by, least_cap_is)

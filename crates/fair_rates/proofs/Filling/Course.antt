@@ -1,15 +1,11 @@
 -- A round of filling: the users of the side with the least share freeze at it.
-use Rattle.std.proofs.Common.{◌≡◌, ℕ, ◌*◌, ◌<◌, ◌≤◌, ◌⊎◌, inl, inr, List, ◌∷◌, ◌++◌, length, All, Contains, Option}
-use Rattle.std.proofs.Common.{Some, None, IsSome, sym, ap, subst, ◌∙◌, arith, le_of_mul-le-mul_right}
-use Rattle.std.specs.Prelude.{unwrap_or}
-use Rattle.std.specs.declared.cmp.Reverse.{Reverse}
-use Rattle.std.proofs.lemmas.List.Elements.{All-head, All-tail, All-append, All-contains, All-weaker}
-use Rattle.std.proofs.lemmas.List.Elements.{Contains-append_right}
-use Rattle.std.proofs.lemmas.List.Sorted.{All-permutation, Contains-permutation, IsPermutation-sym}
-use Rattle.fair_rates.specs.Fairness.Fair.{Side, load}
-use Rattle.fair_rates.specs.Filling.States.{at_level, AllRise, AllFrozen, IsWithinSlack, HaveNoMore, KeepsAccount}
-use Rattle.fair_rates.specs.Filling.States.{IsOpen, IsCovered, IsQueue, AreAbove}
-use Rattle.fair_rates.specs.declared.bandwidth.filling.open.OpenSide.{OpenSide}
+use Rattle.fair_rates.proofs.Common.{◌≡◌, ℕ, ◌*◌, ◌<◌, ◌≤◌, ◌⊎◌, inl, inr, List, ◌∷◌, ◌++◌, length, All, Contains}
+use Rattle.fair_rates.proofs.Common.{Option, Some, None, IsSome, sym, ap, subst, arith, Reverse, All-head, All-tail}
+use Rattle.fair_rates.proofs.Common.{All-append, All-contains, All-weaker, Contains-append_right, All-permutation}
+use Rattle.fair_rates.proofs.Common.{Contains-permutation, IsPermutation-sym, Side, load, at_level, AllRise, AllFrozen}
+use Rattle.fair_rates.proofs.Common.{IsWithinSlack, HaveNoMore, KeepsAccount, IsOpen, IsCovered, IsQueue, AreAbove}
+use Rattle.fair_rates.proofs.Common.{OpenSide, rules, common_steps}
+use Rattle.std.proofs.Common.{le_of_mul-le-mul_right}
 use Rattle.fair_rates.proofs.Lists.SumOrder.{All-from_contains}
 use Rattle.fair_rates.proofs.Filling.Account.{has_room, is_full}
 use Rattle.fair_rates.proofs.Filling.Frozen.{some_value, some_is, at_some, at_any}
@@ -31,53 +27,26 @@ module _ (sides : List Side) (scale : ℕ) (frozen after : ℕ → Option ℕ) (
     (freezes : Freezes x.0.rising.items frozen after level) where
   -- who was frozen stays so
   kept : (flow parts : ℕ) → frozen flow ≡ Some parts → after flow ≡ Some parts
-  kept flow parts e = elim (freezes.others flow) [
-    | inr same ↦ same ∙ e
-    | inl used ↦ let none = All-contains (λ j. frozen j ≡ None) x.0.rising.items flow rise used in absurd (cc)
-  ]
+  kept flow parts e = search (rules, All-contains)
 
   fresh : (flow parts : ℕ) → frozen flow ≡ None → after flow ≡ Some parts
       → (parts ≡ level) × Contains x.0.rising.items flow
-  fresh flow parts none e = elim (freezes.others flow) [
-    | inr same ↦ absurd (cc)
-    | inl used ↦ let now = All-contains (λ j. after j ≡ Some level) x.0.rising.items flow freezes.all used in
-        let same : parts ≡ level = cc in
-        (same, used)
-  ]
+  fresh flow parts none e = search (rules, All-contains)
 
   still : (flow : ℕ) → IsSome (frozen flow) → IsSome (after flow)
   still flow some = let v = some_value (frozen flow) some in some_is (after flow) v.0 (kept flow v.0 v.1)
 
   still_has : (flow : ℕ) → IsSome (frozen flow) → at_level after 0 flow ≡ at_level frozen 0 flow
-  still_has flow some =
-      let v = some_value (frozen flow) some in
-      at_some after 0 flow v.0 (kept flow v.0 v.1) ∙ sym (at_some frozen 0 flow v.0 v.1)
+  still_has flow some = search (rules, some_value, at_some, kept)
 
   -- a side of which the open one keeps account is frozen whole
   all_frozen : (side : Side) → KeepsAccount side scale frozen x.0.slack x.0.rising.items → AllFrozen after side.users
-  all_frozen side account =
-      All-permutation (λ j. IsSome (after j)) (account.counted ++ x.0.rising.items) side.users
-      (IsPermutation-sym side.users (account.counted ++ x.0.rising.items) account.parted)
-      (All-append (λ j. IsSome (after j)) account.counted x.0.rising.items
-      (All-weaker (λ j. IsSome (frozen j)) (λ j. IsSome (after j)) still account.counted account.done)
-      (All-weaker (λ j. after j ≡ Some level) (λ j. IsSome (after j)) (λ j e. some_is (after j) level e)
-      x.0.rising.items freezes.all))
+  all_frozen side account = search (rules, All-permutation, IsPermutation-sym, All-append, All-weaker, still, some_is)
 
   -- an account stands
   account_kept : (side : Side) (slack : ℕ) (rising : List ℕ) → KeepsAccount side scale frozen slack rising
       → KeepsAccount side scale after slack rising
-  account_kept side slack rising account = record {
-    counted = account.counted;
-    parted = account.parted;
-    done = All-weaker (λ j. IsSome (frozen j)) (λ j. IsSome (after j)) still account.counted account.done;
-    left = omega (
-      arith,
-      account.left,
-      sum_by_same (at_level after 0) (at_level frozen 0) account.counted
-          (All-weaker (λ j. IsSome (frozen j)) (λ j. at_level after 0 j ≡ at_level frozen 0 j) still_has account.counted
-          account.done),
-    );
-  }
+  account_kept side slack rising account = grind (arith, common_steps, All-weaker, still, sum_by_same, still_has)
 
   -- ---- the queue
 
@@ -102,22 +71,7 @@ module _ (sides : List Side) (scale : ℕ) (frozen after : ℕ → Option ℕ) (
 
   -- nobody has more than the shares
   pub no_more_on : All (λ o. HaveNoMore after o.0.slack o.0.rising.items) opens
-  no_more_on =
-      All-from_contains (λ (o : Reverse OpenSide). HaveNoMore after o.0.slack o.0.rising.items) opens (λ o listed.
-      let was =
-      All-contains (λ (o : Reverse OpenSide). HaveNoMore frozen o.0.slack o.0.rising.items) opens o no_more
-      listed in
-      let fits =
-      All-contains (λ (o : Reverse OpenSide). IsWithinSlack level o.0.slack o.0.rising.items) opens o within
-      listed in
-      let n : ℕ = length o.0.rising.items in
-      All-weaker (λ j. at_level frozen 0 j * n ≤ o.0.slack) (λ j. at_level after 0 j * n ≤ o.0.slack)
-      (λ j le. elim (freezes.others j) [
-        | inl used ↦
-            let now = All-contains (λ j. after j ≡ Some level) x.0.rising.items j freezes.all used in
-            omega (arith, fits, ap (λ k. k * n) (at_some after 0 j level now))
-        | inr same ↦ omega (arith, le, ap (λ o. unwrap_or o 0 * n) same)
-      ]) o.0.rising.items was)
+  no_more_on = grind (arith, common_steps, All-from_contains, All-contains, All-weaker, at_some)
 
   -- ---- the round
 
@@ -143,9 +97,7 @@ module _ (sides : List Side) (scale : ℕ) (frozen after : ℕ → Option ℕ) (
         )
     room side listed (inr (o, c, account)) = elim (first_or_later x o opens c) [
       | inl same ↦
-          let here : KeepsAccount side scale frozen x.0.slack x.0.rising.items =
-          subst (λ (p : Reverse OpenSide). KeepsAccount side scale frozen p.0.slack p.0.rising.items) (sym same)
-          account in
+          let here : KeepsAccount side scale frozen x.0.slack x.0.rising.items = search rules in
           omega (arith, is_full side scale frozen x.0.slack x.0.rising.items here level rise share)
       | inr later ↦
           has_room side scale frozen o.0.slack o.0.rising.items account level (some_each o)

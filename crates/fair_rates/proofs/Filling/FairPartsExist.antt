@@ -1,17 +1,13 @@
 -- There are fair parts, of which the denominator of that many flows makes one: filling finds them.
-use Prim.Native.Nat.{◌∣◌}
-use Rattle.std.proofs.Common.{◌≡◌, ℕ, zero, suc, ◌+◌, ◌-◌, ◌*◌, ◌<◌, ◌≤◌, inl, inr, Bool, true, false, cond, List}
-use Rattle.std.proofs.Common.{get_or, All, Contains, count_by, refl, sym, ap, ◌∙◌, subst, arith, Option, Some, None}
-use Rattle.std.proofs.Common.{is_none, IsSome}
-use Rattle.std.specs.Prelude.{unwrap_or, ◌==◌}
-use Rattle.std.specs.List.{list_any}
-use Rattle.std.proofs.Math.Nat.{le_of_mul-le-mul_right, dvd-zero}
-use Rattle.std.proofs.lemmas.Bool.{cases_Bool, cond-true, cond-false, eq-eqb, eqb-true}
+use Rattle.fair_rates.proofs.Common.{◌≡◌, ℕ, zero, suc, ◌+◌, ◌-◌, ◌*◌, ◌<◌, ◌≤◌, inl, inr, Bool, true, false, cond}
+use Rattle.fair_rates.proofs.Common.{List, get_or, All, Contains, count_by, refl, sym, ap, ◌∙◌, subst, arith, Option}
+use Rattle.fair_rates.proofs.Common.{Some, None, IsSome, unwrap_or, list_any, le_of_mul-le-mul_right, dvd-zero, eq-eqb}
+use Rattle.fair_rates.proofs.Common.{eqb-true, All-contains, get_or-le-sum_by, Side, IsFair, HaveUsersBelow, rules}
+use Rattle.fair_rates.proofs.Common.{common_steps}
+use Rattle.std.proofs.Common.{is_none}
+use Rattle.std.specs.Prelude.{◌==◌}
+use Rattle.std.proofs.lemmas.Bool.{cases_Bool, cond-true, cond-false}
 use Rattle.std.proofs.lemmas.List.Folds.{list_any_at, Any-from_list_any}
-use Rattle.std.proofs.lemmas.List.Elements.{All-contains}
-use Rattle.std.proofs.lemmas.List.Sums.{get_or-le-sum_by}
-use Rattle.fair_rates.specs.Fairness.Fair.{Side, IsFair}
-use Rattle.fair_rates.specs.Fairness.Laws.{HaveUsersBelow}
 use Rattle.fair_rates.proofs.Fairness.Denominators.{denominator_of, positive}
 use Rattle.fair_rates.proofs.Filling.Frozen.{none_or_some, some_is, at_some, at_none}
 use Rattle.fair_rates.proofs.Filling.Rounds.{start, end, next}
@@ -29,10 +25,7 @@ rising_below n frozen = sum_below (λ i. cond (is_none (frozen i)) 1 0) n
 -- some user rises
 pub some_rising : (frozen : ℕ → Option ℕ) (flow : ℕ) (users : List ℕ) → Contains users flow → frozen flow ≡ None
     → 0 < count_by (λ j. is_none (frozen j)) users
-some_rising frozen flow users used free =
-    let one_of : Option ℕ → ℕ = λ o. cond (is_none o) 1 0 in
-    let one : ℕ → ℕ = λ j. one_of (frozen j) in
-    omega (arith, get_or-le-sum_by one users used.0 flow used.1, ap one used.2, ap one_of free)
+some_rising frozen flow users used free = search (rules, get_or-le-sum_by)
 
 -- ---- one side freezes
 
@@ -44,15 +37,10 @@ abbrev pub freeze : List ℕ → ℕ → (ℕ → Option ℕ) → ℕ → Option
 freeze users level frozen flow = cond (is_user users flow) (Some (unwrap_or (frozen flow) level)) (frozen flow)
 
 is_user-true : (users : List ℕ) (flow : ℕ) → Contains users flow → is_user users flow ≡ true
-is_user-true users flow used =
-    list_any_at (λ user. user == flow) users used.0 flow used.1 (eq-eqb (get_or users used.0 flow) flow used.2)
+is_user-true users flow used = search (rules, list_any_at, eq-eqb)
 
 is_user-contains : (users : List ℕ) (flow : ℕ) → is_user users flow ≡ true → Contains users flow
-is_user-contains users flow e =
-    let any = Any-from_list_any (λ user. user == flow) users e in
-    let k : ℕ = any.0 in
-    let found : Contains users any.1 = (any.0, any.2, any.3) in
-    subst (λ n. Contains users n) (eqb-true any.1 flow any.4) found
+is_user-contains users flow e = search (rules, Any-from_list_any, eqb-true)
 
 module _ (users : List ℕ) (level : ℕ) (frozen : ℕ → Option ℕ) where
   frozen_now : (flow : ℕ) → is_user users flow ≡ true
@@ -63,56 +51,27 @@ module _ (users : List ℕ) (level : ℕ) (frozen : ℕ → Option ℕ) where
   left_alone flow e = cond-false (is_user users flow) (Some (unwrap_or (frozen flow) level)) (frozen flow) e
 
   freeze_user : (flow : ℕ) → Contains users flow → IsSome (freeze users level frozen flow)
-  freeze_user flow used =
-      some_is (freeze users level frozen flow) (unwrap_or (frozen flow) level)
-      (frozen_now flow (is_user-true users flow used))
+  freeze_user flow used = search (rules, some_is, frozen_now, is_user-true)
 
   freeze_kept : (flow parts : ℕ) → frozen flow ≡ Some parts → freeze users level frozen flow ≡ Some parts
-  freeze_kept flow parts e = elim (cases_Bool (is_user users flow)) [
-    | inl user ↦ frozen_now flow user ∙ ap (λ o. Some (unwrap_or o level)) e
-    | inr other ↦ left_alone flow other ∙ e
-  ]
+  freeze_kept flow parts e = search (rules, cases_Bool, frozen_now, left_alone)
 
   freeze_fresh : (flow parts : ℕ) → frozen flow ≡ None → freeze users level frozen flow ≡ Some parts
       → (parts ≡ level) × Contains users flow
-  freeze_fresh flow parts e e' = elim (cases_Bool (is_user users flow)) [
-    | inl user ↦
-        let now : freeze users level frozen flow ≡ Some level =
-        frozen_now flow user ∙ ap (λ o. Some (unwrap_or o level)) e in
-        let same : parts ≡ level = cc in
-        (same, is_user-contains users flow user)
-    | inr other ↦ let same = left_alone flow other in absurd (cc)
-  ]
+  freeze_fresh flow parts e e' = search (rules, cases_Bool, frozen_now, is_user-contains, left_alone)
 
   -- who rises after it rose before, and is no user
   still_rises : (flow : ℕ) → cond (is_none (freeze users level frozen flow)) 1 0 ≤ cond (is_none (frozen flow)) 1 0
-  still_rises flow = elim (none_or_some (frozen flow)) [
-    | inl e ↦ omega (arith, one_at_most (freeze users level frozen flow), ap one_of e)
-    | inr (parts, e) ↦ omega (arith, ap one_of (freeze_kept flow parts e))
-  ]
-    where
-      one_of : Option ℕ → ℕ
-      one_of o = cond (is_none o) 1 0
-
-      one_at_most : (o : Option ℕ) → cond (is_none o) 1 0 ≤ 1
-      one_at_most None = omega arith
-      one_at_most (Some x) = omega arith
+  still_rises flow = search (rules, none_or_some, freeze_kept)
 
   no_user_rises : (flow : ℕ) → Contains users flow → ◌≡◌ {A = ℕ} (cond (is_none (freeze users level frozen flow)) 1 0) 0
-  no_user_rises flow used = none_of (freeze users level frozen flow) (freeze_user flow used)
-    where
-      none_of : (o : Option ℕ) → IsSome o → ◌≡◌ {A = ℕ} (cond (is_none o) 1 0) 0
-      none_of None h = cc
-      none_of (Some x) h = refl
+  no_user_rises flow used = search (rules, freeze_user)
 
   -- so many fewer rise
   fewer_rise : (n : ℕ) → AreDistinct users → All (λ user. user < n) users
       → rising_below n (freeze users level frozen) + count_by (λ flow. is_none (frozen flow)) users
       ≤ rising_below n frozen
-  fewer_rise n apart among =
-      below_less n users (λ i. cond (is_none (frozen i)) 1 0) (λ i. cond (is_none (freeze users level frozen i)) 1 0)
-      apart among still_rises
-      (All-from_contains (λ i. ◌≡◌ {A = ℕ} (cond (is_none (freeze users level frozen i)) 1 0) 0) users no_user_rises)
+  fewer_rise n apart among = search (rules, below_less, still_rises, All-from_contains, no_user_rises)
 
 -- ---- filling
 
@@ -124,8 +83,7 @@ entry : (n risers k : ℕ) → risers ≤ n → k ≤ risers → n - risers + k 
 entry n risers k few within = omega arith
 
 nothing_over : (n m : ℕ) → IsOver n m 0
-nothing_over n m =
-    let e : 0 ≡ 0 * denominator_of m = omega arith in subst (λ k. denominator_of n ∣ k) e (dvd-zero (denominator_of n))
+nothing_over n m = grind (arith, common_steps, denominator_of, dvd-zero)
 
 -- after a round what each has is whole over the next denominator
 over_after : (n m m' : ℕ) (users : List ℕ) (level : ℕ) (frozen : ℕ → Option ℕ) (flow : ℕ)
@@ -135,9 +93,7 @@ over_after n m m' users level frozen flow le was now =
     let after = freeze users level frozen in
     elim (none_or_some (frozen flow)) [
       | inr (parts, e) ↦
-          let same : standing frozen 0 flow ≡ standing after 0 flow =
-          at_some frozen 0 flow parts e
-          ∙ sym (at_some after 0 flow parts (freeze_kept users level frozen flow parts e)) in
+          let same : standing frozen 0 flow ≡ standing after 0 flow = search (rules, at_some, freeze_kept) in
           subst (λ a. IsOver n m' a) same (later n m m' (standing frozen 0 flow) le was)
       | inl e ↦ elim (none_or_some (after flow)) [
         | inl e' ↦ subst (λ a. IsOver n m' a) (sym (at_none after 0 flow e')) (nothing_over n m')

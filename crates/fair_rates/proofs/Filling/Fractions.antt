@@ -1,18 +1,13 @@
 -- Parts over a product of small factors, brought to lowest terms factor by factor.
-use Prim.Native.Nat.{◌∣◌}
-use Rattle.std.proofs.Common.{◌≡◌, ℕ, ◌+◌, ◌*◌, ◌/◌, ◌%◌, ◌^◌, ◌<◌, List, [], ◌∷◌, ◌++◌, length, get_or, take, All, sym}
-use Rattle.std.proofs.Common.{ap, subst, ◌∙◌, arith}
-use Rattle.std.proofs.Math.Nat.{div-mul_cancel, mul-pos, dvd-mul_right}
+use Rattle.fair_rates.proofs.Common.{◌∣◌, ◌≡◌, ℕ, ◌+◌, ◌*◌, ◌/◌, ◌^◌, ◌<◌, List, [], ◌∷◌, ◌++◌, length, get_or, take}
+use Rattle.fair_rates.proofs.Common.{All, sym, ap, subst, ◌∙◌, arith, mul-pos, dvd-mul_right, All-head, All-tail}
+use Rattle.fair_rates.proofs.Common.{product, gcd, parts_over, reduced, ReducedFits, IsReduced, gcd-IsGcd, gcd-pos}
+use Rattle.fair_rates.proofs.Common.{gcd-mod, reduced_same, reduced_lowest, common_steps}
+use Rattle.std.proofs.Common.{◌%◌}
+use Rattle.std.proofs.Math.Nat.{div-mul_cancel}
 use Rattle.std.proofs.lemmas.List.{take_more}
-use Rattle.std.proofs.lemmas.List.Elements.{All-head, All-tail}
 use Rattle.std.proofs.lemmas.Nat.Gcd.{dvd_refl}
-use Rattle.fair_rates.specs.Fairness.Exists.{product}
-use Rattle.fair_rates.specs.Numbers.Amount.{gcd, parts_over, reduced}
-use Rattle.fair_rates.specs.Numbers.Fits.{ReducedFits}
-use Rattle.fair_rates.specs.Numbers.Fraction.{IsReduced}
-use Rattle.fair_rates.specs.Numbers.Gcd.{gcd-IsGcd, gcd-pos, gcd-mod}
 use Rattle.fair_rates.specs.Numbers.LowestTerms.{coprime_parts, IsReduced-part, IsReduced-mul, IsReduced-swap}
-use Rattle.fair_rates.specs.Numbers.LowestTerms.{reduced_same, reduced_lowest}
 use Rattle.fair_rates.proofs.Filling.Share.{quotient_positive}
 
 -- ---- products
@@ -29,8 +24,7 @@ product_positive (n ∷ numbers) all =
 -- one factor more
 pub product_next : (numbers : List ℕ) (i : ℕ) → i < length numbers
     → product (take (i + 1) numbers) ≡ product (take i numbers) * get_or numbers i 0
-product_next numbers i inside =
-    ap product (take_more numbers i 0 inside) ∙ product_push (take i numbers) (get_or numbers i 0)
+product_next numbers i inside = grind (arith, common_steps, take_more, product_push)
 
 -- ---- one factor
 
@@ -49,8 +43,7 @@ module _ (n d factor shared : ℕ) (some : 0 < factor) (is : shared ≡ gcd n fa
   factor_divides = subst (λ k. k ∣ factor) (sym is) (gcd-IsGcd n factor).1
 
   pub rest_positive : 0 < d → 0 < d * (factor / shared)
-  rest_positive d_pos =
-      mul-pos d_pos (quotient_positive factor shared (factor / shared) some (div-mul_cancel shared factor_divides))
+  rest_positive d_pos = grind (arith, common_steps, mul-pos, quotient_positive, div-mul_cancel, factor_divides)
 
   apart : IsReduced (n / shared) (factor / shared)
   apart = subst (λ k. IsReduced (n / k) (factor / k)) (sym is) (coprime_parts n factor some)
@@ -86,9 +79,7 @@ reduced_to parts total n d total_pos d_pos worth lowest =
 module _ (parts total n d : ℕ) (total_pos : 0 < total) (d_pos : 0 < d) (worth : parts * d ≡ n * total)
     (lowest : IsReduced n d) where
   pub large_numerator : (n < 2 ^ 128 → ⊥) → ¬ ReducedFits (parts_over total parts)
-  large_numerator large fits =
-      large (subst (λ a. a.num < 2 ^ 128) (reduced_to parts total n d total_pos d_pos worth lowest) fits.numerator)
+  large_numerator large fits = grind (arith, common_steps, reduced_to parts total n d total_pos d_pos worth lowest)
 
   pub large_denominator : (d < 2 ^ 128 → ⊥) → ¬ ReducedFits (parts_over total parts)
-  large_denominator large fits =
-      large (subst (λ a. a.den < 2 ^ 128) (reduced_to parts total n d total_pos d_pos worth lowest) fits.denominator)
+  large_denominator large fits = grind (arith, common_steps, reduced_to parts total n d total_pos d_pos worth lowest)

@@ -1,9 +1,8 @@
 -- What a frozen flow has, and what one that rises.
-use Rattle.std.proofs.Common.{◌≡◌, ℕ, ◌⊎◌, inl, inr, Option, Some, None, IsSome, refl, sym, ap, subst, ◌∙◌}
+use Rattle.fair_rates.proofs.Common.{◌≡◌, ℕ, ◌⊎◌, inl, inr, Option, Some, None, IsSome, refl, ap, subst, unwrap_or}
+use Rattle.fair_rates.proofs.Common.{at_level, Error, rules}
 use Rattle.std.specs.Option.{ok_or}
-use Rattle.std.specs.Prelude.{OnOk, OnSome, Result, Ok, Err, IfErr, IsErrAnd, unwrap_or, IfSome, MatchOption}
-use Rattle.fair_rates.specs.Filling.States.{at_level}
-use Rattle.fair_rates.specs.declared.error.Error.{Error}
+use Rattle.std.specs.Prelude.{OnOk, OnSome, Result, Ok, Err, IfErr, IsErrAnd, IfSome, MatchOption}
 
 pub none_or_some : {X : Type 0} (o : Option X) → (o ≡ None) ⊎ ((x : X) × (o ≡ Some x))
 none_or_some None = inl refl
@@ -27,8 +26,7 @@ module _ (frozen : ℕ → Option ℕ) (level : ℕ) where
 -- a frozen flow has the same at every level
 pub at_any : (frozen : ℕ → Option ℕ) (level other i : ℕ) → IsSome (frozen i)
     → at_level frozen level i ≡ at_level frozen other i
-at_any frozen level other i h =
-    let v = some_value (frozen i) h in at_some frozen level i v.0 v.1 ∙ sym (at_some frozen other i v.0 v.1)
+at_any frozen level other i h = search (rules, some_value, at_some)
 
 pub some_of_if : {X : Type 0} (P : X → Type 0) (o : Option X) → IfSome o P → (x : X) → o ≡ Some x → P x
 some_of_if P o h x e = let at : IfSome (Some x) P = subst (λ o. IfSome o P) e h in at

@@ -1,15 +1,12 @@
 -- The scale grows: all that is kept is so many times what it was.
-use Rattle.std.proofs.Common.{◌≡◌, ℕ, ◌*◌, ◌<◌, ◌≤◌, inl, inr, List, [], ◌∷◌, ◌++◌, length, All, Contains, sum_by}
-use Rattle.std.proofs.Common.{Option, Some, None, IsSome, refl, sym, ap, subst, ◌∙◌, arith, mul-le-mul_right}
-use Rattle.std.specs.Prelude.{IsPermutation, option_map, unwrap_or}
-use Rattle.std.specs.declared.cmp.Reverse.{Reverse}
-use Rattle.std.proofs.lemmas.List.Elements.{All-cons, All-push, All-weaker, All-contains, All-contains_itself}
-use Rattle.std.proofs.lemmas.List.Elements.{Contains-append_left, Contains-push}
-use Rattle.std.proofs.lemmas.List.Sorted.{All-permutation, Contains-permutation}
-use Rattle.fair_rates.specs.Fairness.Fair.{Side, load}
-use Rattle.fair_rates.specs.Filling.States.{at_level, AllRise, HaveNoMore, KeepsAccount, IsOpen, IsCovered, IsQueue}
-use Rattle.fair_rates.specs.Filling.States.{IsGrown, AreGrown}
-use Rattle.fair_rates.specs.declared.bandwidth.filling.open.OpenSide.{OpenSide}
+use Rattle.fair_rates.proofs.Common.{◌≡◌, ℕ, ◌*◌, ◌<◌, ◌≤◌, inl, inr, List, [], ◌∷◌, ◌++◌, length, All, Contains}
+use Rattle.fair_rates.proofs.Common.{sum_by, Option, Some, None, IsSome, refl, sym, ap, subst, arith, mul-le-mul_right}
+use Rattle.fair_rates.proofs.Common.{IsPermutation, option_map, unwrap_or, Reverse, All-cons, All-push, All-weaker}
+use Rattle.fair_rates.proofs.Common.{All-contains, Contains-append_left, Contains-push, All-permutation}
+use Rattle.fair_rates.proofs.Common.{Contains-permutation, Side, load, at_level, AllRise, HaveNoMore, KeepsAccount}
+use Rattle.fair_rates.proofs.Common.{IsOpen, IsCovered, IsQueue, AreGrown, OpenSide, rules}
+use Rattle.std.proofs.lemmas.List.Elements.{All-contains_itself}
+use Rattle.fair_rates.specs.Filling.States.{IsGrown}
 use Rattle.fair_rates.proofs.Lists.SumOrder.{sum_by-scaled}
 use Rattle.fair_rates.proofs.Filling.States.{IsFilledTo}
 use Rattle.fair_rates.proofs.Lists.Sums.{sum_by_same}
@@ -88,12 +85,10 @@ some_before factor (Some parts) h = refl
 
 module _ (factor : ℕ) (frozen after : ℕ → Option ℕ) (scaled : AreScaled factor frozen after) where
   pub has_scaled : (level flow : ℕ) → at_level after (level * factor) flow ≡ at_level frozen level flow * factor
-  has_scaled level flow =
-      ap (λ o. unwrap_or o (level * factor)) (scaled.each flow) ∙ option_scaled factor (frozen flow) level
+  has_scaled level flow = search (rules, option_scaled)
 
   pub none_scaled : (flow : ℕ) → at_level after 0 flow ≡ at_level frozen 0 flow * factor
-  none_scaled flow =
-      let zero : 0 * factor ≡ 0 = omega arith in ap (λ n. at_level after n flow) (sym zero) ∙ has_scaled 0 flow
+  none_scaled flow = search (rules, has_scaled)
 
   still_some : (flow : ℕ) → IsSome (frozen flow) → IsSome (after flow)
   still_some flow some = subst (λ o. IsSome o) (sym (scaled.each flow)) (some_scaled factor (frozen flow) some)
@@ -102,21 +97,14 @@ module _ (factor : ℕ) (frozen after : ℕ → Option ℕ) (scaled : AreScaled 
   was_some flow some = some_before factor (frozen flow) (subst (λ o. IsSome o) (scaled.each flow) some)
 
   pub still_rise : (users : List ℕ) → AllRise frozen users → AllRise after users
-  still_rise users rise =
-      All-weaker (λ j. frozen j ≡ None) (λ j. after j ≡ None)
-      (λ j e. scaled.each j ∙ ap (option_map (λ parts. parts * factor)) e) users rise
+  still_rise users rise = search (rules, All-weaker)
 
   load_scaled : (level : ℕ) (users : List ℕ)
       → sum_by (at_level after (level * factor)) users ≡ sum_by (at_level frozen level) users * factor
-  load_scaled level users =
-      sum_by_same (at_level after (level * factor)) (λ j. at_level frozen level j * factor) users
-      (λ k d inside. has_scaled level _)
-      ∙ sum_by-scaled (at_level frozen level) factor users
+  load_scaled level users = search (rules, sum_by_same, has_scaled, sum_by-scaled)
 
   sum_scaled : (users : List ℕ) → sum_by (at_level after 0) users ≡ sum_by (at_level frozen 0) users * factor
-  sum_scaled users =
-      sum_by_same (at_level after 0) (λ j. at_level frozen 0 j * factor) users (λ k d inside. none_scaled _)
-      ∙ sum_by-scaled (at_level frozen 0) factor users
+  sum_scaled users = search (rules, sum_by_same, none_scaled, sum_by-scaled)
 
   pub account_scaled : (side : Side) (scale slack : ℕ) (rising : List ℕ) → KeepsAccount side scale frozen slack rising
       → KeepsAccount side (scale * factor) after (slack * factor) rising
@@ -165,10 +153,7 @@ module _ (factor : ℕ) (frozen after : ℕ → Option ℕ) (scaled : AreScaled 
   account_grown : (side : Side) (scale : ℕ) (a b : OpenSide) → IsGrown factor a b
       → KeepsAccount side scale frozen a.slack a.rising.items
       → KeepsAccount side (scale * factor) after b.slack b.rising.items
-  account_grown side scale a b grown account =
-      subst (λ n. KeepsAccount side (scale * factor) after n b.rising.items) (sym grown.slack)
-      (subst (λ xs. KeepsAccount side (scale * factor) after (a.slack * factor) xs) (sym grown.rising)
-      (account_scaled side scale a.slack a.rising.items account))
+  account_grown side scale a b grown account = search (rules, account_scaled)
 
   pub queue_grown : (sides : List Side) (scale : ℕ) (old new : List (Reverse OpenSide)) → AreGrown factor old new
       → IsQueue sides scale frozen old → IsQueue sides (scale * factor) after new

@@ -1,9 +1,8 @@
 -- The least of the shares of some sides, if a user of one rises.
-use Rattle.std.proofs.Common.{◌≡◌, ℕ, zero, suc, ◌*◌, ◌<◌, ◌≤◌, ◌⊎◌, inl, inr, List, [], ◌∷◌, All, Contains, refl, ap}
-use Rattle.std.proofs.Common.{arith, le_refl}
-use Rattle.std.proofs.Math.Nat.{le_of_mul-le-mul_right, mul-le-mul_right}
-use Rattle.std.proofs.lemmas.Bool.{cases_lt}
-use Rattle.std.proofs.lemmas.List.Elements.{All-nil, All-cons, All-weaker, Contains-append_left, Contains-append_right}
+use Rattle.fair_rates.proofs.Common.{◌≡◌, ℕ, zero, suc, ◌*◌, ◌<◌, ◌≤◌, ◌⊎◌, inl, inr, List, [], ◌∷◌, All, Contains}
+use Rattle.fair_rates.proofs.Common.{refl, ap, arith, le_refl, le_of_mul-le-mul_right, cases_lt, All-nil, All-cons}
+use Rattle.fair_rates.proofs.Common.{All-weaker, Contains-append_left, Contains-append_right, rules}
+use Rattle.std.proofs.Math.Nat.{mul-le-mul_right}
 
 -- of those with a count above zero this one has the least amount for each
 pub record IsLeastOf {X : Type 0} (amount count : X → ℕ) (xs : List X) : Type 0 where
@@ -31,9 +30,7 @@ least_of amount count (x ∷ xs) =
           least = x;
           listed = here;
           some = some;
-          below = All-cons (λ y. amount x * count y ≤ amount y * count x) x xs (le_refl (amount x * count x))
-              (All-weaker (λ y. count y ≡ 0) (λ y. amount x * count y ≤ amount y * count x)
-              (λ y e. none_below (amount x) (count x) (amount y) (count y) e) xs none);
+          below = search (rules, All-cons, le_refl, All-weaker, none_below);
         })
       ]
       | inr l ↦ elim (cases_lt (amount x * count l.least) (amount l.least * count x)) [

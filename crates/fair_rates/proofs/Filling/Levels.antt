@@ -1,16 +1,16 @@
 -- The levels so far: different, rising, each of some frozen flow.
-use Rattle.std.proofs.Common.{◌≡◌, ℕ, ◌+◌, ◌-◌, ◌*◌, ◌<◌, ◌≤◌, ◌⊎◌, inl, inr, List, [], ◌∷◌, ◌++◌, length, get_or, map}
-use Rattle.std.proofs.Common.{set, take, All, AllPairs, Contains, Option, Some, None, IfSome, refl, sym, ap, subst, ◌∙◌}
-use Rattle.std.proofs.Common.{arith, length-append, get_or-set_other, get_or-set_same}
-use Rattle.std.specs.Prelude.{option_map, slice_index}
+use Rattle.fair_rates.proofs.Common.{◌≡◌, ℕ, ◌+◌, ◌-◌, ◌*◌, ◌<◌, ◌≤◌, ◌⊎◌, inl, inr, List, [], ◌∷◌, ◌++◌, length}
+use Rattle.fair_rates.proofs.Common.{get_or, map, set, take, All, AllPairs, Contains, Option, Some, None, IfSome, refl}
+use Rattle.fair_rates.proofs.Common.{sym, ap, subst, ◌∙◌, arith, length-append, option_map, slice_index, cases_eq}
+use Rattle.fair_rates.proofs.Common.{cases_lt, get_or-map, get_or_default, get_or_past, get_or_append_left, length-map}
+use Rattle.fair_rates.proofs.Common.{All-push, All-weaker, All-contains, Contains-push, Contains-append_left, level_at}
+use Rattle.fair_rates.proofs.Common.{frozen_at, top, IsRaised, AreAtTop, rules, common_steps}
+use Rattle.std.proofs.Common.{get_or-set_other, get_or-set_same}
 use Rattle.std.proofs.Math.ListN.{get_or-map as get_or_map}
 use Rattle.std.proofs.Math.Nat.{mul-lt-mul_of_pos_right}
-use Rattle.std.proofs.lemmas.Bool.{cases_eq, cases_lt}
-use Rattle.std.proofs.lemmas.List.{take_more, get_or-map, get_or_default, get_or_past, get_or_append_left, length-map}
-use Rattle.std.proofs.lemmas.List.Elements.{All-push, All-weaker, All-contains, Contains-push, Contains-append_left}
+use Rattle.std.proofs.lemmas.List.{take_more}
 use Rattle.std.proofs.lemmas.List.Quantifiers.{all_pairs_push}
-use Rattle.fair_rates.specs.Filling.FairParts.{level_at}
-use Rattle.fair_rates.specs.Filling.States.{frozen_at, top, AreInside, IsRaised, AreAtTop}
+use Rattle.fair_rates.specs.Filling.States.{AreInside}
 use Rattle.fair_rates.proofs.Filling.Course.{Freezes}
 use Rattle.fair_rates.proofs.Filling.Frozen.{some_of_if}
 use Rattle.fair_rates.proofs.Filling.Growing.{AreScaled}
@@ -37,12 +37,7 @@ module _ (before mid : List (Option ℕ)) (users : List ℕ) (user place : ℕ) 
   there = get_or-set_same mid user (Some place) None inside
 
   all_push : AllThere after place (users ++ user ∷ [])
-  all_push =
-      All-push (λ flow. level_at after flow ≡ Some place) users user
-      (λ k d within. elim (cases_eq (get_or users k d) user) [
-        | inl same ↦ ap (level_at after) same ∙ there
-        | inr other ↦ get_or-set_other mid user (get_or users k d) (Some place) None other ∙ all k d within
-      ]) there
+  all_push = grind (arith, common_steps, All-push, cases_eq, there, get_or-set_other)
 
   others_push : OthersStay before after (users ++ user ∷ [])
   others_push flow = elim (cases_eq flow user) [
@@ -73,22 +68,17 @@ module _ (factor : ℕ) (levels : List ℕ) where
   times parts = parts * factor
 
   pub level_scaled : (place : ℕ) → slice_index (map times levels) place ≡ slice_index levels place * factor
-  level_scaled place =
-      let zero : 0 * factor ≡ 0 = omega arith in
-      ap (get_or (map times levels) place) (sym zero) ∙ get_or_map times levels place 0
+  level_scaled place = grind (arith, common_steps, get_or_map)
 
   pub top_scaled : top (map times levels) ≡ top levels * factor
-  top_scaled =
-      ap (λ n. slice_index (map times levels) (n - 1)) (length-map levels times) ∙ level_scaled (length levels - 1)
+  top_scaled = search (rules, length-map, level_scaled)
 
   pub rising_scaled : 0 < factor → AllPairs (λ a b. a < b) levels → AllPairs (λ a b. a < b) (map times levels)
   rising_scaled some rising i j d less inside =
       let within : j < length levels = omega (arith, inside, length-map levels times) in
-      let first : get_or (map times levels) i d ≡ get_or levels i 0 * factor =
-      get_or-map times levels i 0 d (omega (arith, less, within)) in
+      let first : get_or (map times levels) i d ≡ get_or levels i 0 * factor = search (rules, get_or-map) in
       let second : get_or (map times levels) j d ≡ get_or levels j 0 * factor = get_or-map times levels j 0 d within in
-      let lt : get_or levels i 0 * factor < get_or levels j 0 * factor =
-      mul-lt-mul_of_pos_right (rising i j 0 less within) some in
+      let lt : get_or levels i 0 * factor < get_or levels j 0 * factor = search (rules, mul-lt-mul_of_pos_right) in
       omega (arith, first, second, lt)
 
   frozen_scaled_at : (o : Option ℕ)
@@ -101,14 +91,7 @@ module _ (factor : ℕ) (levels : List ℕ) where
   frozen_scaled level_of = record { each = λ flow. frozen_scaled_at (level_at level_of flow) }
 
   pub inside_scaled : (level_of : List (Option ℕ)) → AreInside levels level_of → AreInside (map times levels) level_of
-  inside_scaled level_of inside =
-      All-weaker (λ level. IfSome level (λ place. place < length levels))
-      (λ level. IfSome level (λ place. place < length (map times levels))) more level_of inside
-    where
-      more : (o : Option ℕ) → IfSome o (λ place. place < length levels)
-          → IfSome o (λ place. place < length (map times levels))
-      more None h = tt
-      more (Some place) h = omega (arith, h, length-map levels times)
+  inside_scaled level_of inside = search (rules, All-weaker, length-map)
 
 -- ---- the last level
 
@@ -126,72 +109,31 @@ below_top levels rising = λ k d inside. elim (cases_lt k (length levels - 1)) [
 module _ (users : List ℕ) (levels after : List ℕ) (level_of later : List (Option ℕ)) (level : ℕ)
     (raised : IsRaised levels after level) (at_top : AreAtTop users level_of later after) where
   longer : length levels ≤ length after
-  longer =
-      elim raised.same_or_new [
-        | inl same ↦ omega (arith, ap length same)
-        | inr new ↦ omega (arith, ap length new.0, length-append {A = ℕ} levels (level ∷ []))
-      ]
+  longer = search (rules, length-append)
 
   pub few_more : length after ≤ length levels + 1
-  few_more =
-      elim raised.same_or_new [
-        | inl same ↦ omega (arith, ap length same)
-        | inr new ↦ omega (arith, ap length new.0, length-append {A = ℕ} levels (level ∷ []))
-      ]
+  few_more = search (rules, length-append)
 
   same_level : (place : ℕ) → place < length levels → slice_index after place ≡ slice_index levels place
-  same_level place inside = elim raised.same_or_new [
-    | inl same ↦ ap (λ xs. slice_index xs place) same
-    | inr new ↦ ap (λ xs. slice_index xs place) new.0 ∙ get_or_append_left levels (level ∷ []) 0 place inside
-  ]
+  same_level place inside = search (rules, get_or_append_left)
 
   same_frozen : (inside : AreInside levels level_of) (flow : ℕ) (o : Option ℕ) → level_at level_of flow ≡ o
       → level_at later flow ≡ level_at level_of flow
       → frozen_at after later flow ≡ frozen_at levels level_of flow
-  same_frozen inside flow None e same =
-      ap (option_map (slice_index after)) (same ∙ e) ∙ sym (ap (option_map (slice_index levels)) e)
-  same_frozen inside flow (Some place) e same =
-      let within : flow < length level_of =
-      elim (cases_lt flow (length level_of))
-      [ inl lt ↦ lt | inr past ↦ let none = get_or_past level_of flow None past in absurd (cc) ] in
-      let some : place < length levels =
-      some_of_if (λ k. k < length levels) (level_at level_of flow) (inside flow None within) place e in
-      ap (option_map (slice_index after)) (same ∙ e) ∙ ap Some (same_level place some)
-      ∙ sym (ap (option_map (slice_index levels)) e)
+  same_frozen inside flow None e same = search rules
+  same_frozen inside flow (Some place) e same = search (rules, cases_lt, get_or_past, some_of_if, same_level)
 
   -- the users are frozen at the level, and the others as they were
   pub freezes : AreInside levels level_of → Freezes users (frozen_at levels level_of) (frozen_at after later) level
-  freezes inside = record {
-    all =
-        All-weaker (λ flow. level_at later flow ≡ Some (length after - 1))
-        (λ flow. frozen_at after later flow ≡ Some level)
-        (λ flow e. ap (option_map (slice_index after)) e ∙ ap Some raised.last) users at_top.all;
-    others = λ flow.
-        elim (at_top.others flow)
-        [ inl used ↦ inl used | inr same ↦ inr (same_frozen inside flow (level_at level_of flow) refl same) ];
-  }
+  freezes inside = search (rules, All-weaker, same_frozen)
 
   inside_at : (inside : AreInside levels level_of) (flow : ℕ) → flow < length level_of → (o : Option ℕ)
       → level_at later flow ≡ o → IfSome o (λ place. place < length after)
   inside_at inside flow within None e = tt
-  inside_at inside flow within (Some place) e = elim (at_top.others flow) [
-    | inl used ↦
-        let now = All-contains (λ j. level_at later j ≡ Some (length after - 1)) users flow at_top.all used in
-        let same : length after - 1 ≡ place = cc in
-        omega (arith, same, raised.some)
-    | inr same ↦ let was : level_at level_of flow ≡ Some place = sym same ∙ e in
-        omega (
-          arith,
-          longer,
-          some_of_if (λ k. k < length levels) (level_at level_of flow) (inside flow None within) place was,
-        )
-  ]
+  inside_at inside flow within (Some place) e = search (rules, All-contains, longer, some_of_if)
 
   pub inside_on : AreInside levels level_of → AreInside after later
-  inside_on inside k d within =
-      let here : k < length level_of = omega (arith, within, at_top.one_each) in
-      subst (λ o. IfSome o (λ place. place < length after)) (get_or_default later k None d within)
-      (inside_at inside k here (level_at later k) refl)
+  inside_on inside k d within = search (rules, get_or_default, inside_at)
 
   pub rising_on : top levels ≤ level → AllPairs (λ a b. a < b) levels → AllPairs (λ a b. a < b) after
   rising_on no_lower rising = elim raised.same_or_new [

@@ -1,25 +1,16 @@
 -- The queue of open sides, as the one with the least share is taken out and another put in.
-use Rattle.std.proofs.Common.{◌≡◌, ℕ, ◌*◌, ◌<◌, ◌≤◌, ◌⊎◌, inl, inr, List, [], ◌∷◌, ◌++◌, length, map, All, Contains}
-use Rattle.std.proofs.Common.{Option, refl, sym, subst, arith}
-use Rattle.std.specs.Prelude.{IsPermutation}
-use Rattle.std.specs.BinaryHeap.{IsUpperBound, IsHeap}
-use Rattle.std.specs.Cmp.{nat_cmp_is}
-use Rattle.std.specs.Ordering.{nat_cmp, is_lt}
-use Rattle.std.specs.declared.cmp.Ordering.TheVariants.{Less}
-use Rattle.std.specs.declared.cmp.Reverse.{Reverse}
+use Rattle.fair_rates.proofs.Common.{◌≡◌, ℕ, ◌*◌, ◌<◌, ◌≤◌, ◌⊎◌, inl, inr, List, [], ◌∷◌, ◌++◌, length, map, All}
+use Rattle.fair_rates.proofs.Common.{Contains, Option, refl, sym, subst, arith, IsPermutation, IsHeap, nat_cmp, is_lt}
+use Rattle.fair_rates.proofs.Common.{Reverse, cases_lt, All-nil, All-head, All-tail, All-cons, All-push, All-weaker}
+use Rattle.fair_rates.proofs.Common.{All-contains, Contains-append_left, Contains-append_right, Contains-push}
+use Rattle.fair_rates.proofs.Common.{All-permutation, Contains-permutation, IsPermutation-refl, IsPermutation-sym, Side}
+use Rattle.fair_rates.proofs.Common.{AllFrozen, KeepsAccount, IsOpen, IsCovered, IsQueue, IsShareQueue, HaveNoMore}
+use Rattle.fair_rates.proofs.Common.{AreAbove, IsWithinSlack, AllFilled, AreOpened, queue_cmp, side_of, OpenSide, rules}
+use Rattle.std.specs.BinaryHeap.{IsUpperBound}
 use Rattle.std.specs.Prelude.{false}
-use Rattle.std.proofs.lemmas.Bool.{cases_lt}
 use Rattle.std.proofs.lemmas.List.{map_push}
-use Rattle.std.proofs.lemmas.List.Elements.{All-nil, All-head, All-tail, All-cons, All-push, All-from_recursion}
-use Rattle.std.proofs.lemmas.List.Elements.{All-weaker, All-contains, Contains-append_left, Contains-append_right}
-use Rattle.std.proofs.lemmas.List.Elements.{Contains-append_cases, Contains-push, Contains-push_cases}
-use Rattle.std.proofs.lemmas.List.Sorted.{All-permutation, Contains-permutation}
-use Rattle.std.proofs.lemmas.List.Sorted.{IsPermutation-refl, IsPermutation-sym, IsPermutation-push_more}
-use Rattle.fair_rates.specs.Fairness.Fair.{Side}
-use Rattle.fair_rates.specs.Filling.States.{AllFrozen, KeepsAccount, IsOpen, IsCovered, IsQueue, IsShareQueue}
-use Rattle.fair_rates.specs.Filling.States.{HaveNoMore, AreAbove, IsWithinSlack, AllFilled, AreOpened, queue_cmp}
-use Rattle.fair_rates.specs.Sides.SideOf.{side_of}
-use Rattle.fair_rates.specs.declared.bandwidth.filling.open.OpenSide.{OpenSide}
+use Rattle.std.proofs.lemmas.List.Elements.{All-from_recursion, Contains-append_cases, Contains-push_cases}
+use Rattle.std.proofs.lemmas.List.Sorted.{IsPermutation-push_more}
 use Rattle.fair_rates.specs.declared.bandwidth.sides.Side as declared
 use Rattle.fair_rates.proofs.Filling.Account.{account_start}
 use Rattle.fair_rates.proofs.Lists.SumOrder.{All-from_contains}
@@ -27,11 +18,7 @@ use Rattle.fair_rates.proofs.Lists.SumOrder.{All-from_contains}
 -- ---- lists
 
 pub first_or_later : {X : Type 0} (x y : X) (rest : List X) → Contains (x ∷ rest) y → (x ≡ y) ⊎ Contains rest y
-first_or_later x y rest c = elim (Contains-append_cases (x ∷ []) rest y c) [
-  | inr later ↦ inr later
-  | inl here ↦ elim (Contains-push_cases [] x y here)
-      [ inr same ↦ inl same | inl none ↦ absurd (let h = none.1 in omega arith) ]
-]
+first_or_later x y rest c = search (rules, Contains-append_cases, Contains-push_cases)
 
 pub is_first : {X : Type 0} (x : X) (rest : List X) → Contains (x ∷ rest) x
 is_first x rest = Contains-append_left (x ∷ []) rest x (0, omega arith, refl)
@@ -42,22 +29,12 @@ is_later x y rest c = Contains-append_right (x ∷ []) rest y c
 -- ---- the order
 
 not_less : (a b : ℕ) → is_lt (nat_cmp a b) ≡ false → b ≤ a
-not_less a b e = elim (cases_lt a b) [
-  | inr le ↦ le
-  | inl lt ↦
-      let below : nat_cmp a b ≡ Less = sym (nat_cmp_is a b Less lt) in
-      let no : is_lt Less ≡ false = subst (λ o. is_lt o ≡ false) below e in
-      absurd (cc)
-]
+not_less a b e = search (rules, cases_lt)
 
 -- the share on top is the least
 pub least_first : (x : Reverse OpenSide) (rest : List (Reverse OpenSide)) → IsUpperBound queue_cmp x rest
     → All (λ o. x.0.slack * length o.0.rising.items ≤ o.0.slack * length x.0.rising.items) rest
-least_first x rest upper =
-    All-weaker (λ o. is_lt (queue_cmp x o) ≡ false)
-    (λ o. x.0.slack * length o.0.rising.items ≤ o.0.slack * length x.0.rising.items)
-    (λ o e. not_less (o.0.slack * length x.0.rising.items) (x.0.slack * length o.0.rising.items) e) rest
-    (All-from_recursion (λ o. is_lt (queue_cmp x o) ≡ false) rest upper)
+least_first x rest upper = search (rules, All-weaker, not_less, All-from_recursion)
 
 -- ---- accounts
 
@@ -72,12 +49,7 @@ module _ (scale : ℕ) (frozen : ℕ → Option ℕ) where
   module _ (sides : List Side) where
     pub queue_permuted : (xs ys : List (Reverse OpenSide)) → IsPermutation xs ys → IsQueue sides scale frozen xs
         → IsQueue sides scale frozen ys
-    queue_permuted xs ys perm queue = record {
-      each = All-permutation (IsOpen sides scale frozen) xs ys perm queue.each;
-      covered =
-          All-weaker (IsCovered scale frozen xs) (IsCovered scale frozen ys)
-          (λ side. covered_by xs ys side (λ o. Contains-permutation xs ys o perm)) sides queue.covered;
-    }
+    queue_permuted xs ys perm queue = search (rules, All-permutation, All-weaker, covered_by, Contains-permutation)
 
     -- the first open side has counted more
     pub queue_counted : (x new : Reverse OpenSide) (rest : List (Reverse OpenSide))
@@ -87,9 +59,7 @@ module _ (scale : ℕ) (frozen : ℕ → Option ℕ) where
     queue_counted x new rest keeps queue =
         let first = All-head (IsOpen sides scale frozen) x rest queue.each in
         record {
-          each =
-              All-cons (IsOpen sides scale frozen) new rest (first.0, first.1, keeps first.0 first.2)
-              (All-tail (IsOpen sides scale frozen) x rest queue.each);
+          each = search (rules, All-cons, All-tail);
           covered =
               All-weaker (IsCovered scale frozen (x ∷ rest)) (IsCovered scale frozen (new ∷ rest)) again sides
               queue.covered;
@@ -147,9 +117,7 @@ module _ (scale : ℕ) (frozen : ℕ → Option ℕ) where
         → KeepsAccount side scale frozen x.0.slack x.0.rising.items → IsQueue sides scale frozen opens
         → IsQueue (sides ++ side ∷ []) scale frozen (x ∷ opens)
     queue_more side x opens account queue = record {
-      each = All-cons (IsOpen (sides ++ side ∷ []) scale frozen) x opens (side, Contains-push sides side, account)
-          (All-weaker (IsOpen sides scale frozen) (IsOpen (sides ++ side ∷ []) scale frozen) (listed_more side) opens
-          queue.each);
+      each = search (rules, All-cons, Contains-push, All-weaker, listed_more);
       covered = All-push (IsCovered scale frozen (x ∷ opens)) sides side
           (All-weaker (IsCovered scale frozen opens) (IsCovered scale frozen (x ∷ opens))
           (λ other. covered_by opens (x ∷ opens) other (λ o. is_later x o opens)) sides queue.covered)
@@ -159,9 +127,7 @@ module _ (scale : ℕ) (frozen : ℕ → Option ℕ) where
     pub queue_without : (side : Side) (opens : List (Reverse OpenSide)) → length side.users ≡ 0
         → IsQueue sides scale frozen opens → IsQueue (sides ++ side ∷ []) scale frozen opens
     queue_without side opens none queue = record {
-      each =
-          All-weaker (IsOpen sides scale frozen) (IsOpen (sides ++ side ∷ []) scale frozen) (listed_more side) opens
-          queue.each;
+      each = search (rules, All-weaker, listed_more);
       covered =
           All-push (IsCovered scale frozen opens) sides side queue.covered
           (inl (λ k d inside. absurd (omega (arith, none, inside))));
@@ -207,10 +173,7 @@ above_counted parts xs rest x new perm no_lower above =
 -- ---- the first open sides
 
 pub opened_none : AreOpened [] []
-opened_none = record {
-  queue = λ frozen. record { each = All-nil (IsOpen [] 1 frozen); covered = All-nil (IsCovered 1 frozen []) };
-  users = λ flows all. All-nil (λ o. All (λ flow. flow < flows) o.0.rising.items);
-}
+opened_none = search (rules, All-nil)
 
 -- in another order
 pub opened_permuted : (sides : List declared.Side) (opens later : List (Reverse OpenSide)) → IsPermutation opens later

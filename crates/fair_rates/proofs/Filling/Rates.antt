@@ -1,23 +1,13 @@
 -- The fair parts of the flows as rates.
-use Rattle.std.proofs.Common.{◌≡◌, ◌≢◌, ℕ, ◌<◌, inl, inr, List, [], ◌∷◌, ◌++◌, length, get_or, AllPairs, Contains}
-use Rattle.std.proofs.Common.{Option, Some, None, refl, sym, subst, ap, ◌∙◌, arith, length-append}
-use Rattle.std.proofs.Math.Nat.{eq_of_mul-eq-mul_right}
-use Rattle.std.proofs.lemmas.Bool.{cases_eq, cases_lt}
-use Rattle.std.proofs.lemmas.List.{get_or_push, get_or_past, get_or_append_left}
-use Rattle.fair_rates.specs.Numbers.Amount.{parts_over}
-use Rattle.fair_rates.specs.Fairness.Fair.{Side}
-use Rattle.fair_rates.specs.Filling.FairParts.{level_at, parts_of_level, flow_parts, IsRateAt, AreRatesAt}
-use Rattle.fair_rates.specs.Filling.FairParts.{HasLargeLevel}
+use Rattle.fair_rates.proofs.Common.{◌≡◌, ◌≢◌, ℕ, ◌<◌, List, [], ◌∷◌, ◌++◌, length, get_or, AllPairs, Contains, Option}
+use Rattle.fair_rates.proofs.Common.{Some, None, sym, subst, ap, ◌∙◌, arith, length-append, eq_of_mul-eq-mul_right}
+use Rattle.fair_rates.proofs.Common.{cases_eq, cases_lt, get_or_past, get_or_append_left, parts_over, Side, level_at}
+use Rattle.fair_rates.proofs.Common.{flow_parts, IsRateAt, whole_IsReduced, IsWorth, IsRateOf, AreFairRates}
+use Rattle.fair_rates.proofs.Common.{HasDifferentRates, HasLargeRate, Rate, Finite, Ratio, rules}
+use Rattle.std.proofs.lemmas.List.{get_or_push}
+use Rattle.fair_rates.specs.Filling.FairParts.{parts_of_level, AreRatesAt, HasLargeLevel}
 use Rattle.fair_rates.specs.Filling.States.{AreFilled}
-use Rattle.fair_rates.specs.Numbers.Fits.{ReducedFits}
-use Rattle.fair_rates.specs.Numbers.LowestTerms.{whole_IsReduced}
-use Rattle.fair_rates.specs.Numbers.Ratio.{IsWorth}
-use Rattle.fair_rates.specs.Fairness.Rates.{IsRateOf, AreFairRates, HasDifferentRates}
-use Rattle.fair_rates.specs.Refusals.TooLarge.{HasLargeRate}
-use Rattle.fair_rates.specs.declared.bandwidth.Rate.{Rate}
-use Rattle.fair_rates.specs.declared.bandwidth.Rate.TheVariants.{Finite}
 use Rattle.fair_rates.specs.declared.bandwidth.parts.FairParts.{FairParts}
-use Rattle.fair_rates.specs.declared.ratio.Ratio.{Ratio}
 use Rattle.fair_rates.proofs.Filling.Frozen.{not_some, some_is}
 
 zero_ratio : Ratio
@@ -27,13 +17,8 @@ zero_ratio = record { numerator = 0; denominator = 1; positive = omega arith; re
 pub rated_push : (Holds : ℕ → Rate → Type 0) (rates : List Rate) (rate : Rate) (n : ℕ) → length rates ≡ n → Holds n rate
     → ((flow : ℕ) (d : Rate) → flow < length rates → Holds flow (get_or rates flow d))
     → (flow : ℕ) (d : Rate) → flow < length (rates ++ rate ∷ []) → Holds flow (get_or (rates ++ rate ∷ []) flow d)
-rated_push Holds rates rate n len here all flow d inside = elim (cases_eq flow n) [
-  | inl same ↦ subst (λ j. Holds j (get_or (rates ++ rate ∷ []) j d)) (sym same)
-      (subst (Holds n) (sym (get_or_push rates rate d n len)) here)
-  | inr other ↦
-      let within : flow < length rates = omega (arith, len, inside, length-append {A = Rate} rates (rate ∷ [])) in
-      subst (Holds flow) (sym (get_or_append_left rates (rate ∷ []) d flow within)) (all flow d within)
-]
+rated_push Holds rates rate n len here all flow d inside =
+    search (rules, cases_eq, get_or_push, length-append, get_or_append_left)
 
 -- ---- the rates are fair
 
@@ -60,31 +45,12 @@ module _ (sides : List Side) (flows : ℕ) (found : FairParts) (rates : List Rat
       )
 
   pub rates_are_fair : AreFairRates sides flows rates
-  rates_are_fair = record {
-    one_each = are.one_each ∙ filled.one_each;
-    per = found.scale;
-    parts = flow_parts levels level_of;
-    fair = filled.fair;
-    rated = λ flow d inside.
-        rate_of flow (level_at level_of flow) (get_or rates flow d) refl
-        (are.rated flow d (omega (arith, inside, are.one_each, filled.one_each)));
-  }
+  rates_are_fair = search (rules, rate_of)
 
   -- ---- and as many as there are levels
 
   apart : AllPairs (λ a b. a ≢ b) are.fractions
-  apart i j d less inside same =
-      let r = get_or are.fractions j d in
-      let first : IsWorth r (parts_over found.scale (get_or levels i 0)) =
-      subst (λ q. IsWorth q (parts_over found.scale (get_or levels i 0))) same
-      (are.levels.worth i d (omega (arith, less, inside))) in
-      let second : IsWorth r (parts_over found.scale (get_or levels j 0)) = are.levels.worth j d inside in
-      let equal : get_or levels i 0 ≡ get_or levels j 0 =
-      eq_of_mul-eq-mul_right r.denominator r.positive (get_or levels i 0) (get_or levels j 0)
-      (omega (arith, first, second)) in
-      let lt : get_or levels i 0 < get_or levels j 0 =
-      filled.rising i j 0 less (omega (arith, inside, are.levels.one_each)) in
-      omega (arith, equal, lt)
+  apart i j d less inside same = search (rules, eq_of_mul-eq-mul_right)
 
   is_level : (ratio : Ratio) (o : Option ℕ) → IsRateAt are.fractions o (Finite ratio) → Contains are.fractions ratio
   is_level ratio None e = cc
@@ -92,23 +58,14 @@ module _ (sides : List Side) (flows : ℕ) (found : FairParts) (rates : List Rat
       let e = is ratio in let same : ratio ≡ get_or are.fractions place ratio = cc in (place, inside, sym same)
 
   is_rated : (ratio : Ratio) → Contains rates (Finite ratio) → Contains are.fractions ratio
-  is_rated ratio (flow, inside, is) =
-      is_level ratio (level_at level_of flow)
-      (subst (IsRateAt are.fractions (level_at level_of flow)) is (are.rated flow (Finite ratio) inside))
+  is_rated ratio (flow, inside, is) = search (rules, is_level)
 
   is_some : (ratio : Ratio) → Contains are.fractions ratio → Contains rates (Finite ratio)
   is_some ratio (place, inside, is) =
       let user = filled.reached place (omega (arith, inside, are.levels.one_each)) in
       let flow = user.0 in
-      let within : flow < length level_of = elim (cases_lt flow (length level_of)) [
-        | inl lt ↦ lt
-        | inr past ↦ let none : level_at level_of flow ≡ None = get_or_past level_of flow None past in
-            let e = user.1 in
-            absurd (cc)
-      ] in
-      let has : IsRateAt are.fractions (Some place) (get_or rates flow (Finite ratio)) =
-      subst (λ o. IsRateAt are.fractions o (get_or rates flow (Finite ratio))) user.1
-      (are.rated flow (Finite ratio) (omega (arith, within, are.one_each))) in
+      let within : flow < length level_of = search (rules, cases_lt, get_or_past) in
+      let has : IsRateAt are.fractions (Some place) (get_or rates flow (Finite ratio)) = search rules in
       (flow, omega (arith, within, are.one_each), has.1 ratio ∙ ap Finite is)
 
   pub rates_are_different : HasDifferentRates rates (length levels)
@@ -129,7 +86,5 @@ large_rate sides flows found filled large =
       fair = filled.fair;
       flow = user.0;
       limited = (filled.limited user.0).0 (some_is (level_at found.level_of.items user.0) large.place user.1);
-      large =
-          subst (λ n. ¬ ReducedFits (parts_over found.scale n)) (sym (ap (parts_of_level found.levels.items) user.1))
-          large.large;
+      large = search rules;
     }

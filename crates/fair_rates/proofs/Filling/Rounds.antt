@@ -1,9 +1,7 @@
 -- Filling keeps its state, round by round, and ends in a fair allocation.
-use Rattle.std.proofs.Common.{◌≡◌, ℕ, ◌*◌, ◌<◌, ◌≤◌, inl, inr, List, Contains, sym, ◌∙◌, arith, Option, None, IsSome}
-use Rattle.std.proofs.lemmas.List.Elements.{All-contains}
-use Rattle.fair_rates.specs.Fairness.Fair.{Side, load, IsLimited, IsFair}
+use Rattle.fair_rates.proofs.Common.{◌≡◌, ℕ, ◌<◌, ◌≤◌, inl, inr, List, Contains, sym, ◌∙◌, arith, Option, None, IsSome}
+use Rattle.fair_rates.proofs.Common.{All-contains, Side, IsLimited, IsFair, at_level, rules}
 use Rattle.fair_rates.proofs.Filling.Frozen.{none_or_some, some_value, some_is, at_some, at_none, at_any}
-use Rattle.fair_rates.specs.Filling.States.{at_level}
 use Rattle.fair_rates.proofs.Filling.States.{IsHeld, IsFilledTo, IsNextRound}
 use Rattle.fair_rates.proofs.Lists.Sums.{sum_by_same, sum_by-zero}
 use Rattle.fair_rates.proofs.Lists.SumOrder.{All-from_contains}
@@ -12,12 +10,7 @@ use Rattle.fair_rates.proofs.Lists.SumOrder.{All-from_contains}
 pub start : (sides : List Side) (per : ℕ) (frozen : ℕ → Option ℕ) → ((flow : ℕ) → frozen flow ≡ None)
     → IsFilledTo sides per frozen 0
 start sides per frozen none = record {
-  within = All-from_contains (λ s. load (at_level frozen 0) s ≤ s.cap * per) sides (λ s c.
-      omega (
-        arith,
-        sum_by-zero s.users,
-        sum_by_same (at_level frozen 0) (λ _. 0) s.users (λ k d l. at_none frozen 0 _ (none _)),
-      ));
+  within = search (rules, All-from_contains, sum_by-zero, sum_by_same, at_none);
   below = λ j. omega (arith, at_none frozen 0 j (none j));
   held = λ j h. let v = some_value (frozen j) h in let e = none j in cc;
 }
@@ -28,12 +21,7 @@ pub end : (sides : List Side) (per : ℕ) (frozen : ℕ → Option ℕ) (level :
     → IsFair sides per (at_level frozen 0)
 end sides per frozen level some filled all = record {
   some_part = some;
-  within = All-from_contains (λ s. load (at_level frozen 0) s ≤ s.cap * per) sides (λ s c.
-      let same =
-      sum_by_same (at_level frozen 0) (at_level frozen level) s.users
-      (All-from_contains (λ j. at_level frozen 0 j ≡ at_level frozen level j) s.users (λ j used.
-      at_any frozen 0 level j (all j (s, record { listed = c; used = used })))) in
-      omega (arith, same, All-contains (λ s. load (at_level frozen level) s ≤ s.cap * per) sides s filled.within c));
+  within = search (rules, All-from_contains, sum_by_same, at_any, All-contains);
   held = λ i limited. (filled.held i (all i limited)).bottleneck;
 }
 
@@ -42,39 +30,24 @@ module _ (sides : List Side) (per : ℕ) (frozen : ℕ → Option ℕ) (level : 
     (round : IsNextRound sides per frozen level after next_level) where
   -- at the next level nothing moves
   same_at : (j : ℕ) → at_level after next_level j ≡ at_level frozen next_level j
-  same_at j = elim (none_or_some (frozen j)) [
-    | inr (a, e) ↦ at_some after next_level j a (round.kept j a e) ∙ sym (at_some frozen next_level j a e)
-    | inl e ↦ elim (none_or_some (after j)) [
-      | inl e' ↦ at_none after next_level j e' ∙ sym (at_none frozen next_level j e)
-      | inr (a, e') ↦ omega
-          (arith, at_some after next_level j a e', at_none frozen next_level j e, (round.fresh j a e e').0)
-    ]
-  ]
+  same_at j = search (rules, none_or_some, at_some, at_none)
 
   -- a frozen flow keeps its parts
   kept_at : (j : ℕ) → IsSome (frozen j) → at_level after 0 j ≡ at_level frozen 0 j
-  kept_at j h =
-      let v = some_value (frozen j) h in at_some after 0 j v.0 (round.kept j v.0 v.1) ∙ sym (at_some frozen 0 j v.0 v.1)
+  kept_at j h = search (rules, some_value, at_some)
 
   still : (j : ℕ) → IsSome (frozen j) → IsSome (after j)
   still j h = let v = some_value (frozen j) h in some_is (after j) v.0 (round.kept j v.0 v.1)
 
   below : (j : ℕ) → at_level after 0 j ≤ next_level
-  below j = elim (none_or_some (frozen j)) [
-    | inr (a, e) ↦ omega (arith, kept_at j (some_is (frozen j) a e), filled.below j, round.raised)
-    | inl e ↦ elim (none_or_some (after j)) [
-      | inl e' ↦ omega (arith, at_none after 0 j e')
-      | inr (a, e') ↦ omega (arith, at_some after 0 j a e', (round.fresh j a e e').0)
-    ]
-  ]
+  below j = search (rules, none_or_some, kept_at, some_is, at_none, at_some)
 
   held : (i : ℕ) → IsSome (after i) → IsHeld sides per after i
   held i now = elim (none_or_some (frozen i)) [
     | inr (a, e) ↦
         let was = some_is (frozen i) a e in
         let s = filled.held i was in let h = s.bottleneck in let users = h.side.users in
-        let had : (j : ℕ) → Contains users j → IsSome (frozen j) = λ j used.
-        All-contains (λ j. IsSome (frozen j)) users j s.all_frozen used in
+        let had : (j : ℕ) → Contains users j → IsSome (frozen j) = search (rules, All-contains) in
         record {
           bottleneck = record {
             side = h.side;
@@ -97,8 +70,7 @@ module _ (sides : List Side) (per : ℕ) (frozen : ℕ → Option ℕ) (level : 
     | inl e ↦
         let v = some_value (after i) now in let f = round.fresh i v.0 e v.1 in let users = f.1.side.users in
         let same : (j : ℕ) → Contains users j → at_level after 0 j ≡ at_level frozen next_level j =
-        λ j used.
-        at_any after 0 next_level j (All-contains (λ j. IsSome (after j)) users j f.1.all_frozen used) ∙ same_at j in
+            search (rules, at_any, All-contains, same_at) in
         record {
           bottleneck = record {
             side = f.1.side;
@@ -116,28 +88,14 @@ module _ (sides : List Side) (per : ℕ) (frozen : ℕ → Option ℕ) (level : 
   ]
 
   pub next : IsFilledTo sides per after next_level
-  next = record {
-    within = All-from_contains (λ s. load (at_level after next_level) s ≤ s.cap * per) sides (λ s c.
-        omega (
-          arith,
-          sum_by_same (at_level after next_level) (at_level frozen next_level) s.users (λ k d l. same_at _),
-          All-contains (λ s. load (at_level frozen next_level) s ≤ s.cap * per) sides s round.within c,
-        ));
-    below = below;
-    held = held;
-  }
+  next = search (rules, All-from_contains, sum_by_same, same_at, All-contains, below, held)
 
 -- parts that are the same are fair
 pub fair_same : (sides : List Side) (per : ℕ) (parts other : ℕ → ℕ) → ((flow : ℕ) → parts flow ≡ other flow)
     → IsFair sides per parts → IsFair sides per other
 fair_same sides per parts other same fair = record {
   some_part = fair.some_part;
-  within = All-from_contains (λ s. load other s ≤ s.cap * per) sides (λ s c.
-      omega (
-        arith,
-        sum_by_same parts other s.users (λ k d inside. same _),
-        All-contains (λ s. load parts s ≤ s.cap * per) sides s fair.within c,
-      ));
+  within = search (rules, All-from_contains, sum_by_same, All-contains);
   held = λ flow limited. let h = fair.held flow limited in record {
     side = h.side;
     uses = h.uses;

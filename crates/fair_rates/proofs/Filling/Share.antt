@@ -1,10 +1,9 @@
 -- The least scale at which a share is whole.
-use Prim.Native.Nat.{◌∣◌}
-use Rattle.std.proofs.Common.{◌≡◌, ℕ, zero, suc, ◌+◌, ◌-◌, ◌*◌, ◌<◌, ◌≤◌, ap, sym, subst, arith}
+use Rattle.fair_rates.proofs.Common.{◌∣◌, ◌≡◌, ℕ, zero, suc, ◌+◌, ◌-◌, ◌*◌, ◌<◌, ◌≤◌, ap, sym, subst, arith}
+use Rattle.fair_rates.proofs.Common.{dvd-mul_right, dvd-mul_left, mul-sub, gcd, gcd-pos, gcd-IsGcd}
 use Rattle.std.proofs.lemmas.Nat.Gcd.{le_of_dvd}
-use Rattle.std.proofs.Math.Nat.{dvd-mul_right, dvd-mul_left, dvd_of_mul-dvd-mul_right, mul-sub}
-use Rattle.fair_rates.specs.Numbers.Amount.{gcd}
-use Rattle.fair_rates.specs.Numbers.Gcd.{gcd-pos, gcd-IsGcd, gcd-scaled}
+use Rattle.std.proofs.Math.Nat.{dvd_of_mul-dvd-mul_right}
+use Rattle.fair_rates.specs.Numbers.Gcd.{gcd-scaled}
 
 -- what is left of a number above zero when it is divided by a divisor
 pub quotient_positive : (n by quotient : ℕ) → 0 < n → quotient * by ≡ n → 0 < quotient

@@ -1,8 +1,7 @@
 -- The states between the rounds of filling.
 -- `frozen` says at how many parts a flow stays, and None of a flow that still rises.
 use Rattle.std.specs.Prelude.{◌≡◌, ℕ, ◌*◌, ◌≤◌, List, All, Option, Some, None, IsSome}
-use Rattle.fair_rates.specs.Fairness.Fair.{Side, load, Uses, IsWithinCaps, HasBottleneck}
-use Rattle.fair_rates.specs.Filling.States.{at_level}
+use Rattle.fair_rates.proofs.Common.{Side, load, Uses, IsWithinCaps, HasBottleneck, at_level}
 
 -- the side is full where the rising flows stand at this level
 abbrev pub IsFullAt : ℕ → (ℕ → Option ℕ) → ℕ → Side → Type 0

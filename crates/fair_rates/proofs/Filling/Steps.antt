@@ -1,20 +1,17 @@
 -- What holds between two rounds, how a round keeps it, and what it gives at the end.
-use Rattle.std.proofs.Common.{◌≡◌, ℕ, ◌*◌, ◌/◌, ◌^◌, ◌<◌, ◌≤◌, inl, inr, List, [], ◌∷◌, length, get_or, map, All}
-use Rattle.std.proofs.Common.{AllPairs, Contains, Option, Some, None, IsSome, IfSome, refl, sym, ap, subst, arith}
-use Rattle.std.proofs.Common.{mul-le-mul_right, le_of_mul-le-mul_right}
-use Rattle.std.specs.Prelude.{◌↔◌, option_map, unwrap_or, slice_index, replicate}
-use Rattle.std.specs.BinaryHeap.{IsHeap}
-use Rattle.std.specs.declared.cmp.Reverse.{Reverse}
-use Rattle.std.proofs.Math.Nat.{mul-pos}
-use Rattle.std.proofs.lemmas.Bool.{cases_lt}
-use Rattle.std.proofs.lemmas.List.{get_or-replicate, length-map, length-replicate, get_or_past}
-use Rattle.std.proofs.lemmas.List.Elements.{All-head, All-weaker, All-contains, All-replicate}
-use Rattle.fair_rates.specs.Fairness.Fair.{Side, IsLimited, IsFair}
-use Rattle.fair_rates.specs.Filling.FairParts.{level_at, parts_of_level, flow_parts}
-use Rattle.fair_rates.specs.Filling.States.{frozen_at, at_level, top, AllRise, AllFrozen, AreInside, IsRaised, AreAtTop}
-use Rattle.fair_rates.specs.Filling.States.{IsWithinSlack, HaveNoMore, IsQueue, IsShareQueue, AreAbove, IsLeast}
-use Rattle.fair_rates.specs.Filling.States.{AllFilled, AreGrown, queue_cmp}
-use Rattle.fair_rates.specs.declared.bandwidth.filling.open.OpenSide.{OpenSide}
+use Rattle.fair_rates.proofs.Common.{◌≡◌, ℕ, ◌*◌, ◌/◌, ◌^◌, ◌<◌, ◌≤◌, List, [], ◌∷◌, length, map, All, AllPairs}
+use Rattle.fair_rates.proofs.Common.{Contains, Option, Some, None, IsSome, IfSome, refl, sym, ap, subst, arith}
+use Rattle.fair_rates.proofs.Common.{mul-le-mul_right, option_map, unwrap_or, slice_index, IsHeap, Reverse, mul-pos}
+use Rattle.fair_rates.proofs.Common.{cases_lt, length-map, get_or_past, All-head, All-weaker, All-contains, Side}
+use Rattle.fair_rates.proofs.Common.{IsLimited, IsFair, level_at, flow_parts, frozen_at, at_level, top, AllRise}
+use Rattle.fair_rates.proofs.Common.{IsRaised, AreAtTop, HaveNoMore, IsQueue, IsShareQueue, AreAbove, AllFilled}
+use Rattle.fair_rates.proofs.Common.{AreGrown, queue_cmp, OpenSide, rules}
+use Rattle.std.proofs.Common.{le_of_mul-le-mul_right}
+use Rattle.std.specs.Prelude.{◌↔◌, replicate}
+use Rattle.std.proofs.lemmas.List.{get_or-replicate, length-replicate}
+use Rattle.std.proofs.lemmas.List.Elements.{All-replicate}
+use Rattle.fair_rates.specs.Filling.FairParts.{parts_of_level}
+use Rattle.fair_rates.specs.Filling.States.{AreInside, IsLeast}
 use Rattle.fair_rates.proofs.Filling.Account.{risers_have_no_more}
 use Rattle.fair_rates.proofs.Filling.Course.{Freezes, queue_on, no_more_on, filled_on, share_within}
 use Rattle.fair_rates.proofs.Filling.Frozen.{none_or_some}
@@ -44,20 +41,15 @@ pub record IsCourse (sides : List Side) (scale : ℕ) (levels : List ℕ) (level
 -- ---- before the first round
 
 pub none_at : (count flow : ℕ) → level_at (replicate count None) flow ≡ None
-none_at count flow = elim (cases_lt flow count) [
-  | inl inside ↦ get_or-replicate count flow None None inside
-  | inr past ↦ get_or_past (replicate count None) flow None (omega (arith, length-replicate {A = Option ℕ} count None))
-]
+none_at count flow = search (rules, cases_lt, get_or-replicate, get_or_past, length-replicate)
 
 pub course_none : (sides : List Side) (scale count : ℕ) (opens : List (Reverse OpenSide)) → 0 < scale
     → ((frozen : ℕ → Option ℕ) → IsQueue sides scale frozen opens)
     → All (λ o. All (λ flow. flow < count) o.0.rising.items) opens → IsHeap queue_cmp opens
     → IsCourse sides scale [] (replicate count None) opens
 course_none sides scale count opens some queue users order =
-    let none : (flow : ℕ) → frozen_at [] (replicate count None) flow ≡ None = λ flow.
-    ap (option_map (slice_index [])) (none_at count flow) in
-    let all_rise : (xs : List ℕ) → AllRise (frozen_at [] (replicate count None)) xs = λ xs k d inside.
-    none (get_or xs k d) in
+    let none : (flow : ℕ) → frozen_at [] (replicate count None) flow ≡ None = search (rules, none_at) in
+    let all_rise : (xs : List ℕ) → AllRise (frozen_at [] (replicate count None)) xs = search rules in
     record {
       some_part = some;
       inside = All-replicate (λ level. IfSome level (λ place. place < 0)) count None tt;
@@ -65,15 +57,7 @@ course_none sides scale count opens some queue users order =
       reached = λ place inside. absurd (omega arith);
       filled = start sides scale (frozen_at [] (replicate count None)) none;
       queue = queue (frozen_at [] (replicate count None));
-      sound = record {
-        users =
-            subst (λ n. All (λ (o : Reverse OpenSide). All (λ flow. flow < n) o.0.rising.items) opens)
-            (sym (length-replicate {A = Option ℕ} count None)) users;
-        no_more = λ k d inside.
-            risers_have_no_more (frozen_at [] (replicate count None)) (get_or opens k d).0.slack
-            (get_or opens k d).0.rising.items (all_rise (get_or opens k d).0.rising.items);
-        order = order;
-      };
+      sound = search (rules, length-replicate, risers_have_no_more);
       above = λ k d inside. omega arith;
     }
 
@@ -128,9 +112,7 @@ module _ (sides : List Side) (scale factor : ℕ) (levels after : List ℕ) (lev
   all_grown = grown_first factor x rest opens wide (record { slack = refl; rising = refl }) grown
 
   wide_queue : IsQueue sides (scale * factor) scaled_frozen (wide ∷ opens)
-  wide_queue =
-      queue_grown factor frozen scaled_frozen scaled sides scale (record { 0 = x } ∷ rest) (wide ∷ opens) all_grown
-      taken.queue
+  wide_queue = search (rules, queue_grown, scaled, all_grown)
 
   no_more : All (λ o. HaveNoMore scaled_frozen o.0.slack o.0.rising.items) opens
   no_more = no_more_grown factor frozen scaled_frozen scaled rest opens grown taken.sound.no_more
@@ -139,20 +121,11 @@ module _ (sides : List Side) (scale factor : ℕ) (levels after : List ℕ) (lev
   rise = still_rise factor frozen scaled_frozen scaled x.rising.items taken.least.rise
 
   within : AreAbove level opens
-  within =
-      All-weaker
-      (λ (o : Reverse OpenSide). x.slack * factor * length o.0.rising.items ≤ o.0.slack * length x.rising.items)
-      (λ o. level * length o.0.rising.items ≤ o.0.slack)
-      (λ o le. share_within level (x.slack * factor) (length x.rising.items) o.0.slack (length o.0.rising.items) x.some
-      share le)
-      opens
-      (least_grown factor x.slack (length x.rising.items) rest opens grown taken.least.least)
+  within = search (rules, All-weaker, share_within, least_grown)
 
   no_lower : top scaled_levels ≤ level
   no_lower =
-      let here : top levels * length x.rising.items ≤ x.slack =
-      All-head (λ (o : Reverse OpenSide). IsWithinSlack (top levels) o.0.slack o.0.rising.items) (record { 0 = x })
-      rest taken.above in
+      let here : top levels * length x.rising.items ≤ x.slack = search (rules, All-head) in
       le_of_mul-le-mul_right {k = length x.rising.items}
       (omega (
         arith,
@@ -174,13 +147,7 @@ module _ (sides : List Side) (scale factor : ℕ) (levels after : List ℕ) (lev
       (filled_scaled factor frozen scaled_frozen scaled sides scale (top levels) course.filled)
 
   rising_none : (flow : ℕ) → Contains x.rising.items flow → level_at level_of flow ≡ None
-  rising_none flow used = elim (none_or_some (level_at level_of flow)) [
-    | inl none ↦ none
-    | inr (place, e) ↦
-        let has = frozen_there levels level_of flow place e in
-        let none = All-contains (λ j. frozen j ≡ None) x.rising.items flow taken.least.rise used in
-        absurd (cc)
-  ]
+  rising_none flow used = search (rules, none_or_some, frozen_there, All-contains)
 
   pub round : IsCourse sides (scale * factor) after later opens
   round = record {
@@ -195,18 +162,8 @@ module _ (sides : List Side) (scale factor : ℕ) (levels after : List ℕ) (lev
     filled = subst (IsFilledTo sides (scale * factor) now) (sym raised.last)
         (filled_on sides (scale * factor) scaled_frozen now wide opens level (top scaled_levels) wide_queue no_more rise
         within share freezing x.some (λ o. o.0.some) scaled_filled no_lower);
-    queue =
-        queue_on sides (scale * factor) scaled_frozen now wide opens level (top scaled_levels) wide_queue no_more rise
-        within share freezing;
-    sound = record {
-      users =
-          subst (λ n. All (λ (o : Reverse OpenSide). All (λ flow. flow < n) o.0.rising.items) opens)
-          (sym at_top.one_each) (users_grown factor (length level_of) rest opens grown taken.sound.users);
-      no_more =
-          no_more_on sides (scale * factor) scaled_frozen now wide opens level (top scaled_levels) wide_queue no_more
-          rise within share freezing;
-      order = order;
-    };
+    queue = search (rules, queue_on, wide_queue, no_more, rise, within, freezing);
+    sound = search (rules, users_grown, no_more, no_more_on, wide_queue, rise, within, freezing);
     above = subst (λ n. AreAbove n opens) (sym raised.last) within;
   }
 
@@ -224,15 +181,10 @@ module _ (sides : List Side) (scale : ℕ) (levels : List ℕ) (level_of : List 
   some_of_level (Some place) h = refl
 
   limited_frozen : (flow : ℕ) → IsLimited sides flow → IsSome (frozen_at levels level_of flow)
-  limited_frozen flow (side, uses) =
-      All-contains (λ j. IsSome (frozen_at levels level_of j)) side.users flow
-      (All-contains (λ s. AllFrozen (frozen_at levels level_of) s.users) sides side ended uses.listed) uses.used
+  limited_frozen flow (side, uses) = search (rules, All-contains)
 
   pub limited : (flow : ℕ) → IsSome (level_at level_of flow) ↔ IsLimited sides flow
-  limited flow = (
-    λ h. let b = (filled.held flow (some_of_level (level_at level_of flow) h)).bottleneck in (b.side, b.uses),
-    λ l. level_of_some (level_at level_of flow) (limited_frozen flow l),
-  )
+  limited flow = search (rules, some_of_level, level_of_some, limited_frozen)
 
   same_parts : (o : Option ℕ) → unwrap_or (option_map (slice_index levels) o) 0 ≡ parts_of_level levels o
   same_parts None = refl

@@ -1,9 +1,8 @@
 -- Over the denominator of n flows from the start, what m frozen flows have is over that of m.
-use Prim.Native.Nat.{◌∣◌}
-use Rattle.std.proofs.Common.{◌≡◌, ℕ, ◌+◌, ◌-◌, ◌*◌, ◌/◌, ◌<◌, ◌≤◌, List, [], ◌∷◌, sum_by, ap, subst, arith}
-use Rattle.std.proofs.Math.Nat.{dvd-zero, dvd-add, dvd-sub, dvd-mul_right, mul-div_cancel', dvd-mul_right_of_dvd}
-use Rattle.std.proofs.Math.Nat.{eq_of_mul-eq-mul_right, mul-sub}
-use Rattle.std.proofs.lemmas.List.Sums.{sum_by-cons}
+use Rattle.fair_rates.proofs.Common.{◌∣◌, ◌≡◌, ℕ, ◌+◌, ◌-◌, ◌*◌, ◌/◌, ◌<◌, ◌≤◌, List, [], ◌∷◌, sum_by, ap, subst, arith}
+use Rattle.fair_rates.proofs.Common.{dvd-zero, dvd-mul_right, mul-div_cancel', eq_of_mul-eq-mul_right, mul-sub}
+use Rattle.fair_rates.proofs.Common.{sum_by-cons}
+use Rattle.std.proofs.Math.Nat.{dvd-add, dvd-sub, dvd-mul_right_of_dvd}
 use Rattle.fair_rates.proofs.Fairness.Denominators.{denominator_of, divides, divides_later, positive}
 
 -- so many parts, of which the denominator of n flows makes one, are whole over that of m

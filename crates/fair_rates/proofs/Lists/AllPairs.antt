@@ -1,5 +1,5 @@
 -- A relation between each element and all later ones, by recursion.
-use Rattle.std.proofs.Common.{zero, suc, List, [], ◌∷◌, arith}
+use Rattle.fair_rates.proofs.Common.{zero, suc, List, [], ◌∷◌, arith}
 use Rattle.std.specs.Prelude.{All, AllPairs}
 
 abbrev pub EachLater : {X : Type 0} → (X → X → Type 0) → List X → Type 0

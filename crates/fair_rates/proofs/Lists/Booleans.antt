@@ -1,5 +1,5 @@
 -- Cases by a test, and the parts of a test of two.
-use Rattle.std.proofs.Common.{◌≡◌, Bool, true, false, ◌&&◌, refl}
+use Rattle.fair_rates.proofs.Common.{◌≡◌, Bool, true, false, ◌&&◌, refl}
 
 pub by_bool : {P : Type 0} (b : Bool) → (b ≡ true → P) → (b ≡ false → P) → P
 by_bool true t f = t refl

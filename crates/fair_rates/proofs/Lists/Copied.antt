@@ -1,7 +1,7 @@
 -- Lists that are copied element by element.
-use Rattle.std.proofs.Common.{◌≡◌, ℕ, zero, suc, ◌+◌, ◌<◌, List, [], ◌∷◌, ◌++◌, length, get_or, take, ◌∙◌, ap}
-use Rattle.std.proofs.Common.{subst, arith, add-one}
-use Rattle.std.specs.List.{AllZip}
+use Rattle.fair_rates.proofs.Common.{◌≡◌, ℕ, zero, suc, ◌+◌, ◌<◌, List, [], ◌∷◌, ◌++◌, length, get_or, take, ◌∙◌, ap}
+use Rattle.fair_rates.proofs.Common.{subst, arith, AllZip}
+use Rattle.std.proofs.Common.{add-one}
 use Rattle.std.proofs.Math.Seq.{take-length}
 
 -- one element more

@@ -1,8 +1,8 @@
 -- Lists whose elements differ: such a list is no longer than one that has all its elements.
-use Rattle.std.proofs.Common.{◌≡◌, ◌≢◌, zero, suc, ◌≤◌, List, [], ◌∷◌, ◌++◌, length, AllPairs, Contains, ⊎_elim, refl}
-use Rattle.std.proofs.Common.{sym, ap, subst, ◌∙◌, arith}
+use Rattle.fair_rates.proofs.Common.{◌≡◌, ◌≢◌, zero, suc, ◌≤◌, List, [], ◌∷◌, ◌++◌, length, AllPairs, Contains, ⊎_elim}
+use Rattle.fair_rates.proofs.Common.{refl, sym, ap, subst, ◌∙◌, arith, Contains-append_left, Contains-append_right}
 use Rattle.std.proofs.lemmas.List.{length-append}
-use Rattle.std.proofs.lemmas.List.Elements.{Contains-append_cases, Contains-append_left, Contains-append_right}
+use Rattle.std.proofs.lemmas.List.Elements.{Contains-append_cases}
 
 module _ {X : Type 0} where
   abbrev AreApart : List X → Type 0

@@ -1,8 +1,8 @@
 -- A property of each element of a list, by recursion.
-use Rattle.std.proofs.Common.{◌≡◌, ℕ, zero, suc, List, [], ◌∷◌, ◌++◌, Bool, true, false, cond, Some, All, refl, subst}
-use Rattle.std.specs.Prelude.{⊤, slice_get}
-use Rattle.std.proofs.lemmas.List.Elements.{All-cons, All-nil, All-head, All-tail}
-use Rattle.std.specs.List.{filter, find}
+use Rattle.fair_rates.proofs.Common.{◌≡◌, ℕ, zero, suc, List, [], ◌∷◌, ◌++◌, Bool, true, false, cond, Some, All, subst}
+use Rattle.fair_rates.proofs.Common.{slice_get, All-cons, All-nil, All-head, All-tail, filter, rules}
+use Rattle.std.specs.Prelude.{⊤}
+use Rattle.std.specs.List.{find}
 use Rattle.fair_rates.specs.Lists.WithoutFirst.{without_first}
 
 -- Q holds of each
@@ -17,12 +17,7 @@ each_map Q R (x ∷ xs) f h = (f x h.0, each_map Q R xs f h.1)
 pub each_filtered : {X : Type 0} (Q : X → Type 0) (test : X → Bool) (xs : List X) → Each Q xs
     → Each (λ x. Q x × (test x ≡ true)) (filter test xs)
 each_filtered Q test [] h = tt
-each_filtered {X} Q test (x ∷ xs) h = by_test (test x) refl (each_filtered Q test xs h.1)
-  where
-    by_test : (b : Bool) → test x ≡ b → Each (λ x. Q x × (test x ≡ true)) (filter test xs)
-        → Each (λ x. Q x × (test x ≡ true)) (cond b (x ∷ filter test xs) (filter test xs))
-    by_test true e ih = ((h.0, e), ih)
-    by_test false e ih = ih
+each_filtered {X} Q test (x ∷ xs) h = search (rules, each_filtered Q test xs h.1)
 
 pub each_find : {X : Type 0} (Q : X → Type 0) (test : X → Bool) (xs : List X) (x : X) → Each Q xs
     → find test xs ≡ Some x → Q x
@@ -36,11 +31,7 @@ each_find {X} Q test (y ∷ ys) x e is = by_test (test y) is (λ g. each_find Q 
 pub each_without : {X : Type 0} (Q : X → Type 0) (test : X → Bool) (xs : List X) → Each Q xs
     → Each Q (without_first test xs)
 each_without Q test [] e = tt
-each_without {X} Q test (x ∷ xs) e = by_test (test x) (each_without Q test xs e.1)
-  where
-    by_test : (b : Bool) → Each Q (without_first test xs) → Each Q (cond b xs (x ∷ without_first test xs))
-    by_test true ih = e.1
-    by_test false ih = (e.0, ih)
+each_without {X} Q test (x ∷ xs) e = search (rules, each_without Q test xs e.1)
 
 pub each_joined : {X : Type 0} (Q : X → Type 0) (xs : List X) (x : X) → Each Q xs → Q x → Each Q (xs ++ x ∷ [])
 each_joined Q [] x e q = (q, tt)

@@ -1,8 +1,7 @@
 -- A loop that changes a list in place, element by element.
-use Rattle.std.proofs.Common.{◌≡◌, ℕ, ◌+◌, ◌<◌, ◌≤◌, List, [], ◌∷◌, ◌++◌, length, get_or, set, refl, sym, ◌∙◌, ap}
-use Rattle.std.proofs.Common.{subst, arith, append_assoc}
-use Rattle.std.specs.List.{AllZip}
-use Rattle.std.proofs.lemmas.List.{length-append, append-nil}
+use Rattle.fair_rates.proofs.Common.{◌≡◌, ℕ, ◌+◌, ◌<◌, ◌≤◌, List, [], ◌∷◌, ◌++◌, length, get_or, set, refl, sym, ◌∙◌}
+use Rattle.fair_rates.proofs.Common.{ap, arith, append_assoc, AllZip, append-nil, common_steps, rules}
+use Rattle.std.proofs.lemmas.List.{length-append}
 use Rattle.fair_rates.proofs.Lists.Sorted.{get_or-seam, set-seam}
 use Rattle.fair_rates.proofs.Lists.Zips.{zip-push}
 
@@ -29,27 +28,16 @@ module _ {X : Type 0} (R : X → X → Type 0) where
             → IsChangedUpTo R old (set now at y) (at + 1)
         by_rest [] old_is now_is = absurd (omega (arith, h.at_is, ap length now_is, length-append h.to []))
         by_rest (z ∷ rest) old_is now_is =
-            let here : x ≡ z =
-            is ∙ ap (λ l. get_or l at x) now_is ∙ ap (λ n. get_or (h.to ++ z ∷ rest) n x) h.at_is
-            ∙ get_or-seam h.to rest z x in
+            let here : x ≡ z = search (rules, get_or-seam) in
             record {
               from = h.from ++ x ∷ [];
               to = h.to ++ y ∷ [];
               rest = rest;
               old_is = old_is ∙ ap (λ v. h.from ++ v ∷ rest) (sym here) ∙ sym (append_assoc h.from (x ∷ []) rest);
-              now_is =
-                  ap (λ l. set l at y) now_is ∙ ap (λ n. set (h.to ++ z ∷ rest) n y) h.at_is ∙ set-seam h.to rest z y
-                  ∙ sym (append_assoc h.to (y ∷ []) rest);
+              now_is = search (rules, set-seam, append_assoc);
               at_is = ap (λ n. n + 1) h.at_is ∙ sym (length-append h.to (y ∷ []));
               changed = zip-push R h.from h.to x y h.changed r;
             }
 
     pub all_changed : length now ≤ at → AllZip R old now
-    all_changed le = by_rest h.rest h.old_is h.now_is
-      where
-        by_rest : (rest : List X) → old ≡ h.from ++ rest → now ≡ h.to ++ rest → AllZip R old now
-        by_rest [] old_is now_is =
-            subst (λ l. AllZip R l now) (sym (old_is ∙ append-nil h.from))
-            (subst (AllZip R h.from) (sym (now_is ∙ append-nil h.to)) h.changed)
-        by_rest (z ∷ rest) old_is now_is =
-            absurd (omega (arith, h.at_is, ap length now_is, length-append h.to (z ∷ rest)))
+    all_changed le = grind (arith, common_steps, append-nil, length-append)

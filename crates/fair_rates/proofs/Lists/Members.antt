@@ -1,9 +1,9 @@
 -- Members of lists, by recursion.
-use Rattle.std.proofs.Common.{◌≡◌, ℕ, zero, suc, ◌<◌, List, [], ◌∷◌, ◌++◌, map, length, Bool, true, false, cond, Some}
-use Rattle.std.proofs.Common.{refl, sym, ap, subst, arith, ◌⊎◌, inl, inr, Contains}
-use Rattle.std.specs.Prelude.{slice_get, ◌||◌}
-use Rattle.std.specs.List.{filter, flat_map, list_all, list_any}
-use Rattle.std.proofs.lemmas.Bool.{and_parts, and_from, or_parts, or_from}
+use Rattle.fair_rates.proofs.Common.{◌≡◌, ℕ, zero, suc, ◌<◌, List, [], ◌∷◌, ◌++◌, map, length, Bool, true, false, cond}
+use Rattle.fair_rates.proofs.Common.{Some, refl, sym, ap, subst, arith, ◌⊎◌, inl, inr, Contains, slice_get, filter}
+use Rattle.fair_rates.proofs.Common.{list_all, list_any, and_parts, and_from, rules}
+use Rattle.std.specs.List.{flat_map}
+use Rattle.std.proofs.lemmas.Bool.{or_parts, or_from}
 
 abbrev pub In : {X : Type 0} → List X → X → Type 0
 In [] x = ⊥
@@ -32,11 +32,7 @@ in_right (y ∷ xs) ys x h = inr (in_right xs ys x h)
 pub in_either : {X : Type 0} (xs ys : List X) (x : X) → In (xs ++ ys) x → In xs x ⊎ In ys x
 in_either [] ys x h = inr h
 in_either (y ∷ xs) ys x (inl e) = inl (inl e)
-in_either {X} (y ∷ xs) ys x (inr h) = further (in_either xs ys x h)
-  where
-    further : In xs x ⊎ In ys x → In (y ∷ xs) x ⊎ In ys x
-    further (inl g) = inl (inr g)
-    further (inr g) = inr g
+in_either {X} (y ∷ xs) ys x (inr h) = search (rules, in_either xs ys x h)
 
 pub in_filter : {X : Type 0} (test : X → Bool) (xs : List X) (x : X) → In xs x → test x ≡ true → In (filter test xs) x
 in_filter test [] x h t = absurd h
@@ -85,8 +81,7 @@ get_in {X} (y ∷ ys) x (inr h) = let r : (i : ℕ) × (slice_get ys i ≡ Some 
 pub none_passes : {X : Type 0} (test : X → Bool) (xs : List X) → list_any test xs ≡ false → (x : X) → In xs x
     → test x ≡ false
 none_passes test [] e x h = absurd h
-none_passes {X} test (y ∷ ys) e x (inl same) =
-    subst (λ (z : X). test z ≡ false) same (or_parts (test y) (list_any test ys) e).0
+none_passes {X} test (y ∷ ys) e x (inl same) = search (rules, or_parts)
 none_passes test (y ∷ ys) e x (inr h) = none_passes test ys (or_parts (test y) (list_any test ys) e).1 x h
 
 pub any_fails : {X : Type 0} (test : X → Bool) (xs : List X) → ((x : X) → In xs x → test x ≡ false)
@@ -97,20 +92,11 @@ any_fails test (y ∷ ys) h =
 
 pub any_passes : {X : Type 0} (test : X → Bool) (xs : List X) (x : X) → In xs x → test x ≡ true
     → list_any test xs ≡ true
-any_passes test xs x h t = by_any (list_any test xs) refl
-  where
-    by_any : (b : Bool) → list_any test xs ≡ b → list_any test xs ≡ true
-    by_any true e = e
-    by_any false e = let off : test x ≡ false = none_passes test xs e x h in cc
+any_passes test xs x h t = search (rules, none_passes)
 
 pub filter_nothing : {X : Type 0} (p : X → Bool) (xs : List X) → list_any p xs ≡ false → filter p xs ≡ []
 filter_nothing p [] e = refl
-filter_nothing p (x ∷ xs) e = by_test (p x) e (filter_nothing p xs)
-  where
-    by_test : (b : Bool) → (b || list_any p xs) ≡ false → (list_any p xs ≡ false → filter p xs ≡ [])
-        → cond b (x ∷ filter p xs) (filter p xs) ≡ []
-    by_test true e ih = cc
-    by_test false e ih = ih e
+filter_nothing p (x ∷ xs) e = search (rules, filter_nothing p xs)
 
 -- some member passes, or none does
 pub some_or_none : {X : Type 0} (test : X → Bool) (xs : List X)

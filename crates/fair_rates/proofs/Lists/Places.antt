@@ -1,11 +1,8 @@
 -- The places of the elements of a list that pass a test.
-use Rattle.std.proofs.Common.{◌≡◌, ◌≢◌, ℕ, zero, suc, ◌+◌, ◌<◌, ◌≤◌, List, [], ◌∷◌, length, Bool, true, false, cond}
-use Rattle.std.proofs.Common.{Some, All, AllPairs, Contains, refl, subst, arith, inl, inr}
-use Rattle.std.specs.Prelude.{slice_get}
-use Rattle.std.specs.List.{AllZip}
-use Rattle.std.proofs.lemmas.List.Elements.{Contains-append_right}
+use Rattle.fair_rates.proofs.Common.{◌≡◌, ◌≢◌, ℕ, zero, suc, ◌+◌, ◌<◌, ◌≤◌, List, [], ◌∷◌, length, Bool, true, false}
+use Rattle.fair_rates.proofs.Common.{cond, Some, All, AllPairs, Contains, refl, subst, arith, inl, inr, slice_get}
+use Rattle.fair_rates.proofs.Common.{AllZip, Contains-append_right, places_from, rules, common_steps}
 use Rattle.std.proofs.lemmas.List.Kept.{AllPairs-cons}
-use Rattle.fair_rates.specs.Lists.Places.{places_from}
 use Rattle.fair_rates.proofs.Lists.SumOrder.{All-from_contains}
 use Rattle.fair_rates.proofs.Lists.Members.{In, in_from_contains}
 
@@ -34,8 +31,7 @@ place_in {X} place test (y ∷ ys) (suc i) x at e =
 
 pub place_here : {X : Type 0} (test : X → Bool) (xs : List X) (i : ℕ) (x : X) → slice_get xs i ≡ Some x → test x ≡ true
     → Contains (places_from 0 test xs) i
-place_here test xs i x at e =
-    subst (λ (n : ℕ). Contains (places_from 0 test xs) n) (omega arith) (place_in 0 test xs i x at e)
+place_here test xs i x at e = grind (arith, common_steps, place_in 0 test xs i x)
 
 -- what stands at a place of those that pass
 pub passes_at : {X : Type 0} (place : ℕ) (test : X → Bool) (xs : List X) (i : ℕ) → In (places_from place test xs) i
@@ -54,10 +50,7 @@ passes_at {X} place test (x ∷ xs) i h = by_test (test x) refl h (passes_at (pl
 
 pub passes_here : {X : Type 0} (test : X → Bool) (xs : List X) (i : ℕ) → In (places_from 0 test xs) i
     → (x : X) × (slice_get xs i ≡ Some x) × (test x ≡ true)
-passes_here {X} test xs i h =
-    let r = passes_at 0 test xs i h in
-    let here : r.0 ≡ i = omega (arith, r.1) in
-    (r.2, subst (λ (k : ℕ). slice_get xs k ≡ Some r.2) here r.3, r.4)
+passes_here {X} test xs i h = search (rules, passes_at)
 
 -- the same places pass tests that answer alike
 pub places_alike : {X Y : Type 0} (R : X → Y → Type 0) (f : X → Bool) (g : Y → Bool)
@@ -66,8 +59,7 @@ pub places_alike : {X Y : Type 0} (R : X → Y → Type 0) (f : X → Bool) (g :
 places_alike R f g same place [] [] h = refl
 places_alike R f g same place [] (y ∷ ys) h = absurd h
 places_alike R f g same place (x ∷ xs) [] h = absurd h
-places_alike R f g same place (x ∷ xs) (y ∷ ys) h =
-    rw (same x y h.0, places_alike R f g same (place + 1) xs ys h.1) refl
+places_alike R f g same place (x ∷ xs) (y ∷ ys) h = search (rules, places_alike R f g same (place + 1) xs ys h.1)
 
 -- no place stands there twice
 pub places_apart : {X : Type 0} (place : ℕ) (test : X → Bool) (xs : List X)

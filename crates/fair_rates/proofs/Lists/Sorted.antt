@@ -1,18 +1,16 @@
 -- Lists in the order of keys: what a search finds, and what the entry of a key says after a change.
-use Rattle.std.proofs.Common.{◌≡◌, ℕ, zero, suc, ◌+◌, ◌<◌, ◌≤◌, Bool, true, false, if◌then◌else◌, ◌&&◌, List, [], ◌∷◌}
-use Rattle.std.proofs.Common.{◌++◌, length, map, get_or, take, drop, set, Result, Ok, Err, IfOk, IfErr, refl, sym, ◌∙◌}
-use Rattle.std.proofs.Common.{ap, subst, arith}
-use Rattle.std.specs.List.{list_all, insert, HoldsAt, AllWithin}
+use Rattle.fair_rates.proofs.Common.{◌≡◌, ℕ, zero, suc, ◌+◌, ◌<◌, ◌≤◌, Bool, true, false, ◌&&◌, List, [], ◌∷◌, ◌++◌}
+use Rattle.fair_rates.proofs.Common.{length, map, get_or, take, drop, set, Result, Ok, Err, IfErr, refl, sym, ◌∙◌, ap}
+use Rattle.fair_rates.proofs.Common.{subst, arith, list_all, insert, Ordering, Less, Equal, Greater, is_lt, is_eq}
+use Rattle.fair_rates.proofs.Common.{IsTotalOrder, map-append, and_from, IsGap, rules, common_steps}
+use Rattle.std.proofs.Common.{if◌then◌else◌, IfOk}
+use Rattle.std.specs.List.{HoldsAt, AllWithin}
 use Rattle.std.specs.List.Sorted.{IsSearchInRange, IsBinarySearchResult, IsNonDecreasingBy, IsPartitionPoint}
-use Rattle.std.specs.declared.cmp.Ordering.{Ordering}
-use Rattle.std.specs.declared.cmp.Ordering.TheVariants.{Less, Equal, Greater}
-use Rattle.std.specs.Ordering.{is_lt, is_eq, is_gt, ordering_index}
-use Rattle.std.specs.Cmp.{IsTotalOrder}
+use Rattle.std.specs.Ordering.{is_gt, ordering_index}
 use Rattle.std.proofs.lemmas.Cmp.{tied_itself, tied_back, alike_right}
-use Rattle.std.proofs.lemmas.List.{take-append-drop, get_or-drop, length-drop, map-append}
-use Rattle.std.proofs.lemmas.Bool.{and_from}
+use Rattle.std.proofs.lemmas.List.{take-append-drop, get_or-drop, length-drop}
 use Rattle.fair_rates.proofs.Lists.Booleans.{by_bool, first_of_both, second_of_both}
-use Rattle.fair_rates.specs.Lists.Sorted.{are_ascending, value_at, IsPlace, IsGap}
+use Rattle.fair_rates.specs.Lists.Sorted.{are_ascending, value_at, IsPlace}
 
 -- ---- tests
 
@@ -120,17 +118,7 @@ within_from_all p (x ∷ xs) h (suc k) d lt = within_from_all p xs (second_of_bo
 module _ {K : Type 0} (cmp : K → K → Ordering) (total : IsTotalOrder cmp) where
   -- a lesser key compares no higher with any key
   index_le : (k l m : K) → cmp k l ≡ Less → ordering_index (cmp k m) ≤ ordering_index (cmp l m)
-  index_le k l m less = by_order (cmp l m) refl
-    where
-      by_order : (o : Ordering) → cmp l m ≡ o → ordering_index (cmp k m) ≤ ordering_index (cmp l m)
-      by_order Less e = rw (total.trans k l m less e, e) (omega arith)
-      by_order Equal e = let is : cmp k m ≡ Less = sym (alike_right total l m k e) ∙ less in rw (is, e) (omega arith)
-      by_order Greater e = rw e (by_low (cmp k m))
-        where
-          by_low : (o : Ordering) → ordering_index o ≤ ordering_index Greater
-          by_low Less = omega arith
-          by_low Equal = omega arith
-          by_low Greater = omega arith
+  index_le k l m less = search (rules, alike_right)
 
   -- the key of one entry is below the keys of those after it
   pub ascending_split : (ks ls : List K) (k : K) → are_ascending cmp (ks ++ k ∷ ls) ≡ true
@@ -138,9 +126,7 @@ module _ {K : Type 0} (cmp : K → K → Ordering) (total : IsTotalOrder cmp) wh
   ascending_split [] ls k h = record { lower = refl; higher = first_of_both (list_all (λ l. is_lt (cmp k l)) ls) _ h }
   ascending_split (j ∷ ks) ls k h =
       let rest = ascending_split ks ls k (second_of_both (list_all (λ l. is_lt (cmp j l)) (ks ++ k ∷ ls)) _ h) in
-      let first : list_all (λ l. is_lt (cmp j l)) (k ∷ ls) ≡ true =
-      list_all-right (λ l. is_lt (cmp j l)) ks (k ∷ ls)
-      (first_of_both (list_all (λ l. is_lt (cmp j l)) (ks ++ k ∷ ls)) _ h) in
+      let first : list_all (λ l. is_lt (cmp j l)) (k ∷ ls) ≡ true = search (rules, list_all-right, first_of_both) in
       record {
         lower = and_from (is_lt (cmp j k)) _ (first_of_both (is_lt (cmp j k)) _ first) rest.lower;
         higher = rest.higher;
@@ -151,9 +137,7 @@ module _ {K : Type 0} (cmp : K → K → Ordering) (total : IsTotalOrder cmp) wh
   is_lt_alike k l m same h = rw (sym (alike_right total l m k same)) h
 
   is_gt_from_lt : (k l m : K) → cmp k m ≡ Equal → is_lt (cmp k l) ≡ true → is_gt (cmp l m) ≡ true
-  is_gt_from_lt k l m same h =
-      let less : cmp m l ≡ Less = sym (total.congr k m l same) ∙ is_lt_less (cmp k l) h in
-      rw (total.antisymm l m, less) refl
+  is_gt_from_lt k l m same h = search (rules, is_lt_less)
 
   is_lt_from_gt : (k l : K) → is_gt (cmp l k) ≡ true → is_lt (cmp k l) ≡ true
   is_lt_from_gt k l h = rw (total.antisymm k l, is_gt_greater (cmp l k) h) refl
@@ -172,17 +156,6 @@ module _ {K : Type 0} (cmp : K → K → Ordering) (total : IsTotalOrder cmp) wh
       (ascending_insert ks ls k (second_of_both (list_all (λ l. is_lt (cmp j l)) (ks ++ ls)) _ h)
       (second_of_both (is_lt (cmp j k)) _ below) above)
 
-  -- without one of them they still ascend
-  ascending_less : (ks ls : List K) (k : K) → are_ascending cmp (ks ++ k ∷ ls) ≡ true
-      → are_ascending cmp (ks ++ ls) ≡ true
-  ascending_less [] ls k h = second_of_both (list_all (λ l. is_lt (cmp k l)) ls) _ h
-  ascending_less (j ∷ ks) ls k h =
-      let first = first_of_both (list_all (λ l. is_lt (cmp j l)) (ks ++ k ∷ ls)) _ h in
-      and_from _ _
-      (list_all-append (λ l. is_lt (cmp j l)) ks ls (list_all-left _ ks (k ∷ ls) first)
-      (second_of_both (is_lt (cmp j k)) _ (list_all-right _ ks (k ∷ ls) first)))
-      (ascending_less ks ls k (second_of_both (list_all (λ l. is_lt (cmp j l)) (ks ++ k ∷ ls)) _ h))
-
   module _ {E : Type 0} (key : E → K) where
     -- the comparisons with a key rise along an ascending list
     comparisons_rise : (es : List E) (k : K) → are_ascending cmp (map key es) ≡ true
@@ -191,8 +164,7 @@ module _ {K : Type 0} (cmp : K → K → Ordering) (total : IsTotalOrder cmp) wh
     comparisons_rise (e ∷ es) k h zero zero d le lt = omega arith
     comparisons_rise (e ∷ es) k h zero (suc j) d le lt =
         let below : list_all (λ f. is_lt (cmp (key e) (key f))) es ≡ true =
-        sym (list_all-map (λ l. is_lt (cmp (key e) l)) key es)
-        ∙ first_of_both (list_all (λ l. is_lt (cmp (key e) l)) (map key es)) _ h in
+            search (rules, list_all-map, first_of_both) in
         index_le (key e) (key (get_or es j d)) k
         (is_lt_less _ (within_from_all (λ f. is_lt (cmp (key e) (key f))) es below j d (omega arith)))
     comparisons_rise (e ∷ es) k h (suc i) zero d le lt = absurd (omega arith)
@@ -205,25 +177,7 @@ module _ {K : Type 0} (cmp : K → K → Ordering) (total : IsTotalOrder cmp) wh
         → at ≡ length before → are_ascending cmp (map key es) ≡ true → cmp (key here) k ≡ Equal
         → IsPlace cmp key es k at
     place es before after here k at split is_at ascending same =
-        let keys : are_ascending cmp (map key before ++ key here ∷ map key after) ≡ true =
-        rw (sym (map-append key before (here ∷ after)) ∙ ap (map key) (sym split)) ascending in
-        let parts = ascending_split (map key before) (map key after) (key here) keys in
-        record {
-          before = before;
-          entry = here;
-          after = after;
-          split = split;
-          is_at = is_at;
-          below =
-              sym (list_all-map (λ l. is_lt (cmp l k)) key before)
-              ∙ list_all-mono (λ l. is_lt (cmp l (key here))) (λ l. is_lt (cmp l k))
-              (λ l h. is_lt_alike l (key here) k same h) (map key before) parts.lower;
-          same = ap is_eq same;
-          above =
-              sym (list_all-map (λ l. is_gt (cmp l k)) key after)
-              ∙ list_all-mono (λ l. is_lt (cmp (key here) l)) (λ l. is_gt (cmp l k))
-              (λ l h. is_gt_from_lt (key here) l k same h) (map key after) parts.higher;
-        }
+        search (rules, map-append, ascending_split, list_all-map, list_all-mono, is_lt_alike, is_gt_from_lt)
 
     -- what a binary search finds
     found_there : (es : List E) (k : K) (at : ℕ) → are_ascending cmp (map key es) ≡ true → at < length es
@@ -278,8 +232,7 @@ module _ {K : Type 0} (cmp : K → K → Ordering) (total : IsTotalOrder cmp) wh
         → IsSearchInRange r (length es) → IsBinarySearchResult (λ e. cmp (key e) k) es r
         → record { found : IfOk r (IsPlace cmp key es k); absent : IfErr r (IsGap cmp key es k) }
     searched es k (Ok at) ascending lt holds = record { found = found_there es k at ascending lt holds; absent = tt }
-    searched es k (Err at) ascending le parted =
-        record { found = tt; absent = gap es k at le (parted (comparisons_rise es k ascending)) }
+    searched es k (Err at) ascending le parted = search (rules, gap, comparisons_rise)
 
     -- ---- what the entry of a key says
 
@@ -289,18 +242,15 @@ module _ {K : Type 0} (cmp : K → K → Ordering) (total : IsTotalOrder cmp) wh
           → value_at cmp key says none (es ++ rest) q ≡ value_at cmp key says none rest q
       skips [] rest k q below same = refl
       skips (e ∷ es) rest k q below same =
-          let less : cmp (key e) q ≡ Less =
-          sym (alike_right total k q (key e) (is_eq_equal _ same))
-          ∙ is_lt_less _ (first_of_both (is_lt (cmp (key e) k)) _ below) in
-          rw less (skips es rest k q (second_of_both (is_lt (cmp (key e) k)) _ below) same)
+          search (rules, alike_right, is_eq_equal, is_lt_less, first_of_both, second_of_both,
+          skips es rest k q (second_of_both (is_lt (cmp (key e) k)) _ below) same)
 
       -- the same beginning changes nothing
       behind : (es rest others : List E) (q : K)
           → value_at cmp key says none rest q ≡ value_at cmp key says none others q
           → value_at cmp key says none (es ++ rest) q ≡ value_at cmp key says none (es ++ others) q
       behind [] rest others q h = h
-      behind (e ∷ es) rest others q h =
-          ap (λ v. if is_eq (cmp (key e) q) then says e else v) (behind es rest others q h)
+      behind (e ∷ es) rest others q h = search (rules, behind es rest others q h)
 
       -- greater entries alone say nothing
       greater : (es : List E) (k : K) → list_all (λ e. is_gt (cmp (key e) k)) es ≡ true
@@ -312,12 +262,10 @@ module _ {K : Type 0} (cmp : K → K → Ordering) (total : IsTotalOrder cmp) wh
 
       pub at_place : (es : List E) (k : K) (at : ℕ) → (p : IsPlace cmp key es k at)
           → value_at cmp key says none es k ≡ says p.entry
-      at_place es k at p =
-          rw p.split (skips p.before (p.entry ∷ p.after) k k p.below (ap is_eq (tied_itself total k)) ∙ rw p.same refl)
+      at_place es k at p = search (rules, skips, tied_itself)
 
       pub at_gap : (es : List E) (k : K) (at : ℕ) → IsGap cmp key es k at → value_at cmp key says none es k ≡ none
-      at_gap es k at g =
-          rw g.split (skips g.before g.after k k g.below (ap is_eq (tied_itself total k)) ∙ greater g.after k g.above)
+      at_gap es k at g = search (rules, skips, tied_itself, greater)
 
       -- an entry with an equal key answers for the key
       is_eq_alike : (j k q : K) → is_eq (cmp j k) ≡ true → is_eq (cmp j q) ≡ is_eq (cmp k q)
@@ -328,24 +276,16 @@ module _ {K : Type 0} (cmp : K → K → Ordering) (total : IsTotalOrder cmp) wh
           → (q : K)
           → value_at cmp key says none (p.before ++ e ∷ p.after) q
           ≡ (if is_eq (cmp k q) then says e else value_at cmp key says none es q)
-      replaced es k at p e same q = by_bool (is_eq (cmp k q))
-          (λ h. skips p.before (e ∷ p.after) k q p.below h ∙ rw (is_eq_alike (key e) k q same, h) refl)
-          (λ h. rw (p.split, h)
-          (behind p.before (e ∷ p.after) (p.entry ∷ p.after) q
-          (rw (is_eq_alike (key e) k q same, is_eq_alike (key p.entry) k q p.same, h) refl)))
+      replaced es k at p e same q = search (rules, by_bool, skips, is_eq_alike, behind)
 
     -- ---- by place
 
     pub read_place : (es : List E) (k : K) (at : ℕ) (p : IsPlace cmp key es k at) (d : E) → get_or es at d ≡ p.entry
-    read_place es k at p d =
-        ap (λ l. get_or l at d) p.split ∙ ap (λ n. get_or (p.before ++ p.entry ∷ p.after) n d) p.is_at
-        ∙ get_or-seam p.before p.after p.entry d
+    read_place es k at p d = search (rules, get_or-seam)
 
     pub insert_gap : (es : List E) (k : K) (at : ℕ) (g : IsGap cmp key es k at) (e : E)
         → insert es at e ≡ g.before ++ e ∷ g.after
-    insert_gap es k at g e =
-        ap (λ l. insert l at e) g.split ∙ ap (λ n. insert (g.before ++ g.after) n e) g.is_at
-        ∙ insert-seam g.before g.after e
+    insert_gap es k at g e = search (rules, insert-seam)
 
     -- an entry of a key stands between those of lesser and of greater ones
     ascending_between : (before after : List E) (k : K) (e : E) → is_eq (cmp (key e) k) ≡ true
@@ -353,23 +293,12 @@ module _ {K : Type 0} (cmp : K → K → Ordering) (total : IsTotalOrder cmp) wh
         → list_all (λ f. is_lt (cmp (key f) k)) before ≡ true → list_all (λ f. is_gt (cmp (key f) k)) after ≡ true
         → are_ascending cmp (map key before ++ key e ∷ map key after) ≡ true
     ascending_between before after k e same h below above =
-        let equal : cmp k (key e) ≡ Equal = tied_back total (key e) k (is_eq_equal _ same) in
-        ascending_insert (map key before) (map key after) (key e) h
-        (list_all-map _ key before
-        ∙ list_all-mono (λ f. is_lt (cmp (key f) k)) (λ f. is_lt (cmp (key f) (key e)))
-        (λ f l. is_lt_alike (key f) k (key e) equal l) before below)
-        (list_all-map _ key after
-        ∙ list_all-mono (λ f. is_gt (cmp (key f) k)) (λ f. is_gt (cmp (key f) (key e)))
-        (λ f l. ap is_gt (sym (alike_right total k (key e) (key f) equal)) ∙ l) after above)
+        search (rules, tied_back, is_eq_equal, ascending_insert, list_all-map, list_all-mono, is_lt_alike, alike_right)
 
     pub ascending_insert_at : (es : List E) (k : K) (at : ℕ) (g : IsGap cmp key es k at) (e : E)
         → is_eq (cmp (key e) k) ≡ true → are_ascending cmp (map key es) ≡ true
         → are_ascending cmp (map key (insert es at e)) ≡ true
-    ascending_insert_at es k at g e same h =
-        ap (λ l. are_ascending cmp (map key l)) (insert_gap es k at g e)
-        ∙ ap (are_ascending cmp) (map-append key g.before (e ∷ g.after))
-        ∙ ascending_between g.before g.after k e same
-        (ap (are_ascending cmp) (sym (map-append key g.before g.after) ∙ ap (map key) (sym g.split)) ∙ h) g.below g.above
+    ascending_insert_at es k at g e same h = grind (arith, common_steps, insert_gap, map-append, ascending_between)
 
     module _ {V : Type 0} (says : E → V) (none : V) where
       pub value_there : (es : List E) (k : K) (at : ℕ) → IsPlace cmp key es k at → (d : E)
@@ -380,6 +309,4 @@ module _ {K : Type 0} (cmp : K → K → Ordering) (total : IsTotalOrder cmp) wh
       pub value_respects : (es : List E) (k q : K) → cmp k q ≡ Equal
           → value_at cmp key says none es k ≡ value_at cmp key says none es q
       value_respects [] k q same = refl
-      value_respects (e ∷ es) k q same =
-          ap (λ o. if is_eq o then says e else value_at cmp key says none es k) (alike_right total k q (key e) same)
-          ∙ ap (λ v. if is_eq (cmp (key e) q) then says e else v) (value_respects es k q same)
+      value_respects (e ∷ es) k q same = search (rules, alike_right, value_respects es k q same)

@@ -1,10 +1,10 @@
 -- Sums of two amounts over one list.
-use Rattle.std.proofs.Common.{◌≡◌, ℕ, zero, suc, ◌+◌, ◌*◌, ◌<◌, ◌≤◌, ◌⊎◌, inl, inr, List, [], ◌∷◌, length, get_or, All}
-use Rattle.std.proofs.Common.{Contains, sum_by, refl, sym, subst, arith, le_refl, add-mul}
-use Rattle.std.proofs.lemmas.Bool.{cases_lt}
-use Rattle.std.proofs.lemmas.List.Elements.{All-cons, All-head, All-tail, All-nil, Contains-append_left}
-use Rattle.std.proofs.lemmas.List.Elements.{Contains-append_right, Contains-get_or}
-use Rattle.std.proofs.lemmas.List.Sums.{sum_by-cons}
+use Rattle.fair_rates.proofs.Common.{◌≡◌, ℕ, zero, suc, ◌*◌, ◌<◌, ◌≤◌, ◌⊎◌, inl, inr, List, [], ◌∷◌, length, get_or}
+use Rattle.fair_rates.proofs.Common.{All, Contains, sum_by, refl, sym, subst, arith, le_refl, cases_lt, All-cons}
+use Rattle.fair_rates.proofs.Common.{All-head, All-tail, All-nil, Contains-append_left, Contains-append_right}
+use Rattle.fair_rates.proofs.Common.{sum_by-cons, rules}
+use Rattle.std.proofs.Common.{add-mul}
+use Rattle.std.proofs.lemmas.List.Elements.{Contains-get_or}
 
 -- what each member has, all elements have
 pub All-from_contains : {X : Type 0} (P : X → Type 0) (xs : List X) → ((x : X) → Contains xs x → P x) → All P xs
@@ -12,11 +12,7 @@ All-from_contains P xs h k d l = h (get_or xs k d) (Contains-get_or xs k d l)
 
 pub sum_by-scaled : (f : ℕ → ℕ) (k : ℕ) (xs : List ℕ) → sum_by (λ x. f x * k) xs ≡ sum_by f xs * k
 sum_by-scaled f k [] = omega arith
-sum_by-scaled f k (x ∷ xs) =
-    omega (arith, sum_by-cons (λ y. f y * k) x xs, sum_by-scaled f k xs, both)
-  where
-    both : sum_by f (x ∷ xs) * k ≡ f x * k + sum_by f xs * k
-    both = rw (sum_by-cons f x xs) (add-mul (f x) (sum_by f xs) k)
+sum_by-scaled f k (x ∷ xs) = search (rules, sum_by-cons, add-mul, sum_by-scaled f k xs)
 
 pub sum_by-zero : (f : ℕ → ℕ) (xs : List ℕ) → All (λ x. f x ≡ 0) xs → sum_by f xs ≡ 0
 sum_by-zero f [] h = refl

@@ -1,6 +1,6 @@
 -- Lists that match element by element.
-use Rattle.std.proofs.Common.{◌≡◌, suc, List, [], ◌∷◌, ◌++◌, length, Bool, true, false, cond, refl, ap}
-use Rattle.std.specs.List.{filter, AllZip}
+use Rattle.fair_rates.proofs.Common.{◌≡◌, suc, List, [], ◌∷◌, ◌++◌, length, Bool, true, false, cond, refl, ap, filter}
+use Rattle.fair_rates.proofs.Common.{AllZip, rules}
 
 pub zip-length : {X Y : Type 0} (R : X → Y → Type 0) (xs : List X) (ys : List Y) → AllZip R xs ys
     → length xs ≡ length ys
@@ -59,9 +59,6 @@ pub zip-filter : {X Y : Type 0} (R : X → Y → Type 0) (f : X → Bool) (g : Y
 zip-filter R f g alike [] [] all = tt
 zip-filter R f g alike [] (y ∷ ys) all = absurd all
 zip-filter R f g alike (x ∷ xs) [] all = absurd all
-zip-filter R f g alike (x ∷ xs) (y ∷ ys) all =
-    let rest : AllZip R (filter f xs) (filter g ys) = zip-filter R f g alike xs ys all.1 in
-    zip-if R (f x) (g y) (x ∷ filter f xs) (filter f xs) (y ∷ filter g ys) (filter g ys) (alike x y all.0) (all.0, rest)
-    rest
+zip-filter R f g alike (x ∷ xs) (y ∷ ys) all = search (rules, zip-if, zip-filter R f g alike xs ys all.1)
 
 -- where two tests answer alike, either branch is the same

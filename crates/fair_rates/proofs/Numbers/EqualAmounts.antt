@@ -1,9 +1,6 @@
 -- Amounts of one value: they fit alike, and their products are of one value.
-use Rattle.std.proofs.Common.{◌≡◌, ℕ, ◌*◌, ◌<◌, ◌↔◌, refl, sym, ap, subst, arith}
-use Rattle.std.proofs.Math.Nat.{eq_of_mul-eq-mul_right}
-use Rattle.fair_rates.specs.Numbers.Amount.{Amount, AreEqual, times, reduced}
-use Rattle.fair_rates.specs.Numbers.Fits.{ReducedFits}
-use Rattle.fair_rates.specs.Numbers.LowestTerms.{reduced_same}
+use Rattle.fair_rates.proofs.Common.{◌≡◌, ℕ, ◌*◌, ◌<◌, ◌↔◌, refl, sym, ap, subst, arith, eq_of_mul-eq-mul_right, Amount}
+use Rattle.fair_rates.proofs.Common.{AreEqual, times, reduced, ReducedFits, reduced_same}
 
 pub equal_sym : (a b : Amount) → AreEqual a b → AreEqual b a
 equal_sym a b e = sym e

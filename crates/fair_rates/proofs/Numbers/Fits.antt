@@ -1,19 +1,17 @@
 -- What the arithmetic of fractions computes over a common denominator, and when it fits.
-use Prim.Native.Nat.{◌∣◌}
-use Rattle.std.proofs.Common.{◌≡◌, ℕ, zero, suc, ◌+◌, ◌-◌, ◌*◌, ◌/◌, ◌^◌, ◌<◌, ◌≤◌, ◌↔◌}
-use Rattle.std.proofs.Common.{Option, Some, None, IsSome, refl, sym, ap, ◌∙◌, subst, arith, mul-le-mul_left}
+use Rattle.fair_rates.proofs.Common.{◌∣◌, ◌≡◌, ℕ, zero, suc, ◌+◌, ◌-◌, ◌*◌, ◌/◌, ◌^◌, ◌<◌, ◌≤◌, ◌↔◌, Option, Some, None}
+use Rattle.fair_rates.proofs.Common.{IsSome, refl, sym, ap, ◌∙◌, subst, arith, mul-pos, mul-sub, mul-div_cancel'}
+use Rattle.fair_rates.proofs.Common.{dvd-mul_left, Amount, AreEqual, reduced, gcd, ReducedFits, IsReduced, amount_of}
+use Rattle.fair_rates.proofs.Common.{IsWorth, Ratio, gcd-IsGcd, gcd-pos, reduced_lowest, rules, common_steps}
+use Rattle.std.proofs.Common.{mul-le-mul_left}
 use Rattle.std.specs.Int.{IsGcd}
-use Rattle.std.proofs.Math.Nat.{mul_assoc, mul-pos, mul-sub, div_self, mul-div_cancel', dvd-mul_left}
-use Rattle.std.proofs.Math.Nat.{le_of_mul-le-mul_left}
-use Rattle.fair_rates.specs.Numbers.Amount.{Amount, AreEqual, plus, minus, reduced, gcd}
+use Rattle.std.proofs.Math.Nat.{mul_assoc, div_self, le_of_mul-le-mul_left}
+use Rattle.fair_rates.specs.Numbers.Amount.{plus, minus}
 use Rattle.fair_rates.specs.Numbers.Fits.{raised_numerator, other_raised_numerator, least_common, AreOverCommon}
-use Rattle.fair_rates.specs.Numbers.Fits.{CommonFits, ReducedFits}
-use Rattle.fair_rates.specs.Numbers.Fraction.{IsReduced}
-use Rattle.fair_rates.specs.Numbers.Ratio.{amount_of, IsWorth}
-use Rattle.fair_rates.specs.declared.ratio.Ratio.{Ratio}
-use Rattle.fair_rates.specs.Numbers.Gcd.{gcd-IsGcd, gcd-pos, gcd-self}
-use Rattle.fair_rates.specs.Numbers.LowestTerms.{reduced_alike, reduced_scaled, reduced_worth, reduced_lowest}
-use Rattle.fair_rates.specs.Numbers.LowestTerms.{coprime_parts, IsReduced-part, IsReduced-swap, IsReduced-mul}
+use Rattle.fair_rates.specs.Numbers.Fits.{CommonFits}
+use Rattle.fair_rates.specs.Numbers.Gcd.{gcd-self}
+use Rattle.fair_rates.specs.Numbers.LowestTerms.{reduced_alike, reduced_scaled, reduced_worth, coprime_parts}
+use Rattle.fair_rates.specs.Numbers.LowestTerms.{IsReduced-part, IsReduced-swap, IsReduced-mul}
 
 -- what is an amount in lowest terms has its value
 pub worth_if_reduced : (r m : Amount) → 0 < m.den → r ≡ reduced m.num m.den → AreEqual r m
@@ -71,21 +69,14 @@ difference_over_common a b c d h j =
     let k : CommonParts b d g = common_parts b d h j in
     let u : g * (a * (d / g)) ≡ a * d = times_num g (d / g) a d k.second in
     let v : g * (c * (b / g)) ≡ c * b = times_num g (b / g) c b k.first in
-    let num : g * (a * (d / g) - c * (b / g)) ≡ a * d - c * b =
-    mul-sub g (a * (d / g)) (c * (b / g)) ∙ same_difference _ _ _ _ u v in
+    let num : g * (a * (d / g) - c * (b / g)) ≡ a * d - c * b = search (rules, mul-sub, same_difference) in
     sym (reduced_scaled g (a * (d / g) - c * (b / g)) (b / g * d) k.positive (mul-pos k.first_positive j))
     ∙ reduced_alike _ _ _ _ num (times_den g (b / g) b d k.first)
 
 -- the order of two fractions is that of their numerators over the common denominator
 pub no_greater_over_common : (a b c d : ℕ) → 0 < b → 0 < d → (c * (b / gcd b d) ≤ a * (d / gcd b d)) ↔ (c * b ≤ a * d)
 no_greater_over_common a b c d h j =
-    let g : ℕ = gcd b d in
-    let k : CommonParts b d g = common_parts b d h j in
-    let u : g * (a * (d / g)) ≡ a * d = times_num g (d / g) a d k.second in
-    let v : g * (c * (b / g)) ≡ c * b = times_num g (b / g) c b k.first in (
-      λ le. let up : g * (c * (b / g)) ≤ g * (a * (d / g)) = mul-le-mul_left g le in omega arith,
-      λ le. let up : g * (c * (b / g)) ≤ g * (a * (d / g)) = omega arith in le_of_mul-le-mul_left up k.positive,
-    )
+    grind (arith, common_steps, common_parts, times_num, mul-le-mul_left, le_of_mul-le-mul_left)
 
 -- what has the reduced sum of the numerators over the common denominator is worth the sum
 pub sum_worth : (r x y : Ratio) (p q s d : ℕ) → AreOverCommon (amount_of x) (amount_of y) p q d → s ≡ p + q
@@ -114,21 +105,12 @@ difference_worth r x y p q s d over s_is e =
 -- the numerators over the common denominator stand as the fractions do
 pub no_greater_is : (x y : Ratio) (p q d : ℕ) → AreOverCommon (amount_of x) (amount_of y) p q d
     → (q ≤ p) ↔ (y.numerator * x.denominator ≤ x.numerator * y.denominator)
-no_greater_is x y p q d over =
-    let a = amount_of x in
-    let b = amount_of y in
-    let k = no_greater_over_common a.num a.den b.num b.den x.positive y.positive in (
-      λ le. k.0 (omega (arith, over.first_is, over.second_is)),
-      λ le. let low : other_raised_numerator a b ≤ raised_numerator a b = k.1 le in
-          omega (arith, over.first_is, over.second_is),
-    )
+no_greater_is x y p q d over = search (rules, no_greater_over_common)
 
 -- a common denominator as the code finds it is above zero
 pub common-pos : (x y : Ratio) (g s d : ℕ) → g ≡ gcd x.denominator y.denominator → s ≡ x.denominator / g
     → d ≡ s * y.denominator → 0 < d
-common-pos x y g s d g_is s_is d_is =
-    rw (d_is, s_is, g_is)
-    (mul-pos (common_parts x.denominator y.denominator x.positive y.positive).first_positive y.positive)
+common-pos x y g s d g_is s_is d_is = search (rules, mul-pos, common_parts)
 
 -- equal denominators are their own least common one
 scale_of_equal : (b d : ℕ) → 0 < b → b ≡ d → (b / gcd b d ≡ 1) × (d / gcd b d ≡ 1)
@@ -143,18 +125,11 @@ one_times : (n k m : ℕ) → k ≡ 1 → n ≡ m → n ≡ k * m
 one_times n k m e f = rw e (omega arith)
 
 pub over_equal : (a b : Amount) → 0 < a.den → a.den ≡ b.den → AreOverCommon a b a.num b.num a.den
-over_equal a b h e =
-    let k = scale_of_equal a.den b.den h e in
-    record {
-      first_is = times_one a.num _ k.1;
-      second_is = times_one b.num _ k.0;
-      denominator_is = one_times a.den _ b.den k.0 e;
-    }
+over_equal a b h e = search (rules, scale_of_equal, times_one, one_times)
 
 pub over_fits : (a b : Amount) (x y d : ℕ) → AreOverCommon a b x y d → x < 2 ^ 128 → y < 2 ^ 128 → d < 2 ^ 128
     → CommonFits a b
-over_fits a b x y d over h j k =
-    record { first = rw over.first_is at h; second = rw over.second_is at j; denominator = rw over.denominator_is at k }
+over_fits a b x y d over h j k = search rules
 
 -- ---- products
 
@@ -228,14 +203,7 @@ reduced_product a b c d f s x y z w h j r t f_is s_is x_is y_is z_is w_is =
 -- an amount in lowest terms is known, so whether it fits is
 pub fits_if_known : (m : Amount) (n d : ℕ) → reduced m.num m.den ≡ record { num = n; den = d }
     → ReducedFits m ↔ ((n < 2 ^ 128) × (d < 2 ^ 128))
-fits_if_known m n d e = (
-  λ fits. (subst (λ z. z.num < 2 ^ 128) e fits.numerator, subst (λ z. z.den < 2 ^ 128) e fits.denominator),
-  λ both.
-      record {
-        numerator = subst (λ z. z.num < 2 ^ 128) (sym e) both.0;
-        denominator = subst (λ z. z.den < 2 ^ 128) (sym e) both.1;
-      },
-)
+fits_if_known m n d e = search rules
 
 -- ---- a value exactly where a fact holds
 

@@ -1,19 +1,14 @@
 -- The least time: there is one, and the least whole number of nanoseconds that is not below the quotient is it.
-use Rattle.std.proofs.Common.{◌≡◌, ℕ, zero, suc, ◌*◌, ◌<◌, ◌≤◌, ◌↔◌, inl, inr, arith, mul-le-mul_right}
-use Rattle.std.proofs.Math.Nat.{mul-pos, lt_of_mul-lt-mul_right, le-mul_of_pos_right, le_of_mul-le-mul_right}
-use Rattle.std.proofs.lemmas.Bool.{cases_lt}
-use Rattle.fair_rates.specs.Numbers.Amount.{Amount, AreEqual, whole, times, billion, Covers, IsLeastTime}
-use Rattle.fair_rates.specs.Numbers.Fits.{ReducedFits}
+use Rattle.fair_rates.proofs.Common.{◌≡◌, ℕ, zero, suc, ◌*◌, ◌<◌, ◌≤◌, ◌↔◌, inl, inr, arith, mul-le-mul_right, mul-pos}
+use Rattle.fair_rates.proofs.Common.{lt_of_mul-lt-mul_right, le_of_mul-le-mul_right, cases_lt, Amount, AreEqual, times}
+use Rattle.fair_rates.proofs.Common.{billion, Covers, ReducedFits, amount_of, IsWorth, Ratio, rules}
+use Rattle.std.proofs.Math.Nat.{le-mul_of_pos_right}
+use Rattle.fair_rates.specs.Numbers.Amount.{whole, IsLeastTime}
 use Rattle.fair_rates.specs.Numbers.Draining.{seconds}
-use Rattle.fair_rates.specs.Numbers.Ratio.{amount_of, IsWorth}
-use Rattle.fair_rates.specs.declared.ratio.Ratio.{Ratio}
 use Rattle.fair_rates.proofs.Numbers.EqualAmounts.{equal_sym, equal_trans, equal_if_same, equal_fits, times_equal}
 
 above : (n k l u : ℕ) → n * u < l → l ≤ k * u → suc n ≤ k
-above n k l u less enough =
-    let up : n * u < k * u = omega arith in
-    let low : n < k = lt_of_mul-lt-mul_right u up in
-    omega arith
+above n k l u less enough = search (rules, lt_of_mul-lt-mul_right)
 
 -- a time that covers is not below the least one, which is found by going down
 least_below : (rate left : Amount) (n : ℕ) → Covers rate n left → (m : ℕ) × IsLeastTime rate left m
@@ -54,18 +49,11 @@ pub record IsTime (rate left product : Amount) : Type 0 where
 pub time_from_seconds : (rate left s w : Ratio) → 0 < rate.numerator
     → IsWorth s (seconds (amount_of rate) (amount_of left)) → amount_of w ≡ whole billion
     → IsTime (amount_of rate) (amount_of left) (times (amount_of s) (amount_of w))
-time_from_seconds rate left s w h e f = record {
-  positive = mul-pos s.positive w.positive;
-  meant_positive = mul-pos (mul-pos left.positive h) (omega arith);
-  equal =
-      times_equal (amount_of s) (seconds (amount_of rate) (amount_of left)) (amount_of w) (whole billion) e
-      (equal_if_same (amount_of w) (whole billion) f);
-}
+time_from_seconds rate left s w h e f = search (rules, mul-pos, times_equal, equal_if_same)
 
 pub time_fits : (rate left product : Amount) → IsTime rate left product
     → ReducedFits product ↔ ReducedFits (times (seconds rate left) (whole billion))
-time_fits rate left product is =
-    equal_fits product (times (seconds rate left) (whole billion)) is.positive is.meant_positive is.equal
+time_fits rate left product is = search (rules, equal_fits)
 
 -- the least whole number that is not below the time in nanoseconds is the least time
 pub least_from_ceil : (rate left product : Amount) (time : Ratio) (n : ℕ) → IsTime rate left product

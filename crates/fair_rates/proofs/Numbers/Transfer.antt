@@ -1,13 +1,12 @@
 -- What the code takes off, and what it leaves: it drains as meant, and fits where that fits.
-use Rattle.std.proofs.Common.{◌≡◌, ℕ, ◌-◌, ◌*◌, ◌<◌, ◌≤◌, ◌↔◌, ◌⊎◌, inl, inr, Option, Some, None, IfSome, refl, sym, ap}
-use Rattle.std.proofs.Common.{◌∙◌, subst, arith}
-use Rattle.std.proofs.Common.{mul-le-mul_right}
-use Rattle.std.proofs.Math.Nat.{zero-mul, mul-zero, mul-sub, mul_comm, mul-pos, le_of_mul-le-mul_right}
-use Rattle.fair_rates.specs.Numbers.Amount.{Amount, AreEqual, whole, minus, times, reduced, drained, billion, Covers}
-use Rattle.fair_rates.specs.Numbers.Fits.{ReducedFits, DifferenceFits}
+use Rattle.fair_rates.proofs.Common.{◌≡◌, ℕ, ◌-◌, ◌*◌, ◌<◌, ◌≤◌, ◌↔◌, ◌⊎◌, inl, inr, Option, Some, None, IfSome, refl}
+use Rattle.fair_rates.proofs.Common.{sym, ap, ◌∙◌, subst, arith, mul-le-mul_right, mul-sub, mul-pos}
+use Rattle.fair_rates.proofs.Common.{le_of_mul-le-mul_right, Amount, AreEqual, times, reduced, billion, Covers}
+use Rattle.fair_rates.proofs.Common.{ReducedFits, amount_of, IsWorth, Ratio, rules, common_steps}
+use Rattle.std.proofs.Math.Nat.{zero-mul, mul-zero, mul_comm}
+use Rattle.fair_rates.specs.Numbers.Amount.{whole, minus, drained}
+use Rattle.fair_rates.specs.Numbers.Fits.{DifferenceFits}
 use Rattle.fair_rates.specs.Numbers.Draining.{transferred}
-use Rattle.fair_rates.specs.Numbers.Ratio.{amount_of, IsWorth}
-use Rattle.fair_rates.specs.declared.ratio.Ratio.{Ratio}
 use Rattle.fair_rates.proofs.Numbers.EqualAmounts.{equal_trans, equal_fits, times_equal}
 use Rattle.fair_rates.proofs.Numbers.Ratio.{worth_is_reduced}
 use Rattle.fair_rates.proofs.Numbers.Draining.{same_difference}
@@ -66,10 +65,8 @@ none_passes n m e = ap (λ x. x * m) e ∙ zero-mul m
 pub all_is_left : (left rate : Ratio) (n : ℕ) → (left.numerator ≡ 0) ⊎ ((rate.numerator ≡ 0) ⊎ (n ≡ 0))
     → amount_of left ≡ drained (amount_of left) (amount_of rate) n
 all_is_left left rate n (inl none) = nothing_stays left rate n none
-all_is_left left rate n (inr (inl none)) =
-    nothing_drains left rate n (none_first n rate.numerator left.denominator none)
-all_is_left left rate n (inr (inr none)) =
-    nothing_drains left rate n (none_passes n (rate.numerator * left.denominator) none)
+all_is_left left rate n (inr (inl none)) = search (rules, nothing_drains, none_first)
+all_is_left left rate n (inr (inr none)) = search (rules, nothing_drains, none_passes)
 
 -- ---- what is taken
 
@@ -103,8 +100,7 @@ pub record IsTaken (rate : Amount) (n : ℕ) (t : Ratio) : Type 0 where
 pub taken_from_product : (rate product : Amount) (n : ℕ) (t : Ratio) → IsTaking rate product n → IsWorth t product
     → IsTaken rate n t
 taken_from_product rate product n t is worth =
-    let equal : AreEqual (amount_of t) (transferred rate n) =
-    equal_trans (amount_of t) product (transferred rate n) is.positive worth is.equal in
+    let equal : AreEqual (amount_of t) (transferred rate n) = search (rules, equal_trans) in
     record { equal = equal; lowest = worth_is_reduced t (transferred rate n) is.meant_positive equal }
 
 turned : (l d p q u m : ℕ) → p * u ≡ m * q → 0 < q → 0 < u → (l * q ≤ p * d) ↔ (l * u ≤ m * d)
@@ -142,9 +138,7 @@ drained_by_difference : (left rate t rest : Ratio) (n : ℕ) → IsTaken (amount
 unfolding left_is
 drained_by_difference left rate t rest n is worth =
     let l = amount_of left in
-    let across : AreEqual (minus l (amount_of t)) (left_is l (amount_of rate) n) =
-    over_other left.numerator left.denominator t.numerator t.denominator (rate.denominator * billion) n rate.numerator
-    is.equal in
+    let across : AreEqual (minus l (amount_of t)) (left_is l (amount_of rate) n) = search (rules, over_other) in
     drained_if_worth left rate n rest
     (equal_trans (amount_of rest) (minus l (amount_of t)) (left_is l (amount_of rate) n)
     (mul-pos left.positive t.positive) worth across)
@@ -177,13 +171,4 @@ pub leaves_iff : (left rate t : Ratio) (n : ℕ) → IsTaken (amount_of rate) n 
     (Covers (amount_of rate) n (amount_of left)
     ⊎ DifferenceFits (amount_of left)
     (reduced (transferred (amount_of rate) n).num (transferred (amount_of rate) n).den))
-leaves_iff left rate t n is less = (
-  λ fits. inr (subst (λ x. DifferenceFits (amount_of left) x) is.lowest fits),
-  λ either. elim either [
-    | inl covers ↦ absurd
-        (let le : left.numerator * t.denominator
-        ≤ t.numerator * left.denominator = (covers_iff left rate t n is).1 covers in
-        omega arith)
-    | inr fits ↦ subst (λ x. DifferenceFits (amount_of left) x) (sym is.lowest) fits
-  ],
-)
+leaves_iff left rate t n is less = grind (arith, common_steps, covers_iff)

@@ -1,17 +1,11 @@
 -- A refusal in the words of what the closures answered.
-use Rattle.std.proofs.Common.{◌≡◌, inl, inr, ℕ, ◌+◌, ◌^◌, ◌<◌, ◌≤◌, Bool, true, false, cond, List, [], ◌∷◌, ◌++◌}
-use Rattle.std.proofs.Common.{length, map, All, AllPairs, Contains, Option, Some, None, refl, subst}
-use Rattle.std.specs.declared.cmp.Ordering.{Ordering}
-use Rattle.std.proofs.lemmas.List.Elements.{All-nil, All-cons, All-append, All-head, All-tail, All-weaker, All-contains}
+use Rattle.fair_rates.proofs.Common.{◌≡◌, inl, inr, ℕ, ◌+◌, ◌^◌, ◌<◌, ◌≤◌, List, [], ◌∷◌, length, map, All, AllPairs}
+use Rattle.fair_rates.proofs.Common.{Contains, Some, subst, Ordering, All-nil, All-cons, All-append, All-head, All-tail}
+use Rattle.fair_rates.proofs.Common.{All-weaker, All-contains, Answered, Calls, PairCalls, States, AnswerInOrder}
+use Rattle.fair_rates.proofs.Common.{side_of, Side, Ask, asks_of_one, asks_from, sides_after, sides_of, FairRatesFit}
+use Rattle.fair_rates.proofs.Common.{HasLargeRate, IsTooLarge, Flow, rules}
 use Rattle.std.proofs.lemmas.List.Elements.{All-contains_itself}
-use Rattle.fair_rates.specs.Sides.Answers.{Answered, Calls, PairCalls, States, AnswerInOrder}
-use Rattle.fair_rates.specs.Sides.SideOf.{side_of}
-use Rattle.fair_rates.specs.Fairness.Fair.{Side}
-use Rattle.fair_rates.specs.Sides.Subjects.{Ask, sent_by, received_by, sent_between, asks_of_one, asks_from, is_open}
-use Rattle.fair_rates.specs.Sides.Subjects.{opened, sides_after, sides_of}
-use Rattle.fair_rates.specs.Refusals.FairRatesFit.{FairRatesFit}
-use Rattle.fair_rates.specs.Refusals.TooLarge.{IsAnswer, HasLargeAnswer, HasLargeRate, IsTooLarge}
-use Rattle.fair_rates.specs.declared.bandwidth.Flow.{Flow}
+use Rattle.fair_rates.specs.Refusals.TooLarge.{IsAnswer, HasLargeAnswer}
 use Rattle.fair_rates.specs.declared.bandwidth.sides.Side as declared_side
 use Rattle.fair_rates.proofs.Refusals.Fitting.{large_does_not_fit}
 use Rattle.fair_rates.proofs.Refusals.Promise.{distinct_sides, users_below_sides, too_many_or_large}
@@ -27,48 +21,21 @@ HoldsOfAnswers Good a = (cap : ℕ) → IsAnswer a cap → Good cap
 
 of_one : {P : Type 0} (Good : ℕ → Type 0) (place : ℕ) (a : Answered P) → HoldsOfAnswers Good a
     → All (HoldsOfAnswer Good) (asks_of_one place a)
-of_one {P} Good place a good = by a.flow.delivered
-  where
-    egress : Ask P
-    egress = record { place = place; subject = sent_by a.flow.origin; answer = a.egress }
-
-    ingress : Ask P
-    ingress = record { place = place; subject = received_by a.flow.recipient; answer = a.ingress }
-
-    link : Ask P
-    link = record { place = place; subject = sent_between a.flow.origin a.flow.recipient; answer = a.link }
-
-    last : All (HoldsOfAnswer Good) (link ∷ [])
-    last = All-cons (HoldsOfAnswer Good) link [] (λ n e. good n (inr (inr e))) (All-nil (HoldsOfAnswer Good))
-
-    by : (b : Bool) → All (HoldsOfAnswer Good) (egress ∷ [] ++ cond b (ingress ∷ []) [] ++ link ∷ [])
-    by true =
-        All-cons (HoldsOfAnswer Good) egress (ingress ∷ link ∷ []) (λ n e. good n (inl e))
-        (All-cons (HoldsOfAnswer Good) ingress (link ∷ []) (λ n e. good n (inr (inl e))) last)
-    by false = All-cons (HoldsOfAnswer Good) egress (link ∷ []) (λ n e. good n (inl e)) last
+of_one {P} Good place a good = search (rules, All-cons, All-nil)
 
 of_asks : {P : Type 0} (Good : ℕ → Type 0) (place : ℕ) (answered : List (Answered P))
     → All (HoldsOfAnswers Good) answered → All (HoldsOfAnswer Good) (asks_from place answered)
 of_asks Good place [] good = All-nil (HoldsOfAnswer Good)
 of_asks Good place (a ∷ answered) good =
-    All-append (HoldsOfAnswer Good) (asks_of_one place a) (asks_from (place + 1) answered)
-    (of_one Good place a (All-head (HoldsOfAnswers Good) a answered good))
-    (of_asks Good (place + 1) answered (All-tail (HoldsOfAnswers Good) a answered good))
+    search (rules, All-append, of_one, All-head, All-tail,
+    of_asks Good (place + 1) answered (All-tail (HoldsOfAnswers Good) a answered good))
 
 of_sides : {P : Type 0} (cmp : P → P → Ordering) (Good : ℕ → Type 0) (earlier asks : List (Ask P))
     → All (HoldsOfAnswer Good) asks → All (λ side. Good side.cap) (sides_after cmp earlier asks)
 of_sides cmp Good earlier [] good = All-nil (λ side. Good side.cap)
 of_sides {P} cmp Good earlier (a ∷ asks) good =
-    All-append (λ side. Good side.cap) (cond (is_open cmp earlier a) [] (opened cmp a asks a.answer))
-    (sides_after cmp (a ∷ earlier) asks)
-    (by (is_open cmp earlier a) a.answer (All-head (HoldsOfAnswer Good) a asks good))
-    (of_sides cmp Good (a ∷ earlier) asks (All-tail (HoldsOfAnswer Good) a asks good))
-  where
-    by : (b : Bool) (answer : Option ℕ) → ((cap : ℕ) → answer ≡ Some cap → Good cap)
-        → All (λ side. Good side.cap) (cond b [] (opened cmp a asks answer))
-    by true answer h = All-nil (λ side. Good side.cap)
-    by false None h = All-nil (λ side. Good side.cap)
-    by false (Some limit) h = All-cons (λ side. Good side.cap) _ [] (h limit refl) (All-nil (λ side. Good side.cap))
+    search (rules, All-append, All-head, All-tail, All-nil, All-cons,
+    of_sides cmp Good (a ∷ earlier) asks (All-tail (HoldsOfAnswer Good) a asks good))
 
 -- the cap was answered for some flow
 abbrev WasAnswered : {P : Type 0} → List (Answered P) → ℕ → Type 0

@@ -1,16 +1,10 @@
 -- Where fair rates fit, each of them is a fraction of 128 bits.
-use Rattle.std.proofs.Common.{◌≡◌, ℕ, ◌*◌, ◌^◌, ◌<◌, ◌≤◌, inl, inr, List, All, sym, ap, subst, ◌∙◌, arith, lit<}
+use Rattle.fair_rates.proofs.Common.{◌≡◌, ℕ, ◌*◌, ◌^◌, ◌<◌, ◌≤◌, inl, inr, List, sym, ap, subst, arith, cases_lt}
+use Rattle.fair_rates.proofs.Common.{All-contains, get_or-le-sum_by, parts_over, reduced, Side, HaveUsersBelow}
+use Rattle.fair_rates.proofs.Common.{ReducedFits, reduced_same, FairRatesFit, HasLargeRate, rules}
+use Rattle.std.proofs.Common.{lit<}
 use Rattle.std.proofs.Math.Nat.{lt_of_le_of_lt, mul-le-mul_left}
-use Rattle.std.proofs.lemmas.Bool.{cases_lt}
-use Rattle.std.proofs.lemmas.List.Elements.{All-contains}
-use Rattle.std.proofs.lemmas.List.Sums.{get_or-le-sum_by}
-use Rattle.fair_rates.specs.Numbers.Amount.{parts_over, reduced}
-use Rattle.fair_rates.specs.Fairness.Fair.{Side}
-use Rattle.fair_rates.specs.Fairness.Laws.{HaveUsersBelow}
-use Rattle.fair_rates.specs.Numbers.Fits.{ReducedFits}
-use Rattle.fair_rates.specs.Numbers.LowestTerms.{reduced_same, reduced_scales}
-use Rattle.fair_rates.specs.Refusals.FairRatesFit.{FairRatesFit}
-use Rattle.fair_rates.specs.Refusals.TooLarge.{HasLargeRate}
+use Rattle.fair_rates.specs.Numbers.LowestTerms.{reduced_scales}
 use Rattle.fair_rates.proofs.Fairness.OneAllocation.{same_amounts}
 
 -- lowest terms are no greater
@@ -43,8 +37,7 @@ rate_fits per flows parts limit some flows_some le small = elim (cases_lt 0 limi
       small_fits parts per some (lt_of_le_of_lt (omega (arith, le, mul-le-mul_left (limit * per) flows_some)) small)
       (lt_of_le_of_lt (omega (arith, mul-le-mul_left per flows_some, mul-le-mul_left (per * flows) positive)) small)
   | inr none ↦
-      let zero : limit * per ≡ 0 = let closed : limit ≡ 0 = omega arith in
-      ap (λ n. n * per) closed ∙ (let e : 0 * per ≡ 0 = omega arith in e) in
+      let zero : limit * per ≡ 0 = search rules in
       fits_alike parts per 0 1 some (omega arith) (omega (arith, le, zero))
       (small_fits 0 1 (omega arith) (lit< tt) (lit< tt))
 ]
@@ -58,9 +51,7 @@ large_does_not_fit sides flows among large fits =
     let used = h.uses.used in
     let here = get_or-le-sum_by fits.parts h.side.users used.0 flow used.1 in
     let at_most : fits.parts flow ≤ h.side.cap * fits.per = omega (arith, here, ap fits.parts used.2, h.full) in
-    let below : flow < flows =
-    All-contains (λ user. user < flows) h.side.users flow
-    (All-contains (λ s. All (λ user. user < flows) s.users) sides h.side among h.uses.listed) used in
+    let below : flow < flows = search (rules, All-contains) in
     let small = All-contains (λ s. fits.per * flows * s.cap < 2 ^ 128) sides h.side fits.small h.uses.listed in
     large.large
     (fits_alike (large.parts flow) large.per (fits.parts flow) fits.per large.fair.some_part fits.fair.some_part

@@ -1,18 +1,10 @@
 -- Where a fair rate is no fraction of 128 bits, no rates that are such fractions are fair.
-use Rattle.std.proofs.Common.{ℕ, ◌^◌, ◌<◌, List, All, get_or, length, subst, arith}
-use Rattle.std.specs.declared.cmp.Ordering.{Ordering}
-use Rattle.std.specs.Cmp.{IsTotalOrder}
-use Rattle.std.proofs.lemmas.List.Elements.{All-contains, All-get_or}
+use Rattle.fair_rates.proofs.Common.{ℕ, ◌<◌, List, All, get_or, arith, Ordering, IsTotalOrder, All-contains}
+use Rattle.fair_rates.proofs.Common.{HasLargeRate, parts_over, Side, HaveUsersBelow, ReducedFits, IsRateOf}
+use Rattle.fair_rates.proofs.Common.{AreFairRates, Rate, Unlimited, Finite, rules}
+use Rattle.std.proofs.lemmas.List.Elements.{All-get_or}
 use Rattle.fair_rates.specs.Refusals.FairRatesFit.{IsFraction}
-use Rattle.fair_rates.specs.Refusals.TooLarge.{HasLargeRate, TooLargeHasNoRates}
-use Rattle.fair_rates.specs.Numbers.Amount.{Amount, parts_over}
-use Rattle.fair_rates.specs.Fairness.Fair.{Side}
-use Rattle.fair_rates.specs.Fairness.Laws.{HaveUsersBelow}
-use Rattle.fair_rates.specs.Numbers.Fits.{ReducedFits}
-use Rattle.fair_rates.specs.Fairness.UnderCaps.{sides_under}
-use Rattle.fair_rates.specs.Fairness.Rates.{IsRateOf, AreFairRates}
-use Rattle.fair_rates.specs.declared.bandwidth.Rate.{Rate}
-use Rattle.fair_rates.specs.declared.bandwidth.Rate.TheVariants.{Unlimited, Finite}
+use Rattle.fair_rates.specs.Refusals.TooLarge.{TooLargeHasNoRates}
 use Rattle.fair_rates.proofs.Fairness.OneAllocation.{same_amounts}
 use Rattle.fair_rates.proofs.Numbers.Ratio.{worth_is_reduced}
 use Rattle.fair_rates.proofs.Refusals.Fitting.{fits_alike}
@@ -35,10 +27,7 @@ large_is_unfair sides flows rates among large small fair =
     by_rate Unlimited none fraction = none large.limited
     by_rate (Finite ratio) (limited, worth) fraction =
         let is = worth_is_reduced ratio (parts_over fair.per (fair.parts large.flow)) fair.fair.some_part worth in
-        let fits : ReducedFits (parts_over fair.per (fair.parts large.flow)) = record {
-          numerator = subst (λ (a : Amount). a.num < 2 ^ 128) is fraction.0;
-          denominator = subst (λ (a : Amount). a.den < 2 ^ 128) is fraction.1;
-        } in
+        let fits : ReducedFits (parts_over fair.per (fair.parts large.flow)) = search rules in
         large.large
         (fits_alike (large.parts large.flow) large.per (fair.parts large.flow) fair.per large.fair.some_part
         fair.fair.some_part
@@ -46,6 +35,4 @@ large_is_unfair sides flows rates among large small fair =
         fits)
 
 pub too_large_has_no_rates : {P : Type 0} (cmp : P → P → Ordering) → IsTotalOrder cmp → TooLargeHasNoRates cmp
-too_large_has_no_rates cmp order caps flows rates of large small fair =
-    large_is_unfair (sides_under cmp caps flows) (length flows) rates (users_below cmp order caps flows of)
-    large.large_rate small fair
+too_large_has_no_rates cmp order caps flows rates of large small fair = search (rules, large_is_unfair, users_below)

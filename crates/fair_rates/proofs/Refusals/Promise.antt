@@ -1,18 +1,13 @@
 -- The promises: sixteen flows with caps below 2^64 fit, and of what the rates of a few flows are whole.
-use Rattle.std.proofs.Common.{◌⊎◌, inl, inr, refl, [], ◌∷◌, AllPairs, ℕ, ◌*◌, ◌^◌, ◌<◌, ◌≤◌, List, get_or, All}
-use Rattle.std.proofs.Common.{Contains, subst, arith, lit<, mul-le-mul, le_of_lt}
+use Rattle.fair_rates.proofs.Common.{◌⊎◌, inl, inr, refl, [], ◌∷◌, AllPairs, ℕ, ◌*◌, ◌^◌, ◌<◌, ◌≤◌, List, get_or, All}
+use Rattle.fair_rates.proofs.Common.{Contains, subst, arith, side_of, Side, AreFairRates, HaveUsersBelow, FairRatesFit}
+use Rattle.fair_rates.proofs.Common.{AreWholeOver, Rate, cases_lt, All-nil, All-cons, All-map, Contains-append_left}
+use Rattle.fair_rates.proofs.Common.{Contains-append_right, rules}
+use Rattle.std.proofs.Common.{mul-le-mul}
 use Rattle.std.proofs.Math.Nat.{lt_of_le_of_lt}
 use Rattle.std.specs.Prelude.{map}
-use Rattle.fair_rates.specs.Sides.SideOf.{side_of}
-use Rattle.fair_rates.specs.Fairness.Fair.{Side}
 use Rattle.fair_rates.specs.declared.bandwidth.sides.Side as declared_side
-use Rattle.fair_rates.specs.Fairness.Rates.{AreFairRates}
-use Rattle.fair_rates.specs.Fairness.Laws.{HaveUsersBelow}
-use Rattle.fair_rates.specs.Refusals.FairRatesFit.{FairRatesFit, AreWholeOver}
-use Rattle.fair_rates.specs.declared.bandwidth.Rate.{Rate}
 use Rattle.fair_rates.proofs.Fairness.Denominators.{denominator_of, of_four, of_sixteen, at_most}
-use Rattle.std.proofs.lemmas.Bool.{cases_lt}
-use Rattle.std.proofs.lemmas.List.Elements.{All-nil, All-cons, All-map, Contains-append_left, Contains-append_right}
 use Rattle.fair_rates.proofs.Filling.FairPartsExist.{fair_parts}
 use Rattle.fair_rates.proofs.Fairness.WholeRates.{whole_rates}
 use Rattle.fair_rates.proofs.Sides.UserCounts.{AreDistinct, HaveDistinctUsers}
@@ -20,23 +15,12 @@ use Rattle.fair_rates.proofs.Sides.UserCounts.{AreDistinct, HaveDistinctUsers}
 -- ---- sixteen flows
 
 small_product : (per flows limit : ℕ) → per ≤ 54486432000 → flows ≤ 16 → limit < 2 ^ 64 → per * flows * limit < 2 ^ 128
-small_product per flows limit per_le flows_le limit_lt =
-    let le : per * flows * limit ≤ 54486432000 * 16 * 2 ^ 64 =
-    mul-le-mul (mul-le-mul per_le flows_le) (le_of_lt limit_lt) in
-    lt_of_le_of_lt le (lit< tt)
+small_product per flows limit per_le flows_le limit_lt = search (rules, mul-le-mul, lt_of_le_of_lt)
 
 -- at most sixteen flows with caps below 2^64 fit
 pub sixteen_fit : (sides : List Side) (flows : ℕ) → flows ≤ 16 → HaveUsersBelow flows sides → HaveDistinctUsers sides
     → All (λ side. side.cap < 2 ^ 64) sides → FairRatesFit sides flows
-sixteen_fit sides flows small among distinct caps =
-    let fair = fair_parts flows sides among distinct in
-    record {
-      per = denominator_of flows;
-      parts = fair.0;
-      fair = fair.1;
-      small = λ k d l.
-          small_product (denominator_of flows) flows (get_or sides k d).cap (at_most flows small) small (caps k d l);
-    }
+sixteen_fit sides flows small among distinct caps = search (rules, fair_parts, denominator_of, small_product, at_most)
 
 -- all caps are below 2^64, or one is not
 caps_below : (sides : List Side)
@@ -69,8 +53,7 @@ pub distinct_sides : (sides : List declared_side.Side) → All (λ side. AllPair
     → HaveDistinctUsers (map side_of sides)
 distinct_sides sides rise =
     All-map (λ side. AreDistinct side.users) side_of sides (λ k d inside i j e before within same.
-    let less : get_or (get_or sides k d).users.items i e < get_or (get_or sides k d).users.items j e =
-    rise k d inside i j e before within in
+    let less : get_or (get_or sides k d).users.items i e < get_or (get_or sides k d).users.items j e = search rules in
     absurd (omega arith))
 
 pub users_below_sides : (flows : ℕ) (sides : List declared_side.Side)

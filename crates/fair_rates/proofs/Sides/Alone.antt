@@ -1,21 +1,14 @@
 -- The sides of one flow, and its least cap.
-use Rattle.std.proofs.Common.{◌≡◌, ℕ, ◌≤◌, inl, inr, List, [], ◌∷◌, ◌++◌, map, All, Contains, Bool, true, false, cond}
-use Rattle.std.proofs.Common.{Option, Some, None, min, refl, sym, ap, subst, ◌∙◌, arith}
+use Rattle.fair_rates.proofs.Common.{◌≡◌, ℕ, ◌≤◌, inl, inr, List, [], ◌∷◌, ◌++◌, map, All, Contains, Bool, true, false}
+use Rattle.fair_rates.proofs.Common.{cond, Option, Some, None, refl, sym, ap, subst, ◌∙◌, arith, Ordering, cases_lt}
+use Rattle.fair_rates.proofs.Common.{append-nil, All-nil, All-cons, All-append, All-weaker, Contains-append_left}
+use Rattle.fair_rates.proofs.Common.{Contains-append_right, Side, sides_under, Answered, Caps, Flow, sides_of, rules}
+use Rattle.fair_rates.proofs.Common.{common_steps}
+use Rattle.std.proofs.Common.{min}
 use Rattle.std.specs.Option.{option_to_list}
-use Rattle.std.specs.declared.cmp.Ordering.{Ordering}
 use Rattle.std.proofs.Math.Nat.{min-eq_left, min-eq_right}
-use Rattle.std.proofs.lemmas.Bool.{cases_lt}
-use Rattle.std.proofs.lemmas.List.{append-nil}
-use Rattle.std.proofs.lemmas.List.Elements.{All-nil, All-cons, All-append, All-weaker}
-use Rattle.std.proofs.lemmas.List.Elements.{Contains-append_left, Contains-append_right}
-use Rattle.fair_rates.specs.Fairness.Fair.{Side}
-use Rattle.fair_rates.specs.Fairness.UnderCaps.{sides_under}
-use Rattle.fair_rates.specs.Sides.Answers.{Answered}
-use Rattle.fair_rates.specs.Sides.Caps.{Caps}
 use Rattle.fair_rates.specs.Sides.Alone.{least_of, least_cap_of}
-use Rattle.fair_rates.specs.declared.bandwidth.Flow.{Flow}
 use Rattle.fair_rates.specs.declared.bandwidth.FlowCaps.{FlowCaps}
-use Rattle.fair_rates.specs.Sides.Subjects.{sides_of}
 
 -- a side that the flow at the place 0 alone uses
 abbrev pub side_alone : ℕ → Side
@@ -59,9 +52,7 @@ module _ {P : Type 0} (cmp : P → P → Ordering) (caps : Caps P) (f : Flow P) 
   by_answers false (Some e) i (Some l) = refl
 
   pub sides_alone : sides_under cmp caps (f ∷ []) ≡ map side_alone (caps_of own f.delivered)
-  sides_alone =
-      (λ k. sides_of cmp (answered f.delivered (sym egress k) (sym ingress k) (sym link k) ∷ []))
-      ∙ by_answers f.delivered own.egress own.ingress own.link
+  sides_alone = search (rules, by_answers)
 
 -- ---- the least cap
 
@@ -77,10 +68,7 @@ IsLeast (Some cap) caps = IsLeastOf cap caps
 
 least_one : (o : Option ℕ) → IsLeast o (option_to_list o)
 least_one None = refl
-least_one (Some cap) = record {
-  among = (0, omega arith, refl);
-  least = All-cons (λ other. cap ≤ other) cap [] (omega arith) (All-nil (λ other. cap ≤ other));
-}
+least_one (Some cap) = search (rules, All-cons, All-nil)
 
 module _ (a b : ℕ) (xs ys : List ℕ) (h : IsLeastOf a xs) (k : IsLeastOf b ys) where
   lesser_among : Contains (xs ++ ys) (min a b)
@@ -90,27 +78,14 @@ module _ (a b : ℕ) (xs ys : List ℕ) (h : IsLeastOf a xs) (k : IsLeastOf b ys
   ]
 
   lesser : IsLeastOf (min a b) (xs ++ ys)
-  lesser = record {
-    among = lesser_among;
-    least =
-        All-append (λ other. min a b ≤ other) xs ys
-        (All-weaker (λ other. a ≤ other) (λ other. min a b ≤ other) (λ other le. omega arith) xs h.least)
-        (All-weaker (λ other. b ≤ other) (λ other. min a b ≤ other) (λ other le. omega arith) ys k.least);
-  }
+  lesser = grind (arith, common_steps, lesser_among, All-append, All-weaker)
 
 least_append : (one other : Option ℕ) (xs ys : List ℕ) → IsLeast one xs → IsLeast other ys
     → IsLeast (least_of one other) (xs ++ ys)
 least_append None None xs ys h k = ap (λ zs. zs ++ ys) h ∙ k
 least_append None (Some b) xs ys h k = subst (λ zs. IsLeastOf b (zs ++ ys)) (sym h) k
-least_append (Some a) None xs ys h k =
-    subst (λ zs. IsLeastOf a (xs ++ zs)) (sym k) (subst (IsLeastOf a) (sym (append-nil xs)) h)
+least_append (Some a) None xs ys h k = search (rules, append-nil)
 least_append (Some a) (Some b) xs ys h k = lesser a b xs ys h k
 
 pub least_cap_is : (caps : FlowCaps) (delivered : Bool) → IsLeast (least_cap_of caps delivered) (caps_of caps delivered)
-least_cap_is caps delivered =
-    let ingress : Option ℕ = cond delivered caps.ingress None in
-    least_append (least_of caps.egress ingress) caps.link (option_to_list caps.egress ++ option_to_list ingress)
-    (option_to_list caps.link)
-    (least_append caps.egress ingress (option_to_list caps.egress) (option_to_list ingress) (least_one caps.egress)
-    (least_one ingress))
-    (least_one caps.link)
+least_cap_is caps delivered = search (rules, least_append, least_one)

@@ -1,14 +1,9 @@
 -- What closures answer that answer by a function of the peer.
-use Rattle.std.proofs.Common.{◌≡◌, ℕ, Bool, true, false, cond, List}
-use Rattle.std.proofs.Common.{[], ◌∷◌, ◌++◌, Option, None, map, refl, sym, ap}
-use Rattle.std.proofs.Common.{ap₂, ◌∙◌, subst}
-use Rattle.std.specs.List.{FoldsTo}
-use Rattle.fair_rates.specs.declared.bandwidth.Flow.{Flow}
-use Rattle.fair_rates.specs.Sides.Answers.{Answered, Calls, PairCalls, States, CallsFor, CalledIfDelivered, recipients}
-use Rattle.fair_rates.specs.Sides.Answers.{pairs}
+use Rattle.fair_rates.proofs.Common.{◌≡◌, ℕ, Bool, true, false, cond, List, [], ◌∷◌, ◌++◌, Option, None, map, refl, sym}
+use Rattle.fair_rates.proofs.Common.{ap, ap₂, ◌∙◌, subst, FoldsTo, Flow, Answered, Calls, PairCalls, States, CallsFor}
+use Rattle.fair_rates.proofs.Common.{CalledIfDelivered, recipients, pairs, Caps}
 use Rattle.fair_rates.specs.Fairness.UnderCaps.{answered_under, AnswersOnEach, AnswersOnEachPair, AnswerBy}
 use Rattle.fair_rates.specs.Fairness.UnderCaps.{AnswersAreThoseOfTheCaps}
-use Rattle.fair_rates.specs.Sides.Caps.{Caps}
 
 -- ---- how to show it
 

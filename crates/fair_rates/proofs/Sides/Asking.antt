@@ -1,28 +1,17 @@
 -- What one flow asks for, one side after another.
-use Rattle.std.proofs.Common.{subst, ◌≡◌, ℕ, Bool, true, false, cond, List, [], ◌∷◌, ◌++◌, sym, append_assoc}
-use Rattle.std.proofs.lemmas.List.{append-nil}
-use Rattle.std.specs.declared.cmp.Ordering.{Ordering}
-use Rattle.fair_rates.specs.declared.bandwidth.sides.Registry.{Registry}
-use Rattle.fair_rates.specs.Sides.Answers.{Answered}
-use Rattle.fair_rates.specs.Sides.Subjects.{Ask, sent_by, received_by, sent_between, asks_of_one}
-use Rattle.fair_rates.specs.Sides.Registry.{IsRegistryOf, Registers, FindsSides}
+use Rattle.fair_rates.proofs.Common.{subst, ◌≡◌, ℕ, Bool, true, false, cond, List, [], ◌∷◌, ◌++◌, sym, append_assoc}
+use Rattle.fair_rates.proofs.Common.{append-nil, Ordering, Registry, Answered, Ask, sent_by, received_by, sent_between}
+use Rattle.fair_rates.proofs.Common.{asks_of_one, Registers, FindsSides, rules}
 
 module _ {P : Type 0} (cmp : P → P → Ordering) where
   -- some asks, and then others
   registers_both : (first more : List (Ask P)) (old middle new : Registry P)
       → Registers cmp first old middle → Registers cmp more middle new → Registers cmp (first ++ more) old new
-  registers_both first more old middle new r s = record {
-    asked = λ asks h.
-        subst (λ all. IsRegistryOf cmp all new) (append_assoc asks first more) (s.asked (asks ++ first) (r.asked asks h));
-    finds = s.finds;
-  }
+  registers_both first more old middle new r s = search (rules, append_assoc)
 
   -- no ask
   registers_none : (old : Registry P) → FindsSides cmp old → Registers cmp [] old old
-  registers_none old finds = record {
-    asked = λ asks h. subst (λ all. IsRegistryOf cmp all old) (sym (append-nil asks)) h;
-    finds = finds;
-  }
+  registers_none old finds = search (rules, append-nil)
 
   -- the flow at place n, and what was answered for it
   module _ (n : ℕ) (a : Answered P) where
@@ -53,7 +42,4 @@ module _ {P : Type 0} (cmp : P → P → Ordering) where
     pub registers_all : (old one two new : Registry P) → Registers cmp (for_origin ∷ []) old one
         → RegistersIf a.flow.delivered one two → Registers cmp (for_pair ∷ []) two new
         → Registers cmp (asks_of_one n a) old new
-    registers_all old one two new r s t =
-        let more : List (Ask P) = cond a.flow.delivered (for_recipient ∷ []) [] in
-        registers_both (for_origin ∷ []) (more ++ for_pair ∷ []) old one new r
-        (registers_both more (for_pair ∷ []) one two new s t)
+    registers_all old one two new r s t = search (rules, registers_both)

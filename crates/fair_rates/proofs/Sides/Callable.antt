@@ -1,9 +1,9 @@
 -- Closures that may always be called.
-use Rattle.std.proofs.Common.{ℕ, List, [], ◌∷◌, Option}
+use Rattle.fair_rates.proofs.Common.{ℕ, List, [], ◌∷◌, Option, CalledAt, TakesAt, CalledAtTwo, TakesAtTwo}
+use Rattle.fair_rates.proofs.Common.{CallableOnEach, CallableOnEachPair}
 use denote.Ref.{Bor}
 use denote.Param.Members.{Mut}
-use Rattle.std.specs.Fn.{CalledAt, TakesAt, CalledAtTwo, TakesAtTwo, always_mut}
-use Rattle.fair_rates.specs.Sides.Answers.{CallableOnEach, CallableOnEachPair}
+use Rattle.std.specs.Fn.{always_mut}
 
 -- such a closure may be called on each peer of a list in turn
 pub callable_on_each : {P F : Type 0} (closure : Mut F (Bor P × Unit {0}) (Option ℕ)) (state : F) (peers : List P)

@@ -1,24 +1,17 @@
 -- Which sides the caps make.
-use Rattle.std.proofs.Common.{◌≡◌, ℕ, ◌+◌, Bool, true, false, cond, ◌&&◌, List, [], ◌∷◌, ◌++◌, Option, Some, None, map}
-use Rattle.std.proofs.Common.{is_some, Contains, refl, sym, ap, ◌∙◌, subst, inl, inr, ◌⊎◌, ap₂}
-use Rattle.std.proofs.lemmas.Bool.{and_right, and_from, and_parts}
+use Rattle.fair_rates.proofs.Common.{◌≡◌, ℕ, ◌+◌, Bool, true, false, cond, List, [], ◌∷◌, ◌++◌, Option, Some, None, map}
+use Rattle.fair_rates.proofs.Common.{Contains, refl, sym, ap, ◌∙◌, subst, inl, inr, ◌⊎◌, and_from, and_parts}
+use Rattle.fair_rates.proofs.Common.{map-append, filter, IsTotalOrder, Ordering, Flow, Side, Subject, sent_by}
+use Rattle.fair_rates.proofs.Common.{received_by, sent_between, Ask, same_peer, same_subject, is_same, is_open, opened}
+use Rattle.fair_rates.proofs.Common.{sides_after, asks_from, Caps, cap_of, AreOfPeers, limits, sides_under}
+use Rattle.fair_rates.proofs.Common.{IsCappedSide, places_from, rules}
+use Rattle.std.proofs.lemmas.Bool.{and_right}
 use Rattle.std.proofs.lemmas.List.Elements.{filter_agree, filter-append}
-use Rattle.std.proofs.lemmas.List.{map-append}
-use Rattle.std.specs.List.{filter}
-use Rattle.std.specs.Cmp.{IsTotalOrder}
-use Rattle.std.specs.declared.cmp.Ordering.{Ordering}
-use Rattle.fair_rates.specs.declared.bandwidth.Flow.{Flow}
-use Rattle.fair_rates.specs.Fairness.Fair.{Side}
-use Rattle.fair_rates.specs.Sides.Subjects.{Subject, sent_by, received_by, sent_between, Ask, same_peer, same_subject}
-use Rattle.fair_rates.specs.Sides.Subjects.{is_same, is_open, opened, sides_after, asks_from}
-use Rattle.fair_rates.specs.Sides.Caps.{Caps}
-use Rattle.fair_rates.specs.Fairness.UnderCaps.{cap_of, answered_under, AreOfPeers, limits, sides_under, IsCappedSide}
-use Rattle.fair_rates.specs.Fairness.UnderCaps.{SidesAreOfTheCaps}
+use Rattle.fair_rates.specs.Fairness.UnderCaps.{answered_under, SidesAreOfTheCaps}
 use Rattle.fair_rates.proofs.Sides.Subjects.{same_itself, same_symm, same_congr}
 use Rattle.fair_rates.proofs.Lists.Members.{In, in_left, in_right, in_either, in_from_contains, contains_from_in}
 use Rattle.fair_rates.proofs.Lists.Members.{none_passes, any_fails}
 use Rattle.fair_rates.proofs.Sides.EqualSubjects.{same_peer_itself, one_cap, same_limits}
-use Rattle.fair_rates.specs.Lists.Places.{places_from}
 
 module _ {P : Type 0} (cmp : P → P → Ordering) (order : IsTotalOrder cmp) (caps : Caps P)
     (of : AreOfPeers cmp caps) where
@@ -40,22 +33,11 @@ module _ {P : Type 0} (cmp : P → P → Ordering) (order : IsTotalOrder cmp) (c
   fresh_from : (earlier : List (Ask P)) (a : Ask P) (cap : ℕ) → AllByCaps earlier → IsByCaps a → a.answer ≡ Some cap
       → is_open cmp earlier a ≡ false → (b : Ask P) → In earlier b
       → is_same cmp a b ≡ false
-  fresh_from earlier a cap all by has closed b among = by_same (is_same cmp b a) refl
-    where
-      by_same : (t : Bool) → is_same cmp b a ≡ t → is_same cmp a b ≡ false
-      by_same false e = same_symm cmp order a.subject b.subject ∙ e
-      by_same true e =
-          let same : cap_of caps b.subject ≡ cap_of caps a.subject = one_cap cmp order caps of b.subject a.subject e in
-          let number : b.answer ≡ Some cap = all b among ∙ same ∙ sym by ∙ has in
-          let off : (is_some b.answer && is_same cmp b a) ≡ false =
-          none_passes (λ b. is_some b.answer && is_same cmp b a) earlier closed b among in
-          let on : (is_some b.answer && is_same cmp b a) ≡ true = rw (number, e) refl in
-          cc
+  fresh_from earlier a cap all by has closed b among = search (rules, same_symm, one_cap, none_passes)
 
   open_from : (earlier : List (Ask P)) (a : Ask P) → ((b : Ask P) → In earlier b → is_same cmp a b ≡ false)
       → is_open cmp earlier a ≡ false
-  open_from earlier a fresh = any_fails (λ b. is_some b.answer && is_same cmp b a) earlier (λ b among.
-      and_right (is_some b.answer) (is_same cmp b a) (same_symm cmp order b.subject a.subject ∙ fresh b among))
+  open_from earlier a fresh = search (rules, any_fails, and_right, same_symm)
 
   one_more : (earlier : List (Ask P)) (x : Ask P) → AllByCaps earlier → IsByCaps x → AllByCaps (x ∷ earlier)
   one_more earlier x before by a (inl e) = subst IsByCaps e by
@@ -127,12 +109,9 @@ module _ {P : Type 0} (cmp : P → P → Ordering) (order : IsTotalOrder cmp) (c
       head e =
           let number : x.answer ≡ Some cap =
           all x (inl refl) ∙ sym (one_cap cmp order caps of a.subject x.subject e) ∙ sym (all a h) ∙ has in
-          let closed : is_open cmp earlier x ≡ false =
-          open_from earlier x
-          (λ b among. sym (same_congr cmp order a.subject x.subject b.subject e) ∙ fresh b among) in
+          let closed : is_open cmp earlier x ≡ false = search (rules, open_from, same_congr) in
           let agree : filter (is_same cmp a) later ≡ filter (is_same cmp x) later =
-          filter_agree (is_same cmp a) (is_same cmp x) (λ b. same_congr cmp order a.subject x.subject b.subject e)
-          later in
+              search (rules, filter_agree, same_congr) in
           rw (closed, number, agree) (inl refl)
 
       by_same : (t : Bool) → is_same cmp a x ≡ t → In (x ∷ later) a
@@ -145,8 +124,7 @@ module _ {P : Type 0} (cmp : P → P → Ordering) (order : IsTotalOrder cmp) (c
           })
       by_same true e g ih = head e
       by_same false e (inl same) ih =
-          let on : is_same cmp a x ≡ true =
-          subst (λ (b : Ask P). is_same cmp a b ≡ true) (sym same) (same_itself cmp order a.subject) in
+          let on : is_same cmp a x ≡ true = search (rules, same_itself) in
           cc
       by_same false e (inr g) ih =
           in_right (cond (is_open cmp earlier x) [] (opened cmp x later x.answer)) (sides_after cmp (x ∷ earlier) later)
@@ -208,24 +186,9 @@ module _ {P : Type 0} (cmp : P → P → Ordering) (order : IsTotalOrder cmp) (c
   -- of the three asks of a flow at most one is for a subject
   one_place : (place : ℕ) (f : Flow P) (s : Subject P)
       → places_for s place f f.delivered ≡ cond (limits cmp s f) (place ∷ []) []
-  one_place place f (sent_by p) = by_delivered f.delivered
-    where
-      by_delivered : (d : Bool) → places_for (sent_by p) place f d ≡ cond (same_peer cmp p f.origin) (place ∷ []) []
-      by_delivered true = one_kept (same_peer cmp p f.origin) (sends place f)
-      by_delivered false = one_kept (same_peer cmp p f.origin) (sends place f)
-  one_place place f (received_by p) = by_delivered f.delivered
-    where
-      by_delivered : (d : Bool)
-          → places_for (received_by p) place f d ≡ cond (d && same_peer cmp p f.recipient) (place ∷ []) []
-      by_delivered true = one_kept (same_peer cmp p f.recipient) (receives place f true)
-      by_delivered false = refl
-  one_place place f (sent_between p q) = by_delivered f.delivered
-    where
-      by_delivered : (d : Bool)
-          → places_for (sent_between p q) place f d
-          ≡ cond (same_peer cmp p f.origin && same_peer cmp q f.recipient) (place ∷ []) []
-      by_delivered true = one_kept (same_peer cmp p f.origin && same_peer cmp q f.recipient) (links place f)
-      by_delivered false = one_kept (same_peer cmp p f.origin && same_peer cmp q f.recipient) (links place f)
+  one_place place f (sent_by p) = search (rules, one_kept)
+  one_place place f (received_by p) = search (rules, one_kept)
+  one_place place f (sent_between p q) = search (rules, one_kept)
 
   joined : (place : ℕ) (b : Bool) (rest : List ℕ) → cond b (place ∷ []) [] ++ rest ≡ cond b (place ∷ rest) rest
   joined place true rest = refl
@@ -236,27 +199,16 @@ module _ {P : Type 0} (cmp : P → P → Ordering) (order : IsTotalOrder cmp) (c
       → map (λ b. b.place) (filter (is_same cmp a) (asks place flows)) ≡ places_from place (limits cmp a.subject) flows
   places_asked place [] a = refl
   places_asked place (f ∷ flows) a =
-      ap (map (λ (b : Ask P). b.place))
-      (filter-append (is_same cmp a) (asks_if place f f.delivered) (asks (place + 1) flows))
-      ∙ map-append (λ (b : Ask P). b.place) (filter (is_same cmp a) (asks_if place f f.delivered))
-      (filter (is_same cmp a) (asks (place + 1) flows))
-      ∙ ap₂ (λ (xs ys : List ℕ). xs ++ ys) (one_place place f a.subject) (places_asked (place + 1) flows a)
-      ∙ joined place (limits cmp a.subject f) (places_from (place + 1) (limits cmp a.subject) flows)
+      search (rules, filter-append, map-append, one_place, joined, places_asked (place + 1) flows a)
 
   one_limits : (place : ℕ) (f : Flow P) (d : Bool) → f.delivered ≡ d → (a : Ask P) → In (asks_if place f d) a
       → limits cmp a.subject f ≡ true
-  one_limits place f true is a (inl e) =
-      subst (λ (b : Ask P). limits cmp b.subject f ≡ true) e (same_peer_itself cmp order f.origin)
-  one_limits place f true is a (inr (inl e)) =
-      subst (λ (b : Ask P). limits cmp b.subject f ≡ true) e
-      (and_from f.delivered (same_peer cmp f.recipient f.recipient) is (same_peer_itself cmp order f.recipient))
-  one_limits place f true is a (inr (inr (inl e))) =
-      subst (λ (b : Ask P). limits cmp b.subject f ≡ true) e (same_itself cmp order (sent_between f.origin f.recipient))
+  one_limits place f true is a (inl e) = search (rules, same_peer_itself)
+  one_limits place f true is a (inr (inl e)) = search (rules, and_from, same_peer_itself)
+  one_limits place f true is a (inr (inr (inl e))) = search (rules, same_itself)
   one_limits place f true is a (inr (inr (inr h))) = absurd h
-  one_limits place f false is a (inl e) =
-      subst (λ (b : Ask P). limits cmp b.subject f ≡ true) e (same_peer_itself cmp order f.origin)
-  one_limits place f false is a (inr (inl e)) =
-      subst (λ (b : Ask P). limits cmp b.subject f ≡ true) e (same_itself cmp order (sent_between f.origin f.recipient))
+  one_limits place f false is a (inl e) = search (rules, same_peer_itself)
+  one_limits place f false is a (inr (inl e)) = search (rules, same_itself)
   one_limits place f false is a (inr (inr h)) = absurd h
 
   -- an ask comes from a flow that its side would limit
@@ -307,9 +259,7 @@ module _ {P : Type 0} (cmp : P → P → Ordering) (order : IsTotalOrder cmp) (c
   same_places : (place : ℕ) (s t : Subject P) (flows : List (Flow P)) → same_subject cmp s t ≡ true
       → places_from place (limits cmp s) flows ≡ places_from place (limits cmp t) flows
   same_places place s t [] e = refl
-  same_places place s t (f ∷ flows) e =
-      ap₂ (λ (b : Bool) (ps : List ℕ). cond b (place ∷ ps) ps) (same_limits cmp order s t f e)
-      (same_places (place + 1) s t flows e)
+  same_places place s t (f ∷ flows) e = search (rules, same_limits, same_places (place + 1) s t flows e)
 
   -- ---- the sides
 
@@ -344,8 +294,7 @@ module _ {P : Type 0} (cmp : P → P → Ordering) (order : IsTotalOrder cmp) (c
       let listed =
       to_sides [] (asks 0 flows) a cap (λ b g. absurd g) (all_by_caps 0 flows) r.1 answered (λ b g. absurd g) in
       let same : side_asked (asks 0 flows) a cap ≡ side_of_subject flows s cap =
-      ap (λ (ps : List ℕ). record { cap = cap; users = ps })
-      (places_asked 0 flows a ∙ sym (same_places 0 s a.subject flows r.2)) in
+          search (rules, places_asked, same_places) in
       contains_from_in (sides_under cmp caps flows) (side_of_subject flows s cap)
       (subst (In (sides_under cmp caps flows)) same listed)
 

@@ -1,13 +1,8 @@
 -- What subjects of sides have in common that are one by the order of peers.
-use Rattle.std.proofs.Common.{◌≡◌, true, ◌&&◌, refl}
-use Rattle.std.specs.Cmp.{IsTotalOrder, IsEquivalence}
-use Rattle.std.specs.declared.cmp.Ordering.{Ordering}
-use Rattle.std.proofs.lemmas.Bool.{and_parts, false≢true}
-use Rattle.std.proofs.lemmas.Cmp.{eq_by_cmp_equiv}
-use Rattle.fair_rates.specs.declared.bandwidth.Flow.{Flow}
-use Rattle.fair_rates.specs.Sides.Subjects.{Subject, sent_by, received_by, sent_between, same_peer, same_subject}
-use Rattle.fair_rates.specs.Sides.Caps.{Caps}
-use Rattle.fair_rates.specs.Fairness.UnderCaps.{cap_of, AreOfPeers, limits}
+use Rattle.fair_rates.proofs.Common.{◌≡◌, true, ◌&&◌, refl, IsTotalOrder, Ordering, and_parts, false≢true}
+use Rattle.fair_rates.proofs.Common.{eq_by_cmp_equiv, Flow, Subject, sent_by, received_by, sent_between, same_peer}
+use Rattle.fair_rates.proofs.Common.{same_subject, Caps, cap_of, AreOfPeers, limits, rules}
+use Rattle.std.specs.Cmp.{IsEquivalence}
 
 module _ {P : Type 0} (cmp : P → P → Ordering) (order : IsTotalOrder cmp) where
   abbrev laws : IsEquivalence (same_peer cmp)
@@ -19,17 +14,14 @@ module _ {P : Type 0} (cmp : P → P → Ordering) (order : IsTotalOrder cmp) wh
   -- both peers the same
   pair_congr : (p q r s t u : P) → (same_peer cmp p r && same_peer cmp q s) ≡ true
       → (same_peer cmp p t && same_peer cmp q u) ≡ (same_peer cmp r t && same_peer cmp s u)
-  pair_congr p q r s t u e =
-      let parts = and_parts (same_peer cmp p r) (same_peer cmp q s) e in
-      rw (laws.congr p r t parts.0, laws.congr q s u parts.1) refl
+  pair_congr p q r s t u e = search (rules, and_parts)
 
   -- one subject has one cap
   pub one_cap : (caps : Caps P) → AreOfPeers cmp caps → (s t : Subject P) → same_subject cmp s t ≡ true
       → cap_of caps s ≡ cap_of caps t
   one_cap caps of (sent_by p) (sent_by q) e = of.egress p q e
   one_cap caps of (received_by p) (received_by q) e = of.ingress p q e
-  one_cap caps of (sent_between p q) (sent_between r s) e =
-      let parts = and_parts (same_peer cmp p r) (same_peer cmp q s) e in of.link p r q s parts.0 parts.1
+  one_cap caps of (sent_between p q) (sent_between r s) e = search (rules, and_parts)
   one_cap caps of (sent_by p) (received_by q) e = absurd (false≢true e)
   one_cap caps of (sent_by p) (sent_between q r) e = absurd (false≢true e)
   one_cap caps of (received_by p) (sent_by q) e = absurd (false≢true e)

@@ -1,18 +1,14 @@
 -- The pass over the flows, one flow at a time.
-use Rattle.std.proofs.Common.{subst, suc, ◌≡◌, ℕ, ◌+◌, ◌<◌, Bool, true, false, cond, List, [], ◌∷◌, ◌++◌, Option, None}
-use Rattle.std.proofs.Common.{length, take, get_or, map, sym, ap, ◌∙◌, arith, add-one, length-append, drop}
-use Rattle.std.proofs.Common.{drop-cons, append_assoc}
+use Rattle.fair_rates.proofs.Common.{subst, ◌≡◌, ℕ, ◌+◌, ◌<◌, Bool, true, false, cond, List, [], ◌∷◌, ◌++◌, Option}
+use Rattle.fair_rates.proofs.Common.{None, length, take, get_or, map, sym, ap, ◌∙◌, arith, length-append, drop}
+use Rattle.fair_rates.proofs.Common.{append_assoc, append-nil, map-append, FoldsTo, Ordering, Flow, Registry, Answered}
+use Rattle.fair_rates.proofs.Common.{Calls, PairCalls, CalledIfDelivered, States, CallsFor, CallableOnEach}
+use Rattle.fair_rates.proofs.Common.{CallableOnEachPair, recipients, pairs, asks_of_one, asks_from, IsRegistryOf}
+use Rattle.fair_rates.proofs.Common.{Registers, rules, common_steps}
+use Rattle.std.proofs.Common.{add-one, drop-cons}
 use Rattle.std.proofs.Math.Seq.{take-suc}
-use Rattle.std.proofs.lemmas.List.{append-nil, map-append}
 use Rattle.std.proofs.lemmas.Fn.{FoldsTo-push}
-use Rattle.std.specs.List.{FoldsTo}
-use Rattle.std.specs.declared.cmp.Ordering.{Ordering}
-use Rattle.fair_rates.specs.declared.bandwidth.Flow.{Flow}
-use Rattle.fair_rates.specs.declared.bandwidth.sides.Registry.{Registry}
-use Rattle.fair_rates.specs.Sides.Answers.{Answered, Calls, PairCalls, CalledIfDelivered, States, CallsFor}
-use Rattle.fair_rates.specs.Sides.Answers.{CallableOnEach, CallableOnEachPair, origins, recipients, pairs}
-use Rattle.fair_rates.specs.Sides.Subjects.{asks_of_one, asks_from}
-use Rattle.fair_rates.specs.Sides.Registry.{IsRegistryOf, Registers}
+use Rattle.fair_rates.specs.Sides.Answers.{origins}
 
 -- what one flow more asks for stands at the end
 asks_from-push : {P : Type 0} (n m : ℕ) (answered : List (Answered P)) (a : Answered P) → m ≡ n + length answered
@@ -27,9 +23,7 @@ one_flow_more : {P : Type 0} (cmp : P → P → Ordering) (n : ℕ) (answered : 
     (old new : Registry P)
     → length answered ≡ n → Registers cmp (asks_of_one n a) old new → IsRegistryOf cmp (asks_from 0 answered) old
     → IsRegistryOf cmp (asks_from 0 (answered ++ a ∷ [])) new
-one_flow_more cmp n answered a old new count registers h =
-    subst (λ asks. IsRegistryOf cmp asks new) (sym (asks_from-push 0 n answered a (omega (arith, count))))
-    (registers.asked (asks_from 0 answered) h)
+one_flow_more cmp n answered a old new count registers h = search (rules, asks_from-push)
 
 module _ {P E I L : Type 0} (cmp : P → P → Ordering) (egress : Calls E P) (ingress : Calls I P)
     (link : PairCalls L P) where
@@ -49,22 +43,16 @@ module _ {P E I L : Type 0} (cmp : P → P → Ordering) (egress : Calls E P) (i
       → a.flow ≡ get_or flows n a.flow
       → CallsFor egress ingress link before a after
       → Passed first flows (n + 1) after new
-  passed n a old new registers first flows before after p below is calls = record {
-    answered = p.answered ++ a ∷ [];
-    count = omega (arith, length-append p.answered (a ∷ []), p.count);
-    flows_are = map-append (λ b. b.flow) p.answered (a ∷ []) ∙ ap (λ fs. fs ++ a.flow ∷ []) p.flows_are
-        ∙ ap (λ g. take n flows ++ g ∷ []) is ∙ sym (take-suc flows n a.flow below)
-        ∙ ap (λ k. take k flows) (sym (add-one n));
-    calls = FoldsTo-push (CallsFor egress ingress link) first p.answered before a after p.calls calls;
-    registered = one_flow_more cmp n p.answered a old new p.count registers p.registered;
-  }
+  passed n a old new registers first flows before after p below is calls =
+      grind (arith, common_steps, length-append p.answered (a ∷ []), take-suc flows n a.flow below, add-one n,
+      FoldsTo-push (CallsFor egress ingress link) first p.answered before a after p.calls calls,
+      one_flow_more cmp n p.answered a old new p.count registers p.registered, map-append)
 
 -- what the code does for a flow that is delivered, and for one that is dropped
 module _ {P I : Type 0} (call : Calls I P) (i : I) (p : P) (answer : Option ℕ) (j : I) where
   pub called : (b : Bool) (given : Option ℕ) (left : I) → b ≡ true → answer ≡ given → j ≡ left → call i p given left
       → CalledIfDelivered call b i p answer j
-  called true given left e same unchanged h =
-      subst (λ a. call i p a j) (sym same) (subst (call i p given) (sym unchanged) h)
+  called true given left e same unchanged h = search rules
   called false given left e same unchanged h = cc e
 
   pub not_called : (b : Bool) → b ≡ false → answer ≡ None → j ≡ i → CalledIfDelivered call b i p answer j
@@ -75,8 +63,7 @@ module _ {P I : Type 0} (call : Calls I P) (i : I) (p : P) (answer : Option ℕ)
 
 drop_now : {X : Type 0} (xs : List X) (n : ℕ) (x : X) → n < length xs → x ≡ get_or xs n x
     → drop n xs ≡ x ∷ drop (n + 1) xs
-drop_now xs n x h e =
-    drop-cons xs n x h ∙ ap (λ y. y ∷ drop (suc n) xs) (sym e) ∙ ap (λ k. x ∷ drop k xs) (sym (add-one n))
+drop_now xs n x h e = search (rules, drop-cons, add-one)
 
 module _ {P F : Type 0} (may : F → P → Type 0) (call : Calls F P) where
   pub origin_next : (f : F) (flows : List (Flow P)) (n : ℕ) (x : Flow P) → n < length flows → x ≡ get_or flows n x
@@ -94,9 +81,7 @@ module _ {P F : Type 0} (may : F → P → Type 0) (call : Calls F P) where
       → CallableOnEach may call f (recipients (drop n flows))
       → (a : Option ℕ) (g : F) → CalledIfDelivered call x.delivered f x.recipient a g
       → CallableOnEach may call g (recipients (drop (n + 1) flows))
-  recipient_next f flows n x h e c =
-      one_more f x.delivered x.recipient (recipients (drop (n + 1) flows))
-      (subst (λ fs. CallableOnEach may call f (recipients fs)) (drop_now flows n x h e) c)
+  recipient_next f flows n x h e c = search (rules, one_more, drop_now)
 
 module _ {P F : Type 0} (may : F → P → P → Type 0) (call : PairCalls F P) where
   pub pair_next : (f : F) (flows : List (Flow P)) (n : ℕ) (x : Flow P) → n < length flows → x ≡ get_or flows n x

@@ -1,14 +1,9 @@
 -- Where no link closure answers a number, there is none.
-use Rattle.std.proofs.Common.{◌≡◌, ℕ, List, [], ◌∷◌, Option, None, ap, ◌⊎◌, inl, inr, Result, Ok, Err, IfErr}
-use Rattle.std.specs.List.{FoldsTo}
-use Rattle.std.specs.declared.cmp.Ordering.{Ordering}
-use Rattle.fair_rates.specs.declared.bandwidth.Flow.{Flow}
-use Rattle.fair_rates.specs.declared.bandwidth.Rate.{Rate}
-use Rattle.fair_rates.specs.Sides.Answers.{Answered, Calls, PairCalls, NoLink, States, CallsFor, AnswerInOrder}
-use Rattle.fair_rates.specs.Fairness.Allocation.{IsAllocation, IsCountedAllocation}
-use Rattle.fair_rates.specs.declared.error.Error.{Error}
+use Rattle.fair_rates.proofs.Common.{◌≡◌, ℕ, List, [], ◌∷◌, Option, None, ap, ◌⊎◌, inl, inr, Result, Ok, Err, IfErr}
+use Rattle.fair_rates.proofs.Common.{FoldsTo, Ordering, Flow, Rate, Answered, Calls, PairCalls, NoLink, States}
+use Rattle.fair_rates.proofs.Common.{CallsFor, AnswerInOrder, IsAllocation, Error, IsTooLarge, rules}
+use Rattle.fair_rates.specs.Fairness.Allocation.{IsCountedAllocation}
 use Rattle.fair_rates.specs.declared.error.Error.TheVariants.{OutOfMemory, NumberTooLarge}
-use Rattle.fair_rates.specs.Refusals.TooLarge.{IsTooLarge}
 
 module _ {P E I L : Type 0} (egress : Calls E P) (ingress : Calls I P) (link : PairCalls L P)
     (no_number : (l : L) (p q : P) (a : Option ℕ) (l' : L) → link l p q a l' → a ≡ None) where
@@ -19,50 +14,24 @@ module _ {P E I L : Type 0} (egress : Calls E P) (ingress : Calls I P) (link : P
       → FoldsTo (CallsFor egress ingress link) s answered last
       → FoldsTo (CallsFor egress ingress NoLink) (without s) answered (without last)
   calls_without s [] last calls = ap without calls
-  calls_without s (a ∷ answered) last calls = (
-    without calls.0,
-    record {
-      origin = calls.1.origin;
-      recipient = calls.1.recipient;
-      pair = no_number s.link a.flow.origin a.flow.recipient a.link calls.0.link calls.1.pair;
-    },
-    calls_without calls.0 answered last calls.2,
-  )
+  calls_without s (a ∷ answered) last calls = search (rules, calls_without calls.0 answered last calls.2)
 
   in_order_without : (first : States E I L) (flows : List (Flow P)) (answered : List (Answered P))
       → AnswerInOrder egress ingress link first flows answered
       → AnswerInOrder egress ingress NoLink (without first) flows answered
-  in_order_without first flows answered h =
-      record { flows_are = h.flows_are; last = without h.last; calls = calls_without first answered h.last h.calls }
+  in_order_without first flows answered h = search (rules, calls_without)
 
   -- an allocation with such a closure is one with no closure for pairs
   pub without_links : (cmp : P → P → Ordering) (first : States E I L) (flows : List (Flow P))
       (rate_of : ℕ → Option Rate)
       → IsAllocation cmp egress ingress link first flows rate_of
       → IsAllocation cmp egress ingress NoLink (without first) flows rate_of
-  without_links cmp first flows rate_of h = record {
-    answered = h.answered;
-    in_order = in_order_without first flows h.answered h.in_order;
-    rates = h.rates;
-    fair = h.fair;
-    only = h.only;
-    max_min = h.max_min;
-    zero = h.zero;
-    of_four = h.of_four;
-    of_sixteen = h.of_sixteen;
-    by_id = h.by_id;
-  }
+  without_links cmp first flows rate_of h = search (rules, in_order_without)
 
   -- and a refusal with it is one without
   pub too_large_without_links : (cmp : P → P → Ordering) (first : States E I L) (flows : List (Flow P))
       → IsTooLarge cmp egress ingress link first flows → IsTooLarge cmp egress ingress NoLink (without first) flows
-  too_large_without_links cmp first flows h = record {
-    answered = h.answered;
-    in_order = in_order_without first flows h.answered h.in_order;
-    large_rate = h.large_rate;
-    nothing_fits = h.nothing_fits;
-    many_or_large = h.many_or_large;
-  }
+  too_large_without_links cmp first flows h = search (rules, in_order_without)
 
   -- nor does the count of rounds change
   pub counted_without_links : (cmp : P → P → Ordering) (first : States E I L) (flows : List (Flow P))
@@ -81,5 +50,4 @@ module _ {P E I L : Type 0} (egress : Calls E P) (ingress : Calls I P) (link : P
       (λ e. (e ≡ OutOfMemory) ⊎ ((e ≡ NumberTooLarge) × IsTooLarge cmp egress ingress NoLink (without first) flows))
   refused_without_links cmp first flows (Ok x) h = tt
   refused_without_links cmp first flows (Err e) (inl memory) = inl memory
-  refused_without_links cmp first flows (Err e) (inr large) =
-      inr (large.0, too_large_without_links cmp first flows large.1)
+  refused_without_links cmp first flows (Err e) (inr large) = search (rules, too_large_without_links)

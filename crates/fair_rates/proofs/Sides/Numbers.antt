@@ -1,19 +1,13 @@
 -- The numbers of keys, which stand in a list in their order, or in a map.
-use Rattle.std.proofs.Common.{◌≡◌, ℕ, ◌+◌, ◌<◌, ◌≤◌, Bool, true, false, cond, if◌then◌else◌, List, [], ◌∷◌, length, map}
-use Rattle.std.proofs.Common.{get_or, Option, Some, None, Ok, Err, refl, sym, ap, ap₂, subst, ◌∙◌, arith}
-use Rattle.std.specs.List.{insert, HoldsAt}
-use Rattle.std.specs.Prelude.{is_some}
+use Rattle.fair_rates.proofs.Common.{◌≡◌, ℕ, ◌+◌, ◌<◌, ◌≤◌, Bool, true, false, cond, List, [], ◌∷◌, length, map, get_or}
+use Rattle.fair_rates.proofs.Common.{Option, Some, None, Ok, Err, refl, ap, ap₂, subst, ◌∙◌, arith, insert, is_some}
+use Rattle.fair_rates.proofs.Common.{lookup, option_or, IsTotalOrder, Ordering, Less, Equal, Greater, is_eq}
+use Rattle.fair_rates.proofs.Common.{eq_by_cmp_equiv, get_or_default, IsGap, rules, common_steps}
+use Rattle.std.specs.List.{HoldsAt}
 use Rattle.std.specs.List.Sorted.{IsNonDecreasingBy}
-use Rattle.std.specs.Map.{lookup}
-use Rattle.std.specs.Option.{option_or}
-use Rattle.std.specs.Cmp.{IsTotalOrder}
-use Rattle.std.specs.declared.cmp.Ordering.{Ordering}
-use Rattle.std.specs.declared.cmp.Ordering.TheVariants.{Less, Equal, Greater}
-use Rattle.std.specs.Ordering.{is_eq, ordering_index}
-use Rattle.std.proofs.lemmas.Cmp.{eq_by_cmp_equiv}
-use Rattle.std.proofs.lemmas.List.{get_or_default}
+use Rattle.std.specs.Ordering.{ordering_index}
 use Rattle.std.proofs.lemmas.Map.{lookup-insert, none_passes_from_lookup}
-use Rattle.fair_rates.specs.Lists.Sorted.{are_ascending, value_at, IsPlace, IsGap}
+use Rattle.fair_rates.specs.Lists.Sorted.{are_ascending, value_at, IsPlace}
 use Rattle.fair_rates.specs.Sides.Numbers.{number_in, AreInOrder}
 use Rattle.fair_rates.specs.declared.bandwidth.numbers.Numbers.{Numbers}
 use Rattle.fair_rates.proofs.Lists.Sorted.{searched, value_there, at_gap, ascending_insert_at}
@@ -27,15 +21,11 @@ least_index Greater h = absurd (omega (arith, h))
 pub lookup_agrees : {K X : Type 0} (test other : K → Bool) (entries : List (K × X)) → ((k : K) → test k ≡ other k)
     → lookup test entries ≡ lookup other entries
 lookup_agrees test other [] same = refl
-lookup_agrees test other (e ∷ entries) same =
-    ap (λ b. cond b (Some e.1) (lookup test entries)) (same e.0)
-    ∙ ap (cond (other e.0) (Some e.1)) (lookup_agrees test other entries same)
+lookup_agrees test other (e ∷ entries) same = search (rules, lookup_agrees test other entries same)
 
 pub numbers_agree : {K : Type 0} (test other : K → Bool) (numbers : Numbers K) → ((k : K) → test k ≡ other k)
     → number_in test numbers ≡ number_in other numbers
-numbers_agree test other numbers same =
-    ap₂ option_or (lookup_agrees test other numbers.listed.items same)
-    (lookup_agrees test other numbers.later.entries same)
+numbers_agree test other numbers same = search (rules, lookup_agrees)
 
 module _ {K : Type 0} (cmp : K → K → Ordering) (total : IsTotalOrder cmp) where
   abbrev first : K × ℕ → K
@@ -45,20 +35,12 @@ module _ {K : Type 0} (cmp : K → K → Ordering) (total : IsTotalOrder cmp) wh
   says : (entries : List (K × ℕ)) (k : K)
       → lookup (λ other. is_eq (cmp k other)) entries ≡ value_at cmp first (λ entry. Some entry.1) None entries k
   says [] k = refl
-  says (e ∷ es) k =
-      ap (λ b. cond b (Some e.1) (lookup (λ other. is_eq (cmp k other)) es)) ((eq_by_cmp_equiv total).symm k e.0)
-      ∙ ap (cond (is_eq (cmp e.0 k)) (Some e.1)) (says es k)
-      ∙ either (is_eq (cmp e.0 k)) (Some e.1) (value_at cmp first (λ entry. Some entry.1) None es k)
-    where
-      either : (b : Bool) (one other : Option ℕ) → cond b one other ≡ (if b then one else other)
-      either true one other = refl
-      either false one other = refl
+  says (e ∷ es) k = search (rules, eq_by_cmp_equiv, says es k)
 
   -- the entry of the key has its number
   pub at_place : (entries : List (K × ℕ)) (k : K) (place : ℕ) (d : K × ℕ) → IsPlace cmp first entries k place
       → lookup (λ other. is_eq (cmp k other)) entries ≡ Some (get_or entries place d).1
-  at_place entries k place d p =
-      says entries k ∙ sym (value_there cmp total first (λ entry. Some entry.1) None entries k place p d)
+  at_place entries k place d p = search (rules, says, value_there)
 
   -- a key that would stand in a gap has none
   pub in_gap : (entries : List (K × ℕ)) (k : K) (place : ℕ) → IsGap cmp first entries k place
@@ -86,8 +68,7 @@ module _ {K : Type 0} (cmp : K → K → Ordering) (total : IsTotalOrder cmp) wh
       rises : IsNonDecreasingBy (λ entry. ordering_index (cmp (first entry) k)) entries → (i : ℕ) (d : K × ℕ)
           → i < length entries → ordering_index (cmp (first (get_or entries i d)) k) ≤ ordering_index Less
       rises rise i d lt =
-          let there : get_or entries place d ≡ last =
-          get_or_default entries place d last (omega (arith, end)) ∙ sym is in
+          let there : get_or entries place d ≡ last = search (rules, get_or_default) in
           subst (λ o. ordering_index (cmp (first (get_or entries i d)) k) ≤ ordering_index o)
           (ap (λ e. cmp (first e) k) there ∙ below) (rise i place d (omega (arith, lt, end)) (omega (arith, end)))
 
@@ -117,9 +98,8 @@ module _ {K : Type 0} (cmp : K → K → Ordering) (total : IsTotalOrder cmp) wh
   pub in_order : (old new : Numbers K) (k : K) (number place : ℕ) → IsGap cmp first old.listed.items k place
       → new.listed.items ≡ insert old.listed.items place (k, number) → AreInOrder cmp old → AreInOrder cmp new
   in_order old new k number place gap items order =
-      subst (λ es. are_ascending cmp (map first es) ≡ true) (sym items)
-      (ascending_insert_at cmp total first old.listed.items k place gap (k, number) ((eq_by_cmp_equiv total).refl k)
-      order)
+      grind (arith, common_steps, ascending_insert_at cmp total first old.listed.items k place gap (k,
+      number) ((eq_by_cmp_equiv total).refl k) order, eq_by_cmp_equiv total)
 
   -- or it gets one in the map
   pub in_map : (old new : Numbers K) (k : K) (number place : ℕ) → IsGap cmp first old.listed.items k place
@@ -129,16 +109,4 @@ module _ {K : Type 0} (cmp : K → K → Ordering) (total : IsTotalOrder cmp) wh
       → number_in (λ other. is_eq (cmp q other)) new
       ≡ cond (is_eq (cmp k q)) (Some number) (number_in (λ other. is_eq (cmp q other)) old)
   in_map old new k number place gap items q later =
-      let was = lookup (λ other. is_eq (cmp q other)) old.listed.items in
-      let late = lookup (λ other. is_eq (cmp q other)) old.later.entries in
-      ap₂ option_or (ap (lookup (λ other. is_eq (cmp q other))) items) later
-      ∙ either (is_eq (cmp k q)) was late
-      (λ same.
-      lookup_agrees (λ other. is_eq (cmp q other)) (λ other. is_eq (cmp k other)) old.listed.items
-      (λ other. sym ((eq_by_cmp_equiv total).congr k q other same))
-      ∙ in_gap old.listed.items k place gap)
-    where
-      either : (b : Bool) (was late : Option ℕ) → (b ≡ true → was ≡ None)
-          → option_or was (cond b (Some number) late) ≡ cond b (Some number) (option_or was late)
-      either true was late none = ap (λ o. option_or o (Some number)) (none refl)
-      either false was late none = refl
+      grind (arith, common_steps, eq_by_cmp_equiv total, in_gap old.listed.items k place gap, lookup_agrees)

@@ -1,16 +1,12 @@
 -- The sides with their subjects, and what one ask more makes of them.
-use Rattle.std.proofs.Common.{◌≡◌, ℕ, Bool, true, false, cond, ◌&&◌, ◌||◌, List, [], ◌∷◌, ◌++◌, Option, Some, None, map}
-use Rattle.std.proofs.Common.{refl, sym, ap, ◌∙◌, append_assoc}
-use Rattle.std.specs.Prelude.{is_some}
-use Rattle.std.specs.List.{filter, list_any}
-use Rattle.std.proofs.lemmas.List.{append-nil, map-append}
+use Rattle.fair_rates.proofs.Common.{◌≡◌, ℕ, Bool, true, false, cond, ◌&&◌, List, [], ◌∷◌, ◌++◌, Option, Some, None}
+use Rattle.fair_rates.proofs.Common.{map, refl, sym, append_assoc, is_some, filter, list_any, append-nil, map-append}
+use Rattle.fair_rates.proofs.Common.{IsTotalOrder, Ordering, Side, Subject, Ask, same_subject, is_same, is_open, opened}
+use Rattle.fair_rates.proofs.Common.{sides_after, rules}
+use Rattle.std.proofs.Common.{◌||◌}
 use Rattle.std.proofs.lemmas.List.Elements.{filter-append}
 use Rattle.std.proofs.lemmas.List.Folds.{list_any-append}
-use Rattle.std.specs.Cmp.{IsTotalOrder}
-use Rattle.std.specs.declared.cmp.Ordering.{Ordering}
 use Rattle.fair_rates.proofs.Lists.Booleans.{second_of_both}
-use Rattle.fair_rates.specs.Fairness.Fair.{Side}
-use Rattle.fair_rates.specs.Sides.Subjects.{Subject, Ask, same_subject, is_same, is_open, opened, sides_after}
 use Rattle.fair_rates.specs.Sides.Registry.{subjects_after}
 use Rattle.fair_rates.proofs.Sides.Subjects.{same_symm, same_congr}
 
@@ -79,23 +75,12 @@ module _ {P : Type 0} (cmp : P → P → Ordering) where
   pub limits_are : (earlier asks : List (Ask P))
       → map limit_of (shares_after earlier asks) ≡ sides_after cmp earlier asks
   limits_are earlier [] = refl
-  limits_are earlier (a ∷ asks) =
-      map-append limit_of (cond (is_open cmp earlier a) [] (opened_share a asks a.answer))
-      (shares_after (a ∷ earlier) asks)
-      ∙ ap (λ ss. ss ++ map limit_of (shares_after (a ∷ earlier) asks))
-      (limits_of_opened a asks (is_open cmp earlier a) a.answer)
-      ∙ ap (λ ss. cond (is_open cmp earlier a) [] (opened cmp a asks a.answer) ++ ss) (limits_are (a ∷ earlier) asks)
+  limits_are earlier (a ∷ asks) = search (rules, map-append, limits_of_opened, limits_are (a ∷ earlier) asks)
 
   pub subjects_are : (earlier asks : List (Ask P))
       → map (λ s. s.subject) (shares_after earlier asks) ≡ subjects_after cmp earlier asks
   subjects_are earlier [] = refl
-  subjects_are earlier (a ∷ asks) =
-      map-append (λ s. s.subject) (cond (is_open cmp earlier a) [] (opened_share a asks a.answer))
-      (shares_after (a ∷ earlier) asks)
-      ∙ ap (λ ss. ss ++ map (λ s. s.subject) (shares_after (a ∷ earlier) asks))
-      (subjects_of_opened a asks (is_open cmp earlier a) a.answer)
-      ∙ ap (λ ss. map (λ side. a.subject) (cond (is_open cmp earlier a) [] (opened cmp a asks a.answer)) ++ ss)
-      (subjects_are (a ∷ earlier) asks)
+  subjects_are earlier (a ∷ asks) = search (rules, map-append, subjects_of_opened, subjects_are (a ∷ earlier) asks)
 
   user_added : (u t : Ask P) (cap : ℕ) (users more : List ℕ) (b : Bool)
       → more ≡ users ++ cond b (t.place ∷ []) []
@@ -103,8 +88,7 @@ module _ {P : Type 0} (cmp : P → P → Ordering) where
       (record { subject = u.subject; cap = cap; users = users })
       ≡ (let s : Share P = record { subject = u.subject; cap = cap; users = more } in s)
   user_added u t cap users more true e = λ i. record { subject = u.subject; cap = cap; users = sym e i }
-  user_added u t cap users more false e = λ i.
-      record { subject = u.subject; cap = cap; users = sym (e ∙ append-nil users) i }
+  user_added u t cap users more false e = search (rules, append-nil)
 
   one_place : (t : Ask P) (b : Bool) → map (λ (u : Ask P). u.place) (cond b (t ∷ []) []) ≡ cond b (t.place ∷ []) []
   one_place t true = refl
@@ -112,20 +96,13 @@ module _ {P : Type 0} (cmp : P → P → Ordering) where
 
   places : (p : Ask P → Bool) (ts : List (Ask P)) (t : Ask P)
       → map (λ u. u.place) (filter p (ts ++ t ∷ [])) ≡ map (λ u. u.place) (filter p ts) ++ cond (p t) (t.place ∷ []) []
-  places p ts t =
-      ap (map (λ u. u.place)) (filter-append p ts (t ∷ []))
-      ∙ map-append (λ u. u.place) (filter p ts) (filter p (t ∷ []))
-      ∙ ap (λ ws. map (λ u. u.place) (filter p ts) ++ ws) (one_place t (p t))
+  places p ts t = search (rules, filter-append, map-append, one_place)
 
   opened-push : (u t : Ask P) (ts : List (Ask P)) (b : Bool) (answer : Option ℕ)
       → map (with_user t) (cond b [] (opened_share u ts answer)) ≡ cond b [] (opened_share u (ts ++ t ∷ []) answer)
   opened-push u t ts true answer = refl
   opened-push u t ts false None = refl
-  opened-push u t ts false (Some cap) =
-      ap (λ s. s ∷ [])
-      (user_added u t cap (u.place ∷ map (λ v. v.place) (filter (is_same cmp u) ts))
-      (u.place ∷ map (λ v. v.place) (filter (is_same cmp u) (ts ++ t ∷ []))) (is_same cmp u t)
-      (ap (λ ws. u.place ∷ ws) (places (is_same cmp u) ts t)))
+  opened-push u t ts false (Some cap) = search (rules, user_added, places)
 
   shares_after-push : (earlier ts : List (Ask P)) (t : Ask P)
       → shares_after earlier (ts ++ t ∷ [])
@@ -133,27 +110,16 @@ module _ {P : Type 0} (cmp : P → P → Ordering) where
       ++ cond (is_open cmp (before ts earlier) t) [] (opened_share t [] t.answer)
   shares_after-push earlier [] t = append-nil (cond (is_open cmp earlier t) [] (opened_share t [] t.answer))
   shares_after-push earlier (u ∷ ts) t =
-      let last = cond (is_open cmp (before ts (u ∷ earlier)) t) [] (opened_share t [] t.answer) in
-      let first = cond (is_open cmp earlier u) [] (opened_share u ts u.answer) in
-      ap (λ ws. cond (is_open cmp earlier u) [] (opened_share u (ts ++ t ∷ []) u.answer) ++ ws)
-      (shares_after-push (u ∷ earlier) ts t)
-      ∙ ap (λ ws. ws ++ (map (with_user t) (shares_after (u ∷ earlier) ts) ++ last))
-      (sym (opened-push u t ts (is_open cmp earlier u) u.answer))
-      ∙ sym (append_assoc (map (with_user t) first) (map (with_user t) (shares_after (u ∷ earlier) ts)) last)
-      ∙ ap (λ ws. ws ++ last) (sym (map-append (with_user t) first (shares_after (u ∷ earlier) ts)))
+      search (rules, opened-push, append_assoc, map-append, shares_after-push (u ∷ earlier) ts t)
 
   module _ (o : IsTotalOrder cmp) where
     same_alike : (u t v : Ask P) → is_same cmp u t ≡ true → is_same cmp v u ≡ is_same cmp v t
-    same_alike u t v e =
-        same_symm cmp o v.subject u.subject ∙ same_congr cmp o u.subject t.subject v.subject e
-        ∙ same_symm cmp o t.subject v.subject
+    same_alike u t v e = search (rules, same_symm, same_congr)
 
     open_alike : (u t : Ask P) (earlier : List (Ask P)) → is_same cmp u t ≡ true
         → is_open cmp earlier u ≡ is_open cmp earlier t
     open_alike u t [] e = refl
-    open_alike u t (v ∷ earlier) e =
-        ap (λ b. is_some v.answer && b || is_open cmp earlier u) (same_alike u t v e)
-        ∙ ap (λ b. is_some v.answer && is_same cmp v t || b) (open_alike u t earlier e)
+    open_alike u t (v ∷ earlier) e = search (rules, same_alike, open_alike u t earlier e)
 
     bools : (r o' s m : Bool) → (s && m ≡ true → o' ≡ true) → (r || o') ≡ (r || (s && m || o'))
     bools true o' s m f = refl
@@ -166,9 +132,7 @@ module _ {P : Type 0} (cmp : P → P → Ordering) where
         → is_open cmp earlier u ≡ b
         → ((list_any (is_side_of t) (cond b [] (opened_share u ts answer)) || rest) || is_open cmp earlier t)
         ≡ (rest || ((is_some answer && is_same cmp u t) || is_open cmp earlier t))
-    first_is u t ts earlier rest true answer e =
-        bools rest (is_open cmp earlier t) (is_some answer) (is_same cmp u t)
-        (λ h. sym (open_alike u t earlier (second_of_both (is_some answer) (is_same cmp u t) h)) ∙ e)
+    first_is u t ts earlier rest true answer e = search (rules, bools, open_alike, second_of_both)
     first_is u t ts earlier rest false None e = refl
     first_is u t ts earlier rest false (Some cap) e = turn (is_same cmp u t) rest (is_open cmp earlier t)
 
@@ -176,18 +140,10 @@ module _ {P : Type 0} (cmp : P → P → Ordering) where
         → (list_any (is_side_of t) (shares_after earlier ts) || is_open cmp earlier t)
         ≡ is_open cmp (before ts earlier) t
     any_open earlier [] t = refl
-    any_open earlier (u ∷ ts) t =
-        ap (λ b. b || is_open cmp earlier t)
-        (list_any-append (is_side_of t) (cond (is_open cmp earlier u) [] (opened_share u ts u.answer))
-        (shares_after (u ∷ earlier) ts))
-        ∙ first_is u t ts earlier (list_any (is_side_of t) (shares_after (u ∷ earlier) ts)) (is_open cmp earlier u)
-        u.answer refl
-        ∙ any_open (u ∷ earlier) ts t
+    any_open earlier (u ∷ ts) t = search (rules, list_any-append, first_is, any_open (u ∷ earlier) ts t)
 
     -- one ask more
     pub shares_push : (ts : List (Ask P)) (t : Ask P)
         → shares_after [] (ts ++ t ∷ []) ≡ registered (shares_after [] ts) t
     shares_push ts t =
-        shares_after-push [] ts t
-        ∙ sym (ap (λ b. map (with_user t) (shares_after [] ts) ++ cond b [] (opened_share t [] t.answer))
-        (or_false (list_any (is_side_of t) (shares_after [] ts)) ∙ any_open [] ts t))
+        cc (shares_after-push [] ts t, or_false (list_any (is_side_of t) (shares_after [] ts)), any_open [] ts t)

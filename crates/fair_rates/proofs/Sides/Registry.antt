@@ -1,27 +1,20 @@
 -- What registering one ask does to the sides and to the numbers of their subjects.
-use Rattle.std.proofs.Common.{◌≡◌, ◌↔◌, ◌≢◌, ◌==◌, ℕ, suc, zero, ◌+◌, ◌<◌, Bool, true, false, cond, ◌||◌, ◌&&◌, List}
-use Rattle.std.proofs.Common.{[]}
-use Rattle.std.proofs.Common.{◌∷◌, Bor, ◌++◌, Option, Some, None, map, length, get_or, refl, sym, ap, ◌∙◌, arith, subst}
-use Rattle.std.proofs.Common.{⊎_elim, vec_len}
+use Rattle.fair_rates.proofs.Common.{◌≡◌, ◌↔◌, ◌≢◌, ℕ, suc, zero, ◌+◌, ◌<◌, Bool, true, false, cond, ◌&&◌, List, []}
+use Rattle.fair_rates.proofs.Common.{◌∷◌, ◌++◌, Option, Some, None, map, length, get_or, refl, sym, ap, ◌∙◌, arith}
+use Rattle.fair_rates.proofs.Common.{subst, ⊎_elim, append-nil, map-append, length-map, get_or-map, get_or_append_left}
+use Rattle.fair_rates.proofs.Common.{get_or_default, same_Some, eqb-true, cases_lt, is_some, list_any, IsTotalOrder}
+use Rattle.fair_rates.proofs.Common.{Ordering, Less, Equal, Greater, is_eq, side_of, Subject, Ask, same_peer}
+use Rattle.fair_rates.proofs.Common.{same_subject, sent_by, received_by, sent_between, number_of, IsRegistryOf}
+use Rattle.fair_rates.proofs.Common.{FindsSides, HasNumber, Registers, Registry, rules, common_steps}
+use Rattle.std.proofs.Common.{◌==◌, ◌||◌, Bor, vec_len}
 use Rattle.std.proofs.Math.ListN.{set}
-use Rattle.std.proofs.lemmas.List.{append-nil, map-append, map-set, length-set, length-map, same_lists, get_or-set_same}
-use Rattle.std.proofs.lemmas.List.{get_or-set_other, get_or-map, get_or_append_left, get_or_push, get_or_default}
+use Rattle.std.proofs.lemmas.List.{map-set, length-set, same_lists, get_or-set_same, get_or-set_other, get_or_push}
 use Rattle.std.proofs.lemmas.List.{length_push}
-use Rattle.std.proofs.lemmas.Option.{same_Some}
-use Rattle.std.proofs.lemmas.Bool.{eqb-true, eqb-false, cases_lt, false_from_ne_true as is_false, or_right}
-use Rattle.std.specs.Prelude.{is_some}
-use Rattle.std.specs.List.{list_any}
-use Rattle.std.specs.Cmp.{IsTotalOrder}
-use Rattle.std.specs.declared.cmp.Ordering.{Ordering}
-use Rattle.std.specs.declared.cmp.Ordering.TheVariants.{Less, Equal, Greater}
-use Rattle.std.specs.Ordering.{is_eq, ordering_then}
-use Rattle.fair_rates.specs.Sides.SideOf.{side_of}
-use Rattle.fair_rates.specs.Sides.Subjects.{Subject, Ask, same_peer, same_subject, sent_by, received_by, sent_between}
-use Rattle.fair_rates.specs.Sides.Registry.{subjects_after, number_of, IsNumberOf, AreRegistered}
-use Rattle.fair_rates.specs.Sides.Registry.{IsRegistryOf, IsInOrder, FindsSides, HasNumber, Registers}
+use Rattle.std.proofs.lemmas.Bool.{eqb-false, false_from_ne_true as is_false, or_right}
+use Rattle.std.specs.Ordering.{ordering_then}
+use Rattle.fair_rates.specs.Sides.Registry.{subjects_after, IsNumberOf, AreRegistered, IsInOrder}
 use Rattle.fair_rates.specs.Sides.Numbers.{number_in, HaveNone}
 use Rattle.fair_rates.specs.declared.bandwidth.numbers.Numbers.{Numbers}
-use Rattle.fair_rates.specs.declared.bandwidth.sides.Registry.{Registry}
 use Rattle.fair_rates.specs.declared.bandwidth.sides.Side as declared_side
 use Rattle.fair_rates.proofs.Sides.Numbers.{numbers_agree}
 use Rattle.fair_rates.proofs.Sides.Subjects.{same_symm, same_congr}
@@ -96,17 +89,14 @@ module _ {P : Type 0} (cmp : P → P → Ordering) (o : IsTotalOrder cmp) where
   subjects_kept : (t : Ask P) (ss : List (Share P))
       → map (λ s. s.subject) (map (with_user cmp t) ss) ≡ map (λ s. s.subject) ss
   subjects_kept t [] = refl
-  subjects_kept t (s ∷ ss) =
-      ap (λ u. u ∷ map (λ s. s.subject) (map (with_user cmp t) ss)) (user_kept t s (is_side_of cmp t s))
-      ∙ ap (λ us. s.subject ∷ us) (subjects_kept t ss)
+  subjects_kept t (s ∷ ss) = search (rules, user_kept, subjects_kept t ss)
 
   unchanged : (t : Ask P) (s : Share P) → is_side_of cmp t s ≡ false → with_user cmp t s ≡ s
   unchanged t s e = ap (λ b. cond b (record { subject = s.subject; cap = s.cap; users = s.users ++ t.place ∷ [] }) s) e
 
   changed : (t : Ask P) (s : Share P) → is_side_of cmp t s ≡ true
       → limit_of (with_user cmp t s) ≡ record { cap = s.cap; users = s.users ++ t.place ∷ [] }
-  changed t s e =
-      ap (λ b. limit_of (cond b (record { subject = s.subject; cap = s.cap; users = s.users ++ t.place ∷ [] }) s)) e
+  changed t s e = search rules
 
   -- the numbers, when one subject more stands at the end
   module _ (subjects : List (Subject P)) (number number' : Subject P → Option ℕ) (s : Subject P)
@@ -123,21 +113,16 @@ module _ {P : Type 0} (cmp : P → P → Ordering) (o : IsTotalOrder cmp) where
     found_then : (q : Subject P) (m : ℕ) (b : Bool) → same_subject cmp s q ≡ b
         → number' q ≡ Some m → IsNumberOf cmp more q m
     found_then q m true t e =
-        let last : length subjects ≡ m =
-        same_Some (length subjects) m (sym (are' q ∙ ap (λ b. cond b (Some (length subjects)) (number q)) t) ∙ e) in
+        let last : length subjects ≡ m = search (rules, same_Some) in
         record {
           within = omega (arith, longer, last);
-          same = λ u.
-              ap (same_subject cmp q) (get_or_push subjects s u m last)
-              ∙ same_symm cmp o q s ∙ t;
+          same = search (rules, get_or_push, same_symm);
         }
     found_then q m false t e =
         let i = (are q m).0 (sym (are' q ∙ ap (λ b. cond b (Some (length subjects)) (number q)) t) ∙ e) in
         record {
           within = omega (arith, longer, i.within);
-          same = λ u.
-              ap (same_subject cmp q) (get_or_append_left subjects (s ∷ []) u m i.within)
-              ∙ i.same u;
+          same = search (rules, get_or_append_left);
         }
 
     apart_from : (q : Subject P) (m : ℕ) → IsNumberOf cmp subjects q m
@@ -154,21 +139,12 @@ module _ {P : Type 0} (cmp : P → P → Ordering) (o : IsTotalOrder cmp) where
     at_old : (q : Subject P) (m : ℕ) → IsNumberOf cmp more q m → m < length subjects
         → number' q ≡ Some m
     at_old q m i below =
-        let was : IsNumberOf cmp subjects q m = record {
-          within = below;
-          same = λ u.
-              ap (same_subject cmp q) (sym (get_or_append_left subjects (s ∷ []) u m below))
-              ∙ i.same u;
-        } in
+        let was : IsNumberOf cmp subjects q m = search (rules, get_or_append_left) in
         are' q ∙ ap (λ b. cond b (Some (length subjects)) (number q)) (apart_from q m was) ∙ (are q m).1 was
 
     at_last : (q : Subject P) (m : ℕ) → IsNumberOf cmp more q m → length subjects ≡ m
         → number' q ≡ Some m
-    at_last q m i last =
-        let t : same_subject cmp s q ≡ true = same_symm cmp o s q
-        ∙ ap (same_subject cmp q) (sym (get_or_push subjects s s m last))
-        ∙ i.same s in
-        are' q ∙ ap (λ b. cond b (Some (length subjects)) (number q)) t ∙ ap Some last
+    at_last q m i last = grind (arith, common_steps, same_symm cmp o s q, get_or_push subjects s s m last)
 
     numbers_push : (q : Subject P) (m : ℕ) → (number' q ≡ Some m) ↔ IsNumberOf cmp more q m
     numbers_push q m = (
@@ -195,9 +171,7 @@ module _ {P : Type 0} (cmp : P → P → Ordering) (o : IsTotalOrder cmp) where
     as_many_subjects = ap length (sym (subjects_are cmp [] asks)) ∙ length-map shares (λ t. t.subject)
 
     subject_at : (n : ℕ) (d : Share P) → n < length shares → get_or subjects n d.subject ≡ (get_or shares n d).subject
-    subject_at n d i =
-        ap (λ ss. get_or ss n d.subject) (sym (subjects_are cmp [] asks))
-        ∙ get_or-map (λ t. t.subject) shares n d d.subject i
+    subject_at n d i = grind (arith, common_steps, subjects_are cmp [] asks, get_or-map)
 
     -- a number that is found is that of a side
     pub in_range : (s : Subject P) (n : ℕ) → number s ≡ Some n → n < length sides
@@ -240,12 +214,7 @@ module _ {P : Type 0} (cmp : P → P → Ordering) (o : IsTotalOrder cmp) where
           → shares_after cmp [] (asks ++ ask place s answer ∷ [])
           ≡ map (with_user cmp (ask place s answer)) shares
           ++ cond b [] (opened_share cmp (ask place s answer) [] answer)
-      become answer b e =
-          shares_push cmp o asks (ask place s answer)
-          ∙ ap
-          (λ b. map (with_user cmp (ask place s answer)) shares
-          ++ cond b [] (opened_share cmp (ask place s answer) [] answer))
-          e
+      become answer b e = search (rules, shares_push)
 
       -- the side has come into being: it gets one user more
       pub found : (answer : Option ℕ) (n : ℕ) (old new : declared_side.Side) (sides' : List declared_side.Side)
@@ -262,11 +231,7 @@ module _ {P : Type 0} (cmp : P → P → Ordering) (o : IsTotalOrder cmp) where
           ∙ append-nil (map (with_user cmp t) shares) in
           let others : (k : ℕ) → k < length shares → k ≢ n
           → with_user cmp t (get_or shares k nobody) ≡ get_or shares k nobody =
-          λ k l apart.
-          unchanged t (get_or shares k nobody)
-          (is_false _
-          (λ same. let m : number s ≡ Some k = number_at s k nobody l same in
-          apart (same_Some k n (sym m ∙ e)))) in
+              search (rules, unchanged, nobody, is_false, number_at, same_Some) in
           let stay : subjects_after cmp [] asks ≡ subjects_after cmp [] (asks ++ t ∷ []) =
           sym (subjects_are cmp [] asks) ∙ sym (subjects_kept t shares) ∙ ap (map (λ u. u.subject)) (sym are)
           ∙ subjects_are cmp [] (asks ++ t ∷ []) in
@@ -355,20 +320,7 @@ finds_sides cmp o asks registry h = record {
 pub finds_more : {P : Type 0} (cmp : P → P → Ordering) (old new : Registry P) (s : Subject P) (n : ℕ)
     → HasNumber cmp s n old new → n ≡ vec_len old.sides → vec_len new.sides ≡ vec_len old.sides + 1
     → IsInOrder cmp new → FindsSides cmp old → FindsSides cmp new
-finds_more {P} cmp old new s n has last more order finds = record {
-  within = λ q m e. within q m e (same_subject cmp s q) refl;
-  order = order;
-}
-  where
-    within : (q : Subject P) (m : ℕ) → number_of cmp new q ≡ Some m → (b : Bool) → same_subject cmp s q ≡ b
-        → m < vec_len new.sides
-    within q m e true same =
-        let it : n ≡ m = same_Some n m (sym (has q ∙ ap (λ b. cond b (Some n) (number_of cmp old q)) same) ∙ e) in
-        omega arith
-    within q m e false apart =
-        let it : m < vec_len old.sides =
-        finds.within q m (sym (has q ∙ ap (λ b. cond b (Some n) (number_of cmp old q)) apart) ∙ e) in
-        omega arith
+finds_more {P} cmp old new s n has last more order finds = search (rules, same_Some)
 
 none_from : (answer : Option ℕ) → is_some answer ≡ false → answer ≡ None
 none_from None e = refl
@@ -395,10 +347,8 @@ module _ {P : Type 0} (cmp : P → P → Ordering) (n : ℕ) (old new : Registry
       ≡ cond (same_peer cmp p q) (Some n) (number_of cmp old (sent_by q)))
       → HasNumber cmp (sent_by p) n old new
   sender_numbered p receivers links has (sent_by q) = has q
-  sender_numbered p receivers links has (received_by q) =
-      ap (number_in (λ other. same_peer cmp q other.now)) receivers
-  sender_numbered p receivers links has (sent_between q r) =
-      ap (number_in (λ other. same_peer cmp q other.0.now && same_peer cmp r other.1.now)) links
+  sender_numbered p receivers links has (received_by q) = search rules
+  sender_numbered p receivers links has (sent_between q r) = search rules
 
   pub receiver_numbered : (p : P) → new.senders ≡ old.senders → new.links ≡ old.links
       → ((q : P) → number_of cmp new (received_by q)
@@ -406,16 +356,14 @@ module _ {P : Type 0} (cmp : P → P → Ordering) (n : ℕ) (old new : Registry
       → HasNumber cmp (received_by p) n old new
   receiver_numbered p senders links has (sent_by q) = ap (number_in (λ other. same_peer cmp q other.now)) senders
   receiver_numbered p senders links has (received_by q) = has q
-  receiver_numbered p senders links has (sent_between q r) =
-      ap (number_in (λ other. same_peer cmp q other.0.now && same_peer cmp r other.1.now)) links
+  receiver_numbered p senders links has (sent_between q r) = search rules
 
   pub link_numbered : (o p : P) → new.senders ≡ old.senders → new.receivers ≡ old.receivers
       → ((q r : P) → number_of cmp new (sent_between q r)
       ≡ cond (same_peer cmp o q && same_peer cmp p r) (Some n) (number_of cmp old (sent_between q r)))
       → HasNumber cmp (sent_between o p) n old new
   link_numbered o p senders receivers has (sent_by q) = ap (number_in (λ other. same_peer cmp q other.now)) senders
-  link_numbered o p senders receivers has (received_by q) =
-      ap (number_in (λ other. same_peer cmp q other.now)) receivers
+  link_numbered o p senders receivers has (received_by q) = search rules
   link_numbered o p senders receivers has (sent_between q r) = has q r
 
 both_same : (a b : Ordering) → is_eq (ordering_then a b) ≡ (is_eq a && is_eq b)
@@ -437,8 +385,4 @@ pub by_both : {P : Type 0} (cmp : P → P → Ordering) (n : ℕ) (o p q r : P) 
     → number_in (λ other. same_peer cmp q other.0.now && same_peer cmp r other.1.now) new
     ≡ cond (same_peer cmp o q && same_peer cmp p r) (Some n)
     (number_in (λ other. same_peer cmp q other.0.now && same_peer cmp r other.1.now) old)
-by_both cmp n o p q r old new has =
-    sym (link_is cmp q r new) ∙ has
-    ∙ ap (λ b. cond b (Some n) (number_in (λ other. is_eq (ordering_then (cmp q other.0.now) (cmp r other.1.now))) old))
-    (both_same (cmp o q) (cmp p r))
-    ∙ ap (cond (same_peer cmp o q && same_peer cmp p r) (Some n)) (link_is cmp q r old)
+by_both cmp n o p q r old new has = search (rules, link_is, both_same)

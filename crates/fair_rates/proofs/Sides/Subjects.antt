@@ -1,11 +1,9 @@
 -- That two subjects are one is an equivalence.
-use Rattle.std.proofs.Common.{◌≡◌, true, ◌&&◌, refl, ap, ◌∙◌}
-use Rattle.std.specs.declared.cmp.Ordering.TheVariants.{Less, Equal, Greater}
-use Rattle.std.specs.Ordering.{is_eq, ordering_reverse}
-use Rattle.std.specs.Cmp.{IsTotalOrder, eq_by_cmp_equiv}
-use Rattle.std.specs.declared.cmp.Ordering.{Ordering}
+use Rattle.fair_rates.proofs.Common.{◌≡◌, true, refl, ap, ◌∙◌, Less, Equal, Greater, is_eq, IsTotalOrder, Ordering}
+use Rattle.fair_rates.proofs.Common.{Subject, sent_by, received_by, sent_between, same_peer, same_subject, rules}
+use Rattle.std.specs.Ordering.{ordering_reverse}
+use Rattle.std.specs.Cmp.{eq_by_cmp_equiv}
 use Rattle.fair_rates.proofs.Lists.Booleans.{first_of_both, second_of_both}
-use Rattle.fair_rates.specs.Sides.Subjects.{Subject, sent_by, received_by, sent_between, same_peer, same_subject}
 
 reversed : (o : Ordering) → is_eq (ordering_reverse o) ≡ is_eq o
 reversed Less = refl
@@ -22,8 +20,7 @@ module _ {P : Type 0} (cmp : P → P → Ordering) (o : IsTotalOrder cmp) where
   pub same_symm : (s t : Subject P) → same_subject cmp s t ≡ same_subject cmp t s
   same_symm (sent_by p) (sent_by q) = peer_sym p q
   same_symm (received_by p) (received_by q) = peer_sym p q
-  same_symm (sent_between p q) (sent_between r s) =
-      ap (λ b. b && same_peer cmp q s) (peer_sym p r) ∙ ap (λ b. same_peer cmp r p && b) (peer_sym q s)
+  same_symm (sent_between p q) (sent_between r s) = search (rules, peer_sym)
   same_symm s t = refl
 
   pub same_congr : (s t u : Subject P) → same_subject cmp s t ≡ true → same_subject cmp s u ≡ same_subject cmp t u
@@ -32,13 +29,11 @@ module _ {P : Type 0} (cmp : P → P → Ordering) (o : IsTotalOrder cmp) where
   same_congr (received_by p) (received_by q) (received_by r) e = peer_congr p q r e
   same_congr (received_by p) (received_by q) u e = refl
   same_congr (sent_between p q) (sent_between r s) (sent_between x y) e =
-      ap (λ b. b && same_peer cmp q y) (peer_congr p r x (first_of_both (same_peer cmp p r) (same_peer cmp q s) e))
-      ∙ ap (λ b. same_peer cmp r x && b) (peer_congr q s y (second_of_both (same_peer cmp p r) (same_peer cmp q s) e))
+      search (rules, peer_congr, first_of_both, second_of_both)
   same_congr (sent_between p q) (sent_between r s) u e = refl
   same_congr s t u e = cc e
 
   pub same_itself : (s : Subject P) → same_subject cmp s s ≡ true
   same_itself (sent_by p) = (eq_by_cmp_equiv o).refl p
   same_itself (received_by p) = (eq_by_cmp_equiv o).refl p
-  same_itself (sent_between p q) =
-      ap (λ b. b && same_peer cmp q q) ((eq_by_cmp_equiv o).refl p) ∙ (eq_by_cmp_equiv o).refl q
+  same_itself (sent_between p q) = search rules

@@ -1,9 +1,9 @@
 -- How many different users a side may have, of so many flows.
-use Rattle.std.proofs.Common.{◌≡◌, ◌≢◌, ℕ, zero, suc, ◌+◌, ◌-◌, ◌<◌, ◌≤◌, cond, eqb, List, [], ◌∷◌, length, All}
-use Rattle.std.proofs.Common.{AllPairs, sum_by, inl, inr, refl, sym, ap, arith}
-use Rattle.std.proofs.lemmas.Bool.{cases_eq, cases_lt, eq-eqb, ne_eqb}
-use Rattle.std.proofs.lemmas.List.Elements.{All-head, All-tail}
-use Rattle.std.proofs.lemmas.List.Sums.{sum_by-cons}
+use Rattle.fair_rates.proofs.Common.{◌≡◌, ◌≢◌, ℕ, zero, suc, ◌+◌, ◌-◌, ◌<◌, ◌≤◌, cond, List, [], ◌∷◌, length, All}
+use Rattle.fair_rates.proofs.Common.{AllPairs, sum_by, inl, inr, refl, sym, ap, arith, cases_eq, cases_lt, eq-eqb}
+use Rattle.fair_rates.proofs.Common.{All-head, All-tail, sum_by-cons}
+use Rattle.std.proofs.Common.{eqb}
+use Rattle.std.proofs.lemmas.Bool.{ne_eqb}
 use Rattle.fair_rates.proofs.Lists.Sums.{sum_by_same}
 pub use Rattle.fair_rates.specs.Fairness.Exists.{HaveDistinctUsers}
 

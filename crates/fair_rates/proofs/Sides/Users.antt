@@ -1,18 +1,12 @@
 -- The users of a side are places in the list of flows, each above those before it.
-use Rattle.std.proofs.Common.{◌≡◌, ℕ, ◌+◌, ◌<◌, ◌≤◌, Bool, true, false, cond, List, [], ◌∷◌, ◌++◌, Option, Some, None}
-use Rattle.std.proofs.Common.{length, get_or, map, refl, sym, ◌∙◌, arith, subst}
+use Rattle.fair_rates.proofs.Common.{◌≡◌, ℕ, ◌+◌, ◌<◌, ◌≤◌, Bool, true, false, cond, List, [], ◌∷◌, ◌++◌, Option, Some}
+use Rattle.fair_rates.proofs.Common.{None, length, get_or, map, refl, sym, ◌∙◌, arith, filter, All-nil, All-cons}
+use Rattle.fair_rates.proofs.Common.{All-append, All-weaker, All-map, All-head, All-tail, IsTotalOrder, Ordering}
+use Rattle.fair_rates.proofs.Common.{side_of, get_or-map, length-map, Answered, Ask, asks_of_one, asks_from, is_same}
+use Rattle.fair_rates.proofs.Common.{is_open, opened, sides_after, sides_of, rules, common_steps}
 use Rattle.std.specs.Prelude.{All}
-use Rattle.std.specs.List.{filter}
-use Rattle.std.proofs.lemmas.List.Elements.{All-nil, All-cons, All-append, All-weaker, All-filter, All-map, All-head}
-use Rattle.std.proofs.lemmas.List.Elements.{All-tail, filter_passes}
-use Rattle.std.specs.Cmp.{IsTotalOrder}
-use Rattle.std.specs.declared.cmp.Ordering.{Ordering}
-use Rattle.fair_rates.specs.Sides.SideOf.{side_of}
+use Rattle.std.proofs.lemmas.List.Elements.{All-filter, filter_passes}
 use Rattle.fair_rates.specs.declared.bandwidth.sides.Side as declared_side
-use Rattle.std.proofs.lemmas.List.{get_or-map, length-map}
-use Rattle.fair_rates.specs.Sides.Answers.{Answered}
-use Rattle.fair_rates.specs.Sides.Subjects.{Ask, sent_by, received_by, sent_between, asks_of_one, asks_from, is_same}
-use Rattle.fair_rates.specs.Sides.Subjects.{is_open, opened, sides_after, sides_of}
 use Rattle.fair_rates.proofs.Lists.AllPairs.{EachLater}
 use Rattle.fair_rates.proofs.Sides.Subjects.{same_congr}
 
@@ -44,73 +38,21 @@ module _ {P : Type 0} (cmp : P → P → Ordering) where
 
   -- the asks of one flow are for different sides
   one_in_order : (n : ℕ) (a : Answered P) → InOrder (asks_of_one n a)
-  one_in_order n a = by a.flow.delivered
-    where
-      egress : Ask P
-      egress = record { place = n; subject = sent_by a.flow.origin; answer = a.egress }
-
-      ingress : Ask P
-      ingress = record { place = n; subject = received_by a.flow.recipient; answer = a.ingress }
-
-      link : Ask P
-      link = record { place = n; subject = sent_between a.flow.origin a.flow.recipient; answer = a.link }
-
-      after : Ask P → Ask P → Type 0
-      after x y = is_same cmp x y ≡ true → x.place < y.place
-
-      by : (b : Bool) → InOrder (egress ∷ [] ++ cond b (ingress ∷ []) [] ++ link ∷ [])
-      by true = (
-        All-cons (after egress) ingress (link ∷ []) (λ e. cc e)
-            (All-cons (after egress) link [] (λ e. cc e) (All-nil (after egress))),
-        (All-cons (after ingress) link [] (λ e. cc e) (All-nil (after ingress)), (All-nil (after link), tt)),
-      )
-      by false = (All-cons (after egress) link [] (λ e. cc e) (All-nil (after egress)), (All-nil (after link), tt))
+  one_in_order n a = search (rules, All-cons, All-nil)
 
   places_of_one : (n : ℕ) (a : Answered P) → All (λ x. (n ≤ x.place) × (x.place < n + 1)) (asks_of_one n a)
-  places_of_one n a = by a.flow.delivered
-    where
-      here : Ask P → Type 0
-      here x = (n ≤ x.place) × (x.place < n + 1)
-
-      egress : Ask P
-      egress = record { place = n; subject = sent_by a.flow.origin; answer = a.egress }
-
-      ingress : Ask P
-      ingress = record { place = n; subject = received_by a.flow.recipient; answer = a.ingress }
-
-      link : Ask P
-      link = record { place = n; subject = sent_between a.flow.origin a.flow.recipient; answer = a.link }
-
-      by : (b : Bool) → All here (egress ∷ [] ++ cond b (ingress ∷ []) [] ++ link ∷ [])
-      by true =
-          All-cons here egress (ingress ∷ link ∷ []) (omega arith, omega arith)
-          (All-cons here ingress (link ∷ []) (omega arith, omega arith)
-          (All-cons here link [] (omega arith, omega arith) (All-nil here)))
-      by false =
-          All-cons here egress (link ∷ []) (omega arith, omega arith)
-          (All-cons here link [] (omega arith, omega arith) (All-nil here))
+  places_of_one n a = search (rules, All-cons, All-nil)
 
   pub places_from : (n : ℕ) (answered : List (Answered P))
       → All (λ x. (n ≤ x.place) × (x.place < n + length answered)) (asks_from n answered)
   places_from n [] = All-nil (λ x. (n ≤ x.place) × (x.place < n + 0))
-  places_from n (a ∷ answered) =
-      All-append (λ x. (n ≤ x.place) × (x.place < n + length (a ∷ answered))) (asks_of_one n a)
-      (asks_from (n + 1) answered)
-      (All-weaker (λ x. (n ≤ x.place) × (x.place < n + 1)) (λ x. (n ≤ x.place) × (x.place < n + length (a ∷ answered)))
-      (λ x h. (h.0, omega arith)) (asks_of_one n a) (places_of_one n a))
-      (All-weaker (λ x. (n + 1 ≤ x.place) × (x.place < n + 1 + length answered))
-      (λ x. (n ≤ x.place) × (x.place < n + length (a ∷ answered))) (λ x h. (omega arith, omega arith))
-      (asks_from (n + 1) answered) (places_from (n + 1) answered))
+  places_from n (a ∷ answered) = search (rules, All-append, All-weaker, places_of_one, places_from (n + 1) answered)
 
   pub asks_in_order : (n : ℕ) (answered : List (Answered P)) → InOrder (asks_from n answered)
   asks_in_order n [] = tt
   asks_in_order n (a ∷ answered) =
-      InOrder-append (asks_of_one n a) (asks_from (n + 1) answered) (one_in_order n a) (asks_in_order (n + 1) answered)
-      (n + 1)
-      (All-weaker (λ x. (n ≤ x.place) × (x.place < n + 1)) (λ x. x.place < n + 1) (λ x h. h.1) (asks_of_one n a)
-      (places_of_one n a))
-      (All-weaker (λ x. (n + 1 ≤ x.place) × (x.place < n + 1 + length answered)) (λ x. n + 1 ≤ x.place) (λ x h. h.0)
-      (asks_from (n + 1) answered) (places_from (n + 1) answered))
+      search (rules, InOrder-append, one_in_order, All-weaker, places_of_one, places_from,
+      asks_in_order (n + 1) answered)
 
   module _ (o : IsTotalOrder cmp) where
     same_too : (a b c : Ask P) → is_same cmp a b ≡ true → is_same cmp a c ≡ true → is_same cmp b c ≡ true
@@ -174,8 +116,5 @@ module _ {P : Type 0} (cmp : P → P → Ordering) where
         → map side_of sides ≡ sides_of cmp answered
         → All (λ side. Rises side.users.items × All (λ flow. flow < length answered) side.users.items) sides
     users_of answered sides e k d within =
-        let h =
-        subst (All (λ side. Rises side.users × All (λ flow. flow < length answered) side.users)) (sym e)
-        (users_rise answered) in
-        subst (λ side. Rises side.users × All (λ flow. flow < length answered) side.users)
-        (get_or-map side_of sides k d (side_of d) within) (h k (side_of d) (omega (arith, length-map sides side_of)))
+        grind (arith, common_steps, users_rise answered, get_or-map side_of sides k d (side_of d) within,
+        length-map sides side_of)

@@ -1,19 +1,16 @@
 -- What is allocated on the sides of the links is what is promised, and so is what is refused.
-use Rattle.std.proofs.Common.{◌≡◌, ℕ, zero, suc, ◌^◌, ◌<◌, ◌≤◌, List, [], ◌∷◌, length, map, get_or, All, Contains, Option, Some, None, inl, inr, sym, ap}
-use Rattle.std.proofs.Common.{subst, arith}
-use Rattle.std.proofs.lemmas.List.{length-map}
-use Rattle.fair_rates.specs.Fairness.Fair.{Side}
-use Rattle.fair_rates.specs.Fairness.Rates.{AreFairRates, HasDifferentRates}
+use Rattle.fair_routes.proofs.Common.{◌≡◌, ℕ, zero, suc, ◌^◌, ◌<◌, ◌≤◌, List, [], ◌∷◌, length, map, get_or, All}
+use Rattle.fair_routes.proofs.Common.{Contains, Option, Some, None, inl, inr, sym, ap, subst, arith, length-map, Side}
+use Rattle.fair_routes.proofs.Common.{AreFairRates, Rate, sides_over, AreListed, common_steps}
+use Rattle.fair_rates.specs.Fairness.Rates.{HasDifferentRates}
 use Rattle.fair_rates.specs.Refusals.TooLarge.{HasLargeRate}
 use Rattle.fair_rates.specs.Sides.SideOf.{side_of}
-use Rattle.fair_rates.specs.declared.bandwidth.Rate.{Rate}
 use Rattle.fair_rates.specs.declared.bandwidth.sides.Side as declared
 use Rattle.fair_rates.proofs.Fairness.Allocation.{the_allocation}
 use Rattle.fair_rates.proofs.Fairness.MappedSides.{all_unmapped}
 use Rattle.fair_rates.proofs.Refusals.Fitting.{large_does_not_fit}
 use Rattle.fair_rates.proofs.Refusals.Promise.{twelfths, whole_of_sixteen, too_many_or_large}
 use Rattle.fair_routes.specs.Network.Allocation.{IsAllocated, IsCounted, HasLargeCap, AreTooLarge}
-use Rattle.fair_routes.specs.Network.Sides.{sides_over, AreListed}
 use Rattle.fair_routes.proofs.Network.LinkSides.{link_side, users_are_flows, users_are_distinct}
 
 -- the users of sides, however they are kept, are flows
@@ -63,9 +60,7 @@ module _ (caps : List (Option ℕ)) (routes : List (List ℕ)) (listed : AreList
 
   -- a cap of a side is that of a link
   large_cap : (side : Side) → Contains (sides_over caps routes) side → 2 ^ 64 ≤ side.cap → HasLargeCap caps
-  large_cap side has large =
-      let of = link_side caps routes side has in
-      (side.cap, capped caps of.link side.cap of.capped, large)
+  large_cap side has large = grind (arith, common_steps, link_side caps routes side has, capped)
 
   pub too_large : (sides : List declared.Side) → map side_of sides ≡ sides_over caps routes
       → HasLargeRate (map side_of sides) → AreTooLarge caps routes

@@ -1,19 +1,12 @@
 -- A flow alone.
-use Rattle.std.proofs.Common.{◌≡◌, ℕ, ◌*◌, ◌<◌, ◌≤◌, List, [], ◌∷◌, Bool, true, false, cond, Option, Some, None, get_or}
-use Rattle.std.proofs.Common.{Contains, sum_by, refl, sym, ap, ◌∙◌, inl, inr, arith}
-use Rattle.std.specs.Prelude.{◌||◌}
-use Rattle.std.proofs.Math.Nat.{eq_of_mul-eq-mul_right, le_of_mul-le-mul_right}
-use Rattle.std.proofs.lemmas.List.Elements.{All-contains}
-use Rattle.std.proofs.lemmas.List.Sums.{sum_by-cons}
-use Rattle.fair_rates.specs.Fairness.Fair.{Side, load, IsLimited, IsFair}
-use Rattle.fair_rates.specs.Fairness.Rates.{IsRateOf}
+use Rattle.std.proofs.Common.{rules}
+use Rattle.fair_routes.proofs.Common.{◌≡◌, ℕ, ◌*◌, ◌<◌, ◌≤◌, List, [], ◌∷◌, Bool, true, false, cond, Option, Some, None}
+use Rattle.fair_routes.proofs.Common.{get_or, Contains, sum_by, refl, sym, ap, ◌∙◌, arith, ◌||◌, eq_of_mul-eq-mul_right}
+use Rattle.fair_routes.proofs.Common.{All-contains, sum_by-cons, Side, IsLimited, IsFair, IsRateOf, Rate, Unlimited}
+use Rattle.fair_routes.proofs.Common.{Finite, Ratio, none_or_some, has_link, sides_over, common_steps}
+use Rattle.std.proofs.Math.Nat.{le_of_mul-le-mul_right}
 use Rattle.fair_rates.specs.Numbers.Ratio.{IsWorth}
-use Rattle.fair_rates.specs.declared.bandwidth.Rate.{Rate}
-use Rattle.fair_rates.specs.declared.bandwidth.Rate.TheVariants.{Unlimited, Finite}
-use Rattle.fair_rates.specs.declared.ratio.Ratio.{Ratio}
-use Rattle.fair_rates.proofs.Filling.Frozen.{none_or_some}
 use Rattle.fair_routes.specs.Network.Laws.{IsLeastCap, IsLeastOfCaps, AloneIsTheLeastCap}
-use Rattle.fair_routes.specs.Network.Sides.{has_link, sides_over}
 use Rattle.fair_routes.proofs.Network.LinkSides.{link_side, side_listed}
 
 module _ (caps : List (Option ℕ)) (route : List ℕ) where
@@ -23,19 +16,10 @@ module _ (caps : List (Option ℕ)) (route : List ℕ) where
   -- a link of the route with a cap makes a side
   own : (link cap : ℕ) → has_link link route ≡ true → get_or caps link None ≡ Some cap
       → Contains sides (record { cap = cap; users = 0 ∷ [] })
-  own link cap on capped =
-      side_listed caps (route ∷ []) (record { cap = cap; users = 0 ∷ [] }) (record {
-        link = link;
-        capped = capped;
-        used = rw on refl;
-        users = rw on refl;
-      })
+  own link cap on capped = search (rules, side_listed)
 
   limited : (link cap : ℕ) → has_link link route ≡ true → get_or caps link None ≡ Some cap → IsLimited sides 0
-  limited link cap on capped = (
-    record { cap = cap; users = 0 ∷ [] },
-    record { listed = own link cap on capped; used = (0, omega arith, refl) },
-  )
+  limited link cap on capped = search (rules, own)
 
   -- the flow uses the link of a side
   on_route : (link : ℕ) (test : Bool) → has_link link route ≡ test → (cond test true false || false) ≡ true → test ≡ true
@@ -47,11 +31,7 @@ module _ (caps : List (Option ℕ)) (route : List ℕ) where
 
   module _ (per : ℕ) (parts : ℕ → ℕ) (fair : IsFair sides per parts) where
     at_most : (link more : ℕ) → has_link link route ≡ true → get_or caps link None ≡ Some more → parts 0 ≤ more * per
-    at_most link more on capped =
-        let small =
-        All-contains (λ (s : Side). load parts s ≤ s.cap * per) sides (record { cap = more; users = 0 ∷ [] }) fair.within
-        (own link more on capped) in
-        omega (arith, small, load_one parts)
+    at_most link more on capped = search (rules, All-contains, own, load_one)
 
     least : (ratio : Ratio) → IsLimited sides 0 → IsWorth ratio (record { num = parts 0; den = per })
         → (cap : ℕ) × IsLeastCap caps route cap × IsWorth ratio (record { num = cap; den = 1 })
@@ -91,12 +71,8 @@ module _ (caps : List (Option ℕ)) (route : List ℕ) where
 
   by_rate : (per : ℕ) (parts : ℕ → ℕ) → IsFair sides per parts → (rate : Rate) → IsRateOf sides per parts 0 rate
       → IsLeastOfCaps caps route rate
-  by_rate per parts fair Unlimited none = λ link on. elim (none_or_some (get_or caps link None)) [
-    | inl is ↦ is
-    | inr (cap, is) ↦ absurd (none (limited link cap on is))
-  ]
+  by_rate per parts fair Unlimited none = grind (arith, common_steps, none_or_some, limited)
   by_rate per parts fair (Finite ratio) (some, worth) = least per parts fair ratio some worth
 
 pub a_flow_alone_has_the_least_cap : AloneIsTheLeastCap
-a_flow_alone_has_the_least_cap caps route rate fair =
-    by_rate caps route fair.per fair.parts fair.fair rate (fair.rated 0 rate (omega arith))
+a_flow_alone_has_the_least_cap caps route rate fair = search (rules, by_rate)

@@ -1,19 +1,16 @@
 -- A part of the flows that uses no link together with the rest.
-use Rattle.std.proofs.Common.{◌≡◌, ℕ, suc, ◌+◌, ◌<◌, List, [], ◌∷◌, ◌++◌, Bool, true, false, cond, Option, Some, None}
-use Rattle.std.proofs.Common.{map, length, take, All, ◌⊎◌, inl, inr, refl, sym, ap, ◌∙◌, subst, arith}
-use Rattle.std.specs.Prelude.{◌||◌}
-use Rattle.std.specs.List.{filter, list_any}
-use Rattle.std.proofs.lemmas.List.{append_assoc, length-map}
-use Rattle.std.proofs.lemmas.List.Elements.{All-contains}
-use Rattle.std.proofs.lemmas.List.Sums.{sum_by-cons}
-use Rattle.fair_rates.specs.Fairness.Fair.{Side}
+use Rattle.std.proofs.Common.{rules}
+use Rattle.fair_routes.proofs.Common.{◌≡◌, ℕ, suc, ◌+◌, ◌<◌, List, [], ◌∷◌, ◌++◌, Bool, true, false, cond, Option, Some}
+use Rattle.fair_routes.proofs.Common.{None, map, length, take, All, ◌⊎◌, inl, inr, refl, sym, ap, ◌∙◌, subst, arith}
+use Rattle.fair_routes.proofs.Common.{list_any, length-map, All-contains, sum_by-cons, Side, AreFairRates, places_from}
+use Rattle.fair_routes.proofs.Common.{In, in_left, in_right, contains_from_in, any_passes, has_link, users_of}
+use Rattle.fair_routes.proofs.Common.{side_of_link, sides_from, sides_over, common_steps}
+use Rattle.std.specs.List.{filter}
+use Rattle.std.proofs.lemmas.List.{append_assoc}
 use Rattle.fair_rates.specs.Fairness.Part.{flagged, is_in, place_in, sides_in}
-use Rattle.fair_rates.specs.Fairness.Rates.{AreFairRates}
-use Rattle.fair_rates.specs.Lists.Places.{places_from}
 use Rattle.fair_rates.proofs.Fairness.Apart.{flows_apart_are_fair}
-use Rattle.fair_rates.proofs.Lists.Members.{In, in_left, in_right, contains_from_in, any_passes, any_fails}
+use Rattle.fair_rates.proofs.Lists.Members.{any_fails}
 use Rattle.fair_routes.specs.Network.Laws.{RoutesApartAreFair}
-use Rattle.fair_routes.specs.Network.Sides.{has_link, users_of, side_of_link, sides_from, sides_over}
 use Rattle.fair_routes.proofs.Network.Sides.{some_user, no_user}
 
 -- ---- places behind the first
@@ -25,38 +22,17 @@ place_in-suc flag flags i = sum_by-cons (λ b. cond b 1 0) flag (take i flags)
 no_places : {X : Type 0} (place : ℕ) (test : X → Bool) (xs : List X) → list_any test xs ≡ false
     → places_from place test xs ≡ []
 no_places place test [] none = refl
-no_places {X} place test (x ∷ xs) none = by_test (test x) none (no_places (place + 1) test xs)
-  where
-    by_test : (b : Bool) → (b || list_any test xs) ≡ false
-        → (list_any test xs ≡ false → places_from (place + 1) test xs ≡ [])
-        → cond b (place ∷ places_from (place + 1) test xs) (places_from (place + 1) test xs) ≡ []
-    by_test true h ih = cc
-    by_test false h ih = ih h
+no_places {X} place test (x ∷ xs) none = search (rules, no_places (place + 1) test xs)
 
 used_places : {X : Type 0} (place : ℕ) (test : X → Bool) (xs : List X) → list_any test xs ≡ true
     → 0 < length (places_from place test xs)
 used_places place test [] some = cc
-used_places {X} place test (x ∷ xs) some = by_test (test x) some (used_places (place + 1) test xs)
-  where
-    by_test : (b : Bool) → (b || list_any test xs) ≡ true
-        → (list_any test xs ≡ true → 0 < length (places_from (place + 1) test xs))
-        → 0 < length (cond b (place ∷ places_from (place + 1) test xs) (places_from (place + 1) test xs))
-    by_test true h ih = omega arith
-    by_test false h ih = ih h
+used_places {X} place test (x ∷ xs) some = search (rules, used_places (place + 1) test xs)
 
 places-suc : {X : Type 0} (place : ℕ) (test : X → Bool) (xs : List X)
     → places_from (place + 1) test xs ≡ map suc (places_from place test xs)
 places-suc place test [] = refl
-places-suc {X} place test (x ∷ xs) = by_test (test x) (places-suc (place + 1) test xs)
-  where
-    next : place + 1 ≡ suc place
-    next = omega arith
-
-    by_test : (b : Bool) → places_from (place + 1 + 1) test xs ≡ map suc (places_from (place + 1) test xs)
-        → cond b ((place + 1) ∷ places_from (place + 1 + 1) test xs) (places_from (place + 1 + 1) test xs)
-        ≡ map suc (cond b (place ∷ places_from (place + 1) test xs) (places_from (place + 1) test xs))
-    by_test true ih = ap (λ n. n ∷ places_from (place + 1 + 1) test xs) next ∙ ap (λ ns. suc place ∷ ns) ih
-    by_test false ih = ih
+places-suc {X} place test (x ∷ xs) = search (rules, places-suc (place + 1) test xs)
 
 -- the places in the part, of those places whose flows are of it
 abbrev kept : List Bool → List ℕ → List ℕ
@@ -64,31 +40,11 @@ kept flags places = map (place_in flags) (filter (is_in flags) places)
 
 kept_behind : (flags : List Bool) (places : List ℕ) → kept (true ∷ flags) (map suc places) ≡ map suc (kept flags places)
 kept_behind flags [] = refl
-kept_behind flags (p ∷ places) = by_test (is_in flags p) (kept_behind flags places)
-  where
-    next : place_in (true ∷ flags) (suc p) ≡ suc (place_in flags p)
-    next = omega (arith, place_in-suc true flags p)
-
-    by_test : (b : Bool) → kept (true ∷ flags) (map suc places) ≡ map suc (kept flags places)
-        → map (place_in (true ∷ flags)) (cond b (suc p ∷ filter (is_in (true ∷ flags)) (map suc places))
-        (filter (is_in (true ∷ flags)) (map suc places)))
-        ≡ map suc (map (place_in flags) (cond b (p ∷ filter (is_in flags) places) (filter (is_in flags) places)))
-    by_test true ih = ap (λ n. n ∷ kept (true ∷ flags) (map suc places)) next ∙ ap (λ ns. suc (place_in flags p) ∷ ns) ih
-    by_test false ih = ih
+kept_behind flags (p ∷ places) = grind (arith, common_steps, place_in-suc, kept_behind flags places)
 
 kept_without : (flags : List Bool) (places : List ℕ) → kept (false ∷ flags) (map suc places) ≡ kept flags places
 kept_without flags [] = refl
-kept_without flags (p ∷ places) = by_test (is_in flags p) (kept_without flags places)
-  where
-    next : place_in (false ∷ flags) (suc p) ≡ place_in flags p
-    next = omega (arith, place_in-suc false flags p)
-
-    by_test : (b : Bool) → kept (false ∷ flags) (map suc places) ≡ kept flags places
-        → map (place_in (false ∷ flags)) (cond b (suc p ∷ filter (is_in (false ∷ flags)) (map suc places))
-        (filter (is_in (false ∷ flags)) (map suc places)))
-        ≡ map (place_in flags) (cond b (p ∷ filter (is_in flags) places) (filter (is_in flags) places))
-    by_test true ih = ap (λ n. n ∷ kept (false ∷ flags) (map suc places)) next ∙ ap (λ ns. place_in flags p ∷ ns) ih
-    by_test false ih = ih
+kept_without flags (p ∷ places) = search (rules, place_in-suc, kept_without flags places)
 
 kept_none : (places : List ℕ) → kept [] places ≡ []
 kept_none [] = refl
@@ -100,34 +56,17 @@ pub kept_places : {X : Type 0} (flags : List Bool) (test : X → Bool) (xs : Lis
 kept_places [] test xs = kept_none (places_from 0 test xs)
 kept_places (flag ∷ flags) test [] = refl
 kept_places {X} (true ∷ flags) test (x ∷ xs) =
-    by_test (test x)
-    (ap (kept (true ∷ flags)) (places-suc 0 test xs) ∙ kept_behind flags (places_from 0 test xs)
-    ∙ ap (map suc) (kept_places flags test xs) ∙ sym (places-suc 0 test (flagged flags xs)))
-  where
-    by_test : (b : Bool) → kept (true ∷ flags) (places_from 1 test xs) ≡ places_from 1 test (flagged flags xs)
-        → kept (true ∷ flags) (cond b (0 ∷ places_from 1 test xs) (places_from 1 test xs))
-        ≡ cond b (0 ∷ places_from 1 test (flagged flags xs)) (places_from 1 test (flagged flags xs))
-    by_test true rest = ap (λ ns. 0 ∷ ns) rest
-    by_test false rest = rest
+    grind (arith, common_steps, places-suc 0 test xs, places-suc 0 test (flagged flags xs),
+    kept_behind flags (places_from 0 test xs), kept_places flags test xs)
 kept_places {X} (false ∷ flags) test (x ∷ xs) =
-    by_test (test x)
-    (ap (kept (false ∷ flags)) (places-suc 0 test xs) ∙ kept_without flags (places_from 0 test xs)
-    ∙ kept_places flags test xs)
-  where
-    by_test : (b : Bool) → kept (false ∷ flags) (places_from 1 test xs) ≡ places_from 0 test (flagged flags xs)
-        → kept (false ∷ flags) (cond b (0 ∷ places_from 1 test xs) (places_from 1 test xs))
-        ≡ places_from 0 test (flagged flags xs)
-    by_test true rest = rest
-    by_test false rest = rest
+    grind (arith, common_steps, places-suc 0 test xs, kept_without flags (places_from 0 test xs),
+    kept_places flags test xs)
 
 -- ---- sides
 
 sides_in-append : (flags : List Bool) (xs ys : List Side) → sides_in flags (xs ++ ys) ≡ sides_in flags xs ++ sides_in flags ys
 sides_in-append flags [] ys = refl
-sides_in-append flags (x ∷ xs) ys =
-    let here : List Side =
-    cond (list_any (is_in flags) x.users) (record { cap = x.cap; users = map (place_in flags) x.users } ∷ []) [] in
-    ap (λ ss. here ++ ss) (sides_in-append flags xs ys) ∙ sym (append_assoc here (sides_in flags xs) (sides_in flags ys))
+sides_in-append flags (x ∷ xs) ys = search (rules, append_assoc, sides_in-append flags xs ys)
 
 -- all of the users of a side are of the part, or none is
 abbrev IsApart : List Bool → Side → Type 0
@@ -173,16 +112,9 @@ module _ (flags : List Bool) (routes : List (List ℕ)) (link cap : ℕ) where
   all_own : list_any (has_link link) routes ≡ true → All (λ user. is_in flags user ≡ true) users
       → sides_in flags (old ∷ []) ≡ one (list_any (has_link link) (flagged flags routes))
   all_own somebody all =
-      let own : (x : ℕ) → In users x → is_in flags x ≡ true = λ x h.
-      All-contains (λ user. is_in flags user ≡ true) users x all (contains_from_in users x h) in
-      let same : map (place_in flags) users ≡ others =
-      ap (map (place_in flags)) (sym (filter_all (is_in flags) users own)) ∙ kept_places flags (has_link link) routes in
-      let some : 0 < length users = used_places 0 (has_link link) routes somebody in
-      let any : list_any (is_in flags) users ≡ true = any_all (is_in flags) users some own in
-      let left : list_any (has_link link) (flagged flags routes) ≡ true =
-      some_user 0 (has_link link) (flagged flags routes)
-      (omega (arith, some, ap length same, length-map users (place_in flags))) in
-      rw (any, left, same) refl
+      grind (arith, common_steps, kept_places flags (has_link link) routes,
+      used_places 0 (has_link link) routes somebody, length-map users (place_in flags), All-contains, contains_from_in,
+      filter_all, any_all, some_user)
 
   -- or none of them
   none_own : All (λ user. is_in flags user ≡ false) users

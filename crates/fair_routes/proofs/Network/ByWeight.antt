@@ -1,26 +1,22 @@
 -- Users that count as often as their weights say: what they have together, and a round of filling.
-use Rattle.std.proofs.Common.{◌≡◌, ◌⊎◌, ℕ, zero, suc, ◌+◌, ◌*◌, ◌<◌, ◌≤◌, List, [], ◌∷◌, All, Contains, Option, Some, None, IsSome}
-use Rattle.std.proofs.Common.{cond, get_or, length, map, replicate, sum_by, inl, inr, refl, sym, ap, ◌∙◌, subst, arith}
-use Rattle.std.proofs.Common.{mul-le-mul_right, le_of_mul-le-mul_right}
-use Rattle.std.specs.Option.{is_none}
-use Rattle.std.specs.Prelude.{count_by, option_map}
-use Rattle.std.proofs.lemmas.List.Elements.{All-contains, All-tail}
+use Rattle.fair_routes.proofs.Common.{◌≡◌, ◌⊎◌, ℕ, zero, suc, ◌+◌, ◌*◌, ◌<◌, ◌≤◌, List, [], ◌∷◌, All, Contains, Option}
+use Rattle.fair_routes.proofs.Common.{Some, None, cond, get_or, length, map, replicate, sum_by, inl, inr, refl, sym, ap}
+use Rattle.fair_routes.proofs.Common.{◌∙◌, subst, arith, mul-le-mul_right, is_none, count_by, option_map, All-contains}
+use Rattle.fair_routes.proofs.Common.{All-tail, sum_by-cons, Side, load, IsLimited, IsFair, at_level, listed_on}
+use Rattle.fair_routes.proofs.Common.{listed_from, none_or_some, some_is, IsFilledTo, In, in_left, in_right}
+use Rattle.fair_routes.proofs.Common.{in_from_contains, contains_from_in, All-from_contains, sum_by-scaled, sum_by_same}
+use Rattle.fair_routes.proofs.Common.{frozen_in, rising_weight, AreAllHeld, HasLeastRoom, HasFrozen, Room, weight_at}
+use Rattle.fair_routes.proofs.Common.{as_often, weighted, common_steps}
+use Rattle.std.proofs.Common.{IsSome, le_of_mul-le-mul_right, rules}
 use Rattle.std.proofs.lemmas.List.Folds.{sum_by-replicate}
-use Rattle.std.proofs.lemmas.List.Sums.{sum_by-append, sum_by-cons}
-use Rattle.fair_rates.specs.Fairness.Fair.{Side, load, IsLimited, IsFair}
-use Rattle.fair_rates.specs.Filling.States.{at_level}
-use Rattle.fair_rates.proofs.Fairness.MappedSides.{listed_on, listed_from}
-use Rattle.fair_rates.proofs.Filling.Frozen.{none_or_some, some_is, at_some, at_none}
+use Rattle.std.proofs.lemmas.List.Sums.{sum_by-append}
+use Rattle.fair_rates.proofs.Filling.Frozen.{at_some, at_none}
 use Rattle.fair_rates.proofs.Filling.Growing.{AreScaled, filled_scaled, none_scaled}
 use Rattle.fair_rates.proofs.Filling.Rounds.{end, next}
-use Rattle.fair_rates.proofs.Filling.States.{IsFilledTo, IsFilledBy}
-use Rattle.fair_rates.proofs.Lists.Members.{In, in_either, in_left, in_right, in_from_contains, contains_from_in}
-use Rattle.fair_rates.proofs.Lists.SumOrder.{All-from_contains, sum_by-scaled}
-use Rattle.fair_rates.proofs.Lists.Sums.{sum_by_same}
-use Rattle.fair_routes.specs.Network.Rising.{frozen_in, rising_weight, slack_of, AreAllHeld, HasLeastRoom, HasFrozen}
-use Rattle.fair_routes.specs.declared.routes.weighted.room.Room.{Room}
+use Rattle.fair_rates.proofs.Filling.States.{IsFilledBy}
+use Rattle.fair_rates.proofs.Lists.Members.{in_either}
+use Rattle.fair_routes.specs.Network.Rising.{slack_of}
 use Rattle.fair_routes.proofs.Network.Rising.{all_multiplied}
-use Rattle.fair_routes.specs.Network.Weights.{weight_at, as_often, weighted}
 
 -- ---- as often as their weights say
 
@@ -37,33 +33,16 @@ module _ (weights : List ℕ) where
   -- what all have together
   pub sum_often : (f : ℕ → ℕ) (users : List ℕ) → sum_by f (as_often weights users) ≡ sum_by (λ u. weight_at weights u * f u) users
   sum_often f [] = refl
-  sum_often f (u ∷ us) =
-      omega (
-        arith,
-        sum_by-append f (replicate (weight_at weights u) u) (as_often weights us),
-        sum_by-replicate f (weight_at weights u) u,
-        sum_by-cons (λ v. weight_at weights v * f v) u us,
-        sum_often f us,
-      )
+  sum_often f (u ∷ us) = search (rules, sum_by-append, sum_by-replicate, sum_by-cons, sum_often f us)
 
   in_often : (users : List ℕ) (user : ℕ) → In (as_often weights users) user → In users user
   in_often [] user h = absurd h
-  in_often (u ∷ us) user h =
-      by_part (in_either (replicate (weight_at weights u) u) (as_often weights us) user h) (in_often us user)
-    where
-      by_part : In (replicate (weight_at weights u) u) user ⊎ In (as_often weights us) user
-          → (In (as_often weights us) user → In us user) → In (u ∷ us) user
-      by_part (inl g) later = inl (copies_are (weight_at weights u) u user g)
-      by_part (inr g) later = inr (later g)
+  in_often (u ∷ us) user h = search (rules, in_either, copies_are, in_often us user)
 
   often_in : (users : List ℕ) (user : ℕ) → 0 < weight_at weights user → In users user → In (as_often weights users) user
   often_in [] user some h = absurd h
-  often_in (u ∷ us) user some (inl e) =
-      in_left (replicate (weight_at weights u) u) (as_often weights us) user
-      (subst (λ v. In (replicate (weight_at weights u) u) v) e
-      (copies_have (weight_at weights u) u (subst (λ v. 0 < weight_at weights v) (sym e) some)))
-  often_in (u ∷ us) user some (inr h) =
-      in_right (replicate (weight_at weights u) u) (as_often weights us) user (often_in us user some h)
+  often_in (u ∷ us) user some (inl e) = search (rules, in_left, copies_have)
+  often_in (u ∷ us) user some (inr h) = search (rules, in_right, often_in us user some h)
 
   -- the same users use the side
   pub uses_often : (users : List ℕ) (user : ℕ) → Contains (as_often weights users) user → Contains users user
@@ -71,8 +50,7 @@ module _ (weights : List ℕ) where
 
   pub often_uses : (users : List ℕ) (user : ℕ) → 0 < weight_at weights user → Contains users user
       → Contains (as_often weights users) user
-  often_uses users user some c =
-      contains_from_in (as_often weights users) user (often_in users user some (in_from_contains users user c))
+  often_uses users user some c = search (rules, contains_from_in, often_in, in_from_contains)
 
   pub all_often : (P : ℕ → Type 0) (users : List ℕ) → All P users → All P (as_often weights users)
   all_often P users all =
@@ -88,22 +66,7 @@ module _ (weights : List ℕ) where
     rises u = cond (is_none (frozen u)) (weight_at weights u) 0
 
     one_split : (level u : ℕ) → weight_at weights u * at_level frozen level u ≡ held u + level * rises u
-    one_split level u = elim (none_or_some (frozen u)) [
-      | inl none ↦
-          omega (
-            arith,
-            ap (λ n. weight_at weights u * n) (at_none frozen level u none),
-            ap (λ n. n * weight_at weights u) (at_none frozen 0 u none),
-            ap {B = ℕ} (λ (o : Option ℕ). level * cond (is_none o) (weight_at weights u) 0) none,
-          )
-      | inr (p, some) ↦
-          omega (
-            arith,
-            ap (λ n. weight_at weights u * n) (at_some frozen level u p some),
-            ap (λ n. n * weight_at weights u) (at_some frozen 0 u p some),
-            ap {B = ℕ} (λ (o : Option ℕ). level * cond (is_none o) (weight_at weights u) 0) some,
-          )
-    ]
+    one_split level u = search (rules, none_or_some, at_none, at_some)
 
     sum_split : (level : ℕ) (users : List ℕ) → sum_by (λ u. weight_at weights u * at_level frozen level u) users
         ≡ sum_by held users + level * rising_weight weights frozen users
@@ -123,13 +86,7 @@ module _ (weights : List ℕ) where
     load_split level side = sum_often (at_level frozen level) side.users ∙ sum_split level side.users
 
     one_held : (u : ℕ) → 0 < weight_at weights u → rises u ≡ 0 → IsSome (frozen u)
-    one_held u some nothing = elim (none_or_some (frozen u)) [
-      | inl none ↦
-          let is : rises u ≡ weight_at weights u =
-          ap {B = ℕ} (λ (o : Option ℕ). cond (is_none o) (weight_at weights u) 0) none in
-          absurd (omega (arith, is, some, nothing))
-      | inr (p, is) ↦ some_is (frozen u) p is
-    ]
+    one_held u some nothing = search (rules, none_or_some, some_is)
 
     in_held : (users : List ℕ) → All (λ u. 0 < weight_at weights u) users → rising_weight weights frozen users ≡ 0
         → (user : ℕ) → In users user → IsSome (frozen user)
@@ -153,9 +110,7 @@ module _ (weights : List ℕ) where
         → (frozen u ≡ None) ⊎ ((p : ℕ) × (frozen u ≡ Some p)) → (0 < rising_weight weights frozen us → OneRises us)
         → OneRises (u ∷ us)
     one_rises u us some (inl none) later = (u, inl refl, none)
-    one_rises u us some (inr (p, is)) later =
-        let nothing : rises u ≡ 0 = ap {B = ℕ} (λ (o : Option ℕ). cond (is_none o) (weight_at weights u) 0) is in
-        let r = later (omega (arith, some, nothing, sum_by-cons rises u us)) in (r.0, inr r.1, r.2)
+    one_rises u us some (inr (p, is)) later = search (rules, sum_by-cons)
 
     in_rises : (users : List ℕ) → 0 < rising_weight weights frozen users → OneRises users
     in_rises [] some = absurd (omega arith)
@@ -164,24 +119,14 @@ module _ (weights : List ℕ) where
     -- and where some does one rises
     pub some_rises : (users : List ℕ) → 0 < rising_weight weights frozen users
         → (user : ℕ) × Contains users user × (frozen user ≡ None)
-    some_rises users some =
-        let found = in_rises users some in (found.0, contains_from_in users found.0 found.1, found.2)
+    some_rises users some = search (rules, in_rises, contains_from_in)
 
 -- ---- a round
 
 -- the scale grows, and nobody is held or let go
 module _ (weights : List ℕ) (factor : ℕ) (frozen mid : ℕ → Option ℕ) (scaled : AreScaled factor frozen mid) where
   same_rise : (u : ℕ) → rises weights mid u ≡ rises weights frozen u
-  same_rise u = elim (none_or_some (frozen u)) [
-    | inl none ↦
-        let now : mid u ≡ None = scaled.each u ∙ ap (option_map (λ n. n * factor)) none in
-        ap {B = ℕ} (λ (o : Option ℕ). cond (is_none o) (weight_at weights u) 0) now
-        ∙ sym (ap {B = ℕ} (λ (o : Option ℕ). cond (is_none o) (weight_at weights u) 0) none)
-    | inr (p, some) ↦
-        let now : mid u ≡ Some (p * factor) = scaled.each u ∙ ap (option_map (λ n. n * factor)) some in
-        ap {B = ℕ} (λ (o : Option ℕ). cond (is_none o) (weight_at weights u) 0) now
-        ∙ sym (ap {B = ℕ} (λ (o : Option ℕ). cond (is_none o) (weight_at weights u) 0) some)
-  ]
+  same_rise u = search (rules, none_or_some)
 
   same_rising : (users : List ℕ) → rising_weight weights mid users ≡ rising_weight weights frozen users
   same_rising users = sum_by_same (rises weights mid) (rises weights frozen) users (λ k d inside. same_rise _)
@@ -198,13 +143,7 @@ module _ (weights : List ℕ) (factor : ℕ) (frozen mid : ℕ → Option ℕ) (
   -- at a share for each one of weight
   pub load_scaled : (share : ℕ) (side : Side) → load (at_level mid share) (weighted weights side)
       ≡ sum_by (held weights frozen) side.users * factor + share * rising_weight weights frozen side.users
-  load_scaled share side =
-      omega (
-        arith,
-        load_split weights mid share side,
-        held_scaled side.users,
-        ap (λ n. share * n) (same_rising side.users),
-      )
+  load_scaled share side = search (rules, load_split, held_scaled, same_rising)
 
 -- what is left covers the share of a side that has no less
 room_for : (a p r c factor share : ℕ) → 0 < p → share * p ≡ a * factor → a * r ≤ c * p → share * r ≤ c * factor
@@ -223,10 +162,7 @@ module _ (weights : List ℕ) (sides : List Side) (positive : (u : ℕ) → u < 
 
   pub some_weight : (side : Side) → Contains sides side → (user : ℕ) → Contains side.users user
       → 0 < weight_at weights user
-  some_weight side listed user used =
-      positive user
-      (All-contains (λ u. u < length weights) side.users user
-      (All-contains (λ (s : Side). All (λ u. u < length weights) s.users) sides side among listed) used)
+  some_weight side listed user used = search (rules, All-contains)
 
   -- a flow uses a side just where it uses it as often as its weight says
   pub limited_wide : (flow : ℕ) → IsLimited sides flow → IsLimited wide flow
@@ -268,21 +204,12 @@ module _ (weights : List ℕ) (sides : List Side) (positive : (u : ℕ) → u < 
       → (parts ≡ share) × Contains side.users flow) where
     within_at : (s : Side) → Contains sides s
         → load (at_level frozen level) (weighted weights s) ≤ s.cap * scale
-    within_at s c =
-        All-contains (λ (w : Side). load (at_level frozen level) w ≤ w.cap * scale) wide (weighted weights s)
-        filled.within (listed_on (weighted weights) sides s c)
+    within_at s c = grind (arith, common_steps, listed_on (weighted weights) sides s c, All-contains)
 
     raised : level * factor ≤ share
     raised =
-        no_lower slack weight level factor share some is_share
-        (omega (
-          arith,
-          is_slack,
-          slack_left scale level frozen side (within_at side listed),
-          within_at side listed,
-          load_split weights frozen level side,
-          ap (λ n. level * n) is_weight,
-        ))
+        grind (arith, common_steps, slack_left scale level frozen side (within_at side listed), within_at side listed,
+        load_split weights frozen level side, no_lower)
 
     within_narrow : (s : Side) → Contains sides s
         → load (at_level mid share) (weighted weights s) ≤ s.cap * (scale * factor)
@@ -343,21 +270,14 @@ module _ (weights : List ℕ) (sides : List Side) (positive : (u : ℕ) → u < 
   module _ (scale level : ℕ) (frozen : ℕ → Option ℕ) (some : 0 < scale) (filled : IsFilledTo wide scale frozen level)
       (all : AreAllHeld weights frozen sides) where
     held_all : (flow : ℕ) → IsLimited sides flow → IsSome (frozen flow)
-    held_all flow (side, uses) =
-        all_held weights frozen side.users
-        (All-from_contains (λ u. 0 < weight_at weights u) side.users (some_weight side uses.listed))
-        (All-contains (λ (s : Side). rising_weight weights frozen s.users ≡ 0) sides side all uses.listed)
-        flow uses.used
+    held_all flow (side, uses) = search (rules, all_held, All-from_contains, some_weight, All-contains)
 
     pub fair_at_end : IsFair wide scale (at_level frozen 0)
     fair_at_end = end wide scale frozen level some filled (λ flow limited. held_all flow (limited_narrow flow limited))
 
     pub limited_at_end : (flow : ℕ) → (IsSome (frozen flow) → IsLimited sides flow)
         × (IsLimited sides flow → IsSome (frozen flow))
-    limited_at_end flow = (
-      (λ some. let b = (filled.held flow some).bottleneck in limited_narrow flow (b.side, b.uses)),
-      held_all flow,
-    )
+    limited_at_end flow = search (rules, limited_narrow, held_all)
 
 -- ---- a round over the list of what is held
 
@@ -365,20 +285,7 @@ module _ (weights : List ℕ) (sides : List Side) (positive : (u : ℕ) → u < 
 count_multiplied : (factor : ℕ) (parts : List (Option ℕ))
     → count_by is_none (map (option_map (λ n. n * factor)) parts) ≡ count_by is_none parts
 count_multiplied factor [] = refl
-count_multiplied factor (o ∷ parts) =
-    let one : Option ℕ → ℕ = λ p. cond (is_none p) 1 0 in
-    let times : Option ℕ → Option ℕ = option_map (λ n. n * factor) in
-    omega (
-      arith,
-      sum_by-cons one (times o) (map times parts),
-      sum_by-cons one o parts,
-      same o,
-      count_multiplied factor parts,
-    )
-  where
-    same : (p : Option ℕ) → ◌≡◌ {A = ℕ} (cond (is_none (option_map (λ n. n * factor) p)) 1 0) (cond (is_none p) 1 0)
-    same None = refl
-    same (Some n) = refl
+count_multiplied factor (o ∷ parts) = grind (arith, common_steps, sum_by-cons, count_multiplied factor parts)
 
 module _ (weights : List ℕ) (sides : List Side) (positive : All (λ weight. 0 < weight) weights)
     (among : All (λ side. All (λ u. u < length weights) side.users) sides)
@@ -403,8 +310,4 @@ module _ (weights : List ℕ) (sides : List Side) (positive : All (λ weight. 0 
       share is_share (frozen_in mid) (frozen_in after) scaled frozen.all frozen.kept frozen.fresh
 
   pub fewer_rise : count_by is_none after < count_by is_none parts
-  fewer_rise =
-      let one = some_rises weights (frozen_in parts) side.users (omega (arith, least.some, is_weight)) in
-      let none : frozen_in mid one.0 ≡ None = scaled.each one.0 ∙ ap (option_map (λ n. n * factor)) one.2 in
-      let now = All-contains (λ user. IsSome (frozen_in after user)) side.users one.0 frozen.all one.1 in
-      omega (arith, frozen.fewer one.0 none now, ap (count_by is_none) is_mid, count_multiplied factor parts)
+  fewer_rise = grind (arith, common_steps, some_rises, is_weight, All-contains, count_multiplied)

@@ -1,32 +1,23 @@
 -- A flow of some weight as so many flows of weight one.
-use Rattle.std.proofs.Common.{◌≡◌, ◌==◌, ℕ, zero, suc, ◌+◌, ◌*◌, ◌<◌, ◌≤◌, List, [], Bool, true, false, cond, All, Contains, Option, Some}
-use Rattle.std.proofs.Common.{length, map, get_or, sum_by, inl, inr, refl, sym, ap, ◌∙◌, subst, arith}
-use Rattle.std.specs.Prelude.{slice_get}
-use Rattle.std.specs.List.{list_any, range_with_len}
-use Rattle.std.proofs.Math.Nat.{eq_of_mul-eq-mul_right}
-use Rattle.std.proofs.lemmas.Bool.{cases_order, eqb-true}
-use Rattle.std.proofs.lemmas.Bool.Decides.{eqb_tells}
-use Rattle.std.proofs.lemmas.List.{length-map, map-id, get_or_default}
+use Rattle.std.proofs.Common.{rules}
+use Rattle.fair_routes.proofs.Common.{◌≡◌, ◌==◌, ℕ, zero, suc, ◌+◌, ◌*◌, ◌<◌, ◌≤◌, List, [], Bool, true, false, cond}
+use Rattle.fair_routes.proofs.Common.{All, Contains, Option, Some, length, map, get_or, sum_by, inl, inr, refl, sym, ap}
+use Rattle.fair_routes.proofs.Common.{◌∙◌, subst, arith, slice_get, list_any, eq_of_mul-eq-mul_right, eqb-true}
+use Rattle.fair_routes.proofs.Common.{eqb_tells, length-map, get_or_default, sum_by-cons, slice_get-get_or}
+use Rattle.fair_routes.proofs.Common.{slice_get-map, get_or_from_slice_get, Side, IsLimited, IsFair, IsRateOf}
+use Rattle.fair_routes.proofs.Common.{places_from, Rate, Unlimited, Finite, listed_on, listed_from, in_map}
+use Rattle.fair_routes.proofs.Common.{in_from_contains, contains_from_in, from_map, any_passes, All-from_contains}
+use Rattle.fair_routes.proofs.Common.{sum_by-scaled, sum_by_same, routes_at, has_link, users_of, sides_over, weight_at}
+use Rattle.fair_routes.proofs.Common.{as_often, weighted, by_weight, AreWeightedRates}
+use Rattle.std.specs.List.{range_with_len}
+use Rattle.std.proofs.lemmas.Bool.{cases_order}
+use Rattle.std.proofs.lemmas.List.{map-id}
 use Rattle.std.proofs.lemmas.List.FromFn.{length-range_with_len, get_or-range_with_len}
-use Rattle.std.proofs.lemmas.List.Sums.{sum_by-cons}
-use Rattle.std.proofs.lemmas.Option.{slice_get-get_or, slice_get-map, get_or_from_slice_get}
-use Rattle.fair_rates.specs.Fairness.Fair.{Side, IsLimited, IsFair}
-use Rattle.fair_rates.specs.Fairness.Laws.{HaveUsersBelow}
-use Rattle.fair_rates.specs.Fairness.Rates.{IsRateOf}
-use Rattle.fair_rates.specs.Lists.Places.{places_from}
-use Rattle.fair_rates.specs.declared.bandwidth.Rate.{Rate}
-use Rattle.fair_rates.specs.declared.bandwidth.Rate.TheVariants.{Unlimited, Finite}
-use Rattle.fair_rates.proofs.Fairness.MappedSides.{listed_on, listed_from}
 use Rattle.fair_rates.proofs.Fairness.OneAllocation.{same_amounts}
-use Rattle.fair_rates.proofs.Lists.Members.{in_map, in_get, get_in, in_from_contains, contains_from_in, from_map}
-use Rattle.fair_rates.proofs.Lists.Members.{any_passes, get_from_map}
+use Rattle.fair_rates.proofs.Lists.Members.{in_get, get_in, get_from_map}
 use Rattle.fair_rates.proofs.Lists.Places.{place_here, passes_here, below_length}
-use Rattle.fair_rates.proofs.Lists.SumOrder.{All-from_contains, sum_by-scaled}
-use Rattle.fair_rates.proofs.Lists.Sums.{sum_by_same}
-use Rattle.fair_routes.specs.Network.Laws.{routes_at}
-use Rattle.fair_routes.specs.Network.Sides.{has_link, users_of, sides_over}
 use Rattle.fair_routes.specs.Network.WeightLaws.{copies, copies_of, IsTogether, WeightsAreCopies}
-use Rattle.fair_routes.specs.Network.Weights.{weight_at, as_often, weighted, by_weight, AreWeights, AreWeightedRates}
+use Rattle.fair_routes.specs.Network.Weights.{AreWeights}
 use Rattle.fair_routes.proofs.Network.ByWeight.{sum_often, uses_often, often_uses, limited_wide, limited_narrow}
 use Rattle.fair_routes.proofs.Network.LinkSides.{link_side, side_listed, users_are_flows}
 use Rattle.fair_routes.proofs.Network.Relabelled.{IsTheSide, AreRelabelled, relabelled_fair, new_limited, old_limited}
@@ -61,9 +52,7 @@ module _ (caps : List (Option ℕ)) (routes : List (List ℕ)) (weights : List �
       (i, omega (arith, within, length-range_with_len 0 (length weights)), at)
 
   range_below : (i : ℕ) → Contains range i → i < length routes
-  range_below i (k, within, at) =
-      let lt : k < length weights = omega (arith, within, length-range_with_len 0 (length weights)) in
-      omega (arith, lt, get_or-range_with_len 0 (length weights) k i lt, at, are.one_each)
+  range_below i (k, within, at) = search (rules, length-range_with_len, get_or-range_with_len)
 
   placed : (i : ℕ) → i < length routes → Contains order i
   placed i lt = often_uses weights range i (positive i lt) (in_range i lt)
@@ -164,13 +153,7 @@ module _ (caps : List (Option ℕ)) (routes : List (List ℕ)) (weights : List �
       )
 
   pub copied : AreRelabelled of (length order) (map (weighted weights) olds) (sides_over caps news)
-  copied = record {
-    below =
-        subst (λ (n : ℕ). HaveUsersBelow n (sides_over caps news)) (length-map order route)
-        (users_are_flows caps news);
-    there = there;
-    from = from;
-  }
+  copied = search (rules, below, length-map, users_are_flows, there, from)
 
 -- ---- the copies of one flow
 
@@ -241,9 +224,7 @@ module _ (caps : List (Option ℕ)) (routes : List (List ℕ)) (weights : List �
   also = relabelled_fair flow_of (length places) wide singles rel fair.per fair.parts fair.fair
 
   among : All (λ (side : Side). All (λ user. user < length weights) side.users) sides
-  among =
-      subst (λ n. All (λ (side : Side). All (λ user. user < n) side.users) sides) (sym are.one_each)
-      (users_are_flows caps routes)
+  among = search (rules, users_are_flows)
 
   some : (u : ℕ) → u < length weights → 0 < weight_at weights u
   some u within = are.positive u 0 within

@@ -1,15 +1,14 @@
 -- Which sides there are.
-use Rattle.std.proofs.Common.{◌≡◌, ◌≢◌, ℕ, zero, suc, ◌+◌, ◌<◌, ◌⊎◌, List, [], ◌∷◌, Bool, true, false, cond, All, AllPairs, Contains, length}
-use Rattle.std.proofs.Common.{Option, Some, None, get_or, refl, sym, ap, ◌∙◌, subst, inl, inr, arith}
-use Rattle.std.specs.List.{list_any}
+use Rattle.fair_routes.proofs.Common.{◌≡◌, ℕ, zero, suc, ◌+◌, ◌<◌, ◌⊎◌, List, [], ◌∷◌, true, All, Contains, length}
+use Rattle.fair_routes.proofs.Common.{Option, Some, None, get_or, sym, ap, ◌∙◌, subst, inl, inr, arith, list_any, Side}
+use Rattle.fair_routes.proofs.Common.{HaveUsersBelow, In, in_left, in_right, in_from_contains, contains_from_in}
+use Rattle.fair_routes.proofs.Common.{All-from_contains, IsLinkSide, has_link, users_of, side_of_link, sides_from}
+use Rattle.fair_routes.proofs.Common.{sides_over, common_steps}
+use Rattle.std.proofs.Common.{◌≢◌, AllPairs, rules}
 use Rattle.fair_rates.specs.Fairness.Exists.{HaveDistinctUsers}
-use Rattle.fair_rates.specs.Fairness.Fair.{Side}
-use Rattle.fair_rates.specs.Fairness.Laws.{HaveUsersBelow}
-use Rattle.fair_rates.proofs.Lists.Members.{In, in_left, in_right, in_either, in_from_contains, contains_from_in}
+use Rattle.fair_rates.proofs.Lists.Members.{in_either}
 use Rattle.fair_rates.proofs.Lists.Places.{places_below, places_apart}
-use Rattle.fair_rates.proofs.Lists.SumOrder.{All-from_contains}
-use Rattle.fair_routes.specs.Network.Laws.{IsLinkSide, SidesAreOfTheLinks}
-use Rattle.fair_routes.specs.Network.Sides.{has_link, users_of, side_of_link, sides_from, sides_over}
+use Rattle.fair_routes.specs.Network.Laws.{SidesAreOfTheLinks}
 
 -- the side is that of a link from that one on
 record IsFrom (first : ℕ) (caps : List (Option ℕ)) (routes : List (List ℕ)) (side : Side) : Type 0 where
@@ -24,22 +23,7 @@ side_at routes link cap = record { cap = cap; users = users_of link routes }
 from_link : (first : ℕ) (cap : Option ℕ) (caps : List (Option ℕ)) (routes : List (List ℕ)) (side : Side)
     → In (side_of_link routes first cap) side → IsFrom first (cap ∷ caps) routes side
 from_link first None caps routes side h = absurd h
-from_link first (Some cap) caps routes side h = by_test (list_any (has_link first) routes) refl h
-  where
-    here : first ≡ first + 0
-    here = omega arith
-
-    by_test : (b : Bool) → list_any (has_link first) routes ≡ b
-        → In (cond b (record { cap = cap; users = users_of first routes } ∷ []) []) side
-        → IsFrom first (Some cap ∷ caps) routes side
-    by_test true is (inl e) = record {
-      next = 0;
-      capped = ap (λ (s : Side). Some s.cap) e;
-      used = subst (λ (n : ℕ). list_any (has_link n) routes ≡ true) here is;
-      users = ap (λ (s : Side). s.users) (sym e) ∙ ap (λ n. users_of n routes) here;
-    }
-    by_test true is (inr g) = absurd g
-    by_test false is g = absurd g
+from_link first (Some cap) caps routes side h = search rules
 
 from_sides : (first : ℕ) (caps : List (Option ℕ)) (routes : List (List ℕ)) (side : Side)
     → In (sides_from first caps routes) side → IsFrom first caps routes side
@@ -65,9 +49,7 @@ from_sides first (cap ∷ caps) routes side h =
 to_link : (link : ℕ) (cap : Option ℕ) (routes : List (List ℕ)) (side : Side) → cap ≡ Some side.cap
     → list_any (has_link link) routes ≡ true → side.users ≡ users_of link routes → In (side_of_link routes link cap) side
 to_link link None routes side capped used users = cc
-to_link link (Some cap) routes side capped used users =
-    let same : cap ≡ side.cap = cc in
-    rw used (inl (rw (same, ← users) refl))
+to_link link (Some cap) routes side capped used users = search rules
 
 to_sides : (first next : ℕ) (caps : List (Option ℕ)) (routes : List (List ℕ)) (side : Side)
     → get_or caps next None ≡ Some side.cap → list_any (has_link (first + next)) routes ≡ true
@@ -87,23 +69,12 @@ to_sides first (suc next) (cap ∷ caps) routes side capped used users =
 pub link_side : (caps : List (Option ℕ)) (routes : List (List ℕ)) (side : Side) → Contains (sides_over caps routes) side
     → IsLinkSide caps routes side
 link_side caps routes side listed =
-    let r = from_sides 0 caps routes side (in_from_contains (sides_over caps routes) side listed) in
-    let here : 0 + r.next ≡ r.next = omega arith in
-    record {
-      link = r.next;
-      capped = r.capped;
-      used = subst (λ (n : ℕ). list_any (has_link n) routes ≡ true) here r.used;
-      users = r.users ∙ ap (λ n. users_of n routes) here;
-    }
+    grind (arith, common_steps, from_sides 0 caps routes side (in_from_contains (sides_over caps routes) side listed),
+    in_from_contains (sides_over caps routes) side listed)
 
 pub side_listed : (caps : List (Option ℕ)) (routes : List (List ℕ)) (side : Side) → IsLinkSide caps routes side
     → Contains (sides_over caps routes) side
-side_listed caps routes side of =
-    let here : of.link ≡ 0 + of.link = omega arith in
-    contains_from_in (sides_over caps routes) side
-    (to_sides 0 of.link caps routes side of.capped
-    (subst (λ (n : ℕ). list_any (has_link n) routes ≡ true) here of.used)
-    (of.users ∙ ap (λ n. users_of n routes) here))
+side_listed caps routes side of = search (rules, contains_from_in, to_sides)
 
 pub sides_are_of_the_links : SidesAreOfTheLinks
 sides_are_of_the_links caps routes side = (link_side caps routes side, side_listed caps routes side)

@@ -1,24 +1,19 @@
 -- Flows between peers are flows over three links.
-use Rattle.std.proofs.Common.{◌≡◌, ◌==◌, ℕ, List, [], ◌∷◌, Bool, true, false, cond, ◌&&◌, Option, None, get_or, map, length}
-use Rattle.std.proofs.Common.{refl, sym, ap, ◌∙◌, inl, inr}
-use Rattle.std.specs.Prelude.{◌||◌}
+use Rattle.fair_routes.proofs.Common.{◌≡◌, ◌==◌, ℕ, List, [], ◌∷◌, Bool, true, false, cond, Option, None, get_or, map}
+use Rattle.fair_routes.proofs.Common.{length, sym, ap, ◌∙◌, inl, inr, AllZip, eqb-true, Side, places_from, In, in_map}
+use Rattle.fair_routes.proofs.Common.{from_map, in_from_contains, contains_from_in, any_passes, places_alike}
+use Rattle.fair_routes.proofs.Common.{IsLinkSide, has_link, users_of, sides_over, arith, common_steps}
+use Rattle.std.proofs.Common.{rules}
 use Rattle.std.specs.Cmp.{IsTotalOrder}
-use Rattle.std.specs.List.{AllZip, list_any}
 use Rattle.std.specs.declared.cmp.Ordering.{Ordering}
 use Rattle.std.proofs.Math.Bool.{or-false}
-use Rattle.std.proofs.lemmas.Bool.{eqb-true}
-use Rattle.fair_rates.specs.Fairness.Fair.{Side}
 use Rattle.fair_rates.specs.Fairness.UnderCaps.{AreOfPeers, IsCappedSide, limits, sides_under}
-use Rattle.fair_rates.specs.Lists.Places.{places_from}
 use Rattle.fair_rates.specs.Sides.Caps.{Caps}
-use Rattle.fair_rates.specs.Sides.Subjects.{Subject, sent_by, received_by, sent_between, same_peer}
+use Rattle.fair_rates.specs.Sides.Subjects.{Subject, sent_by, received_by, sent_between}
 use Rattle.fair_rates.specs.declared.bandwidth.Flow.{Flow}
 use Rattle.fair_rates.proofs.Fairness.SameSides.{fairness_is_of_the_set}
-use Rattle.fair_rates.proofs.Lists.Members.{In, in_map, from_map, in_from_contains, contains_from_in, any_passes}
-use Rattle.fair_rates.proofs.Lists.Places.{places_alike}
 use Rattle.fair_rates.proofs.Sides.CapSides.{sides_are_of_the_caps}
-use Rattle.fair_routes.specs.Network.Laws.{IsLinkSide, AreLinks, route_of, LinkedIsOverThreeLinks}
-use Rattle.fair_routes.specs.Network.Sides.{has_link, users_of, sides_over}
+use Rattle.fair_routes.specs.Network.Laws.{AreLinks, route_of, LinkedIsOverThreeLinks}
 use Rattle.fair_routes.proofs.Network.LinkSides.{link_side, side_listed}
 use Rattle.fair_routes.proofs.Network.Said.{found}
 
@@ -26,58 +21,9 @@ module _ {P : Type 0} (cmp : P → P → Ordering) (order : IsTotalOrder cmp) (c
     (number : Subject P → ℕ) (of : AreOfPeers cmp caps) (are : AreLinks cmp caps links number) where
   -- a side of a subject limits the flow just where its link is on the flow's route
   on_route : (s : Subject P) (f : Flow P) → limits cmp s f ≡ has_link (number s) (route_of cmp number f)
-  on_route (sent_by p) f = by_test f.delivered
-    where
-      own : Subject P
-      own = sent_by p
-
-      by_test : (b : Bool) → same_peer cmp p f.origin
-          ≡ ((number (sent_by f.origin) == number (sent_by p))
-          || ((number (sent_between f.origin f.recipient) == number (sent_by p))
-          || list_any (λ other. other == number (sent_by p)) (cond b (number (received_by f.recipient) ∷ []) [])))
-      by_test true =
-          rw (
-            are.apart (sent_by p) (sent_by f.origin),
-            are.apart (sent_by p) (sent_between f.origin f.recipient),
-            are.apart (sent_by p) (received_by f.recipient),
-          ) (sym (or-false (same_peer cmp p f.origin)))
-      by_test false =
-          rw (are.apart (sent_by p) (sent_by f.origin), are.apart (sent_by p) (sent_between f.origin f.recipient))
-          (sym (or-false (same_peer cmp p f.origin)))
-  on_route (received_by p) f = by_test f.delivered
-    where
-      by_test : (b : Bool) → (b && same_peer cmp p f.recipient)
-          ≡ ((number (sent_by f.origin) == number (received_by p))
-          || ((number (sent_between f.origin f.recipient) == number (received_by p))
-          || list_any (λ other. other == number (received_by p)) (cond b (number (received_by f.recipient) ∷ []) [])))
-      by_test true =
-          rw (
-            are.apart (received_by p) (sent_by f.origin),
-            are.apart (received_by p) (sent_between f.origin f.recipient),
-            are.apart (received_by p) (received_by f.recipient),
-          ) (sym (or-false (same_peer cmp p f.recipient)))
-      by_test false =
-          rw (are.apart (received_by p) (sent_by f.origin), are.apart (received_by p) (sent_between f.origin f.recipient))
-          refl
-  on_route (sent_between p q) f = by_test f.delivered
-    where
-      by_test : (b : Bool) → (same_peer cmp p f.origin && same_peer cmp q f.recipient)
-          ≡ ((number (sent_by f.origin) == number (sent_between p q))
-          || ((number (sent_between f.origin f.recipient) == number (sent_between p q))
-          || list_any (λ other. other == number (sent_between p q)) (cond b (number (received_by f.recipient) ∷ []) [])))
-      by_test true =
-          rw (
-            are.apart (sent_between p q) (sent_by f.origin),
-            are.apart (sent_between p q) (sent_between f.origin f.recipient),
-            are.apart (sent_between p q) (received_by f.recipient),
-          )
-          (sym (or-false (same_peer cmp p f.origin && same_peer cmp q f.recipient)))
-      by_test false =
-          rw (
-            are.apart (sent_between p q) (sent_by f.origin),
-            are.apart (sent_between p q) (sent_between f.origin f.recipient),
-          )
-          (sym (or-false (same_peer cmp p f.origin && same_peer cmp q f.recipient)))
+  on_route (sent_by p) f = search (rules, or-false)
+  on_route (received_by p) f = search (rules, or-false)
+  on_route (sent_between p q) f = search (rules, or-false)
 
   -- a link of a route is that of a subject
   of_subject : (f : Flow P) (link : ℕ) → In (route_of cmp number f) link → (s : Subject P) × (number s ≡ link)
@@ -103,19 +49,17 @@ module _ {P : Type 0} (cmp : P → P → Ordering) (order : IsTotalOrder cmp) (c
     each (f ∷ fs) = ((λ s. on_route s f), each fs)
 
     users_are : (s : Subject P) → places_from 0 (limits cmp s) flows ≡ users_of (number s) routes
-    users_are s =
-        places_alike IsRouteOf (limits cmp s) (has_link (number s)) (λ f route alike. alike s) 0 flows routes (each flows)
+    users_are s = grind (arith, common_steps, each flows, places_alike)
 
     there : (side : Side) → IsCappedSide cmp caps flows side → IsLinkSide links routes side
-    there side of_caps = record {
-      link = number of_caps.subject;
-      capped = are.same_cap of_caps.subject ∙ of_caps.capped;
-      used =
-          any_passes (has_link (number of_caps.subject)) routes (route_of cmp number of_caps.flow)
-          (in_map (route_of cmp number) flows of_caps.flow (in_from_contains flows of_caps.flow of_caps.among))
-          (sym (on_route of_caps.subject of_caps.flow) ∙ of_caps.limited);
-      users = of_caps.users ∙ users_are of_caps.subject;
-    }
+    there side of_caps =
+        grind (arith, common_steps,
+        any_passes (has_link (number of_caps.subject)) routes (route_of cmp number of_caps.flow)
+        (in_map (route_of cmp number) flows of_caps.flow (in_from_contains flows of_caps.flow of_caps.among))
+        (sym (on_route of_caps.subject of_caps.flow) ∙ of_caps.limited),
+        in_map (route_of cmp number) flows of_caps.flow (in_from_contains flows of_caps.flow of_caps.among),
+        in_from_contains flows of_caps.flow of_caps.among, on_route of_caps.subject of_caps.flow,
+        users_are of_caps.subject)
 
     back_at : (side : Side) (link : IsLinkSide links routes side) (s : Subject P) (f : Flow P) → number s ≡ link.link
         → In flows f → has_link link.link (route_of cmp number f) ≡ true → IsCappedSide cmp caps flows side

@@ -1,13 +1,10 @@
 -- Flows that stand at other places: where each flow of a list is one of another list, and the sides go together, so do
 -- the fair rates.
-use Rattle.std.proofs.Common.{◌≡◌, ℕ, ◌*◌, ◌<◌, ◌≤◌, List, All, Contains, sym, ap, ◌∙◌, arith}
-use Rattle.std.proofs.lemmas.List.Elements.{All-contains}
-use Rattle.fair_rates.specs.Fairness.Fair.{Side, load, IsLimited, IsFair, HasBottleneck}
-use Rattle.fair_rates.specs.Fairness.Laws.{HaveUsersBelow}
-use Rattle.fair_rates.specs.Fairness.Rates.{IsRateOf}
-use Rattle.fair_rates.specs.declared.bandwidth.Rate.{Rate}
-use Rattle.fair_rates.specs.declared.bandwidth.Rate.TheVariants.{Unlimited, Finite}
-use Rattle.fair_rates.proofs.Lists.SumOrder.{All-from_contains}
+use Rattle.std.proofs.Common.{rules}
+use Rattle.fair_routes.proofs.Common.{◌≡◌, ℕ, ◌*◌, ◌<◌, ◌≤◌, List, Contains, sym, ap, ◌∙◌, arith, All-contains, Side}
+use Rattle.fair_routes.proofs.Common.{load, IsLimited, IsFair, HaveUsersBelow, IsRateOf, Rate, Unlimited, Finite}
+use Rattle.fair_routes.proofs.Common.{All-from_contains}
+use Rattle.fair_rates.specs.Fairness.Fair.{HasBottleneck}
 
 -- `of` says which old flow a new one is. A new side is an old one: its cap and its load are the same, and its users are
 -- those of the new flows that use the old side
@@ -24,9 +21,7 @@ pub record AreRelabelled (of : ℕ → ℕ) (flows : ℕ) (olds news : List Side
 
 module _ (of : ℕ → ℕ) (flows : ℕ) (olds news : List Side) (are : AreRelabelled of flows olds news) where
   is_flow : (flow : ℕ) → IsLimited news flow → flow < flows
-  is_flow flow (side, uses) =
-      All-contains (λ user. user < flows) side.users flow
-      (All-contains (λ (s : Side). All (λ user. user < flows) s.users) news side are.below uses.listed) uses.used
+  is_flow flow (side, uses) = search (rules, All-contains)
 
   pub old_limited : (flow : ℕ) → IsLimited news flow → IsLimited olds (of flow)
   old_limited flow (side, uses) =

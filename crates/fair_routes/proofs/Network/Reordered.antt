@@ -1,25 +1,19 @@
 -- Flows in another order.
-use Rattle.std.proofs.Common.{◌≡◌, ℕ, suc, ◌+◌, ◌<◌, List, [], ◌∷◌, Bool, true, false, cond, Option, Some}
-use Rattle.std.proofs.Common.{map, length, get_or, All, Contains, sum_by, refl, sym, ap, ◌∙◌, subst, inl, inr, arith}
-use Rattle.std.specs.Prelude.{slice_get}
-use Rattle.std.specs.List.{list_any, range_with_len}
+use Rattle.std.proofs.Common.{rules}
+use Rattle.fair_routes.proofs.Common.{◌≡◌, ℕ, suc, ◌+◌, ◌<◌, List, [], ◌∷◌, Bool, true, false, cond, Option, Some, map}
+use Rattle.fair_routes.proofs.Common.{length, get_or, All, Contains, sum_by, refl, sym, ap, ◌∙◌, subst, inl, inr, arith}
+use Rattle.fair_routes.proofs.Common.{slice_get, list_any, length-map, get_or-map, get_or_default, All-contains}
+use Rattle.fair_routes.proofs.Common.{sum_by-cons, slice_get-get_or, slice_get-map, get_or_from_slice_get, Side}
+use Rattle.fair_routes.proofs.Common.{IsRateOf, places_from, Unlimited, In, in_map, in_from_contains, contains_from_in}
+use Rattle.fair_routes.proofs.Common.{from_map, any_passes, routes_at, has_link, users_of, sides_over, common_steps}
+use Rattle.std.specs.List.{range_with_len}
 use Rattle.std.specs.List.Sorted.{IsPermutation}
-use Rattle.std.proofs.lemmas.List.{length-map, get_or-map, get_or_default, same_lists}
-use Rattle.std.proofs.lemmas.List.Elements.{All-contains}
+use Rattle.std.proofs.lemmas.List.{same_lists}
 use Rattle.std.proofs.lemmas.List.FromFn.{length-range_with_len, get_or-range_with_len}
 use Rattle.std.proofs.lemmas.List.Sorted.{sum_by-IsPermutation, Contains-permutation, All-permutation}
-use Rattle.std.proofs.lemmas.List.Sums.{sum_by-cons}
-use Rattle.std.proofs.lemmas.Option.{slice_get-get_or, slice_get-map, get_or_from_slice_get}
-use Rattle.fair_rates.specs.Fairness.Fair.{Side}
-use Rattle.fair_rates.specs.Fairness.Laws.{HaveUsersBelow}
-use Rattle.fair_rates.specs.Fairness.Rates.{IsRateOf}
-use Rattle.fair_rates.specs.Lists.Places.{places_from}
-use Rattle.fair_rates.specs.declared.bandwidth.Rate.TheVariants.{Unlimited}
-use Rattle.fair_rates.proofs.Lists.Members.{In, in_map, in_get, get_in, in_from_contains, contains_from_in, from_map}
-use Rattle.fair_rates.proofs.Lists.Members.{any_passes, get_from_map}
+use Rattle.fair_rates.proofs.Lists.Members.{in_get, get_in, get_from_map}
 use Rattle.fair_rates.proofs.Lists.Places.{place_here, passes_here, below_length}
-use Rattle.fair_routes.specs.Network.Laws.{routes_at, rates_at, OrderOfFlowsDoesNotMatter}
-use Rattle.fair_routes.specs.Network.Sides.{has_link, users_of, sides_over}
+use Rattle.fair_routes.specs.Network.Laws.{rates_at, OrderOfFlowsDoesNotMatter}
 use Rattle.fair_routes.proofs.Network.LinkSides.{link_side, side_listed, users_are_flows}
 use Rattle.fair_routes.proofs.Network.Relabelled.{IsTheSide, AreRelabelled, relabelled_fair, relabelled_rate}
 use Rattle.fair_routes.proofs.Network.Said.{found}
@@ -29,30 +23,7 @@ use Rattle.fair_routes.proofs.Network.Said.{found}
 shifted : {X : Type 0} (g : ℕ → ℕ) (place : ℕ) (test : X → Bool) (xs : List X)
     → sum_by g (places_from (place + 1) test xs) ≡ sum_by (λ n. g (suc n)) (places_from place test xs)
 shifted g place test [] = refl
-shifted {X} g place test (x ∷ xs) = by_test (test x) (shifted g (place + 1) test xs)
-  where
-    next : place + 1 ≡ suc place
-    next = omega arith
-
-    later : List ℕ
-    later = places_from (place + 1 + 1) test xs
-
-    rest : List ℕ
-    rest = places_from (place + 1) test xs
-
-    by_test : (b : Bool)
-        → sum_by g (places_from (place + 1 + 1) test xs) ≡ sum_by (λ n. g (suc n)) (places_from (place + 1) test xs)
-        → sum_by g (cond b ((place + 1) ∷ places_from (place + 1 + 1) test xs) (places_from (place + 1 + 1) test xs))
-        ≡ sum_by (λ n. g (suc n)) (cond b (place ∷ places_from (place + 1) test xs) (places_from (place + 1) test xs))
-    by_test true ih =
-        omega (
-          arith,
-          sum_by-cons g (place + 1) (places_from (place + 1 + 1) test xs),
-          sum_by-cons (λ n. g (suc n)) place (places_from (place + 1) test xs),
-          ap g next,
-          ih,
-        )
-    by_test false ih = ih
+shifted {X} g place test (x ∷ xs) = grind (arith, common_steps, sum_by-cons, shifted g (place + 1) test xs)
 
 -- the users of a link, where the flows are those that stand at these places
 pub sum_at : {X : Type 0} (g : ℕ → ℕ) (test : X → Bool) (route : ℕ → X) (order : List ℕ)
@@ -217,13 +188,7 @@ module _ (caps : List (Option ℕ)) (routes : List (List ℕ)) (order : List ℕ
       )
 
   pub relabelled : AreRelabelled of (length order) (sides_over caps routes) (sides_over caps news)
-  relabelled = record {
-    below =
-        subst (λ (n : ℕ). HaveUsersBelow n (sides_over caps news)) (length-map order route)
-        (users_are_flows caps news);
-    there = there;
-    from = from;
-  }
+  relabelled = search (rules, length-map, users_are_flows, there, from)
 
 pub the_order_of_flows_does_not_matter : OrderOfFlowsDoesNotMatter
 the_order_of_flows_does_not_matter caps routes rates order permuted fair =

@@ -1,29 +1,22 @@
 -- Flows are held, one after another, and what they have is multiplied and weighed.
-use Rattle.std.proofs.Common.{◌≡◌, ℕ, ◌+◌, ◌*◌, ◌<◌, ◌≤◌, List, [], ◌∷◌, ◌++◌, All, Contains, Option, Some, None, IsSome}
-use Rattle.std.proofs.Common.{cond, length, map, get_or, set, inl, inr, refl, sym, ap, ◌∙◌, subst, arith}
-use Rattle.std.proofs.Common.{get_or-set_other, get_or-set_same, length-append, mul-le-mul_right, le_of_mul-le-mul_right}
-use Rattle.std.specs.Prelude.{MatchOption, count_by, option_map, unwrap_or}
-use Rattle.std.specs.Option.{is_none}
+use Rattle.fair_routes.proofs.Common.{◌≡◌, ℕ, ◌+◌, ◌*◌, ◌<◌, ◌≤◌, List, [], ◌∷◌, ◌++◌, All, Contains, Option, Some}
+use Rattle.fair_routes.proofs.Common.{None, cond, length, map, get_or, set, inl, inr, refl, sym, ap, ◌∙◌, subst, arith}
+use Rattle.fair_routes.proofs.Common.{mul-le-mul_right, count_by, option_map, unwrap_or, is_none, All-nil, All-push}
+use Rattle.fair_routes.proofs.Common.{Side, none_or_some, some_is, not_some, frozen_in, rising_weight, AreAllHeld}
+use Rattle.fair_routes.proofs.Common.{HasLeastRoom, HasFrozen, Room, common_steps}
+use Rattle.std.proofs.Common.{IsSome, get_or-set_other, get_or-set_same, length-append, le_of_mul-le-mul_right, rules}
+use Rattle.std.specs.Prelude.{MatchOption}
 use Rattle.std.proofs.Math.ListN.{length-set, get_or-map as get_or_map}
 use Rattle.std.proofs.lemmas.Bool.{cases_eq}
 use Rattle.std.proofs.lemmas.List.{get_or_push, get_or_append_left}
-use Rattle.std.proofs.lemmas.List.Elements.{All-nil, All-push, All-weaker, Contains-push, Contains-append_left}
+use Rattle.std.proofs.lemmas.List.Elements.{All-weaker, Contains-push, Contains-append_left}
 use Rattle.std.proofs.lemmas.List.Sums.{sum_by-set}
-use Rattle.fair_rates.specs.Fairness.Fair.{Side}
 use Rattle.fair_rates.proofs.Filling.Growing.{AreScaled}
-use Rattle.fair_rates.proofs.Filling.Frozen.{none_or_some, some_is, not_some}
-use Rattle.fair_routes.specs.Network.Rising.{frozen_in, rising_weight, slack_of, AreAllHeld, HasLeastRoom, IsLesser, HasFrozen}
-use Rattle.fair_routes.specs.declared.routes.weighted.room.Room.{Room}
+use Rattle.fair_routes.specs.Network.Rising.{slack_of, IsLesser}
 
 -- nobody was to be held
 pub frozen_none : (parts : List (Option ℕ)) (share : ℕ) → HasFrozen [] parts parts share
-frozen_none parts share = record {
-  one_each = refl;
-  all = All-nil (λ user. IsSome (frozen_in parts user));
-  kept = λ flow p e. e;
-  fresh = λ flow p none e. cc;
-  fewer = λ flow none some. absurd (not_some (frozen_in parts flow) none some);
-}
+frozen_none parts share = search (rules, All-nil, not_some)
 
 module _ (mid : List (Option ℕ)) (user share : ℕ) (inside : user < length mid) where
   abbrev after : List (Option ℕ)
@@ -39,12 +32,10 @@ module _ (mid : List (Option ℕ)) (user share : ℕ) (inside : user < length mi
   there_some parts e = there ∙ ap (λ o. Some (unwrap_or o share)) e
 
   elsewhere : (flow : ℕ) → ¬ (flow ≡ user) → frozen_in after flow ≡ frozen_in mid flow
-  elsewhere flow other =
-      get_or-set_other mid user flow (Some (unwrap_or (frozen_in mid user) share)) None other
+  elsewhere flow other = search (rules, get_or-set_other)
 
   counted : count_by is_none after + cond (is_none (frozen_in mid user)) 1 0 ≡ count_by is_none mid
-  counted = omega
-      (arith, sum_by-set (λ o. cond (is_none o) 1 0) mid user (Some (unwrap_or (frozen_in mid user) share)) None inside)
+  counted = search (rules, sum_by-set)
 
   one_less : frozen_in mid user ≡ None → count_by is_none after < count_by is_none mid
   one_less e = omega (arith, counted, ap {B = ℕ} (λ (o : Option ℕ). cond (is_none o) 1 0) e)
@@ -56,18 +47,10 @@ module _ (mid : List (Option ℕ)) (user share : ℕ) (inside : user < length mi
   module _ (before : List (Option ℕ)) (users : List ℕ) (frozen : HasFrozen users before mid share)
       (no_more : count_by is_none mid ≤ count_by is_none before) where
     all_held : (flow : ℕ) → IsSome (frozen_in mid flow) → IsSome (frozen_in after flow)
-    all_held flow some = elim (cases_eq flow user) [
-      | inl same ↦ subst (λ n. IsSome (frozen_in after n)) (sym same) (some_is _ _ there)
-      | inr other ↦ subst (λ o. IsSome o) (sym (elsewhere flow other)) some
-    ]
+    all_held flow some = search (rules, cases_eq, some_is, there, elsewhere)
 
     kept : (flow parts : ℕ) → frozen_in before flow ≡ Some parts → frozen_in after flow ≡ Some parts
-    kept flow parts e =
-        let was = frozen.kept flow parts e in
-        elim (cases_eq flow user) [
-          | inl same ↦ ap (frozen_in after) same ∙ there_some parts (sym (ap (frozen_in mid) same) ∙ was)
-          | inr other ↦ elsewhere flow other ∙ was
-        ]
+    kept flow parts e = search (rules, cases_eq, there_some, elsewhere)
 
     fresh : (flow parts : ℕ) → frozen_in before flow ≡ None → frozen_in after flow ≡ Some parts
         → (parts ≡ share) × Contains (users ++ user ∷ []) flow
@@ -91,15 +74,7 @@ module _ (mid : List (Option ℕ)) (user share : ℕ) (inside : user < length mi
 
     fewer : (flow : ℕ) → frozen_in before flow ≡ None → IsSome (frozen_in after flow)
         → count_by is_none after < count_by is_none before
-    fewer flow none some = elim (none_or_some (frozen_in mid user)) [
-      | inl still ↦ omega (arith, one_less still, no_more)
-      | inr (p, held) ↦
-          let was : IsSome (frozen_in mid flow) = elim (cases_eq flow user) [
-            | inl same ↦ subst (λ n. IsSome (frozen_in mid n)) (sym same) (some_is _ _ held)
-            | inr other ↦ subst (λ o. IsSome o) (elsewhere flow other) some
-          ] in
-          omega (arith, frozen.fewer flow none was, no_more_held)
-    ]
+    fewer flow none some = search (rules, none_or_some, one_less, cases_eq, some_is, elsewhere, no_more_held)
 
     pub frozen_more : HasFrozen (users ++ user ∷ []) before after share
     frozen_more = record {
@@ -131,11 +106,7 @@ multiplied_once factor one (o ∷ parts) = λ i. same o i ∷ multiplied_once fa
 -- each flow that is held has so many times as much
 pub all_multiplied : (factor : ℕ) (parts now : List (Option ℕ)) → now ≡ map (option_map (λ n. n * factor)) parts
     → AreScaled factor (frozen_in parts) (frozen_in now)
-all_multiplied factor parts now are = record {
-  each = λ flow.
-      ap (λ xs. frozen_in xs flow) are
-      ∙ get_or_map (option_map (λ n. n * factor)) parts flow None;
-}
+all_multiplied factor parts now are = grind (arith, common_steps, get_or_map)
 
 -- ---- one after another is weighed
 
@@ -143,13 +114,7 @@ all_multiplied factor parts now are = record {
 pub pushed : {X : Type 0} (Holds : ℕ → X → Type 0) (d : X) (xs : List X) (x : X) (n : ℕ) → length xs ≡ n
     → ((k : ℕ) → k < n → Holds k (get_or xs k d)) → Holds n x
     → (k : ℕ) → k < n + 1 → Holds k (get_or (xs ++ x ∷ []) k d)
-pushed Holds d xs x n len all here k inside = elim (cases_eq k n) [
-  | inl same ↦ subst (λ j. Holds j (get_or (xs ++ x ∷ []) j d)) (sym same)
-      (subst (Holds n) (sym (get_or_push xs x d n len)) here)
-  | inr other ↦
-      let within : k < n = omega (arith, inside) in
-      subst (Holds k) (sym (get_or_append_left xs (x ∷ []) d k (omega (arith, within, len)))) (all k within)
-]
+pushed Holds d xs x n len all here k inside = search (rules, cases_eq, get_or_push, get_or_append_left)
 
 -- ---- the least room of one side after another
 
@@ -174,35 +139,15 @@ module _ (weights : List ℕ) (scale : ℕ) (frozen : ℕ → Option ℕ) where
     itself = omega (arith, ap (λ n. room.slack * n) weight, ap (λ n. n * room.weight) slack)
 
     taken : 0 < room.weight → All (Covers room) passed → HasLeastRoom weights scale frozen (passed ++ side ∷ []) room
-    taken some covers = record {
-      inside = omega (arith, place, length-append {A = Side} passed (side ∷ []));
-      slack = λ d. slack ∙ sym (ap (slack_of weights scale frozen) (get_or_push passed side d room.place (sym place)));
-      weight = λ d. weight
-          ∙ sym (ap (λ (s : Side). rising_weight weights frozen s.users)
-          (get_or_push passed side d room.place (sym place)));
-      some = some;
-      least = All-push (Covers room) passed side covers itself;
-    }
+    taken some covers = grind (arith, common_steps, length-append, get_or_push, All-push, itself)
 
     stays : (least : Room) → HasLeastRoom weights scale frozen passed least
         → least.slack * room.weight ≤ room.slack * least.weight
         → HasLeastRoom weights scale frozen (passed ++ side ∷ []) least
-    stays least has less = record {
-      inside = omega (arith, has.inside, length-append {A = Side} passed (side ∷ []));
-      slack = λ d. has.slack d
-          ∙ sym (ap (slack_of weights scale frozen) (get_or_append_left passed (side ∷ []) d least.place has.inside));
-      weight = λ d. has.weight d
-          ∙ sym (ap (λ (s : Side). rising_weight weights frozen s.users)
-          (get_or_append_left passed (side ∷ []) d least.place has.inside));
-      some = has.some;
-      least = All-push (Covers least) passed side has.least
-          (omega (arith, less, ap (λ n. least.slack * n) weight, ap (λ n. n * least.weight) slack));
-    }
+    stays least has less = grind (arith, common_steps, length-append, get_or_append_left, All-push)
 
     none_covers : AreAllHeld weights frozen passed → All (Covers room) passed
-    none_covers held =
-        All-weaker (λ (s : Side). rising_weight weights frozen s.users ≡ 0) (Covers room)
-        (λ s zero. omega (arith, ap (λ n. room.slack * n) zero)) passed held
+    none_covers held = search (rules, All-weaker)
 
     less_covers : (least : Room) → HasLeastRoom weights scale frozen passed least
         → room.slack * least.weight < least.slack * room.weight → All (Covers room) passed
@@ -213,12 +158,7 @@ module _ (weights : List ℕ) (scale : ℕ) (frozen : ℕ → Option ℕ) where
 
     pub least_more : (least result : Option Room) → IsLeastOf passed least → IsLesser least room result
         → IsLeastOf (passed ++ side ∷ []) result
-    least_more None result was (inl (is, some, less)) =
-        subst (IsLeastOf (passed ++ side ∷ [])) (sym is) (taken some (none_covers was))
-    least_more (Some least) result was (inl (is, some, less)) =
-        subst (IsLeastOf (passed ++ side ∷ [])) (sym is) (taken some (less_covers least was less))
-    least_more None result was (inr (is, zero)) =
-        subst (IsLeastOf (passed ++ side ∷ [])) (sym is)
-        (All-push (λ (s : Side). rising_weight weights frozen s.users ≡ 0) passed side was (sym weight ∙ zero))
-    least_more (Some least) result was (inr (is, less)) =
-        subst (IsLeastOf (passed ++ side ∷ [])) (sym is) (stays least was less)
+    least_more None result was (inl (is, some, less)) = grind (arith, common_steps, taken, none_covers)
+    least_more (Some least) result was (inl (is, some, less)) = grind (arith, common_steps, taken, less_covers)
+    least_more None result was (inr (is, zero)) = grind (arith, common_steps, All-push)
+    least_more (Some least) result was (inr (is, less)) = grind (arith, common_steps, stays)

@@ -1,17 +1,15 @@
 -- The same network said otherwise: with its routes as sets of links, or with other numbers for its links.
-use Rattle.std.proofs.Common.{◌≡◌, ◌==◌, ℕ, ◌+◌, List, [], ◌∷◌, Bool, true, Option, Some, None, map, length}
-use Rattle.std.proofs.Common.{get_or, refl, sym, ap, ◌∙◌, subst, inl, inr, eq-eqb}
-use Rattle.std.specs.List.{AllZip, list_any}
-use Rattle.std.proofs.lemmas.Bool.{eqb-true, false≢true}
-use Rattle.std.proofs.lemmas.Bool.Decides.{eqb_tells}
-use Rattle.fair_rates.specs.Fairness.Fair.{Side}
+use Rattle.fair_routes.proofs.Common.{◌≡◌, ◌==◌, ℕ, ◌+◌, List, [], ◌∷◌, Bool, true, Option, Some, None, map, get_or}
+use Rattle.fair_routes.proofs.Common.{refl, sym, ap, ◌∙◌, inl, inr, AllZip, list_any, eqb-true, eqb_tells, Side, In}
+use Rattle.fair_routes.proofs.Common.{from_map, places_alike, IsLinkSide, has_link, users_of, side_of_link, sides_from}
+use Rattle.fair_routes.proofs.Common.{sides_over, arith, common_steps}
+use Rattle.std.proofs.Common.{eq-eqb, rules}
+use Rattle.std.proofs.lemmas.Bool.{false≢true}
 use Rattle.fair_rates.specs.Fairness.Laws.{AreTheSameSides}
 use Rattle.fair_rates.proofs.Fairness.SameSides.{fairness_is_of_the_set}
-use Rattle.fair_rates.proofs.Lists.Members.{In, from_map, some_or_none, any_fails}
-use Rattle.fair_rates.proofs.Lists.Places.{places_alike}
-use Rattle.fair_routes.specs.Network.Laws.{IsLinkSide, HaveTheSameLinks, RoutesAreSetsOfLinks, AreRenamed}
+use Rattle.fair_rates.proofs.Lists.Members.{some_or_none, any_fails}
+use Rattle.fair_routes.specs.Network.Laws.{HaveTheSameLinks, RoutesAreSetsOfLinks, AreRenamed}
 use Rattle.fair_routes.specs.Network.Laws.{OrderOfLinksDoesNotMatter}
-use Rattle.fair_routes.specs.Network.Sides.{has_link, users_of, side_of_link, sides_from, sides_over}
 use Rattle.fair_routes.proofs.Network.LinkSides.{link_side, side_listed}
 
 -- ---- tests
@@ -34,26 +32,14 @@ any_alike R f g same (x ∷ xs) (y ∷ ys) h = rw (same x y h.0, any_alike R f g
 
 -- numbers that are equal just where others are
 pub same_test : (a b c d : ℕ) → (a ≡ b → c ≡ d) → (c ≡ d → a ≡ b) → (a == b) ≡ (c == d)
-same_test a b c d there back = elim (eqb_tells a b) [
-  | inl same ↦ same.0 ∙ sym (eq-eqb c d (there same.1))
-  | inr differ ↦ elim (eqb_tells c d) [
-    | inl other ↦ absurd (differ.1 (back other.1))
-    | inr none ↦ differ.0 ∙ sym none.0
-  ]
-]
+same_test a b c d there back = search (rules, eqb_tells, eq-eqb)
 
 -- ---- routes as sets
 
 same_side : (link : ℕ) (cap : Option ℕ) (routes others : List (List ℕ)) → HaveTheSameLinks routes others
     → side_of_link routes link cap ≡ side_of_link others link cap
 same_side link None routes others same = refl
-same_side link (Some cap) routes others same =
-    rw (
-      any_alike (λ (route other : List ℕ). (l : ℕ) → has_link l route ≡ has_link l other) (has_link link) (has_link link)
-          (λ route other alike. alike link) routes others same,
-      places_alike (λ (route other : List ℕ). (l : ℕ) → has_link l route ≡ has_link l other) (has_link link)
-          (has_link link) (λ route other alike. alike link) 0 routes others same,
-    ) refl
+same_side link (Some cap) routes others same = search (rules, any_alike, places_alike)
 
 same_sides : (link : ℕ) (caps : List (Option ℕ)) (routes others : List (List ℕ)) → HaveTheSameLinks routes others
     → sides_from link caps routes ≡ sides_from link caps others
@@ -69,8 +55,7 @@ routes_are_sets_of_links caps routes others same = same_sides 0 caps routes othe
 module _ (caps others : List (Option ℕ)) (name : ℕ → ℕ) (are : AreRenamed caps others name) where
   has_renamed : (link : ℕ) (route : List ℕ) → has_link link route ≡ has_link (name link) (map name route)
   has_renamed link [] = refl
-  has_renamed link (x ∷ route) =
-      rw (same_test x link (name x) (name link) (ap name) (are.apart x link), has_renamed link route) refl
+  has_renamed link (x ∷ route) = search (rules, same_test, has_renamed link route)
 
   abbrev Renames : List ℕ → List ℕ → Type 0
   Renames route other = (link : ℕ) → has_link link route ≡ has_link (name link) other
@@ -82,22 +67,13 @@ module _ (caps others : List (Option ℕ)) (name : ℕ → ℕ) (are : AreRename
   module _ (routes : List (List ℕ)) where
     any_renamed : (link : ℕ)
         → list_any (has_link link) routes ≡ list_any (has_link (name link)) (map (map name) routes)
-    any_renamed link =
-        any_alike Renames (has_link link) (has_link (name link)) (λ route other alike. alike link) routes
-        (map (map name) routes) (all_renamed routes)
+    any_renamed link = grind (arith, common_steps, all_renamed routes, any_alike)
 
     users_renamed : (link : ℕ) → users_of link routes ≡ users_of (name link) (map (map name) routes)
-    users_renamed link =
-        places_alike Renames (has_link link) (has_link (name link)) (λ route other alike. alike link) 0 routes
-        (map (map name) routes) (all_renamed routes)
+    users_renamed link = grind (arith, common_steps, all_renamed routes, places_alike)
 
     there : (side : Side) → IsLinkSide caps routes side → IsLinkSide others (map (map name) routes) side
-    there side of = record {
-      link = name of.link;
-      capped = are.same_cap of.link ∙ of.capped;
-      used = sym (any_renamed of.link) ∙ of.used;
-      users = of.users ∙ users_renamed of.link;
-    }
+    there side of = grind (arith, common_steps, any_renamed of.link, users_renamed of.link)
 
     back_at : (side : Side) (link at : ℕ) → name at ≡ link → get_or others link None ≡ Some side.cap
         → list_any (has_link link) (map (map name) routes) ≡ true
@@ -110,24 +86,13 @@ module _ (caps others : List (Option ℕ)) (name : ℕ → ℕ) (are : AreRename
     }
 
     back : (side : Side) → IsLinkSide others (map (map name) routes) side → IsLinkSide caps routes side
-    back side of =
-        let some = found (has_link of.link) (map (map name) routes) of.used in
-        let route = from_map (map name) routes some.0 some.1 in
-        let on = found (λ other. other == of.link) some.0 some.2 in
-        let at = from_map name route.0 on.0 (subst (λ (r : List ℕ). In r on.0) (sym route.2) on.1) in
-        back_at side of.link at.0 (at.2 ∙ eqb-true on.0 of.link on.2) of.capped of.used of.users
+    back side of = search (rules, found, from_map, back_at, eqb-true)
 
 -- the sides are the same
 pub renamed_sides : (caps others : List (Option ℕ)) (name : ℕ → ℕ) (routes : List (List ℕ)) → AreRenamed caps others name
     → AreTheSameSides (sides_over caps routes) (sides_over others (map (map name) routes))
-renamed_sides caps others name routes are side = (
-  (λ listed. side_listed others (map (map name) routes) side
-      (there caps others name are routes side (link_side caps routes side listed))),
-  (λ listed. side_listed caps routes side
-      (back caps others name are routes side (link_side others (map (map name) routes) side listed))),
-)
+renamed_sides caps others name routes are side = search (rules, side_listed, there, link_side, back)
 
 pub the_order_of_links_does_not_matter : OrderOfLinksDoesNotMatter
 the_order_of_links_does_not_matter caps others name routes rates are fair =
-    fairness_is_of_the_set (sides_over caps routes) (sides_over others (map (map name) routes)) (length routes) rates
-    (renamed_sides caps others name routes are) fair
+    search (rules, fairness_is_of_the_set, renamed_sides)

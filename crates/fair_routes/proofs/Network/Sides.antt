@@ -1,44 +1,24 @@
 -- The sides that links make, from the flows that use each link.
-use Rattle.std.proofs.Common.{◌≡◌, ℕ, ◌+◌, ◌<◌, List, [], ◌∷◌, ◌++◌, Bool, true, false, cond, length, get_or, drop, map}
-use Rattle.std.proofs.Common.{Option, Some, None, reverse, refl, sym, ap, ◌∙◌, subst, arith}
-use Rattle.std.specs.Prelude.{◌||◌}
-use Rattle.std.specs.List.{list_any}
-use Rattle.std.specs.declared.alloc.Global.{Global}
-use Rattle.std.specs.declared.vec.Vec.{Vec}
-use Rattle.std.proofs.lemmas.List.{map-append, reverse-append, drop_more, drop_all, get_or_push}
-use Rattle.std.proofs.lemmas.List.{get_or_append_left, length-map, reverse-reverse}
-use Rattle.fair_rates.specs.Lists.Places.{places_from}
-use Rattle.fair_routes.specs.Network.Sides.{side_of, has_link, users_of, side_of_link, sides_from, sides_over}
+use Rattle.fair_routes.proofs.Common.{◌≡◌, ℕ, ◌+◌, ◌<◌, List, [], ◌∷◌, ◌++◌, Bool, true, false, cond, length, get_or}
+use Rattle.fair_routes.proofs.Common.{map, Option, Some, None, refl, sym, ap, ◌∙◌, subst, arith, list_any, Global, Vec}
+use Rattle.fair_routes.proofs.Common.{map-append, length-map, places_from, side_of, has_link, users_of, side_of_link}
+use Rattle.fair_routes.proofs.Common.{sides_from, sides_over, users_at, AreUsers, common_steps}
+use Rattle.std.proofs.Common.{drop, reverse, rules}
+use Rattle.std.proofs.lemmas.List.{reverse-append, drop_more, drop_all, get_or_push, get_or_append_left}
+use Rattle.std.proofs.lemmas.List.{reverse-reverse}
 use Rattle.fair_routes.specs.declared.routes.sides.LinkSide as declared
-use Rattle.fair_routes.specs.Network.Users.{lists, users_at, AreUsers}
 
 -- ---- whether a link has a user
 
 pub some_user : {X : Type 0} (place : ℕ) (test : X → Bool) (xs : List X) → 0 < length (places_from place test xs)
     → list_any test xs ≡ true
 some_user place test [] some = absurd (omega arith)
-some_user {X} place test (x ∷ xs) some = by_test (test x) (some_user (place + 1) test xs) some
-  where
-    rest : List ℕ
-    rest = places_from (place + 1) test xs
-
-    by_test : (b : Bool) → (0 < length rest → list_any test xs ≡ true) → 0 < length (cond b (place ∷ rest) rest)
-        → (b || list_any test xs) ≡ true
-    by_test true ih h = refl
-    by_test false ih h = ih h
+some_user {X} place test (x ∷ xs) some = search (rules, some_user (place + 1) test xs)
 
 pub no_user : {X : Type 0} (place : ℕ) (test : X → Bool) (xs : List X) → length (places_from place test xs) ≡ 0
     → list_any test xs ≡ false
 no_user place test [] none = refl
-no_user {X} place test (x ∷ xs) none = by_test (test x) (no_user (place + 1) test xs) none
-  where
-    rest : List ℕ
-    rest = places_from (place + 1) test xs
-
-    by_test : (b : Bool) → (length rest ≡ 0 → list_any test xs ≡ false) → length (cond b (place ∷ rest) rest) ≡ 0
-        → (b || list_any test xs) ≡ false
-    by_test true ih h = absurd (omega arith)
-    by_test false ih h = ih h
+no_user {X} place test (x ∷ xs) none = search (rules, no_user (place + 1) test xs)
 
 -- ---- link by link, from the last one down
 
@@ -50,27 +30,18 @@ pub record AreMade (link : ℕ) (caps : List (Option ℕ)) (routes : List (List 
 
 pub made_none : (caps : List (Option ℕ)) (routes : List (List ℕ)) (users : List (Vec ℕ Global))
     → AreUsers (length caps) routes users → AreMade (length caps) caps routes users []
-made_none caps routes users are =
-    let none : drop (length caps) caps ≡ [] = drop_all (length caps) caps (omega arith) in
-    record { of = are.at; are = ap (λ cs. reverse (sides_from (length caps) cs routes)) (sym none) }
+made_none caps routes users are = search (rules, drop_all)
 
 -- what stands before the last one
 before : (link below : ℕ) (routes : List (List ℕ)) (users : List (Vec ℕ Global)) (flows : Vec ℕ Global)
     → length users ≡ link → ((at : ℕ) → at < link + 1 → users_at (users ++ flows ∷ []) at ≡ users_of at routes)
     → below < link → users_at users below ≡ users_of below routes
-before link below routes users flows many of less =
-    let split = map-append (λ (v : Vec ℕ Global). v.items) users (flows ∷ []) in
-    sym (get_or_append_left (lists users) (flows.items ∷ []) [] below
-    (omega (arith, many, less, length-map users (λ (v : Vec ℕ Global). v.items))))
-    ∙ ap (λ us. get_or us below []) (sym split) ∙ of below (omega arith)
+before link below routes users flows many of less = search (rules, map-append, get_or_append_left, length-map)
 
 last : (link : ℕ) (routes : List (List ℕ)) (users : List (Vec ℕ Global)) (flows : Vec ℕ Global)
     → length users ≡ link → ((at : ℕ) → at < link + 1 → users_at (users ++ flows ∷ []) at ≡ users_of at routes)
     → flows.items ≡ users_of link routes
-last link routes users flows many of =
-    let split = map-append (λ (v : Vec ℕ Global). v.items) users (flows ∷ []) in
-    sym (get_or_push (lists users) flows.items [] link (length-map users (λ (v : Vec ℕ Global). v.items) ∙ many))
-    ∙ ap (λ us. get_or us link []) (sym split) ∙ of link (omega arith)
+last link routes users flows many of = search (rules, map-append, get_or_push, length-map)
 
 module _ (link : ℕ) (caps : List (Option ℕ)) (routes : List (List ℕ)) (users : List (Vec ℕ Global))
     (flows : Vec ℕ Global) (sides : List declared.LinkSide) (inside : link < length caps) (many : length users ≡ link)
@@ -93,10 +64,8 @@ module _ (link : ℕ) (caps : List (Option ℕ)) (routes : List (List ℕ)) (use
   pub made_unused : (cap : ℕ) → get_or caps link None ≡ Some cap → length flows.items ≡ 0
       → AreMade link caps routes users sides
   made_unused cap is none =
-      let nobody : list_any (has_link link) routes ≡ false =
-      no_user 0 (has_link link) routes (ap length (sym (last link routes users flows many made.of)) ∙ none) in
-      no_side (ap (side_of_link routes link) is
-      ∙ ap (λ b. cond b (record { cap = cap; users = users_of link routes } ∷ []) []) nobody)
+      grind (arith, common_steps,
+      no_user 0 (has_link link) routes (ap length (sym (last link routes users flows many made.of)) ∙ none), no_side)
 
   -- a link with both
   pub made_side : (cap : ℕ) (side : declared.LinkSide) → get_or caps link None ≡ Some cap → 0 < length flows.items
@@ -123,19 +92,14 @@ module _ (link : ℕ) (caps : List (Option ℕ)) (routes : List (List ℕ)) (use
 pub popped : (link : ℕ) (caps : List (Option ℕ)) (routes : List (List ℕ)) (users all : List (Vec ℕ Global))
     (flows : Vec ℕ Global) (sides : List declared.LinkSide) (n : ℕ) → n ≡ link + 1 → all ≡ users ++ flows ∷ []
     → AreMade n caps routes all sides → AreMade (link + 1) caps routes (users ++ flows ∷ []) sides
-popped link caps routes users all flows sides n is split made =
-    subst (λ (us : List (Vec ℕ Global)). AreMade (link + 1) caps routes us sides) split
-    (subst (λ (k : ℕ). AreMade k caps routes all sides) is made)
+popped link caps routes users all flows sides n is split made = search rules
 
 map-reverse : (xs : List declared.LinkSide) → map side_of (reverse xs) ≡ reverse (map side_of xs)
 map-reverse [] = refl
-map-reverse (x ∷ xs) =
-    ap (map side_of) (reverse-append (x ∷ []) xs) ∙ map-append side_of (reverse xs) (x ∷ [])
-    ∙ ap (λ ss. ss ++ side_of x ∷ []) (map-reverse xs) ∙ sym (reverse-append (side_of x ∷ []) (map side_of xs))
+map-reverse (x ∷ xs) = grind (arith, common_steps, reverse-append, map-append, map-reverse xs)
 
 -- all links are through
 pub made_all : (caps : List (Option ℕ)) (routes : List (List ℕ)) (users : List (Vec ℕ Global))
     (sides all : List declared.LinkSide) → all ≡ reverse sides → AreMade 0 caps routes users sides
     → map side_of all ≡ sides_over caps routes
-made_all caps routes users sides all is made =
-    ap (map side_of) is ∙ map-reverse sides ∙ ap reverse made.are ∙ reverse-reverse (sides_over caps routes)
+made_all caps routes users sides all is made = search (rules, map-reverse, reverse-reverse)

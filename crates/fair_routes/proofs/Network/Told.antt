@@ -1,33 +1,32 @@
 -- A network that is told bit by bit: its routes by the places of their links, and the sides that these make.
-use Rattle.std.proofs.Common.{◌≡◌, ◌↔◌, ℕ, suc, ◌+◌, ◌<◌, ◌≤◌, ◌==◌, List, [], ◌∷◌, ◌++◌, Option, Some, None, Result, Ok, Err, All}
-use Rattle.std.proofs.Common.{false, map, length, get_or, slice_get, refl, sym, ap, ap₂, ◌∙◌, subst, inl, inr, arith}
-use Rattle.std.specs.List.{AllPairs, AllZip, flat_map, zip}
+use Rattle.fair_routes.proofs.Common.{◌≡◌, ℕ, suc, ◌+◌, ◌<◌, ◌≤◌, List, [], ◌∷◌, ◌++◌, Option, Some, None, All, map}
+use Rattle.fair_routes.proofs.Common.{length, get_or, refl, sym, ap, ap₂, ◌∙◌, subst, inl, inr, arith, AllZip, zip}
+use Rattle.fair_routes.proofs.Common.{option_map, unwrap_or, cases_lt, eqb_tells, length-map, All-nil, All-map}
+use Rattle.fair_routes.proofs.Common.{All-contains, slice_get-get_or, slice_get_within, get_or_from_slice_get, Rate}
+use Rattle.fair_routes.proofs.Common.{places_alike, side_of_link, sides_from, sides_over, AreListed, IsNumbered}
+use Rattle.fair_routes.proofs.Common.{IsWeightRefusal, common_steps}
+use Rattle.std.proofs.Common.{◌↔◌, Result, Ok, Err, slice_get, rules}
+use Rattle.std.specs.List.{AllPairs, flat_map}
 use Rattle.std.specs.List.Sorted.{IsBinarySearchResult}
 use Rattle.std.specs.Map.{keys_of, values_of}
-use Rattle.std.specs.BTreeMap.{get, keys, values}
+use Rattle.std.specs.BTreeMap.{keys, values}
 use Rattle.std.specs.Int.NonZero.{non_zero_u64_get}
 use Rattle.std.specs.declared.num.NonZeroU64.{NonZeroU64}
 use Rattle.std.specs.Ordering.{nat_cmp}
-use Rattle.std.specs.Prelude.{◌||◌, option_map, unwrap_or}
 use Rattle.std.specs.Result.{result_ok}
 use Rattle.std.proofs.Math.Bool.{or-false}
-use Rattle.std.proofs.lemmas.Bool.{cases_lt}
-use Rattle.std.proofs.lemmas.Bool.Decides.{eqb_tells}
-use Rattle.std.proofs.lemmas.List.{length-map}
-use Rattle.std.proofs.lemmas.List.Elements.{All-nil, All-cons, All-append, All-map, All-contains}
+use Rattle.std.proofs.lemmas.List.Elements.{All-cons, All-append}
 use Rattle.std.proofs.lemmas.List.Folds.{list_any-append}
 use Rattle.std.proofs.lemmas.List.Sorted.{searched}
 use Rattle.std.proofs.lemmas.Slice.Zip.{firsts-zip, seconds-zip}
-use Rattle.std.proofs.lemmas.Option.{slice_get-get_or, slice_get_within, get_or_from_slice_get}
-use Rattle.fair_rates.specs.declared.bandwidth.Rate.{Rate}
-use Rattle.fair_rates.proofs.Lists.Places.{places_alike}
 use Rattle.fair_rates.proofs.Lists.Zips.{zip-length}
-use Rattle.fair_routes.specs.Network.Sides.{has_link, side_of_link, sides_from, sides_over, AreListed}
-use Rattle.fair_routes.specs.Network.Told.{IsNumbered, told_routes, told_weight, told_weights, told_sides, AreRatesTold, MayRefuseTold, error_of}
-use Rattle.fair_routes.specs.Network.Weights.{AreWeightedRates, IsWeightedAllocation, IsWeightRefusal, HasLargeWeightedRate, HasMuchWeight}
+use Rattle.fair_routes.specs.Network.Told.{told_routes, told_weight, told_weights, told_sides, AreRatesTold}
+use Rattle.fair_routes.specs.Network.Told.{MayRefuseTold, error_of}
+use Rattle.fair_routes.specs.Network.Weights.{IsWeightedAllocation, HasLargeWeightedRate, HasMuchWeight}
 use Rattle.fair_routes.specs.declared.routes.network.Network.{Network}
 use Rattle.fair_routes.specs.declared.routes.weighted.error.WeightError.{WeightError}
-use Rattle.fair_routes.specs.declared.routes.weighted.error.WeightError.TheVariants.{Routes, OtherCount, NoWeight, TooMuchWeight}
+use Rattle.fair_routes.specs.declared.routes.weighted.error.WeightError.TheVariants.{Routes, OtherCount, NoWeight}
+use Rattle.fair_routes.specs.declared.routes.weighted.error.WeightError.TheVariants.{TooMuchWeight}
 use Rattle.fair_routes.specs.declared.routes.error.RouteError.TheVariants.{Refused, NoSuchLink}
 use Rattle.fair_routes.proofs.Network.Said.{any_alike, same_test}
 
@@ -37,23 +36,11 @@ use Rattle.fair_routes.proofs.Network.Said.{any_alike, same_test}
 module _ (xs : List ℕ) (up : AllPairs (λ one other. one < other) xs) where
   one_place : (i j x : ℕ) → slice_get xs i ≡ Some x → slice_get xs j ≡ Some x → i ≡ j
   one_place i j x first second =
-      let a = get_or_from_slice_get xs i x 0 first in
-      let b = get_or_from_slice_get xs j x 0 second in
-      elim (cases_lt i j) [
-        | inl less ↦ absurd (omega (arith, up i j 0 less (slice_get_within xs j x second), a, b))
-        | inr rest ↦ elim (cases_lt j i) [
-          | inl less ↦ absurd (omega (arith, up j i 0 less (slice_get_within xs i x first), a, b))
-          | inr other ↦ omega (arith, rest, other)
-        ]
-      ]
+      grind (arith, common_steps, get_or_from_slice_get xs i x 0 first, get_or_from_slice_get xs j x 0 second,
+      cases_lt i j, cases_lt j i, slice_get_within xs j x second, slice_get_within xs i x first)
 
   ascend : (i j : ℕ) → i ≤ j → j < length xs → get_or xs i 0 ≤ get_or xs j 0
-  ascend i j le inside = elim (cases_lt i j) [
-    | inl less ↦ omega (arith, up i j 0 less inside)
-    | inr other ↦
-        let same : i ≡ j = omega (arith, le, other) in
-        subst (λ k. get_or xs i 0 ≤ get_or xs k 0) same (omega arith)
-  ]
+  ascend i j le inside = search (rules, cases_lt)
 
   -- what a search finds is the place, and there is none where it finds nothing
   pub found_place : (x : ℕ) (r : Result ℕ ℕ) → IsBinarySearchResult (λ y. nat_cmp y x) xs r → (place : ℕ)
@@ -89,44 +76,19 @@ module _ (links : List ℕ) where
   -- one more link that is one of these
   pub numbered_more : (route numbered : List ℕ) (link place : ℕ) → IsNumbered links route numbered
       → IsPlace (Some place) link → IsNumbered links (route ++ link ∷ []) (numbered ++ place ∷ [])
-  numbered_more route numbered link place h is = record {
-    below = All-append (λ p. p < length links) numbered (place ∷ []) h.below
-        (All-cons (λ p. p < length links) place [] (slice_get_within links place link ((is place).0 refl))
-        (All-nil (λ p. p < length links)));
-    same = λ p l e.
-        let there : link ≡ l → place ≡ p = λ same. cc ((is p).1 (e ∙ ap Some (sym same))) in
-        let back : place ≡ p → link ≡ l = λ same. cc (e, (is p).0 (ap Some same)) in
-        list_any-append (λ other. other == l) route (link ∷ [])
-        ∙ ap₂ (λ a b. a || (b || false)) (h.same p l e) (same_test link l place p there back)
-        ∙ sym (list_any-append (λ other. other == p) numbered (place ∷ []));
-  }
+  numbered_more route numbered link place h is =
+      grind (arith, common_steps, slice_get_within links place link ((is place).0 refl), All-append, All-cons, All-nil,
+      list_any-append, same_test)
 
   -- and one that is none of these
   pub numbered_same : (route numbered : List ℕ) (link : ℕ) → IsNumbered links route numbered
       → IsPlace None link → IsNumbered links (route ++ link ∷ []) numbered
-  numbered_same route numbered link h is = record { below = h.below; same = same }
-    where
-      same : (p l : ℕ) → slice_get links p ≡ Some l → has_link l (route ++ link ∷ []) ≡ has_link p numbered
-      same p l e =
-          let other : (link == l) ≡ false = elim (eqb_tells link l) [
-            | inl one ↦
-                let none : None ≡ Some p = (is p).1 (e ∙ ap Some (sym one.1)) in
-                absurd (cc none)
-            | inr differ ↦ differ.0
-          ] in
-          list_any-append (λ o. o == l) route (link ∷ [])
-          ∙ ap (λ b. has_link l route || (b || false)) other
-          ∙ or-false (has_link l route) ∙ h.same p l e
+  numbered_same route numbered link h is = search (rules, eqb_tells, list_any-append, or-false)
 
   -- a link makes the same side
   same_side : (routes numbered : List (List ℕ)) → AllZip (IsNumbered links) routes numbered → (place link cap : ℕ)
       → slice_get links place ≡ Some link → side_of_link numbered place (Some cap) ≡ side_of_link routes link (Some cap)
-  same_side routes numbered all place link cap e =
-      rw (
-        any_alike (IsNumbered links) (has_link link) (has_link place) (λ r n h. h.same place link e) routes numbered all,
-        places_alike (IsNumbered links) (has_link link) (has_link place) (λ r n h. h.same place link e) 0 routes numbered
-            all,
-      ) refl
+  same_side routes numbered all place link cap e = search (rules, any_alike, places_alike)
 
   same_sides : (routes numbered : List (List ℕ)) → AllZip (IsNumbered links) routes numbered
       → (start : ℕ) (entries : List (ℕ × ℕ))
@@ -145,9 +107,7 @@ pub sides_told : (entries : List (ℕ × ℕ)) (routes numbered : List (List ℕ
     → AllZip (IsNumbered (keys_of entries)) routes numbered
     → sides_over (map Some (values_of entries)) numbered
     ≡ flat_map (λ entry. side_of_link routes entry.0 (Some entry.1)) entries
-sides_told entries routes numbered all =
-    same_sides (keys_of entries) routes numbered all 0 entries
-    (λ i link is. subst (λ n. slice_get (keys_of entries) n ≡ Some link) (omega arith) is)
+sides_told entries routes numbered all = search (rules, same_sides)
 
 -- and each place is one of theirs
 all_listed : (links : List ℕ) (routes numbered : List (List ℕ)) → AllZip (IsNumbered links) routes numbered
@@ -155,8 +115,7 @@ all_listed : (links : List ℕ) (routes numbered : List (List ℕ)) → AllZip (
 all_listed links [] [] all = All-nil (λ route. All (λ link. link < length links) route)
 all_listed links [] (n ∷ ns) all = absurd all
 all_listed links (r ∷ rs) [] all = absurd all
-all_listed links (r ∷ rs) (n ∷ ns) all =
-    All-cons (λ route. All (λ link. link < length links) route) n ns all.0.below (all_listed links rs ns all.1)
+all_listed links (r ∷ rs) (n ∷ ns) all = search (rules, All-cons, all_listed links rs ns all.1)
 
 -- ---- the rates
 
@@ -176,28 +135,17 @@ module _ (n : Network) (numbered : List (List ℕ)) (all : AllZip (IsNumbered (k
   many_links = length-map (values n.caps) Some ∙ length-map n.caps.entries (λ e. e.1) ∙ sym (length-map n.caps.entries (λ e. e.0))
 
   many_flows : length numbered ≡ length (keys n.routes)
-  many_flows = sym (zip-length (IsNumbered (keys n.caps)) (told_routes n) numbered all)
-      ∙ length-map (values n.routes) (λ route. route.items)
-      ∙ length-map n.routes.entries (λ e. e.1) ∙ sym (length-map n.routes.entries (λ e. e.0))
+  many_flows = search (rules, zip-length, length-map)
 
   many_weights : length (told_weights n) ≡ length (keys n.routes)
   many_weights = length-map (keys n.routes) (told_weight n)
 
   all_positive : All (λ weight. 0 < weight) (told_weights n)
-  all_positive =
-      All-map (λ weight. 0 < weight) (told_weight n) (keys n.routes)
-      (λ k d inside. some_weight (get nat_cmp n.weights (get_or (keys n.routes) k d)))
+  all_positive = search (rules, All-map, some_weight)
 
   pub rates_told : (rates : List Rate) → IsWeightedAllocation caps numbered (told_weights n) rates
       → AreRatesTold n (zip (keys n.routes) rates)
-  rates_told rates is =
-      let one_each : length rates ≡ length (keys n.routes) = is.fair.one_each ∙ many_weights in
-      record {
-        flows = firsts-zip (keys n.routes) rates one_each;
-        fair = subst (AreWeightedRates (told_sides n) (told_weights n))
-            (sym (seconds-zip (keys n.routes) rates one_each))
-            (subst (λ ss. AreWeightedRates ss (told_weights n) rates) sides_are is.fair);
-      }
+  rates_told rates is = search (rules, many_weights, firsts-zip, seconds-zip, sides_are)
 
   pub refusal_told : (e : WeightError) → IsWeightRefusal caps numbered (told_weights n) e
       → MayRefuseTold n (error_of e)

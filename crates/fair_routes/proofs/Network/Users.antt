@@ -1,18 +1,16 @@
 -- Flow after flow comes to its links.
-use Rattle.std.proofs.Common.{◌≡◌, ℕ, zero, suc, ◌+◌, ◌-◌, ◌<◌, ◌≤◌, ◌==◌, Some, List, [], ◌∷◌, ◌++◌, Bool, true, false, cond, All, length, replicate}
-use Rattle.std.proofs.Common.{get_or, set, map, take, refl, sym, ap, ◌∙◌, subst, inl, inr, arith, eq-eqb}
-use Rattle.std.specs.Prelude.{◌||◌, slice_get}
-use Rattle.std.specs.declared.alloc.Global.{Global}
-use Rattle.std.specs.declared.vec.Vec.{Vec}
+use Rattle.fair_routes.proofs.Common.{◌≡◌, ℕ, zero, suc, ◌+◌, ◌-◌, ◌<◌, ◌≤◌, ◌==◌, Some, List, [], ◌∷◌, ◌++◌, Bool}
+use Rattle.fair_routes.proofs.Common.{true, false, cond, All, length, replicate, get_or, set, map, take, refl, sym, ap}
+use Rattle.fair_routes.proofs.Common.{subst, arith, ◌||◌, slice_get, Global, Vec, map-append, length-map, take_more}
+use Rattle.fair_routes.proofs.Common.{get_or-replicate, length-replicate, get_or_default, All-tail, places_from}
+use Rattle.fair_routes.proofs.Common.{has_link, users_of, lists, users_at, AreUsers, common_steps}
+use Rattle.std.proofs.Common.{eq-eqb, rules}
 use Rattle.std.proofs.Math.Bool.{or_comm}
 use Rattle.std.proofs.lemmas.Bool.{cases_eq, ne_eqb}
-use Rattle.std.proofs.lemmas.List.{append-nil, get_or-set_same, get_or-set_other, map-set, map-append}
-use Rattle.std.proofs.lemmas.List.{length-map, take_more, get_or-replicate, length-replicate, get_or_default}
-use Rattle.std.proofs.lemmas.List.Elements.{All-head, All-tail, All-get_or}
+use Rattle.std.proofs.lemmas.List.{append-nil, get_or-set_same, get_or-set_other, map-set}
+use Rattle.std.proofs.lemmas.List.Elements.{All-head, All-get_or}
 use Rattle.std.proofs.lemmas.List.Folds.{list_any-append}
-use Rattle.fair_rates.specs.Lists.Places.{places_from}
-use Rattle.fair_routes.specs.Network.Sides.{has_link, users_of}
-use Rattle.fair_routes.specs.Network.Users.{ends_with, lists, noted, users_at, AreUsers, HasJoined, IsNoLinkOf, IsNoLink}
+use Rattle.fair_routes.specs.Network.Users.{ends_with, noted, HasJoined, IsNoLinkOf, IsNoLink}
 use Rattle.fair_routes.specs.declared.routes.error.RouteError.{RouteError}
 use Rattle.fair_routes.specs.declared.routes.error.RouteError.TheVariants.{Refused, NoSuchLink}
 use Rattle.fair_rates.proofs.Lists.Places.{places_below}
@@ -40,11 +38,7 @@ users_at_is (v ∷ users) (suc link) flows inside is = users_at_is users link fl
 pub noted_at : (users : List (Vec ℕ Global)) (link flow : ℕ) (flows new : Vec ℕ Global) → link < length users
     → flows ≡ get_or users link flows → ends_with flow flows.items ≡ false → new.items ≡ flows.items ++ flow ∷ []
     → lists (set users link new) ≡ set (lists users) link (noted flow (users_at users link))
-noted_at users link flow flows new inside is apart more =
-    let at = users_at_is users link flows inside is in
-    let noted_is_new : noted flow (users_at users link) ≡ new.items =
-    ap (noted flow) at ∙ ap (λ b. cond b flows.items (flows.items ++ flow ∷ [])) apart ∙ sym more in
-    map-set (λ (v : Vec ℕ Global). v.items) users link new ∙ ap (set (lists users) link) (sym noted_is_new)
+noted_at users link flow flows new inside is apart more = search (rules, users_at_is, map-set)
 
 ends_with-push : (flow : ℕ) (xs : List ℕ) → ends_with flow (xs ++ flow ∷ []) ≡ true
 ends_with-push flow [] = eq-eqb flow flow refl
@@ -63,9 +57,7 @@ ends_with_below flow (x ∷ y ∷ xs) below =
 noted_is : (flow : ℕ) (old : List ℕ) (there : Bool) → All (λ user. user < flow) old
     → noted flow (old ++ cond there (flow ∷ []) []) ≡ old ++ flow ∷ []
 noted_is flow old true below = rw (ends_with-push flow old) refl
-noted_is flow old false below =
-    let same : old ++ [] ≡ old = append-nil old in
-    rw (same, ends_with_below flow old below) refl
+noted_is flow old false below = search (rules, append-nil, ends_with_below)
 
 -- ---- its next link
 
@@ -79,117 +71,46 @@ pub joined_more : (flow link : ℕ) (passed : List ℕ) (old now : List (List �
     → ((at : ℕ) → get_or now at [] ≡ get_or old at [] ++ cond (has_link at passed) (flow ∷ []) [])
     → (at : ℕ) → get_or (set now link (noted flow (get_or now link []))) at []
     ≡ get_or old at [] ++ cond (has_link at (passed ++ link ∷ [])) (flow ∷ []) []
-joined_more flow link passed old now below many inside so at = elim (cases_eq at link) [
-  | inl same ↦ here same
-  | inr other ↦ there other
-]
-  where
-    here : at ≡ link → get_or (set now link (noted flow (get_or now link []))) at []
-        ≡ get_or old at [] ++ cond (has_link at (passed ++ link ∷ [])) (flow ∷ []) []
-    here same =
-        let new : List ℕ = noted flow (get_or now link []) in
-        let got : get_or (set now link new) link [] ≡ new = get_or-set_same now link new [] inside in
-        let has : has_link link (passed ++ link ∷ []) ≡ true =
-        has_link-push link passed link
-        ∙ ap (λ b. has_link link passed || (b || false)) (eq-eqb link link refl)
-        ∙ or_comm (has_link link passed) true in
-        let is : new ≡ get_or old link [] ++ flow ∷ [] =
-        ap (noted flow) (so link)
-        ∙ noted_is flow (get_or old link []) (has_link link passed)
-        (All-get_or (All (λ user. user < flow)) old link [] (omega (arith, many, inside)) below) in
-        rw same (got ∙ is ∙ ap (λ b. get_or old link [] ++ cond b (flow ∷ []) []) (sym has))
-
-    there : (at ≡ link → ⊥) → get_or (set now link (noted flow (get_or now link []))) at []
-        ≡ get_or old at [] ++ cond (has_link at (passed ++ link ∷ [])) (flow ∷ []) []
-    there other =
-        let kept : get_or (set now link (noted flow (get_or now link []))) at [] ≡ get_or now at [] =
-        get_or-set_other now link at (noted flow (get_or now link [])) [] other in
-        let apart : (link == at) ≡ false = ne_eqb link at (λ same. other (sym same)) in
-        let has : has_link at (passed ++ link ∷ []) ≡ has_link at passed =
-        has_link-push at passed link ∙ ap (λ b. has_link at passed || (b || false)) apart
-        ∙ or_comm (has_link at passed) false in
-        kept ∙ so at ∙ ap (λ b. get_or old at [] ++ cond b (flow ∷ []) []) (sym has)
+joined_more flow link passed old now below many inside so at =
+    search (rules, cases_eq, get_or-set_same, has_link-push, eq-eqb, or_comm, noted_is, All-get_or, get_or-set_other,
+    ne_eqb)
 
 -- ---- the next flow
 
 places-push : {X : Type 0} (place : ℕ) (test : X → Bool) (xs : List X) (x : X)
     → places_from place test (xs ++ x ∷ []) ≡ places_from place test xs ++ cond (test x) ((place + length xs) ∷ []) []
-places-push {X} place test [] x = by_test (test x)
-  where
-    by_test : (b : Bool) → cond b (place ∷ []) [] ≡ cond b ((place + 0) ∷ []) []
-    by_test true = let e : place ≡ place + 0 = omega arith in ap (λ n. n ∷ []) e
-    by_test false = refl
-places-push {X} place test (y ∷ xs) x = by_test (test y) (places-push (place + 1) test xs x)
-  where
-    next : place + 1 + length xs ≡ place + length (y ∷ xs)
-    next = omega arith
-
-    end : ℕ → List ℕ
-    end n = cond (test x) (n ∷ []) []
-
-    by_test : (b : Bool)
-        → places_from (place + 1) test (xs ++ x ∷ []) ≡ places_from (place + 1) test xs
-        ++ cond (test x) ((place + 1 + length xs) ∷ []) []
-        → cond b (place ∷ places_from (place + 1) test (xs ++ x ∷ [])) (places_from (place + 1) test (xs ++ x ∷ []))
-        ≡ cond b (place ∷ places_from (place + 1) test xs) (places_from (place + 1) test xs)
-        ++ cond (test x) ((place + length (y ∷ xs)) ∷ []) []
-    by_test true ih = ap (λ ns. place ∷ ns) (ih ∙ ap (λ n. places_from (place + 1) test xs ++ cond (test x) (n ∷ []) []) next)
-    by_test false ih = ih ∙ ap (λ n. places_from (place + 1) test xs ++ cond (test x) (n ∷ []) []) next
+places-push {X} place test [] x = search rules
+places-push {X} place test (y ∷ xs) x = search (rules, places-push (place + 1) test xs x)
 
 -- one flow more is one user more of its links
 pub users_of-push : (link : ℕ) (routes : List (List ℕ)) (route : List ℕ)
     → users_of link (routes ++ route ∷ []) ≡ users_of link routes ++ cond (has_link link route) (length routes ∷ []) []
-users_of-push link routes route =
-    let first : 0 + length routes ≡ length routes = omega arith in
-    places-push 0 (has_link link) routes route
-    ∙ ap (λ n. users_of link routes ++ cond (has_link link route) (n ∷ []) []) first
+users_of-push link routes route = search (rules, places-push)
 
 -- ---- all flows
 
 -- no flow has come
 pub users_none : (links : ℕ) (users : List (Vec ℕ Global)) → lists users ≡ replicate links [] → AreUsers links [] users
-users_none links users none = record {
-  one_each = sym (length-map users (λ (v : Vec ℕ Global). v.items)) ∙ ap length none ∙ length-replicate links [];
-  at = λ link inside. ap (λ us. get_or us link []) none ∙ get_or-replicate links link [] [] inside;
-}
+users_none links users none = search (rules, length-map, length-replicate, get_or-replicate)
 
 -- one more has come
 pub users_more : (links flow : ℕ) (passed : List (List ℕ)) (route : List ℕ) (old new : List (Vec ℕ Global))
     → AreUsers links passed old → length passed ≡ flow → HasJoined flow route old new
     → AreUsers links (passed ++ route ∷ []) new
-users_more links flow passed route old new are count joined = record {
-  one_each = joined.one_each ∙ are.one_each;
-  at = λ link inside.
-      joined.at link
-      ∙ ap (λ us. us ++ cond (has_link link route) (flow ∷ []) []) (are.at link inside)
-      ∙ ap (λ n. users_of link passed ++ cond (has_link link route) (n ∷ []) []) (sym count)
-      ∙ sym (users_of-push link passed route);
-}
+users_more links flow passed route old new are count joined = search (rules, users_of-push)
 
 -- all of them stand before the next
 pub users_below : (links flow : ℕ) (passed : List (List ℕ)) (users : List (Vec ℕ Global))
     → AreUsers links passed users → length passed ≤ flow → All (λ flows. All (λ user. user < flow) flows.items) users
-users_below links flow passed users are few = λ k d inside.
-    let flows = get_or users k d in
-    let at : users_of k passed ≡ flows.items =
-    sym (are.at k (omega (arith, inside, are.one_each)))
-    ∙ users_at_is users k flows inside (sym (get_or_default users k flows d inside)) in
-    subst (λ (us : List ℕ). All (λ user. user < flow) us) at (places_below (has_link k) passed flow few)
+users_below links flow passed users are few = search (rules, users_at_is, get_or_default, places_below)
 
 -- the next element, mapped
 pub mapped_more : {X Y : Type 0} (f : X → Y) (xs : List X) (i : ℕ) (x : X) → i < length xs → x ≡ get_or xs i x
     → map f (take (i + 1) xs) ≡ map f (take i xs) ++ f x ∷ []
-mapped_more f xs i x inside is =
-    ap (map f) (take_more xs i x inside) ∙ map-append f (take i xs) (get_or xs i x ∷ [])
-    ∙ ap (λ y. map f (take i xs) ++ f y ∷ []) (sym is)
+mapped_more f xs i x inside is = grind (arith, common_steps, take_more, map-append)
 
 -- a flow's refusal is one of all flows
 pub no_link : (e : RouteError) (flow links : ℕ) (route : List ℕ) (routes : List (List ℕ)) → slice_get routes flow ≡ Some route
     → IsNoLinkOf flow links route e → IsNoLink links routes e
 no_link (Refused e) flow links route routes stands is = is
-no_link (NoSuchLink at link) flow links route routes stands (same, uses, past) = record {
-  route = route;
-  stands = subst (λ (n : ℕ). slice_get routes n ≡ Some route) (sym same) stands;
-  uses = uses;
-  past = past;
-}
+no_link (NoSuchLink at link) flow links route routes stands (same, uses, past) = search rules

@@ -1,22 +1,17 @@
 -- Weights of one, and the same network with weights said otherwise.
-use Rattle.std.proofs.Common.{◌≡◌, ℕ, ◌*◌, ◌<◌, List, [], ◌∷◌, ◌++◌, All, Contains}
-use Rattle.std.proofs.Common.{length, map, get_or, replicate, refl, sym, ap, ◌∙◌, subst, arith}
-use Rattle.std.specs.Prelude.{slice_index}
-use Rattle.std.proofs.lemmas.List.{get_or-map, get_or-replicate, length-map, length-replicate}
-use Rattle.std.proofs.lemmas.List.Elements.{All-contains, All-head, All-tail}
-use Rattle.fair_rates.specs.Fairness.Fair.{Side, IsLimited, IsFair}
-use Rattle.fair_rates.specs.Fairness.Laws.{AreTheSameSides, HaveUsersBelow}
-use Rattle.fair_rates.specs.Fairness.Rates.{IsRateOf}
-use Rattle.fair_rates.specs.declared.bandwidth.Rate.{Rate}
-use Rattle.fair_rates.specs.declared.bandwidth.Rate.TheVariants.{Unlimited, Finite}
-use Rattle.fair_rates.proofs.Fairness.MappedSides.{listed_on, listed_from}
+use Rattle.std.proofs.Common.{rules}
+use Rattle.fair_routes.proofs.Common.{◌≡◌, ℕ, ◌*◌, ◌<◌, List, [], ◌∷◌, ◌++◌, All, Contains, length, map, get_or}
+use Rattle.fair_routes.proofs.Common.{replicate, refl, sym, ap, ◌∙◌, subst, arith, slice_index, get_or-map}
+use Rattle.fair_routes.proofs.Common.{get_or-replicate, length-map, length-replicate, All-contains, All-tail, Side}
+use Rattle.fair_routes.proofs.Common.{IsLimited, HaveUsersBelow, IsRateOf, Rate, Unlimited, Finite, listed_on}
+use Rattle.fair_routes.proofs.Common.{listed_from, sum_by_same, All-from_contains, routes_at, sides_over, weight_at}
+use Rattle.fair_routes.proofs.Common.{as_often, weighted, by_weight, AreWeightedRates}
+use Rattle.std.proofs.lemmas.List.Elements.{All-head}
+use Rattle.fair_rates.specs.Fairness.Laws.{AreTheSameSides}
 use Rattle.fair_rates.proofs.Fairness.SameSides.{still_fair}
-use Rattle.fair_rates.proofs.Lists.Sums.{sum_by_same}
-use Rattle.fair_rates.proofs.Lists.SumOrder.{All-from_contains}
-use Rattle.fair_routes.specs.Network.Laws.{routes_at, rates_at}
-use Rattle.fair_routes.specs.Network.Sides.{sides_over}
-use Rattle.fair_routes.specs.Network.WeightLaws.{WeightsOfOneChangeNothing, OrderOfLinksDoesNotMatterByWeight, OrderOfFlowsDoesNotMatterByWeight, weights_at}
-use Rattle.fair_routes.specs.Network.Weights.{weight_at, as_often, weighted, by_weight, AreWeightedRates}
+use Rattle.fair_routes.specs.Network.Laws.{rates_at}
+use Rattle.fair_routes.specs.Network.WeightLaws.{WeightsOfOneChangeNothing, OrderOfLinksDoesNotMatterByWeight}
+use Rattle.fair_routes.specs.Network.WeightLaws.{OrderOfFlowsDoesNotMatterByWeight, weights_at}
 use Rattle.fair_routes.proofs.Network.ByWeight.{sum_often, uses_often, often_uses}
 use Rattle.fair_routes.proofs.Network.LinkSides.{users_are_flows}
 use Rattle.fair_routes.proofs.Network.Relabelled.{IsTheSide, AreRelabelled, relabelled_fair, rate_on}
@@ -52,40 +47,11 @@ module _ (flows : ℕ) where
   on_rate : (sides : List Side) (per : ℕ) (parts other : ℕ → ℕ) (flow : ℕ) → parts flow ≡ other flow → (rate : Rate)
       → IsRateOf sides per parts flow rate → IsRateOf sides per other flow rate
   on_rate sides per parts other flow same Unlimited none = none
-  on_rate sides per parts other flow same (Finite ratio) (limited, worth) =
-      (limited, omega (arith, worth, ap (λ n. n * ratio.denominator) same))
+  on_rate sides per parts other flow same (Finite ratio) (limited, worth) = search rules
 
 pub weights_of_one_change_nothing : WeightsOfOneChangeNothing
-weights_of_one_change_nothing caps routes rates = (
-  (λ fair. record {
-    one_each = fair.one_each ∙ length-replicate {A = ℕ} flows 1;
-    per = fair.per;
-    parts = fair.parts;
-    fair = subst (λ ss. IsFair ss fair.per fair.parts) same fair.fair;
-    rated = λ flow d within.
-        on_rate flows sides fair.per (by_weight (ones flows) fair.parts) fair.parts flow (by_one flows fair.parts flow within)
-        (get_or rates flow d) (fair.rated flow d (omega (arith, within, length-replicate {A = ℕ} flows 1)));
-  }),
-  (λ fair. record {
-    one_each = fair.one_each ∙ sym (length-replicate {A = ℕ} flows 1);
-    per = fair.per;
-    parts = fair.parts;
-    fair = subst (λ ss. IsFair ss fair.per fair.parts) (sym same) fair.fair;
-    rated = λ flow d within.
-        let inside : flow < flows = omega (arith, within, length-replicate {A = ℕ} flows 1) in
-        on_rate flows sides fair.per fair.parts (by_weight (ones flows) fair.parts) flow (sym (by_one flows fair.parts flow inside))
-        (get_or rates flow d) (fair.rated flow d inside);
-  }),
-)
-  where
-    flows : ℕ
-    flows = length routes
-
-    sides : List Side
-    sides = sides_over caps routes
-
-    same : map (weighted (ones flows)) sides ≡ sides
-    same = same_sides flows sides (users_are_flows caps routes)
+weights_of_one_change_nothing caps routes rates =
+    search (rules, length-replicate, on_rate, by_one, same_sides, users_are_flows)
 
 -- ---- the same sides
 
@@ -123,8 +89,7 @@ module _ (weights : List ℕ) (xs ys : List Side) (same : AreTheSameSides xs ys)
 
 pub the_order_of_links_does_not_matter_by_weight : OrderOfLinksDoesNotMatterByWeight
 the_order_of_links_does_not_matter_by_weight caps others name routes weights rates are fair =
-    weighted_on weights (sides_over caps routes) (sides_over others (map (map name) routes))
-    (renamed_sides caps others name routes are) rates fair
+    search (rules, weighted_on, renamed_sides)
 
 -- ---- flows at other places
 
@@ -132,9 +97,7 @@ module _ (of : ℕ → ℕ) (flows : ℕ) (olds news : List Side) (are : AreRela
     (weights others : List ℕ) (same : (flow : ℕ) → flow < flows → weight_at others flow ≡ weight_at weights (of flow))
     (positive : (flow : ℕ) → flow < flows → 0 < weight_at others flow) where
   is_new : (new : Side) → Contains news new → (flow : ℕ) → Contains new.users flow → flow < flows
-  is_new new listed flow used =
-      All-contains (λ user. user < flows) new.users flow
-      (All-contains (λ (s : Side). All (λ user. user < flows) s.users) news new are.below listed) used
+  is_new new listed flow used = search (rules, All-contains)
 
   wide_side : (old new : Side) → Contains news new → IsTheSide of flows old new
       → IsTheSide of flows (weighted weights old) (weighted others new)

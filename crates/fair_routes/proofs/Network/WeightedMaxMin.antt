@@ -1,19 +1,14 @@
 -- Who gets more than a rate that is fair by weight takes it from a flow that has no more for each one of its weight.
-use Rattle.std.proofs.Common.{◌≡◌, ℕ, ◌*◌, ◌<◌, ◌≤◌, inl, inr, List, Some, get_or, length, map, All, ap, sym, subst, arith}
-use Rattle.std.proofs.Common.{mul-le-mul_right, Contains}
-use Rattle.std.specs.Prelude.{slice_get}
+use Rattle.fair_routes.proofs.Common.{◌≡◌, ℕ, ◌*◌, ◌<◌, ◌≤◌, inl, inr, List, Some, get_or, length, map, All, ap, sym}
+use Rattle.fair_routes.proofs.Common.{subst, arith, mul-le-mul_right, Contains, slice_get, All-contains}
+use Rattle.fair_routes.proofs.Common.{slice_get-get_or, slice_get_within, get_or_from_slice_get, Side, load, IsLimited}
+use Rattle.fair_routes.proofs.Common.{IsFair, HaveUsersBelow, IsRateOf, Rate, Unlimited, Finite, Ratio, listed_from}
+use Rattle.fair_routes.proofs.Common.{sum_by-scaled, weight_at, weighted, as_often, by_weight, AreWeightedRates}
+use Rattle.fair_routes.proofs.Common.{common_steps}
 use Rattle.std.proofs.Math.Nat.{lt_of_mul-lt-mul_right, mul-lt-mul_of_pos_right, le_of_mul-le-mul_right}
-use Rattle.std.proofs.lemmas.List.Elements.{All-contains}
-use Rattle.std.proofs.lemmas.Option.{slice_get-get_or, slice_get_within, get_or_from_slice_get}
-use Rattle.fair_rates.specs.Fairness.Fair.{Side, load, IsLimited, IsWithinCaps, IsFair}
-use Rattle.fair_rates.specs.Fairness.Laws.{HasRate, HaveUsersBelow}
-use Rattle.fair_rates.specs.Fairness.Rates.{IsRateOf}
-use Rattle.fair_rates.specs.declared.bandwidth.Rate.{Rate}
-use Rattle.fair_rates.specs.declared.bandwidth.Rate.TheVariants.{Unlimited, Finite}
-use Rattle.fair_rates.specs.declared.ratio.Ratio.{Ratio}
-use Rattle.fair_rates.proofs.Fairness.MappedSides.{listed_from}
-use Rattle.fair_rates.proofs.Lists.SumOrder.{sum_by-scaled, sum_by-under, at_most_or_more}
-use Rattle.fair_routes.specs.Network.Weights.{weight_at, weighted, as_often, by_weight, AreWeightedRates}
+use Rattle.fair_rates.specs.Fairness.Fair.{IsWithinCaps}
+use Rattle.fair_rates.specs.Fairness.Laws.{HasRate}
+use Rattle.fair_rates.proofs.Lists.SumOrder.{sum_by-under, at_most_or_more}
 use Rattle.fair_routes.specs.Network.WeightLaws.{RatesByWeightAreMaxMin}
 use Rattle.fair_routes.proofs.Network.ByWeight.{sum_often, uses_often, often_uses, some_weight, limited_wide}
 
@@ -93,9 +88,7 @@ module _ (sides : List Side) (weights : List ℕ) (rates : List Rate) (f : AreWe
   rate_at : (flow : ℕ) (r : Rate) → slice_get rates flow ≡ Some r
       → IsRateOf sides f.per (by_weight weights f.parts) flow r
   rate_at flow r has =
-      let within : flow < length rates = slice_get_within rates flow r has in
-      subst (λ x. IsRateOf sides f.per (by_weight weights f.parts) flow x) (get_or_from_slice_get rates flow r r has)
-      (f.rated flow r (omega (arith, within, f.one_each)))
+      grind (arith, common_steps, slice_get_within rates flow r has, get_or_from_slice_get rates flow r r has)
 
   -- a limited flow has a finite rate
   record HasFinite (flow : ℕ) : Type 0 where

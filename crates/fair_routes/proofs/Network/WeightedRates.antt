@@ -1,32 +1,28 @@
 -- Rates that are fair by weight: what is found is such a list, there is one, and where it is zero.
-use Rattle.std.proofs.Common.{◌≡◌, ℕ, ◌*◌, ◌^◌, ◌<◌, ◌≤◌, List, All, Contains, Option, Some, None, IfSome}
-use Rattle.std.proofs.Common.{length, map, get_or, sum_by, inl, inr, refl, sym, ap, ◌∙◌, subst, arith}
-use Rattle.std.specs.Prelude.{option_map, slice_index}
-use Rattle.std.proofs.Math.Nat.{eq_of_mul-eq-mul_right}
-use Rattle.std.proofs.lemmas.List.{ext_get_or, get_or_default}
-use Rattle.std.proofs.lemmas.List.Elements.{All-contains}
+use Rattle.fair_routes.proofs.Common.{◌≡◌, ℕ, ◌*◌, ◌^◌, ◌<◌, ◌≤◌, List, All, Contains, Option, Some, None, length, map}
+use Rattle.fair_routes.proofs.Common.{get_or, sum_by, refl, sym, ap, ◌∙◌, subst, arith, option_map, slice_index}
+use Rattle.fair_routes.proofs.Common.{eq_of_mul-eq-mul_right, get_or_default, All-contains, slice_get_within}
+use Rattle.fair_routes.proofs.Common.{get_or_from_slice_get, Side, load, IsLimited, IsFair, IsRateOf, at_level, Rate}
+use Rattle.fair_routes.proofs.Common.{Unlimited, Finite, Ratio, listed_on, listed_from, none_or_some, not_some, some_is}
+use Rattle.fair_routes.proofs.Common.{All-from_contains, frozen_in, weight_at, weighted, as_often, by_weight}
+use Rattle.fair_routes.proofs.Common.{AreWeightedRates, common_steps}
+use Rattle.std.proofs.Common.{IfSome, rules}
+use Rattle.std.proofs.lemmas.List.{ext_get_or}
 use Rattle.std.proofs.lemmas.List.Sums.{get_or-le-sum_by}
-use Rattle.std.proofs.lemmas.Option.{slice_get_within, get_or_from_slice_get}
-use Rattle.fair_rates.specs.Fairness.Fair.{Side, load, IsLimited, IsFair}
 use Rattle.fair_rates.specs.Fairness.Laws.{UsesClosedSide, AreZeroWhereClosed}
-use Rattle.fair_rates.specs.Fairness.Rates.{IsRateOf}
 use Rattle.fair_rates.specs.Filling.FairParts.{level_at, IsRateAt, AreRatesAt, HasLargeLevel}
-use Rattle.fair_rates.specs.Filling.States.{at_level, AreInside}
+use Rattle.fair_rates.specs.Filling.States.{AreInside}
 use Rattle.fair_rates.specs.Numbers.Amount.{Amount, parts_over}
 use Rattle.fair_rates.specs.Numbers.Fits.{ReducedFits}
 use Rattle.fair_rates.specs.Numbers.LowestTerms.{whole_IsReduced}
 use Rattle.fair_rates.specs.Numbers.Ratio.{IsWorth}
-use Rattle.fair_rates.specs.declared.bandwidth.Rate.{Rate}
-use Rattle.fair_rates.specs.declared.bandwidth.Rate.TheVariants.{Unlimited, Finite}
 use Rattle.fair_rates.specs.declared.bandwidth.parts.FairParts.{FairParts}
-use Rattle.fair_rates.specs.declared.ratio.Ratio.{Ratio}
-use Rattle.fair_rates.proofs.Fairness.MappedSides.{listed_on, listed_from}
 use Rattle.fair_rates.proofs.Fairness.OneAllocation.{same_amounts}
-use Rattle.fair_rates.proofs.Filling.Frozen.{none_or_some, not_some, some_is, at_none}
-use Rattle.fair_rates.proofs.Lists.SumOrder.{All-from_contains, sum_by-zero}
+use Rattle.fair_rates.proofs.Filling.Frozen.{at_none}
+use Rattle.fair_rates.proofs.Lists.SumOrder.{sum_by-zero}
 use Rattle.fair_rates.proofs.Numbers.Ratio.{one_ratio, worth_is_reduced}
-use Rattle.fair_routes.specs.Network.Rising.{frozen_in, AreFilledByWeight, AreWeighed}
-use Rattle.fair_routes.specs.Network.Weights.{weight_at, weighted, as_often, by_weight, AreWeightedRates, IsTheOnlyWeighted, HasLargeWeightedRate}
+use Rattle.fair_routes.specs.Network.Rising.{AreFilledByWeight, AreWeighed}
+use Rattle.fair_routes.specs.Network.Weights.{IsTheOnlyWeighted, HasLargeWeightedRate}
 use Rattle.fair_routes.specs.declared.routes.weighted.rising.Rising.{Rising}
 use Rattle.fair_routes.proofs.Network.ByWeight.{limited_wide, uses_often, often_uses, some_weight}
 
@@ -55,17 +51,11 @@ module _ (sides : List Side) (weights : List ℕ) (rising : Rising) (found : Fai
 
   inside_if : (flow : ℕ) → flow < length rising.parts.items → (o : Option ℕ) → level_at found.level_of.items flow ≡ option_map (λ _. flow) o
       → IfSome (level_at found.level_of.items flow) (λ place. place < length found.levels.items)
-  inside_if flow within None is =
-      subst (λ p. IfSome p (λ place. place < length found.levels.items)) (sym is) tt
-  inside_if flow within (Some n) is =
-      subst (λ p. IfSome p (λ place. place < length found.levels.items)) (sym is)
-      (omega (arith, within, are.levels_each))
+  inside_if flow within None is = search rules
+  inside_if flow within (Some n) is = search rules
 
   pub levels_inside : AreInside found.levels.items found.level_of.items
-  levels_inside k d within =
-      subst (λ o. IfSome o (λ place. place < length found.levels.items))
-      (get_or_default found.level_of.items k None d within)
-      (inside_if k (omega (arith, within, are.one_each)) (frozen k) (are.place k))
+  levels_inside k d within = search (rules, get_or_default, inside_if)
 
   module _ (rates : List Rate) (at : AreRatesAt found rates) where
     rate_by : (flow : ℕ) (o : Option ℕ) (rate : Rate) → flow < length weights → frozen flow ≡ o
@@ -87,42 +77,11 @@ module _ (sides : List Side) (weights : List ℕ) (rising : Rising) (found : Fai
         )
 
     pub rates_by_weight : AreWeightedRates sides weights rates
-    rates_by_weight = record {
-      one_each = at.one_each ∙ are.one_each ∙ filled.one_each;
-      per = rising.scale;
-      parts = at_level frozen 0;
-      fair = filled.fair;
-      rated = λ flow d within.
-          rate_by flow (frozen flow) (get_or rates flow d) within refl
-          (subst (λ o. IsRateAt at.fractions o (get_or rates flow d)) (are.place flow)
-          (at.rated flow d (omega (arith, within, at.one_each, are.one_each, filled.one_each))));
-    }
+    rates_by_weight = search (rules, rate_by)
 
   -- a level that is no fraction is that of a flow
   pub large_by_weight : HasLargeLevel found → HasLargeWeightedRate sides weights
-  large_by_weight large =
-      let flow = large.place in
-      let within : flow < length rising.parts.items = omega (arith, large.inside, are.levels_each) in
-      let level : slice_index found.levels.items flow ≡ by_weight weights (at_level frozen 0) flow =
-      omega (arith, are.level flow within) in
-      let much : ¬ ReducedFits (parts_over rising.scale (by_weight weights (at_level frozen 0) flow)) =
-      subst (λ n. ¬ ReducedFits (parts_over n (by_weight weights (at_level frozen 0) flow))) are.scale
-      (subst (λ n. ¬ ReducedFits (parts_over found.scale n)) level large.large) in
-      record {
-        per = rising.scale;
-        parts = at_level frozen 0;
-        fair = filled.fair;
-        flow = flow;
-        limited = elim (none_or_some (frozen flow)) [
-          | inr (p, some) ↦ (filled.limited flow).0 (some_is (frozen flow) p some)
-          | inl none ↦
-              let nothing : by_weight weights (at_level frozen 0) flow ≡ 0 =
-              omega (arith, ap (λ n. weight_at weights flow * n) (at_none frozen 0 flow none)) in
-              absurd (much (subst (λ n. ReducedFits (parts_over rising.scale n)) (sym nothing)
-              (nothing_fits rising.scale filled.fair.some_part)))
-        ];
-        large = much;
-      }
+  large_by_weight large = search (rules, none_or_some, some_is, at_none, nothing_fits)
 
 -- ---- one list
 
@@ -139,23 +98,15 @@ module _ (sides : List Side) (weights : List ℕ) (positive : (u : ℕ) → u < 
   pub same_by_weight : (D E : ℕ) (a b : ℕ → ℕ) → IsFair wide D a → IsFair wide E b → (i : ℕ) → IsLimited sides i
       → by_weight weights a i * E ≡ by_weight weights b i * D
   same_by_weight D E a b f g i limited =
-      omega (
-        arith,
-        ap (λ n. weight_at weights i * n)
-            (same_amounts wide D E a b f g i (limited_wide weights sides positive among i limited)),
-      )
+      grind (arith, common_steps, same_amounts wide D E a b f g i (limited_wide weights sides positive among i limited),
+      limited_wide weights sides positive among i limited)
 
   same_rate : (D E : ℕ) (a b : ℕ → ℕ) → IsFair wide D a → IsFair wide E b → (i : ℕ) (x y : Rate)
       → IsRateOf sides D (by_weight weights a) i x → IsRateOf sides E (by_weight weights b) i y → x ≡ y
   same_rate D E a b f g i Unlimited Unlimited u v = refl
   same_rate D E a b f g i Unlimited (Finite y) u v = absurd (u v.0)
   same_rate D E a b f g i (Finite x) Unlimited u v = absurd (v u.0)
-  same_rate D E a b f g i (Finite x) (Finite y) u v =
-      let amount : Amount = parts_over D (by_weight weights a i) in
-      let worth =
-      worth_too y.numerator y.denominator (by_weight weights a i) D (by_weight weights b i) E g.some_part
-      (same_by_weight D E a b f g i u.0) v.1 in
-      ap Finite (one_ratio x y amount f.some_part u.1 worth)
+  same_rate D E a b f g i (Finite x) (Finite y) u v = search (rules, worth_too, same_by_weight, one_ratio)
 
   pub one_by_weight : (rates : List Rate) → AreWeightedRates sides weights rates → IsTheOnlyWeighted sides weights rates
   one_by_weight r f s g =

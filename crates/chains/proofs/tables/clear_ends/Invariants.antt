@@ -1,5 +1,4 @@
-use Rattle.std.proofs.Common.{◌≡◌, length, take, replicate}
-use Rattle.chains.specs.Tables.{no_end}
+use Rattle.chains.proofs.Common.{◌≡◌, length, take, replicate, no_end}
 use Rattle.chains.proofs.tables.clear_ends.Given as goal
 
 abbrev pub invariant-loop-owner : goal.invariant-loop-owner

@@ -1,4 +1,5 @@
-use Rattle.std.proofs.Common.{rules, of_calls}
+use Rattle.fair_rates.proofs.Common.{rules}
+use Rattle.std.proofs.Common.{of_calls}
 use Rattle.std.proofs.lemmas.Result.{IfOk-weaker}
 use Rattle.fair_rates.proofs.Sides.Callable.{callable_on_each_pair}
 use Rattle.fair_rates.proofs.Fairness.AnswersUnderCaps.{fair_under_caps, refused_under_caps}

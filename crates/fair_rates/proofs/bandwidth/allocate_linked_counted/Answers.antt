@@ -1,8 +1,5 @@
-use Rattle.std.proofs.Common.{◌≡◌, length, inl, inr, subst, sym, ap, ◌∙◌, arith}
-use Rattle.std.proofs.lemmas.Grind.{common_steps}
-use Rattle.std.proofs.lemmas.List.{length-map}
-use Rattle.fair_rates.specs.Sides.SideOf.{side_of}
-use Rattle.fair_rates.specs.Fairness.Rates.{HasDifferentRates, last_rate}
+use Rattle.fair_rates.proofs.Common.{◌≡◌, length, inl, inr, subst, sym, ap, ◌∙◌, arith, common_steps, length-map}
+use Rattle.fair_rates.proofs.Common.{side_of, HasDifferentRates, last_rate}
 use Rattle.fair_rates.proofs.Fairness.AllocatedRates.{counted}
 use Rattle.fair_rates.proofs.Fairness.Allocation.{allocates_under_caps}
 use Rattle.fair_rates.proofs.Fairness.AnswersUnderCaps.{refused_under_caps}

@@ -1,9 +1,8 @@
-use Rattle.std.proofs.Common.{◌≡◌, ℕ}
-use Rattle.std.specs.Ordering.{nat_cmp}
+use Rattle.fair_rates.proofs.Common.{◌≡◌, ℕ, nat_cmp, last_rate}
 use Rattle.std.specs.BTreeMap.{get}
 use Rattle.std.specs.Iterator.Adapters.{zip_first, zip_second}
 use Rattle.std.specs.Slice.Iter.{iter_rest}
-use Rattle.fair_rates.specs.Fairness.Rates.{or_else, last_rate}
+use Rattle.fair_rates.specs.Fairness.Rates.{or_else}
 use Rattle.fair_rates.proofs.bandwidth.rates_by_id.Given as goal
 
 abbrev pub invariant-loop-flow : goal.invariant-loop-flow

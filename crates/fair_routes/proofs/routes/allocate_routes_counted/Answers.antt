@@ -1,14 +1,9 @@
-use Rattle.std.proofs.Common.{◌≡◌, ℕ, List, length, map, inl, inr, subst, sym, arith}
-use Rattle.std.specs.declared.alloc.Global.{Global}
-use Rattle.std.specs.declared.vec.Vec.{Vec}
-use Rattle.std.proofs.lemmas.Grind.{common_steps}
-use Rattle.std.proofs.lemmas.List.{length-map}
-use Rattle.fair_rates.specs.Fairness.Rates.{AreFairRates, HasDifferentRates}
+use Rattle.fair_routes.proofs.Common.{◌≡◌, ℕ, List, length, map, inl, inr, subst, sym, arith, Global, Vec, common_steps}
+use Rattle.fair_routes.proofs.Common.{length-map, AreFairRates, if_err, sides_over}
+use Rattle.fair_rates.specs.Fairness.Rates.{HasDifferentRates}
 use Rattle.fair_rates.specs.Sides.SideOf.{side_of}
-use Rattle.fair_rates.proofs.Filling.Frozen.{if_err}
 use Rattle.fair_rates.proofs.Filling.Rates.{rates_are_fair, rates_are_different, large_rate}
 use Rattle.fair_routes.specs.Network.Allocation.{IsRefusal}
-use Rattle.fair_routes.specs.Network.Sides.{sides_over}
 use Rattle.fair_routes.proofs.Network.Allocation.{code_users, counted, too_large}
 use Rattle.fair_routes.proofs.Network.LinkSides.{users_are_flows}
 use Rattle.fair_routes.proofs.routes.allocate_routes_counted.Goals as goal

@@ -1,4 +1,4 @@
-use Rattle.std.proofs.Common.{◌≤◌}
+use Rattle.row_table.proofs.Common.{◌≤◌}
 use Rattle.row_table.proofs.filled.guess.Given as goal
 
 abbrev pub invariant-loop-shift : goal.invariant-loop-shift

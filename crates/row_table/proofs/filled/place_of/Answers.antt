@@ -1,15 +1,15 @@
-use Rattle.std.proofs.Common.{◌≡◌, ℕ, ◌+◌, ◌<◌, false, List, Some, Ok, Err, Result, slice_get, get_or, subst, sym, ap, ◌∙◌, IfNone, arith}
+use Rattle.std.proofs.lemmas.Grind.{common_steps}
+use Rattle.row_table.proofs.Common.{◌≡◌, ℕ, ◌+◌, ◌<◌, false, List, Some, slice_get, sym, ap, ◌∙◌, IfNone, arith}
+use Rattle.row_table.proofs.Common.{cases_lt, get_or_from_slice_get, slice_get_within, by_cases}
+use Rattle.std.proofs.Common.{Ok, Err, Result, get_or}
 use Rattle.std.specs.List.{AllPairs}
 use Rattle.std.specs.List.Sorted.{IsBinarySearchResult}
 use Rattle.std.specs.Ordering.{nat_cmp, is_lt}
 use Rattle.std.specs.Result.{result_ok}
 use Rattle.std.specs.declared.cmp.Ordering.TheVariants.{Less, Greater}
-use Rattle.std.proofs.lemmas.Bool.{cases_lt}
 use Rattle.std.proofs.lemmas.Bool.Decides.{nat_tests}
 use Rattle.std.proofs.lemmas.Cmp.{nat_cmp_total, ranked}
 use Rattle.std.proofs.lemmas.List.Sorted.{searchable_from_sorted}
-use Rattle.std.proofs.lemmas.Option.{get_or_from_slice_get, slice_get_within}
-use Rattle.chains.proofs.Places.{by_cases}
 use Rattle.row_table.proofs.filled.place_of.Goals as goal
 
 not_less : (a b : ℕ) → a < b → is_lt (nat_cmp b a) ≡ false
@@ -33,7 +33,4 @@ missing xs x (Err i) found = λ up at e.
     absurd (omega (arith, same)))
 
 pub returns-clause-none : goal.returns-clause-none
-returns-clause-none c =
-    subst (λ result. IfNone result (AllPairs (λ one other. one < other) c.args.filled.now → (at : ℕ)
-    → slice_get c.args.filled.now at ≡ Some c.args.slot → ⊥)) (sym c.ok.ensures.value)
-    (missing c.args.filled.now c.args.slot c.binary_search.result c.binary_search.ensures.position)
+returns-clause-none c = grind (arith, common_steps, missing)

@@ -1,7 +1,7 @@
-use Rattle.std.proofs.Common.{◌≡◌, ◌≤◌, ℕ, Bool, true, false, List, [], ◌∷◌, ◌++◌, Option, Some, None, IsSome, is_some, take, refl, sym, subst, ap, ◌∙◌, if◌then◌else◌, arith}
-use Rattle.std.specs.Vec.{vec_capacity}
+use Rattle.row_table.proofs.Common.{◌≡◌, ℕ, Bool, true, false, List, [], ◌∷◌, ◌++◌, Option, Some, None, is_some, take}
+use Rattle.row_table.proofs.Common.{refl, sym, ap, ◌∙◌, arith, vec_capacity, filled_from}
+use Rattle.std.proofs.Common.{if◌then◌else◌}
 use Rattle.std.proofs.lemmas.List.{append-nil}
-use Rattle.row_table.specs.Slots.{held, filled_from}
 use Rattle.row_table.proofs.Slots.{the_entry, held_is, filled_more, len-filled, length-live_before}
 use Rattle.row_table.proofs.filled.refill.Goals as goal
 use Rattle.row_table.proofs.filled.refill.Goals.{then-is_some+else-prove, else-is_some}

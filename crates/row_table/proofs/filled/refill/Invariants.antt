@@ -1,6 +1,4 @@
-use Rattle.std.proofs.Common.{◌≡◌, ◌≤◌, take}
-use Rattle.std.specs.Vec.{vec_capacity}
-use Rattle.row_table.specs.Slots.{filled_from}
+use Rattle.row_table.proofs.Common.{◌≡◌, ◌≤◌, take, vec_capacity, filled_from}
 use Rattle.row_table.proofs.filled.refill.Given as goal
 
 abbrev pub invariant-loop-slot : goal.invariant-loop-slot

@@ -1,4 +1,4 @@
-use Rattle.std.proofs.Common.{◌≡◌, ◌-◌, suc}
+use Rattle.row_table.proofs.Common.{◌≡◌, ◌-◌, suc}
 use Rattle.row_table.proofs.index.add.Given as goal
 
 abbrev pub invariant-loop-chains : goal.invariant-loop-chains

@@ -1,5 +1,4 @@
-use Rattle.std.proofs.Common.{◌≡◌, take, map, length}
-use Rattle.row_table.specs.Index.{moment_of}
+use Rattle.row_table.proofs.Common.{◌≡◌, take, map, length, moment_of}
 use Rattle.row_table.proofs.index.restore.Given as goal
 
 abbrev pub invariant-loop-slot : goal.invariant-loop-slot

@@ -1,5 +1,4 @@
-use Rattle.std.proofs.Common.{◌≡◌, Some, false, All, slice_get}
-use Rattle.row_table.specs.Slots.{emptied}
+use Rattle.row_table.proofs.Common.{◌≡◌, Some, false, All, slice_get, emptied}
 use Rattle.row_table.proofs.slot_list.let_go.Given as goal
 
 abbrev pub invariant-loop-slot : goal.invariant-loop-slot

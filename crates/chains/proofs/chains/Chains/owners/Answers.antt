@@ -1,6 +1,4 @@
-use Rattle.std.proofs.Common.{◌<◌, ◌∙◌, ℕ, sym, ap, subst}
-use Rattle.chains.specs.Chains.{Versions, owner_of}
-use Rattle.chains.specs.Tables.{Table, now_of}
+use Rattle.chains.proofs.Common.{◌<◌, ◌∙◌, ℕ, sym, ap, subst, Versions, owner_of, Table, now_of}
 use Rattle.chains.proofs.Views.{owner_is}
 use Rattle.chains.proofs.chains.Chains.owners.Goals as goal
 

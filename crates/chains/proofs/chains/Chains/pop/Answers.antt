@@ -1,27 +1,17 @@
-use Rattle.std.proofs.Common.{◌≡◌, ◌-◌, ◌<◌, ◌∙◌, None, length, sym, ap, subst, arith}
-use Rattle.std.proofs.lemmas.List.{length-map}
-use Rattle.chains.specs.Chains.{Versions, owner_of, without_last}
-use Rattle.chains.specs.Tables.{Table, now_of, before_of, link_of, rows_in, IsChained}
+use Rattle.std.proofs.lemmas.Grind.{common_steps}
+use Rattle.chains.proofs.Common.{◌≡◌, ◌-◌, ◌<◌, ◌∙◌, None, length, sym, ap, subst, arith, length-map, Versions}
+use Rattle.chains.proofs.Common.{owner_of, Table, now_of, link_of, rows_in, IsChained}
+use Rattle.chains.specs.Chains.{without_last}
+use Rattle.chains.specs.Tables.{before_of}
 use Rattle.chains.proofs.Popping.{popped_chained, rows_of_popped}
 use Rattle.chains.proofs.Views.{owner_in, owner_is}
 use Rattle.chains.proofs.chains.Chains.pop.Goals as goal
 
 after : (c : goal.After-pop-arg-1) → length (before_of c.self.inside.tables).links < length (now_of c.self.inside.tables).links
-after c =
-    let tables = c.self.inside.tables in
-    let all = length-map (now_of tables).links owner_in in
-    let old = length-map (before_of tables).links owner_in in
-    let now = ap (λ (v : Versions). length v.now.stands) c.self.view_is in
-    let before = ap (λ (v : Versions). length v.before.stands) c.self.view_is in
-    let low = c.requires.after in
-    omega (arith, all, old, now, before, low)
+after c = grind (arith, common_steps, length-map)
 
 some : (c : goal.After-pop) → 0 < length (now_of c.self.inside.tables).links
-some c =
-    let all = length-map (now_of c.self.inside.tables).links owner_in in
-    let now = ap (λ (v : Versions). length v.now.stands) c.self.view_is in
-    let low = c.requires.after in
-    omega (arith, all, now, low)
+some c = grind (arith, common_steps, length-map)
 
 pub pop-requires : goal.pop-requires
 pop-requires c = after c

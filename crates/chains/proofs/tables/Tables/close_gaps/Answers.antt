@@ -1,7 +1,6 @@
-use Rattle.std.proofs.Common.{◌≡◌, ap, ◌∙◌, filter, is_some, length, replicate, rules}
+use Rattle.chains.proofs.Common.{◌≡◌, ap, ◌∙◌, length, replicate, Table, now_of, rows_in, no_end, Link}
+use Rattle.std.proofs.Common.{filter, is_some, rules}
 use Rattle.std.proofs.lemmas.Fn.{filter_same}
-use Rattle.chains.specs.Tables.{Table, now_of, rows_in, no_end}
-use Rattle.chains.specs.declared.tables.Link.{Link}
 use Rattle.chains.proofs.Closing.{gaps_closed, filled_without}
 use Rattle.chains.proofs.tables.Tables.close_gaps.Goals as goal
 

@@ -1,8 +1,8 @@
-use Rattle.std.proofs.Common.{◌<◌, ◌+◌, sym, ap, ◌∙◌, subst, length, arith}
-use Rattle.std.proofs.lemmas.Option.{get_or_from_slice_get}
-use Rattle.chains.specs.Tables.{Table, now_of, no_link, Stands, rows_in, IsChained}
-use Rattle.chains.specs.declared.tables.Link.{Link}
-use Rattle.chains.proofs.Closing.{front, front_all, same_lengths, flag_set, never_empty, owner_within, last_free, one_more, rows_still}
+use Rattle.std.proofs.lemmas.Grind.{common_steps}
+use Rattle.chains.proofs.Common.{◌<◌, ◌+◌, sym, ap, ◌∙◌, subst, length, arith, get_or_from_slice_get, Table, now_of}
+use Rattle.chains.proofs.Common.{no_link, Stands, rows_in, IsChained, Link}
+use Rattle.chains.proofs.Closing.{front, front_all, same_lengths, flag_set, never_empty, owner_within, last_free}
+use Rattle.chains.proofs.Closing.{one_more, rows_still}
 use Rattle.chains.proofs.tables.Tables.relink_all.Goals as goal
 
 pub loop-row-preserved-in_default : goal.loop-row-preserved-in_default
@@ -27,25 +27,13 @@ relink-requires-clause-owner c =
     owner_within start t row c.requires.filled c.loop-row.invariant.rows low c.in-Some.owner there
 
 pub relink-requires-clause-row : goal.relink-requires-clause-row
-relink-requires-clause-row c =
-    let start : Table = now_of c.args.self.now in
-    let t : Table = now_of c.loop-row.self in
-    let long = (same_lengths t start c.loop-row.invariant.rows).0 in
-    omega (arith, long, c.loop-row-test.true, c.len-row-end.ensures.items)
+relink-requires-clause-row c = grind (arith, common_steps, same_lengths)
 
 pub relink-requires-clause-free_end : goal.relink-requires-clause-free_end
-relink-requires-clause-free_end c =
-    let start : Table = now_of c.args.self.now in
-    let t : Table = now_of c.loop-row.self in
-    let low : c.in-Some.owner < length t.ends = relink-requires-clause-owner c in
-    flag_set c.loop-row.self.ends.saved (length start.ends) c.in-Some.owner (c.loop-row.invariant.ends ∙ c.requires.ends)
-    (omega (arith, low, (same_lengths t start c.loop-row.invariant.rows).1))
+relink-requires-clause-free_end c = grind (arith, common_steps, relink-requires-clause-owner, flag_set, same_lengths)
 
 pub relink-requires-clause-free_row : goal.relink-requires-clause-free_row
-relink-requires-clause-free_row c =
-    let start : Table = now_of c.args.self.now in
-    flag_set c.loop-row.self.links.saved (length start.links) c.loop-row.row (c.loop-row.invariant.links ∙ c.requires.links)
-    (omega (arith, c.loop-row-test.true, c.len-row-end.ensures.items))
+relink-requires-clause-free_row c = grind (arith, common_steps, flag_set)
 
 pub relink-requires-clause-free_last : goal.relink-requires-clause-free_last
 relink-requires-clause-free_last c =
@@ -79,9 +67,4 @@ loop-row-preserved c =
     }
 
 pub returns-clause-chained : goal.returns-clause-chained
-returns-clause-chained c =
-    let start : Table = now_of c.args.self.now in
-    let t : Table = now_of c.loop-row.self in
-    let long = (same_lengths t start c.loop-row.invariant.rows).0 in
-    subst IsChained (front_all t c.loop-row.row (omega (arith, long, c.loop-row-test.false, c.len-row-end.ensures.items)))
-    c.loop-row.invariant.chained
+returns-clause-chained c = grind (arith, common_steps, same_lengths, front_all)

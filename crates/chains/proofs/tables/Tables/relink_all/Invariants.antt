@@ -1,5 +1,4 @@
-use Rattle.std.proofs.Common.{◌≡◌}
-use Rattle.chains.specs.Tables.{now_of, rows_in, IsChained}
+use Rattle.chains.proofs.Common.{◌≡◌, now_of, rows_in, IsChained}
 use Rattle.chains.proofs.Closing.{front}
 use Rattle.chains.proofs.tables.Tables.relink_all.Given as goal
 

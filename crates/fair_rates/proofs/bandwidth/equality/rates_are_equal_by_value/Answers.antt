@@ -1,7 +1,5 @@
 use borrow.Author.Tests.{eq-eqb}
-use Rattle.std.proofs.Common.{◌∙◌, refl, sym}
-use Rattle.std.proofs.lemmas.Bool.{eqb-true, false≢true}
-use Rattle.fair_rates.specs.declared.bandwidth.Rate.TheVariants.{Unlimited, Finite}
+use Rattle.fair_rates.proofs.Common.{◌∙◌, refl, sym, eqb-true, false≢true, Unlimited, Finite}
 use Rattle.fair_rates.specs.Numbers.FractionOrder.{same_test}
 use Rattle.fair_rates.proofs.bandwidth.equality.rates_are_equal_by_value.Goals as goal
 

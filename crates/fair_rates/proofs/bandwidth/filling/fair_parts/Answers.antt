@@ -1,17 +1,9 @@
-use Rattle.std.proofs.Common.{◌≡◌, ℕ, ◌*◌, ◌<◌, ◌∷◌, List, [], All, Option, None, length, map, sym, ap, subst, arith}
-use Rattle.std.proofs.Common.{◌∙◌}
-use Rattle.std.specs.BinaryHeap.{heap_items}
-use Rattle.std.specs.declared.cmp.Reverse.{Reverse}
-use Rattle.std.proofs.lemmas.Grind.{common_steps}
-use Rattle.std.proofs.lemmas.List.{length-map, length-replicate}
-use Rattle.std.proofs.lemmas.List.Elements.{All-nil}
-use Rattle.fair_rates.specs.Fairness.Exists.{product}
-use Rattle.fair_rates.specs.Fairness.Fair.{Side, IsFair}
-use Rattle.fair_rates.specs.Filling.States.{frozen_at, top, IsQueue, IsShareQueue, IsLeast, AreAbove, AllFilled}
-use Rattle.fair_rates.specs.Filling.States.{IsRaised, AreAtTop}
-use Rattle.fair_rates.specs.Filling.FairParts.{flow_parts}
-use Rattle.fair_rates.specs.Sides.SideOf.{side_of}
-use Rattle.fair_rates.specs.declared.bandwidth.filling.open.OpenSide.{OpenSide}
+use Rattle.fair_rates.proofs.Common.{◌≡◌, ℕ, ◌*◌, ◌<◌, ◌∷◌, List, [], All, Option, None, length, map, sym, ap, subst}
+use Rattle.fair_rates.proofs.Common.{arith, ◌∙◌, heap_items, common_steps, length-map, All-nil, product, Side, IsFair}
+use Rattle.fair_rates.proofs.Common.{frozen_at, top, IsQueue, IsShareQueue, AreAbove, AllFilled, IsRaised, AreAtTop}
+use Rattle.fair_rates.proofs.Common.{flow_parts, side_of, OpenSide}
+use Rattle.std.proofs.lemmas.List.{length-replicate}
+use Rattle.fair_rates.specs.Filling.States.{IsLeast}
 use Rattle.fair_rates.proofs.Filling.Frozen.{some_of_if, match_some, match_none, on_some_of}
 use Rattle.fair_rates.proofs.Filling.Levels.{few_more}
 use Rattle.fair_rates.proofs.Filling.Steps.{IsCourse, IsTaken, course_none, round, limited, fair}
@@ -63,7 +55,6 @@ loop-found-preserved c =
     let e : E ≡ level_of = c.deref-in-loop-found.ensures.value in
     let old = heap_items c.loop-found.queue in
     let side : OpenSide = c.in-Some.side in
-    let first : Reverse OpenSide = record { 0 = side } in
     let rest = heap_items c.next_side.new.queue in
     let opens = heap_items c.in_ok-queue-2.queue in
     let o = c.in_ok-side.field-0 in

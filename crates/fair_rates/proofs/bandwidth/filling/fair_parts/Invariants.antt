@@ -1,7 +1,4 @@
-use Rattle.std.proofs.Common.{◌≡◌, ◌+◌, ◌<◌, ◌≤◌, All, length, map}
-use Rattle.std.specs.BinaryHeap.{heap_items, heap_len}
-use Rattle.fair_rates.specs.Fairness.Exists.{product}
-use Rattle.fair_rates.specs.Sides.SideOf.{side_of}
+use Rattle.fair_rates.proofs.Common.{◌≡◌, ◌+◌, ◌<◌, ◌≤◌, All, length, map, heap_items, heap_len, product, side_of}
 use Rattle.fair_rates.proofs.Filling.Steps.{IsCourse}
 use Rattle.fair_rates.proofs.bandwidth.filling.fair_parts.Given as goal
 

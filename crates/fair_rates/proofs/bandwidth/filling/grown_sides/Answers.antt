@@ -1,8 +1,4 @@
-use Rattle.std.proofs.Common.{◌∷◌, [], length-append, arith}
-use Rattle.std.specs.BinaryHeap.{heap_items}
-use Rattle.std.specs.declared.cmp.Reverse.{Reverse}
-use Rattle.std.proofs.lemmas.Grind.{common_steps}
-use Rattle.fair_rates.specs.declared.bandwidth.filling.open.OpenSide.{OpenSide}
+use Rattle.fair_rates.proofs.Common.{◌∷◌, [], length-append, arith, heap_items, Reverse, common_steps, OpenSide}
 use Rattle.fair_rates.proofs.Filling.Growing.{grown_once, grown_more}
 use Rattle.fair_rates.proofs.bandwidth.filling.grown_sides.Goals as goal
 

@@ -1,6 +1,4 @@
-use Rattle.std.proofs.Common.{◌≡◌, length}
-use Rattle.std.specs.BinaryHeap.{heap_items, heap_len, IsHeap}
-use Rattle.fair_rates.specs.Filling.States.{AreGrown, queue_cmp}
+use Rattle.fair_rates.proofs.Common.{◌≡◌, length, heap_items, heap_len, IsHeap, AreGrown, queue_cmp}
 use Rattle.fair_rates.proofs.bandwidth.filling.grown_sides.Given as goal
 
 abbrev pub invariant-loop-side : goal.invariant-loop-side

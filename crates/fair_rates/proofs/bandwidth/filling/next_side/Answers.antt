@@ -1,11 +1,7 @@
-use Rattle.std.proofs.Common.{◌≡◌, ℕ, ◌+◌, ◌*◌, ◌<◌, ◌≤◌, ◌⊎◌, inl, inr, ◌∷◌, length, ap, arith}
-use Rattle.std.specs.BinaryHeap.{heap_items}
-use Rattle.std.specs.declared.cmp.Reverse.{Reverse}
-use Rattle.std.proofs.lemmas.Grind.{common_steps}
-use Rattle.std.proofs.lemmas.List.Elements.{All-tail, All-weaker}
-use Rattle.std.proofs.lemmas.List.Sorted.{All-permutation, sum_by_popped, sum_by_pushed}
-use Rattle.fair_rates.specs.Filling.States.{frozen_at, IsWithinSlack}
-use Rattle.fair_rates.specs.declared.bandwidth.filling.open.OpenSide.{OpenSide}
+use Rattle.fair_rates.proofs.Common.{◌≡◌, ℕ, ◌+◌, ◌*◌, ◌<◌, ◌≤◌, ◌⊎◌, inl, inr, ◌∷◌, length, ap, arith, heap_items}
+use Rattle.fair_rates.proofs.Common.{Reverse, common_steps, All-tail, All-weaker, All-permutation, frozen_at}
+use Rattle.fair_rates.proofs.Common.{IsWithinSlack, OpenSide}
+use Rattle.std.proofs.lemmas.List.Sorted.{sum_by_popped, sum_by_pushed}
 use Rattle.fair_rates.proofs.Filling.Account.{risers_have_no_more}
 use Rattle.fair_rates.proofs.Filling.Frozen.{match_none}
 use Rattle.fair_rates.proofs.Filling.Queue.{queue_permuted, queue_counted, queue_filled, all_filled, sound_popped}

@@ -1,7 +1,5 @@
-use Rattle.std.proofs.Common.{ℕ, ◌+◌, ◌≤◌, List, length, sum_by}
-use Rattle.std.specs.BinaryHeap.{heap_items, heap_len}
-use Rattle.fair_rates.specs.Fairness.Fair.{Side}
-use Rattle.fair_rates.specs.Filling.States.{frozen_at, IsQueue, IsShareQueue, AreAbove}
+use Rattle.fair_rates.proofs.Common.{ℕ, ◌+◌, ◌≤◌, List, length, sum_by, heap_items, heap_len, Side, frozen_at, IsQueue}
+use Rattle.fair_rates.proofs.Common.{IsShareQueue, AreAbove}
 use Rattle.fair_rates.proofs.bandwidth.filling.next_side.Given as goal
 
 abbrev pub invariant-loop-least : goal.invariant-loop-least

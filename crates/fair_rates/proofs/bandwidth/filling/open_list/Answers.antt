@@ -1,9 +1,6 @@
-use Rattle.std.proofs.Common.{◌∷◌, ◌++◌, [], subst, sym, length-append, arith}
-use Rattle.std.specs.declared.cmp.Reverse.{Reverse}
-use Rattle.std.proofs.lemmas.Grind.{common_steps}
+use Rattle.fair_rates.proofs.Common.{◌∷◌, ◌++◌, [], subst, sym, length-append, arith, Reverse, common_steps, OpenSide}
+use Rattle.fair_rates.proofs.Common.{AreOpened}
 use Rattle.fair_rates.specs.declared.bandwidth.sides.Side.{Side}
-use Rattle.fair_rates.specs.declared.bandwidth.filling.open.OpenSide.{OpenSide}
-use Rattle.fair_rates.specs.Filling.States.{AreOpened}
 use Rattle.fair_rates.proofs.Filling.Queue.{opened_none, opened_more, opened_without, put_last}
 use Rattle.fair_rates.proofs.bandwidth.filling.open_list.Goals as goal
 

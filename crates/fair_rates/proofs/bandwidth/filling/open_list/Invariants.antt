@@ -1,5 +1,4 @@
-use Rattle.std.proofs.Common.{◌≤◌, length}
-use Rattle.fair_rates.specs.Filling.States.{AreOpened}
+use Rattle.fair_rates.proofs.Common.{◌≤◌, length, AreOpened}
 use Rattle.fair_rates.proofs.bandwidth.filling.open_list.Given as goal
 
 abbrev pub invariant-loop-side : goal.invariant-loop-side

@@ -1,4 +1,4 @@
-use Rattle.std.specs.BinaryHeap.{heap_items}
+use Rattle.fair_rates.proofs.Common.{heap_items}
 use Rattle.fair_rates.proofs.Filling.Queue.{opened_permuted}
 use Rattle.fair_rates.proofs.bandwidth.filling.open_sides.Goals as goal
 

@@ -1,5 +1,4 @@
-use Rattle.std.specs.Fn.{CalledAt, CalledAtTwo}
-use Rattle.fair_rates.specs.Sides.Answers.{NoLink}
+use Rattle.fair_rates.proofs.Common.{CalledAt, CalledAtTwo, NoLink}
 use Rattle.fair_rates.proofs.Sides.Answers.{answers_are_those_of_the_caps}
 use Rattle.fair_rates.proofs.bandwidth.laws.answers_are_those_of_the_caps.Goals as goal
 

@@ -1,6 +1,4 @@
-use Rattle.std.proofs.Common.{ℕ, subst, le_refl}
-use Rattle.fair_rates.specs.Fairness.Fair.{IsFair}
-use Rattle.fair_rates.specs.Refusals.FairRatesFit.{AreWholeOver}
+use Rattle.fair_rates.proofs.Common.{ℕ, subst, le_refl, IsFair, AreWholeOver}
 use Rattle.fair_rates.proofs.Fairness.Denominators.{denominator_of, is_least_multiple, one_multiple, first_multiples}
 use Rattle.fair_rates.proofs.Filling.FairPartsExist.{fair_parts}
 use Rattle.fair_rates.proofs.Fairness.WholeRates.{whole_rates}

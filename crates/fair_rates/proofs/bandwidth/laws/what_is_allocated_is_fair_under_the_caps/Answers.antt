@@ -1,5 +1,4 @@
-use Rattle.std.specs.Fn.{CalledAt, CalledAtTwo}
-use Rattle.fair_rates.specs.Sides.Answers.{NoLink}
+use Rattle.fair_rates.proofs.Common.{CalledAt, CalledAtTwo, NoLink}
 use Rattle.fair_rates.proofs.Fairness.Allocation.{allocates_under_caps}
 use Rattle.fair_rates.proofs.bandwidth.laws.what_is_allocated_is_fair_under_the_caps.Goals as goal
 

@@ -1,5 +1,4 @@
-use Rattle.std.specs.Fn.{CalledAt, CalledAtTwo}
-use Rattle.fair_rates.specs.Sides.Answers.{NoLink}
+use Rattle.fair_rates.proofs.Common.{CalledAt, CalledAtTwo, NoLink}
 use Rattle.fair_rates.proofs.Refusals.NoFairRates.{too_large_has_no_rates}
 use Rattle.fair_rates.proofs.Fairness.AnswersUnderCaps.{too_large_under_caps}
 use Rattle.fair_rates.proofs.bandwidth.laws.what_is_too_large_has_no_rates.Goals as goal

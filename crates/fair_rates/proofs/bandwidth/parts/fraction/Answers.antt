@@ -1,12 +1,7 @@
-use Rattle.std.proofs.Common.{◌≡◌, ℕ, Option, None, IsSome, ◌*◌, ◌^◌, ◌/◌, ◌<◌, get_or, length, take, inr, ap, sym}
-use Rattle.std.proofs.Common.{subst, arith, ◌∙◌}
+use Rattle.fair_rates.proofs.Common.{◌≡◌, ℕ, Option, None, IsSome, ◌*◌, ◌^◌, ◌/◌, ◌<◌, get_or, length, take, inr, ap}
+use Rattle.fair_rates.proofs.Common.{sym, subst, arith, ◌∙◌, common_steps, take_all, product, gcd, IsReduced}
+use Rattle.fair_rates.proofs.Common.{whole_IsReduced}
 use Rattle.std.specs.Prelude.{◌↔◌}
-use Rattle.std.proofs.lemmas.Grind.{common_steps}
-use Rattle.std.proofs.lemmas.List.{take_all}
-use Rattle.fair_rates.specs.Fairness.Exists.{product}
-use Rattle.fair_rates.specs.Numbers.Amount.{gcd}
-use Rattle.fair_rates.specs.Numbers.Fraction.{IsReduced}
-use Rattle.fair_rates.specs.Numbers.LowestTerms.{whole_IsReduced}
 use Rattle.fair_rates.proofs.Filling.Fractions.{product_next, product_positive, shared_is, shared_positive}
 use Rattle.fair_rates.proofs.Filling.Fractions.{rest_positive, lowest_next, worth_next, large_numerator}
 use Rattle.fair_rates.proofs.Filling.Fractions.{large_denominator}

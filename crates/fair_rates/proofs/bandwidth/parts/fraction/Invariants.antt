@@ -1,6 +1,4 @@
-use Rattle.std.proofs.Common.{◌≡◌, ◌*◌, ◌<◌, take}
-use Rattle.fair_rates.specs.Fairness.Exists.{product}
-use Rattle.fair_rates.specs.Numbers.Fraction.{IsReduced}
+use Rattle.fair_rates.proofs.Common.{◌≡◌, ◌*◌, ◌<◌, take, product, IsReduced}
 use Rattle.fair_rates.proofs.bandwidth.parts.fraction.Given as goal
 
 abbrev pub invariant-loop-factor : goal.invariant-loop-factor

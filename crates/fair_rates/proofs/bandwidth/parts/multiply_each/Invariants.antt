@@ -1,4 +1,4 @@
-use Rattle.std.proofs.Common.{◌≡◌, ℕ, ◌*◌, ◌<◌, ◌≤◌, get_or}
+use Rattle.fair_rates.proofs.Common.{◌≡◌, ℕ, ◌*◌, ◌<◌, ◌≤◌, get_or}
 use Rattle.fair_rates.proofs.bandwidth.parts.multiply_each.Given as goal
 
 abbrev pub invariant-loop-number : goal.invariant-loop-number

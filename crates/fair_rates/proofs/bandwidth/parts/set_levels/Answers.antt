@@ -1,7 +1,4 @@
-use Rattle.std.proofs.Common.{◌≡◌, ◌<◌, All, Some, length, subst, arith}
-use Rattle.std.proofs.lemmas.Grind.{common_steps}
-use Rattle.std.proofs.lemmas.List.{take_all}
-use Rattle.fair_rates.specs.Filling.FairParts.{level_at}
+use Rattle.fair_rates.proofs.Common.{◌≡◌, ◌<◌, All, Some, length, subst, arith, common_steps, take_all, level_at}
 use Rattle.fair_rates.proofs.Filling.Levels.{levels_next}
 use Rattle.fair_rates.proofs.bandwidth.parts.set_levels.Goals as goal
 

@@ -1,5 +1,4 @@
-use Rattle.std.proofs.Common.{◌≡◌, ℕ, ◌⊎◌, All, Contains, Some, take}
-use Rattle.fair_rates.specs.Filling.FairParts.{level_at}
+use Rattle.fair_rates.proofs.Common.{◌≡◌, ℕ, ◌⊎◌, All, Contains, Some, take, level_at}
 use Rattle.fair_rates.proofs.bandwidth.parts.set_levels.Given as goal
 
 abbrev pub invariant-loop-user : goal.invariant-loop-user

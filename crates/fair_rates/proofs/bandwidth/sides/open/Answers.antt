@@ -1,6 +1,5 @@
-use Rattle.std.proofs.Common.{◌∙◌, ◌≡◌, ap, length, vec_len, ◌++◌, ◌∷◌, []}
-use Rattle.fair_rates.specs.declared.bandwidth.sides.Registry.{Registry}
-use Rattle.fair_rates.specs.Sides.Registry.{subject_of, number_of, HasNumber}
+use Rattle.fair_rates.proofs.Common.{◌∙◌, ◌≡◌, ap, length, ◌++◌, ◌∷◌, [], Registry, subject_of, number_of, HasNumber}
+use Rattle.std.proofs.Common.{vec_len}
 use Rattle.fair_rates.proofs.Sides.Registry.{absent, opens, finds_more}
 use Rattle.fair_rates.proofs.bandwidth.sides.open.Goals as goal
 

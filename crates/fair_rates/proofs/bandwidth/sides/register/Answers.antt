@@ -1,5 +1,4 @@
-use Rattle.std.proofs.Common.{refl}
-use Rattle.fair_rates.specs.Sides.Registry.{number_of, subject_of}
+use Rattle.fair_rates.proofs.Common.{refl, number_of, subject_of}
 use Rattle.fair_rates.proofs.Sides.Registry.{found}
 use Rattle.fair_rates.proofs.bandwidth.sides.register.Goals as goal
 

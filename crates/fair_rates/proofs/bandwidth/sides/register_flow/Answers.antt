@@ -1,6 +1,4 @@
-use Rattle.std.proofs.Common.{subst, sym}
-use Rattle.fair_rates.specs.Sides.Registry.{FindsSides}
-use Rattle.fair_rates.specs.Sides.Answers.{Answered}
+use Rattle.fair_rates.proofs.Common.{subst, sym, FindsSides, Answered}
 use Rattle.fair_rates.proofs.Sides.Asking.{registers_it, registers_nothing, registers_all}
 use Rattle.fair_rates.proofs.bandwidth.sides.register_flow.Goals.{then-flow+in_ok-recipient, else-flow}
 use Rattle.fair_rates.proofs.bandwidth.sides.register_flow.Goals as goal

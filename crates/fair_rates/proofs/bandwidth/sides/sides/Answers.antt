@@ -1,11 +1,8 @@
-use Rattle.std.proofs.Common.{refl, [], ◌∙◌, ◌≡◌, arith, take, ◌<◌}
-use Rattle.std.specs.Fn.{CalledAt, TakesAt, CalledAtTwo, TakesAtTwo}
-use Rattle.std.proofs.lemmas.List.{take_all}
-use Rattle.fair_rates.specs.Sides.Answers.{Answered, CalledIfDelivered}
+use Rattle.fair_rates.proofs.Common.{refl, [], ◌∙◌, ◌≡◌, arith, take, ◌<◌, CalledAt, TakesAt, CalledAtTwo, TakesAtTwo}
+use Rattle.fair_rates.proofs.Common.{take_all, Answered, CalledIfDelivered}
 use Rattle.fair_rates.proofs.Lists.AllPairs.{AllPairs-from_later}
 use Rattle.fair_rates.proofs.Sides.Registry.{finds_sides}
-use Rattle.fair_rates.proofs.Sides.FlowByFlow.{passed, called, not_called, origin_next, recipient_next}
-use Rattle.fair_rates.proofs.Sides.FlowByFlow.{pair_next}
+use Rattle.fair_rates.proofs.Sides.FlowByFlow.{passed, called, not_called, origin_next, recipient_next, pair_next}
 use Rattle.fair_rates.proofs.Sides.Users.{users_of}
 use Rattle.fair_rates.proofs.bandwidth.sides.sides.Goals.{then-flow, else-flow}
 use Rattle.fair_rates.proofs.bandwidth.sides.sides.Goals as goal

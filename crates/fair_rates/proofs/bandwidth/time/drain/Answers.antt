@@ -1,5 +1,4 @@
-use Rattle.std.proofs.Common.{inl, refl, sym}
-use Rattle.std.proofs.lemmas.Bool.{false≢true}
+use Rattle.fair_rates.proofs.Common.{inl, refl, sym, false≢true}
 use Rattle.fair_rates.specs.Numbers.FractionOrder.{le_if_tested, greater_if_tested}
 use Rattle.fair_rates.proofs.Numbers.Fits.{none_iff}
 use Rattle.fair_rates.proofs.Numbers.Transfer.{taking_from_seconds, taking_fits, taken_from_product, covers_iff}

@@ -1,5 +1,4 @@
-use Rattle.std.proofs.Common.{refl}
-use Rattle.std.proofs.lemmas.Bool.{false≢true}
+use Rattle.fair_rates.proofs.Common.{refl, false≢true}
 use Rattle.fair_rates.proofs.Numbers.Fits.{none_iff}
 use Rattle.fair_rates.proofs.Numbers.LeastTime.{time_from_seconds, time_fits, least_from_ceil}
 use Rattle.fair_rates.proofs.bandwidth.time.least_time.Goals as goal

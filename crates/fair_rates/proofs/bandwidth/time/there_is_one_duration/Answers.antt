@@ -1,5 +1,4 @@
-use Rattle.std.proofs.Common.{◌≡◌, ◌^◌, ◌≤◌, Some, None, refl, sym, ap, ◌∙◌, arith}
-use Rattle.fair_rates.specs.declared.bandwidth.Rate.TheVariants.{Unlimited, Finite}
+use Rattle.fair_rates.proofs.Common.{◌≡◌, ◌^◌, ◌≤◌, Some, None, refl, sym, ap, ◌∙◌, arith, Unlimited, Finite}
 use Rattle.fair_rates.proofs.bandwidth.time.there_is_one_duration.Goals as goal
 
 pub returns : goal.returns

@@ -1,7 +1,4 @@
-use Rattle.std.proofs.Common.{◌≡◌, ◌∙◌, inl, inr, refl, sym, subst}
-use Rattle.std.proofs.lemmas.Bool.{eqb-true}
-use Rattle.fair_rates.specs.declared.bandwidth.Rate.{Rate}
-use Rattle.fair_rates.specs.Numbers.Ratio.{amount_of}
+use Rattle.fair_rates.proofs.Common.{◌≡◌, ◌∙◌, inl, inr, refl, sym, subst, eqb-true, Rate, amount_of}
 use Rattle.fair_rates.specs.Numbers.Draining.{left_after}
 use Rattle.fair_rates.proofs.Numbers.Transfer.{all_is_left}
 use Rattle.fair_rates.proofs.bandwidth.time.transfer.Goals.{then-is_zero, else-is_zero, then-is_zero-2, else-is_zero-2}

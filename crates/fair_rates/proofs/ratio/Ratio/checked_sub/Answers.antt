@@ -1,4 +1,4 @@
-use Rattle.std.proofs.Common.{refl}
+use Rattle.fair_rates.proofs.Common.{refl}
 use Rattle.fair_rates.proofs.Numbers.Fits.{difference_worth, no_greater_is, none_iff}
 use Rattle.fair_rates.proofs.ratio.Ratio.checked_sub.Goals as goal
 

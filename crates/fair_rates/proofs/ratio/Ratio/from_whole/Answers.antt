@@ -1,5 +1,4 @@
-use Rattle.std.proofs.Common.{arith}
-use Rattle.fair_rates.specs.Numbers.LowestTerms.{whole_IsReduced}
+use Rattle.fair_rates.proofs.Common.{arith, whole_IsReduced}
 use Rattle.fair_rates.proofs.ratio.Ratio.from_whole.Goals as goal
 
 pub invariant_of-result : goal.invariant_of-result

@@ -1,8 +1,6 @@
-use Rattle.std.proofs.Common.{◌≡◌, ◌<◌, ◌∙◌, sym, ap, subst}
-use Rattle.fair_rates.specs.Numbers.Amount.{Amount, reduced}
-use Rattle.fair_rates.specs.Numbers.Fraction.{IsReduced}
-use Rattle.fair_rates.specs.Numbers.LowestTerms.{amount_is, reduced_is, reduced_lowest, reduced_positive}
-use Rattle.fair_rates.specs.Numbers.LowestTerms.{reduced_IsReduced, whole_IsReduced}
+use Rattle.fair_rates.proofs.Common.{◌≡◌, ◌<◌, ◌∙◌, sym, ap, subst, Amount, reduced, IsReduced, reduced_lowest}
+use Rattle.fair_rates.proofs.Common.{whole_IsReduced}
+use Rattle.fair_rates.specs.Numbers.LowestTerms.{amount_is, reduced_is, reduced_positive, reduced_IsReduced}
 use Rattle.fair_rates.proofs.ratio.Ratio.lowest.Goals as goal
 
 found : (c : goal.After-quotient-2)

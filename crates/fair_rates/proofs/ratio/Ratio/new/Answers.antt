@@ -1,4 +1,4 @@
-use Rattle.std.proofs.Common.{arith}
+use Rattle.fair_rates.proofs.Common.{arith}
 use Rattle.fair_rates.proofs.Numbers.Fits.{worth_if_reduced}
 use Rattle.fair_rates.proofs.ratio.Ratio.new.Goals as goal
 

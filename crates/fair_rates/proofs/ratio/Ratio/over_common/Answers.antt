@@ -1,6 +1,5 @@
-use Rattle.std.proofs.Common.{◌^◌, ◌<◌, refl, rules}
+use Rattle.fair_rates.proofs.Common.{◌^◌, ◌<◌, refl, rules, amount_of}
 use Rattle.fair_rates.specs.Numbers.Fits.{AreOverCommon}
-use Rattle.fair_rates.specs.Numbers.Ratio.{amount_of}
 use Rattle.fair_rates.proofs.Numbers.Fits.{over_equal, over_fits, common-pos}
 use Rattle.fair_rates.proofs.ratio.Ratio.over_common.Goals as goal
 

@@ -1,8 +1,4 @@
-use Rattle.std.proofs.Common.{◌*◌, ◌<◌, ◌∙◌, sym, refl, subst}
-use Rattle.std.proofs.Math.Nat.{mul-pos}
-use Rattle.fair_rates.specs.Numbers.Amount.{times}
-use Rattle.fair_rates.specs.Numbers.Fraction.{IsReduced}
-use Rattle.fair_rates.specs.Numbers.Ratio.{amount_of}
+use Rattle.fair_rates.proofs.Common.{◌*◌, ◌<◌, ◌∙◌, sym, refl, subst, mul-pos, times, IsReduced, amount_of}
 use Rattle.fair_rates.specs.Numbers.LowestTerms.{amount_is}
 use Rattle.fair_rates.proofs.Numbers.Fits.{reduced_product, fits_if_known, none_iff, worth_if_reduced}
 use Rattle.fair_rates.proofs.ratio.Ratio.product.Goals as goal

@@ -1,6 +1,5 @@
 use borrow.Author.Tests.{eq-eqb}
-use Rattle.std.proofs.Common.{◌∙◌, sym}
-use Rattle.std.proofs.lemmas.Bool.{eqb-true}
+use Rattle.fair_rates.proofs.Common.{◌∙◌, sym, eqb-true}
 use Rattle.fair_rates.specs.Numbers.FractionOrder.{same_test}
 use Rattle.fair_rates.proofs.ratio.laws.comparisons_are_by_value.Goals as goal
 

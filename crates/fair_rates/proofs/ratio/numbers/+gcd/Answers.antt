@@ -1,5 +1,5 @@
-use Rattle.std.proofs.Common.{◌<◌, ◌∙◌, sym, subst, arith}
-use Rattle.fair_rates.specs.Numbers.Gcd.{gcd-zero, gcd-mod, gcd-pos}
+use Rattle.fair_rates.proofs.Common.{◌<◌, ◌∙◌, sym, subst, arith, gcd-mod, gcd-pos}
+use Rattle.fair_rates.specs.Numbers.Gcd.{gcd-zero}
 use Rattle.fair_rates.proofs.ratio.numbers.+gcd.Goals as goal
 
 pub returns-then-b-lt-WIDE-clause-positive : goal.returns-then-b-lt-WIDE-clause-positive

@@ -1,4 +1,4 @@
-use Rattle.std.proofs.Common.{◌∙◌, inl, inr}
+use Rattle.fair_rates.proofs.Common.{◌∙◌, inl, inr}
 use Rattle.fair_rates.specs.Numbers.FractionOrder.{by_wholes, by_zero_rest, by_rests}
 use Rattle.fair_rates.proofs.ratio.numbers.+order_by_parts.Goals.{then-rest-eq0-via-then-rest-eq0}
 use Rattle.fair_rates.proofs.ratio.numbers.+order_by_parts.Goals.{then-rest-eq0-via-else-rest-eq0+then-other_rest-eq0}

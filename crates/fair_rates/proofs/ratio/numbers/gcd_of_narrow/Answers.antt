@@ -1,5 +1,5 @@
-use Rattle.std.proofs.Common.{◌∙◌, sym, arith}
-use Rattle.fair_rates.specs.Numbers.Gcd.{gcd-mod, gcd-zero}
+use Rattle.fair_rates.proofs.Common.{◌∙◌, sym, arith, gcd-mod}
+use Rattle.fair_rates.specs.Numbers.Gcd.{gcd-zero}
 use Rattle.fair_rates.proofs.ratio.numbers.gcd_of_narrow.Goals as goal
 
 pub loop-rest-preserved : goal.loop-rest-preserved

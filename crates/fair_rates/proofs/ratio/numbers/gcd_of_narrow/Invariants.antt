@@ -1,5 +1,4 @@
-use Rattle.std.proofs.Common.{◌≡◌}
-use Rattle.fair_rates.specs.Numbers.Amount.{gcd}
+use Rattle.fair_rates.proofs.Common.{◌≡◌, gcd}
 use Rattle.fair_rates.proofs.ratio.numbers.gcd_of_narrow.Given as goal
 
 abbrev pub invariant-loop-rest : goal.invariant-loop-rest

@@ -1,4 +1,4 @@
-use Rattle.std.proofs.Common.{◌∙◌}
+use Rattle.fair_rates.proofs.Common.{◌∙◌}
 use Rattle.fair_rates.specs.Numbers.FractionOrder.{over_one_denominator}
 use Rattle.fair_rates.proofs.ratio.numbers.order.Goals as goal
 

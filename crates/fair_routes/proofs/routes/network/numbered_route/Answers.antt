@@ -1,6 +1,5 @@
-use Rattle.std.proofs.Common.{◌≡◌, ◌+◌, ◌++◌, ◌∷◌, ℕ, List, [], take, get_or, sym, subst, arith, ◌∙◌, ap}
-use Rattle.std.proofs.lemmas.List.{take_more, take_all}
-use Rattle.fair_routes.specs.Network.Told.{IsNumbered}
+use Rattle.fair_routes.proofs.Common.{◌≡◌, ◌+◌, ◌++◌, ◌∷◌, ℕ, List, [], take, get_or, sym, subst, arith, ◌∙◌, ap}
+use Rattle.fair_routes.proofs.Common.{take_more, take_all, IsNumbered}
 use Rattle.fair_routes.proofs.Network.Told.{numbered_none, numbered_more, numbered_same, IsPlace}
 use Rattle.fair_routes.proofs.routes.network.numbered_route.Goals.{in-Some+in_ok-push, in_default}
 use Rattle.fair_routes.proofs.routes.network.numbered_route.Goals as goal

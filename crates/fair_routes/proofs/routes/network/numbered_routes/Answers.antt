@@ -1,9 +1,8 @@
-use Rattle.std.proofs.Common.{◌≡◌, ◌++◌, ◌∷◌, ℕ, List, [], map, sym, ap, ◌∙◌, subst, Vec, Global}
-use Rattle.std.proofs.lemmas.List.{map-append}
-use Rattle.std.specs.List.{AllZip}
+use Rattle.fair_routes.proofs.Common.{◌≡◌, ◌++◌, ◌∷◌, ℕ, List, [], map, sym, ap, ◌∙◌, subst, map-append, AllZip}
+use Rattle.fair_routes.proofs.Common.{IsNumbered}
+use Rattle.std.proofs.Common.{Vec, Global}
 use Rattle.std.specs.Map.Iter.{deref}
 use Rattle.fair_rates.proofs.Lists.Zips.{zip-push}
-use Rattle.fair_routes.specs.Network.Told.{IsNumbered}
 use Rattle.fair_routes.proofs.routes.network.numbered_routes.Goals as goal
 
 abbrev items : Vec ℕ Global → List ℕ

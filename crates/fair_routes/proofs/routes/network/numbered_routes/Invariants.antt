@@ -1,7 +1,6 @@
-use Rattle.std.proofs.Common.{map, ℕ, Vec, Global}
-use Rattle.std.specs.List.{AllZip}
+use Rattle.fair_routes.proofs.Common.{map, ℕ, AllZip, IsNumbered}
+use Rattle.std.proofs.Common.{Vec, Global}
 use Rattle.std.specs.Map.Iter.{deref}
-use Rattle.fair_routes.specs.Network.Told.{IsNumbered}
 use Rattle.fair_routes.proofs.routes.network.numbered_routes.Given as goal
 
 -- the routes so far

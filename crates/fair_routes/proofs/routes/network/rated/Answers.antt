@@ -1,5 +1,5 @@
-use Rattle.std.proofs.Common.{◌≡◌, ◌++◌, ◌∷◌, ◌⊎◌, List, [], inl, inr, refl, sym, ap, ap₂, ◌∙◌, append_assoc, append-nil}
-use Rattle.std.specs.List.{zip}
+use Rattle.fair_routes.proofs.Common.{◌≡◌, ◌++◌, ◌∷◌, ◌⊎◌, List, [], inl, inr, refl, sym, ap, ap₂, ◌∙◌, zip}
+use Rattle.std.proofs.Common.{append_assoc, append-nil}
 use Rattle.std.proofs.lemmas.Slice.Zip.{Zip-more, either_empty_from_Zip}
 use Rattle.fair_routes.proofs.routes.network.rated.Goals as goal
 

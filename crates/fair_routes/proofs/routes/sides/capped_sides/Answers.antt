@@ -1,9 +1,10 @@
-use Rattle.std.proofs.Common.{◌≡◌, ◌<◌, ℕ, List, Some, None, vec_len, length, get_or, sym, refl}
-use Rattle.std.proofs.Common.{ap, subst, ◌∙◌, arith}
-use Rattle.std.proofs.lemmas.Grind.{common_steps}
+use Rattle.fair_routes.proofs.Common.{◌≡◌, ◌<◌, ℕ, List, Some, None, length, get_or, sym, refl, ap, subst, ◌∙◌, arith}
+use Rattle.fair_routes.proofs.Common.{common_steps}
+use Rattle.std.proofs.Common.{vec_len}
 use Rattle.std.proofs.lemmas.Bool.Decides.{nat_tests}
 use Rattle.fair_routes.specs.declared.routes.sides.LinkSide as declared
-use Rattle.fair_routes.proofs.Network.Sides.{AreMade, made_none, made_uncapped, made_unused, made_side, made_all, popped}
+use Rattle.fair_routes.proofs.Network.Sides.{AreMade, made_none, made_uncapped, made_unused, made_side, made_all}
+use Rattle.fair_routes.proofs.Network.Sides.{popped}
 use Rattle.fair_routes.proofs.routes.sides.capped_sides.Goals as goal
 
 pub loop-flows-init : goal.loop-flows-init

@@ -1,7 +1,6 @@
-use Rattle.std.proofs.Common.{[], ◌∷◌, ◌≡◌, ◌++◌, ℕ, List, ap, ◌∙◌, map, replicate, arith}
-use Rattle.std.specs.declared.alloc.Global.{Global}
-use Rattle.std.specs.declared.vec.Vec.{Vec}
-use Rattle.std.proofs.lemmas.List.{map-append, replicate-append-replicate}
+use Rattle.fair_routes.proofs.Common.{[], ◌∷◌, ◌≡◌, ◌++◌, ℕ, List, ap, ◌∙◌, map, replicate, arith, Global, Vec}
+use Rattle.fair_routes.proofs.Common.{map-append}
+use Rattle.std.proofs.lemmas.List.{replicate-append-replicate}
 use Rattle.fair_routes.proofs.routes.sides.nobody.Goals as goal
 
 pub loop-init : goal.loop-init

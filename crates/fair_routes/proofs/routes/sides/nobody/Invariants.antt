@@ -1,4 +1,4 @@
-use Rattle.std.proofs.Common.{◌≡◌, [], map, replicate}
+use Rattle.fair_routes.proofs.Common.{◌≡◌, [], map, replicate}
 use Rattle.fair_routes.proofs.routes.sides.nobody.Given as goal
 
 abbrev pub invariant-loop : goal.invariant-loop

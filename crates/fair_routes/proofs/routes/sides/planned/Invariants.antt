@@ -1,6 +1,5 @@
-use Rattle.std.proofs.Common.{◌≡◌, map}
+use Rattle.fair_routes.proofs.Common.{◌≡◌, map, side_of}
 use Rattle.fair_rates.specs.Sides.SideOf.{side_of as planner_side_of}
-use Rattle.fair_routes.specs.Network.Sides.{side_of}
 use Rattle.fair_routes.proofs.routes.sides.planned.Given as goal
 
 abbrev pub invariant-loop-link : goal.invariant-loop-link

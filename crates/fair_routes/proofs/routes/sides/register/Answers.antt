@@ -1,10 +1,8 @@
-use Rattle.std.proofs.Common.{◌≡◌, ◌<◌, ℕ, ◌++◌, ◌∷◌, [], cond, All, length, take, get_or, List, sym, ap, ◌∙◌, subst, arith}
-use Rattle.std.specs.declared.alloc.Global.{Global}
-use Rattle.std.specs.declared.vec.Vec.{Vec}
-use Rattle.std.proofs.lemmas.List.{append-nil, length-map, take_more, take_all}
-use Rattle.std.proofs.lemmas.List.Elements.{All-nil, All-map, All-more}
-use Rattle.fair_routes.specs.Network.Sides.{has_link}
-use Rattle.fair_routes.specs.Network.Users.{lists, users_at}
+use Rattle.fair_routes.proofs.Common.{◌≡◌, ◌<◌, ℕ, ◌++◌, ◌∷◌, [], cond, All, length, take, get_or, List, sym, ap, ◌∙◌}
+use Rattle.fair_routes.proofs.Common.{subst, arith, Global, Vec, length-map, take_more, take_all, All-nil, All-map}
+use Rattle.fair_routes.proofs.Common.{has_link, lists, users_at}
+use Rattle.std.proofs.lemmas.List.{append-nil}
+use Rattle.std.proofs.lemmas.List.Elements.{All-more}
 use Rattle.fair_routes.proofs.Network.Users.{joined_more}
 use Rattle.fair_routes.proofs.routes.sides.register.Goals as goal
 

@@ -1,6 +1,4 @@
-use Rattle.std.proofs.Common.{◌≡◌, ◌<◌, ℕ, ◌++◌, ◌∷◌, [], cond, All, length, take}
-use Rattle.fair_routes.specs.Network.Sides.{has_link}
-use Rattle.fair_routes.specs.Network.Users.{users_at}
+use Rattle.fair_routes.proofs.Common.{◌≡◌, ◌<◌, ℕ, ◌++◌, ◌∷◌, [], cond, All, length, take, has_link, users_at}
 use Rattle.fair_routes.proofs.routes.sides.register.Given as goal
 
 abbrev pub invariant-loop-link : goal.invariant-loop-link

@@ -1,5 +1,4 @@
-use Rattle.std.proofs.Common.{arith}
-use Rattle.std.proofs.lemmas.Grind.{common_steps}
+use Rattle.fair_routes.proofs.Common.{arith, common_steps}
 use Rattle.fair_routes.proofs.Network.Users.{noted_at}
 use Rattle.fair_routes.proofs.routes.sides.register_link.Goals as goal
 

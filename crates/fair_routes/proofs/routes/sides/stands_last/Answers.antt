@@ -1,4 +1,4 @@
-use Rattle.std.proofs.Common.{sym}
+use Rattle.fair_routes.proofs.Common.{sym}
 use Rattle.fair_routes.proofs.Network.Users.{ends_with_last}
 use Rattle.fair_routes.proofs.routes.sides.stands_last.Goals as goal
 

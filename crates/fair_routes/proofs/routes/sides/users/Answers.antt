@@ -1,14 +1,9 @@
-use Rattle.std.proofs.Common.{◌≡◌, ◌<◌, ◌≤◌, ◌++◌, ◌+◌, ℕ, List, [], ◌∷◌, Some, All, length, map, take, sym, ap, ◌∙◌, subst, arith}
-use Rattle.std.specs.Prelude.{slice_get}
+use Rattle.fair_routes.proofs.Common.{◌≡◌, ◌<◌, ◌≤◌, ◌++◌, ◌+◌, ℕ, List, [], ◌∷◌, Some, All, length, map, take, sym, ap}
+use Rattle.fair_routes.proofs.Common.{◌∙◌, subst, arith, slice_get, Global, Vec, length-map, take_all, All-nil}
+use Rattle.fair_routes.proofs.Common.{All-push, slice_get-map, slice_get-get_or, if_err, AreListed, AreUsers}
 use Rattle.std.specs.Vec.{with_items}
-use Rattle.std.specs.declared.alloc.Global.{Global}
-use Rattle.std.specs.declared.vec.Vec.{Vec}
-use Rattle.std.proofs.lemmas.List.{length-map, length-take-le, take_all, with_items_is}
-use Rattle.std.proofs.lemmas.List.Elements.{All-nil, All-push}
-use Rattle.std.proofs.lemmas.Option.{slice_get-map, slice_get-get_or}
-use Rattle.fair_rates.proofs.Filling.Frozen.{if_err}
-use Rattle.fair_routes.specs.Network.Sides.{AreListed}
-use Rattle.fair_routes.specs.Network.Users.{AreUsers, HasJoined, IsNoLink}
+use Rattle.std.proofs.lemmas.List.{length-take-le, with_items_is}
+use Rattle.fair_routes.specs.Network.Users.{HasJoined, IsNoLink}
 use Rattle.fair_routes.proofs.Network.Users.{users_none, users_more, users_below, mapped_more, no_link}
 use Rattle.fair_routes.proofs.routes.sides.users.Goals as goal
 

@@ -1,6 +1,4 @@
-use Rattle.std.proofs.Common.{map, take}
-use Rattle.fair_routes.specs.Network.Sides.{AreListed}
-use Rattle.fair_routes.specs.Network.Users.{AreUsers}
+use Rattle.fair_routes.proofs.Common.{map, take, AreListed, AreUsers}
 use Rattle.fair_routes.proofs.routes.sides.users.Given as goal
 
 abbrev pub invariant-loop-flow : goal.invariant-loop-flow

@@ -1,16 +1,12 @@
-use Rattle.std.proofs.Common.{◌≡◌, ◌<◌, ℕ, List, All, length, map, inl, inr, ap, sym, ◌∙◌, subst}
-use Rattle.std.specs.declared.alloc.Global.{Global}
-use Rattle.std.specs.declared.vec.Vec.{Vec}
-use Rattle.std.proofs.lemmas.List.{length-map}
-use Rattle.fair_rates.specs.Fairness.Fair.{Side}
-use Rattle.fair_rates.proofs.Filling.Frozen.{if_err}
-use Rattle.fair_routes.specs.Network.Weights.{weight_at, IsWeightRefusal, HaveLittleWeight}
+use Rattle.fair_routes.proofs.Common.{◌≡◌, ◌<◌, ℕ, List, All, length, map, inl, inr, ap, sym, ◌∙◌, subst, Global, Vec}
+use Rattle.fair_routes.proofs.Common.{length-map, Side, if_err, weight_at, IsWeightRefusal, HaveLittleWeight, side_of}
+use Rattle.fair_routes.proofs.Common.{sides_over}
 use Rattle.fair_routes.specs.Network.Rising.{AreFilledByWeight}
-use Rattle.fair_routes.specs.Network.Sides.{side_of, sides_over}
 use Rattle.fair_routes.proofs.Network.Allocation.{code_users}
 use Rattle.fair_routes.proofs.Network.LinkSides.{users_are_flows}
 use Rattle.fair_routes.proofs.Network.WeightedMaxMin.{max_min_by_weight}
-use Rattle.fair_routes.proofs.Network.WeightedRates.{levels_inside, rates_by_weight, large_by_weight, one_by_weight, zero_by_weight}
+use Rattle.fair_routes.proofs.Network.WeightedRates.{levels_inside, rates_by_weight, large_by_weight, one_by_weight}
+use Rattle.fair_routes.proofs.Network.WeightedRates.{zero_by_weight}
 use Rattle.fair_routes.proofs.routes.weighted.allocate_weighted_routes.Goals as goal
 
 abbrev items : Vec ℕ Global → List ℕ

@@ -1,10 +1,6 @@
-use Rattle.std.proofs.Common.{◌≡◌, ◌<◌, ◌^◌, length, map, sum_by, get_or, take, inl, inr, refl, ap, ◌∙◌, subst, sym, arith}
-use Rattle.std.proofs.lemmas.List.{take_all, get_or-map, length-map}
-use Rattle.std.proofs.lemmas.Bool.{cases_lt}
-use Rattle.std.proofs.lemmas.List.Elements.{All-push}
-use Rattle.fair_rates.specs.Fairness.Fair.{Side}
-use Rattle.fair_routes.specs.Network.Sides.{side_of}
-use Rattle.fair_routes.specs.Network.Weights.{weight_at, HaveLittleWeight}
+use Rattle.fair_routes.proofs.Common.{◌≡◌, ◌<◌, ◌^◌, length, map, sum_by, get_or, take, inl, inr, refl, ap, ◌∙◌, subst}
+use Rattle.fair_routes.proofs.Common.{sym, arith, take_all, get_or-map, length-map, cases_lt, All-push, Side, side_of}
+use Rattle.fair_routes.proofs.Common.{weight_at, HaveLittleWeight}
 use Rattle.fair_routes.proofs.Network.Users.{mapped_more}
 use Rattle.fair_routes.proofs.routes.weighted.check_sides.Goals as goal
 

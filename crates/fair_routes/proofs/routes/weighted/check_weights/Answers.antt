@@ -1,5 +1,4 @@
-use Rattle.std.proofs.Common.{◌<◌, All, subst, arith}
-use Rattle.std.proofs.lemmas.List.{take_all}
+use Rattle.fair_routes.proofs.Common.{◌<◌, All, subst, arith, take_all}
 use Rattle.std.proofs.lemmas.List.Elements.{All-more}
 use Rattle.fair_routes.proofs.routes.weighted.check_weights.Goals as goal
 

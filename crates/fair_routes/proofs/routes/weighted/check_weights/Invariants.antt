@@ -1,4 +1,4 @@
-use Rattle.std.proofs.Common.{◌<◌, All, take}
+use Rattle.fair_routes.proofs.Common.{◌<◌, All, take}
 use Rattle.fair_routes.proofs.routes.weighted.check_weights.Given as goal
 
 abbrev pub invariant-loop-flow : goal.invariant-loop-flow

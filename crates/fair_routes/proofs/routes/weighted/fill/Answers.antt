@@ -1,21 +1,14 @@
-use Rattle.std.proofs.Common.{◌≡◌, ℕ, ◌*◌, ◌<◌, List, Option, None, All, length, map, get_or, replicate, inl, inr, sym, ap, ◌∙◌, subst, arith}
-use Rattle.std.specs.Prelude.{count_by, option_map}
-use Rattle.std.specs.Option.{is_none}
+use Rattle.fair_routes.proofs.Common.{◌≡◌, ℕ, ◌*◌, ◌<◌, List, Option, None, All, length, map, get_or, replicate, inl}
+use Rattle.fair_routes.proofs.Common.{inr, sym, ap, ◌∙◌, subst, arith, count_by, option_map, is_none, cases_lt}
+use Rattle.fair_routes.proofs.Common.{get_or-map, get_or-replicate, length-map, length-replicate, All-nil, All-map}
+use Rattle.fair_routes.proofs.Common.{product, Side, side_of, IsFilledTo, frozen_in, AreAllHeld, HasLeastRoom}
+use Rattle.fair_routes.proofs.Common.{HasFrozen, weighted, Room}
 use Rattle.std.specs.Vec.{with_items}
 use Rattle.std.proofs.Math.Nat.{mul-pos}
-use Rattle.std.proofs.lemmas.Bool.{cases_lt}
-use Rattle.std.proofs.lemmas.List.{get_or-map, get_or-replicate, get_or_past, length-map, length-replicate, with_items_is}
-use Rattle.std.proofs.lemmas.List.Elements.{All-nil, All-map}
-use Rattle.fair_rates.specs.Fairness.Exists.{product}
-use Rattle.fair_rates.specs.Fairness.Fair.{Side}
-use Rattle.fair_routes.specs.Network.Sides.{side_of}
+use Rattle.std.proofs.lemmas.List.{get_or_past, with_items_is}
 use Rattle.fair_routes.specs.declared.routes.sides.LinkSide as declared
 use Rattle.fair_rates.proofs.Filling.Frozen.{match_some, match_none}
 use Rattle.fair_rates.proofs.Filling.Rounds.{start}
-use Rattle.fair_rates.proofs.Filling.States.{IsFilledTo}
-use Rattle.fair_routes.specs.Network.Rising.{frozen_in, AreAllHeld, HasLeastRoom, HasFrozen}
-use Rattle.fair_routes.specs.Network.Weights.{weighted}
-use Rattle.fair_routes.specs.declared.routes.weighted.room.Room.{Room}
 use Rattle.fair_routes.proofs.Network.ByWeight.{round_on, fewer_rise, fair_at_end, limited_at_end}
 use Rattle.fair_routes.proofs.routes.weighted.fill.Goals as goal
 

@@ -1,11 +1,5 @@
-use Rattle.std.proofs.Common.{◌≡◌, ℕ, ◌<◌, All, length, map}
-use Rattle.std.specs.Prelude.{count_by}
-use Rattle.std.specs.Option.{is_none}
-use Rattle.fair_rates.specs.Fairness.Exists.{product}
-use Rattle.fair_routes.specs.Network.Sides.{side_of}
-use Rattle.fair_rates.proofs.Filling.States.{IsFilledTo}
-use Rattle.fair_routes.specs.Network.Rising.{frozen_in}
-use Rattle.fair_routes.specs.Network.Weights.{weighted}
+use Rattle.fair_routes.proofs.Common.{◌≡◌, ℕ, ◌<◌, All, length, map, count_by, is_none, product, side_of, IsFilledTo}
+use Rattle.fair_routes.proofs.Common.{frozen_in, weighted}
 use Rattle.fair_routes.proofs.routes.weighted.fill.Given as goal
 
 abbrev pub invariant-loop-rising : goal.invariant-loop-rising

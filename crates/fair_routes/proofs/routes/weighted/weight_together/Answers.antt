@@ -1,8 +1,5 @@
-use Rattle.std.proofs.Common.{◌≡◌, sum_by, take, refl, ap, arith}
-use Rattle.std.proofs.lemmas.List.{take_all}
+use Rattle.fair_routes.proofs.Common.{◌≡◌, sum_by, take, refl, ap, arith, take_all, not_some, weight_at}
 use Rattle.std.proofs.lemmas.List.Sums.{sum_by_more, sum_by_more_le}
-use Rattle.fair_rates.proofs.Filling.Frozen.{not_some}
-use Rattle.fair_routes.specs.Network.Weights.{weight_at}
 use Rattle.fair_routes.proofs.routes.weighted.weight_together.Goals as goal
 
 pub returns-in_err-together : goal.returns-in_err-together

@@ -1,5 +1,4 @@
-use Rattle.std.proofs.Common.{◌≡◌, ◌<◌, ◌^◌, sum_by, take}
-use Rattle.fair_routes.specs.Network.Weights.{weight_at}
+use Rattle.fair_routes.proofs.Common.{◌≡◌, ◌<◌, ◌^◌, sum_by, take, weight_at}
 use Rattle.fair_routes.proofs.routes.weighted.weight_together.Given as goal
 
 abbrev pub invariant-loop-user : goal.invariant-loop-user

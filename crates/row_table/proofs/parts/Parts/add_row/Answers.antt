@@ -1,14 +1,11 @@
-use Rattle.std.proofs.Common.{List, Option, Some, [], ◌∷◌, ◌++◌, ap, ◌∙◌}
-use Rattle.row_table.specs.Slots.{live}
-use Rattle.row_table.specs.declared.row.Row.{Row}
+use Rattle.std.proofs.lemmas.Grind.{common_steps}
+use Rattle.row_table.proofs.Common.{[], ◌∷◌, ◌++◌, ap, ◌∙◌, arith}
 use Rattle.row_table.proofs.Slots.{live_append}
 use Rattle.row_table.proofs.Finding.{stands_added, on_ok, on_all}
 use Rattle.row_table.proofs.parts.Parts.add_row.Goals as goal
 
 pub returns-clause-rows : goal.returns-clause-rows
-returns-clause-rows g c =
-    on_ok c.add.result (ap (λ (slots : List (Option (Row g.row.T.Denot))). live slots) c.in_ok-push-2.ensures.items
-    ∙ live_append c.args.self.now.slots.items (Some c.args.row ∷ []))
+returns-clause-rows g c = grind (arith, common_steps, on_ok, live_append)
 
 pub returns-clause-stands : goal.returns-clause-stands
 returns-clause-stands g c =

@@ -1,10 +1,7 @@
-use Rattle.std.proofs.Common.{◌≡◌, ◌≤◌, ◌∙◌, map, Some, List, Option, refl, sym, subst, ap, length, arith}
-use Rattle.std.specs.Vec.{vec_capacity}
+use Rattle.std.proofs.lemmas.Grind.{common_steps}
+use Rattle.row_table.proofs.Common.{◌≡◌, ◌≤◌, ◌∙◌, map, Some, List, Option, refl, sym, subst, ap, length, arith}
+use Rattle.row_table.proofs.Common.{vec_capacity, live, filled_from, moment_of, Finds, Row, Parts}
 use Rattle.std.proofs.lemmas.List.{length-map}
-use Rattle.row_table.specs.Slots.{live, filled_from}
-use Rattle.row_table.specs.Index.{moment_of, Finds}
-use Rattle.row_table.specs.declared.row.Row.{Row}
-use Rattle.row_table.specs.declared.parts.Parts.{Parts}
 use Rattle.row_table.proofs.Slots.{live_filter, live_whole, length-live, room_for}
 use Rattle.row_table.proofs.Finding.{found_closed, stands_whole, marked_now}
 use Rattle.row_table.proofs.parts.Parts.commit.Given as given
@@ -12,12 +9,10 @@ use Rattle.row_table.proofs.parts.Parts.commit.Goals as goal
 
 module _ (g : given.Over) (c : goal.After-refill g) where
   closed_up : c.commit_kept.new.self.items ≡ map Some (live c.args.self.now.slots.items)
-  closed_up =
-      c.commit_kept.ensures.items ∙ live_filter c.args.self.now.slots.items
+  closed_up = grind (arith, common_steps, live_filter)
 
   live_same : live c.commit_kept.new.self.items ≡ live c.args.self.now.slots.items
-  live_same = ap (λ (slots : List (Option (Row g.row.T.Denot))). live slots) closed_up
-      ∙ live_whole (live c.args.self.now.slots.items)
+  live_same = grind (arith, common_steps, closed_up, live_whole)
 
   finds : Finds c.close_gaps.new.self (map Some (live c.args.self.now.slots.items))
   finds = found_closed c.args.self.now.index c.close_gaps.new.self c.args.self.now.slots.items c.requires.found
@@ -26,8 +21,7 @@ module _ (g : given.Over) (c : goal.After-refill g) where
       ∙ ap (λ (slots : List (Option (Row g.row.T.Denot))). map moment_of slots) (c.as_slice.ensures ∙ closed_up))
 
   filled_again : c.refill.new.filled.items ≡ filled_from c.commit_kept.new.self.items 0
-  filled_again = c.refill.ensures.items
-      ∙ ap (λ (slots : List (Option (Row g.row.T.Denot))). filled_from slots 0) c.as_slice-then-has_many_gaps.ensures
+  filled_again = grind (arith, common_steps)
 
 pub close_gaps-requires : goal.close_gaps-requires
 close_gaps-requires g c =

@@ -1,20 +1,14 @@
-use Rattle.std.proofs.Common.{◌-◌, ◌∙◌, ap, sym, take}
-use Rattle.row_table.specs.Slots.{held}
+use Rattle.std.proofs.lemmas.Grind.{common_steps}
+use Rattle.row_table.proofs.Common.{◌-◌, sym, take, arith}
 use Rattle.row_table.proofs.Finding.{found_taken}
 use Rattle.row_table.proofs.Popping.{none_there, found_empty, filled_none, filled_rest}
 use Rattle.row_table.proofs.parts.Parts.forget.Goals as goal
 
 pub returns-then-not-is_filled-clause-found : goal.returns-then-not-is_filled-clause-found
-returns-then-not-is_filled-clause-found g c =
-    let slots = c.args.self.now.slots.items in
-    found_empty c.args.self.now.index slots c.args.slot c.requires.stands.found
-    (none_there (held slots c.args.slot) (sym c.if-not-is_filled.ensures))
+returns-then-not-is_filled-clause-found g c = grind (arith, common_steps, found_empty, none_there)
 
 pub returns-then-not-is_filled-clause-filled : goal.returns-then-not-is_filled-clause-filled
-returns-then-not-is_filled-clause-filled g c =
-    let slots = c.args.self.now.slots.items in
-    c.requires.stands.filled ∙ filled_none slots c.args.slot c.requires.last
-    (none_there (held slots c.args.slot) (sym c.if-not-is_filled.ensures))
+returns-then-not-is_filled-clause-filled g c = grind (arith, common_steps, filled_none, none_there)
 
 pub owners_in-sender-requires : goal.owners_in-sender-requires
 owners_in-sender-requires g c = sym c.if-not-is_filled.ensures
@@ -25,7 +19,4 @@ returns-clause-found g c =
     c.in_ok-take.ensures.sent c.in_ok-take.ensures.received c.in_ok-take.ensures.moments
 
 pub returns-clause-filled : goal.returns-clause-filled
-returns-clause-filled g c =
-    let slots = c.args.self.now.slots.items in
-    c.pop.ensures.rest ∙ ap (λ long. take (long - 1) c.args.self.now.filled.items) c.args.self.now.filled.ok.0
-    ∙ filled_rest slots c.args.slot c.args.self.now.filled.items c.requires.last (sym c.if-not-is_filled.ensures) c.requires.stands.filled
+returns-clause-filled g c = grind (arith, common_steps, filled_rest)

@@ -1,4 +1,4 @@
-use Rattle.std.proofs.Common.{arith}
+use Rattle.row_table.proofs.Common.{arith}
 use Rattle.row_table.proofs.Slots.{len-filled, length-live}
 use Rattle.row_table.proofs.parts.Parts.has_many_gaps.Goals as goal
 

@@ -1,5 +1,4 @@
-use Rattle.std.proofs.Common.{List, ℕ, Option, Some, IsSome, IfSome, subst, sym, ◌∙◌}
-use Rattle.row_table.specs.Slots.{held, IsPlaceOf}
+use Rattle.row_table.proofs.Common.{List, ℕ, Option, Some, IsSome, IfSome, subst, sym, ◌∙◌, held, IsPlaceOf}
 use Rattle.row_table.proofs.Slots.{place_found}
 use Rattle.row_table.proofs.parts.Parts.place.Goals as goal
 

@@ -1,24 +1,16 @@
-use Rattle.std.proofs.Common.{◌≡◌, [], ◌∷◌, ◌++◌, refl, subst, arith}
-use Rattle.row_table.specs.declared.parts.Parts.{Parts}
-use Rattle.row_table.specs.Slots.{SlotVersions}
+use Rattle.std.proofs.lemmas.Grind.{common_steps}
+use Rattle.row_table.proofs.Common.{◌≡◌, [], ◌∷◌, ◌++◌, refl, subst, arith, Parts, SlotVersions}
 use Rattle.row_table.proofs.Popping.{sent_gone, received_gone, live_popped, stands_popped}
 use Rattle.row_table.proofs.parts.Parts.pop.Goals as goal
 
 pub pop-requires-clause-sent_empty : goal.pop-requires-clause-sent_empty
-pop-requires-clause-sent_empty g c =
-    sent_gone c.forget.new.self.index c.args.self.now.slots.items _ c.in_ok-forget.ensures.found
-    (omega (arith, c.len-slot.ensures.items, c.requires.after))
+pop-requires-clause-sent_empty g c = grind (arith, common_steps, sent_gone)
 
 pub pop-requires-clause-received_empty : goal.pop-requires-clause-received_empty
-pop-requires-clause-received_empty g c =
-    received_gone c.forget.new.self.index c.args.self.now.slots.items _ c.in_ok-forget.ensures.found
-    (omega (arith, c.len-slot.ensures.items, c.requires.after))
+pop-requires-clause-received_empty g c = grind (arith, common_steps, received_gone)
 
 pub returns-clause-rows : goal.returns-clause-rows
-returns-clause-rows g c =
-    live_popped c.args.self.now.slots.items c.pop-2.new.self.items c.pop-2.result
-    (subst (λ (slots : SlotVersions g.row.T.Denot). slots.items ≡ c.pop-2.new.self.items ++ c.pop-2.result ∷ [])
-    c.forget.ensures.slots c.pop-2.ensures.item)
+returns-clause-rows g c = grind (arith, common_steps, live_popped)
 
 pub returns-clause-stands : goal.returns-clause-stands
 returns-clause-stands g c =

@@ -1,6 +1,5 @@
-use Rattle.std.proofs.Common.{◌≡◌, ◌++◌, length, reverse}
-use Rattle.row_table.specs.Slots.{live}
-use Rattle.row_table.specs.Index.{Stands, Marked}
+use Rattle.row_table.proofs.Common.{◌≡◌, ◌++◌, length, live, Stands, Marked}
+use Rattle.std.proofs.Common.{reverse}
 use Rattle.row_table.proofs.parts.Parts.pop_new.Given as goal
 
 abbrev pub invariant-loop-self : goal.invariant-loop-self

@@ -1,6 +1,5 @@
-use Rattle.std.proofs.Common.{◌≡◌, ◌++◌, reverse}
-use Rattle.row_table.specs.Slots.{live}
-use Rattle.row_table.specs.Index.{Stands, Marked}
+use Rattle.row_table.proofs.Common.{◌≡◌, ◌++◌, live, Stands, Marked}
+use Rattle.std.proofs.Common.{reverse}
 use Rattle.row_table.proofs.parts.Parts.push_all.Given as goal
 
 abbrev pub invariant-loop-row : goal.invariant-loop-row

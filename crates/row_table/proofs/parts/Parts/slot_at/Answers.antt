@@ -1,6 +1,6 @@
-use Rattle.std.proofs.Common.{length, ap, sym, ◌∙◌, arith}
+use Rattle.std.proofs.lemmas.Grind.{common_steps}
+use Rattle.row_table.proofs.Common.{arith}
 use Rattle.std.proofs.lemmas.Option.{slice_get_read}
-use Rattle.row_table.specs.Slots.{live}
 use Rattle.row_table.proofs.Slots.{len-filled, length-filled, slot_at, slot_holds}
 use Rattle.row_table.proofs.parts.Parts.slot_at.Goals as goal
 
@@ -11,10 +11,7 @@ index-requires g c =
     omega (arith, len, within)
 
 pub returns-clause-slot : goal.returns-clause-slot
-returns-clause-slot g c =
-    let slots = c.args.self.now.slots.items in
-    slice_get_read c.args.self.now.filled.items (length (live slots)) c.args.at c.index.result.now
-    (sym (ap length c.requires.stands.filled ∙ length-filled slots 0)) c.requires.within c.index.ensures
+returns-clause-slot g c = grind (arith, common_steps, slice_get_read, length-filled)
 
 pub returns-clause-row : goal.returns-clause-row
 returns-clause-row g c =

@@ -1,17 +1,11 @@
-use Rattle.std.proofs.Common.{List, Option, ap, ◌∙◌}
-use Rattle.row_table.specs.Slots.{live}
-use Rattle.row_table.specs.declared.row.Row.{Row}
+use Rattle.std.proofs.lemmas.Grind.{common_steps}
+use Rattle.row_table.proofs.Common.{arith}
 use Rattle.row_table.proofs.Slots.{slot_at, live_taken}
 use Rattle.row_table.proofs.Finding.{stands_taken}
 use Rattle.row_table.proofs.parts.Parts.take.Goals as goal
 
 pub returns-clause-rows : goal.returns-clause-rows
-returns-clause-rows g c =
-    let slots = c.args.self.now.slots.items in
-    let slot = c.slot_at-slot.result in
-    ap (λ (slots : List (Option (Row g.row.T.Denot))). live slots) c.in_ok-take.ensures.items
-    ∙ live_taken slots c.args.at slot
-    (slot_at slots c.args.self.now.filled.items c.args.at slot c.requires.stands.filled c.slot_at-slot.ensures.slot)
+returns-clause-rows g c = grind (arith, common_steps, live_taken, slot_at)
 
 pub returns-clause-stands : goal.returns-clause-stands
 returns-clause-stands g c =

@@ -1,29 +1,13 @@
-use Rattle.std.proofs.Common.{◌∙◌, None, IsSome, Option, ap, sym, subst}
-use Rattle.std.proofs.lemmas.Option.{get_or_from_slice_get}
-use Rattle.row_table.specs.Slots.{SlotVersions, held}
-use Rattle.row_table.specs.declared.row.Row.{Row}
+use Rattle.std.proofs.lemmas.Grind.{common_steps}
+use Rattle.row_table.proofs.Common.{get_or_from_slice_get, arith}
 use Rattle.row_table.proofs.Leaving.{emptied_within, held_still}
 use Rattle.row_table.proofs.slot_list.Slots.at.Goals as goal
 
 pub at-requires : goal.at-requires
-at-requires g c =
-    let slots = c.self.inside in
-    emptied_within slots.list.items slots.left.items c.args.slot
-    (subst (λ (v : SlotVersions g.row.T.Denot). IsSome (held v.items c.args.slot)) (sym c.self.view_is) c.requires)
+at-requires g c = grind (arith, common_steps, emptied_within)
 
 pub unreachable-requires : goal.unreachable-requires
-unreachable-requires g c =
-    let slots = c.self.inside in
-    let there = subst (λ (v : SlotVersions g.row.T.Denot). IsSome (held v.items c.args.slot)) (sym c.self.view_is) c.requires in
-    let none = held_still slots.list.items slots.left.items c.args.slot there
-    ∙ get_or_from_slice_get slots.list.items c.args.slot c.at.result.now None c.at.ensures ∙ c.in-None.is in
-    let gone = subst (λ (one : Option (Row g.row.T.Denot)). IsSome one) none there in
-    cc
+unreachable-requires g c = grind (arith, common_steps, held_still, get_or_from_slice_get)
 
 pub returns : goal.returns
-returns g c =
-    let slots = c.self.inside in
-    let there = subst (λ (v : SlotVersions g.row.T.Denot). IsSome (held v.items c.args.slot)) (sym c.self.view_is) c.requires in
-    ap (λ (v : SlotVersions g.row.T.Denot). held v.items c.args.slot) (sym c.self.view_is)
-    ∙ held_still slots.list.items slots.left.items c.args.slot there
-    ∙ get_or_from_slice_get slots.list.items c.args.slot c.at.result.now None c.at.ensures ∙ c.in-Some.is
+returns g c = grind (arith, common_steps, held_still, get_or_from_slice_get)

@@ -1,9 +1,7 @@
-use Rattle.std.proofs.Common.{rules, ◌∙◌, List, Option, ap}
+use Rattle.row_table.proofs.Common.{◌∙◌, List, Option, ap, filter, SlotVersions, emptied, Row}
+use Rattle.std.proofs.Common.{rules}
 use Rattle.std.specs.Option.{is_some}
-use Rattle.std.specs.List.{filter}
 use Rattle.std.proofs.lemmas.Fn.{filter_same}
-use Rattle.row_table.specs.Slots.{SlotVersions, emptied}
-use Rattle.row_table.specs.declared.row.Row.{Row}
 use Rattle.row_table.proofs.Leaving.{left_unsaved}
 use Rattle.row_table.proofs.slot_list.Slots.commit_kept.Goals as goal
 

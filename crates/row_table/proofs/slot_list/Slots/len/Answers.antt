@@ -1,10 +1,7 @@
-use Rattle.std.proofs.Common.{length, ap, sym, ◌∙◌}
-use Rattle.row_table.specs.Slots.{SlotVersions}
+use Rattle.std.proofs.lemmas.Grind.{common_steps}
+use Rattle.row_table.proofs.Common.{arith}
 use Rattle.row_table.proofs.Leaving.{length_emptied}
 use Rattle.row_table.proofs.slot_list.Slots.len.Goals as goal
 
 pub returns-clause-items : goal.returns-clause-items
-returns-clause-items g c =
-    let slots = c.self.inside in
-    c.len.ensures.items ∙ sym (length_emptied slots.list.items slots.left.items)
-    ∙ ap (λ (v : SlotVersions g.row.T.Denot). length v.items) c.self.view_is
+returns-clause-items g c = grind (arith, common_steps, length_emptied)

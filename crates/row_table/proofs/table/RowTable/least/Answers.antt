@@ -1,6 +1,6 @@
-use Rattle.std.proofs.Common.{◌≡◌, subst}
+use Rattle.row_table.proofs.Common.{◌≡◌, subst, Versions, is_due_by}
 use Rattle.std.specs.List.{list_any}
-use Rattle.row_table.specs.Rows.{Versions, has_come, is_due_by}
+use Rattle.row_table.specs.Rows.{has_come}
 use Rattle.row_table.proofs.Nexts.{least_of_live}
 use Rattle.row_table.proofs.table.RowTable.least.Goals as goal
 

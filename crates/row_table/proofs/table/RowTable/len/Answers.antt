@@ -1,5 +1,4 @@
-use Rattle.std.proofs.Common.{length, ap, ◌∙◌}
-use Rattle.row_table.specs.Rows.{Versions}
+use Rattle.row_table.proofs.Common.{length, ap, ◌∙◌, Versions}
 use Rattle.row_table.proofs.Slots.{len-filled}
 use Rattle.row_table.proofs.table.RowTable.len.Goals as goal
 

@@ -1,5 +1,4 @@
-use Rattle.std.proofs.Common.{subst}
-use Rattle.row_table.specs.Rows.{Versions, IsNext, is_due_by}
+use Rattle.row_table.proofs.Common.{subst, Versions, IsNext, is_due_by}
 use Rattle.row_table.proofs.Slots.{slot_at}
 use Rattle.row_table.proofs.Nexts.{from_there, next_due_is, next_place, next_within}
 use Rattle.row_table.proofs.table.RowTable.next_due.Goals as goal

@@ -1,7 +1,7 @@
-use Rattle.std.proofs.Common.{◌≡◌, ℕ, Some, suc, slice_get, subst, sym, ap, ◌∙◌}
-use Rattle.row_table.specs.Rows.{Versions, IsNext, is_sent_by}
-use Rattle.row_table.specs.Index.{sender_of}
-use Rattle.row_table.specs.declared.row.Row.{Row}
+use Rattle.std.proofs.lemmas.Grind.{common_steps}
+use Rattle.row_table.proofs.Common.{◌≡◌, ℕ, suc, slice_get, subst, sym, ap, ◌∙◌, Versions, IsNext, sender_of, Row}
+use Rattle.row_table.proofs.Common.{arith}
+use Rattle.row_table.specs.Rows.{is_sent_by}
 use Rattle.row_table.proofs.Slots.{IsSlot, slot_at, held_at, some_same}
 use Rattle.row_table.proofs.Nexts.{from_behind, next_of_owner, next_place, next_within}
 use Rattle.row_table.proofs.table.RowTable.next_sent.Given as given
@@ -9,9 +9,7 @@ use Rattle.row_table.proofs.table.RowTable.next_sent.Goals as goal
 
 module _ (g : given.Over) (c : goal.After-place g) where
   is_slot : IsSlot c.self.inside.parts.slots.items c.args.at c.slot_at-slot.result
-  is_slot =
-      let parts = c.self.inside.parts in
-      slot_at parts.slots.items parts.filled.items c.args.at c.slot_at-slot.result c.self.invariant.0.filled c.slot_at-slot.ensures.slot
+  is_slot = grind (arith, common_steps, slot_at)
 
   next_is : IsNext (is_sent_by c.owners_in-sender.result.0) c.args.self.now.now (suc c.args.at) c.place.result
   next_is =

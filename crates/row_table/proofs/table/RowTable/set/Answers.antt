@@ -1,6 +1,6 @@
-use Rattle.std.proofs.Common.{slice_get, slice_set, sym, ap, ◌∙◌}
+use Rattle.row_table.proofs.Common.{slice_get, slice_set, sym, ap, ◌∙◌, Versions}
 use Rattle.chains.proofs.Views.{done}
-use Rattle.row_table.specs.Rows.{Versions, with_item}
+use Rattle.row_table.specs.Rows.{with_item}
 use Rattle.row_table.proofs.table.RowTable.set.Goals as goal
 
 pub returns-clause-now : goal.returns-clause-now

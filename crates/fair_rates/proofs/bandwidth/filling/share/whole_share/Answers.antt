@@ -1,7 +1,5 @@
-use Prim.Native.Nat.{◌∣◌}
-use Rattle.std.proofs.Common.{◌*◌, ◌/◌, ap, subst, sym, arith}
+use Rattle.fair_rates.proofs.Common.{◌∣◌, ◌*◌, ◌/◌, ap, subst, sym, arith, gcd-pos, gcd-IsGcd}
 use Rattle.std.proofs.Math.Nat.{div-mul_cancel}
-use Rattle.fair_rates.specs.Numbers.Gcd.{gcd-pos, gcd-IsGcd}
 use Rattle.fair_rates.proofs.Filling.Share.{quotient_positive, whole, least_factor}
 use Rattle.fair_rates.proofs.bandwidth.filling.share.whole_share.Goals as goal
 

@@ -1,7 +1,4 @@
-use Rattle.std.proofs.Common.{Some, ap, sym, ◌∙◌}
-use Rattle.std.specs.Map.{lookup}
-use Rattle.std.specs.Option.{option_or}
-use Rattle.std.specs.Ordering.{is_eq}
+use Rattle.fair_rates.proofs.Common.{Some, ap, sym, ◌∙◌, lookup, option_or, is_eq}
 use Rattle.fair_rates.proofs.Sides.Numbers.{at_place, in_gap}
 use Rattle.fair_rates.proofs.bandwidth.numbers.Numbers.find.Goals as goal
 

@@ -1,4 +1,4 @@
-use Rattle.std.proofs.Common.{◌≤◌}
+use Rattle.fair_rates.proofs.Common.{◌≤◌}
 use Rattle.fair_rates.proofs.bandwidth.numbers.Numbers.guess.Given as goal
 
 abbrev pub invariant-loop-shift : goal.invariant-loop-shift

@@ -1,8 +1,5 @@
-use Rattle.std.proofs.Common.{◌≡◌, ℕ, cond, Some, ◌++◌, ◌∷◌, [], ap, sym, ◌∙◌, arith, length}
-use Rattle.std.specs.List.{insert}
-use Rattle.std.specs.Map.{lookup}
-use Rattle.std.specs.Ordering.{is_eq}
-use Rattle.std.proofs.lemmas.Grind.{common_steps}
+use Rattle.fair_rates.proofs.Common.{◌≡◌, ℕ, cond, Some, ◌++◌, ◌∷◌, [], ap, sym, ◌∙◌, arith, length, insert, lookup}
+use Rattle.fair_rates.proofs.Common.{is_eq, common_steps}
 use Rattle.std.proofs.lemmas.List.Edits.{insert_end}
 use Rattle.fair_rates.proofs.Sides.Numbers.{in_list, in_order, in_map}
 use Rattle.fair_rates.proofs.bandwidth.numbers.Numbers.note.Goals.{then-count-eq0+in_ok-reserve, else-count-eq0}

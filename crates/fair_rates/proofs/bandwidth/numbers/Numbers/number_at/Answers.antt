@@ -1,10 +1,6 @@
-use Rattle.std.proofs.Common.{◌≡◌, ◌<◌, Some, ap, sym, ◌∙◌, get_or, length, arith}
-use Rattle.std.specs.Map.{lookup}
-use Rattle.std.specs.Option.{option_or}
-use Rattle.std.specs.Ordering.{is_eq}
-use Rattle.std.specs.declared.cmp.Ordering.TheVariants.{Equal}
+use Rattle.fair_rates.proofs.Common.{◌≡◌, ◌<◌, Some, ap, sym, ◌∙◌, get_or, length, arith, lookup, option_or, is_eq}
+use Rattle.fair_rates.proofs.Common.{Equal, get_or_default}
 use Rattle.std.proofs.lemmas.Bool.{ltb-true}
-use Rattle.std.proofs.lemmas.List.{get_or_default}
 use Rattle.fair_rates.proofs.Lists.Sorted.{is_eq_equal}
 use Rattle.fair_rates.proofs.Sides.Numbers.{at_place, stands}
 use Rattle.fair_rates.proofs.bandwidth.numbers.Numbers.number_at.Goals as goal

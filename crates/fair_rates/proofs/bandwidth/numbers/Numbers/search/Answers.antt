@@ -1,8 +1,6 @@
-use Rattle.std.proofs.Common.{◌≡◌, ◌+◌, ◌-◌, length, rules, arith, subst, sym, ap, ◌∙◌}
-use Rattle.std.proofs.lemmas.Grind.{common_steps}
+use Rattle.fair_rates.proofs.Common.{◌≡◌, ◌+◌, ◌-◌, length, rules, arith, subst, sym, ap, ◌∙◌, common_steps, is_lt}
+use Rattle.fair_rates.proofs.Common.{IsGap}
 use Rattle.std.proofs.lemmas.List.Sorted.{answers_always}
-use Rattle.std.specs.Ordering.{is_lt}
-use Rattle.fair_rates.specs.Lists.Sorted.{IsGap}
 use Rattle.fair_rates.proofs.Lists.Sorted.{searched, is_lt_less}
 use Rattle.fair_rates.proofs.Sides.Numbers.{after_last}
 use Rattle.fair_rates.proofs.bandwidth.numbers.Numbers.search.Goals as goal

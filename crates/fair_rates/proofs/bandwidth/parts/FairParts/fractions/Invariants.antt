@@ -1,7 +1,4 @@
-use Rattle.std.proofs.Common.{◌≡◌, ℕ, ◌<◌, length, get_or}
-use Rattle.fair_rates.specs.Numbers.Amount.{parts_over}
-use Rattle.fair_rates.specs.Numbers.Ratio.{IsWorth}
-use Rattle.fair_rates.specs.declared.ratio.Ratio.{Ratio}
+use Rattle.fair_rates.proofs.Common.{◌≡◌, ℕ, ◌<◌, length, get_or, parts_over, IsWorth, Ratio}
 use Rattle.fair_rates.proofs.bandwidth.parts.FairParts.fractions.Given as goal
 
 abbrev pub invariant-loop-level : goal.invariant-loop-level

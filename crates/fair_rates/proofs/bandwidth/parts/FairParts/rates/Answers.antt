@@ -1,9 +1,5 @@
-use Rattle.std.proofs.Common.{◌≡◌, ◌<◌, ◌∷◌, [], ℕ, Some, None, length, get_or, subst, sym, ap, ◌∙◌, arith}
-use Rattle.std.proofs.Common.{length-append}
-use Rattle.std.proofs.lemmas.List.{get_or_default}
-use Rattle.fair_rates.specs.Filling.FairParts.{IsRateAt, level_at}
-use Rattle.fair_rates.specs.declared.bandwidth.Rate.{Rate}
-use Rattle.fair_rates.specs.declared.bandwidth.Rate.TheVariants.{Finite}
+use Rattle.fair_rates.proofs.Common.{◌≡◌, ◌<◌, ◌∷◌, [], ℕ, Some, None, length, get_or, subst, sym, ap, ◌∙◌, arith}
+use Rattle.fair_rates.proofs.Common.{length-append, get_or_default, IsRateAt, level_at, Rate, Finite}
 use Rattle.fair_rates.proofs.Filling.Frozen.{some_of_if}
 use Rattle.fair_rates.proofs.Filling.Rates.{rated_push}
 use Rattle.fair_rates.proofs.bandwidth.parts.FairParts.rates.Goals as goal

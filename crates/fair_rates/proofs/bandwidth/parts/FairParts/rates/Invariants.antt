@@ -1,6 +1,4 @@
-use Rattle.std.proofs.Common.{◌≡◌, ℕ, ◌<◌, length, get_or}
-use Rattle.fair_rates.specs.Filling.FairParts.{IsRateAt, level_at}
-use Rattle.fair_rates.specs.declared.bandwidth.Rate.{Rate}
+use Rattle.fair_rates.proofs.Common.{◌≡◌, ℕ, ◌<◌, length, get_or, IsRateAt, level_at, Rate}
 use Rattle.fair_rates.proofs.bandwidth.parts.FairParts.rates.Given as goal
 
 abbrev pub invariant-loop-level : goal.invariant-loop-level

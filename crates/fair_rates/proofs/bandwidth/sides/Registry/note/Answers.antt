@@ -1,6 +1,5 @@
-use Rattle.std.proofs.Common.{refl, sym, subst}
-use Rattle.fair_rates.specs.Sides.Registry.{HasNumber, IsGapFor, subject_of}
-use Rattle.fair_rates.specs.declared.bandwidth.sides.Registry.{Registry}
+use Rattle.fair_rates.proofs.Common.{refl, sym, subst, HasNumber, subject_of, Registry}
+use Rattle.fair_rates.specs.Sides.Registry.{IsGapFor}
 use Rattle.fair_rates.proofs.Sides.Registry.{sender_numbered, receiver_numbered, link_numbered, by_both}
 use Rattle.fair_rates.proofs.bandwidth.sides.Registry.note.Goals as goal
 

@@ -1,9 +1,6 @@
-use Rattle.std.proofs.Common.{◌≡◌, ℕ, ◌+◌, ◌<◌, ◌≤◌, Option, Some, None, get_or, set, length, subst, sym, ap, ◌∙◌, take, arith}
-use Rattle.std.specs.Prelude.{count_by, unwrap_or}
-use Rattle.std.specs.Option.{is_none}
-use Rattle.std.proofs.lemmas.Grind.{common_steps}
-use Rattle.std.proofs.lemmas.List.{take_more, take_all, get_or_default}
-use Rattle.fair_routes.specs.Network.Rising.{frozen_in, HasFrozen}
+use Rattle.fair_routes.proofs.Common.{◌≡◌, ℕ, ◌+◌, ◌<◌, ◌≤◌, Option, Some, None, get_or, set, length, subst, sym, ap}
+use Rattle.fair_routes.proofs.Common.{◌∙◌, take, arith, count_by, unwrap_or, is_none, common_steps, take_more, take_all}
+use Rattle.fair_routes.proofs.Common.{get_or_default, frozen_in, HasFrozen}
 use Rattle.fair_routes.proofs.Network.Rising.{frozen_none, frozen_more, no_more_held}
 use Rattle.fair_routes.proofs.routes.weighted.rising.freeze.Goals as goal
 

@@ -1,7 +1,4 @@
-use Rattle.std.proofs.Common.{◌≤◌, take}
-use Rattle.std.specs.Prelude.{count_by}
-use Rattle.std.specs.Option.{is_none}
-use Rattle.fair_routes.specs.Network.Rising.{HasFrozen}
+use Rattle.fair_routes.proofs.Common.{◌≤◌, take, count_by, is_none, HasFrozen}
 use Rattle.fair_routes.proofs.routes.weighted.rising.freeze.Given as goal
 
 abbrev pub invariant-loop-user : goal.invariant-loop-user

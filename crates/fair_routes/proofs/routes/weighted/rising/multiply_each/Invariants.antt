@@ -1,6 +1,4 @@
-use Rattle.std.proofs.Common.{◌≡◌, ℕ, ◌*◌, ◌<◌, ◌≤◌}
-use Rattle.std.specs.Prelude.{option_map}
-use Rattle.fair_routes.specs.Network.Rising.{frozen_in}
+use Rattle.fair_routes.proofs.Common.{◌≡◌, ℕ, ◌*◌, ◌<◌, ◌≤◌, option_map, frozen_in}
 use Rattle.fair_routes.proofs.routes.weighted.rising.multiply_each.Given as goal
 
 abbrev pub invariant-loop-part : goal.invariant-loop-part

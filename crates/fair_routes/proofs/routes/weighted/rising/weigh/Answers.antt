@@ -1,10 +1,8 @@
-use Rattle.std.proofs.Common.{◌≡◌, ℕ, ◌*◌, ◌<◌, ◌++◌, [], ◌∷◌, List, Option, None, length, get_or, length-append, inl, inr, refl, ap, sym, ◌∙◌, arith}
-use Rattle.std.specs.Prelude.{option_map, unwrap_or}
-use Rattle.std.proofs.lemmas.Bool.{cases_lt}
-use Rattle.std.proofs.lemmas.List.{get_or_past, get_or_default}
-use Rattle.fair_rates.specs.Filling.States.{at_level}
-use Rattle.fair_routes.specs.Network.Rising.{frozen_in}
-use Rattle.fair_routes.specs.Network.Weights.{weight_at}
+use Rattle.fair_routes.proofs.Common.{◌≡◌, ℕ, ◌*◌, ◌<◌, ◌++◌, [], ◌∷◌, List, Option, None, length, get_or, inl, inr}
+use Rattle.fair_routes.proofs.Common.{refl, ap, sym, ◌∙◌, arith, option_map, unwrap_or, cases_lt, get_or_default}
+use Rattle.fair_routes.proofs.Common.{at_level, frozen_in, weight_at}
+use Rattle.std.proofs.Common.{length-append}
+use Rattle.std.proofs.lemmas.List.{get_or_past}
 use Rattle.fair_routes.proofs.Network.Rising.{pushed}
 use Rattle.fair_routes.proofs.routes.weighted.rising.weigh.Goals as goal
 

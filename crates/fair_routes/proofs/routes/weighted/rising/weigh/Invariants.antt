@@ -1,9 +1,5 @@
-use Rattle.std.proofs.Common.{◌≡◌, ℕ, ◌*◌, ◌<◌, length}
-use Rattle.std.specs.Prelude.{option_map, slice_index}
+use Rattle.fair_routes.proofs.Common.{◌≡◌, ℕ, ◌*◌, ◌<◌, length, option_map, slice_index, at_level, frozen_in, weight_at}
 use Rattle.fair_rates.specs.Filling.FairParts.{level_at}
-use Rattle.fair_rates.specs.Filling.States.{at_level}
-use Rattle.fair_routes.specs.Network.Rising.{frozen_in}
-use Rattle.fair_routes.specs.Network.Weights.{weight_at}
 use Rattle.fair_routes.proofs.routes.weighted.rising.weigh.Given as goal
 
 abbrev pub invariant-loop-flow : goal.invariant-loop-flow

@@ -1,11 +1,8 @@
-use Rattle.std.proofs.Common.{◌≡◌, ℕ, ◌<◌, ◌^◌, Option, length, map, sum_by, take, ◌∙◌, subst, sym, arith}
-use Rattle.std.proofs.lemmas.List.{take_all, length-map, length-take-le}
-use Rattle.fair_rates.specs.Fairness.Fair.{Side}
-use Rattle.fair_routes.specs.Network.Sides.{side_of}
+use Rattle.fair_routes.proofs.Common.{◌≡◌, ℕ, ◌<◌, ◌^◌, Option, length, map, sum_by, take, ◌∙◌, subst, sym, arith}
+use Rattle.fair_routes.proofs.Common.{take_all, length-map, Side, side_of, frozen_in, weight_at}
+use Rattle.std.proofs.lemmas.List.{length-take-le}
 use Rattle.fair_routes.specs.declared.routes.sides.LinkSide as declared
 use Rattle.fair_rates.proofs.Fairness.MappedSides.{all_unmapped}
-use Rattle.fair_routes.specs.Network.Rising.{frozen_in}
-use Rattle.fair_routes.specs.Network.Weights.{weight_at}
 use Rattle.fair_routes.proofs.Network.Rising.{IsLeastOf, least_more}
 use Rattle.fair_routes.proofs.Network.Users.{mapped_more}
 use Rattle.fair_routes.proofs.routes.weighted.room.least_room.Goals as goal

@@ -1,7 +1,5 @@
-use Rattle.std.proofs.Common.{map, take}
+use Rattle.fair_routes.proofs.Common.{map, take, side_of, frozen_in, AreAllHeld, HasLeastRoom}
 use Rattle.std.specs.Prelude.{MatchOption}
-use Rattle.fair_routes.specs.Network.Sides.{side_of}
-use Rattle.fair_routes.specs.Network.Rising.{frozen_in, AreAllHeld, HasLeastRoom}
 use Rattle.fair_routes.proofs.routes.weighted.room.least_room.Given as goal
 
 abbrev pub invariant-loop-place : goal.invariant-loop-place

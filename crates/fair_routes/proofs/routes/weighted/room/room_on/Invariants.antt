@@ -1,7 +1,4 @@
-use Rattle.std.proofs.Common.{◌≡◌, ◌*◌, ◌-◌, sum_by, take}
-use Rattle.fair_rates.specs.Filling.States.{at_level}
-use Rattle.fair_routes.specs.Network.Rising.{frozen_in, rising_weight}
-use Rattle.fair_routes.specs.Network.Weights.{weight_at}
+use Rattle.fair_routes.proofs.Common.{◌≡◌, ◌*◌, ◌-◌, sum_by, take, at_level, frozen_in, rising_weight, weight_at}
 use Rattle.fair_routes.proofs.routes.weighted.room.room_on.Given as goal
 
 abbrev pub invariant-loop-user : goal.invariant-loop-user

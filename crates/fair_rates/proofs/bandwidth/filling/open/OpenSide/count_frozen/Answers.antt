@@ -1,10 +1,6 @@
-use Rattle.std.proofs.Common.{◌≡◌, ◌≢◌, ℕ, ◌+◌, ◌*◌, ◌<◌, ◌≤◌, ◌⊎◌, Some, None, length, inl, inr, arith, ◌∙◌, ap, sym}
-use Rattle.std.proofs.Common.{subst}
-use Rattle.std.proofs.lemmas.Grind.{common_steps}
-use Rattle.std.proofs.lemmas.List.Elements.{All-weaker}
-use Rattle.std.proofs.lemmas.List.{get_or_default}
-use Rattle.fair_rates.specs.Filling.FairParts.{level_at}
-use Rattle.fair_rates.specs.Filling.States.{frozen_at, at_level}
+use Rattle.fair_rates.proofs.Common.{◌≡◌, ◌≢◌, ℕ, ◌+◌, ◌*◌, ◌<◌, ◌≤◌, ◌⊎◌, Some, None, length, inl, inr, arith, ◌∙◌, ap}
+use Rattle.fair_rates.proofs.Common.{sym, subst, common_steps, All-weaker, get_or_default, level_at, frozen_at}
+use Rattle.fair_rates.proofs.Common.{at_level}
 use Rattle.fair_rates.proofs.Filling.Account.{still_within, account_more, all_counted, rest_of}
 use Rattle.fair_rates.proofs.Filling.Frozen.{at_some, some_of_if}
 use Rattle.fair_rates.proofs.Filling.Levels.{frozen_there}

@@ -1,6 +1,5 @@
-use Rattle.std.proofs.Common.{◌≡◌, ℕ, ◌-◌, ◌<◌, ◌≤◌, ◌⊎◌, None, length, get_or, All}
-use Rattle.fair_rates.specs.Fairness.Fair.{Side}
-use Rattle.fair_rates.specs.Filling.States.{frozen_at, HaveNoMore, IsWithinSlack, KeepsAccount}
+use Rattle.fair_rates.proofs.Common.{◌≡◌, ℕ, ◌-◌, ◌<◌, ◌≤◌, ◌⊎◌, None, length, get_or, All, Side, frozen_at, HaveNoMore}
+use Rattle.fair_rates.proofs.Common.{IsWithinSlack, KeepsAccount}
 use Rattle.fair_rates.proofs.bandwidth.filling.open.OpenSide.count_frozen.Given as goal
 
 abbrev pub invariant-loop-place : goal.invariant-loop-place

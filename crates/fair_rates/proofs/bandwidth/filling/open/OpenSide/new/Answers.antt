@@ -1,6 +1,5 @@
-use Rattle.std.proofs.Common.{◌≡◌, ◌*◌, ◌/◌, ◌^◌, length, ◌∙◌, arith}
+use Rattle.fair_rates.proofs.Common.{◌≡◌, ◌*◌, ◌/◌, ◌^◌, length, ◌∙◌, arith, common_steps}
 use Rattle.std.proofs.Math.Nat.{div-div-eq-div-mul}
-use Rattle.std.proofs.lemmas.Grind.{common_steps}
 use Rattle.fair_rates.proofs.bandwidth.filling.open.OpenSide.new.Goals as goal
 
 pub invariant_of-result : goal.invariant_of-result

@@ -1,5 +1,4 @@
-use Rattle.std.proofs.Common.{ap, ◌∙◌}
-use Rattle.fair_rates.specs.Fairness.Exists.{product}
+use Rattle.fair_routes.proofs.Common.{ap, ◌∙◌, product}
 use Rattle.fair_rates.proofs.Filling.Fractions.{product_push}
 use Rattle.fair_rates.proofs.Filling.Frozen.{on_ok}
 use Rattle.fair_routes.proofs.Network.Rising.{multiplied_once}

@@ -1,4 +1,4 @@
-use Rattle.std.proofs.Common.{[], ◌∷◌, ◌≡◌, ◌++◌, ℕ, List, Option, None, ap, ◌∙◌, replicate, arith}
+use Rattle.fair_routes.proofs.Common.{[], ◌∷◌, ◌≡◌, ◌++◌, ℕ, List, Option, None, ap, ◌∙◌, replicate, arith}
 use Rattle.std.proofs.lemmas.List.{replicate-append-replicate}
 use Rattle.fair_routes.proofs.routes.weighted.rising.Rising.new.Goals as goal
 

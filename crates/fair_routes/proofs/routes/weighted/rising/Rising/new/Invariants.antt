@@ -1,4 +1,4 @@
-use Rattle.std.proofs.Common.{◌≡◌, None, replicate}
+use Rattle.fair_routes.proofs.Common.{◌≡◌, None, replicate}
 use Rattle.fair_routes.proofs.routes.weighted.rising.Rising.new.Given as goal
 
 abbrev pub invariant-loop : goal.invariant-loop
