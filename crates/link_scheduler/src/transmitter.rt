@@ -361,8 +361,9 @@ impl<P: Peer, M: Payload> State<P, M> {
         self.make(&now, Change::Advance)
     }
 
-    /// Makes a change at `now`, and answers what completes, with the number of events of an advance. Where it is
-    /// refused, all is put back as it was.
+    /// Makes a change at `now`, and answers what completes, with the number of events of an advance.
+    /// Where it is refused, all is put back as it was. The moment is lent, so that a change that names
+    /// no peer has a lifetime, too.
     fn make<'a>(
         &mut self,
         now: &'a u64,
