@@ -2,6 +2,7 @@
 pub mod Advancing
 pub mod Answered
 pub mod Batch
+pub mod Changes
 pub mod FewerEvents
 pub mod Finishing
 pub mod Landing
@@ -14,5 +15,6 @@ pub mod OnlyWaiting
 pub mod RatedWithNext
 pub mod SettledFirst
 pub mod Settling
+pub mod SoFar
 pub mod Standing
 pub mod Starting

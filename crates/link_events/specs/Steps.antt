@@ -1,6 +1,7 @@
 -- What is kept between calls, what is due, and what comes of a call.
 pub mod Answered
 pub mod AsPlanned
+pub mod Changes
 pub mod Due
 pub mod Landing
 pub mod Marks

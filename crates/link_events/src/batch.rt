@@ -7,8 +7,8 @@ ghost use Rattle.link_simulation.specs.Rule.Events.{Enqueues};
 ghost use Rattle.link_simulation.specs.Rule.Events.{EnqueuesEach};
 ghost use Rattle.link_pairs.specs.Pairs.Messages.{message_of, ended_of};
 ghost use Rattle.link_events.specs.Steps.Outgoing.{outgoing_by};
-ghost use Rattle.link_events.specs.Steps.Standing.{OnlyStarts, IsStanding, is_settled, does_start, standing_after};
-ghost use Rattle.link_events.specs.Steps.Standing.{IsFree};
+ghost use Rattle.link_events.specs.Steps.Standing.{OnlyStarts, IsStanding, is_accounted, does_start, standing_after};
+ghost use Rattle.link_events.specs.Steps.Standing.{IsIdle};
 
 use crate::ledger::Ledger;
 use crate::outgoing::Outgoing;
@@ -24,19 +24,19 @@ pub(crate) enum Standing {
     /// No account was made at that moment.
     Open,
     /// An account was made at that moment, so nothing is due to leave.
-    Settled,
+    Accounted,
     /// So it was, and messages have started since. They get their rates at an account that is due.
     Due,
 }
 
 impl Standing {
     /// Whether an account was made.
-    fn is_settled(self) -> bool
-        ensures { result ≡ is_settled self }
+    fn is_accounted(self) -> bool
+        ensures { result ≡ is_accounted self }
     {
         match self {
             Standing::Open => false,
-            Standing::Settled | Standing::Due => true,
+            Standing::Accounted | Standing::Due => true,
         }
     }
 
@@ -47,7 +47,7 @@ impl Standing {
     {
         match (self, starts) {
             (Standing::Open, false) => Standing::Open,
-            _ => Standing::Settled,
+            _ => Standing::Accounted,
         }
     }
 }
@@ -100,7 +100,7 @@ impl<P: Peer> Ledger<P> {
             self.wait(now, message)?;
             return Ok(standing);
         }
-        if standing.is_settled() && self.only_starts(&message, now) {
+        if standing.is_accounted() && self.only_starts(&message, now) {
             self.start(message, now)?;
             self.plan_start(now);
             return Ok(Standing::Due);
@@ -114,7 +114,7 @@ impl<P: Peer> Ledger<P> {
 
     /// Whether limits hold, and a message that is sent starts at once. It does not have to wait.
     fn starts_at_once(&self, message: &Message<P>, now: u64) -> bool
-        requires { IsFree P.cmp (planned P.cmp self.now) message.now.origin message.now.recipient }
+        requires { IsIdle P.cmp (planned P.cmp self.now) message.now.origin message.now.recipient }
         ensures { result ≡ does_start P.cmp now (planned P.cmp self.now) (message_of message.now) }
     {
         self.limited && self.may_start(message, false, now)
@@ -123,18 +123,18 @@ impl<P: Peer> Ledger<P> {
     /// Whether a message that is sent starts at once, and stays in flight at the account that
     /// follows: an id is left for it, it has bytes, and it uses a capped side.
     fn only_starts(&self, message: &Message<P>, now: u64) -> bool
-        requires { IsFree P.cmp (planned P.cmp self.now) message.now.origin message.now.recipient }
+        requires { IsIdle P.cmp (planned P.cmp self.now) message.now.origin message.now.recipient }
         ensures { result ≡ true → OnlyStarts P.cmp now (planned P.cmp self.now) (message_of message.now) }
     {
         self.would_stay(message) && self.starts_at_once(message, now)
     }
 
-    /// Makes the account that is due, if one is. Nothing leaves at it, and pairs that are free stay so.
+    /// Makes the account that is due, if one is. Nothing leaves at it, and pairs that are idle stay so.
     fn catch_up(&mut self, now: u64, standing: Standing) -> Result<(), Error>
         ensures caught_up { OnOk result ((w : AnyPlanned P) →
             IsStanding P.cmp now standing (planned P.cmp self.old) w → w ≡ planned P.cmp self.new) }
-        ensures free { OnOk result ((origin recipient : P) → IsFree P.cmp (planned P.cmp self.old) origin recipient
-            → IsFree P.cmp (planned P.cmp self.new) origin recipient) }
+        ensures idle { OnOk result ((origin recipient : P) → IsIdle P.cmp (planned P.cmp self.old) origin recipient
+            → IsIdle P.cmp (planned P.cmp self.new) origin recipient) }
         ensures before { before_of self.new ≡ before_of self.old }
         ensures refused { IfErr result (λ e. e ≡ Error.OutOfMemory) }
     {

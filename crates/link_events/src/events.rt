@@ -128,20 +128,46 @@ impl<P: Peer> Ledger<P> {
             && may_launch P.cmp now (planned P.cmp self.old) (message_of message)) ≡ true }
         ensures launches { IfOk result (λ leavers. Launches P.cmp now
             (with_queued P.cmp (planned P.cmp self.old) (message_of message))
-            (first_of P.cmp (with_queued P.cmp (planned P.cmp self.old) (message_of message)).waiting
-            message.origin message.recipient)
+            (next_of P.cmp (with_queued P.cmp (planned P.cmp self.old) (message_of message)) (message_of message))
             (goes (messages leavers.items) (planned P.cmp self.new))) }
         ensures before { before_of self.new ≡ before_of self.old }
         ensures refused { IfErr result (IsRefusedFor (λ fault. Launches P.cmp now
             (with_queued P.cmp (planned P.cmp self.old) (message_of message))
-            (first_of P.cmp (with_queued P.cmp (planned P.cmp self.old) (message_of message)).waiting
-            message.origin message.recipient) (meets fault))) }
+            (next_of P.cmp (with_queued P.cmp (planned P.cmp self.old) (message_of message)) (message_of message))
+            (meets fault))) }
     {
         if self.next_id < u64::MAX {
             self.start(message, now)?;
             return self.account(now);
         }
         Err(Error::FlowIdsUsedUp)
+    }
+
+    /// A message that is sent starts at once if it may, and else it waits, and the first one of its pair
+    /// starts if that may. An account follows a start, whose leavers are answered.
+    fn launch_sent(
+        &mut self,
+        now: u64,
+        message: Message<P>,
+        is_busy: bool,
+    ) -> Result<VecDeque<Rc<Message<P>>>, Error>
+        requires { is_sending P.cmp (planned P.cmp self.old) message.origin message.recipient ≡ is_busy }
+        ensures launches { IfOk result (λ leavers. Launches P.cmp now
+            (with_queued P.cmp (planned P.cmp self.old) (message_of message))
+            (next_of P.cmp (with_queued P.cmp (planned P.cmp self.old) (message_of message)) (message_of message))
+            (goes (messages leavers.items) (planned P.cmp self.new))) }
+        ensures before { before_of self.new ≡ before_of self.old }
+        ensures refused { IfErr result (IsRefusedFor (λ fault. Launches P.cmp now
+            (with_queued P.cmp (planned P.cmp self.old) (message_of message))
+            (next_of P.cmp (with_queued P.cmp (planned P.cmp self.old) (message_of message)) (message_of message))
+            (meets fault))) }
+    {
+        if self.may_start(&message, is_busy, now) {
+            return self.start_at_once(message, now);
+        }
+        let pair = PeerPair::new(&message.origin, &message.recipient)?;
+        let since = self.queue_up(&pair, message, is_busy)?;
+        self.launch_from(since, &pair.origin, &pair.recipient, now)
     }
 
     /// A message that is done completes, and its pair's first waiting one starts if it may. What is
@@ -255,14 +281,7 @@ impl<P: Peer> Ledger<P> {
             self.complete_at_once(now, message, &mut ended)?;
             return Ok(ended);
         }
-        if self.may_start(&message, is_busy, now) {
-            let queue = self.start_at_once(message, now)?;
-            self.finish(queue, now, &mut ended)?;
-            return Ok(ended);
-        }
-        let pair = PeerPair::new(&message.origin, &message.recipient)?;
-        let since = self.join(&pair, message, is_busy)?;
-        let queue = self.launch_from(since, &pair.origin, &pair.recipient, now)?;
+        let queue = self.launch_sent(now, message, is_busy)?;
         self.finish(queue, now, &mut ended)?;
         Ok(ended)
     }
@@ -377,7 +396,7 @@ impl<P: Peer> Ledger<P> {
     }
 
     /// Time goes on to `now`, up to which nothing happens: the start is planned anew.
-    pub fn rest(&mut self, now: u64)
+    pub fn pass(&mut self, now: u64)
         requires { HasNothingDue P.cmp (planned P.cmp self.old) now }
         ensures advances { Advances P.cmp now (planned P.cmp self.old) 0 (goes [] (planned P.cmp self.new)) }
         ensures now { now_of self.new ≡ now_of self.old }

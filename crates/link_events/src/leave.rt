@@ -13,7 +13,7 @@ ghost use Rattle.link_pairs.specs.Pairs.Entries.{link_of, arrival_of};
 ghost use Rattle.link_events.specs.Steps.Parting.{IsParted, done_by};
 ghost use Rattle.link_events.specs.Steps.Landing.{FirstLands, IsFirstLate, since_of_first};
 
-use crate::readiness::rest_all;
+use crate::readiness::tell_all;
 use fair_rates::error::Error;
 use fair_rates::peer::Peer;
 use link_flights::flight_list::Flights;
@@ -73,7 +73,7 @@ pub(crate) fn leave<P: Peer>(
     ensures refused { IfErr result (λ e. e ≡ Error.OutOfMemory) }
 {
     let done = part(now, flights, peers, pairs, were_fair)?;
-    rest_all(waiting, pairs, &done)?;
+    tell_all(waiting, pairs, &done)?;
     Ok(done)
 }
 
@@ -145,7 +145,7 @@ pub(crate) fn leave_landing<P: Peer>(
 {
     let done = part(now, flights, peers, pairs, were_fair)?;
     let deliver_at = land_first(now, pairs, &done)?;
-    let since = rest_all(waiting, pairs, &done)?;
+    let since = tell_all(waiting, pairs, &done)?;
     Ok(Left {
         done,
         deliver_at,

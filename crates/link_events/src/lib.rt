@@ -7,6 +7,7 @@
 
 mod answers;
 mod batch;
+pub mod change;
 mod event;
 mod events;
 mod leave;

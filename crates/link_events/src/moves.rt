@@ -52,7 +52,7 @@ impl<P: Peer> Ledger<P> {
             return Ok(None);
         }
         let arrival = later_of(last, moment);
-        match self.waiting.rest(origin, recipient, Some(arrival)) {
+        match self.waiting.tell_since(origin, recipient, Some(arrival)) {
             Ok(since) => Ok(since),
             Err(error) => {
                 give_up(&mut self.flights, &mut self.waiting);
@@ -64,7 +64,7 @@ impl<P: Peer> Ledger<P> {
 
     /// The message joins those that wait for its pair, as the last one. Answered is the moment from
     /// which on the pair's first waiting message may start, if the pair is idle.
-    pub(crate) fn join(
+    pub(crate) fn queue_up(
         &mut self,
         pair: &PeerPair<P>,
         message: Message<P>,
@@ -89,7 +89,7 @@ impl<P: Peer> Ledger<P> {
             return Ok(None);
         }
         let last = self.pairs.last_arrival(origin, recipient);
-        match self.waiting.rest(origin, recipient, last) {
+        match self.waiting.tell_since(origin, recipient, last) {
             Ok(since) => Ok(since),
             Err(error) => {
                 give_up(&mut self.flights, &mut self.waiting);

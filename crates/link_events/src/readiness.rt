@@ -16,13 +16,13 @@ use std::rc::Rc;
 
 /// The pairs of messages that are done are idle from now on: none of them is in flight. Answers the
 /// moment from which on the next message of the first one's pair may start, if one waits.
-pub(crate) fn rest_all<P: Peer>(
+pub(crate) fn tell_all<P: Peer>(
     waiting: &mut Waiting<P>,
     pairs: &Pairs<P>,
     done: &VecDeque<Rc<Message<P>>>,
 ) -> Result<Option<u64>, Error>
     ensures messages { OnOk result (waiting.new.messages ≡ waiting.old.messages) }
-    ensures rest { OnOk result (AreAtRest P.cmp (of_pairs P.cmp pairs.now.entries waiting.old.messages [])
+    ensures at_rest { OnOk result (AreAtRest P.cmp (of_pairs P.cmp pairs.now.entries waiting.old.messages [])
         (messages done.now.items) (since_of P.cmp waiting.old.told) (since_of P.cmp waiting.new.told)) }
     ensures first { IfOk result (λ since. since ≡ since_of_first P.cmp
         (of_pairs P.cmp pairs.now.entries waiting.old.messages []) (messages done.now.items)) }
@@ -34,7 +34,7 @@ pub(crate) fn rest_all<P: Peer>(
         let message = Rc::as_ref(&done[at]);
         let (origin, recipient) = (&message.origin, &message.recipient);
         let last = pairs.last_arrival(origin, recipient);
-        let since = waiting.rest(origin, recipient, last)?;
+        let since = waiting.tell_since(origin, recipient, last)?;
         if at == 0 {
             first = since;
         }

@@ -1,21 +1,22 @@
 //! When each message arrives: a scheduler of messages over capped peers.
-ghost use Rattle.std.specs.Prelude.{◌≡◌, ◌≤◌, length, IfOk, IfErr, IsOk, OnErr};
+ghost use Rattle.std.specs.Prelude.{◌≡◌, ◌≤◌, length, map, IfOk, IfErr, IsOk, OnErr};
 ghost use Rattle.link_simulation.specs.Laws.Orderly.{IsOrderly};
 ghost use Rattle.link_events.specs.Steps.AsPlanned.{planned};
 ghost use Rattle.link_events.specs.Steps.Marks.{IsMarked};
-ghost use Rattle.link_simulation.specs.Simulation.Calls.{call_limit, call_limit_link, call_enqueue, call_advance};
+ghost use Rattle.link_simulation.specs.Simulation.Calls.{call_limit, call_limit_link, call_enqueue, call_enqueue_all};
+ghost use Rattle.link_simulation.specs.Simulation.Calls.{call_advance};
 ghost use Rattle.link_simulation.specs.Simulation.Messages.{CapsAlike, PairsAlike};
 ghost use Rattle.link_simulation.specs.Rule.Planned.{IsPlanned};
 
 use bytes::Bytes;
 use fair_rates::error::Error;
 use fair_rates::peer::Peer;
+use link_events::change::Change;
 use link_events::ledger::Ledger;
 pub use link_events::outgoing::Outgoing;
 pub use link_flights::reading::{InFlight, Reading};
 pub use link_pairs::completion::Completion;
 pub use link_pairs::contents::{Contents, Payload};
-use link_pairs::message::Message;
 use std::alloc::Global;
 use std::marker::PhantomData;
 
@@ -103,7 +104,10 @@ impl<P: Peer, M: Payload> State<P, M> {
     ghost use Rattle.std.specs.List.{AllZip};
     ghost use Rattle.link_flights.specs.Flights.Readings.{IsReadAs};
     ghost use Rattle.link_scheduler.specs.Calls.State.{planned_of, IsNew, IsMadeBy, IsRefused, IsAdvancedBy};
-    ghost use Rattle.link_events.specs.Steps.Outgoing.{sent};
+    ghost use Rattle.link_pairs.specs.Pairs.Messages.{completed_by};
+    ghost use Rattle.link_events.specs.Steps.Answered.{IsAnswered};
+    ghost use Rattle.link_events.specs.Steps.Changes.{call_at};
+    ghost use Rattle.link_events.specs.Steps.Outgoing.{sent, outgoing_by};
     ghost use Rattle.link_scheduler.specs.Calls.State.{IsCountedBy, sends_by, AreMadeBy, IsOneRefused};
     ghost use Rattle.link_scheduler.specs.Calls.State.{IsNextOf, IsQuietUntil, rated_at_last};
 
@@ -154,9 +158,12 @@ impl<P: Peer, M: Payload> State<P, M> {
         ensures refused { IfErr result (IsRefused self.old (call_limit now peer.now egress ingress)) }
         ensures unchanged { OnErr result (self.new ≡ self.old) }
     {
-        let kept = self.ledger.keep()?;
-        let answer = self.ledger.answer_limit(now, peer, egress, ingress);
-        self.ledger.conclude(kept, answer)
+        let change = Change::Limit {
+            peer,
+            egress,
+            ingress,
+        };
+        Ok(self.make(&now, change)?.0)
     }
 
     /// Sets the cap of an ordered pair of peers from `now` on, and answers what completes at that
@@ -190,9 +197,12 @@ impl<P: Peer, M: Payload> State<P, M> {
         ensures refused { IfErr result (IsRefused self.old (call_limit_link now origin.now recipient.now cap)) }
         ensures unchanged { OnErr result (self.new ≡ self.old) }
     {
-        let kept = self.ledger.keep()?;
-        let answer = self.ledger.answer_limit_link(now, origin, recipient, cap);
-        self.ledger.conclude(kept, answer)
+        let change = Change::LimitLink {
+            origin,
+            recipient,
+            cap,
+        };
+        Ok(self.make(&now, change)?.0)
     }
 
     /// Sends a message at `now`, and answers what completes at that moment.
@@ -237,24 +247,22 @@ impl<P: Peer, M: Payload> State<P, M> {
             (call_enqueue now (sent origin recipient channel (M.bytes message) latency should_deliver))) }
         ensures unchanged { OnErr result (self.new ≡ self.old) }
     {
-        let message = Message {
+        let change = Change::Enqueue(Outgoing {
             origin,
             recipient,
             channel,
-            bytes: message.into_contents(),
+            message,
             latency,
             should_deliver,
-        };
-        let kept = self.ledger.keep()?;
-        let answer = self.ledger.answer_enqueue(now, message);
-        self.ledger.conclude(kept, answer)
+        });
+        Ok(self.make(&now, change)?.0)
     }
 
     /// Sends messages at `now`, one after another in their order, and answers what completes at that
     /// moment, in order.
     ///
     /// It does what as many calls of `enqueue` would do, and answers what they would answer. But it is
-    /// made as a whole or not at all. `now` is in nanoseconds since the start. An empty list changes
+    /// made as a whole or not at all, and is one call where such a list is replayed (`as_one`). `now` is in nanoseconds since the start. An empty list changes
     /// nothing and is never refused.
     ///
     /// Where moments never go back, and caps change and messages are sent only before the next
@@ -283,15 +291,17 @@ impl<P: Peer, M: Payload> State<P, M> {
     ) -> Result<Vec<Completion<P, M>>, Error>
         ensures made { IfOk result (λ done. AreMadeBy M.bytes self.old (sends_by M.bytes now messages.items) done.items
             self.new) }
+        ensures as_one { IfOk result (λ done. IsMadeBy M.bytes self.old
+            (call_enqueue_all now (map (outgoing_by M.bytes) messages.items)) done.items self.new) }
         ensures refused { IfErr result (IsOneRefused self.old (sends_by M.bytes now messages.items)) }
+        ensures refused_as_one { IfErr result (IsRefused self.old
+            (call_enqueue_all now (map (outgoing_by M.bytes) messages.items))) }
         ensures unchanged { OnErr result (self.new ≡ self.old) }
     {
         if messages.is_empty() {
             return Ok(Vec::new(self.ledger.alloc));
         }
-        let kept = self.ledger.keep()?;
-        let answer = self.ledger.answer_enqueue_all(now, messages);
-        self.ledger.conclude(kept, answer)
+        Ok(self.make(&now, Change::EnqueueAll(messages))?.0)
     }
 
     /// Lets time go on to `now`, in nanoseconds since the start, and answers what completes up to
@@ -345,22 +355,29 @@ impl<P: Peer, M: Payload> State<P, M> {
         ensures unchanged { OnErr result (self.new ≡ self.old) }
     {
         if self.ledger.is_quiet(now) {
-            self.ledger.rest(now);
+            self.ledger.pass(now);
             return Ok((Vec::new(self.ledger.alloc), 0));
         }
-        self.handle_events(now)
+        self.make(&now, Change::Advance)
     }
 
-    /// Handles the events up to `now`, and what may start then starts.
-    fn handle_events(&mut self, now: u64) -> Result<(Vec<Completion<P, M>>, u128), Error>
-        ensures made { IfOk result (λ answer. IsMadeBy M.bytes self.old (call_advance now) answer.0.items self.new) }
-        ensures advanced { IfOk result (λ answer. IsAdvancedBy M.bytes self.old now answer.0.items self.new) }
-        ensures counted { IfOk result (λ answer. IsCountedBy M.bytes self.old now answer.1 answer.0.items self.new) }
-        ensures refused { IfErr result (IsRefused self.old (call_advance now)) }
+    /// Makes a change at `now`, and answers what completes, with the number of events of an advance.
+    /// Where it is refused, all is put back as it was. The moment is lent, so that a change that names
+    /// no peer has a lifetime, too.
+    fn make<'a>(
+        &mut self,
+        now: &'a u64,
+        change: Change<'a, P, M>,
+    ) -> Result<(Vec<Completion<P, M>>, u128), Error>
+        ensures answered { IfOk result (λ answer. IsAnswered P.cmp (planned_of self.old)
+            (call_at M.bytes now.now change.entry) answer.1 (map (completed_by M.bytes) answer.0.items) (planned_of self.new)) }
+        ensures made { IfOk result (λ answer.
+            IsMadeBy M.bytes self.old (call_at M.bytes now.now change.entry) answer.0.items self.new) }
+        ensures refused { IfErr result (IsRefused self.old (call_at M.bytes now.now change.entry)) }
         ensures unchanged { OnErr result (self.new ≡ self.old) }
     {
         let kept = self.ledger.keep()?;
-        let answer = self.ledger.answer_advance(now);
+        let answer = self.ledger.answer(*now, change);
         self.ledger.conclude(kept, answer)
     }
 

@@ -240,7 +240,7 @@ impl<P: Peer> Slots<P> {
 
     /// A pair is idle whose last message arrives at that moment, if one does. Of its first message that waits it is told
     /// from which moment on it may start; that is answered. Where memory is refused, part of that is done.
-    pub(crate) fn rest(
+    pub(crate) fn tell_since(
         &mut self,
         pair: usize,
         last_arrival: Option<u64>,

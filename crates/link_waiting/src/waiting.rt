@@ -196,7 +196,7 @@ impl<P: Peer> Waiting<P> {
     pub fn take_first(&mut self, origin: &P, recipient: &P) -> Result<Option<Rc<Message<P>>>, Error>
         ensures taken { IfOk result (λ taken. option_map (λ m. message_of m.value) taken
             ≡ first_of P.cmp self.old.messages origin.now recipient.now) }
-        ensures rest { OnOk result (self.new.messages
+        ensures others { OnOk result (self.new.messages
             ≡ without_first (λ m. same_peer P.cmp origin.now m.origin && same_peer P.cmp recipient.now m.recipient)
             self.old.messages) }
         ensures since { OnOk result (since_of P.cmp self.new.told
@@ -225,7 +225,7 @@ impl<P: Peer> Waiting<P> {
     /// first waiting message may start. That is answered, if one waits.
     ///
     /// `OutOfMemory`: memory was refused. Then all is taken back to the mark.
-    pub fn rest(
+    pub fn tell_since(
         &mut self,
         origin: &P,
         recipient: &P,
@@ -247,7 +247,7 @@ impl<P: Peer> Waiting<P> {
         let Some(pair) = number_in(&self.pairs, &self.slots, origin, recipient) else {
             return Ok(None);
         };
-        match self.slots.rest(pair, last_arrival) {
+        match self.slots.tell_since(pair, last_arrival) {
             Ok(since) => Ok(since),
             Err(_) => {
                 self.slots.undo();

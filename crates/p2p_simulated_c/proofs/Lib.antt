@@ -2,6 +2,5 @@ pub mod Boxed
 pub mod Copying
 pub mod Ending
 pub mod Hops
-pub mod Parcels
 pub mod Planning
 pub mod Turns

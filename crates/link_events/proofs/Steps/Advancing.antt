@@ -16,7 +16,7 @@ use Rattle.link_simulation.specs.Rule.Events.{at_start, finish_stops, start_stop
 use Rattle.link_events.specs.Steps.Due.{IsDue, Happens}
 use Rattle.link_events.specs.Steps.AsPlanned.{HasNothingDue}
 use Rattle.link_simulation.specs.Simulation.RefusalCauses.{IsRefusedFor}
-use Rattle.link_events.proofs.Steps.Finishing.{preceded_both}
+use Rattle.link_events.proofs.Steps.SoFar.{preceded_both}
 use Rattle.link_simulation.proofs.Simulation.RefusalCauses.{refused_more}
 use Rattle.link_simulation.proofs.Simulation.OtherPairs.{fronts_are_first}
 

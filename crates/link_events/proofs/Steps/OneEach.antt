@@ -84,14 +84,14 @@ module _ {P : Type 0} (cmp : P → P → Ordering) (order : IsTotalOrder cmp) wh
       (one_pair_more cmp order (rated_messages fs) f.message one idle))
 
 -- no pair is busy after an account that was not before
-pub account_frees : {P : Type 0} (cmp : P → P → Ordering) (t : ℕ) (old new : Planned P) (leavers : List (Message P))
+pub account_idles : {P : Type 0} (cmp : P → P → Ordering) (t : ℕ) (old new : Planned P) (leavers : List (Message P))
     → Accounts cmp t old leavers new → (a b : P) → is_sending cmp old a b ≡ false → is_sending cmp new a b ≡ false
-account_frees {P} cmp t old new leavers account a b free =
+account_idles {P} cmp t old new leavers account a b idle =
     let still : RatedFlight P → Bool = λ f. not (is_spent cmp old.caps f) in
     ap (list_any (is_of_pair cmp a b))
     (stayed_messages t (filter still (drained_to t old.sending)) new.sending account.stayed)
     ∙ any_of_fewer (is_of_pair cmp a b) still (drained_to t old.sending)
-    (ap (list_any (is_of_pair cmp a b)) (drained_messages t old.sending) ∙ free)
+    (ap (list_any (is_of_pair cmp a b)) (drained_messages t old.sending) ∙ idle)
 
 -- the pairs that are at rest where nothing is in flight are so beside messages of other pairs
 pub rests_beside : {P : Type 0} (cmp : P → P → Ordering) (pairs : List (Pair P)) (ms : List (Message P))

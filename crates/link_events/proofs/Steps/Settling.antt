@@ -115,6 +115,29 @@ module _ {P : Type 0} (cmp : P → P → Ordering) where
   too_late_refused t p m e is e_is =
       subst (IsRefusedFor (λ fault. completed_at_once cmp t p m ≡ meets fault)) (sym e_is) (too_late t p m is)
 
+  module _ (t : ℕ) (m : Message P) (p : Planned P) (limited : p.limited ≡ true) where
+    pub enqueue_launch_refused : (e : Error)
+        → IsRefusedFor (λ fault. Launches cmp t (with_queued cmp p m) (next_of cmp (with_queued cmp p m) m)
+        (meets fault)) e
+        → IsRefusedFor (λ fault. Enqueues cmp t m p (meets fault)) e
+    enqueue_launch_refused =
+        refused_more (λ fault. Launches cmp t (with_queued cmp p m) (next_of cmp (with_queued cmp p m) m) (meets fault))
+        (λ fault. Enqueues cmp t m p (meets fault)) (λ fault h. no_launch limited h)
+
+    module _ (next : Planned P) (leavers : List (Message P))
+        (launch : Launches cmp t (with_queued cmp p m) (next_of cmp (with_queued cmp p m) m) (goes leavers next)) where
+      pub enqueue_finish_refused : (e : Error) → IsRefusedFor (λ fault. Finishes cmp t leavers next (meets fault)) e
+          → IsRefusedFor (λ fault. Enqueues cmp t m p (meets fault)) e
+      enqueue_finish_refused =
+          refused_more (λ fault. Finishes cmp t leavers next (meets fault)) (λ fault. Enqueues cmp t m p (meets fault))
+          (λ fault h. launches limited launch h)
+
+      pub enqueues_launched : (new : Planned P) (cs out : List (Completed P)) → Finishes cmp t leavers next (goes cs new)
+          → out ≡ [] ++ cs → Enqueues cmp t m p (goes out new)
+      enqueues_launched new cs out finishes out_is =
+          subst (λ (l : List (Completed P)). Enqueues cmp t m p (goes l new)) (sym out_is)
+          (launches limited launch finishes)
+
   module _ (order : IsTotalOrder cmp) where
     -- what is said of the first message of a key's pair in one world is said of a message's pair in an equal one
     pub of_message : (F : Planned P → Option (Message P) → Type 0) (p q : Planned P) (key : PeerPair P) (m : Message P)
@@ -122,38 +145,3 @@ module _ {P : Type 0} (cmp : P → P → Ordering) where
     of_message F p q key m same is h =
         subst (F q) (first_of_key cmp order key m q.waiting is)
         (subst (λ (r : Planned P). F r (first_of cmp r.waiting key.origin key.recipient)) same h)
-
-    pub enqueue_launch_refused : (t : ℕ) (m : Message P) (p mid : Planned P) (key : PeerPair P) → p.limited ≡ true
-        → mid ≡ with_queued cmp p m → NamesPairOf cmp key m → (e : Error)
-        → IsRefusedFor (λ fault. Launches cmp t mid (first_of cmp mid.waiting key.origin key.recipient) (meets fault)) e
-        → IsRefusedFor (λ fault. Enqueues cmp t m p (meets fault)) e
-    enqueue_launch_refused t m p mid key limited same is =
-        refused_more (λ fault. Launches cmp t mid (first_of cmp mid.waiting key.origin key.recipient) (meets fault))
-        (λ fault. Enqueues cmp t m p (meets fault))
-        (λ fault h. no_launch limited (of_message (λ q first. Launches cmp t q first (meets fault)) mid
-        (with_queued cmp p m) key m same is h))
-
-    pub enqueue_finish_refused : (t : ℕ) (m : Message P) (p mid next : Planned P) (key : PeerPair P)
-        (leavers : List (Message P))
-        → p.limited ≡ true → mid ≡ with_queued cmp p m → NamesPairOf cmp key m
-        → Launches cmp t mid (first_of cmp mid.waiting key.origin key.recipient) (goes leavers next) → (e : Error)
-        → IsRefusedFor (λ fault. Finishes cmp t leavers next (meets fault)) e
-        → IsRefusedFor (λ fault. Enqueues cmp t m p (meets fault)) e
-    enqueue_finish_refused t m p mid next key leavers limited same is launch =
-        let there =
-        of_message (λ q first. Launches cmp t q first (goes leavers next)) mid (with_queued cmp p m) key m same is
-        launch in
-        refused_more (λ fault. Finishes cmp t leavers next (meets fault)) (λ fault. Enqueues cmp t m p (meets fault))
-        (λ fault h. launches limited there h)
-
-    pub enqueues_launched : (t : ℕ) (m : Message P) (p mid next new : Planned P) (key : PeerPair P)
-        (leavers : List (Message P)) (cs out : List (Completed P))
-        → p.limited ≡ true → mid ≡ with_queued cmp p m → NamesPairOf cmp key m
-        → Launches cmp t mid (first_of cmp mid.waiting key.origin key.recipient) (goes leavers next)
-        → Finishes cmp t leavers next (goes cs new) → out ≡ [] ++ cs → Enqueues cmp t m p (goes out new)
-    enqueues_launched t m p mid next new key leavers cs out limited same is launch finishes out_is =
-        subst (λ (l : List (Completed P)). Enqueues cmp t m p (goes l new)) (sym out_is)
-        (launches limited
-        (of_message (λ q first. Launches cmp t q first (goes leavers next)) mid (with_queued cmp p m) key m same is
-        launch)
-        finishes)

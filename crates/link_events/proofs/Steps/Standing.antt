@@ -8,7 +8,7 @@ use Rattle.std.specs.Cmp.{IsTotalOrder}
 use Rattle.fair_rates.specs.Numbers.Amount.{billion}
 use Rattle.fair_rates.specs.Numbers.LowestTerms.{reduced_positive}
 use Rattle.link_events.specs.declared.batch.Standing.{Standing}
-use Rattle.link_events.specs.declared.batch.Standing.TheVariants.{Open, Settled, Due}
+use Rattle.link_events.specs.declared.batch.Standing.TheVariants.{Open, Accounted, Due}
 use Rattle.link_simulation.specs.Simulation.Messages.{Message, same_pair}
 use Rattle.link_simulation.specs.Simulation.World.{Completed, goes, meets}
 use Rattle.link_simulation.specs.Rule.Planned.{Planned, next_of, may_launch}
@@ -18,16 +18,15 @@ use Rattle.link_simulation.proofs.Rule.OneAccount.{enqueue_starts, account_again
 use Rattle.link_simulation.proofs.Rule.OneAccount.{one_starts}
 use Rattle.link_simulation.proofs.Rule.OneCourse.{account_is_one}
 use Rattle.link_simulation.proofs.Simulation.LowestTerms.{reduced_lowest}
-use Rattle.link_events.specs.Steps.Standing.{IsStanding, OnlyStarts, is_settled, does_start}
+use Rattle.link_events.specs.Steps.Standing.{IsStanding, OnlyStarts, is_accounted, does_start}
 use Rattle.link_events.specs.Steps.Standing.{standing_after}
 use Rattle.link_flights.specs.Flights.Flight.{UnitFlight}
 use Rattle.link_flights.specs.Flights.RatedFlights.{sending_of}
 use Rattle.link_waiting.specs.Idle.AtRest.{is_sending}
-use Rattle.link_simulation.specs.Rule.Events.{EnqueuesEach}
+use Rattle.link_simulation.specs.Rule.Events.{EnqueuesEach, all_enqueued, one_stops, enqueues_one}
 use Rattle.link_simulation.specs.Simulation.RefusalCauses.{IsRefusedFor}
 use Rattle.fair_rates.specs.declared.error.Error.{Error}
-use Rattle.link_events.proofs.Steps.Batch.{EnqueuesSo, enqueues_start, enqueues_step, enqueues_end}
-use Rattle.link_events.proofs.Steps.Batch.{enqueues_refused}
+use Rattle.link_events.proofs.Steps.SoFar.{SoFar, none_so_far, step_so_far, all_so_far, refused_so_far}
 use Rattle.link_events.proofs.Steps.OnlyWaiting.{enqueue_waits}
 use Rattle.link_events.proofs.Steps.Starting.{starts_unspent}
 use Rattle.link_flights.proofs.Flights.Units.{units_positive}
@@ -57,10 +56,10 @@ module _ {P : Type 0} (cmp : P → P → Ordering) (order : IsTotalOrder cmp) wh
       the_world : goes [] w ≡ goes ls new → w ≡ new
       the_world e = cc
 
-  pub accounted_standing : (now : ℕ) (standing : Standing) (here w : Planned P) → is_settled standing ≡ true
+  pub accounted_standing : (now : ℕ) (standing : Standing) (here w : Planned P) → is_accounted standing ≡ true
       → IsStanding cmp now standing here w → IsAccountedAt cmp order now w
   accounted_standing now Open here w is h = cc
-  accounted_standing now Settled here w is h =
+  accounted_standing now Accounted here w is h =
       subst (IsAccountedAt cmp order now) (sym h.0) (accounted cmp order now here here [] h.1)
   accounted_standing now Due here w is h = accounted cmp order now here w [] h
 
@@ -69,9 +68,9 @@ module _ {P : Type 0} (cmp : P → P → Ordering) (order : IsTotalOrder cmp) wh
   abbrev Goes : ℕ → Message P → Standing → Planned P → Planned P → Type 0
   Goes now m standing next w = (v : Planned P) × Enqueues cmp now m w (goes [] v) × IsStanding cmp now standing next v
 
-  waits_settled : (now : ℕ) (m : Message P) (here next : Planned P) → PlansStart cmp now (with_queued cmp here m) next
+  waits_accounted : (now : ℕ) (m : Message P) (here next : Planned P) → PlansStart cmp now (with_queued cmp here m) next
       → Accounts cmp now here [] here → Accounts cmp now next [] next
-  waits_settled now m here next looks a =
+  waits_accounted now m here next looks a =
       subst (λ (q : Planned P). Accounts cmp now q [] q) (sym looks.same) (record {
         per = a.per;
         rates = a.rates;
@@ -114,10 +113,10 @@ module _ {P : Type 0} (cmp : P → P → Ordering) (order : IsTotalOrder cmp) wh
       → Enqueues cmp now m here (goes [] next) → IsStanding cmp now standing here w → Goes now m standing next w
   goes_waiting now m Open here next w limited busy looks h is =
       (next, subst (λ (q : Planned P). Enqueues cmp now m q (goes [] next)) (sym is) h, refl)
-  goes_waiting now m Settled here next w limited busy looks h is = (
+  goes_waiting now m Accounted here next w limited busy looks h is = (
     next,
     subst (λ (q : Planned P). Enqueues cmp now m q (goes [] next)) (sym is.0) h,
-    (refl, waits_settled now m here next looks is.1),
+    (refl, waits_accounted now m here next looks is.1),
   )
   goes_waiting now m Due here next w limited busy looks h is = waits_due now m here next w limited busy looks is
 
@@ -158,14 +157,14 @@ module _ {P : Type 0} (cmp : P → P → Ordering) (order : IsTotalOrder cmp) wh
       (subst (λ (q : Planned P). PlansStart cmp now q next) is looks)
 
   pub goes_starting : (now : ℕ) (m : Message P) (standing : Standing) (here mid next w : Planned P)
-      → is_settled standing ≡ true → OnlyStarts cmp now here m → mid ≡ launched cmp now (with_queued cmp here m) m
+      → is_accounted standing ≡ true → OnlyStarts cmp now here m → mid ≡ launched cmp now (with_queued cmp here m) m
       → PlansStart cmp now mid next → ArePositive here.sending → IsStanding cmp now standing here w
       → Goes now m Due next w
-  goes_starting now m Open here mid next w settled h is looks positive stands = cc
-  goes_starting now m Settled here mid next w settled h is looks positive stands =
+  goes_starting now m Open here mid next w after h is looks positive stands = cc
+  goes_starting now m Accounted here mid next w after h is looks positive stands =
       starts_from now m here mid next w h is looks positive
       (subst (λ (q : Planned P). Accounts cmp now here [] q) (sym stands.0) stands.1)
-  goes_starting now m Due here mid next w settled h is looks positive stands =
+  goes_starting now m Due here mid next w after h is looks positive stands =
       starts_from now m here mid next w h is looks positive stands
 
   -- ---- any other message
@@ -179,10 +178,10 @@ module _ {P : Type 0} (cmp : P → P → Ordering) (order : IsTotalOrder cmp) wh
     by_case standing starts starts_is before,
   )
     where
-      settled : IsAccountedAt cmp order now new → (new ≡ new) × Accounts cmp now new [] new
-      settled at = (refl, account_again cmp order now new at low)
+      stays : IsAccountedAt cmp order now new → (new ≡ new) × Accounts cmp now new [] new
+      stays at = (refl, account_again cmp order now new at low)
 
-      before : is_settled standing ≡ true → IsAccountedAt cmp order now there
+      before : is_accounted standing ≡ true → IsAccountedAt cmp order now there
       before e = subst (IsAccountedAt cmp order now) is (accounted_standing now standing here w e stands)
 
       started : true ≡ does_start cmp now there m → IsAccountedAt cmp order now new
@@ -191,12 +190,12 @@ module _ {P : Type 0} (cmp : P → P → Ordering) (order : IsTotalOrder cmp) wh
           enqueue_starts cmp order h so.limited (found_alone there m so.alone) so.may
 
       by_case : (s : Standing) (b : Bool) → b ≡ does_start cmp now there m
-          → (is_settled s ≡ true → IsAccountedAt cmp order now there)
+          → (is_accounted s ≡ true → IsAccountedAt cmp order now there)
           → IsStanding cmp now (standing_after s b) new new
       by_case Open false e f = refl
-      by_case Open true e f = settled (started e)
-      by_case Settled b e f = settled (enqueue_accounted cmp order h (f refl))
-      by_case Due b e f = settled (enqueue_accounted cmp order h (f refl))
+      by_case Open true e f = stays (started e)
+      by_case Accounted b e f = stays (enqueue_accounted cmp order h (f refl))
+      by_case Due b e f = stays (enqueue_accounted cmp order h (f refl))
 
   -- ---- the way through the list
 
@@ -204,11 +203,11 @@ module _ {P : Type 0} (cmp : P → P → Ordering) (order : IsTotalOrder cmp) wh
   pub record StandsSo (now : ℕ) (ms : List (Message P)) (p : Planned P) (rest : List (Message P)) (here : Planned P)
       (standing : Standing) (out : List (Completed P)) : Type 0 where
     pub there : Planned P
-    pub so : EnqueuesSo cmp now ms p rest there out
+    pub so : SoFar (EnqueuesEach cmp now ms p) (EnqueuesEach cmp now rest there) [] out
     pub stands : IsStanding cmp now standing here there
 
   pub stands_start : (now : ℕ) (ms : List (Message P)) (p : Planned P) → StandsSo now ms p ms p Open []
-  stands_start now ms p = record { there = p; so = enqueues_start cmp now ms p; stands = refl }
+  stands_start now ms p = record { there = p; so = none_so_far (EnqueuesEach cmp now ms p) []; stands = refl }
 
   pub stands_step : (now : ℕ) (ms : List (Message P)) (p : Planned P) (m : Message P) (rest : List (Message P))
       (here next : Planned P) (standing after : Standing) (out more : List (Completed P))
@@ -221,8 +220,7 @@ module _ {P : Type 0} (cmp : P → P → Ordering) (order : IsTotalOrder cmp) wh
       let one = step so.there so.stands in
       record {
         there = one.1;
-        so = subst (EnqueuesSo cmp now ms p rest one.1) (sym one.2)
-            (enqueues_step cmp now ms p m rest so.there one.1 out one.0 so.so one.3);
+        so = step_so_far so.so (EnqueuesEach cmp now rest one.1) one.0 more one.2 (λ course h. enqueues_one one.3 h);
         stands = one.4;
       }
 
@@ -233,12 +231,14 @@ module _ {P : Type 0} (cmp : P → P → Ordering) (order : IsTotalOrder cmp) wh
       → IsRefusedFor (λ fault. Enqueues cmp now m w (meets fault)) e)
       → IsRefusedFor (λ fault. EnqueuesEach cmp now ms p (meets fault)) e
   stands_refused now ms p m rest here standing out e so refused =
-      enqueues_refused cmp now ms p m rest so.there out so.so e (refused so.there so.stands)
+      refused_so_far so.so (λ fault. Enqueues cmp now m so.there (meets fault)) (λ fault h. one_stops h) e
+      (refused so.there so.stands)
 
   pub stands_end : (now : ℕ) (ms : List (Message P)) (p : Planned P) (rest : List (Message P)) (here new : Planned P)
       (standing : Standing) (out : List (Completed P)) → StandsSo now ms p rest here standing out → rest ≡ []
       → ((w : Planned P) → IsStanding cmp now standing here w → w ≡ new) → EnqueuesEach cmp now ms p (goes out new)
   stands_end now ms p rest here new standing out so none is =
-      subst (λ (q : Planned P). EnqueuesEach cmp now ms p (goes out q)) (is so.there so.stands)
-      (enqueues_end cmp now ms p so.there out
-      (subst (λ (l : List (Message P)). EnqueuesSo cmp now ms p l so.there out) none so.so))
+      subst (λ (l : List (Completed P)). EnqueuesEach cmp now ms p (goes l new)) (sym so.so.out)
+      (all_so_far so.so new
+      (subst (λ (q : Planned P). EnqueuesEach cmp now rest q (goes [] new)) (sym (is so.there so.stands))
+      (subst (λ (l : List (Message P)). EnqueuesEach cmp now l new (goes [] new)) (sym none) all_enqueued)))

@@ -2,7 +2,7 @@
 use Rattle.std.specs.Prelude.{◌≡◌, ◌≢◌, ℕ, ◌<◌, ◌&&◌, [], Bool, true, false, length, is_none}
 use Rattle.std.specs.declared.cmp.Ordering.{Ordering}
 use Rattle.link_events.specs.declared.batch.Standing.{Standing}
-use Rattle.link_events.specs.declared.batch.Standing.TheVariants.{Open, Settled, Due}
+use Rattle.link_events.specs.declared.batch.Standing.TheVariants.{Open, Accounted, Due}
 use Rattle.link_simulation.specs.Simulation.Messages.{Message}
 use Rattle.link_simulation.specs.Simulation.Rates.{is_unlimited}
 use Rattle.link_simulation.specs.Simulation.World.{last_moment}
@@ -11,17 +11,17 @@ use Rattle.link_simulation.specs.Rule.Events.{Accounts}
 use Rattle.link_waiting.specs.Idle.AtRest.{is_sending}
 
 -- whether an account was made
-abbrev pub is_settled : Standing → Bool
-is_settled Open = false
-is_settled Settled = true
-is_settled Due = true
+abbrev pub is_accounted : Standing → Bool
+is_accounted Open = false
+is_accounted Accounted = true
+is_accounted Due = true
 
 -- how it stands once the account that was due is made, and a message was sent that starts, or waits
 abbrev pub standing_after : Standing → Bool → Standing
 standing_after Open false = Open
-standing_after Open true = Settled
-standing_after Settled starts = Settled
-standing_after Due starts = Settled
+standing_after Open true = Accounted
+standing_after Accounted starts = Accounted
+standing_after Due starts = Accounted
 
 module _ {P : Type 0} (cmp : P → P → Ordering) where
   -- whether limits hold, and a message that is sent starts at once
@@ -32,12 +32,12 @@ module _ {P : Type 0} (cmp : P → P → Ordering) where
   -- the account that is due makes of it, and nothing leaves at it
   abbrev pub IsStanding : ℕ → Standing → Planned P → Planned P → Type 0
   IsStanding now Open here w = w ≡ here
-  IsStanding now Settled here w = (w ≡ here) × Accounts cmp now here [] here
+  IsStanding now Accounted here w = (w ≡ here) × Accounts cmp now here [] here
   IsStanding now Due here w = Accounts cmp now here [] w
 
   -- where limits hold, no message from the one peer to the other is in flight
-  abbrev pub IsFree : Planned P → P → P → Type 0
-  IsFree p origin recipient = p.limited ≡ true → is_sending cmp p origin recipient ≡ false
+  abbrev pub IsIdle : Planned P → P → P → Type 0
+  IsIdle p origin recipient = p.limited ≡ true → is_sending cmp p origin recipient ≡ false
 
   -- a message that is sent starts at once, and is not done at the account that follows
   pub record OnlyStarts (now : ℕ) (p : Planned P) (m : Message P) : Type 0 where

@@ -4,14 +4,13 @@ use Rattle.std.specs.declared.cmp.Ordering.{Ordering}
 use Rattle.std.specs.Cmp.{IsTotalOrder}
 use Rattle.std.proofs.Math.Logic.{∥∥₁_map}
 use Rattle.fair_rates.specs.declared.error.Error.{Error}
-use Rattle.link_simulation.specs.Simulation.World.{Completed, goes, new_world}
+use Rattle.link_simulation.specs.Simulation.World.{Completed, new_world}
 use Rattle.link_simulation.specs.Simulation.Calls.{Call, call_advance, moment_of}
-use Rattle.link_simulation.specs.Rule.Planned.{Planned, IsPlanned, new_planned, next_event}
-use Rattle.link_simulation.specs.Rule.Events.{Obeys}
+use Rattle.link_simulation.specs.Rule.Planned.{Planned, new_planned, next_event}
 use Rattle.link_simulation.specs.Rule.Refusals.{MayBeRefused}
 use Rattle.link_simulation.specs.Rule.Range.{IsInRange}
 use Rattle.link_simulation.specs.Rule.StandsFor.{StandsFor}
-use Rattle.link_simulation.specs.Rule.SamePlanned.{IsSamePlanned, GoesByRule}
+use Rattle.link_simulation.specs.Rule.SamePlanned.{GoesByRule}
 use Rattle.link_simulation.specs.Laws.Orderly.{IsOrderly}
 use Rattle.link_scheduler.specs.Calls.State.{Makes, Refuses}
 use Rattle.link_simulation.specs.Rule.Simulated.{IsNextInSimulation, IsSplitAnywhere, KeepsToCaps}
@@ -19,8 +18,8 @@ use Rattle.link_simulation.proofs.Rule.RepliesInRange.{new_in_range}
 use Rattle.link_simulation.proofs.Laws.BytesStand.{advance_keeps_to_caps}
 use Rattle.link_simulation.proofs.Laws.ConservedAlike.{goes_conserved}
 use Rattle.link_simulation.proofs.Rule.Limit.{new_stands}
-use Rattle.link_simulation.proofs.Laws.Orderly.{new_orderly, obeys_orderly}
-use Rattle.link_simulation.proofs.Laws.OrderlyAlike.{orderly_same, goes_orderly}
+use Rattle.link_simulation.proofs.Laws.Orderly.{new_orderly}
+use Rattle.link_simulation.proofs.Laws.OrderlyAlike.{goes_orderly}
 use Rattle.link_simulation.proofs.Rule.Simulated.{moment_in_time, calls_simulated, call_keeps_range, refusals_simulated}
 use Rattle.link_simulation.proofs.Rule.Simulated.{next_in_simulation}
 use Rattle.link_simulation.proofs.Laws.SplitAnywhere.{advance_split_anywhere}
@@ -38,17 +37,6 @@ module _ {P : Type 0} (cmp : P → P → Ordering) (order : IsTotalOrder cmp) wh
   new_one_orderly p id is = ∣ subst (IsOrderly cmp) (sym is) (new_orderly cmp order id) ∣₁
 
   -- ---- a call that goes
-
-  -- a call on the copy leaves what is planned in order
-  pub orderly_on : (p q r : Planned P) (call : Call P) (cs : List (Completed P)) → IsSamePlanned cmp p q
-      → ∥ IsOrderly cmp p ∥₁ → Obeys cmp q call (goes cs r) → ∥ IsOrderly cmp r ∥₁
-  orderly_on p q r call cs same orderly obeys =
-      ∥∥₁_map orderly (λ h. obeys_orderly cmp order q r call cs obeys (orderly_same cmp order p q same h))
-
-  -- what is kept by a step that does a call at once, or leaves what is planned as it was
-  pub record Kept (q : Planned P) : Type 0 where
-    pub right : ∥ IsPlanned cmp q ∥₁
-    pub orderly : ∥ IsOrderly cmp q ∥₁
 
   -- what is promised of a call that goes from p to q
   pub promised_if : (p q : Planned P) (call : Call P) (now : ℕ) (cs : List (Completed P)) → moment_of call ≡ Some now

@@ -5,8 +5,7 @@ use Rattle.std.specs.declared.cmp.Ord.{Ghosts}
 use Rattle.std.specs.declared.cmp.Ordering.{Ordering}
 use Rattle.std.specs.Cmp.{IsTotalOrder}
 use Rattle.fair_rates.specs.declared.error.Error.{Error}
-use Rattle.link_simulation.specs.Simulation.Calls.{Call, call_limit, call_limit_link, call_enqueue, call_advance}
-use Rattle.link_simulation.specs.Simulation.Calls.{call_enqueue_all, call_next}
+use Rattle.link_simulation.specs.Simulation.Calls.{Call, call_next}
 use Rattle.link_simulation.specs.Simulation.Messages.{SameMessage}
 use Rattle.link_simulation.specs.Laws.Isolation.{InTime}
 use Rattle.link_simulation.specs.Simulation.Replies.{Reply, reply_done, reply_next, reply_refused}
@@ -35,7 +34,7 @@ module _ {P : Type 0} (cmp : P → P → Ordering) (order : IsTotalOrder cmp) wh
       (h.0, subst (λ (r : Planned P). Obeyed cmp r calls replies) h.1 rest)
   one_more p q call_next (reply_done cs) calls replies h rest = absurd h
   one_more p q call_next (reply_refused e) calls replies h rest = absurd h
-  one_more p q (call_limit now peer egress ingress) (reply_done cs) calls replies h rest = (
+  one_more p q call (reply_done cs) calls replies h rest = (
     h.answers,
     h.after,
     h.obeys,
@@ -43,53 +42,9 @@ module _ {P : Type 0} (cmp : P → P → Ordering) (order : IsTotalOrder cmp) wh
     obeyed_same cmp order q h.after calls replies
         (same_turned cmp order h.after q h.same_after) rest,
   )
-  one_more p q (call_limit now peer egress ingress) (reply_refused e) calls replies h rest =
+  one_more p q call (reply_refused e) calls replies h rest =
       (h.0, subst (λ (r : Planned P). Obeyed cmp r calls replies) h.1 rest)
-  one_more p q (call_limit now peer egress ingress) (reply_next t) calls replies h rest = absurd h
-  one_more p q (call_limit_link now origin recipient cap) (reply_done cs) calls replies h rest = (
-    h.answers,
-    h.after,
-    h.obeys,
-    h.same_answers,
-    obeyed_same cmp order q h.after calls replies
-        (same_turned cmp order h.after q h.same_after) rest,
-  )
-  one_more p q (call_limit_link now origin recipient cap) (reply_refused e) calls replies h rest =
-      (h.0, subst (λ (r : Planned P). Obeyed cmp r calls replies) h.1 rest)
-  one_more p q (call_limit_link now origin recipient cap) (reply_next t) calls replies h rest = absurd h
-  one_more p q (call_enqueue now m) (reply_done cs) calls replies h rest = (
-    h.answers,
-    h.after,
-    h.obeys,
-    h.same_answers,
-    obeyed_same cmp order q h.after calls replies
-        (same_turned cmp order h.after q h.same_after) rest,
-  )
-  one_more p q (call_enqueue_all now ms) (reply_done cs) calls replies h rest = (
-    h.answers,
-    h.after,
-    h.obeys,
-    h.same_answers,
-    obeyed_same cmp order q h.after calls replies
-        (same_turned cmp order h.after q h.same_after) rest,
-  )
-  one_more p q (call_enqueue now m) (reply_refused e) calls replies h rest =
-      (h.0, subst (λ (r : Planned P). Obeyed cmp r calls replies) h.1 rest)
-  one_more p q (call_enqueue_all now ms) (reply_refused e) calls replies h rest =
-      (h.0, subst (λ (r : Planned P). Obeyed cmp r calls replies) h.1 rest)
-  one_more p q (call_enqueue now m) (reply_next t) calls replies h rest = absurd h
-  one_more p q (call_enqueue_all now ms) (reply_next t) calls replies h rest = absurd h
-  one_more p q (call_advance now) (reply_done cs) calls replies h rest = (
-    h.answers,
-    h.after,
-    h.obeys,
-    h.same_answers,
-    obeyed_same cmp order q h.after calls replies
-        (same_turned cmp order h.after q h.same_after) rest,
-  )
-  one_more p q (call_advance now) (reply_refused e) calls replies h rest =
-      (h.0, subst (λ (r : Planned P). Obeyed cmp r calls replies) h.1 rest)
-  one_more p q (call_advance now) (reply_next t) calls replies h rest = absurd h
+  one_more p q call (reply_next t) calls replies h rest = absurd h
 
   -- ---- the same call
 
@@ -125,25 +80,10 @@ module _ {P : Type 0} (cmp : P → P → Ordering) (order : IsTotalOrder cmp) wh
   -- an equal call has the same replies
   pub reply_same : (p q : Planned P) {call other : Call P} (reply : Reply P) → IsSamePlanned cmp p p
       → IsSameCall cmp call other → IsReplyTo cmp p other reply q → IsReplyTo cmp p call reply q
-  reply_same p q (reply_done cs) itself (same_limit same) h = goes_same p q _ _ cs itself (same_limit same) h
-  reply_same p q (reply_refused why) itself (same_limit same) h =
-      refused_same_call p q _ _ why itself (same_limit same) h
-  reply_same p q (reply_next t) itself (same_limit same) h = h
-  reply_same p q (reply_done cs) itself (same_limit_link f g) h = goes_same p q _ _ cs itself (same_limit_link f g) h
-  reply_same p q (reply_refused why) itself (same_limit_link f g) h =
-      refused_same_call p q _ _ why itself (same_limit_link f g) h
-  reply_same p q (reply_next t) itself (same_limit_link f g) h = h
-  reply_same p q (reply_done cs) itself (same_enqueue same) h = goes_same p q _ _ cs itself (same_enqueue same) h
-  reply_same p q (reply_refused why) itself (same_enqueue same) h =
-      refused_same_call p q _ _ why itself (same_enqueue same) h
-  reply_same p q (reply_next t) itself (same_enqueue same) h = h
-  reply_same p q (reply_done cs) itself (same_enqueue_all same) h =
-      goes_same p q _ _ cs itself (same_enqueue_all same) h
-  reply_same p q (reply_refused why) itself (same_enqueue_all same) h =
-      refused_same_call p q _ _ why itself (same_enqueue_all same) h
-  reply_same p q (reply_next t) itself (same_enqueue_all same) h = h
-  reply_same p q reply itself same_advance h = h
   reply_same p q reply itself same_next h = h
+  reply_same p q (reply_done cs) itself same h = goes_same p q _ _ cs itself same h
+  reply_same p q (reply_refused why) itself same h = refused_same_call p q _ _ why itself same h
+  reply_same p q (reply_next t) itself same h = h
 
   -- ---- a list of calls
 
@@ -231,28 +171,9 @@ module _ {P : Type 0} (cmp : P → P → Ordering) (order : IsTotalOrder cmp) wh
   one_for_each p (call_next ∷ calls) (reply_next t ∷ replies) h = ap suc (one_for_each p calls replies h.1)
   one_for_each p (call_next ∷ calls) (reply_done cs ∷ replies) h = absurd h
   one_for_each p (call_next ∷ calls) (reply_refused why ∷ replies) h = absurd h
-  one_for_each p (call_limit now peer egress ingress ∷ calls) (reply_done cs ∷ replies) h =
-      ap suc (one_for_each h.1 calls replies h.4)
-  one_for_each p (call_limit now peer egress ingress ∷ calls) (reply_refused why ∷ replies) h =
-      ap suc (one_for_each p calls replies h.1)
-  one_for_each p (call_limit now peer egress ingress ∷ calls) (reply_next t ∷ replies) h = absurd h
-  one_for_each p (call_limit_link now origin recipient cap ∷ calls) (reply_done cs ∷ replies) h =
-      ap suc (one_for_each h.1 calls replies h.4)
-  one_for_each p (call_limit_link now origin recipient cap ∷ calls) (reply_refused why ∷ replies) h =
-      ap suc (one_for_each p calls replies h.1)
-  one_for_each p (call_limit_link now origin recipient cap ∷ calls) (reply_next t ∷ replies) h = absurd h
-  one_for_each p (call_enqueue now m ∷ calls) (reply_done cs ∷ replies) h = ap suc (one_for_each h.1 calls replies h.4)
-  one_for_each p (call_enqueue_all now ms ∷ calls) (reply_done cs ∷ replies) h =
-      ap suc (one_for_each h.1 calls replies h.4)
-  one_for_each p (call_enqueue now m ∷ calls) (reply_refused why ∷ replies) h =
-      ap suc (one_for_each p calls replies h.1)
-  one_for_each p (call_enqueue_all now ms ∷ calls) (reply_refused why ∷ replies) h =
-      ap suc (one_for_each p calls replies h.1)
-  one_for_each p (call_enqueue now m ∷ calls) (reply_next t ∷ replies) h = absurd h
-  one_for_each p (call_enqueue_all now ms ∷ calls) (reply_next t ∷ replies) h = absurd h
-  one_for_each p (call_advance now ∷ calls) (reply_done cs ∷ replies) h = ap suc (one_for_each h.1 calls replies h.4)
-  one_for_each p (call_advance now ∷ calls) (reply_refused why ∷ replies) h = ap suc (one_for_each p calls replies h.1)
-  one_for_each p (call_advance now ∷ calls) (reply_next t ∷ replies) h = absurd h
+  one_for_each p (call ∷ calls) (reply_done cs ∷ replies) h = ap suc (one_for_each h.1 calls replies h.4)
+  one_for_each p (call ∷ calls) (reply_refused why ∷ replies) h = ap suc (one_for_each p calls replies h.1)
+  one_for_each p (call ∷ calls) (reply_next t ∷ replies) h = absurd h
 
 -- what a scheduler answers, or refuses, is a reply by the event rule
 module _ {P : Type 0} {order : Ghosts P} {b : _} {c : _} (old new : State P (List ℕ) order b c) where
@@ -261,27 +182,11 @@ module _ {P : Type 0} {order : Ghosts P} {b : _} {c : _} (old new : State P (Lis
   answered_by_rule call_next (replies.Next moment) h = (h.0.planned, ap planned_of h.1)
   answered_by_rule call_next (replies.Done completions) h = h
   answered_by_rule call_next (replies.Refused why) h = h
-  answered_by_rule (call_limit now peer egress ingress) (replies.Done completions) h = h.by_rule
-  answered_by_rule (call_limit now peer egress ingress) (replies.Next moment) h = h
-  answered_by_rule (call_limit now peer egress ingress) (replies.Refused why) h = absurd h
-  answered_by_rule (call_limit_link now origin recipient cap) (replies.Done completions) h = h.by_rule
-  answered_by_rule (call_limit_link now origin recipient cap) (replies.Next moment) h = h
-  answered_by_rule (call_limit_link now origin recipient cap) (replies.Refused why) h = absurd h
-  answered_by_rule (call_enqueue now m) (replies.Done completions) h = h.by_rule
-  answered_by_rule (call_enqueue_all now ms) (replies.Done completions) h = h.by_rule
-  answered_by_rule (call_enqueue now m) (replies.Next moment) h = h
-  answered_by_rule (call_enqueue_all now ms) (replies.Next moment) h = h
-  answered_by_rule (call_enqueue now m) (replies.Refused why) h = absurd h
-  answered_by_rule (call_enqueue_all now ms) (replies.Refused why) h = absurd h
-  answered_by_rule (call_advance now) (replies.Done completions) h = h.by_rule
-  answered_by_rule (call_advance now) (replies.Next moment) h = h
-  answered_by_rule (call_advance now) (replies.Refused why) h = absurd h
+  answered_by_rule call (replies.Done completions) h = h.by_rule
+  answered_by_rule call (replies.Next moment) h = h
+  answered_by_rule call (replies.Refused why) h = absurd h
 
   pub refused_by_rule : (call : Call P) (why : Error) → MayRefuseCall old call why → planned_of new ≡ planned_of old
       → IsReplyTo order.cmp (planned_of old) call (reply_refused why) (planned_of new)
   refused_by_rule call_next why h same = h
-  refused_by_rule (call_limit now peer egress ingress) why h same = (h.by_rule, same)
-  refused_by_rule (call_limit_link now origin recipient cap) why h same = (h.by_rule, same)
-  refused_by_rule (call_enqueue now m) why h same = (h.by_rule, same)
-  refused_by_rule (call_enqueue_all now ms) why h same = (h.by_rule, same)
-  refused_by_rule (call_advance now) why h same = (h.by_rule, same)
+  refused_by_rule call why h same = (h.by_rule, same)

@@ -13,12 +13,12 @@ pub returns-clause-indexed : goal.returns-clause-indexed
 returns-clause-indexed g c =
     let cmp = g.P.Ord.cmp in
     let old = c.args.flights.now in
-    rw c.in_ok-rest_all.ensures.messages
+    rw c.in_ok-tell_all.ensures.messages
     (index_after cmp g.met.P.Ord.total c.args.now c.args.pairs.now.entries c.args.waiting.now.messages
     (is_spent cmp (caps_of cmp c.args.peers.now.entries c.args.pairs.now.entries)) (in_flight old)
     (in_flight c.part.new.flights) (messages c.in_ok-done.done.items) (since_of cmp c.args.waiting.now.told)
     (one_if_so cmp (rated_messages (in_flight old)) c.requires.one_each) c.requires.indexed
     c.in_ok-done.ensures.parted.left c.in_ok-done.ensures.parted.stays
-    c.args.pairs.now.entries (since_of cmp c.rest_all.new.waiting.told)
+    c.args.pairs.now.entries (since_of cmp c.tell_all.new.waiting.told)
     (arrivals_looked_up cmp g.met.P.Ord.total c.args.pairs.now.entries) (λ a b none. refl)
-    c.in_ok-rest_all.ensures.rest)
+    c.in_ok-tell_all.ensures.at_rest)

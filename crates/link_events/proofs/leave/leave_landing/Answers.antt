@@ -39,8 +39,8 @@ returns-clause-indexed g c =
     (is_spent cmp (caps_of cmp c.args.peers.now.entries c.args.pairs.now.entries)) (in_flight old)
     (in_flight c.part.new.flights) (messages c.in_ok-done.done.items) (since_of cmp c.args.waiting.now.told)
     (one_if_so cmp (rated_messages (in_flight old)) c.requires.one_each) c.requires.indexed
-    c.in_ok-done.ensures.parted.left c.in_ok-done.ensures.parted.stays known (since_of cmp c.rest_all.new.waiting.told)
+    c.in_ok-done.ensures.parted.left c.in_ok-done.ensures.parted.stays known (since_of cmp c.tell_all.new.waiting.told)
     (arrivals_looked_up cmp g.met.P.Ord.total known)
     (others_after cmp g.met.P.Ord.total c.args.now c.args.pairs.now.entries known (messages c.in_ok-done.done.items)
     c.in_ok-deliver_at.deliver_at c.in_ok-deliver_at.ensures.lands)
-    c.in_ok-since.ensures.rest)
+    c.in_ok-since.ensures.at_rest)

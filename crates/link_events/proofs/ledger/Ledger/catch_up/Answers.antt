@@ -3,7 +3,7 @@ use Rattle.link_events.specs.Steps.AsPlanned.{planned}
 use Rattle.link_pairs.specs.Pairs.Messages.{messages}
 use Rattle.link_events.specs.Steps.Standing.{IsStanding}
 use Rattle.link_events.proofs.Steps.Standing.{account_due}
-use Rattle.link_events.proofs.Steps.OneEach.{account_frees}
+use Rattle.link_events.proofs.Steps.OneEach.{account_idles}
 use Rattle.link_events.proofs.ledger.Ledger.catch_up.Goals as goal
 
 pub returns-in_ok-account-clause-caught_up : goal.returns-in_ok-account-clause-caught_up
@@ -13,10 +13,10 @@ returns-in_ok-account-clause-caught_up g c =
     (subst (λ s. IsStanding g.P.Ord.cmp c.args.now s (planned g.P.Ord.cmp c.args.self.now) w) c.in-Due.is h)
     c.in_ok-account.ensures.accounts
 
-pub returns-in_ok-account-clause-free : goal.returns-in_ok-account-clause-free
-returns-in_ok-account-clause-free g c =
-    λ origin recipient free limited.
+pub returns-in_ok-account-clause-idle : goal.returns-in_ok-account-clause-idle
+returns-in_ok-account-clause-idle g c =
+    λ origin recipient idle limited.
     let account = c.in_ok-account.ensures.accounts in
-    account_frees g.P.Ord.cmp c.args.now (planned g.P.Ord.cmp c.args.self.now)
+    account_idles g.P.Ord.cmp c.args.now (planned g.P.Ord.cmp c.args.self.now)
     (planned g.P.Ord.cmp c.account.new.self) (messages c.in_ok-account.field-0.items) account origin recipient
-    (free (sym (ap (λ p. p.limited) account.same) ∙ limited))
+    (idle (sym (ap (λ p. p.limited) account.same) ∙ limited))

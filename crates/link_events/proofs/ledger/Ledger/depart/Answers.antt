@@ -37,7 +37,7 @@ invariant_of-self-2 g c =
     } in
     let found : first_of cmp old.waiting.messages o r ≡ Some m =
     sym c.in-Ok-Some.ensures.taken ∙ ap (option_map (λ x. message_of x.value)) c.in-Ok-Some.field-0-is in
-    let taken = c.in-Ok-Some.ensures.rest in
+    let taken = c.in-Ok-Some.ensures.others in
     let own =
     find_passes (λ (n : Message g.row.P.Denot). same_peer cmp o n.origin && same_peer cmp r n.recipient) m
     old.waiting.messages found in
@@ -70,7 +70,7 @@ returns-clause-departed g c =
     let m : Message g.row.P.Denot = message_of c.in-Ok-Some.message.value in
     let found : first_of cmp old.waiting.messages o r ≡ Some m =
     sym c.in-Ok-Some.ensures.taken ∙ ap (option_map (λ x. message_of x.value)) c.in-Ok-Some.field-0-is in
-    let taken = c.in-Ok-Some.ensures.rest in
+    let taken = c.in-Ok-Some.ensures.others in
     record {
       message = m;
       first = found;

@@ -38,7 +38,7 @@ only_starts-requires g c limited =
 
 pub starts_at_once-starts-requires : goal.starts_at_once-starts-requires
 starts_at_once-starts-requires g c =
-    c.in_ok-catch_up.ensures.free c.args.message.origin c.args.message.recipient (λ limited. sym
+    c.in_ok-catch_up.ensures.idle c.args.message.origin c.args.message.recipient (λ limited. sym
     (ap
     (λ (b : Bool). b
     && is_sending g.P.Ord.cmp (planned g.P.Ord.cmp c.args.self.now) c.args.message.origin c.args.message.recipient)
@@ -47,7 +47,7 @@ starts_at_once-starts-requires g c =
 
 pub enqueue-requires : goal.enqueue-requires
 enqueue-requires g c =
-    c.in_ok-catch_up.ensures.free c.args.message.origin c.args.message.recipient (λ limited. sym
+    c.in_ok-catch_up.ensures.idle c.args.message.origin c.args.message.recipient (λ limited. sym
     (ap
     (λ (b : Bool). b
     && is_sending g.P.Ord.cmp (planned g.P.Ord.cmp c.args.self.now) c.args.message.origin c.args.message.recipient)
@@ -72,7 +72,7 @@ returns-then-only_starts-clause-enqueues g c =
     let go =
     goes_starting g.P.Ord.cmp g.met.P.Ord.total c.args.now (message_of c.args.message) c.args.standing
     (planned g.P.Ord.cmp c.args.self.now) (planned g.P.Ord.cmp c.start.new.self)
-    (planned g.P.Ord.cmp c.plan_start.new.self) w (sym c.if-is_settled.ensures) (c.if-only_starts.ensures refl)
+    (planned g.P.Ord.cmp c.plan_start.new.self) w (sym c.if-is_accounted.ensures) (c.if-only_starts.ensures refl)
     c.in_ok-start.ensures.started c.plan_start.ensures.plans
     (read_positive c.args.self.now.flights.scale (in_units c.args.self.now.flights) c.args.self.now.flights.scaled) h in
     ([], go.0, sym (append-nil (map ended_of c.args.ended.now.items)), go.1, go.2)

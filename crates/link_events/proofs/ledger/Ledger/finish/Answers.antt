@@ -4,32 +4,28 @@ use Rattle.std.proofs.lemmas.Result.{err_from_is_err_and}
 use Rattle.link_simulation.specs.Simulation.Messages.{Message, same_pair}
 use Rattle.link_pairs.specs.Pairs.Messages.{message_of, ended_of, messages}
 use Rattle.link_events.specs.Steps.AsPlanned.{planned}
-use Rattle.link_events.proofs.Steps.Finishing.{FinishesSo, finishes_start, finishes_step, finishes_end}
-use Rattle.link_events.proofs.Steps.Finishing.{finishes_refused}
+use Rattle.link_simulation.specs.Rule.Events.{Finishes, all_completed, completes}
+use Rattle.link_simulation.specs.Simulation.World.{completed, goes, meets, preceded}
+use Rattle.link_events.proofs.Steps.SoFar.{none_so_far, step_so_far, all_so_far, refused_so_far}
 use Rattle.link_events.proofs.Steps.MessageCounts.{in_system, launch_keeps}
 use Rattle.link_events.proofs.ledger.Ledger.finish.Goals as goal
 use Rattle.std.proofs.lemmas.List.{map-append, length-map}
 
 pub loop-message-init : goal.loop-message-init
-loop-message-init g c = record {
-  so =
-      finishes_start g.P.Ord.cmp c.args.now (messages c.args.queue.items) (planned g.P.Ord.cmp c.args.self.now)
-      (map ended_of c.args.ended.now.items);
-  before = refl;
-}
+loop-message-init g c = record { so = none_so_far _ (map ended_of c.args.ended.now.items); before = refl }
 
 pub returns-in_err-more-clause-refused : goal.returns-in_err-more-clause-refused
 returns-in_err-more-clause-refused g c =
     let p = err_from_is_err_and c.from_residual.result c.from_residual.ensures.1 in
-    let so = subst (λ (ms : List (Message g.row.P.Denot)). FinishesSo g.P.Ord.cmp c.args.now
-    (messages c.args.queue.items) (planned g.P.Ord.cmp c.args.self.now) (map ended_of c.args.ended.now.items) ms
-    (planned g.P.Ord.cmp c.loop-message.self) (map ended_of c.loop-message.ended.items))
-    (ap messages c.in-Some.ensures.items) c.loop-message.invariant.so in
+    let cmp = g.P.Ord.cmp in
+    let here = planned cmp c.loop-message.self in
+    let first : messages c.loop-message.queue.items
+    ≡ message_of c.in-Some.message.value ∷ messages c.pop_front.new.self.items = ap messages c.in-Some.ensures.items in
     rw (p.1, p.2)
-    (finishes_refused g.P.Ord.cmp c.args.now (messages c.args.queue.items) (planned g.P.Ord.cmp c.args.self.now)
-    (map ended_of c.args.ended.now.items)
-    (message_of c.in-Some.message.value ∷ messages c.pop_front.new.self.items) (planned g.P.Ord.cmp c.loop-message.self)
-    (map ended_of c.loop-message.ended.items) so _
+    (refused_so_far c.loop-message.invariant.so
+    (λ fault. Finishes cmp c.args.now (message_of c.in-Some.message.value ∷ messages c.pop_front.new.self.items) here
+    (meets fault))
+    (λ fault. subst (λ (ms : List (Message g.row.P.Denot)). Finishes cmp c.args.now ms here (meets fault)) (sym first)) _
     (c.in_err-more.ensures.refused (messages c.pop_front.new.self.items)))
 
 pub loop-message-smaller : goal.loop-message-smaller
@@ -56,34 +52,36 @@ loop-message-smaller g c =
 
 pub loop-message-preserved : goal.loop-message-preserved
 loop-message-preserved g c =
-    let so = subst (λ (ms : List (Message g.row.P.Denot)). FinishesSo g.P.Ord.cmp c.args.now
-    (messages c.args.queue.items) (planned g.P.Ord.cmp c.args.self.now) (map ended_of c.args.ended.now.items) ms
-    (planned g.P.Ord.cmp c.loop-message.self) (map ended_of c.loop-message.ended.items))
-    (ap messages c.in-Some.ensures.items) c.loop-message.invariant.so in
+    let cmp = g.P.Ord.cmp in
+    let here = planned cmp c.loop-message.self in
+    let next = planned cmp c.complete.new.self in
+    let first : messages c.loop-message.queue.items
+    ≡ message_of c.in-Some.message.value ∷ messages c.pop_front.new.self.items = ap messages c.in-Some.ensures.items in
     let joined : messages c.append.new.self.items ≡ messages c.pop_front.new.self.items
     ++ messages c.in_ok-more.more.items = ap messages c.in_ok-append.ensures.items
     ∙ map-append (λ m. message_of m.value) c.pop_front.new.self.items c.in_ok-more.more.items in
+    let one = completed cmp c.args.now (message_of c.in-Some.message.value) ∷ [] in
     record {
       before = c.complete.ensures.before ∙ c.loop-message.invariant.before;
-      so = subst (λ (ms : List (Message g.row.P.Denot)). FinishesSo g.P.Ord.cmp c.args.now (messages c.args.queue.items)
-          (planned g.P.Ord.cmp c.args.self.now) (map ended_of c.args.ended.now.items) ms
-          (planned g.P.Ord.cmp c.complete.new.self) (map ended_of c.complete.new.ended.items))
-          (sym joined)
-          (finishes_step g.P.Ord.cmp c.args.now (messages c.args.queue.items) (planned g.P.Ord.cmp c.args.self.now)
-          (map ended_of c.args.ended.now.items) (message_of c.in-Some.message.value) (messages c.pop_front.new.self.items)
-          (messages c.in_ok-more.more.items)
-          (planned g.P.Ord.cmp c.loop-message.self) (planned g.P.Ord.cmp c.complete.new.self)
-          (map ended_of c.loop-message.ended.items)
-          (map ended_of c.complete.new.ended.items) so c.in_ok-more.ensures.in_time c.in_ok-more.ensures.completion
-          c.in_ok-more.ensures.launches);
+      so = step_so_far c.loop-message.invariant.so
+          (Finishes cmp c.args.now (messages c.append.new.self.items) next) one
+          (map ended_of c.complete.new.ended.items) c.in_ok-more.ensures.completion
+          (λ course h.
+          subst (λ (ms : List (Message g.row.P.Denot)). Finishes cmp c.args.now ms here (preceded one course))
+          (sym first)
+          (completes c.in_ok-more.ensures.in_time c.in_ok-more.ensures.launches
+          (subst (λ (ms : List (Message g.row.P.Denot)). Finishes cmp c.args.now ms next course) joined h)));
     }
 
 pub returns-clause-finishes : goal.returns-clause-finishes
 returns-clause-finishes g c =
     let none : c.loop-message.queue.items ≡ [] = search rules in
-    let w = finishes_end g.P.Ord.cmp c.args.now (messages c.args.queue.items) (planned g.P.Ord.cmp c.args.self.now)
-    (map ended_of c.args.ended.now.items) (messages c.loop-message.queue.items)
-    (planned g.P.Ord.cmp c.loop-message.self) (planned g.P.Ord.cmp c.plan_start.new.self)
-    (map ended_of c.loop-message.ended.items)
-    c.loop-message.invariant.so (ap messages none) c.plan_start.ensures.plans in
-    (w.done, w.out, w.finishes)
+    let far = c.loop-message.invariant.so in
+    let new = planned g.P.Ord.cmp c.plan_start.new.self in (
+      far.done,
+      far.out,
+      all_so_far far new
+          (subst (λ (ms : List (Message g.row.P.Denot)). Finishes g.P.Ord.cmp c.args.now ms
+          (planned g.P.Ord.cmp c.loop-message.self) (goes [] new)) (sym (ap messages none))
+          (all_completed c.plan_start.ensures.plans)),
+    )

@@ -2,15 +2,16 @@ use Rattle.std.proofs.Common.{◌≡◌, ◌+◌, map, length}
 use Rattle.link_events.specs.Steps.AsPlanned.{planned}
 use Rattle.link_events.specs.Steps.Marks.{before_of}
 use Rattle.link_pairs.specs.Pairs.Messages.{messages, ended_of}
-use Rattle.link_events.proofs.Steps.Finishing.{FinishesSo}
+use Rattle.link_simulation.specs.Rule.Events.{Finishes}
+use Rattle.link_events.proofs.Steps.SoFar.{SoFar}
 use Rattle.link_events.proofs.Steps.MessageCounts.{in_system}
 use Rattle.link_events.proofs.ledger.Ledger.finish.Given as goal
 
 abbrev pub invariant-loop-message : goal.invariant-loop-message
 invariant-loop-message g l = record {
-  so : FinishesSo g.P.Ord.cmp l.now (messages l.initial.queue.items) (planned g.P.Ord.cmp l.initial.self)
-      (map ended_of l.initial.ended.items)
-      (messages l.queue.items) (planned g.P.Ord.cmp l.self) (map ended_of l.ended.items);
+  so : SoFar (Finishes g.P.Ord.cmp l.now (messages l.initial.queue.items) (planned g.P.Ord.cmp l.initial.self))
+      (Finishes g.P.Ord.cmp l.now (messages l.queue.items) (planned g.P.Ord.cmp l.self))
+      (map ended_of l.initial.ended.items) (map ended_of l.ended.items);
   before : before_of l.self ≡ before_of l.initial.self;
 }
 

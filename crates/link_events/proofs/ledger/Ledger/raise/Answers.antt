@@ -70,7 +70,7 @@ invariant_of-self-in-Ok-1 g c =
           (sym c.in_ok-last.ensures.link) (old.rated e);
       indexed = rw c.in-Ok.ensures.messages
           (raised_index cmp g.met.P.Ord.total old.pairs.entries c.raise.new.self.entries old.waiting.messages
-          (in_flight old.flights) o r c.args.moment (since_of cmp old.waiting.told) (since_of cmp c.rest.new.self.told)
+          (in_flight old.flights) o r c.args.moment (since_of cmp old.waiting.told) (since_of cmp c.tell_since.new.self.told)
           (arrivals_looked_up cmp g.met.P.Ord.total c.raise.new.self.entries) c.in_ok-last.ensures.arrival old.indexed
           (c.in-Ok.ensures.since
           ∙ ap (with_link cmp (since_of cmp old.waiting.told) o r)

@@ -1,18 +1,18 @@
-use Rattle.std.proofs.Common.{map, List, Option, refl, sym, subst, ◌∙◌}
+use Rattle.std.proofs.Common.{map, List, [], Option, refl, sym, subst, ◌∙◌}
 use Rattle.std.specs.List.{AllZip}
 use Rattle.std.proofs.lemmas.Result.{err_from_is_err_and}
 use Rattle.link_pairs.specs.declared.pair.PeerPair.{PeerPair}
 use Rattle.link_waiting.specs.Idle.PairsOfMessages.{NamesPairOf}
 use Rattle.link_simulation.specs.Simulation.Messages.{Message}
 use Rattle.link_simulation.specs.Simulation.World.{goes, meets}
-use Rattle.link_simulation.specs.Rule.Planned.{Planned}
-use Rattle.link_simulation.specs.Rule.Events.{Launches}
+use Rattle.link_simulation.specs.Rule.Planned.{Planned, next_of}
+use Rattle.link_simulation.specs.Rule.Events.{Launches, Finishes, WakesEach, all_started, no_start, no_finish, starts_one}
 use Rattle.link_simulation.specs.Simulation.RefusalCauses.{IsRefusedFor}
 use Rattle.link_events.specs.Steps.AsPlanned.{planned}
 use Rattle.link_pairs.specs.Pairs.Messages.{messages, ended_of}
 use Rattle.link_waiting.specs.Idle.Starting.{ready_messages}
-use Rattle.link_events.proofs.Steps.Finishing.{wakes_start, wakes_step, wakes_end, wakes_launch_refused}
-use Rattle.link_events.proofs.Steps.Finishing.{wakes_finish_refused, next_at, none_at}
+use Rattle.link_events.proofs.Steps.Finishing.{next_at, none_at}
+use Rattle.link_events.proofs.Steps.SoFar.{none_so_far, step_so_far, all_so_far, refused_so_far}
 use Rattle.link_events.proofs.Steps.Settling.{of_message}
 use Rattle.link_events.proofs.ledger.Ledger.wake.Goals as goal
 
@@ -25,9 +25,7 @@ loop-pair-init g c = record {
         (λ (keys : List (PeerPair g.row.P.Denot)). AllZip (NamesPairOf g.P.Ord.cmp) keys
         (ready_messages g.P.Ord.cmp c.args.now (planned g.P.Ord.cmp c.args.self.now)))
         (sym c.deref-pair-items.ensures.value) c.in_ok-ready.ensures.ready;
-    so =
-        wakes_start g.P.Ord.cmp c.args.now (ready_messages g.P.Ord.cmp c.args.now (planned g.P.Ord.cmp c.args.self.now))
-        (planned g.P.Ord.cmp c.args.self.now) (map ended_of c.args.ended.now.items);
+    so = none_so_far _ (map ended_of c.args.ended.now.items);
   };
   before = refl;
 }
@@ -36,16 +34,10 @@ pub returns-in_err-queue-clause-refused : goal.returns-in_err-queue-clause-refus
 returns-in_err-queue-clause-refused g c =
     let p = err_from_is_err_and c.from_residual-in_err-queue.result c.from_residual-in_err-queue.ensures.1 in
     let here = planned g.P.Ord.cmp c.loop-pair.self in
-    let n =
-    next_at g.P.Ord.cmp c.args.now (ready_messages g.P.Ord.cmp c.args.now (planned g.P.Ord.cmp c.args.self.now))
-    (planned g.P.Ord.cmp c.args.self.now) (map ended_of c.args.ended.now.items) c.deref-pair-items.result.now
-    c.loop-pair.pair-index here (map ended_of c.loop-pair.ended.items)
-    c.pair-item.result c.loop-pair.invariant.at c.loop-pair-test.true c.pair-item.is in
+    let n = next_at g.P.Ord.cmp c.loop-pair.invariant.at c.pair-item.result c.loop-pair-test.true c.pair-item.is in
     rw (p.1, p.2)
-    (wakes_launch_refused g.P.Ord.cmp c.args.now
-    (ready_messages g.P.Ord.cmp c.args.now (planned g.P.Ord.cmp c.args.self.now))
-    (planned g.P.Ord.cmp c.args.self.now) (map ended_of c.args.ended.now.items) n.message n.rest here
-    (map ended_of c.loop-pair.ended.items) n.so _
+    (refused_so_far n.so (λ fault. Launches g.P.Ord.cmp c.args.now here (next_of g.P.Ord.cmp here n.message) (meets fault))
+    (λ fault h. no_start h) _
     (of_message g.P.Ord.cmp g.met.P.Ord.total (λ (q : Planned g.row.P.Denot)
     (first : Option (Message g.row.P.Denot)). IsRefusedFor
     (λ fault. Launches g.P.Ord.cmp c.args.now q first (meets fault)) c.in_err-queue.field-0.0)
@@ -55,31 +47,21 @@ pub returns-in_err-finish-clause-refused : goal.returns-in_err-finish-clause-ref
 returns-in_err-finish-clause-refused g c =
     let p = err_from_is_err_and c.from_residual-in_err-finish.result c.from_residual-in_err-finish.ensures.1 in
     let here = planned g.P.Ord.cmp c.loop-pair.self in
-    let n =
-    next_at g.P.Ord.cmp c.args.now (ready_messages g.P.Ord.cmp c.args.now (planned g.P.Ord.cmp c.args.self.now))
-    (planned g.P.Ord.cmp c.args.self.now) (map ended_of c.args.ended.now.items) c.deref-pair-items.result.now
-    c.loop-pair.pair-index here (map ended_of c.loop-pair.ended.items)
-    c.pair-item.result c.loop-pair.invariant.at c.loop-pair-test.true c.pair-item.is in
+    let n = next_at g.P.Ord.cmp c.loop-pair.invariant.at c.pair-item.result c.loop-pair-test.true c.pair-item.is in
     rw (p.1, p.2)
-    (wakes_finish_refused g.P.Ord.cmp c.args.now
-    (ready_messages g.P.Ord.cmp c.args.now (planned g.P.Ord.cmp c.args.self.now))
-    (planned g.P.Ord.cmp c.args.self.now) (map ended_of c.args.ended.now.items) n.message n.rest
-    (messages c.in_ok-queue.queue.items) here (planned g.P.Ord.cmp c.launch.new.self)
-    (map ended_of c.loop-pair.ended.items) n.so
+    (refused_so_far n.so (λ fault. Finishes g.P.Ord.cmp c.args.now (messages c.in_ok-queue.queue.items)
+    (planned g.P.Ord.cmp c.launch.new.self) (meets fault))
+    (λ fault. no_finish
     (of_message g.P.Ord.cmp g.met.P.Ord.total
     (λ (q : Planned g.row.P.Denot) (first : Option (Message g.row.P.Denot)). Launches g.P.Ord.cmp c.args.now q first
     (goes (messages c.in_ok-queue.queue.items) (planned g.P.Ord.cmp c.launch.new.self)))
-    here here c.pair-item.result n.message refl n.is_key c.in_ok-queue.ensures.launches) _
+    here here c.pair-item.result n.message refl n.is_key c.in_ok-queue.ensures.launches)) _
     c.in_err-finish.ensures.refused)
 
 pub loop-pair-preserved : goal.loop-pair-preserved
 loop-pair-preserved g c =
     let here = planned g.P.Ord.cmp c.loop-pair.self in
-    let n =
-    next_at g.P.Ord.cmp c.args.now (ready_messages g.P.Ord.cmp c.args.now (planned g.P.Ord.cmp c.args.self.now))
-    (planned g.P.Ord.cmp c.args.self.now) (map ended_of c.args.ended.now.items) c.deref-pair-items.result.now
-    c.loop-pair.pair-index here (map ended_of c.loop-pair.ended.items)
-    c.pair-item.result c.loop-pair.invariant.at c.loop-pair-test.true c.pair-item.is in
+    let n = next_at g.P.Ord.cmp c.loop-pair.invariant.at c.pair-item.result c.loop-pair-test.true c.pair-item.is in
     let h = c.in_ok-finish.ensures.finishes in
     record {
       before = c.finish.ensures.before ∙ c.launch.ensures.before ∙ c.loop-pair.invariant.before;
@@ -87,29 +69,24 @@ loop-pair-preserved g c =
         rest = n.rest;
         are_keys = n.are_keys;
         so =
-            wakes_step g.P.Ord.cmp c.args.now
-            (ready_messages g.P.Ord.cmp c.args.now (planned g.P.Ord.cmp c.args.self.now))
-            (planned g.P.Ord.cmp c.args.self.now) (map ended_of c.args.ended.now.items) n.message n.rest
-            (messages c.in_ok-queue.queue.items) here (planned g.P.Ord.cmp c.launch.new.self)
-            (planned g.P.Ord.cmp c.finish.new.self)
-            (map ended_of c.loop-pair.ended.items) (map ended_of c.finish.new.ended.items) h.0 n.so
+            step_so_far n.so (WakesEach g.P.Ord.cmp c.args.now n.rest (planned g.P.Ord.cmp c.finish.new.self)) h.0
+            (map ended_of c.finish.new.ended.items) h.1
+            (λ course more. starts_one
             (of_message g.P.Ord.cmp g.met.P.Ord.total
             (λ (q : Planned g.row.P.Denot) (first : Option (Message g.row.P.Denot)). Launches g.P.Ord.cmp c.args.now q
             first (goes (messages c.in_ok-queue.queue.items) (planned g.P.Ord.cmp c.launch.new.self)))
-            here here c.pair-item.result n.message refl n.is_key c.in_ok-queue.ensures.launches) h.2 h.1;
+            here here c.pair-item.result n.message refl n.is_key c.in_ok-queue.ensures.launches) h.2 more);
       };
     }
 
 pub returns-clause-wakes : goal.returns-clause-wakes
 returns-clause-wakes g c =
-    let here = planned g.P.Ord.cmp c.loop-pair.self in
-    let w =
-    wakes_end g.P.Ord.cmp c.args.now (ready_messages g.P.Ord.cmp c.args.now (planned g.P.Ord.cmp c.args.self.now))
-    (planned g.P.Ord.cmp c.args.self.now) (map ended_of c.args.ended.now.items) c.loop-pair.invariant.at.rest here
-    (planned g.P.Ord.cmp c.plan_start.new.self) (map ended_of c.loop-pair.ended.items)
-    c.loop-pair.invariant.at.so
-    (none_at g.P.Ord.cmp c.args.now (ready_messages g.P.Ord.cmp c.args.now (planned g.P.Ord.cmp c.args.self.now))
-    (planned g.P.Ord.cmp c.args.self.now) (map ended_of c.args.ended.now.items) c.deref-pair-items.result.now
-    c.loop-pair.pair-index here (map ended_of c.loop-pair.ended.items) c.loop-pair.invariant.at c.loop-pair-test.false)
-    c.plan_start.ensures.plans in
-    (w.done, w.out, w.wakes)
+    let at = c.loop-pair.invariant.at in
+    let new = planned g.P.Ord.cmp c.plan_start.new.self in (
+      at.so.done,
+      at.so.out,
+      all_so_far at.so new
+          (subst (λ (ms : List (Message g.row.P.Denot)). WakesEach g.P.Ord.cmp c.args.now ms
+          (planned g.P.Ord.cmp c.loop-pair.self) (goes [] new))
+          (sym (none_at g.P.Ord.cmp at c.loop-pair-test.false)) (all_started c.plan_start.ensures.plans)),
+    )

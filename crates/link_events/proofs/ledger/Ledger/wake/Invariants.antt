@@ -1,15 +1,15 @@
 use Rattle.std.proofs.Common.{◌≡◌, map}
 use Rattle.link_events.specs.Steps.AsPlanned.{planned}
 use Rattle.link_events.specs.Steps.Marks.{before_of}
-use Rattle.link_waiting.specs.Idle.Starting.{ready_messages}
+use Rattle.link_simulation.specs.Rule.Events.{Wakes}
 use Rattle.link_pairs.specs.Pairs.Messages.{ended_of}
 use Rattle.link_events.proofs.Steps.Finishing.{WakesAt}
 use Rattle.link_events.proofs.ledger.Ledger.wake.Given as goal
 
 abbrev pub invariant-loop-pair : goal.invariant-loop-pair
 invariant-loop-pair g l = record {
-  at : WakesAt g.P.Ord.cmp l.now (ready_messages g.P.Ord.cmp l.now (planned g.P.Ord.cmp l.initial.self))
-      (planned g.P.Ord.cmp l.initial.self) (map ended_of l.initial.ended.items)
-      l.pair-items l.pair-index (planned g.P.Ord.cmp l.self) (map ended_of l.ended.items);
+  at : WakesAt g.P.Ord.cmp l.now (Wakes g.P.Ord.cmp l.now (planned g.P.Ord.cmp l.initial.self))
+      (map ended_of l.initial.ended.items) l.pair-items l.pair-index (planned g.P.Ord.cmp l.self)
+      (map ended_of l.ended.items);
   before : before_of l.self ≡ before_of l.initial.self;
 }

@@ -22,8 +22,8 @@ returns-in_default-clause-taken g c =
     c.args.self.now c.self.view_is c.if-self.false c.in_default.ensures
     ∙ ap (option_map (λ (w : Waiter g.row.P.Denot). w.message)) (find_false (live inside.slots.slots.items)))
 
-pub returns-in_default-clause-rest : goal.returns-in_default-clause-rest
-returns-in_default-clause-rest g c =
+pub returns-in_default-clause-others : goal.returns-in_default-clause-others
+returns-in_default-clause-others g c =
     let inside = c.self.inside in
     sym (messages_are g.P.Ord.cmp inside.given_up inside.slots c.args.self.now c.self.view_is c.if-self.false)
     ∙ ap (queue_of g.P.Ord.cmp) (sym (stays g c))
@@ -64,8 +64,8 @@ returns-in-Ok-clause-taken g c =
     ∙ sym (first_seen g.P.Ord.cmp g.met.P.Ord.total c.args.origin.now c.args.recipient.now (Some c.in-Some.pair)
     inside.given_up inside.slots c.args.self.now c.self.view_is c.if-self.false c.in-Some.ensures)
 
-pub returns-in-Ok-clause-rest : goal.returns-in-Ok-clause-rest
-returns-in-Ok-clause-rest g c =
+pub returns-in-Ok-clause-others : goal.returns-in-Ok-clause-others
+returns-in-Ok-clause-others g c =
     let inside = c.self.inside in
     sym (messages_are g.P.Ord.cmp inside.given_up c.take_first.new.self
     (waits_of g.P.Ord.cmp inside.given_up c.take_first.new.self) refl c.if-self.false)
