@@ -1,1 +1,2 @@
 pub mod Flights
+mod Common

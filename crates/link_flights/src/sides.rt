@@ -184,7 +184,14 @@ impl<P: Peer> Flights<P> {
             if has_side[number] {
                 continue;
             }
-            if let Some(side) = self.side_at(end, places[number], component, numbers, peers, room)? {
+            if let Some(side) = self.side_at(
+                end,
+                places[number],
+                component,
+                numbers,
+                peers,
+                room,
+            )? {
                 note_users(&mut has_side, &side.users);
                 room = side.users.len();
                 sides.push(side)?;

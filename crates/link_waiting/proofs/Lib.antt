@@ -1,1 +1,2 @@
 pub mod Idle
+mod Common

@@ -1,16 +1,8 @@
 -- From one step of an account to the next.
-use Rattle.std.proofs.Common.{◌≡◌, ℕ, Bool, true, false, cond, not, ◌||◌, List, [], ◌∷◌}
-use Rattle.std.proofs.Common.{refl, sym, ap, ◌∙◌, inl, inr}
-use Rattle.std.specs.Bool.{◌==◌}
-use Rattle.std.specs.List.{AllZip, filter}
-use Rattle.std.specs.declared.cmp.Ordering.{Ordering}
-use Rattle.fair_rates.specs.Sides.Caps.{Caps}
-use Rattle.fair_rates.proofs.Lists.Members.{In, from_filter, all_passed}
-use Rattle.link_simulation.specs.Simulation.Rates.{is_unlimited}
-use Rattle.link_flights.specs.Flights.Flight.{UnitFlight, DrainsTo}
-use Rattle.link_flights.specs.Flights.Rated.{rated_ones, is_out, are_limited, IsRatedFrom}
-use Rattle.link_flights.specs.Flights.RatedFlights.{rated_flight_of}
-use Rattle.link_pairs.specs.Pairs.Messages.{message_of}
+use Rattle.link_flights.proofs.Common.{◌≡◌, ℕ, Bool, true, false, cond, not, ◌||◌, List, [], ◌∷◌, refl, sym, ap, ◌∙◌}
+use Rattle.link_flights.proofs.Common.{inl, inr, ◌==◌, AllZip, filter, Ordering, Caps, In, from_filter, all_passed}
+use Rattle.link_flights.proofs.Common.{is_unlimited, UnitFlight, DrainsTo, rated_ones, is_out, are_limited, IsRatedFrom}
+use Rattle.link_flights.proofs.Common.{rated_flight_of, message_of}
 
 module _ {P : Type 0} where
   there : (now : ℕ) (us vs : List (UnitFlight P)) → AllZip (DrainsTo now) us vs → (v : UnitFlight P) → In vs v

@@ -1,25 +1,15 @@
 -- An account of what is in flight, from what its steps do.
-use Rattle.std.proofs.Common.{◌≡◌, ◌≢◌, ℕ, suc, ◌+◌, ◌*◌, ◌<◌, Bool, true, false, not, cond, if◌then◌else◌, ◌||◌, List}
-use Rattle.std.proofs.Common.{[], ◌∷◌, Option, Some, None, refl, sym, ◌∙◌, ap, subst, arith, zero-add, get_or, All}
-use Rattle.std.specs.Prelude.{slice_index}
-use Rattle.std.proofs.lemmas.List.{length-map, get_or-map}
-use Rattle.std.specs.List.{AllZip, filter, list_all}
-use Rattle.std.specs.Bool.{◌==◌}
-use Rattle.std.specs.declared.cmp.Ordering.{Ordering}
+use Rattle.link_flights.proofs.Common.{◌≡◌, ◌≢◌, ℕ, suc, ◌+◌, ◌*◌, ◌<◌, Bool, true, false, not, cond, if◌then◌else◌}
+use Rattle.link_flights.proofs.Common.{◌||◌, List, [], ◌∷◌, Option, Some, None, refl, sym, ◌∙◌, ap, subst, arith}
+use Rattle.link_flights.proofs.Common.{zero-add, get_or, All, slice_index, length-map, get_or-map, AllZip, filter}
+use Rattle.link_flights.proofs.Common.{list_all, ◌==◌, Ordering, and_from, first_of_both, second_of_both, reduced}
+use Rattle.link_flights.proofs.Common.{billion, Caps, message_of, UnitFlight, AreFairlyRated, IsRatedFrom, rates_of}
+use Rattle.link_flights.proofs.Common.{rated_flight_of, sending_of, Message, RatedFlight, rated_messages, drained_to}
+use Rattle.link_flights.proofs.Common.{is_spent, is_unlimited}
 use Rattle.std.proofs.lemmas.List.Elements.{filter_passes}
-use Rattle.std.proofs.lemmas.Bool.{and_from}
-use Rattle.fair_rates.proofs.Lists.Booleans.{first_of_both, second_of_both}
-use Rattle.fair_rates.specs.Numbers.Amount.{reduced, billion}
-use Rattle.fair_rates.specs.Sides.Caps.{Caps}
-use Rattle.link_pairs.specs.Pairs.Messages.{message_of}
-use Rattle.link_flights.specs.Flights.Flight.{UnitFlight}
-use Rattle.link_flights.specs.Flights.Rated.{AreFairlyRated, IsRatedFrom, rates_of}
-use Rattle.link_flights.specs.Flights.RatedFlights.{rated_flight_of, sending_of}
 use Rattle.link_simulation.specs.Rule.Events.{Accounts}
-use Rattle.link_simulation.specs.Simulation.Messages.{Message}
-use Rattle.link_simulation.specs.Rule.Planned.{Planned, RatedFlight, IsLeastMoment, SomeSpentAt, rated_messages}
-use Rattle.link_simulation.specs.Rule.Planned.{drained_to, is_spent}
-use Rattle.link_simulation.specs.Simulation.Rates.{AreFair, is_unlimited, rate_of, rates_from}
+use Rattle.link_simulation.specs.Rule.Planned.{Planned, IsLeastMoment, SomeSpentAt}
+use Rattle.link_simulation.specs.Simulation.Rates.{AreFair, rate_of, rates_from}
 use Rattle.link_flights.proofs.Flights.InFlight.{nothing_is_done}
 use Rattle.link_flights.proofs.Flights.Standing.{messages_read, messages_kept}
 use Rattle.link_flights.proofs.Flights.Units.{grown_left, units_positive, nothing_left}

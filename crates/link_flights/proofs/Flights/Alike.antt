@@ -1,12 +1,9 @@
 -- Flights that stand alike are the same.
-use Rattle.std.proofs.Common.{◌≡◌, ◌<◌, ◌≤◌, true, not, ◌||◌, length, nat_le}
-use Rattle.std.specs.List.{list_all}
+use Rattle.link_flights.proofs.Common.{◌≡◌, ◌<◌, ◌≤◌, true, not, ◌||◌, length, nat_le, list_all, HaveRates, Flights}
 use Rattle.std.proofs.Math.Bridge.{le_prop}
 use std.HLevel.{prop→path_p}
 use mathlib.Core.Bool.{Bool-set}
-use Rattle.link_flights.specs.Flights.Flight.{HaveRates}
 use Rattle.link_flights.specs.Flights.Table.{Line}
-use Rattle.link_flights.specs.declared.flight_list.Flights.{Flights}
 
 -- they are, where all that is kept is the same
 pub same_flights : {P : Type 0} {a : _} {b : _} {c : _} (one other : Flights P a b c) → one.alloc ≡ other.alloc

@@ -1,37 +1,25 @@
 -- The sides that come for those that are rated anew, kind by kind, are all that there are.
-use Rattle.std.proofs.Common.{◌≡◌, ℕ, zero, suc, ◌+◌, ◌-◌, ◌*◌, ◌<◌, ◌≤◌, Bool, true, false, cond, not}
-use Rattle.std.proofs.Common.{◌⊎◌, inl, inr, List, [], ◌∷◌, ◌++◌, Option, Some, None, Contains, map, length, replicate}
-use Rattle.std.proofs.Common.{slice_get, sum_by, refl, sym, ap, ap₂, ◌∙◌, subst, arith, zero-add, option_map}
-use Rattle.std.specs.Prelude.{slice_index}
-use Rattle.std.specs.List.{filter, list_any}
-use Rattle.std.specs.Cmp.{IsTotalOrder}
-use Rattle.std.specs.declared.cmp.Ordering.{Ordering}
-use Rattle.std.proofs.lemmas.Bool.{false≢true, and_from, cases_lt}
-use Rattle.std.proofs.lemmas.Cmp.{eq_by_cmp_equiv}
-use Rattle.std.proofs.lemmas.List.Sums.{sum_by-cons}
-use Rattle.std.proofs.lemmas.Option.{none-some, same_Some, slice_get-map}
-use Rattle.fair_rates.specs.declared.bandwidth.Flow.{Flow}
-use Rattle.fair_rates.specs.Fairness.Fair.{Side}
-use Rattle.fair_rates.specs.Fairness.UnderCaps.{cap_of, limits, IsCappedSide, AreOfPeers}
-use Rattle.fair_rates.specs.Filling.FairParts.{flow_parts, parts_of_level}
-use Rattle.fair_rates.specs.Lists.Places.{places_from}
-use Rattle.fair_rates.specs.Sides.Caps.{Caps}
-use Rattle.fair_rates.specs.Sides.Subjects.{Subject, sent_by, received_by, sent_between, same_peer, same_subject}
-use Rattle.fair_rates.proofs.Lists.Booleans.{by_bool, first_of_both, second_of_both}
-use Rattle.fair_rates.proofs.Lists.Members.{In, in_from_contains, contains_from_in, get_in, in_get, in_left, in_right}
-use Rattle.fair_rates.proofs.Lists.Members.{in_either, in_map, from_map, from_filter, get_from_map, none_passes, any_fails}
+use Rattle.link_flights.proofs.Common.{◌≡◌, ℕ, zero, suc, ◌+◌, ◌-◌, ◌*◌, ◌<◌, ◌≤◌, Bool, true, false, cond, not, ◌⊎◌}
+use Rattle.link_flights.proofs.Common.{inl, inr, List, [], ◌∷◌, ◌++◌, Option, Some, None, Contains, map, length}
+use Rattle.link_flights.proofs.Common.{slice_get, sum_by, refl, sym, ap, ap₂, ◌∙◌, subst, arith, zero-add, option_map}
+use Rattle.link_flights.proofs.Common.{slice_index, filter, list_any, IsTotalOrder, Ordering, false≢true, and_from}
+use Rattle.link_flights.proofs.Common.{cases_lt, eq_by_cmp_equiv, sum_by-cons, none-some, same_Some, slice_get-map}
+use Rattle.link_flights.proofs.Common.{Flow, Side, cap_of, limits, AreOfPeers, parts_of_level, places_from, Caps}
+use Rattle.link_flights.proofs.Common.{Subject, sent_by, received_by, sent_between, same_peer, by_bool, first_of_both}
+use Rattle.link_flights.proofs.Common.{second_of_both, In, in_from_contains, contains_from_in, get_in, in_get, in_left}
+use Rattle.link_flights.proofs.Common.{in_right, in_either, in_map, from_map, from_filter, get_from_map}
+use Rattle.link_flights.proofs.Common.{same_peer_itself, message_of, Component, End, Origin, Recipient, is_of, those_of}
+use Rattle.link_flights.proofs.Common.{UnitFlight, sent_messages, flow_in_flight, end_subject, link_subject, kept_load}
+use Rattle.link_flights.proofs.Common.{left_of, left_caps, flows_of, IsSideOf}
+use Rattle.std.proofs.Common.{replicate}
+use Rattle.fair_rates.specs.Fairness.UnderCaps.{IsCappedSide}
+use Rattle.fair_rates.specs.Filling.FairParts.{flow_parts}
+use Rattle.fair_rates.specs.Sides.Subjects.{same_subject}
+use Rattle.fair_rates.proofs.Lists.Members.{none_passes, any_fails}
 use Rattle.fair_rates.proofs.Lists.Places.{passes_here}
-use Rattle.fair_rates.proofs.Sides.EqualSubjects.{one_cap, same_limits, same_peer_itself}
+use Rattle.fair_rates.proofs.Sides.EqualSubjects.{one_cap, same_limits}
 use Rattle.link_simulation.specs.Simulation.Messages.{OneForEachPair, same_pair}
-use Rattle.link_pairs.specs.Pairs.Messages.{message_of}
-use Rattle.link_flights.specs.declared.component.Component.{Component}
-use Rattle.link_flights.specs.declared.table.End.{End}
-use Rattle.link_flights.specs.declared.table.End.TheVariants.{Origin, Recipient}
-use Rattle.link_flights.specs.Flights.Components.{is_of, those_of}
-use Rattle.link_flights.specs.Flights.Flight.{UnitFlight}
-use Rattle.link_flights.specs.Flights.Rated.{sent_messages}
-use Rattle.link_flights.specs.Flights.Sides.{flow_in_flight, end_subject, link_subject, kept_load, left_of, left_caps}
-use Rattle.link_flights.specs.Flights.Sides.{flows_of, IsSideOf, HasSide, AddsSides, AreAllSides}
+use Rattle.link_flights.specs.Flights.Sides.{HasSide, AddsSides, AreAllSides}
 use Rattle.link_flights.proofs.Flights.InFlight.{filter_yes, filter_no}
 
 -- ---- kinds of subjects

@@ -1,26 +1,15 @@
 -- What is in flight alone, or is not there, and its fair rate.
-use Rattle.std.proofs.Common.{◌≡◌, ◌≢◌, ℕ, zero, suc, ◌<◌, List, [], ◌∷◌, All, length, get_or, refl, sym, ap}
-use Rattle.std.proofs.Common.{◌∙◌, ◌⊎◌, inl, inr, subst, arith}
-use Rattle.std.specs.Prelude.{◌==◌, true, slice_set, slice_index}
-use Rattle.std.specs.Cmp.{IsTotalOrder}
-use Rattle.std.proofs.lemmas.Bool.{eqb-true}
-use Rattle.std.proofs.lemmas.List.{nil_from_length}
-use Rattle.std.specs.declared.cmp.Ordering.{Ordering}
-use Rattle.fair_rates.specs.Fairness.Fair.{IsFair}
-use Rattle.fair_rates.specs.Fairness.UnderCaps.{AreOfPeers, sides_under}
-use Rattle.fair_rates.specs.Sides.Caps.{Caps}
+use Rattle.link_flights.proofs.Common.{◌≡◌, ◌≢◌, ℕ, zero, suc, ◌<◌, List, [], ◌∷◌, All, length, get_or, refl, sym, ap}
+use Rattle.link_flights.proofs.Common.{◌∙◌, ◌⊎◌, inl, inr, subst, arith, slice_index, IsTotalOrder, eqb-true}
+use Rattle.link_flights.proofs.Common.{nil_from_length, Ordering, IsFair, AreOfPeers, sides_under, Caps}
+use Rattle.link_flights.proofs.Common.{same_peer_itself, capped_sides, message_of, Flight, Flights, UnitFlight}
+use Rattle.link_flights.proofs.Common.{flight_at, flights_at, IsTimed, AreTimed, in_units, IsReratedAt, HaveFairRates}
+use Rattle.link_flights.proofs.Common.{rated_anew, sent_messages, flow_sent}
+use Rattle.std.specs.Prelude.{◌==◌, true, slice_set}
 use Rattle.fair_rates.proofs.Fairness.SameSides.{still_fair}
-use Rattle.fair_rates.proofs.Sides.EqualSubjects.{same_peer_itself}
-use Rattle.link_simulation.specs.Simulation.Rates.{capped_sides}
-use Rattle.link_pairs.specs.Pairs.Messages.{message_of}
 use Rattle.link_pairs.specs.declared.message.Message as code
-use Rattle.link_flights.specs.declared.flight.Flight.{Flight}
-use Rattle.link_flights.specs.declared.flight_list.Flights.{Flights}
-use Rattle.link_flights.specs.Flights.Flight.{UnitFlight, flight_at, flights_at, IsTimed, AreTimed}
-use Rattle.link_flights.specs.Flights.InFlight.{in_units}
-use Rattle.link_flights.specs.Flights.Rated.{AreFairFor, IsReratedAt, HaveFairRates}
-use Rattle.link_flights.specs.Flights.Rated.{rated_anew, sent_messages, AreKeptBut}
-use Rattle.link_flights.specs.Flights.Sides.{flow_sent}
+use Rattle.link_flights.specs.Flights.Rated.{AreFairFor}
+use Rattle.link_flights.specs.Flights.Rated.{AreKeptBut}
 use Rattle.link_flights.proofs.Flights.FairMessages.{same_sides}
 use Rattle.link_flights.proofs.Flights.Rerating.{all_kept}
 

@@ -1,16 +1,9 @@
 -- Caps change: those that keep their rates are fair by themselves under the new caps, where none of them uses what has
 -- changed.
-use Rattle.std.proofs.Common.{◌≡◌, ℕ, ◌*◌, ◌≤◌, Bool, true, false, not, List, Some, refl, sym, ap, ◌∙◌, ◌⊎◌, inl, inr, arith}
-use Rattle.std.specs.List.{filter}
-use Rattle.std.specs.declared.cmp.Ordering.{Ordering}
-use Rattle.std.proofs.lemmas.Bool.{false≢true, cases_lt}
-use Rattle.fair_rates.specs.declared.bandwidth.Flow.{Flow}
-use Rattle.fair_rates.specs.Fairness.UnderCaps.{cap_of, limits}
-use Rattle.fair_rates.specs.Sides.Caps.{Caps}
-use Rattle.fair_rates.specs.Sides.Subjects.{Subject}
-use Rattle.fair_rates.proofs.Fairness.Sharing.{IsCapped, IsHeldAmong, AreShared, total, total_none, total_same, total_at_most}
-use Rattle.fair_rates.proofs.Lists.Booleans.{by_bool}
-use Rattle.fair_rates.proofs.Lists.Members.{In, from_filter}
+use Rattle.link_flights.proofs.Common.{◌≡◌, ℕ, ◌*◌, ◌≤◌, Bool, true, false, not, List, Some, refl, sym, ap, ◌∙◌, ◌⊎◌}
+use Rattle.link_flights.proofs.Common.{inl, inr, arith, filter, Ordering, false≢true, cases_lt, Flow, cap_of, limits}
+use Rattle.link_flights.proofs.Common.{Caps, Subject, AreShared, by_bool, In, from_filter}
+use Rattle.fair_rates.proofs.Fairness.Sharing.{IsCapped, IsHeldAmong, total, total_none, total_same, total_at_most}
 
 pub not_not : (b : Bool) → not b ≡ true → b ≡ false
 not_not true h = absurd (false≢true h)

@@ -1,19 +1,12 @@
 -- Flows of messages in flight, one after another, and those of a component of all.
-use Rattle.std.proofs.Common.{◌≡◌, ℕ, ◌+◌, ◌<◌, nat_le, Bool, true, false, not, ◌&&◌, ◌||◌, List, [], ◌∷◌, ◌++◌, length}
-use Rattle.std.proofs.Common.{take, get_or, refl, sym, ap, ap₂, ◌∙◌, arith, if◌then◌else◌}
-use Rattle.std.specs.List.{list_all, list_any}
-use Rattle.std.specs.declared.cmp.Ordering.{Ordering}
-use Rattle.std.specs.declared.rc.Rc.{Rc}
-use Rattle.std.specs.declared.alloc.Global.{Global}
-use Rattle.std.proofs.lemmas.Bool.{le-leb}
-use Rattle.std.proofs.lemmas.List.{take_more, map-append}
-use Rattle.fair_rates.specs.Sides.Subjects.{same_peer}
-use Rattle.link_flights.specs.declared.component.Component.{Component}
-use Rattle.link_flights.specs.declared.flight.Flight.{Flight}
+use Rattle.link_flights.proofs.Common.{◌≡◌, ℕ, ◌+◌, ◌<◌, nat_le, Bool, true, false, not, ◌&&◌, ◌||◌, List, [], ◌∷◌}
+use Rattle.link_flights.proofs.Common.{◌++◌, length, take, get_or, refl, sym, ap, ap₂, ◌∙◌, arith, if◌then◌else◌}
+use Rattle.link_flights.proofs.Common.{list_all, list_any, Ordering, Rc, Global, le-leb, map-append, same_peer}
+use Rattle.link_flights.proofs.Common.{Component, Flight, keeps, is_of, those_of, is_sender, is_receiver, has_both}
+use Rattle.link_flights.proofs.Common.{touches, suits, is_closed, UnitFlight, flight_at, flights_at}
+use Rattle.std.proofs.lemmas.List.{take_more}
 use Rattle.link_pairs.specs.declared.message.Message.{Message}
-use Rattle.link_flights.specs.Flights.Components.{keeps, is_of, those_of, is_sender, is_receiver, has_both, touches}
-use Rattle.link_flights.specs.Flights.Components.{near_of, suits, is_closed}
-use Rattle.link_flights.specs.Flights.Flight.{UnitFlight, flight_at, flights_at}
+use Rattle.link_flights.specs.Flights.Components.{near_of}
 use Rattle.link_flights.proofs.Flights.InFlight.{filter_yes}
 
 module _ {P : Type 0} (cmp : P → P → Ordering) (now : ℕ) (list : List (Flight P)) (at : ℕ)

@@ -1,46 +1,25 @@
 -- Fair rates of a component, beside those that others keep.
-use Rattle.std.proofs.Common.{◌≡◌, ℕ, suc, ◌+◌, ◌*◌, ◌≤◌, Bool, true, false, cond, if◌then◌else◌, not}
-use Rattle.std.proofs.Common.{◌&&◌, ◌||◌, List, [], ◌∷◌, Option, Some, None, IfSome, All, map}
-use Rattle.std.proofs.Common.{length, sum_by, refl, ◌⊎◌}
-use Rattle.std.proofs.Common.{sym, ap, ap₂, ◌∙◌, subst, inl, inr, arith, zero-add}
-use Rattle.std.specs.Prelude.{slice_index, nat_le}
-use Rattle.std.specs.List.{AllZip, filter, list_all, list_any}
-use Rattle.std.specs.Cmp.{IsTotalOrder}
-use Rattle.std.specs.declared.cmp.Ordering.{Ordering}
-use Rattle.std.specs.declared.rc.Rc.{Rc}
-use Rattle.std.specs.declared.alloc.Global.{Global}
-use Rattle.std.proofs.lemmas.Bool.{false≢true, le-leb}
-use Rattle.std.proofs.lemmas.Cmp.{eq_by_cmp_equiv}
-use Rattle.std.proofs.lemmas.List.{length-map}
-use Rattle.std.proofs.lemmas.List.Elements.{All-contains}
-use Rattle.std.proofs.lemmas.List.Sums.{sum_by-cons}
-use Rattle.fair_rates.proofs.Lists.SumOrder.{All-from_contains}
-use Rattle.fair_rates.specs.declared.bandwidth.Flow.{Flow}
+use Rattle.link_flights.proofs.Common.{◌≡◌, ℕ, suc, ◌+◌, ◌*◌, ◌≤◌, Bool, true, false, cond, if◌then◌else◌, not, ◌&&◌}
+use Rattle.link_flights.proofs.Common.{◌||◌, List, [], ◌∷◌, Option, Some, None, IfSome, All, map, length, sum_by, refl}
+use Rattle.link_flights.proofs.Common.{◌⊎◌, sym, ap, ap₂, ◌∙◌, subst, inl, inr, arith, zero-add, slice_index, AllZip}
+use Rattle.link_flights.proofs.Common.{filter, list_all, list_any, IsTotalOrder, Ordering, Rc, Global, false≢true}
+use Rattle.link_flights.proofs.Common.{le-leb, eq_by_cmp_equiv, length-map, All-contains, sum_by-cons}
+use Rattle.link_flights.proofs.Common.{All-from_contains, Flow, Caps, Subject, sent_by, received_by, sent_between}
+use Rattle.link_flights.proofs.Common.{same_peer, Side, IsFair, AreOfPeers, cap_of, limits, sides_under, parts_of_level}
+use Rattle.link_flights.proofs.Common.{In, in_map, from_map, in_filter, contains_from_in, in_from_contains, all_pass}
+use Rattle.link_flights.proofs.Common.{AreShared, shared_from, Message, is_delivered, capped_sides, Component, messages}
+use Rattle.link_flights.proofs.Common.{message_of, UnitFlight, is_sender, is_receiver, keeps, is_of, those_of, has_both}
+use Rattle.link_flights.proofs.Common.{suits, is_closed, sent_messages, rates_of, rated_ones, rates_found, rerated}
+use Rattle.link_flights.proofs.Common.{rated_anew, AreFairlyRated, WereRated, IsRatedFrom, IsNoMore, IsLoose}
+use Rattle.link_flights.proofs.Common.{flow_in_flight, by_bool, first_of_both, second_of_both, same_peer_itself}
+use Rattle.std.specs.Prelude.{nat_le}
 use Rattle.fair_rates.specs.declared.bandwidth.parts.FairParts.{FairParts}
-use Rattle.fair_rates.specs.Sides.Caps.{Caps}
-use Rattle.fair_rates.specs.Sides.Subjects.{Subject, sent_by, received_by, sent_between, same_peer}
-use Rattle.fair_rates.specs.Fairness.Fair.{Side, load, IsFair, HasBottleneck}
-use Rattle.fair_rates.specs.Fairness.UnderCaps.{AreOfPeers, cap_of, limits, sides_under}
-use Rattle.fair_rates.specs.Filling.FairParts.{parts_of_level}
-use Rattle.fair_rates.proofs.Lists.Members.{In, in_map, from_map, in_filter, contains_from_in, in_from_contains, all_pass}
+use Rattle.fair_rates.specs.Fairness.Fair.{load, HasBottleneck}
 use Rattle.fair_rates.proofs.Fairness.SameSides.{still_fair}
-use Rattle.fair_rates.proofs.Fairness.Sharing.{StandsAt, AreShared, shared_from, fair_from}
-use Rattle.link_simulation.specs.Simulation.Messages.{Message, is_delivered}
-use Rattle.link_simulation.specs.Simulation.Rates.{capped_sides}
-use Rattle.link_flights.specs.declared.component.Component.{Component}
+use Rattle.fair_rates.proofs.Fairness.Sharing.{StandsAt, fair_from}
 use Rattle.link_pairs.specs.declared.message.Message as code
-use Rattle.link_pairs.specs.Pairs.Messages.{messages, message_of}
-use Rattle.link_flights.specs.Flights.Flight.{UnitFlight}
-use Rattle.link_flights.specs.Flights.Components.{is_sender, is_receiver, keeps, is_of, those_of, has_both, suits}
-use Rattle.link_flights.specs.Flights.Components.{is_closed}
-use Rattle.link_flights.specs.Flights.Rated.{sent_messages, rates_of, rated_ones, rates_found, rerated, rated_anew}
-use Rattle.link_flights.specs.Flights.Rated.{AreFairlyRated, WereRated, IsRatedFrom, IsNoMore}
-use Rattle.link_flights.specs.Flights.Rated.{IsLoose}
-use Rattle.link_flights.specs.Flights.Sides.{flow_in_flight}
 use Rattle.link_flights.proofs.Flights.FairMessages.{StandsForMessage, same_sides}
 use Rattle.link_flights.proofs.Flights.InFlight.{filter_yes, filter_no}
-use Rattle.fair_rates.proofs.Lists.Booleans.{by_bool, first_of_both, second_of_both}
-use Rattle.fair_rates.proofs.Sides.EqualSubjects.{same_peer_itself}
 
 -- ---- parts that are the same
 

@@ -1,20 +1,11 @@
 -- Which messages in flight are done.
-use Rattle.std.proofs.Common.{◌≡◌, ℕ, zero, suc, ◌-◌, ◌*◌, ◌<◌, ◌≤◌, nat_le, Bool, true, false, not, ◌||◌}
-use Rattle.std.proofs.Common.{if◌then◌else◌, List, [], ◌∷◌, length, get_or, refl, sym, ap, ap₂}
-use Rattle.std.proofs.Common.{◌∙◌, arith, inl, inr}
-use Rattle.std.specs.Bool.{◌==◌}
-use Rattle.std.specs.declared.cmp.Ordering.{Ordering}
-use Rattle.std.proofs.lemmas.Bool.{eq-eqb, eqb-true, false≢true, le-leb, leb-true}
-use Rattle.fair_rates.specs.Numbers.Amount.{billion}
-use Rattle.fair_rates.specs.Sides.Caps.{Caps}
-use Rattle.fair_rates.proofs.Lists.Booleans.{by_bool}
-use Rattle.fair_rates.proofs.Lists.Members.{In, in_map, in_filter, all_pass}
-use Rattle.link_simulation.specs.Simulation.Rates.{is_unlimited}
-use Rattle.link_simulation.specs.Simulation.World.{last_moment}
-use Rattle.link_flights.specs.declared.flight.Flight.{Flight}
-use Rattle.link_flights.specs.Flights.Flight.{UnitFlight, rate_of, left_by, flight_at, flights_at, has_come, IsTimed}
-use Rattle.link_flights.specs.Flights.Rated.{is_out, are_limited, rated_ones}
-use Rattle.link_pairs.specs.Pairs.Messages.{message_of}
+use Rattle.link_flights.proofs.Common.{◌≡◌, ℕ, zero, suc, ◌-◌, ◌*◌, ◌<◌, ◌≤◌, nat_le, Bool, true, false, not, ◌||◌}
+use Rattle.link_flights.proofs.Common.{if◌then◌else◌, List, [], ◌∷◌, length, get_or, refl, sym, ap, ap₂, ◌∙◌, arith}
+use Rattle.link_flights.proofs.Common.{inl, inr, ◌==◌, Ordering, eqb-true, false≢true, le-leb, leb-true, billion, Caps}
+use Rattle.link_flights.proofs.Common.{by_bool, In, in_map, in_filter, all_pass, is_unlimited, last_moment, Flight}
+use Rattle.link_flights.proofs.Common.{UnitFlight, rate_of, left_by, flight_at, flights_at, has_come, IsTimed, is_out}
+use Rattle.link_flights.proofs.Common.{are_limited, rated_ones, message_of}
+use Rattle.std.proofs.lemmas.Bool.{eq-eqb}
 use Rattle.link_flights.proofs.Flights.Units.{units_positive, no_units_left, nothing_left}
 
 -- two tests that pass in the same cases

@@ -1,27 +1,19 @@
 -- Rates that are fair for flows under the caps are the simulation's rates for the messages that these flows stand for.
-use Rattle.std.proofs.Common.{◌≡◌, ℕ, ◌+◌, Bool, true, false, cond, ◌&&◌, List, [], ◌∷◌, ◌++◌, Option, Some, None}
-use Rattle.std.proofs.Common.{Contains, refl, sym, ap, ap₂, ◌∙◌, subst, inl, inr, ◌⊎◌}
-use Rattle.std.specs.List.{AllZip}
-use Rattle.std.specs.Cmp.{IsTotalOrder}
-use Rattle.std.specs.declared.cmp.Ordering.{Ordering}
-use Rattle.std.proofs.lemmas.Bool.{and_from, and_parts}
-use Rattle.std.proofs.lemmas.Option.{same_Some}
-use Rattle.std.proofs.lemmas.Cmp.{eq_by_cmp_equiv}
-use Rattle.fair_rates.specs.declared.bandwidth.Flow.{Flow}
-use Rattle.fair_rates.specs.Fairness.Fair.{Side}
+use Rattle.link_flights.proofs.Common.{◌≡◌, ℕ, ◌+◌, Bool, true, false, cond, ◌&&◌, List, [], ◌∷◌, ◌++◌, Option, Some}
+use Rattle.link_flights.proofs.Common.{None, Contains, refl, sym, ap, ap₂, ◌∙◌, subst, inl, inr, ◌⊎◌, AllZip}
+use Rattle.link_flights.proofs.Common.{IsTotalOrder, Ordering, and_from, same_Some, eq_by_cmp_equiv, Flow, Side, cap_of}
+use Rattle.link_flights.proofs.Common.{AreOfPeers, limits, sides_under, Subject, sent_by, received_by, sent_between}
+use Rattle.link_flights.proofs.Common.{same_peer, Caps, Message, is_delivered, capped_sides, In, in_left, in_right}
+use Rattle.link_flights.proofs.Common.{in_either, in_from_contains, contains_from_in, same_peer_itself, places_from}
+use Rattle.std.proofs.lemmas.Bool.{and_parts}
 use Rattle.fair_rates.specs.Fairness.Laws.{AreTheSameSides}
-use Rattle.fair_rates.specs.Fairness.UnderCaps.{cap_of, AreOfPeers, limits, sides_under}
-use Rattle.fair_rates.specs.Sides.Subjects.{Subject, sent_by, received_by, sent_between, same_peer, same_subject}
-use Rattle.fair_rates.specs.Sides.Caps.{Caps}
-use Rattle.link_simulation.specs.Simulation.Messages.{Message, is_delivered}
-use Rattle.link_simulation.specs.Simulation.Rates.{sides_for, capped_sides, egress_side, ingress_side, link_side}
+use Rattle.fair_rates.specs.Sides.Subjects.{same_subject}
+use Rattle.link_simulation.specs.Simulation.Rates.{sides_for, egress_side, ingress_side, link_side}
 use Rattle.link_simulation.specs.Simulation.Rates.{capped_side}
 use Rattle.fair_rates.proofs.Sides.Subjects.{same_itself}
 use Rattle.fair_rates.proofs.Sides.CapSides.{capped_from_listed, listed_from_capped, side_of_subject}
-use Rattle.fair_rates.proofs.Lists.Members.{In, in_left, in_right, in_either, in_from_contains, contains_from_in}
 use Rattle.fair_rates.proofs.Lists.Members.{in_flat_map, from_flat_map}
-use Rattle.fair_rates.proofs.Sides.EqualSubjects.{same_peer_itself, one_cap, same_limits}
-use Rattle.fair_rates.specs.Lists.Places.{places_from}
+use Rattle.fair_rates.proofs.Sides.EqualSubjects.{one_cap, same_limits}
 use Rattle.fair_rates.proofs.Lists.Places.{places_alike}
 
 module _ {P : Type 0} (cmp : P → P → Ordering) where

@@ -1,18 +1,13 @@
 -- A message in flight that drains later: what is counted on, what is brought to another moment, and when it finishes.
-use Rattle.std.proofs.Common.{◌≡◌, ℕ, zero, suc, ◌+◌, ◌-◌, ◌*◌, ◌<◌, ◌≤◌, nat_le, Bool, true, false, not, ◌||◌}
-use Rattle.std.proofs.Common.{if◌then◌else◌, List, [], ◌∷◌, length, map, get_or, set, Some}
-use Rattle.std.proofs.Common.{slice_get}
-use Rattle.std.proofs.Common.{refl, sym, ap, ◌∙◌, subst, arith, inl, inr, ◌⊎◌}
-use Rattle.std.specs.List.{AllZip, remove, list_all}
-use Rattle.std.proofs.lemmas.Bool.{le-leb, leb-true, and_from}
-use Rattle.std.proofs.lemmas.List.{set-get_or, length-append}
+use Rattle.link_flights.proofs.Common.{◌≡◌, ℕ, zero, suc, ◌+◌, ◌-◌, ◌*◌, ◌<◌, ◌≤◌, nat_le, Bool, true, false, not, ◌||◌}
+use Rattle.link_flights.proofs.Common.{if◌then◌else◌, List, [], ◌∷◌, length, map, get_or, set, Some, slice_get, refl}
+use Rattle.link_flights.proofs.Common.{sym, ap, ◌∙◌, subst, arith, inl, inr, ◌⊎◌, AllZip, remove, list_all, le-leb}
+use Rattle.link_flights.proofs.Common.{leb-true, and_from, length-append, none-some, same_Some, first_of_both}
+use Rattle.link_flights.proofs.Common.{second_of_both, IsChangedUpTo, Flight, UnitFlight, rate_of, left_by, flight_at}
+use Rattle.link_flights.proofs.Common.{flights_at, IsTimed, AreTimed, DrainsTo}
+use Rattle.std.proofs.lemmas.List.{set-get_or}
 use Rattle.fair_rates.proofs.Lists.Zips.{zip-length}
-use Rattle.std.proofs.lemmas.Option.{none-some, same_Some}
-use Rattle.fair_rates.proofs.Lists.Booleans.{first_of_both, second_of_both}
-use Rattle.fair_rates.proofs.Lists.InPlace.{IsChangedUpTo, one_more}
-use Rattle.link_flights.specs.declared.flight.Flight.{Flight}
-use Rattle.link_flights.specs.Flights.Flight.{UnitFlight, rate_of, left_by, flight_at, flights_at, IsTimed}
-use Rattle.link_flights.specs.Flights.Flight.{AreTimed, DrainsTo}
+use Rattle.fair_rates.proofs.Lists.InPlace.{one_more}
 
 -- ---- lists that change at a place
 

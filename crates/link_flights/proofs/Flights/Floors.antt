@@ -1,13 +1,9 @@
 -- The least rate of those that leave, one after another.
-use Rattle.std.proofs.Common.{◌≡◌, ℕ, zero, suc, ◌+◌, ◌-◌, ◌<◌, ◌≤◌, Bool, true, false, List, [], ◌∷◌, length, get_or}
-use Rattle.std.proofs.Common.{drop, Option, sym, ap, ◌∙◌, subst, arith, add-one, ◌⊎◌, inl, inr}
-use Rattle.std.specs.List.{remove}
-use Rattle.std.proofs.lemmas.Bool.{false≢true}
-use Rattle.fair_rates.proofs.Lists.Members.{In, in_from_contains, from_map}
-use Rattle.link_flights.specs.declared.flight.Flight.{Flight}
-use Rattle.link_flights.specs.Flights.Flight.{UnitFlight, flight_at, flights_at}
-use Rattle.link_flights.specs.Flights.InFlight.{PassesNowhere}
-use Rattle.link_flights.specs.Flights.Rated.{IsFloorOf, IsNoMore}
+use Rattle.link_flights.proofs.Common.{◌≡◌, ℕ, zero, suc, ◌+◌, ◌-◌, ◌<◌, ◌≤◌, Bool, true, false, List, [], ◌∷◌, length}
+use Rattle.link_flights.proofs.Common.{get_or, drop, Option, sym, ap, ◌∙◌, subst, arith, add-one, ◌⊎◌, inl, inr, remove}
+use Rattle.link_flights.proofs.Common.{false≢true, In, in_from_contains, from_map, Flight, UnitFlight, flight_at}
+use Rattle.link_flights.proofs.Common.{flights_at, PassesNowhere, IsNoMore}
+use Rattle.link_flights.specs.Flights.Rated.{IsFloorOf}
 use Rattle.link_flights.proofs.Flights.InFlight.{goes_on}
 
 module _ {X : Type 0} where

@@ -1,12 +1,8 @@
 -- The messages in flight: what is read of them, and those that leave.
-use Rattle.std.proofs.Common.{◌≡◌, ℕ, zero, suc, ◌+◌, ◌-◌, ◌<◌, ◌≤◌, Bool, true, false, not, cond}
-use Rattle.std.proofs.Common.{◌||◌, List, [], ◌∷◌, ◌++◌, length, map, get_or, refl, sym, ◌∙◌, ap, subst, arith}
+use Rattle.link_flights.proofs.Common.{◌≡◌, ℕ, zero, suc, ◌+◌, ◌-◌, ◌<◌, ◌≤◌, Bool, true, false, not, cond, ◌||◌, List}
+use Rattle.link_flights.proofs.Common.{[], ◌∷◌, ◌++◌, length, map, get_or, refl, sym, ◌∙◌, ap, subst, arith, remove}
+use Rattle.link_flights.proofs.Common.{filter, ◌==◌, Message, length-append, append-nil, PassesNowhere}
 use Rattle.std.proofs.Common.{append_assoc}
-use Rattle.std.specs.List.{remove, filter}
-use Rattle.std.specs.Bool.{◌==◌}
-use Rattle.link_simulation.specs.Simulation.Messages.{Message}
-use Rattle.std.proofs.lemmas.List.{length-append, append-nil}
-use Rattle.link_flights.specs.Flights.InFlight.{PassesNowhere}
 use Rattle.fair_rates.proofs.Lists.Sorted.{get_or-seam}
 
 -- ---- a list of what is read

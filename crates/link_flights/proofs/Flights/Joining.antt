@@ -1,29 +1,18 @@
 -- What stands in flight at the moment of an account, and what joins it.
-use Rattle.std.proofs.Common.{◌≡◌, ℕ, suc, ◌-◌, ◌*◌, ◌<◌, Bool, true, false, not, cond, List, [], ◌∷◌, ◌++◌, Some, All}
-use Rattle.std.proofs.Common.{sym, ap, ◌∙◌, subst, arith, inl, inr}
+use Rattle.link_flights.proofs.Common.{◌≡◌, ℕ, suc, ◌-◌, ◌*◌, ◌<◌, Bool, true, false, not, cond, List, [], ◌∷◌, ◌++◌}
+use Rattle.link_flights.proofs.Common.{Some, All, sym, ap, ◌∙◌, subst, arith, inl, inr, ◌==◌, AllZip, filter, Ordering}
+use Rattle.link_flights.proofs.Common.{false≢true, get_or-map, length-map, append-nil, Caps, whole, In, from_filter}
+use Rattle.link_flights.proofs.Common.{in_from_contains, in_either, in_map, all_passed, contains_from_in}
+use Rattle.link_flights.proofs.Common.{All-from_contains, Message, is_unlimited, RatedFlight, drained_to, is_spent}
+use Rattle.link_flights.proofs.Common.{message_of, Flights, UnitFlight, DrainsTo, in_units, loose_in, rated_flight_of}
+use Rattle.link_flights.proofs.Common.{sending_of, is_out, are_limited, rated_ones, sent_messages, AreFairlyRated}
+use Rattle.link_flights.proofs.Common.{IsNoMore, IsLoose}
 use Rattle.std.specs.Prelude.{length, map, ◌||◌}
-use Rattle.std.specs.Bool.{◌==◌}
-use Rattle.std.specs.List.{AllZip, filter}
-use Rattle.std.specs.declared.cmp.Ordering.{Ordering}
-use Rattle.std.proofs.lemmas.Bool.{false≢true}
 use Rattle.std.proofs.lemmas.List.Elements.{filter-append}
-use Rattle.std.proofs.lemmas.List.{get_or-map, length-map, append-nil}
 use Rattle.std.proofs.Math.Nat.{mul-zero}
-use Rattle.fair_rates.specs.Sides.Caps.{Caps}
-use Rattle.fair_rates.specs.Numbers.Amount.{whole}
-use Rattle.fair_rates.proofs.Lists.Members.{In, from_filter, in_from_contains, in_either, in_map, all_passed, contains_from_in}
-use Rattle.fair_rates.proofs.Lists.SumOrder.{All-from_contains}
-use Rattle.link_simulation.specs.Simulation.Messages.{Message}
-use Rattle.link_simulation.specs.Simulation.Rates.{is_unlimited}
-use Rattle.link_simulation.specs.Rule.Planned.{RatedFlight, drained_to, is_spent}
 use Rattle.link_pairs.specs.declared.message.Message as code
-use Rattle.link_pairs.specs.Pairs.Messages.{message_of}
-use Rattle.link_flights.specs.declared.flight_list.Flights.{Flights}
-use Rattle.link_flights.specs.Flights.Flight.{UnitFlight, DrainsTo}
-use Rattle.link_flights.specs.Flights.InFlight.{in_units, loose_in, Joins}
-use Rattle.link_flights.specs.Flights.RatedFlights.{rated_flight_of, sending_of}
-use Rattle.link_flights.specs.Flights.Rated.{is_out, are_limited, rated_ones, sent_messages, AreFairlyRated}
-use Rattle.link_flights.specs.Flights.Rated.{ArePartedBy, HadFairRates, IsNoMore, IsLoose}
+use Rattle.link_flights.specs.Flights.InFlight.{Joins}
+use Rattle.link_flights.specs.Flights.Rated.{ArePartedBy, HadFairRates}
 use Rattle.link_flights.proofs.Flights.Rated.{drained_sending}
 
 module _ {X : Type 0} (test : X → Bool) (xs : List X) (x : X) where

@@ -1,38 +1,25 @@
 -- What is in flight, counted in larger units: it is worth the same, fair as before, and finishes when it did.
-use Prim.Native.Nat.{◌∣◌}
-use Rattle.std.proofs.Common.{◌≡◌, ℕ, zero, suc, ◌-◌, ◌*◌, ◌/◌, ◌%◌, ◌<◌, ◌≤◌, nat_le, Bool, true, false, cond}
-use Rattle.std.proofs.Common.{if◌then◌else◌, List, [], ◌∷◌, Some, slice_get, refl, sym, ap, ◌∙◌, subst, arith}
-use Rattle.std.proofs.Common.{inl, inr, ◌+◌, length, get_or, map, Option, Contains}
-use Rattle.std.specs.Prelude.{slice_index}
-use Rattle.std.specs.Int.{IsGcd}
-use Rattle.std.specs.List.{AllZip}
-use Rattle.std.specs.declared.cmp.Ordering.{Ordering}
-use Rattle.std.proofs.Math.Nat.{mul-sub, mul_assoc, mul_comm, mul-div_cancel', le_of_mul-le-mul_left, mul-le-mul_left}
+use Rattle.link_flights.proofs.Common.{◌∣◌, ◌≡◌, ℕ, zero, suc, ◌-◌, ◌*◌, ◌/◌, ◌<◌, ◌≤◌, nat_le, Bool, true, false, cond}
+use Rattle.link_flights.proofs.Common.{if◌then◌else◌, List, [], ◌∷◌, Some, slice_get, refl, sym, ap, ◌∙◌, subst, arith}
+use Rattle.link_flights.proofs.Common.{inl, inr, ◌+◌, length, get_or, map, Option, Contains, slice_index, IsGcd, AllZip}
+use Rattle.link_flights.proofs.Common.{Ordering, mul_assoc, same_Some, slice_get_read, slice_get_within, le-leb}
+use Rattle.link_flights.proofs.Common.{cases_lt, All-contains, Side, IsFair, reduced, billion, reduced_alike}
+use Rattle.link_flights.proofs.Common.{reduced_scaled, Caps, All-from_contains, message_of, is_delivered, limits, In}
+use Rattle.link_flights.proofs.Common.{in_from_contains, contains_from_in, capped_sides, Flight, UnitFlight, rate_of}
+use Rattle.link_flights.proofs.Common.{left_by, flight_at, flights_at, IsTimed, AreTimed, has_come, IsCountedBy}
+use Rattle.link_flights.proofs.Common.{sent_messages, rates_of, rated_ones, AreFairlyRated, are_limited}
+use Rattle.link_flights.proofs.Common.{DifferWhereLoose, rated_flight_of, sending_of}
+use Rattle.std.proofs.Common.{◌%◌}
+use Rattle.std.proofs.Math.Nat.{mul-sub, mul_comm, mul-div_cancel', le_of_mul-le-mul_left, mul-le-mul_left}
 use Rattle.std.proofs.Math.Nat.{mul-lt-mul_of_pos_left}
 use Rattle.std.proofs.lemmas.Nat.Gcd.{IsGcd-from_mod, dvd_trans}
-use Rattle.std.proofs.lemmas.Option.{same_Some, slice_get_read, slice_get_within}
-use Rattle.std.proofs.lemmas.Bool.{le-leb, lt-leb, cases_lt}
-use Rattle.std.proofs.lemmas.List.Elements.{All-contains}
-use Rattle.fair_rates.specs.Fairness.Fair.{Side, load, IsFair}
-use Rattle.fair_rates.specs.Numbers.Amount.{reduced, billion}
-use Rattle.fair_rates.specs.Numbers.LowestTerms.{reduced_alike, reduced_scaled}
-use Rattle.fair_rates.specs.Sides.Caps.{Caps}
+use Rattle.std.proofs.lemmas.Bool.{lt-leb}
+use Rattle.fair_rates.specs.Fairness.Fair.{load}
 use Rattle.fair_rates.proofs.Lists.Sums.{sum_by_same}
-use Rattle.fair_rates.proofs.Lists.SumOrder.{sum_by-scaled, All-from_contains}
-use Rattle.link_pairs.specs.Pairs.Messages.{message_of}
+use Rattle.fair_rates.proofs.Lists.SumOrder.{sum_by-scaled}
 use Rattle.link_pairs.specs.declared.message.Message as code
-use Rattle.link_simulation.specs.Simulation.Messages.{is_delivered}
-use Rattle.fair_rates.specs.Fairness.UnderCaps.{limits}
-use Rattle.fair_rates.proofs.Lists.Members.{In, in_from_contains, contains_from_in}
-use Rattle.link_simulation.specs.Simulation.Rates.{capped_sides}
-use Rattle.link_flights.specs.declared.flight.Flight.{Flight}
-use Rattle.link_flights.specs.Flights.Flight.{UnitFlight, rate_of, left_by, flight_at, flights_at, IsTimed, AreTimed}
-use Rattle.link_flights.specs.Flights.Flight.{has_come}
-use Rattle.link_flights.specs.Flights.LargerUnits.{IsFactorOf, IsFactorOfAll, IsCountedBy, AreCountedBy}
+use Rattle.link_flights.specs.Flights.LargerUnits.{IsFactorOf, IsFactorOfAll, AreCountedBy}
 use Rattle.link_flights.specs.Flights.LargerUnits.{IsCommonFactor}
-use Rattle.link_flights.specs.Flights.Rated.{sent_messages, rates_of, rated_ones, AreFairlyRated, are_limited}
-use Rattle.link_flights.specs.Flights.Rated.{DifferWhereLoose}
-use Rattle.link_flights.specs.Flights.RatedFlights.{rated_flight_of, sending_of}
 use Rattle.link_flights.proofs.Flights.Flight.{zip_there}
 use Rattle.link_flights.proofs.Flights.Units.{units_positive}
 

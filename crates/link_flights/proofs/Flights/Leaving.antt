@@ -1,17 +1,9 @@
 -- Messages in flight leave one after another.
-use Rattle.std.proofs.Common.{◌≡◌, ℕ, zero, suc, Bool, true, false, cond, not, List, [], ◌∷◌, map}
-use Rattle.std.proofs.Common.{Some, slice_get, refl, sym, ap, ◌∙◌}
-use Rattle.std.specs.List.{filter, remove}
-use Rattle.std.specs.declared.cmp.Ordering.{Ordering}
-use Rattle.std.proofs.lemmas.Bool.{and_from}
-use Rattle.std.proofs.lemmas.Option.{none-some}
-use Rattle.fair_rates.specs.Sides.Caps.{Caps}
-use Rattle.fair_rates.proofs.Lists.Booleans.{first_of_both, second_of_both}
-use Rattle.link_flights.specs.declared.flight.Flight.{Flight}
-use Rattle.link_flights.specs.Flights.Flight.{UnitFlight, flight_at, flights_at, AreTimed}
-use Rattle.link_flights.specs.Flights.Rated.{are_limited, rated_ones, is_out, sent_messages, ArePartedBy}
-use Rattle.link_simulation.specs.Simulation.Messages.{Message}
-use Rattle.link_pairs.specs.Pairs.Messages.{message_of}
+use Rattle.link_flights.proofs.Common.{◌≡◌, ℕ, zero, suc, Bool, true, false, cond, not, List, [], ◌∷◌, map, Some}
+use Rattle.link_flights.proofs.Common.{slice_get, refl, sym, ap, ◌∙◌, filter, remove, Ordering, and_from, none-some}
+use Rattle.link_flights.proofs.Common.{Caps, first_of_both, second_of_both, Flight, UnitFlight, flight_at, flights_at}
+use Rattle.link_flights.proofs.Common.{AreTimed, are_limited, rated_ones, is_out, sent_messages, Message, message_of}
+use Rattle.link_flights.specs.Flights.Rated.{ArePartedBy}
 use Rattle.link_flights.proofs.Flights.InFlight.{read_filter}
 
 read_without : {X Y : Type 0} (f : X → Y) (xs : List X) (at : ℕ) → map f (remove xs at) ≡ remove (map f xs) at

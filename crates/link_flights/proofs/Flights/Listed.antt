@@ -1,10 +1,7 @@
 -- Places that are listed in order are those at which a test passes.
-use Rattle.std.proofs.Common.{◌≡◌, ℕ, zero, suc, ◌+◌, ◌<◌, ◌≤◌, Bool, true, false, List, [], ◌∷◌, ◌++◌, length}
-use Rattle.std.proofs.Common.{Some, get_or, slice_get, All, refl, sym, ap, ◌∙◌, subst, arith, inl, inr}
-use Rattle.std.proofs.lemmas.Bool.{false≢true}
-use Rattle.std.proofs.lemmas.Option.{none-some, same_Some}
-use Rattle.fair_rates.proofs.Lists.Members.{In}
-use Rattle.link_flights.specs.Flights.Components.{places_of, Ascends}
+use Rattle.link_flights.proofs.Common.{◌≡◌, ℕ, zero, suc, ◌+◌, ◌<◌, ◌≤◌, Bool, true, false, List, [], ◌∷◌, ◌++◌, length}
+use Rattle.link_flights.proofs.Common.{Some, get_or, slice_get, All, refl, sym, ap, ◌∙◌, subst, arith, inl, inr}
+use Rattle.link_flights.proofs.Common.{false≢true, none-some, same_Some, In, places_of, Ascends}
 use Rattle.link_flights.proofs.Flights.Places.{places_yes, places_no}
 
 no_less : (first : ℕ) (ps : List ℕ) → Ascends first ps → (p : ℕ) → In ps p → first ≤ p

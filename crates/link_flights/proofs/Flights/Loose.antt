@@ -1,30 +1,17 @@
 -- What is loose, step by step.
-use Rattle.std.proofs.Common.{◌≡◌, ℕ, ◌+◌, ◌<◌, true, List, [], ◌∷◌, Option, Some, None, length}
-use Rattle.std.proofs.Common.{get_or, ◌++◌, Contains, refl, sym, ap, ◌∙◌, subst, arith, inl, inr, map}
+use Rattle.link_flights.proofs.Common.{◌≡◌, ℕ, ◌+◌, ◌<◌, true, List, [], ◌∷◌, Option, Some, None, length, get_or, ◌++◌}
+use Rattle.link_flights.proofs.Common.{Contains, refl, sym, ap, ◌∙◌, subst, arith, inl, inr, map, IsTotalOrder}
+use Rattle.link_flights.proofs.Common.{Ordering, false≢true, cases_lt, eq_by_cmp_equiv, In, in_from_contains}
+use Rattle.link_flights.proofs.Common.{contains_from_in, in_left, in_right, get_in, get_from_map, map-append, Message}
+use Rattle.link_flights.proofs.Common.{message_of, Flight, Flights, End, Origin, Recipient, UnitFlight, flight_at}
+use Rattle.link_flights.proofs.Common.{flights_at, in_units, loose_in, IsNextPlace, PassesFirstAt, IsLoose, share}
+use Rattle.link_flights.proofs.Common.{number_of, slice_get_within, get_or_from_slice_get}
 use Rattle.std.specs.Prelude.{slice_get}
-use Rattle.std.specs.Cmp.{IsTotalOrder}
-use Rattle.std.specs.declared.cmp.Ordering.{Ordering}
-use Rattle.std.proofs.lemmas.Bool.{false≢true, cases_lt}
-use Rattle.std.proofs.lemmas.Cmp.{eq_by_cmp_equiv}
-use Rattle.fair_rates.proofs.Lists.Members.{In, in_from_contains, contains_from_in, in_left, in_right, get_in, get_from_map}
-use Rattle.std.proofs.lemmas.List.{map-append}
-use Rattle.link_simulation.specs.Simulation.Messages.{Message}
 use Rattle.link_pairs.specs.declared.message.Message as code
-use Rattle.link_pairs.specs.Pairs.Messages.{message_of}
-use Rattle.link_flights.specs.declared.flight.Flight.{Flight}
-use Rattle.link_flights.specs.declared.flight_list.Flights.{Flights}
-use Rattle.link_flights.specs.declared.table.End.{End}
-use Rattle.link_flights.specs.declared.table.End.TheVariants.{Origin, Recipient}
-use Rattle.link_flights.specs.Flights.Flight.{UnitFlight, flight_at, flights_at}
-use Rattle.link_flights.specs.Flights.InFlight.{in_units, loose_in, IsNextPlace, PassesFirstAt}
-use Rattle.link_flights.specs.Flights.Rated.{IsLoose}
 use Rattle.link_flights.specs.Flights.Loose.{is_at_end, AreStillLoose, IsLooseAt, LoosensAt}
-use Rattle.link_flights.specs.Flights.Table.{share}
 use Rattle.link_flights.proofs.Flights.Places.{one_there}
 use Rattle.link_flights.proofs.Flights.Rows.{end_of}
-use Rattle.peer_numbers.specs.Peers.{number_of}
 use Rattle.link_flights.proofs.Flights.Search.{each_more, behind}
-use Rattle.std.proofs.lemmas.Option.{slice_get_within, get_or_from_slice_get}
 
 -- a message that has the peer at both ends
 abbrev pub letter : {P : Type 0} → P → code.Message P

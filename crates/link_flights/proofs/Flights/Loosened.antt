@@ -1,21 +1,11 @@
 -- Caps change, once what they are about is loose.
-use Rattle.std.proofs.Common.{◌≡◌, Bool, true, false, not, Contains, sym, ap, ◌∙◌, ◌⊎◌, inl, inr, subst}
-use Rattle.std.specs.List.{list_all}
-use Rattle.std.specs.declared.cmp.Ordering.{Ordering}
-use Rattle.fair_rates.specs.Fairness.UnderCaps.{cap_of, limits}
-use Rattle.fair_rates.specs.Sides.Caps.{Caps}
-use Rattle.fair_rates.specs.Sides.Subjects.{Subject}
-use Rattle.fair_rates.proofs.Lists.Booleans.{by_bool}
-use Rattle.fair_rates.proofs.Lists.Members.{In, all_pass, all_passed, from_filter, from_map, in_from_contains, contains_from_in}
-use Rattle.link_simulation.specs.Simulation.Messages.{Message}
-use Rattle.link_simulation.specs.Simulation.Rates.{is_unlimited}
+use Rattle.link_flights.proofs.Common.{◌≡◌, Bool, true, false, not, Contains, sym, ap, ◌∙◌, ◌⊎◌, inl, inr, subst}
+use Rattle.link_flights.proofs.Common.{list_all, Ordering, cap_of, limits, Caps, Subject, by_bool, In, all_pass}
+use Rattle.link_flights.proofs.Common.{all_passed, from_filter, from_map, in_from_contains, contains_from_in, Message}
+use Rattle.link_flights.proofs.Common.{is_unlimited, message_of, Flights, UnitFlight, flights_at, in_units, loose_in}
+use Rattle.link_flights.proofs.Common.{WereRatedUnder, IsLoose, DifferWhereLoose, are_limited, rated_ones}
+use Rattle.link_flights.proofs.Common.{flow_in_flight}
 use Rattle.link_pairs.specs.declared.message.Message as code
-use Rattle.link_pairs.specs.Pairs.Messages.{message_of}
-use Rattle.link_flights.specs.declared.flight_list.Flights.{Flights}
-use Rattle.link_flights.specs.Flights.Flight.{UnitFlight, flights_at}
-use Rattle.link_flights.specs.Flights.InFlight.{in_units, loose_in}
-use Rattle.link_flights.specs.Flights.Rated.{WereRatedUnder, IsLoose, DifferWhereLoose, are_limited, rated_ones}
-use Rattle.link_flights.specs.Flights.Sides.{flow_in_flight}
 use Rattle.link_flights.specs.Flights.Loose.{AreStillLoose}
 
 module _ {P : Type 0} {a : _} {b : _} {c : _} (cmp : P → P → Ordering) (test : Message P → Bool) (old new : Flights P a b c)

@@ -1,13 +1,14 @@
 -- Places that are noted as listed.
-use Rattle.std.proofs.Common.{◌≡◌, ℕ, ◌+◌, ◌<◌, Bool, true, false, List, [], ◌∷◌, ◌++◌, length, ◌⊎◌, inl, inr}
-use Rattle.std.proofs.Common.{Some, slice_get, slice_set, All, Contains, sym, ap, ◌∙◌, subst, arith, get_or}
-use Rattle.std.proofs.lemmas.Bool.{cases_lt, false≢true, false_from_ne_true}
-use Rattle.std.proofs.lemmas.Option.{same_Some, slice_get_within, get_or_from_slice_get, slice_get-get_or}
-use Rattle.std.proofs.lemmas.List.Elements.{All-append, All-cons, All-nil, All-weaker, All-contains, Contains-append_left}
+use Rattle.link_flights.proofs.Common.{◌≡◌, ℕ, ◌+◌, ◌<◌, Bool, true, false, List, [], ◌∷◌, ◌++◌, length, ◌⊎◌, inl, inr}
+use Rattle.link_flights.proofs.Common.{Some, slice_get, slice_set, All, Contains, sym, ap, ◌∙◌, subst, arith, get_or}
+use Rattle.link_flights.proofs.Common.{cases_lt, false≢true, same_Some, slice_get_within, get_or_from_slice_get}
+use Rattle.link_flights.proofs.Common.{slice_get-get_or, All-append, All-weaker, All-contains, In, Ascends, AreNoted}
+use Rattle.link_flights.proofs.Common.{get_set_other}
+use Rattle.std.proofs.lemmas.Bool.{false_from_ne_true}
+use Rattle.std.proofs.lemmas.List.Elements.{All-cons, All-nil, Contains-append_left}
 use Rattle.std.proofs.lemmas.List.Elements.{Contains-get_or}
-use Rattle.fair_rates.proofs.Lists.Members.{In}
-use Rattle.link_flights.specs.Flights.Components.{Ascends, AreNoted, AreStillListed}
-use Rattle.link_pairs.proofs.Pairs.ByNumber.{get_set_here, get_set_other}
+use Rattle.link_flights.specs.Flights.Components.{AreStillListed}
+use Rattle.link_pairs.proofs.Pairs.ByNumber.{get_set_here}
 use Rattle.link_flights.proofs.Flights.Listed.{ascends_at_end}
 use Rattle.link_flights.proofs.Flights.Search.{one_is_listed}
 

@@ -1,17 +1,12 @@
 -- Places in order, with the number of each noted at it.
-use Rattle.std.proofs.Common.{◌≡◌, ℕ, ◌+◌, ◌<◌, inl, inr, true, false, List, Some, All, Contains, get_or, slice_get, slice_set, length}
-use Rattle.std.proofs.Common.{sym, ap, ◌∙◌, subst, arith}
-use Rattle.std.specs.List.{list_all, AllPairs}
-use Rattle.std.specs.declared.cmp.Ordering.{Ordering}
-use Rattle.std.proofs.lemmas.Bool.{cases_lt}
-use Rattle.std.proofs.lemmas.Option.{get_or_from_slice_get}
-use Rattle.fair_rates.proofs.Lists.Booleans.{by_bool}
-use Rattle.fair_rates.proofs.Lists.Members.{in_from_contains, get_in}
-use Rattle.link_pairs.proofs.Pairs.ByNumber.{get_set_here, get_set_other}
-use Rattle.link_flights.specs.declared.component.Component.{Component}
-use Rattle.link_flights.specs.declared.flight.Flight.{Flight}
-use Rattle.link_flights.specs.Flights.Components.{is_of, keeps, places_of, suits, touches, AreNumbered}
-use Rattle.link_flights.specs.Flights.Flight.{flight_at, flights_at}
+use Rattle.link_flights.proofs.Common.{◌≡◌, ℕ, ◌+◌, ◌<◌, inl, inr, true, false, List, Some, All, Contains, get_or}
+use Rattle.link_flights.proofs.Common.{slice_get, slice_set, length, sym, ap, ◌∙◌, subst, arith, list_all, Ordering}
+use Rattle.link_flights.proofs.Common.{cases_lt, get_or_from_slice_get, by_bool, in_from_contains, get_in}
+use Rattle.link_flights.proofs.Common.{get_set_other, Component, Flight, is_of, keeps, places_of, suits, touches}
+use Rattle.link_flights.proofs.Common.{flight_at, flights_at}
+use Rattle.std.specs.List.{AllPairs}
+use Rattle.link_pairs.proofs.Pairs.ByNumber.{get_set_here}
+use Rattle.link_flights.specs.Flights.Components.{AreNumbered}
 use Rattle.link_flights.proofs.Flights.Sides.{kept_if_out, place_listed, places_ascend, places_within, suited_at}
 
 -- one more of them is noted

@@ -1,24 +1,15 @@
 -- Where only one is rated anew, the least of what the others leave of its caps is its fair rate; and where none is, all
 -- go on.
-use Rattle.std.proofs.Common.{◌≡◌, ℕ, ◌*◌, ◌<◌, ◌≤◌, List, [], ◌∷◌, Option, Some, None, length, slice_get, get_or, refl, sym, ap, ◌∙◌, subst}
-use Rattle.std.proofs.Common.{arith}
-use Rattle.std.specs.Prelude.{option_map, slice_index, unwrap_or}
-use Rattle.std.specs.declared.cmp.Ordering.{Ordering}
-use Rattle.std.proofs.lemmas.List.{length-map, nil_from_length}
-use Rattle.std.proofs.lemmas.Option.{none-some, same_Some}
-use Rattle.fair_rates.specs.Fairness.Fair.{IsFair}
-use Rattle.fair_rates.specs.Fairness.UnderCaps.{sides_under}
+use Rattle.link_flights.proofs.Common.{◌≡◌, ℕ, ◌*◌, ◌<◌, ◌≤◌, List, [], ◌∷◌, Option, Some, None, length, slice_get}
+use Rattle.link_flights.proofs.Common.{get_or, refl, sym, ap, ◌∙◌, subst, arith, slice_index, unwrap_or, Ordering}
+use Rattle.link_flights.proofs.Common.{length-map, nil_from_length, none-some, same_Some, IsFair, sides_under, Caps}
+use Rattle.link_flights.proofs.Common.{Flow, Component, Flight, is_of, those_of, places_of, UnitFlight, flight_at}
+use Rattle.link_flights.proofs.Common.{flights_at, rerated, left_caps, flows_of, flow_sent, flow_in_flight}
+use Rattle.std.specs.Prelude.{option_map}
 use Rattle.fair_rates.specs.Sides.Alone.{least_cap_of}
-use Rattle.fair_rates.specs.Sides.Caps.{Caps}
-use Rattle.fair_rates.specs.declared.bandwidth.Flow.{Flow}
 use Rattle.fair_rates.specs.declared.bandwidth.FlowCaps.{FlowCaps}
 use Rattle.fair_rates.proofs.Filling.Alone.{parts_alone_fair}
-use Rattle.link_flights.specs.declared.component.Component.{Component}
-use Rattle.link_flights.specs.declared.flight.Flight.{Flight}
-use Rattle.link_flights.specs.Flights.Components.{is_of, those_of, places_of}
-use Rattle.link_flights.specs.Flights.Flight.{UnitFlight, flight_at, flights_at}
-use Rattle.link_flights.specs.Flights.Rated.{AreFairRatesBeside, rerated}
-use Rattle.link_flights.specs.Flights.Sides.{left_caps, flows_of, flow_sent, flow_in_flight}
+use Rattle.link_flights.specs.Flights.Rated.{AreFairRatesBeside}
 use Rattle.link_flights.proofs.Flights.Sides.{flow_at, as_many}
 
 -- the only one of a list

@@ -1,10 +1,7 @@
 -- The places of those of a list that pass a test.
-use Rattle.std.proofs.Common.{◌≡◌, ℕ, zero, suc, ◌+◌, ◌<◌, ◌≤◌, Bool, true, false, ◌||◌, List, [], ◌∷◌, length}
-use Rattle.std.proofs.Common.{Some, get_or, slice_get, drop, refl, sym, ap, ◌∙◌, arith}
-use Rattle.std.specs.List.{filter, list_all}
-use Rattle.std.proofs.lemmas.Bool.{and_from}
-use Rattle.std.proofs.lemmas.Option.{none-some}
-use Rattle.link_flights.specs.Flights.Components.{places_of}
+use Rattle.link_flights.proofs.Common.{◌≡◌, ℕ, zero, suc, ◌+◌, ◌<◌, ◌≤◌, Bool, true, false, ◌||◌, List, [], ◌∷◌, length}
+use Rattle.link_flights.proofs.Common.{Some, get_or, slice_get, drop, refl, sym, ap, ◌∙◌, arith, filter, list_all}
+use Rattle.link_flights.proofs.Common.{and_from, none-some, places_of}
 use Rattle.link_flights.proofs.Flights.InFlight.{filter_yes, filter_no}
 
 module _ {X : Type 0} (test : X → Bool) where

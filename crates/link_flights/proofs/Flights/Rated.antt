@@ -1,22 +1,15 @@
 -- Messages in flight that have got fair rates: what keeps them so, and how they are read.
-use Rattle.std.proofs.Common.{◌≡◌, ℕ, ◌-◌, ◌<◌, Bool, true, false, cond, not, List, [], ◌∷◌}
-use Rattle.std.proofs.Common.{Option, Contains, refl, sym, ap, ◌∙◌, subst, inl, inr}
-use Rattle.std.specs.List.{AllZip, filter}
-use Rattle.std.specs.declared.cmp.Ordering.{Ordering}
+use Rattle.link_flights.proofs.Common.{◌≡◌, ℕ, ◌-◌, ◌<◌, Bool, true, false, cond, not, List, [], ◌∷◌, Option, Contains}
+use Rattle.link_flights.proofs.Common.{refl, sym, ap, ◌∙◌, subst, inl, inr, AllZip, filter, Ordering, Caps, AreOfPeers}
+use Rattle.link_flights.proofs.Common.{limits, In, in_from_contains, contains_from_in, Message, is_delivered}
+use Rattle.link_flights.proofs.Common.{rated_messages, drained_to, is_spent, Flights, UnitFlight, DrainsTo, AreTimed}
+use Rattle.link_flights.proofs.Common.{in_units, sent_messages, rates_of, rated_ones, is_out, are_limited}
+use Rattle.link_flights.proofs.Common.{AreFairlyRated, WereRatedUnder, IsNoMore, IsLoose, DifferWhereLoose}
+use Rattle.link_flights.proofs.Common.{rated_flight_of, sending_of, message_of}
 use Rattle.std.proofs.Math.Logic.{∥∥₁_elim}
 use Rattle.std.proofs.Props.{props}
-use Rattle.fair_rates.specs.Sides.Caps.{Caps}
-use Rattle.fair_rates.specs.Fairness.UnderCaps.{AreOfPeers, limits}
-use Rattle.fair_rates.proofs.Lists.Members.{In, in_from_contains, contains_from_in}
-use Rattle.link_simulation.specs.Simulation.Messages.{Message, is_delivered}
-use Rattle.link_simulation.specs.Rule.Planned.{rated_messages, left_at, drained_to, is_spent}
-use Rattle.link_flights.specs.declared.flight_list.Flights.{Flights}
-use Rattle.link_flights.specs.Flights.Flight.{UnitFlight, DrainsTo, AreTimed}
-use Rattle.link_flights.specs.Flights.InFlight.{in_units}
-use Rattle.link_flights.specs.Flights.Rated.{sent_messages, rates_of, rated_ones, is_out, are_limited, AreFairlyRated}
-use Rattle.link_flights.specs.Flights.Rated.{AreRated, WereRatedUnder, IsAsRated, IsNoMore, IsLoose, DifferWhereLoose}
-use Rattle.link_flights.specs.Flights.RatedFlights.{rated_flight_of, sending_of}
-use Rattle.link_pairs.specs.Pairs.Messages.{message_of}
+use Rattle.link_simulation.specs.Rule.Planned.{left_at}
+use Rattle.link_flights.specs.Flights.Rated.{AreRated, IsAsRated}
 use Rattle.link_flights.proofs.Flights.InFlight.{read_filter}
 use Rattle.link_flights.proofs.Flights.Units.{drained_units}
 

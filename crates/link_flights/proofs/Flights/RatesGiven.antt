@@ -1,39 +1,24 @@
 -- Rates that are given to what is in flight.
-use Rattle.std.proofs.Common.{◌≡◌, ◌≢◌, ℕ, zero, suc, ◌-◌, ◌*◌, ◌<◌, ◌≤◌, List, [], ◌∷◌, All, IfSome, length, map, refl}
-use Rattle.std.proofs.Common.{sym, ap, not, cond, sum_by, option_map, zero-add}
-use Rattle.std.proofs.Common.{◌∙◌, subst, arith, true, slice_index}
+use Rattle.link_flights.proofs.Common.{◌≡◌, ◌≢◌, ℕ, zero, suc, ◌-◌, ◌*◌, ◌<◌, ◌≤◌, List, [], ◌∷◌, All, IfSome, length}
+use Rattle.link_flights.proofs.Common.{map, refl, sym, ap, not, cond, sum_by, option_map, zero-add, ◌∙◌, subst, arith}
+use Rattle.link_flights.proofs.Common.{true, AllZip, filter, IsTotalOrder, Ordering, Rc, Global, le-leb, All-contains}
+use Rattle.link_flights.proofs.Common.{AreShared, shared_from, capped_sides, product, IsFair, In, all_pass}
+use Rattle.link_flights.proofs.Common.{All-from_contains, Caps, Subject, sent_by, received_by, sent_between, AreOfPeers}
+use Rattle.link_flights.proofs.Common.{cap_of, limits, sides_under, Component, messages, Flights, UnitFlight, AreTimed}
+use Rattle.link_flights.proofs.Common.{flights_at, in_units, loose_in, is_of, those_of, has_both, is_closed}
+use Rattle.link_flights.proofs.Common.{rates_found, rerated, AreFairlyRated, WereRated, AreRatedBeside, IsRatedFrom}
+use Rattle.link_flights.proofs.Common.{HaveFairRates, sent_messages, rates_of, flow_in_flight, kept_load, left_of}
+use Rattle.link_flights.proofs.Common.{left_caps, flows_of}
+use Rattle.std.proofs.Common.{slice_index}
 use Rattle.std.specs.Prelude.{nat_le}
-use Rattle.std.specs.List.{AllZip, filter}
-use Rattle.std.specs.Cmp.{IsTotalOrder}
-use Rattle.std.specs.declared.cmp.Ordering.{Ordering}
-use Rattle.std.specs.declared.rc.Rc.{Rc}
-use Rattle.std.specs.declared.alloc.Global.{Global}
-use Rattle.std.proofs.lemmas.Bool.{le-leb}
-use Rattle.std.proofs.lemmas.List.Elements.{All-contains}
 use Rattle.std.proofs.Math.Logic.{∥∥₁_map}
 use Rattle.fair_rates.proofs.Fairness.Decided.{fair_if_so}
-use Rattle.fair_rates.proofs.Fairness.Sharing.{AreShared, shared_from}
 use Rattle.fair_rates.proofs.Fairness.SharedBeside.{whole_shared}
-use Rattle.link_simulation.specs.Simulation.Rates.{capped_sides}
-use Rattle.fair_rates.specs.Fairness.Exists.{product}
-use Rattle.fair_rates.specs.Fairness.Fair.{IsFair}
-use Rattle.fair_rates.proofs.Lists.Members.{In, all_pass}
-use Rattle.fair_rates.proofs.Lists.SumOrder.{All-from_contains}
 use Rattle.fair_rates.specs.declared.bandwidth.parts.FairParts.{FairParts}
-use Rattle.fair_rates.specs.Sides.Caps.{Caps, times_caps}
-use Rattle.fair_rates.specs.Sides.Subjects.{Subject, sent_by, received_by, sent_between}
-use Rattle.fair_rates.specs.Fairness.UnderCaps.{AreOfPeers, cap_of, limits, sides_under}
+use Rattle.fair_rates.specs.Sides.Caps.{times_caps}
 use Rattle.fair_rates.proofs.Numbers.Draining.{product_none}
-use Rattle.link_flights.specs.declared.component.Component.{Component}
 use Rattle.link_pairs.specs.declared.message.Message as code
-use Rattle.link_pairs.specs.Pairs.Messages.{messages}
-use Rattle.link_flights.specs.declared.flight_list.Flights.{Flights}
-use Rattle.link_flights.specs.Flights.Flight.{UnitFlight, AreTimed, flights_at}
-use Rattle.link_flights.specs.Flights.InFlight.{in_units, loose_in}
-use Rattle.link_flights.specs.Flights.Components.{is_of, those_of, has_both, is_closed}
-use Rattle.link_flights.specs.Flights.Rated.{rates_found, rerated, AreFairlyRated, WereRated, AreFairOn, AreRatedBeside}
-use Rattle.link_flights.specs.Flights.Rated.{IsRatedFrom, HaveFairRates, sent_messages, rates_of}
-use Rattle.link_flights.specs.Flights.Sides.{flow_in_flight, kept_load, left_of, left_caps, flows_of}
+use Rattle.link_flights.specs.Flights.Rated.{AreFairOn}
 use Rattle.link_flights.proofs.Flights.AllSides.{of_left}
 use Rattle.link_flights.proofs.Flights.Components.{flow_of, parts_of, flow_for, shares, flows_are, stand_from, fair}
 use Rattle.link_flights.proofs.Flights.Components.{found_each, all_of, those_all, whole_rerated}

@@ -1,36 +1,25 @@
 -- Rates that are given to messages in flight one after another, and the first finish.
-use Rattle.std.proofs.Common.{◌≡◌, ◌≢◌, ℕ, zero, suc, ◌+◌, ◌-◌, ◌*◌, ◌<◌, ◌≤◌, nat_le, Bool, true, false, cond}
-use Rattle.std.proofs.Common.{if◌then◌else◌, not, ◌||◌, List, [], ◌∷◌, ◌++◌, All, Option, Some, None, length}
-use Rattle.std.proofs.Common.{drop, get_or, set, slice_get, refl, sym, ap, ◌∙◌, subst, inl, inr, ◌⊎◌, arith}
+use Rattle.link_flights.proofs.Common.{◌≡◌, ◌≢◌, ℕ, zero, suc, ◌+◌, ◌-◌, ◌*◌, ◌<◌, ◌≤◌, nat_le, Bool, true, false, cond}
+use Rattle.link_flights.proofs.Common.{if◌then◌else◌, not, ◌||◌, List, [], ◌∷◌, ◌++◌, All, Option, Some, None, length}
+use Rattle.link_flights.proofs.Common.{drop, get_or, set, slice_get, refl, sym, ap, ◌∙◌, subst, inl, inr, ◌⊎◌, arith}
+use Rattle.link_flights.proofs.Common.{◌==◌, list_any, Ordering, le-leb, leb-true, cases_lt, false≢true, eqb-true}
+use Rattle.link_flights.proofs.Common.{length-append, append-nil, map-append, length-set, get_or_default, none-some}
+use Rattle.link_flights.proofs.Common.{same_Some, slice_get-map, slice_get_within, get_or_from_slice_get}
+use Rattle.link_flights.proofs.Common.{slice_get-get_or, get_from_map, billion, Caps, last_moment, RatedFlight}
+use Rattle.link_flights.proofs.Common.{Component, Flight, Flights, is_of, those_of, places_of, UnitFlight, rate_of}
+use Rattle.link_flights.proofs.Common.{left_by, flight_at, flights_at, has_come, IsTimed, AreTimed, in_units, in_flight}
+use Rattle.link_flights.proofs.Common.{rerated, rated_anew, IsReratedAt, IsRatedFrom, HaveFairRates, rated_flight_of}
+use Rattle.link_flights.proofs.Common.{sending_of}
 use Rattle.std.proofs.Common.{append_assoc}
-use Rattle.std.specs.Bool.{◌==◌}
-use Rattle.std.specs.List.{list_any}
 use Rattle.std.specs.Prelude.{IfSome, option_map}
-use Rattle.std.specs.declared.cmp.Ordering.{Ordering}
-use Rattle.std.proofs.lemmas.Bool.{le-leb, leb-true, cases_lt, false≢true, eqb-true}
-use Rattle.std.proofs.lemmas.List.{length-append, append-nil, map-append, length-set, drop_more, get_or_default}
+use Rattle.std.proofs.lemmas.List.{drop_more}
 use Rattle.std.proofs.lemmas.List.{set-get_or}
 use Rattle.std.proofs.Math.Nat.{mul-pos}
 use Rattle.std.proofs.lemmas.Map.Keys.{any_passes_from_place}
-use Rattle.std.proofs.lemmas.Option.{none-some, same_Some, slice_get-map, slice_get_within, get_or_from_slice_get}
-use Rattle.std.proofs.lemmas.Option.{slice_get-get_or}
-use Rattle.fair_rates.proofs.Lists.Members.{get_from_map}
 use Rattle.fair_rates.proofs.Lists.Sorted.{get_or-seam, set-seam}
-use Rattle.fair_rates.specs.Numbers.Amount.{billion}
-use Rattle.fair_rates.specs.Sides.Caps.{Caps}
-use Rattle.link_simulation.specs.Simulation.World.{last_moment}
-use Rattle.link_simulation.specs.Rule.Planned.{RatedFlight, IsLeastMoment, IsSpentAt, SomeSpentAt}
-use Rattle.link_flights.specs.declared.component.Component.{Component}
-use Rattle.link_flights.specs.declared.flight.Flight.{Flight}
-use Rattle.link_flights.specs.declared.flight_list.Flights.{Flights}
+use Rattle.link_simulation.specs.Rule.Planned.{IsLeastMoment, IsSpentAt, SomeSpentAt}
 use Rattle.link_pairs.specs.declared.message.Message.{Message}
-use Rattle.link_flights.specs.Flights.Components.{is_of, those_of, places_of}
-use Rattle.link_flights.specs.Flights.Flight.{UnitFlight, rate_of, left_by, flight_at, flights_at, has_come, IsTimed}
-use Rattle.link_flights.specs.Flights.Flight.{AreTimed}
-use Rattle.link_flights.specs.Flights.InFlight.{in_units, in_flight}
-use Rattle.link_flights.specs.Flights.Rated.{rerated, rated_anew, IsReratedAt, IsRatedFrom, HaveFairRates}
 use Rattle.link_flights.specs.Flights.Rated.{AreOthersTimed, AreKeptBut, IsCountedAt}
-use Rattle.link_flights.specs.Flights.RatedFlights.{rated_flight_of, sending_of}
 use Rattle.link_flights.proofs.Flights.Flight.{drained_on, zip_there, all_there, is_past}
 use Rattle.link_flights.proofs.Flights.InFlight.{filter_yes, filter_no}
 use Rattle.link_flights.proofs.Flights.Places.{places_yes, places_no, first_left, none_left, past_end}

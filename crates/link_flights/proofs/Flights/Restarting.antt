@@ -1,33 +1,18 @@
 -- Filling goes on from a level: the fair rates of a component, under what others that keep theirs leave of the caps, are
 -- fair for all.
-use Rattle.std.proofs.Common.{◌≡◌, ℕ, ◌+◌, ◌-◌, ◌*◌, ◌≤◌, Bool, true, false, cond, not}
-use Rattle.std.proofs.Common.{◌⊎◌, List, [], ◌∷◌, All, Option, Some, None, IfSome, map, length, refl, sym, ap, ◌∙◌, subst}
-use Rattle.std.proofs.Common.{inl, inr, sum_by, option_map, arith, zero-add}
-use Rattle.std.specs.Prelude.{slice_index, nat_le}
-use Rattle.std.specs.List.{filter}
-use Rattle.std.specs.Cmp.{IsTotalOrder}
-use Rattle.std.specs.declared.cmp.Ordering.{Ordering}
-use Rattle.std.specs.declared.rc.Rc.{Rc}
-use Rattle.std.specs.declared.alloc.Global.{Global}
-use Rattle.std.proofs.lemmas.Bool.{false≢true, le-leb, leb-true}
-use Rattle.std.proofs.lemmas.List.{nil_from_length}
-use Rattle.std.proofs.lemmas.List.Sums.{sum_by-cons}
-use Rattle.fair_rates.specs.Fairness.Fair.{IsFair}
-use Rattle.fair_rates.specs.Fairness.UnderCaps.{AreOfPeers, limits, cap_of, sides_under}
-use Rattle.fair_rates.specs.Sides.Caps.{Caps}
-use Rattle.fair_rates.specs.Sides.Subjects.{Subject}
-use Rattle.fair_rates.specs.declared.bandwidth.Flow.{Flow}
-use Rattle.fair_rates.proofs.Fairness.Sharing.{total, total-cons, AreShared, shared_from}
+use Rattle.link_flights.proofs.Common.{◌≡◌, ℕ, ◌+◌, ◌-◌, ◌*◌, ◌≤◌, Bool, true, false, cond, not, ◌⊎◌, List, [], ◌∷◌}
+use Rattle.link_flights.proofs.Common.{All, Option, Some, None, IfSome, map, length, refl, sym, ap, ◌∙◌, subst, inl}
+use Rattle.link_flights.proofs.Common.{inr, sum_by, option_map, arith, zero-add, slice_index, filter, IsTotalOrder}
+use Rattle.link_flights.proofs.Common.{Ordering, Rc, Global, false≢true, le-leb, leb-true, nil_from_length, sum_by-cons}
+use Rattle.link_flights.proofs.Common.{IsFair, AreOfPeers, limits, cap_of, sides_under, Caps, Subject, Flow, AreShared}
+use Rattle.link_flights.proofs.Common.{shared_from, by_bool, second_of_both, In, from_map, from_filter, in_filter}
+use Rattle.link_flights.proofs.Common.{Component, messages, message_of, UnitFlight, is_sender, is_receiver, is_of}
+use Rattle.link_flights.proofs.Common.{those_of, has_both, is_closed, rates_of, rated_ones, rerated, rated_anew}
+use Rattle.link_flights.proofs.Common.{AreFairlyRated, WereRated, kept_load, left_caps, flows_of}
+use Rattle.std.specs.Prelude.{nat_le}
+use Rattle.fair_rates.proofs.Fairness.Sharing.{total, total-cons}
 use Rattle.fair_rates.proofs.Fairness.SharedBeside.{AreSharedBeside, beside_shared, beside_left}
-use Rattle.fair_rates.proofs.Lists.Booleans.{by_bool, second_of_both}
-use Rattle.fair_rates.proofs.Lists.Members.{In, from_map, from_filter, in_filter}
-use Rattle.link_flights.specs.declared.component.Component.{Component}
 use Rattle.link_pairs.specs.declared.message.Message as code
-use Rattle.link_pairs.specs.Pairs.Messages.{messages, message_of}
-use Rattle.link_flights.specs.Flights.Flight.{UnitFlight}
-use Rattle.link_flights.specs.Flights.Components.{is_sender, is_receiver, is_of, those_of, has_both, is_closed}
-use Rattle.link_flights.specs.Flights.Rated.{rates_of, rated_ones, rerated, rated_anew, AreFairlyRated, WereRated}
-use Rattle.link_flights.specs.Flights.Sides.{kept_load, left_caps, flows_of}
 use Rattle.link_flights.proofs.Flights.AllSides.{of_left, cap_left}
 use Rattle.link_flights.proofs.Flights.InFlight.{filter_yes, filter_no, read_filter}
 use Rattle.link_flights.proofs.Flights.Components.{Share, flow_of, parts_of, flow_for, share_of, shares, flows_are}

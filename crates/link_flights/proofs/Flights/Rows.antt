@@ -1,28 +1,25 @@
 -- What is in flight as rows: what is found among rows is found among messages.
-use Rattle.std.proofs.Common.{add-one, ◌+◌, ◌≡◌, ℕ, zero, suc, ◌<◌, ◌≤◌, Bool, true, false, cond, ◌&&◌, ◌||◌, List, [], ◌∷◌, ◌++◌, length}
-use Rattle.std.proofs.Common.{eqb, ◌-◌, get_or, take, drop, Option, Some, None, IfSome, Result, Ok, Err, OnOk, OnErr, All, refl, sym, ap, ap₂, subst, ◌∙◌, arith}
-use Rattle.std.specs.List.{list_any, slice_get, remove}
+use Rattle.link_flights.proofs.Common.{add-one, ◌+◌, ◌≡◌, ℕ, zero, suc, ◌<◌, ◌≤◌, Bool, true, false, cond, ◌&&◌, ◌||◌}
+use Rattle.link_flights.proofs.Common.{List, [], ◌∷◌, ◌++◌, length, ◌-◌, get_or, take, drop, Option, Some, None, IfSome}
+use Rattle.link_flights.proofs.Common.{All, refl, sym, ap, ap₂, subst, ◌∙◌, arith, list_any, remove, Ordering}
+use Rattle.link_flights.proofs.Common.{IsTotalOrder, map-append, length-map, All-append, All-weaker}
+use Rattle.link_flights.proofs.Common.{get_or_from_slice_get, first_of_both, same_peer, number_of, is_due_by, Flight}
+use Rattle.link_flights.proofs.Common.{End, Origin, Recipient, has_come, IsNextPlace, PassesNowhere, items_of, IsRow}
+use Rattle.link_flights.proofs.Common.{share}
+use Rattle.std.proofs.Common.{eqb, Result, Ok, Err, OnOk, OnErr}
+use Rattle.std.specs.List.{slice_get}
 use Rattle.std.specs.Result.{is_err}
-use Rattle.std.specs.declared.cmp.Ordering.{Ordering}
-use Rattle.std.specs.Cmp.{IsTotalOrder}
-use Rattle.std.proofs.lemmas.List.{map-append, length-map, take-map, drop-map}
-use Rattle.std.proofs.lemmas.List.Elements.{All-head, All-tail, All-append, All-take, All-drop, All-weaker}
+use Rattle.std.proofs.lemmas.List.{take-map, drop-map}
+use Rattle.std.proofs.lemmas.List.Elements.{All-head, All-tail, All-take, All-drop}
 use Rattle.std.proofs.lemmas.List.Folds.{list_any_at, list_any_none}
-use Rattle.std.proofs.lemmas.Option.{get_or_from_slice_get}
-use Rattle.fair_rates.proofs.Lists.Booleans.{first_of_both}
-use Rattle.fair_rates.specs.Sides.Subjects.{same_peer}
-use Rattle.peer_numbers.specs.Peers.{number_of, IsWithPeer}
+use Rattle.peer_numbers.specs.Peers.{IsWithPeer}
 use Rattle.peer_numbers.proofs.Peers.{same_number, other_peer, number_stays}
-use Rattle.row_table.specs.Rows.{Versions, IsNext, passes, is_sent_by, is_received_by, is_due_by, with_item, has_come as row_has_come}
+use Rattle.row_table.specs.Rows.{Versions, IsNext, passes, is_sent_by, is_received_by, with_item}
+use Rattle.row_table.specs.Rows.{has_come as row_has_come}
 use Rattle.row_table.specs.declared.row.Row.{Row}
 use Rattle.link_pairs.specs.declared.message.Message.{Message}
-use Rattle.link_flights.specs.declared.flight.Flight.{Flight}
-use Rattle.link_flights.specs.declared.table.End.{End}
-use Rattle.link_flights.specs.declared.table.End.TheVariants.{Origin, Recipient}
-use Rattle.link_flights.specs.Flights.Flight.{has_come}
-use Rattle.link_flights.specs.Flights.InFlight.{IsNextPlace, PassesNowhere}
-use Rattle.link_flights.specs.Flights.Rows.{items_of, line_of, IsRow, AreKept}
-use Rattle.link_flights.specs.Flights.Table.{Line, share}
+use Rattle.link_flights.specs.Flights.Rows.{line_of, AreKept}
+use Rattle.link_flights.specs.Flights.Table.{Line}
 
 -- ---- rows and their items
 

@@ -1,42 +1,31 @@
 -- What an event touches, found one message in flight after another.
-use Rattle.std.proofs.Common.{◌≡◌, ℕ, zero, suc, ◌+◌, ◌-◌, ◌<◌, ◌≤◌, Bool, true, false, not, ◌&&◌, ◌||◌}
-use Rattle.std.proofs.Common.{inl, inr, ◌⊎◌, List, [], ◌∷◌, ◌++◌, length, take, get_or, All, Contains, None, Some, refl}
-use Rattle.std.proofs.Common.{sym, ap, ◌∙◌, subst, arith, if◌then◌else◌}
+use Rattle.link_flights.proofs.Common.{◌≡◌, ℕ, zero, suc, ◌+◌, ◌-◌, ◌<◌, ◌≤◌, Bool, true, false, not, ◌&&◌, ◌||◌, inl}
+use Rattle.link_flights.proofs.Common.{inr, ◌⊎◌, List, [], ◌∷◌, ◌++◌, length, take, get_or, All, Contains, None, Some}
+use Rattle.link_flights.proofs.Common.{refl, sym, ap, ◌∙◌, subst, arith, if◌then◌else◌, IsTotalOrder, filter, list_all}
+use Rattle.link_flights.proofs.Common.{list_any, Ordering, Rc, Global, cases_lt, false≢true, and_from, eq_by_cmp_equiv}
+use Rattle.link_flights.proofs.Common.{take_all, All-contains, All-weaker, list_all-map, none-some, same_Some}
+use Rattle.link_flights.proofs.Common.{get_or_from_slice_get, slice_get_within, same_peer, by_bool, first_of_both}
+use Rattle.link_flights.proofs.Common.{second_of_both, In, get_in, in_from_contains, contains_from_in, all_passed}
+use Rattle.link_flights.proofs.Common.{Component, Flight, UnitFlight, flight_at, flights_at, HaveRates, keeps, has_both}
+use Rattle.link_flights.proofs.Common.{touches, suits, is_closed, AreSuited, AreTouched, those_near, Ascends, share}
+use Rattle.link_flights.proofs.Common.{End, Origin, Recipient, is_sender, is_receiver, AreAllListed, PassesNowhere}
+use Rattle.link_flights.proofs.Common.{PassesFirstAt, IsNextPlace}
 use Rattle.std.specs.Prelude.{slice_get, Option, IfSome, nat_le}
-use Rattle.std.specs.Cmp.{IsTotalOrder}
-use Rattle.std.specs.List.{filter, list_all, list_any}
-use Rattle.std.specs.declared.cmp.Ordering.{Ordering}
-use Rattle.std.specs.declared.rc.Rc.{Rc}
 use Rattle.std.specs.declared.vec.Vec.{Vec}
-use Rattle.std.specs.declared.alloc.Global.{Global}
-use Rattle.std.proofs.lemmas.Bool.{cases_lt, false≢true, and_from, or_cases}
-use Rattle.std.proofs.lemmas.Cmp.{eq_by_cmp_equiv}
+use Rattle.std.proofs.lemmas.Bool.{or_cases}
 use Rattle.link_flights.proofs.Flights.InFlight.{filter_yes, filter_no}
 use Rattle.link_flights.proofs.Flights.Places.{one_there, or_first, or_second}
-use Rattle.std.proofs.lemmas.List.{append_assoc, take-append-le, take_all}
-use Rattle.std.proofs.lemmas.List.Elements.{All-more, All-contains, Contains-append_right}
+use Rattle.std.proofs.lemmas.List.{append_assoc, take-append-le}
+use Rattle.std.proofs.lemmas.List.Elements.{All-more, Contains-append_right}
 use Rattle.std.proofs.lemmas.List.Elements.{All-contains_itself}
-use Rattle.std.proofs.lemmas.List.Elements.{All-weaker}
-use Rattle.std.proofs.lemmas.List.Folds.{list_all-map, list_any-append, list_any_at, Any-from_list_any}
-use Rattle.std.proofs.lemmas.Option.{none-some, same_Some, get_or_from_slice_get, slice_get_within}
-use Rattle.fair_rates.specs.Sides.Subjects.{same_peer}
-use Rattle.fair_rates.proofs.Lists.Booleans.{by_bool, first_of_both, second_of_both}
-use Rattle.fair_rates.proofs.Lists.Members.{In, get_in, in_from_contains, contains_from_in, all_passed}
+use Rattle.std.proofs.lemmas.List.Folds.{list_any-append, list_any_at, Any-from_list_any}
 use Rattle.link_flights.proofs.Flights.Listed.{places_are}
 use Rattle.link_pairs.specs.declared.message.Message.{Message}
-use Rattle.link_flights.specs.declared.component.Component.{Component}
-use Rattle.link_flights.specs.declared.flight.Flight.{Flight}
-use Rattle.link_flights.specs.Flights.Flight.{UnitFlight, flight_at, flights_at, HaveRates}
-use Rattle.link_flights.specs.Flights.Components.{keeps, has_both, touches, suits, is_closed}
-use Rattle.link_flights.specs.Flights.Components.{IsSuited, AreSuited, IsTouched, AreTouched, near_of, those_near}
-use Rattle.link_flights.specs.Flights.Components.{AreNear, Ascends, SharesAt, SharesEndAt, AreListedAt, IsWalked}
-use Rattle.link_flights.specs.Flights.Table.{share}
-use Rattle.link_flights.specs.declared.table.End.{End}
-use Rattle.link_flights.specs.declared.table.End.TheVariants.{Origin, Recipient}
-use Rattle.link_flights.specs.Flights.Components.{is_sender, is_receiver, share_an_end, StartsWith}
-use Rattle.link_flights.specs.Flights.Components.{AreStillListed, AreListed, AreAllListed}
+use Rattle.link_flights.specs.Flights.Components.{IsSuited, IsTouched, near_of}
+use Rattle.link_flights.specs.Flights.Components.{AreNear, SharesAt, SharesEndAt, AreListedAt, IsWalked}
+use Rattle.link_flights.specs.Flights.Components.{share_an_end, StartsWith}
+use Rattle.link_flights.specs.Flights.Components.{AreStillListed, AreListed}
 use Rattle.link_flights.specs.Flights.Components.{AllNewTouch}
-use Rattle.link_flights.specs.Flights.InFlight.{PassesNowhere, PassesFirstAt, IsNextPlace}
 
 -- ---- places
 

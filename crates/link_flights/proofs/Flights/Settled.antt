@@ -1,23 +1,13 @@
 -- How many messages in flight, at the beginning of the list, have got a rate.
-use Rattle.std.proofs.Common.{◌≡◌, ℕ, zero, suc, ◌<◌, ◌≤◌, Bool, true, List, [], ◌∷◌}
-use Rattle.std.proofs.Common.{length, take, drop, get_or, set, Some, refl, sym}
-use Rattle.std.proofs.Common.{◌∙◌, arith}
-use Rattle.std.specs.List.{AllZip, list_all, remove}
-use Rattle.std.specs.declared.cmp.Ordering.{Ordering}
-use Rattle.std.proofs.lemmas.Bool.{and_from}
-use Rattle.std.proofs.lemmas.List.{length-set, length-take-le, take-append-drop}
-use Rattle.std.proofs.lemmas.List.{get_or_default}
+use Rattle.link_flights.proofs.Common.{◌≡◌, ℕ, zero, suc, ◌<◌, ◌≤◌, Bool, true, List, [], ◌∷◌, length, take, drop}
+use Rattle.link_flights.proofs.Common.{get_or, set, Some, refl, sym, ◌∙◌, arith, AllZip, list_all, remove, Ordering}
+use Rattle.link_flights.proofs.Common.{and_from, length-set, get_or_default, slice_get_read, Caps, first_of_both}
+use Rattle.link_flights.proofs.Common.{second_of_both, IsChangedUpTo, last_moment, Flight, UnitFlight, flight_at}
+use Rattle.link_flights.proofs.Common.{flights_at, has_come, AreTimed, HaveRates, PassesNowhere, is_out, are_limited}
+use Rattle.link_flights.proofs.Common.{rated_ones, IsRatedFrom}
+use Rattle.std.proofs.lemmas.List.{length-take-le, take-append-drop}
 use Rattle.std.proofs.lemmas.List.Edits.{length-remove}
-use Rattle.std.proofs.lemmas.Option.{slice_get_read}
 use Rattle.std.specs.Prelude.{slice_get}
-use Rattle.fair_rates.specs.Sides.Caps.{Caps}
-use Rattle.fair_rates.proofs.Lists.Booleans.{first_of_both, second_of_both}
-use Rattle.fair_rates.proofs.Lists.InPlace.{IsChangedUpTo}
-use Rattle.link_simulation.specs.Simulation.World.{last_moment}
-use Rattle.link_flights.specs.declared.flight.Flight.{Flight}
-use Rattle.link_flights.specs.Flights.Flight.{UnitFlight, flight_at, flights_at, has_come, AreTimed, HaveRates}
-use Rattle.link_flights.specs.Flights.InFlight.{PassesNowhere}
-use Rattle.link_flights.specs.Flights.Rated.{is_out, are_limited, rated_ones, IsRatedFrom}
 use Rattle.link_flights.proofs.Flights.Done.{out_by_finish, limited_there}
 use Rattle.link_flights.proofs.Flights.Flight.{IsBrought, is_past, is_counted_on, past_so, all_there}
 use Rattle.link_flights.proofs.Flights.Search.{passed_there}

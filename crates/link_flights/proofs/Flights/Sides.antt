@@ -1,35 +1,25 @@
 -- The sides of those in flight that are rated anew: how one is counted along its chain, and that they are all.
-use Rattle.std.proofs.Common.{◌≡◌, ℕ, zero, suc, ◌+◌, ◌-◌, ◌<◌, ◌≤◌, Bool, true, false, cond, not, ◌&&◌, ◌||◌}
-use Rattle.std.proofs.Common.{◌⊎◌, inl, inr, List, [], ◌∷◌, ◌++◌, Option, Some, None, All, Contains, slice_set, map, length, take}
-use Rattle.std.proofs.Common.{get_or, slice_get, sum_by, if◌then◌else◌, zero-add, unwrap_or, refl, sym, ap, ap₂, ◌∙◌, subst, arith, option_map}
-use Rattle.std.specs.List.{filter, list_all, AllPairs}
-use Rattle.std.specs.Cmp.{IsTotalOrder}
-use Rattle.std.specs.declared.cmp.Ordering.{Ordering}
-use Rattle.std.proofs.lemmas.Bool.{false≢true, cases_eq}
-use Rattle.link_pairs.proofs.Pairs.ByNumber.{get_set_other}
-use Rattle.std.proofs.lemmas.List.{append-nil, length-map, map-append, take_more, take_all}
+use Rattle.link_flights.proofs.Common.{◌≡◌, ℕ, zero, suc, ◌+◌, ◌-◌, ◌<◌, ◌≤◌, Bool, true, false, cond, not, ◌&&◌, ◌||◌}
+use Rattle.link_flights.proofs.Common.{◌⊎◌, inl, inr, List, [], ◌∷◌, ◌++◌, Option, Some, None, All, Contains, slice_set}
+use Rattle.link_flights.proofs.Common.{map, length, take, get_or, slice_get, sum_by, if◌then◌else◌, zero-add, refl, sym}
+use Rattle.link_flights.proofs.Common.{ap, ap₂, ◌∙◌, subst, arith, option_map, filter, list_all, IsTotalOrder, Ordering}
+use Rattle.link_flights.proofs.Common.{false≢true, get_set_other, append-nil, length-map, map-append, take_all}
+use Rattle.link_flights.proofs.Common.{sum_by-cons, none-some, same_Some, slice_get-map, slice_get_within}
+use Rattle.link_flights.proofs.Common.{get_or_from_slice_get, Side, limits, places_from, Subject, by_bool}
+use Rattle.link_flights.proofs.Common.{first_of_both, In, in_from_contains, contains_from_in, in_left, in_right, in_map}
+use Rattle.link_flights.proofs.Common.{in_get, get_in, all_pass, All-from_contains, same_peer_itself, Component, Flight}
+use Rattle.link_flights.proofs.Common.{End, Origin, Recipient, is_sender, is_receiver, keeps, is_of, those_of, touches}
+use Rattle.link_flights.proofs.Common.{has_both, suits, places_of, UnitFlight, flight_at, flights_at, rate_of}
+use Rattle.link_flights.proofs.Common.{PassesFirstAt, IsNextPlace, flow_sent, flow_in_flight, uses_end, end_subject}
+use Rattle.link_flights.proofs.Common.{kept_load, flows_of, share}
+use Rattle.std.proofs.Common.{unwrap_or}
+use Rattle.std.specs.List.{AllPairs}
+use Rattle.std.proofs.lemmas.Bool.{cases_eq}
+use Rattle.std.proofs.lemmas.List.{take_more}
 use Rattle.std.proofs.lemmas.List.Elements.{filter-append}
-use Rattle.std.proofs.lemmas.List.Sums.{sum_by-append, sum_by-cons}
-use Rattle.std.proofs.lemmas.Option.{none-some, same_Some, slice_get-map, slice_get_within, get_or_from_slice_get}
-use Rattle.fair_rates.specs.Fairness.Fair.{Side}
-use Rattle.fair_rates.specs.Fairness.UnderCaps.{limits}
-use Rattle.fair_rates.specs.Lists.Places.{places_from}
-use Rattle.fair_rates.specs.Sides.Subjects.{Subject}
-use Rattle.fair_rates.proofs.Lists.Booleans.{by_bool, first_of_both}
-use Rattle.fair_rates.proofs.Lists.Members.{In, in_from_contains, contains_from_in, in_left, in_right, in_map, in_get, get_in, all_pass}
-use Rattle.fair_rates.proofs.Lists.SumOrder.{All-from_contains}
-use Rattle.fair_rates.proofs.Sides.EqualSubjects.{same_peer_itself}
+use Rattle.std.proofs.lemmas.List.Sums.{sum_by-append}
 use Rattle.link_pairs.specs.declared.message.Message.{Message}
-use Rattle.link_flights.specs.declared.component.Component.{Component}
-use Rattle.link_flights.specs.declared.flight.Flight.{Flight}
-use Rattle.link_flights.specs.declared.table.End.{End}
-use Rattle.link_flights.specs.declared.table.End.TheVariants.{Origin, Recipient}
-use Rattle.link_flights.specs.Flights.Components.{is_sender, is_receiver, keeps, is_of, those_of, touches, has_both, suits, places_of}
-use Rattle.link_flights.specs.Flights.Flight.{UnitFlight, flight_at, flights_at, rate_of}
-use Rattle.link_flights.specs.Flights.InFlight.{PassesFirstAt, IsNextPlace}
-use Rattle.link_flights.specs.Flights.Sides.{flow_sent, flow_in_flight, uses_end, end_subject, kept_load}
-use Rattle.link_flights.specs.Flights.Sides.{flows_of, IsCounted}
-use Rattle.link_flights.specs.Flights.Table.{share}
+use Rattle.link_flights.specs.Flights.Sides.{IsCounted}
 use Rattle.link_flights.proofs.Flights.ComponentFlows.{one_more}
 use Rattle.link_flights.proofs.Flights.Components.{both_of, meets}
 use Rattle.link_flights.proofs.Flights.InFlight.{filter_yes, filter_no, read_filter}

@@ -1,23 +1,11 @@
 -- Messages in flight as they stand at an account, in units.
-use Rattle.std.proofs.Common.{◌≡◌, ℕ, zero, suc, Bool, false, ◌||◌, List, [], ◌∷◌, ◌++◌, length, get_or, ◌<◌, refl}
-use Rattle.std.proofs.Common.{sym, ap, ◌∙◌}
-use Rattle.std.proofs.Common.{arith, inl, inr, subst}
-use Rattle.fair_rates.proofs.Lists.Members.{In, from_filter, in_filter, in_from_contains, contains_from_in}
-use Rattle.std.proofs.lemmas.Option.{none-some, same_Some}
-use Rattle.std.proofs.lemmas.Bool.{false≢true}
-use Rattle.std.proofs.lemmas.List.{length-map}
-use Rattle.std.specs.List.{AllZip, list_any}
-use Rattle.std.specs.declared.cmp.Ordering.{Ordering}
-use Rattle.fair_rates.specs.Sides.Caps.{Caps}
-use Rattle.link_simulation.specs.Simulation.Messages.{Message}
-use Rattle.link_simulation.specs.Rule.Planned.{RatedFlight, rated_messages}
-use Rattle.link_flights.specs.declared.flight.Flight.{Flight}
-use Rattle.link_flights.specs.Flights.Flight.{UnitFlight, flight_at, flights_at, AreTimed}
-use Rattle.link_flights.specs.Flights.Rated.{sent_messages, rated_ones, are_limited, WereRatedUnder, IsRatedFrom}
-use Rattle.link_flights.specs.Flights.RatedFlights.{rated_flight_of, sending_of}
-use Rattle.link_flights.specs.declared.flight_list.Flights.{Flights}
-use Rattle.link_flights.specs.Flights.InFlight.{in_units}
-use Rattle.link_pairs.specs.Pairs.Messages.{message_of}
+use Rattle.link_flights.proofs.Common.{◌≡◌, ℕ, zero, suc, Bool, false, ◌||◌, List, [], ◌∷◌, ◌++◌, length, get_or, ◌<◌}
+use Rattle.link_flights.proofs.Common.{refl, sym, ap, ◌∙◌, arith, inl, inr, subst, In, from_filter, in_filter}
+use Rattle.link_flights.proofs.Common.{in_from_contains, contains_from_in, none-some, same_Some, false≢true, length-map}
+use Rattle.link_flights.proofs.Common.{AllZip, list_any, Ordering, Caps, Message, RatedFlight, rated_messages, Flight}
+use Rattle.link_flights.proofs.Common.{UnitFlight, flight_at, flights_at, AreTimed, sent_messages, rated_ones}
+use Rattle.link_flights.proofs.Common.{are_limited, WereRatedUnder, IsRatedFrom, rated_flight_of, sending_of, Flights}
+use Rattle.link_flights.proofs.Common.{in_units, message_of}
 use Rattle.link_flights.proofs.Flights.InFlight.{read_at}
 
 module _ {P : Type 0} where

@@ -1,12 +1,12 @@
 -- Amounts and rates as whole numbers of units. What is left is so many of which `scale` times a billion make a byte,
 -- and a rate is so many of which `scale` make a byte a second: so many units of what is left each nanosecond.
-use Rattle.std.proofs.Common.{◌≡◌, ℕ, zero, suc, ◌+◌, ◌-◌, ◌*◌, ◌<◌, ◌≤◌, List, [], ◌∷◌, length, get_or, take, refl}
-use Rattle.std.proofs.Common.{sym, ap, ◌∙◌, arith, add-one}
-use Rattle.std.proofs.Math.Nat.{mul-sub, mul-pos, mul-zero, mul_assoc}
+use Rattle.link_flights.proofs.Common.{◌≡◌, ℕ, zero, suc, ◌+◌, ◌-◌, ◌*◌, ◌<◌, ◌≤◌, List, [], ◌∷◌, length, get_or, take}
+use Rattle.link_flights.proofs.Common.{refl, sym, ap, ◌∙◌, arith, add-one, mul_assoc, product, reduced, billion, whole}
+use Rattle.link_flights.proofs.Common.{reduced_alike, reduced_scaled}
+use Rattle.std.proofs.Math.Nat.{mul-sub, mul-pos, mul-zero}
 use Rattle.std.proofs.Math.Seq.{take-nil}
-use Rattle.fair_rates.specs.Fairness.Exists.{product}
-use Rattle.fair_rates.specs.Numbers.Amount.{reduced, drained, billion, whole}
-use Rattle.fair_rates.specs.Numbers.LowestTerms.{IsScaled, reduced_alike, reduced_scaled, reduced_scales}
+use Rattle.fair_rates.specs.Numbers.Amount.{drained}
+use Rattle.fair_rates.specs.Numbers.LowestTerms.{IsScaled, reduced_scales}
 use Rattle.fair_rates.specs.Numbers.LowestTerms.{reduced_positive, reduced_same, reduced_lowest, whole_IsReduced}
 use Rattle.fair_rates.proofs.Numbers.Draining.{same_difference, drained_reduced, product_none}
 

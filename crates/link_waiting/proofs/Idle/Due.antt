@@ -1,18 +1,18 @@
 -- The first messages of pairs of which a moment was told that has come, the pairs by their numbers up to one.
-use Rattle.std.proofs.Common.{◌≡◌, ℕ, zero, suc, ◌+◌, ◌<◌, ◌≤◌, ◌==◌, inl, inr, Bool, true, false, cond, List, [], ◌∷◌, ◌++◌, length, refl}
-use Rattle.std.proofs.Common.{Option, Some, None, sym, ap, ◌∙◌, arith, IfSome, IfNone, add-one, zero-add}
-use Rattle.std.specs.Prelude.{slice_index_or, count_by, ◌||◌}
-use Rattle.std.specs.List.{find, list_any}
-use Rattle.std.specs.Option.{unwrap_or, option_and_then}
-use Rattle.std.proofs.lemmas.Bool.{le-leb, leb-true, eq-eqb, eqb-true, cases_lt}
-use Rattle.std.proofs.lemmas.List.{append-nil}
-use Rattle.std.proofs.lemmas.List.Sums.{sum_by-append, sum_by-cons}
-use Rattle.fair_rates.proofs.Lists.Booleans.{by_bool}
-use Rattle.fair_rates.proofs.Lists.Each.{Each, each_find}
-use Rattle.link_simulation.proofs.Simulation.Queue.{find_passes}
-use Rattle.least_moment.specs.Moments.{HasCome, IsDue, NoneDue, IsNextDue}
-use Rattle.link_waiting.specs.Idle.Slots.{Waiter, has_pair, told_first, AreTold}
-use Rattle.link_waiting.specs.Idle.Waits.{has_come, due_one, due_below}
+use Rattle.link_waiting.proofs.Common.{◌≡◌, ℕ, zero, suc, ◌+◌, ◌<◌, ◌≤◌, Bool, true, false, cond, List, [], ◌∷◌, ◌++◌}
+use Rattle.link_waiting.proofs.Common.{length, refl, Option, Some, None, sym, ap, ◌∙◌, arith, IfSome, zero-add}
+use Rattle.link_waiting.proofs.Common.{slice_index_or, find, list_any, unwrap_or, option_and_then, le-leb, leb-true}
+use Rattle.link_waiting.proofs.Common.{eq-eqb, eqb-true, append-nil, sum_by-cons, by_bool, Each, find_passes, IsDue}
+use Rattle.link_waiting.proofs.Common.{Waiter, has_pair, AreTold, has_come, due_below}
+use Rattle.std.proofs.Common.{◌==◌, inl, inr}
+use Rattle.std.proofs.Common.{IfNone, add-one}
+use Rattle.std.specs.Prelude.{count_by, ◌||◌}
+use Rattle.std.proofs.lemmas.Bool.{cases_lt}
+use Rattle.std.proofs.lemmas.List.Sums.{sum_by-append}
+use Rattle.fair_rates.proofs.Lists.Each.{each_find}
+use Rattle.least_moment.specs.Moments.{HasCome, NoneDue, IsNextDue}
+use Rattle.link_waiting.specs.Idle.Slots.{told_first}
+use Rattle.link_waiting.specs.Idle.Waits.{due_one}
 
 pub comes : (now : ℕ) (moment : Option ℕ) → HasCome now moment → has_come now moment ≡ true
 comes now None come = absurd come

@@ -1,16 +1,13 @@
 -- How many of a list pass a test, and two lists that rise and have as many of each key.
-use Rattle.std.proofs.Common.{◌≡◌, ℕ, suc, ◌+◌, Bool, true, false, not, ◌&&◌, cond, if◌then◌else◌, List, [], ◌∷◌}
-use Rattle.std.proofs.Common.{get_or, refl, sym, ◌∙◌, ap, arith}
-use Rattle.std.specs.List.{AllZip, filter, list_all, fold}
+use Rattle.link_waiting.proofs.Common.{◌≡◌, ℕ, suc, ◌+◌, Bool, true, false, not, ◌&&◌, cond, if◌then◌else◌, List, []}
+use Rattle.link_waiting.proofs.Common.{◌∷◌, refl, sym, ◌∙◌, ap, arith, AllZip, filter, fold, Ordering, Less, Equal}
+use Rattle.link_waiting.proofs.Common.{Greater, is_lt, is_eq, ordering_reverse, IsTotalOrder, and_from, by_bool}
+use Rattle.link_waiting.proofs.Common.{first_of_both, second_of_both}
+use Rattle.std.proofs.Common.{get_or}
+use Rattle.std.specs.List.{list_all}
 use Rattle.std.specs.List.Sorted.{IsSortedBy}
-use Rattle.std.specs.declared.cmp.Ordering.{Ordering}
-use Rattle.std.specs.declared.cmp.Ordering.TheVariants.{Less, Equal, Greater}
-use Rattle.std.specs.Ordering.{is_lt, is_eq, ordering_reverse}
-use Rattle.std.specs.Cmp.{IsTotalOrder}
 use Rattle.std.proofs.lemmas.Cmp.{tied_itself, alike_right}
 use Rattle.std.proofs.lemmas.List.Sorted.{ranks_by, sorted_far}
-use Rattle.std.proofs.lemmas.Bool.{and_from}
-use Rattle.fair_rates.proofs.Lists.Booleans.{by_bool, first_of_both, second_of_both}
 use Rattle.fair_rates.proofs.Lists.Sorted.{list_all-mono, all_from_within}
 
 -- how many pass

@@ -1,37 +1,27 @@
 -- The pairs that may start by now are those of the messages that may.
-use Rattle.std.proofs.Common.{◌≡◌, ℕ, suc, Bool, true, false, not, ◌&&◌, cond, if◌then◌else◌, List, [], ◌∷◌, map}
-use Rattle.std.proofs.Common.{Option, Some, None, refl, sym, ◌∙◌, ap, ap₂, true≢false}
-use Rattle.std.specs.Prelude.{nat_le, option_map}
-use Rattle.std.specs.List.{AllZip, filter, find, list_all, list_any}
-use Rattle.std.specs.declared.cmp.Ordering.{Ordering}
-use Rattle.std.specs.declared.cmp.Ordering.TheVariants.{Less, Equal, Greater}
-use Rattle.std.specs.Ordering.{is_lt, is_eq, ordering_reverse}
+use Rattle.link_waiting.proofs.Common.{◌≡◌, ℕ, suc, Bool, true, false, not, ◌&&◌, cond, if◌then◌else◌, List, [], ◌∷◌}
+use Rattle.link_waiting.proofs.Common.{map, Option, Some, None, refl, sym, ◌∙◌, ap, ap₂, nat_le, AllZip, filter, find}
+use Rattle.link_waiting.proofs.Common.{list_any, Ordering, Less, Equal, Greater, is_lt, is_eq, ordering_reverse}
+use Rattle.link_waiting.proofs.Common.{IsTotalOrder, and_from, by_bool, first_of_both, second_of_both, PeerPair}
+use Rattle.link_waiting.proofs.Common.{same_peer, Message, PairsAlike, same_pair, pair_before, Planned, AreInPairOrder}
+use Rattle.link_waiting.proofs.Common.{may_launch, idle_from, IsIndexOf, has_come, NamesPairOf, first_moment, pair_cmp}
+use Rattle.link_waiting.proofs.Common.{first_of, may_launch_first, is_sending, pair_like, pair_sym, pair_total}
+use Rattle.std.proofs.Common.{true≢false}
+use Rattle.std.specs.Prelude.{option_map}
+use Rattle.std.specs.List.{list_all}
 use Rattle.std.proofs.lemmas.Cmp.{tied_back}
-use Rattle.std.specs.Cmp.{IsTotalOrder}
-use Rattle.std.proofs.lemmas.Bool.{and_from}
 use Rattle.std.proofs.Math.Bool.{and-false}
-use Rattle.fair_rates.proofs.Lists.Booleans.{by_bool, first_of_both, second_of_both}
-use Rattle.link_pairs.specs.declared.pair.PeerPair.{PeerPair}
-use Rattle.fair_rates.specs.Sides.Subjects.{same_peer}
 use Rattle.fair_rates.specs.Lists.Sorted.{are_ascending}
 use Rattle.link_simulation.specs.Simulation.World.{fronts}
-use Rattle.link_simulation.specs.Simulation.Messages.{Message, PairsAlike, same_pair, pair_before}
-use Rattle.link_simulation.specs.Rule.Planned.{Planned, AreInPairOrder, may_launch}
-use Rattle.link_waiting.specs.Idle.Index.{idle_from, IsIndexOf}
-use Rattle.link_waiting.specs.Idle.Waits.{has_come, pair_of_key}
-use Rattle.link_waiting.specs.Idle.PairsOfMessages.{NamesPairOf}
-use Rattle.link_waiting.specs.Idle.FirstMoment.{first_moment}
-use Rattle.link_pairs.specs.Pairs.Entries.{pair_cmp, first_of}
-use Rattle.link_waiting.specs.Idle.Starting.{may_launch_first, ready_messages}
-use Rattle.link_waiting.specs.Idle.AtRest.{is_sending}
+use Rattle.link_waiting.specs.Idle.Waits.{pair_of_key}
+use Rattle.link_waiting.specs.Idle.Starting.{ready_messages}
 use Rattle.fair_rates.proofs.Sides.Subjects.{peer_sym}
 use Rattle.fair_rates.proofs.Lists.Sorted.{is_eq_equal}
 use Rattle.fair_rates.proofs.Lists.Zips.{zip_weaker}
-use Rattle.link_simulation.proofs.Simulation.Queue.{pair_like, pair_sym}
 use Rattle.link_waiting.proofs.Idle.DueCounts.{how_many, same_many, never_many, filter_many}
 use Rattle.link_waiting.proofs.Idle.DueCounts.{is_rising, of_key, rising_same}
 use Rattle.link_waiting.proofs.Idle.FirstStart.{may_from}
-use Rattle.link_pairs.proofs.Pairs.PairOrder.{pair_total, is_eq-then}
+use Rattle.link_pairs.proofs.Pairs.PairOrder.{is_eq-then}
 
 abbrev pub one_if : Bool → ℕ
 one_if b = if b then 1 else 0

@@ -1,24 +1,16 @@
 -- When idle pairs may start, and the first moment at which one may.
-use Rattle.std.proofs.Common.{◌≡◌, ℕ, ◌≤◌, Bool, true, false, not, ◌&&◌, if◌then◌else◌, []}
-use Rattle.std.proofs.Common.{Option, Some, None, IfSome, refl, sym, ◌∙◌, ap, subst, arith}
-use Rattle.std.specs.Prelude.{◌↔◌, nat_le, max, option_map}
-use Rattle.std.specs.List.{find, list_any}
-use Rattle.std.specs.declared.cmp.Ordering.{Ordering}
-use Rattle.std.specs.Cmp.{IsTotalOrder}
-use Rattle.std.proofs.lemmas.Bool.{leb-true, le-leb, and_from, not-true}
-use Rattle.fair_rates.proofs.Lists.Booleans.{first_of_both, second_of_both}
-use Rattle.fair_rates.specs.Sides.Subjects.{same_peer}
-use Rattle.link_simulation.specs.Simulation.Messages.{Message, PairsAlike, same_pair}
+use Rattle.link_waiting.proofs.Common.{◌≡◌, ℕ, ◌≤◌, Bool, true, false, not, ◌&&◌, if◌then◌else◌, [], Option, Some, None}
+use Rattle.link_waiting.proofs.Common.{IfSome, refl, sym, ◌∙◌, ap, subst, arith, nat_le, find, list_any, Ordering}
+use Rattle.link_waiting.proofs.Common.{IsTotalOrder, leb-true, le-leb, and_from, first_of_both, second_of_both}
+use Rattle.link_waiting.proofs.Common.{same_peer, Message, PairsAlike, same_pair, Planned, rated_messages, may_launch}
+use Rattle.link_waiting.proofs.Common.{idle_from, IsIndexOf, has_come, first_moment, first_of, may_launch_first}
+use Rattle.link_waiting.proofs.Common.{is_sending, find_passes, pair_like}
+use Rattle.std.specs.Prelude.{◌↔◌, max, option_map}
+use Rattle.std.proofs.lemmas.Bool.{not-true}
 use Rattle.link_simulation.specs.Simulation.World.{last_moment}
 use Rattle.link_simulation.specs.Rule.Events.{PlansStart}
-use Rattle.link_simulation.specs.Rule.Planned.{Planned, rated_messages, IsLeastMoment, SomeReadyAt, next_of, may_launch}
-use Rattle.link_waiting.specs.Idle.Index.{idle_from, IsIndexOf}
-use Rattle.link_waiting.specs.Idle.Waits.{has_come}
-use Rattle.link_waiting.specs.Idle.FirstMoment.{first_moment}
-use Rattle.link_pairs.specs.Pairs.Entries.{first_of}
-use Rattle.link_waiting.specs.Idle.Starting.{may_launch_first}
-use Rattle.link_waiting.specs.Idle.AtRest.{is_sending}
-use Rattle.link_simulation.proofs.Simulation.Queue.{find_passes, pair_like, any_like}
+use Rattle.link_simulation.specs.Rule.Planned.{IsLeastMoment, SomeReadyAt, next_of}
+use Rattle.link_simulation.proofs.Simulation.Queue.{any_like}
 use Rattle.link_waiting.proofs.Idle.Starting.{may_launch_is, of_pair, in_order_from}
 
 module _ {P : Type 0} (cmp : P → P → Ordering) where

@@ -1,11 +1,8 @@
 -- A moment is told of the first one of a pair alone: what that says, and that it stays.
-use Rattle.std.proofs.Common.{◌≡◌, ℕ, Bool, true, false, cond, List, [], ◌∷◌, ◌++◌, Option, Some, None, refl, sym, ap, ◌∙◌, subst}
-use Rattle.std.specs.List.{find}
-use Rattle.std.specs.Option.{option_and_then}
-use Rattle.std.proofs.lemmas.Bool.{eq-eqb, eqb-true}
-use Rattle.fair_rates.proofs.Lists.Booleans.{by_bool}
-use Rattle.fair_rates.specs.Lists.WithoutFirst.{without_first}
-use Rattle.link_waiting.specs.Idle.Slots.{Waiter, has_pair, with_since, NoneTold, OnlyFirsts}
+use Rattle.link_waiting.proofs.Common.{◌≡◌, ℕ, Bool, true, false, cond, List, [], ◌∷◌, ◌++◌, Option, Some, None, refl}
+use Rattle.link_waiting.proofs.Common.{sym, ap, ◌∙◌, subst, find, option_and_then, eq-eqb, eqb-true, by_bool}
+use Rattle.link_waiting.proofs.Common.{without_first, Waiter, has_pair, with_since, OnlyFirsts}
+use Rattle.link_waiting.specs.Idle.Slots.{NoneTold}
 
 module _ {P : Type 0} where
   itself : (w : Waiter P) → has_pair w.pair w ≡ true

@@ -1,25 +1,19 @@
 -- The index of idle pairs after a change of the planned world.
-use Rattle.std.proofs.Common.{◌≡◌, ℕ, Bool, true, false, not, ◌&&◌, ◌||◌, cond}
-use Rattle.std.proofs.Common.{if◌then◌else◌, List, [], ◌∷◌, ◌++◌, Option, Some, None, refl, sym, ◌∙◌, ap, subst}
+use Rattle.link_waiting.proofs.Common.{◌≡◌, ℕ, Bool, true, false, not, ◌&&◌, ◌||◌, cond, if◌then◌else◌, List, [], ◌∷◌}
+use Rattle.link_waiting.proofs.Common.{◌++◌, Option, Some, None, refl, sym, ◌∙◌, ap, subst, find, filter, list_any}
+use Rattle.link_waiting.proofs.Common.{Ordering, IsTotalOrder, and_from, by_bool, first_of_both, second_of_both}
+use Rattle.link_waiting.proofs.Common.{without_first, same_peer, Message, PairsAlike, pair_before, with_link, Planned}
+use Rattle.link_waiting.proofs.Common.{rated_messages, queued, idle_from, IsIndexOf, first_moment, first_of, is_sending}
+use Rattle.link_waiting.proofs.Common.{pair_like, pair_sym, same_peer_itself}
 use Rattle.std.specs.Prelude.{option_map}
-use Rattle.std.specs.List.{find, filter, list_any}
 use mathlib.Core.Path.{fun_ext}
-use Rattle.std.specs.declared.cmp.Ordering.{Ordering}
-use Rattle.std.specs.Cmp.{IsTotalOrder}
-use Rattle.std.proofs.lemmas.Bool.{and_from, or_left, or_parts}
+use Rattle.std.proofs.lemmas.Bool.{or_left, or_parts}
 use Rattle.std.proofs.Math.Bool.{or-true}
-use Rattle.fair_rates.proofs.Lists.Booleans.{by_bool, first_of_both, second_of_both}
-use Rattle.fair_rates.specs.Lists.WithoutFirst.{without_first}
-use Rattle.fair_rates.specs.Sides.Subjects.{same_peer}
-use Rattle.link_simulation.specs.Simulation.Messages.{Message, PairsAlike, pair_before, with_link}
 use Rattle.link_simulation.specs.Rule.Events.{with_queued}
-use Rattle.link_simulation.specs.Rule.Planned.{Planned, RatedFlight, rated_messages, queued, drained_to}
-use Rattle.link_waiting.specs.Idle.Index.{idle_from, IsIndexOf, is_of_pair, AreAtRest}
-use Rattle.link_waiting.specs.Idle.FirstMoment.{first_moment}
-use Rattle.link_pairs.specs.Pairs.Entries.{Pair, first_of, arrival_of, raised_at}
-use Rattle.link_waiting.specs.Idle.AtRest.{is_sending, of_pairs}
-use Rattle.link_simulation.proofs.Simulation.Queue.{pair_like, pair_sym}
-use Rattle.fair_rates.proofs.Sides.EqualSubjects.{same_peer_itself}
+use Rattle.link_simulation.specs.Rule.Planned.{RatedFlight, drained_to}
+use Rattle.link_waiting.specs.Idle.Index.{is_of_pair, AreAtRest}
+use Rattle.link_pairs.specs.Pairs.Entries.{Pair, arrival_of, raised_at}
+use Rattle.link_waiting.specs.Idle.AtRest.{of_pairs}
 use Rattle.link_waiting.proofs.Idle.Index.{same_two}
 use Rattle.link_waiting.proofs.Idle.FirstStart.{idle_respects}
 

@@ -1,19 +1,14 @@
 -- The moments that are told of pairs, by their numbers, where a message comes, changes or leaves.
-use Rattle.std.proofs.Common.{◌≡◌, ℕ, zero, suc, ◌+◌, ◌<◌, ◌≤◌, ◌==◌, Bool, true, false, cond, List, [], ◌∷◌, ◌++◌, length, take, drop}
-use Rattle.std.proofs.Common.{Option, Some, None, refl, sym, ap, ◌∙◌, subst, slice_get, slice_set}
-use Rattle.std.specs.Prelude.{slice_index_or}
-use Rattle.std.specs.List.{find}
-use Rattle.std.specs.Option.{option_or}
-use Rattle.std.proofs.lemmas.Bool.{eq-eqb, eqb-true}
+use Rattle.link_waiting.proofs.Common.{◌≡◌, ℕ, zero, suc, ◌+◌, ◌<◌, ◌≤◌, Bool, true, false, cond, List, [], ◌∷◌, ◌++◌}
+use Rattle.link_waiting.proofs.Common.{length, take, Option, Some, None, refl, sym, ap, ◌∙◌, subst, slice_get}
+use Rattle.link_waiting.proofs.Common.{slice_set, slice_index_or, find, option_or, eq-eqb, eqb-true, append-nil}
+use Rattle.link_waiting.proofs.Common.{find-append, get_or_from_slice_get, by_bool, Each, without_first, Slot, Waiter}
+use Rattle.link_waiting.proofs.Common.{waiter_of, live, has_pair, with_since, OnlyFirsts, AreTold}
+use Rattle.std.proofs.Common.{◌==◌, drop}
 use Rattle.std.proofs.lemmas.Grind.{get_or-set_at}
-use Rattle.std.proofs.lemmas.List.{get_or-set_other, get_or_past, take-append-drop, take_more, append-nil}
-use Rattle.std.proofs.lemmas.List.Folds.{find-append}
-use Rattle.std.proofs.lemmas.Option.{slice_get_within, get_or_from_slice_get}
-use Rattle.fair_rates.proofs.Lists.Booleans.{by_bool}
-use Rattle.fair_rates.proofs.Lists.Each.{Each}
-use Rattle.fair_rates.specs.Lists.WithoutFirst.{without_first}
-use Rattle.link_waiting.specs.declared.slots.Slot.{Slot}
-use Rattle.link_waiting.specs.Idle.Slots.{Waiter, waiter_of, live, has_pair, with_since, told_first, NoneTold, OnlyFirsts, AreTold}
+use Rattle.std.proofs.lemmas.List.{get_or-set_other, get_or_past, take-append-drop, take_more}
+use Rattle.std.proofs.lemmas.Option.{slice_get_within}
+use Rattle.link_waiting.specs.Idle.Slots.{told_first, NoneTold}
 use Rattle.link_waiting.proofs.Idle.Firsts.{none_after, told_is_first}
 use Rattle.link_waiting.proofs.Idle.Slots.{live_append}
 use Rattle.link_waiting.proofs.Idle.Told.{said, after_told, find_past, said_past}

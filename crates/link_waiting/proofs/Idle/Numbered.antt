@@ -1,14 +1,11 @@
 -- The numbers of the pairs of what waits: who has the number of a pair is of it.
-use Rattle.std.proofs.Common.{◌≡◌, ℕ, Bool, true, false, cond, ◌||◌, List, [], ◌∷◌, ◌++◌, Option, Some, None, refl, sym, ap, ◌∙◌}
-use Rattle.std.specs.List.{find, list_any}
-use Rattle.std.specs.declared.cmp.Ordering.{Ordering}
-use Rattle.std.specs.Cmp.{IsTotalOrder}
+use Rattle.link_waiting.proofs.Common.{◌≡◌, ℕ, Bool, true, false, cond, ◌||◌, List, [], ◌∷◌, ◌++◌, Option, Some, None}
+use Rattle.link_waiting.proofs.Common.{refl, sym, ap, ◌∙◌, find, list_any, Ordering, IsTotalOrder, Each, each_of_all}
+use Rattle.link_waiting.proofs.Common.{all_of_each, each_without, each_map, without_first, number_of_pair, Waiter}
+use Rattle.link_waiting.proofs.Common.{has_number, with_since, is_of, AreNumbered}
 use Rattle.std.proofs.lemmas.List.Elements.{All-weaker, All-push}
-use Rattle.fair_rates.proofs.Lists.Each.{Each, each_of_all, all_of_each, each_without, each_map}
-use Rattle.fair_rates.specs.Lists.WithoutFirst.{without_first}
-use Rattle.peer_numbers.specs.Pairs.{number_of_pair, IsWithPair}
+use Rattle.peer_numbers.specs.Pairs.{IsWithPair}
 use Rattle.peer_numbers.proofs.OrderedPairs.{same_number, other_pair, number_stays}
-use Rattle.link_waiting.specs.Idle.Slots.{Waiter, has_number, with_since, is_of, AreNumbered}
 
 -- ---- tests that say the same of a list
 

@@ -1,32 +1,22 @@
 -- The pairs whose first message may start: whether there is one, and their keys in order.
-use Rattle.std.proofs.Common.{◌≡◌, ℕ, suc, ◌+◌, ◌≤◌, Bool, true, false, cond, ◌&&◌, ◌||◌, List, [], ◌∷◌, ◌++◌, length, map, refl}
-use Rattle.std.proofs.Common.{Option, Some, None, sym, ap, ap₂, ◌∙◌, subst, arith, zero-add}
-use Rattle.std.specs.Prelude.{slice_index_or, count_by}
-use Rattle.std.specs.List.{find, list_any, AllZip, sum_by}
+use Rattle.link_waiting.proofs.Common.{◌≡◌, ℕ, suc, ◌+◌, ◌≤◌, Bool, true, false, cond, ◌&&◌, ◌||◌, List, [], ◌∷◌, ◌++◌}
+use Rattle.link_waiting.proofs.Common.{length, map, refl, Option, Some, None, sym, ap, ap₂, ◌∙◌, subst, arith, zero-add}
+use Rattle.link_waiting.proofs.Common.{slice_index_or, find, list_any, AllZip, Ordering, Less, Equal, Greater, is_lt}
+use Rattle.link_waiting.proofs.Common.{is_eq, ordering_reverse, IsTotalOrder, and_from, sum_by-cons, by_bool}
+use Rattle.link_waiting.proofs.Common.{first_of_both, Each, each_of_all, same_peer, number_of_pair, Message, pair_like}
+use Rattle.link_waiting.proofs.Common.{pair_sym, PeerPair, pair_cmp, pair_total, NamesPairOf, Waiter, has_pair}
+use Rattle.link_waiting.proofs.Common.{has_number, is_of, OnlyFirsts, AreNumbered, AreTold, has_come, due_below}
+use Rattle.link_waiting.proofs.Common.{since_of, told_of}
+use Rattle.std.specs.Prelude.{count_by}
+use Rattle.std.specs.List.{sum_by}
 use Rattle.std.specs.List.Sorted.{IsPermutation, IsSortedBy}
-use Rattle.std.specs.declared.cmp.Ordering.{Ordering}
-use Rattle.std.specs.declared.cmp.Ordering.TheVariants.{Less, Equal, Greater}
-use Rattle.std.specs.Ordering.{is_lt, is_eq, ordering_reverse}
-use Rattle.std.specs.Cmp.{IsTotalOrder}
-use Rattle.std.proofs.lemmas.Bool.{and_from}
-use Rattle.std.proofs.lemmas.List.Sums.{sum_by-cons}
 use Rattle.std.proofs.lemmas.List.Sorted.{sum_by-IsPermutation}
-use Rattle.fair_rates.proofs.Lists.Booleans.{by_bool, first_of_both}
-use Rattle.fair_rates.proofs.Lists.Each.{Each, each_of_all}
 use Rattle.fair_rates.proofs.Lists.Sorted.{list_all-mono, is_lt_less}
 use Rattle.fair_rates.specs.Lists.Sorted.{are_ascending}
-use Rattle.fair_rates.specs.Sides.Subjects.{same_peer}
 use Rattle.least_moment.specs.Moments.{IsLeast}
-use Rattle.peer_numbers.specs.Pairs.{number_of_pair}
-use Rattle.link_simulation.specs.Simulation.Messages.{Message}
 use Rattle.link_simulation.proofs.Simulation.AlikeMessages.{pair_itself}
-use Rattle.link_simulation.proofs.Simulation.Queue.{pair_like, pair_sym}
-use Rattle.link_pairs.specs.declared.pair.PeerPair.{PeerPair}
-use Rattle.link_pairs.specs.Pairs.Entries.{pair_cmp}
-use Rattle.link_pairs.proofs.Pairs.PairOrder.{pair_total, is_eq-then}
-use Rattle.link_waiting.specs.Idle.PairsOfMessages.{NamesPairOf}
-use Rattle.link_waiting.specs.Idle.Slots.{Waiter, has_pair, has_number, is_of, OnlyFirsts, AreNumbered, AreTold}
-use Rattle.link_waiting.specs.Idle.Waits.{has_come, due_below, pair_of_key, since_of, told_of}
+use Rattle.link_pairs.proofs.Pairs.PairOrder.{is_eq-then}
+use Rattle.link_waiting.specs.Idle.Waits.{pair_of_key}
 use Rattle.link_waiting.proofs.Idle.Due.{comes, has_come_if, come, due_comes, each_due, many_due, any_many}
 use Rattle.link_waiting.proofs.Idle.Firsts.{told_is_first}
 use Rattle.link_waiting.proofs.Idle.Numbered.{AreAlike, find_alike, of_number, find_false}

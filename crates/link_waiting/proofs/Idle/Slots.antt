@@ -1,21 +1,20 @@
 -- The slots of messages that wait: what is in them, and the first slot of a pair.
-use Rattle.std.proofs.Common.{◌≡◌, ℕ, zero, suc, ◌+◌, ◌<◌, Bool, true, false, cond, List, [], ◌∷◌, ◌++◌, length, map, refl}
-use Rattle.std.proofs.Common.{Option, Some, None, is_some, zero-add, sym, ap, ◌∙◌, arith, slice_get, slice_set, subst, IfSome, IfNone}
-use Rattle.std.specs.Prelude.{is_none, option_map, slice_index_or}
-use Rattle.std.specs.List.{filter, find, count_by}
-use Rattle.std.specs.Option.{option_or}
-use Rattle.std.proofs.lemmas.Bool.{eq-eqb, eqb-true}
+use Rattle.link_waiting.proofs.Common.{◌≡◌, ℕ, zero, suc, ◌+◌, ◌<◌, Bool, true, false, cond, List, [], ◌∷◌, ◌++◌}
+use Rattle.link_waiting.proofs.Common.{length, map, refl, Option, Some, None, is_some, zero-add, sym, ap, ◌∙◌, arith}
+use Rattle.link_waiting.proofs.Common.{slice_get, slice_set, subst, IfSome, is_none, slice_index_or, filter, find}
+use Rattle.link_waiting.proofs.Common.{option_or, eq-eqb, eqb-true, find-append, sum_by-cons, get_or_from_slice_get}
+use Rattle.link_waiting.proofs.Common.{by_bool, each_of_all, without_first, Slot, Waiter, waiter_of, live, has_pair}
+use Rattle.link_waiting.proofs.Common.{with_since, HaveRoom, IsFirstSlot}
+use Rattle.std.proofs.Common.{IfNone}
+use Rattle.std.specs.Prelude.{option_map}
+use Rattle.std.specs.List.{count_by}
 use Rattle.std.proofs.lemmas.List.Elements.{filter_map-append}
-use Rattle.std.proofs.lemmas.List.Folds.{find-append}
 use Rattle.std.proofs.Math.ListN.{get_or-map}
-use Rattle.std.proofs.lemmas.List.Sums.{sum_by-cons, sum_by-append, sum_by-set}
-use Rattle.std.proofs.lemmas.Option.{slice_get_within, get_or_from_slice_get}
-use Rattle.fair_rates.proofs.Lists.Booleans.{by_bool}
-use Rattle.fair_rates.proofs.Lists.Each.{each_find, each_of_all}
-use Rattle.fair_rates.specs.Lists.WithoutFirst.{without_first}
+use Rattle.std.proofs.lemmas.List.Sums.{sum_by-append, sum_by-set}
+use Rattle.std.proofs.lemmas.Option.{slice_get_within}
+use Rattle.fair_rates.proofs.Lists.Each.{each_find}
 use Rattle.chains.specs.Places.{IsFirst}
-use Rattle.link_waiting.specs.declared.slots.Slot.{Slot}
-use Rattle.link_waiting.specs.Idle.Slots.{Waiter, waiter_of, live, pair_in, has_pair, with_since, HaveRoom, IsFirstSlot}
+use Rattle.link_waiting.specs.Idle.Slots.{pair_in}
 
 pub some_same : (a b : ℕ) → Some a ≡ Some b → a ≡ b
 some_same a b e = cc

@@ -1,18 +1,17 @@
 -- What is kept beside the slots, where a message comes, changes or leaves.
-use Rattle.std.proofs.Common.{◌≡◌, ℕ, ◌+◌, ◌<◌, ◌≤◌, List, [], ◌∷◌, ◌++◌, length, map, Option, Some, None, is_some, sym, ap}
-use Rattle.std.proofs.Common.{◌∙◌, subst, slice_set, arith, Result, Ok, Err, OnOk}
-use Rattle.std.specs.Prelude.{is_none, slice_index_or}
-use Rattle.std.specs.List.{filter, count_by}
+use Rattle.link_waiting.proofs.Common.{◌≡◌, ℕ, ◌+◌, ◌<◌, ◌≤◌, List, [], ◌∷◌, ◌++◌, length, map, Option, Some, None}
+use Rattle.link_waiting.proofs.Common.{is_some, sym, ap, ◌∙◌, subst, slice_set, arith, Result, Ok, Err, is_none}
+use Rattle.link_waiting.proofs.Common.{slice_index_or, filter, get_or_from_slice_get, without_first, Rows, Slot}
+use Rattle.link_waiting.proofs.Common.{each_of_all, all_of_each, each_without, Waiter, waiter_of, live, has_pair}
+use Rattle.link_waiting.proofs.Common.{with_since, HaveRoom, AreTold, IsFirstSlot, OnlyFirsts}
+use Rattle.std.proofs.Common.{OnOk}
+use Rattle.std.specs.List.{count_by}
 use Rattle.std.proofs.lemmas.List.{map-set, map-append, length-set}
 use Rattle.std.proofs.lemmas.List.Elements.{All-weaker, All-push}
 use Rattle.std.proofs.Math.Seq.{map-set_same}
-use Rattle.std.proofs.lemmas.Option.{get_or_from_slice_get}
-use Rattle.fair_rates.specs.Lists.WithoutFirst.{without_first}
-use Rattle.chains.specs.Chains.{Versions, Rows}
-use Rattle.link_waiting.specs.declared.slots.Slot.{Slot}
+use Rattle.chains.specs.Chains.{Versions}
 use Rattle.link_waiting.specs.declared.slots.Slots.{Slots}
-use Rattle.fair_rates.proofs.Lists.Each.{each_of_all, all_of_each, each_without}
-use Rattle.link_waiting.specs.Idle.Slots.{Waiter, waiter_of, live, pair_in, has_pair, with_since, HaveRoom, AreTold, IsFirstSlot, OnlyFirsts}
+use Rattle.link_waiting.specs.Idle.Slots.{pair_in}
 use Rattle.link_waiting.specs.Idle.Slots.{Stands, Marked}
 use Rattle.link_waiting.proofs.Idle.Slots.{there, found, live_append, live_taken, live_told, live_whole, gaps_added, gaps_taken, gaps_told}
 use Rattle.link_waiting.proofs.Idle.Slots.{gaps_whole, pairs_whole, room_of}

@@ -1,27 +1,19 @@
 -- Whether the first waiting message of a pair starts, and what then is.
-use Rattle.std.proofs.Common.{◌≡◌, ℕ, ◌+◌, ◌-◌, ◌<◌, ◌≤◌, List, [], ◌∷◌, ◌++◌, length, Bool, true, false, not, cond}
-use Rattle.std.proofs.Common.{◌&&◌, Option, Some, None, Result, Ok, Err, IfOk, refl, sym, ap, ◌∙◌, subst, arith}
-use Rattle.std.specs.Prelude.{nat_le, is_none}
-use Rattle.std.specs.List.{find, list_any}
-use Rattle.std.specs.declared.cmp.Ordering.{Ordering}
-use Rattle.std.specs.Cmp.{IsTotalOrder}
-use Rattle.std.proofs.lemmas.Bool.{and_from, leb-true, le-leb}
-use Rattle.fair_rates.proofs.Lists.Booleans.{by_bool, first_of_both, second_of_both}
-use Rattle.fair_rates.specs.Lists.WithoutFirst.{without_first}
+use Rattle.link_waiting.proofs.Common.{◌≡◌, ℕ, ◌+◌, ◌-◌, ◌<◌, ◌≤◌, List, [], ◌∷◌, ◌++◌, length, Bool, true, false, not}
+use Rattle.link_waiting.proofs.Common.{cond, ◌&&◌, Option, Some, None, Result, Ok, Err, refl, sym, ap, ◌∙◌, subst}
+use Rattle.link_waiting.proofs.Common.{arith, nat_le, is_none, find, list_any, Ordering, IsTotalOrder, and_from}
+use Rattle.link_waiting.proofs.Common.{leb-true, le-leb, by_bool, first_of_both, second_of_both, without_first}
+use Rattle.link_waiting.proofs.Common.{same_peer, first_moment, first_of, Message, PairsAlike, same_pair, pair_before}
+use Rattle.link_waiting.proofs.Common.{same_peer_itself, Planned, rated_messages, may_launch, queued, may_launch_first}
+use Rattle.link_waiting.proofs.Common.{find_passes, pair_like}
+use Rattle.std.proofs.Common.{IfOk}
 use Rattle.fair_rates.specs.declared.error.Error.{Error}
 use Rattle.fair_rates.specs.declared.error.Error.TheVariants.{FlowIdsUsedUp}
 use Rattle.fair_rates.specs.Numbers.Amount.{whole}
-use Rattle.fair_rates.specs.Sides.Subjects.{same_peer}
-use Rattle.link_waiting.specs.Idle.FirstMoment.{first_moment}
-use Rattle.link_pairs.specs.Pairs.Entries.{first_of}
-use Rattle.link_simulation.specs.Simulation.Messages.{Message, PairsAlike, same_pair, pair_before}
-use Rattle.fair_rates.proofs.Sides.EqualSubjects.{same_peer_itself}
 use Rattle.link_simulation.specs.Simulation.World.{goes, meets, is_in_order, last_moment}
-use Rattle.link_simulation.specs.Rule.Planned.{Planned, rated_messages, may_launch, queued}
 use Rattle.link_simulation.specs.Rule.Events.{Launches, nothing_waits, too_early, no_id, starts, Accounts, launched}
 use Rattle.link_simulation.specs.Rule.Events.{with_queued}
-use Rattle.link_waiting.specs.Idle.Starting.{may_launch_first}
-use Rattle.link_simulation.proofs.Simulation.Queue.{find_passes, any_like, pair_like}
+use Rattle.link_simulation.proofs.Simulation.Queue.{any_like}
 
 -- two orders of numbers that hold together are one test
 pub same_test : (a b c d : ℕ) → (a ≤ b → c ≤ d) → (c ≤ d → a ≤ b) → nat_le a b ≡ nat_le c d

@@ -1,20 +1,11 @@
 -- The moments that are told of pairs, where a message comes, changes or leaves.
-use Rattle.std.proofs.Common.{◌≡◌, ℕ, Bool, true, false, cond, ◌&&◌, List, [], ◌∷◌, ◌++◌, map, Option, Some, None, refl, sym, ap, ◌∙◌}
+use Rattle.link_waiting.proofs.Common.{◌≡◌, ℕ, Bool, true, false, cond, ◌&&◌, List, [], ◌∷◌, ◌++◌, map, Option, Some}
+use Rattle.link_waiting.proofs.Common.{None, refl, sym, ap, ◌∙◌, find, fold, option_and_then, option_or, option_map}
+use Rattle.link_waiting.proofs.Common.{Ordering, IsTotalOrder, find-append, by_bool, Each, each_without, each_map}
+use Rattle.link_waiting.proofs.Common.{without_first, same_peer, Message, with_link, queued, pair_like, pair_sym}
+use Rattle.link_waiting.proofs.Common.{Waiter, has_pair, has_number, with_since, is_of, OnlyFirsts, Told, told_of}
+use Rattle.link_waiting.proofs.Common.{queue_of, since_of}
 use mathlib.Core.Path.{fun_ext}
-use Rattle.std.specs.List.{find, fold}
-use Rattle.std.specs.Option.{option_and_then, option_or, option_map}
-use Rattle.std.specs.declared.cmp.Ordering.{Ordering}
-use Rattle.std.specs.Cmp.{IsTotalOrder}
-use Rattle.std.proofs.lemmas.List.Folds.{find-append}
-use Rattle.fair_rates.proofs.Lists.Booleans.{by_bool}
-use Rattle.fair_rates.proofs.Lists.Each.{Each, each_without, each_map}
-use Rattle.fair_rates.specs.Lists.WithoutFirst.{without_first}
-use Rattle.fair_rates.specs.Sides.Subjects.{same_peer}
-use Rattle.link_simulation.specs.Simulation.Messages.{Message, with_link}
-use Rattle.link_simulation.specs.Rule.Planned.{queued}
-use Rattle.link_simulation.proofs.Simulation.Queue.{pair_like, pair_sym}
-use Rattle.link_waiting.specs.Idle.Slots.{Waiter, has_pair, has_number, with_since, is_of, OnlyFirsts}
-use Rattle.link_waiting.specs.Idle.Waits.{Told, told_of, queue_of, since_of}
 use Rattle.link_waiting.proofs.Idle.Waiting.{one_of, find_map}
 use Rattle.link_waiting.proofs.Idle.Firsts.{none_after}
 use Rattle.link_waiting.proofs.Idle.Numbered.{AreAlike, find_alike, each_told, find_false}

@@ -1,21 +1,15 @@
 -- What waits in the slots, as callers see it.
-use Rattle.std.proofs.Common.{◌≡◌, ℕ, Bool, true, false, cond, List, map, All, Option, None, refl, sym, ap, ◌∙◌, subst}
-use Rattle.std.specs.Option.{option_map}
-use Rattle.std.specs.Prelude.{is_none}
+use Rattle.link_waiting.proofs.Common.{◌≡◌, ℕ, Bool, true, false, cond, List, map, Option, None, refl, sym, ap, ◌∙◌}
+use Rattle.link_waiting.proofs.Common.{subst, option_map, is_none, Result, Ok, Err, each_of_all, find, Ordering}
+use Rattle.link_waiting.proofs.Common.{IsTotalOrder, without_first, Message, same_pair, with_link, AreInPairOrder}
+use Rattle.link_waiting.proofs.Common.{first_of, Slot, Waiter, live, is_of, has_number, with_since, OnlyFirsts}
+use Rattle.link_waiting.proofs.Common.{AreNumbered, told_of, queue_of, since_of, waits_of}
+use Rattle.std.proofs.Common.{All}
 use Rattle.std.specs.Result.{is_err}
-use Rattle.std.proofs.Common.{Result, Ok, Err, OnOk}
-use Rattle.fair_rates.proofs.Lists.Each.{each_of_all}
-use Rattle.std.specs.List.{find}
-use Rattle.std.specs.declared.cmp.Ordering.{Ordering}
-use Rattle.std.specs.Cmp.{IsTotalOrder}
-use Rattle.fair_rates.specs.Lists.WithoutFirst.{without_first}
-use Rattle.link_simulation.specs.Simulation.Messages.{Message, same_pair, with_link}
-use Rattle.link_simulation.specs.Rule.Planned.{AreInPairOrder}
-use Rattle.link_pairs.specs.Pairs.Entries.{first_of}
-use Rattle.link_waiting.specs.declared.slots.Slot.{Slot}
+use Rattle.std.proofs.Common.{OnOk}
 use Rattle.link_waiting.specs.declared.slots.Slots.{Slots}
-use Rattle.link_waiting.specs.Idle.Slots.{Waiter, live, is_of, has_number, with_since, OnlyFirsts, AreNumbered, AreKept, Stands, Marked}
-use Rattle.link_waiting.specs.Idle.Waits.{Waits, AllWaits, told_of, none_waits, queue_of, since_of, waits_in, waits_of}
+use Rattle.link_waiting.specs.Idle.Slots.{AreKept, Stands, Marked}
+use Rattle.link_waiting.specs.Idle.Waits.{Waits, AllWaits, none_waits, waits_in}
 use Rattle.link_waiting.proofs.Idle.Waiting.{in_pair_order, first_waits, without_waits, one_of}
 use Rattle.link_waiting.proofs.Idle.Numbered.{AreAlike, find_alike, without_alike}
 use Rattle.link_waiting.proofs.Idle.Told.{said, since_is, since_without, since_told}

@@ -1,26 +1,16 @@
 -- What waits, as the messages in the order of pairs: the first of a pair, and the list without it.
-use Rattle.std.proofs.Common.{◌≡◌, Bool, true, false, cond, ◌||◌, List, [], ◌∷◌, ◌++◌, map, Some, refl}
-use Rattle.std.proofs.Common.{sym, ap, ◌∙◌, slice_get, suc, ◌+◌, length, arith}
-use Rattle.std.specs.List.{filter, find, fold, list_any}
-use Rattle.std.specs.Option.{option_map}
-use Rattle.std.specs.declared.cmp.Ordering.{Ordering}
-use Rattle.std.specs.Cmp.{IsTotalOrder}
+use Rattle.link_waiting.proofs.Common.{◌≡◌, Bool, true, false, cond, ◌||◌, List, [], ◌∷◌, ◌++◌, map, Some, refl, sym}
+use Rattle.link_waiting.proofs.Common.{ap, ◌∙◌, slice_get, suc, ◌+◌, length, arith, filter, find, fold, list_any}
+use Rattle.link_waiting.proofs.Common.{option_map, Ordering, IsTotalOrder, append-nil, by_bool, Each, each_map}
+use Rattle.link_waiting.proofs.Common.{each_without, without_first, Message, pair_before, same_pair, AreInPairOrder}
+use Rattle.link_waiting.proofs.Common.{queued, pair_like, first_of, Waiter, is_of, queue_of}
 use Rattle.std.proofs.lemmas.Bool.{or_parts}
-use Rattle.std.proofs.lemmas.List.{append-nil, append_assoc}
+use Rattle.std.proofs.lemmas.List.{append_assoc}
 use Rattle.std.proofs.lemmas.List.Elements.{filter-append}
-use Rattle.fair_rates.proofs.Lists.Booleans.{by_bool}
-use Rattle.fair_rates.proofs.Lists.Each.{Each, each_map, each_without}
-use Rattle.fair_rates.specs.Lists.WithoutFirst.{without_first}
-use Rattle.link_simulation.specs.Simulation.Messages.{Message, pair_before, same_pair}
-use Rattle.link_simulation.specs.Rule.Planned.{AreInPairOrder, queued}
 use Rattle.link_simulation.proofs.Rule.Enqueue.{queued_in_order, queued_last}
 use Rattle.link_simulation.proofs.Rule.Waking.{each_none}
 use Rattle.link_simulation.proofs.Simulation.FilteredFronts.{before_both}
 use Rattle.link_simulation.proofs.Simulation.PairOrder.{apart_if_before}
-use Rattle.link_simulation.proofs.Simulation.Queue.{pair_like}
-use Rattle.link_pairs.specs.Pairs.Entries.{first_of}
-use Rattle.link_waiting.specs.Idle.Slots.{Waiter, is_of}
-use Rattle.link_waiting.specs.Idle.Waits.{queue_of}
 
 -- ---- lists
 

@@ -1,4 +1,4 @@
-use Rattle.std.proofs.Common.{arith}
+use Rattle.link_flights.proofs.Common.{arith}
 use Rattle.link_flights.proofs.Flights.Listed.{ascends_by_pairs}
 use Rattle.link_flights.proofs.component.ascend.Goals as goal
 

@@ -1,4 +1,4 @@
-use Rattle.std.proofs.Common.{ℕ, suc, ◌<◌, get_or}
+use Rattle.link_flights.proofs.Common.{ℕ, suc, ◌<◌, get_or}
 use Rattle.link_flights.proofs.component.ascend.Given as goal
 
 abbrev pub invariant-loop-next : goal.invariant-loop-next

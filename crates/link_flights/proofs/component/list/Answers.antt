@@ -1,5 +1,4 @@
-use Rattle.std.proofs.Common.{true, slice_set, subst, sym}
-use Rattle.link_flights.specs.Flights.Components.{AreNoted}
+use Rattle.link_flights.proofs.Common.{true, slice_set, subst, sym, AreNoted}
 use Rattle.link_flights.proofs.Flights.Noted.{noted_with_one}
 use Rattle.link_flights.proofs.component.list.Goals as goal
 

@@ -1,5 +1,5 @@
-use Rattle.std.proofs.Common.{◌≡◌, ◌<◌, ◌+◌, true, false, Some, length, slice_get, subst, sym, ap, ◌∙◌, arith}
-use Rattle.std.proofs.lemmas.Option.{slice_get_within, slice_get-get_or}
+use Rattle.link_flights.proofs.Common.{◌≡◌, ◌<◌, ◌+◌, true, false, Some, length, slice_get, subst, sym, ap, ◌∙◌, arith}
+use Rattle.link_flights.proofs.Common.{slice_get_within, slice_get-get_or}
 use Rattle.link_flights.proofs.Flights.Noted.{AreListedUpTo, one_more_noted, none_more_noted}
 use Rattle.link_flights.proofs.component.list_again.Goals.{then-noted-at+in_ok-push, else-noted-at}
 use Rattle.link_flights.proofs.component.list_again.Goals as goal

@@ -1,6 +1,4 @@
-use Rattle.std.proofs.Common.{◌≡◌, ◌∙◌, sym, arith, subst}
-use Rattle.std.specs.Int.{IsGcd}
-use Rattle.fair_rates.specs.Numbers.Amount.{gcd}
+use Rattle.link_flights.proofs.Common.{◌≡◌, ◌∙◌, sym, arith, subst, IsGcd, gcd}
 use Rattle.fair_rates.specs.Numbers.Gcd.{gcd-mod, gcd-zero, gcd-IsGcd}
 use Rattle.link_flights.proofs.flight.common_factor.Goals as goal
 

@@ -1,5 +1,4 @@
-use Rattle.std.proofs.Common.{◌≡◌, ◌<◌}
-use Rattle.fair_rates.specs.Numbers.Amount.{gcd}
+use Rattle.link_flights.proofs.Common.{◌≡◌, ◌<◌, gcd}
 use Rattle.link_flights.proofs.flight.common_factor.Given as goal
 
 abbrev pub invariant-loop-rest : goal.invariant-loop-rest

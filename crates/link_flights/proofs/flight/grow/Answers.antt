@@ -1,6 +1,4 @@
-use Rattle.std.proofs.Common.{◌*◌, get_or, take, ap, sym, ◌∙◌, arith}
-use Rattle.std.proofs.Math.Nat.{mul_assoc}
-use Rattle.fair_rates.specs.Fairness.Exists.{product}
+use Rattle.link_flights.proofs.Common.{◌*◌, get_or, take, ap, sym, ◌∙◌, arith, mul_assoc, product}
 use Rattle.link_flights.proofs.Flights.Units.{product-take, product-take_all}
 use Rattle.link_flights.proofs.flight.grow.Goals as goal
 

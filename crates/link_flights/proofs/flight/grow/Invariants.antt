@@ -1,5 +1,4 @@
-use Rattle.std.proofs.Common.{◌≡◌, ◌*◌, take}
-use Rattle.fair_rates.specs.Fairness.Exists.{product}
+use Rattle.link_flights.proofs.Common.{◌≡◌, ◌*◌, take, product}
 use Rattle.link_flights.proofs.flight.grow.Given as goal
 
 abbrev pub invariant-loop-factor : goal.invariant-loop-factor

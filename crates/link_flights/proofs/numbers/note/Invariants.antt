@@ -1,4 +1,4 @@
-use Rattle.std.proofs.Common.{◌≡◌, ℕ, ◌<◌, Some, length, slice_get}
+use Rattle.link_flights.proofs.Common.{◌≡◌, ℕ, ◌<◌, Some, length, slice_get}
 use Rattle.link_flights.proofs.numbers.note.Given as goal
 
 abbrev pub invariant-loop-number : goal.invariant-loop-number

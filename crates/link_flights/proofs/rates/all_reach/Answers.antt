@@ -1,8 +1,7 @@
-use Rattle.std.proofs.Common.{rules, tests, ◌∙◌, sym, nat_le}
+use Rattle.link_flights.proofs.Common.{rules, ◌∙◌, sym, nat_le, list_all-map, parts_of_level}
+use Rattle.std.proofs.Common.{tests}
 use Rattle.std.proofs.lemmas.Iterator.{YieldsList-from_slice}
 use Rattle.std.proofs.lemmas.Iterator.Search.{all_from_yields_List}
-use Rattle.std.proofs.lemmas.List.Folds.{list_all-map}
-use Rattle.fair_rates.specs.Filling.FairParts.{parts_of_level}
 use Rattle.link_flights.proofs.rates.all_reach.Goals as goal
 
 pub returns : goal.returns

@@ -1,4 +1,4 @@
-use Rattle.std.proofs.Common.{◌≡◌, map}
+use Rattle.link_flights.proofs.Common.{◌≡◌, map}
 use Rattle.link_flights.proofs.rates.shared_levels.Given as goal
 
 abbrev pub invariant-loop-level : goal.invariant-loop-level

@@ -1,8 +1,6 @@
-use Rattle.std.proofs.Common.{◌≡◌, refl, sym, ap, ◌∙◌, arith, rules, Bool, ℕ, true, false, if◌then◌else◌, Option, None}
-use Rattle.std.specs.declared.rc.Rc.{Rc}
-use Rattle.std.specs.declared.alloc.Global.{Global}
-use Rattle.fair_rates.specs.Numbers.Amount.{Amount, reduced}
-use Rattle.link_flights.specs.Flights.Flight.{flight_at, rate_of}
+use Rattle.link_flights.proofs.Common.{◌≡◌, refl, sym, ap, ◌∙◌, arith, rules, Bool, ℕ, true, false, if◌then◌else◌}
+use Rattle.link_flights.proofs.Common.{Option, None, Rc, Global, reduced, flight_at, rate_of}
+use Rattle.fair_rates.specs.Numbers.Amount.{Amount}
 use Rattle.link_flights.proofs.Flights.ShortTerms.{exact_reading}
 use Rattle.link_flights.proofs.Flights.Units.{no_units}
 use Rattle.link_flights.proofs.reading.read_rate.Goals as goal

@@ -1,5 +1,5 @@
-use Rattle.std.proofs.Common.{◌≡◌, ◌⊎◌, ◌<◌, ◌∙◌, length, arith, subst, Contains, Some, true, slice_get}
-use Rattle.std.proofs.lemmas.List.{length-set, take_all}
+use Rattle.link_flights.proofs.Common.{◌≡◌, ◌⊎◌, ◌<◌, ◌∙◌, length, arith, subst, Contains, Some, true, slice_get}
+use Rattle.link_flights.proofs.Common.{length-set, take_all}
 use Rattle.link_flights.proofs.Flights.Sides.{noted_more}
 use Rattle.link_flights.proofs.sides.note_users.Goals as goal
 

@@ -1,4 +1,4 @@
-use Rattle.std.proofs.Common.{◌≡◌, ℕ, ◌⊎◌, true, Contains, Some, take, length, slice_get}
+use Rattle.link_flights.proofs.Common.{◌≡◌, ℕ, ◌⊎◌, true, Contains, Some, take, length, slice_get}
 use Rattle.link_flights.proofs.sides.note_users.Given as goal
 
 abbrev pub invariant-loop-user : goal.invariant-loop-user

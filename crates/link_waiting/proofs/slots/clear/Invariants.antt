@@ -1,5 +1,4 @@
-use Rattle.std.proofs.Common.{◌≡◌, ℕ, ◌<◌, None, length}
-use Rattle.std.specs.Prelude.{slice_index_or}
+use Rattle.link_waiting.proofs.Common.{◌≡◌, ℕ, ◌<◌, None, length, slice_index_or}
 use Rattle.link_waiting.proofs.slots.clear.Given as goal
 
 abbrev pub invariant-loop-pair : goal.invariant-loop-pair

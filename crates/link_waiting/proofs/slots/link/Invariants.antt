@@ -1,4 +1,4 @@
-use Rattle.std.proofs.Common.{◌≡◌, ◌-◌, suc}
+use Rattle.link_waiting.proofs.Common.{◌≡◌, ◌-◌, suc}
 use Rattle.link_waiting.proofs.slots.link.Given as goal
 
 abbrev pub invariant-loop-chains : goal.invariant-loop-chains

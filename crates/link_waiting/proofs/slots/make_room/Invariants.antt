@@ -1,5 +1,4 @@
-use Rattle.std.proofs.Common.{◌≡◌, ℕ, ◌≤◌, ◌-◌, suc, None, length}
-use Rattle.std.specs.Prelude.{slice_index_or}
+use Rattle.link_waiting.proofs.Common.{◌≡◌, ℕ, ◌≤◌, ◌-◌, suc, None, length, slice_index_or}
 use Rattle.link_waiting.proofs.slots.make_room.Given as goal
 
 abbrev pub invariant-loop-moments : goal.invariant-loop-moments

@@ -1,10 +1,10 @@
-use Rattle.std.proofs.Common.{rules, ◌≡◌, ℕ, true, false, is_some, ◌+◌, ◌<◌, List, Option, Some, None, length, take, get_or, refl, sym, ap, ◌∙◌, subst, arith}
+use Rattle.link_waiting.proofs.Common.{rules, ◌≡◌, ℕ, true, false, is_some, ◌+◌, ◌<◌, List, Option, Some, None, length}
+use Rattle.link_waiting.proofs.Common.{take, refl, sym, ap, ◌∙◌, subst, arith, each_of_all, Slot, Waiter, live}
+use Rattle.link_waiting.proofs.Common.{HaveRoom, AreTold}
+use Rattle.std.proofs.Common.{get_or}
 use Rattle.std.specs.Prelude.{slice_get}
 use Rattle.std.proofs.lemmas.List.{length-set}
 use Rattle.std.proofs.lemmas.Option.{slice_get_read}
-use Rattle.fair_rates.proofs.Lists.Each.{each_of_all}
-use Rattle.link_waiting.specs.declared.slots.Slot.{Slot}
-use Rattle.link_waiting.specs.Idle.Slots.{Waiter, live, HaveRoom, AreTold}
 use Rattle.link_waiting.proofs.Idle.Moments.{front_empty, front_silent, front_told, each_held}
 use Rattle.link_waiting.proofs.slots.restore.Goals as goal
 use Rattle.link_waiting.proofs.slots.restore.Goals.{in-Some+then-is_some, in-Some+else-is_some, in_default}

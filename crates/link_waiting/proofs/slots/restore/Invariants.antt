@@ -1,5 +1,4 @@
-use Rattle.std.proofs.Common.{◌≡◌, take, length}
-use Rattle.link_waiting.specs.Idle.Slots.{live, AreTold}
+use Rattle.link_waiting.proofs.Common.{◌≡◌, take, length, live, AreTold}
 use Rattle.link_waiting.proofs.slots.restore.Given as goal
 
 abbrev pub invariant-loop-at : goal.invariant-loop-at

@@ -1,10 +1,7 @@
-use Rattle.std.proofs.Common.{◌≡◌, Some, None, List, Option, sym, subst}
-use Rattle.link_pairs.specs.Pairs.Messages.{message_of}
-use Rattle.link_waiting.specs.Idle.Slots.{Waiter, live, AreNumbered}
+use Rattle.link_waiting.proofs.Common.{◌≡◌, Some, None, List, Option, sym, subst, message_of, Waiter, live, AreNumbered}
+use Rattle.link_waiting.proofs.Common.{number_of_pair, Slot}
 use Rattle.link_waiting.proofs.Idle.Numbered.{numbered_more, numbered_added}
-use Rattle.peer_numbers.specs.Pairs.{number_of_pair}
 use Rattle.link_pairs.specs.declared.message.Message.{Message}
-use Rattle.link_waiting.specs.declared.slots.Slot.{Slot}
 use Rattle.link_waiting.proofs.waiting.add.Given as given
 use Rattle.link_waiting.proofs.waiting.add.Goals as goal
 

@@ -1,6 +1,4 @@
-use Rattle.std.proofs.Common.{sym}
-use Rattle.fair_rates.proofs.Lists.Each.{all_of_each}
-use Rattle.link_waiting.specs.Idle.Slots.{live}
+use Rattle.link_waiting.proofs.Common.{sym, all_of_each, live}
 use Rattle.link_waiting.proofs.Idle.Numbered.{of_number}
 use Rattle.link_waiting.proofs.waiting.number_in.Goals as goal
 

@@ -1,8 +1,5 @@
-use Prim.Native.Nat.{◌∣◌}
-use Rattle.std.proofs.Common.{◌≡◌, sym, ap, ◌∙◌, subst}
-use Rattle.std.specs.Int.{IsGcd}
+use Rattle.link_flights.proofs.Common.{◌∣◌, ◌≡◌, sym, ap, ◌∙◌, subst, IsGcd, rate_of}
 use Rattle.std.proofs.lemmas.Nat.Gcd.{dvd_trans, dvd-zero}
-use Rattle.link_flights.specs.Flights.Flight.{rate_of}
 use Rattle.link_flights.proofs.Flights.LargerUnits.{divides_whole}
 use Rattle.link_flights.proofs.flight.Flight.factor_of.Goals as goal
 

@@ -1,18 +1,8 @@
-use Rattle.std.proofs.Common.{◌≡◌, ◌+◌, ◌-◌, ◌*◌, ◌++◌, ◌∷◌, [], true, Bool, Some, get_or, slice_get, length, map}
-use Rattle.std.proofs.Common.{sym, ap, ◌∙◌, subst, arith, option_map}
-use Rattle.std.proofs.lemmas.List.{map-append}
-use Rattle.std.proofs.lemmas.Option.{slice_get-get_or, get_or_from_slice_get, none-some}
-use Rattle.std.proofs.lemmas.Bool.{and_from}
-use Rattle.fair_rates.specs.Sides.SideOf.{side_of}
-use Rattle.fair_rates.specs.Sides.Subjects.{same_peer}
-use Rattle.fair_rates.proofs.Sides.EqualSubjects.{same_peer_itself}
-use Rattle.link_pairs.specs.Pairs.CapsOf.{caps_of}
-use Rattle.link_pairs.proofs.Pairs.LookedUp.{looked_up}
-use Rattle.link_flights.specs.declared.flight.Flight.{Flight}
-use Rattle.link_flights.specs.Flights.Components.{is_of, places_of}
-use Rattle.link_flights.specs.Flights.Flight.{flight_at}
-use Rattle.link_flights.specs.Flights.InFlight.{in_units}
-use Rattle.link_flights.specs.Flights.Sides.{left_caps, flows_of, flow_sent, link_subject, kept_load}
+use Rattle.link_flights.proofs.Common.{◌≡◌, ◌+◌, ◌-◌, ◌*◌, ◌++◌, ◌∷◌, [], true, Bool, Some, get_or, slice_get, length}
+use Rattle.link_flights.proofs.Common.{map, sym, ap, ◌∙◌, subst, arith, option_map, map-append, slice_get-get_or}
+use Rattle.link_flights.proofs.Common.{get_or_from_slice_get, none-some, and_from, side_of, same_peer, same_peer_itself}
+use Rattle.link_flights.proofs.Common.{caps_of, looked_up, Flight, is_of, places_of, flight_at, in_units, left_caps}
+use Rattle.link_flights.proofs.Common.{flows_of, flow_sent, link_subject, kept_load}
 use Rattle.link_flights.proofs.Flights.AllSides.{HaveAdded, of_left, cap_left, link_kind, none_there, side_added}
 use Rattle.link_flights.proofs.Flights.AllSides.{sides_added, link_side}
 use Rattle.link_flights.proofs.Flights.Sides.{place_is_of, flow_at, those_at, as_many}

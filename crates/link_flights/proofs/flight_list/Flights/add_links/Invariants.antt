@@ -1,12 +1,6 @@
-use Rattle.std.proofs.Common.{◌≡◌, [], List, map}
-use Rattle.fair_rates.specs.Sides.SideOf.{side_of}
-use Rattle.link_pairs.specs.Pairs.CapsOf.{caps_of}
+use Rattle.link_flights.proofs.Common.{◌≡◌, [], List, map, side_of, caps_of, Component, is_of, places_of, flight_at}
+use Rattle.link_flights.proofs.Common.{in_units, left_caps, flows_of, link_subject}
 use Rattle.link_pairs.specs.Pairs.PeerCaps.{PeerCaps}
-use Rattle.link_flights.specs.declared.component.Component.{Component}
-use Rattle.link_flights.specs.Flights.Components.{is_of, places_of}
-use Rattle.link_flights.specs.Flights.Flight.{flight_at}
-use Rattle.link_flights.specs.Flights.InFlight.{in_units}
-use Rattle.link_flights.specs.Flights.Sides.{left_caps, flows_of, link_subject}
 use Rattle.link_flights.proofs.Flights.AllSides.{HaveAdded}
 use Rattle.link_flights.proofs.flight_list.Flights.add_links.Given as goal
 

@@ -1,18 +1,10 @@
-use Rattle.std.proofs.Common.{◌≡◌, ◌<◌, ◌+◌, ◌++◌, ◌∷◌, [], inl, inr, true, Bool, Some, List, get_or, slice_get, length, map}
-use Rattle.std.proofs.Common.{sym, ap, ◌∙◌, subst, arith, Contains, All, IfSome, option_map, ◌-◌, ◌*◌}
-use Rattle.std.proofs.lemmas.List.{map-append, with_items_is}
+use Rattle.link_flights.proofs.Common.{◌≡◌, ◌<◌, ◌+◌, ◌++◌, ◌∷◌, [], inl, inr, true, Bool, Some, List, get_or}
+use Rattle.link_flights.proofs.Common.{slice_get, length, map, sym, ap, ◌∙◌, subst, arith, Contains, All, IfSome}
+use Rattle.link_flights.proofs.Common.{option_map, ◌-◌, ◌*◌, map-append, slice_get-get_or, limits, side_of, caps_of}
+use Rattle.link_flights.proofs.Common.{Pair, looked_up, Flight, is_of, places_of, flight_at, in_units, left_caps}
+use Rattle.link_flights.proofs.Common.{flows_of, flow_sent, end_subject, kept_load, uses_end, IsSideOf}
+use Rattle.std.proofs.lemmas.List.{with_items_is}
 use Rattle.fair_rates.proofs.Lists.Places.{places_below}
-use Rattle.std.proofs.lemmas.Option.{slice_get-get_or}
-use Rattle.fair_rates.specs.Fairness.UnderCaps.{limits}
-use Rattle.fair_rates.specs.Sides.SideOf.{side_of}
-use Rattle.link_pairs.specs.Pairs.CapsOf.{caps_of}
-use Rattle.link_pairs.specs.Pairs.Entries.{Pair}
-use Rattle.link_pairs.proofs.Pairs.LookedUp.{looked_up}
-use Rattle.link_flights.specs.declared.flight.Flight.{Flight}
-use Rattle.link_flights.specs.Flights.Components.{is_of, places_of}
-use Rattle.link_flights.specs.Flights.Flight.{flight_at}
-use Rattle.link_flights.specs.Flights.InFlight.{in_units}
-use Rattle.link_flights.specs.Flights.Sides.{left_caps, flows_of, flow_sent, end_subject, kept_load, uses_end, IsSideOf}
 use Rattle.link_flights.proofs.Flights.AllSides.{HaveAdded, of_left, cap_left, end_kind, side_there, none_there, side_added, sides_added}
 use Rattle.link_flights.proofs.Flights.Sides.{place_is_of, flow_at, as_many, limited_itself, uses_if_limited}
 use Rattle.link_flights.proofs.flight_list.Flights.add_sides.Goals as goal

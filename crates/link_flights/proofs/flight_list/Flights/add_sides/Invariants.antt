@@ -1,9 +1,5 @@
-use Rattle.std.proofs.Common.{◌≡◌, List, map, length}
-use Rattle.fair_rates.specs.Sides.SideOf.{side_of}
-use Rattle.link_pairs.specs.Pairs.CapsOf.{caps_of}
-use Rattle.link_pairs.specs.Pairs.Entries.{Pair}
-use Rattle.link_flights.specs.Flights.InFlight.{in_units}
-use Rattle.link_flights.specs.Flights.Sides.{left_caps, flows_of, end_subject}
+use Rattle.link_flights.proofs.Common.{◌≡◌, List, map, length, side_of, caps_of, Pair, in_units, left_caps, flows_of}
+use Rattle.link_flights.proofs.Common.{end_subject}
 use Rattle.link_flights.proofs.Flights.AllSides.{HaveAdded}
 use Rattle.link_flights.proofs.flight_list.Flights.add_sides.Given as goal
 

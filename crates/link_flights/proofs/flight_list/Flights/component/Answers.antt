@@ -1,4 +1,4 @@
-use Rattle.std.proofs.Common.{◌∙◌}
+use Rattle.link_flights.proofs.Common.{◌∙◌}
 use Rattle.link_flights.proofs.Flights.Search.{all_listed, closed_if_near, near_if_listed}
 use Rattle.link_flights.proofs.Flights.Search.{still_has_all, still_has_messages, still_touches_new}
 use Rattle.link_flights.proofs.flight_list.Flights.component.Goals as goal

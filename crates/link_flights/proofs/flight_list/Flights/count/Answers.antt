@@ -1,4 +1,4 @@
-use Rattle.std.proofs.Common.{◌∙◌, arith}
+use Rattle.link_flights.proofs.Common.{◌∙◌, arith}
 use Rattle.link_flights.proofs.Flights.Near.{count_whole, count_part}
 use Rattle.link_flights.proofs.flight_list.Flights.count.Goals as goal
 

@@ -1,11 +1,7 @@
-use Rattle.std.proofs.Common.{◌≡◌, ◌+◌, ◌-◌, Bool, true, false, Some, slice_get}
-use Rattle.std.proofs.Common.{sym, ap, ◌∙◌, subst, arith}
-use Rattle.std.proofs.lemmas.Option.{get_or_from_slice_get, same_Some}
-use Rattle.fair_rates.specs.Sides.SideOf.{side_of}
-use Rattle.link_flights.specs.declared.flight.Flight.{Flight}
-use Rattle.link_flights.specs.Flights.Components.{is_of, places_of}
-use Rattle.link_flights.specs.Flights.Flight.{flight_at, rate_of}
-use Rattle.link_flights.specs.Flights.Sides.{IsCounted, flow_sent, uses_end, end_subject}
+use Rattle.link_flights.proofs.Common.{◌≡◌, ◌+◌, ◌-◌, Bool, true, false, Some, slice_get, sym, ap, ◌∙◌, subst, arith}
+use Rattle.link_flights.proofs.Common.{get_or_from_slice_get, same_Some, side_of, Flight, is_of, places_of, flight_at}
+use Rattle.link_flights.proofs.Common.{rate_of, flow_sent, uses_end, end_subject}
+use Rattle.link_flights.specs.Flights.Sides.{IsCounted}
 use Rattle.link_flights.proofs.Flights.Sides.{count_passed, count_user, count_rate, kept_rate}
 use Rattle.link_flights.proofs.Flights.Numbered.{kept_unlisted}
 use Rattle.link_flights.proofs.Flights.Sides.{place_is_of}

@@ -1,6 +1,4 @@
-use Rattle.std.proofs.Common.{◌≡◌}
-use Rattle.fair_rates.proofs.Lists.InPlace.{IsChangedUpTo}
-use Rattle.link_flights.specs.Flights.LargerUnits.{IsCountedBy}
+use Rattle.link_flights.proofs.Common.{◌≡◌, IsChangedUpTo, IsCountedBy}
 use Rattle.link_flights.proofs.flight_list.Flights.divide_each.Given as goal
 
 abbrev pub invariant-loop-at : goal.invariant-loop-at

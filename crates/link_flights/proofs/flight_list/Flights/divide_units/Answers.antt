@@ -1,7 +1,4 @@
-use Rattle.std.proofs.Common.{◌≡◌, ◌*◌, ◌/◌, sym, ap, ◌∙◌, subst}
-use Rattle.std.specs.List.{AllZip}
-use Rattle.link_flights.specs.Flights.Flight.{flights_at}
-use Rattle.link_flights.specs.Flights.InFlight.{in_units}
+use Rattle.link_flights.proofs.Common.{◌≡◌, ◌*◌, ◌/◌, sym, ap, ◌∙◌, subst, AllZip, flights_at, in_units}
 use Rattle.link_flights.proofs.Flights.Units.{other_factor}
 use Rattle.link_flights.proofs.Flights.LargerUnits.{IsLarger, times_part, larger_units, worth_as_before}
 use Rattle.link_flights.proofs.Flights.LargerUnits.{timed_as_before, fair_as_before, limited_as_before, differ_as_before}

@@ -1,5 +1,4 @@
-use Rattle.std.proofs.Common.{◌≡◌}
-use Rattle.fair_rates.proofs.Lists.InPlace.{IsChangedUpTo}
+use Rattle.link_flights.proofs.Common.{◌≡◌, IsChangedUpTo}
 use Rattle.link_flights.proofs.Flights.Flight.{IsBrought}
 use Rattle.link_flights.proofs.flight_list.Flights.drain.Given as goal
 

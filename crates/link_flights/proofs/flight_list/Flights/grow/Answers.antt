@@ -1,9 +1,7 @@
-use Rattle.std.proofs.Common.{[]}
-use Rattle.std.proofs.Common.{◌≡◌, ◌≤◌, ◌+◌, ◌++◌, length, take, refl, sym, ap, ◌∙◌, subst, arith}
+use Rattle.link_flights.proofs.Common.{[], ◌≡◌, ◌≤◌, ◌+◌, ◌++◌, length, take, refl, sym, ap, ◌∙◌, subst, arith}
+use Rattle.link_flights.proofs.Common.{append-nil, take_all, AreAllListed, AreTouched, AreNoted}
 use Rattle.std.specs.Prelude.{IfSome}
 use Rattle.std.proofs.Math.Seq.{take-append_seam}
-use Rattle.std.proofs.lemmas.List.{append-nil, take_all}
-use Rattle.link_flights.specs.Flights.Components.{AreAllListed, AreTouched, AreNoted}
 use Rattle.link_flights.proofs.Flights.Noted.{noted_in_order}
 use Rattle.link_flights.proofs.Flights.Search.{HasGrown, still_touched, starts_on, walked_in_order}
 use Rattle.link_flights.proofs.flight_list.Flights.grow.Goals as goal

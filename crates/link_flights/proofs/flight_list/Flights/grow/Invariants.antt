@@ -1,5 +1,4 @@
-use Rattle.std.proofs.Common.{◌≡◌, ◌-◌, ◌+◌, length}
-use Rattle.link_flights.specs.Flights.Components.{AreNoted}
+use Rattle.link_flights.proofs.Common.{◌≡◌, ◌-◌, ◌+◌, length, AreNoted}
 use Rattle.link_flights.proofs.Flights.Search.{HasGrown}
 use Rattle.link_flights.proofs.flight_list.Flights.grow.Given as goal
 

@@ -1,5 +1,4 @@
-use Rattle.std.proofs.Common.{◌&&◌, sym, ◌∙◌}
-use Rattle.fair_rates.specs.Sides.Subjects.{same_peer}
+use Rattle.link_flights.proofs.Common.{◌&&◌, sym, ◌∙◌, same_peer}
 use Rattle.link_flights.proofs.Flights.Standing.{any_sent}
 use Rattle.link_flights.proofs.flight_list.Flights.has.Goals as goal
 

@@ -1,11 +1,5 @@
-use Rattle.std.proofs.Common.{◌≡◌, ◌≤◌, ◌||◌, true, false, get_or, refl, ap, sym, ◌∙◌, arith}
-use Rattle.std.proofs.lemmas.List.{get_or_default}
-use Rattle.std.proofs.lemmas.Option.{slice_get_read}
-use Rattle.link_simulation.specs.Simulation.Rates.{is_unlimited}
-use Rattle.link_flights.specs.Flights.Flight.{flight_at}
-use Rattle.link_flights.specs.Flights.Rated.{is_out}
-use Rattle.link_pairs.specs.Pairs.CapsOf.{caps_of}
-use Rattle.link_pairs.specs.Pairs.Messages.{message_of}
+use Rattle.link_flights.proofs.Common.{◌≡◌, ◌≤◌, ◌||◌, true, false, get_or, refl, ap, sym, ◌∙◌, arith, get_or_default}
+use Rattle.link_flights.proofs.Common.{slice_get_read, is_unlimited, flight_at, is_out, caps_of, message_of}
 use Rattle.link_flights.proofs.Flights.Done.{as_test, out_by_finish, out_by_left, out_unrated, limited_there}
 use Rattle.link_flights.proofs.Flights.Flight.{is_past, all_there, past_so}
 use Rattle.link_flights.proofs.flight_list.Flights.is_done.Goals as goal

@@ -1,7 +1,5 @@
-use Rattle.std.proofs.Common.{◌≡◌, [], length, refl, sym, ◌∙◌, subst, arith}
-use Rattle.std.proofs.lemmas.List.{append-nil}
-use Rattle.link_flights.specs.Flights.Components.{AreSuited, AreNoted}
-use Rattle.link_flights.specs.declared.component.Component.{Component}
+use Rattle.link_flights.proofs.Common.{◌≡◌, [], length, refl, sym, ◌∙◌, subst, arith, append-nil, AreSuited, AreNoted}
+use Rattle.link_flights.proofs.Common.{Component}
 use Rattle.link_flights.proofs.Flights.Search.{HasJoinedAll, HasWalked, none_listed, walked_more, walked_all}
 use Rattle.link_flights.proofs.Flights.Search.{fewer_behind, next_inside, starts_on, suited_with_one}
 use Rattle.link_flights.proofs.flight_list.Flights.join_end.Goals.{then-is_new+in_ok-join_one, else-is_new}

@@ -1,6 +1,4 @@
-use Rattle.std.proofs.Common.{◌<◌, ◌≤◌, length, ap, subst, arith}
-use Rattle.std.proofs.lemmas.List.{take_all}
-use Rattle.link_flights.specs.Flights.Components.{AreSuited}
+use Rattle.link_flights.proofs.Common.{◌<◌, ◌≤◌, length, ap, subst, arith, take_all, AreSuited}
 use Rattle.link_flights.proofs.Flights.Search.{joined_one}
 use Rattle.link_flights.proofs.flight_list.Flights.join_near.Goals as goal
 

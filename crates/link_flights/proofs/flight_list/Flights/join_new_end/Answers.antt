@@ -1,6 +1,4 @@
-use Rattle.std.proofs.Common.{take, sym, ap, ◌∙◌}
-use Rattle.std.specs.List.{list_any}
-use Rattle.link_flights.specs.Flights.Table.{share}
+use Rattle.link_flights.proofs.Common.{take, sym, ap, ◌∙◌, list_any, share}
 use Rattle.link_flights.proofs.Flights.Search.{listed_before}
 use Rattle.link_flights.proofs.flight_list.Flights.join_new_end.Goals as goal
 

@@ -1,9 +1,7 @@
-use Rattle.std.proofs.Common.{◌≡◌, ◌<◌, ◌≤◌, ◌∙◌, All, length, true, subst, arith}
-use Rattle.std.proofs.lemmas.List.{take_all}
+use Rattle.link_flights.proofs.Common.{◌≡◌, ◌<◌, ◌≤◌, ◌∙◌, All, length, true, subst, arith, take_all, slice_get_within}
+use Rattle.link_flights.proofs.Common.{has_both}
 use Rattle.std.proofs.lemmas.List.Elements.{All-map}
 use Rattle.link_pairs.specs.declared.message.Message.{Message}
-use Rattle.std.proofs.lemmas.Option.{slice_get_within}
-use Rattle.link_flights.specs.Flights.Components.{has_both}
 use Rattle.link_flights.proofs.Flights.Search.{still_has_all, still_touches_new, has_one_more, touches_one_more}
 use Rattle.link_flights.proofs.flight_list.Flights.join_touched.Goals as goal
 

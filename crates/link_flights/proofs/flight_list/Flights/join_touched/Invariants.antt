@@ -1,5 +1,5 @@
-use Rattle.std.proofs.Common.{◌≡◌, All, true, take}
-use Rattle.link_flights.specs.Flights.Components.{has_both, AllNewTouch}
+use Rattle.link_flights.proofs.Common.{◌≡◌, All, true, take, has_both}
+use Rattle.link_flights.specs.Flights.Components.{AllNewTouch}
 use Rattle.link_flights.proofs.Flights.Search.{AllTouchFrom}
 use Rattle.link_flights.proofs.flight_list.Flights.join_touched.Given as goal
 

@@ -1,10 +1,6 @@
-use Rattle.std.proofs.Common.{◌≡◌, List, None, Some, IfSome, cond, slice_get, sym, ap, ◌∙◌, subst, true}
-use Rattle.fair_rates.specs.Sides.SideOf.{side_of}
-use Rattle.link_pairs.specs.Pairs.CapsOf.{caps_of}
-use Rattle.link_pairs.specs.Pairs.Entries.{Pair}
-use Rattle.link_flights.specs.declared.flight.Flight.{Flight}
-use Rattle.link_flights.specs.Flights.InFlight.{in_units}
-use Rattle.link_flights.specs.Flights.Sides.{flow_sent, flows_of, left_caps, left_of, uses_end, end_subject, IsSideOf}
+use Rattle.link_flights.proofs.Common.{◌≡◌, List, None, Some, IfSome, cond, slice_get, sym, ap, ◌∙◌, subst, true}
+use Rattle.link_flights.proofs.Common.{side_of, caps_of, Pair, Flight, in_units, flow_sent, flows_of, left_caps}
+use Rattle.link_flights.proofs.Common.{left_of, uses_end, end_subject, IsSideOf}
 use Rattle.link_flights.proofs.Flights.AllSides.{cap_left, none_left}
 use Rattle.link_flights.proofs.flight_list.Flights.left_at.Goals as goal
 

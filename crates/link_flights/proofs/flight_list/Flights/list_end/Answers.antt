@@ -1,4 +1,4 @@
-use Rattle.std.proofs.Common.{◌∙◌, refl, arith}
+use Rattle.link_flights.proofs.Common.{◌∙◌, refl, arith}
 use Rattle.link_flights.proofs.Flights.Search.{none_listed, walked_more, walked_all}
 use Rattle.link_flights.proofs.Flights.Search.{fewer_behind, next_inside}
 use Rattle.link_flights.proofs.flight_list.Flights.list_end.Goals as goal

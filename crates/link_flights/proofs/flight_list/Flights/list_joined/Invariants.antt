@@ -1,5 +1,4 @@
-use Rattle.std.proofs.Common.{◌≡◌, length}
-use Rattle.link_flights.specs.Flights.Components.{AreNoted}
+use Rattle.link_flights.proofs.Common.{◌≡◌, length, AreNoted}
 use Rattle.link_flights.proofs.Flights.Search.{HasListedUpTo}
 use Rattle.link_flights.proofs.flight_list.Flights.list_joined.Given as goal
 

@@ -1,11 +1,8 @@
-use Rattle.std.proofs.Common.{rules, tests, ◌∙◌, sym, ap, not}
+use Rattle.link_flights.proofs.Common.{rules, ◌∙◌, sym, ap, not, list_all-map, list_all, is_unlimited, message_of}
+use Rattle.link_flights.proofs.Common.{caps_of}
+use Rattle.std.proofs.Common.{tests}
 use Rattle.std.proofs.lemmas.Iterator.{YieldsList-from_slice}
 use Rattle.std.proofs.lemmas.Iterator.Search.{all_from_yields_List}
-use Rattle.std.proofs.lemmas.List.Folds.{list_all-map}
-use Rattle.std.specs.List.{list_all}
-use Rattle.link_simulation.specs.Simulation.Rates.{is_unlimited}
-use Rattle.link_pairs.specs.Pairs.Messages.{message_of}
-use Rattle.link_pairs.specs.Pairs.CapsOf.{caps_of}
 use Rattle.link_flights.proofs.flight_list.Flights.loose_is_limited.Goals as goal
 
 pub returns : goal.returns

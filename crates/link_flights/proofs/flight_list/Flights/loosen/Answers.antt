@@ -1,9 +1,5 @@
-use Rattle.std.proofs.Common.{◌≡◌, Contains, map, get_or, sym, ap, ◌∙◌, subst}
-use Rattle.std.proofs.lemmas.List.{get_or_default}
-use Rattle.link_pairs.specs.Pairs.Messages.{message_of}
-use Rattle.link_flights.specs.declared.flight.Flight.{Flight}
-use Rattle.link_flights.specs.Flights.Flight.{flight_at}
-use Rattle.link_flights.specs.Flights.Rated.{IsNoMore}
+use Rattle.link_flights.proofs.Common.{◌≡◌, Contains, map, get_or, sym, ap, ◌∙◌, subst, get_or_default, message_of}
+use Rattle.link_flights.proofs.Common.{Flight, flight_at, IsNoMore}
 use Rattle.link_flights.proofs.Flights.Loose.{listed_with, still_listed}
 use Rattle.link_flights.proofs.flight_list.Flights.loosen.Goals as goal
 

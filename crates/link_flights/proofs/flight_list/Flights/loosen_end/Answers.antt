@@ -1,4 +1,4 @@
-use Rattle.std.proofs.Common.{refl, ◌∙◌}
+use Rattle.link_flights.proofs.Common.{refl, ◌∙◌}
 use Rattle.link_flights.proofs.Flights.Loose.{none_loosened, loosened_inside, loosened_more, loosened_all, fewer_loosened}
 use Rattle.link_flights.proofs.flight_list.Flights.loosen_end.Goals as goal
 

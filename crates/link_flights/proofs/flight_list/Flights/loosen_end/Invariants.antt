@@ -1,4 +1,4 @@
-use Rattle.std.proofs.Common.{◌≡◌}
+use Rattle.link_flights.proofs.Common.{◌≡◌}
 use Rattle.link_flights.proofs.Flights.Loose.{HasLoosened}
 use Rattle.link_flights.proofs.Flights.Search.{behind}
 use Rattle.link_flights.proofs.flight_list.Flights.loosen_end.Given as goal

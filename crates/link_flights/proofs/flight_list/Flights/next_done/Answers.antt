@@ -1,9 +1,5 @@
-use Rattle.std.proofs.Common.{◌≡◌, inl, inr, get_or, sym, ap, ◌∙◌, arith}
-use Rattle.std.proofs.lemmas.Bool.{cases_lt}
-use Rattle.link_pairs.specs.Pairs.CapsOf.{caps_of}
-use Rattle.link_flights.specs.declared.flight.Flight.{Flight}
-use Rattle.link_flights.specs.Flights.Flight.{flight_at}
-use Rattle.link_flights.specs.Flights.Rated.{is_out}
+use Rattle.link_flights.proofs.Common.{◌≡◌, inl, inr, get_or, sym, ap, ◌∙◌, arith, cases_lt, caps_of, Flight, flight_at}
+use Rattle.link_flights.proofs.Common.{is_out}
 use Rattle.link_flights.proofs.Flights.Settled.{none_out_between}
 use Rattle.link_flights.proofs.flight_list.Flights.next_done.Goals as goal
 use Rattle.link_flights.proofs.flight_list.Flights.next_done.Goals.{then-were_rated+then-from-self, else-were_rated}

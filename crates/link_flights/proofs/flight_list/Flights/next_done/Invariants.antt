@@ -1,7 +1,4 @@
-use Rattle.link_flights.specs.Flights.Flight.{flight_at}
-use Rattle.link_flights.specs.Flights.InFlight.{PassesNowhere}
-use Rattle.link_flights.specs.Flights.Rated.{is_out}
-use Rattle.link_pairs.specs.Pairs.CapsOf.{caps_of}
+use Rattle.link_flights.proofs.Common.{flight_at, PassesNowhere, is_out, caps_of}
 use Rattle.link_flights.proofs.flight_list.Flights.next_done.Given as goal
 
 abbrev pub invariant-loop-at : goal.invariant-loop-at

@@ -1,10 +1,6 @@
-use Rattle.std.proofs.Common.{◌≡◌, ◌<◌, ◌++◌, ◌∷◌, [], Bool, Some, slice_get, length, sym, ap, ◌∙◌, arith}
-use Rattle.std.specs.List.{filter}
-use Rattle.std.proofs.lemmas.List.{take_all}
-use Rattle.std.proofs.lemmas.Option.{slice_get-get_or, get_or_from_slice_get, slice_get_within}
-use Rattle.link_flights.specs.declared.flight.Flight.{Flight}
-use Rattle.link_flights.specs.Flights.Components.{keeps, touches, places_of, those_near}
-use Rattle.link_flights.specs.Flights.Flight.{flight_at}
+use Rattle.link_flights.proofs.Common.{◌≡◌, ◌<◌, ◌++◌, ◌∷◌, [], Bool, Some, slice_get, length, sym, ap, ◌∙◌, arith}
+use Rattle.link_flights.proofs.Common.{filter, take_all, slice_get-get_or, get_or_from_slice_get, slice_get_within}
+use Rattle.link_flights.proofs.Common.{Flight, keeps, touches, places_of, those_near, flight_at}
 use Rattle.link_flights.proofs.Flights.Near.{count_part, place_is}
 use Rattle.link_flights.proofs.Flights.Places.{places_length}
 use Rattle.link_flights.proofs.Flights.Sides.{place_is_of, anew_there, anew_places, anew_listed, kept_unlisted}

@@ -1,6 +1,4 @@
-use Rattle.std.proofs.Common.{◌≡◌, take}
-use Rattle.std.specs.List.{filter}
-use Rattle.link_flights.specs.Flights.Components.{touches, places_of}
+use Rattle.link_flights.proofs.Common.{◌≡◌, take, filter, touches, places_of}
 use Rattle.link_flights.proofs.Flights.Sides.{anew_there}
 use Rattle.link_flights.proofs.flight_list.Flights.places_rated.Given as goal
 

@@ -1,11 +1,6 @@
-use Rattle.std.proofs.Common.{◌≡◌, ◌++◌, ◌∷◌, [], ◌*◌, length, Some, None, false, refl, sym, ap, ◌∙◌, subst}
-use Rattle.std.proofs.lemmas.List.{map-append}
-use Rattle.fair_rates.specs.Numbers.Amount.{billion, whole}
-use Rattle.link_flights.specs.declared.flight.Flight.{Flight}
-use Rattle.link_pairs.specs.Pairs.Messages.{message_of}
-use Rattle.link_flights.specs.Flights.Flight.{UnitFlight, flight_at, flights_at, AreTimed}
-use Rattle.link_flights.specs.Flights.RatedFlights.{rated_flight_of, sending_of}
-use Rattle.link_flights.specs.Flights.InFlight.{in_flight, in_units}
+use Rattle.link_flights.proofs.Common.{◌≡◌, ◌++◌, ◌∷◌, [], ◌*◌, length, Some, None, false, refl, sym, ap, ◌∙◌, subst}
+use Rattle.link_flights.proofs.Common.{map-append, billion, whole, Flight, message_of, UnitFlight, flight_at}
+use Rattle.link_flights.proofs.Common.{flights_at, AreTimed, rated_flight_of, sending_of, in_flight, in_units}
 use Rattle.link_flights.proofs.Flights.Standing.{timed_with}
 use Rattle.link_flights.proofs.Flights.Units.{units_of_bytes, no_units}
 use Rattle.link_flights.proofs.flight_list.Flights.push.Goals as goal

@@ -1,7 +1,4 @@
-use Rattle.std.proofs.Common.{length, sym, ap, ◌∙◌, subst, arith}
-use Rattle.std.specs.List.{list_all}
-use Rattle.std.proofs.lemmas.List.{length-set}
-use Rattle.link_flights.specs.Flights.Flight.{HaveRates}
+use Rattle.link_flights.proofs.Common.{length, sym, ap, ◌∙◌, subst, arith, list_all, length-set, HaveRates}
 use Rattle.link_flights.proofs.Flights.Flight.{all_with, is_past}
 use Rattle.link_flights.proofs.Flights.Settled.{rates_put}
 use Rattle.link_flights.proofs.flight_list.Flights.put.Goals as goal

@@ -1,6 +1,4 @@
-use Rattle.std.proofs.Common.{◌+◌, inr, ap}
-use Rattle.fair_rates.specs.Fairness.Exists.{product}
-use Rattle.link_flights.specs.Flights.Flight.{rate_of}
+use Rattle.link_flights.proofs.Common.{◌+◌, inr, ap, product, rate_of}
 use Rattle.link_flights.proofs.Flights.Rerating.{put_anew}
 use Rattle.link_flights.proofs.flight_list.Flights.put_rerated.Goals as goal
 

@@ -1,10 +1,5 @@
-use Rattle.std.proofs.Common.{rules, ◌≤◌, ◌∙◌, IfSome, sym, ap, subst, arith}
-use Rattle.std.specs.List.{list_all}
-use Rattle.link_simulation.specs.Simulation.World.{last_moment}
-use Rattle.link_pairs.specs.Pairs.CapsOf.{caps_of}
-use Rattle.link_pairs.proofs.Pairs.LookedUp.{looked_up}
-use Rattle.link_flights.specs.declared.flight.Flight.{Flight}
-use Rattle.link_flights.specs.Flights.InFlight.{in_units}
+use Rattle.link_flights.proofs.Common.{rules, ◌≤◌, ◌∙◌, IfSome, sym, ap, subst, arith, list_all, last_moment, caps_of}
+use Rattle.link_flights.proofs.Common.{looked_up, Flight, in_units}
 use Rattle.link_flights.specs.Flights.Rated.{GivesBeside}
 use Rattle.link_flights.proofs.Flights.Alone.{none_there, none_given}
 use Rattle.link_flights.proofs.Flights.RatesGiven.{beside_given, still_given}

@@ -1,15 +1,9 @@
-use Rattle.std.proofs.Common.{rules, ◌≡◌, ◌≤◌, ◌*◌, IfSome, All, [], sym, ap, ap₂, ◌∙◌, subst, arith, map}
+use Rattle.link_flights.proofs.Common.{rules, ◌≡◌, ◌≤◌, ◌*◌, IfSome, All, [], sym, ap, ap₂, ◌∙◌, subst, arith, map}
+use Rattle.link_flights.proofs.Common.{AllZip, product, parts_of_level, last_moment, caps_of, looked_up, UnitFlight}
+use Rattle.link_flights.proofs.Common.{flights_at, AreTimed, in_units, rates_found, rates_of_levels, rerated}
+use Rattle.link_flights.proofs.Common.{IsRatedFrom}
 use Rattle.std.specs.Prelude.{◌≢◌}
 use Rattle.std.proofs.lemmas.Bool.{true≢false}
-use Rattle.std.specs.List.{AllZip}
-use Rattle.fair_rates.specs.Fairness.Exists.{product}
-use Rattle.fair_rates.specs.Filling.FairParts.{parts_of_level}
-use Rattle.link_simulation.specs.Simulation.World.{last_moment}
-use Rattle.link_pairs.specs.Pairs.CapsOf.{caps_of}
-use Rattle.link_pairs.proofs.Pairs.LookedUp.{looked_up}
-use Rattle.link_flights.specs.Flights.Flight.{UnitFlight, flights_at, AreTimed}
-use Rattle.link_flights.specs.Flights.InFlight.{in_units}
-use Rattle.link_flights.specs.Flights.Rated.{rates_found, rates_of_levels, rerated, IsRatedFrom}
 use Rattle.link_flights.proofs.Flights.Components.{found_each, whole_rerated}
 use Rattle.link_flights.proofs.Flights.ComponentFlows.{closed_whole}
 use Rattle.link_flights.proofs.Flights.Numbered.{anew_in_order, anew_within}

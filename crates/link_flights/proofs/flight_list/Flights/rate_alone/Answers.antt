@@ -1,17 +1,9 @@
-use Rattle.std.proofs.Common.{◌≡◌, ◌∷◌, ◌∙◌, [], sym, ap, subst}
-use Rattle.std.specs.Prelude.{slice_index, unwrap_or}
-use Rattle.std.proofs.lemmas.List.{get_or_default}
-use Rattle.fair_rates.specs.Fairness.Fair.{IsFair}
-use Rattle.fair_rates.specs.Fairness.UnderCaps.{sides_under}
+use Rattle.link_flights.proofs.Common.{◌≡◌, ◌∷◌, ◌∙◌, [], sym, ap, subst, slice_index, unwrap_or, get_or_default}
+use Rattle.link_flights.proofs.Common.{IsFair, sides_under, is_delivered, caps_of, message_of, looked_up, Flight}
+use Rattle.link_flights.proofs.Common.{flow_sent}
 use Rattle.fair_rates.specs.declared.bandwidth.FlowCaps.{FlowCaps}
 use Rattle.fair_rates.proofs.Filling.Alone.{parts_alone_fair}
-use Rattle.link_simulation.specs.Simulation.Messages.{is_delivered}
-use Rattle.link_pairs.specs.Pairs.CapsOf.{caps_of}
-use Rattle.link_pairs.specs.Pairs.Messages.{message_of}
-use Rattle.link_pairs.proofs.Pairs.LookedUp.{looked_up}
-use Rattle.link_flights.specs.declared.flight.Flight.{Flight}
 use Rattle.link_flights.specs.Flights.Rated.{AreFairFor}
-use Rattle.link_flights.specs.Flights.Sides.{flow_sent}
 use Rattle.link_flights.proofs.Flights.Alone.{alone_fair}
 use Rattle.link_flights.proofs.flight_list.Flights.rate_alone.Goals as goal
 

@@ -1,7 +1,4 @@
-use Rattle.std.proofs.Common.{rules, ◌≤◌, IfSome, arith}
-use Rattle.link_simulation.specs.Simulation.World.{last_moment}
-use Rattle.link_pairs.specs.Pairs.CapsOf.{caps_of}
-use Rattle.link_flights.specs.Flights.InFlight.{in_units}
+use Rattle.link_flights.proofs.Common.{rules, ◌≤◌, IfSome, arith, last_moment, caps_of, in_units}
 use Rattle.link_flights.proofs.Flights.Alone.{first_kept, first_left, one_given}
 use Rattle.link_flights.proofs.Flights.RatesGiven.{still_given}
 use Rattle.link_flights.proofs.Flights.Rerating.{first_finish_is}

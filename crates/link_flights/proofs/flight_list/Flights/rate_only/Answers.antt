@@ -1,7 +1,5 @@
-use Rattle.std.proofs.Common.{rules, ◌≡◌, ◌∷◌, ◌&&◌, ◌∙◌, [], true, nat_le, ap, refl}
-use Rattle.link_pairs.specs.Pairs.CapsOf.{caps_of}
-use Rattle.link_flights.specs.Flights.InFlight.{in_units}
-use Rattle.link_flights.specs.Flights.Rated.{rerated, AreRatedBeside}
+use Rattle.link_flights.proofs.Common.{rules, ◌≡◌, ◌∷◌, ◌&&◌, ◌∙◌, [], true, nat_le, ap, refl, caps_of, in_units}
+use Rattle.link_flights.proofs.Common.{rerated, AreRatedBeside}
 use Rattle.link_flights.proofs.flight_list.Flights.rate_only.Goals as goal
 
 pub set_rates-requires-clause-one_each : goal.set_rates-requires-clause-one_each

@@ -1,17 +1,9 @@
-use Rattle.std.proofs.Common.{rules, arith, ◌≡◌, [], true, map, refl, sym, ap, ◌∙◌, subst, nat_le}
-use Rattle.std.specs.List.{list_all}
+use Rattle.link_flights.proofs.Common.{rules, arith, ◌≡◌, [], true, map, refl, sym, ap, ◌∙◌, subst, nat_le, list_all}
+use Rattle.link_flights.proofs.Common.{nil_from_length, parts_of_level, caps_of, in_units, AreRatedBeside, rates_found}
+use Rattle.link_flights.proofs.Common.{rates_of_levels, rerated, product, IsFair, slice_index, sides_under, left_caps}
+use Rattle.link_flights.proofs.Common.{flows_of}
 use Rattle.std.proofs.lemmas.Bool.Decides.{nat_tests}
 use Rattle.std.proofs.lemmas.Grind.{common_steps}
-use Rattle.std.proofs.lemmas.List.{nil_from_length}
-use Rattle.fair_rates.specs.Filling.FairParts.{parts_of_level}
-use Rattle.link_pairs.specs.Pairs.CapsOf.{caps_of}
-use Rattle.link_flights.specs.Flights.InFlight.{in_units}
-use Rattle.link_flights.specs.Flights.Rated.{AreRatedBeside, rates_found, rates_of_levels, rerated}
-use Rattle.fair_rates.specs.Fairness.Exists.{product}
-use Rattle.fair_rates.specs.Fairness.Fair.{IsFair}
-use Rattle.std.specs.Prelude.{slice_index}
-use Rattle.fair_rates.specs.Fairness.UnderCaps.{sides_under}
-use Rattle.link_flights.specs.Flights.Sides.{left_caps, flows_of}
 use Rattle.link_flights.proofs.Flights.Components.{found_each}
 use Rattle.link_flights.proofs.Flights.Numbered.{anew_in_order, anew_within}
 use Rattle.link_flights.proofs.Flights.OnlyRated.{none_beside, all_go_on, one_listed}

@@ -1,20 +1,10 @@
-use Rattle.std.proofs.Common.{◌<◌, All, map, length, sym, ap, ◌∙◌, subst, arith}
-use Rattle.std.proofs.Common.{get_or}
-use Rattle.std.specs.Prelude.{slice_index}
-use Rattle.std.proofs.lemmas.Option.{slice_get-get_or}
-use Rattle.fair_rates.specs.Fairness.UnderCaps.{limits}
-use Rattle.fair_rates.proofs.Lists.Members.{contains_from_in, in_map, in_get}
+use Rattle.link_flights.proofs.Common.{◌<◌, All, map, length, sym, ap, ◌∙◌, subst, arith, get_or, slice_index}
+use Rattle.link_flights.proofs.Common.{slice_get-get_or, limits, contains_from_in, in_map, in_get, side_of, caps_of}
+use Rattle.link_flights.proofs.Common.{looked_up, in_units, left_caps, flows_of, flow_in_flight, length-map, those_of}
+use Rattle.link_flights.proofs.Common.{rates_found}
 use Rattle.fair_rates.proofs.Lists.Places.{places_below}
-use Rattle.fair_rates.specs.Sides.SideOf.{side_of}
-use Rattle.link_pairs.specs.Pairs.CapsOf.{caps_of}
-use Rattle.link_pairs.proofs.Pairs.LookedUp.{looked_up}
-use Rattle.link_flights.specs.Flights.InFlight.{in_units}
-use Rattle.link_flights.specs.Flights.Sides.{left_caps, flows_of, flow_in_flight}
 use Rattle.fair_rates.proofs.Fairness.ByMembers.{fair_of_members}
 use Rattle.fair_rates.specs.Filling.FairParts.{flow_parts}
-use Rattle.std.proofs.lemmas.List.{length-map}
-use Rattle.link_flights.specs.Flights.Components.{those_of}
-use Rattle.link_flights.specs.Flights.Rated.{rates_found}
 use Rattle.link_flights.proofs.Flights.AllSides.{of_left, parts_found}
 use Rattle.link_flights.proofs.Flights.Components.{fair_alike}
 use Rattle.link_flights.proofs.Flights.Sides.{as_many}

@@ -1,9 +1,5 @@
-use Rattle.std.proofs.Common.{◌≡◌, ◌<◌, length, get_or, sym, subst, arith}
-use Rattle.fair_rates.specs.Numbers.Amount.{reduced}
-use Rattle.link_simulation.specs.Rule.Planned.{RatedFlight}
-use Rattle.link_flights.specs.Flights.Flight.{flight_at}
-use Rattle.link_flights.specs.Flights.RatedFlights.{rated_flight_of}
-use Rattle.link_flights.specs.Flights.InFlight.{in_flight}
+use Rattle.link_flights.proofs.Common.{◌≡◌, ◌<◌, length, get_or, sym, subst, arith, reduced, RatedFlight, flight_at}
+use Rattle.link_flights.proofs.Common.{rated_flight_of, in_flight}
 use Rattle.link_flights.specs.Flights.Readings.{IsReadAs, IsReadingOf}
 use Rattle.fair_rates.proofs.Lists.Copied.{copied_more, copied_all}
 use Rattle.link_flights.proofs.Flights.Standing.{length_in_flight, there_in_flight}

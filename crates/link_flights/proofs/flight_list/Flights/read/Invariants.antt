@@ -1,6 +1,4 @@
-use Rattle.std.proofs.Common.{take}
-use Rattle.std.specs.List.{AllZip}
-use Rattle.link_flights.specs.Flights.InFlight.{in_flight}
+use Rattle.link_flights.proofs.Common.{take, AllZip, in_flight}
 use Rattle.link_flights.specs.Flights.Readings.{IsReadAs}
 use Rattle.link_flights.proofs.flight_list.Flights.read.Given as goal
 

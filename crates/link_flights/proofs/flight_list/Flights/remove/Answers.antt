@@ -1,6 +1,4 @@
-use Rattle.std.proofs.Common.{◌-◌, sym, ap, ◌∙◌, subst, arith}
-use Rattle.std.specs.List.{list_all}
-use Rattle.link_flights.specs.Flights.Flight.{HaveRates}
+use Rattle.link_flights.proofs.Common.{◌-◌, sym, ap, ◌∙◌, subst, arith, list_all, HaveRates}
 use Rattle.link_flights.proofs.Flights.Flight.{all_but, is_past}
 use Rattle.link_flights.proofs.Flights.Settled.{rates_less, rates_still}
 use Rattle.link_flights.proofs.flight_list.Flights.remove.Goals as goal

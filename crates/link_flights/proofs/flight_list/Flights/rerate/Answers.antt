@@ -1,6 +1,4 @@
-use Rattle.std.proofs.Common.{refl, sym, ap, ◌∙◌}
-use Rattle.fair_rates.specs.Fairness.Exists.{product}
-use Rattle.link_flights.specs.Flights.Flight.{rate_of}
+use Rattle.link_flights.proofs.Common.{refl, sym, ap, ◌∙◌, product, rate_of}
 use Rattle.link_flights.proofs.Flights.Rerating.{none_there, goes_on}
 use Rattle.link_flights.proofs.flight_list.Flights.rerate.Goals as goal
 

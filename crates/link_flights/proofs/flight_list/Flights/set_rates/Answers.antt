@@ -1,12 +1,8 @@
-use Rattle.std.proofs.Common.{◌≡◌, ℕ, ◌+◌, ◌*◌, None, get_or, length, map, refl, sym, ap, ◌∙◌, subst, arith}
-use Rattle.std.proofs.lemmas.List.{length-map}
+use Rattle.link_flights.proofs.Common.{◌≡◌, ℕ, ◌+◌, ◌*◌, None, get_or, length, map, refl, sym, ap, ◌∙◌, subst, arith}
+use Rattle.link_flights.proofs.Common.{length-map, Rc, Global, product, parts_of_level, flight_at, flights_at, rate_of}
+use Rattle.link_flights.proofs.Common.{rates_of_levels, IsReratedAt}
 use Rattle.std.proofs.Math.ListN.{get_or-map}
-use Rattle.std.specs.declared.rc.Rc.{Rc}
-use Rattle.std.specs.declared.alloc.Global.{Global}
-use Rattle.fair_rates.specs.Fairness.Exists.{product}
-use Rattle.fair_rates.specs.Filling.FairParts.{parts_of_level}
-use Rattle.link_flights.specs.Flights.Flight.{flight_at, flights_at, rate_of}
-use Rattle.link_flights.specs.Flights.Rated.{rates_of_levels, IsReratedAt, IsCountedAt}
+use Rattle.link_flights.specs.Flights.Rated.{IsCountedAt}
 use Rattle.link_flights.proofs.Flights.Rerating.{none_rerated, something_left, has_rate, one_rerated}
 use Rattle.link_flights.proofs.Flights.Rerating.{all_rerated, timed_set, all_kept, one_counted, by_one, to_end}
 use Rattle.link_flights.proofs.Flights.Rerating.{next_in, none_more, stands_within, stands_here}

@@ -1,6 +1,4 @@
-use Rattle.std.proofs.Common.{◌≡◌}
-use Rattle.fair_rates.specs.Fairness.Exists.{product}
-use Rattle.link_flights.specs.Flights.Rated.{rates_of_levels}
+use Rattle.link_flights.proofs.Common.{◌≡◌, product, rates_of_levels}
 use Rattle.link_flights.proofs.Flights.Rerating.{IsSoFar}
 use Rattle.link_flights.proofs.flight_list.Flights.set_rates.Given as goal
 

@@ -1,5 +1,4 @@
-use Rattle.std.proofs.Common.{arith, subst}
-use Rattle.std.specs.Int.{IsGcd}
+use Rattle.link_flights.proofs.Common.{arith, subst, IsGcd}
 use Rattle.link_flights.proofs.Flights.LargerUnits.{divides_whole, next_factor, all_divided}
 use Rattle.link_flights.proofs.flight_list.Flights.shared_factor.Goals as goal
 

@@ -1,6 +1,4 @@
-use Rattle.std.proofs.Common.{◌≡◌, Some, slice_get}
-use Rattle.fair_rates.specs.Sides.SideOf.{side_of}
-use Rattle.link_flights.specs.declared.flight.Flight.{Flight}
+use Rattle.link_flights.proofs.Common.{◌≡◌, Some, slice_get, side_of, Flight}
 use Rattle.link_flights.proofs.Flights.Search.{behind}
 use Rattle.link_flights.proofs.Flights.Sides.{HasCounted}
 use Rattle.link_flights.proofs.flight_list.Flights.side_at.Given as goal

@@ -1,10 +1,6 @@
-use Rattle.std.proofs.Common.{◌<◌, All, map, length, sym, ap, ◌∙◌, subst}
-use Rattle.fair_rates.specs.Sides.SideOf.{side_of}
-use Rattle.link_pairs.specs.Pairs.CapsOf.{caps_of}
-use Rattle.link_pairs.proofs.Pairs.LookedUp.{looked_up}
-use Rattle.link_flights.specs.Flights.InFlight.{in_units}
-use Rattle.link_flights.specs.Flights.Sides.{left_caps, flows_of, AddsSides, end_subject}
-use Rattle.link_flights.specs.declared.table.End.TheVariants.{Origin}
+use Rattle.link_flights.proofs.Common.{◌<◌, All, map, length, sym, ap, ◌∙◌, subst, side_of, caps_of, looked_up}
+use Rattle.link_flights.proofs.Common.{in_units, left_caps, flows_of, end_subject, Origin}
+use Rattle.link_flights.specs.Flights.Sides.{AddsSides}
 use Rattle.link_flights.proofs.Flights.AllSides.{of_left, are_all}
 use Rattle.link_flights.proofs.Flights.Sides.{places_within}
 use Rattle.link_flights.proofs.flight_list.Flights.sides_of.Goals as goal

@@ -1,4 +1,4 @@
-use Rattle.std.proofs.Common.{refl, sym, ◌∙◌}
+use Rattle.link_flights.proofs.Common.{refl, sym, ◌∙◌}
 use Rattle.link_flights.proofs.Flights.Alike.{same_flights, same_line}
 use Rattle.link_flights.proofs.flight_list.Flights.take_back.Goals as goal
 

@@ -1,14 +1,7 @@
-use Rattle.std.proofs.Common.{◌≡◌, ◌≤◌, [], ◌++◌, ◌∷◌, true, length, get_or, refl, ap, ap₂, sym, ◌∙◌}
-use Rattle.std.proofs.Common.{subst, arith}
-use Rattle.std.proofs.lemmas.List.{map-append, get_or_default}
-use Rattle.std.specs.List.{remove}
-use Rattle.link_flights.specs.declared.flight.Flight.{Flight}
+use Rattle.link_flights.proofs.Common.{◌≡◌, ◌≤◌, [], ◌++◌, ◌∷◌, true, length, get_or, refl, ap, ap₂, sym, ◌∙◌, subst}
+use Rattle.link_flights.proofs.Common.{arith, map-append, get_or_default, remove, Flight, message_of, messages, caps_of}
+use Rattle.link_flights.proofs.Common.{flight_at, PassesNowhere, is_out}
 use Rattle.link_pairs.specs.declared.message.Message.{Message}
-use Rattle.link_pairs.specs.Pairs.Messages.{message_of, messages}
-use Rattle.link_pairs.specs.Pairs.CapsOf.{caps_of}
-use Rattle.link_flights.specs.Flights.Flight.{flight_at}
-use Rattle.link_flights.specs.Flights.InFlight.{PassesNowhere}
-use Rattle.link_flights.specs.Flights.Rated.{is_out}
 use Rattle.link_flights.proofs.Flights.Floors.{none_over, over_stay, over_leaves}
 use Rattle.link_flights.proofs.Flights.Floors.{all_over, floor_so}
 use Rattle.link_flights.proofs.Flights.InFlight.{HaveLeft, none_left, within, step_leaves, steps_stay}

@@ -1,9 +1,5 @@
-use Rattle.std.proofs.Common.{◌≡◌, ℕ, length}
-use Rattle.link_flights.specs.Flights.Flight.{AreTimed, flight_at}
-use Rattle.link_flights.specs.Flights.InFlight.{in_units}
-use Rattle.link_flights.specs.Flights.Rated.{is_out, IsNoMore}
-use Rattle.link_pairs.specs.Pairs.Messages.{message_of, messages}
-use Rattle.link_pairs.specs.Pairs.CapsOf.{caps_of}
+use Rattle.link_flights.proofs.Common.{◌≡◌, ℕ, length, AreTimed, flight_at, in_units, is_out, IsNoMore, message_of}
+use Rattle.link_flights.proofs.Common.{messages, caps_of}
 use Rattle.link_flights.proofs.Flights.InFlight.{HaveLeft}
 use Rattle.link_flights.proofs.Flights.Floors.{AreOver}
 use Rattle.link_flights.proofs.Flights.Leaving.{StayRated}

@@ -1,6 +1,4 @@
-use Rattle.std.proofs.Common.{◌≡◌, ◌∙◌, true, ap}
-use Rattle.link_flights.specs.declared.component.Component.{Component}
-use Rattle.link_flights.specs.Flights.InFlight.{in_units}
+use Rattle.link_flights.proofs.Common.{◌≡◌, ◌∙◌, true, ap, Component, in_units}
 use Rattle.link_flights.proofs.Flights.ComponentFlows.{closed_whole}
 use Rattle.link_flights.proofs.flight_list.Flights.touched.Goals.{then-len-self-le-FEW_NEW+in_ok-all}
 use Rattle.link_flights.proofs.flight_list.Flights.touched.Goals.{else-len-self-le-FEW_NEW}

@@ -1,7 +1,5 @@
-use Rattle.std.proofs.Common.{◌≡◌, ◌<◌, ◌∙◌, ◌++◌, ◌∷◌, [], map, take, get_or, length, sym, ap, subst, arith, add-one}
-use Rattle.std.specs.declared.rc.Rc.{Rc}
-use Rattle.std.specs.declared.alloc.Global.{Global}
-use Rattle.std.proofs.lemmas.List.{map-append, length-map, get_or-map}
+use Rattle.link_flights.proofs.Common.{◌≡◌, ◌<◌, ◌∙◌, ◌++◌, ◌∷◌, [], map, take, get_or, length, sym, ap, subst, arith}
+use Rattle.link_flights.proofs.Common.{add-one, Rc, Global, map-append, length-map, get_or-map}
 use Rattle.std.proofs.Math.Seq.{take-suc}
 use Rattle.link_pairs.specs.declared.message.Message.{Message}
 use Rattle.link_flights.proofs.loose.Loose.share.Goals as goal

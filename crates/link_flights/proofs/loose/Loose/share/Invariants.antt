@@ -1,4 +1,4 @@
-use Rattle.std.proofs.Common.{◌≡◌, map, take}
+use Rattle.link_flights.proofs.Common.{◌≡◌, map, take}
 use Rattle.link_flights.proofs.loose.Loose.share.Given as goal
 
 abbrev pub invariant-loop-message : goal.invariant-loop-message

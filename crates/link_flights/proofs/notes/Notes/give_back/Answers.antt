@@ -1,8 +1,7 @@
-use Rattle.std.proofs.Common.{◌≡◌, ◌<◌, suc, ◌+◌, true, false, get_or, length, drop, ◌∙◌, subst, arith, refl}
+use Rattle.link_flights.proofs.Common.{◌≡◌, ◌<◌, suc, ◌+◌, true, false, get_or, length, drop, ◌∙◌, subst, arith, refl}
+use Rattle.link_flights.proofs.Common.{length-set, In, in_from_contains, slice_get_within}
 use Rattle.std.proofs.Math.Seq.{drop-cons}
-use Rattle.std.proofs.lemmas.List.{length-set, drop_all}
-use Rattle.fair_rates.proofs.Lists.Members.{In, in_from_contains}
-use Rattle.std.proofs.lemmas.Option.{slice_get_within}
+use Rattle.std.proofs.lemmas.List.{drop_all}
 use Rattle.link_flights.proofs.Flights.Noted.{noted_but_one, none_left_noted}
 use Rattle.link_flights.proofs.notes.Notes.give_back.Goals as goal
 

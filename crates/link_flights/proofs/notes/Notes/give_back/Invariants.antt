@@ -1,5 +1,4 @@
-use Rattle.std.proofs.Common.{ℕ, ◌≡◌, true, Some, slice_get, length, drop}
-use Rattle.fair_rates.proofs.Lists.Members.{In}
+use Rattle.link_flights.proofs.Common.{ℕ, ◌≡◌, true, Some, slice_get, length, drop, In}
 use Rattle.link_flights.proofs.notes.Notes.give_back.Given as goal
 
 abbrev pub invariant-loop-at : goal.invariant-loop-at

@@ -1,5 +1,5 @@
-use Rattle.std.proofs.Common.{arith, ◌≡◌, ◌<◌, List, ℕ, Some, Contains, get_or, slice_get, length, sym, ap, ◌∙◌, subst}
-use Rattle.std.proofs.lemmas.Option.{slice_get_within, slice_get-get_or, get_or_from_slice_get}
+use Rattle.link_flights.proofs.Common.{arith, ◌≡◌, ◌<◌, List, ℕ, Some, Contains, get_or, slice_get, length, sym, ap}
+use Rattle.link_flights.proofs.Common.{◌∙◌, subst, slice_get_within, slice_get-get_or, get_or_from_slice_get}
 use Rattle.link_flights.proofs.Flights.Numbered.{unlisted}
 use Rattle.link_flights.proofs.numbers.Numbers.number.Goals as goal
 
@@ -8,8 +8,12 @@ returns-in_err-number-clause-none c none =
     let inside = c.self.inside in
     subst (λ places. Contains places c.args.at → ⊥) c.self.view_is
     (unlisted inside.places.items inside.number_at.items c.self.invariant c.args.at
-    (λ k noted there. omega (arith, slice_get_within inside.number_at.items c.args.at k noted,
-    ap length c.deref.ensures.value, c.in_err-number.ensures.lookup.3)))
+    (λ k noted there. omega (
+      arith,
+      slice_get_within inside.number_at.items c.args.at k noted,
+      ap length c.deref.ensures.value,
+      c.in_err-number.ensures.lookup.3,
+    )))
 
 pub returns-in_err-place-clause-none : goal.returns-in_err-place-clause-none
 returns-in_err-place-clause-none c none =
@@ -20,8 +24,13 @@ returns-in_err-place-clause-none c none =
     (λ k noted there.
     let same : number ≡ k = c.in_ok-number.ensures.lookup.1 ∙ ap (λ l. get_or l c.args.at number) c.deref.ensures.value
     ∙ get_or_from_slice_get inside.number_at.items c.args.at k number noted in
-    omega (arith, slice_get_within inside.places.items k c.args.at there, same,
-    ap length c.deref-2.ensures.value, c.in_err-place.ensures.lookup.3)))
+    omega (
+      arith,
+      slice_get_within inside.places.items k c.args.at there,
+      same,
+      ap length c.deref-2.ensures.value,
+      c.in_err-place.ensures.lookup.3,
+    )))
 
 pub returns-then-place-at-clause-some : goal.returns-then-place-at-clause-some
 returns-then-place-at-clause-some c =

@@ -1,5 +1,4 @@
-use Rattle.std.proofs.Common.{sym, ◌∙◌}
-use Rattle.link_flights.specs.declared.table.End.TheVariants.{Origin, Recipient}
+use Rattle.link_flights.proofs.Common.{sym, ◌∙◌, Origin, Recipient}
 use Rattle.link_flights.proofs.Flights.Rows.{first_shared, none_shared}
 use Rattle.link_flights.proofs.table.Table.first_at.Goals as goal
 

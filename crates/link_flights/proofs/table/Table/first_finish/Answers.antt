@@ -1,7 +1,4 @@
-use Rattle.std.proofs.Common.{sym, ap, ◌∙◌}
-use Rattle.std.specs.List.{list_any}
-use Rattle.row_table.specs.Rows.{is_due_by}
-use Rattle.link_flights.specs.Flights.Flight.{has_come}
+use Rattle.link_flights.proofs.Common.{sym, ap, ◌∙◌, list_any, is_due_by, has_come}
 use Rattle.link_flights.proofs.Flights.Rows.{kept, any-items, due, come}
 use Rattle.link_flights.proofs.table.Table.first_finish.Goals as goal
 

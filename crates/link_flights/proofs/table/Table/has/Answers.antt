@@ -1,5 +1,4 @@
-use Rattle.std.proofs.Common.{sym, ap, ◌∙◌}
-use Rattle.std.specs.List.{list_any}
+use Rattle.link_flights.proofs.Common.{sym, ap, ◌∙◌, list_any}
 use Rattle.link_flights.proofs.Flights.Rows.{kept, any-items, none-items, is_between, is_of_pair, of_pair, no_origin, no_recipient}
 use Rattle.link_flights.proofs.table.Table.has.Goals as goal
 

@@ -1,4 +1,4 @@
-use Rattle.link_flights.specs.declared.table.End.TheVariants.{Origin, Recipient}
+use Rattle.link_flights.proofs.Common.{Origin, Recipient}
 use Rattle.link_flights.proofs.Flights.Rows.{next_shared}
 use Rattle.link_flights.proofs.table.Table.next_at.Goals as goal
 

@@ -1,7 +1,4 @@
-use Rattle.std.proofs.Common.{subst}
-use Rattle.row_table.specs.Rows.{is_due_by}
-use Rattle.link_flights.specs.Flights.Flight.{has_come}
-use Rattle.link_flights.specs.Flights.InFlight.{IsNextPlace}
+use Rattle.link_flights.proofs.Common.{subst, is_due_by, has_come, IsNextPlace}
 use Rattle.link_flights.proofs.Flights.Rows.{kept, next-items, due}
 use Rattle.link_flights.proofs.table.Table.next_finished.Goals as goal
 

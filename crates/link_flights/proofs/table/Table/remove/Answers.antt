@@ -1,6 +1,4 @@
-use Rattle.std.proofs.Common.{◌≡◌, sym, ap, ◌∙◌, cond, [], false}
-use Rattle.std.specs.List.{remove}
-use Rattle.link_flights.specs.Flights.Rows.{items_of}
+use Rattle.link_flights.proofs.Common.{◌≡◌, sym, ap, ◌∙◌, cond, [], false, remove, items_of}
 use Rattle.link_flights.proofs.Flights.Rows.{on_ok, on_err, taken_back, changed, all_removed, items_removed, kept, not_given_up}
 use Rattle.link_flights.proofs.table.Table.remove.Given.{Over}
 use Rattle.link_flights.proofs.table.Table.remove.Goals as goal

@@ -1,9 +1,6 @@
-use Rattle.std.proofs.Common.{rules, ◌≡◌, refl, sym, ap, ◌∙◌}
-use Rattle.std.specs.List.{filter}
+use Rattle.link_waiting.proofs.Common.{rules, ◌≡◌, refl, sym, ap, ◌∙◌, filter, Rows, live}
 use Rattle.std.specs.Option.{is_some}
 use Rattle.std.proofs.lemmas.Fn.{filter_same}
-use Rattle.chains.specs.Chains.{Rows}
-use Rattle.link_waiting.specs.Idle.Slots.{live}
 use Rattle.link_waiting.proofs.Idle.Slots.{live_whole}
 use Rattle.link_waiting.proofs.Idle.Stands.{stands_closed, marked_now}
 use Rattle.link_waiting.proofs.slots.Slots.commit.Given as given

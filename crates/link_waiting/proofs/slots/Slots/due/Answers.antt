@@ -1,15 +1,9 @@
-use Rattle.std.proofs.Common.{◌≡◌, ℕ, ◌+◌, ◌<◌, Option, Some, IfSome, List, [], ◌∷◌, ◌++◌, length, arith, sym, subst}
-use Rattle.std.specs.List.{find, AllZip}
-use Rattle.std.specs.Option.{unwrap_or}
+use Rattle.link_waiting.proofs.Common.{◌≡◌, ℕ, ◌+◌, ◌<◌, Option, Some, IfSome, List, [], ◌∷◌, ◌++◌, length, arith, sym}
+use Rattle.link_waiting.proofs.Common.{subst, find, AllZip, unwrap_or, message_of, PeerPair, NamesPairOf, Waiter}
+use Rattle.link_waiting.proofs.Common.{waiter_of, live, has_pair, due_below, IsDue}
 use Rattle.fair_rates.proofs.Lists.Zips.{zip-push}
 use Rattle.link_pairs.specs.declared.message.Message.{Message}
-use Rattle.link_pairs.specs.Pairs.Messages.{message_of}
-use Rattle.link_pairs.specs.declared.pair.PeerPair.{PeerPair}
-use Rattle.link_waiting.specs.Idle.PairsOfMessages.{NamesPairOf}
-use Rattle.link_waiting.specs.Idle.Slots.{Waiter, waiter_of, live, has_pair}
-use Rattle.link_waiting.specs.Idle.Waits.{due_below}
 use Rattle.link_waiting.proofs.Idle.Due.{up_to_next, due_of_next, one_and_next}
-use Rattle.least_moment.specs.Moments.{IsDue}
 use Rattle.link_waiting.proofs.slots.Slots.due.Given.{Over}
 use Rattle.link_waiting.proofs.slots.Slots.due.Goals as goal
 

@@ -1,10 +1,4 @@
-use Rattle.std.proofs.Common.{◌-◌, ◌<◌, length, IfSome}
-use Rattle.std.specs.List.{AllZip}
-use Rattle.std.specs.Option.{unwrap_or}
-use Rattle.least_moment.specs.Moments.{IsDue}
-use Rattle.link_waiting.specs.Idle.PairsOfMessages.{NamesPairOf}
-use Rattle.link_waiting.specs.Idle.Slots.{live}
-use Rattle.link_waiting.specs.Idle.Waits.{due_below}
+use Rattle.link_waiting.proofs.Common.{◌-◌, ◌<◌, length, IfSome, AllZip, unwrap_or, IsDue, NamesPairOf, live, due_below}
 use Rattle.link_waiting.proofs.slots.Slots.due.Given as goal
 
 abbrev pub invariant-loop-next : goal.invariant-loop-next

@@ -1,6 +1,4 @@
-use Rattle.std.proofs.Common.{◌≡◌, Some, sym, ap, ◌∙◌}
-use Rattle.link_waiting.specs.Idle.Slots.{waiter_of}
-use Rattle.link_waiting.specs.declared.slots.Slot.{Slot}
+use Rattle.link_waiting.proofs.Common.{◌≡◌, Some, sym, ap, ◌∙◌, waiter_of, Slot}
 use Rattle.link_waiting.proofs.Idle.Slots.{found, held_there}
 use Rattle.link_waiting.proofs.slots.Slots.first.Goals as goal
 

@@ -1,4 +1,4 @@
-use Rattle.std.proofs.Common.{arith}
+use Rattle.link_waiting.proofs.Common.{arith}
 use Rattle.link_waiting.proofs.Idle.Slots.{first_some, first_none, none_owned}
 use Rattle.link_waiting.proofs.slots.Slots.first_slot.Goals as goal
 

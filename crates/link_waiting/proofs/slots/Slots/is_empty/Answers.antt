@@ -1,7 +1,5 @@
-use Rattle.std.proofs.Common.{arith}
-use Rattle.std.proofs.lemmas.Bool.{eqb-true}
+use Rattle.link_waiting.proofs.Common.{arith, eqb-true, live}
 use Rattle.std.proofs.lemmas.List.{nil_from_length}
-use Rattle.link_waiting.specs.Idle.Slots.{live}
 use Rattle.link_waiting.proofs.Idle.Slots.{gaps_and_live}
 use Rattle.link_waiting.proofs.slots.Slots.is_empty.Goals as goal
 

@@ -1,4 +1,4 @@
-use Rattle.std.proofs.Common.{arith}
+use Rattle.link_waiting.proofs.Common.{arith}
 use Rattle.link_waiting.proofs.Idle.Slots.{gaps_and_live}
 use Rattle.link_waiting.proofs.slots.Slots.len.Goals as goal
 

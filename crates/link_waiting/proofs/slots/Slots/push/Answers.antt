@@ -1,6 +1,4 @@
-use Rattle.std.proofs.Common.{Some, None, [], ◌∷◌, refl, ap, ◌∙◌}
-use Rattle.link_waiting.specs.declared.slots.Slot.{Slot}
-use Rattle.link_waiting.specs.Idle.Slots.{live}
+use Rattle.link_waiting.proofs.Common.{Some, None, [], ◌∷◌, refl, ap, ◌∙◌, Slot, live}
 use Rattle.link_waiting.proofs.Idle.Slots.{live_append}
 use Rattle.link_waiting.proofs.Idle.Stands.{stands_added, on_ok, on_one}
 use Rattle.link_waiting.proofs.slots.Slots.push.Given as given

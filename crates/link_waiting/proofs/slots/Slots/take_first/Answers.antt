@@ -1,13 +1,8 @@
-use Rattle.std.proofs.Common.{◌≡◌, Some, refl, sym, ap, ◌∙◌}
-use Rattle.std.specs.Option.{option_map}
-use Rattle.link_pairs.specs.Pairs.Messages.{message_of}
+use Rattle.link_waiting.proofs.Common.{◌≡◌, Some, refl, sym, ap, ◌∙◌, option_map, message_of, Rows, Waiter, live, Slot}
+use Rattle.link_waiting.proofs.Common.{has_pair}
 use Rattle.link_pairs.specs.declared.message.Message.{Message}
-use Rattle.chains.specs.Chains.{Rows}
-use Rattle.link_waiting.specs.Idle.Slots.{Waiter, live}
-use Rattle.link_waiting.specs.declared.slots.Slot.{Slot}
 use Rattle.link_waiting.proofs.Idle.Slots.{found, held_there, live_taken, without_missing}
 use Rattle.link_waiting.proofs.Idle.Stands.{stands_taken, pair_low}
-use Rattle.link_waiting.specs.Idle.Slots.{has_pair}
 use Rattle.link_waiting.proofs.slots.Slots.take_first.Goals as goal
 
 same : {X : Type 0} (a b : X) → Some a ≡ Some b → a ≡ b

@@ -1,11 +1,8 @@
-use Rattle.std.proofs.Common.{◌≡◌, ℕ, List, Option, Some, None, refl, sym, ap, ap₂, ◌∙◌}
-use Rattle.std.specs.Prelude.{◌==◌, true, slice_index_or}
+use Rattle.link_waiting.proofs.Common.{◌≡◌, ℕ, List, Option, Some, None, refl, sym, ap, ap₂, ◌∙◌, slice_index_or}
+use Rattle.link_waiting.proofs.Common.{eqb-true, message_of, Waiter, waiter_of, live, IsFirstSlot, Slot}
+use Rattle.std.specs.Prelude.{◌==◌, true}
 use Rattle.std.specs.Option.{option_eq}
-use Rattle.std.proofs.lemmas.Bool.{eqb-true}
-use Rattle.link_pairs.specs.Pairs.Messages.{message_of}
 use Rattle.link_pairs.specs.declared.message.Message.{Message}
-use Rattle.link_waiting.specs.Idle.Slots.{Waiter, waiter_of, live, IsFirstSlot}
-use Rattle.link_waiting.specs.declared.slots.Slot.{Slot}
 use Rattle.link_waiting.proofs.Idle.Slots.{held_there, live_told, told_still}
 use Rattle.link_waiting.proofs.Idle.Stands.{stands_told, pair_low}
 use Rattle.link_waiting.proofs.slots.Slots.tell.Given as given

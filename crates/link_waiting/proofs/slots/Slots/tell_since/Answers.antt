@@ -1,9 +1,5 @@
-use Rattle.std.proofs.Common.{◌≡◌, Some, None, sym, ap, ◌∙◌}
-use Rattle.std.specs.Option.{option_map}
+use Rattle.link_waiting.proofs.Common.{◌≡◌, Some, None, sym, ap, ◌∙◌, option_map, first_moment, Waiter, has_pair, Slot}
 use Rattle.link_pairs.specs.declared.message.Message.{Message}
-use Rattle.link_waiting.specs.Idle.FirstMoment.{first_moment}
-use Rattle.link_waiting.specs.Idle.Slots.{Waiter, has_pair}
-use Rattle.link_waiting.specs.declared.slots.Slot.{Slot}
 use Rattle.link_waiting.proofs.Idle.Slots.{found, held_there, told_missing}
 use Rattle.link_waiting.proofs.slots.Slots.tell_since.Goals as goal
 

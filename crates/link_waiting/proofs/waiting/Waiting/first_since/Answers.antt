@@ -1,6 +1,4 @@
-use Rattle.std.proofs.Common.{List, sym, ap, ◌∙◌}
-use Rattle.link_waiting.specs.Idle.Slots.{live}
-use Rattle.link_waiting.specs.Idle.Waits.{Told, has_come, since_of}
+use Rattle.link_waiting.proofs.Common.{List, sym, ap, ◌∙◌, live, Told, has_come, since_of}
 use Rattle.link_waiting.proofs.Idle.View.{told_are}
 use Rattle.link_waiting.proofs.Idle.Ready.{least_comes, pair_comes, comes_of_pair}
 use Rattle.link_waiting.proofs.waiting.Waiting.first_since.Goals as goal

@@ -1,5 +1,4 @@
-use Rattle.std.proofs.Common.{length, sym, ap, ◌∙◌}
-use Rattle.link_waiting.specs.Idle.Slots.{live}
+use Rattle.link_waiting.proofs.Common.{length, sym, ap, ◌∙◌, live}
 use Rattle.link_waiting.proofs.Idle.View.{messages_are}
 use Rattle.link_waiting.proofs.Idle.Waiting.{queue_length}
 use Rattle.link_waiting.proofs.waiting.Waiting.len.Goals as goal

@@ -1,8 +1,6 @@
-use Rattle.std.proofs.Common.{List, None, map, refl, sym, ap, ◌∙◌}
-use Rattle.link_waiting.specs.Idle.Slots.{Waiter, live, AreNumbered}
+use Rattle.link_waiting.proofs.Common.{List, None, map, refl, sym, ap, ◌∙◌, Waiter, live, AreNumbered, message_of}
+use Rattle.link_waiting.proofs.Common.{since_of, told_of, waits_of}
 use Rattle.link_waiting.proofs.Idle.View.{kept_back, on_ok, told_are}
-use Rattle.link_pairs.specs.Pairs.Messages.{message_of}
-use Rattle.link_waiting.specs.Idle.Waits.{since_of, told_of, waits_of}
 use Rattle.link_waiting.proofs.Idle.Told.{since_added}
 use Rattle.link_waiting.proofs.waiting.Waiting.push.Given as given
 use Rattle.link_waiting.proofs.waiting.Waiting.push.Goals as goal

@@ -1,11 +1,6 @@
-use Rattle.std.proofs.Common.{rules, List, ap, ◌∙◌}
-use Rattle.std.specs.Ordering.{is_lt}
+use Rattle.link_waiting.proofs.Common.{rules, List, ap, ◌∙◌, is_lt, PeerPair, pair_cmp, pair_total, live, Told}
+use Rattle.link_waiting.proofs.Common.{has_come, since_of}
 use Rattle.std.proofs.lemmas.List.Sorted.{ranks_by, answers_always}
-use Rattle.link_pairs.specs.declared.pair.PeerPair.{PeerPair}
-use Rattle.link_pairs.specs.Pairs.Entries.{pair_cmp}
-use Rattle.link_pairs.proofs.Pairs.PairOrder.{pair_total}
-use Rattle.link_waiting.specs.Idle.Slots.{live}
-use Rattle.link_waiting.specs.Idle.Waits.{Told, has_come, since_of}
 use Rattle.link_waiting.proofs.Idle.View.{in_order, told_are}
 use Rattle.link_waiting.proofs.Idle.Ready.{keys_named, keys_few, ascends}
 use Rattle.link_waiting.proofs.waiting.Waiting.ready.Goals as goal

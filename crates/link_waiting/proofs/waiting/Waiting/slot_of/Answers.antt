@@ -1,8 +1,6 @@
-use Rattle.std.proofs.Common.{◌≡◌, Option, Some, None, Bor, refl, sym, ap, ◌∙◌}
-use Rattle.std.specs.Option.{option_map, option_and_then}
-use Rattle.link_pairs.specs.Pairs.Messages.{message_of}
-use Rattle.link_waiting.specs.declared.slots.Slot.{Slot}
-use Rattle.link_waiting.specs.Idle.Slots.{Waiter, waiter_of, live}
+use Rattle.link_waiting.proofs.Common.{◌≡◌, Option, Some, None, refl, sym, ap, ◌∙◌, option_map, option_and_then}
+use Rattle.link_waiting.proofs.Common.{message_of, Slot, Waiter, waiter_of, live}
+use Rattle.std.proofs.Common.{Bor}
 use Rattle.link_waiting.proofs.Idle.Told.{said}
 use Rattle.link_waiting.proofs.Idle.Numbered.{find_false}
 use Rattle.link_waiting.proofs.Idle.View.{first_seen, since_seen}

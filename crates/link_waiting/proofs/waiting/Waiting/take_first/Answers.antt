@@ -1,9 +1,6 @@
-use Rattle.std.proofs.Common.{◌≡◌, Option, List, Some, None, map, refl, sym, ap, ◌∙◌, subst}
-use Rattle.std.specs.Option.{option_map}
-use Rattle.fair_rates.specs.Lists.WithoutFirst.{without_first}
-use Rattle.link_waiting.specs.declared.slots.Slot.{Slot}
-use Rattle.link_waiting.specs.Idle.Slots.{Waiter, live, has_number, has_pair, AreNumbered}
-use Rattle.link_waiting.specs.Idle.Waits.{queue_of, since_of, told_of, waits_of}
+use Rattle.link_waiting.proofs.Common.{◌≡◌, Option, List, Some, None, map, refl, sym, ap, ◌∙◌, subst, option_map}
+use Rattle.link_waiting.proofs.Common.{without_first, Slot, Waiter, live, has_number, has_pair, AreNumbered, queue_of}
+use Rattle.link_waiting.proofs.Common.{since_of, told_of, waits_of}
 use Rattle.link_waiting.proofs.Idle.Slots.{without_missing}
 use Rattle.link_waiting.proofs.Idle.Numbered.{find_false, numbered_without}
 use Rattle.link_waiting.proofs.Idle.View.{messages_are, told_are, first_seen, rest_seen, since_rest, kept_changed, kept_back}

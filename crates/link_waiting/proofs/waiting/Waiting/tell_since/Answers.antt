@@ -1,11 +1,8 @@
-use Rattle.std.proofs.Common.{◌≡◌, ℕ, true, Option, List, Some, None, is_none, map, refl, sym, ap, ◌∙◌, subst}
+use Rattle.link_waiting.proofs.Common.{◌≡◌, ℕ, true, Option, List, Some, None, map, refl, sym, ap, ◌∙◌, subst, find}
+use Rattle.link_waiting.proofs.Common.{Message, Slot, first_moment, Waiter, live, has_number, has_pair, AreNumbered}
+use Rattle.link_waiting.proofs.Common.{queue_of, since_of, told_of, waits_of}
+use Rattle.std.proofs.Common.{is_none}
 use Rattle.std.specs.Prelude.{option_map}
-use Rattle.std.specs.List.{find}
-use Rattle.link_simulation.specs.Simulation.Messages.{Message}
-use Rattle.link_waiting.specs.declared.slots.Slot.{Slot}
-use Rattle.link_waiting.specs.Idle.FirstMoment.{first_moment}
-use Rattle.link_waiting.specs.Idle.Slots.{Waiter, live, has_number, has_pair, AreNumbered}
-use Rattle.link_waiting.specs.Idle.Waits.{queue_of, since_of, told_of, waits_of}
 use Rattle.link_waiting.proofs.Idle.Slots.{told_missing}
 use Rattle.link_waiting.proofs.Idle.Told.{messages_told}
 use Rattle.link_waiting.proofs.Idle.Numbered.{find_false, numbered_told}
