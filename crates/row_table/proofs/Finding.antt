@@ -66,9 +66,12 @@ module _ {T : Type 0} where
       → new.index.received.now.stands ≡ slice_set parts.index.received.now.stands slot None
       → new.index.moments ≡ slice_set parts.index.moments slot None → Stands new
   stands_taken parts new at slot stands is slots filled sent received moments =
-      grind (arith, common_steps,
-      found_taken parts.index new.index parts.slots.items stands.found slot sent received moments,
-      filled_taken parts.slots.items 0)
+      grind (
+        arith,
+        common_steps,
+        found_taken parts.index new.index parts.slots.items stands.found slot sent received moments,
+        filled_taken parts.slots.items 0,
+      )
 
   pub stands_changed : (parts new : Parts T) (at slot : ℕ) (other : Row T) → Stands parts
       → IsSlot parts.slots.items at slot
@@ -78,10 +81,13 @@ module _ {T : Type 0} where
       → new.index.sent ≡ parts.index.sent → new.index.received ≡ parts.index.received
       → new.index.moments ≡ slice_set parts.index.moments slot other.moment → Stands new
   stands_changed parts new at slot other stands is sender receiver slots filled sent received moments =
-      grind (arith, common_steps,
-      found_changed parts.index new.index parts.slots.items stands.found slot other sender receiver sent received
-      moments,
-      filled_changed parts.slots.items 0)
+      grind (
+        arith,
+        common_steps,
+        found_changed parts.index new.index parts.slots.items stands.found slot other sender receiver sent received
+            moments,
+        filled_changed parts.slots.items 0,
+      )
 
   -- where no slot is empty
   pub stands_whole : (new : Parts T) (rows : List (Row T)) → new.slots.items ≡ map Some rows

@@ -217,10 +217,14 @@ module _ {T : Type 0} where
   same_slot : (slots : List (Option (Row T))) (a slot b other : ℕ) → IsSlot slots a slot → IsSlot slots b other
       → a ≡ b → slot ≡ other
   same_slot slots a slot b other is_a is_b same =
-      grind (arith, common_steps,
-      some_same (0 + slot) (0 + other) (sym (slot_listed slots 0 a slot is_a) ∙ ap
-      (slice_get (filled_from slots 0)) same ∙ slot_listed slots 0 b other is_b),
-      slot_listed slots 0 a slot is_a, slot_listed slots 0 b other is_b)
+      grind (
+        arith,
+        common_steps,
+        some_same (0 + slot) (0 + other) (sym (slot_listed slots 0 a slot is_a) ∙ ap
+            (slice_get (filled_from slots 0)) same ∙ slot_listed slots 0 b other is_b),
+        slot_listed slots 0 a slot is_a,
+        slot_listed slots 0 b other is_b,
+      )
 
   pub places_below : (slots : List (Option (Row T))) (a slot b other : ℕ) → IsSlot slots a slot → IsSlot slots b other
       → slot < other → a < b

@@ -142,8 +142,15 @@ module _ (flags : List Bool) where
     uses_renumbered : (side : Side) (u : ℕ) → is_in flags u ≡ true → Uses sides u side
         → Uses (sides_in flags sides) (place_in flags u) (renumbered side)
     uses_renumbered side u own uses =
-        grind (arith, common_steps, in_from_contains side.users u uses.used, in_from_contains sides side uses.listed,
-        contains_from_in, to_sides_in, in_map)
+        grind (
+          arith,
+          common_steps,
+          in_from_contains side.users u uses.used,
+          in_from_contains sides side uses.listed,
+          contains_from_in,
+          to_sides_in,
+          in_map,
+        )
 
     module _ (per : ℕ) (parts : ℕ → ℕ) where
       abbrev kept_parts : ℕ → ℕ

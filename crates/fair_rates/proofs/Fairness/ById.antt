@@ -43,7 +43,7 @@ module _ {P : Type 0} (cmp : P → P → Ordering) (order : IsTotalOrder cmp) wh
         let own : last_rate r.0.flow.id (flows_of said.all) (rates_of said.all) ≡ Some r.0.rate =
         rate_by_id said.all r.0 (subst HaveDistinctIds (sym said.flows_are) distinct) r.1 in
         let same : last_rate f.id flows a.rates ≡ last_rate r.0.flow.id (flows_of said.all) (rates_of said.all) =
-            search rules in
+        search rules in
         record { x = r.0; among = r.1; is = r.2; rate = a.by_id f.id ∙ same ∙ own }
 
   pub unlimited_by_id : UnlimitedByIdWhereUncapped cmp

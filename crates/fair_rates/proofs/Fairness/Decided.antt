@@ -34,13 +34,35 @@ module _ (sides : List Side) (per : ℕ) (parts : ℕ → ℕ) where
 
   passes : (flow : ℕ) (b : HasBottleneck sides per parts flow) → is_bottleneck flow b.side ≡ true
   passes flow b =
-      grind (arith, common_steps, any_passes, eqb, in_from_contains, eq-eqb, all_passed, le-leb, All-contains,
-      contains_from_in, and_from)
+      grind (
+        arith,
+        common_steps,
+        any_passes,
+        eqb,
+        in_from_contains,
+        eq-eqb,
+        all_passed,
+        le-leb,
+        All-contains,
+        contains_from_in,
+        and_from,
+      )
 
   found : (flow : ℕ) (side : Side) → In sides side → is_bottleneck flow side ≡ true → HasBottleneck sides per parts flow
   found flow side among h =
-      grind (arith, common_steps, second_of_both, user_there, first_of_both, contains_from_in, eqb-true,
-      All-from_contains, leb-true, all_pass, in_from_contains)
+      grind (
+        arith,
+        common_steps,
+        second_of_both,
+        user_there,
+        first_of_both,
+        contains_from_in,
+        eqb-true,
+        All-from_contains,
+        leb-true,
+        all_pass,
+        in_from_contains,
+      )
 
   -- rates that are known to be fair are fair
   pub fair_if_so : ∥ IsFair sides per parts ∥₁ → IsFair sides per parts

@@ -66,5 +66,5 @@ part_is_fair {P} cmp order caps peers flows rates of ends fair =
     (part_among cmp caps mine s.per s.all s.fair (together cmp order peers caps flows ends s.all s.flows_are)) in
     let flows_is : flows_of (part cmp caps mine s.all) ≡ filter mine flows = search (rules, flows_of_part) in
     let rates_is : rates_of (part cmp caps mine s.all) ≡ flagged (map mine flows) rates =
-        search (rules, rates_of_part) in
+    search (rules, rates_of_part) in
     subst₂ (AreFairUnder cmp caps) flows_is rates_is whole

@@ -89,9 +89,13 @@ module _ {P X : Type 0} (cmp : P → P → Ordering) (caps : Caps P) (flow : X �
   from_place : (s : Subject P) (xs : List X) (k : ℕ) → Contains (places_from 0 (limits cmp s) (map flow xs)) k
       → (x : X) × (slice_get xs k ≡ Some x) × (limits cmp s (flow x) ≡ true)
   from_place s xs k has =
-      grind (arith, common_steps,
-      passes_here (limits cmp s) (map flow xs) k (in_from_contains (places_from 0 (limits cmp s) (map flow xs)) k has),
-      in_from_contains (places_from 0 (limits cmp s) (map flow xs)) k has, get_from_map)
+      grind (
+        arith,
+        common_steps,
+        passes_here (limits cmp s) (map flow xs) k (in_from_contains (places_from 0 (limits cmp s) (map flow xs)) k has),
+        in_from_contains (places_from 0 (limits cmp s) (map flow xs)) k has,
+        get_from_map,
+      )
 
   module _ (order : IsTotalOrder cmp) (of : AreOfPeers cmp caps) (xs : List X) where
     abbrev pub S : List Side
@@ -103,10 +107,15 @@ module _ {P X : Type 0} (cmp : P → P → Ordering) (caps : Caps P) (flow : X �
     uses_side : (k : ℕ) (x : X) → slice_get xs k ≡ Some x → (c : IsCapped cmp caps (flow x))
         → Uses S k (side_for c.subject c.cap)
     uses_side k x at c =
-        grind (arith, common_steps,
-        listed_from_capped cmp order caps of (map flow xs) c.subject c.cap (flow x) c.capped
-        (in_map flow xs x (in_get xs k x at)) c.limited,
-        in_map flow xs x (in_get xs k x at), in_get xs k x, place_in c.subject xs k x)
+        grind (
+          arith,
+          common_steps,
+          listed_from_capped cmp order caps of (map flow xs) c.subject c.cap (flow x) c.capped
+              (in_map flow xs x (in_get xs k x at)) c.limited,
+          in_map flow xs x (in_get xs k x at),
+          in_get xs k x,
+          place_in c.subject xs k x,
+        )
 
     pub limited_from_capped : (k : ℕ) (x : X) → slice_get xs k ≡ Some x → IsCapped cmp caps (flow x) → IsLimited S k
     limited_from_capped k x at c = (side_for c.subject c.cap, uses_side k x at c)

@@ -19,10 +19,13 @@ whole_rate : (sides : List Side) (per last : ℕ) (parts other : ℕ → ℕ)
     → IsWholeOver last rate
 whole_rate sides per last parts other fair fair' flow Unlimited rated = tt
 whole_rate sides per last parts other fair fair' flow (Finite ratio) rated =
-    grind (arith, common_steps,
-    same_worth ratio.numerator ratio.denominator per (parts flow) last (other flow) fair.some_part rated.1
-    (same_amounts sides per last parts other fair fair' flow rated.0),
-    same_amounts sides per last parts other fair fair' flow rated.0)
+    grind (
+      arith,
+      common_steps,
+      same_worth ratio.numerator ratio.denominator per (parts flow) last (other flow) fair.some_part rated.1
+          (same_amounts sides per last parts other fair fair' flow rated.0),
+      same_amounts sides per last parts other fair fair' flow rated.0,
+    )
 
 -- the fair rates of at most n flows are whole over the denominator of n
 pub whole_rates : (n : ℕ) (sides : List Side) (flows : ℕ) (rates : List Rate)

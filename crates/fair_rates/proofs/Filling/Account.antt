@@ -45,12 +45,18 @@ module _ (side : Side) (scale : ℕ) (frozen : ℕ → Option ℕ) (slack : ℕ)
       → frozen user ≡ Some parts → rest + parts ≡ slack
       → later ≡ swap_remove rising i user → KeepsAccount side scale frozen rest later
   account_more i user parts rest later inside is_user is_frozen left removed =
-      grind (arith, common_steps,
-      IsPermutation-pop_more side.users account.counted rising (swap_remove rising i user) user account.parted
-      (IsPermutation-swap_remove rising i user inside is_user),
-      IsPermutation-swap_remove rising i user inside is_user, some_is (frozen user) parts is_frozen,
-      sum_by-append (at_level frozen 0) account.counted (user ∷ []), sum_by-cons (at_level frozen 0) user [],
-      at_some frozen 0 user parts is_frozen, All-push)
+      grind (
+        arith,
+        common_steps,
+        IsPermutation-pop_more side.users account.counted rising (swap_remove rising i user) user account.parted
+            (IsPermutation-swap_remove rising i user inside is_user),
+        IsPermutation-swap_remove rising i user inside is_user,
+        some_is (frozen user) parts is_frozen,
+        sum_by-append (at_level frozen 0) account.counted (user ∷ []),
+        sum_by-cons (at_level frozen 0) user [],
+        at_some frozen 0 user parts is_frozen,
+        All-push,
+      )
 
   -- none is left: all are frozen
   pub all_counted : length rising ≡ 0 → AllFrozen frozen side.users
@@ -97,7 +103,7 @@ module _ (side : Side) (scale : ℕ) (frozen : ℕ → Option ℕ) (slack : ℕ)
       → load (at_level frozen level) side ≤ side.cap * scale
   has_room some within no_more =
       let each : All (λ j. at_level frozen level j * length rising ≤ slack) rising =
-          search (rules, All-weaker, none_or_some, at_none, at_any, some_is) in
+      search (rules, All-weaker, none_or_some, at_none, at_any, some_is) in
       let total : sum_by (at_level frozen level) rising ≤ slack = search (rules, le_of_mul-le-mul_right, sum_within) in
       omega (
         arith,
@@ -111,8 +117,15 @@ module _ (side : Side) (scale : ℕ) (frozen : ℕ → Option ℕ) (slack : ℕ)
   pub is_full : AllRise frozen rising → level * length rising ≡ slack
       → load (at_level frozen level) side ≡ side.cap * scale
   is_full rise exact =
-      grind (arith, common_steps, load_parted side scale frozen slack rising account (at_level frozen level),
-      counted_at side scale frozen slack rising account level, sum_even, All-weaker, at_none)
+      grind (
+        arith,
+        common_steps,
+        load_parted side scale frozen slack rising account (at_level frozen level),
+        counted_at side scale frozen slack rising account level,
+        sum_even,
+        All-weaker,
+        at_none,
+      )
 
 -- who rises has nothing yet
 pub risers_have_no_more : (frozen : ℕ → Option ℕ) (slack : ℕ) (users : List ℕ) → AllRise frozen users

@@ -70,7 +70,7 @@ module _ (sides : List Side) (per : ℕ) (frozen : ℕ → Option ℕ) (level : 
     | inl e ↦
         let v = some_value (after i) now in let f = round.fresh i v.0 e v.1 in let users = f.1.side.users in
         let same : (j : ℕ) → Contains users j → at_level after 0 j ≡ at_level frozen next_level j =
-            search (rules, at_any, All-contains, same_at) in
+        search (rules, at_any, All-contains, same_at) in
         record {
           bottleneck = record {
             side = f.1.side;

@@ -164,7 +164,7 @@ module _ {K : Type 0} (cmp : K → K → Ordering) (total : IsTotalOrder cmp) wh
     comparisons_rise (e ∷ es) k h zero zero d le lt = omega arith
     comparisons_rise (e ∷ es) k h zero (suc j) d le lt =
         let below : list_all (λ f. is_lt (cmp (key e) (key f))) es ≡ true =
-            search (rules, list_all-map, first_of_both) in
+        search (rules, list_all-map, first_of_both) in
         index_le (key e) (key (get_or es j d)) k
         (is_lt_less _ (within_from_all (λ f. is_lt (cmp (key e) (key f))) es below j d (omega arith)))
     comparisons_rise (e ∷ es) k h (suc i) zero d le lt = absurd (omega arith)
@@ -242,8 +242,15 @@ module _ {K : Type 0} (cmp : K → K → Ordering) (total : IsTotalOrder cmp) wh
           → value_at cmp key says none (es ++ rest) q ≡ value_at cmp key says none rest q
       skips [] rest k q below same = refl
       skips (e ∷ es) rest k q below same =
-          search (rules, alike_right, is_eq_equal, is_lt_less, first_of_both, second_of_both,
-          skips es rest k q (second_of_both (is_lt (cmp (key e) k)) _ below) same)
+          search (
+            rules,
+            alike_right,
+            is_eq_equal,
+            is_lt_less,
+            first_of_both,
+            second_of_both,
+            skips es rest k q (second_of_both (is_lt (cmp (key e) k)) _ below) same,
+          )
 
       -- the same beginning changes nothing
       behind : (es rest others : List E) (q : K)

@@ -27,15 +27,28 @@ of_asks : {P : Type 0} (Good : ℕ → Type 0) (place : ℕ) (answered : List (A
     → All (HoldsOfAnswers Good) answered → All (HoldsOfAnswer Good) (asks_from place answered)
 of_asks Good place [] good = All-nil (HoldsOfAnswer Good)
 of_asks Good place (a ∷ answered) good =
-    search (rules, All-append, of_one, All-head, All-tail,
-    of_asks Good (place + 1) answered (All-tail (HoldsOfAnswers Good) a answered good))
+    search (
+      rules,
+      All-append,
+      of_one,
+      All-head,
+      All-tail,
+      of_asks Good (place + 1) answered (All-tail (HoldsOfAnswers Good) a answered good),
+    )
 
 of_sides : {P : Type 0} (cmp : P → P → Ordering) (Good : ℕ → Type 0) (earlier asks : List (Ask P))
     → All (HoldsOfAnswer Good) asks → All (λ side. Good side.cap) (sides_after cmp earlier asks)
 of_sides cmp Good earlier [] good = All-nil (λ side. Good side.cap)
 of_sides {P} cmp Good earlier (a ∷ asks) good =
-    search (rules, All-append, All-head, All-tail, All-nil, All-cons,
-    of_sides cmp Good (a ∷ earlier) asks (All-tail (HoldsOfAnswer Good) a asks good))
+    search (
+      rules,
+      All-append,
+      All-head,
+      All-tail,
+      All-nil,
+      All-cons,
+      of_sides cmp Good (a ∷ earlier) asks (All-tail (HoldsOfAnswer Good) a asks good),
+    )
 
 -- the cap was answered for some flow
 abbrev WasAnswered : {P : Type 0} → List (Answered P) → ℕ → Type 0

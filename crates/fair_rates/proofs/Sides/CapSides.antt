@@ -111,7 +111,7 @@ module _ {P : Type 0} (cmp : P → P → Ordering) (order : IsTotalOrder cmp) (c
           all x (inl refl) ∙ sym (one_cap cmp order caps of a.subject x.subject e) ∙ sym (all a h) ∙ has in
           let closed : is_open cmp earlier x ≡ false = search (rules, open_from, same_congr) in
           let agree : filter (is_same cmp a) later ≡ filter (is_same cmp x) later =
-              search (rules, filter_agree, same_congr) in
+          search (rules, filter_agree, same_congr) in
           rw (closed, number, agree) (inl refl)
 
       by_same : (t : Bool) → is_same cmp a x ≡ t → In (x ∷ later) a
@@ -294,7 +294,7 @@ module _ {P : Type 0} (cmp : P → P → Ordering) (order : IsTotalOrder cmp) (c
       let listed =
       to_sides [] (asks 0 flows) a cap (λ b g. absurd g) (all_by_caps 0 flows) r.1 answered (λ b g. absurd g) in
       let same : side_asked (asks 0 flows) a cap ≡ side_of_subject flows s cap =
-          search (rules, places_asked, same_places) in
+      search (rules, places_asked, same_places) in
       contains_from_in (sides_under cmp caps flows) (side_of_subject flows s cap)
       (subst (In (sides_under cmp caps flows)) same listed)
 

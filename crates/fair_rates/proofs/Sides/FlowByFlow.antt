@@ -44,9 +44,16 @@ module _ {P E I L : Type 0} (cmp : P → P → Ordering) (egress : Calls E P) (i
       → CallsFor egress ingress link before a after
       → Passed first flows (n + 1) after new
   passed n a old new registers first flows before after p below is calls =
-      grind (arith, common_steps, length-append p.answered (a ∷ []), take-suc flows n a.flow below, add-one n,
-      FoldsTo-push (CallsFor egress ingress link) first p.answered before a after p.calls calls,
-      one_flow_more cmp n p.answered a old new p.count registers p.registered, map-append)
+      grind (
+        arith,
+        common_steps,
+        length-append p.answered (a ∷ []),
+        take-suc flows n a.flow below,
+        add-one n,
+        FoldsTo-push (CallsFor egress ingress link) first p.answered before a after p.calls calls,
+        one_flow_more cmp n p.answered a old new p.count registers p.registered,
+        map-append,
+      )
 
 -- what the code does for a flow that is delivered, and for one that is dropped
 module _ {P I : Type 0} (call : Calls I P) (i : I) (p : P) (answer : Option ℕ) (j : I) where

@@ -98,8 +98,15 @@ module _ {K : Type 0} (cmp : K → K → Ordering) (total : IsTotalOrder cmp) wh
   pub in_order : (old new : Numbers K) (k : K) (number place : ℕ) → IsGap cmp first old.listed.items k place
       → new.listed.items ≡ insert old.listed.items place (k, number) → AreInOrder cmp old → AreInOrder cmp new
   in_order old new k number place gap items order =
-      grind (arith, common_steps, ascending_insert_at cmp total first old.listed.items k place gap (k,
-      number) ((eq_by_cmp_equiv total).refl k) order, eq_by_cmp_equiv total)
+      grind (
+        arith,
+        common_steps,
+        ascending_insert_at cmp total first old.listed.items k place gap (
+          k,
+          number,
+        ) ((eq_by_cmp_equiv total).refl k) order,
+        eq_by_cmp_equiv total,
+      )
 
   -- or it gets one in the map
   pub in_map : (old new : Numbers K) (k : K) (number place : ℕ) → IsGap cmp first old.listed.items k place

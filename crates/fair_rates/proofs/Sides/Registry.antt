@@ -231,7 +231,7 @@ module _ {P : Type 0} (cmp : P → P → Ordering) (o : IsTotalOrder cmp) where
           ∙ append-nil (map (with_user cmp t) shares) in
           let others : (k : ℕ) → k < length shares → k ≢ n
           → with_user cmp t (get_or shares k nobody) ≡ get_or shares k nobody =
-              search (rules, unchanged, nobody, is_false, number_at, same_Some) in
+          search (rules, unchanged, nobody, is_false, number_at, same_Some) in
           let stay : subjects_after cmp [] asks ≡ subjects_after cmp [] (asks ++ t ∷ []) =
           sym (subjects_are cmp [] asks) ∙ sym (subjects_kept t shares) ∙ ap (map (λ u. u.subject)) (sym are)
           ∙ subjects_are cmp [] (asks ++ t ∷ []) in

@@ -56,11 +56,22 @@ pub kept_places : {X : Type 0} (flags : List Bool) (test : X → Bool) (xs : Lis
 kept_places [] test xs = kept_none (places_from 0 test xs)
 kept_places (flag ∷ flags) test [] = refl
 kept_places {X} (true ∷ flags) test (x ∷ xs) =
-    grind (arith, common_steps, places-suc 0 test xs, places-suc 0 test (flagged flags xs),
-    kept_behind flags (places_from 0 test xs), kept_places flags test xs)
+    grind (
+      arith,
+      common_steps,
+      places-suc 0 test xs,
+      places-suc 0 test (flagged flags xs),
+      kept_behind flags (places_from 0 test xs),
+      kept_places flags test xs,
+    )
 kept_places {X} (false ∷ flags) test (x ∷ xs) =
-    grind (arith, common_steps, places-suc 0 test xs, kept_without flags (places_from 0 test xs),
-    kept_places flags test xs)
+    grind (
+      arith,
+      common_steps,
+      places-suc 0 test xs,
+      kept_without flags (places_from 0 test xs),
+      kept_places flags test xs,
+    )
 
 -- ---- sides
 
@@ -112,9 +123,18 @@ module _ (flags : List Bool) (routes : List (List ℕ)) (link cap : ℕ) where
   all_own : list_any (has_link link) routes ≡ true → All (λ user. is_in flags user ≡ true) users
       → sides_in flags (old ∷ []) ≡ one (list_any (has_link link) (flagged flags routes))
   all_own somebody all =
-      grind (arith, common_steps, kept_places flags (has_link link) routes,
-      used_places 0 (has_link link) routes somebody, length-map users (place_in flags), All-contains, contains_from_in,
-      filter_all, any_all, some_user)
+      grind (
+        arith,
+        common_steps,
+        kept_places flags (has_link link) routes,
+        used_places 0 (has_link link) routes somebody,
+        length-map users (place_in flags),
+        All-contains,
+        contains_from_in,
+        filter_all,
+        any_all,
+        some_user,
+      )
 
   -- or none of them
   none_own : All (λ user. is_in flags user ≡ false) users

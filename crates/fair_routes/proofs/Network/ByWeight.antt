@@ -208,8 +208,14 @@ module _ (weights : List ℕ) (sides : List Side) (positive : (u : ℕ) → u < 
 
     raised : level * factor ≤ share
     raised =
-        grind (arith, common_steps, slack_left scale level frozen side (within_at side listed), within_at side listed,
-        load_split weights frozen level side, no_lower)
+        grind (
+          arith,
+          common_steps,
+          slack_left scale level frozen side (within_at side listed),
+          within_at side listed,
+          load_split weights frozen level side,
+          no_lower,
+        )
 
     within_narrow : (s : Side) → Contains sides s
         → load (at_level mid share) (weighted weights s) ≤ s.cap * (scale * factor)

@@ -69,8 +69,12 @@ to_sides first (suc next) (cap ∷ caps) routes side capped used users =
 pub link_side : (caps : List (Option ℕ)) (routes : List (List ℕ)) (side : Side) → Contains (sides_over caps routes) side
     → IsLinkSide caps routes side
 link_side caps routes side listed =
-    grind (arith, common_steps, from_sides 0 caps routes side (in_from_contains (sides_over caps routes) side listed),
-    in_from_contains (sides_over caps routes) side listed)
+    grind (
+      arith,
+      common_steps,
+      from_sides 0 caps routes side (in_from_contains (sides_over caps routes) side listed),
+      in_from_contains (sides_over caps routes) side listed,
+    )
 
 pub side_listed : (caps : List (Option ℕ)) (routes : List (List ℕ)) (side : Side) → IsLinkSide caps routes side
     → Contains (sides_over caps routes) side

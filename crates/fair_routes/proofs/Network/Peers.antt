@@ -53,13 +53,17 @@ module _ {P : Type 0} (cmp : P → P → Ordering) (order : IsTotalOrder cmp) (c
 
     there : (side : Side) → IsCappedSide cmp caps flows side → IsLinkSide links routes side
     there side of_caps =
-        grind (arith, common_steps,
-        any_passes (has_link (number of_caps.subject)) routes (route_of cmp number of_caps.flow)
-        (in_map (route_of cmp number) flows of_caps.flow (in_from_contains flows of_caps.flow of_caps.among))
-        (sym (on_route of_caps.subject of_caps.flow) ∙ of_caps.limited),
-        in_map (route_of cmp number) flows of_caps.flow (in_from_contains flows of_caps.flow of_caps.among),
-        in_from_contains flows of_caps.flow of_caps.among, on_route of_caps.subject of_caps.flow,
-        users_are of_caps.subject)
+        grind (
+          arith,
+          common_steps,
+          any_passes (has_link (number of_caps.subject)) routes (route_of cmp number of_caps.flow)
+              (in_map (route_of cmp number) flows of_caps.flow (in_from_contains flows of_caps.flow of_caps.among))
+              (sym (on_route of_caps.subject of_caps.flow) ∙ of_caps.limited),
+          in_map (route_of cmp number) flows of_caps.flow (in_from_contains flows of_caps.flow of_caps.among),
+          in_from_contains flows of_caps.flow of_caps.among,
+          on_route of_caps.subject of_caps.flow,
+          users_are of_caps.subject,
+        )
 
     back_at : (side : Side) (link : IsLinkSide links routes side) (s : Subject P) (f : Flow P) → number s ≡ link.link
         → In flows f → has_link link.link (route_of cmp number f) ≡ true → IsCappedSide cmp caps flows side

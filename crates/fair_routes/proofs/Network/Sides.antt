@@ -64,8 +64,12 @@ module _ (link : ℕ) (caps : List (Option ℕ)) (routes : List (List ℕ)) (use
   pub made_unused : (cap : ℕ) → get_or caps link None ≡ Some cap → length flows.items ≡ 0
       → AreMade link caps routes users sides
   made_unused cap is none =
-      grind (arith, common_steps,
-      no_user 0 (has_link link) routes (ap length (sym (last link routes users flows many made.of)) ∙ none), no_side)
+      grind (
+        arith,
+        common_steps,
+        no_user 0 (has_link link) routes (ap length (sym (last link routes users flows many made.of)) ∙ none),
+        no_side,
+      )
 
   -- a link with both
   pub made_side : (cap : ℕ) (side : declared.LinkSide) → get_or caps link None ≡ Some cap → 0 < length flows.items

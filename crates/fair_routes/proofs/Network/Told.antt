@@ -36,8 +36,16 @@ use Rattle.fair_routes.proofs.Network.Said.{any_alike, same_test}
 module _ (xs : List ℕ) (up : AllPairs (λ one other. one < other) xs) where
   one_place : (i j x : ℕ) → slice_get xs i ≡ Some x → slice_get xs j ≡ Some x → i ≡ j
   one_place i j x first second =
-      grind (arith, common_steps, get_or_from_slice_get xs i x 0 first, get_or_from_slice_get xs j x 0 second,
-      cases_lt i j, cases_lt j i, slice_get_within xs j x second, slice_get_within xs i x first)
+      grind (
+        arith,
+        common_steps,
+        get_or_from_slice_get xs i x 0 first,
+        get_or_from_slice_get xs j x 0 second,
+        cases_lt i j,
+        cases_lt j i,
+        slice_get_within xs j x second,
+        slice_get_within xs i x first,
+      )
 
   ascend : (i j : ℕ) → i ≤ j → j < length xs → get_or xs i 0 ≤ get_or xs j 0
   ascend i j le inside = search (rules, cases_lt)
@@ -77,8 +85,16 @@ module _ (links : List ℕ) where
   pub numbered_more : (route numbered : List ℕ) (link place : ℕ) → IsNumbered links route numbered
       → IsPlace (Some place) link → IsNumbered links (route ++ link ∷ []) (numbered ++ place ∷ [])
   numbered_more route numbered link place h is =
-      grind (arith, common_steps, slice_get_within links place link ((is place).0 refl), All-append, All-cons, All-nil,
-      list_any-append, same_test)
+      grind (
+        arith,
+        common_steps,
+        slice_get_within links place link ((is place).0 refl),
+        All-append,
+        All-cons,
+        All-nil,
+        list_any-append,
+        same_test,
+      )
 
   -- and one that is none of these
   pub numbered_same : (route numbered : List ℕ) (link : ℕ) → IsNumbered links route numbered

@@ -98,8 +98,12 @@ module _ (sides : List Side) (weights : List ℕ) (positive : (u : ℕ) → u < 
   pub same_by_weight : (D E : ℕ) (a b : ℕ → ℕ) → IsFair wide D a → IsFair wide E b → (i : ℕ) → IsLimited sides i
       → by_weight weights a i * E ≡ by_weight weights b i * D
   same_by_weight D E a b f g i limited =
-      grind (arith, common_steps, same_amounts wide D E a b f g i (limited_wide weights sides positive among i limited),
-      limited_wide weights sides positive among i limited)
+      grind (
+        arith,
+        common_steps,
+        same_amounts wide D E a b f g i (limited_wide weights sides positive among i limited),
+        limited_wide weights sides positive among i limited,
+      )
 
   same_rate : (D E : ℕ) (a b : ℕ → ℕ) → IsFair wide D a → IsFair wide E b → (i : ℕ) (x y : Rate)
       → IsRateOf sides D (by_weight weights a) i x → IsRateOf sides E (by_weight weights b) i y → x ≡ y

@@ -316,8 +316,13 @@ module _ {P : Type 0} (cmp : P → P → Ordering) (order : IsTotalOrder cmp) (p
       → Agrees cmp w calls (answers n w calls)
   answers_agree n [] w e = tt
   answers_agree n (call_limit now peer egress ingress ∷ calls) w e =
-      grind (arith, common_steps, limit_agrees, answers,
-      (reply_agrees n calls (answers_agree n calls) w (call_limit now peer egress ingress) now refl e))
+      grind (
+        arith,
+        common_steps,
+        limit_agrees,
+        answers,
+        (reply_agrees n calls (answers_agree n calls) w (call_limit now peer egress ingress) now refl e),
+      )
   answers_agree n (call_limit_link now origin recipient cap ∷ calls) w e =
       link_agrees w now origin recipient cap calls
       (replied (course_of w (call_limit_link now origin recipient cap) now) w (λ v. answers n v calls))

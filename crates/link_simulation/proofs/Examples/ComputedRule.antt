@@ -42,7 +42,7 @@ module _ {P : Type 0} (cmp : P → P → Ordering) (order : IsTotalOrder cmp) (p
           ≡ Some c
           → Rebalances cmp now caps p c
       by_sending [] is e =
-          let found = bound (look cmp order plan hint n now (record p { caps = caps; limited = true; })) (λ q. Some
+          let found = bound (look cmp order plan hint n now (record p { caps = caps; limited = true })) (λ q. Some
           (goes [] q)) c e in
           subst (Rebalances cmp now caps p) (the_same found.2)
           (none_sending is (look_so cmp order plan hint n now (record p {

@@ -223,7 +223,10 @@ module _ {P : Type 0} (cmp : P → P → Ordering) (order : IsTotalOrder cmp) (p
       let two : (is_fair shares.per shares.parts (capped_sides cmp p.caps (rated_messages sending)) ≡ true)
       × (bind (finish_from t sending) (λ o. Some (record p { sending = sending; accounted = t; finish = o })) ≡ Some q)
       = grind (arith, given_so) in
-      let found = bound (finish_from t sending) (λ o. Some (record p { sending = sending; accounted = t; finish = o
+      let found = bound (finish_from t sending) (λ o. Some (record p {
+        sending = sending;
+        accounted = t;
+        finish = o;
       })) q two.1 in
       let from : ℕ = hint t (rated_messages sending) in
       let skip = given_so (may_skip t from sending)

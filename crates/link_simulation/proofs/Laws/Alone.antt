@@ -148,8 +148,11 @@ module _ {P : Type 0} (cmp : P → P → Ordering) (order : IsTotalOrder cmp) wh
     advances in_time =
         let r = reaches k (omega arith) in
         let long : suc k ≡ now + suc k - now = omega arith in
-        grind (arith, (ticks_through cmp order r.1 (later (suc k)) (goes (completed cmp (now + suc k) m ∷ []) landed)
-        r.2 (completes in_time)))
+        grind (
+          arith,
+          (ticks_through cmp order r.1 (later (suc k)) (goes (completed cmp (now + suc k) m ∷ []) landed)
+              r.2 (completes in_time)),
+        )
 
     comes : now + suc k ≤ last_moment → NextIs cmp sent (Some (now + suc k))
     comes within =
@@ -173,10 +176,17 @@ module _ {P : Type 0} (cmp : P → P → Ordering) (order : IsTotalOrder cmp) wh
       → IsDoneAfter cmp (world caps last id [] t) now m (suc k)
   from_idle caps last id t m now cap k in_order below after least some is_time within in_time =
       let there : t + (now - t) ≡ now = omega arith in
-      let waits : Ticks cmp (now - t) (world caps last id [] t) (goes [] (world caps last id [] now)) = grind (arith,
-      ticks_quiet, idle_passes) in
-      grind (arith, rests, (comes caps last (id + 1) m now cap k least is_time some within),
-      (advances caps last (id + 1) m now cap k least is_time some in_time))
+      let waits : Ticks cmp (now - t) (world caps last id [] t) (goes [] (world caps last id [] now)) = grind (
+        arith,
+        ticks_quiet,
+        idle_passes,
+      ) in
+      grind (
+        arith,
+        rests,
+        (comes caps last (id + 1) m now cap k least is_time some within),
+        (advances caps last (id + 1) m now cap k least is_time some in_time),
+      )
 
   pub alone : (w : World P) (m : Message P) (now cap time : ℕ) → MayGoAlone cmp w now m → w.moment ≤ now
       → IsLeastCap cmp w.caps m cap → 0 < length m.bytes
@@ -184,8 +194,12 @@ module _ {P : Type 0} (cmp : P → P → Ordering) (order : IsTotalOrder cmp) wh
       → IsDoneAfter cmp w now m time
   alone w m now cap zero may after least some is_time within in_time = absurd (omega (arith, is_time.covers))
   alone w m now cap (suc k) may after least some is_time within in_time =
-      grind (arith, limited, (from_idle w.caps w.last_arrival w.next_id w.moment m now cap k may.in_order may.has_id
-      after least some is_time within in_time))
+      grind (
+        arith,
+        limited,
+        (from_idle w.caps w.last_arrival w.next_id w.moment m now cap k may.in_order may.has_id
+            after least some is_time within in_time),
+      )
 
   pub delivered_arrives : (m : Message P) (t : ℕ) → is_delivered cmp m ≡ true
       → completed cmp t m ≡ completion_of m t (Some (t + m.latency))

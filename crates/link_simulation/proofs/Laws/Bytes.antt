@@ -151,8 +151,11 @@ module _ {P : Type 0} (cmp : P → P → Ordering) (order : IsTotalOrder cmp) wh
 
     follows_trans : (w v u : World P) → Follows w v → Follows v u → Follows w u
     follows_trans w v u f g =
-        grind (arith, (at_most_trans (bytes_from cmp p w) (bytes_from cmp p v) (bytes_from cmp p u)
-        (bytes_positive v f.holds) f.bytes g.bytes))
+        grind (
+          arith,
+          (at_most_trans (bytes_from cmp p w) (bytes_from cmp p v) (bytes_from cmp p u)
+              (bytes_positive v f.holds) f.bytes g.bytes),
+        )
 
     follows_itself : (w : World P) → Holds w → Follows w w
     follows_itself w h = record { holds = h; bytes = at_most_itself (bytes_from cmp p w) }
@@ -193,22 +196,43 @@ module _ {P : Type 0} (cmp : P → P → Ordering) (order : IsTotalOrder cmp) wh
         let landed = out_of_flight cmp t w f.message in
         let still : Holds landed = grind (arith, positive_without) in
         let less : Follows w landed = grind (arith, finished, done_is_spent) in
-        grind (arith, ends_cond, (ends_preceded (Follows w) (completed cmp t f.message ∷ [])
-        (start_next cmp t landed (first_waiting cmp landed f.message)) (ends_more w landed less
-        (start_next cmp t landed (first_waiting cmp landed f.message))
-        (start_next_follows t landed f.message (first_waiting cmp landed f.message) refl still))))
+        grind (
+          arith,
+          ends_cond,
+          (ends_preceded (Follows w) (completed cmp t f.message ∷ [])
+              (start_next cmp t landed (first_waiting cmp landed f.message)) (ends_more w landed less
+              (start_next cmp t landed (first_waiting cmp landed f.message))
+              (start_next_follows t landed f.message (first_waiting cmp landed f.message) refl still))),
+        )
 
     settle_within_follows : (n t : ℕ) (w : World P) → Holds w → EndsWith (Follows w) (settle_within cmp n t w)
     settle_within_follows zero t w h = follows_itself w h
     settle_within_follows (suc n) t w h =
-        grind (arith, settle_none, follows_itself, settle_first, follows_then, complete_follows,
-        (settle_within_follows n t))
+        grind (
+          arith,
+          settle_none,
+          follows_itself,
+          settle_first,
+          follows_then,
+          complete_follows,
+          (settle_within_follows n t),
+        )
 
     wake_within_follows : (n t : ℕ) (w : World P) → Holds w → EndsWith (Follows w) (wake_within cmp n t w)
     wake_within_follows zero t w h = follows_itself w h
     wake_within_follows (suc n) t w h =
-        grind (arith, wake_none, follows_itself, wake_first, follows_then, start, start_follows, ready_is_first,
-        settle_within_follows, (wake_within_follows n t))
+        grind (
+          arith,
+          wake_none,
+          follows_itself,
+          wake_first,
+          follows_then,
+          start,
+          start_follows,
+          ready_is_first,
+          settle_within_follows,
+          (wake_within_follows n t),
+        )
 
     pub instant_follows : (w : World P) → Holds w → EndsWith (Follows w) (instant cmp w)
     instant_follows w h = grind (arith, follows_then, settle_within_follows, wake_within_follows)
@@ -302,9 +326,12 @@ module _ {P : Type 0} (cmp : P → P → Ordering) (order : IsTotalOrder cmp) wh
         (arith, plus_whole, drained_each) in
         let most = capped.within in
         let scaled : (all * 1) * billion ≤ (cap * 1) * (d.per * billion) = omega arith in
-        let end : Loses 1 w u = record { holds = record { positive = positive; egress = h.egress }; bytes = share_grows
-        (bytes_from cmp p w) (bytes_from cmp p u) (all * 1) (cap * 1) (d.per * billion) billion (mul-pos some (omega
-        arith)) scaled sums; } in
+        let end : Loses 1 w u = record {
+          holds = record { positive = positive; egress = h.egress };
+          bytes = share_grows
+              (bytes_from cmp p w) (bytes_from cmp p u) (all * 1) (cap * 1) (d.per * billion) billion (mul-pos some (omega
+              arith)) scaled sums;
+        } in
         grind arith
 
     loses_none : (w v : World P) → Follows w v → Loses 0 w v
@@ -312,8 +339,12 @@ module _ {P : Type 0} (cmp : P → P → Ordering) (order : IsTotalOrder cmp) wh
 
     loses_both : (m n : ℕ) (w v u : World P) → Loses m w v → Loses n v u → Holds v → Loses (m + n) w u
     loses_both m n w v u f g h =
-        grind (arith, (mul-add cap m n), (two_shares (bytes_from cmp p w) (bytes_from cmp p v) (bytes_from cmp p u)
-        (cap * m) (cap * n) billion (bytes_positive v h) (omega arith) f.bytes g.bytes))
+        grind (
+          arith,
+          (mul-add cap m n),
+          (two_shares (bytes_from cmp p w) (bytes_from cmp p v) (bytes_from cmp p u)
+              (cap * m) (cap * n) billion (bytes_positive v h) (omega arith) f.bytes g.bytes),
+        )
 
     ends_in : (w : World P) (c : Course (Completed P) (World P)) (cs : List (Completed P)) (v : World P)
         → EndsWith (Follows w) c → c ≡ goes cs v → Follows w v

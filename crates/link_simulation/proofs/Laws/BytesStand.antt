@@ -76,12 +76,18 @@ module _ {P : Type 0} (cmp : P → P → Ordering) (order : IsTotalOrder cmp) wh
       → GoesByRule cmp p (call_advance now) completions q → KeepsToCaps cmp p now q
   advance_keeps_to_caps p q now completions in_time go w v origin cap stands after before at is =
       let run = calls_simulated cmp order p q (call_advance now) completions (λ t same. subst (λ (s : ℕ). s ≤
-      last_moment) (advance_moment t same) in_time) go w now (record { stands = stands; moment = refl; turn = before
+      last_moment) (advance_moment t same) in_time) go w now (record {
+        stands = stands;
+        moment = refl;
+        turn = before;
       }) in
       let sound : IsSound cmp w = sound_of_stands cmp order p w stands in
       let capped = sym (stands.follows.tallies.caps.egress origin origin (same_itself cmp order origin)) ∙ is in
-      let loses = advance_loses cmp order origin cap w run.after now run.answers run.runs (record { positive =
-      sound.positive; egress = λ q e. sym (sound.caps.egress origin q e) ∙ capped }) in
+      let loses = advance_loses cmp order origin cap w run.after now run.answers run.runs (record {
+        positive =
+            sound.positive;
+        egress = λ q e. sym (sound.caps.egress origin q e) ∙ capped;
+      }) in
       subst (λ (b : Amount). IsAtMost (bytes_from cmp origin w) (plus b (allowance cap (now - w.moment))))
       (bytes_alike origin q run.after v run.stands after (run.moment ∙ sym at)) loses.bytes
     where

@@ -112,8 +112,13 @@ module _ {P : Type 0} (cmp : P → P → Ordering) (order : IsTotalOrder cmp) wh
   launch_holds {p = p} (too_early may) n ms q is e h k = grind arith
   launch_holds (no_id may last) n ms q is e h k = cc
   launch_holds {t = t} {p = p} (starts {m = m} {leavers = leavers} {new = new} may below account) n ms q is e h k =
-      grind (arith, common_steps, (account_holds t (launched cmp t p m) new leavers account
-      (launched_steady cmp order t p n m is may (steady cmp order p h)).one_each k), (launched_holds t p n m is may k))
+      grind (
+        arith,
+        common_steps,
+        (account_holds t (launched cmp t p m) new leavers account
+            (launched_steady cmp order t p n m is may (steady cmp order p h)).one_each k),
+        (launched_holds t p n m is may k),
+      )
 
   look_holds : (t : ℕ) (p q : Planned P) → PlansStart cmp t p q → (k : Message P) → held_of cmp k q ≡ held_of cmp k p
   look_holds t p q looks k = ap (held_of cmp k) looks.same
@@ -294,8 +299,13 @@ module _ {P : Type 0} (cmp : P → P → Ordering) (order : IsTotalOrder cmp) wh
       (c : Course (Completed P) (Planned P)) → KeepsAll p ms (goes cs q) → KeepsAll q ns c
       → KeepsAll p (ms ++ ns) (preceded cs c)
   kept_then p q ms ns cs (goes ds r) a b =
-      grind (arith, common_steps, filter-append, append_assoc,
-      (zip-append IsCompletionOf cs ds a.done b.done a.completions_are b.completions_are))
+      grind (
+        arith,
+        common_steps,
+        filter-append,
+        append_assoc,
+        (zip-append IsCompletionOf cs ds a.done b.done a.completions_are b.completions_are),
+      )
   kept_then p q ms ns cs (meets fault) a b = tt
 
   each_keeps : {now : ℕ} {ms : List (Message P)} {p : Planned P} {c : Course (Completed P) (Planned P)}

@@ -86,8 +86,15 @@ module _ {P : Type 0} (cmp : P → P → Ordering) (order : IsTotalOrder cmp) wh
   both_done : (d h p m e r n : List (Message P)) → AllZip (SameMessage cmp) (d ++ h) (p ++ m)
       → AllZip (SameMessage cmp) (e ++ r) (h ++ n) → AllZip (SameMessage cmp) ((d ++ e) ++ r) (p ++ (m ++ n))
   both_done d h p m e r n first second =
-      grind (arith, chain, (append_assoc d e r), (zip-append (SameMessage cmp) d (e ++ r) d (h ++ n) (itself d) second),
-      (append_assoc d h n), (append_assoc p m n), (zip-append (SameMessage cmp) (d ++ h) n (p ++ m) n first (itself n)))
+      grind (
+        arith,
+        chain,
+        (append_assoc d e r),
+        (zip-append (SameMessage cmp) d (e ++ r) d (h ++ n) (itself d) second),
+        (append_assoc d h n),
+        (append_assoc p m n),
+        (zip-append (SameMessage cmp) (d ++ h) n (p ++ m) n first (itself n)),
+      )
 
   -- one stretch and then another
   pub conserved_then : (p q r : Planned P) (ms ns : List (Message P)) (cs ds : List (Completed P))
@@ -128,7 +135,11 @@ module _ {P : Type 0} (cmp : P → P → Ordering) (order : IsTotalOrder cmp) wh
       (λ k. itself (held_of cmp k one.after)) in
       let rest = obeyed_conserved one.after calls replies
       (obeys_orderly cmp order p one.after call one.answers one.obeys h) one.rest in
-      grind (arith, (enqueued_split call (made calls replies)), (conserved_then p one.after rest.last
-      (enqueued (call ∷ [])) (enqueued (made calls replies)) cs (answered (completions_in replies)) first
-      rest.conserved))
+      grind (
+        arith,
+        (enqueued_split call (made calls replies)),
+        (conserved_then p one.after rest.last
+            (enqueued (call ∷ [])) (enqueued (made calls replies)) cs (answered (completions_in replies)) first
+            rest.conserved),
+      )
   obeyed_conserved p (call ∷ calls) (reply ∷ replies) h obeyed = grind (arith, (obeyed_conserved p calls replies h))

@@ -47,8 +47,16 @@ module _ {P : Type 0} (cmp : P → P → Ordering) (order : IsTotalOrder cmp) wh
       absurd (subst (λ (ys : List (Message P)). AllZip (SameMessage cmp) [] ys) (own_there n ns) (alike n))
   as_long zero (m ∷ ms) ns le alike = absurd (omega arith)
   as_long (suc most) (m ∷ ms) ns le alike =
-      grind (arith, without_own, shorter, others_alike, zip-length, split_length, (as_long most (others_than m (m ∷ ms))
-      (others_than m ns) (grind (arith, without_own, shorter)) (others_alike m (m ∷ ms) ns alike)))
+      grind (
+        arith,
+        without_own,
+        shorter,
+        others_alike,
+        zip-length,
+        split_length,
+        (as_long most (others_than m (m ∷ ms))
+            (others_than m ns) (grind (arith, without_own, shorter)) (others_alike m (m ∷ ms) ns alike)),
+      )
 
   pub all_counted : (p q : Planned P) (messages : List (Message P)) (cs : List (Completed P))
       → IsConserved cmp p messages cs q

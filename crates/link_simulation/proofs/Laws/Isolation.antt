@@ -145,10 +145,14 @@ module _ {P : Type 0} (cmp : P → P → Ordering) (order : IsTotalOrder cmp) (i
       → find (same_pair cmp m) w.waiting ≡ o → IsPartOf (start_next cmp t w o) (start_next cmp t (part last id w) o)
   start_next_mine t w m None last id is own e = (last, id, is, refl)
   start_next_mine t w m (Some x) last id is own e =
-      grind (arith, common_steps, start,
-      (may_start_same t w x last id is (sym (alike m x (find_passes (same_pair cmp m) x w.waiting e)) ∙ own)),
-      (start_mine w x last id is (find_like cmp order m x w.waiting (find_passes (same_pair cmp m) x w.waiting e) ∙ e)
-      (sym (alike m x (find_passes (same_pair cmp m) x w.waiting e)) ∙ own)))
+      grind (
+        arith,
+        common_steps,
+        start,
+        (may_start_same t w x last id is (sym (alike m x (find_passes (same_pair cmp m) x w.waiting e)) ∙ own)),
+        (start_mine w x last id is (find_like cmp order m x w.waiting (find_passes (same_pair cmp m) x w.waiting e) ∙ e)
+            (sym (alike m x (find_passes (same_pair cmp m) x w.waiting e)) ∙ own)),
+      )
 
   pub start_next_other : (t : ℕ) (w : World P) (m : Message P) (o : Option (Message P)) (last : P → P → Option ℕ)
       (id : ℕ)

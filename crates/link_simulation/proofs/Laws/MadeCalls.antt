@@ -87,14 +87,13 @@ module _ {P : Type 0} (cmp : P → P → Ordering) (order : IsTotalOrder cmp) wh
       → AreInTurn cmp w calls replies
   advanced_in_turn [] replies w at same quiet first = tt
   advanced_in_turn (call ∷ calls) [] w at same quiet first = tt
-  advanced_in_turn (call_advance now ∷ calls) (reply_done cs ∷ replies) w at same quiet first =
-      (
-        omega arith,
-        λ t ds v there runs.
-            let equal : t ≡ now = cc in
-            let ends = run_ends w v (call_advance now) t ds quiet there (omega arith) runs in
-            advanced_in_turn calls replies v now (ends.0 ∙ equal) ends.1 first.1,
-      )
+  advanced_in_turn (call_advance now ∷ calls) (reply_done cs ∷ replies) w at same quiet first = (
+    omega arith,
+    λ t ds v there runs.
+        let equal : t ≡ now = cc in
+        let ends = run_ends w v (call_advance now) t ds quiet there (omega arith) runs in
+        advanced_in_turn calls replies v now (ends.0 ∙ equal) ends.1 first.1,
+  )
   advanced_in_turn (call_advance now ∷ calls) (reply_next next ∷ replies) w at same quiet first =
       (omega arith, advanced_in_turn calls replies w at same quiet first.1)
   advanced_in_turn (call_advance now ∷ calls) (reply_refused why ∷ replies) w at same quiet first =

@@ -187,8 +187,14 @@ module _ {P : Type 0} (cmp : P → P → Ordering) (order : IsTotalOrder cmp) wh
   finish_right (late is) h = tt
   finish_right (stopped is launch) h = tt
   finish_right {t = t} {p = p} (completes {m = m} {more = more} {q = q} {rest = rest} is launch finishes) h =
-      grind (arith, common_steps, right_after, launch_right, (finish_right finishes (launch_right launch m more q refl
-      refl (record { finish = h.finish; none_at_first = h.none_at_first }))))
+      grind (
+        arith,
+        common_steps,
+        right_after,
+        launch_right,
+        (finish_right finishes (launch_right launch m more q refl
+            refl (record { finish = h.finish; none_at_first = h.none_at_first }))),
+      )
 
   partly : (p : Planned P) → IsPlanned cmp p → IsPartlyPlanned p
   partly p h = record { finish = h.finish; none_at_first = h.none_at_first }
@@ -201,8 +207,15 @@ module _ {P : Type 0} (cmp : P → P → Ordering) (order : IsTotalOrder cmp) wh
   wake_right (no_finish launch finishes) h = tt
   wake_right {p = p} (starts_one {m = m} {more = more} {q = q} {r = r} {cs = cs} {rest = rest} launch finishes wakes)
       h =
-      grind (arith, common_steps, launch_right, finish_right, right_after, partly,
-      (wake_right wakes (partly r (finish_right finishes (launch_right launch m more q refl refl h)))))
+      grind (
+        arith,
+        common_steps,
+        launch_right,
+        finish_right,
+        right_after,
+        partly,
+        (wake_right wakes (partly r (finish_right finishes (launch_right launch m more q refl refl h)))),
+      )
 
   settle_right : {t : ℕ} {p : Planned P} {c : Course (Completed P) (Planned P)} → Settles cmp t p c
       → (p.limited ≡ false → p.waiting ≡ []) → Right c

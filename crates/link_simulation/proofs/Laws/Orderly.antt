@@ -98,8 +98,11 @@ module _ {P : Type 0} (cmp : P → P → Ordering) (order : IsTotalOrder cmp) wh
   launch_orderly {p = p} (too_early may) k ms q is e h = let same : p ≡ q = cc in subst (IsOrderly cmp) same h
   launch_orderly (no_id may last) k ms q is e h = cc
   launch_orderly {t = t} {p = p} (starts {m = m} {leavers = leavers} {new = new} may below account) k ms q is e h =
-      grind (arith, common_steps,
-      (account_orderly t (launched cmp t p m) new leavers account (launched_steady t p k m is may (steady p h))))
+      grind (
+        arith,
+        common_steps,
+        (account_orderly t (launched cmp t p m) new leavers account (launched_steady t p k m is may (steady p h))),
+      )
 
   pub landed_orderly : (t : ℕ) (p : Planned P) (m : Message P) → IsOrderly cmp p → IsOrderly cmp (landed cmp t p m)
   landed_orderly t p m h = grind (arith, raised_peerwise)

@@ -229,13 +229,25 @@ module _ {P : Type 0} (cmp : P → P → Ordering) (order : IsTotalOrder cmp) (k
       → IsSound cmp w → IsHistory cmp order k messages t cs w
       → GoesByRule cmp order k (messages ++ added call) t cs (act cmp w call)
   act_goes messages t cs w (call_limit s peer egress ingress) e sound h =
-      grind (arith, common_steps, (limited_by cmp w.caps peer egress ingress), (settle_goes cmp order k (messages ++
-      []) t cs (record w { caps = limited_by cmp w.caps peer egress ingress; limited = true; }) (none_more messages t
-      cs _ (recapped_history messages t cs w (limited_by cmp w.caps peer egress ingress) h))))
+      grind (
+        arith,
+        common_steps,
+        (limited_by cmp w.caps peer egress ingress),
+        (settle_goes cmp order k (messages ++
+            []) t cs (record w { caps = limited_by cmp w.caps peer egress ingress; limited = true }) (none_more messages t
+            cs _ (recapped_history messages t cs w (limited_by cmp w.caps peer egress ingress) h))),
+      )
   act_goes messages t cs w (call_limit_link s origin recipient cap) e sound h =
-      grind (arith, common_steps, (settle_goes cmp order k (messages ++ []) t cs (record w { caps = linked_by cmp
-      w.caps origin recipient cap; limited = true; }) (none_more messages t cs _ (recapped_history messages t cs w
-      (linked_by cmp w.caps origin recipient cap) h))))
+      grind (
+        arith,
+        common_steps,
+        (settle_goes cmp order k (messages ++ []) t cs (record w {
+          caps = linked_by cmp
+              w.caps origin recipient cap;
+          limited = true;
+        }) (none_more messages t cs _ (recapped_history messages t cs w
+            (linked_by cmp w.caps origin recipient cap) h))),
+      )
   act_goes messages t cs w (call_enqueue s m) e sound h = grind (arith, enqueue_goes)
   act_goes messages t cs w (call_enqueue_all s ms) e sound h = grind (arith, append-nil, each_goes)
   act_goes messages t cs w (call_advance s) e sound h =
@@ -278,8 +290,12 @@ module _ {P : Type 0} (cmp : P → P → Ordering) (order : IsTotalOrder cmp) (k
       let sound_u = call_keeps_sound cmp order w call now (goes ds u) sound runs in
       let here : IsHistory cmp order k (messages ++ added call) u.moment (cs ++ ds) u = grind arith in
       let rest = answers_in_order more (messages ++ added call) (cs ++ ds) sound_u here in
-      grind (arith, (append_assoc messages (added call) (enqueued calls)), (enqueued_split call calls),
-      (append_assoc cs ds (answered css)))
+      grind (
+        arith,
+        (append_assoc messages (added call) (enqueued calls)),
+        (enqueued_split call calls),
+        (append_assoc cs ds (answered css)),
+      )
 
   new_history : (id : ℕ) → IsHistory cmp order k [] 0 [] (new_world id)
   new_history id = record {

@@ -281,5 +281,9 @@ module _ {P : Type 0} (cmp : P → P → Ordering) (caps : Caps P) where
       → AreFair cmp caps ms per rates
       → AreFair cmp caps (filter mine ms) per (flagged (map mine ms) rates)
   fair_part mine ms per rates apart fair =
-      grind (arith, common_steps, (part_is_fair mine ms per fair.parts apart fair.fair),
-      (kept_rates mine fair.parts ms))
+      grind (
+        arith,
+        common_steps,
+        (part_is_fair mine ms per fair.parts apart fair.fair),
+        (kept_rates mine fair.parts ms),
+      )

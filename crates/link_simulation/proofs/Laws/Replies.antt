@@ -86,9 +86,12 @@ module _ {P : Type 0} (cmp : P → P → Ordering) (order : IsTotalOrder cmp) wh
   in_order_alike k messages cs ds same order_of =
       let those = zip-filter (SameCompletion cmp) (completes_pair cmp k) (completes_pair cmp k) (completes_alike k) cs
       ds same in
-      grind (arith, (completions_of (filter (completes_pair cmp k) cs) (filter (completes_pair cmp k) ds) order_of.done
-      those order_of.completions_are),
-      (never_down (filter (completes_pair cmp k) cs) (filter (completes_pair cmp k) ds) those order_of.deliveries))
+      grind (
+        arith,
+        (completions_of (filter (completes_pair cmp k) cs) (filter (completes_pair cmp k) ds) order_of.done
+            those order_of.completions_are),
+        (never_down (filter (completes_pair cmp k) cs) (filter (completes_pair cmp k) ds) those order_of.deliveries),
+      )
 
   pub pairs_complete_in_order : (calls : List (Call P)) (replies : List (Reply P))
       → Agrees cmp (new_world 0) calls replies → AlwaysSoFar (CompletePairsInOrder cmp) calls replies
@@ -137,5 +140,8 @@ module _ {P : Type 0} (cmp : P → P → Ordering) (order : IsTotalOrder cmp) wh
       let calls_made = made (take n calls) (take n replies) in
       let isolated = isolation cmp order inside together 0 calls_made bridged.0 bridged.1 apart
       (made_in_time (take n calls) (take n replies) (first_in_time n calls in_time)) in
-      grind (arith, (kept_alike inside together calls_made (completions_in (take n replies)) bridged.0 bridged.2),
-      (nothing_alike inside together calls_made (completions_in (take n replies)) bridged.0 bridged.2 isolated.1))
+      grind (
+        arith,
+        (kept_alike inside together calls_made (completions_in (take n replies)) bridged.0 bridged.2),
+        (nothing_alike inside together calls_made (completions_in (take n replies)) bridged.0 bridged.2 isolated.1),
+      )

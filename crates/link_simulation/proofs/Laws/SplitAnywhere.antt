@@ -19,8 +19,12 @@ module _ {P : Type 0} (cmp : P → P → Ordering) (order : IsTotalOrder cmp) wh
       → IsSplitAnywhere cmp p now completions q
   advance_split_anywhere p q now completions in_time go w between stands after before =
       let run = calls_simulated cmp order p q (call_advance now) completions (λ t at. let same : now ≡ t = cc in
-      subst (λ (s : ℕ). s ≤ last_moment) same in_time) go w now (record { stands = stands; moment = refl; turn =
-      omega arith }) in
+      subst (λ (s : ℕ). s ≤ last_moment) same in_time) go w now (record {
+        stands = stands;
+        moment = refl;
+        turn =
+            omega arith;
+      }) in
       let apart = ticks_apart cmp (ticks_of cmp order w now (goes run.answers run.after) run.runs) (between - w.moment)
       (now - between) (omega arith) in
       by_first run apart.0 apart.1 apart.2

@@ -87,6 +87,9 @@ module _ {P : Type 0} (cmp : P → P → Ordering) (order : IsTotalOrder cmp) wh
       → (c : Course (Completed P) (World P)) × Runs cmp w (call_enqueue now m) now c
       × CoursesAlike cmp (λ q v. StandsFor cmp q v × (v.moment ≡ now)) (completed_at_once cmp now p m) c
   at_once_alike p w now m stands free le within before =
-      grind (arith, (reaches cmp order now p w stands le within before),
-      (preceded_none (act cmp (reaches cmp order now p w stands le within before).world (call_enqueue now m))),
-      (at_once now p))
+      grind (
+        arith,
+        (reaches cmp order now p w stands le within before),
+        (preceded_none (act cmp (reaches cmp order now p w stands le within before).world (call_enqueue now m))),
+        (at_once now p),
+      )

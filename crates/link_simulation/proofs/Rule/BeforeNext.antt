@@ -220,9 +220,13 @@ module _ {P : Type 0} (cmp : P → P → Ordering) (order : IsTotalOrder cmp) wh
     pub quiet_before : (k : ℕ) → w.moment + k ≤ last_moment → IfSome (next_event p) (λ e. w.moment + k < e)
         → IsQuiet cmp (w.moment + k) (later k)
     quiet_before k within before =
-        grind (arith, (none_done_before k within), (none_ready_at (w.moment + k) p (later k) (follows_later k).tallies
-        (none_before (SomeReadyAt cmp p) p.start stands.start (w.moment + k) within
-        (both_before p.finish p.start (w.moment + k) before).1)))
+        grind (
+          arith,
+          (none_done_before k within),
+          (none_ready_at (w.moment + k) p (later k) (follows_later k).tallies
+              (none_before (SomeReadyAt cmp p) p.start stands.start (w.moment + k) within
+              (both_before p.finish p.start (w.moment + k) before).1)),
+        )
 
     -- ---- the next event
 
@@ -242,8 +246,15 @@ module _ {P : Type 0} (cmp : P → P → Ordering) (order : IsTotalOrder cmp) wh
         → (v : World P) × Passes cmp n w v × Drains cmp v (later (suc n))
     passes_before zero within before = (w, no_time, first_drain)
     passes_before (suc n) within before =
-        grind (arith, common_steps, later, (later (suc n)), (passes_to n within before), (add-one (suc n)),
-        (drifts_on cmp w stands.follows.rated.per stands.follows.rated.rates (suc n) rates_fair all_positive))
+        grind (
+          arith,
+          common_steps,
+          later,
+          (later (suc n)),
+          (passes_to n within before),
+          (add-one (suc n)),
+          (drifts_on cmp w stands.follows.rated.per stands.follows.rated.rates (suc n) rates_fair all_positive),
+        )
 
     pub comes_at : (n : ℕ) → w.moment + suc n ≤ last_moment → IfSome (next_event p) (λ e. w.moment + n < e)
         → ¬ IsQuiet cmp (w.moment + suc n) (later (suc n)) → NextIs cmp w (Some (w.moment + suc n))

@@ -54,9 +54,12 @@ module _ {P : Type 0} (cmp : P → P → Ordering) (order : IsTotalOrder cmp) wh
       → Leaves cmp t (launched cmp t (landed cmp t here m) next) [] (launched cmp t (landed cmp t here m) next)
   none_leaves_again t old here m next ls leaves still stays =
       let none = none_done t old here ls leaves in
-      grind (arith, accounted,
-      (none_and_one_leave cmp order here.next_id t here.caps here.sending next stays still none),
-      (all_and_one_stay cmp order here.next_id t here.caps here.sending next stays still none))
+      grind (
+        arith,
+        accounted,
+        (none_and_one_leave cmp order here.next_id t here.caps here.sending next stays still none),
+        (all_and_one_stay cmp order here.next_id t here.caps here.sending next stays still none),
+      )
 
   -- ---- the next message starts
 

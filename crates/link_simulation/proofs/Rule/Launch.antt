@@ -111,8 +111,14 @@ module _ {P : Type 0} (cmp : P → P → Ordering) (order : IsTotalOrder cmp) wh
       (record { id = id; message = x; left = whole (length x.bytes); rate = Some (whole 0); updated = t })
       (flight_of y)
   started_flight t id x y same =
-      grind (arith, whole, (whole_lowest (length x.bytes)), (whole (length x.bytes)), (whole 0),
-      (drained_none (whole (length x.bytes)) (whole 0) (whole_lowest (length x.bytes)) (omega arith)))
+      grind (
+        arith,
+        whole,
+        (whole_lowest (length x.bytes)),
+        (whole (length x.bytes)),
+        (whole 0),
+        (drained_none (whole (length x.bytes)) (whole 0) (whole_lowest (length x.bytes)) (omega arith)),
+      )
 
   -- before any limit nothing waits
   pub waits_limited : (t : ℕ) (p : Planned P) (w : World P) (y : Message P) → Tallies cmp t p w
@@ -123,10 +129,24 @@ module _ {P : Type 0} (cmp : P → P → Ordering) (order : IsTotalOrder cmp) wh
       → SameMessage cmp x y → find (same_pair cmp y) w.waiting ≡ Some y
       → list_any (same_pair cmp y) (flows w) ≡ false → Tallies cmp t (launched cmp t p x) (joined cmp w y)
   launched_tallies t p w x y same alike own idle =
-      grind (arith, waiting_taken, map-append, waits_limited, (pair_order_without (same_pair cmp x) p.waiting
-      same.pair_order), (all_zipped_more (IsSameFlight cmp t) p.sending w.sending (record { id = p.next_id; message =
-      x; left = whole (length x.bytes); rate = Some (whole 0); updated = t }) (flight_of y) same.sending
-      (started_flight t p.next_id x y alike)), (one_pair_more cmp order))
+      grind (
+        arith,
+        waiting_taken,
+        map-append,
+        waits_limited,
+        (pair_order_without (same_pair cmp x) p.waiting
+            same.pair_order),
+        (all_zipped_more (IsSameFlight cmp t) p.sending w.sending (record {
+          id = p.next_id;
+          message =
+              x;
+          left = whole (length x.bytes);
+          rate = Some (whole 0);
+          updated = t;
+        }) (flight_of y) same.sending
+            (started_flight t p.next_id x y alike)),
+        (one_pair_more cmp order),
+      )
 
   abbrev pub NoneDone : World P → Type 0
   NoneDone w = Each (λ g. is_done cmp w g ≡ false) w.sending
@@ -269,11 +289,18 @@ module _ {P : Type 0} (cmp : P → P → Ordering) (order : IsTotalOrder cmp) wh
       (is_in_order (w.last_arrival y.origin y.recipient) (t + y.latency)) may_too in
       let own = find_like cmp order m y w.waiting (find_passes (same_pair cmp m) y w.waiting is) ∙ is in
       let tallies = launched_tallies t p w x y follows.tallies alike own idle in
-      grind (arith, starts_so, leb-true, (started w y), (started_stays w y none),
-      (account_follows cmp order t (launched cmp t p x) new leavers (joined cmp w y) tallies account),
-      (staying_none (joined cmp w y)), (joining_leaves w y none),
-      (leavers_alike cmp order t (launched cmp t p x) new leavers (joined cmp w y) tallies account),
-      (started_fewer w y own))
+      grind (
+        arith,
+        starts_so,
+        leb-true,
+        (started w y),
+        (started_stays w y none),
+        (account_follows cmp order t (launched cmp t p x) new leavers (joined cmp w y) tallies account),
+        (staying_none (joined cmp w y)),
+        (joining_leaves w y none),
+        (leavers_alike cmp order t (launched cmp t p x) new leavers (joined cmp w y) tallies account),
+        (started_fewer w y own),
+      )
   launch_alike _ w fs m _ follows none is alike = absurd alike
 
   pub start_alike : {t : ℕ} {p : Planned P} {o : Option (Message P)} {course : Course (Message P) (Planned P)}
@@ -290,7 +317,12 @@ module _ {P : Type 0} (cmp : P → P → Ordering) (order : IsTotalOrder cmp) wh
       let idle = idle_from (list_any (same_pair cmp y) (flows w))
       (is_in_order (w.last_arrival y.origin y.recipient) (t + y.latency)) may in
       let tallies = launched_tallies t p w x y follows.tallies alike own idle in
-      grind (arith, leb-true, (started_stays w y none),
-      (account_follows cmp order t (launched cmp t p x) new leavers (joined cmp w y) tallies account),
-      (staying_none (joined cmp w y)), (joining_leaves w y none),
-      (leavers_alike cmp order t (launched cmp t p x) new leavers (joined cmp w y) tallies account))
+      grind (
+        arith,
+        leb-true,
+        (started_stays w y none),
+        (account_follows cmp order t (launched cmp t p x) new leavers (joined cmp w y) tallies account),
+        (staying_none (joined cmp w y)),
+        (joining_leaves w y none),
+        (leavers_alike cmp order t (launched cmp t p x) new leavers (joined cmp w y) tallies account),
+      )

@@ -160,8 +160,12 @@ module _ {P : Type 0} (cmp : P → P → Ordering) (order : IsTotalOrder cmp) wh
       × CoursesAlike cmp (λ q v. StandsFor cmp q v × (v.moment ≡ now)) course c
   rebalancing p w now call new course acts alike stands le within before recaps =
       let there = reaches now p w stands le within before in
-      grind (arith, preceded_none, (rebalances_there p now there.world (new p.caps) (new there.world.caps) course
-      (alike p.caps there.world.caps there.follows.tallies.caps) within there.follows there.none_ready recaps))
+      grind (
+        arith,
+        preceded_none,
+        (rebalances_there p now there.world (new p.caps) (new there.world.caps) course
+            (alike p.caps there.world.caps there.follows.tallies.caps) within there.follows there.none_ready recaps),
+      )
 
   pub limits_alike : (p : Planned P) (w : World P) (now : ℕ) (peer : P) (egress ingress : Option ℕ)
       (course : Course (Completed P) (Planned P))

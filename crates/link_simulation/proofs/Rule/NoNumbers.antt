@@ -24,8 +24,11 @@ module _ {P : Type 0} (cmp : P → P → Ordering) where
   none_for_a_number p (call ∷ calls) (reply_refused why ∷ replies) obeyed =
       grind (arith, (none_for_a_number p calls replies))
   none_for_a_number p (call ∷ calls) (reply_done cs ∷ replies) obeyed =
-      grind (arith, (none_for_a_number (obeyed_done cmp p calls replies call cs obeyed).1 calls replies
-      (obeyed_done cmp p calls replies call cs obeyed).4))
+      grind (
+        arith,
+        (none_for_a_number (obeyed_done cmp p calls replies call cs obeyed).1 calls replies
+            (obeyed_done cmp p calls replies call cs obeyed).4),
+      )
 
   pub never_for_a_number : (p : Planned P) (calls : List (Call P)) (replies : List (Reply P))
       → Obeyed cmp p calls replies

@@ -252,8 +252,15 @@ module _ {P : Type 0} (cmp : P → P → Ordering) (order : IsTotalOrder cmp) wh
   -- an account at that moment once more changes nothing
   pub account_again : (t : ℕ) (p : Planned P) → IsAccountedAt t p → AreLowest p.sending → Accounts cmp t p [] p
   account_again t p h low =
-      grind (arith, common_steps, accounted, (drained_still t p h low), (none_leave t p h), (all_stay t p h),
-      (stay_as_they_are t p.sending p.caps h.none_spent))
+      grind (
+        arith,
+        common_steps,
+        accounted,
+        (drained_still t p h low),
+        (none_leave t p h),
+        (all_stay t p h),
+        (stay_as_they_are t p.sending p.caps h.none_spent),
+      )
 
   -- ---- an account can always be made
 
@@ -344,8 +351,12 @@ module _ {P : Type 0} (cmp : P → P → Ordering) (order : IsTotalOrder cmp) wh
       → is_spent cmp caps (starting id t m) ≡ false → drained_to t fs ≡ fs → filter (is_spent cmp caps) fs ≡ []
       → filter (λ f. not (is_spent cmp caps f)) (drained_to t (fs ++ starting id t m ∷ [])) ≡ fs ++ starting id t m ∷ []
   all_and_one_stay id t caps fs m limited still none =
-      grind (arith, (one_more_stays id t caps fs m limited), (starting id t m),
-      (all_but_none (is_spent cmp caps) fs none))
+      grind (
+        arith,
+        (one_more_stays id t caps fs m limited),
+        (starting id t m),
+        (all_but_none (is_spent cmp caps) fs none),
+      )
 
   -- and nothing leaves
   pub none_and_one_leave : (id t : ℕ) (caps : Caps P) (fs : List (RatedFlight P)) (m : Message P)
@@ -437,13 +448,16 @@ module _ {P : Type 0} (cmp : P → P → Ordering) (order : IsTotalOrder cmp) wh
         → Enqueues cmp t m (record here { sending = fs; accounted = t; finish = o }) (goes [] (record x { start = next.start }))
     enqueues_there x ax =
         let may_there : may_launch cmp t (record here { sending = fs; accounted = t; finish = o }) m ≡ true =
-            grind (arith, flying) in
+        grind (arith, flying) in
         let launch =
         subst (λ (first : Option (Message P)). Launches cmp t
         (with_queued cmp (record here { sending = fs; accounted = t; finish = o }) m) first (goes [] x)) (sym found)
         (starts may_there id ax) in
-        let flies = messages_stay t (launched cmp t (with_queued cmp (record here { sending = fs; accounted = t;
-        finish = o }) m) m) x ax ∙ map-append (λ f. f.message) fs (starting here.next_id t m ∷ []) ∙ ap (λ (ms : List
+        let flies = messages_stay t (launched cmp t (with_queued cmp (record here {
+          sending = fs;
+          accounted = t;
+          finish = o;
+        }) m) m) x ax ∙ map-append (λ f. f.message) fs (starting here.next_id t m ∷ []) ∙ ap (λ (ms : List
         (Message P)). ms ++ m ∷ []) flying ∙ sym (map-append (λ f. f.message) here.sending (starting here.next_id t m
         ∷ [])) in
         launches limited launch

@@ -91,9 +91,16 @@ module _ {P : Type 0} (cmp : P → P → Ordering) (order : IsTotalOrder cmp) wh
       f.fair) in
       let finish = least_is_one (SomeSpentAt new.sending) new.finish other.finish f.finish
       (subst (λ (fs : List (RatedFlight P)). IsLeastMoment (SomeSpentAt fs) other.finish) (sym sending) g.finish) in
-      let here : record old { sending = new.sending; accounted = t; finish = new.finish } ≡ record old { sending =
-      other.sending; accounted = t; finish = other.finish } = λ i. record old { sending = sending i; accounted = t;
-      finish = finish i } in
+      let here : record old { sending = new.sending; accounted = t; finish = new.finish } ≡ record old {
+        sending =
+            other.sending;
+        accounted = t;
+        finish = other.finish;
+      } = λ i. record old {
+        sending = sending i;
+        accounted = t;
+        finish = finish i;
+      } in
       let world = f.same ∙ here ∙ sym g.same in
       let left = f.left ∙ sym g.left in
       grind arith

@@ -26,8 +26,11 @@ module _ {P : Type 0} (cmp : P → P → Ordering) (order : IsTotalOrder cmp) wh
       → AllZip (SameCompletion cmp) cs ds × StandsFor cmp q v
   one_run p q w v call now cs ds simulated called runs =
       let run = simulated w now called in
-      grind (arith, (alike cs ds run.answers q v run.after (runs_are_one cmp order w call now (goes ds v)
-      (goes run.answers run.after) (sound_of_stands cmp order p w called.stands) runs run.runs) run.same run.stands))
+      grind (
+        arith,
+        (alike cs ds run.answers q v run.after (runs_are_one cmp order w call now (goes ds v)
+            (goes run.answers run.after) (sound_of_stands cmp order p w called.stands) runs run.runs) run.same run.stands),
+      )
 
   pub no_fault : (p q : Planned P) (w : World P) (call : Call P) (now : ℕ) (cs : List (Completed P))
       → IsSimulated cmp p call cs q
@@ -40,10 +43,13 @@ module _ {P : Type 0} (cmp : P → P → Ordering) (order : IsTotalOrder cmp) wh
       → AllZip (SameCompletion cmp) cs ds × StandsFor cmp q v
   one_split p q w v between now cs ds split stands after before runs =
       let two = split w between stands after before in
-      grind (arith, (alike cs ds (two.first_answers ++ two.second_answers) q v two.after (runs_are_one cmp order w
-      (call_advance now) now (goes ds v) (goes (two.first_answers ++ two.second_answers) two.after)
-      (sound_of_stands cmp order p w stands) runs (advance_splits cmp order w two.between between now two.first_answers
-      (goes two.second_answers two.after) after before two.runs_first two.runs_second)) two.same two.stands))
+      grind (
+        arith,
+        (alike cs ds (two.first_answers ++ two.second_answers) q v two.after (runs_are_one cmp order w
+            (call_advance now) now (goes ds v) (goes (two.first_answers ++ two.second_answers) two.after)
+            (sound_of_stands cmp order p w stands) runs (advance_splits cmp order w two.between between now two.first_answers
+            (goes two.second_answers two.after) after before two.runs_first two.runs_second)) two.same two.stands),
+      )
 
   pub one_next : (p : Planned P) (w : World P) (told next : Option ℕ) → IsNextInSimulation cmp p told
       → StandsFor cmp p w

@@ -129,8 +129,15 @@ module _ {P : Type 0} (cmp : P → P → Ordering) (order : IsTotalOrder cmp) (m
       let next : Each IsNear more × Holds q = launches_well launch m refl h in
       finishes_well finishes early next.0 next.1
   wakes_well (starts_one {m = m} {more = more} {q = q} {r = r} {cs = cs} {rest = rest} launch finishes wakes) early h =
-      grind (arith, common_steps, launches_well, finishes_well, goes_on, (wakes_well wakes early
-      (finishes_well finishes early (launches_well launch m refl h).0 (launches_well launch m refl h).1)))
+      grind (
+        arith,
+        common_steps,
+        launches_well,
+        finishes_well,
+        goes_on,
+        (wakes_well wakes early
+            (finishes_well finishes early (launches_well launch m refl h).0 (launches_well launch m refl h).1)),
+      )
 
   -- ---- settlings
 

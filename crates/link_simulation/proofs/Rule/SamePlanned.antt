@@ -71,8 +71,13 @@ module _ {P : Type 0} (cmp : P → P → Ordering) (order : IsTotalOrder cmp) wh
 
   pub same_chain : (p q r : Planned P) → IsSamePlanned cmp p q → IsSamePlanned cmp q r → IsSamePlanned cmp p r
   same_chain p q r first second =
-      grind (arith, (caps_chain p.caps q.caps r.caps first.caps second.caps), (zip_chain (IsSameRatedFlight cmp)
-      (IsSameRatedFlight cmp) (IsSameRatedFlight cmp) paced_chain p.sending q.sending r.sending first.sending
-      second.sending), (zip_chain (SameMessage cmp) (SameMessage cmp) (SameMessage cmp) message_chain p.waiting
-      q.waiting r.waiting first.waiting second.waiting),
-      (pairs_chain p.last_arrival q.last_arrival r.last_arrival first.last_arrival second.last_arrival))
+      grind (
+        arith,
+        (caps_chain p.caps q.caps r.caps first.caps second.caps),
+        (zip_chain (IsSameRatedFlight cmp)
+            (IsSameRatedFlight cmp) (IsSameRatedFlight cmp) paced_chain p.sending q.sending r.sending first.sending
+            second.sending),
+        (zip_chain (SameMessage cmp) (SameMessage cmp) (SameMessage cmp) message_chain p.waiting
+            q.waiting r.waiting first.waiting second.waiting),
+        (pairs_chain p.last_arrival q.last_arrival r.last_arrival first.last_arrival second.last_arrival),
+      )

@@ -27,9 +27,15 @@ module _ {P : Type 0} (cmp : P → P → Ordering) (order : IsTotalOrder cmp) wh
 
   pub rated_same : (p q : Planned P) → IsSamePlanned cmp p q → IsRated cmp p → IsRated cmp q
   rated_same p q same rated =
-      grind (arith, common_steps, zip_chain, rate_of, (fair_alike cmp order p.caps q.caps same.caps
-      (rated_messages p.sending) (rated_messages q.sending) rated.per rated.rates
-      (flows_same cmp order p.sending q.sending same.sending) rated.fair))
+      grind (
+        arith,
+        common_steps,
+        zip_chain,
+        rate_of,
+        (fair_alike cmp order p.caps q.caps same.caps
+            (rated_messages p.sending) (rated_messages q.sending) rated.per rated.rates
+            (flows_same cmp order p.sending q.sending same.sending) rated.fair),
+      )
 
   -- ---- standing for a world
 

@@ -152,9 +152,13 @@ module _ {P : Type 0} (cmp : P → P → Ordering) (order : IsTotalOrder cmp) wh
       let many = length-append fs on.more in
       let enough = on.fewer in
       let ih = finishes_alike rest n (fs ++ on.more) on.world on.follows on.none leavers (omega arith) in
-      grind (arith, (first_lands n t f fs w (sym (late_alike t m f.message all.0) ∙ not_late)), (preceded_alike t
-      (completed cmp t m) (completed cmp t f.message) after (finish_within cmp n t (fs ++ on.more) on.world)
-      (completed_alike t m f.message all.0) ih))
+      grind (
+        arith,
+        (first_lands n t f fs w (sym (late_alike t m f.message all.0) ∙ not_late)),
+        (preceded_alike t
+            (completed cmp t m) (completed cmp t f.message) after (finish_within cmp n t (fs ++ on.more) on.world)
+            (completed_alike t m f.message all.0) ih),
+      )
 
   -- ---- settling
 

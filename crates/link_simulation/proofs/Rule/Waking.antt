@@ -147,8 +147,12 @@ module _ {P : Type 0} (cmp : P → P → Ordering) (order : IsTotalOrder cmp) wh
   wakes_alike {t = t} (no_start launch) zero w follows none picks fuel =
       absurd (no_fuel t w picks.0 (next_is t w picks.0 picks.1) fuel)
   wakes_alike {t = t} (no_start {fault = fault} launch) (suc n) w follows none picks fuel =
-      grind (arith, common_steps, (wake_first cmp order n t w picks.0 picks.1),
-      (launch_starts launch w picks.0 follows none (next_is t w picks.0 picks.1) picks.2))
+      grind (
+        arith,
+        common_steps,
+        (wake_first cmp order n t w picks.0 picks.1),
+        (launch_starts launch w picks.0 follows none (next_is t w picks.0 picks.1) picks.2),
+      )
   wakes_alike {t = t} (no_finish launch finish) zero w follows none picks fuel =
       absurd (no_fuel t w picks.0 (next_is t w picks.0 picks.1) fuel)
   wakes_alike {t = t} (no_finish {more = more} {q = q} {fault = fault} launch finish) (suc n) w follows none picks

@@ -119,8 +119,14 @@ module _ {P : Type 0} (cmp : P → P → Ordering) (order : IsTotalOrder cmp) wh
       → NoneDone cmp order w → (v.moment ≡ w.moment + n) × NoneDone cmp order v
   ticks_end {w = w} no_tick cs v e h = grind arith
   ticks_end {w = w} (one_tick {n = n} {v = z} {u = u} {cs = ds} {rest = rest} d i t) cs v e h =
-      grind (arith, common_steps, rest_is, instant_moment, instant_rests,
-      (ticks_end t (rest_is cmp ds rest cs v e).0 v (rest_is cmp ds rest cs v e).1))
+      grind (
+        arith,
+        common_steps,
+        rest_is,
+        instant_moment,
+        instant_rests,
+        (ticks_end t (rest_is cmp ds rest cs v e).0 v (rest_is cmp ds rest cs v e).1),
+      )
   ticks_end (tick_faults d i) cs v e h = cc
 
   -- ---- quiet nanoseconds

@@ -42,7 +42,10 @@ module _ {P : Type 0} (cmp : P → P → Ordering) where
   pub one_world : ((p : P) → same_peer cmp p p ≡ true) → (w v u : World P) → ArePositive w.sending → Drains cmp w v
       → Drains cmp w u → v ≡ u
   one_world itself w v u pos f g =
-      grind (arith, (drain_same f.rates g.rates f.per g.per 1 w.sending pos f.fair.fair.some_part g.fair.fair.some_part
-      (one_each cmp w.caps (flows w) f.per f.rates f.fair ∙ sym (one_each cmp w.caps (flows w) g.per g.rates g.fair))
-      (rates_match cmp itself w.caps (flows w) f.per g.per f.rates g.rates f.fair g.fair)
-      (rates_match cmp itself w.caps (flows w) g.per f.per g.rates f.rates g.fair f.fair)))
+      grind (
+        arith,
+        (drain_same f.rates g.rates f.per g.per 1 w.sending pos f.fair.fair.some_part g.fair.fair.some_part
+            (one_each cmp w.caps (flows w) f.per f.rates f.fair ∙ sym (one_each cmp w.caps (flows w) g.per g.rates g.fair))
+            (rates_match cmp itself w.caps (flows w) f.per g.per f.rates g.rates f.fair g.fair)
+            (rates_match cmp itself w.caps (flows w) g.per f.per g.rates f.rates g.fair f.fair)),
+      )

@@ -171,8 +171,14 @@ module _ {P : Type 0} (cmp : P → P → Ordering) (order : IsTotalOrder cmp) wh
   started_rests : (t : ℕ) (w : World P) (m : Message P) → MayNotStart cmp t m (started w m)
   unfolding started
   started_rests t w m x e =
-      grind (arith, map-append, list_any-append, or_right, (or_left (same_pair cmp x m) false
-      (pair_sym cmp order x m ∙ (find_passes (same_pair cmp m) x (without_first (same_pair cmp m) w.waiting) e))))
+      grind (
+        arith,
+        map-append,
+        list_any-append,
+        or_right,
+        (or_left (same_pair cmp x m) false
+            (pair_sym cmp order x m ∙ (find_passes (same_pair cmp m) x (without_first (same_pair cmp m) w.waiting) e))),
+      )
 
   -- a start changes its pair alone, which then sends
   pub start_leaves : (t : ℕ) (w : World P) (m : Message P) → EndsWith (Leaves t m w) (start cmp w m)

@@ -50,9 +50,16 @@ module _ {P : Type 0} (cmp : P → P → Ordering) (order : IsTotalOrder cmp) wh
   complete_fit : (t : ℕ) (w : World P) (m : Message P) → IsFit w → EndsWith IsFit (complete cmp t w m)
   complete_fit t w m fit =
       let landed = out_of_flight cmp t w m in
-      grind (arith, ends_cond, (ends_preceded IsFit (completed cmp t m ∷ []) (start_next cmp t landed (first_waiting cmp
-      landed m)) (next_fit t landed (first_waiting cmp landed m) (record { positive = positive_without (is_done cmp w)
-      w.sending fit.positive; one_each = one_without cmp order (is_done cmp w) w.sending fit.one_each; }))))
+      grind (
+        arith,
+        ends_cond,
+        (ends_preceded IsFit (completed cmp t m ∷ []) (start_next cmp t landed (first_waiting cmp
+            landed m)) (next_fit t landed (first_waiting cmp landed m) (record {
+              positive = positive_without (is_done cmp w)
+                  w.sending fit.positive;
+              one_each = one_without cmp order (is_done cmp w) w.sending fit.one_each;
+            }))),
+      )
 
   settle_fit : (t : ℕ) (w : World P) → IsFit w → EndsWith IsFit (settle cmp t w)
   settle_fit t w fit = search (settle_keeps, complete_fit)

@@ -16,5 +16,8 @@ returns-clause-missing c =
 pub returns-clause-made_up : goal.returns-clause-made_up
 unfolding reduced gcd_within
 returns-clause-made_up c =
-    grind (arith, common_steps,
-    (never_agree nat_cmp nat_cmp_total (evenly 1_000_000_000) 20 0 (call_next ∷ []) (reply_next (Some 1) ∷ []) refl))
+    grind (
+      arith,
+      common_steps,
+      (never_agree nat_cmp nat_cmp_total (evenly 1_000_000_000) 20 0 (call_next ∷ []) (reply_next (Some 1) ∷ []) refl),
+    )
