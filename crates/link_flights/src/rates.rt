@@ -34,6 +34,7 @@ use link_pairs::peers::Peers;
 use natural::Natural;
 use std::alloc::Global;
 use std::collections::VecDeque;
+use std::mem;
 use std::rc::Rc;
 
 /// So many searches for what an event touches are spared after one that joined all, or too much.
@@ -138,9 +139,12 @@ impl<P: Peer> Flights<P> {
         }
         if were_rated {
             let mut noted = self.notes.take(self.alloc, self.list.len())?;
+            let mut room = self.notes.take_room(self.alloc);
             let touched = self.touched(done, peers, pairs, &mut noted)?;
             self.notes.give_back(noted, &touched.near);
-            if let Some(found) = self.rate_touched(&touched, peers, pairs)? {
+            let found = self.rate_touched(&touched, peers, pairs, &mut room)?;
+            self.notes.keep_room(room);
+            if let Some(found) = found {
                 let unsearched = self.spared_after(touched.whole, found);
                 return Ok(self.settle(unsearched));
             }
@@ -240,12 +244,13 @@ impl<P: Peer> Flights<P> {
 
     /// Gives what is touched its fair rates beside those that others keep, and answers how many it gave.
     /// None where a rate does not reach the level, or is not whole in the units that there are: then all
-    /// stays as it was.
+    /// stays as it was. Numbers are noted in room that is lent.
     fn rate_touched(
         &mut self,
         touched: &Component<P>,
         peers: &Peers<P>,
         pairs: &Pairs<P>,
+        room: &mut Vec<usize>,
     ) -> Result<Option<usize>, Error>
         requires near { touched.now.whole ≡ false
             → AreNear P.cmp touched.now touched.now.near.items self.old.list.items }
@@ -263,13 +268,16 @@ impl<P: Peer> Flights<P> {
             self.rated_anew = 0;
             return Ok(Some(0));
         }
-        let numbers = Numbers::of(places, self.notes.take_room(self.alloc), self.list.len())?;
+        let lent = mem::replace(room, Vec::new(self.alloc));
+        let numbers = Numbers::of(places, lent, self.list.len())?;
         if let [only] = *numbers.places() {
-            return self.rate_only(touched, only, numbers, peers, pairs);
+            let found = self.rate_only(touched, only, &numbers, peers, pairs);
+            *room = numbers.into_parts().1;
+            return found;
         }
         let part = self.rates_at(touched, &numbers, peers, pairs)?;
-        let (places, room) = numbers.into_parts();
-        self.notes.keep_room(room);
+        let (places, noted) = numbers.into_parts();
+        *room = noted;
         if !part.growth.is_empty() || !all_reach(&part, &touched.level) {
             return Ok(None);
         }
@@ -284,12 +292,12 @@ impl<P: Peer> Flights<P> {
         &mut self,
         touched: &Component<P>,
         at: usize,
-        numbers: Numbers,
+        numbers: &Numbers,
         peers: &Peers<P>,
         pairs: &Pairs<P>,
     ) -> Result<Option<usize>, Error>
-        requires only { numbers ≡ at ∷ [] }
-        requires places { numbers ≡ places_of (λ f. is_of P.cmp touched.now (flight_at 0 f)) 0 self.old.list.items }
+        requires only { numbers.now ≡ at ∷ [] }
+        requires places { numbers.now ≡ places_of (λ f. is_of P.cmp touched.now (flight_at 0 f)) 0 self.old.list.items }
         requires suited { list_all (suits P.cmp touched.now) (in_units self.old) ≡ true }
         requires left { All (λ u. u.left ≢ 0) (in_units self.old) }
         requires timed { AreTimed self.old.list.items }
@@ -299,12 +307,10 @@ impl<P: Peer> Flights<P> {
         ensures before { self.new.list.before ≡ self.old.list.before }
         ensures refused { IfErr result (λ e. e ≡ Error.OutOfMemory) }
     {
-        let level = self.left_for(touched, at, &numbers, peers, pairs)?;
-        let (places, room) = numbers.into_parts();
-        self.notes.keep_room(room);
+        let level = self.left_for(touched, at, numbers, peers, pairs)?;
         if touched.level <= level {
             let levels = [Rc::new(self.alloc, level)?];
-            self.set_rates(touched, &places, &levels, &[Some(0)], &[], true)?;
+            self.set_rates(touched, numbers.places(), &levels, &[Some(0)], &[], true)?;
             return Ok(Some(1));
         }
         Ok(None)

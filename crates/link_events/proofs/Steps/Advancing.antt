@@ -1,18 +1,23 @@
 -- The events of an advance, one after another.
-use Rattle.link_events.proofs.Common.{◌≡◌, ℕ, ◌+◌, ◌<◌, Bool, true, false, cond, List, [], ◌∷◌, ◌++◌, Some, refl, sym}
-use Rattle.link_events.proofs.Common.{ap, ◌∙◌, subst, arith, filter, find, IsTotalOrder, Ordering, Error, Event}
-use Rattle.link_events.proofs.Common.{Completed, Course, goes, meets, preceded, Message, same_pair, Planned, may_launch}
-use Rattle.link_events.proofs.Common.{PlansStart, Wakes, WakesEach, all_started, Happens, IsRefusedFor, refused_more}
-use Rattle.std.proofs.Common.{IfSome}
+use Rattle.std.proofs.Common.{◌≡◌, ℕ, ◌+◌, ◌<◌, Bool, true, false, cond, List, [], ◌∷◌, ◌++◌, Some, IfSome, refl, sym}
+use Rattle.std.proofs.Common.{ap, ◌∙◌, subst, arith}
+use Rattle.std.specs.List.{filter, find}
 use Rattle.fair_rates.proofs.Lists.Each.{Each}
+use Rattle.std.specs.Cmp.{IsTotalOrder}
+use Rattle.std.specs.declared.cmp.Ordering.{Ordering}
+use Rattle.fair_rates.specs.declared.error.Error.{Error}
+use Rattle.link_events.specs.declared.event.Event.{Event}
 use Rattle.link_events.specs.declared.event.Event.TheVariants.{Finish, Start}
-use Rattle.link_simulation.specs.Simulation.World.{fronts}
-use Rattle.link_simulation.specs.Rule.Planned.{SomeReadyAt, next_event}
-use Rattle.link_simulation.specs.Rule.Events.{Advances, no_more, at_finish}
+use Rattle.link_simulation.specs.Simulation.World.{Completed, Course, fronts, goes, meets, preceded}
+use Rattle.link_simulation.specs.Simulation.Messages.{Message, same_pair}
+use Rattle.link_simulation.specs.Rule.Planned.{Planned, SomeReadyAt, may_launch, next_event}
+use Rattle.link_simulation.specs.Rule.Events.{PlansStart, Wakes, WakesEach, all_started, Advances, no_more, at_finish}
 use Rattle.link_simulation.specs.Rule.Events.{at_start, finish_stops, start_stops}
-use Rattle.link_events.specs.Steps.Due.{IsDue}
+use Rattle.link_events.specs.Steps.Due.{IsDue, Happens}
 use Rattle.link_events.specs.Steps.AsPlanned.{HasNothingDue}
+use Rattle.link_simulation.specs.Simulation.RefusalCauses.{IsRefusedFor}
 use Rattle.link_events.proofs.Steps.SoFar.{preceded_both}
+use Rattle.link_simulation.proofs.Simulation.RefusalCauses.{refused_more}
 use Rattle.link_simulation.proofs.Simulation.OtherPairs.{fronts_are_first}
 
 module _ {P : Type 0} (cmp : P → P → Ordering) where

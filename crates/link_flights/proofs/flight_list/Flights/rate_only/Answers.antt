@@ -24,6 +24,3 @@ returns-then-le-clause-gives g c =
       at = e.at;
       timed = e.timed;
     } in (rated, e.kept)
-
-pub returns-clause-gives : goal.returns-clause-gives
-returns-clause-gives g c = refl

@@ -75,8 +75,8 @@ of-requires g c =
           c.len.result c.len.ensures;
     }
 
-pub rate_only-requires : goal.rate_only-requires
-rate_only-requires g c = record {
+pub rate_only-found-requires : goal.rate_only-found-requires
+rate_only-found-requires g c = record {
   only = sym c.places.ensures ∙ one_listed c.places.result.now c.in-len1.len_at_least c.in-len1.len_below;
   places = c.in_ok-numbers.ensures.places ∙ c.in_ok-places.ensures.places;
   suited = c.requires.suited;
@@ -84,9 +84,3 @@ rate_only-requires g c = record {
   timed = c.requires.timed;
   one_each = c.requires.one_each;
 }
-
-pub returns-in-len1-clause-gives : goal.returns-in-len1-clause-gives
-returns-in-len1-clause-gives g c = c.rate_only.ensures.gives
-
-pub returns-then-not-is_empty-clause-gives : goal.returns-then-not-is_empty-clause-gives
-returns-then-not-is_empty-clause-gives g c = refl
