@@ -262,8 +262,8 @@ impl<P: Peer, M: Payload> State<P, M> {
     /// moment, in order.
     ///
     /// It does what as many calls of `enqueue` would do, and answers what they would answer. But it is
-    /// made as a whole or not at all, and is one call where such a list is replayed (`as_one`). `now` is in nanoseconds since the start. An empty list changes
-    /// nothing and is never refused.
+    /// made as a whole or not at all, and is one call where such a list is replayed (`as_one`). `now` is
+    /// in nanoseconds since the start. An empty list changes nothing and is never refused.
     ///
     /// Where moments never go back, and caps change and messages are sent only before the next
     /// event, each message does what it does in the simulation, as with `enqueue`.
