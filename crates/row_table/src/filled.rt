@@ -7,8 +7,8 @@ ghost use Rattle.row_table.specs.Slots.{live, filled_from};
 
 use super::row::Row;
 
-/// The slots that hold a row are listed again. It takes no memory.
-pub(crate) fn refill<T>(filled: &mut Vec<usize>, slots: &[Option<Row<T>>])
+/// The slots that hold a row are listed again, and where they stand is guessed right. It takes no memory.
+pub(crate) fn refill<T>(filled: &mut Vec<usize>, guesses: &mut Vec<usize>, slots: &[Option<Row<T>>])
     requires { length (live slots.now) ≤ vec_capacity filled.old }
     ensures items { filled.new.items ≡ filled_from slots.now 0 }
     ensures room { vec_capacity filled.old ≤ vec_capacity filled.new }
@@ -20,47 +20,38 @@ pub(crate) fn refill<T>(filled: &mut Vec<usize>, slots: &[Option<Row<T>>])
             prove!(pushed);
         }
     }
+    guesses.truncate(slots.len());
+    guess_again(guesses, filled);
 }
 
-/// Where a slot stands is guessed among the first two to this power of the places that it may stand at, or fewer
-/// where there are fewer.
-const GUESSED: u32 = 16;
-
-/// Where a slot stands in a list of them that ascends, if it is among those that are guessed at, by a place at which
-/// one stands that is no greater. No slot stands further behind that place than so many slots further it is, and none
-/// further before that than there are gaps. No branch hangs on a comparison: a processor would guess it wrongly every
-/// other time.
-fn guess(filled: &[usize], slot: usize, from: usize) -> usize {
-    let (Some(known), Some(last)) = (filled.get(from), filled.last()) else {
-        return 0;
-    };
-    let further = slot.saturating_sub(*known);
-    let gaps = last
-        .wrapping_add(1)
-        .saturating_sub(filled.len())
-        .min(further);
-    let most = usize::BITS.saturating_sub(gaps.leading_zeros());
-    let mut place = from.wrapping_add(further - gaps);
-    let mut shift = GUESSED.min(most);
-    while shift > 0 {
-        shift -= 1;
-        if let Some(other) = filled.get(place.wrapping_add(1 << shift)) {
-            let no_greater = *other <= slot;
-            place = place.wrapping_add((no_greater as usize) << shift);
+/// The slot at each of these places is guessed to stand there.
+fn guess_again(guesses: &mut [usize], filled: &[usize]) {
+    for place in 0..filled.len() {
+        if let Some(guess) = guesses.get_mut(filled[place]) {
+            *guess = place;
         }
     }
-    place
 }
 
-/// Where a slot stands in a list of them that ascends. It is looked for behind a place first.
-pub(crate) fn place_of(filled: &[usize], slot: usize, from: usize) -> Option<usize>
+/// One slot less is filled, before those from that slot on.
+pub(crate) fn move_up(guesses: &mut [usize], slot: usize) {
+    if let Some((_, later)) = guesses.split_at_mut_checked(slot) {
+        for guess in later {
+            *guess = guess.wrapping_sub(1);
+        }
+    }
+}
+
+/// Where a slot stands in a list of them that ascends. It is looked for where it is guessed to
+/// stand first.
+pub(crate) fn place_of(filled: &[usize], slot: usize, guesses: &[usize]) -> Option<usize>
     ensures some { IfSome result (λ at. slice_get filled.now at ≡ Some slot) }
     ensures none { IfNone result
         (AllPairs (λ one other. one < other) filled.now → (at : ℕ) → slice_get filled.now at ≡ Some slot → ⊥) }
 {
-    let place = guess(filled, slot, from);
-    if filled.get(place) == Some(&slot) {
-        return Some(place);
+    let guess = guesses.get(slot).copied().unwrap_or(0);
+    if filled.get(guess) == Some(&slot) {
+        return Some(guess);
     }
     filled.binary_search(&slot).ok()
 }

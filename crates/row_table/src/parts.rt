@@ -6,7 +6,7 @@ ghost use Rattle.std.specs.Option.{option_to_list};
 ghost use Rattle.row_table.specs.Slots.{live, held, filled_from, IsPlaceOf};
 ghost use Rattle.row_table.specs.Index.{sender_of, receiver_of, Finds, Stands, Marked};
 
-use super::filled::{place_of, refill};
+use super::filled::{move_up, place_of, refill};
 use super::index::Index;
 use super::row::Row;
 use super::slot_list::Slots;
@@ -19,6 +19,8 @@ pub(crate) struct Parts<T> {
     pub(crate) slots: Slots<T>,
     // The slots that hold a row, in order: the row at a place is that of the slot at the same place here.
     pub(crate) filled: Vec<usize>,
+    // At which place each slot is guessed to stand there. Only time hangs on it.
+    guesses: Vec<usize>,
     pub(crate) index: Index,
     // At so many slots those that came after the mark are closed up.
     close_at: usize,
@@ -41,6 +43,7 @@ impl<T: Drop> Parts<T> {
         Parts {
             slots: Slots::new(alloc),
             filled: Vec::new(alloc),
+            guesses: Vec::new(alloc),
             index: Index::new(alloc),
             close_at: NEW,
         }
@@ -56,13 +59,13 @@ impl<T: Drop> Parts<T> {
         self.filled[at]
     }
 
-    /// The place of the row in a slot; none where there is no slot. It is looked for behind a place first.
-    pub(crate) fn place(&self, slot: Option<usize>, from: usize) -> Option<usize>
+    /// The place of the row in a slot; none where there is no slot.
+    pub(crate) fn place(&self, slot: Option<usize>) -> Option<usize>
         requires stands { Stands self.now }
         requires row { IfSome slot (λ slot. IsSome (held self.now.slots.items slot)) }
         ensures { IsPlaceOf self.now.filled.items slot result }
     {
-        place_of(self.filled.as_slice(), slot?, from)
+        place_of(self.filled.as_slice(), slot?, &self.guesses)
     }
 
     /// A row comes. Where memory is refused, part of that is done.
@@ -115,6 +118,7 @@ impl<T: Drop> Parts<T> {
         let slot = self.slots.len() - 1;
         self.forget(slot)?;
         self.index.pop(slot);
+        self.guesses.truncate(slot);
         Ok(self.slots.pop())
     }
 
@@ -182,8 +186,10 @@ impl<T: Drop> Parts<T> {
         ensures marked { Marked self.new }
     {
         let (sender, receiver, moment) = (row.sender, row.receiver, row.moment);
+        let place = self.filled.len();
         self.filled.push(self.slots.len())?;
         self.slots.push(row)?;
+        self.guesses.push(place)?;
         self.index.add(sender, receiver, moment)
     }
 
@@ -226,6 +232,7 @@ impl<T: Drop> Parts<T> {
         self.slots.take(slot)?;
         self.index.take(slot, sender, receiver)?;
         self.filled.remove(at);
+        move_up(&mut self.guesses, slot);
         Ok(())
     }
 
@@ -262,7 +269,7 @@ impl<T: Drop> Parts<T> {
         if self.has_many_gaps() {
             self.slots.commit_kept();
             self.index.close_gaps(self.slots.as_slice());
-            refill(&mut self.filled, self.slots.as_slice());
+            refill(&mut self.filled, &mut self.guesses, self.slots.as_slice());
             return;
         }
         self.slots.commit();
@@ -281,6 +288,6 @@ impl<T: Drop> Parts<T> {
         self.close_at = self.slots.len().saturating_add(NEW);
         let slots = self.slots.as_slice();
         self.index.undo(slots);
-        refill(&mut self.filled, slots);
+        refill(&mut self.filled, &mut self.guesses, slots);
     }
 }

@@ -154,7 +154,7 @@ impl<T: Drop> RowTable<T> {
         if owner >= self.parts.index.sent.owners() {
             return None;
         }
-        self.parts.place(self.parts.index.sent.first(owner), 0)
+        self.parts.place(self.parts.index.sent.first(owner))
     }
 
     /// The next row behind one that the same owner sends.
@@ -166,8 +166,7 @@ impl<T: Drop> RowTable<T> {
     {
         let slot = self.parts.slot_at(at);
         let (sender, _) = self.parts.owners_in(slot);
-        self.parts
-            .place(self.parts.index.sent.next(sender, slot), at)
+        self.parts.place(self.parts.index.sent.next(sender, slot))
     }
 
     /// The first row that an owner receives.
@@ -178,7 +177,7 @@ impl<T: Drop> RowTable<T> {
         if owner >= self.parts.index.received.owners() {
             return None;
         }
-        self.parts.place(self.parts.index.received.first(owner), 0)
+        self.parts.place(self.parts.index.received.first(owner))
     }
 
     /// The next row behind one that the same owner receives.
@@ -191,7 +190,7 @@ impl<T: Drop> RowTable<T> {
         let slot = self.parts.slot_at(at);
         let (_, receiver) = self.parts.owners_in(slot);
         self.parts
-            .place(self.parts.index.received.next(receiver, slot), at)
+            .place(self.parts.index.received.next(receiver, slot))
     }
 
     /// The first row from that place on whose moment has come by a time.
@@ -204,7 +203,7 @@ impl<T: Drop> RowTable<T> {
         }
         let slot = self.parts.slot_at(from);
         self.parts
-            .place(self.parts.index.moments.next_due(slot, time), from)
+            .place(self.parts.index.moments.next_due(slot, time))
     }
 
     /// The least of all moments; none where all are missing.

@@ -54,6 +54,7 @@ returns-then-has_many_gaps-clause-marked g c =
     let new : Parts g.row.T.Denot = record {
       slots = c.commit_kept.new.self;
       filled = c.refill.new.filled;
+      guesses = c.refill.new.guesses;
       index = c.close_gaps.new.self;
       close_at = c.saturating_add-self.result;
     } in
