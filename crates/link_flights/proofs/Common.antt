@@ -47,7 +47,7 @@ pub use Rattle.link_flights.specs.Flights.Components.{AreAllListed, AreNoted, Ar
 pub use Rattle.link_flights.specs.Flights.Components.{is_closed, is_of, is_receiver, is_sender, keeps, places_of, suits}
 pub use Rattle.link_flights.specs.Flights.Components.{those_near, those_of, touches}
 pub use Rattle.link_flights.specs.Flights.Flight.{AreTimed, DrainsTo, HaveRates, IsTimed, UnitFlight, flight_at}
-pub use Rattle.link_flights.specs.Flights.Flight.{flights_at, has_come, left_by, rate_of}
+pub use Rattle.link_flights.specs.Flights.Flight.{flights_at, has_come, left_by}
 pub use Rattle.link_flights.specs.Flights.InFlight.{IsNextPlace, PassesFirstAt, PassesNowhere, in_flight, in_units}
 pub use Rattle.link_flights.specs.Flights.InFlight.{loose_in}
 pub use Rattle.link_flights.specs.Flights.LargerUnits.{IsCountedBy}

@@ -121,13 +121,12 @@ impl<P: Peer> Flights<P> {
     {
         let one = self.list.at(at);
         if one.rated {
-            let rate = one.rate_kept(self.alloc)?;
             let lower = match &self.floor {
-                Some(floor) => Rc::as_ref(&rate) < floor,
+                Some(floor) => one.rate < *floor,
                 None => true,
             };
             if lower {
-                self.floor = Some(rate.as_ref().clone()?);
+                self.floor = Some(one.rate.clone()?);
             }
         }
         Ok(())

@@ -61,18 +61,19 @@ pub(crate) struct Component<P> {
 }
 
 impl<P: Peer> Component<P> {
-    /// No sender, no receiver, and no level.
-    fn new(alloc: Global) -> Result<Component<P>, Error>
+    /// No sender, no receiver, and no level. What it has an end of is listed in room that is given.
+    fn new(alloc: Global, mut near: Vec<usize>) -> Result<Component<P>, Error>
         ensures part { IfOk result (λ component. component.whole ≡ false) }
         ensures joined { IfOk result (λ component. component.joined.items ≡ []) }
         ensures near { IfOk result (λ component. component.near.items ≡ []) }
         ensures refused { IfErr result (λ e. e ≡ Error.OutOfMemory) }
     {
+        near.clear();
         Ok(Component {
             whole: false,
             level: Natural::from_u64(alloc, 0),
             joined: Vec::with_capacity(alloc, FEW_JOINED)?,
-            near: Vec::with_capacity(alloc, MOST_NEAR)?,
+            near,
         })
     }
 
@@ -211,13 +212,14 @@ fn lesser(one: Option<Natural>, other: Natural) -> Natural
 
 impl<P: Peer> Flights<P> {
     /// The component of the messages that are done or loose, and of those that have got no rate yet. None
-    /// where it is large.
+    /// where it is large. What it has an end of is listed in room that is given.
     pub(crate) fn component(
         &self,
         done: &VecDeque<Rc<Message<P>>>,
         peers: &Peers<P>,
         pairs: &Pairs<P>,
         noted: &mut Vec<bool>,
+        room: Vec<usize>,
     ) -> Result<Option<Component<P>>, Error>
         requires none { AreNoted [] noted.old.items }
         requires each { length noted.old.items ≡ length self.now.list.items }
@@ -236,7 +238,7 @@ impl<P: Peer> Flights<P> {
             AreNoted component.near.items noted.new.items)) }
         ensures refused { IfErr result (λ e. e ≡ Error.OutOfMemory) }
     {
-        let mut component = Component::new(self.alloc)?;
+        let mut component = Component::new(self.alloc, room)?;
         self.join_touched(done, &mut component)?;
         if !self.grow(&mut component, peers, pairs, noted)? {
             return Ok(None);

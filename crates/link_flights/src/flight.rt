@@ -2,7 +2,7 @@
 ghost use Rattle.std.specs.Int.{IsGcd};
 ghost use Rattle.std.specs.Prelude.{◌≡◌, ◌≢◌, ◌*◌, ◌/◌, ◌<◌, ◌==◌, IfOk, IfErr, OnOk, true, false, not, nat_le};
 ghost use Rattle.fair_rates.specs.Fairness.Exists.{product};
-ghost use Rattle.link_flights.specs.Flights.Flight.{rate_of, left_by, flight_at, has_come, IsTimed, IsFinishOf};
+ghost use Rattle.link_flights.specs.Flights.Flight.{left_by, flight_at, has_come, IsTimed, IsFinishOf};
 ghost use Rattle.link_flights.specs.Flights.LargerUnits.{IsFactorOf, IsCountedBy};
 ghost use Prim.Native.Nat.{◌∣◌};
 
@@ -10,7 +10,6 @@ use fair_rates::error::Error;
 use fair_rates::peer::Peer;
 use link_pairs::message::Message;
 use natural::Natural;
-use std::alloc::Global;
 use std::rc::Rc;
 
 /// A message in flight. What is left, and the rate, are whole numbers of the units that all
@@ -23,8 +22,8 @@ pub(crate) struct Flight<P> {
     /// The moment from which on nothing is left, if there is one up to the last moment.
     pub(crate) finish: Option<u64>,
     pub(crate) since: u64,
-    /// The units that drain in a nanosecond from then on. `None` drains nothing.
-    pub(crate) rate: Option<Rc<Natural>>,
+    /// The units that drain in a nanosecond from then on.
+    pub(crate) rate: Natural,
     /// Its flow id.
     pub(crate) id: u64,
     /// The units that were left at the moment `since`.
@@ -36,13 +35,8 @@ impl<P: Peer> Flight<P> {
     pub(crate) fn is_spent_at(&self, now: u64) -> bool
         ensures { result ≡ (left_by now self.now == 0) }
     {
-        match &self.rate {
-            None => self.left.is_zero(),
-            Some(rate) => {
-                let elapsed = now.saturating_sub(self.since);
-                self.left.compare_times(1, rate, elapsed).is_le()
-            }
-        }
+        let elapsed = now.saturating_sub(self.since);
+        self.left.compare_times(1, &self.rate, elapsed).is_le()
     }
 
     /// Whether it is kept as it stands at an account at `now`, where time does not go back: it has a
@@ -56,23 +50,9 @@ impl<P: Peer> Flight<P> {
 
     /// Whether less than the level drains in a nanosecond at its rate.
     pub(crate) fn is_below(&self, level: &Natural) -> bool
-        ensures { result ≡ not (nat_le level.now (rate_of self.now.rate)) }
+        ensures { result ≡ not (nat_le level.now self.now.rate) }
     {
-        match &self.rate {
-            Some(rate) => Rc::as_ref(rate) < level,
-            None => !level.is_zero(),
-        }
-    }
-
-    /// The rate that it has got, or none at all where it has got none.
-    pub(crate) fn rate_kept(&self, alloc: Global) -> Result<Rc<Natural>, Error>
-        ensures rate { IfOk result (λ rate. rate.value ≡ (flight_at 0 self.now).rate) }
-        ensures refused { IfErr result (λ e. e ≡ Error.OutOfMemory) }
-    {
-        match &self.rate {
-            Some(rate) if self.rated => Ok(rate.clone()?),
-            _ => Ok(Rc::new(alloc, Natural::from_u64(alloc, 0))?),
-        }
+        self.rate < *level
     }
 
     /// Whether its finish has come at that moment.
@@ -92,9 +72,7 @@ impl<P: Peer> Flight<P> {
     {
         let mut left = self.left.clone()?;
         if self.rated {
-            if let Some(rate) = &self.rate {
-                left.sub_times(rate, now.saturating_sub(self.since));
-            }
+            left.sub_times(&self.rate, now.saturating_sub(self.since));
         }
         Ok(left)
     }
@@ -105,7 +83,7 @@ impl<P: Peer> Flight<P> {
         ensures id { IfOk result (λ one. one.id ≡ self.now.id) }
         ensures message { IfOk result (λ one. one.message.value ≡ self.now.message.value) }
         ensures left { IfOk result (λ one. one.left ≡ (flight_at at self.now).left) }
-        ensures rate { IfOk result (λ one. rate_of one.rate ≡ rate_of self.now.rate) }
+        ensures rate { IfOk result (λ one. one.rate ≡ self.now.rate) }
         ensures since { IfOk result (λ one. one.since ≡ now) }
         ensures rated { IfOk result (λ one. one.rated ≡ self.now.rated) }
         ensures refused { IfErr result (λ e. e ≡ Error.OutOfMemory) }
@@ -122,25 +100,18 @@ impl<P: Peer> Flight<P> {
     }
 
     /// Whether it has that rate.
-    pub(crate) fn goes_on(&self, rate: &Option<Rc<Natural>>) -> bool
+    pub(crate) fn goes_on(&self, rate: &Natural) -> bool
         ensures rated { result ≡ true → self.now.rated ≡ true }
-        ensures rate { result ≡ true → rate_of self.now.rate ≡ rate_of rate.now }
+        ensures rate { result ≡ true → self.now.rate ≡ rate.now }
     {
-        if !self.rated {
-            return false;
-        }
-        match (&self.rate, rate) {
-            (Some(own), Some(rate)) => Rc::as_ref(own) == Rc::as_ref(rate),
-            (None, None) => true,
-            _ => false,
-        }
+        self.rated && self.rate == *rate
     }
 
     /// The same message at that rate from `now` on, the moment of an account.
     /// What is left counts in smaller units, of which so many times as many are needed.
     pub(crate) fn rerated(
         &self,
-        rate: Option<Rc<Natural>>,
+        rate: &Natural,
         growth: &[u64],
         now: u64,
     ) -> Result<Flight<P>, Error>
@@ -148,7 +119,7 @@ impl<P: Peer> Flight<P> {
         ensures id { IfOk result (λ one. one.id ≡ self.now.id) }
         ensures message { IfOk result (λ one. one.message.value ≡ self.now.message.value) }
         ensures left { IfOk result (λ one. one.left ≡ (flight_at now self.now).left * product growth.now) }
-        ensures rate { IfOk result (λ one. rate_of one.rate ≡ rate_of rate) }
+        ensures rate { IfOk result (λ one. one.rate ≡ rate.now) }
         ensures since { IfOk result (λ one. one.since ≡ now) }
         ensures rated { IfOk result (λ one. one.rated ≡ true) }
         ensures timed { IfOk result (λ one. IsTimed one) }
@@ -156,12 +127,12 @@ impl<P: Peer> Flight<P> {
     {
         let mut left = self.left_at(now)?;
         grow(&mut left, growth)?;
-        let finish = finish_of(&left, &rate, now);
+        let finish = finish_of(&left, rate, now);
         Ok(Flight {
             id: self.id,
             message: self.message.clone()?,
             left,
-            rate,
+            rate: rate.clone()?,
             since: now,
             finish,
             rated: true,
@@ -175,44 +146,29 @@ impl<P: Peer> Flight<P> {
         ensures factor { IsFactorOf self.now result }
     {
         let shared = common_factor(most, self.left.remainder(most));
-        match &self.rate {
-            Some(rate) => common_factor(shared, rate.remainder(shared)),
-            None => shared,
-        }
+        common_factor(shared, self.rate.remainder(shared))
     }
 
     /// The same message, counted in units so many times as large.
-    pub(crate) fn counted_by(&self, alloc: Global, by: u64) -> Result<Flight<P>, Error>
+    pub(crate) fn counted_by(&self, by: u64) -> Result<Flight<P>, Error>
         requires { 0 < by }
         ensures counted { IfOk result (IsCountedBy by self.now) }
         ensures refused { IfErr result (λ e. e ≡ Error.OutOfMemory) }
     {
         let mut left = self.left.clone()?;
         left.divide(by);
+        let mut rate = self.rate.clone()?;
+        rate.divide(by);
         Ok(Flight {
             id: self.id,
             message: self.message.clone()?,
             left,
-            rate: divided(alloc, &self.rate, by)?,
+            rate,
             since: self.since,
             finish: self.finish,
             rated: self.rated,
         })
     }
-}
-
-/// The rate, divided. No rate stays none.
-fn divided(alloc: Global, rate: &Option<Rc<Natural>>, by: u64) -> Result<Option<Rc<Natural>>, Error>
-    requires { 0 < by }
-    ensures divided { IfOk result (λ new. rate_of new ≡ rate_of rate.now / by) }
-    ensures refused { IfErr result (λ e. e ≡ Error.OutOfMemory) }
-{
-    let Some(rate) = rate else {
-        return Ok(None);
-    };
-    let mut new = Rc::as_ref(rate).clone()?;
-    new.divide(by);
-    Ok(Some(Rc::new(alloc, new)?))
 }
 
 /// The greatest common divisor of two numbers, of which the first is above zero.
@@ -244,10 +200,10 @@ pub(crate) fn grow(units: &mut Natural, growth: &[u64]) -> Result<(), Error>
 
 /// The moment from which on nothing is left, up to the last moment, if so much drains from `now` on
 /// at that rate.
-fn finish_of(left: &Natural, rate: &Option<Rc<Natural>>, now: u64) -> Option<u64>
+fn finish_of(left: &Natural, rate: &Natural, now: u64) -> Option<u64>
     requires { left.now ≢ 0 }
-    ensures { IsFinishOf left.now (rate_of rate.now) now result }
+    ensures { IsFinishOf left.now rate.now now result }
 {
-    let time = left.least_multiple(rate.as_ref()?)?;
+    let time = left.least_multiple(rate)?;
     now.checked_add(time)
 }

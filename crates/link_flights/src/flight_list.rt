@@ -137,7 +137,7 @@ impl<P: Peer> Flights<P> {
             id,
             message,
             left,
-            rate: None,
+            rate: Natural::from_u64(self.alloc, 0),
             since: now,
             finish: None,
             rated: false,

@@ -1,7 +1,8 @@
-//! Notes of places, for which room is kept from one event to the next.
+//! Notes of places, and lists of them, for which room is kept from one event to the next.
 ghost use Rattle.std.specs.Prelude.{◌≡◌, [], length, All, IfOk, IfErr};
 ghost use Rattle.link_flights.specs.Flights.Components.{AreNoted};
 
+use crate::numbers::Numbers;
 use fair_rates::error::Error;
 use std::alloc::Global;
 use std::marker::Model;
@@ -11,8 +12,37 @@ use std::mem;
 #[derive(Drop)]
 pub(crate) struct Notes {
     noted: Vec<bool>,
-    // In which numbers of places were noted. What it holds says nothing.
-    room: Vec<usize>,
+    near: Vec<usize>,
+    rooms: Rooms,
+}
+
+/// Room for lists of places and of numbers. What they hold says nothing.
+#[derive(Drop)]
+pub(crate) struct Rooms {
+    /// For the places that are rated.
+    pub(crate) places: Vec<usize>,
+    /// For the number of each place.
+    pub(crate) numbers: Vec<usize>,
+    /// For the users of a side.
+    pub(crate) users: Vec<usize>,
+}
+
+impl Rooms {
+    /// No room yet.
+    pub(crate) fn new(alloc: Global) -> Rooms {
+        Rooms {
+            places: Vec::new(alloc),
+            numbers: Vec::new(alloc),
+            users: Vec::new(alloc),
+        }
+    }
+
+    /// The room of places and of their numbers is kept.
+    pub(crate) fn keep(&mut self, numbers: Numbers) {
+        let (places, room) = numbers.into_parts();
+        self.places = places;
+        self.numbers = room;
+    }
 }
 
 impl Model for Notes {
@@ -30,18 +60,39 @@ impl Notes {
     pub(crate) fn new(alloc: Global) -> Notes {
         Notes {
             noted: Vec::new(alloc),
-            room: Vec::new(alloc),
+            near: Vec::new(alloc),
+            rooms: Rooms::new(alloc),
         }
     }
 
-    /// Room for numbers of places. It is taken out until it is kept again.
-    pub(crate) fn take_room(&mut self, alloc: Global) -> Vec<usize> {
-        mem::replace(&mut self.room, Vec::new(alloc))
+    /// Room for lists. It is taken out until it is kept again.
+    pub(crate) fn take_rooms(&mut self, alloc: Global) -> Rooms {
+        mem::replace(&mut self.rooms, Rooms::new(alloc))
     }
 
-    /// Room for numbers of places is kept.
-    pub(crate) fn keep_room(&mut self, room: Vec<usize>) {
-        self.room = room;
+    /// Room for lists is kept.
+    pub(crate) fn keep_rooms(&mut self, rooms: Rooms) {
+        self.rooms = rooms;
+    }
+
+    /// Room for the number of each place. It is taken out until it is kept again.
+    pub(crate) fn take_numbers(&mut self, alloc: Global) -> Vec<usize> {
+        mem::replace(&mut self.rooms.numbers, Vec::new(alloc))
+    }
+
+    /// Room for the number of each place is kept.
+    pub(crate) fn keep_numbers(&mut self, numbers: Vec<usize>) {
+        self.rooms.numbers = numbers;
+    }
+
+    /// Room for the places of a component. It is taken out until it is kept again.
+    pub(crate) fn take_near(&mut self, alloc: Global) -> Vec<usize> {
+        mem::replace(&mut self.near, Vec::new(alloc))
+    }
+
+    /// Room for the places of a component is kept.
+    pub(crate) fn keep_near(&mut self, near: Vec<usize>) {
+        self.near = near;
     }
 
     /// Room for so many places, of which none is noted. It is taken out until it is given back.

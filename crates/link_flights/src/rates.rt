@@ -12,7 +12,7 @@ ghost use Rattle.link_pairs.specs.Pairs.Messages.{messages, message_of};
 ghost use Rattle.link_pairs.specs.Pairs.CapsOf.{caps_of};
 ghost use Rattle.link_flights.specs.Flights.Components.{those_of, is_of, is_closed, has_both, suits, places_of};
 ghost use Rattle.link_flights.specs.Flights.Components.{AreNear, those_near, AreNoted};
-ghost use Rattle.link_flights.specs.Flights.Flight.{AreTimed, rate_of, flight_at, has_come};
+ghost use Rattle.link_flights.specs.Flights.Flight.{AreTimed, flight_at, has_come};
 ghost use Rattle.link_flights.specs.Flights.InFlight.{in_units, in_flight, loose_in};
 ghost use Rattle.link_flights.specs.Flights.Rated.{WereRated, AreFairOn, HaveFairRates, sent_messages};
 ghost use Rattle.link_flights.specs.Flights.Rated.{rerated, rates_found, AreOthersTimed, IsReratedAt};
@@ -24,6 +24,7 @@ use crate::component::Component;
 use crate::flight::{Flight, grow};
 use crate::flight_list::Flights;
 use crate::loose::Loose;
+use crate::notes::Rooms;
 use crate::numbers::Numbers;
 use fair_rates::bandwidth::{FairParts, FlowCaps, fair_parts_on, parts_alone};
 use fair_rates::error::Error;
@@ -49,29 +50,14 @@ const FEW_NEW: usize = 4;
 /// Where so many are in flight, or more, and all were touched, a search would mostly join too much.
 const MANY: usize = 56;
 
-/// Levels that those who have them share.
-fn shared_levels(alloc: Global, levels: Vec<Natural>) -> Result<Vec<Rc<Natural>>, Error>
-    ensures same { IfOk result (λ shared. map (λ level. level.value) shared.items ≡ levels.items) }
-    ensures refused { IfErr result (λ e. e ≡ Error.OutOfMemory) }
+/// The level at that place, or what stands for none.
+fn level_at<'a>(levels: &'a [Natural], place: Option<usize>, none: &'a Natural) -> &'a Natural
+    requires { none.now ≡ 0 }
+    ensures { result.now ≡ parts_of_level levels.now place }
 {
-    let mut shared = Vec::with_capacity(alloc, levels.len())?;
-    for level in levels {
-        shared.push(Rc::new(alloc, level)?)?;
-    }
-    Ok(shared)
-}
-
-/// The level at that place. None drains nothing.
-fn level_at(levels: &[Rc<Natural>], place: Option<usize>) -> Result<Option<Rc<Natural>>, Error>
-    ensures rate { IfOk result (λ level. rate_of level ≡ parts_of_level (map (λ level. level.value) levels.now) place) }
-    ensures refused { IfErr result (λ e. e ≡ Error.OutOfMemory) }
-{
-    let Some(place) = place else {
-        return Ok(None);
-    };
-    match levels.get(place) {
-        Some(level) => Ok(Some(level.clone()?)),
-        None => Ok(None),
+    match place {
+        Some(place) => levels.get(place).unwrap_or(none),
+        None => none,
     }
 }
 
@@ -139,13 +125,16 @@ impl<P: Peer> Flights<P> {
         }
         if were_rated {
             let mut noted = self.notes.take(self.alloc, self.list.len())?;
-            let mut room = self.notes.take_room(self.alloc);
-            let touched = self.touched(done, peers, pairs, &mut noted)?;
+            let mut rooms = self.notes.take_rooms(self.alloc);
+            let near = self.notes.take_near(self.alloc);
+            let touched = self.touched(done, peers, pairs, &mut noted, near)?;
             self.notes.give_back(noted, &touched.near);
-            let found = self.rate_touched(&touched, peers, pairs, &mut room)?;
-            self.notes.keep_room(room);
+            let found = self.rate_touched(&touched, peers, pairs, &mut rooms)?;
+            self.notes.keep_rooms(rooms);
+            let whole = touched.whole;
+            self.notes.keep_near(touched.near);
             if let Some(found) = found {
-                let unsearched = self.spared_after(touched.whole, found);
+                let unsearched = self.spared_after(whole, found);
                 return Ok(self.settle(unsearched));
             }
         }
@@ -172,10 +161,9 @@ impl<P: Peer> Flights<P> {
         ensures before { self.new.list.before ≡ self.old.list.before }
         ensures refused { IfErr result (λ e. e ≡ Error.OutOfMemory) }
     {
-        let level = self.rate_alone(0, peers, pairs)?;
-        let rate = Rc::new(self.alloc, level)?;
+        let rate = self.rate_alone(0, peers, pairs)?;
         self.rated_anew = 0;
-        self.rerate(0, Some(rate), &[], were_timed)?;
+        self.rerate(0, &rate, &[], were_timed)?;
         Ok(self.settle(0))
     }
 
@@ -200,18 +188,17 @@ impl<P: Peer> Flights<P> {
         ensures refused { IfErr result (λ e. e ≡ Error.OutOfMemory) }
     {
         let all = Component::whole(self.alloc);
-        let places = self.places_rated(&all)?;
-        let numbers = Numbers::of(places, self.notes.take_room(self.alloc), self.list.len())?;
+        let places = self.places_rated(&all, Vec::new(self.alloc))?;
+        let numbers = Numbers::of(places, self.notes.take_numbers(self.alloc), self.list.len())?;
         let rates = self.rates_at(&all, &numbers, peers, pairs)?;
         let (places, room) = numbers.into_parts();
-        self.notes.keep_room(room);
+        self.notes.keep_numbers(room);
         let mut scale = self.scale.clone()?;
         grow(&mut scale, &rates.growth)?;
-        let levels = shared_levels(self.alloc, rates.levels)?;
         self.set_rates(
             &all,
             &places,
-            &levels,
+            &rates.levels,
             &rates.level_of,
             &rates.growth,
             were_timed,
@@ -250,7 +237,7 @@ impl<P: Peer> Flights<P> {
         touched: &Component<P>,
         peers: &Peers<P>,
         pairs: &Pairs<P>,
-        room: &mut Vec<usize>,
+        rooms: &mut Rooms,
     ) -> Result<Option<usize>, Error>
         requires near { touched.now.whole ≡ false
             → AreNear P.cmp touched.now touched.now.near.items self.old.list.items }
@@ -263,27 +250,31 @@ impl<P: Peer> Flights<P> {
         ensures before { self.new.list.before ≡ self.old.list.before }
         ensures refused { IfErr result (λ e. e ≡ Error.OutOfMemory) }
     {
-        let places = self.places_rated(touched)?;
+        let list = mem::replace(&mut rooms.places, Vec::new(self.alloc));
+        let places = self.places_rated(touched, list)?;
         if places.is_empty() {
+            rooms.places = places;
             self.rated_anew = 0;
             return Ok(Some(0));
         }
-        let lent = mem::replace(room, Vec::new(self.alloc));
+        let lent = mem::replace(&mut rooms.numbers, Vec::new(self.alloc));
         let numbers = Numbers::of(places, lent, self.list.len())?;
         if let [only] = *numbers.places() {
-            let found = self.rate_only(touched, only, &numbers, peers, pairs);
-            *room = numbers.into_parts().1;
+            let users = &mut rooms.users;
+            let found = self.rate_only(touched, only, &numbers, peers, pairs, users);
+            rooms.keep(numbers);
             return found;
         }
         let part = self.rates_at(touched, &numbers, peers, pairs)?;
-        let (places, noted) = numbers.into_parts();
-        *room = noted;
         if !part.growth.is_empty() || !all_reach(&part, &touched.level) {
+            rooms.keep(numbers);
             return Ok(None);
         }
-        let levels = shared_levels(self.alloc, part.levels)?;
-        self.set_rates(touched, &places, &levels, &part.level_of, &[], true)?;
-        Ok(Some(places.len()))
+        let places = numbers.places();
+        self.set_rates(touched, places, &part.levels, &part.level_of, &[], true)?;
+        let found = places.len();
+        rooms.keep(numbers);
+        Ok(Some(found))
     }
 
     /// The same where only the one at that place is touched and rated anew. What the others leave of its caps is whole
@@ -295,6 +286,7 @@ impl<P: Peer> Flights<P> {
         numbers: &Numbers,
         peers: &Peers<P>,
         pairs: &Pairs<P>,
+        users: &mut Vec<usize>,
     ) -> Result<Option<usize>, Error>
         requires only { numbers.now ≡ at ∷ [] }
         requires places { numbers.now ≡ places_of (λ f. is_of P.cmp touched.now (flight_at 0 f)) 0 self.old.list.items }
@@ -307,10 +299,9 @@ impl<P: Peer> Flights<P> {
         ensures before { self.new.list.before ≡ self.old.list.before }
         ensures refused { IfErr result (λ e. e ≡ Error.OutOfMemory) }
     {
-        let level = self.left_for(touched, at, numbers, peers, pairs)?;
+        let level = self.left_for(touched, at, numbers, peers, pairs, users)?;
         if touched.level <= level {
-            let levels = [Rc::new(self.alloc, level)?];
-            self.set_rates(touched, numbers.places(), &levels, &[Some(0)], &[], true)?;
+            self.set_rates(touched, numbers.places(), &[level], &[Some(0)], &[], true)?;
             return Ok(Some(1));
         }
         Ok(None)
@@ -341,6 +332,7 @@ impl<P: Peer> Flights<P> {
         peers: &Peers<P>,
         pairs: &Pairs<P>,
         noted: &mut Vec<bool>,
+        near: Vec<usize>,
     ) -> Result<Component<P>, Error>
         requires none { AreNoted [] noted.old.items }
         requires each { length noted.old.items ≡ length self.now.list.items }
@@ -353,7 +345,7 @@ impl<P: Peer> Flights<P> {
         ensures refused { IfErr result (λ e. e ≡ Error.OutOfMemory) }
     {
         if self.unsearched == 0 {
-            if let Some(component) = self.component(done, peers, pairs, noted)? {
+            if let Some(component) = self.component(done, peers, pairs, noted, near)? {
                 return Ok(component);
             }
         }
@@ -395,7 +387,11 @@ impl<P: Peer> Flights<P> {
     }
 
     /// The places of those of the component that are rated anew, in order.
-    fn places_rated(&self, component: &Component<P>) -> Result<Vec<usize>, Error>
+    fn places_rated(
+        &self,
+        component: &Component<P>,
+        mut places: Vec<usize>,
+    ) -> Result<Vec<usize>, Error>
         requires near { component.now.whole ≡ false
             → AreNear P.cmp component.now component.now.near.items self.now.list.items }
         requires suited { list_all (suits P.cmp component.now) (in_units self.now) ≡ true }
@@ -403,7 +399,7 @@ impl<P: Peer> Flights<P> {
             ≡ places_of (λ f. is_of P.cmp component.now (flight_at 0 f)) 0 self.now.list.items) }
         ensures refused { IfErr result (λ e. e ≡ Error.OutOfMemory) }
     {
-        let mut places = Vec::new(self.alloc);
+        places.clear();
         for number in 0..self.count(component) {
             let at = component.place(number);
             if !component.keeps(self.list.at(at)) {
@@ -439,7 +435,7 @@ impl<P: Peer> Flights<P> {
         &mut self,
         component: &Component<P>,
         places: &[usize],
-        levels: &[Rc<Natural>],
+        levels: &[Natural],
         level_of: &[Option<usize>],
         growth: &[u64],
         were_timed: bool,
@@ -461,8 +457,9 @@ impl<P: Peer> Flights<P> {
         ensures refused { IfErr result (λ e. e ≡ Error.OutOfMemory) }
     {
         self.rated_anew = 0;
+        let none = Natural::from_u64(self.alloc, 0);
         for number in 0..places.len() {
-            let rate = level_at(levels, level_of[number])?;
+            let rate = level_at(levels, level_of[number], &none);
             self.rerate(places[number], rate, growth, were_timed)?;
         }
         Ok(())
@@ -473,7 +470,7 @@ impl<P: Peer> Flights<P> {
     fn rerate(
         &mut self,
         at: usize,
-        rate: Option<Rc<Natural>>,
+        rate: &Natural,
         growth: &[u64],
         were_timed: bool,
     ) -> Result<(), Error>
@@ -482,7 +479,7 @@ impl<P: Peer> Flights<P> {
             (slice_index_or self.old.list.items at d)).left * product growth.now ≢ 0 }
         requires timed { were_timed ≡ true → AreTimed self.old.list.items }
         requires counted { self.old.rated_anew ≤ at }
-        ensures rerated { OnOk result (IsReratedAt self.old.at at (product growth.now) (rate_of rate)
+        ensures rerated { OnOk result (IsReratedAt self.old.at at (product growth.now) rate.now
             self.old.list.items self.new.list.items) }
         ensures scale { self.new.scale ≡ self.old.scale }
         ensures at { self.new.at ≡ self.old.at }
@@ -491,24 +488,19 @@ impl<P: Peer> Flights<P> {
         ensures refused { IfErr result (λ e. e ≡ Error.OutOfMemory) }
     {
         let one = self.list.at(at);
-        if were_timed && growth.is_empty() && one.goes_on(&rate) {
+        if were_timed && growth.is_empty() && one.goes_on(rate) {
             return Ok(());
         }
         self.put_rerated(at, rate, growth)
     }
 
     /// A message at that rate stands at that place, in the place of the one that is there.
-    fn put_rerated(
-        &mut self,
-        at: usize,
-        rate: Option<Rc<Natural>>,
-        growth: &[u64],
-    ) -> Result<(), Error>
+    fn put_rerated(&mut self, at: usize, rate: &Natural, growth: &[u64]) -> Result<(), Error>
         requires place { at < length self.old.list.items }
         requires left { (d : AnyFlight P) → (flight_at self.old.at
             (slice_index_or self.old.list.items at d)).left * product growth.now ≢ 0 }
         requires counted { self.old.rated_anew ≤ at }
-        ensures rerated { OnOk result (IsReratedAt self.old.at at (product growth.now) (rate_of rate)
+        ensures rerated { OnOk result (IsReratedAt self.old.at at (product growth.now) rate.now
             self.old.list.items self.new.list.items) }
         ensures scale { self.new.scale ≡ self.old.scale }
         ensures at { self.new.at ≡ self.old.at }

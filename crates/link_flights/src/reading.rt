@@ -98,11 +98,11 @@ fn read_rate<P: Peer>(flight: &Flight<P>, scale: &Natural) -> Result<Reading, Er
     ensures read { IfOk result (IsReadingOf (reduced (flight_at 0 flight.now).rate scale.now)) }
     ensures refused { IfErr result (λ e. e ≡ Error.OutOfMemory) }
 {
-    match &flight.rate {
-        Some(rate) if flight.rated => read_fraction(rate, scale),
-        _ => Ok(Reading {
-            amount: Ratio::zero(),
-            is_exact: true,
-        }),
+    if flight.rated {
+        return read_fraction(&flight.rate, scale);
     }
+    Ok(Reading {
+        amount: Ratio::zero(),
+        is_exact: true,
+    })
 }

@@ -34,6 +34,10 @@ use link_pairs::known_pairs::Pairs;
 use link_pairs::message::Message;
 use link_pairs::peers::Peers;
 use natural::Natural;
+use std::mem;
+
+/// For so many sides there is room at first. Where more are rated, they mostly share sides.
+const FEW_SIDES: usize = 16;
 
 /// Whether the message uses what there is of a cap at that end: what is dropped takes nothing of what its recipient
 /// may receive.
@@ -99,7 +103,7 @@ impl<P: Peer> Flights<P> {
         ensures refused { IfErr result (λ e. e ≡ Error.OutOfMemory) }
     {
         let places = numbers.places();
-        let mut sides = Vec::with_capacity(self.alloc, 2 * places.len())?;
+        let mut sides = Vec::with_capacity(self.alloc, FEW_SIDES.min(2 * places.len()))?;
         self.add_sides(End::Origin, component, numbers, peers, &mut sides)?;
         self.add_sides(End::Recipient, component, numbers, peers, &mut sides)?;
         self.add_links(places, pairs, &mut sides)?;
@@ -115,6 +119,7 @@ impl<P: Peer> Flights<P> {
         numbers: &Numbers,
         peers: &Peers<P>,
         pairs: &Pairs<P>,
+        users: &mut Vec<usize>,
     ) -> Result<Natural, Error>
         requires only { numbers.now ≡ at ∷ [] }
         requires places { numbers.now ≡ places_of (λ f. is_of P.cmp component.now (flight_at 0 f)) 0 self.now.list.items }
@@ -125,8 +130,8 @@ impl<P: Peer> Flights<P> {
             (left ∷ [])) }
         ensures refused { IfErr result (λ e. e ≡ Error.OutOfMemory) }
     {
-        let sent = self.left_at(End::Origin, at, component, numbers, peers)?;
-        let received = self.left_at(End::Recipient, at, component, numbers, peers)?;
+        let sent = self.left_at(End::Origin, at, component, numbers, peers, users)?;
+        let received = self.left_at(End::Recipient, at, component, numbers, peers, users)?;
         let message = &self.list.at(at).message;
         let between = match pairs.cap(&message.origin, &message.recipient) {
             Some(cap) => Some(self.scale.product(cap)?),
@@ -144,6 +149,7 @@ impl<P: Peer> Flights<P> {
         component: &Component<P>,
         numbers: &Numbers,
         peers: &Peers<P>,
+        users: &mut Vec<usize>,
     ) -> Result<Option<Natural>, Error>
         requires at { Contains numbers.now at }
         requires places { numbers.now ≡ places_of (λ f. is_of P.cmp component.now (flight_at 0 f)) 0 self.now.list.items }
@@ -154,8 +160,11 @@ impl<P: Peer> Flights<P> {
             (end_subject end (flow_sent P.cmp one.message.value))) None) }
         ensures refused { IfErr result (λ e. e ≡ Error.OutOfMemory) }
     {
-        match self.side_at(end, at, component, numbers, peers, 1)? {
-            Some(side) => Ok(Some(side.cap)),
+        match self.side_at(end, at, component, numbers, peers, users)? {
+            Some(side) => {
+                *users = side.users;
+                Ok(Some(side.cap))
+            }
             None => Ok(None),
         }
     }
@@ -179,18 +188,20 @@ impl<P: Peer> Flights<P> {
     {
         let places = numbers.places();
         let mut has_side = vec![in self.alloc; false; places.len()]?;
+        let mut users = Vec::new(self.alloc);
         let mut room = 0;
         for number in 0..places.len() {
             if has_side[number] {
                 continue;
             }
+            users.reserve(room)?;
             if let Some(side) = self.side_at(
                 end,
                 places[number],
                 component,
                 numbers,
                 peers,
-                room,
+                &mut users,
             )? {
                 note_users(&mut has_side, &side.users);
                 room = side.users.len();
@@ -200,7 +211,8 @@ impl<P: Peer> Flights<P> {
         Ok(())
     }
 
-    /// The side at one end of the one at that place, which is rated anew, if it uses one.
+    /// The side at one end of the one at that place, which is rated anew, if it uses one. It takes the room for its
+    /// users.
     fn side_at(
         &self,
         end: End,
@@ -208,7 +220,7 @@ impl<P: Peer> Flights<P> {
         component: &Component<P>,
         numbers: &Numbers,
         peers: &Peers<P>,
-        room: usize,
+        room: &mut Vec<usize>,
     ) -> Result<Option<Side>, Error>
         requires at { Contains numbers.now at }
         requires places { numbers.now ≡ places_of (λ f. is_of P.cmp component.now (flight_at 0 f)) 0 self.now.list.items }
@@ -232,10 +244,10 @@ impl<P: Peer> Flights<P> {
         let Some(cap) = cap_at(end, message, peers) else {
             return Ok(None);
         };
-        let mut side = Side {
-            cap: self.scale.product(cap)?,
-            users: Vec::with_capacity(self.alloc, room)?,
-        };
+        let cap = self.scale.product(cap)?;
+        let mut users = mem::replace(room, Vec::new(self.alloc));
+        users.clear();
+        let mut side = Side { cap, users };
         let mut next = self.list.first_at(end, message);
         while let Some(at) = next {
             self.count_one(end, at, component, numbers, &mut side)?;
@@ -274,9 +286,7 @@ impl<P: Peer> Flights<P> {
             side.users.push(number)?;
             return Ok(());
         }
-        if let Some(rate) = &one.rate {
-            side.cap.subtract(rate);
-        }
+        side.cap.subtract(&one.rate);
         Ok(())
     }
 

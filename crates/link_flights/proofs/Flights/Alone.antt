@@ -76,11 +76,10 @@ module _ {P : Type 0} (cmp : P → P → Ordering) (caps : Caps P) where
         }
 
     -- one that is alone has a fair rate where it is fair for its message alone
-    pub one_given : length old.list.items ≡ 1 → (level rate : ℕ) → rate ≡ level
-        → ((d : Flight P) → AreFairFor cmp caps old.scale
-        (message_of (get_or old.list.items 0 d).message.value ∷ []) (level ∷ []))
+    pub one_given : length old.list.items ≡ 1 → (rate : ℕ) → ((d : Flight P) → AreFairFor cmp caps old.scale
+        (message_of (get_or old.list.items 0 d).message.value ∷ []) (rate ∷ []))
         → IsReratedAt old.at 0 1 rate old.list.items new.list.items → HaveFairRates cmp caps old new
-    one_given one level rate is fair r =
+    one_given one rate fair r =
         let x = only_one old.list.items one in
         let now : new.list.items ≡ r.one ∷ [] = r.others ∙ ap (λ l. slice_set l 0 r.one) x.1 in
         let unit : flight_at old.at r.one ≡ rated_anew old.at 1 rate (flight_at old.at x.0) =
@@ -89,9 +88,8 @@ module _ {P : Type 0} (cmp : P → P → Ordering) (caps : Caps P) where
         ap (λ n. flights_at n new.list.items) at ∙ ap (flights_at old.at) now ∙ ap (λ u. u ∷ []) unit in
         let were : in_units old ≡ flight_at old.at x.0 ∷ [] = ap (flights_at old.at) x.1 in
         let fairly : AreFairFor cmp caps old.scale (message_of x.0.message.value ∷ []) (rate ∷ []) =
-        subst (λ n. AreFairFor cmp caps old.scale (message_of x.0.message.value ∷ []) (n ∷ [])) (sym is)
-        (subst (λ l. AreFairFor cmp caps old.scale (message_of (get_or l 0 x.0).message.value ∷ []) (level ∷ [])) x.1
-        (fair x.0)) in
+        subst (λ l. AreFairFor cmp caps old.scale (message_of (get_or l 0 x.0).message.value ∷ []) (rate ∷ [])) x.1
+        (fair x.0) in
         record {
           times = 1;
           scale = omega (arith, scale);

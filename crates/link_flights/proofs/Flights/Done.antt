@@ -3,7 +3,7 @@ use Rattle.link_flights.proofs.Common.{◌≡◌, ℕ, zero, suc, ◌-◌, ◌*�
 use Rattle.link_flights.proofs.Common.{if◌then◌else◌, List, [], ◌∷◌, length, get_or, refl, sym, ap, ap₂, ◌∙◌, arith}
 use Rattle.link_flights.proofs.Common.{inl, inr, ◌==◌, Ordering, eqb-true, false≢true, le-leb, leb-true, billion, Caps}
 use Rattle.link_flights.proofs.Common.{by_bool, In, in_map, in_filter, all_pass, is_unlimited, last_moment, Flight}
-use Rattle.link_flights.proofs.Common.{UnitFlight, rate_of, left_by, flight_at, flights_at, has_come, IsTimed, is_out}
+use Rattle.link_flights.proofs.Common.{UnitFlight, left_by, flight_at, flights_at, has_come, IsTimed, is_out}
 use Rattle.link_flights.proofs.Common.{are_limited, rated_ones, message_of}
 use Rattle.std.proofs.lemmas.Bool.{eq-eqb}
 use Rattle.link_flights.proofs.Flights.Units.{units_positive, no_units_left, nothing_left}
@@ -36,7 +36,7 @@ module _ {P : Type 0} (cmp : P → P → Ordering) (caps : Caps P) (scale : ℕ)
       → is_unlimited cmp caps (message_of f.message.value) ≡ false
       → has_come at f.finish ≡ is_out cmp caps scale (flight_at at f)
   out_by_finish at f rated since fits timed limited =
-      sym (timed at since fits) ∙ sym (nothing_of f.left (rate_of f.rate * (at - f.since)))
+      sym (timed at since fits) ∙ sym (nothing_of f.left (f.rate * (at - f.since)))
       ∙ sym
       (out_is (flight_at at f)
       ∙ ap₂ (λ n b. (n == 0) || b) (ap (λ b. if b then left_by at f else f.left) rated) limited

@@ -3,7 +3,7 @@ use Rattle.link_flights.proofs.Common.{◌≡◌, ℕ, zero, suc, ◌+◌, ◌-�
 use Rattle.link_flights.proofs.Common.{if◌then◌else◌, List, [], ◌∷◌, length, map, get_or, set, Some, slice_get, refl}
 use Rattle.link_flights.proofs.Common.{sym, ap, ◌∙◌, subst, arith, inl, inr, ◌⊎◌, AllZip, remove, list_all, le-leb}
 use Rattle.link_flights.proofs.Common.{leb-true, and_from, length-append, none-some, same_Some, first_of_both}
-use Rattle.link_flights.proofs.Common.{second_of_both, IsChangedUpTo, Flight, UnitFlight, rate_of, left_by, flight_at}
+use Rattle.link_flights.proofs.Common.{second_of_both, IsChangedUpTo, Flight, UnitFlight, left_by, flight_at}
 use Rattle.link_flights.proofs.Common.{flights_at, IsTimed, AreTimed, DrainsTo}
 use Rattle.std.proofs.lemmas.List.{set-get_or}
 use Rattle.fair_rates.proofs.Lists.Zips.{zip-length}
@@ -89,26 +89,26 @@ module _ {P : Type 0} where
   pub counted_on : (at now : ℕ) (f : Flight P) → f.rated ≡ true → f.since ≤ at → at ≤ now
       → DrainsTo now (flight_at at f) (flight_at now f)
   counted_on at now f is past later =
-      rw is (ap (λ (n : ℕ). as_record n) (drained_on f.left (rate_of f.rate) f.since at now past later))
+      rw is (ap (λ (n : ℕ). as_record n) (drained_on f.left f.rate f.since at now past later))
     where
       as_record : ℕ → UnitFlight P
       as_record n = record {
         id = f.id;
         message = f.message.value;
         left = n;
-        rate = rate_of f.rate;
+        rate = f.rate;
         updated = now;
         rated = true;
       }
 
   -- one that is brought to an earlier moment, or that has no rate yet, drains to that moment
   pub brought : (at now : ℕ) (f g : Flight P) → now ≤ at ⊎ f.rated ≡ false → g.id ≡ f.id
-      → g.message.value ≡ f.message.value → g.left ≡ (flight_at at f).left → rate_of g.rate ≡ rate_of f.rate
+      → g.message.value ≡ f.message.value → g.left ≡ (flight_at at f).left → g.rate ≡ f.rate
       → g.since ≡ now → g.rated ≡ f.rated → DrainsTo now (flight_at at f) (flight_at now g)
   brought at now f g back id message left rate since rated = by_flag f.rated refl
     where
       r : ℕ
-      r = rate_of f.rate
+      r = f.rate
 
       by_flag : (b : Bool) → f.rated ≡ b → DrainsTo now (flight_at at f) (flight_at now g)
       by_flag true is = rw (rated, id, message, rate, since, is) (ap as_record rest)
@@ -197,7 +197,7 @@ module _ {P : Type 0} where
   -- one that is brought to another moment
   pub is_brought : (at now : ℕ) (f g : Flight P) → now < at ⊎ f.rated ≡ false
       → g.id ≡ f.id → g.message.value ≡ f.message.value
-      → g.left ≡ (flight_at at f).left → rate_of g.rate ≡ rate_of f.rate
+      → g.left ≡ (flight_at at f).left → g.rate ≡ f.rate
       → g.since ≡ now → g.rated ≡ f.rated → IsBrought at now f g
   is_brought at now f g back id message left rate since rated = record {
     drains =
@@ -223,7 +223,7 @@ module _ {P : Type 0} where
     pub next_brought : (f : Flight P) (new : List (Flight P)) → new ≡ set so_far i f
         → now < at ⊎ x.rated ≡ false
         → f.id ≡ x.id → f.message.value ≡ x.message.value → f.left ≡ (flight_at at x).left
-        → rate_of f.rate ≡ rate_of x.rate → f.since ≡ now → f.rated ≡ x.rated
+        → f.rate ≡ x.rate → f.since ≡ now → f.rated ≡ x.rated
         → IsChangedUpTo (IsBrought at now) old new (i + 1)
     next_brought f new put back id message left rate since rated =
         subst (λ l. IsChangedUpTo (IsBrought at now) old l (i + 1)) (sym put)

@@ -5,7 +5,7 @@ use Rattle.link_flights.proofs.Common.{inl, inr, ◌+◌, length, get_or, map, O
 use Rattle.link_flights.proofs.Common.{Ordering, mul_assoc, same_Some, slice_get_read, slice_get_within, le-leb}
 use Rattle.link_flights.proofs.Common.{cases_lt, All-contains, Side, IsFair, reduced, billion, reduced_alike}
 use Rattle.link_flights.proofs.Common.{reduced_scaled, Caps, All-from_contains, message_of, is_delivered, limits, In}
-use Rattle.link_flights.proofs.Common.{in_from_contains, contains_from_in, capped_sides, Flight, UnitFlight, rate_of}
+use Rattle.link_flights.proofs.Common.{in_from_contains, contains_from_in, capped_sides, Flight, UnitFlight}
 use Rattle.link_flights.proofs.Common.{left_by, flight_at, flights_at, IsTimed, AreTimed, has_come, IsCountedBy}
 use Rattle.link_flights.proofs.Common.{sent_messages, rates_of, rated_ones, AreFairlyRated, are_limited}
 use Rattle.link_flights.proofs.Common.{DifferWhereLoose, rated_flight_of, sending_of}
@@ -143,21 +143,21 @@ module _ {P : Type 0} (by : ℕ) where
   }
     where
       r : ℕ
-      r = rate_of f.rate
+      r = f.rate
 
       left : f.left ≡ by * g.left
       left = times_part by f.left g.left factor.left counted.left
 
-      rate : rate_of f.rate ≡ by * rate_of g.rate
-      rate = times_part by (rate_of f.rate) (rate_of g.rate) factor.rate counted.rate
+      rate : f.rate ≡ by * g.rate
+      rate = times_part by f.rate g.rate factor.rate counted.rate
 
       drained : left_by at f ≡ by * left_by at g
       drained =
-          ap (λ n. n - rate_of f.rate * (at - f.since)) left
+          ap (λ n. n - f.rate * (at - f.since)) left
           ∙ ap (λ n. by * g.left - n * (at - f.since)) rate
-          ∙ ap (λ n. by * g.left - n) (mul_assoc by (rate_of g.rate) (at - f.since))
-          ∙ sym (mul-sub by g.left (rate_of g.rate * (at - f.since)))
-          ∙ ap (λ n. by * (g.left - rate_of g.rate * (at - n))) (sym counted.since)
+          ∙ ap (λ n. by * g.left - n) (mul_assoc by g.rate (at - f.since))
+          ∙ sym (mul-sub by g.left (g.rate * (at - f.since)))
+          ∙ ap (λ n. by * (g.left - g.rate * (at - n))) (sym counted.since)
 
       left_so : (b : Bool) → f.rated ≡ b → (flight_at at f).left ≡ by * (flight_at at g).left
       left_so true is = rw (counted.rated, is) drained
@@ -190,12 +190,12 @@ module _ {P : Type 0} (by : ℕ) where
   timed_in_larger : (f g : Flight P) → IsFactorOf f by → IsCountedBy by f g → IsTimed f → IsTimed g
   timed_in_larger f g factor counted timed t since last =
       let left = times_part by f.left g.left factor.left counted.left in
-      let rate = times_part by (rate_of f.rate) (rate_of g.rate) factor.rate counted.rate in
-      let drained : rate_of f.rate * (t - f.since) ≡ by * (rate_of g.rate * (t - g.since)) =
-      ap (λ n. n * (t - f.since)) rate ∙ mul_assoc by (rate_of g.rate) (t - f.since)
-      ∙ ap (λ n. by * (rate_of g.rate * (t - n))) (sym counted.since) in
-      sym (same_order by g.left (rate_of g.rate * (t - g.since)) factor.some)
-      ∙ ap (λ n. nat_le n (by * (rate_of g.rate * (t - g.since)))) (sym left)
+      let rate = times_part by f.rate g.rate factor.rate counted.rate in
+      let drained : f.rate * (t - f.since) ≡ by * (g.rate * (t - g.since)) =
+      ap (λ n. n * (t - f.since)) rate ∙ mul_assoc by g.rate (t - f.since)
+      ∙ ap (λ n. by * (g.rate * (t - n))) (sym counted.since) in
+      sym (same_order by g.left (g.rate * (t - g.since)) factor.some)
+      ∙ ap (λ n. nat_le n (by * (g.rate * (t - g.since)))) (sym left)
       ∙ ap (nat_le f.left) (sym drained)
       ∙ timed t (subst (λ n. n ≤ t) counted.since since) last
       ∙ ap (λ finish. has_come t finish) (sym counted.finish)

@@ -6,7 +6,7 @@ use Rattle.link_flights.proofs.Common.{◌==◌, list_any, Ordering, le-leb, leb
 use Rattle.link_flights.proofs.Common.{length-append, append-nil, map-append, length-set, get_or_default, none-some}
 use Rattle.link_flights.proofs.Common.{same_Some, slice_get-map, slice_get_within, get_or_from_slice_get}
 use Rattle.link_flights.proofs.Common.{slice_get-get_or, get_from_map, billion, Caps, last_moment, RatedFlight}
-use Rattle.link_flights.proofs.Common.{Component, Flight, Flights, is_of, those_of, places_of, UnitFlight, rate_of}
+use Rattle.link_flights.proofs.Common.{Component, Flight, Flights, is_of, those_of, places_of, UnitFlight}
 use Rattle.link_flights.proofs.Common.{left_by, flight_at, flights_at, has_come, IsTimed, AreTimed, in_units, in_flight}
 use Rattle.link_flights.proofs.Common.{rerated, rated_anew, IsReratedAt, IsRatedFrom, HaveFairRates, rated_flight_of}
 use Rattle.link_flights.proofs.Common.{sending_of}
@@ -84,7 +84,7 @@ module _ {P : Type 0} (now times rate : ℕ) where
   as_record id m n = record { id = id; message = m; left = n; rate = rate; updated = now; rated = true }
 
   anew_is : (f x : Flight P) → f.id ≡ x.id → f.message.value ≡ x.message.value
-      → f.left ≡ (flight_at now x).left * times → rate_of f.rate ≡ rate → f.since ≡ now → f.rated ≡ true
+      → f.left ≡ (flight_at now x).left * times → f.rate ≡ rate → f.since ≡ now → f.rated ≡ true
       → flight_at now f ≡ rated_anew now times rate (flight_at now x)
   anew_is f x id message left at_rate since rated =
       rw (rated, id, message, at_rate, since) (ap (as_record x.id x.message.value) rest)
@@ -98,7 +98,7 @@ module _ {P : Type 0} (now times rate : ℕ) where
       rest : f.left - rate * (now - now) ≡ (flight_at now x).left * times
       rest = ap (λ n. f.left - rate * n) none ∙ nothing ∙ left
 
-  same_is : (x : Flight P) → x.rated ≡ true → rate_of x.rate ≡ rate → times ≡ 1
+  same_is : (x : Flight P) → x.rated ≡ true → x.rate ≡ rate → times ≡ 1
       → flight_at now x ≡ rated_anew now times rate (flight_at now x)
   same_is x rated at_rate once =
       rw (rated, at_rate, once) (ap (as_record x.id x.message.value) (omega arith))
@@ -111,7 +111,7 @@ module _ {P : Type 0} (now times rate : ℕ) where
     -- another one is put in its place
     pub put_anew : (f : Flight P) (new : List (Flight P)) → new ≡ set fs at f
         → f.id ≡ x.id → f.message.value ≡ x.message.value → f.left ≡ (flight_at now x).left * times
-        → rate_of f.rate ≡ rate → f.since ≡ now → f.rated ≡ true → IsTimed f
+        → f.rate ≡ rate → f.since ≡ now → f.rated ≡ true → IsTimed f
         → IsReratedAt now at times rate fs new
     put_anew f new put id message left at_rate since rated timed = record {
       one = f;
@@ -122,7 +122,7 @@ module _ {P : Type 0} (now times rate : ℕ) where
     }
 
     -- nothing changes
-    pub goes_on : x.rated ≡ true → rate_of x.rate ≡ rate → times ≡ 1
+    pub goes_on : x.rated ≡ true → x.rate ≡ rate → times ≡ 1
         → AreTimed fs → IsReratedAt now at times rate fs fs
     goes_on rated at_rate once timed = record {
       one = x;
@@ -578,7 +578,7 @@ module _ {P : Type 0} (scale : ℕ) (some : 0 < scale) where
       id = f.id;
       message = f.message.value;
       left = left_by at f;
-      rate = rate_of f.rate;
+      rate = f.rate;
       updated = at;
       rated = true;
     }
@@ -591,7 +591,7 @@ module _ {P : Type 0} (scale : ℕ) (some : 0 < scale) where
           id = f.id;
           message = f.message.value;
           left = if b then left_by at f else f.left;
-          rate = if b then rate_of f.rate else 0;
+          rate = if b then f.rate else 0;
           updated = if b then at else f.since;
           rated = b;
         }
@@ -601,15 +601,15 @@ module _ {P : Type 0} (scale : ℕ) (some : 0 < scale) where
     come_if_spent s le from spent =
         let since = r.since in
         let later : at ≤ s = subst (λ (u : UnitFlight P). u.updated ≤ s) unit_is from in
-        let out : left_by at f ≤ rate_of f.rate * (s - at) =
+        let out : left_by at f ≤ f.rate * (s - at) =
         out_if_spent unit s (subst (λ u. IsSpentAt s (rated_flight_of scale u)) unit_is spent) in
-        let all : f.left ≤ rate_of f.rate * (s - f.since) =
-        omega (arith, out, drained_on f.left (rate_of f.rate) f.since at s since later) in
-        sym (r.timed s (omega arith) le) ∙ le-leb f.left (rate_of f.rate * (s - f.since)) all
+        let all : f.left ≤ f.rate * (s - f.since) =
+        omega (arith, out, drained_on f.left f.rate f.since at s since later) in
+        sym (r.timed s (omega arith) le) ∙ le-leb f.left (f.rate * (s - f.since)) all
 
     out_if_come : (s : ℕ) → f.since ≤ s → s ≤ last_moment → has_come s f.finish ≡ true
-        → f.left ≤ rate_of f.rate * (s - f.since)
-    out_if_come s from le come = leb-true f.left (rate_of f.rate * (s - f.since)) (r.timed s from le ∙ come)
+        → f.left ≤ f.rate * (s - f.since)
+    out_if_come s from le come = leb-true f.left (f.rate * (s - f.since)) (r.timed s from le ∙ come)
 
     -- it has not come before
     not_before : (s : ℕ) → has_come s f.finish ≡ true → at ≤ s
@@ -633,8 +633,8 @@ module _ {P : Type 0} (scale : ℕ) (some : 0 < scale) where
         let since = r.since in
         let later = not_before s come in
         let all = out_if_come s (omega arith) le come in
-        let out : left_by at f ≤ rate_of f.rate * (s - at) =
-        omega (arith, all, drained_on f.left (rate_of f.rate) f.since at s since later) in (
+        let out : left_by at f ≤ f.rate * (s - at) =
+        omega (arith, all, drained_on f.left f.rate f.since at s since later) in (
           subst (λ (u : UnitFlight P). u.updated ≤ s) (sym unit_is) later,
           subst (λ u. IsSpentAt s (rated_flight_of scale u)) (sym unit_is) (spent_if_out unit s out),
         )

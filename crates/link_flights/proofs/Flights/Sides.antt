@@ -9,7 +9,7 @@ use Rattle.link_flights.proofs.Common.{get_or_from_slice_get, Side, limits, plac
 use Rattle.link_flights.proofs.Common.{first_of_both, In, in_from_contains, contains_from_in, in_left, in_right, in_map}
 use Rattle.link_flights.proofs.Common.{in_get, get_in, all_pass, All-from_contains, same_peer_itself, Component, Flight}
 use Rattle.link_flights.proofs.Common.{End, Origin, Recipient, is_sender, is_receiver, keeps, is_of, those_of, touches}
-use Rattle.link_flights.proofs.Common.{has_both, suits, places_of, UnitFlight, flight_at, flights_at, rate_of}
+use Rattle.link_flights.proofs.Common.{has_both, suits, places_of, UnitFlight, flight_at, flights_at}
 use Rattle.link_flights.proofs.Common.{PassesFirstAt, IsNextPlace, flow_sent, flow_in_flight, uses_end, end_subject}
 use Rattle.link_flights.proofs.Common.{kept_load, flows_of, share}
 use Rattle.std.proofs.Common.{unwrap_or}
@@ -519,9 +519,9 @@ module _ {P : Type 0} (cmp : P → P → Ordering) (component : Component P) (u 
 
 -- what one drains that keeps its rate
 pub kept_rate : {P : Type 0} (component : Component P) (one : Flight P) → keeps component (flight_at 0 one) ≡ true
-    → (flight_at 0 one).rate ≡ rate_of one.rate
+    → (flight_at 0 one).rate ≡ one.rate
 kept_rate component one kept =
-    ap (λ b. if b then rate_of one.rate else 0) (first_of_both one.rated _ kept)
+    ap (λ b. if b then one.rate else 0) (first_of_both one.rated _ kept)
 
 -- ---- by places
 

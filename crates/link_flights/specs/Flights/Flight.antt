@@ -2,20 +2,13 @@
 use Rattle.std.specs.Prelude.{◌≡◌, ℕ, ◌-◌, ◌*◌, ◌≤◌, nat_le, Bool, true, false, if◌then◌else◌, List, map}
 use Rattle.std.specs.Prelude.{Option, Some, None, slice_get, length, take}
 use Rattle.std.specs.List.{list_all}
-use Rattle.std.specs.declared.rc.Rc.{Rc}
-use Rattle.std.specs.declared.alloc.Global.{Global}
 use Rattle.link_simulation.specs.Simulation.World.{last_moment}
 use Rattle.link_flights.specs.declared.flight.Flight.{Flight}
 use Rattle.link_pairs.specs.declared.message.Message.{Message}
 
--- the units that drain in a nanosecond
-abbrev pub rate_of : Option (Rc ℕ Global) → ℕ
-rate_of None = 0
-rate_of (Some rate) = rate.value
-
 -- the units that are left at a moment, if it goes on at its rate
 abbrev pub left_by : {P : Type 0} → ℕ → Flight P → ℕ
-left_by now f = f.left - rate_of f.rate * (now - f.since)
+left_by now f = f.left - f.rate * (now - f.since)
 
 -- a message in flight under its flow id, with the units that were left at a moment, and those that drain in a
 -- nanosecond from then on; and whether an account has given it this rate
@@ -33,7 +26,7 @@ flight_at at f = record {
   id = f.id;
   message = f.message.value;
   left = if f.rated then left_by at f else f.left;
-  rate = if f.rated then rate_of f.rate else 0;
+  rate = if f.rated then f.rate else 0;
   updated = if f.rated then at else f.since;
   rated = f.rated;
 }
@@ -54,7 +47,7 @@ IsFinishOf left rate since finish =
 
 -- the finish that is kept is right
 abbrev pub IsTimed : {P : Type 0} → Flight P → Type 0
-IsTimed f = IsFinishOf f.left (rate_of f.rate) f.since f.finish
+IsTimed f = IsFinishOf f.left f.rate f.since f.finish
 
 -- those that have got a rate are timed
 abbrev pub AreTimed : {P : Type 0} → List (Flight P) → Type 0

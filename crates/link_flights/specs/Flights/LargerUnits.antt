@@ -3,13 +3,12 @@ use Prim.Native.Nat.{◌∣◌}
 use Rattle.std.specs.Prelude.{◌≡◌, ℕ, ◌/◌, ◌<◌, List, Some, slice_get}
 use Rattle.std.specs.List.{AllZip}
 use Rattle.link_flights.specs.declared.flight.Flight.{Flight}
-use Rattle.link_flights.specs.Flights.Flight.{rate_of}
 
 -- a number above zero that divides what is left of a message, and its rate
 pub record IsFactorOf {P : Type 0} (f : Flight P) (by : ℕ) : Type 0 where
   pub some : 0 < by
   pub left : by ∣ f.left
-  pub rate : by ∣ rate_of f.rate
+  pub rate : by ∣ f.rate
 
 -- it divides so those of all messages
 abbrev pub IsFactorOfAll : {P : Type 0} → List (Flight P) → ℕ → Type 0
@@ -27,7 +26,7 @@ pub record IsCountedBy {P : Type 0} (by : ℕ) (old new : Flight P) : Type 0 whe
   pub id : new.id ≡ old.id
   pub message : new.message.value ≡ old.message.value
   pub left : new.left ≡ old.left / by
-  pub rate : rate_of new.rate ≡ rate_of old.rate / by
+  pub rate : new.rate ≡ old.rate / by
   pub since : new.since ≡ old.since
   pub finish : new.finish ≡ old.finish
   pub rated : new.rated ≡ old.rated

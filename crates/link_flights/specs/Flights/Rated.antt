@@ -5,7 +5,6 @@ use Rattle.std.specs.Prelude.{slice_index, length, Option, Some, None, slice_get
 use Rattle.std.specs.Prelude.{◌≤◌, nat_le}
 use Rattle.std.specs.List.{filter, list_all, AllZip}
 use Rattle.std.specs.declared.cmp.Ordering.{Ordering}
-use Rattle.std.specs.declared.rc.Rc.{Rc}
 use Rattle.std.specs.declared.alloc.Global.{Global}
 use Rattle.fair_rates.specs.Sides.Caps.{Caps}
 use Rattle.fair_rates.specs.Sides.Subjects.{Subject}
@@ -190,8 +189,8 @@ pub record AreFairRatesBeside {P : Type 0} (cmp : P → P → Ordering) (caps : 
       (slice_index rates)
 
 -- the rates of these levels, flow by flow
-abbrev pub rates_of_levels : List (Rc ℕ Global) → List (Option ℕ) → List ℕ
-rates_of_levels levels level_of = map (parts_of_level (map (λ level. level.value) levels)) level_of
+abbrev pub rates_of_levels : List ℕ → List (Option ℕ) → List ℕ
+rates_of_levels levels level_of = map (parts_of_level levels) level_of
 
 -- those of a component have got rates that reach its level and are fair beside those that others keep, in the same
 -- units; the others go on as they are

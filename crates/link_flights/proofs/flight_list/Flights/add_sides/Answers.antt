@@ -84,15 +84,15 @@ loop-number-preserved g c =
     (slice_get-get_or c.places-places.result.now number 0 c.loop-number-test.true) in
     let p = place_is_of rated self.list.items number at placed in
     let there = flow_at cmp component self.list.items self.at number at p.x placed p.there in
-    elim c.match-branch-3.branch [
+    elim c.match-branch-4.branch [
       | in-Some+in_ok-push w ↦
           let each : length w.note_users.new.has_side ≡ length c.loop-number.has_side.items =
           w.note_users.ensures.each ∙ ap length w.deref_mut.ensures.value in
-          let noted : c.match-branch-3.has_side.items ≡ w.note_users.new.has_side =
+          let noted : c.match-branch-4.has_side.items ≡ w.note_users.new.has_side =
           ap (λ v. v.items) w.has_side-is
           ∙ with_items_is c.loop-number.has_side w.note_users.new.has_side
           (w.note_users.ensures.each ∙ w.deref_mut.ensures.len) in
-          let pushed : map side_of c.match-branch-3.sides.items
+          let pushed : map side_of c.match-branch-4.sides.items
           ≡ map side_of c.loop-number.sides.items ++ side_of w.in-Some.side ∷ [] =
           ap (λ v. map side_of v.items) w.sides-is ∙ ap (map side_of) w.in_ok-push.ensures.items
           ∙ map-append side_of c.loop-number.sides.items (w.in-Some.side ∷ []) in
@@ -118,7 +118,7 @@ loop-number-preserved g c =
                   | inr user ↦ inr (subst (λ l. Contains l k) w.deref.ensures.value user)
                 ]) in
                 subst (λ v. HaveAdded cmp left (flows_of cmp component us) (end_subject end)
-                (map side_of c.args.sides.now.items) v c.match-branch-3.has_side.items (number + 1)) (sym pushed)
+                (map side_of c.args.sides.now.items) v c.match-branch-4.has_side.items (number + 1)) (sym pushed)
                 (subst (λ v. HaveAdded cmp left (flows_of cmp component us) (end_subject end)
                 (map side_of c.args.sides.now.items)
                 (map side_of c.loop-number.sides.items ++ side_of w.in-Some.side ∷ []) v (number + 1)) (sym noted) h);
@@ -138,7 +138,7 @@ loop-number-preserved g c =
             ∙ ap (option_map (λ cap. cap * self.scale - kept_load cmp component us s))
             (c.in_ok-side.ensures.none w.in_default.is p.x pairs p.there (uses_if_limited cmp end m l))) in
             subst (λ v. HaveAdded cmp left (flows_of cmp component us) (end_subject end) (map side_of c.args.sides.now.items)
-            (map side_of v) c.match-branch-3.has_side.items (number + 1)) (sym (ap (λ v. v.items) w.sides-is))
+            (map side_of v) c.match-branch-4.has_side.items (number + 1)) (sym (ap (λ v. v.items) w.sides-is))
             (subst (λ v. HaveAdded cmp left (flows_of cmp component us) (end_subject end)
             (map side_of c.args.sides.now.items) (map side_of c.loop-number.sides.items) v (number + 1))
             (sym (ap (λ v. v.items) w.has_side-is)) h);

@@ -1,6 +1,6 @@
 use Rattle.link_flights.proofs.Common.{◌≡◌, ◌+◌, ◌-◌, Bool, true, false, Some, slice_get, sym, ap, ◌∙◌, subst, arith}
 use Rattle.link_flights.proofs.Common.{get_or_from_slice_get, same_Some, side_of, Flight, is_of, places_of, flight_at}
-use Rattle.link_flights.proofs.Common.{rate_of, flow_sent, uses_end, end_subject}
+use Rattle.link_flights.proofs.Common.{flow_sent, uses_end, end_subject}
 use Rattle.link_flights.specs.Flights.Sides.{IsCounted}
 use Rattle.link_flights.proofs.Flights.Sides.{count_passed, count_user, count_rate, kept_rate}
 use Rattle.link_flights.proofs.Flights.Numbered.{kept_unlisted}
@@ -41,8 +41,8 @@ returns-in-Some-clause-counted g c m one all there shares h =
     (c.args.at + 1) (record { cap = side.cap; users = users })) (sym c.in_ok-push.ensures.items)
     (count_user cmp c.args.end component self.at self.list.items m one all c.args.at there shares side uses of number placed h)
 
-pub returns-in-Some-rate-clause-counted : goal.returns-in-Some-rate-clause-counted
-returns-in-Some-rate-clause-counted g c m one all there shares h =
+pub returns-clause-counted : goal.returns-clause-counted
+returns-clause-counted g c m one all there shares h =
     let cmp = g.P.Ord.cmp in
     let self = c.args.self.now in
     let component = c.args.component.now in
@@ -55,26 +55,7 @@ returns-in-Some-rate-clause-counted g c m one all there shares h =
     let kept =
     kept_unlisted cmp component self.list.items c.args.numbers.now c.requires.places self.at c.requires.suited c.args.at one
     there (c.requires.near one there uses) (c.number.ensures.none c.in_default.is) in
-    let rate : (flight_at self.at one).rate ≡ c.in-Some-rate.rate.value =
-    kept_rate component one kept.1 ∙ ap (λ (f : Flight _). rate_of f.rate) (sym is) ∙ ap rate_of c.in-Some-rate.is in
+    let rate : (flight_at self.at one).rate ≡ c.at-one.result.now.rate =
+    kept_rate component one kept.1 ∙ ap (λ (f : Flight _). f.rate) (sym is) in
     count_rate cmp c.args.end component self.at self.list.items m one all c.args.at there shares side uses kept.0
-    c.subtract.new.self (c.subtract.ensures.value ∙ ap (λ n. side.cap - n) (c.deref-in-Some-rate.ensures ∙ sym rate)) h
-
-pub returns-in_default-rate-clause-counted : goal.returns-in_default-rate-clause-counted
-returns-in_default-rate-clause-counted g c m one all there shares h =
-    let cmp = g.P.Ord.cmp in
-    let self = c.args.self.now in
-    let component = c.args.component.now in
-    let side = side_of c.args.side.now in
-    let is : c.at-one.result.now ≡ one =
-    c.at-one.ensures ∙ get_or_from_slice_get self.list.items c.args.at one c.at-one.result.now there in
-    let uses : uses_end cmp c.args.end one.message.value ≡ true =
-    sym (c.uses.ensures ∙ ap (uses_end cmp c.args.end) (c.deref.ensures ∙ ap (λ (f : Flight _). f.message.value) is))
-    ∙ c.if-not-uses.false in
-    let kept =
-    kept_unlisted cmp component self.list.items c.args.numbers.now c.requires.places self.at c.requires.suited c.args.at one
-    there (c.requires.near one there uses) (c.number.ensures.none c.in_default.is) in
-    let rate : (flight_at self.at one).rate ≡ 0 =
-    kept_rate component one kept.1 ∙ ap (λ (f : Flight _). rate_of f.rate) (sym is) ∙ ap rate_of c.in_default-rate.is in
-    count_rate cmp c.args.end component self.at self.list.items m one all c.args.at there shares side uses kept.0
-    side.cap (let it : side.cap ≡ side.cap - (flight_at self.at one).rate = omega (arith, rate) in it) h
+    c.subtract.new.self (c.subtract.ensures.value ∙ ap (λ n. side.cap - n) (sym rate)) h

@@ -55,8 +55,7 @@ settle-requires g c =
     let times = product rates.growth.items in
     let same : rates_of_levels c.deref-3.result.now c.deref-4.result.now ≡ rates_found rates =
     ap (λ ls. rates_of_levels ls c.deref-4.result.now) c.deref-3.ensures.value
-    ∙ ap (rates_of_levels c.in_ok-levels.levels.items) c.deref-4.ensures.value
-    ∙ ap (λ ns. map (parts_of_level ns) rates.level_of.items) c.in_ok-levels.ensures.same in
+    ∙ ap (rates_of_levels rates.levels.items) c.deref-4.ensures.value in
     let given : in_units mid ≡ rerated cmp all old.at times (rates_found rates) (in_units old) =
     c.in_ok-set_rates.ensures.rerated
     ∙ ap (λ ns. rerated cmp all old.at (product ns) (rates_of_levels c.deref-3.result.now c.deref-4.result.now)
@@ -80,8 +79,7 @@ returns-clause-rated g c =
     let times = product rates.growth.items in
     let same : rates_of_levels c.deref-3.result.now c.deref-4.result.now ≡ rates_found rates =
     ap (λ ls. rates_of_levels ls c.deref-4.result.now) c.deref-3.ensures.value
-    ∙ ap (rates_of_levels c.in_ok-levels.levels.items) c.deref-4.ensures.value
-    ∙ ap (λ ns. map (parts_of_level ns) rates.level_of.items) c.in_ok-levels.ensures.same in
+    ∙ ap (rates_of_levels rates.levels.items) c.deref-4.ensures.value in
     let given : in_units mid ≡ rerated cmp all old.at times (rates_found rates) (in_units old) =
     c.in_ok-set_rates.ensures.rerated
     ∙ ap (λ ns. rerated cmp all old.at (product ns) (rates_of_levels c.deref-3.result.now c.deref-4.result.now)
@@ -118,8 +116,7 @@ returns-clause-finish g c =
     let times = product rates.growth.items in
     let same : rates_of_levels c.deref-3.result.now c.deref-4.result.now ≡ rates_found rates =
     ap (λ ls. rates_of_levels ls c.deref-4.result.now) c.deref-3.ensures.value
-    ∙ ap (rates_of_levels c.in_ok-levels.levels.items) c.deref-4.ensures.value
-    ∙ ap (λ ns. map (parts_of_level ns) rates.level_of.items) c.in_ok-levels.ensures.same in
+    ∙ ap (rates_of_levels rates.levels.items) c.deref-4.ensures.value in
     let given : in_units mid ≡ rerated cmp all old.at times (rates_found rates) (in_units old) =
     c.in_ok-set_rates.ensures.rerated
     ∙ ap (λ ns. rerated cmp all old.at (product ns) (rates_of_levels c.deref-3.result.now c.deref-4.result.now)

@@ -17,8 +17,7 @@ settle-requires g c =
     let caps = caps_of g.P.Ord.cmp c.args.peers.now.entries c.args.pairs.now.entries in
     let e = c.in_ok-rerate.ensures in
     let h =
-    one_given g.P.Ord.cmp caps old mid e.scale e.at c.requires.one c.in_ok-level.level _ c.in_ok-rate.ensures.ok
-    c.in_ok-level.ensures.fair e.rerated in
+    one_given g.P.Ord.cmp caps old mid e.scale e.at c.requires.one c.in_ok-rate.rate c.in_ok-rate.ensures.fair e.rerated in
     record { rated = all_have_got old.at h.times mid.at (in_units old) mid.list.items h.each }
 
 pub returns-clause-rated : goal.returns-clause-rated
@@ -28,8 +27,7 @@ returns-clause-rated g c =
     let e = c.in_ok-rerate.ensures in
     let after = c.settle.ensures in
     let h =
-    one_given cmp caps c.args.self.now c.rerate.new.self e.scale e.at c.requires.one c.in_ok-level.level _ c.in_ok-rate.ensures.ok
-    c.in_ok-level.ensures.fair e.rerated in
+    one_given cmp caps c.args.self.now c.rerate.new.self e.scale e.at c.requires.one c.in_ok-rate.rate c.in_ok-rate.ensures.fair e.rerated in
     let k = still_given cmp caps c.args.self.now c.rerate.new.self c.settle.new.self after.list after.scale after.at h in
     record {
       times = k.times;
@@ -56,8 +54,7 @@ returns-clause-finish g c =
     let after = c.settle.ensures in
     let last = c.settle.new.self in
     let h =
-    one_given cmp caps c.args.self.now c.rerate.new.self e.scale e.at c.requires.one c.in_ok-level.level _ c.in_ok-rate.ensures.ok
-    c.in_ok-level.ensures.fair e.rerated in
+    one_given cmp caps c.args.self.now c.rerate.new.self e.scale e.at c.requires.one c.in_ok-rate.rate c.in_ok-rate.ensures.fair e.rerated in
     let k = still_given cmp caps c.args.self.now c.rerate.new.self last after.list after.scale after.at h in
     let fits : IfSome c.settle.result (λ t. t ≤ last_moment) = search rules in
     let here : last.at ≤ last_moment = omega (arith, after.at, e.at, c.requires.moment) in

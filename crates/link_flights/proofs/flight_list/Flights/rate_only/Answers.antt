@@ -17,9 +17,7 @@ returns-then-le-clause-gives g c =
       rates = c.in_ok-level.level ∷ [];
       fair = c.in_ok-level.ensures.fair;
       reach = ap (λ b. b && true) reach;
-      given =
-          e.rerated
-          ∙ ap (λ n. rerated cmp component self.at 1 (n ∷ []) (in_units self)) c.in_ok-new.ensures.ok;
+      given = e.rerated;
       scale = e.scale;
       at = e.at;
       timed = e.timed;

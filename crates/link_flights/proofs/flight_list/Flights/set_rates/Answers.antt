@@ -1,5 +1,5 @@
 use Rattle.link_flights.proofs.Common.{◌≡◌, ℕ, ◌+◌, ◌*◌, None, get_or, length, map, refl, sym, ap, ◌∙◌, subst, arith}
-use Rattle.link_flights.proofs.Common.{length-map, Rc, Global, product, parts_of_level, flight_at, flights_at, rate_of}
+use Rattle.link_flights.proofs.Common.{length-map, product, parts_of_level, flight_at, flights_at}
 use Rattle.link_flights.proofs.Common.{rates_of_levels, IsReratedAt}
 use Rattle.std.proofs.Math.ListN.{get_or-map}
 use Rattle.link_flights.specs.Flights.Rated.{IsCountedAt}
@@ -12,7 +12,7 @@ use Rattle.link_flights.proofs.flight_list.Flights.set_rates.Goals as goal
 pub loop-number-init : goal.loop-number-init
 loop-number-init g c =
     let old = c.args.self.now in
-    let levels = map (λ (level : Rc ℕ Global). level.value) c.args.levels.now in
+    let levels = c.args.levels.now in
     let level_of = c.args.level_of.now in
     let rates = rates_of_levels c.args.levels.now level_of in
     let component = c.args.component.now in
@@ -36,7 +36,7 @@ loop-number-init g c =
 
 pub bounds-level_of-number : goal.bounds-level_of-number
 bounds-level_of-number g c =
-    let levels = map (λ (level : Rc ℕ Global). level.value) c.args.levels.now in
+    let levels = c.args.levels.now in
     let level_of = c.args.level_of.now in
     let n = next_in c.loop-number.invariant.0
     (omega (arith, c.loop-number-test.true, ap length c.requires.places)) in
@@ -83,7 +83,7 @@ loop-number-preserved g c =
     let cmp = g.P.Ord.cmp in
     let component = c.args.component.now in
     let old = c.args.self.now in
-    let levels = map (λ (level : Rc ℕ Global). level.value) c.args.levels.now in
+    let levels = c.args.levels.now in
     let level_of = c.args.level_of.now in
     let rates = rates_of_levels c.args.levels.now level_of in
     let number = c.loop-number.number in
@@ -92,9 +92,9 @@ loop-number-preserved g c =
     let so_far = c.loop-number.self in
     let now = c.rerate.new.self in
     let new = now.list.items in
-    let is_rate = rate_of c.in_ok-rate.rate in
+    let is_rate = c.level_at-rate.result.now in
     let rate : is_rate ≡ get_or rates number 0 =
-    c.in_ok-rate.ensures.rate ∙ sym (get_or-map (parts_of_level levels) level_of number None) in
+    c.level_at-rate.ensures ∙ sym (get_or-map (parts_of_level levels) level_of number None) in
     let put : IsReratedAt old.at n.at growth is_rate so_far.list.items new =
     subst (λ m. IsReratedAt m n.at growth is_rate so_far.list.items new) h.at
     (subst (λ m. IsReratedAt so_far.at m growth is_rate so_far.list.items new) place c.in_ok-rerate.ensures.rerated) in

@@ -40,13 +40,13 @@ pub loop-next-init : goal.loop-next-init
 loop-next-init g c one there =
     let cmp = g.P.Ord.cmp in
     let self = c.args.self.now in
-    let all = c.in_ok-product.field-0 in
+    let all = c.in_ok-cap.cap in
     let is : c.at.result.now ≡ one =
     c.at.ensures ∙ get_or_from_slice_get self.list.items c.args.at one c.at.result.now there in
     let m : c.deref-3.result.now ≡ one.message.value =
     c.deref-3.ensures ∙ ap (λ (f : Flight _). f.message.value) is in
     subst (λ users. HasCounted cmp c.args.end one.message.value c.args.component.now self.at self.list.items all
-    c.first_at-next.result (record { cap = all; users = users })) (sym c.in_ok-with_capacity.ensures.items)
+    c.first_at-next.result (record { cap = all; users = users })) (sym c.clear.ensures.items)
     (counting_starts cmp c.args.end one.message.value c.args.component.now self.at self.list.items all c.first_at-next.result
     (subst (λ n. IsNextPlace (λ other. share cmp c.args.end n other.message.value) self.list.items 0 c.first_at-next.result) m
     c.first_at-next.ensures))
@@ -60,7 +60,7 @@ count_one-requires-clause-within g c =
     let x = what_is_listed (λ (f : Flight g.row.P.Denot). is_of cmp component (flight_at 0 f)) self.list.items c.args.at
     (subst (λ ps. Contains ps c.args.at) c.requires.places c.requires.at) in
     let m = x.0.message.value in
-    let all = c.in_ok-product.field-0 in
+    let all = c.in_ok-cap.cap in
     let next = c.loop-next.next in
     let side = side_of c.loop-next.side in
     let h = c.loop-next.invariant x.0 x.1 in
@@ -75,7 +75,7 @@ count_one-requires-clause-near g c other found uses_too =
     let x = what_is_listed (λ (f : Flight g.row.P.Denot). is_of cmp component (flight_at 0 f)) self.list.items c.args.at
     (subst (λ ps. Contains ps c.args.at) c.requires.places c.requires.at) in
     let m = x.0.message.value in
-    let all = c.in_ok-product.field-0 in
+    let all = c.in_ok-cap.cap in
     let next = c.loop-next.next in
     let side = side_of c.loop-next.side in
     let h = c.loop-next.invariant x.0 x.1 in
@@ -97,7 +97,7 @@ next_at-next-requires g c =
     let x = what_is_listed (λ (f : Flight g.row.P.Denot). is_of cmp component (flight_at 0 f)) self.list.items c.args.at
     (subst (λ ps. Contains ps c.args.at) c.requires.places c.requires.at) in
     let m = x.0.message.value in
-    let all = c.in_ok-product.field-0 in
+    let all = c.in_ok-cap.cap in
     let next = c.loop-next.next in
     let side = side_of c.loop-next.side in
     let h = c.loop-next.invariant x.0 x.1 in
@@ -112,7 +112,7 @@ loop-next-smaller g c =
     let x = what_is_listed (λ (f : Flight g.row.P.Denot). is_of cmp component (flight_at 0 f)) self.list.items c.args.at
     (subst (λ ps. Contains ps c.args.at) c.requires.places c.requires.at) in
     let m = x.0.message.value in
-    let all = c.in_ok-product.field-0 in
+    let all = c.in_ok-cap.cap in
     let next = c.loop-next.next in
     let side = side_of c.loop-next.side in
     let h = c.loop-next.invariant x.0 x.1 in
@@ -126,7 +126,7 @@ loop-next-preserved g c one there =
     let component = c.args.component.now in
     let end = c.args.end in
     let m = one.message.value in
-    let all = c.in_ok-product.field-0 in
+    let all = c.in_ok-cap.cap in
     let next = c.loop-next.next in
     let side = side_of c.loop-next.side in
     let h = c.loop-next.invariant one there in
@@ -146,7 +146,7 @@ returns-clause-side g c one pairs there =
     let component = c.args.component.now in
     let end = c.args.end in
     let m = one.message.value in
-    let all = c.in_ok-product.field-0 in
+    let all = c.in_ok-cap.cap in
     let s = end_subject end (flow_sent cmp m) in
     let side = side_of c.loop-next.side in
     let us = flights_at self.at self.list.items in
@@ -161,7 +161,7 @@ returns-clause-side g c one pairs there =
     counted_all cmp end m component self.at self.list.items all c.loop-next.next side (c.loop-next.invariant one there)
     c.in_default-next.is in
     let left : c.in-Some.cap * self.scale - kept_load cmp component us s ≡ side.cap =
-    omega (arith, counted.0, c.in_ok-product.ensures.value) in
+    omega (arith, counted.0, c.in_ok-cap.ensures.value) in
     record {
       capped = cap_left cmp caps self.scale component us s
           ∙ ap (option_map (λ cap. cap * self.scale - kept_load cmp component us s)) has ∙ ap Some left;
