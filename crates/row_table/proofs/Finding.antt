@@ -1,6 +1,6 @@
 -- What is kept beside the slots, where a row comes, changes or leaves.
 use Rattle.std.proofs.lemmas.Grind.{common_steps}
-use Rattle.row_table.proofs.Common.{◌≡◌, ℕ, ◌+◌, ◌≤◌, List, [], ◌∷◌, ◌++◌, Option, Some, None, length, map, refl, sym}
+use Rattle.row_table.proofs.Common.{◌≡◌, ℕ, ◌≤◌, List, [], ◌∷◌, ◌++◌, Option, Some, None, length, map, refl, sym}
 use Rattle.row_table.proofs.Common.{ap, ◌∙◌, arith, subst, is_some, slice_set, filter, vec_capacity, live, held}
 use Rattle.row_table.proofs.Common.{filled_from, sender_of, receiver_of, moment_of, Finds, Stands, Marked, Row, Parts}
 use Rattle.std.proofs.Common.{Result, Ok, Err, OnOk, option_map, rules}

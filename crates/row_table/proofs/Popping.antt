@@ -1,7 +1,7 @@
 -- What is kept beside the slots, once the last slot is empty and gone.
 use Rattle.std.proofs.lemmas.Grind.{common_steps}
 use Rattle.std.proofs.Common.{rules}
-use Rattle.row_table.proofs.Common.{◌≡◌, ℕ, suc, ◌+◌, ◌-◌, List, [], ◌∷◌, ◌++◌, Option, Some, None, false, IsSome}
+use Rattle.row_table.proofs.Common.{◌≡◌, ℕ, suc, ◌-◌, List, [], ◌∷◌, ◌++◌, Option, Some, None, false, IsSome}
 use Rattle.row_table.proofs.Common.{is_some, length, take, refl, subst, ap, ◌∙◌, arith, live, held, filled_from}
 use Rattle.row_table.proofs.Common.{sender_of, receiver_of, Finds, Stands, Row, Parts}
 use Rattle.std.specs.Option.{option_to_list}

@@ -5,7 +5,6 @@ use Rattle.std.specs.Prelude.{slice_index, length, Option, Some, None, slice_get
 use Rattle.std.specs.Prelude.{◌≤◌, nat_le}
 use Rattle.std.specs.List.{filter, list_all, AllZip}
 use Rattle.std.specs.declared.cmp.Ordering.{Ordering}
-use Rattle.std.specs.declared.alloc.Global.{Global}
 use Rattle.fair_rates.specs.Sides.Caps.{Caps}
 use Rattle.fair_rates.specs.Sides.Subjects.{Subject}
 use Rattle.fair_rates.specs.Fairness.UnderCaps.{AreOfPeers, cap_of, limits, sides_under}

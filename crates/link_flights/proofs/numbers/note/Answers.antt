@@ -1,4 +1,4 @@
-use Rattle.link_flights.proofs.Common.{◌≡◌, ◌<◌, length, get_or, refl, ◌∙◌, arith, length-set, slice_get_within}
+use Rattle.link_flights.proofs.Common.{refl, ◌∙◌, arith, length-set, slice_get_within}
 use Rattle.link_flights.proofs.Flights.Numbered.{numbered_more}
 use Rattle.link_flights.proofs.numbers.note.Goals as goal
 

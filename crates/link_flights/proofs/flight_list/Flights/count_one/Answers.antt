@@ -1,4 +1,4 @@
-use Rattle.link_flights.proofs.Common.{◌≡◌, ◌+◌, ◌-◌, Bool, true, false, Some, slice_get, sym, ap, ◌∙◌, subst, arith}
+use Rattle.link_flights.proofs.Common.{◌≡◌, ◌+◌, ◌-◌, Bool, true, false, Some, slice_get, sym, ap, ◌∙◌, subst}
 use Rattle.link_flights.proofs.Common.{get_or_from_slice_get, same_Some, side_of, Flight, is_of, places_of, flight_at}
 use Rattle.link_flights.proofs.Common.{flow_sent, uses_end, end_subject}
 use Rattle.link_flights.specs.Flights.Sides.{IsCounted}

@@ -1,5 +1,5 @@
-use Rattle.link_flights.proofs.Common.{rules, ◌≡◌, ◌≤◌, ◌*◌, IfSome, All, [], sym, ap, ap₂, ◌∙◌, subst, arith, map}
-use Rattle.link_flights.proofs.Common.{AllZip, product, parts_of_level, last_moment, caps_of, looked_up, UnitFlight}
+use Rattle.link_flights.proofs.Common.{rules, ◌≡◌, ◌≤◌, ◌*◌, IfSome, All, [], sym, ap, ap₂, ◌∙◌, subst, arith}
+use Rattle.link_flights.proofs.Common.{AllZip, product, last_moment, caps_of, looked_up, UnitFlight}
 use Rattle.link_flights.proofs.Common.{flights_at, AreTimed, in_units, rates_found, rates_of_levels, rerated}
 use Rattle.link_flights.proofs.Common.{IsRatedFrom}
 use Rattle.std.specs.Prelude.{◌≢◌}

@@ -1,4 +1,4 @@
-use Rattle.link_flights.proofs.Common.{◌≡◌, ℕ, ◌+◌, ◌*◌, None, get_or, length, map, refl, sym, ap, ◌∙◌, subst, arith}
+use Rattle.link_flights.proofs.Common.{◌≡◌, ◌+◌, ◌*◌, None, get_or, length, refl, sym, ap, ◌∙◌, subst, arith}
 use Rattle.link_flights.proofs.Common.{length-map, product, parts_of_level, flight_at, flights_at}
 use Rattle.link_flights.proofs.Common.{rates_of_levels, IsReratedAt}
 use Rattle.std.proofs.Math.ListN.{get_or-map}
