@@ -5,10 +5,11 @@ ghost use Rattle.std.specs.Vec.{vec_capacity};
 ghost use Rattle.std.specs.List.{AllPairs};
 ghost use Rattle.row_table.specs.Slots.{live, filled_from};
 
+use super::guesses::Guesses;
 use super::row::Row;
 
 /// The slots that hold a row are listed again, and where they stand is guessed right. It takes no memory.
-pub(crate) fn refill<T>(filled: &mut Vec<usize>, guesses: &mut Vec<usize>, slots: &[Option<Row<T>>])
+pub(crate) fn refill<T>(filled: &mut Vec<usize>, guesses: &mut Guesses, slots: &[Option<Row<T>>])
     requires { length (live slots.now) ≤ vec_capacity filled.old }
     ensures items { filled.new.items ≡ filled_from slots.now 0 }
     ensures room { vec_capacity filled.old ≤ vec_capacity filled.new }
@@ -21,35 +22,16 @@ pub(crate) fn refill<T>(filled: &mut Vec<usize>, guesses: &mut Vec<usize>, slots
         }
     }
     guesses.truncate(slots.len());
-    guess_again(guesses, filled);
+    guesses.note(filled);
 }
 
-/// The slot at each of these places is guessed to stand there.
-fn guess_again(guesses: &mut [usize], filled: &[usize]) {
-    for place in 0..filled.len() {
-        if let Some(guess) = guesses.get_mut(filled[place]) {
-            *guess = place;
-        }
-    }
-}
-
-/// One slot less is filled, before those from that slot on.
-pub(crate) fn move_up(guesses: &mut [usize], slot: usize) {
-    if let Some((_, later)) = guesses.split_at_mut_checked(slot) {
-        for guess in later {
-            *guess = guess.wrapping_sub(1);
-        }
-    }
-}
-
-/// Where a slot stands in a list of them that ascends. It is looked for where it is guessed to
-/// stand first.
-pub(crate) fn place_of(filled: &[usize], slot: usize, guesses: &[usize]) -> Option<usize>
+/// Where a slot stands in a list of them that ascends. It is looked for first where it is guessed.
+pub(crate) fn place_of(filled: &[usize], slot: usize, guesses: &Guesses) -> Option<usize>
     ensures some { IfSome result (λ at. slice_get filled.now at ≡ Some slot) }
     ensures none { IfNone result
         (AllPairs (λ one other. one < other) filled.now → (at : ℕ) → slice_get filled.now at ≡ Some slot → ⊥) }
 {
-    let guess = guesses.get(slot).copied().unwrap_or(0);
+    let guess = guesses.place(slot);
     if filled.get(guess) == Some(&slot) {
         return Some(guess);
     }

@@ -3,6 +3,7 @@
 #![tactic(auto)]
 
 mod filled;
+mod guesses;
 mod index;
 mod parts;
 mod row;

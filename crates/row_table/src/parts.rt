@@ -6,7 +6,8 @@ ghost use Rattle.std.specs.Option.{option_to_list};
 ghost use Rattle.row_table.specs.Slots.{live, held, filled_from, IsPlaceOf};
 ghost use Rattle.row_table.specs.Index.{sender_of, receiver_of, Finds, Stands, Marked};
 
-use super::filled::{move_up, place_of, refill};
+use super::filled::{place_of, refill};
+use super::guesses::Guesses;
 use super::index::Index;
 use super::row::Row;
 use super::slot_list::Slots;
@@ -20,7 +21,7 @@ pub(crate) struct Parts<T> {
     // The slots that hold a row, in order: the row at a place is that of the slot at the same place here.
     pub(crate) filled: Vec<usize>,
     // At which place each slot is guessed to stand there. Only time hangs on it.
-    guesses: Vec<usize>,
+    guesses: Guesses,
     pub(crate) index: Index,
     // At so many slots those that came after the mark are closed up.
     close_at: usize,
@@ -43,7 +44,7 @@ impl<T: Drop> Parts<T> {
         Parts {
             slots: Slots::new(alloc),
             filled: Vec::new(alloc),
-            guesses: Vec::new(alloc),
+            guesses: Guesses::new(alloc),
             index: Index::new(alloc),
             close_at: NEW,
         }
@@ -232,7 +233,7 @@ impl<T: Drop> Parts<T> {
         self.slots.take(slot)?;
         self.index.take(slot, sender, receiver)?;
         self.filled.remove(at);
-        move_up(&mut self.guesses, slot);
+        self.guesses.move_up(slot);
         Ok(())
     }
 

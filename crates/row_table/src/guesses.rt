@@ -1,0 +1,79 @@
+//! Guesses at where slots stand in the list of those that hold a row. Only time hangs on them.
+
+use std::alloc::{AllocError, Global};
+
+/// A note of each slot: at which place it stands among those that hold a row.
+///
+/// As a row leaves, those behind it move up. So that this takes little time where there are many slots, the notes
+/// stand in blocks, and what the later blocks have moved up is noted once for each.
+#[derive(Drop)]
+pub(crate) struct Guesses {
+    notes: Vec<usize>,
+    // How far the slots of each block have moved up since they were noted.
+    moved: Vec<usize>,
+}
+
+/// So many notes are a block.
+const BLOCK: usize = 64;
+
+impl Guesses {
+    /// No slot.
+    pub(crate) fn new(alloc: Global) -> Guesses {
+        Guesses {
+            notes: Vec::new(alloc),
+            moved: Vec::new(alloc),
+        }
+    }
+
+    /// The place at which the slot is guessed to stand.
+    pub(crate) fn place(&self, slot: usize) -> usize {
+        match (self.notes.get(slot), self.moved.get(slot / BLOCK)) {
+            (Some(note), Some(moved)) => note.wrapping_sub(*moved),
+            _ => 0,
+        }
+    }
+
+    /// One more slot stands at that place. Where memory is refused, all stays but for room.
+    pub(crate) fn push(&mut self, place: usize) -> Result<(), AllocError> {
+        let block = self.notes.len() / BLOCK;
+        if self.moved.len() <= block {
+            self.moved.push(0)?;
+        }
+        let moved = self.moved.get(block).copied().unwrap_or(0);
+        self.notes.push(place.wrapping_add(moved))?;
+        Ok(())
+    }
+
+    /// There are so many slots at most.
+    pub(crate) fn truncate(&mut self, len: usize) {
+        self.notes.truncate(len);
+        self.moved.truncate(len.div_ceil(BLOCK));
+    }
+
+    /// A slot holds a row no more, and those behind it move up.
+    pub(crate) fn move_up(&mut self, slot: usize) {
+        let block = slot / BLOCK;
+        for later in 0..BLOCK - slot % BLOCK {
+            if let Some(note) = self.notes.get_mut(slot.wrapping_add(later)) {
+                *note = note.wrapping_sub(1);
+            }
+        }
+        if let Some((_, later)) = self.moved.split_at_mut_checked(block + 1) {
+            for moved in later {
+                *moved = moved.wrapping_add(1);
+            }
+        }
+    }
+
+    /// Each of these slots stands at its place in the list.
+    pub(crate) fn note(&mut self, filled: &[usize]) {
+        for moved in &mut self.moved {
+            *moved = 0;
+        }
+        for place in 0..filled.len() {
+            if let Some(note) = self.notes.get_mut(filled[place]) {
+                *note = place;
+            }
+        }
+    }
+}
