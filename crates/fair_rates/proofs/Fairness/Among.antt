@@ -2,7 +2,7 @@
 use Rattle.fair_rates.proofs.Common.{◌≡◌, ℕ, zero, suc, ◌+◌, ◌*◌, ◌<◌, List, [], ◌∷◌, Some, map, length, get_or, refl}
 use Rattle.fair_rates.proofs.Common.{sym, ap, ◌∙◌, subst, arith, slice_get, IsTotalOrder, Ordering, length-map}
 use Rattle.fair_rates.proofs.Common.{slice_get-map, Flow, Rate, Unlimited, Finite, Side, IsFair, IsRateOf, IsWorth}
-use Rattle.fair_rates.proofs.Common.{Caps, AreOfPeers, sides_under, AreFairUnder, common_steps}
+use Rattle.fair_rates.proofs.Common.{Caps, AreOfPeers, sides_under, AreFairUnder}
 use Rattle.std.proofs.lemmas.Option.{get_or_from_slice_get}
 use Rattle.fair_rates.proofs.Lists.Members.{In, in_get, get_in}
 use Rattle.fair_rates.proofs.Fairness.MaxMin.{rate_at}
@@ -58,8 +58,10 @@ module _ {P : Type 0} (cmp : P → P → Ordering) (caps : Caps P) where
 
     fair_among : IsFair sides per g
         → ((k : ℕ) (x : Allotted P) → slice_get xs k ≡ Some x → IsRateOf sides per g k x.rate) → AreFairAmong per xs
-    fair_among f rates =
-        grind (arith, common_steps, shared_from cmp caps flow_of parts_of order of xs g per stands f, get_in, rate_is)
+    fair_among f rates = record {
+      shared = shared_from cmp caps flow_of parts_of order of xs g per stands f;
+      rated = λ x h. let p = get_in xs x h in rate_is x p.0 p.1 x.rate (rates p.0 x p.1);
+    }
 
     fair : AreFairAmong per xs → IsFair sides per g
     fair f = fair_from cmp caps flow_of parts_of order of xs g per stands f.shared

@@ -142,15 +142,14 @@ module _ (flags : List Bool) where
     uses_renumbered : (side : Side) (u : ℕ) → is_in flags u ≡ true → Uses sides u side
         → Uses (sides_in flags sides) (place_in flags u) (renumbered side)
     uses_renumbered side u own uses =
-        grind (
-          arith,
-          common_steps,
-          in_from_contains side.users u uses.used,
-          in_from_contains sides side uses.listed,
-          contains_from_in,
-          to_sides_in,
-          in_map,
-        )
+        let used = in_from_contains side.users u uses.used in record {
+          listed =
+              contains_from_in (sides_in flags sides) (renumbered side)
+              (to_sides_in sides side u (in_from_contains sides side uses.listed) used own);
+          used =
+              contains_from_in (map (place_in flags) side.users) (place_in flags u)
+              (in_map (place_in flags) side.users u used);
+        }
 
     module _ (per : ℕ) (parts : ℕ → ℕ) where
       abbrev kept_parts : ℕ → ℕ

@@ -1,6 +1,6 @@
 -- Sides that are those of the capped subjects, however they are made and in whatever order they stand.
 use Rattle.fair_rates.proofs.Common.{ℕ, List, Contains, IsTotalOrder, Ordering, Flow, Side, IsFair, AreOfPeers}
-use Rattle.fair_rates.proofs.Common.{sides_under, IsCappedSide, Caps, arith, common_steps}
+use Rattle.fair_rates.proofs.Common.{sides_under, IsCappedSide, Caps}
 use Rattle.std.specs.Prelude.{◌↔◌}
 use Rattle.fair_rates.specs.Fairness.Laws.{AreTheSameSides}
 use Rattle.fair_rates.proofs.Fairness.SameSides.{still_fair}
@@ -10,7 +10,9 @@ module _ {P : Type 0} (cmp : P → P → Ordering) (order : IsTotalOrder cmp) (c
     (flows : List (Flow P)) (sides : List Side)
     (members : (side : Side) → Contains sides side ↔ IsCappedSide cmp caps flows side) where
   are_the_same : AreTheSameSides sides (sides_under cmp caps flows)
-  are_the_same side = grind (arith, common_steps, sides_are_of_the_caps cmp order caps flows side of)
+  are_the_same side =
+      let capped = sides_are_of_the_caps cmp order caps flows side of in
+      (λ c. capped.1 ((members side).0 c), λ c. (members side).1 (capped.0 c))
 
   -- what is fair on them is fair under the caps
   pub fair_of_members : (per : ℕ) (parts : ℕ → ℕ) → IsFair sides per parts

@@ -1,7 +1,7 @@
 -- A rate is zero at a cap of zero, and nowhere else.
 use Rattle.fair_rates.proofs.Common.{◌≡◌, ℕ, ◌*◌, ◌≤◌, List, Contains, sum_by, subst, ap, arith, eq_of_mul-eq-mul_right}
 use Rattle.fair_rates.proofs.Common.{All-contains, get_or-le-sum_by, Finite, Side, load, IsLimited, IsFair}
-use Rattle.fair_rates.proofs.Common.{common_steps, rules}
+use Rattle.fair_rates.proofs.Common.{rules}
 use Rattle.fair_rates.specs.Fairness.Laws.{UsesClosedSide, FairRatesAreZeroWhereClosed}
 use Rattle.fair_rates.proofs.Lists.SumOrder.{All-from_contains, sum_by-zero}
 use Rattle.fair_rates.proofs.Fairness.MaxMin.{rate_at}
@@ -12,7 +12,10 @@ member_at_most f xs x c = subst (λ y. f y ≤ sum_by f xs) c.2 (get_or-le-sum_b
 
 closed_is_zero : (sides : List Side) (per : ℕ) (parts : ℕ → ℕ) → IsFair sides per parts → (flow : ℕ)
     → UsesClosedSide sides flow → parts flow ≡ 0
-closed_is_zero sides per parts f flow u = grind (arith, common_steps, All-contains, member_at_most)
+closed_is_zero sides per parts f flow u =
+    let within = All-contains (λ s. load parts s ≤ s.cap * per) sides u.side f.within u.uses.listed in
+    let own = member_at_most parts u.side.users flow u.uses.used in
+    omega (arith, within, own, ap (λ n. n * per) u.closed)
 
 zero_is_closed : (sides : List Side) (per : ℕ) (parts : ℕ → ℕ) → IsFair sides per parts → (flow : ℕ)
     → IsLimited sides flow → parts flow ≡ 0 → UsesClosedSide sides flow

@@ -1,7 +1,7 @@
 -- Fairness can be decided: where it is known that rates are fair, each flow's bottleneck can be found.
-use Rattle.fair_rates.proofs.Common.{◌≡◌, ℕ, ◌*◌, Bool, true, ◌&&◌, List, sym, ◌∙◌, subst, inl, inr, list_all, list_any}
+use Rattle.fair_rates.proofs.Common.{refl, ◌≤◌, ◌≡◌, ℕ, ◌*◌, Bool, true, ◌&&◌, List, sym, ◌∙◌, subst, inl, inr, list_all, list_any}
 use Rattle.fair_rates.proofs.Common.{and_from, eqb-true, eq-eqb, false≢true, All-contains, Side, load, HasBottleneck}
-use Rattle.fair_rates.proofs.Common.{IsFair, arith, common_steps}
+use Rattle.fair_rates.proofs.Common.{IsFair}
 use Rattle.std.specs.Prelude.{nat_le}
 use Rattle.std.proofs.Math.Dec.{eqb}
 use Rattle.std.proofs.Math.Logic.{∥∥₁_elim}
@@ -34,35 +34,34 @@ module _ (sides : List Side) (per : ℕ) (parts : ℕ → ℕ) where
 
   passes : (flow : ℕ) (b : HasBottleneck sides per parts flow) → is_bottleneck flow b.side ≡ true
   passes flow b =
-      grind (
-        arith,
-        common_steps,
-        any_passes,
-        eqb,
-        in_from_contains,
-        eq-eqb,
-        all_passed,
-        le-leb,
-        All-contains,
-        contains_from_in,
-        and_from,
-      )
+      let used : is_used_by flow b.side ≡ true =
+      any_passes (λ user. eqb user flow) b.side.users flow (in_from_contains b.side.users flow b.uses.used)
+      (eq-eqb flow flow refl) in
+      let full : is_full b.side ≡ true = eq-eqb (load parts b.side) (b.side.cap * per) b.full in
+      let greatest : is_greatest flow b.side ≡ true =
+      all_passed (λ other. nat_le (parts other) (parts flow)) b.side.users
+      (λ other among. le-leb (parts other) (parts flow)
+      (All-contains (λ other. parts other ≤ parts flow) b.side.users other b.greatest
+      (contains_from_in b.side.users other among))) in
+      and_from (is_used_by flow b.side) (is_full b.side && is_greatest flow b.side) used
+      (and_from (is_full b.side) (is_greatest flow b.side) full greatest)
 
   found : (flow : ℕ) (side : Side) → In sides side → is_bottleneck flow side ≡ true → HasBottleneck sides per parts flow
   found flow side among h =
-      grind (
-        arith,
-        common_steps,
-        second_of_both,
-        user_there,
-        first_of_both,
-        contains_from_in,
-        eqb-true,
-        All-from_contains,
-        leb-true,
-        all_pass,
-        in_from_contains,
-      )
+      let rest = second_of_both (is_used_by flow side) (is_full side && is_greatest flow side) h in
+      let used =
+      user_there side.users flow (first_of_both (is_used_by flow side) (is_full side && is_greatest flow side) h) in
+      record {
+        side = side;
+        uses = record { listed = contains_from_in sides side among; used = contains_from_in side.users flow used };
+        full = eqb-true (load parts side) (side.cap * per) (first_of_both (is_full side) (is_greatest flow side) rest);
+        greatest =
+            All-from_contains (λ other. parts other ≤ parts flow) side.users
+            (λ other has. leb-true (parts other) (parts flow)
+            (all_pass (λ other. nat_le (parts other) (parts flow)) side.users
+            (second_of_both (is_full side) (is_greatest flow side) rest) other
+            (in_from_contains side.users other has)));
+      }
 
   -- rates that are known to be fair are fair
   pub fair_if_so : ∥ IsFair sides per parts ∥₁ → IsFair sides per parts

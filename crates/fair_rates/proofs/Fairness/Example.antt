@@ -1,7 +1,7 @@
 -- The example of a shared cap.
-use Rattle.fair_rates.proofs.Common.{◌≡◌, ℕ, zero, suc, ◌*◌, ◌<◌, [], ◌∷◌, Contains, get_or, refl, sym, ap, subst}
+use Rattle.fair_rates.proofs.Common.{◌≤◌, load, ◌≡◌, ℕ, zero, suc, ◌*◌, ◌<◌, [], ◌∷◌, Contains, get_or, refl, sym, ap, subst}
 use Rattle.fair_rates.proofs.Common.{arith, eq_of_mul-eq-mul_right, Rate, Unlimited, Finite, Ratio, Side, IsLimited}
-use Rattle.fair_rates.proofs.Common.{IsFair, IsRateOf, rules}
+use Rattle.fair_rates.proofs.Common.{IsFair, IsRateOf}
 use Rattle.std.proofs.Math.Nat.{eq-one_of_dvd-one}
 use Rattle.fair_rates.specs.Fairness.Example.{shared, IsHalf, AreFairForThree, HalfExists, HalvesAreFair, LessIsUnfair}
 use Rattle.fair_rates.specs.Fairness.Example.{MoreIsUnfair, NoLimitIsUnfair, LimitIsUnfair}
@@ -40,7 +40,16 @@ abbrev one : ℕ → ℕ
 one flow = 1
 
 one_is_fair : IsFair shared 2 one
-one_is_fair = search (rules, All-from_contains, only, uses)
+one_is_fair = record {
+  some_part = omega arith;
+  within = All-from_contains (λ s. load one s ≤ s.cap * 2) shared (λ s c. rw (only side s c) (omega arith));
+  held = λ flow limited. record {
+    side = side;
+    uses = record { listed = (0, omega arith, refl); used = uses flow limited };
+    full = refl;
+    greatest = λ k d l. omega arith;
+  };
+}
 
 rated : (r s : Ratio) → IsHalf r → IsHalf s → (k : ℕ) (d : Rate) → k < 3
     → IsRateOf shared 2 one k (get_or (Finite r ∷ Finite s ∷ Unlimited ∷ []) k d)

@@ -79,13 +79,29 @@ module _ {P X : Type 0} (cmp : P → P → Ordering) (caps : Caps P) (flow : X �
     -- of one that keeps its rate: its bottleneck before limited none that was rated, and limits none that is
     module _ (k : X) (h : In xs k) (off : rated k ≡ false) (b : IsHeldAmong cmp caps flow parts per vs k) where
       none_before : (y : X) → In vs y → rated y ≡ true → limits cmp b.by.subject (flow y) ≡ false
-      none_before y among r = search (rules, cases_lt, by_bool)
+      none_before y among r = elim (cases_lt (parts k) level) [
+        | inl less ↦
+            by_bool (limits cmp b.by.subject (flow y))
+            (λ l. absurd (omega (arith, less, gone y among r, b.greatest y among l))) (λ e. e)
+        | inr le ↦ (apart k h off le b.by.subject b.by.cap b.by.capped b.by.limited).1 y among r
+      ]
 
       kept_total : total cmp caps flow parts b.by.subject (keeping rated xs) ≡ b.by.cap * per
       kept_total = search (rules, of_keeping, none_before)
 
       none_now : (x : X) → In xs x → rated x ≡ true → limits cmp b.by.subject (flow x) ≡ false
-      none_now x among r = search (rules, cases_lt, by_bool, kept_total, more_than)
+      none_now x among r = elim (cases_lt (parts k) level) [
+        | inl less ↦
+            by_bool (limits cmp b.by.subject (flow x)) (λ l. absurd (omega (
+              arith,
+              less,
+              high x among r,
+              kept_total,
+              more_than rated b.by.subject xs x among r l,
+              beside.within b.by.subject b.by.cap b.by.capped x among r l,
+            ))) (λ e. e)
+        | inr le ↦ (apart k h off le b.by.subject b.by.cap b.by.capped b.by.limited).0 x among r
+      ]
 
       held_kept : IsHeldAmong cmp caps flow parts per xs k
       held_kept = record {

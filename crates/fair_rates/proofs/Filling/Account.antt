@@ -1,5 +1,5 @@
 -- How an open side keeps account of a side.
-use Rattle.fair_rates.proofs.Common.{◌≡◌, ℕ, ◌+◌, ◌*◌, ◌<◌, ◌≤◌, inl, inr, List, [], ◌∷◌, ◌++◌, length, get_or, All}
+use Rattle.fair_rates.proofs.Common.{IsPermutation, ◌≡◌, ℕ, ◌+◌, ◌*◌, ◌<◌, ◌≤◌, inl, inr, List, [], ◌∷◌, ◌++◌, length, get_or, All}
 use Rattle.fair_rates.proofs.Common.{sum_by, Option, Some, IsSome, sym, ap, subst, ◌∙◌, arith, mul-le-mul_right}
 use Rattle.fair_rates.proofs.Common.{cases_lt, All-nil, All-head, All-push, All-tail, All-append, All-weaker}
 use Rattle.fair_rates.proofs.Common.{IsPermutation-refl, IsPermutation-sym, All-permutation, sum_by-cons, Side, load}
@@ -44,19 +44,21 @@ module _ (side : Side) (scale : ℕ) (frozen : ℕ → Option ℕ) (slack : ℕ)
   pub account_more : (i user parts rest : ℕ) (later : List ℕ) → i < length rising → user ≡ get_or rising i user
       → frozen user ≡ Some parts → rest + parts ≡ slack
       → later ≡ swap_remove rising i user → KeepsAccount side scale frozen rest later
-  account_more i user parts rest later inside is_user is_frozen left removed =
-      grind (
-        arith,
-        common_steps,
-        IsPermutation-pop_more side.users account.counted rising (swap_remove rising i user) user account.parted
-            (IsPermutation-swap_remove rising i user inside is_user),
-        IsPermutation-swap_remove rising i user inside is_user,
-        some_is (frozen user) parts is_frozen,
-        sum_by-append (at_level frozen 0) account.counted (user ∷ []),
-        sum_by-cons (at_level frozen 0) user [],
-        at_some frozen 0 user parts is_frozen,
-        All-push,
-      )
+  account_more i user parts rest later inside is_user is_frozen left removed = record {
+    counted = account.counted ++ user ∷ [];
+    parted = subst (λ xs. IsPermutation side.users ((account.counted ++ user ∷ []) ++ xs)) (sym removed)
+        (IsPermutation-pop_more side.users account.counted rising (swap_remove rising i user) user account.parted
+        (IsPermutation-swap_remove rising i user inside is_user));
+    done = All-push (λ j. IsSome (frozen j)) account.counted user account.done (some_is (frozen user) parts is_frozen);
+    left = omega (
+      arith,
+      sum_by-append (at_level frozen 0) account.counted (user ∷ []),
+      sum_by-cons (at_level frozen 0) user [],
+      at_some frozen 0 user parts is_frozen,
+      left,
+      account.left,
+    );
+  }
 
   -- none is left: all are frozen
   pub all_counted : length rising ≡ 0 → AllFrozen frozen side.users

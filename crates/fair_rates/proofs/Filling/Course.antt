@@ -1,10 +1,10 @@
 -- A round of filling: the users of the side with the least share freeze at it.
-use Rattle.fair_rates.proofs.Common.{◌≡◌, ℕ, ◌*◌, ◌<◌, ◌≤◌, ◌⊎◌, inl, inr, List, ◌∷◌, ◌++◌, length, All, Contains}
+use Rattle.fair_rates.proofs.Common.{unwrap_or, ◌≡◌, ℕ, ◌*◌, ◌<◌, ◌≤◌, ◌⊎◌, inl, inr, List, ◌∷◌, ◌++◌, length, All, Contains}
 use Rattle.fair_rates.proofs.Common.{Option, Some, None, IsSome, sym, ap, subst, arith, Reverse, All-head, All-tail}
 use Rattle.fair_rates.proofs.Common.{All-append, All-contains, All-weaker, Contains-append_right, All-permutation}
 use Rattle.fair_rates.proofs.Common.{Contains-permutation, IsPermutation-sym, Side, load, at_level, AllRise, AllFrozen}
 use Rattle.fair_rates.proofs.Common.{IsWithinSlack, HaveNoMore, KeepsAccount, IsOpen, IsCovered, IsQueue, AreAbove}
-use Rattle.fair_rates.proofs.Common.{OpenSide, rules, common_steps}
+use Rattle.fair_rates.proofs.Common.{OpenSide, rules}
 use Rattle.std.proofs.Common.{le_of_mul-le-mul_right}
 use Rattle.fair_rates.proofs.Lists.SumOrder.{All-from_contains}
 use Rattle.fair_rates.proofs.Filling.Account.{has_room, is_full}
@@ -31,7 +31,12 @@ module _ (sides : List Side) (scale : ℕ) (frozen after : ℕ → Option ℕ) (
 
   fresh : (flow parts : ℕ) → frozen flow ≡ None → after flow ≡ Some parts
       → (parts ≡ level) × Contains x.0.rising.items flow
-  fresh flow parts none e = search (rules, All-contains)
+  fresh flow parts none e = elim (freezes.others flow) [
+    | inr same ↦ absurd (cc)
+    | inl used ↦ let now = All-contains (λ j. after j ≡ Some level) x.0.rising.items flow freezes.all used in
+        let same : parts ≡ level = cc in
+        (same, used)
+  ]
 
   still : (flow : ℕ) → IsSome (frozen flow) → IsSome (after flow)
   still flow some = let v = some_value (frozen flow) some in some_is (after flow) v.0 (kept flow v.0 v.1)
@@ -46,7 +51,18 @@ module _ (sides : List Side) (scale : ℕ) (frozen after : ℕ → Option ℕ) (
   -- an account stands
   account_kept : (side : Side) (slack : ℕ) (rising : List ℕ) → KeepsAccount side scale frozen slack rising
       → KeepsAccount side scale after slack rising
-  account_kept side slack rising account = grind (arith, common_steps, All-weaker, still, sum_by_same, still_has)
+  account_kept side slack rising account = record {
+    counted = account.counted;
+    parted = account.parted;
+    done = All-weaker (λ j. IsSome (frozen j)) (λ j. IsSome (after j)) still account.counted account.done;
+    left = omega (
+      arith,
+      account.left,
+      sum_by_same (at_level after 0) (at_level frozen 0) account.counted
+          (All-weaker (λ j. IsSome (frozen j)) (λ j. at_level after 0 j ≡ at_level frozen 0 j) still_has account.counted
+          account.done),
+    );
+  }
 
   -- ---- the queue
 
@@ -71,7 +87,22 @@ module _ (sides : List Side) (scale : ℕ) (frozen after : ℕ → Option ℕ) (
 
   -- nobody has more than the shares
   pub no_more_on : All (λ o. HaveNoMore after o.0.slack o.0.rising.items) opens
-  no_more_on = grind (arith, common_steps, All-from_contains, All-contains, All-weaker, at_some)
+  no_more_on =
+      All-from_contains (λ (o : Reverse OpenSide). HaveNoMore after o.0.slack o.0.rising.items) opens (λ o listed.
+      let was =
+      All-contains (λ (o : Reverse OpenSide). HaveNoMore frozen o.0.slack o.0.rising.items) opens o no_more
+      listed in
+      let fits =
+      All-contains (λ (o : Reverse OpenSide). IsWithinSlack level o.0.slack o.0.rising.items) opens o within
+      listed in
+      let n : ℕ = length o.0.rising.items in
+      All-weaker (λ j. at_level frozen 0 j * n ≤ o.0.slack) (λ j. at_level after 0 j * n ≤ o.0.slack)
+      (λ j le. elim (freezes.others j) [
+        | inl used ↦
+            let now = All-contains (λ j. after j ≡ Some level) x.0.rising.items j freezes.all used in
+            omega (arith, fits, ap (λ k. k * n) (at_some after 0 j level now))
+        | inr same ↦ omega (arith, le, ap (λ o. unwrap_or o 0 * n) same)
+      ]) o.0.rising.items was)
 
   -- ---- the round
 

@@ -43,7 +43,8 @@ module _ (n d factor shared : ℕ) (some : 0 < factor) (is : shared ≡ gcd n fa
   factor_divides = subst (λ k. k ∣ factor) (sym is) (gcd-IsGcd n factor).1
 
   pub rest_positive : 0 < d → 0 < d * (factor / shared)
-  rest_positive d_pos = grind (arith, common_steps, mul-pos, quotient_positive, div-mul_cancel, factor_divides)
+  rest_positive d_pos =
+      mul-pos d_pos (quotient_positive factor shared (factor / shared) some (div-mul_cancel shared factor_divides))
 
   apart : IsReduced (n / shared) (factor / shared)
   apart = subst (λ k. IsReduced (n / k) (factor / k)) (sym is) (coprime_parts n factor some)

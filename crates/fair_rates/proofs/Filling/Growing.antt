@@ -1,5 +1,5 @@
 -- The scale grows: all that is kept is so many times what it was.
-use Rattle.fair_rates.proofs.Common.{◌≡◌, ℕ, ◌*◌, ◌<◌, ◌≤◌, inl, inr, List, [], ◌∷◌, ◌++◌, length, All, Contains}
+use Rattle.fair_rates.proofs.Common.{◌∙◌, ◌≡◌, ℕ, ◌*◌, ◌<◌, ◌≤◌, inl, inr, List, [], ◌∷◌, ◌++◌, length, All, Contains}
 use Rattle.fair_rates.proofs.Common.{sum_by, Option, Some, None, IsSome, refl, sym, ap, subst, arith, mul-le-mul_right}
 use Rattle.fair_rates.proofs.Common.{IsPermutation, option_map, unwrap_or, Reverse, All-cons, All-push, All-weaker}
 use Rattle.fair_rates.proofs.Common.{All-contains, Contains-append_left, Contains-push, All-permutation}
@@ -101,10 +101,15 @@ module _ (factor : ℕ) (frozen after : ℕ → Option ℕ) (scaled : AreScaled 
 
   load_scaled : (level : ℕ) (users : List ℕ)
       → sum_by (at_level after (level * factor)) users ≡ sum_by (at_level frozen level) users * factor
-  load_scaled level users = search (rules, sum_by_same, has_scaled, sum_by-scaled)
+  load_scaled level users =
+      sum_by_same (at_level after (level * factor)) (λ j. at_level frozen level j * factor) users
+      (λ k d inside. has_scaled level _)
+      ∙ sum_by-scaled (at_level frozen level) factor users
 
   sum_scaled : (users : List ℕ) → sum_by (at_level after 0) users ≡ sum_by (at_level frozen 0) users * factor
-  sum_scaled users = search (rules, sum_by_same, none_scaled, sum_by-scaled)
+  sum_scaled users =
+      sum_by_same (at_level after 0) (λ j. at_level frozen 0 j * factor) users (λ k d inside. none_scaled _)
+      ∙ sum_by-scaled (at_level frozen 0) factor users
 
   pub account_scaled : (side : Side) (scale slack : ℕ) (rising : List ℕ) → KeepsAccount side scale frozen slack rising
       → KeepsAccount side (scale * factor) after (slack * factor) rising

@@ -37,7 +37,12 @@ module _ (before mid : List (Option ℕ)) (users : List ℕ) (user place : ℕ) 
   there = get_or-set_same mid user (Some place) None inside
 
   all_push : AllThere after place (users ++ user ∷ [])
-  all_push = grind (arith, common_steps, All-push, cases_eq, there, get_or-set_other)
+  all_push =
+      All-push (λ flow. level_at after flow ≡ Some place) users user
+      (λ k d within. elim (cases_eq (get_or users k d) user) [
+        | inl same ↦ ap (level_at after) same ∙ there
+        | inr other ↦ get_or-set_other mid user (get_or users k d) (Some place) None other ∙ all k d within
+      ]) there
 
   others_push : OthersStay before after (users ++ user ∷ [])
   others_push flow = elim (cases_eq flow user) [

@@ -1,7 +1,7 @@
 -- Over parts, the least of what the sides have left for each of their rising users is the next level.
-use Rattle.fair_rates.proofs.Common.{◌≡◌, ℕ, ◌+◌, ◌-◌, ◌*◌, ◌<◌, ◌≤◌, cond, List, [], ◌∷◌, All, Contains, sum_by}
+use Rattle.fair_rates.proofs.Common.{◌∙◌, ◌≡◌, ℕ, ◌+◌, ◌-◌, ◌*◌, ◌<◌, ◌≤◌, cond, List, [], ◌∷◌, All, Contains, sum_by}
 use Rattle.fair_rates.proofs.Common.{count_by, ap, arith, Option, Some, None, unwrap_or, All-contains, sum_by-cons}
-use Rattle.fair_rates.proofs.Common.{Side, load, IsWithinCaps, common_steps}
+use Rattle.fair_rates.proofs.Common.{Side, load, IsWithinCaps}
 use Rattle.std.proofs.Common.{le_of_mul-le-mul_right, is_none}
 use Rattle.fair_rates.proofs.Lists.SumOrder.{All-from_contains}
 
@@ -62,4 +62,20 @@ pub least_is_next : (sides : List Side) (per : ℕ) (frozen : ℕ → Option ℕ
     → IsWithinCaps sides per (standing frozen before) → HasLeast sides per frozen side level
     → IsNextLevel sides per frozen before side level
 least_is_next sides per frozen before side level was least =
-    grind (arith, common_steps, le_of_mul-le-mul_right, All-from_contains, load_at, All-contains)
+    let here = within_at side least.listed in
+    record {
+      raised = le_of_mul-le-mul_right {k = rising frozen side} (omega (arith, here, least.share)) least.some;
+      within = All-from_contains (λ s. load (standing frozen level) s ≤ s.cap * per) sides (λ s listed.
+          rw (load_at frozen level s)
+          (omega (
+            arith,
+            within_at s listed,
+            All-contains (λ o. level * rising frozen o ≤ left_of per frozen o) sides s least.least listed,
+          )));
+      full = load_at frozen level side ∙ omega (arith, here, least.share);
+    }
+  where
+    within_at : (s : Side) → Contains sides s → taken frozen s + before * rising frozen s ≤ s.cap * per
+    within_at s listed =
+        rw (load_at frozen before s) at
+        (All-contains (λ s. load (standing frozen before) s ≤ s.cap * per) sides s was listed)

@@ -1,5 +1,5 @@
 -- Filling keeps its state, round by round, and ends in a fair allocation.
-use Rattle.fair_rates.proofs.Common.{◌≡◌, ℕ, ◌<◌, ◌≤◌, inl, inr, List, Contains, sym, ◌∙◌, arith, Option, None, IsSome}
+use Rattle.fair_rates.proofs.Common.{◌*◌, load, ◌≡◌, ℕ, ◌<◌, ◌≤◌, inl, inr, List, Contains, sym, ◌∙◌, arith, Option, None, IsSome}
 use Rattle.fair_rates.proofs.Common.{All-contains, Side, IsLimited, IsFair, at_level, rules}
 use Rattle.fair_rates.proofs.Filling.Frozen.{none_or_some, some_value, some_is, at_some, at_none, at_any}
 use Rattle.fair_rates.proofs.Filling.States.{IsHeld, IsFilledTo, IsNextRound}
@@ -88,7 +88,16 @@ module _ (sides : List Side) (per : ℕ) (frozen : ℕ → Option ℕ) (level : 
   ]
 
   pub next : IsFilledTo sides per after next_level
-  next = search (rules, All-from_contains, sum_by_same, same_at, All-contains, below, held)
+  next = record {
+    within = All-from_contains (λ s. load (at_level after next_level) s ≤ s.cap * per) sides (λ s c.
+        omega (
+          arith,
+          sum_by_same (at_level after next_level) (at_level frozen next_level) s.users (λ k d l. same_at _),
+          All-contains (λ s. load (at_level frozen next_level) s ≤ s.cap * per) sides s round.within c,
+        ));
+    below = below;
+    held = held;
+  }
 
 -- parts that are the same are fair
 pub fair_same : (sides : List Side) (per : ℕ) (parts other : ℕ → ℕ) → ((flow : ℕ) → parts flow ≡ other flow)

@@ -1,7 +1,7 @@
 -- Draining splits, and leaves nothing exactly where the time covers what is left.
 use Rattle.fair_rates.proofs.Common.{◌≡◌, ℕ, zero, suc, ◌+◌, ◌-◌, ◌*◌, ◌<◌, ◌≤◌, ◌↔◌, refl, sym, ap, ◌∙◌, arith}
 use Rattle.fair_rates.proofs.Common.{mul-le-mul_right, mul-sub, mul-pos, Amount, reduced, billion, Covers, amount_of}
-use Rattle.fair_rates.proofs.Common.{Rate, Unlimited, Finite, rules}
+use Rattle.fair_rates.proofs.Common.{Rate, Unlimited, Finite}
 use Rattle.std.proofs.Math.Nat.{mul_comm, mul-zero}
 use Rattle.fair_rates.specs.Numbers.Amount.{drained, IsLeastTime}
 use Rattle.fair_rates.specs.Numbers.Draining.{left_after}
@@ -42,9 +42,18 @@ drained_twice left rate a b h j =
     let x : ℕ = rate.num * left.den in
     let d : ℕ = left.den * unit in
     let some : 0 < d = mul-pos h some_unit in
-    let num : (n - a * x) * unit - b * (rate.num * d) ≡ unit * (n - (a + b) * x) = search (rules, mul_comm, mul-sub) in
+    let num : (n - a * x) * unit - b * (rate.num * d) ≡ unit * (n - (a + b) * x) =
+    ap (λ y. y - b * (rate.num * d)) (mul_comm (n - a * x) unit)
+    ∙ ap (λ y. unit * (n - a * x) - y) (regroup b rate.num left.den unit)
+    ∙ sym (mul-sub unit (n - a * x) (b * x)) ∙ ap (λ y. unit * y) (twice_less n a b x) in
     drained_reduced (n - a * x) d rate b some j ∙ reduced_alike _ _ _ _ num (mul_comm d unit)
     ∙ reduced_scaled unit (n - (a + b) * x) d some_unit some
+  where
+    regroup : (b r l u : ℕ) → b * (r * (l * u)) ≡ u * (b * (r * l))
+    regroup b r l u = omega arith
+
+    twice_less : (n a b x : ℕ) → n - a * x - b * x ≡ n - (a + b) * x
+    twice_less n a b x = omega arith
 
 -- ---- nothing is left exactly where the time covers it
 
@@ -73,7 +82,14 @@ covers_if_spent left rate n h j spent =
 -- at a rate above zero, from the least time on
 pub spent_from_least : (left rate : Amount) (least n : ℕ) → 0 < left.den → 0 < rate.den → IsLeastTime rate left least
     → ((drained left rate n).num ≡ 0) ↔ (least ≤ n)
-spent_from_least left rate least n h j time = search (rules, covers_if_spent, mul-le-mul_right, spent_if_covers)
+spent_from_least left rate least n h j time = (
+  λ e. time.least n (covers_if_spent left rate n h j e),
+  λ le.
+      let more : least * (rate.num * left.den) ≤ n * (rate.num * left.den) =
+      mul-le-mul_right (rate.num * left.den) le in
+      let enough : Covers rate least left = time.covers in
+      spent_if_covers left rate n h j (omega arith),
+)
 
 -- what is left after a time and then after another is what is left after both
 pub left_after_twice : (rate : Rate) (left : Amount) (a b : ℕ) → 0 < left.den

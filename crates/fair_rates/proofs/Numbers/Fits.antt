@@ -2,7 +2,7 @@
 use Rattle.fair_rates.proofs.Common.{◌∣◌, ◌≡◌, ℕ, zero, suc, ◌+◌, ◌-◌, ◌*◌, ◌/◌, ◌^◌, ◌<◌, ◌≤◌, ◌↔◌, Option, Some, None}
 use Rattle.fair_rates.proofs.Common.{IsSome, refl, sym, ap, ◌∙◌, subst, arith, mul-pos, mul-sub, mul-div_cancel'}
 use Rattle.fair_rates.proofs.Common.{dvd-mul_left, Amount, AreEqual, reduced, gcd, ReducedFits, IsReduced, amount_of}
-use Rattle.fair_rates.proofs.Common.{IsWorth, Ratio, gcd-IsGcd, gcd-pos, reduced_lowest, rules, common_steps}
+use Rattle.fair_rates.proofs.Common.{IsWorth, Ratio, gcd-IsGcd, gcd-pos, reduced_lowest, rules}
 use Rattle.std.proofs.Common.{mul-le-mul_left}
 use Rattle.std.specs.Int.{IsGcd}
 use Rattle.std.proofs.Math.Nat.{mul_assoc, div_self, le_of_mul-le-mul_left}
@@ -76,7 +76,13 @@ difference_over_common a b c d h j =
 -- the order of two fractions is that of their numerators over the common denominator
 pub no_greater_over_common : (a b c d : ℕ) → 0 < b → 0 < d → (c * (b / gcd b d) ≤ a * (d / gcd b d)) ↔ (c * b ≤ a * d)
 no_greater_over_common a b c d h j =
-    grind (arith, common_steps, common_parts, times_num, mul-le-mul_left, le_of_mul-le-mul_left)
+    let g : ℕ = gcd b d in
+    let k : CommonParts b d g = common_parts b d h j in
+    let u : g * (a * (d / g)) ≡ a * d = times_num g (d / g) a d k.second in
+    let v : g * (c * (b / g)) ≡ c * b = times_num g (b / g) c b k.first in (
+      λ le. let up : g * (c * (b / g)) ≤ g * (a * (d / g)) = mul-le-mul_left g le in omega arith,
+      λ le. let up : g * (c * (b / g)) ≤ g * (a * (d / g)) = omega arith in le_of_mul-le-mul_left up k.positive,
+    )
 
 -- what has the reduced sum of the numerators over the common denominator is worth the sum
 pub sum_worth : (r x y : Ratio) (p q s d : ℕ) → AreOverCommon (amount_of x) (amount_of y) p q d → s ≡ p + q

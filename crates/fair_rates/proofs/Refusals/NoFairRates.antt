@@ -1,5 +1,5 @@
 -- Where a fair rate is no fraction of 128 bits, no rates that are such fractions are fair.
-use Rattle.fair_rates.proofs.Common.{ℕ, ◌<◌, List, All, get_or, arith, Ordering, IsTotalOrder, All-contains}
+use Rattle.fair_rates.proofs.Common.{length, sides_under, ℕ, ◌<◌, List, All, get_or, arith, Ordering, IsTotalOrder, All-contains}
 use Rattle.fair_rates.proofs.Common.{HasLargeRate, parts_over, Side, HaveUsersBelow, ReducedFits, IsRateOf}
 use Rattle.fair_rates.proofs.Common.{AreFairRates, Rate, Unlimited, Finite, rules}
 use Rattle.std.proofs.lemmas.List.Elements.{All-get_or}
@@ -35,4 +35,6 @@ large_is_unfair sides flows rates among large small fair =
         fits)
 
 pub too_large_has_no_rates : {P : Type 0} (cmp : P → P → Ordering) → IsTotalOrder cmp → TooLargeHasNoRates cmp
-too_large_has_no_rates cmp order caps flows rates of large small fair = search (rules, large_is_unfair, users_below)
+too_large_has_no_rates cmp order caps flows rates of large small fair =
+    large_is_unfair (sides_under cmp caps flows) (length flows) rates (users_below cmp order caps flows of)
+    large.large_rate small fair

@@ -20,7 +20,15 @@ small_product per flows limit per_le flows_le limit_lt = search (rules, mul-le-m
 -- at most sixteen flows with caps below 2^64 fit
 pub sixteen_fit : (sides : List Side) (flows : ℕ) → flows ≤ 16 → HaveUsersBelow flows sides → HaveDistinctUsers sides
     → All (λ side. side.cap < 2 ^ 64) sides → FairRatesFit sides flows
-sixteen_fit sides flows small among distinct caps = search (rules, fair_parts, denominator_of, small_product, at_most)
+sixteen_fit sides flows small among distinct caps =
+    let fair = fair_parts flows sides among distinct in
+    record {
+      per = denominator_of flows;
+      parts = fair.0;
+      fair = fair.1;
+      small = λ k d l.
+          small_product (denominator_of flows) flows (get_or sides k d).cap (at_most flows small) small (caps k d l);
+    }
 
 -- all caps are below 2^64, or one is not
 caps_below : (sides : List Side)

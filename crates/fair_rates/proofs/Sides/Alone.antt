@@ -3,7 +3,6 @@ use Rattle.fair_rates.proofs.Common.{◌≡◌, ℕ, ◌≤◌, inl, inr, List, 
 use Rattle.fair_rates.proofs.Common.{cond, Option, Some, None, refl, sym, ap, subst, ◌∙◌, arith, Ordering, cases_lt}
 use Rattle.fair_rates.proofs.Common.{append-nil, All-nil, All-cons, All-append, All-weaker, Contains-append_left}
 use Rattle.fair_rates.proofs.Common.{Contains-append_right, Side, sides_under, Answered, Caps, Flow, sides_of, rules}
-use Rattle.fair_rates.proofs.Common.{common_steps}
 use Rattle.std.proofs.Common.{min}
 use Rattle.std.specs.Option.{option_to_list}
 use Rattle.std.proofs.Math.Nat.{min-eq_left, min-eq_right}
@@ -78,7 +77,13 @@ module _ (a b : ℕ) (xs ys : List ℕ) (h : IsLeastOf a xs) (k : IsLeastOf b ys
   ]
 
   lesser : IsLeastOf (min a b) (xs ++ ys)
-  lesser = grind (arith, common_steps, lesser_among, All-append, All-weaker)
+  lesser = record {
+    among = lesser_among;
+    least =
+        All-append (λ other. min a b ≤ other) xs ys
+        (All-weaker (λ other. a ≤ other) (λ other. min a b ≤ other) (λ other le. omega arith) xs h.least)
+        (All-weaker (λ other. b ≤ other) (λ other. min a b ≤ other) (λ other le. omega arith) ys k.least);
+  }
 
 least_append : (one other : Option ℕ) (xs ys : List ℕ) → IsLeast one xs → IsLeast other ys
     → IsLeast (least_of one other) (xs ++ ys)

@@ -144,7 +144,11 @@ module _ {P : Type 0} (cmp : P → P → Ordering) (o : IsTotalOrder cmp) where
 
     at_last : (q : Subject P) (m : ℕ) → IsNumberOf cmp more q m → length subjects ≡ m
         → number' q ≡ Some m
-    at_last q m i last = grind (arith, common_steps, same_symm cmp o s q, get_or_push subjects s s m last)
+    at_last q m i last =
+        let t : same_subject cmp s q ≡ true = same_symm cmp o s q
+        ∙ ap (same_subject cmp q) (sym (get_or_push subjects s s m last))
+        ∙ i.same s in
+        are' q ∙ ap (λ b. cond b (Some (length subjects)) (number q)) t ∙ ap Some last
 
     numbers_push : (q : Subject P) (m : ℕ) → (number' q ≡ Some m) ↔ IsNumberOf cmp more q m
     numbers_push q m = (
@@ -231,7 +235,11 @@ module _ {P : Type 0} (cmp : P → P → Ordering) (o : IsTotalOrder cmp) where
           ∙ append-nil (map (with_user cmp t) shares) in
           let others : (k : ℕ) → k < length shares → k ≢ n
           → with_user cmp t (get_or shares k nobody) ≡ get_or shares k nobody =
-          search (rules, unchanged, nobody, is_false, number_at, same_Some) in
+          λ k l apart.
+          unchanged t (get_or shares k nobody)
+          (is_false _
+          (λ same. let m : number s ≡ Some k = number_at s k nobody l same in
+          apart (same_Some k n (sym m ∙ e)))) in
           let stay : subjects_after cmp [] asks ≡ subjects_after cmp [] (asks ++ t ∷ []) =
           sym (subjects_are cmp [] asks) ∙ sym (subjects_kept t shares) ∙ ap (map (λ u. u.subject)) (sym are)
           ∙ subjects_are cmp [] (asks ++ t ∷ []) in

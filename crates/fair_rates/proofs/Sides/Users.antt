@@ -1,9 +1,9 @@
 -- The users of a side are places in the list of flows, each above those before it.
-use Rattle.fair_rates.proofs.Common.{◌≡◌, ℕ, ◌+◌, ◌<◌, ◌≤◌, Bool, true, false, cond, List, [], ◌∷◌, ◌++◌, Option, Some}
+use Rattle.fair_rates.proofs.Common.{subst, ◌≡◌, ℕ, ◌+◌, ◌<◌, ◌≤◌, Bool, true, false, cond, List, [], ◌∷◌, ◌++◌, Option, Some}
 use Rattle.fair_rates.proofs.Common.{None, length, get_or, map, refl, sym, ◌∙◌, arith, filter, All-nil, All-cons}
 use Rattle.fair_rates.proofs.Common.{All-append, All-weaker, All-map, All-head, All-tail, IsTotalOrder, Ordering}
 use Rattle.fair_rates.proofs.Common.{side_of, get_or-map, length-map, Answered, Ask, asks_of_one, asks_from, is_same}
-use Rattle.fair_rates.proofs.Common.{is_open, opened, sides_after, sides_of, rules, common_steps}
+use Rattle.fair_rates.proofs.Common.{is_open, opened, sides_after, sides_of, rules}
 use Rattle.std.specs.Prelude.{All}
 use Rattle.std.proofs.lemmas.List.Elements.{All-filter, filter_passes}
 use Rattle.fair_rates.specs.declared.bandwidth.sides.Side as declared_side
@@ -123,10 +123,8 @@ module _ {P : Type 0} (cmp : P → P → Ordering) where
         → map side_of sides ≡ sides_of cmp answered
         → All (λ side. Rises side.users.items × All (λ flow. flow < length answered) side.users.items) sides
     users_of answered sides e k d within =
-        grind (
-          arith,
-          common_steps,
-          users_rise answered,
-          get_or-map side_of sides k d (side_of d) within,
-          length-map sides side_of,
-        )
+        let h =
+        subst (All (λ side. Rises side.users × All (λ flow. flow < length answered) side.users)) (sym e)
+        (users_rise answered) in
+        subst (λ side. Rises side.users × All (λ flow. flow < length answered) side.users)
+        (get_or-map side_of sides k d (side_of d) within) (h k (side_of d) (omega (arith, length-map sides side_of)))
