@@ -52,13 +52,14 @@ impl Guesses {
 
     /// A slot holds a row no more, and those behind it move up.
     pub(crate) fn move_up(&mut self, slot: usize) {
-        let block = slot / BLOCK;
-        for later in 0..BLOCK - slot % BLOCK {
-            if let Some(note) = self.notes.get_mut(slot.wrapping_add(later)) {
+        let in_block = BLOCK - slot % BLOCK;
+        if let Some((_, behind)) = self.notes.split_at_mut_checked(slot) {
+            let few = in_block.min(behind.len());
+            for note in &mut behind[..few] {
                 *note = note.wrapping_sub(1);
             }
         }
-        if let Some((_, later)) = self.moved.split_at_mut_checked(block + 1) {
+        if let Some((_, later)) = self.moved.split_at_mut_checked(slot / BLOCK + 1) {
             for moved in later {
                 *moved = moved.wrapping_add(1);
             }
