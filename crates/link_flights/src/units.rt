@@ -14,9 +14,9 @@ use fair_rates::peer::Peer;
 const FACTORS: u64 = 9_419_588_158_802_421_600;
 
 impl<P: Peer> Flights<P> {
-    /// Once an account has given all their rates, so that nothing is loose, units may become larger. That is tried where the scale has not grown
-    /// at as many accounts in a row as messages are in flight: so it takes the time of a message an account. What all
-    /// are worth stays as it is.
+    /// Once an account has given all their rates, so that nothing is loose, units may become larger. That is tried
+    /// where the scale has not grown at as many accounts in a row as messages are in flight: so it takes the time of a
+    /// message an account. What all are worth stays as it is.
     pub fn enlarge_units(&mut self) -> Result<(), Error>
         ensures sending { OnOk result (in_flight self.new ≡ in_flight self.old) }
         ensures rated { OnOk result ((caps : AnyCaps P)
