@@ -1,8 +1,8 @@
 //! The use of a cap over time, exactly.
 
-use super::caps::{Cap, Side};
-use super::history::History;
-use super::track::Track;
+use crate::caps::{Cap, Side};
+use crate::history::History;
+use crate::track::Track;
 use fair_rates::error::Error;
 use fair_rates::ratio::Ratio;
 

@@ -1,10 +1,10 @@
 //! Which rows a picture has, and how high they are.
 
-use super::caps::Side;
-use super::frame::{Frame, SPAN};
-use super::history::History;
-use super::options::Options;
-use super::track::Track;
+use crate::caps::Side;
+use crate::frame::{Frame, SPAN};
+use crate::history::History;
+use crate::options::Options;
+use crate::track::Track;
 use fair_rates::error::Error;
 use std::alloc::Global;
 use std::collections::BTreeSet;

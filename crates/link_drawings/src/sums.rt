@@ -1,8 +1,8 @@
 //! The rates of all that share a cap, over time.
 
-use super::caps::{Cap, Side};
-use super::history::{History, MILLION};
-use super::track::Track;
+use crate::caps::{Cap, Side};
+use crate::history::{History, MILLION};
+use crate::track::Track;
 use fair_rates::error::Error;
 
 /// A rate that changes at a moment, in millionths of a byte a second.

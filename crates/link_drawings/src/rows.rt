@@ -1,12 +1,12 @@
 //! The rows of ordered pairs.
 
-use super::board::Board;
-use super::caps::Side;
-use super::frame::{Frame, LEFT, SPAN};
-use super::history::MILLION;
-use super::labels::{Count, Moment, Size, letters};
-use super::paint::{Band, Lines, block, fill, line};
-use super::track::{Sent, Track};
+use crate::board::Board;
+use crate::caps::Side;
+use crate::frame::{Frame, LEFT, SPAN};
+use crate::history::MILLION;
+use crate::labels::{Count, Moment, Size, letters};
+use crate::paint::{Band, Lines, block, fill, line};
+use crate::track::{Sent, Track};
 use std::io;
 use std::io::Write;
 

@@ -1,99 +1,52 @@
-//! What happened in a run.
-ghost use Rattle.std.specs.Prelude.{◌≡◌, IfErr};
+//! A script that is followed.
 
 use super::budget::Budget;
-use super::caps::{Cap, Side};
-use super::options::Options;
-use super::track::{Seen, Sent, Track};
 use fair_rates::error::Error;
-use fair_rates::ratio::Ratio;
+use link_drawings::caps::Side;
+use link_drawings::history::History;
+use link_drawings::options::Options;
+use link_drawings::track::{FullRate, Seen};
 use link_scheduler::replay::{Call, Reply};
 use link_scheduler::transmitter::{Completion, Contents, InFlight, Outgoing, State};
 use link_scripts::linkrun::command::Command;
 use link_scripts::linkrun::fill::fill;
 use std::alloc::Global;
-use std::collections::BTreeMap;
 
-/// Parts of a byte a second in which rates are drawn.
-pub(crate) const MILLION: u128 = 1_000_000;
-
-/// Nanoseconds in a second.
-const BILLION: u128 = 1_000_000_000;
-
-/// How many colours there are for pairs.
-const SHADES: usize = 12;
-
-/// What is in flight at the end is shown for this part of the time before it.
-const LATER_PART: u64 = 4;
-
-/// What happened in a run, up to a moment.
+/// A script that is followed up to a moment: its scheduler, and what happened.
 #[derive(Drop)]
-pub(crate) struct History {
+pub(crate) struct Follower {
     alloc: Global,
     scheduler: State<u64, Contents>,
     /// Messages of one moment that are still to be sent, by one call.
     gathered: Vec<Outgoing<u64, usize>>,
     gathered_at: u64,
-    /// In nanoseconds since the start.
-    first: Option<u64>,
-    now: u64,
-    /// The last moment at which something was asked, started, was done or arrives.
-    last: u64,
     /// Whether something happened since what is in flight was looked up.
     is_stale: bool,
     /// Whether time went on since then without a look.
     is_behind: bool,
     budget: Budget,
-    keeps_readings: bool,
-    /// How many pairs have messages that are not done.
-    busy: usize,
-    pub(crate) tracks: BTreeMap<(u64, u64), Track>,
-    pub(crate) caps: BTreeMap<Side, Vec<Cap>>,
-    /// How many messages there are.
-    pub(crate) messages: usize,
-    /// How many calls were refused.
-    pub(crate) refused: u64,
-    /// Whether what is in flight was looked up after each event.
-    pub(crate) is_exact: bool,
+    history: History,
 }
 
-impl History {
+impl Follower {
     /// Nothing has happened. Where readings are kept, what is in flight is looked up after each
     /// event, whatever time that takes.
-    pub(crate) fn new(alloc: Global, keeps_readings: bool) -> History {
-        History {
+    pub(crate) fn new(alloc: Global, keeps_readings: bool) -> Follower {
+        Follower {
             alloc,
             scheduler: State::with_payload(alloc, 0),
             gathered: Vec::new(alloc),
             gathered_at: 0,
-            first: None,
-            now: 0,
-            last: 0,
             is_stale: false,
             is_behind: false,
             budget: Budget::new(keeps_readings),
-            keeps_readings,
-            busy: 0,
-            tracks: BTreeMap::new(alloc),
-            caps: BTreeMap::new(alloc),
-            messages: 0,
-            refused: 0,
-            is_exact: true,
+            history: History::new(alloc, keeps_readings),
         }
     }
 
-    /// Where memory comes from.
-    pub(crate) fn alloc(&self) -> Global {
-        self.alloc
-    }
-
-    /// So much short of a cap is full: rates are rounded down, and more so where they are means.
-    pub(crate) fn short(&self, cap: u128) -> u128 {
-        if self.is_exact {
-            self.tracks.len() as u128
-        } else {
-            cap / 1000
-        }
+    /// What happened.
+    pub(crate) fn history(&self) -> &History {
+        &self.history
     }
 
     /// The first and the last moment to show. At the end, nothing is to be followed any more.
@@ -102,28 +55,7 @@ impl History {
         if self.is_stale {
             self.look()?;
         }
-        let begin = self.first.unwrap_or(0);
-        let first = options.from.unwrap_or(begin);
-        let last = options.until.unwrap_or(self.end(begin)).max(first);
-        let to = last.min(self.now);
-        for track in self.tracks.values_mut() {
-            track.go_on(to)?;
-        }
-        Ok((first, last))
-    }
-
-    /// The last moment of the picture. Where a message is still in flight at the last call, that is
-    /// shown for a part of the time before it.
-    fn end(&self, first: u64) -> u64 {
-        let passed = self.last.saturating_sub(first);
-        if self.busy == 0 {
-            self.last
-        } else if passed == 0 {
-            self.now.max(self.last)
-        } else {
-            let more = self.last.saturating_add(passed / LATER_PART);
-            self.now.min(more).max(self.last)
-        }
+        self.history.conclude(options)
     }
 
     /// Follows a command. Its only error is that memory was refused.
@@ -190,7 +122,7 @@ impl History {
     /// Makes a call that sets caps or sends messages, once time has gone on to its moment.
     fn change(&mut self, call: &Call<u64, usize>) -> Result<(), Error> {
         if !self.try_change(call)? {
-            self.refused = self.refused.saturating_add(1);
+            self.history.refuse();
         }
         Ok(())
     }
@@ -198,7 +130,7 @@ impl History {
     /// The same, and answers whether it was made.
     fn try_change(&mut self, call: &Call<u64, usize>) -> Result<bool, Error> {
         self.pass(moment_of(call))?;
-        self.last = self.last.max(self.now);
+        self.history.ask();
         match fill(self.alloc, call)?.make(&mut self.scheduler) {
             Ok(reply) => {
                 self.note(call)?;
@@ -221,18 +153,18 @@ impl History {
                 ingress,
                 ..
             } => {
-                self.set_cap(Side::Egress(*peer), *egress)?;
-                self.set_cap(Side::Ingress(*peer), *ingress)
+                self.history.set_cap(Side::Egress(*peer), *egress)?;
+                self.history.set_cap(Side::Ingress(*peer), *ingress)
             }
             Call::LimitLink {
                 origin,
                 recipient,
                 cap,
                 ..
-            } => self.set_cap(Side::Link(*origin, *recipient), *cap),
+            } => self.history.set_cap(Side::Link(*origin, *recipient), *cap),
             Call::EnqueueAll { messages, .. } => {
                 for one in messages {
-                    self.send(
+                    self.history.send(
                         (one.origin, one.recipient),
                         one.channel,
                         one.message,
@@ -248,40 +180,11 @@ impl History {
                 message,
                 should_deliver,
                 ..
-            } => self.send((*origin, *recipient), *channel, *message, *should_deliver),
+            } => self
+                .history
+                .send((*origin, *recipient), *channel, *message, *should_deliver),
             Call::Advance { .. } | Call::Next => Ok(()),
         }
-    }
-
-    /// A message was sent now.
-    fn send(
-        &mut self,
-        pair: (u64, u64),
-        channel: u64,
-        length: usize,
-        should_deliver: bool,
-    ) -> Result<(), Error> {
-        let alloc = self.alloc;
-        let keeps_readings = self.keeps_readings;
-        let shade = self.tracks.len() % SHADES;
-        let sent = Sent {
-            channel,
-            length,
-            should_deliver,
-            enqueued: self.now,
-            start: None,
-            done: None,
-            deliver_at: None,
-        };
-        self.messages = self.messages.saturating_add(1);
-        let track = self
-            .tracks
-            .entry(pair)?
-            .or_insert(Track::new(alloc, keeps_readings, shade));
-        if track.is_idle() {
-            self.busy = self.busy.saturating_add(1);
-        }
-        track.enqueue(sent)
     }
 
     /// Lets time go on, from event to event.
@@ -290,7 +193,7 @@ impl History {
             match self.scheduler.next() {
                 Some(event) if event <= now => {
                     self.pass(event)?;
-                    self.last = self.last.max(self.now);
+                    self.history.ask();
                     if !self.step(event)? {
                         return Ok(());
                     }
@@ -311,7 +214,7 @@ impl History {
             Ok(completions) => self.finish(&completions),
             Err(Error::OutOfMemory) => Err(Error::OutOfMemory),
             Err(_) => {
-                self.refused = self.refused.saturating_add(1);
+                self.history.refuse();
                 Ok(())
             }
         }
@@ -326,7 +229,7 @@ impl History {
             }
             Err(Error::OutOfMemory) => Err(Error::OutOfMemory),
             Err(_) => {
-                self.refused = self.refused.saturating_add(1);
+                self.history.refuse();
                 Ok(false)
             }
         }
@@ -335,42 +238,32 @@ impl History {
     /// Time has gone on to that moment. What was in flight up to it is looked up first, where
     /// something happened to it. Where moments go back, time stays.
     fn pass(&mut self, moment: u64) -> Result<(), Error> {
-        if self.first.is_none() {
-            self.first = Some(moment);
-            self.now = moment;
-        }
-        if moment <= self.now {
+        if !self.history.is_ahead(moment) {
             return Ok(());
         }
         if self.is_stale {
-            if self.budget.pay(self.busy, self.messages) {
+            if self
+                .budget
+                .pay(self.history.busy(), self.history.messages())
+            {
                 self.look()?;
             } else {
                 self.is_behind = true;
-                self.is_exact = false;
+                self.history.skip_a_look();
             }
         }
-        self.now = moment;
+        self.history.pass(moment);
         Ok(())
     }
 
     /// A call was made, and these messages are done now.
     fn finish(&mut self, completions: &[Completion<u64, Contents>]) -> Result<(), Error> {
-        let now = self.now;
-        let is_exact = !self.is_behind;
         self.is_stale = true;
         self.budget.earn(self.scheduler.rated_anew());
         for completion in completions {
-            if let Some(track) = self
-                .tracks
-                .get_mut(&(completion.origin, completion.recipient))
-            {
-                track.finish(now, completion.deliver_at, is_exact)?;
-                if track.is_idle() {
-                    self.busy = self.busy.saturating_sub(1);
-                }
-            }
-            self.last = completion.deliver_at.unwrap_or(now).max(self.last);
+            let pair = (completion.origin, completion.recipient);
+            self.history
+                .finish(pair, completion.deliver_at, !self.is_behind)?;
         }
         Ok(())
     }
@@ -378,27 +271,13 @@ impl History {
     /// Looks up what is in flight, and at which rates.
     fn look(&mut self) -> Result<(), Error> {
         let flying = self.scheduler.in_flight()?;
-        let now = self.now;
-        let is_exact = !self.is_behind;
         for flight in &flying {
-            if let Some(track) = self.tracks.get_mut(&(flight.origin, flight.recipient)) {
-                track.see(seen_at(now, flight), is_exact)?;
-            }
+            let seen = seen_at(self.history.now(), flight);
+            let pair = (flight.origin, flight.recipient);
+            self.history.see(pair, seen, !self.is_behind)?;
         }
         self.is_stale = false;
         self.is_behind = false;
-        Ok(())
-    }
-
-    /// A cap is set now. What was never capped is not drawn.
-    fn set_cap(&mut self, side: Side, cap: Option<usize>) -> Result<(), Error> {
-        if cap.is_none() && self.caps.get(&side).is_none() {
-            return Ok(());
-        }
-        let alloc = self.alloc;
-        let from = self.now;
-        let caps = self.caps.entry(side)?.or_insert(Vec::new(alloc));
-        caps.push(Cap { from, cap })?;
         Ok(())
     }
 }
@@ -430,26 +309,9 @@ fn moment_of(call: &Call<u64, usize>) -> u64 {
 
 /// A message in flight, as it stands at a moment.
 fn seen_at(now: u64, flight: &InFlight<u64>) -> Seen {
-    let rate = millionths(flight.rate.amount);
-    let passed = u128::from(now.saturating_sub(flight.since));
-    let sent = match rate.checked_mul(passed) {
-        Some(times) => times / BILLION,
-        None => (rate / BILLION).saturating_mul(passed),
+    let full = FullRate {
+        amount: flight.rate.amount,
+        is_exact: flight.rate.is_exact,
     };
-    Seen {
-        now,
-        left: millionths(flight.left.amount).saturating_sub(sent),
-        rate,
-        reading: flight.rate,
-    }
-}
-
-/// An amount in millionths, rounded down.
-pub(crate) fn millionths(amount: Ratio) -> u128 {
-    let numerator = amount.numerator();
-    let denominator = amount.denominator();
-    if let Some(times) = numerator.checked_mul(MILLION) {
-        return times / denominator;
-    }
-    (numerator / denominator).saturating_mul(MILLION)
+    Seen::new(now, flight.since, flight.left.amount, full)
 }

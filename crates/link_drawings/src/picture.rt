@@ -1,16 +1,16 @@
 //! The picture of a run.
 
-use super::board::Board;
-use super::caps::Side;
-use super::frame::{Frame, LEFT, SPAN, WIDTH};
-use super::head::{LEGEND, STYLE, draw_pair_legend, draw_title, legend_height};
-use super::history::History;
-use super::labels::{Count, Pace, Tick, digits, tick_step};
-use super::layout::{Layout, NONE};
-use super::options::Options;
-use super::rows::{Row, WIDE_ROW, draw_name, draw_pair};
-use super::stacks::{add_side, draw_cap, draw_cap_name, draw_peer};
-use super::sums::stretches;
+use crate::board::Board;
+use crate::caps::Side;
+use crate::frame::{Frame, LEFT, SPAN, WIDTH};
+use crate::head::{LEGEND, STYLE, draw_pair_legend, draw_title, legend_height};
+use crate::history::History;
+use crate::labels::{Count, Pace, Tick, digits, tick_step};
+use crate::layout::{Layout, NONE};
+use crate::options::Options;
+use crate::rows::{Row, WIDE_ROW, draw_name, draw_pair};
+use crate::stacks::{add_side, draw_cap, draw_cap_name, draw_peer};
+use crate::sums::stretches;
 use std::io;
 use std::io::{ErrorKind, Write};
 

@@ -1,17 +1,17 @@
 //! A page with a picture that can be moved and zoomed.
 
-use super::board::Board;
-use super::caps::Side;
-use super::frame::Frame;
-use super::history::{History, MILLION};
-use super::labels::Marked;
-use super::layout::Layout;
-use super::options::Options;
-use super::page_text::{BODY, HEAD, SCRIPT};
-use super::paint::quarter_of;
-use super::stacks::{add_side, sum_up};
-use super::sums::stretches;
-use super::track::{Sent, Track};
+use crate::board::Board;
+use crate::caps::Side;
+use crate::frame::Frame;
+use crate::history::{History, MILLION};
+use crate::labels::Marked;
+use crate::layout::Layout;
+use crate::options::Options;
+use crate::page_text::{BODY, HEAD, SCRIPT};
+use crate::paint::quarter_of;
+use crate::stacks::{add_side, sum_up};
+use crate::sums::stretches;
+use crate::track::{Sent, Track};
 use std::io;
 use std::io::{ErrorKind, Write};
 

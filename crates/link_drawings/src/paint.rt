@@ -1,7 +1,7 @@
 //! Areas and lines of a picture.
 
-use super::board::Board;
-use super::frame::Frame;
+use crate::board::Board;
+use crate::frame::Frame;
 use std::io;
 use std::io::Write;
 

@@ -1,11 +1,11 @@
 //! What happened in a run, as tables.
 
-use super::caps::Side;
-use super::exact::{Used, uses};
-use super::field::{Field, Line, Lines};
-use super::history::History;
-use super::options::Options;
-use super::track::{Piece, Sent, Track};
+use crate::caps::Side;
+use crate::exact::{Used, uses};
+use crate::field::{Field, Line, Lines};
+use crate::history::History;
+use crate::options::Options;
+use crate::track::{Piece, Sent, Track};
 use fair_rates::error::Error;
 use std::io;
 use std::io::{ErrorKind, Write};

@@ -1,8 +1,8 @@
 //! What became of the messages of one ordered pair.
 
-use super::history::MILLION;
+use crate::history::MILLION;
 use fair_rates::error::Error;
-use link_scheduler::transmitter::Reading;
+use fair_rates::ratio::Ratio;
 use std::alloc::Global;
 
 /// Nanoseconds in a second.
@@ -35,17 +35,43 @@ pub(crate) struct Piece {
     pub(crate) should_deliver: bool,
 }
 
-/// A rate as the scheduler tells it.
+/// A rate in full, in bytes a second.
+#[derive(Clone, Copy, Debug, PartialEq, Eq)]
+pub struct FullRate {
+    pub amount: Ratio,
+    /// Whether the rate is that amount, and not a little more.
+    pub is_exact: bool,
+}
+
+/// A message in flight, as it stands at a moment.
 #[derive(Clone, Copy, Debug)]
-pub(crate) struct Seen {
+pub struct Seen {
     /// The moment at which it was looked up.
-    pub(crate) now: u64,
+    now: u64,
     /// What is left at that moment, in millionths of a byte.
-    pub(crate) left: u128,
+    left: u128,
     /// In millionths of a byte a second.
-    pub(crate) rate: u128,
+    rate: u128,
     /// The rate in full.
-    pub(crate) reading: Reading,
+    full: FullRate,
+}
+
+impl Seen {
+    /// A message of which so many bytes were left at the moment `since`, looked up now.
+    pub fn new(now: u64, since: u64, left: Ratio, full: FullRate) -> Seen {
+        let rate = millionths(full.amount);
+        let passed = u128::from(now.saturating_sub(since));
+        let sent = match rate.checked_mul(passed) {
+            Some(times) => times / BILLION,
+            None => (rate / BILLION).saturating_mul(passed),
+        };
+        Seen {
+            now,
+            left: millionths(left).saturating_sub(sent),
+            rate,
+            full,
+        }
+    }
 }
 
 /// What is known of the first message that is not done.
@@ -55,7 +81,7 @@ struct Head {
     /// In millionths of a byte, at the moment `seen`.
     left: u128,
     /// None where it was not in flight.
-    rate: Option<(u128, Reading)>,
+    rate: Option<(u128, FullRate)>,
 }
 
 /// The messages of an ordered pair, in order of enqueue.
@@ -64,7 +90,7 @@ pub(crate) struct Track {
     pub(crate) messages: Vec<Sent>,
     pub(crate) pieces: Vec<Piece>,
     /// The rates of the pieces in full, where these are kept.
-    pub(crate) readings: Vec<Option<Reading>>,
+    pub(crate) readings: Vec<Option<FullRate>>,
     keeps_readings: bool,
     /// The colour of the pair.
     pub(crate) shade: usize,
@@ -92,7 +118,7 @@ impl Track {
     }
 
     /// The rate of a piece in full, where it is known.
-    pub(crate) fn reading(&self, place: usize) -> Option<Reading> {
+    pub(crate) fn reading(&self, place: usize) -> Option<FullRate> {
         match self.readings.get(place) {
             Some(reading) => *reading,
             None => None,
@@ -136,7 +162,7 @@ impl Track {
         self.head = Head {
             seen: seen.now,
             left: seen.left,
-            rate: Some((seen.rate, seen.reading)),
+            rate: Some((seen.rate, seen.full)),
         };
         Ok(())
     }
@@ -203,7 +229,7 @@ impl Track {
         from: u64,
         to: u64,
         rate: u128,
-        reading: Option<Reading>,
+        reading: Option<FullRate>,
     ) -> Result<(), Error> {
         let message = self.done;
         if let Some(last) = self.pieces.last_mut() {
@@ -243,4 +269,14 @@ fn pace(sent: u128, time: u64) -> u128 {
         Some(times) => times / time,
         None => (sent / time).saturating_mul(BILLION),
     }
+}
+
+/// An amount in millionths, rounded down.
+fn millionths(amount: Ratio) -> u128 {
+    let numerator = amount.numerator();
+    let denominator = amount.denominator();
+    if let Some(times) = numerator.checked_mul(MILLION) {
+        return times / denominator;
+    }
+    (numerator / denominator).saturating_mul(MILLION)
 }

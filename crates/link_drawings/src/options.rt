@@ -1,7 +1,7 @@
 //! What is asked of a run.
-use super::caps::Side;
-use super::field::Lines;
-use super::table::Table;
+use crate::caps::Side;
+use crate::field::Lines;
+use crate::table::Table;
 use std::alloc::Global;
 
 /// What is written of a run.

@@ -1,11 +1,11 @@
 //! The head of a picture: styles, title and legends.
 
-use super::caps::Side;
-use super::frame::LEFT;
-use super::history::History;
-use super::labels::{Count, Marked, Moment, letters};
-use super::layout::Layout;
-use super::options::Options;
+use crate::caps::Side;
+use crate::frame::LEFT;
+use crate::history::History;
+use crate::labels::{Count, Marked, Moment, letters};
+use crate::layout::Layout;
+use crate::options::Options;
 use std::io;
 use std::io::Write;
 

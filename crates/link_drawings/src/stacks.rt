@@ -1,12 +1,12 @@
 //! The rows of caps, and of what peers send and receive.
 
-use super::board::Board;
-use super::caps::{Cap, Side};
-use super::frame::{Frame, LEFT, SPAN};
-use super::history::History;
-use super::labels::Pace;
-use super::paint::{Band, fill, fill_between, line, mark_quarter};
-use super::sums::Stretch;
+use crate::board::Board;
+use crate::caps::{Cap, Side};
+use crate::frame::{Frame, LEFT, SPAN};
+use crate::history::History;
+use crate::labels::Pace;
+use crate::paint::{Band, fill, fill_between, line, mark_quarter};
+use crate::sums::Stretch;
 use std::io;
 use std::io::Write;
 

@@ -1,7 +1,7 @@
 //! Rates by column.
 
-use super::frame::Frame;
-use super::track::Piece;
+use crate::frame::Frame;
+use crate::track::Piece;
 use std::alloc::{AllocError, Global};
 
 /// For each column a lower and an upper rate, in millionths of a byte a second, and for how long

@@ -2,7 +2,7 @@
 
 /// What a cap holds for.
 #[derive(Clone, Copy, Debug, PartialEq, Eq, PartialOrd, Ord)]
-pub(crate) enum Side {
+pub enum Side {
     /// All that a peer sends.
     Egress(u64),
     /// All that a peer receives.

@@ -1,7 +1,7 @@
 //! Moments, rates and sides in words.
 
-use super::caps::Side;
-use super::history::MILLION;
+use crate::caps::Side;
+use crate::history::MILLION;
 use std::fmt;
 
 /// A number and its unit, to three places, with no zeros at its end.
