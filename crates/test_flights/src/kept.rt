@@ -1,9 +1,9 @@
 //! Calls between two peers, beside much that is kept of others.
-use super::calls::contents;
-use super::text::MILLI;
 use bytes::Bytes;
 use fair_rates::error::Error;
 use link_scheduler::transmitter::{Completion, State};
+use scheduler_calls::calls::contents;
+use scheduler_calls::text::MILLI;
 use std::alloc::Global;
 use std::process::Abort;
 

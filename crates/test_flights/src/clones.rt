@@ -1,9 +1,9 @@
 //! How many peers a call clones.
-use super::calls::contents;
-use super::text::MILLI;
 use fair_rates::error::Error;
 use fair_rates::peer::Peer;
 use link_scheduler::transmitter::{Completion, State};
+use scheduler_calls::calls::contents;
+use scheduler_calls::text::MILLI;
 use std::alloc::{AllocError, Global};
 use std::cell::Cell;
 use std::process::Abort;

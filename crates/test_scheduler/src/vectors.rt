@@ -1,5 +1,5 @@
 //! Schedules of a few messages, walked from event to event.
-use super::play;
+use scheduler_calls::text::play;
 use std::test::Fail;
 
 #[test]

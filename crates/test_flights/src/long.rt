@@ -1,7 +1,6 @@
 //! Long queues, and long lists of calls.
-use super::calls::{Calls, Parcel, bytes_from};
-use super::play;
-use super::text::MILLI;
+use scheduler_calls::calls::{Calls, Parcel, bytes_from};
+use scheduler_calls::text::{MILLI, play};
 use std::alloc::Global;
 use std::test::Fail;
 
@@ -22,14 +21,12 @@ fn emptied(alloc: Global, length: usize) -> Result<Calls<u64>, Fail> {
 
 #[test]
 fn a_long_queue_empties_in_one_call(rt: HostRuntime) -> Result<(), Fail> {
-    emptied(rt.alloc(), 2001)?.expect(&rt);
-    Ok(())
+    emptied(rt.alloc(), 2001)?.expect()
 }
 
 #[test]
 fn a_very_long_queue_empties_in_one_call(rt: HostRuntime) -> Result<(), Fail> {
-    emptied(rt.alloc(), 100_000)?.expect_each(&rt);
-    Ok(())
+    emptied(rt.alloc(), 100_000)?.expect_each()
 }
 
 #[test]
@@ -87,6 +84,5 @@ fn thousands_of_calls_are_made(rt: HostRuntime) -> Result<(), Fail> {
         calls.done(place, Some(end + 3))?;
     }
     calls.next(None)?;
-    calls.expect(&rt);
-    Ok(())
+    calls.expect()
 }

@@ -18,17 +18,39 @@
 //! Moments and latencies are in nanoseconds, caps in bytes a second and lengths in bytes. A moment or
 //! a cap that there is not is `-`. `ms` and `s` after a number are milliseconds and seconds, `last` is
 //! the last moment, and `+` and `-` stand between two of these.
-use super::calls::{Calls, Parcel};
+use crate::calls::{Calls, Parcel};
 use fair_rates::error::Error;
 use numbered_peers::Numbered;
-use std::process::Abort;
 use std::str::SplitWhitespace;
 use std::test::Fail;
 
 /// Nanoseconds in a second and in a millisecond.
 const SECOND: u64 = 1_000_000_000;
 
-pub(crate) const MILLI: u64 = 1_000_000;
+pub const MILLI: u64 = 1_000_000;
+
+/// Makes the calls of a text on a scheduler whose flow ids begin at `first`, as a list and one by one,
+/// and compares each answer with the wanted one.
+pub fn play<P: Numbered>(rt: &impl AllocGlobal, first: u64, text: &str) -> Result<(), Fail> {
+    let mut calls = Calls::<P>::new(rt.alloc(), first, true);
+    calls.read(text)?;
+    calls.expect()
+}
+
+/// The same with flow ids from 0 on, and then once more with each list of messages sent one by one.
+pub fn play_both<P: Numbered>(rt: &impl AllocGlobal, text: &str) -> Result<(), Fail> {
+    play::<P>(rt, 0, text)?;
+    let mut calls = Calls::<P>::new(rt.alloc(), 0, false);
+    calls.read(text)?;
+    calls.expect()
+}
+
+/// Makes the calls of a text as a list alone.
+pub fn play_list<P: Numbered>(rt: &impl AllocGlobal, text: &str) -> Result<(), Fail> {
+    let mut calls = Calls::<P>::new(rt.alloc(), 0, true);
+    calls.read(text)?;
+    calls.expect_list()
+}
 
 /// The words of a line that are not read yet.
 #[derive(Drop)]
@@ -125,7 +147,7 @@ fn fitting(number: Option<u64>) -> Result<u64, Fail> {
 
 impl<P: Numbered> Calls<P> {
     /// Goes on with the calls of a text.
-    pub(crate) fn read(&mut self, text: &str) -> Result<(), Fail> {
+    pub fn read(&mut self, text: &str) -> Result<(), Fail> {
         let mut is_empty = true;
         for line in text.lines() {
             let mut words = Words {

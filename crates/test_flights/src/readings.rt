@@ -1,22 +1,23 @@
 //! What is in flight, and how it is read.
-use crate::scheduler::calls::{Calls, Parcel, bytes_from};
 use fair_rates::ratio::Ratio;
 use link_scheduler::transmitter::{InFlight, State};
+use scheduler_calls::calls::{Calls, Parcel, bytes_from};
 use std::alloc::Global;
 use std::process::Abort;
 use std::test::Fail;
 
 /// What is read of the messages in flight after these calls.
-fn read_after(rt: &impl Abort, calls: Calls<u64>) -> Vec<InFlight<u64>> {
-    let state = calls.made_each(rt);
-    state.in_flight().expect(rt, "no room for the readings")
+fn read_after(calls: Calls<u64>) -> Result<Vec<InFlight<u64>>, Fail> {
+    let mut state = calls.new_state();
+    calls.make_each(&mut state)?;
+    Ok(state.in_flight()?)
 }
 
 /// What is read of them after the calls of a text.
-fn flying(rt: &(impl Abort + AllocGlobal), text: &str) -> Result<Vec<InFlight<u64>>, Fail> {
+fn flying(rt: &impl AllocGlobal, text: &str) -> Result<Vec<InFlight<u64>>, Fail> {
     let mut calls = Calls::<u64>::new(rt.alloc(), 0, true);
     calls.read(text)?;
-    Ok(read_after(rt, calls))
+    read_after(calls)
 }
 
 /// Compares what is read of one message with a recipient, what is left, the rate and a moment.
@@ -146,7 +147,7 @@ fn expect_rounded(rt: &impl Abort, reading: Option<&InFlight<u64>>) {
 /// bits. It is 1000000 less 5.177.
 #[test]
 fn what_does_not_fit_is_rounded_down(rt: HostRuntime) -> Result<(), Fail> {
-    let readings = read_after(&rt, hundred_shares(rt.alloc())?);
+    let readings = read_after(hundred_shares(rt.alloc())?)?;
     expect_rounded(&rt, readings.get(0));
     Ok(())
 }
@@ -157,7 +158,7 @@ fn others_come_to_many_shares(rt: HostRuntime) -> Result<(), Fail> {
     let mut calls = hundred_shares(rt.alloc())?;
     calls.read("limit 99 200 1000 -\nsend 99 200 201 1000 0\nflying 101\n")?;
     calls.read("send 99 200 3 10 0\nflying 102\n")?;
-    let readings = read_after(&rt, calls);
+    let readings = read_after(calls)?;
     expect_rounded(&rt, readings.get(0));
     Ok(())
 }

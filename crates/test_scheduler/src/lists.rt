@@ -1,5 +1,5 @@
 //! Lists of messages among the calls of `replay`.
-use super::{play, play_both};
+use scheduler_calls::text::{play, play_both};
 use std::test::Fail;
 
 /// Lists at the start, and at a moment up to which time has gone on: empty messages, some that wait

@@ -1,5 +1,5 @@
 //! The end of time, and the end of the ids.
-use super::play;
+use scheduler_calls::text::play;
 use std::test::Fail;
 
 #[test]

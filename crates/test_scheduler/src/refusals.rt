@@ -1,10 +1,10 @@
 //! Calls that are refused, and the calls after them.
 ghost use Rattle.std.specs.Prelude.{nat_lt, if◌then◌else◌, ◌-◌};
 
-use super::calls::{Calls, Parcel, bytes_from};
-use super::{play, play_list};
 use fair_rates::peer::Peer;
 use numbered_peers::Numbered;
+use scheduler_calls::calls::{Calls, Parcel, bytes_from};
+use scheduler_calls::text::{play, play_list};
 use std::test::Fail;
 
 /// Values of these numbers and above cannot be cloned.
@@ -128,8 +128,7 @@ fn parts_past_128_bits_are_answered(rt: HostRuntime) -> Result<(), Fail> {
         calls.done(place, Some(51))?;
     }
     calls.next(None)?;
-    calls.expect(&rt);
-    Ok(())
+    calls.expect()
 }
 
 /// Before any limit: the calls whose arguments cannot be cloned are not made, so no limit comes.

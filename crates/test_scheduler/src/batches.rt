@@ -1,5 +1,5 @@
 //! Lists of messages that are sent at one moment.
-use super::{play, play_both};
+use scheduler_calls::text::{play, play_both};
 use std::test::Fail;
 
 /// A list of messages of each kind, under caps of peers and of a link.

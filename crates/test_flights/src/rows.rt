@@ -1,9 +1,9 @@
 //! Single rules, each on a few messages.
-use super::answers::are_done;
-use super::calls::Calls;
-use super::play;
 use link_scheduler::replay::{Call, Reply, replay};
 use link_scheduler::transmitter::Completion;
+use scheduler_calls::answers::are_done;
+use scheduler_calls::calls::Calls;
+use scheduler_calls::text::play;
 use std::alloc::Global;
 use std::test::Fail;
 

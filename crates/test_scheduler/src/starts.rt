@@ -1,5 +1,5 @@
 //! When waiting messages start.
-use super::play;
+use scheduler_calls::text::play;
 use std::test::Fail;
 
 #[test]

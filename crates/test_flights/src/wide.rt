@@ -1,7 +1,6 @@
 //! Links, many pairs, and moments that go back.
-use super::calls::{Calls, bytes_from};
-use super::play;
-use std::process::Abort;
+use scheduler_calls::calls::{Calls, bytes_from};
+use scheduler_calls::text::play;
 use std::test::Fail;
 
 #[test]
@@ -166,7 +165,7 @@ fn two_senders_drain_apart(rt: HostRuntime) -> Result<(), Fail> {
 }
 
 /// So many messages of a byte each, to as many peers, take a second together.
-fn share_a_cap(rt: &(impl Abort + AllocGlobal), flows: usize) -> Result<(), Fail> {
+fn share_a_cap(rt: &impl AllocGlobal, flows: usize) -> Result<(), Fail> {
     let mut calls = Calls::<u64>::new(rt.alloc(), 0, true);
     calls.limit(0, 1, Some(flows), None)?;
     for (_, recipient) in (0..flows).zip(2..=u8::MAX) {
@@ -177,8 +176,7 @@ fn share_a_cap(rt: &(impl Abort + AllocGlobal), flows: usize) -> Result<(), Fail
         calls.done(place, Some(1_000_000_000))?;
     }
     calls.next(None)?;
-    calls.expect(rt);
-    Ok(())
+    calls.expect()
 }
 
 #[test]

@@ -1,5 +1,5 @@
 //! Large numbers, shares that are no whole numbers, calls in two steps, and peers that never meet.
-use super::play;
+use scheduler_calls::text::play;
 use std::test::Fail;
 
 #[test]

@@ -3,7 +3,7 @@ use Rattle.std.proofs.lemmas.Cmp.{tied_itself}
 use Rattle.std.specs.Cmp.Lexicographic.{slice_cmp}
 use Rattle.std.specs.Ordering.{nat_cmp}
 use Rattle.std.specs.String.{string_cmp_total}
-use Rattle.test_scheduler.proofs.scheduler.clones.NamePeer.clone_peer.Goals as goal
+use Rattle.test_flights.proofs.clones.NamePeer.clone_peer.Goals as goal
 
 -- the copy has the same text
 pub returns : goal.returns

@@ -1,6 +1,6 @@
 //! Peers of unusual orders, and moments that go back.
-use super::play;
 use numbered_peers::{Backward, Marked};
+use scheduler_calls::text::play;
 use std::test::Fail;
 
 /// Two idle pairs of one origin that are ready at one moment start in the order of pairs.

@@ -1,5 +1,5 @@
 //! What a call is answered, compared with what was wanted.
-use super::calls::Parcel;
+use crate::calls::Parcel;
 use fair_rates::error::Error;
 use fair_rates::peer::Peer;
 use link_scheduler::replay::{Call, Reply};
@@ -8,17 +8,17 @@ use numbered_peers::Numbered;
 
 /// What is wanted of a completion.
 #[derive(Clone, Copy)]
-pub(crate) struct Arrival {
+pub struct Arrival {
     /// The place of its message among all that are sent.
-    pub(crate) place: usize,
-    pub(crate) deliver_at: Option<u64>,
+    pub place: usize,
+    pub deliver_at: Option<u64>,
     /// When the message is done, where that is said.
-    pub(crate) done_at: Option<u64>,
+    pub done_at: Option<u64>,
 }
 
 /// What a call is to be answered.
 #[derive(Clone, Copy)]
-pub(crate) enum Wanted {
+pub enum Wanted {
     /// Of all arrivals those from the one place up to the other.
     Done(usize, usize),
     /// That moment is next, or none.
@@ -28,18 +28,18 @@ pub(crate) enum Wanted {
 
 /// What is to be counted at a call, where that is said.
 #[derive(Clone, Copy)]
-pub(crate) struct Counts {
+pub struct Counts {
     /// The events through which an advance goes.
-    pub(crate) events: Option<u128>,
+    pub events: Option<u128>,
     /// The messages in flight after the call.
-    pub(crate) flying: Option<usize>,
+    pub flying: Option<usize>,
     /// The messages that were rated anew.
-    pub(crate) rated: Option<usize>,
+    pub rated: Option<usize>,
 }
 
 impl Counts {
     /// Nothing is counted.
-    pub(crate) fn none() -> Counts {
+    pub fn none() -> Counts {
         Counts {
             events: None,
             flying: None,
@@ -49,7 +49,7 @@ impl Counts {
 }
 
 /// Whether these are the counts, after a call that went through so many events.
-pub(crate) fn are_counted<P: Peer>(state: &State<P>, events: Option<u128>, counts: Counts) -> bool {
+pub fn are_counted<P: Peer>(state: &State<P>, events: Option<u128>, counts: Counts) -> bool {
     let are_flying = match counts.flying {
         None => true,
         Some(count) => flying(state) == Some(count),
@@ -70,7 +70,7 @@ fn flying<P: Peer>(state: &State<P>) -> Option<usize> {
 }
 
 /// What a call is answered, and through how many events it went, if it is an advance.
-pub(crate) fn answer<P: Peer>(state: &mut State<P>, call: Call<P>) -> (Reply<P>, Option<u128>) {
+pub fn answer<P: Peer>(state: &mut State<P>, call: Call<P>) -> (Reply<P>, Option<u128>) {
     let answered = match call {
         Call::Advance { now } => match state.advance_counted(now) {
             Ok((completions, events)) => return (Reply::Done(completions), Some(events)),
@@ -86,7 +86,7 @@ pub(crate) fn answer<P: Peer>(state: &mut State<P>, call: Call<P>) -> (Reply<P>,
 
 /// Whether a reply is the wanted one. `sent` are the messages, and `arrivals` what completes at all
 /// calls.
-pub(crate) fn is_wanted<P: Numbered>(
+pub fn is_wanted<P: Numbered>(
     sent: &[Parcel],
     arrivals: &[Arrival],
     reply: &Reply<P>,
@@ -104,7 +104,7 @@ pub(crate) fn is_wanted<P: Numbered>(
 }
 
 /// Whether these completions, and no others, were wanted.
-pub(crate) fn are_done<P: Numbered>(
+pub fn are_done<P: Numbered>(
     sent: &[Parcel],
     completions: &[Completion<P>],
     arrivals: &[Arrival],

@@ -1,6 +1,6 @@
 //! Idle pairs for which messages wait, each from a moment of its own on.
-use super::calls::{Calls, Parcel, bytes_from};
-use super::play;
+use scheduler_calls::calls::{Calls, Parcel, bytes_from};
+use scheduler_calls::text::play;
 use std::alloc::Global;
 use std::test::Fail;
 
@@ -54,8 +54,7 @@ fn start_one_by_one(calls: &mut Calls<u64>, first: u64) -> Result<(), Fail> {
 fn many_pairs_start_each_at_its_own_moment(rt: HostRuntime) -> Result<(), Fail> {
     let mut calls = hundred_waiting(rt.alloc())?;
     start_one_by_one(&mut calls, 1)?;
-    calls.expect(&rt);
-    Ok(())
+    calls.expect()
 }
 
 /// The pairs whose last arrival is before 505 start then together, in the order of pairs. Answers how
@@ -80,8 +79,7 @@ fn many_pairs_that_are_overdue_start_in_their_order(rt: HostRuntime) -> Result<(
     let mut calls = hundred_waiting(rt.alloc())?;
     assert_eq!(rt; start_overdue(&mut calls)?, 50);
     start_one_by_one(&mut calls, 51)?;
-    calls.expect(&rt);
-    Ok(())
+    calls.expect()
 }
 
 /// The second message that waits for a pair could start earlier than the first, by its longer way,

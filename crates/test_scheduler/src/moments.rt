@@ -1,5 +1,5 @@
 //! When messages are done: those that arrive later, and those that are dropped.
-use super::play;
+use scheduler_calls::text::play;
 use std::test::Fail;
 
 /// Half of the cap is that of the dropped message, up to 1s. The other one has 500 bytes left then.

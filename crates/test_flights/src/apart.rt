@@ -1,5 +1,5 @@
 //! Messages of peers that share nothing, and what comes where they meet.
-use super::{play, play_both};
+use scheduler_calls::text::{play, play_both};
 use std::test::Fail;
 
 /// Messages that share no peer, done at one moment, come in the order in which they started.

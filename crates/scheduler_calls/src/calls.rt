@@ -1,28 +1,27 @@
 //! A list of calls, made by itself and all of them by `replay`.
-use super::answers::{Arrival, Counts, Wanted, answer, are_counted, is_wanted};
+use crate::answers::{Arrival, Counts, Wanted, answer, are_counted, is_wanted};
 use bytes::Bytes;
 use fair_rates::error::Error;
 use link_scheduler::replay::{Call, replay};
 use link_scheduler::transmitter::{Outgoing, State};
 use numbered_peers::Numbered;
 use std::alloc::{AllocError, Global};
-use std::process::Abort;
 use std::test::Fail;
 
 /// A message to be sent. Its channel is its place among all that are sent, and each of its bytes is
 /// that place, too.
 #[derive(Clone, Copy)]
-pub(crate) struct Parcel {
-    pub(crate) now: u64,
-    pub(crate) origin: u8,
-    pub(crate) recipient: u8,
-    pub(crate) length: usize,
-    pub(crate) latency: u64,
-    pub(crate) is_dropped: bool,
+pub struct Parcel {
+    pub now: u64,
+    pub origin: u8,
+    pub recipient: u8,
+    pub length: usize,
+    pub latency: u64,
+    pub is_dropped: bool,
 }
 
 /// A message of so many bytes, sent at moment zero and without latency.
-pub(crate) fn bytes_from(origin: u8, recipient: u8, length: usize) -> Parcel {
+pub fn bytes_from(origin: u8, recipient: u8, length: usize) -> Parcel {
     Parcel {
         now: 0,
         origin,
@@ -34,7 +33,7 @@ pub(crate) fn bytes_from(origin: u8, recipient: u8, length: usize) -> Parcel {
 }
 
 /// The bytes of the message at that place among all that are sent.
-pub(crate) fn contents(alloc: Global, place: usize, length: usize) -> Result<Bytes, AllocError> {
+pub fn contents(alloc: Global, place: usize, length: usize) -> Result<Bytes, AllocError> {
     let bytes = vec![in alloc; (place % 256) as u8; length]?;
     Ok(Bytes::from_vec(bytes)?)
 }
@@ -42,28 +41,28 @@ pub(crate) fn contents(alloc: Global, place: usize, length: usize) -> Result<Byt
 /// A list of calls on a new scheduler, and what each is to be answered: where nothing is said,
 /// that nothing completes.
 #[derive(Drop)]
-pub(crate) struct Calls<P> {
-    pub(crate) alloc: Global,
+pub struct Calls<P> {
+    pub alloc: Global,
     /// The first flow id.
-    pub(crate) first: u64,
+    pub first: u64,
     /// Whether a list of messages is sent as one call, and not by a call for each of them.
     as_lists: bool,
     /// How many messages the list that is sent last still lacks.
     lacks: u64,
     /// How many peers were named.
     named: u64,
-    pub(crate) calls: Vec<Call<P>>,
+    pub calls: Vec<Call<P>>,
     wanted: Vec<Wanted>,
     /// What is to be counted at each call.
     counts: Vec<Counts>,
     /// What completes at each call, one call after the other.
-    pub(crate) arrivals: Vec<Arrival>,
-    pub(crate) sent: Vec<Parcel>,
+    pub arrivals: Vec<Arrival>,
+    pub sent: Vec<Parcel>,
 }
 
 impl<P: Numbered> Calls<P> {
     /// No calls yet, for a scheduler whose flow ids begin at `first`.
-    pub(crate) fn new(alloc: Global, first: u64, as_lists: bool) -> Calls<P> {
+    pub fn new(alloc: Global, first: u64, as_lists: bool) -> Calls<P> {
         Calls {
             alloc,
             first,
@@ -97,7 +96,7 @@ impl<P: Numbered> Calls<P> {
     }
 
     /// Sets the caps of a peer.
-    pub(crate) fn limit(
+    pub fn limit(
         &mut self,
         now: u64,
         peer: u8,
@@ -114,7 +113,7 @@ impl<P: Numbered> Calls<P> {
     }
 
     /// Sets the cap of a link.
-    pub(crate) fn link(
+    pub fn link(
         &mut self,
         now: u64,
         origin: u8,
@@ -132,7 +131,7 @@ impl<P: Numbered> Calls<P> {
     }
 
     /// Sends a message, alone or as one of the list that lacks messages.
-    pub(crate) fn send(&mut self, parcel: Parcel) -> Result<(), Fail> {
+    pub fn send(&mut self, parcel: Parcel) -> Result<(), Fail> {
         let place = self.sent.len();
         let message = contents(self.alloc, place, parcel.length)?;
         self.sent.push(parcel)?;
@@ -165,7 +164,7 @@ impl<P: Numbered> Calls<P> {
     }
 
     /// Sends a list of that many messages, those that are sent next.
-    pub(crate) fn list(&mut self, now: u64, messages: u64) -> Result<(), Fail> {
+    pub fn list(&mut self, now: u64, messages: u64) -> Result<(), Fail> {
         if self.as_lists {
             let none = Vec::new(self.alloc);
             self.add(Call::EnqueueAll {
@@ -178,12 +177,12 @@ impl<P: Numbered> Calls<P> {
     }
 
     /// Lets time pass.
-    pub(crate) fn advance(&mut self, now: u64) -> Result<(), Fail> {
+    pub fn advance(&mut self, now: u64) -> Result<(), Fail> {
         self.add(Call::Advance { now })
     }
 
     /// Asks for the next event, and wants that moment.
-    pub(crate) fn next(&mut self, moment: Option<u64>) -> Result<(), Fail> {
+    pub fn next(&mut self, moment: Option<u64>) -> Result<(), Fail> {
         self.add(Call::Next)?;
         self.want(Wanted::Next(moment))
     }
@@ -196,7 +195,7 @@ impl<P: Numbered> Calls<P> {
     }
 
     /// At the last call this message completes, after those that were said before.
-    pub(crate) fn done(&mut self, place: usize, deliver_at: Option<u64>) -> Result<(), Fail> {
+    pub fn done(&mut self, place: usize, deliver_at: Option<u64>) -> Result<(), Fail> {
         let Some(Wanted::Done(from, _)) = self.wanted.pop() else {
             return Err(Fail::new("no call at which a message completes"));
         };
@@ -211,7 +210,7 @@ impl<P: Numbered> Calls<P> {
     }
 
     /// The message that was said last to complete is done at that moment.
-    pub(crate) fn done_at(&mut self, moment: u64) -> Result<(), Fail> {
+    pub fn done_at(&mut self, moment: u64) -> Result<(), Fail> {
         let mut arrival = self.arrivals.pop().ok_or("no message completes")?;
         arrival.done_at = Some(moment);
         self.arrivals.push(arrival)?;
@@ -219,7 +218,7 @@ impl<P: Numbered> Calls<P> {
     }
 
     /// The last call is an advance that goes through so many events.
-    pub(crate) fn events(&mut self, count: u64) -> Result<(), Fail> {
+    pub fn events(&mut self, count: u64) -> Result<(), Fail> {
         let Some(Call::Advance { .. }) = self.calls.last() else {
             return Err(Fail::new("only an advance goes through events"));
         };
@@ -232,7 +231,7 @@ impl<P: Numbered> Calls<P> {
     }
 
     /// After the last call so many messages are in flight.
-    pub(crate) fn flying(&mut self, count: usize) -> Result<(), Fail> {
+    pub fn flying(&mut self, count: usize) -> Result<(), Fail> {
         let counts = self.counts.pop().ok_or("no call")?;
         self.counts.push(Counts {
             flying: Some(count),
@@ -242,7 +241,7 @@ impl<P: Numbered> Calls<P> {
     }
 
     /// At the last call, or at its last event, so many messages in flight are rated anew.
-    pub(crate) fn rated(&mut self, count: usize) -> Result<(), Fail> {
+    pub fn rated(&mut self, count: usize) -> Result<(), Fail> {
         let counts = self.counts.pop().ok_or("no call")?;
         self.counts.push(Counts {
             rated: Some(count),
@@ -252,7 +251,7 @@ impl<P: Numbered> Calls<P> {
     }
 
     /// The last call is refused.
-    pub(crate) fn refused(&mut self, error: Error) -> Result<(), Fail> {
+    pub fn refused(&mut self, error: Error) -> Result<(), Fail> {
         if self.calls.is_empty() {
             return Err(Fail::new("no call that is refused"));
         }
@@ -261,59 +260,71 @@ impl<P: Numbered> Calls<P> {
 
     /// Makes the calls as a list, where its flow ids begin at 0 as those of `replay` do, and then one
     /// by one. Compares each reply with the wanted one.
-    pub(crate) fn expect(self, rt: &impl Abort) {
+    pub fn expect(self) -> Result<(), Fail> {
         if self.first == 0 {
-            self.expect_list(rt);
+            self.expect_list()?;
         }
-        self.expect_each(rt);
+        self.expect_each()
     }
 
     /// There are calls, each has an answer that is wanted, and no list lacks messages.
-    fn expect_whole(&self, rt: &impl Abort) {
-        assert!(rt; !self.calls.is_empty(), "no calls");
-        assert!(rt; self.lacks == 0, "a list lacks messages");
-        assert!(rt;
-            self.wanted.len() == self.calls.len(),
-            "a call has no answer"
-        );
-        assert!(rt;
-            self.counts.len() == self.calls.len(),
-            "a call has no counts"
-        );
+    fn expect_whole(&self) -> Result<(), Fail> {
+        if self.calls.is_empty() {
+            return Err(Fail::new("no calls"));
+        }
+        if self.lacks > 0 {
+            return Err(Fail::new("a list lacks messages"));
+        }
+        if self.wanted.len() != self.calls.len() {
+            return Err(Fail::new("a call has no answer"));
+        }
+        if self.counts.len() != self.calls.len() {
+            return Err(Fail::new("a call has no counts"));
+        }
+        Ok(())
     }
 
     /// Makes the calls one by one, and compares each reply with the wanted one.
-    pub(crate) fn expect_each(self, rt: &impl Abort) {
-        let _state = self.made_each(rt);
+    pub fn expect_each(self) -> Result<(), Fail> {
+        let mut state = self.new_state();
+        self.make_each(&mut state)
     }
 
-    /// The same, and answers the scheduler after the calls.
-    pub(crate) fn made_each(self, rt: &impl Abort) -> State<P> {
-        self.expect_whole(rt);
-        let mut state = State::with_first_id(self.alloc, self.first);
+    /// A new scheduler for the calls.
+    pub fn new_state(&self) -> State<P> {
+        State::with_first_id(self.alloc, self.first)
+    }
+
+    /// Makes the calls one by one on a new scheduler, and compares each reply with the wanted one.
+    pub fn make_each(self, state: &mut State<P>) -> Result<(), Fail> {
+        self.expect_whole()?;
         let calls = self.calls.into_iter();
         let wanted = self.wanted.iter().zip(&self.counts);
         for (place, (call, (wanted, counts))) in calls.zip(wanted).enumerate() {
-            let (reply, events) = answer(&mut state, call);
-            let is_right = is_wanted(&self.sent, &self.arrivals, &reply, *wanted);
-            assert!(rt; is_right, "the answer to call {place}");
-            assert!(rt;
-                are_counted(&state, events, *counts),
-                "the counts at call {place}"
-            );
+            let (reply, events) = answer(state, call);
+            if !is_wanted(&self.sent, &self.arrivals, &reply, *wanted) {
+                return Err(Fail::new(format_args!("the answer to call {place}")));
+            }
+            if !are_counted(state, events, *counts) {
+                return Err(Fail::new(format_args!("the counts at call {place}")));
+            }
         }
-        state
+        Ok(())
     }
 
     /// Makes the calls as a list, and compares each reply with the wanted one.
-    pub(crate) fn expect_list(&self, rt: &impl Abort) {
-        self.expect_whole(rt);
-        let replies = replay(self.alloc, &self.calls).expect(rt, "no room for the replies");
-        assert!(rt; replies.len() == self.calls.len(), "a call has no reply");
-        for (place, (reply, wanted)) in replies.iter().zip(&self.wanted).enumerate() {
-            let is_right = is_wanted(&self.sent, &self.arrivals, reply, *wanted);
-            assert!(rt; is_right, "the reply to call {place}");
+    pub fn expect_list(&self) -> Result<(), Fail> {
+        self.expect_whole()?;
+        let replies = replay(self.alloc, &self.calls)?;
+        if replies.len() != self.calls.len() {
+            return Err(Fail::new("a call has no reply"));
         }
+        for (place, (reply, wanted)) in replies.iter().zip(&self.wanted).enumerate() {
+            if !is_wanted(&self.sent, &self.arrivals, reply, *wanted) {
+                return Err(Fail::new(format_args!("the reply to call {place}")));
+            }
+        }
+        Ok(())
     }
 }
 
