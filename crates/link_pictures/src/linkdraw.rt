@@ -2,39 +2,21 @@
 ghost use Rattle.std.specs.Prelude.{IfOk};
 ghost use Rattle.link_scripts.specs.Outcome.{CountsFromOne};
 
-mod board;
 mod budget;
-mod caps;
-mod exact;
-mod field;
-mod frame;
-mod head;
-mod history;
-mod labels;
-mod layout;
-mod options;
-mod page;
-mod page_text;
-mod paint;
-mod picture;
-mod rows;
-mod stacks;
-mod sums;
-mod table;
-mod track;
+mod follower;
 
-use board::Board;
-pub use field::Lines;
-use history::History;
-use layout::Layout;
+use follower::Follower;
+use link_drawings::drawing;
+pub use link_drawings::field::Lines;
+use link_drawings::history::History;
+pub use link_drawings::options::{Form, Options};
+pub use link_drawings::table::Table;
 use link_scripts::linkrun::command::Command;
 use link_scripts::linkrun::line::LineEnd;
 use link_scripts::linkrun::{Outcome, line};
-pub use options::{Form, Options};
 use std::alloc::Global;
 use std::io;
 use std::io::{BufReader, BufWriter, ErrorKind, Read, Write};
-pub use table::Table;
 
 /// Runs the script that `input` gives, and writes a picture of the run on `output`: one SVG.
 ///
@@ -80,10 +62,10 @@ pub fn draw_keeping_line<R: Read, W: Write>(
 ) -> Outcome
     ensures { CountsFromOne result }
 {
-    let mut history = History::new(alloc, matches!(options.form, Form::Table(_, _)));
-    match read_script(alloc, input, &mut history, line) {
-        Outcome::Whole => match history.conclude(options) {
-            Ok(time) => write(alloc, &history, options, time, output),
+    let mut follower = Follower::new(alloc, matches!(options.form, Form::Table(_, _)));
+    match read_script(alloc, input, &mut follower, line) {
+        Outcome::Whole => match follower.conclude(options) {
+            Ok(time) => write(alloc, follower.history(), options, time, output),
             Err(_) => Outcome::NoMemory,
         },
         outcome => outcome,
@@ -94,7 +76,7 @@ pub fn draw_keeping_line<R: Read, W: Write>(
 fn read_script<R: Read>(
     alloc: Global,
     input: &mut R,
-    history: &mut History,
+    follower: &mut Follower,
     line: &mut Vec<u8>,
 ) -> Outcome
     ensures { CountsFromOne result }
@@ -106,7 +88,7 @@ fn read_script<R: Read>(
     let Ok(mut reader) = BufReader::new(alloc, input) else {
         return Outcome::NoMemory;
     };
-    match read_lines(history, &mut reader, line) {
+    match read_lines(follower, &mut reader, line) {
         Ok(outcome) => outcome,
         Err(_) => Outcome::InputOutput,
     }
@@ -114,7 +96,7 @@ fn read_script<R: Read>(
 
 /// Follows the lines of `input` in order, up to its end or to a bad line. `line` is room for one.
 fn read_lines<R: Read>(
-    history: &mut History,
+    follower: &mut Follower,
     input: &mut BufReader<R>,
     line: &mut Vec<u8>,
 ) -> io::Result<Outcome>
@@ -131,7 +113,7 @@ fn read_lines<R: Read>(
             let Some(command) = Command::parse(line) else {
                 return Ok(Outcome::BadLine(number));
             };
-            if history.follow(command).is_err() {
+            if follower.follow(command).is_err() {
                 return Ok(Outcome::NoMemory);
             }
         }
@@ -155,31 +137,10 @@ fn write<W: Write>(
     let Ok(mut writer) = BufWriter::new(alloc, output) else {
         return Outcome::NoMemory;
     };
-    let written = match options.form {
-        Form::Table(table, lines) => table::write(&mut writer, history, options, table, lines),
-        _ => draw_picture(alloc, &mut writer, history, options, time),
-    };
+    let written = drawing::draw(alloc, &mut writer, history, options, time);
     match (written, writer.flush()) {
         (Ok(()), Ok(())) => Outcome::Whole,
         (Err(error), _) if error.kind() == ErrorKind::OutOfMemory => Outcome::NoMemory,
         _ => Outcome::InputOutput,
-    }
-}
-
-/// Draws the picture of a run. Where memory was refused, that is the kind of its error.
-fn draw_picture<W: Write>(
-    alloc: Global,
-    out: &mut W,
-    history: &History,
-    options: &Options,
-    time: (u64, u64),
-) -> io::Result<()> {
-    let Ok(layout) = Layout::new(history, options, time) else {
-        return Err(io::Error::from(ErrorKind::OutOfMemory));
-    };
-    let mut board = Board::new(alloc, layout.frame.columns())?;
-    match options.form {
-        Form::Page => page::write(out, history, options, &layout, &mut board),
-        _ => picture::draw(out, history, options, &layout, &mut board),
     }
 }

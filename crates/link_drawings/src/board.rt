@@ -1,0 +1,114 @@
+//! Rates by column.
+
+use crate::frame::Frame;
+use crate::track::Piece;
+use std::alloc::{AllocError, Global};
+
+/// For each column a lower and an upper rate, in millionths of a byte a second, and for how long
+/// something is so in it, in nanoseconds. Rates are means over the time of their column.
+#[derive(Drop)]
+pub(crate) struct Board {
+    pub(crate) low: Vec<u128>,
+    pub(crate) high: Vec<u128>,
+    pub(crate) held: Vec<u64>,
+}
+
+impl Board {
+    /// All is zero.
+    pub(crate) fn new(alloc: Global, columns: usize) -> Result<Board, AllocError> {
+        Ok(Board {
+            low: vec![in alloc; 0u128; columns]?,
+            high: vec![in alloc; 0u128; columns]?,
+            held: vec![in alloc; 0u64; columns]?,
+        })
+    }
+
+    /// All is zero.
+    pub(crate) fn clear(&mut self) {
+        set_all(&mut self.low, 0);
+        set_all(&mut self.high, 0);
+        for time in self.held.iter_mut() {
+            *time = 0;
+        }
+    }
+
+    /// What was the upper rate is the lower one, too.
+    pub(crate) fn rise(&mut self) {
+        for (low, high) in self.low.iter_mut().zip(self.high.iter()) {
+            *low = *high;
+        }
+    }
+
+    /// The upper rates grow by those of the pieces. A message that is to be dropped counts where
+    /// that is said.
+    pub(crate) fn add(&mut self, frame: Frame, pieces: &[Piece], with_dropped: bool) {
+        for piece in pieces {
+            if with_dropped || piece.should_deliver {
+                self.spread(frame, piece.from, piece.to, piece.rate);
+            }
+        }
+    }
+
+    /// The upper rates grow by that one for a time.
+    pub(crate) fn spread(&mut self, frame: Frame, from: u64, to: u64, rate: u128) {
+        let (from, to) = frame.cut(from, to);
+        if to <= from || rate == 0 {
+            return;
+        }
+        let first = frame.column(from);
+        let last = frame.column(to.saturating_sub(1));
+        for column in first..last.saturating_add(1) {
+            if let Some(high) = self.high.get_mut(column) {
+                *high = high.saturating_add(share(frame, column, from, to, rate));
+            }
+        }
+    }
+
+    /// Something is so for a time.
+    pub(crate) fn hold(&mut self, frame: Frame, from: u64, to: u64) {
+        let (from, to) = frame.cut(from, to);
+        if to <= from {
+            return;
+        }
+        let first = frame.column(from);
+        let last = frame.column(to.saturating_sub(1));
+        for column in first..last.saturating_add(1) {
+            if let Some(held) = self.held.get_mut(column) {
+                let begin = frame.edge(column).max(from);
+                let end = frame.edge(column.saturating_add(1)).min(to);
+                *held = held.saturating_add(end.saturating_sub(begin));
+            }
+        }
+    }
+
+    /// The greatest upper rate.
+    pub(crate) fn peak(&self) -> u128 {
+        let mut peak = 0;
+        for rate in &self.high {
+            peak = peak.max(*rate);
+        }
+        peak
+    }
+}
+
+/// What a rate for a time adds to the mean of a column.
+fn share(frame: Frame, column: usize, from: u64, to: u64, rate: u128) -> u128 {
+    let begin = frame.edge(column);
+    let end = frame.edge(column.saturating_add(1));
+    if from <= begin && end <= to {
+        return rate;
+    }
+    let over = u128::from(end.min(to).saturating_sub(begin.max(from)));
+    let all = u128::from(end.saturating_sub(begin)).max(1);
+    match rate.checked_mul(over) {
+        Some(times) => times / all,
+        None => (rate / all).saturating_mul(over),
+    }
+}
+
+/// Sets all numbers to that one.
+fn set_all(numbers: &mut [u128], to: u128) {
+    for number in numbers.iter_mut() {
+        *number = to;
+    }
+}

@@ -1,0 +1,162 @@
+//! The use of a cap over time, exactly.
+
+use crate::caps::{Cap, Side};
+use crate::history::History;
+use crate::track::Track;
+use fair_rates::error::Error;
+use fair_rates::ratio::Ratio;
+
+/// What changes, in the order in which it counts where it does so at one moment.
+#[derive(Clone, Copy, Debug, PartialEq, Eq, PartialOrd, Ord)]
+enum Kind {
+    Ends,
+    Cap,
+    Begins,
+}
+
+/// A rate that begins or ends at a moment, or a cap that changes. A rate that is not known exactly
+/// is none.
+#[derive(Clone, Copy, Debug)]
+struct Change {
+    moment: u64,
+    kind: Kind,
+    rate: Option<Ratio>,
+}
+
+/// A time in which the use of a cap stays.
+#[derive(Clone, Copy, Debug)]
+pub(crate) struct Used {
+    pub(crate) from: u64,
+    pub(crate) to: u64,
+    /// In bytes a second; none is no cap.
+    pub(crate) cap: Option<usize>,
+    /// The sum of the rates, in bytes a second; none where 128 bits do not hold it.
+    pub(crate) sum: Option<Ratio>,
+}
+
+impl Used {
+    /// Whether the rates leave nothing of the cap; none where there is no cap, or the sum is not
+    /// known.
+    pub(crate) fn is_full(&self) -> Option<bool> {
+        let cap = Ratio::from_whole(self.cap? as u128);
+        Some(self.sum? == cap)
+    }
+}
+
+/// The use of the cap of a side, in order of time, where something is in flight on it.
+pub(crate) fn uses(history: &History, side: Side) -> Result<Vec<Used>, Error> {
+    let alloc = history.alloc();
+    let mut made = Vec::new(alloc);
+    let Some(caps) = history.caps.get(&side) else {
+        return Ok(made);
+    };
+    let mut changes = Vec::new(alloc);
+    for (pair, track) in &history.tracks {
+        if side.holds(pair.0, pair.1) {
+            note_changes(&mut changes, track, side)?;
+        }
+    }
+    for cap in caps {
+        changes.push(Change {
+            moment: cap.from,
+            kind: Kind::Cap,
+            rate: None,
+        })?;
+    }
+    changes.sort_unstable_by_key(|change| (change.moment, change.kind));
+    sweep(&mut made, &changes, caps)?;
+    Ok(made)
+}
+
+/// Notes when the rates of a pair begin and end.
+fn note_changes(changes: &mut Vec<Change>, track: &Track, side: Side) -> Result<(), Error> {
+    for (place, piece) in track.pieces.iter().enumerate() {
+        if piece.should_deliver || side.holds_dropped() {
+            let rate = match track.reading(place) {
+                Some(reading) if reading.is_exact => Some(reading.amount),
+                _ => None,
+            };
+            changes.push(Change {
+                moment: piece.from,
+                kind: Kind::Begins,
+                rate,
+            })?;
+            changes.push(Change {
+                moment: piece.to,
+                kind: Kind::Ends,
+                rate,
+            })?;
+        }
+    }
+    Ok(())
+}
+
+/// Goes through the changes in order of time.
+fn sweep(made: &mut Vec<Used>, changes: &[Change], caps: &[Cap]) -> Result<(), Error> {
+    let mut state = Sum::new();
+    let mut at = 0u64;
+    let mut place = 0usize;
+    let mut cap = None;
+    for change in changes {
+        if change.moment > at {
+            if state.flights > 0 {
+                made.push(Used {
+                    from: at,
+                    to: change.moment,
+                    cap,
+                    sum: state.sum,
+                })?;
+            }
+            at = change.moment;
+        }
+        match change.kind {
+            Kind::Begins => state.begin(change.rate),
+            Kind::Ends => state.end(change.rate),
+            Kind::Cap => {
+                if let Some(next) = caps.get(place) {
+                    cap = next.cap;
+                }
+                place = place.saturating_add(1);
+            }
+        }
+    }
+    Ok(())
+}
+
+/// The sum of the rates of what is in flight.
+#[derive(Clone, Copy, Debug)]
+struct Sum {
+    flights: u64,
+    /// None where it is not known.
+    sum: Option<Ratio>,
+}
+
+impl Sum {
+    fn new() -> Sum {
+        Sum {
+            flights: 0,
+            sum: Some(Ratio::zero()),
+        }
+    }
+
+    /// One more rate.
+    fn begin(&mut self, rate: Option<Ratio>) {
+        self.flights = self.flights.saturating_add(1);
+        self.sum = match (self.sum, rate) {
+            (Some(sum), Some(rate)) => sum.checked_add(rate),
+            _ => None,
+        };
+    }
+
+    /// One rate less. Where there is none left, the sum is known again.
+    fn end(&mut self, rate: Option<Ratio>) {
+        self.flights = self.flights.saturating_sub(1);
+        self.sum = match (self.sum, rate) {
+            (Some(sum), Some(rate)) => sum.checked_sub(rate),
+            _ => None,
+        };
+        if self.flights == 0 {
+            self.sum = Some(Ratio::zero());
+        }
+    }
+}

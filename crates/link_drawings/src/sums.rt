@@ -1,0 +1,122 @@
+//! The rates of all that share a cap, over time.
+
+use crate::caps::{Cap, Side};
+use crate::history::{History, MILLION};
+use crate::track::Track;
+use fair_rates::error::Error;
+
+/// A rate that changes at a moment, in millionths of a byte a second.
+#[derive(Clone, Copy, Debug, PartialEq, Eq, PartialOrd, Ord)]
+struct Change {
+    moment: u64,
+    more: u128,
+    less: u128,
+}
+
+/// A time in which the sum of the rates stays, and the cap, in millionths of a byte a second.
+#[derive(Clone, Copy, Debug, PartialEq, Eq)]
+pub(crate) struct Stretch {
+    pub(crate) from: u64,
+    pub(crate) to: u64,
+    pub(crate) rate: u128,
+    pub(crate) cap: Option<u128>,
+}
+
+impl Stretch {
+    /// Whether the rates leave nothing of the cap, up to so much.
+    pub(crate) fn is_full(&self, short: u128) -> bool {
+        match self.cap {
+            Some(cap) => self.rate.saturating_add(short) >= cap,
+            None => false,
+        }
+    }
+}
+
+/// The stretches of a capped side in which something is sent, in order of time.
+pub(crate) fn stretches(history: &History, side: Side) -> Result<Vec<Stretch>, Error> {
+    let alloc = history.alloc();
+    let mut made = Vec::new(alloc);
+    let Some(caps) = history.caps.get(&side) else {
+        return Ok(made);
+    };
+    let mut changes = Vec::new(alloc);
+    for (pair, track) in &history.tracks {
+        if side.holds(pair.0, pair.1) {
+            note_changes(&mut changes, track, side)?;
+        }
+    }
+    note_caps(&mut changes, caps)?;
+    changes.sort_unstable();
+    sweep(&mut made, &changes, caps)?;
+    Ok(made)
+}
+
+/// Notes when the rates of a pair change.
+fn note_changes(changes: &mut Vec<Change>, track: &Track, side: Side) -> Result<(), Error> {
+    for piece in &track.pieces {
+        if piece.rate > 0 && (piece.should_deliver || side.holds_dropped()) {
+            changes.push(Change {
+                moment: piece.from,
+                more: piece.rate,
+                less: 0,
+            })?;
+            changes.push(Change {
+                moment: piece.to,
+                more: 0,
+                less: piece.rate,
+            })?;
+        }
+    }
+    Ok(())
+}
+
+/// Notes when the cap changes.
+fn note_caps(changes: &mut Vec<Change>, caps: &[Cap]) -> Result<(), Error> {
+    for cap in caps {
+        changes.push(Change {
+            moment: cap.from,
+            more: 0,
+            less: 0,
+        })?;
+    }
+    Ok(())
+}
+
+/// Goes through the changes in order of time.
+fn sweep(made: &mut Vec<Stretch>, changes: &[Change], caps: &[Cap]) -> Result<(), Error> {
+    let mut rate = 0u128;
+    let mut at = 0u64;
+    let mut place = 0usize;
+    let mut cap = None;
+    for change in changes {
+        if change.moment > at {
+            if rate > 0 {
+                made.push(Stretch {
+                    from: at,
+                    to: change.moment,
+                    rate,
+                    cap,
+                })?;
+            }
+            at = change.moment;
+        }
+        rate = rate.saturating_add(change.more).saturating_sub(change.less);
+        if let Some(next) = caps.get(place) {
+            if next.from <= at {
+                cap = next.rate();
+                place = place.saturating_add(1);
+            }
+        }
+    }
+    Ok(())
+}
+
+impl Cap {
+    /// The cap in millionths of a byte a second.
+    pub(crate) fn rate(&self) -> Option<u128> {
+        match self.cap {
+            Some(cap) => Some(cap as u128 * MILLION),
+            None => None,
+        }
+    }
+}

@@ -1,0 +1,351 @@
+//! What happened in a run, as tables.
+
+use crate::caps::Side;
+use crate::exact::{Used, uses};
+use crate::field::{Field, Line, Lines};
+use crate::history::History;
+use crate::options::Options;
+use crate::track::{Piece, Sent, Track};
+use fair_rates::error::Error;
+use std::io;
+use std::io::{ErrorKind, Write};
+
+/// What a table has.
+#[derive(Clone, Copy, Debug, PartialEq, Eq)]
+pub enum Table {
+    /// A line for each message.
+    Messages,
+    /// A line for each time in which a message is in flight at one rate.
+    Rates,
+    /// A line for each time in which the use of a cap stays.
+    Caps,
+    /// A line for all messages that arrive and for those of each channel: how long they take from
+    /// their enqueue to their arrival.
+    Latencies,
+}
+
+/// The columns of each table.
+const MESSAGES: &[&str] = &[
+    "origin",
+    "recipient",
+    "channel",
+    "bytes",
+    "enqueued_ns",
+    "enqueued_s",
+    "started_ns",
+    "started_s",
+    "done_ns",
+    "done_s",
+    "arrives_ns",
+    "arrives_s",
+    "dropped",
+    "latency_ns",
+    "latency_s",
+];
+
+const RATES: &[&str] = &[
+    "origin",
+    "recipient",
+    "channel",
+    "from_ns",
+    "from_s",
+    "to_ns",
+    "to_s",
+    "rate",
+    "rate_decimal",
+    "exact",
+];
+
+const CAPS: &[&str] = &[
+    "side",
+    "origin",
+    "recipient",
+    "from_ns",
+    "from_s",
+    "to_ns",
+    "to_s",
+    "cap",
+    "used",
+    "used_decimal",
+    "full",
+];
+
+const LATENCIES: &[&str] = &[
+    "channel",
+    "count",
+    "least_ns",
+    "least_s",
+    "p50_ns",
+    "p50_s",
+    "p90_ns",
+    "p90_s",
+    "p99_ns",
+    "p99_s",
+    "greatest_ns",
+    "greatest_s",
+];
+
+/// Writes a table.
+pub(crate) fn write<W: Write>(
+    out: &mut W,
+    history: &History,
+    options: &Options,
+    table: Table,
+    lines: Lines,
+) -> io::Result<()> {
+    match table {
+        Table::Messages => write_messages(out, history, options, lines),
+        Table::Rates => write_rates(out, history, options, lines),
+        Table::Caps => write_caps(out, history, options, lines),
+        Table::Latencies => write_latencies(out, history, options, lines),
+    }
+}
+
+/// Whether a time is partly in what is asked for.
+fn shows(options: &Options, from: u64, to: u64) -> bool {
+    let until = options.until.unwrap_or(u64::MAX);
+    from <= until && to >= options.from.unwrap_or(0)
+}
+
+/// Whether a message is partly in the time that is asked for.
+fn shows_message(options: &Options, message: &Sent) -> bool {
+    let end = match message.deliver_at {
+        Some(arrives) => arrives,
+        None => message.done.unwrap_or(u64::MAX),
+    };
+    shows(options, message.enqueued, end)
+}
+
+/// A line for each message, by pair, in order of enqueue.
+fn write_messages<W: Write>(
+    out: &mut W,
+    history: &History,
+    options: &Options,
+    lines: Lines,
+) -> io::Result<()> {
+    let mut sheet = Line::begin(out, lines, MESSAGES)?;
+    for (pair, track) in &history.tracks {
+        if options.shows_pair(pair.0, pair.1) {
+            for message in &track.messages {
+                if shows_message(options, message) {
+                    write_message(out, &mut sheet, *pair, message)?;
+                }
+            }
+        }
+    }
+    Ok(())
+}
+
+/// The line of a message.
+fn write_message<W: Write>(
+    out: &mut W,
+    sheet: &mut Line,
+    pair: (u64, u64),
+    message: &Sent,
+) -> io::Result<()> {
+    sheet.put(out, Field::Whole(pair.0))?;
+    sheet.put(out, Field::Whole(pair.1))?;
+    sheet.put(out, Field::Whole(message.channel))?;
+    sheet.put(out, Field::Whole(message.length as u64))?;
+    sheet.put_moment(out, Some(message.enqueued))?;
+    sheet.put_moment(out, message.start)?;
+    sheet.put_moment(out, message.done)?;
+    sheet.put_moment(out, message.deliver_at)?;
+    let is_dropped = message.done.is_some() && message.deliver_at.is_none();
+    sheet.put(out, Field::Flag(is_dropped))?;
+    sheet.put_moment(out, latency(message))?;
+    sheet.end(out)
+}
+
+/// The time from the enqueue of a message to its arrival.
+fn latency(message: &Sent) -> Option<u64> {
+    message.deliver_at?.checked_sub(message.enqueued)
+}
+
+/// A line for each time in which a message has one rate.
+fn write_rates<W: Write>(
+    out: &mut W,
+    history: &History,
+    options: &Options,
+    lines: Lines,
+) -> io::Result<()> {
+    let mut sheet = Line::begin(out, lines, RATES)?;
+    for (pair, track) in &history.tracks {
+        if options.shows_pair(pair.0, pair.1) {
+            for (place, piece) in track.pieces.iter().enumerate() {
+                if shows(options, piece.from, piece.to) {
+                    write_rate(out, &mut sheet, *pair, track, place, *piece)?;
+                }
+            }
+        }
+    }
+    Ok(())
+}
+
+/// The line of a rate.
+fn write_rate<W: Write>(
+    out: &mut W,
+    sheet: &mut Line,
+    pair: (u64, u64),
+    track: &Track,
+    place: usize,
+    piece: Piece,
+) -> io::Result<()> {
+    let channel = match track.messages.get(piece.message) {
+        Some(message) => Field::Whole(message.channel),
+        None => Field::None,
+    };
+    sheet.put(out, Field::Whole(pair.0))?;
+    sheet.put(out, Field::Whole(pair.1))?;
+    sheet.put(out, channel)?;
+    sheet.put_moment(out, Some(piece.from))?;
+    sheet.put_moment(out, Some(piece.to))?;
+    match track.reading(place) {
+        Some(reading) => {
+            sheet.put_rate(out, Some(reading.amount))?;
+            sheet.put(out, Field::Flag(reading.is_exact))?;
+        }
+        None => {
+            sheet.put_rate(out, None)?;
+            sheet.put(out, Field::Flag(false))?;
+        }
+    }
+    sheet.end(out)
+}
+
+/// A line for each time in which the use of a cap stays.
+fn write_caps<W: Write>(
+    out: &mut W,
+    history: &History,
+    options: &Options,
+    lines: Lines,
+) -> io::Result<()> {
+    let mut sheet = Line::begin(out, lines, CAPS)?;
+    for (side, _) in &history.caps {
+        if options.shows_side(*side) {
+            let Ok(list) = uses(history, *side) else {
+                return Err(io::Error::from(ErrorKind::OutOfMemory));
+            };
+            for used in &list {
+                if shows(options, used.from, used.to) {
+                    write_use(out, &mut sheet, *side, used)?;
+                }
+            }
+        }
+    }
+    Ok(())
+}
+
+/// The line of the use of a cap.
+fn write_use<W: Write>(out: &mut W, sheet: &mut Line, side: Side, used: &Used) -> io::Result<()> {
+    let (name, origin, recipient) = match side {
+        Side::Egress(peer) => ("egress", Field::Whole(peer), Field::None),
+        Side::Ingress(peer) => ("ingress", Field::None, Field::Whole(peer)),
+        Side::Link(origin, recipient) => ("link", Field::Whole(origin), Field::Whole(recipient)),
+    };
+    sheet.put(out, Field::Word(name))?;
+    sheet.put(out, origin)?;
+    sheet.put(out, recipient)?;
+    sheet.put_moment(out, Some(used.from))?;
+    sheet.put_moment(out, Some(used.to))?;
+    sheet.put(
+        out,
+        match used.cap {
+            Some(cap) => Field::Whole(cap as u64),
+            None => Field::None,
+        },
+    )?;
+    sheet.put_rate(out, used.sum)?;
+    sheet.put(
+        out,
+        match used.is_full() {
+            Some(is_full) => Field::Flag(is_full),
+            None => Field::None,
+        },
+    )?;
+    sheet.end(out)
+}
+
+/// A line for all messages that arrive, and one for those of each channel.
+fn write_latencies<W: Write>(
+    out: &mut W,
+    history: &History,
+    options: &Options,
+    lines: Lines,
+) -> io::Result<()> {
+    let mut sheet = Line::begin(out, lines, LATENCIES)?;
+    let Ok(mut found) = latencies(history, options) else {
+        return Err(io::Error::from(ErrorKind::OutOfMemory));
+    };
+    found.sort_unstable_by_key(|one| one.1);
+    write_quantiles(out, &mut sheet, Field::Word("all"), &found)?;
+    found.sort_unstable();
+    let mut rest = found.as_slice();
+    for _ in 0..found.len() {
+        let Some((channel, _)) = rest.first() else {
+            break;
+        };
+        let count = front(rest, *channel);
+        let Some((these, others)) = rest.split_at_checked(count) else {
+            break;
+        };
+        write_quantiles(out, &mut sheet, Field::Whole(*channel), these)?;
+        rest = others;
+    }
+    Ok(())
+}
+
+/// How many at the front are of that channel.
+fn front(found: &[(u64, u64)], channel: u64) -> usize {
+    let mut count = 0usize;
+    for one in found {
+        if one.0 != channel {
+            break;
+        }
+        count = count.saturating_add(1);
+    }
+    count
+}
+
+/// The channel and the latency of each message that arrives.
+fn latencies(history: &History, options: &Options) -> Result<Vec<(u64, u64)>, Error> {
+    let mut found = Vec::new(history.alloc());
+    for (pair, track) in &history.tracks {
+        if options.shows_pair(pair.0, pair.1) {
+            for message in &track.messages {
+                if shows_message(options, message) {
+                    if let Some(time) = latency(message) {
+                        found.push((message.channel, time))?;
+                    }
+                }
+            }
+        }
+    }
+    Ok(found)
+}
+
+/// The line of the latencies of a channel, which are in order.
+fn write_quantiles<W: Write>(
+    out: &mut W,
+    sheet: &mut Line,
+    channel: Field,
+    found: &[(u64, u64)],
+) -> io::Result<()> {
+    sheet.put(out, channel)?;
+    sheet.put(out, Field::Whole(found.len() as u64))?;
+    for percent in [0u64, 50, 90, 99, 100] {
+        let time = match found.get(rank(found.len(), percent)) {
+            Some(one) => Some(one.1),
+            None => None,
+        };
+        sheet.put_moment(out, time)?;
+    }
+    sheet.end(out)
+}
+
+/// The place, in order, of the first number that so many per cent of all do not exceed.
+fn rank(count: usize, percent: u64) -> usize {
+    let parts = (count as u128).saturating_mul(u128::from(percent));
+    let place = parts.div_ceil(100).saturating_sub(1);
+    usize::try_from(place).unwrap_or(usize::MAX)
+}

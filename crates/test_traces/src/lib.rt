@@ -1,0 +1,5 @@
+//! Tests of `linkcheck`.
+#![tactic(auto)]
+
+#[cfg(test)]
+mod traces;
