@@ -90,6 +90,9 @@ impl<P: Peer> PairNumbers<P> {
         ensures refused { IfErr result (λ error. error ≡ Error.OutOfMemory) }
         ensures unchanged { OnErr result (self.new ≡ self.old) }
     {
+        if let Some(number) = self.number(origin, recipient) {
+            return Ok(number);
+        }
         let origin = self.peers.add(origin)?;
         let recipient = self.peers.add(recipient)?;
         self.ends.add(&Ends { origin, recipient })
