@@ -197,3 +197,56 @@ next -
 ",
     )
 }
+
+/// What was loose once is no more: a cap of the other end of a message that has no rate is one at which none is
+/// rated.
+#[test]
+fn a_cap_where_none_is_rated(rt: HostRuntime) -> Result<(), Fail> {
+    play::<u64>(
+        &rt,
+        0,
+        "\
+limit 0 3 5 -
+link 0 2 1 0
+send 0 3 2 7 0
+rated 1
+limit 0 3 - -
+done 0 0
+send 0 2 1 100 0
+limit 0 1 0 -
+rated 0
+next -
+",
+    )
+}
+
+/// An advance is refused for a message that starts in it. The units in which others are counted are those before it.
+#[test]
+fn units_are_those_before_a_refused_advance(rt: HostRuntime) -> Result<(), Fail> {
+    play::<u64>(
+        &rt,
+        0,
+        "\
+limit last-5s 2 1000 3000
+send last-2500ms 2 1 300 0
+send last-2500ms 2 1 7 0
+send last-2500ms 2 3 300 0
+next last-1900ms
+send last-2s 3 2 50 0
+drop last-2s 2 2 50 0
+send last-2s 3 2 50 3s
+drop last-2s 2 2 300 0
+send last-2s 2 3 100 0
+next last-1983333333
+advance last
+refused late
+link last 2 3 3000
+done 0 last
+done 2 last
+done 3 last
+done 4 -
+rated 4
+next -
+",
+    )
+}
