@@ -25,6 +25,8 @@ pub(crate) struct Rooms {
     pub(crate) numbers: Vec<usize>,
     /// For the users of a side.
     pub(crate) users: Vec<usize>,
+    /// For whether each that is rated has a side.
+    pub(crate) has_side: Vec<bool>,
 }
 
 impl Rooms {
@@ -34,6 +36,7 @@ impl Rooms {
             places: Vec::new(alloc),
             numbers: Vec::new(alloc),
             users: Vec::new(alloc),
+            has_side: Vec::new(alloc),
         }
     }
 
@@ -73,16 +76,6 @@ impl Notes {
     /// Room for lists is kept.
     pub(crate) fn keep_rooms(&mut self, rooms: Rooms) {
         self.rooms = rooms;
-    }
-
-    /// Room for the number of each place. It is taken out until it is kept again.
-    pub(crate) fn take_numbers(&mut self, alloc: Global) -> Vec<usize> {
-        mem::replace(&mut self.rooms.numbers, Vec::new(alloc))
-    }
-
-    /// Room for the number of each place is kept.
-    pub(crate) fn keep_numbers(&mut self, numbers: Vec<usize>) {
-        self.rooms.numbers = numbers;
     }
 
     /// Room for the places of a component. It is taken out until it is kept again.

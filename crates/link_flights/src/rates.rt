@@ -188,11 +188,14 @@ impl<P: Peer> Flights<P> {
         ensures refused { IfErr result (λ e. e ≡ Error.OutOfMemory) }
     {
         let all = Component::whole(self.alloc);
-        let places = self.places_rated(&all, Vec::new(self.alloc))?;
-        let numbers = Numbers::of(places, self.notes.take_numbers(self.alloc), self.list.len())?;
-        let rates = self.rates_at(&all, &numbers, peers, pairs)?;
+        let mut rooms = self.notes.take_rooms(self.alloc);
+        let list = mem::replace(&mut rooms.places, Vec::new(self.alloc));
+        let places = self.places_rated(&all, list)?;
+        let lent = mem::replace(&mut rooms.numbers, Vec::new(self.alloc));
+        let numbers = Numbers::of(places, lent, self.list.len())?;
+        let rates = self.rates_at(&all, &numbers, peers, pairs, &mut rooms.has_side)?;
         let (places, room) = numbers.into_parts();
-        self.notes.keep_numbers(room);
+        rooms.numbers = room;
         let mut scale = self.scale.clone()?;
         grow(&mut scale, &rates.growth)?;
         self.set_rates(
@@ -203,6 +206,8 @@ impl<P: Peer> Flights<P> {
             &rates.growth,
             were_timed,
         )?;
+        rooms.places = places;
+        self.notes.keep_rooms(rooms);
         self.scale = scale;
         self.stood = stood_after(self.stood, &rates.growth);
         let unsearched = self.spared_after(true, 0);
@@ -265,7 +270,7 @@ impl<P: Peer> Flights<P> {
             rooms.keep(numbers);
             return found;
         }
-        let part = self.rates_at(touched, &numbers, peers, pairs)?;
+        let part = self.rates_at(touched, &numbers, peers, pairs, &mut rooms.has_side)?;
         if !part.growth.is_empty() || !all_reach(&part, &touched.level) {
             rooms.keep(numbers);
             return Ok(None);
@@ -410,13 +415,14 @@ impl<P: Peer> Flights<P> {
     }
 
     /// The fair rates of those of the component that are rated anew, at these places, under what the others leave
-    /// of the caps.
+    /// of the caps. Who has a side is noted in room that is lent.
     fn rates_at(
         &self,
         component: &Component<P>,
         numbers: &Numbers,
         peers: &Peers<P>,
         pairs: &Pairs<P>,
+        has_side: &mut Vec<bool>,
     ) -> Result<FairParts, Error>
         requires places { numbers.now ≡ places_of (λ f. is_of P.cmp component.now (flight_at 0 f)) 0 self.now.list.items }
         requires suited { list_all (suits P.cmp component.now) (in_units self.now) ≡ true }
@@ -425,7 +431,7 @@ impl<P: Peer> Flights<P> {
             self.now.scale component.now (in_units self.now)) }
         ensures refused { IfErr result (λ e. e ≡ Error.OutOfMemory) }
     {
-        let sides = self.sides_of(component, numbers, peers, pairs)?;
+        let sides = self.sides_of(component, numbers, peers, pairs, has_side)?;
         Ok(fair_parts_on(self.alloc, numbers.places().len(), sides)?)
     }
 

@@ -4,6 +4,7 @@
 //! what all others take, which keep their rates, is taken from its cap.
 ghost use Rattle.std.specs.Prelude.{◌≡◌, ◌<◌, ◌*◌, ℕ, ◌+◌, ◌∷◌, [], true, cond, None, Some, ◌⊎◌};
 ghost use Rattle.std.specs.Prelude.{All, AllPairs, Contains, IfOk, IfErr, IfSome, OnOk, List, length, map, slice_get};
+ghost use Rattle.std.specs.Prelude.{false, replicate};
 ghost use Rattle.std.specs.List.{list_all};
 ghost use Rattle.fair_rates.specs.Fairness.UnderCaps.{cap_of};
 ghost use Rattle.fair_rates.specs.Sides.Alone.{least_of};
@@ -37,7 +38,7 @@ use natural::Natural;
 use std::mem;
 
 /// For so many sides there is room at first. Where more are rated, they mostly share sides.
-const FEW_SIDES: usize = 16;
+const FEW_SIDES: usize = 64;
 
 /// Whether the message uses what there is of a cap at that end: what is dropped takes nothing of what its recipient
 /// may receive.
@@ -59,6 +60,16 @@ fn cap_at<P: Peer>(end: End, message: &Message<P>, peers: &Peers<P>) -> Option<u
         End::Origin => peers.egress(&message.origin),
         End::Recipient => peers.ingress(&message.recipient),
     }
+}
+
+/// None of so many numbers has a side.
+fn forget_all(has_side: &mut Vec<bool>, count: usize) -> Result<(), Error>
+    ensures none { OnOk result (has_side.new.items ≡ replicate count false) }
+    ensures refused { IfErr result (λ e. e ≡ Error.OutOfMemory) }
+{
+    has_side.clear();
+    has_side.resize(count, false)?;
+    Ok(())
 }
 
 /// Each of these numbers has a side from now on.
@@ -86,13 +97,14 @@ fn least(one: Option<Natural>, other: Option<Natural>) -> Option<Natural>
 
 impl<P: Peer> Flights<P> {
     /// The sides of those of the component that are rated anew, at these places, with what the others leave of their
-    /// caps, in units. A user is a number among these.
+    /// caps, in units. A user is a number among these. Who has a side is noted in room that is lent.
     pub(crate) fn sides_of(
         &self,
         component: &Component<P>,
         numbers: &Numbers,
         peers: &Peers<P>,
         pairs: &Pairs<P>,
+        has_side: &mut Vec<bool>,
     ) -> Result<Vec<Side>, Error>
         requires places { numbers.now ≡ places_of (λ f. is_of P.cmp component.now (flight_at 0 f)) 0 self.now.list.items }
         requires suited { list_all (suits P.cmp component.now) (in_units self.now) ≡ true }
@@ -104,8 +116,15 @@ impl<P: Peer> Flights<P> {
     {
         let places = numbers.places();
         let mut sides = Vec::with_capacity(self.alloc, FEW_SIDES.min(2 * places.len()))?;
-        self.add_sides(End::Origin, component, numbers, peers, &mut sides)?;
-        self.add_sides(End::Recipient, component, numbers, peers, &mut sides)?;
+        self.add_sides(End::Origin, component, numbers, peers, has_side, &mut sides)?;
+        self.add_sides(
+            End::Recipient,
+            component,
+            numbers,
+            peers,
+            has_side,
+            &mut sides,
+        )?;
         self.add_links(places, pairs, &mut sides)?;
         Ok(sides)
     }
@@ -169,13 +188,14 @@ impl<P: Peer> Flights<P> {
         }
     }
 
-    /// The sides at one end come.
+    /// The sides at one end come. Who has one is noted in room that is lent.
     fn add_sides(
         &self,
         end: End,
         component: &Component<P>,
         numbers: &Numbers,
         peers: &Peers<P>,
+        has_side: &mut Vec<bool>,
         sides: &mut Vec<Side>,
     ) -> Result<(), Error>
         requires places { numbers.now ≡ places_of (λ f. is_of P.cmp component.now (flight_at 0 f)) 0 self.now.list.items }
@@ -187,7 +207,7 @@ impl<P: Peer> Flights<P> {
         ensures refused { IfErr result (λ e. e ≡ Error.OutOfMemory) }
     {
         let places = numbers.places();
-        let mut has_side = vec![in self.alloc; false; places.len()]?;
+        forget_all(has_side, places.len())?;
         let mut users = Vec::new(self.alloc);
         let mut room = 0;
         for number in 0..places.len() {
@@ -203,7 +223,7 @@ impl<P: Peer> Flights<P> {
                 peers,
                 &mut users,
             )? {
-                note_users(&mut has_side, &side.users);
+                note_users(has_side, &side.users);
                 room = side.users.len();
                 sides.push(side)?;
             }

@@ -115,6 +115,7 @@ impl<P: Peer> Table<P> {
     }
 
     /// The one at that place.
+    #[inline(always)]
     pub(crate) fn at(&self, at: usize) -> &Flight<P>
         requires { at < length self.now.items }
         ensures { result.now ≡ slice_index_or self.now.items at result.now }
@@ -234,6 +235,7 @@ impl<P: Peer> Table<P> {
     }
 
     /// The first place behind that one at which one shares that end with the one that stands there, if there is one.
+    #[inline(always)]
     pub(crate) fn next_at(&self, end: End, at: usize) -> Option<usize>
         requires { at < length self.now.items }
         ensures { (d : AnyFlight P) → IsNextPlace

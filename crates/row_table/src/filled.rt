@@ -26,6 +26,7 @@ pub(crate) fn refill<T>(filled: &mut Vec<usize>, guesses: &mut Guesses, slots: &
 }
 
 /// Where a slot stands in a list of them that ascends. It is looked for first where it is guessed.
+#[inline(always)]
 pub(crate) fn place_of(filled: &[usize], slot: usize, guesses: &Guesses) -> Option<usize>
     ensures some { IfSome result (λ at. slice_get filled.now at ≡ Some slot) }
     ensures none { IfNone result

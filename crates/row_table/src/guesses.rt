@@ -26,6 +26,7 @@ impl Guesses {
     }
 
     /// The place at which the slot is guessed to stand.
+    #[inline(always)]
     pub(crate) fn place(&self, slot: usize) -> usize {
         match (self.notes.get(slot), self.moved.get(slot / BLOCK)) {
             (Some(note), Some(moved)) => note.wrapping_sub(*moved),

@@ -51,6 +51,7 @@ impl<T: Drop> Parts<T> {
     }
 
     /// The slot of the row at that place.
+    #[inline(always)]
     pub(crate) fn slot_at(&self, at: usize) -> usize
         requires stands { Stands self.now }
         requires within { at < length (live self.now.slots.items) }
@@ -61,6 +62,7 @@ impl<T: Drop> Parts<T> {
     }
 
     /// The place of the row in a slot; none where there is no slot.
+    #[inline(always)]
     pub(crate) fn place(&self, slot: Option<usize>) -> Option<usize>
         requires stands { Stands self.now }
         requires row { IfSome slot (λ slot. IsSome (held self.now.slots.items slot)) }
@@ -238,6 +240,7 @@ impl<T: Drop> Parts<T> {
     }
 
     /// Who sends and who receives the row in that slot.
+    #[inline(always)]
     pub(crate) fn owners_in(&self, slot: usize) -> (usize, usize)
         requires { IsSome (held self.now.slots.items slot) }
         ensures sender { sender_of (held self.now.slots.items slot) ≡ Some result.0 }

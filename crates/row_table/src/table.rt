@@ -62,6 +62,7 @@ impl<T: Drop> RowTable<T> {
     }
 
     /// The row at that place.
+    #[inline(always)]
     pub fn at(&self, at: usize) -> &Row<T>
         requires { at < length self.now.now }
         ensures { slice_get self.now.now at ≡ Some result.now }
@@ -147,6 +148,7 @@ impl<T: Drop> RowTable<T> {
     }
 
     /// The first row that an owner sends.
+    #[inline(always)]
     pub fn first_sent(&self, owner: usize) -> Option<usize>
         ensures next { IsNext (is_sent_by owner) self.now.now 0 result }
         ensures within { IfSome result (λ at. at < length self.now.now) }
@@ -158,6 +160,7 @@ impl<T: Drop> RowTable<T> {
     }
 
     /// The next row behind one that the same owner sends.
+    #[inline(always)]
     pub fn next_sent(&self, at: usize) -> Option<usize>
         requires { at < length self.now.now }
         ensures next { (row : Row T) → slice_get self.now.now at ≡ Some row →
@@ -170,6 +173,7 @@ impl<T: Drop> RowTable<T> {
     }
 
     /// The first row that an owner receives.
+    #[inline(always)]
     pub fn first_received(&self, owner: usize) -> Option<usize>
         ensures next { IsNext (is_received_by owner) self.now.now 0 result }
         ensures within { IfSome result (λ at. at < length self.now.now) }
@@ -181,6 +185,7 @@ impl<T: Drop> RowTable<T> {
     }
 
     /// The next row behind one that the same owner receives.
+    #[inline(always)]
     pub fn next_received(&self, at: usize) -> Option<usize>
         requires { at < length self.now.now }
         ensures next { (row : Row T) → slice_get self.now.now at ≡ Some row →
