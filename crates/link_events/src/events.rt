@@ -24,7 +24,7 @@ use link_pairs::message::Message;
 use link_pairs::pair::PeerPair;
 use link_waiting::moment::ready_moment;
 use std::collections::VecDeque;
-use std::rc::Rc;
+use std::sync::Arc;
 
 impl<P: Peer> Ledger<P> {
     ghost use Rattle.link_events.specs.Steps.AsPlanned.{planned};
@@ -62,7 +62,7 @@ impl<P: Peer> Ledger<P> {
         origin: &P,
         recipient: &P,
         now: u64,
-    ) -> Result<VecDeque<Rc<Message<P>>>, Error>
+    ) -> Result<VecDeque<Arc<Message<P>>>, Error>
         ensures launches { IfOk result (λ leavers. Launches P.cmp now (planned P.cmp self.old)
             (first_of P.cmp (planned P.cmp self.old).waiting origin.now recipient.now)
             (goes (messages leavers.items) (planned P.cmp self.new))) }
@@ -81,7 +81,7 @@ impl<P: Peer> Ledger<P> {
         origin: &P,
         recipient: &P,
         now: u64,
-    ) -> Result<VecDeque<Rc<Message<P>>>, Error>
+    ) -> Result<VecDeque<Arc<Message<P>>>, Error>
         requires { since ≡ idle_since P.cmp (planned P.cmp self.old) origin.now recipient.now }
         ensures launches { IfOk result (λ leavers. Launches P.cmp now (planned P.cmp self.old)
             (first_of P.cmp (planned P.cmp self.old).waiting origin.now recipient.now)
@@ -123,7 +123,7 @@ impl<P: Peer> Ledger<P> {
         &mut self,
         message: Message<P>,
         now: u64,
-    ) -> Result<VecDeque<Rc<Message<P>>>, Error>
+    ) -> Result<VecDeque<Arc<Message<P>>>, Error>
         requires { (is_none (first_of P.cmp (planned P.cmp self.old).waiting message.origin message.recipient)
             && may_launch P.cmp now (planned P.cmp self.old) (message_of message)) ≡ true }
         ensures launches { IfOk result (λ leavers. Launches P.cmp now
@@ -150,7 +150,7 @@ impl<P: Peer> Ledger<P> {
         now: u64,
         message: Message<P>,
         is_busy: bool,
-    ) -> Result<VecDeque<Rc<Message<P>>>, Error>
+    ) -> Result<VecDeque<Arc<Message<P>>>, Error>
         requires { is_sending P.cmp (planned P.cmp self.old) message.origin message.recipient ≡ is_busy }
         ensures launches { IfOk result (λ leavers. Launches P.cmp now
             (with_queued P.cmp (planned P.cmp self.old) (message_of message))
@@ -174,10 +174,10 @@ impl<P: Peer> Ledger<P> {
     /// done then is answered.
     fn complete(
         &mut self,
-        message: Rc<Message<P>>,
+        message: Arc<Message<P>>,
         now: u64,
         ended: &mut Vec<Ended<P>>,
-    ) -> Result<VecDeque<Rc<Message<P>>>, Error>
+    ) -> Result<VecDeque<Arc<Message<P>>>, Error>
         ensures in_time { IfOk result (λ more. is_late P.cmp now (message_of message.value) ≡ false) }
         ensures completion { IfOk result (λ more. map ended_of ended.new.items ≡ map ended_of ended.old.items
             ++ completed P.cmp now (message_of message.value) ∷ []) }
@@ -205,7 +205,7 @@ impl<P: Peer> Ledger<P> {
     /// start is planned anew.
     pub(crate) fn finish(
         &mut self,
-        mut queue: VecDeque<Rc<Message<P>>>,
+        mut queue: VecDeque<Arc<Message<P>>>,
         now: u64,
         ended: &mut Vec<Ended<P>>,
     ) -> Result<(), Error>
@@ -335,7 +335,7 @@ impl<P: Peer> Ledger<P> {
         let is_busy = self.flights.has(&message.origin, &message.recipient);
         self.raise(&message.origin, &message.recipient, arrival, is_busy)?;
         let deliver_at = message.should_deliver.then_some(arrival);
-        let message = Rc::new(self.alloc, message)?;
+        let message = Arc::new(self.alloc, message)?;
         ended.push(Ended {
             message,
             done_at: now,

@@ -22,7 +22,8 @@ use link_pairs::message::Message;
 use link_pairs::peers::Peers;
 use link_waiting::waiting::Waiting;
 use std::collections::VecDeque;
-use std::rc::Rc;
+use std::ops::Deref;
+use std::sync::Arc;
 
 /// All that is in flight drains to that moment. What is done leaves, in order of start.
 fn part<P: Peer>(
@@ -31,7 +32,7 @@ fn part<P: Peer>(
     peers: &Peers<P>,
     pairs: &Pairs<P>,
     were_fair: bool,
-) -> Result<VecDeque<Rc<Message<P>>>, Error>
+) -> Result<VecDeque<Arc<Message<P>>>, Error>
     requires one_each { ∥ OneForEachPair P.cmp (rated_messages (in_flight flights.old)) ∥₁ }
     requires later { were_fair ≡ true → flights.old.at ≤ now }
     requires rated { were_fair ≡ true
@@ -55,7 +56,7 @@ pub(crate) fn leave<P: Peer>(
     pairs: &Pairs<P>,
     waiting: &mut Waiting<P>,
     were_fair: bool,
-) -> Result<VecDeque<Rc<Message<P>>>, Error>
+) -> Result<VecDeque<Arc<Message<P>>>, Error>
     requires indexed { IsIndexOf P.cmp (of_pairs P.cmp pairs.now.entries waiting.old.messages
         (in_flight flights.old)) (since_of P.cmp waiting.old.told) }
     requires one_each { ∥ OneForEachPair P.cmp (rated_messages (in_flight flights.old)) ∥₁ }
@@ -80,7 +81,7 @@ pub(crate) fn leave<P: Peer>(
 /// What left, and what came of the first of it, which has landed.
 #[derive(Drop)]
 pub(crate) struct Left<P> {
-    pub(crate) done: VecDeque<Rc<Message<P>>>,
+    pub(crate) done: VecDeque<Arc<Message<P>>>,
     /// When the first arrives, if it does.
     pub(crate) deliver_at: Option<u64>,
     /// From when on the next message of its pair may start, if one waits.
@@ -92,7 +93,7 @@ pub(crate) struct Left<P> {
 fn land_first<P: Peer>(
     now: u64,
     pairs: &mut Pairs<P>,
-    done: &VecDeque<Rc<Message<P>>>,
+    done: &VecDeque<Arc<Message<P>>>,
 ) -> Result<Option<u64>, Error>
     ensures link { OnOk result (link_of P.cmp pairs.new.entries ≡ link_of P.cmp pairs.old.entries) }
     ensures lands { IfOk result (λ deliver_at. FirstLands P.cmp now (messages done.now.items)
@@ -104,7 +105,7 @@ fn land_first<P: Peer>(
     let Some(first) = done.front() else {
         return Ok(None);
     };
-    let first = Rc::as_ref(first);
+    let first = first.deref();
     let arrival = first.arrival(now)?;
     pairs.raise(&first.origin, &first.recipient, arrival)?;
     Ok(first.is_delivered().then_some(arrival))

@@ -17,7 +17,7 @@ use fair_rates::peer::Peer;
 use link_pairs::known_pairs::later_of;
 use link_pairs::message::Message;
 use link_pairs::pair::PeerPair;
-use std::rc::Rc;
+use std::sync::Arc;
 
 impl<P: Peer> Ledger<P> {
     ghost use Rattle.link_events.specs.Steps.AsPlanned.{planned};
@@ -141,7 +141,7 @@ impl<P: Peer> Ledger<P> {
         ensures before { before_of self.new ≡ before_of self.old }
         ensures refused { IfErr result (λ e. e ≡ Error.OutOfMemory) }
     {
-        let message = Rc::new(self.alloc, message)?;
+        let message = Arc::new(self.alloc, message)?;
         if let Err(error) = self.flights.push(self.next_id, message, now) {
             give_up(&mut self.flights, &mut self.waiting);
             self.stale = true;

@@ -18,7 +18,7 @@ use fair_rates::peer::Peer;
 use link_pairs::message::Message;
 use link_pairs::pair::PeerPair;
 use std::collections::VecDeque;
-use std::rc::Rc;
+use std::sync::Arc;
 
 impl<P: Peer> Ledger<P> {
     ghost use Rattle.link_events.specs.Steps.AsPlanned.{planned};
@@ -28,7 +28,7 @@ impl<P: Peer> Ledger<P> {
 
     /// All that is in flight drains to that moment. What is done leaves, in order of start, and the
     /// rest gets its fair rates. The finish is planned anew.
-    pub(crate) fn account(&mut self, now: u64) -> Result<VecDeque<Rc<Message<P>>>, Error>
+    pub(crate) fn account(&mut self, now: u64) -> Result<VecDeque<Arc<Message<P>>>, Error>
         ensures accounts { IfOk result (λ leavers. Accounts P.cmp now (planned P.cmp self.old)
             (messages leavers.items) (planned P.cmp self.new)) }
         ensures before { before_of self.new ≡ before_of self.old }
@@ -49,7 +49,7 @@ impl<P: Peer> Ledger<P> {
 
     /// The first half of an account: all that is in flight drains to that moment, and what is done
     /// leaves, in order of start. Answers, too, whether those in flight had fair rates with it.
-    pub(crate) fn leave_at(&mut self, now: u64) -> Result<(VecDeque<Rc<Message<P>>>, bool), Error>
+    pub(crate) fn leave_at(&mut self, now: u64) -> Result<(VecDeque<Arc<Message<P>>>, bool), Error>
         ensures leaves { IfOk result (λ left. Leaves P.cmp now (planned P.cmp self.old)
             (messages left.0.items) (planned P.cmp self.new)) }
         ensures fair { IfOk result (λ left. left.1 ≡ true → ∥ HadFairRates P.cmp
@@ -115,7 +115,7 @@ impl<P: Peer> Ledger<P> {
     pub(crate) fn rate(
         &mut self,
         now: u64,
-        done: &VecDeque<Rc<Message<P>>>,
+        done: &VecDeque<Arc<Message<P>>>,
         were_fair: bool,
     ) -> Result<(), Error>
         requires stale { self.old.stale ≡ true }

@@ -12,14 +12,15 @@ use link_pairs::known_pairs::Pairs;
 use link_pairs::message::Message;
 use link_waiting::waiting::Waiting;
 use std::collections::VecDeque;
-use std::rc::Rc;
+use std::ops::Deref;
+use std::sync::Arc;
 
 /// The pairs of messages that are done are idle from now on: none of them is in flight. Answers the
 /// moment from which on the next message of the first one's pair may start, if one waits.
 pub(crate) fn tell_all<P: Peer>(
     waiting: &mut Waiting<P>,
     pairs: &Pairs<P>,
-    done: &VecDeque<Rc<Message<P>>>,
+    done: &VecDeque<Arc<Message<P>>>,
 ) -> Result<Option<u64>, Error>
     ensures messages { OnOk result (waiting.new.messages ≡ waiting.old.messages) }
     ensures at_rest { OnOk result (AreAtRest P.cmp (of_pairs P.cmp pairs.now.entries waiting.old.messages [])
@@ -31,7 +32,7 @@ pub(crate) fn tell_all<P: Peer>(
 {
     let mut first = None;
     for at in 0..done.len() {
-        let message = Rc::as_ref(&done[at]);
+        let message = done[at].deref();
         let (origin, recipient) = (&message.origin, &message.recipient);
         let last = pairs.last_arrival(origin, recipient);
         let since = waiting.tell_since(origin, recipient, last)?;

@@ -22,7 +22,7 @@ use link_flights::account::is_unlimited;
 use link_pairs::completion::Ended;
 use link_pairs::message::Message;
 use std::collections::VecDeque;
-use std::rc::Rc;
+use std::sync::Arc;
 
 impl<P: Peer> Ledger<P> {
     ghost use Rattle.link_events.specs.Steps.AsPlanned.{planned};
@@ -101,10 +101,10 @@ impl<P: Peer> Ledger<P> {
         &mut self,
         message: &Message<P>,
         since: Option<u64>,
-        done: &VecDeque<Rc<Message<P>>>,
+        done: &VecDeque<Arc<Message<P>>>,
         were_fair: bool,
         now: u64,
-    ) -> Result<VecDeque<Rc<Message<P>>>, Error>
+    ) -> Result<VecDeque<Arc<Message<P>>>, Error>
         requires stale { self.old.stale ≡ true }
         requires moment { self.old.flights.at ≡ now }
         requires left { (old here : AnyPlanned P) × (leavers : List (AnyMessage P)) × Leaves P.cmp now old leavers here
@@ -140,7 +140,7 @@ impl<P: Peer> Ledger<P> {
         &mut self,
         now: u64,
         ended: &mut Vec<Ended<P>>,
-    ) -> Result<VecDeque<Rc<Message<P>>>, Error>
+    ) -> Result<VecDeque<Arc<Message<P>>>, Error>
         ensures settles { IfOk result (λ queue. (cs : List (Completed P))
             × (map ended_of ended.new.items ≡ map ended_of ended.old.items ++ cs)
             × ((course : Course (Completed P) (AnyPlanned P))

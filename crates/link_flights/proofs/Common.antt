@@ -22,7 +22,7 @@ pub use Rattle.std.specs.List.{AllZip, filter, list_all, list_any, remove}
 pub use Rattle.std.specs.Prelude.{slice_index, unwrap_or}
 pub use Rattle.std.specs.declared.alloc.Global.{Global}
 pub use Rattle.std.specs.declared.cmp.Ordering.{Ordering}
-pub use Rattle.std.specs.declared.rc.Rc.{Rc}
+pub use Rattle.std.specs.declared.sync.Arc.{Arc}
 pub use Rattle.fair_rates.proofs.Fairness.Sharing.{AreShared, shared_from}
 pub use Rattle.fair_rates.proofs.Lists.Booleans.{by_bool, first_of_both, second_of_both}
 pub use Rattle.fair_rates.proofs.Lists.InPlace.{IsChangedUpTo}

@@ -20,7 +20,7 @@ use link_pairs::peers::Peers;
 use natural::Natural;
 use std::alloc::Global;
 use std::collections::VecDeque;
-use std::rc::Rc;
+use std::sync::Arc;
 
 /// Whether the message uses no capped side.
 pub fn is_unlimited<P: Peer>(message: &Message<P>, peers: &Peers<P>, pairs: &Pairs<P>) -> bool
@@ -138,7 +138,7 @@ impl<P: Peer> Flights<P> {
         peers: &Peers<P>,
         pairs: &Pairs<P>,
         were_rated: bool,
-    ) -> Result<VecDeque<Rc<Message<P>>>, Error>
+    ) -> Result<VecDeque<Arc<Message<P>>>, Error>
         requires limited { were_rated ≡ true → are_limited P.cmp (caps_of P.cmp peers.now.entries pairs.now.entries)
             (rated_ones (in_units self.old)) ≡ true }
         requires timed { were_rated ≡ true → AreTimed self.old.list.items }

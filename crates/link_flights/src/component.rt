@@ -28,7 +28,7 @@ use link_pairs::peers::Peers;
 use natural::Natural;
 use std::alloc::Global;
 use std::collections::VecDeque;
-use std::rc::Rc;
+use std::sync::Arc;
 
 /// So many messages a component has room for before their list has to move. Most join no more.
 const FEW_JOINED: usize = 8;
@@ -54,7 +54,7 @@ pub(crate) struct Component<P> {
     /// In units.
     pub(crate) level: Natural,
     /// Its senders and receivers are those of these.
-    pub(crate) joined: Vec<Rc<Message<P>>>,
+    pub(crate) joined: Vec<Arc<Message<P>>>,
     /// The places of those in flight of which it has an end, in order of start, once they are known.
     /// Of all, they are all places, and stand nowhere.
     pub(crate) near: Vec<usize>,
@@ -139,7 +139,7 @@ impl<P: Peer> Component<P> {
     }
 
     /// Takes in the ends of the message.
-    fn join(&mut self, message: &Rc<Message<P>>) -> Result<(), Error>
+    fn join(&mut self, message: &Arc<Message<P>>) -> Result<(), Error>
         ensures has { OnOk result (has_both P.cmp self.new message.now.value ≡ true) }
         ensures joined { OnOk result (StartsWith self.old.joined.items self.new.joined.items) }
         ensures near { self.new.near.items ≡ self.old.near.items }
@@ -163,7 +163,7 @@ impl<P: Peer> Component<P> {
 }
 
 /// Whether the peer sends one of the messages.
-fn sends_any<P: Peer>(peer: &P, messages: &[Rc<Message<P>>]) -> bool
+fn sends_any<P: Peer>(peer: &P, messages: &[Arc<Message<P>>]) -> bool
     ensures { result ≡ list_any (λ m. same_peer P.cmp peer.now m.value.origin) messages.now }
 {
     messages
@@ -172,7 +172,7 @@ fn sends_any<P: Peer>(peer: &P, messages: &[Rc<Message<P>>]) -> bool
 }
 
 /// Whether the peer is to receive one of the messages.
-fn receives_any<P: Peer>(peer: &P, messages: &[Rc<Message<P>>]) -> bool
+fn receives_any<P: Peer>(peer: &P, messages: &[Arc<Message<P>>]) -> bool
     ensures { result ≡ list_any (λ m. same_peer P.cmp peer.now m.value.recipient) messages.now }
 {
     messages
@@ -215,7 +215,7 @@ impl<P: Peer> Flights<P> {
     /// where it is large. What it has an end of is listed in room that is given.
     pub(crate) fn component(
         &self,
-        done: &VecDeque<Rc<Message<P>>>,
+        done: &VecDeque<Arc<Message<P>>>,
         peers: &Peers<P>,
         pairs: &Pairs<P>,
         noted: &mut Vec<bool>,
@@ -332,7 +332,7 @@ impl<P: Peer> Flights<P> {
     /// The component has the ends of the messages that are done or loose, and of those that have got no rate yet.
     fn join_touched(
         &self,
-        done: &VecDeque<Rc<Message<P>>>,
+        done: &VecDeque<Arc<Message<P>>>,
         component: &mut Component<P>,
     ) -> Result<(), Error>
         ensures done { OnOk result (All (λ m. has_both P.cmp component.new m.value ≡ true) done.now.items) }
@@ -606,7 +606,7 @@ impl<P: Peer> Flights<P> {
 }
 
 /// Whether one of the messages shares that end with the message.
-fn shares_with_any<P: Peer>(end: End, message: &Message<P>, messages: &[Rc<Message<P>>]) -> bool
+fn shares_with_any<P: Peer>(end: End, message: &Message<P>, messages: &[Arc<Message<P>>]) -> bool
     ensures { result ≡ list_any (λ m. share P.cmp end message.now m.value) messages.now }
 {
     match end {

@@ -10,13 +10,13 @@ use fair_rates::error::Error;
 use fair_rates::peer::Peer;
 use link_pairs::message::Message;
 use natural::Natural;
-use std::rc::Rc;
+use std::sync::Arc;
 
 /// A message in flight. What is left, and the rate, are whole numbers of the units that all
 /// messages in flight share.
 #[derive(Drop)]
 pub(crate) struct Flight<P> {
-    pub(crate) message: Rc<Message<P>>,
+    pub(crate) message: Arc<Message<P>>,
     /// Whether an account has given it a rate since its start.
     pub(crate) rated: bool,
     /// The moment from which on nothing is left, if there is one up to the last moment.

@@ -15,7 +15,7 @@ use fair_rates::peer::Peer;
 use link_pairs::message::Message;
 use natural::Natural;
 use std::alloc::{AllocError, Global};
-use std::rc::Rc;
+use std::sync::Arc;
 
 /// Units of what is left in a byte, for each unit of a rate in a byte a second: nanoseconds in a
 /// second.
@@ -113,7 +113,7 @@ impl<P: Peer> Flights<P> {
 
     /// The message is in flight under that flow id from now on. It gets its rate at the account that
     /// follows.
-    pub fn push(&mut self, id: u64, message: Rc<Message<P>>, now: u64) -> Result<(), Error>
+    pub fn push(&mut self, id: u64, message: Arc<Message<P>>, now: u64) -> Result<(), Error>
         ensures sending { OnOk result (in_flight self.new ≡ in_flight self.old
             ++ record {
               id = id;

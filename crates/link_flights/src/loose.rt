@@ -17,12 +17,12 @@ use link_pairs::message::Message;
 use link_pairs::peers::Peers;
 use std::alloc::{AllocError, Global};
 use std::marker::Model;
-use std::rc::Rc;
+use std::sync::Arc;
 
 /// Messages in flight for which a cap has changed since the last account.
 #[derive(Drop)]
 pub struct Loose<P: Peer> {
-    messages: Vec<Rc<Message<P>>>,
+    messages: Vec<Arc<Message<P>>>,
 }
 
 impl<P: Peer> Model for Loose<P> {
@@ -47,7 +47,7 @@ impl<P: Peer> Loose<P> {
     }
 
     /// The messages.
-    pub(crate) fn as_slice(&self) -> &[Rc<Message<P>>]
+    pub(crate) fn as_slice(&self) -> &[Arc<Message<P>>]
         ensures { map (λ message. message.value) result.now ≡ self.now }
     {
         self.messages.as_slice()
@@ -61,7 +61,7 @@ impl<P: Peer> Loose<P> {
     }
 
     /// One more message.
-    fn push(&mut self, message: Rc<Message<P>>) -> Result<(), AllocError>
+    fn push(&mut self, message: Arc<Message<P>>) -> Result<(), AllocError>
         ensures { OnOk result (self.new ≡ self.old ++ message.value ∷ []) }
     {
         self.messages.push(message)?;

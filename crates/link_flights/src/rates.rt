@@ -36,7 +36,7 @@ use natural::Natural;
 use std::alloc::Global;
 use std::collections::VecDeque;
 use std::mem;
-use std::rc::Rc;
+use std::sync::Arc;
 
 /// So many searches for what an event touches are spared after one that joined all, or too much.
 const SPARED: usize = 3;
@@ -98,7 +98,7 @@ impl<P: Peer> Flights<P> {
         &mut self,
         peers: &Peers<P>,
         pairs: &Pairs<P>,
-        done: &VecDeque<Rc<Message<P>>>,
+        done: &VecDeque<Arc<Message<P>>>,
         were_rated: bool,
     ) -> Result<Option<u64>, Error>
         requires moment { self.old.at ≤ last_moment }
@@ -333,7 +333,7 @@ impl<P: Peer> Flights<P> {
     /// What is touched: the component of what is done, loose or new, or all from a level on.
     fn touched(
         &self,
-        done: &VecDeque<Rc<Message<P>>>,
+        done: &VecDeque<Arc<Message<P>>>,
         peers: &Peers<P>,
         pairs: &Pairs<P>,
         noted: &mut Vec<bool>,

@@ -13,7 +13,7 @@ use fair_rates::error::Error;
 use fair_rates::peer::Peer;
 use fair_rates::ratio::Ratio;
 use natural::Natural;
-use std::rc::Rc;
+use std::sync::Arc;
 
 /// Nanoseconds in a second.
 const BILLION: u128 = 1_000_000_000;
@@ -81,7 +81,7 @@ fn read_one<P: Peer>(
     ensures since { IfOk result (λ r. r.since ≡ (flight_at at flight.now).updated) }
     ensures refused { IfErr result (λ e. e ≡ Error.OutOfMemory) }
 {
-    let message = Rc::as_ref(&flight.message);
+    let message = &flight.message;
     Ok(InFlight {
         origin: message.origin.clone_peer().ok_or(Error::OutOfMemory)?,
         recipient: message.recipient.clone_peer().ok_or(Error::OutOfMemory)?,

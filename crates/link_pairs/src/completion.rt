@@ -11,7 +11,7 @@ use bytes::Bytes;
 use fair_rates::error::Error;
 use fair_rates::peer::Peer;
 use std::alloc::Global;
-use std::rc::Rc;
+use std::sync::Arc;
 
 /// What became of a message. `M` is what comes back of it: the bytes, where nothing else is said.
 #[derive(Drop)]
@@ -32,7 +32,7 @@ pub struct Completion<P, M = Bytes> {
 #[derive(Drop)]
 pub struct Ended<P> {
     /// What was sent.
-    pub message: Rc<Message<P>>,
+    pub message: Arc<Message<P>>,
     /// When all of it was sent, in nanoseconds since the start.
     pub done_at: u64,
     /// When it arrives, in nanoseconds since the start. `None` where it is dropped.

@@ -18,13 +18,14 @@ use least_moment::Moments;
 use link_pairs::message::Message;
 use link_pairs::pair::PeerPair;
 use std::alloc::{AllocError, Global};
-use std::rc::Rc;
+use std::ops::Deref;
+use std::sync::Arc;
 use undo_list::UndoList;
 
 /// A message that waits.
 #[derive(Drop)]
 pub(crate) struct Slot<P> {
-    pub(crate) message: Rc<Message<P>>,
+    pub(crate) message: Arc<Message<P>>,
     // The number of its pair.
     pub(crate) pair: usize,
     // From which moment on it may start. It is told of the first message of a pair alone.
@@ -170,7 +171,7 @@ impl<P: Peer> Slots<P> {
     }
 
     /// A message comes, as the last one of its pair. Where memory is refused, part of that is done.
-    pub(crate) fn push(&mut self, message: Rc<Message<P>>, pair: usize) -> Result<(), AllocError>
+    pub(crate) fn push(&mut self, message: Arc<Message<P>>, pair: usize) -> Result<(), AllocError>
         requires stands { Stands self.old }
         requires marked { Marked self.old }
         ensures now { OnOk result (live self.new.slots.items ≡ live self.old.slots.items
@@ -189,7 +190,7 @@ impl<P: Peer> Slots<P> {
     }
 
     /// The first message that waits for a pair goes. Where memory is refused, part of that is done.
-    pub(crate) fn take_first(&mut self, pair: usize) -> Result<Option<Rc<Message<P>>>, AllocError>
+    pub(crate) fn take_first(&mut self, pair: usize) -> Result<Option<Arc<Message<P>>>, AllocError>
         requires stands { Stands self.old }
         requires marked { Marked self.old }
         ensures taken { IfOk result (λ taken. option_map (λ m. message_of m.value) taken
@@ -277,7 +278,7 @@ impl<P: Peer> Slots<P> {
             let Some(slot) = self.first(pair) else {
                 unreachable!();
             };
-            let message = Rc::as_ref(&slot.message);
+            let message = slot.message.deref();
             due.push(PeerPair::new(&message.origin, &message.recipient)?)?;
             prove!(pair < end);
             next = self.moments.next_due(pair + 1, now);

@@ -22,7 +22,7 @@ use link_pairs::pair::PeerPair;
 use peer_numbers::PairNumbers;
 use std::alloc::Global;
 use std::marker::Model;
-use std::rc::Rc;
+use std::sync::Arc;
 
 /// The messages that wait, in the order of their pairs, those of a pair in order of `enqueue`; and of each pair the
 /// moment from which on its first waiting message may start, if one was told.
@@ -82,7 +82,7 @@ fn add<P: Peer>(
     ensures numbered { AreNumbered P.cmp pairs.new (live slots.new.slots.before) }
 {
     let pair = pairs.add(&message.origin, &message.recipient)?;
-    slots.push(Rc::new(alloc, message)?, pair)?;
+    slots.push(Arc::new(alloc, message)?, pair)?;
     Ok(())
 }
 
@@ -193,7 +193,11 @@ impl<P: Peer> Waiting<P> {
     /// Takes the first message that waits for the pair. From when on the next one may start is not told then.
     ///
     /// `OutOfMemory`: memory was refused. Then all is taken back to the mark.
-    pub fn take_first(&mut self, origin: &P, recipient: &P) -> Result<Option<Rc<Message<P>>>, Error>
+    pub fn take_first(
+        &mut self,
+        origin: &P,
+        recipient: &P,
+    ) -> Result<Option<Arc<Message<P>>>, Error>
         ensures taken { IfOk result (λ taken. option_map (λ m. message_of m.value) taken
             ≡ first_of P.cmp self.old.messages origin.now recipient.now) }
         ensures others { OnOk result (self.new.messages

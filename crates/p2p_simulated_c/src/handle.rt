@@ -5,6 +5,7 @@ use super::opened::Opened;
 use super::place::Place;
 use super::unboxed::Unboxed;
 use std::alloc::Global;
+use std::marker::Send;
 use std::mem;
 
 /// A scheduler, or none: `is_open` is 1 exactly where one is there. All zeros is a handle that is
@@ -15,6 +16,13 @@ pub struct Scheduler {
     place: Place,
     is_open: u8,
     pub ghost known: { is_open ≡ 1 ↔ IsSome place.opened },
+}
+
+/// What may go to another thread, as it is.
+fn crossing<T: Send>(value: T) -> T
+    ensures { result ≡ value }
+{
+    value
 }
 
 impl Scheduler {
@@ -28,14 +36,14 @@ impl Scheduler {
         }
     }
 
-    /// A handle of that scheduler.
+    /// A handle of that scheduler, which may go to another thread between two calls.
     pub fn of(opened: Box<Opened, Global>) -> Scheduler
         ensures { result.place.opened ≡ Some opened.value }
     {
-        Scheduler {
+        crossing(Scheduler {
             place: Place::of(Unboxed::of(opened)),
             is_open: 1,
-        }
+        })
     }
 
     /// Takes the scheduler out of the handle, which is not open then.

@@ -6,7 +6,7 @@ ghost use Rattle.p2p_simulated_c.specs.Place.{place_owns, place_coded};
 use super::opened::Opened;
 use super::unboxed::Unboxed;
 use std::alloc::Global;
-use std::marker::Model;
+use std::marker::{Model, Send};
 
 /// The place of an open scheduler, which it owns, or of none. Who lets go of it without
 /// `into_unboxed` leaves the scheduler where it lies, and its memory is never freed.
@@ -56,3 +56,6 @@ impl Place {
         }
     }
 }
+
+// What it owns may go to another thread, and any thread may give its memory back.
+unsafe impl Send for Place {}

@@ -7,4 +7,5 @@ pub mod peers;
 pub mod rates;
 pub mod replies;
 pub mod routes;
+pub mod threads;
 pub mod worlds;

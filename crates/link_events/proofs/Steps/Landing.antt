@@ -1,7 +1,7 @@
 -- What is done leaves, and the first of it lands: which pairs are idle then.
 use Rattle.std.proofs.Common.{◌≡◌, ℕ, zero, suc, ◌<◌, ◌≤◌, Bool, true, false, not, List, [], ◌∷◌, length, get_or}
 use Rattle.std.proofs.Common.{◌+◌, take, refl, sym, ap, ◌∙◌, subst, arith}
-use Rattle.std.specs.declared.rc.Rc.{Rc}
+use Rattle.std.specs.declared.sync.Arc.{Arc}
 use Rattle.std.specs.declared.alloc.Global.{Global}
 use Rattle.link_pairs.specs.Pairs.Messages.{message_of, messages}
 use Rattle.std.specs.List.{filter, list_any}
@@ -114,7 +114,7 @@ module _ {P : Type 0} (cmp : P → P → Ordering) (order : IsTotalOrder cmp) wh
       }
 
 -- no message is in a queue of none
-pub no_message : {P : Type 0} (queue : List (Rc (code.Message P) Global)) → length queue ≤ 0 → messages queue ≡ []
+pub no_message : {P : Type 0} (queue : List (Arc (code.Message P) Global)) → length queue ≤ 0 → messages queue ≡ []
 no_message [] none = refl
 no_message (x ∷ queue) none = absurd (omega (arith, none))
 
@@ -139,19 +139,19 @@ module _ {P : Type 0} (cmp : P → P → Ordering) (t : ℕ) (old new : Planned 
 
 module _ {P : Type 0} (cmp : P → P → Ordering) (p : Planned P) where
   -- the first of a queue is that of the front with one message
-  pub since_taken_first : (queue : List (Rc (code.Message P) Global)) (x : Rc (code.Message P) Global) (at : ℕ)
+  pub since_taken_first : (queue : List (Arc (code.Message P) Global)) (x : Arc (code.Message P) Global) (at : ℕ)
       → at < length queue → at ≡ 0 → x ≡ get_or queue at x
       → since_of_first cmp p (messages (take (at + 1) queue))
       ≡ idle_from cmp p (message_of x.value).origin (message_of x.value).recipient
   since_taken_first [] x at inside zero_is there = absurd (omega (arith, inside))
   since_taken_first (y ∷ queue) x zero inside zero_is there =
       ap
-      (λ (r : Rc (code.Message P) Global). idle_from cmp p (message_of r.value).origin (message_of r.value).recipient)
+      (λ (r : Arc (code.Message P) Global). idle_from cmp p (message_of r.value).origin (message_of r.value).recipient)
       (sym there)
   since_taken_first (y ∷ queue) x (suc at) inside zero_is there = absurd (omega (arith, zero_is))
 
   -- and that of each front with more
-  pub since_taken : (queue : List (Rc (code.Message P) Global)) (at more : ℕ) → 0 < at → 0 < more
+  pub since_taken : (queue : List (Arc (code.Message P) Global)) (at more : ℕ) → 0 < at → 0 < more
       → since_of_first cmp p (messages (take at queue)) ≡ since_of_first cmp p (messages (take more queue))
   since_taken queue zero more some_at some = absurd (omega (arith, some_at))
   since_taken queue (suc at) zero some_at some = absurd (omega (arith, some))

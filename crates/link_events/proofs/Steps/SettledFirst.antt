@@ -3,7 +3,7 @@ use Rattle.std.proofs.Common.{◌≡◌, ℕ, ◌<◌, List, [], ◌∷◌, ◌+
 use Rattle.std.proofs.Common.{get_or, drop, drop-cons, append_assoc, Result, Ok, Err, IfOk, IfErr, refl, sym, ap, ◌∙◌, subst}
 use Rattle.std.specs.declared.alloc.Global.{Global}
 use Rattle.std.specs.declared.cmp.Ordering.{Ordering}
-use Rattle.std.specs.declared.rc.Rc.{Rc}
+use Rattle.std.specs.declared.sync.Arc.{Arc}
 use Rattle.std.specs.Cmp.{IsTotalOrder}
 use Rattle.std.proofs.lemmas.List.{append-nil, map-append}
 use Rattle.fair_rates.specs.declared.error.Error.{Error}
@@ -22,22 +22,22 @@ use Rattle.link_simulation.proofs.Simulation.Queue.{preceded_none}
 use Rattle.link_simulation.proofs.Simulation.RefusalCauses.{refused_more, refused_memory}
 
 -- the messages of a queue that has a first one are that one and the others
-pub first_and_others : {P : Type 0} (queue : List (Rc (code.Message P) Global)) (first : Rc (code.Message P) Global)
+pub first_and_others : {P : Type 0} (queue : List (Arc (code.Message P) Global)) (first : Arc (code.Message P) Global)
     (m : code.Message P)
     → 0 < length queue → first ≡ get_or queue 0 first → m ≡ first.value
     → messages queue ≡ message_of m ∷ messages (drop 1 queue)
 first_and_others {P} queue first m some is same =
     ap messages (drop-cons queue 0 first some)
-    ∙ ap (λ (r : Rc (code.Message P) Global). message_of r.value ∷ messages (drop 1 queue)) (sym is)
+    ∙ ap (λ (r : Arc (code.Message P) Global). message_of r.value ∷ messages (drop 1 queue)) (sym is)
     ∙ ap (λ (x : code.Message P). message_of x ∷ messages (drop 1 queue)) (sym same)
 
 -- the messages of what is left of a queue, with more at its end
-pub others_and_more : {P : Type 0} (queue rest more joined : List (Rc (code.Message P) Global))
+pub others_and_more : {P : Type 0} (queue rest more joined : List (Arc (code.Message P) Global))
     → rest ≡ drop 1 queue → joined ≡ rest ++ more → messages joined ≡ messages (drop 1 queue) ++ messages more
 others_and_more {P} queue rest more joined is joins =
     ap messages joins
-    ∙ map-append (λ (r : Rc (code.Message P) Global). message_of r.value) rest more
-    ∙ ap (λ (l : List (Rc (code.Message P) Global)). messages l ++ messages more) is
+    ∙ map-append (λ (r : Arc (code.Message P) Global). message_of r.value) rest more
+    ∙ ap (λ (l : List (Arc (code.Message P) Global)). messages l ++ messages more) is
 
 module _ {P : Type 0} (cmp : P → P → Ordering) where
   -- this came out, and the finishes of a queue settle what is left

@@ -1,7 +1,7 @@
 -- Flows of messages in flight, one after another, and those of a component of all.
 use Rattle.link_flights.proofs.Common.{◌≡◌, ℕ, ◌+◌, ◌<◌, nat_le, Bool, true, false, not, ◌&&◌, ◌||◌, List, [], ◌∷◌}
 use Rattle.link_flights.proofs.Common.{◌++◌, length, take, get_or, refl, sym, ap, ap₂, ◌∙◌, arith, if◌then◌else◌}
-use Rattle.link_flights.proofs.Common.{list_all, list_any, Ordering, Rc, Global, le-leb, map-append, same_peer}
+use Rattle.link_flights.proofs.Common.{list_all, list_any, Ordering, Arc, Global, le-leb, map-append, same_peer}
 use Rattle.link_flights.proofs.Common.{Component, Flight, keeps, is_of, those_of, is_sender, is_receiver, has_both}
 use Rattle.link_flights.proofs.Common.{touches, suits, is_closed, UnitFlight, flight_at, flights_at}
 use Rattle.std.proofs.lemmas.List.{take_more}
@@ -70,7 +70,7 @@ module _ {P : Type 0} (cmp : P → P → Ordering) (component : Component P) (wh
       ap (λ b. keeps component u || (if b then has_both cmp component u.message else u.rated)) (touched u.message)
       ∙ ap (λ b. keeps component u || b) (both u.message) ∙ or_true (keeps component u)
 
-  pub closed_whole : (done : List (Rc (Message P) Global)) (us : List (UnitFlight P))
+  pub closed_whole : (done : List (Arc (Message P) Global)) (us : List (UnitFlight P))
       → is_closed cmp component done us ≡ true
   closed_whole done us =
       ap₂ (λ a b. a && b) (all_pass (λ m. has_both cmp component m.value) (λ m. both m.value) done)

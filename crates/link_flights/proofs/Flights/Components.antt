@@ -2,7 +2,7 @@
 use Rattle.link_flights.proofs.Common.{◌≡◌, ℕ, suc, ◌+◌, ◌*◌, ◌≤◌, Bool, true, false, cond, if◌then◌else◌, not, ◌&&◌}
 use Rattle.link_flights.proofs.Common.{◌||◌, List, [], ◌∷◌, Option, Some, None, IfSome, All, map, length, sum_by, refl}
 use Rattle.link_flights.proofs.Common.{◌⊎◌, sym, ap, ap₂, ◌∙◌, subst, inl, inr, arith, zero-add, slice_index, AllZip}
-use Rattle.link_flights.proofs.Common.{filter, list_all, list_any, IsTotalOrder, Ordering, Rc, Global, false≢true}
+use Rattle.link_flights.proofs.Common.{filter, list_all, list_any, IsTotalOrder, Ordering, Arc, Global, false≢true}
 use Rattle.link_flights.proofs.Common.{le-leb, eq_by_cmp_equiv, length-map, All-contains, sum_by-cons}
 use Rattle.link_flights.proofs.Common.{All-from_contains, Flow, Caps, Subject, sent_by, received_by, sent_between}
 use Rattle.link_flights.proofs.Common.{same_peer, Side, IsFair, AreOfPeers, cap_of, limits, sides_under, parts_of_level}
@@ -405,7 +405,7 @@ module _ {P : Type 0} (cmp : P → P → Ordering) (component : Component P) whe
     same_sender : (p q : P) → same_peer cmp p q ≡ true → is_sender cmp component p ≡ is_sender cmp component q
     same_sender p q e = ap (λ b. component.whole || b) (each component.joined.items)
       where
-        each : (ms : List (Rc (code.Message P) Global))
+        each : (ms : List (Arc (code.Message P) Global))
             → list_any (λ m. same_peer cmp p m.value.origin) ms ≡ list_any (λ m. same_peer cmp q m.value.origin) ms
         each [] = refl
         each (m ∷ ms) =
@@ -414,7 +414,7 @@ module _ {P : Type 0} (cmp : P → P → Ordering) (component : Component P) whe
     same_receiver : (p q : P) → same_peer cmp p q ≡ true → is_receiver cmp component p ≡ is_receiver cmp component q
     same_receiver p q e = ap (λ b. component.whole || b) (each component.joined.items)
       where
-        each : (ms : List (Rc (code.Message P) Global))
+        each : (ms : List (Arc (code.Message P) Global))
             → list_any (λ m. same_peer cmp p m.value.recipient) ms
             ≡ list_any (λ m. same_peer cmp q m.value.recipient) ms
         each [] = refl
@@ -455,7 +455,7 @@ module _ {P : Type 0} (cmp : P → P → Ordering) (component : Component P) whe
         (sym (same_sender p g.origin (first_of_both (same_peer cmp p g.origin) (same_peer cmp q g.recipient) lg))
         ∙ same_sender p f.origin (first_of_both (same_peer cmp p f.origin) (same_peer cmp q f.recipient) lf) ∙ sends)
 
-  module _ (done : List (Rc (code.Message P) Global)) (us : List (UnitFlight P))
+  module _ (done : List (Arc (code.Message P) Global)) (us : List (UnitFlight P))
       (closed : is_closed cmp component done us ≡ true) where
     suits_one : (u : UnitFlight P) → In us u → suits cmp component u ≡ true
     suits_one u h = all_pass (suits cmp component) us (second_of_both _ (list_all (suits cmp component) us) closed) u h
@@ -548,9 +548,9 @@ module _ {P : Type 0} (cmp : P → P → Ordering) (component : Component P) whe
           subst (λ (ms : List (Message P)). In ms (message_of u.message)) (sym were.parted.left)
           (in_map (λ (v : UnitFlight P). message_of v.message) (filter were.is_done were.before) u
           (in_filter were.is_done were.before u h is)) in
-          let m = from_map (λ (m : Rc (code.Message P) Global). message_of m.value) done (message_of u.message) there in
+          let m = from_map (λ (m : Arc (code.Message P) Global). message_of m.value) done (message_of u.message) there in
           ends_of_message u m.0.value m.2
-          (all_pass (λ (m : Rc (code.Message P) Global). has_both cmp component m.value) done
+          (all_pass (λ (m : Arc (code.Message P) Global). has_both cmp component m.value) done
           (first_of_both _ (list_all (suits cmp component) us) closed) m.0 m.1)
 
       -- one whose sender it has is of it, where it has no less than the floor

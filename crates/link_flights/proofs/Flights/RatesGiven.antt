@@ -1,7 +1,7 @@
 -- Rates that are given to what is in flight.
 use Rattle.link_flights.proofs.Common.{◌≡◌, ◌≢◌, ℕ, zero, suc, ◌-◌, ◌*◌, ◌<◌, ◌≤◌, List, [], ◌∷◌, All, IfSome, length}
 use Rattle.link_flights.proofs.Common.{map, refl, sym, ap, not, cond, sum_by, option_map, zero-add, ◌∙◌, subst, arith}
-use Rattle.link_flights.proofs.Common.{true, AllZip, filter, IsTotalOrder, Ordering, Rc, Global, le-leb, All-contains}
+use Rattle.link_flights.proofs.Common.{true, AllZip, filter, IsTotalOrder, Ordering, Arc, Global, le-leb, All-contains}
 use Rattle.link_flights.proofs.Common.{AreShared, shared_from, capped_sides, product, IsFair, In, all_pass}
 use Rattle.link_flights.proofs.Common.{All-from_contains, Caps, Subject, sent_by, received_by, sent_between, AreOfPeers}
 use Rattle.link_flights.proofs.Common.{cap_of, limits, sides_under, Component, messages, Flights, UnitFlight, AreTimed}
@@ -138,7 +138,7 @@ module _ {P : Type 0} (cmp : P → P → Ordering) (caps : Caps P) (component : 
 module _ {P : Type 0} (cmp : P → P → Ordering) (caps : Caps P) (component : Component P) where
   pub beside_given : {a : _} {b : _} {c : _} (old new : Flights P a b c)
       → AreRatedBeside cmp caps component old new → IsTotalOrder cmp → AreOfPeers cmp caps
-      → (done : List (Rc (code.Message P) Global)) → is_closed cmp component done (in_units old) ≡ true
+      → (done : List (Arc (code.Message P) Global)) → is_closed cmp component done (in_units old) ≡ true
       → All (λ m. has_both cmp component m ≡ true) old.loose
       → ∥ WereRated cmp caps old.scale (in_units old) (messages done) (loose_in old) old.floor ∥₁
       → IfSome old.floor (λ f. component.level ≤ f)

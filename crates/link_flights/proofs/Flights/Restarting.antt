@@ -3,7 +3,7 @@
 use Rattle.link_flights.proofs.Common.{◌≡◌, ℕ, ◌+◌, ◌-◌, ◌*◌, ◌≤◌, Bool, true, false, cond, not, ◌⊎◌, List, [], ◌∷◌}
 use Rattle.link_flights.proofs.Common.{All, Option, Some, None, IfSome, map, length, refl, sym, ap, ◌∙◌, subst, inl}
 use Rattle.link_flights.proofs.Common.{inr, sum_by, option_map, arith, zero-add, slice_index, filter, IsTotalOrder}
-use Rattle.link_flights.proofs.Common.{Ordering, Rc, Global, false≢true, le-leb, leb-true, nil_from_length, sum_by-cons}
+use Rattle.link_flights.proofs.Common.{Ordering, Arc, Global, false≢true, le-leb, leb-true, nil_from_length, sum_by-cons}
 use Rattle.link_flights.proofs.Common.{IsFair, AreOfPeers, limits, cap_of, sides_under, Caps, Subject, Flow, AreShared}
 use Rattle.link_flights.proofs.Common.{shared_from, by_bool, second_of_both, In, from_map, from_filter, in_filter}
 use Rattle.link_flights.proofs.Common.{Component, messages, message_of, UnitFlight, is_sender, is_receiver, is_of}
@@ -122,7 +122,7 @@ module _ {P : Type 0} (cmp : P → P → Ordering) (component : Component P) whe
 
   -- ---- the restart
 
-  module _ (done : List (Rc (code.Message P) Global)) (loose : List (code.Message P)) (us : List (UnitFlight P))
+  module _ (done : List (Arc (code.Message P) Global)) (loose : List (code.Message P)) (us : List (UnitFlight P))
       (closed : is_closed cmp component done us ≡ true) (all_loose : All (λ m. has_both cmp component m ≡ true) loose)
       (order : IsTotalOrder cmp) (caps : Caps P) (of : AreOfPeers cmp caps) (scale : ℕ) (floor : Option ℕ)
       (were : WereRated cmp caps scale us (messages done) (map (λ m. message_of m) loose) floor)

@@ -2,7 +2,7 @@
 use Rattle.link_flights.proofs.Common.{◌≡◌, ℕ, zero, suc, ◌+◌, ◌-◌, ◌<◌, ◌≤◌, Bool, true, false, not, ◌&&◌, ◌||◌, inl}
 use Rattle.link_flights.proofs.Common.{inr, ◌⊎◌, List, [], ◌∷◌, ◌++◌, length, take, get_or, All, Contains, None, Some}
 use Rattle.link_flights.proofs.Common.{refl, sym, ap, ◌∙◌, subst, arith, if◌then◌else◌, IsTotalOrder, filter, list_all}
-use Rattle.link_flights.proofs.Common.{list_any, Ordering, Rc, Global, cases_lt, false≢true, and_from, eq_by_cmp_equiv}
+use Rattle.link_flights.proofs.Common.{list_any, Ordering, Arc, Global, cases_lt, false≢true, and_from, eq_by_cmp_equiv}
 use Rattle.link_flights.proofs.Common.{take_all, All-contains, All-weaker, list_all-map, none-some, same_Some}
 use Rattle.link_flights.proofs.Common.{get_or_from_slice_get, slice_get_within, same_peer, by_bool, first_of_both}
 use Rattle.link_flights.proofs.Common.{second_of_both, In, get_in, in_from_contains, contains_from_in, all_passed}
@@ -264,7 +264,7 @@ module _ {P : Type 0} (cmp : P → P → Ordering) where
 
   -- who sends or receives still does, where more have joined
   still_any : (old new : Component P) → StartsWith old.joined.items new.joined.items → new.whole ≡ old.whole
-      → (test : Rc (Message P) Global → Bool) → (old.whole || list_any test old.joined.items) ≡ true
+      → (test : Arc (Message P) Global → Bool) → (old.whole || list_any test old.joined.items) ≡ true
       → (new.whole || list_any test new.joined.items) ≡ true
   still_any old new starts whole test is = elim (or_cases old.whole (list_any test old.joined.items) is) [
     | inl all ↦ or_first new.whole (list_any test new.joined.items) (whole ∙ all)
@@ -292,12 +292,12 @@ module _ {P : Type 0} (cmp : P → P → Ordering) where
       near
 
   -- it has an end of what shares one with a message that has joined
-  shares_touches : IsTotalOrder cmp → (component : Component P) (n : ℕ) (m : Rc (Message P) Global)
+  shares_touches : IsTotalOrder cmp → (component : Component P) (n : ℕ) (m : Arc (Message P) Global)
       → n < length component.joined.items → m ≡ get_or component.joined.items n m → (other : Message P)
       → share_an_end cmp m.value other ≡ true → touches cmp component other ≡ true
   shares_touches order component n m inside is other shares =
       let ms = component.joined.items in
-      let found : (test : Rc (Message P) Global → Bool) → test m ≡ true → (component.whole || list_any test ms) ≡ true =
+      let found : (test : Arc (Message P) Global → Bool) → test m ≡ true → (component.whole || list_any test ms) ≡ true =
       λ test passes. or_second component.whole (list_any test ms)
       (list_any_at test ms n m inside (sym (ap test is) ∙ passes)) in
       elim (or_cases (same_peer cmp m.value.origin other.origin) (same_peer cmp m.value.recipient other.recipient)
@@ -312,7 +312,7 @@ module _ {P : Type 0} (cmp : P → P → Ordering) where
 
   -- those listed are touched, where no others came but such that share an end with one that has joined
   pub touched_with : IsTotalOrder cmp → (old new : Component P) → StartsWith old.joined.items new.joined.items
-      → new.whole ≡ old.whole → (list : List (Flight P)) (n : ℕ) (m : Rc (Message P) Global)
+      → new.whole ≡ old.whole → (list : List (Flight P)) (n : ℕ) (m : Arc (Message P) Global)
       → n < length old.joined.items → m ≡ get_or old.joined.items n m → (before after : List ℕ)
       → All (λ p. Contains before p ⊎ SharesAt cmp m.value list p) after → AreTouched cmp old before list
       → AreTouched cmp new after list
@@ -341,7 +341,7 @@ module _ {P : Type 0} (cmp : P → P → Ordering) where
         (second_of_both (is_sender cmp old m.origin) (is_receiver cmp old m.recipient) has))
 
     -- it still has both ends of each of these
-    pub still_has_all : (ms : List (Rc (Message P) Global)) → All (λ m. has_both cmp old m.value ≡ true) ms
+    pub still_has_all : (ms : List (Arc (Message P) Global)) → All (λ m. has_both cmp old m.value ≡ true) ms
         → All (λ m. has_both cmp new m.value ≡ true) ms
     still_has_all ms =
         All-weaker (λ m. has_both cmp old m.value ≡ true) (λ m. has_both cmp new m.value ≡ true)
@@ -354,12 +354,12 @@ module _ {P : Type 0} (cmp : P → P → Ordering) where
         All-weaker (λ m. has_both cmp old m ≡ true) (λ m. has_both cmp new m ≡ true) still_has_both ms
 
     -- and of one more
-    pub has_one_more : (ms : List (Rc (Message P) Global)) (n : ℕ) (m : Rc (Message P) Global) → n < length ms
+    pub has_one_more : (ms : List (Arc (Message P) Global)) (n : ℕ) (m : Arc (Message P) Global) → n < length ms
         → m ≡ get_or ms n m → All (λ m. has_both cmp old m.value ≡ true) (take n ms) → has_both cmp new m.value ≡ true
         → All (λ m. has_both cmp new m.value ≡ true) (take (n + 1) ms)
     has_one_more ms n m inside is all has =
         All-more (λ m. has_both cmp new m.value ≡ true) ms n m inside (still_has_all (take n ms) all)
-        (subst (λ (x : Rc (Message P) Global). has_both cmp new x.value ≡ true) is has)
+        (subst (λ (x : Arc (Message P) Global). has_both cmp new x.value ≡ true) is has)
 
     -- what it touches from a place on it still does, and one more of which it has both ends
     pub touches_one_more : (n end : ℕ) (list : List (Flight P)) → AllTouchFrom old n end list
@@ -459,27 +459,27 @@ module _ {P : Type 0} (cmp : P → P → Ordering) where
     pub whole : new.whole ≡ old.whole
 
   pub still_listed : (list : List (Flight P)) (before after : List ℕ) → AreStillListed before after
-      → (ms : List (Rc (Message P) Global)) → AreAllListed cmp ms before list → AreAllListed cmp ms after list
+      → (ms : List (Arc (Message P) Global)) → AreAllListed cmp ms before list → AreAllListed cmp ms after list
   still_listed list before after still ms all k d below at one there shares =
       still at (all k d below at one there shares)
 
   -- those of so many of the messages are listed, and of one more
-  pub all_listed_more : (list : List (Flight P)) (ms : List (Rc (Message P) Global)) (n : ℕ)
+  pub all_listed_more : (list : List (Flight P)) (ms : List (Arc (Message P) Global)) (n : ℕ)
       (before after : List ℕ) → AreAllListed cmp (take n ms) before list → n < length ms
-      → (m : Rc (Message P) Global) → m ≡ get_or ms n m → AreListed cmp m.value after list
+      → (m : Arc (Message P) Global) → m ≡ get_or ms n m → AreListed cmp m.value after list
       → AreStillListed before after → AreAllListed cmp (take (n + 1) ms) after list
   all_listed_more list ms n before after all inside m is listed still =
       All-more (λ m. AreListed cmp m.value after list) ms n m inside
       (still_listed list before after still (take n ms) all)
-      (subst (λ (x : Rc (Message P) Global). AreListed cmp x.value after list) is listed)
+      (subst (λ (x : Arc (Message P) Global). AreListed cmp x.value after list) is listed)
 
   -- and where more messages have joined since
-  pub all_listed_next : (list : List (Flight P)) (ms more : List (Rc (Message P) Global))
+  pub all_listed_next : (list : List (Flight P)) (ms more : List (Arc (Message P) Global))
       → StartsWith ms more → (n : ℕ) (before after : List ℕ) → n < length ms → AreAllListed cmp (take n ms) before list
-      → AreStillListed before after → (m : Rc (Message P) Global) → m ≡ get_or ms n m
+      → AreStillListed before after → (m : Arc (Message P) Global) → m ≡ get_or ms n m
       → AreListed cmp m.value after list → AreAllListed cmp (take (n + 1) more) after list
   all_listed_next list ms more (rest, e) n before after inside all still m is listed =
-      subst (λ (l : List (Rc (Message P) Global)). AreAllListed cmp l after list)
+      subst (λ (l : List (Arc (Message P) Global)). AreAllListed cmp l after list)
       (sym (ap (take (n + 1)) e ∙ take-append-le (n + 1) ms rest (omega (arith, inside))))
       (all_listed_more list ms n before after all inside m is listed still)
 
@@ -497,21 +497,21 @@ module _ {P : Type 0} (cmp : P → P → Ordering) where
 
   -- what shares that end with a message is listed, once all are that share one with another that has it
   pub listed_before : IsTotalOrder cmp → (end : End) (m : Message P) (list : List (Flight P))
-      (ms : List (Rc (Message P) Global)) (near : List ℕ) → AreAllListed cmp ms near list
+      (ms : List (Arc (Message P) Global)) (near : List ℕ) → AreAllListed cmp ms near list
       → list_any (λ n. share cmp end m n.value) ms ≡ true → AreListedAt cmp end m near list
   listed_before order end m list ms near all any at one there shares =
       let found = Any-from_list_any (λ n. share cmp end m n.value) ms any in
       let other : Message P = one.message.value in
-      subst (λ (n : Rc (Message P) Global). share_an_end cmp n.value other ≡ true → Contains near at) found.3
+      subst (λ (n : Arc (Message P) Global). share_an_end cmp n.value other ≡ true → Contains near at) found.3
       (all found.0 found.1 found.2 at one there)
       (ends_are_shared end found.1.value other (sym (share_alike order end m found.1.value other found.4) ∙ shares))
 
   -- those that were looked through still are listed, where more have joined since
-  pub first_listed : (list : List (Flight P)) (ms more : List (Rc (Message P) Global)) → StartsWith ms more
+  pub first_listed : (list : List (Flight P)) (ms more : List (Arc (Message P) Global)) → StartsWith ms more
       → (n : ℕ) (before after : List ℕ) → n ≤ length ms → AreAllListed cmp (take n ms) before list
       → AreStillListed before after → AreAllListed cmp (take n more) after list
   first_listed list ms more (rest, e) n before after inside all still =
-      subst (λ (l : List (Rc (Message P) Global)). AreAllListed cmp l after list)
+      subst (λ (l : List (Arc (Message P) Global)). AreAllListed cmp l after list)
       (sym (ap (take n) e ∙ take-append-le n ms rest inside))
       (still_listed list before after still (take n ms) all)
 
@@ -532,12 +532,12 @@ module _ {P : Type 0} (cmp : P → P → Ordering) where
   -- one of which the component has an end is listed
   module _ (order : IsTotalOrder cmp) (list : List (Flight P)) (near : List ℕ) (at : ℕ)
       (one : Flight P) (there : slice_get list at ≡ Some one) where
-    by_one : (test : Message P → Bool) (ms : List (Rc (Message P) Global)) → AreAllListed cmp ms near list
+    by_one : (test : Message P → Bool) (ms : List (Arc (Message P) Global)) → AreAllListed cmp ms near list
         → ((m : Message P) → test m ≡ true → share_an_end cmp m one.message.value ≡ true)
         → list_any (λ m. test m.value) ms ≡ true → Contains near at
     by_one test ms all shares any =
         let found = Any-from_list_any (λ m. test m.value) ms any in
-        subst (λ (m : Rc (Message P) Global). share_an_end cmp m.value one.message.value ≡ true → Contains near at)
+        subst (λ (m : Arc (Message P) Global). share_an_end cmp m.value one.message.value ≡ true → Contains near at)
         found.3 (all found.0 found.1 found.2 at one there) (shares found.1.value found.4)
 
     pub touched_listed : (component : Component P) → component.whole ≡ false
@@ -611,7 +611,7 @@ module _ {P : Type 0} (cmp : P → P → Ordering) where
 
     -- it is closed, where it has what is done and suits those listed, and has an end of each that has no rate
     pub closed_if_near : IsTotalOrder cmp → component.whole ≡ false → (near : List ℕ)
-        (done : List (Rc (Message P) Global)) (now settled : ℕ) (list : List (Flight P))
+        (done : List (Arc (Message P) Global)) (now settled : ℕ) (list : List (Flight P))
         → All (λ m. has_both cmp component m.value ≡ true) done → HaveRates settled list
         → AllNewTouch cmp component settled list
         → AreAllListed cmp component.joined.items near list → AreSuited cmp component near list

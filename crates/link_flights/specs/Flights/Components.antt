@@ -4,7 +4,7 @@ use Rattle.std.specs.Prelude.{if◌then◌else◌, List, take}
 use Rattle.std.specs.Prelude.{slice_get, slice_index, Some, ◌++◌, All, Contains}
 use Rattle.std.specs.List.{filter, list_all, list_any}
 use Rattle.std.specs.declared.cmp.Ordering.{Ordering}
-use Rattle.std.specs.declared.rc.Rc.{Rc}
+use Rattle.std.specs.declared.sync.Arc.{Arc}
 use Rattle.std.specs.declared.alloc.Global.{Global}
 use Rattle.fair_rates.specs.Sides.Subjects.{same_peer}
 use Rattle.link_pairs.specs.declared.message.Message.{Message}
@@ -96,7 +96,7 @@ module _ {P : Type 0} (cmp : P → P → Ordering) where
       || (if touches component u.message then has_both component u.message else u.rated)
 
   -- whether it is a component by itself: it suits all that is in flight, and has both ends of what is done
-  abbrev pub is_closed : Component P → List (Rc (Message P) Global) → List (UnitFlight P) → Bool
+  abbrev pub is_closed : Component P → List (Arc (Message P) Global) → List (UnitFlight P) → Bool
   is_closed component done us =
       list_all (λ m. has_both component m.value) done && list_all (suits component) us
 
@@ -148,7 +148,7 @@ module _ {P : Type 0} (cmp : P → P → Ordering) where
       → share_an_end cmp m one.message.value ≡ true → Contains near at
 
   -- each that shares one with any of these messages
-  abbrev pub AreAllListed : List (Rc (Message P) Global) → List ℕ → List (Flight P) → Type 0
+  abbrev pub AreAllListed : List (Arc (Message P) Global) → List ℕ → List (Flight P) → Type 0
   AreAllListed joined near list = All (λ m. AreListed m.value near list) joined
 
   -- the first so many of the messages that have joined were looked through: what shares an end with one is listed, with

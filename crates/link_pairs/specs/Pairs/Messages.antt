@@ -1,7 +1,7 @@
 -- How a message and a completion in the code are read.
 use Rattle.std.specs.Prelude.{ℕ, List, map}
 use Rattle.std.specs.declared.alloc.Global.{Global}
-use Rattle.std.specs.declared.rc.Rc.{Rc}
+use Rattle.std.specs.declared.sync.Arc.{Arc}
 use Rattle.link_simulation.specs.Simulation.Messages.{Message}
 use Rattle.link_simulation.specs.Simulation.World.{Completed, completion_of}
 use Rattle.link_pairs.specs.declared.completion.Completion.{Completion}
@@ -24,7 +24,7 @@ abbrev pub pair_of : {P : Type 0} → code.Message P → P × P
 pair_of m = (m.origin, m.recipient)
 
 -- messages in the code
-abbrev pub messages : {P : Type 0} → List (Rc (code.Message P) Global) → List (Message P)
+abbrev pub messages : {P : Type 0} → List (Arc (code.Message P) Global) → List (Message P)
 messages ms = map (λ m. message_of m.value) ms
 
 -- a completion as it is answered, where what it gives back stands for those bytes

@@ -18,10 +18,10 @@ returns-in_err-arrival-clause-refused g c =
     rw (p.1, p.2) (inr (
       late.0,
       record {
-        first = message_of c.as_ref-first.result.now;
+        first = message_of c.deref-first.result.now;
         others = messages (drop 1 c.args.done.now.items);
-        done_is = first_and_others c.args.done.now.items c.in-Some.first.now c.as_ref-first.result.now
-            c.in-Some.ensures.item.3.0 c.in-Some.ensures.lookup c.as_ref-first.ensures;
+        done_is = first_and_others c.args.done.now.items c.in-Some.first.now c.deref-first.result.now
+            c.in-Some.ensures.item.3.0 c.in-Some.ensures.lookup c.deref-first.ensures;
         is = late.1;
       },
     ))
@@ -29,9 +29,9 @@ returns-in_err-arrival-clause-refused g c =
 pub returns-clause-lands : goal.returns-clause-lands
 returns-clause-lands g c =
     let cmp = g.P.Ord.cmp in
-    let x = message_of c.as_ref-first.result.now in
-    let first = first_and_others c.args.done.now.items c.in-Some.first.now c.as_ref-first.result.now
-    c.in-Some.ensures.item.3.0 c.in-Some.ensures.lookup c.as_ref-first.ensures in
+    let x = message_of c.deref-first.result.now in
+    let first = first_and_others c.args.done.now.items c.in-Some.first.now c.deref-first.result.now
+    c.in-Some.ensures.item.3.0 c.in-Some.ensures.lookup c.deref-first.ensures in
     subst
     (λ (ms : List (Message g.row.P.Denot)). FirstLands cmp c.args.now ms (arrival_of cmp c.args.pairs.now.entries)
     (arrival_of cmp c.raise.new.self.entries) c.then_some.result) (sym first)

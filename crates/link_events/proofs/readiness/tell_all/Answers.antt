@@ -1,7 +1,7 @@
 use Rattle.std.proofs.Common.{◌≡◌, ◌+◌, ◌<◌, List, [], ◌∷◌, ◌++◌, length, take}
 use Rattle.std.proofs.Common.{sym, ap, ◌∙◌, refl, subst, arith}
 use Rattle.std.specs.Prelude.{option_map}
-use Rattle.std.specs.declared.rc.Rc.{Rc}
+use Rattle.std.specs.declared.sync.Arc.{Arc}
 use Rattle.std.specs.declared.alloc.Global.{Global}
 use Rattle.std.proofs.lemmas.List.{map-append, take_more}
 use Rattle.link_simulation.specs.Simulation.Messages.{Message, with_link}
@@ -31,12 +31,12 @@ loop-at-preserved g c =
     let done = c.args.done.now.items in
     let at = c.loop-at.at in
     let lt : at < length done = omega (arith, c.loop-at-test.true, c.len-at-end.ensures, c.args.done.now.ok.0) in
-    let m : Message g.row.P.Denot = message_of c.as_ref-message.result.now in
-    let there : message_of c.index.result.now.value ≡ m = ap message_of (sym c.as_ref-message.ensures) in
+    let m : Message g.row.P.Denot = message_of c.deref-message.result.now in
+    let there : message_of c.index.result.now.value ≡ m = ap message_of (sym c.deref-message.ensures) in
     let more : messages (take (at + 1) done) ≡ messages (take at done) ++ m ∷ [] =
     ap messages
     (take_more done at c.index.result.now lt
-    ∙ ap (λ (x : Rc (code.Message g.row.P.Denot) Global). take at done ++ x ∷ []) (sym c.index.ensures))
+    ∙ ap (λ (x : Arc (code.Message g.row.P.Denot) Global). take at done ++ x ∷ []) (sym c.index.ensures))
     ∙ map-append (λ x. message_of x.value) (take at done) (c.index.result.now ∷ [])
     ∙ ap (λ x. messages (take at done) ++ x ∷ []) there in
     let since_is : c.in_ok-since.since ≡ idle_from cmp q m.origin m.recipient =

@@ -1,5 +1,5 @@
 use Rattle.std.proofs.Common.{List, sym, ◌∙◌, subst, arith}
-use Rattle.std.specs.declared.rc.Rc.{Rc}
+use Rattle.std.specs.declared.sync.Arc.{Arc}
 use Rattle.std.specs.declared.alloc.Global.{Global}
 use Rattle.link_pairs.specs.declared.message.Message as code
 use Rattle.link_simulation.specs.Simulation.World.{goes, meets}
@@ -16,7 +16,7 @@ pub returns-then-not-may_launch-clause-launches : goal.returns-then-not-may_laun
 returns-then-not-may_launch-clause-launches g c =
     let p : Planned g.row.P.Denot = planned g.P.Ord.cmp c.args.self.now in
     subst
-    (λ (items : List (Rc (code.Message g.row.P.Denot) Global)). Launches g.P.Ord.cmp c.args.now p
+    (λ (items : List (Arc (code.Message g.row.P.Denot) Global)). Launches g.P.Ord.cmp c.args.now p
     (first_of g.P.Ord.cmp p.waiting c.args.origin.now c.args.recipient.now) (goes (messages items) p))
     (sym c.new.ensures.items)
     (not_started g.P.Ord.cmp g.met.P.Ord.total c.args.now p _ (sym c.may_launch.ensures ∙ c.if-not-may_launch.true))

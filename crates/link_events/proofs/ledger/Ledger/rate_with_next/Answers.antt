@@ -1,6 +1,6 @@
 use Rattle.std.proofs.Common.{[], refl, sym, ◌∙◌, subst, List}
 use Rattle.std.proofs.lemmas.Result.{err_from_is_err_and}
-use Rattle.std.specs.declared.rc.Rc.{Rc}
+use Rattle.std.specs.declared.sync.Arc.{Arc}
 use Rattle.std.specs.declared.alloc.Global.{Global}
 use Rattle.fair_rates.proofs.Lists.Booleans.{by_bool}
 use Rattle.link_simulation.specs.Simulation.Messages.{Message}
@@ -113,7 +113,7 @@ returns-then-starts-clause-launches g c = λ old here ls lv is.
     is lv s.stays new s.first s.may s.id a in (
       one.0,
       one.1,
-      subst (λ (items : List (Rc (code.Message g.row.P.Denot) Global)). Launches cmp c.args.now
+      subst (λ (items : List (Arc (code.Message g.row.P.Denot) Global)). Launches cmp c.args.now
           (landed cmp c.args.now one.0 m) (next_of cmp one.0 m) (goes (messages items) new)) (sym c.new.ensures.items)
           one.2,
     )

@@ -1,5 +1,5 @@
 use Rattle.link_flights.proofs.Common.{◌≡◌, ◌<◌, ◌∙◌, ◌++◌, ◌∷◌, [], map, take, get_or, length, sym, ap, subst, arith}
-use Rattle.link_flights.proofs.Common.{add-one, Rc, Global, map-append, length-map, get_or-map}
+use Rattle.link_flights.proofs.Common.{add-one, Arc, Global, map-append, length-map, get_or-map}
 use Rattle.std.proofs.Math.Seq.{take-suc}
 use Rattle.link_pairs.specs.declared.message.Message.{Message}
 use Rattle.link_flights.proofs.loose.Loose.share.Goals as goal
@@ -7,7 +7,7 @@ use Rattle.link_flights.proofs.loose.Loose.share.Goals as goal
 pub loop-message-preserved : goal.loop-message-preserved
 loop-message-preserved g c =
     let at = c.loop-message.message-index in
-    let value = λ (m : Rc (Message g.row.P.Denot) Global). m.value in
+    let value = λ (m : Arc (Message g.row.P.Denot) Global). m.value in
     let one = c.message-item.result in
     let all = c.deref-message-items.result.now in
     let is : map value all ≡ c.args.self.now = ap (map value) c.deref-message-items.ensures.value ∙ c.self.view_is in

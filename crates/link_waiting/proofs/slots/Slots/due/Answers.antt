@@ -46,7 +46,7 @@ module _ (g : Over) (c : goal.After-next_due-next-in-Some g) where
 
   names : NamesPairOf g.P.Ord.cmp c.in_ok-new.field-0 (waiter_of c.in-Some-first.slot.now).message
   names = subst (λ (m : Message g.row.P.Denot). NamesPairOf g.P.Ord.cmp c.in_ok-new.field-0 (message_of m))
-      c.as_ref-message.ensures
+      c.deref-message.ensures
       (record { origin = c.in_ok-new.ensures.origin; recipient = c.in_ok-new.ensures.recipient })
 
 pub loop-next-preserved : goal.loop-next-preserved
