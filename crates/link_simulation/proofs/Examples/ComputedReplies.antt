@@ -38,6 +38,15 @@ one_found {X} test (x ∷ xs) e = by_test (test x) refl e (one_found test xs)
         let found : (y : X) × Contains xs y × (test y ≡ true) = ih e in
         (found.0, Contains-append_right (x ∷ []) xs found.0 found.1, found.2)
 
+-- ---- what is looked for
+
+pub record Holding (A : Type 0) : Type 0 where
+  pub it : A
+
+-- what is said of values that the goal tells
+pub held : {A : Type 0} → Holding A → A
+held h = h.it
+
 -- ---- fairness
 
 module _ (per : ℕ) (parts : ℕ → ℕ) where
@@ -337,6 +346,11 @@ module _ {P : Type 0} (cmp : P → P → Ordering) (order : IsTotalOrder cmp) (p
       advance_agrees w now calls (replied (course_of w (call_advance now) now) w (λ v. answers n v calls))
       (reply_agrees n calls (answers_agree n calls) w (call_advance now) now refl e)
   answers_agree n (call_next ∷ calls) w e = grind (arith, and_parts, next_so, (answers_agree n calls w))
+
+  -- a list of replies that these are
+  pub replied_so : (n : ℕ) (w : World P) (calls : List (Call P)) (replies : List (Reply P))
+      → may_answer n w calls ≡ true → answers n w calls ≡ replies → Holding (Agrees cmp w calls replies)
+  replied_so n w calls replies e is = record { it = subst (Agrees cmp w calls) is (answers_agree n calls w e) }
 
 -- all messages share one cap evenly
 abbrev pub evenly : {P : Type 0} → ℕ → World P → Shares

@@ -15,7 +15,7 @@ use Rattle.link_simulation.proofs.Common.{EnqueuesEach, all_enqueued, one_stops,
 use Rattle.link_simulation.proofs.Common.{InTime}
 use Rattle.std.proofs.lemmas.Bool.{ltb-false}
 use Rattle.link_simulation.proofs.Rule.Agreeing.{obeyed_agree}
-use Rattle.link_simulation.proofs.Examples.ComputedReplies.{same_all, Shares}
+use Rattle.link_simulation.proofs.Examples.ComputedReplies.{Holding, same_all, Shares}
 use Rattle.link_simulation.proofs.Examples.ComputedSteps.{the_same, bind, bound, followed, is_none_of, look, look_so}
 use Rattle.link_simulation.proofs.Examples.ComputedSteps.{launch, launch_so, finish_all, finish_all_so, wake_each_so}
 use Rattle.link_simulation.proofs.Examples.ComputedSteps.{wake_at, settle_at, settle_at_so}
@@ -334,8 +334,9 @@ pub agrees_by_rule : {P : Type 0} (cmp : P → P → Ordering) (order : IsTotalO
     (plan : Caps P → List (Message P) → Shares) (hint : ℕ → List (Message P) → ℕ) (n : ℕ) (calls : List (Call P))
     (replies : List (Reply P))
     → are_in_time calls ≡ true → replies_by_rule cmp order plan hint n (new_planned 0) calls ≡ Some replies
-    → Agrees cmp (new_world 0) calls replies
-agrees_by_rule cmp order plan hint n calls replies times e = grind (arith, obeyed_agree, in_time_so, obeyed_so)
+    → Holding (Agrees cmp (new_world 0) calls replies)
+agrees_by_rule cmp order plan hint n calls replies times e =
+    record { it = grind (arith, obeyed_agree, in_time_so, obeyed_so) }
 
 -- ---- plans
 

@@ -1,5 +1,5 @@
-use Rattle.link_simulation.proofs.Common.{[], ◌∷◌, Some, None, refl, arith, nat_cmp, nat_cmp_total, reduced, gcd_within}
-use Rattle.link_simulation.proofs.Common.{new_world, NextIs, call_advance, call_next, reply_done, reply_next}
+use Rattle.link_simulation.proofs.Common.{Some, None, refl, arith, nat_cmp, nat_cmp_total, reduced, gcd_within}
+use Rattle.link_simulation.proofs.Common.{new_world, NextIs}
 use Rattle.link_simulation.proofs.Examples.ComputedReplies.{evenly, next_so}
 use Rattle.link_simulation.proofs.Examples.ComputedDifferences.{never_agree}
 use Rattle.link_simulation.proofs.Simulation.OneNext.{next_is_one}
@@ -19,9 +19,7 @@ returns-clause-refused c agrees = none_comes (agrees (omega arith)).1.0
 
 pub returns-clause-done : goal.returns-clause-done
 unfolding reduced gcd_within
-returns-clause-done c =
-    never_agree nat_cmp nat_cmp_total (evenly 1_000_000_000) 20 0 (call_advance 0 ∷ call_next ∷ [])
-    (reply_done [] ∷ reply_next (Some 1) ∷ []) refl
+returns-clause-done c = search (never_agree nat_cmp nat_cmp_total (evenly 1_000_000_000) 20 0)
 
 pub returns-clause-next : goal.returns-clause-next
 returns-clause-next c agrees = none_comes agrees.1.0

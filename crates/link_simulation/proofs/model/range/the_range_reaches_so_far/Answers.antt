@@ -1,5 +1,5 @@
-use Rattle.link_simulation.proofs.Common.{common_steps, ◌≡◌, ℕ, zero, suc, ◌<◌, ◌^◌, List, ◌∷◌, refl, ap, arith, IfSome}
-use Rattle.link_simulation.proofs.Common.{Message, Call, call_enqueue, moment_of, enqueued, message}
+use Rattle.link_simulation.proofs.Common.{common_steps, ◌≡◌, ℕ, zero, suc, ◌<◌, ◌^◌, List, ◌∷◌, refl, ap, arith}
+use Rattle.link_simulation.proofs.Common.{IfSome, Message, Call, call_enqueue, moment_of, enqueued, message}
 use Rattle.std.proofs.Common.{replicate}
 use Rattle.std.proofs.lemmas.List.{length-replicate}
 use Rattle.std.proofs.lemmas.List.Elements.{All-replicate}

@@ -1,13 +1,7 @@
-use Rattle.link_simulation.proofs.Common.{[], ◌∷◌, None, refl, nat_cmp, nat_cmp_total, reduced, gcd_within, new_world}
-use Rattle.link_simulation.proofs.Common.{call_limit, call_enqueue, call_advance, call_next, message}
-use Rattle.link_simulation.proofs.Common.{a_byte_a_nanosecond}
-use Rattle.link_simulation.proofs.Examples.ComputedReplies.{answers_agree, evenly}
+use Rattle.link_simulation.proofs.Common.{nat_cmp, nat_cmp_total, reduced, gcd_within}
+use Rattle.link_simulation.proofs.Examples.ComputedReplies.{held, replied_so, evenly}
 use Rattle.link_simulation.proofs.model.rows.completions_come_in_order_of_start.Goals as goal
 
 pub returns : goal.returns
 unfolding reduced gcd_within
-returns c =
-    answers_agree nat_cmp nat_cmp_total (evenly 1_000_000_000) 20
-    (call_limit 0 1 a_byte_a_nanosecond None ∷ call_enqueue 0 (message 1 3 1 0) ∷ call_enqueue 0 (message 1 2 1 0)
-    ∷ call_next ∷ call_advance 2 ∷ [])
-    (new_world 0) refl
+returns c = held (search (replied_so nat_cmp nat_cmp_total (evenly 1_000_000_000) 20))

@@ -1,10 +1,7 @@
-use Rattle.link_simulation.proofs.Common.{refl, nat_cmp, nat_cmp_total, reduced, gcd_within, new_planned}
-use Rattle.link_simulation.specs.Examples.Rows.{calls_of_a_list, replies_of_a_list}
+use Rattle.link_simulation.proofs.Common.{nat_cmp, nat_cmp_total, reduced, gcd_within}
 use Rattle.link_simulation.proofs.Examples.ComputedRule.{no_hint, obeyed_so, shared}
 use Rattle.link_simulation.proofs.model.rule.a_list_goes_message_by_message.Goals as goal
 
 pub returns : goal.returns
 unfolding reduced gcd_within
-returns c =
-    obeyed_so nat_cmp nat_cmp_total (shared 1_000_000_000) no_hint 20 (new_planned 0) calls_of_a_list
-    replies_of_a_list refl
+returns c = search (obeyed_so nat_cmp nat_cmp_total (shared 1_000_000_000) no_hint 20)

@@ -1,10 +1,7 @@
-use Rattle.link_simulation.proofs.Common.{refl, nat_cmp, nat_cmp_total, reduced, gcd_within, new_planned}
-use Rattle.link_simulation.specs.Examples.Rows.{calls_at_the_last_moment, replies_at_the_last_moment}
+use Rattle.link_simulation.proofs.Common.{nat_cmp, nat_cmp_total, reduced, gcd_within}
 use Rattle.link_simulation.proofs.Examples.ComputedRule.{no_hint, obeyed_so, shared}
 use Rattle.link_simulation.proofs.model.rule.the_last_moment_counts.Goals as goal
 
 pub returns : goal.returns
 unfolding reduced gcd_within
-returns c =
-    obeyed_so nat_cmp nat_cmp_total (shared 1_000_000_000) no_hint 20 (new_planned 0) calls_at_the_last_moment
-    replies_at_the_last_moment refl
+returns c = search (obeyed_so nat_cmp nat_cmp_total (shared 1_000_000_000) no_hint 20)
