@@ -18,6 +18,7 @@ pub use Rattle.std.specs.Ordering.{is_eq, is_lt, nat_cmp}
 pub use Rattle.std.specs.Prelude.{IfSome, if◌then◌else◌, is_none, max, nat_le, nat_lt, slice_get, ⊤, ◌&&◌, ◌==◌, ◌||◌}
 pub use Rattle.std.specs.declared.cmp.Ordering.{Ordering}
 pub use Rattle.std.specs.declared.cmp.Ordering.TheVariants.{Equal, Greater, Less}
+pub use Rattle.fair_rates.proofs.Lists.Booleans.{by_bool}
 pub use Rattle.fair_rates.proofs.Lists.Each.{Each, all_of_each, each_filtered, each_joined, each_map}
 pub use Rattle.fair_rates.proofs.Lists.Filters.{filter_stronger, filter_swap, find_from_any, length-without_first}
 pub use Rattle.fair_rates.proofs.Lists.Members.{In}

@@ -1,17 +1,17 @@
 -- Fairness, ticks and replies, found by computing: for worked examples.
 use Rattle.link_simulation.proofs.Common.{common_steps, ◌≡◌, ℕ, zero, suc, ◌+◌, ◌-◌, ◌*◌, ◌≤◌, List, [], ◌∷◌, length}
 use Rattle.link_simulation.proofs.Common.{Bool, true, false, cond, not, Option, Some, None, All, Contains, refl, sym}
-use Rattle.link_simulation.proofs.Common.{ap, subst, arith, max, ◌&&◌, ◌||◌, ◌==◌, nat_le, nat_lt, list_any, AllZip}
-use Rattle.link_simulation.proofs.Common.{Ordering, IsTotalOrder, leb-true, ltb-true, eqb-true, and_parts, All-contains}
-use Rattle.link_simulation.proofs.Common.{All-nil, Contains-append_left, Contains-append_right, Side, load, IsFair}
-use Rattle.link_simulation.proofs.Common.{Message, capped_sides, rates_from, AreFair, World, Completed, Course, goes}
-use Rattle.link_simulation.proofs.Common.{meets, and_then, flows, instant, is_done, ready, IsQuiet, last_moment, Error}
+use Rattle.link_simulation.proofs.Common.{ap, subst, arith, max, ◌&&◌, ◌==◌, nat_le, nat_lt, list_any, AllZip, Ordering}
+use Rattle.link_simulation.proofs.Common.{IsTotalOrder, leb-true, ltb-true, eqb-true, and_parts, All-contains, All-nil}
+use Rattle.link_simulation.proofs.Common.{Contains-append_left, Contains-append_right, Side, load, IsFair, Message}
+use Rattle.link_simulation.proofs.Common.{capped_sides, rates_from, AreFair, World, Completed, Course, goes, meets}
+use Rattle.link_simulation.proofs.Common.{and_then, flows, instant, is_done, ready, IsQuiet, last_moment, Error}
 use Rattle.link_simulation.proofs.Common.{OutOfMemory, NumberTooLarge, MomentTooLate, FlowIdsUsedUp, drain_each}
 use Rattle.link_simulation.proofs.Common.{drifted, Drains, Ticks, no_tick, one_tick, tick_faults, Passes, no_time}
 use Rattle.link_simulation.proofs.Common.{quiet_tick, NextIs, never_comes, comes_next, Call, call_limit}
 use Rattle.link_simulation.proofs.Common.{call_limit_link, call_enqueue, call_advance, call_enqueue_all, call_next, act}
 use Rattle.link_simulation.proofs.Common.{moment_of, Runs, IsInTurn, Reply, reply_done, reply_next, reply_refused}
-use Rattle.link_simulation.proofs.Common.{SameCompletion, Faults, Agrees, MayRefuse}
+use Rattle.link_simulation.proofs.Common.{SameCompletion, Faults, Agrees, MayRefuse, by_bool}
 use Rattle.std.specs.List.{list_all}
 use Rattle.std.proofs.lemmas.List.Elements.{All-cons}
 use Rattle.fair_rates.specs.Fairness.Fair.{HasBottleneck}
@@ -28,15 +28,11 @@ all_found test Q gives (x ∷ xs) e =
 one_found : {X : Type 0} (test : X → Bool) (xs : List X) → list_any test xs ≡ true
     → (x : X) × Contains xs x × (test x ≡ true)
 one_found test [] e = cc
-one_found {X} test (x ∷ xs) e = by_test (test x) refl e (one_found test xs)
-  where
-    by_test : (b : Bool) → test x ≡ b → (b || list_any test xs) ≡ true
-        → (list_any test xs ≡ true → (y : X) × Contains xs y × (test y ≡ true))
-        → (y : X) × Contains (x ∷ xs) y × (test y ≡ true)
-    by_test true is e ih = (x, Contains-append_left (x ∷ []) xs x (0, omega arith, refl), is)
-    by_test false is e ih =
-        let found : (y : X) × Contains xs y × (test y ≡ true) = ih e in
-        (found.0, Contains-append_right (x ∷ []) xs found.0 found.1, found.2)
+one_found {X} test (x ∷ xs) e =
+    by_bool (test x) (λ is. (x, Contains-append_left (x ∷ []) xs x (0, omega arith, refl), is))
+    (λ is.
+    let found : (y : X) × Contains xs y × (test y ≡ true) = (one_found test xs) (rw is at e) in
+    (found.0, Contains-append_right (x ∷ []) xs found.0 found.1, found.2))
 
 -- ---- what is looked for
 
@@ -201,16 +197,11 @@ module _ {P : Type 0} (cmp : P → P → Ordering) (order : IsTotalOrder cmp) (p
   next_so (suc n) w e =
       let two = and_parts (is_planned w)
       (cond (is_quiet (drifts w)) (may_seek n (drifts w)) (nat_le (drifts w).moment last_moment)) e in
-      by_quiet (is_quiet (drifts w)) refl two.1 (drains w two.0) (next_so n)
-    where
-      by_quiet : (b : Bool) → is_quiet (drifts w) ≡ b
-          → cond b (may_seek n (drifts w)) (nat_le (drifts w).moment last_moment) ≡ true → Drains cmp w (drifts w)
-          → ((u : World P) → may_seek n u ≡ true → NextIs cmp u (seek n u))
-          → NextIs cmp w (cond b (seek n (drifts w)) (Some (drifts w).moment))
-      by_quiet true is e d ih =
-          step_next w (drifts w) (seek n (drifts w)) d (quiet_if_so (drifts w) is) (ih (drifts w) e)
-      by_quiet false is e d ih =
-          comes_next no_time d (loud_if_not (drifts w) is) (leb-true (drifts w).moment last_moment e)
+      by_bool (is_quiet (drifts w))
+      (λ is. rw is (step_next w (drifts w) (seek n (drifts w)) (drains w two.0) (quiet_if_so (drifts w) is)
+      ((next_so n) (drifts w) (rw is at two.1))))
+      (λ is. rw is (comes_next no_time (drains w two.0) (loud_if_not (drifts w) is)
+      (leb-true (drifts w).moment last_moment (rw is at two.1))))
 
   -- ---- replies
 

@@ -19,6 +19,7 @@ use Rattle.link_simulation.proofs.Examples.ComputedReplies.{Holding, same_all, S
 use Rattle.link_simulation.proofs.Examples.ComputedSteps.{the_same, bind, bound, followed, is_none_of, look, look_so}
 use Rattle.link_simulation.proofs.Examples.ComputedSteps.{launch, launch_so, finish_all, finish_all_so, wake_each_so}
 use Rattle.link_simulation.proofs.Examples.ComputedSteps.{wake_at, settle_at, settle_at_so}
+use Rattle.link_simulation.proofs.Simulation.Queue.{by_option}
 
 module _ {P : Type 0} (cmp : P → P → Ordering) (order : IsTotalOrder cmp) (plan : Caps P → List (Message P) → Shares)
     (hint : ℕ → List (Message P) → ℕ) (n : ℕ) where
@@ -146,7 +147,9 @@ module _ {P : Type 0} (cmp : P → P → Ordering) (order : IsTotalOrder cmp) (p
   advance_at_so : (now k : ℕ) (p : Planned P) (c : Course (Completed P) (Planned P)) → advance_at now k p ≡ Some c
       → Advanced now p c
   advance_at_so now zero p c e = cc
-  advance_at_so now (suc k) p c e = by_next (next_event p) refl e (advance_at_so now k)
+  advance_at_so now (suc k) p c e =
+      by_option (next_event p) (λ is. grind (arith, no_more, wake_each_so))
+      (λ t is. by_past t (nat_lt now t) is refl (rw is at e) (advance_at_so now k))
     where
       at_event : (t : ℕ) (b : Bool) (d : Course (Completed P) (Planned P)) → next_event p ≡ Some t → t ≤ now
           → is_moment t p.finish ≡ b
@@ -200,14 +203,6 @@ module _ {P : Type 0} (cmp : P → P → Ordering) (order : IsTotalOrder cmp) (p
           let found = bound (event_of p (Some t))
           (λ d. followed d (λ cs q. bind (advance_at now k q) (λ rest. Some (preceded cs rest)))) c e in
           at_event t (is_moment t p.finish) found.0 is (ltb-false now t past) refl found.1 found.2 ih
-
-      by_next : (o : Option ℕ) → next_event p ≡ o
-          → cond (is_past now o) (wake_at cmp order plan hint n now p)
-          (bind (event_of p o)
-          (λ d. followed d (λ cs q. bind (advance_at now k q) (λ rest. Some (preceded cs rest))))) ≡ Some c
-          → AreAdvanced now k → Advanced now p c
-      by_next None is e ih = grind (arith, no_more, wake_each_so)
-      by_next (Some t) is e ih = by_past t (nat_lt now t) is refl e ih
 
   abbrev pub obeys_at : Planned P → Call P → Option (Course (Completed P) (Planned P))
   obeys_at p (call_limit now peer egress ingress) = rebalance_at now (limited_by cmp p.caps peer egress ingress) p

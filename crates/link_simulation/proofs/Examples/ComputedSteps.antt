@@ -10,7 +10,7 @@ use Rattle.link_simulation.proofs.Common.{Planned, RatedFlight, IsLeastMoment, r
 use Rattle.link_simulation.proofs.Common.{drained_to, next_of, may_launch, SomeReadyAt, is_spent, Accounts, PlansStart}
 use Rattle.link_simulation.proofs.Common.{launched, Launches, nothing_waits, too_early, no_id, starts, landed, Finishes}
 use Rattle.link_simulation.proofs.Common.{all_completed, late, stopped, completes, WakesEach, all_started, no_start}
-use Rattle.link_simulation.proofs.Common.{no_finish, starts_one, Settles, settling, In, Each}
+use Rattle.link_simulation.proofs.Common.{no_finish, starts_one, Settles, settling, In, Each, by_bool}
 use Rattle.std.specs.List.{list_all}
 use Rattle.std.proofs.lemmas.Bool.{ltb-false}
 use Rattle.std.proofs.lemmas.Option.{same_Some}
@@ -130,14 +130,13 @@ module _ {P : Type 0} (cmp : P → P → Ordering) (order : IsTotalOrder cmp) (p
 
   spent_if_so : (s : ℕ) (fs : List (RatedFlight P)) → list_any (is_spent_at s) fs ≡ true → SomeSpentAt fs s
   spent_if_so s [] e = cc
-  spent_if_so s (f ∷ fs) e = by_test (is_spent_at s f) refl e (spent_if_so s fs)
-    where
-      by_test : (b : Bool) → is_spent_at s f ≡ b → (b || list_any (is_spent_at s) fs) ≡ true
-          → (list_any (is_spent_at s) fs ≡ true → SomeSpentAt fs s) → SomeSpentAt (f ∷ fs) s
-      by_test true is e ih =
-          let two = and_parts (nat_le f.updated s) ((left_at s f).num == 0) is in
-          (0, f, refl, leb-true f.updated s two.0, eqb-true (left_at s f).num 0 two.1)
-      by_test false is e ih = let rest : SomeSpentAt fs s = ih e in (suc rest.0, rest.1, rest.2, rest.3, rest.4)
+  spent_if_so s (f ∷ fs) e =
+      by_bool (is_spent_at s f)
+      (λ is.
+      let two = and_parts (nat_le f.updated s) ((left_at s f).num == 0) is in
+      (0, f, refl, leb-true f.updated s two.0, eqb-true (left_at s f).num 0 two.1))
+      (λ is. let rest : SomeSpentAt fs s = (spent_if_so s fs) (rw is at e)
+      in (suc rest.0, rest.1, rest.2, rest.3, rest.4))
 
   so_if_spent : (s : ℕ) (fs : List (RatedFlight P)) (i : ℕ) (f : RatedFlight P) → slice_get fs i ≡ Some f
       → f.updated ≤ s → (left_at s f).num ≡ 0 → list_any (is_spent_at s) fs ≡ true
@@ -268,12 +267,8 @@ module _ {P : Type 0} (cmp : P → P → Ordering) (order : IsTotalOrder cmp) (p
       found_in : (ms : List (Message P)) → Each (λ m. find (same_pair cmp m) p.waiting ≡ Some m) ms
           → list_any (may_launch cmp s p) ms ≡ true → SomeReadyAt cmp p s
       found_in [] all e = cc
-      found_in (m ∷ ms) all e = by_test (may_launch cmp s p m) refl e (found_in ms all.1)
-        where
-          by_test : (b : Bool) → may_launch cmp s p m ≡ b → (b || list_any (may_launch cmp s p) ms) ≡ true
-              → (list_any (may_launch cmp s p) ms ≡ true → SomeReadyAt cmp p s) → SomeReadyAt cmp p s
-          by_test true is e ih = (m, all.0, is)
-          by_test false is e ih = ih e
+      found_in (m ∷ ms) all e =
+          by_bool (may_launch cmp s p m) (λ is. (m, all.0, is)) (λ is. (found_in ms all.1) (rw is at e))
 
   so_if_ready : (t : ℕ) (p : Planned P) (s : ℕ) → (t ≤ s) × SomeReadyAt cmp p s → is_ready_at t p s ≡ true
   so_if_ready t p s h =
@@ -355,7 +350,15 @@ module _ {P : Type 0} (cmp : P → P → Ordering) (order : IsTotalOrder cmp) (p
   finish_all_so t (suc k) [] p c e =
       let found : (q : Planned P) × (look t p ≡ Some q) × (Some (goes [] q) ≡ Some c) = grind (arith, bound) in
       subst (Finishes cmp t [] p) (the_same found.2) (all_completed (look_so t p found.0 found.1))
-  finish_all_so t (suc k) (m ∷ ms) p c e = by_late (is_late cmp t m) refl e (finish_all_so t k)
+  finish_all_so t (suc k) (m ∷ ms) p c e =
+      by_bool (is_late cmp t m) (λ is. subst (Finishes cmp t (m ∷ ms) p) (the_same (rw is at e)) (late is))
+      (λ is.
+      let found = bound (launch t (landed cmp t p m) (next_of cmp p m)) (λ l. followed l
+      (λ more q. bind (finish_all t k (ms ++ more) q) (λ rest. Some (preceded (completed cmp t m ∷ []) rest)))) c
+      (rw is at e)
+      in
+      by_launch found.0 is (launch_so t (landed cmp t p m) (next_of cmp p m) found.0 found.1) found.2
+      (finish_all_so t k))
     where
       by_launch : (l : Course (Message P) (Planned P)) → is_late cmp t m ≡ false
           → Launches cmp t (landed cmp t p m) (next_of cmp p m) l
@@ -364,18 +367,6 @@ module _ {P : Type 0} (cmp : P → P → Ordering) (order : IsTotalOrder cmp) (p
           → Finishes cmp t (m ∷ ms) p c
       by_launch (meets fault) is l e ih = subst (Finishes cmp t (m ∷ ms) p) (the_same e) (stopped is l)
       by_launch (goes more q) is l e ih = grind (arith, bound, the_same, completes)
-
-      by_late : (b : Bool) → is_late cmp t m ≡ b
-          → cond b (Some (meets MomentTooLate)) (bind (launch t (landed cmp t p m) (next_of cmp p m))
-          (λ c. followed c (λ more q. bind (finish_all t k (ms ++ more) q)
-          (λ rest. Some (preceded (completed cmp t m ∷ []) rest))))) ≡ Some c
-          → AreFinishes t k → Finishes cmp t (m ∷ ms) p c
-      by_late true is e ih = subst (Finishes cmp t (m ∷ ms) p) (the_same e) (late is)
-      by_late false is e ih =
-          let found = bound (launch t (landed cmp t p m) (next_of cmp p m)) (λ l. followed l
-          (λ more q. bind (finish_all t k (ms ++ more) q) (λ rest. Some (preceded (completed cmp t m ∷ []) rest)))) c e
-          in
-          by_launch found.0 is (launch_so t (landed cmp t p m) (next_of cmp p m) found.0 found.1) found.2 ih
 
   -- those pairs start
   abbrev pub wake_each : ℕ → List (Message P) → Planned P → Option (Course (Completed P) (Planned P))

@@ -1,7 +1,7 @@
 -- An example of many nanoseconds: at three bytes a second, one byte takes 333333334 of them.
-use Rattle.link_simulation.proofs.Common.{◌≡◌, ℕ, ◌+◌, ◌<◌, ◌≤◌, [], ◌∷◌, Bool, true, false, Some, refl, arith, ◌==◌}
-use Rattle.link_simulation.proofs.Common.{nat_cmp, eqb-true, Amount, drained, whole, reduced, gcd_within, AreFair}
-use Rattle.link_simulation.proofs.Common.{capped_sides, World, IsQuiet, flows, NextIs, comes_next, drifted, message}
+use Rattle.link_simulation.proofs.Common.{◌≡◌, ℕ, ◌+◌, ◌<◌, ◌≤◌, [], ◌∷◌, false, Some, refl, arith, ◌==◌, nat_cmp}
+use Rattle.link_simulation.proofs.Common.{eqb-true, Amount, drained, whole, reduced, gcd_within, AreFair, capped_sides}
+use Rattle.link_simulation.proofs.Common.{World, IsQuiet, flows, NextIs, comes_next, drifted, message, by_bool}
 use Rattle.std.proofs.Common.{lit≤}
 use Rattle.link_simulation.specs.Examples.Rows.{flying}
 use Rattle.fair_rates.proofs.Numbers.Draining.{spent_if_covers, covers_if_spent}
@@ -24,14 +24,12 @@ speed = record { num = 3; den = 1 }
 
 some_left : (k : ℕ) → k ≤ 333333333 → ((drained (whole 1) speed k).num == 0) ≡ false
 unfolding speed
-some_left k h = by_test ((drained (whole 1) speed k).num == 0) refl
-  where
-    by_test : (b : Bool) → ((drained (whole 1) speed k).num == 0) ≡ b → b ≡ false
-    by_test false e = refl
-    by_test true e =
-        let c = covers_if_spent (whole 1) speed k (omega arith) (omega arith)
-        (eqb-true ((drained (whole 1) speed k).num) 0 e) in
-        absurd (omega arith)
+some_left k h =
+    by_bool ((drained (whole 1) speed k).num == 0)
+    (λ e. rw e (
+    let c = covers_if_spent (whole 1) speed k (omega arith) (omega arith)
+    (eqb-true ((drained (whole 1) speed k).num) 0 e) in
+    absurd (omega arith))) (λ e. rw e refl)
 
 none_left : (drained (whole 1) speed 333333334).num ≡ 0
 unfolding speed

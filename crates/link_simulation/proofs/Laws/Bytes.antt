@@ -17,6 +17,7 @@ use Rattle.std.proofs.Math.Nat.{add-mul, mul-add, zero-add}
 use Rattle.std.proofs.lemmas.List.Sums.{sum_by-cons}
 use Rattle.link_simulation.specs.Laws.Bytes.{allowance, bytes_from, left_from, waiting_from}
 use Rattle.link_simulation.proofs.Simulation.Queue.{then_then, peer_like, settle_none, settle_first, find_passes}
+use Rattle.link_simulation.proofs.Simulation.Queue.{by_option}
 use Rattle.link_simulation.proofs.Simulation.SettlingEnds.{ends_preceded, ends_and_then, ends_cond, find_like}
 use Rattle.link_simulation.proofs.Simulation.Split.{rest_is}
 use Rattle.link_simulation.proofs.Laws.AmountOrder.{share, at_most_itself, at_most_trans, plus_under, plus_spent}
@@ -257,33 +258,32 @@ module _ {P : Type 0} (cmp : P → P → Ordering) (order : IsTotalOrder cmp) wh
 
     fair_is_capped : (w : World P) (per : ℕ) (rates : Parts) → Holds w → AreFair cmp w.caps (flows w) per rates
         → AreCapped (flows w) per rates
-    fair_is_capped w per rates h fair = by_user (find from_it (flows w)) refl
+    fair_is_capped w per rates h fair =
+        by_option (find from_it (flows w))
+        (λ e.
+        record {
+          within = let z : total (map from_it (flows w)) rates ≡ 0 = none_total from_it (flows w) rates e in
+              omega arith;
+          limited = limits;
+        })
+        (λ m e.
+        let from : same_peer cmp p m.origin ≡ true = find_passes from_it m (flows w) e in
+        let side : Side =
+        record {
+          cap = cap;
+          users = places_from 0 (λ (n : Message P). same_peer cmp m.origin n.origin) (flows w);
+        } in
+        let users : side.users ≡ places_from 0 from_it (flows w) = same_users m.origin 0 (flows w) from in
+        let has = find_in_flat_map from_it (sides_for cmp w.caps (flows w)) m side (flows w) e
+        (rw (h.egress m.origin from) (0, omega arith, refl)) in
+        let load_is = ap (total (map from_it (flows w))) fair.rated ∙ total_is_load w.caps fair.parts from_it 0
+        (flows w) (own_limited w h) ∙ ap (sum_by fair.parts) (sym users) in
+        let fits = All-contains (λ s. load fair.parts s ≤ s.cap * per) (capped_sides cmp w.caps (flows w)) side
+        fair.fair.within has in
+        record { within = omega (arith, load_is, fits); limited = limits })
       where
         limits : (i : ℕ) → slice_get (map from_it (flows w)) i ≡ Some true → slice_get rates i ≡ Some None → ⊥
         limits i at is = grind (arith, passing_limited, own_limited)
-
-        by_user : (o : Option (Message P)) → find from_it (flows w) ≡ o → AreCapped (flows w) per rates
-        by_user None e =
-            record {
-              within = let z : total (map from_it (flows w)) rates ≡ 0 = none_total from_it (flows w) rates e in
-                  omega arith;
-              limited = limits;
-            }
-        by_user (Some m) e =
-            let from : same_peer cmp p m.origin ≡ true = find_passes from_it m (flows w) e in
-            let side : Side =
-            record {
-              cap = cap;
-              users = places_from 0 (λ (n : Message P). same_peer cmp m.origin n.origin) (flows w);
-            } in
-            let users : side.users ≡ places_from 0 from_it (flows w) = same_users m.origin 0 (flows w) from in
-            let has = find_in_flat_map from_it (sides_for cmp w.caps (flows w)) m side (flows w) e
-            (rw (h.egress m.origin from) (0, omega arith, refl)) in
-            let load_is = ap (total (map from_it (flows w))) fair.rated ∙ total_is_load w.caps fair.parts from_it 0
-            (flows w) (own_limited w h) ∙ ap (sum_by fair.parts) (sym users) in
-            let fits = All-contains (λ s. load fair.parts s ≤ s.cap * per) (capped_sides cmp w.caps (flows w)) side
-            fair.fair.within has in
-            record { within = omega (arith, load_is, fits); limited = limits }
 
     drained_one : (per n others : ℕ) (left before after : Amount) (c : Bool) (r : Option ℕ) → 0 < per → 0 < left.den
         → (c ≡ true → r ≡ None → ⊥)

@@ -15,7 +15,7 @@ use Rattle.link_simulation.proofs.Common.{no_finish, starts_one, Settles, settli
 use Rattle.link_simulation.proofs.Common.{some_sending, Enqueues, at_once, no_launch, launches, Advances, no_more}
 use Rattle.link_simulation.proofs.Common.{at_finish, at_start, finish_stops, start_stops, launched, landed, with_queued}
 use Rattle.link_simulation.proofs.Common.{completed_at_once, Obeys, EnqueuesEach, all_enqueued, one_stops, enqueues_one}
-use Rattle.link_simulation.proofs.Common.{IsOrderly, of_pair, held_of, zip-append, common_steps}
+use Rattle.link_simulation.proofs.Common.{IsOrderly, of_pair, held_of, zip-append, common_steps, by_bool}
 use Rattle.link_simulation.proofs.Simulation.Queue.{find_passes, any_like}
 use Rattle.link_simulation.proofs.Simulation.SettlingEnds.{find_like}
 use Rattle.link_simulation.proofs.Rule.Launch.{rest_of, head_of, head_found, waits_without}
@@ -77,7 +77,12 @@ module _ {P : Type 0} (cmp : P → P → Ordering) (order : IsTotalOrder cmp) wh
       (filter-append (same_pair cmp k) (rated_messages p.sending) (m ∷ []))
       ∙ ap (λ (ms : List (Message P)). (of_pair cmp k (rated_messages p.sending) ++ of_pair cmp k (m ∷ [])) ++ ms)
       (waits_without cmp order k m p.waiting)
-      ∙ by_pair (same_pair cmp k m) own_first own_idle
+      ∙ by_bool (same_pair cmp k m)
+      (λ is. rw is (
+      let none : flying ≡ [] = (rw is at own_idle) refl in
+      ap (λ (ms : List (Message P)). (ms ++ m ∷ []) ++ rest_of waits) none ∙ sym ((rw is at own_first) refl)
+      ∙ sym (ap (λ (ms : List (Message P)). ms ++ waits) none)))
+      (λ is. rw is (ap (λ (ms : List (Message P)). ms ++ waits) (append-nil flying)))
     where
       flying : List (Message P)
       flying = of_pair cmp k (rated_messages p.sending)
@@ -96,13 +101,6 @@ module _ {P : Type 0} (cmp : P → P → Ordering) (order : IsTotalOrder cmp) wh
       own_idle own =
           filter_nothing (same_pair cmp k) (rated_messages p.sending)
           (sym (any_like cmp order k m (rated_messages p.sending) own) ∙ idle_if_may cmp order t p m may)
-
-      by_pair : (b : Bool) → (b ≡ true → waits ≡ m ∷ rest_of waits) → (b ≡ true → flying ≡ [])
-          → (flying ++ cond b (m ∷ []) []) ++ cond b (rest_of waits) waits ≡ flying ++ waits
-      by_pair true first idle = let none : flying ≡ [] = idle refl in
-          ap (λ (ms : List (Message P)). (ms ++ m ∷ []) ++ rest_of waits) none ∙ sym (first refl)
-          ∙ sym (ap (λ (ms : List (Message P)). ms ++ waits) none)
-      by_pair false first idle = ap (λ (ms : List (Message P)). ms ++ waits) (append-nil flying)
 
   launch_holds : {t : ℕ} {p : Planned P} {o : Option (Message P)} {c : Course (Message P) (Planned P)}
       → Launches cmp t p o c

@@ -6,10 +6,10 @@ use Rattle.link_simulation.proofs.Common.{without_first, Completed, Course, Flig
 use Rattle.link_simulation.proofs.Common.{first_waiting, goes, instant, is_done, last_moment, least_pair, may_start}
 use Rattle.link_simulation.proofs.Common.{meets, preceded, raised, ready, settle, settle_within, start, start_next}
 use Rattle.link_simulation.proofs.Common.{wake, wake_within, EndsWith, out_of_flight, is_late, completed, arrival}
-use Rattle.link_simulation.proofs.Common.{flight_of, Message, same_pair, FlowIdsUsedUp, MomentTooLate, each_joined}
-use Rattle.link_simulation.proofs.Common.{Each, length-without_first}
+use Rattle.link_simulation.proofs.Common.{flight_of, Message, same_pair, each_joined, Each, length-without_first}
+use Rattle.link_simulation.proofs.Common.{by_bool}
 use Rattle.std.proofs.lemmas.Bool.{leb-false, lt-leb}
-use Rattle.link_simulation.proofs.Simulation.Queue.{settle_none, settle_first, find_passes, preceded_none}
+use Rattle.link_simulation.proofs.Simulation.Queue.{settle_none, settle_first, find_passes, preceded_none, by_option}
 use Rattle.link_simulation.proofs.Simulation.SettlingEnds.{ends_preceded, ends_and_then, ends_cond, length_without}
 use Rattle.link_simulation.proofs.Simulation.SettlingEnds.{find_in_none, find_like, HasAtMost, complete_has, NoneDone}
 use Rattle.link_simulation.proofs.Simulation.SettlingEnds.{settle_rests}
@@ -102,38 +102,33 @@ module _ {P : Type 0} (cmp : P → P → Ordering) (order : IsTotalOrder cmp) (i
   start_mine : (w : World P) (m : Message P) (last : P → P → Option ℕ) (id : ℕ) → IsPart last id w
       → find (same_pair cmp m) w.waiting ≡ Some m → mine m ≡ true
       → IsPartOf (start cmp w m) (start cmp (part last id w) m)
-  start_mine w m last id is first own = by_id (nat_le last_moment w.next_id) refl
-    where
-      by_id : (b : Bool) → nat_le last_moment w.next_id ≡ b
-          → IsPartOf (cond b (meets FlowIdsUsedUp) (goes [] (started w m))) (start cmp (part last id w) m)
-      by_id true e = tt
-      by_id false e =
-          let free : w.next_id < last_moment = leb-false last_moment w.next_id e in
-          let least : id ≤ w.next_id = is.ids in
-          let low : nat_le last_moment id ≡ false = lt-leb last_moment id (omega arith) in
-          let sending = sym (joined_part w.sending m true own) in
-          let waiting = sym (first_kept mine (same_pair cmp m) w.waiting m first own).1 in (
-            last,
-            id + 1,
-            started_is last id (id + 1) w m is first (omega arith),
-            (rw low (goes_alike [] [] _ _ refl (part_alike w last (id + 1) _ _ _ _ sending waiting))),
-          )
+  start_mine w m last id is first own =
+      by_bool (nat_le last_moment w.next_id) (λ e. rw e tt)
+      (λ e. rw e (
+      let free : w.next_id < last_moment = leb-false last_moment w.next_id e in
+      let least : id ≤ w.next_id = is.ids in
+      let low : nat_le last_moment id ≡ false = lt-leb last_moment id (omega arith) in
+      let sending = sym (joined_part w.sending m true own) in
+      let waiting = sym (first_kept mine (same_pair cmp m) w.waiting m first own).1 in (
+        last,
+        id + 1,
+        started_is last id (id + 1) w m is first (omega arith),
+        (rw low (goes_alike [] [] _ _ refl (part_alike w last (id + 1) _ _ _ _ sending waiting))),
+      )))
 
   pub start_other : (w : World P) (m : Message P) (last : P → P → Option ℕ) (id : ℕ) → IsPart last id w
       → find (same_pair cmp m) w.waiting ≡ Some m → mine m ≡ false
       → IsPartOf (start cmp w m) (goes [] (part last id w))
-  start_other w m last id is first off = by_id (nat_le last_moment w.next_id)
-    where
-      by_id : (b : Bool) → IsPartOf (cond b (meets FlowIdsUsedUp) (goes [] (started w m))) (goes [] (part last id w))
-      by_id true = tt
-      by_id false =
-          let sending = sym (joined_part w.sending m false off ∙ append-nil (filter in_flight w.sending)) in
-          let waiting = sym (first_dropped mine (same_pair cmp m) w.waiting m first off) in (
-            last,
-            id,
-            started_is last id id w m is first (omega arith),
-            goes_alike [] [] _ _ refl (part_alike w last id _ _ _ _ sending waiting),
-          )
+  start_other w m last id is first off =
+      by_bool (nat_le last_moment w.next_id) (λ here. rw here tt)
+      (λ here. rw here (
+      let sending = sym (joined_part w.sending m false off ∙ append-nil (filter in_flight w.sending)) in
+      let waiting = sym (first_dropped mine (same_pair cmp m) w.waiting m first off) in (
+        last,
+        id,
+        started_is last id id w m is first (omega arith),
+        goes_alike [] [] _ _ refl (part_alike w last id _ _ _ _ sending waiting),
+      )))
 
   may_start_same : (t : ℕ) (w : World P) (m : Message P) (last : P → P → Option ℕ) (id : ℕ) → IsPart last id w
       → mine m ≡ true → may_start cmp t (part last id w) m ≡ may_start cmp t w m
@@ -161,13 +156,10 @@ module _ {P : Type 0} (cmp : P → P → Ordering) (order : IsTotalOrder cmp) (i
   start_next_other t w m None last id is off e = (last, id, is, refl)
   start_next_other t w m (Some x) last id is off e =
       let same : same_pair cmp m x ≡ true = find_passes (same_pair cmp m) x w.waiting e in
-      by_may (may_start cmp t w x)
-      (start_other w x last id is (find_like cmp order m x w.waiting same ∙ e) (sym (alike m x same) ∙ off))
-    where
-      by_may : (b : Bool) → IsPartOf (start cmp w x) (goes [] (part last id w))
-          → IsPartOf (cond b (start cmp w x) (goes [] w)) (goes [] (part last id w))
-      by_may true h = h
-      by_may false h = (last, id, is, refl)
+      by_bool (may_start cmp t w x)
+      (λ here. rw here (start_other w x last id is (find_like cmp order m x w.waiting same ∙ e)
+      (sym (alike m x same) ∙ off)))
+      (λ here. rw here (last, id, is, refl))
 
   -- ---- a completion
 
@@ -184,7 +176,19 @@ module _ {P : Type 0} (cmp : P → P → Ordering) (order : IsTotalOrder cmp) (i
   complete_mine : (t : ℕ) (w : World P) (f : Flight P) (last : P → P → Option ℕ) (id : ℕ) → IsPart last id w
       → find (is_done cmp w) w.sending ≡ Some f → mine f.message ≡ true
       → IsPartOf (complete cmp t w f.message) (complete cmp t (part last id w) f.message)
-  complete_mine t w f last id is first own = by_late (is_late cmp t f.message) inner
+  complete_mine t w f last id is first own =
+      by_bool (is_late cmp t f.message) (λ here. rw here tt)
+      (λ here. rw here (
+      let c : Completed P = completed cmp t f.message in
+      let alone : filter in_done (c ∷ []) ≡ c ∷ [] = rw own refl in
+      let big : Course (Completed P) (World P) =
+      start_next cmp t (out_of_flight cmp t w f.message)
+      (first_waiting cmp (out_of_flight cmp t w f.message) f.message) in
+      let small : Course (Completed P) (World P) =
+      start_next cmp t (out_of_flight cmp t (part last id w) f.message)
+      (first_waiting cmp (out_of_flight cmp t (part last id w) f.message) f.message) in
+      subst (λ (cs : List (Completed P)). IsPartOf (preceded (c ∷ []) big) (preceded cs small)) alone
+      (part_preceded (c ∷ []) big small inner)))
     where
       inner : IsPartOf
           (start_next cmp t (out_of_flight cmp t w f.message)
@@ -221,70 +225,34 @@ module _ {P : Type 0} (cmp : P → P → Ordering) (order : IsTotalOrder cmp) (i
           (start_next cmp t (out_of_flight cmp t (part last id w) f.message) o))
           (sym same_next) one
 
-      by_late : (b : Bool)
-          → IsPartOf
-          (start_next cmp t (out_of_flight cmp t w f.message)
-          (first_waiting cmp (out_of_flight cmp t w f.message) f.message))
-          (start_next cmp t (out_of_flight cmp t (part last id w) f.message)
-          (first_waiting cmp (out_of_flight cmp t (part last id w) f.message) f.message))
-          → IsPartOf
-          (cond b (meets MomentTooLate)
-          (preceded (completed cmp t f.message ∷ [])
-          (start_next cmp t (out_of_flight cmp t w f.message)
-          (first_waiting cmp (out_of_flight cmp t w f.message) f.message))))
-          (cond b (meets MomentTooLate)
-          (preceded (completed cmp t f.message ∷ [])
-          (start_next cmp t (out_of_flight cmp t (part last id w) f.message)
-          (first_waiting cmp (out_of_flight cmp t (part last id w) f.message) f.message))))
-      by_late true h = tt
-      by_late false h =
-          let c : Completed P = completed cmp t f.message in
-          let alone : filter in_done (c ∷ []) ≡ c ∷ [] = rw own refl in
-          let big : Course (Completed P) (World P) =
-          start_next cmp t (out_of_flight cmp t w f.message)
-          (first_waiting cmp (out_of_flight cmp t w f.message) f.message) in
-          let small : Course (Completed P) (World P) =
-          start_next cmp t (out_of_flight cmp t (part last id w) f.message)
-          (first_waiting cmp (out_of_flight cmp t (part last id w) f.message) f.message) in
-          subst (λ (cs : List (Completed P)). IsPartOf (preceded (c ∷ []) big) (preceded cs small)) alone
-          (part_preceded (c ∷ []) big small h)
-
   complete_other : (t : ℕ) (w : World P) (f : Flight P) (last : P → P → Option ℕ) (id : ℕ) → IsPart last id w
       → find (is_done cmp w) w.sending ≡ Some f → mine f.message ≡ false
       → IsPartOf (complete cmp t w f.message) (goes [] (part last id w))
-  complete_other t w f last id is first off = by_late (is_late cmp t f.message)
-    where
-      by_late : (b : Bool)
-          → IsPartOf
-          (cond b (meets MomentTooLate)
-          (preceded (completed cmp t f.message ∷ [])
-          (start_next cmp t (out_of_flight cmp t w f.message)
-          (first_waiting cmp (out_of_flight cmp t w f.message) f.message))))
-          (goes [] (part last id w))
-      by_late true = tt
-      by_late false =
-          let c : Completed P = completed cmp t f.message in
-          let still : IsPart last id (out_of_flight cmp t w f.message) = record {
-            arrivals = λ n own_n.
-                is.arrivals n own_n ∙ sym (raised_other f.message n (arrival cmp t f.message) w.last_arrival off own_n);
-            ids = is.ids;
-            sending = each_without (λ (g : Flight P). T g.message) (is_done cmp w) w.sending is.sending;
-            waiting = is.waiting;
-          } in
-          let same : part last id (out_of_flight cmp t w f.message) ≡ part last id w
-          = part_alike w last id _ _ (filter mine w.waiting) (filter mine w.waiting)
-          (first_dropped in_flight (is_done cmp w) w.sending f first off) refl in
-          let nothing : filter in_done (c ∷ []) ≡ [] = rw off refl in
-          let big : Course (Completed P) (World P) =
-          start_next cmp t (out_of_flight cmp t w f.message)
-          (first_waiting cmp (out_of_flight cmp t w f.message) f.message) in
-          let base : IsPartOf big (goes [] (part last id (out_of_flight cmp t w f.message)))
-          = start_next_other t (out_of_flight cmp t w f.message) f.message
-          (first_waiting cmp (out_of_flight cmp t w f.message) f.message) last id still off refl in
-          let one : IsPartOf big (goes [] (part last id w)) =
-          subst (λ (z : World P). IsPartOf big (goes [] z)) same base in
-          subst (λ (cs : List (Completed P)). IsPartOf (preceded (c ∷ []) big) (preceded cs (goes [] (part last id w))))
-          nothing (part_preceded (c ∷ []) big (goes [] (part last id w)) one)
+  complete_other t w f last id is first off =
+      by_bool (is_late cmp t f.message) (λ here. rw here tt)
+      (λ here. rw here (
+      let c : Completed P = completed cmp t f.message in
+      let still : IsPart last id (out_of_flight cmp t w f.message) = record {
+        arrivals = λ n own_n.
+            is.arrivals n own_n ∙ sym (raised_other f.message n (arrival cmp t f.message) w.last_arrival off own_n);
+        ids = is.ids;
+        sending = each_without (λ (g : Flight P). T g.message) (is_done cmp w) w.sending is.sending;
+        waiting = is.waiting;
+      } in
+      let same : part last id (out_of_flight cmp t w f.message) ≡ part last id w
+      = part_alike w last id _ _ (filter mine w.waiting) (filter mine w.waiting)
+      (first_dropped in_flight (is_done cmp w) w.sending f first off) refl in
+      let nothing : filter in_done (c ∷ []) ≡ [] = rw off refl in
+      let big : Course (Completed P) (World P) =
+      start_next cmp t (out_of_flight cmp t w f.message)
+      (first_waiting cmp (out_of_flight cmp t w f.message) f.message) in
+      let base : IsPartOf big (goes [] (part last id (out_of_flight cmp t w f.message)))
+      = start_next_other t (out_of_flight cmp t w f.message) f.message
+      (first_waiting cmp (out_of_flight cmp t w f.message) f.message) last id still off refl in
+      let one : IsPartOf big (goes [] (part last id w)) =
+      subst (λ (z : World P). IsPartOf big (goes [] z)) same base in
+      subst (λ (cs : List (Completed P)). IsPartOf (preceded (c ∷ []) big) (preceded cs (goes [] (part last id w))))
+      nothing (part_preceded (c ∷ []) big (goes [] (part last id w)) one)))
 
   -- ---- settling
 
@@ -339,15 +307,6 @@ module _ {P : Type 0} (cmp : P → P → Ordering) (order : IsTotalOrder cmp) (i
           (complete_other t w f last id is e off) (complete_has cmp order t n w f e most) few
           (λ u l i g h m. ih k u l i g h m))
 
-      by_owner : (b : Bool) (f : Flight P) → find (is_done cmp w) w.sending ≡ Some f → mine f.message ≡ b
-          → ((j : ℕ) (u : World P) (l : P → P → Option ℕ) (i : ℕ) → IsPart l i u → HasAtMost cmp order n u
-          → HasAtMost cmp order j (part l i u)
-          → IsPartOf (settle_within cmp n t u) (settle_within cmp j t (part l i u)))
-          → IsPartOf (and_then (complete cmp t w f.message) (settle_within cmp n t))
-          (settle_within cmp k t (part last id w))
-      by_owner true f e b ih = by_mine f e b k few ih
-      by_owner false f e b ih = by_other f e b ih
-
       by_first : (o : Option (Flight P)) → find (is_done cmp w) w.sending ≡ o
           → ((j : ℕ) (u : World P) (l : P → P → Option ℕ) (i : ℕ) → IsPart l i u → HasAtMost cmp order n u
           → HasAtMost cmp order j (part l i u)
@@ -356,7 +315,8 @@ module _ {P : Type 0} (cmp : P → P → Ordering) (order : IsTotalOrder cmp) (i
       by_first None e ih = grind (arith, settle_none, settle_nothing, none_kept)
       by_first (Some f) e ih =
           subst (λ (c : Course (Completed P) (World P)). IsPartOf c (settle_within cmp k t (part last id w)))
-          (sym (settle_first cmp order n t w f e)) (by_owner (mine f.message) f e refl ih)
+          (sym (settle_first cmp order n t w f e)) (by_bool (mine f.message) (λ b. by_mine f e b k few ih)
+          (λ b. by_other f e b ih))
 
   -- ---- how many wait
 
@@ -378,19 +338,16 @@ module _ {P : Type 0} (cmp : P → P → Ordering) (order : IsTotalOrder cmp) (i
 
   settle_waits : (n k t : ℕ) (w : World P) → WaitsAtMost k w → EndsWith (WaitsAtMost k) (settle_within cmp n t w)
   settle_waits zero k t w h = h
-  settle_waits (suc n) k t w h = by_first (find (is_done cmp w) w.sending) refl (λ v g. settle_waits n k t v g)
-    where
-      by_first : (o : Option (Flight P)) → find (is_done cmp w) w.sending ≡ o
-          → ((v : World P) → WaitsAtMost k v → EndsWith (WaitsAtMost k) (settle_within cmp n t v))
-          → EndsWith (WaitsAtMost k) (settle_within cmp (suc n) t w)
-      by_first None e ih =
-          subst (λ (c : Course (Completed P) (World P)). EndsWith (WaitsAtMost k) c)
-          (sym (settle_none cmp order n t w e)) h
-      by_first (Some f) e ih =
-          subst (λ (c : Course (Completed P) (World P)). EndsWith (WaitsAtMost k) c)
-          (sym (settle_first cmp order n t w f e))
-          (ends_and_then (WaitsAtMost k) (WaitsAtMost k) (complete cmp t w f.message) (settle_within cmp n t)
-          (complete_waits k t w f.message h) ih)
+  settle_waits (suc n) k t w h =
+      by_option (find (is_done cmp w) w.sending)
+      (λ e.
+      subst (λ (c : Course (Completed P) (World P)). EndsWith (WaitsAtMost k) c)
+      (sym (settle_none cmp order n t w e)) h)
+      (λ f e.
+      subst (λ (c : Course (Completed P) (World P)). EndsWith (WaitsAtMost k) c)
+      (sym (settle_first cmp order n t w f e))
+      (ends_and_then (WaitsAtMost k) (WaitsAtMost k) (complete cmp t w f.message) (settle_within cmp n t)
+      (complete_waits k t w f.message h) (λ v g. settle_waits n k t v g)))
 
   ends_both : (Q R : World P → Type 0) (c : Course (Completed P) (World P)) → EndsWith Q c → EndsWith R c
       → EndsWith (λ v. Q v × R v) c

@@ -1,7 +1,7 @@
 -- Each event takes a message out or starts one, so there are at most twice the waiting ones and once those in flight.
-use Rattle.link_simulation.proofs.Common.{cond, left_at, common_steps, ◌≡◌, ◌≢◌, ℕ, zero, suc, ◌+◌, ◌-◌, ◌<◌, ◌≤◌, List}
-use Rattle.link_simulation.proofs.Common.{[], ◌∷◌, ◌++◌, length, Bool, true, false, not, Option, Some, refl, sym, ap}
-use Rattle.link_simulation.proofs.Common.{◌∙◌, subst, arith, ⊤, slice_get, IfSome, find, filter, Ordering, IsTotalOrder}
+use Rattle.link_simulation.proofs.Common.{left_at, common_steps, ◌≡◌, ◌≢◌, ℕ, zero, suc, ◌+◌, ◌-◌, ◌<◌, ◌≤◌, List, []}
+use Rattle.link_simulation.proofs.Common.{◌∷◌, ◌++◌, length, Bool, true, false, not, Option, Some, refl, sym, ap, ◌∙◌}
+use Rattle.link_simulation.proofs.Common.{subst, arith, ⊤, slice_get, IfSome, find, filter, Ordering, IsTotalOrder}
 use Rattle.link_simulation.proofs.Common.{Message, Caps, same_pair, Completed, Course, goes, meets, preceded, fronts}
 use Rattle.link_simulation.proofs.Common.{completed, Call, call_limit, call_limit_link, call_enqueue, call_advance}
 use Rattle.link_simulation.proofs.Common.{call_enqueue_all, call_next, Planned, RatedFlight, IsLeastMoment, next_event}
@@ -12,7 +12,7 @@ use Rattle.link_simulation.proofs.Common.{stopped, completes, WakesEach, all_sta
 use Rattle.link_simulation.proofs.Common.{Wakes, Settles, settling, Rebalances, none_sending, some_sending, Enqueues}
 use Rattle.link_simulation.proofs.Common.{at_once, no_launch, launches, Advances, no_more, at_finish, at_start}
 use Rattle.link_simulation.proofs.Common.{finish_stops, start_stops, launched, Obeys, EnqueuesEach, all_enqueued}
-use Rattle.link_simulation.proofs.Common.{one_stops, enqueues_one, In, Each, zip-length}
+use Rattle.link_simulation.proofs.Common.{one_stops, enqueues_one, In, Each, zip-length, by_bool}
 use Rattle.link_simulation.specs.Laws.MostEvents.{most_events}
 use Rattle.link_simulation.specs.Rule.Planned.{IsPlanned}
 use Rattle.fair_rates.proofs.Lists.Members.{in_filter}
@@ -230,15 +230,8 @@ module _ {P : Type 0} (cmp : P → P → Ordering) (order : IsTotalOrder cmp) wh
   spent_leaves t p [] i f at spent = cc
   spent_leaves t p (g ∷ gs) zero f at spent = grind arith
   spent_leaves t p (g ∷ gs) (suc i) f at spent =
-      by_test (is_spent cmp p.caps (record g { left = left_at t g; updated = t })) (spent_leaves t p gs i f at spent)
-    where
-      by_test : (b : Bool) → 0 < length (filter (is_spent cmp p.caps) (drained_to t gs))
-          → 0
-          < length
-          (cond b (record g { left = left_at t g; updated = t } ∷ filter (is_spent cmp p.caps) (drained_to t gs))
-          (filter (is_spent cmp p.caps) (drained_to t gs)))
-      by_test true h = omega arith
-      by_test false h = h
+      by_bool (is_spent cmp p.caps (record g { left = left_at t g; updated = t })) (λ is. rw is (omega arith))
+      (λ is. rw is (spent_leaves t p gs i f at spent))
 
   settle_less : {t : ℕ} {p : Planned P} {c : Course (Completed P) (Planned P)} → Settles cmp t p c
       → SomeSpentAt p.sending t → 0 < most_events p × Leaves (most_events p - 1) c

@@ -9,7 +9,7 @@ use Rattle.link_simulation.proofs.Common.{later_of, new_world, raised, instant, 
 use Rattle.link_simulation.proofs.Common.{one_tick, tick_faults, Call, call_limit, call_limit_link, call_enqueue}
 use Rattle.link_simulation.proofs.Common.{call_advance, complete_at_once, act, moment_of, Runs, call_enqueue_all}
 use Rattle.link_simulation.proofs.Common.{call_next, limited_by, linked_by, enqueue, enqueue_each, enqueued, answered}
-use Rattle.link_simulation.proofs.Common.{IsCompletionOf, NeverGoDown, Answers, no_calls, call_answers}
+use Rattle.link_simulation.proofs.Common.{IsCompletionOf, NeverGoDown, Answers, no_calls, call_answers, by_bool}
 use Rattle.link_simulation.specs.Simulation.Calls.{join}
 use Rattle.link_simulation.specs.Laws.PairCompletions.{IsInPairOrder}
 use Rattle.link_simulation.proofs.Simulation.Queue.{pair_sym}
@@ -125,8 +125,12 @@ module _ {P : Type 0} (cmp : P → P → Ordering) (order : IsTotalOrder cmp) (k
       reached true = grind (arith, reaches_it)
       reached false = tt
 
-      by_pair : (b : Bool) → same_pair cmp k m ≡ b → IsHistory cmp order k (messages ++ m ∷ []) t (cs ++ c ∷ []) after
-      by_pair true own =
+      by_late : (b : Bool) → GoesByRule cmp order k (messages ++ m ∷ []) t cs
+          (cond b (meets MomentTooLate) (goes (c ∷ []) after))
+      by_late true = tt
+      by_late false =
+          by_bool (same_pair cmp k m)
+          (λ own.
           let list_is = told_more cmp order k cs c own in
           record {
             done = h.done ++ m ∷ [];
@@ -156,8 +160,8 @@ module _ {P : Type 0} (cmp : P → P → Ordering) (order : IsTotalOrder cmp) (k
             in_order = tt;
             alike = alike_too;
             now = h.now;
-          }
-      by_pair false off =
+          })
+          (λ off.
           let list_is = told_same cmp order k cs c off in
           record {
             done = h.done;
@@ -177,12 +181,7 @@ module _ {P : Type 0} (cmp : P → P → Ordering) (order : IsTotalOrder cmp) (k
             in_order = tt;
             alike = alike_too;
             now = h.now;
-          }
-
-      by_late : (b : Bool) → GoesByRule cmp order k (messages ++ m ∷ []) t cs
-          (cond b (meets MomentTooLate) (goes (c ∷ []) after))
-      by_late true = tt
-      by_late false = by_pair (same_pair cmp k m) refl
+          })
 
   -- ---- messages that are sent
 

@@ -1,18 +1,19 @@
 -- How far a pair is: which of its messages completed, which is in flight, which wait. Starts, completions and whole
 -- instants keep it.
-use Rattle.link_simulation.proofs.Common.{nat_le, FlowIdsUsedUp, completion_of, last_moment, ◌≡◌, ℕ, zero, suc, ◌+◌}
-use Rattle.link_simulation.proofs.Common.{◌≤◌, List, [], ◌∷◌, ◌++◌, map, length, Bool, true, false, cond, not, Option}
-use Rattle.link_simulation.proofs.Common.{Some, None, refl, sym, ap, ◌∙◌, subst, arith, append_assoc, append-nil, ⊤}
-use Rattle.link_simulation.proofs.Common.{◌&&◌, IfSome, if◌then◌else◌, list_any, find, filter, AllZip, Ordering}
-use Rattle.link_simulation.proofs.Common.{IsTotalOrder, filter-append, map-append, leb-true, without_first}
-use Rattle.link_simulation.proofs.Common.{MomentTooLate, same_peer, Message, PairsAlike, same_pair, is_delivered, World}
-use Rattle.link_simulation.proofs.Common.{Flight, Completed, Course, goes, meets, preceded, and_then, is_in_order}
-use Rattle.link_simulation.proofs.Common.{later_of, flows, first_waiting, may_start, start, start_next, is_done}
-use Rattle.link_simulation.proofs.Common.{complete, settle_within, settle, least_pair, ready, turn, wake_within}
-use Rattle.link_simulation.proofs.Common.{instant, fronts, out_of_flight, is_late, completed, arrival, flight_of}
-use Rattle.link_simulation.proofs.Common.{IsCompletionOf, NeverGoDown, Each, rules}
+use Rattle.link_simulation.proofs.Common.{nat_le, completion_of, last_moment, ◌≡◌, ℕ, zero, suc, ◌+◌, ◌≤◌, List, []}
+use Rattle.link_simulation.proofs.Common.{◌∷◌, ◌++◌, map, length, Bool, true, false, cond, not, Option, Some, None}
+use Rattle.link_simulation.proofs.Common.{refl, sym, ap, ◌∙◌, subst, arith, append_assoc, append-nil, ⊤, ◌&&◌, IfSome}
+use Rattle.link_simulation.proofs.Common.{if◌then◌else◌, list_any, find, filter, AllZip, Ordering, IsTotalOrder}
+use Rattle.link_simulation.proofs.Common.{filter-append, map-append, leb-true, without_first, same_peer, Message}
+use Rattle.link_simulation.proofs.Common.{PairsAlike, same_pair, is_delivered, World, Flight, Completed, Course, goes}
+use Rattle.link_simulation.proofs.Common.{meets, preceded, and_then, is_in_order, later_of, flows, first_waiting}
+use Rattle.link_simulation.proofs.Common.{may_start, start, start_next, is_done, complete, settle_within, settle}
+use Rattle.link_simulation.proofs.Common.{least_pair, ready, turn, wake_within, instant, fronts, out_of_flight, is_late}
+use Rattle.link_simulation.proofs.Common.{completed, arrival, flight_of, IsCompletionOf, NeverGoDown, Each, rules}
+use Rattle.link_simulation.proofs.Common.{by_bool}
 use Rattle.link_simulation.specs.Laws.PairCompletions.{NoneBefore, completes_pair}
 use Rattle.link_simulation.proofs.Simulation.Queue.{pair_like, pair_sym, find_passes, settle_none, settle_first}
+use Rattle.link_simulation.proofs.Simulation.Queue.{by_option}
 use Rattle.link_simulation.proofs.Simulation.SettlingEnds.{find_like}
 use Rattle.link_simulation.proofs.Laws.Bytes.{wake_none, each_least, each_filter}
 use Rattle.link_simulation.proofs.Simulation.OtherPairs.{fronts_are_first}
@@ -167,15 +168,12 @@ module _ {P : Type 0} (cmp : P → P → Ordering) (order : IsTotalOrder cmp) (k
   waits_without : (ws : List (Message P)) (m : Message P) → same_pair cmp k m ≡ false
       → filter (same_pair cmp k) (without_first (same_pair cmp m) ws) ≡ filter (same_pair cmp k) ws
   waits_without [] m off = refl
-  waits_without (x ∷ ws) m off = by_test (same_pair cmp m x) refl (waits_without ws m off)
-    where
-      by_test : (b : Bool) → same_pair cmp m x ≡ b
-          → filter (same_pair cmp k) (without_first (same_pair cmp m) ws) ≡ filter (same_pair cmp k) ws
-          → filter (same_pair cmp k) (cond b ws (x ∷ without_first (same_pair cmp m) ws))
-          ≡ filter (same_pair cmp k) (x ∷ ws)
-      by_test true is ih = let out : same_pair cmp k x ≡ false = pair_sym cmp order k x ∙ pair_like cmp order m x k is
-          ∙ pair_sym cmp order m k ∙ off in rw out refl
-      by_test false is ih = ap (λ (ms : List (Message P)). cond (same_pair cmp k x) (x ∷ ms) ms) ih
+  waits_without (x ∷ ws) m off =
+      by_bool (same_pair cmp m x)
+      (λ is. rw is (
+      let out : same_pair cmp k x ≡ false = pair_sym cmp order k x ∙ pair_like cmp order m x k is
+      ∙ pair_sym cmp order m k ∙ off in rw out refl))
+      (λ is. rw is (ap (λ (ms : List (Message P)). cond (same_pair cmp k x) (x ∷ ms) ms) (waits_without ws m off)))
 
   joined : World P → Message P → World P
   joined w m = record w {
@@ -192,7 +190,22 @@ module _ {P : Type 0} (cmp : P → P → Ordering) (order : IsTotalOrder cmp) (k
       → find (same_pair cmp m) w.waiting ≡ Some m
       → may_start cmp t w m ≡ true → IsHistory messages t cs w → IsHistory messages t cs (joined w m)
   unfolding joined
-  start_history messages t cs w m found may h = by_pair (same_pair cmp k m) refl
+  start_history messages t cs w m found may h =
+      by_bool (same_pair cmp k m)
+      (λ own.
+      let none : flies w ≡ [] = filter_nothing (same_pair cmp k) (flows w) (like_any (flows w) own apart.0) in
+      record {
+        done = h.done;
+        flying = Some m;
+        told = h.told;
+        in_flight = grind (arith, flies_more);
+        queue = grind (arith, idle_is, first_of_waits);
+        deliveries = h.deliveries;
+        not_past = h.not_past;
+        in_order = subst (λ (o : Option ℕ). is_in_order o (t + m.latency) ≡ true) (last_of w m h.alike own) apart.1;
+        alike = h.alike;
+        now = h.now;
+      }) (λ off. grind (arith, flies_more, append-nil, held, waits_without))
     where
       may_parts : (a b : Bool) → (not a && b) ≡ true → (a ≡ false) × (b ≡ true)
       may_parts true b e = cc
@@ -209,23 +222,6 @@ module _ {P : Type 0} (cmp : P → P → Ordering) (order : IsTotalOrder cmp) (k
 
       idle_is : flies w ≡ [] → held h.flying ≡ []
       idle_is e = sym h.in_flight ∙ e
-
-      by_pair : (b : Bool) → same_pair cmp k m ≡ b → IsHistory messages t cs (joined w m)
-      by_pair true own =
-          let none : flies w ≡ [] = filter_nothing (same_pair cmp k) (flows w) (like_any (flows w) own apart.0) in
-          record {
-            done = h.done;
-            flying = Some m;
-            told = h.told;
-            in_flight = grind (arith, flies_more);
-            queue = grind (arith, idle_is, first_of_waits);
-            deliveries = h.deliveries;
-            not_past = h.not_past;
-            in_order = subst (λ (o : Option ℕ). is_in_order o (t + m.latency) ≡ true) (last_of w m h.alike own) apart.1;
-            alike = h.alike;
-            now = h.now;
-          }
-      by_pair false off = grind (arith, flies_more, append-nil, held, waits_without)
 
   -- ---- courses
 
@@ -257,11 +253,9 @@ module _ {P : Type 0} (cmp : P → P → Ordering) (order : IsTotalOrder cmp) (k
     start_goes : (cs : List (Completed P)) (w : World P) (m : Message P) → find (same_pair cmp m) w.waiting ≡ Some m
         → may_start cmp t w m ≡ true → IsHistory messages t cs w → GoesByRule cs (start cmp w m)
     unfolding joined GoesByRule
-    start_goes cs w m found may h = by_id (nat_le last_moment w.next_id)
-      where
-        by_id : (b : Bool) → GoesByRule cs (cond b (meets FlowIdsUsedUp) (goes [] (joined w m)))
-        by_id true = tt
-        by_id false = stays cs (joined w m) (start_history messages t cs w m found may h)
+    start_goes cs w m found may h =
+        by_bool (nat_le last_moment w.next_id) (λ is. rw is tt)
+        (λ is. rw is (stays cs (joined w m) (start_history messages t cs w m found may h)))
 
     pub next_goes : (cs : List (Completed P)) (w : World P) (n : Message P) (o : Option (Message P))
         → find (same_pair cmp n) w.waiting ≡ o → IsHistory messages t cs w → GoesByRule cs (start_next cmp t w o)
@@ -277,7 +271,29 @@ module _ {P : Type 0} (cmp : P → P → Ordering) (order : IsTotalOrder cmp) (k
         → IsHistory messages t cs w
         → IsHistory messages t (cs ++ completed cmp t f.message ∷ []) (land w f.message)
     unfolding land
-    land_history cs w f found h = by_pair (same_pair cmp k f.message) refl
+    land_history cs w f found h =
+        by_bool (same_pair cmp k f.message) (λ own. by_flying own h.flying refl h.in_flight h.queue h.in_order)
+        (λ off.
+        let c : Completed P = completed cmp t f.message in
+        let list_is : told_of_k (cs ++ c ∷ []) ≡ told_of_k cs = told_same cs c off in
+        record {
+          done = h.done;
+          flying = h.flying;
+          told = subst (λ (xs : List (Completed P)). AllZip IsCompletionOf xs h.done) (sym list_is) h.told;
+          in_flight = not_taken (same_pair cmp k) (λ (g : Flight P). g.message) (is_done cmp w) f w.sending found
+              off ∙ h.in_flight;
+          queue = h.queue;
+          deliveries = subst NeverGoDown (sym list_is) h.deliveries;
+          not_past =
+              subst (λ (xs : List (Completed P)). AllNotPast (last (land w f.message)) xs) (sym list_is)
+              (subst (λ (l : Option ℕ). AllNotPast l (told_of_k cs)) (sym (other_last off)) h.not_past);
+          in_order =
+              by_option (h.flying) (λ is. rw is tt)
+              (λ n is. rw is (subst (λ (l : Option ℕ). is_in_order l (t + n.latency) ≡ true) (sym (other_last off))
+              (rw is at h.in_order)));
+          alike = alike_too;
+          now = h.now;
+        })
       where
         m : Message P
         m = f.message
@@ -349,70 +365,30 @@ module _ {P : Type 0} (cmp : P → P → Ordering) (order : IsTotalOrder cmp) (k
               queue = queue ∙ sym (append_assoc h.done (n ∷ []) (waits w));
               deliveries = subst NeverGoDown (sym list_is)
                   (deliveries_push (last w) (told_of_k cs) c h.deliveries h.not_past
-                  (ordered (is_delivered cmp f.message) in_order_here));
-              not_past = subst (λ (xs : List (Completed P)). AllNotPast (last (land w f.message)) xs) (sym list_is)
+                  (by_bool (is_delivered cmp f.message) (λ here. rw here in_order_here) (λ here. rw here tt)));
+              not_past =
+                  subst (λ (xs : List (Completed P)). AllNotPast (last (land w f.message)) xs) (sym list_is)
                   (subst (λ (l : Option ℕ). AllNotPast l (told_of_k cs ++ c ∷ [])) (sym (own_last own))
                   (not_past_push (Some (later_of (last w) (arrival cmp t f.message))) (told_of_k cs) c
                   (not_past_later (last w) (Some (later_of (last w) (arrival cmp t f.message))) (told_of_k cs)
                   (λ s np. raises (last w) (arrival cmp t f.message) s np) h.not_past)
-                  (reached (is_delivered cmp f.message))));
+                  (by_bool (is_delivered cmp f.message)
+                  (λ seen. rw seen (reaches_it (last w) (t + f.message.latency))) (λ seen. rw seen tt))));
               in_order = tt;
               alike = alike_too;
               now = h.now;
             }
-          where
-            ordered : (b : Bool) → is_in_order (last w) (t + f.message.latency) ≡ true
-                → IfSome (if b then Some (if b then t + f.message.latency else t) else None)
-                (λ s. is_in_order (last w) s ≡ true)
-            ordered true e = e
-            ordered false e = tt
-
-            reached : (b : Bool) → IfSome (if b then Some (if b then t + f.message.latency else t) else None)
-                (NotPast (Some (later_of (last w) (if b then t + f.message.latency else t))))
-            reached true = reaches_it (last w) (t + f.message.latency)
-            reached false = tt
-
-        by_pair : (b : Bool) → same_pair cmp k f.message ≡ b
-            → IsHistory messages t (cs ++ completed cmp t f.message ∷ []) (land w f.message)
-        by_pair true own = by_flying own h.flying refl h.in_flight h.queue h.in_order
-        by_pair false off =
-            let c : Completed P = completed cmp t f.message in
-            let list_is : told_of_k (cs ++ c ∷ []) ≡ told_of_k cs = told_same cs c off in
-            record {
-              done = h.done;
-              flying = h.flying;
-              told = subst (λ (xs : List (Completed P)). AllZip IsCompletionOf xs h.done) (sym list_is) h.told;
-              in_flight = not_taken (same_pair cmp k) (λ (g : Flight P). g.message) (is_done cmp w) f w.sending found
-                  off ∙ h.in_flight;
-              queue = h.queue;
-              deliveries = subst NeverGoDown (sym list_is) h.deliveries;
-              not_past =
-                  subst (λ (xs : List (Completed P)). AllNotPast (last (land w f.message)) xs) (sym list_is)
-                  (subst (λ (l : Option ℕ). AllNotPast l (told_of_k cs)) (sym (other_last off)) h.not_past);
-              in_order = still (h.flying) h.in_order;
-              alike = alike_too;
-              now = h.now;
-            }
-          where
-            still : (o : Option (Message P)) → IfSome o (λ n. is_in_order (last w) (t + n.latency) ≡ true)
-                → IfSome o (λ n. is_in_order (last (land w f.message)) (t + n.latency) ≡ true)
-            still None e = tt
-            still (Some n) e = subst (λ (l : Option ℕ). is_in_order l (t + n.latency) ≡ true) (sym (other_last off)) e
 
     complete_goes : (cs : List (Completed P)) (w : World P) (f : Flight P) → find (is_done cmp w) w.sending ≡ Some f
         → IsHistory messages t cs w → GoesByRule cs (complete cmp t w f.message)
     unfolding land GoesByRule
-    complete_goes cs w f found h = by_late (is_late cmp t f.message)
-      where
-        by_late : (b : Bool) → GoesByRule cs (cond b (meets MomentTooLate)
-            (preceded (completed cmp t f.message ∷ [])
-            (start_next cmp t (land w f.message) (first_waiting cmp (land w f.message) f.message))))
-        by_late true = tt
-        by_late false =
-            goes_preceded cs (completed cmp t f.message ∷ [])
-            (start_next cmp t (land w f.message) (first_waiting cmp (land w f.message) f.message))
-            (next_goes (cs ++ completed cmp t f.message ∷ []) (land w f.message) f.message
-            (first_waiting cmp (land w f.message) f.message) refl (land_history cs w f found h))
+    complete_goes cs w f found h =
+        by_bool (is_late cmp t f.message) (λ is. rw is tt)
+        (λ is. rw is (
+        goes_preceded cs (completed cmp t f.message ∷ [])
+        (start_next cmp t (land w f.message) (first_waiting cmp (land w f.message) f.message))
+        (next_goes (cs ++ completed cmp t f.message ∷ []) (land w f.message) f.message
+        (first_waiting cmp (land w f.message) f.message) refl (land_history cs w f found h))))
 
     -- ---- an instant
 

@@ -4,7 +4,7 @@ use Rattle.link_simulation.proofs.Common.{true, false, cond, Option, Some, None,
 use Rattle.link_simulation.proofs.Common.{◌∙◌, subst, arith, inl, inr, ◌&&◌, slice_get, if◌then◌else◌, filter, Ordering}
 use Rattle.link_simulation.proofs.Common.{All-contains, Side, load, IsFair, flagged, same_peer, Message, Caps}
 use Rattle.link_simulation.proofs.Common.{same_pair, is_delivered, AreFair, Parts, capped_sides, sides_for, rates_from}
-use Rattle.link_simulation.proofs.Common.{is_unlimited, All-from_contains, In, places_from, rules}
+use Rattle.link_simulation.proofs.Common.{is_unlimited, All-from_contains, In, places_from, rules, by_bool}
 use Rattle.std.proofs.lemmas.List.Sums.{sum_by-cons}
 use Rattle.fair_rates.specs.Fairness.Fair.{IsLimited, HasBottleneck}
 use Rattle.link_simulation.specs.Simulation.Rates.{capped_side}
@@ -109,7 +109,12 @@ module _ {P : Type 0} (cmp : P → P → Ordering) (caps : Caps P) where
       → flagged (map mine ms) (rates_from cmp caps f 0 ms)
       ≡ rates_from cmp caps (λ i. f (stood (map mine ms) i)) 0 (filter mine ms)
   kept_rates mine f [] = refl
-  kept_rates mine f (m ∷ ms) = by_test (mine m) (kept_rates mine (λ i. f (suc i)) ms)
+  kept_rates mine f (m ∷ ms) =
+      by_bool (mine m)
+      (λ is. rw is (
+      ap (λ (rs : Parts). (if is_unlimited cmp caps m then None else Some (f 0)) ∷ rs)
+      (ap (flagged (map mine ms)) next ∙ (kept_rates mine (λ i. f (suc i)) ms) ∙ later)))
+      (λ is. rw is (ap (flagged (map mine ms)) next ∙ (kept_rates mine (λ i. f (suc i)) ms)))
     where
       next : rates_from cmp caps f 1 ms ≡ rates_from cmp caps (λ i. f (suc i)) 0 ms
       next = rates_shifted f (λ i. f (suc i)) 1 0 ms (λ i. ap f (omega arith))
@@ -117,19 +122,6 @@ module _ {P : Type 0} (cmp : P → P → Ordering) (caps : Caps P) where
       later : rates_from cmp caps (λ i. f (suc (stood (map mine ms) i))) 0 (filter mine ms)
           ≡ rates_from cmp caps (λ i. f (stood (true ∷ map mine ms) i)) 1 (filter mine ms)
       later = grind (arith, rates_shifted)
-
-      by_test : (b : Bool)
-          → flagged (map mine ms) (rates_from cmp caps (λ i. f (suc i)) 0 ms)
-          ≡ rates_from cmp caps (λ i. f (suc (stood (map mine ms) i))) 0 (filter mine ms)
-          → cond b
-          ((if is_unlimited cmp caps m then None else Some (f 0))
-          ∷ flagged (map mine ms) (rates_from cmp caps f 1 ms))
-          (flagged (map mine ms) (rates_from cmp caps f 1 ms))
-          ≡ rates_from cmp caps (λ i. f (stood (b ∷ map mine ms) i)) 0 (cond b (m ∷ filter mine ms) (filter mine ms))
-      by_test true ih =
-          ap (λ (rs : Parts). (if is_unlimited cmp caps m then None else Some (f 0)) ∷ rs)
-          (ap (flagged (map mine ms)) next ∙ ih ∙ later)
-      by_test false ih = ap (flagged (map mine ms)) next ∙ ih
 
   -- ---- which message brings a side
 

@@ -1,10 +1,9 @@
 -- Replies that agree with the simulation, to calls in turn, keep the order of each pair and isolate sets of peers.
-use Rattle.link_simulation.proofs.Common.{same_peer, arith, ◌≡◌, ℕ, zero, suc, List, [], ◌∷◌, Bool, true, false, cond}
-use Rattle.link_simulation.proofs.Common.{Option, Some, None, refl, ⊤, IfSome, filter, AllZip, Ordering, IsTotalOrder}
-use Rattle.link_simulation.proofs.Common.{Message, new_world, Completed, Call, Reply, reply_done, reply_next}
-use Rattle.link_simulation.proofs.Common.{reply_refused, SameCompletion, Agrees, made, completions_in, enqueued}
-use Rattle.link_simulation.proofs.Common.{answered, IsCompletionOf, NeverGoDown, InTime, Completes, zip-append}
-use Rattle.link_simulation.proofs.Common.{zip-filter}
+use Rattle.link_simulation.proofs.Common.{same_peer, arith, ◌≡◌, ℕ, zero, suc, List, [], ◌∷◌, Bool, Option, Some, None}
+use Rattle.link_simulation.proofs.Common.{refl, IfSome, filter, AllZip, Ordering, IsTotalOrder, Message, new_world}
+use Rattle.link_simulation.proofs.Common.{Completed, Call, Reply, reply_done, reply_next, reply_refused, SameCompletion}
+use Rattle.link_simulation.proofs.Common.{Agrees, made, completions_in, enqueued, answered, IsCompletionOf, NeverGoDown}
+use Rattle.link_simulation.proofs.Common.{InTime, Completes, zip-append, zip-filter, by_bool}
 use Rattle.link_simulation.proofs.Simulation.Queue.{both_alike}
 use Rattle.link_simulation.proofs.Simulation.AlikeMessages.{same_itself, peers_alike}
 use Rattle.std.specs.Prelude.{take}
@@ -124,14 +123,13 @@ module _ {P : Type 0} (cmp : P → P → Ordering) (order : IsTotalOrder cmp) wh
     nothing_alike [] css dss same nothing = tt
     nothing_alike (call ∷ calls) [] dss same nothing = tt
     nothing_alike (call ∷ calls) (cs ∷ css) [] same nothing = absurd same
-    nothing_alike (call ∷ calls) (cs ∷ css) (ds ∷ dss) same nothing =
-        (by_kept (is_kept inside call) nothing.0, nothing_alike calls css dss same.1 nothing.1)
-      where
-        by_kept : (b : Bool) → cond b ⊤ (inside_alone inside ds ≡ []) → cond b ⊤ (inside_alone inside cs ≡ [])
-        by_kept true none = tt
-        by_kept false none =
-            none_alike (SameCompletion cmp) (inside_alone inside cs) (inside_alone inside ds) (alone_alike cs ds same.0)
-            none
+    nothing_alike (call ∷ calls) (cs ∷ css) (ds ∷ dss) same nothing = (
+      by_bool (is_kept inside call) (λ is. rw is tt)
+          (λ is. rw is (
+          none_alike (SameCompletion cmp) (inside_alone inside cs) (inside_alone inside ds) (alone_alike cs ds same.0)
+          (rw is at nothing.0))),
+      nothing_alike calls css dss same.1 nothing.1,
+    )
 
   pub sets_are_isolated : (calls : List (Call P)) (replies : List (Reply P)) → InTime calls
       → Agrees cmp (new_world 0) calls replies → AlwaysSoFar (IsolateSets cmp) calls replies

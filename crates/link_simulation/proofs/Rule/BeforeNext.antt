@@ -10,7 +10,7 @@ use Rattle.link_simulation.proofs.Common.{RatedFlight, Planned, SomeReadyAt, Som
 use Rattle.link_simulation.proofs.Common.{next_event, rated_messages, IsSpentAt, AreFair, Parts, is_unlimited, rate_of}
 use Rattle.link_simulation.proofs.Common.{Follows, IsSameFlight, StandsFor, Tallies, ArePositive, Drains, NextIs}
 use Rattle.link_simulation.proofs.Common.{Passes, comes_next, drain_each, drifted, never_comes, no_time, Each, each_map}
-use Rattle.link_simulation.proofs.Common.{each_filtered}
+use Rattle.link_simulation.proofs.Common.{each_filtered, by_bool}
 use Rattle.link_simulation.specs.Rule.Planned.{earlier}
 use borrow.Author.Tests.{eqb-true, eq-eqb}
 use Rattle.link_simulation.proofs.Simulation.LowestTerms.{drained_by_lowest, drained_by_twice, spent_later}
@@ -89,14 +89,11 @@ module _ {P : Type 0} (cmp : P → P → Ordering) (order : IsTotalOrder cmp) wh
   none_done_at u t (f ∷ fs) (g ∷ gs) all none e =
       let parts = or_parts (u g.message) (list_any u (map (λ (g : Flight P). g.message) gs)) e in
       or_from ((g.left.num == 0) || u g.message) (list_any (λ (g : Flight P). (g.left.num == 0) || u g.message) gs)
-      (or_from (g.left.num == 0) (u g.message) (by_test (g.left.num == 0) refl) parts.0)
-      (none_done_at u t fs gs all.1 (λ i. none (suc i)) parts.1)
-    where
-      by_test : (b : Bool) → (g.left.num == 0) ≡ b → b ≡ false
-      by_test false is = refl
-      by_test true is =
-          absurd
-          (none 0 f refl all.0.updated (ap (λ (a : Amount). a.num) (sym all.0.left) ∙ eqb-true (g.left.num) 0 is))
+      (or_from (g.left.num == 0) (u g.message) (by_bool (g.left.num == 0)
+      (λ is. rw is (
+      absurd
+      (none 0 f refl all.0.updated (ap (λ (a : Amount). a.num) (sym all.0.left) ∙ eqb-true (g.left.num) 0 is))))
+      (λ is. rw is refl)) parts.0) (none_done_at u t fs gs all.1 (λ i. none (suc i)) parts.1)
 
   -- what was spent at s is done at t
   pub done_at : (u : Message P → Bool) (s t : ℕ) (fs : List (RatedFlight P)) (gs : List (Flight P)) (i : ℕ)

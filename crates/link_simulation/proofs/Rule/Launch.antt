@@ -8,6 +8,7 @@ use Rattle.link_simulation.proofs.Common.{launched, no_id, nothing_waits, starts
 use Rattle.link_simulation.proofs.Common.{SameMessage, same_pair, AreInPairOrder, Planned, next_of, Follows}
 use Rattle.link_simulation.proofs.Common.{IsSameFlight, Tallies, FlowIdsUsedUp, leb-true, le-leb, without_first}
 use Rattle.link_simulation.proofs.Common.{leaving, staying, out_of_waiting, joined, launch_then, Each, each_map}
+use Rattle.link_simulation.proofs.Common.{by_bool}
 use Rattle.std.proofs.lemmas.List.{append-nil}
 use Rattle.std.proofs.lemmas.Slice.Zip.{all_zipped_more}
 use Rattle.link_simulation.proofs.Simulation.LowestTerms.{whole_lowest, drained_none}
@@ -227,26 +228,15 @@ module _ {P : Type 0} (cmp : P → P → Ordering) (order : IsTotalOrder cmp) wh
       → (nat_le last_moment w.next_id) ≡ false
       → launch_then cmp next t fs w (Some y) ≡ next (fs ++ joining w y) (started w y)
   unfolding launch_then
-  starts_so next t fs w y e f = rw (e, f) (by_test (is_done cmp w (flight_of y)))
-    where
-      by_test : (b : Bool)
-          → cond b (next (fs ++ flight_of y ∷ []) (out_of_waiting cmp w y)) (next fs (joined cmp w y))
-          ≡ next (fs ++ cond b (flight_of y ∷ []) []) (cond b (out_of_waiting cmp w y) (joined cmp w y))
-      by_test true = refl
-      by_test false = ap (λ (q : List (Flight P)). next q (joined cmp w y)) (sym (append-nil fs))
+  starts_so next t fs w y e f = rw (e, f) (by_bool (is_done cmp w (flight_of y)) (λ is. rw is refl)
+      (λ is. rw is (ap (λ (q : List (Flight P)). next q (joined cmp w y)) (sym (append-nil fs)))))
 
   pub started_fewer : (w : World P) (y : Message P) → find (same_pair cmp y) w.waiting ≡ Some y
       → length (joining w y) + length (started w y).waiting ≤ length w.waiting
   started_fewer w y e =
       let fewer : length (without_first (same_pair cmp y) w.waiting) + 1 ≡ length w.waiting =
       length_without (same_pair cmp y) y w.waiting e in
-      by_test (is_done cmp w (flight_of y)) fewer
-    where
-      by_test : (b : Bool) → length (without_first (same_pair cmp y) w.waiting) + 1 ≡ length w.waiting
-          → length (cond b (flight_of y ∷ []) []) + length (cond b (out_of_waiting cmp w y) (joined cmp w y)).waiting
-          ≤ length w.waiting
-      by_test true h = omega arith
-      by_test false h = omega arith
+      by_bool (is_done cmp w (flight_of y)) (λ is. rw is (omega arith)) (λ is. rw is (omega arith))
 
   pub idle_from : (a b : Bool) → (not a && b) ≡ true → a ≡ false
   idle_from true b e = cc

@@ -2,20 +2,20 @@
 use Rattle.link_simulation.proofs.Common.{common_steps, ◌≡◌, ℕ, zero, suc, ◌+◌, ◌≤◌, List, [], ◌∷◌, length, Bool, true}
 use Rattle.link_simulation.proofs.Common.{false, cond, Some, refl, sym, subst, arith, length-append, filter, find}
 use Rattle.link_simulation.proofs.Common.{list_any, AllZip, Ordering, IsTotalOrder, without_first, Completed, Course}
-use Rattle.link_simulation.proofs.Common.{Flight, World, and_then, flows, goes, is_done, least_pair, may_start, meets}
-use Rattle.link_simulation.proofs.Common.{preceded, ready, settle, start, wake_within, EndsWith, flight_of, Finishes}
-use Rattle.link_simulation.proofs.Common.{Launches, WakesEach, all_started, no_finish, no_start, starts_one, Message}
+use Rattle.link_simulation.proofs.Common.{World, and_then, flows, goes, is_done, least_pair, may_start, meets, preceded}
+use Rattle.link_simulation.proofs.Common.{ready, settle, start, wake_within, EndsWith, flight_of, Finishes, Launches}
+use Rattle.link_simulation.proofs.Common.{WakesEach, all_started, no_finish, no_start, starts_one, Message}
 use Rattle.link_simulation.proofs.Common.{OneForEachPair, SameMessage, same_pair, Planned, next_of, SameCompletion}
 use Rattle.link_simulation.proofs.Common.{CoursesAlike, Follows, IsSettled, out_of_waiting, joined, finish_within, Each}
-use Rattle.link_simulation.proofs.Common.{each_filtered, zip-append}
+use Rattle.link_simulation.proofs.Common.{each_filtered, zip-append, by_bool}
 use Rattle.link_simulation.proofs.Rule.BeforeNext.{fronts_first, first_found}
 use Rattle.link_simulation.proofs.Rule.Launch.{NoneDone, joining, started, joining_leaves, started_stays, next_alike}
 use Rattle.link_simulation.proofs.Rule.Launch.{StartsSo, StartAlike, start_alike}
 use Rattle.link_simulation.proofs.Rule.Settling.{CourseAlike, looked, finishes_alike, settle_is_finish}
 use Rattle.link_simulation.proofs.Simulation.Pass.{wake_none}
 use Rattle.link_simulation.proofs.Simulation.AlikeMessages.{pair_itself}
-use Rattle.link_simulation.proofs.Simulation.OnePair.{apart, OnlyPair, only_both, IsRested, IsAfter, only_taken}
-use Rattle.link_simulation.proofs.Simulation.OnePair.{only_joined, rested_joined, finish_only, ready_after, ends_so}
+use Rattle.link_simulation.proofs.Simulation.OnePair.{apart, only_both, IsRested, IsAfter, only_taken, only_joined}
+use Rattle.link_simulation.proofs.Simulation.OnePair.{rested_joined, finish_only, ready_after, ends_so}
 use Rattle.link_simulation.proofs.Simulation.SettlingEnds.{length_without}
 use Rattle.link_simulation.proofs.Laws.Bytes.{each_least, wake_first}
 
@@ -51,36 +51,29 @@ module _ {P : Type 0} (cmp : P → P → Ordering) (order : IsTotalOrder cmp) wh
       (ends_so (IsAfter cmp order y t (started cmp order w y)) (IsRound t y w) _
       (λ v after. both v after (length_without (same_pair cmp y) y w.waiting found))
       (finish_only cmp order y (length (joined cmp w y).sending + length (joined cmp w y).waiting) t
-      (joining cmp order w y) (started cmp order w y) (own_joining (is_done cmp w (flight_of y))) (round_fuel w y)
+      (joining cmp order w y) (started cmp order w y) (by_bool (is_done cmp w (flight_of y))
+      (λ is. rw is (pair_itself cmp order y, tt)) (λ is. rw is tt)) (round_fuel w y)
       (rests (is_done cmp w (flight_of y)))))
     where
-      own_joining : (b : Bool)
-          → Each (λ (f : Flight P). same_pair cmp y f.message ≡ true) (cond b (flight_of y ∷ []) [])
-      own_joining true = (pair_itself cmp order y, tt)
-      own_joining false = tt
-
       rests : (b : Bool) → cond b (flight_of y ∷ []) [] ≡ []
           → IsRested cmp order y t (cond b (out_of_waiting cmp w y) (joined cmp w y))
       rests true e = cc
       rests false e = rested_joined cmp order y t w y (pair_itself cmp order y)
-
-      only : (b : Bool) → OnlyPair cmp order y w (cond b (out_of_waiting cmp w y) (joined cmp w y))
-      only true = only_taken cmp order y w y (pair_itself cmp order y)
-      only false = only_joined cmp order y w y (pair_itself cmp order y)
-
-      waits : (b : Bool)
-          → length (cond b (out_of_waiting cmp w y) (joined cmp w y)).waiting
-          ≡ length (without_first (same_pair cmp y) w.waiting)
-      waits true = refl
-      waits false = refl
 
       both : (v : World P) → IsAfter cmp order y t (started cmp order w y) v
           → length (without_first (same_pair cmp y) w.waiting) + 1 ≡ length w.waiting → IsRound t y w v
       both v after fewer =
           let less : length v.waiting ≤ length (started cmp order w y).waiting = after.0.fewer in
           let some : length (started cmp order w y).waiting ≡ length (without_first (same_pair cmp y) w.waiting) =
-          waits (is_done cmp w (flight_of y)) in (
-            (only_both cmp order y w (started cmp order w y) v (only (is_done cmp w (flight_of y))) after.0, after.1),
+          by_bool (is_done cmp w (flight_of y)) (λ seen. rw seen refl) (λ seen. rw seen refl)
+          in (
+            (
+              only_both cmp order y w (started cmp order w y) v
+                  (by_bool (is_done cmp w (flight_of y)) (λ here. rw here
+                  (only_taken cmp order y w y (pair_itself cmp order y)))
+                  (λ here. rw here (only_joined cmp order y w y (pair_itself cmp order y)))) after.0,
+              after.1,
+            ),
             omega arith,
           )
 

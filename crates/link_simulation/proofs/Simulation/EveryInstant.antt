@@ -1,14 +1,14 @@
 -- What every instant keeps: the moment, and that nothing is done at its end.
-use Rattle.link_simulation.proofs.Common.{find, Flight, common_steps, ◌≡◌, ℕ, zero, suc, ◌+◌, ◌≤◌, List, [], ◌∷◌, ◌++◌}
-use Rattle.link_simulation.proofs.Common.{length, Option, Some, None, refl, sym, ap, ◌∙◌, subst, arith, ◌⊎◌, inl, inr}
-use Rattle.link_simulation.proofs.Common.{⊤, nat_le, Ordering, IsTotalOrder, without_first, Completed, Course, IsQuiet}
+use Rattle.link_simulation.proofs.Common.{find, common_steps, ◌≡◌, ℕ, zero, suc, ◌+◌, ◌≤◌, List, [], ◌∷◌, ◌++◌, length}
+use Rattle.link_simulation.proofs.Common.{Option, Some, None, refl, sym, ap, ◌∙◌, subst, arith, ◌⊎◌, inl, inr, ⊤}
+use Rattle.link_simulation.proofs.Common.{nat_le, Ordering, IsTotalOrder, without_first, Completed, Course, IsQuiet}
 use Rattle.link_simulation.proofs.Common.{World, and_then, complete, goes, instant, is_done, last_moment, least_pair}
 use Rattle.link_simulation.proofs.Common.{may_start, meets, raised, ready, settle, settle_within, start, start_next}
 use Rattle.link_simulation.proofs.Common.{wake_within, EndsWith, flight_of, Message, same_pair, Drains, NextIs, Ticks}
 use Rattle.link_simulation.proofs.Common.{comes_next, never_comes, no_tick, no_time, one_tick, quiet_tick, tick_faults}
 use Rattle.link_simulation.proofs.Common.{FlowIdsUsedUp}
 use Rattle.link_simulation.proofs.Simulation.Continuing.{quiet_or_not}
-use Rattle.link_simulation.proofs.Simulation.Queue.{settle_none, settle_first}
+use Rattle.link_simulation.proofs.Simulation.Queue.{settle_none, settle_first, by_option}
 use Rattle.link_simulation.proofs.Simulation.SettlingEnds.{ends_preceded, ends_and_then, ends_cond, NoneDone}
 use Rattle.link_simulation.proofs.Simulation.SettlingEnds.{settle_rests}
 use Rattle.link_simulation.proofs.Laws.Bytes.{wake_none, wake_first}
@@ -46,31 +46,26 @@ module _ {P : Type 0} (cmp : P → P → Ordering) (order : IsTotalOrder cmp) wh
     settle_within_keeps : (n t : ℕ) (w : World P) → Q w → EndsWith Q (settle_within cmp n t w)
     settle_within_keeps zero t w h = h
     settle_within_keeps (suc n) t w h =
-        by_first (find (is_done cmp w) w.sending) refl (λ v g. settle_within_keeps n t v g)
-      where
-        by_first : (o : Option (Flight P)) → find (is_done cmp w) w.sending ≡ o
-            → ((v : World P) → Q v → EndsWith Q (settle_within cmp n t v)) → EndsWith Q (settle_within cmp (suc n) t w)
-        by_first None e ih =
-            subst (λ (c : Course (Completed P) (World P)). EndsWith Q c) (sym (settle_none cmp order n t w e)) h
-        by_first (Some f) e ih =
-            subst (λ (c : Course (Completed P) (World P)). EndsWith Q c) (sym (settle_first cmp order n t w f e))
-            (ends_and_then Q Q (complete cmp t w f.message) (settle_within cmp n t) (complete_keeps t w f.message h) ih)
+        by_option (find (is_done cmp w) w.sending)
+        (λ e. subst (λ (c : Course (Completed P) (World P)). EndsWith Q c) (sym (settle_none cmp order n t w e)) h)
+        (λ f e.
+        subst (λ (c : Course (Completed P) (World P)). EndsWith Q c) (sym (settle_first cmp order n t w f e))
+        (ends_and_then Q Q (complete cmp t w f.message) (settle_within cmp n t) (complete_keeps t w f.message h)
+        (λ v g. settle_within_keeps n t v g)))
 
     pub settle_keeps : (t : ℕ) (w : World P) → Q w → EndsWith Q (settle cmp t w)
     settle_keeps t w h = settle_within_keeps (length w.sending + length w.waiting) t w h
 
     wake_within_keeps : (n t : ℕ) (w : World P) → Q w → EndsWith Q (wake_within cmp n t w)
     wake_within_keeps zero t w h = h
-    wake_within_keeps (suc n) t w h = by_least (least_pair cmp (ready cmp t w)) refl (λ v g. wake_within_keeps n t v g)
-      where
-        by_least : (o : Option (Message P)) → least_pair cmp (ready cmp t w) ≡ o
-            → ((v : World P) → Q v → EndsWith Q (wake_within cmp n t v)) → EndsWith Q (wake_within cmp (suc n) t w)
-        by_least None e ih = grind (arith, wake_none)
-        by_least (Some m) e ih =
-            subst (λ (c : Course (Completed P) (World P)). EndsWith Q c) (sym (wake_first cmp order n t w m e))
-            (ends_and_then Q Q (start cmp w m) (λ v. and_then (settle cmp t v) (wake_within cmp n t))
-            (start_keeps w m h)
-            (λ v g. ends_and_then Q Q (settle cmp t v) (wake_within cmp n t) (settle_keeps t v g) ih))
+    wake_within_keeps (suc n) t w h =
+        by_option (least_pair cmp (ready cmp t w)) (λ e. grind (arith, wake_none))
+        (λ m e.
+        subst (λ (c : Course (Completed P) (World P)). EndsWith Q c) (sym (wake_first cmp order n t w m e))
+        (ends_and_then Q Q (start cmp w m) (λ v. and_then (settle cmp t v) (wake_within cmp n t))
+        (start_keeps w m h)
+        (λ v g. ends_and_then Q Q (settle cmp t v) (wake_within cmp n t) (settle_keeps t v g)
+        (λ v g. wake_within_keeps n t v g))))
 
     pub instant_keeps : (w : World P) → Q w → EndsWith Q (instant cmp w)
     instant_keeps w h = grind (arith, ends_and_then, settle_keeps, wake_within_keeps)
@@ -91,23 +86,19 @@ module _ {P : Type 0} (cmp : P → P → Ordering) (order : IsTotalOrder cmp) wh
 
   wake_rests : (n t : ℕ) (w : World P) → NoneDone cmp order w → EndsWith (NoneDone cmp order) (wake_within cmp n t w)
   wake_rests zero t w h = h
-  wake_rests (suc n) t w h = by_least (least_pair cmp (ready cmp t w)) refl (λ v g. wake_rests n t v g)
+  wake_rests (suc n) t w h =
+      by_option (least_pair cmp (ready cmp t w)) (λ e. grind (arith, wake_none))
+      (λ m e.
+      subst (λ (c : Course (Completed P) (World P)). EndsWith (NoneDone cmp order) c)
+      (sym (wake_first cmp order n t w m e))
+      (ends_and_then (λ v. ⊤) (NoneDone cmp order) (start cmp w m)
+      (λ v. and_then (settle cmp t v) (wake_within cmp n t)) (ends_any (start cmp w m))
+      (λ v g. ends_and_then (NoneDone cmp order) (NoneDone cmp order) (settle cmp t v) (wake_within cmp n t)
+      (settle_rests cmp order t v) (λ v g. wake_rests n t v g))))
     where
       ends_any : (c : Course (Completed P) (World P)) → EndsWith (λ (v : World P). ⊤) c
       ends_any (goes cs u) = tt
       ends_any (meets fault) = tt
-
-      by_least : (o : Option (Message P)) → least_pair cmp (ready cmp t w) ≡ o
-          → ((v : World P) → NoneDone cmp order v → EndsWith (NoneDone cmp order) (wake_within cmp n t v))
-          → EndsWith (NoneDone cmp order) (wake_within cmp (suc n) t w)
-      by_least None e ih = grind (arith, wake_none)
-      by_least (Some m) e ih =
-          subst (λ (c : Course (Completed P) (World P)). EndsWith (NoneDone cmp order) c)
-          (sym (wake_first cmp order n t w m e))
-          (ends_and_then (λ v. ⊤) (NoneDone cmp order) (start cmp w m)
-          (λ v. and_then (settle cmp t v) (wake_within cmp n t)) (ends_any (start cmp w m))
-          (λ v g. ends_and_then (NoneDone cmp order) (NoneDone cmp order) (settle cmp t v) (wake_within cmp n t)
-          (settle_rests cmp order t v) ih))
 
   pub instant_rests : (w : World P) → EndsWith (NoneDone cmp order) (instant cmp w)
   instant_rests w = grind (arith, ends_and_then, settle_rests, wake_rests)

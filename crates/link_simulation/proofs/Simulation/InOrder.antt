@@ -1,9 +1,10 @@
 -- Going once through the pairs that are ready, in their order, is picking the least pair again and again.
-use Rattle.link_simulation.proofs.Common.{arith, ◌≡◌, ℕ, List, [], ◌∷◌, Bool, true, false, cond, not, Option, Some}
-use Rattle.link_simulation.proofs.Common.{None, refl, sym, ◌∙◌, subst, ◌⊎◌, inl, inr, ⊤, if◌then◌else◌, filter, find}
+use Rattle.link_simulation.proofs.Common.{arith, ◌≡◌, ℕ, List, [], ◌∷◌, Bool, true, false, not, Option, Some, None}
+use Rattle.link_simulation.proofs.Common.{refl, sym, ◌∙◌, subst, ◌⊎◌, inl, inr, ⊤, if◌then◌else◌, filter, find}
 use Rattle.link_simulation.proofs.Common.{Ordering, IsTotalOrder, not-true, World, fronts, least_pair, may_start, ready}
 use Rattle.link_simulation.proofs.Common.{Message, SameMessage, pair_before, same_pair, AreInPairOrder, Planned}
 use Rattle.link_simulation.proofs.Common.{SomeReadyAt, may_launch, next_of, Tallies, Each, each_map, each_filtered}
+use Rattle.link_simulation.proofs.Common.{by_bool}
 use Rattle.link_simulation.proofs.Rule.BeforeNext.{IsFront, fronts_first, first_found, may_alike, messages_alike}
 use Rattle.std.proofs.lemmas.Bool.{not_from_false}
 use Rattle.link_simulation.proofs.Simulation.Queue.{pair_sym, find_passes}
@@ -157,17 +158,12 @@ module _ {P : Type 0} (cmp : P → P → Ordering) (order : IsTotalOrder cmp) wh
       → Q x → Somewhere Q (fronts cmp ws)
   in_fronts Q x [] e q = cc
   in_fronts Q x (z ∷ ws) e q =
-      by_test (same_pair cmp x z) refl e (in_fronts (λ n. Q n × (not (same_pair cmp z n) ≡ true)) x ws)
-    where
-      by_test : (b : Bool) → same_pair cmp x z ≡ b → cond b (Some z) (find (same_pair cmp x) ws) ≡ Some x
-          → (find (same_pair cmp x) ws ≡ Some x → Q x × (not (same_pair cmp z x) ≡ true)
-          → Somewhere (λ n. Q n × (not (same_pair cmp z n) ≡ true)) (fronts cmp ws))
-          → Somewhere Q (z ∷ filter (λ n. not (same_pair cmp z n)) (fronts cmp ws))
-      by_test true is e ih = let same : x ≡ z = cc in inl (subst Q same q)
-      by_test false is e ih =
-          inr
-          (some_filtered Q (λ n. not (same_pair cmp z n)) (fronts cmp ws)
-          (ih e (q, not_from_false (same_pair cmp z x) (pair_sym cmp order z x ∙ is))))
+      by_bool (same_pair cmp x z) (λ is. let same : x ≡ z = cc in inl (subst Q same q))
+      (λ is.
+      inr
+      (some_filtered Q (λ n. not (same_pair cmp z n)) (fronts cmp ws)
+      ((in_fronts (λ n. Q n × (not (same_pair cmp z n) ≡ true)) x ws) (rw is at e)
+      (q, not_from_false (same_pair cmp z x) (pair_sym cmp order z x ∙ is)))))
 
   alike_some : (o : Option (Message P)) (x : Message P) → OptionsAlike (SameMessage cmp) (Some x) o
       → (y : Message P) × (o ≡ Some y) × SameMessage cmp x y

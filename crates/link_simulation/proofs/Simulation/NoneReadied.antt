@@ -7,7 +7,7 @@ use Rattle.link_simulation.proofs.Common.{without_first, Completed, Course, Flig
 use Rattle.link_simulation.proofs.Common.{is_in_order, last_moment, may_start, meets, ready, settle, EndsWith, is_late}
 use Rattle.link_simulation.proofs.Common.{completed, flight_of, Message, OneForEachPair, same_pair, FlowIdsUsedUp}
 use Rattle.link_simulation.proofs.Common.{MomentTooLate, leaving, staying, out_of_waiting, joined, arrived, launch_then}
-use Rattle.link_simulation.proofs.Common.{finish_within, each_map}
+use Rattle.link_simulation.proofs.Common.{finish_within, each_map, by_bool}
 use Rattle.link_simulation.proofs.Simulation.Queue.{any_like, find_passes, pair_sym, pair_like}
 use Rattle.link_simulation.proofs.Rule.BeforeNext.{filter_none, IsFront, fronts_first, first_found}
 use Rattle.link_simulation.proofs.Rule.Launch.{head_found, waits_without}
@@ -64,7 +64,11 @@ module _ {P : Type 0} (cmp : P → P → Ordering) (order : IsTotalOrder cmp) (y
   unfolding launch_then WhenHeld IsRested
   launch_rests n t fs z w None ih fuel is (inl own) = grind arith
   launch_rests n t fs z w None ih fuel is (inr off) = ih fs w fuel off.1
-  launch_rests n t fs z w (Some x) ih fuel is held = by_may (may_start cmp t w x) refl held
+  launch_rests n t fs z w (Some x) ih fuel is held =
+      by_bool (may_start cmp t w x)
+      (λ e. rw e (
+      ends_cond (IsRested cmp order y t) (nat_le last_moment w.next_id) (meets FlowIdsUsedUp) _ tt
+      (by_done (is_done cmp w (flight_of x)) fewer many held))) (λ e. rw e (ih fs w fuel (held_still e held)))
     where
       pair : same_pair cmp z x ≡ true
       pair = find_passes (same_pair cmp z) x w.waiting is
@@ -115,16 +119,6 @@ module _ {P : Type 0} (cmp : P → P → Ordering) (order : IsTotalOrder cmp) (y
       held_still e (inl own) = grind (arith, find_like)
       held_still e (inr off) = off.1
 
-      by_may : (b : Bool) → may_start cmp t w x ≡ b
-          → (same_pair cmp y z ≡ true) ⊎ ((same_pair cmp y z ≡ false) × IsHeld t fs w)
-          → EndsWith (IsRested cmp order y t) (cond b (cond (nat_le last_moment w.next_id) (meets FlowIdsUsedUp)
-          (cond (is_done cmp w (flight_of x)) (finish_within cmp n t (fs ++ flight_of x ∷ []) (out_of_waiting cmp w x))
-          (finish_within cmp n t fs (joined cmp w x)))) (finish_within cmp n t fs w))
-      by_may true e h =
-          ends_cond (IsRested cmp order y t) (nat_le last_moment w.next_id) (meets FlowIdsUsedUp) _ tt
-          (by_done (is_done cmp w (flight_of x)) fewer many h)
-      by_may false e h = ih fs w fuel (held_still e h)
-
   pub finish_rests : (n t : ℕ) (fs : List (Flight P)) (w : World P) → length fs + length w.waiting ≤ n → IsHeld t fs w
       → EndsWith (IsRested cmp order y t) (finish_within cmp n t fs w)
   unfolding finish_within WhenHeld
@@ -155,42 +149,35 @@ module _ {P : Type 0} (cmp : P → P → Ordering) (order : IsTotalOrder cmp) wh
   -- nothing is ready: each pair rests
   pub all_rested : (t : ℕ) (w : World P) (y : Message P) → ready cmp t w ≡ [] → IsRested cmp order y t w
   unfolding IsRested
-  all_rested t w y none x found = by_test (may_start cmp t w x) refl
+  all_rested t w y none x found =
+      by_bool (may_start cmp t w x)
+      (λ e. rw e (
+      absurd
+      (subst (λ (ms : List (Message P)). Somewhere (λ m. ⊤) ms) none
+      (some_filtered (λ m. ⊤) (may_start cmp t w) (fronts cmp w.waiting)
+      (in_fronts cmp order (λ m. ⊤ × (may_start cmp t w m ≡ true)) x w.waiting own (tt, e)))))) (λ e. rw e refl)
     where
       own : find (same_pair cmp x) w.waiting ≡ Some x
       own = find_like cmp order y x w.waiting (find_passes (same_pair cmp y) x w.waiting found) ∙ found
-
-      by_test : (b : Bool) → may_start cmp t w x ≡ b → b ≡ false
-      by_test false e = refl
-      by_test true e =
-          absurd
-          (subst (λ (ms : List (Message P)). Somewhere (λ m. ⊤) ms) none
-          (some_filtered (λ m. ⊤) (may_start cmp t w) (fronts cmp w.waiting)
-          (in_fronts cmp order (λ m. ⊤ × (may_start cmp t w m ≡ true)) x w.waiting own (tt, e))))
 
   held_first : (t : ℕ) (w : World P) (y : Message P) → ready cmp t w ≡ []
       → IsHeld cmp order y t (leaving cmp w) (staying cmp w)
   unfolding leaving staying IsRested
   held_first t w y none =
-      by_test (list_any (same_pair cmp y) (map (λ (f : Flight P). f.message) (filter (is_done cmp w) w.sending))) refl
-      (all_rested t w y none)
-    where
-      by_test : (b : Bool)
-          → list_any (same_pair cmp y) (map (λ (f : Flight P). f.message) (filter (is_done cmp w) w.sending)) ≡ b
-          → IsRested cmp order y t w
-          → IsHeld cmp order y t (filter (is_done cmp w) w.sending)
-          (record w { sending = filter (λ f. not (is_done cmp w f)) w.sending })
-      by_test true e rested = inl e
-      by_test false e rested = inr (λ x found.
-          let own : same_pair cmp y x ≡ true = find_passes (same_pair cmp y) x w.waiting found in
-          let none_leaves = sym
-          (any_map (same_pair cmp x) (λ (f : Flight P). f.message) (filter (is_done cmp w) w.sending)) ∙ any_like cmp
-          order y x (map (λ (f : Flight P). f.message) (filter (is_done cmp w) w.sending)) own ∙ e in
-          let busy = any_map (same_pair cmp x) (λ (f : Flight P). f.message)
-          (filter (λ f. not (is_done cmp w f)) w.sending) ∙ any_split (λ (f : Flight P). same_pair cmp x f.message)
-          (is_done cmp w) w.sending none_leaves ∙ sym
-          (any_map (same_pair cmp x) (λ (f : Flight P). f.message) w.sending) in
-          ap (λ b. not b && is_in_order (w.last_arrival x.origin x.recipient) (t + x.latency)) busy ∙ rested x found)
+      by_bool (list_any (same_pair cmp y) (map (λ (f : Flight P). f.message) (filter (is_done cmp w) w.sending)))
+      (λ e. inl e)
+      (λ e.
+      inr (λ x found.
+      let own : same_pair cmp y x ≡ true = find_passes (same_pair cmp y) x w.waiting found in
+      let none_leaves = sym
+      (any_map (same_pair cmp x) (λ (f : Flight P). f.message) (filter (is_done cmp w) w.sending)) ∙ any_like cmp
+      order y x (map (λ (f : Flight P). f.message) (filter (is_done cmp w) w.sending)) own ∙ e in
+      let busy = any_map (same_pair cmp x) (λ (f : Flight P). f.message)
+      (filter (λ f. not (is_done cmp w f)) w.sending) ∙ any_split (λ (f : Flight P). same_pair cmp x f.message)
+      (is_done cmp w) w.sending none_leaves ∙ sym
+      (any_map (same_pair cmp x) (λ (f : Flight P). f.message) w.sending) in
+      ap (λ b. not b && is_in_order (w.last_arrival x.origin x.recipient) (t + x.latency)) busy
+      ∙ (all_rested t w y none) x found))
 
   pub none_then : (t : ℕ) (c : Course (Completed P) (World P)) → ((y : Message P) → EndsWith (IsRested cmp order y t) c)
       → EndsWith (λ v. ready cmp t v ≡ []) c

@@ -7,7 +7,7 @@ use Rattle.link_simulation.proofs.Common.{Flight, World, flows, fronts, goes, is
 use Rattle.link_simulation.proofs.Common.{ready, EndsWith, is_late, completed, flight_of, Message, same_pair}
 use Rattle.link_simulation.proofs.Common.{FlowIdsUsedUp, MomentTooLate, out_of_waiting, joined, arrived, launch_then}
 use Rattle.link_simulation.proofs.Common.{finish_within, Each, each_map, each_joined, filter_swap, filter_stronger}
-use Rattle.link_simulation.proofs.Common.{length-without_first, or_left, or_right, without_first}
+use Rattle.link_simulation.proofs.Common.{length-without_first, or_left, or_right, without_first, by_bool}
 use Rattle.link_simulation.proofs.Simulation.Queue.{pair_like, pair_sym, find_passes}
 use Rattle.link_simulation.proofs.Rule.BeforeNext.{IsFront, fronts_first, first_found}
 use Rattle.link_simulation.proofs.Simulation.SettlingEnds.{ends_preceded, ends_cond, length_without, find_like}
@@ -133,7 +133,15 @@ module _ {P : Type 0} (cmp : P → P → Ordering) (order : IsTotalOrder cmp) (y
           → EndsWith (IsAfter t (arrived cmp t w f.message))
           (launch_then cmp (finish_within cmp n t) t fs (arrived cmp t w f.message) o)
       by_next None is ih = ih fs (arrived cmp t w f.message) own.1 (omega arith) (λ e x found. cc)
-      by_next (Some x) is ih = by_may (may_start cmp t (arrived cmp t w f.message) x) refl
+      by_next (Some x) is ih =
+          by_bool (may_start cmp t (arrived cmp t w f.message) x)
+          (λ e. rw e (
+          ends_cond (IsAfter t (arrived cmp t w f.message)) (nat_le last_moment w.next_id) (meets FlowIdsUsedUp) _
+          tt (by_done (is_done cmp (arrived cmp t w f.message) (flight_of x)) fewer)))
+          (λ e. rw e (
+          ih fs (arrived cmp t w f.message) own.1 (omega arith)
+          (λ k z found. let same : x ≡ z = cc in
+          subst (λ (m : Message P). may_start cmp t (arrived cmp t w f.message) m ≡ false) same e)))
         where
           pair : same_pair cmp y x ≡ true
           pair = find_passes (same_pair cmp y) x w.waiting is
@@ -158,23 +166,6 @@ module _ {P : Type 0} (cmp : P → P → Ordering) (order : IsTotalOrder cmp) (y
               (only_joined (arrived cmp t w f.message) x pair)
               (ih fs (joined cmp (arrived cmp t w f.message) x) own.1 (omega arith)
               (λ e. rested_joined t (arrived cmp t w f.message) x pair))
-
-          by_may : (b : Bool) → may_start cmp t (arrived cmp t w f.message) x ≡ b
-              → EndsWith (IsAfter t (arrived cmp t w f.message))
-              (cond b
-              (cond (nat_le last_moment w.next_id) (meets FlowIdsUsedUp)
-              (cond (is_done cmp (arrived cmp t w f.message) (flight_of x))
-              (finish_within cmp n t (fs ++ flight_of x ∷ [])
-              (out_of_waiting cmp (arrived cmp t w f.message) x))
-              (finish_within cmp n t fs (joined cmp (arrived cmp t w f.message) x))))
-              (finish_within cmp n t fs (arrived cmp t w f.message)))
-          by_may true e =
-              ends_cond (IsAfter t (arrived cmp t w f.message)) (nat_le last_moment w.next_id) (meets FlowIdsUsedUp) _
-              tt (by_done (is_done cmp (arrived cmp t w f.message) (flight_of x)) fewer)
-          by_may false e =
-              ih fs (arrived cmp t w f.message) own.1 (omega arith)
-              (λ k z found. let same : x ≡ z = cc in
-              subst (λ (m : Message P). may_start cmp t (arrived cmp t w f.message) m ≡ false) same e)
 
   -- ---- who is ready afterwards
 

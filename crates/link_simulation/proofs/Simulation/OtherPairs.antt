@@ -1,20 +1,20 @@
 -- What happens to one pair leaves the other pairs as they are.
 use Rattle.link_simulation.proofs.Common.{◌&&◌, is_in_order, is_late, completed, MomentTooLate, arith, ◌≡◌, ℕ, zero}
-use Rattle.link_simulation.proofs.Common.{suc, ◌+◌, List, [], ◌∷◌, ◌++◌, map, Bool, true, false, cond, not, Option}
-use Rattle.link_simulation.proofs.Common.{Some, None, refl, sym, ap, ◌∙◌, subst, ⊤, ◌||◌, ◌==◌, filter, find, list_any}
+use Rattle.link_simulation.proofs.Common.{suc, ◌+◌, List, [], ◌∷◌, ◌++◌, map, Bool, true, false, not, Option, Some}
+use Rattle.link_simulation.proofs.Common.{None, refl, sym, ap, ◌∙◌, subst, ⊤, ◌||◌, ◌==◌, filter, find, list_any}
 use Rattle.link_simulation.proofs.Common.{Ordering, IsTotalOrder, list_any-append, filter-append, or_right, or_left}
 use Rattle.link_simulation.proofs.Common.{not-true, map-append, without_first, Completed, Course, EndsWith, Flight}
 use Rattle.link_simulation.proofs.Common.{World, complete, first_waiting, flows, fronts, goes, is_done, is_idle}
 use Rattle.link_simulation.proofs.Common.{may_start, meets, raised, ready, settle_within, start, start_next, turn}
 use Rattle.link_simulation.proofs.Common.{out_of_flight, arrival, flight_of, Message, same_pair, Caps, is_unlimited}
-use Rattle.link_simulation.proofs.Common.{filter_swap, filter_stronger, Each, each_filtered}
+use Rattle.link_simulation.proofs.Common.{filter_swap, filter_stronger, Each, each_filtered, by_bool}
 use Rattle.std.proofs.lemmas.Map.Views.{any-filter_same}
 use Rattle.std.proofs.lemmas.Bool.{not-false}
 use Rattle.std.proofs.lemmas.List.{append-nil}
 use Rattle.link_simulation.specs.Simulation.Pass.{IsUnchangedFor, MayNotStart}
 use Rattle.link_simulation.proofs.Simulation.AlikeMessages.{pair_itself}
 use Rattle.link_simulation.proofs.Simulation.Queue.{pair_like, pair_sym, settle_none, settle_first, find_passes}
-use Rattle.link_simulation.proofs.Simulation.Queue.{filter_without}
+use Rattle.link_simulation.proofs.Simulation.Queue.{filter_without, by_option}
 use Rattle.link_simulation.proofs.Simulation.SettlingEnds.{find_like, ends_preceded, ends_and_then, ends_cond}
 
 -- ---- lists
@@ -201,16 +201,15 @@ module _ {P : Type 0} (cmp : P → P → Ordering) (order : IsTotalOrder cmp) wh
   pub next_leaves : (t : ℕ) (w : World P) (m : Message P) (o : Option (Message P))
       → find (same_pair cmp m) w.waiting ≡ o → EndsWith (Leaves t m w) (start_next cmp t w o)
   next_leaves t w m None e = record { others = but_for_none m w; rests = λ x is. cc }
-  next_leaves t w m (Some x) e = by_test (may_start cmp t w x) refl
+  next_leaves t w m (Some x) e =
+      by_bool (may_start cmp t w x)
+      (λ is. rw is (
+      ends_more (Leaves t x w) (Leaves t m w) (start cmp w x)
+      (λ u l. leaves_like t m x w w u same (but_for_none m w) l) (start_leaves t w x)))
+      (λ is. rw is (grind (arith, but_for_none)))
     where
       same : same_pair cmp m x ≡ true
       same = find_passes (same_pair cmp m) x w.waiting e
-
-      by_test : (b : Bool) → may_start cmp t w x ≡ b → EndsWith (Leaves t m w) (cond b (start cmp w x) (goes [] w))
-      by_test true is =
-          ends_more (Leaves t x w) (Leaves t m w) (start cmp w x)
-          (λ u l. leaves_like t m x w w u same (but_for_none m w) l) (start_leaves t w x)
-      by_test false is = grind (arith, but_for_none)
 
   landed_but_for : (w : World P) (f : Flight P) (at : ℕ) → find (is_done cmp w) w.sending ≡ Some f
       → IsButFor cmp f.message w
@@ -255,20 +254,15 @@ module _ {P : Type 0} (cmp : P → P → Ordering) (order : IsTotalOrder cmp) wh
       → Leaves t m w v → EndsWith (Leaves t m w) (settle_within cmp n t v)
   settle_within_leaves zero t m w v quiet l = l
   settle_within_leaves (suc n) t m w v quiet l =
-      by_first (find (is_done cmp v) v.sending) refl (λ u. settle_within_leaves n t m w u quiet)
-    where
-      by_first : (o : Option (Flight P)) → find (is_done cmp v) v.sending ≡ o
-          → ((u : World P) → Leaves t m w u → EndsWith (Leaves t m w) (settle_within cmp n t u))
-          → EndsWith (Leaves t m w) (settle_within cmp (suc n) t v)
-      by_first None e ih = grind (arith, settle_none)
-      by_first (Some f) e ih =
-          let same : same_pair cmp m f.message ≡ true = done_of_pair m w v f l.others quiet e in
-          subst (λ (c : Course (Completed P) (World P)). EndsWith (Leaves t m w) c)
-          (sym (settle_first cmp order n t v f e))
-          (ends_and_then (Leaves t m w) (Leaves t m w) (complete cmp t v f.message) (settle_within cmp n t)
-          (ends_more (Leaves t f.message v) (Leaves t m w) (complete cmp t v f.message)
-          (λ u k. leaves_like t m f.message w v u same l.others k) (complete_leaves t v f e))
-          ih)
+      by_option (find (is_done cmp v) v.sending) (λ e. grind (arith, settle_none))
+      (λ f e.
+      let same : same_pair cmp m f.message ≡ true = done_of_pair m w v f l.others quiet e in
+      subst (λ (c : Course (Completed P) (World P)). EndsWith (Leaves t m w) c)
+      (sym (settle_first cmp order n t v f e))
+      (ends_and_then (Leaves t m w) (Leaves t m w) (complete cmp t v f.message) (settle_within cmp n t)
+      (ends_more (Leaves t f.message v) (Leaves t m w) (complete cmp t v f.message)
+      (λ u k. leaves_like t m f.message w v u same l.others k) (complete_leaves t v f e))
+      (λ u. settle_within_leaves n t m w u quiet)))
 
   -- a start and its settling change one pair alone, which then may not start
   pub start_settles : (t : ℕ) (w : World P) (m : Message P) → list_any (is_done cmp w) w.sending ≡ false

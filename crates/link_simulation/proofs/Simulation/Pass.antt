@@ -6,9 +6,9 @@ use Rattle.link_simulation.proofs.Common.{list_any, Ordering, IsTotalOrder, not-
 use Rattle.link_simulation.proofs.Common.{Flight, IsQuiet, World, and_then, complete, fronts, goes, is_done, least_pair}
 use Rattle.link_simulation.proofs.Common.{may_start, meets, preceded, ready, settle, settle_within, start, start_next}
 use Rattle.link_simulation.proofs.Common.{turn, wake, wake_within, Message, OneForEachPair, pair_before, same_pair}
-use Rattle.link_simulation.proofs.Common.{each_filtered, find_from_any, length-without_first, rules}
+use Rattle.link_simulation.proofs.Common.{each_filtered, find_from_any, length-without_first, rules, by_bool}
 use Rattle.link_simulation.specs.Simulation.Pass.{IsByPair, by_pair, wake_each}
-use Rattle.link_simulation.proofs.Simulation.Queue.{pair_like, pair_sym, settle_none, settle_first}
+use Rattle.link_simulation.proofs.Simulation.Queue.{pair_like, pair_sym, settle_none, settle_first, by_option}
 use Rattle.link_simulation.proofs.Simulation.SettlingEnds.{length_without, ends_preceded, ends_and_then, ends_cond}
 use Rattle.link_simulation.proofs.Simulation.SettlingEnds.{NoneDone, settle_rests}
 use Rattle.link_simulation.proofs.Simulation.OtherPairs.{each_more, each_of, find_kept, any_from_find, Leaves}
@@ -110,20 +110,16 @@ module _ {P : Type 0} (cmp : P → P → Ordering) (order : IsTotalOrder cmp) wh
   pub wake_within_ends : (n t : ℕ) (w : World P) → NoneDone cmp order w → WaitAtMost n w
       → EndsWith (NothingLeft t) (wake_within cmp n t w)
   wake_within_ends zero t w none h = (none, ready_in_none t w (none_long w.waiting h))
-  wake_within_ends (suc n) t w none h = by_least (least_pair cmp (ready cmp t w)) refl (wake_within_ends n t)
-    where
-      by_least : (o : Option (Message P)) → least_pair cmp (ready cmp t w) ≡ o
-          → ((v : World P) → NoneDone cmp order v → WaitAtMost n v → EndsWith (NothingLeft t) (wake_within cmp n t v))
-          → EndsWith (NothingLeft t) (wake_within cmp (suc n) t w)
-      by_least None e ih = grind (arith, least_none, wake_none)
-      by_least (Some m) e ih =
-          let found : find (same_pair cmp m) (ready cmp t w) ≡ Some m = (least_is cmp order m (ready cmp t w) e).0 in
-          subst (λ (c : Course (Completed P) (World P)). EndsWith (NothingLeft t) c) (sym (wake_first n t w m e))
-          (ends_and_then (λ (v : World P). NoneDone cmp order v × WaitAtMost n v) (NothingLeft t) (turn cmp t w m)
-          (wake_within cmp n t)
-          (ends_both (NoneDone cmp order) (WaitAtMost n) (turn cmp t w m) (turn_rests t w m)
-          (turn_waits n t w m m (ready_is_front t w m m found) h))
-          (λ v k. ih v k.0 k.1))
+  wake_within_ends (suc n) t w none h =
+      by_option (least_pair cmp (ready cmp t w)) (λ e. grind (arith, least_none, wake_none))
+      (λ m e.
+      let found : find (same_pair cmp m) (ready cmp t w) ≡ Some m = (least_is cmp order m (ready cmp t w) e).0 in
+      subst (λ (c : Course (Completed P) (World P)). EndsWith (NothingLeft t) c) (sym (wake_first n t w m e))
+      (ends_and_then (λ (v : World P). NoneDone cmp order v × WaitAtMost n v) (NothingLeft t) (turn cmp t w m)
+      (wake_within cmp n t)
+      (ends_both (NoneDone cmp order) (WaitAtMost n) (turn cmp t w m) (turn_rests t w m)
+      (turn_waits n t w m m (ready_is_front t w m m found) h))
+      (λ v k. (wake_within_ends n t) v k.0 k.1)))
 
   -- after waking a settled world, nothing is done and nothing may start
   pub wake_ends_quiet : (t : ℕ) (w : World P) → list_any (is_done cmp w) w.sending ≡ false
@@ -150,21 +146,23 @@ module _ {P : Type 0} (cmp : P → P → Ordering) (order : IsTotalOrder cmp) wh
   -- without its first pair
   alike_without : (m : Message P) (ms rs : List (Message P)) → IsByPair cmp (m ∷ ms) → FindsAlike (m ∷ ms) rs
       → FindsAlike ms (filter (λ n. not (same_pair cmp m n)) rs)
-  alike_without m ms rs h same k = by_pair_of (same_pair cmp m k) refl
-    where
-      by_pair_of : (b : Bool) → same_pair cmp m k ≡ b
-          → find (same_pair cmp k) ms ≡ find (same_pair cmp k) (filter (λ n. not (same_pair cmp m n)) rs)
-      by_pair_of true e =
-          find_nowhere cmp order (same_pair cmp k) ms (each_more (λ (n : Message P). pair_before cmp m n ≡ true)
-          (λ (n : Message P). same_pair cmp k n ≡ false)
-          (λ n b. pair_like cmp order m k n e ∙ apart_if_before cmp order m n b) ms (as_each cmp order m ms h.0))
-          ∙ sym (find_without k m rs e)
-      by_pair_of false e = grind (arith, pair_sym, find_kept, pair_other)
+  alike_without m ms rs h same k =
+      by_bool (same_pair cmp m k)
+      (λ e.
+      find_nowhere cmp order (same_pair cmp k) ms (each_more (λ (n : Message P). pair_before cmp m n ≡ true)
+      (λ (n : Message P). same_pair cmp k n ≡ false)
+      (λ n b. pair_like cmp order m k n e ∙ apart_if_before cmp order m n b) ms (as_each cmp order m ms h.0))
+      ∙ sym (find_without k m rs e)) (λ e. grind (arith, pair_sym, find_kept, pair_other))
 
   -- its first pair is the least
   least_first : (m : Message P) (ms rs : List (Message P)) → IsByPair cmp (m ∷ ms) → FindsAlike (m ∷ ms) rs
       → least_pair cmp rs ≡ Some m
-  least_first m ms rs h same = by_least (least_pair cmp rs) refl
+  least_first m ms rs h same =
+      by_option (least_pair cmp rs) (λ e. rw e (sym (ap (find (same_pair cmp m)) (least_none cmp order rs e)) ∙ there))
+      (λ l e. rw e (
+      let least = least_is cmp order l rs e in
+      by_test l (same_pair cmp l m) (same l ∙ least.0)
+      (found_in cmp order (λ (n : Message P). pair_before cmp n l ≡ false) (same_pair cmp m) m rs least.1 there)))
     where
       there : find (same_pair cmp m) rs ≡ Some m
       there = sym (same m) ∙ ap (λ (b : Bool). cond b (Some m) (find (same_pair cmp m) ms)) (pair_itself cmp order m)
@@ -176,13 +174,6 @@ module _ {P : Type 0} (cmp : P → P → Ordering) (order : IsTotalOrder cmp) wh
           let yes = found_in cmp order (λ (n : Message P). pair_before cmp m n ≡ true) (same_pair cmp l) l ms
           (as_each cmp order m ms h.0) e in
           cc
-
-      by_least : (o : Option (Message P)) → least_pair cmp rs ≡ o → o ≡ Some m
-      by_least None e = sym (ap (find (same_pair cmp m)) (least_none cmp order rs e)) ∙ there
-      by_least (Some l) e =
-          let least = least_is cmp order l rs e in
-          by_test l (same_pair cmp l m) (same l ∙ least.0)
-          (found_in cmp order (λ (n : Message P). pair_before cmp n l ≡ false) (same_pair cmp m) m rs least.1 there)
 
   empty_alike : (rs : List (Message P)) → FindsAlike [] rs → rs ≡ []
   empty_alike [] same = refl

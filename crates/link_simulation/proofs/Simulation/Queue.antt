@@ -7,7 +7,7 @@ use Rattle.link_simulation.proofs.Common.{same_peer, Completed, Course, Flight, 
 use Rattle.link_simulation.proofs.Common.{is_done, is_in_order, last_moment, may_start, meets, preceded, settle_within}
 use Rattle.link_simulation.proofs.Common.{start, start_next, is_late, completed, flight_of, leaving, staying, arrived}
 use Rattle.link_simulation.proofs.Common.{out_of_waiting, joined, launch_then, finish_within, Message, OneForEachPair}
-use Rattle.link_simulation.proofs.Common.{same_pair, FlowIdsUsedUp, MomentTooLate}
+use Rattle.link_simulation.proofs.Common.{same_pair, FlowIdsUsedUp, MomentTooLate, by_bool}
 use Rattle.std.proofs.lemmas.List.{append-nil}
 use Rattle.fair_rates.proofs.Lists.Sorted.{is_eq_equal}
 
@@ -33,6 +33,10 @@ over_state f (goes xs s) = goes xs (f s)
 over_state f (meets fault) = meets fault
 
 -- ---- lists
+
+pub by_option : {X P : Type 0} (o : Option X) → (o ≡ None → P) → ((x : X) → o ≡ Some x → P) → P
+by_option None none some = none refl
+by_option (Some x) none some = some x refl
 
 pub filter_without : {X : Type 0} (test : X → Bool) (xs : List X)
     → filter (λ x. not (test x)) (without_first test xs) ≡ filter (λ x. not (test x)) xs
@@ -176,24 +180,14 @@ module _ {P : Type 0} (cmp : P → P → Ordering) (order : IsTotalOrder cmp) wh
         let order_is : Bool = is_in_order (w.last_arrival x.origin x.recipient) (t + x.latency) in
         let in_w : may_start cmp t w x ≡ order_is = ap (λ b. not b && order_is) idle_in_w in
         let in_v = subst (λ (u : World P). may_start cmp t u x ≡ order_is) f (idle_still w x idle_in_w) in
-        rw (in_w, in_v) (by_order order_is idle_in_w)
+        rw (in_w, in_v) (by_bool order_is (λ here. rw here (starting w fs v x one idle_in_w e f))
+        (λ here. rw here (grind (arith, nothing_first, finish_alike))))
       where
         idle_still : (w : World P) (x : Message P) → list_any (same_pair cmp x) (messages w.sending) ≡ false
             → may_start cmp t (staying cmp w) x ≡ is_in_order (w.last_arrival x.origin x.recipient) (t + x.latency)
         idle_still w x h =
             ap (λ b. not b && is_in_order (w.last_arrival x.origin x.recipient) (t + x.latency))
             (any_filter (same_pair cmp x) (λ g. not (is_done cmp w g)) w.sending h)
-
-        by_order : (b : Bool) → list_any (same_pair cmp x) (messages w.sending) ≡ false
-            → over_state (staying cmp) (and_then (cond b (start cmp w x) (goes [] w)) (settle_within cmp n t))
-            ≡ cond b
-            (cond (nat_le last_moment v.next_id) (meets FlowIdsUsedUp)
-            (cond (is_done cmp v (flight_of x))
-            (finish_within cmp n t (fs ++ flight_of x ∷ []) (out_of_waiting cmp v x))
-            (finish_within cmp n t fs (joined cmp v x))))
-            (finish_within cmp n t fs v)
-        by_order true h = starting w fs v x one h e f
-        by_order false h = grind (arith, nothing_first, finish_alike)
 
   as_filter : (w : World P) (q : List (Flight P)) → leaving cmp w ≡ q → filter (is_done cmp w) w.sending ≡ q
   unfolding leaving

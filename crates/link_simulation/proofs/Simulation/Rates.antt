@@ -4,7 +4,7 @@ use Rattle.link_simulation.proofs.Common.{not, Option, Some, None, Contains, ref
 use Rattle.link_simulation.proofs.Common.{◌||◌, slice_get, is_none, if◌then◌else◌, flat_map, Ordering}
 use Rattle.link_simulation.proofs.Common.{Contains-append_left, Contains-append_right, Side, same_peer, Message, Caps}
 use Rattle.link_simulation.proofs.Common.{is_delivered, Parts, sides_for, capped_sides, is_unlimited, rates_from}
-use Rattle.link_simulation.proofs.Common.{AreFair, egress_side, ingress_side, link_side, places_from}
+use Rattle.link_simulation.proofs.Common.{AreFair, egress_side, ingress_side, link_side, places_from, by_bool}
 use Rattle.fair_rates.specs.Fairness.Fair.{IsLimited}
 use Rattle.fair_rates.proofs.Fairness.OneAllocation.{same_amounts}
 use Rattle.fair_rates.proofs.Lists.Places.{place_here}
@@ -60,17 +60,14 @@ module _ {P : Type 0} (cmp : P → P → Ordering) where
       → a (place + i) * e ≡ b (place + i) * d)
       → Match (rates_from cmp caps a place ms) (rates_from cmp caps b place ms) d e
   match_from caps a b d e place [] same i x is = cc
-  match_from caps a b d e place (m ∷ ms) same zero x is = by_test (is_unlimited cmp caps m) refl is
-    where
-      by_test : (u : Bool) → is_unlimited cmp caps m ≡ u → Some (if u then None else Some (a place)) ≡ Some (Some x)
-          → (y : ℕ) × (Some (if u then None else Some (b place)) ≡ Some (Some y)) × (x * e ≡ y * d)
-      by_test true h is = cc
-      by_test false h is =
-          let this : a place ≡ x = cc in (
-            b place,
-            refl,
-            ap (λ n. n * e) (sym this) ∙ subst (λ (n : ℕ). a n * e ≡ b n * d) (omega arith) (same 0 m refl h),
-          )
+  match_from caps a b d e place (m ∷ ms) same zero x is =
+      by_bool (is_unlimited cmp caps m) (λ h. rw h cc)
+      (λ h. rw h (
+      let this : a place ≡ x = cc in (
+        b place,
+        refl,
+        ap (λ n. n * e) (sym this) ∙ subst (λ (n : ℕ). a n * e ≡ b n * d) (omega arith) (same 0 m refl h),
+      )))
   match_from caps a b d e place (m ∷ ms) same (suc i) x is =
       match_from caps a b d e (place + 1) ms
       (λ k n at h. subst (λ (j : ℕ). a j * e ≡ b j * d) (omega arith) (same (suc k) n at h)) i x is

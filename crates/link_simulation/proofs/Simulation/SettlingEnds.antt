@@ -6,7 +6,7 @@ use Rattle.link_simulation.proofs.Common.{IsTotalOrder, without_first, Completed
 use Rattle.link_simulation.proofs.Common.{complete, first_waiting, goes, is_done, meets, preceded, settle}
 use Rattle.link_simulation.proofs.Common.{settle_within, start, start_next, EndsWith, out_of_flight, is_late, completed}
 use Rattle.link_simulation.proofs.Common.{Message, same_pair, enqueue, enqueue_each, MomentTooLate}
-use Rattle.link_simulation.proofs.Simulation.Queue.{pair_like, settle_none, settle_first, find_passes}
+use Rattle.link_simulation.proofs.Simulation.Queue.{pair_like, settle_none, settle_first, find_passes, by_option}
 
 pub ends_preceded : {X S : Type 0} (Q : S → Type 0) (xs : List X) (c : Course X S) → EndsWith Q c
     → EndsWith Q (preceded xs c)
@@ -77,16 +77,12 @@ module _ {P : Type 0} (cmp : P → P → Ordering) (order : IsTotalOrder cmp) wh
 
   settle_within_rests : (n t : ℕ) (w : World P) → HasAtMost n w → EndsWith NoneDone (settle_within cmp n t w)
   settle_within_rests zero t w h = find_in_none (is_done cmp w) w.sending (omega arith)
-  settle_within_rests (suc n) t w h = by_first (find (is_done cmp w) w.sending) refl (settle_within_rests n t)
-    where
-      by_first : (o : Option (Flight P)) → find (is_done cmp w) w.sending ≡ o
-          → ((v : World P) → HasAtMost n v → EndsWith NoneDone (settle_within cmp n t v))
-          → EndsWith NoneDone (settle_within cmp (suc n) t w)
-      by_first None e ih = grind (arith, settle_none)
-      by_first (Some f) e ih =
-          subst (λ (c : Course (Completed P) (World P)). EndsWith NoneDone c) (sym (settle_first cmp order n t w f e))
-          (ends_and_then (HasAtMost n) NoneDone (complete cmp t w f.message) (settle_within cmp n t)
-          (complete_has t n w f e h) ih)
+  settle_within_rests (suc n) t w h =
+      by_option (find (is_done cmp w) w.sending) (λ e. grind (arith, settle_none))
+      (λ f e.
+      subst (λ (c : Course (Completed P) (World P)). EndsWith NoneDone c) (sym (settle_first cmp order n t w f e))
+      (ends_and_then (HasAtMost n) NoneDone (complete cmp t w f.message) (settle_within cmp n t)
+      (complete_has t n w f e h) (settle_within_rests n t)))
 
   -- after settling, no message in flight is done
   pub settle_rests : (t : ℕ) (w : World P) → EndsWith NoneDone (settle cmp t w)

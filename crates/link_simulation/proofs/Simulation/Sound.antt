@@ -10,7 +10,7 @@ use Rattle.link_simulation.proofs.Common.{call_advance, call_enqueue, call_limit
 use Rattle.link_simulation.proofs.Common.{complete_at_once, enqueue, rebalance, limited_by, call_limit_link, linked_by}
 use Rattle.link_simulation.proofs.Common.{Caps, Message, OneForEachPair, same_pair, CapsAlike, PairsAlike, ArePositive}
 use Rattle.link_simulation.proofs.Common.{Drains, IsSound, Ticks, no_tick, one_tick, tick_faults, MomentTooLate}
-use Rattle.link_simulation.proofs.Common.{peer_sym, each_filtered}
+use Rattle.link_simulation.proofs.Common.{peer_sym, each_filtered, by_bool}
 use Rattle.link_simulation.specs.Simulation.Messages.{with_cap, with_link}
 use Rattle.link_simulation.proofs.Simulation.Queue.{peer_like, one_without, one_pair_more}
 use Rattle.link_simulation.proofs.Simulation.SettlingEnds.{ends_preceded, ends_and_then, ends_cond, each_ends}
@@ -137,13 +137,12 @@ module _ {P : Type 0} (cmp : P → P → Ordering) (order : IsTotalOrder cmp) wh
   empty_is_quiet t v e f = record { none_done = rw e refl; none_ready = rw f refl }
 
   instant_empty : (w : World P) → IsEmptyAtFirst w → EndsWith IsEmptyAtFirst (instant cmp w)
-  instant_empty w h = by_limited w.limited refl
-    where
-      by_limited : (b : Bool) → w.limited ≡ b → EndsWith IsEmptyAtFirst (instant cmp w)
-      by_limited true e =
-          ends_more cmp order IsLimited IsEmptyAtFirst (instant cmp w) empty_if_limited
-          (instant_outlasts cmp order IsLimited limited_kept w e)
-      by_limited false e = grind (arith, instant_of_quiet, empty_is_quiet)
+  instant_empty w h =
+      by_bool w.limited
+      (λ e.
+      ends_more cmp order IsLimited IsEmptyAtFirst (instant cmp w) empty_if_limited
+      (instant_outlasts cmp order IsLimited limited_kept w e))
+      (λ e. grind (arith, instant_of_quiet, empty_is_quiet))
 
   drains_empty : (w v : World P) → Drains cmp w v → IsEmptyAtFirst w → IsEmptyAtFirst v
   drains_empty w v d h = grind arith

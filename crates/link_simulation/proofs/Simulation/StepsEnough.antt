@@ -1,7 +1,7 @@
 -- Settling has steps enough: more of them change nothing.
-use Rattle.link_simulation.proofs.Common.{◌≡◌, ℕ, zero, suc, Option, Some, None, refl, sym, ◌∙◌, arith, find, Ordering}
-use Rattle.link_simulation.proofs.Common.{IsTotalOrder, Flight, World, complete, is_done, settle_within}
-use Rattle.link_simulation.proofs.Simulation.Queue.{settle_first}
+use Rattle.link_simulation.proofs.Common.{◌≡◌, ℕ, zero, suc, sym, ◌∙◌, arith, find, Ordering, IsTotalOrder, World}
+use Rattle.link_simulation.proofs.Common.{complete, is_done, settle_within}
+use Rattle.link_simulation.proofs.Simulation.Queue.{settle_first, by_option}
 use Rattle.link_simulation.proofs.Simulation.SettlingEnds.{HasAtMost, complete_has, find_in_none}
 use Rattle.link_simulation.proofs.Simulation.OtherPairs.{ends_more}
 use Rattle.link_simulation.proofs.Simulation.Pass.{and_then_alike, ends_both}
@@ -14,19 +14,15 @@ module _ {P : Type 0} (cmp : P → P → Ordering) (order : IsTotalOrder cmp) wh
       sym (settle_nothing cmp order m t w (find_in_none (is_done cmp w) w.sending (omega arith)))
   settle_enough (suc n) zero t w h k =
       settle_nothing cmp order (suc n) t w (find_in_none (is_done cmp w) w.sending (omega arith))
-  settle_enough (suc n) (suc m) t w h k = by_first (find (is_done cmp w) w.sending) refl (settle_enough n m t)
-    where
-      by_first : (o : Option (Flight P)) → find (is_done cmp w) w.sending ≡ o
-          → ((v : World P) → HasAtMost cmp order n v → HasAtMost cmp order m v
-          → settle_within cmp n t v ≡ settle_within cmp m t v)
-          → settle_within cmp (suc n) t w ≡ settle_within cmp (suc m) t w
-      by_first None e ih = settle_nothing cmp order (suc n) t w e ∙ sym (settle_nothing cmp order (suc m) t w e)
-      by_first (Some f) e ih =
-          settle_first cmp order n t w f e
-          ∙ and_then_alike (complete cmp t w f.message) (settle_within cmp n t) (settle_within cmp m t)
-          (ends_more cmp order (λ (v : World P). HasAtMost cmp order n v × HasAtMost cmp order m v)
-          (λ (v : World P). settle_within cmp n t v ≡ settle_within cmp m t v) (complete cmp t w f.message)
-          (λ v j. ih v j.0 j.1)
-          (ends_both (HasAtMost cmp order n) (HasAtMost cmp order m) (complete cmp t w f.message)
-          (complete_has cmp order t n w f e h) (complete_has cmp order t m w f e k)))
-          ∙ sym (settle_first cmp order m t w f e)
+  settle_enough (suc n) (suc m) t w h k =
+      by_option (find (is_done cmp w) w.sending)
+      (λ e. settle_nothing cmp order (suc n) t w e ∙ sym (settle_nothing cmp order (suc m) t w e))
+      (λ f e.
+      settle_first cmp order n t w f e
+      ∙ and_then_alike (complete cmp t w f.message) (settle_within cmp n t) (settle_within cmp m t)
+      (ends_more cmp order (λ (v : World P). HasAtMost cmp order n v × HasAtMost cmp order m v)
+      (λ (v : World P). settle_within cmp n t v ≡ settle_within cmp m t v) (complete cmp t w f.message)
+      (λ v j. (settle_enough n m t) v j.0 j.1)
+      (ends_both (HasAtMost cmp order n) (HasAtMost cmp order m) (complete cmp t w f.message)
+      (complete_has cmp order t n w f e h) (complete_has cmp order t m w f e k)))
+      ∙ sym (settle_first cmp order m t w f e))
