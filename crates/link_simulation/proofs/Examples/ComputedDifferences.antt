@@ -136,8 +136,7 @@ module _ {P : Type 0} (cmp : P → P → Ordering) (order : IsTotalOrder cmp) (p
       × Runs cmp w call now (goes ds v) × AllZip (SameCompletion cmp) cs ds × Agrees cmp v calls replies
 
   not_done : (n : ℕ) (w : World P) (call : Call P) (calls : List (Call P)) (now : ℕ) (cs : List (Completed P))
-      (replies : List (Reply P))
-      → Disagrees n calls replies → IsSound cmp w → moment_of call ≡ Some now
+      (replies : List (Reply P)) → Disagrees n calls replies → IsSound cmp w → moment_of call ≡ Some now
       → differ_at w call now (reply_done cs) (λ v. differ n v calls replies) ≡ true → ¬ Accepted w call calls cs replies
   not_done n w call calls now cs replies ih sound at e (now_too, ds, v, at_too, runs, same, rest) =
       let two : (may_tick cmp order plan (now - w.moment) w ≡ true) × (differ_done (course_of cmp order plan w call now)
@@ -153,8 +152,7 @@ module _ {P : Type 0} (cmp : P → P → Ordering) (order : IsTotalOrder cmp) (p
 
   -- a fault that is met is the one that is computed
   met : (w : World P) (call : Call P) (now : ℕ) (why : Error) → IsSound cmp w → moment_of call ≡ Some now
-      → is_none_such w call now why ≡ true
-      → Faults cmp w call why → is_met why (meets why) ≡ true → ⊥
+      → is_none_such w call now why ≡ true → Faults cmp w call why → is_met why (meets why) ≡ true → ⊥
   met w call now why sound at e (now_too, at_too, runs) is =
       let two : (may_tick cmp order plan (now - w.moment) w ≡ true)
       × (not (is_met why (course_of cmp order plan w call now)) ≡ true)
@@ -172,8 +170,7 @@ module _ {P : Type 0} (cmp : P → P → Ordering) (order : IsTotalOrder cmp) (p
   either_too false b e never next = next e
 
   not_refused : (n : ℕ) (w : World P) (call : Call P) (calls : List (Call P)) (now : ℕ) (why : Error)
-      (replies : List (Reply P))
-      → Disagrees n calls replies → IsSound cmp w → moment_of call ≡ Some now
+      (replies : List (Reply P)) → Disagrees n calls replies → IsSound cmp w → moment_of call ≡ Some now
       → differ_at w call now (reply_refused why) (λ v. differ n v calls replies) ≡ true
       → ¬ (MayRefuse cmp w call why × Agrees cmp w calls replies)
   not_refused n w call calls now OutOfMemory replies ih sound at e (may, rest) = ih w sound e rest

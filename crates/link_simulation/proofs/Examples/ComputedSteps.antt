@@ -107,8 +107,7 @@ module _ {P : Type 0} (cmp : P → P → Ordering) (order : IsTotalOrder cmp) (p
         left = f.left;
         rate = rate_of shares.per (if is_unlimited cmp caps f.message then None else Some (shares.parts place));
         updated = t;
-      }
-      ∷ rated_flight caps shares t (place + 1) fs
+      } ∷ rated_flight caps shares t (place + 1) fs
 
   abbrev pub staying : ℕ → Planned P → List (RatedFlight P)
   staying t p = filter (λ f. not (is_spent cmp p.caps f)) (drained_to t p.sending)
@@ -131,8 +130,7 @@ module _ {P : Type 0} (cmp : P → P → Ordering) (order : IsTotalOrder cmp) (p
   spent_if_so : (s : ℕ) (fs : List (RatedFlight P)) → list_any (is_spent_at s) fs ≡ true → SomeSpentAt fs s
   spent_if_so s [] e = cc
   spent_if_so s (f ∷ fs) e =
-      by_bool (is_spent_at s f)
-      (λ is.
+      by_bool (is_spent_at s f) (λ is.
       let two = and_parts (nat_le f.updated s) ((left_at s f).num == 0) is in
       (0, f, refl, leb-true f.updated s two.0, eqb-true (left_at s f).num 0 two.1))
       (λ is. let rest : SomeSpentAt fs s = (spent_if_so s fs) (rw is at e)
@@ -304,24 +302,18 @@ module _ {P : Type 0} (cmp : P → P → Ordering) (order : IsTotalOrder cmp) (p
   abbrev pub launch : ℕ → Planned P → Option (Message P) → Option (Course (Message P) (Planned P))
   launch t p None = Some (goes [] p)
   launch t p (Some m) =
-      cond (may_launch cmp t p m)
-      (cond (nat_lt p.next_id last_moment)
+      cond (may_launch cmp t p m) (cond (nat_lt p.next_id last_moment)
       (bind (account t (launched cmp t p m)) (λ q. Some (goes (leavers_of t (launched cmp t p m)) q)))
-      (Some (meets FlowIdsUsedUp)))
-      (Some (goes [] p))
+      (Some (meets FlowIdsUsedUp))) (Some (goes [] p))
 
   pub launch_so : (t : ℕ) (p : Planned P) (o : Option (Message P)) (c : Course (Message P) (Planned P))
       → launch t p o ≡ Some c → Launches cmp t p o c
   launch_so t p None c e = subst (Launches cmp t p None) (the_same e) nothing_waits
   launch_so t p (Some m) c e = by_test (may_launch cmp t p m) (nat_lt p.next_id last_moment) refl refl e
     where
-      by_test : (b d : Bool) → may_launch cmp t p m ≡ b → nat_lt p.next_id last_moment ≡ d
-          → cond b
+      by_test : (b d : Bool) → may_launch cmp t p m ≡ b → nat_lt p.next_id last_moment ≡ d → cond b
           (cond d (bind (account t (launched cmp t p m)) (λ q. Some (goes (leavers_of t (launched cmp t p m)) q)))
-          (Some (meets FlowIdsUsedUp)))
-          (Some (goes [] p))
-          ≡ Some c
-          → Launches cmp t p (Some m) c
+          (Some (meets FlowIdsUsedUp))) (Some (goes [] p)) ≡ Some c → Launches cmp t p (Some m) c
       by_test true true may below e =
           let found = bound (account t (launched cmp t p m)) (λ q. Some (goes (leavers_of t (launched cmp t p m)) q)) c
           e in
@@ -336,8 +328,7 @@ module _ {P : Type 0} (cmp : P → P → Ordering) (order : IsTotalOrder cmp) (p
   finish_all t zero ms p = None
   finish_all t (suc k) [] p = bind (look t p) (λ q. Some (goes [] q))
   finish_all t (suc k) (m ∷ ms) p = cond (is_late cmp t m) (Some (meets MomentTooLate))
-      (bind (launch t (landed cmp t p m) (next_of cmp p m))
-      (λ c. followed c
+      (bind (launch t (landed cmp t p m) (next_of cmp p m)) (λ c. followed c
       (λ more q. bind (finish_all t k (ms ++ more) q) (λ rest. Some (preceded (completed cmp t m ∷ []) rest)))))
 
   abbrev AreFinishes : ℕ → ℕ → Type 0
@@ -351,8 +342,7 @@ module _ {P : Type 0} (cmp : P → P → Ordering) (order : IsTotalOrder cmp) (p
       let found : (q : Planned P) × (look t p ≡ Some q) × (Some (goes [] q) ≡ Some c) = grind (arith, bound) in
       subst (Finishes cmp t [] p) (the_same found.2) (all_completed (look_so t p found.0 found.1))
   finish_all_so t (suc k) (m ∷ ms) p c e =
-      by_bool (is_late cmp t m) (λ is. subst (Finishes cmp t (m ∷ ms) p) (the_same (rw is at e)) (late is))
-      (λ is.
+      by_bool (is_late cmp t m) (λ is. subst (Finishes cmp t (m ∷ ms) p) (the_same (rw is at e)) (late is)) (λ is.
       let found = bound (launch t (landed cmp t p m) (next_of cmp p m)) (λ l. followed l
       (λ more q. bind (finish_all t k (ms ++ more) q) (λ rest. Some (preceded (completed cmp t m ∷ []) rest)))) c
       (rw is at e)
@@ -372,9 +362,7 @@ module _ {P : Type 0} (cmp : P → P → Ordering) (order : IsTotalOrder cmp) (p
   abbrev pub wake_each : ℕ → List (Message P) → Planned P → Option (Course (Completed P) (Planned P))
   wake_each t [] p = bind (look t p) (λ q. Some (goes [] q))
   wake_each t (m ∷ ms) p =
-      bind (launch t p (next_of cmp p m))
-      (λ c. followed c
-      (λ more q. bind (finish_all t n more q)
+      bind (launch t p (next_of cmp p m)) (λ c. followed c (λ more q. bind (finish_all t n more q)
       (λ d. followed d (λ cs r. bind (wake_each t ms r) (λ rest. Some (preceded cs rest))))))
 
   abbrev AreWakes : ℕ → List (Message P) → Type 0
@@ -400,13 +388,10 @@ module _ {P : Type 0} (cmp : P → P → Ordering) (order : IsTotalOrder cmp) (p
           let found = bound (wake_each t ms r) (λ rest. Some (preceded cs rest)) c e in
           subst (WakesEach cmp t (m ∷ ms) p) (the_same found.2) (starts_one l f (ih r found.0 found.1))
 
-      by_launch : (l : Course (Message P) (Planned P)) → Launches cmp t p (next_of cmp p m) l
-          → followed l
+      by_launch : (l : Course (Message P) (Planned P)) → Launches cmp t p (next_of cmp p m) l → followed l
           (λ more q. bind (finish_all t n more q)
-          (λ d. followed d (λ cs r. bind (wake_each t ms r) (λ rest. Some (preceded cs rest)))))
-          ≡ Some c
-          → AreWakes t ms
-          → WakesEach cmp t (m ∷ ms) p c
+          (λ d. followed d (λ cs r. bind (wake_each t ms r) (λ rest. Some (preceded cs rest))))) ≡ Some c
+          → AreWakes t ms → WakesEach cmp t (m ∷ ms) p c
       by_launch (meets fault) l e ih = subst (WakesEach cmp t (m ∷ ms) p) (the_same e) (no_start l)
       by_launch (goes more q) l e ih =
           let found = bound (finish_all t n more q)

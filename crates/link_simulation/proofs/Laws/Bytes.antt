@@ -127,8 +127,7 @@ module _ {P : Type 0} (cmp : P → P → Ordering) (order : IsTotalOrder cmp) wh
 
   passing_limited : (caps : Caps P) (parts : ℕ → ℕ) (test : Message P → Bool) (place : ℕ) (ms : List (Message P))
       → ((m : Message P) → test m ≡ true → is_unlimited cmp caps m ≡ false) → (i : ℕ)
-      → slice_get (map test ms) i ≡ Some true
-      → slice_get (rates_from cmp caps parts place ms) i ≡ Some None → ⊥
+      → slice_get (map test ms) i ≡ Some true → slice_get (rates_from cmp caps parts place ms) i ≡ Some None → ⊥
   passing_limited caps parts test place [] limited i at is = cc
   passing_limited caps parts test place (m ∷ ms) limited zero at is = grind arith
   passing_limited caps parts test place (m ∷ ms) limited (suc i) at is =
@@ -259,14 +258,12 @@ module _ {P : Type 0} (cmp : P → P → Ordering) (order : IsTotalOrder cmp) wh
     fair_is_capped : (w : World P) (per : ℕ) (rates : Parts) → Holds w → AreFair cmp w.caps (flows w) per rates
         → AreCapped (flows w) per rates
     fair_is_capped w per rates h fair =
-        by_option (find from_it (flows w))
-        (λ e.
+        by_option (find from_it (flows w)) (λ e.
         record {
           within = let z : total (map from_it (flows w)) rates ≡ 0 = none_total from_it (flows w) rates e in
               omega arith;
           limited = limits;
-        })
-        (λ m e.
+        }) (λ m e.
         let from : same_peer cmp p m.origin ≡ true = find_passes from_it m (flows w) e in
         let side : Side =
         record {
@@ -286,8 +283,7 @@ module _ {P : Type 0} (cmp : P → P → Ordering) (order : IsTotalOrder cmp) wh
         limits i at is = grind (arith, passing_limited, own_limited)
 
     drained_one : (per n others : ℕ) (left before after : Amount) (c : Bool) (r : Option ℕ) → 0 < per → 0 < left.den
-        → (c ≡ true → r ≡ None → ⊥)
-        → IsAtMost before (plus after (share (others * n) (per * billion)))
+        → (c ≡ true → r ≡ None → ⊥) → IsAtMost before (plus after (share (others * n) (per * billion)))
         → IsAtMost (if c then plus left before else before)
         (plus (if c then plus (drained_by (rate_of per r) n left) after else after)
         (share ((part_of c r + others) * n) (per * billion)))
@@ -299,8 +295,7 @@ module _ {P : Type 0} (cmp : P → P → Ordering) (order : IsTotalOrder cmp) wh
 
     drained_each : (per : ℕ) (rates : Parts) (n : ℕ) (fs : List (Flight P)) → 0 < per → ArePositive fs
         → ((i : ℕ) → slice_get (map from_it (map (λ (f : Flight P). f.message) fs)) i ≡ Some true
-        → slice_get rates i ≡ Some None → ⊥)
-        → IsAtMost (left_from cmp p fs)
+        → slice_get rates i ≡ Some None → ⊥) → IsAtMost (left_from cmp p fs)
         (plus (left_from cmp p (drain_each per rates n fs))
         (share (total (map from_it (map (λ (f : Flight P). f.message) fs)) rates * n) (per * billion)))
     drained_each per rates n [] some pos limited = grind arith

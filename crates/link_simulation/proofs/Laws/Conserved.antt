@@ -42,10 +42,8 @@ module _ {P : Type 0} (cmp : P → P → Ordering) (order : IsTotalOrder cmp) wh
 
   -- where at most one message of a pair is in flight, it is among those that pass a test or among the others
   one_split : (k : Message P) (test : RatedFlight P → Bool) (fs : List (RatedFlight P))
-      → OneForEachPair cmp (rated_messages fs)
-      → of_pair cmp k (rated_messages (filter test fs))
-      ++ of_pair cmp k (rated_messages (filter (λ f. not (test f)) fs))
-      ≡ of_pair cmp k (rated_messages fs)
+      → OneForEachPair cmp (rated_messages fs) → of_pair cmp k (rated_messages (filter test fs))
+      ++ of_pair cmp k (rated_messages (filter (λ f. not (test f)) fs)) ≡ of_pair cmp k (rated_messages fs)
   one_split k test [] one = refl
   one_split k test (f ∷ fs) one =
       grind (arith, filter_nothing, any_of_fewer, any_like, before_both, append-nil, (one_split k test fs))
@@ -76,9 +74,7 @@ module _ {P : Type 0} (cmp : P → P → Ordering) (order : IsTotalOrder cmp) wh
       ∙ ap (λ (ms : List (Message P)). ms ++ of_pair cmp k (without_first (same_pair cmp m) p.waiting))
       (filter-append (same_pair cmp k) (rated_messages p.sending) (m ∷ []))
       ∙ ap (λ (ms : List (Message P)). (of_pair cmp k (rated_messages p.sending) ++ of_pair cmp k (m ∷ [])) ++ ms)
-      (waits_without cmp order k m p.waiting)
-      ∙ by_bool (same_pair cmp k m)
-      (λ is. rw is (
+      (waits_without cmp order k m p.waiting) ∙ by_bool (same_pair cmp k m) (λ is. rw is (
       let none : flying ≡ [] = (rw is at own_idle) refl in
       ap (λ (ms : List (Message P)). (ms ++ m ∷ []) ++ rest_of waits) none ∙ sym ((rw is at own_first) refl)
       ∙ sym (ap (λ (ms : List (Message P)). ms ++ waits) none)))
@@ -142,8 +138,7 @@ module _ {P : Type 0} (cmp : P → P → Ordering) (order : IsTotalOrder cmp) wh
   moves_then queue p q r cs ds a b = grind (arith, zip-append, filter-append, append_assoc)
 
   on_then : (queue : List (Message P)) (p q : Planned P) (cs : List (Completed P))
-      (c : Course (Completed P) (Planned P))
-      → Moves queue p cs q → MovesOn [] q c → MovesOn queue p (preceded cs c)
+      (c : Course (Completed P) (Planned P)) → Moves queue p cs q → MovesOn [] q c → MovesOn queue p (preceded cs c)
   on_then queue p q cs (goes ds r) a b = moves_then queue p q r cs ds a b
   on_then queue p q cs (meets fault) a b = tt
 
@@ -317,8 +312,7 @@ module _ {P : Type 0} (cmp : P → P → Ordering) (order : IsTotalOrder cmp) wh
   pub call_keeps : (p : Planned P) (call : Call P) (c : Course (Completed P) (Planned P)) → Obeys cmp p call c
       → IsOrderly cmp p → KeepsAll p (enqueued (call ∷ [])) c
   call_keeps p (call_limit now peer egress ingress) c obeys h =
-      none_enqueued p c
-      (rebalance_moves obeys
+      none_enqueued p c (rebalance_moves obeys
       (recapped_steady cmp order p _ (limited_by_alike cmp order p.caps peer egress ingress h.caps) h))
   call_keeps p (call_limit_link now origin recipient cap) c obeys h =
       grind (arith, none_enqueued, rebalance_moves, recapped_steady, linked_by_alike)

@@ -98,8 +98,7 @@ module _ {P : Type 0} (cmp : P → P → Ordering) (order : IsTotalOrder cmp) wh
 
   -- one stretch and then another
   pub conserved_then : (p q r : Planned P) (ms ns : List (Message P)) (cs ds : List (Completed P))
-      → IsConserved cmp p ms cs q → IsConserved cmp q ns ds r
-      → IsConserved cmp p (ms ++ ns) (cs ++ ds) r
+      → IsConserved cmp p ms cs q → IsConserved cmp q ns ds r → IsConserved cmp p (ms ++ ns) (cs ++ ds) r
   conserved_then p q r ms ns cs ds a b = grind (arith, zip-append, filter-append, both_done)
 
   -- the first call is accepted, and the others follow

@@ -67,11 +67,9 @@ module _ {P : Type 0} (cmp : P → P → Ordering) (order : IsTotalOrder cmp) (i
   part_preceded cs (meets fault) d h = tt
 
   pub part_then : (R S : World P → Type 0) (c d : Course (Completed P) (World P))
-      (k l : World P → Course (Completed P) (World P))
-      → IsPartOf c d → EndsWith R c → EndsWith S d
+      (k l : World P → Course (Completed P) (World P)) → IsPartOf c d → EndsWith R c → EndsWith S d
       → ((u : World P) (last : P → P → Option ℕ) (id : ℕ) → IsPart last id u → R u → S (part last id u)
-      → IsPartOf (k u) (l (part last id u)))
-      → IsPartOf (and_then c k) (and_then d l)
+      → IsPartOf (k u) (l (part last id u))) → IsPartOf (and_then c k) (and_then d l)
   part_then R S (goes cs u) d k l (last, id, is, e) r s next = grind (arith, part_preceded)
   part_then R S (meets fault) d k l h r s next = tt
 
@@ -103,8 +101,7 @@ module _ {P : Type 0} (cmp : P → P → Ordering) (order : IsTotalOrder cmp) (i
       → find (same_pair cmp m) w.waiting ≡ Some m → mine m ≡ true
       → IsPartOf (start cmp w m) (start cmp (part last id w) m)
   start_mine w m last id is first own =
-      by_bool (nat_le last_moment w.next_id) (λ e. rw e tt)
-      (λ e. rw e (
+      by_bool (nat_le last_moment w.next_id) (λ e. rw e tt) (λ e. rw e (
       let free : w.next_id < last_moment = leb-false last_moment w.next_id e in
       let least : id ≤ w.next_id = is.ids in
       let low : nat_le last_moment id ≡ false = lt-leb last_moment id (omega arith) in
@@ -117,11 +114,9 @@ module _ {P : Type 0} (cmp : P → P → Ordering) (order : IsTotalOrder cmp) (i
       )))
 
   pub start_other : (w : World P) (m : Message P) (last : P → P → Option ℕ) (id : ℕ) → IsPart last id w
-      → find (same_pair cmp m) w.waiting ≡ Some m → mine m ≡ false
-      → IsPartOf (start cmp w m) (goes [] (part last id w))
+      → find (same_pair cmp m) w.waiting ≡ Some m → mine m ≡ false → IsPartOf (start cmp w m) (goes [] (part last id w))
   start_other w m last id is first off =
-      by_bool (nat_le last_moment w.next_id) (λ here. rw here tt)
-      (λ here. rw here (
+      by_bool (nat_le last_moment w.next_id) (λ here. rw here tt) (λ here. rw here (
       let sending = sym (joined_part w.sending m false off ∙ append-nil (filter in_flight w.sending)) in
       let waiting = sym (first_dropped mine (same_pair cmp m) w.waiting m first off) in (
         last,
@@ -135,8 +130,7 @@ module _ {P : Type 0} (cmp : P → P → Ordering) (order : IsTotalOrder cmp) (i
   may_start_same t w m last id is own = grind (arith, any_kept)
 
   pub start_next_mine : (t : ℕ) (w : World P) (m : Message P) (o : Option (Message P)) (last : P → P → Option ℕ)
-      (id : ℕ)
-      → IsPart last id w → mine m ≡ true
+      (id : ℕ) → IsPart last id w → mine m ≡ true
       → find (same_pair cmp m) w.waiting ≡ o → IsPartOf (start_next cmp t w o) (start_next cmp t (part last id w) o)
   start_next_mine t w m None last id is own e = (last, id, is, refl)
   start_next_mine t w m (Some x) last id is own e =
@@ -150,22 +144,19 @@ module _ {P : Type 0} (cmp : P → P → Ordering) (order : IsTotalOrder cmp) (i
       )
 
   pub start_next_other : (t : ℕ) (w : World P) (m : Message P) (o : Option (Message P)) (last : P → P → Option ℕ)
-      (id : ℕ)
-      → IsPart last id w → mine m ≡ false
+      (id : ℕ) → IsPart last id w → mine m ≡ false
       → find (same_pair cmp m) w.waiting ≡ o → IsPartOf (start_next cmp t w o) (goes [] (part last id w))
   start_next_other t w m None last id is off e = (last, id, is, refl)
   start_next_other t w m (Some x) last id is off e =
       let same : same_pair cmp m x ≡ true = find_passes (same_pair cmp m) x w.waiting e in
       by_bool (may_start cmp t w x)
       (λ here. rw here (start_other w x last id is (find_like cmp order m x w.waiting same ∙ e)
-      (sym (alike m x same) ∙ off)))
-      (λ here. rw here (last, id, is, refl))
+      (sym (alike m x same) ∙ off))) (λ here. rw here (last, id, is, refl))
 
   -- ---- a completion
 
   pub raised_same : (m n : Message P) (at : ℕ) (last : P → P → Option ℕ) (w : World P) (id : ℕ) → IsPart last id w
-      → mine n ≡ true
-      → raised cmp last m at n.origin n.recipient ≡ raised cmp w.last_arrival m at n.origin n.recipient
+      → mine n ≡ true → raised cmp last m at n.origin n.recipient ≡ raised cmp w.last_arrival m at n.origin n.recipient
   raised_same m n at last w id is own =
       let same : last n.origin n.recipient ≡ w.last_arrival n.origin n.recipient = is.arrivals n own in rw same refl
 
@@ -177,8 +168,7 @@ module _ {P : Type 0} (cmp : P → P → Ordering) (order : IsTotalOrder cmp) (i
       → find (is_done cmp w) w.sending ≡ Some f → mine f.message ≡ true
       → IsPartOf (complete cmp t w f.message) (complete cmp t (part last id w) f.message)
   complete_mine t w f last id is first own =
-      by_bool (is_late cmp t f.message) (λ here. rw here tt)
-      (λ here. rw here (
+      by_bool (is_late cmp t f.message) (λ here. rw here tt) (λ here. rw here (
       let c : Completed P = completed cmp t f.message in
       let alone : filter in_done (c ∷ []) ≡ c ∷ [] = rw own refl in
       let big : Course (Completed P) (World P) =
@@ -190,8 +180,7 @@ module _ {P : Type 0} (cmp : P → P → Ordering) (order : IsTotalOrder cmp) (i
       subst (λ (cs : List (Completed P)). IsPartOf (preceded (c ∷ []) big) (preceded cs small)) alone
       (part_preceded (c ∷ []) big small inner)))
     where
-      inner : IsPartOf
-          (start_next cmp t (out_of_flight cmp t w f.message)
+      inner : IsPartOf (start_next cmp t (out_of_flight cmp t w f.message)
           (first_waiting cmp (out_of_flight cmp t w f.message) f.message))
           (start_next cmp t (out_of_flight cmp t (part last id w) f.message)
           (first_waiting cmp (out_of_flight cmp t (part last id w) f.message) f.message))
@@ -216,21 +205,16 @@ module _ {P : Type 0} (cmp : P → P → Ordering) (order : IsTotalOrder cmp) (i
           = start_next_mine t (out_of_flight cmp t w f.message) f.message next higher id still own refl in
           let one : IsPartOf (start_next cmp t (out_of_flight cmp t w f.message) next)
           (start_next cmp t (out_of_flight cmp t (part last id w) f.message) next)
-          = subst
-          (λ (z : World P). IsPartOf (start_next cmp t (out_of_flight cmp t w f.message) next)
-          (start_next cmp t z next))
-          (sym same_landed) base in
-          subst
-          (λ (o : Option (Message P)). IsPartOf (start_next cmp t (out_of_flight cmp t w f.message) next)
-          (start_next cmp t (out_of_flight cmp t (part last id w) f.message) o))
-          (sym same_next) one
+          = subst (λ (z : World P). IsPartOf (start_next cmp t (out_of_flight cmp t w f.message) next)
+          (start_next cmp t z next)) (sym same_landed) base in
+          subst (λ (o : Option (Message P)). IsPartOf (start_next cmp t (out_of_flight cmp t w f.message) next)
+          (start_next cmp t (out_of_flight cmp t (part last id w) f.message) o)) (sym same_next) one
 
   complete_other : (t : ℕ) (w : World P) (f : Flight P) (last : P → P → Option ℕ) (id : ℕ) → IsPart last id w
       → find (is_done cmp w) w.sending ≡ Some f → mine f.message ≡ false
       → IsPartOf (complete cmp t w f.message) (goes [] (part last id w))
   complete_other t w f last id is first off =
-      by_bool (is_late cmp t f.message) (λ here. rw here tt)
-      (λ here. rw here (
+      by_bool (is_late cmp t f.message) (λ here. rw here tt) (λ here. rw here (
       let c : Completed P = completed cmp t f.message in
       let still : IsPart last id (out_of_flight cmp t w f.message) = record {
         arrivals = λ n own_n.
@@ -282,8 +266,7 @@ module _ {P : Type 0} (cmp : P → P → Ordering) (order : IsTotalOrder cmp) (i
       by_mine f e own (suc j) few ih =
           let found : find (is_done cmp w) (filter in_flight w.sending) ≡ Some f =
           (first_kept in_flight (is_done cmp w) w.sending f e own).0 in
-          subst
-          (λ (c : Course (Completed P) (World P)). IsPartOf
+          subst (λ (c : Course (Completed P) (World P)). IsPartOf
           (and_then (complete cmp t w f.message) (settle_within cmp n t)) c)
           (sym (settle_first cmp order j t (part last id w) f found))
           (part_then (HasAtMost cmp order n) (HasAtMost cmp order j) (complete cmp t w f.message)
@@ -298,8 +281,7 @@ module _ {P : Type 0} (cmp : P → P → Ordering) (order : IsTotalOrder cmp) (i
           → IsPartOf (and_then (complete cmp t w f.message) (settle_within cmp n t))
           (settle_within cmp k t (part last id w))
       by_other f e off ih =
-          subst
-          (λ (c : Course (Completed P) (World P)). IsPartOf
+          subst (λ (c : Course (Completed P) (World P)). IsPartOf
           (and_then (complete cmp t w f.message) (settle_within cmp n t)) c)
           (preceded_none (settle_within cmp k t (part last id w)))
           (part_then (HasAtMost cmp order n) (HasAtMost cmp order k) (complete cmp t w f.message)
@@ -339,11 +321,9 @@ module _ {P : Type 0} (cmp : P → P → Ordering) (order : IsTotalOrder cmp) (i
   settle_waits : (n k t : ℕ) (w : World P) → WaitsAtMost k w → EndsWith (WaitsAtMost k) (settle_within cmp n t w)
   settle_waits zero k t w h = h
   settle_waits (suc n) k t w h =
-      by_option (find (is_done cmp w) w.sending)
-      (λ e.
+      by_option (find (is_done cmp w) w.sending) (λ e.
       subst (λ (c : Course (Completed P) (World P)). EndsWith (WaitsAtMost k) c)
-      (sym (settle_none cmp order n t w e)) h)
-      (λ f e.
+      (sym (settle_none cmp order n t w e)) h) (λ f e.
       subst (λ (c : Course (Completed P) (World P)). EndsWith (WaitsAtMost k) c)
       (sym (settle_first cmp order n t w f e))
       (ends_and_then (WaitsAtMost k) (WaitsAtMost k) (complete cmp t w f.message) (settle_within cmp n t)
@@ -367,8 +347,7 @@ module _ {P : Type 0} (cmp : P → P → Ordering) (order : IsTotalOrder cmp) (i
       (wake_within cmp n t w) (wake_within cmp k t (part last id w))
 
   settle_and_wake : (n k t : ℕ) (u : World P) (last : P → P → Option ℕ) (id : ℕ) → IsPart last id u → WaitsAtMost n u
-      → WaitsAtMost k (part last id u) → GoesByRule n t
-      → IsPartOf (and_then (settle cmp t u) (wake_within cmp n t))
+      → WaitsAtMost k (part last id u) → GoesByRule n t → IsPartOf (and_then (settle cmp t u) (wake_within cmp n t))
       (and_then (settle cmp t (part last id u)) (wake_within cmp k t))
   settle_and_wake n k t u last id is h g ih =
       let all : ℕ = length u.sending + length u.waiting in
@@ -377,8 +356,7 @@ module _ {P : Type 0} (cmp : P → P → Ordering) (order : IsTotalOrder cmp) (i
       (settle cmp t (part last id u)) (wake_within cmp n t) (wake_within cmp k t)
       (settle_part all few t u last id is (omega arith) (omega arith))
       (ends_both (WaitsAtMost n) (NoneDone cmp order) (settle cmp t u) (settle_waits all n t u h)
-      (settle_rests cmp order t u))
-      (settle_waits few k t (part last id u) g)
+      (settle_rests cmp order t u)) (settle_waits few k t (part last id u) g)
       (λ v l i part_v r s. ih k v l i part_v r.1 r.0 s)
 
   pub wake_part : (n t : ℕ) → GoesByRule n t
@@ -400,13 +378,11 @@ module _ {P : Type 0} (cmp : P → P → Ordering) (order : IsTotalOrder cmp) (i
           ap (least_pair cmp) (ready_part t w last id is) ∙ least_kept cmp order mine (ready cmp t w) m e own in
           let first : find (same_pair cmp m) w.waiting ≡ Some m = ready_is_first cmp order t w m e in
           let first_here = ready_is_first cmp order t (part last id w) m least in
-          subst
-          (λ (c : Course (Completed P) (World P)). IsPartOf
+          subst (λ (c : Course (Completed P) (World P)). IsPartOf
           (and_then (start cmp w m) (λ v. and_then (settle cmp t v) (wake_within cmp n t))) c)
           (sym (wake_first cmp order j t (part last id w) m least))
           (part_then (WaitsAtMost n) (WaitsAtMost j) (start cmp w m) (start cmp (part last id w) m)
-          (λ v. and_then (settle cmp t v) (wake_within cmp n t))
-          (λ v. and_then (settle cmp t v) (wake_within cmp j t))
+          (λ v. and_then (settle cmp t v) (wake_within cmp n t)) (λ v. and_then (settle cmp t v) (wake_within cmp j t))
           (start_mine w m last id is first own) (start_waits n w m first most)
           (start_waits j (part last id w) m first_here few)
           (λ u l i part_u r s. settle_and_wake n j t u l i part_u r s ih))
@@ -422,13 +398,10 @@ module _ {P : Type 0} (cmp : P → P → Ordering) (order : IsTotalOrder cmp) (i
           let same = preceded_none (and_then (settle cmp t small) (wake_within cmp k t)) ∙ ap
           (λ (c : Course (Completed P) (World P)). and_then c (wake_within cmp k t)) still ∙ preceded_none
           (wake_within cmp k t small) in
-          subst
-          (λ (c : Course (Completed P) (World P)). IsPartOf
+          subst (λ (c : Course (Completed P) (World P)). IsPartOf
           (and_then (start cmp w m) (λ v. and_then (settle cmp t v) (wake_within cmp n t))) c)
-          same
-          (part_then (WaitsAtMost n) (WaitsAtMost k) (start cmp w m) (goes [] small)
-          (λ v. and_then (settle cmp t v) (wake_within cmp n t))
-          (λ v. and_then (settle cmp t v) (wake_within cmp k t))
+          same (part_then (WaitsAtMost n) (WaitsAtMost k) (start cmp w m) (goes [] small)
+          (λ v. and_then (settle cmp t v) (wake_within cmp n t)) (λ v. and_then (settle cmp t v) (wake_within cmp k t))
           (start_other w m last id is first off) (start_waits n w m first most) few
           (λ u l i part_u r s. settle_and_wake n k t u l i part_u r s ih))
 

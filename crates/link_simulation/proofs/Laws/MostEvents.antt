@@ -348,8 +348,7 @@ module _ {P : Type 0} (cmp : P → P → Ordering) (order : IsTotalOrder cmp) wh
   enqueue_right {now = now} {m = m} {p = p} (at_once free) h = grind arith
   enqueue_right (no_launch limits launch) h = tt
   enqueue_right {m = m} {p = p} (launches {leavers = leavers} {mid = mid} limits launch finishes) h =
-      finish_right finishes
-      (launch_right launch m leavers mid refl refl
+      finish_right finishes (launch_right launch m leavers mid refl refl
       (record { finish = h.finish; none_at_first = λ free. both limits free }))
     where
       both : {A : Type 0} → p.limited ≡ true → p.limited ≡ false → A
@@ -365,8 +364,7 @@ module _ {P : Type 0} (cmp : P → P → Ordering) (order : IsTotalOrder cmp) wh
 
   -- what is planned is right after each call
   pub obeys_right : (p : Planned P) (call : Call P) (c : Course (Completed P) (Planned P)) → IsPlanned cmp p
-      → Obeys cmp p call c → (cs : List (Completed P)) (q : Planned P)
-      → c ≡ goes cs q → IsPlanned cmp q
+      → Obeys cmp p call c → (cs : List (Completed P)) (q : Planned P) → c ≡ goes cs q → IsPlanned cmp q
   unfolding Right
   obeys_right p call c h obeys cs q e = subst Right e (by_call call obeys)
     where

@@ -117,10 +117,8 @@ module _ {P : Type 0} (cmp : P → P → Ordering) (order : IsTotalOrder cmp) (k
       grows own true = grind (arith, last_of, le-leb)
       grows own false = tt
 
-      reached : (b : Bool)
-          → IfSome (if b then Some (if b then later_of (w.last_arrival m.origin m.recipient)
-          (t + m.latency) else t) else None) (NotPast cmp order k (Some
-          (later_of (last cmp order k w)
+      reached : (b : Bool) → IfSome (if b then Some (if b then later_of (w.last_arrival m.origin m.recipient)
+          (t + m.latency) else t) else None) (NotPast cmp order k (Some (later_of (last cmp order k w)
           (if b then later_of (w.last_arrival m.origin m.recipient) (t + m.latency) else t))))
       reached true = grind (arith, reaches_it)
       reached false = tt
@@ -129,8 +127,7 @@ module _ {P : Type 0} (cmp : P → P → Ordering) (order : IsTotalOrder cmp) (k
           (cond b (meets MomentTooLate) (goes (c ∷ []) after))
       by_late true = tt
       by_late false =
-          by_bool (same_pair cmp k m)
-          (λ own.
+          by_bool (same_pair cmp k m) (λ own.
           let list_is = told_more cmp order k cs c own in
           record {
             done = h.done ++ m ∷ [];
@@ -160,8 +157,7 @@ module _ {P : Type 0} (cmp : P → P → Ordering) (order : IsTotalOrder cmp) (k
             in_order = tt;
             alike = alike_too;
             now = h.now;
-          })
-          (λ off.
+          }) (λ off.
           let list_is = told_same cmp order k cs c off in
           record {
             done = h.done;
@@ -202,8 +198,7 @@ module _ {P : Type 0} (cmp : P → P → Ordering) (order : IsTotalOrder cmp) (k
       by_mode false is = at_once_goes messages t cs w m (sound.empty_at_first is).0 (sound.empty_at_first is).1 h
 
   each_goes : (ms messages : List (Message P)) (t : ℕ) (cs : List (Completed P)) (w : World P) → IsSound cmp w
-      → IsHistory cmp order k messages t cs w
-      → GoesByRule cmp order k (messages ++ ms) t cs (enqueue_each cmp t w ms)
+      → IsHistory cmp order k messages t cs w → GoesByRule cmp order k (messages ++ ms) t cs (enqueue_each cmp t w ms)
   unfolding GoesByRule
   each_goes [] messages t cs w sound h = stays cmp order k (messages ++ []) t cs w (none_more messages t cs w h)
   each_goes (m ∷ ms) messages t cs w sound h =
@@ -213,8 +208,7 @@ module _ {P : Type 0} (cmp : P → P → Ordering) (order : IsTotalOrder cmp) (k
       by_course : (c : Course (Completed P) (World P)) → EndsWith (IsSound cmp) c
           → GoesByRule cmp order k (messages ++ m ∷ []) t cs c
           → ((before : List (Message P)) (s : ℕ) (ds : List (Completed P)) (u : World P) → IsSound cmp u
-          → IsHistory cmp order k before s ds u
-          → GoesByRule cmp order k (before ++ ms) s ds (enqueue_each cmp s u ms))
+          → IsHistory cmp order k before s ds u → GoesByRule cmp order k (before ++ ms) s ds (enqueue_each cmp s u ms))
           → GoesByRule cmp order k (messages ++ m ∷ ms) t cs (and_then c (λ v. enqueue_each cmp t v ms))
       by_course (goes ds u) sound_u g ih =
           subst (λ (ns : List (Message P)). GoesByRule cmp order k ns t cs (preceded ds (enqueue_each cmp t u ms)))
@@ -224,8 +218,7 @@ module _ {P : Type 0} (cmp : P → P → Ordering) (order : IsTotalOrder cmp) (k
       by_course (meets fault) sound_u g ih = tt
 
   act_goes : (messages : List (Message P)) (t : ℕ) (cs : List (Completed P)) (w : World P) (call : Call P)
-      → moment_of call ≡ Some t
-      → IsSound cmp w → IsHistory cmp order k messages t cs w
+      → moment_of call ≡ Some t → IsSound cmp w → IsHistory cmp order k messages t cs w
       → GoesByRule cmp order k (messages ++ added call) t cs (act cmp w call)
   act_goes messages t cs w (call_limit s peer egress ingress) e sound h =
       grind (

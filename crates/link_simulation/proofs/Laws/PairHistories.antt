@@ -135,8 +135,7 @@ module _ {P : Type 0} (cmp : P → P → Ordering) (order : IsTotalOrder cmp) (k
   reaches_it (Some last) at = omega arith
 
   pub told_push : (cs : List (Completed P)) (ds : List (Message P)) (c : Completed P) (m : Message P)
-      → AllZip IsCompletionOf cs ds → IsCompletionOf c m
-      → AllZip IsCompletionOf (cs ++ c ∷ []) (ds ++ m ∷ [])
+      → AllZip IsCompletionOf cs ds → IsCompletionOf c m → AllZip IsCompletionOf (cs ++ c ∷ []) (ds ++ m ∷ [])
   told_push [] [] c m all own = (own, tt)
   told_push [] (d ∷ ds) c m all own = absurd all
   told_push (c ∷ cs) [] d m all own = absurd all
@@ -169,8 +168,7 @@ module _ {P : Type 0} (cmp : P → P → Ordering) (order : IsTotalOrder cmp) (k
       → filter (same_pair cmp k) (without_first (same_pair cmp m) ws) ≡ filter (same_pair cmp k) ws
   waits_without [] m off = refl
   waits_without (x ∷ ws) m off =
-      by_bool (same_pair cmp m x)
-      (λ is. rw is (
+      by_bool (same_pair cmp m x) (λ is. rw is (
       let out : same_pair cmp k x ≡ false = pair_sym cmp order k x ∙ pair_like cmp order m x k is
       ∙ pair_sym cmp order m k ∙ off in rw out refl))
       (λ is. rw is (ap (λ (ms : List (Message P)). cond (same_pair cmp k x) (x ∷ ms) ms) (waits_without ws m off)))
@@ -191,8 +189,7 @@ module _ {P : Type 0} (cmp : P → P → Ordering) (order : IsTotalOrder cmp) (k
       → may_start cmp t w m ≡ true → IsHistory messages t cs w → IsHistory messages t cs (joined w m)
   unfolding joined
   start_history messages t cs w m found may h =
-      by_bool (same_pair cmp k m)
-      (λ own.
+      by_bool (same_pair cmp k m) (λ own.
       let none : flies w ≡ [] = filter_nothing (same_pair cmp k) (flows w) (like_any (flows w) own apart.0) in
       record {
         done = h.done;
@@ -268,12 +265,10 @@ module _ {P : Type 0} (cmp : P → P → Ordering) (order : IsTotalOrder cmp) (k
     land w m = out_of_flight cmp t w m
 
     land_history : (cs : List (Completed P)) (w : World P) (f : Flight P) → find (is_done cmp w) w.sending ≡ Some f
-        → IsHistory messages t cs w
-        → IsHistory messages t (cs ++ completed cmp t f.message ∷ []) (land w f.message)
+        → IsHistory messages t cs w → IsHistory messages t (cs ++ completed cmp t f.message ∷ []) (land w f.message)
     unfolding land
     land_history cs w f found h =
-        by_bool (same_pair cmp k f.message) (λ own. by_flying own h.flying refl h.in_flight h.queue h.in_order)
-        (λ off.
+        by_bool (same_pair cmp k f.message) (λ own. by_flying own h.flying refl h.in_flight h.queue h.in_order) (λ off.
         let c : Completed P = completed cmp t f.message in
         let list_is : told_of_k (cs ++ c ∷ []) ≡ told_of_k cs = told_same cs c off in
         record {
@@ -339,8 +334,7 @@ module _ {P : Type 0} (cmp : P → P → Ordering) (order : IsTotalOrder cmp) (k
                     cc
                 by_test false false is e none ih = ih e none
         by_flying own (Some n) is one queue order_is =
-            let taken : (f.message ≡ n)
-            × (filter (same_pair cmp k)
+            let taken : (f.message ≡ n) × (filter (same_pair cmp k)
             (map (λ (g : Flight P). g.message) (without_first (is_done cmp w) w.sending)) ≡ [])
             = taken_out (same_pair cmp k) (λ (g : Flight P). g.message) (is_done cmp w) f n w.sending found own one in
             let c : Completed P = completed cmp t f.message in
@@ -383,8 +377,7 @@ module _ {P : Type 0} (cmp : P → P → Ordering) (order : IsTotalOrder cmp) (k
         → IsHistory messages t cs w → GoesByRule cs (complete cmp t w f.message)
     unfolding land GoesByRule
     complete_goes cs w f found h =
-        by_bool (is_late cmp t f.message) (λ is. rw is tt)
-        (λ is. rw is (
+        by_bool (is_late cmp t f.message) (λ is. rw is tt) (λ is. rw is (
         goes_preceded cs (completed cmp t f.message ∷ [])
         (start_next cmp t (land w f.message) (first_waiting cmp (land w f.message) f.message))
         (next_goes (cs ++ completed cmp t f.message ∷ []) (land w f.message) f.message

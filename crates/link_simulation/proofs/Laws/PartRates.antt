@@ -77,13 +77,11 @@ kept_load {X} mine uses f (x ∷ xs) all =
 
     by_test : (b : Bool) → mine x ≡ b → (u : Bool) → uses x ≡ u
         → sum_by (λ i. f (suc (stood (map mine xs) i))) (places_from 0 uses (filter mine xs))
-        ≡ sum_by (λ i. f (suc i)) (places_from 0 uses xs)
-        → sum_by (λ i. f (stood (b ∷ map mine xs) i))
+        ≡ sum_by (λ i. f (suc i)) (places_from 0 uses xs) → sum_by (λ i. f (stood (b ∷ map mine xs) i))
         (places_from 0 uses (cond b (x ∷ filter mine xs) (filter mine xs)))
         ≡ sum_by f (cond u (0 ∷ places_from (0 + 1) uses xs) (places_from (0 + 1) uses xs))
     by_test true is true used ih =
-        rw used
-        (omega (
+        rw used (omega (
           arith,
           ih,
           next,
@@ -110,8 +108,7 @@ module _ {P : Type 0} (cmp : P → P → Ordering) (caps : Caps P) where
       ≡ rates_from cmp caps (λ i. f (stood (map mine ms) i)) 0 (filter mine ms)
   kept_rates mine f [] = refl
   kept_rates mine f (m ∷ ms) =
-      by_bool (mine m)
-      (λ is. rw is (
+      by_bool (mine m) (λ is. rw is (
       ap (λ (rs : Parts). (if is_unlimited cmp caps m then None else Some (f 0)) ∷ rs)
       (ap (flagged (map mine ms)) next ∙ (kept_rates mine (λ i. f (suc i)) ms) ∙ later)))
       (λ is. rw is (ap (flagged (map mine ms)) next ∙ (kept_rates mine (λ i. f (suc i)) ms)))
@@ -224,8 +221,7 @@ module _ {P : Type 0} (cmp : P → P → Ordering) (caps : Caps P) where
               full = same_load k m c has own_m ∙ filled;
               greatest =
                   All-from_contains (λ other. own_parts other ≤ own_parts i)
-                  (places_from 0 (uses_at k m) (filter mine ms))
-                  (λ other has_other. greatest k m other has_other most);
+                  (places_from 0 (uses_at k m) (filter mine ms)) (λ other has_other. greatest k m other has_other most);
             }
           where
             greatest : (k : Kind) (m : Message P) (other : ℕ)
@@ -250,8 +246,7 @@ module _ {P : Type 0} (cmp : P → P → Ordering) (caps : Caps P) where
             let at = passes_here (uses_at k m) (filter mine ms) i
             (in_from_contains (places_from 0 (uses_at k m) (filter mine ms)) i used) in
             let there : slice_get ms (stood (map mine ms) i) ≡ Some at.0 = (stood_at mine ms i at.0 at.1).0 in
-            part_bottleneck i at.0 at.1
-            (fair.held (stood (map mine ms) i) (
+            part_bottleneck i at.0 at.1 (fair.held (stood (map mine ms) i) (
               side_at k ms m c,
               record {
                 listed = to_sides k ms m c has is;
@@ -270,8 +265,7 @@ module _ {P : Type 0} (cmp : P → P → Ordering) (caps : Caps P) where
 
   -- the fair rates of messages that share no side with the others are fair for them alone
   pub fair_part : (mine : Message P → Bool) (ms : List (Message P)) (per : ℕ) (rates : Parts) → SharesNoSide mine ms
-      → AreFair cmp caps ms per rates
-      → AreFair cmp caps (filter mine ms) per (flagged (map mine ms) rates)
+      → AreFair cmp caps ms per rates → AreFair cmp caps (filter mine ms) per (flagged (map mine ms) rates)
   fair_part mine ms per rates apart fair =
       grind (
         arith,

@@ -80,8 +80,7 @@ module _ {P : Type 0} (cmp : P → P → Ordering) (order : IsTotalOrder cmp) wh
   never_down (c ∷ cs) (d ∷ ds) same never = grind (arith, if_more, none_before, (never_down cs ds))
 
   in_order_alike : (k : Message P) (messages : List (Message P)) (cs ds : List (Completed P))
-      → AllZip (SameCompletion cmp) cs ds → IsInPairOrder cmp k messages ds
-      → CompletesInOrder cmp k messages cs
+      → AllZip (SameCompletion cmp) cs ds → IsInPairOrder cmp k messages ds → CompletesInOrder cmp k messages cs
   in_order_alike k messages cs ds same order_of =
       let those = zip-filter (SameCompletion cmp) (completes_pair cmp k) (completes_pair cmp k) (completes_alike k) cs
       ds same in

@@ -117,8 +117,7 @@ module _ {P : Type 0} (cmp : P → P → Ordering) (order : IsTotalOrder cmp) wh
           subst (λ (q : Planned P). PairsAlike cmp q.last_arrival w.last_arrival) (sym account.same) same.last_arrival;
       next_id = ap (λ (q : Planned P). q.next_id) account.same ∙ same.next_id;
       waiting =
-          subst
-          (λ (q : Planned P). (m : Message P)
+          subst (λ (q : Planned P). (m : Message P)
           → AllZip (SameMessage cmp) (filter (same_pair cmp m) q.waiting) (filter (same_pair cmp m) w.waiting))
           (sym account.same) same.waiting;
       pair_order = subst (λ (q : Planned P). AreInPairOrder cmp q.waiting) (sym account.same) same.pair_order;

@@ -98,8 +98,7 @@ module _ {P : Type 0} (cmp : P → P → Ordering) (order : IsTotalOrder cmp) wh
       let there : find (same_pair cmp n) w.waiting ≡ head_of (filter (same_pair cmp m) w.waiting) =
       find_like cmp order m n w.waiting pair ∙ head_found (same_pair cmp m) w.waiting in
       subst (λ (o : Option (Message P)). OptionsAlike (SameMessage cmp) o (find (same_pair cmp n) w.waiting))
-      (sym (head_found (same_pair cmp m) p.waiting))
-      (subst
+      (sym (head_found (same_pair cmp m) p.waiting)) (subst
       (λ (o : Option (Message P)). OptionsAlike (SameMessage cmp) (head_of (filter (same_pair cmp m) p.waiting)) o)
       (sym there)
       (heads_alike (SameMessage cmp) (filter (same_pair cmp m) p.waiting) (filter (same_pair cmp m) w.waiting)
@@ -139,8 +138,7 @@ module _ {P : Type 0} (cmp : P → P → Ordering) (order : IsTotalOrder cmp) wh
             same.pair_order),
         (all_zipped_more (IsSameFlight cmp t) p.sending w.sending (record {
           id = p.next_id;
-          message =
-              x;
+          message = x;
           left = whole (length x.bytes);
           rate = Some (whole 0);
           updated = t;
@@ -203,29 +201,24 @@ module _ {P : Type 0} (cmp : P → P → Ordering) (order : IsTotalOrder cmp) wh
   StartAlike t w y (meets fault) = start cmp w y ≡ meets fault
 
   starts_none : (next : List (Flight P) → World P → Course (Completed P) (World P)) (t : ℕ) (fs : List (Flight P))
-      (w : World P)
-      → launch_then cmp next t fs w None ≡ next (fs ++ []) w
+      (w : World P) → launch_then cmp next t fs w None ≡ next (fs ++ []) w
   unfolding launch_then
   starts_none next t fs w = ap (λ (q : List (Flight P)). next q w) (sym (append-nil fs))
 
   starts_not : (next : List (Flight P) → World P → Course (Completed P) (World P)) (t : ℕ) (fs : List (Flight P))
-      (w : World P) (y : Message P)
-      → may_start cmp t w y ≡ false
+      (w : World P) (y : Message P) → may_start cmp t w y ≡ false
       → launch_then cmp next t fs w (Some y) ≡ next (fs ++ []) w
   unfolding launch_then
   starts_not next t fs w y e = rw e (ap (λ (q : List (Flight P)). next q w) (sym (append-nil fs)))
 
   starts_fault : (next : List (Flight P) → World P → Course (Completed P) (World P)) (t : ℕ) (fs : List (Flight P))
-      (w : World P) (y : Message P)
-      → may_start cmp t w y ≡ true
+      (w : World P) (y : Message P) → may_start cmp t w y ≡ true
       → (nat_le last_moment w.next_id) ≡ true → launch_then cmp next t fs w (Some y) ≡ meets FlowIdsUsedUp
   unfolding launch_then
   starts_fault next t fs w y e f = rw (e, f) refl
 
   starts_so : (next : List (Flight P) → World P → Course (Completed P) (World P)) (t : ℕ) (fs : List (Flight P))
-      (w : World P) (y : Message P)
-      → may_start cmp t w y ≡ true
-      → (nat_le last_moment w.next_id) ≡ false
+      (w : World P) (y : Message P) → may_start cmp t w y ≡ true → (nat_le last_moment w.next_id) ≡ false
       → launch_then cmp next t fs w (Some y) ≡ next (fs ++ joining w y) (started w y)
   unfolding launch_then
   starts_so next t fs w y e f = rw (e, f) (by_bool (is_done cmp w (flight_of y)) (λ is. rw is refl)
@@ -294,8 +287,7 @@ module _ {P : Type 0} (cmp : P → P → Ordering) (order : IsTotalOrder cmp) wh
   launch_alike _ w fs m _ follows none is alike = absurd alike
 
   pub start_alike : {t : ℕ} {p : Planned P} {o : Option (Message P)} {course : Course (Message P) (Planned P)}
-      → Launches cmp t p o course → (w : World P) (y : Message P)
-      → Follows cmp t p w → NoneDone w
+      → Launches cmp t p o course → (w : World P) (y : Message P) → Follows cmp t p w → NoneDone w
       → may_start cmp t w y ≡ true → find (same_pair cmp y) w.waiting ≡ Some y
       → OptionsAlike (SameMessage cmp) o (Some y) → StartAlike t w y course
   start_alike nothing_waits w y follows none may own alike = absurd alike

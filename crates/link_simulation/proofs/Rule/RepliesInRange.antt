@@ -103,8 +103,7 @@ module _ {P : Type 0} (cmp : P → P → Ordering) (order : IsTotalOrder cmp) wh
 
   -- a call in the range leads from the range to the range
   pub obeys_in_range : (p : Planned P) (call : Call P) (c : Course (Completed P) (Planned P)) → IsCallInRange p call
-      → Obeys cmp p call c
-      → (cs : List (Completed P)) × (q : Planned P) × (c ≡ goes cs q) × IsInRange q
+      → Obeys cmp p call c → (cs : List (Completed P)) × (q : Planned P) × (c ≡ goes cs q) × IsInRange q
   obeys_in_range p call c range obeys =
       let most : ℕ = p.next_id + length p.waiting + length (enqueued (call ∷ [])) in
       by_course most range.messages c (obeys_well most range.messages p call c range.call_itself (omega arith)

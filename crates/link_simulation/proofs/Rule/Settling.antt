@@ -45,8 +45,7 @@ module _ {P : Type 0} (cmp : P → P → Ordering) (order : IsTotalOrder cmp) wh
       }
 
   pub raised_alike : (last last' : P → P → Option ℕ) (m n : Message P) (at at' : ℕ) → PairsAlike cmp last last'
-      → SameMessage cmp m n → at ≡ at'
-      → PairsAlike cmp (raised cmp last m at) (raised cmp last' n at')
+      → SameMessage cmp m n → at ≡ at' → PairsAlike cmp (raised cmp last m at) (raised cmp last' n at')
   raised_alike last last' m n at at' same e f p q r s pq rs =
       rw (
         peers_alike cmp order m.origin n.origin p q e.origin pq,
@@ -70,8 +69,7 @@ module _ {P : Type 0} (cmp : P → P → Ordering) (order : IsTotalOrder cmp) wh
   none_of test (x ∷ xs) h = or_from (test x) (list_any test xs) h.0 (none_of test xs h.1)
 
   preceded_alike : (t : ℕ) (c d : Completed P) (x : Course (Completed P) (Planned P))
-      (y : Course (Completed P) (World P))
-      → SameCompletion cmp c d → CourseAlike t x y
+      (y : Course (Completed P) (World P)) → SameCompletion cmp c d → CourseAlike t x y
       → CourseAlike t (preceded (c ∷ []) x) (preceded (d ∷ []) y)
   preceded_alike t c d (goes cs q) (goes ds v) e h = ((e, h.0), h.1)
   preceded_alike t c d (goes cs q) (meets g) e h = absurd h
@@ -101,8 +99,7 @@ module _ {P : Type 0} (cmp : P → P → Ordering) (order : IsTotalOrder cmp) wh
   first_late n t f fs w e = rw e refl
 
   first_lands : (n t : ℕ) (f : Flight P) (fs : List (Flight P)) (w : World P) → is_late cmp t f.message ≡ false
-      → finish_within cmp (suc n) t (f ∷ fs) w
-      ≡ preceded (completed cmp t f.message ∷ [])
+      → finish_within cmp (suc n) t (f ∷ fs) w ≡ preceded (completed cmp t f.message ∷ [])
       (launch_then cmp (finish_within cmp n t) t fs (arrived cmp t w f.message)
       (find (same_pair cmp f.message) w.waiting))
   unfolding finish_within
@@ -133,8 +130,7 @@ module _ {P : Type 0} (cmp : P → P → Ordering) (order : IsTotalOrder cmp) wh
       (meets fault) =
       launch_alike cmp order launch (arrived cmp t w f.message) fs f.message (find (same_pair cmp f.message) w.waiting)
       there none refl (next_alike cmp order t p w m f.message follows.tallies all.0) in
-      subst (λ (c : Course (Completed P) (World P)). CourseAlike t (meets fault) c)
-      (sym
+      subst (λ (c : Course (Completed P) (World P)). CourseAlike t (meets fault) c) (sym
       (first_lands n t f fs w (sym (late_alike t m f.message all.0) ∙ not_late)
       ∙ ap (preceded (completed cmp t f.message ∷ [])) (fails (finish_within cmp n t))))
       refl

@@ -28,8 +28,7 @@ module _ {P : Type 0} (cmp : P → P → Ordering) (order : IsTotalOrder cmp) wh
   -- ---- a round: one pair starts, and what is done then completes
 
   pub round_is : (t : ℕ) (w : World P) (y : Message P) → NoneDone cmp order w
-      → OneForEachPair cmp (flows (joined cmp w y))
-      → settle cmp t (joined cmp w y)
+      → OneForEachPair cmp (flows (joined cmp w y)) → settle cmp t (joined cmp w y)
       ≡ finish_within cmp (length (joined cmp w y).sending + length (joined cmp w y).waiting) t
       (joining cmp order w y) (started cmp order w y)
   round_is t w y none one = grind (arith, settle_is_finish, joined, joining_leaves, started_stays)

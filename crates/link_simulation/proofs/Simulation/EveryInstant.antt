@@ -20,15 +20,13 @@ module _ {P : Type 0} (cmp : P → P → Ordering) (order : IsTotalOrder cmp) wh
 
   module _ (Q : World P → Type 0)
       (starts : (w : World P) (m : Message P) → Q w
-      → Q
-      (record w {
+      → Q (record w {
         sending = w.sending ++ flight_of m ∷ [];
         waiting = without_first (same_pair cmp m) w.waiting;
         next_id = w.next_id + 1;
       }))
       (lands : (w : World P) (m : Message P) (at : ℕ) → Q w
-      → Q
-      (record w {
+      → Q (record w {
         sending = without_first (is_done cmp w) w.sending;
         last_arrival = raised cmp w.last_arrival m at;
       })) where
@@ -59,11 +57,9 @@ module _ {P : Type 0} (cmp : P → P → Ordering) (order : IsTotalOrder cmp) wh
     wake_within_keeps : (n t : ℕ) (w : World P) → Q w → EndsWith Q (wake_within cmp n t w)
     wake_within_keeps zero t w h = h
     wake_within_keeps (suc n) t w h =
-        by_option (least_pair cmp (ready cmp t w)) (λ e. grind (arith, wake_none))
-        (λ m e.
+        by_option (least_pair cmp (ready cmp t w)) (λ e. grind (arith, wake_none)) (λ m e.
         subst (λ (c : Course (Completed P) (World P)). EndsWith Q c) (sym (wake_first cmp order n t w m e))
-        (ends_and_then Q Q (start cmp w m) (λ v. and_then (settle cmp t v) (wake_within cmp n t))
-        (start_keeps w m h)
+        (ends_and_then Q Q (start cmp w m) (λ v. and_then (settle cmp t v) (wake_within cmp n t)) (start_keeps w m h)
         (λ v g. ends_and_then Q Q (settle cmp t v) (wake_within cmp n t) (settle_keeps t v g)
         (λ v g. wake_within_keeps n t v g))))
 
@@ -87,11 +83,9 @@ module _ {P : Type 0} (cmp : P → P → Ordering) (order : IsTotalOrder cmp) wh
   wake_rests : (n t : ℕ) (w : World P) → NoneDone cmp order w → EndsWith (NoneDone cmp order) (wake_within cmp n t w)
   wake_rests zero t w h = h
   wake_rests (suc n) t w h =
-      by_option (least_pair cmp (ready cmp t w)) (λ e. grind (arith, wake_none))
-      (λ m e.
+      by_option (least_pair cmp (ready cmp t w)) (λ e. grind (arith, wake_none)) (λ m e.
       subst (λ (c : Course (Completed P) (World P)). EndsWith (NoneDone cmp order) c)
-      (sym (wake_first cmp order n t w m e))
-      (ends_and_then (λ v. ⊤) (NoneDone cmp order) (start cmp w m)
+      (sym (wake_first cmp order n t w m e)) (ends_and_then (λ v. ⊤) (NoneDone cmp order) (start cmp w m)
       (λ v. and_then (settle cmp t v) (wake_within cmp n t)) (ends_any (start cmp w m))
       (λ v g. ends_and_then (NoneDone cmp order) (NoneDone cmp order) (settle cmp t v) (wake_within cmp n t)
       (settle_rests cmp order t v) (λ v g. wake_rests n t v g))))

@@ -134,8 +134,7 @@ module _ {P : Type 0} (cmp : P → P → Ordering) (order : IsTotalOrder cmp) wh
       has_rest : Each (HasIn (filter (apart cmp order y) (x ∷ xs))) ms
       has_rest =
           each_map (λ n. HasIn (x ∷ xs) n × (pair_before cmp m n ≡ true)) (HasIn (filter (apart cmp order y) (x ∷ xs)))
-          ms (λ n k. stays n k.0 k.1)
-          (each_both (HasIn (x ∷ xs)) (λ n. pair_before cmp m n ≡ true) ms has.1 sorted.0)
+          ms (λ n k. stays n k.0 k.1) (each_both (HasIn (x ∷ xs)) (λ n. pair_before cmp m n ≡ true) ms has.1 sorted.0)
         where
           each_both : (Q R : Message P → Type 0) (ns : List (Message P)) → Each Q ns → Each R ns
               → Each (λ n. Q n × R n) ns
@@ -158,10 +157,8 @@ module _ {P : Type 0} (cmp : P → P → Ordering) (order : IsTotalOrder cmp) wh
       → Q x → Somewhere Q (fronts cmp ws)
   in_fronts Q x [] e q = cc
   in_fronts Q x (z ∷ ws) e q =
-      by_bool (same_pair cmp x z) (λ is. let same : x ≡ z = cc in inl (subst Q same q))
-      (λ is.
-      inr
-      (some_filtered Q (λ n. not (same_pair cmp z n)) (fronts cmp ws)
+      by_bool (same_pair cmp x z) (λ is. let same : x ≡ z = cc in inl (subst Q same q)) (λ is.
+      inr (some_filtered Q (λ n. not (same_pair cmp z n)) (fronts cmp ws)
       ((in_fronts (λ n. Q n × (not (same_pair cmp z n) ≡ true)) x ws) (rw is at e)
       (q, not_from_false (same_pair cmp z x) (pair_sym cmp order z x ∙ is)))))
 

@@ -48,8 +48,7 @@ module _ {P : Type 0} (cmp : P → P → Ordering) (order : IsTotalOrder cmp) wh
       let f = first_step p (suc k) refl in
       passes_through rest k x u
       (subst (λ (y : World P). Passes cmp (suc k) y x) (one_world cmp (same_itself cmp order) w f.0 v pos f.1 here)
-      f.3)
-      (omega arith) (drains_positive w v here pos) d
+      f.3) (omega arith) (drains_positive w v here pos) d
 
   -- an event stops what would pass it
   not_passed : (w : World P) (n k : ℕ) (v u x : World P) → ArePositive w.sending → Passes cmp n w v → Drains cmp v u

@@ -129,18 +129,14 @@ module _ {P : Type 0} (cmp : P → P → Ordering) (order : IsTotalOrder cmp) (y
       by_next : (o : Option (Message P)) → find (same_pair cmp y) w.waiting ≡ o
           → ((gs : List (Flight P)) (v : World P) → Each (λ g. same_pair cmp y g.message ≡ true) gs
           → length gs + length v.waiting ≤ n → (gs ≡ [] → IsRested t v)
-          → EndsWith (IsAfter t v) (finish_within cmp n t gs v))
-          → EndsWith (IsAfter t (arrived cmp t w f.message))
+          → EndsWith (IsAfter t v) (finish_within cmp n t gs v)) → EndsWith (IsAfter t (arrived cmp t w f.message))
           (launch_then cmp (finish_within cmp n t) t fs (arrived cmp t w f.message) o)
       by_next None is ih = ih fs (arrived cmp t w f.message) own.1 (omega arith) (λ e x found. cc)
       by_next (Some x) is ih =
-          by_bool (may_start cmp t (arrived cmp t w f.message) x)
-          (λ e. rw e (
+          by_bool (may_start cmp t (arrived cmp t w f.message) x) (λ e. rw e (
           ends_cond (IsAfter t (arrived cmp t w f.message)) (nat_le last_moment w.next_id) (meets FlowIdsUsedUp) _
-          tt (by_done (is_done cmp (arrived cmp t w f.message) (flight_of x)) fewer)))
-          (λ e. rw e (
-          ih fs (arrived cmp t w f.message) own.1 (omega arith)
-          (λ k z found. let same : x ≡ z = cc in
+          tt (by_done (is_done cmp (arrived cmp t w f.message) (flight_of x)) fewer))) (λ e. rw e (
+          ih fs (arrived cmp t w f.message) own.1 (omega arith) (λ k z found. let same : x ≡ z = cc in
           subst (λ (m : Message P). may_start cmp t (arrived cmp t w f.message) m ≡ false) same e)))
         where
           pair : same_pair cmp y x ≡ true
@@ -150,8 +146,7 @@ module _ {P : Type 0} (cmp : P → P → Ordering) (order : IsTotalOrder cmp) (y
           fewer = length_without (same_pair cmp x) x w.waiting (find_like cmp order y x w.waiting pair ∙ is)
 
           by_done : (b : Bool) → length (without_first (same_pair cmp x) w.waiting) + 1 ≡ length w.waiting
-              → EndsWith (IsAfter t (arrived cmp t w f.message))
-              (cond b
+              → EndsWith (IsAfter t (arrived cmp t w f.message)) (cond b
               (finish_within cmp n t (fs ++ flight_of x ∷ []) (out_of_waiting cmp (arrived cmp t w f.message) x))
               (finish_within cmp n t fs (joined cmp (arrived cmp t w f.message) x)))
           by_done true less =
@@ -184,13 +179,11 @@ module _ {P : Type 0} (cmp : P → P → Ordering) (order : IsTotalOrder cmp) (y
       (fronts cmp v.waiting) (λ m front. own_rested m front.0 front.1) (fronts_first cmp order v.waiting))
       ∙ ap (filter (may_start cmp t v)) after.0.others
       ∙ filter_where (may_start cmp t v) (may_start cmp t w) apart (fronts cmp w.waiting)
-      (λ m off. may_others t w v m after.0 off)
-      ∙ filter_swap (may_start cmp t w) apart (fronts cmp w.waiting)
+      (λ m off. may_others t w v m after.0 off) ∙ filter_swap (may_start cmp t w) apart (fronts cmp w.waiting)
     where
       own_rested : (m : Message P) (rest : List (Message P)) → filter (same_pair cmp m) v.waiting ≡ m ∷ rest
           → apart m ≡ false → may_start cmp t v m ≡ false
       own_rested m rest front own =
           let pair : same_pair cmp y m ≡ true = not-false (same_pair cmp y m) own in
-          after.1 m
-          (sym (find_like cmp order y m v.waiting pair)
+          after.1 m (sym (find_like cmp order y m v.waiting pair)
           ∙ first_found cmp order (same_pair cmp m) m rest v.waiting front)

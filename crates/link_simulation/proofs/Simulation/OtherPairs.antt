@@ -115,9 +115,7 @@ module _ {P : Type 0} (cmp : P → P → Ordering) (order : IsTotalOrder cmp) wh
   pub idle_alike : (m x : Message P) (w v : World P) → IsButFor cmp m w v → same_pair cmp m x ≡ false
       → is_idle cmp v x ≡ is_idle cmp w x
   idle_alike m x w v a h = ap not (
-      any_flows (same_pair cmp x) v
-      ∙ sym
-      (any-filter_same (λ (f : Flight P). same_pair cmp x f.message)
+      any_flows (same_pair cmp x) v ∙ sym (any-filter_same (λ (f : Flight P). same_pair cmp x f.message)
       (λ (f : Flight P). not (same_pair cmp m f.message)) true (λ f e. pair_other m f.message x h e) v.sending)
       ∙ ap (list_any (λ (f : Flight P). same_pair cmp x f.message)) a.sending
       ∙ any-filter_same (λ (f : Flight P). same_pair cmp x f.message)
@@ -202,8 +200,7 @@ module _ {P : Type 0} (cmp : P → P → Ordering) (order : IsTotalOrder cmp) wh
       → find (same_pair cmp m) w.waiting ≡ o → EndsWith (Leaves t m w) (start_next cmp t w o)
   next_leaves t w m None e = record { others = but_for_none m w; rests = λ x is. cc }
   next_leaves t w m (Some x) e =
-      by_bool (may_start cmp t w x)
-      (λ is. rw is (
+      by_bool (may_start cmp t w x) (λ is. rw is (
       ends_more (Leaves t x w) (Leaves t m w) (start cmp w x)
       (λ u l. leaves_like t m x w w u same (but_for_none m w) l) (start_leaves t w x)))
       (λ is. rw is (grind (arith, but_for_none)))
@@ -254,11 +251,9 @@ module _ {P : Type 0} (cmp : P → P → Ordering) (order : IsTotalOrder cmp) wh
       → Leaves t m w v → EndsWith (Leaves t m w) (settle_within cmp n t v)
   settle_within_leaves zero t m w v quiet l = l
   settle_within_leaves (suc n) t m w v quiet l =
-      by_option (find (is_done cmp v) v.sending) (λ e. grind (arith, settle_none))
-      (λ f e.
+      by_option (find (is_done cmp v) v.sending) (λ e. grind (arith, settle_none)) (λ f e.
       let same : same_pair cmp m f.message ≡ true = done_of_pair m w v f l.others quiet e in
-      subst (λ (c : Course (Completed P) (World P)). EndsWith (Leaves t m w) c)
-      (sym (settle_first cmp order n t v f e))
+      subst (λ (c : Course (Completed P) (World P)). EndsWith (Leaves t m w) c) (sym (settle_first cmp order n t v f e))
       (ends_and_then (Leaves t m w) (Leaves t m w) (complete cmp t v f.message) (settle_within cmp n t)
       (ends_more (Leaves t f.message v) (Leaves t m w) (complete cmp t v f.message)
       (λ u k. leaves_like t m f.message w v u same l.others k) (complete_leaves t v f e))

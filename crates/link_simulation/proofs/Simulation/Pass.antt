@@ -63,8 +63,7 @@ module _ {P : Type 0} (cmp : P → P → Ordering) (order : IsTotalOrder cmp) wh
   -- what a property of worlds needs to outlast settling
   pub settle_keeps : (Q : World P → Type 0) (t : ℕ)
       → ((w : World P) (f : Flight P) → find (is_done cmp w) w.sending ≡ Some f → Q w
-      → EndsWith Q (complete cmp t w f.message))
-      → (n : ℕ) (w : World P) → Q w → EndsWith Q (settle_within cmp n t w)
+      → EndsWith Q (complete cmp t w f.message)) → (n : ℕ) (w : World P) → Q w → EndsWith Q (settle_within cmp n t w)
   settle_keeps Q t step zero w h = h
   settle_keeps Q t step (suc n) w h =
       search (rules, settle_none, settle_first, ends_and_then, (settle_keeps Q t step n))
@@ -111,15 +110,12 @@ module _ {P : Type 0} (cmp : P → P → Ordering) (order : IsTotalOrder cmp) wh
       → EndsWith (NothingLeft t) (wake_within cmp n t w)
   wake_within_ends zero t w none h = (none, ready_in_none t w (none_long w.waiting h))
   wake_within_ends (suc n) t w none h =
-      by_option (least_pair cmp (ready cmp t w)) (λ e. grind (arith, least_none, wake_none))
-      (λ m e.
+      by_option (least_pair cmp (ready cmp t w)) (λ e. grind (arith, least_none, wake_none)) (λ m e.
       let found : find (same_pair cmp m) (ready cmp t w) ≡ Some m = (least_is cmp order m (ready cmp t w) e).0 in
       subst (λ (c : Course (Completed P) (World P)). EndsWith (NothingLeft t) c) (sym (wake_first n t w m e))
       (ends_and_then (λ (v : World P). NoneDone cmp order v × WaitAtMost n v) (NothingLeft t) (turn cmp t w m)
-      (wake_within cmp n t)
-      (ends_both (NoneDone cmp order) (WaitAtMost n) (turn cmp t w m) (turn_rests t w m)
-      (turn_waits n t w m m (ready_is_front t w m m found) h))
-      (λ v k. (wake_within_ends n t) v k.0 k.1)))
+      (wake_within cmp n t) (ends_both (NoneDone cmp order) (WaitAtMost n) (turn cmp t w m) (turn_rests t w m)
+      (turn_waits n t w m m (ready_is_front t w m m found) h)) (λ v k. (wake_within_ends n t) v k.0 k.1)))
 
   -- after waking a settled world, nothing is done and nothing may start
   pub wake_ends_quiet : (t : ℕ) (w : World P) → list_any (is_done cmp w) w.sending ≡ false
@@ -134,8 +130,7 @@ module _ {P : Type 0} (cmp : P → P → Ordering) (order : IsTotalOrder cmp) wh
       find_nowhere cmp order (same_pair cmp k) (filter (λ n. not (same_pair cmp m n)) xs)
       (each_more (λ (n : Message P). ⊤ × (not (same_pair cmp m n) ≡ true))
       (λ (n : Message P). same_pair cmp k n ≡ false)
-      (λ n h. pair_like cmp order m k n e ∙ not-true (same_pair cmp m n) h.1)
-      (filter (λ n. not (same_pair cmp m n)) xs)
+      (λ n h. pair_like cmp order m k n e ∙ not-true (same_pair cmp m n) h.1) (filter (λ n. not (same_pair cmp m n)) xs)
       (each_filtered (λ (n : Message P). ⊤) (λ n. not (same_pair cmp m n)) xs
       (each_of (λ (n : Message P). ⊤) (λ n. tt) xs)))
 
@@ -147,8 +142,7 @@ module _ {P : Type 0} (cmp : P → P → Ordering) (order : IsTotalOrder cmp) wh
   alike_without : (m : Message P) (ms rs : List (Message P)) → IsByPair cmp (m ∷ ms) → FindsAlike (m ∷ ms) rs
       → FindsAlike ms (filter (λ n. not (same_pair cmp m n)) rs)
   alike_without m ms rs h same k =
-      by_bool (same_pair cmp m k)
-      (λ e.
+      by_bool (same_pair cmp m k) (λ e.
       find_nowhere cmp order (same_pair cmp k) ms (each_more (λ (n : Message P). pair_before cmp m n ≡ true)
       (λ (n : Message P). same_pair cmp k n ≡ false)
       (λ n b. pair_like cmp order m k n e ∙ apart_if_before cmp order m n b) ms (as_each cmp order m ms h.0))
@@ -184,8 +178,7 @@ module _ {P : Type 0} (cmp : P → P → Ordering) (order : IsTotalOrder cmp) wh
 
   -- going once through any list, in the order of pairs, of those that are ready
   pub wake_within_is_pass : (n t : ℕ) (ms : List (Message P)) (w : World P) → list_any (is_done cmp w) w.sending ≡ false
-      → WaitAtMost n w → IsByPair cmp ms
-      → FindsAlike ms (ready cmp t w) → wake_within cmp n t w ≡ wake_each cmp t ms w
+      → WaitAtMost n w → IsByPair cmp ms → FindsAlike ms (ready cmp t w) → wake_within cmp n t w ≡ wake_each cmp t ms w
   wake_within_is_pass n t [] w none h by same = wake_none n t w (empty_alike (ready cmp t w) same)
   wake_within_is_pass zero t (m ∷ ms) w none h by same =
       let e : least_pair cmp (ready cmp t w) ≡ Some m = least_first m ms (ready cmp t w) by same in
@@ -194,13 +187,11 @@ module _ {P : Type 0} (cmp : P → P → Ordering) (order : IsTotalOrder cmp) wh
   wake_within_is_pass (suc n) t (m ∷ ms) w none h by same =
       let e : least_pair cmp (ready cmp t w) ≡ Some m = least_first m ms (ready cmp t w) by same in
       let found : find (same_pair cmp m) (ready cmp t w) ≡ Some m = (least_is cmp order m (ready cmp t w) e).0 in
-      wake_first n t w m e
-      ∙ and_then_alike (turn cmp t w m) (wake_within cmp n t) (wake_each cmp t ms)
+      wake_first n t w m e ∙ and_then_alike (turn cmp t w m) (wake_within cmp n t) (wake_each cmp t ms)
       (ends_more cmp order (λ (v : World P). Leaves cmp order t m w v × (NoneDone cmp order v × WaitAtMost n v))
       (λ (v : World P). wake_within cmp n t v ≡ wake_each cmp t ms v) (turn cmp t w m)
       (λ v k. wake_within_is_pass n t ms v (any_from_find (is_done cmp v) v.sending k.1.0) k.1.1 by.1
-      (subst (FindsAlike ms) (sym (ready_without cmp order t m w v k.0))
-      (alike_without m ms (ready cmp t w) by same)))
+      (subst (FindsAlike ms) (sym (ready_without cmp order t m w v k.0)) (alike_without m ms (ready cmp t w) by same)))
       (ends_both (Leaves cmp order t m w) (λ (v : World P). NoneDone cmp order v × WaitAtMost n v) (turn cmp t w m)
       (start_settles cmp order t w m none)
       (ends_both (NoneDone cmp order) (WaitAtMost n) (turn cmp t w m) (turn_rests t w m)

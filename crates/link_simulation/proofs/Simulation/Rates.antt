@@ -61,8 +61,7 @@ module _ {P : Type 0} (cmp : P → P → Ordering) where
       → Match (rates_from cmp caps a place ms) (rates_from cmp caps b place ms) d e
   match_from caps a b d e place [] same i x is = cc
   match_from caps a b d e place (m ∷ ms) same zero x is =
-      by_bool (is_unlimited cmp caps m) (λ h. rw h cc)
-      (λ h. rw h (
+      by_bool (is_unlimited cmp caps m) (λ h. rw h cc) (λ h. rw h (
       let this : a place ≡ x = cc in (
         b place,
         refl,
@@ -98,8 +97,7 @@ module _ {P : Type 0} (cmp : P → P → Ordering) where
       where
         by_caps : (c : Option ℕ) (d : Bool) (k l : Option ℕ) → caps.egress m.origin ≡ c → is_delivered cmp m ≡ d
             → caps.ingress m.recipient ≡ k → caps.link m.origin m.recipient ≡ l
-            → (is_none c && (not d || is_none k) && is_none l) ≡ false
-            → HasSide caps ms i m
+            → (is_none c && (not d || is_none k) && is_none l) ≡ false → HasSide caps ms i m
         by_caps (Some c) d k l out del into between e =
             let side : Side = record { cap = c; users = places_from 0 (by_egress m) ms } in (
               side,

@@ -78,8 +78,7 @@ module _ {P : Type 0} (cmp : P → P → Ordering) (order : IsTotalOrder cmp) wh
   settle_within_rests : (n t : ℕ) (w : World P) → HasAtMost n w → EndsWith NoneDone (settle_within cmp n t w)
   settle_within_rests zero t w h = find_in_none (is_done cmp w) w.sending (omega arith)
   settle_within_rests (suc n) t w h =
-      by_option (find (is_done cmp w) w.sending) (λ e. grind (arith, settle_none))
-      (λ f e.
+      by_option (find (is_done cmp w) w.sending) (λ e. grind (arith, settle_none)) (λ f e.
       subst (λ (c : Course (Completed P) (World P)). EndsWith NoneDone c) (sym (settle_first cmp order n t w f e))
       (ends_and_then (HasAtMost n) NoneDone (complete cmp t w f.message) (settle_within cmp n t)
       (complete_has t n w f e h) (settle_within_rests n t)))

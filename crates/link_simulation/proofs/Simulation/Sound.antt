@@ -75,8 +75,7 @@ module _ {P : Type 0} (cmp : P → P → Ordering) (order : IsTotalOrder cmp) wh
   ready_may_start t w m e =
       (found_in cmp order (λ (n : Message P). ⊤ × (may_start cmp t w n ≡ true)) (same_pair cmp m) m (ready cmp t w)
       (each_filtered (λ (n : Message P). ⊤) (may_start cmp t w) (fronts cmp w.waiting)
-      (each_of (λ (n : Message P). ⊤) (λ n. tt) (fronts cmp w.waiting)))
-      (least_is cmp order m (ready cmp t w) e).0).1
+      (each_of (λ (n : Message P). ⊤) (λ n. tt) (fronts cmp w.waiting))) (least_is cmp order m (ready cmp t w) e).0).1
 
   wake_fit : (t : ℕ) (w : World P) → IsFit w → EndsWith IsFit (wake cmp t w)
   wake_fit t w fit =
@@ -103,10 +102,8 @@ module _ {P : Type 0} (cmp : P → P → Ordering) (order : IsTotalOrder cmp) wh
   enqueue_fit t w m fit =
       ends_cond IsFit w.limited _ _
       (ends_and_then IsFit IsFit (start_next cmp t (queued cmp order w m) (first_waiting cmp (queued cmp order w m) m))
-      (settle cmp t)
-      (next_fit t (queued cmp order w m) (first_waiting cmp (queued cmp order w m) m)
-      (record { positive = fit.positive; one_each = fit.one_each }))
-      (λ v k. settle_fit t v k))
+      (settle cmp t) (next_fit t (queued cmp order w m) (first_waiting cmp (queued cmp order w m) m)
+      (record { positive = fit.positive; one_each = fit.one_each })) (λ v k. settle_fit t v k))
       (ends_cond IsFit (m.should_deliver && nat_lt last_moment (t + m.latency)) (meets MomentTooLate) _ tt
       (record { positive = fit.positive; one_each = fit.one_each }))
 
@@ -138,11 +135,9 @@ module _ {P : Type 0} (cmp : P → P → Ordering) (order : IsTotalOrder cmp) wh
 
   instant_empty : (w : World P) → IsEmptyAtFirst w → EndsWith IsEmptyAtFirst (instant cmp w)
   instant_empty w h =
-      by_bool w.limited
-      (λ e.
+      by_bool w.limited (λ e.
       ends_more cmp order IsLimited IsEmptyAtFirst (instant cmp w) empty_if_limited
-      (instant_outlasts cmp order IsLimited limited_kept w e))
-      (λ e. grind (arith, instant_of_quiet, empty_is_quiet))
+      (instant_outlasts cmp order IsLimited limited_kept w e)) (λ e. grind (arith, instant_of_quiet, empty_is_quiet))
 
   drains_empty : (w v : World P) → Drains cmp w v → IsEmptyAtFirst w → IsEmptyAtFirst v
   drains_empty w v d h = grind arith
@@ -160,8 +155,7 @@ module _ {P : Type 0} (cmp : P → P → Ordering) (order : IsTotalOrder cmp) wh
       ends_more cmp order IsLimited IsEmptyAtFirst (settle cmp t changed) empty_if_limited
       (settle_outlasts cmp order IsLimited limited_kept t changed refl)
 
-  enqueue_empty : (t : ℕ) (w : World P) (m : Message P) → IsEmptyAtFirst w
-      → EndsWith IsEmptyAtFirst (enqueue cmp t w m)
+  enqueue_empty : (t : ℕ) (w : World P) (m : Message P) → IsEmptyAtFirst w → EndsWith IsEmptyAtFirst (enqueue cmp t w m)
   enqueue_empty t w m h = by_limited w.limited refl
     where
       course : Course (Completed P) (World P)
@@ -250,8 +244,7 @@ module _ {P : Type 0} (cmp : P → P → Ordering) (order : IsTotalOrder cmp) wh
       → EndsWith (IsPeerwise) c
   ticks_peerwise no_tick h = h
   ticks_peerwise (one_tick {w = w} {v = v} {u = u} {cs = cs} {rest = rest} d i t) h =
-      ends_preceded (IsPeerwise) cs rest
-      (ticks_peerwise t
+      ends_preceded (IsPeerwise) cs rest (ticks_peerwise t
       (ends_at cmp order (IsPeerwise) (instant cmp v) cs u i (instant_peerwise v (drains_peerwise w v d h))))
   ticks_peerwise (tick_faults d i) h = tt
 
@@ -278,12 +271,10 @@ module _ {P : Type 0} (cmp : P → P → Ordering) (order : IsTotalOrder cmp) wh
   enqueue_peerwise : (t : ℕ) (w : World P) (m : Message P) → IsPeerwise w → EndsWith IsPeerwise (enqueue cmp t w m)
   enqueue_peerwise t w m h =
       let at : ℕ = if m.should_deliver then later_of (w.last_arrival m.origin m.recipient) (t + m.latency) else t in
-      ends_cond (IsPeerwise) w.limited _ _
-      (ends_and_then (IsPeerwise) (IsPeerwise)
+      ends_cond (IsPeerwise) w.limited _ _ (ends_and_then (IsPeerwise) (IsPeerwise)
       (start_next cmp t (queued cmp order w m) (first_waiting cmp (queued cmp order w m) m)) (settle cmp t)
       (next_peerwise t (queued cmp order w m) (first_waiting cmp (queued cmp order w m) m)
-      (record { caps = h.caps; last_arrival = h.last_arrival }))
-      (λ v k. settle_peerwise t v k))
+      (record { caps = h.caps; last_arrival = h.last_arrival })) (λ v k. settle_peerwise t v k))
       (ends_cond (IsPeerwise) (m.should_deliver && nat_lt last_moment (t + m.latency)) (meets MomentTooLate) _ tt
       (landed_peerwise w w.sending m at h))
 

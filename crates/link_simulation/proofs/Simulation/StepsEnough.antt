@@ -16,8 +16,7 @@ module _ {P : Type 0} (cmp : P → P → Ordering) (order : IsTotalOrder cmp) wh
       settle_nothing cmp order (suc n) t w (find_in_none (is_done cmp w) w.sending (omega arith))
   settle_enough (suc n) (suc m) t w h k =
       by_option (find (is_done cmp w) w.sending)
-      (λ e. settle_nothing cmp order (suc n) t w e ∙ sym (settle_nothing cmp order (suc m) t w e))
-      (λ f e.
+      (λ e. settle_nothing cmp order (suc n) t w e ∙ sym (settle_nothing cmp order (suc m) t w e)) (λ f e.
       settle_first cmp order n t w f e
       ∙ and_then_alike (complete cmp t w f.message) (settle_within cmp n t) (settle_within cmp m t)
       (ends_more cmp order (λ (v : World P). HasAtMost cmp order n v × HasAtMost cmp order m v)
