@@ -121,8 +121,7 @@ module _ {P : Type 0} (cmp : P → P → Ordering) (order : IsTotalOrder cmp) (p
   pub in_turn : (n : ℕ) (w : World P) (now : ℕ) → IsSound cmp w → before_next n w now ≡ true → (w.moment ≤ now)
       × IsBeforeNext cmp now w
   in_turn n w now sound e =
-      let two = and_parts (nat_le w.moment now && may_seek cmp order plan n w) (is_later (seek cmp order plan n w) now)
-      e in
+      let two = and_parts _ _ e in
       let one = and_parts (nat_le w.moment now) (may_seek cmp order plan n w) two.0 in
       grind (arith, next_is_one, is_later, ltb-true, (leb-true w.moment now one.0), (next_so cmp order plan n w one.1))
 
@@ -176,8 +175,7 @@ module _ {P : Type 0} (cmp : P → P → Ordering) (order : IsTotalOrder cmp) (p
   not_refused n w call calls now OutOfMemory replies ih sound at e (may, rest) = ih w sound e rest
   not_refused n w call calls now NumberTooLarge replies ih sound at e (may, rest) = may
   not_refused n w call calls now why replies ih sound at e (may, rest) =
-      either_too (is_none_such w call now why) (differ n w calls replies) e
-      (λ none. met w call now why sound at none may refl) (λ d. ih w sound d rest)
+      either_too _ _ e (λ none. met w call now why sound at none may refl) (λ d. ih w sound d rest)
 
   -- such replies do not agree
   pub disagree : (n : ℕ) (calls : List (Call P)) (replies : List (Reply P)) → Disagrees n calls replies
@@ -190,13 +188,11 @@ module _ {P : Type 0} (cmp : P → P → Ordering) (order : IsTotalOrder cmp) (p
       = grind (arith, and_parts, same_moment) in
       let same : seek cmp order plan n w ≡ t =
       next_is_one cmp order w (seek cmp order plan n w) t sound.positive (next_so cmp order plan n w two.0) agrees.0 in
-      either (same_moment (seek cmp order plan n w) t) (differ n w calls replies) two.1
-      (moment_shown (seek cmp order plan n w) t same) (λ d. disagree n calls replies w sound d agrees.1)
+      either _ _ two.1 (moment_shown _ t same) (λ d. disagree n calls replies w sound d agrees.1)
   disagree n (call_next ∷ calls) (reply_done cs ∷ replies) w sound e agrees = agrees
   disagree n (call_next ∷ calls) (reply_refused why ∷ replies) w sound e agrees = agrees
   disagree n (call_advance now ∷ calls) (reply_done cs ∷ replies) w sound e agrees =
-      let two = and_parts (nat_le w.moment now)
-      (differ_at w (call_advance now) now (reply_done cs) (λ v. differ n v calls replies)) e in
+      let two = and_parts _ _ e in
       not_done n w (call_advance now) calls now cs replies (disagree n calls replies) sound refl two.1
       (agrees (leb-true w.moment now two.0))
   disagree n (call_advance now ∷ calls) (reply_refused why ∷ replies) w sound e agrees =

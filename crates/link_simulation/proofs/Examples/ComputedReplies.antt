@@ -194,11 +194,10 @@ module _ {P : Type 0} (cmp : P → P → Ordering) (order : IsTotalOrder cmp) (p
   next_so (suc n) w e =
       let two = and_parts (is_planned w)
       (cond (is_quiet (drifts w)) (may_seek n (drifts w)) (nat_le (drifts w).moment last_moment)) e in
-      by_bool (is_quiet (drifts w))
-      (λ is. rw is (step_next w (drifts w) (seek n (drifts w)) (drains w two.0) (quiet_if_so (drifts w) is)
-      ((next_so n) (drifts w) (rw is at two.1))))
-      (λ is. rw is (comes_next no_time (drains w two.0) (loud_if_not (drifts w) is)
-      (leb-true (drifts w).moment last_moment (rw is at two.1))))
+      by_bool (is_quiet (drifts w)) (λ is. rw is (step_next w (drifts w) (seek n (drifts w)) (drains w two.0)
+      (quiet_if_so _ is) ((next_so n) (drifts w) (rw is at two.1)))) (λ is. rw is
+      (comes_next no_time (drains w two.0) (loud_if_not _ is) (leb-true (drifts w).moment last_moment
+      (rw is at two.1))))
 
   -- ---- replies
 
@@ -318,18 +317,14 @@ module _ {P : Type 0} (cmp : P → P → Ordering) (order : IsTotalOrder cmp) (p
         (reply_agrees n calls (answers_agree n calls) w (call_limit now peer egress ingress) now refl e),
       )
   answers_agree n (call_limit_link now origin recipient cap ∷ calls) w e =
-      link_agrees w now origin recipient cap calls
-      (replied (course_of w (call_limit_link now origin recipient cap) now) w (λ v. answers n v calls))
-      (reply_agrees n calls (answers_agree n calls) w (call_limit_link now origin recipient cap) now refl e)
+      link_agrees w now origin recipient cap calls _ (reply_agrees n calls (answers_agree n calls) w
+      (call_limit_link now origin recipient cap) now refl e)
   answers_agree n (call_enqueue now m ∷ calls) w e =
-      enqueue_agrees w now m calls (replied (course_of w (call_enqueue now m) now) w (λ v. answers n v calls))
-      (reply_agrees n calls (answers_agree n calls) w (call_enqueue now m) now refl e)
+      enqueue_agrees w now m calls _ (reply_agrees n calls (answers_agree n calls) w (call_enqueue now m) now refl e)
   answers_agree n (call_enqueue_all now ms ∷ calls) w e =
-      all_agree w now ms calls (replied (course_of w (call_enqueue_all now ms) now) w (λ v. answers n v calls))
-      (reply_agrees n calls (answers_agree n calls) w (call_enqueue_all now ms) now refl e)
+      all_agree w now ms calls _ (reply_agrees n calls (answers_agree n calls) w (call_enqueue_all now ms) now refl e)
   answers_agree n (call_advance now ∷ calls) w e =
-      advance_agrees w now calls (replied (course_of w (call_advance now) now) w (λ v. answers n v calls))
-      (reply_agrees n calls (answers_agree n calls) w (call_advance now) now refl e)
+      advance_agrees w now calls _ (reply_agrees n calls (answers_agree n calls) w (call_advance now) now refl e)
   answers_agree n (call_next ∷ calls) w e = grind (arith, and_parts, next_so, (answers_agree n calls w))
 
   -- a list of replies that these are

@@ -43,8 +43,7 @@ module _ {P : Type 0} (cmp : P → P → Ordering) (order : IsTotalOrder cmp) (p
           ≡ Some c
           → Rebalances cmp now caps p c
       by_sending [] is e =
-          let found = bound (look cmp order plan hint n now (record p { caps = caps; limited = true })) (λ q. Some
-          (goes [] q)) c e in
+          let found = bound _ (λ q. Some _) c e in
           subst (Rebalances cmp now caps p) (the_same found.2)
           (none_sending is (look_so cmp order plan hint n now (record p {
             caps = caps;
@@ -90,8 +89,7 @@ module _ {P : Type 0} (cmp : P → P → Ordering) (order : IsTotalOrder cmp) (p
       → each_at now ms p ≡ Some c → EnqueuesEach cmp now ms p c
   each_at_so now [] p c e = subst (EnqueuesEach cmp now [] p) (the_same e) all_enqueued
   each_at_so now (m ∷ ms) p c e =
-      let found = bound (enqueue_at now m p)
-      (λ d. followed d (λ cs q. bind (each_at now ms q) (λ rest. Some (preceded cs rest)))) c e in
+      let found = bound _ (λ d. followed d (λ cs q. bind _ (λ rest. Some _))) c e in
       by_course found.0 (enqueue_at_so now m p found.0 found.1) found.2 (each_at_so now ms)
     where
       by_course : (d : Course (Completed P) (Planned P)) → Enqueues cmp now m p d
@@ -190,8 +188,7 @@ module _ {P : Type 0} (cmp : P → P → Ordering) (order : IsTotalOrder cmp) (p
           → AreAdvanced now k → Advanced now p c
       by_past t true is past e ih = grind (arith, no_more, ltb-true, wake_each_so)
       by_past t false is past e ih =
-          let found = bound (event_of p (Some t))
-          (λ d. followed d (λ cs q. bind (advance_at now k q) (λ rest. Some (preceded cs rest)))) c e in
+          let found = bound _ (λ d. followed d (λ cs q. bind _ (λ rest. Some _))) c e in
           at_event t (is_moment t p.finish) found.0 is (ltb-false now t past) refl found.1 found.2 ih
 
   abbrev pub obeys_at : Planned P → Call P → Option (Course (Completed P) (Planned P))

@@ -175,8 +175,7 @@ module _ {P : Type 0} (cmp : P → P → Ordering) (order : IsTotalOrder cmp) (p
       spent_before lt all =
           let positive = positive_at sending some.0 some.1 all some.2 in
           let updated : some.1.updated ≤ s = some.3 in
-          let on = spent_later some.1.rate (s - some.1.updated) (from - 1 - some.1.updated) some.1.left positive.1
-          positive.0 (omega arith) some.4 in
+          let on = spent_later some.1.rate _ _ some.1.left positive.1 positive.0 (omega arith) some.4 in
           so_if_spent (from - 1) sending some.0 some.1 some.2 (omega arith) on
 
       not_both : (b : Bool) → b ≡ true → not b ≡ true → ⊥
@@ -226,8 +225,7 @@ module _ {P : Type 0} (cmp : P → P → Ordering) (order : IsTotalOrder cmp) (p
         finish = o;
       })) q two.1 in
       let from : ℕ = hint t (rated_messages sending) in
-      let skip = given_so (may_skip t from sending)
-      (sought (is_none_of sending) (λ s. list_any (is_spent_at s) sending) n from) found.0 found.1 in
+      let skip = given_so _ _ found.0 found.1 in
       let starts_at : (s : ℕ) → SomeSpentAt sending s → t ≤ s = grind (arith, updated_at) in
       let same : record p { sending = sending; accounted = t; finish = found.0 } ≡ q = the_same found.2 in
       subst (Accounts cmp t p (leavers_of t p)) same record {
@@ -238,9 +236,8 @@ module _ {P : Type 0} (cmp : P → P → Ordering) (order : IsTotalOrder cmp) (p
         fair = grind (arith, fair_if_so);
         rated = rated_so p.caps shares t 0 (staying t p);
         finish =
-            sought_so (SomeSpentAt sending) (λ s. list_any (is_spent_at s) sending) (λ s h. spent_if_so s sending h)
-            (λ s h. so_if_spent s sending h.0 h.1 h.2 h.3 h.4) (is_none_of sending) n from found.0
-            (λ h s some. no_flight sending s h some)
+            sought_so _ (λ s. list_any _ sending) (λ s h. spent_if_so s sending h)
+            (λ s h. so_if_spent s sending h.0 h.1 h.2 h.3 h.4) _ n from found.0 (λ h s some. no_flight sending s h some)
             (λ s some. skip_so t from sending skip.0 s some (starts_at s some)) skip.1;
         same = refl;
       }
@@ -347,8 +344,7 @@ module _ {P : Type 0} (cmp : P → P → Ordering) (order : IsTotalOrder cmp) (p
       (λ more q. bind (finish_all t k (ms ++ more) q) (λ rest. Some (preceded (completed cmp t m ∷ []) rest)))) c
       (rw is at e)
       in
-      by_launch found.0 is (launch_so t (landed cmp t p m) (next_of cmp p m) found.0 found.1) found.2
-      (finish_all_so t k))
+      by_launch found.0 is (launch_so t _ _ found.0 found.1) found.2 (finish_all_so t k))
     where
       by_launch : (l : Course (Message P) (Planned P)) → is_late cmp t m ≡ false
           → Launches cmp t (landed cmp t p m) (next_of cmp p m) l
@@ -394,8 +390,7 @@ module _ {P : Type 0} (cmp : P → P → Ordering) (order : IsTotalOrder cmp) (p
           → AreWakes t ms → WakesEach cmp t (m ∷ ms) p c
       by_launch (meets fault) l e ih = subst (WakesEach cmp t (m ∷ ms) p) (the_same e) (no_start l)
       by_launch (goes more q) l e ih =
-          let found = bound (finish_all t n more q)
-          (λ d. followed d (λ cs r. bind (wake_each t ms r) (λ rest. Some (preceded cs rest)))) c e in
+          let found = bound _ (λ d. followed d (λ cs r. bind _ (λ rest. Some _))) c e in
           by_finish more q found.0 l (finish_all_so t n more q found.0 found.1) found.2 ih
 
   abbrev pub wake_at : ℕ → Planned P → Option (Course (Completed P) (Planned P))

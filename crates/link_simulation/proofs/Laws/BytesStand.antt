@@ -102,7 +102,6 @@ pub sending_takes : {P : Type 0} (cmp : P → P → Ordering) (p q : Planned P) 
     → bytes_from cmp origin w ≡ whole bytes → bytes_from cmp origin v ≡ whole 0
     → bytes * 1_000_000_000 ≤ cap * (now - w.moment)
 sending_takes cmp p q w v origin bytes cap now keeps stands_p stands_q after at is before left =
-    in_numbers bytes cap (now - w.moment)
-    (subst (λ (a : Amount). IsAtMost a (plus (whole 0) (allowance cap (now - w.moment)))) before
+    in_numbers bytes cap _ (subst (λ (a : Amount). IsAtMost a (plus (whole 0) (allowance cap (now - w.moment)))) before
     (subst (λ (a : Amount). IsAtMost (bytes_from cmp origin w) (plus a (allowance cap (now - w.moment)))) left
     (keeps w v origin cap stands_p stands_q after at is)))

@@ -54,14 +54,12 @@ module _ {P : Type 0} (cmp : P → P → Ordering) (order : IsTotalOrder cmp) wh
   account_holds t old new leavers a one k =
       let split = ap (λ (ms : List (Message P)). of_pair cmp k ms ++ of_pair cmp k (rated_messages new.sending)) a.left
       ∙ ap (λ (ms : List (Message P)). of_pair cmp k (rated_messages (filter (is_spent cmp old.caps) all)) ++ of_pair
-      cmp k ms)
-      (stayed_messages t (filter (λ (f : RatedFlight P). not (is_spent cmp old.caps f)) all) new.sending a.stayed) ∙
-      one_split k (is_spent cmp old.caps) all (subst (OneForEachPair cmp) (sym (drained_messages t old.sending)) one) ∙
-      ap (of_pair cmp k) (drained_messages t old.sending) in
-      sym
-      (append_assoc (of_pair cmp k leavers) (of_pair cmp k (rated_messages new.sending)) (of_pair cmp k new.waiting))
-      ∙ ap (λ (ms : List (Message P)). ms ++ of_pair cmp k new.waiting) split
-      ∙ ap (λ (q : Planned P). of_pair cmp k (rated_messages old.sending) ++ of_pair cmp k q.waiting) a.same
+      cmp k ms) (stayed_messages t _ new.sending a.stayed) ∙ one_split k _ all
+      (subst (OneForEachPair cmp) (sym (drained_messages t old.sending)) one) ∙ ap (of_pair cmp k)
+      (drained_messages t old.sending) in
+      sym (append_assoc (of_pair cmp k leavers) (of_pair cmp k _) (of_pair cmp k new.waiting)) ∙ ap
+      (λ (ms : List (Message P)). ms ++ of_pair cmp k new.waiting) split ∙ ap
+      (λ (q : Planned P). of_pair cmp k (rated_messages old.sending) ++ of_pair cmp k q.waiting) a.same
     where
       all : List (RatedFlight P)
       all = drained_to t old.sending
@@ -284,8 +282,7 @@ module _ {P : Type 0} (cmp : P → P → Ordering) (order : IsTotalOrder cmp) wh
   enqueue_keeps {m = m} {p = p} {c = c} (launches {leavers = leavers} {mid = mid} limits launch finishes) h =
       let there : IsOrderly cmp (with_queued cmp p m) = queued_orderly cmp order p m limits h in
       let next : IsOrderly cmp mid = launch_orderly cmp order launch m leavers mid refl refl there in
-      joined_keeps p m c h
-      (on_from leavers (with_queued cmp p m) mid c (launch_holds launch m leavers mid refl refl there)
+      joined_keeps p m c h (on_from leavers _ mid c (launch_holds launch m leavers mid refl refl there)
       (finish_moves finishes next))
 
   kept_then : (p q : Planned P) (ms ns : List (Message P)) (cs : List (Completed P))

@@ -274,13 +274,12 @@ module _ {P : Type 0} (cmp : P → P → Ordering) (order : IsTotalOrder cmp) (i
           (enqueue_rests now w m rests) (ends_any (enqueue cmp now (Small last id w) m))
           (λ u l i part_u r s. ih u l i part_u r)
       by_owner false off ih =
-          subst (λ (c : Course (Completed P) (World P)). Of
-          (and_then (enqueue cmp now w m) (λ v. enqueue_each cmp now v ms)) c)
-          (preceded_none (enqueue_each cmp now (Small last id w) (filter mine ms)))
-          (part_then cmp order inside alike Whole (NoneDone cmp order) Any (enqueue cmp now w m)
-          (goes [] (Small last id w)) (λ v. enqueue_each cmp now v ms)
-          (λ v. enqueue_each cmp now v (filter mine ms)) (enqueue_other now w m last id is rests whole.0 off)
-          (enqueue_rests now w m rests) tt (λ u l i part_u r s. ih u l i part_u r))
+          subst (λ (c : Course (Completed P) (World P)). Of (and_then (enqueue cmp now w m)
+          (λ v. enqueue_each cmp now v ms)) c) (preceded_none (enqueue_each cmp now (Small last id w) (filter mine ms)))
+          (part_then cmp order inside alike Whole (NoneDone cmp order) Any (enqueue cmp now w m) (goes [] _)
+          (λ v. enqueue_each cmp now v ms) (λ v. enqueue_each cmp now v (filter mine ms))
+          (enqueue_other now w m last id is rests whole.0 off) (enqueue_rests now w m rests) tt
+          (λ u l i part_u r s. ih u l i part_u r))
 
   -- ---- a call
 

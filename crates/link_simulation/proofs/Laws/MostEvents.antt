@@ -250,12 +250,10 @@ module _ {P : Type 0} (cmp : P → P → Ordering) (order : IsTotalOrder cmp) wh
   wake_event : {t : ℕ} {p : Planned P} {c : Course (Completed P) (Planned P)} → Wakes cmp t p c → SomeReadyAt cmp p t
       → 0 < most_events p × Leaves (most_events p - 1) c
   wake_event {t = t} {p = p} {c = c} wakes some =
-      by_list (filter (may_launch cmp t p) (fronts cmp p.waiting))
-      (in_filter (may_launch cmp t p) (fronts cmp p.waiting) some.0 (first_in_fronts some.0 p.waiting some.1) some.2)
-      (each_filter (λ (m : Message P). find (same_pair cmp m) p.waiting ≡ Some m)
-      (λ (m : Message P). (find (same_pair cmp m) p.waiting ≡ Some m) × (may_launch cmp t p m ≡ true))
-      (may_launch cmp t p) (fronts cmp p.waiting) (λ m may found. (found, may))
-      (fronts_are_first cmp order p.waiting)) wakes
+      by_list _ (in_filter (may_launch cmp t p) (fronts cmp p.waiting) some.0 (first_in_fronts some.0 p.waiting some.1)
+      some.2) (each_filter (λ (m : Message P). find _ p.waiting ≡ Some m) (λ (m : Message P). (find _ p.waiting ≡ Some
+      m) × (may_launch cmp t p m ≡ true)) _ _ (λ m may found. (found, may)) (fronts_are_first cmp order p.waiting))
+      wakes
     where
       by_list : (ms : List (Message P)) → In ms some.0
           → Each (λ (m : Message P). (find (same_pair cmp m) p.waiting ≡ Some m) × (may_launch cmp t p m ≡ true)) ms

@@ -44,8 +44,7 @@ module _ {P : Type 0} (cmp : P → P → Ordering) (order : IsTotalOrder cmp) (k
   ticks_history {w = w} no_tick messages t cs ds v e h = grind (arith, append-nil)
   ticks_history {w = w} (one_tick {n = n} {v = z} {u = u} {cs = es} {rest = rest} d i more) messages t cs ds v e h =
       let r : (fs : List (Completed P)) × (rest ≡ goes fs v) × (es ++ fs ≡ ds) = rest_is cmp es rest ds v e in
-      let after = lands (instant cmp z) i
-      (instant_goes cmp order k messages (suc t) cs z (drain_history messages t cs w z d h)) in
+      let after = lands _ i (instant_goes cmp order k messages (suc t) cs z (drain_history messages t cs w z d h)) in
       let on = ticks_history more messages (suc t) (cs ++ es) r.0 v r.1 after in
       let count : suc t + n ≡ t + suc n = omega arith in
       subst (λ (s : ℕ). IsHistory cmp order k messages s (cs ++ ds) v) count
@@ -139,9 +138,8 @@ module _ {P : Type 0} (cmp : P → P → Ordering) (order : IsTotalOrder cmp) (k
             in_flight =
                 ap (λ (fs : List (Flight P)). filter (same_pair cmp k) (map (λ (f : Flight P). f.message) fs)) sends;
             queue =
-                filter-append (same_pair cmp k) messages (m ∷ [])
-                ∙ ap (λ (ms : List (Message P)). ms ++ filter (same_pair cmp k) (m ∷ [])) all_done ∙ rw own refl
-                ∙ sym (append-nil (h.done ++ m ∷ [])) ∙ ap
+                filter-append (same_pair cmp k) messages (m ∷ []) ∙ ap (λ (ms : List (Message P)). ms ++ filter
+                (same_pair cmp k) (m ∷ [])) all_done ∙ rw own refl ∙ sym (append-nil _) ∙ ap
                 (λ (ms : List (Message P)). (h.done ++ m ∷ []) ++ filter (same_pair cmp k) ms) (sym none_waits);
             deliveries = subst NeverGoDown (sym list_is)
                 (deliveries_push cmp order k (last cmp order k w) (told_of_k cmp order k cs) c h.deliveries h.not_past
@@ -212,9 +210,8 @@ module _ {P : Type 0} (cmp : P → P → Ordering) (order : IsTotalOrder cmp) (k
           → GoesByRule cmp order k (messages ++ m ∷ ms) t cs (and_then c (λ v. enqueue_each cmp t v ms))
       by_course (goes ds u) sound_u g ih =
           subst (λ (ns : List (Message P)). GoesByRule cmp order k ns t cs (preceded ds (enqueue_each cmp t u ms)))
-          (append_assoc messages (m ∷ []) ms)
-          (goes_preceded cmp order k ((messages ++ m ∷ []) ++ ms) t cs ds (enqueue_each cmp t u ms)
-          (ih (messages ++ m ∷ []) t (cs ++ ds) u sound_u g))
+          (append_assoc messages (m ∷ []) ms) (goes_preceded cmp order k ((messages ++ m ∷ []) ++ ms) t cs ds _
+          (ih _ t _ u sound_u g))
       by_course (meets fault) sound_u g ih = tt
 
   act_goes : (messages : List (Message P)) (t : ℕ) (cs : List (Completed P)) (w : World P) (call : Call P)

@@ -378,10 +378,8 @@ module _ {P : Type 0} (cmp : P → P → Ordering) (order : IsTotalOrder cmp) (k
     unfolding land GoesByRule
     complete_goes cs w f found h =
         by_bool (is_late cmp t f.message) (λ is. rw is tt) (λ is. rw is (
-        goes_preceded cs (completed cmp t f.message ∷ [])
-        (start_next cmp t (land w f.message) (first_waiting cmp (land w f.message) f.message))
-        (next_goes (cs ++ completed cmp t f.message ∷ []) (land w f.message) f.message
-        (first_waiting cmp (land w f.message) f.message) refl (land_history cs w f found h))))
+        goes_preceded cs (completed cmp t f.message ∷ []) _ (next_goes _ _ f.message _ refl
+        (land_history cs w f found h))))
 
     -- ---- an instant
 
@@ -399,11 +397,9 @@ module _ {P : Type 0} (cmp : P → P → Ordering) (order : IsTotalOrder cmp) (k
         → (find (same_pair cmp m) w.waiting ≡ Some m) × (may_start cmp t w m ≡ true)
     ready_may w m e =
         each_least cmp order (λ (n : Message P). (find (same_pair cmp n) w.waiting ≡ Some n)
-        × (may_start cmp t w n ≡ true)) (ready cmp t w) m
-        (each_filter (λ (n : Message P). find (same_pair cmp n) w.waiting ≡ Some n)
-        (λ (n : Message P). (find (same_pair cmp n) w.waiting ≡ Some n) × (may_start cmp t w n ≡ true))
-        (may_start cmp t w) (fronts cmp w.waiting) (λ n may first. (first, may))
-        (fronts_are_first cmp order w.waiting)) e
+        × (may_start cmp t w n ≡ true)) _ m (each_filter (λ (n : Message P). find _ w.waiting ≡ Some n)
+        (λ (n : Message P). (find _ w.waiting ≡ Some n) × (may_start cmp t w n ≡ true)) _ _
+        (λ n may first. (first, may)) (fronts_are_first cmp order w.waiting)) e
 
     turn_goes : (cs : List (Completed P)) (w : World P) (m : Message P) → least_pair cmp (ready cmp t w) ≡ Some m
         → IsHistory messages t cs w → GoesByRule cs (turn cmp t w m)

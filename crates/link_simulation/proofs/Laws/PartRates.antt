@@ -48,8 +48,7 @@ sum_shifted : {X : Type 0} (f g : ℕ → ℕ) (p q : ℕ) (test : X → Bool) (
     → sum_by f (places_from p test xs) ≡ sum_by g (places_from q test xs)
 sum_shifted f g p q test [] same = refl
 sum_shifted {X} f g p q test (x ∷ xs) same =
-    by_test (test x)
-    (sum_shifted f g (p + 1) (q + 1) test xs (λ i. ap f (omega arith) ∙ same (1 + i) ∙ ap g (omega arith)))
+    by_test _ (sum_shifted f g (p + 1) (q + 1) test xs (λ i. ap f (omega arith) ∙ same (1 + i) ∙ ap g (omega arith)))
   where
     here : f p ≡ g q
     here = ap f (omega arith) ∙ same 0 ∙ ap g (omega arith)
@@ -202,8 +201,7 @@ module _ {P : Type 0} (cmp : P → P → Ordering) (caps : Caps P) where
             → HasBottleneck (capped_sides cmp caps (filter mine ms)) per own_parts i
         by_side (m, has, (k, c, is, e)) =
             let used = subst (λ (z : Side). Contains z.users (stood (map mine ms) i)) e b.uses.used in
-            let there = passes_here (uses_at k m) ms (stood (map mine ms) i)
-            (in_from_contains (places_from 0 (uses_at k m) ms) (stood (map mine ms) i) used) in
+            let there = passes_here (uses_at k m) ms (stood _ i) (in_from_contains _ _ used) in
             let same_x : Some there.0 ≡ Some x = sym there.1 ∙ stands.0 in
             let it : there.0 ≡ x = cc in
             let uses_x : uses_at k m x ≡ true = subst (λ (z : Message P). uses_at k m z ≡ true) it there.2 in
@@ -229,8 +227,7 @@ module _ {P : Type 0} (cmp : P → P → Ordering) (caps : Caps P) where
                 → All (λ o. parts o ≤ parts (stood (map mine ms) i)) (places_from 0 (uses_at k m) ms)
                 → own_parts other ≤ own_parts i
             greatest k m other has_other most =
-                let at = passes_here (uses_at k m) (filter mine ms) other
-                (in_from_contains (places_from 0 (uses_at k m) (filter mine ms)) other has_other) in
+                let at = passes_here (uses_at k m) (filter mine ms) other (in_from_contains _ other has_other) in
                 All-contains (λ o. parts o ≤ parts (stood (map mine ms) i)) (places_from 0 (uses_at k m) ms)
                 (stood (map mine ms) other) most
                 (place_here (uses_at k m) ms (stood (map mine ms) other) at.0 (stood_at mine ms other at.0 at.1).0
@@ -243,8 +240,7 @@ module _ {P : Type 0} (cmp : P → P → Ordering) (caps : Caps P) where
         by_side : Of limited.0 → HasBottleneck (capped_sides cmp caps (filter mine ms)) per own_parts i
         by_side (m, has, own, (k, c, is, e)) =
             let used = subst (λ (z : Side). Contains z.users i) e limited.1.used in
-            let at = passes_here (uses_at k m) (filter mine ms) i
-            (in_from_contains (places_from 0 (uses_at k m) (filter mine ms)) i used) in
+            let at = passes_here (uses_at k m) (filter mine ms) i (in_from_contains _ i used) in
             let there : slice_get ms (stood (map mine ms) i) ≡ Some at.0 = (stood_at mine ms i at.0 at.1).0 in
             part_bottleneck i at.0 at.1 (fair.held (stood (map mine ms) i) (
               side_at k ms m c,

@@ -38,7 +38,6 @@ module _ {P : Type 0} (cmp : P → P → Ordering) (order : IsTotalOrder cmp) wh
           → Ticks cmp (between - w.moment) w first
           → Continues cmp (now - between) first (goes run.answers run.after) → RunsInTwo cmp w between now completions q
       by_first run (goes ds v) ticks (rest, more, is) =
-          let at = ends_at cmp order (IsAt cmp order (w.moment + (between - w.moment))) (goes ds v) ds v refl
-          (ticks_end_at cmp order ticks) in
+          let at = ends_at cmp order (IsAt cmp order _) (goes ds v) ds v refl (ticks_end_at cmp order ticks) in
           by_rest run ds v (runs_of w between (goes ds v) ticks) (omega arith) rest more is
       by_first run (meets fault) ticks is = cc

@@ -32,9 +32,8 @@ module _ {P : Type 0} (cmp : P → P → Ordering) (order : IsTotalOrder cmp) wh
   pub turn_by_next : (p : Planned P) (w : World P) (call : Call P) (now : ℕ) → StandsFor cmp p w
       → moment_of call ≡ Some now → w.moment ≤ now → IfSome (next_event p) (λ t. now < t) → IsInTurn cmp w call
   turn_by_next p w call now stands is le before = in_turn w call now is le
-      (λ next there. subst (λ (o : Option ℕ). IfSome o (λ t. now < t))
-      (next_is_one cmp order w (next_event p) next (sound_of_stands cmp order p w stands).positive
-      (next_is_planned cmp order p w stands) there) before)
+      (λ next there. subst (λ (o : Option ℕ). IfSome o (λ t. now < t)) (next_is_one cmp order w _ next
+      (sound_of_stands cmp order p w stands).positive (next_is_planned cmp order p w stands) there) before)
 
   pub called_at_once : (w : World P) (q : Planned P) (call other : Call P) (now : ℕ) (cs : List (Completed P))
       → moment_of other ≡ Some now → (run : IsRun cmp w call now cs q) → IsCalled cmp q other now run.after

@@ -74,8 +74,7 @@ module _ {P : Type 0} (cmp : P → P → Ordering) (order : IsTotalOrder cmp) wh
   to_event p w stands e k at within next =
       let before : IfSome (next_event p) (λ t. w.moment + k < t) = grind arith in
       let way = passes_before cmp order p w stands k (omega arith) before in
-      ticks_through cmp order way.1 (later cmp order p w stands (suc k))
-      (instant cmp (later cmp order p w stands (suc k))) way.2 refl
+      ticks_through cmp order way.1 _ _ way.2 refl
 
   pub earlier_start : (a b : Option ℕ) (e : ℕ) → earlier a b ≡ Some e → a ≢ Some e
       → (b ≡ Some e) × IfSome a (λ f. e < f)
@@ -211,9 +210,8 @@ module _ {P : Type 0} (cmp : P → P → Ordering) (order : IsTotalOrder cmp) wh
       let follows = subst (λ (s : ℕ). Follows cmp s p (later cmp order p w stands (suc steps.0))) steps.1
       (follows_later cmp order p w stands (suc steps.0)) in
       by_course steps.0 steps.1 after (to_event p w stands e steps.0 steps.1 within next)
-      (settle cmp e (later cmp order p w stands (suc steps.0))) refl
-      (settles_alike cmp order event (later cmp order p w stands (suc steps.0))
-      (unplanned e p (later cmp order p w stands (suc steps.0)) None p.start follows.tallies))
+      (settle cmp e (later cmp order p w stands _)) refl (settles_alike cmp order event (later cmp order p w stands _)
+      (unplanned e p _ None p.start follows.tallies))
     where
       by_course : (k : ℕ) → w.moment + suc k ≡ e → w.moment < e
           → Ticks cmp (suc k) w (instant cmp (later cmp order p w stands (suc k)))
@@ -243,10 +241,8 @@ module _ {P : Type 0} (cmp : P → P → Ordering) (order : IsTotalOrder cmp) wh
       let steps : (k : ℕ) × (w.moment + suc k ≡ e) = gap w.moment e after in
       let follows = subst (λ (s : ℕ). Follows cmp s p (later cmp order p w stands (suc steps.0))) steps.1
       (follows_later cmp order p w stands (suc steps.0)) in
-      by_course steps.0 steps.1 after (to_event p w stands e steps.0 steps.1 within next)
-      (settle cmp e (later cmp order p w stands (suc steps.0))) refl
-      (settles_alike cmp order event (later cmp order p w stands (suc steps.0))
-      (unplanned e p (later cmp order p w stands (suc steps.0)) None p.start follows.tallies))
+      by_course steps.0 steps.1 after (to_event p w stands e steps.0 steps.1 within next) _ refl
+      (settles_alike cmp order event (later cmp order p w stands _) (unplanned e p _ None p.start follows.tallies))
     where
       by_course : (k : ℕ) → w.moment + suc k ≡ e → w.moment < e
           → Ticks cmp (suc k) w (instant cmp (later cmp order p w stands (suc k)))

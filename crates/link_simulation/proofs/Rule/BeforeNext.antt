@@ -230,8 +230,7 @@ module _ {P : Type 0} (cmp : P → P → Ordering) (order : IsTotalOrder cmp) wh
         → Passes cmp (suc n) w (later (suc n))
     passes_to n within before =
         stretch cmp w stands.follows.rated.per stands.follows.rated.rates rates_fair all_positive n
-        (λ k h j. quiet_before k (omega arith)
-        (before_still (next_event p) (w.moment + k) (w.moment + suc n) (omega arith) before))
+        (λ k h j. quiet_before k (omega arith) (before_still _ _ _ (omega arith) before))
 
     -- every nanosecond before the next event passes, and the one after them drains the world once for all
     pub passes_before : (n : ℕ) → w.moment + n ≤ last_moment → IfSome (next_event p) (λ e. w.moment + n < e)

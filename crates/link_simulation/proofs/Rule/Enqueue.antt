@@ -268,8 +268,7 @@ module _ {P : Type 0} (cmp : P → P → Ordering) (order : IsTotalOrder cmp) wh
   enqueues_alike p w now m course stands limits le within before enqueues =
       let there = reaches cmp order now p w stands le within before in
       let under = sym there.follows.tallies.limited ∙ limits in
-      let c = and_then
-      (start_next cmp now (waits_too there.world m) (find (same_pair cmp m) (waits_too there.world m).waiting))
+      let c = and_then (start_next cmp now (waits_too there.world m) (find _ (waits_too there.world m).waiting))
       (settle cmp now) in
       let both = joins now p there.world m course limits there.follows there.none_done there.none_ready enqueues in
       let acts : act cmp there.world (call_enqueue now m) ≡ c = rw under refl in

@@ -81,13 +81,15 @@ module _ {P : Type 0} (cmp : P → P → Ordering) (order : IsTotalOrder cmp) wh
     left_alike =
         subst (λ (l : List (RatedFlight P)). AllZip (Stays t) l new.sending)
         (sym (all_and_one_stay cmp order here.next_id t here.caps fs next stays still_there none_there))
-        (zip_beside (Stays t) (Stays t) (Stays t)
-        (λ f g k one other. (other.0 ∙ sym one.0, other.1 ∙ sym one.1, other.2 ∙ sym one.2, other.3))
-        (here.sending ++ starting cmp order here.next_id t next ∷ [])
-        (fs ++ starting cmp order here.next_id t next ∷ []) new.sending
-        (zip-append (Stays t) here.sending (starting cmp order here.next_id t next ∷ []) fs
-        (starting cmp order here.next_id t next ∷ []) stayed ((refl, refl, refl, refl), tt))
-        (subst (λ (l : List (RatedFlight P)). AllZip (Stays t) l new.sending)
+        (zip_beside (Stays t) (Stays t) (Stays t) (λ f g k one other. (
+          other.0 ∙ sym one.0,
+          other.1 ∙ sym one.1,
+          other.2
+              ∙ sym one.2,
+          other.3,
+        )) (here.sending ++ starting cmp order here.next_id t next ∷ [])
+        (fs ++ starting cmp order here.next_id t next ∷ []) new.sending (zip-append (Stays t) here.sending _ fs _ stayed
+        ((refl, refl, refl, refl), tt)) (subst (λ (l : List (RatedFlight P)). AllZip (Stays t) l new.sending)
         (all_and_one_stay cmp order here.next_id t here.caps here.sending next stays still_here none_here) a.stayed))
 
     accounts_there : Accounts cmp t (launched cmp t (landed cmp t there m) next) [] new

@@ -98,11 +98,9 @@ module _ {P : Type 0} (cmp : P → P → Ordering) (order : IsTotalOrder cmp) wh
       let there : find (same_pair cmp n) w.waiting ≡ head_of (filter (same_pair cmp m) w.waiting) =
       find_like cmp order m n w.waiting pair ∙ head_found (same_pair cmp m) w.waiting in
       subst (λ (o : Option (Message P)). OptionsAlike (SameMessage cmp) o (find (same_pair cmp n) w.waiting))
-      (sym (head_found (same_pair cmp m) p.waiting)) (subst
-      (λ (o : Option (Message P)). OptionsAlike (SameMessage cmp) (head_of (filter (same_pair cmp m) p.waiting)) o)
-      (sym there)
-      (heads_alike (SameMessage cmp) (filter (same_pair cmp m) p.waiting) (filter (same_pair cmp m) w.waiting)
-      (same.waiting m)))
+      (sym (head_found _ p.waiting)) (subst (λ (o : Option (Message P)). OptionsAlike (SameMessage cmp)
+      (head_of (filter (same_pair cmp m) p.waiting)) o) (sym there) (heads_alike (SameMessage cmp) _
+      (filter _ w.waiting) (same.waiting m)))
 
   -- ---- a message starts
 
@@ -268,8 +266,7 @@ module _ {P : Type 0} (cmp : P → P → Ordering) (order : IsTotalOrder cmp) wh
       follows none is alike =
       let may_too = sym (may_alike cmp order t p w x y follows.tallies.last_arrival
       (messages_alike cmp order t p.sending w.sending follows.tallies.sending) alike) ∙ may in
-      let idle = idle_from (list_any (same_pair cmp y) (flows w))
-      (is_in_order (w.last_arrival y.origin y.recipient) (t + y.latency)) may_too in
+      let idle = idle_from _ (is_in_order (w.last_arrival y.origin y.recipient) (t + y.latency)) may_too in
       let own = find_like cmp order m y w.waiting (find_passes (same_pair cmp m) y w.waiting is) ∙ is in
       let tallies = launched_tallies t p w x y follows.tallies alike own idle in
       grind (
@@ -296,8 +293,7 @@ module _ {P : Type 0} (cmp : P → P → Ordering) (order : IsTotalOrder cmp) wh
   start_alike {t = t} {p = p} (no_id {m = x} launches last) w y follows none may own alike = grind arith
   start_alike {t = t} {p = p} (starts {m = x} {leavers = leavers} {new = new} launches below account) w y follows none
       may own alike =
-      let idle = idle_from (list_any (same_pair cmp y) (flows w))
-      (is_in_order (w.last_arrival y.origin y.recipient) (t + y.latency)) may in
+      let idle = idle_from _ _ may in
       let tallies = launched_tallies t p w x y follows.tallies alike own idle in
       grind (
         arith,

@@ -372,9 +372,7 @@ module _ {P : Type 0} (cmp : P → P → Ordering) (order : IsTotalOrder cmp) wh
   pub messages_stay : (t : ℕ) (here w : Planned P) → Accounts cmp t here [] w
       → rated_messages w.sending ≡ rated_messages here.sending
   messages_stay t here w a =
-      stayed_messages t (Staying t here) w.sending a.stayed ∙ ap rated_messages
-      (all_but_none (is_spent cmp here.caps) (drained_to t here.sending)
-      (no_messages (filter (is_spent cmp here.caps) (drained_to t here.sending)) a.left))
+      stayed_messages t _ w.sending a.stayed ∙ ap rated_messages (all_but_none _ _ (no_messages _ a.left))
       ∙ drained_messages t here.sending
 
   -- some pair is ready at a moment, told by what waits, what is in flight and what arrived
@@ -465,12 +463,11 @@ module _ {P : Type 0} (cmp : P → P → Ordering) (order : IsTotalOrder cmp) wh
         (filter (λ f. not (is_spent cmp here.caps f)) (drained_to t (here.sending ++ starting here.next_id t m ∷ [])))
         x.sending
     stayed_here x ax =
-        subst (λ (l : List (RatedFlight P)). AllZip (Stays t) l x.sending)
-        (sym (one_more_stays here.next_id t here.caps here.sending m stays)) (zip_chain (Stays t) (Stays t) (Stays t)
+        subst (λ (l : List (RatedFlight P)). AllZip (Stays t) l x.sending) (sym
+        (one_more_stays here.next_id t here.caps here.sending m stays)) (zip_chain (Stays t) (Stays t) (Stays t)
         (λ f g k first second. (second.0 ∙ first.0, second.1 ∙ first.1, second.2 ∙ first.2, second.3))
         (Staying t here ++ starting here.next_id t m ∷ []) (fs ++ starting here.next_id t m ∷ []) x.sending
-        (zip-append (Stays t) (Staying t here) (starting here.next_id t m ∷ []) fs (starting here.next_id t m ∷ [])
-        a.stayed ((refl, refl, refl, refl), tt))
+        (zip-append (Stays t) _ _ fs _ a.stayed ((refl, refl, refl, refl), tt))
         (subst (λ (l : List (RatedFlight P)). AllZip (Stays t) l x.sending) staying_there ax.stayed))
 
     accounts_here : (x : Planned P)

@@ -178,9 +178,8 @@ module _ {P : Type 0} (cmp : P → P → Ordering) (order : IsTotalOrder cmp) wh
   )
   finish_same {t = t} (completes {m = m} {ms = ms} {more = more} {p = p} {q = s} {rest = rest} is launch finishes)
       (n ∷ ns) q same all =
-      let went = launch_went cmp order (λ c. Launches cmp t (landed cmp t q n) (next_of cmp q n) c) more s (launch_same
-      launch (landed cmp t q n) (next_of cmp q n) (landed_same cmp order p q same t m n all.0)
-      (next_same cmp order p q same m n all.0)) in
+      let went = launch_went cmp order (λ c. Launches cmp t (landed cmp t q n) (next_of cmp q n) c) more s
+      (launch_same launch _ _ (landed_same cmp order p q same t m n all.0) (next_same cmp order p q same m n all.0)) in
       let later = finish_same finishes (ns ++ went.0) went.1 went.4
       (zip-append (SameMessage cmp) ms more ns went.0 all.1 went.3) in (
         preceded (completed cmp t n ∷ []) later.0,
@@ -370,8 +369,7 @@ module _ {P : Type 0} (cmp : P → P → Ordering) (order : IsTotalOrder cmp) wh
       → (c : Course (Completed P) (Planned P)) × Obeys cmp q other c × IsSameCourse cmp course c
   obey_same (same_limit {now = now} {peer = peer} {other = other} {egress = egress} {ingress = ingress} peers) p q
       course same obeys =
-      rebalance_same obeys (limited_by cmp q.caps other egress ingress) q
-      (limited_by_same cmp order p.caps q.caps peer other egress ingress same.caps peers) same
+      rebalance_same obeys _ q (limited_by_same cmp order p.caps q.caps peer other egress ingress same.caps peers) same
   obey_same
       (same_limit_link {now = now} {origin = origin} {recipient = recipient} {o = o} {r = r} {cap = cap} origins
       recipients)

@@ -130,10 +130,9 @@ module _ {P : Type 0} (cmp : P → P → Ordering) (order : IsTotalOrder cmp) wh
       (meets fault) =
       launch_alike cmp order launch (arrived cmp t w f.message) fs f.message (find (same_pair cmp f.message) w.waiting)
       there none refl (next_alike cmp order t p w m f.message follows.tallies all.0) in
-      subst (λ (c : Course (Completed P) (World P)). CourseAlike t (meets fault) c) (sym
-      (first_lands n t f fs w (sym (late_alike t m f.message all.0) ∙ not_late)
-      ∙ ap (preceded (completed cmp t f.message ∷ [])) (fails (finish_within cmp n t))))
-      refl
+      subst (λ (c : Course (Completed P) (World P)). CourseAlike t (meets fault) c)
+      (sym (first_lands n t f fs w (sym (late_alike t m f.message all.0) ∙ not_late) ∙ ap
+      (preceded (completed cmp t f.message ∷ [])) (fails _))) refl
   finishes_alike (completes not_late launch rest) n [] w follows none all fuel = absurd all
   finishes_alike (completes not_late launch rest) zero (f ∷ fs) w follows none all fuel = absurd (omega arith)
   finishes_alike {t = t} {p = p} (completes {m = m} {ms = ms} {more = more} {q = q} {rest = after} not_late launch rest)
@@ -181,8 +180,7 @@ module _ {P : Type 0} (cmp : P → P → Ordering) (order : IsTotalOrder cmp) wh
   pub settle_is_finish : (t : ℕ) (w : World P) → OneForEachPair cmp (flows w)
       → settle cmp t w ≡ finish_within cmp (length w.sending + length w.waiting) t (leaving cmp w) (staying cmp w)
   settle_is_finish t w one =
-      sym (settled_same (settle cmp t w) (settle_rests cmp order t w))
-      ∙ settles_as_queue cmp order (length w.sending + length w.waiting) t w one
+      sym (settled_same _ (settle_rests cmp order t w)) ∙ settles_as_queue cmp order _ t w one
 
   -- settling in the planned world is settling in the world
   pub settles_alike : {t : ℕ} {p : Planned P} {course : Course (Completed P) (Planned P)} → Settles cmp t p course
@@ -191,8 +189,7 @@ module _ {P : Type 0} (cmp : P → P → Ordering) (order : IsTotalOrder cmp) wh
       let n : ℕ = length w.sending + length w.waiting in
       let few : length (leaving cmp w) ≤ length w.sending = leaving_fewer w in
       let kept : length (staying cmp w).waiting ≡ length w.waiting = grind (arith, staying_waiting) in
-      let queued = finishes_alike finishes n (leaving cmp w) (staying cmp w)
-      (account_follows cmp order t p mid leavers w same account) (staying_none cmp order w)
-      (leavers_alike cmp order t p mid leavers w same account) (omega arith) in
+      let queued = finishes_alike finishes n _ _ (account_follows cmp order t p mid leavers w same account)
+      (staying_none cmp order w) (leavers_alike cmp order t p mid leavers w same account) (omega arith) in
       let way = settle_is_finish t w same.one_each in
       subst (λ (c : Course (Completed P) (World P)). CourseAlike t course c) (sym way) queued

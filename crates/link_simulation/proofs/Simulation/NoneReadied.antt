@@ -124,8 +124,7 @@ module _ {P : Type 0} (cmp : P → P → Ordering) (order : IsTotalOrder cmp) (y
   finish_rests (suc n) t (f ∷ fs) w fuel held =
       ends_cond (IsRested cmp order y t) (is_late cmp t f.message) (meets MomentTooLate) _ tt
       (ends_preceded (IsRested cmp order y t) (completed cmp t f.message ∷ []) _
-      (launch_rests n t fs f.message (arrived cmp t w f.message) (find (same_pair cmp f.message) w.waiting)
-      (finish_rests n t) (omega arith) refl (by_pair (same_pair cmp y f.message) refl held)))
+      (launch_rests n t fs f.message _ _ (finish_rests n t) (omega arith) refl (by_pair _ refl held)))
     where
       by_pair : (b : Bool) → same_pair cmp y f.message ≡ b
           → ((b || list_any (same_pair cmp y) (map (λ (f : Flight P). f.message) fs)) ≡ true) ⊎ IsRested cmp order y t w
@@ -161,9 +160,8 @@ module _ {P : Type 0} (cmp : P → P → Ordering) (order : IsTotalOrder cmp) wh
       (λ e. inl e) (λ e.
       inr (λ x found.
       let own : same_pair cmp y x ≡ true = find_passes (same_pair cmp y) x w.waiting found in
-      let none_leaves = sym
-      (any_map (same_pair cmp x) (λ (f : Flight P). f.message) (filter (is_done cmp w) w.sending)) ∙ any_like cmp
-      order y x (map (λ (f : Flight P). f.message) (filter (is_done cmp w) w.sending)) own ∙ e in
+      let none_leaves = sym (any_map (same_pair cmp x) (λ (f : Flight P). f.message) _) ∙ any_like cmp order y x
+      (map (λ (f : Flight P). f.message) _) own ∙ e in
       let busy = any_map (same_pair cmp x) (λ (f : Flight P). f.message)
       (filter (λ f. not (is_done cmp w f)) w.sending) ∙ any_split (λ (f : Flight P). same_pair cmp x f.message)
       (is_done cmp w) w.sending none_leaves ∙ sym (any_map (same_pair cmp x) (λ (f : Flight P). f.message) w.sending) in
@@ -174,9 +172,8 @@ module _ {P : Type 0} (cmp : P → P → Ordering) (order : IsTotalOrder cmp) wh
       → EndsWith (λ v. ready cmp t v ≡ []) c
   unfolding IsRested
   none_then t (goes cs v) all =
-      filter_none (may_start cmp t v) (fronts cmp v.waiting)
-      (each_map (IsFront cmp order v.waiting) (λ m. may_start cmp t v m ≡ false) (fronts cmp v.waiting)
-      (λ m front. all m m (first_found cmp order (same_pair cmp m) m front.0 v.waiting front.1))
+      filter_none (may_start cmp t v) (fronts cmp v.waiting) (each_map (IsFront cmp order v.waiting)
+      (λ m. may_start cmp t v m ≡ false) _ (λ m front. all m m (first_found cmp order _ m front.0 v.waiting front.1))
       (fronts_first cmp order v.waiting))
   none_then t (meets fault) all = tt
 

@@ -16,8 +16,7 @@ module _ {P : Type 0} (cmp : P → P → Ordering) (order : IsTotalOrder cmp) wh
   drained_positive per None n left h j = omega arith
   drained_positive per (Some a) n left h j =
       let rate : Amount = reduced a per in
-      reduced_positive (left.num * (rate.den * billion) - n * (rate.num * left.den)) (left.den * (rate.den * billion))
-      (mul-pos j (mul-pos (reduced_positive a per h) (omega arith)))
+      reduced_positive _ _ (mul-pos j (mul-pos (reduced_positive a per h) (omega arith)))
 
   pub drain_each_positive : (per : ℕ) (rates : Parts) (n : ℕ) (fs : List (Flight P)) → 0 < per → ArePositive fs
       → ArePositive (drain_each per rates n fs)

@@ -121,9 +121,8 @@ module _ {P : Type 0} (cmp : P → P → Ordering) (order : IsTotalOrder cmp) (y
   finish_only (suc n) t [] w own fuel rested = (only_itself w, rested refl)
   finish_only (suc n) t (f ∷ fs) w own fuel rested =
       ends_cond (IsAfter t w) (is_late cmp t f.message) (meets MomentTooLate) _ tt
-      (ends_preceded (IsAfter t w) (completed cmp t f.message ∷ []) _
-      (after_on t w (arrived cmp t w f.message) _ (only_arrived t w f.message own.0)
-      (by_next (find (same_pair cmp f.message) w.waiting) (sym (find_like cmp order y f.message w.waiting own.0))
+      (ends_preceded (IsAfter t w) (completed cmp t f.message ∷ []) _ (after_on t w (arrived cmp t w f.message) _
+      (only_arrived t w f.message own.0) (by_next _ (sym (find_like cmp order y f.message w.waiting own.0))
       (finish_only n t))))
     where
       by_next : (o : Option (Message P)) → find (same_pair cmp y) w.waiting ≡ o

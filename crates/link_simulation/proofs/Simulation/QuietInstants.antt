@@ -14,11 +14,11 @@ use Rattle.link_simulation.proofs.Common.{find_from_any}
 use Rattle.std.proofs.lemmas.List.{append-nil}
 use Rattle.link_simulation.proofs.Simulation.Queue.{settle_none, preceded_none}
 use Rattle.link_simulation.proofs.Simulation.SettlingEnds.{ends_preceded, ends_and_then, ends_cond, each_ends}
-use Rattle.link_simulation.proofs.Simulation.SettlingEnds.{settle_rests}
+use Rattle.link_simulation.proofs.Simulation.SettlingEnds.{settle_rests, settle_keeps}
 use Rattle.link_simulation.proofs.Simulation.OtherPairs.{Leaves, ends_more, leaves_like, next_leaves, start_leaves}
 use Rattle.link_simulation.proofs.Simulation.OtherPairs.{complete_leaves, ready_without, any_from_find, IsButFor}
 use Rattle.link_simulation.proofs.Simulation.AlikeMessages.{pair_itself}
-use Rattle.link_simulation.proofs.Simulation.Pass.{ends_both, settle_keeps, wake_none, wake_ends_quiet}
+use Rattle.link_simulation.proofs.Simulation.Pass.{ends_both, wake_none, wake_ends_quiet}
 
 filter_none : {X : Type 0} (p q : X → Bool) (xs : List X) → ((x : X) → p x ≡ true → q x ≡ true) → filter q xs ≡ []
     → filter p xs ≡ []
@@ -126,8 +126,7 @@ module _ {P : Type 0} (cmp : P → P → Ordering) (order : IsTotalOrder cmp) wh
       → EndsWith IsQuietNow c
   ticks_end_quiet no_tick q = q
   ticks_end_quiet (one_tick {v = v} {u = u} {cs = cs} {rest = rest} d i t) q =
-      ends_preceded IsQuietNow cs rest
-      (ticks_end_quiet t (ends_at IsQuietNow (instant cmp v) cs u i (instant_ends_quiet v)))
+      ends_preceded IsQuietNow cs rest (ticks_end_quiet t (ends_at IsQuietNow _ cs u i (instant_ends_quiet v)))
   ticks_end_quiet (tick_faults d i) q = tt
 
   -- ---- calls
@@ -140,10 +139,8 @@ module _ {P : Type 0} (cmp : P → P → Ordering) (order : IsTotalOrder cmp) wh
 
   settle_unready : (t : ℕ) (w : World P) → NoneReady t w → EndsWith (NoneReady t) (settle cmp t w)
   settle_unready t w h =
-      settle_keeps cmp order (NoneReady t) t
-      (λ v f e k. ends_more cmp order (Leaves cmp order t f.message v) (NoneReady t) (complete cmp t v f.message)
-      (λ u l. stays_unready t f.message v u k l) (complete_leaves cmp order t v f e))
-      (length w.sending + length w.waiting) w h
+      settle_keeps cmp order _ t (λ v f e k. ends_more cmp order _ _ _ (λ u l. stays_unready t f.message v u k l)
+      (complete_leaves cmp order t v f e)) _ w h
 
   -- settling a world in which none may start ends in quiet
   settle_ends_quiet : (t : ℕ) (w : World P) → NoneReady t w → EndsWith (IsQuiet cmp t) (settle cmp t w)

@@ -14,9 +14,9 @@ use Rattle.link_simulation.proofs.Common.{peer_sym, each_filtered, by_bool}
 use Rattle.link_simulation.specs.Simulation.Messages.{with_cap, with_link}
 use Rattle.link_simulation.proofs.Simulation.Queue.{peer_like, one_without, one_pair_more}
 use Rattle.link_simulation.proofs.Simulation.SettlingEnds.{ends_preceded, ends_and_then, ends_cond, each_ends}
+use Rattle.link_simulation.proofs.Simulation.SettlingEnds.{settle_keeps}
 use Rattle.link_simulation.proofs.Simulation.OtherPairs.{each_of, ends_more, Leaves, next_leaves, IsButFor}
 use Rattle.link_simulation.proofs.Simulation.PairOrder.{found_in, least_is}
-use Rattle.link_simulation.proofs.Simulation.Pass.{settle_keeps}
 use Rattle.link_simulation.proofs.Simulation.Stretch.{flows_drained}
 use Rattle.link_simulation.proofs.Simulation.OneNext.{drain_each_positive}
 use Rattle.link_simulation.proofs.Simulation.QuietInstants.{settle_outlasts, instant_outlasts, wake_keeps}
@@ -67,8 +67,7 @@ module _ {P : Type 0} (cmp : P → P → Ordering) (order : IsTotalOrder cmp) wh
   turn_fit : (t : ℕ) (w : World P) (m : Message P) → may_start cmp t w m ≡ true → IsFit w
       → EndsWith IsFit (turn cmp t w m)
   turn_fit t w m e fit =
-      ends_and_then IsFit IsFit (start cmp w m) (settle cmp t) (start_fit w m (idle_if_starts t w m e) fit)
-      (λ v k. settle_fit t v k)
+      ends_and_then IsFit IsFit (start cmp w m) _ (start_fit w m (idle_if_starts t w m e) fit) (λ v k. settle_fit t v k)
 
   ready_may_start : (t : ℕ) (w : World P) (m : Message P) → least_pair cmp (ready cmp t w) ≡ Some m
       → may_start cmp t w m ≡ true
@@ -135,8 +134,7 @@ module _ {P : Type 0} (cmp : P → P → Ordering) (order : IsTotalOrder cmp) wh
 
   instant_empty : (w : World P) → IsEmptyAtFirst w → EndsWith IsEmptyAtFirst (instant cmp w)
   instant_empty w h =
-      by_bool w.limited (λ e.
-      ends_more cmp order IsLimited IsEmptyAtFirst (instant cmp w) empty_if_limited
+      by_bool w.limited (λ e. ends_more cmp order IsLimited IsEmptyAtFirst _ empty_if_limited
       (instant_outlasts cmp order IsLimited limited_kept w e)) (λ e. grind (arith, instant_of_quiet, empty_is_quiet))
 
   drains_empty : (w v : World P) → Drains cmp w v → IsEmptyAtFirst w → IsEmptyAtFirst v
@@ -164,10 +162,8 @@ module _ {P : Type 0} (cmp : P → P → Ordering) (order : IsTotalOrder cmp) wh
       by_limited : (b : Bool) → w.limited ≡ b
           → EndsWith IsEmptyAtFirst (cond b (and_then course (settle cmp t)) (complete_at_once cmp t w m))
       by_limited true e = ends_more cmp order IsLimited IsEmptyAtFirst (and_then course (settle cmp t)) empty_if_limited
-          (ends_and_then IsLimited IsLimited course (settle cmp t)
-          (ends_more cmp order (Leaves cmp order t m (queued cmp order w m)) IsLimited course
-          (λ v l. l.others.limited ∙ e)
-          (next_leaves cmp order t (queued cmp order w m) m (first_waiting cmp (queued cmp order w m) m) refl))
+          (ends_and_then IsLimited IsLimited course (settle cmp t) (ends_more cmp order (Leaves cmp order t m _)
+          IsLimited course (λ v l. l.others.limited ∙ e) (next_leaves cmp order t _ m _ refl))
           (λ v k. settle_outlasts cmp order IsLimited limited_kept t v k))
       by_limited false e = grind (arith, ends_cond)
 

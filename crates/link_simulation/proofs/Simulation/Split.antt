@@ -24,9 +24,8 @@ module _ {P : Type 0} (cmp : P → P → Ordering) where
       let r : (es : List (Completed P)) × (rest ≡ goes es v) × (ds ++ es ≡ cs) = rest_is ds rest cs v e in
       let later : Ticks cmp (b + n) u (preceded r.0 c) = ticks_on t b v r.0 c r.1 more in
       let count : suc (b + n) ≡ b + suc n = omega arith in
-      subst (λ (k : ℕ). Ticks cmp k w (preceded cs c)) count
-      (subst (λ (d : Course (Completed P) (World P)). Ticks cmp (suc (b + n)) w d)
-      (preceded_append ds r.0 c ∙ ap (λ (xs : List (Completed P)). preceded xs c) r.2) (one_tick d i later))
+      subst (λ (k : ℕ). Ticks cmp k w (preceded cs c)) count (subst (λ (d : Course _ _). Ticks cmp (suc (b + n)) w d)
+      (preceded_append ds r.0 c ∙ ap (λ (xs : List _). preceded xs c) r.2) (one_tick d i later))
   ticks_on (tick_faults d i) b v cs c e more = cc
 
   -- a fault ends the ticks, however many were to come
