@@ -219,8 +219,7 @@ module _ {P : Type 0} (cmp : P → P → Ordering) (order : IsTotalOrder cmp) wh
     wake_within_follows : (n t : ℕ) (w : World P) → Holds w → EndsWith (Follows w) (wake_within cmp n t w)
     wake_within_follows n t w h =
         wake_keeps cmp order (Follows w) t (λ v m e k. ends_more w v k (turn cmp t v m) (turn_follows t v m e k.holds))
-        n w
-        (follows_itself w h)
+        n w (follows_itself w h)
 
     pub instant_follows : (w : World P) → Holds w → EndsWith (Follows w) (instant cmp w)
     instant_follows w h = grind (arith, follows_then, settle_within_follows, wake_within_follows)

@@ -86,9 +86,8 @@ module _ {P : Type 0} (cmp : P → P → Ordering) (order : IsTotalOrder cmp) wh
 
       own_first : same_pair cmp k m ≡ true → waits ≡ m ∷ rest_of waits
       own_first own =
-          let own_found : find (same_pair cmp k) p.waiting ≡ Some m
-          = sym (find_like cmp order k m p.waiting own)
-          ∙ find_like cmp order n m p.waiting (find_passes (same_pair cmp n) m p.waiting found) ∙ found in
+          let own_found = sym (find_like cmp order k m p.waiting own) ∙ find_like cmp order n m p.waiting
+          (find_passes (same_pair cmp n) m p.waiting found) ∙ found in
           headed waits m (sym (head_found (same_pair cmp k) p.waiting) ∙ own_found)
 
       own_idle : same_pair cmp k m ≡ true → flying ≡ []

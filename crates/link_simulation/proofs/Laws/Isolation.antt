@@ -170,11 +170,9 @@ module _ {P : Type 0} (cmp : P → P → Ordering) (order : IsTotalOrder cmp) (i
       by_bool (is_late cmp t f.message) (λ here. rw here tt) (λ here. rw here (
       let c : Completed P = completed cmp t f.message in
       let alone : filter in_done (c ∷ []) ≡ c ∷ [] = rw own refl in
-      let big : Course (Completed P) (World P) =
-      start_next cmp t (out_of_flight cmp t w f.message)
-      (first_waiting cmp (out_of_flight cmp t w f.message) f.message) in
-      let small : Course (Completed P) (World P) =
-      start_next cmp t (out_of_flight cmp t (part last id w) f.message)
+      let big = start_next cmp t (out_of_flight cmp t w f.message) (first_waiting cmp (out_of_flight cmp t w f.message)
+      f.message) in
+      let small = start_next cmp t (out_of_flight cmp t (part last id w) f.message)
       (first_waiting cmp (out_of_flight cmp t (part last id w) f.message) f.message) in
       subst (λ (cs : List (Completed P)). IsPartOf (preceded (c ∷ []) big) (preceded cs small)) alone
       (part_preceded (c ∷ []) big small inner)))
@@ -193,15 +191,10 @@ module _ {P : Type 0} (cmp : P → P → Ordering) (order : IsTotalOrder cmp) (i
             waiting = is.waiting;
           } in
           let next : Option (Message P) = find (same_pair cmp f.message) w.waiting in
-          let same_next : find (same_pair cmp f.message) (filter mine w.waiting) ≡ next =
-          find_kept mine (same_pair cmp f.message) w.waiting (λ n s. sym (alike f.message n s) ∙ own) in
-          let same_landed : out_of_flight cmp t (part last id w) f.message
-          ≡ part higher id (out_of_flight cmp t w f.message)
-          = part_alike w higher id _ _ (filter mine w.waiting) (filter mine w.waiting)
+          let same_next = find_kept mine (same_pair cmp f.message) w.waiting (λ n s. sym (alike f.message n s) ∙ own) in
+          let same_landed = part_alike w higher id _ _ (filter mine w.waiting) (filter mine w.waiting)
           (sym (first_kept in_flight (is_done cmp w) w.sending f first own).1) refl in
-          let base : IsPartOf (start_next cmp t (out_of_flight cmp t w f.message) next)
-          (start_next cmp t (part higher id (out_of_flight cmp t w f.message)) next)
-          = start_next_mine t (out_of_flight cmp t w f.message) f.message next higher id still own refl in
+          let base = start_next_mine t (out_of_flight cmp t w f.message) f.message next higher id still own refl in
           let one : IsPartOf (start_next cmp t (out_of_flight cmp t w f.message) next)
           (start_next cmp t (out_of_flight cmp t (part last id w) f.message) next)
           = subst (λ (z : World P). IsPartOf (start_next cmp t (out_of_flight cmp t w f.message) next)
@@ -222,15 +215,12 @@ module _ {P : Type 0} (cmp : P → P → Ordering) (order : IsTotalOrder cmp) (i
         sending = each_without (λ (g : Flight P). T g.message) (is_done cmp w) w.sending is.sending;
         waiting = is.waiting;
       } in
-      let same : part last id (out_of_flight cmp t w f.message) ≡ part last id w
-      = part_alike w last id _ _ (filter mine w.waiting) (filter mine w.waiting)
+      let same = part_alike w last id _ _ (filter mine w.waiting) (filter mine w.waiting)
       (first_dropped in_flight (is_done cmp w) w.sending f first off) refl in
       let nothing : filter in_done (c ∷ []) ≡ [] = rw off refl in
-      let big : Course (Completed P) (World P) =
-      start_next cmp t (out_of_flight cmp t w f.message)
-      (first_waiting cmp (out_of_flight cmp t w f.message) f.message) in
-      let base : IsPartOf big (goes [] (part last id (out_of_flight cmp t w f.message)))
-      = start_next_other t (out_of_flight cmp t w f.message) f.message
+      let big = start_next cmp t (out_of_flight cmp t w f.message) (first_waiting cmp (out_of_flight cmp t w f.message)
+      f.message) in
+      let base = start_next_other t (out_of_flight cmp t w f.message) f.message
       (first_waiting cmp (out_of_flight cmp t w f.message) f.message) last id still off refl in
       let one : IsPartOf big (goes [] (part last id w)) =
       subst (λ (z : World P). IsPartOf big (goes [] z)) same base in
@@ -325,14 +315,12 @@ module _ {P : Type 0} (cmp : P → P → Ordering) (order : IsTotalOrder cmp) (i
       → IsPartOf (and_then (start cmp w m) (λ v. and_then (settle cmp t v) (wake_within cmp n t)))
       (wake_within cmp k t (part last id w))
   one_wakes n zero t w last id m true ih is rests most few e own =
-      let least : least_pair cmp (ready cmp t (part last id w)) ≡ Some m =
-      ap (least_pair cmp) (ready_part t w last id is) ∙ least_kept cmp order mine (ready cmp t w) m e own in
+      let least = ap (least_pair cmp) (ready_part t w last id is) ∙ least_kept cmp order mine (ready cmp t w) m e own in
       let some = some_element (same_pair cmp m) m (filter mine w.waiting)
       (ready_is_first cmp order t (part last id w) m least) in
       absurd (omega arith)
   one_wakes n (suc j) t w last id m true ih is rests most few e own =
-      let least : least_pair cmp (ready cmp t (part last id w)) ≡ Some m =
-      ap (least_pair cmp) (ready_part t w last id is) ∙ least_kept cmp order mine (ready cmp t w) m e own in
+      let least = ap (least_pair cmp) (ready_part t w last id is) ∙ least_kept cmp order mine (ready cmp t w) m e own in
       let first = ready_is_first cmp order t w m e in
       subst (λ (c : Course (Completed P) (World P)). IsPartOf
       (and_then (start cmp w m) (λ v. and_then (settle cmp t v) (wake_within cmp n t))) c)

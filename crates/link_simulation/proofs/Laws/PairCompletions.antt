@@ -279,12 +279,7 @@ module _ {P : Type 0} (cmp : P → P → Ordering) (order : IsTotalOrder cmp) (k
       let sound_u = call_keeps_sound cmp order w call now (goes ds u) sound runs in
       let here : IsHistory cmp order k (messages ++ added call) u.moment (cs ++ ds) u = grind arith in
       let rest = answers_in_order more (messages ++ added call) (cs ++ ds) sound_u here in
-      grind (
-        arith,
-        (append_assoc messages (added call) (enqueued calls)),
-        (enqueued_split call calls),
-        (append_assoc cs ds (answered css)),
-      )
+      grind (arith, (append_assoc messages (added call) (enqueued calls)), (enqueued_split call calls), (append_assoc cs ds (answered css)))
 
   new_history : (id : ℕ) → IsHistory cmp order k [] 0 [] (new_world id)
   new_history id = record {

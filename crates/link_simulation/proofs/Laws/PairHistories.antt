@@ -329,14 +329,12 @@ module _ {P : Type 0} (cmp : P → P → Ordering) (order : IsTotalOrder cmp) (k
                 by_test b true is e none ih = cc
                 by_test true false is e none ih =
                     let same : g ≡ f = cc in
-                    let out : same_pair cmp k f.message ≡ false =
-                    ap (λ (x : Flight P). same_pair cmp k x.message) (sym same) ∙ is in
+                    let out = ap (λ (x : Flight P). same_pair cmp k x.message) (sym same) ∙ is in
                     cc
                 by_test false false is e none ih = ih e none
         by_flying own (Some n) is one queue order_is =
-            let taken : (f.message ≡ n) × (filter (same_pair cmp k)
-            (map (λ (g : Flight P). g.message) (without_first (is_done cmp w) w.sending)) ≡ [])
-            = taken_out (same_pair cmp k) (λ (g : Flight P). g.message) (is_done cmp w) f n w.sending found own one in
+            let taken = taken_out (same_pair cmp k) (λ (g : Flight P). g.message) (is_done cmp w) f n w.sending found
+            own one in
             let c : Completed P = completed cmp t f.message in
             let of_pair : completes_pair cmp k c ≡ true = own in
             let list_is : told_of_k (cs ++ c ∷ []) ≡ told_of_k cs ++ c ∷ [] = told_more cs c of_pair in

@@ -263,9 +263,4 @@ module _ {P : Type 0} (cmp : P → P → Ordering) (caps : Caps P) where
   pub fair_part : (mine : Message P → Bool) (ms : List (Message P)) (per : ℕ) (rates : Parts) → SharesNoSide mine ms
       → AreFair cmp caps ms per rates → AreFair cmp caps (filter mine ms) per (flagged (map mine ms) rates)
   fair_part mine ms per rates apart fair =
-      grind (
-        arith,
-        common_steps,
-        (part_is_fair mine ms per fair.parts apart fair.fair),
-        (kept_rates mine fair.parts ms),
-      )
+      grind (arith, common_steps, (part_is_fair mine ms per fair.parts apart fair.fair), (kept_rates mine fair.parts ms))

@@ -91,12 +91,7 @@ module _ {P : Type 0} (cmp : P → P → Ordering) (order : IsTotalOrder cmp) wh
       → OneForEachPair cmp (map (λ (f : Flight P). f.message) (filter test fs))
   one_filter test [] one = tt
   one_filter test (f ∷ fs) one =
-      grind (
-        arith,
-        common_steps,
-        (any_filter cmp order (same_pair cmp f.message) test fs one.0),
-        (one_filter test fs one.1),
-      )
+      grind (arith, common_steps, (any_filter cmp order (same_pair cmp f.message) test fs one.0), (one_filter test fs one.1))
 
   -- an account at t takes out what is done in the world at t, and leaves the rest as it is there
   pub leavers_alike : (t : ℕ) (old new : Planned P) (leavers : List (Message P)) (w : World P) → Tallies cmp t old w

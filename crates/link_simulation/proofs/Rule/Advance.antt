@@ -267,8 +267,7 @@ module _ {P : Type 0} (cmp : P → P → Ordering) (order : IsTotalOrder cmp) wh
       ends : (v : World P) → Follows cmp now p v → list_any (is_done cmp v) v.sending ≡ false → ready cmp now v ≡ []
           → Ticks cmp (now - w.moment) w (goes [] v) → TicksAlike now w course
       ends v follows none_done none_ready ticks =
-          let woken : CoursesAlike cmp (IsWoken cmp order now) course (wake cmp now v) =
-          wake_alike wakes v follows none_done in
+          let woken = wake_alike wakes v follows none_done in
           let asleep : wake cmp now v ≡ goes [] v = wake_none cmp order (length v.waiting) now v none_ready in (
             goes [] v,
             ticks,
@@ -290,8 +289,7 @@ module _ {P : Type 0} (cmp : P → P → Ordering) (order : IsTotalOrder cmp) wh
           let u : World P = later cmp order p w stands (suc k) in
           let still : IfSome (next_event p) (λ t. w.moment + suc k < t) =
           subst (λ (s : ℕ). IfSome (next_event p) (λ t. s < t)) (sym same) before in
-          let quiet : IsQuiet cmp (w.moment + suc k) u =
-          quiet_before cmp order p w stands (suc k) (omega arith) still in
+          let quiet = quiet_before cmp order p w stands (suc k) (omega arith) still in
           ends u (subst (λ (s : ℕ). Follows cmp s p u) same (follows_later cmp order p w stands (suc k)))
           quiet.none_done (ap (λ (s : ℕ). ready cmp s u) (sym same) ∙ quiet.none_ready)
           (subst (λ (n : ℕ). Ticks cmp n w (goes [] u)) (sym is)

@@ -272,8 +272,4 @@ module _ {P : Type 0} (cmp : P → P → Ordering) (order : IsTotalOrder cmp) wh
       (settle cmp now) in
       let both = joins now p there.world m course limits there.follows there.none_done there.none_ready enqueues in
       let acts : act cmp there.world (call_enqueue now m) ≡ c = rw under refl in
-      grind (
-        arith,
-        (preceded_none (act cmp there.world (call_enqueue now m))),
-        (settled_rests cmp order now course c within both.0 both.1),
-      )
+      grind (arith, (preceded_none (act cmp there.world (call_enqueue now m))), (settled_rests cmp order now course c within both.0 both.1))

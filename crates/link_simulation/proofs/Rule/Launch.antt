@@ -95,8 +95,7 @@ module _ {P : Type 0} (cmp : P → P → Ordering) (order : IsTotalOrder cmp) wh
       → OptionsAlike (SameMessage cmp) (next_of cmp p m) (find (same_pair cmp n) w.waiting)
   next_alike t p w m n same alike =
       let pair : same_pair cmp m n ≡ true = rw (alike.origin, alike.recipient) refl in
-      let there : find (same_pair cmp n) w.waiting ≡ head_of (filter (same_pair cmp m) w.waiting) =
-      find_like cmp order m n w.waiting pair ∙ head_found (same_pair cmp m) w.waiting in
+      let there = find_like cmp order m n w.waiting pair ∙ head_found (same_pair cmp m) w.waiting in
       subst (λ (o : Option (Message P)). OptionsAlike (SameMessage cmp) o (find (same_pair cmp n) w.waiting))
       (sym (head_found _ p.waiting)) (subst (λ (o : Option (Message P)). OptionsAlike (SameMessage cmp)
       (head_of (filter (same_pair cmp m) p.waiting)) o) (sym there) (heads_alike (SameMessage cmp) _
@@ -225,8 +224,7 @@ module _ {P : Type 0} (cmp : P → P → Ordering) (order : IsTotalOrder cmp) wh
   pub started_fewer : (w : World P) (y : Message P) → find (same_pair cmp y) w.waiting ≡ Some y
       → length (joining w y) + length (started w y).waiting ≤ length w.waiting
   started_fewer w y e =
-      let fewer : length (without_first (same_pair cmp y) w.waiting) + 1 ≡ length w.waiting =
-      length_without (same_pair cmp y) y w.waiting e in
+      let fewer = length_without (same_pair cmp y) y w.waiting e in
       by_bool (is_done cmp w (flight_of y)) (λ is. rw is (omega arith)) (λ is. rw is (omega arith))
 
   pub idle_from : (a b : Bool) → (not a && b) ≡ true → a ≡ false

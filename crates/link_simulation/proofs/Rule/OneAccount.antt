@@ -348,12 +348,7 @@ module _ {P : Type 0} (cmp : P → P → Ordering) (order : IsTotalOrder cmp) wh
       → is_spent cmp caps (starting id t m) ≡ false → drained_to t fs ≡ fs → filter (is_spent cmp caps) fs ≡ []
       → filter (λ f. not (is_spent cmp caps f)) (drained_to t (fs ++ starting id t m ∷ [])) ≡ fs ++ starting id t m ∷ []
   all_and_one_stay id t caps fs m limited still none =
-      grind (
-        arith,
-        (one_more_stays id t caps fs m limited),
-        (starting id t m),
-        (all_but_none (is_spent cmp caps) fs none),
-      )
+      grind (arith, (one_more_stays id t caps fs m limited), (starting id t m), (all_but_none (is_spent cmp caps) fs none))
 
   -- and nothing leaves
   pub none_and_one_leave : (id t : ℕ) (caps : Caps P) (fs : List (RatedFlight P)) (m : Message P)

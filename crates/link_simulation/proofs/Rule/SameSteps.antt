@@ -117,11 +117,7 @@ module _ {P : Type 0} (cmp : P → P → Ordering) (order : IsTotalOrder cmp) wh
     egress = same.egress;
     ingress = same.ingress;
     link = λ p q s t e f.
-        rw (
-          peers_alike cmp order origin o p q origins e,
-          peers_alike cmp order recipient r s t recipients f,
-          same.link p q s t e f,
-        )
+        rw (peers_alike cmp order origin o p q origins e, peers_alike cmp order recipient r s t recipients f, same.link p q s t e f)
         refl;
   }
 

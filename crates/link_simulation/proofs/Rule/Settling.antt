@@ -124,12 +124,10 @@ module _ {P : Type 0} (cmp : P → P → Ordering) (order : IsTotalOrder cmp) wh
   finishes_alike (stopped not_late launch) zero (f ∷ fs) w follows none all fuel = absurd (omega arith)
   finishes_alike {t = t} {p = p} (stopped {m = m} {fault = fault} not_late launch) (suc n) (f ∷ fs) w follows none all
       fuel =
-      let there : Follows cmp t (landed cmp t p m) (arrived cmp t w f.message) =
-      landed_follows t p w m f.message follows all.0 in
-      let fails : LaunchAlike cmp order t (arrived cmp t w f.message) fs (find (same_pair cmp f.message) w.waiting)
-      (meets fault) =
-      launch_alike cmp order launch (arrived cmp t w f.message) fs f.message (find (same_pair cmp f.message) w.waiting)
-      there none refl (next_alike cmp order t p w m f.message follows.tallies all.0) in
+      let there = landed_follows t p w m f.message follows all.0 in
+      let fails = launch_alike cmp order launch (arrived cmp t w f.message) fs f.message
+      (find (same_pair cmp f.message) w.waiting) there none refl (next_alike cmp order t p w m f.message follows.tallies
+      all.0) in
       subst (λ (c : Course (Completed P) (World P)). CourseAlike t (meets fault) c)
       (sym (first_lands n t f fs w (sym (late_alike t m f.message all.0) ∙ not_late) ∙ ap
       (preceded (completed cmp t f.message ∷ [])) (fails _))) refl
@@ -179,8 +177,7 @@ module _ {P : Type 0} (cmp : P → P → Ordering) (order : IsTotalOrder cmp) wh
 
   pub settle_is_finish : (t : ℕ) (w : World P) → OneForEachPair cmp (flows w)
       → settle cmp t w ≡ finish_within cmp (length w.sending + length w.waiting) t (leaving cmp w) (staying cmp w)
-  settle_is_finish t w one =
-      sym (settled_same _ (settle_rests cmp order t w)) ∙ settles_as_queue cmp order _ t w one
+  settle_is_finish t w one = sym (settled_same _ (settle_rests cmp order t w)) ∙ settles_as_queue cmp order _ t w one
 
   -- settling in the planned world is settling in the world
   pub settles_alike : {t : ℕ} {p : Planned P} {course : Course (Completed P) (Planned P)} → Settles cmp t p course

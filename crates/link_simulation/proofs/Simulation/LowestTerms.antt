@@ -25,10 +25,7 @@ product_one (suc (suc f)) (suc q) e = absurd (omega arith)
 
 pub whole_lowest : (n : ℕ) → IsLowest (whole n)
 whole_lowest n =
-    grind (
-      arith,
-      (product_one (reduced_scales n 1 (omega arith)).factor (reduced n 1).den (reduced_scales n 1 (omega arith)).den),
-    )
+    grind (arith, (product_one (reduced_scales n 1 (omega arith)).factor (reduced n 1).den (reduced_scales n 1 (omega arith)).den))
 
 pub drained_none : (left rate : Amount) → IsLowest left → 0 < rate.den → drained left rate 0 ≡ left
 drained_none left rate low h =

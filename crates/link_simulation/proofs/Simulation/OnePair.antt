@@ -98,11 +98,9 @@ module _ {P : Type 0} (cmp : P → P → Ordering) (order : IsTotalOrder cmp) (y
   rested_joined t w x e z found =
       let own : same_pair cmp y z ≡ true = find_passes (same_pair cmp y) z (joined cmp w x).waiting found in
       let pair : same_pair cmp z x ≡ true = pair_like cmp order y z x own ∙ e in
-      let sends : list_any (same_pair cmp z) (flows (joined cmp w x)) ≡ true =
-      ap (list_any (same_pair cmp z)) (map-append (λ (g : Flight P). g.message) w.sending (flight_of x ∷ []))
-      ∙ list_any-append (same_pair cmp z) (flows w) (x ∷ [])
-      ∙ or_right (list_any (same_pair cmp z) (flows w)) (same_pair cmp z x || false)
-      (or_left (same_pair cmp z x) false pair) in
+      let sends = ap (list_any (same_pair cmp z)) (map-append (λ (g : Flight P). g.message) w.sending
+      (flight_of x ∷ [])) ∙ list_any-append (same_pair cmp z) (flows w) (x ∷ []) ∙ or_right
+      (list_any (same_pair cmp z) (flows w)) (same_pair cmp z x || false) (or_left (same_pair cmp z x) false pair) in
       rw sends refl
 
   abbrev pub IsAfter : ℕ → World P → World P → Type 0

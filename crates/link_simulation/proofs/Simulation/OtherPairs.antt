@@ -123,8 +123,7 @@ module _ {P : Type 0} (cmp : P → P → Ordering) (order : IsTotalOrder cmp) wh
   -- whether another pair's message may start does not change
   pub may_start_alike : (t : ℕ) (m x : Message P) (w v : World P) → IsButFor cmp m w v → same_pair cmp m x ≡ false
       → may_start cmp t v x ≡ may_start cmp t w x
-  may_start_alike t m x w v a h =
-      both _ _ _ _ (idle_alike m x w v a h) (a.arrivals x h)
+  may_start_alike t m x w v a h = both _ _ _ _ (idle_alike m x w v a h) (a.arrivals x h)
     where
       both : (a b : Bool) (p q : Option ℕ) → a ≡ b → p ≡ q
           → (a && is_in_order p (t + x.latency)) ≡ (b && is_in_order q (t + x.latency))

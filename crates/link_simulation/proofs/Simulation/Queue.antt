@@ -68,8 +68,7 @@ module _ {P : Type 0} (cmp : P → P → Ordering) (order : IsTotalOrder cmp) wh
 
   pub pair_like : (m n k : Message P) → same_pair cmp m n ≡ true → same_pair cmp n k ≡ same_pair cmp m k
   pair_like m n k e =
-      let parts : (same_peer cmp m.origin n.origin ≡ true) × (same_peer cmp m.recipient n.recipient ≡ true) =
-      and_parts (same_peer cmp m.origin n.origin) (same_peer cmp m.recipient n.recipient) e in
+      let parts = and_parts (same_peer cmp m.origin n.origin) (same_peer cmp m.recipient n.recipient) e in
       both_alike (same_peer cmp n.origin k.origin) (same_peer cmp m.origin k.origin)
       (same_peer cmp n.recipient k.recipient) (same_peer cmp m.recipient k.recipient)
       (peer_like m.origin n.origin k.origin parts.0) (peer_like m.recipient n.recipient k.recipient parts.1)

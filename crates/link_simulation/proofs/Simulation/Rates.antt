@@ -91,8 +91,7 @@ module _ {P : Type 0} (cmp : P → P → Ordering) where
 
     has_side : (caps : Caps P) (ms : List (Message P)) (i : ℕ) (m : Message P) → slice_get ms i ≡ Some m
         → is_unlimited cmp caps m ≡ false → HasSide caps ms i m
-    has_side caps ms i m at e =
-        by_caps _ _ _ _ refl refl refl refl e
+    has_side caps ms i m at e = by_caps _ _ _ _ refl refl refl refl e
       where
         by_caps : (c : Option ℕ) (d : Bool) (k l : Option ℕ) → caps.egress m.origin ≡ c → is_delivered cmp m ≡ d
             → caps.ingress m.recipient ≡ k → caps.link m.origin m.recipient ≡ l

@@ -56,10 +56,8 @@ module _ {P : Type 0} (cmp : P → P → Ordering) (order : IsTotalOrder cmp) wh
   next_has t n w m None e h = h
   next_has t n w m (Some x) e h =
       let same : same_pair cmp m x ≡ true = find_passes (same_pair cmp m) x w.waiting e in
-      let fewer : length (without_first (same_pair cmp x) w.waiting) + 1 ≡ length w.waiting =
-      length_without (same_pair cmp x) x w.waiting (find_like m x w.waiting same ∙ e) in
-      let joined : length (w.sending ++ flight_of x ∷ []) ≡ length w.sending + 1
-      = length-append w.sending (flight_of x ∷ []) in
+      let fewer = length_without (same_pair cmp x) x w.waiting (find_like m x w.waiting same ∙ e) in
+      let joined = length-append w.sending (flight_of x ∷ []) in
       ends_cond (HasAtMost n) (may_start cmp t w x) (start cmp w x) (goes [] w)
       (ends_cond (HasAtMost n) (nat_le last_moment w.next_id) (meets FlowIdsUsedUp) _ tt (omega arith)) h
 
@@ -101,6 +99,5 @@ module _ {P : Type 0} (cmp : P → P → Ordering) (order : IsTotalOrder cmp) wh
       → (n : ℕ) (w : World P) → Q w → EndsWith Q (wake_within cmp n t w)
   wake_keeps Q t step zero w h = h
   wake_keeps Q t step (suc n) w h =
-      by_option (least_pair cmp (ready cmp t w)) (λ e. rw (e, wake_within) h)
-      (λ m e. rw (e, wake_within)
+      by_option (least_pair cmp (ready cmp t w)) (λ e. rw (e, wake_within) h) (λ m e. rw (e, wake_within)
       (ends_and_then Q Q (turn cmp t w m) (wake_within cmp n t) (step w m e h) (λ v k. wake_keeps Q t step n v k)))
