@@ -22,8 +22,7 @@ the_allocation sides flows rates users f =
 
 -- what closures that answer by caps have allocated is fair under the caps
 pub allocates_under_caps : {P E I L : Type 0} (cmp : P → P → Ordering) (egress : Calls E P) (ingress : Calls I P)
-    (link : PairCalls L P)
-    → AllocatesUnderCaps cmp egress ingress link
+    (link : PairCalls L P) → AllocatesUnderCaps cmp egress ingress link
 allocates_under_caps {P} cmp egress ingress link caps first flows rate_of by a =
     grind (
       arith,

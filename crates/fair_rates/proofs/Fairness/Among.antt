@@ -137,8 +137,7 @@ module _ {P : Type 0} (cmp : P → P → Ordering) (caps : Caps P) where
           fair = fair_among order of xs f.parts f.per (stands_allotted f.parts 0 flows rates)
               (subst (λ (fs : List (Flow P)). IsFair (sides_under cmp caps fs) f.per f.parts) (sym flows_are) f.fair)
               (λ k x at. subst (λ (fs : List (Flow P)). IsRateOf (sides_under cmp caps fs) f.per f.parts k x.rate)
-              (sym flows_are)
-              (rate_at (sides_under cmp caps flows) (length flows) rates f k x.rate
+              (sym flows_are) (rate_at (sides_under cmp caps flows) (length flows) rates f k x.rate
               (subst (λ (rs : List Rate). slice_get rs k ≡ Some x.rate) rates_are (rate_there xs k x at))));
         }
 

@@ -18,7 +18,7 @@ old (true ∷ flags) zero = 0
 old (true ∷ flags) (suc j) = suc (old flags j)
 old (false ∷ flags) j = suc (old flags j)
 
-place_in-suc : (flag : Bool) (flags : List Bool) (i : ℕ)
+pub place_in-suc : (flag : Bool) (flags : List Bool) (i : ℕ)
     → place_in (flag ∷ flags) (suc i) ≡ cond flag 1 0 + place_in flags i
 place_in-suc flag flags i = sum_by-cons (λ b. cond b 1 0) flag (take i flags)
 
@@ -47,7 +47,7 @@ sum_by-map : (f : ℕ → ℕ) (g : ℕ → ℕ) (xs : List ℕ) → sum_by f (m
 sum_by-map f g [] = refl
 sum_by-map f g (x ∷ xs) = search (rules, sum_by-cons, sum_by-map f g xs)
 
-sum_by-agree : (f g : ℕ → ℕ) (xs : List ℕ) → ((x : ℕ) → In xs x → f x ≡ g x) → sum_by f xs ≡ sum_by g xs
+pub sum_by-agree : (f g : ℕ → ℕ) (xs : List ℕ) → ((x : ℕ) → In xs x → f x ≡ g x) → sum_by f xs ≡ sum_by g xs
 sum_by-agree f g [] h = refl
 sum_by-agree f g (x ∷ xs) h =
     omega
@@ -197,8 +197,7 @@ module _ (flags : List Bool) where
       }
 
       kept_rate : (j : ℕ) (r : Rate) → is_in flags (old flags j) ≡ true → place_in flags (old flags j) ≡ j
-          → IsRateOf sides per parts (old flags j) r
-          → IsRateOf (sides_in flags sides) per kept_parts j r
+          → IsRateOf sides per parts (old flags j) r → IsRateOf (sides_in flags sides) per kept_parts j r
       kept_rate j Unlimited own place none = λ limited.
           let w = stood_limited j limited in none (subst (IsLimited sides) (sym w.was) w.limited)
       kept_rate j (Finite ratio) own place ((side, uses), worth) = (

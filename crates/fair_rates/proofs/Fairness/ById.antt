@@ -81,6 +81,4 @@ module _ {P : Type 0} (cmp : P → P → Ordering) (order : IsTotalOrder cmp) wh
       rate_by_id xs r.x (subst HaveDistinctIds (sym flows_is) few) among in
       b.by_id f.id
       ∙ ap₂ (λ (fs : List (Flow P)) (rs : List Rate). last_rate f.id fs rs) (sym flows_is) (one ∙ sym rates_is)
-      ∙ ap (λ (g : Flow P). last_rate g.id (flows_of xs) (rates_of xs)) (sym r.is)
-      ∙ rate
-      ∙ sym r.rate
+      ∙ ap (λ (g : Flow P). last_rate g.id (flows_of xs) (rates_of xs)) (sym r.is) ∙ rate ∙ sym r.rate

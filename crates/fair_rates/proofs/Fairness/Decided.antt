@@ -71,8 +71,7 @@ module _ (sides : List Side) (per : ℕ) (parts : ℕ → ℕ) where
     held = λ flow limited. elim (some_or_none (is_bottleneck flow) sides) [
       | inl (side, among, is) ↦ found flow side among is
       | inr none ↦ absurd
-          (∥∥₁_elim so (hlevel props)
-          (λ f. let b = f.held flow limited in
+          (∥∥₁_elim so (hlevel props) (λ f. let b = f.held flow limited in
           false≢true (sym (none b.side (in_from_contains sides b.side b.uses.listed)) ∙ passes flow b)))
     ];
   }

@@ -146,8 +146,7 @@ module _ (sides : List Side) (scale : ℕ) (frozen after : ℕ → Option ℕ) (
     filled_on = next sides scale frozen last after level filled (record {
       raised = raised;
       within =
-          All-from_contains (λ s. load (at_level frozen level) s ≤ s.cap * scale) sides
-          (λ side listed. room side listed
+          All-from_contains (λ s. load (at_level frozen level) s ≤ s.cap * scale) sides (λ side listed. room side listed
           (All-contains (IsCovered scale frozen (x ∷ opens)) sides side queue.covered listed));
       kept = kept;
       fresh = λ flow parts none e.

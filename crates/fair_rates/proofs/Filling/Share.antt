@@ -12,8 +12,7 @@ quotient_positive n by (suc quotient) some e = omega arith
 
 -- each of so many gets that
 pub whole : (slack count quotient rest shared factor left parts : ℕ) → count * quotient + rest ≡ slack
-    → factor * shared ≡ count → left * shared ≡ rest → parts ≡ quotient * factor + left
-    → parts * count ≡ slack * factor
+    → factor * shared ≡ count → left * shared ≡ rest → parts ≡ quotient * factor + left → parts * count ≡ slack * factor
 whole slack count quotient rest shared factor left parts divided is_factor is_left is_parts =
     omega (
       arith,
@@ -41,7 +40,6 @@ least_factor slack count quotient rest shared factor parts other some divided is
     let both : count ∣ gcd (other * rest) (other * count) =
     (gcd-IsGcd (other * rest) (other * count)).2 count first (dvd-mul_left count other) in
     let shares : factor * shared ∣ other * shared =
-    subst (λ n. n ∣ other * shared) (sym is_factor)
-    (subst (λ n. count ∣ other * n) (sym is_shared)
+    subst (λ n. n ∣ other * shared) (sym is_factor) (subst (λ n. count ∣ other * n) (sym is_shared)
     (subst (λ n. count ∣ n) (gcd-scaled other rest count any) both)) in
     le_of_dvd any (dvd_of_mul-dvd-mul_right factor positive shares)

@@ -21,8 +21,7 @@ module _ {X : Type 0} where
       (y ∷ before, after, ap (λ zs. y ∷ zs) split)
 
   apart_from_head : (x : X) (xs : List X) → AreApart (x ∷ xs) → (y : X) → Contains xs y → x ≢ y
-  apart_from_head x xs apart y (i, within, is) same =
-      apart 0 (suc i) y (omega arith) (omega arith) (same ∙ sym is)
+  apart_from_head x xs apart y (i, within, is) same = apart 0 (suc i) y (omega arith) (omega arith) (same ∙ sym is)
 
   apart_tail : (x : X) (xs : List X) → AreApart (x ∷ xs) → AreApart xs
   apart_tail x xs apart i j d less within = apart (suc i) (suc j) d (omega arith) (omega arith)
@@ -48,5 +47,4 @@ module _ {X : Type 0} where
       without before after y other has =
           ⊎_elim (λ h. Contains-append_left before after y h)
           (λ h. ⊎_elim (λ e. absurd (other (in_one x y e))) (λ k. Contains-append_right before after y k)
-          (Contains-append_cases (x ∷ []) after y h))
-          (Contains-append_cases before (x ∷ after) y has)
+          (Contains-append_cases (x ∷ []) after y h)) (Contains-append_cases before (x ∷ after) y has)

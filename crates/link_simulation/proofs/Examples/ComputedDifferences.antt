@@ -121,8 +121,7 @@ module _ {P : Type 0} (cmp : P → P → Ordering) (order : IsTotalOrder cmp) (p
   pub in_turn : (n : ℕ) (w : World P) (now : ℕ) → IsSound cmp w → before_next n w now ≡ true → (w.moment ≤ now)
       × IsBeforeNext cmp now w
   in_turn n w now sound e =
-      let two = and_parts (nat_le w.moment now && may_seek cmp order plan n w) (is_later (seek cmp order plan n w) now)
-      e in
+      let two = and_parts _ _ e in
       let one = and_parts (nat_le w.moment now) (may_seek cmp order plan n w) two.0 in
       grind (arith, next_is_one, is_later, ltb-true, (leb-true w.moment now one.0), (next_so cmp order plan n w one.1))
 
@@ -136,8 +135,7 @@ module _ {P : Type 0} (cmp : P → P → Ordering) (order : IsTotalOrder cmp) (p
       × Runs cmp w call now (goes ds v) × AllZip (SameCompletion cmp) cs ds × Agrees cmp v calls replies
 
   not_done : (n : ℕ) (w : World P) (call : Call P) (calls : List (Call P)) (now : ℕ) (cs : List (Completed P))
-      (replies : List (Reply P))
-      → Disagrees n calls replies → IsSound cmp w → moment_of call ≡ Some now
+      (replies : List (Reply P)) → Disagrees n calls replies → IsSound cmp w → moment_of call ≡ Some now
       → differ_at w call now (reply_done cs) (λ v. differ n v calls replies) ≡ true → ¬ Accepted w call calls cs replies
   not_done n w call calls now cs replies ih sound at e (now_too, ds, v, at_too, runs, same, rest) =
       let two : (may_tick cmp order plan (now - w.moment) w ≡ true) × (differ_done (course_of cmp order plan w call now)
@@ -153,8 +151,7 @@ module _ {P : Type 0} (cmp : P → P → Ordering) (order : IsTotalOrder cmp) (p
 
   -- a fault that is met is the one that is computed
   met : (w : World P) (call : Call P) (now : ℕ) (why : Error) → IsSound cmp w → moment_of call ≡ Some now
-      → is_none_such w call now why ≡ true
-      → Faults cmp w call why → is_met why (meets why) ≡ true → ⊥
+      → is_none_such w call now why ≡ true → Faults cmp w call why → is_met why (meets why) ≡ true → ⊥
   met w call now why sound at e (now_too, at_too, runs) is =
       let two : (may_tick cmp order plan (now - w.moment) w ≡ true)
       × (not (is_met why (course_of cmp order plan w call now)) ≡ true)
@@ -172,15 +169,13 @@ module _ {P : Type 0} (cmp : P → P → Ordering) (order : IsTotalOrder cmp) (p
   either_too false b e never next = next e
 
   not_refused : (n : ℕ) (w : World P) (call : Call P) (calls : List (Call P)) (now : ℕ) (why : Error)
-      (replies : List (Reply P))
-      → Disagrees n calls replies → IsSound cmp w → moment_of call ≡ Some now
+      (replies : List (Reply P)) → Disagrees n calls replies → IsSound cmp w → moment_of call ≡ Some now
       → differ_at w call now (reply_refused why) (λ v. differ n v calls replies) ≡ true
       → ¬ (MayRefuse cmp w call why × Agrees cmp w calls replies)
   not_refused n w call calls now OutOfMemory replies ih sound at e (may, rest) = ih w sound e rest
   not_refused n w call calls now NumberTooLarge replies ih sound at e (may, rest) = may
   not_refused n w call calls now why replies ih sound at e (may, rest) =
-      either_too (is_none_such w call now why) (differ n w calls replies) e
-      (λ none. met w call now why sound at none may refl) (λ d. ih w sound d rest)
+      either_too _ _ e (λ none. met w call now why sound at none may refl) (λ d. ih w sound d rest)
 
   -- such replies do not agree
   pub disagree : (n : ℕ) (calls : List (Call P)) (replies : List (Reply P)) → Disagrees n calls replies
@@ -193,13 +188,11 @@ module _ {P : Type 0} (cmp : P → P → Ordering) (order : IsTotalOrder cmp) (p
       = grind (arith, and_parts, same_moment) in
       let same : seek cmp order plan n w ≡ t =
       next_is_one cmp order w (seek cmp order plan n w) t sound.positive (next_so cmp order plan n w two.0) agrees.0 in
-      either (same_moment (seek cmp order plan n w) t) (differ n w calls replies) two.1
-      (moment_shown (seek cmp order plan n w) t same) (λ d. disagree n calls replies w sound d agrees.1)
+      either _ _ two.1 (moment_shown _ t same) (λ d. disagree n calls replies w sound d agrees.1)
   disagree n (call_next ∷ calls) (reply_done cs ∷ replies) w sound e agrees = agrees
   disagree n (call_next ∷ calls) (reply_refused why ∷ replies) w sound e agrees = agrees
   disagree n (call_advance now ∷ calls) (reply_done cs ∷ replies) w sound e agrees =
-      let two = and_parts (nat_le w.moment now)
-      (differ_at w (call_advance now) now (reply_done cs) (λ v. differ n v calls replies)) e in
+      let two = and_parts _ _ e in
       not_done n w (call_advance now) calls now cs replies (disagree n calls replies) sound refl two.1
       (agrees (leb-true w.moment now two.0))
   disagree n (call_advance now ∷ calls) (reply_refused why ∷ replies) w sound e agrees =

@@ -29,8 +29,7 @@ one_found : {X : Type 0} (test : X → Bool) (xs : List X) → list_any test xs 
     → (x : X) × Contains xs x × (test x ≡ true)
 one_found test [] e = cc
 one_found {X} test (x ∷ xs) e =
-    by_bool (test x) (λ is. (x, Contains-append_left (x ∷ []) xs x (0, omega arith, refl), is))
-    (λ is.
+    by_bool (test x) (λ is. (x, Contains-append_left (x ∷ []) xs x (0, omega arith, refl), is)) (λ is.
     let found : (y : X) × Contains xs y × (test y ≡ true) = (one_found test xs) (rw is at e) in
     (found.0, Contains-append_right (x ∷ []) xs found.0 found.1, found.2))
 
@@ -126,8 +125,7 @@ module _ {P : Type 0} (cmp : P → P → Ordering) (order : IsTotalOrder cmp) (p
   ticks_so (suc n) w e = grind (arith, goes_on, and_parts, by_instant, drains, (ticks_so n))
     where
       by_instant : (c : Course (Completed P) (World P)) → instant cmp (drifts w) ≡ c → goes_on c (may_tick n) ≡ true
-          → Drains cmp w (drifts w)
-          → ((u : World P) → may_tick n u ≡ true → Ticks cmp n u (ticked n u))
+          → Drains cmp w (drifts w) → ((u : World P) → may_tick n u ≡ true → Ticks cmp n u (ticked n u))
           → Ticks cmp (suc n) w (and_then c (ticked n))
       by_instant (goes cs u) is e d ih = one_tick d is (ih u e)
       by_instant (meets fault) is e d ih = tick_faults d is
@@ -185,8 +183,7 @@ module _ {P : Type 0} (cmp : P → P → Ordering) (order : IsTotalOrder cmp) (p
       by_end zero is on = never_comes (subst (λ (k : ℕ). Passes cmp k w w) (sym is) no_time)
       by_end (suc n) is on =
           let count : last_moment - v.moment ≡ n = omega arith in
-          never_comes
-          (subst (λ (k : ℕ). Passes cmp k w x) (sym is)
+          never_comes (subst (λ (k : ℕ). Passes cmp k w x) (sym is)
           (quiet_tick d q (subst (λ (k : ℕ). Passes cmp k v x) count p)))
   step_next w v o d q (comes_next p drains loud le) = comes_next (quiet_tick d q p) drains loud le
 
@@ -197,11 +194,10 @@ module _ {P : Type 0} (cmp : P → P → Ordering) (order : IsTotalOrder cmp) (p
   next_so (suc n) w e =
       let two = and_parts (is_planned w)
       (cond (is_quiet (drifts w)) (may_seek n (drifts w)) (nat_le (drifts w).moment last_moment)) e in
-      by_bool (is_quiet (drifts w))
-      (λ is. rw is (step_next w (drifts w) (seek n (drifts w)) (drains w two.0) (quiet_if_so (drifts w) is)
-      ((next_so n) (drifts w) (rw is at two.1))))
-      (λ is. rw is (comes_next no_time (drains w two.0) (loud_if_not (drifts w) is)
-      (leb-true (drifts w).moment last_moment (rw is at two.1))))
+      by_bool (is_quiet (drifts w)) (λ is. rw is (step_next w (drifts w) (seek n (drifts w)) (drains w two.0)
+      (quiet_if_so _ is) ((next_so n) (drifts w) (rw is at two.1)))) (λ is. rw is
+      (comes_next no_time (drains w two.0) (loud_if_not _ is) (leb-true (drifts w).moment last_moment
+      (rw is at two.1))))
 
   -- ---- replies
 
@@ -280,14 +276,12 @@ module _ {P : Type 0} (cmp : P → P → Ordering) (order : IsTotalOrder cmp) (p
       IsInTurn cmp w call → MayRefuse cmp w call why × Agrees cmp w calls replies
 
   limit_agrees : (w : World P) (now : ℕ) (peer : P) (egress ingress : Option ℕ) (calls : List (Call P))
-      (replies : List (Reply P))
-      → Replied w (call_limit now peer egress ingress) calls replies
+      (replies : List (Reply P)) → Replied w (call_limit now peer egress ingress) calls replies
       → Agrees cmp w (call_limit now peer egress ingress ∷ calls) replies
   limit_agrees w now peer egress ingress calls _ h = h
 
   link_agrees : (w : World P) (now : ℕ) (origin recipient : P) (cap : Option ℕ) (calls : List (Call P))
-      (replies : List (Reply P))
-      → Replied w (call_limit_link now origin recipient cap) calls replies
+      (replies : List (Reply P)) → Replied w (call_limit_link now origin recipient cap) calls replies
       → Agrees cmp w (call_limit_link now origin recipient cap ∷ calls) replies
   link_agrees w now origin recipient cap calls _ h = h
 
@@ -300,8 +294,7 @@ module _ {P : Type 0} (cmp : P → P → Ordering) (order : IsTotalOrder cmp) (p
   all_agree w now ms calls _ h = h
 
   advance_agrees : (w : World P) (now : ℕ) (calls : List (Call P)) (replies : List (Reply P))
-      → Replied w (call_advance now) calls replies
-      → Agrees cmp w (call_advance now ∷ calls) replies
+      → Replied w (call_advance now) calls replies → Agrees cmp w (call_advance now ∷ calls) replies
   advance_agrees w now calls _ h = h
 
   module _ (n : ℕ) (calls : List (Call P)) (ih : (v : World P) → may_answer n v calls ≡ true
@@ -324,18 +317,14 @@ module _ {P : Type 0} (cmp : P → P → Ordering) (order : IsTotalOrder cmp) (p
         (reply_agrees n calls (answers_agree n calls) w (call_limit now peer egress ingress) now refl e),
       )
   answers_agree n (call_limit_link now origin recipient cap ∷ calls) w e =
-      link_agrees w now origin recipient cap calls
-      (replied (course_of w (call_limit_link now origin recipient cap) now) w (λ v. answers n v calls))
-      (reply_agrees n calls (answers_agree n calls) w (call_limit_link now origin recipient cap) now refl e)
+      link_agrees w now origin recipient cap calls _ (reply_agrees n calls (answers_agree n calls) w
+      (call_limit_link now origin recipient cap) now refl e)
   answers_agree n (call_enqueue now m ∷ calls) w e =
-      enqueue_agrees w now m calls (replied (course_of w (call_enqueue now m) now) w (λ v. answers n v calls))
-      (reply_agrees n calls (answers_agree n calls) w (call_enqueue now m) now refl e)
+      enqueue_agrees w now m calls _ (reply_agrees n calls (answers_agree n calls) w (call_enqueue now m) now refl e)
   answers_agree n (call_enqueue_all now ms ∷ calls) w e =
-      all_agree w now ms calls (replied (course_of w (call_enqueue_all now ms) now) w (λ v. answers n v calls))
-      (reply_agrees n calls (answers_agree n calls) w (call_enqueue_all now ms) now refl e)
+      all_agree w now ms calls _ (reply_agrees n calls (answers_agree n calls) w (call_enqueue_all now ms) now refl e)
   answers_agree n (call_advance now ∷ calls) w e =
-      advance_agrees w now calls (replied (course_of w (call_advance now) now) w (λ v. answers n v calls))
-      (reply_agrees n calls (answers_agree n calls) w (call_advance now) now refl e)
+      advance_agrees w now calls _ (reply_agrees n calls (answers_agree n calls) w (call_advance now) now refl e)
   answers_agree n (call_next ∷ calls) w e = grind (arith, and_parts, next_so, (answers_agree n calls w))
 
   -- a list of replies that these are

@@ -43,8 +43,7 @@ module _ {P : Type 0} (cmp : P → P → Ordering) (order : IsTotalOrder cmp) (p
           ≡ Some c
           → Rebalances cmp now caps p c
       by_sending [] is e =
-          let found = bound (look cmp order plan hint n now (record p { caps = caps; limited = true })) (λ q. Some
-          (goes [] q)) c e in
+          let found = bound _ (λ q. Some _) c e in
           subst (Rebalances cmp now caps p) (the_same found.2)
           (none_sending is (look_so cmp order plan hint n now (record p {
             caps = caps;
@@ -77,31 +76,26 @@ module _ {P : Type 0} (cmp : P → P → Ordering) (order : IsTotalOrder cmp) (p
       by_limited : (b : Bool) → p.limited ≡ b
           → cond b (bind (launch cmp order plan hint n now (with_queued cmp p m) (next_of cmp (with_queued cmp p m) m))
           (λ c. followed c (λ leavers mid. finish_all cmp order plan hint n now n leavers mid)))
-          (Some (completed_at_once cmp now p m))
-          ≡ Some c
-          → Enqueues cmp now m p c
+          (Some (completed_at_once cmp now p m)) ≡ Some c → Enqueues cmp now m p c
       by_limited true is e = grind (arith, bound, by_launch, launch_so)
       by_limited false is e = subst (Enqueues cmp now m p) (the_same e) (at_once is)
 
   abbrev pub each_at : ℕ → List (Message P) → Planned P → Option (Course (Completed P) (Planned P))
   each_at now [] p = Some (goes [] p)
   each_at now (m ∷ ms) p =
-      bind (enqueue_at now m p)
-      (λ c. followed c (λ cs q. bind (each_at now ms q) (λ rest. Some (preceded cs rest))))
+      bind (enqueue_at now m p) (λ c. followed c (λ cs q. bind (each_at now ms q) (λ rest. Some (preceded cs rest))))
 
   each_at_so : (now : ℕ) (ms : List (Message P)) (p : Planned P) (c : Course (Completed P) (Planned P))
       → each_at now ms p ≡ Some c → EnqueuesEach cmp now ms p c
   each_at_so now [] p c e = subst (EnqueuesEach cmp now [] p) (the_same e) all_enqueued
   each_at_so now (m ∷ ms) p c e =
-      let found = bound (enqueue_at now m p)
-      (λ d. followed d (λ cs q. bind (each_at now ms q) (λ rest. Some (preceded cs rest)))) c e in
+      let found = bound _ (λ d. followed d (λ cs q. bind _ (λ rest. Some _))) c e in
       by_course found.0 (enqueue_at_so now m p found.0 found.1) found.2 (each_at_so now ms)
     where
       by_course : (d : Course (Completed P) (Planned P)) → Enqueues cmp now m p d
           → followed d (λ cs q. bind (each_at now ms q) (λ rest. Some (preceded cs rest))) ≡ Some c
           → ((q : Planned P) (f : Course (Completed P) (Planned P)) → each_at now ms q ≡ Some f
-          → EnqueuesEach cmp now ms q f)
-          → EnqueuesEach cmp now (m ∷ ms) p c
+          → EnqueuesEach cmp now ms q f) → EnqueuesEach cmp now (m ∷ ms) p c
       by_course (meets fault) one e ih = subst (EnqueuesEach cmp now (m ∷ ms) p) (the_same e) (one_stops one)
       by_course (goes cs q) one e ih =
           let found = bound (each_at now ms q) (λ rest. Some (preceded cs rest)) c e in
@@ -125,8 +119,7 @@ module _ {P : Type 0} (cmp : P → P → Ordering) (order : IsTotalOrder cmp) (p
   abbrev pub advance_at : ℕ → ℕ → Planned P → Option (Course (Completed P) (Planned P))
   advance_at now zero p = None
   advance_at now (suc k) p =
-      cond (is_past now (next_event p)) (wake_at cmp order plan hint n now p)
-      (bind (event_of p (next_event p))
+      cond (is_past now (next_event p)) (wake_at cmp order plan hint n now p) (bind (event_of p (next_event p))
       (λ c. followed c (λ cs q. bind (advance_at now k q) (λ rest. Some (preceded cs rest)))))
 
   abbrev Advanced : ℕ → Planned P → Course (Completed P) (Planned P) → Type 0
@@ -168,8 +161,7 @@ module _ {P : Type 0} (cmp : P → P → Ordering) (order : IsTotalOrder cmp) (p
             1,
             start_stops (is_not_at t p.finish finish) is due
                 (wake_each_so cmp order plan hint n t (filter (may_launch cmp t p) (fronts cmp p.waiting))
-                (record p { start = None })
-                (meets fault) e),
+                (record p { start = None }) (meets fault) e),
           )
       at_event t true (goes cs q) is due finish e more ih =
           let found = bound (advance_at now k q) (λ rest. Some (preceded cs rest)) c more in
@@ -187,21 +179,16 @@ module _ {P : Type 0} (cmp : P → P → Ordering) (order : IsTotalOrder cmp) (p
             rest.0 + 1,
             at_start (is_not_at t p.finish finish) is due
                 (wake_each_so cmp order plan hint n t (filter (may_launch cmp t p) (fronts cmp p.waiting))
-                (record p { start = None })
-                (goes cs q) e) rest.1,
+                (record p { start = None }) (goes cs q) e) rest.1,
           )
 
       by_past : (t : ℕ) (b : Bool) → next_event p ≡ Some t → nat_lt now t ≡ b
-          → cond b (wake_at cmp order plan hint n now p)
-          (bind (event_of p (Some t))
-          (λ d. followed d (λ cs q. bind (advance_at now k q) (λ rest. Some (preceded cs rest)))))
-          ≡ Some c
-          → AreAdvanced now k
-          → Advanced now p c
+          → cond b (wake_at cmp order plan hint n now p) (bind (event_of p (Some t))
+          (λ d. followed d (λ cs q. bind (advance_at now k q) (λ rest. Some (preceded cs rest))))) ≡ Some c
+          → AreAdvanced now k → Advanced now p c
       by_past t true is past e ih = grind (arith, no_more, ltb-true, wake_each_so)
       by_past t false is past e ih =
-          let found = bound (event_of p (Some t))
-          (λ d. followed d (λ cs q. bind (advance_at now k q) (λ rest. Some (preceded cs rest)))) c e in
+          let found = bound _ (λ d. followed d (λ cs q. bind _ (λ rest. Some _))) c e in
           at_event t (is_moment t p.finish) found.0 is (ltb-false now t past) refl found.1 found.2 ih
 
   abbrev pub obeys_at : Planned P → Call P → Option (Course (Completed P) (Planned P))
@@ -259,25 +246,21 @@ module _ {P : Type 0} (cmp : P → P → Ordering) (order : IsTotalOrder cmp) (p
       × Obeyed cmp q calls replies
 
   limit_obeyed : (p : Planned P) (now : ℕ) (peer : P) (egress ingress : Option ℕ) (calls : List (Call P))
-      (replies : List (Reply P))
-      → Replied p (call_limit now peer egress ingress) calls replies
+      (replies : List (Reply P)) → Replied p (call_limit now peer egress ingress) calls replies
       → Obeyed cmp p (call_limit now peer egress ingress ∷ calls) replies
   limit_obeyed p now peer egress ingress calls _ h = h
 
   link_obeyed : (p : Planned P) (now : ℕ) (origin recipient : P) (cap : Option ℕ) (calls : List (Call P))
-      (replies : List (Reply P))
-      → Replied p (call_limit_link now origin recipient cap) calls replies
+      (replies : List (Reply P)) → Replied p (call_limit_link now origin recipient cap) calls replies
       → Obeyed cmp p (call_limit_link now origin recipient cap ∷ calls) replies
   link_obeyed p now origin recipient cap calls _ h = h
 
   enqueue_obeyed : (p : Planned P) (now : ℕ) (m : Message P) (calls : List (Call P)) (replies : List (Reply P))
-      → Replied p (call_enqueue now m) calls replies
-      → Obeyed cmp p (call_enqueue now m ∷ calls) replies
+      → Replied p (call_enqueue now m) calls replies → Obeyed cmp p (call_enqueue now m ∷ calls) replies
   enqueue_obeyed p now m calls _ h = h
 
   all_obeyed : (p : Planned P) (now : ℕ) (ms : List (Message P)) (calls : List (Call P)) (replies : List (Reply P))
-      → Replied p (call_enqueue_all now ms) calls replies
-      → Obeyed cmp p (call_enqueue_all now ms ∷ calls) replies
+      → Replied p (call_enqueue_all now ms) calls replies → Obeyed cmp p (call_enqueue_all now ms ∷ calls) replies
   all_obeyed p now ms calls _ h = h
 
   advance_obeyed : (p : Planned P) (now : ℕ) (calls : List (Call P)) (replies : List (Reply P))

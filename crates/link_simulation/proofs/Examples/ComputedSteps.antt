@@ -107,8 +107,7 @@ module _ {P : Type 0} (cmp : P → P → Ordering) (order : IsTotalOrder cmp) (p
         left = f.left;
         rate = rate_of shares.per (if is_unlimited cmp caps f.message then None else Some (shares.parts place));
         updated = t;
-      }
-      ∷ rated_flight caps shares t (place + 1) fs
+      } ∷ rated_flight caps shares t (place + 1) fs
 
   abbrev pub staying : ℕ → Planned P → List (RatedFlight P)
   staying t p = filter (λ f. not (is_spent cmp p.caps f)) (drained_to t p.sending)
@@ -131,8 +130,7 @@ module _ {P : Type 0} (cmp : P → P → Ordering) (order : IsTotalOrder cmp) (p
   spent_if_so : (s : ℕ) (fs : List (RatedFlight P)) → list_any (is_spent_at s) fs ≡ true → SomeSpentAt fs s
   spent_if_so s [] e = cc
   spent_if_so s (f ∷ fs) e =
-      by_bool (is_spent_at s f)
-      (λ is.
+      by_bool (is_spent_at s f) (λ is.
       let two = and_parts (nat_le f.updated s) ((left_at s f).num == 0) is in
       (0, f, refl, leb-true f.updated s two.0, eqb-true (left_at s f).num 0 two.1))
       (λ is. let rest : SomeSpentAt fs s = (spent_if_so s fs) (rw is at e)
@@ -177,8 +175,7 @@ module _ {P : Type 0} (cmp : P → P → Ordering) (order : IsTotalOrder cmp) (p
       spent_before lt all =
           let positive = positive_at sending some.0 some.1 all some.2 in
           let updated : some.1.updated ≤ s = some.3 in
-          let on = spent_later some.1.rate (s - some.1.updated) (from - 1 - some.1.updated) some.1.left positive.1
-          positive.0 (omega arith) some.4 in
+          let on = spent_later some.1.rate _ _ some.1.left positive.1 positive.0 (omega arith) some.4 in
           so_if_spent (from - 1) sending some.0 some.1 some.2 (omega arith) on
 
       not_both : (b : Bool) → b ≡ true → not b ≡ true → ⊥
@@ -228,8 +225,7 @@ module _ {P : Type 0} (cmp : P → P → Ordering) (order : IsTotalOrder cmp) (p
         finish = o;
       })) q two.1 in
       let from : ℕ = hint t (rated_messages sending) in
-      let skip = given_so (may_skip t from sending)
-      (sought (is_none_of sending) (λ s. list_any (is_spent_at s) sending) n from) found.0 found.1 in
+      let skip = given_so _ _ found.0 found.1 in
       let starts_at : (s : ℕ) → SomeSpentAt sending s → t ≤ s = grind (arith, updated_at) in
       let same : record p { sending = sending; accounted = t; finish = found.0 } ≡ q = the_same found.2 in
       subst (Accounts cmp t p (leavers_of t p)) same record {
@@ -240,9 +236,8 @@ module _ {P : Type 0} (cmp : P → P → Ordering) (order : IsTotalOrder cmp) (p
         fair = grind (arith, fair_if_so);
         rated = rated_so p.caps shares t 0 (staying t p);
         finish =
-            sought_so (SomeSpentAt sending) (λ s. list_any (is_spent_at s) sending) (λ s h. spent_if_so s sending h)
-            (λ s h. so_if_spent s sending h.0 h.1 h.2 h.3 h.4) (is_none_of sending) n from found.0
-            (λ h s some. no_flight sending s h some)
+            sought_so _ (λ s. list_any _ sending) (λ s h. spent_if_so s sending h)
+            (λ s h. so_if_spent s sending h.0 h.1 h.2 h.3 h.4) _ n from found.0 (λ h s some. no_flight sending s h some)
             (λ s some. skip_so t from sending skip.0 s some (starts_at s some)) skip.1;
         same = refl;
       }
@@ -304,24 +299,18 @@ module _ {P : Type 0} (cmp : P → P → Ordering) (order : IsTotalOrder cmp) (p
   abbrev pub launch : ℕ → Planned P → Option (Message P) → Option (Course (Message P) (Planned P))
   launch t p None = Some (goes [] p)
   launch t p (Some m) =
-      cond (may_launch cmp t p m)
-      (cond (nat_lt p.next_id last_moment)
+      cond (may_launch cmp t p m) (cond (nat_lt p.next_id last_moment)
       (bind (account t (launched cmp t p m)) (λ q. Some (goes (leavers_of t (launched cmp t p m)) q)))
-      (Some (meets FlowIdsUsedUp)))
-      (Some (goes [] p))
+      (Some (meets FlowIdsUsedUp))) (Some (goes [] p))
 
   pub launch_so : (t : ℕ) (p : Planned P) (o : Option (Message P)) (c : Course (Message P) (Planned P))
       → launch t p o ≡ Some c → Launches cmp t p o c
   launch_so t p None c e = subst (Launches cmp t p None) (the_same e) nothing_waits
   launch_so t p (Some m) c e = by_test (may_launch cmp t p m) (nat_lt p.next_id last_moment) refl refl e
     where
-      by_test : (b d : Bool) → may_launch cmp t p m ≡ b → nat_lt p.next_id last_moment ≡ d
-          → cond b
+      by_test : (b d : Bool) → may_launch cmp t p m ≡ b → nat_lt p.next_id last_moment ≡ d → cond b
           (cond d (bind (account t (launched cmp t p m)) (λ q. Some (goes (leavers_of t (launched cmp t p m)) q)))
-          (Some (meets FlowIdsUsedUp)))
-          (Some (goes [] p))
-          ≡ Some c
-          → Launches cmp t p (Some m) c
+          (Some (meets FlowIdsUsedUp))) (Some (goes [] p)) ≡ Some c → Launches cmp t p (Some m) c
       by_test true true may below e =
           let found = bound (account t (launched cmp t p m)) (λ q. Some (goes (leavers_of t (launched cmp t p m)) q)) c
           e in
@@ -336,8 +325,7 @@ module _ {P : Type 0} (cmp : P → P → Ordering) (order : IsTotalOrder cmp) (p
   finish_all t zero ms p = None
   finish_all t (suc k) [] p = bind (look t p) (λ q. Some (goes [] q))
   finish_all t (suc k) (m ∷ ms) p = cond (is_late cmp t m) (Some (meets MomentTooLate))
-      (bind (launch t (landed cmp t p m) (next_of cmp p m))
-      (λ c. followed c
+      (bind (launch t (landed cmp t p m) (next_of cmp p m)) (λ c. followed c
       (λ more q. bind (finish_all t k (ms ++ more) q) (λ rest. Some (preceded (completed cmp t m ∷ []) rest)))))
 
   abbrev AreFinishes : ℕ → ℕ → Type 0
@@ -351,14 +339,12 @@ module _ {P : Type 0} (cmp : P → P → Ordering) (order : IsTotalOrder cmp) (p
       let found : (q : Planned P) × (look t p ≡ Some q) × (Some (goes [] q) ≡ Some c) = grind (arith, bound) in
       subst (Finishes cmp t [] p) (the_same found.2) (all_completed (look_so t p found.0 found.1))
   finish_all_so t (suc k) (m ∷ ms) p c e =
-      by_bool (is_late cmp t m) (λ is. subst (Finishes cmp t (m ∷ ms) p) (the_same (rw is at e)) (late is))
-      (λ is.
+      by_bool (is_late cmp t m) (λ is. subst (Finishes cmp t (m ∷ ms) p) (the_same (rw is at e)) (late is)) (λ is.
       let found = bound (launch t (landed cmp t p m) (next_of cmp p m)) (λ l. followed l
       (λ more q. bind (finish_all t k (ms ++ more) q) (λ rest. Some (preceded (completed cmp t m ∷ []) rest)))) c
       (rw is at e)
       in
-      by_launch found.0 is (launch_so t (landed cmp t p m) (next_of cmp p m) found.0 found.1) found.2
-      (finish_all_so t k))
+      by_launch found.0 is (launch_so t _ _ found.0 found.1) found.2 (finish_all_so t k))
     where
       by_launch : (l : Course (Message P) (Planned P)) → is_late cmp t m ≡ false
           → Launches cmp t (landed cmp t p m) (next_of cmp p m) l
@@ -372,9 +358,7 @@ module _ {P : Type 0} (cmp : P → P → Ordering) (order : IsTotalOrder cmp) (p
   abbrev pub wake_each : ℕ → List (Message P) → Planned P → Option (Course (Completed P) (Planned P))
   wake_each t [] p = bind (look t p) (λ q. Some (goes [] q))
   wake_each t (m ∷ ms) p =
-      bind (launch t p (next_of cmp p m))
-      (λ c. followed c
-      (λ more q. bind (finish_all t n more q)
+      bind (launch t p (next_of cmp p m)) (λ c. followed c (λ more q. bind (finish_all t n more q)
       (λ d. followed d (λ cs r. bind (wake_each t ms r) (λ rest. Some (preceded cs rest))))))
 
   abbrev AreWakes : ℕ → List (Message P) → Type 0
@@ -400,17 +384,13 @@ module _ {P : Type 0} (cmp : P → P → Ordering) (order : IsTotalOrder cmp) (p
           let found = bound (wake_each t ms r) (λ rest. Some (preceded cs rest)) c e in
           subst (WakesEach cmp t (m ∷ ms) p) (the_same found.2) (starts_one l f (ih r found.0 found.1))
 
-      by_launch : (l : Course (Message P) (Planned P)) → Launches cmp t p (next_of cmp p m) l
-          → followed l
+      by_launch : (l : Course (Message P) (Planned P)) → Launches cmp t p (next_of cmp p m) l → followed l
           (λ more q. bind (finish_all t n more q)
-          (λ d. followed d (λ cs r. bind (wake_each t ms r) (λ rest. Some (preceded cs rest)))))
-          ≡ Some c
-          → AreWakes t ms
-          → WakesEach cmp t (m ∷ ms) p c
+          (λ d. followed d (λ cs r. bind (wake_each t ms r) (λ rest. Some (preceded cs rest))))) ≡ Some c
+          → AreWakes t ms → WakesEach cmp t (m ∷ ms) p c
       by_launch (meets fault) l e ih = subst (WakesEach cmp t (m ∷ ms) p) (the_same e) (no_start l)
       by_launch (goes more q) l e ih =
-          let found = bound (finish_all t n more q)
-          (λ d. followed d (λ cs r. bind (wake_each t ms r) (λ rest. Some (preceded cs rest)))) c e in
+          let found = bound _ (λ d. followed d (λ cs r. bind _ (λ rest. Some _))) c e in
           by_finish more q found.0 l (finish_all_so t n more q found.0 found.1) found.2 ih
 
   abbrev pub wake_at : ℕ → Planned P → Option (Course (Completed P) (Planned P))

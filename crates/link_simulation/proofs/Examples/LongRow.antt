@@ -25,8 +25,7 @@ speed = record { num = 3; den = 1 }
 some_left : (k : ℕ) → k ≤ 333333333 → ((drained (whole 1) speed k).num == 0) ≡ false
 unfolding speed
 some_left k h =
-    by_bool ((drained (whole 1) speed k).num == 0)
-    (λ e. rw e (
+    by_bool ((drained (whole 1) speed k).num == 0) (λ e. rw e (
     let c = covers_if_spent (whole 1) speed k (omega arith) (omega arith)
     (eqb-true ((drained (whole 1) speed k).num) 0 e) in
     absurd (omega arith))) (λ e. rw e refl)

@@ -16,8 +16,7 @@ module _ {P : Type 0} (cmp : P → P → Ordering) (order : IsTotalOrder cmp) wh
   ticks_of w now c runs = grind (arith, common_steps, nothing_more)
 
   pub advance_splits : (w v : World P) (a b : ℕ) (cs : List (Completed P)) (course : Course (Completed P) (World P))
-      → w.moment ≤ a → a ≤ b
-      → Runs cmp w (call_advance a) a (goes cs v) → Runs cmp v (call_advance b) b course
+      → w.moment ≤ a → a ≤ b → Runs cmp w (call_advance a) a (goes cs v) → Runs cmp v (call_advance b) b course
       → Runs cmp w (call_advance b) b (preceded cs course)
   advance_splits w v a b cs course after later first second =
       let first_ticks = ticks_of w a (goes cs v) first in

@@ -157,8 +157,7 @@ module _ {P : Type 0} (cmp : P → P → Ordering) (order : IsTotalOrder cmp) wh
     comes : now + suc k ≤ last_moment → NextIs cmp sent (Some (now + suc k))
     comes within =
         let r = reaches k (omega arith) in
-        comes_next r.1 r.2
-        (λ quiet. let none = quiet.none_done in
+        comes_next r.1 r.2 (λ quiet. let none = quiet.none_done in
         busy none)
         within
       where

@@ -10,15 +10,15 @@ use Rattle.link_simulation.proofs.Common.{may_start, meets, ready, settle, settl
 use Rattle.link_simulation.proofs.Common.{wake_within, EndsWith, out_of_flight, completed, flight_of, Runs}
 use Rattle.link_simulation.proofs.Common.{call_advance, Caps, Message, same_pair, rate_of, is_unlimited, rates_from}
 use Rattle.link_simulation.proofs.Common.{AreFair, Parts, capped_sides, drained_by, sides_for, ArePositive, Drains}
-use Rattle.link_simulation.proofs.Common.{Ticks, drain_each, no_tick, one_tick, tick_faults, places_from, Each}
+use Rattle.link_simulation.proofs.Common.{Ticks, drain_each, no_tick, one_tick, tick_faults, places_from, Each, turn}
 use borrow.Author.Tests.{eqb-true}
 use Rattle.std.specs.Prelude.{Contains}
 use Rattle.std.proofs.Math.Nat.{add-mul, mul-add, zero-add}
 use Rattle.std.proofs.lemmas.List.Sums.{sum_by-cons}
 use Rattle.link_simulation.specs.Laws.Bytes.{allowance, bytes_from, left_from, waiting_from}
-use Rattle.link_simulation.proofs.Simulation.Queue.{then_then, peer_like, settle_none, settle_first, find_passes}
-use Rattle.link_simulation.proofs.Simulation.Queue.{by_option}
+use Rattle.link_simulation.proofs.Simulation.Queue.{then_then, peer_like, find_passes, by_option}
 use Rattle.link_simulation.proofs.Simulation.SettlingEnds.{ends_preceded, ends_and_then, ends_cond, find_like}
+use Rattle.link_simulation.proofs.Simulation.SettlingEnds.{wake_keeps, settle_keeps}
 use Rattle.link_simulation.proofs.Simulation.Split.{rest_is}
 use Rattle.link_simulation.proofs.Laws.AmountOrder.{share, at_most_itself, at_most_trans, plus_under, plus_spent}
 use Rattle.link_simulation.proofs.Laws.AmountOrder.{plus_shares, plus_whole, two_shares, share_grows, lowest_takes}
@@ -127,8 +127,7 @@ module _ {P : Type 0} (cmp : P → P → Ordering) (order : IsTotalOrder cmp) wh
 
   passing_limited : (caps : Caps P) (parts : ℕ → ℕ) (test : Message P → Bool) (place : ℕ) (ms : List (Message P))
       → ((m : Message P) → test m ≡ true → is_unlimited cmp caps m ≡ false) → (i : ℕ)
-      → slice_get (map test ms) i ≡ Some true
-      → slice_get (rates_from cmp caps parts place ms) i ≡ Some None → ⊥
+      → slice_get (map test ms) i ≡ Some true → slice_get (rates_from cmp caps parts place ms) i ≡ Some None → ⊥
   passing_limited caps parts test place [] limited i at is = cc
   passing_limited caps parts test place (m ∷ ms) limited zero at is = grind arith
   passing_limited caps parts test place (m ∷ ms) limited (suc i) at is =
@@ -207,33 +206,20 @@ module _ {P : Type 0} (cmp : P → P → Ordering) (order : IsTotalOrder cmp) wh
         )
 
     settle_within_follows : (n t : ℕ) (w : World P) → Holds w → EndsWith (Follows w) (settle_within cmp n t w)
-    settle_within_follows zero t w h = follows_itself w h
-    settle_within_follows (suc n) t w h =
-        grind (
-          arith,
-          settle_none,
-          follows_itself,
-          settle_first,
-          follows_then,
-          complete_follows,
-          (settle_within_follows n t),
-        )
+    settle_within_follows n t w h =
+        settle_keeps cmp order (Follows w) t (λ v f e k. ends_more w v k (complete cmp t v f.message)
+        (complete_follows t v f k.holds)) n w (follows_itself w h)
+
+    turn_follows : (t : ℕ) (w : World P) (m : Message P) → least_pair cmp (ready cmp t w) ≡ Some m → Holds w
+        → EndsWith (Follows w) (turn cmp t w m)
+    turn_follows t w m e h =
+        follows_then w (start cmp w m) (settle cmp t) (start_follows w m h (ready_is_first t w m e))
+        (λ v k. settle_within_follows (length v.sending + length v.waiting) t v k)
 
     wake_within_follows : (n t : ℕ) (w : World P) → Holds w → EndsWith (Follows w) (wake_within cmp n t w)
-    wake_within_follows zero t w h = follows_itself w h
-    wake_within_follows (suc n) t w h =
-        grind (
-          arith,
-          wake_none,
-          follows_itself,
-          wake_first,
-          follows_then,
-          start,
-          start_follows,
-          ready_is_first,
-          settle_within_follows,
-          (wake_within_follows n t),
-        )
+    wake_within_follows n t w h =
+        wake_keeps cmp order (Follows w) t (λ v m e k. ends_more w v k (turn cmp t v m) (turn_follows t v m e k.holds))
+        n w (follows_itself w h)
 
     pub instant_follows : (w : World P) → Holds w → EndsWith (Follows w) (instant cmp w)
     instant_follows w h = grind (arith, follows_then, settle_within_follows, wake_within_follows)
@@ -259,14 +245,12 @@ module _ {P : Type 0} (cmp : P → P → Ordering) (order : IsTotalOrder cmp) wh
     fair_is_capped : (w : World P) (per : ℕ) (rates : Parts) → Holds w → AreFair cmp w.caps (flows w) per rates
         → AreCapped (flows w) per rates
     fair_is_capped w per rates h fair =
-        by_option (find from_it (flows w))
-        (λ e.
+        by_option (find from_it (flows w)) (λ e.
         record {
           within = let z : total (map from_it (flows w)) rates ≡ 0 = none_total from_it (flows w) rates e in
               omega arith;
           limited = limits;
-        })
-        (λ m e.
+        }) (λ m e.
         let from : same_peer cmp p m.origin ≡ true = find_passes from_it m (flows w) e in
         let side : Side =
         record {
@@ -286,8 +270,7 @@ module _ {P : Type 0} (cmp : P → P → Ordering) (order : IsTotalOrder cmp) wh
         limits i at is = grind (arith, passing_limited, own_limited)
 
     drained_one : (per n others : ℕ) (left before after : Amount) (c : Bool) (r : Option ℕ) → 0 < per → 0 < left.den
-        → (c ≡ true → r ≡ None → ⊥)
-        → IsAtMost before (plus after (share (others * n) (per * billion)))
+        → (c ≡ true → r ≡ None → ⊥) → IsAtMost before (plus after (share (others * n) (per * billion)))
         → IsAtMost (if c then plus left before else before)
         (plus (if c then plus (drained_by (rate_of per r) n left) after else after)
         (share ((part_of c r + others) * n) (per * billion)))
@@ -299,16 +282,14 @@ module _ {P : Type 0} (cmp : P → P → Ordering) (order : IsTotalOrder cmp) wh
 
     drained_each : (per : ℕ) (rates : Parts) (n : ℕ) (fs : List (Flight P)) → 0 < per → ArePositive fs
         → ((i : ℕ) → slice_get (map from_it (map (λ (f : Flight P). f.message) fs)) i ≡ Some true
-        → slice_get rates i ≡ Some None → ⊥)
-        → IsAtMost (left_from cmp p fs)
+        → slice_get rates i ≡ Some None → ⊥) → IsAtMost (left_from cmp p fs)
         (plus (left_from cmp p (drain_each per rates n fs))
         (share (total (map from_it (map (λ (f : Flight P). f.message) fs)) rates * n) (per * billion)))
     drained_each per rates n [] some pos limited = grind arith
     drained_each per [] n (f ∷ fs) some pos limited = grind arith
     drained_each per (r ∷ rs) n (f ∷ fs) some pos limited =
-        drained_one per n (total (map from_it (map (λ (g : Flight P). g.message) fs)) rs) f.left (left_from cmp p fs)
-        (left_from cmp p (drain_each per rs n fs)) (same_peer cmp p f.message.origin) r some pos.0
-        (λ is none. limited 0 (ap Some is) (ap Some none)) (drained_each per rs n fs some pos.1 (λ i. limited (suc i)))
+        drained_one per n _ f.left _ _ _ r some pos.0 (λ is none. limited 0 (ap Some is) (ap Some none))
+        (drained_each per rs n fs some pos.1 (λ i. limited (suc i)))
 
     -- in one nanosecond, no more goes than the cap lets go
     pub record Loses (n : ℕ) (w v : World P) : Type 0 where

@@ -17,8 +17,7 @@ module _ {P : Type 0} (cmp : P → P → Ordering) (order : IsTotalOrder cmp) wh
     -- ---- what is in flight
 
     left_alike : (t : ℕ) (fs : List (RatedFlight P)) (gs hs : List (Flight P)) → AllZip (IsSameFlight cmp t) fs gs
-        → AllZip (IsSameFlight cmp t) fs hs
-        → left_from cmp origin gs ≡ left_from cmp origin hs
+        → AllZip (IsSameFlight cmp t) fs hs → left_from cmp origin gs ≡ left_from cmp origin hs
     left_alike t [] [] [] a b = refl
     left_alike t [] (g ∷ gs) hs a b = absurd a
     left_alike t [] [] (h ∷ hs) a b = absurd b
@@ -35,8 +34,7 @@ module _ {P : Type 0} (cmp : P → P → Ordering) (order : IsTotalOrder cmp) wh
     waiting_zip (m ∷ ms) [] all = absurd all
     waiting_zip (m ∷ ms) (n ∷ ns) all = grind (arith, (waiting_zip ms ns))
 
-    waiting_parted : (test : Message P → Bool) (ms : List (Message P))
-        → waiting_from cmp origin ms
+    waiting_parted : (test : Message P → Bool) (ms : List (Message P)) → waiting_from cmp origin ms
         ≡ waiting_from cmp origin (filter test ms) + waiting_from cmp origin (filter (λ m. not (test m)) ms)
     waiting_parted test [] = refl
     waiting_parted test (m ∷ ms) = grind (arith, (waiting_parted test ms))
@@ -84,8 +82,7 @@ module _ {P : Type 0} (cmp : P → P → Ordering) (order : IsTotalOrder cmp) wh
       let sound : IsSound cmp w = sound_of_stands cmp order p w stands in
       let capped = sym (stands.follows.tallies.caps.egress origin origin (same_itself cmp order origin)) ∙ is in
       let loses = advance_loses cmp order origin cap w run.after now run.answers run.runs (record {
-        positive =
-            sound.positive;
+        positive = sound.positive;
         egress = λ q e. sym (sound.caps.egress origin q e) ∙ capped;
       }) in
       subst (λ (b : Amount). IsAtMost (bytes_from cmp origin w) (plus b (allowance cap (now - w.moment))))
@@ -100,13 +97,11 @@ in_numbers : (bytes cap time : ℕ) → IsAtMost (whole bytes) (plus (whole 0) (
 in_numbers bytes cap time h = omega arith
 
 pub sending_takes : {P : Type 0} (cmp : P → P → Ordering) (p q : Planned P) (w v : World P) (origin : P)
-    (bytes cap now : ℕ)
-    → KeepsToCaps cmp p now q
+    (bytes cap now : ℕ) → KeepsToCaps cmp p now q
     → StandsFor cmp p w → StandsFor cmp q v → w.moment ≤ now → v.moment ≡ now → p.caps.egress origin ≡ Some cap
     → bytes_from cmp origin w ≡ whole bytes → bytes_from cmp origin v ≡ whole 0
     → bytes * 1_000_000_000 ≤ cap * (now - w.moment)
 sending_takes cmp p q w v origin bytes cap now keeps stands_p stands_q after at is before left =
-    in_numbers bytes cap (now - w.moment)
-    (subst (λ (a : Amount). IsAtMost a (plus (whole 0) (allowance cap (now - w.moment)))) before
+    in_numbers bytes cap _ (subst (λ (a : Amount). IsAtMost a (plus (whole 0) (allowance cap (now - w.moment)))) before
     (subst (λ (a : Amount). IsAtMost (bytes_from cmp origin w) (plus a (allowance cap (now - w.moment)))) left
     (keeps w v origin cap stands_p stands_q after at is)))

@@ -42,10 +42,8 @@ module _ {P : Type 0} (cmp : P → P → Ordering) (order : IsTotalOrder cmp) wh
 
   -- where at most one message of a pair is in flight, it is among those that pass a test or among the others
   one_split : (k : Message P) (test : RatedFlight P → Bool) (fs : List (RatedFlight P))
-      → OneForEachPair cmp (rated_messages fs)
-      → of_pair cmp k (rated_messages (filter test fs))
-      ++ of_pair cmp k (rated_messages (filter (λ f. not (test f)) fs))
-      ≡ of_pair cmp k (rated_messages fs)
+      → OneForEachPair cmp (rated_messages fs) → of_pair cmp k (rated_messages (filter test fs))
+      ++ of_pair cmp k (rated_messages (filter (λ f. not (test f)) fs)) ≡ of_pair cmp k (rated_messages fs)
   one_split k test [] one = refl
   one_split k test (f ∷ fs) one =
       grind (arith, filter_nothing, any_of_fewer, any_like, before_both, append-nil, (one_split k test fs))
@@ -56,14 +54,12 @@ module _ {P : Type 0} (cmp : P → P → Ordering) (order : IsTotalOrder cmp) wh
   account_holds t old new leavers a one k =
       let split = ap (λ (ms : List (Message P)). of_pair cmp k ms ++ of_pair cmp k (rated_messages new.sending)) a.left
       ∙ ap (λ (ms : List (Message P)). of_pair cmp k (rated_messages (filter (is_spent cmp old.caps) all)) ++ of_pair
-      cmp k ms)
-      (stayed_messages t (filter (λ (f : RatedFlight P). not (is_spent cmp old.caps f)) all) new.sending a.stayed) ∙
-      one_split k (is_spent cmp old.caps) all (subst (OneForEachPair cmp) (sym (drained_messages t old.sending)) one) ∙
-      ap (of_pair cmp k) (drained_messages t old.sending) in
-      sym
-      (append_assoc (of_pair cmp k leavers) (of_pair cmp k (rated_messages new.sending)) (of_pair cmp k new.waiting))
-      ∙ ap (λ (ms : List (Message P)). ms ++ of_pair cmp k new.waiting) split
-      ∙ ap (λ (q : Planned P). of_pair cmp k (rated_messages old.sending) ++ of_pair cmp k q.waiting) a.same
+      cmp k ms) (stayed_messages t _ new.sending a.stayed) ∙ one_split k _ all
+      (subst (OneForEachPair cmp) (sym (drained_messages t old.sending)) one) ∙ ap (of_pair cmp k)
+      (drained_messages t old.sending) in
+      sym (append_assoc (of_pair cmp k leavers) (of_pair cmp k _) (of_pair cmp k new.waiting)) ∙ ap
+      (λ (ms : List (Message P)). ms ++ of_pair cmp k new.waiting) split ∙ ap
+      (λ (q : Planned P). of_pair cmp k (rated_messages old.sending) ++ of_pair cmp k q.waiting) a.same
     where
       all : List (RatedFlight P)
       all = drained_to t old.sending
@@ -76,9 +72,7 @@ module _ {P : Type 0} (cmp : P → P → Ordering) (order : IsTotalOrder cmp) wh
       ∙ ap (λ (ms : List (Message P)). ms ++ of_pair cmp k (without_first (same_pair cmp m) p.waiting))
       (filter-append (same_pair cmp k) (rated_messages p.sending) (m ∷ []))
       ∙ ap (λ (ms : List (Message P)). (of_pair cmp k (rated_messages p.sending) ++ of_pair cmp k (m ∷ [])) ++ ms)
-      (waits_without cmp order k m p.waiting)
-      ∙ by_bool (same_pair cmp k m)
-      (λ is. rw is (
+      (waits_without cmp order k m p.waiting) ∙ by_bool (same_pair cmp k m) (λ is. rw is (
       let none : flying ≡ [] = (rw is at own_idle) refl in
       ap (λ (ms : List (Message P)). (ms ++ m ∷ []) ++ rest_of waits) none ∙ sym ((rw is at own_first) refl)
       ∙ sym (ap (λ (ms : List (Message P)). ms ++ waits) none)))
@@ -92,9 +86,8 @@ module _ {P : Type 0} (cmp : P → P → Ordering) (order : IsTotalOrder cmp) wh
 
       own_first : same_pair cmp k m ≡ true → waits ≡ m ∷ rest_of waits
       own_first own =
-          let own_found : find (same_pair cmp k) p.waiting ≡ Some m
-          = sym (find_like cmp order k m p.waiting own)
-          ∙ find_like cmp order n m p.waiting (find_passes (same_pair cmp n) m p.waiting found) ∙ found in
+          let own_found = sym (find_like cmp order k m p.waiting own) ∙ find_like cmp order n m p.waiting
+          (find_passes (same_pair cmp n) m p.waiting found) ∙ found in
           headed waits m (sym (head_found (same_pair cmp k) p.waiting) ∙ own_found)
 
       own_idle : same_pair cmp k m ≡ true → flying ≡ []
@@ -142,8 +135,7 @@ module _ {P : Type 0} (cmp : P → P → Ordering) (order : IsTotalOrder cmp) wh
   moves_then queue p q r cs ds a b = grind (arith, zip-append, filter-append, append_assoc)
 
   on_then : (queue : List (Message P)) (p q : Planned P) (cs : List (Completed P))
-      (c : Course (Completed P) (Planned P))
-      → Moves queue p cs q → MovesOn [] q c → MovesOn queue p (preceded cs c)
+      (c : Course (Completed P) (Planned P)) → Moves queue p cs q → MovesOn [] q c → MovesOn queue p (preceded cs c)
   on_then queue p q cs (goes ds r) a b = moves_then queue p q r cs ds a b
   on_then queue p q cs (meets fault) a b = tt
 
@@ -289,8 +281,7 @@ module _ {P : Type 0} (cmp : P → P → Ordering) (order : IsTotalOrder cmp) wh
   enqueue_keeps {m = m} {p = p} {c = c} (launches {leavers = leavers} {mid = mid} limits launch finishes) h =
       let there : IsOrderly cmp (with_queued cmp p m) = queued_orderly cmp order p m limits h in
       let next : IsOrderly cmp mid = launch_orderly cmp order launch m leavers mid refl refl there in
-      joined_keeps p m c h
-      (on_from leavers (with_queued cmp p m) mid c (launch_holds launch m leavers mid refl refl there)
+      joined_keeps p m c h (on_from leavers _ mid c (launch_holds launch m leavers mid refl refl there)
       (finish_moves finishes next))
 
   kept_then : (p q : Planned P) (ms ns : List (Message P)) (cs : List (Completed P))
@@ -317,8 +308,7 @@ module _ {P : Type 0} (cmp : P → P → Ordering) (order : IsTotalOrder cmp) wh
   pub call_keeps : (p : Planned P) (call : Call P) (c : Course (Completed P) (Planned P)) → Obeys cmp p call c
       → IsOrderly cmp p → KeepsAll p (enqueued (call ∷ [])) c
   call_keeps p (call_limit now peer egress ingress) c obeys h =
-      none_enqueued p c
-      (rebalance_moves obeys
+      none_enqueued p c (rebalance_moves obeys
       (recapped_steady cmp order p _ (limited_by_alike cmp order p.caps peer egress ingress h.caps) h))
   call_keeps p (call_limit_link now origin recipient cap) c obeys h =
       grind (arith, none_enqueued, rebalance_moves, recapped_steady, linked_by_alike)

@@ -76,8 +76,7 @@ module _ {P : Type 0} (cmp : P → P → Ordering) (order : IsTotalOrder cmp) wh
   pub goes_conserved : (p q : Planned P) (call : Call P) (cs : List (Completed P)) → GoesByRule cmp p call cs q
       → IsOrderly cmp p → IsConserved cmp p (enqueued (call ∷ [])) cs q
   goes_conserved p q call cs went h =
-      kept_conserved p went.after q (enqueued (call ∷ [])) cs went.answers
-      (call_keeps cmp order p call (goes went.answers went.after) went.obeys h) went.same_answers
+      kept_conserved p went.after q _ cs went.answers (call_keeps cmp order p call _ went.obeys h) went.same_answers
       (λ k. held_alike k went.after q went.same_after)
 
   -- ---- lists of calls
@@ -98,8 +97,7 @@ module _ {P : Type 0} (cmp : P → P → Ordering) (order : IsTotalOrder cmp) wh
 
   -- one stretch and then another
   pub conserved_then : (p q r : Planned P) (ms ns : List (Message P)) (cs ds : List (Completed P))
-      → IsConserved cmp p ms cs q → IsConserved cmp q ns ds r
-      → IsConserved cmp p (ms ++ ns) (cs ++ ds) r
+      → IsConserved cmp p ms cs q → IsConserved cmp q ns ds r → IsConserved cmp p (ms ++ ns) (cs ++ ds) r
   conserved_then p q r ms ns cs ds a b = grind (arith, zip-append, filter-append, both_done)
 
   -- the first call is accepted, and the others follow

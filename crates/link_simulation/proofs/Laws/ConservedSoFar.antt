@@ -10,8 +10,7 @@ use Rattle.link_simulation.proofs.Laws.ConservedAlike.{obeyed_conserved}
 module _ {P : Type 0} (cmp : P → P → Ordering) where
   -- the first replies follow the event rule, too
   obeyed_so_far : (n : ℕ) (p : Planned P) (calls : List (Call P)) (replies : List (Reply P))
-      → Obeyed cmp p calls replies
-      → Obeyed cmp p (take n calls) (take n replies)
+      → Obeyed cmp p calls replies → Obeyed cmp p (take n calls) (take n replies)
   obeyed_so_far zero p calls replies obeyed = tt
   obeyed_so_far (suc n) p [] [] obeyed = tt
   obeyed_so_far (suc n) p [] (reply ∷ replies) obeyed = absurd obeyed

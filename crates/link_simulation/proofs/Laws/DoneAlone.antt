@@ -19,8 +19,7 @@ module _ {P : Type 0} (cmp : P → P → Ordering) (order : IsTotalOrder cmp) wh
       → IsDoneAfter cmp w now m time → Runs cmp w (call_enqueue now m) now (goes cs v)
       → (cs ≡ []) × ((next : Option ℕ) → NextIs cmp v next → next ≡ Some (now + time))
   is_sent w v m now time cs sound alone runs =
-      let one = runs_are_one cmp order w (call_enqueue now m) now (goes cs v) (goes [] alone.sent) sound runs
-      alone.sends in
+      let one = runs_are_one cmp order w _ now _ _ sound runs alone.sends in
       let same = same_world cs [] v alone.sent one in
       let sound_v = call_keeps_sound cmp order w (call_enqueue now m) now (goes cs v) sound runs in
       grind (arith, next_is_one, (same_answers cs [] v alone.sent one))
@@ -29,12 +28,8 @@ module _ {P : Type 0} (cmp : P → P → Ordering) (order : IsTotalOrder cmp) wh
       → IsDoneAfter cmp w now m time → Runs cmp w (call_enqueue now m) now (goes cs v)
       → Runs cmp v (call_advance (now + time)) (now + time) (goes ds u) → ds ≡ completed cmp (now + time) m ∷ []
   is_done_alone w v u m now time cs ds sound alone runs advances =
-      let one = runs_are_one cmp order w (call_enqueue now m) now (goes cs v) (goes [] alone.sent) sound runs
-      alone.sends in
+      let one = runs_are_one cmp order w _ now _ _ sound runs alone.sends in
       let same : v ≡ alone.sent = same_world cs [] v alone.sent one in
       let sound_v : IsSound cmp v = call_keeps_sound cmp order w (call_enqueue now m) now (goes cs v) sound runs in
-      same_answers ds (completed cmp (now + time) m ∷ []) u alone.after
-      (runs_are_one cmp order v (call_advance (now + time)) (now + time) (goes ds u)
-      (goes (completed cmp (now + time) m ∷ []) alone.after) sound_v advances
-      (subst (λ (x : World P). Runs cmp x (call_advance (now + time)) (now + time)
-      (goes (completed cmp (now + time) m ∷ []) alone.after)) (sym same) alone.done))
+      same_answers ds _ u alone.after (runs_are_one cmp order v _ _ _ _ sound_v advances
+      (subst (λ (x : World P). Runs cmp x _ _ (goes _ alone.after)) (sym same) alone.done))

@@ -86,8 +86,7 @@ module _ {P : Type 0} (cmp : P → P → Ordering) (order : IsTotalOrder cmp) (i
   -- ---- a message of the set is enqueued
 
   enqueue_mine : (now : ℕ) (w : World P) (m : Message P) (last : P → P → Option ℕ) (id : ℕ) → Within last id w → Whole m
-      → mine m ≡ true
-      → Of (act cmp w (call_enqueue now m)) (act cmp (Small last id w) (call_enqueue now m))
+      → mine m ≡ true → Of (act cmp w (call_enqueue now m)) (act cmp (Small last id w) (call_enqueue now m))
   enqueue_mine now w m last id is whole own = by_mode w.limited
     where
       within : Within last id (queued cmp order w m)
@@ -96,8 +95,7 @@ module _ {P : Type 0} (cmp : P → P → Ordering) (order : IsTotalOrder cmp) (i
       same_world : (queued cmp order) (Small last id w) m ≡ Small last id (queued cmp order w m)
       same_world =
           part_alike cmp order inside alike Whole w last id (filter (λ (f : Flight P). mine f.message) w.sending)
-          (filter (λ (f : Flight P). mine f.message) w.sending) _ _ refl
-          (sym (queued_filter w.waiting m true own))
+          (filter (λ (f : Flight P). mine f.message) w.sending) _ _ refl (sym (queued_filter w.waiting m true own))
 
       same_next : first_waiting cmp (Small last id (queued cmp order w m)) m
           ≡ first_waiting cmp (queued cmp order w m) m
@@ -112,11 +110,9 @@ module _ {P : Type 0} (cmp : P → P → Ordering) (order : IsTotalOrder cmp) (i
           let one = subst (λ (o : Option (Message P)). Of
           (start_next cmp now (queued cmp order w m) (first_waiting cmp (queued cmp order w m) m))
           (start_next cmp now (Small last id (queued cmp order w m)) o)) (sym same_next) base in
-          subst
-          (λ (z : World P). Of
+          subst (λ (z : World P). Of
           (start_next cmp now (queued cmp order w m) (first_waiting cmp (queued cmp order w m) m))
-          (start_next cmp now z (first_waiting cmp z m)))
-          (sym same_world) one
+          (start_next cmp now z (first_waiting cmp z m))) (sym same_world) one
 
       at_same : once_at (last m.origin m.recipient) now m ≡ once_at (w.last_arrival m.origin m.recipient) now m
       at_same = ap (λ o. once_at o now m) (is.arrivals m own)
@@ -152,26 +148,18 @@ module _ {P : Type 0} (cmp : P → P → Ordering) (order : IsTotalOrder cmp) (i
       at_once : Of (complete_at_once cmp now w m) (complete_at_once cmp now (Small last id w) m)
       at_once = by_late (m.should_deliver && nat_lt last_moment (now + m.latency))
 
-      by_mode : (b : Bool)
-          → Of
-          (cond b
+      by_mode : (b : Bool) → Of (cond b
           (and_then (start_next cmp now (queued cmp order w m) (first_waiting cmp (queued cmp order w m) m))
-          (settle cmp now))
-          (complete_at_once cmp now w m))
-          (cond b
-          (and_then
+          (settle cmp now)) (complete_at_once cmp now w m)) (cond b (and_then
           (start_next cmp now (queued cmp order (Small last id w) m)
-          (first_waiting cmp (queued cmp order (Small last id w) m) m))
-          (settle cmp now))
+          (first_waiting cmp (queued cmp order (Small last id w) m) m)) (settle cmp now))
           (complete_at_once cmp now (Small last id w) m))
       by_mode true =
           part_then cmp order inside alike Whole Any Any
           (start_next cmp now (queued cmp order w m) (first_waiting cmp (queued cmp order w m) m))
           (start_next cmp now (queued cmp order (Small last id w) m)
-          (first_waiting cmp (queued cmp order (Small last id w) m) m))
-          (settle cmp now) (settle cmp now) starting
-          (ends_any (start_next cmp now (queued cmp order w m) (first_waiting cmp (queued cmp order w m) m)))
-          (ends_any
+          (first_waiting cmp (queued cmp order (Small last id w) m) m)) (settle cmp now) (settle cmp now) starting
+          (ends_any (start_next cmp now (queued cmp order w m) (first_waiting cmp (queued cmp order w m) m))) (ends_any
           (start_next cmp now (queued cmp order (Small last id w) m)
           (first_waiting cmp (queued cmp order (Small last id w) m) m)))
           (λ u l i part_u r s. settle_in_part now u l i part_u)
@@ -193,11 +181,9 @@ module _ {P : Type 0} (cmp : P → P → Ordering) (order : IsTotalOrder cmp) (i
       starting : Of (start_next cmp now (queued cmp order w m) (first_waiting cmp (queued cmp order w m) m))
           (goes [] (Small last id w))
       starting =
-          subst
-          (λ (z : World P). Of
+          subst (λ (z : World P). Of
           (start_next cmp now (queued cmp order w m) (first_waiting cmp (queued cmp order w m) m)) (goes [] z))
-          same_world
-          (start_next_other cmp order inside alike Whole now (queued cmp order w m) m
+          same_world (start_next_other cmp order inside alike Whole now (queued cmp order w m) m
           (first_waiting cmp (queued cmp order w m) m) last id (queued_within w m last id is whole) off refl)
 
       raised_within : Within last id
@@ -217,8 +203,7 @@ module _ {P : Type 0} (cmp : P → P → Ordering) (order : IsTotalOrder cmp) (i
           (goes [] (Small last id w))
       by_late true = tt
       by_late false =
-          let nothing : []
-          ≡ filter (λ (c : Completed P). inside c.origin)
+          let nothing : [] ≡ filter (λ (c : Completed P). inside c.origin)
           (once now m (once_at (w.last_arrival m.origin m.recipient) now m) ∷ []) =
           rw off refl in
           (last, id, raised_within, goes_alike cmp order inside alike Whole _ _ _ _ nothing refl)
@@ -229,21 +214,15 @@ module _ {P : Type 0} (cmp : P → P → Ordering) (order : IsTotalOrder cmp) (i
       still : and_then (goes [] (Small last id w)) (settle cmp now) ≡ goes [] (Small last id w)
       still = grind (arith, preceded_none, settle_nothing, none_kept)
 
-      by_mode : (b : Bool)
-          → Of
-          (cond b
+      by_mode : (b : Bool) → Of (cond b
           (and_then (start_next cmp now (queued cmp order w m) (first_waiting cmp (queued cmp order w m) m))
-          (settle cmp now))
-          (complete_at_once cmp now w m))
-          (goes [] (Small last id w))
+          (settle cmp now)) (complete_at_once cmp now w m)) (goes [] (Small last id w))
       by_mode true =
-          subst
-          (λ (c : Course (Completed P) (World P)). Of
+          subst (λ (c : Course (Completed P) (World P)). Of
           (and_then (start_next cmp now (queued cmp order w m) (first_waiting cmp (queued cmp order w m) m))
           (settle cmp now))
           c)
-          still
-          (part_then cmp order inside alike Whole Any Any
+          still (part_then cmp order inside alike Whole Any Any
           (start_next cmp now (queued cmp order w m) (first_waiting cmp (queued cmp order w m) m))
           (goes [] (Small last id w)) (settle cmp now) (settle cmp now) starting
           (ends_any (start_next cmp now (queued cmp order w m) (first_waiting cmp (queued cmp order w m) m))) tt
@@ -255,9 +234,7 @@ module _ {P : Type 0} (cmp : P → P → Ordering) (order : IsTotalOrder cmp) (i
   enqueue_rests now w m h =
       ends_cond (NoneDone cmp order) w.limited
       (and_then (start_next cmp now (queued cmp order w m) (first_waiting cmp (queued cmp order w m) m))
-      (settle cmp now))
-      (complete_at_once cmp now w m)
-      (ends_and_then Any (NoneDone cmp order)
+      (settle cmp now)) (complete_at_once cmp now w m) (ends_and_then Any (NoneDone cmp order)
       (start_next cmp now (queued cmp order w m) (first_waiting cmp (queued cmp order w m) m)) (settle cmp now)
       (ends_any (start_next cmp now (queued cmp order w m) (first_waiting cmp (queued cmp order w m) m)))
       (λ v g. settle_rests cmp order now v))
@@ -269,9 +246,7 @@ module _ {P : Type 0} (cmp : P → P → Ordering) (order : IsTotalOrder cmp) (i
   enqueue_moment now t w m h =
       ends_cond (λ v. v.moment ≡ t) w.limited
       (and_then (start_next cmp now (queued cmp order w m) (first_waiting cmp (queued cmp order w m) m))
-      (settle cmp now))
-      (complete_at_once cmp now w m)
-      (ends_and_then (λ v. v.moment ≡ t) (λ v. v.moment ≡ t)
+      (settle cmp now)) (complete_at_once cmp now w m) (ends_and_then (λ v. v.moment ≡ t) (λ v. v.moment ≡ t)
       (start_next cmp now (queued cmp order w m) (first_waiting cmp (queued cmp order w m) m)) (settle cmp now)
       (start_next_moment cmp order now (queued cmp order w m) (first_waiting cmp (queued cmp order w m) m) t h)
       (λ v g. settle_moment cmp order now v t g))
@@ -299,14 +274,12 @@ module _ {P : Type 0} (cmp : P → P → Ordering) (order : IsTotalOrder cmp) (i
           (enqueue_rests now w m rests) (ends_any (enqueue cmp now (Small last id w) m))
           (λ u l i part_u r s. ih u l i part_u r)
       by_owner false off ih =
-          subst
-          (λ (c : Course (Completed P) (World P)). Of
-          (and_then (enqueue cmp now w m) (λ v. enqueue_each cmp now v ms)) c)
-          (preceded_none (enqueue_each cmp now (Small last id w) (filter mine ms)))
-          (part_then cmp order inside alike Whole (NoneDone cmp order) Any (enqueue cmp now w m)
-          (goes [] (Small last id w)) (λ v. enqueue_each cmp now v ms)
-          (λ v. enqueue_each cmp now v (filter mine ms)) (enqueue_other now w m last id is rests whole.0 off)
-          (enqueue_rests now w m rests) tt (λ u l i part_u r s. ih u l i part_u r))
+          subst (λ (c : Course (Completed P) (World P)). Of (and_then (enqueue cmp now w m)
+          (λ v. enqueue_each cmp now v ms)) c) (preceded_none (enqueue_each cmp now (Small last id w) (filter mine ms)))
+          (part_then cmp order inside alike Whole (NoneDone cmp order) Any (enqueue cmp now w m) (goes [] _)
+          (λ v. enqueue_each cmp now v ms) (λ v. enqueue_each cmp now v (filter mine ms))
+          (enqueue_other now w m last id is rests whole.0 off) (enqueue_rests now w m rests) tt
+          (λ u l i part_u r s. ih u l i part_u r))
 
   -- ---- a call
 
@@ -325,8 +298,7 @@ module _ {P : Type 0} (cmp : P → P → Ordering) (order : IsTotalOrder cmp) (i
   act_kept w call_next last id is rests whole own = (last, id, is, refl)
 
   act_other : (w : World P) (call : Call P) (last : P → P → Option ℕ) (id : ℕ) → Within last id w → NoneDone cmp order w
-      → IsApart inside call → is_kept inside call ≡ false
-      → Of (act cmp w call) (goes [] (Small last id w))
+      → IsApart inside call → is_kept inside call ≡ false → Of (act cmp w call) (goes [] (Small last id w))
   act_other w (call_enqueue now m) last id is rests whole off = enqueue_other now w m last id is rests whole off
   act_other w call last id is rests whole off = cc
 
@@ -366,8 +338,7 @@ module _ {P : Type 0} (cmp : P → P → Ordering) (order : IsTotalOrder cmp) (i
   other_is_before w call now e h off t next = cc
 
   split_course : (c : Course (Completed P) (World P)) (f : World P → Course (Completed P) (World P))
-      (cs : List (Completed P)) (u : World P)
-      → and_then c f ≡ goes cs u
+      (cs : List (Completed P)) (u : World P) → and_then c f ≡ goes cs u
       → (ds : List (Completed P)) × (v : World P) × (es : List (Completed P)) × (c ≡ goes ds v) × (f v ≡ goes es u)
       × (ds ++ es ≡ cs)
   split_course (goes ds v) f cs u e = grind arith
@@ -382,8 +353,7 @@ module _ {P : Type 0} (cmp : P → P → Ordering) (order : IsTotalOrder cmp) (i
     pub at : w.moment ≡ s.moment + count
 
   pub isolated : {w : World P} {calls : List (Call P)} {css : List (List (Completed P))} → AnswersInTurn cmp w calls css
-      → (s : World P) (last : P → P → Option ℕ) (id : ℕ)
-      → Behind s w last id → KeepsApart inside calls → InTime calls
+      → (s : World P) (last : P → P → Option ℕ) (id : ℕ) → Behind s w last id → KeepsApart inside calls → InTime calls
       → Answers cmp s (kept_calls inside calls) (kept_completions inside calls css) × NothingElse inside calls css
   isolated no_calls_in_turn s last id b apart in_time = (no_calls, tt)
   isolated {w = w}
@@ -396,8 +366,7 @@ module _ {P : Type 0} (cmp : P → P → Ordering) (order : IsTotalOrder cmp) (i
       by_call : (k : Bool) → is_kept inside call ≡ k → (ds : List (Completed P)) (v : World P) (es : List (Completed P))
           → runs.ticked ≡ goes ds v → act cmp v call ≡ goes es u → ds ++ es ≡ cs
           → ((t : World P) (l : P → P → Option ℕ) (i : ℕ) → Behind t u l i
-          → Answers cmp t (kept_calls inside calls) (kept_completions inside calls css)
-          × NothingElse inside calls css)
+          → Answers cmp t (kept_calls inside calls) (kept_completions inside calls css) × NothingElse inside calls css)
           → Answers cmp s (map (without_others inside)
           (cond k (call ∷ filter (is_kept inside) calls) (filter (is_kept inside) calls)))
           (cond k (inside_alone inside cs ∷ kept_completions inside calls css) (kept_completions inside calls css))
@@ -424,8 +393,7 @@ module _ {P : Type 0} (cmp : P → P → Ordering) (order : IsTotalOrder cmp) (i
             ticked = goes (filter (λ (c : Completed P). inside c.origin) ds) (Small small.0 small.1 v);
             ticks = counted;
             acts =
-                sym
-                (ap (preceded (filter (λ (c : Completed P). inside c.origin) ds)) act_small.3
+                sym (ap (preceded (filter (λ (c : Completed P). inside c.origin) ds)) act_small.3
                 ∙ goes_alike cmp order inside alike Whole _ _ _ _ both refl);
           } in
           let rests = subst (λ (c : Course (Completed P) (World P)). EndsWith (NoneDone cmp order) c) acted
@@ -489,8 +457,7 @@ module _ {P : Type 0} (cmp : P → P → Ordering) (order : IsTotalOrder cmp) (i
       × NothingElse inside calls css
   isolation id calls css answered apart in_time =
       let start : World P = new_world id in
-      isolated answered start start.last_arrival id
-      (record {
+      isolated answered start start.last_arrival id (record {
         within = record { arrivals = λ m own. refl; ids = omega arith; sending = tt; waiting = tt };
         rests = refl;
         count = 0;

@@ -6,14 +6,13 @@ use Rattle.link_simulation.proofs.Common.{without_first, Completed, Course, Flig
 use Rattle.link_simulation.proofs.Common.{first_waiting, goes, instant, is_done, last_moment, least_pair, may_start}
 use Rattle.link_simulation.proofs.Common.{meets, preceded, raised, ready, settle, settle_within, start, start_next}
 use Rattle.link_simulation.proofs.Common.{wake, wake_within, EndsWith, out_of_flight, is_late, completed, arrival}
-use Rattle.link_simulation.proofs.Common.{flight_of, Message, same_pair, each_joined, Each, length-without_first}
-use Rattle.link_simulation.proofs.Common.{by_bool}
+use Rattle.link_simulation.proofs.Common.{flight_of, Message, same_pair, each_joined, Each, by_bool}
 use Rattle.std.proofs.lemmas.Bool.{leb-false, lt-leb}
 use Rattle.link_simulation.proofs.Simulation.Queue.{settle_none, settle_first, find_passes, preceded_none, by_option}
-use Rattle.link_simulation.proofs.Simulation.SettlingEnds.{ends_preceded, ends_and_then, ends_cond, length_without}
 use Rattle.link_simulation.proofs.Simulation.SettlingEnds.{find_in_none, find_like, HasAtMost, complete_has, NoneDone}
-use Rattle.link_simulation.proofs.Simulation.SettlingEnds.{settle_rests}
-use Rattle.link_simulation.proofs.Simulation.Pass.{wake_none as wake_nothing}
+use Rattle.link_simulation.proofs.Simulation.SettlingEnds.{settle_rests, settle_keeps}
+use Rattle.link_simulation.proofs.Simulation.Pass.{wake_none as wake_nothing, WaitAtMost, start_takes, complete_waits}
+use Rattle.link_simulation.proofs.Simulation.Pass.{ends_both, ends_any, ends_any}
 use Rattle.link_simulation.proofs.Laws.Bytes.{wake_none, wake_first, ready_is_first}
 use Rattle.link_simulation.proofs.Simulation.FilteredFronts.{first_kept, first_dropped, none_kept, find_kept, any_kept}
 use Rattle.link_simulation.proofs.Simulation.FilteredFronts.{filter_swap, fronts_kept, least_kept}
@@ -67,11 +66,9 @@ module _ {P : Type 0} (cmp : P → P → Ordering) (order : IsTotalOrder cmp) (i
   part_preceded cs (meets fault) d h = tt
 
   pub part_then : (R S : World P → Type 0) (c d : Course (Completed P) (World P))
-      (k l : World P → Course (Completed P) (World P))
-      → IsPartOf c d → EndsWith R c → EndsWith S d
+      (k l : World P → Course (Completed P) (World P)) → IsPartOf c d → EndsWith R c → EndsWith S d
       → ((u : World P) (last : P → P → Option ℕ) (id : ℕ) → IsPart last id u → R u → S (part last id u)
-      → IsPartOf (k u) (l (part last id u)))
-      → IsPartOf (and_then c k) (and_then d l)
+      → IsPartOf (k u) (l (part last id u))) → IsPartOf (and_then c k) (and_then d l)
   part_then R S (goes cs u) d k l (last, id, is, e) r s next = grind (arith, part_preceded)
   part_then R S (meets fault) d k l h r s next = tt
 
@@ -103,8 +100,7 @@ module _ {P : Type 0} (cmp : P → P → Ordering) (order : IsTotalOrder cmp) (i
       → find (same_pair cmp m) w.waiting ≡ Some m → mine m ≡ true
       → IsPartOf (start cmp w m) (start cmp (part last id w) m)
   start_mine w m last id is first own =
-      by_bool (nat_le last_moment w.next_id) (λ e. rw e tt)
-      (λ e. rw e (
+      by_bool (nat_le last_moment w.next_id) (λ e. rw e tt) (λ e. rw e (
       let free : w.next_id < last_moment = leb-false last_moment w.next_id e in
       let least : id ≤ w.next_id = is.ids in
       let low : nat_le last_moment id ≡ false = lt-leb last_moment id (omega arith) in
@@ -117,11 +113,9 @@ module _ {P : Type 0} (cmp : P → P → Ordering) (order : IsTotalOrder cmp) (i
       )))
 
   pub start_other : (w : World P) (m : Message P) (last : P → P → Option ℕ) (id : ℕ) → IsPart last id w
-      → find (same_pair cmp m) w.waiting ≡ Some m → mine m ≡ false
-      → IsPartOf (start cmp w m) (goes [] (part last id w))
+      → find (same_pair cmp m) w.waiting ≡ Some m → mine m ≡ false → IsPartOf (start cmp w m) (goes [] (part last id w))
   start_other w m last id is first off =
-      by_bool (nat_le last_moment w.next_id) (λ here. rw here tt)
-      (λ here. rw here (
+      by_bool (nat_le last_moment w.next_id) (λ here. rw here tt) (λ here. rw here (
       let sending = sym (joined_part w.sending m false off ∙ append-nil (filter in_flight w.sending)) in
       let waiting = sym (first_dropped mine (same_pair cmp m) w.waiting m first off) in (
         last,
@@ -135,8 +129,7 @@ module _ {P : Type 0} (cmp : P → P → Ordering) (order : IsTotalOrder cmp) (i
   may_start_same t w m last id is own = grind (arith, any_kept)
 
   pub start_next_mine : (t : ℕ) (w : World P) (m : Message P) (o : Option (Message P)) (last : P → P → Option ℕ)
-      (id : ℕ)
-      → IsPart last id w → mine m ≡ true
+      (id : ℕ) → IsPart last id w → mine m ≡ true
       → find (same_pair cmp m) w.waiting ≡ o → IsPartOf (start_next cmp t w o) (start_next cmp t (part last id w) o)
   start_next_mine t w m None last id is own e = (last, id, is, refl)
   start_next_mine t w m (Some x) last id is own e =
@@ -150,22 +143,19 @@ module _ {P : Type 0} (cmp : P → P → Ordering) (order : IsTotalOrder cmp) (i
       )
 
   pub start_next_other : (t : ℕ) (w : World P) (m : Message P) (o : Option (Message P)) (last : P → P → Option ℕ)
-      (id : ℕ)
-      → IsPart last id w → mine m ≡ false
+      (id : ℕ) → IsPart last id w → mine m ≡ false
       → find (same_pair cmp m) w.waiting ≡ o → IsPartOf (start_next cmp t w o) (goes [] (part last id w))
   start_next_other t w m None last id is off e = (last, id, is, refl)
   start_next_other t w m (Some x) last id is off e =
       let same : same_pair cmp m x ≡ true = find_passes (same_pair cmp m) x w.waiting e in
       by_bool (may_start cmp t w x)
       (λ here. rw here (start_other w x last id is (find_like cmp order m x w.waiting same ∙ e)
-      (sym (alike m x same) ∙ off)))
-      (λ here. rw here (last, id, is, refl))
+      (sym (alike m x same) ∙ off))) (λ here. rw here (last, id, is, refl))
 
   -- ---- a completion
 
   pub raised_same : (m n : Message P) (at : ℕ) (last : P → P → Option ℕ) (w : World P) (id : ℕ) → IsPart last id w
-      → mine n ≡ true
-      → raised cmp last m at n.origin n.recipient ≡ raised cmp w.last_arrival m at n.origin n.recipient
+      → mine n ≡ true → raised cmp last m at n.origin n.recipient ≡ raised cmp w.last_arrival m at n.origin n.recipient
   raised_same m n at last w id is own =
       let same : last n.origin n.recipient ≡ w.last_arrival n.origin n.recipient = is.arrivals n own in rw same refl
 
@@ -177,21 +167,17 @@ module _ {P : Type 0} (cmp : P → P → Ordering) (order : IsTotalOrder cmp) (i
       → find (is_done cmp w) w.sending ≡ Some f → mine f.message ≡ true
       → IsPartOf (complete cmp t w f.message) (complete cmp t (part last id w) f.message)
   complete_mine t w f last id is first own =
-      by_bool (is_late cmp t f.message) (λ here. rw here tt)
-      (λ here. rw here (
+      by_bool (is_late cmp t f.message) (λ here. rw here tt) (λ here. rw here (
       let c : Completed P = completed cmp t f.message in
       let alone : filter in_done (c ∷ []) ≡ c ∷ [] = rw own refl in
-      let big : Course (Completed P) (World P) =
-      start_next cmp t (out_of_flight cmp t w f.message)
-      (first_waiting cmp (out_of_flight cmp t w f.message) f.message) in
-      let small : Course (Completed P) (World P) =
-      start_next cmp t (out_of_flight cmp t (part last id w) f.message)
+      let big = start_next cmp t (out_of_flight cmp t w f.message) (first_waiting cmp (out_of_flight cmp t w f.message)
+      f.message) in
+      let small = start_next cmp t (out_of_flight cmp t (part last id w) f.message)
       (first_waiting cmp (out_of_flight cmp t (part last id w) f.message) f.message) in
       subst (λ (cs : List (Completed P)). IsPartOf (preceded (c ∷ []) big) (preceded cs small)) alone
       (part_preceded (c ∷ []) big small inner)))
     where
-      inner : IsPartOf
-          (start_next cmp t (out_of_flight cmp t w f.message)
+      inner : IsPartOf (start_next cmp t (out_of_flight cmp t w f.message)
           (first_waiting cmp (out_of_flight cmp t w f.message) f.message))
           (start_next cmp t (out_of_flight cmp t (part last id w) f.message)
           (first_waiting cmp (out_of_flight cmp t (part last id w) f.message) f.message))
@@ -205,32 +191,22 @@ module _ {P : Type 0} (cmp : P → P → Ordering) (order : IsTotalOrder cmp) (i
             waiting = is.waiting;
           } in
           let next : Option (Message P) = find (same_pair cmp f.message) w.waiting in
-          let same_next : find (same_pair cmp f.message) (filter mine w.waiting) ≡ next =
-          find_kept mine (same_pair cmp f.message) w.waiting (λ n s. sym (alike f.message n s) ∙ own) in
-          let same_landed : out_of_flight cmp t (part last id w) f.message
-          ≡ part higher id (out_of_flight cmp t w f.message)
-          = part_alike w higher id _ _ (filter mine w.waiting) (filter mine w.waiting)
+          let same_next = find_kept mine (same_pair cmp f.message) w.waiting (λ n s. sym (alike f.message n s) ∙ own) in
+          let same_landed = part_alike w higher id _ _ (filter mine w.waiting) (filter mine w.waiting)
           (sym (first_kept in_flight (is_done cmp w) w.sending f first own).1) refl in
-          let base : IsPartOf (start_next cmp t (out_of_flight cmp t w f.message) next)
-          (start_next cmp t (part higher id (out_of_flight cmp t w f.message)) next)
-          = start_next_mine t (out_of_flight cmp t w f.message) f.message next higher id still own refl in
+          let base = start_next_mine t (out_of_flight cmp t w f.message) f.message next higher id still own refl in
           let one : IsPartOf (start_next cmp t (out_of_flight cmp t w f.message) next)
           (start_next cmp t (out_of_flight cmp t (part last id w) f.message) next)
-          = subst
-          (λ (z : World P). IsPartOf (start_next cmp t (out_of_flight cmp t w f.message) next)
-          (start_next cmp t z next))
-          (sym same_landed) base in
-          subst
-          (λ (o : Option (Message P)). IsPartOf (start_next cmp t (out_of_flight cmp t w f.message) next)
-          (start_next cmp t (out_of_flight cmp t (part last id w) f.message) o))
-          (sym same_next) one
+          = subst (λ (z : World P). IsPartOf (start_next cmp t (out_of_flight cmp t w f.message) next)
+          (start_next cmp t z next)) (sym same_landed) base in
+          subst (λ (o : Option (Message P)). IsPartOf (start_next cmp t (out_of_flight cmp t w f.message) next)
+          (start_next cmp t (out_of_flight cmp t (part last id w) f.message) o)) (sym same_next) one
 
   complete_other : (t : ℕ) (w : World P) (f : Flight P) (last : P → P → Option ℕ) (id : ℕ) → IsPart last id w
       → find (is_done cmp w) w.sending ≡ Some f → mine f.message ≡ false
       → IsPartOf (complete cmp t w f.message) (goes [] (part last id w))
   complete_other t w f last id is first off =
-      by_bool (is_late cmp t f.message) (λ here. rw here tt)
-      (λ here. rw here (
+      by_bool (is_late cmp t f.message) (λ here. rw here tt) (λ here. rw here (
       let c : Completed P = completed cmp t f.message in
       let still : IsPart last id (out_of_flight cmp t w f.message) = record {
         arrivals = λ n own_n.
@@ -239,15 +215,12 @@ module _ {P : Type 0} (cmp : P → P → Ordering) (order : IsTotalOrder cmp) (i
         sending = each_without (λ (g : Flight P). T g.message) (is_done cmp w) w.sending is.sending;
         waiting = is.waiting;
       } in
-      let same : part last id (out_of_flight cmp t w f.message) ≡ part last id w
-      = part_alike w last id _ _ (filter mine w.waiting) (filter mine w.waiting)
+      let same = part_alike w last id _ _ (filter mine w.waiting) (filter mine w.waiting)
       (first_dropped in_flight (is_done cmp w) w.sending f first off) refl in
       let nothing : filter in_done (c ∷ []) ≡ [] = rw off refl in
-      let big : Course (Completed P) (World P) =
-      start_next cmp t (out_of_flight cmp t w f.message)
-      (first_waiting cmp (out_of_flight cmp t w f.message) f.message) in
-      let base : IsPartOf big (goes [] (part last id (out_of_flight cmp t w f.message)))
-      = start_next_other t (out_of_flight cmp t w f.message) f.message
+      let big = start_next cmp t (out_of_flight cmp t w f.message) (first_waiting cmp (out_of_flight cmp t w f.message)
+      f.message) in
+      let base = start_next_other t (out_of_flight cmp t w f.message) f.message
       (first_waiting cmp (out_of_flight cmp t w f.message) f.message) last id still off refl in
       let one : IsPartOf big (goes [] (part last id w)) =
       subst (λ (z : World P). IsPartOf big (goes [] z)) same base in
@@ -260,99 +233,55 @@ module _ {P : Type 0} (cmp : P → P → Ordering) (order : IsTotalOrder cmp) (i
   some_element test x [] e = cc
   some_element test x (y ∷ ys) e = omega arith
 
+  abbrev SettlesAlike : ℕ → ℕ → Type 0
+  SettlesAlike n t =
+      (k : ℕ) (w : World P) (last : P → P → Option ℕ) (id : ℕ) → IsPart last id w → HasAtMost cmp order n w
+      → HasAtMost cmp order k (part last id w)
+      → IsPartOf (settle_within cmp n t w) (settle_within cmp k t (part last id w))
+
+  one_settles : (n k t : ℕ) (w : World P) (last : P → P → Option ℕ) (id : ℕ) (f : Flight P) (b : Bool)
+      → SettlesAlike n t → IsPart last id w → HasAtMost cmp order (suc n) w → HasAtMost cmp order k (part last id w)
+      → find (is_done cmp w) w.sending ≡ Some f → mine f.message ≡ b
+      → IsPartOf (and_then (complete cmp t w f.message) (settle_within cmp n t))
+      (settle_within cmp k t (part last id w))
+  one_settles n zero t w last id f true ih is most few e own =
+      let found = (first_kept in_flight (is_done cmp w) w.sending f e own).0 in
+      let some = some_element (is_done cmp w) f (filter in_flight w.sending) found in
+      absurd (omega arith)
+  one_settles n (suc j) t w last id f true ih is most few e own =
+      let found : find (is_done cmp w) (filter in_flight w.sending) ≡ Some f =
+      (first_kept in_flight (is_done cmp w) w.sending f e own).0 in
+      subst (λ (c : Course (Completed P) (World P)). IsPartOf
+      (and_then (complete cmp t w f.message) (settle_within cmp n t)) c)
+      (sym (settle_first cmp order j t (part last id w) f found))
+      (part_then (HasAtMost cmp order n) (HasAtMost cmp order j) (complete cmp t w f.message)
+      (complete cmp t (part last id w) f.message) (settle_within cmp n t) (settle_within cmp j t)
+      (complete_mine t w f last id is e own) (complete_has cmp order t n w f e most)
+      (complete_has cmp order t j (part last id w) f found few) (ih j))
+  one_settles n k t w last id f false ih is most few e off =
+      subst (λ (c : Course (Completed P) (World P)). IsPartOf
+      (and_then (complete cmp t w f.message) (settle_within cmp n t)) c)
+      (preceded_none (settle_within cmp k t (part last id w)))
+      (part_then (HasAtMost cmp order n) (HasAtMost cmp order k) (complete cmp t w f.message)
+      (goes [] (part last id w)) (settle_within cmp n t) (settle_within cmp k t)
+      (complete_other t w f last id is e off) (complete_has cmp order t n w f e most) few (ih k))
+
   pub settle_part : (n k t : ℕ) (w : World P) (last : P → P → Option ℕ) (id : ℕ) → IsPart last id w
       → HasAtMost cmp order n w → HasAtMost cmp order k (part last id w)
       → IsPartOf (settle_within cmp n t w) (settle_within cmp k t (part last id w))
   settle_part zero k t w last id is most few = grind (arith, find_in_none, settle_nothing, none_kept)
   settle_part (suc n) k t w last id is most few =
-      by_first (find (is_done cmp w) w.sending) refl (λ j u l i g h m. settle_part n j t u l i g h m)
-    where
-      by_mine : (f : Flight P) → find (is_done cmp w) w.sending ≡ Some f → mine f.message ≡ true → (k : ℕ)
-          → HasAtMost cmp order k (part last id w)
-          → ((j : ℕ) (u : World P) (l : P → P → Option ℕ) (i : ℕ) → IsPart l i u → HasAtMost cmp order n u
-          → HasAtMost cmp order j (part l i u)
-          → IsPartOf (settle_within cmp n t u) (settle_within cmp j t (part l i u)))
-          → IsPartOf (and_then (complete cmp t w f.message) (settle_within cmp n t))
-          (settle_within cmp k t (part last id w))
-      by_mine f e own zero few ih =
-          let found : find (is_done cmp w) (filter in_flight w.sending) ≡ Some f =
-          (first_kept in_flight (is_done cmp w) w.sending f e own).0 in
-          let some = some_element (is_done cmp w) f (filter in_flight w.sending) found in
-          absurd (omega arith)
-      by_mine f e own (suc j) few ih =
-          let found : find (is_done cmp w) (filter in_flight w.sending) ≡ Some f =
-          (first_kept in_flight (is_done cmp w) w.sending f e own).0 in
-          subst
-          (λ (c : Course (Completed P) (World P)). IsPartOf
-          (and_then (complete cmp t w f.message) (settle_within cmp n t)) c)
-          (sym (settle_first cmp order j t (part last id w) f found))
-          (part_then (HasAtMost cmp order n) (HasAtMost cmp order j) (complete cmp t w f.message)
-          (complete cmp t (part last id w) f.message) (settle_within cmp n t) (settle_within cmp j t)
-          (complete_mine t w f last id is e own) (complete_has cmp order t n w f e most)
-          (complete_has cmp order t j (part last id w) f found few) (λ u l i g h m. ih j u l i g h m))
-
-      by_other : (f : Flight P) → find (is_done cmp w) w.sending ≡ Some f → mine f.message ≡ false
-          → ((j : ℕ) (u : World P) (l : P → P → Option ℕ) (i : ℕ) → IsPart l i u → HasAtMost cmp order n u
-          → HasAtMost cmp order j (part l i u)
-          → IsPartOf (settle_within cmp n t u) (settle_within cmp j t (part l i u)))
-          → IsPartOf (and_then (complete cmp t w f.message) (settle_within cmp n t))
-          (settle_within cmp k t (part last id w))
-      by_other f e off ih =
-          subst
-          (λ (c : Course (Completed P) (World P)). IsPartOf
-          (and_then (complete cmp t w f.message) (settle_within cmp n t)) c)
-          (preceded_none (settle_within cmp k t (part last id w)))
-          (part_then (HasAtMost cmp order n) (HasAtMost cmp order k) (complete cmp t w f.message)
-          (goes [] (part last id w)) (settle_within cmp n t) (settle_within cmp k t)
-          (complete_other t w f last id is e off) (complete_has cmp order t n w f e most) few
-          (λ u l i g h m. ih k u l i g h m))
-
-      by_first : (o : Option (Flight P)) → find (is_done cmp w) w.sending ≡ o
-          → ((j : ℕ) (u : World P) (l : P → P → Option ℕ) (i : ℕ) → IsPart l i u → HasAtMost cmp order n u
-          → HasAtMost cmp order j (part l i u)
-          → IsPartOf (settle_within cmp n t u) (settle_within cmp j t (part l i u)))
-          → IsPartOf (settle_within cmp (suc n) t w) (settle_within cmp k t (part last id w))
-      by_first None e ih = grind (arith, settle_none, settle_nothing, none_kept)
-      by_first (Some f) e ih =
-          subst (λ (c : Course (Completed P) (World P)). IsPartOf c (settle_within cmp k t (part last id w)))
-          (sym (settle_first cmp order n t w f e)) (by_bool (mine f.message) (λ b. by_mine f e b k few ih)
-          (λ b. by_other f e b ih))
+      by_option (find (is_done cmp w) w.sending) (λ e. grind (arith, settle_none, settle_nothing, none_kept))
+      (λ f e. subst (λ (c : Course (Completed P) (World P)). IsPartOf c (settle_within cmp k t (part last id w)))
+      (sym (settle_first cmp order n t w f e))
+      (one_settles n k t w last id f (mine f.message) (λ j. settle_part n j t) is most few e refl))
 
   -- ---- how many wait
 
-  abbrev WaitsAtMost : ℕ → World P → Type 0
-  WaitsAtMost k v = length v.waiting ≤ k
-
-  start_waits : (k : ℕ) (w : World P) (m : Message P) → find (same_pair cmp m) w.waiting ≡ Some m
-      → WaitsAtMost (suc k) w → EndsWith (WaitsAtMost k) (start cmp w m)
-  start_waits k w m first h = grind (arith, length_without, ends_cond, started)
-
-  start_next_waits : (k t : ℕ) (w : World P) (o : Option (Message P)) → WaitsAtMost k w
-      → EndsWith (WaitsAtMost k) (start_next cmp t w o)
-  start_next_waits k t w None h = h
-  start_next_waits k t w (Some m) h = grind (arith, length-without_first, ends_cond, start, started)
-
-  complete_waits : (k t : ℕ) (w : World P) (m : Message P) → WaitsAtMost k w
-      → EndsWith (WaitsAtMost k) (complete cmp t w m)
-  complete_waits k t w m h = search (ends_cond, ends_preceded, start_next_waits)
-
-  settle_waits : (n k t : ℕ) (w : World P) → WaitsAtMost k w → EndsWith (WaitsAtMost k) (settle_within cmp n t w)
-  settle_waits zero k t w h = h
-  settle_waits (suc n) k t w h =
-      by_option (find (is_done cmp w) w.sending)
-      (λ e.
-      subst (λ (c : Course (Completed P) (World P)). EndsWith (WaitsAtMost k) c)
-      (sym (settle_none cmp order n t w e)) h)
-      (λ f e.
-      subst (λ (c : Course (Completed P) (World P)). EndsWith (WaitsAtMost k) c)
-      (sym (settle_first cmp order n t w f e))
-      (ends_and_then (WaitsAtMost k) (WaitsAtMost k) (complete cmp t w f.message) (settle_within cmp n t)
-      (complete_waits k t w f.message h) (λ v g. settle_waits n k t v g)))
-
-  ends_both : (Q R : World P → Type 0) (c : Course (Completed P) (World P)) → EndsWith Q c → EndsWith R c
-      → EndsWith (λ v. Q v × R v) c
-  ends_both Q R (goes cs u) q r = (q, r)
-  ends_both Q R (meets fault) q r = tt
+  settle_within_waits : (n k t : ℕ) (w : World P) → WaitAtMost cmp order k w
+      → EndsWith (WaitAtMost cmp order k) (settle_within cmp n t w)
+  settle_within_waits n k t =
+      settle_keeps cmp order (WaitAtMost cmp order k) t (λ v f e. complete_waits cmp order k t v f.message) n
 
   -- ---- waking
 
@@ -363,87 +292,66 @@ module _ {P : Type 0} (cmp : P → P → Ordering) (order : IsTotalOrder cmp) (i
   abbrev GoesByRule : ℕ → ℕ → Type 0
   GoesByRule n t =
       (k : ℕ) (w : World P) (last : P → P → Option ℕ) (id : ℕ) → IsPart last id w → NoneDone cmp order w
-      → WaitsAtMost n w → WaitsAtMost k (part last id w) → IsPartOf
+      → WaitAtMost cmp order n w → WaitAtMost cmp order k (part last id w) → IsPartOf
       (wake_within cmp n t w) (wake_within cmp k t (part last id w))
 
-  settle_and_wake : (n k t : ℕ) (u : World P) (last : P → P → Option ℕ) (id : ℕ) → IsPart last id u → WaitsAtMost n u
-      → WaitsAtMost k (part last id u) → GoesByRule n t
+  settle_and_wake : (n k t : ℕ) (u : World P) (last : P → P → Option ℕ) (id : ℕ) → IsPart last id u
+      → WaitAtMost cmp order n u → WaitAtMost cmp order k (part last id u) → GoesByRule n t
       → IsPartOf (and_then (settle cmp t u) (wake_within cmp n t))
       (and_then (settle cmp t (part last id u)) (wake_within cmp k t))
   settle_and_wake n k t u last id is h g ih =
       let all : ℕ = length u.sending + length u.waiting in
       let few : ℕ = length (filter in_flight u.sending) + length (filter mine u.waiting) in
-      part_then (λ v. WaitsAtMost n v × NoneDone cmp order v) (WaitsAtMost k) (settle cmp t u)
+      part_then (λ v. WaitAtMost cmp order n v × NoneDone cmp order v) (WaitAtMost cmp order k) (settle cmp t u)
       (settle cmp t (part last id u)) (wake_within cmp n t) (wake_within cmp k t)
       (settle_part all few t u last id is (omega arith) (omega arith))
-      (ends_both (WaitsAtMost n) (NoneDone cmp order) (settle cmp t u) (settle_waits all n t u h)
-      (settle_rests cmp order t u))
-      (settle_waits few k t (part last id u) g)
+      (ends_both (WaitAtMost cmp order n) (NoneDone cmp order) (settle cmp t u) (settle_within_waits all n t u h)
+      (settle_rests cmp order t u)) (settle_within_waits few k t (part last id u) g)
       (λ v l i part_v r s. ih k v l i part_v r.1 r.0 s)
+
+  one_wakes : (n k t : ℕ) (w : World P) (last : P → P → Option ℕ) (id : ℕ) (m : Message P) (b : Bool)
+      → GoesByRule n t → IsPart last id w → NoneDone cmp order w → WaitAtMost cmp order (suc n) w
+      → WaitAtMost cmp order k (part last id w) → least_pair cmp (ready cmp t w) ≡ Some m → mine m ≡ b
+      → IsPartOf (and_then (start cmp w m) (λ v. and_then (settle cmp t v) (wake_within cmp n t)))
+      (wake_within cmp k t (part last id w))
+  one_wakes n zero t w last id m true ih is rests most few e own =
+      let least = ap (least_pair cmp) (ready_part t w last id is) ∙ least_kept cmp order mine (ready cmp t w) m e own in
+      let some = some_element (same_pair cmp m) m (filter mine w.waiting)
+      (ready_is_first cmp order t (part last id w) m least) in
+      absurd (omega arith)
+  one_wakes n (suc j) t w last id m true ih is rests most few e own =
+      let least = ap (least_pair cmp) (ready_part t w last id is) ∙ least_kept cmp order mine (ready cmp t w) m e own in
+      let first = ready_is_first cmp order t w m e in
+      subst (λ (c : Course (Completed P) (World P)). IsPartOf
+      (and_then (start cmp w m) (λ v. and_then (settle cmp t v) (wake_within cmp n t))) c)
+      (sym (wake_first cmp order j t (part last id w) m least))
+      (part_then (WaitAtMost cmp order n) (WaitAtMost cmp order j) (start cmp w m) (start cmp (part last id w) m)
+      (λ v. and_then (settle cmp t v) (wake_within cmp n t)) (λ v. and_then (settle cmp t v) (wake_within cmp j t))
+      (start_mine w m last id is first own) (start_takes cmp order n w m m first most)
+      (start_takes cmp order j (part last id w) m m (ready_is_first cmp order t (part last id w) m least) few)
+      (λ u l i part_u r s. settle_and_wake n j t u l i part_u r s ih))
+  one_wakes n k t w last id m false ih is rests most few e off =
+      let first = ready_is_first cmp order t w m e in
+      let small : World P = part last id w in
+      let rests_here = none_kept in_flight (is_done cmp w) w.sending rests in
+      let still = settle_nothing cmp order (length small.sending + length small.waiting) t small rests_here in
+      let same = preceded_none (and_then (settle cmp t small) (wake_within cmp k t)) ∙ ap
+      (λ (c : Course (Completed P) (World P)). and_then c (wake_within cmp k t)) still ∙ preceded_none
+      (wake_within cmp k t small) in
+      subst (λ (c : Course (Completed P) (World P)). IsPartOf
+      (and_then (start cmp w m) (λ v. and_then (settle cmp t v) (wake_within cmp n t))) c)
+      same (part_then (WaitAtMost cmp order n) (WaitAtMost cmp order k) (start cmp w m) (goes [] small)
+      (λ v. and_then (settle cmp t v) (wake_within cmp n t)) (λ v. and_then (settle cmp t v) (wake_within cmp k t))
+      (start_other w m last id is first off) (start_takes cmp order n w m m first most) few
+      (λ u l i part_u r s. settle_and_wake n k t u l i part_u r s ih))
 
   pub wake_part : (n t : ℕ) → GoesByRule n t
   wake_part zero t k w last id is rests most few = grind (arith, none_long, wake_nothing, ready_part)
-  wake_part (suc n) t k w last id is rests most few = by_least (least_pair cmp (ready cmp t w)) refl (wake_part n t)
-    where
-      by_mine : (m : Message P) → least_pair cmp (ready cmp t w) ≡ Some m → mine m ≡ true → (k : ℕ)
-          → WaitsAtMost k (part last id w) → GoesByRule n t
-          → IsPartOf (and_then (start cmp w m) (λ v. and_then (settle cmp t v) (wake_within cmp n t)))
-          (wake_within cmp k t (part last id w))
-      by_mine m e own zero few ih =
-          let least : least_pair cmp (ready cmp t (part last id w)) ≡ Some m =
-          ap (least_pair cmp) (ready_part t w last id is) ∙ least_kept cmp order mine (ready cmp t w) m e own in
-          let some = some_element (same_pair cmp m) m (filter mine w.waiting)
-          (ready_is_first cmp order t (part last id w) m least) in
-          absurd (omega arith)
-      by_mine m e own (suc j) few ih =
-          let least : least_pair cmp (ready cmp t (part last id w)) ≡ Some m =
-          ap (least_pair cmp) (ready_part t w last id is) ∙ least_kept cmp order mine (ready cmp t w) m e own in
-          let first : find (same_pair cmp m) w.waiting ≡ Some m = ready_is_first cmp order t w m e in
-          let first_here = ready_is_first cmp order t (part last id w) m least in
-          subst
-          (λ (c : Course (Completed P) (World P)). IsPartOf
-          (and_then (start cmp w m) (λ v. and_then (settle cmp t v) (wake_within cmp n t))) c)
-          (sym (wake_first cmp order j t (part last id w) m least))
-          (part_then (WaitsAtMost n) (WaitsAtMost j) (start cmp w m) (start cmp (part last id w) m)
-          (λ v. and_then (settle cmp t v) (wake_within cmp n t))
-          (λ v. and_then (settle cmp t v) (wake_within cmp j t))
-          (start_mine w m last id is first own) (start_waits n w m first most)
-          (start_waits j (part last id w) m first_here few)
-          (λ u l i part_u r s. settle_and_wake n j t u l i part_u r s ih))
-
-      by_other : (m : Message P) → least_pair cmp (ready cmp t w) ≡ Some m → mine m ≡ false → GoesByRule n t
-          → IsPartOf (and_then (start cmp w m) (λ v. and_then (settle cmp t v) (wake_within cmp n t)))
-          (wake_within cmp k t (part last id w))
-      by_other m e off ih =
-          let first : find (same_pair cmp m) w.waiting ≡ Some m = ready_is_first cmp order t w m e in
-          let small : World P = part last id w in
-          let rests_here = none_kept in_flight (is_done cmp w) w.sending rests in
-          let still = settle_nothing cmp order (length small.sending + length small.waiting) t small rests_here in
-          let same = preceded_none (and_then (settle cmp t small) (wake_within cmp k t)) ∙ ap
-          (λ (c : Course (Completed P) (World P)). and_then c (wake_within cmp k t)) still ∙ preceded_none
-          (wake_within cmp k t small) in
-          subst
-          (λ (c : Course (Completed P) (World P)). IsPartOf
-          (and_then (start cmp w m) (λ v. and_then (settle cmp t v) (wake_within cmp n t))) c)
-          same
-          (part_then (WaitsAtMost n) (WaitsAtMost k) (start cmp w m) (goes [] small)
-          (λ v. and_then (settle cmp t v) (wake_within cmp n t))
-          (λ v. and_then (settle cmp t v) (wake_within cmp k t))
-          (start_other w m last id is first off) (start_waits n w m first most) few
-          (λ u l i part_u r s. settle_and_wake n k t u l i part_u r s ih))
-
-      by_owner : (b : Bool) (m : Message P) → least_pair cmp (ready cmp t w) ≡ Some m → mine m ≡ b → GoesByRule n t
-          → IsPartOf (and_then (start cmp w m) (λ v. and_then (settle cmp t v) (wake_within cmp n t)))
-          (wake_within cmp k t (part last id w))
-      by_owner true m e b ih = by_mine m e b k few ih
-      by_owner false m e b ih = by_other m e b ih
-
-      by_least : (o : Option (Message P)) → least_pair cmp (ready cmp t w) ≡ o → GoesByRule n t
-          → IsPartOf (wake_within cmp (suc n) t w) (wake_within cmp k t (part last id w))
-      by_least None e ih = grind (arith, least_none, wake_none, wake_nothing, ready_part)
-      by_least (Some m) e ih =
-          subst (λ (c : Course (Completed P) (World P)). IsPartOf c (wake_within cmp k t (part last id w)))
-          (sym (wake_first cmp order n t w m e)) (by_owner (mine m) m e refl ih)
+  wake_part (suc n) t k w last id is rests most few =
+      by_option (least_pair cmp (ready cmp t w)) (λ e. grind (arith, least_none, wake_none, wake_nothing, ready_part))
+      (λ m e. subst (λ (c : Course (Completed P) (World P)). IsPartOf c (wake_within cmp k t (part last id w)))
+      (sym (wake_first cmp order n t w m e))
+      (one_wakes n k t w last id m (mine m) (wake_part n t) is rests most few e refl))
 
   -- what happens at an instant, in the part
   pub instant_part : (w : World P) (last : P → P → Option ℕ) (id : ℕ) → IsPart last id w
@@ -452,12 +360,7 @@ module _ {P : Type 0} (cmp : P → P → Ordering) (order : IsTotalOrder cmp) (i
       let all : ℕ = length w.sending + length w.waiting in
       let few : ℕ = length (filter in_flight w.sending) + length (filter mine w.waiting) in
       part_then (NoneDone cmp order) (λ v. ⊤) (settle cmp w.moment w) (settle cmp w.moment (part last id w))
-      (λ v. wake cmp v.moment v) (λ v. wake cmp v.moment v)
-      (settle_part all few w.moment w last id is (omega arith) (omega arith)) (settle_rests cmp order w.moment w)
-      (ends_any (settle cmp w.moment (part last id w)))
-      (λ u l i part_u r s. wake_part (length u.waiting) u.moment (length (filter mine u.waiting)) u l i part_u r
-      (omega arith) (omega arith))
-    where
-      ends_any : (c : Course (Completed P) (World P)) → EndsWith (λ (v : World P). ⊤) c
-      ends_any (goes cs u) = tt
-      ends_any (meets fault) = tt
+      (λ v. wake cmp v.moment v) (λ v. wake cmp v.moment v) (settle_part all few w.moment w last id is (omega arith)
+      (omega arith)) (settle_rests cmp order w.moment w)
+      (ends_any (λ (v : World P). ⊤) (settle cmp w.moment (part last id w)) (λ v. tt))
+      (λ u l i part_u r s. wake_part (length u.waiting) u.moment (length _) u l i part_u r (omega arith) (omega arith))

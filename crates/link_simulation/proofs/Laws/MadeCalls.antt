@@ -63,28 +63,23 @@ module _ {P : Type 0} (cmp : P → P → Ordering) (order : IsTotalOrder cmp) wh
   by_reply : (w : World P) (call : Call P) (calls : List (Call P)) (reply : Reply P) (replies : List (Reply P))
       → IsInTurn cmp w call → AreInTurn cmp w calls replies
       → ((now : ℕ) (cs : List (Completed P)) (v : World P) → moment_of call ≡ Some now → Runs cmp w call now (goes cs v)
-      → AreInTurn cmp v calls replies)
-      → AreInTurn cmp w (call ∷ calls) (reply ∷ replies)
+      → AreInTurn cmp v calls replies) → AreInTurn cmp w (call ∷ calls) (reply ∷ replies)
   by_reply w call calls (reply_done cs) replies turn stays goes_on = (turn, goes_on)
   by_reply w call calls (reply_next next) replies turn stays goes_on = (turn, stays)
   by_reply w call calls (reply_refused why) replies turn stays goes_on = (turn, stays)
 
   -- a call at the world's own moment
   at_the_moment : (w : World P) (call : Call P) (calls : List (Call P)) (reply : Reply P) (replies : List (Reply P))
-      (at : ℕ)
-      → moment_of call ≡ Some at → w.moment ≡ at
-      → IsQuiet cmp w.moment w → IsInTurn cmp w call
+      (at : ℕ) → moment_of call ≡ Some at → w.moment ≡ at → IsQuiet cmp w.moment w → IsInTurn cmp w call
       → ((v : World P) → v.moment ≡ at → IsQuiet cmp v.moment v → AreInTurn cmp v calls replies)
       → AreInTurn cmp w (call ∷ calls) (reply ∷ replies)
   at_the_moment w call calls reply replies at is same quiet turn ih =
-      by_reply w call calls reply replies turn (ih w same quiet)
-      (λ now cs v there runs. let equal : now ≡ at = cc in
+      by_reply w call calls reply replies turn (ih w same quiet) (λ now cs v there runs. let equal : now ≡ at = cc in
       let ends : (v.moment ≡ now) × IsQuiet cmp v.moment v = run_ends w v call now cs quiet there (omega arith) runs in
       ih v (ends.0 ∙ equal) ends.1)
 
   advanced_in_turn : (calls : List (Call P)) (replies : List (Reply P)) (w : World P) (at : ℕ) → w.moment ≡ at
-      → IsQuiet cmp w.moment w → AreAdvancedFirst at calls replies
-      → AreInTurn cmp w calls replies
+      → IsQuiet cmp w.moment w → AreAdvancedFirst at calls replies → AreInTurn cmp w calls replies
   advanced_in_turn [] replies w at same quiet first = tt
   advanced_in_turn (call ∷ calls) [] w at same quiet first = tt
   advanced_in_turn (call_advance now ∷ calls) (reply_done cs ∷ replies) w at same quiet first = (

@@ -250,12 +250,10 @@ module _ {P : Type 0} (cmp : P → P → Ordering) (order : IsTotalOrder cmp) wh
   wake_event : {t : ℕ} {p : Planned P} {c : Course (Completed P) (Planned P)} → Wakes cmp t p c → SomeReadyAt cmp p t
       → 0 < most_events p × Leaves (most_events p - 1) c
   wake_event {t = t} {p = p} {c = c} wakes some =
-      by_list (filter (may_launch cmp t p) (fronts cmp p.waiting))
-      (in_filter (may_launch cmp t p) (fronts cmp p.waiting) some.0 (first_in_fronts some.0 p.waiting some.1) some.2)
-      (each_filter (λ (m : Message P). find (same_pair cmp m) p.waiting ≡ Some m)
-      (λ (m : Message P). (find (same_pair cmp m) p.waiting ≡ Some m) × (may_launch cmp t p m ≡ true))
-      (may_launch cmp t p) (fronts cmp p.waiting) (λ m may found. (found, may))
-      (fronts_are_first cmp order p.waiting)) wakes
+      by_list _ (in_filter (may_launch cmp t p) (fronts cmp p.waiting) some.0 (first_in_fronts some.0 p.waiting some.1)
+      some.2) (each_filter (λ (m : Message P). find _ p.waiting ≡ Some m) (λ (m : Message P). (find _ p.waiting ≡ Some
+      m) × (may_launch cmp t p m ≡ true)) _ _ (λ m may found. (found, may)) (fronts_are_first cmp order p.waiting))
+      wakes
     where
       by_list : (ms : List (Message P)) → In ms some.0
           → Each (λ (m : Message P). (find (same_pair cmp m) p.waiting ≡ Some m) × (may_launch cmp t p m ≡ true)) ms
@@ -348,8 +346,7 @@ module _ {P : Type 0} (cmp : P → P → Ordering) (order : IsTotalOrder cmp) wh
   enqueue_right {now = now} {m = m} {p = p} (at_once free) h = grind arith
   enqueue_right (no_launch limits launch) h = tt
   enqueue_right {m = m} {p = p} (launches {leavers = leavers} {mid = mid} limits launch finishes) h =
-      finish_right finishes
-      (launch_right launch m leavers mid refl refl
+      finish_right finishes (launch_right launch m leavers mid refl refl
       (record { finish = h.finish; none_at_first = λ free. both limits free }))
     where
       both : {A : Type 0} → p.limited ≡ true → p.limited ≡ false → A
@@ -365,8 +362,7 @@ module _ {P : Type 0} (cmp : P → P → Ordering) (order : IsTotalOrder cmp) wh
 
   -- what is planned is right after each call
   pub obeys_right : (p : Planned P) (call : Call P) (c : Course (Completed P) (Planned P)) → IsPlanned cmp p
-      → Obeys cmp p call c → (cs : List (Completed P)) (q : Planned P)
-      → c ≡ goes cs q → IsPlanned cmp q
+      → Obeys cmp p call c → (cs : List (Completed P)) (q : Planned P) → c ≡ goes cs q → IsPlanned cmp q
   unfolding Right
   obeys_right p call c h obeys cs q e = subst Right e (by_call call obeys)
     where

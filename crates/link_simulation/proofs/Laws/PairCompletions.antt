@@ -44,8 +44,7 @@ module _ {P : Type 0} (cmp : P → P → Ordering) (order : IsTotalOrder cmp) (k
   ticks_history {w = w} no_tick messages t cs ds v e h = grind (arith, append-nil)
   ticks_history {w = w} (one_tick {n = n} {v = z} {u = u} {cs = es} {rest = rest} d i more) messages t cs ds v e h =
       let r : (fs : List (Completed P)) × (rest ≡ goes fs v) × (es ++ fs ≡ ds) = rest_is cmp es rest ds v e in
-      let after = lands (instant cmp z) i
-      (instant_goes cmp order k messages (suc t) cs z (drain_history messages t cs w z d h)) in
+      let after = lands _ i (instant_goes cmp order k messages (suc t) cs z (drain_history messages t cs w z d h)) in
       let on = ticks_history more messages (suc t) (cs ++ es) r.0 v r.1 after in
       let count : suc t + n ≡ t + suc n = omega arith in
       subst (λ (s : ℕ). IsHistory cmp order k messages s (cs ++ ds) v) count
@@ -117,10 +116,8 @@ module _ {P : Type 0} (cmp : P → P → Ordering) (order : IsTotalOrder cmp) (k
       grows own true = grind (arith, last_of, le-leb)
       grows own false = tt
 
-      reached : (b : Bool)
-          → IfSome (if b then Some (if b then later_of (w.last_arrival m.origin m.recipient)
-          (t + m.latency) else t) else None) (NotPast cmp order k (Some
-          (later_of (last cmp order k w)
+      reached : (b : Bool) → IfSome (if b then Some (if b then later_of (w.last_arrival m.origin m.recipient)
+          (t + m.latency) else t) else None) (NotPast cmp order k (Some (later_of (last cmp order k w)
           (if b then later_of (w.last_arrival m.origin m.recipient) (t + m.latency) else t))))
       reached true = grind (arith, reaches_it)
       reached false = tt
@@ -129,8 +126,7 @@ module _ {P : Type 0} (cmp : P → P → Ordering) (order : IsTotalOrder cmp) (k
           (cond b (meets MomentTooLate) (goes (c ∷ []) after))
       by_late true = tt
       by_late false =
-          by_bool (same_pair cmp k m)
-          (λ own.
+          by_bool (same_pair cmp k m) (λ own.
           let list_is = told_more cmp order k cs c own in
           record {
             done = h.done ++ m ∷ [];
@@ -142,9 +138,8 @@ module _ {P : Type 0} (cmp : P → P → Ordering) (order : IsTotalOrder cmp) (k
             in_flight =
                 ap (λ (fs : List (Flight P)). filter (same_pair cmp k) (map (λ (f : Flight P). f.message) fs)) sends;
             queue =
-                filter-append (same_pair cmp k) messages (m ∷ [])
-                ∙ ap (λ (ms : List (Message P)). ms ++ filter (same_pair cmp k) (m ∷ [])) all_done ∙ rw own refl
-                ∙ sym (append-nil (h.done ++ m ∷ [])) ∙ ap
+                filter-append (same_pair cmp k) messages (m ∷ []) ∙ ap (λ (ms : List (Message P)). ms ++ filter
+                (same_pair cmp k) (m ∷ [])) all_done ∙ rw own refl ∙ sym (append-nil _) ∙ ap
                 (λ (ms : List (Message P)). (h.done ++ m ∷ []) ++ filter (same_pair cmp k) ms) (sym none_waits);
             deliveries = subst NeverGoDown (sym list_is)
                 (deliveries_push cmp order k (last cmp order k w) (told_of_k cmp order k cs) c h.deliveries h.not_past
@@ -160,8 +155,7 @@ module _ {P : Type 0} (cmp : P → P → Ordering) (order : IsTotalOrder cmp) (k
             in_order = tt;
             alike = alike_too;
             now = h.now;
-          })
-          (λ off.
+          }) (λ off.
           let list_is = told_same cmp order k cs c off in
           record {
             done = h.done;
@@ -202,8 +196,7 @@ module _ {P : Type 0} (cmp : P → P → Ordering) (order : IsTotalOrder cmp) (k
       by_mode false is = at_once_goes messages t cs w m (sound.empty_at_first is).0 (sound.empty_at_first is).1 h
 
   each_goes : (ms messages : List (Message P)) (t : ℕ) (cs : List (Completed P)) (w : World P) → IsSound cmp w
-      → IsHistory cmp order k messages t cs w
-      → GoesByRule cmp order k (messages ++ ms) t cs (enqueue_each cmp t w ms)
+      → IsHistory cmp order k messages t cs w → GoesByRule cmp order k (messages ++ ms) t cs (enqueue_each cmp t w ms)
   unfolding GoesByRule
   each_goes [] messages t cs w sound h = stays cmp order k (messages ++ []) t cs w (none_more messages t cs w h)
   each_goes (m ∷ ms) messages t cs w sound h =
@@ -213,19 +206,16 @@ module _ {P : Type 0} (cmp : P → P → Ordering) (order : IsTotalOrder cmp) (k
       by_course : (c : Course (Completed P) (World P)) → EndsWith (IsSound cmp) c
           → GoesByRule cmp order k (messages ++ m ∷ []) t cs c
           → ((before : List (Message P)) (s : ℕ) (ds : List (Completed P)) (u : World P) → IsSound cmp u
-          → IsHistory cmp order k before s ds u
-          → GoesByRule cmp order k (before ++ ms) s ds (enqueue_each cmp s u ms))
+          → IsHistory cmp order k before s ds u → GoesByRule cmp order k (before ++ ms) s ds (enqueue_each cmp s u ms))
           → GoesByRule cmp order k (messages ++ m ∷ ms) t cs (and_then c (λ v. enqueue_each cmp t v ms))
       by_course (goes ds u) sound_u g ih =
           subst (λ (ns : List (Message P)). GoesByRule cmp order k ns t cs (preceded ds (enqueue_each cmp t u ms)))
-          (append_assoc messages (m ∷ []) ms)
-          (goes_preceded cmp order k ((messages ++ m ∷ []) ++ ms) t cs ds (enqueue_each cmp t u ms)
-          (ih (messages ++ m ∷ []) t (cs ++ ds) u sound_u g))
+          (append_assoc messages (m ∷ []) ms) (goes_preceded cmp order k ((messages ++ m ∷ []) ++ ms) t cs ds _
+          (ih _ t _ u sound_u g))
       by_course (meets fault) sound_u g ih = tt
 
   act_goes : (messages : List (Message P)) (t : ℕ) (cs : List (Completed P)) (w : World P) (call : Call P)
-      → moment_of call ≡ Some t
-      → IsSound cmp w → IsHistory cmp order k messages t cs w
+      → moment_of call ≡ Some t → IsSound cmp w → IsHistory cmp order k messages t cs w
       → GoesByRule cmp order k (messages ++ added call) t cs (act cmp w call)
   act_goes messages t cs w (call_limit s peer egress ingress) e sound h =
       grind (
@@ -289,12 +279,7 @@ module _ {P : Type 0} (cmp : P → P → Ordering) (order : IsTotalOrder cmp) (k
       let sound_u = call_keeps_sound cmp order w call now (goes ds u) sound runs in
       let here : IsHistory cmp order k (messages ++ added call) u.moment (cs ++ ds) u = grind arith in
       let rest = answers_in_order more (messages ++ added call) (cs ++ ds) sound_u here in
-      grind (
-        arith,
-        (append_assoc messages (added call) (enqueued calls)),
-        (enqueued_split call calls),
-        (append_assoc cs ds (answered css)),
-      )
+      grind (arith, (append_assoc messages (added call) (enqueued calls)), (enqueued_split call calls), (append_assoc cs ds (answered css)))
 
   new_history : (id : ℕ) → IsHistory cmp order k [] 0 [] (new_world id)
   new_history id = record {

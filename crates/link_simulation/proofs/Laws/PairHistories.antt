@@ -135,8 +135,7 @@ module _ {P : Type 0} (cmp : P → P → Ordering) (order : IsTotalOrder cmp) (k
   reaches_it (Some last) at = omega arith
 
   pub told_push : (cs : List (Completed P)) (ds : List (Message P)) (c : Completed P) (m : Message P)
-      → AllZip IsCompletionOf cs ds → IsCompletionOf c m
-      → AllZip IsCompletionOf (cs ++ c ∷ []) (ds ++ m ∷ [])
+      → AllZip IsCompletionOf cs ds → IsCompletionOf c m → AllZip IsCompletionOf (cs ++ c ∷ []) (ds ++ m ∷ [])
   told_push [] [] c m all own = (own, tt)
   told_push [] (d ∷ ds) c m all own = absurd all
   told_push (c ∷ cs) [] d m all own = absurd all
@@ -169,8 +168,7 @@ module _ {P : Type 0} (cmp : P → P → Ordering) (order : IsTotalOrder cmp) (k
       → filter (same_pair cmp k) (without_first (same_pair cmp m) ws) ≡ filter (same_pair cmp k) ws
   waits_without [] m off = refl
   waits_without (x ∷ ws) m off =
-      by_bool (same_pair cmp m x)
-      (λ is. rw is (
+      by_bool (same_pair cmp m x) (λ is. rw is (
       let out : same_pair cmp k x ≡ false = pair_sym cmp order k x ∙ pair_like cmp order m x k is
       ∙ pair_sym cmp order m k ∙ off in rw out refl))
       (λ is. rw is (ap (λ (ms : List (Message P)). cond (same_pair cmp k x) (x ∷ ms) ms) (waits_without ws m off)))
@@ -191,8 +189,7 @@ module _ {P : Type 0} (cmp : P → P → Ordering) (order : IsTotalOrder cmp) (k
       → may_start cmp t w m ≡ true → IsHistory messages t cs w → IsHistory messages t cs (joined w m)
   unfolding joined
   start_history messages t cs w m found may h =
-      by_bool (same_pair cmp k m)
-      (λ own.
+      by_bool (same_pair cmp k m) (λ own.
       let none : flies w ≡ [] = filter_nothing (same_pair cmp k) (flows w) (like_any (flows w) own apart.0) in
       record {
         done = h.done;
@@ -268,12 +265,10 @@ module _ {P : Type 0} (cmp : P → P → Ordering) (order : IsTotalOrder cmp) (k
     land w m = out_of_flight cmp t w m
 
     land_history : (cs : List (Completed P)) (w : World P) (f : Flight P) → find (is_done cmp w) w.sending ≡ Some f
-        → IsHistory messages t cs w
-        → IsHistory messages t (cs ++ completed cmp t f.message ∷ []) (land w f.message)
+        → IsHistory messages t cs w → IsHistory messages t (cs ++ completed cmp t f.message ∷ []) (land w f.message)
     unfolding land
     land_history cs w f found h =
-        by_bool (same_pair cmp k f.message) (λ own. by_flying own h.flying refl h.in_flight h.queue h.in_order)
-        (λ off.
+        by_bool (same_pair cmp k f.message) (λ own. by_flying own h.flying refl h.in_flight h.queue h.in_order) (λ off.
         let c : Completed P = completed cmp t f.message in
         let list_is : told_of_k (cs ++ c ∷ []) ≡ told_of_k cs = told_same cs c off in
         record {
@@ -334,15 +329,12 @@ module _ {P : Type 0} (cmp : P → P → Ordering) (order : IsTotalOrder cmp) (k
                 by_test b true is e none ih = cc
                 by_test true false is e none ih =
                     let same : g ≡ f = cc in
-                    let out : same_pair cmp k f.message ≡ false =
-                    ap (λ (x : Flight P). same_pair cmp k x.message) (sym same) ∙ is in
+                    let out = ap (λ (x : Flight P). same_pair cmp k x.message) (sym same) ∙ is in
                     cc
                 by_test false false is e none ih = ih e none
         by_flying own (Some n) is one queue order_is =
-            let taken : (f.message ≡ n)
-            × (filter (same_pair cmp k)
-            (map (λ (g : Flight P). g.message) (without_first (is_done cmp w) w.sending)) ≡ [])
-            = taken_out (same_pair cmp k) (λ (g : Flight P). g.message) (is_done cmp w) f n w.sending found own one in
+            let taken = taken_out (same_pair cmp k) (λ (g : Flight P). g.message) (is_done cmp w) f n w.sending found
+            own one in
             let c : Completed P = completed cmp t f.message in
             let of_pair : completes_pair cmp k c ≡ true = own in
             let list_is : told_of_k (cs ++ c ∷ []) ≡ told_of_k cs ++ c ∷ [] = told_more cs c of_pair in
@@ -383,12 +375,9 @@ module _ {P : Type 0} (cmp : P → P → Ordering) (order : IsTotalOrder cmp) (k
         → IsHistory messages t cs w → GoesByRule cs (complete cmp t w f.message)
     unfolding land GoesByRule
     complete_goes cs w f found h =
-        by_bool (is_late cmp t f.message) (λ is. rw is tt)
-        (λ is. rw is (
-        goes_preceded cs (completed cmp t f.message ∷ [])
-        (start_next cmp t (land w f.message) (first_waiting cmp (land w f.message) f.message))
-        (next_goes (cs ++ completed cmp t f.message ∷ []) (land w f.message) f.message
-        (first_waiting cmp (land w f.message) f.message) refl (land_history cs w f found h))))
+        by_bool (is_late cmp t f.message) (λ is. rw is tt) (λ is. rw is (
+        goes_preceded cs (completed cmp t f.message ∷ []) _ (next_goes _ _ f.message _ refl
+        (land_history cs w f found h))))
 
     -- ---- an instant
 
@@ -406,11 +395,9 @@ module _ {P : Type 0} (cmp : P → P → Ordering) (order : IsTotalOrder cmp) (k
         → (find (same_pair cmp m) w.waiting ≡ Some m) × (may_start cmp t w m ≡ true)
     ready_may w m e =
         each_least cmp order (λ (n : Message P). (find (same_pair cmp n) w.waiting ≡ Some n)
-        × (may_start cmp t w n ≡ true)) (ready cmp t w) m
-        (each_filter (λ (n : Message P). find (same_pair cmp n) w.waiting ≡ Some n)
-        (λ (n : Message P). (find (same_pair cmp n) w.waiting ≡ Some n) × (may_start cmp t w n ≡ true))
-        (may_start cmp t w) (fronts cmp w.waiting) (λ n may first. (first, may))
-        (fronts_are_first cmp order w.waiting)) e
+        × (may_start cmp t w n ≡ true)) _ m (each_filter (λ (n : Message P). find _ w.waiting ≡ Some n)
+        (λ (n : Message P). (find _ w.waiting ≡ Some n) × (may_start cmp t w n ≡ true)) _ _
+        (λ n may first. (first, may)) (fronts_are_first cmp order w.waiting)) e
 
     turn_goes : (cs : List (Completed P)) (w : World P) (m : Message P) → least_pair cmp (ready cmp t w) ≡ Some m
         → IsHistory messages t cs w → GoesByRule cs (turn cmp t w m)

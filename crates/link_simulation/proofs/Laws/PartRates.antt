@@ -48,8 +48,7 @@ sum_shifted : {X : Type 0} (f g : ℕ → ℕ) (p q : ℕ) (test : X → Bool) (
     → sum_by f (places_from p test xs) ≡ sum_by g (places_from q test xs)
 sum_shifted f g p q test [] same = refl
 sum_shifted {X} f g p q test (x ∷ xs) same =
-    by_test (test x)
-    (sum_shifted f g (p + 1) (q + 1) test xs (λ i. ap f (omega arith) ∙ same (1 + i) ∙ ap g (omega arith)))
+    by_test _ (sum_shifted f g (p + 1) (q + 1) test xs (λ i. ap f (omega arith) ∙ same (1 + i) ∙ ap g (omega arith)))
   where
     here : f p ≡ g q
     here = ap f (omega arith) ∙ same 0 ∙ ap g (omega arith)
@@ -77,13 +76,11 @@ kept_load {X} mine uses f (x ∷ xs) all =
 
     by_test : (b : Bool) → mine x ≡ b → (u : Bool) → uses x ≡ u
         → sum_by (λ i. f (suc (stood (map mine xs) i))) (places_from 0 uses (filter mine xs))
-        ≡ sum_by (λ i. f (suc i)) (places_from 0 uses xs)
-        → sum_by (λ i. f (stood (b ∷ map mine xs) i))
+        ≡ sum_by (λ i. f (suc i)) (places_from 0 uses xs) → sum_by (λ i. f (stood (b ∷ map mine xs) i))
         (places_from 0 uses (cond b (x ∷ filter mine xs) (filter mine xs)))
         ≡ sum_by f (cond u (0 ∷ places_from (0 + 1) uses xs) (places_from (0 + 1) uses xs))
     by_test true is true used ih =
-        rw used
-        (omega (
+        rw used (omega (
           arith,
           ih,
           next,
@@ -110,8 +107,7 @@ module _ {P : Type 0} (cmp : P → P → Ordering) (caps : Caps P) where
       ≡ rates_from cmp caps (λ i. f (stood (map mine ms) i)) 0 (filter mine ms)
   kept_rates mine f [] = refl
   kept_rates mine f (m ∷ ms) =
-      by_bool (mine m)
-      (λ is. rw is (
+      by_bool (mine m) (λ is. rw is (
       ap (λ (rs : Parts). (if is_unlimited cmp caps m then None else Some (f 0)) ∷ rs)
       (ap (flagged (map mine ms)) next ∙ (kept_rates mine (λ i. f (suc i)) ms) ∙ later)))
       (λ is. rw is (ap (flagged (map mine ms)) next ∙ (kept_rates mine (λ i. f (suc i)) ms)))
@@ -205,8 +201,7 @@ module _ {P : Type 0} (cmp : P → P → Ordering) (caps : Caps P) where
             → HasBottleneck (capped_sides cmp caps (filter mine ms)) per own_parts i
         by_side (m, has, (k, c, is, e)) =
             let used = subst (λ (z : Side). Contains z.users (stood (map mine ms) i)) e b.uses.used in
-            let there = passes_here (uses_at k m) ms (stood (map mine ms) i)
-            (in_from_contains (places_from 0 (uses_at k m) ms) (stood (map mine ms) i) used) in
+            let there = passes_here (uses_at k m) ms (stood _ i) (in_from_contains _ _ used) in
             let same_x : Some there.0 ≡ Some x = sym there.1 ∙ stands.0 in
             let it : there.0 ≡ x = cc in
             let uses_x : uses_at k m x ≡ true = subst (λ (z : Message P). uses_at k m z ≡ true) it there.2 in
@@ -224,8 +219,7 @@ module _ {P : Type 0} (cmp : P → P → Ordering) (caps : Caps P) where
               full = same_load k m c has own_m ∙ filled;
               greatest =
                   All-from_contains (λ other. own_parts other ≤ own_parts i)
-                  (places_from 0 (uses_at k m) (filter mine ms))
-                  (λ other has_other. greatest k m other has_other most);
+                  (places_from 0 (uses_at k m) (filter mine ms)) (λ other has_other. greatest k m other has_other most);
             }
           where
             greatest : (k : Kind) (m : Message P) (other : ℕ)
@@ -233,8 +227,7 @@ module _ {P : Type 0} (cmp : P → P → Ordering) (caps : Caps P) where
                 → All (λ o. parts o ≤ parts (stood (map mine ms) i)) (places_from 0 (uses_at k m) ms)
                 → own_parts other ≤ own_parts i
             greatest k m other has_other most =
-                let at = passes_here (uses_at k m) (filter mine ms) other
-                (in_from_contains (places_from 0 (uses_at k m) (filter mine ms)) other has_other) in
+                let at = passes_here (uses_at k m) (filter mine ms) other (in_from_contains _ other has_other) in
                 All-contains (λ o. parts o ≤ parts (stood (map mine ms) i)) (places_from 0 (uses_at k m) ms)
                 (stood (map mine ms) other) most
                 (place_here (uses_at k m) ms (stood (map mine ms) other) at.0 (stood_at mine ms other at.0 at.1).0
@@ -247,11 +240,9 @@ module _ {P : Type 0} (cmp : P → P → Ordering) (caps : Caps P) where
         by_side : Of limited.0 → HasBottleneck (capped_sides cmp caps (filter mine ms)) per own_parts i
         by_side (m, has, own, (k, c, is, e)) =
             let used = subst (λ (z : Side). Contains z.users i) e limited.1.used in
-            let at = passes_here (uses_at k m) (filter mine ms) i
-            (in_from_contains (places_from 0 (uses_at k m) (filter mine ms)) i used) in
+            let at = passes_here (uses_at k m) (filter mine ms) i (in_from_contains _ i used) in
             let there : slice_get ms (stood (map mine ms) i) ≡ Some at.0 = (stood_at mine ms i at.0 at.1).0 in
-            part_bottleneck i at.0 at.1
-            (fair.held (stood (map mine ms) i) (
+            part_bottleneck i at.0 at.1 (fair.held (stood (map mine ms) i) (
               side_at k ms m c,
               record {
                 listed = to_sides k ms m c has is;
@@ -270,12 +261,6 @@ module _ {P : Type 0} (cmp : P → P → Ordering) (caps : Caps P) where
 
   -- the fair rates of messages that share no side with the others are fair for them alone
   pub fair_part : (mine : Message P → Bool) (ms : List (Message P)) (per : ℕ) (rates : Parts) → SharesNoSide mine ms
-      → AreFair cmp caps ms per rates
-      → AreFair cmp caps (filter mine ms) per (flagged (map mine ms) rates)
+      → AreFair cmp caps ms per rates → AreFair cmp caps (filter mine ms) per (flagged (map mine ms) rates)
   fair_part mine ms per rates apart fair =
-      grind (
-        arith,
-        common_steps,
-        (part_is_fair mine ms per fair.parts apart fair.fair),
-        (kept_rates mine fair.parts ms),
-      )
+      grind (arith, common_steps, (part_is_fair mine ms per fair.parts apart fair.fair), (kept_rates mine fair.parts ms))

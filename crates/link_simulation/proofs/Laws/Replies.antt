@@ -80,11 +80,9 @@ module _ {P : Type 0} (cmp : P → P → Ordering) (order : IsTotalOrder cmp) wh
   never_down (c ∷ cs) (d ∷ ds) same never = grind (arith, if_more, none_before, (never_down cs ds))
 
   in_order_alike : (k : Message P) (messages : List (Message P)) (cs ds : List (Completed P))
-      → AllZip (SameCompletion cmp) cs ds → IsInPairOrder cmp k messages ds
-      → CompletesInOrder cmp k messages cs
+      → AllZip (SameCompletion cmp) cs ds → IsInPairOrder cmp k messages ds → CompletesInOrder cmp k messages cs
   in_order_alike k messages cs ds same order_of =
-      let those = zip-filter (SameCompletion cmp) (completes_pair cmp k) (completes_pair cmp k) (completes_alike k) cs
-      ds same in
+      let those = zip-filter _ _ _ (completes_alike k) cs ds same in
       grind (
         arith,
         (completions_of (filter (completes_pair cmp k) cs) (filter (completes_pair cmp k) ds) order_of.done
@@ -96,8 +94,7 @@ module _ {P : Type 0} (cmp : P → P → Ordering) (order : IsTotalOrder cmp) wh
       → Agrees cmp (new_world 0) calls replies → AlwaysSoFar (CompletePairsInOrder cmp) calls replies
   pairs_complete_in_order calls replies agrees n k turns =
       let bridged : Bridged cmp order (new_world 0) (take n calls) (take n replies) = grind (arith, made_in_turn) in
-      in_order_alike k (enqueued (made (take n calls) (take n replies))) (answered (completions_in (take n replies)))
-      (answered bridged.0) (answered_alike (SameCompletion cmp) (completions_in (take n replies)) bridged.0 bridged.2)
+      in_order_alike k _ _ (answered bridged.0) (answered_alike _ _ bridged.0 bridged.2)
       (pair_in_order cmp order k 0 (made (take n calls) (take n replies)) bridged.0 (any_turn cmp order bridged.1))
 
   -- ---- a set of peers

@@ -15,15 +15,13 @@ module _ {P : Type 0} (cmp : P → P → Ordering) (order : IsTotalOrder cmp) wh
   runs_of w now c ticks = record { ticked = c; ticks = ticks; acts = sym (nothing_more cmp order c) }
 
   pub advance_split_anywhere : (p q : Planned P) (now : ℕ) (completions : List (Completed P)) → now ≤ last_moment
-      → GoesByRule cmp p (call_advance now) completions q
-      → IsSplitAnywhere cmp p now completions q
+      → GoesByRule cmp p (call_advance now) completions q → IsSplitAnywhere cmp p now completions q
   advance_split_anywhere p q now completions in_time go w between stands after before =
       let run = calls_simulated cmp order p q (call_advance now) completions (λ t at. let same : now ≡ t = cc in
       subst (λ (s : ℕ). s ≤ last_moment) same in_time) go w now (record {
         stands = stands;
         moment = refl;
-        turn =
-            omega arith;
+        turn = omega arith;
       }) in
       let apart = ticks_apart cmp (ticks_of cmp order w now (goes run.answers run.after) run.runs) (between - w.moment)
       (now - between) (omega arith) in
@@ -40,7 +38,6 @@ module _ {P : Type 0} (cmp : P → P → Ordering) (order : IsTotalOrder cmp) wh
           → Ticks cmp (between - w.moment) w first
           → Continues cmp (now - between) first (goes run.answers run.after) → RunsInTwo cmp w between now completions q
       by_first run (goes ds v) ticks (rest, more, is) =
-          let at = ends_at cmp order (IsAt cmp order (w.moment + (between - w.moment))) (goes ds v) ds v refl
-          (ticks_end_at cmp order ticks) in
+          let at = ends_at cmp order (IsAt cmp order _) (goes ds v) ds v refl (ticks_end_at cmp order ticks) in
           by_rest run ds v (runs_of w between (goes ds v) ticks) (omega arith) rest more is
       by_first run (meets fault) ticks is = cc

@@ -30,16 +30,13 @@ module _ {P : Type 0} (cmp : P → P → Ordering) (order : IsTotalOrder cmp) wh
       let same : now ≡ _ = cc in (omega arith, subst (λ (s : ℕ). IsBeforeNext cmp s w) same before)
 
   pub turn_by_next : (p : Planned P) (w : World P) (call : Call P) (now : ℕ) → StandsFor cmp p w
-      → moment_of call ≡ Some now → w.moment ≤ now
-      → IfSome (next_event p) (λ t. now < t) → IsInTurn cmp w call
+      → moment_of call ≡ Some now → w.moment ≤ now → IfSome (next_event p) (λ t. now < t) → IsInTurn cmp w call
   turn_by_next p w call now stands is le before = in_turn w call now is le
-      (λ next there. subst (λ (o : Option ℕ). IfSome o (λ t. now < t))
-      (next_is_one cmp order w (next_event p) next (sound_of_stands cmp order p w stands).positive
-      (next_is_planned cmp order p w stands) there) before)
+      (λ next there. subst (λ (o : Option ℕ). IfSome o (λ t. now < t)) (next_is_one cmp order w _ next
+      (sound_of_stands cmp order p w stands).positive (next_is_planned cmp order p w stands) there) before)
 
   pub called_at_once : (w : World P) (q : Planned P) (call other : Call P) (now : ℕ) (cs : List (Completed P))
-      → moment_of other ≡ Some now
-      → (run : IsRun cmp w call now cs q) → IsCalled cmp q other now run.after
+      → moment_of other ≡ Some now → (run : IsRun cmp w call now cs q) → IsCalled cmp q other now run.after
   called_at_once w q call other now cs is run = grind (arith, turn_by_next)
 
   -- ---- a list of messages
@@ -94,8 +91,7 @@ module _ {P : Type 0} (cmp : P → P → Ordering) (order : IsTotalOrder cmp) wh
   turn_between w call from before same known between = (omega arith, known _ between.1)
 
   asked : (w : World P) (calls : List (Call P)) (replies : List (Reply P)) (call : Call P) (next : Option ℕ)
-      → Agrees cmp w (call ∷ calls) (reply_next next ∷ replies)
-      → IsInTurn cmp w call × NextIs cmp w next
+      → Agrees cmp w (call ∷ calls) (reply_next next ∷ replies) → IsInTurn cmp w call × NextIs cmp w next
   asked w calls replies call_next next agrees = (tt, agrees.0)
   asked w calls replies call next agrees = absurd agrees
 
@@ -133,8 +129,7 @@ module _ {P : Type 0} (cmp : P → P → Ordering) (order : IsTotalOrder cmp) wh
           (subst (λ (u : World P). Agrees cmp u calls replies) there one.rest)
 
   pub new_by_next : (calls : List (Call P)) (replies : List (Reply P)) → Agrees cmp (new_world 0) calls replies
-      → GoByNext 0 (Some 1) calls replies
-      → AreInTurn cmp (new_world 0) calls replies
+      → GoByNext 0 (Some 1) calls replies → AreInTurn cmp (new_world 0) calls replies
   unfolding Follow
   new_by_next calls replies agrees go =
       by_next_in_turn calls replies (new_world 0) 0 (Some 1) refl (new_world_sound cmp order 0)

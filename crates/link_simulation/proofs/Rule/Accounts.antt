@@ -91,12 +91,7 @@ module _ {P : Type 0} (cmp : P → P → Ordering) (order : IsTotalOrder cmp) wh
       → OneForEachPair cmp (map (λ (f : Flight P). f.message) (filter test fs))
   one_filter test [] one = tt
   one_filter test (f ∷ fs) one =
-      grind (
-        arith,
-        common_steps,
-        (any_filter cmp order (same_pair cmp f.message) test fs one.0),
-        (one_filter test fs one.1),
-      )
+      grind (arith, common_steps, (any_filter cmp order (same_pair cmp f.message) test fs one.0), (one_filter test fs one.1))
 
   -- an account at t takes out what is done in the world at t, and leaves the rest as it is there
   pub leavers_alike : (t : ℕ) (old new : Planned P) (leavers : List (Message P)) (w : World P) → Tallies cmp t old w
@@ -117,8 +112,7 @@ module _ {P : Type 0} (cmp : P → P → Ordering) (order : IsTotalOrder cmp) wh
           subst (λ (q : Planned P). PairsAlike cmp q.last_arrival w.last_arrival) (sym account.same) same.last_arrival;
       next_id = ap (λ (q : Planned P). q.next_id) account.same ∙ same.next_id;
       waiting =
-          subst
-          (λ (q : Planned P). (m : Message P)
+          subst (λ (q : Planned P). (m : Message P)
           → AllZip (SameMessage cmp) (filter (same_pair cmp m) q.waiting) (filter (same_pair cmp m) w.waiting))
           (sym account.same) same.waiting;
       pair_order = subst (λ (q : Planned P). AreInPairOrder cmp q.waiting) (sym account.same) same.pair_order;

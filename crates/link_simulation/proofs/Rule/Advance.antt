@@ -64,20 +64,17 @@ module _ {P : Type 0} (cmp : P → P → Ordering) (order : IsTotalOrder cmp) wh
 
   -- ticks, then a wake, and then the rest
   joined_ticks : (a t now : ℕ) (w : World P) (ds : List (Completed P)) (x c : Course (Completed P) (World P))
-      → Ticks cmp a w (preceded ds x) → OnFrom t now x c
-      → Ticks cmp (now - t + a) w (preceded ds c)
+      → Ticks cmp a w (preceded ds x) → OnFrom t now x c → Ticks cmp (now - t + a) w (preceded ds c)
   joined_ticks a t now w ds (goes es u) c ticks on = grind (arith, ticks_on, preceded_append)
   joined_ticks a t now w ds (meets fault) c ticks on = grind (arith, ticks_stop)
 
   -- the tick to the next event, and the whole way there
   to_event : (p : Planned P) (w : World P) (stands : StandsFor cmp p w) (e k : ℕ) → w.moment + suc k ≡ e
-      → e ≤ last_moment → next_event p ≡ Some e
-      → Ticks cmp (suc k) w (instant cmp (later cmp order p w stands (suc k)))
+      → e ≤ last_moment → next_event p ≡ Some e → Ticks cmp (suc k) w (instant cmp (later cmp order p w stands (suc k)))
   to_event p w stands e k at within next =
       let before : IfSome (next_event p) (λ t. w.moment + k < t) = grind arith in
       let way = passes_before cmp order p w stands k (omega arith) before in
-      ticks_through cmp order way.1 (later cmp order p w stands (suc k))
-      (instant cmp (later cmp order p w stands (suc k))) way.2 refl
+      ticks_through cmp order way.1 _ _ way.2 refl
 
   pub earlier_start : (a b : Option ℕ) (e : ℕ) → earlier a b ≡ Some e → a ≢ Some e
       → (b ≡ Some e) × IfSome a (λ f. e < f)
@@ -110,8 +107,7 @@ module _ {P : Type 0} (cmp : P → P → Ordering) (order : IsTotalOrder cmp) wh
       by_order : (w.moment < e) ⊎ (e ≤ w.moment) → SomeReadyAt cmp p e → w.moment < e
       by_order (inl lt) some = lt
       by_order (inr le) some =
-          absurd
-          (none_ready_back cmp order w.moment p w stands.follows.tallies stands.quiet.none_ready
+          absurd (none_ready_back cmp order w.moment p w stands.follows.tallies stands.quiet.none_ready
           (ready_later cmp order p e w.moment le some))
 
   -- a number of ticks from a moment to a later one
@@ -131,8 +127,7 @@ module _ {P : Type 0} (cmp : P → P → Ordering) (order : IsTotalOrder cmp) wh
   FromSettled now p course = (t : ℕ) (v : World P) → t ≤ now → IsSettled cmp t p v → WakesAlike t now v course
 
   course_map : (R S : Planned P → World P → Type 0) (x : Course (Completed P) (Planned P))
-      (c : Course (Completed P) (World P))
-      → ((q : Planned P) (v : World P) → R q v → S q v)
+      (c : Course (Completed P) (World P)) → ((q : Planned P) (v : World P) → R q v → S q v)
       → CoursesAlike cmp R x c → CoursesAlike cmp S x c
   course_map R S (goes cs q) (goes ds v) f h = (h.0, f q v h.1)
   course_map R S (goes cs q) (meets g) f h = absurd h
@@ -183,8 +178,7 @@ module _ {P : Type 0} (cmp : P → P → Ordering) (order : IsTotalOrder cmp) wh
 
   -- the tick to a planned start is a wake
   start_ticks : (e now : ℕ) (p : Planned P) (w : World P) (stands : StandsFor cmp p w)
-      (course : Course (Completed P) (Planned P))
-      → p.finish ≢ Some e → next_event p ≡ Some e → e ≤ now
+      (course : Course (Completed P) (Planned P)) → p.finish ≢ Some e → next_event p ≡ Some e → e ≤ now
       → ((v : World P) → Follows cmp e p v → list_any (is_done cmp v) v.sending ≡ false → WakesAlike e now v course)
       → TicksAlike now w course
   start_ticks e now p w stands course not_finish next le wakes =
@@ -216,9 +210,8 @@ module _ {P : Type 0} (cmp : P → P → Ordering) (order : IsTotalOrder cmp) wh
       let follows = subst (λ (s : ℕ). Follows cmp s p (later cmp order p w stands (suc steps.0))) steps.1
       (follows_later cmp order p w stands (suc steps.0)) in
       by_course steps.0 steps.1 after (to_event p w stands e steps.0 steps.1 within next)
-      (settle cmp e (later cmp order p w stands (suc steps.0))) refl
-      (settles_alike cmp order event (later cmp order p w stands (suc steps.0))
-      (unplanned e p (later cmp order p w stands (suc steps.0)) None p.start follows.tallies))
+      (settle cmp e (later cmp order p w stands _)) refl (settles_alike cmp order event (later cmp order p w stands _)
+      (unplanned e p _ None p.start follows.tallies))
     where
       by_course : (k : ℕ) → w.moment + suc k ≡ e → w.moment < e
           → Ticks cmp (suc k) w (instant cmp (later cmp order p w stands (suc k)))
@@ -248,10 +241,8 @@ module _ {P : Type 0} (cmp : P → P → Ordering) (order : IsTotalOrder cmp) wh
       let steps : (k : ℕ) × (w.moment + suc k ≡ e) = gap w.moment e after in
       let follows = subst (λ (s : ℕ). Follows cmp s p (later cmp order p w stands (suc steps.0))) steps.1
       (follows_later cmp order p w stands (suc steps.0)) in
-      by_course steps.0 steps.1 after (to_event p w stands e steps.0 steps.1 within next)
-      (settle cmp e (later cmp order p w stands (suc steps.0))) refl
-      (settles_alike cmp order event (later cmp order p w stands (suc steps.0))
-      (unplanned e p (later cmp order p w stands (suc steps.0)) None p.start follows.tallies))
+      by_course steps.0 steps.1 after (to_event p w stands e steps.0 steps.1 within next) _ refl
+      (settles_alike cmp order event (later cmp order p w stands _) (unplanned e p _ None p.start follows.tallies))
     where
       by_course : (k : ℕ) → w.moment + suc k ≡ e → w.moment < e
           → Ticks cmp (suc k) w (instant cmp (later cmp order p w stands (suc k)))
@@ -269,16 +260,14 @@ module _ {P : Type 0} (cmp : P → P → Ordering) (order : IsTotalOrder cmp) wh
 
   -- with no event up to now, the world drifts there
   drifts_to : (now : ℕ) (p : Planned P) (w : World P) (stands : StandsFor cmp p w)
-      (course : Course (Completed P) (Planned P))
-      → IfSome (next_event p) (λ t. now < t)
+      (course : Course (Completed P) (Planned P)) → IfSome (next_event p) (λ t. now < t)
       → Wakes cmp now p course → w.moment ≤ now → now ≤ last_moment → TicksAlike now w course
   drifts_to now p w stands course before wakes le within = by_count (now - w.moment) refl
     where
       ends : (v : World P) → Follows cmp now p v → list_any (is_done cmp v) v.sending ≡ false → ready cmp now v ≡ []
           → Ticks cmp (now - w.moment) w (goes [] v) → TicksAlike now w course
       ends v follows none_done none_ready ticks =
-          let woken : CoursesAlike cmp (IsWoken cmp order now) course (wake cmp now v) =
-          wake_alike wakes v follows none_done in
+          let woken = wake_alike wakes v follows none_done in
           let asleep : wake cmp now v ≡ goes [] v = wake_none cmp order (length v.waiting) now v none_ready in (
             goes [] v,
             ticks,
@@ -300,8 +289,7 @@ module _ {P : Type 0} (cmp : P → P → Ordering) (order : IsTotalOrder cmp) wh
           let u : World P = later cmp order p w stands (suc k) in
           let still : IfSome (next_event p) (λ t. w.moment + suc k < t) =
           subst (λ (s : ℕ). IfSome (next_event p) (λ t. s < t)) (sym same) before in
-          let quiet : IsQuiet cmp (w.moment + suc k) u =
-          quiet_before cmp order p w stands (suc k) (omega arith) still in
+          let quiet = quiet_before cmp order p w stands (suc k) (omega arith) still in
           ends u (subst (λ (s : ℕ). Follows cmp s p u) same (follows_later cmp order p w stands (suc k)))
           quiet.none_done (ap (λ (s : ℕ). ready cmp s u) (sym same) ∙ quiet.none_ready)
           (subst (λ (n : ℕ). Ticks cmp n w (goes [] u)) (sym is)
@@ -340,8 +328,7 @@ module _ {P : Type 0} (cmp : P → P → Ordering) (order : IsTotalOrder cmp) wh
       within =
       let ih : FromRest now q more × FromSettled now q more = advances_alike others within in
       from_both now p (preceded cs more) within
-      (λ w stands le. finish_ticks e now p q w stands cs more finish next due event ih.1)
-      (λ t v le is now_is. absurd
+      (λ w stands le. finish_ticks e now p q w stands cs more finish next due event ih.1) (λ t v le is now_is. absurd
       (no_early_finish t e p v is finish (earlier_first p.finish p.start e t next finish now_is)))
   advances_alike {now = now} {p = p} (finish_stops {t = e} {fault = fault} finish next due event) within =
       from_both now p (meets fault) within (λ w stands le. finish_faults e now p w stands fault finish next due event)

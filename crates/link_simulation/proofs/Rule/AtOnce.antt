@@ -59,8 +59,7 @@ module _ {P : Type 0} (cmp : P → P → Ordering) (order : IsTotalOrder cmp) wh
         start = start_kept p landed_p p.start empty empty least;
       }
 
-      by_late : (b : Bool) → at_p ≡ at_u
-          → CoursesAlike cmp (λ q v. StandsFor cmp q v × (v.moment ≡ now))
+      by_late : (b : Bool) → at_p ≡ at_u → CoursesAlike cmp (λ q v. StandsFor cmp q v × (v.moment ≡ now))
           (cond b (meets MomentTooLate)
           (goes (completion_of m now (if m.should_deliver then Some at_p else None) ∷ []) landed_p))
           (cond b (meets MomentTooLate)

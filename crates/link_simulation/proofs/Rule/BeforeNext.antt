@@ -89,17 +89,13 @@ module _ {P : Type 0} (cmp : P → P → Ordering) (order : IsTotalOrder cmp) wh
   none_done_at u t (f ∷ fs) (g ∷ gs) all none e =
       let parts = or_parts (u g.message) (list_any u (map (λ (g : Flight P). g.message) gs)) e in
       or_from ((g.left.num == 0) || u g.message) (list_any (λ (g : Flight P). (g.left.num == 0) || u g.message) gs)
-      (or_from (g.left.num == 0) (u g.message) (by_bool (g.left.num == 0)
-      (λ is. rw is (
-      absurd
-      (none 0 f refl all.0.updated (ap (λ (a : Amount). a.num) (sym all.0.left) ∙ eqb-true (g.left.num) 0 is))))
+      (or_from (g.left.num == 0) (u g.message) (by_bool (g.left.num == 0) (λ is. rw is (
+      absurd (none 0 f refl all.0.updated (ap (λ (a : Amount). a.num) (sym all.0.left) ∙ eqb-true (g.left.num) 0 is))))
       (λ is. rw is refl)) parts.0) (none_done_at u t fs gs all.1 (λ i. none (suc i)) parts.1)
 
   -- what was spent at s is done at t
   pub done_at : (u : Message P → Bool) (s t : ℕ) (fs : List (RatedFlight P)) (gs : List (Flight P)) (i : ℕ)
-      (f : RatedFlight P)
-      → s ≤ t → AllZip (IsSameFlight cmp t) fs gs
-      → slice_get fs i ≡ Some f → IsSpentAt s f
+      (f : RatedFlight P) → s ≤ t → AllZip (IsSameFlight cmp t) fs gs → slice_get fs i ≡ Some f → IsSpentAt s f
       → list_any (λ (g : Flight P). (g.left.num == 0) || u g.message) gs ≡ true
   done_at u s t [] gs i f le all at spent = cc
   done_at u s t (x ∷ fs) [] i f le all at spent = absurd all
@@ -210,8 +206,7 @@ module _ {P : Type 0} (cmp : P → P → Ordering) (order : IsTotalOrder cmp) wh
     none_done_before k within before =
         none_done_at (is_unlimited cmp w.caps) (w.moment + k) p.sending (later k).sending (flights_later k)
         (λ i f at early spent. none_before (SomeSpentAt p.sending) p.finish stands.follows.finish (w.moment + k) within
-        before (i, f, at, early, spent))
-        (ap (list_any (is_unlimited cmp w.caps)) (flows_later k) ∙ none_unlimited)
+        before (i, f, at, early, spent)) (ap (list_any (is_unlimited cmp w.caps)) (flows_later k) ∙ none_unlimited)
 
     -- before the next event the world is quiet
     pub quiet_before : (k : ℕ) → w.moment + k ≤ last_moment → IfSome (next_event p) (λ e. w.moment + k < e)
@@ -235,8 +230,7 @@ module _ {P : Type 0} (cmp : P → P → Ordering) (order : IsTotalOrder cmp) wh
         → Passes cmp (suc n) w (later (suc n))
     passes_to n within before =
         stretch cmp w stands.follows.rated.per stands.follows.rated.rates rates_fair all_positive n
-        (λ k h j. quiet_before k (omega arith)
-        (before_still (next_event p) (w.moment + k) (w.moment + suc n) (omega arith) before))
+        (λ k h j. quiet_before k (omega arith) (before_still _ _ _ (omega arith) before))
 
     -- every nanosecond before the next event passes, and the one after them drains the world once for all
     pub passes_before : (n : ℕ) → w.moment + n ≤ last_moment → IfSome (next_event p) (λ e. w.moment + n < e)
@@ -265,8 +259,7 @@ module _ {P : Type 0} (cmp : P → P → Ordering) (order : IsTotalOrder cmp) wh
         by_count : (n : ℕ) → last_moment - w.moment ≡ n → NextIs cmp w None
         by_count zero is = never_comes (subst (λ (k : ℕ). Passes cmp k w w) (sym is) no_time)
         by_count (suc n) is =
-            never_comes
-            (subst (λ (k : ℕ). Passes cmp k w (later (suc n))) (sym is)
+            never_comes (subst (λ (k : ℕ). Passes cmp k w (later (suc n))) (sym is)
             (passes_to n (omega arith) (subst (λ (o : Option ℕ). IfSome o (λ e. w.moment + suc n < e)) (sym e) tt)))
 
     pub spent_at_finish : (e : ℕ) → p.finish ≡ Some e → (e ≤ last_moment) × SomeSpentAt p.sending e
@@ -302,7 +295,6 @@ module _ {P : Type 0} (cmp : P → P → Ordering) (order : IsTotalOrder cmp) wh
         by_count zero after within count = absurd (omega arith)
         by_count (suc n) after within count =
             let at : w.moment + suc n ≡ e = omega arith in
-            subst (λ (t : ℕ). NextIs cmp w (Some t)) at
-            (comes_at n (omega arith)
+            subst (λ (t : ℕ). NextIs cmp w (Some t)) at (comes_at n (omega arith)
             (subst (λ (o : Option ℕ). IfSome o (λ e. w.moment + n < e)) (sym first) (omega arith))
             (busy_at_finish e (suc n) is at))

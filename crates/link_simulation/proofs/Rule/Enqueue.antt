@@ -73,16 +73,14 @@ module _ {P : Type 0} (cmp : P → P → Ordering) (order : IsTotalOrder cmp) wh
       behind true e after = grind (arith, filter_none, each_map, pair_like, apart_if_before)
       behind false e after = sym (append-nil (filter (same_pair cmp k) (n ∷ ns)))
 
-      later : (b : Bool)
-          → filter (same_pair cmp k) (queued cmp m ns)
+      later : (b : Bool) → filter (same_pair cmp k) (queued cmp m ns)
           ≡ filter (same_pair cmp k) ns ++ filter (same_pair cmp k) (m ∷ [])
           → cond b (n ∷ filter (same_pair cmp k) (queued cmp m ns)) (filter (same_pair cmp k) (queued cmp m ns))
           ≡ cond b (n ∷ filter (same_pair cmp k) ns) (filter (same_pair cmp k) ns) ++ filter (same_pair cmp k) (m ∷ [])
       later true ih = ap (λ (q : List (Message P)). n ∷ q) ih
       later false ih = ih
 
-      by_test : (b : Bool) → pair_before cmp m n ≡ b
-          → filter (same_pair cmp k) (queued cmp m ns)
+      by_test : (b : Bool) → pair_before cmp m n ≡ b → filter (same_pair cmp k) (queued cmp m ns)
           ≡ filter (same_pair cmp k) ns ++ filter (same_pair cmp k) (m ∷ [])
           → filter (same_pair cmp k) (cond b (m ∷ n ∷ ns) (n ∷ queued cmp m ns))
           ≡ filter (same_pair cmp k) (n ∷ ns) ++ filter (same_pair cmp k) (m ∷ [])
@@ -129,19 +127,16 @@ module _ {P : Type 0} (cmp : P → P → Ordering) (order : IsTotalOrder cmp) wh
       off_m : same_pair cmp k y ≡ false → same_pair cmp k m ≡ false
       off_m e = pair_sym cmp order k m ∙ sym (pair_like cmp order m y k pair) ∙ pair_sym cmp order y k ∙ e
 
-      by_pair : (a : Bool) → same_pair cmp k y ≡ a → (b : Bool)
-          → IsHeld cmp order k t (cond b (flight_of y ∷ []) [])
+      by_pair : (a : Bool) → same_pair cmp k y ≡ a → (b : Bool) → IsHeld cmp order k t (cond b (flight_of y ∷ []) [])
           (cond b (out_of_waiting cmp (waits_too u m) y) (joined cmp (waits_too u m) y))
       by_pair true e true = inl (or_left (same_pair cmp k y) false e)
       by_pair true e false = inr (rested_joined cmp order k t (waits_too u m) y e)
       by_pair false e true =
-          inr
-          (rested_other cmp order k y t (waits_too u m) (out_of_waiting cmp (waits_too u m) y) e
+          inr (rested_other cmp order k y t (waits_too u m) (out_of_waiting cmp (waits_too u m) y) e
           (only_taken cmp order y (waits_too u m) y (pair_itself cmp order y))
           (find_without cmp order k y (waits_too u m).waiting e) (others_rest t u m k none_ready (off_m e)))
       by_pair false e false =
-          inr
-          (rested_other cmp order k y t (waits_too u m) (joined cmp (waits_too u m) y) e
+          inr (rested_other cmp order k y t (waits_too u m) (joined cmp (waits_too u m) y) e
           (only_joined cmp order y (waits_too u m) y (pair_itself cmp order y))
           (find_without cmp order k y (waits_too u m).waiting e) (others_rest t u m k none_ready (off_m e)))
 
@@ -190,8 +185,7 @@ module _ {P : Type 0} (cmp : P → P → Ordering) (order : IsTotalOrder cmp) wh
       abreast : (y : Message P) → find (same_pair cmp m) (u.waiting ++ m ∷ []) ≡ Some y
           → OptionsAlike (SameMessage cmp) (next_of cmp (record p { waiting = queued cmp m p.waiting }) m) (Some y)
       abreast y found =
-          subst
-          (λ (o : Option (Message P)). OptionsAlike (SameMessage cmp)
+          subst (λ (o : Option (Message P)). OptionsAlike (SameMessage cmp)
           (next_of cmp (record p { waiting = queued cmp m p.waiting }) m) o)
           found
           (next_alike cmp order t (record p { waiting = queued cmp m p.waiting }) (waits_too u m) m m there.tallies
@@ -206,8 +200,7 @@ module _ {P : Type 0} (cmp : P → P → Ordering) (order : IsTotalOrder cmp) wh
 
       result : (c : Course (Completed P) (World P)) (x : Course (Completed P) (Planned P))
           → and_then (start_next cmp t (waits_too u m) (find (same_pair cmp m) (waits_too u m).waiting)) (settle cmp t)
-          ≡ c
-          → CoursesAlike cmp (IsSettled cmp t) x c → EndsWith (λ v. ready cmp t v ≡ []) c
+          ≡ c → CoursesAlike cmp (IsSettled cmp t) x c → EndsWith (λ v. ready cmp t v ≡ []) c
           → CoursesAlike cmp (IsSettled cmp t) x (and_then
           (start_next cmp t (waits_too u m) (find (same_pair cmp m) (waits_too u m).waiting)) (settle cmp t))
           × EndsWith (λ v. ready cmp t v ≡ []) (and_then
@@ -221,8 +214,7 @@ module _ {P : Type 0} (cmp : P → P → Ordering) (order : IsTotalOrder cmp) wh
       first_is y c found e = grind arith
 
       by_may : (y : Message P) → find (same_pair cmp m) (u.waiting ++ m ∷ []) ≡ Some y → (b : Bool)
-          → may_start cmp t (waits_too u m) y ≡ b → {x : Course (Completed P) (Planned P)}
-          → Enqueues cmp t m p x
+          → may_start cmp t (waits_too u m) y ≡ b → {x : Course (Completed P) (Planned P)} → Enqueues cmp t m p x
           → CoursesAlike cmp (IsSettled cmp t) x (and_then
           (start_next cmp t (waits_too u m) (find (same_pair cmp m) (waits_too u m).waiting)) (settle cmp t))
           × EndsWith (λ v. ready cmp t v ≡ []) (and_then
@@ -269,22 +261,15 @@ module _ {P : Type 0} (cmp : P → P → Ordering) (order : IsTotalOrder cmp) wh
 
   -- under limits, a message before the next event does in the planned world what it does in the world
   pub enqueues_alike : (p : Planned P) (w : World P) (now : ℕ) (m : Message P)
-      (course : Course (Completed P) (Planned P))
-      → StandsFor cmp p w → p.limited ≡ true → w.moment ≤ now
-      → now ≤ last_moment → IfSome (next_event p) (λ t. now < t)
-      → Enqueues cmp now m p course
+      (course : Course (Completed P) (Planned P)) → StandsFor cmp p w → p.limited ≡ true → w.moment ≤ now
+      → now ≤ last_moment → IfSome (next_event p) (λ t. now < t) → Enqueues cmp now m p course
       → (c : Course (Completed P) (World P)) × Runs cmp w (call_enqueue now m) now c
       × CoursesAlike cmp (λ q v. StandsFor cmp q v × (v.moment ≡ now)) course c
   enqueues_alike p w now m course stands limits le within before enqueues =
       let there = reaches cmp order now p w stands le within before in
       let under = sym there.follows.tallies.limited ∙ limits in
-      let c = and_then
-      (start_next cmp now (waits_too there.world m) (find (same_pair cmp m) (waits_too there.world m).waiting))
+      let c = and_then (start_next cmp now (waits_too there.world m) (find _ (waits_too there.world m).waiting))
       (settle cmp now) in
       let both = joins now p there.world m course limits there.follows there.none_done there.none_ready enqueues in
       let acts : act cmp there.world (call_enqueue now m) ≡ c = rw under refl in
-      grind (
-        arith,
-        (preceded_none (act cmp there.world (call_enqueue now m))),
-        (settled_rests cmp order now course c within both.0 both.1),
-      )
+      grind (arith, (preceded_none (act cmp there.world (call_enqueue now m))), (settled_rests cmp order now course c within both.0 both.1))

@@ -76,20 +76,20 @@ module _ {P : Type 0} (cmp : P → P → Ordering) (order : IsTotalOrder cmp) wh
     there = record here { sending = fs; accounted = t; finish = o }
 
     -- the two have the same messages in flight with the same left, and so what follows from both is the same
-    left_alike : AllZip (Stays t)
-        (filter (λ f. not (is_spent cmp here.caps f))
-        (drained_to t (fs ++ starting cmp order here.next_id t next ∷ [])))
-        new.sending
+    left_alike : AllZip (Stays t) (filter (λ f. not (is_spent cmp here.caps f))
+        (drained_to t (fs ++ starting cmp order here.next_id t next ∷ []))) new.sending
     left_alike =
         subst (λ (l : List (RatedFlight P)). AllZip (Stays t) l new.sending)
         (sym (all_and_one_stay cmp order here.next_id t here.caps fs next stays still_there none_there))
-        (zip_beside (Stays t) (Stays t) (Stays t)
-        (λ f g k one other. (other.0 ∙ sym one.0, other.1 ∙ sym one.1, other.2 ∙ sym one.2, other.3))
-        (here.sending ++ starting cmp order here.next_id t next ∷ [])
-        (fs ++ starting cmp order here.next_id t next ∷ []) new.sending
-        (zip-append (Stays t) here.sending (starting cmp order here.next_id t next ∷ []) fs
-        (starting cmp order here.next_id t next ∷ []) stayed ((refl, refl, refl, refl), tt))
-        (subst (λ (l : List (RatedFlight P)). AllZip (Stays t) l new.sending)
+        (zip_beside (Stays t) (Stays t) (Stays t) (λ f g k one other. (
+          other.0 ∙ sym one.0,
+          other.1 ∙ sym one.1,
+          other.2
+              ∙ sym one.2,
+          other.3,
+        )) (here.sending ++ starting cmp order here.next_id t next ∷ [])
+        (fs ++ starting cmp order here.next_id t next ∷ []) new.sending (zip-append (Stays t) here.sending _ fs _ stayed
+        ((refl, refl, refl, refl), tt)) (subst (λ (l : List (RatedFlight P)). AllZip (Stays t) l new.sending)
         (all_and_one_stay cmp order here.next_id t here.caps here.sending next stays still_here none_here) a.stayed))
 
     accounts_there : Accounts cmp t (launched cmp t (landed cmp t there m) next) [] new
@@ -101,8 +101,7 @@ module _ {P : Type 0} (cmp : P → P → Ordering) (order : IsTotalOrder cmp) wh
   -- the next message of the pair of one that is done starts before the others get their rates
   pub follows : (t : ℕ) (old here new : Planned P) (m next : Message P) (ls : List (Message P))
       → Leaves cmp t old ls here → AreLowest here.sending → drained_to t here.sending ≡ here.sending
-      → next_of cmp here m ≡ Some next → may_launch cmp t (landed cmp t here m) next ≡ true
-      → here.next_id < last_moment
+      → next_of cmp here m ≡ Some next → may_launch cmp t (landed cmp t here m) next ≡ true → here.next_id < last_moment
       → is_spent cmp here.caps (starting cmp order here.next_id t next) ≡ false
       → Accounts cmp t (launched cmp t (landed cmp t here m) next) [] new
       → (mid : Planned P) × Accounts cmp t old ls mid

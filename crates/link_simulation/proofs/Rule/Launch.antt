@@ -95,15 +95,11 @@ module _ {P : Type 0} (cmp : P → P → Ordering) (order : IsTotalOrder cmp) wh
       → OptionsAlike (SameMessage cmp) (next_of cmp p m) (find (same_pair cmp n) w.waiting)
   next_alike t p w m n same alike =
       let pair : same_pair cmp m n ≡ true = rw (alike.origin, alike.recipient) refl in
-      let there : find (same_pair cmp n) w.waiting ≡ head_of (filter (same_pair cmp m) w.waiting) =
-      find_like cmp order m n w.waiting pair ∙ head_found (same_pair cmp m) w.waiting in
+      let there = find_like cmp order m n w.waiting pair ∙ head_found (same_pair cmp m) w.waiting in
       subst (λ (o : Option (Message P)). OptionsAlike (SameMessage cmp) o (find (same_pair cmp n) w.waiting))
-      (sym (head_found (same_pair cmp m) p.waiting))
-      (subst
-      (λ (o : Option (Message P)). OptionsAlike (SameMessage cmp) (head_of (filter (same_pair cmp m) p.waiting)) o)
-      (sym there)
-      (heads_alike (SameMessage cmp) (filter (same_pair cmp m) p.waiting) (filter (same_pair cmp m) w.waiting)
-      (same.waiting m)))
+      (sym (head_found _ p.waiting)) (subst (λ (o : Option (Message P)). OptionsAlike (SameMessage cmp)
+      (head_of (filter (same_pair cmp m) p.waiting)) o) (sym there) (heads_alike (SameMessage cmp) _
+      (filter _ w.waiting) (same.waiting m)))
 
   -- ---- a message starts
 
@@ -139,8 +135,7 @@ module _ {P : Type 0} (cmp : P → P → Ordering) (order : IsTotalOrder cmp) wh
             same.pair_order),
         (all_zipped_more (IsSameFlight cmp t) p.sending w.sending (record {
           id = p.next_id;
-          message =
-              x;
+          message = x;
           left = whole (length x.bytes);
           rate = Some (whole 0);
           updated = t;
@@ -203,29 +198,24 @@ module _ {P : Type 0} (cmp : P → P → Ordering) (order : IsTotalOrder cmp) wh
   StartAlike t w y (meets fault) = start cmp w y ≡ meets fault
 
   starts_none : (next : List (Flight P) → World P → Course (Completed P) (World P)) (t : ℕ) (fs : List (Flight P))
-      (w : World P)
-      → launch_then cmp next t fs w None ≡ next (fs ++ []) w
+      (w : World P) → launch_then cmp next t fs w None ≡ next (fs ++ []) w
   unfolding launch_then
   starts_none next t fs w = ap (λ (q : List (Flight P)). next q w) (sym (append-nil fs))
 
   starts_not : (next : List (Flight P) → World P → Course (Completed P) (World P)) (t : ℕ) (fs : List (Flight P))
-      (w : World P) (y : Message P)
-      → may_start cmp t w y ≡ false
+      (w : World P) (y : Message P) → may_start cmp t w y ≡ false
       → launch_then cmp next t fs w (Some y) ≡ next (fs ++ []) w
   unfolding launch_then
   starts_not next t fs w y e = rw e (ap (λ (q : List (Flight P)). next q w) (sym (append-nil fs)))
 
   starts_fault : (next : List (Flight P) → World P → Course (Completed P) (World P)) (t : ℕ) (fs : List (Flight P))
-      (w : World P) (y : Message P)
-      → may_start cmp t w y ≡ true
+      (w : World P) (y : Message P) → may_start cmp t w y ≡ true
       → (nat_le last_moment w.next_id) ≡ true → launch_then cmp next t fs w (Some y) ≡ meets FlowIdsUsedUp
   unfolding launch_then
   starts_fault next t fs w y e f = rw (e, f) refl
 
   starts_so : (next : List (Flight P) → World P → Course (Completed P) (World P)) (t : ℕ) (fs : List (Flight P))
-      (w : World P) (y : Message P)
-      → may_start cmp t w y ≡ true
-      → (nat_le last_moment w.next_id) ≡ false
+      (w : World P) (y : Message P) → may_start cmp t w y ≡ true → (nat_le last_moment w.next_id) ≡ false
       → launch_then cmp next t fs w (Some y) ≡ next (fs ++ joining w y) (started w y)
   unfolding launch_then
   starts_so next t fs w y e f = rw (e, f) (by_bool (is_done cmp w (flight_of y)) (λ is. rw is refl)
@@ -234,8 +224,7 @@ module _ {P : Type 0} (cmp : P → P → Ordering) (order : IsTotalOrder cmp) wh
   pub started_fewer : (w : World P) (y : Message P) → find (same_pair cmp y) w.waiting ≡ Some y
       → length (joining w y) + length (started w y).waiting ≤ length w.waiting
   started_fewer w y e =
-      let fewer : length (without_first (same_pair cmp y) w.waiting) + 1 ≡ length w.waiting =
-      length_without (same_pair cmp y) y w.waiting e in
+      let fewer = length_without (same_pair cmp y) y w.waiting e in
       by_bool (is_done cmp w (flight_of y)) (λ is. rw is (omega arith)) (λ is. rw is (omega arith))
 
   pub idle_from : (a b : Bool) → (not a && b) ≡ true → a ≡ false
@@ -275,8 +264,7 @@ module _ {P : Type 0} (cmp : P → P → Ordering) (order : IsTotalOrder cmp) wh
       follows none is alike =
       let may_too = sym (may_alike cmp order t p w x y follows.tallies.last_arrival
       (messages_alike cmp order t p.sending w.sending follows.tallies.sending) alike) ∙ may in
-      let idle = idle_from (list_any (same_pair cmp y) (flows w))
-      (is_in_order (w.last_arrival y.origin y.recipient) (t + y.latency)) may_too in
+      let idle = idle_from _ (is_in_order (w.last_arrival y.origin y.recipient) (t + y.latency)) may_too in
       let own = find_like cmp order m y w.waiting (find_passes (same_pair cmp m) y w.waiting is) ∙ is in
       let tallies = launched_tallies t p w x y follows.tallies alike own idle in
       grind (
@@ -294,8 +282,7 @@ module _ {P : Type 0} (cmp : P → P → Ordering) (order : IsTotalOrder cmp) wh
   launch_alike _ w fs m _ follows none is alike = absurd alike
 
   pub start_alike : {t : ℕ} {p : Planned P} {o : Option (Message P)} {course : Course (Message P) (Planned P)}
-      → Launches cmp t p o course → (w : World P) (y : Message P)
-      → Follows cmp t p w → NoneDone w
+      → Launches cmp t p o course → (w : World P) (y : Message P) → Follows cmp t p w → NoneDone w
       → may_start cmp t w y ≡ true → find (same_pair cmp y) w.waiting ≡ Some y
       → OptionsAlike (SameMessage cmp) o (Some y) → StartAlike t w y course
   start_alike nothing_waits w y follows none may own alike = absurd alike
@@ -304,8 +291,7 @@ module _ {P : Type 0} (cmp : P → P → Ordering) (order : IsTotalOrder cmp) wh
   start_alike {t = t} {p = p} (no_id {m = x} launches last) w y follows none may own alike = grind arith
   start_alike {t = t} {p = p} (starts {m = x} {leavers = leavers} {new = new} launches below account) w y follows none
       may own alike =
-      let idle = idle_from (list_any (same_pair cmp y) (flows w))
-      (is_in_order (w.last_arrival y.origin y.recipient) (t + y.latency)) may in
+      let idle = idle_from _ _ may in
       let tallies = launched_tallies t p w x y follows.tallies alike own idle in
       grind (
         arith,

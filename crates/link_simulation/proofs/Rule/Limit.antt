@@ -116,8 +116,7 @@ module _ {P : Type 0} (cmp : P → P → Ordering) (order : IsTotalOrder cmp) wh
 
   -- new caps do in the planned world what they do in the world
   rebalances_there : (p : Planned P) (now : ℕ) (u : World P) (caps others : Caps P)
-      (course : Course (Completed P) (Planned P))
-      → CapsAlike cmp caps others → now ≤ last_moment
+      (course : Course (Completed P) (Planned P)) → CapsAlike cmp caps others → now ≤ last_moment
       → Follows cmp now p u → ready cmp now u ≡ [] → Rebalances cmp now caps p course
       → CoursesAlike cmp (λ q v. StandsFor cmp q v × (v.moment ≡ now)) course (rebalance cmp now u others)
   rebalances_there p now u caps others course alike within follows none_ready recaps = by_case recaps
@@ -151,12 +150,10 @@ module _ {P : Type 0} (cmp : P → P → Ordering) (order : IsTotalOrder cmp) wh
 
   -- and so does a call that sets caps
   rebalancing : (p : Planned P) (w : World P) (now : ℕ) (call : Call P) (new : Caps P → Caps P)
-      (course : Course (Completed P) (Planned P))
-      → ((u : World P) → act cmp u call ≡ rebalance cmp now u (new u.caps))
+      (course : Course (Completed P) (Planned P)) → ((u : World P) → act cmp u call ≡ rebalance cmp now u (new u.caps))
       → ((c d : Caps P) → CapsAlike cmp c d → CapsAlike cmp (new c) (new d))
       → StandsFor cmp p w → w.moment ≤ now → now ≤ last_moment → IfSome (next_event p) (λ t. now < t)
-      → Rebalances cmp now (new p.caps) p course
-      → (c : Course (Completed P) (World P)) × Runs cmp w call now c
+      → Rebalances cmp now (new p.caps) p course → (c : Course (Completed P) (World P)) × Runs cmp w call now c
       × CoursesAlike cmp (λ q v. StandsFor cmp q v × (v.moment ≡ now)) course c
   rebalancing p w now call new course acts alike stands le within before recaps =
       let there = reaches now p w stands le within before in
@@ -168,16 +165,14 @@ module _ {P : Type 0} (cmp : P → P → Ordering) (order : IsTotalOrder cmp) wh
       )
 
   pub limits_alike : (p : Planned P) (w : World P) (now : ℕ) (peer : P) (egress ingress : Option ℕ)
-      (course : Course (Completed P) (Planned P))
-      → StandsFor cmp p w → w.moment ≤ now
+      (course : Course (Completed P) (Planned P)) → StandsFor cmp p w → w.moment ≤ now
       → now ≤ last_moment → IfSome (next_event p) (λ t. now < t)
       → Rebalances cmp now (limited_by cmp p.caps peer egress ingress) p course
       → (c : Course (Completed P) (World P)) × Runs cmp w (call_limit now peer egress ingress) now c
       × CoursesAlike cmp (λ q v. StandsFor cmp q v × (v.moment ≡ now)) course c
   limits_alike p w now peer egress ingress course =
       rebalancing p w now (call_limit now peer egress ingress) (λ caps. limited_by cmp caps peer egress ingress) course
-      (λ u. refl)
-      (λ c d same.
+      (λ u. refl) (λ c d same.
       record {
         egress = cap_alike c.egress d.egress peer egress same.egress;
         ingress = cap_alike c.ingress d.ingress peer ingress same.ingress;
@@ -185,16 +180,14 @@ module _ {P : Type 0} (cmp : P → P → Ordering) (order : IsTotalOrder cmp) wh
       })
 
   pub links_alike : (p : Planned P) (w : World P) (now : ℕ) (origin recipient : P) (cap : Option ℕ)
-      (course : Course (Completed P) (Planned P))
-      → StandsFor cmp p w → w.moment ≤ now
+      (course : Course (Completed P) (Planned P)) → StandsFor cmp p w → w.moment ≤ now
       → now ≤ last_moment → IfSome (next_event p) (λ t. now < t)
       → Rebalances cmp now (linked_by cmp p.caps origin recipient cap) p course
       → (c : Course (Completed P) (World P)) × Runs cmp w (call_limit_link now origin recipient cap) now c
       × CoursesAlike cmp (λ q v. StandsFor cmp q v × (v.moment ≡ now)) course c
   links_alike p w now origin recipient cap course =
       rebalancing p w now (call_limit_link now origin recipient cap) (λ caps. linked_by cmp caps origin recipient cap)
-      course (λ u. refl)
-      (λ c d same.
+      course (λ u. refl) (λ c d same.
       record {
         egress = same.egress;
         ingress = same.ingress;

@@ -45,8 +45,4 @@ module _ {P : Type 0} (cmp : P → P → Ordering) (order : IsTotalOrder cmp) wh
       → (c : Course (Completed P) (World P)) × Runs cmp w (call_advance now) now c
       × CoursesAlike cmp (λ q v. StandsFor cmp q v × (v.moment ≡ now)) course c
   advance_runs p w now n course stands le within events =
-      grind (
-        arith,
-        (advances_alike cmp order events within),
-        (ended ((advances_alike cmp order events within).0 w stands le).0),
-      )
+      grind (arith, (advances_alike cmp order events within), (ended ((advances_alike cmp order events within).0 w stands le).0))

@@ -31,7 +31,6 @@ module _ {P : Type 0} (cmp : P → P → Ordering) where
       )
 
   pub never_for_a_number : (p : Planned P) (calls : List (Call P)) (replies : List (Reply P))
-      → Obeyed cmp p calls replies
-      → ¬ Contains replies (reply_refused NumberTooLarge)
+      → Obeyed cmp p calls replies → ¬ Contains replies (reply_refused NumberTooLarge)
   unfolding IsNoNumber
   never_for_a_number p calls replies obeyed has = grind (arith, All-contains, all_of_each, none_for_a_number)

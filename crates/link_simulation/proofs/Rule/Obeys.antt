@@ -74,8 +74,7 @@ module _ {P : Type 0} (cmp : P → P → Ordering) (order : IsTotalOrder cmp) wh
       let f : Follows p v (call_enqueue now m) now (goes cs q) = grind (arith, any_enqueue, later_than) in
       alike_then now cs q rest (enqueue cmp now v m) (λ u. enqueue_each cmp now u ms)
       (subst (λ (c : Course (Completed P) (World P)). CoursesAlike cmp (StandsAt now) (goes cs q) c)
-      (acts_at_once v (call_enqueue now m) now f.0 here.1 f.1) f.2)
-      (λ u there. each_at_once more within u there)
+      (acts_at_once v (call_enqueue now m) now f.0 here.1 f.1) f.2) (λ u there. each_at_once more within u there)
 
   all_enqueue : (now : ℕ) (ms : List (Message P)) (p : Planned P) (w : World P)
       (course : Course (Completed P) (Planned P)) → StandsFor cmp p w

@@ -144,8 +144,7 @@ module _ {P : Type 0} (cmp : P → P → Ordering) (order : IsTotalOrder cmp) wh
   accounted t old new ls a = grind (arith, zip_each, stayed_unspent, each_passes)
 
   planned_accounted : (t : ℕ) (p q : Planned P) → PlansStart cmp t p q → IsAccountedAt t p → IsAccountedAt t q
-  planned_accounted t p q looks h =
-      subst (IsAccountedAt t) (sym looks.same) (grind arith)
+  planned_accounted t p q looks h = subst (IsAccountedAt t) (sym looks.same) (grind arith)
 
   launch_accounted : {t : ℕ} {p : Planned P} {o : Option (Message P)} {c : Course (Message P) (Planned P)}
       → Launches cmp t p o c → (ms : List (Message P)) (q : Planned P) → c ≡ goes ms q → IsAccountedAt t p
@@ -168,8 +167,7 @@ module _ {P : Type 0} (cmp : P → P → Ordering) (order : IsTotalOrder cmp) wh
       ends_preceded (IsAccountedAt t) (completed cmp t m ∷ []) rest
       (finish_accounted finishes (launch_accounted launch more q refl (landed_accounted t p m h)))
 
-  queued_accounted : (t : ℕ) (p : Planned P) (m : Message P) → IsAccountedAt t p
-      → IsAccountedAt t (with_queued cmp p m)
+  queued_accounted : (t : ℕ) (p : Planned P) (m : Message P) → IsAccountedAt t p → IsAccountedAt t (with_queued cmp p m)
   queued_accounted t p m h = grind arith
 
   at_once_accounted : (t : ℕ) (p : Planned P) (m : Message P) → IsAccountedAt t p
@@ -234,8 +232,7 @@ module _ {P : Type 0} (cmp : P → P → Ordering) (order : IsTotalOrder cmp) wh
 
   pub drained_still : (t : ℕ) (p : Planned P) → IsAccountedAt t p → AreLowest p.sending
       → drained_to t p.sending ≡ p.sending
-  drained_still t p h low =
-      drained_kept t p.sending (all_kept t p.caps p.sending h.none_spent (have_rates t p h) low)
+  drained_still t p h low = drained_kept t p.sending (all_kept t p.caps p.sending h.none_spent (have_rates t p h) low)
 
   pub none_leave : (t : ℕ) (p : Planned P) → IsAccountedAt t p → filter (is_spent cmp p.caps) p.sending ≡ []
   none_leave t p h = grind (arith, filter_none, each_map)
@@ -351,12 +348,7 @@ module _ {P : Type 0} (cmp : P → P → Ordering) (order : IsTotalOrder cmp) wh
       → is_spent cmp caps (starting id t m) ≡ false → drained_to t fs ≡ fs → filter (is_spent cmp caps) fs ≡ []
       → filter (λ f. not (is_spent cmp caps f)) (drained_to t (fs ++ starting id t m ∷ [])) ≡ fs ++ starting id t m ∷ []
   all_and_one_stay id t caps fs m limited still none =
-      grind (
-        arith,
-        (one_more_stays id t caps fs m limited),
-        (starting id t m),
-        (all_but_none (is_spent cmp caps) fs none),
-      )
+      grind (arith, (one_more_stays id t caps fs m limited), (starting id t m), (all_but_none (is_spent cmp caps) fs none))
 
   -- and nothing leaves
   pub none_and_one_leave : (id t : ℕ) (caps : Caps P) (fs : List (RatedFlight P)) (m : Message P)
@@ -375,10 +367,7 @@ module _ {P : Type 0} (cmp : P → P → Ordering) (order : IsTotalOrder cmp) wh
   pub messages_stay : (t : ℕ) (here w : Planned P) → Accounts cmp t here [] w
       → rated_messages w.sending ≡ rated_messages here.sending
   messages_stay t here w a =
-      stayed_messages t (Staying t here) w.sending a.stayed
-      ∙ ap rated_messages
-      (all_but_none (is_spent cmp here.caps) (drained_to t here.sending)
-      (no_messages (filter (is_spent cmp here.caps) (drained_to t here.sending)) a.left))
+      stayed_messages t _ w.sending a.stayed ∙ ap rated_messages (all_but_none _ _ (no_messages _ a.left))
       ∙ drained_messages t here.sending
 
   -- some pair is ready at a moment, told by what waits, what is in flight and what arrived
@@ -460,8 +449,7 @@ module _ {P : Type 0} (cmp : P → P → Ordering) (order : IsTotalOrder cmp) wh
         }) m) m) x ax ∙ map-append (λ f. f.message) fs (starting here.next_id t m ∷ []) ∙ ap (λ (ms : List
         (Message P)). ms ++ m ∷ []) flying ∙ sym (map-append (λ f. f.message) here.sending (starting here.next_id t m
         ∷ [])) in
-        launches limited launch
-        (all_completed (planned_alike t (launched cmp t (with_queued cmp here m) m) x next looks
+        launches limited launch (all_completed (planned_alike t (launched cmp t (with_queued cmp here m) m) x next looks
         (ap (λ (q : Planned P). q.waiting) ax.same) (ap (λ (q : Planned P). q.last_arrival) ax.same) flies))
 
     stayed_here : (x : Planned P)
@@ -470,13 +458,11 @@ module _ {P : Type 0} (cmp : P → P → Ordering) (order : IsTotalOrder cmp) wh
         (filter (λ f. not (is_spent cmp here.caps f)) (drained_to t (here.sending ++ starting here.next_id t m ∷ [])))
         x.sending
     stayed_here x ax =
-        subst (λ (l : List (RatedFlight P)). AllZip (Stays t) l x.sending)
-        (sym (one_more_stays here.next_id t here.caps here.sending m stays))
-        (zip_chain (Stays t) (Stays t) (Stays t)
+        subst (λ (l : List (RatedFlight P)). AllZip (Stays t) l x.sending) (sym
+        (one_more_stays here.next_id t here.caps here.sending m stays)) (zip_chain (Stays t) (Stays t) (Stays t)
         (λ f g k first second. (second.0 ∙ first.0, second.1 ∙ first.1, second.2 ∙ first.2, second.3))
         (Staying t here ++ starting here.next_id t m ∷ []) (fs ++ starting here.next_id t m ∷ []) x.sending
-        (zip-append (Stays t) (Staying t here) (starting here.next_id t m ∷ []) fs (starting here.next_id t m ∷ [])
-        a.stayed ((refl, refl, refl, refl), tt))
+        (zip-append (Stays t) _ _ fs _ a.stayed ((refl, refl, refl, refl), tt))
         (subst (λ (l : List (RatedFlight P)). AllZip (Stays t) l x.sending) staying_there ax.stayed))
 
     accounts_here : (x : Planned P)
@@ -519,6 +505,5 @@ module _ {P : Type 0} (cmp : P → P → Ordering) (order : IsTotalOrder cmp) wh
       → (v : Planned P) × Enqueues cmp t m w (goes [] v) × Accounts cmp t next [] v
   one_starts t m here next w a positive limited found may id stays looks =
       subst (λ (q : Planned P). (v : Planned P) × Enqueues cmp t m q (goes [] v) × Accounts cmp t next [] v)
-      (sym a.same)
-      (starts_there t m here next w.sending w.finish limited found may id stays looks positive
+      (sym a.same) (starts_there t m here next w.sending w.finish limited found may id stays looks positive
       (subst (λ (q : Planned P). Accounts cmp t here [] q) a.same a))

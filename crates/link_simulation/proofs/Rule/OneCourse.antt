@@ -78,8 +78,7 @@ stays_flows t (b ∷ bs) (f ∷ fs) all = rw (all.0.1, stays_flows t bs fs all.1
 
 module _ {P : Type 0} (cmp : P → P → Ordering) (order : IsTotalOrder cmp) where
   pub account_is_one : (t : ℕ) (old new other : Planned P) (ls ms : List (Message P)) → Accounts cmp t old ls new
-      → Accounts cmp t old ms other
-      → goes ls new ≡ goes ms other
+      → Accounts cmp t old ms other → goes ls new ≡ goes ms other
   account_is_one t old new other ls ms f g =
       let flows : rated_messages other.sending ≡ rated_messages new.sending = grind (arith, stays_flows) in
       let fair : AreFair cmp old.caps (rated_messages new.sending) g.per g.rates = grind arith in
@@ -92,8 +91,7 @@ module _ {P : Type 0} (cmp : P → P → Ordering) (order : IsTotalOrder cmp) wh
       let finish = least_is_one (SomeSpentAt new.sending) new.finish other.finish f.finish
       (subst (λ (fs : List (RatedFlight P)). IsLeastMoment (SomeSpentAt fs) other.finish) (sym sending) g.finish) in
       let here : record old { sending = new.sending; accounted = t; finish = new.finish } ≡ record old {
-        sending =
-            other.sending;
+        sending = other.sending;
         accounted = t;
         finish = other.finish;
       } = λ i. record old {
@@ -135,8 +133,7 @@ module _ {P : Type 0} (cmp : P → P → Ordering) (order : IsTotalOrder cmp) wh
   launch_of {t = t} {old = old} (starts {m = m} {leavers = ls} {new = new} may below account) n e = grind arith
 
   launch_is_one : {t : ℕ} {old : Planned P} {o : Option (Message P)} {c : Course (Message P) (Planned P)}
-      → Launches cmp t old o c
-      → (d : Course (Message P) (Planned P)) → Launches cmp t old o d → c ≡ d
+      → Launches cmp t old o c → (d : Course (Message P) (Planned P)) → Launches cmp t old o d → c ≡ d
   launch_is_one nothing_waits d l = sym (no_launch_of l refl)
   launch_is_one {t = t} {old = old} (too_early {m = m} may) d l = grind (arith, launch_of)
   launch_is_one {t = t} {old = old} (no_id {m = m} may last) d l = grind (arith, launch_of)
@@ -169,14 +166,12 @@ module _ {P : Type 0} (cmp : P → P → Ordering) (order : IsTotalOrder cmp) wh
       × Launches cmp t (landed cmp t p m) (next_of cmp p m) l × FinishOn t m ms l c))
 
   no_finish_of : {t : ℕ} {ms : List (Message P)} {p : Planned P} {c : Course (Completed P) (Planned P)}
-      → Finishes cmp t ms p c → ms ≡ []
-      → (q : Planned P) × PlansStart cmp t p q × (c ≡ goes [] q)
+      → Finishes cmp t ms p c → ms ≡ [] → (q : Planned P) × PlansStart cmp t p q × (c ≡ goes [] q)
   no_finish_of (all_completed {q = q} looks) e = (q, looks, refl)
   no_finish_of _ e = cc
 
   finish_of : {t : ℕ} {ms : List (Message P)} {p : Planned P} {c : Course (Completed P) (Planned P)}
-      → Finishes cmp t ms p c → (m : Message P) (ns : List (Message P)) → ms ≡ m ∷ ns
-      → Finish t m ns p c
+      → Finishes cmp t ms p c → (m : Message P) (ns : List (Message P)) → ms ≡ m ∷ ns → Finish t m ns p c
   finish_of (all_completed looks) n ns e = cc
   finish_of {t = t} (late {m = m} is) n ns e =
       let same : m ≡ n = cc in inl (subst (λ (k : Message P). is_late cmp t k ≡ true) same is, refl)
@@ -185,8 +180,7 @@ module _ {P : Type 0} (cmp : P → P → Ordering) (order : IsTotalOrder cmp) wh
       ns e = grind arith
 
   finish_is_one : {t : ℕ} {ms : List (Message P)} {p : Planned P} {c : Course (Completed P) (Planned P)}
-      → Finishes cmp t ms p c
-      → (d : Course (Completed P) (Planned P)) → Finishes cmp t ms p d → c ≡ d
+      → Finishes cmp t ms p c → (d : Course (Completed P) (Planned P)) → Finishes cmp t ms p d → c ≡ d
   finish_is_one {t = t} {p = p} (all_completed {q = q} looks) d f = grind (arith, no_finish_of, look_is_one)
   finish_is_one {t = t} {p = p} (late {m = m} {ms = ms} is) d f = grind (arith, (finish_of f m ms refl))
   finish_is_one {t = t} {p = p} (stopped {m = m} {ms = ms} {fault = fault} in_time launch) d f =
@@ -209,14 +203,12 @@ module _ {P : Type 0} (cmp : P → P → Ordering) (order : IsTotalOrder cmp) wh
   Wake t m ms p c = (l : Course (Message P) (Planned P)) × Launches cmp t p (next_of cmp p m) l × WakeFrom t ms l c
 
   no_wake_of : {t : ℕ} {ms : List (Message P)} {p : Planned P} {c : Course (Completed P) (Planned P)}
-      → WakesEach cmp t ms p c → ms ≡ []
-      → (q : Planned P) × PlansStart cmp t p q × (c ≡ goes [] q)
+      → WakesEach cmp t ms p c → ms ≡ [] → (q : Planned P) × PlansStart cmp t p q × (c ≡ goes [] q)
   no_wake_of (all_started {q = q} looks) e = (q, looks, refl)
   no_wake_of _ e = cc
 
   wake_of : {t : ℕ} {ms : List (Message P)} {p : Planned P} {c : Course (Completed P) (Planned P)}
-      → WakesEach cmp t ms p c → (m : Message P) (ns : List (Message P)) → ms ≡ m ∷ ns
-      → Wake t m ns p c
+      → WakesEach cmp t ms p c → (m : Message P) (ns : List (Message P)) → ms ≡ m ∷ ns → Wake t m ns p c
   wake_of (all_started looks) n ns e = cc
   wake_of {t = t} {p = p} (no_start {m = m} {fault = fault} launch) n ns e = grind arith
   wake_of {t = t} {p = p} (no_finish {m = m} {more = more} {q = q} {fault = fault} launch finishes) n ns e = grind arith
@@ -224,8 +216,7 @@ module _ {P : Type 0} (cmp : P → P → Ordering) (order : IsTotalOrder cmp) wh
       finishes wakes) n ns e = grind arith
 
   wake_is_one : {t : ℕ} {ms : List (Message P)} {p : Planned P} {c : Course (Completed P) (Planned P)}
-      → WakesEach cmp t ms p c
-      → (d : Course (Completed P) (Planned P)) → WakesEach cmp t ms p d → c ≡ d
+      → WakesEach cmp t ms p c → (d : Course (Completed P) (Planned P)) → WakesEach cmp t ms p d → c ≡ d
   wake_is_one {t = t} {p = p} (all_started {q = q} looks) d w = grind (arith, no_wake_of, look_is_one)
   wake_is_one {t = t} {p = p} (no_start {m = m} {ms = ms} {fault = fault} launch) d w =
       grind (arith, (launch_is_one launch), (wake_of w m ms refl))

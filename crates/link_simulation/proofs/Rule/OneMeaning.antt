@@ -16,13 +16,11 @@ use Rattle.link_simulation.proofs.Rule.Simulated.{sound_of_stands}
 module _ {P : Type 0} (cmp : P → P → Ordering) (order : IsTotalOrder cmp) where
   -- where two courses go and are one, what holds of the one holds of the other
   alike : (cs ds es : List (Completed P)) (q : Planned P) (v u : World P) → goes ds v ≡ goes es u
-      → AllZip (SameCompletion cmp) cs es
-      → StandsFor cmp q u → AllZip (SameCompletion cmp) cs ds × StandsFor cmp q v
+      → AllZip (SameCompletion cmp) cs es → StandsFor cmp q u → AllZip (SameCompletion cmp) cs ds × StandsFor cmp q v
   alike cs ds es q v u one same stands = grind arith
 
   pub one_run : (p q : Planned P) (w v : World P) (call : Call P) (now : ℕ) (cs ds : List (Completed P))
-      → IsSimulated cmp p call cs q
-      → IsCalled cmp p call now w → Runs cmp w call now (goes ds v)
+      → IsSimulated cmp p call cs q → IsCalled cmp p call now w → Runs cmp w call now (goes ds v)
       → AllZip (SameCompletion cmp) cs ds × StandsFor cmp q v
   one_run p q w v call now cs ds simulated called runs =
       let run = simulated w now called in
@@ -33,8 +31,7 @@ module _ {P : Type 0} (cmp : P → P → Ordering) (order : IsTotalOrder cmp) wh
       )
 
   pub no_fault : (p q : Planned P) (w : World P) (call : Call P) (now : ℕ) (cs : List (Completed P))
-      → IsSimulated cmp p call cs q
-      → IsCalled cmp p call now w → (fault : Error) → ¬ Faults cmp w call fault
+      → IsSimulated cmp p call cs q → IsCalled cmp p call now w → (fault : Error) → ¬ Faults cmp w call fault
   no_fault p q w call now cs simulated called fault meets_it = (simulated w now called).no_fault fault meets_it
 
   pub one_split : (p q : Planned P) (w v : World P) (between now : ℕ) (cs ds : List (Completed P))
@@ -52,8 +49,7 @@ module _ {P : Type 0} (cmp : P → P → Ordering) (order : IsTotalOrder cmp) wh
       )
 
   pub one_next : (p : Planned P) (w : World P) (told next : Option ℕ) → IsNextInSimulation cmp p told
-      → StandsFor cmp p w
-      → NextIs cmp w next → told ≡ next
+      → StandsFor cmp p w → NextIs cmp w next → told ≡ next
   one_next p w told next simulated stands is =
       next_is_one cmp order w told next (sound_of_stands cmp order p w stands).positive (simulated w stands) is
 
@@ -61,14 +57,12 @@ module _ {P : Type 0} (cmp : P → P → Ordering) (order : IsTotalOrder cmp) wh
 
   -- what goes by the event rule has its one course
   pub one_going : (p q r : Planned P) (call : Call P) (cs ds : List (Completed P)) → GoesByRule cmp p call cs q
-      → Obeys cmp p call (goes ds r)
-      → AllZip (SameCompletion cmp) cs ds × IsSamePlanned cmp r q
+      → Obeys cmp p call (goes ds r) → AllZip (SameCompletion cmp) cs ds × IsSamePlanned cmp r q
   one_going p q r call cs ds went obeys = grind (arith, course_is_one)
 
   -- it is refused for memory alone
   pub not_refused : (p q : Planned P) (call : Call P) (why : Error) (cs : List (Completed P))
-      → MayBeRefused cmp p call why
-      → Obeys cmp p call (goes cs q) → why ≡ OutOfMemory
+      → MayBeRefused cmp p call why → Obeys cmp p call (goes cs q) → why ≡ OutOfMemory
   not_refused p q call why cs may obeys = grind (arith, course_is_one)
 
   -- and so in the simulation

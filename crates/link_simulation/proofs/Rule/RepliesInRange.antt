@@ -103,8 +103,7 @@ module _ {P : Type 0} (cmp : P → P → Ordering) (order : IsTotalOrder cmp) wh
 
   -- a call in the range leads from the range to the range
   pub obeys_in_range : (p : Planned P) (call : Call P) (c : Course (Completed P) (Planned P)) → IsCallInRange p call
-      → Obeys cmp p call c
-      → (cs : List (Completed P)) × (q : Planned P) × (c ≡ goes cs q) × IsInRange q
+      → Obeys cmp p call c → (cs : List (Completed P)) × (q : Planned P) × (c ≡ goes cs q) × IsInRange q
   obeys_in_range p call c range obeys =
       let most : ℕ = p.next_id + length p.waiting + length (enqueued (call ∷ [])) in
       by_course most range.messages c (obeys_well most range.messages p call c range.call_itself (omega arith)
@@ -134,9 +133,7 @@ module _ {P : Type 0} (cmp : P → P → Ordering) (order : IsTotalOrder cmp) wh
   reached_next earlier call p q cs reached obeys range =
       let both : IsSplit earlier call = range_splits earlier call range in
       let before : Holds cmp order (length (enqueued earlier)) both.before.messages p = reached both.before in
-      obeys_well (length (enqueued (earlier ++ call ∷ []))) range.messages p call (goes cs q) both.call_itself
-      (omega arith)
-      (more_room (length (enqueued earlier)) (length (enqueued (earlier ++ call ∷ []))) both.before.messages
+      obeys_well _ range.messages p call _ both.call_itself (omega arith) (more_room _ _ both.before.messages
       range.messages p (omega arith) before) obeys
 
   for_memory : (earlier : List (Call P)) (call : Call P) (p : Planned P) (why : Error) → Reached earlier p
@@ -145,10 +142,8 @@ module _ {P : Type 0} (cmp : P → P → Ordering) (order : IsTotalOrder cmp) wh
   for_memory earlier call p why reached may range =
       let both : IsSplit earlier call = range_splits earlier call range in
       let before : Holds cmp order (length (enqueued earlier)) both.before.messages p = reached both.before in
-      refused_for_memory (length (enqueued (earlier ++ call ∷ []))) range.messages p call why both.call_itself
-      (omega arith)
-      (more_room (length (enqueued earlier)) (length (enqueued (earlier ++ call ∷ []))) both.before.messages
-      range.messages p (omega arith) before) may
+      refused_for_memory _ range.messages p call why both.call_itself (omega arith)
+      (more_room _ _ both.before.messages range.messages p (omega arith) before) may
 
   from_there : (calls : List (Call P)) (replies : List (Reply P)) (earlier : List (Call P)) (p : Planned P)
       → Reached earlier p → Obeyed cmp p calls replies → RefusesForMemoryAlone earlier calls replies
@@ -160,8 +155,7 @@ module _ {P : Type 0} (cmp : P → P → Ordering) (order : IsTotalOrder cmp) wh
       grind (arith, obeyed_refused, for_memory, (from_there calls replies earlier p reached))
   from_there (call ∷ calls) (reply_done cs ∷ replies) earlier p reached obeyed =
       let step = obeyed_done cmp p calls replies call cs obeyed in
-      from_there calls replies (earlier ++ call ∷ []) step.1 (reached_next earlier call p step.1 step.0 reached step.2)
-      step.4
+      from_there calls replies _ step.1 (reached_next earlier call p step.1 step.0 reached step.2) step.4
 
   pub refuses_for_memory : (calls : List (Call P)) (replies : List (Reply P)) → Obeyed cmp (new_planned 0) calls replies
       → RefusesForMemoryAlone [] calls replies

@@ -58,8 +58,7 @@ module _ {P : Type 0} (cmp : P → P → Ordering) (order : IsTotalOrder cmp) wh
       ((refl, refl, refl, refl), rerated_stays t fs ns gs stays.1 all.1)
 
   pub rated_so : (per : ℕ) (rates : Parts) (ns gs : List (RatedFlight P)) → AllZip (IsSameRatedFlight cmp) ns gs
-      → AllZip (λ rate f. f.rate ≡ rate_of per rate) rates ns
-      → AllZip (λ rate f. f.rate ≡ rate_of per rate) rates gs
+      → AllZip (λ rate f. f.rate ≡ rate_of per rate) rates ns → AllZip (λ rate f. f.rate ≡ rate_of per rate) rates gs
   rated_so per [] [] [] all rated = tt
   rated_so per [] [] (g ∷ gs) all rated = absurd all
   rated_so per [] (n ∷ ns) gs all rated = absurd rated
@@ -80,8 +79,7 @@ module _ {P : Type 0} (cmp : P → P → Ordering) (order : IsTotalOrder cmp) wh
       × AllZip (SameMessage cmp) leavers others × IsSamePlanned cmp new n
 
   pub accounts_same : (t : ℕ) (p q : Planned P) (leavers : List (Message P)) (new : Planned P) → IsSamePlanned cmp p q
-      → Accounts cmp t p leavers new
-      → Accounted t q leavers new
+      → Accounts cmp t p leavers new → Accounted t q leavers new
   accounts_same t p q leavers new same accounts =
       let stays : List (RatedFlight P) = filter (λ f. not (is_spent cmp p.caps f)) (drained_to t p.sending) in
       let stay : List (RatedFlight P) = filter (λ f. not (is_spent cmp q.caps f)) (drained_to t q.sending) in
@@ -106,8 +104,7 @@ module _ {P : Type 0} (cmp : P → P → Ordering) (order : IsTotalOrder cmp) wh
         },
         subst
             (λ (ms : List (Message P)). AllZip (SameMessage cmp) ms
-            (rated_messages (filter (is_spent cmp q.caps) (drained_to t q.sending))))
-            (sym accounts.left)
+            (rated_messages (filter (is_spent cmp q.caps) (drained_to t q.sending)))) (sym accounts.left)
             (flows_same cmp order (filter (is_spent cmp p.caps) (drained_to t p.sending))
             (filter (is_spent cmp q.caps) (drained_to t q.sending)) (leaving_same cmp order p q same t)),
         subst (λ (z : Planned P). IsSamePlanned cmp z n) (sym accounts.same)
@@ -155,8 +152,7 @@ module _ {P : Type 0} (cmp : P → P → Ordering) (order : IsTotalOrder cmp) wh
   launch_same _ q _ same alike = absurd alike
 
   pub preceded_same : (cs ds : List (Completed P)) (x y : Course (Completed P) (Planned P))
-      → AllZip (SameCompletion cmp) cs ds → IsSameCourse cmp x y
-      → IsSameCourse cmp (preceded cs x) (preceded ds y)
+      → AllZip (SameCompletion cmp) cs ds → IsSameCourse cmp x y → IsSameCourse cmp (preceded cs x) (preceded ds y)
   preceded_same cs ds (goes es p) (goes fs q) all same =
       (zip-append (SameCompletion cmp) cs es ds fs all same.0, same.1)
   preceded_same cs ds (goes es p) (meets fault) all same = absurd same
@@ -182,9 +178,8 @@ module _ {P : Type 0} (cmp : P → P → Ordering) (order : IsTotalOrder cmp) wh
   )
   finish_same {t = t} (completes {m = m} {ms = ms} {more = more} {p = p} {q = s} {rest = rest} is launch finishes)
       (n ∷ ns) q same all =
-      let went = launch_went cmp order (λ c. Launches cmp t (landed cmp t q n) (next_of cmp q n) c) more s (launch_same
-      launch (landed cmp t q n) (next_of cmp q n) (landed_same cmp order p q same t m n all.0)
-      (next_same cmp order p q same m n all.0)) in
+      let went = launch_went cmp order (λ c. Launches cmp t (landed cmp t q n) (next_of cmp q n) c) more s
+      (launch_same launch _ _ (landed_same cmp order p q same t m n all.0) (next_same cmp order p q same m n all.0)) in
       let later = finish_same finishes (ns ++ went.0) went.1 went.4
       (zip-append (SameMessage cmp) ms more ns went.0 all.1 went.3) in (
         preceded (completed cmp t n ∷ []) later.0,
@@ -236,8 +231,7 @@ module _ {P : Type 0} (cmp : P → P → Ordering) (order : IsTotalOrder cmp) wh
   wake_same _ _ q same all = absurd all
 
   pub wakes_same : (t : ℕ) (p q : Planned P) (course : Course (Completed P) (Planned P)) → IsSamePlanned cmp p q
-      → Wakes cmp t p course
-      → (c : Course (Completed P) (Planned P)) × Wakes cmp t q c × IsSameCourse cmp course c
+      → Wakes cmp t p course → (c : Course (Completed P) (Planned P)) × Wakes cmp t q c × IsSameCourse cmp course c
   wakes_same t p q course same wakes =
       wake_same wakes (filter (may_launch cmp t q) (fronts cmp q.waiting)) q same (ready_same cmp order p q same t)
 
@@ -268,8 +262,7 @@ module _ {P : Type 0} (cmp : P → P → Ordering) (order : IsTotalOrder cmp) wh
       (done.0, some_sending (some_same (IsSameRatedFlight cmp) p.sending q.sending same.sending some) done.1, done.2)
 
   enqueue_same : {now : ℕ} {m : Message P} {p : Planned P} {course : Course (Completed P) (Planned P)}
-      → Enqueues cmp now m p course → (n : Message P) (q : Planned P)
-      → SameMessage cmp m n → IsSamePlanned cmp p q
+      → Enqueues cmp now m p course → (n : Message P) (q : Planned P) → SameMessage cmp m n → IsSamePlanned cmp p q
       → (c : Course (Completed P) (Planned P)) × Enqueues cmp now n q c × IsSameCourse cmp course c
   enqueue_same {now = now} {m = m} {p = p} (at_once free) n q messages same = (
     completed_at_once cmp now q n,
@@ -376,8 +369,7 @@ module _ {P : Type 0} (cmp : P → P → Ordering) (order : IsTotalOrder cmp) wh
       → (c : Course (Completed P) (Planned P)) × Obeys cmp q other c × IsSameCourse cmp course c
   obey_same (same_limit {now = now} {peer = peer} {other = other} {egress = egress} {ingress = ingress} peers) p q
       course same obeys =
-      rebalance_same obeys (limited_by cmp q.caps other egress ingress) q
-      (limited_by_same cmp order p.caps q.caps peer other egress ingress same.caps peers) same
+      rebalance_same obeys _ q (limited_by_same cmp order p.caps q.caps peer other egress ingress same.caps peers) same
   obey_same
       (same_limit_link {now = now} {origin = origin} {recipient = recipient} {o = o} {r = r} {cap = cap} origins
       recipients)

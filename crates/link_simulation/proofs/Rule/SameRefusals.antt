@@ -28,8 +28,7 @@ module _ {P : Type 0} (cmp : P → P → Ordering) (order : IsTotalOrder cmp) wh
   call_itself (call_limit_link now origin recipient cap) =
       same_limit_link (one_peer cmp order origin) (one_peer cmp order recipient)
   call_itself (call_enqueue now m) = same_enqueue (message_itself cmp order m)
-  call_itself (call_enqueue_all now ms) =
-      same_enqueue_all (zip-same (SameMessage cmp) (message_itself cmp order) ms)
+  call_itself (call_enqueue_all now ms) = same_enqueue_all (zip-same (SameMessage cmp) (message_itself cmp order) ms)
   call_itself (call_advance now) = same_advance
   call_itself call_next = same_next
 

@@ -64,9 +64,7 @@ module _ {P : Type 0} (cmp : P → P → Ordering) (order : IsTotalOrder cmp) wh
         pairs_chain cmp order q.last_arrival p.last_arrival w.last_arrival back.last_arrival tallies.last_arrival;
     next_id = back.next_id ∙ tallies.next_id;
     waiting = λ m.
-        zip_chain (SameMessage cmp) (SameMessage cmp) (SameMessage cmp) (message_chain cmp order)
-        (filter (same_pair cmp m) q.waiting) (filter (same_pair cmp m) p.waiting) (filter (same_pair cmp m) w.waiting)
-        (zip-filter (SameMessage cmp) (same_pair cmp m) (same_pair cmp m)
+        zip_chain (SameMessage cmp) _ _ (message_chain cmp order) _ _ _ (zip-filter _ _ _
         (λ k l e. pairs_alike cmp order m m k l (message_itself cmp order m) e) q.waiting p.waiting back.waiting)
         (tallies.waiting m);
     pair_order = order_same p.waiting q.waiting same.waiting tallies.pair_order;

@@ -117,11 +117,7 @@ module _ {P : Type 0} (cmp : P → P → Ordering) (order : IsTotalOrder cmp) wh
     egress = same.egress;
     ingress = same.ingress;
     link = λ p q s t e f.
-        rw (
-          peers_alike cmp order origin o p q origins e,
-          peers_alike cmp order recipient r s t recipients f,
-          same.link p q s t e f,
-        )
+        rw (peers_alike cmp order origin o p q origins e, peers_alike cmp order recipient r s t recipients f, same.link p q s t e f)
         refl;
   }
 
@@ -202,8 +198,7 @@ module _ {P : Type 0} (cmp : P → P → Ordering) (order : IsTotalOrder cmp) wh
     spent_same f g e = rw (e.left, unlimited_alike cmp order p.caps q.caps same.caps f.message g.message e.message) refl
 
     -- those that an account finds done, and the others
-    pub leaving_same : (t : ℕ)
-        → AllZip (IsSameRatedFlight cmp) (filter (is_spent cmp p.caps) (drained_to t p.sending))
+    pub leaving_same : (t : ℕ) → AllZip (IsSameRatedFlight cmp) (filter (is_spent cmp p.caps) (drained_to t p.sending))
         (filter (is_spent cmp q.caps) (drained_to t q.sending))
     leaving_same t = grind (arith, zip-filter, spent_same, drained_same)
 
@@ -229,8 +224,7 @@ module _ {P : Type 0} (cmp : P → P → Ordering) (order : IsTotalOrder cmp) wh
     next_same m n e = grind (arith, find_same, pairs_alike)
 
     -- the pairs that a wake at t finds ready
-    pub ready_same : (t : ℕ)
-        → AllZip (SameMessage cmp) (filter (may_launch cmp t p) (fronts cmp p.waiting))
+    pub ready_same : (t : ℕ) → AllZip (SameMessage cmp) (filter (may_launch cmp t p) (fronts cmp p.waiting))
         (filter (may_launch cmp t q) (fronts cmp q.waiting))
     ready_same t = grind (arith, zip-filter, may_same, fronts_same)
 

@@ -45,8 +45,7 @@ module _ {P : Type 0} (cmp : P → P → Ordering) (order : IsTotalOrder cmp) wh
       }
 
   pub raised_alike : (last last' : P → P → Option ℕ) (m n : Message P) (at at' : ℕ) → PairsAlike cmp last last'
-      → SameMessage cmp m n → at ≡ at'
-      → PairsAlike cmp (raised cmp last m at) (raised cmp last' n at')
+      → SameMessage cmp m n → at ≡ at' → PairsAlike cmp (raised cmp last m at) (raised cmp last' n at')
   raised_alike last last' m n at at' same e f p q r s pq rs =
       rw (
         peers_alike cmp order m.origin n.origin p q e.origin pq,
@@ -70,8 +69,7 @@ module _ {P : Type 0} (cmp : P → P → Ordering) (order : IsTotalOrder cmp) wh
   none_of test (x ∷ xs) h = or_from (test x) (list_any test xs) h.0 (none_of test xs h.1)
 
   preceded_alike : (t : ℕ) (c d : Completed P) (x : Course (Completed P) (Planned P))
-      (y : Course (Completed P) (World P))
-      → SameCompletion cmp c d → CourseAlike t x y
+      (y : Course (Completed P) (World P)) → SameCompletion cmp c d → CourseAlike t x y
       → CourseAlike t (preceded (c ∷ []) x) (preceded (d ∷ []) y)
   preceded_alike t c d (goes cs q) (goes ds v) e h = ((e, h.0), h.1)
   preceded_alike t c d (goes cs q) (meets g) e h = absurd h
@@ -101,8 +99,7 @@ module _ {P : Type 0} (cmp : P → P → Ordering) (order : IsTotalOrder cmp) wh
   first_late n t f fs w e = rw e refl
 
   first_lands : (n t : ℕ) (f : Flight P) (fs : List (Flight P)) (w : World P) → is_late cmp t f.message ≡ false
-      → finish_within cmp (suc n) t (f ∷ fs) w
-      ≡ preceded (completed cmp t f.message ∷ [])
+      → finish_within cmp (suc n) t (f ∷ fs) w ≡ preceded (completed cmp t f.message ∷ [])
       (launch_then cmp (finish_within cmp n t) t fs (arrived cmp t w f.message)
       (find (same_pair cmp f.message) w.waiting))
   unfolding finish_within
@@ -127,17 +124,13 @@ module _ {P : Type 0} (cmp : P → P → Ordering) (order : IsTotalOrder cmp) wh
   finishes_alike (stopped not_late launch) zero (f ∷ fs) w follows none all fuel = absurd (omega arith)
   finishes_alike {t = t} {p = p} (stopped {m = m} {fault = fault} not_late launch) (suc n) (f ∷ fs) w follows none all
       fuel =
-      let there : Follows cmp t (landed cmp t p m) (arrived cmp t w f.message) =
-      landed_follows t p w m f.message follows all.0 in
-      let fails : LaunchAlike cmp order t (arrived cmp t w f.message) fs (find (same_pair cmp f.message) w.waiting)
-      (meets fault) =
-      launch_alike cmp order launch (arrived cmp t w f.message) fs f.message (find (same_pair cmp f.message) w.waiting)
-      there none refl (next_alike cmp order t p w m f.message follows.tallies all.0) in
+      let there = landed_follows t p w m f.message follows all.0 in
+      let fails = launch_alike cmp order launch (arrived cmp t w f.message) fs f.message
+      (find (same_pair cmp f.message) w.waiting) there none refl (next_alike cmp order t p w m f.message follows.tallies
+      all.0) in
       subst (λ (c : Course (Completed P) (World P)). CourseAlike t (meets fault) c)
-      (sym
-      (first_lands n t f fs w (sym (late_alike t m f.message all.0) ∙ not_late)
-      ∙ ap (preceded (completed cmp t f.message ∷ [])) (fails (finish_within cmp n t))))
-      refl
+      (sym (first_lands n t f fs w (sym (late_alike t m f.message all.0) ∙ not_late) ∙ ap
+      (preceded (completed cmp t f.message ∷ [])) (fails _))) refl
   finishes_alike (completes not_late launch rest) n [] w follows none all fuel = absurd all
   finishes_alike (completes not_late launch rest) zero (f ∷ fs) w follows none all fuel = absurd (omega arith)
   finishes_alike {t = t} {p = p} (completes {m = m} {ms = ms} {more = more} {q = q} {rest = after} not_late launch rest)
@@ -184,9 +177,7 @@ module _ {P : Type 0} (cmp : P → P → Ordering) (order : IsTotalOrder cmp) wh
 
   pub settle_is_finish : (t : ℕ) (w : World P) → OneForEachPair cmp (flows w)
       → settle cmp t w ≡ finish_within cmp (length w.sending + length w.waiting) t (leaving cmp w) (staying cmp w)
-  settle_is_finish t w one =
-      sym (settled_same (settle cmp t w) (settle_rests cmp order t w))
-      ∙ settles_as_queue cmp order (length w.sending + length w.waiting) t w one
+  settle_is_finish t w one = sym (settled_same _ (settle_rests cmp order t w)) ∙ settles_as_queue cmp order _ t w one
 
   -- settling in the planned world is settling in the world
   pub settles_alike : {t : ℕ} {p : Planned P} {course : Course (Completed P) (Planned P)} → Settles cmp t p course
@@ -195,8 +186,7 @@ module _ {P : Type 0} (cmp : P → P → Ordering) (order : IsTotalOrder cmp) wh
       let n : ℕ = length w.sending + length w.waiting in
       let few : length (leaving cmp w) ≤ length w.sending = leaving_fewer w in
       let kept : length (staying cmp w).waiting ≡ length w.waiting = grind (arith, staying_waiting) in
-      let queued = finishes_alike finishes n (leaving cmp w) (staying cmp w)
-      (account_follows cmp order t p mid leavers w same account) (staying_none cmp order w)
-      (leavers_alike cmp order t p mid leavers w same account) (omega arith) in
+      let queued = finishes_alike finishes n _ _ (account_follows cmp order t p mid leavers w same account)
+      (staying_none cmp order w) (leavers_alike cmp order t p mid leavers w same account) (omega arith) in
       let way = settle_is_finish t w same.one_each in
       subst (λ (c : Course (Completed P) (World P)). CourseAlike t course c) (sym way) queued

@@ -8,8 +8,7 @@ module _ {P : Type 0} (cmp : P → P → Ordering) where
   -- ---- in the simulation
 
   pub agrees_next : (w : World P) (calls : List (Call P)) (replies : List (Reply P)) (call : Call P) (next : Option ℕ)
-      → Agrees cmp w (call ∷ calls) (reply_next next ∷ replies)
-      → Agrees cmp w calls replies
+      → Agrees cmp w (call ∷ calls) (reply_next next ∷ replies) → Agrees cmp w calls replies
   agrees_next w calls replies call_next next agrees = agrees.1
   agrees_next w calls replies call next agrees = absurd agrees
 
@@ -39,8 +38,7 @@ module _ {P : Type 0} (cmp : P → P → Ordering) where
   -- ---- by the event rule
 
   pub obeyed_next : (p : Planned P) (calls : List (Call P)) (replies : List (Reply P)) (call : Call P) (next : Option ℕ)
-      → Obeyed cmp p (call ∷ calls) (reply_next next ∷ replies)
-      → Obeyed cmp p calls replies
+      → Obeyed cmp p (call ∷ calls) (reply_next next ∷ replies) → Obeyed cmp p calls replies
   obeyed_next p calls replies call_next next obeyed = obeyed.1
   obeyed_next p calls replies call next obeyed = absurd obeyed
 
@@ -51,8 +49,7 @@ module _ {P : Type 0} (cmp : P → P → Ordering) where
   obeyed_refused p calls replies call why obeyed = obeyed
 
   pub obeyed_done : (p : Planned P) (calls : List (Call P)) (replies : List (Reply P)) (call : Call P)
-      (completions : List (Completed P))
-      → Obeyed cmp p (call ∷ calls) (reply_done completions ∷ replies)
+      (completions : List (Completed P)) → Obeyed cmp p (call ∷ calls) (reply_done completions ∷ replies)
       → (ds : List (Completed P)) × (q : Planned P) × Obeys cmp p call (goes ds q)
       × AllZip (SameCompletion cmp) completions ds × Obeyed cmp q calls replies
   obeyed_done p calls replies call_next completions obeyed = absurd obeyed

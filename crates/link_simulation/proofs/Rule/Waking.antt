@@ -28,8 +28,7 @@ module _ {P : Type 0} (cmp : P → P → Ordering) (order : IsTotalOrder cmp) wh
   -- ---- a round: one pair starts, and what is done then completes
 
   pub round_is : (t : ℕ) (w : World P) (y : Message P) → NoneDone cmp order w
-      → OneForEachPair cmp (flows (joined cmp w y))
-      → settle cmp t (joined cmp w y)
+      → OneForEachPair cmp (flows (joined cmp w y)) → settle cmp t (joined cmp w y)
       ≡ finish_within cmp (length (joined cmp w y).sending + length (joined cmp w y).waiting) t
       (joining cmp order w y) (started cmp order w y)
   round_is t w y none one = grind (arith, settle_is_finish, joined, joining_leaves, started_stays)
@@ -173,6 +172,5 @@ module _ {P : Type 0} (cmp : P → P → Ordering) (order : IsTotalOrder cmp) wh
           let picked = subst (λ (xs : List (Message P)). Picks xs ms)
           (sym (ready_after cmp order picks.0 t w v after.0)) picks.3 in
           subst (λ (c : Course (Completed P) (World P)). CoursesAlike cmp (IsWoken t) (preceded cs rest) c)
-          (sym (wake_round n t w picks.0 (goes ds v) picks.1 starts e))
-          (preceded_by (IsWoken t) cs ds rest (wake_within cmp n t v) h.0
-          (ih v h.1.follows (each_none (is_done cmp v) v.sending h.1.none_done) picked (omega arith)))
+          (sym (wake_round n t w picks.0 (goes ds v) picks.1 starts e)) (preceded_by (IsWoken t) cs ds rest
+          (wake_within cmp n t v) h.0 (ih v h.1.follows (each_none _ v.sending h.1.none_done) picked (omega arith)))

@@ -32,9 +32,8 @@ module _ {P : Type 0} (cmp : P → P → Ordering) (order : IsTotalOrder cmp) wh
 
   pub delivered_alike : (m n : Message P) → SameMessage cmp m n → is_delivered cmp m ≡ is_delivered cmp n
   delivered_alike m n e =
-      both_alike cmp order m.should_deliver n.should_deliver (not (same_peer cmp m.origin m.recipient))
-      (not (same_peer cmp n.origin n.recipient))
-      e.should_deliver (ap not (peers_alike m.origin n.origin m.recipient n.recipient e.origin e.recipient))
+      both_alike cmp order m.should_deliver n.should_deliver _ _ e.should_deliver
+      (ap not (peers_alike m.origin n.origin m.recipient n.recipient e.origin e.recipient))
 
   pub message_itself : (m : Message P) → SameMessage cmp m m
   message_itself m = grind arith
@@ -69,17 +68,15 @@ module _ {P : Type 0} (cmp : P → P → Ordering) (order : IsTotalOrder cmp) wh
     ingress_alike : (m n : Message P) (ms ns : List (Message P)) → SameMessage cmp m n → AllZip (SameMessage cmp) ms ns
         → ingress_side cmp caps ms m ≡ ingress_side cmp others ns n
     ingress_alike m n ms ns e all =
-        side_alike (if is_delivered cmp m then caps.ingress m.recipient else None)
-        (if is_delivered cmp n then others.ingress n.recipient else None)
-        (λ k. is_delivered cmp k && same_peer cmp m.recipient k.recipient)
+        side_alike _ _ (λ k. is_delivered cmp k && same_peer cmp m.recipient k.recipient)
         (λ k. is_delivered cmp k && same_peer cmp n.recipient k.recipient) ms ns
         (if_alike (is_delivered cmp m) (is_delivered cmp n) (caps.ingress m.recipient) (others.ingress n.recipient) None
         (delivered_alike m n e) (same.ingress m.recipient n.recipient e.recipient))
-        (places_alike (SameMessage cmp) (λ k. is_delivered cmp k && same_peer cmp m.recipient k.recipient)
-        (λ k. is_delivered cmp k && same_peer cmp n.recipient k.recipient)
-        (λ k l f. both_alike cmp order (is_delivered cmp k) (is_delivered cmp l) (same_peer cmp m.recipient k.recipient)
-        (same_peer cmp n.recipient l.recipient) (delivered_alike k l f)
-        (peers_alike m.recipient n.recipient k.recipient l.recipient e.recipient f.recipient)) 0 ms ns all)
+        (places_alike _ (λ k. is_delivered cmp k && same_peer cmp m.recipient k.recipient)
+        (λ k. is_delivered cmp k && same_peer cmp n.recipient k.recipient) (λ k l f. both_alike cmp order
+        (is_delivered cmp k) (is_delivered cmp l) (same_peer cmp m.recipient k.recipient)
+        (same_peer cmp n.recipient l.recipient) (delivered_alike k l f) (peers_alike m.recipient n.recipient k.recipient
+        l.recipient e.recipient f.recipient)) 0 ms ns all)
 
     link_alike : (m n : Message P) (ms ns : List (Message P)) → SameMessage cmp m n → AllZip (SameMessage cmp) ms ns
         → link_side cmp caps ms m ≡ link_side cmp others ns n

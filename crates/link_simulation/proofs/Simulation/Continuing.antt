@@ -77,8 +77,7 @@ module _ {P : Type 0} (cmp : P → P → Ordering) (order : IsTotalOrder cmp) wh
           → ((u : World P) × Passes cmp n v u) ⊎ ComesWithin n v
           → ((u : World P) × Passes cmp (suc n) w u) ⊎ ComesWithin (suc n) w
       by_quiet v drains (inr busy) ih =
-          inr
-          (record {
+          inr (record {
             before = 0;
             less = omega arith;
             last = w;

@@ -1,34 +1,30 @@
 -- What every instant keeps: the moment, and that nothing is done at its end.
-use Rattle.link_simulation.proofs.Common.{find, common_steps, ◌≡◌, ℕ, zero, suc, ◌+◌, ◌≤◌, List, [], ◌∷◌, ◌++◌, length}
-use Rattle.link_simulation.proofs.Common.{Option, Some, None, refl, sym, ap, ◌∙◌, subst, arith, ◌⊎◌, inl, inr, ⊤}
-use Rattle.link_simulation.proofs.Common.{nat_le, Ordering, IsTotalOrder, without_first, Completed, Course, IsQuiet}
-use Rattle.link_simulation.proofs.Common.{World, and_then, complete, goes, instant, is_done, last_moment, least_pair}
-use Rattle.link_simulation.proofs.Common.{may_start, meets, raised, ready, settle, settle_within, start, start_next}
-use Rattle.link_simulation.proofs.Common.{wake_within, EndsWith, flight_of, Message, same_pair, Drains, NextIs, Ticks}
-use Rattle.link_simulation.proofs.Common.{comes_next, never_comes, no_tick, no_time, one_tick, quiet_tick, tick_faults}
-use Rattle.link_simulation.proofs.Common.{FlowIdsUsedUp}
+use Rattle.link_simulation.proofs.Common.{common_steps, ◌≡◌, ℕ, suc, ◌+◌, ◌≤◌, List, [], ◌∷◌, ◌++◌, length, Option}
+use Rattle.link_simulation.proofs.Common.{Some, None, refl, sym, ap, ◌∙◌, subst, arith, ◌⊎◌, inl, inr, nat_le, Ordering}
+use Rattle.link_simulation.proofs.Common.{IsTotalOrder, without_first, Completed, Course, IsQuiet, World, complete}
+use Rattle.link_simulation.proofs.Common.{goes, instant, is_done, last_moment, may_start, meets, raised, settle, start}
+use Rattle.link_simulation.proofs.Common.{start_next, wake_within, EndsWith, flight_of, Message, same_pair, Drains}
+use Rattle.link_simulation.proofs.Common.{NextIs, Ticks, comes_next, never_comes, no_tick, no_time, one_tick}
+use Rattle.link_simulation.proofs.Common.{quiet_tick, tick_faults, FlowIdsUsedUp, turn, wake}
 use Rattle.link_simulation.proofs.Simulation.Continuing.{quiet_or_not}
-use Rattle.link_simulation.proofs.Simulation.Queue.{settle_none, settle_first, by_option}
 use Rattle.link_simulation.proofs.Simulation.SettlingEnds.{ends_preceded, ends_and_then, ends_cond, NoneDone}
-use Rattle.link_simulation.proofs.Simulation.SettlingEnds.{settle_rests}
-use Rattle.link_simulation.proofs.Laws.Bytes.{wake_none, wake_first}
+use Rattle.link_simulation.proofs.Simulation.SettlingEnds.{settle_rests, wake_keeps, settle_keeps as each_completion}
 use Rattle.link_simulation.proofs.Simulation.Split.{rest_is}
 use Rattle.link_simulation.proofs.Rule.FinishEvent.{instant_quiet}
+use Rattle.link_simulation.proofs.Simulation.Pass.{turn_rests}
 
 module _ {P : Type 0} (cmp : P → P → Ordering) (order : IsTotalOrder cmp) where
   -- ---- a predicate that no start and no completion changes
 
   module _ (Q : World P → Type 0)
       (starts : (w : World P) (m : Message P) → Q w
-      → Q
-      (record w {
+      → Q (record w {
         sending = w.sending ++ flight_of m ∷ [];
         waiting = without_first (same_pair cmp m) w.waiting;
         next_id = w.next_id + 1;
       }))
       (lands : (w : World P) (m : Message P) (at : ℕ) → Q w
-      → Q
-      (record w {
+      → Q (record w {
         sending = without_first (is_done cmp w) w.sending;
         last_arrival = raised cmp w.last_arrival m at;
       })) where
@@ -43,32 +39,18 @@ module _ {P : Type 0} (cmp : P → P → Ordering) (order : IsTotalOrder cmp) wh
     complete_keeps : (t : ℕ) (w : World P) (m : Message P) → Q w → EndsWith Q (complete cmp t w m)
     complete_keeps t w m h = grind (arith, ends_cond, ends_preceded, start_next_keeps)
 
-    settle_within_keeps : (n t : ℕ) (w : World P) → Q w → EndsWith Q (settle_within cmp n t w)
-    settle_within_keeps zero t w h = h
-    settle_within_keeps (suc n) t w h =
-        by_option (find (is_done cmp w) w.sending)
-        (λ e. subst (λ (c : Course (Completed P) (World P)). EndsWith Q c) (sym (settle_none cmp order n t w e)) h)
-        (λ f e.
-        subst (λ (c : Course (Completed P) (World P)). EndsWith Q c) (sym (settle_first cmp order n t w f e))
-        (ends_and_then Q Q (complete cmp t w f.message) (settle_within cmp n t) (complete_keeps t w f.message h)
-        (λ v g. settle_within_keeps n t v g)))
-
     pub settle_keeps : (t : ℕ) (w : World P) → Q w → EndsWith Q (settle cmp t w)
-    settle_keeps t w h = settle_within_keeps (length w.sending + length w.waiting) t w h
+    settle_keeps t w =
+        each_completion cmp order Q t (λ v f e k. complete_keeps t v f.message k) (length w.sending + length w.waiting)
+        w
 
-    wake_within_keeps : (n t : ℕ) (w : World P) → Q w → EndsWith Q (wake_within cmp n t w)
-    wake_within_keeps zero t w h = h
-    wake_within_keeps (suc n) t w h =
-        by_option (least_pair cmp (ready cmp t w)) (λ e. grind (arith, wake_none))
-        (λ m e.
-        subst (λ (c : Course (Completed P) (World P)). EndsWith Q c) (sym (wake_first cmp order n t w m e))
-        (ends_and_then Q Q (start cmp w m) (λ v. and_then (settle cmp t v) (wake_within cmp n t))
-        (start_keeps w m h)
-        (λ v g. ends_and_then Q Q (settle cmp t v) (wake_within cmp n t) (settle_keeps t v g)
-        (λ v g. wake_within_keeps n t v g))))
+    turn_keeps : (t : ℕ) (w : World P) (m : Message P) → Q w → EndsWith Q (turn cmp t w m)
+    turn_keeps t w m h = ends_and_then Q Q (start cmp w m) (settle cmp t) (start_keeps w m h) (settle_keeps t)
 
     pub instant_keeps : (w : World P) → Q w → EndsWith Q (instant cmp w)
-    instant_keeps w h = grind (arith, ends_and_then, settle_keeps, wake_within_keeps)
+    instant_keeps w h =
+        ends_and_then Q Q (settle cmp w.moment w) (λ v. wake cmp v.moment v) (settle_keeps w.moment w h)
+        (λ v. wake_keeps cmp order Q v.moment (λ u m e k. turn_keeps v.moment u m k) (length v.waiting) v)
 
   -- ---- the moment
 
@@ -85,20 +67,7 @@ module _ {P : Type 0} (cmp : P → P → Ordering) (order : IsTotalOrder cmp) wh
   -- ---- nothing is done at the end of an instant
 
   wake_rests : (n t : ℕ) (w : World P) → NoneDone cmp order w → EndsWith (NoneDone cmp order) (wake_within cmp n t w)
-  wake_rests zero t w h = h
-  wake_rests (suc n) t w h =
-      by_option (least_pair cmp (ready cmp t w)) (λ e. grind (arith, wake_none))
-      (λ m e.
-      subst (λ (c : Course (Completed P) (World P)). EndsWith (NoneDone cmp order) c)
-      (sym (wake_first cmp order n t w m e))
-      (ends_and_then (λ v. ⊤) (NoneDone cmp order) (start cmp w m)
-      (λ v. and_then (settle cmp t v) (wake_within cmp n t)) (ends_any (start cmp w m))
-      (λ v g. ends_and_then (NoneDone cmp order) (NoneDone cmp order) (settle cmp t v) (wake_within cmp n t)
-      (settle_rests cmp order t v) (λ v g. wake_rests n t v g))))
-    where
-      ends_any : (c : Course (Completed P) (World P)) → EndsWith (λ (v : World P). ⊤) c
-      ends_any (goes cs u) = tt
-      ends_any (meets fault) = tt
+  wake_rests n t = wake_keeps cmp order (NoneDone cmp order) t (λ w m e h. turn_rests cmp order t w m) n
 
   pub instant_rests : (w : World P) → EndsWith (NoneDone cmp order) (instant cmp w)
   instant_rests w = grind (arith, ends_and_then, settle_rests, wake_rests)

@@ -57,8 +57,7 @@ module _ {P : Type 0} (cmp : P → P → Ordering) (order : IsTotalOrder cmp) wh
       by_order Less is g = cc
       by_order Equal is g = ap is_lt (alike_right (pairs_total cmp order) n m k is) ∙ e
       by_order Greater is g =
-          ap is_lt
-          ((pairs_total cmp order).trans k m n (is_lt_less (pair_cmp cmp order k m) e)
+          ap is_lt ((pairs_total cmp order).trans k m n (is_lt_less (pair_cmp cmp order k m) e)
           ((pairs_total cmp order).antisymm m n ∙ ap ordering_reverse is))
 
   not_below : (k m n : Message P) → pair_before cmp n m ≡ false → pair_before cmp k n ≡ false
@@ -69,8 +68,7 @@ module _ {P : Type 0} (cmp : P → P → Ordering) (order : IsTotalOrder cmp) wh
   -- ---- fronts and least pairs
 
   pub fronts_kept : (mine : Message P → Bool) (alike : (m n : Message P) → same_pair cmp m n ≡ true → mine m ≡ mine n)
-      (ms : List (Message P))
-      → fronts cmp (filter mine ms) ≡ filter mine (fronts cmp ms)
+      (ms : List (Message P)) → fronts cmp (filter mine ms) ≡ filter mine (fronts cmp ms)
   fronts_kept mine alike [] = refl
   fronts_kept mine alike (m ∷ ms) = search (rules, filter_swap, filter_stronger, (fronts_kept mine alike ms))
 
@@ -122,10 +120,8 @@ module _ {P : Type 0} (cmp : P → P → Ordering) (order : IsTotalOrder cmp) wh
           let low = subst (λ (z : Message P). Each (λ k. pair_before cmp k z ≡ false) ms) (sym same) below in
           let rest = each_filter (λ k. pair_before cmp k m ≡ false) (λ k. pair_before cmp k m ≡ false) mine ms
           (λ k t h. h) low in
-          rw here
-          (first (least_pair cmp (filter mine ms)) refl
-          (λ k g. each_least cmp order (λ j. pair_before cmp j m ≡ false) (filter mine ms) k rest g)
-          ∙ ap Some same)
+          rw here (first (least_pair cmp (filter mine ms)) refl
+          (λ k g. each_least cmp order (λ j. pair_before cmp j m ≡ false) (filter mine ms) k rest g) ∙ ap Some same)
 
       by_rest : (o : Option (Message P)) → least_pair cmp ms ≡ o
           → ((y : Message P) → least_pair cmp ms ≡ Some y → mine y ≡ true → least_pair cmp (filter mine ms) ≡ Some y)

@@ -134,8 +134,7 @@ module _ {P : Type 0} (cmp : P → P → Ordering) (order : IsTotalOrder cmp) wh
       has_rest : Each (HasIn (filter (apart cmp order y) (x ∷ xs))) ms
       has_rest =
           each_map (λ n. HasIn (x ∷ xs) n × (pair_before cmp m n ≡ true)) (HasIn (filter (apart cmp order y) (x ∷ xs)))
-          ms (λ n k. stays n k.0 k.1)
-          (each_both (HasIn (x ∷ xs)) (λ n. pair_before cmp m n ≡ true) ms has.1 sorted.0)
+          ms (λ n k. stays n k.0 k.1) (each_both (HasIn (x ∷ xs)) (λ n. pair_before cmp m n ≡ true) ms has.1 sorted.0)
         where
           each_both : (Q R : Message P → Type 0) (ns : List (Message P)) → Each Q ns → Each R ns
               → Each (λ n. Q n × R n) ns
@@ -159,11 +158,8 @@ module _ {P : Type 0} (cmp : P → P → Ordering) (order : IsTotalOrder cmp) wh
   in_fronts Q x [] e q = cc
   in_fronts Q x (z ∷ ws) e q =
       by_bool (same_pair cmp x z) (λ is. let same : x ≡ z = cc in inl (subst Q same q))
-      (λ is.
-      inr
-      (some_filtered Q (λ n. not (same_pair cmp z n)) (fronts cmp ws)
-      ((in_fronts (λ n. Q n × (not (same_pair cmp z n) ≡ true)) x ws) (rw is at e)
-      (q, not_from_false (same_pair cmp z x) (pair_sym cmp order z x ∙ is)))))
+      (λ is. inr (some_filtered Q (λ n. not _) _ ((in_fronts (λ n. Q n × (not _ ≡ true)) x ws) (rw is at e)
+      (q, not_from_false _ (pair_sym cmp order z x ∙ is)))))
 
   alike_some : (o : Option (Message P)) (x : Message P) → OptionsAlike (SameMessage cmp) (Some x) o
       → (y : Message P) × (o ≡ Some y) × SameMessage cmp x y
@@ -214,12 +210,10 @@ module _ {P : Type 0} (cmp : P → P → Ordering) (order : IsTotalOrder cmp) wh
       (IsAmong (filter (may_launch cmp t p) (fronts cmp p.waiting))) (ready cmp t w)
       (λ y k. in_launching t p w y same (first_found cmp order (same_pair cmp y) y k.0.0 w.waiting k.0.1) k.1)
       (each_filtered (IsFront cmp order w.waiting) (may_start cmp t w) (fronts cmp w.waiting)
-      (fronts_first cmp order w.waiting)))
-      (each_map (λ m. IsFront cmp order p.waiting m × (may_launch cmp t p m ≡ true)) (HasIn (ready cmp t w))
-      (filter (may_launch cmp t p) (fronts cmp p.waiting))
-      (λ m k. in_ready t p w m same (first_found cmp order (same_pair cmp m) m k.0.0 p.waiting k.0.1) k.1)
-      (each_filtered (IsFront cmp order p.waiting) (may_launch cmp t p) (fronts cmp p.waiting)
-      (fronts_first cmp order p.waiting)))
+      (fronts_first cmp order w.waiting))) (each_map (λ m. IsFront cmp order p.waiting m
+      × (may_launch cmp t p m ≡ true)) (HasIn _) _ (λ m k. in_ready t p w m same
+      (first_found cmp order (same_pair cmp m) m k.0.0 p.waiting k.0.1) k.1)
+      (each_filtered (IsFront cmp order p.waiting) _ _ (fronts_first cmp order p.waiting)))
 
   -- where nothing is ready in the world, nothing is in the planned world
   pub none_ready_back : (t : ℕ) (p : Planned P) (w : World P) → Tallies cmp t p w → ready cmp t w ≡ []

@@ -25,18 +25,14 @@ product_one (suc (suc f)) (suc q) e = absurd (omega arith)
 
 pub whole_lowest : (n : ℕ) → IsLowest (whole n)
 whole_lowest n =
-    grind (
-      arith,
-      (product_one (reduced_scales n 1 (omega arith)).factor (reduced n 1).den (reduced_scales n 1 (omega arith)).den),
-    )
+    grind (arith, (product_one (reduced_scales n 1 (omega arith)).factor (reduced n 1).den (reduced_scales n 1 (omega arith)).den))
 
 pub drained_none : (left rate : Amount) → IsLowest left → 0 < rate.den → drained left rate 0 ≡ left
 drained_none left rate low h =
     let unit : ℕ = rate.den * billion in
     let some : 0 < unit = mul-pos h (omega arith) in
-    reduced_alike (left.num * unit - 0 * (rate.num * left.den)) (unit * left.num) (left.den * unit) (unit * left.den)
-    (less_none (left.num * unit) (rate.num * left.den) ∙ mul_comm left.num unit) (mul_comm left.den unit)
-    ∙ reduced_scaled unit left.num left.den some low.positive ∙ low.lowest
+    reduced_alike _ _ _ _ (less_none _ _ ∙ mul_comm left.num unit) (mul_comm left.den unit) ∙ reduced_scaled unit
+    left.num left.den some low.positive ∙ low.lowest
   where
     less_none : (n x : ℕ) → n - 0 * x ≡ n
     less_none n x = omega arith

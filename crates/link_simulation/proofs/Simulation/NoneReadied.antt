@@ -65,8 +65,7 @@ module _ {P : Type 0} (cmp : P → P → Ordering) (order : IsTotalOrder cmp) (y
   launch_rests n t fs z w None ih fuel is (inl own) = grind arith
   launch_rests n t fs z w None ih fuel is (inr off) = ih fs w fuel off.1
   launch_rests n t fs z w (Some x) ih fuel is held =
-      by_bool (may_start cmp t w x)
-      (λ e. rw e (
+      by_bool (may_start cmp t w x) (λ e. rw e (
       ends_cond (IsRested cmp order y t) (nat_le last_moment w.next_id) (meets FlowIdsUsedUp) _ tt
       (by_done (is_done cmp w (flight_of x)) fewer many held))) (λ e. rw e (ih fs w fuel (held_still e held)))
     where
@@ -85,13 +84,10 @@ module _ {P : Type 0} (cmp : P → P → Ordering) (order : IsTotalOrder cmp) (y
       held_taken : (same_pair cmp y z ≡ true) ⊎ ((same_pair cmp y z ≡ false) × IsHeld t fs w)
           → IsHeld t (fs ++ flight_of x ∷ []) (out_of_waiting cmp w x)
       held_taken (inl own) =
-          inl
-          (any_end fs x
-          ∙ or_right (list_any (same_pair cmp y) (map (λ (f : Flight P). f.message) fs))
+          inl (any_end fs x ∙ or_right (list_any (same_pair cmp y) (map (λ (f : Flight P). f.message) fs))
           (same_pair cmp y x || false) (or_left (same_pair cmp y x) false (y_x ∙ own)))
       held_taken (inr (off, inl among)) =
-          inl
-          (any_end fs x
+          inl (any_end fs x
           ∙ or_left (list_any (same_pair cmp y) (map (λ (f : Flight P). f.message) fs)) (same_pair cmp y x || false)
           among)
       held_taken (inr (off, inr rested)) = grind (arith, rested_other, y_x, only_taken, pair_itself, find_without)
@@ -101,8 +97,7 @@ module _ {P : Type 0} (cmp : P → P → Ordering) (order : IsTotalOrder cmp) (y
       held_joined (inl own) = inr (rested_joined cmp order y t w x (y_x ∙ own))
       held_joined (inr (off, inl among)) = inl among
       held_joined (inr (off, inr rested)) =
-          inr
-          (rested_other x t w (joined cmp w x) (y_x ∙ off) (only_joined cmp order x w x (pair_itself cmp order x))
+          inr (rested_other x t w (joined cmp w x) (y_x ∙ off) (only_joined cmp order x w x (pair_itself cmp order x))
           (find_without x w.waiting (y_x ∙ off)) rested)
 
       by_done : (b : Bool) → length (without_first (same_pair cmp x) w.waiting) + 1 ≡ length w.waiting
@@ -129,8 +124,7 @@ module _ {P : Type 0} (cmp : P → P → Ordering) (order : IsTotalOrder cmp) (y
   finish_rests (suc n) t (f ∷ fs) w fuel held =
       ends_cond (IsRested cmp order y t) (is_late cmp t f.message) (meets MomentTooLate) _ tt
       (ends_preceded (IsRested cmp order y t) (completed cmp t f.message ∷ []) _
-      (launch_rests n t fs f.message (arrived cmp t w f.message) (find (same_pair cmp f.message) w.waiting)
-      (finish_rests n t) (omega arith) refl (by_pair (same_pair cmp y f.message) refl held)))
+      (launch_rests n t fs f.message _ _ (finish_rests n t) (omega arith) refl (by_pair _ refl held)))
     where
       by_pair : (b : Bool) → same_pair cmp y f.message ≡ b
           → ((b || list_any (same_pair cmp y) (map (λ (f : Flight P). f.message) fs)) ≡ true) ⊎ IsRested cmp order y t w
@@ -150,10 +144,8 @@ module _ {P : Type 0} (cmp : P → P → Ordering) (order : IsTotalOrder cmp) wh
   pub all_rested : (t : ℕ) (w : World P) (y : Message P) → ready cmp t w ≡ [] → IsRested cmp order y t w
   unfolding IsRested
   all_rested t w y none x found =
-      by_bool (may_start cmp t w x)
-      (λ e. rw e (
-      absurd
-      (subst (λ (ms : List (Message P)). Somewhere (λ m. ⊤) ms) none
+      by_bool (may_start cmp t w x) (λ e. rw e (
+      absurd (subst (λ (ms : List (Message P)). Somewhere (λ m. ⊤) ms) none
       (some_filtered (λ m. ⊤) (may_start cmp t w) (fronts cmp w.waiting)
       (in_fronts cmp order (λ m. ⊤ × (may_start cmp t w m ≡ true)) x w.waiting own (tt, e)))))) (λ e. rw e refl)
     where
@@ -165,17 +157,14 @@ module _ {P : Type 0} (cmp : P → P → Ordering) (order : IsTotalOrder cmp) wh
   unfolding leaving staying IsRested
   held_first t w y none =
       by_bool (list_any (same_pair cmp y) (map (λ (f : Flight P). f.message) (filter (is_done cmp w) w.sending)))
-      (λ e. inl e)
-      (λ e.
+      (λ e. inl e) (λ e.
       inr (λ x found.
       let own : same_pair cmp y x ≡ true = find_passes (same_pair cmp y) x w.waiting found in
-      let none_leaves = sym
-      (any_map (same_pair cmp x) (λ (f : Flight P). f.message) (filter (is_done cmp w) w.sending)) ∙ any_like cmp
-      order y x (map (λ (f : Flight P). f.message) (filter (is_done cmp w) w.sending)) own ∙ e in
+      let none_leaves = sym (any_map (same_pair cmp x) (λ (f : Flight P). f.message) _) ∙ any_like cmp order y x
+      (map (λ (f : Flight P). f.message) _) own ∙ e in
       let busy = any_map (same_pair cmp x) (λ (f : Flight P). f.message)
       (filter (λ f. not (is_done cmp w f)) w.sending) ∙ any_split (λ (f : Flight P). same_pair cmp x f.message)
-      (is_done cmp w) w.sending none_leaves ∙ sym
-      (any_map (same_pair cmp x) (λ (f : Flight P). f.message) w.sending) in
+      (is_done cmp w) w.sending none_leaves ∙ sym (any_map (same_pair cmp x) (λ (f : Flight P). f.message) w.sending) in
       ap (λ b. not b && is_in_order (w.last_arrival x.origin x.recipient) (t + x.latency)) busy
       ∙ (all_rested t w y none) x found))
 
@@ -183,9 +172,8 @@ module _ {P : Type 0} (cmp : P → P → Ordering) (order : IsTotalOrder cmp) wh
       → EndsWith (λ v. ready cmp t v ≡ []) c
   unfolding IsRested
   none_then t (goes cs v) all =
-      filter_none (may_start cmp t v) (fronts cmp v.waiting)
-      (each_map (IsFront cmp order v.waiting) (λ m. may_start cmp t v m ≡ false) (fronts cmp v.waiting)
-      (λ m front. all m m (first_found cmp order (same_pair cmp m) m front.0 v.waiting front.1))
+      filter_none (may_start cmp t v) (fronts cmp v.waiting) (each_map (IsFront cmp order v.waiting)
+      (λ m. may_start cmp t v m ≡ false) _ (λ m front. all m m (first_found cmp order _ m front.0 v.waiting front.1))
       (fronts_first cmp order v.waiting))
   none_then t (meets fault) all = tt
 

@@ -16,8 +16,7 @@ module _ {P : Type 0} (cmp : P → P → Ordering) (order : IsTotalOrder cmp) wh
   drained_positive per None n left h j = omega arith
   drained_positive per (Some a) n left h j =
       let rate : Amount = reduced a per in
-      reduced_positive (left.num * (rate.den * billion) - n * (rate.num * left.den)) (left.den * (rate.den * billion))
-      (mul-pos j (mul-pos (reduced_positive a per h) (omega arith)))
+      reduced_positive _ _ (mul-pos j (mul-pos (reduced_positive a per h) (omega arith)))
 
   pub drain_each_positive : (per : ℕ) (rates : Parts) (n : ℕ) (fs : List (Flight P)) → 0 < per → ArePositive fs
       → ArePositive (drain_each per rates n fs)
@@ -48,8 +47,7 @@ module _ {P : Type 0} (cmp : P → P → Ordering) (order : IsTotalOrder cmp) wh
       let f = first_step p (suc k) refl in
       passes_through rest k x u
       (subst (λ (y : World P). Passes cmp (suc k) y x) (one_world cmp (same_itself cmp order) w f.0 v pos f.1 here)
-      f.3)
-      (omega arith) (drains_positive w v here pos) d
+      f.3) (omega arith) (drains_positive w v here pos) d
 
   -- an event stops what would pass it
   not_passed : (w : World P) (n k : ℕ) (v u x : World P) → ArePositive w.sending → Passes cmp n w v → Drains cmp v u

@@ -98,11 +98,9 @@ module _ {P : Type 0} (cmp : P → P → Ordering) (order : IsTotalOrder cmp) (y
   rested_joined t w x e z found =
       let own : same_pair cmp y z ≡ true = find_passes (same_pair cmp y) z (joined cmp w x).waiting found in
       let pair : same_pair cmp z x ≡ true = pair_like cmp order y z x own ∙ e in
-      let sends : list_any (same_pair cmp z) (flows (joined cmp w x)) ≡ true =
-      ap (list_any (same_pair cmp z)) (map-append (λ (g : Flight P). g.message) w.sending (flight_of x ∷ []))
-      ∙ list_any-append (same_pair cmp z) (flows w) (x ∷ [])
-      ∙ or_right (list_any (same_pair cmp z) (flows w)) (same_pair cmp z x || false)
-      (or_left (same_pair cmp z x) false pair) in
+      let sends = ap (list_any (same_pair cmp z)) (map-append (λ (g : Flight P). g.message) w.sending
+      (flight_of x ∷ [])) ∙ list_any-append (same_pair cmp z) (flows w) (x ∷ []) ∙ or_right
+      (list_any (same_pair cmp z) (flows w)) (same_pair cmp z x || false) (or_left (same_pair cmp z x) false pair) in
       rw sends refl
 
   abbrev pub IsAfter : ℕ → World P → World P → Type 0
@@ -121,26 +119,21 @@ module _ {P : Type 0} (cmp : P → P → Ordering) (order : IsTotalOrder cmp) (y
   finish_only (suc n) t [] w own fuel rested = (only_itself w, rested refl)
   finish_only (suc n) t (f ∷ fs) w own fuel rested =
       ends_cond (IsAfter t w) (is_late cmp t f.message) (meets MomentTooLate) _ tt
-      (ends_preceded (IsAfter t w) (completed cmp t f.message ∷ []) _
-      (after_on t w (arrived cmp t w f.message) _ (only_arrived t w f.message own.0)
-      (by_next (find (same_pair cmp f.message) w.waiting) (sym (find_like cmp order y f.message w.waiting own.0))
+      (ends_preceded (IsAfter t w) (completed cmp t f.message ∷ []) _ (after_on t w (arrived cmp t w f.message) _
+      (only_arrived t w f.message own.0) (by_next _ (sym (find_like cmp order y f.message w.waiting own.0))
       (finish_only n t))))
     where
       by_next : (o : Option (Message P)) → find (same_pair cmp y) w.waiting ≡ o
           → ((gs : List (Flight P)) (v : World P) → Each (λ g. same_pair cmp y g.message ≡ true) gs
           → length gs + length v.waiting ≤ n → (gs ≡ [] → IsRested t v)
-          → EndsWith (IsAfter t v) (finish_within cmp n t gs v))
-          → EndsWith (IsAfter t (arrived cmp t w f.message))
+          → EndsWith (IsAfter t v) (finish_within cmp n t gs v)) → EndsWith (IsAfter t (arrived cmp t w f.message))
           (launch_then cmp (finish_within cmp n t) t fs (arrived cmp t w f.message) o)
       by_next None is ih = ih fs (arrived cmp t w f.message) own.1 (omega arith) (λ e x found. cc)
       by_next (Some x) is ih =
-          by_bool (may_start cmp t (arrived cmp t w f.message) x)
-          (λ e. rw e (
+          by_bool (may_start cmp t (arrived cmp t w f.message) x) (λ e. rw e (
           ends_cond (IsAfter t (arrived cmp t w f.message)) (nat_le last_moment w.next_id) (meets FlowIdsUsedUp) _
-          tt (by_done (is_done cmp (arrived cmp t w f.message) (flight_of x)) fewer)))
-          (λ e. rw e (
-          ih fs (arrived cmp t w f.message) own.1 (omega arith)
-          (λ k z found. let same : x ≡ z = cc in
+          tt (by_done (is_done cmp (arrived cmp t w f.message) (flight_of x)) fewer))) (λ e. rw e (
+          ih fs (arrived cmp t w f.message) own.1 (omega arith) (λ k z found. let same : x ≡ z = cc in
           subst (λ (m : Message P). may_start cmp t (arrived cmp t w f.message) m ≡ false) same e)))
         where
           pair : same_pair cmp y x ≡ true
@@ -150,8 +143,7 @@ module _ {P : Type 0} (cmp : P → P → Ordering) (order : IsTotalOrder cmp) (y
           fewer = length_without (same_pair cmp x) x w.waiting (find_like cmp order y x w.waiting pair ∙ is)
 
           by_done : (b : Bool) → length (without_first (same_pair cmp x) w.waiting) + 1 ≡ length w.waiting
-              → EndsWith (IsAfter t (arrived cmp t w f.message))
-              (cond b
+              → EndsWith (IsAfter t (arrived cmp t w f.message)) (cond b
               (finish_within cmp n t (fs ++ flight_of x ∷ []) (out_of_waiting cmp (arrived cmp t w f.message) x))
               (finish_within cmp n t fs (joined cmp (arrived cmp t w f.message) x)))
           by_done true less =
@@ -184,13 +176,11 @@ module _ {P : Type 0} (cmp : P → P → Ordering) (order : IsTotalOrder cmp) (y
       (fronts cmp v.waiting) (λ m front. own_rested m front.0 front.1) (fronts_first cmp order v.waiting))
       ∙ ap (filter (may_start cmp t v)) after.0.others
       ∙ filter_where (may_start cmp t v) (may_start cmp t w) apart (fronts cmp w.waiting)
-      (λ m off. may_others t w v m after.0 off)
-      ∙ filter_swap (may_start cmp t w) apart (fronts cmp w.waiting)
+      (λ m off. may_others t w v m after.0 off) ∙ filter_swap (may_start cmp t w) apart (fronts cmp w.waiting)
     where
       own_rested : (m : Message P) (rest : List (Message P)) → filter (same_pair cmp m) v.waiting ≡ m ∷ rest
           → apart m ≡ false → may_start cmp t v m ≡ false
       own_rested m rest front own =
           let pair : same_pair cmp y m ≡ true = not-false (same_pair cmp y m) own in
-          after.1 m
-          (sym (find_like cmp order y m v.waiting pair)
+          after.1 m (sym (find_like cmp order y m v.waiting pair)
           ∙ first_found cmp order (same_pair cmp m) m rest v.waiting front)

@@ -20,8 +20,7 @@ module _ {P : Type 0} (cmp : P → P → Ordering) where
       ap (λ (rate : Amount). drained left rate n) (reduced_same a d b e i j (g.2 ∙ ap (λ c. c * d) same))
 
   drain_same : (xs ys : Parts) (d e n : ℕ) (fs : List (Flight P)) → ArePositive fs → 0 < d → 0 < e
-      → length xs ≡ length ys → Match xs ys d e → Match ys xs e d
-      → drain_each d xs n fs ≡ drain_each e ys n fs
+      → length xs ≡ length ys → Match xs ys d e → Match ys xs e d → drain_each d xs n fs ≡ drain_each e ys n fs
   drain_same xs ys d e n [] pos i j same to from = grind arith
   drain_same [] [] d e n (f ∷ fs) pos i j same to from = refl
   drain_same [] (y ∷ ys) d e n (f ∷ fs) pos i j same to from = absurd (omega arith)

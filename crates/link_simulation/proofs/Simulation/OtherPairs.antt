@@ -1,21 +1,21 @@
 -- What happens to one pair leaves the other pairs as they are.
-use Rattle.link_simulation.proofs.Common.{◌&&◌, is_in_order, is_late, completed, MomentTooLate, arith, ◌≡◌, ℕ, zero}
-use Rattle.link_simulation.proofs.Common.{suc, ◌+◌, List, [], ◌∷◌, ◌++◌, map, Bool, true, false, not, Option, Some}
-use Rattle.link_simulation.proofs.Common.{None, refl, sym, ap, ◌∙◌, subst, ⊤, ◌||◌, ◌==◌, filter, find, list_any}
-use Rattle.link_simulation.proofs.Common.{Ordering, IsTotalOrder, list_any-append, filter-append, or_right, or_left}
-use Rattle.link_simulation.proofs.Common.{not-true, map-append, without_first, Completed, Course, EndsWith, Flight}
-use Rattle.link_simulation.proofs.Common.{World, complete, first_waiting, flows, fronts, goes, is_done, is_idle}
-use Rattle.link_simulation.proofs.Common.{may_start, meets, raised, ready, settle_within, start, start_next, turn}
-use Rattle.link_simulation.proofs.Common.{out_of_flight, arrival, flight_of, Message, same_pair, Caps, is_unlimited}
-use Rattle.link_simulation.proofs.Common.{filter_swap, filter_stronger, Each, each_filtered, by_bool}
+use Rattle.link_simulation.proofs.Common.{◌&&◌, is_in_order, is_late, completed, MomentTooLate, arith, ◌≡◌, ℕ, ◌+◌}
+use Rattle.link_simulation.proofs.Common.{List, [], ◌∷◌, ◌++◌, map, Bool, true, false, not, Option, Some, None, refl}
+use Rattle.link_simulation.proofs.Common.{sym, ap, ◌∙◌, ⊤, ◌||◌, ◌==◌, filter, find, list_any, Ordering, IsTotalOrder}
+use Rattle.link_simulation.proofs.Common.{list_any-append, filter-append, or_right, or_left, not-true, map-append}
+use Rattle.link_simulation.proofs.Common.{without_first, Completed, Course, EndsWith, Flight, World, complete}
+use Rattle.link_simulation.proofs.Common.{first_waiting, flows, fronts, goes, is_done, is_idle, may_start, meets}
+use Rattle.link_simulation.proofs.Common.{raised, ready, settle_within, start, start_next, turn, out_of_flight}
+use Rattle.link_simulation.proofs.Common.{flight_of, Message, same_pair, Caps, is_unlimited, filter_swap}
+use Rattle.link_simulation.proofs.Common.{filter_stronger, Each, each_filtered, by_bool}
 use Rattle.std.proofs.lemmas.Map.Views.{any-filter_same}
 use Rattle.std.proofs.lemmas.Bool.{not-false}
 use Rattle.std.proofs.lemmas.List.{append-nil}
 use Rattle.link_simulation.specs.Simulation.Pass.{IsUnchangedFor, MayNotStart}
 use Rattle.link_simulation.proofs.Simulation.AlikeMessages.{pair_itself}
-use Rattle.link_simulation.proofs.Simulation.Queue.{pair_like, pair_sym, settle_none, settle_first, find_passes}
-use Rattle.link_simulation.proofs.Simulation.Queue.{filter_without, by_option}
+use Rattle.link_simulation.proofs.Simulation.Queue.{pair_like, pair_sym, find_passes, filter_without}
 use Rattle.link_simulation.proofs.Simulation.SettlingEnds.{find_like, ends_preceded, ends_and_then, ends_cond}
+use Rattle.link_simulation.proofs.Simulation.SettlingEnds.{settle_keeps}
 
 -- ---- lists
 
@@ -115,21 +115,15 @@ module _ {P : Type 0} (cmp : P → P → Ordering) (order : IsTotalOrder cmp) wh
   pub idle_alike : (m x : Message P) (w v : World P) → IsButFor cmp m w v → same_pair cmp m x ≡ false
       → is_idle cmp v x ≡ is_idle cmp w x
   idle_alike m x w v a h = ap not (
-      any_flows (same_pair cmp x) v
-      ∙ sym
-      (any-filter_same (λ (f : Flight P). same_pair cmp x f.message)
-      (λ (f : Flight P). not (same_pair cmp m f.message)) true (λ f e. pair_other m f.message x h e) v.sending)
-      ∙ ap (list_any (λ (f : Flight P). same_pair cmp x f.message)) a.sending
-      ∙ any-filter_same (λ (f : Flight P). same_pair cmp x f.message)
-      (λ (f : Flight P). not (same_pair cmp m f.message)) true (λ f e. pair_other m f.message x h e) w.sending
-      ∙ sym (any_flows (same_pair cmp x) w))
+      any_flows _ v ∙ sym (any-filter_same (λ (f : Flight P). same_pair cmp x f.message) (λ (f : Flight P). not _) true
+      (λ f e. pair_other m f.message x h e) v.sending) ∙ ap (list_any (λ (f : Flight P). same_pair cmp x f.message))
+      a.sending ∙ any-filter_same (λ (f : Flight P). same_pair cmp x f.message) (λ (f : Flight P). not _) true
+      (λ f e. pair_other m f.message x h e) w.sending ∙ sym (any_flows _ w))
 
   -- whether another pair's message may start does not change
   pub may_start_alike : (t : ℕ) (m x : Message P) (w v : World P) → IsButFor cmp m w v → same_pair cmp m x ≡ false
       → may_start cmp t v x ≡ may_start cmp t w x
-  may_start_alike t m x w v a h =
-      both (is_idle cmp v x) (is_idle cmp w x) (v.last_arrival x.origin x.recipient)
-      (w.last_arrival x.origin x.recipient) (idle_alike m x w v a h) (a.arrivals x h)
+  may_start_alike t m x w v a h = both _ _ _ _ (idle_alike m x w v a h) (a.arrivals x h)
     where
       both : (a b : Bool) (p q : Option ℕ) → a ≡ b → p ≡ q
           → (a && is_in_order p (t + x.latency)) ≡ (b && is_in_order q (t + x.latency))
@@ -138,9 +132,8 @@ module _ {P : Type 0} (cmp : P → P → Ordering) (order : IsTotalOrder cmp) wh
   pub first_alike : (m k : Message P) (w v : World P) → IsButFor cmp m w v → same_pair cmp m k ≡ false
       → first_waiting cmp v k ≡ first_waiting cmp w k
   first_alike m k w v a h =
-      sym (find_kept (same_pair cmp k) (λ n. not (same_pair cmp m n)) v.waiting (λ n e. pair_other m n k h e))
-      ∙ ap (find (same_pair cmp k)) a.waiting
-      ∙ find_kept (same_pair cmp k) (λ n. not (same_pair cmp m n)) w.waiting (λ n e. pair_other m n k h e)
+      sym (find_kept _ (λ n. not _) v.waiting (λ n e. pair_other m n k h e)) ∙ ap (find _) a.waiting ∙ find_kept _
+      (λ n. not _) w.waiting (λ n e. pair_other m n k h e)
 
   -- nothing that another pair sees changes
   pub others_see_nothing : (m k : Message P) (w v : World P) → IsButFor cmp m w v → same_pair cmp m k ≡ false
@@ -202,8 +195,7 @@ module _ {P : Type 0} (cmp : P → P → Ordering) (order : IsTotalOrder cmp) wh
       → find (same_pair cmp m) w.waiting ≡ o → EndsWith (Leaves t m w) (start_next cmp t w o)
   next_leaves t w m None e = record { others = but_for_none m w; rests = λ x is. cc }
   next_leaves t w m (Some x) e =
-      by_bool (may_start cmp t w x)
-      (λ is. rw is (
+      by_bool (may_start cmp t w x) (λ is. rw is (
       ends_more (Leaves t x w) (Leaves t m w) (start cmp w x)
       (λ u l. leaves_like t m x w w u same (but_for_none m w) l) (start_leaves t w x)))
       (λ is. rw is (grind (arith, but_for_none)))
@@ -225,13 +217,9 @@ module _ {P : Type 0} (cmp : P → P → Ordering) (order : IsTotalOrder cmp) wh
   complete_leaves t w f e =
       let landed : World P = out_of_flight cmp t w f.message in
       ends_cond (Leaves t f.message w) (is_late cmp t f.message) (meets MomentTooLate) _ tt
-      (ends_preceded (Leaves t f.message w) (completed cmp t f.message ∷ [])
-      (start_next cmp t landed (first_waiting cmp landed f.message))
-      (ends_more (Leaves t f.message landed) (Leaves t f.message w)
-      (start_next cmp t landed (first_waiting cmp landed f.message))
-      (λ u l. leaves_like t f.message f.message w landed u (pair_itself cmp order f.message)
-      (landed_but_for w f (arrival cmp t f.message) e) l)
-      (next_leaves t landed f.message (first_waiting cmp landed f.message) refl)))
+      (ends_preceded (Leaves t f.message w) (completed cmp t f.message ∷ []) (start_next cmp t landed _)
+      (ends_more _ _ _ (λ u l. leaves_like t f.message f.message w landed u (pair_itself cmp order f.message)
+      (landed_but_for w f _ e) l) (next_leaves t landed f.message _ refl)))
 
   -- ---- settling after a start
 
@@ -243,26 +231,19 @@ module _ {P : Type 0} (cmp : P → P → Ordering) (order : IsTotalOrder cmp) wh
       → list_any (is_done cmp w) w.sending ≡ false → find (is_done cmp v) v.sending ≡ Some f
       → same_pair cmp m f.message ≡ true
   done_of_pair m w v f a quiet e =
-      let apart = found_fails (is_done cmp v) (λ (g : Flight P). not (same_pair cmp m g.message)) f v.sending e (ap
-      (list_any (is_done cmp v)) a.sending ∙ any_alike (is_done cmp v) (is_done cmp w)
-      (filter (λ (g : Flight P). not (same_pair cmp m g.message)) w.sending) (λ g. done_alike w v g a.caps) ∙ any_none
-      (is_done cmp w) (λ (g : Flight P). not (same_pair cmp m g.message)) w.sending quiet) in
+      let apart = found_fails _ (λ (g : Flight P). not (same_pair cmp m g.message)) f v.sending e
+      (ap (list_any _) a.sending ∙ any_alike _ _ (filter (λ (g : Flight P). not (same_pair cmp m g.message)) w.sending)
+      (λ g. done_alike w v g a.caps) ∙ any_none _ (λ (g : Flight P). not _) w.sending quiet) in
       not-false (same_pair cmp m f.message) apart
 
   -- settling goes on within the pair
   pub settle_within_leaves : (n t : ℕ) (m : Message P) (w v : World P) → list_any (is_done cmp w) w.sending ≡ false
       → Leaves t m w v → EndsWith (Leaves t m w) (settle_within cmp n t v)
-  settle_within_leaves zero t m w v quiet l = l
-  settle_within_leaves (suc n) t m w v quiet l =
-      by_option (find (is_done cmp v) v.sending) (λ e. grind (arith, settle_none))
-      (λ f e.
-      let same : same_pair cmp m f.message ≡ true = done_of_pair m w v f l.others quiet e in
-      subst (λ (c : Course (Completed P) (World P)). EndsWith (Leaves t m w) c)
-      (sym (settle_first cmp order n t v f e))
-      (ends_and_then (Leaves t m w) (Leaves t m w) (complete cmp t v f.message) (settle_within cmp n t)
-      (ends_more (Leaves t f.message v) (Leaves t m w) (complete cmp t v f.message)
-      (λ u k. leaves_like t m f.message w v u same l.others k) (complete_leaves t v f e))
-      (λ u. settle_within_leaves n t m w u quiet)))
+  settle_within_leaves n t m w v quiet =
+      settle_keeps cmp order (Leaves t m w) t (λ u f e l. ends_more (Leaves t f.message u) (Leaves t m w)
+      (complete cmp t u f.message)
+      (λ x k. leaves_like t m f.message w u x (done_of_pair m w u f l.others quiet e) l.others k)
+      (complete_leaves t u f e)) n v
 
   -- a start and its settling change one pair alone, which then may not start
   pub start_settles : (t : ℕ) (w : World P) (m : Message P) → list_any (is_done cmp w) w.sending ≡ false
@@ -288,21 +269,15 @@ module _ {P : Type 0} (cmp : P → P → Ordering) (order : IsTotalOrder cmp) wh
   pub ready_without : (t : ℕ) (m : Message P) (w v : World P) → Leaves t m w v
       → ready cmp t v ≡ filter (λ n. not (same_pair cmp m n)) (ready cmp t w)
   ready_without t m w v l =
-      sym (filter_kept_each (may_start cmp t v) (λ n. not (same_pair cmp m n)) (fronts cmp v.waiting)
-      (each_more (λ (n : Message P). find (same_pair cmp n) v.waiting ≡ Some n)
-      (λ (n : Message P). may_start cmp t v n ≡ true → not (same_pair cmp m n) ≡ true)
-      (λ n e h. of_another n (same_pair cmp m n) refl e h) (fronts cmp v.waiting) (fronts_are_first v.waiting)))
-      ∙ ap (filter (may_start cmp t v))
-      (fronts_without m v.waiting ∙ ap (fronts cmp) l.others.waiting ∙ sym (fronts_without m w.waiting))
-      ∙ filter_alike (may_start cmp t v) (may_start cmp t w)
-      (filter (λ n. not (same_pair cmp m n)) (fronts cmp w.waiting))
-      (each_more (λ (n : Message P). ⊤ × (not (same_pair cmp m n) ≡ true))
-      (λ (n : Message P). may_start cmp t v n ≡ may_start cmp t w n)
-      (λ n h. may_start_alike t m n w v l.others (not-true (same_pair cmp m n) h.1))
-      (filter (λ n. not (same_pair cmp m n)) (fronts cmp w.waiting))
-      (each_filtered (λ (n : Message P). ⊤) (λ n. not (same_pair cmp m n)) (fronts cmp w.waiting)
-      (each_of (λ (n : Message P). ⊤) (λ n. tt) (fronts cmp w.waiting))))
-      ∙ filter_swap (may_start cmp t w) (λ n. not (same_pair cmp m n)) (fronts cmp w.waiting)
+      sym (filter_kept_each (may_start cmp t v) (λ n. not (same_pair cmp m n)) _
+      (each_more (λ (n : Message P). find _ v.waiting ≡ Some n) (λ (n : Message P). may_start cmp t v n ≡ true → not
+      _ ≡ true) (λ n e h. of_another n (same_pair cmp m n) refl e h) _ (fronts_are_first v.waiting))) ∙ ap (filter _)
+      (fronts_without m v.waiting ∙ ap (fronts cmp) l.others.waiting ∙ sym (fronts_without m w.waiting)) ∙ filter_alike
+      _ (may_start cmp t w) (filter (λ n. not _) (fronts cmp w.waiting)) (each_more
+      (λ (n : Message P). ⊤ × (not _ ≡ true)) (λ (n : Message P). may_start cmp t v n ≡ may_start cmp t w n)
+      (λ n h. may_start_alike t m n w v l.others (not-true _ h.1)) _ (each_filtered (λ (n : Message P). ⊤)
+      (λ n. not (same_pair cmp m n)) (fronts cmp w.waiting) (each_of (λ (n : Message P). ⊤) (λ n. tt) _))) ∙ filter_swap
+      (may_start cmp t w) (λ n. not _) _
     where
       of_another : (n : Message P) (b : Bool) → same_pair cmp m n ≡ b → find (same_pair cmp n) v.waiting ≡ Some n
           → may_start cmp t v n ≡ true → not b ≡ true

@@ -120,8 +120,7 @@ module _ {P : Type 0} (cmp : P → P → Ordering) (order : IsTotalOrder cmp) wh
       exchanged false false e f apart = refl
 
       by_order : (a b : Bool) → same_pair cmp m n ≡ b → cond b (Some n) (find (same_pair cmp m) ns) ≡ None
-          → (find (same_pair cmp m) ns ≡ None
-          → find (same_pair cmp k) (insert_by_pair cmp m ns)
+          → (find (same_pair cmp m) ns ≡ None → find (same_pair cmp k) (insert_by_pair cmp m ns)
           ≡ cond (same_pair cmp k m) (Some m) (find (same_pair cmp k) ns))
           → find (same_pair cmp k) (cond a (n ∷ insert_by_pair cmp m ns) (m ∷ n ∷ ns))
           ≡ cond (same_pair cmp k m) (Some m) (cond (same_pair cmp k n) (Some n) (find (same_pair cmp k) ns))

@@ -3,14 +3,14 @@
 use Rattle.link_simulation.proofs.Common.{◌≡◌, ℕ, zero, suc, ◌≤◌, List, [], ◌∷◌, length, Bool, true, false, cond, not}
 use Rattle.link_simulation.proofs.Common.{Option, Some, None, refl, sym, ap, ◌∙◌, subst, arith, ⊤, filter, find}
 use Rattle.link_simulation.proofs.Common.{list_any, Ordering, IsTotalOrder, not-true, Completed, Course, EndsWith}
-use Rattle.link_simulation.proofs.Common.{Flight, IsQuiet, World, and_then, complete, fronts, goes, is_done, least_pair}
-use Rattle.link_simulation.proofs.Common.{may_start, meets, preceded, ready, settle, settle_within, start, start_next}
-use Rattle.link_simulation.proofs.Common.{turn, wake, wake_within, Message, OneForEachPair, pair_before, same_pair}
-use Rattle.link_simulation.proofs.Common.{each_filtered, find_from_any, length-without_first, rules, by_bool}
+use Rattle.link_simulation.proofs.Common.{IsQuiet, World, and_then, complete, fronts, goes, is_done, least_pair}
+use Rattle.link_simulation.proofs.Common.{may_start, meets, preceded, ready, settle, start, start_next, turn, wake}
+use Rattle.link_simulation.proofs.Common.{wake_within, Message, OneForEachPair, pair_before, same_pair, each_filtered}
+use Rattle.link_simulation.proofs.Common.{find_from_any, length-without_first, by_bool, ◌+◌}
 use Rattle.link_simulation.specs.Simulation.Pass.{IsByPair, by_pair, wake_each}
-use Rattle.link_simulation.proofs.Simulation.Queue.{pair_like, pair_sym, settle_none, settle_first, by_option}
+use Rattle.link_simulation.proofs.Simulation.Queue.{pair_like, pair_sym, by_option}
 use Rattle.link_simulation.proofs.Simulation.SettlingEnds.{length_without, ends_preceded, ends_and_then, ends_cond}
-use Rattle.link_simulation.proofs.Simulation.SettlingEnds.{NoneDone, settle_rests}
+use Rattle.link_simulation.proofs.Simulation.SettlingEnds.{NoneDone, settle_rests, settle_keeps}
 use Rattle.link_simulation.proofs.Simulation.OtherPairs.{each_more, each_of, find_kept, any_from_find, Leaves}
 use Rattle.link_simulation.proofs.Simulation.OtherPairs.{pair_other, ends_more, fronts_are_first, ready_without}
 use Rattle.link_simulation.proofs.Simulation.OtherPairs.{start_settles, any_none}
@@ -46,7 +46,7 @@ module _ {P : Type 0} (cmp : P → P → Ordering) (order : IsTotalOrder cmp) wh
   start_waits : (n : ℕ) (w : World P) (m : Message P) → WaitAtMost n w → EndsWith (WaitAtMost n) (start cmp w m)
   start_waits n w m h = grind (arith, length-without_first, ends_cond)
 
-  start_takes : (n : ℕ) (w : World P) (m x : Message P) → find (same_pair cmp m) w.waiting ≡ Some x
+  pub start_takes : (n : ℕ) (w : World P) (m x : Message P) → find (same_pair cmp m) w.waiting ≡ Some x
       → WaitAtMost (suc n) w → EndsWith (WaitAtMost n) (start cmp w m)
   start_takes n w m x e h = grind (arith, length_without, ends_cond)
 
@@ -56,21 +56,14 @@ module _ {P : Type 0} (cmp : P → P → Ordering) (order : IsTotalOrder cmp) wh
   next_waits n t w (Some x) h =
       ends_cond (WaitAtMost n) (may_start cmp t w x) (start cmp w x) (goes [] w) (start_waits n w x h) h
 
-  complete_waits : (n t : ℕ) (w : World P) (m : Message P) → WaitAtMost n w
+  pub complete_waits : (n t : ℕ) (w : World P) (m : Message P) → WaitAtMost n w
       → EndsWith (WaitAtMost n) (complete cmp t w m)
   complete_waits n t w m h = search (ends_cond, ends_preceded, next_waits)
 
-  -- what a property of worlds needs to outlast settling
-  pub settle_keeps : (Q : World P → Type 0) (t : ℕ)
-      → ((w : World P) (f : Flight P) → find (is_done cmp w) w.sending ≡ Some f → Q w
-      → EndsWith Q (complete cmp t w f.message))
-      → (n : ℕ) (w : World P) → Q w → EndsWith Q (settle_within cmp n t w)
-  settle_keeps Q t step zero w h = h
-  settle_keeps Q t step (suc n) w h =
-      search (rules, settle_none, settle_first, ends_and_then, (settle_keeps Q t step n))
-
   settle_waits : (n t : ℕ) (w : World P) → WaitAtMost n w → EndsWith (WaitAtMost n) (settle cmp t w)
-  settle_waits n t w h = search (settle_keeps, complete_waits)
+  settle_waits n t w h =
+      settle_keeps cmp order (WaitAtMost n) t (λ v f e k. complete_waits n t v f.message k)
+      (length w.sending + length w.waiting) w h
 
   -- ---- one start with its settling
 
@@ -111,15 +104,12 @@ module _ {P : Type 0} (cmp : P → P → Ordering) (order : IsTotalOrder cmp) wh
       → EndsWith (NothingLeft t) (wake_within cmp n t w)
   wake_within_ends zero t w none h = (none, ready_in_none t w (none_long w.waiting h))
   wake_within_ends (suc n) t w none h =
-      by_option (least_pair cmp (ready cmp t w)) (λ e. grind (arith, least_none, wake_none))
-      (λ m e.
+      by_option (least_pair cmp (ready cmp t w)) (λ e. grind (arith, least_none, wake_none)) (λ m e.
       let found : find (same_pair cmp m) (ready cmp t w) ≡ Some m = (least_is cmp order m (ready cmp t w) e).0 in
       subst (λ (c : Course (Completed P) (World P)). EndsWith (NothingLeft t) c) (sym (wake_first n t w m e))
       (ends_and_then (λ (v : World P). NoneDone cmp order v × WaitAtMost n v) (NothingLeft t) (turn cmp t w m)
-      (wake_within cmp n t)
-      (ends_both (NoneDone cmp order) (WaitAtMost n) (turn cmp t w m) (turn_rests t w m)
-      (turn_waits n t w m m (ready_is_front t w m m found) h))
-      (λ v k. (wake_within_ends n t) v k.0 k.1)))
+      (wake_within cmp n t) (ends_both (NoneDone cmp order) (WaitAtMost n) (turn cmp t w m) (turn_rests t w m)
+      (turn_waits n t w m m (ready_is_front t w m m found) h)) (λ v k. (wake_within_ends n t) v k.0 k.1)))
 
   -- after waking a settled world, nothing is done and nothing may start
   pub wake_ends_quiet : (t : ℕ) (w : World P) → list_any (is_done cmp w) w.sending ≡ false
@@ -131,12 +121,9 @@ module _ {P : Type 0} (cmp : P → P → Ordering) (order : IsTotalOrder cmp) wh
   pub find_without : (k m : Message P) (xs : List (Message P)) → same_pair cmp m k ≡ true
       → find (same_pair cmp k) (filter (λ n. not (same_pair cmp m n)) xs) ≡ None
   find_without k m xs e =
-      find_nowhere cmp order (same_pair cmp k) (filter (λ n. not (same_pair cmp m n)) xs)
-      (each_more (λ (n : Message P). ⊤ × (not (same_pair cmp m n) ≡ true))
-      (λ (n : Message P). same_pair cmp k n ≡ false)
-      (λ n h. pair_like cmp order m k n e ∙ not-true (same_pair cmp m n) h.1)
-      (filter (λ n. not (same_pair cmp m n)) xs)
-      (each_filtered (λ (n : Message P). ⊤) (λ n. not (same_pair cmp m n)) xs
+      find_nowhere cmp order (same_pair cmp k) (filter (λ n. not _) xs) (each_more
+      (λ (n : Message P). ⊤ × (not _ ≡ true)) (λ (n : Message P). same_pair cmp k n ≡ false)
+      (λ n h. pair_like cmp order m k n e ∙ not-true _ h.1) _ (each_filtered (λ (n : Message P). ⊤) (λ n. not _) xs
       (each_of (λ (n : Message P). ⊤) (λ n. tt) xs)))
 
   -- the same pairs, with the same messages
@@ -147,12 +134,10 @@ module _ {P : Type 0} (cmp : P → P → Ordering) (order : IsTotalOrder cmp) wh
   alike_without : (m : Message P) (ms rs : List (Message P)) → IsByPair cmp (m ∷ ms) → FindsAlike (m ∷ ms) rs
       → FindsAlike ms (filter (λ n. not (same_pair cmp m n)) rs)
   alike_without m ms rs h same k =
-      by_bool (same_pair cmp m k)
-      (λ e.
-      find_nowhere cmp order (same_pair cmp k) ms (each_more (λ (n : Message P). pair_before cmp m n ≡ true)
-      (λ (n : Message P). same_pair cmp k n ≡ false)
-      (λ n b. pair_like cmp order m k n e ∙ apart_if_before cmp order m n b) ms (as_each cmp order m ms h.0))
-      ∙ sym (find_without k m rs e)) (λ e. grind (arith, pair_sym, find_kept, pair_other))
+      by_bool (same_pair cmp m k) (λ e. find_nowhere cmp order _ ms (each_more
+      (λ (n : Message P). pair_before cmp m n ≡ true) (λ (n : Message P). same_pair cmp k n ≡ false)
+      (λ n b. pair_like cmp order m k n e ∙ apart_if_before cmp order m n b) ms (as_each cmp order m ms h.0)) ∙ sym
+      (find_without k m rs e)) (λ e. grind (arith, pair_sym, find_kept, pair_other))
 
   -- its first pair is the least
   least_first : (m : Message P) (ms rs : List (Message P)) → IsByPair cmp (m ∷ ms) → FindsAlike (m ∷ ms) rs
@@ -184,8 +169,7 @@ module _ {P : Type 0} (cmp : P → P → Ordering) (order : IsTotalOrder cmp) wh
 
   -- going once through any list, in the order of pairs, of those that are ready
   pub wake_within_is_pass : (n t : ℕ) (ms : List (Message P)) (w : World P) → list_any (is_done cmp w) w.sending ≡ false
-      → WaitAtMost n w → IsByPair cmp ms
-      → FindsAlike ms (ready cmp t w) → wake_within cmp n t w ≡ wake_each cmp t ms w
+      → WaitAtMost n w → IsByPair cmp ms → FindsAlike ms (ready cmp t w) → wake_within cmp n t w ≡ wake_each cmp t ms w
   wake_within_is_pass n t [] w none h by same = wake_none n t w (empty_alike (ready cmp t w) same)
   wake_within_is_pass zero t (m ∷ ms) w none h by same =
       let e : least_pair cmp (ready cmp t w) ≡ Some m = least_first m ms (ready cmp t w) by same in
@@ -194,16 +178,12 @@ module _ {P : Type 0} (cmp : P → P → Ordering) (order : IsTotalOrder cmp) wh
   wake_within_is_pass (suc n) t (m ∷ ms) w none h by same =
       let e : least_pair cmp (ready cmp t w) ≡ Some m = least_first m ms (ready cmp t w) by same in
       let found : find (same_pair cmp m) (ready cmp t w) ≡ Some m = (least_is cmp order m (ready cmp t w) e).0 in
-      wake_first n t w m e
-      ∙ and_then_alike (turn cmp t w m) (wake_within cmp n t) (wake_each cmp t ms)
+      wake_first n t w m e ∙ and_then_alike (turn cmp t w m) (wake_within cmp n t) (wake_each cmp t ms)
       (ends_more cmp order (λ (v : World P). Leaves cmp order t m w v × (NoneDone cmp order v × WaitAtMost n v))
-      (λ (v : World P). wake_within cmp n t v ≡ wake_each cmp t ms v) (turn cmp t w m)
-      (λ v k. wake_within_is_pass n t ms v (any_from_find (is_done cmp v) v.sending k.1.0) k.1.1 by.1
-      (subst (FindsAlike ms) (sym (ready_without cmp order t m w v k.0))
-      (alike_without m ms (ready cmp t w) by same)))
-      (ends_both (Leaves cmp order t m w) (λ (v : World P). NoneDone cmp order v × WaitAtMost n v) (turn cmp t w m)
-      (start_settles cmp order t w m none)
-      (ends_both (NoneDone cmp order) (WaitAtMost n) (turn cmp t w m) (turn_rests t w m)
+      (λ (v : World P). wake_within cmp n t v ≡ wake_each cmp t ms v) _ (λ v k. wake_within_is_pass n t ms v
+      (any_from_find _ v.sending k.1.0) k.1.1 by.1 (subst (FindsAlike ms) (sym (ready_without cmp order t m w v k.0))
+      (alike_without m ms _ by same))) (ends_both _ (λ (v : World P). NoneDone cmp order v × WaitAtMost n v) _
+      (start_settles cmp order t w m none) (ends_both _ _ _ (turn_rests t w m)
       (turn_waits n t w m m (ready_is_front t w m m found) h))))
 
   pub wake_is_pass : (t : ℕ) (ms : List (Message P)) (w : World P) → list_any (is_done cmp w) w.sending ≡ false

@@ -68,8 +68,7 @@ module _ {P : Type 0} (cmp : P → P → Ordering) (order : IsTotalOrder cmp) wh
 
   pub pair_like : (m n k : Message P) → same_pair cmp m n ≡ true → same_pair cmp n k ≡ same_pair cmp m k
   pair_like m n k e =
-      let parts : (same_peer cmp m.origin n.origin ≡ true) × (same_peer cmp m.recipient n.recipient ≡ true) =
-      and_parts (same_peer cmp m.origin n.origin) (same_peer cmp m.recipient n.recipient) e in
+      let parts = and_parts (same_peer cmp m.origin n.origin) (same_peer cmp m.recipient n.recipient) e in
       both_alike (same_peer cmp n.origin k.origin) (same_peer cmp m.origin k.origin)
       (same_peer cmp n.recipient k.recipient) (same_peer cmp m.recipient k.recipient)
       (peer_like m.origin n.origin k.origin parts.0) (peer_like m.recipient n.recipient k.recipient parts.1)
@@ -109,8 +108,7 @@ module _ {P : Type 0} (cmp : P → P → Ordering) (order : IsTotalOrder cmp) wh
   found_apart p test f (g ∷ gs) e h = grind (arith, (found_apart p test f gs))
 
   pub pair_is_idle : (test : Flight P → Bool) (f : Flight P) (fs : List (Flight P)) → find test fs ≡ Some f
-      → OneForEachPair cmp (messages fs)
-      → list_any (same_pair cmp f.message) (messages (without_first test fs)) ≡ false
+      → OneForEachPair cmp (messages fs) → list_any (same_pair cmp f.message) (messages (without_first test fs)) ≡ false
   pair_is_idle test f [] e one = cc
   pair_is_idle test f (g ∷ gs) e one = grind (arith, found_apart, or_from, pair_sym, (pair_is_idle test f gs))
 
@@ -122,8 +120,7 @@ module _ {P : Type 0} (cmp : P → P → Ordering) (order : IsTotalOrder cmp) wh
   -- ---- settling is finishing the queue
 
   late_or_not : (b : Bool) (c : Completed P) (s l : Course (Completed P) (World P))
-      (k : World P → Course (Completed P) (World P))
-      → over_state (staying cmp) (and_then s k) ≡ l
+      (k : World P → Course (Completed P) (World P)) → over_state (staying cmp) (and_then s k) ≡ l
       → over_state (staying cmp) (and_then (cond b (meets MomentTooLate) (preceded (c ∷ []) s)) k)
       ≡ cond b (meets MomentTooLate) (preceded (c ∷ []) l)
   unfolding over_state
@@ -156,8 +153,7 @@ module _ {P : Type 0} (cmp : P → P → Ordering) (order : IsTotalOrder cmp) wh
         → OneForEachPair cmp (messages w.sending)
         → list_any (same_pair cmp m) (messages w.sending) ≡ false → leaving cmp w ≡ fs → staying cmp w ≡ v
         → over_state (staying cmp) (and_then (start cmp w m) (settle_within cmp n t))
-        ≡ cond (nat_le last_moment v.next_id) (meets FlowIdsUsedUp)
-        (cond (is_done cmp v (flight_of m))
+        ≡ cond (nat_le last_moment v.next_id) (meets FlowIdsUsedUp) (cond (is_done cmp v (flight_of m))
         (finish_within cmp n t (fs ++ flight_of m ∷ []) (out_of_waiting cmp v m))
         (finish_within cmp n t fs (joined cmp v m)))
     unfolding leaving staying over_state
@@ -218,10 +214,8 @@ module _ {P : Type 0} (cmp : P → P → Ordering) (order : IsTotalOrder cmp) wh
   settles_as_queue zero t w one = refl
   settles_as_queue (suc n) t w one = by_queue (leaving cmp w) refl (settles_as_queue n t)
     where
-      by_queue : (q : List (Flight P)) → leaving cmp w ≡ q
-          → ((u : World P) → OneForEachPair cmp (messages u.sending)
-          → over_state (staying cmp) (settle_within cmp n t u)
-          ≡ finish_within cmp n t (leaving cmp u) (staying cmp u))
+      by_queue : (q : List (Flight P)) → leaving cmp w ≡ q → ((u : World P) → OneForEachPair cmp (messages u.sending)
+          → over_state (staying cmp) (settle_within cmp n t u) ≡ finish_within cmp n t (leaving cmp u) (staying cmp u))
           → over_state (staying cmp) (settle_within cmp (suc n) t w) ≡ finish_within cmp (suc n) t q (staying cmp w)
       by_queue [] e ih = grind (arith, settle_none, find_none, as_filter)
       by_queue (f ∷ fs) e ih =
@@ -232,5 +226,4 @@ module _ {P : Type 0} (cmp : P → P → Ordering) (order : IsTotalOrder cmp) wh
           fs (arrived cmp t (staying cmp w) f.message) f.message (find (same_pair cmp f.message) w.waiting)
           (one_without (is_done cmp w) w.sending one) (pair_is_idle (is_done cmp w) f w.sending first.0 one)
           (as_leaving (record (arrived cmp t w f.message) { sending = without_first (is_done cmp w) w.sending }) fs
-          first.1)
-          (landed_alike t w f.message) refl))
+          first.1) (landed_alike t w f.message) refl))

@@ -14,11 +14,11 @@ use Rattle.link_simulation.proofs.Common.{find_from_any}
 use Rattle.std.proofs.lemmas.List.{append-nil}
 use Rattle.link_simulation.proofs.Simulation.Queue.{settle_none, preceded_none}
 use Rattle.link_simulation.proofs.Simulation.SettlingEnds.{ends_preceded, ends_and_then, ends_cond, each_ends}
-use Rattle.link_simulation.proofs.Simulation.SettlingEnds.{settle_rests}
+use Rattle.link_simulation.proofs.Simulation.SettlingEnds.{settle_rests, settle_keeps}
 use Rattle.link_simulation.proofs.Simulation.OtherPairs.{Leaves, ends_more, leaves_like, next_leaves, start_leaves}
 use Rattle.link_simulation.proofs.Simulation.OtherPairs.{complete_leaves, ready_without, any_from_find, IsButFor}
 use Rattle.link_simulation.proofs.Simulation.AlikeMessages.{pair_itself}
-use Rattle.link_simulation.proofs.Simulation.Pass.{ends_both, settle_keeps, wake_none, wake_ends_quiet}
+use Rattle.link_simulation.proofs.Simulation.Pass.{ends_both, wake_none, wake_ends_quiet}
 
 filter_none : {X : Type 0} (p q : X → Bool) (xs : List X) → ((x : X) → p x ≡ true → q x ≡ true) → filter q xs ≡ []
     → filter p xs ≡ []
@@ -50,8 +50,7 @@ module _ {P : Type 0} (cmp : P → P → Ordering) (order : IsTotalOrder cmp) wh
   turn_outlasts Q kept t w m h =
       ends_and_then Q Q (start cmp w m) (settle cmp t)
       (ends_more cmp order (Leaves cmp order t m w) Q (start cmp w m) (λ u l. kept m w u l.others h)
-      (start_leaves cmp order t w m))
-      (λ v k. settle_outlasts Q kept t v k)
+      (start_leaves cmp order t w m)) (λ v k. settle_outlasts Q kept t v k)
 
   at_kept : (s : ℕ) (m : Message P) (v u : World P) → IsButFor cmp m v u → IsAt s v → IsAt s u
   at_kept s m v u a h = a.moment ∙ h
@@ -127,8 +126,7 @@ module _ {P : Type 0} (cmp : P → P → Ordering) (order : IsTotalOrder cmp) wh
       → EndsWith IsQuietNow c
   ticks_end_quiet no_tick q = q
   ticks_end_quiet (one_tick {v = v} {u = u} {cs = cs} {rest = rest} d i t) q =
-      ends_preceded IsQuietNow cs rest
-      (ticks_end_quiet t (ends_at IsQuietNow (instant cmp v) cs u i (instant_ends_quiet v)))
+      ends_preceded IsQuietNow cs rest (ticks_end_quiet t (ends_at IsQuietNow _ cs u i (instant_ends_quiet v)))
   ticks_end_quiet (tick_faults d i) q = tt
 
   -- ---- calls
@@ -141,10 +139,8 @@ module _ {P : Type 0} (cmp : P → P → Ordering) (order : IsTotalOrder cmp) wh
 
   settle_unready : (t : ℕ) (w : World P) → NoneReady t w → EndsWith (NoneReady t) (settle cmp t w)
   settle_unready t w h =
-      settle_keeps cmp order (NoneReady t) t
-      (λ v f e k. ends_more cmp order (Leaves cmp order t f.message v) (NoneReady t) (complete cmp t v f.message)
-      (λ u l. stays_unready t f.message v u k l) (complete_leaves cmp order t v f e))
-      (length w.sending + length w.waiting) w h
+      settle_keeps cmp order _ t (λ v f e k. ends_more cmp order _ _ _ (λ u l. stays_unready t f.message v u k l)
+      (complete_leaves cmp order t v f e)) _ w h
 
   -- settling a world in which none may start ends in quiet
   settle_ends_quiet : (t : ℕ) (w : World P) → NoneReady t w → EndsWith (IsQuiet cmp t) (settle cmp t w)
@@ -159,19 +155,16 @@ module _ {P : Type 0} (cmp : P → P → Ordering) (order : IsTotalOrder cmp) wh
   abbrev pub QuietAt : ℕ → World P → Type 0
   QuietAt t v = IsQuiet cmp t v × IsAt t v
 
-  enqueue_ends_quiet : (t : ℕ) (w : World P) (m : Message P) → NoneReady t w → IsAt t w
-      → EndsWith (QuietAt t)
+  enqueue_ends_quiet : (t : ℕ) (w : World P) (m : Message P) → NoneReady t w → IsAt t w → EndsWith (QuietAt t)
       (and_then (start_next cmp t (queued w m) (first_waiting cmp (queued w m) m)) (settle cmp t))
   enqueue_ends_quiet t w m unready at =
       ends_and_then (λ (v : World P). NoneReady t v × IsAt t v) (QuietAt t)
       (start_next cmp t (queued w m) (first_waiting cmp (queued w m) m)) (settle cmp t)
       (ends_more cmp order (Leaves cmp order t m (queued w m)) (λ (v : World P). NoneReady t v × IsAt t v)
-      (start_next cmp t (queued w m) (first_waiting cmp (queued w m) m))
-      (λ v l. (
+      (start_next cmp t (queued w m) (first_waiting cmp (queued w m) m)) (λ v l. (
         grind (arith, stays_unready, leaves_like, pair_itself, queued_but_for),
         l.others.moment ∙ at,
-      ))
-      (next_leaves cmp order t (queued w m) m (first_waiting cmp (queued w m) m) refl))
+      )) (next_leaves cmp order t (queued w m) m (first_waiting cmp (queued w m) m) refl))
       (λ v k. ends_both (IsQuiet cmp t) (IsAt t) (settle cmp t v) (settle_ends_quiet t v k.0) (settle_stays t t v k.1))
 
   -- an arrival makes none ready
@@ -222,7 +215,6 @@ module _ {P : Type 0} (cmp : P → P → Ordering) (order : IsTotalOrder cmp) wh
 
   -- a call on a quiet world ends in a quiet world, at the call's moment
   pub call_ends_quiet : (w : World P) (call : Call P) (now : ℕ) (course : Course (Completed P) (World P)) → IsQuietNow w
-      → moment_of call ≡ Some now → w.moment ≤ now
-      → Runs cmp w call now course → EndsWith (QuietAt now) course
+      → moment_of call ≡ Some now → w.moment ≤ now → Runs cmp w call now course → EndsWith (QuietAt now) course
   call_ends_quiet w call now course q e h runs =
       grind (arith, ends_and_then, ends_more, ends_both, ticks_end_quiet, ticks_end_at, act_ends_quiet)

@@ -61,8 +61,7 @@ module _ {P : Type 0} (cmp : P → P → Ordering) where
       → Match (rates_from cmp caps a place ms) (rates_from cmp caps b place ms) d e
   match_from caps a b d e place [] same i x is = cc
   match_from caps a b d e place (m ∷ ms) same zero x is =
-      by_bool (is_unlimited cmp caps m) (λ h. rw h cc)
-      (λ h. rw h (
+      by_bool (is_unlimited cmp caps m) (λ h. rw h cc) (λ h. rw h (
       let this : a place ≡ x = cc in (
         b place,
         refl,
@@ -92,14 +91,11 @@ module _ {P : Type 0} (cmp : P → P → Ordering) where
 
     has_side : (caps : Caps P) (ms : List (Message P)) (i : ℕ) (m : Message P) → slice_get ms i ≡ Some m
         → is_unlimited cmp caps m ≡ false → HasSide caps ms i m
-    has_side caps ms i m at e =
-        by_caps (caps.egress m.origin) (is_delivered cmp m) (caps.ingress m.recipient) (caps.link m.origin m.recipient)
-        refl refl refl refl e
+    has_side caps ms i m at e = by_caps _ _ _ _ refl refl refl refl e
       where
         by_caps : (c : Option ℕ) (d : Bool) (k l : Option ℕ) → caps.egress m.origin ≡ c → is_delivered cmp m ≡ d
             → caps.ingress m.recipient ≡ k → caps.link m.origin m.recipient ≡ l
-            → (is_none c && (not d || is_none k) && is_none l) ≡ false
-            → HasSide caps ms i m
+            → (is_none c && (not d || is_none k) && is_none l) ≡ false → HasSide caps ms i m
         by_caps (Some c) d k l out del into between e =
             let side : Side = record { cap = c; users = places_from 0 (by_egress m) ms } in (
               side,

@@ -3,10 +3,12 @@ use Rattle.link_simulation.proofs.Common.{◌++◌, ◌∙◌, nat_le, last_mome
 use Rattle.link_simulation.proofs.Common.{zero, suc, ◌+◌, ◌≤◌, List, [], ◌∷◌, length, Bool, true, false, cond, Option}
 use Rattle.link_simulation.proofs.Common.{Some, None, refl, sym, subst, arith, length-append, find, Ordering}
 use Rattle.link_simulation.proofs.Common.{IsTotalOrder, without_first, Completed, Course, Flight, World, and_then}
-use Rattle.link_simulation.proofs.Common.{complete, first_waiting, goes, is_done, meets, preceded, settle}
-use Rattle.link_simulation.proofs.Common.{settle_within, start, start_next, EndsWith, out_of_flight, is_late, completed}
-use Rattle.link_simulation.proofs.Common.{Message, same_pair, enqueue, enqueue_each, MomentTooLate}
+use Rattle.link_simulation.proofs.Common.{complete, goes, is_done, meets, preceded, settle, settle_within, start}
+use Rattle.link_simulation.proofs.Common.{start_next, EndsWith, out_of_flight, is_late, completed, Message, same_pair}
+use Rattle.link_simulation.proofs.Common.{enqueue, enqueue_each, MomentTooLate, rules, least_pair, ready, turn}
+use Rattle.link_simulation.proofs.Common.{wake_within}
 use Rattle.link_simulation.proofs.Simulation.Queue.{pair_like, settle_none, settle_first, find_passes, by_option}
+use Rattle.link_simulation.proofs.Simulation.Queue.{by_option}
 
 pub ends_preceded : {X S : Type 0} (Q : S → Type 0) (xs : List X) (c : Course X S) → EndsWith Q c
     → EndsWith Q (preceded xs c)
@@ -29,8 +31,7 @@ pub each_ends : {P : Type 0} (cmp : P → P → Ordering) (Q : World P → Type 
     → (ms : List (Message P)) (w : World P) → Q w → EndsWith Q (enqueue_each cmp t w ms)
 each_ends cmp Q t step [] w h = h
 each_ends cmp Q t step (m ∷ ms) w h =
-    ends_and_then Q Q (enqueue cmp t w m) (λ v. enqueue_each cmp t v ms) (step w m h)
-    (λ v k. each_ends cmp Q t step ms v k)
+    ends_and_then Q Q _ (λ v. enqueue_each cmp t v ms) (step w m h) (λ v k. each_ends cmp Q t step ms v k)
 
 pub length_without : {X : Type 0} (test : X → Bool) (x : X) (xs : List X) → find test xs ≡ Some x
     → length (without_first test xs) + 1 ≡ length xs
@@ -55,10 +56,8 @@ module _ {P : Type 0} (cmp : P → P → Ordering) (order : IsTotalOrder cmp) wh
   next_has t n w m None e h = h
   next_has t n w m (Some x) e h =
       let same : same_pair cmp m x ≡ true = find_passes (same_pair cmp m) x w.waiting e in
-      let fewer : length (without_first (same_pair cmp x) w.waiting) + 1 ≡ length w.waiting =
-      length_without (same_pair cmp x) x w.waiting (find_like m x w.waiting same ∙ e) in
-      let joined : length (w.sending ++ flight_of x ∷ []) ≡ length w.sending + 1
-      = length-append w.sending (flight_of x ∷ []) in
+      let fewer = length_without (same_pair cmp x) x w.waiting (find_like m x w.waiting same ∙ e) in
+      let joined = length-append w.sending (flight_of x ∷ []) in
       ends_cond (HasAtMost n) (may_start cmp t w x) (start cmp w x) (goes [] w)
       (ends_cond (HasAtMost n) (nat_le last_moment w.next_id) (meets FlowIdsUsedUp) _ tt (omega arith)) h
 
@@ -68,9 +67,8 @@ module _ {P : Type 0} (cmp : P → P → Ordering) (order : IsTotalOrder cmp) wh
       let fewer = length_without (is_done cmp w) f w.sending e in
       let landed : World P = out_of_flight cmp t w f.message in
       ends_cond (HasAtMost n) (is_late cmp t f.message) (meets MomentTooLate) _ tt
-      (ends_preceded (HasAtMost n) (completed cmp t f.message ∷ [])
-      (start_next cmp t landed (first_waiting cmp landed f.message))
-      (next_has t n landed f.message (first_waiting cmp landed f.message) refl (omega arith)))
+      (ends_preceded (HasAtMost n) (completed cmp t f.message ∷ []) (start_next cmp t landed _)
+      (next_has t n landed f.message _ refl (omega arith)))
 
   abbrev pub NoneDone : World P → Type 0
   NoneDone v = find (is_done cmp v) v.sending ≡ None
@@ -78,8 +76,7 @@ module _ {P : Type 0} (cmp : P → P → Ordering) (order : IsTotalOrder cmp) wh
   settle_within_rests : (n t : ℕ) (w : World P) → HasAtMost n w → EndsWith NoneDone (settle_within cmp n t w)
   settle_within_rests zero t w h = find_in_none (is_done cmp w) w.sending (omega arith)
   settle_within_rests (suc n) t w h =
-      by_option (find (is_done cmp w) w.sending) (λ e. grind (arith, settle_none))
-      (λ f e.
+      by_option (find (is_done cmp w) w.sending) (λ e. grind (arith, settle_none)) (λ f e.
       subst (λ (c : Course (Completed P) (World P)). EndsWith NoneDone c) (sym (settle_first cmp order n t w f e))
       (ends_and_then (HasAtMost n) NoneDone (complete cmp t w f.message) (settle_within cmp n t)
       (complete_has t n w f e h) (settle_within_rests n t)))
@@ -87,3 +84,20 @@ module _ {P : Type 0} (cmp : P → P → Ordering) (order : IsTotalOrder cmp) wh
   -- after settling, no message in flight is done
   pub settle_rests : (t : ℕ) (w : World P) → EndsWith NoneDone (settle cmp t w)
   settle_rests t w = settle_within_rests (length w.sending + length w.waiting) t w (omega arith)
+
+  -- what each completion keeps, settling keeps
+  pub settle_keeps : (Q : World P → Type 0) (t : ℕ)
+      → ((w : World P) (f : Flight P) → find (is_done cmp w) w.sending ≡ Some f → Q w
+      → EndsWith Q (complete cmp t w f.message)) → (n : ℕ) (w : World P) → Q w → EndsWith Q (settle_within cmp n t w)
+  settle_keeps Q t step zero w h = h
+  settle_keeps Q t step (suc n) w h =
+      search (rules, settle_none, settle_first, ends_and_then, (settle_keeps Q t step n))
+
+  -- and what each turn keeps, waking
+  pub wake_keeps : (Q : World P → Type 0) (t : ℕ)
+      → ((w : World P) (m : Message P) → least_pair cmp (ready cmp t w) ≡ Some m → Q w → EndsWith Q (turn cmp t w m))
+      → (n : ℕ) (w : World P) → Q w → EndsWith Q (wake_within cmp n t w)
+  wake_keeps Q t step zero w h = h
+  wake_keeps Q t step (suc n) w h =
+      by_option (least_pair cmp (ready cmp t w)) (λ e. rw (e, wake_within) h) (λ m e. rw (e, wake_within)
+      (ends_and_then Q Q (turn cmp t w m) (wake_within cmp n t) (step w m e h) (λ v k. wake_keeps Q t step n v k)))

@@ -17,8 +17,7 @@ module _ {P : Type 0} (cmp : P → P → Ordering) (order : IsTotalOrder cmp)
       All-from_contains (λ side. All (λ user. user < n) side.users) (capped_sides cmp caps ms)
       (λ s has. by_side s (from_sides cmp caps ms s has))
     where
-      by_side : (s : Side)
-          → (m : Message P) × In ms m
+      by_side : (s : Side) → (m : Message P) × In ms m
           × ((k : Kind) × (cap : ℕ) × (cap_at cmp caps k m ≡ Some cap) × (s ≡ side_at cmp caps k ms m cap))
           → All (λ user. user < n) s.users
       by_side s (m, has, (k, cap, is, e)) =
@@ -29,8 +28,7 @@ module _ {P : Type 0} (cmp : P → P → Ordering) (order : IsTotalOrder cmp)
       All-from_contains (λ side. AllPairs (λ user other. user ≢ other) side.users) (capped_sides cmp caps ms)
       (λ s has. by_side s (from_sides cmp caps ms s has))
     where
-      by_side : (s : Side)
-          → (m : Message P) × In ms m
+      by_side : (s : Side) → (m : Message P) × In ms m
           × ((k : Kind) × (cap : ℕ) × (cap_at cmp caps k m ≡ Some cap) × (s ≡ side_at cmp caps k ms m cap))
           → AllPairs (λ user other. user ≢ other) s.users
       by_side s (m, has, (k, cap, is, e)) =

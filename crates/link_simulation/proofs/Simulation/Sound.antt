@@ -14,9 +14,9 @@ use Rattle.link_simulation.proofs.Common.{peer_sym, each_filtered, by_bool}
 use Rattle.link_simulation.specs.Simulation.Messages.{with_cap, with_link}
 use Rattle.link_simulation.proofs.Simulation.Queue.{peer_like, one_without, one_pair_more}
 use Rattle.link_simulation.proofs.Simulation.SettlingEnds.{ends_preceded, ends_and_then, ends_cond, each_ends}
+use Rattle.link_simulation.proofs.Simulation.SettlingEnds.{settle_keeps}
 use Rattle.link_simulation.proofs.Simulation.OtherPairs.{each_of, ends_more, Leaves, next_leaves, IsButFor}
 use Rattle.link_simulation.proofs.Simulation.PairOrder.{found_in, least_is}
-use Rattle.link_simulation.proofs.Simulation.Pass.{settle_keeps}
 use Rattle.link_simulation.proofs.Simulation.Stretch.{flows_drained}
 use Rattle.link_simulation.proofs.Simulation.OneNext.{drain_each_positive}
 use Rattle.link_simulation.proofs.Simulation.QuietInstants.{settle_outlasts, instant_outlasts, wake_keeps}
@@ -67,16 +67,14 @@ module _ {P : Type 0} (cmp : P → P → Ordering) (order : IsTotalOrder cmp) wh
   turn_fit : (t : ℕ) (w : World P) (m : Message P) → may_start cmp t w m ≡ true → IsFit w
       → EndsWith IsFit (turn cmp t w m)
   turn_fit t w m e fit =
-      ends_and_then IsFit IsFit (start cmp w m) (settle cmp t) (start_fit w m (idle_if_starts t w m e) fit)
-      (λ v k. settle_fit t v k)
+      ends_and_then IsFit IsFit (start cmp w m) _ (start_fit w m (idle_if_starts t w m e) fit) (λ v k. settle_fit t v k)
 
   ready_may_start : (t : ℕ) (w : World P) (m : Message P) → least_pair cmp (ready cmp t w) ≡ Some m
       → may_start cmp t w m ≡ true
   ready_may_start t w m e =
       (found_in cmp order (λ (n : Message P). ⊤ × (may_start cmp t w n ≡ true)) (same_pair cmp m) m (ready cmp t w)
       (each_filtered (λ (n : Message P). ⊤) (may_start cmp t w) (fronts cmp w.waiting)
-      (each_of (λ (n : Message P). ⊤) (λ n. tt) (fronts cmp w.waiting)))
-      (least_is cmp order m (ready cmp t w) e).0).1
+      (each_of (λ (n : Message P). ⊤) (λ n. tt) (fronts cmp w.waiting))) (least_is cmp order m (ready cmp t w) e).0).1
 
   wake_fit : (t : ℕ) (w : World P) → IsFit w → EndsWith IsFit (wake cmp t w)
   wake_fit t w fit =
@@ -103,10 +101,8 @@ module _ {P : Type 0} (cmp : P → P → Ordering) (order : IsTotalOrder cmp) wh
   enqueue_fit t w m fit =
       ends_cond IsFit w.limited _ _
       (ends_and_then IsFit IsFit (start_next cmp t (queued cmp order w m) (first_waiting cmp (queued cmp order w m) m))
-      (settle cmp t)
-      (next_fit t (queued cmp order w m) (first_waiting cmp (queued cmp order w m) m)
-      (record { positive = fit.positive; one_each = fit.one_each }))
-      (λ v k. settle_fit t v k))
+      (settle cmp t) (next_fit t (queued cmp order w m) (first_waiting cmp (queued cmp order w m) m)
+      (record { positive = fit.positive; one_each = fit.one_each })) (λ v k. settle_fit t v k))
       (ends_cond IsFit (m.should_deliver && nat_lt last_moment (t + m.latency)) (meets MomentTooLate) _ tt
       (record { positive = fit.positive; one_each = fit.one_each }))
 
@@ -138,11 +134,8 @@ module _ {P : Type 0} (cmp : P → P → Ordering) (order : IsTotalOrder cmp) wh
 
   instant_empty : (w : World P) → IsEmptyAtFirst w → EndsWith IsEmptyAtFirst (instant cmp w)
   instant_empty w h =
-      by_bool w.limited
-      (λ e.
-      ends_more cmp order IsLimited IsEmptyAtFirst (instant cmp w) empty_if_limited
-      (instant_outlasts cmp order IsLimited limited_kept w e))
-      (λ e. grind (arith, instant_of_quiet, empty_is_quiet))
+      by_bool w.limited (λ e. ends_more cmp order IsLimited IsEmptyAtFirst _ empty_if_limited
+      (instant_outlasts cmp order IsLimited limited_kept w e)) (λ e. grind (arith, instant_of_quiet, empty_is_quiet))
 
   drains_empty : (w v : World P) → Drains cmp w v → IsEmptyAtFirst w → IsEmptyAtFirst v
   drains_empty w v d h = grind arith
@@ -160,8 +153,7 @@ module _ {P : Type 0} (cmp : P → P → Ordering) (order : IsTotalOrder cmp) wh
       ends_more cmp order IsLimited IsEmptyAtFirst (settle cmp t changed) empty_if_limited
       (settle_outlasts cmp order IsLimited limited_kept t changed refl)
 
-  enqueue_empty : (t : ℕ) (w : World P) (m : Message P) → IsEmptyAtFirst w
-      → EndsWith IsEmptyAtFirst (enqueue cmp t w m)
+  enqueue_empty : (t : ℕ) (w : World P) (m : Message P) → IsEmptyAtFirst w → EndsWith IsEmptyAtFirst (enqueue cmp t w m)
   enqueue_empty t w m h = by_limited w.limited refl
     where
       course : Course (Completed P) (World P)
@@ -170,10 +162,8 @@ module _ {P : Type 0} (cmp : P → P → Ordering) (order : IsTotalOrder cmp) wh
       by_limited : (b : Bool) → w.limited ≡ b
           → EndsWith IsEmptyAtFirst (cond b (and_then course (settle cmp t)) (complete_at_once cmp t w m))
       by_limited true e = ends_more cmp order IsLimited IsEmptyAtFirst (and_then course (settle cmp t)) empty_if_limited
-          (ends_and_then IsLimited IsLimited course (settle cmp t)
-          (ends_more cmp order (Leaves cmp order t m (queued cmp order w m)) IsLimited course
-          (λ v l. l.others.limited ∙ e)
-          (next_leaves cmp order t (queued cmp order w m) m (first_waiting cmp (queued cmp order w m) m) refl))
+          (ends_and_then IsLimited IsLimited course (settle cmp t) (ends_more cmp order (Leaves cmp order t m _)
+          IsLimited course (λ v l. l.others.limited ∙ e) (next_leaves cmp order t _ m _ refl))
           (λ v k. settle_outlasts cmp order IsLimited limited_kept t v k))
       by_limited false e = grind (arith, ends_cond)
 
@@ -250,8 +240,7 @@ module _ {P : Type 0} (cmp : P → P → Ordering) (order : IsTotalOrder cmp) wh
       → EndsWith (IsPeerwise) c
   ticks_peerwise no_tick h = h
   ticks_peerwise (one_tick {w = w} {v = v} {u = u} {cs = cs} {rest = rest} d i t) h =
-      ends_preceded (IsPeerwise) cs rest
-      (ticks_peerwise t
+      ends_preceded (IsPeerwise) cs rest (ticks_peerwise t
       (ends_at cmp order (IsPeerwise) (instant cmp v) cs u i (instant_peerwise v (drains_peerwise w v d h))))
   ticks_peerwise (tick_faults d i) h = tt
 
@@ -278,12 +267,10 @@ module _ {P : Type 0} (cmp : P → P → Ordering) (order : IsTotalOrder cmp) wh
   enqueue_peerwise : (t : ℕ) (w : World P) (m : Message P) → IsPeerwise w → EndsWith IsPeerwise (enqueue cmp t w m)
   enqueue_peerwise t w m h =
       let at : ℕ = if m.should_deliver then later_of (w.last_arrival m.origin m.recipient) (t + m.latency) else t in
-      ends_cond (IsPeerwise) w.limited _ _
-      (ends_and_then (IsPeerwise) (IsPeerwise)
+      ends_cond (IsPeerwise) w.limited _ _ (ends_and_then (IsPeerwise) (IsPeerwise)
       (start_next cmp t (queued cmp order w m) (first_waiting cmp (queued cmp order w m) m)) (settle cmp t)
       (next_peerwise t (queued cmp order w m) (first_waiting cmp (queued cmp order w m) m)
-      (record { caps = h.caps; last_arrival = h.last_arrival }))
-      (λ v k. settle_peerwise t v k))
+      (record { caps = h.caps; last_arrival = h.last_arrival })) (λ v k. settle_peerwise t v k))
       (ends_cond (IsPeerwise) (m.should_deliver && nat_lt last_moment (t + m.latency)) (meets MomentTooLate) _ tt
       (landed_peerwise w w.sending m at h))
 

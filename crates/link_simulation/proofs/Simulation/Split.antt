@@ -12,9 +12,7 @@ module _ {P : Type 0} (cmp : P → P → Ordering) where
   preceded_append xs ys (meets f) = refl
 
   pub rest_is : (ds : List (Completed P)) (rest : Course (Completed P) (World P)) (cs : List (Completed P))
-      (v : World P)
-      → preceded ds rest ≡ goes cs v
-      → (es : List (Completed P)) × (rest ≡ goes es v) × (ds ++ es ≡ cs)
+      (v : World P) → preceded ds rest ≡ goes cs v → (es : List (Completed P)) × (rest ≡ goes es v) × (ds ++ es ≡ cs)
   rest_is ds (goes es u) cs v e = (es, cc, cc)
   rest_is ds (meets f) cs v e = cc
 
@@ -26,9 +24,8 @@ module _ {P : Type 0} (cmp : P → P → Ordering) where
       let r : (es : List (Completed P)) × (rest ≡ goes es v) × (ds ++ es ≡ cs) = rest_is ds rest cs v e in
       let later : Ticks cmp (b + n) u (preceded r.0 c) = ticks_on t b v r.0 c r.1 more in
       let count : suc (b + n) ≡ b + suc n = omega arith in
-      subst (λ (k : ℕ). Ticks cmp k w (preceded cs c)) count
-      (subst (λ (d : Course (Completed P) (World P)). Ticks cmp (suc (b + n)) w d)
-      (preceded_append ds r.0 c ∙ ap (λ (xs : List (Completed P)). preceded xs c) r.2) (one_tick d i later))
+      subst (λ (k : ℕ). Ticks cmp k w (preceded cs c)) count (subst (λ (d : Course _ _). Ticks cmp (suc (b + n)) w d)
+      (preceded_append ds r.0 c ∙ ap (λ (xs : List _). preceded xs c) r.2) (one_tick d i later))
   ticks_on (tick_faults d i) b v cs c e more = cc
 
   -- a fault ends the ticks, however many were to come
@@ -57,8 +54,7 @@ module _ {P : Type 0} (cmp : P → P → Ordering) where
 
   -- ticking for both is ticking for a while and then for another
   pub ticks_apart : {k : ℕ} {w : World P} {course : Course (Completed P) (World P)} → Ticks cmp k w course → (a b : ℕ)
-      → k ≡ a + b
-      → (first : Course (Completed P) (World P)) × Ticks cmp a w first × Continues cmp b first course
+      → k ≡ a + b → (first : Course (Completed P) (World P)) × Ticks cmp a w first × Continues cmp b first course
   ticks_apart {k = k} {w = w} {course = course} t zero b e =
       let count : k ≡ b = omega arith in
       (goes [] w, no_tick, (course, subst (λ (n : ℕ). Ticks cmp n w course) count t, sym (preceded_none course)))

@@ -15,14 +15,10 @@ module _ {P : Type 0} (cmp : P → P → Ordering) (order : IsTotalOrder cmp) wh
   settle_enough (suc n) zero t w h k =
       settle_nothing cmp order (suc n) t w (find_in_none (is_done cmp w) w.sending (omega arith))
   settle_enough (suc n) (suc m) t w h k =
-      by_option (find (is_done cmp w) w.sending)
-      (λ e. settle_nothing cmp order (suc n) t w e ∙ sym (settle_nothing cmp order (suc m) t w e))
-      (λ f e.
-      settle_first cmp order n t w f e
-      ∙ and_then_alike (complete cmp t w f.message) (settle_within cmp n t) (settle_within cmp m t)
+      by_option (find _ w.sending) (λ e. settle_nothing cmp order (suc n) t w e ∙ sym
+      (settle_nothing cmp order (suc m) t w e)) (λ f e. settle_first cmp order n t w f e ∙ and_then_alike
+      (complete cmp t w f.message) (settle_within cmp n t) (settle_within cmp m t)
       (ends_more cmp order (λ (v : World P). HasAtMost cmp order n v × HasAtMost cmp order m v)
-      (λ (v : World P). settle_within cmp n t v ≡ settle_within cmp m t v) (complete cmp t w f.message)
-      (λ v j. (settle_enough n m t) v j.0 j.1)
-      (ends_both (HasAtMost cmp order n) (HasAtMost cmp order m) (complete cmp t w f.message)
-      (complete_has cmp order t n w f e h) (complete_has cmp order t m w f e k)))
-      ∙ sym (settle_first cmp order m t w f e))
+      (λ (v : World P). settle_within cmp n t v ≡ settle_within cmp m t v) _ (λ v j. (settle_enough n m t) v j.0 j.1)
+      (ends_both _ _ _ (complete_has cmp order t n w f e h) (complete_has cmp order t m w f e k))) ∙ sym
+      (settle_first cmp order m t w f e))

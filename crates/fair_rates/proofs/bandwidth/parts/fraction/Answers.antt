@@ -51,14 +51,12 @@ loop-factor-preserved c =
     record {
       positive = omega (arith, bottom, rest_positive n d factor shared some is c.loop-factor.invariant.positive);
       lowest =
-          subst (λ m. IsReduced m c.multiply.new.self) (sym top)
-          (subst (λ m. IsReduced (n / shared) m) (sym bottom)
+          subst (λ m. IsReduced m c.multiply.new.self) (sym top) (subst (λ m. IsReduced (n / shared) m) (sym bottom)
           (lowest_next n d factor shared some is c.loop-factor.invariant.lowest));
       worth =
           ap (λ m. c.args.parts.now * m) bottom
           ∙ worth_next n d factor shared some is c.args.parts.now (product (take i c.args.factors.now))
-          c.loop-factor.invariant.worth
-          ∙ ap (λ m. m * (product (take i c.args.factors.now) * factor)) (sym top)
+          c.loop-factor.invariant.worth ∙ ap (λ m. m * (product (take i c.args.factors.now) * factor)) (sym top)
           ∙ ap (λ m. c.divide.new.self * m) (sym (product_next c.args.factors.now i inside));
     }
 

@@ -56,8 +56,7 @@ returns-in_err-rates-clause-refused c =
     let filled : AreFilledByWeight (sides_over caps routes) weights c.in_ok-rising.rising =
     subst (λ ss. AreFilledByWeight ss weights c.in_ok-rising.rising) are c.in_ok-rising.ensures in
     if_err _ _ c.from_residual-in_err-rates.result c.from_residual-in_err-rates.ensures.1
-    (λ e is. subst (IsWeightRefusal caps routes weights) (sym is)
-    (elim c.in_err-rates.ensures.refused [
+    (λ e is. subst (IsWeightRefusal caps routes weights) (sym is) (elim c.in_err-rates.ensures.refused [
       | inl memory ↦ inl memory
       | inr large ↦ inr (
         large.0,

@@ -12,6 +12,5 @@ pub returns-clause-others : goal.returns-clause-others
 returns-clause-others g c = λ t w m none.
     ends_more g.P.Ord.cmp g.met.P.Ord.total (Leaves g.P.Ord.cmp g.met.P.Ord.total t m w)
     (λ v. ready g.P.Ord.cmp t v ≡ filter (λ n. not (same_pair g.P.Ord.cmp m n)) (ready g.P.Ord.cmp t w))
-    (turn g.P.Ord.cmp t w m)
-    (λ v l. ready_without g.P.Ord.cmp g.met.P.Ord.total t m w v l)
+    (turn g.P.Ord.cmp t w m) (λ v l. ready_without g.P.Ord.cmp g.met.P.Ord.total t m w v l)
     (start_settles g.P.Ord.cmp g.met.P.Ord.total t w m none)

@@ -27,8 +27,7 @@ returns-clause-ready c = (message 1 2 1 1, refl, refl)
 
 -- the first of the pair may start at 6
 may_not : (m : Message ℕ) (b : Bool) → same_pair nat_cmp m (message 1 2 1 1) ≡ b
-    → next_of nat_cmp two_of_a_pair m ≡ Some m
-    → may_launch nat_cmp 5 two_of_a_pair m ≡ true → ⊥
+    → next_of nat_cmp two_of_a_pair m ≡ Some m → may_launch nat_cmp 5 two_of_a_pair m ≡ true → ⊥
 may_not m true is first may = grind arith
 may_not m false is first may = grind arith
 

@@ -36,8 +36,7 @@ returns-clause-doubled c h = by_done h.done h.completions_are (h.each_pair m)
   where
     one_more : (b : Bool) (d : Message ℕ) (ds : List (Message ℕ)) → b ≡ true
         → AllZip (SameMessage nat_cmp) (cond b (d ∷ of_pair nat_cmp m ds) (of_pair nat_cmp m ds) ++ held_of nat_cmp m
-        (new_planned 0)) (m ∷ [])
-        → Make ds []
+        (new_planned 0)) (m ∷ []) → Make ds []
     one_more true d ds is all = all.1
     one_more false d ds is all = cc
 

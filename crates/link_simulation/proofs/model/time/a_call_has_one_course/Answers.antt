@@ -20,10 +20,8 @@ returns-clause-quiet g c = λ w call now course quiet is after runs.
     ends_more g.P.Ord.cmp g.met.P.Ord.total (QuietAt g.P.Ord.cmp g.met.P.Ord.total now)
     (λ v. IsQuiet g.P.Ord.cmp now v × (v.moment ≡ now)
     × ((next : Option ℕ) → NextIs g.P.Ord.cmp v next → IfSome next (λ t. now < t)))
-    course
-    (λ v k. (
+    course (λ v k. (
       k.0,
       k.1,
       grind (arith, next_is_later),
-    ))
-    (call_ends_quiet g.P.Ord.cmp g.met.P.Ord.total w call now course quiet is after runs)
+    )) (call_ends_quiet g.P.Ord.cmp g.met.P.Ord.total w call now course quiet is after runs)

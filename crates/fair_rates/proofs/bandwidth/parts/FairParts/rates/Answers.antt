@@ -28,9 +28,7 @@ loop-level-preserved c =
           subst (λ o. IsRateAt c.in_ok-fractions.fractions.items o rate) (sym is) (
             inside,
             λ d.
-                w.push-is
-                ∙ ap Finite
-                (w.index.ensures
+                w.push-is ∙ ap Finite (w.index.ensures
                 ∙ get_or_default c.in_ok-fractions.fractions.items place w.index.result.now d inside),
           )
       | in-None w ↦

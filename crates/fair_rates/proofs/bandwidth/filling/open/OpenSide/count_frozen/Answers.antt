@@ -27,8 +27,7 @@ loop-place-preserved-in-Some c =
     let at : level_at level_of user ≡ Some place =
     grind (arith, common_steps, c.in-Some.is, c.index.ensures, c.swap_remove.ensures.value) in
     let flow : user < length level_of =
-    subst (λ n. n < length level_of) (sym c.swap_remove.ensures.value)
-    (c.loop-place.invariant.users i user inside) in
+    subst (λ n. n < length level_of) (sym c.swap_remove.ensures.value) (c.loop-place.invariant.users i user inside) in
     let some_level : place < length levels =
     some_of_if (λ k. k < length levels) (level_at level_of user) (c.requires.inside user None flow) place at in
     let is : frozen user ≡ Some parts =
