@@ -127,9 +127,8 @@ module _ (flags : List Bool) where
     stood_limited : (j : ℕ) → IsLimited (sides_in flags sides) j → StoodLimited j
     stood_limited j (t, uses) =
         let f = from_sides_in sides t (in_from_contains (sides_in flags sides) t uses.listed) in
-        let r : (u : ℕ) × In f.side.users u × (place_in flags u ≡ j) =
-        from_map (place_in flags) f.side.users j
-        (subst (λ (s : Side). In s.users j) f.is (in_from_contains t.users j uses.used)) in
+        let r = from_map (place_in flags) f.side.users j (subst (λ (s : Side). In s.users j) f.is
+        (in_from_contains t.users j uses.used)) in
         let own = all_own f.side f.user f.listed f.used f.own r.0 r.1 in
         record {
           u = r.0;
@@ -168,15 +167,13 @@ module _ (flags : List Bool) where
             greatest =
                 All-from_contains (λ i. kept_parts i ≤ kept_parts (place_in flags u))
                 (map (place_in flags) b.side.users) (λ i used.
-                let r : (v : ℕ) × In b.side.users v × (place_in flags v ≡ i) =
-                from_map (place_in flags) b.side.users i
-                (in_from_contains (map (place_in flags) b.side.users) i used) in
+                let r = from_map (place_in flags) b.side.users i (in_from_contains (map (place_in flags) b.side.users) i
+                used) in
                 let le =
                 All-contains (λ v. parts v ≤ parts u) b.side.users r.0 b.greatest
                 (contains_from_in b.side.users r.0 r.1) in
                 let mine : kept_parts (place_in flags u) ≡ parts u = ap parts (old_of_place flags u own) in
-                let other : kept_parts i ≡ parts r.0 =
-                ap kept_parts (sym r.2) ∙ ap parts (old_of_place flags r.0 (all r.0 r.1)) in
+                let other = ap kept_parts (sym r.2) ∙ ap parts (old_of_place flags r.0 (all r.0 r.1)) in
                 omega (arith, le, mine, other));
           }
 

@@ -31,10 +31,8 @@ module _ {X : Type 0} where
   no_more [] ys apart in_ys = omega arith
   no_more (x ∷ xs) ys apart in_ys =
       let (before, after, split) = stands_in ys x (in_ys x (0, omega arith, refl)) in
-      let rest : length xs ≤ length (before ++ after) =
-      no_more xs (before ++ after) (apart_tail x xs apart)
-      (λ y has. without before after y (apart_from_head x xs apart y has)
-      (subst (λ (zs : List X). Contains zs y) split (in_ys y (later y has)))) in
+      let rest = no_more xs (before ++ after) (apart_tail x xs apart) (λ y has. without before after y
+      (apart_from_head x xs apart y has) (subst (λ (zs : List X). Contains zs y) split (in_ys y (later y has)))) in
       let long = length-append before (x ∷ after) in
       let short = length-append before after in
       omega (arith, rest, ap length split, long, short)

@@ -174,9 +174,8 @@ cross_reduced a b c d h j r t =
     let c_is : s * (c / s) ≡ c = mul-div_cancel' s v.0 in
     let b_is : s * (b / s) ≡ b = mul-div_cancel' s v.1 in
     let some : 0 < b / s * (d / f) = mul-pos (other_above s (b / s) b b_is h) (other_above f (d / f) d d_is j) in
-    let lowest : IsReduced (a / f * (c / s)) (b / s * (d / f)) = product_lowest (a / f) (c / s) (b / s) (d / f)
-    (IsReduced-part a b (a / f) (b / s) (quotient_divides a f u.0) (quotient_divides b s v.1) r) (coprime_parts a d j)
-    (coprime_parts c b h)
+    let lowest = product_lowest (a / f) (c / s) (b / s) (d / f) (IsReduced-part a b (a / f) (b / s)
+    (quotient_divides a f u.0) (quotient_divides b s v.1) r) (coprime_parts a d j) (coprime_parts c b h)
     (IsReduced-part c d (c / s) (d / f) (quotient_divides c s v.0) (quotient_divides d f u.1) t) in
     let num : f * s * (a / f * (c / s)) ≡ a * c = regroup f s (a / f) (c / s) ∙ multiplied _ _ _ _ a_is c_is in
     let den : f * s * (b / s * (d / f)) ≡ b * d = regroup_down f s (b / s) (d / f) ∙ multiplied _ _ _ _ b_is d_is in

@@ -103,8 +103,7 @@ module _ {P : Type 0} (cmp : P → P → Ordering) (order : IsTotalOrder cmp) (c
             users = x.place ∷ map (λ b. b.place) (filter (is_same cmp a) later);
           })
       head e =
-          let number : x.answer ≡ Some cap =
-          all x (inl refl) ∙ sym (one_cap cmp order caps of a.subject x.subject e) ∙ sym (all a h) ∙ has in
+          let number = all x (inl refl) ∙ sym (one_cap cmp order caps of a.subject x.subject e) ∙ sym (all a h) ∙ has in
           let closed : is_open cmp earlier x ≡ false = search (rules, open_from, same_congr) in
           let agree : filter (is_same cmp a) later ≡ filter (is_same cmp x) later =
           search (rules, filter_agree, same_congr) in
@@ -241,12 +240,10 @@ module _ {P : Type 0} (cmp : P → P → Ordering) (order : IsTotalOrder cmp) (c
       → (a : Ask P) × In (asks place flows) a × (same_subject cmp s a.subject ≡ true)
   asked place [] s f h l = absurd h
   asked place (g ∷ flows) s f (inl e) l =
-      let r : (a : Ask P) × In (asks_if place g g.delivered) a × (same_subject cmp s a.subject ≡ true) =
-      one_asked place g s (subst (λ (k : Flow P). limits cmp s k ≡ true) (sym e) l) in
+      let r = one_asked place g s (subst (λ (k : Flow P). limits cmp s k ≡ true) (sym e) l) in
       (r.0, in_left (asks_if place g g.delivered) (asks (place + 1) flows) r.0 r.1, r.2)
   asked place (g ∷ flows) s f (inr h) l =
-      let r : (a : Ask P) × In (asks (place + 1) flows) a × (same_subject cmp s a.subject ≡ true) =
-      asked (place + 1) flows s f h l in
+      let r = asked (place + 1) flows s f h l in
       (r.0, in_right (asks_if place g g.delivered) (asks (place + 1) flows) r.0 r.1, r.2)
 
   -- one subject has the same places

@@ -141,8 +141,7 @@ module _ {P : Type 0} (cmp : P → P → Ordering) (o : IsTotalOrder cmp) where
 
     at_last : (q : Subject P) (m : ℕ) → IsNumberOf cmp more q m → length subjects ≡ m → number' q ≡ Some m
     at_last q m i last =
-        let t : same_subject cmp s q ≡ true = same_symm cmp o s q
-        ∙ ap (same_subject cmp q) (sym (get_or_push subjects s s m last)) ∙ i.same s in
+        let t = same_symm cmp o s q ∙ ap (same_subject cmp q) (sym (get_or_push subjects s s m last)) ∙ i.same s in
         are' q ∙ ap (λ b. cond b (Some (length subjects)) (number q)) t ∙ ap Some last
 
     numbers_push : (q : Subject P) (m : ℕ) → (number' q ≡ Some m) ↔ IsNumberOf cmp more q m
@@ -223,8 +222,7 @@ module _ {P : Type 0} (cmp : P → P → Ordering) (o : IsTotalOrder cmp) where
           let i : n < length sides = in_range s n e in
           let within : n < length shares = omega (arith, as_many) in
           let here = get_or shares n nobody in
-          let are : shares_after cmp [] (asks ++ t ∷ []) ≡ map (with_user cmp t) shares =
-          become answer true (any_from_place (is_side_of cmp t) shares n nobody within (same_at s n nobody e))
+          let are = become answer true (any_from_place (is_side_of cmp t) shares n nobody within (same_at s n nobody e))
           ∙ append-nil (map (with_user cmp t) shares) in
           let others : (k : ℕ) → k < length shares → k ≢ n
           → with_user cmp t (get_or shares k nobody) ≡ get_or shares k nobody =
@@ -232,12 +230,10 @@ module _ {P : Type 0} (cmp : P → P → Ordering) (o : IsTotalOrder cmp) where
           unchanged t (get_or shares k nobody) (is_false _
           (λ same. let m : number s ≡ Some k = number_at s k nobody l same in
           apart (same_Some k n (sym m ∙ e)))) in
-          let stay : subjects_after cmp [] asks ≡ subjects_after cmp [] (asks ++ t ∷ []) =
-          sym (subjects_are cmp [] asks) ∙ sym (subjects_kept t shares) ∙ ap (map (λ u. u.subject)) (sym are)
+          let stay = sym (subjects_are cmp [] asks) ∙ sym (subjects_kept t shares) ∙ ap (map (λ u. u.subject)) (sym are)
           ∙ subjects_are cmp [] (asks ++ t ∷ []) in
-          let was : side_of old ≡ limit_of here =
-          ap side_of at ∙ sym (get_or-map side_of sides n old (side_of old) i)
-          ∙ ap (λ ls. get_or ls n (side_of old)) limits ∙ get_or-map limit_of shares n nobody (side_of old) within in
+          let was = ap side_of at ∙ sym (get_or-map side_of sides n old (side_of old) i) ∙ ap
+          (λ ls. get_or ls n (side_of old)) limits ∙ get_or-map limit_of shares n nobody (side_of old) within in
           record {
             sides_are = ap (map side_of) writes ∙ map-set side_of sides n new ∙ ap (λ ls. set ls n (side_of new)) limits
                 ∙ (λ j. set (map limit_of shares) n (record {
@@ -257,10 +253,9 @@ module _ {P : Type 0} (cmp : P → P → Ordering) (o : IsTotalOrder cmp) where
       absent answer unanswered e =
           let t = ask place s answer in
           let none = none_open answer e in
-          let are : shares_after cmp [] (asks ++ t ∷ []) ≡ shares =
-          become answer false none ∙ ap (λ a. map (with_user cmp t) shares ++ opened_share cmp t [] a) unanswered
-          ∙ append-nil (map (with_user cmp t) shares)
-          ∙ none_changed (is_side_of cmp t) (with_user cmp t) shares (unchanged t) none in
+          let are = become answer false none ∙ ap (λ a. map (with_user cmp t) shares ++ opened_share cmp t [] a)
+          unanswered ∙ append-nil (map (with_user cmp t) shares) ∙ none_changed (is_side_of cmp t) (with_user cmp t)
+          shares (unchanged t) none in
           let stay : subjects_after cmp [] asks ≡ subjects_after cmp [] (asks ++ t ∷ []) =
           sym (subjects_are cmp [] asks) ∙ ap (map (λ u. u.subject)) (sym are) ∙ subjects_are cmp [] (asks ++ t ∷ []) in
           record {
@@ -283,10 +278,9 @@ module _ {P : Type 0} (cmp : P → P → Ordering) (o : IsTotalOrder cmp) where
           let are : shares_after cmp [] (asks ++ t ∷ []) ≡ shares ++ share ∷ [] =
           become answer false none ∙ ap (λ a. map (with_user cmp t) shares ++ opened_share cmp t [] a) answered
           ∙ ap (λ ss. ss ++ share ∷ []) (none_changed (is_side_of cmp t) (with_user cmp t) shares (unchanged t) none) in
-          let more : subjects_after cmp [] asks ++ s ∷ [] ≡ subjects_after cmp [] (asks ++ t ∷ []) =
-          ap (λ us. us ++ s ∷ []) (sym (subjects_are cmp [] asks))
-          ∙ sym (map-append (λ u. u.subject) shares (share ∷ []))
-          ∙ ap (map (λ u. u.subject)) (sym are) ∙ subjects_are cmp [] (asks ++ t ∷ []) in
+          let more = ap (λ us. us ++ s ∷ []) (sym (subjects_are cmp [] asks)) ∙ sym
+          (map-append (λ u. u.subject) shares (share ∷ [])) ∙ ap (map (λ u. u.subject)) (sym are) ∙ subjects_are cmp []
+          (asks ++ t ∷ []) in
           record {
             sides_are =
                 ap (map side_of) pushes ∙ map-append side_of sides (new ∷ []) ∙ ap (λ ls. ls ++ side_of new ∷ []) limits

@@ -61,13 +61,7 @@ kept_places {X} (true ∷ flags) test (x ∷ xs) =
       kept_places flags test xs,
     )
 kept_places {X} (false ∷ flags) test (x ∷ xs) =
-    grind (
-      arith,
-      common_steps,
-      places-suc 0 test xs,
-      kept_without flags (places_from 0 test xs),
-      kept_places flags test xs,
-    )
+    grind (arith, common_steps, places-suc 0 test xs, kept_without flags (places_from 0 test xs), kept_places flags test xs)
 
 -- ---- sides
 
@@ -185,9 +179,8 @@ flows_apart_are_fair_alone flags caps routes rates many apart fair =
     let sides = sides_over caps routes in
     let own =
     flows_apart_are_fair flags sides rates apart (subst (λ (n : ℕ). AreFairRates sides n rates) (sym many) fair) in
-    let same : sides_in flags sides ≡ sides_over caps (flagged flags routes) =
-    sides_apart flags routes 0 caps
-    (λ side h. All-contains (IsApart flags) sides side apart (contains_from_in sides side h)) in
+    let same = sides_apart flags routes 0 caps (λ side h. All-contains (IsApart flags) sides side apart
+    (contains_from_in sides side h)) in
     subst (λ (n : ℕ). AreFairRates (sides_over caps (flagged flags routes)) n (flagged flags rates))
     (length-flagged flags rates routes fair.one_each)
     (subst (λ (ss : List Side). AreFairRates ss (length (flagged flags rates)) (flagged flags rates)) same own)

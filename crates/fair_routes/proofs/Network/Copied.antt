@@ -105,8 +105,7 @@ module _ (caps : List (Option ℕ)) (routes : List (List ℕ)) (weights : List �
         let at = passes_here (has_link link) routes (of flow)
         (in_from_contains (users_of link routes) (of flow) (subst (λ (us : List ℕ). Contains us (of flow)) olds narrow)) in
         let same : route (of flow) ≡ at.0 = get_or_from_slice_get routes (of flow) at.0 [] at.1 in
-        let here : slice_get news flow ≡ Some (route (of flow)) =
-        slice_get-map route order flow ∙ (rw (slice_get-get_or order flow 0 lt) refl) in
+        let here = slice_get-map route order flow ∙ (rw (slice_get-get_or order flow 0 lt) refl) in
         subst (λ (us : List ℕ). Contains us flow) (sym news_are)
         (place_here (has_link link) news flow (route (of flow)) here (ap (has_link link) same ∙ at.2));
   }
@@ -124,9 +123,8 @@ module _ (caps : List (Option ℕ)) (routes : List (List ℕ)) (weights : List �
       let at = get_in routes some.0 some.1 in
       let lt : at.0 < length routes = below_length routes at.0 some.0 at.1 in
       let same : route at.0 ≡ some.0 = get_or_from_slice_get routes at.0 some.0 [] at.1 in
-      let used : list_any (has_link is.link) news ≡ true =
-      any_passes (has_link is.link) news (route at.0)
-      (in_map route order at.0 (in_from_contains order at.0 (placed at.0 lt))) (ap (has_link is.link) same ∙ some.2) in
+      let used = any_passes (has_link is.link) news (route at.0) (in_map route order at.0
+      (in_from_contains order at.0 (placed at.0 lt))) (ap (has_link is.link) same ∙ some.2) in
       let new : Side = record { cap = old.cap; users = users_of is.link news } in (
         new,
         side_listed caps news new (record { link = is.link; capped = is.capped; used = used; users = refl }),
@@ -140,8 +138,7 @@ module _ (caps : List (Option ℕ)) (routes : List (List ℕ)) (weights : List �
       let some = found (has_link is.link) news is.used in
       let i = from_map route order some.0 some.1 in
       let lt : i.0 < length routes = below i.0 (contains_from_in order i.0 i.1) in
-      let used : list_any (has_link is.link) routes ≡ true =
-      any_passes (has_link is.link) routes (route i.0) (in_get routes i.0 (route i.0) (stands i.0 lt))
+      let used = any_passes (has_link is.link) routes (route i.0) (in_get routes i.0 (route i.0) (stands i.0 lt))
       (ap (has_link is.link) i.2 ∙ some.2) in
       let old : Side = record { cap = new.cap; users = users_of is.link routes } in (
         weighted weights old,

@@ -137,8 +137,7 @@ module _ (caps : List (Option ℕ)) (routes : List (List ℕ)) (order : List ℕ
         let at = passes_here (has_link link) routes (of flow)
         (in_from_contains (users_of link routes) (of flow) (subst (λ (us : List ℕ). Contains us (of flow)) olds has)) in
         let same : route (of flow) ≡ at.0 = get_or_from_slice_get routes (of flow) at.0 [] at.1 in
-        let here : slice_get news flow ≡ Some (route (of flow)) =
-        slice_get-map route order flow ∙ (rw (slice_get-get_or order flow 0 lt) refl) in
+        let here = slice_get-map route order flow ∙ (rw (slice_get-get_or order flow 0 lt) refl) in
         subst (λ (us : List ℕ). Contains us flow) (sym are)
         (place_here (has_link link) news flow (route (of flow)) here (ap (has_link link) same ∙ at.2));
   }
@@ -151,9 +150,8 @@ module _ (caps : List (Option ℕ)) (routes : List (List ℕ)) (order : List ℕ
       let at = get_in routes some.0 some.1 in
       let lt : at.0 < length routes = below_length routes at.0 some.0 at.1 in
       let same : route at.0 ≡ some.0 = get_or_from_slice_get routes at.0 some.0 [] at.1 in
-      let used : list_any (has_link is.link) news ≡ true =
-      any_passes (has_link is.link) news (route at.0)
-      (in_map route order at.0 (in_from_contains order at.0 (placed at.0 lt))) (ap (has_link is.link) same ∙ some.2) in
+      let used = any_passes (has_link is.link) news (route at.0) (in_map route order at.0
+      (in_from_contains order at.0 (placed at.0 lt))) (ap (has_link is.link) same ∙ some.2) in
       let new : Side = record { cap = old.cap; users = users_of is.link news } in (
         new,
         side_listed caps news new (record { link = is.link; capped = is.capped; used = used; users = refl }),
@@ -168,8 +166,7 @@ module _ (caps : List (Option ℕ)) (routes : List (List ℕ)) (order : List ℕ
       let i = from_map route order some.0 some.1 in
       let lt : i.0 < length routes =
       All-contains (λ j. j < length routes) order i.0 inside (contains_from_in order i.0 i.1) in
-      let used : list_any (has_link is.link) routes ≡ true =
-      any_passes (has_link is.link) routes (route i.0) (in_get routes i.0 (route i.0) (stands i.0 lt))
+      let used = any_passes (has_link is.link) routes (route i.0) (in_get routes i.0 (route i.0) (stands i.0 lt))
       (ap (has_link is.link) i.2 ∙ some.2) in
       let old : Side = record { cap = new.cap; users = users_of is.link routes } in (
         old,
@@ -193,10 +190,8 @@ the_order_of_flows_does_not_matter caps routes rates order permuted fair =
       parts = λ flow. fair.parts (get_or order flow 0);
       fair = relabelled_fair place flows olds news are fair.per fair.parts fair.fair;
       rated = λ flow d lt.
-          let at : get_or (rates_at rates order) flow d ≡ get_or rates (get_or order flow 0) Unlimited =
-          get_or-map (λ i. get_or rates i Unlimited) order flow 0 d lt in
-          let there : get_or order flow 0 < length routes =
-          inside caps routes order permuted flow 0 lt in
+          let at = get_or-map (λ i. get_or rates i Unlimited) order flow 0 d lt in
+          let there = inside caps routes order permuted flow 0 lt in
           relabelled_rate place flows olds news are fair.per fair.parts fair.fair flow
           (get_or (rates_at rates order) flow d) lt
           (subst (IsRateOf olds fair.per fair.parts (get_or order flow 0)) (sym at)

@@ -66,8 +66,7 @@ module _ (sides : List Side) (weights : List ℕ) (rising : Rising) (found : Fai
         (λ limited. not_some (frozen flow) none ((filled.limited flow).1 limited))
     rate_by flow (Some parts) rate within some (inside, is) =
         let fraction = get_or at.fractions flow zero_ratio in
-        let worth : IsWorth fraction (parts_over found.scale (slice_index found.levels.items flow)) =
-        at.levels.worth flow zero_ratio inside in
+        let worth = at.levels.worth flow zero_ratio inside in
         let level : slice_index found.levels.items flow ≡ by_weight weights (at_level frozen 0) flow =
         omega (arith, are.level flow (omega (arith, within, filled.one_each))) in
         subst (IsRateOf sides rising.scale (by_weight weights (at_level frozen 0)) flow) (sym (is zero_ratio)) (
@@ -133,16 +132,14 @@ module _ (sides : List Side) (weights : List ℕ) (positive : (u : ℕ) → u < 
       → by_weight weights parts flow ≡ 0 → UsesClosedSide sides flow
   zero_is_closed per parts f flow limited none =
       let some = some_weight weights sides positive among limited.0 limited.1.listed flow limited.1.used in
-      let nothing : parts flow ≡ 0 =
-      eq_of_mul-eq-mul_right (weight_at weights flow) some (parts flow) 0 (omega (arith, none)) in
+      let nothing = eq_of_mul-eq-mul_right (weight_at weights flow) some (parts flow) 0 (omega (arith, none)) in
       let h = f.held flow (limited_wide weights sides positive among flow limited) in
       let users = h.side.users in
       let all_none =
       All-from_contains (λ j. parts j ≡ 0) users
       (λ j used. omega (arith, nothing, All-contains (λ j. parts j ≤ parts flow) users j h.greatest used)) in
       let empty : load parts h.side ≡ 0 = sum_by-zero parts users all_none in
-      let cap : h.side.cap ≡ 0 =
-      eq_of_mul-eq-mul_right per f.some_part h.side.cap 0 (omega (arith, empty, h.full)) in
+      let cap = eq_of_mul-eq-mul_right per f.some_part h.side.cap 0 (omega (arith, empty, h.full)) in
       let from = listed_from (weighted weights) sides h.side h.uses.listed in
       record {
         side = from.0;

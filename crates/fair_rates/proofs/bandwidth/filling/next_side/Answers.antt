@@ -30,8 +30,7 @@ returns-then-len-before-clause-least c =
     let rest = heap_items c.pop.new.self in
     let len : length new.rising.items ≡ length x.rising.items =
     grind (arith, common_steps, c.if-len-before.true, c.len.ensures, c.len-before.ensures) in
-    let slack : new.slack ≡ x.slack =
-    unchanged {P = new.slack ≡ x.slack} (length new.rising.items) (length x.rising.items)
+    let slack = unchanged {P = new.slack ≡ x.slack} (length new.rising.items) (length x.rising.items)
     c.in-Some-count_frozen.ensures.changed len in
     record {
       rise = c.in-Some-count_frozen.ensures.rise;

@@ -34,11 +34,7 @@ loop-side-preserved c = record {
       opened_without c.loop-side.yielded c.in-Some.side c.loop-side.opens.items c.loop-side.invariant.opened
       (grind (arith, common_steps, c.is_empty.ensures, c.if-not-is_empty.false));
   count =
-      omega (
-        arith,
-        c.loop-side.invariant.count,
-        length-append {A = Side} c.loop-side.yielded (c.in-Some.side ∷ []),
-      );
+      omega (arith, c.loop-side.invariant.count, length-append {A = Side} c.loop-side.yielded (c.in-Some.side ∷ []));
 }
 
 pub loop-side-preserved-else-not-is_empty : goal.loop-side-preserved-else-not-is_empty
