@@ -18,3 +18,4 @@ pub mod Settling
 pub mod SoFar
 pub mod Standing
 pub mod Starting
+pub mod Through

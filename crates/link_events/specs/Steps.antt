@@ -9,3 +9,4 @@ pub mod Outgoing
 pub mod Parting
 pub mod Standing
 pub mod Starting
+pub mod Through

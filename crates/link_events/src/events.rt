@@ -96,6 +96,9 @@ impl<P: Peer> Ledger<P> {
         if self.next_id == u64::MAX {
             return Err(Error::FlowIdsUsedUp);
         }
+        if self.next_is_unlimited(origin, recipient) {
+            return self.let_through(origin, recipient, now);
+        }
         self.depart(origin, recipient, now)?;
         self.account(now)
     }

@@ -18,3 +18,4 @@ pub mod outgoing;
 mod plans;
 mod readiness;
 mod settling;
+mod through;

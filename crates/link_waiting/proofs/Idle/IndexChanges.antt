@@ -270,6 +270,22 @@ module _ {P : Type 0} (cmp : P → P → Ordering) (order : IsTotalOrder cmp) wh
       (λ a b apart. ap (λ (w : Planned P). idle_from cmp w a b) same ∙ queued_else cmp order o r a b apart p m own)
       index changed
 
+  -- the first message of an idle pair goes, and it is told of the next one
+  pub taken_index : (pairs : List (Pair P)) (ms ns : List (Message P)) (sending : List (RatedFlight P)) (o r : P)
+      (es new : P → P → Option ℕ)
+      → PairsAlike cmp (arrival_of cmp pairs) (arrival_of cmp pairs)
+      → ns ≡ without_first (λ (n : Message P). same_peer cmp o n.origin && same_peer cmp r n.recipient) ms
+      → IsIndexOf cmp (of_pairs cmp pairs ms sending) es
+      → new ≡ with_link cmp es o r (idle_from cmp (of_pairs cmp pairs ns sending) o r)
+      → IsIndexOf cmp (of_pairs cmp pairs ns sending) new
+  taken_index pairs ms ns sending o r es new alike taken index changed =
+      let p : Planned P = of_pairs cmp pairs ms sending in
+      let q : Planned P = of_pairs cmp pairs ns sending in
+      follows cmp order p q o r es new alike
+      (λ a b apart. alike_from cmp p q a b refl
+      (ap (λ (l : List (Message P)). first_of cmp l a b) taken ∙ first_without cmp order o r a b apart ms) refl)
+      index changed
+
   -- a message joins those that wait behind one that is in flight: no idle pair is another
   pub waited_index : (pairs : List (Pair P)) (ms ns : List (Message P)) (sending : List (RatedFlight P))
       (m : Message P) (es : P → P → Option ℕ)
