@@ -19,7 +19,7 @@ use link_flights::account::is_unlimited;
 use link_pairs::message::Message;
 use link_waiting::waiting::Waiting;
 use std::collections::VecDeque;
-use std::rc::Rc;
+use std::sync::Arc;
 
 /// Takes the first message that waits for an idle pair, whose last message arrives at that moment, if one does. It is told
 /// from which moment on the next one may start.
@@ -28,7 +28,7 @@ fn take_telling<P: Peer>(
     origin: &P,
     recipient: &P,
     last_arrival: Option<u64>,
-) -> Result<Option<Rc<Message<P>>>, Error>
+) -> Result<Option<Arc<Message<P>>>, Error>
     ensures taken { IfOk result (λ taken. option_map (λ m. message_of m.value) taken
         ≡ first_of P.cmp waiting.old.messages origin.now recipient.now) }
     ensures others { OnOk result (waiting.new.messages
@@ -64,7 +64,7 @@ impl<P: Peer> Ledger<P> {
     }
 
     /// The first message that waits for the pair, which is idle, goes under the next flow id.
-    fn take_through(&mut self, origin: &P, recipient: &P) -> Result<Rc<Message<P>>, Error>
+    fn take_through(&mut self, origin: &P, recipient: &P) -> Result<Arc<Message<P>>, Error>
         requires first { FirstIsUnlimited P.cmp (planned P.cmp self.old) origin.now recipient.now }
         requires idle { is_sending P.cmp (planned P.cmp self.old) origin.now recipient.now ≡ false }
         requires id { self.old.next_id < 18446744073709551615 }
@@ -96,7 +96,7 @@ impl<P: Peer> Ledger<P> {
         origin: &P,
         recipient: &P,
         now: u64,
-    ) -> Result<VecDeque<Rc<Message<P>>>, Error>
+    ) -> Result<VecDeque<Arc<Message<P>>>, Error>
         requires first { FirstIsUnlimited P.cmp (planned P.cmp self.old) origin.now recipient.now }
         requires idle { is_sending P.cmp (planned P.cmp self.old) origin.now recipient.now ≡ false }
         requires id { self.old.next_id < 18446744073709551615 }
