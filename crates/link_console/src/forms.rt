@@ -1,5 +1,5 @@
 //! The columns of each line, and what may stand in them.
-use link_scripts::linkrun::word::Words;
+use link_commands::word::Words;
 
 /// What may stand in a column.
 #[derive(Clone, Copy)]

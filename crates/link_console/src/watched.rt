@@ -1,8 +1,8 @@
 //! A reader that tells on the way how far a run is.
 ghost use Rattle.std.specs.Prelude.{◌≡◌, ◌<◌, IfSome, length};
 
+use link_commands::command::Command;
 use link_scheduler::replay::Call;
-use link_scripts::linkrun::command::Command;
 use std::io;
 use std::io::{Read, Write};
 use std::time::{Clock, Instant};

@@ -1,17 +1,17 @@
 //! Why a line is bad.
 ghost use Rattle.std.specs.Prelude.{◌≡◌, ◌↔◌, ◌≤◌, ℕ, None, true, IsTrue, IsSome, IfSome};
 ghost use Rattle.link_console.specs.Note.{HasText};
-ghost use Rattle.link_scripts.specs.BadLines.{IsBad};
-ghost use Rattle.link_scripts.specs.Script.{line_of, IsCallOfScriptInRange};
-ghost use Rattle.link_scripts.specs.declared.linkrun.command.Command.TheVariants as commands;
+ghost use Rattle.link_commands.specs.BadLines.{IsBad};
+ghost use Rattle.link_commands.specs.Script.{line_of, IsCallOfScriptInRange};
+ghost use Rattle.link_commands.specs.declared.command.Command.TheVariants as commands;
 ghost use Rattle.link_scheduler.specs.declared.replay.Call.{Call};
 
 use crate::forms;
 use crate::forms::Kind;
 use crate::note::Note;
-use link_scripts::linkrun::command::Command;
-use link_scripts::linkrun::line::MOST_READ;
-use link_scripts::linkrun::word::Words;
+use link_commands::command::Command;
+use link_commands::line::MOST_READ;
+use link_commands::word::Words;
 
 /// Why a line of a script is bad, or `None` where it is not: it is a command's, or empty.
 ///

@@ -1,19 +1,20 @@
 //! Scripts, drawn: who sends how fast, when, and what waits.
 ghost use Rattle.std.specs.Prelude.{IfOk};
-ghost use Rattle.link_scripts.specs.Outcome.{CountsFromOne};
+ghost use Rattle.link_commands.specs.Outcome.{CountsFromOne};
 
 mod budget;
 mod follower;
 
 use follower::Follower;
+use link_commands::command::Command;
+use link_commands::line;
+use link_commands::line::LineEnd;
+use link_commands::outcome::Outcome;
 use link_drawings::drawing;
 pub use link_drawings::field::Lines;
 use link_drawings::history::History;
 pub use link_drawings::options::{Form, Options};
 pub use link_drawings::table::Table;
-use link_scripts::linkrun::command::Command;
-use link_scripts::linkrun::line::LineEnd;
-use link_scripts::linkrun::{Outcome, line};
 use std::alloc::Global;
 use std::io;
 use std::io::{BufReader, BufWriter, ErrorKind, Read, Write};

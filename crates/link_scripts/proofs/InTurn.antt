@@ -19,14 +19,14 @@ use Rattle.link_scheduler.specs.declared.replay.Reply.TheVariants as replies
 use Rattle.link_scheduler.specs.Calls.Replay.{reply_of, IsReplyTo, MayRefuseCall}
 use Rattle.link_scheduler.specs.Calls.State.{planned_of, MakesEach}
 use Rattle.link_scheduler.proofs.Calls.Replay.{answered_by_rule, refused_by_rule}
-use Rattle.link_scripts.specs.declared.linkrun.answer.Answer.{Answer}
-use Rattle.link_scripts.specs.declared.linkrun.answer.Answer.TheVariants as answers
+use Rattle.link_commands.specs.declared.answer.Answer.{Answer}
+use Rattle.link_commands.specs.declared.answer.Answer.TheVariants as answers
 use Rattle.link_scripts.specs.declared.linkrun.session.Session.{Session}
-use Rattle.link_scripts.specs.Answer.{done_line, done_text, reply_text, refusal_line, answer_text}
+use Rattle.link_commands.specs.Answer.{done_line, done_text, reply_text, refusal_line, answer_text}
 use Rattle.link_scripts.specs.Gathered.{AnswersInTurn, PrintsInTurn}
 use Rattle.link_scripts.specs.Session.{SaysSame, KeepsPlanned}
-use Rattle.link_scripts.specs.Schedule.{world_call, zeroed, zeroed_sends, AnswersEach, AnswersCall}
-use Rattle.link_scripts.proofs.Printing.{Appends-append}
+use Rattle.link_commands.specs.Schedule.{world_call, zeroed, zeroed_sends, AnswersEach, AnswersCall}
+use Rattle.link_commands.proofs.Printing.{Appends-append}
 
 -- ---- the answers
 

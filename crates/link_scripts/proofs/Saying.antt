@@ -1,7 +1,7 @@
 -- What is said stays said.
 use Rattle.std.proofs.Common.{◌∙◌, Result, Ok, Err, OnOk, OnErr}
 use Rattle.fair_rates.specs.declared.error.Error.{Error}
-use Rattle.link_scripts.specs.declared.linkrun.answer.Answer.{Answer}
+use Rattle.link_commands.specs.declared.answer.Answer.{Answer}
 use Rattle.link_scripts.specs.declared.linkrun.session.Session.{Session}
 use Rattle.link_scripts.specs.Session.{SaysSame, KeepsPlanned}
 

@@ -3,15 +3,15 @@ use Rattle.std.proofs.Common.{◌≡◌, ℕ, List, [], ◌∷◌, ◌++◌, Opt
 use Rattle.std.proofs.Common.{Result, Ok, Err, IfOk, IfErr, OnOk, OnErr, inl, inr}
 use Rattle.std.specs.Io.KnownBytes.{Appends}
 use Rattle.fair_rates.specs.declared.error.Error.{Error}
-use Rattle.link_scripts.specs.declared.linkrun.answer.Answer.{Answer}
-use Rattle.link_scripts.specs.declared.linkrun.command.Command.{Command}
-use Rattle.link_scripts.specs.declared.linkrun.command.Command.TheVariants as commands
+use Rattle.link_commands.specs.declared.answer.Answer.{Answer}
+use Rattle.link_commands.specs.declared.command.Command.{Command}
+use Rattle.link_commands.specs.declared.command.Command.TheVariants as commands
 use Rattle.link_scripts.specs.declared.linkrun.gathered.Gathered.{Gathered}
 use Rattle.link_scripts.specs.declared.linkrun.session.Session.{Session}
-use Rattle.link_scripts.specs.Answer.{answer_text, refusal_line}
+use Rattle.link_commands.specs.Answer.{answer_text, refusal_line}
 use Rattle.link_scripts.specs.Gathered.{gathered_calls, IsGathered, HasNone, PrintsInTurn, IsPerformed}
 use Rattle.link_scripts.specs.Gathered.{TakesItsTurn}
-use Rattle.link_scripts.specs.Schedule.{world_call}
+use Rattle.link_commands.specs.Schedule.{world_call}
 use Rattle.link_scripts.specs.Session.{SaysSame, KeepsPlanned, SaysAfter, AnswersTo, MayRefuseCommand}
 use Rattle.link_scripts.proofs.InTurn.{one_printed}
 

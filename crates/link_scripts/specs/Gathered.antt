@@ -3,13 +3,13 @@ use Rattle.std.specs.Prelude.{◌≡◌, ◌⊎◌, ℕ, List, [], ◌∷◌, �
 use Rattle.std.specs.Ordering.{nat_cmp}
 use Rattle.std.specs.Io.KnownBytes.{Appends}
 use Rattle.fair_rates.specs.declared.error.Error.{Error}
-use Rattle.link_scripts.specs.declared.linkrun.answer.Answer.{Answer}
-use Rattle.link_scripts.specs.declared.linkrun.command.Command.{Command}
-use Rattle.link_scripts.specs.declared.linkrun.command.Command.TheVariants as commands
+use Rattle.link_commands.specs.declared.answer.Answer.{Answer}
+use Rattle.link_commands.specs.declared.command.Command.{Command}
+use Rattle.link_commands.specs.declared.command.Command.TheVariants as commands
 use Rattle.link_scripts.specs.declared.linkrun.gathered.Gathered.{Gathered}
 use Rattle.link_scripts.specs.declared.linkrun.session.Session.{Session}
-use Rattle.link_scripts.specs.Answer.{answer_text, reply_text, refusal_line}
-use Rattle.link_scripts.specs.Schedule.{world_call, zeroed_sends}
+use Rattle.link_commands.specs.Answer.{answer_text, reply_text, refusal_line}
+use Rattle.link_commands.specs.Schedule.{world_call, zeroed_sends}
 use Rattle.link_scripts.specs.Session.{SaysSame, KeepsPlanned, SaysAfter, AnswersTo, MayRefuseCommand}
 use Rattle.link_scheduler.specs.Calls.Replay.{IsReplyTo}
 use Rattle.link_scheduler.specs.Calls.State.{planned_of}

@@ -1,10 +1,9 @@
-pub mod Answer
-pub mod BadLines
-pub mod Ending
+pub use Rattle.link_commands.specs.Answer
+pub use Rattle.link_commands.specs.BadLines
+pub use Rattle.link_commands.specs.Lines
+pub use Rattle.link_commands.specs.Outcome
+pub use Rattle.link_commands.specs.Schedule
+pub use Rattle.link_commands.specs.Script
+pub use Rattle.link_commands.specs.Words
 pub mod Gathered
-pub mod Lines
-pub mod Outcome
-pub mod Schedule
-pub mod Script
 pub mod Session
-pub mod Words

@@ -5,23 +5,23 @@ use Rattle.std.specs.BTreeMap.{get}
 use Rattle.fair_rates.specs.declared.bandwidth.Flow.{Flow}
 use Rattle.fair_rates.specs.declared.error.Error.{Error}
 use Rattle.fair_rates.specs.declared.error.Error.TheVariants.{OutOfMemory, NumberTooLarge}
-use Rattle.link_scripts.specs.declared.linkrun.answer.Answer.{Answer}
-use Rattle.link_scripts.specs.declared.linkrun.answer.Answer.TheVariants as answers
-use Rattle.link_scripts.specs.declared.linkrun.command.Command.{Command}
-use Rattle.link_scripts.specs.declared.linkrun.command.Command.TheVariants as commands
+use Rattle.link_commands.specs.declared.answer.Answer.{Answer}
+use Rattle.link_commands.specs.declared.answer.Answer.TheVariants as answers
+use Rattle.link_commands.specs.declared.command.Command.{Command}
+use Rattle.link_commands.specs.declared.command.Command.TheVariants as commands
 use Rattle.link_scripts.specs.declared.linkrun.session.Session.{Session}
 use Rattle.fair_rates.specs.Sides.Caps.{Caps}
 use Rattle.link_pairs.specs.Pairs.Entries.{pair_cmp}
 use Rattle.fair_rates.specs.Fairness.UnderCaps.{IsFairById}
-use Rattle.link_scripts.specs.Schedule.{world_call, AnswersCall}
+use Rattle.link_commands.specs.Schedule.{world_call, AnswersCall}
 use Rattle.link_scheduler.specs.Calls.Replay.{MayRefuseCall}
 use Rattle.link_scheduler.specs.Calls.State.{planned_of}
 use Rattle.fair_rates.specs.Refusals.TooLarge.{AreTooLarge}
 use Rattle.std.specs.Int.NonZero.{non_zero_u64_get}
 use Rattle.fair_routes.specs.Network.Told.{IsToldTheSame, IsToldLink, IsToldCap, IsToldWeight, AreRatesTold, MayRefuseTold}
 use Rattle.fair_routes.specs.declared.routes.network.Network.{Network}
-use Rattle.link_scripts.specs.declared.linkrun.command.NetworkLine.{NetworkLine}
-use Rattle.link_scripts.specs.declared.linkrun.command.NetworkLine.TheVariants as lines
+use Rattle.link_commands.specs.declared.command.NetworkLine.{NetworkLine}
+use Rattle.link_commands.specs.declared.command.NetworkLine.TheVariants as lines
 
 -- the cap on what a peer sends
 abbrev pub said_egress : Session → ℕ → Option ℕ

@@ -15,10 +15,10 @@ use Rattle.link_scheduler.specs.declared.replay.Reply as reply_code
 use Rattle.link_scheduler.specs.declared.replay.Reply.TheVariants as replies
 use Rattle.link_scheduler.specs.Calls.Replay.{reply_of}
 use Rattle.link_scheduler.specs.Calls.State.{planned_of, Makes, MakesEach}
-use Rattle.link_scripts.specs.Answer.{reply_text}
-use Rattle.link_scripts.specs.Schedule.{world_call, zeroed, zeroed_sends, AnswersEach}
-use Rattle.link_scripts.specs.Script.{line_of, IsCallOfScriptInRange}
-use Rattle.link_scripts.specs.declared.linkrun.command.Command.TheVariants as commands
+use Rattle.link_commands.specs.Answer.{reply_text}
+use Rattle.link_commands.specs.Schedule.{world_call, zeroed, zeroed_sends, AnswersEach}
+use Rattle.link_commands.specs.Script.{line_of, IsCallOfScriptInRange}
+use Rattle.link_commands.specs.declared.command.Command.TheVariants as commands
 use Rattle.link_simulation.proofs.Simulation.QuietInstants.{next_is_later}
 use Rattle.link_simulation.specs.Rule.Planned.{Planned, new_planned}
 use Rattle.link_simulation.specs.Rule.Refusals.{Obeyed}

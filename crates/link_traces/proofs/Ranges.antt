@@ -3,8 +3,8 @@ use Rattle.std.proofs.Common.{◌≡◌, ℕ, ◌^◌, ◌<◌, ◌≤◌, List,
 use Rattle.std.proofs.lemmas.List.Elements.{All-head, All-tail}
 use Rattle.link_scheduler.specs.declared.replay.Call.{Call}
 use Rattle.link_scheduler.specs.declared.replay.Call.TheVariants as calls
-use Rattle.link_scripts.specs.Schedule.{world_call}
-use Rattle.link_scripts.specs.Script.{IsCallOfScriptInRange}
+use Rattle.link_commands.specs.Schedule.{world_call}
+use Rattle.link_commands.specs.Script.{IsCallOfScriptInRange}
 use Rattle.link_simulation.specs.Laws.Isolation.{InTime}
 use Rattle.link_simulation.specs.Simulation.Calls.{moment_of}
 use Rattle.link_simulation.specs.Simulation.World.{last_moment}

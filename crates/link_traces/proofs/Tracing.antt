@@ -10,9 +10,9 @@ use Rattle.std.specs.Ordering.{nat_cmp}
 use Rattle.link_scheduler.specs.Calls.Replay.{IsReplyTo}
 use Rattle.link_scheduler.specs.Calls.State.{planned_of}
 use Rattle.link_scheduler.specs.declared.replay.Call as script
-use Rattle.link_scripts.specs.Answer.{reply_text}
-use Rattle.link_scripts.specs.Schedule.{world_call}
-use Rattle.link_scripts.specs.Script.{IsCallOfScriptInRange}
+use Rattle.link_commands.specs.Answer.{reply_text}
+use Rattle.link_commands.specs.Schedule.{world_call}
+use Rattle.link_commands.specs.Script.{IsCallOfScriptInRange}
 use Rattle.link_simulation.proofs.Rule.Agreeing.{obeyed_agree}
 use Rattle.link_simulation.specs.Rule.Planned.{Planned, new_planned}
 use Rattle.link_simulation.specs.Rule.Refusals.{Obeyed}
@@ -28,8 +28,8 @@ use Rattle.std.specs.Option.{unwrap_or}
 use Rattle.link_traces.specs.declared.linkcheck.Fault.{Fault}
 use Rattle.link_traces.specs.declared.linkcheck.Turns.TheVariants.{InTurn}
 use Rattle.link_traces.specs.Lines.{taken}
-use Rattle.link_scripts.specs.declared.linkrun.line.LineEnd.{LineEnd}
-use Rattle.link_scripts.specs.declared.linkrun.line.LineEnd.TheVariants.{Newline, Input, TooLong}
+use Rattle.link_commands.specs.declared.line.LineEnd.{LineEnd}
+use Rattle.link_commands.specs.declared.line.LineEnd.TheVariants.{Newline, Input, TooLong}
 use Rattle.link_traces.specs.declared.linkcheck.report.Report.{Report}
 use Rattle.link_traces.specs.Checker.{IsUnderway, IsTakenOf, GoesOn}
 use Rattle.link_traces.specs.Progress.{due, IsTold}

@@ -1,7 +1,7 @@
 -- How the lines of a trace are read.
 use Rattle.std.specs.Prelude.{ℕ, List, [], ◌∷◌, ◌++◌}
-use Rattle.link_scripts.specs.declared.linkrun.line.LineEnd.{LineEnd}
-use Rattle.link_scripts.specs.declared.linkrun.line.LineEnd.TheVariants.{Newline, Input, TooLong}
+use Rattle.link_commands.specs.declared.line.LineEnd.{LineEnd}
+use Rattle.link_commands.specs.declared.line.LineEnd.TheVariants.{Newline, Input, TooLong}
 
 -- the bytes that a line and its end take
 abbrev pub taken : LineEnd → List ℕ → List ℕ

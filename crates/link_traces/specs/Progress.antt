@@ -4,8 +4,8 @@ use Rattle.std.specs.List.{flat_map}
 use Rattle.std.specs.Ordering.{nat_cmp}
 use Rattle.link_scheduler.specs.declared.replay.Call as script
 use Rattle.link_scheduler.specs.Calls.State.{planned_of}
-use Rattle.link_scripts.specs.Schedule.{world_call}
-use Rattle.link_scripts.specs.Script.{IsCallOfScriptInRange}
+use Rattle.link_commands.specs.Schedule.{world_call}
+use Rattle.link_commands.specs.Script.{IsCallOfScriptInRange}
 use Rattle.link_simulation.specs.Rule.Planned.{new_planned}
 use Rattle.link_simulation.specs.Rule.Refusals.{Obeyed}
 use Rattle.link_simulation.specs.Rule.StandsFor.{StandsFor}

@@ -5,10 +5,10 @@ use Rattle.std.specs.Option.{unwrap_or}
 use Rattle.std.specs.Prelude.{Option, None, Some, Result, Ok, Err}
 use Rattle.std.specs.Ordering.{nat_cmp}
 use Rattle.link_scheduler.specs.declared.replay.Call.{Call}
-use Rattle.link_scripts.specs.declared.linkrun.command.Command.TheVariants as commands
-use Rattle.link_scripts.specs.Answer.{reply_text}
-use Rattle.link_scripts.specs.Schedule.{world_call}
-use Rattle.link_scripts.specs.Script.{line_of, IsCallOfScriptInRange}
+use Rattle.link_commands.specs.declared.command.Command.TheVariants as commands
+use Rattle.link_commands.specs.Answer.{reply_text}
+use Rattle.link_commands.specs.Schedule.{world_call}
+use Rattle.link_commands.specs.Script.{line_of, IsCallOfScriptInRange}
 use Rattle.link_traces.specs.declared.linkcheck.Fault.{Fault}
 use Rattle.link_traces.specs.declared.linkcheck.Fault.TheVariants as faults
 use Rattle.link_traces.specs.declared.linkcheck.report.Report.{Report}

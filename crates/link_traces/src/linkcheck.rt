@@ -21,7 +21,7 @@ mod tolerance;
 use crate::linkcheck::batch::{Batch, Sent};
 use crate::linkcheck::checker::Checker;
 use crate::linkcheck::report::{Report, Verdict};
-use link_scripts::linkrun::line::{LineEnd, MOST_READ};
+use link_commands::line::{LineEnd, MOST_READ};
 use std::alloc::Global;
 use std::io::{BufRead, BufReader, Read, Write};
 use std::{fmt, io};

@@ -1,7 +1,7 @@
 -- How the run of a script ends for C.
 use Rattle.std.specs.Prelude.{◌≡◌, ◌↔◌, ℕ, ◌<◌, ◌≤◌}
-use Rattle.link_scripts.specs.declared.linkrun.Outcome.{Outcome}
-use Rattle.link_scripts.specs.declared.linkrun.Outcome.TheVariants.{Whole, BadLine, InputOutput, NoMemory}
+use Rattle.link_commands.specs.declared.outcome.Outcome.{Outcome}
+use Rattle.link_commands.specs.declared.outcome.Outcome.TheVariants.{Whole, BadLine, InputOutput, NoMemory}
 
 -- the number of the bad line, or 0 where there is none
 abbrev pub bad_line_of : Outcome → ℕ

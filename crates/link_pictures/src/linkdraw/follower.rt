@@ -2,14 +2,14 @@
 
 use super::budget::Budget;
 use fair_rates::error::Error;
+use link_commands::command::Command;
+use link_commands::fill::fill;
 use link_drawings::caps::Side;
 use link_drawings::history::History;
 use link_drawings::options::Options;
 use link_drawings::track::{FullRate, Seen};
 use link_scheduler::replay::{Call, Reply};
 use link_scheduler::transmitter::{Completion, Contents, InFlight, Outgoing, State};
-use link_scripts::linkrun::command::Command;
-use link_scripts::linkrun::fill::fill;
 use std::alloc::Global;
 
 /// A script that is followed up to a moment: its scheduler, and what happened.

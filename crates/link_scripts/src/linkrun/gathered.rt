@@ -3,9 +3,9 @@ ghost use Rattle.std.specs.Prelude.{◌≡◌, ◌⊎◌, false, [], IsTrue, OnO
 ghost use Rattle.link_scripts.specs.Gathered.{gathered_calls, IsGathered, HasNone, PrintsInTurn, TakesItsTurn};
 ghost use Rattle.link_scripts.specs.Session.{SaysSame};
 
-use crate::linkrun::answer;
-use crate::linkrun::command::Command;
 use crate::linkrun::session::Session;
+use link_commands::answer;
+use link_commands::command::Command;
 use link_scheduler::replay::Call;
 use link_scheduler::transmitter::Outgoing;
 use std::alloc::Global;

@@ -1,10 +1,10 @@
 //! The calls that a trace asks.
 ghost use Rattle.std.specs.Prelude.{◌≡◌, ◌++◌, ◌∷◌, IfSome};
-ghost use Rattle.link_scripts.specs.Script.{line_of, IsCallOfScriptInRange};
-ghost use Rattle.link_scripts.specs.declared.linkrun.command.Command.TheVariants as commands;
+ghost use Rattle.link_commands.specs.Script.{line_of, IsCallOfScriptInRange};
+ghost use Rattle.link_commands.specs.declared.command.Command.TheVariants as commands;
 
+use link_commands::command::Command;
 use link_scheduler::replay::Call;
-use link_scripts::linkrun::command::Command;
 
 /// The call that a line asks.
 pub(crate) fn call(line: &[u8]) -> Option<Call<u64, usize>>

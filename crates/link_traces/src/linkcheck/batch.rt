@@ -3,7 +3,7 @@
 ghost use Rattle.std.specs.Prelude.{◌≡◌, ◌++◌, ◌∷◌, All, [], None, false, drop, IsTrue, IfSome};
 ghost use Rattle.link_scheduler.specs.Calls.Replay.{reply_of};
 ghost use Rattle.link_simulation.specs.Simulation.Replies.{reply_done};
-ghost use Rattle.link_scripts.specs.Script.{IsCallOfScriptInRange};
+ghost use Rattle.link_commands.specs.Script.{IsCallOfScriptInRange};
 ghost use Rattle.link_traces.specs.Batches.{batch_calls, IsFront};
 
 use crate::linkcheck::asked;

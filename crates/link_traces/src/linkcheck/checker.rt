@@ -1,7 +1,7 @@
 //! A trace on its way: line after line is compared with what the simulation answers.
 ghost use Rattle.std.specs.Prelude.{◌≡◌, ◌<◌, ◌≤◌, ◌++◌, ◌∷◌, ℕ, All, List, [], None, Ok, IfOk, IfSome};
 ghost use Rattle.std.specs.Prelude.{vec_len};
-ghost use Rattle.link_scripts.specs.Script.{IsCallOfScriptInRange};
+ghost use Rattle.link_commands.specs.Script.{IsCallOfScriptInRange};
 ghost use Rattle.link_traces.specs.Batches.{batch_calls, batch_lines};
 ghost use Rattle.link_traces.specs.Checker.{IsUnderway, IsSameTrace, GoesOn};
 ghost use Rattle.link_traces.specs.Progress.{due};

@@ -1,7 +1,7 @@
 //! Calls out of turn.
 ghost use Rattle.std.specs.Prelude.{◌≡◌, ◌<◌, ◌≤◌, IfSome, MatchOption};
 ghost use Rattle.link_scheduler.specs.Calls.Replay.{reply_of};
-ghost use Rattle.link_scripts.specs.Schedule.{world_call};
+ghost use Rattle.link_commands.specs.Schedule.{world_call};
 ghost use Rattle.link_traces.specs.Turns.{IsTimely, reached_after};
 
 use link_scheduler::replay::{Call, Reply};

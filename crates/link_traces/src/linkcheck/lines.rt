@@ -2,10 +2,10 @@
 ghost use Rattle.std.specs.Prelude.{◌≡◌, ◌++◌, ◌∷◌, [], Ok, None, true, false, IfOk, option_to_list};
 ghost use Rattle.std.specs.Io.Buffered.{reader_buffer, reader_inner, reader_capacity, reader_remaining};
 ghost use Rattle.std.specs.Io.KnownBytes.{Consumes, IsAtEnd};
-ghost use Rattle.link_scripts.specs.declared.linkrun.line.LineEnd.TheVariants.{Input};
+ghost use Rattle.link_commands.specs.declared.line.LineEnd.TheVariants.{Input};
 ghost use Rattle.link_traces.specs.Lines.{taken};
 
-use link_scripts::linkrun::line::{LineEnd, MOST_READ};
+use link_commands::line::{LineEnd, MOST_READ};
 use std::io;
 use std::io::{BufRead, BufReader, ErrorKind, Read};
 

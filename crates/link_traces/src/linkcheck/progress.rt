@@ -5,8 +5,8 @@ ghost use Rattle.std.specs.Prelude.{drop, length, false, IsTrue, IfOk, IfSome, O
 ghost use Rattle.std.specs.Ordering.{nat_cmp};
 ghost use Rattle.link_scheduler.specs.Calls.Replay.{reply_of, IsReplyTo};
 ghost use Rattle.link_scheduler.specs.Calls.State.{planned_of};
-ghost use Rattle.link_scripts.specs.Schedule.{world_call};
-ghost use Rattle.link_scripts.specs.Script.{IsCallOfScriptInRange};
+ghost use Rattle.link_commands.specs.Schedule.{world_call};
+ghost use Rattle.link_commands.specs.Script.{IsCallOfScriptInRange};
 ghost use Rattle.link_simulation.specs.Rule.StandsFor.{StandsFor};
 ghost use Rattle.link_simulation.specs.Simulation.Calls.{IsInTurn, call_enqueue};
 ghost use Rattle.link_simulation.specs.Simulation.Messages.{Message};
@@ -22,10 +22,10 @@ use crate::linkcheck::in_turn::OutOfTurn;
 use crate::linkcheck::lines::NEWLINE;
 use crate::linkcheck::{Fault, in_turn};
 use fair_rates::error::Error;
+use link_commands::fill::fill;
+use link_commands::{answer, schedule};
 use link_scheduler::replay::{Call, Reply};
 use link_scheduler::transmitter::{Contents, State};
-use link_scripts::linkrun::fill::fill;
-use link_scripts::linkrun::{answer, schedule};
 use std::alloc::Global;
 
 /// The simulation, and what of its answers the trace has said.

@@ -1,5 +1,5 @@
 //! The lines that answer a call.
-use link_scripts::linkrun::word::Words;
+use link_commands::word::Words;
 
 /// What a line answers. Moments are in nanoseconds since the start.
 #[derive(Clone, Copy, PartialEq, Eq)]

@@ -1,7 +1,7 @@
 //! The tolerance of a trace.
 ghost use Rattle.std.specs.Prelude.{◌≡◌, ◌++◌, IfOk, IfSome, codes, decimal};
 
-use link_scripts::linkrun::word::Words;
+use link_commands::word::Words;
 use std::alloc::Global;
 use std::io;
 use std::io::Write;

@@ -1,6 +1,6 @@
 use Rattle.std.proofs.Common.{◌≡◌, Option, Some, None}
-use Rattle.link_scripts.specs.declared.linkrun.command.Command.{Command}
-use Rattle.link_scripts.specs.declared.linkrun.command.Command.TheVariants as commands
+use Rattle.link_commands.specs.declared.command.Command.{Command}
+use Rattle.link_commands.specs.declared.command.Command.TheVariants as commands
 use Rattle.link_console.proofs.why.is_call.Goals as goal
 
 pub returns-in-Some : goal.returns-in-Some

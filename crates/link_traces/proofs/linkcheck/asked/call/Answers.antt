@@ -1,5 +1,5 @@
 use Rattle.std.proofs.Common.{rules, ◌≡◌, Some}
-use Rattle.link_scripts.specs.declared.linkrun.command.Command.TheVariants as commands
+use Rattle.link_commands.specs.declared.command.Command.TheVariants as commands
 use Rattle.link_traces.proofs.linkcheck.asked.call.Goals as goal
 
 pub returns-in-Some-Schedule : goal.returns-in-Some-Schedule

@@ -4,7 +4,7 @@ use Rattle.link_events.specs.declared.outgoing.Outgoing.{Outgoing}
 use Rattle.link_simulation.specs.Simulation.Calls.{Call}
 use Rattle.link_scheduler.specs.declared.replay.Call.TheVariants as calls
 use Rattle.link_scripts.specs.Gathered.{PrintsInTurn}
-use Rattle.link_scripts.specs.Schedule.{zeroed_sends}
+use Rattle.link_commands.specs.Schedule.{zeroed_sends}
 use Rattle.link_scripts.proofs.InTurn.{sends-append, one_printed}
 use Rattle.link_scripts.proofs.Saying.{says_same_on, says_same_after_call}
 use Rattle.link_scripts.proofs.linkrun.gathered.Gathered.send_each.Goals as goal

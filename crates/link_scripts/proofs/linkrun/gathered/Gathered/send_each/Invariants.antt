@@ -1,6 +1,6 @@
 use Rattle.std.proofs.Common.{take}
 use Rattle.link_scripts.specs.Gathered.{PrintsInTurn}
-use Rattle.link_scripts.specs.Schedule.{zeroed_sends}
+use Rattle.link_commands.specs.Schedule.{zeroed_sends}
 use Rattle.link_scripts.specs.Session.{SaysSame}
 use Rattle.link_scripts.proofs.linkrun.gathered.Gathered.send_each.Given as goal
 

@@ -1,5 +1,5 @@
 use Rattle.std.proofs.Common.{All}
-use Rattle.link_scripts.specs.Script.{IsCallOfScriptInRange}
+use Rattle.link_commands.specs.Script.{IsCallOfScriptInRange}
 use Rattle.link_traces.specs.Batches.{batch_calls, IsFront}
 use Rattle.link_traces.proofs.linkcheck.batch.Batch.gather.Given as goal
 

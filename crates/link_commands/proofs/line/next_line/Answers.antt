@@ -1,0 +1,14 @@
+use Rattle.std.proofs.Common.{◌≡◌, ◌++◌, ◌∷◌, ◌+◌, drop, subst, rules, IfSome}
+use Rattle.std.specs.Io.Buffered.{reader_buffer}
+use Rattle.link_commands.specs.Lines.{IsLineAhead}
+use Rattle.link_commands.proofs.Reading.{front_of_ahead}
+use Rattle.link_commands.proofs.line.next_line.Goals as goal
+
+pub returns-then-length-le-MOST_BYTES-clause-front : goal.returns-then-length-le-MOST_BYTES-clause-front
+returns-then-length-le-MOST_BYTES-clause-front g c =
+    let old = reader_buffer c.args.input.now in
+    let ahead : IsLineAhead old c.in-Some.length =
+    subst (λ a. IfSome a (IsLineAhead old)) c.in-Some.is c.requires in
+    let cut : old ≡ c.extend_from_slice.new.self.items ++ 10 ∷ drop (c.in-Some.length + 1) old =
+    search (rules, ahead.cut) in
+    front_of_ahead _ _ _ _ _ cut

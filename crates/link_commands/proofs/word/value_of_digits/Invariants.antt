@@ -1,0 +1,7 @@
+use Rattle.std.proofs.Common.{◌^◌, ◌<◌}
+use Rattle.link_commands.proofs.Digits.{AreRead}
+use Rattle.link_commands.proofs.word.value_of_digits.Given as goal
+
+-- the digits so far are read
+abbrev pub invariant-loop-byte : goal.invariant-loop-byte
+invariant-loop-byte l = AreRead l.word l.byte-index l.number × (l.number < 2 ^ 64)

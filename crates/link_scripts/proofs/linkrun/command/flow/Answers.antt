@@ -1,7 +1,0 @@
-use Rattle.link_scripts.proofs.Wording.{takes_flow}
-use Rattle.link_scripts.proofs.linkrun.command.flow.Goals as goal
-
-pub returns : goal.returns
-returns c =
-    takes_flow _ _ _ _ _ _ _ _ _ c.in_ok-number.ensures c.in_ok-number-2.ensures c.in_ok-number-3.ensures
-    c.in_ok-flag.ensures

@@ -1,7 +1,0 @@
--- Lines that are put together from their ends.
-use Rattle.std.specs.Prelude.{ℕ, List, drop}
-use Rattle.link_scripts.specs.declared.linkrun.ending.Ending.{Ending}
-
--- what stands of the line
-abbrev pub ending_text : Ending → List ℕ
-ending_text e = drop e.start e.bytes
