@@ -30,8 +30,7 @@ module _ {E I L : Type 0} (egress : Calls E ℕ) (ingress : Calls I ℕ) (link :
 
   -- what a call answered is fair under the caps
   pub rates_if_ok : {X R : Type 0} (rate_of : X → ℕ → Option Rate) (answer : Result X R) (listed flows : List (Flow ℕ))
-      → listed ≡ flows
-      → IfOk answer (λ x. IsFairUnderCaps nat_cmp egress ingress link First listed (rate_of x))
+      → listed ≡ flows → IfOk answer (λ x. IsFairUnderCaps nat_cmp egress ingress link First listed (rate_of x))
       → IfOk answer (λ x. IsFairById nat_cmp under flows (rate_of x))
   rates_if_ok rate_of (Err r) listed flows same h = tt
   rates_if_ok rate_of (Ok x) listed flows same h =

@@ -441,22 +441,17 @@ weighing_of x = commands.Network (lines.Weight x.0 x.1)
 
 only_hop : AreOfName (codes "hop") hop_of
 only_hop (commands.Network (lines.Hop flow link)) ws rest range said = ((flow, link), refl)
-only_hop (commands.Flow f) ws rest range said =
-    absurd (apart (codes "hop") (codes "flow") ws _ refl said)
-only_hop (commands.Egress peer cap) ws rest range said =
-    absurd (apart (codes "hop") (codes "egress") ws _ refl said)
-only_hop (commands.Ingress peer cap) ws rest range said =
-    absurd (apart (codes "hop") (codes "ingress") ws _ refl said)
+only_hop (commands.Flow f) ws rest range said = absurd (apart (codes "hop") (codes "flow") ws _ refl said)
+only_hop (commands.Egress peer cap) ws rest range said = absurd (apart (codes "hop") (codes "egress") ws _ refl said)
+only_hop (commands.Ingress peer cap) ws rest range said = absurd (apart (codes "hop") (codes "ingress") ws _ refl said)
 only_hop (commands.Link origin recipient cap) ws rest range said =
     absurd (apart (codes "hop") (codes "link") ws _ refl said)
-only_hop commands.Rates ws rest range said =
-    absurd (apart (codes "hop") (codes "rates") ws _ refl said)
+only_hop commands.Rates ws rest range said = absurd (apart (codes "hop") (codes "rates") ws _ refl said)
 only_hop (commands.Network (lines.Cap at cap)) ws rest range said =
     absurd (apart (codes "hop") (codes "cap") ws _ refl said)
 only_hop (commands.Network (lines.Weight flow weight)) ws rest range said =
     absurd (apart (codes "hop") (codes "weight") ws _ refl said)
-only_hop commands.Routes ws rest range said =
-    absurd (apart (codes "hop") (codes "routes") ws _ refl said)
+only_hop commands.Routes ws rest range said = absurd (apart (codes "hop") (codes "routes") ws _ refl said)
 only_hop (commands.Schedule (calls.Limit now peer egress ingress)) ws rest range said =
     absurd (apart (codes "hop") (codes "limit") ws _ refl said)
 only_hop (commands.Schedule (calls.LimitLink now origin recipient cap)) ws rest range said =
@@ -466,27 +461,23 @@ only_hop (commands.Schedule (calls.Enqueue now origin recipient channel length l
 only_hop (commands.Schedule (calls.EnqueueAll now messages)) ws rest range said = absurd range
 only_hop (commands.Schedule (calls.Advance now)) ws rest range said =
     absurd (apart (codes "hop") (codes "advance") ws _ refl said)
-only_hop (commands.Schedule calls.Next) ws rest range said =
-    absurd (apart (codes "hop") (codes "next") ws _ refl said)
+only_hop (commands.Schedule calls.Next) ws rest range said = absurd (apart (codes "hop") (codes "next") ws _ refl said)
 
 only_weight : AreOfName (codes "weight") weighing_of
 only_weight (commands.Network (lines.Weight flow weight)) ws rest range said = ((flow, weight), refl)
-only_weight (commands.Flow f) ws rest range said =
-    absurd (apart (codes "weight") (codes "flow") ws _ refl said)
+only_weight (commands.Flow f) ws rest range said = absurd (apart (codes "weight") (codes "flow") ws _ refl said)
 only_weight (commands.Egress peer cap) ws rest range said =
     absurd (apart (codes "weight") (codes "egress") ws _ refl said)
 only_weight (commands.Ingress peer cap) ws rest range said =
     absurd (apart (codes "weight") (codes "ingress") ws _ refl said)
 only_weight (commands.Link origin recipient cap) ws rest range said =
     absurd (apart (codes "weight") (codes "link") ws _ refl said)
-only_weight commands.Rates ws rest range said =
-    absurd (apart (codes "weight") (codes "rates") ws _ refl said)
+only_weight commands.Rates ws rest range said = absurd (apart (codes "weight") (codes "rates") ws _ refl said)
 only_weight (commands.Network (lines.Hop flow link)) ws rest range said =
     absurd (apart (codes "weight") (codes "hop") ws _ refl said)
 only_weight (commands.Network (lines.Cap at cap)) ws rest range said =
     absurd (apart (codes "weight") (codes "cap") ws _ refl said)
-only_weight commands.Routes ws rest range said =
-    absurd (apart (codes "weight") (codes "routes") ws _ refl said)
+only_weight commands.Routes ws rest range said = absurd (apart (codes "weight") (codes "routes") ws _ refl said)
 only_weight (commands.Schedule (calls.Limit now peer egress ingress)) ws rest range said =
     absurd (apart (codes "weight") (codes "limit") ws _ refl said)
 only_weight (commands.Schedule (calls.LimitLink now origin recipient cap)) ws rest range said =

@@ -37,8 +37,7 @@ decimal_after : (n : ℕ) (ds : List ℕ) → 0 < n → AllDigits 10 ds → digi
     → decimal (digits_value_after 10 n ds) ≡ decimal n ++ ds
 decimal_after n [] above all small = sym (append-nil (decimal n))
 decimal_after n (c ∷ cs) above all small =
-    decimal_after (n * 10 + digit_value c) cs (omega arith) all.1 small
-    ∙ ap (λ front. front ++ cs)
+    decimal_after (n * 10 + digit_value c) cs (omega arith) all.1 small ∙ ap (λ front. front ++ cs)
     (decimal_more n c above all.0 (omega (arith, value_after-ge (n * 10 + digit_value c) cs)))
     ∙ append_assoc (decimal n) (c ∷ []) cs
 
@@ -53,8 +52,7 @@ decimal-digits_value (c ∷ d ∷ ds) all some plain small =
     let glyph = glyph_of_value c all.0 in
     let other : c ≡ 48 → ⊥ = λ zero. omega (arith, plain zero) in
     let above : 0 < 0 * 10 + digit_value c = omega arith in
-    decimal_after (0 * 10 + digit_value c) (d ∷ ds) above all.1 small
-    ∙ ap (λ front. front ++ (d ∷ ds))
+    decimal_after (0 * 10 + digit_value c) (d ∷ ds) above all.1 small ∙ ap (λ front. front ++ (d ∷ ds))
     (ap decimal (zero-add (digit_value c)) ∙ decimal_digit (digit_value c) all.0 ∙ ap (λ b. b ∷ []) glyph)
 
 -- a number above zero begins with another digit than zero, and zero has one digit
@@ -104,8 +102,7 @@ no_zero_in_front word n small zero several is =
 
 -- what a word without a sign and without a zero in front is parsed to
 pub parsed : {E : Type 0} (word : List ℕ) (r : Result ℕ E) → ParsesUnsigned 128 10 word r → (get_or word 0 0 ≡ 43 → ⊥)
-    → (get_or word 0 0 ≡ 48 → length word ≤ 1)
-    → (n : ℕ) → (result_ok r ≡ Some n) ↔ ((word ≡ decimal n) × (n < 2 ^ 128))
+    → (get_or word 0 0 ≡ 48 → length word ≤ 1) → (n : ℕ) → (result_ok r ≡ Some n) ↔ ((word ≡ decimal n) × (n < 2 ^ 128))
 parsed {E} word (Ok x) h sign plain n =
     let own = parse_plain (numerals_by_value (AllDigits 10) tells_digits) {E = E} 128 word (Ok x) h sign in
     let spelled : decimal x ≡ word =
@@ -141,12 +138,10 @@ spelled word None h some plain n = (
 )
 
 -- bytes that are no text are no number
-pub unless_text : (word : List ℕ) → ¬ (IsUtf8 word) → (n : ℕ)
-    → (None ≡ Some n) ↔ ((word ≡ decimal n) × (n < 2 ^ 128))
+pub unless_text : (word : List ℕ) → ¬ (IsUtf8 word) → (n : ℕ) → (None ≡ Some n) ↔ ((word ≡ decimal n) × (n < 2 ^ 128))
 unless_text word is_none n = (
   (λ e. absurd (cc)),
   λ is. absurd
-      (is_none
-      (subst IsUtf8 (sym is.0)
+      (is_none (subst IsUtf8 (sym is.0)
       (IsUtf8-from_ascii (decimal n) (IsAscii-from_digits (decimal n) (digits_of_number n is.1))))),
 )

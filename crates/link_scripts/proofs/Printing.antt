@@ -64,8 +64,7 @@ done_text-push completions c =
 -- the line of the next completion, after those so far
 pub next_done : (before between after : Option (List ℕ)) (done more : List (Completion ℕ (List ℕ))) (c : Completion ℕ (List ℕ))
     → more ≡ done ++ c ∷ [] → Appends before between (done_text (map completed_of done))
-    → Appends between after (done_line (completed_of c))
-    → Appends before after (done_text (map completed_of more))
+    → Appends between after (done_line (completed_of c)) → Appends before after (done_text (map completed_of more))
 next_done before between after done more c is h k =
     let text =
     ap (λ l. done_text (map completed_of l)) is ∙ ap done_text (map-append completed_of done (c ∷ []))

@@ -67,12 +67,10 @@ one_line read line Newline stops cut =
 one_line read line Input stops cut = λ k d low.
     let same : get_or line k d ≡ get_or read k 0 =
     ap (λ bytes. get_or bytes k d) cut.0 ∙ get_or_default read k d 0 (omega (arith, ap length cut.0)) in
-    λ is. ⊎_elim
-    (λ front. stops k 0 (omega (arith, length-take (length read - 1) read))
+    λ is. ⊎_elim (λ front. stops k 0 (omega (arith, length-take (length read - 1) read))
     (get_or-take (length read - 1) read k 0 front ∙ sym same ∙ is))
     (λ end. let at : k ≡ length read - 1 = omega (arith, ap length cut.0) in
-    cut.1 (ap (λ n. get_or read n 0) (sym at) ∙ sym same ∙ is))
-    (cases_lt k (length read - 1))
+    cut.1 (ap (λ n. get_or read n 0) (sym at) ∙ sym same ∙ is)) (cases_lt k (length read - 1))
 one_line read line TooLong stops cut = absurd cut
 
 module _ (bytes read line : List ℕ) (is_read : read ≡ take_through 10 (take 257 bytes)) where
@@ -115,13 +113,10 @@ first_line bytes (Some n) (first, end) =
       within = first.high;
       one_line = λ k d low.
           let below : k < n = omega (arith, low, length-take n bytes) in
-          λ is. first.before k (omega arith) below
-          (eq-eqb (get_or bytes k 0) 10
+          λ is. first.before k (omega arith) below (eq-eqb (get_or bytes k 0) 10
           (sym (get_or-take n bytes k 0 below) ∙ sym (get_or_default (take n bytes) k d 0 low) ∙ is));
       cut =
-          sym (take-append-drop n bytes)
-          ∙ ap (λ rest. take n bytes ++ rest)
-          (drop_more bytes n 0 first.high
+          sym (take-append-drop n bytes) ∙ ap (λ rest. take n bytes ++ rest) (drop_more bytes n 0 first.high
           ∙ ap (λ b. b ∷ drop (n + 1) bytes) (eqb-true (get_or bytes n 0) 10 end));
     }
 
@@ -137,8 +132,7 @@ no_line bytes (Some n) first = tt
 
 -- a line that was read ahead stands in front of all that is left
 pub front_of_ahead : (unbuffered : Bool) (behind : Option (List ℕ)) (ahead line rest : List ℕ)
-    → ahead ≡ line ++ 10 ∷ rest
-    → IfSome (cond unbuffered None (prepend_known ahead behind)) (IsFrontOf Newline line)
+    → ahead ≡ line ++ 10 ∷ rest → IfSome (cond unbuffered None (prepend_known ahead behind)) (IsFrontOf Newline line)
 front_of_ahead true behind ahead line rest is = tt
 front_of_ahead false None ahead line rest is = tt
 front_of_ahead false (Some more) ahead line rest is =
@@ -161,7 +155,6 @@ module _ (known reader : Option (List ℕ)) (limit : ℕ) (start read line : Lis
 
   pub front_of_long_known : (end : LineEnd) → IsCut end read line → IfSome known (IsFrontOf TooLong line)
   front_of_long_known end cut =
-      elim known as
-      (λ k. IfSome (option_map (take 257) k) (λ front. read ≡ take_through 10 front)
+      elim known as (λ k. IfSome (option_map (take 257) k) (λ front. read ≡ take_through 10 front)
       → IfSome k (IsFrontOf TooLong line))
       [ None ↦ λ _. tt | Some bytes ↦ λ h. front_of_long bytes read line h end cut ] is_read

@@ -21,8 +21,7 @@ one_byte_more line n below lack other =
 
 -- a line with no space is its one part
 pub only_part : (line : List ℕ) (n : ℕ) → length line ≤ n → LackSpaces (take n line) → parts_of line ≡ line ∷ []
-only_part line n whole lack =
-    slice_split_none (λ b. eqb b 32) line (subst LackSpaces (take_all n line whole) lack)
+only_part line n whole lack = slice_split_none (λ b. eqb b 32) line (subst LackSpaces (take_all n line whole) lack)
 
 -- a line is cut at its first space
 pub first_part : (line : List ℕ) (n : ℕ) → n < length line → LackSpaces (take n line) → get_or line n 0 ≡ 32

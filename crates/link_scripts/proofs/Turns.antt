@@ -36,12 +36,10 @@ module _ (gathered sent left : Gathered) (old between new : Session) (before pri
   module _ (kept : gathered_calls left ≡ gathered_calls sent) (said : SaysSame old between)
       (result : Result Answer Error) where
     performed : (command : Command) → IfOk result (λ answer. AnswersTo command between answer new)
-        → OnOk result (SaysAfter command between new)
-        → OnErr result (SaysSame between new × KeepsPlanned between new)
+        → OnOk result (SaysAfter command between new) → OnErr result (SaysSame between new × KeepsPlanned between new)
         → IfErr result (MayRefuseCommand command between)
         → IfOk result (λ answer. Appends printed after (answer_text answer))
-        → IfErr result (λ why. Appends printed after (refusal_line why))
-        → IsPerformed command between printed new after
+        → IfErr result (λ why. Appends printed after (refusal_line why)) → IsPerformed command between printed new after
     performed command =
         elim result as
         (λ r. IfOk r (λ answer. AnswersTo command between answer new) → OnOk r (SaysAfter command between new)
@@ -54,8 +52,7 @@ module _ (gathered sent left : Gathered) (old between new : Session) (before pri
 
     -- where it is performed after the others are sent
     pub performed_after_all : (command : Command) → IfOk result (λ answer. AnswersTo command between answer new)
-        → OnOk result (SaysAfter command between new)
-        → OnErr result (SaysSame between new × KeepsPlanned between new)
+        → OnOk result (SaysAfter command between new) → OnErr result (SaysSame between new × KeepsPlanned between new)
         → IfErr result (MayRefuseCommand command between)
         → IfOk result (λ answer. Appends printed after (answer_text answer))
         → IfErr result (λ why. Appends printed after (refusal_line why))

@@ -88,8 +88,7 @@ takes_weight before after n None takes is = record {
 }
 
 -- where no number stands there is no weight
-pub takes_no_weight : (before after : List (List ℕ))
-    → Takes (λ n. number_word n ∷ []) IsNumberInRange before None after
+pub takes_no_weight : (before after : List (List ℕ)) → Takes (λ n. number_word n ∷ []) IsNumberInRange before None after
     → Takes (λ w. weight_word w ∷ []) IsWeightInRange before None after
 takes_no_weight before after takes = record {
   taken = tt;
@@ -114,8 +113,7 @@ takes_flow w0 w1 w2 w3 w4 id origin recipient delivered a b c d =
         → Some (record { id = id; origin = origin; recipient = recipient; delivered = delivered }) ≡ Some f
     missed f rest range said =
         let same_id : id ≡ f.id =
-        cc
-        (a.missed f.id (number_word f.origin ∷ number_word f.recipient ∷ flag_word f.delivered ∷ rest) range.0
+        cc (a.missed f.id (number_word f.origin ∷ number_word f.recipient ∷ flag_word f.delivered ∷ rest) range.0
         said) in
         let said1 : w1 ≡ number_word f.origin ∷ number_word f.recipient ∷ flag_word f.delivered ∷ rest =
         cc (a.taken.0, said) in
@@ -127,8 +125,7 @@ takes_flow w0 w1 w2 w3 w4 id origin recipient delivered a b c d =
         let said3 : w3 ≡ flag_word f.delivered ∷ rest = cc (c.taken.0, said2) in
         let same_delivered : delivered ≡ f.delivered = cc (d.missed f.delivered rest tt said3) in
         λ i.
-        Some
-        (record {
+        Some (record {
           id = same_id i;
           origin = same_origin i;
           recipient = same_recipient i;
@@ -300,9 +297,7 @@ takes_no_text before after left word is no_text =
     record {
       taken = tt;
       missed = λ command rest range said.
-          absurd
-          (no_text
-          (first_is_text word after (command_words command) rest (AreWords-command command range)
+          absurd (no_text (first_is_text word after (command_words command) rest (AreWords-command command range)
           (has_words command range) (sym is ∙ said)));
     }
 
@@ -344,8 +339,7 @@ parts_of-line_of (commands.Schedule call) range = parts_of-call call range
 line_said : (line : List ℕ) (command : Command) (after : List (List ℕ)) → parts_of line ≡ command_words command ++ after
     → after ≡ [] → line ≡ line_of command
 line_said line command after said none =
-    sym (join_with_byte-slice_split 32 line)
-    ∙ ap (join_with_byte 32)
+    sym (join_with_byte-slice_split 32 line) ∙ ap (join_with_byte 32)
     (said ∙ ap (λ rest. command_words command ++ rest) none ∙ append-nil (command_words command))
 
 -- and a line of a command has its words as its parts
@@ -394,7 +388,6 @@ module _ (line : List ℕ) (before after : List (List ℕ)) (parts : before ≡ 
     λ is.
         let taken = taken_of answer command takes (answer_of answer command takes is) in
         let over : after ≡ [] =
-        append_cancel_left (command_words command) after []
-        (sym taken.0 ∙ parts ∙ parts_said line command is.0 is.1) in
+        append_cancel_left (command_words command) after [] (sym taken.0 ∙ parts ∙ parts_said line command is.0 is.1) in
         absurd (cc (more, over)),
   )

@@ -85,8 +85,7 @@ module _ (now : ℕ) where
       let made = subst (λ (done : List (Completed ℕ)). Makes nat_cmp p (call_enqueue now (zeroed m)) done between)
       (front_none first rest is) makes in
       one_more nat_cmp nat_cmp_total p between (call_enqueue now (zeroed m)) (reply_done []) calls
-      (silent (map (call_to_send now) ms) ++ rs) made.by_rule
-      (sends_obey ms between q
+      (silent (map (call_to_send now) ms) ++ rs) made.by_rule (sends_obey ms between q
       (subst (λ (done : List (Completed ℕ)). MakesEach nat_cmp between (zeroed_sends now ms) done q)
       (back_none first rest is) others) cs rs after)
 
@@ -109,8 +108,7 @@ module _ (now : ℕ) where
 
   one_simulated : (m : Message ℕ) (p q : Planned ℕ) (w : World ℕ) (done : List (Completed ℕ))
       → Makes nat_cmp p (call_enqueue now m) done q → done ≡ [] → StandsFor nat_cmp p w
-      → IsInTurn nat_cmp w (call_enqueue now m)
-      → IsSimulatedReply nat_cmp w (call_enqueue now m) (reply_done []) q
+      → IsInTurn nat_cmp w (call_enqueue now m) → IsSimulatedReply nat_cmp w (call_enqueue now m) (reply_done []) q
   one_simulated m p q w done makes none stands turn =
       made_is_simulated nat_cmp nat_cmp_total p q w (call_enqueue now m) now []
       (subst (λ (cs : List (Completed ℕ)). Makes nat_cmp p (call_enqueue now m) cs q) none makes) stands turn refl refl
@@ -142,8 +140,7 @@ module _ (now : ℕ) where
 
   pub sends_in_turn : (ms : List (Outgoing ℕ ℕ)) (p q : Planned ℕ) (w : World ℕ) → 0 < length ms
       → MakesEach nat_cmp p (zeroed_sends now ms) [] q → StandsFor nat_cmp p w
-      → ((n : Message ℕ) → IsInTurn nat_cmp w (call_enqueue now n))
-      → IsSimulatedBatch w (map (call_to_send now) ms) q
+      → ((n : Message ℕ) → IsInTurn nat_cmp w (call_enqueue now n)) → IsSimulatedBatch w (map (call_to_send now) ms) q
   sends_in_turn [] p q w some made stands turn = absurd (omega (arith, some))
   sends_in_turn (m ∷ ms) p q w some made stands turn = sends_simulated m ms p q w made stands turn
 
@@ -192,8 +189,7 @@ written_with : (told late : List ℕ) (calls more : List (script.Call ℕ ℕ)) 
     → length calls ≡ length replies → told ++ late ≡ transcript_of calls replies → late ≡ []
     → (told ++ flat_map call_line more) ++ late ≡ transcript_of (calls ++ more) (replies ++ silent more)
 written_with told late calls more replies paired written none =
-    ap (λ l. (told ++ flat_map call_line more) ++ l) none
-    ∙ append-nil (told ++ flat_map call_line more)
+    ap (λ l. (told ++ flat_map call_line more) ++ l) none ∙ append-nil (told ++ flat_map call_line more)
     ∙ ap (λ l. l ++ flat_map call_line more) (sym (append-nil told) ∙ ap (λ l. told ++ l) (sym none) ∙ written)
     ∙ ap (λ l. transcript_of calls replies ++ l) (sym (silent_text more))
     ∙ sym (transcript-append calls more replies (silent more) paired)
@@ -237,8 +233,7 @@ sent said old new b is before none =
           (length-map b.messages.items (call_to_send b.moment)) is.calls;
       completion_count = ap length (flat_map-append done_in before.replies (silent (batch_calls b)))
           ∙ ap (λ l. length (flat_map done_in before.replies ++ l)) (silent_done (batch_calls b))
-          ∙ ap length (append-nil (flat_map done_in before.replies))
-          ∙ before.completion_count ∙ sym is.completions;
+          ∙ ap length (append-nil (flat_map done_in before.replies)) ∙ before.completion_count ∙ sym is.completions;
     }
 
 -- what was told stays, where what is planned does
@@ -286,8 +281,7 @@ batch_goes_on old new text more goes turns tolerance turn some is = record {
 -- ---- what is gathered
 
 -- without a cause a call is timely
-pub timely_of : {X : Type 0} (cause : Option X) (A : Type 0) (B : X → Type 0) → cause ≡ None
-    → MatchOption cause A B → A
+pub timely_of : {X : Type 0} (cause : Option X) (A : Type 0) (B : X → Type 0) → cause ≡ None → MatchOption cause A B → A
 timely_of None A B none is = is
 timely_of (Some x) A B none is = absurd cc
 
@@ -309,6 +303,5 @@ front_more b new bytes line call front cut says calls =
 pub in_range_more : (calls more : List (script.Call ℕ ℕ)) (call : script.Call ℕ ℕ) → All IsCallOfScriptInRange calls
     → IsCallOfScriptInRange call → more ≡ calls ++ call ∷ [] → All IsCallOfScriptInRange more
 in_range_more calls more call all one is =
-    subst (λ l. All IsCallOfScriptInRange l) (sym is)
-    (All-append IsCallOfScriptInRange calls (call ∷ []) all
+    subst (λ l. All IsCallOfScriptInRange l) (sym is) (All-append IsCallOfScriptInRange calls (call ∷ []) all
     (All-cons IsCallOfScriptInRange call [] one (All-nil IsCallOfScriptInRange)))

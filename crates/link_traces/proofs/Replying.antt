@@ -89,10 +89,8 @@ module _ {P : Type 0} (cmp : P → P → Ordering) (order : IsTotalOrder cmp) wh
   -- ---- one call more
 
   pub obeys_more : (p q : Planned P) (calls : List (Call P)) (replies : List (Reply P)) (call : Call P)
-      (reply : Reply P)
-      → ((cs : List (Call P)) (rs : List (Reply P)) → Obeyed cmp p cs rs
-      → Obeyed cmp (new_planned 0) (calls ++ cs) (replies ++ rs))
-      → IsReplyTo cmp p call reply q
+      (reply : Reply P) → ((cs : List (Call P)) (rs : List (Reply P)) → Obeyed cmp p cs rs
+      → Obeyed cmp (new_planned 0) (calls ++ cs) (replies ++ rs)) → IsReplyTo cmp p call reply q
       → (cs : List (Call P)) (rs : List (Reply P)) → Obeyed cmp q cs rs
       → Obeyed cmp (new_planned 0) ((calls ++ call ∷ []) ++ cs) ((replies ++ reply ∷ []) ++ rs)
   obeys_more p q calls replies call reply so is cs rs rest =
@@ -102,8 +100,7 @@ module _ {P : Type 0} (cmp : P → P → Ordering) (order : IsTotalOrder cmp) wh
       (so (call ∷ cs) (reply ∷ rs) (one_more cmp order p q call reply cs rs is rest)))
 
   pub in_turn_more : (w v : World P) (calls : List (Call P)) (replies : List (Reply P)) (call : Call P)
-      (reply : Reply P)
-      → ((cs : List (Call P)) (rs : List (Reply P)) → AgreesInTurn cmp w cs rs
+      (reply : Reply P) → ((cs : List (Call P)) (rs : List (Reply P)) → AgreesInTurn cmp w cs rs
       → AgreesInTurn cmp (new_world 0) (calls ++ cs) (replies ++ rs))
       → IsInTurn cmp w call → RepliesSo cmp w call reply v
       → (cs : List (Call P)) (rs : List (Reply P)) → AgreesInTurn cmp v cs rs

@@ -46,8 +46,7 @@ use Rattle.link_traces.proofs.Replying.{obeys_more, in_turn_more}
 
 -- a transcript with one call more
 pub transcript_more : (calls : List (script.Call ℕ ℕ)) (replies : List (Reply ℕ)) (call : script.Call ℕ ℕ)
-    (reply : Reply ℕ) → length calls ≡ length replies
-    → transcript_of (calls ++ call ∷ []) (replies ++ reply ∷ [])
+    (reply : Reply ℕ) → length calls ≡ length replies → transcript_of (calls ++ call ∷ []) (replies ++ reply ∷ [])
     ≡ transcript_of calls replies ++ (call_line call ++ reply_text reply)
 transcript_more [] [] call reply paired = ap (λ t. call_line call ++ t) (append-nil (reply_text reply))
 transcript_more [] (r ∷ rs) call reply paired = absurd (omega (arith, paired))
@@ -66,8 +65,7 @@ pub written_more : (told late : List ℕ) (calls : List (script.Call ℕ ℕ)) (
 written_more told late calls replies call reply paired written none =
     let all : told ≡ transcript_of calls replies =
     sym (append-nil told) ∙ ap (λ l. told ++ l) (sym none) ∙ written in
-    append_assoc told (call_line call) (reply_text reply)
-    ∙ ap (λ t. t ++ (call_line call ++ reply_text reply)) all
+    append_assoc told (call_line call) (reply_text reply) ∙ ap (λ t. t ++ (call_line call ++ reply_text reply)) all
     ∙ sym (transcript_more calls replies call reply paired)
 
 -- ---- nothing
@@ -95,8 +93,7 @@ told_nothing p none planned stands reached calls completions = record {
 pub record IsAsked (old new : Progress) (call : script.Call ℕ ℕ) (reply : Reply ℕ) : Type 0 where
   pub in_range : IsCallOfScriptInRange call
   pub by_rule : IsReplyTo nat_cmp (planned_of old.scheduler) (world_call call) reply (planned_of new.scheduler)
-  pub simulated : (w : World ℕ) → StandsFor nat_cmp (planned_of old.scheduler) w
-      → IsInTurn nat_cmp w (world_call call)
+  pub simulated : (w : World ℕ) → StandsFor nat_cmp (planned_of old.scheduler) w → IsInTurn nat_cmp w (world_call call)
       → IsSimulatedReply nat_cmp w (world_call call) reply (planned_of new.scheduler)
   pub turn : new.out_of_turn ≡ None → (old.out_of_turn ≡ None) × ((w : World ℕ) → w.moment ≡ old.reached
       → StandsFor nat_cmp (planned_of old.scheduler) w → IsInTurn nat_cmp w (world_call call))
@@ -115,8 +112,7 @@ done_more replies reply n m is next =
     ap length (flat_map-append done_in replies (reply ∷ []))
     ∙ length-append (flat_map done_in replies) (flat_map done_in (reply ∷ []))
     ∙ ap (λ k. k + length (flat_map done_in (reply ∷ []))) is
-    ∙ ap (λ (xs : List _). n + length xs) (append-nil (done_in reply))
-    ∙ sym next
+    ∙ ap (λ (xs : List _). n + length xs) (append-nil (done_in reply)) ∙ sym next
 
 pub asked : (said : List ℕ) (old new : Progress) (call : script.Call ℕ ℕ) (reply : Reply ℕ)
     → IsAsked old new call reply → IsTold said old → due old ≡ [] → IsTold (said ++ call_line call) new
@@ -310,8 +306,7 @@ agreed_at_last (Some bytes) (Some mid) (Some new) before between c line report i
 
 -- the same of what is concluded
 pub concluded_at_end : (r : Result Report Fault) (old mid new : Option (List ℕ)) (before c : Checker) (end : LineEnd)
-    (line : List ℕ)
-    → IfOk r (λ report. report.verdict ≡ Agrees → (text : List ℕ) → IsUnderway text c
+    (line : List ℕ) → IfOk r (λ report. report.verdict ≡ Agrees → (text : List ℕ) → IsUnderway text c
     → IsHeadedTranscript text report)
     → IsTakenSoFar old mid before c → Consumes mid new (taken end line) → end ≡ Input → line ≡ [] → IsAtEnd new
     → IfOk r (λ report. report.verdict ≡ Agrees → IfSome old (λ bytes. IsAgreed bytes report))
@@ -322,8 +317,7 @@ concluded_at_end (Ok report) old mid new before c end line headed is takes input
     (headed agrees)
 
 pub concluded_at_last : (r : Result Report Fault) (old mid new : Option (List ℕ)) (before between c : Checker)
-    (end : LineEnd) (line : List ℕ)
-    → IfOk r (λ report. report.verdict ≡ Agrees → (text : List ℕ) → IsUnderway text c
+    (end : LineEnd) (line : List ℕ) → IfOk r (λ report. report.verdict ≡ Agrees → (text : List ℕ) → IsUnderway text c
     → IsHeadedTranscript text report)
     → IsTakenSoFar old mid before between → Consumes mid new (taken end line) → end ≡ Input → IsAtEnd new
     → ((text : List ℕ) → IsUnderway text between → IsUnderway (text ++ (line ++ 10 ∷ [])) c)

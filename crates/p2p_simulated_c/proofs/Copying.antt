@@ -11,8 +11,7 @@ use Rattle.p2p_simulated_c.specs.Written.{written}
 -- none
 pub none_written : {X : Type 0} (items old : List X) → items ≡ [] → old ≡ written items old
 none_written items old none =
-    sym
-    (ap (λ xs. take (length old) xs ++ drop (length xs) old) none
+    sym (ap (λ xs. take (length old) xs ++ drop (length xs) old) none
     ∙ ap (λ xs. xs ++ old) (take_all (length old) [] (omega arith)))
 
 -- so many
@@ -53,8 +52,7 @@ take_behind xs m given count room is_given is_count = ⊎_elim
     let same : count ≡ given = omega arith in
     let none : 0 ≡ count - given = omega arith in
     take-append-le count xs (replicate m 0) (omega arith) ∙ ap (λ n. take n xs) same
-    ∙ sym (append-nil (take given xs)) ∙ ap (λ n. take given xs ++ replicate n 0) none)
-    (cases_lt (length xs) room)
+    ∙ sym (append-nil (take given xs)) ∙ ap (λ n. take given xs ++ replicate n 0) none) (cases_lt (length xs) room)
 
 -- a list, and zeros behind it, which are written after it
 pub zeros_written : (xs old : List ℕ) (m given count : ℕ) → given ≡ min (length xs) (length old)
@@ -92,5 +90,4 @@ drop_behind xs m from = ⊎_elim
     let sum : from ≡ length xs + (from - length xs) = omega arith in
     ap (λ n. drop n (xs ++ replicate m 0)) sum ∙ drop-append-add xs (replicate m 0) (from - length xs)
     ∙ drop-replicate (from - length xs) m 0
-    ∙ ap (λ ys. ys ++ replicate (m - (from - length xs)) 0) (sym (drop_all from xs le)))
-    (cases_lt from (length xs))
+    ∙ ap (λ ys. ys ++ replicate (m - (from - length xs)) 0) (sym (drop_all from xs le))) (cases_lt from (length xs))

@@ -26,19 +26,14 @@ same_plan (Err why) old new same = ap (λ s. planned_of s) same
 
 -- the state answered, and the answer was kept
 pub ended : {V : Type 0} (items : V → List (Completion ℕ (List ℕ))) (answer : Result V Error) (call : Call ℕ) {now : ℕ}
-    (status count : ℕ) (old between new : Opened)
-    → new.state ≡ between.state
+    (status count : ℕ) (old between new : Opened) → new.state ≡ between.state
     → MatchResult answer (λ done. status ≡ 0) (λ why. status ≡ refusal_number why)
     → MatchResult answer (λ done. new.completed.items ≡ items done) (λ why. new.completed ≡ between.completed)
     → MatchResult answer (λ done. count ≡ length (items done)) (λ why. count ≡ 0)
-    → MatchResult answer (λ done. new.last ≡ now) (λ why. new.last ≡ between.last)
-    → between.completed ≡ old.completed
-    → between.last ≡ old.last
-    → moment_of call ≡ Some now
-    → IfOk answer (λ done. IsMade old.state call (items done) between.state)
-    → IfErr answer (IsRefused old.state call)
-    → OnErr answer (planned_of between.state ≡ planned_of old.state)
-    → Ended call status count old new
+    → MatchResult answer (λ done. new.last ≡ now) (λ why. new.last ≡ between.last) → between.completed ≡ old.completed
+    → between.last ≡ old.last → moment_of call ≡ Some now
+    → IfOk answer (λ done. IsMade old.state call (items done) between.state) → IfErr answer (IsRefused old.state call)
+    → OnErr answer (planned_of between.state ≡ planned_of old.state) → Ended call status count old new
 ended items (Ok done) call status count old between new state number kept counted at same last moment made refused
     unchanged =
     inl (
@@ -66,12 +61,10 @@ ended items (Err why) call status count old between new state number kept counte
     )
 
 pub advanced : {V : Type 0} (items : V → List (Completion ℕ (List ℕ))) (answer : Result V Error) (now status : ℕ)
-    (old between new : Opened)
-    → new.state ≡ between.state
+    (old between new : Opened) → new.state ≡ between.state
     → MatchResult answer (λ done. status ≡ 0) (λ why. status ≡ refusal_number why)
     → MatchResult answer (λ done. new.completed.items ≡ items done) (λ why. new.completed ≡ between.completed)
-    → IfOk answer (λ done. IsAdvanced old.state now (items done) between.state)
-    → Advanced now status old new
+    → IfOk answer (λ done. IsAdvanced old.state now (items done) between.state) → Advanced now status old new
 advanced items (Ok done) now status old between new state number kept made is_made =
     subst (λ s. IsAdvanced old.state now new.completed.items s) (sym state)
     (subst (λ cs. IsAdvanced old.state now cs between.state) (sym kept) made)

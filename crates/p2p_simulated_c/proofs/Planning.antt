@@ -41,10 +41,8 @@ one_peer_more (d ∷ caps) c peer =
     ap (λ x. or_else x old) (one_peer_more caps c peer)
     ∙ over_else (c.peer == peer) (value_of c.cap) (peer_cap caps peer) old
 
-one_link_more : (caps : List LinkCap) (c : LinkCap) (origin recipient : ℕ)
-    → link_cap (caps ++ c ∷ []) origin recipient
-    ≡ cond ((c.origin == origin) && (c.recipient == recipient)) (Some (value_of c.cap))
-    (link_cap caps origin recipient)
+one_link_more : (caps : List LinkCap) (c : LinkCap) (origin recipient : ℕ) → link_cap (caps ++ c ∷ []) origin recipient
+    ≡ cond ((c.origin == origin) && (c.recipient == recipient)) (Some (value_of c.cap)) (link_cap caps origin recipient)
 one_link_more [] c origin recipient = refl
 one_link_more (d ∷ caps) c origin recipient =
     let old = cond ((d.origin == origin) && (d.recipient == recipient)) (Some (value_of d.cap)) None in
@@ -70,17 +68,14 @@ same_link origin recipient p q =
     ∙ ap₂ (λ x y. x && y) (unsigned_tied origin p) (unsigned_tied recipient q)
 
 pub link_stored : (caps : List LinkCap) (i : ℕ) (d : LinkCap) (origin recipient cap : ℕ) (old new : Option ℕ)
-    → i < length caps → cap ≡ value_of (get_or caps i d).cap
-    → new
+    → i < length caps → cap ≡ value_of (get_or caps i d).cap → new
     ≡ cond (is_eq (pair_cmp nat_cmp ((get_or caps i d).origin, (get_or caps i d).recipient) (origin, recipient)))
-    (Some cap) old
-    → old ≡ link_cap (take i caps) origin recipient → new ≡ link_cap (take (i + 1) caps) origin recipient
+    (Some cap) old → old ≡ link_cap (take i caps) origin recipient → new ≡ link_cap (take (i + 1) caps) origin recipient
 link_stored caps i d origin recipient cap old new below is writes before =
     let c = get_or caps i d in
     let same = (c.origin == origin) && (c.recipient == recipient) in
     writes ∙ ap₂ (λ b x. cond b (Some x) old) (same_link c.origin c.recipient origin recipient) is
-    ∙ ap (λ x. cond same (Some (value_of c.cap)) x) before
-    ∙ sym (one_link_more (take i caps) c origin recipient)
+    ∙ ap (λ x. cond same (Some (value_of c.cap)) x) before ∙ sym (one_link_more (take i caps) c origin recipient)
     ∙ ap (λ cs. link_cap cs origin recipient) (sym (take_more caps i d below))
 
 -- maps of all three lists hold their caps

@@ -69,8 +69,7 @@ in_turn s w call now stands is le before = by_call call is before
 
     by_call : (c : Call ℕ) → moment_of c ≡ Some now
         → (is_act c ≡ true → IfSome (next_event (planned_of s.state)) (λ due. now < due)) → IsInTurn nat_cmp w c
-    by_call (call_limit t peer egress ingress) at if_acts =
-        acting (call_limit t peer egress ingress) at (if_acts refl)
+    by_call (call_limit t peer egress ingress) at if_acts = acting (call_limit t peer egress ingress) at (if_acts refl)
     by_call (call_limit_link t origin recipient cap) at if_acts =
         acting (call_limit_link t origin recipient cap) at (if_acts refl)
     by_call (call_enqueue t m) at if_acts = acting (call_enqueue t m) at (if_acts refl)

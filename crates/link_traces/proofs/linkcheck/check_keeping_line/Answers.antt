@@ -10,8 +10,7 @@ returns-clause-agrees g c =
     new_reader (λ i. g.R.Read.remaining i.now) c.in-Ok.reader _
     (ap (λ i. g.R.Read.remaining i.now) c.in-Ok.ensures.inner) c.in-Ok.ensures.empty
     c.in-Ok.ensures.capacity in
-    subst
-    (λ k. IfOk c.check_lines.result (λ report. report.verdict ≡ verdicts.Agrees
+    subst (λ k. IfOk c.check_lines.result (λ report. report.verdict ≡ verdicts.Agrees
     → IfSome k (λ bytes. IsAgreed bytes report))) same c.check_lines.ensures.agrees
 
 pub returns-clause-within : goal.returns-clause-within
@@ -20,6 +19,5 @@ returns-clause-within g c =
     new_reader (λ i. g.R.Read.remaining i.now) c.in-Ok.reader _
     (ap (λ i. g.R.Read.remaining i.now) c.in-Ok.ensures.inner) c.in-Ok.ensures.empty
     c.in-Ok.ensures.capacity in
-    subst
-    (λ k. IfOk c.check_lines.result (λ report. (off : ℕ) → report.verdict ≡ verdicts.Within off
+    subst (λ k. IfOk c.check_lines.result (λ report. (off : ℕ) → report.verdict ≡ verdicts.Within off
     → IfSome k (λ bytes. IsAllowed bytes off))) same c.check_lines.ensures.within

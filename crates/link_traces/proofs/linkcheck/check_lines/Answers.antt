@@ -15,8 +15,7 @@ returns-then-is_empty-clause-agrees g c =
     let none : c.read.new.line.items ≡ [] =
     none_of_length c.read.new.line.items (sym c.read.new.line.ok.0 ∙ zero) in
     concluded_at_end c.conclude.result _ _ _ c.args.checker.now c.take_batch.new.checker c.in_ok-end.end c.read.new.line.items
-    c.conclude.ensures.agrees before c.in_ok-end.ensures.taken input none
-    (c.in_ok-end.ensures.end (ap Ok input))
+    c.conclude.ensures.agrees before c.in_ok-end.ensures.taken input none (c.in_ok-end.ensures.end (ap Ok input))
 
 pub returns-then-eq-3-clause-agrees : goal.returns-then-eq-3-clause-agrees
 returns-then-eq-3-clause-agrees g c =
@@ -28,8 +27,7 @@ returns-then-eq-3-clause-agrees g c =
     let none : c.in_ok-report.field-0 ≡ None = search rules in
     concluded_at_last c.conclude-then-eq-3.result _ _ _ c.args.checker.now c.take_batch.new.checker c.take.new.self
     c.in_ok-end.end c.read.new.line.items c.conclude-then-eq-3.ensures.agrees before
-    c.in_ok-end.ensures.taken input (c.in_ok-end.ensures.end (ap Ok input))
-    (subst
+    c.in_ok-end.ensures.taken input (c.in_ok-end.ensures.end (ap Ok input)) (subst
     (λ l. (text : List ℕ) → IsUnderway text c.take_batch.new.checker → IsUnderway (text ++ (l ++ 10 ∷ [])) c.take.new.self)
     c.deref.ensures.value (c.in_ok-report.ensures.goes_on (ap Ok none)))
 
@@ -44,8 +42,7 @@ returns-then-is_empty-clause-within g c =
     let none : c.read.new.line.items ≡ [] =
     none_of_length c.read.new.line.items (sym c.read.new.line.ok.0 ∙ zero) in
     concluded_within_at_end c.conclude.result _ _ _ c.args.checker.now c.take_batch.new.checker c.in_ok-end.end c.read.new.line.items
-    c.conclude.ensures.within before c.in_ok-end.ensures.taken input none
-    (c.in_ok-end.ensures.end (ap Ok input))
+    c.conclude.ensures.within before c.in_ok-end.ensures.taken input none (c.in_ok-end.ensures.end (ap Ok input))
 
 pub returns-then-eq-3-clause-within : goal.returns-then-eq-3-clause-within
 returns-then-eq-3-clause-within g c =
@@ -57,8 +54,7 @@ returns-then-eq-3-clause-within g c =
     let none : c.in_ok-report.field-0 ≡ None = search rules in
     concluded_within_at_last c.conclude-then-eq-3.result _ _ _ c.args.checker.now c.take_batch.new.checker c.take.new.self
     c.in_ok-end.end c.read.new.line.items c.conclude-then-eq-3.ensures.within before
-    c.in_ok-end.ensures.taken input (c.in_ok-end.ensures.end (ap Ok input))
-    (subst
+    c.in_ok-end.ensures.taken input (c.in_ok-end.ensures.end (ap Ok input)) (subst
     (λ l. (text : List ℕ) → IsUnderway text c.take_batch.new.checker → IsUnderway (text ++ (l ++ 10 ∷ [])) c.take.new.self)
     c.deref.ensures.value (c.in_ok-report.ensures.goes_on (ap Ok none)))
 
@@ -70,8 +66,7 @@ returns-then-eq-3-clause-in_turn g c =
     (c.in_ok-early.ensures.taken (ap Ok none_early)) in
     let none : c.in_ok-report.field-0 ≡ None = search rules in
     concluded_in_turn c.conclude-then-eq-3.result c.args.checker.now c.take.new.self _
-    c.conclude-then-eq-3.ensures.turn
-    (c.in_ok-report.ensures.goes_on (ap Ok none) before.text before.underway)
+    c.conclude-then-eq-3.ensures.turn (c.in_ok-report.ensures.goes_on (ap Ok none) before.text before.underway)
     (c.take.ensures.turns ∙ before.turns)
 
 pub loop-preserved : goal.loop-preserved
@@ -84,8 +79,7 @@ loop-preserved g c =
     let last : c.in_ok-end.end ≡ Input → ⊥ = search rules in
     let none : c.in_ok-report.field-0 ≡ None = search rules in
     one_taken _ _ _ c.args.checker.now c.take_batch.new.checker c.take.new.self c.read.new.line.items before
-    (taken_with_end _ _ c.in_ok-end.end c.read.new.line.items long last c.in_ok-end.ensures.taken)
-    (subst
+    (taken_with_end _ _ c.in_ok-end.end c.read.new.line.items long last c.in_ok-end.ensures.taken) (subst
     (λ l. (text : List ℕ) → IsUnderway text c.take_batch.new.checker → IsUnderway (text ++ (l ++ 10 ∷ [])) c.take.new.self)
     c.deref.ensures.value (c.in_ok-report.ensures.goes_on (ap Ok none))) c.take.ensures.turns
 

@@ -26,5 +26,4 @@ returns-clause-written c =
       c.fill.ensures.after (λ y e. e) ∙ ap (λ n. replicate n 0) long,
       c.copy-given.ensures.written,
       ap (drop c.args.from) c.given.ensures ∙ drop_behind bytes zeros c.args.from,
-    )
-    (zeros_written front c.args.out.now more given count is_given is_count)
+    ) (zeros_written front c.args.out.now more given count is_given is_count)

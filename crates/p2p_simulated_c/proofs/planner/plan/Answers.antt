@@ -20,8 +20,7 @@ returns-clause-plan c =
     c.in_ok-by_peer-2.ensures.caps c.in_ok-by_link.ensures.caps in
     let flows : c.deref.result.now ≡ map flow_of c.args.flows.now =
     c.deref.ensures.value ∙ c.in_ok-flows.ensures.flows in
-    subst
-    (λ fs. IfOk c.rates.result
+    subst (λ fs. IfOk c.rates.result
     (λ planned. IsPlan (caps_of_records c.args.egress.now c.args.ingress.now c.args.links.now) fs
     (get nat_cmp planned.0) planned.1))
     flows
@@ -41,8 +40,6 @@ returns-clause-refused c =
     c.in_ok-by_peer-2.ensures.caps c.in_ok-by_link.ensures.caps in
     let flows : c.deref.result.now ≡ map flow_of c.args.flows.now =
     c.deref.ensures.value ∙ c.in_ok-flows.ensures.flows in
-    subst
-    (λ fs. IfErr c.rates.result
+    subst (λ fs. IfErr c.rates.result
     (MayRefusePlan (caps_of_records c.args.egress.now c.args.ingress.now c.args.links.now) fs))
-    flows
-    (subst (λ under. IfErr c.rates.result (MayRefusePlan under c.deref.result.now)) caps c.rates.ensures.refused)
+    flows (subst (λ under. IfErr c.rates.result (MayRefusePlan under c.deref.result.now)) caps c.rates.ensures.refused)

@@ -14,9 +14,7 @@ loop-index-preserved c =
     let below = c.loop-index-test.true in
     one_written (rates_of c.args.flows.now rate_by) c.args.out.now c.loop-index.out c.loop-index.index c.of.result
     (omega (arith, below, c.min-count.ensures, long)) (omega (arith, below, c.min-count.ensures))
-    c.loop-index.invariant
-    (c.of.ensures ∙ ap record_of_rate (c.copied.ensures ∙ c.get.ensures.value)
-    ∙ sym
+    c.loop-index.invariant (c.of.ensures ∙ ap record_of_rate (c.copied.ensures ∙ c.get.ensures.value) ∙ sym
     (get_or-map (λ f. record_of_rate (rate_by f.id)) c.args.flows.now c.loop-index.index _ c.of.result
     (omega (arith, below, c.min-count.ensures))))
 
@@ -25,6 +23,5 @@ returns c =
     let rate_by = get nat_cmp c.args.rates.now in
     let long : length (rates_of c.args.flows.now rate_by) ≡ length c.args.flows.now =
     length-map c.args.flows.now (λ f. record_of_rate (rate_by f.id)) in
-    c.loop-index.invariant
-    ∙ all_written (rates_of c.args.flows.now rate_by) c.args.out.now c.loop-index.index
+    c.loop-index.invariant ∙ all_written (rates_of c.args.flows.now rate_by) c.args.out.now c.loop-index.index
     (omega (arith, c.min-count.ensures, long, c.loop-index-test.false, c.loop-index.auto.index-end))

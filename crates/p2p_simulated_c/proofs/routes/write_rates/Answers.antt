@@ -18,13 +18,11 @@ loop-index-preserved c =
     let rate = c.index-rates-index.result in
     one_written (map of rates) c.args.out.now c.loop-index.out i c.of.result
     (omega (arith, below, c.min-count.ensures, long)) (omega (arith, below, c.min-count.ensures))
-    c.loop-index.invariant
-    (c.of.ensures ∙ ap of c.index-rates-index.is
+    c.loop-index.invariant (c.of.ensures ∙ ap of c.index-rates-index.is
     ∙ sym (get_or-map of rates i rate c.of.result (omega (arith, below, c.min-count.ensures))))
 
 pub returns : goal.returns
 returns c =
     let long : length (map of c.args.rates.now) ≡ length c.args.rates.now = length-map c.args.rates.now of in
-    c.loop-index.invariant
-    ∙ all_written (map of c.args.rates.now) c.args.out.now c.loop-index.index
+    c.loop-index.invariant ∙ all_written (map of c.args.rates.now) c.args.out.now c.loop-index.index
     (omega (arith, c.min-count.ensures, long, c.loop-index-test.false, c.loop-index.auto.index-end))

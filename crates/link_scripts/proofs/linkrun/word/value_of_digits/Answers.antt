@@ -16,8 +16,7 @@ returns-in_err-digit c =
 pub returns-in_err-checked_mul : goal.returns-in_err-checked_mul
 returns-in_err-checked_mul c =
     let l = c.loop-byte in
-    rw c.from_residual-in_err-checked_mul.ensures
-    (λ fits. omega (
+    rw c.from_residual-in_err-checked_mul.ensures (λ fits. omega (
       arith,
       fits.1,
       c.in_err-checked_mul.ensures,
@@ -27,8 +26,7 @@ returns-in_err-checked_mul c =
 pub returns-in_err-number : goal.returns-in_err-number
 returns-in_err-number c =
     let l = c.loop-byte in
-    rw c.from_residual-in_err-number.ensures
-    (λ fits. omega (
+    rw c.from_residual-in_err-number.ensures (λ fits. omega (
       arith,
       fits.1,
       c.in_ok-digit.ensures.value,

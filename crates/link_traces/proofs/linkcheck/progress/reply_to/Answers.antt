@@ -22,8 +22,7 @@ returns-in-Err-make-clause-by_rule c =
 
 pub returns-in-Err-make-clause-simulated : goal.returns-in-Err-make-clause-simulated
 returns-in-Err-make-clause-simulated c =
-    subst
-    (λ (call : Call ℕ). (w : World ℕ) → StandsFor nat_cmp (planned_of c.args.scheduler.now) w
+    subst (λ (call : Call ℕ). (w : World ℕ) → StandsFor nat_cmp (planned_of c.args.scheduler.now) w
     → IsInTurn nat_cmp w call
     → IsSimulatedReply nat_cmp w call (reply_refused c.in-Err-make.error) (planned_of c.make.new.state))
     c.in-Ok.ensures.made
@@ -32,8 +31,7 @@ returns-in-Err-make-clause-simulated c =
 
 pub returns-in-Ok-make-clause-simulated : goal.returns-in-Ok-make-clause-simulated
 returns-in-Ok-make-clause-simulated c =
-    subst
-    (λ (call : Call ℕ). (w : World ℕ) → StandsFor nat_cmp (planned_of c.args.scheduler.now) w
+    subst (λ (call : Call ℕ). (w : World ℕ) → StandsFor nat_cmp (planned_of c.args.scheduler.now) w
     → IsInTurn nat_cmp w call
     → IsSimulatedReply nat_cmp w call (reply_of c.in-Ok-make.reply) (planned_of c.make.new.state))
     c.in-Ok.ensures.made

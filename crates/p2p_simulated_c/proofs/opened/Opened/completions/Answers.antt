@@ -12,8 +12,7 @@ loop-index-preserved c =
     let long : length left ≡ length items - c.args.first = length-drop c.args.first items in
     let records : length (records_from c.args.self.now c.args.first) ≡ length left = length-map left done_of in
     let count : c.min-count.result ≡ min (length items - c.args.first) (length c.args.out.now) =
-    c.min-count.ensures
-    ∙ ap (λ n. min n (length c.args.out.now))
+    c.min-count.ensures ∙ ap (λ n. min n (length c.args.out.now))
     (c.saturating_sub.ensures ∙ ap (λ n. n - c.args.first) (c.len.ensures ∙ c.args.self.now.completed.ok.0)) in
     let here = c.index.result.now in
     let read : here ≡ get_or left c.loop-index.index here =
@@ -21,8 +20,7 @@ loop-index-preserved c =
     let below = c.loop-index-test.true in
     one_written (records_from c.args.self.now c.args.first) c.args.out.now c.loop-index.out c.loop-index.index
     c.of.result (omega (arith, below, count, long, records)) (omega (arith, below, count, long, records))
-    c.loop-index.invariant
-    (c.of.ensures ∙ ap done_of read
+    c.loop-index.invariant (c.of.ensures ∙ ap done_of read
     ∙ sym (get_or-map done_of left c.loop-index.index here c.of.result (omega (arith, below, count, long))))
 
 pub returns-clause-written : goal.returns-clause-written
@@ -32,9 +30,7 @@ returns-clause-written c =
     let long : length left ≡ length items - c.args.first = length-drop c.args.first items in
     let records : length (records_from c.args.self.now c.args.first) ≡ length left = length-map left done_of in
     let count : c.min-count.result ≡ min (length items - c.args.first) (length c.args.out.now) =
-    c.min-count.ensures
-    ∙ ap (λ n. min n (length c.args.out.now))
+    c.min-count.ensures ∙ ap (λ n. min n (length c.args.out.now))
     (c.saturating_sub.ensures ∙ ap (λ n. n - c.args.first) (c.len.ensures ∙ c.args.self.now.completed.ok.0)) in
-    c.loop-index.invariant
-    ∙ all_written (records_from c.args.self.now c.args.first) c.args.out.now c.loop-index.index
+    c.loop-index.invariant ∙ all_written (records_from c.args.self.now c.args.first) c.args.out.now c.loop-index.index
     (omega (arith, count, long, records, c.loop-index-test.false, c.loop-index.auto.index-end))

@@ -13,9 +13,7 @@ returns c =
     let answer = c.enqueue_all-answer.result in
     ended (λ done. done.items) answer _ c.keep.result c.keep.new.count c.args.self.now between c.keep.new.self
     c.keep.ensures.state c.keep.ensures.status c.keep.ensures.completed c.keep.ensures.counted c.keep.ensures.moment
-    refl refl refl
-    (subst
-    (λ (ms : List (Message _)). IfOk answer
+    refl refl refl (subst (λ (ms : List (Message _)). IfOk answer
     (λ done. IsMade old (call_enqueue_all c.args.now ms) done.items c.enqueue_all-answer.new.self))
     c.in-Ok.ensures.messages c.enqueue_all-answer.ensures.as_one)
     (subst (λ (ms : List (Message _)). IfErr answer (IsRefused old (call_enqueue_all c.args.now ms)))

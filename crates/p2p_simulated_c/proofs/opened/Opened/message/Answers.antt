@@ -20,8 +20,7 @@ copied : (c : goal.After-slice_known-2-1)
 copied c =
     let items = c.args.self.now.completed.items in
     let long : c.len.result ≡ length items = c.len.ensures ∙ c.args.self.now.completed.ok.0 in
-    sym
-    (ap completed_bytes
+    sym (ap completed_bytes
     (slice_get_read items c.len.result c.args.index c.index.result.now long c.if-index-len.false c.index.ensures))
 
 pub returns-clause-count : goal.returns-clause-count

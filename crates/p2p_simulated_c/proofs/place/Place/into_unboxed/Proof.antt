@@ -55,8 +55,7 @@ module _ {M : Type 1} {𝓤 : Ura M} (𝓛 : Logic 𝓤) (memory : Memory → SP
         let Made = type_at (F.signature).result tt in
         let made : Made.Denot = record { at = boxed.ptr; alloc = boxed.alloc; held = boxed.value } in
         split ! $ drop ! $ fsplit ! $
-        rewrite ! 0
-        (λ (o : Option Opened.the_row.Denot). ‵
+        rewrite ! 0 (λ (o : Option Opened.the_row.Denot). ‵
         (Place.the_row.own_val (record { at = place.at; alloc = place.alloc; opened = o }) z.0.4.0))
         opened.1 refl $
         use1 𝓛 (‵ ((B Boxed).own_val boxed z.0.4.0)) (id⊢ 𝓤 _) $
@@ -65,10 +64,8 @@ module _ {M : Type 1} {𝓤 : Ura M} (𝓛 : Logic 𝓤) (memory : Memory → SP
         let w = word Boxed handle b o in
         use1 𝓛 (‵ (Made.own_val made (w ∷ []))) (id⊢ 𝓤 _) $ move ! (1 ∷ []) $ drop ! $
         let Γ : List (Item 𝓤) = ‵ (Made.own_val made (w ∷ [])) ∷ [] in
-        by !
-        (subst (λ (vs : List Val). ent 𝓤 (types.Kit.⋆ 𝓛 Γ) (WpFn 𝓤 H 𝓣.C 𝓣.Λ code.function (vs ++ []) After))
-        (sym is_word)
-        (qed 𝓛 Γ ∵ enter ! 𝓣.C 𝓣.Λ code.function (w ∷ []) _ $ alloc_all !
+        by ! (subst (λ (vs : List Val). ent 𝓤 (types.Kit.⋆ 𝓛 Γ) (WpFn 𝓤 H 𝓣.C 𝓣.Λ code.function (vs ++ []) After))
+        (sym is_word) (qed 𝓛 Γ ∵ enter ! 𝓣.C 𝓣.Λ code.function (w ∷ []) _ $ alloc_all !
         (λ ls. pass_all ! refl (box_typed Boxed handle b o fits, tt) $
         sets ! (of_opd ! (get_in ! (fld ! refl (stop !)) (sub ! 0 refl (whole !)))) refl (tt, tt) $
         sets ! (of_opd ! (get_in ! (fld ! refl (stop !)) (sub ! 1 refl (whole !)))) refl fits $
@@ -88,5 +85,4 @@ into_unboxed_spec 𝓤 𝓛 𝓜 𝓡 wired =
     entered 𝓤 𝓛.H (triple_of 𝓛 F.signature (F.spec 𝓛 𝓜.mem 𝓡.returns)) 𝓣.C 𝓣.Λ #into_unboxed code.function
     (code.unfolded 𝓤 𝓛.H 𝓜 𝓡 wired)
     (walk_Meets 𝓛 F.ended stayed (Goes-dropped 𝓛 0 of_place yes (λ κs x f. refl), tt) (F.clauses 𝓛 𝓜.mem 𝓡.returns)
-    (WpFn 𝓤 𝓛.H 𝓣.C 𝓣.Λ code.function) (WpFn-mono 𝓤 𝓛.H 𝓛.laws 𝓣 code.function)
-    (walk 𝓛 𝓜.mem 𝓡.returns 𝓣))
+    (WpFn 𝓤 𝓛.H 𝓣.C 𝓣.Λ code.function) (WpFn-mono 𝓤 𝓛.H 𝓛.laws 𝓣 code.function) (walk 𝓛 𝓜.mem 𝓡.returns 𝓣))

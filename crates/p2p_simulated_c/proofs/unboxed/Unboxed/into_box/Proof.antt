@@ -74,8 +74,7 @@ module _ (E : Bx) where
           triple_of 𝓛 (FromRaw.signature E.row E.al.row E.al.g E.al.d E.al.drops)
           (FromRaw.spec E.row E.al.row E.al.g E.al.d E.al.drops 𝓛 memory run)
 
-      walk : Triple 𝓤 (𝓣.C (from_raw_symbol.name (args E))) Closing
-          → (z : (walk_of 𝓛 ended stayed clauses).Ghost)
+      walk : Triple 𝓤 (𝓣.C (from_raw_symbol.name (args E))) Closing → (z : (walk_of 𝓛 ended stayed clauses).Ghost)
           → ent 𝓤 ((walk_of 𝓛 ended stayed clauses).pre z)
           (WpFn 𝓤 H 𝓣.C 𝓣.Λ routine (z.0.4.0 ++ []) ((walk_of 𝓛 ended stayed clauses).post z))
       walk closing z =
@@ -113,14 +112,10 @@ module _ (E : Bx) where
           (id⊢ 𝓤 _) $
           calls_at_last ! (fm_of 𝓤 H 𝓛.laws 𝓣) Closing closing called
           (and_then ! (get ! refl) (and_then ! (get ! refl) (no_more !))) (λ u.
-          use1 𝓛 (later (some (λ (r : D E).
-          (lives ⊛ ‵ ((B E).own_val r (u ∷ [])))
-          ⊛ some
-          (λ (_ : Unit {0} × (Unit {0} × Unit {0})). ‵ (fsep ftrue (fsep ftrue ftrue)) ⊛
-          (raw (fact 𝓤 (r.value ≡ x)) ⊛ raw (fact 𝓤 (r.alloc ≡ a)))))))
-          (id⊢ 𝓤 _) $
-          await ! tt $ pick !
-          (λ r. split ! $ move ! (1 ∷ []) $ pick !
+          use1 𝓛 (later (some (λ (r : D E). (lives ⊛ ‵ ((B E).own_val r (u ∷ [])))
+          ⊛ some (λ (_ : Unit {0} × (Unit {0} × Unit {0})). ‵ (fsep ftrue (fsep ftrue ftrue)) ⊛
+          (raw (fact 𝓤 (r.value ≡ x)) ⊛ raw (fact 𝓤 (r.alloc ≡ a))))))) (id⊢ 𝓤 _) $
+          await ! tt $ pick ! (λ r. split ! $ move ! (1 ∷ []) $ pick !
           (λ _. split3 ! $ drop ! $ heard ! (r.value ≡ x) (λ same. drop ! $ split ! $ move ! (1 ∷ []) $
           -- and what it answers is returned
           box_out E ! r (u ∷ []) (λ b' o' handle' lies' is_word' fits'.
@@ -144,7 +139,6 @@ into_box_spec 𝓤 𝓛 𝓜 𝓡 wired T A T_laws A_laws g d drops allocator me
     entered 𝓤 𝓛.H (triple_of 𝓛 (ended E).signature (F.spec T A g d drops 𝓛 𝓜.mem 𝓡.returns)) 𝓣.C 𝓣.Λ
     (#into_box (args E)) fn (code.unfolded 𝓤 𝓛.H 𝓜 𝓡 wired (T, (A, tt)) d drops)
     (walk_Meets 𝓛 (ended E) (stayed E) (Goes-blank 𝓛 2 (plain (λ _. Fields E)) no (λ κs x f. tt), tt)
-    (clauses E 𝓛 𝓜.mem 𝓡.returns 𝓣) (WpFn 𝓤 𝓛.H 𝓣.C 𝓣.Λ fn) (WpFn-mono 𝓤 𝓛.H 𝓛.laws 𝓣 fn)
-    (walk E 𝓛 𝓜.mem 𝓡.returns 𝓣
+    (clauses E 𝓛 𝓜.mem 𝓡.returns 𝓣) (WpFn 𝓤 𝓛.H 𝓣.C 𝓣.Λ fn) (WpFn-mono 𝓤 𝓛.H 𝓛.laws 𝓣 fn) (walk E 𝓛 𝓜.mem 𝓡.returns 𝓣
     (from_raw.met 𝓤 𝓛 𝓜 𝓡 (code.calls-std_alloc::boxed::Box::from_raw 𝓡.env wired) T A T_laws A_laws g d drops
     allocator met)))

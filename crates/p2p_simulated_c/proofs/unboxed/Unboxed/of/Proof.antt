@@ -75,8 +75,7 @@ module _ (E : Bx) (dropped : Dict) where
           triple_of 𝓛 (IntoRaw.signature E.row E.al.row E.al.g E.al.d E.al.drops dropped)
           (IntoRaw.spec E.row E.al.row E.al.g E.al.d E.al.drops dropped 𝓛 memory run)
 
-      walk : Triple 𝓤 (𝓣.C (into_raw_symbol.name args)) Opening
-          → (z : (walk_of 𝓛 ended stayed clauses).Ghost)
+      walk : Triple 𝓤 (𝓣.C (into_raw_symbol.name args)) Opening → (z : (walk_of 𝓛 ended stayed clauses).Ghost)
           → ent 𝓤 ((walk_of 𝓛 ended stayed clauses).pre z)
           (WpFn 𝓤 H 𝓣.C 𝓣.Λ routine (z.0.4.0 ++ []) ((walk_of 𝓛 ended stayed clauses).post z))
       walk opening z =
@@ -106,8 +105,7 @@ module _ (E : Bx) (dropped : Dict) where
           (lives ⊛ ‵ ((Tuple (RawPtr ∷ P E ∷ [])).own_val r (u ∷ [])))
           ⊛ some
           (λ (_ : (Unit {0} × (Unit {0} × Unit {0})) × Unit {0}). ‵ (fsep (fsep ftrue (fsep ftrue ftrue)) ftrue) ⊛
-          (raw (fact 𝓤 (r.1 ≡ a)) ⊛ ‵ (box_owns (token E.al a) (R E) r.0 boxed.value))))))
-          (id⊢ 𝓤 _) $
+          (raw (fact 𝓤 (r.1 ≡ a)) ⊛ ‵ (box_owns (token E.al a) (R E) r.0 boxed.value)))))) (id⊢ 𝓤 _) $
           await ! tt $ pick !
           (λ r. split ! $ move ! (1 ∷ []) $ pick ! (λ _. split3 ! $ drop ! $ heard ! (r.1 ≡ a) (λ same.
           -- the pointer is to a block, and the pair's bits are those of its two parts
@@ -119,11 +117,8 @@ module _ (E : Bx) (dropped : Dict) where
           handle_tells E.al ! a parts.1.0 (λ handle' is_handle fits'.
           let parted : D E = record { ptr = block_ptr b' o'; alloc = a; value = boxed.value } in
           let made : Fields.Denot = record { at = block_ptr b' o'; alloc = a; held = boxed.value } in
-          lands_as !
-          (ap only
-          (is_pair
-          ∙ (λ j. vstruct (of_list ((is_ptr ∙ ap (λ (p : Ptr). ptr_val p ∷ []) lies') j ++ (is_handle j ++ [])))
-          ∷ [])))
+          lands_as ! (ap only (is_pair
+          ∙ (λ j. vstruct (of_list ((is_ptr ∙ ap (λ (p : Ptr). ptr_val p ∷ []) lies') j ++ (is_handle j ++ []))) ∷ [])))
           refl (box_typed E handle' b' o' fits') $
           -- `let (at, alloc) = ..`, and the struct of both
           sets ! (of_opd ! (get_in ! (fld ! refl (stop !)) (sub ! 0 refl (whole !)))) refl (tt, tt) $

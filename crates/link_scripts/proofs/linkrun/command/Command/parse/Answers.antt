@@ -6,8 +6,7 @@ returns-in_err-command c =
     rw c.from_residual.ensures (says_none c.args.line.now _ _ c.of-words.ensures c.in_err-command.ensures)
 
 pub returns-in-None : goal.returns-in-None
-returns-in-None c =
-    says_all c.args.line.now _ _ c.of-words.ensures _ c.in_ok-command.ensures c.in-None.ensures.none
+returns-in-None c = says_all c.args.line.now _ _ c.of-words.ensures _ c.in_ok-command.ensures c.in-None.ensures.none
 
 pub returns-in-Some : goal.returns-in-Some
 returns-in-Some c =

@@ -10,8 +10,7 @@ write_digits-requires c = (
 )
 
 pub overflow_sub-self : goal.overflow_sub-self
-overflow_sub-self c =
-    omega (arith, length-decimal-le 20 c.args.number (omega arith) (omega arith) c.ranges.number.fits)
+overflow_sub-self c = omega (arith, length-decimal-le 20 c.args.number (omega arith) (omega arith) c.ranges.number.fits)
 
 pub returns-clause-text : goal.returns-clause-text
 returns-clause-text c =

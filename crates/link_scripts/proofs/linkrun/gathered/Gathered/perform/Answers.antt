@@ -8,8 +8,7 @@ pub returns-then-gather-2-clause-in_turn : goal.returns-then-gather-2-clause-in_
 returns-then-gather-2-clause-in_turn g c =
     gathered_alone c.args.self.now c.send.new.self c.gather-2.new.self c.args.session.now c.send.new.session
     c.send.new.session (g.W.Write.contents c.args.output.now) (g.W.Write.contents c.send.new.output)
-    (g.W.Write.contents c.send.new.output)
-    (subst
+    (g.W.Write.contents c.send.new.output) (subst
     (λ (calls : List (Call ℕ)). PrintsInTurn calls c.args.session.now (g.W.Write.contents c.args.output.now)
     c.send.new.session (g.W.Write.contents c.send.new.output))
     (c.if-gather.ensures.kept refl) c.in_ok-send.ensures.printed)
@@ -19,8 +18,7 @@ pub returns-clause-in_turn : goal.returns-clause-in_turn
 returns-clause-in_turn g c =
     performed_and_printed c.args.self.now c.send.new.self c.gather-2.new.self c.args.session.now c.send.new.session
     c.perform.new.self (g.W.Write.contents c.args.output.now) (g.W.Write.contents c.send.new.output)
-    (g.W.Write.contents c.print.new.output)
-    (subst
+    (g.W.Write.contents c.print.new.output) (subst
     (λ (calls : List (Call ℕ)). PrintsInTurn calls c.args.session.now (g.W.Write.contents c.args.output.now)
     c.send.new.session (g.W.Write.contents c.send.new.output))
     (c.if-gather.ensures.kept refl) c.in_ok-send.ensures.printed)

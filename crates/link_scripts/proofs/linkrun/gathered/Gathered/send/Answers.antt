@@ -10,8 +10,7 @@ pub returns-in-Ok-clause-printed : goal.returns-in-Ok-clause-printed
 returns-in-Ok-clause-printed g c =
     sent_and_printed c.args.session.now c.send_all.new.self (g.W.Write.contents c.args.output.now)
     (g.W.Write.contents c.print_reply.new.output) c.args.self.now.moment c.args.self.now.messages.items c.in-Ok.reply
-    c.print_reply.result
-    (subst
+    c.print_reply.result (subst
     (λ (ms : List (Outgoing ℕ ℕ)). AnswersEach (zeroed_sends c.args.self.now.moment ms) c.args.session.now.scheduler
     c.in-Ok.reply c.send_all.new.self.scheduler)
     c.deref.ensures.value c.in-Ok.ensures.one_by_one)

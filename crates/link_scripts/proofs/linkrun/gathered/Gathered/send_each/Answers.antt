@@ -28,8 +28,7 @@ loop-one-preserved g c =
           (says_same_after_call c.loop-one.session c.perform.new.self c.perform.result c.perform.ensures.done
           c.perform.ensures.kept);
       printed =
-          subst
-          (λ (sends : List (Call ℕ)). PrintsInTurn sends c.args.session.now (g.W.Write.contents c.args.output.now)
+          subst (λ (sends : List (Call ℕ)). PrintsInTurn sends c.args.session.now (g.W.Write.contents c.args.output.now)
           c.perform.new.self (g.W.Write.contents c.print.new.output))
           (sym (ap (zeroed_sends now) more ∙ sends-append now (take i messages) m))
           (one_printed c.loop-one.session c.perform.new.self (g.W.Write.contents c.loop-one.output)
@@ -46,7 +45,6 @@ returns-clause-printed g c =
     let all : length messages ≤ c.loop-one.one-index =
     subst (λ (ms : List (Outgoing ℕ ℕ)). length ms ≤ c.loop-one.one-index) c.deref-one-items.ensures.value
     c.loop-one-test.false in
-    subst
-    (λ (ms : List (Outgoing ℕ ℕ)). PrintsInTurn (zeroed_sends c.args.self.now.moment ms) c.args.session.now
+    subst (λ (ms : List (Outgoing ℕ ℕ)). PrintsInTurn (zeroed_sends c.args.self.now.moment ms) c.args.session.now
     (g.W.Write.contents c.args.output.now) c.loop-one.session (g.W.Write.contents c.loop-one.output))
     (take_all c.loop-one.one-index messages all) c.loop-one.invariant.printed

@@ -18,8 +18,7 @@ allocate_linked-requires-clause-link c = search (of_calls, callable_on_each_pair
 pub returns-clause-fair : goal.returns-clause-fair
 returns-clause-fair c =
     rates_if_ok _ _ _ _ _ _ (said_caps c.args.self.now) (λ peer answer after k. search rules)
-    (λ peer answer after k. search rules) (λ origin recipient answer after k. search rules)
-    (λ rates. get nat_cmp rates)
+    (λ peer answer after k. search rules) (λ origin recipient answer after k. search rules) (λ rates. get nat_cmp rates)
     c.allocate_linked.result _ _ c.deref.ensures.value c.allocate_linked.ensures.under_caps
 
 pub returns-clause-refused : goal.returns-clause-refused

@@ -13,8 +13,7 @@ returns-then-rest-at-eq-SPACE-clause-taken c =
     ∙ ap (λ rest. take at line ∷ parts_of rest) (sym (take_rest line (at + 1)))
 
 pub loop-at-preserved : goal.loop-at-preserved
-loop-at-preserved c =
-    one_byte_more c.in_ok-rest.rest.now c.loop-at.at (omega arith) c.loop-at.invariant (search rules)
+loop-at-preserved c = one_byte_more c.in_ok-rest.rest.now c.loop-at.at (omega arith) c.loop-at.invariant (search rules)
 
 pub returns-clause-taken : goal.returns-clause-taken
 returns-clause-taken c =

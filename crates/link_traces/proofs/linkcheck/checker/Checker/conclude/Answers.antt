@@ -14,8 +14,7 @@ returns-clause-agrees c =
       | in-Some w ↦ let no = sym w.report-is ∙ sym verdict ∙ is in absurd cc
     ] in
     is_headed text c.args.self.now c.report-2.result underway (c.if-not-is_all_said.ensures.0 refl) exact
-    c.if-self-eq0.false
-    (ap (λ r. r.calls) c.report-2.ensures) (ap (λ r. r.completions) c.report-2.ensures)
+    c.if-self-eq0.false (ap (λ r. r.calls) c.report-2.ensures) (ap (λ r. r.completions) c.report-2.ensures)
     (ap (λ r. r.out_of_turn) c.report-2.ensures)
 
 pub returns-clause-within : goal.returns-clause-within

@@ -7,8 +7,7 @@ use Rattle.link_traces.proofs.linkcheck.progress.Progress.ask.Goals as goal
 pub returns-in-Ok : goal.returns-in-Ok
 returns-in-Ok c =
     let reply = reply_of c.reply_to-reply.result in
-    λ said before none. asked said c.args.self.now _ c.args.call.now reply
-    (record {
+    λ said before none. asked said c.args.self.now _ c.args.call.now reply (record {
       in_range = c.requires;
       by_rule = c.reply_to-reply.ensures.by_rule;
       simulated = c.reply_to-reply.ensures.simulated;

@@ -10,8 +10,7 @@ returns-in_default-clause-kept c =
 
 pub returns-clause-silent : goal.returns-clause-silent
 returns-clause-silent c =
-    λ is said told none. sent said c.args.self.now _ c.args.batch.now
-    (record {
+    λ is said told none. sent said c.args.self.now _ c.args.batch.now (record {
       in_range = c.requires.in_range;
       some = search rules;
       reply = c.in-Ok.reply;
