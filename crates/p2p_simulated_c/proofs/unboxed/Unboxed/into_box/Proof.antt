@@ -1,41 +1,16 @@
 -- The two fields are moved out, and `Box::from_raw` is called on them; what they own is what it asks for.
-use lib.Dec.{T}
-use mathlib.Core.Path.{◌≡◌, refl, sym, subst, ap}
-use mathlib.Core.List.{List, [], ◌∷◌, ◌++◌}
-use seplogic.Ra.Ura.{Ura}
-use mir.Val.{Val, vptr, has_ty, WT}
-use mir.MapTy.{inst_fn}
-use mir.Syntax.{Fn, Body, place, copy, assign, rv_opd, seq, return}
-use base.Fml.{ftrue, fsep, flft}
-use base.Logic.{SProp, ent, id⊢}
-use contract.BorrowLft.{◌⊑◌}
-use contract.Monad.{Fun, fact}
-use contract.Running.{tables, tables_of}
-use prog.Wp.{WpFn, Tables}
-use prog.Memory.{Memory}
-use prog.Routine.{Routine}
-use sound.WpLaws.{fm_of, WpFn-mono}
-use types.Logic.{Logic}
-use types.Part.{whole, sub}
-use types.Run.{stop, fld, no_more, and_then, of_opd, returns, enter, first, blocks, exec}
-use types.ByLocal.{alloc_all, pass_all, free_all, look_at, get, get_in, sets, lands_last, env}
-use types.Kit.{Item, at_ret, ‵, raw, ◌⊛◌, some, later, ◌$◌, ◌∵◌, !, qed, by, move, drop, use1, join, split, split3}
-use types.Kit.{pick, rewrite, fsplit, fjoin, feq_i, suffices, await, done}
-use denote.Exit.{no}
-use denote.RattleType.{RattleType}
-use denote.RawPtr.{block_ptr}
-use denote.Signature.{plain}
-use denote.Steps.{heard, nothing, only}
-use denote.Triple.Call.{calls_at_last}
-use denote.Triple.Clauses.{Ended, Clauses}
-use denote.Triple.Spec.{triple_of}
-use denote.Triple.Statement.{Triple, Contract}
-use denote.Triple.Table.{entered}
-use denote.Triple.Walked.{says, Stays, stay_dropped, walk_of, ends_at, walk_Meets}
-use Rattle.core.proofs.alloc.Calls.{token, Goes-blank}
-use Rattle.std_alloc.specs.Box.Ownership.{box_owns}
-use Rattle.std_alloc.proofs.BoxSteps.Form.{Bx, D, R, P, B, args, box_ty, word, box_typed}
-use Rattle.std_alloc.proofs.BoxSteps.Steps.{box_out, box_in}
+use Rattle.p2p_simulated_c.proofs.Common.{T, ◌≡◌, refl, sym, subst, ap, List, [], ◌∷◌, ◌++◌, Ura, Val, vptr, has_ty, WT}
+use Rattle.p2p_simulated_c.proofs.Common.{inst_fn, Fn, Body, place, copy, assign, rv_opd, seq, return, ftrue, fsep}
+use Rattle.p2p_simulated_c.proofs.Common.{flft, SProp, ent, id⊢, ◌⊑◌, Fun, fact, tables, tables_of, WpFn, Tables}
+use Rattle.p2p_simulated_c.proofs.Common.{Memory, Routine, fm_of, WpFn-mono, Logic, whole, sub, stop, fld, no_more}
+use Rattle.p2p_simulated_c.proofs.Common.{and_then, of_opd, returns, enter, first, blocks, exec, alloc_all, pass_all}
+use Rattle.p2p_simulated_c.proofs.Common.{free_all, look_at, get, get_in, sets, lands_last, env, Item, at_ret, ‵, raw}
+use Rattle.p2p_simulated_c.proofs.Common.{◌⊛◌, some, later, ◌$◌, ◌∵◌, !, qed, by, move, drop, use1, join, split, split3}
+use Rattle.p2p_simulated_c.proofs.Common.{pick, rewrite, fsplit, fjoin, feq_i, suffices, await, done, no, RattleType}
+use Rattle.p2p_simulated_c.proofs.Common.{block_ptr, plain, heard, nothing, only, calls_at_last, Ended, Clauses}
+use Rattle.p2p_simulated_c.proofs.Common.{triple_of, Triple, Contract, entered, says, Stays, stay_dropped, walk_of}
+use Rattle.p2p_simulated_c.proofs.Common.{ends_at, walk_Meets, token, Goes-blank, box_owns, Bx, D, R, P, B, args}
+use Rattle.p2p_simulated_c.proofs.Common.{box_ty, word, box_typed, box_out, box_in}
 use Rattle.std_alloc.specs.contracts.boxed.Box.from_raw as FromRaw
 use Rattle.std_alloc.proofs.boxed.Box.from_raw.Met as from_raw
 use Rattle.std_alloc.proofs.boxed.Box.from_raw.Symbol as from_raw_symbol

@@ -1,43 +1,18 @@
 -- `Box::into_raw_with_allocator` is called, and the pointer and the allocator that it answers own what the box owned.
-use mathlib.Core.Path.{◌≡◌, refl, sym, subst, ap, ◌∙◌}
-use mathlib.Core.List.{List, [], ◌∷◌, ◌++◌}
-use seplogic.Ra.Ura.{Ura}
+use Rattle.p2p_simulated_c.proofs.Common.{◌≡◌, refl, sym, subst, ap, ◌∙◌, List, [], ◌∷◌, ◌++◌, Ura, Val, vstruct}
+use Rattle.p2p_simulated_c.proofs.Common.{of_list, inst_fn, Fn, Args, Dict, a_type, dcons, dnil, ftrue, fsep, flft}
+use Rattle.p2p_simulated_c.proofs.Common.{SProp, ent, id⊢, never, fst∗, ◌⊑◌, Fun, fact, tables, tables_of, WpFn, Tables}
+use Rattle.p2p_simulated_c.proofs.Common.{Memory, Routine, fm_of, WpFn-mono, Logic, sem, whole, sub, agg, stop, fld}
+use Rattle.p2p_simulated_c.proofs.Common.{no_more, and_then, of_opd, returns, enter, alloc_all, pass_all, free_all}
+use Rattle.p2p_simulated_c.proofs.Common.{look_at, get, get_in, sets, lands_as, Item, ‵, raw, ◌⊛◌, some, later, ◌$◌}
+use Rattle.p2p_simulated_c.proofs.Common.{◌∵◌, !, qed, by, move, drop, use1, join, split, split3, pick, rewrite, fsplit}
+use Rattle.p2p_simulated_c.proofs.Common.{fjoin, fpick, feq_l, suffices, await, done, no, bounded, RattleType, Ptr}
+use Rattle.p2p_simulated_c.proofs.Common.{RawPtr, block_ptr, null_ptr, ptr_val, in_a_block, plain, heard, nothing, only}
+use Rattle.p2p_simulated_c.proofs.Common.{calls_at, Ended, Clauses, triple_of, Triple, Contract, entered, says, Stays}
+use Rattle.p2p_simulated_c.proofs.Common.{stay_dropped, walk_of, ends_at, walk_Meets, token, handle_tells, Goes-blank}
+use Rattle.p2p_simulated_c.proofs.Common.{box_owns, Bx, D, τ, R, P, B, word, box_typed, box_out, box_in}
 use mir.Raw.{raw as bare}
-use mir.Val.{Val, vstruct, of_list}
-use mir.MapTy.{inst_fn}
-use mir.Syntax.{Fn, Args, Dict, a_type, dcons, dnil}
-use base.Fml.{ftrue, fsep, flft}
-use base.Logic.{SProp, ent, id⊢, never, fst∗}
-use contract.BorrowLft.{◌⊑◌}
-use contract.Monad.{Fun, fact}
-use contract.Running.{tables, tables_of}
-use prog.Wp.{WpFn, Tables}
-use prog.Memory.{Memory}
-use prog.Routine.{Routine}
-use sound.WpLaws.{fm_of, WpFn-mono}
-use types.Logic.{Logic, sem}
-use types.Part.{whole, sub, agg}
-use types.Run.{stop, fld, no_more, and_then, of_opd, returns, enter}
-use types.ByLocal.{alloc_all, pass_all, free_all, look_at, get, get_in, sets, lands_as}
-use types.Kit.{Item, ‵, raw, ◌⊛◌, some, later, ◌$◌, ◌∵◌, !, qed, by, move, drop, use1, join, split, split3, pick}
-use types.Kit.{rewrite, fsplit, fjoin, fpick, feq_l, suffices, await, done}
-use denote.Exit.{no}
-use denote.Param.{bounded}
-use denote.RattleType.{RattleType}
-use denote.RawPtr.{Ptr, RawPtr, block_ptr, null_ptr, ptr_val, in_a_block}
-use denote.Signature.{plain}
-use denote.Steps.{heard, nothing, only}
 use denote.Struct.Tuple.{Tuple}
-use denote.Triple.Call.{calls_at}
-use denote.Triple.Clauses.{Ended, Clauses}
-use denote.Triple.Spec.{triple_of}
-use denote.Triple.Statement.{Triple, Contract}
-use denote.Triple.Table.{entered}
-use denote.Triple.Walked.{says, Stays, stay_dropped, walk_of, ends_at, walk_Meets}
-use Rattle.core.proofs.alloc.Calls.{token, handle_tells, Goes-blank}
-use Rattle.std_alloc.specs.Box.Ownership.{box_owns}
-use Rattle.std_alloc.proofs.BoxSteps.Form.{Bx, D, τ, R, P, B, word, box_typed}
-use Rattle.std_alloc.proofs.BoxSteps.Steps.{box_out, box_in}
 use Rattle.std_alloc.specs.contracts.boxed.Box.into_raw_with_allocator as IntoRaw
 use Rattle.std_alloc.proofs.boxed.Box.into_raw_with_allocator.Met as into_raw
 use Rattle.std_alloc.proofs.boxed.Box.into_raw_with_allocator.Symbol as into_raw_symbol
