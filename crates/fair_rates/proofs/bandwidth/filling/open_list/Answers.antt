@@ -34,15 +34,6 @@ loop-side-preserved c = record {
       opened_without c.loop-side.yielded c.in-Some.side c.loop-side.opens.items c.loop-side.invariant.opened
       (grind (arith, common_steps, c.is_empty.ensures, c.if-not-is_empty.false));
   count =
-      omega (arith, c.loop-side.invariant.count, length-append {A = Side} c.loop-side.yielded (c.in-Some.side ∷ []));
-}
-
-pub loop-side-preserved-else-not-is_empty : goal.loop-side-preserved-else-not-is_empty
-loop-side-preserved-else-not-is_empty c = record {
-  opened =
-      opened_without c.loop-side.yielded c.in-Some.side c.loop-side.opens.items c.loop-side.invariant.opened
-      (grind (arith, common_steps, c.is_empty.ensures, c.if-not-is_empty.false));
-  count =
       omega (
         arith,
         c.loop-side.invariant.count,
