@@ -13,12 +13,10 @@ use Rattle.fair_rates.proofs.Refusals.Promise.{distinct_sides, users_below_sides
 pub allocated : {P E I L : Type 0} (cmp : P → P → Ordering) (egress : Calls E P) (ingress : Calls I P)
     (link : PairCalls L P) (first : States E I L) (flows : List (Flow P)) (rate_of : ℕ → Option Rate)
     → (answered : List (Answered P)) (sides : List declared_side.Side) (rates : List Rate)
-    → AnswerInOrder egress ingress link first flows answered
-    → map side_of sides ≡ sides_of cmp answered
+    → AnswerInOrder egress ingress link first flows answered → map side_of sides ≡ sides_of cmp answered
     → All (λ side. All (λ flow. flow < length flows) side.users.items) sides
     → All (λ side. AllPairs (λ a b. a < b) side.users.items) sides
-    → AreFairRates (map side_of sides) (length flows) rates
-    → ((id : ℕ) → rate_of id ≡ last_rate id flows rates)
+    → AreFairRates (map side_of sides) (length flows) rates → ((id : ℕ) → rate_of id ≡ last_rate id flows rates)
     → IsAllocation cmp egress ingress link first flows rate_of
 allocated cmp egress ingress link first flows rate_of answered sides rates in_order registered below rise filled by_id =
     let fair : AreFairRates (sides_of cmp answered) (length flows) rates = search rules in
@@ -42,13 +40,10 @@ allocated cmp egress ingress link first flows rate_of answered sides rates in_or
 pub counted : {P E I L : Type 0} (cmp : P → P → Ordering) (egress : Calls E P) (ingress : Calls I P)
     (link : PairCalls L P) (first : States E I L) (flows : List (Flow P)) (rate_of : ℕ → Option Rate) (rounds : ℕ)
     → (answered : List (Answered P)) (sides : List declared_side.Side) (rates : List Rate)
-    → AnswerInOrder egress ingress link first flows answered
-    → map side_of sides ≡ sides_of cmp answered
+    → AnswerInOrder egress ingress link first flows answered → map side_of sides ≡ sides_of cmp answered
     → All (λ side. All (λ flow. flow < length flows) side.users.items) sides
     → All (λ side. AllPairs (λ a b. a < b) side.users.items) sides
-    → AreFairRates (map side_of sides) (length flows) rates
-    → HasDifferentRates rates rounds
-    → rounds ≤ length sides
+    → AreFairRates (map side_of sides) (length flows) rates → HasDifferentRates rates rounds → rounds ≤ length sides
     → ((id : ℕ) → rate_of id ≡ last_rate id flows rates)
     → IsCountedAllocation cmp egress ingress link first flows rate_of rounds
 unfolding allocated

@@ -22,11 +22,6 @@ the_allocation sides flows rates users f =
 
 -- what closures that answer by caps have allocated is fair under the caps
 pub allocates_under_caps : {P E I L : Type 0} (cmp : P → P → Ordering) (egress : Calls E P) (ingress : Calls I P)
-    (link : PairCalls L P)
-    → AllocatesUnderCaps cmp egress ingress link
+    (link : PairCalls L P) → AllocatesUnderCaps cmp egress ingress link
 allocates_under_caps {P} cmp egress ingress link caps first flows rate_of by a =
-    grind (
-      arith,
-      common_steps,
-      answers_are_those_of_the_caps egress ingress link caps first flows a.answered by a.in_order,
-    )
+    grind (arith, common_steps, answers_are_those_of_the_caps egress ingress link caps first flows a.answered by a.in_order)

@@ -137,8 +137,7 @@ module _ {P : Type 0} (cmp : P → P → Ordering) (caps : Caps P) where
           fair = fair_among order of xs f.parts f.per (stands_allotted f.parts 0 flows rates)
               (subst (λ (fs : List (Flow P)). IsFair (sides_under cmp caps fs) f.per f.parts) (sym flows_are) f.fair)
               (λ k x at. subst (λ (fs : List (Flow P)). IsRateOf (sides_under cmp caps fs) f.per f.parts k x.rate)
-              (sym flows_are)
-              (rate_at (sides_under cmp caps flows) (length flows) rates f k x.rate
+              (sym flows_are) (rate_at (sides_under cmp caps flows) (length flows) rates f k x.rate
               (subst (λ (rs : List Rate). slice_get rs k ≡ Some x.rate) rates_are (rate_there xs k x at))));
         }
 
@@ -151,8 +150,7 @@ module _ {P : Type 0} (cmp : P → P → Ordering) (caps : Caps P) where
       fair = fair order of xs parts per stands f;
       rated = λ k d within.
           let p = at_place xs k (omega (arith, within, length-map xs flow_of)) in
-          let e : get_or (rates_of xs) k d ≡ p.0.rate =
-          get_or_from_slice_get (rates_of xs) k p.0.rate d (rate_there xs k p.0 p.1) in
+          let e = get_or_from_slice_get (rates_of xs) k p.0.rate d (rate_there xs k p.0 p.1) in
           subst (λ r. IsRateOf (sides_under cmp caps (flows_of xs)) per parts k r) (sym e)
           (rate_back order of xs parts per stands p.0 k p.1 p.0.rate (f.rated p.0 (in_get xs k p.0 p.1)));
     }

@@ -20,11 +20,7 @@ module _ {P E I L : Type 0} (cmp : P → P → Ordering) (egress : Calls E P) (i
   pub too_large_under_caps : IsTooLarge cmp egress ingress link first flows
       → AreTooLargeUnderCaps cmp egress ingress link first flows
   too_large_under_caps h caps by =
-      grind (
-        arith,
-        common_steps,
-        answers_are_those_of_the_caps egress ingress link caps first flows h.answered by h.in_order,
-      )
+      grind (arith, common_steps, answers_are_those_of_the_caps egress ingress link caps first flows h.answered by h.in_order)
 
   pub refused_under_caps : {X : Type 0} (result : Result X Error)
       → IfErr result (λ e. (e ≡ OutOfMemory) ⊎ ((e ≡ NumberTooLarge) × IsTooLarge cmp egress ingress link first flows))

@@ -18,7 +18,7 @@ old (true ∷ flags) zero = 0
 old (true ∷ flags) (suc j) = suc (old flags j)
 old (false ∷ flags) j = suc (old flags j)
 
-place_in-suc : (flag : Bool) (flags : List Bool) (i : ℕ)
+pub place_in-suc : (flag : Bool) (flags : List Bool) (i : ℕ)
     → place_in (flag ∷ flags) (suc i) ≡ cond flag 1 0 + place_in flags i
 place_in-suc flag flags i = sum_by-cons (λ b. cond b 1 0) flag (take i flags)
 
@@ -47,7 +47,7 @@ sum_by-map : (f : ℕ → ℕ) (g : ℕ → ℕ) (xs : List ℕ) → sum_by f (m
 sum_by-map f g [] = refl
 sum_by-map f g (x ∷ xs) = search (rules, sum_by-cons, sum_by-map f g xs)
 
-sum_by-agree : (f g : ℕ → ℕ) (xs : List ℕ) → ((x : ℕ) → In xs x → f x ≡ g x) → sum_by f xs ≡ sum_by g xs
+pub sum_by-agree : (f g : ℕ → ℕ) (xs : List ℕ) → ((x : ℕ) → In xs x → f x ≡ g x) → sum_by f xs ≡ sum_by g xs
 sum_by-agree f g [] h = refl
 sum_by-agree f g (x ∷ xs) h =
     omega
@@ -127,9 +127,8 @@ module _ (flags : List Bool) where
     stood_limited : (j : ℕ) → IsLimited (sides_in flags sides) j → StoodLimited j
     stood_limited j (t, uses) =
         let f = from_sides_in sides t (in_from_contains (sides_in flags sides) t uses.listed) in
-        let r : (u : ℕ) × In f.side.users u × (place_in flags u ≡ j) =
-        from_map (place_in flags) f.side.users j
-        (subst (λ (s : Side). In s.users j) f.is (in_from_contains t.users j uses.used)) in
+        let r = from_map (place_in flags) f.side.users j (subst (λ (s : Side). In s.users j) f.is
+        (in_from_contains t.users j uses.used)) in
         let own = all_own f.side f.user f.listed f.used f.own r.0 r.1 in
         record {
           u = r.0;
@@ -168,15 +167,13 @@ module _ (flags : List Bool) where
             greatest =
                 All-from_contains (λ i. kept_parts i ≤ kept_parts (place_in flags u))
                 (map (place_in flags) b.side.users) (λ i used.
-                let r : (v : ℕ) × In b.side.users v × (place_in flags v ≡ i) =
-                from_map (place_in flags) b.side.users i
-                (in_from_contains (map (place_in flags) b.side.users) i used) in
+                let r = from_map (place_in flags) b.side.users i (in_from_contains (map (place_in flags) b.side.users) i
+                used) in
                 let le =
                 All-contains (λ v. parts v ≤ parts u) b.side.users r.0 b.greatest
                 (contains_from_in b.side.users r.0 r.1) in
                 let mine : kept_parts (place_in flags u) ≡ parts u = ap parts (old_of_place flags u own) in
-                let other : kept_parts i ≡ parts r.0 =
-                ap kept_parts (sym r.2) ∙ ap parts (old_of_place flags r.0 (all r.0 r.1)) in
+                let other = ap kept_parts (sym r.2) ∙ ap parts (old_of_place flags r.0 (all r.0 r.1)) in
                 omega (arith, le, mine, other));
           }
 
@@ -197,8 +194,7 @@ module _ (flags : List Bool) where
       }
 
       kept_rate : (j : ℕ) (r : Rate) → is_in flags (old flags j) ≡ true → place_in flags (old flags j) ≡ j
-          → IsRateOf sides per parts (old flags j) r
-          → IsRateOf (sides_in flags sides) per kept_parts j r
+          → IsRateOf sides per parts (old flags j) r → IsRateOf (sides_in flags sides) per kept_parts j r
       kept_rate j Unlimited own place none = λ limited.
           let w = stood_limited j limited in none (subst (IsLimited sides) (sym w.was) w.limited)
       kept_rate j (Finite ratio) own place ((side, uses), worth) = (

@@ -37,11 +37,9 @@ module _ {P : Type 0} (cmp : P → P → Ordering) (order : IsTotalOrder cmp) wh
 
     rated_at : (f : Flow P) → In flows f → IsRatedAt f
     rated_at f h =
-        let r : (x : Allotted P) × In said.all x × (x.flow ≡ f) =
-        from_map (λ (x : Allotted P). x.flow) said.all f
-        (subst (λ (fs : List (Flow P)). In fs f) (sym said.flows_are) h) in
-        let own : last_rate r.0.flow.id (flows_of said.all) (rates_of said.all) ≡ Some r.0.rate =
-        rate_by_id said.all r.0 (subst HaveDistinctIds (sym said.flows_are) distinct) r.1 in
+        let r = from_map (λ (x : Allotted P). x.flow) said.all f (subst (λ (fs : List (Flow P)). In fs f)
+        (sym said.flows_are) h) in
+        let own = rate_by_id said.all r.0 (subst HaveDistinctIds (sym said.flows_are) distinct) r.1 in
         let same : last_rate f.id flows a.rates ≡ last_rate r.0.flow.id (flows_of said.all) (rates_of said.all) =
         search rules in
         record { x = r.0; among = r.1; is = r.2; rate = a.by_id f.id ∙ same ∙ own }
@@ -77,10 +75,7 @@ module _ {P : Type 0} (cmp : P → P → Ordering) (order : IsTotalOrder cmp) wh
       let kept_fair = part_is_fair cmp order caps peers flows a.rates of ends a.fair in
       let one : b.rates ≡ flagged (map mine flows) a.rates = search (rules, one_allocation) in
       let few : HaveDistinctIds own = λ id. omega (arith, distinct id, count_by-filter (has id) mine flows) in
-      let rate : last_rate r.x.flow.id (flows_of xs) (rates_of xs) ≡ Some r.x.rate =
-      rate_by_id xs r.x (subst HaveDistinctIds (sym flows_is) few) among in
+      let rate = rate_by_id xs r.x (subst HaveDistinctIds (sym flows_is) few) among in
       b.by_id f.id
       ∙ ap₂ (λ (fs : List (Flow P)) (rs : List Rate). last_rate f.id fs rs) (sym flows_is) (one ∙ sym rates_is)
-      ∙ ap (λ (g : Flow P). last_rate g.id (flows_of xs) (rates_of xs)) (sym r.is)
-      ∙ rate
-      ∙ sym r.rate
+      ∙ ap (λ (g : Flow P). last_rate g.id (flows_of xs) (rates_of xs)) (sym r.is) ∙ rate ∙ sym r.rate

@@ -7,7 +7,7 @@ use Rattle.fair_rates.proofs.Lists.SumOrder.{All-from_contains, sum_by-zero}
 use Rattle.fair_rates.proofs.Fairness.MaxMin.{rate_at}
 
 -- a member is at most the sum
-member_at_most : (f : ℕ → ℕ) (xs : List ℕ) (x : ℕ) → Contains xs x → f x ≤ sum_by f xs
+pub member_at_most : (f : ℕ → ℕ) (xs : List ℕ) (x : ℕ) → Contains xs x → f x ≤ sum_by f xs
 member_at_most f xs x c = subst (λ y. f y ≤ sum_by f xs) c.2 (get_or-le-sum_by f xs c.0 x c.1)
 
 closed_is_zero : (sides : List Side) (per : ℕ) (parts : ℕ → ℕ) → IsFair sides per parts → (flow : ℕ)
@@ -38,7 +38,6 @@ fair_rates_are_zero_where_closed sides flows rates f flow r has =
           (eq_of_mul-eq-mul_right r.denominator r.positive (f.parts flow) 0 product)),
       (λ closed.
           let product : r.numerator * f.per ≡ 0 * f.per =
-          omega
-          (arith, is.1, ap (λ n. n * r.denominator) (closed_is_zero sides f.per f.parts f.fair flow closed)) in
+          omega (arith, is.1, ap (λ n. n * r.denominator) (closed_is_zero sides f.per f.parts f.fair flow closed)) in
           eq_of_mul-eq-mul_right f.per f.fair.some_part r.numerator 0 product),
     )

@@ -34,15 +34,12 @@ module _ (sides : List Side) (per : ℕ) (parts : ℕ → ℕ) where
 
   passes : (flow : ℕ) (b : HasBottleneck sides per parts flow) → is_bottleneck flow b.side ≡ true
   passes flow b =
-      let used : is_used_by flow b.side ≡ true =
-      any_passes (λ user. eqb user flow) b.side.users flow (in_from_contains b.side.users flow b.uses.used)
+      let used = any_passes (λ user. eqb user flow) b.side.users flow (in_from_contains b.side.users flow b.uses.used)
       (eq-eqb flow flow refl) in
       let full : is_full b.side ≡ true = eq-eqb (load parts b.side) (b.side.cap * per) b.full in
-      let greatest : is_greatest flow b.side ≡ true =
-      all_passed (λ other. nat_le (parts other) (parts flow)) b.side.users
-      (λ other among. le-leb (parts other) (parts flow)
-      (All-contains (λ other. parts other ≤ parts flow) b.side.users other b.greatest
-      (contains_from_in b.side.users other among))) in
+      let greatest = all_passed (λ other. nat_le (parts other) (parts flow)) b.side.users
+      (λ other among. le-leb (parts other) (parts flow) (All-contains (λ other. parts other ≤ parts flow) b.side.users
+      other b.greatest (contains_from_in b.side.users other among))) in
       and_from (is_used_by flow b.side) (is_full b.side && is_greatest flow b.side) used
       (and_from (is_full b.side) (is_greatest flow b.side) full greatest)
 
@@ -71,8 +68,7 @@ module _ (sides : List Side) (per : ℕ) (parts : ℕ → ℕ) where
     held = λ flow limited. elim (some_or_none (is_bottleneck flow) sides) [
       | inl (side, among, is) ↦ found flow side among is
       | inr none ↦ absurd
-          (∥∥₁_elim so (hlevel props)
-          (λ f. let b = f.held flow limited in
+          (∥∥₁_elim so (hlevel props) (λ f. let b = f.held flow limited in
           false≢true (sym (none b.side (in_from_contains sides b.side b.uses.listed)) ∙ passes flow b)))
     ];
   }

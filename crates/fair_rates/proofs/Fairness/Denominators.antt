@@ -118,8 +118,7 @@ divides_each k (d ∷ ds) m some pos h =
     let rest = All-tail (λ d. 0 < d) d ds pos in
     let first : k * d ∣ m = let e : (k + 0) * d ≡ k * d = omega arith in subst (λ n. n ∣ m) e (h 0 (omega arith)) in
     lcm-least (k * d) (multiple_from (suc k) ds) m (multiple-pos (suc k) ds (omega arith) rest) first
-    (divides_each (suc k) ds m (omega arith) rest
-    (λ i l. let e : k + suc i ≡ suc k + i = omega arith in
+    (divides_each (suc k) ds m (omega arith) rest (λ i l. let e : k + suc i ≡ suc k + i = omega arith in
     subst (λ n. n * get_or ds i 0 ∣ m) e (h (suc i) (omega arith))))
 
 -- ---- entries divide later ones
@@ -134,8 +133,7 @@ divides m (suc k) some =
     let at : get_or (entries n) k 0 ≡ denominator_of m = entry_at n k (omega arith) ∙ ap denominator_of back in
     let e : 1 + k ≡ suc k = omega arith in
     let next : suc n ≡ m + suc k = omega arith in
-    subst (λ j. suc k * denominator_of m ∣ denominator_of j) next
-    (rw of_more
+    subst (λ j. suc k * denominator_of m ∣ denominator_of j) next (rw of_more
     (subst (λ j. suc k * j ∣ multiple_from 1 (entries n)) at
     (subst (λ j. j * get_or (entries n) k 0 ∣ multiple_from 1 (entries n)) e (has_each 1 (entries n) k within))))
 
@@ -196,8 +194,7 @@ entry_divides : (fuel n : ℕ) → n < fuel → (m : ℕ) → IsMultipleOfAll n 
 entry_divides zero n enough m h = absurd (omega arith)
 entry_divides (suc fuel) zero enough m h = rw of_none (one-dvd m)
 entry_divides (suc fuel) (suc n) enough m h =
-    rw of_more
-    (divides_each 1 (entries n) m (omega arith) (all_positive n)
+    rw of_more (divides_each 1 (entries n) m (omega arith) (all_positive n)
     (λ i l. by_place i (omega (arith, length_entries n))
     (λ j le. entry_divides fuel (n - j) (omega arith) (m / (1 + j)))))
   where
@@ -207,8 +204,7 @@ entry_divides (suc fuel) (suc n) enough m h =
     by_place i le ih =
         let all : 1 + i + (n - i) ≡ suc n = omega arith in
         let rest = without_one (n - i) (1 + i) m (omega arith) (subst (λ j. IsMultipleOfAll j m) (sym all) h) in
-        rw (entry_at n i le)
-        (subst (λ j. (1 + i) * denominator_of (n - i) ∣ j) rest.0
+        rw (entry_at n i le) (subst (λ j. (1 + i) * denominator_of (n - i) ∣ j) rest.0
         (mul-dvd-mul_left (denominator_of (n - i)) (1 + i) (ih i le rest.1)))
 
 pub is_least_multiple : (n : ℕ) → IsLeastMultiple n (denominator_of n)

@@ -70,8 +70,7 @@ halves_are_fair r s e f = record { one_each = refl; per = 2; parts = one; fair =
 -- a fair rate of the first is a half
 first_is_half : (r s : Ratio) → AreFairForThree (Finite r) (Finite s) Unlimited → IsHalf r
 first_is_half r s f =
-    let is : IsLimited shared 0 × (r.numerator * f.per ≡ f.parts 0 * r.denominator) =
-    f.rated 0 Unlimited (omega arith) in
+    let is = f.rated 0 Unlimited (omega arith) in
     let same = same_amounts shared f.per 2 f.parts one f.fair one_is_fair 0 first_uses in
     let scaled : r.numerator * 2 * f.per ≡ 1 * r.denominator * f.per =
     omega (arith, ap (λ n. n * 2) is.1, ap (λ n. n * r.denominator) same) in

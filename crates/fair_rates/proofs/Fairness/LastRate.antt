@@ -11,10 +11,8 @@ or_else_twice (Some x) b r old = refl
 
 -- one flow less to come, and its rate stored
 pub stored : {P : Type 0} (id : ℕ) (f : Flow P) (r : Rate) (flows flows' : List (Flow P)) (rates rates' : List Rate)
-    (old new all : Option Rate)
-    → flows ≡ f ∷ flows' → rates ≡ r ∷ rates'
-    → new ≡ cond (is_eq (nat_cmp f.id id)) (Some r) old
-    → or_else (last_rate id flows rates) old ≡ all
+    (old new all : Option Rate) → flows ≡ f ∷ flows' → rates ≡ r ∷ rates'
+    → new ≡ cond (is_eq (nat_cmp f.id id)) (Some r) old → or_else (last_rate id flows rates) old ≡ all
     → or_else (last_rate id flows' rates') new ≡ all
 stored id f r flows flows' rates rates' old new all next next_rate writes before = search (rules, or_else_twice)
 

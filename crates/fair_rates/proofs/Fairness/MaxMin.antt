@@ -47,19 +47,19 @@ module _ (sides : List Side) (flows : ℕ) (rates : List Rate) (f : AreFairRates
       by_rate (Finite ratio) has = record { rate = ratio; has = has; worth = (rate_at flow (Finite ratio) has).1 }
 
 -- n / d is p / per, and p is no greater than q, which is that of m / e
-at_most_by_parts : (n d m e p q per : ℕ) → 0 < per → n * per ≡ p * d → m * per ≡ q * e → p ≤ q → n * e ≤ m * d
+pub at_most_by_parts : (n d m e p q per : ℕ) → 0 < per → n * per ≡ p * d → m * per ≡ q * e → p ≤ q → n * e ≤ m * d
 at_most_by_parts n d m e p q per pos first second le =
     let scaled : p * (d * e) ≤ q * (d * e) = mul-le-mul_right (d * e) le in
     let both : n * e * per ≤ m * d * per = omega (arith, scaled, ap (λ k. k * e) first, ap (λ k. k * d) second) in
     le_of_mul-le-mul_right both pos
 
 -- n / d is p / per: what is below the one is below the other
-below_by_parts : (n d p per x other : ℕ) → 0 < d → n * per ≡ p * d → x * per < p * other → x * d < n * other
+pub below_by_parts : (n d p per x other : ℕ) → 0 < d → n * per ≡ p * d → x * per < p * other → x * d < n * other
 below_by_parts n d p per x other pos e less =
     let scaled : x * per * d < p * other * d = mul-lt-mul_of_pos_right less pos in
     lt_of_mul-lt-mul_right per (omega (arith, scaled, ap (λ k. k * other) e))
 
-above_by_parts : (n d p per x other : ℕ) → 0 < per → n * per ≡ p * d → n * other < x * d → p * other < x * per
+pub above_by_parts : (n d p per x other : ℕ) → 0 < per → n * per ≡ p * d → n * other < x * d → p * other < x * per
 above_by_parts n d p per x other pos e more =
     let scaled : n * other * per < x * d * per = mul-lt-mul_of_pos_right more pos in
     lt_of_mul-lt-mul_right d (omega (arith, scaled, ap (λ k. k * other) e))

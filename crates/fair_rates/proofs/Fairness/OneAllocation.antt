@@ -30,7 +30,7 @@ same_amounts sides D E a b f g i limited = elim (cases_order (a i * E) (b i * D)
 ]
 
 -- m / e is b / E, which is a / D
-worth_too : (m e a D b E : ℕ) → 0 < E → a * E ≡ b * D → m * E ≡ b * e → m * D ≡ a * e
+pub worth_too : (m e a D b E : ℕ) → 0 < E → a * E ≡ b * D → m * E ≡ b * e → m * D ≡ a * e
 worth_too m e a D b E pos same worth =
     let scaled : m * D * E ≡ a * e * E = omega (arith, ap (λ n. n * D) worth, ap (λ n. n * e) same) in
     eq_of_mul-eq-mul_right E pos (m * D) (a * e) scaled

@@ -124,8 +124,7 @@ module _ {P : Type 0} (cmp : P → P → Ordering) (caps : Caps P) where
 pub same_last_rate : {P : Type 0} (cmp : P → P → Ordering) → IsTotalOrder cmp
     → (caps : Caps P) (flows others : List (Flow P)) (rates other_rates : List Rate)
     → AreOfPeers cmp caps → HaveDistinctIds flows → IsPermutation flows others → AreFairUnder cmp caps flows rates
-    → AreFairUnder cmp caps others other_rates
-    → (id : ℕ) → last_rate id others other_rates ≡ last_rate id flows rates
+    → AreFairUnder cmp caps others other_rates → (id : ℕ) → last_rate id others other_rates ≡ last_rate id flows rates
 same_last_rate {P} cmp order caps flows others rates other_rates of distinct p fair other_fair id =
     let s = among_from cmp caps order of flows rates fair in
     let l =

@@ -26,8 +26,7 @@ module _ {P : Type 0} (cmp : P → P → Ordering) (caps : Caps P) (mine : Flow 
   -- fairness of the part
   pub part_among : (per : ℕ) (xs : List (Allotted P)) → AreFairAmong cmp caps per xs
       → ((s : Subject P) (x y : Allotted P) → In xs x → In xs y → limits cmp s x.flow ≡ true
-      → limits cmp s y.flow ≡ true → mine x.flow ≡ mine y.flow)
-      → AreFairAmong cmp caps per (part xs)
+      → limits cmp s y.flow ≡ true → mine x.flow ≡ mine y.flow) → AreFairAmong cmp caps per (part xs)
   part_among per xs f apart = record {
     shared = search (rules, part_shared);
     rated = λ x h. f.rated x (from_filter (λ (x : Allotted P). mine x.flow) xs x h).0;

@@ -59,8 +59,7 @@ module _ {P X : Type 0} (cmp : P → P → Ordering) (caps : Caps P) (flow : X �
         (subst (λ (ks : List X). In ks k) (sym same) (in_filter (λ x. not (rated x)) xs k h (ap not off)))).0
 
     -- where none is limited that is rated, the total is that of those that keep their rates
-    of_keeping : (s : Subject P) (ys : List X)
-        → ((y : X) → In ys y → rated y ≡ true → limits cmp s (flow y) ≡ false)
+    of_keeping : (s : Subject P) (ys : List X) → ((y : X) → In ys y → rated y ≡ true → limits cmp s (flow y) ≡ false)
         → total cmp caps flow parts s (keeping rated ys) ≡ total cmp caps flow parts s ys
     of_keeping s ys none = search (rules, total_same, by_bool, not_both)
 
@@ -158,8 +157,7 @@ module _ {P X : Type 0} (cmp : P → P → Ordering) (caps : Caps P) (flow : X �
       within = within_left;
       held = λ x h r c.
           let rest = leaves x h r c.subject c.limited c.cap c.capped in
-          held_left x h r
-          (fair.held x (in_filter rated xs x h r)
+          held_left x h r (fair.held x (in_filter rated xs x h r)
           (record { subject = c.subject; cap = rest.0; capped = rest.1; limited = c.limited }));
     }
 

@@ -252,8 +252,7 @@ module _ {P X : Type 0} (cmp : P → P → Ordering) (caps : Caps P) (flow : X �
           by = b.by;
           full =
               total_same mine b.by.subject xs
-              (λ y among l. apart b.by.subject b.by.cap y x b.by.capped among own.0 l b.by.limited ∙ own.1)
-              ∙ b.full;
+              (λ y among l. apart b.by.subject b.by.cap y x b.by.capped among own.0 l b.by.limited ∙ own.1) ∙ b.full;
           greatest = λ y among l. b.greatest y (from_filter mine xs y among).0 l;
         };
   }

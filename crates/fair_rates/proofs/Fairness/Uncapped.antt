@@ -42,9 +42,8 @@ module _ {P : Type 0} (cmp : P → P → Ordering) (order : IsTotalOrder cmp) (c
 pub unlimited_where_uncapped : {P : Type 0} (cmp : P → P → Ordering) → IsTotalOrder cmp → UnlimitedWhereUncapped cmp
 unlimited_where_uncapped {P} cmp order caps flows rates of fair place f at =
     let s = among_from cmp caps order of flows rates fair in
-    let there : (x : Allotted P) × (slice_get s.all place ≡ Some x) × (x.flow ≡ f) =
-    get_from_map (λ (x : Allotted P). x.flow) s.all place f
-    (subst (λ (fs : List (Flow P)). slice_get fs place ≡ Some f) (sym s.flows_are) at) in
+    let there = get_from_map (λ (x : Allotted P). x.flow) s.all place f (subst
+    (λ (fs : List (Flow P)). slice_get fs place ≡ Some f) (sym s.flows_are) at) in
     let x = there.0 in
     let rate : slice_get rates place ≡ Some x.rate = search (rules, rate_there) in
     let rated : IsRated cmp caps s.per x.parts f x.rate = search (rules, in_get) in (

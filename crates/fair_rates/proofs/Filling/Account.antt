@@ -138,7 +138,6 @@ risers_have_no_more frozen slack users rise = search (rules, All-weaker, at_none
 pub rest_of : (P : ℕ → Type 0) (users rest : List ℕ) (i user : ℕ) → i < length users → user ≡ get_or users i user
     → rest ≡ swap_remove users i user → All P users → All P rest
 rest_of P users rest i user inside is_user is_rest all =
-    subst (All P) (sym is_rest)
-    (All-tail P user (swap_remove users i user)
+    subst (All P) (sym is_rest) (All-tail P user (swap_remove users i user)
     (All-permutation P users (user ∷ swap_remove users i user) (IsPermutation-swap_remove users i user inside is_user)
     all))

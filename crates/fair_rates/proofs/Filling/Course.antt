@@ -121,11 +121,7 @@ module _ (sides : List Side) (scale : ℕ) (frozen after : ℕ → Option ℕ) (
         let same = sum_by_same (at_level frozen level) (at_level frozen last) side.users
         (All-weaker (λ j. IsSome (frozen j)) (λ j. at_level frozen level j ≡ at_level frozen last j)
         (λ j h. at_any frozen level last j h) side.users all) in
-        omega (
-          arith,
-          same,
-          All-contains (λ s. load (at_level frozen last) s ≤ s.cap * scale) sides side filled.within listed,
-        )
+        omega (arith, same, All-contains (λ s. load (at_level frozen last) s ≤ s.cap * scale) sides side filled.within listed)
     room side listed (inr (o, c, account)) = elim (first_or_later x o opens c) [
       | inl same ↦
           let here : KeepsAccount side scale frozen x.0.slack x.0.rising.items = search rules in
@@ -146,8 +142,7 @@ module _ (sides : List Side) (scale : ℕ) (frozen after : ℕ → Option ℕ) (
     filled_on = next sides scale frozen last after level filled (record {
       raised = raised;
       within =
-          All-from_contains (λ s. load (at_level frozen level) s ≤ s.cap * scale) sides
-          (λ side listed. room side listed
+          All-from_contains (λ s. load (at_level frozen level) s ≤ s.cap * scale) sides (λ side listed. room side listed
           (All-contains (IsCovered scale frozen (x ∷ opens)) sides side queue.covered listed));
       kept = kept;
       fresh = λ flow parts none e.

@@ -126,8 +126,7 @@ module _ (n : ℕ) (sides : List Side) (among : HaveUsersBelow n sides) (distinc
 
   -- the round in which the side with the least share freezes
   round : (frozen : ℕ → Option ℕ) (risers : ℕ) (s : IsFilling frozen risers)
-      (least : IsLeastOf (left_of (denominator_of n) frozen) (rising frozen) sides)
-      → IsNext risers
+      (least : IsLeastOf (left_of (denominator_of n) frozen) (rising frozen) sides) → IsNext risers
   round frozen risers s least =
       let side = least.least in
       let users = side.users in

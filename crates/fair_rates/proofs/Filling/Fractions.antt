@@ -54,8 +54,7 @@ module _ (n d factor shared : ℕ) (some : 0 < factor) (is : shared ≡ gcd n fa
   lowest_next was =
       let part : (n / shared) ∣ n =
       subst (λ k. (n / shared) ∣ k) (div-mul_cancel shared numerator_divides) (dvd-mul_right (n / shared) shared) in
-      IsReduced-swap (d * (factor / shared)) (n / shared)
-      (IsReduced-mul d (factor / shared) (n / shared)
+      IsReduced-swap (d * (factor / shared)) (n / shared) (IsReduced-mul d (factor / shared) (n / shared)
       (IsReduced-swap (n / shared) d (IsReduced-part n d (n / shared) d part (dvd_refl d) was))
       (IsReduced-swap (n / shared) (factor / shared) apart))
 

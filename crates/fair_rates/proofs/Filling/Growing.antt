@@ -103,8 +103,7 @@ module _ (factor : ℕ) (frozen after : ℕ → Option ℕ) (scaled : AreScaled 
       → sum_by (at_level after (level * factor)) users ≡ sum_by (at_level frozen level) users * factor
   load_scaled level users =
       sum_by_same (at_level after (level * factor)) (λ j. at_level frozen level j * factor) users
-      (λ k d inside. has_scaled level _)
-      ∙ sum_by-scaled (at_level frozen level) factor users
+      (λ k d inside. has_scaled level _) ∙ sum_by-scaled (at_level frozen level) factor users
 
   sum_scaled : (users : List ℕ) → sum_by (at_level after 0) users ≡ sum_by (at_level frozen 0) users * factor
   sum_scaled users =
@@ -185,8 +184,7 @@ module _ (factor : ℕ) (frozen after : ℕ → Option ℕ) (scaled : AreScaled 
       → All (λ o. HaveNoMore after o.0.slack o.0.rising.items) new
   no_more_grown old new grown no_more =
       All-weaker (λ b. (a : Reverse OpenSide) × Contains old a × IsGrown factor a.0 b.0)
-      (λ b. HaveNoMore after b.0.slack b.0.rising.items)
-      (λ b (a, c, g).
+      (λ b. HaveNoMore after b.0.slack b.0.rising.items) (λ b (a, c, g).
       let was = All-contains (λ (o : Reverse OpenSide). HaveNoMore frozen o.0.slack o.0.rising.items) old a no_more c in
       subst (λ n. HaveNoMore after n b.0.rising.items) (sym g.slack)
       (subst (λ xs. HaveNoMore after (a.0.slack * factor) xs) (sym g.rising)
@@ -198,8 +196,7 @@ pub least_grown : (factor slack n : ℕ) (old new : List (Reverse OpenSide)) →
     → All (λ o. slack * factor * length o.0.rising.items ≤ o.0.slack * n) new
 least_grown factor slack n old new grown least =
     All-weaker (λ b. (a : Reverse OpenSide) × Contains old a × IsGrown factor a.0 b.0)
-    (λ b. slack * factor * length b.0.rising.items ≤ b.0.slack * n)
-    (λ b (a, c, g).
+    (λ b. slack * factor * length b.0.rising.items ≤ b.0.slack * n) (λ b (a, c, g).
     let was = All-contains (λ (o : Reverse OpenSide). slack * length o.0.rising.items ≤ o.0.slack * n) old a least c in
     omega (arith, mul-le-mul_right factor was, ap (λ k. k * n) g.slack, ap (λ xs. slack * factor * length xs) g.rising))
     new grown.each
@@ -209,7 +206,6 @@ pub users_grown : (factor flows : ℕ) (old new : List (Reverse OpenSide)) → A
     → All (λ o. All (λ flow. flow < flows) o.0.rising.items) new
 users_grown factor flows old new grown users =
     All-weaker (λ b. (a : Reverse OpenSide) × Contains old a × IsGrown factor a.0 b.0)
-    (λ b. All (λ flow. flow < flows) b.0.rising.items)
-    (λ b (a, c, g). subst (All (λ flow. flow < flows)) (sym g.rising)
+    (λ b. All (λ flow. flow < flows) b.0.rising.items) (λ b (a, c, g). subst (All (λ flow. flow < flows)) (sym g.rising)
     (All-contains (λ (o : Reverse OpenSide). All (λ flow. flow < flows) o.0.rising.items) old a users c))
     new grown.each

@@ -12,7 +12,7 @@ pub record IsLeastOf {X : Type 0} (amount count : X → ℕ) (xs : List X) : Typ
   pub below : All (λ x. amount least * count x ≤ amount x * count least) xs
 
 -- a/k is less than or equal to b/l, which is so to c/m
-at_most_trans : (a k b l c m : ℕ) → 0 < l → a * l ≤ b * k → b * m ≤ c * l → a * m ≤ c * k
+pub at_most_trans : (a k b l c m : ℕ) → 0 < l → a * l ≤ b * k → b * m ≤ c * l → a * m ≤ c * k
 at_most_trans a k b l c m some first second =
     le_of_mul-le-mul_right {k = l} (omega (arith, mul-le-mul_right m first, mul-le-mul_right k second)) some
 

@@ -123,8 +123,7 @@ module _ (users : List ℕ) (levels after : List ℕ) (level_of later : List (Op
   same_level place inside = search (rules, get_or_append_left)
 
   same_frozen : (inside : AreInside levels level_of) (flow : ℕ) (o : Option ℕ) → level_at level_of flow ≡ o
-      → level_at later flow ≡ level_at level_of flow
-      → frozen_at after later flow ≡ frozen_at levels level_of flow
+      → level_at later flow ≡ level_at level_of flow → frozen_at after later flow ≡ frozen_at levels level_of flow
   same_frozen inside flow None e same = search rules
   same_frozen inside flow (Some place) e same = search (rules, cases_lt, get_or_past, some_of_if, same_level)
 

@@ -66,8 +66,7 @@ least_is_next sides per frozen before side level was least =
     record {
       raised = le_of_mul-le-mul_right {k = rising frozen side} (omega (arith, here, least.share)) least.some;
       within = All-from_contains (λ s. load (standing frozen level) s ≤ s.cap * per) sides (λ s listed.
-          rw (load_at frozen level s)
-          (omega (
+          rw (load_at frozen level s) (omega (
             arith,
             within_at s listed,
             All-contains (λ o. level * rising frozen o ≤ left_of per frozen o) sides s least.least listed,

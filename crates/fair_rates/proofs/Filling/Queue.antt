@@ -194,8 +194,7 @@ module _ (sides : List declared.Side) (side : declared.Side) (opens : List (Reve
     (was : AreOpened sides opens) where
   -- one that counts nobody
   pub opened_more : {x : Reverse OpenSide} (later : List (Reverse OpenSide)) → IsPermutation (x ∷ opens) later
-      → x.0.slack ≡ side.cap → side.users.items ≡ x.0.rising.items
-      → AreOpened (sides ++ side ∷ []) later
+      → x.0.slack ≡ side.cap → side.users.items ≡ x.0.rising.items → AreOpened (sides ++ side ∷ []) later
   opened_more {x} later perm slack users = record {
     queue = λ frozen. subst (λ (xs : List Side). IsQueue xs 1 frozen later) (sym (map_push side_of sides side))
         (queue_permuted 1 frozen (map side_of sides ++ side_of side ∷ []) (x ∷ opens) later perm
@@ -207,8 +206,7 @@ module _ (sides : List declared.Side) (side : declared.Side) (opens : List (Reve
         let Q : declared.Side → Type 0 = λ s. All (λ flow. flow < flows) s.users.items in
         let here : Q side = All-contains Q (sides ++ side ∷ []) side all (Contains-push sides side) in
         All-permutation P (x ∷ opens) later perm (All-cons P x opens (subst (All (λ flow. flow < flows)) users here)
-        (was.users flows
-        (All-from_contains Q sides
+        (was.users flows (All-from_contains Q sides
         (λ s c. All-contains Q (sides ++ side ∷ []) s all (Contains-append_left sides (side ∷ []) s c)))));
   }
 
@@ -219,7 +217,6 @@ module _ (sides : List declared.Side) (side : declared.Side) (opens : List (Reve
         (queue_without 1 frozen (map side_of sides) (side_of side) opens none (was.queue frozen));
     users = λ flows all.
         let Q : declared.Side → Type 0 = λ s. All (λ flow. flow < flows) s.users.items in
-        was.users flows
-        (All-from_contains Q sides
+        was.users flows (All-from_contains Q sides
         (λ s c. All-contains Q (sides ++ side ∷ []) s all (Contains-append_left sides (side ∷ []) s c)));
   }

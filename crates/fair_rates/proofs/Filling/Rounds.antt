@@ -55,8 +55,7 @@ module _ (sides : List Side) (per : ℕ) (frozen : ℕ → Option ℕ) (level : 
             full =
                 sum_by_same (at_level after 0) (at_level frozen 0) users
                 (All-from_contains (λ j. at_level after 0 j ≡ at_level frozen 0 j) users
-                (λ j used. kept_at j (had j used)))
-                ∙ h.full;
+                (λ j used. kept_at j (had j used))) ∙ h.full;
             greatest = All-from_contains (λ j. at_level after 0 j ≤ at_level after 0 i) users (λ j used.
                 omega (
                   arith,
@@ -77,8 +76,7 @@ module _ (sides : List Side) (per : ℕ) (frozen : ℕ → Option ℕ) (level : 
             uses = f.1.uses;
             full =
                 sum_by_same (at_level after 0) (at_level frozen next_level) users
-                (All-from_contains (λ j. at_level after 0 j ≡ at_level frozen next_level j) users same)
-                ∙ f.1.full;
+                (All-from_contains (λ j. at_level after 0 j ≡ at_level frozen next_level j) users same) ∙ f.1.full;
             greatest =
                 All-from_contains (λ j. at_level after 0 j ≤ at_level after 0 i) users
                 (λ j used. omega (arith, below j, at_some after 0 i v.0 v.1, f.0));
@@ -110,8 +108,7 @@ fair_same sides per parts other same fair = record {
     uses = h.uses;
     full = sym (sum_by_same parts other h.side.users (λ k d inside. same _)) ∙ h.full;
     greatest =
-        All-from_contains (λ j. other j ≤ other flow) h.side.users
-        (λ j used. omega
+        All-from_contains (λ j. other j ≤ other flow) h.side.users (λ j used. omega
         (arith, same j, same flow, All-contains (λ j. parts j ≤ parts flow) h.side.users j h.greatest used));
   };
 }

@@ -126,8 +126,7 @@ module _ (sides : List Side) (scale factor : ℕ) (levels after : List ℕ) (lev
   no_lower : top scaled_levels ≤ level
   no_lower =
       let here : top levels * length x.rising.items ≤ x.slack = search (rules, All-head) in
-      le_of_mul-le-mul_right {k = length x.rising.items}
-      (omega (
+      le_of_mul-le-mul_right {k = length x.rising.items} (omega (
         arith,
         share,
         mul-le-mul_right factor here,

@@ -57,8 +57,7 @@ level n m k left some le over =
     let y = left * denominator_of m / denominator_of n in
     let e = level_over k (denominator_of m) z (denominator_of (m + k)) u (denominator_of n) left y (positive m)
     (mul-div_cancel' (k * denominator_of m) (divides m k some))
-    (mul-div_cancel' (denominator_of (m + k)) (divides_later (m + k) n le))
-    (mul-div_cancel' (denominator_of n) over) in
+    (mul-div_cancel' (denominator_of (m + k)) (divides_later (m + k) n le)) (mul-div_cancel' (denominator_of n) over) in
     record {
       level = z * u * y;
       share = e.0;

@@ -21,8 +21,7 @@ module _ {X : Type 0} where
       (y ∷ before, after, ap (λ zs. y ∷ zs) split)
 
   apart_from_head : (x : X) (xs : List X) → AreApart (x ∷ xs) → (y : X) → Contains xs y → x ≢ y
-  apart_from_head x xs apart y (i, within, is) same =
-      apart 0 (suc i) y (omega arith) (omega arith) (same ∙ sym is)
+  apart_from_head x xs apart y (i, within, is) same = apart 0 (suc i) y (omega arith) (omega arith) (same ∙ sym is)
 
   apart_tail : (x : X) (xs : List X) → AreApart (x ∷ xs) → AreApart xs
   apart_tail x xs apart i j d less within = apart (suc i) (suc j) d (omega arith) (omega arith)
@@ -32,10 +31,8 @@ module _ {X : Type 0} where
   no_more [] ys apart in_ys = omega arith
   no_more (x ∷ xs) ys apart in_ys =
       let (before, after, split) = stands_in ys x (in_ys x (0, omega arith, refl)) in
-      let rest : length xs ≤ length (before ++ after) =
-      no_more xs (before ++ after) (apart_tail x xs apart)
-      (λ y has. without before after y (apart_from_head x xs apart y has)
-      (subst (λ (zs : List X). Contains zs y) split (in_ys y (later y has)))) in
+      let rest = no_more xs (before ++ after) (apart_tail x xs apart) (λ y has. without before after y
+      (apart_from_head x xs apart y has) (subst (λ (zs : List X). Contains zs y) split (in_ys y (later y has)))) in
       let long = length-append before (x ∷ after) in
       let short = length-append before after in
       omega (arith, rest, ap length split, long, short)
@@ -48,5 +45,4 @@ module _ {X : Type 0} where
       without before after y other has =
           ⊎_elim (λ h. Contains-append_left before after y h)
           (λ h. ⊎_elim (λ e. absurd (other (in_one x y e))) (λ k. Contains-append_right before after y k)
-          (Contains-append_cases (x ∷ []) after y h))
-          (Contains-append_cases before (x ∷ after) y has)
+          (Contains-append_cases (x ∷ []) after y h)) (Contains-append_cases before (x ∷ after) y has)

@@ -20,8 +20,7 @@ pub place_in : {X : Type 0} (place : ℕ) (test : X → Bool) (xs : List X) (i :
 place_in place test [] i x at e = cc
 place_in place test (y ∷ ys) zero x at e = let same : y ≡ x = cc in rw (same, e) (0, omega arith, omega arith)
 place_in {X} place test (y ∷ ys) (suc i) x at e =
-    by_test (test y)
-    (subst (λ (n : ℕ). Contains (places_from (place + 1) test ys) n) (omega arith)
+    by_test (test y) (subst (λ (n : ℕ). Contains (places_from (place + 1) test ys) n) (omega arith)
     (place_in (place + 1) test ys i x at e))
   where
     by_test : (b : Bool) → Contains (places_from (place + 1) test ys) (place + suc i)

@@ -150,8 +150,7 @@ module _ {K : Type 0} (cmp : K → K → Ordering) (total : IsTotalOrder cmp) wh
       and_from _ _ (list_all-mono (λ l. is_gt (cmp l k)) (λ l. is_lt (cmp k l)) (λ l g. is_lt_from_gt k l g) ls above) h
   ascending_insert (j ∷ ks) ls k h below above =
       let first = first_of_both (list_all (λ l. is_lt (cmp j l)) (ks ++ ls)) _ h in
-      and_from _ _
-      (list_all-append (λ l. is_lt (cmp j l)) ks (k ∷ ls) (list_all-left _ ks ls first)
+      and_from _ _ (list_all-append (λ l. is_lt (cmp j l)) ks (k ∷ ls) (list_all-left _ ks ls first)
       (and_from _ _ (first_of_both (is_lt (cmp j k)) _ below) (list_all-right _ ks ls first)))
       (ascending_insert ks ls k (second_of_both (list_all (λ l. is_lt (cmp j l)) (ks ++ ls)) _ h)
       (second_of_both (is_lt (cmp j k)) _ below) above)
@@ -206,8 +205,7 @@ module _ {K : Type 0} (cmp : K → K → Ordering) (total : IsTotalOrder cmp) wh
           let lt : i < at = omega (arith, length-front at es le) in
           ap is_lt (ap (λ e. cmp (key e) k) (front at es i d lt) ∙ parted.0 i d low lt));
       above =
-          all_from_within (λ e. is_gt (cmp (key e) k)) (drop at es)
-          (λ i d low high. ap is_gt
+          all_from_within (λ e. is_gt (cmp (key e) k)) (drop at es) (λ i d low high. ap is_gt
           (ap (λ e. cmp (key e) k) (back at es i d) ∙ parted.1 (at + i) d (omega arith) (room at es i le high)));
     }
       where
@@ -280,8 +278,7 @@ module _ {K : Type 0} (cmp : K → K → Ordering) (total : IsTotalOrder cmp) wh
 
       -- the entry of a key is another one now
       pub replaced : (es : List E) (k : K) (at : ℕ) (p : IsPlace cmp key es k at) (e : E) → is_eq (cmp (key e) k) ≡ true
-          → (q : K)
-          → value_at cmp key says none (p.before ++ e ∷ p.after) q
+          → (q : K) → value_at cmp key says none (p.before ++ e ∷ p.after) q
           ≡ (if is_eq (cmp k q) then says e else value_at cmp key says none es q)
       replaced es k at p e same q = search (rules, by_bool, skips, is_eq_alike, behind)
 

@@ -18,10 +18,8 @@ drained_scaled : (g n d : ℕ) (a rate : Amount) (k : ℕ) → 0 < g → 0 < a.d
 drained_scaled g n d a rate k h i j num den =
     let unit : ℕ = rate.den * billion in
     let some : 0 < a.den * unit = mul-pos i (mul-pos j (omega arith)) in
-    let up : g * (a.num * unit - k * (rate.num * a.den)) ≡ n * unit - k * (rate.num * d) =
-    mul-sub g (a.num * unit) (k * (rate.num * a.den))
-    ∙ same_difference (g * (a.num * unit)) (n * unit) (g * (k * (rate.num * a.den))) (k * (rate.num * d))
-    (rw num (omega arith)) (rw den (omega arith)) in
+    let up = mul-sub g (a.num * unit) (k * (rate.num * a.den)) ∙ same_difference (g * (a.num * unit)) (n * unit)
+    (g * (k * (rate.num * a.den))) (k * (rate.num * d)) (rw num (omega arith)) (rw den (omega arith)) in
     let down : g * (a.den * unit) ≡ d * unit = rw den (omega arith) in
     sym (reduced_scaled g (a.num * unit - k * (rate.num * a.den)) (a.den * unit) h some) ∙ reduced_alike _ _ _ _ up down
 
@@ -42,10 +40,9 @@ drained_twice left rate a b h j =
     let x : ℕ = rate.num * left.den in
     let d : ℕ = left.den * unit in
     let some : 0 < d = mul-pos h some_unit in
-    let num : (n - a * x) * unit - b * (rate.num * d) ≡ unit * (n - (a + b) * x) =
-    ap (λ y. y - b * (rate.num * d)) (mul_comm (n - a * x) unit)
-    ∙ ap (λ y. unit * (n - a * x) - y) (regroup b rate.num left.den unit)
-    ∙ sym (mul-sub unit (n - a * x) (b * x)) ∙ ap (λ y. unit * y) (twice_less n a b x) in
+    let num = ap (λ y. y - b * (rate.num * d)) (mul_comm (n - a * x) unit) ∙ ap (λ y. unit * (n - a * x) - y)
+    (regroup b rate.num left.den unit) ∙ sym (mul-sub unit (n - a * x) (b * x)) ∙ ap (λ y. unit * y)
+    (twice_less n a b x) in
     drained_reduced (n - a * x) d rate b some j ∙ reduced_alike _ _ _ _ num (mul_comm d unit)
     ∙ reduced_scaled unit (n - (a + b) * x) d some_unit some
   where
@@ -85,8 +82,7 @@ pub spent_from_least : (left rate : Amount) (least n : ℕ) → 0 < left.den →
 spent_from_least left rate least n h j time = (
   λ e. time.least n (covers_if_spent left rate n h j e),
   λ le.
-      let more : least * (rate.num * left.den) ≤ n * (rate.num * left.den) =
-      mul-le-mul_right (rate.num * left.den) le in
+      let more = mul-le-mul_right (rate.num * left.den) le in
       let enough : Covers rate least left = time.covers in
       spent_if_covers left rate n h j (omega arith),
 )

@@ -86,8 +86,7 @@ no_greater_over_common a b c d h j =
 
 -- what has the reduced sum of the numerators over the common denominator is worth the sum
 pub sum_worth : (r x y : Ratio) (p q s d : ℕ) → AreOverCommon (amount_of x) (amount_of y) p q d → s ≡ p + q
-    → amount_of r ≡ reduced s d
-    → IsWorth r (plus (amount_of x) (amount_of y))
+    → amount_of r ≡ reduced s d → IsWorth r (plus (amount_of x) (amount_of y))
 sum_worth r x y p q s d over s_is e =
     let a = amount_of x in
     let b = amount_of y in
@@ -98,8 +97,7 @@ sum_worth r x y p q s d over s_is e =
 
 -- and likewise the difference
 pub difference_worth : (r x y : Ratio) (p q s d : ℕ) → AreOverCommon (amount_of x) (amount_of y) p q d → s ≡ p - q
-    → amount_of r ≡ reduced s d
-    → IsWorth r (minus (amount_of x) (amount_of y))
+    → amount_of r ≡ reduced s d → IsWorth r (minus (amount_of x) (amount_of y))
 difference_worth r x y p q s d over s_is e =
     let a = amount_of x in
     let b = amount_of y in
@@ -149,8 +147,7 @@ pub record CrossReduced (a b c d f s : ℕ) : Type 0 where
 product_lowest : (x y z w : ℕ) → IsReduced x z → IsReduced x w → IsReduced y z → IsReduced y w
     → IsReduced (x * y) (z * w)
 product_lowest x y z w p q r s =
-    IsReduced-swap (z * w) (x * y)
-    (IsReduced-mul z w (x * y) (IsReduced-swap (x * y) z (IsReduced-mul x y z p r))
+    IsReduced-swap (z * w) (x * y) (IsReduced-mul z w (x * y) (IsReduced-swap (x * y) z (IsReduced-mul x y z p r))
     (IsReduced-swap (x * y) w (IsReduced-mul x y w q s)))
 
 quotient_divides : (n g : ℕ) → g ∣ n → n / g ∣ n
@@ -177,10 +174,8 @@ cross_reduced a b c d h j r t =
     let c_is : s * (c / s) ≡ c = mul-div_cancel' s v.0 in
     let b_is : s * (b / s) ≡ b = mul-div_cancel' s v.1 in
     let some : 0 < b / s * (d / f) = mul-pos (other_above s (b / s) b b_is h) (other_above f (d / f) d d_is j) in
-    let lowest : IsReduced (a / f * (c / s)) (b / s * (d / f)) = product_lowest (a / f) (c / s) (b / s) (d / f)
-    (IsReduced-part a b (a / f) (b / s) (quotient_divides a f u.0) (quotient_divides b s v.1) r)
-    (coprime_parts a d j)
-    (coprime_parts c b h)
+    let lowest = product_lowest (a / f) (c / s) (b / s) (d / f) (IsReduced-part a b (a / f) (b / s)
+    (quotient_divides a f u.0) (quotient_divides b s v.1) r) (coprime_parts a d j) (coprime_parts c b h)
     (IsReduced-part c d (c / s) (d / f) (quotient_divides c s v.0) (quotient_divides d f u.1) t) in
     let num : f * s * (a / f * (c / s)) ≡ a * c = regroup f s (a / f) (c / s) ∙ multiplied _ _ _ _ a_is c_is in
     let den : f * s * (b / s * (d / f)) ≡ b * d = regroup_down f s (b / s) (d / f) ∙ multiplied _ _ _ _ b_is d_is in
@@ -200,8 +195,7 @@ pub record ReducedProduct (n d x y z w : ℕ) : Type 0 where
   pub same : reduced n d ≡ record { num = x * y; den = z * w }
 
 pub reduced_product : (a b c d f s x y z w : ℕ) → 0 < b → 0 < d → IsReduced a b → IsReduced c d → f ≡ gcd a d
-    → s ≡ gcd c b
-    → x ≡ a / f → y ≡ c / s → z ≡ b / s → w ≡ d / f → ReducedProduct (a * c) (b * d) x y z w
+    → s ≡ gcd c b → x ≡ a / f → y ≡ c / s → z ≡ b / s → w ≡ d / f → ReducedProduct (a * c) (b * d) x y z w
 reduced_product a b c d f s x y z w h j r t f_is s_is x_is y_is z_is w_is =
     let k = cross_reduced a b c d h j r t in
     rw (x_is, y_is, z_is, w_is, f_is, s_is) (record { positive = k.positive; lowest = k.lowest; same = k.same })

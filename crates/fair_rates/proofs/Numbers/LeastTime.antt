@@ -65,8 +65,7 @@ least_from_ceil rate left product time n is e enough least =
     let same : AreEqual (amount_of time) all = equal_trans (amount_of time) product all is.positive e is.equal in
     record {
       covers =
-          let up : left.num * rate.den * billion ≤ n * (left.den * rate.num * 1) =
-          not_below (amount_of time) all n time.positive same enough in
+          let up = not_below (amount_of time) all n time.positive same enough in
           omega arith;
       least = λ k covers.
           let up : left.num * rate.den * billion ≤ k * (left.den * rate.num * 1) = omega (arith, covers) in

@@ -127,14 +127,12 @@ over_other : (l d p q u n r : ℕ) → p * u ≡ r * n * q → (l * q - p * d) *
 over_other l d p q u n r e =
     let first : d * u * (l * q) ≡ d * q * (l * u) = omega arith in
     let second : d * u * (p * d) ≡ d * q * (n * (r * d)) = omega (arith, ap (λ x. d * d * x) e) in
-    mul_comm (l * q - p * d) (d * u) ∙ mul-sub (d * u) (l * q) (p * d)
-    ∙ same_difference _ _ _ _ first second
+    mul_comm (l * q - p * d) (d * u) ∙ mul-sub (d * u) (l * q) (p * d) ∙ same_difference _ _ _ _ first second
     ∙ sym (mul-sub (d * q) (l * u) (n * (r * d))) ∙ mul_comm (d * q) (l * u - n * (r * d))
 
 -- what is left less what is taken is what is left afterwards
 drained_by_difference : (left rate t rest : Ratio) (n : ℕ) → IsTaken (amount_of rate) n t
-    → IsWorth rest (minus (amount_of left) (amount_of t))
-    → amount_of rest ≡ drained (amount_of left) (amount_of rate) n
+    → IsWorth rest (minus (amount_of left) (amount_of t)) → amount_of rest ≡ drained (amount_of left) (amount_of rate) n
 unfolding left_is
 drained_by_difference left rate t rest n is worth =
     let l = amount_of left in
@@ -151,8 +149,7 @@ all_drained left rate t n (Some rest) is worth = drained_by_difference left rate
 
 -- where the time covers what is left, zero is left
 pub drained_to_zero : (left rate rest : Ratio) (n : ℕ) → Covers (amount_of rate) n (amount_of left)
-    → amount_of rest ≡ whole 0
-    → amount_of rest ≡ drained (amount_of left) (amount_of rate) n
+    → amount_of rest ≡ whole 0 → amount_of rest ≡ drained (amount_of left) (amount_of rate) n
 drained_to_zero left rate rest n covers zero_is =
     let none : left.numerator * (rate.denominator * billion) - n * (rate.numerator * left.denominator) ≡ 0 =
     omega arith in
@@ -165,10 +162,7 @@ drained_to_zero left rate rest n covers zero_is =
 
 -- where what is taken does not take all, it can be taken off exactly where the difference fits
 pub leaves_iff : (left rate t : Ratio) (n : ℕ) → IsTaken (amount_of rate) n t
-    → t.numerator * left.denominator < left.numerator * t.denominator
-    → DifferenceFits (amount_of left) (amount_of t)
-    ↔
-    (Covers (amount_of rate) n (amount_of left)
-    ⊎ DifferenceFits (amount_of left)
+    → t.numerator * left.denominator < left.numerator * t.denominator → DifferenceFits (amount_of left) (amount_of t) ↔
+    (Covers (amount_of rate) n (amount_of left) ⊎ DifferenceFits (amount_of left)
     (reduced (transferred (amount_of rate) n).num (transferred (amount_of rate) n).den))
 leaves_iff left rate t n is less = grind (arith, common_steps, covers_iff)

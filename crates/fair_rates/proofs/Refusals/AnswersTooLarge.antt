@@ -57,8 +57,7 @@ WasAnswered {P} answered cap = (a : Answered P) × Contains answered a × IsAnsw
 caps_were_answered : {P : Type 0} (cmp : P → P → Ordering) (answered : List (Answered P))
     → All (λ side. WasAnswered answered side.cap) (sides_of cmp answered)
 caps_were_answered cmp answered =
-    of_sides cmp (WasAnswered answered) [] (asks_from 0 answered)
-    (of_asks (WasAnswered answered) 0 answered
+    of_sides cmp (WasAnswered answered) [] (asks_from 0 answered) (of_asks (WasAnswered answered) 0 answered
     (All-weaker (Contains answered) (HoldsOfAnswers (WasAnswered answered)) (λ a c n is. (a, c, is)) answered
     (All-contains_itself answered)))
 
@@ -74,11 +73,9 @@ large_answer cmp answered side listed large =
 pub too_large : {P E I L : Type 0} (cmp : P → P → Ordering) (egress : Calls E P) (ingress : Calls I P)
     (link : PairCalls L P) (first : States E I L) (flows : List (Flow P))
     → (answered : List (Answered P)) (sides : List declared_side.Side)
-    → AnswerInOrder egress ingress link first flows answered
-    → map side_of sides ≡ sides_of cmp answered
+    → AnswerInOrder egress ingress link first flows answered → map side_of sides ≡ sides_of cmp answered
     → All (λ side. All (λ flow. flow < length flows) side.users.items) sides
-    → All (λ side. AllPairs (λ a b. a < b) side.users.items) sides
-    → HasLargeRate (map side_of sides)
+    → All (λ side. AllPairs (λ a b. a < b) side.users.items) sides → HasLargeRate (map side_of sides)
     → IsTooLarge cmp egress ingress link first flows
 too_large cmp egress ingress link first flows answered sides in_order registered below rise large =
     let among = users_below_sides (length flows) sides below in

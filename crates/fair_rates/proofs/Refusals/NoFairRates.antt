@@ -28,8 +28,7 @@ large_is_unfair sides flows rates among large small fair =
     by_rate (Finite ratio) (limited, worth) fraction =
         let is = worth_is_reduced ratio (parts_over fair.per (fair.parts large.flow)) fair.fair.some_part worth in
         let fits : ReducedFits (parts_over fair.per (fair.parts large.flow)) = search rules in
-        large.large
-        (fits_alike (large.parts large.flow) large.per (fair.parts large.flow) fair.per large.fair.some_part
+        large.large (fits_alike (large.parts large.flow) large.per (fair.parts large.flow) fair.per large.fair.some_part
         fair.fair.some_part
         (same_amounts sides large.per fair.per large.parts fair.parts large.fair fair.fair large.flow large.limited)
         fits)

@@ -44,8 +44,7 @@ caps_below (side ∷ sides) = elim (cases_lt side.cap (2 ^ 64)) [
 
 -- where no fair rates fit there are more flows, or there is a greater cap
 pub too_many_or_large : (sides : List Side) (flows : ℕ) → HaveUsersBelow flows sides → HaveDistinctUsers sides
-    → ¬ FairRatesFit sides flows
-    → (16 < flows) ⊎ ((side : Side) × Contains sides side × (2 ^ 64 ≤ side.cap))
+    → ¬ FairRatesFit sides flows → (16 < flows) ⊎ ((side : Side) × Contains sides side × (2 ^ 64 ≤ side.cap))
 too_many_or_large sides flows among distinct refused = elim (cases_lt 16 flows) [
   | inl many ↦ inl many
   | inr few ↦ elim (caps_below sides) [

@@ -7,8 +7,7 @@ use Rattle.std.specs.Fn.{always_mut}
 
 -- such a closure may be called on each peer of a list in turn
 pub callable_on_each : {P F : Type 0} (closure : Mut F (Bor P × Unit {0}) (Option ℕ)) (state : F) (peers : List P)
-    → always_mut closure state
-    → CallableOnEach (TakesAt closure) (CalledAt closure) state peers
+    → always_mut closure state → CallableOnEach (TakesAt closure) (CalledAt closure) state peers
 callable_on_each closure state [] always = tt
 callable_on_each closure state (p ∷ peers) always = (
   (λ y e. (always.at ((y, tt) ∷ [])).0),

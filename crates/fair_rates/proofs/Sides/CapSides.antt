@@ -31,8 +31,7 @@ module _ {P : Type 0} (cmp : P → P → Ordering) (order : IsTotalOrder cmp) (c
 
   -- nothing is open where no ask with a number was for it
   fresh_from : (earlier : List (Ask P)) (a : Ask P) (cap : ℕ) → AllByCaps earlier → IsByCaps a → a.answer ≡ Some cap
-      → is_open cmp earlier a ≡ false → (b : Ask P) → In earlier b
-      → is_same cmp a b ≡ false
+      → is_open cmp earlier a ≡ false → (b : Ask P) → In earlier b → is_same cmp a b ≡ false
   fresh_from earlier a cap all by has closed b among = search (rules, same_symm, one_cap, none_passes)
 
   open_from : (earlier : List (Ask P)) (a : Ask P) → ((b : Ask P) → In earlier b → is_same cmp a b ≡ false)
@@ -49,8 +48,7 @@ module _ {P : Type 0} (cmp : P → P → Ordering) (order : IsTotalOrder cmp) (c
   from_sides earlier (x ∷ later) side before all h =
       by_part
       (in_either (cond (is_open cmp earlier x) [] (opened cmp x later x.answer)) (sides_after cmp (x ∷ earlier) later)
-      side h)
-      (λ g. from_sides (x ∷ earlier) later side (one_more earlier x before (all x (inl refl)))
+      side h) (λ g. from_sides (x ∷ earlier) later side (one_more earlier x before (all x (inl refl)))
       (λ a among. all a (inr among)) g)
     where
       by_head : (t : Bool) (answer : Option ℕ) → is_open cmp earlier x ≡ t → x.answer ≡ answer
@@ -90,8 +88,7 @@ module _ {P : Type 0} (cmp : P → P → Ordering) (order : IsTotalOrder cmp) (c
   side_asked asks a cap = record { cap = cap; users = map (λ b. b.place) (filter (is_same cmp a) asks) }
 
   to_sides : (earlier later : List (Ask P)) (a : Ask P) (cap : ℕ) → AllByCaps earlier → AllByCaps later → In later a
-      → a.answer ≡ Some cap
-      → ((b : Ask P) → In earlier b → is_same cmp a b ≡ false)
+      → a.answer ≡ Some cap → ((b : Ask P) → In earlier b → is_same cmp a b ≡ false)
       → In (sides_after cmp earlier later) (side_asked later a cap)
   to_sides earlier [] a cap before all h has fresh = absurd h
   to_sides earlier (x ∷ later) a cap before all h has fresh =
@@ -103,12 +100,10 @@ module _ {P : Type 0} (cmp : P → P → Ordering) (order : IsTotalOrder cmp) (c
           → In (cond (is_open cmp earlier x) [] (opened cmp x later x.answer) ++ sides_after cmp (x ∷ earlier) later)
           (record {
             cap = cap;
-            users =
-                x.place ∷ map (λ b. b.place) (filter (is_same cmp a) later);
+            users = x.place ∷ map (λ b. b.place) (filter (is_same cmp a) later);
           })
       head e =
-          let number : x.answer ≡ Some cap =
-          all x (inl refl) ∙ sym (one_cap cmp order caps of a.subject x.subject e) ∙ sym (all a h) ∙ has in
+          let number = all x (inl refl) ∙ sym (one_cap cmp order caps of a.subject x.subject e) ∙ sym (all a h) ∙ has in
           let closed : is_open cmp earlier x ≡ false = search (rules, open_from, same_congr) in
           let agree : filter (is_same cmp a) later ≡ filter (is_same cmp x) later =
           search (rules, filter_agree, same_congr) in
@@ -128,9 +123,7 @@ module _ {P : Type 0} (cmp : P → P → Ordering) (order : IsTotalOrder cmp) (c
           cc
       by_same false e (inr g) ih =
           in_right (cond (is_open cmp earlier x) [] (opened cmp x later x.answer)) (sides_after cmp (x ∷ earlier) later)
-          (side_asked later a cap)
-          (ih g
-          (λ b.
+          (side_asked later a cap) (ih g (λ b.
           elim [ inl same ↦ subst (λ (c : Ask P). is_same cmp a c ≡ false) same e | inr among ↦ fresh b among ]))
 
   -- ---- the asks of flows
@@ -247,12 +240,10 @@ module _ {P : Type 0} (cmp : P → P → Ordering) (order : IsTotalOrder cmp) (c
       → (a : Ask P) × In (asks place flows) a × (same_subject cmp s a.subject ≡ true)
   asked place [] s f h l = absurd h
   asked place (g ∷ flows) s f (inl e) l =
-      let r : (a : Ask P) × In (asks_if place g g.delivered) a × (same_subject cmp s a.subject ≡ true) =
-      one_asked place g s (subst (λ (k : Flow P). limits cmp s k ≡ true) (sym e) l) in
+      let r = one_asked place g s (subst (λ (k : Flow P). limits cmp s k ≡ true) (sym e) l) in
       (r.0, in_left (asks_if place g g.delivered) (asks (place + 1) flows) r.0 r.1, r.2)
   asked place (g ∷ flows) s f (inr h) l =
-      let r : (a : Ask P) × In (asks (place + 1) flows) a × (same_subject cmp s a.subject ≡ true) =
-      asked (place + 1) flows s f h l in
+      let r = asked (place + 1) flows s f h l in
       (r.0, in_right (asks_if place g g.delivered) (asks (place + 1) flows) r.0 r.1, r.2)
 
   -- one subject has the same places
@@ -285,8 +276,7 @@ module _ {P : Type 0} (cmp : P → P → Ordering) (order : IsTotalOrder cmp) (c
   side_of_subject flows s cap = record { cap = cap; users = places_from 0 (limits cmp s) flows }
 
   pub listed_from_capped : (flows : List (Flow P)) (s : Subject P) (cap : ℕ) (f : Flow P) → cap_of caps s ≡ Some cap
-      → In flows f → limits cmp s f ≡ true
-      → Contains (sides_under cmp caps flows) (side_of_subject flows s cap)
+      → In flows f → limits cmp s f ≡ true → Contains (sides_under cmp caps flows) (side_of_subject flows s cap)
   listed_from_capped flows s cap f has h l =
       let r = asked 0 flows s f h l in
       let a = r.0 in

@@ -37,11 +37,8 @@ module _ {P E I L : Type 0} (cmp : P → P → Ordering) (egress : Calls E P) (i
     pub registered : IsRegistryOf cmp (asks_from 0 answered) registry
 
   pub passed : (n : ℕ) (a : Answered P) (old new : Registry P) → Registers cmp (asks_of_one n a) old new
-      → (first : States E I L) (flows : List (Flow P)) (before after : States E I L)
-      → Passed first flows n before old
-      → n < length flows
-      → a.flow ≡ get_or flows n a.flow
-      → CallsFor egress ingress link before a after
+      → (first : States E I L) (flows : List (Flow P)) (before after : States E I L) → Passed first flows n before old
+      → n < length flows → a.flow ≡ get_or flows n a.flow → CallsFor egress ingress link before a after
       → Passed first flows (n + 1) after new
   passed n a old new registers first flows before after p below is calls =
       grind (
@@ -74,8 +71,7 @@ drop_now xs n x h e = search (rules, drop-cons, add-one)
 
 module _ {P F : Type 0} (may : F → P → Type 0) (call : Calls F P) where
   pub origin_next : (f : F) (flows : List (Flow P)) (n : ℕ) (x : Flow P) → n < length flows → x ≡ get_or flows n x
-      → CallableOnEach may call f (origins (drop n flows))
-      → may f x.origin
+      → CallableOnEach may call f (origins (drop n flows)) → may f x.origin
       × ((a : Option ℕ) (g : F) → call f x.origin a g → CallableOnEach may call g (origins (drop (n + 1) flows)))
   origin_next f flows n x h e c = subst (λ fs. CallableOnEach may call f (origins fs)) (drop_now flows n x h e) c
 
@@ -92,8 +88,7 @@ module _ {P F : Type 0} (may : F → P → Type 0) (call : Calls F P) where
 
 module _ {P F : Type 0} (may : F → P → P → Type 0) (call : PairCalls F P) where
   pub pair_next : (f : F) (flows : List (Flow P)) (n : ℕ) (x : Flow P) → n < length flows → x ≡ get_or flows n x
-      → CallableOnEachPair may call f (pairs (drop n flows))
-      → may f x.origin x.recipient
+      → CallableOnEachPair may call f (pairs (drop n flows)) → may f x.origin x.recipient
       × ((a : Option ℕ) (g : F) → call f x.origin x.recipient a g
       → CallableOnEachPair may call g (pairs (drop (n + 1) flows)))
   pair_next f flows n x h e c = subst (λ fs. CallableOnEachPair may call f (pairs fs)) (drop_now flows n x h e) c

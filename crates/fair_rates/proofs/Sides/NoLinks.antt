@@ -23,8 +23,7 @@ module _ {P E I L : Type 0} (egress : Calls E P) (ingress : Calls I P) (link : P
 
   -- an allocation with such a closure is one with no closure for pairs
   pub without_links : (cmp : P → P → Ordering) (first : States E I L) (flows : List (Flow P))
-      (rate_of : ℕ → Option Rate)
-      → IsAllocation cmp egress ingress link first flows rate_of
+      (rate_of : ℕ → Option Rate) → IsAllocation cmp egress ingress link first flows rate_of
       → IsAllocation cmp egress ingress NoLink (without first) flows rate_of
   without_links cmp first flows rate_of h = search (rules, in_order_without)
 
@@ -35,8 +34,7 @@ module _ {P E I L : Type 0} (egress : Calls E P) (ingress : Calls I P) (link : P
 
   -- nor does the count of rounds change
   pub counted_without_links : (cmp : P → P → Ordering) (first : States E I L) (flows : List (Flow P))
-      (rate_of : ℕ → Option Rate) (rounds : ℕ)
-      → IsCountedAllocation cmp egress ingress link first flows rate_of rounds
+      (rate_of : ℕ → Option Rate) (rounds : ℕ) → IsCountedAllocation cmp egress ingress link first flows rate_of rounds
       → IsCountedAllocation cmp egress ingress NoLink (without first) flows rate_of rounds
   unfolding without_links
   counted_without_links cmp first flows rate_of rounds h =

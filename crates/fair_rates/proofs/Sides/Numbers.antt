@@ -59,8 +59,7 @@ module _ {K : Type 0} (cmp : K → K → Ordering) (total : IsTotalOrder cmp) wh
       → are_ascending cmp (map first entries) ≡ true → place + 1 ≡ length entries → last ≡ get_or entries place last
       → cmp (first last) k ≡ Less → IsGap cmp first entries k (length entries)
   after_last entries k last place ascending end is below =
-      (searched cmp total first entries k (Err (length entries)) ascending (omega arith)
-      (λ rise. (
+      (searched cmp total first entries k (Err (length entries)) ascending (omega arith) (λ rise. (
         λ i d low lt. least_index (cmp (first (get_or entries i d)) k) (rises rise i d lt),
         λ i d high lt. absurd (omega (arith, high, lt)),
       ))).absent
@@ -82,8 +81,7 @@ module _ {K : Type 0} (cmp : K → K → Ordering) (total : IsTotalOrder cmp) wh
       let late = lookup (λ other. is_eq (cmp q other)) old.later.entries in
       let none = in_gap old.listed.items k place gap in
       ap₂ (λ es ls. option_or (lookup (λ other. is_eq (cmp q other)) es)
-      (lookup (λ other. is_eq (cmp q other)) ls.entries)) items later
-      ∙ ap (λ found. option_or found late)
+      (lookup (λ other. is_eq (cmp q other)) ls.entries)) items later ∙ ap (λ found. option_or found late)
       (lookup-insert (eq_by_cmp_equiv total) k number q old.listed.items place
       (none_passes_from_lookup (λ other. is_eq (cmp k other)) old.listed.items none))
       ∙ either (is_eq (cmp k q)) (Some number) was late refl
@@ -110,8 +108,7 @@ module _ {K : Type 0} (cmp : K → K → Ordering) (total : IsTotalOrder cmp) wh
 
   -- or it gets one in the map
   pub in_map : (old new : Numbers K) (k : K) (number place : ℕ) → IsGap cmp first old.listed.items k place
-      → new.listed.items ≡ old.listed.items → (q : K)
-      → lookup (λ other. is_eq (cmp q other)) new.later.entries
+      → new.listed.items ≡ old.listed.items → (q : K) → lookup (λ other. is_eq (cmp q other)) new.later.entries
       ≡ cond (is_eq (cmp k q)) (Some number) (lookup (λ other. is_eq (cmp q other)) old.later.entries)
       → number_in (λ other. is_eq (cmp q other)) new
       ≡ cond (is_eq (cmp k q)) (Some number) (number_in (λ other. is_eq (cmp q other)) old)

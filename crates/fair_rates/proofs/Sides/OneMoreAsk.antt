@@ -104,8 +104,7 @@ module _ {P : Type 0} (cmp : P → P → Ordering) where
   opened-push u t ts false None = refl
   opened-push u t ts false (Some cap) = search (rules, user_added, places)
 
-  shares_after-push : (earlier ts : List (Ask P)) (t : Ask P)
-      → shares_after earlier (ts ++ t ∷ [])
+  shares_after-push : (earlier ts : List (Ask P)) (t : Ask P) → shares_after earlier (ts ++ t ∷ [])
       ≡ map (with_user t) (shares_after earlier ts)
       ++ cond (is_open cmp (before ts earlier) t) [] (opened_share t [] t.answer)
   shares_after-push earlier [] t = append-nil (cond (is_open cmp earlier t) [] (opened_share t [] t.answer))

@@ -125,29 +125,23 @@ module _ {P : Type 0} (cmp : P → P → Ordering) (o : IsTotalOrder cmp) where
           same = search (rules, get_or_append_left);
         }
 
-    apart_from : (q : Subject P) (m : ℕ) → IsNumberOf cmp subjects q m
-        → same_subject cmp s q ≡ false
+    apart_from : (q : Subject P) (m : ℕ) → IsNumberOf cmp subjects q m → same_subject cmp s q ≡ false
     apart_from q m i = is_false _ (λ t.
         let n : number s ≡ Some m =
-        (are s m).1
-        (record {
+        (are s m).1 (record {
           within = i.within;
           same = λ u. same_congr cmp o s q (get_or subjects m u) t ∙ i.same u;
         }) in
         cc)
 
-    at_old : (q : Subject P) (m : ℕ) → IsNumberOf cmp more q m → m < length subjects
-        → number' q ≡ Some m
+    at_old : (q : Subject P) (m : ℕ) → IsNumberOf cmp more q m → m < length subjects → number' q ≡ Some m
     at_old q m i below =
         let was : IsNumberOf cmp subjects q m = search (rules, get_or_append_left) in
         are' q ∙ ap (λ b. cond b (Some (length subjects)) (number q)) (apart_from q m was) ∙ (are q m).1 was
 
-    at_last : (q : Subject P) (m : ℕ) → IsNumberOf cmp more q m → length subjects ≡ m
-        → number' q ≡ Some m
+    at_last : (q : Subject P) (m : ℕ) → IsNumberOf cmp more q m → length subjects ≡ m → number' q ≡ Some m
     at_last q m i last =
-        let t : same_subject cmp s q ≡ true = same_symm cmp o s q
-        ∙ ap (same_subject cmp q) (sym (get_or_push subjects s s m last))
-        ∙ i.same s in
+        let t = same_symm cmp o s q ∙ ap (same_subject cmp q) (sym (get_or_push subjects s s m last)) ∙ i.same s in
         are' q ∙ ap (λ b. cond b (Some (length subjects)) (number q)) t ∙ ap Some last
 
     numbers_push : (q : Subject P) (m : ℕ) → (number' q ≡ Some m) ↔ IsNumberOf cmp more q m
@@ -208,15 +202,13 @@ module _ {P : Type 0} (cmp : P → P → Ordering) (o : IsTotalOrder cmp) where
 
       none_open : (answer : Option ℕ) → number s ≡ None → list_any (is_side_of cmp (ask place s answer)) shares ≡ false
       none_open answer e =
-          is_false _
-          (λ any. let k = place_of_any (is_side_of cmp (ask place s answer)) shares nobody any in
+          is_false _ (λ any. let k = place_of_any (is_side_of cmp (ask place s answer)) shares nobody any in
           let n : number s ≡ Some k.0 = number_at s k.0 nobody k.1 k.2 in
           cc)
 
       -- what the sides with their subjects become
       become : (answer : Option ℕ) (b : Bool) → list_any (is_side_of cmp (ask place s answer)) shares ≡ b
-          → shares_after cmp [] (asks ++ ask place s answer ∷ [])
-          ≡ map (with_user cmp (ask place s answer)) shares
+          → shares_after cmp [] (asks ++ ask place s answer ∷ []) ≡ map (with_user cmp (ask place s answer)) shares
           ++ cond b [] (opened_share cmp (ask place s answer) [] answer)
       become answer b e = search (rules, shares_push)
 
@@ -230,30 +222,24 @@ module _ {P : Type 0} (cmp : P → P → Ordering) (o : IsTotalOrder cmp) where
           let i : n < length sides = in_range s n e in
           let within : n < length shares = omega (arith, as_many) in
           let here = get_or shares n nobody in
-          let are : shares_after cmp [] (asks ++ t ∷ []) ≡ map (with_user cmp t) shares =
-          become answer true (any_from_place (is_side_of cmp t) shares n nobody within (same_at s n nobody e))
+          let are = become answer true (any_from_place (is_side_of cmp t) shares n nobody within (same_at s n nobody e))
           ∙ append-nil (map (with_user cmp t) shares) in
           let others : (k : ℕ) → k < length shares → k ≢ n
           → with_user cmp t (get_or shares k nobody) ≡ get_or shares k nobody =
           λ k l apart.
-          unchanged t (get_or shares k nobody)
-          (is_false _
+          unchanged t (get_or shares k nobody) (is_false _
           (λ same. let m : number s ≡ Some k = number_at s k nobody l same in
           apart (same_Some k n (sym m ∙ e)))) in
-          let stay : subjects_after cmp [] asks ≡ subjects_after cmp [] (asks ++ t ∷ []) =
-          sym (subjects_are cmp [] asks) ∙ sym (subjects_kept t shares) ∙ ap (map (λ u. u.subject)) (sym are)
+          let stay = sym (subjects_are cmp [] asks) ∙ sym (subjects_kept t shares) ∙ ap (map (λ u. u.subject)) (sym are)
           ∙ subjects_are cmp [] (asks ++ t ∷ []) in
-          let was : side_of old ≡ limit_of here =
-          ap side_of at ∙ sym (get_or-map side_of sides n old (side_of old) i)
-          ∙ ap (λ ls. get_or ls n (side_of old)) limits ∙ get_or-map limit_of shares n nobody (side_of old) within in
+          let was = ap side_of at ∙ sym (get_or-map side_of sides n old (side_of old) i) ∙ ap
+          (λ ls. get_or ls n (side_of old)) limits ∙ get_or-map limit_of shares n nobody (side_of old) within in
           record {
             sides_are = ap (map side_of) writes ∙ map-set side_of sides n new ∙ ap (λ ls. set ls n (side_of new)) limits
-                ∙ (λ j. set (map limit_of shares) n
-                (record {
+                ∙ (λ j. set (map limit_of shares) n (record {
                   cap = (cap ∙ ap (λ l. l.cap) was) j;
                   users = (users ∙ ap (λ l. l.users ++ place ∷ []) was) j;
-                }))
-                ∙ ap (set (map limit_of shares) n) (sym (changed t here (same_at s n nobody e)))
+                })) ∙ ap (set (map limit_of shares) n) (sym (changed t here (same_at s n nobody e)))
                 ∙ sym (map-set limit_of shares n (with_user cmp t here))
                 ∙ ap (map limit_of) (sym (only_there (with_user cmp t) shares n nobody within others) ∙ sym are)
                 ∙ limits_are cmp [] (asks ++ t ∷ []);
@@ -267,13 +253,11 @@ module _ {P : Type 0} (cmp : P → P → Ordering) (o : IsTotalOrder cmp) where
       absent answer unanswered e =
           let t = ask place s answer in
           let none = none_open answer e in
-          let are : shares_after cmp [] (asks ++ t ∷ []) ≡ shares =
-          become answer false none ∙ ap (λ a. map (with_user cmp t) shares ++ opened_share cmp t [] a) unanswered
-          ∙ append-nil (map (with_user cmp t) shares)
-          ∙ none_changed (is_side_of cmp t) (with_user cmp t) shares (unchanged t) none in
+          let are = become answer false none ∙ ap (λ a. map (with_user cmp t) shares ++ opened_share cmp t [] a)
+          unanswered ∙ append-nil (map (with_user cmp t) shares) ∙ none_changed (is_side_of cmp t) (with_user cmp t)
+          shares (unchanged t) none in
           let stay : subjects_after cmp [] asks ≡ subjects_after cmp [] (asks ++ t ∷ []) =
-          sym (subjects_are cmp [] asks) ∙ ap (map (λ u. u.subject)) (sym are)
-          ∙ subjects_are cmp [] (asks ++ t ∷ []) in
+          sym (subjects_are cmp [] asks) ∙ ap (map (λ u. u.subject)) (sym are) ∙ subjects_are cmp [] (asks ++ t ∷ []) in
           record {
             sides_are = limits ∙ ap (map limit_of) (sym are) ∙ limits_are cmp [] (asks ++ t ∷ []);
             numbers_are =
@@ -284,8 +268,7 @@ module _ {P : Type 0} (cmp : P → P → Ordering) (o : IsTotalOrder cmp) where
       pub opens : (answer : Option ℕ) (cap : ℕ) (new : declared_side.Side) (sides' : List declared_side.Side)
           (number' : Subject P → Option ℕ)
           → answer ≡ Some cap → number s ≡ None → sides' ≡ sides ++ new ∷ [] → new.cap ≡ cap
-          → new.users.items ≡ place ∷ [] → (n : ℕ) → n ≡ length sides
-          → ((q : Subject P)
+          → new.users.items ≡ place ∷ [] → (n : ℕ) → n ≡ length sides → ((q : Subject P)
           → number' q ≡ cond (same_subject cmp s q) (Some n) (number q))
           → AreRegistered cmp (asks ++ ask place s answer ∷ []) sides' number'
       opens answer cap new sides' number' answered e pushes is_cap users n last numbers =
@@ -294,12 +277,10 @@ module _ {P : Type 0} (cmp : P → P → Ordering) (o : IsTotalOrder cmp) where
           let share : Share P = record { subject = s; cap = cap; users = place ∷ [] } in
           let are : shares_after cmp [] (asks ++ t ∷ []) ≡ shares ++ share ∷ [] =
           become answer false none ∙ ap (λ a. map (with_user cmp t) shares ++ opened_share cmp t [] a) answered
-          ∙ ap (λ ss. ss ++ share ∷ [])
-          (none_changed (is_side_of cmp t) (with_user cmp t) shares (unchanged t) none) in
-          let more : subjects_after cmp [] asks ++ s ∷ [] ≡ subjects_after cmp [] (asks ++ t ∷ []) =
-          ap (λ us. us ++ s ∷ []) (sym (subjects_are cmp [] asks))
-          ∙ sym (map-append (λ u. u.subject) shares (share ∷ []))
-          ∙ ap (map (λ u. u.subject)) (sym are) ∙ subjects_are cmp [] (asks ++ t ∷ []) in
+          ∙ ap (λ ss. ss ++ share ∷ []) (none_changed (is_side_of cmp t) (with_user cmp t) shares (unchanged t) none) in
+          let more = ap (λ us. us ++ s ∷ []) (sym (subjects_are cmp [] asks)) ∙ sym
+          (map-append (λ u. u.subject) shares (share ∷ [])) ∙ ap (map (λ u. u.subject)) (sym are) ∙ subjects_are cmp []
+          (asks ++ t ∷ []) in
           record {
             sides_are =
                 ap (map side_of) pushes ∙ map-append side_of sides (new ∷ []) ∙ ap (λ ls. ls ++ side_of new ∷ []) limits
@@ -308,10 +289,8 @@ module _ {P : Type 0} (cmp : P → P → Ordering) (o : IsTotalOrder cmp) where
                 ∙ limits_are cmp [] (asks ++ t ∷ []);
             numbers_are =
                 subst (λ us. (q : Subject P) (m : ℕ) → (number' q ≡ Some m) ↔ IsNumberOf cmp us q m) more
-                (numbers_push subjects number number' s h.numbers_are e
-                (λ q. numbers q
-                ∙ ap (λ m. cond (same_subject cmp s q) (Some m) (number q))
-                (last ∙ as_many ∙ sym as_many_subjects)));
+                (numbers_push subjects number number' s h.numbers_are e (λ q. numbers q
+                ∙ ap (λ m. cond (same_subject cmp s q) (Some m) (number q)) (last ∙ as_many ∙ sym as_many_subjects)));
           }
 
 -- each number that the registry finds is that of a side
@@ -351,8 +330,7 @@ no_link cmp o registry place p q answer unanswered none finds = record {
 -- the number that one kind of subject gets changes no other kind
 module _ {P : Type 0} (cmp : P → P → Ordering) (n : ℕ) (old new : Registry P) where
   pub sender_numbered : (p : P) → new.receivers ≡ old.receivers → new.links ≡ old.links
-      → ((q : P) → number_of cmp new (sent_by q)
-      ≡ cond (same_peer cmp p q) (Some n) (number_of cmp old (sent_by q)))
+      → ((q : P) → number_of cmp new (sent_by q) ≡ cond (same_peer cmp p q) (Some n) (number_of cmp old (sent_by q)))
       → HasNumber cmp (sent_by p) n old new
   sender_numbered p receivers links has (sent_by q) = has q
   sender_numbered p receivers links has (received_by q) = search rules
@@ -360,8 +338,7 @@ module _ {P : Type 0} (cmp : P → P → Ordering) (n : ℕ) (old new : Registry
 
   pub receiver_numbered : (p : P) → new.senders ≡ old.senders → new.links ≡ old.links
       → ((q : P) → number_of cmp new (received_by q)
-      ≡ cond (same_peer cmp p q) (Some n) (number_of cmp old (received_by q)))
-      → HasNumber cmp (received_by p) n old new
+      ≡ cond (same_peer cmp p q) (Some n) (number_of cmp old (received_by q))) → HasNumber cmp (received_by p) n old new
   receiver_numbered p senders links has (sent_by q) = ap (number_in (λ other. same_peer cmp q other.now)) senders
   receiver_numbered p senders links has (received_by q) = has q
   receiver_numbered p senders links has (sent_between q r) = search rules

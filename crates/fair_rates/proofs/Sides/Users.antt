@@ -51,15 +51,7 @@ module _ {P : Type 0} (cmp : P → P → Ordering) where
   pub asks_in_order : (n : ℕ) (answered : List (Answered P)) → InOrder (asks_from n answered)
   asks_in_order n [] = tt
   asks_in_order n (a ∷ answered) =
-      search (
-        rules,
-        InOrder-append,
-        one_in_order,
-        All-weaker,
-        places_of_one,
-        places_from,
-        asks_in_order (n + 1) answered,
-      )
+      search (rules, InOrder-append, one_in_order, All-weaker, places_of_one, places_from, asks_in_order (n + 1) answered)
 
   module _ (o : IsTotalOrder cmp) where
     same_too : (a b c : Ask P) → is_same cmp a b ≡ true → is_same cmp a c ≡ true → is_same cmp b c ≡ true

@@ -15,8 +15,7 @@ use Rattle.fair_routes.proofs.Network.LinkSides.{link_side, users_are_flows, use
 
 -- the users of sides, however they are kept, are flows
 pub code_users : {X : Type 0} (read : X → Side) (n : ℕ) (all : List Side) (sides : List X) → map read sides ≡ all
-    → All (λ side. All (λ user. user < n) side.users) all
-    → All (λ side. All (λ user. user < n) (read side).users) sides
+    → All (λ side. All (λ user. user < n) side.users) all → All (λ side. All (λ user. user < n) (read side).users) sides
 code_users read n all sides are below =
     all_unmapped (λ side. All (λ user. user < n) side.users) read sides
     (subst (All (λ side. All (λ user. user < n) side.users)) (sym are) below)
@@ -48,10 +47,8 @@ module _ (caps : List (Option ℕ)) (routes : List (List ℕ)) (listed : AreList
       }
 
   pub counted : (sides : List declared.Side) (rates : List Rate) (rounds : ℕ)
-      → map side_of sides ≡ sides_over caps routes
-      → AreFairRates (map side_of sides) (length routes) rates
-      → HasDifferentRates rates rounds → rounds ≤ length sides
-      → IsCounted caps routes rates rounds
+      → map side_of sides ≡ sides_over caps routes → AreFairRates (map side_of sides) (length routes) rates
+      → HasDifferentRates rates rounds → rounds ≤ length sides → IsCounted caps routes rates rounds
   counted sides rates rounds are fair different few = record {
     allocated = allocated rates (subst (λ (ss : List Side). AreFairRates ss (length routes) rates) are fair);
     different = different;

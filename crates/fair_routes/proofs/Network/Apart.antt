@@ -1,23 +1,19 @@
 -- A part of the flows that uses no link together with the rest.
 use Rattle.std.proofs.Common.{rules}
 use Rattle.fair_routes.proofs.Common.{◌≡◌, ℕ, suc, ◌+◌, ◌<◌, List, [], ◌∷◌, ◌++◌, Bool, true, false, cond, Option, Some}
-use Rattle.fair_routes.proofs.Common.{None, map, length, take, All, ◌⊎◌, inl, inr, refl, sym, ap, ◌∙◌, subst, arith}
-use Rattle.fair_routes.proofs.Common.{list_any, length-map, All-contains, sum_by-cons, Side, AreFairRates, places_from}
-use Rattle.fair_routes.proofs.Common.{In, in_left, in_right, contains_from_in, any_passes, has_link, users_of}
-use Rattle.fair_routes.proofs.Common.{side_of_link, sides_from, sides_over, common_steps}
+use Rattle.fair_routes.proofs.Common.{None, map, length, All, ◌⊎◌, inl, inr, refl, sym, ap, ◌∙◌, subst, arith, list_any}
+use Rattle.fair_routes.proofs.Common.{length-map, All-contains, Side, AreFairRates, places_from, In, in_left, in_right}
+use Rattle.fair_routes.proofs.Common.{contains_from_in, any_passes, has_link, users_of, side_of_link, sides_from}
+use Rattle.fair_routes.proofs.Common.{sides_over, common_steps}
 use Rattle.std.specs.List.{filter}
 use Rattle.std.proofs.lemmas.List.{append_assoc}
 use Rattle.fair_rates.specs.Fairness.Part.{flagged, is_in, place_in, sides_in}
-use Rattle.fair_rates.proofs.Fairness.Apart.{flows_apart_are_fair}
+use Rattle.fair_rates.proofs.Fairness.Apart.{flows_apart_are_fair, place_in-suc}
 use Rattle.fair_rates.proofs.Lists.Members.{any_fails}
 use Rattle.fair_routes.specs.Network.Laws.{RoutesApartAreFair}
 use Rattle.fair_routes.proofs.Network.Sides.{some_user, no_user}
 
 -- ---- places behind the first
-
-place_in-suc : (flag : Bool) (flags : List Bool) (i : ℕ)
-    → place_in (flag ∷ flags) (suc i) ≡ cond flag 1 0 + place_in flags i
-place_in-suc flag flags i = sum_by-cons (λ b. cond b 1 0) flag (take i flags)
 
 no_places : {X : Type 0} (place : ℕ) (test : X → Bool) (xs : List X) → list_any test xs ≡ false
     → places_from place test xs ≡ []
@@ -65,13 +61,7 @@ kept_places {X} (true ∷ flags) test (x ∷ xs) =
       kept_places flags test xs,
     )
 kept_places {X} (false ∷ flags) test (x ∷ xs) =
-    grind (
-      arith,
-      common_steps,
-      places-suc 0 test xs,
-      kept_without flags (places_from 0 test xs),
-      kept_places flags test xs,
-    )
+    grind (arith, common_steps, places-suc 0 test xs, kept_without flags (places_from 0 test xs), kept_places flags test xs)
 
 -- ---- sides
 
@@ -168,11 +158,9 @@ sides_apart : (flags : List Bool) (routes : List (List ℕ)) (link : ℕ) (caps 
 sides_apart flags routes link [] apart = refl
 sides_apart flags routes link (cap ∷ caps) apart =
     sides_in-append flags (side_of_link routes link cap) (sides_from (link + 1) caps routes)
-    ∙ ap (λ ss. ss ++ sides_in flags (sides_from (link + 1) caps routes))
-    (side_apart flags routes link cap
+    ∙ ap (λ ss. ss ++ sides_in flags (sides_from (link + 1) caps routes)) (side_apart flags routes link cap
     (λ side h. apart side (in_left (side_of_link routes link cap) (sides_from (link + 1) caps routes) side h)))
-    ∙ ap (λ ss. side_of_link (flagged flags routes) link cap ++ ss)
-    (sides_apart flags routes (link + 1) caps
+    ∙ ap (λ ss. side_of_link (flagged flags routes) link cap ++ ss) (sides_apart flags routes (link + 1) caps
     (λ side h. apart side (in_right (side_of_link routes link cap) (sides_from (link + 1) caps routes) side h)))
 
 length-flagged : {X Y : Type 0} (flags : List Bool) (xs : List X) (ys : List Y) → length xs ≡ length ys
@@ -191,9 +179,8 @@ flows_apart_are_fair_alone flags caps routes rates many apart fair =
     let sides = sides_over caps routes in
     let own =
     flows_apart_are_fair flags sides rates apart (subst (λ (n : ℕ). AreFairRates sides n rates) (sym many) fair) in
-    let same : sides_in flags sides ≡ sides_over caps (flagged flags routes) =
-    sides_apart flags routes 0 caps
-    (λ side h. All-contains (IsApart flags) sides side apart (contains_from_in sides side h)) in
+    let same = sides_apart flags routes 0 caps (λ side h. All-contains (IsApart flags) sides side apart
+    (contains_from_in sides side h)) in
     subst (λ (n : ℕ). AreFairRates (sides_over caps (flagged flags routes)) n (flagged flags rates))
     (length-flagged flags rates routes fair.one_each)
     (subst (λ (ss : List Side). AreFairRates ss (length (flagged flags rates)) (flagged flags rates)) same own)

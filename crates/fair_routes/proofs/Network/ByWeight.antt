@@ -134,8 +134,7 @@ module _ (weights : List ℕ) (factor : ℕ) (frozen mid : ℕ → Option ℕ) (
   held_scaled : (users : List ℕ) → sum_by (held weights mid) users ≡ sum_by (held weights frozen) users * factor
   held_scaled users =
       sum_by_same (held weights mid) (λ u. held weights frozen u * factor) users
-      (λ k d inside. one_scaled (get_or users k d))
-      ∙ sum_by-scaled (held weights frozen) factor users
+      (λ k d inside. one_scaled (get_or users k d)) ∙ sum_by-scaled (held weights frozen) factor users
     where
       one_scaled : (u : ℕ) → held weights mid u ≡ held weights frozen u * factor
       one_scaled u = omega (arith, ap (λ n. n * weight_at weights u) (none_scaled factor frozen mid scaled u))
@@ -202,8 +201,7 @@ module _ (weights : List ℕ) (sides : List Side) (positive : (u : ℕ) → u < 
       (kept : (flow parts : ℕ) → mid flow ≡ Some parts → after flow ≡ Some parts)
       (fresh : (flow parts : ℕ) → mid flow ≡ None → after flow ≡ Some parts
       → (parts ≡ share) × Contains side.users flow) where
-    within_at : (s : Side) → Contains sides s
-        → load (at_level frozen level) (weighted weights s) ≤ s.cap * scale
+    within_at : (s : Side) → Contains sides s → load (at_level frozen level) (weighted weights s) ≤ s.cap * scale
     within_at s c = grind (arith, common_steps, listed_on (weighted weights) sides s c, All-contains)
 
     raised : level * factor ≤ share
@@ -263,8 +261,7 @@ module _ (weights : List ℕ) (sides : List Side) (positive : (u : ℕ) → u < 
     pub filled_on : IsFilledTo wide (scale * factor) after share
     filled_on =
         next wide (scale * factor) mid (level * factor) after share
-        (filled_scaled factor frozen mid scaled wide scale level filled)
-        (record {
+        (filled_scaled factor frozen mid scaled wide scale level filled) (record {
           raised = raised;
           within = within_wide;
           kept = kept;

@@ -2,18 +2,18 @@
 use Rattle.std.proofs.Common.{rules}
 use Rattle.fair_routes.proofs.Common.{◌≡◌, ◌==◌, ℕ, zero, suc, ◌+◌, ◌*◌, ◌<◌, ◌≤◌, List, [], Bool, true, false, cond}
 use Rattle.fair_routes.proofs.Common.{All, Contains, Option, Some, length, map, get_or, sum_by, inl, inr, refl, sym, ap}
-use Rattle.fair_routes.proofs.Common.{◌∙◌, subst, arith, slice_get, list_any, eq_of_mul-eq-mul_right, eqb-true}
-use Rattle.fair_routes.proofs.Common.{eqb_tells, length-map, get_or_default, sum_by-cons, slice_get-get_or}
-use Rattle.fair_routes.proofs.Common.{slice_get-map, get_or_from_slice_get, Side, IsLimited, IsFair, IsRateOf}
-use Rattle.fair_routes.proofs.Common.{places_from, Rate, Unlimited, Finite, listed_on, listed_from, in_map}
-use Rattle.fair_routes.proofs.Common.{in_from_contains, contains_from_in, from_map, any_passes, All-from_contains}
-use Rattle.fair_routes.proofs.Common.{sum_by-scaled, sum_by_same, routes_at, has_link, users_of, sides_over, weight_at}
-use Rattle.fair_routes.proofs.Common.{as_often, weighted, by_weight, AreWeightedRates}
+use Rattle.fair_routes.proofs.Common.{◌∙◌, subst, arith, slice_get, list_any, eqb-true, eqb_tells, length-map}
+use Rattle.fair_routes.proofs.Common.{get_or_default, sum_by-cons, slice_get-get_or, slice_get-map}
+use Rattle.fair_routes.proofs.Common.{get_or_from_slice_get, Side, IsLimited, IsFair, IsRateOf, places_from, Rate}
+use Rattle.fair_routes.proofs.Common.{Unlimited, Finite, listed_on, listed_from, in_map, in_from_contains}
+use Rattle.fair_routes.proofs.Common.{contains_from_in, from_map, any_passes, All-from_contains, sum_by-scaled}
+use Rattle.fair_routes.proofs.Common.{sum_by_same, routes_at, has_link, users_of, sides_over, weight_at, as_often}
+use Rattle.fair_routes.proofs.Common.{weighted, by_weight, AreWeightedRates}
 use Rattle.std.specs.List.{range_with_len}
 use Rattle.std.proofs.lemmas.Bool.{cases_order}
 use Rattle.std.proofs.lemmas.List.{map-id}
 use Rattle.std.proofs.lemmas.List.FromFn.{length-range_with_len, get_or-range_with_len}
-use Rattle.fair_rates.proofs.Fairness.OneAllocation.{same_amounts}
+use Rattle.fair_rates.proofs.Fairness.OneAllocation.{same_amounts, worth_too}
 use Rattle.fair_rates.proofs.Lists.Members.{in_get, get_in, get_from_map}
 use Rattle.fair_rates.proofs.Lists.Places.{place_here, passes_here, below_length}
 use Rattle.fair_routes.specs.Network.WeightLaws.{copies, copies_of, IsTogether, WeightsAreCopies}
@@ -82,8 +82,7 @@ module _ (caps : List (Option ℕ)) (routes : List (List ℕ)) (weights : List �
       ∙ sum_by_same (λ i. cond (test i) (weight_at weights i * parts i) 0)
       (λ i. weight_at weights i * cond (test i) (parts i) 0) range
       (λ k d inside. weigh_if (test (get_or range k d)) (weight_at weights (get_or range k d)) (parts (get_or range k d)))
-      ∙ sym (sum_often weights (λ i. cond (test i) (parts i) 0) range)
-      ∙ sym (sum_at parts (has_link link) route order)
+      ∙ sym (sum_often weights (λ i. cond (test i) (parts i) 0) range) ∙ sym (sum_at parts (has_link link) route order)
 
   side_for : (link : ℕ) (old new : Side) → old.users ≡ users_of link routes → new.users ≡ users_of link news
       → new.cap ≡ old.cap → IsTheSide of (length order) (weighted weights old) new
@@ -99,16 +98,14 @@ module _ (caps : List (Option ℕ)) (routes : List (List ℕ)) (weights : List �
         let is : of flow ≡ i.0 = get_or_from_slice_get order flow i.0 0 i.1 in
         let lt : i.0 < length routes = below i.0 (contains_from_in order i.0 (in_get order flow i.0 i.1)) in
         subst (λ (n : ℕ). Contains (as_often weights old.users) n) (sym is)
-        (often_uses weights old.users i.0 (positive i.0 lt)
-        (subst (λ (us : List ℕ). Contains us i.0) (sym olds)
+        (often_uses weights old.users i.0 (positive i.0 lt) (subst (λ (us : List ℕ). Contains us i.0) (sym olds)
         (place_here (has_link link) routes i.0 (route i.0) (stands i.0 lt) (ap (has_link link) i.2 ∙ at.2))));
     back = λ flow lt has.
         let narrow = uses_often weights old.users (of flow) has in
         let at = passes_here (has_link link) routes (of flow)
         (in_from_contains (users_of link routes) (of flow) (subst (λ (us : List ℕ). Contains us (of flow)) olds narrow)) in
         let same : route (of flow) ≡ at.0 = get_or_from_slice_get routes (of flow) at.0 [] at.1 in
-        let here : slice_get news flow ≡ Some (route (of flow)) =
-        slice_get-map route order flow ∙ (rw (slice_get-get_or order flow 0 lt) refl) in
+        let here = slice_get-map route order flow ∙ (rw (slice_get-get_or order flow 0 lt) refl) in
         subst (λ (us : List ℕ). Contains us flow) (sym news_are)
         (place_here (has_link link) news flow (route (of flow)) here (ap (has_link link) same ∙ at.2));
   }
@@ -126,9 +123,8 @@ module _ (caps : List (Option ℕ)) (routes : List (List ℕ)) (weights : List �
       let at = get_in routes some.0 some.1 in
       let lt : at.0 < length routes = below_length routes at.0 some.0 at.1 in
       let same : route at.0 ≡ some.0 = get_or_from_slice_get routes at.0 some.0 [] at.1 in
-      let used : list_any (has_link is.link) news ≡ true =
-      any_passes (has_link is.link) news (route at.0)
-      (in_map route order at.0 (in_from_contains order at.0 (placed at.0 lt))) (ap (has_link is.link) same ∙ some.2) in
+      let used = any_passes (has_link is.link) news (route at.0) (in_map route order at.0
+      (in_from_contains order at.0 (placed at.0 lt))) (ap (has_link is.link) same ∙ some.2) in
       let new : Side = record { cap = old.cap; users = users_of is.link news } in (
         new,
         side_listed caps news new (record { link = is.link; capped = is.capped; used = used; users = refl }),
@@ -142,8 +138,7 @@ module _ (caps : List (Option ℕ)) (routes : List (List ℕ)) (weights : List �
       let some = found (has_link is.link) news is.used in
       let i = from_map route order some.0 some.1 in
       let lt : i.0 < length routes = below i.0 (contains_from_in order i.0 i.1) in
-      let used : list_any (has_link is.link) routes ≡ true =
-      any_passes (has_link is.link) routes (route i.0) (in_get routes i.0 (route i.0) (stands i.0 lt))
+      let used = any_passes (has_link is.link) routes (route i.0) (in_get routes i.0 (route i.0) (stands i.0 lt))
       (ap (has_link is.link) i.2 ∙ some.2) in
       let old : Side = record { cap = new.cap; users = users_of is.link routes } in (
         weighted weights old,
@@ -236,8 +231,7 @@ module _ (caps : List (Option ℕ)) (routes : List (List ℕ)) (weights : List �
       let test : ℕ → Bool = λ i. i == flow in
       let range = range_with_len 0 (length weights) in
       ap (λ xs. sum_by (λ copy. h (flow_of copy)) (places_from 0 test xs)) (sym (map-id places))
-      ∙ sum_at h test (λ i. i) places
-      ∙ sum_often weights (λ i. cond (test i) (h i) 0) range
+      ∙ sum_at h test (λ i. i) places ∙ sum_often weights (λ i. cond (test i) (h i) 0) range
       ∙ sym (sum_by_same (λ i. cond (test i) (weight_at weights i * h i) 0)
       (λ i. weight_at weights i * cond (test i) (h i) 0) range
       (λ k d inside. weigh_if caps routes weights are (test (get_or range k d)) (weight_at weights (get_or range k d)) (h (get_or range k d))))
@@ -281,12 +275,8 @@ module _ (caps : List (Option ℕ)) (routes : List (List ℕ)) (weights : List �
         All-from_contains (λ copy. ¬ IsLimited singles copy) (copies_of weights flow)
         (λ copy has limited. none (flow_limited copy has limited))
     by_rate (Finite ratio) (limited, worth) =
-        worth_of ratio.numerator ratio.denominator (sum_by parts (copies_of weights flow)) per
+        worth_too ratio.numerator ratio.denominator (sum_by parts (copies_of weights flow)) per
         (by_weight weights fair.parts flow) fair.per fair.fair.some_part (together limited) worth
-      where
-        worth_of : (m e a D b E : ℕ) → 0 < E → a * E ≡ b * D → m * E ≡ b * e → m * D ≡ a * e
-        worth_of m e a D b E pos same worth =
-            eq_of_mul-eq-mul_right E pos (m * D) (a * e) (omega (arith, ap (λ n. n * D) worth, ap (λ n. n * e) same))
 
 pub weights_are_copies : WeightsAreCopies
 weights_are_copies caps routes weights rates are fair per parts other flow d within =

@@ -80,8 +80,7 @@ module _ {P : Type 0} (cmp : P → P → Ordering) (order : IsTotalOrder cmp) (c
     back side of_link =
         let some = found (has_link of_link.link) routes of_link.used in
         let f = from_map (route_of cmp number) flows some.0 some.1 in
-        let on : has_link of_link.link (route_of cmp number f.0) ≡ true =
-        ap (has_link of_link.link) f.2 ∙ some.2 in
+        let on = ap (has_link of_link.link) f.2 ∙ some.2 in
         let x = found (λ other. other == of_link.link) (route_of cmp number f.0) on in
         let s = of_subject f.0 x.0 x.1 in
         back_at side of_link s.0 f.0 (s.1 ∙ eqb-true x.0 of_link.link x.2) f.1 on

@@ -1,10 +1,10 @@
 -- Flows in another order.
 use Rattle.std.proofs.Common.{rules}
 use Rattle.fair_routes.proofs.Common.{◌≡◌, ℕ, suc, ◌+◌, ◌<◌, List, [], ◌∷◌, Bool, true, false, cond, Option, Some, map}
-use Rattle.fair_routes.proofs.Common.{length, get_or, All, Contains, sum_by, refl, sym, ap, ◌∙◌, subst, inl, inr, arith}
+use Rattle.fair_routes.proofs.Common.{length, get_or, All, Contains, sum_by, refl, sym, ap, ◌∙◌, subst, arith}
 use Rattle.fair_routes.proofs.Common.{slice_get, list_any, length-map, get_or-map, get_or_default, All-contains}
 use Rattle.fair_routes.proofs.Common.{sum_by-cons, slice_get-get_or, slice_get-map, get_or_from_slice_get, Side}
-use Rattle.fair_routes.proofs.Common.{IsRateOf, places_from, Unlimited, In, in_map, in_from_contains, contains_from_in}
+use Rattle.fair_routes.proofs.Common.{IsRateOf, places_from, Unlimited, in_map, in_from_contains, contains_from_in}
 use Rattle.fair_routes.proofs.Common.{from_map, any_passes, routes_at, has_link, users_of, sides_over, common_steps}
 use Rattle.std.specs.List.{range_with_len}
 use Rattle.std.specs.List.Sorted.{IsPermutation}
@@ -17,6 +17,7 @@ use Rattle.fair_routes.specs.Network.Laws.{rates_at, OrderOfFlowsDoesNotMatter}
 use Rattle.fair_routes.proofs.Network.LinkSides.{link_side, side_listed, users_are_flows}
 use Rattle.fair_routes.proofs.Network.Relabelled.{IsTheSide, AreRelabelled, relabelled_fair, relabelled_rate}
 use Rattle.fair_routes.proofs.Network.Said.{found}
+use Rattle.fair_rates.proofs.Fairness.Apart.{sum_by-agree}
 
 -- ---- sums over the places that pass
 
@@ -39,8 +40,7 @@ sum_at {X} g test route (i ∷ order) =
 
     by_test : (b : Bool) → test (route i) ≡ b
         → sum_by (λ u. g (get_or (i ∷ order) u 0)) (places_from 1 test (map route order))
-        ≡ sum_by (λ j. cond (test (route j)) (g j) 0) order
-        → sum_by (λ u. g (get_or (i ∷ order) u 0))
+        ≡ sum_by (λ j. cond (test (route j)) (g j) 0) order → sum_by (λ u. g (get_or (i ∷ order) u 0))
         (cond b (0 ∷ places_from 1 test (map route order)) (places_from 1 test (map route order)))
         ≡ sum_by (λ j. cond (test (route j)) (g j) 0) (i ∷ order)
     by_test true is ih =
@@ -66,26 +66,17 @@ from_range d xs =
     omega (arith, inside, length-map (range_with_len 0 (length xs)) (λ i. get_or xs i d), length-range_with_len 0 (length xs)) in
     let at : get_or (range_with_len 0 (length xs)) k 0 ≡ k = get_or-range_with_len 0 (length xs) k 0 lt ∙ (omega arith) in
     get_or-map (λ i. get_or xs i d) (range_with_len 0 (length xs)) k 0 e
-    (omega (arith, lt, length-range_with_len 0 (length xs)))
-    ∙ ap (λ i. get_or xs i d) at ∙ get_or_default xs k d e lt)
-
-sum_agree : (f g : ℕ → ℕ) (xs : List ℕ) → ((x : ℕ) → In xs x → f x ≡ g x) → sum_by f xs ≡ sum_by g xs
-sum_agree f g [] h = refl
-sum_agree f g (x ∷ xs) h =
-    omega
-    (arith, sum_by-cons f x xs, sum_by-cons g x xs, h x (inl refl), sum_agree f g xs (λ y among. h y (inr among)))
+    (omega (arith, lt, length-range_with_len 0 (length xs))) ∙ ap (λ i. get_or xs i d) at ∙ get_or_default xs k d e lt)
 
 -- the users of a link, by all flows
-pub sum_all : {X : Type 0} (g : ℕ → ℕ) (test : X → Bool) (d : X) (xs : List X)
-    → sum_by g (places_from 0 test xs)
+pub sum_all : {X : Type 0} (g : ℕ → ℕ) (test : X → Bool) (d : X) (xs : List X) → sum_by g (places_from 0 test xs)
     ≡ sum_by (λ i. cond (test (get_or xs i d)) (g i) 0) (range_with_len 0 (length xs))
 sum_all {X} g test d xs =
-    sum_agree g (λ u. g (get_or range u 0)) (places_from 0 test xs) (λ u among.
+    sum_by-agree g (λ u. g (get_or range u 0)) (places_from 0 test xs) (λ u among.
     let at = passes_here test xs u among in
     let lt : u < length xs = below_length xs u at.0 at.1 in
     let is : get_or range u 0 ≡ u = get_or-range_with_len 0 (length xs) u 0 lt ∙ (omega arith) in
-    ap g (sym is))
-    ∙ ap (λ ys. sum_by (λ u. g (get_or range u 0)) (places_from 0 test ys)) (sym (from_range d xs))
+    ap g (sym is)) ∙ ap (λ ys. sum_by (λ u. g (get_or range u 0)) (places_from 0 test ys)) (sym (from_range d xs))
     ∙ sum_at g test (λ i. get_or xs i d) range
   where
     range : List ℕ
@@ -132,8 +123,7 @@ module _ (caps : List (Option ℕ)) (routes : List (List ℕ)) (order : List ℕ
     loads = λ parts.
         ap (sum_by parts) olds ∙ sum_all parts (has_link link) [] routes
         ∙ sym (sum_by-IsPermutation (λ i. cond (has_link link (route i)) (parts i) 0) range order permuted)
-        ∙ sym (sum_at parts (has_link link) route order)
-        ∙ ap (sum_by (λ flow. parts (of flow))) (sym are);
+        ∙ sym (sum_at parts (has_link link) route order) ∙ ap (sum_by (λ flow. parts (of flow))) (sym are);
     used = λ flow has.
         let at = passes_here (has_link link) news flow
         (in_from_contains (users_of link news) flow (subst (λ (us : List ℕ). Contains us flow) are has)) in
@@ -147,8 +137,7 @@ module _ (caps : List (Option ℕ)) (routes : List (List ℕ)) (order : List ℕ
         let at = passes_here (has_link link) routes (of flow)
         (in_from_contains (users_of link routes) (of flow) (subst (λ (us : List ℕ). Contains us (of flow)) olds has)) in
         let same : route (of flow) ≡ at.0 = get_or_from_slice_get routes (of flow) at.0 [] at.1 in
-        let here : slice_get news flow ≡ Some (route (of flow)) =
-        slice_get-map route order flow ∙ (rw (slice_get-get_or order flow 0 lt) refl) in
+        let here = slice_get-map route order flow ∙ (rw (slice_get-get_or order flow 0 lt) refl) in
         subst (λ (us : List ℕ). Contains us flow) (sym are)
         (place_here (has_link link) news flow (route (of flow)) here (ap (has_link link) same ∙ at.2));
   }
@@ -161,9 +150,8 @@ module _ (caps : List (Option ℕ)) (routes : List (List ℕ)) (order : List ℕ
       let at = get_in routes some.0 some.1 in
       let lt : at.0 < length routes = below_length routes at.0 some.0 at.1 in
       let same : route at.0 ≡ some.0 = get_or_from_slice_get routes at.0 some.0 [] at.1 in
-      let used : list_any (has_link is.link) news ≡ true =
-      any_passes (has_link is.link) news (route at.0)
-      (in_map route order at.0 (in_from_contains order at.0 (placed at.0 lt))) (ap (has_link is.link) same ∙ some.2) in
+      let used = any_passes (has_link is.link) news (route at.0) (in_map route order at.0
+      (in_from_contains order at.0 (placed at.0 lt))) (ap (has_link is.link) same ∙ some.2) in
       let new : Side = record { cap = old.cap; users = users_of is.link news } in (
         new,
         side_listed caps news new (record { link = is.link; capped = is.capped; used = used; users = refl }),
@@ -178,8 +166,7 @@ module _ (caps : List (Option ℕ)) (routes : List (List ℕ)) (order : List ℕ
       let i = from_map route order some.0 some.1 in
       let lt : i.0 < length routes =
       All-contains (λ j. j < length routes) order i.0 inside (contains_from_in order i.0 i.1) in
-      let used : list_any (has_link is.link) routes ≡ true =
-      any_passes (has_link is.link) routes (route i.0) (in_get routes i.0 (route i.0) (stands i.0 lt))
+      let used = any_passes (has_link is.link) routes (route i.0) (in_get routes i.0 (route i.0) (stands i.0 lt))
       (ap (has_link is.link) i.2 ∙ some.2) in
       let old : Side = record { cap = new.cap; users = users_of is.link routes } in (
         old,
@@ -203,10 +190,8 @@ the_order_of_flows_does_not_matter caps routes rates order permuted fair =
       parts = λ flow. fair.parts (get_or order flow 0);
       fair = relabelled_fair place flows olds news are fair.per fair.parts fair.fair;
       rated = λ flow d lt.
-          let at : get_or (rates_at rates order) flow d ≡ get_or rates (get_or order flow 0) Unlimited =
-          get_or-map (λ i. get_or rates i Unlimited) order flow 0 d lt in
-          let there : get_or order flow 0 < length routes =
-          inside caps routes order permuted flow 0 lt in
+          let at = get_or-map (λ i. get_or rates i Unlimited) order flow 0 d lt in
+          let there = inside caps routes order permuted flow 0 lt in
           relabelled_rate place flows olds news are fair.per fair.parts fair.fair flow
           (get_or (rates_at rates order) flow d) lt
           (subst (IsRateOf olds fair.per fair.parts (get_or order flow 0)) (sym at)

@@ -1,10 +1,10 @@
 -- Flows are held, one after another, and what they have is multiplied and weighed.
 use Rattle.fair_routes.proofs.Common.{◌≡◌, ℕ, ◌+◌, ◌*◌, ◌<◌, ◌≤◌, List, [], ◌∷◌, ◌++◌, All, Contains, Option, Some}
 use Rattle.fair_routes.proofs.Common.{None, cond, length, map, get_or, set, inl, inr, refl, sym, ap, ◌∙◌, subst, arith}
-use Rattle.fair_routes.proofs.Common.{mul-le-mul_right, count_by, option_map, unwrap_or, is_none, All-nil, All-push}
-use Rattle.fair_routes.proofs.Common.{Side, none_or_some, some_is, not_some, frozen_in, rising_weight, AreAllHeld}
-use Rattle.fair_routes.proofs.Common.{HasLeastRoom, HasFrozen, Room, common_steps}
-use Rattle.std.proofs.Common.{IsSome, get_or-set_other, get_or-set_same, length-append, le_of_mul-le-mul_right, rules}
+use Rattle.fair_routes.proofs.Common.{count_by, option_map, unwrap_or, is_none, All-nil, All-push, Side, none_or_some}
+use Rattle.fair_routes.proofs.Common.{some_is, not_some, frozen_in, rising_weight, AreAllHeld, HasLeastRoom, HasFrozen}
+use Rattle.fair_routes.proofs.Common.{Room, common_steps}
+use Rattle.std.proofs.Common.{IsSome, get_or-set_other, get_or-set_same, length-append, rules}
 use Rattle.std.specs.Prelude.{MatchOption}
 use Rattle.std.proofs.Math.ListN.{length-set, get_or-map as get_or_map}
 use Rattle.std.proofs.lemmas.Bool.{cases_eq}
@@ -13,6 +13,7 @@ use Rattle.std.proofs.lemmas.List.Elements.{All-weaker, Contains-push, Contains-
 use Rattle.std.proofs.lemmas.List.Sums.{sum_by-set}
 use Rattle.fair_rates.proofs.Filling.Growing.{AreScaled}
 use Rattle.fair_routes.specs.Network.Rising.{slack_of, IsLesser}
+use Rattle.fair_rates.proofs.Filling.LeastShare.{at_most_trans}
 
 -- nobody was to be held
 pub frozen_none : (parts : List (Option ℕ)) (share : ℕ) → HasFrozen [] parts parts share
@@ -118,15 +119,9 @@ pushed Holds d xs x n len all here k inside = search (rules, cases_eq, get_or_pu
 
 -- ---- the least room of one side after another
 
--- what is no more than another for each one of weight is no more than what that is no more than
-cross : (a p b q c u : ℕ) → 0 < q → a * q ≤ b * p → b * u ≤ c * q → a * u ≤ c * p
-cross a p b q c u some first second =
-    le_of_mul-le-mul_right (omega (arith, mul-le-mul_right u first, mul-le-mul_right p second)) some
-
 module _ (weights : List ℕ) (scale : ℕ) (frozen : ℕ → Option ℕ) where
   abbrev pub IsLeastOf : List Side → Option Room → Type 0
-  IsLeastOf sides least =
-      MatchOption least (AreAllHeld weights frozen sides) (HasLeastRoom weights scale frozen sides)
+  IsLeastOf sides least = MatchOption least (AreAllHeld weights frozen sides) (HasLeastRoom weights scale frozen sides)
 
   module _ (passed : List Side) (side : Side) (room : Room) (place : room.place ≡ length passed)
       (slack : room.slack ≡ slack_of weights scale frozen side)
@@ -153,7 +148,7 @@ module _ (weights : List ℕ) (scale : ℕ) (frozen : ℕ → Option ℕ) where
         → room.slack * least.weight < least.slack * room.weight → All (Covers room) passed
     less_covers least has less =
         All-weaker (Covers least) (Covers room)
-        (λ s covers. cross room.slack room.weight least.slack least.weight (slack_of weights scale frozen s)
+        (λ s covers. at_most_trans room.slack room.weight least.slack least.weight (slack_of weights scale frozen s)
         (rising_weight weights frozen s.users) has.some (omega (arith, less)) covers) passed has.least
 
     pub least_more : (least result : Option Room) → IsLeastOf passed least → IsLesser least room result

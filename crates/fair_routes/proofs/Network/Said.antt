@@ -65,8 +65,7 @@ module _ (caps others : List (Option ℕ)) (name : ℕ → ℕ) (are : AreRename
   all_renamed (route ∷ routes) = ((λ link. has_renamed link route), all_renamed routes)
 
   module _ (routes : List (List ℕ)) where
-    any_renamed : (link : ℕ)
-        → list_any (has_link link) routes ≡ list_any (has_link (name link)) (map (map name) routes)
+    any_renamed : (link : ℕ) → list_any (has_link link) routes ≡ list_any (has_link (name link)) (map (map name) routes)
     any_renamed link = grind (arith, common_steps, all_renamed routes, any_alike)
 
     users_renamed : (link : ℕ) → users_of link routes ≡ users_of (name link) (map (map name) routes)

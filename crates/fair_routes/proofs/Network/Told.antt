@@ -120,8 +120,7 @@ module _ (links : List ℕ) where
 
 -- the sides by places are those of the links
 pub sides_told : (entries : List (ℕ × ℕ)) (routes numbered : List (List ℕ))
-    → AllZip (IsNumbered (keys_of entries)) routes numbered
-    → sides_over (map Some (values_of entries)) numbered
+    → AllZip (IsNumbered (keys_of entries)) routes numbered → sides_over (map Some (values_of entries)) numbered
     ≡ flat_map (λ entry. side_of_link routes entry.0 (Some entry.1)) entries
 sides_told entries routes numbered all = search (rules, same_sides)
 
@@ -163,16 +162,14 @@ module _ (n : Network) (numbered : List (List ℕ)) (all : AllZip (IsNumbered (k
       → AreRatesTold n (zip (keys n.routes) rates)
   rates_told rates is = search (rules, many_weights, firsts-zip, seconds-zip, sides_are)
 
-  pub refusal_told : (e : WeightError) → IsWeightRefusal caps numbered (told_weights n) e
-      → MayRefuseTold n (error_of e)
+  pub refusal_told : (e : WeightError) → IsWeightRefusal caps numbered (told_weights n) e → MayRefuseTold n (error_of e)
   refusal_told (Routes (Refused e)) (inl memory) = inl memory
   refusal_told (Routes (Refused e)) (inr (large, listed, rate)) =
       inr (large, inl (subst (λ ss. HasLargeWeightedRate ss (told_weights n)) sides_are rate))
   refusal_told (Routes (NoSuchLink flow link)) h =
       let listed = all_listed (keys n.caps) (told_routes n) numbered all in
       let own : All (λ l. l < length (keys n.caps)) h.route =
-      subst (λ r. All (λ l. l < length (keys n.caps)) r)
-      (get_or_from_slice_get numbered flow h.route [] h.stands)
+      subst (λ r. All (λ l. l < length (keys n.caps)) r) (get_or_from_slice_get numbered flow h.route [] h.stands)
       (listed flow [] (slice_get_within numbered flow h.route h.stands)) in
       let small = All-contains (λ l. l < length (keys n.caps)) h.route link own h.uses in
       absurd (omega (arith, small, h.past, many_links))

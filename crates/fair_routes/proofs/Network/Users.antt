@@ -72,18 +72,7 @@ pub joined_more : (flow link : ℕ) (passed : List ℕ) (old now : List (List �
     → (at : ℕ) → get_or (set now link (noted flow (get_or now link []))) at []
     ≡ get_or old at [] ++ cond (has_link at (passed ++ link ∷ [])) (flow ∷ []) []
 joined_more flow link passed old now below many inside so at =
-    search (
-      rules,
-      cases_eq,
-      get_or-set_same,
-      has_link-push,
-      eq-eqb,
-      or_comm,
-      noted_is,
-      All-get_or,
-      get_or-set_other,
-      ne_eqb,
-    )
+    search (rules, cases_eq, get_or-set_same, has_link-push, eq-eqb, or_comm, noted_is, All-get_or, get_or-set_other, ne_eqb)
 
 -- ---- the next flow
 

@@ -165,14 +165,12 @@ the_order_of_flows_does_not_matter_by_weight caps routes weights rates order of 
           fair.parts fair.fair;
       rated = λ flow d lt'.
           let lt : flow < flows = omega (arith, lt', many) in
-          let at : get_or (rates_at rates order) flow d ≡ get_or rates (place flow) Unlimited =
-          get_or-map (λ i. get_or rates i Unlimited) order flow 0 d lt in
+          let at = get_or-map (λ i. get_or rates i Unlimited) order flow 0 d lt in
           let rate = get_or (rates_at rates order) flow d in
           let old : IsRateOf olds fair.per (by_weight weights fair.parts) (place flow) rate =
           subst (IsRateOf olds fair.per (by_weight weights fair.parts) (place flow)) (sym at)
           (fair.rated (place flow) Unlimited (within flow lt)) in
-          let new : IsRateOf news fair.per (λ f. by_weight weights fair.parts (place f)) flow rate =
-          rate_on place flows olds news are fair.per (by_weight weights fair.parts) flow rate lt old in
+          let new = rate_on place flows olds news are fair.per (by_weight weights fair.parts) flow rate lt old in
           on_rate flows news fair.per (λ f. by_weight weights fair.parts (place f))
           (by_weight others (λ f. fair.parts (place f))) flow
           (ap (λ n. n * fair.parts (place flow)) (sym (same flow lt))) rate new;

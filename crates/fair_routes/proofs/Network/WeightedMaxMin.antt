@@ -5,12 +5,12 @@ use Rattle.fair_routes.proofs.Common.{slice_get-get_or, slice_get_within, get_or
 use Rattle.fair_routes.proofs.Common.{IsFair, HaveUsersBelow, IsRateOf, Rate, Unlimited, Finite, Ratio, listed_from}
 use Rattle.fair_routes.proofs.Common.{sum_by-scaled, weight_at, weighted, as_often, by_weight, AreWeightedRates}
 use Rattle.fair_routes.proofs.Common.{common_steps}
-use Rattle.std.proofs.Math.Nat.{lt_of_mul-lt-mul_right, mul-lt-mul_of_pos_right, le_of_mul-le-mul_right}
 use Rattle.fair_rates.specs.Fairness.Fair.{IsWithinCaps}
 use Rattle.fair_rates.specs.Fairness.Laws.{HasRate}
 use Rattle.fair_rates.proofs.Lists.SumOrder.{sum_by-under, at_most_or_more}
 use Rattle.fair_routes.specs.Network.WeightLaws.{RatesByWeightAreMaxMin}
 use Rattle.fair_routes.proofs.Network.ByWeight.{sum_often, uses_often, often_uses, some_weight, limited_wide}
+use Rattle.fair_rates.proofs.Fairness.MaxMin.{at_most_by_parts, below_by_parts, above_by_parts}
 
 -- ---- amounts
 
@@ -59,30 +59,11 @@ module _ (sides : List Side) (weights : List ℕ) (positive : (u : ℕ) → u < 
       let h = fair.held i (limited_wide weights sides positive among i limited) in
       let from = listed_from (weighted weights) sides h.side h.uses.listed in
       let is : h.side ≡ weighted weights from.0 = sym from.2 in
-      on_side from.0 from.1
-      (subst (λ (s : Side). load a s ≡ s.cap * D) is h.full) i
+      on_side from.0 from.1 (subst (λ (s : Side). load a s ≡ s.cap * D) is h.full) i
       (subst (λ (s : Side). All (λ j. a j ≤ a i) s.users) is h.greatest)
       (uses_often weights from.0.users i (subst (λ (s : Side). Contains s.users i) is h.uses.used)) more
 
 -- ---- rates
-
--- n / d is p / per, and p is no greater than q, which is that of m / e
-at_most_by_parts : (n d m e p q per : ℕ) → 0 < per → n * per ≡ p * d → m * per ≡ q * e → p ≤ q → n * e ≤ m * d
-at_most_by_parts n d m e p q per pos first second le =
-    let scaled : p * (d * e) ≤ q * (d * e) = mul-le-mul_right (d * e) le in
-    let both : n * e * per ≤ m * d * per = omega (arith, scaled, ap (λ k. k * e) first, ap (λ k. k * d) second) in
-    le_of_mul-le-mul_right both pos
-
--- n / d is p / per: what is below the one is below the other, and what is above it is above it
-below_by_parts : (n d p per x other : ℕ) → 0 < d → n * per ≡ p * d → x * per < p * other → x * d < n * other
-below_by_parts n d p per x other pos e less =
-    let scaled : x * per * d < p * other * d = mul-lt-mul_of_pos_right less pos in
-    lt_of_mul-lt-mul_right per (omega (arith, scaled, ap (λ k. k * other) e))
-
-above_by_parts : (n d p per x other : ℕ) → 0 < per → n * per ≡ p * d → n * other < x * d → p * other < x * per
-above_by_parts n d p per x other pos e more =
-    let scaled : n * other * per < x * d * per = mul-lt-mul_of_pos_right more pos in
-    lt_of_mul-lt-mul_right d (omega (arith, scaled, ap (λ k. k * other) e))
 
 module _ (sides : List Side) (weights : List ℕ) (rates : List Rate) (f : AreWeightedRates sides weights rates) where
   rate_at : (flow : ℕ) (r : Rate) → slice_get rates flow ≡ Some r

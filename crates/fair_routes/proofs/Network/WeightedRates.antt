@@ -1,6 +1,6 @@
 -- Rates that are fair by weight: what is found is such a list, there is one, and where it is zero.
 use Rattle.fair_routes.proofs.Common.{◌≡◌, ℕ, ◌*◌, ◌^◌, ◌<◌, ◌≤◌, List, All, Contains, Option, Some, None, length, map}
-use Rattle.fair_routes.proofs.Common.{get_or, sum_by, refl, sym, ap, ◌∙◌, subst, arith, option_map, slice_index}
+use Rattle.fair_routes.proofs.Common.{get_or, refl, sym, ap, ◌∙◌, subst, arith, option_map, slice_index}
 use Rattle.fair_routes.proofs.Common.{eq_of_mul-eq-mul_right, get_or_default, All-contains, slice_get_within}
 use Rattle.fair_routes.proofs.Common.{get_or_from_slice_get, Side, load, IsLimited, IsFair, IsRateOf, at_level, Rate}
 use Rattle.fair_routes.proofs.Common.{Unlimited, Finite, Ratio, listed_on, listed_from, none_or_some, not_some, some_is}
@@ -8,7 +8,6 @@ use Rattle.fair_routes.proofs.Common.{All-from_contains, frozen_in, weight_at, w
 use Rattle.fair_routes.proofs.Common.{AreWeightedRates, common_steps}
 use Rattle.std.proofs.Common.{IfSome, rules}
 use Rattle.std.proofs.lemmas.List.{ext_get_or}
-use Rattle.std.proofs.lemmas.List.Sums.{get_or-le-sum_by}
 use Rattle.fair_rates.specs.Fairness.Laws.{UsesClosedSide, AreZeroWhereClosed}
 use Rattle.fair_rates.specs.Filling.FairParts.{level_at, IsRateAt, AreRatesAt, HasLargeLevel}
 use Rattle.fair_rates.specs.Filling.States.{AreInside}
@@ -17,7 +16,7 @@ use Rattle.fair_rates.specs.Numbers.Fits.{ReducedFits}
 use Rattle.fair_rates.specs.Numbers.LowestTerms.{whole_IsReduced}
 use Rattle.fair_rates.specs.Numbers.Ratio.{IsWorth}
 use Rattle.fair_rates.specs.declared.bandwidth.parts.FairParts.{FairParts}
-use Rattle.fair_rates.proofs.Fairness.OneAllocation.{same_amounts}
+use Rattle.fair_rates.proofs.Fairness.OneAllocation.{same_amounts, worth_too}
 use Rattle.fair_rates.proofs.Filling.Frozen.{at_none}
 use Rattle.fair_rates.proofs.Lists.SumOrder.{sum_by-zero}
 use Rattle.fair_rates.proofs.Numbers.Ratio.{one_ratio, worth_is_reduced}
@@ -25,6 +24,7 @@ use Rattle.fair_routes.specs.Network.Rising.{AreFilledByWeight, AreWeighed}
 use Rattle.fair_routes.specs.Network.Weights.{IsTheOnlyWeighted, HasLargeWeightedRate}
 use Rattle.fair_routes.specs.declared.routes.weighted.rising.Rising.{Rising}
 use Rattle.fair_routes.proofs.Network.ByWeight.{limited_wide, uses_often, often_uses, some_weight}
+use Rattle.fair_rates.proofs.Fairness.ClosedSides.{member_at_most}
 
 zero_ratio : Ratio
 zero_ratio = record { numerator = 0; denominator = 1; positive = omega arith; reduced = whole_IsReduced 0 }
@@ -66,8 +66,7 @@ module _ (sides : List Side) (weights : List ℕ) (rising : Rising) (found : Fai
         (λ limited. not_some (frozen flow) none ((filled.limited flow).1 limited))
     rate_by flow (Some parts) rate within some (inside, is) =
         let fraction = get_or at.fractions flow zero_ratio in
-        let worth : IsWorth fraction (parts_over found.scale (slice_index found.levels.items flow)) =
-        at.levels.worth flow zero_ratio inside in
+        let worth = at.levels.worth flow zero_ratio inside in
         let level : slice_index found.levels.items flow ≡ by_weight weights (at_level frozen 0) flow =
         omega (arith, are.level flow (omega (arith, within, filled.one_each))) in
         subst (IsRateOf sides rising.scale (by_weight weights (at_level frozen 0)) flow) (sym (is zero_ratio)) (
@@ -84,11 +83,6 @@ module _ (sides : List Side) (weights : List ℕ) (rising : Rising) (found : Fai
   large_by_weight large = search (rules, none_or_some, some_is, at_none, nothing_fits)
 
 -- ---- one list
-
--- m / e is b / E, which is a / D
-worth_too : (m e a D b E : ℕ) → 0 < E → a * E ≡ b * D → m * E ≡ b * e → m * D ≡ a * e
-worth_too m e a D b E some same worth =
-    eq_of_mul-eq-mul_right E some (m * D) (a * e) (omega (arith, ap (λ n. n * D) worth, ap (λ n. n * e) same))
 
 module _ (sides : List Side) (weights : List ℕ) (positive : (u : ℕ) → u < length weights → 0 < weight_at weights u)
     (among : All (λ side. All (λ u. u < length weights) side.users) sides) where
@@ -121,9 +115,6 @@ module _ (sides : List Side) (weights : List ℕ) (positive : (u : ℕ) → u < 
 
   -- ---- zero where closed
 
-  member_at_most : (f : ℕ → ℕ) (xs : List ℕ) (x : ℕ) → Contains xs x → f x ≤ sum_by f xs
-  member_at_most f xs x c = subst (λ y. f y ≤ sum_by f xs) c.2 (get_or-le-sum_by f xs c.0 x c.1)
-
   closed_is_zero : (per : ℕ) (parts : ℕ → ℕ) → IsFair wide per parts → (flow : ℕ) → UsesClosedSide sides flow
       → by_weight weights parts flow ≡ 0
   closed_is_zero per parts f flow u =
@@ -141,16 +132,14 @@ module _ (sides : List Side) (weights : List ℕ) (positive : (u : ℕ) → u < 
       → by_weight weights parts flow ≡ 0 → UsesClosedSide sides flow
   zero_is_closed per parts f flow limited none =
       let some = some_weight weights sides positive among limited.0 limited.1.listed flow limited.1.used in
-      let nothing : parts flow ≡ 0 =
-      eq_of_mul-eq-mul_right (weight_at weights flow) some (parts flow) 0 (omega (arith, none)) in
+      let nothing = eq_of_mul-eq-mul_right (weight_at weights flow) some (parts flow) 0 (omega (arith, none)) in
       let h = f.held flow (limited_wide weights sides positive among flow limited) in
       let users = h.side.users in
       let all_none =
       All-from_contains (λ j. parts j ≡ 0) users
       (λ j used. omega (arith, nothing, All-contains (λ j. parts j ≤ parts flow) users j h.greatest used)) in
       let empty : load parts h.side ≡ 0 = sum_by-zero parts users all_none in
-      let cap : h.side.cap ≡ 0 =
-      eq_of_mul-eq-mul_right per f.some_part h.side.cap 0 (omega (arith, empty, h.full)) in
+      let cap = eq_of_mul-eq-mul_right per f.some_part h.side.cap 0 (omega (arith, empty, h.full)) in
       let from = listed_from (weighted weights) sides h.side h.uses.listed in
       record {
         side = from.0;

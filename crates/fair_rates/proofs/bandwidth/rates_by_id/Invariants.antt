@@ -9,5 +9,4 @@ abbrev pub invariant-loop-flow : goal.invariant-loop-flow
 invariant-loop-flow g l =
     (id : ℕ)
     → or_else (last_rate id (iter_rest (zip_first l.flow-iterator)) (iter_rest (zip_second l.flow-iterator)))
-    (get nat_cmp l.by_id id)
-    ≡ last_rate id l.flows l.rates
+    (get nat_cmp l.by_id id) ≡ last_rate id l.flows l.rates

@@ -26,8 +26,7 @@ returns-in_err-rates-clause-refused c =
     let caps = c.args.caps.now in
     let routes = map items c.args.routes.now in
     if_err _ _ c.from_residual-in_err-rates.result c.from_residual-in_err-rates.ensures.1
-    (λ e is. subst (IsRefusal caps routes) (sym is)
-    (elim c.in_err-rates.ensures.refused [
+    (λ e is. subst (IsRefusal caps routes) (sym is) (elim c.in_err-rates.ensures.refused [
       | inl memory ↦ inl memory
       | inr large ↦ inr (
         large.0,

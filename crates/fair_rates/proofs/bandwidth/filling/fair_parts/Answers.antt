@@ -33,8 +33,7 @@ pub freeze-requires : goal.freeze-requires
 freeze-requires c =
     let found = c.loop-found.found in
     let E = c.deref-in-loop-found.result.now in
-    let same : length E ≡ length c.grow.new.self.level_of.items =
-    ap length (c.deref-in-loop-found.ensures.value ∙ sym c.in_ok-grow.ensures.level_of) in
+    let same = ap length (c.deref-in-loop-found.ensures.value ∙ sym c.in_ok-grow.ensures.level_of) in
     let users =
     some_of_if (λ (s : OpenSide). All (λ flow. flow < length E) s.rising.items) c.in_ok-side.field-0
     c.in_ok-side.ensures.users c.in-Some.side c.in-Some.is in
@@ -82,8 +81,7 @@ loop-found-preserved c =
     let after = c.freeze.new.self.levels.items in
     let later = c.freeze.new.self.level_of.items in
     let count : c.len.result ≡ length side.rising.items = grind (arith, common_steps, c.len.ensures) in
-    let whole : share.parts * length side.rising.items ≡ side.slack * share.factor =
-    ap (λ n. share.parts * n) (sym count) ∙ c.in_ok-share.ensures.whole in
+    let whole = ap (λ n. share.parts * n) (sym count) ∙ c.in_ok-share.ensures.whole in
     let raised : IsRaised (map (λ parts. parts * share.factor) levels) after share.parts =
     subst (λ xs. IsRaised xs after share.parts) c.in_ok-grow.ensures.levels c.in_ok-freeze.ensures.raised in
     let at_top : AreAtTop side.rising.items level_of later after =
@@ -94,23 +92,15 @@ loop-found-preserved c =
     round sides times share.factor levels after level_of later side rest opens share.parts
     c.in_ok-share.ensures.factor old course taken c.in_ok-queue-2.ensures.grown
     c.in_ok-queue-2.ensures.order whole raised at_top in
-    let scale : c.freeze.new.self.scale ≡ found.scale * share.factor =
-    c.in_ok-freeze.ensures.scale ∙ c.in_ok-grow.ensures.scale in
-    let growth : product c.freeze.new.self.growth.items ≡ product found.growth.items * share.factor =
-    ap product c.in_ok-freeze.ensures.growth ∙ c.in_ok-grow.ensures.growth in
+    let scale = c.in_ok-freeze.ensures.scale ∙ c.in_ok-grow.ensures.scale in
+    let growth = ap product c.in_ok-freeze.ensures.growth ∙ c.in_ok-grow.ensures.growth in
     let fewer = on_some_of o next.fewer side is in
     let few =
     few_more side.rising.items (map (λ parts. parts * share.factor) levels) after level_of later share.parts raised
     at_top in
     record {
       course = subst (λ n. IsCourse sides n after later opens) (sym growth) on;
-      grown =
-          omega (
-            arith,
-            scale,
-            ap (λ n. n * share.factor) c.loop-found.invariant.grown,
-            growth,
-          );
+      grown = omega (arith, scale, ap (λ n. n * share.factor) c.loop-found.invariant.grown, growth);
       factors =
           subst (All (λ n. 0 < n)) (sym c.in_ok-freeze.ensures.growth)
           (c.in_ok-grow.ensures.factors c.loop-found.invariant.factors);
@@ -144,10 +134,8 @@ returns c =
     let queue : IsQueue sides times (frozen_at D E) old =
     subst (λ xs. IsQueue sides times (frozen_at xs E) old) (sym d)
     (subst (λ xs. IsQueue sides times (frozen_at levels xs) old) (sym e) course.queue) in
-    let there : AllFilled sides (frozen_at D E) =
-    match_none (AllFilled sides (frozen_at D E))
-    (λ (s : OpenSide). IsQueue sides times (frozen_at D E) (record { 0 = s } ∷ rest)) c.in_ok-side.field-0
-    (c.in_ok-side.ensures.queue sides times queue) c.in_default.is in
+    let there = match_none (AllFilled sides (frozen_at D E)) (λ (s : OpenSide). IsQueue sides times (frozen_at D E)
+    (record { 0 = s } ∷ rest)) c.in_ok-side.field-0 (c.in_ok-side.ensures.queue sides times queue) c.in_default.is in
     let ended : AllFilled sides (frozen_at levels level_of) =
     subst (λ xs. AllFilled sides (frozen_at xs level_of)) d (subst (λ xs. AllFilled sides (frozen_at D xs)) e there) in
     record {

@@ -30,8 +30,7 @@ returns-then-len-before-clause-least c =
     let rest = heap_items c.pop.new.self in
     let len : length new.rising.items ≡ length x.rising.items =
     grind (arith, common_steps, c.if-len-before.true, c.len.ensures, c.len-before.ensures) in
-    let slack : new.slack ≡ x.slack =
-    unchanged {P = new.slack ≡ x.slack} (length new.rising.items) (length x.rising.items)
+    let slack = unchanged {P = new.slack ≡ x.slack} (length new.rising.items) (length x.rising.items)
     c.in-Some-count_frozen.ensures.changed len in
     record {
       rise = c.in-Some-count_frozen.ensures.rise;
@@ -48,8 +47,7 @@ returns-then-len-before-clause-queue c sides scale queue =
     queue_counted scale frozen sides c.in-Some.field-0 (record { 0 = c.in-Some-count_frozen.side })
     (heap_items c.pop.new.self) (λ side account. c.in-Some-count_frozen.ensures.account side scale account)
     (queue_permuted scale frozen sides (heap_items c.loop-least.queue) (c.in-Some.field-0 ∷ heap_items c.pop.new.self)
-    c.in-Some.ensures.permutation
-    (c.loop-least.invariant.queue sides scale queue))
+    c.in-Some.ensures.permutation (c.loop-least.invariant.queue sides scale queue))
 
 pub returns-then-len-before-clause-no_lower : goal.returns-then-len-before-clause-no_lower
 returns-then-len-before-clause-no_lower c parts above =
@@ -98,8 +96,7 @@ loop-least-preserved-in-Continue-1 c =
           (queue_permuted scale frozen sides xs (x ∷ rest) popped (c.loop-least.invariant.queue sides scale queue)));
       no_lower = λ parts above.
           All-permutation (λ (o : Reverse OpenSide). IsWithinSlack parts o.0.slack o.0.rising.items) (new ∷ rest) later
-          pushed
-          (above_counted parts xs rest x new popped (c.in-Some-count_frozen.ensures.no_lower parts)
+          pushed (above_counted parts xs rest x new popped (c.in-Some-count_frozen.ensures.no_lower parts)
           (c.loop-least.invariant.no_lower parts above));
       fewer = omega (arith, c.loop-least.invariant.fewer, c.in-Some.ensures.len, c.in_ok-push.ensures.len);
     }
@@ -139,5 +136,4 @@ loop-least-preserved c =
 pub returns-clause-queue : goal.returns-clause-queue
 returns-clause-queue c sides scale queue =
     all_filled scale (frozen_at c.args.levels.now c.args.level_of.now) sides (heap_items c.loop-least.queue)
-    (grind (arith, common_steps, c.in_default.ensures.none))
-    (c.loop-least.invariant.queue sides scale queue)
+    (grind (arith, common_steps, c.in_default.ensures.none)) (c.loop-least.invariant.queue sides scale queue)

@@ -44,21 +44,18 @@ loop-factor-preserved c =
     let n = c.loop-factor.numerator in
     let d = c.loop-factor.denominator in
     let shared = c.gcd_of_narrow-shared.result in
-    let is : shared ≡ gcd n factor =
-    c.gcd_of_narrow-shared.ensures ∙ ap (gcd factor) c.remainder.ensures ∙ shared_is n factor some in
+    let is = c.gcd_of_narrow-shared.ensures ∙ ap (gcd factor) c.remainder.ensures ∙ shared_is n factor some in
     let top : c.divide.new.self ≡ n / shared = c.divide.ensures.quotient in
     let bottom : c.multiply.new.self ≡ d * (factor / shared) = c.in_ok-multiply.ensures.value in
     record {
       positive = omega (arith, bottom, rest_positive n d factor shared some is c.loop-factor.invariant.positive);
       lowest =
-          subst (λ m. IsReduced m c.multiply.new.self) (sym top)
-          (subst (λ m. IsReduced (n / shared) m) (sym bottom)
+          subst (λ m. IsReduced m c.multiply.new.self) (sym top) (subst (λ m. IsReduced (n / shared) m) (sym bottom)
           (lowest_next n d factor shared some is c.loop-factor.invariant.lowest));
       worth =
           ap (λ m. c.args.parts.now * m) bottom
           ∙ worth_next n d factor shared some is c.args.parts.now (product (take i c.args.factors.now))
-          c.loop-factor.invariant.worth
-          ∙ ap (λ m. m * (product (take i c.args.factors.now) * factor)) (sym top)
+          c.loop-factor.invariant.worth ∙ ap (λ m. m * (product (take i c.args.factors.now) * factor)) (sym top)
           ∙ ap (λ m. c.divide.new.self * m) (sym (product_next c.args.factors.now i inside));
     }
 
@@ -67,9 +64,7 @@ not_small o fits none small = not_some o none (fits.1 small)
 
 pub returns-in_err-numerator-2-clause-refused : goal.returns-in_err-numerator-2-clause-refused
 returns-in_err-numerator-2-clause-refused c =
-    let worth : c.args.parts.now * c.loop-factor.denominator ≡ c.loop-factor.numerator * product c.args.factors.now =
-    c.loop-factor.invariant.worth ∙
-    ap (λ xs. c.loop-factor.numerator * product xs)
+    let worth = c.loop-factor.invariant.worth ∙ ap (λ xs. c.loop-factor.numerator * product xs)
     (take_all c.loop-factor.factor-index c.args.factors.now (omega (arith, c.loop-factor-test.false))) in
     let none = none_by c.to_u128.result c.in_err-numerator-2.field-0.0 _ c.in_err-numerator-2.ensures.value in
     if_err _ _ c.from_residual-in_err-numerator-2.result c.from_residual-in_err-numerator-2.ensures.1 (λ e is. inr (
@@ -82,9 +77,7 @@ returns-in_err-numerator-2-clause-refused c =
 
 pub returns-in_err-denominator-clause-refused : goal.returns-in_err-denominator-clause-refused
 returns-in_err-denominator-clause-refused c =
-    let worth : c.args.parts.now * c.loop-factor.denominator ≡ c.loop-factor.numerator * product c.args.factors.now =
-    c.loop-factor.invariant.worth ∙
-    ap (λ xs. c.loop-factor.numerator * product xs)
+    let worth = c.loop-factor.invariant.worth ∙ ap (λ xs. c.loop-factor.numerator * product xs)
     (take_all c.loop-factor.factor-index c.args.factors.now (omega (arith, c.loop-factor-test.false))) in
     let none = none_by c.to_u128-2.result c.in_err-denominator.field-0.0 _ c.in_err-denominator.ensures.value in
     if_err _ _ c.from_residual-in_err-denominator.result c.from_residual-in_err-denominator.ensures.1 (λ e is. inr (

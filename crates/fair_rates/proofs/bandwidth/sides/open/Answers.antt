@@ -31,10 +31,8 @@ returns-clause-registers g c =
     let s = subject_of c.args.subject in
     let n = c.len-number.result in
     let last : n ≡ length old.sides.items = c.len-number.ensures ∙ old.sides.ok.0 in
-    let users : c.push.new.self.items ≡ c.args.place ∷ [] =
-    c.in_ok-push.ensures.items ∙ ap (λ us. us ++ c.args.place ∷ []) c.in_ok-users.ensures.items in
-    let sides : new.sides.items ≡ old.sides.items ++ record { cap = c.from_u128-cap.result; users = c.push.new.self } ∷ [] =
-    ap (λ v. v.items) c.note.ensures.sides ∙ c.in_ok-push-2.ensures.items in
+    let users = c.in_ok-push.ensures.items ∙ ap (λ us. us ++ c.args.place ∷ []) c.in_ok-users.ensures.items in
+    let sides = ap (λ v. v.items) c.note.ensures.sides ∙ c.in_ok-push-2.ensures.items in
     let numbers : HasNumber cmp s n old new = c.in_ok-note.ensures.numbers in
     record {
       asked = λ asks h. record {

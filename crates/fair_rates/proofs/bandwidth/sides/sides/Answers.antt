@@ -46,25 +46,21 @@ loop-place-preserved g c =
     ] in
     record {
       egress = (origin_next (TakesAt g.E.FnMut) (CalledAt g.E.FnMut) c.loop-place.egress_cap c.args.flows.now n flow
-          (omega arith) c.index-flows-place.is inv.egress).1
-          _ _ egress_call;
+          (omega arith) c.index-flows-place.is inv.egress).1 _ _ egress_call;
       ingress =
           recipient_next (TakesAt g.I.FnMut) (CalledAt g.I.FnMut) c.loop-place.ingress_cap c.args.flows.now n flow
           (omega arith) c.index-flows-place.is inv.ingress a.ingress c.if-flow.ingress_cap ingress_call;
       link = (pair_next (TakesAtTwo g.L.FnMut) (CalledAtTwo g.L.FnMut) c.loop-place.link_cap c.args.flows.now n flow
-          (omega arith) c.index-flows-place.is inv.link).1
-          _ _ link_call;
+          (omega arith) c.index-flows-place.is inv.link).1 _ _ link_call;
       passed =
           passed g.P.Ord.cmp (CalledAt g.E.FnMut) (CalledAt g.I.FnMut) (CalledAtTwo g.L.FnMut) n a
           c.loop-place.registry c.register_flow.new.registry c.in_ok-register_flow.ensures.registers
           (record { egress = c.args.egress_cap; ingress = c.args.ingress_cap; link = c.args.link_cap })
-          c.args.flows.now
-          (record {
+          c.args.flows.now (record {
             egress = c.loop-place.egress_cap;
             ingress = c.loop-place.ingress_cap;
             link = c.loop-place.link_cap;
-          })
-          (record {
+          }) (record {
             egress = c.egress_cap-egress.new.self;
             ingress = c.if-flow.ingress_cap;
             link = c.link_cap-link.new.self;

@@ -7,8 +7,7 @@ use Rattle.fair_rates.proofs.bandwidth.time.transfer.Goals as goal
 pub returns-in-Finite-clause-value : goal.returns-in-Finite-clause-value
 returns-in-Finite-clause-value c =
     subst (λ (r : Rate). amount_of c.args.remaining ≡ left_after r c.args.elapsed (amount_of c.args.remaining))
-    (sym c.in-Finite.is)
-    (all_is_left c.args.remaining c.in-Finite.rate c.args.elapsed (elim c.if-is_zero-2.branch [
+    (sym c.in-Finite.is) (all_is_left c.args.remaining c.in-Finite.rate c.args.elapsed (elim c.if-is_zero-2.branch [
       | then-is_zero-2 w ↦ (elim c.if-is_zero.branch [
         | then-is_zero v ↦ inl (v.if-is_zero.ensures.0 refl)
         | else-is_zero v ↦ inr (inl (v.is_zero-else-is_zero.ensures.0 (sym v.value-is ∙ w.if-is_zero-2.true)))

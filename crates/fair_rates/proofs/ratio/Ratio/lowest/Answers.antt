@@ -23,6 +23,5 @@ invariant_of-result c = record {
 
 pub returns : goal.returns
 returns c =
-    sym
-    (reduced_is c.args.num c.args.den c.gcd-divisor.result (sym c.gcd-divisor.ensures.value)
+    sym (reduced_is c.args.num c.args.den c.gcd-divisor.result (sym c.gcd-divisor.ensures.value)
     ∙ amount_is (sym c.quotient.ensures) (sym c.quotient-2.ensures))

@@ -10,8 +10,7 @@ returns-then-whole-other_whole t c =
 
 pub returns-then-rest-eq0 : goal.returns-then-rest-eq0
 returns-then-rest-eq0 t c =
-    c.cmp-then-rest-eq0.ensures
-    ∙ by_zero_rest _ _ _ _ c.requires.left c.requires.right c.if-whole-other_whole.false
+    c.cmp-then-rest-eq0.ensures ∙ by_zero_rest _ _ _ _ c.requires.left c.requires.right c.if-whole-other_whole.false
     (elim c.then-rest-eq0.branch [
       | then-rest-eq0-via-then-rest-eq0 w ↦ inl w.if-rest-eq0.true
       | then-rest-eq0-via-else-rest-eq0+then-other_rest-eq0 w ↦ inr w.if-other_rest-eq0.true

@@ -15,16 +15,14 @@ loop-link-preserved c =
     let k = c.loop-link.link-index in
     let link = get_or route k 0 in
     let more : take (k + 1) route ≡ take k route ++ link ∷ [] = take_more route k 0 (omega arith) in
-    subst (λ r. IsNumbered links r c.match-place_of.numbered.items) (sym more)
-    (elim c.match-place_of.branch [
+    subst (λ r. IsNumbered links r c.match-place_of.numbered.items) (sym more) (elim c.match-place_of.branch [
       | in-Some+in_ok-push w ↦
           subst (IsNumbered links (take k route ++ link ∷ []))
           (sym (ap (λ v. v.items) w.numbered-is ∙ w.in_ok-push.ensures.items))
           (numbered_more links (take k route) c.loop-link.numbered.items link w.in-Some.place c.loop-link.invariant
           (subst (λ o. IsPlace links o link) w.in-Some.is c.place_of.ensures))
       | in_default w ↦
-          subst (IsNumbered links (take k route ++ link ∷ []))
-          (sym (ap (λ v. v.items) w.numbered-is))
+          subst (IsNumbered links (take k route ++ link ∷ [])) (sym (ap (λ v. v.items) w.numbered-is))
           (numbered_same links (take k route) c.loop-link.numbered.items link c.loop-link.invariant
           (subst (λ o. IsPlace links o link) w.in_default.is c.place_of.ensures))
     ])

@@ -14,11 +14,9 @@ loop-route-preserved c =
     let route = c.in-Some.route in
     let own = c.in_ok-numbered_route.field-0 in
     let before = map items (map deref c.loop-route.yielded) in
-    let left : map items (map deref (c.loop-route.yielded ++ route ∷ [])) ≡ before ++ route.now.items ∷ [] =
-    ap (map items) (map-append deref c.loop-route.yielded (route ∷ []))
-    ∙ map-append items (map deref c.loop-route.yielded) (route.now ∷ []) in
-    let right : map items c.push.new.self.items ≡ map items c.loop-route.numbered.items ++ own.items ∷ [] =
-    ap (map items) c.in_ok-push.ensures.items ∙ map-append items c.loop-route.numbered.items (own ∷ []) in
+    let left = ap (map items) (map-append deref c.loop-route.yielded (route ∷ [])) ∙ map-append items
+    (map deref c.loop-route.yielded) (route.now ∷ []) in
+    let right = ap (map items) c.in_ok-push.ensures.items ∙ map-append items c.loop-route.numbered.items (own ∷ []) in
     subst (λ xs. AllZip R xs (map items c.push.new.self.items)) (sym left)
     (subst (AllZip R (before ++ route.now.items ∷ [])) (sym right)
     (zip-push R before (map items c.loop-route.numbered.items) route.now.items own.items c.loop-route.invariant

@@ -27,8 +27,6 @@ loop-flow-preserved c =
 
 pub returns : goal.returns
 returns c =
-    sym (append-nil c.loop-flow.rated.items)
-    ∙ ap (λ ps. c.loop-flow.rated.items ++ ps)
-    (sym (none_left _ _
+    sym (append-nil c.loop-flow.rated.items) ∙ ap (λ ps. c.loop-flow.rated.items ++ ps) (sym (none_left _ _
     (either_empty_from_Zip c.loop-flow.flow-iterator c.next.new.self c.next.result c.in-None.is c.next.ensures.steps)))
     ∙ c.loop-flow.invariant

@@ -21,8 +21,7 @@ loop-flows-preserved-in-Continue-1 c =
     let users = c.pop.new.self in
     let link = vec_len users in
     let inside : link < length c.args.caps.now = omega (arith, c.loop-flows.invariant.few, c.in-Some.ensures.len) in
-    let capped : get_or c.args.caps.now link None ≡ Some c.in-Some-caps.cap =
-    ap (λ n. get_or c.args.caps.now n None) (sym c.len.ensures) ∙ c.in-Some-caps.is in
+    let capped = ap (λ n. get_or c.args.caps.now n None) (sym c.len.ensures) ∙ c.in-Some-caps.is in
     record {
       few = omega (arith, inside);
       made = λ routes are.
@@ -42,8 +41,7 @@ loop-flows-preserved-else-not-is_empty c =
     let users = c.pop.new.self in
     let link = vec_len users in
     let inside : link < length c.args.caps.now = omega (arith, c.loop-flows.invariant.few, c.in-Some.ensures.len) in
-    let capped : get_or c.args.caps.now link None ≡ Some c.in-Some-caps.cap =
-    ap (λ n. get_or c.args.caps.now n None) (sym c.len.ensures) ∙ c.in-Some-caps.is in
+    let capped = ap (λ n. get_or c.args.caps.now n None) (sym c.len.ensures) ∙ c.in-Some-caps.is in
     record {
       few = omega (arith, inside);
       made = λ routes are.
@@ -61,8 +59,7 @@ loop-flows-preserved c =
     let users = c.pop.new.self in
     let link = vec_len users in
     let inside : link < length c.args.caps.now = omega (arith, c.loop-flows.invariant.few, c.in-Some.ensures.len) in
-    let none : get_or c.args.caps.now link None ≡ None =
-    ap (λ n. get_or c.args.caps.now n None) (sym c.len.ensures) ∙ c.in_default-caps.is in
+    let none = ap (λ n. get_or c.args.caps.now n None) (sym c.len.ensures) ∙ c.in_default-caps.is in
     record {
       few = omega (arith, inside);
       made = λ routes are.

@@ -31,12 +31,9 @@ returns-in_err-register-clause-refused c =
     let routes = c.args.routes.now in
     let n = c.loop-flow.flow in
     let route = c.index-routes-flow.result in
-    let stands : slice_get (map items routes) n ≡ Some c.deref.result.now =
-    slice_get-map items routes n
-    ∙ (rw (slice_get-get_or routes n route (omega arith)) (ap (λ v. Some (items v)) (sym c.index-routes-flow.is)
-    ∙ ap Some (sym c.deref.ensures.value))) in
-    let links : length c.deref_mut.result.now ≡ c.args.links =
-    ap length c.deref_mut.ensures.value ∙ c.loop-flow.invariant.are.one_each in
+    let stands = slice_get-map items routes n ∙ (rw (slice_get-get_or routes n route (omega arith))
+    (ap (λ v. Some (items v)) (sym c.index-routes-flow.is) ∙ ap Some (sym c.deref.ensures.value))) in
+    let links = ap length c.deref_mut.ensures.value ∙ c.loop-flow.invariant.are.one_each in
     if_err _ _ c.from_residual-in_err-register.result c.from_residual-in_err-register.ensures.1
     (λ e is. subst (IsNoLink c.args.links (map items routes)) (sym is)
     (no_link c.in_err-register.field-0.0 n c.args.links c.deref.result.now (map items routes) stands
@@ -48,19 +45,18 @@ loop-flow-preserved c =
     let n = c.loop-flow.flow in
     let route = c.index-routes-flow.result in
     let passed : List (List ℕ) = map items (take n routes) in
-    let more : map items (take (n + 1) routes) ≡ passed ++ route.items ∷ [] =
-    mapped_more items routes n route (omega arith) c.index-routes-flow.is in
-    let count : length passed ≡ n =
-    length-map (take n routes) items ∙ length-take-le n routes (omega arith) in
-    let now : (with_items c.loop-flow.users c.register.new.users).items ≡ c.register.new.users =
-    with_items_is c.loop-flow.users c.register.new.users
-    (omega (arith, c.register.auto.users, c.deref_mut.ensures.len)) in
+    let more = mapped_more items routes n route (omega arith) c.index-routes-flow.is in
+    let count = length-map (take n routes) items ∙ length-take-le n routes (omega arith) in
+    let now = with_items_is c.loop-flow.users c.register.new.users (omega (
+      arith,
+      c.register.auto.users,
+      c.deref_mut.ensures.len,
+    )) in
     let joined : HasJoined n route.items c.loop-flow.users.items c.register.new.users =
     subst (λ (us : List (Vec ℕ Global)). HasJoined n route.items us c.register.new.users) c.deref_mut.ensures.value
     (subst (λ (r : List ℕ). HasJoined n r c.deref_mut.result.now c.register.new.users) c.deref.ensures.value
     c.in_ok-register.ensures.joined) in
-    let links : length c.deref_mut.result.now ≡ c.args.links =
-    ap length c.deref_mut.ensures.value ∙ c.loop-flow.invariant.are.one_each in
+    let links = ap length c.deref_mut.ensures.value ∙ c.loop-flow.invariant.are.one_each in
     let listed : All (λ link. link < c.args.links) route.items =
     subst (λ (m : ℕ). All (λ link. link < m) route.items) links
     (subst (λ (r : List ℕ). All (λ link. link < length c.deref_mut.result.now) r) c.deref.ensures.value

@@ -51,13 +51,11 @@ returns-in_err-rates-clause-refused c =
     let among : All (λ (side : Side). All (λ user. user < length weights) side.users) (sides_over caps routes) =
     subst (λ n. All (λ (side : Side). All (λ user. user < n) side.users) (sides_over caps routes)) many
     (users_are_flows caps routes) in
-    let are : map side_of c.deref-2.result.now ≡ sides_over caps routes =
-    ap (map side_of) c.deref-2.ensures.value ∙ c.in_ok-sides.ensures.sides in
+    let are = ap (map side_of) c.deref-2.ensures.value ∙ c.in_ok-sides.ensures.sides in
     let filled : AreFilledByWeight (sides_over caps routes) weights c.in_ok-rising.rising =
     subst (λ ss. AreFilledByWeight ss weights c.in_ok-rising.rising) are c.in_ok-rising.ensures in
     if_err _ _ c.from_residual-in_err-rates.result c.from_residual-in_err-rates.ensures.1
-    (λ e is. subst (IsWeightRefusal caps routes weights) (sym is)
-    (elim c.in_err-rates.ensures.refused [
+    (λ e is. subst (IsWeightRefusal caps routes weights) (sym is) (elim c.in_err-rates.ensures.refused [
       | inl memory ↦ inl memory
       | inr large ↦ inr (
         large.0,
@@ -77,8 +75,7 @@ returns-clause-fair c =
     let among : All (λ (side : Side). All (λ user. user < length weights) side.users) (sides_over caps routes) =
     subst (λ n. All (λ (side : Side). All (λ user. user < n) side.users) (sides_over caps routes)) many
     (users_are_flows caps routes) in
-    let are : map side_of c.deref-2.result.now ≡ sides_over caps routes =
-    ap (map side_of) c.deref-2.ensures.value ∙ c.in_ok-sides.ensures.sides in
+    let are = ap (map side_of) c.deref-2.ensures.value ∙ c.in_ok-sides.ensures.sides in
     let filled : AreFilledByWeight (sides_over caps routes) weights c.in_ok-rising.rising =
     subst (λ ss. AreFilledByWeight ss weights c.in_ok-rising.rising) are c.in_ok-rising.ensures in
     let positive : (u : ℕ) → u < length weights → 0 < weight_at weights u = λ u inside. of.positive u 0 inside in

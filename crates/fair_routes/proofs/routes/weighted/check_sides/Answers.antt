@@ -11,8 +11,7 @@ returns-then-is_none-clause-refused c =
     let item = c.side-item.result in
     let weigh = weight_at c.args.weights.now in
     let inside : i < length sides = omega (arith, c.loop-side-test.true) in
-    let at : get_or (map side_of sides) i (side_of item) ≡ side_of item =
-    get_or-map side_of sides i item (side_of item) inside ∙ ap side_of (sym c.side-item.is) in
+    let at = get_or-map side_of sides i item (side_of item) inside ∙ ap side_of (sym c.side-item.is) in
     let none = c.if-is_none.ensures in (
       refl,
       record {

@@ -44,9 +44,8 @@ freeze-requires c =
     let parts = rising.parts.items in
     let room : Room = c.in-Some.least in
     let there = c.deref.result.now in
-    let found : HasLeastRoom weights rising.scale (frozen_in there) sides room =
-    match_some (AreAllHeld weights (frozen_in there) sides) (HasLeastRoom weights rising.scale (frozen_in there) sides)
-    c.in_ok-least.field-0 c.in_ok-least.ensures room c.in-Some.is in
+    let found = match_some (AreAllHeld weights (frozen_in there) sides) (HasLeastRoom weights rising.scale
+    (frozen_in there) sides) c.in_ok-least.field-0 c.in_ok-least.ensures room c.in-Some.is in
     let least : HasLeastRoom weights rising.scale (frozen_in parts) sides room =
     subst (λ xs. HasLeastRoom weights rising.scale (frozen_in xs) sides room) c.deref.ensures.value found in
     let item : declared.LinkSide = c.index-sides-least.result in
@@ -55,8 +54,7 @@ freeze-requires c =
     let mid = c.grow.new.self.parts.items in
     let is_mid : mid ≡ map (option_map (λ n. n * c.in_ok-next.next.factor)) parts = c.in_ok-grow.ensures.parts in
     let of_mid : c.deref_mut.result.now ≡ mid = c.deref_mut.ensures.value in
-    let of_users : c.deref-in-Some.result.now ≡ item.users.items =
-    c.deref-in-Some.ensures.value ∙ sym (ap (λ (s : declared.LinkSide). s.users.items) is_item) in
+    let of_users = c.deref-in-Some.ensures.value ∙ sym (ap (λ (s : declared.LinkSide). s.users.items) is_item) in
     let users : All (λ u. u < length weights) item.users.items =
     subst (λ (s : declared.LinkSide). All (λ u. u < length weights) s.users.items) (sym is_item)
     (c.requires.users room.place item inside) in
@@ -75,9 +73,8 @@ loop-rising-smaller c =
     let parts = rising.parts.items in
     let room : Room = c.in-Some.least in
     let there = c.deref.result.now in
-    let found : HasLeastRoom weights rising.scale (frozen_in there) sides room =
-    match_some (AreAllHeld weights (frozen_in there) sides) (HasLeastRoom weights rising.scale (frozen_in there) sides)
-    c.in_ok-least.field-0 c.in_ok-least.ensures room c.in-Some.is in
+    let found = match_some (AreAllHeld weights (frozen_in there) sides) (HasLeastRoom weights rising.scale
+    (frozen_in there) sides) c.in_ok-least.field-0 c.in_ok-least.ensures room c.in-Some.is in
     let least : HasLeastRoom weights rising.scale (frozen_in parts) sides room =
     subst (λ xs. HasLeastRoom weights rising.scale (frozen_in xs) sides room) c.deref.ensures.value found in
     let item : declared.LinkSide = c.index-sides-least.result in
@@ -86,18 +83,15 @@ loop-rising-smaller c =
     let mid = c.grow.new.self.parts.items in
     let is_mid : mid ≡ map (option_map (λ n. n * c.in_ok-next.next.factor)) parts = c.in_ok-grow.ensures.parts in
     let of_mid : c.deref_mut.result.now ≡ mid = c.deref_mut.ensures.value in
-    let of_users : c.deref-in-Some.result.now ≡ item.users.items =
-    c.deref-in-Some.ensures.value ∙ sym (ap (λ (s : declared.LinkSide). s.users.items) is_item) in
+    let of_users = c.deref-in-Some.ensures.value ∙ sym (ap (λ (s : declared.LinkSide). s.users.items) is_item) in
     let share = c.in_ok-next.next.parts in
     let factor = c.in_ok-next.next.factor in
     let after = c.freeze.new.parts in
     let frozen : HasFrozen item.users.items mid after share =
     subst (λ us. HasFrozen us mid after share) of_users
     (subst (λ xs. HasFrozen c.deref-in-Some.result.now xs after share) of_mid c.in_ok-freeze.ensures) in
-    let now : (with_items c.grow.new.self.parts after).items ≡ after =
-    with_items_is c.grow.new.self.parts after (omega (arith, c.freeze.auto.parts, c.deref_mut.ensures.len)) in
-    let is_side : get_or sides room.place (side_of item) ≡ side_of item =
-    get_or-map side_of code room.place item (side_of item) inside ∙ ap side_of (sym is_item) in
+    let now = with_items_is c.grow.new.self.parts after (omega (arith, c.freeze.auto.parts, c.deref_mut.ensures.len)) in
+    let is_side = get_or-map side_of code room.place item (side_of item) inside ∙ ap side_of (sym is_item) in
     let among = All-map (λ (s : Side). All (λ u. u < length weights) s.users) side_of code c.requires.users in
     let fewer =
     fewer_rise weights sides c.requires.positive among rising.scale inv.course.0 parts mid after factor share room least
@@ -114,9 +108,8 @@ loop-rising-preserved c =
     let parts = rising.parts.items in
     let room : Room = c.in-Some.least in
     let there = c.deref.result.now in
-    let found : HasLeastRoom weights rising.scale (frozen_in there) sides room =
-    match_some (AreAllHeld weights (frozen_in there) sides) (HasLeastRoom weights rising.scale (frozen_in there) sides)
-    c.in_ok-least.field-0 c.in_ok-least.ensures room c.in-Some.is in
+    let found = match_some (AreAllHeld weights (frozen_in there) sides) (HasLeastRoom weights rising.scale
+    (frozen_in there) sides) c.in_ok-least.field-0 c.in_ok-least.ensures room c.in-Some.is in
     let least : HasLeastRoom weights rising.scale (frozen_in parts) sides room =
     subst (λ xs. HasLeastRoom weights rising.scale (frozen_in xs) sides room) c.deref.ensures.value found in
     let item : declared.LinkSide = c.index-sides-least.result in
@@ -125,18 +118,15 @@ loop-rising-preserved c =
     let mid = c.grow.new.self.parts.items in
     let is_mid : mid ≡ map (option_map (λ n. n * c.in_ok-next.next.factor)) parts = c.in_ok-grow.ensures.parts in
     let of_mid : c.deref_mut.result.now ≡ mid = c.deref_mut.ensures.value in
-    let of_users : c.deref-in-Some.result.now ≡ item.users.items =
-    c.deref-in-Some.ensures.value ∙ sym (ap (λ (s : declared.LinkSide). s.users.items) is_item) in
+    let of_users = c.deref-in-Some.ensures.value ∙ sym (ap (λ (s : declared.LinkSide). s.users.items) is_item) in
     let share = c.in_ok-next.next.parts in
     let factor = c.in_ok-next.next.factor in
     let after = c.freeze.new.parts in
     let frozen : HasFrozen item.users.items mid after share =
     subst (λ us. HasFrozen us mid after share) of_users
     (subst (λ xs. HasFrozen c.deref-in-Some.result.now xs after share) of_mid c.in_ok-freeze.ensures) in
-    let now : (with_items c.grow.new.self.parts after).items ≡ after =
-    with_items_is c.grow.new.self.parts after (omega (arith, c.freeze.auto.parts, c.deref_mut.ensures.len)) in
-    let is_side : get_or sides room.place (side_of item) ≡ side_of item =
-    get_or-map side_of code room.place item (side_of item) inside ∙ ap side_of (sym is_item) in
+    let now = with_items_is c.grow.new.self.parts after (omega (arith, c.freeze.auto.parts, c.deref_mut.ensures.len)) in
+    let is_side = get_or-map side_of code room.place item (side_of item) inside ∙ ap side_of (sym is_item) in
     let among = All-map (λ (s : Side). All (λ u. u < length weights) s.users) side_of code c.requires.users in
     let scale : c.grow.new.self.scale ≡ rising.scale * factor = c.in_ok-grow.ensures.scale in
     let filled =
@@ -164,10 +154,8 @@ returns c =
     let sides : List Side = map side_of c.args.sides.now in
     let parts = c.deref.result.now in
     let frozen : ℕ → Option ℕ = frozen_in rising.parts.items in
-    let there : AreAllHeld weights (frozen_in parts) sides =
-    match_none (AreAllHeld weights (frozen_in parts) sides)
-    (HasLeastRoom weights rising.scale (frozen_in parts) sides) c.in_ok-least.field-0 c.in_ok-least.ensures
-    c.in_default.is in
+    let there = match_none (AreAllHeld weights (frozen_in parts) sides) (HasLeastRoom weights rising.scale
+    (frozen_in parts) sides) c.in_ok-least.field-0 c.in_ok-least.ensures c.in_default.is in
     let all : AreAllHeld weights frozen sides =
     subst (λ xs. AreAllHeld weights (frozen_in xs) sides) c.deref.ensures.value there in
     let among = All-map (λ (s : Side). All (λ u. u < length weights) s.users) side_of c.args.sides.now c.requires.users in

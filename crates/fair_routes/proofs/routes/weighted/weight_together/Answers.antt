@@ -15,16 +15,14 @@ returns-in_err-together c =
 
 pub loop-user-preserved : goal.loop-user-preserved
 loop-user-preserved c =
-    let e : c.loop-user.together ≡ sum_by (weight_at c.args.weights.now) (take c.loop-user.user-index c.args.users.now) =
-    c.loop-user.invariant.sum in
+    let e = c.loop-user.invariant.sum in
     let more = sum_by_more (weight_at c.args.weights.now) c.args.users.now c.loop-user.user-index 0
     (omega (arith, c.loop-user-test.true)) in
     record { sum = omega (arith, e, more, c.in_ok-together.ensures.1); fits = omega (arith, c.in_ok-together.ensures) }
 
 pub returns : goal.returns
 returns c =
-    let e : c.loop-user.together ≡ sum_by (weight_at c.args.weights.now) (take c.loop-user.user-index c.args.users.now) =
-    c.loop-user.invariant.sum in
+    let e = c.loop-user.invariant.sum in
     let all = take_all c.loop-user.user-index c.args.users.now (omega (arith, c.loop-user-test.false)) in
     let is = ap (sum_by (weight_at c.args.weights.now)) all in
     ((λ some. omega (arith, e, is, c.loop-user.invariant.fits)), (λ small. refl))

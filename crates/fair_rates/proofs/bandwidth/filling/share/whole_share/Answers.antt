@@ -14,8 +14,7 @@ pub returns-clause-factor : goal.returns-clause-factor
 returns-clause-factor c =
     let g = gcd-IsGcd c.divide-rest.result c.args.count in
     quotient_positive c.args.count c.gcd_of_narrow-shared.result (c.args.count / c.gcd_of_narrow-shared.result)
-    c.requires
-    (div-mul_cancel c.gcd_of_narrow-shared.result
+    c.requires (div-mul_cancel c.gcd_of_narrow-shared.result
     (subst (λ n. n ∣ c.args.count) (sym c.gcd_of_narrow-shared.ensures) g.1))
 
 pub returns-clause-whole : goal.returns-clause-whole
@@ -36,6 +35,5 @@ returns-clause-least c parts factor any is =
     let rest = c.divide-rest.result in
     least_factor c.args.slack c.args.count c.divide-rest.new.self rest shared (c.args.count / shared) parts factor
     c.requires (omega (arith, ap (λ n. c.args.count * n) c.divide-rest.ensures.quotient, c.divide-rest.ensures.rest))
-    c.gcd_of_narrow-shared.ensures
-    (div-mul_cancel shared
+    c.gcd_of_narrow-shared.ensures (div-mul_cancel shared
     (subst (λ n. n ∣ c.args.count) (sym c.gcd_of_narrow-shared.ensures) (gcd-IsGcd rest c.args.count).1)) any is

@@ -16,10 +16,8 @@ returns-in_ok-push-clause-order g c =
     let end : c.args.place ≡ length numbers.listed.items =
     grind (arith, common_steps, c.if-place-count.true, c.len-count.ensures, numbers.listed.ok.0) in
     in_order g.K.Ord.cmp g.met.K.Ord.total numbers (record { listed = c.push.new.self; later = numbers.later }) c.args.key
-    c.args.number c.args.place c.requires.gap
-    (c.in_ok-push.ensures.items ∙ ap (λ es. es ++ entry ∷ []) items
-    ∙ sym (insert_end numbers.listed.items entry)
-    ∙ ap (λ n. insert numbers.listed.items n entry) (sym end))
+    c.args.number c.args.place c.requires.gap (c.in_ok-push.ensures.items ∙ ap (λ es. es ++ entry ∷ []) items
+    ∙ sym (insert_end numbers.listed.items entry) ∙ ap (λ n. insert numbers.listed.items n entry) (sym end))
     c.requires.order
 
 pub returns-in_ok-push-clause-numbers : goal.returns-in_ok-push-clause-numbers
@@ -37,10 +35,8 @@ returns-in_ok-push-clause-numbers g c =
     let end : c.args.place ≡ length numbers.listed.items =
     grind (arith, common_steps, c.if-place-count.true, c.len-count.ensures, numbers.listed.ok.0) in
     in_list g.K.Ord.cmp g.met.K.Ord.total numbers (record { listed = c.push.new.self; later = c.if-count-eq0.self.later })
-    c.args.key c.args.number c.args.place c.requires.gap
-    (c.in_ok-push.ensures.items ∙ ap (λ es. es ++ entry ∷ []) items
-    ∙ sym (insert_end numbers.listed.items entry)
-    ∙ ap (λ n. insert numbers.listed.items n entry) (sym end))
+    c.args.key c.args.number c.args.place c.requires.gap (c.in_ok-push.ensures.items ∙ ap (λ es. es ++ entry ∷ []) items
+    ∙ sym (insert_end numbers.listed.items entry) ∙ ap (λ n. insert numbers.listed.items n entry) (sym end))
     later
 
 pub returns-in_ok-insert-clause-order : goal.returns-in_ok-insert-clause-order
@@ -85,12 +81,10 @@ returns-in_ok-insert-2-clause-numbers g c q =
       | then-count-eq0+in_ok-reserve w ↦ ap (λ n. n.later) w.self-is
       | else-count-eq0 w ↦ ap (λ n. n.later) w.self-is
     ] in
-    in_map g.K.Ord.cmp g.met.K.Ord.total numbers
-    (record {
+    in_map g.K.Ord.cmp g.met.K.Ord.total numbers (record {
       listed = c.if-count-eq0.self.listed;
       later = c.insert-else-count-lt-MOST_LISTED.new.self;
     })
-    c.args.key c.args.number c.args.place c.requires.gap items q
-    (c.in_ok-insert-2.ensures.updates.0 q
+    c.args.key c.args.number c.args.place c.requires.gap items q (c.in_ok-insert-2.ensures.updates.0 q
     ∙ ap (λ ls. cond (is_eq (g.K.Ord.cmp c.args.key q)) (Some c.args.number)
     (lookup (λ other. is_eq (g.K.Ord.cmp q other)) ls.entries)) later)

@@ -21,8 +21,7 @@ returns-in-Some g c =
     c.in-Some.ensures.lookup.1 ∙ ap (λ es. get_or es c.args.place entry) all in
     let same : cmp entry.0 key ≡ Equal =
     is_eq_equal _ (ap is_eq (sym c.cmp.ensures) ∙ sym c.is_eq.ensures ∙ c.if-is_eq.true) in
-    ap (λ found. option_or found later)
-    (at_place cmp g.met.K.Ord.total entries key c.args.place entry
+    ap (λ found. option_or found later) (at_place cmp g.met.K.Ord.total entries key c.args.place entry
     (stands cmp g.met.K.Ord.total entries key c.args.place c.requires within
     (λ d. ap (λ e. cmp e.0 key) (get_or_default entries c.args.place d entry within ∙ sym is) ∙ same))
     ∙ ap (λ e. Some e.1) (sym is))

@@ -23,8 +23,7 @@ returns-clause-found g c =
     let key = c.args.key.now in
     rw (← c.deref.ensures.value) (searched cmp g.met.K.Ord.total (λ entry. entry.0) c.deref.result.now key _
     (rw c.deref.ensures.value c.requires)
-    c.binary_search_by_key.ensures.bound
-    (c.binary_search_by_key.ensures.position (λ entry. entry.0)
+    c.binary_search_by_key.ensures.bound (c.binary_search_by_key.ensures.position (λ entry. entry.0)
     (answers_always _ _ _ (λ f a r f' called. search rules)))).found
 
 pub returns-clause-absent : goal.returns-clause-absent
@@ -33,6 +32,5 @@ returns-clause-absent g c =
     let key = c.args.key.now in
     rw (← c.deref.ensures.value) (searched cmp g.met.K.Ord.total (λ entry. entry.0) c.deref.result.now key _
     (rw c.deref.ensures.value c.requires)
-    c.binary_search_by_key.ensures.bound
-    (c.binary_search_by_key.ensures.position (λ entry. entry.0)
+    c.binary_search_by_key.ensures.bound (c.binary_search_by_key.ensures.position (λ entry. entry.0)
     (answers_always _ _ _ (λ f a r f' called. search rules)))).absent

@@ -15,37 +15,27 @@ loop-level-preserved c =
     IsRateAt c.in_ok-fractions.fractions.items (level_at self.level_of.items flow) r in
     let here : Holds i rate = elim c.match-level.branch [
       | in-Some w ↦
-          let is : level_at self.level_of.items i ≡ Some w.in-Some.place =
-          ap (λ xs. get_or xs i None) (sym c.deref-level-items.ensures.value) ∙ w.in-Some.is in
+          let is = ap (λ xs. get_or xs i None) (sym c.deref-level-items.ensures.value) ∙ w.in-Some.is in
           let place = w.in-Some.place in
           let flow : i < length self.level_of.items =
           omega (arith, c.loop-level-test.true, ap length c.deref-level-items.ensures.value) in
-          let some : place < length self.levels.items =
-          some_of_if (λ k. k < length self.levels.items) (level_at self.level_of.items i)
+          let some = some_of_if (λ k. k < length self.levels.items) (level_at self.level_of.items i)
           (c.requires.inside i None flow) place is in
           let inside : place < length c.in_ok-fractions.fractions.items =
           omega (arith, some, c.in_ok-fractions.ensures.levels.one_each) in
           subst (λ o. IsRateAt c.in_ok-fractions.fractions.items o rate) (sym is) (
             inside,
             λ d.
-                w.push-is
-                ∙ ap Finite
-                (w.index.ensures
+                w.push-is ∙ ap Finite (w.index.ensures
                 ∙ get_or_default c.in_ok-fractions.fractions.items place w.index.result.now d inside),
           )
       | in-None w ↦
-          let is : level_at self.level_of.items i ≡ None =
-          ap (λ xs. get_or xs i None) (sym c.deref-level-items.ensures.value) ∙ w.in-None.is in
+          let is = ap (λ xs. get_or xs i None) (sym c.deref-level-items.ensures.value) ∙ w.in-None.is in
           subst (λ o. IsRateAt c.in_ok-fractions.fractions.items o rate) (sym is) w.push-is
     ] in
     record {
       one_each =
-          omega (
-            arith,
-            ap length c.in_ok-push.ensures.items,
-            length-append {A = Rate} rates (rate ∷ []),
-            c.loop-level.invariant.one_each,
-          );
+          omega (arith, ap length c.in_ok-push.ensures.items, length-append {A = Rate} rates (rate ∷ []), c.loop-level.invariant.one_each);
       rated =
           subst (λ xs. (flow : ℕ) (d : Rate) → flow < length xs → Holds flow (get_or xs flow d))
           (sym c.in_ok-push.ensures.items)

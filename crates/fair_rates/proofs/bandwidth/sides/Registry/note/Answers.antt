@@ -52,7 +52,6 @@ returns-in_ok-note-in-SentBetween-clause-numbers g c =
     let o = c.in-SentBetween.origin in
     let p = c.in-SentBetween.recipient in
     subst (λ s. HasNumber g.P.Ord.cmp (subject_of s) c.args.number old new) (sym c.in-SentBetween.is)
-    (link_numbered g.P.Ord.cmp c.args.number old new o.now p.now refl refl
-    (λ q r.
+    (link_numbered g.P.Ord.cmp c.args.number old new o.now p.now refl refl (λ q r.
     by_both g.P.Ord.cmp c.args.number o.now p.now q r old.links new.links
     (c.in_ok-note-in-SentBetween.ensures.numbers (record o { now = q }, record p { now = r }))))

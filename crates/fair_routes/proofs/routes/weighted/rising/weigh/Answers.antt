@@ -13,18 +13,15 @@ loop-flow-preserved c =
     let n = c.loop-flow.flow in
     let inv = c.loop-flow.invariant in
     let inside : n < length parts = omega (arith, c.loop-flow-test.true) in
-    let part : c.part-item.result ≡ frozen_in parts n =
-    c.part-item.is ∙ get_or_default parts n c.part-item.result None inside in
+    let part = c.part-item.is ∙ get_or_default parts n c.part-item.result None inside in
     let levels : List ℕ = c.loop-flow.levels.items in
     let level_of : List (Option ℕ) = c.loop-flow.level_of.items in
     let product : ℕ = c.in_ok-product.field-0 in
     let place : Option ℕ = c.place.result in
     let more : c.push.new.self.items ≡ levels ++ product ∷ [] = c.in_ok-push.ensures.items in
     let more_of : c.push-in-loop-flow.new.self.items ≡ level_of ++ place ∷ [] = c.in_ok-push-2.ensures.items in
-    let is_product : product ≡ at_level (frozen_in parts) 0 n * weight_at weights n =
-    c.in_ok-product.ensures ∙ ap (λ o. unwrap_or o 0 * weight_at weights n) part in
-    let is_place : place ≡ option_map (λ _. n) (frozen_in parts n) =
-    c.place.ensures ∙ ap (option_map (λ _. n)) part in
+    let is_product = c.in_ok-product.ensures ∙ ap (λ o. unwrap_or o 0 * weight_at weights n) part in
+    let is_place = c.place.ensures ∙ ap (option_map (λ _. n)) part in
     record {
       one_each = omega (arith, ap length more_of, length-append {A = Option ℕ} level_of (place ∷ []), inv.one_each);
       levels_each = omega (arith, ap length more, length-append {A = ℕ} levels (product ∷ []), inv.levels_each);

@@ -27,8 +27,7 @@ loop-place-preserved c =
     let weights = c.args.weights.now in
     let scale = c.args.scale.now in
     let frozen : ℕ → Option ℕ = frozen_in c.args.parts.now in
-    let many : length (map side_of (take i sides)) ≡ i =
-    length-map (take i sides) side_of ∙ length-take-le i sides (omega (arith, inside)) in
+    let many = length-map (take i sides) side_of ∙ length-take-le i sides (omega (arith, inside)) in
     subst (λ ss. IsLeastOf weights scale frozen ss c.lesser-least.result)
     (sym (mapped_more side_of sides i side inside c.index-sides-place.is))
     (least_more weights scale frozen (map side_of (take i sides)) (side_of side) room

@@ -21,8 +21,7 @@ overflow_add-weight c =
     let rises : ℕ → ℕ = λ u. cond (is_none (frozen_in parts u)) (weight_at weights u) 0 in
     let again : c.index-parts-user-in-loop-user.result ≡ frozen_in parts user =
     c.index-parts-user-in-loop-user.is ∙ get_or_default parts user c.index-parts-user-in-loop-user.result None below in
-    let rising : c.weight_of_rising-weight.result ≡ rises user =
-    c.weight_of_rising-weight.ensures ∙ ap (λ o. cond (is_none o) (weight_at weights user) 0) again in
+    let rising = c.weight_of_rising-weight.ensures ∙ ap (λ o. cond (is_none o) (weight_at weights user) 0) again in
     let little : sum_by (weight_at weights) users < 2 ^ 64 =
     subst (λ us. sum_by (weight_at weights) us < 2 ^ 64) (sym c.deref-user-items.ensures.value) c.requires.little in
     let within = sum_by_more_le_part rises (weight_at weights) users i 0 inside (λ u. no_more_weight (frozen_in parts u) (weight_at weights u)) in
@@ -43,15 +42,11 @@ loop-user-preserved c =
     let rises : ℕ → ℕ = λ u. cond (is_none (frozen_in parts u)) (weight_at weights u) 0 in
     let again : c.index-parts-user-in-loop-user.result ≡ frozen_in parts user =
     c.index-parts-user-in-loop-user.is ∙ get_or_default parts user c.index-parts-user-in-loop-user.result None below in
-    let rising : c.weight_of_rising-weight.result ≡ rises user =
-    c.weight_of_rising-weight.ensures ∙ ap (λ o. cond (is_none o) (weight_at weights user) 0) again in
+    let rising = c.weight_of_rising-weight.ensures ∙ ap (λ o. cond (is_none o) (weight_at weights user) 0) again in
     let held : ℕ → ℕ = λ u. at_level (frozen_in parts) 0 u * weight_at weights u in
-    let first : c.index-parts-user.result ≡ frozen_in parts user =
-    c.index-parts-user.is ∙ get_or_default parts user c.index-parts-user.result None below in
-    let taken : unwrap_or c.index-parts-user.result 0 * weight_at weights user ≡ held user =
-    ap (λ o. unwrap_or o 0 * weight_at weights user) first in
-    let slack : c.take_off.new.slack ≡ c.loop-user.slack - held user =
-    c.take_off.ensures ∙ ap (λ n. c.loop-user.slack - n) taken in
+    let first = c.index-parts-user.is ∙ get_or_default parts user c.index-parts-user.result None below in
+    let taken = ap (λ o. unwrap_or o 0 * weight_at weights user) first in
+    let slack = c.take_off.ensures ∙ ap (λ n. c.loop-user.slack - n) taken in
     record {
       slack = omega (arith, slack, c.loop-user.invariant.slack, sum_by_more held users i 0 inside);
       weight = omega (arith, rising, c.loop-user.invariant.weight, sum_by_more rises users i 0 inside);

@@ -27,13 +27,11 @@ loop-place-preserved-in-Some c =
     let at : level_at level_of user ≡ Some place =
     grind (arith, common_steps, c.in-Some.is, c.index.ensures, c.swap_remove.ensures.value) in
     let flow : user < length level_of =
-    subst (λ n. n < length level_of) (sym c.swap_remove.ensures.value)
-    (c.loop-place.invariant.users i user inside) in
+    subst (λ n. n < length level_of) (sym c.swap_remove.ensures.value) (c.loop-place.invariant.users i user inside) in
     let some_level : place < length levels =
     some_of_if (λ k. k < length levels) (level_at level_of user) (c.requires.inside user None flow) place at in
-    let is : frozen user ≡ Some parts =
-    frozen_there levels level_of user place at
-    ∙ ap Some (get_or_default levels place 0 parts some_level ∙ sym c.index-levels-level.is) in
+    let is = frozen_there levels level_of user place at ∙ ap Some (get_or_default levels place 0 parts some_level ∙ sym
+    c.index-levels-level.is) in
     let left : rest + parts ≡ slack = omega (arith, c.sub_assign.ensures) in
     let fewer : length new + 1 ≡ length old = grind (arith, common_steps, c.swap_remove.ensures.len) in
     let here : at_level frozen 0 user * length old ≤ slack =

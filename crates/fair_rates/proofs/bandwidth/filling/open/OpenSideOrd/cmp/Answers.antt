@@ -10,8 +10,7 @@ returns-then-self-other-2 c =
     let b : OpenSide = c.args.other.now in
     let units : ℕ = 2 ^ (64 * a.shift) in
     let same : a.shift ≡ b.shift = grind (arith, common_steps, c.if-self-other.true) in
-    let other : b.quotient ≡ b.slack / (units * length b.rising.items) =
-    b.rounded ∙ ap (λ shift. b.slack / (2 ^ (64 * shift) * length b.rising.items)) (sym same) in
+    let other = b.rounded ∙ ap (λ shift. b.slack / (2 ^ (64 * shift) * length b.rising.items)) (sym same) in
     let differ : a.quotient ≡ b.quotient → ⊥ = grind (arith, common_steps, c.if-self-other-2.true) in
     c.cmp.ensures ∙ ap₂ nat_cmp a.rounded other
     ∙ by_wholes_times units a.slack (length a.rising.items) b.slack (length b.rising.items) (pow_pos (64 * a.shift))

@@ -5,8 +5,7 @@ use Rattle.fair_routes.proofs.routes.weighted.rising.Rising.new.Goals as goal
 pub loop-preserved : goal.loop-preserved
 loop-preserved c =
     let none : Option ℕ = None in
-    c.in_ok-push.ensures.items
-    ∙ ap (λ (xs : List (Option ℕ)). xs ++ none ∷ []) c.loop.invariant
+    c.in_ok-push.ensures.items ∙ ap (λ (xs : List (Option ℕ)). xs ++ none ∷ []) c.loop.invariant
     ∙ replicate-append-replicate c.loop.counter 1 none
 
 pub returns-clause-parts : goal.returns-clause-parts
