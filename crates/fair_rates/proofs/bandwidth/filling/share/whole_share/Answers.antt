@@ -23,7 +23,7 @@ returns-clause-whole c =
     let rest = c.divide-rest.result in
     let g = gcd-IsGcd rest c.args.count in
     let quotient = c.divide-rest.new.self in
-    whole c.args.slack c.args.count quotient rest shared (c.args.count / shared) (rest / shared) c.add_assign-2.new.self
+    whole c.args.slack c.args.count quotient rest shared (c.args.count / shared) (rest / shared) c.add_assign.new.self
     (omega (arith, ap (λ n. c.args.count * n) c.divide-rest.ensures.quotient, c.divide-rest.ensures.rest))
     (div-mul_cancel shared (subst (λ n. n ∣ c.args.count) (sym c.gcd_of_narrow-shared.ensures) g.1))
     (div-mul_cancel shared (subst (λ n. n ∣ rest) (sym c.gcd_of_narrow-shared.ensures) g.0))
