@@ -18,7 +18,6 @@ const PAUSE: u64 = 1;
 ///
 /// It can say so only when it is asked for more, which is once for some hundred lines. What was read
 /// before is done then.
-#[derive(Drop)]
 pub struct Watched<R, C, W> {
     input: R,
     clock: C,
@@ -30,6 +29,28 @@ pub struct Watched<R, C, W> {
     moment: Option<u64>,
     /// When it said something last, or was asked first.
     told: Option<Instant>,
+}
+
+impl<R: Drop, C: Drop, W: Drop> Drop for Watched<R, C, W> {
+    /// Lets go of what it holds.
+    #[inline(always)]
+    fn drop(self) {
+        let Watched {
+            input,
+            clock,
+            output,
+            name,
+            tells: _,
+            lines: _,
+            moment: _,
+            told,
+        } = self;
+        drop(input);
+        drop(clock);
+        drop(output);
+        drop(name);
+        drop(told);
+    }
 }
 
 impl<R: Read, C: Clock, W: Write> Watched<R, C, W> {

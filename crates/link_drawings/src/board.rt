@@ -6,11 +6,21 @@ use std::alloc::{AllocError, Global};
 
 /// For each column a lower and an upper rate, in millionths of a byte a second, and for how long
 /// something is so in it, in nanoseconds. Rates are means over the time of their column.
-#[derive(Drop)]
 pub(crate) struct Board {
     pub(crate) low: Vec<u128>,
     pub(crate) high: Vec<u128>,
     pub(crate) held: Vec<u64>,
+}
+
+impl Drop for Board {
+    /// Lets go of what it holds.
+    #[inline(always)]
+    fn drop(self) {
+        let Board { low, high, held } = self;
+        drop(low);
+        drop(high);
+        drop(held);
+    }
 }
 
 impl Board {

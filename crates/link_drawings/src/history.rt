@@ -18,7 +18,6 @@ const LATER_PART: u64 = 4;
 
 /// What happened in a run, up to a moment. Who runs it tells it what happens; moments are in
 /// nanoseconds since the start.
-#[derive(Drop)]
 pub struct History {
     alloc: Global,
     first: Option<u64>,
@@ -36,6 +35,28 @@ pub struct History {
     pub(crate) refused: u64,
     /// Whether what is in flight was looked up after each event.
     pub(crate) is_exact: bool,
+}
+
+impl Drop for History {
+    /// Lets go of what it holds.
+    #[inline(always)]
+    fn drop(self) {
+        let History {
+            alloc: _,
+            first: _,
+            now: _,
+            last: _,
+            keeps_readings: _,
+            busy: _,
+            tracks,
+            caps,
+            messages: _,
+            refused: _,
+            is_exact: _,
+        } = self;
+        drop(tracks);
+        drop(caps);
+    }
 }
 
 impl History {

@@ -24,7 +24,6 @@ const MOST_SIDES: usize = 130;
 const MOST_PLACES: u64 = 300_000;
 
 /// The rows of a picture.
-#[derive(Drop)]
 pub(crate) struct Layout {
     pub(crate) frame: Frame,
     /// Whether messages are told one by one.
@@ -38,6 +37,28 @@ pub(crate) struct Layout {
     pub(crate) idle: Left,
     /// How many of each are left out for want of room.
     pub(crate) more: Left,
+}
+
+impl Drop for Layout {
+    /// Lets go of what it holds.
+    #[inline(always)]
+    fn drop(self) {
+        let Layout {
+            frame,
+            is_detailed: _,
+            caps,
+            peers,
+            pairs,
+            idle,
+            more,
+        } = self;
+        drop(frame);
+        drop(caps);
+        drop(peers);
+        drop(pairs);
+        drop(idle);
+        drop(more);
+    }
 }
 
 /// How many rows are left out.

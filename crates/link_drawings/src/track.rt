@@ -85,7 +85,7 @@ struct Head {
 }
 
 /// The messages of an ordered pair, in order of enqueue.
-#[derive(Debug, Drop)]
+#[derive(Debug)]
 pub(crate) struct Track {
     pub(crate) messages: Vec<Sent>,
     pub(crate) pieces: Vec<Piece>,
@@ -97,6 +97,26 @@ pub(crate) struct Track {
     /// How many are done. They are done in order of enqueue.
     done: usize,
     head: Head,
+}
+
+impl Drop for Track {
+    /// Lets go of what it holds.
+    #[inline(always)]
+    fn drop(self) {
+        let Track {
+            messages,
+            pieces,
+            readings,
+            keeps_readings: _,
+            shade: _,
+            done: _,
+            head,
+        } = self;
+        drop(messages);
+        drop(pieces);
+        drop(readings);
+        drop(head);
+    }
 }
 
 impl Track {

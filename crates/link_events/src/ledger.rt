@@ -18,7 +18,6 @@ use link_waiting::waiting::Waiting;
 use std::alloc::Global;
 
 /// All that is kept between calls.
-#[derive(Drop)]
 pub struct Ledger<P: Peer> {
     pub alloc: Global,
     pub(crate) peers: Peers<P>,
@@ -39,6 +38,29 @@ pub struct Ledger<P: Peer> {
         (in_flight flights)) (since_of P.cmp waiting.told) },
     pub ghost one_each: { ∥ OneForEachPair P.cmp (rated_messages (in_flight flights)) ∥₁ },
     pub ghost rated: { stale ≡ false → ∥ WereRatedUnder P.cmp (caps_of P.cmp peers.entries pairs.entries) flights ∥₁ },
+}
+
+impl<P: Peer> Drop for Ledger<P> {
+    /// Lets go of what it holds.
+    #[inline(always)]
+    fn drop(self) {
+        let Ledger {
+            alloc: _,
+            peers,
+            pairs,
+            waiting,
+            flights,
+            limited: _,
+            next_id: _,
+            finish: _,
+            start: _,
+            stale: _,
+        } = self;
+        drop(peers);
+        drop(pairs);
+        drop(waiting);
+        drop(flights);
+    }
 }
 
 impl<P: Peer> Ledger<P> {

@@ -48,7 +48,6 @@ const LISTED_PART: usize = 16;
 
 /// The senders and the receivers of some messages, or all of them. A message in flight whose rate is
 /// below the level goes on as it is.
-#[derive(Drop)]
 pub(crate) struct Component<P> {
     pub(crate) whole: bool,
     /// In units.
@@ -58,6 +57,22 @@ pub(crate) struct Component<P> {
     /// The places of those in flight of which it has an end, in order of start, once they are known.
     /// Of all, they are all places, and stand nowhere.
     pub(crate) near: Vec<usize>,
+}
+
+impl<P: Drop> Drop for Component<P> {
+    /// Lets go of what it holds.
+    #[inline(always)]
+    fn drop(self) {
+        let Component {
+            whole: _,
+            level,
+            joined,
+            near,
+        } = self;
+        drop(level);
+        drop(joined);
+        drop(near);
+    }
 }
 
 impl<P: Peer> Component<P> {
@@ -89,6 +104,19 @@ impl<P: Peer> Component<P> {
             joined: Vec::new(alloc),
             near: Vec::new(alloc),
         }
+    }
+
+    /// The room in which places were listed.
+    pub(crate) fn into_near(self) -> Vec<usize> {
+        let Component {
+            whole: _,
+            level,
+            joined,
+            near,
+        } = self;
+        drop(level);
+        drop(joined);
+        near
     }
 
     /// Whether the peer is one of the senders.

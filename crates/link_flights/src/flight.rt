@@ -14,7 +14,6 @@ use std::sync::Arc;
 
 /// A message in flight. What is left, and the rate, are whole numbers of the units that all
 /// messages in flight share.
-#[derive(Drop)]
 pub(crate) struct Flight<P> {
     pub(crate) message: Arc<Message<P>>,
     /// Whether an account has given it a rate since its start.
@@ -28,6 +27,25 @@ pub(crate) struct Flight<P> {
     pub(crate) id: u64,
     /// The units that were left at the moment `since`.
     pub(crate) left: Natural,
+}
+
+impl<P: Drop> Drop for Flight<P> {
+    /// Lets go of what it holds.
+    #[inline(always)]
+    fn drop(self) {
+        let Flight {
+            message,
+            rated: _,
+            finish: _,
+            since: _,
+            rate,
+            id: _,
+            left,
+        } = self;
+        drop(message);
+        drop(rate);
+        drop(left);
+    }
 }
 
 impl<P: Peer> Flight<P> {

@@ -28,7 +28,6 @@ const UNITS_A_BYTE: u128 = 1_000_000_000;
 /// `scale` are one byte, so that a rate is what drains in a nanosecond.
 ///
 /// A message drains later: what is kept is what was left at the moment since which it has its rate.
-#[derive(Drop)]
 pub struct Flights<P: Peer> {
     pub(crate) alloc: Global,
     pub(crate) list: Table<P>,
@@ -57,6 +56,31 @@ pub struct Flights<P: Peer> {
     pub ghost scaled: { 0 < scale },
     pub ghost counted: { rated_anew ≤ length list.items },
     pub ghost have_rates: { HaveRates settled list.items },
+}
+
+impl<P: Peer> Drop for Flights<P> {
+    /// Lets go of what it holds.
+    #[inline(always)]
+    fn drop(self) {
+        let Flights {
+            alloc: _,
+            list,
+            scale,
+            at: _,
+            floor,
+            loose,
+            rated_anew: _,
+            settled: _,
+            unsearched: _,
+            stood: _,
+            notes,
+        } = self;
+        drop(list);
+        drop(scale);
+        drop(floor);
+        drop(loose);
+        drop(notes);
+    }
 }
 
 impl<P: Peer> Flights<P> {

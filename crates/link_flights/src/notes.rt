@@ -9,15 +9,24 @@ use std::marker::Model;
 use std::mem;
 
 /// Room for a note of each place. Between events no place is noted, so callers see nothing of it.
-#[derive(Drop)]
 pub(crate) struct Notes {
     noted: Vec<bool>,
     near: Vec<usize>,
     rooms: Rooms,
 }
 
+impl Drop for Notes {
+    /// Lets go of what it holds.
+    #[inline(always)]
+    fn drop(self) {
+        let Notes { noted, near, rooms } = self;
+        drop(noted);
+        drop(near);
+        drop(rooms);
+    }
+}
+
 /// Room for lists of places and of numbers. What they hold says nothing.
-#[derive(Drop)]
 pub(crate) struct Rooms {
     /// For the places that are rated.
     pub(crate) places: Vec<usize>,
@@ -27,6 +36,23 @@ pub(crate) struct Rooms {
     pub(crate) users: Vec<usize>,
     /// For whether each that is rated has a side.
     pub(crate) has_side: Vec<bool>,
+}
+
+impl Drop for Rooms {
+    /// Lets go of what it holds.
+    #[inline(always)]
+    fn drop(self) {
+        let Rooms {
+            places,
+            numbers,
+            users,
+            has_side,
+        } = self;
+        drop(places);
+        drop(numbers);
+        drop(users);
+        drop(has_side);
+    }
 }
 
 impl Rooms {

@@ -8,11 +8,20 @@ use std::alloc::Global;
 use std::marker::Model;
 
 /// Places in order, of which each has its number at hand.
-#[derive(Drop)]
 pub(crate) struct Numbers {
     places: Vec<usize>,
     // By place: its number, where it is listed. What stands at others says nothing.
     number_at: Vec<usize>,
+}
+
+impl Drop for Numbers {
+    /// Lets go of what it holds.
+    #[inline(always)]
+    fn drop(self) {
+        let Numbers { places, number_at } = self;
+        drop(places);
+        drop(number_at);
+    }
 }
 
 impl Model for Numbers {
@@ -80,6 +89,7 @@ impl Numbers {
     pub(crate) fn into_parts(self) -> (Vec<usize>, Vec<usize>)
         ensures { result.0.items ≡ self }
     {
-        (self.places, self.number_at)
+        let Numbers { places, number_at } = self;
+        (places, number_at)
     }
 }

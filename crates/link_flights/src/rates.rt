@@ -132,7 +132,7 @@ impl<P: Peer> Flights<P> {
             let found = self.rate_touched(&touched, peers, pairs, &mut rooms)?;
             self.notes.keep_rooms(rooms);
             let whole = touched.whole;
-            self.notes.keep_near(touched.near);
+            self.notes.keep_near(touched.into_near());
             if let Some(found) = found {
                 let unsearched = self.spared_after(whole, found);
                 return Ok(self.settle(unsearched));

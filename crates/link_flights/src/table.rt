@@ -64,12 +64,26 @@ fn add_row<P: Peer>(
 /// A table is changed in place, and can be taken back as a whole, with no memory, to how it stood at the last mark.
 /// Where a change is refused memory, all in it is given up: it is empty, refuses what comes, and can still be taken
 /// back.
-#[derive(Drop)]
 pub struct Table<P: Peer> {
     alloc: Global,
     numbers: PeerNumbers<P>,
     rows: RowTable<Flight<P>>,
     given_up: bool,
+}
+
+impl<P: Peer> Drop for Table<P> {
+    /// Lets go of what it holds.
+    #[inline(always)]
+    fn drop(self) {
+        let Table {
+            alloc: _,
+            numbers,
+            rows,
+            given_up: _,
+        } = self;
+        drop(numbers);
+        drop(rows);
+    }
 }
 
 impl<P: Peer> Model for Table<P> {

@@ -7,10 +7,18 @@ use std::alloc::{AllocError, Global};
 use std::marker::Model;
 
 /// Bytes that were given, and zero bytes behind them, which take no memory however many they are.
-#[derive(Drop)]
 pub struct Contents {
     given: Bytes,
     zeros: usize,
+}
+
+impl Drop for Contents {
+    /// Lets go of what it holds.
+    #[inline(always)]
+    fn drop(self) {
+        let Contents { given, zeros: _ } = self;
+        drop(given);
+    }
 }
 
 impl Model for Contents {

@@ -26,7 +26,6 @@ struct Known {
 
 /// What is known of the ordered pairs that calls have named. It is changed in place, and can be taken back as a whole,
 /// with no memory, to how it stood at the last mark.
-#[derive(Drop)]
 pub struct Pairs<P: Peer> {
     // A pair keeps its number, also where what is known of it is taken back.
     numbers: PairNumbers<P>,
@@ -34,6 +33,20 @@ pub struct Pairs<P: Peer> {
     known: UndoList<Known>,
     // Whether a pair has been given a cap. Where none has, none is looked for.
     linked: bool,
+}
+
+impl<P: Peer> Drop for Pairs<P> {
+    /// Lets go of what it holds.
+    #[inline(always)]
+    fn drop(self) {
+        let Pairs {
+            numbers,
+            known,
+            linked: _,
+        } = self;
+        drop(numbers);
+        drop(known);
+    }
 }
 
 impl<P: Peer> Model for Pairs<P> {

@@ -7,7 +7,6 @@ use fair_rates::peer::Peer;
 use std::alloc::AllocError;
 
 /// What one peer sends to another.
-#[derive(Drop)]
 pub struct Message<P> {
     /// Who sends.
     pub origin: P,
@@ -21,6 +20,24 @@ pub struct Message<P> {
     pub latency: u64,
     /// Whether it arrives; else it is to be dropped.
     pub should_deliver: bool,
+}
+
+impl<P: Drop> Drop for Message<P> {
+    /// Lets go of what it holds.
+    #[inline(always)]
+    fn drop(self) {
+        let Message {
+            origin,
+            recipient,
+            channel: _,
+            bytes,
+            latency: _,
+            should_deliver: _,
+        } = self;
+        drop(origin);
+        drop(recipient);
+        drop(bytes);
+    }
 }
 
 impl<P: Peer> Message<P> {

@@ -19,12 +19,21 @@ struct Caps {
 
 /// The caps of the peers that have been limited. They are changed in place, and can be taken back as a whole, with no
 /// memory, to how they stood at the last mark.
-#[derive(Drop)]
 pub struct Peers<P: Peer> {
     // A peer keeps its number, also where its caps are taken back.
     numbers: PeerNumbers<P>,
     // By the number of the peer.
     caps: UndoList<Caps>,
+}
+
+impl<P: Peer> Drop for Peers<P> {
+    /// Lets go of what it holds.
+    #[inline(always)]
+    fn drop(self) {
+        let Peers { numbers, caps } = self;
+        drop(numbers);
+        drop(caps);
+    }
 }
 
 impl<P: Peer> Model for Peers<P> {

@@ -66,7 +66,6 @@ use std::marker::PhantomData;
 /// many peers send. The *range* is: the first flow id and the number of messages together below
 /// 2^64, moments and latencies below 2^63. There a call is refused for memory alone (`refused`), and
 /// leaves the scheduler in the range (`made.in_range`).
-#[derive(Drop)]
 pub struct State<P: Peer, M = Bytes> {
     ledger: Ledger<P>,
     of: PhantomData<M>,
@@ -76,6 +75,16 @@ pub struct State<P: Peer, M = Bytes> {
     pub ghost right: { ∥ IsPlanned P.cmp (planned P.cmp ledger) ∥₁ },
     pub ghost orderly: { ∥ IsOrderly P.cmp (planned P.cmp ledger) ∥₁ },
     ghost marked: { IsMarked ledger },
+}
+
+impl<P: Peer, M: Drop> Drop for State<P, M> {
+    /// Lets go of what it holds.
+    #[inline(always)]
+    fn drop(self) {
+        let State { ledger, of } = self;
+        drop(ledger);
+        drop(of);
+    }
 }
 
 impl<P: Peer> State<P> {

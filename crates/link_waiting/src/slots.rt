@@ -34,7 +34,6 @@ pub(crate) struct Slot<P> {
 
 /// The messages that wait, each in a slot, in order of `enqueue`, and how they are found. They may stand in the middle
 /// of a change.
-#[derive(Drop)]
 pub(crate) struct Slots<P> {
     // A message that leaves its slot leaves it empty.
     pub(crate) slots: UndoList<Option<Slot<P>>>,
@@ -44,6 +43,22 @@ pub(crate) struct Slots<P> {
     pub(crate) chains: Chains,
     // By the number of the pair: from when on its first message may start, if it was told.
     pub(crate) moments: Moments,
+}
+
+impl<P: Drop> Drop for Slots<P> {
+    /// Lets go of what it holds.
+    #[inline(always)]
+    fn drop(self) {
+        let Slots {
+            slots,
+            gaps: _,
+            chains,
+            moments,
+        } = self;
+        drop(slots);
+        drop(chains);
+        drop(moments);
+    }
 }
 
 /// So many slots stay empty in any case: to close them up would cost more.

@@ -28,7 +28,6 @@ use std::sync::Arc;
 /// moment from which on its first waiting message may start, if one was told.
 ///
 /// They are changed in place, and can be taken back as a whole, with no memory, to how they stood at the last mark.
-#[derive(Drop)]
 pub struct Waiting<P: Peer> {
     alloc: Global,
     // A pair keeps its number, also where none of its messages waits.
@@ -36,6 +35,21 @@ pub struct Waiting<P: Peer> {
     slots: Slots<P>,
     // Whether all was given up since the mark.
     given_up: bool,
+}
+
+impl<P: Peer> Drop for Waiting<P> {
+    /// Lets go of what it holds.
+    #[inline(always)]
+    fn drop(self) {
+        let Waiting {
+            alloc: _,
+            pairs,
+            slots,
+            given_up: _,
+        } = self;
+        drop(pairs);
+        drop(slots);
+    }
 }
 
 impl<P: Peer> Model for Waiting<P> {

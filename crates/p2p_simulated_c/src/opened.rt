@@ -18,12 +18,25 @@ use std::alloc::Global;
 
 /// A scheduler of numbered peers, and of the last call that was made on it the completions and the
 /// moment.
-#[derive(Drop)]
 pub struct Opened {
     pub state: State<u64, Contents>,
     pub completed: Vec<Completion<u64, Contents>>,
     /// In nanoseconds since the start, and 0 before any call.
     pub last: u64,
+}
+
+impl Drop for Opened {
+    /// Lets go of what it holds.
+    #[inline(always)]
+    fn drop(self) {
+        let Opened {
+            state,
+            completed,
+            last: _,
+        } = self;
+        drop(state);
+        drop(completed);
+    }
 }
 
 impl Opened {

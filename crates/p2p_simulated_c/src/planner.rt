@@ -75,12 +75,26 @@ fn plan(
 }
 
 /// Caps in bytes a second, to be looked up.
-#[derive(Drop)]
 pub struct Caps {
     pub egress: BTreeMap<u64, u128>,
     pub ingress: BTreeMap<u64, u128>,
     /// By origin and recipient.
     pub links: BTreeMap<(u64, u64), u128>,
+}
+
+impl Drop for Caps {
+    /// Lets go of what it holds.
+    #[inline(always)]
+    fn drop(self) {
+        let Caps {
+            egress,
+            ingress,
+            links,
+        } = self;
+        drop(egress);
+        drop(ingress);
+        drop(links);
+    }
 }
 
 impl Caps {

@@ -11,13 +11,27 @@ use std::marker::Model;
 
 /// Peers with a number each: 0, 1, 2 and so on, in the order in which they first came. A peer keeps its
 /// number. To callers it is the list of the peers, where the number of each is its place.
-#[derive(Drop)]
 pub struct PeerNumbers<P: Peer> {
     // Each at its number.
     peers: Vec<P>,
     numbers: BTreeMap<P, usize>,
     // Most are found by what they hint at, without the map.
     hints: Hints,
+}
+
+impl<P: Peer> Drop for PeerNumbers<P> {
+    /// Lets go of what it holds.
+    #[inline(always)]
+    fn drop(self) {
+        let PeerNumbers {
+            peers,
+            numbers,
+            hints,
+        } = self;
+        drop(peers);
+        drop(numbers);
+        drop(hints);
+    }
 }
 
 impl<P: Peer> Model for PeerNumbers<P> {

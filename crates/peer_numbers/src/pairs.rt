@@ -34,11 +34,20 @@ impl Peer for Ends {
 
 /// Ordered pairs of peers with a number each: 0, 1, 2 and so on, in the order in which they first came. A pair
 /// keeps its number. To callers it is the list of the pairs, where the number of each is its place.
-#[derive(Drop)]
 pub struct PairNumbers<P: Peer> {
     peers: PeerNumbers<P>,
     // The number of a pair is that of its ends.
     ends: PeerNumbers<Ends>,
+}
+
+impl<P: Peer> Drop for PairNumbers<P> {
+    /// Lets go of what it holds.
+    #[inline(always)]
+    fn drop(self) {
+        let PairNumbers { peers, ends } = self;
+        drop(peers);
+        drop(ends);
+    }
 }
 
 impl<P: Peer> Model for PairNumbers<P> {

@@ -19,9 +19,17 @@ use std::marker::Model;
 ///
 /// A table is changed in place, and can be taken back as a whole, with no memory, to how it stood at the last mark:
 /// by [`undo`](RowTable::undo), and by each call that is refused memory.
-#[derive(Drop)]
 pub struct RowTable<T> {
     parts: Parts<T>,
+}
+
+impl<T: Drop> Drop for RowTable<T> {
+    /// Lets go of what it holds.
+    #[inline(always)]
+    fn drop(self) {
+        let RowTable { parts } = self;
+        drop(parts);
+    }
 }
 
 impl<T> Model for RowTable<T> {

@@ -6,6 +6,7 @@ use link_scheduler::replay::{Call, replay};
 use link_scheduler::transmitter::{Outgoing, State};
 use numbered_peers::Numbered;
 use std::alloc::{AllocError, Global};
+use std::mem;
 use std::test::Fail;
 
 /// A message to be sent. Its channel is its place among all that are sent, and each of its bytes is
@@ -40,7 +41,6 @@ pub fn contents(alloc: Global, place: usize, length: usize) -> Result<Bytes, All
 
 /// A list of calls on a new scheduler, and what each is to be answered: where nothing is said,
 /// that nothing completes.
-#[derive(Drop)]
 pub struct Calls<P> {
     pub alloc: Global,
     /// The first flow id.
@@ -58,6 +58,30 @@ pub struct Calls<P> {
     /// What completes at each call, one call after the other.
     pub arrivals: Vec<Arrival>,
     pub sent: Vec<Parcel>,
+}
+
+impl<P: Drop> Drop for Calls<P> {
+    /// Lets go of what it holds.
+    #[inline(always)]
+    fn drop(self) {
+        let Calls {
+            alloc: _,
+            first: _,
+            as_lists: _,
+            lacks: _,
+            named: _,
+            calls,
+            wanted,
+            counts,
+            arrivals,
+            sent,
+        } = self;
+        drop(calls);
+        drop(wanted);
+        drop(counts);
+        drop(arrivals);
+        drop(sent);
+    }
 }
 
 impl<P: Numbered> Calls<P> {
@@ -296,9 +320,9 @@ impl<P: Numbered> Calls<P> {
     }
 
     /// Makes the calls one by one on a new scheduler, and compares each reply with the wanted one.
-    pub fn make_each(self, state: &mut State<P>) -> Result<(), Fail> {
+    pub fn make_each(mut self, state: &mut State<P>) -> Result<(), Fail> {
         self.expect_whole()?;
-        let calls = self.calls.into_iter();
+        let calls = mem::replace(&mut self.calls, Vec::new(self.alloc)).into_iter();
         let wanted = self.wanted.iter().zip(&self.counts);
         for (place, (call, (wanted, counts))) in calls.zip(wanted).enumerate() {
             let (reply, events) = answer(state, call);

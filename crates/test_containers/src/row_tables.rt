@@ -465,11 +465,25 @@ fn step(
 }
 
 /// A table beside a plain list of the same rows, and those that were at the mark.
-#[derive(Drop)]
 struct Both {
     table: RowTable<u64>,
     plain: Vec<Plain>,
     before: Vec<Plain>,
+}
+
+impl Drop for Both {
+    /// Lets go of what it holds.
+    #[inline(always)]
+    fn drop(self) {
+        let Both {
+            table,
+            plain,
+            before,
+        } = self;
+        drop(table);
+        drop(plain);
+        drop(before);
+    }
 }
 
 impl Both {

@@ -15,10 +15,19 @@ pub struct Move {
 }
 
 /// The lists of a store, which may stand in the middle of a change.
-#[derive(Drop)]
 struct Tables {
     levels: UndoList<u64>,
     moves: UndoList<Move>,
+}
+
+impl Drop for Tables {
+    /// Lets go of what it holds.
+    #[inline(always)]
+    fn drop(self) {
+        let Tables { levels, moves } = self;
+        drop(levels);
+        drop(moves);
+    }
 }
 
 impl Tables {

@@ -29,10 +29,19 @@ pub(crate) struct Found {
 
 /// Keys with a number each. They stand in a list in their order, but for those that came late, and not
 /// after all others: these are in a map.
-#[derive(Drop)]
 pub(crate) struct Numbers<K: Ord> {
     listed: Vec<(K, usize)>,
     later: BTreeMap<K, usize>,
+}
+
+impl<K: Ord + Drop> Drop for Numbers<K> {
+    /// Lets go of what it holds.
+    #[inline(always)]
+    fn drop(self) {
+        let Numbers { listed, later } = self;
+        drop(listed);
+        drop(later);
+    }
 }
 
 impl<K: Ord + Copy> Numbers<K> {

@@ -21,7 +21,6 @@ use std::num::NonZeroU64;
 /// A flow is there from the first link of its route on, and has weight 1 until another is set. A link
 /// without a cap holds no flow, and one that no flow uses takes no part. A call that is refused leaves
 /// all as it was.
-#[derive(Drop)]
 pub struct Network {
     alloc: Global,
     /// The links of each flow, as they were told.
@@ -30,6 +29,22 @@ pub struct Network {
     caps: BTreeMap<u64, u128>,
     /// By flow. A flow without an entry has weight 1.
     weights: BTreeMap<u64, NonZeroU64>,
+}
+
+impl Drop for Network {
+    /// Lets go of what it holds.
+    #[inline(always)]
+    fn drop(self) {
+        let Network {
+            alloc: _,
+            routes,
+            caps,
+            weights,
+        } = self;
+        drop(routes);
+        drop(caps);
+        drop(weights);
+    }
 }
 
 impl Network {

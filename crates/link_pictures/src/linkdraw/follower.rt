@@ -13,7 +13,6 @@ use link_scripts::linkrun::fill::fill;
 use std::alloc::Global;
 
 /// A script that is followed up to a moment: its scheduler, and what happened.
-#[derive(Drop)]
 pub(crate) struct Follower {
     alloc: Global,
     scheduler: State<u64, Contents>,
@@ -26,6 +25,27 @@ pub(crate) struct Follower {
     is_behind: bool,
     budget: Budget,
     history: History,
+}
+
+impl Drop for Follower {
+    /// Lets go of what it holds.
+    #[inline(always)]
+    fn drop(self) {
+        let Follower {
+            alloc: _,
+            scheduler,
+            gathered,
+            gathered_at: _,
+            is_stale: _,
+            is_behind: _,
+            budget,
+            history,
+        } = self;
+        drop(scheduler);
+        drop(gathered);
+        drop(budget);
+        drop(history);
+    }
 }
 
 impl Follower {

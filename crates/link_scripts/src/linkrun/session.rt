@@ -30,7 +30,6 @@ use std::collections::BTreeMap;
 
 /// What a script has said so far: its flows in order, the caps of peers and links for their rates,
 /// in bytes a second, its network, and its scheduler, which has caps of its own.
-#[derive(Drop)]
 pub(crate) struct Session {
     alloc: Global,
     flows: Vec<Flow<u64>>,
@@ -41,6 +40,28 @@ pub(crate) struct Session {
     /// Links that flows over routes use, which have numbers and caps of their own.
     network: Network,
     scheduler: State<u64, Contents>,
+}
+
+impl Drop for Session {
+    /// Lets go of what it holds.
+    #[inline(always)]
+    fn drop(self) {
+        let Session {
+            alloc: _,
+            flows,
+            egress,
+            ingress,
+            links,
+            network,
+            scheduler,
+        } = self;
+        drop(flows);
+        drop(egress);
+        drop(ingress);
+        drop(links);
+        drop(network);
+        drop(scheduler);
+    }
 }
 
 impl Session {

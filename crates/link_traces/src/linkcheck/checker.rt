@@ -17,7 +17,6 @@ use crate::linkcheck::{Fault, Turns, asked, tolerance};
 use std::alloc::Global;
 
 /// What is kept of a trace.
-#[derive(Drop)]
 pub(crate) struct Checker {
     pub(crate) turns: Turns,
     /// How many lines were taken.
@@ -25,6 +24,21 @@ pub(crate) struct Checker {
     /// The tolerance that the first line sets.
     pub(crate) tolerance: Option<u64>,
     pub(crate) progress: Progress,
+}
+
+impl Drop for Checker {
+    /// Lets go of what it holds.
+    #[inline(always)]
+    fn drop(self) {
+        let Checker {
+            turns,
+            lines: _,
+            tolerance: _,
+            progress,
+        } = self;
+        drop(turns);
+        drop(progress);
+    }
 }
 
 impl Checker {

@@ -29,7 +29,6 @@ use link_scripts::linkrun::{answer, schedule};
 use std::alloc::Global;
 
 /// The simulation, and what of its answers the trace has said.
-#[derive(Drop)]
 pub(crate) struct Progress {
     pub(crate) alloc: Global,
     pub(crate) scheduler: State<u64, Contents>,
@@ -46,6 +45,28 @@ pub(crate) struct Progress {
     pub(crate) calls: u64,
     pub(crate) completions: u64,
     pub(crate) out_of_turn: Option<OutOfTurn>,
+}
+
+impl Drop for Progress {
+    /// Lets go of what it holds.
+    #[inline(always)]
+    fn drop(self) {
+        let Progress {
+            alloc: _,
+            scheduler,
+            answers,
+            said: _,
+            lacked_memory: _,
+            off: _,
+            reached: _,
+            calls: _,
+            completions: _,
+            out_of_turn,
+        } = self;
+        drop(scheduler);
+        drop(answers);
+        drop(out_of_turn);
+    }
 }
 
 impl Progress {

@@ -50,10 +50,19 @@ pub struct Kind {
 }
 
 /// Flows and caps.
-#[derive(Drop)]
 pub struct List {
     pub flows: Vec<Flow<u64>>,
     pub caps: Vec<Cap>,
+}
+
+impl Drop for List {
+    /// Lets go of what it holds.
+    #[inline(always)]
+    fn drop(self) {
+        let List { flows, caps } = self;
+        drop(flows);
+        drop(caps);
+    }
 }
 
 impl List {
