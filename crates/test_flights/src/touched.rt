@@ -250,36 +250,3 @@ next -
 ",
     )
 }
-
-/// Eighteen share a cap, beside one that does not: each gets a share that is whole, and counts once.
-#[test]
-fn each_of_eighteen_is_rated_once(rt: HostRuntime) -> Result<(), Fail> {
-    play::<u64>(
-        &rt,
-        0,
-        "\
-limit 0 1 12252240 -
-limit 0 2 1000 -
-send 0 2 99 1000 0
-send 0 1 11 1000 0
-send 0 1 12 1000 0
-send 0 1 13 1000 0
-send 0 1 14 1000 0
-send 0 1 15 1000 0
-send 0 1 16 1000 0
-send 0 1 17 1000 0
-send 0 1 18 1000 0
-send 0 1 19 1000 0
-send 0 1 20 1000 0
-send 0 1 21 1000 0
-send 0 1 22 1000 0
-send 0 1 23 1000 0
-send 0 1 24 1000 0
-send 0 1 25 1000 0
-send 0 1 26 1000 0
-send 0 1 27 1000 0
-send 0 1 28 1000 0
-rated 18
-",
-    )
-}
