@@ -1,5 +1,6 @@
 //! Rows of two owners, which go and come back.
 use crate::rows::{rows, weight};
+use crate::same::same;
 use chains::Chains;
 use std::alloc::{AllocError, Global};
 use std::process::Abort;
@@ -52,7 +53,7 @@ fn expect_rows(
     wanted: &[usize],
 ) -> Result<(), AllocError> {
     let rows = listed(rt.alloc(), chains, owner)?;
-    assert_eq!(rt; rows.as_slice(), wanted);
+    same(rt, &rows.as_slice(), &wanted);
     Ok(())
 }
 
@@ -71,8 +72,8 @@ fn expect_both(
 fn expect_weights(rt: &impl Abort, chains: &Chains) {
     if chains.owners() > 1 && chains.rows() <= 6 {
         let weights = [1, 20, 300, 4000, 50000, u64::MAX];
-        assert_eq!(rt; weight(chains, 0, &weights), Some(50301));
-        assert_eq!(rt; weight(chains, 1, &weights), None);
+        same(rt, &weight(chains, 0, &weights), &Some(50301));
+        same(rt, &weight(chains, 1, &weights), &None);
     }
 }
 
@@ -119,7 +120,7 @@ fn take_back(rt: &(impl Abort + AllocGlobal), chains: &mut Chains) -> Result<(),
     change(chains)?;
     expect_rows(rt, chains, 2, &[7])?;
     chains.undo();
-    assert_eq!(rt; chains.owners(), 2);
+    same(rt, &chains.owners(), &2);
     expect_both(rt, chains, &[0, 2, 4], &[1, 3, 5])?;
     add(chains, 0)?;
     expect_rows(rt, chains, 0, &[0, 2, 4, 6])
@@ -135,7 +136,7 @@ fn close_gaps(rt: &(impl Abort + AllocGlobal), chains: &mut Chains) -> Result<()
     take(chains, 2)?;
     take(chains, 1)?;
     chains.close_gaps();
-    assert_eq!(rt; chains.rows(), 4);
+    same(rt, &chains.rows(), &4);
     expect_both(rt, chains, &[0, 2], &[1, 3])?;
     add(chains, 0)?;
     chains.undo();

@@ -10,6 +10,8 @@ mod moments;
 #[cfg(test)]
 mod row_tables;
 pub mod rows;
+#[cfg(test)]
+mod same;
 pub mod store;
 #[cfg(test)]
 mod stores;

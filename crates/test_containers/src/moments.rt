@@ -1,4 +1,5 @@
 //! That calls succeed, and that they answer what going through all the moments does.
+use crate::same::same;
 use least_moment::Moments;
 use std::alloc::AllocError;
 use std::process::Abort;
@@ -36,21 +37,22 @@ fn first_place(moments: &Moments) -> Option<usize> {
 
 /// Both answer alike.
 fn compare(rt: &impl Abort, moments: &Moments, plain: &[Option<u64>], from: usize, time: u64) {
-    assert_eq!(rt; moments.len(), plain.len());
-    assert_eq!(rt; moments.is_empty(), plain.is_empty());
+    same(rt, &moments.len(), &plain.len());
+    same(rt, &moments.is_empty(), &plain.is_empty());
     let least = least_through(plain);
-    assert_eq!(rt; moments.least(), least);
+    same(rt, &moments.least(), &least);
     let place = match least {
         Some(least) => next_through(plain, 0, least),
         None => None,
     };
-    assert_eq!(rt; first_place(moments), place);
-    assert_eq!(rt;
-        moments.next_due(from, time),
-        next_through(plain, from, time)
+    same(rt, &first_place(moments), &place);
+    same(
+        rt,
+        &moments.next_due(from, time),
+        &next_through(plain, from, time),
     );
     if from < moments.len() {
-        assert_eq!(rt; Some(moments.get(from)), plain.get(from).copied());
+        same(rt, &Some(moments.get(from)), &plain.get(from).copied());
     }
 }
 
@@ -73,14 +75,14 @@ fn drawn_moment(state: &mut u64) -> Option<u64> {
 
 /// The least of the moments is this one, first at that place.
 fn expect_least(rt: &impl Abort, moments: &Moments, least: Option<u64>, place: Option<usize>) {
-    assert_eq!(rt; moments.least(), least);
-    assert_eq!(rt; first_place(moments), place);
+    same(rt, &moments.least(), &least);
+    same(rt, &first_place(moments), &place);
 }
 
 /// In each row: from a place on, up to a time, the first place that is due.
 fn expect_due(rt: &impl Abort, moments: &Moments, rows: &[(usize, u64, Option<usize>)]) {
     for (from, time, place) in rows {
-        assert_eq!(rt; moments.next_due(*from, *time), *place);
+        same(rt, &moments.next_due(*from, *time), place);
     }
 }
 
@@ -101,7 +103,7 @@ fn push_seven(moments: &mut Moments) -> Result<(), AllocError> {
 }
 
 fn expect_seven(rt: &impl Abort, moments: &Moments) {
-    assert_eq!(rt; moments.len(), 7);
+    same(rt, &moments.len(), &7);
     expect_least(rt, moments, Some(3), Some(4));
     expect_due(
         rt,
@@ -129,7 +131,7 @@ fn set(moments: &mut Moments, at: usize, moment: Option<u64>) {
 fn expect_last(rt: &impl Abort, moments: &Moments, last: Option<u64>) {
     assert!(rt; !moments.is_empty());
     if !moments.is_empty() {
-        assert_eq!(rt; moments.get(moments.len() - 1), last);
+        same(rt, &moments.get(moments.len() - 1), &last);
     }
 }
 
@@ -209,7 +211,7 @@ fn many_changes(rt: HostRuntime) -> Result<(), AllocError> {
 fn push_again(rt: &impl Abort, moments: &mut Moments, moment: u64) -> Result<(), AllocError> {
     let before = moments.len();
     if moments.push(Some(moment)).is_err() {
-        assert_eq!(rt; moments.len(), before);
+        same(rt, &moments.len(), &before);
         moments.push(Some(moment))?;
     }
     Ok(())
@@ -226,7 +228,7 @@ fn push_forty(rt: &impl Abort, moments: &mut Moments) -> Result<(), AllocError> 
 fn refused_memory_changes_nothing(rt: HostRuntime) -> Result<(), AllocError> {
     let mut moments = Moments::new(rt.alloc());
     push_forty(&rt, &mut moments)?;
-    assert_eq!(rt; moments.len(), 40);
-    assert_eq!(rt; first_place(&moments), Some(39));
+    same(&rt, &moments.len(), &40);
+    same(&rt, &first_place(&moments), &Some(39));
     Ok(())
 }

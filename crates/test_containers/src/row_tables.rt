@@ -1,4 +1,5 @@
 //! Tables of rows: by hand, and beside a plain list of the same rows.
+use crate::same::same;
 use row_table::{Row, RowTable};
 use std::alloc::{AllocError, Global};
 use std::process::Abort;
@@ -43,10 +44,10 @@ fn next_received(table: &RowTable<u64>, at: usize) -> Option<usize> {
 
 /// These are the items.
 fn expect_items(rt: &impl Abort, table: &RowTable<u64>, items: &[u64]) {
-    assert_eq!(rt; table.len(), items.len());
-    assert_eq!(rt; table.is_empty(), items.is_empty());
+    same(rt, &table.len(), &items.len());
+    same(rt, &table.is_empty(), &items.is_empty());
     for at in 0..table.len() {
-        assert_eq!(rt; Some(table.at(at).item), items.get(at).copied());
+        same(rt, &Some(table.at(at).item), &items.get(at).copied());
     }
 }
 
@@ -54,30 +55,30 @@ fn expect_items(rt: &impl Abort, table: &RowTable<u64>, items: &[u64]) {
 fn expect_sent(rt: &impl Abort, table: &RowTable<u64>, owner: usize, places: &[usize]) {
     let mut next = table.first_sent(owner);
     for place in places {
-        assert_eq!(rt; next, Some(*place));
+        same(rt, &next, &Some(*place));
         next = next_sent(table, *place);
     }
-    assert_eq!(rt; next, None);
+    same(rt, &next, &None);
 }
 
 /// These are the places of the rows that an owner receives.
 fn expect_received(rt: &impl Abort, table: &RowTable<u64>, owner: usize, places: &[usize]) {
     let mut next = table.first_received(owner);
     for place in places {
-        assert_eq!(rt; next, Some(*place));
+        same(rt, &next, &Some(*place));
         next = next_received(table, *place);
     }
-    assert_eq!(rt; next, None);
+    same(rt, &next, &None);
 }
 
 /// These are the places of the rows whose moment has come by a time.
 fn expect_due(rt: &impl Abort, table: &RowTable<u64>, time: u64, places: &[usize]) {
     let mut from = 0;
     for place in places {
-        assert_eq!(rt; table.next_due(from, time), Some(*place));
+        same(rt, &table.next_due(from, time), &Some(*place));
         from = place.saturating_add(1);
     }
-    assert_eq!(rt; table.next_due(from, time), None);
+    same(rt, &table.next_due(from, time), &None);
 }
 
 /// The rows 10, 11, 12, 13 and 14 come, and a mark is set: 0 sends the first, the third and the last, and 1 the
@@ -100,7 +101,7 @@ fn expect_five(rt: &impl Abort, table: &RowTable<u64>) {
     expect_sent(rt, table, 9, &[]);
     expect_received(rt, table, 2, &[0, 1]);
     expect_received(rt, table, 0, &[2, 3, 4]);
-    assert_eq!(rt; table.least(), Some(30));
+    same(rt, &table.least(), &Some(30));
     expect_due(rt, table, 40, &[2, 3]);
     expect_due(rt, table, 29, &[]);
 }
@@ -127,7 +128,7 @@ fn expect_three_left(rt: &impl Abort, table: &RowTable<u64>) {
     expect_sent(rt, table, 0, &[2]);
     expect_sent(rt, table, 1, &[0, 1]);
     expect_received(rt, table, 2, &[0, 2]);
-    assert_eq!(rt; table.least(), Some(7));
+    same(rt, &table.least(), &Some(7));
     expect_due(rt, table, 99, &[1, 2]);
 }
 
@@ -186,7 +187,7 @@ fn expect_changed_and_left(rt: &impl Abort, table: &RowTable<u64>) {
     expect_sent(rt, table, 1, &[1]);
     expect_received(rt, table, 2, &[0]);
     expect_received(rt, table, 0, &[1, 2]);
-    assert_eq!(rt; table.least(), Some(40));
+    same(rt, &table.least(), &Some(40));
     expect_due(rt, table, 99, &[0, 1]);
 }
 
@@ -245,8 +246,8 @@ fn expect_shared(
     rows: usize,
     kept: usize,
 ) {
-    assert_eq!(rt; table.len(), rows);
-    assert_eq!(rt; Rc::strong_count(item), kept);
+    same(rt, &table.len(), &rows);
+    same(rt, &Rc::strong_count(item), &kept);
 }
 
 /// One row leaves and comes back; it leaves again, and the other one changes and leaves.
@@ -308,7 +309,7 @@ fn expect_with_last(rt: &impl Abort, table: &RowTable<u64>) {
 
 fn expect_six(rt: &impl Abort, table: &RowTable<u64>) {
     expect_items(rt, table, &[0, 10, 20, 30, 40, 50]);
-    assert_eq!(rt; table.least(), Some(50));
+    same(rt, &table.least(), &Some(50));
     expect_sent(rt, table, 0, &[0, 1, 2, 3, 4, 5]);
     expect_sent(rt, table, 1, &[]);
 }
@@ -370,7 +371,7 @@ fn next_through(plain: &[Plain], from: usize, sought: Sought) -> Option<usize> {
 
 /// Both have the same rows.
 fn compare_rows(rt: &impl Abort, table: &RowTable<u64>, plain: &[Plain]) {
-    assert_eq!(rt; table.len(), plain.len());
+    same(rt, &table.len(), &plain.len());
     for at in 0..plain.len() {
         let row = plain[at];
         match table.get(at) {
@@ -382,10 +383,10 @@ fn compare_rows(rt: &impl Abort, table: &RowTable<u64>, plain: &[Plain]) {
                     moment,
                 },
             ) => {
-                assert_eq!(rt; *item, row.item);
-                assert_eq!(rt; *sender, row.sender);
-                assert_eq!(rt; *receiver, row.receiver);
-                assert_eq!(rt; *moment, row.moment);
+                same(rt, item, &row.item);
+                same(rt, sender, &row.sender);
+                same(rt, receiver, &row.receiver);
+                same(rt, moment, &row.moment);
             }
             None => assert!(rt; false),
         }
@@ -401,22 +402,29 @@ fn compare_finds(rt: &impl Abort, table: &RowTable<u64>, plain: &[Plain], at: us
         Sought::Sender(plain[at].sender),
         Sought::Receiver(plain[at].receiver),
     );
-    assert_eq!(rt; next_sent(table, at), next_through(plain, at + 1, sender));
-    assert_eq!(rt;
-        next_received(table, at),
-        next_through(plain, at + 1, receiver)
+    same(
+        rt,
+        &next_sent(table, at),
+        &next_through(plain, at + 1, sender),
     );
-    assert_eq!(rt;
-        table.next_due(at, time),
-        next_through(plain, at, Sought::Due(time))
+    same(
+        rt,
+        &next_received(table, at),
+        &next_through(plain, at + 1, receiver),
+    );
+    same(
+        rt,
+        &table.next_due(at, time),
+        &next_through(plain, at, Sought::Due(time)),
     );
     let has_come = match table.least() {
         Some(least) => least <= time,
         None => false,
     };
-    assert_eq!(rt;
-        has_come,
-        next_through(plain, 0, Sought::Due(time)).is_some()
+    same(
+        rt,
+        &has_come,
+        &next_through(plain, 0, Sought::Due(time)).is_some(),
     );
 }
 
@@ -528,9 +536,9 @@ impl Both {
         compare_finds(rt, &self.table, plain, at, time);
         for owner in 0..5 {
             let first = next_through(plain, 0, Sought::Sender(owner));
-            assert_eq!(rt; self.table.first_sent(owner), first);
+            same(rt, &self.table.first_sent(owner), &first);
             let first = next_through(plain, 0, Sought::Receiver(owner));
-            assert_eq!(rt; self.table.first_received(owner), first);
+            same(rt, &self.table.first_received(owner), &first);
         }
     }
 }

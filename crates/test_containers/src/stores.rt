@@ -1,4 +1,5 @@
 //! Both lists change, or neither.
+use crate::same::same;
 use crate::store::Store;
 use std::alloc::AllocError;
 use std::process::Abort;
@@ -11,8 +12,8 @@ fn two_levels(store: &mut Store) -> Result<(), AllocError> {
 
 /// These are the levels, after so many moves.
 fn expect(rt: &impl Abort, store: &Store, levels: &[u64], moves: usize) {
-    assert_eq!(rt; store.levels(), levels);
-    assert_eq!(rt; store.moves(), moves);
+    same(rt, &store.levels(), &levels);
+    same(rt, &store.moves(), &moves);
 }
 
 /// The first level goes to the second place.

@@ -1,4 +1,5 @@
 //! What comes back, at numbers and at texts.
+use crate::same::same;
 use std::alloc::{AllocError, Global};
 use std::process::Abort;
 use undo_list::UndoList;
@@ -32,8 +33,8 @@ fn change(list: &mut UndoList<u64>) -> Result<(), AllocError> {
 
 /// These are the items, and so many are saved.
 fn expect(rt: &impl Abort, list: &UndoList<u64>, items: &[u64], saved: usize) {
-    assert_eq!(rt; list.as_slice(), items);
-    assert_eq!(rt; list.saved_len(), saved);
+    same(rt, &list.as_slice(), &items);
+    same(rt, &list.saved_len(), &saved);
 }
 
 fn undo_a_change(rt: &impl Abort, list: &mut UndoList<u64>) -> Result<(), AllocError> {
@@ -64,8 +65,8 @@ fn commit_a_change(rt: &impl Abort, list: &mut UndoList<u64>) -> Result<(), Allo
     }
     expect(rt, list, &[11, 2, 31, 40, 52], 1);
     list.undo();
-    assert_eq!(rt; list.get(4), Some(&51));
-    assert_eq!(rt; list.get(5), None);
+    same(rt, &list.get(4), &Some(&51));
+    same(rt, &list.get(5), &None);
     Ok(())
 }
 
@@ -141,9 +142,9 @@ fn change_texts(alloc: Global, list: &mut UndoList<String>) -> Result<(), AllocE
 
 /// These are the texts.
 fn expect_texts(rt: &impl Abort, list: &UndoList<String>, texts: &[&str]) {
-    assert_eq!(rt; list.len(), texts.len());
+    same(rt, &list.len(), &texts.len());
     for (own, text) in list.as_slice().iter().zip(texts) {
-        assert_eq!(rt; own.as_str(), *text);
+        same(rt, &own.as_str(), text);
     }
 }
 

@@ -1,4 +1,5 @@
 //! How many peers a call clones.
+use crate::same::same;
 use fair_rates::error::Error;
 use fair_rates::peer::Peer;
 use link_scheduler::transmitter::{Completion, State};
@@ -119,12 +120,12 @@ fn expect_done(rt: &impl Abort, done: &[Completion<Name>]) {
         assert!(rt; false, "not one completion");
         return;
     };
-    assert_eq!(rt; completion.origin.text.as_str(), "0");
-    assert_eq!(rt; completion.recipient.text.as_str(), "1");
-    assert_eq!(rt; completion.channel, 7);
-    assert_eq!(rt; completion.message.len(), 100);
-    assert_eq!(rt; completion.done_at, 100 * MILLI);
-    assert_eq!(rt; completion.deliver_at, Some(100 * MILLI));
+    same(rt, &completion.origin.text.as_str(), &"0");
+    same(rt, &completion.recipient.text.as_str(), &"1");
+    same(rt, &completion.channel, &7);
+    same(rt, &completion.message.len(), &100);
+    same(rt, &completion.done_at, &(100 * MILLI));
+    same(rt, &completion.deliver_at, &Some(100 * MILLI));
 }
 
 /// Of so many peers the first sends a message to the second. Answers the clones that the advance
@@ -138,7 +139,7 @@ fn clones_of(
 ) -> Result<u64, Error> {
     put_peers(rt.alloc(), state, peers, do_wait, count)?;
     send(rt.alloc(), state, (0, 1), 100, 0, count)?;
-    assert_eq!(rt; state.next(), Some(100 * MILLI));
+    same(rt, &state.next(), &Some(100 * MILLI));
     let before = count.get();
     let done = state.advance(100 * MILLI)?;
     expect_done(rt, &done);

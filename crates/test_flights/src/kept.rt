@@ -1,4 +1,5 @@
 //! Calls between two peers, beside much that is kept of others.
+use crate::same::same;
 use bytes::Bytes;
 use fair_rates::error::Error;
 use link_scheduler::transmitter::{Completion, State};
@@ -47,15 +48,15 @@ fn send_two(
 
 /// The same is done.
 fn expect_same(rt: &impl Abort, many: &[Completion<u64>], few: &[Completion<u64>]) {
-    assert_eq!(rt; many.len(), 2);
-    assert_eq!(rt; few.len(), 2);
+    same(rt, &many.len(), &2);
+    same(rt, &few.len(), &2);
     for (one, other) in many.iter().zip(few) {
-        assert_eq!(rt; one.origin, other.origin);
-        assert_eq!(rt; one.recipient, other.recipient);
-        assert_eq!(rt; one.channel, other.channel);
-        assert_eq!(rt; one.message.as_slice(), other.message.as_slice());
-        assert_eq!(rt; one.done_at, other.done_at);
-        assert_eq!(rt; one.deliver_at, other.deliver_at);
+        same(rt, &one.origin, &other.origin);
+        same(rt, &one.recipient, &other.recipient);
+        same(rt, &one.channel, &other.channel);
+        same(rt, &one.message.as_slice(), &other.message.as_slice());
+        same(rt, &one.done_at, &other.done_at);
+        same(rt, &one.deliver_at, &other.deliver_at);
     }
 }
 
@@ -69,7 +70,7 @@ fn take_turn(
     let many = send_two(rt.alloc(), large, now)?;
     let few = send_two(rt.alloc(), small, now)?;
     expect_same(rt, &many, &few);
-    assert_eq!(rt; large.next(), small.next());
+    same(rt, &large.next(), &small.next());
     Ok(())
 }
 

@@ -16,6 +16,8 @@ mod readings;
 #[cfg(test)]
 mod rows;
 #[cfg(test)]
+mod same;
+#[cfg(test)]
 mod touched;
 #[cfg(test)]
 mod wide;

@@ -1,4 +1,5 @@
 //! What is in flight, and how it is read.
+use crate::same::same;
 use fair_rates::ratio::Ratio;
 use link_scheduler::transmitter::{InFlight, State};
 use scheduler_calls::calls::{Calls, Parcel, bytes_from};
@@ -31,13 +32,13 @@ fn expect(
 ) {
     assert!(rt; reading.is_some());
     if let Some(reading) = reading {
-        assert_eq!(rt; reading.origin, 1);
-        assert_eq!(rt; reading.recipient, recipient);
+        same(rt, &reading.origin, &1);
+        same(rt, &reading.recipient, &recipient);
         assert!(rt; reading.left.is_exact);
         assert!(rt; reading.rate.is_exact);
-        assert_eq!(rt; Some(reading.left.amount), Ratio::new(left.0, left.1));
-        assert_eq!(rt; Some(reading.rate.amount), Ratio::new(rate.0, rate.1));
-        assert_eq!(rt; reading.since, since);
+        same(rt, &Some(reading.left.amount), &Ratio::new(left.0, left.1));
+        same(rt, &Some(reading.rate.amount), &Ratio::new(rate.0, rate.1));
+        same(rt, &reading.since, &since);
     }
 }
 
@@ -104,7 +105,7 @@ flying 2
 #[test]
 fn nothing_is_in_flight_before_any_limit(rt: HostRuntime) -> Result<(), Fail> {
     let readings = flying(&rt, "send 0 1 2 1000 0\ndone 0 0\nflying 0\n")?;
-    assert_eq!(rt; readings.len(), 0);
+    same(&rt, &readings.len(), &0);
     Ok(())
 }
 
@@ -112,8 +113,8 @@ fn nothing_is_in_flight_before_any_limit(rt: HostRuntime) -> Result<(), Fail> {
 fn nothing_is_in_flight_on_a_new_scheduler(rt: HostRuntime) {
     let state = State::<u64>::new(rt.alloc());
     let readings = state.in_flight().expect(&rt, "no room for the readings");
-    assert_eq!(rt; readings.len(), 0);
-    assert_eq!(rt; state.rated_anew(), 0);
+    same(&rt, &readings.len(), &0);
+    same(&rt, &state.rated_anew(), &0);
 }
 
 /// For a nanosecond each the first of many messages has a rate of a first, a half, a third and so
@@ -136,10 +137,10 @@ fn expect_rounded(rt: &impl Abort, reading: Option<&InFlight<u64>>) {
     assert!(rt; reading.is_some());
     if let Some(first) = reading {
         assert!(rt; !first.left.is_exact);
-        assert_eq!(rt; first.left.amount, Ratio::from_whole(999_994));
+        same(rt, &first.left.amount, &Ratio::from_whole(999_994));
         assert!(rt; first.rate.is_exact);
-        assert_eq!(rt; first.rate.amount, Ratio::from_whole(10_000_000));
-        assert_eq!(rt; first.since, 99);
+        same(rt, &first.rate.amount, &Ratio::from_whole(10_000_000));
+        same(rt, &first.since, &99);
     }
 }
 

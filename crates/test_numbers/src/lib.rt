@@ -6,4 +6,6 @@ mod naturals;
 #[cfg(test)]
 mod ratios;
 #[cfg(test)]
+mod same;
+#[cfg(test)]
 mod table;

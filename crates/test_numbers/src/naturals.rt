@@ -2,6 +2,7 @@
 mod multiples;
 
 use super::table::{Case, Words, all_hold, number, order, truth, wide_number, word};
+use crate::same::same;
 use natural::Natural;
 use std::alloc::Global;
 use std::test::Fail;
@@ -444,11 +445,11 @@ fn numbers_that_fit_in_128_bits(rt: HostRuntime) -> Result<(), Fail> {
     let one = Natural::from_u64(alloc, 1);
     let mut n = Natural::from_u128(alloc, u128::MAX);
     n.add_assign(&one)?;
-    assert_eq!(rt; n.to_u128(), None);
+    same(&rt, &n.to_u128(), &None);
     assert!(rt; !n.is_zero());
     n.sub_assign(&one);
-    assert_eq!(rt; n.to_u128(), Some(u128::MAX));
-    assert_eq!(rt; natural(alloc, TEN_LIMBS)?.to_u128(), None);
+    same(&rt, &n.to_u128(), &Some(u128::MAX));
+    same(&rt, &natural(alloc, TEN_LIMBS)?.to_u128(), &None);
     Ok(())
 }
 
@@ -493,10 +494,10 @@ fn a_clone_stays_as_it_was(rt: HostRuntime) -> Result<(), Fail> {
     let alloc = rt.alloc();
     let mut n = natural(alloc, TEN_LIMBS)?;
     let copy = n.clone()?;
-    assert_eq!(rt; copy, n);
+    same(&rt, &copy, &n);
     n.multiply(3)?;
     assert_ne!(rt; copy, n);
-    assert_eq!(rt; text(alloc, &copy)?.as_str(), TEN_LIMBS);
+    same(&rt, &text(alloc, &copy)?.as_str(), &TEN_LIMBS);
     Ok(())
 }
 
@@ -532,8 +533,8 @@ fn a_factorial(rt: HostRuntime) -> Result<(), Fail> {
     all_hold::<FactorialRest>(&rt, FACTORIAL_RESTS, 3)?;
     let mut n = factorial(rt.alloc())?;
     for k in 1..=60 {
-        assert_eq!(rt; n.divide(k), 0);
+        same(&rt, &n.divide(k), &0);
     }
-    assert_eq!(rt; n.to_u128(), Some(1));
+    same(&rt, &n.to_u128(), &Some(1));
     Ok(())
 }

@@ -5,6 +5,7 @@
 use super::table::{
     Case, Words, all_hold, number, number_of, order, truth, wide_number, wide_number_of, word,
 };
+use crate::same::same;
 use fair_rates::bandwidth::{Flow, Rate, duration, transfer};
 use fair_rates::error::Error;
 use fair_rates::ratio::Ratio;
@@ -78,7 +79,7 @@ fn new_reduces(rt: HostRuntime) -> Result<(), Fail> {
 
 #[test]
 fn a_denominator_of_zero_is_refused(rt: HostRuntime) -> Result<(), Fail> {
-    assert_eq!(rt; Ratio::new(1, 0), None);
+    same(&rt, &Ratio::new(1, 0), &None);
     Ok(())
 }
 

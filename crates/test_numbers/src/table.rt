@@ -1,4 +1,5 @@
 //! Tables of cases as text: a line for each case, and in it words.
+use crate::same::same;
 use std::alloc::Global;
 use std::cmp::Ordering;
 use std::process::Abort;
@@ -20,7 +21,7 @@ pub fn all_hold<C: Case>(
     table: &str,
     lines: usize,
 ) -> Result<(), Fail> {
-    assert_eq!(rt; table.lines().count(), lines);
+    same(rt, &table.lines().count(), &lines);
     for line in table.lines() {
         let mut words = line.split_whitespace();
         assert!(rt; C::holds(rt.alloc(), &mut words)?, "{line}");

@@ -3,3 +3,5 @@
 
 #[cfg(test)]
 mod planner;
+#[cfg(test)]
+mod same;

@@ -8,6 +8,7 @@ mod sizes;
 mod wide;
 
 use self::network::{Cap, Side, egress_cap, have_links, ingress_cap, link_cap};
+use crate::same::same;
 use fair_rates::bandwidth::{
     Flow, Rate, allocate, allocate_counted, allocate_linked, allocate_linked_counted,
 };
@@ -112,7 +113,7 @@ fn linked_counted_rates<P: Numbered>(
 }
 
 fn expect(rt: &impl Abort, rates: &BTreeMap<u64, Rate>, wanted: &[Wanted]) -> Result<(), Fail> {
-    assert_eq!(rt; rates.len(), wanted.len());
+    same(rt, &rates.len(), &wanted.len());
     for Wanted(id, rate) in wanted {
         let rate = match rate {
             Some((num, den)) => Rate::Finite(Ratio::new(*num, *den).ok_or(
@@ -131,7 +132,7 @@ fn expect_counted(
     answer: &(BTreeMap<u64, Rate>, u128),
     case: &Case,
 ) -> Result<(), Fail> {
-    assert_eq!(rt; answer.1, case.rounds);
+    same(rt, &answer.1, &case.rounds);
     expect(rt, &answer.0, case.wanted)
 }
 
@@ -595,9 +596,10 @@ fn closures_are_called_in_order(rt: HostRuntime) -> Result<(), Fail> {
         Call::Egress(4),
         Call::Ingress(2),
     ];
-    assert_eq!(rt;
-        calls_for(rt.alloc(), &flows)?.as_slice(),
-        wanted.as_slice()
+    same(
+        &rt,
+        &calls_for(rt.alloc(), &flows)?.as_slice(),
+        &wanted.as_slice(),
     );
     let wanted = [
         Call::Egress(1),
@@ -609,9 +611,10 @@ fn closures_are_called_in_order(rt: HostRuntime) -> Result<(), Fail> {
         Call::Ingress(2),
         Call::Link(4, 2),
     ];
-    assert_eq!(rt;
-        linked_calls_for(rt.alloc(), &flows)?.as_slice(),
-        wanted.as_slice()
+    same(
+        &rt,
+        &linked_calls_for(rt.alloc(), &flows)?.as_slice(),
+        &wanted.as_slice(),
     );
     Ok(())
 }

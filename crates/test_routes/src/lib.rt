@@ -6,6 +6,8 @@ mod network;
 #[cfg(test)]
 mod routes;
 #[cfg(test)]
+mod same;
+#[cfg(test)]
 mod text;
 #[cfg(test)]
 mod weighted;

@@ -1,4 +1,5 @@
 //! Rates over routes, against values worked out by hand.
+use crate::same::same;
 use crate::text;
 use fair_rates::error::Error;
 use fair_routes::routes::{RouteError, allocate_routes, allocate_routes_counted};
@@ -108,21 +109,24 @@ fn peers_are_links(rt: HostRuntime) -> Result<(), Fail> {
 #[test]
 fn a_link_that_is_not_listed_is_named(rt: HostRuntime) -> Result<(), Fail> {
     let caps = [Some(1), None];
-    assert_eq!(rt;
-        refusal(rt.alloc(), &caps, "0,1;1,7,2;9")?,
-        Some(RouteError::NoSuchLink { flow: 1, link: 7 })
+    same(
+        &rt,
+        &(refusal(rt.alloc(), &caps, "0,1;1,7,2;9")?),
+        &Some(RouteError::NoSuchLink { flow: 1, link: 7 }),
     );
-    assert_eq!(rt;
-        refusal(rt.alloc(), &[], "0")?,
-        Some(RouteError::NoSuchLink { flow: 0, link: 0 })
+    same(
+        &rt,
+        &(refusal(rt.alloc(), &[], "0")?),
+        &Some(RouteError::NoSuchLink { flow: 0, link: 0 }),
     );
     let text = format!(in rt.alloc(); "{}", RouteError::NoSuchLink { flow: 1, link: 7 })?;
-    assert_eq!(rt;
-        text.as_str(),
-        "flow 1 uses link 7, which has no entry in the list of caps"
+    same(
+        &rt,
+        &text.as_str(),
+        &"flow 1 uses link 7, which has no entry in the list of caps",
     );
     let memory = format!(in rt.alloc(); "{}", RouteError::Refused(Error::OutOfMemory))?;
-    assert_eq!(rt; memory.as_str(), "out of memory");
+    same(&rt, &memory.as_str(), &"out of memory");
     Ok(())
 }
 
@@ -131,15 +135,20 @@ fn a_link_that_is_not_listed_is_named(rt: HostRuntime) -> Result<(), Fail> {
 #[test]
 fn a_rate_that_is_no_fraction_is_refused(rt: HostRuntime) -> Result<(), Fail> {
     let caps = [Some(LARGEST), Some(HALF + 1), Some(HALF + 2)];
-    assert_eq!(rt;
-        refusal(rt.alloc(), &caps, "0,1;1;0,2;2;2;0")?,
-        Some(RouteError::Refused(Error::NumberTooLarge))
+    same(
+        &rt,
+        &(refusal(rt.alloc(), &caps, "0,1;1;0,2;2;2;0")?),
+        &Some(RouteError::Refused(Error::NumberTooLarge)),
     );
     let narrow = [
         Some(u128::from(u64::MAX)),
         Some(1),
         Some(u128::from(u64::MAX) - 2),
     ];
-    assert_eq!(rt; refusal(rt.alloc(), &narrow, "0,1;1;0,2;2;2;0")?, None);
+    same(
+        &rt,
+        &(refusal(rt.alloc(), &narrow, "0,1;1;0,2;2;2;0")?),
+        &None,
+    );
     Ok(())
 }

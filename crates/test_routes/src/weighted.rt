@@ -1,4 +1,5 @@
 //! Rates over routes by weight, against values worked out by hand.
+use crate::same::same;
 use crate::text;
 use fair_rates::error::Error;
 use fair_routes::routes::{RouteError, WeightError, allocate_routes, allocate_weighted_routes};
@@ -77,9 +78,10 @@ fn weights_of_one_change_nothing(rt: HostRuntime) -> Result<(), Fail> {
     let alloc = rt.alloc();
     let caps = network_lines::caps(alloc, "12,6,3,-")?;
     let routes = network_lines::routes(alloc, "0,1,2;0,1;0;1,2;3")?;
-    assert_eq!(rt;
-        allocate_weighted_routes(alloc, &routes, &[1, 1, 1, 1, 1], &caps)?.as_slice(),
-        allocate_routes(alloc, &routes, &caps)?.as_slice()
+    same(
+        &rt,
+        &allocate_weighted_routes(alloc, &routes, &[1, 1, 1, 1, 1], &caps)?.as_slice(),
+        &allocate_routes(alloc, &routes, &caps)?.as_slice(),
     );
     Ok(())
 }
@@ -107,34 +109,39 @@ fn weights_may_be_large(rt: HostRuntime) -> Result<(), Fail> {
 fn weights_that_do_not_fit_are_named(rt: HostRuntime) -> Result<(), Fail> {
     let alloc = rt.alloc();
     let caps = [Some(1), None];
-    assert_eq!(rt;
-        refusal(alloc, &caps, "0;0", &[1])?,
-        Some(WeightError::OtherCount {
+    same(
+        &rt,
+        &(refusal(alloc, &caps, "0;0", &[1])?),
+        &Some(WeightError::OtherCount {
             flows: 2,
-            weights: 1
-        })
+            weights: 1,
+        }),
     );
-    assert_eq!(rt;
-        refusal(alloc, &caps, "0", &[1, 1])?,
-        Some(WeightError::OtherCount {
+    same(
+        &rt,
+        &(refusal(alloc, &caps, "0", &[1, 1])?),
+        &Some(WeightError::OtherCount {
             flows: 1,
-            weights: 2
-        })
+            weights: 2,
+        }),
     );
-    assert_eq!(rt;
-        refusal(alloc, &caps, "0;0;0", &[1, 0, 0])?,
-        Some(WeightError::NoWeight { flow: 1 })
+    same(
+        &rt,
+        &(refusal(alloc, &caps, "0;0;0", &[1, 0, 0])?),
+        &Some(WeightError::NoWeight { flow: 1 }),
     );
-    assert_eq!(rt;
-        refusal(alloc, &caps, "0;0;7", &[1, 1, 1])?,
-        Some(WeightError::Routes(RouteError::NoSuchLink { flow: 2, link: 7 }))
+    same(
+        &rt,
+        &(refusal(alloc, &caps, "0;0;7", &[1, 1, 1])?),
+        &Some(WeightError::Routes(RouteError::NoSuchLink { flow: 2, link: 7 })),
     );
-    assert_eq!(rt;
-        refusal(alloc, &caps, "0;0", &[u64::MAX, 1])?,
-        Some(WeightError::TooMuchWeight)
+    same(
+        &rt,
+        &(refusal(alloc, &caps, "0;0", &[u64::MAX, 1])?),
+        &Some(WeightError::TooMuchWeight),
     );
-    assert_eq!(rt; refusal(alloc, &caps, "1;0", &[u64::MAX, 1])?, None);
-    assert_eq!(rt; refusal(alloc, &caps, "1;1", &[u64::MAX, 1])?, None);
+    same(&rt, &(refusal(alloc, &caps, "1;0", &[u64::MAX, 1])?), &None);
+    same(&rt, &(refusal(alloc, &caps, "1;1", &[u64::MAX, 1])?), &None);
     Ok(())
 }
 
@@ -149,17 +156,18 @@ fn refusals_are_told(rt: HostRuntime) -> Result<(), Fail> {
             weights: 1
         }
     )?;
-    assert_eq!(rt; other.as_str(), "2 flows have 1 weights");
+    same(&rt, &other.as_str(), &"2 flows have 1 weights");
     let none = format!(in alloc; "{}", WeightError::NoWeight { flow: 3 })?;
-    assert_eq!(rt; none.as_str(), "flow 3 has weight 0");
+    same(&rt, &none.as_str(), &"flow 3 has weight 0");
     let much = format!(in alloc; "{}", WeightError::TooMuchWeight)?;
-    assert_eq!(rt;
-        much.as_str(),
-        "the flows of a link have a weight of 2^64 or more together"
+    same(
+        &rt,
+        &much.as_str(),
+        &"the flows of a link have a weight of 2^64 or more together",
     );
     let memory = WeightError::Routes(RouteError::Refused(Error::OutOfMemory));
     let memory = format!(in alloc; "{}", memory)?;
-    assert_eq!(rt; memory.as_str(), "out of memory");
+    same(&rt, &memory.as_str(), &"out of memory");
     Ok(())
 }
 
@@ -169,14 +177,16 @@ fn a_rate_that_is_no_fraction_is_refused(rt: HostRuntime) -> Result<(), Fail> {
     let alloc = rt.alloc();
     let weights = [3, 7, 11, 1, 2, 5];
     let caps = [Some(LARGEST), Some(LARGEST - 1), Some(7)];
-    assert_eq!(rt;
-        refusal(alloc, &caps, "0,1;0;1;0,2;1,2;0", &weights)?,
-        Some(WeightError::Routes(RouteError::Refused(Error::NumberTooLarge)))
+    same(
+        &rt,
+        &(refusal(alloc, &caps, "0,1;0;1;0,2;1,2;0", &weights)?),
+        &Some(WeightError::Routes(RouteError::Refused(Error::NumberTooLarge))),
     );
     let narrow = [Some(u128::from(u64::MAX)), Some(1), Some(7)];
-    assert_eq!(rt;
-        refusal(alloc, &narrow, "0,1;0;1;0,2;1,2;0", &weights)?,
-        None
+    same(
+        &rt,
+        &(refusal(alloc, &narrow, "0,1;0;1;0,2;1,2;0", &weights)?),
+        &None,
     );
     Ok(())
 }

@@ -1,4 +1,5 @@
 //! Messages that are known by their length, alone or behind bytes.
+use crate::same::same;
 use bytes::Bytes;
 use fair_rates::error::Error;
 use link_scheduler::transmitter::{Completion, Contents, Outgoing, Payload, State};
@@ -28,12 +29,12 @@ fn expect_one(
     front: &[u8],
     at: u64,
 ) {
-    assert_eq!(rt; done.len(), 1);
+    same(rt, &done.len(), &1);
     for one in done {
-        assert_eq!(rt; one.message.len(), length);
-        assert_eq!(rt; one.message.given(), front);
-        assert_eq!(rt; one.done_at, at);
-        assert_eq!(rt; one.deliver_at, at.checked_add(5));
+        same(rt, &one.message.len(), &length);
+        same(rt, &one.message.given(), &front);
+        same(rt, &one.done_at, &at);
+        same(rt, &one.deliver_at, &at.checked_add(5));
     }
 }
 
@@ -41,13 +42,13 @@ fn expect_one(
 fn send(rt: &(impl Abort + AllocGlobal), state: &mut State<u64, Contents>) -> Result<(), Error> {
     let _none = state.limit(0, &1, Some(LONGEST / 2), None)?;
     let sent = state.enqueue(0, 1, 2, 7, Contents::zeros(LONGEST), 5, true)?;
-    assert_eq!(rt; sent.len(), 0);
+    same(rt, &sent.len(), &0);
     let few = Bytes::from_vec(vec![in rt.alloc(); 9u8; 3]?)?;
     let mut both = Vec::new(rt.alloc());
     both.push(message(Contents::padded(few, LONGEST / 2)))?;
     let sent = state.enqueue_all(0, both)?;
-    assert_eq!(rt; sent.len(), 0);
-    assert_eq!(rt; state.next(), Some(2_000_000_000));
+    same(rt, &sent.len(), &0);
+    same(rt, &state.next(), &Some(2_000_000_000));
     let done = state.advance(2_000_000_000)?;
     expect_one(rt, &done, LONGEST, &[], 2_000_000_000);
     let (done, _events) = state.advance_counted(3_000_000_000)?;
@@ -65,15 +66,19 @@ fn a_length_takes_no_memory_and_comes_back(rt: HostRuntime) -> Result<(), Error>
 fn bytes_and_the_zeros_behind_them_are_all_its_bytes(rt: HostRuntime) -> Result<(), Error> {
     let few = Bytes::from_vec(vec![in rt.alloc(); 9u8; 3]?)?;
     let padded = Contents::padded(few, 5);
-    assert_eq!(rt; padded.len(), 5);
+    same(&rt, &padded.len(), &5);
     assert!(rt; !padded.is_empty());
     assert!(rt; Contents::zeros(0).is_empty());
     let all = Bytes::of_contents(rt.alloc(), &padded)?;
-    assert_eq!(rt; all.as_slice(), [9, 9, 9, 0, 0].as_slice());
-    let same = Contents::of_contents(rt.alloc(), &padded)?;
-    assert_eq!(rt; same.given(), [9, 9, 9].as_slice());
-    assert_eq!(rt; same.share()?.len(), 5);
+    same(&rt, &all.as_slice(), &[9, 9, 9, 0, 0].as_slice());
+    let kept = Contents::of_contents(rt.alloc(), &padded)?;
+    same(&rt, &kept.given(), &[9, 9, 9].as_slice());
+    same(&rt, &kept.share()?.len(), &5);
     let whole = Contents::padded(all, 2);
-    assert_eq!(rt; whole.into_contents().given(), [9, 9, 9, 0, 0].as_slice());
+    same(
+        &rt,
+        &whole.into_contents().given(),
+        &[9, 9, 9, 0, 0].as_slice(),
+    );
     Ok(())
 }

@@ -18,6 +18,8 @@ mod orders;
 #[cfg(test)]
 mod refusals;
 #[cfg(test)]
+mod same;
+#[cfg(test)]
 mod starts;
 #[cfg(test)]
 mod vectors;

@@ -2,6 +2,7 @@
 use super::lists::{Chance, Kind, next_list};
 use super::network::{Cap, Network, Planned, Side, dropped, finite, plan, plan_linked, sent};
 use super::plain::{Filled, Verdict, fill, fit, judge};
+use crate::same::same;
 use fair_rates::bandwidth::{Flow, Rate};
 use fair_rates::error::Error;
 use std::alloc::Global;
@@ -48,12 +49,12 @@ fn verdict_on(
 ) -> Result<Verdict, Fail> {
     match answer {
         Ok(planned) => {
-            assert_eq!(rt; planned.rates.len(), network.flows.len());
+            same(rt, &planned.rates.len(), &network.flows.len());
             let rates = by_flow(rt.alloc(), network.flows, &planned.rates)?;
             Ok(judge(network, &rates))
         }
         Err(error) => {
-            assert_eq!(rt; error, Error::NumberTooLarge);
+            same(rt, &error, &Error::NumberTooLarge);
             Ok(Verdict::Unjudged)
         }
     }
@@ -82,7 +83,7 @@ fn count_fair(rt: &(impl Abort + AllocGlobal), kind: &Kind) -> Result<u64, Fail>
 
 #[test]
 fn answers_are_fair(rt: HostRuntime) -> Result<(), Fail> {
-    assert_eq!(rt; count_fair(&rt, &SMALL)?, 300);
+    same(&rt, &(count_fair(&rt, &SMALL)?), &300);
     let fair = count_fair(&rt, &WIDE)?;
     assert!(rt; fair > 200, "{fair} of 300 judged");
     let linked = Kind {
@@ -117,8 +118,8 @@ fn the_judge_tells(rt: HostRuntime) -> Result<(), Fail> {
         );
     }
     let free = [finite(1, 1)?, finite(8, 1)?, Rate::Unlimited];
-    assert_eq!(rt; judge(&network, &free), Verdict::Unfair);
-    assert_eq!(rt; judge(&network, &[]), Verdict::Unfair);
+    same(&rt, &judge(&network, &free), &Verdict::Unfair);
+    same(&rt, &judge(&network, &[]), &Verdict::Unfair);
     Ok(())
 }
 
@@ -139,14 +140,15 @@ fn expect_same(
     planned: &Planned,
 ) -> Result<(), Fail> {
     let by_id = by_id(rt.alloc(), network, filled)?;
-    assert_eq!(rt; planned.rates.len(), by_id.len());
+    same(rt, &planned.rates.len(), &by_id.len());
     for flow in network.flows {
-        assert_eq!(rt;
-            planned.rates.get(&flow.id).copied(),
-            by_id.get(&flow.id).copied()
+        same(
+            rt,
+            &planned.rates.get(&flow.id).copied(),
+            &by_id.get(&flow.id).copied(),
         );
     }
-    assert_eq!(rt; planned.rounds, filled.rounds as u128);
+    same(rt, &planned.rounds, &(filled.rounds as u128));
     Ok(())
 }
 
@@ -159,7 +161,7 @@ fn agree(rt: &(impl Abort + AllocGlobal), network: &Network) -> Result<bool, Fai
             Ok(true)
         }
         (Ok(filled), Err(error)) => {
-            assert_eq!(rt; error, Error::NumberTooLarge);
+            same(rt, &error, &Error::NumberTooLarge);
             assert!(rt; !fit(network, &filled.rates));
             Ok(false)
         }
@@ -186,8 +188,8 @@ fn a_plain_planner_agrees(rt: HostRuntime) -> Result<(), Fail> {
         repeated: true,
         ..SMALL
     };
-    assert_eq!(rt; count_agreed(&rt, &SMALL)?, 300);
-    assert_eq!(rt; count_agreed(&rt, &repeated)?, 300);
+    same(&rt, &(count_agreed(&rt, &SMALL)?), &300);
+    same(&rt, &(count_agreed(&rt, &repeated)?), &300);
     let agreed = count_agreed(&rt, &WIDE)?;
     assert!(rt; agreed > 200, "{agreed} of 300");
     let linked = Kind {
@@ -211,11 +213,12 @@ fn turned(alloc: Global, flows: &[Flow<u64>]) -> Result<Vec<Flow<u64>>, Fail> {
 
 /// Both answers have the same rounds, and the same rate for each of the flows.
 fn expect_equal(rt: &impl Abort, flows: &[Flow<u64>], one: &Planned, other: &Planned) {
-    assert_eq!(rt; one.rounds, other.rounds);
+    same(rt, &one.rounds, &other.rounds);
     for flow in flows {
-        assert_eq!(rt;
-            one.rates.get(&flow.id).copied(),
-            other.rates.get(&flow.id).copied()
+        same(
+            rt,
+            &one.rates.get(&flow.id).copied(),
+            &other.rates.get(&flow.id).copied(),
         );
     }
 }

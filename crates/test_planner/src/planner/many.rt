@@ -1,6 +1,7 @@
 //! Many flows of one origin, planned by the calls that count no rounds.
 use super::network::{Cap, Side, finite, sent};
 use super::{linked_rates, rates};
+use crate::same::same;
 use fair_rates::bandwidth::{Flow, Rate};
 use std::alloc::Global;
 use std::collections::BTreeMap;
@@ -18,8 +19,8 @@ fn fan(alloc: Global, flows: u64) -> Result<Vec<Flow<u64>>, Fail> {
 
 /// There are so many rates: the first is this one, and all others are that one.
 fn expect(rt: &impl Abort, rates: &BTreeMap<u64, Rate>, flows: u64, first: Rate, other: Rate) {
-    assert_eq!(rt; rates.len() as u64, flows);
-    assert_eq!(rt; rates.get(&0).copied(), Some(first));
+    same(rt, &(rates.len() as u64), &flows);
+    same(rt, &rates.get(&0).copied(), &Some(first));
     for id in 1..flows {
         assert_eq!(rt; rates.get(&id).copied(), Some(other), "flow {id}");
     }

@@ -1,5 +1,6 @@
 //! Many flows: which rates fit in fractions of 128 bits, and which do not.
 use super::network::{Cap, Network, Planned, Side, expect_rate, plan, plan_linked, sent};
+use crate::same::same;
 use fair_rates::bandwidth::Flow;
 use fair_rates::error::Error;
 use std::alloc::Global;
@@ -81,8 +82,8 @@ fn expect_chain(
     chain: &[Group],
 ) -> Result<(), Fail> {
     let planned = plan(rt.alloc(), network)?;
-    assert_eq!(rt; planned.rates.len(), network.flows.len());
-    assert_eq!(rt; planned.rounds, chain.len() as u128);
+    same(rt, &planned.rates.len(), &network.flows.len());
+    same(rt, &planned.rounds, &(chain.len() as u128));
     expect_groups(rt, &planned, chain)?;
     expect_groups(rt, &plan_linked(rt.alloc(), network)?, chain)
 }
@@ -101,8 +102,8 @@ fn is_answered(rt: &(impl Abort + AllocGlobal), chain: &[Group]) -> Result<(), F
 /// Both calls refuse the flows.
 fn expect_refused(rt: &(impl Abort + AllocGlobal), network: &Network) {
     let refusal = Some(Error::NumberTooLarge);
-    assert_eq!(rt; plan(rt.alloc(), network).err(), refusal);
-    assert_eq!(rt; plan_linked(rt.alloc(), network).err(), refusal);
+    same(rt, &plan(rt.alloc(), network).err(), &refusal);
+    same(rt, &plan_linked(rt.alloc(), network).err(), &refusal);
 }
 
 /// The flows of a chain are refused, by both calls.

@@ -1,5 +1,6 @@
 //! Rates next to 2^128.
 use super::network::{Cap, Network, Planned, Side, expect_rate, plan, plan_linked, sent};
+use crate::same::same;
 use fair_rates::error::Error;
 use std::process::Abort;
 use std::test::Fail;
@@ -27,13 +28,15 @@ fn one_rate_that_is_no_fraction_is_refused(rt: HostRuntime) -> Result<(), Fail> 
             Cap(Side::Ingress(3), HALF + 2),
         ],
     };
-    assert_eq!(rt;
-        plan(rt.alloc(), &network).err(),
-        Some(Error::NumberTooLarge)
+    same(
+        &rt,
+        &plan(rt.alloc(), &network).err(),
+        &Some(Error::NumberTooLarge),
     );
-    assert_eq!(rt;
-        plan_linked(rt.alloc(), &network).err(),
-        Some(Error::NumberTooLarge)
+    same(
+        &rt,
+        &plan_linked(rt.alloc(), &network).err(),
+        &Some(Error::NumberTooLarge),
     );
     Ok(())
 }
@@ -45,7 +48,7 @@ fn expect_five_rates(rt: &impl Abort, planned: &Planned) -> Result<(), Fail> {
     expect_rate(rt, planned, 2, 170141183460469231731687303715884105731, 2)?;
     expect_rate(rt, planned, 3, 170141183460469231731687303715884105731, 2)?;
     expect_rate(rt, planned, 4, 170141183460469231731687303715884105725, 1)?;
-    assert_eq!(rt; planned.rounds, 3);
+    same(rt, &planned.rounds, &3);
     Ok(())
 }
 
