@@ -39,8 +39,10 @@ bin/networks: FORCE
 	cp crates/networks/out/networks bin/networks
 
 # The gate: every proof from nothing, the edits that must fail, the tests and the program. What stood in out/ before, it
-# puts back: the libraries of a gate before this one, which have no stamp, go first, so that those of this one stay.
+# puts back: the libraries of a gate before this one, which have no stamp, go first, so that those of this one stay. So do
+# packages, since they have a link, which the gate does not take.
 test:
+	@rm -rf bin/dist
 	@for rlib in crates/*/out/rlib; do [ -e $$rlib/stamp ] || rm -rf $$rlib; done
 	rt ci
 
