@@ -6,6 +6,7 @@ use std::io;
 use std::io::Write;
 
 /// The first line on which a trace and the simulation differ.
+#[derive(Drop)]
 pub struct Difference {
     /// The number of the line in the trace, counted from 1. Where the trace ends too early, it is
     /// one past its last line.
@@ -16,21 +17,6 @@ pub struct Difference {
     pub simulated: Option<Vec<u8>>,
     /// By how many nanoseconds the moment is off, where all else is the same.
     pub off: Option<u64>,
-}
-
-impl Drop for Difference {
-    /// Lets go of what it holds.
-    #[inline(always)]
-    fn drop(self) {
-        let Difference {
-            line: _,
-            said,
-            simulated,
-            off: _,
-        } = self;
-        drop(said);
-        drop(simulated);
-    }
 }
 
 impl Difference {

@@ -8,6 +8,7 @@ use std::io;
 use std::io::Write;
 
 /// What is said of a trace, and how much of it was checked.
+#[derive(Drop)]
 pub struct Report {
     pub verdict: Verdict,
     /// How many calls were made.
@@ -16,21 +17,6 @@ pub struct Report {
     pub completions: u64,
     /// The first call that is out of turn.
     pub out_of_turn: Option<OutOfTurn>,
-}
-
-impl Drop for Report {
-    /// Lets go of what it holds.
-    #[inline(always)]
-    fn drop(self) {
-        let Report {
-            verdict,
-            calls: _,
-            completions: _,
-            out_of_turn,
-        } = self;
-        drop(verdict);
-        drop(out_of_turn);
-    }
 }
 
 /// What is said of a trace.
