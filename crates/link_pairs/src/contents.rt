@@ -1,5 +1,6 @@
 //! What a message has to bring over.
-ghost use Rattle.std.specs.Prelude.{◌≡◌, ◌+◌, ◌++◌, ◌-◌, ◌<◌, ◌^◌, ◌==◌, List, ℕ, length, replicate, IfOk, IfErr};
+ghost use Rattle.std.specs.Prelude.{◌≡◌, ◌+◌, ◌++◌, ◌-◌, ◌<◌, ◌^◌, ◌==◌, List, ℕ};
+ghost use Rattle.std.specs.Prelude.{length, replicate, IfOk, IfErr};
 
 use bytes::Bytes;
 use fair_rates::error::Error;

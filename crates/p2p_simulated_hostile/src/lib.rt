@@ -9,6 +9,8 @@ mod ends;
 #[cfg(test)]
 mod kinds;
 #[cfg(test)]
+mod parts;
+#[cfg(test)]
 mod peers;
 #[cfg(test)]
 mod quiet;

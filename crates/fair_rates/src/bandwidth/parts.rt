@@ -16,6 +16,7 @@ use natural::Natural;
 use std::alloc::{AllocError, Global};
 
 /// The max-min fair rates of some flows, as whole numbers of parts of one unit of the caps.
+#[derive(Drop)]
 pub struct FairParts {
     /// How many parts are one unit of the caps.
     pub scale: Natural,
@@ -25,23 +26,6 @@ pub struct FairParts {
     pub levels: Vec<Natural>,
     /// The place of each flow's rate among the levels. `None` stands for a flow that nothing limits.
     pub level_of: Vec<Option<usize>>,
-}
-
-impl Drop for FairParts {
-    /// Lets go of what it holds.
-    #[inline(always)]
-    fn drop(self) {
-        let FairParts {
-            scale,
-            growth,
-            levels,
-            level_of,
-        } = self;
-        drop(scale);
-        drop(growth);
-        drop(levels);
-        drop(level_of);
-    }
 }
 
 impl FairParts {

@@ -1,8 +1,9 @@
 //! What limits flows: the sides that the caps make.
 ghost use Rattle.std.specs.Prelude.{◌≡◌, OnOk, ◌<◌, [], ◌∷◌, List, Some, IfOk, IfSome, IfErr, map, All, AllPairs, length};
-ghost use Rattle.std.specs.Prelude.{Option, None};
+ghost use Rattle.std.specs.Prelude.{Option, None, true};
 ghost use Rattle.std.specs.Fn.{CalledAt, TakesAt, CalledAtTwo, TakesAtTwo};
 ghost use Rattle.fair_rates.specs.Sides.Answers.{Answered, AnswerInOrder, CallableOnEach, CallableOnEachPair, origins};
+ghost use Rattle.fair_rates.specs.Sides.Answers.{CalledIfDelivered};
 ghost use Rattle.fair_rates.specs.Sides.Answers.{recipients, pairs};
 ghost use Rattle.fair_rates.specs.Sides.Subjects.{sides_of, asks_of_one};
 ghost use Rattle.fair_rates.specs.Sides.Subjects.{sent_between};
@@ -312,6 +313,22 @@ fn register_flow<'a, P: Peer>(
     })
 }
 
+/// The cap of what the flow's recipient may receive, for which it is asked only where it receives the flow.
+fn ingress_of<P, I>(flow: &Flow<P>, ingress_cap: &mut I) -> Option<u128>
+where
+    P: Peer,
+    I: FnMut(&P) -> Option<u128>,
+    requires { flow.now.delivered ≡ true → TakesAt I.FnMut ingress_cap.old flow.now.recipient }
+    ensures { CalledIfDelivered (CalledAt I.FnMut) flow.now.delivered ingress_cap.old flow.now.recipient result
+        ingress_cap.new }
+{
+    if flow.delivered {
+        ingress_cap(&flow.recipient)
+    } else {
+        None
+    }
+}
+
 /// The sides of the flows, in the order in which they come into being.
 pub(crate) fn sides<P, E, I, L>(
     alloc: Global,
@@ -341,11 +358,7 @@ where
     let mut expected = FIRST;
     for (place, flow) in flows.iter().enumerate() {
         let egress = egress_cap(&flow.origin);
-        let ingress = if flow.delivered {
-            ingress_cap(&flow.recipient)
-        } else {
-            None
-        };
+        let ingress = ingress_of(flow, &mut ingress_cap);
         let link = link_cap(&flow.origin, &flow.recipient);
         let caps = FlowCaps {
             egress,

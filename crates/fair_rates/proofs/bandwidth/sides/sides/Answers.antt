@@ -1,10 +1,9 @@
 use Rattle.fair_rates.proofs.Common.{refl, [], ◌∙◌, ◌≡◌, arith, take, ◌<◌, CalledAt, TakesAt, CalledAtTwo, TakesAtTwo}
-use Rattle.fair_rates.proofs.Common.{take_all, Answered, CalledIfDelivered}
+use Rattle.fair_rates.proofs.Common.{take_all, Answered}
 use Rattle.fair_rates.proofs.Lists.AllPairs.{AllPairs-from_later}
 use Rattle.fair_rates.proofs.Sides.Registry.{finds_sides}
-use Rattle.fair_rates.proofs.Sides.FlowByFlow.{passed, called, not_called, origin_next, recipient_next, pair_next}
+use Rattle.fair_rates.proofs.Sides.FlowByFlow.{passed, origin_next, recipient_next, pair_next}
 use Rattle.fair_rates.proofs.Sides.Users.{users_of}
-use Rattle.fair_rates.proofs.bandwidth.sides.sides.Goals.{then-flow, else-flow}
 use Rattle.fair_rates.proofs.bandwidth.sides.sides.Goals as goal
 
 pub loop-place-init : goal.loop-place-init
@@ -27,7 +26,7 @@ loop-place-preserved g c =
     let a : Answered g.row.P.Denot = record {
       flow = flow;
       egress = c.egress_cap-egress.result;
-      ingress = c.if-flow.ingress;
+      ingress = c.ingress_of-ingress.result;
       link = c.link_cap-link.result;
     } in
     let egress_call : CalledAt g.E.FnMut c.loop-place.egress_cap flow.origin a.egress c.egress_cap-egress.new.self =
@@ -35,21 +34,13 @@ loop-place-preserved g c =
     let link_call : CalledAtTwo g.L.FnMut c.loop-place.link_cap flow.origin flow.recipient a.link
     c.link_cap-link.new.self =
     record { first = _; second = _; shows = (refl, refl); called = c.link_cap-link.ensures } in
-    let ingress_call : CalledIfDelivered (CalledAt g.I.FnMut) flow.delivered c.loop-place.ingress_cap flow.recipient
-    a.ingress c.if-flow.ingress_cap =
-    elim c.if-flow.branch [
-      | then-flow w ↦ called (CalledAt g.I.FnMut) c.loop-place.ingress_cap flow.recipient a.ingress
-          c.if-flow.ingress_cap flow.delivered _ _ w.if-flow.true w.ingress-is w.ingress_cap-is
-          (record { shown = _; shows = refl; called = w.ingress_cap-ingress.ensures })
-      | else-flow w ↦ not_called (CalledAt g.I.FnMut) c.loop-place.ingress_cap flow.recipient a.ingress
-          c.if-flow.ingress_cap flow.delivered w.if-flow.false w.ingress-is w.ingress_cap-is
-    ] in
     record {
       egress = (origin_next (TakesAt g.E.FnMut) (CalledAt g.E.FnMut) c.loop-place.egress_cap c.args.flows.now n flow
           (omega arith) c.index-flows-place.is inv.egress).1 _ _ egress_call;
       ingress =
           recipient_next (TakesAt g.I.FnMut) (CalledAt g.I.FnMut) c.loop-place.ingress_cap c.args.flows.now n flow
-          (omega arith) c.index-flows-place.is inv.ingress a.ingress c.if-flow.ingress_cap ingress_call;
+          (omega arith) c.index-flows-place.is inv.ingress a.ingress c.ingress_of-ingress.new.ingress_cap
+          c.ingress_of-ingress.ensures;
       link = (pair_next (TakesAtTwo g.L.FnMut) (CalledAtTwo g.L.FnMut) c.loop-place.link_cap c.args.flows.now n flow
           (omega arith) c.index-flows-place.is inv.link).1 _ _ link_call;
       passed =
@@ -62,11 +53,11 @@ loop-place-preserved g c =
             link = c.loop-place.link_cap;
           }) (record {
             egress = c.egress_cap-egress.new.self;
-            ingress = c.if-flow.ingress_cap;
+            ingress = c.ingress_of-ingress.new.ingress_cap;
             link = c.link_cap-link.new.self;
           })
           inv.passed (omega arith) c.index-flows-place.is
-          (record { origin = egress_call; recipient = ingress_call; pair = link_call });
+          (record { origin = egress_call; recipient = c.ingress_of-ingress.ensures; pair = link_call });
     }
 
 pub returns-clause-sides : goal.returns-clause-sides

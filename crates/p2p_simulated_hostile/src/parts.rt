@@ -1,0 +1,77 @@
+//! Numbers and rows of owners, where an allocation for them may be refused.
+use chains::Chains;
+use natural::Natural;
+use std::alloc::{AllocError, Global};
+use std::process::Abort;
+
+/// A number of five limbs is doubled, or stays as it was.
+fn double(rt: &(impl Abort + AllocGlobal)) -> Result<(), AllocError> {
+    let mut n = Natural::from_u128(rt.alloc(), u128::MAX);
+    for _ in 0..3 {
+        n.multiply(u64::MAX)?;
+    }
+    let before = n.clone()?;
+    let doubled = n.add_assign(&before);
+    assert_eq!(rt; n == before, doubled.is_err());
+    doubled
+}
+
+/// For `make hostile`: some allocation may be refused.
+#[test]
+fn sums_with_little_memory(rt: HostRuntime) {
+    if double(&rt).is_err() {
+        double(&rt).expect(&rt, "no sum once more");
+    }
+}
+
+/// Six rows of two owners in turn, right after a mark.
+fn two_owners(alloc: Global) -> Result<Chains, AllocError> {
+    let mut chains = Chains::new(alloc);
+    chains.add_owner()?;
+    chains.add_owner()?;
+    for row in 0..6 {
+        if row % 2 < chains.owners() {
+            chains.add(row % 2)?;
+        }
+    }
+    chains.commit();
+    Ok(chains)
+}
+
+/// Whose the row is.
+fn owner(chains: &Chains, row: usize) -> Option<usize> {
+    if row < chains.rows() {
+        chains.owner(row)
+    } else {
+        None
+    }
+}
+
+/// The first rows go, so many of them.
+fn take_first(chains: &mut Chains, count: usize) -> Result<(), AllocError> {
+    for row in 0..count {
+        if let Some(owner) = owner(chains, row) {
+            chains.take(owner, row)?;
+        }
+    }
+    Ok(())
+}
+
+/// Four rows go, or all six stay.
+fn take_four(rt: &(impl Abort + AllocGlobal)) -> Result<(), AllocError> {
+    let mut chains = two_owners(rt.alloc())?;
+    let taken = take_first(&mut chains, 4);
+    for row in 0..6 {
+        let stays = taken.is_err() || row >= 4;
+        assert_eq!(rt; owner(&chains, row).is_some(), stays);
+    }
+    taken
+}
+
+/// For `make hostile`: some allocation may be refused.
+#[test]
+fn rows_with_little_memory(rt: HostRuntime) {
+    if take_four(&rt).is_err() {
+        take_four(&rt).expect(&rt, "no rows once more");
+    }
+}
