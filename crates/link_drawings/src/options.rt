@@ -16,7 +16,7 @@ pub enum Form {
 }
 
 /// What is asked of a run.
-#[derive(Debug)]
+#[derive(Debug, Drop)]
 pub struct Options {
     pub form: Form,
     /// What stands above the picture.
@@ -27,23 +27,6 @@ pub struct Options {
     pub from: Option<u64>,
     /// The last moment that is shown; where there is none, that of the last event or arrival.
     pub until: Option<u64>,
-}
-
-impl Drop for Options {
-    /// Lets go of what it holds.
-    #[inline(always)]
-    fn drop(self) {
-        let Options {
-            form,
-            title,
-            peers,
-            from: _,
-            until: _,
-        } = self;
-        drop(form);
-        drop(title);
-        drop(peers);
-    }
 }
 
 impl Options {
