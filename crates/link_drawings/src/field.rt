@@ -135,10 +135,10 @@ impl Line {
                 };
                 write!(out, "{open}\"{name}\":")?;
                 match field {
-                    Field::None => write!(out, "null"),
+                    Field::None => out.write_all(b"null"),
                     Field::Word(_) | Field::Fraction(_, _) => write!(out, "\"{field}\""),
-                    Field::Flag(true) => write!(out, "true"),
-                    Field::Flag(false) => write!(out, "false"),
+                    Field::Flag(true) => out.write_all(b"true"),
+                    Field::Flag(false) => out.write_all(b"false"),
                     _ => write!(out, "{field}"),
                 }
             }

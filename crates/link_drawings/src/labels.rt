@@ -47,7 +47,7 @@ pub(crate) struct Moment(pub(crate) u64);
 impl fmt::Display for Moment {
     fn fmt<W: fmt::Write>(&self, f: &mut fmt::Formatter<W>) -> fmt::Result {
         if self.0 == 0 {
-            return write!(f, "0 s");
+            return f.write_str("0 s");
         }
         let (unit, name) = unit_of(self.0);
         let parts = u128::from(self.0);
@@ -167,11 +167,11 @@ impl fmt::Display for Marked<'_> {
     fn fmt<W: fmt::Write>(&self, f: &mut fmt::Formatter<W>) -> fmt::Result {
         for letter in self.0.chars() {
             match letter {
-                '<' => write!(f, "&lt;")?,
-                '>' => write!(f, "&gt;")?,
-                '&' => write!(f, "&amp;")?,
-                '"' => write!(f, "&quot;")?,
-                other if other.is_control() => write!(f, " ")?,
+                '<' => f.write_str("&lt;")?,
+                '>' => f.write_str("&gt;")?,
+                '&' => f.write_str("&amp;")?,
+                '"' => f.write_str("&quot;")?,
+                other if other.is_control() => f.write_str(" ")?,
                 other => write!(f, "{other}")?,
             }
         }

@@ -99,9 +99,9 @@ fn write_cap<W: Write>(
         }
     }
     sum_up(board, history, frame, &list);
-    write!(out, "],u:[")?;
+    out.write_all(b"],u:[")?;
     write_steps(out, &board.high, 1000)?;
-    write!(out, "],f:[")?;
+    out.write_all(b"],f:[")?;
     write_held(out, frame, board)?;
     writeln!(out, "]}},")
 }
@@ -180,15 +180,15 @@ fn write_pair<W: Write>(
     write!(out, "{{a:\"{origin}\",b:\"{recipient}\",c:{shade},r:[")?;
     if layout.is_detailed {
         write_pieces(out, frame, track, true)?;
-        write!(out, "],x:[")?;
+        out.write_all(b"],x:[")?;
         write_pieces(out, frame, track, false)?;
     } else {
         board.clear();
         board.add(frame, &track.pieces, true);
         write_steps(out, &board.high, MILLION)?;
-        write!(out, "],x:[")?;
+        out.write_all(b"],x:[")?;
     }
-    write!(out, "],m:[")?;
+    out.write_all(b"],m:[")?;
     for message in track.messages.iter().take(room) {
         write_message(out, frame, message)?;
     }
@@ -235,8 +235,8 @@ fn write_message<W: Write>(out: &mut W, frame: Frame, message: &Sent) -> io::Res
                 let before = frame.first().saturating_sub(moment);
                 write!(out, ",-{before}")?;
             }
-            None => write!(out, ",null")?,
+            None => out.write_all(b",null")?,
         }
     }
-    write!(out, ",")
+    out.write_all(b",")
 }

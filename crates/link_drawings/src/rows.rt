@@ -123,7 +123,7 @@ pub(crate) fn draw_name<W: Write>(
     let class = if pitch < 24 { "n i" } else { "n" };
     write!(out, "<text x=\"{x}\" y=\"{y}\" class=\"{class}\"")?;
     if letters(side) > 17 {
-        write!(out, " textLength=\"220\" lengthAdjust=\"spacingAndGlyphs\"")?;
+        out.write_all(b" textLength=\"220\" lengthAdjust=\"spacingAndGlyphs\"")?;
     }
     writeln!(out, ">{side}</text>")
 }
@@ -152,7 +152,7 @@ fn draw_stalls<W: Write>(out: &mut W, frame: Frame, band: Band, track: &Track) -
     for piece in &track.pieces {
         if piece.rate == 0 && shows(frame, piece.from, piece.to) {
             if !is_open {
-                write!(out, "<path class=\"s\" d=\"")?;
+                out.write_all(b"<path class=\"s\" d=\"")?;
                 is_open = true;
             }
             let x = frame.at(piece.from);
@@ -175,7 +175,7 @@ fn draw_waiting<W: Write>(out: &mut W, frame: Frame, row: Row, track: &Track) ->
         .saturating_add(margin.div_ceil(2))
         .saturating_sub(row.lane(1));
     let mut lines = Lines::new(height);
-    write!(out, "<path class=\"w\" d=\"")?;
+    out.write_all(b"<path class=\"w\" d=\"")?;
     for (place, message) in track.messages.iter().enumerate() {
         let start = message.start.unwrap_or(frame.last());
         if start > message.enqueued && shows(frame, message.enqueued, start) {
@@ -196,7 +196,7 @@ fn draw_waiting<W: Write>(out: &mut W, frame: Frame, row: Row, track: &Track) ->
 fn draw_latency<W: Write>(out: &mut W, frame: Frame, row: Row, track: &Track) -> io::Result<()> {
     let height = row.top.saturating_add(row.margin().div_ceil(3));
     let mut lines = Lines::new(height);
-    write!(out, "<path class=\"l\" d=\"")?;
+    out.write_all(b"<path class=\"l\" d=\"")?;
     for (place, message) in track.messages.iter().enumerate() {
         if let (Some(done), Some(arrives)) = (message.done, message.deliver_at) {
             if arrives > done && shows(frame, done, arrives) {
@@ -218,7 +218,7 @@ fn draw_latency<W: Write>(out: &mut W, frame: Frame, row: Row, track: &Track) ->
 fn draw_ends<W: Write>(out: &mut W, frame: Frame, row: Row, track: &Track) -> io::Result<()> {
     let size = (row.margin() / 2).clamp(2, 8);
     let mut before = 0u64;
-    write!(out, "<path class=\"a\" d=\"")?;
+    out.write_all(b"<path class=\"a\" d=\"")?;
     for (place, message) in track.messages.iter().enumerate() {
         if let Some(arrives) = message.deliver_at {
             let x = frame.at(arrives);
@@ -229,7 +229,7 @@ fn draw_ends<W: Write>(out: &mut W, frame: Frame, row: Row, track: &Track) -> io
             }
         }
     }
-    write!(out, "\"/>\n<path class=\"d\" d=\"")?;
+    out.write_all(b"\"/>\n<path class=\"d\" d=\"")?;
     for message in &track.messages {
         if let (Some(done), None) = (message.done, message.deliver_at) {
             if shows(frame, done, done) {
@@ -293,6 +293,6 @@ fn write_moments<W: Write>(out: &mut W, message: &Sent, start: Option<u64>) -> i
             let arrives = Moment(arrives);
             write!(out, ", arrives {arrives}")
         }
-        None => write!(out, ", dropped"),
+        None => out.write_all(b", dropped"),
     }
 }

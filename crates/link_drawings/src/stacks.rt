@@ -34,7 +34,7 @@ pub(crate) fn draw_cap<W: Write>(
     };
     sum_up(board, history, frame, stretches);
     draw_foot(out, band.foot)?;
-    write!(out, "<path class=\"z\" d=\"")?;
+    out.write_all(b"<path class=\"z\" d=\"")?;
     fill(out, frame, board, band)?;
     writeln!(out, "\"><title>{side}: use of its cap</title></path>")?;
     for quarter in 1u64..5 {
@@ -101,7 +101,7 @@ pub(crate) fn draw_peer<W: Write>(
         draw_stack(out, history, frame, board, band, side)?;
     } else {
         add_side(board, history, frame, side);
-        write!(out, "<path class=\"z\" d=\"")?;
+        out.write_all(b"<path class=\"z\" d=\"")?;
         fill(out, frame, board, band)?;
         writeln!(out, "\"><title>{side}</title></path>")?;
     }
@@ -143,7 +143,7 @@ fn draw_stack<W: Write>(
 
 /// The caps of the side as a line, where it is in the row.
 fn draw_caps<W: Write>(out: &mut W, frame: Frame, band: Band, caps: &[Cap]) -> io::Result<()> {
-    write!(out, "<path class=\"k\" d=\"")?;
+    out.write_all(b"<path class=\"k\" d=\"")?;
     for (place, cap) in caps.iter().enumerate() {
         let end = match caps.get(place.saturating_add(1)) {
             Some(next) => next.from,
@@ -183,7 +183,7 @@ pub(crate) fn draw_cap_name<W: Write>(
             let pace = Pace(rate);
             write!(out, "{pace}")?;
         }
-        _ => write!(out, "changes")?,
+        _ => out.write_all(b"changes")?,
     }
     writeln!(out, "</text>")
 }

@@ -1,12 +1,10 @@
 -- Closures that look caps up, and stay as they are: what is allocated or refused with them, under these caps.
-use Rattle.std.proofs.Common.{◌≡◌, ◌⊎◌, ℕ, List, Option, Result, Ok, Err, IfOk, IfErr, inl, inr, subst}
-use Rattle.std.specs.Ordering.{nat_cmp}
-use Rattle.fair_rates.specs.declared.bandwidth.Flow.{Flow}
-use Rattle.fair_rates.specs.declared.bandwidth.Rate.{Rate}
-use Rattle.fair_rates.specs.declared.error.Error.{Error}
-use Rattle.fair_rates.specs.declared.error.Error.TheVariants.{OutOfMemory, NumberTooLarge}
+use Rattle.link_scripts.proofs.Common.{◌≡◌, ℕ, List, Option, Result, Ok, Err, IfOk, IfErr, inl, inr, subst, nat_cmp}
+use Rattle.link_scripts.proofs.Common.{Flow, Rate, Error, OutOfMemory, Calls, PairCalls}
+use Rattle.std.proofs.Common.{◌⊎◌}
+use Rattle.fair_rates.specs.declared.error.Error.TheVariants.{NumberTooLarge}
 use Rattle.fair_rates.specs.Fairness.Allocation.{IsFairUnderCaps}
-use Rattle.fair_rates.specs.Sides.Answers.{Calls, PairCalls, States, origins, recipients, pairs}
+use Rattle.fair_rates.specs.Sides.Answers.{States, origins, recipients, pairs}
 use Rattle.fair_rates.specs.Sides.Caps.{Caps}
 use Rattle.fair_rates.specs.Fairness.UnderCaps.{AnswerBy, IsFairById}
 use Rattle.fair_rates.specs.Refusals.TooLarge.{AreTooLarge, AreTooLargeUnderCaps, IsTooLarge}

@@ -1,14 +1,12 @@
 -- Words that are taken column by column.
-use Rattle.std.proofs.Common.{◌≡◌, ℕ, ◌^◌, ◌<◌, ◌≤◌, Bool, true, false, ◌&&◌, eqb, List, [], ◌∷◌, ◌++◌, Option, None}
-use Rattle.std.proofs.Common.{Some, codes, refl, sym, ap, ap₂, ◌∙◌, subst, arith, eq-eqb}
+use Rattle.link_scripts.proofs.Common.{◌≡◌, ℕ, ◌^◌, ◌<◌, ◌≤◌, Bool, true, false, ◌&&◌, eqb, List, [], ◌∷◌, ◌++◌, Option}
+use Rattle.link_scripts.proofs.Common.{None, Some, codes, refl, sym, ap, ap₂, ◌∙◌, subst, arith, eq-eqb, Command, Takes}
+use Rattle.link_scripts.proofs.Common.{number_word, cap_word, flag_word, command_words, IsNumberInRange, IsCapInRange}
+use Rattle.link_scripts.proofs.Common.{IsSmallCapInRange, IsCommandInRange, weight_word, IsWeightInRange, NonZeroU64}
 use Rattle.link_scheduler.specs.declared.replay.Call.TheVariants as calls
-use Rattle.link_scripts.specs.declared.linkrun.command.Command.{Command}
 use Rattle.link_scripts.specs.declared.linkrun.command.Command.TheVariants as commands
 use Rattle.link_scripts.specs.declared.linkrun.command.NetworkLine.TheVariants as lines
-use Rattle.link_scripts.specs.Script.{Takes, number_word, cap_word, flag_word, command_words, IsNumberInRange}
-use Rattle.link_scripts.specs.Script.{IsCapInRange, IsSmallCapInRange, IsLengthInRange, IsCommandInRange}
-use Rattle.link_scripts.specs.Script.{weight_word, IsWeightInRange}
-use Rattle.std.specs.declared.num.NonZeroU64.{NonZeroU64}
+use Rattle.link_scripts.specs.Script.{IsLengthInRange}
 
 -- one word was taken, or no value in range stands there
 abbrev pub TakesWord : {A : Type 0} → (A → List ℕ) → (A → Type 0) → List (List ℕ) → Option A → List (List ℕ) → Type 0

@@ -1,9 +1,7 @@
 -- The number that digits write, read from the first to the last.
-use Rattle.std.proofs.Common.{◌≡◌, ℕ, ◌+◌, ◌*◌, ◌<◌, ◌≤◌, List, [], ◌∷◌, length, get_or, drop, refl, sym, ap, ◌∙◌}
-use Rattle.std.proofs.Common.{subst}
-use Rattle.std.specs.Char.{digit_value}
-use Rattle.std.specs.Str.Parse.{AllDigits, digits_value, digits_value_after}
-use Rattle.std.proofs.lemmas.List.{drop_more, drop_all}
+use Rattle.link_scripts.proofs.Common.{◌≡◌, ℕ, ◌+◌, ◌*◌, ◌<◌, ◌≤◌, List, [], ◌∷◌, length, get_or, drop, refl, sym, ap}
+use Rattle.link_scripts.proofs.Common.{◌∙◌, subst, digit_value, AllDigits, digits_value, digits_value_after, drop_more}
+use Rattle.std.proofs.lemmas.List.{drop_all}
 use Rattle.link_scripts.proofs.Numerals.{value_after-ge}
 
 -- the first i bytes of a word are digits and write n

@@ -1,31 +1,20 @@
 -- Calls that a session makes one after another, and what is printed of them.
-use Rattle.std.proofs.Common.{◌≡◌, ℕ, List, [], ◌∷◌, ◌++◌, Option, map, refl, sym, ap, ◌∙◌, subst}
-use Rattle.std.proofs.Common.{append_assoc, append-nil, Result, Ok, Err, IfOk, IfErr, OnOk, OnErr}
-use Rattle.std.specs.Ordering.{nat_cmp}
-use Rattle.std.specs.Io.KnownBytes.{Appends}
-use Rattle.std.proofs.lemmas.List.{map-append}
-use Rattle.std.proofs.lemmas.List.Concat.{flat_map-append}
-use Rattle.fair_rates.specs.declared.error.Error.{Error}
-use Rattle.link_events.specs.declared.outgoing.Outgoing.{Outgoing}
-use Rattle.link_pairs.specs.Pairs.Messages.{completed_of}
-use Rattle.link_simulation.specs.Simulation.Calls.{Call, call_enqueue}
-use Rattle.link_simulation.specs.Simulation.Messages.{Message}
-use Rattle.link_simulation.specs.Simulation.World.{Completed}
+use Rattle.link_scripts.proofs.Common.{◌≡◌, ℕ, List, [], ◌∷◌, ◌++◌, Option, map, refl, sym, ap, ◌∙◌, subst}
+use Rattle.link_scripts.proofs.Common.{append_assoc, append-nil, Result, Ok, Err, IfOk, IfErr, OnOk, OnErr, nat_cmp}
+use Rattle.link_scripts.proofs.Common.{Appends, map-append, flat_map-append, Error, Outgoing, completed_of, Call}
+use Rattle.link_scripts.proofs.Common.{call_enqueue, Message, Completed, Planned, reply_of, MayRefuseCall, planned_of}
+use Rattle.link_scripts.proofs.Common.{MakesEach, Answer, Session, done_line, done_text, reply_text, refusal_line}
+use Rattle.link_scripts.proofs.Common.{answer_text, PrintsInTurn, SaysSame, KeepsPlanned, world_call, zeroed}
+use Rattle.link_scripts.proofs.Common.{zeroed_sends, AnswersEach}
 use Rattle.link_simulation.specs.Simulation.Replies.{Reply, reply_done, reply_refused}
-use Rattle.link_simulation.specs.Rule.Planned.{Planned}
 use Rattle.link_scheduler.specs.declared.replay.Call as script
 use Rattle.link_scheduler.specs.declared.replay.Reply as reply_code
 use Rattle.link_scheduler.specs.declared.replay.Reply.TheVariants as replies
-use Rattle.link_scheduler.specs.Calls.Replay.{reply_of, IsReplyTo, MayRefuseCall}
-use Rattle.link_scheduler.specs.Calls.State.{planned_of, MakesEach}
+use Rattle.link_scheduler.specs.Calls.Replay.{IsReplyTo}
 use Rattle.link_scheduler.proofs.Calls.Replay.{answered_by_rule, refused_by_rule}
-use Rattle.link_scripts.specs.declared.linkrun.answer.Answer.{Answer}
 use Rattle.link_scripts.specs.declared.linkrun.answer.Answer.TheVariants as answers
-use Rattle.link_scripts.specs.declared.linkrun.session.Session.{Session}
-use Rattle.link_scripts.specs.Answer.{done_line, done_text, reply_text, refusal_line, answer_text}
-use Rattle.link_scripts.specs.Gathered.{AnswersInTurn, PrintsInTurn}
-use Rattle.link_scripts.specs.Session.{SaysSame, KeepsPlanned}
-use Rattle.link_scripts.specs.Schedule.{world_call, zeroed, zeroed_sends, AnswersEach, AnswersCall}
+use Rattle.link_scripts.specs.Gathered.{AnswersInTurn}
+use Rattle.link_scripts.specs.Schedule.{AnswersCall}
 use Rattle.link_scripts.proofs.Printing.{Appends-append}
 
 -- ---- the answers

@@ -1,3 +1,4 @@
+mod Common
 pub mod CapAnswers
 pub mod Columns
 pub mod Digits

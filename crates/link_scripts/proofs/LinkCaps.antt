@@ -1,9 +1,8 @@
 -- Caps of links, looked up by origin and recipient.
-use Rattle.std.proofs.Common.{◌≡◌, ℕ, cond, ◌&&◌, eqb, Option, sym, ap, ap₂, ◌∙◌, arith}
+use Rattle.link_scripts.proofs.Common.{◌≡◌, ℕ, cond, ◌&&◌, eqb, Option, sym, ap, ap₂, ◌∙◌, arith, nat_cmp, nat_tests}
+use Rattle.link_scripts.proofs.Common.{pair_cmp}
 use Rattle.std.specs.Cmp.{tied_then}
-use Rattle.std.specs.Ordering.{is_eq, nat_cmp}
-use Rattle.std.proofs.lemmas.Bool.Decides.{nat_tests}
-use Rattle.link_pairs.specs.Pairs.Entries.{pair_cmp}
+use Rattle.std.specs.Ordering.{is_eq}
 use Rattle.link_scripts.specs.Session.{with_said_link}
 
 -- the order of numbers tells equal ones

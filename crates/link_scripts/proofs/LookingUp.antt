@@ -1,6 +1,5 @@
 -- Closures that look caps up, and stay as they are.
-use Rattle.std.proofs.Common.{◌≡◌, ℕ, Option}
-use Rattle.fair_rates.specs.Sides.Answers.{Calls, PairCalls}
+use Rattle.link_scripts.proofs.Common.{◌≡◌, ℕ, Option, Calls, PairCalls}
 
 -- from its one state, the closure answers by that function of the peer, and stays in it
 abbrev pub LooksUp : {F P : Type 0} → Calls F P → F → (P → Option ℕ) → Type 0

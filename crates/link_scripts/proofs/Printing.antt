@@ -1,16 +1,11 @@
 -- What is printed line by line.
-use Rattle.std.proofs.Common.{◌≡◌, ℕ, List, [], ◌∷◌, ◌++◌, Option, None, Some, map, refl, sym, ap, ◌∙◌, subst}
-use Rattle.std.proofs.Common.{append_assoc, append-nil, codes, decimal, length}
+use Rattle.link_scripts.proofs.Common.{◌≡◌, ℕ, List, [], ◌∷◌, ◌++◌, Option, None, Some, map, refl, sym, ap, ◌∙◌, subst}
+use Rattle.link_scripts.proofs.Common.{append_assoc, append-nil, codes, length, Appends, deref_pair, map-append}
+use Rattle.link_scripts.proofs.Common.{flat_map-append, Rate, completed_of, Completed, rates_text, done_line, done_text}
+use Rattle.std.proofs.Common.{decimal}
 use denote.Ref.{Bor}
-use Rattle.std.specs.Io.KnownBytes.{Appends}
-use Rattle.std.specs.Map.Iter.{deref_pair}
-use Rattle.std.proofs.lemmas.List.{map-append}
-use Rattle.std.proofs.lemmas.List.Concat.{flat_map-append}
-use Rattle.fair_rates.specs.declared.bandwidth.Rate.{Rate}
 use Rattle.link_pairs.specs.declared.completion.Completion.{Completion}
-use Rattle.link_pairs.specs.Pairs.Messages.{completed_of}
-use Rattle.link_simulation.specs.Simulation.World.{Completed}
-use Rattle.link_scripts.specs.Answer.{rate_line, rates_text, moment_word, done_line, done_text}
+use Rattle.link_scripts.specs.Answer.{rate_line, moment_word}
 
 -- one text after another
 pub Appends-append : (before between after : Option (List ℕ)) (first second : List ℕ) → Appends before between first

@@ -1,19 +1,22 @@
 -- What a bounded read up to the end byte gives.
-use Rattle.std.proofs.Common.{◌≡◌, ◌≢◌, ℕ, ◌+◌, ◌-◌, ◌<◌, ◌≤◌, suc, Bool, true, false, cond, eqb, List, [], ◌∷◌, ◌++◌}
-use Rattle.std.proofs.Common.{length, get_or, take, drop, refl, sym, ap, ◌∙◌, subst, arith, append_assoc, length-append}
-use Rattle.std.proofs.Common.{length-take, take-append-drop, eq-eqb, Option, None, Some, ⊎_elim}
+use Rattle.link_scripts.proofs.Common.{◌≡◌, ◌≢◌, ℕ, ◌+◌, ◌-◌, ◌<◌, ◌≤◌, Bool, true, false, cond, eqb, List, [], ◌∷◌}
+use Rattle.link_scripts.proofs.Common.{◌++◌, length, get_or, take, drop, refl, sym, ap, ◌∙◌, subst, arith, append_assoc}
+use Rattle.link_scripts.proofs.Common.{length-append, take-append-drop, eq-eqb, Option, None, Some, All, IfSome}
+use Rattle.link_scripts.proofs.Common.{take_all, drop_more, IsLineAhead}
+use Rattle.std.proofs.Common.{suc}
+use Rattle.std.proofs.Common.{length-take, ⊎_elim}
 use Rattle.std.proofs.lemmas.Bool.{cases_lt}
 use borrow.Author.Tests.{eqb-true}
-use Rattle.std.specs.List.{All, Contains}
+use Rattle.std.specs.List.{Contains}
 use Rattle.std.specs.Io.{StopsAt}
 use Rattle.std.specs.Io.BufRead.{take_through, drop_through}
 use Rattle.std.specs.Io.KnownBytes.{prepend_known}
-use Rattle.std.specs.Option.{IfSome, IfNone, option_map}
-use Rattle.std.proofs.lemmas.List.{take_all, take_at, drop_more, get_or_default, get_or-take}
+use Rattle.std.specs.Option.{IfNone, option_map}
+use Rattle.std.proofs.lemmas.List.{take_at, get_or_default, get_or-take}
 use Rattle.memchr.specs.Find.{IsFirstByte, is_byte}
 use Rattle.link_scripts.specs.declared.linkrun.line.LineEnd.{LineEnd}
 use Rattle.link_scripts.specs.declared.linkrun.line.LineEnd.TheVariants.{Newline, Input, TooLong}
-use Rattle.link_scripts.specs.Lines.{LacksEndByte, IsFrontOf, IsCut, IsLineAhead}
+use Rattle.link_scripts.specs.Lines.{LacksEndByte, IsFrontOf, IsCut}
 
 -- the last of some bytes, or 0
 last : List ℕ → ℕ

@@ -1,9 +1,6 @@
 -- What is said stays said.
-use Rattle.std.proofs.Common.{◌∙◌, Result, Ok, Err, OnOk, OnErr}
-use Rattle.fair_rates.specs.declared.error.Error.{Error}
-use Rattle.link_scripts.specs.declared.linkrun.answer.Answer.{Answer}
-use Rattle.link_scripts.specs.declared.linkrun.session.Session.{Session}
-use Rattle.link_scripts.specs.Session.{SaysSame, KeepsPlanned}
+use Rattle.link_scripts.proofs.Common.{◌∙◌, Result, Ok, Err, OnOk, OnErr, Error, Answer, Session, SaysSame}
+use Rattle.link_scripts.proofs.Common.{KeepsPlanned}
 
 -- what stays said twice stays said
 pub says_same_on : (a b c : Session) → SaysSame a b → SaysSame b c → SaysSame a c

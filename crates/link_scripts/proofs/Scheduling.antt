@@ -1,14 +1,10 @@
 -- Calls of a script, and the scheduler.
-use Rattle.std.proofs.Common.{◌≡◌, ◌≢◌, ℕ, List, refl, sym, subst}
+use Rattle.link_scripts.proofs.Common.{◌≡◌, ◌≢◌, ℕ, List, refl, sym, subst, Error, OutOfMemory, Refuses, MayRefuseCall}
+use Rattle.link_scripts.proofs.Common.{Planned, Call, call_enqueue, call_enqueue_all}
 use Rattle.std.specs.declared.cmp.Ordering.{Ordering}
-use Rattle.fair_rates.specs.declared.error.Error.{Error}
-use Rattle.fair_rates.specs.declared.error.Error.TheVariants.{OutOfMemory}
 use Rattle.link_scheduler.specs.declared.transmitter.State.{State}
-use Rattle.link_scheduler.specs.Calls.State.{Refuses}
-use Rattle.link_scheduler.specs.Calls.Replay.{MayRefuseCall}
-use Rattle.link_simulation.specs.Rule.Planned.{Planned}
-use Rattle.link_simulation.specs.Simulation.Calls.{Call, call_limit, call_limit_link, call_enqueue, call_advance}
-use Rattle.link_simulation.specs.Simulation.Calls.{call_enqueue_all, call_next}
+use Rattle.link_simulation.specs.Simulation.Calls.{call_limit, call_limit_link, call_advance}
+use Rattle.link_simulation.specs.Simulation.Calls.{call_next}
 
 refuses_for_memory : (cmp : ℕ → ℕ → Ordering) (p : Planned ℕ) (call : Call ℕ) (why : Error) → why ≡ OutOfMemory
     → Refuses cmp p call why

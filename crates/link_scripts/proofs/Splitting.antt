@@ -1,12 +1,9 @@
 -- Lines cut into words at their spaces.
-use Rattle.std.proofs.Common.{◌≡◌, ℕ, ◌+◌, ◌<◌, ◌≤◌, eqb, false, List, [], ◌∷◌, ◌++◌, get_or, take, drop, length}
-use Rattle.std.proofs.Common.{take-append-drop, ap, sym, ◌∙◌, eq-eqb, subst}
-use Rattle.std.specs.List.{All}
-use Rattle.std.proofs.lemmas.List.{drop_more, take_all, take_more}
+use Rattle.link_scripts.proofs.Common.{◌≡◌, ℕ, ◌+◌, ◌<◌, ◌≤◌, eqb, false, List, [], ◌∷◌, ◌++◌, get_or, take, drop}
+use Rattle.link_scripts.proofs.Common.{length, take-append-drop, ap, sym, ◌∙◌, eq-eqb, subst, All, drop_more, take_all}
+use Rattle.link_scripts.proofs.Common.{take_more, slice_split_none, slice_split_at, parts_of}
 use Rattle.std.proofs.lemmas.List.Elements.{All-push}
-use Rattle.std.proofs.lemmas.List.Splits.{slice_split_none, slice_split_at}
 use Rattle.std.proofs.lemmas.Bool.{ne_eqb}
-use Rattle.link_scripts.specs.Words.{parts_of}
 
 -- none of the bytes is a space
 abbrev pub LackSpaces : List ℕ → Type 0

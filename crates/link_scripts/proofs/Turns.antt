@@ -1,18 +1,13 @@
 -- Commands that take their turn behind what is gathered.
-use Rattle.std.proofs.Common.{◌≡◌, ℕ, List, [], ◌∷◌, ◌++◌, Option, sym, ap, ◌∙◌, append-nil}
-use Rattle.std.proofs.Common.{Result, Ok, Err, IfOk, IfErr, OnOk, OnErr, inl, inr}
-use Rattle.std.specs.Io.KnownBytes.{Appends}
-use Rattle.fair_rates.specs.declared.error.Error.{Error}
-use Rattle.link_scripts.specs.declared.linkrun.answer.Answer.{Answer}
-use Rattle.link_scripts.specs.declared.linkrun.command.Command.{Command}
+use Rattle.link_scripts.proofs.Common.{◌≡◌, ℕ, List, [], ◌∷◌, ◌++◌, Option, sym, ap, ◌∙◌, append-nil, Result, Ok, Err}
+use Rattle.link_scripts.proofs.Common.{IfOk, IfErr, OnOk, OnErr, inl, inr, Appends, Error, Answer, Command, Session}
+use Rattle.link_scripts.proofs.Common.{answer_text, refusal_line, gathered_calls, PrintsInTurn, world_call, SaysSame}
+use Rattle.link_scripts.proofs.Common.{KeepsPlanned}
 use Rattle.link_scripts.specs.declared.linkrun.command.Command.TheVariants as commands
 use Rattle.link_scripts.specs.declared.linkrun.gathered.Gathered.{Gathered}
-use Rattle.link_scripts.specs.declared.linkrun.session.Session.{Session}
-use Rattle.link_scripts.specs.Answer.{answer_text, refusal_line}
-use Rattle.link_scripts.specs.Gathered.{gathered_calls, IsGathered, HasNone, PrintsInTurn, IsPerformed}
+use Rattle.link_scripts.specs.Gathered.{IsGathered, HasNone, IsPerformed}
 use Rattle.link_scripts.specs.Gathered.{TakesItsTurn}
-use Rattle.link_scripts.specs.Schedule.{world_call}
-use Rattle.link_scripts.specs.Session.{SaysSame, KeepsPlanned, SaysAfter, AnswersTo, MayRefuseCommand}
+use Rattle.link_scripts.specs.Session.{SaysAfter, AnswersTo, MayRefuseCommand}
 use Rattle.link_scripts.proofs.InTurn.{one_printed}
 
 module _ (gathered sent left : Gathered) (old between new : Session) (before printed after : Option (List ℕ))

@@ -1,34 +1,30 @@
 -- Which words say which values, and which words a line has.
-use Rattle.std.proofs.Common.{◌≡◌, ◌↔◌, ℕ, ◌^◌, ◌<◌, Bool, true, false, ◌&&◌, eqb, ltb, List, [], ◌∷◌, ◌++◌, Option}
-use Rattle.std.proofs.Common.{None, Some, length, get_or, codes, refl, sym, ap, ◌∙◌, subst, arith, eq-eqb, append-nil}
+use Rattle.link_scripts.proofs.Common.{◌≡◌, ◌↔◌, ℕ, ◌^◌, ◌<◌, Bool, true, false, ◌&&◌, eqb, List, [], ◌∷◌, ◌++◌, Option}
+use Rattle.link_scripts.proofs.Common.{None, Some, length, get_or, codes, refl, sym, ap, ◌∙◌, subst, arith, eq-eqb}
+use Rattle.link_scripts.proofs.Common.{append-nil, IfSome, NonZeroU64, All, IsUtf8, AllDigits, nat_tests}
+use Rattle.link_scripts.proofs.Common.{slice_split_none, slice_split_at, IsUtf8-from_ascii, digit_from_value, Flow}
+use Rattle.link_scripts.proofs.Common.{Command, Takes, number_word, cap_word, weight_word, flag_word, command_words}
+use Rattle.link_scripts.proofs.Common.{IsWeightInRange, IsNumberInRange, IsCapInRange, IsSmallCapInRange}
+use Rattle.link_scripts.proofs.Common.{IsCommandInRange, parts_of}
+use Rattle.std.proofs.Common.{ltb}
 use Rattle.std.proofs.Props.{props}
 use borrow.Author.Tests.{ne_eqb, ltb-true}
 use Rattle.std.specs.Int.NonZero.{non_zero_u64_get}
-use Rattle.std.specs.Option.{IfSome, MatchOption}
+use Rattle.std.specs.Option.{MatchOption}
 use Rattle.std.proofs.lemmas.Option.{same_Some}
-use Rattle.std.specs.declared.num.NonZeroU64.{NonZeroU64}
-use Rattle.std.specs.List.{All, list_all, join_with_byte}
-use Rattle.std.specs.Str.{IsUtf8}
-use Rattle.std.specs.Str.Parse.{AllDigits}
-use Rattle.std.proofs.lemmas.Bool.Decides.{nat_tests}
+use Rattle.std.specs.List.{list_all, join_with_byte}
 use Rattle.std.proofs.lemmas.List.{append_cancel_left}
 use Rattle.std.proofs.lemmas.List.Elements.{All-nil, All-cons}
-use Rattle.std.proofs.lemmas.List.Splits.{slice_split_none, slice_split_at, join_with_byte-slice_split}
-use Rattle.std.proofs.lemmas.Str.{IsUtf8-from_ascii}
+use Rattle.std.proofs.lemmas.List.Splits.{join_with_byte-slice_split}
 use Rattle.std.proofs.lemmas.Str.Ascii.{IsAscii-from_all}
-use Rattle.std.proofs.lemmas.Str.Parse.{digit_from_value}
 use Rattle.std.proofs.lemmas.Bool.{and_parts}
-use Rattle.fair_rates.specs.declared.bandwidth.Flow.{Flow}
 use Rattle.link_scheduler.specs.declared.replay.Call.{Call}
 use Rattle.link_scheduler.specs.declared.replay.Call.TheVariants as calls
-use Rattle.link_scripts.specs.declared.linkrun.command.Command.{Command}
 use Rattle.link_scripts.specs.declared.linkrun.command.Command.TheVariants as commands
 use Rattle.link_scripts.specs.declared.linkrun.command.NetworkLine.TheVariants as lines
-use Rattle.link_scripts.specs.Script.{Takes, number_word, cap_word, weight_word, flag_word, flow_words, call_words}
-use Rattle.link_scripts.specs.Script.{command_words, IsWeightInRange}
-use Rattle.link_scripts.specs.Script.{line_of, IsNumberInRange, IsCapInRange, IsSmallCapInRange, IsFlowInRange}
-use Rattle.link_scripts.specs.Script.{IsCallOfScriptInRange, IsCommandInRange}
-use Rattle.link_scripts.specs.Words.{parts_of}
+use Rattle.link_scripts.specs.Script.{flow_words, call_words}
+use Rattle.link_scripts.specs.Script.{line_of, IsFlowInRange}
+use Rattle.link_scripts.specs.Script.{IsCallOfScriptInRange}
 use Rattle.link_scripts.proofs.Columns.{wider}
 use Rattle.link_scripts.proofs.Numerals.{no_dash, digits_of_number}
 

@@ -55,10 +55,10 @@ impl fmt::Display for Outcome {
 
     fn fmt<W: fmt::Write>(&self, f: &mut fmt::Formatter<W>) -> fmt::Result {
         match self {
-            Outcome::Whole => write!(f, ""),
+            Outcome::Whole => Ok(()),
             Outcome::BadLine(number) => write!(f, "bad line {number}"),
-            Outcome::InputOutput => write!(f, "input or output fault"),
-            Outcome::NoMemory => write!(f, "out of memory"),
+            Outcome::InputOutput => f.write_str("input or output fault"),
+            Outcome::NoMemory => f.write_str("out of memory"),
         }
     }
 }

@@ -1,40 +1,27 @@
 -- Messages that are sent at once.
-use Rattle.std.proofs.Common.{◌≡◌, ℕ, ◌+◌, ◌<◌, List, [], ◌∷◌, ◌++◌, length, map, drop, Option, None, Some, MatchOption}
-use Rattle.std.proofs.Common.{All, subst, refl, sym, ap, ◌∙◌, append_assoc, append-nil, arith, IfSome}
-use Rattle.std.proofs.lemmas.Cmp.{nat_cmp_total}
-use Rattle.std.proofs.lemmas.Grind.{flat_map-append}
-use Rattle.std.proofs.lemmas.List.{map-append, length-append, length-map}
-use Rattle.std.proofs.lemmas.List.Elements.{All-append, All-cons, All-nil}
-use Rattle.std.specs.List.{flat_map}
-use Rattle.std.specs.Ordering.{nat_cmp}
-use Rattle.link_events.specs.declared.outgoing.Outgoing.{Outgoing}
+use Rattle.link_traces.proofs.Common.{◌≡◌, ℕ, ◌+◌, ◌<◌, List, [], ◌∷◌, ◌++◌, length, map, drop, Option, None, Some, All}
+use Rattle.link_traces.proofs.Common.{subst, refl, sym, ap, ◌∙◌, append_assoc, append-nil, arith, IfSome, nat_cmp_total}
+use Rattle.link_traces.proofs.Common.{flat_map-append, map-append, length-append, All-append, All-cons, All-nil}
+use Rattle.link_traces.proofs.Common.{flat_map, nat_cmp, Outgoing, one_more, reply_of, planned_of, Makes, reply_text}
+use Rattle.link_traces.proofs.Common.{world_call, zeroed_sends, AnswersEach, IsCallOfScriptInRange, Planned}
+use Rattle.link_traces.proofs.Common.{new_planned, Obeyed, StandsFor, Call, call_enqueue, IsInTurn, Reply, reply_done}
+use Rattle.link_traces.proofs.Common.{World, Completed, new_world, Checker, Progress, batch_calls, batch_lines, IsFront}
+use Rattle.link_traces.proofs.Common.{IsUnderway, due, IsTold, call_line, done_in, transcript_of, AgreesInTurn}
+use Rattle.link_traces.proofs.Common.{IsSimulatedReply}
+use Rattle.std.proofs.Common.{MatchOption}
+use Rattle.std.proofs.lemmas.List.{length-map}
 use Rattle.link_pairs.specs.Pairs.Messages.{completed_of}
-use Rattle.link_scheduler.proofs.Calls.Replay.{one_more}
 use Rattle.link_scheduler.specs.declared.replay.Call as script
 use Rattle.link_scheduler.specs.declared.replay.Reply as reply_code
 use Rattle.link_scheduler.specs.declared.replay.Reply.TheVariants as replies
-use Rattle.link_scheduler.specs.Calls.Replay.{reply_of}
-use Rattle.link_scheduler.specs.Calls.State.{planned_of, Makes, MakesEach}
-use Rattle.link_scripts.specs.Answer.{reply_text}
-use Rattle.link_scripts.specs.Schedule.{world_call, zeroed, zeroed_sends, AnswersEach}
-use Rattle.link_scripts.specs.Script.{line_of, IsCallOfScriptInRange}
+use Rattle.link_scheduler.specs.Calls.State.{MakesEach}
+use Rattle.link_scripts.specs.Schedule.{zeroed}
+use Rattle.link_scripts.specs.Script.{line_of}
 use Rattle.link_scripts.specs.declared.linkrun.command.Command.TheVariants as commands
 use Rattle.link_simulation.proofs.Simulation.QuietInstants.{next_is_later}
-use Rattle.link_simulation.specs.Rule.Planned.{Planned, new_planned}
-use Rattle.link_simulation.specs.Rule.Refusals.{Obeyed}
-use Rattle.link_simulation.specs.Rule.StandsFor.{StandsFor}
-use Rattle.link_simulation.specs.Simulation.Calls.{Call, call_enqueue, IsInTurn}
 use Rattle.link_simulation.specs.Simulation.Messages.{Message}
-use Rattle.link_simulation.specs.Simulation.Replies.{Reply, reply_done}
-use Rattle.link_simulation.specs.Simulation.World.{World, Completed, new_world}
 use Rattle.link_traces.specs.declared.linkcheck.batch.Batch.{Batch}
-use Rattle.link_traces.specs.declared.linkcheck.checker.Checker.{Checker}
-use Rattle.link_traces.specs.declared.linkcheck.progress.Progress.{Progress}
-use Rattle.link_traces.specs.Batches.{call_to_send, batch_calls, batch_lines, IsFront}
-use Rattle.link_traces.specs.Checker.{IsUnderway}
-use Rattle.link_traces.specs.Progress.{due, IsTold}
-use Rattle.link_traces.specs.Trace.{call_line, done_in, transcript_of}
-use Rattle.link_traces.specs.Turns.{AgreesInTurn, IsSimulatedReply}
+use Rattle.link_traces.specs.Batches.{call_to_send}
 use Rattle.link_traces.proofs.Replying.{made_is_simulated}
 use Rattle.link_traces.proofs.Tracing.{after_more}
 

@@ -1,3 +1,4 @@
+mod Common
 pub mod Batching
 pub mod Ranges
 pub mod Reading

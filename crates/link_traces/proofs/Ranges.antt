@@ -1,12 +1,11 @@
 -- What follows of calls whose numbers are in range.
-use Rattle.std.proofs.Common.{◌≡◌, ℕ, ◌^◌, ◌<◌, ◌≤◌, List, [], ◌∷◌, map, Some, All, arith}
+use Rattle.link_traces.proofs.Common.{◌≡◌, ℕ, ◌<◌, ◌≤◌, List, [], ◌∷◌, map, Some, All, arith, world_call}
+use Rattle.link_traces.proofs.Common.{IsCallOfScriptInRange, moment_of}
+use Rattle.std.proofs.Common.{◌^◌}
 use Rattle.std.proofs.lemmas.List.Elements.{All-head, All-tail}
 use Rattle.link_scheduler.specs.declared.replay.Call.{Call}
 use Rattle.link_scheduler.specs.declared.replay.Call.TheVariants as calls
-use Rattle.link_scripts.specs.Schedule.{world_call}
-use Rattle.link_scripts.specs.Script.{IsCallOfScriptInRange}
 use Rattle.link_simulation.specs.Laws.Isolation.{InTime}
-use Rattle.link_simulation.specs.Simulation.Calls.{moment_of}
 use Rattle.link_simulation.specs.Simulation.World.{last_moment}
 
 some_is : (m n : ℕ) → Some m ≡ Some n → m ≡ n

@@ -1,6 +1,10 @@
 -- Replies of a scheduler, one by one.
-use Rattle.std.proofs.Common.{◌≡◌, ◌≢◌, ℕ, ◌<◌, ◌≤◌, List, [], ◌∷◌, ◌++◌, Option, Some, refl, sym, ◌∙◌, subst}
-use Rattle.std.proofs.Common.{IfSome, append_assoc}
+use Rattle.link_traces.proofs.Common.{◌≡◌, ℕ, ◌<◌, ◌≤◌, List, [], ◌∷◌, ◌++◌, Option, Some, refl, sym, ◌∙◌, subst}
+use Rattle.link_traces.proofs.Common.{IfSome, append_assoc, reply_of, IsReplyTo, planned_of, Makes, one_more, Planned}
+use Rattle.link_traces.proofs.Common.{new_planned, Obeyed, StandsFor, Call, call_enqueue, moment_of, IsInTurn, Reply}
+use Rattle.link_traces.proofs.Common.{reply_done, reply_refused, World, Completed, new_world, reached_after}
+use Rattle.link_traces.proofs.Common.{AgreesInTurn, IsSimulatedReply}
+use Rattle.std.proofs.Common.{◌≢◌}
 use Rattle.std.specs.declared.cmp.Ord.{Ghosts}
 use Rattle.std.specs.declared.cmp.Ordering.{Ordering}
 use Rattle.std.specs.Cmp.{IsTotalOrder}
@@ -9,21 +13,16 @@ use Rattle.fair_rates.specs.declared.error.Error.TheVariants.{OutOfMemory, Numbe
 use Rattle.link_scheduler.specs.declared.replay.Reply as reply_code
 use Rattle.link_scheduler.specs.declared.replay.Reply.TheVariants as replies
 use Rattle.link_scheduler.specs.declared.transmitter.State.{State}
-use Rattle.link_scheduler.specs.Calls.Replay.{reply_of, IsAnswered, MayRefuseCall, IsReplyTo}
-use Rattle.link_scheduler.specs.Calls.State.{planned_of, Makes, Refuses}
-use Rattle.link_scheduler.proofs.Calls.Replay.{one_more}
-use Rattle.link_simulation.specs.Rule.Planned.{Planned, new_planned}
-use Rattle.link_simulation.specs.Rule.Refusals.{Obeyed}
+use Rattle.link_scheduler.specs.Calls.Replay.{IsAnswered, MayRefuseCall}
+use Rattle.link_scheduler.specs.Calls.State.{Refuses}
 use Rattle.link_simulation.specs.Rule.Simulated.{MeetsFault, IsNextInSimulation, IsRun}
-use Rattle.link_simulation.specs.Rule.StandsFor.{StandsFor}
 use Rattle.link_simulation.proofs.Rule.OneMeaning.{one_next}
-use Rattle.link_simulation.specs.Simulation.Calls.{Call, call_limit, call_limit_link, call_enqueue, call_advance}
-use Rattle.link_simulation.specs.Simulation.Calls.{call_enqueue_all, call_next, moment_of, IsInTurn}
-use Rattle.link_simulation.specs.Simulation.Replies.{Reply, reply_done, reply_refused, MayRefuse}
+use Rattle.link_simulation.specs.Simulation.Calls.{call_limit, call_limit_link, call_advance}
+use Rattle.link_simulation.specs.Simulation.Calls.{call_enqueue_all, call_next}
+use Rattle.link_simulation.specs.Simulation.Replies.{MayRefuse}
 use Rattle.link_simulation.specs.Simulation.RefusalCauses.{IsRefusedFor}
 use Rattle.link_simulation.specs.Simulation.Time.{NextIs}
-use Rattle.link_simulation.specs.Simulation.World.{World, Completed, new_world}
-use Rattle.link_traces.specs.Turns.{IsTimely, reached_after, RepliesSo, AgreesInTurn, IsSimulatedReply}
+use Rattle.link_traces.specs.Turns.{IsTimely, RepliesSo}
 
 module _ {P : Type 0} (cmp : P → P → Ordering) (order : IsTotalOrder cmp) where
   -- ---- a call that is in turn

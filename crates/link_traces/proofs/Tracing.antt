@@ -1,44 +1,31 @@
 -- Traces, call by call.
-use Rattle.std.proofs.Common.{◌≡◌, ℕ, ◌+◌, ◌<◌, ◌≤◌, min, List, [], ◌∷◌, ◌++◌, length, map, drop, Option, None, Some}
-use Rattle.std.proofs.Common.{subst, refl, sym, ap, ◌∙◌, append_assoc, append-nil, arith, inl, inr, Result, Ok, Err, IfOk, length-drop, drop_of_length-le}
-use Rattle.std.proofs.lemmas.Cmp.{nat_cmp_total}
-use Rattle.std.proofs.lemmas.Grind.{flat_map-append}
-use Rattle.std.proofs.lemmas.List.{map-append, length-append}
-use Rattle.std.proofs.lemmas.List.Elements.{All-append, All-cons, All-nil}
-use Rattle.std.specs.List.{flat_map}
-use Rattle.std.specs.Ordering.{nat_cmp}
-use Rattle.link_scheduler.specs.Calls.Replay.{IsReplyTo}
-use Rattle.link_scheduler.specs.Calls.State.{planned_of}
+use Rattle.link_traces.proofs.Common.{◌≡◌, ℕ, ◌+◌, ◌<◌, ◌≤◌, List, [], ◌∷◌, ◌++◌, length, map, drop, Option, None, Some}
+use Rattle.link_traces.proofs.Common.{subst, refl, sym, ap, ◌∙◌, append_assoc, append-nil, arith, Ok, IfOk}
+use Rattle.link_traces.proofs.Common.{nat_cmp_total, flat_map-append, map-append, length-append, All-append, All-cons}
+use Rattle.link_traces.proofs.Common.{All-nil, flat_map, nat_cmp, IsReplyTo, planned_of, reply_text, world_call}
+use Rattle.link_traces.proofs.Common.{IsCallOfScriptInRange, Planned, new_planned, Obeyed, StandsFor, IsInTurn, Reply}
+use Rattle.link_traces.proofs.Common.{World, new_world, Checker, Progress, Within, Input, TooLong, IsUnderway, due}
+use Rattle.link_traces.proofs.Common.{IsTold, call_line, done_in, transcript_of, IsAllowed, IsAgreed, tolerance_line}
+use Rattle.link_traces.proofs.Common.{Consumes, AgreesInTurn, IsSimulatedReply, reached_after}
+use Rattle.std.proofs.Common.{min}
+use Rattle.std.proofs.Common.{inl, inr, Result, Err, length-drop, drop_of_length-le}
 use Rattle.link_scheduler.specs.declared.replay.Call as script
-use Rattle.link_scripts.specs.Answer.{reply_text}
-use Rattle.link_scripts.specs.Schedule.{world_call}
-use Rattle.link_scripts.specs.Script.{IsCallOfScriptInRange}
 use Rattle.link_simulation.proofs.Rule.Agreeing.{obeyed_agree}
-use Rattle.link_simulation.specs.Rule.Planned.{Planned, new_planned}
-use Rattle.link_simulation.specs.Rule.Refusals.{Obeyed}
-use Rattle.link_simulation.specs.Rule.StandsFor.{StandsFor}
-use Rattle.link_simulation.specs.Simulation.Calls.{IsInTurn}
-use Rattle.link_simulation.specs.Simulation.Replies.{Reply}
-use Rattle.link_simulation.specs.Simulation.World.{World, new_world}
-use Rattle.link_traces.specs.declared.linkcheck.checker.Checker.{Checker}
-use Rattle.link_traces.specs.declared.linkcheck.progress.Progress.{Progress}
-use Rattle.link_traces.specs.declared.linkcheck.report.Verdict.TheVariants.{Agrees, Within}
+use Rattle.link_traces.specs.declared.linkcheck.report.Verdict.TheVariants.{Agrees}
 use Rattle.link_traces.specs.declared.linkcheck.report.Verdict.{Verdict}
 use Rattle.std.specs.Option.{unwrap_or}
 use Rattle.link_traces.specs.declared.linkcheck.Fault.{Fault}
 use Rattle.link_traces.specs.declared.linkcheck.Turns.TheVariants.{InTurn}
 use Rattle.link_traces.specs.Lines.{taken}
 use Rattle.link_scripts.specs.declared.linkrun.line.LineEnd.{LineEnd}
-use Rattle.link_scripts.specs.declared.linkrun.line.LineEnd.TheVariants.{Newline, Input, TooLong}
+use Rattle.link_scripts.specs.declared.linkrun.line.LineEnd.TheVariants.{Newline}
 use Rattle.link_traces.specs.declared.linkcheck.report.Report.{Report}
-use Rattle.link_traces.specs.Checker.{IsUnderway, IsTakenOf, GoesOn}
-use Rattle.link_traces.specs.Progress.{due, IsTold}
-use Rattle.link_traces.specs.Trace.{call_line, done_in, transcript_of, IsTranscript, IsHeadedTranscript, IsAllowed}
-use Rattle.link_traces.specs.Trace.{IsAfterTolerance, IsAgreed, tolerance_line}
-use Rattle.std.specs.Io.KnownBytes.{Consumes, IsAtEnd}
+use Rattle.link_traces.specs.Checker.{IsTakenOf, GoesOn}
+use Rattle.link_traces.specs.Trace.{IsTranscript, IsHeadedTranscript}
+use Rattle.link_traces.specs.Trace.{IsAfterTolerance}
+use Rattle.std.specs.Io.KnownBytes.{IsAtEnd}
 use Rattle.std.specs.Option.{IfSome}
 use Rattle.link_traces.proofs.Reading.{consumes_none, consumes_more}
-use Rattle.link_traces.specs.Turns.{AgreesInTurn, IsSimulatedReply, reached_after}
 use Rattle.link_traces.proofs.Ranges.{come_in_time}
 use Rattle.link_traces.proofs.Replying.{obeys_more, in_turn_more}
 

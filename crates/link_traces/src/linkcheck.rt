@@ -53,8 +53,8 @@ impl fmt::Display for Fault {
     fn fmt<W: fmt::Write>(&self, f: &mut fmt::Formatter<W>) -> fmt::Result {
         match self {
             Fault::BadLine(number) => write!(f, "bad line {number}"),
-            Fault::InputOutput => write!(f, "input or output fault"),
-            Fault::NoMemory => write!(f, "out of memory"),
+            Fault::InputOutput => f.write_str("input or output fault"),
+            Fault::NoMemory => f.write_str("out of memory"),
         }
     }
 }

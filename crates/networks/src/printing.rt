@@ -39,7 +39,7 @@ pub(crate) fn print_weighted<W: Write>(
 /// Prints one rate, and a semicolon.
 fn print_rate<W: Write>(output: &mut W, rate: &Rate) -> io::Result<()> {
     match rate {
-        Rate::Unlimited => write!(output, "unlimited;"),
+        Rate::Unlimited => output.write_all(b"unlimited;"),
         Rate::Finite(ratio) => write!(output, "{}/{};", ratio.numerator(), ratio.denominator()),
     }
 }

@@ -1,10 +1,10 @@
 -- The box of an open scheduler, as the steps of std on boxes see it, and the rows of what passes it on.
-use mir.Syntax.{impl, tnil, dnil}
+use Rattle.p2p_simulated_c.proofs.Common.{dnil, plain, Option, None, IsSome, Bx}
+use mir.Syntax.{impl, tnil}
 use mathlib.Core.Path.{◌≡◌, refl}
 use mathlib.Core.List.{[]}
-use denote.Signature.{Slot, plain}
-use Rattle.std.specs.Prelude.{Option, Some, None, IsSome}
-use Rattle.std_alloc.proofs.BoxSteps.Form.{Bx}
+use denote.Signature.{Slot}
+use Rattle.std.specs.Prelude.{Some}
 use Rattle.std_heap.specs.contracts.Global as Heap
 use Rattle.std_heap.specs.contracts.GlobalAllocator.TheImpl.{ghosts, dict}
 use Rattle.std_heap.proofs.Global.TheLaws as heap

@@ -1,12 +1,13 @@
 -- A list that is written over the front of another.
-use Rattle.std.proofs.Common.{◌≡◌, ℕ, ◌+◌, ◌<◌, ◌≤◌, List, [], ◌∷◌, ◌++◌, length, min, take, drop, get_or, sym, ap, ◌∙◌}
-use Rattle.std.proofs.Common.{◌-◌, replicate, arith, append_assoc, append-nil, ⊎_elim, length-take, length-append}
+use Rattle.p2p_simulated_c.proofs.Common.{◌≡◌, ℕ, ◌+◌, ◌<◌, ◌≤◌, List, [], ◌∷◌, ◌++◌, length, min, take, drop, get_or}
+use Rattle.p2p_simulated_c.proofs.Common.{sym, ap, ◌∙◌, ◌-◌, replicate, arith, append-nil, length-take, length-append}
+use Rattle.p2p_simulated_c.proofs.Common.{take_all, drop_all, take_more, length-replicate, written}
+use Rattle.std.proofs.Common.{append_assoc, ⊎_elim}
 use Rattle.std.proofs.lemmas.Bool.{cases_lt}
-use Rattle.std.proofs.lemmas.List.{take_all, drop_all, take_more, drop_more, set_at, length-replicate, take-replicate}
+use Rattle.std.proofs.lemmas.List.{drop_more, set_at, take-replicate}
 use Rattle.std.proofs.lemmas.List.{drop-drop, drop-replicate, take-append-le, drop-append-le}
 use Rattle.std.proofs.Math.Seq.{take-append_seam, take-append-add, drop-append_seam, drop-append-add, take-length}
 use Rattle.std.specs.List.{slice_set}
-use Rattle.p2p_simulated_c.specs.Written.{written}
 
 -- none
 pub none_written : {X : Type 0} (items old : List X) → items ≡ [] → old ≡ written items old

@@ -1,15 +1,14 @@
 -- How a call on an open scheduler ends, from what its state answered and what was kept of that.
-use Rattle.std.proofs.Common.{◌≡◌, arith, ℕ, List, length, Option, Some, Result, Ok, Err, IfOk, IfErr, OnErr}
-use Rattle.std.proofs.Common.{MatchResult, inl, inr, sym, ap, subst, ◌∙◌}
+use Rattle.p2p_simulated_c.proofs.Common.{◌≡◌, arith, ℕ, List, length, Some, Ok, Err, IfOk, IfErr, inl, inr, sym, ap}
+use Rattle.p2p_simulated_c.proofs.Common.{subst, ◌∙◌, IsMade, IsRefused, planned_of, Call, moment_of, Error}
+use Rattle.p2p_simulated_c.proofs.Common.{OutOfMemory, NumberTooLarge, Completion, Opened}
+use Rattle.std.proofs.Common.{Option, Result, OnErr}
+use Rattle.std.proofs.Common.{MatchResult}
 use Rattle.fair_rates.specs.Refusals.ErrorTexts.{refusal_number}
-use Rattle.link_scheduler.specs.Calls.State.{IsMade, IsRefused, IsAdvanced, planned_of}
-use Rattle.link_simulation.specs.Simulation.Calls.{Call, moment_of}
-use Rattle.fair_rates.specs.declared.error.Error.{Error}
-use Rattle.fair_rates.specs.declared.error.Error.TheVariants.{OutOfMemory, NumberTooLarge, MomentTooLate}
+use Rattle.link_scheduler.specs.Calls.State.{IsAdvanced}
+use Rattle.fair_rates.specs.declared.error.Error.TheVariants.{MomentTooLate}
 use Rattle.fair_rates.specs.declared.error.Error.TheVariants.{FlowIdsUsedUp}
-use Rattle.link_pairs.specs.declared.completion.Completion.{Completion}
 use Rattle.p2p_simulated_c.specs.Asked.{OnHandle, at_open, Ended, Advanced}
-use Rattle.p2p_simulated_c.specs.declared.opened.Opened.{Opened}
 
 -- a refusal has a number above zero
 numbered : (why : Error) → refusal_number why ≡ 0 → ⊥

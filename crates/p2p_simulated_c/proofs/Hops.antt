@@ -1,16 +1,16 @@
 -- Routes, made of hops one after another.
-use Rattle.std.proofs.Common.{◌≡◌, ◌==◌, ℕ, zero, suc, ◌+◌, ◌<◌, List, [], ◌∷◌, ◌++◌, Bool, true, false, cond, length, map, get_or, set}
-use Rattle.std.proofs.Common.{replicate, refl, sym, ap, ◌∙◌, inl, inr, arith, get_or-set_other, get_or-set_same, append-nil}
+use Rattle.p2p_simulated_c.proofs.Common.{◌≡◌, ◌==◌, ℕ, ◌+◌, ◌<◌, List, [], ◌∷◌, ◌++◌, Bool, true, false, cond, length}
+use Rattle.p2p_simulated_c.proofs.Common.{map, get_or, set, replicate, refl, sym, ap, ◌∙◌, inl, inr, arith, append-nil}
+use Rattle.p2p_simulated_c.proofs.Common.{Global, Vec, get_or-map, length-map, map-append, lists, routes_of, Hop}
+use Rattle.std.proofs.Common.{zero, suc}
+use Rattle.std.proofs.Common.{get_or-set_other, get_or-set_same}
 use Rattle.std.specs.List.{filter, range_with_len}
-use Rattle.std.specs.declared.alloc.Global.{Global}
-use Rattle.std.specs.declared.vec.Vec.{Vec}
 use Rattle.std.proofs.Math.ListN.{length-set}
 use Rattle.std.proofs.lemmas.Bool.Decides.{eqb_tells}
-use Rattle.std.proofs.lemmas.List.{ext_get_or, get_or-map, length-map, map-append, map-set}
+use Rattle.std.proofs.lemmas.List.{ext_get_or, map-set}
 use Rattle.std.proofs.lemmas.List.Elements.{filter-append}
 use Rattle.std.proofs.lemmas.List.FromFn.{length-range_with_len, get_or-range_with_len}
-use Rattle.p2p_simulated_c.specs.Routes.{links_of, lists, routes_of}
-use Rattle.p2p_simulated_c.specs.declared.routes.Hop.{Hop}
+use Rattle.p2p_simulated_c.specs.Routes.{links_of}
 
 none_from : (a n : ℕ) → replicate n [] ≡ map (links_of []) (range_with_len a n)
 none_from a zero = refl

@@ -1,3 +1,4 @@
+mod Common
 pub mod Boxed
 pub mod Copying
 pub mod Ending

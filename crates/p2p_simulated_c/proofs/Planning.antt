@@ -1,25 +1,21 @@
 -- Caps that are listed and looked up, and plans under the caps that closures answer by.
-use Rattle.std.proofs.Common.{◌≡◌, ◌⊎◌, ◌<◌, ◌+◌, ◌==◌, ◌&&◌, ℕ, Bool, true, false, cond, List, [], ◌∷◌, ◌++◌, length}
-use Rattle.std.proofs.Common.{take, get_or, Option, Some, None, inl, inr, refl, sym, ap, ap₂, subst, ◌∙◌}
-use Rattle.std.proofs.lemmas.List.{take_more}
-use Rattle.std.specs.BTreeMap.{get}
+use Rattle.p2p_simulated_c.proofs.Common.{◌≡◌, ◌<◌, ◌+◌, ◌==◌, ℕ, Bool, true, false, cond, List, [], ◌∷◌, ◌++◌, length}
+use Rattle.p2p_simulated_c.proofs.Common.{take, get_or, Some, inl, inr, refl, sym, ap, ap₂, subst, ◌∙◌, take_more, get}
+use Rattle.p2p_simulated_c.proofs.Common.{nat_cmp, pair_cmp, Rate, Error, OutOfMemory, NumberTooLarge, IsPlan}
+use Rattle.p2p_simulated_c.proofs.Common.{MayRefusePlan, caps_of_records, link_cap, peer_cap, caps_in}
+use Rattle.std.proofs.Common.{◌⊎◌, ◌&&◌}
+use Rattle.std.proofs.Common.{Option, None}
 use Rattle.std.specs.Cmp.{tied_then, unsigned_tied}
-use Rattle.std.specs.Ordering.{is_eq, nat_cmp}
+use Rattle.std.specs.Ordering.{is_eq}
 use Rattle.fair_rates.specs.Fairness.Allocation.{IsCountedAllocation}
 use Rattle.fair_rates.specs.Sides.Answers.{Answered, Calls, PairCalls, States}
 use Rattle.fair_rates.specs.Sides.Caps.{Caps}
-use Rattle.link_pairs.specs.Pairs.Entries.{pair_cmp}
 use Rattle.fair_rates.specs.Fairness.UnderCaps.{AnswerBy, AnswersAreThoseOfTheCaps}
 use Rattle.fair_rates.specs.Fairness.Rates.{AreFairRates, or_else}
 use Rattle.fair_rates.specs.Sides.Subjects.{sides_of}
 use Rattle.fair_rates.specs.Refusals.FairRatesFit.{FairRatesFit}
 use Rattle.fair_rates.specs.Refusals.TooLarge.{HasLargeAnswer, HasLargeRate, IsTooLarge}
 use Rattle.fair_rates.specs.declared.bandwidth.Flow.{Flow}
-use Rattle.fair_rates.specs.declared.bandwidth.Rate.{Rate}
-use Rattle.fair_rates.specs.declared.error.Error.{Error}
-use Rattle.fair_rates.specs.declared.error.Error.TheVariants.{OutOfMemory, NumberTooLarge}
-use Rattle.p2p_simulated_c.specs.Plan.{IsPlan, MayRefusePlan, caps_of_records, link_cap, peer_cap}
-use Rattle.p2p_simulated_c.specs.Planning.{caps_in}
 use Rattle.p2p_simulated_c.specs.Records.{value_of}
 use Rattle.p2p_simulated_c.specs.declared.planner.Caps as planner
 use Rattle.p2p_simulated_c.specs.declared.records.LinkCap.{LinkCap}

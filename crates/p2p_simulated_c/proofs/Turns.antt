@@ -1,23 +1,21 @@
 -- Calls in their turn, told by what is planned and in the simulation.
-use Rattle.std.proofs.Common.{◌≡◌, ◌↔◌, ℕ, ◌<◌, ◌≤◌, Bool, true, Option, Some, inl, inr}
-use Rattle.std.proofs.Common.{map, refl, sym, subst, ◌∙◌, arith}
+use Rattle.p2p_simulated_c.proofs.Common.{◌≡◌, ℕ, ◌<◌, ◌≤◌, Bool, true, Some, inl, inr, map, refl, sym, subst, ◌∙◌}
+use Rattle.p2p_simulated_c.proofs.Common.{arith, nat_cmp, planned_of, Call, call_enqueue_all, moment_of, Error, Opened}
+use Rattle.std.proofs.Common.{◌↔◌, Option}
 use Rattle.std.specs.Prelude.{IfSome, MatchOption}
-use Rattle.std.specs.Ordering.{nat_cmp}
 use Rattle.std.proofs.lemmas.Cmp.{nat_cmp_total}
-use Rattle.link_scheduler.specs.Calls.State.{planned_of, IsNextOf}
+use Rattle.link_scheduler.specs.Calls.State.{IsNextOf}
 use Rattle.link_simulation.specs.Rule.Planned.{next_event}
-use Rattle.link_simulation.specs.Simulation.Calls.{Call, call_limit, call_limit_link, call_enqueue, call_enqueue_all}
-use Rattle.link_simulation.specs.Simulation.Calls.{call_advance, call_next, moment_of, IsInTurn, IsBeforeNext}
+use Rattle.link_simulation.specs.Simulation.Calls.{call_limit, call_limit_link, call_enqueue}
+use Rattle.link_simulation.specs.Simulation.Calls.{call_advance, call_next, IsInTurn, IsBeforeNext}
 use Rattle.link_simulation.specs.Rule.Simulated.{IsRun}
 use Rattle.link_simulation.specs.Rule.StandsFor.{StandsFor}
 use Rattle.link_simulation.specs.Simulation.World.{World, new_world}
 use Rattle.link_simulation.proofs.Laws.TurnByNext.{turn_by_next}
-use Rattle.fair_rates.specs.declared.error.Error.{Error}
 use Rattle.link_pairs.specs.Pairs.Messages.{completed_of}
 use Rattle.p2p_simulated_c.specs.Asked.{Made, Refused}
 use Rattle.p2p_simulated_c.specs.Opening.{IsOpened}
 use Rattle.p2p_simulated_c.specs.Turns.{is_act, IsTold, StandsAtLast, TellsTurn}
-use Rattle.p2p_simulated_c.specs.declared.opened.Opened.{Opened}
 
 -- a call in its turn comes no earlier than the world
 no_earlier : (w : World ℕ) (call : Call ℕ) (now : ℕ) → moment_of call ≡ Some now → IsInTurn nat_cmp w call

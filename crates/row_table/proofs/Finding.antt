@@ -1,14 +1,11 @@
 -- What is kept beside the slots, where a row comes, changes or leaves.
-use Rattle.std.proofs.lemmas.Grind.{common_steps}
-use Rattle.row_table.proofs.Common.{◌≡◌, ℕ, ◌≤◌, List, [], ◌∷◌, ◌++◌, Option, Some, None, length, map, refl, sym}
-use Rattle.row_table.proofs.Common.{ap, ◌∙◌, arith, subst, is_some, slice_set, filter, vec_capacity, live, held}
-use Rattle.row_table.proofs.Common.{filled_from, sender_of, receiver_of, moment_of, Finds, Stands, Marked, Row, Parts}
-use Rattle.std.proofs.Common.{Result, Ok, Err, OnOk, option_map, rules}
-use Rattle.std.specs.List.{remove}
-use Rattle.std.proofs.lemmas.List.{map-set, map-append, length-map}
+use Rattle.row_table.proofs.Common.{common_steps, ◌≡◌, ℕ, ◌≤◌, List, [], ◌∷◌, ◌++◌, Option, Some, None, length, map}
+use Rattle.row_table.proofs.Common.{refl, sym, ap, ◌∙◌, arith, subst, is_some, slice_set, filter, vec_capacity, live}
+use Rattle.row_table.proofs.Common.{held, filled_from, sender_of, receiver_of, moment_of, Finds, Stands, Marked, Row}
+use Rattle.row_table.proofs.Common.{Parts, Result, Ok, Err, option_map, rules, remove, length-map, with_item, Index}
+use Rattle.std.proofs.Common.{OnOk}
+use Rattle.std.proofs.lemmas.List.{map-set, map-append}
 use Rattle.std.proofs.Math.Seq.{map-set_same}
-use Rattle.row_table.specs.Rows.{with_item}
-use Rattle.row_table.specs.declared.index.Index.{Index}
 use Rattle.row_table.proofs.Slots.{IsSlot, filled_append, filled_changed, filled_taken, some_same}
 
 -- owners are those of rows that are there

@@ -1,14 +1,13 @@
 -- The slots whose rows left since the mark, and are kept until the next one.
-use Rattle.std.proofs.lemmas.Grind.{common_steps}
-use Rattle.row_table.proofs.Common.{◌≡◌, ℕ, zero, suc, ◌<◌, ◌-◌, Bool, true, false, List, [], ◌∷◌, ◌++◌, Option, Some}
-use Rattle.row_table.proofs.Common.{None, All, IsSome, length, take, refl, sym, ap, ◌∙◌, arith, slice_get, slice_set}
-use Rattle.row_table.proofs.Common.{get_or_from_slice_get, slice_get_within, held, emptied, Row}
-use Rattle.std.proofs.Common.{◌≢◌, slice_index_or, rules}
-use Rattle.std.proofs.lemmas.List.{set_comm, length-set, length-append, set-append_left, get_or-set_other, get_or-take}
+use Rattle.row_table.proofs.Common.{common_steps, ◌≡◌, ℕ, zero, suc, ◌<◌, ◌-◌, Bool, true, false, List, [], ◌∷◌, ◌++◌}
+use Rattle.row_table.proofs.Common.{Option, Some, None, All, IsSome, length, take, refl, sym, ap, ◌∙◌, arith, slice_get}
+use Rattle.row_table.proofs.Common.{slice_set, get_or_from_slice_get, slice_get_within, held, emptied, Row}
+use Rattle.row_table.proofs.Common.{slice_index_or, rules, length-append, IsLeft}
+use Rattle.std.proofs.Common.{◌≢◌}
+use Rattle.std.proofs.lemmas.List.{set_comm, length-set, set-append_left, get_or-set_other, get_or-take}
 use Rattle.std.proofs.Math.ListN.{get_or-append}
 use Rattle.std.proofs.lemmas.List.Elements.{All-push}
 use Rattle.undo_list.specs.Versions.{Versions}
-use Rattle.row_table.specs.Slots.{IsLeft}
 use Rattle.row_table.proofs.Slots.{held_within}
 
 pub flag_there : (flags : List Bool) (i : ℕ) → slice_index_or flags i true ≡ false → slice_get flags i ≡ Some false

@@ -2,15 +2,14 @@
 use Rattle.row_table.proofs.Common.{◌≡◌, ℕ, zero, suc, ◌<◌, ◌≤◌, Bool, true, false, List, [], ◌∷◌, Option, Some, None}
 use Rattle.row_table.proofs.Common.{length, map, refl, sym, ap, ◌∙◌, arith, IfSome, IfNone, slice_get, cases_lt}
 use Rattle.row_table.proofs.Common.{slice_get_within, by_cases, IsNext, is_due_by, live, held, filled_from, IsPlaceOf}
-use Rattle.row_table.proofs.Common.{moment_of, Row}
-use Rattle.std.proofs.Common.{◌==◌, ◌||◌, slice_index_or, option_map, eq-eqb, rules}
-use Rattle.std.specs.List.{list_any}
+use Rattle.row_table.proofs.Common.{moment_of, Row, ◌==◌, slice_index_or, option_map, rules, list_any, get_or-map}
+use Rattle.row_table.proofs.Common.{has_come}
+use Rattle.std.proofs.Common.{◌||◌, eq-eqb}
 use Rattle.std.proofs.lemmas.Bool.{cases_Bool, eqb-true, le-leb, leb-true}
-use Rattle.std.proofs.Math.ListN.{get_or-map}
 use Rattle.chains.specs.Places.{IsFirst}
 use Rattle.chains.proofs.Places.{first_same}
 use Rattle.least_moment.specs.Moments.{HasCome, IsDue, moment_at, IsNextDue, NoneDue, IsLeast}
-use Rattle.row_table.specs.Rows.{passes, has_come}
+use Rattle.row_table.specs.Rows.{passes}
 use Rattle.row_table.specs.Slots.{IsNextSlot}
 use Rattle.row_table.proofs.Slots.{IsSlot, slot_at, held_at, slot_of_row, slots_below, places_below, some_same}
 

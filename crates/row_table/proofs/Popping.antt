@@ -1,17 +1,13 @@
 -- What is kept beside the slots, once the last slot is empty and gone.
-use Rattle.std.proofs.lemmas.Grind.{common_steps}
-use Rattle.std.proofs.Common.{rules}
-use Rattle.row_table.proofs.Common.{◌≡◌, ℕ, suc, ◌-◌, List, [], ◌∷◌, ◌++◌, Option, Some, None, false, IsSome}
-use Rattle.row_table.proofs.Common.{is_some, length, take, refl, subst, ap, ◌∙◌, arith, live, held, filled_from}
-use Rattle.row_table.proofs.Common.{sender_of, receiver_of, Finds, Stands, Row, Parts}
+use Rattle.row_table.proofs.Common.{common_steps, rules, ◌≡◌, ℕ, suc, ◌-◌, List, [], ◌∷◌, ◌++◌, Option, Some, None}
+use Rattle.row_table.proofs.Common.{false, IsSome, is_some, length, take, refl, subst, ap, ◌∙◌, arith, live, held}
+use Rattle.row_table.proofs.Common.{filled_from, sender_of, receiver_of, Finds, Stands, Row, Parts, append-nil}
+use Rattle.row_table.proofs.Common.{length-append, get_or-map, Index}
 use Rattle.std.specs.Option.{option_to_list}
 use Rattle.std.specs.Prelude.{slice_set}
-use Rattle.std.proofs.lemmas.List.{set-get_or, take-set-le, take_all, take-map, get_or-set_same, append-nil}
-use Rattle.std.proofs.lemmas.List.{length-append}
+use Rattle.std.proofs.lemmas.List.{set-get_or, take-set-le, take_all, take-map, get_or-set_same}
 use Rattle.std.proofs.Math.Seq.{take-append_seam}
-use Rattle.std.proofs.Math.ListN.{get_or-map}
 use Rattle.chains.specs.Chains.{owner_of}
-use Rattle.row_table.specs.declared.index.Index.{Index}
 use Rattle.row_table.proofs.Slots.{filled_more, live_append}
 
 pub none_there : {A : Type 0} (o : Option A) → is_some o ≡ false → o ≡ None

@@ -1,14 +1,14 @@
 -- The slots that hold a row, where a row comes, changes or leaves.
-use Rattle.std.proofs.lemmas.Grind.{common_steps}
-use Rattle.row_table.proofs.Common.{◌≡◌, ℕ, zero, suc, ◌+◌, ◌<◌, ◌≤◌, List, [], ◌∷◌, ◌++◌, Option, Some, None, length}
-use Rattle.row_table.proofs.Common.{map, take, refl, sym, subst, ap, ◌∙◌, arith, slice_get, slice_set, IsSome, is_some}
-use Rattle.row_table.proofs.Common.{IfSome, IfNone, filter, vec_capacity, get_or_from_slice_get, slice_get_within}
-use Rattle.row_table.proofs.Common.{cases_lt, live, held, filled_from, IsPlaceOf, Row}
-use Rattle.std.proofs.Common.{get_or, add-one, length-take-le, rules}
-use Rattle.std.specs.List.{remove, All, AllPairs}
+use Rattle.row_table.proofs.Common.{common_steps, ◌≡◌, ℕ, zero, suc, ◌+◌, ◌<◌, ◌≤◌, List, [], ◌∷◌, ◌++◌, Option, Some}
+use Rattle.row_table.proofs.Common.{None, length, map, take, refl, sym, subst, ap, ◌∙◌, arith, slice_get, slice_set}
+use Rattle.row_table.proofs.Common.{IsSome, is_some, IfSome, IfNone, filter, vec_capacity, get_or_from_slice_get}
+use Rattle.row_table.proofs.Common.{slice_get_within, cases_lt, live, held, filled_from, IsPlaceOf, Row, get_or, rules}
+use Rattle.row_table.proofs.Common.{remove, AllPairs, slice_get_read}
+use Rattle.std.proofs.Common.{add-one, length-take-le}
+use Rattle.std.specs.List.{All}
 use Rattle.std.specs.Vec.{vec_len}
 use Rattle.std.specs.declared.vec.Vec.{Vec}
-use Rattle.std.proofs.lemmas.Option.{slice_get-get_or, slice_get_read}
+use Rattle.std.proofs.lemmas.Option.{slice_get-get_or}
 use Rattle.std.proofs.Math.Seq.{take-suc}
 use Rattle.std.proofs.lemmas.List.Kept.{AllPairs-cons}
 

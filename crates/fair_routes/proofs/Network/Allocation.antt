@@ -1,13 +1,12 @@
 -- What is allocated on the sides of the links is what is promised, and so is what is refused.
 use Rattle.fair_routes.proofs.Common.{◌≡◌, ℕ, zero, suc, ◌^◌, ◌<◌, ◌≤◌, List, [], ◌∷◌, length, map, get_or, All}
 use Rattle.fair_routes.proofs.Common.{Contains, Option, Some, None, inl, inr, sym, ap, subst, arith, length-map, Side}
-use Rattle.fair_routes.proofs.Common.{AreFairRates, Rate, sides_over, AreListed, common_steps}
-use Rattle.fair_rates.specs.Fairness.Rates.{HasDifferentRates}
+use Rattle.fair_routes.proofs.Common.{AreFairRates, Rate, sides_over, AreListed, common_steps, HasDifferentRates}
+use Rattle.fair_routes.proofs.Common.{all_unmapped}
 use Rattle.fair_rates.specs.Refusals.TooLarge.{HasLargeRate}
 use Rattle.fair_rates.specs.Sides.SideOf.{side_of}
 use Rattle.fair_rates.specs.declared.bandwidth.sides.Side as declared
 use Rattle.fair_rates.proofs.Fairness.Allocation.{the_allocation}
-use Rattle.fair_rates.proofs.Fairness.MappedSides.{all_unmapped}
 use Rattle.fair_rates.proofs.Refusals.Fitting.{large_does_not_fit}
 use Rattle.fair_rates.proofs.Refusals.Promise.{twelfths, whole_of_sixteen, too_many_or_large}
 use Rattle.fair_routes.specs.Network.Allocation.{IsAllocated, IsCounted, HasLargeCap, AreTooLarge}

@@ -1,11 +1,10 @@
 -- A flow alone.
-use Rattle.std.proofs.Common.{rules}
-use Rattle.fair_routes.proofs.Common.{◌≡◌, ℕ, ◌*◌, ◌<◌, ◌≤◌, List, [], ◌∷◌, Bool, true, false, cond, Option, Some, None}
-use Rattle.fair_routes.proofs.Common.{get_or, Contains, sum_by, refl, sym, ap, ◌∙◌, arith, ◌||◌, eq_of_mul-eq-mul_right}
-use Rattle.fair_routes.proofs.Common.{All-contains, sum_by-cons, Side, IsLimited, IsFair, IsRateOf, Rate, Unlimited}
-use Rattle.fair_routes.proofs.Common.{Finite, Ratio, none_or_some, has_link, sides_over, common_steps}
+use Rattle.fair_routes.proofs.Common.{rules, ◌≡◌, ℕ, ◌*◌, ◌<◌, ◌≤◌, List, [], ◌∷◌, Bool, true, false, cond, Option}
+use Rattle.fair_routes.proofs.Common.{Some, None, get_or, Contains, sum_by, refl, sym, ap, ◌∙◌, arith, ◌||◌}
+use Rattle.fair_routes.proofs.Common.{eq_of_mul-eq-mul_right, All-contains, sum_by-cons, Side, IsLimited, IsFair}
+use Rattle.fair_routes.proofs.Common.{IsRateOf, Rate, Unlimited, Finite, Ratio, none_or_some, has_link, sides_over}
+use Rattle.fair_routes.proofs.Common.{common_steps, IsWorth}
 use Rattle.std.proofs.Math.Nat.{le_of_mul-le-mul_right}
-use Rattle.fair_rates.specs.Numbers.Ratio.{IsWorth}
 use Rattle.fair_routes.specs.Network.Laws.{IsLeastCap, IsLeastOfCaps, AloneIsTheLeastCap}
 use Rattle.fair_routes.proofs.Network.LinkSides.{link_side, side_listed}
 

@@ -1,15 +1,13 @@
 -- A part of the flows that uses no link together with the rest.
-use Rattle.std.proofs.Common.{rules}
-use Rattle.fair_routes.proofs.Common.{◌≡◌, ℕ, suc, ◌+◌, ◌<◌, List, [], ◌∷◌, ◌++◌, Bool, true, false, cond, Option, Some}
-use Rattle.fair_routes.proofs.Common.{None, map, length, All, ◌⊎◌, inl, inr, refl, sym, ap, ◌∙◌, subst, arith, list_any}
-use Rattle.fair_routes.proofs.Common.{length-map, All-contains, Side, AreFairRates, places_from, In, in_left, in_right}
-use Rattle.fair_routes.proofs.Common.{contains_from_in, any_passes, has_link, users_of, side_of_link, sides_from}
-use Rattle.fair_routes.proofs.Common.{sides_over, common_steps}
+use Rattle.fair_routes.proofs.Common.{rules, ◌≡◌, ℕ, suc, ◌+◌, ◌<◌, List, [], ◌∷◌, ◌++◌, Bool, true, false, cond}
+use Rattle.fair_routes.proofs.Common.{Option, Some, None, map, length, All, ◌⊎◌, inl, inr, refl, sym, ap, ◌∙◌, subst}
+use Rattle.fair_routes.proofs.Common.{arith, list_any, length-map, All-contains, Side, AreFairRates, places_from, In}
+use Rattle.fair_routes.proofs.Common.{in_left, in_right, contains_from_in, any_passes, has_link, users_of, side_of_link}
+use Rattle.fair_routes.proofs.Common.{sides_from, sides_over, common_steps, any_fails}
 use Rattle.std.specs.List.{filter}
 use Rattle.std.proofs.lemmas.List.{append_assoc}
 use Rattle.fair_rates.specs.Fairness.Part.{flagged, is_in, place_in, sides_in}
 use Rattle.fair_rates.proofs.Fairness.Apart.{flows_apart_are_fair, place_in-suc}
-use Rattle.fair_rates.proofs.Lists.Members.{any_fails}
 use Rattle.fair_routes.specs.Network.Laws.{RoutesApartAreFair}
 use Rattle.fair_routes.proofs.Network.Sides.{some_user, no_user}
 

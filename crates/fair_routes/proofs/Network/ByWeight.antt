@@ -6,16 +6,15 @@ use Rattle.fair_routes.proofs.Common.{All-tail, sum_by-cons, Side, load, IsLimit
 use Rattle.fair_routes.proofs.Common.{listed_from, none_or_some, some_is, IsFilledTo, In, in_left, in_right}
 use Rattle.fair_routes.proofs.Common.{in_from_contains, contains_from_in, All-from_contains, sum_by-scaled, sum_by_same}
 use Rattle.fair_routes.proofs.Common.{frozen_in, rising_weight, AreAllHeld, HasLeastRoom, HasFrozen, Room, weight_at}
-use Rattle.fair_routes.proofs.Common.{as_often, weighted, common_steps}
-use Rattle.std.proofs.Common.{IsSome, le_of_mul-le-mul_right, rules}
+use Rattle.fair_routes.proofs.Common.{as_often, weighted, common_steps, IsSome, rules, at_none, AreScaled, in_either}
+use Rattle.fair_routes.proofs.Common.{slack_of}
+use Rattle.std.proofs.Common.{le_of_mul-le-mul_right}
 use Rattle.std.proofs.lemmas.List.Folds.{sum_by-replicate}
 use Rattle.std.proofs.lemmas.List.Sums.{sum_by-append}
-use Rattle.fair_rates.proofs.Filling.Frozen.{at_some, at_none}
-use Rattle.fair_rates.proofs.Filling.Growing.{AreScaled, filled_scaled, none_scaled}
+use Rattle.fair_rates.proofs.Filling.Frozen.{at_some}
+use Rattle.fair_rates.proofs.Filling.Growing.{filled_scaled, none_scaled}
 use Rattle.fair_rates.proofs.Filling.Rounds.{end, next}
 use Rattle.fair_rates.proofs.Filling.States.{IsFilledBy}
-use Rattle.fair_rates.proofs.Lists.Members.{in_either}
-use Rattle.fair_routes.specs.Network.Rising.{slack_of}
 use Rattle.fair_routes.proofs.Network.Rising.{all_multiplied}
 
 -- ---- as often as their weights say

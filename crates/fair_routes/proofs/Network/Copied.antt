@@ -1,21 +1,17 @@
 -- A flow of some weight as so many flows of weight one.
-use Rattle.std.proofs.Common.{rules}
-use Rattle.fair_routes.proofs.Common.{◌≡◌, ◌==◌, ℕ, zero, suc, ◌+◌, ◌*◌, ◌<◌, ◌≤◌, List, [], Bool, true, false, cond}
-use Rattle.fair_routes.proofs.Common.{All, Contains, Option, Some, length, map, get_or, sum_by, inl, inr, refl, sym, ap}
-use Rattle.fair_routes.proofs.Common.{◌∙◌, subst, arith, slice_get, list_any, eqb-true, eqb_tells, length-map}
+use Rattle.fair_routes.proofs.Common.{rules, ◌≡◌, ◌==◌, ℕ, zero, suc, ◌+◌, ◌*◌, ◌<◌, ◌≤◌, List, [], Bool, true, false}
+use Rattle.fair_routes.proofs.Common.{cond, All, Contains, Option, Some, length, map, get_or, sum_by, inl, inr, refl}
+use Rattle.fair_routes.proofs.Common.{sym, ap, ◌∙◌, subst, arith, slice_get, list_any, eqb-true, eqb_tells, length-map}
 use Rattle.fair_routes.proofs.Common.{get_or_default, sum_by-cons, slice_get-get_or, slice_get-map}
 use Rattle.fair_routes.proofs.Common.{get_or_from_slice_get, Side, IsLimited, IsFair, IsRateOf, places_from, Rate}
 use Rattle.fair_routes.proofs.Common.{Unlimited, Finite, listed_on, listed_from, in_map, in_from_contains}
 use Rattle.fair_routes.proofs.Common.{contains_from_in, from_map, any_passes, All-from_contains, sum_by-scaled}
 use Rattle.fair_routes.proofs.Common.{sum_by_same, routes_at, has_link, users_of, sides_over, weight_at, as_often}
-use Rattle.fair_routes.proofs.Common.{weighted, by_weight, AreWeightedRates}
-use Rattle.std.specs.List.{range_with_len}
+use Rattle.fair_routes.proofs.Common.{weighted, by_weight, AreWeightedRates, range_with_len, length-range_with_len}
+use Rattle.fair_routes.proofs.Common.{get_or-range_with_len, same_amounts, worth_too, in_get, get_in, get_from_map}
+use Rattle.fair_routes.proofs.Common.{place_here, passes_here, below_length}
 use Rattle.std.proofs.lemmas.Bool.{cases_order}
 use Rattle.std.proofs.lemmas.List.{map-id}
-use Rattle.std.proofs.lemmas.List.FromFn.{length-range_with_len, get_or-range_with_len}
-use Rattle.fair_rates.proofs.Fairness.OneAllocation.{same_amounts, worth_too}
-use Rattle.fair_rates.proofs.Lists.Members.{in_get, get_in, get_from_map}
-use Rattle.fair_rates.proofs.Lists.Places.{place_here, passes_here, below_length}
 use Rattle.fair_routes.specs.Network.WeightLaws.{copies, copies_of, IsTogether, WeightsAreCopies}
 use Rattle.fair_routes.specs.Network.Weights.{AreWeights}
 use Rattle.fair_routes.proofs.Network.ByWeight.{sum_often, uses_often, often_uses, limited_wide, limited_narrow}

@@ -3,11 +3,10 @@ use Rattle.fair_routes.proofs.Common.{◌≡◌, ℕ, zero, suc, ◌+◌, ◌<�
 use Rattle.fair_routes.proofs.Common.{Option, Some, None, get_or, sym, ap, ◌∙◌, subst, inl, inr, arith, list_any, Side}
 use Rattle.fair_routes.proofs.Common.{HaveUsersBelow, In, in_left, in_right, in_from_contains, contains_from_in}
 use Rattle.fair_routes.proofs.Common.{All-from_contains, IsLinkSide, has_link, users_of, side_of_link, sides_from}
-use Rattle.fair_routes.proofs.Common.{sides_over, common_steps}
-use Rattle.std.proofs.Common.{◌≢◌, AllPairs, rules}
+use Rattle.fair_routes.proofs.Common.{sides_over, common_steps, rules, in_either, places_below}
+use Rattle.std.proofs.Common.{◌≢◌, AllPairs}
 use Rattle.fair_rates.specs.Fairness.Exists.{HaveDistinctUsers}
-use Rattle.fair_rates.proofs.Lists.Members.{in_either}
-use Rattle.fair_rates.proofs.Lists.Places.{places_below, places_apart}
+use Rattle.fair_rates.proofs.Lists.Places.{places_apart}
 use Rattle.fair_routes.specs.Network.Laws.{SidesAreOfTheLinks}
 
 -- the side is that of a link from that one on

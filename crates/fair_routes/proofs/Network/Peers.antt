@@ -2,16 +2,14 @@
 use Rattle.fair_routes.proofs.Common.{◌≡◌, ◌==◌, ℕ, List, [], ◌∷◌, Bool, true, false, cond, Option, None, get_or, map}
 use Rattle.fair_routes.proofs.Common.{length, sym, ap, ◌∙◌, inl, inr, AllZip, eqb-true, Side, places_from, In, in_map}
 use Rattle.fair_routes.proofs.Common.{from_map, in_from_contains, contains_from_in, any_passes, places_alike}
-use Rattle.fair_routes.proofs.Common.{IsLinkSide, has_link, users_of, sides_over, arith, common_steps}
-use Rattle.std.proofs.Common.{rules}
+use Rattle.fair_routes.proofs.Common.{IsLinkSide, has_link, users_of, sides_over, arith, common_steps, rules, or-false}
+use Rattle.fair_routes.proofs.Common.{fairness_is_of_the_set}
 use Rattle.std.specs.Cmp.{IsTotalOrder}
 use Rattle.std.specs.declared.cmp.Ordering.{Ordering}
-use Rattle.std.proofs.Math.Bool.{or-false}
 use Rattle.fair_rates.specs.Fairness.UnderCaps.{AreOfPeers, IsCappedSide, limits, sides_under}
 use Rattle.fair_rates.specs.Sides.Caps.{Caps}
 use Rattle.fair_rates.specs.Sides.Subjects.{Subject, sent_by, received_by, sent_between}
 use Rattle.fair_rates.specs.declared.bandwidth.Flow.{Flow}
-use Rattle.fair_rates.proofs.Fairness.SameSides.{fairness_is_of_the_set}
 use Rattle.fair_rates.proofs.Sides.CapSides.{sides_are_of_the_caps}
 use Rattle.fair_routes.specs.Network.Laws.{AreLinks, route_of, LinkedIsOverThreeLinks}
 use Rattle.fair_routes.proofs.Network.LinkSides.{link_side, side_listed}

@@ -1,8 +1,7 @@
 -- Flows that stand at other places: where each flow of a list is one of another list, and the sides go together, so do
 -- the fair rates.
-use Rattle.std.proofs.Common.{rules}
-use Rattle.fair_routes.proofs.Common.{◌≡◌, ℕ, ◌*◌, ◌<◌, ◌≤◌, List, Contains, sym, ap, ◌∙◌, arith, All-contains, Side}
-use Rattle.fair_routes.proofs.Common.{load, IsLimited, IsFair, HaveUsersBelow, IsRateOf, Rate, Unlimited, Finite}
+use Rattle.fair_routes.proofs.Common.{rules, ◌≡◌, ℕ, ◌*◌, ◌<◌, ◌≤◌, List, Contains, sym, ap, ◌∙◌, arith, All-contains}
+use Rattle.fair_routes.proofs.Common.{Side, load, IsLimited, IsFair, HaveUsersBelow, IsRateOf, Rate, Unlimited, Finite}
 use Rattle.fair_routes.proofs.Common.{All-from_contains}
 use Rattle.fair_rates.specs.Fairness.Fair.{HasBottleneck}
 

@@ -1,19 +1,16 @@
 -- Flows in another order.
-use Rattle.std.proofs.Common.{rules}
-use Rattle.fair_routes.proofs.Common.{◌≡◌, ℕ, suc, ◌+◌, ◌<◌, List, [], ◌∷◌, Bool, true, false, cond, Option, Some, map}
-use Rattle.fair_routes.proofs.Common.{length, get_or, All, Contains, sum_by, refl, sym, ap, ◌∙◌, subst, arith}
-use Rattle.fair_routes.proofs.Common.{slice_get, list_any, length-map, get_or-map, get_or_default, All-contains}
+use Rattle.fair_routes.proofs.Common.{rules, ◌≡◌, ℕ, suc, ◌+◌, ◌<◌, List, [], ◌∷◌, Bool, true, false, cond, Option}
+use Rattle.fair_routes.proofs.Common.{Some, map, length, get_or, All, Contains, sum_by, refl, sym, ap, ◌∙◌, subst}
+use Rattle.fair_routes.proofs.Common.{arith, slice_get, list_any, length-map, get_or-map, get_or_default, All-contains}
 use Rattle.fair_routes.proofs.Common.{sum_by-cons, slice_get-get_or, slice_get-map, get_or_from_slice_get, Side}
 use Rattle.fair_routes.proofs.Common.{IsRateOf, places_from, Unlimited, in_map, in_from_contains, contains_from_in}
 use Rattle.fair_routes.proofs.Common.{from_map, any_passes, routes_at, has_link, users_of, sides_over, common_steps}
-use Rattle.std.specs.List.{range_with_len}
+use Rattle.fair_routes.proofs.Common.{range_with_len, length-range_with_len, get_or-range_with_len, in_get, get_in}
+use Rattle.fair_routes.proofs.Common.{get_from_map, place_here, passes_here, below_length, rates_at}
 use Rattle.std.specs.List.Sorted.{IsPermutation}
 use Rattle.std.proofs.lemmas.List.{same_lists}
-use Rattle.std.proofs.lemmas.List.FromFn.{length-range_with_len, get_or-range_with_len}
 use Rattle.std.proofs.lemmas.List.Sorted.{sum_by-IsPermutation, Contains-permutation, All-permutation}
-use Rattle.fair_rates.proofs.Lists.Members.{in_get, get_in, get_from_map}
-use Rattle.fair_rates.proofs.Lists.Places.{place_here, passes_here, below_length}
-use Rattle.fair_routes.specs.Network.Laws.{rates_at, OrderOfFlowsDoesNotMatter}
+use Rattle.fair_routes.specs.Network.Laws.{OrderOfFlowsDoesNotMatter}
 use Rattle.fair_routes.proofs.Network.LinkSides.{link_side, side_listed, users_are_flows}
 use Rattle.fair_routes.proofs.Network.Relabelled.{IsTheSide, AreRelabelled, relabelled_fair, relabelled_rate}
 use Rattle.fair_routes.proofs.Network.Said.{found}

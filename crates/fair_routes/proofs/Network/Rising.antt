@@ -3,16 +3,13 @@ use Rattle.fair_routes.proofs.Common.{◌≡◌, ℕ, ◌+◌, ◌*◌, ◌<◌,
 use Rattle.fair_routes.proofs.Common.{None, cond, length, map, get_or, set, inl, inr, refl, sym, ap, ◌∙◌, subst, arith}
 use Rattle.fair_routes.proofs.Common.{count_by, option_map, unwrap_or, is_none, All-nil, All-push, Side, none_or_some}
 use Rattle.fair_routes.proofs.Common.{some_is, not_some, frozen_in, rising_weight, AreAllHeld, HasLeastRoom, HasFrozen}
-use Rattle.fair_routes.proofs.Common.{Room, common_steps}
-use Rattle.std.proofs.Common.{IsSome, get_or-set_other, get_or-set_same, length-append, rules}
-use Rattle.std.specs.Prelude.{MatchOption}
+use Rattle.fair_routes.proofs.Common.{Room, common_steps, IsSome, length-append, rules, MatchOption, cases_eq}
+use Rattle.fair_routes.proofs.Common.{get_or_push, get_or_append_left, AreScaled, slack_of}
+use Rattle.std.proofs.Common.{get_or-set_other, get_or-set_same}
 use Rattle.std.proofs.Math.ListN.{length-set, get_or-map as get_or_map}
-use Rattle.std.proofs.lemmas.Bool.{cases_eq}
-use Rattle.std.proofs.lemmas.List.{get_or_push, get_or_append_left}
 use Rattle.std.proofs.lemmas.List.Elements.{All-weaker, Contains-push, Contains-append_left}
 use Rattle.std.proofs.lemmas.List.Sums.{sum_by-set}
-use Rattle.fair_rates.proofs.Filling.Growing.{AreScaled}
-use Rattle.fair_routes.specs.Network.Rising.{slack_of, IsLesser}
+use Rattle.fair_routes.specs.Network.Rising.{IsLesser}
 use Rattle.fair_rates.proofs.Filling.LeastShare.{at_most_trans}
 
 -- nobody was to be held

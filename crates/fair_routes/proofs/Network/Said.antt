@@ -2,12 +2,10 @@
 use Rattle.fair_routes.proofs.Common.{◌≡◌, ◌==◌, ℕ, ◌+◌, List, [], ◌∷◌, Bool, true, Option, Some, None, map, get_or}
 use Rattle.fair_routes.proofs.Common.{refl, sym, ap, ◌∙◌, inl, inr, AllZip, list_any, eqb-true, eqb_tells, Side, In}
 use Rattle.fair_routes.proofs.Common.{from_map, places_alike, IsLinkSide, has_link, users_of, side_of_link, sides_from}
-use Rattle.fair_routes.proofs.Common.{sides_over, arith, common_steps}
-use Rattle.std.proofs.Common.{eq-eqb, rules}
+use Rattle.fair_routes.proofs.Common.{sides_over, arith, common_steps, eq-eqb, rules, AreTheSameSides}
+use Rattle.fair_routes.proofs.Common.{fairness_is_of_the_set, any_fails}
 use Rattle.std.proofs.lemmas.Bool.{false≢true}
-use Rattle.fair_rates.specs.Fairness.Laws.{AreTheSameSides}
-use Rattle.fair_rates.proofs.Fairness.SameSides.{fairness_is_of_the_set}
-use Rattle.fair_rates.proofs.Lists.Members.{some_or_none, any_fails}
+use Rattle.fair_rates.proofs.Lists.Members.{some_or_none}
 use Rattle.fair_routes.specs.Network.Laws.{HaveTheSameLinks, RoutesAreSetsOfLinks, AreRenamed}
 use Rattle.fair_routes.specs.Network.Laws.{OrderOfLinksDoesNotMatter}
 use Rattle.fair_routes.proofs.Network.LinkSides.{link_side, side_listed}

@@ -2,9 +2,10 @@
 use Rattle.fair_routes.proofs.Common.{◌≡◌, ℕ, ◌+◌, ◌<◌, List, [], ◌∷◌, ◌++◌, Bool, true, false, cond, length, get_or}
 use Rattle.fair_routes.proofs.Common.{map, Option, Some, None, refl, sym, ap, ◌∙◌, subst, arith, list_any, Global, Vec}
 use Rattle.fair_routes.proofs.Common.{map-append, length-map, places_from, side_of, has_link, users_of, side_of_link}
-use Rattle.fair_routes.proofs.Common.{sides_from, sides_over, users_at, AreUsers, common_steps}
-use Rattle.std.proofs.Common.{drop, reverse, rules}
-use Rattle.std.proofs.lemmas.List.{reverse-append, drop_more, drop_all, get_or_push, get_or_append_left}
+use Rattle.fair_routes.proofs.Common.{sides_from, sides_over, users_at, AreUsers, common_steps, rules, get_or_push}
+use Rattle.fair_routes.proofs.Common.{get_or_append_left}
+use Rattle.std.proofs.Common.{drop, reverse}
+use Rattle.std.proofs.lemmas.List.{reverse-append, drop_more, drop_all}
 use Rattle.std.proofs.lemmas.List.{reverse-reverse}
 use Rattle.fair_routes.specs.declared.routes.sides.LinkSide as declared
 

@@ -4,30 +4,28 @@ use Rattle.fair_routes.proofs.Common.{length, get_or, refl, sym, ap, ap₂, ◌�
 use Rattle.fair_routes.proofs.Common.{option_map, unwrap_or, cases_lt, eqb_tells, length-map, All-nil, All-map}
 use Rattle.fair_routes.proofs.Common.{All-contains, slice_get-get_or, slice_get_within, get_or_from_slice_get, Rate}
 use Rattle.fair_routes.proofs.Common.{places_alike, side_of_link, sides_from, sides_over, AreListed, IsNumbered}
-use Rattle.fair_routes.proofs.Common.{IsWeightRefusal, common_steps}
-use Rattle.std.proofs.Common.{◌↔◌, Result, Ok, Err, slice_get, rules}
-use Rattle.std.specs.List.{AllPairs, flat_map}
+use Rattle.fair_routes.proofs.Common.{IsWeightRefusal, common_steps, ◌↔◌, rules, AllPairs, keys, values, or-false}
+use Rattle.fair_routes.proofs.Common.{list_any-append, told_routes, told_weights, AreRatesTold, MayRefuseTold}
+use Rattle.fair_routes.proofs.Common.{IsWeightedAllocation, HasLargeWeightedRate, Refused, NoSuchLink}
+use Rattle.std.proofs.Common.{Result, Ok, Err, slice_get}
+use Rattle.std.specs.List.{flat_map}
 use Rattle.std.specs.List.Sorted.{IsBinarySearchResult}
 use Rattle.std.specs.Map.{keys_of, values_of}
-use Rattle.std.specs.BTreeMap.{keys, values}
 use Rattle.std.specs.Int.NonZero.{non_zero_u64_get}
 use Rattle.std.specs.declared.num.NonZeroU64.{NonZeroU64}
 use Rattle.std.specs.Ordering.{nat_cmp}
 use Rattle.std.specs.Result.{result_ok}
-use Rattle.std.proofs.Math.Bool.{or-false}
 use Rattle.std.proofs.lemmas.List.Elements.{All-cons, All-append}
-use Rattle.std.proofs.lemmas.List.Folds.{list_any-append}
 use Rattle.std.proofs.lemmas.List.Sorted.{searched}
 use Rattle.std.proofs.lemmas.Slice.Zip.{firsts-zip, seconds-zip}
 use Rattle.fair_rates.proofs.Lists.Zips.{zip-length}
-use Rattle.fair_routes.specs.Network.Told.{told_routes, told_weight, told_weights, told_sides, AreRatesTold}
-use Rattle.fair_routes.specs.Network.Told.{MayRefuseTold, error_of}
-use Rattle.fair_routes.specs.Network.Weights.{IsWeightedAllocation, HasLargeWeightedRate, HasMuchWeight}
+use Rattle.fair_routes.specs.Network.Told.{told_weight, told_sides}
+use Rattle.fair_routes.specs.Network.Told.{error_of}
+use Rattle.fair_routes.specs.Network.Weights.{HasMuchWeight}
 use Rattle.fair_routes.specs.declared.routes.network.Network.{Network}
 use Rattle.fair_routes.specs.declared.routes.weighted.error.WeightError.{WeightError}
 use Rattle.fair_routes.specs.declared.routes.weighted.error.WeightError.TheVariants.{Routes, OtherCount, NoWeight}
 use Rattle.fair_routes.specs.declared.routes.weighted.error.WeightError.TheVariants.{TooMuchWeight}
-use Rattle.fair_routes.specs.declared.routes.error.RouteError.TheVariants.{Refused, NoSuchLink}
 use Rattle.fair_routes.proofs.Network.Said.{any_alike, same_test}
 
 -- ---- places in a list that ascends

@@ -3,17 +3,15 @@ use Rattle.fair_routes.proofs.Common.{◌≡◌, ℕ, zero, suc, ◌+◌, ◌-�
 use Rattle.fair_routes.proofs.Common.{true, false, cond, All, length, replicate, get_or, set, map, take, refl, sym, ap}
 use Rattle.fair_routes.proofs.Common.{subst, arith, ◌||◌, slice_get, Global, Vec, map-append, length-map, take_more}
 use Rattle.fair_routes.proofs.Common.{get_or-replicate, length-replicate, get_or_default, All-tail, places_from}
-use Rattle.fair_routes.proofs.Common.{has_link, users_of, lists, users_at, AreUsers, common_steps}
-use Rattle.std.proofs.Common.{eq-eqb, rules}
+use Rattle.fair_routes.proofs.Common.{has_link, users_of, lists, users_at, AreUsers, common_steps, eq-eqb, rules}
+use Rattle.fair_routes.proofs.Common.{cases_eq, append-nil, All-head, list_any-append, HasJoined, IsNoLink, Refused}
+use Rattle.fair_routes.proofs.Common.{NoSuchLink, places_below}
 use Rattle.std.proofs.Math.Bool.{or_comm}
-use Rattle.std.proofs.lemmas.Bool.{cases_eq, ne_eqb}
-use Rattle.std.proofs.lemmas.List.{append-nil, get_or-set_same, get_or-set_other, map-set}
-use Rattle.std.proofs.lemmas.List.Elements.{All-head, All-get_or}
-use Rattle.std.proofs.lemmas.List.Folds.{list_any-append}
-use Rattle.fair_routes.specs.Network.Users.{ends_with, noted, HasJoined, IsNoLinkOf, IsNoLink}
+use Rattle.std.proofs.lemmas.Bool.{ne_eqb}
+use Rattle.std.proofs.lemmas.List.{get_or-set_same, get_or-set_other, map-set}
+use Rattle.std.proofs.lemmas.List.Elements.{All-get_or}
+use Rattle.fair_routes.specs.Network.Users.{ends_with, noted, IsNoLinkOf}
 use Rattle.fair_routes.specs.declared.routes.error.RouteError.{RouteError}
-use Rattle.fair_routes.specs.declared.routes.error.RouteError.TheVariants.{Refused, NoSuchLink}
-use Rattle.fair_rates.proofs.Lists.Places.{places_below}
 
 -- ---- one flow at one link
 

@@ -1,15 +1,12 @@
 -- Weights of one, and the same network with weights said otherwise.
-use Rattle.std.proofs.Common.{rules}
-use Rattle.fair_routes.proofs.Common.{◌≡◌, ℕ, ◌*◌, ◌<◌, List, [], ◌∷◌, ◌++◌, All, Contains, length, map, get_or}
+use Rattle.fair_routes.proofs.Common.{rules, ◌≡◌, ℕ, ◌*◌, ◌<◌, List, [], ◌∷◌, ◌++◌, All, Contains, length, map, get_or}
 use Rattle.fair_routes.proofs.Common.{replicate, refl, sym, ap, ◌∙◌, subst, arith, slice_index, get_or-map}
 use Rattle.fair_routes.proofs.Common.{get_or-replicate, length-map, length-replicate, All-contains, All-tail, Side}
 use Rattle.fair_routes.proofs.Common.{IsLimited, HaveUsersBelow, IsRateOf, Rate, Unlimited, Finite, listed_on}
 use Rattle.fair_routes.proofs.Common.{listed_from, sum_by_same, All-from_contains, routes_at, sides_over, weight_at}
-use Rattle.fair_routes.proofs.Common.{as_often, weighted, by_weight, AreWeightedRates}
-use Rattle.std.proofs.lemmas.List.Elements.{All-head}
-use Rattle.fair_rates.specs.Fairness.Laws.{AreTheSameSides}
+use Rattle.fair_routes.proofs.Common.{as_often, weighted, by_weight, AreWeightedRates, All-head, AreTheSameSides}
+use Rattle.fair_routes.proofs.Common.{rates_at}
 use Rattle.fair_rates.proofs.Fairness.SameSides.{still_fair}
-use Rattle.fair_routes.specs.Network.Laws.{rates_at}
 use Rattle.fair_routes.specs.Network.WeightLaws.{WeightsOfOneChangeNothing, OrderOfLinksDoesNotMatterByWeight}
 use Rattle.fair_routes.specs.Network.WeightLaws.{OrderOfFlowsDoesNotMatterByWeight, weights_at}
 use Rattle.fair_routes.proofs.Network.ByWeight.{sum_often, uses_often, often_uses}

@@ -5,23 +5,20 @@ use Rattle.fair_routes.proofs.Common.{eq_of_mul-eq-mul_right, get_or_default, Al
 use Rattle.fair_routes.proofs.Common.{get_or_from_slice_get, Side, load, IsLimited, IsFair, IsRateOf, at_level, Rate}
 use Rattle.fair_routes.proofs.Common.{Unlimited, Finite, Ratio, listed_on, listed_from, none_or_some, not_some, some_is}
 use Rattle.fair_routes.proofs.Common.{All-from_contains, frozen_in, weight_at, weighted, as_often, by_weight}
-use Rattle.fair_routes.proofs.Common.{AreWeightedRates, common_steps}
-use Rattle.std.proofs.Common.{IfSome, rules}
-use Rattle.std.proofs.lemmas.List.{ext_get_or}
+use Rattle.fair_routes.proofs.Common.{AreWeightedRates, common_steps, rules, ext_get_or, level_at, IsWorth}
+use Rattle.fair_routes.proofs.Common.{same_amounts, worth_too, at_none, AreFilledByWeight, HasLargeWeightedRate}
+use Rattle.std.proofs.Common.{IfSome}
 use Rattle.fair_rates.specs.Fairness.Laws.{UsesClosedSide, AreZeroWhereClosed}
-use Rattle.fair_rates.specs.Filling.FairParts.{level_at, IsRateAt, AreRatesAt, HasLargeLevel}
+use Rattle.fair_rates.specs.Filling.FairParts.{IsRateAt, AreRatesAt, HasLargeLevel}
 use Rattle.fair_rates.specs.Filling.States.{AreInside}
 use Rattle.fair_rates.specs.Numbers.Amount.{Amount, parts_over}
 use Rattle.fair_rates.specs.Numbers.Fits.{ReducedFits}
 use Rattle.fair_rates.specs.Numbers.LowestTerms.{whole_IsReduced}
-use Rattle.fair_rates.specs.Numbers.Ratio.{IsWorth}
 use Rattle.fair_rates.specs.declared.bandwidth.parts.FairParts.{FairParts}
-use Rattle.fair_rates.proofs.Fairness.OneAllocation.{same_amounts, worth_too}
-use Rattle.fair_rates.proofs.Filling.Frozen.{at_none}
 use Rattle.fair_rates.proofs.Lists.SumOrder.{sum_by-zero}
 use Rattle.fair_rates.proofs.Numbers.Ratio.{one_ratio, worth_is_reduced}
-use Rattle.fair_routes.specs.Network.Rising.{AreFilledByWeight, AreWeighed}
-use Rattle.fair_routes.specs.Network.Weights.{IsTheOnlyWeighted, HasLargeWeightedRate}
+use Rattle.fair_routes.specs.Network.Rising.{AreWeighed}
+use Rattle.fair_routes.specs.Network.Weights.{IsTheOnlyWeighted}
 use Rattle.fair_routes.specs.declared.routes.weighted.rising.Rising.{Rising}
 use Rattle.fair_routes.proofs.Network.ByWeight.{limited_wide, uses_often, often_uses, some_weight}
 use Rattle.fair_rates.proofs.Fairness.ClosedSides.{member_at_most}

@@ -1,24 +1,15 @@
 -- The events of an advance, one after another.
-use Rattle.std.proofs.Common.{◌≡◌, ℕ, ◌+◌, ◌<◌, Bool, true, false, cond, List, [], ◌∷◌, ◌++◌, Some, IfSome, refl, sym}
-use Rattle.std.proofs.Common.{ap, ◌∙◌, subst, arith}
-use Rattle.std.specs.List.{filter, find}
-use Rattle.fair_rates.proofs.Lists.Each.{Each}
-use Rattle.std.specs.Cmp.{IsTotalOrder}
-use Rattle.std.specs.declared.cmp.Ordering.{Ordering}
-use Rattle.fair_rates.specs.declared.error.Error.{Error}
-use Rattle.link_events.specs.declared.event.Event.{Event}
-use Rattle.link_events.specs.declared.event.Event.TheVariants.{Finish, Start}
-use Rattle.link_simulation.specs.Simulation.World.{Completed, Course, fronts, goes, meets, preceded}
-use Rattle.link_simulation.specs.Simulation.Messages.{Message, same_pair}
-use Rattle.link_simulation.specs.Rule.Planned.{Planned, SomeReadyAt, may_launch, next_event}
-use Rattle.link_simulation.specs.Rule.Events.{PlansStart, Wakes, WakesEach, all_started, Advances, no_more, at_finish}
+use Rattle.link_events.proofs.Common.{◌≡◌, ℕ, ◌+◌, ◌<◌, Bool, true, false, cond, List, [], ◌∷◌, ◌++◌, Some, refl, sym}
+use Rattle.link_events.proofs.Common.{ap, ◌∙◌, subst, arith, filter, find, Each, IsTotalOrder, Ordering, Error, Event}
+use Rattle.link_events.proofs.Common.{Finish, Start, Completed, Course, fronts, goes, meets, preceded, Message}
+use Rattle.link_events.proofs.Common.{same_pair, Planned, SomeReadyAt, may_launch, PlansStart, Wakes, WakesEach}
+use Rattle.link_events.proofs.Common.{all_started, IsDue, Happens, IsRefusedFor, refused_more, fronts_are_first}
+use Rattle.std.proofs.Common.{IfSome}
+use Rattle.link_simulation.specs.Rule.Planned.{next_event}
+use Rattle.link_simulation.specs.Rule.Events.{Advances, no_more, at_finish}
 use Rattle.link_simulation.specs.Rule.Events.{at_start, finish_stops, start_stops}
-use Rattle.link_events.specs.Steps.Due.{IsDue, Happens}
 use Rattle.link_events.specs.Steps.AsPlanned.{HasNothingDue}
-use Rattle.link_simulation.specs.Simulation.RefusalCauses.{IsRefusedFor}
 use Rattle.link_events.proofs.Steps.SoFar.{preceded_both}
-use Rattle.link_simulation.proofs.Simulation.RefusalCauses.{refused_more}
-use Rattle.link_simulation.proofs.Simulation.OtherPairs.{fronts_are_first}
 
 module _ {P : Type 0} (cmp : P → P → Ordering) where
   -- so far so many events happened, and this came out

@@ -1,9 +1,6 @@
 -- How what a call does is answered.
-use Rattle.std.proofs.Common.{ℕ}
-use Rattle.std.specs.declared.cmp.Ordering.{Ordering}
-use Rattle.link_simulation.specs.Simulation.World.{Completed, Course}
+use Rattle.link_events.proofs.Common.{ℕ, Ordering, Completed, Course, Planned}
 use Rattle.link_simulation.specs.Simulation.Calls.{Call, call_advance}
-use Rattle.link_simulation.specs.Rule.Planned.{Planned}
 use Rattle.link_simulation.specs.Rule.Events.{Obeys}
 use Rattle.link_events.specs.Steps.Answered.{ObeysIn}
 

@@ -1,5 +1,5 @@
 -- What a call does at its moment.
-use Rattle.std.proofs.Common.{◌≡◌, ℕ, List, Some, refl}
+use Rattle.link_events.proofs.Common.{◌≡◌, ℕ, List, Some, refl}
 use Rattle.link_simulation.specs.Simulation.Calls.{moment_of}
 use Rattle.link_events.specs.declared.change.Change.{Change}
 use Rattle.link_events.specs.declared.change.Change.TheVariants.{Advance}

@@ -1,31 +1,18 @@
 -- Each event makes less of what is still to happen.
-use Rattle.std.proofs.Common.{◌≡◌, ℕ, zero, suc, ◌+◌, ◌*◌, ◌<◌, ◌≤◌, List, [], ◌∷◌, length, slice_get, Bool, true}
-use Rattle.std.proofs.Common.{false, cond, if◌then◌else◌, ◌||◌, inl, inr, Option, Some, None, refl, sym, ap, ◌∙◌, subst}
-use Rattle.std.proofs.Common.{arith, length-append}
-use Rattle.std.specs.Prelude.{◌==◌}
-use Rattle.std.specs.List.{find, filter, list_any}
-use Rattle.std.specs.declared.cmp.Ordering.{Ordering}
-use Rattle.std.specs.Cmp.{IsTotalOrder}
-use Rattle.std.proofs.lemmas.List.{length-map}
-use Rattle.std.proofs.lemmas.Bool.{eq-eqb, or_right, or_left}
-use Rattle.fair_rates.proofs.Lists.Booleans.{by_bool}
-use Rattle.fair_rates.specs.Lists.WithoutFirst.{without_first}
-use Rattle.link_events.specs.declared.event.Event.{Event}
-use Rattle.link_events.specs.declared.event.Event.TheVariants.{Finish, Start}
-use Rattle.link_simulation.specs.Simulation.Messages.{Message, same_pair}
-use Rattle.link_simulation.specs.Simulation.World.{Completed, Course, goes, meets, preceded, fronts}
-use Rattle.link_simulation.specs.Rule.Planned.{Planned, RatedFlight, IsLeastMoment, SomeSpentAt, SomeReadyAt, next_of}
-use Rattle.link_simulation.specs.Rule.Planned.{left_at, drained_to, is_spent, may_launch}
-use Rattle.link_simulation.specs.Rule.Events.{Accounts, PlansStart, Launches, nothing_waits, too_early, no_id, starts}
-use Rattle.link_simulation.specs.Rule.Events.{launched, landed, Finishes, all_completed, late, stopped, completes}
-use Rattle.link_simulation.specs.Rule.Events.{Settles, settling, WakesEach, all_started, no_start, no_finish}
-use Rattle.link_simulation.specs.Rule.Events.{starts_one, Wakes}
-use Rattle.fair_rates.specs.Numbers.Amount.{whole}
-use Rattle.link_events.specs.Steps.Due.{IsDue, Happens}
+use Rattle.link_events.proofs.Common.{◌≡◌, ℕ, zero, suc, ◌+◌, ◌*◌, ◌<◌, ◌≤◌, List, [], ◌∷◌, length, Bool, true, false}
+use Rattle.link_events.proofs.Common.{cond, if◌then◌else◌, ◌||◌, inl, inr, Option, Some, None, refl, sym, ap, ◌∙◌}
+use Rattle.link_events.proofs.Common.{subst, arith, length-append, ◌==◌, find, filter, list_any, Ordering, IsTotalOrder}
+use Rattle.link_events.proofs.Common.{length-map, eq-eqb, or_left, by_bool, without_first, Event, Finish, Start}
+use Rattle.link_events.proofs.Common.{Message, same_pair, Completed, Course, goes, meets, preceded, fronts, Planned}
+use Rattle.link_events.proofs.Common.{RatedFlight, SomeReadyAt, next_of, left_at, drained_to, is_spent, may_launch}
+use Rattle.link_events.proofs.Common.{Accounts, PlansStart, Launches, nothing_waits, too_early, no_id, starts, launched}
+use Rattle.link_events.proofs.Common.{landed, Finishes, all_completed, late, stopped, completes, Settles, settling}
+use Rattle.link_events.proofs.Common.{WakesEach, all_started, no_start, no_finish, starts_one, Wakes, whole, IsDue}
+use Rattle.link_events.proofs.Common.{Happens, Each, pair_itself, fronts_are_first}
+use Rattle.std.proofs.Common.{slice_get}
+use Rattle.std.proofs.lemmas.Bool.{or_right}
+use Rattle.link_simulation.specs.Rule.Planned.{IsLeastMoment, SomeSpentAt}
 use Rattle.link_events.proofs.Steps.MessageCounts.{accounts_keep, accounts_waiting, length-without}
-use Rattle.fair_rates.proofs.Lists.Each.{Each}
-use Rattle.link_simulation.proofs.Simulation.AlikeMessages.{pair_itself}
-use Rattle.link_simulation.proofs.Simulation.OtherPairs.{fronts_are_first}
 use Rattle.link_simulation.proofs.Simulation.InOrder.{Somewhere, in_fronts}
 use Rattle.link_simulation.proofs.Rule.Advance.{earlier_start}
 

@@ -1,24 +1,14 @@
 -- The finishes of a queue and the starts of pairs, one after another.
-use Rattle.std.proofs.Common.{◌≡◌, ℕ, suc, ◌+◌, ◌-◌, ◌<◌, ◌≤◌, List, [], ◌∷◌, ◌++◌, length, Bool, true, false}
-use Rattle.std.proofs.Common.{if◌then◌else◌, Some, None, refl, sym, ap, ◌∙◌, subst, arith, append_assoc, get_or, drop}
-use Rattle.std.proofs.Common.{◌⊎◌, inl, inr, drop-cons, length-drop}
-use Rattle.std.specs.Bool.{then_some}
-use Rattle.std.specs.List.{find, AllZip}
-use Rattle.std.specs.declared.cmp.Ordering.{Ordering}
-use Rattle.std.specs.Cmp.{IsTotalOrder}
-use Rattle.std.proofs.lemmas.Bool.{and_from}
-use Rattle.fair_rates.specs.declared.error.Error.{Error}
-use Rattle.fair_rates.specs.declared.error.Error.TheVariants.{MomentTooLate, OutOfMemory}
-use Rattle.link_pairs.specs.declared.pair.PeerPair.{PeerPair}
-use Rattle.link_waiting.specs.Idle.PairsOfMessages.{NamesPairOf}
-use Rattle.fair_rates.specs.Sides.Subjects.{same_peer}
-use Rattle.link_pairs.specs.Pairs.Entries.{first_of, raised_at}
-use Rattle.link_simulation.specs.Simulation.Messages.{Message, same_pair}
-use Rattle.link_simulation.specs.Simulation.World.{Completed, Course, meets, is_late, arrival}
-use Rattle.link_simulation.specs.Rule.Planned.{Planned, next_of}
-use Rattle.link_simulation.specs.Rule.Events.{Launches, Finishes, late, stopped, landed, WakesEach}
-use Rattle.link_simulation.specs.Simulation.RefusalCauses.{IsRefusedFor}
-use Rattle.link_simulation.proofs.Simulation.RefusalCauses.{refused_more, refused_memory}
+use Rattle.link_events.proofs.Common.{◌≡◌, ℕ, suc, ◌+◌, ◌<◌, ◌≤◌, List, [], ◌∷◌, ◌++◌, length, Bool, true, false}
+use Rattle.link_events.proofs.Common.{if◌then◌else◌, Some, None, refl, sym, ap, ◌∙◌, subst, arith, append_assoc, get_or}
+use Rattle.link_events.proofs.Common.{drop, ◌⊎◌, inl, inr, drop-cons, then_some, find, AllZip, Ordering, IsTotalOrder}
+use Rattle.link_events.proofs.Common.{and_from, Error, MomentTooLate, OutOfMemory, PeerPair, NamesPairOf, same_peer}
+use Rattle.link_events.proofs.Common.{first_of, Message, same_pair, Completed, Course, meets, is_late, arrival, Planned}
+use Rattle.link_events.proofs.Common.{next_of, Launches, Finishes, late, stopped, landed, WakesEach, IsRefusedFor}
+use Rattle.link_events.proofs.Common.{refused_more, refused_memory}
+use Rattle.std.proofs.Common.{◌-◌}
+use Rattle.std.proofs.Common.{length-drop}
+use Rattle.link_pairs.specs.Pairs.Entries.{raised_at}
 use Rattle.link_simulation.proofs.Simulation.Queue.{pair_like}
 use Rattle.link_events.proofs.Steps.SoFar.{SoFar}
 

@@ -1,29 +1,18 @@
 -- What is done leaves, and the first of it lands: which pairs are idle then.
-use Rattle.std.proofs.Common.{◌≡◌, ℕ, zero, suc, ◌<◌, ◌≤◌, Bool, true, false, not, List, [], ◌∷◌, length, get_or}
-use Rattle.std.proofs.Common.{◌+◌, take, refl, sym, ap, ◌∙◌, subst, arith}
-use Rattle.std.specs.declared.sync.Arc.{Arc}
-use Rattle.std.specs.declared.alloc.Global.{Global}
-use Rattle.link_pairs.specs.Pairs.Messages.{message_of, messages}
-use Rattle.std.specs.List.{filter, list_any}
-use Rattle.std.specs.declared.cmp.Ordering.{Ordering}
-use Rattle.std.specs.Cmp.{IsTotalOrder}
-use Rattle.std.proofs.Common.{Option, Some, None, if◌then◌else◌}
-use Rattle.std.specs.Bool.{then_some}
-use Rattle.std.proofs.lemmas.Bool.{or_parts, or_left}
-use Rattle.link_simulation.proofs.Simulation.AlikeMessages.{pair_itself}
-use Rattle.link_events.specs.Steps.Landing.{FirstLands, LandsFirst, LeavesLanding, since_of_first}
-use Rattle.link_simulation.specs.Rule.Leaving.{Leaves}
+use Rattle.link_events.proofs.Common.{◌≡◌, ℕ, zero, suc, ◌<◌, ◌≤◌, Bool, true, false, not, List, [], ◌∷◌, length}
+use Rattle.link_events.proofs.Common.{get_or, ◌+◌, take, refl, sym, ap, ◌∙◌, subst, arith, Arc, Global, message_of}
+use Rattle.link_events.proofs.Common.{messages, filter, list_any, Ordering, IsTotalOrder, Option, Some, None}
+use Rattle.link_events.proofs.Common.{if◌then◌else◌, then_some, or_parts, or_left, pair_itself, FirstLands}
+use Rattle.link_events.proofs.Common.{since_of_first, Leaves, Message, OneForEachPair, Planned, RatedFlight}
+use Rattle.link_events.proofs.Common.{rated_messages, drained_to, Pair, arrival_of, of_pairs, IsIndexOf, is_of_pair}
+use Rattle.link_events.proofs.Common.{AreAtRest, idle_from, same_flights_index, alike_from}
+use Rattle.link_events.specs.Steps.Landing.{LandsFirst, LeavesLanding}
 use Rattle.link_events.proofs.Steps.Finishing.{landed_so}
-use Rattle.link_simulation.specs.Simulation.Messages.{Message, OneForEachPair, PairsAlike}
-use Rattle.link_simulation.specs.Rule.Planned.{Planned, RatedFlight, rated_messages, drained_to}
+use Rattle.link_simulation.specs.Simulation.Messages.{PairsAlike}
 use Rattle.link_simulation.proofs.Simulation.Queue.{pair_sym}
 use Rattle.link_pairs.specs.declared.message.Message as code
-use Rattle.link_pairs.specs.Pairs.Entries.{Pair}
-use Rattle.link_pairs.specs.Pairs.Entries.{arrival_of}
-use Rattle.link_waiting.specs.Idle.AtRest.{of_pairs}
-use Rattle.link_waiting.specs.Idle.Index.{IsIndexOf, is_of_pair, AreAtRest, idle_from}
-use Rattle.link_waiting.proofs.Idle.IndexChanges.{flows_drained, same_flights_index, left_else}
-use Rattle.link_waiting.proofs.Idle.IndexChanges.{rests_index, alike_from}
+use Rattle.link_waiting.proofs.Idle.IndexChanges.{flows_drained, left_else}
+use Rattle.link_waiting.proofs.Idle.IndexChanges.{rests_index}
 use Rattle.link_events.proofs.Steps.OneEach.{one_apart, one_drained, rests_beside}
 
 module _ {P : Type 0} (cmp : P → P → Ordering) (order : IsTotalOrder cmp) where

@@ -1,13 +1,6 @@
 -- New caps, and what goes by them or is refused.
-use Rattle.std.proofs.Common.{◌≡◌, ℕ, true, subst}
-use Rattle.std.specs.declared.cmp.Ordering.{Ordering}
-use Rattle.fair_rates.specs.declared.error.Error.{Error}
-use Rattle.fair_rates.specs.Sides.Caps.{Caps}
-use Rattle.link_simulation.specs.Simulation.World.{Completed, Course, meets}
-use Rattle.link_simulation.specs.Simulation.RefusalCauses.{IsRefusedFor}
-use Rattle.link_simulation.specs.Rule.Planned.{Planned}
-use Rattle.link_simulation.specs.Rule.Events.{Rebalances, none_sending, some_sending}
-use Rattle.link_simulation.proofs.Simulation.RefusalCauses.{refused_more}
+use Rattle.link_events.proofs.Common.{◌≡◌, ℕ, true, subst, Ordering, Error, Caps, Completed, Course, meets}
+use Rattle.link_events.proofs.Common.{IsRefusedFor, Planned, Rebalances, none_sending, some_sending, refused_more}
 
 module _ {P : Type 0} (cmp : P → P → Ordering) (now : ℕ) (caps : Caps P) (q : Planned P) where
   -- new caps that are there already

@@ -1,21 +1,8 @@
 -- What is the same after a mark is set, and once all is put back.
-use Rattle.std.proofs.Common.{◌≡◌, false}
-use Rattle.std.proofs.Props.{props}
+use Rattle.link_events.proofs.Common.{◌≡◌, false, props, Ordering, Caps, Flights, flights_at, in_flight, WereRatedUnder}
+use Rattle.link_events.proofs.Common.{sending_of, OneForEachPair, rated_messages, caps_of, of_pairs, IsIndexOf}
+use Rattle.link_events.proofs.Common.{since_of, Ledger}
 use mathlib.Core.HLevel.{is_prop→PathP}
-use Rattle.std.specs.declared.cmp.Ordering.{Ordering}
-use Rattle.fair_rates.specs.Sides.Caps.{Caps}
-use Rattle.link_flights.specs.declared.flight_list.Flights.{Flights}
-use Rattle.link_flights.specs.Flights.Flight.{flights_at}
-use Rattle.link_flights.specs.Flights.InFlight.{in_flight}
-use Rattle.link_flights.specs.Flights.Rated.{WereRatedUnder}
-use Rattle.link_flights.specs.Flights.RatedFlights.{sending_of}
-use Rattle.link_simulation.specs.Simulation.Messages.{OneForEachPair}
-use Rattle.link_simulation.specs.Rule.Planned.{rated_messages}
-use Rattle.link_pairs.specs.Pairs.CapsOf.{caps_of}
-use Rattle.link_waiting.specs.Idle.AtRest.{of_pairs}
-use Rattle.link_waiting.specs.Idle.Index.{IsIndexOf}
-use Rattle.link_waiting.specs.Idle.Waits.{since_of}
-use Rattle.link_events.specs.declared.ledger.Ledger.{Ledger}
 
 -- what is in flight as before, in the same units and at the same moment
 module _ {P : Type 0} {a : _} {b : _} {c : _} (old new : Flights P a b c) (list : new.list.items ≡ old.list.items)

@@ -1,24 +1,13 @@
 -- How many messages wait and are in flight, through the parts of an event.
-use Rattle.std.proofs.Common.{◌≡◌, ℕ, suc, ◌+◌, List, [], ◌∷◌, length, Bool, true, false, not, cond, Option, Some, refl}
-use Rattle.std.proofs.Common.{sym, ap, ◌∙◌, arith, length-append}
-use Rattle.std.specs.List.{find, filter}
-use Rattle.std.specs.declared.cmp.Ordering.{Ordering}
-use Rattle.std.specs.Cmp.{IsTotalOrder}
-use Rattle.std.proofs.lemmas.List.{length-map}
+use Rattle.link_events.proofs.Common.{◌≡◌, ℕ, suc, ◌+◌, List, [], ◌∷◌, length, Bool, true, false, not, cond, Option}
+use Rattle.link_events.proofs.Common.{Some, refl, sym, ap, ◌∙◌, arith, length-append, find, filter, Ordering}
+use Rattle.link_events.proofs.Common.{IsTotalOrder, length-map, ◌==◌, ◌≢◌, eqb-true, eq-eqb, without_first, flights_at}
+use Rattle.link_events.proofs.Common.{sending_of, whole, Message, same_pair, Course, goes, meets, Planned, RatedFlight}
+use Rattle.link_events.proofs.Common.{drained_to, is_spent, Accounts, Launches, nothing_waits, too_early, no_id, starts}
+use Rattle.link_events.proofs.Common.{launched, pair_itself}
 use Rattle.std.proofs.lemmas.List.Filters.{length-filter_both}
-use Rattle.std.specs.Prelude.{◌==◌, ◌≢◌}
-use Rattle.std.proofs.lemmas.Bool.{eqb-true, eq-eqb}
-use Rattle.fair_rates.specs.Lists.WithoutFirst.{without_first}
 use Rattle.link_flights.specs.declared.flight.Flight.{Flight}
-use Rattle.link_flights.specs.Flights.Flight.{flights_at}
-use Rattle.link_flights.specs.Flights.RatedFlights.{sending_of}
-use Rattle.fair_rates.specs.Numbers.Amount.{whole}
-use Rattle.link_simulation.specs.Simulation.Messages.{Message, same_pair}
-use Rattle.link_simulation.specs.Simulation.World.{Course, goes, meets}
-use Rattle.link_simulation.specs.Rule.Planned.{Planned, RatedFlight, drained_to, is_spent}
-use Rattle.link_simulation.specs.Rule.Events.{Accounts, Launches, nothing_waits, too_early, no_id, starts, launched}
 use Rattle.fair_rates.proofs.Lists.Zips.{zip-length}
-use Rattle.link_simulation.proofs.Simulation.AlikeMessages.{pair_itself}
 
 pub length-without : {X : Type 0} (f g : X → Bool) (y : X) (xs : List X) → find f xs ≡ Some y → g y ≡ true
     → length (without_first g xs) + 1 ≡ length xs

@@ -1,17 +1,13 @@
 -- Caps of a peer, or of a pair, change: what they are about.
-use Rattle.std.proofs.Common.{◌≡◌, ℕ, Bool, true, false, not, ◌&&◌, ◌||◌, if◌then◌else◌, Option, refl, sym, ap, ◌∙◌, ◌⊎◌, inl, inr, is_none}
-use Rattle.std.specs.Cmp.{IsTotalOrder}
-use Rattle.std.specs.declared.cmp.Ordering.{Ordering}
-use Rattle.std.proofs.lemmas.Bool.{or_parts}
+use Rattle.link_events.proofs.Common.{◌≡◌, ℕ, Bool, true, false, not, ◌&&◌, ◌||◌, if◌then◌else◌, Option, refl, sym, ap}
+use Rattle.link_events.proofs.Common.{◌∙◌, ◌⊎◌, inl, inr, IsTotalOrder, Ordering, or_parts, Caps, same_peer, by_bool}
+use Rattle.link_events.proofs.Common.{first_of_both, second_of_both, Message, is_delivered, is_unlimited, message_of}
+use Rattle.link_events.proofs.Common.{UnitFlight}
+use Rattle.std.proofs.Common.{is_none}
 use Rattle.std.proofs.lemmas.Cmp.{eq_by_cmp_equiv}
 use Rattle.fair_rates.specs.Fairness.UnderCaps.{cap_of, limits}
-use Rattle.fair_rates.specs.Sides.Caps.{Caps, with_cap, with_link}
-use Rattle.fair_rates.specs.Sides.Subjects.{Subject, sent_by, received_by, sent_between, same_peer}
-use Rattle.fair_rates.proofs.Lists.Booleans.{by_bool, first_of_both, second_of_both}
-use Rattle.link_simulation.specs.Simulation.Messages.{Message, is_delivered}
-use Rattle.link_simulation.specs.Simulation.Rates.{is_unlimited}
-use Rattle.link_pairs.specs.Pairs.Messages.{message_of}
-use Rattle.link_flights.specs.Flights.Flight.{UnitFlight}
+use Rattle.fair_rates.specs.Sides.Caps.{with_cap, with_link}
+use Rattle.fair_rates.specs.Sides.Subjects.{Subject, sent_by, received_by, sent_between}
 use Rattle.link_flights.specs.Flights.Sides.{flow_in_flight}
 
 pub not_off : (b : Bool) → not b ≡ false → b ≡ true

@@ -1,23 +1,11 @@
 -- At most one message of each pair is in flight.
-use Rattle.std.proofs.Common.{Option, ◌≡◌, ℕ, Bool, true, false, not, ◌||◌, cond, List, [], ◌∷◌, ◌++◌}
-use Rattle.std.proofs.Common.{refl, sym, ap, ◌∙◌, subst}
-use Rattle.std.proofs.Math.Logic.{∥∥₁_elim}
-use Rattle.std.proofs.Props.{props}
-use Rattle.std.specs.List.{filter, list_any}
-use Rattle.std.specs.declared.cmp.Ordering.{Ordering}
-use Rattle.std.specs.Cmp.{IsTotalOrder}
-use Rattle.std.proofs.lemmas.Bool.{or_from}
-use Rattle.std.proofs.lemmas.List.{map-append}
-use Rattle.fair_rates.proofs.Lists.Booleans.{by_bool}
-use Rattle.link_simulation.specs.Simulation.Messages.{Message, OneForEachPair, same_pair}
-use Rattle.link_simulation.specs.Rule.Planned.{Planned, RatedFlight, rated_messages, drained_to, is_spent}
-use Rattle.link_simulation.specs.Rule.Events.{Accounts}
-use Rattle.link_simulation.proofs.Simulation.Queue.{any_like, one_pair_more}
-use Rattle.link_simulation.proofs.Laws.Orderly.{any_of_fewer, drained_messages, stayed_messages, one_of_fewer}
-use Rattle.link_pairs.specs.Pairs.Entries.{Pair}
-use Rattle.link_waiting.specs.Idle.AtRest.{of_pairs, is_sending}
-use Rattle.link_waiting.specs.Idle.Index.{is_of_pair, AreAtRest}
-use Rattle.link_waiting.proofs.Idle.IndexChanges.{alike_from}
+use Rattle.link_events.proofs.Common.{Option, ◌≡◌, ℕ, Bool, true, false, not, ◌||◌, cond, List, [], ◌∷◌, ◌++◌, refl}
+use Rattle.link_events.proofs.Common.{sym, ap, ◌∙◌, subst, ∥∥₁_elim, props, filter, list_any, Ordering, IsTotalOrder}
+use Rattle.link_events.proofs.Common.{or_from, map-append, by_bool, Message, OneForEachPair, same_pair, Planned}
+use Rattle.link_events.proofs.Common.{RatedFlight, rated_messages, drained_to, is_spent, Accounts, any_like}
+use Rattle.link_events.proofs.Common.{stayed_messages, Pair, of_pairs, is_sending, is_of_pair, AreAtRest, alike_from}
+use Rattle.link_simulation.proofs.Simulation.Queue.{one_pair_more}
+use Rattle.link_simulation.proofs.Laws.Orderly.{any_of_fewer, drained_messages, one_of_fewer}
 
 module _ {P : Type 0} (cmp : P → P → Ordering) where
   one_each_prop : (ms : List (Message P)) → IsProp (OneForEachPair cmp ms)

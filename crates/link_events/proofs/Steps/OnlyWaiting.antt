@@ -1,16 +1,10 @@
 -- A message whose pair has one in flight waits, and nothing else changes but the planned start.
-use Rattle.std.proofs.Common.{◌≡◌, ℕ, ◌+◌, [], Bool, true, not, Option, Some, None, refl, sym, ap, ◌∙◌, subst}
+use Rattle.link_events.proofs.Common.{◌≡◌, ℕ, ◌+◌, [], Bool, true, not, Option, Some, None, refl, sym, ap, ◌∙◌, subst}
+use Rattle.link_events.proofs.Common.{list_any, Ordering, IsTotalOrder, is_sending, goes, Message, same_pair, Planned}
+use Rattle.link_events.proofs.Common.{next_of, rated_messages, Launches, nothing_waits, too_early, all_completed}
+use Rattle.link_events.proofs.Common.{launches, PlansStart, Enqueues, with_queued, find_passes, any_like}
 use Rattle.std.specs.Prelude.{◌&&◌}
-use Rattle.std.specs.List.{list_any}
-use Rattle.std.specs.declared.cmp.Ordering.{Ordering}
-use Rattle.std.specs.Cmp.{IsTotalOrder}
-use Rattle.link_waiting.specs.Idle.AtRest.{is_sending}
-use Rattle.link_simulation.specs.Simulation.World.{is_in_order, goes}
-use Rattle.link_simulation.specs.Simulation.Messages.{Message, same_pair}
-use Rattle.link_simulation.specs.Rule.Planned.{Planned, next_of, rated_messages}
-use Rattle.link_simulation.specs.Rule.Events.{Launches, nothing_waits, too_early, all_completed, launches, PlansStart}
-use Rattle.link_simulation.specs.Rule.Events.{Enqueues, with_queued}
-use Rattle.link_simulation.proofs.Simulation.Queue.{find_passes, any_like}
+use Rattle.link_simulation.specs.Simulation.World.{is_in_order}
 
 module _ {P : Type 0} (cmp : P → P → Ordering) (order : IsTotalOrder cmp) where
   -- nothing of a busy pair starts

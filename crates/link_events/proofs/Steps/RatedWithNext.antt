@@ -1,26 +1,13 @@
 -- The rates of an account, once a message that is done has landed, and the next one of its pair starts or waits.
-use Rattle.std.proofs.Common.{◌≡◌, ℕ, ◌<◌, true, false, not, List, [], Some, refl}
-use Rattle.std.proofs.Common.{sym, ap, ◌∙◌, subst}
-use Rattle.std.specs.List.{filter}
-use Rattle.std.specs.declared.cmp.Ordering.{Ordering}
-use Rattle.std.specs.Cmp.{IsTotalOrder}
-use Rattle.fair_rates.specs.declared.error.Error.{Error}
-use Rattle.link_simulation.specs.Simulation.Messages.{Message}
-use Rattle.link_simulation.specs.Simulation.World.{Course, goes, meets, last_moment}
-use Rattle.link_simulation.specs.Simulation.RefusalCauses.{IsRefusedFor}
-use Rattle.link_simulation.specs.Rule.Planned.{Planned, RatedFlight, rated_messages, next_of, may_launch, is_spent}
-use Rattle.link_simulation.specs.Rule.Planned.{drained_to}
-use Rattle.link_simulation.specs.Rule.Events.{Accounts, Launches, landed, launched}
-use Rattle.link_simulation.specs.Rule.Leaving.{Leaves}
-use Rattle.link_simulation.proofs.Laws.Orderly.{stayed_messages}
+use Rattle.link_events.proofs.Common.{◌≡◌, ℕ, ◌<◌, true, false, not, List, [], Some, refl, sym, ap, ◌∙◌, subst, filter}
+use Rattle.link_events.proofs.Common.{Ordering, IsTotalOrder, Error, Message, Course, goes, meets, last_moment}
+use Rattle.link_events.proofs.Common.{IsRefusedFor, Planned, RatedFlight, rated_messages, next_of, may_launch, is_spent}
+use Rattle.link_events.proofs.Common.{drained_to, Accounts, Launches, landed, launched, Leaves, stayed_messages}
+use Rattle.link_events.proofs.Common.{AreLowest, refused_more, first_of, idle_from, UnitFlight, sending_of}
+use Rattle.link_events.proofs.Common.{left_updated}
 use Rattle.link_simulation.proofs.Rule.Following.{lands, none_leaves_again, follows}
-use Rattle.link_simulation.proofs.Rule.OneAccount.{AreLowest, starting}
-use Rattle.link_simulation.proofs.Simulation.RefusalCauses.{refused_more}
-use Rattle.link_pairs.specs.Pairs.Entries.{first_of}
-use Rattle.link_waiting.specs.Idle.Index.{idle_from}
-use Rattle.link_flights.specs.Flights.Flight.{UnitFlight}
-use Rattle.link_flights.specs.Flights.RatedFlights.{sending_of}
-use Rattle.link_flights.proofs.Flights.Joining.{left_updated, still_as_read}
+use Rattle.link_simulation.proofs.Rule.OneAccount.{starting}
+use Rattle.link_flights.proofs.Flights.Joining.{still_as_read}
 use Rattle.link_events.proofs.Steps.Finishing.{launches_landed}
 use Rattle.link_events.proofs.Steps.Standing.{read_lowest}
 

@@ -1,25 +1,14 @@
 -- An account, and the first of those that left with it.
-use Rattle.std.proofs.Common.{◌≡◌, ℕ, ◌<◌, List, [], ◌∷◌, ◌++◌, length, true, false, ◌⊎◌, inl, inr}
-use Rattle.std.proofs.Common.{get_or, drop, drop-cons, append_assoc, Result, Ok, Err, IfOk, IfErr, refl, sym, ap, ◌∙◌, subst}
-use Rattle.std.specs.declared.alloc.Global.{Global}
-use Rattle.std.specs.declared.cmp.Ordering.{Ordering}
-use Rattle.std.specs.declared.sync.Arc.{Arc}
-use Rattle.std.specs.Cmp.{IsTotalOrder}
-use Rattle.std.proofs.lemmas.List.{append-nil, map-append}
-use Rattle.fair_rates.specs.declared.error.Error.{Error}
-use Rattle.fair_rates.specs.declared.error.Error.TheVariants.{OutOfMemory, MomentTooLate}
+use Rattle.link_events.proofs.Common.{◌≡◌, ℕ, ◌<◌, List, [], ◌∷◌, ◌++◌, length, true, false, ◌⊎◌, inl, inr, get_or}
+use Rattle.link_events.proofs.Common.{drop, drop-cons, append_assoc, Result, Ok, Err, IfOk, IfErr, refl, sym, ap, ◌∙◌}
+use Rattle.link_events.proofs.Common.{subst, Global, Ordering, Arc, IsTotalOrder, append-nil, map-append, Error}
+use Rattle.link_events.proofs.Common.{OutOfMemory, MomentTooLate, message_of, messages, Message, Completed, Course}
+use Rattle.link_events.proofs.Common.{goes, meets, is_late, completed, preceded, IsRefusedFor, Planned, next_of, Leaves}
+use Rattle.link_events.proofs.Common.{Accounts, Launches, landed, Finishes, late, stopped, Settles, settling}
+use Rattle.link_events.proofs.Common.{account_of, preceded_none, refused_more, refused_memory}
 use Rattle.link_pairs.specs.declared.message.Message as code
-use Rattle.link_pairs.specs.Pairs.Messages.{message_of, messages}
-use Rattle.link_simulation.specs.Simulation.Messages.{Message}
-use Rattle.link_simulation.specs.Simulation.World.{Completed, Course, goes, meets, is_late, completed, preceded}
-use Rattle.link_simulation.specs.Simulation.RefusalCauses.{IsRefusedFor}
-use Rattle.link_simulation.specs.Rule.Planned.{Planned, next_of}
-use Rattle.link_simulation.specs.Rule.Leaving.{Leaves}
 use Rattle.link_events.specs.Steps.Landing.{LandsLate}
-use Rattle.link_simulation.specs.Rule.Events.{Accounts, Launches, landed, Finishes, late, stopped, Settles, settling}
-use Rattle.link_simulation.proofs.Rule.Following.{account_of, settles_first}
-use Rattle.link_simulation.proofs.Simulation.Queue.{preceded_none}
-use Rattle.link_simulation.proofs.Simulation.RefusalCauses.{refused_more, refused_memory}
+use Rattle.link_simulation.proofs.Rule.Following.{settles_first}
 
 -- the messages of a queue that has a first one are that one and the others
 pub first_and_others : {P : Type 0} (queue : List (Arc (code.Message P) Global)) (first : Arc (code.Message P) Global)

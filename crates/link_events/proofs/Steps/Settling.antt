@@ -1,24 +1,17 @@
 -- What an account and its finishes make of a call's parts.
-use Rattle.std.proofs.Common.{◌≡◌, ◌≢◌, ℕ, ◌+◌, List, [], ◌∷◌, ◌++◌, Bool, true, false, cond, ◌&&◌, if◌then◌else◌}
-use Rattle.std.proofs.Common.{Option, Some, None, Result, Ok, Err, IfOk, IfErr, refl, sym, ap, ◌∙◌, subst}
+use Rattle.link_events.proofs.Common.{◌≡◌, ℕ, ◌+◌, List, [], ◌∷◌, ◌++◌, Bool, true, false, cond, ◌&&◌, if◌then◌else◌}
+use Rattle.link_events.proofs.Common.{Option, Some, None, Result, Ok, Err, IfOk, IfErr, refl, sym, ap, ◌∙◌, subst}
+use Rattle.link_events.proofs.Common.{then_some, Ordering, IsTotalOrder, Error, MomentTooLate, PeerPair, NamesPairOf}
+use Rattle.link_events.proofs.Common.{first_of, Message, Completed, Course, goes, meets, completion_of, last_moment}
+use Rattle.link_events.proofs.Common.{Planned, next_of, PlansStart, Launches, Finishes, Settles, Rebalances}
+use Rattle.link_events.proofs.Common.{none_sending, some_sending, Enqueues, launches, with_queued, IsRefusedFor}
+use Rattle.link_events.proofs.Common.{refused_more}
+use Rattle.std.proofs.Common.{◌≢◌}
 use Rattle.std.specs.Prelude.{nat_lt}
-use Rattle.std.specs.Bool.{then_some}
-use Rattle.std.specs.declared.cmp.Ordering.{Ordering}
-use Rattle.std.specs.Cmp.{IsTotalOrder}
-use Rattle.fair_rates.specs.declared.error.Error.{Error}
-use Rattle.fair_rates.specs.declared.error.Error.TheVariants.{MomentTooLate}
-use Rattle.link_pairs.specs.declared.pair.PeerPair.{PeerPair}
-use Rattle.link_waiting.specs.Idle.PairsOfMessages.{NamesPairOf}
-use Rattle.link_pairs.specs.Pairs.Entries.{first_of}
-use Rattle.link_simulation.specs.Simulation.Messages.{Message}
-use Rattle.link_simulation.specs.Simulation.World.{Completed, Course, goes, meets, completion_of, last_moment, later_of}
+use Rattle.link_simulation.specs.Simulation.World.{later_of}
 use Rattle.link_simulation.specs.Simulation.World.{raised}
-use Rattle.link_simulation.specs.Rule.Planned.{Planned, next_of}
-use Rattle.link_simulation.specs.Rule.Events.{PlansStart, Launches, Finishes, Settles, Rebalances}
-use Rattle.link_simulation.specs.Rule.Events.{none_sending, some_sending, Enqueues, at_once, no_launch, launches}
-use Rattle.link_simulation.specs.Rule.Events.{with_queued, completed_at_once}
-use Rattle.link_simulation.specs.Simulation.RefusalCauses.{IsRefusedFor}
-use Rattle.link_simulation.proofs.Simulation.RefusalCauses.{refused_more}
+use Rattle.link_simulation.specs.Rule.Events.{at_once, no_launch}
+use Rattle.link_simulation.specs.Rule.Events.{completed_at_once}
 use Rattle.link_events.proofs.Steps.Finishing.{first_of_key, then_some_is}
 
 -- what an answer makes of a fact about it

@@ -1,11 +1,6 @@
 -- What came out so far of a course that goes in steps.
-use Rattle.std.proofs.Common.{◌≡◌, List, [], ◌++◌, refl, sym, ap, ◌∙◌, subst, append_assoc}
-use Rattle.std.proofs.lemmas.List.{append-nil}
-use Rattle.fair_rates.specs.declared.error.Error.{Error}
-use Rattle.link_simulation.specs.Simulation.World.{Course, goes, meets, preceded}
-use Rattle.link_simulation.specs.Simulation.RefusalCauses.{IsRefusedFor}
-use Rattle.link_simulation.proofs.Simulation.Queue.{preceded_none}
-use Rattle.link_simulation.proofs.Simulation.RefusalCauses.{refused_more}
+use Rattle.link_events.proofs.Common.{◌≡◌, List, [], ◌++◌, refl, sym, ap, ◌∙◌, subst, append_assoc, append-nil, Error}
+use Rattle.link_events.proofs.Common.{Course, goes, meets, preceded, IsRefusedFor, preceded_none, refused_more}
 
 -- what came out in two parts
 pub preceded_both : {X S : Type 0} (xs ys : List X) (c : Course X S)

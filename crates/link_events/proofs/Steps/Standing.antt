@@ -1,31 +1,22 @@
 -- The way through a list of messages, with one account for those that only start.
-use Rattle.std.proofs.Common.{◌≡◌, ℕ, ◌*◌, ◌<◌, List, [], ◌∷◌, ◌++◌, Bool, true, false}
-use Rattle.std.proofs.Common.{Option, Some, None, refl, sym, ap, ◌∙◌, subst}
-use Rattle.std.specs.Prelude.{◌&&◌, is_none}
-use Rattle.std.specs.List.{list_any}
-use Rattle.std.specs.declared.cmp.Ordering.{Ordering}
-use Rattle.std.specs.Cmp.{IsTotalOrder}
+use Rattle.link_events.proofs.Common.{◌≡◌, ℕ, ◌*◌, ◌<◌, List, [], ◌∷◌, ◌++◌, Bool, true, false, Option, Some, None}
+use Rattle.link_events.proofs.Common.{refl, sym, ap, ◌∙◌, subst, is_none, list_any, Ordering, IsTotalOrder, Message}
+use Rattle.link_events.proofs.Common.{same_pair, Completed, goes, meets, Planned, next_of, may_launch, Accounts}
+use Rattle.link_events.proofs.Common.{PlansStart, Enqueues, launched, with_queued, AreLowest, IsStanding, UnitFlight}
+use Rattle.link_events.proofs.Common.{sending_of, is_sending, IsRefusedFor, Error}
+use Rattle.std.specs.Prelude.{◌&&◌}
 use Rattle.fair_rates.specs.Numbers.Amount.{billion}
 use Rattle.fair_rates.specs.Numbers.LowestTerms.{reduced_positive}
 use Rattle.link_events.specs.declared.batch.Standing.{Standing}
 use Rattle.link_events.specs.declared.batch.Standing.TheVariants.{Open, Accounted, Due}
-use Rattle.link_simulation.specs.Simulation.Messages.{Message, same_pair}
-use Rattle.link_simulation.specs.Simulation.World.{Completed, goes, meets}
-use Rattle.link_simulation.specs.Rule.Planned.{Planned, next_of, may_launch}
-use Rattle.link_simulation.specs.Rule.Events.{Accounts, PlansStart, Enqueues, launched, with_queued}
-use Rattle.link_simulation.proofs.Rule.OneAccount.{AreLowest, ArePositive, IsAccountedAt, accounted, enqueue_accounted}
+use Rattle.link_simulation.proofs.Rule.OneAccount.{ArePositive, IsAccountedAt, accounted, enqueue_accounted}
 use Rattle.link_simulation.proofs.Rule.OneAccount.{enqueue_starts, account_again, messages_stay, planned_alike}
 use Rattle.link_simulation.proofs.Rule.OneAccount.{one_starts}
 use Rattle.link_simulation.proofs.Rule.OneCourse.{account_is_one}
 use Rattle.link_simulation.proofs.Simulation.LowestTerms.{reduced_lowest}
-use Rattle.link_events.specs.Steps.Standing.{IsStanding, OnlyStarts, is_accounted, does_start}
+use Rattle.link_events.specs.Steps.Standing.{OnlyStarts, is_accounted, does_start}
 use Rattle.link_events.specs.Steps.Standing.{standing_after}
-use Rattle.link_flights.specs.Flights.Flight.{UnitFlight}
-use Rattle.link_flights.specs.Flights.RatedFlights.{sending_of}
-use Rattle.link_waiting.specs.Idle.AtRest.{is_sending}
 use Rattle.link_simulation.specs.Rule.Events.{EnqueuesEach, all_enqueued, one_stops, enqueues_one}
-use Rattle.link_simulation.specs.Simulation.RefusalCauses.{IsRefusedFor}
-use Rattle.fair_rates.specs.declared.error.Error.{Error}
 use Rattle.link_events.proofs.Steps.SoFar.{SoFar, none_so_far, step_so_far, all_so_far, refused_so_far}
 use Rattle.link_events.proofs.Steps.OnlyWaiting.{enqueue_waits}
 use Rattle.link_events.proofs.Steps.Starting.{starts_unspent}

@@ -1,27 +1,13 @@
 -- The next message of a pair starts, and stays in flight at the account that follows.
-use Rattle.std.proofs.Common.{◌≡◌, ℕ, length, Option, Some, Bool, true, false, refl, sym, ap, ◌∙◌, subst}
-use Rattle.std.specs.Prelude.{◌≢◌, ◌==◌}
-use Rattle.std.specs.declared.cmp.Ordering.{Ordering}
-use Rattle.std.specs.Cmp.{IsTotalOrder}
-use Rattle.std.proofs.lemmas.Bool.{or_from, eqb-true}
-use Rattle.std.proofs.Math.Logic.{∥∥₁_map}
-use Rattle.fair_rates.specs.Numbers.Amount.{whole}
-use Rattle.fair_rates.specs.Sides.Caps.{Caps}
-use Rattle.link_simulation.specs.Simulation.Messages.{Message}
-use Rattle.link_simulation.specs.Simulation.Rates.{is_unlimited}
-use Rattle.link_simulation.specs.Rule.Planned.{Planned, is_spent}
-use Rattle.link_simulation.specs.Rule.Events.{launched}
+use Rattle.link_events.proofs.Common.{◌≡◌, ℕ, length, Option, Some, Bool, true, false, refl, sym, ap, ◌∙◌, subst, ◌≢◌}
+use Rattle.link_events.proofs.Common.{◌==◌, Ordering, IsTotalOrder, or_from, eqb-true, ∥∥₁_map, whole, Caps, Message}
+use Rattle.link_events.proofs.Common.{is_unlimited, Planned, is_spent, launched, message_of, first_of, may_launch_first}
+use Rattle.link_events.proofs.Common.{HadFairRates, Ledger, planned}
 use Rattle.link_pairs.specs.declared.message.Message as code
-use Rattle.link_pairs.specs.Pairs.Messages.{message_of}
-use Rattle.link_pairs.specs.Pairs.Entries.{first_of}
 use Rattle.link_waiting.specs.Idle.Departed.{HasDeparted}
-use Rattle.link_waiting.specs.Idle.Starting.{may_launch_first}
 use Rattle.link_waiting.proofs.Idle.Starting.{pushed_is}
 use Rattle.link_flights.specs.Flights.InFlight.{Joins}
-use Rattle.link_flights.specs.Flights.Rated.{HadFairRates}
 use Rattle.link_flights.proofs.Flights.Joining.{fair_with}
-use Rattle.link_events.specs.declared.ledger.Ledger.{Ledger}
-use Rattle.link_events.specs.Steps.AsPlanned.{planned}
 use Rattle.link_events.specs.Steps.Starting.{WouldStay, StartsNext}
 
 module _ {P : Type 0} (cmp : P → P → Ordering) where

@@ -1,43 +1,22 @@
 -- A message that uses no capped side is done as it starts.
-use Rattle.std.proofs.Common.{◌≡◌, ℕ, length, refl, ◌++◌, List, [], ◌∷◌, Bool, true, false, not, cond, sym, ap, ◌∙◌, subst, inl, inr}
-use Rattle.std.specs.Prelude.{◌==◌, ◌||◌, ◌&&◌, Some, Option}
-use Rattle.std.specs.List.{filter}
-use Rattle.std.specs.declared.cmp.Ordering.{Ordering}
-use Rattle.std.specs.Cmp.{IsTotalOrder}
-use Rattle.std.proofs.lemmas.List.{append-nil, map-append}
+use Rattle.link_events.proofs.Common.{◌≡◌, ℕ, length, refl, ◌++◌, List, [], ◌∷◌, Bool, true, false, not, cond, sym, ap}
+use Rattle.link_events.proofs.Common.{◌∙◌, subst, inl, inr, ◌==◌, filter, Ordering, IsTotalOrder, append-nil}
+use Rattle.link_events.proofs.Common.{map-append, whole, Caps, Message, is_unlimited, Planned, RatedFlight}
+use Rattle.link_events.proofs.Common.{rated_messages, drained_to, left_at, is_spent, Accounts, Launches, starts}
+use Rattle.link_events.proofs.Common.{launched, goes, last_moment, any_like, find_passes, idle_if_may, Error, same_peer}
+use Rattle.link_events.proofs.Common.{first_of, is_sending, may_launch_first, IfOk, Result, Ok, Err, ◌<◌, Leaves}
+use Rattle.link_events.proofs.Common.{message_of, false≢true, UnitFlight, Flights, is_out, AreFairlyRated, HadFairRates}
+use Rattle.link_events.proofs.Common.{gone_through, by_bool, without_first, with_link}
+use Rattle.std.specs.Prelude.{◌||◌, ◌&&◌, Some, Option}
 use Rattle.std.proofs.lemmas.List.Elements.{filter-append}
 use Rattle.std.proofs.Math.Bool.{or-true}
-use Rattle.fair_rates.specs.Numbers.Amount.{whole}
-use Rattle.fair_rates.specs.Sides.Caps.{Caps}
-use Rattle.link_simulation.specs.Simulation.Messages.{Message}
-use Rattle.link_simulation.specs.Simulation.Rates.{is_unlimited}
-use Rattle.link_simulation.specs.Rule.Planned.{Planned, RatedFlight, rated_messages, drained_to, left_at, is_spent}
-use Rattle.link_simulation.specs.Rule.Events.{Accounts, Launches, starts, launched}
-use Rattle.link_simulation.specs.Simulation.World.{goes, last_moment}
-use Rattle.link_simulation.proofs.Simulation.Queue.{any_like, find_passes}
-use Rattle.link_simulation.proofs.Laws.Orderly.{idle_if_may}
-use Rattle.fair_rates.specs.declared.error.Error.{Error}
-use Rattle.fair_rates.specs.Sides.Subjects.{same_peer}
-use Rattle.link_pairs.specs.Pairs.Entries.{first_of}
-use Rattle.link_waiting.specs.Idle.AtRest.{is_sending}
-use Rattle.link_waiting.specs.Idle.Starting.{may_launch_first}
-use Rattle.std.proofs.Common.{IfOk, Result, Ok, Err, ◌<◌}
-use Rattle.link_simulation.specs.Rule.Leaving.{Leaves}
 use Rattle.link_pairs.specs.declared.message.Message as code
-use Rattle.link_pairs.specs.Pairs.Messages.{message_of}
-use Rattle.std.proofs.lemmas.Bool.{false≢true}
 use Rattle.fair_rates.proofs.Lists.Members.{in_from_contains, in_either, contains_from_in}
-use Rattle.link_flights.specs.Flights.Flight.{UnitFlight}
-use Rattle.link_flights.specs.declared.flight_list.Flights.{Flights}
-use Rattle.link_flights.specs.Flights.Rated.{sent_messages, is_out, AreFairlyRated}
+use Rattle.link_flights.specs.Flights.Rated.{sent_messages}
 use Rattle.link_flights.specs.Flights.RatedFlights.{rated_flight_of}
-use Rattle.link_flights.specs.Flights.Rated.{HadFairRates}
-use Rattle.link_events.specs.Steps.Through.{FirstIsUnlimited, gone_through}
+use Rattle.link_events.specs.Steps.Through.{FirstIsUnlimited}
 use mathlib.Core.Path.{fun_ext}
 use Rattle.std.specs.Prelude.{◌+◌}
-use Rattle.fair_rates.proofs.Lists.Booleans.{by_bool}
-use Rattle.fair_rates.specs.Lists.WithoutFirst.{without_first}
-use Rattle.link_simulation.specs.Simulation.Messages.{with_link}
 use Rattle.link_waiting.proofs.Idle.Starting.{of_pair}
 
 module _ {X : Type 0} (test : X → Bool) (xs : List X) (x : X) where

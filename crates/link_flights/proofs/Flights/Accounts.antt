@@ -5,10 +5,10 @@ use Rattle.link_flights.proofs.Common.{zero-add, get_or, All, slice_index, lengt
 use Rattle.link_flights.proofs.Common.{list_all, ◌==◌, Ordering, and_from, first_of_both, second_of_both, reduced}
 use Rattle.link_flights.proofs.Common.{billion, Caps, message_of, UnitFlight, AreFairlyRated, IsRatedFrom, rates_of}
 use Rattle.link_flights.proofs.Common.{rated_flight_of, sending_of, Message, RatedFlight, rated_messages, drained_to}
-use Rattle.link_flights.proofs.Common.{is_spent, is_unlimited}
+use Rattle.link_flights.proofs.Common.{is_spent, is_unlimited, IsLeastMoment, SomeSpentAt}
 use Rattle.std.proofs.lemmas.List.Elements.{filter_passes}
 use Rattle.link_simulation.specs.Rule.Events.{Accounts}
-use Rattle.link_simulation.specs.Rule.Planned.{Planned, IsLeastMoment, SomeSpentAt}
+use Rattle.link_simulation.specs.Rule.Planned.{Planned}
 use Rattle.link_simulation.specs.Simulation.Rates.{AreFair, rate_of, rates_from}
 use Rattle.link_flights.proofs.Flights.InFlight.{nothing_is_done}
 use Rattle.link_flights.proofs.Flights.Standing.{messages_read, messages_kept}

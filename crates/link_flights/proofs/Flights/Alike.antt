@@ -1,9 +1,9 @@
 -- Flights that stand alike are the same.
 use Rattle.link_flights.proofs.Common.{◌≡◌, ◌<◌, ◌≤◌, true, not, ◌||◌, length, nat_le, list_all, HaveRates, Flights}
+use Rattle.link_flights.proofs.Common.{Line}
 use Rattle.std.proofs.Math.Bridge.{le_prop}
 use std.HLevel.{prop→path_p}
 use mathlib.Core.Bool.{Bool-set}
-use Rattle.link_flights.specs.Flights.Table.{Line}
 
 -- they are, where all that is kept is the same
 pub same_flights : {P : Type 0} {a : _} {b : _} {c : _} (one other : Flights P a b c) → one.alloc ≡ other.alloc

@@ -10,16 +10,13 @@ use Rattle.link_flights.proofs.Common.{second_of_both, In, in_from_contains, con
 use Rattle.link_flights.proofs.Common.{in_right, in_either, in_map, from_map, from_filter, get_from_map}
 use Rattle.link_flights.proofs.Common.{same_peer_itself, message_of, Component, End, Origin, Recipient, is_of, those_of}
 use Rattle.link_flights.proofs.Common.{UnitFlight, sent_messages, flow_in_flight, end_subject, link_subject, kept_load}
-use Rattle.link_flights.proofs.Common.{left_of, left_caps, flows_of, IsSideOf}
-use Rattle.std.proofs.Common.{replicate}
+use Rattle.link_flights.proofs.Common.{left_of, left_caps, flows_of, IsSideOf, replicate, flow_parts, same_subject}
+use Rattle.link_flights.proofs.Common.{one_cap, same_limits, AddsSides}
 use Rattle.fair_rates.specs.Fairness.UnderCaps.{IsCappedSide}
-use Rattle.fair_rates.specs.Filling.FairParts.{flow_parts}
-use Rattle.fair_rates.specs.Sides.Subjects.{same_subject}
 use Rattle.fair_rates.proofs.Lists.Members.{none_passes, any_fails}
 use Rattle.fair_rates.proofs.Lists.Places.{passes_here}
-use Rattle.fair_rates.proofs.Sides.EqualSubjects.{one_cap, same_limits}
 use Rattle.link_simulation.specs.Simulation.Messages.{OneForEachPair, same_pair}
-use Rattle.link_flights.specs.Flights.Sides.{HasSide, AddsSides, AreAllSides}
+use Rattle.link_flights.specs.Flights.Sides.{HasSide, AreAllSides}
 use Rattle.link_flights.proofs.Flights.InFlight.{filter_yes, filter_no}
 
 -- ---- kinds of subjects

@@ -4,12 +4,9 @@ use Rattle.link_flights.proofs.Common.{◌∙◌, ◌⊎◌, inl, inr, subst, ar
 use Rattle.link_flights.proofs.Common.{nil_from_length, Ordering, IsFair, AreOfPeers, sides_under, Caps}
 use Rattle.link_flights.proofs.Common.{same_peer_itself, capped_sides, message_of, Flight, Flights, UnitFlight}
 use Rattle.link_flights.proofs.Common.{flight_at, flights_at, IsTimed, AreTimed, in_units, IsReratedAt, HaveFairRates}
-use Rattle.link_flights.proofs.Common.{rated_anew, sent_messages, flow_sent}
+use Rattle.link_flights.proofs.Common.{rated_anew, sent_messages, flow_sent, still_fair, AreFairFor, AreKeptBut}
 use Rattle.std.specs.Prelude.{◌==◌, true, slice_set}
-use Rattle.fair_rates.proofs.Fairness.SameSides.{still_fair}
 use Rattle.link_pairs.specs.declared.message.Message as code
-use Rattle.link_flights.specs.Flights.Rated.{AreFairFor}
-use Rattle.link_flights.specs.Flights.Rated.{AreKeptBut}
 use Rattle.link_flights.proofs.Flights.FairMessages.{same_sides}
 use Rattle.link_flights.proofs.Flights.Rerating.{all_kept}
 

@@ -3,10 +3,8 @@ use Rattle.link_flights.proofs.Common.{◌≡◌, ℕ, ◌+◌, ◌<◌, nat_le,
 use Rattle.link_flights.proofs.Common.{◌++◌, length, take, get_or, refl, sym, ap, ap₂, ◌∙◌, arith, if◌then◌else◌}
 use Rattle.link_flights.proofs.Common.{list_all, list_any, Ordering, Arc, Global, le-leb, map-append, same_peer}
 use Rattle.link_flights.proofs.Common.{Component, Flight, keeps, is_of, those_of, is_sender, is_receiver, has_both}
-use Rattle.link_flights.proofs.Common.{touches, suits, is_closed, UnitFlight, flight_at, flights_at}
-use Rattle.std.proofs.lemmas.List.{take_more}
+use Rattle.link_flights.proofs.Common.{touches, suits, is_closed, UnitFlight, flight_at, flights_at, take_more, near_of}
 use Rattle.link_pairs.specs.declared.message.Message.{Message}
-use Rattle.link_flights.specs.Flights.Components.{near_of}
 use Rattle.link_flights.proofs.Flights.InFlight.{filter_yes}
 
 module _ {P : Type 0} (cmp : P → P → Ordering) (now : ℕ) (list : List (Flight P)) (at : ℕ)

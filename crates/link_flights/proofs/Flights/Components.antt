@@ -12,10 +12,9 @@ use Rattle.link_flights.proofs.Common.{message_of, UnitFlight, is_sender, is_rec
 use Rattle.link_flights.proofs.Common.{suits, is_closed, sent_messages, rates_of, rated_ones, rates_found, rerated}
 use Rattle.link_flights.proofs.Common.{rated_anew, AreFairlyRated, WereRated, IsRatedFrom, IsNoMore, IsLoose}
 use Rattle.link_flights.proofs.Common.{flow_in_flight, by_bool, first_of_both, second_of_both, same_peer_itself}
+use Rattle.link_flights.proofs.Common.{FairParts, load, still_fair}
 use Rattle.std.specs.Prelude.{nat_le}
-use Rattle.fair_rates.specs.declared.bandwidth.parts.FairParts.{FairParts}
-use Rattle.fair_rates.specs.Fairness.Fair.{load, HasBottleneck}
-use Rattle.fair_rates.proofs.Fairness.SameSides.{still_fair}
+use Rattle.fair_rates.specs.Fairness.Fair.{HasBottleneck}
 use Rattle.fair_rates.proofs.Fairness.Sharing.{StandsAt, fair_from}
 use Rattle.link_pairs.specs.declared.message.Message as code
 use Rattle.link_flights.proofs.Flights.FairMessages.{StandsForMessage, same_sides}

@@ -4,8 +4,7 @@ use Rattle.link_flights.proofs.Common.{if◌then◌else◌, List, [], ◌∷◌,
 use Rattle.link_flights.proofs.Common.{inl, inr, ◌==◌, Ordering, eqb-true, false≢true, le-leb, leb-true, billion, Caps}
 use Rattle.link_flights.proofs.Common.{by_bool, In, in_map, in_filter, all_pass, is_unlimited, last_moment, Flight}
 use Rattle.link_flights.proofs.Common.{UnitFlight, left_by, flight_at, flights_at, has_come, IsTimed, is_out}
-use Rattle.link_flights.proofs.Common.{are_limited, rated_ones, message_of}
-use Rattle.std.proofs.lemmas.Bool.{eq-eqb}
+use Rattle.link_flights.proofs.Common.{are_limited, rated_ones, message_of, eq-eqb}
 use Rattle.link_flights.proofs.Flights.Units.{units_positive, no_units_left, nothing_left}
 
 -- two tests that pass in the same cases

@@ -5,15 +5,14 @@ use Rattle.link_flights.proofs.Common.{IsTotalOrder, Ordering, and_from, same_So
 use Rattle.link_flights.proofs.Common.{AreOfPeers, limits, sides_under, Subject, sent_by, received_by, sent_between}
 use Rattle.link_flights.proofs.Common.{same_peer, Caps, Message, is_delivered, capped_sides, In, in_left, in_right}
 use Rattle.link_flights.proofs.Common.{in_either, in_from_contains, contains_from_in, same_peer_itself, places_from}
+use Rattle.link_flights.proofs.Common.{same_subject, one_cap, same_limits}
 use Rattle.std.proofs.lemmas.Bool.{and_parts}
 use Rattle.fair_rates.specs.Fairness.Laws.{AreTheSameSides}
-use Rattle.fair_rates.specs.Sides.Subjects.{same_subject}
 use Rattle.link_simulation.specs.Simulation.Rates.{sides_for, egress_side, ingress_side, link_side}
 use Rattle.link_simulation.specs.Simulation.Rates.{capped_side}
 use Rattle.fair_rates.proofs.Sides.Subjects.{same_itself}
 use Rattle.fair_rates.proofs.Sides.CapSides.{capped_from_listed, listed_from_capped, side_of_subject}
 use Rattle.fair_rates.proofs.Lists.Members.{in_flat_map, from_flat_map}
-use Rattle.fair_rates.proofs.Sides.EqualSubjects.{one_cap, same_limits}
 use Rattle.fair_rates.proofs.Lists.Places.{places_alike}
 
 module _ {P : Type 0} (cmp : P → P → Ordering) where

@@ -4,10 +4,8 @@ use Rattle.link_flights.proofs.Common.{if◌then◌else◌, List, [], ◌∷◌,
 use Rattle.link_flights.proofs.Common.{sym, ap, ◌∙◌, subst, arith, inl, inr, ◌⊎◌, AllZip, remove, list_all, le-leb}
 use Rattle.link_flights.proofs.Common.{leb-true, and_from, length-append, none-some, same_Some, first_of_both}
 use Rattle.link_flights.proofs.Common.{second_of_both, IsChangedUpTo, Flight, UnitFlight, left_by, flight_at}
-use Rattle.link_flights.proofs.Common.{flights_at, IsTimed, AreTimed, DrainsTo}
-use Rattle.std.proofs.lemmas.List.{set-get_or}
+use Rattle.link_flights.proofs.Common.{flights_at, IsTimed, AreTimed, DrainsTo, set-get_or, one_more}
 use Rattle.fair_rates.proofs.Lists.Zips.{zip-length}
-use Rattle.fair_rates.proofs.Lists.InPlace.{one_more}
 
 -- ---- lists that change at a place
 

@@ -1,9 +1,8 @@
 -- The messages in flight: what is read of them, and those that leave.
 use Rattle.link_flights.proofs.Common.{◌≡◌, ℕ, zero, suc, ◌+◌, ◌-◌, ◌<◌, ◌≤◌, Bool, true, false, not, cond, ◌||◌, List}
 use Rattle.link_flights.proofs.Common.{[], ◌∷◌, ◌++◌, length, map, get_or, refl, sym, ◌∙◌, ap, subst, arith, remove}
-use Rattle.link_flights.proofs.Common.{filter, ◌==◌, Message, length-append, append-nil, PassesNowhere}
-use Rattle.std.proofs.Common.{append_assoc}
-use Rattle.fair_rates.proofs.Lists.Sorted.{get_or-seam}
+use Rattle.link_flights.proofs.Common.{filter, ◌==◌, Message, length-append, append-nil, PassesNowhere, append_assoc}
+use Rattle.link_flights.proofs.Common.{get_or-seam}
 
 -- ---- a list of what is read
 

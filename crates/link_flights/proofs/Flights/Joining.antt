@@ -6,13 +6,11 @@ use Rattle.link_flights.proofs.Common.{in_from_contains, in_either, in_map, all_
 use Rattle.link_flights.proofs.Common.{All-from_contains, Message, is_unlimited, RatedFlight, drained_to, is_spent}
 use Rattle.link_flights.proofs.Common.{message_of, Flights, UnitFlight, DrainsTo, in_units, loose_in, rated_flight_of}
 use Rattle.link_flights.proofs.Common.{sending_of, is_out, are_limited, rated_ones, sent_messages, AreFairlyRated}
-use Rattle.link_flights.proofs.Common.{IsNoMore, IsLoose}
+use Rattle.link_flights.proofs.Common.{IsNoMore, IsLoose, filter-append, mul-zero, ArePartedBy}
 use Rattle.std.specs.Prelude.{length, map, ◌||◌}
-use Rattle.std.proofs.lemmas.List.Elements.{filter-append}
-use Rattle.std.proofs.Math.Nat.{mul-zero}
 use Rattle.link_pairs.specs.declared.message.Message as code
 use Rattle.link_flights.specs.Flights.InFlight.{Joins}
-use Rattle.link_flights.specs.Flights.Rated.{ArePartedBy, HadFairRates}
+use Rattle.link_flights.specs.Flights.Rated.{HadFairRates}
 use Rattle.link_flights.proofs.Flights.Rated.{drained_sending}
 
 module _ {X : Type 0} (test : X → Bool) (xs : List X) (x : X) where

@@ -5,16 +5,15 @@ use Rattle.link_flights.proofs.Common.{inl, inr, ◌+◌, length, get_or, map, O
 use Rattle.link_flights.proofs.Common.{Ordering, mul_assoc, same_Some, slice_get_read, slice_get_within, le-leb}
 use Rattle.link_flights.proofs.Common.{cases_lt, All-contains, Side, IsFair, reduced, billion, reduced_alike}
 use Rattle.link_flights.proofs.Common.{reduced_scaled, Caps, All-from_contains, message_of, is_delivered, limits, In}
-use Rattle.link_flights.proofs.Common.{in_from_contains, contains_from_in, capped_sides, Flight, UnitFlight}
-use Rattle.link_flights.proofs.Common.{left_by, flight_at, flights_at, IsTimed, AreTimed, has_come, IsCountedBy}
-use Rattle.link_flights.proofs.Common.{sent_messages, rates_of, rated_ones, AreFairlyRated, are_limited}
-use Rattle.link_flights.proofs.Common.{DifferWhereLoose, rated_flight_of, sending_of}
-use Rattle.std.proofs.Common.{◌%◌}
-use Rattle.std.proofs.Math.Nat.{mul-sub, mul_comm, mul-div_cancel', le_of_mul-le-mul_left, mul-le-mul_left}
+use Rattle.link_flights.proofs.Common.{in_from_contains, contains_from_in, capped_sides, Flight, UnitFlight, left_by}
+use Rattle.link_flights.proofs.Common.{flight_at, flights_at, IsTimed, AreTimed, has_come, IsCountedBy, sent_messages}
+use Rattle.link_flights.proofs.Common.{rates_of, rated_ones, AreFairlyRated, are_limited, DifferWhereLoose}
+use Rattle.link_flights.proofs.Common.{rated_flight_of, sending_of, ◌%◌, mul-sub, mul_comm, mul-div_cancel'}
+use Rattle.link_flights.proofs.Common.{le_of_mul-le-mul_left, dvd_trans, load}
+use Rattle.std.proofs.Math.Nat.{mul-le-mul_left}
 use Rattle.std.proofs.Math.Nat.{mul-lt-mul_of_pos_left}
-use Rattle.std.proofs.lemmas.Nat.Gcd.{IsGcd-from_mod, dvd_trans}
+use Rattle.std.proofs.lemmas.Nat.Gcd.{IsGcd-from_mod}
 use Rattle.std.proofs.lemmas.Bool.{lt-leb}
-use Rattle.fair_rates.specs.Fairness.Fair.{load}
 use Rattle.fair_rates.proofs.Lists.Sums.{sum_by_same}
 use Rattle.fair_rates.proofs.Lists.SumOrder.{sum_by-scaled}
 use Rattle.link_pairs.specs.declared.message.Message as code

@@ -3,7 +3,7 @@ use Rattle.link_flights.proofs.Common.{◌≡◌, ℕ, zero, suc, Bool, true, fa
 use Rattle.link_flights.proofs.Common.{slice_get, refl, sym, ap, ◌∙◌, filter, remove, Ordering, and_from, none-some}
 use Rattle.link_flights.proofs.Common.{Caps, first_of_both, second_of_both, Flight, UnitFlight, flight_at, flights_at}
 use Rattle.link_flights.proofs.Common.{AreTimed, are_limited, rated_ones, is_out, sent_messages, Message, message_of}
-use Rattle.link_flights.specs.Flights.Rated.{ArePartedBy}
+use Rattle.link_flights.proofs.Common.{ArePartedBy}
 use Rattle.link_flights.proofs.Flights.InFlight.{read_filter}
 
 read_without : {X Y : Type 0} (f : X → Y) (xs : List X) (at : ℕ) → map f (remove xs at) ≡ remove (map f xs) at

@@ -5,10 +5,10 @@ use Rattle.link_flights.proofs.Common.{Ordering, false≢true, cases_lt, eq_by_c
 use Rattle.link_flights.proofs.Common.{contains_from_in, in_left, in_right, get_in, get_from_map, map-append, Message}
 use Rattle.link_flights.proofs.Common.{message_of, Flight, Flights, End, Origin, Recipient, UnitFlight, flight_at}
 use Rattle.link_flights.proofs.Common.{flights_at, in_units, loose_in, IsNextPlace, PassesFirstAt, IsLoose, share}
-use Rattle.link_flights.proofs.Common.{number_of, slice_get_within, get_or_from_slice_get}
+use Rattle.link_flights.proofs.Common.{number_of, slice_get_within, get_or_from_slice_get, AreStillLoose}
 use Rattle.std.specs.Prelude.{slice_get}
 use Rattle.link_pairs.specs.declared.message.Message as code
-use Rattle.link_flights.specs.Flights.Loose.{is_at_end, AreStillLoose, IsLooseAt, LoosensAt}
+use Rattle.link_flights.specs.Flights.Loose.{is_at_end, IsLooseAt, LoosensAt}
 use Rattle.link_flights.proofs.Flights.Places.{one_there}
 use Rattle.link_flights.proofs.Flights.Rows.{end_of}
 use Rattle.link_flights.proofs.Flights.Search.{each_more, behind}

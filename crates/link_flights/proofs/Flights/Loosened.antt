@@ -4,9 +4,8 @@ use Rattle.link_flights.proofs.Common.{list_all, Ordering, cap_of, limits, Caps,
 use Rattle.link_flights.proofs.Common.{all_passed, from_filter, from_map, in_from_contains, contains_from_in, Message}
 use Rattle.link_flights.proofs.Common.{is_unlimited, message_of, Flights, UnitFlight, flights_at, in_units, loose_in}
 use Rattle.link_flights.proofs.Common.{WereRatedUnder, IsLoose, DifferWhereLoose, are_limited, rated_ones}
-use Rattle.link_flights.proofs.Common.{flow_in_flight}
+use Rattle.link_flights.proofs.Common.{flow_in_flight, AreStillLoose}
 use Rattle.link_pairs.specs.declared.message.Message as code
-use Rattle.link_flights.specs.Flights.Loose.{AreStillLoose}
 
 module _ {P : Type 0} {a : _} {b : _} {c : _} (cmp : P → P → Ordering) (test : Message P → Bool) (old new : Flights P a b c)
     (still : AreStillLoose old new)

@@ -1,8 +1,8 @@
 -- Those in flight of which a component has an end, and where they stand.
 use Rattle.link_flights.proofs.Common.{◌≡◌, ℕ, ◌<◌, Bool, true, false, List, length, get_or, slice_get, Some}
 use Rattle.link_flights.proofs.Common.{if◌then◌else◌, refl, sym, ap, ◌∙◌, arith, Ordering, slice_get_within, Component}
-use Rattle.link_flights.proofs.Common.{Flight, touches, those_near, places_of}
-use Rattle.link_flights.specs.Flights.Components.{place_of, AreNear}
+use Rattle.link_flights.proofs.Common.{Flight, touches, those_near, places_of, AreNear}
+use Rattle.link_flights.specs.Flights.Components.{place_of}
 use Rattle.link_flights.proofs.Flights.ComponentFlows.{touched}
 use Rattle.link_flights.proofs.Flights.Places.{places_length, stands_there, all_places, all_pass_filter, one_there}
 

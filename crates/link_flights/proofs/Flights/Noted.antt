@@ -3,12 +3,10 @@ use Rattle.link_flights.proofs.Common.{◌≡◌, ℕ, ◌+◌, ◌<◌, Bool, t
 use Rattle.link_flights.proofs.Common.{Some, slice_get, slice_set, All, Contains, sym, ap, ◌∙◌, subst, arith, get_or}
 use Rattle.link_flights.proofs.Common.{cases_lt, false≢true, same_Some, slice_get_within, get_or_from_slice_get}
 use Rattle.link_flights.proofs.Common.{slice_get-get_or, All-append, All-weaker, All-contains, In, Ascends, AreNoted}
-use Rattle.link_flights.proofs.Common.{get_set_other}
+use Rattle.link_flights.proofs.Common.{get_set_other, All-nil, AreStillListed, get_set_here}
 use Rattle.std.proofs.lemmas.Bool.{false_from_ne_true}
-use Rattle.std.proofs.lemmas.List.Elements.{All-cons, All-nil, Contains-append_left}
+use Rattle.std.proofs.lemmas.List.Elements.{All-cons, Contains-append_left}
 use Rattle.std.proofs.lemmas.List.Elements.{Contains-get_or}
-use Rattle.link_flights.specs.Flights.Components.{AreStillListed}
-use Rattle.link_pairs.proofs.Pairs.ByNumber.{get_set_here}
 use Rattle.link_flights.proofs.Flights.Listed.{ascends_at_end}
 use Rattle.link_flights.proofs.Flights.Search.{one_is_listed}
 

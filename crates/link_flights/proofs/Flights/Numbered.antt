@@ -3,9 +3,7 @@ use Rattle.link_flights.proofs.Common.{◌≡◌, ℕ, ◌+◌, ◌<◌, inl, in
 use Rattle.link_flights.proofs.Common.{slice_get, slice_set, length, sym, ap, ◌∙◌, subst, arith, list_all, Ordering}
 use Rattle.link_flights.proofs.Common.{cases_lt, get_or_from_slice_get, by_bool, in_from_contains, get_in}
 use Rattle.link_flights.proofs.Common.{get_set_other, Component, Flight, is_of, keeps, places_of, suits, touches}
-use Rattle.link_flights.proofs.Common.{flight_at, flights_at}
-use Rattle.std.specs.List.{AllPairs}
-use Rattle.link_pairs.proofs.Pairs.ByNumber.{get_set_here}
+use Rattle.link_flights.proofs.Common.{flight_at, flights_at, AllPairs, get_set_here}
 use Rattle.link_flights.specs.Flights.Components.{AreNumbered}
 use Rattle.link_flights.proofs.Flights.Sides.{kept_if_out, place_listed, places_ascend, places_within, suited_at}
 

@@ -4,11 +4,10 @@ use Rattle.link_flights.proofs.Common.{◌≡◌, ℕ, ◌*◌, ◌<◌, ◌≤�
 use Rattle.link_flights.proofs.Common.{get_or, refl, sym, ap, ◌∙◌, subst, arith, slice_index, unwrap_or, Ordering}
 use Rattle.link_flights.proofs.Common.{length-map, nil_from_length, none-some, same_Some, IsFair, sides_under, Caps}
 use Rattle.link_flights.proofs.Common.{Flow, Component, Flight, is_of, those_of, places_of, UnitFlight, flight_at}
-use Rattle.link_flights.proofs.Common.{flights_at, rerated, left_caps, flows_of, flow_sent, flow_in_flight}
+use Rattle.link_flights.proofs.Common.{flights_at, rerated, left_caps, flows_of, flow_sent, flow_in_flight, FlowCaps}
+use Rattle.link_flights.proofs.Common.{parts_alone_fair}
 use Rattle.std.specs.Prelude.{option_map}
 use Rattle.fair_rates.specs.Sides.Alone.{least_cap_of}
-use Rattle.fair_rates.specs.declared.bandwidth.FlowCaps.{FlowCaps}
-use Rattle.fair_rates.proofs.Filling.Alone.{parts_alone_fair}
 use Rattle.link_flights.specs.Flights.Rated.{AreFairRatesBeside}
 use Rattle.link_flights.proofs.Flights.Sides.{flow_at, as_many}
 

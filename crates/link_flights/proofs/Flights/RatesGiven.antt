@@ -8,15 +8,13 @@ use Rattle.link_flights.proofs.Common.{cap_of, limits, sides_under, Component, m
 use Rattle.link_flights.proofs.Common.{flights_at, in_units, loose_in, is_of, those_of, has_both, is_closed}
 use Rattle.link_flights.proofs.Common.{rates_found, rerated, AreFairlyRated, WereRated, AreRatedBeside, IsRatedFrom}
 use Rattle.link_flights.proofs.Common.{HaveFairRates, sent_messages, rates_of, flow_in_flight, kept_load, left_of}
-use Rattle.link_flights.proofs.Common.{left_caps, flows_of}
+use Rattle.link_flights.proofs.Common.{left_caps, flows_of, FairParts, product_none}
 use Rattle.std.proofs.Common.{slice_index}
 use Rattle.std.specs.Prelude.{nat_le}
 use Rattle.std.proofs.Math.Logic.{∥∥₁_map}
 use Rattle.fair_rates.proofs.Fairness.Decided.{fair_if_so}
 use Rattle.fair_rates.proofs.Fairness.SharedBeside.{whole_shared}
-use Rattle.fair_rates.specs.declared.bandwidth.parts.FairParts.{FairParts}
 use Rattle.fair_rates.specs.Sides.Caps.{times_caps}
-use Rattle.fair_rates.proofs.Numbers.Draining.{product_none}
 use Rattle.link_pairs.specs.declared.message.Message as code
 use Rattle.link_flights.specs.Flights.Rated.{AreFairOn}
 use Rattle.link_flights.proofs.Flights.AllSides.{of_left}

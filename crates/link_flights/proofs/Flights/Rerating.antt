@@ -6,20 +6,18 @@ use Rattle.link_flights.proofs.Common.{◌==◌, list_any, Ordering, le-leb, leb
 use Rattle.link_flights.proofs.Common.{length-append, append-nil, map-append, length-set, get_or_default, none-some}
 use Rattle.link_flights.proofs.Common.{same_Some, slice_get-map, slice_get_within, get_or_from_slice_get}
 use Rattle.link_flights.proofs.Common.{slice_get-get_or, get_from_map, billion, Caps, last_moment, RatedFlight}
-use Rattle.link_flights.proofs.Common.{Component, Flight, Flights, is_of, those_of, places_of, UnitFlight}
-use Rattle.link_flights.proofs.Common.{left_by, flight_at, flights_at, has_come, IsTimed, AreTimed, in_units, in_flight}
-use Rattle.link_flights.proofs.Common.{rerated, rated_anew, IsReratedAt, IsRatedFrom, HaveFairRates, rated_flight_of}
-use Rattle.link_flights.proofs.Common.{sending_of}
-use Rattle.std.proofs.Common.{append_assoc}
+use Rattle.link_flights.proofs.Common.{Component, Flight, Flights, is_of, those_of, places_of, UnitFlight, left_by}
+use Rattle.link_flights.proofs.Common.{flight_at, flights_at, has_come, IsTimed, AreTimed, in_units, in_flight, rerated}
+use Rattle.link_flights.proofs.Common.{rated_anew, IsReratedAt, IsRatedFrom, HaveFairRates, rated_flight_of, sending_of}
+use Rattle.link_flights.proofs.Common.{append_assoc, set-get_or, mul-pos, get_or-seam, IsLeastMoment, SomeSpentAt}
+use Rattle.link_flights.proofs.Common.{AreKeptBut, IsCountedAt}
 use Rattle.std.specs.Prelude.{IfSome, option_map}
 use Rattle.std.proofs.lemmas.List.{drop_more}
-use Rattle.std.proofs.lemmas.List.{set-get_or}
-use Rattle.std.proofs.Math.Nat.{mul-pos}
 use Rattle.std.proofs.lemmas.Map.Keys.{any_passes_from_place}
-use Rattle.fair_rates.proofs.Lists.Sorted.{get_or-seam, set-seam}
-use Rattle.link_simulation.specs.Rule.Planned.{IsLeastMoment, IsSpentAt, SomeSpentAt}
+use Rattle.fair_rates.proofs.Lists.Sorted.{set-seam}
+use Rattle.link_simulation.specs.Rule.Planned.{IsSpentAt}
 use Rattle.link_pairs.specs.declared.message.Message.{Message}
-use Rattle.link_flights.specs.Flights.Rated.{AreOthersTimed, AreKeptBut, IsCountedAt}
+use Rattle.link_flights.specs.Flights.Rated.{AreOthersTimed}
 use Rattle.link_flights.proofs.Flights.Flight.{drained_on, zip_there, all_there, is_past}
 use Rattle.link_flights.proofs.Flights.InFlight.{filter_yes, filter_no}
 use Rattle.link_flights.proofs.Flights.Places.{places_yes, places_no, first_left, none_left, past_end}

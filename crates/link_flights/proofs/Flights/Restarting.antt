@@ -3,14 +3,14 @@
 use Rattle.link_flights.proofs.Common.{◌≡◌, ℕ, ◌+◌, ◌-◌, ◌*◌, ◌≤◌, Bool, true, false, cond, not, ◌⊎◌, List, [], ◌∷◌}
 use Rattle.link_flights.proofs.Common.{All, Option, Some, None, IfSome, map, length, refl, sym, ap, ◌∙◌, subst, inl}
 use Rattle.link_flights.proofs.Common.{inr, sum_by, option_map, arith, zero-add, slice_index, filter, IsTotalOrder}
-use Rattle.link_flights.proofs.Common.{Ordering, Arc, Global, false≢true, le-leb, leb-true, nil_from_length, sum_by-cons}
-use Rattle.link_flights.proofs.Common.{IsFair, AreOfPeers, limits, cap_of, sides_under, Caps, Subject, Flow, AreShared}
-use Rattle.link_flights.proofs.Common.{shared_from, by_bool, second_of_both, In, from_map, from_filter, in_filter}
-use Rattle.link_flights.proofs.Common.{Component, messages, message_of, UnitFlight, is_sender, is_receiver, is_of}
-use Rattle.link_flights.proofs.Common.{those_of, has_both, is_closed, rates_of, rated_ones, rerated, rated_anew}
-use Rattle.link_flights.proofs.Common.{AreFairlyRated, WereRated, kept_load, left_caps, flows_of}
+use Rattle.link_flights.proofs.Common.{Ordering, Arc, Global, false≢true, le-leb, leb-true, nil_from_length}
+use Rattle.link_flights.proofs.Common.{sum_by-cons, IsFair, AreOfPeers, limits, cap_of, sides_under, Caps, Subject}
+use Rattle.link_flights.proofs.Common.{Flow, AreShared, shared_from, by_bool, second_of_both, In, from_map, from_filter}
+use Rattle.link_flights.proofs.Common.{in_filter, Component, messages, message_of, UnitFlight, is_sender, is_receiver}
+use Rattle.link_flights.proofs.Common.{is_of, those_of, has_both, is_closed, rates_of, rated_ones, rerated, rated_anew}
+use Rattle.link_flights.proofs.Common.{AreFairlyRated, WereRated, kept_load, left_caps, flows_of, total}
 use Rattle.std.specs.Prelude.{nat_le}
-use Rattle.fair_rates.proofs.Fairness.Sharing.{total, total-cons}
+use Rattle.fair_rates.proofs.Fairness.Sharing.{total-cons}
 use Rattle.fair_rates.proofs.Fairness.SharedBeside.{AreSharedBeside, beside_shared, beside_left}
 use Rattle.link_pairs.specs.declared.message.Message as code
 use Rattle.link_flights.proofs.Flights.AllSides.{of_left, cap_left}

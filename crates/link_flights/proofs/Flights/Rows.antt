@@ -5,21 +5,20 @@ use Rattle.link_flights.proofs.Common.{All, refl, sym, ap, ap₂, subst, ◌∙�
 use Rattle.link_flights.proofs.Common.{IsTotalOrder, map-append, length-map, All-append, All-weaker}
 use Rattle.link_flights.proofs.Common.{get_or_from_slice_get, first_of_both, same_peer, number_of, is_due_by, Flight}
 use Rattle.link_flights.proofs.Common.{End, Origin, Recipient, has_come, IsNextPlace, PassesNowhere, items_of, IsRow}
-use Rattle.link_flights.proofs.Common.{share}
+use Rattle.link_flights.proofs.Common.{share, All-take, list_any_at, number_stays, with_item, AreKept, Line}
 use Rattle.std.proofs.Common.{eqb, Result, Ok, Err, OnOk, OnErr}
 use Rattle.std.specs.List.{slice_get}
 use Rattle.std.specs.Result.{is_err}
 use Rattle.std.proofs.lemmas.List.{take-map, drop-map}
-use Rattle.std.proofs.lemmas.List.Elements.{All-head, All-tail, All-take, All-drop}
-use Rattle.std.proofs.lemmas.List.Folds.{list_any_at, list_any_none}
+use Rattle.std.proofs.lemmas.List.Elements.{All-head, All-tail, All-drop}
+use Rattle.std.proofs.lemmas.List.Folds.{list_any_none}
 use Rattle.peer_numbers.specs.Peers.{IsWithPeer}
-use Rattle.peer_numbers.proofs.Peers.{same_number, other_peer, number_stays}
-use Rattle.row_table.specs.Rows.{Versions, IsNext, passes, is_sent_by, is_received_by, with_item}
+use Rattle.peer_numbers.proofs.Peers.{same_number, other_peer}
+use Rattle.row_table.specs.Rows.{Versions, IsNext, passes, is_sent_by, is_received_by}
 use Rattle.row_table.specs.Rows.{has_come as row_has_come}
 use Rattle.row_table.specs.declared.row.Row.{Row}
 use Rattle.link_pairs.specs.declared.message.Message.{Message}
-use Rattle.link_flights.specs.Flights.Rows.{line_of, AreKept}
-use Rattle.link_flights.specs.Flights.Table.{Line}
+use Rattle.link_flights.specs.Flights.Rows.{line_of}
 
 -- ---- rows and their items
 

@@ -9,7 +9,8 @@ use Rattle.link_flights.proofs.Common.{second_of_both, In, get_in, in_from_conta
 use Rattle.link_flights.proofs.Common.{Component, Flight, UnitFlight, flight_at, flights_at, HaveRates, keeps, has_both}
 use Rattle.link_flights.proofs.Common.{touches, suits, is_closed, AreSuited, AreTouched, those_near, Ascends, share}
 use Rattle.link_flights.proofs.Common.{End, Origin, Recipient, is_sender, is_receiver, AreAllListed, PassesNowhere}
-use Rattle.link_flights.proofs.Common.{PassesFirstAt, IsNextPlace}
+use Rattle.link_flights.proofs.Common.{PassesFirstAt, IsNextPlace, list_any_at, IsTouched, near_of, AreNear, SharesAt}
+use Rattle.link_flights.proofs.Common.{SharesEndAt, AreListedAt, StartsWith, AreStillListed, AreListed, AllNewTouch}
 use Rattle.std.specs.Prelude.{slice_get, Option, IfSome, nat_le}
 use Rattle.std.specs.declared.vec.Vec.{Vec}
 use Rattle.std.proofs.lemmas.Bool.{or_cases}
@@ -18,14 +19,12 @@ use Rattle.link_flights.proofs.Flights.Places.{one_there, or_first, or_second}
 use Rattle.std.proofs.lemmas.List.{append_assoc, take-append-le}
 use Rattle.std.proofs.lemmas.List.Elements.{All-more, Contains-append_right}
 use Rattle.std.proofs.lemmas.List.Elements.{All-contains_itself}
-use Rattle.std.proofs.lemmas.List.Folds.{list_any-append, list_any_at, Any-from_list_any}
+use Rattle.std.proofs.lemmas.List.Folds.{list_any-append, Any-from_list_any}
 use Rattle.link_flights.proofs.Flights.Listed.{places_are}
 use Rattle.link_pairs.specs.declared.message.Message.{Message}
-use Rattle.link_flights.specs.Flights.Components.{IsSuited, IsTouched, near_of}
-use Rattle.link_flights.specs.Flights.Components.{AreNear, SharesAt, SharesEndAt, AreListedAt, IsWalked}
-use Rattle.link_flights.specs.Flights.Components.{share_an_end, StartsWith}
-use Rattle.link_flights.specs.Flights.Components.{AreStillListed, AreListed}
-use Rattle.link_flights.specs.Flights.Components.{AllNewTouch}
+use Rattle.link_flights.specs.Flights.Components.{IsSuited}
+use Rattle.link_flights.specs.Flights.Components.{IsWalked}
+use Rattle.link_flights.specs.Flights.Components.{share_an_end}
 
 -- ---- places
 

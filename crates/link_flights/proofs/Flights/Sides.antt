@@ -9,17 +9,13 @@ use Rattle.link_flights.proofs.Common.{get_or_from_slice_get, Side, limits, plac
 use Rattle.link_flights.proofs.Common.{first_of_both, In, in_from_contains, contains_from_in, in_left, in_right, in_map}
 use Rattle.link_flights.proofs.Common.{in_get, get_in, all_pass, All-from_contains, same_peer_itself, Component, Flight}
 use Rattle.link_flights.proofs.Common.{End, Origin, Recipient, is_sender, is_receiver, keeps, is_of, those_of, touches}
-use Rattle.link_flights.proofs.Common.{has_both, suits, places_of, UnitFlight, flight_at, flights_at}
-use Rattle.link_flights.proofs.Common.{PassesFirstAt, IsNextPlace, flow_sent, flow_in_flight, uses_end, end_subject}
-use Rattle.link_flights.proofs.Common.{kept_load, flows_of, share}
+use Rattle.link_flights.proofs.Common.{has_both, suits, places_of, UnitFlight, flight_at, flights_at, PassesFirstAt}
+use Rattle.link_flights.proofs.Common.{IsNextPlace, flow_sent, flow_in_flight, uses_end, end_subject, kept_load}
+use Rattle.link_flights.proofs.Common.{flows_of, share, AllPairs, take_more, filter-append, IsCounted}
 use Rattle.std.proofs.Common.{unwrap_or}
-use Rattle.std.specs.List.{AllPairs}
 use Rattle.std.proofs.lemmas.Bool.{cases_eq}
-use Rattle.std.proofs.lemmas.List.{take_more}
-use Rattle.std.proofs.lemmas.List.Elements.{filter-append}
 use Rattle.std.proofs.lemmas.List.Sums.{sum_by-append}
 use Rattle.link_pairs.specs.declared.message.Message.{Message}
-use Rattle.link_flights.specs.Flights.Sides.{IsCounted}
 use Rattle.link_flights.proofs.Flights.ComponentFlows.{one_more}
 use Rattle.link_flights.proofs.Flights.Components.{both_of, meets}
 use Rattle.link_flights.proofs.Flights.InFlight.{filter_yes, filter_no, read_filter}

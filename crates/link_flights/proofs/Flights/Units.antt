@@ -2,13 +2,12 @@
 -- and a rate is so many of which `scale` make a byte a second: so many units of what is left each nanosecond.
 use Rattle.link_flights.proofs.Common.{◌≡◌, ℕ, zero, suc, ◌+◌, ◌-◌, ◌*◌, ◌<◌, ◌≤◌, List, [], ◌∷◌, length, get_or, take}
 use Rattle.link_flights.proofs.Common.{refl, sym, ap, ◌∙◌, arith, add-one, mul_assoc, product, reduced, billion, whole}
-use Rattle.link_flights.proofs.Common.{reduced_alike, reduced_scaled}
-use Rattle.std.proofs.Math.Nat.{mul-sub, mul-pos, mul-zero}
+use Rattle.link_flights.proofs.Common.{reduced_alike, reduced_scaled, mul-sub, mul-pos, mul-zero, IsScaled}
+use Rattle.link_flights.proofs.Common.{reduced_scales, product_none}
 use Rattle.std.proofs.Math.Seq.{take-nil}
 use Rattle.fair_rates.specs.Numbers.Amount.{drained}
-use Rattle.fair_rates.specs.Numbers.LowestTerms.{IsScaled, reduced_scales}
 use Rattle.fair_rates.specs.Numbers.LowestTerms.{reduced_positive, reduced_same, reduced_lowest, whole_IsReduced}
-use Rattle.fair_rates.proofs.Numbers.Draining.{same_difference, drained_reduced, product_none}
+use Rattle.fair_rates.proofs.Numbers.Draining.{same_difference, drained_reduced}
 
 pub units_positive : (scale : ℕ) → 0 < scale → 0 < scale * billion
 units_positive scale h = mul-pos h (omega arith)

@@ -1,22 +1,14 @@
 -- A call that was answered: what is promised of it, and what stays known of what is planned.
-use Rattle.std.proofs.Common.{◌≡◌, ℕ, ◌+◌, ◌*◌, ◌<◌, ◌≤◌, ◌^◌, List, [], length, Some, refl}
-use Rattle.std.specs.declared.cmp.Ordering.{Ordering}
-use Rattle.std.specs.Cmp.{IsTotalOrder}
+use Rattle.link_scheduler.proofs.Common.{◌≡◌, ℕ, ◌+◌, ◌<◌, ◌≤◌, ◌^◌, List, [], length, Some, refl, Ordering}
+use Rattle.link_scheduler.proofs.Common.{IsTotalOrder, ∥∥₁_map, ∥∥₁_elim, CapsAlike, PairsAlike, Completed, goes, Call}
+use Rattle.link_scheduler.proofs.Common.{call_advance, moment_of, Planned, IsPlanned, Obeys, IsOrderly, same_itself}
+use Rattle.link_scheduler.proofs.Common.{obeys_orderly, IsAnswered, Makes}
+use Rattle.std.proofs.Common.{◌*◌}
 use Rattle.std.proofs.Math.Bridge.{le_prop}
-use Rattle.std.proofs.Math.Logic.{∥∥₁_map, ∥∥₁_elim}
-use Rattle.link_simulation.specs.Simulation.Messages.{CapsAlike, PairsAlike}
-use Rattle.link_simulation.specs.Simulation.World.{Completed, goes}
-use Rattle.link_simulation.specs.Simulation.Calls.{Call, call_advance, moment_of}
-use Rattle.link_simulation.specs.Rule.Planned.{Planned, IsPlanned}
-use Rattle.link_simulation.specs.Rule.Events.{Advances, Obeys}
+use Rattle.link_simulation.specs.Rule.Events.{Advances}
 use Rattle.link_simulation.specs.Rule.SamePlanned.{AdvancesByRule}
-use Rattle.link_simulation.specs.Laws.Orderly.{IsOrderly}
-use Rattle.link_simulation.proofs.Rule.SamePlanned.{same_itself}
 use Rattle.link_simulation.proofs.Laws.MostEvents.{obeys_right, few_events}
-use Rattle.link_simulation.proofs.Laws.Orderly.{obeys_orderly}
-use Rattle.link_events.specs.Steps.Answered.{IsAnswered}
 use Rattle.link_events.proofs.Steps.Answered.{obeys_in}
-use Rattle.link_scheduler.specs.Calls.State.{Makes}
 use Rattle.link_scheduler.proofs.Calls.Promises.{promised_if}
 
 -- nothing happened up to a moment

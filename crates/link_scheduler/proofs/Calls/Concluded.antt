@@ -1,22 +1,13 @@
 -- Calls in place: what is known once they are concluded, and that a scheduler is as it was where they are refused.
-use Rattle.std.proofs.Common.{◌≡◌, ℕ, List, Result, Ok, Err, IfOk, OnOk, OnErr, sym, subst}
+use Rattle.link_scheduler.proofs.Common.{◌≡◌, ℕ, List, sym, subst, Ghosts, IsTotalOrder, Error, CapsAlike, PairsAlike}
+use Rattle.link_scheduler.proofs.Common.{Completed, Call, IsPlanned, IsOrderly, IsAnswered, planned, State}
+use Rattle.std.proofs.Common.{Result, Ok, Err, IfOk, OnOk, OnErr}
 use Rattle.std.proofs.Props.{props}
 use Rattle.std.specs.Coded.{Coded}
-use Rattle.std.specs.declared.cmp.Ord.{Ghosts}
-use Rattle.std.specs.Cmp.{IsTotalOrder}
 use mathlib.Core.HLevel.{is_prop→PathP}
-use Rattle.fair_rates.specs.declared.error.Error.{Error}
-use Rattle.link_simulation.specs.Simulation.Messages.{CapsAlike, PairsAlike}
-use Rattle.link_simulation.specs.Simulation.World.{Completed}
-use Rattle.link_simulation.specs.Simulation.Calls.{Call}
-use Rattle.link_simulation.specs.Rule.Planned.{IsPlanned}
-use Rattle.link_simulation.specs.Laws.Orderly.{IsOrderly}
 use Rattle.link_events.specs.declared.ledger.Ledger.{Ledger}
 use Rattle.link_events.specs.declared.marks.Kept.{Kept}
-use Rattle.link_events.specs.Steps.Answered.{IsAnswered}
-use Rattle.link_events.specs.Steps.AsPlanned.{planned}
 use Rattle.link_events.specs.Steps.Marks.{before_of, IsMarked, IsKeptOf, CanBePutBack, IsPutBack}
-use Rattle.link_scheduler.specs.declared.transmitter.State.{State}
 use Rattle.link_scheduler.proofs.Calls.Answered.{right_after, orderly_after}
 
 -- what follows where an answer is an error

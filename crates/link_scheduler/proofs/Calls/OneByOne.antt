@@ -1,29 +1,18 @@
 -- Messages that are sent one after another at one moment.
-use Rattle.std.proofs.Common.{◌≡◌, ◌≢◌, ℕ, ◌<◌, ◌^◌, List, [], ◌∷◌, ◌++◌, map, length, refl, sym, ap}
-use Rattle.std.proofs.Common.{subst, inl, inr}
+use Rattle.link_scheduler.proofs.Common.{◌≡◌, ◌≢◌, ℕ, ◌<◌, ◌^◌, List, [], ◌∷◌, ◌++◌, map, length, refl, sym, ap, subst}
+use Rattle.link_scheduler.proofs.Common.{AllZip, Ordering, IsTotalOrder, ∥∥₁_map, Error, Message, Completed, goes, Call}
+use Rattle.link_scheduler.proofs.Common.{call_enqueue_all, Planned, Obeys, IsSamePlanned, GoesByRule, IsOrderly}
+use Rattle.link_scheduler.proofs.Common.{obeys_orderly, obeys_same, same_turned, same_chain, course_went, IsAnswered}
+use Rattle.std.proofs.Common.{inl, inr}
 use Rattle.std.specs.Bool.{⊤}
-use Rattle.std.specs.List.{AllZip}
-use Rattle.std.specs.declared.cmp.Ordering.{Ordering}
-use Rattle.std.specs.Cmp.{IsTotalOrder}
-use Rattle.std.proofs.Math.Logic.{∥∥₁_map}
-use Rattle.fair_rates.specs.declared.error.Error.{Error}
 use Rattle.fair_rates.specs.declared.error.Error.TheVariants.{OutOfMemory, NumberTooLarge, MomentTooLate, FlowIdsUsedUp}
-use Rattle.link_simulation.specs.Simulation.Messages.{Message}
 use Rattle.link_simulation.specs.Simulation.Replies.{SameCompletion}
 use Rattle.link_simulation.specs.Simulation.RefusalCauses.{IsRefusedFor}
-use Rattle.link_simulation.specs.Simulation.World.{Completed, Course, goes, meets, preceded}
-use Rattle.link_simulation.specs.Simulation.Calls.{Call, call_enqueue, call_enqueue_all}
-use Rattle.link_simulation.specs.Rule.Planned.{Planned}
-use Rattle.link_simulation.specs.Rule.Events.{Enqueues, Obeys}
+use Rattle.link_simulation.specs.Simulation.World.{Course, meets, preceded}
+use Rattle.link_simulation.specs.Simulation.Calls.{call_enqueue}
+use Rattle.link_simulation.specs.Rule.Events.{Enqueues}
 use Rattle.link_simulation.specs.Rule.Events.{EnqueuesEach, all_enqueued, one_stops, enqueues_one}
-use Rattle.link_simulation.specs.Rule.SamePlanned.{IsSamePlanned, GoesByRule}
-use Rattle.link_simulation.specs.Laws.Orderly.{IsOrderly}
-use Rattle.link_simulation.proofs.Laws.Orderly.{obeys_orderly}
-use Rattle.link_simulation.proofs.Rule.SameCourses.{obeys_same}
-use Rattle.link_simulation.proofs.Rule.SamePlanned.{same_turned, same_chain}
 use Rattle.link_simulation.proofs.Rule.SameRefusals.{call_itself}
-use Rattle.link_simulation.proofs.Rule.SameSteps.{course_went}
-use Rattle.link_events.specs.Steps.Answered.{IsAnswered}
 use Rattle.link_scheduler.specs.Calls.State.{MakesEach, RefusesOne}
 use Rattle.link_scheduler.proofs.Calls.Answered.{made_after}
 use Rattle.link_scheduler.proofs.Calls.Promises.{promised_if, cause_of}

@@ -1,18 +1,12 @@
 -- What a scheduler promises of a call, from what it keeps.
-use Rattle.std.proofs.Common.{◌≡◌, ℕ, ◌<◌, ◌^◌, List, Option, Some, refl, sym, subst}
-use Rattle.std.specs.declared.cmp.Ordering.{Ordering}
-use Rattle.std.specs.Cmp.{IsTotalOrder}
-use Rattle.std.proofs.Math.Logic.{∥∥₁_map}
-use Rattle.fair_rates.specs.declared.error.Error.{Error}
-use Rattle.link_simulation.specs.Simulation.World.{Completed, new_world}
-use Rattle.link_simulation.specs.Simulation.Calls.{Call, call_advance, moment_of}
-use Rattle.link_simulation.specs.Rule.Planned.{Planned, new_planned, next_event}
-use Rattle.link_simulation.specs.Rule.Refusals.{MayBeRefused}
+use Rattle.link_scheduler.proofs.Common.{◌≡◌, ℕ, ◌<◌, ◌^◌, List, Option, Some, refl, sym, subst, Ordering, IsTotalOrder}
+use Rattle.link_scheduler.proofs.Common.{∥∥₁_map, Error, Completed, Call, call_advance, moment_of, Planned, new_planned}
+use Rattle.link_scheduler.proofs.Common.{MayBeRefused, GoesByRule, IsOrderly, Makes}
+use Rattle.link_simulation.specs.Simulation.World.{new_world}
+use Rattle.link_simulation.specs.Rule.Planned.{next_event}
 use Rattle.link_simulation.specs.Rule.Range.{IsInRange}
 use Rattle.link_simulation.specs.Rule.StandsFor.{StandsFor}
-use Rattle.link_simulation.specs.Rule.SamePlanned.{GoesByRule}
-use Rattle.link_simulation.specs.Laws.Orderly.{IsOrderly}
-use Rattle.link_scheduler.specs.Calls.State.{Makes, Refuses}
+use Rattle.link_scheduler.specs.Calls.State.{Refuses}
 use Rattle.link_simulation.specs.Rule.Simulated.{IsNextInSimulation, IsSplitAnywhere, KeepsToCaps}
 use Rattle.link_simulation.proofs.Rule.RepliesInRange.{new_in_range}
 use Rattle.link_simulation.proofs.Laws.BytesStand.{advance_keeps_to_caps}

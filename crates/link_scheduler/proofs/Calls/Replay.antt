@@ -1,28 +1,21 @@
 -- Replies in turn, and the replies to a list of calls.
-use Rattle.std.proofs.Common.{◌≡◌, ℕ, suc, ◌+◌, ◌-◌, ◌<◌, ◌≤◌, List, [], ◌∷◌, ◌++◌, length, get_or, refl, sym, ap, ◌∙◌}
-use Rattle.std.proofs.Common.{subst, arith, append_assoc, append-nil, drop, drop-cons, length-drop}
-use Rattle.std.specs.declared.cmp.Ord.{Ghosts}
-use Rattle.std.specs.declared.cmp.Ordering.{Ordering}
-use Rattle.std.specs.Cmp.{IsTotalOrder}
-use Rattle.fair_rates.specs.declared.error.Error.{Error}
-use Rattle.link_simulation.specs.Simulation.Calls.{Call, call_next}
-use Rattle.link_simulation.specs.Simulation.Messages.{SameMessage}
+use Rattle.link_scheduler.proofs.Common.{◌≡◌, ℕ, ◌+◌, ◌<◌, ◌≤◌, List, [], ◌∷◌, ◌++◌, length, refl, sym, ap, ◌∙◌, subst}
+use Rattle.link_scheduler.proofs.Common.{arith, Ghosts, Ordering, IsTotalOrder, Error, Call, SameMessage, reply_refused}
+use Rattle.link_scheduler.proofs.Common.{Planned, Obeys, Completed, goes, MayBeRefused, State, planned_of, reply_of}
+use Rattle.link_scheduler.proofs.Common.{IsSamePlanned, GoesByRule, same_limit, same_limit_link, same_enqueue}
+use Rattle.link_scheduler.proofs.Common.{same_enqueue_all, same_advance, same_next, same_turned, same_chain}
+use Rattle.link_scheduler.proofs.Common.{course_went, obeys_same}
+use Rattle.std.proofs.Common.{suc, ◌-◌, get_or}
+use Rattle.std.proofs.Common.{append_assoc, append-nil, drop, drop-cons, length-drop}
+use Rattle.link_simulation.specs.Simulation.Calls.{call_next}
 use Rattle.link_simulation.specs.Laws.Isolation.{InTime}
-use Rattle.link_simulation.specs.Simulation.Replies.{Reply, reply_done, reply_next, reply_refused}
-use Rattle.link_simulation.specs.Rule.Planned.{Planned}
-use Rattle.link_simulation.specs.Rule.Events.{Obeys}
-use Rattle.link_simulation.specs.Simulation.World.{Completed, goes}
-use Rattle.link_simulation.specs.Rule.Refusals.{MayBeRefused, Obeyed}
+use Rattle.link_simulation.specs.Simulation.Replies.{Reply, reply_done, reply_next}
+use Rattle.link_simulation.specs.Rule.Refusals.{Obeyed}
 use Rattle.link_scheduler.specs.declared.replay.Reply as reply_code
 use Rattle.link_scheduler.specs.declared.replay.Reply.TheVariants as replies
-use Rattle.link_scheduler.specs.declared.transmitter.State.{State}
-use Rattle.link_scheduler.specs.Calls.State.{planned_of}
-use Rattle.link_scheduler.specs.Calls.Replay.{reply_of, IsAnswered, MayRefuseCall, IsReplyTo}
-use Rattle.link_simulation.specs.Rule.SamePlanned.{IsSamePlanned, GoesByRule, IsSameCall, same_limit, same_limit_link}
-use Rattle.link_simulation.specs.Rule.SamePlanned.{same_enqueue, same_enqueue_all, same_advance, same_next}
-use Rattle.link_simulation.proofs.Rule.SamePlanned.{same_turned, same_chain, peer_turned, message_turned, zip_turned}
-use Rattle.link_simulation.proofs.Rule.SameSteps.{course_went}
-use Rattle.link_simulation.proofs.Rule.SameCourses.{obeys_same}
+use Rattle.link_scheduler.specs.Calls.Replay.{IsAnswered, MayRefuseCall, IsReplyTo}
+use Rattle.link_simulation.specs.Rule.SamePlanned.{IsSameCall}
+use Rattle.link_simulation.proofs.Rule.SamePlanned.{peer_turned, message_turned, zip_turned}
 use Rattle.link_simulation.proofs.Rule.Agreeing.{all_trans}
 use Rattle.link_simulation.proofs.Rule.SameRefusals.{obeyed_same, refused_same}
 

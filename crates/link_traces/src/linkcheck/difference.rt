@@ -25,7 +25,7 @@ impl Difference {
         let line = self.line;
         write!(output, "line {line} says ")?;
         print_line(output, &self.said)?;
-        write!(output, ", the simulation says ")?;
+        output.write_all(b", the simulation says ")?;
         print_line(output, &self.simulated)?;
         match self.off {
             Some(off) => writeln!(output, ", off by {off}"),
@@ -60,11 +60,11 @@ impl Missing {
 fn print_line<W: Write>(output: &mut W, line: &Option<Vec<u8>>) -> io::Result<()> {
     match line {
         Some(line) => {
-            write!(output, "`")?;
+            output.write_all(b"`")?;
             output.write_all(line)?;
-            write!(output, "`")
+            output.write_all(b"`")
         }
-        None => write!(output, "nothing"),
+        None => output.write_all(b"nothing"),
     }
 }
 

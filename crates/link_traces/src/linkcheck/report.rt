@@ -55,7 +55,7 @@ impl Report {
         }
         match &self.verdict {
             Verdict::Agrees => {
-                write!(output, "agrees")?;
+                output.write_all(b"agrees")?;
                 self.print_extent(output)?;
             }
             Verdict::Within(off) => {
@@ -72,7 +72,7 @@ impl Report {
     /// Prints how much was checked, and by what.
     fn print_extent<W: Write>(&self, output: &mut W) -> io::Result<()> {
         if self.out_of_turn.is_some() {
-            write!(output, " by the event rule")?;
+            output.write_all(b" by the event rule")?;
         }
         let calls = self.calls;
         let completions = self.completions;

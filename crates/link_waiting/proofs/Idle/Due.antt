@@ -3,15 +3,13 @@ use Rattle.link_waiting.proofs.Common.{◌≡◌, ℕ, zero, suc, ◌+◌, ◌<�
 use Rattle.link_waiting.proofs.Common.{length, refl, Option, Some, None, sym, ap, ◌∙◌, arith, IfSome, zero-add}
 use Rattle.link_waiting.proofs.Common.{slice_index_or, find, list_any, unwrap_or, option_and_then, le-leb, leb-true}
 use Rattle.link_waiting.proofs.Common.{eq-eqb, eqb-true, append-nil, sum_by-cons, by_bool, Each, find_passes, IsDue}
-use Rattle.link_waiting.proofs.Common.{Waiter, has_pair, AreTold, has_come, due_below}
-use Rattle.std.proofs.Common.{◌==◌, inl, inr}
-use Rattle.std.proofs.Common.{IfNone, add-one}
-use Rattle.std.specs.Prelude.{count_by, ◌||◌}
+use Rattle.link_waiting.proofs.Common.{Waiter, has_pair, AreTold, has_come, due_below, ◌==◌, IfNone, count_by}
+use Rattle.link_waiting.proofs.Common.{sum_by-append, each_find, told_first}
+use Rattle.std.proofs.Common.{inl, inr}
+use Rattle.std.proofs.Common.{add-one}
+use Rattle.std.specs.Prelude.{◌||◌}
 use Rattle.std.proofs.lemmas.Bool.{cases_lt}
-use Rattle.std.proofs.lemmas.List.Sums.{sum_by-append}
-use Rattle.fair_rates.proofs.Lists.Each.{each_find}
 use Rattle.least_moment.specs.Moments.{HasCome, NoneDue, IsNextDue}
-use Rattle.link_waiting.specs.Idle.Slots.{told_first}
 use Rattle.link_waiting.specs.Idle.Waits.{due_one}
 
 pub comes : (now : ℕ) (moment : Option ℕ) → HasCome now moment → has_come now moment ≡ true

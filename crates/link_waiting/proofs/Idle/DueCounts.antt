@@ -2,13 +2,11 @@
 use Rattle.link_waiting.proofs.Common.{◌≡◌, ℕ, suc, ◌+◌, Bool, true, false, not, ◌&&◌, cond, if◌then◌else◌, List, []}
 use Rattle.link_waiting.proofs.Common.{◌∷◌, refl, sym, ◌∙◌, ap, arith, AllZip, filter, fold, Ordering, Less, Equal}
 use Rattle.link_waiting.proofs.Common.{Greater, is_lt, is_eq, ordering_reverse, IsTotalOrder, and_from, by_bool}
-use Rattle.link_waiting.proofs.Common.{first_of_both, second_of_both}
-use Rattle.std.proofs.Common.{get_or}
-use Rattle.std.specs.List.{list_all}
-use Rattle.std.specs.List.Sorted.{IsSortedBy}
+use Rattle.link_waiting.proofs.Common.{first_of_both, second_of_both, get_or, list_all, IsSortedBy, ranks_by}
+use Rattle.link_waiting.proofs.Common.{list_all-mono}
 use Rattle.std.proofs.lemmas.Cmp.{tied_itself, alike_right}
-use Rattle.std.proofs.lemmas.List.Sorted.{ranks_by, sorted_far}
-use Rattle.fair_rates.proofs.Lists.Sorted.{list_all-mono, all_from_within}
+use Rattle.std.proofs.lemmas.List.Sorted.{sorted_far}
+use Rattle.fair_rates.proofs.Lists.Sorted.{all_from_within}
 
 -- how many pass
 abbrev pub how_many : {X : Type 0} → (X → Bool) → List X → ℕ

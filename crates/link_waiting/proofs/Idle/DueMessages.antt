@@ -6,14 +6,12 @@ use Rattle.link_waiting.proofs.Common.{IsTotalOrder, and_from, by_bool, first_of
 use Rattle.link_waiting.proofs.Common.{same_peer, Message, PairsAlike, same_pair, pair_before, Planned, AreInPairOrder}
 use Rattle.link_waiting.proofs.Common.{may_launch, idle_from, IsIndexOf, has_come, NamesPairOf, first_moment, pair_cmp}
 use Rattle.link_waiting.proofs.Common.{first_of, may_launch_first, is_sending, pair_like, pair_sym, pair_total}
+use Rattle.link_waiting.proofs.Common.{list_all, are_ascending, pair_of_key, is_eq-then}
 use Rattle.std.proofs.Common.{true≢false}
 use Rattle.std.specs.Prelude.{option_map}
-use Rattle.std.specs.List.{list_all}
 use Rattle.std.proofs.lemmas.Cmp.{tied_back}
 use Rattle.std.proofs.Math.Bool.{and-false}
-use Rattle.fair_rates.specs.Lists.Sorted.{are_ascending}
 use Rattle.link_simulation.specs.Simulation.World.{fronts}
-use Rattle.link_waiting.specs.Idle.Waits.{pair_of_key}
 use Rattle.link_waiting.specs.Idle.Starting.{ready_messages}
 use Rattle.fair_rates.proofs.Sides.Subjects.{peer_sym}
 use Rattle.fair_rates.proofs.Lists.Sorted.{is_eq_equal}
@@ -21,7 +19,6 @@ use Rattle.fair_rates.proofs.Lists.Zips.{zip_weaker}
 use Rattle.link_waiting.proofs.Idle.DueCounts.{how_many, same_many, never_many, filter_many}
 use Rattle.link_waiting.proofs.Idle.DueCounts.{is_rising, of_key, rising_same}
 use Rattle.link_waiting.proofs.Idle.FirstStart.{may_from}
-use Rattle.link_pairs.proofs.Pairs.PairOrder.{is_eq-then}
 
 abbrev pub one_if : Bool → ℕ
 one_if b = if b then 1 else 0

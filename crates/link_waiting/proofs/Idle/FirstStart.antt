@@ -4,13 +4,11 @@ use Rattle.link_waiting.proofs.Common.{IfSome, refl, sym, ◌∙◌, ap, subst, 
 use Rattle.link_waiting.proofs.Common.{IsTotalOrder, leb-true, le-leb, and_from, first_of_both, second_of_both}
 use Rattle.link_waiting.proofs.Common.{same_peer, Message, PairsAlike, same_pair, Planned, rated_messages, may_launch}
 use Rattle.link_waiting.proofs.Common.{idle_from, IsIndexOf, has_come, first_moment, first_of, may_launch_first}
-use Rattle.link_waiting.proofs.Common.{is_sending, find_passes, pair_like}
+use Rattle.link_waiting.proofs.Common.{is_sending, find_passes, pair_like, last_moment, any_like}
 use Rattle.std.specs.Prelude.{◌↔◌, max, option_map}
 use Rattle.std.proofs.lemmas.Bool.{not-true}
-use Rattle.link_simulation.specs.Simulation.World.{last_moment}
 use Rattle.link_simulation.specs.Rule.Events.{PlansStart}
 use Rattle.link_simulation.specs.Rule.Planned.{IsLeastMoment, SomeReadyAt, next_of}
-use Rattle.link_simulation.proofs.Simulation.Queue.{any_like}
 use Rattle.link_waiting.proofs.Idle.Starting.{may_launch_is, of_pair, in_order_from}
 
 module _ {P : Type 0} (cmp : P → P → Ordering) where

@@ -1,8 +1,7 @@
 -- A moment is told of the first one of a pair alone: what that says, and that it stays.
 use Rattle.link_waiting.proofs.Common.{◌≡◌, ℕ, Bool, true, false, cond, List, [], ◌∷◌, ◌++◌, Option, Some, None, refl}
 use Rattle.link_waiting.proofs.Common.{sym, ap, ◌∙◌, subst, find, option_and_then, eq-eqb, eqb-true, by_bool}
-use Rattle.link_waiting.proofs.Common.{without_first, Waiter, has_pair, with_since, OnlyFirsts}
-use Rattle.link_waiting.specs.Idle.Slots.{NoneTold}
+use Rattle.link_waiting.proofs.Common.{without_first, Waiter, has_pair, with_since, OnlyFirsts, NoneTold}
 
 module _ {P : Type 0} where
   itself : (w : Waiter P) → has_pair w.pair w ≡ true

@@ -4,16 +4,13 @@ use Rattle.link_waiting.proofs.Common.{◌++◌, Option, Some, None, refl, sym, 
 use Rattle.link_waiting.proofs.Common.{Ordering, IsTotalOrder, and_from, by_bool, first_of_both, second_of_both}
 use Rattle.link_waiting.proofs.Common.{without_first, same_peer, Message, PairsAlike, pair_before, with_link, Planned}
 use Rattle.link_waiting.proofs.Common.{rated_messages, queued, idle_from, IsIndexOf, first_moment, first_of, is_sending}
-use Rattle.link_waiting.proofs.Common.{pair_like, pair_sym, same_peer_itself}
+use Rattle.link_waiting.proofs.Common.{pair_like, pair_sym, same_peer_itself, fun_ext, or_parts, with_queued}
+use Rattle.link_waiting.proofs.Common.{RatedFlight, Pair, arrival_of, raised_at, of_pairs}
 use Rattle.std.specs.Prelude.{option_map}
-use mathlib.Core.Path.{fun_ext}
-use Rattle.std.proofs.lemmas.Bool.{or_left, or_parts}
+use Rattle.std.proofs.lemmas.Bool.{or_left}
 use Rattle.std.proofs.Math.Bool.{or-true}
-use Rattle.link_simulation.specs.Rule.Events.{with_queued}
-use Rattle.link_simulation.specs.Rule.Planned.{RatedFlight, drained_to}
+use Rattle.link_simulation.specs.Rule.Planned.{drained_to}
 use Rattle.link_waiting.specs.Idle.Index.{is_of_pair, AreAtRest}
-use Rattle.link_pairs.specs.Pairs.Entries.{Pair, arrival_of, raised_at}
-use Rattle.link_waiting.specs.Idle.AtRest.{of_pairs}
 use Rattle.link_waiting.proofs.Idle.Index.{same_two}
 use Rattle.link_waiting.proofs.Idle.FirstStart.{idle_respects}
 

@@ -3,12 +3,11 @@ use Rattle.link_waiting.proofs.Common.{◌≡◌, ℕ, zero, suc, ◌+◌, ◌<�
 use Rattle.link_waiting.proofs.Common.{length, take, Option, Some, None, refl, sym, ap, ◌∙◌, subst, slice_get}
 use Rattle.link_waiting.proofs.Common.{slice_set, slice_index_or, find, option_or, eq-eqb, eqb-true, append-nil}
 use Rattle.link_waiting.proofs.Common.{find-append, get_or_from_slice_get, by_bool, Each, without_first, Slot, Waiter}
-use Rattle.link_waiting.proofs.Common.{waiter_of, live, has_pair, with_since, OnlyFirsts, AreTold}
-use Rattle.std.proofs.Common.{◌==◌, drop}
+use Rattle.link_waiting.proofs.Common.{waiter_of, live, has_pair, with_since, OnlyFirsts, AreTold, ◌==◌}
+use Rattle.link_waiting.proofs.Common.{slice_get_within, told_first, NoneTold}
+use Rattle.std.proofs.Common.{drop}
 use Rattle.std.proofs.lemmas.Grind.{get_or-set_at}
 use Rattle.std.proofs.lemmas.List.{get_or-set_other, get_or_past, take-append-drop, take_more}
-use Rattle.std.proofs.lemmas.Option.{slice_get_within}
-use Rattle.link_waiting.specs.Idle.Slots.{told_first, NoneTold}
 use Rattle.link_waiting.proofs.Idle.Firsts.{none_after, told_is_first}
 use Rattle.link_waiting.proofs.Idle.Slots.{live_append}
 use Rattle.link_waiting.proofs.Idle.Told.{said, after_told, find_past, said_past}

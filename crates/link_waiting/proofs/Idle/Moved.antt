@@ -1,12 +1,10 @@
 -- The moment from which on a pair at rest may start, as it is told from its last arrival.
 use Rattle.link_waiting.proofs.Common.{◌≡◌, ℕ, true, false, ◌&&◌, if◌then◌else◌, cond, List, Option, Some, None, sym}
 use Rattle.link_waiting.proofs.Common.{ap, ◌∙◌, Ordering, IsTotalOrder, and_from, same_peer, same_peer_itself, Message}
-use Rattle.link_waiting.proofs.Common.{first_of, is_sending, first_moment, idle_from}
+use Rattle.link_waiting.proofs.Common.{first_of, is_sending, first_moment, idle_from, RatedFlight, Pair, arrival_of}
+use Rattle.link_waiting.proofs.Common.{raised_at, of_pairs}
 use Rattle.std.specs.Prelude.{option_map}
 use Rattle.link_simulation.specs.Simulation.World.{later_of}
-use Rattle.link_simulation.specs.Rule.Planned.{RatedFlight}
-use Rattle.link_pairs.specs.Pairs.Entries.{Pair, arrival_of, raised_at}
-use Rattle.link_waiting.specs.Idle.AtRest.{of_pairs}
 
 module _ {P : Type 0} (cmp : P → P → Ordering) where
   -- where none of the pair is in flight, it is told by the latency of the first one that waits

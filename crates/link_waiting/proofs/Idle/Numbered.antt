@@ -2,8 +2,7 @@
 use Rattle.link_waiting.proofs.Common.{◌≡◌, ℕ, Bool, true, false, cond, ◌||◌, List, [], ◌∷◌, ◌++◌, Option, Some, None}
 use Rattle.link_waiting.proofs.Common.{refl, sym, ap, ◌∙◌, find, list_any, Ordering, IsTotalOrder, Each, each_of_all}
 use Rattle.link_waiting.proofs.Common.{all_of_each, each_without, each_map, without_first, number_of_pair, Waiter}
-use Rattle.link_waiting.proofs.Common.{has_number, with_since, is_of, AreNumbered}
-use Rattle.std.proofs.lemmas.List.Elements.{All-weaker, All-push}
+use Rattle.link_waiting.proofs.Common.{has_number, with_since, is_of, AreNumbered, All-weaker, All-push}
 use Rattle.peer_numbers.specs.Pairs.{IsWithPair}
 use Rattle.peer_numbers.proofs.OrderedPairs.{same_number, other_pair, number_stays}
 

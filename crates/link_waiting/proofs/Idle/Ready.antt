@@ -6,17 +6,14 @@ use Rattle.link_waiting.proofs.Common.{is_eq, ordering_reverse, IsTotalOrder, an
 use Rattle.link_waiting.proofs.Common.{first_of_both, Each, each_of_all, same_peer, number_of_pair, Message, pair_like}
 use Rattle.link_waiting.proofs.Common.{pair_sym, PeerPair, pair_cmp, pair_total, NamesPairOf, Waiter, has_pair}
 use Rattle.link_waiting.proofs.Common.{has_number, is_of, OnlyFirsts, AreNumbered, AreTold, has_come, due_below}
-use Rattle.link_waiting.proofs.Common.{since_of, told_of}
-use Rattle.std.specs.Prelude.{count_by}
+use Rattle.link_waiting.proofs.Common.{since_of, told_of, count_by, IsSortedBy, list_all-mono, are_ascending}
+use Rattle.link_waiting.proofs.Common.{is_eq-then, pair_of_key}
 use Rattle.std.specs.List.{sum_by}
-use Rattle.std.specs.List.Sorted.{IsPermutation, IsSortedBy}
+use Rattle.std.specs.List.Sorted.{IsPermutation}
 use Rattle.std.proofs.lemmas.List.Sorted.{sum_by-IsPermutation}
-use Rattle.fair_rates.proofs.Lists.Sorted.{list_all-mono, is_lt_less}
-use Rattle.fair_rates.specs.Lists.Sorted.{are_ascending}
+use Rattle.fair_rates.proofs.Lists.Sorted.{is_lt_less}
 use Rattle.least_moment.specs.Moments.{IsLeast}
 use Rattle.link_simulation.proofs.Simulation.AlikeMessages.{pair_itself}
-use Rattle.link_pairs.proofs.Pairs.PairOrder.{is_eq-then}
-use Rattle.link_waiting.specs.Idle.Waits.{pair_of_key}
 use Rattle.link_waiting.proofs.Idle.Due.{comes, has_come_if, come, due_comes, each_due, many_due, any_many}
 use Rattle.link_waiting.proofs.Idle.Firsts.{told_is_first}
 use Rattle.link_waiting.proofs.Idle.Numbered.{AreAlike, find_alike, of_number, find_false}

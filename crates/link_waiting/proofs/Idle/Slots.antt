@@ -4,17 +4,14 @@ use Rattle.link_waiting.proofs.Common.{length, map, refl, Option, Some, None, is
 use Rattle.link_waiting.proofs.Common.{slice_get, slice_set, subst, IfSome, is_none, slice_index_or, filter, find}
 use Rattle.link_waiting.proofs.Common.{option_or, eq-eqb, eqb-true, find-append, sum_by-cons, get_or_from_slice_get}
 use Rattle.link_waiting.proofs.Common.{by_bool, each_of_all, without_first, Slot, Waiter, waiter_of, live, has_pair}
-use Rattle.link_waiting.proofs.Common.{with_since, HaveRoom, IsFirstSlot}
-use Rattle.std.proofs.Common.{IfNone}
+use Rattle.link_waiting.proofs.Common.{with_since, HaveRoom, IsFirstSlot, IfNone, sum_by-append, slice_get_within}
+use Rattle.link_waiting.proofs.Common.{each_find, pair_in}
 use Rattle.std.specs.Prelude.{option_map}
 use Rattle.std.specs.List.{count_by}
 use Rattle.std.proofs.lemmas.List.Elements.{filter_map-append}
 use Rattle.std.proofs.Math.ListN.{get_or-map}
-use Rattle.std.proofs.lemmas.List.Sums.{sum_by-append, sum_by-set}
-use Rattle.std.proofs.lemmas.Option.{slice_get_within}
-use Rattle.fair_rates.proofs.Lists.Each.{each_find}
+use Rattle.std.proofs.lemmas.List.Sums.{sum_by-set}
 use Rattle.chains.specs.Places.{IsFirst}
-use Rattle.link_waiting.specs.Idle.Slots.{pair_in}
 
 pub some_same : (a b : ℕ) → Some a ≡ Some b → a ≡ b
 some_same a b e = cc

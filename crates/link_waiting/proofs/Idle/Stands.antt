@@ -3,16 +3,12 @@ use Rattle.link_waiting.proofs.Common.{◌≡◌, ℕ, ◌+◌, ◌<◌, ◌≤�
 use Rattle.link_waiting.proofs.Common.{is_some, sym, ap, ◌∙◌, subst, slice_set, arith, Result, Ok, Err, is_none}
 use Rattle.link_waiting.proofs.Common.{slice_index_or, filter, get_or_from_slice_get, without_first, Rows, Slot}
 use Rattle.link_waiting.proofs.Common.{each_of_all, all_of_each, each_without, Waiter, waiter_of, live, has_pair}
-use Rattle.link_waiting.proofs.Common.{with_since, HaveRoom, AreTold, IsFirstSlot, OnlyFirsts}
-use Rattle.std.proofs.Common.{OnOk}
+use Rattle.link_waiting.proofs.Common.{with_since, HaveRoom, AreTold, IsFirstSlot, OnlyFirsts, OnOk, length-set}
+use Rattle.link_waiting.proofs.Common.{All-weaker, All-push, Slots, pair_in, Stands, Marked}
 use Rattle.std.specs.List.{count_by}
-use Rattle.std.proofs.lemmas.List.{map-set, map-append, length-set}
-use Rattle.std.proofs.lemmas.List.Elements.{All-weaker, All-push}
+use Rattle.std.proofs.lemmas.List.{map-set, map-append}
 use Rattle.std.proofs.Math.Seq.{map-set_same}
 use Rattle.chains.specs.Chains.{Versions}
-use Rattle.link_waiting.specs.declared.slots.Slots.{Slots}
-use Rattle.link_waiting.specs.Idle.Slots.{pair_in}
-use Rattle.link_waiting.specs.Idle.Slots.{Stands, Marked}
 use Rattle.link_waiting.proofs.Idle.Slots.{there, found, live_append, live_taken, live_told, live_whole, gaps_added, gaps_taken, gaps_told}
 use Rattle.link_waiting.proofs.Idle.Slots.{gaps_whole, pairs_whole, room_of}
 use Rattle.link_waiting.proofs.Idle.Numbered.{each_told}

@@ -5,15 +5,13 @@ use Rattle.link_waiting.proofs.Common.{arith, nat_le, is_none, find, list_any, O
 use Rattle.link_waiting.proofs.Common.{leb-true, le-leb, by_bool, first_of_both, second_of_both, without_first}
 use Rattle.link_waiting.proofs.Common.{same_peer, first_moment, first_of, Message, PairsAlike, same_pair, pair_before}
 use Rattle.link_waiting.proofs.Common.{same_peer_itself, Planned, rated_messages, may_launch, queued, may_launch_first}
-use Rattle.link_waiting.proofs.Common.{find_passes, pair_like}
+use Rattle.link_waiting.proofs.Common.{find_passes, pair_like, last_moment, with_queued, any_like}
 use Rattle.std.proofs.Common.{IfOk}
 use Rattle.fair_rates.specs.declared.error.Error.{Error}
 use Rattle.fair_rates.specs.declared.error.Error.TheVariants.{FlowIdsUsedUp}
 use Rattle.fair_rates.specs.Numbers.Amount.{whole}
-use Rattle.link_simulation.specs.Simulation.World.{goes, meets, is_in_order, last_moment}
+use Rattle.link_simulation.specs.Simulation.World.{goes, meets, is_in_order}
 use Rattle.link_simulation.specs.Rule.Events.{Launches, nothing_waits, too_early, no_id, starts, Accounts, launched}
-use Rattle.link_simulation.specs.Rule.Events.{with_queued}
-use Rattle.link_simulation.proofs.Simulation.Queue.{any_like}
 
 -- two orders of numbers that hold together are one test
 pub same_test : (a b c d : ℕ) → (a ≤ b → c ≤ d) → (c ≤ d → a ≤ b) → nat_le a b ≡ nat_le c d

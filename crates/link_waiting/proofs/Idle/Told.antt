@@ -4,8 +4,7 @@ use Rattle.link_waiting.proofs.Common.{None, refl, sym, ap, ◌∙◌, find, fol
 use Rattle.link_waiting.proofs.Common.{Ordering, IsTotalOrder, find-append, by_bool, Each, each_without, each_map}
 use Rattle.link_waiting.proofs.Common.{without_first, same_peer, Message, with_link, queued, pair_like, pair_sym}
 use Rattle.link_waiting.proofs.Common.{Waiter, has_pair, has_number, with_since, is_of, OnlyFirsts, Told, told_of}
-use Rattle.link_waiting.proofs.Common.{queue_of, since_of}
-use mathlib.Core.Path.{fun_ext}
+use Rattle.link_waiting.proofs.Common.{queue_of, since_of, fun_ext}
 use Rattle.link_waiting.proofs.Idle.Waiting.{one_of, find_map}
 use Rattle.link_waiting.proofs.Idle.Firsts.{none_after}
 use Rattle.link_waiting.proofs.Idle.Numbered.{AreAlike, find_alike, each_told, find_false}

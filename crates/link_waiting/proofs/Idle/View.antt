@@ -3,12 +3,10 @@ use Rattle.link_waiting.proofs.Common.{◌≡◌, ℕ, Bool, true, false, cond, 
 use Rattle.link_waiting.proofs.Common.{subst, option_map, is_none, Result, Ok, Err, each_of_all, find, Ordering}
 use Rattle.link_waiting.proofs.Common.{IsTotalOrder, without_first, Message, same_pair, with_link, AreInPairOrder}
 use Rattle.link_waiting.proofs.Common.{first_of, Slot, Waiter, live, is_of, has_number, with_since, OnlyFirsts}
-use Rattle.link_waiting.proofs.Common.{AreNumbered, told_of, queue_of, since_of, waits_of}
+use Rattle.link_waiting.proofs.Common.{AreNumbered, told_of, queue_of, since_of, waits_of, OnOk, Slots, Stands, Marked}
 use Rattle.std.proofs.Common.{All}
 use Rattle.std.specs.Result.{is_err}
-use Rattle.std.proofs.Common.{OnOk}
-use Rattle.link_waiting.specs.declared.slots.Slots.{Slots}
-use Rattle.link_waiting.specs.Idle.Slots.{AreKept, Stands, Marked}
+use Rattle.link_waiting.specs.Idle.Slots.{AreKept}
 use Rattle.link_waiting.specs.Idle.Waits.{Waits, AllWaits, none_waits, waits_in}
 use Rattle.link_waiting.proofs.Idle.Waiting.{in_pair_order, first_waits, without_waits, one_of}
 use Rattle.link_waiting.proofs.Idle.Numbered.{AreAlike, find_alike, without_alike}

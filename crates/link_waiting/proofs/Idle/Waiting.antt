@@ -3,8 +3,7 @@ use Rattle.link_waiting.proofs.Common.{◌≡◌, Bool, true, false, cond, ◌||
 use Rattle.link_waiting.proofs.Common.{ap, ◌∙◌, slice_get, suc, ◌+◌, length, arith, filter, find, fold, list_any}
 use Rattle.link_waiting.proofs.Common.{option_map, Ordering, IsTotalOrder, append-nil, by_bool, Each, each_map}
 use Rattle.link_waiting.proofs.Common.{each_without, without_first, Message, pair_before, same_pair, AreInPairOrder}
-use Rattle.link_waiting.proofs.Common.{queued, pair_like, first_of, Waiter, is_of, queue_of}
-use Rattle.std.proofs.lemmas.Bool.{or_parts}
+use Rattle.link_waiting.proofs.Common.{queued, pair_like, first_of, Waiter, is_of, queue_of, or_parts}
 use Rattle.std.proofs.lemmas.List.{append_assoc}
 use Rattle.std.proofs.lemmas.List.Elements.{filter-append}
 use Rattle.link_simulation.proofs.Rule.Enqueue.{queued_in_order, queued_last}

@@ -1,6 +1,5 @@
 use Rattle.fair_routes.proofs.Common.{◌≡◌, ℕ, List, length, map, inl, inr, subst, sym, arith, Global, Vec, common_steps}
-use Rattle.fair_routes.proofs.Common.{length-map, AreFairRates, if_err, sides_over}
-use Rattle.fair_rates.specs.Fairness.Rates.{HasDifferentRates}
+use Rattle.fair_routes.proofs.Common.{length-map, AreFairRates, if_err, sides_over, HasDifferentRates}
 use Rattle.fair_rates.specs.Sides.SideOf.{side_of}
 use Rattle.fair_rates.proofs.Filling.Rates.{rates_are_fair, rates_are_different, large_rate}
 use Rattle.fair_routes.specs.Network.Allocation.{IsRefusal}

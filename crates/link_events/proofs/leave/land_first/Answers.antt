@@ -1,13 +1,7 @@
-use Rattle.std.proofs.Common.{List, drop, inr, sym, ap, ap₂, ◌∙◌, subst}
-use Rattle.std.specs.Bool.{then_some}
-use Rattle.link_simulation.specs.Simulation.Messages.{is_delivered}
-use Rattle.link_simulation.specs.Simulation.World.{arrival, completion_of}
+use Rattle.link_events.proofs.Common.{List, drop, inr, sym, ap, ap₂, ◌∙◌, subst, then_some, is_delivered, arrival}
+use Rattle.link_events.proofs.Common.{completion_of, err_from_is_err_and, Message, message_of, messages, arrival_of}
+use Rattle.link_events.proofs.Common.{FirstLands}
 use Rattle.link_events.proofs.Steps.Landing.{then_is}
-use Rattle.std.proofs.lemmas.Result.{err_from_is_err_and}
-use Rattle.link_simulation.specs.Simulation.Messages.{Message}
-use Rattle.link_pairs.specs.Pairs.Messages.{message_of, messages}
-use Rattle.link_pairs.specs.Pairs.Entries.{arrival_of}
-use Rattle.link_events.specs.Steps.Landing.{FirstLands}
 use Rattle.link_events.proofs.Steps.SettledFirst.{first_and_others}
 use Rattle.link_events.proofs.leave.land_first.Goals as goal
 

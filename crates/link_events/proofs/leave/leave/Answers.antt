@@ -1,10 +1,5 @@
-use Rattle.std.proofs.Common.{refl}
-use Rattle.link_simulation.specs.Rule.Planned.{is_spent, rated_messages}
-use Rattle.link_flights.specs.Flights.InFlight.{in_flight}
-use Rattle.link_pairs.specs.Pairs.Messages.{messages}
-use Rattle.link_pairs.specs.Pairs.CapsOf.{caps_of}
-use Rattle.link_pairs.proofs.Pairs.LookedUp.{arrivals_looked_up}
-use Rattle.link_waiting.specs.Idle.Waits.{since_of}
+use Rattle.link_events.proofs.Common.{refl, is_spent, rated_messages, in_flight, messages, caps_of, arrivals_looked_up}
+use Rattle.link_events.proofs.Common.{since_of}
 use Rattle.link_events.proofs.Steps.OneEach.{one_if_so}
 use Rattle.link_events.proofs.Steps.Landing.{index_after}
 use Rattle.link_events.proofs.leave.leave.Goals as goal

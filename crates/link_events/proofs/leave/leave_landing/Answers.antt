@@ -1,12 +1,5 @@
-use Rattle.std.proofs.Common.{[], refl, sym, ◌∙◌}
-use Rattle.link_simulation.specs.Rule.Planned.{Planned, is_spent, rated_messages}
-use Rattle.link_flights.specs.Flights.InFlight.{in_flight}
-use Rattle.link_pairs.specs.Pairs.Messages.{messages}
-use Rattle.link_pairs.specs.Pairs.CapsOf.{caps_of}
-use Rattle.link_pairs.proofs.Pairs.LookedUp.{arrivals_looked_up}
-use Rattle.link_waiting.specs.Idle.AtRest.{of_pairs}
-use Rattle.link_waiting.proofs.Idle.IndexChanges.{alike_from}
-use Rattle.link_waiting.specs.Idle.Waits.{since_of}
+use Rattle.link_events.proofs.Common.{[], refl, sym, ◌∙◌, Planned, is_spent, rated_messages, in_flight, messages}
+use Rattle.link_events.proofs.Common.{caps_of, arrivals_looked_up, of_pairs, alike_from, since_of}
 use Rattle.link_events.proofs.Steps.OneEach.{one_if_so}
 use Rattle.link_events.proofs.Steps.Landing.{done_apart, index_after, others_after, since_alike}
 use Rattle.link_events.proofs.leave.leave_landing.Goals as goal

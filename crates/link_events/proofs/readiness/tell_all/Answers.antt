@@ -1,21 +1,10 @@
-use Rattle.std.proofs.Common.{◌≡◌, ◌+◌, ◌<◌, List, [], ◌∷◌, ◌++◌, length, take}
-use Rattle.std.proofs.Common.{sym, ap, ◌∙◌, refl, subst, arith}
-use Rattle.std.specs.Prelude.{option_map}
-use Rattle.std.specs.declared.sync.Arc.{Arc}
-use Rattle.std.specs.declared.alloc.Global.{Global}
-use Rattle.std.proofs.lemmas.List.{map-append, take_more}
-use Rattle.link_simulation.specs.Simulation.Messages.{Message, with_link}
-use Rattle.link_simulation.specs.Rule.Planned.{Planned}
+use Rattle.link_events.proofs.Common.{◌≡◌, ◌+◌, ◌<◌, List, [], ◌∷◌, ◌++◌, length, take, sym, ap, ◌∙◌, refl, subst}
+use Rattle.link_events.proofs.Common.{arith, option_map, Arc, Global, map-append, Message, with_link, Planned, of_pairs}
+use Rattle.link_events.proofs.Common.{first_moment, idle_from, AreAtRest, since_of, first_of, message_of, messages}
+use Rattle.link_events.proofs.Common.{arrivals_looked_up, rested_is}
+use Rattle.std.proofs.lemmas.List.{take_more}
 use Rattle.link_pairs.specs.declared.message.Message as code
-use Rattle.link_waiting.specs.Idle.AtRest.{of_pairs}
-use Rattle.link_waiting.specs.Idle.FirstMoment.{first_moment}
-use Rattle.link_waiting.specs.Idle.Index.{idle_from, AreAtRest}
-use Rattle.link_waiting.specs.Idle.Waits.{since_of}
-use Rattle.link_pairs.specs.Pairs.Entries.{first_of}
-use Rattle.link_pairs.specs.Pairs.Messages.{message_of, messages}
-use Rattle.link_pairs.proofs.Pairs.LookedUp.{arrivals_looked_up}
 use Rattle.link_waiting.proofs.Idle.IndexChanges.{rests_more}
-use Rattle.link_waiting.proofs.Idle.Moved.{rested_is}
 use Rattle.link_events.proofs.Steps.Landing.{since_taken, since_taken_first}
 use Rattle.link_events.proofs.readiness.tell_all.Goals as goal
 use Rattle.link_events.proofs.readiness.tell_all.Goals.{then-at-eq0, else-at-eq0}

@@ -1,9 +1,4 @@
-use Rattle.std.proofs.Common.{◌≡◌, take, []}
-use Rattle.link_waiting.specs.Idle.AtRest.{of_pairs}
-use Rattle.link_waiting.specs.Idle.Index.{AreAtRest}
-use Rattle.link_waiting.specs.Idle.Waits.{since_of}
-use Rattle.link_pairs.specs.Pairs.Messages.{messages}
-use Rattle.link_events.specs.Steps.Landing.{since_of_first}
+use Rattle.link_events.proofs.Common.{◌≡◌, take, [], of_pairs, AreAtRest, since_of, messages, since_of_first}
 use Rattle.link_events.proofs.readiness.tell_all.Given as goal
 
 abbrev pub invariant-loop-at : goal.invariant-loop-at

@@ -1,9 +1,6 @@
-use Rattle.std.proofs.Common.{List, sym, ap, ◌∙◌}
-use Rattle.std.specs.Prelude.{None, option_map}
-use Rattle.link_simulation.specs.Simulation.Messages.{Message, with_link}
-use Rattle.link_pairs.specs.Pairs.Entries.{first_of}
-use Rattle.link_waiting.specs.Idle.FirstMoment.{first_moment}
-use Rattle.link_waiting.specs.Idle.Waits.{since_of}
+use Rattle.link_events.proofs.Common.{List, sym, ap, ◌∙◌, option_map, Message, with_link, first_of, first_moment}
+use Rattle.link_events.proofs.Common.{since_of}
+use Rattle.std.specs.Prelude.{None}
 use Rattle.link_events.proofs.Steps.Through.{told_twice}
 use Rattle.link_events.proofs.through.take_telling.Goals as goal
 

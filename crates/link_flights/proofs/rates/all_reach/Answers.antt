@@ -1,7 +1,5 @@
-use Rattle.link_flights.proofs.Common.{rules, ◌∙◌, sym, nat_le, list_all-map, parts_of_level}
-use Rattle.std.proofs.Common.{tests}
-use Rattle.std.proofs.lemmas.Iterator.{YieldsList-from_slice}
-use Rattle.std.proofs.lemmas.Iterator.Search.{all_from_yields_List}
+use Rattle.link_flights.proofs.Common.{rules, ◌∙◌, sym, nat_le, list_all-map, parts_of_level, tests}
+use Rattle.link_flights.proofs.Common.{YieldsList-from_slice, all_from_yields_List}
 use Rattle.link_flights.proofs.rates.all_reach.Goals as goal
 
 pub returns : goal.returns

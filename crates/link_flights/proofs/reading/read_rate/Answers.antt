@@ -1,5 +1,4 @@
-use Rattle.link_flights.proofs.Common.{◌≡◌, refl, sym, ap, ◌∙◌, arith, if◌then◌else◌, reduced, flight_at}
-use Rattle.fair_rates.specs.Numbers.Amount.{Amount}
+use Rattle.link_flights.proofs.Common.{◌≡◌, refl, sym, ap, ◌∙◌, arith, if◌then◌else◌, reduced, flight_at, Amount}
 use Rattle.link_flights.proofs.Flights.ShortTerms.{exact_reading}
 use Rattle.link_flights.proofs.Flights.Units.{no_units}
 use Rattle.link_flights.proofs.reading.read_rate.Goals as goal

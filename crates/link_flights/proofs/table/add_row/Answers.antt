@@ -1,7 +1,5 @@
-use Rattle.link_flights.proofs.Common.{refl, sym, ap, ◌∙◌, subst, number_of, IsRow}
+use Rattle.link_flights.proofs.Common.{refl, sym, ap, ◌∙◌, subst, number_of, IsRow, number_stays, AreKept}
 use Rattle.std.proofs.lemmas.List.Elements.{All-push}
-use Rattle.peer_numbers.proofs.Peers.{number_stays}
-use Rattle.link_flights.specs.Flights.Rows.{AreKept}
 use Rattle.link_flights.proofs.Flights.Rows.{taken_back, changed, kept_more}
 use Rattle.link_flights.proofs.table.add_row.Goals as goal
 

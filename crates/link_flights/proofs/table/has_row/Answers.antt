@@ -1,5 +1,4 @@
-use Rattle.link_flights.proofs.Common.{sym, subst}
-use Rattle.std.proofs.lemmas.Bool.{eq-eqb}
+use Rattle.link_flights.proofs.Common.{sym, subst, eq-eqb}
 use Rattle.link_flights.proofs.Flights.Rows.{IsWalk, walk_found, walk_ends}
 use Rattle.link_flights.proofs.table.has_row.Goals as goal
 

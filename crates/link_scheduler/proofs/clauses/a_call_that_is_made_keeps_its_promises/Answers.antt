@@ -1,5 +1,4 @@
-use Rattle.std.proofs.Common.{[], ◌∷◌}
-use Rattle.std.proofs.Math.Logic.{∥∥₁_elim}
+use Rattle.link_scheduler.proofs.Common.{[], ◌∷◌, ∥∥₁_elim}
 use Rattle.std.proofs.Math.Nat.{ℕ_set}
 use Rattle.link_simulation.specs.Laws.PairCompletions.{enqueued}
 use Rattle.link_simulation.proofs.Laws.ConservedCount.{all_counted}

@@ -1,6 +1,5 @@
-use Rattle.std.proofs.Common.{Option, subst}
+use Rattle.link_scheduler.proofs.Common.{Option, subst, Amount}
 use Rattle.std.specs.Prelude.{MatchOption}
-use Rattle.fair_rates.specs.Numbers.Amount.{Amount}
 use Rattle.link_flights.specs.Flights.Readings.{IsReadingOf}
 use Rattle.link_scheduler.proofs.clauses.a_message_in_flight_has_one_reading.Goals as goal
 

@@ -1,6 +1,5 @@
-use Rattle.std.proofs.Common.{map, arith}
+use Rattle.link_scheduler.proofs.Common.{map, arith, planned_of}
 use Rattle.link_pairs.specs.Pairs.Messages.{completed_of}
-use Rattle.link_scheduler.specs.Calls.State.{planned_of}
 use Rattle.link_simulation.proofs.Rule.OneMeaning.{one_split}
 use Rattle.link_simulation.proofs.Laws.BytesStand.{sending_takes}
 use Rattle.link_scheduler.proofs.clauses.an_advance_keeps_its_promises.Goals as goal

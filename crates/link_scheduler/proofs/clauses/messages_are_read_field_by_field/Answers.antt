@@ -1,4 +1,4 @@
-use Rattle.std.proofs.Common.{refl}
+use Rattle.link_scheduler.proofs.Common.{refl}
 use Rattle.link_scheduler.proofs.clauses.messages_are_read_field_by_field.Goals as goal
 
 pub returns-clause-completed : goal.returns-clause-completed

@@ -1,4 +1,4 @@
-use Rattle.link_scheduler.specs.Calls.State.{planned_of}
+use Rattle.link_scheduler.proofs.Common.{planned_of}
 use Rattle.link_simulation.proofs.Rule.OneMeaning.{one_next}
 use Rattle.link_scheduler.proofs.clauses.the_next_event_is_told.Goals as goal
 

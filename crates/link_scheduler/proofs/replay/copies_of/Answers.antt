@@ -1,11 +1,9 @@
-use Rattle.std.proofs.Common.{◌≡◌, ◌+◌, ℕ, List, [], ◌∷◌, ◌++◌, length, map, take, sym, ap, ◌∙◌, subst, arith}
-use Rattle.std.specs.List.{AllZip}
-use Rattle.std.proofs.lemmas.List.{map-append, take_more}
+use Rattle.link_scheduler.proofs.Common.{◌≡◌, ◌+◌, ℕ, List, [], ◌∷◌, ◌++◌, length, map, take, sym, ap, ◌∙◌, subst}
+use Rattle.link_scheduler.proofs.Common.{arith, AllZip, map-append, Message, SameMessage, outgoing}
+use Rattle.std.proofs.lemmas.List.{take_more}
 use Rattle.std.proofs.Math.Seq.{take-length}
 use Rattle.fair_rates.proofs.Lists.Zips.{zip-push}
-use Rattle.link_simulation.specs.Simulation.Messages.{Message, SameMessage}
 use Rattle.link_events.specs.declared.outgoing.Outgoing.{Outgoing}
-use Rattle.link_events.specs.Steps.Outgoing.{outgoing}
 use Rattle.link_scheduler.proofs.replay.copies_of.Goals as goal
 
 pub loop-one-preserved : goal.loop-one-preserved

@@ -1,7 +1,4 @@
-use Rattle.std.proofs.Common.{map, take}
-use Rattle.std.specs.List.{AllZip}
-use Rattle.link_simulation.specs.Simulation.Messages.{SameMessage}
-use Rattle.link_events.specs.Steps.Outgoing.{outgoing}
+use Rattle.link_scheduler.proofs.Common.{map, take, AllZip, SameMessage, outgoing}
 use Rattle.link_scheduler.proofs.replay.copies_of.Given as goal
 
 abbrev pub invariant-loop-one : goal.invariant-loop-one

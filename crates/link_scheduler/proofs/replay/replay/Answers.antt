@@ -1,10 +1,8 @@
-use Rattle.std.proofs.Common.{◌≡◌, ◌≤◌, ◌<◌, ◌+◌, ◌++◌, ◌∷◌, [], if◌then◌else◌, map, ap, sym, ◌∙◌, subst}
+use Rattle.link_scheduler.proofs.Common.{◌≡◌, ◌≤◌, ◌<◌, ◌+◌, ◌++◌, ◌∷◌, [], map, ap, sym, ◌∙◌, subst, vec_capacity}
+use Rattle.link_scheduler.proofs.Common.{vec_len, length-map, map-append, new_planned, planned, call_of, reply_of}
+use Rattle.std.proofs.Common.{if◌then◌else◌}
 use Rattle.std.specs.Result.{is_ok}
-use Rattle.std.specs.Vec.{vec_capacity, vec_len}
-use Rattle.std.proofs.lemmas.List.{length-map, get_or-map, map-append}
-use Rattle.link_simulation.specs.Rule.Planned.{new_planned}
-use Rattle.link_events.specs.Steps.AsPlanned.{planned}
-use Rattle.link_scheduler.specs.Calls.Replay.{call_of, reply_of}
+use Rattle.std.proofs.lemmas.List.{get_or-map}
 use Rattle.link_scheduler.proofs.Calls.Replay.{begins, has_room, goes_on, ends, one_for_each}
 use Rattle.link_simulation.proofs.Rule.Agreeing.{obeyed_agree}
 use Rattle.link_simulation.proofs.Laws.ConservedSoFar.{conserved_so_far}

@@ -1,8 +1,4 @@
-use Rattle.std.proofs.Common.{map}
-use Rattle.std.specs.Vec.{vec_capacity, vec_len}
-use Rattle.link_simulation.specs.Rule.Planned.{new_planned}
-use Rattle.link_events.specs.Steps.AsPlanned.{planned}
-use Rattle.link_scheduler.specs.Calls.Replay.{call_of, reply_of}
+use Rattle.link_scheduler.proofs.Common.{map, vec_capacity, vec_len, new_planned, planned, call_of, reply_of}
 use Rattle.link_scheduler.proofs.Calls.Replay.{IsUnderway}
 use Rattle.link_scheduler.proofs.replay.replay.Given as goal
 

@@ -1,4 +1,4 @@
-use Rattle.std.proofs.Common.{◌-◌, ◌^◌}
+use Rattle.link_scripts.proofs.Common.{◌-◌, ◌^◌}
 use Rattle.link_scripts.proofs.linkrun.run_lines.Given as goal
 
 abbrev pub decreases-loop : goal.decreases-loop

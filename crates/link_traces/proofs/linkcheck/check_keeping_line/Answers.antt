@@ -1,6 +1,5 @@
-use Rattle.std.proofs.Common.{◌≡◌, ℕ, IfOk, IfSome, ap, subst}
+use Rattle.link_traces.proofs.Common.{◌≡◌, ℕ, IfOk, IfSome, ap, subst, IsAgreed, IsAllowed}
 use Rattle.link_traces.specs.declared.linkcheck.report.Verdict.TheVariants as verdicts
-use Rattle.link_traces.specs.Trace.{IsAgreed, IsAllowed}
 use Rattle.link_traces.proofs.Reading.{new_reader}
 use Rattle.link_traces.proofs.linkcheck.check_keeping_line.Goals as goal
 

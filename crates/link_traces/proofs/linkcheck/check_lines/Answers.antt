@@ -1,6 +1,6 @@
-use Rattle.std.proofs.Common.{rules, ◌≡◌, ◌++◌, ◌∷◌, [], ap, subst, Ok, None, List, ℕ, ◌∙◌, sym, vec_len, eqb-true}
-use Rattle.link_scripts.specs.declared.linkrun.line.LineEnd.TheVariants.{Input, TooLong}
-use Rattle.link_traces.specs.Checker.{IsUnderway}
+use Rattle.link_traces.proofs.Common.{rules, ◌≡◌, ◌++◌, ◌∷◌, [], ap, subst, Ok, None, List, ℕ, ◌∙◌, sym, Input, TooLong}
+use Rattle.link_traces.proofs.Common.{IsUnderway}
+use Rattle.std.proofs.Common.{vec_len, eqb-true}
 use Rattle.link_traces.proofs.Tracing.{batch_taken, one_taken, concluded_at_end, concluded_at_last, concluded_within_at_end, concluded_within_at_last, concluded_in_turn, taken_with_end, none_of_length}
 use Rattle.link_traces.proofs.linkcheck.check_lines.Goals as goal
 

@@ -1,4 +1,4 @@
-use Rattle.std.specs.Io.Buffered.{reader_remaining}
+use Rattle.link_traces.proofs.Common.{reader_remaining}
 use Rattle.link_traces.proofs.Tracing.{IsTakenSoFar}
 use Rattle.link_traces.proofs.linkcheck.check_lines.Given as goal
 

@@ -1,5 +1,4 @@
-use Rattle.std.proofs.Common.{◌++◌, Ok, ap, sym, subst, ◌∙◌}
-use Rattle.link_traces.specs.Batches.{batch_lines, IsFront}
+use Rattle.link_traces.proofs.Common.{◌++◌, Ok, ap, sym, subst, ◌∙◌, batch_lines, IsFront}
 use Rattle.link_traces.proofs.Reading.{front_taken}
 use Rattle.link_traces.proofs.Tracing.{no_batch_taken, batch_stays_taken}
 use Rattle.link_traces.proofs.linkcheck.take_batch.Goals as goal

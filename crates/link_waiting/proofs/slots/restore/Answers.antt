@@ -1,9 +1,7 @@
 use Rattle.link_waiting.proofs.Common.{rules, ◌≡◌, ℕ, true, false, is_some, ◌+◌, ◌<◌, List, Option, Some, None, length}
 use Rattle.link_waiting.proofs.Common.{take, refl, sym, ap, ◌∙◌, subst, arith, each_of_all, Slot, Waiter, live}
-use Rattle.link_waiting.proofs.Common.{HaveRoom, AreTold}
-use Rattle.std.proofs.Common.{get_or}
+use Rattle.link_waiting.proofs.Common.{HaveRoom, AreTold, get_or, length-set}
 use Rattle.std.specs.Prelude.{slice_get}
-use Rattle.std.proofs.lemmas.List.{length-set}
 use Rattle.std.proofs.lemmas.Option.{slice_get_read}
 use Rattle.link_waiting.proofs.Idle.Moments.{front_empty, front_silent, front_told, each_held}
 use Rattle.link_waiting.proofs.slots.restore.Goals as goal

@@ -1,4 +1,4 @@
-use Rattle.std.proofs.Common.{◌≡◌, map, take}
+use Rattle.p2p_simulated_c.proofs.Common.{◌≡◌, map, take}
 use Rattle.link_events.specs.Steps.Outgoing.{outgoing}
 use Rattle.p2p_simulated_c.specs.Parcels.{message_at}
 use Rattle.p2p_simulated_c.proofs.batch.messages_of.Given as goal

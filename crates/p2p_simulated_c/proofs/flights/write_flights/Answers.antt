@@ -1,6 +1,4 @@
-use Rattle.std.proofs.Common.{◌≡◌, length, map, sym, ap, ◌∙◌, arith}
-use Rattle.std.proofs.lemmas.List.{length-map, get_or-map}
-use Rattle.p2p_simulated_c.specs.Flights.{flight_of}
+use Rattle.p2p_simulated_c.proofs.Common.{◌≡◌, length, map, sym, ap, ◌∙◌, arith, length-map, get_or-map, flight_of}
 use Rattle.p2p_simulated_c.proofs.Copying.{all_written, one_written}
 use Rattle.p2p_simulated_c.proofs.flights.write_flights.Goals as goal
 

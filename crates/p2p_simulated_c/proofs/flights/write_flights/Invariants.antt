@@ -1,5 +1,4 @@
-use Rattle.std.proofs.Common.{◌≡◌, ◌++◌, take, drop, map}
-use Rattle.p2p_simulated_c.specs.Flights.{flight_of}
+use Rattle.p2p_simulated_c.proofs.Common.{◌≡◌, ◌++◌, take, drop, map, flight_of}
 use Rattle.p2p_simulated_c.proofs.flights.write_flights.Given as goal
 
 -- the records so far stand in front of what was there

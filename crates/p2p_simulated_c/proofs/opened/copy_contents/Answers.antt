@@ -1,6 +1,6 @@
-use Rattle.std.proofs.Common.{◌≡◌, replicate, length, min, ◌+◌, ◌-◌, drop, ◌++◌, take, ap, ◌∙◌, arith}
-use Rattle.std.proofs.Common.{length-take, length-drop, length-append}
-use Rattle.std.proofs.lemmas.List.{length-replicate}
+use Rattle.p2p_simulated_c.proofs.Common.{◌≡◌, replicate, length, min, ◌+◌, ◌-◌, drop, ◌++◌, take, ap, ◌∙◌, arith}
+use Rattle.p2p_simulated_c.proofs.Common.{length-take, length-append, length-replicate}
+use Rattle.std.proofs.Common.{length-drop}
 use Rattle.p2p_simulated_c.proofs.Copying.{zeros_written, drop_behind}
 use Rattle.p2p_simulated_c.proofs.opened.copy_contents.Goals as goal
 

@@ -1,8 +1,4 @@
-use Rattle.std.proofs.Common.{◌≡◌, ℕ, take}
-use Rattle.std.specs.BTreeMap.{get}
-use Rattle.std.specs.Ordering.{nat_cmp}
-use Rattle.link_pairs.specs.Pairs.Entries.{pair_cmp}
-use Rattle.p2p_simulated_c.specs.Plan.{link_cap}
+use Rattle.p2p_simulated_c.proofs.Common.{◌≡◌, ℕ, take, get, nat_cmp, pair_cmp, link_cap}
 use Rattle.p2p_simulated_c.proofs.planner.by_link.Given as goal
 
 -- the caps so far

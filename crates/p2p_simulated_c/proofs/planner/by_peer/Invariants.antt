@@ -1,7 +1,4 @@
-use Rattle.std.proofs.Common.{◌≡◌, ℕ, take}
-use Rattle.std.specs.BTreeMap.{get}
-use Rattle.std.specs.Ordering.{nat_cmp}
-use Rattle.p2p_simulated_c.specs.Plan.{peer_cap}
+use Rattle.p2p_simulated_c.proofs.Common.{◌≡◌, ℕ, take, get, nat_cmp, peer_cap}
 use Rattle.p2p_simulated_c.proofs.planner.by_peer.Given as goal
 
 -- the caps so far

@@ -1,6 +1,4 @@
-use Rattle.std.proofs.Common.{◌∷◌, ◌++◌, [], take, map, sym, ap, ap₂, ◌∙◌}
-use Rattle.std.proofs.lemmas.List.{take_more, map-append}
-use Rattle.p2p_simulated_c.specs.Plan.{flow_of}
+use Rattle.p2p_simulated_c.proofs.Common.{◌∷◌, ◌++◌, [], take, map, sym, ap, ap₂, ◌∙◌, take_more, map-append, flow_of}
 use Rattle.p2p_simulated_c.proofs.planner.listed.Goals as goal
 
 pub loop-record-preserved : goal.loop-record-preserved

@@ -1,5 +1,4 @@
-use Rattle.std.proofs.Common.{◌≡◌, map, take}
-use Rattle.p2p_simulated_c.specs.Plan.{flow_of}
+use Rattle.p2p_simulated_c.proofs.Common.{◌≡◌, map, take, flow_of}
 use Rattle.p2p_simulated_c.proofs.planner.listed.Given as goal
 
 -- the flows so far

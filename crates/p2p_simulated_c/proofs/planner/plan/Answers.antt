@@ -1,8 +1,5 @@
-use Rattle.std.proofs.Common.{◌≡◌, map, IfOk, IfErr, subst, ◌∙◌}
-use Rattle.std.specs.BTreeMap.{get}
-use Rattle.std.specs.Ordering.{nat_cmp}
-use Rattle.p2p_simulated_c.specs.Plan.{IsPlan, MayRefusePlan, caps_of_records, flow_of}
-use Rattle.p2p_simulated_c.specs.Planning.{caps_in}
+use Rattle.p2p_simulated_c.proofs.Common.{◌≡◌, map, IfOk, IfErr, subst, ◌∙◌, get, nat_cmp, IsPlan, MayRefusePlan}
+use Rattle.p2p_simulated_c.proofs.Common.{caps_of_records, flow_of, caps_in}
 use Rattle.p2p_simulated_c.specs.declared.planner.Caps.{Caps}
 use Rattle.p2p_simulated_c.proofs.Planning.{same_caps}
 use Rattle.p2p_simulated_c.proofs.planner.plan.Goals as goal

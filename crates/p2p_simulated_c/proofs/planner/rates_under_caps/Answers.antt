@@ -1,4 +1,4 @@
-use Rattle.std.proofs.lemmas.Result.{IfOk-weaker, IfErr-weaker}
+use Rattle.p2p_simulated_c.proofs.Common.{IfOk-weaker, IfErr-weaker}
 use Rattle.std.specs.Fn.{CalledAt, CalledAtTwo}
 use Rattle.p2p_simulated_c.proofs.Planning.{planned, refused}
 use Rattle.p2p_simulated_c.proofs.planner.rates_under_caps.Goals as goal

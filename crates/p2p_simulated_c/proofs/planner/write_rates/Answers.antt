@@ -1,8 +1,5 @@
-use Rattle.std.proofs.Common.{◌≡◌, length, ap, sym, ◌∙◌, arith}
-use Rattle.std.proofs.lemmas.List.{length-map, get_or-map}
-use Rattle.std.specs.BTreeMap.{get}
-use Rattle.std.specs.Ordering.{nat_cmp}
-use Rattle.p2p_simulated_c.specs.Plan.{record_of_rate, rates_of}
+use Rattle.p2p_simulated_c.proofs.Common.{◌≡◌, length, ap, sym, ◌∙◌, arith, length-map, get_or-map, get, nat_cmp}
+use Rattle.p2p_simulated_c.proofs.Common.{record_of_rate, rates_of}
 use Rattle.p2p_simulated_c.proofs.Copying.{all_written, one_written}
 use Rattle.p2p_simulated_c.proofs.planner.write_rates.Goals as goal
 

@@ -1,7 +1,4 @@
-use Rattle.std.proofs.Common.{◌≡◌, ◌++◌, take, drop}
-use Rattle.std.specs.BTreeMap.{get}
-use Rattle.std.specs.Ordering.{nat_cmp}
-use Rattle.p2p_simulated_c.specs.Plan.{rates_of}
+use Rattle.p2p_simulated_c.proofs.Common.{◌≡◌, ◌++◌, take, drop, get, nat_cmp, rates_of}
 use Rattle.p2p_simulated_c.proofs.planner.write_rates.Given as goal
 
 -- the records so far stand in front of what was there

@@ -1,4 +1,4 @@
-use Rattle.std.proofs.Common.{arith}
+use Rattle.p2p_simulated_c.proofs.Common.{arith}
 use Rattle.std.proofs.lemmas.Grind.{common_steps}
 use Rattle.p2p_simulated_c.proofs.Hops.{hop_added}
 use Rattle.p2p_simulated_c.proofs.routes.add_hop.Goals as goal

@@ -1,4 +1,4 @@
-use Rattle.std.proofs.Common.{◌≡◌, map, take}
+use Rattle.p2p_simulated_c.proofs.Common.{◌≡◌, map, take}
 use Rattle.p2p_simulated_c.specs.Routes.{link_cap_of}
 use Rattle.p2p_simulated_c.proofs.routes.caps_of.Given as goal
 

@@ -1,10 +1,7 @@
-use Rattle.std.proofs.Common.{◌≡◌, ◌<◌, ◌++◌, ◌∷◌, [], ℕ, List, length, get_or, set, take, ap, sym, ◌∙◌, arith}
+use Rattle.p2p_simulated_c.proofs.Common.{◌≡◌, ◌<◌, ◌++◌, ◌∷◌, [], ℕ, List, length, get_or, set, take, ap, sym, ◌∙◌}
+use Rattle.p2p_simulated_c.proofs.Common.{arith, Global, Vec, length-map, take_all, take_more, lists, routes_of, Hop}
 use Rattle.std.specs.Vec.{with_items}
-use Rattle.std.specs.declared.alloc.Global.{Global}
-use Rattle.std.specs.declared.vec.Vec.{Vec}
-use Rattle.std.proofs.lemmas.List.{length-map, take_all, take_more, with_items_is}
-use Rattle.p2p_simulated_c.specs.Routes.{lists, routes_of}
-use Rattle.p2p_simulated_c.specs.declared.routes.Hop.{Hop}
+use Rattle.std.proofs.lemmas.List.{with_items_is}
 use Rattle.p2p_simulated_c.proofs.Hops.{length_of, routes_more}
 use Rattle.p2p_simulated_c.proofs.routes.listed.Goals as goal
 

@@ -1,8 +1,6 @@
-use Rattle.std.proofs.Common.{[], ◌∷◌, ◌≡◌, ◌++◌, ℕ, List, ap, ◌∙◌, map, replicate, arith}
-use Rattle.std.specs.declared.alloc.Global.{Global}
-use Rattle.std.specs.declared.vec.Vec.{Vec}
-use Rattle.std.proofs.lemmas.List.{map-append, replicate-append-replicate}
-use Rattle.p2p_simulated_c.specs.Routes.{lists}
+use Rattle.p2p_simulated_c.proofs.Common.{[], ◌∷◌, ◌≡◌, ◌++◌, ℕ, List, ap, ◌∙◌, map, replicate, arith, Global, Vec}
+use Rattle.p2p_simulated_c.proofs.Common.{map-append, lists}
+use Rattle.std.proofs.lemmas.List.{replicate-append-replicate}
 use Rattle.p2p_simulated_c.proofs.Hops.{routes_none}
 use Rattle.p2p_simulated_c.proofs.routes.no_hops.Goals as goal
 

@@ -1,5 +1,4 @@
-use Rattle.std.proofs.Common.{◌≡◌, [], replicate}
-use Rattle.p2p_simulated_c.specs.Routes.{lists}
+use Rattle.p2p_simulated_c.proofs.Common.{◌≡◌, [], replicate, lists}
 use Rattle.p2p_simulated_c.proofs.routes.no_hops.Given as goal
 
 abbrev pub invariant-loop : goal.invariant-loop

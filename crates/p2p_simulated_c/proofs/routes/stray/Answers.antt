@@ -1,7 +1,5 @@
-use Rattle.std.proofs.Common.{◌<◌, All, subst, arith}
-use Rattle.std.proofs.lemmas.List.{take_all}
+use Rattle.p2p_simulated_c.proofs.Common.{◌<◌, All, subst, arith, take_all, Hop}
 use Rattle.std.proofs.lemmas.List.Elements.{All-more}
-use Rattle.p2p_simulated_c.specs.declared.routes.Hop.{Hop}
 use Rattle.p2p_simulated_c.proofs.routes.stray.Goals as goal
 
 pub loop-hop-preserved : goal.loop-hop-preserved

@@ -1,4 +1,4 @@
-use Rattle.std.proofs.Common.{◌<◌, All, take}
+use Rattle.p2p_simulated_c.proofs.Common.{◌<◌, All, take}
 use Rattle.p2p_simulated_c.proofs.routes.stray.Given as goal
 
 abbrev pub invariant-loop-hop : goal.invariant-loop-hop

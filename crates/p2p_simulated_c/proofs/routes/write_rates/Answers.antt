@@ -1,7 +1,5 @@
-use Rattle.std.proofs.Common.{◌≡◌, Some, length, map, ap, sym, ◌∙◌, arith}
-use Rattle.std.proofs.lemmas.List.{length-map, get_or-map}
-use Rattle.fair_rates.specs.declared.bandwidth.Rate.{Rate}
-use Rattle.p2p_simulated_c.specs.Plan.{record_of_rate}
+use Rattle.p2p_simulated_c.proofs.Common.{◌≡◌, Some, length, map, ap, sym, ◌∙◌, arith, length-map, get_or-map, Rate}
+use Rattle.p2p_simulated_c.proofs.Common.{record_of_rate}
 use Rattle.p2p_simulated_c.specs.declared.records.PlanRate.{PlanRate}
 use Rattle.p2p_simulated_c.proofs.Copying.{all_written, one_written}
 use Rattle.p2p_simulated_c.proofs.routes.write_rates.Goals as goal

@@ -1,5 +1,4 @@
-use Rattle.std.proofs.Common.{◌≡◌, ◌++◌, Some, map, take, drop}
-use Rattle.p2p_simulated_c.specs.Plan.{record_of_rate}
+use Rattle.p2p_simulated_c.proofs.Common.{◌≡◌, ◌++◌, Some, map, take, drop, record_of_rate}
 use Rattle.p2p_simulated_c.proofs.routes.write_rates.Given as goal
 
 -- the records so far stand in front of what was there

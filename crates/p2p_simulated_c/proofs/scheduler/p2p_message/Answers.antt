@@ -1,4 +1,4 @@
-use Rattle.std.proofs.Common.{refl}
+use Rattle.p2p_simulated_c.proofs.Common.{refl}
 use Rattle.p2p_simulated_c.proofs.Ending.{on_open}
 use Rattle.p2p_simulated_c.proofs.scheduler.p2p_message.Goals as goal
 

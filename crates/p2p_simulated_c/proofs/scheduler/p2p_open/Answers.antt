@@ -1,4 +1,4 @@
-use Rattle.std.proofs.Common.{Some, inl, refl, ap, ◌∙◌}
+use Rattle.p2p_simulated_c.proofs.Common.{Some, inl, refl, ap, ◌∙◌}
 use Rattle.p2p_simulated_c.proofs.scheduler.p2p_open.Goals as goal
 
 pub returns-in-Ok : goal.returns-in-Ok

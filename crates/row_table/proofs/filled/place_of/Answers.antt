@@ -1,8 +1,6 @@
-use Rattle.std.proofs.lemmas.Grind.{common_steps}
-use Rattle.row_table.proofs.Common.{◌≡◌, ℕ, ◌+◌, ◌<◌, false, List, Some, slice_get, sym, ap, ◌∙◌, IfNone, arith}
-use Rattle.row_table.proofs.Common.{cases_lt, get_or_from_slice_get, slice_get_within, by_cases}
-use Rattle.std.proofs.Common.{Ok, Err, Result, get_or}
-use Rattle.std.specs.List.{AllPairs}
+use Rattle.row_table.proofs.Common.{common_steps, ◌≡◌, ℕ, ◌+◌, ◌<◌, false, List, Some, slice_get, sym, ap, ◌∙◌, IfNone}
+use Rattle.row_table.proofs.Common.{arith, cases_lt, get_or_from_slice_get, slice_get_within, by_cases, Ok, Err, Result}
+use Rattle.row_table.proofs.Common.{get_or, AllPairs}
 use Rattle.std.specs.List.Sorted.{IsBinarySearchResult}
 use Rattle.std.specs.Ordering.{nat_cmp, is_lt}
 use Rattle.std.specs.Result.{result_ok}

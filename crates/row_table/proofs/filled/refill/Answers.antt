@@ -1,7 +1,6 @@
 use Rattle.row_table.proofs.Common.{◌≡◌, ℕ, Bool, true, false, List, [], ◌∷◌, ◌++◌, Option, Some, None, is_some, take}
-use Rattle.row_table.proofs.Common.{refl, sym, ap, ◌∙◌, arith, vec_capacity, filled_from}
+use Rattle.row_table.proofs.Common.{refl, sym, ap, ◌∙◌, arith, vec_capacity, filled_from, append-nil}
 use Rattle.std.proofs.Common.{if◌then◌else◌}
-use Rattle.std.proofs.lemmas.List.{append-nil}
 use Rattle.row_table.proofs.Slots.{the_entry, held_is, filled_more, len-filled, length-live_before}
 use Rattle.row_table.proofs.filled.refill.Goals as goal
 use Rattle.row_table.proofs.filled.refill.Goals.{then-is_some+else-prove, else-is_some}

@@ -1,5 +1,4 @@
-use Rattle.std.proofs.lemmas.Grind.{common_steps}
-use Rattle.row_table.proofs.Common.{arith}
+use Rattle.row_table.proofs.Common.{common_steps, arith}
 use Rattle.std.proofs.lemmas.List.Elements.{All-pop}
 use Rattle.row_table.proofs.Leaving.{emptied_more}
 use Rattle.row_table.proofs.slot_list.let_go.Goals as goal

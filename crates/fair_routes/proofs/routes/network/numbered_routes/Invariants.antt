@@ -1,6 +1,5 @@
-use Rattle.fair_routes.proofs.Common.{map, ℕ, AllZip, IsNumbered}
+use Rattle.fair_routes.proofs.Common.{map, ℕ, AllZip, IsNumbered, deref}
 use Rattle.std.proofs.Common.{Vec, Global}
-use Rattle.std.specs.Map.Iter.{deref}
 use Rattle.fair_routes.proofs.routes.network.numbered_routes.Given as goal
 
 -- the routes so far

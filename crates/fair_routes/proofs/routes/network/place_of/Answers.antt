@@ -1,5 +1,5 @@
-use Rattle.fair_routes.proofs.Common.{◌≡◌, Some, ℕ, sym, subst, Option}
-use Rattle.std.proofs.Common.{◌↔◌, slice_get}
+use Rattle.fair_routes.proofs.Common.{◌≡◌, Some, ℕ, sym, subst, Option, ◌↔◌}
+use Rattle.std.proofs.Common.{slice_get}
 use Rattle.fair_routes.proofs.Network.Told.{found_place}
 use Rattle.fair_routes.proofs.routes.network.place_of.Goals as goal
 

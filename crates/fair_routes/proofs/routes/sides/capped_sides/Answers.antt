@@ -1,6 +1,5 @@
 use Rattle.fair_routes.proofs.Common.{◌≡◌, ◌<◌, ℕ, List, Some, None, length, get_or, sym, refl, ap, subst, ◌∙◌, arith}
-use Rattle.fair_routes.proofs.Common.{common_steps}
-use Rattle.std.proofs.Common.{vec_len}
+use Rattle.fair_routes.proofs.Common.{common_steps, vec_len}
 use Rattle.std.proofs.lemmas.Bool.Decides.{nat_tests}
 use Rattle.fair_routes.specs.declared.routes.sides.LinkSide as declared
 use Rattle.fair_routes.proofs.Network.Sides.{AreMade, made_none, made_uncapped, made_unused, made_side, made_all}

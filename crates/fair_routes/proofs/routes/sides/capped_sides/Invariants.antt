@@ -1,5 +1,4 @@
-use Rattle.fair_routes.proofs.Common.{◌≤◌, ℕ, List, length, AreUsers}
-use Rattle.std.proofs.Common.{vec_len}
+use Rattle.fair_routes.proofs.Common.{◌≤◌, ℕ, List, length, AreUsers, vec_len}
 use Rattle.fair_routes.proofs.Network.Sides.{AreMade}
 use Rattle.fair_routes.proofs.routes.sides.capped_sides.Given as goal
 

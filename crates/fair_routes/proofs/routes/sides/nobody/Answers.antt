@@ -1,6 +1,5 @@
 use Rattle.fair_routes.proofs.Common.{[], ◌∷◌, ◌≡◌, ◌++◌, ℕ, List, ap, ◌∙◌, map, replicate, arith, Global, Vec}
-use Rattle.fair_routes.proofs.Common.{map-append}
-use Rattle.std.proofs.lemmas.List.{replicate-append-replicate}
+use Rattle.fair_routes.proofs.Common.{map-append, replicate-append-replicate}
 use Rattle.fair_routes.proofs.routes.sides.nobody.Goals as goal
 
 pub loop-init : goal.loop-init

@@ -1,8 +1,6 @@
 use Rattle.fair_routes.proofs.Common.{◌≡◌, ◌<◌, ℕ, ◌++◌, ◌∷◌, [], cond, All, length, take, get_or, List, sym, ap, ◌∙◌}
 use Rattle.fair_routes.proofs.Common.{subst, arith, Global, Vec, length-map, take_more, take_all, All-nil, All-map}
-use Rattle.fair_routes.proofs.Common.{has_link, lists, users_at}
-use Rattle.std.proofs.lemmas.List.{append-nil}
-use Rattle.std.proofs.lemmas.List.Elements.{All-more}
+use Rattle.fair_routes.proofs.Common.{has_link, lists, users_at, append-nil, All-more}
 use Rattle.fair_routes.proofs.Network.Users.{joined_more}
 use Rattle.fair_routes.proofs.routes.sides.register.Goals as goal
 

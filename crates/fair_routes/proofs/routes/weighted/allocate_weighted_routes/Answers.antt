@@ -1,7 +1,6 @@
 use Rattle.fair_routes.proofs.Common.{◌≡◌, ◌<◌, ℕ, List, All, length, map, inl, inr, ap, sym, ◌∙◌, subst, Global, Vec}
 use Rattle.fair_routes.proofs.Common.{length-map, Side, if_err, weight_at, IsWeightRefusal, HaveLittleWeight, side_of}
-use Rattle.fair_routes.proofs.Common.{sides_over}
-use Rattle.fair_routes.specs.Network.Rising.{AreFilledByWeight}
+use Rattle.fair_routes.proofs.Common.{sides_over, AreFilledByWeight}
 use Rattle.fair_routes.proofs.Network.Allocation.{code_users}
 use Rattle.fair_routes.proofs.Network.LinkSides.{users_are_flows}
 use Rattle.fair_routes.proofs.Network.WeightedMaxMin.{max_min_by_weight}

@@ -1,5 +1,4 @@
-use Rattle.fair_routes.proofs.Common.{◌<◌, All, subst, arith, take_all}
-use Rattle.std.proofs.lemmas.List.Elements.{All-more}
+use Rattle.fair_routes.proofs.Common.{◌<◌, All, subst, arith, take_all, All-more}
 use Rattle.fair_routes.proofs.routes.weighted.check_weights.Goals as goal
 
 pub loop-flow-preserved : goal.loop-flow-preserved

@@ -2,10 +2,8 @@ use Rattle.fair_routes.proofs.Common.{◌≡◌, ℕ, ◌*◌, ◌<◌, List, Op
 use Rattle.fair_routes.proofs.Common.{inr, sym, ap, ◌∙◌, subst, arith, count_by, option_map, is_none, cases_lt}
 use Rattle.fair_routes.proofs.Common.{get_or-map, get_or-replicate, length-map, length-replicate, All-nil, All-map}
 use Rattle.fair_routes.proofs.Common.{product, Side, side_of, IsFilledTo, frozen_in, AreAllHeld, HasLeastRoom}
-use Rattle.fair_routes.proofs.Common.{HasFrozen, weighted, Room}
-use Rattle.std.specs.Vec.{with_items}
+use Rattle.fair_routes.proofs.Common.{HasFrozen, weighted, Room, with_items, get_or_past, with_items_is}
 use Rattle.std.proofs.Math.Nat.{mul-pos}
-use Rattle.std.proofs.lemmas.List.{get_or_past, with_items_is}
 use Rattle.fair_routes.specs.declared.routes.sides.LinkSide as declared
 use Rattle.fair_rates.proofs.Filling.Frozen.{match_some, match_none}
 use Rattle.fair_rates.proofs.Filling.Rounds.{start}

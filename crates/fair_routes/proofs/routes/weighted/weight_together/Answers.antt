@@ -1,5 +1,5 @@
-use Rattle.fair_routes.proofs.Common.{◌≡◌, sum_by, take, refl, ap, arith, take_all, not_some, weight_at}
-use Rattle.std.proofs.lemmas.List.Sums.{sum_by_more, sum_by_more_le}
+use Rattle.fair_routes.proofs.Common.{◌≡◌, sum_by, take, refl, ap, arith, take_all, not_some, weight_at, sum_by_more}
+use Rattle.std.proofs.lemmas.List.Sums.{sum_by_more_le}
 use Rattle.fair_routes.proofs.routes.weighted.weight_together.Goals as goal
 
 pub returns-in_err-together : goal.returns-in_err-together

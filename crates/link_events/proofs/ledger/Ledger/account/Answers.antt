@@ -1,5 +1,4 @@
-use Rattle.link_events.specs.Steps.AsPlanned.{planned}
-use Rattle.link_pairs.specs.Pairs.Messages.{messages}
+use Rattle.link_events.proofs.Common.{planned, messages}
 use Rattle.link_events.proofs.ledger.Ledger.account.Goals as goal
 
 pub rate-requires-clause-leaves : goal.rate-requires-clause-leaves

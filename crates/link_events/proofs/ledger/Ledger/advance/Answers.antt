@@ -1,7 +1,5 @@
-use Rattle.std.proofs.Common.{◌≡◌, ◌+◌, ◌<◌, ◌≤◌, map, length, arith, ◌∙◌}
-use Rattle.std.proofs.lemmas.Result.{err_from_is_err_and}
-use Rattle.link_events.specs.Steps.AsPlanned.{planned}
-use Rattle.link_pairs.specs.Pairs.Messages.{ended_of}
+use Rattle.link_events.proofs.Common.{◌≡◌, ◌+◌, ◌<◌, ◌≤◌, map, length, arith, ◌∙◌, err_from_is_err_and, planned}
+use Rattle.link_events.proofs.Common.{ended_of}
 use Rattle.link_flights.proofs.Flights.Standing.{length_in_flight}
 use Rattle.link_events.proofs.Steps.Advancing.{advances_step, advances_end, event_refused, wake_refused}
 use Rattle.link_events.proofs.Steps.FewerEvents.{events_left, happens_fewer, events_few}

@@ -1,7 +1,4 @@
-use Rattle.std.proofs.Common.{◌≡◌, ◌+◌, ◌≤◌, map}
-use Rattle.link_events.specs.Steps.AsPlanned.{planned}
-use Rattle.link_events.specs.Steps.Marks.{before_of}
-use Rattle.link_pairs.specs.Pairs.Messages.{ended_of}
+use Rattle.link_events.proofs.Common.{◌≡◌, ◌+◌, ◌≤◌, map, planned, before_of, ended_of}
 use Rattle.link_events.proofs.Steps.Advancing.{AdvancesSo}
 use Rattle.link_events.proofs.Steps.FewerEvents.{events_left}
 use Rattle.link_events.proofs.ledger.Ledger.advance.Given as goal

@@ -1,5 +1,4 @@
-use Rattle.std.proofs.Common.{map}
-use Rattle.link_pairs.specs.Pairs.Messages.{ended_of}
+use Rattle.link_events.proofs.Common.{map, ended_of}
 use Rattle.link_events.proofs.ledger.Ledger.answer.Goals as goal
 
 pub returns-clause-answered : goal.returns-clause-answered

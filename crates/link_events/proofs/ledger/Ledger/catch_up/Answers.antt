@@ -1,7 +1,4 @@
-use Rattle.std.proofs.Common.{sym, ap, ◌∙◌, subst}
-use Rattle.link_events.specs.Steps.AsPlanned.{planned}
-use Rattle.link_pairs.specs.Pairs.Messages.{messages}
-use Rattle.link_events.specs.Steps.Standing.{IsStanding}
+use Rattle.link_events.proofs.Common.{sym, ap, ◌∙◌, subst, planned, messages, IsStanding}
 use Rattle.link_events.proofs.Steps.Standing.{account_due}
 use Rattle.link_events.proofs.Steps.OneEach.{account_idles}
 use Rattle.link_events.proofs.ledger.Ledger.catch_up.Goals as goal

@@ -1,5 +1,4 @@
-use Rattle.std.proofs.Math.Logic.{∥∥₁_map}
-use Rattle.link_pairs.specs.Pairs.CapsOf.{caps_of}
+use Rattle.link_events.proofs.Common.{∥∥₁_map, caps_of}
 use Rattle.link_events.proofs.Steps.Marks.{in_flight_still, rated_still}
 use Rattle.link_events.proofs.ledger.Ledger.commit.Goals as goal
 

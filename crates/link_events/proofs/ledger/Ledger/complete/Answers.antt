@@ -1,13 +1,6 @@
-use Rattle.std.proofs.Common.{◌≡◌, [], ◌∷◌, ◌++◌, map, sym, ap, ◌∙◌, subst}
-use Rattle.std.proofs.lemmas.List.{map-append}
-use Rattle.std.proofs.lemmas.Result.{err_from_is_err_and}
-use Rattle.link_simulation.specs.Simulation.RefusalCauses.{IsRefusedFor}
-use Rattle.link_simulation.specs.Simulation.World.{goes, meets, completion_of, completed, is_late}
-use Rattle.link_simulation.specs.Rule.Events.{Launches, Finishes, landed}
-use Rattle.link_pairs.specs.Pairs.Messages.{message_of, ended_of, messages}
-use Rattle.link_pairs.specs.Pairs.Entries.{first_of}
-use Rattle.link_waiting.specs.Idle.AtRest.{is_sending}
-use Rattle.link_events.specs.Steps.AsPlanned.{planned}
+use Rattle.link_events.proofs.Common.{◌≡◌, [], ◌∷◌, ◌++◌, map, sym, ap, ◌∙◌, subst, map-append, err_from_is_err_and}
+use Rattle.link_events.proofs.Common.{IsRefusedFor, goes, meets, completion_of, completed, is_late, Launches, Finishes}
+use Rattle.link_events.proofs.Common.{landed, message_of, ended_of, messages, first_of, is_sending, planned}
 use Rattle.link_events.proofs.Steps.Finishing.{refused_landing, refused_launch, launches_landed}
 use Rattle.link_events.proofs.ledger.Ledger.complete.Goals as goal
 

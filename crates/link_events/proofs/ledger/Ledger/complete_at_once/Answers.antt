@@ -1,9 +1,5 @@
-use Rattle.std.proofs.Common.{◌≡◌, [], ◌∷◌, map, sym, ap, ◌∙◌}
-use Rattle.std.proofs.lemmas.Result.{err_from_is_err_and}
-use Rattle.link_simulation.specs.Simulation.World.{Completed, completion_of}
-use Rattle.link_pairs.specs.Pairs.Messages.{message_of, ended_of}
-use Rattle.link_events.specs.Steps.AsPlanned.{planned}
-use Rattle.std.proofs.lemmas.List.{map-append}
+use Rattle.link_events.proofs.Common.{◌≡◌, [], ◌∷◌, map, sym, ap, ◌∙◌, err_from_is_err_and, Completed, completion_of}
+use Rattle.link_events.proofs.Common.{message_of, ended_of, planned, map-append}
 use Rattle.link_events.proofs.Steps.Settling.{completes_so, too_late_refused}
 use Rattle.link_events.proofs.ledger.Ledger.complete_at_once.Goals as goal
 

@@ -1,4 +1,4 @@
-use Rattle.std.proofs.Common.{Result, Ok, Err, OnOk}
+use Rattle.link_events.proofs.Common.{Result, Ok, Err, OnOk}
 use Rattle.link_events.proofs.ledger.Ledger.conclude.Goals as goal
 
 -- what holds in any case

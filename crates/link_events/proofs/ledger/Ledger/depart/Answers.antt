@@ -1,22 +1,9 @@
-use Rattle.std.proofs.Common.{◌≡◌, ◌+◌, length, Some, sym, ap, ◌∙◌}
-use Rattle.std.specs.Prelude.{option_map, ◌&&◌}
-use Rattle.std.proofs.Math.Logic.{∥∥₁_map}
-use Rattle.fair_rates.specs.Numbers.Amount.{whole}
-use Rattle.fair_rates.specs.Sides.Subjects.{same_peer}
-use Rattle.link_simulation.specs.Simulation.Messages.{Message}
-use Rattle.link_simulation.specs.Rule.Planned.{RatedFlight, rated_messages}
-use Rattle.link_simulation.proofs.Simulation.Queue.{find_passes}
-use Rattle.link_flights.specs.Flights.InFlight.{in_flight}
-use Rattle.link_pairs.specs.Pairs.Messages.{message_of}
-use Rattle.link_pairs.specs.Pairs.Entries.{first_of, arrival_of}
-use Rattle.link_pairs.specs.Pairs.CapsOf.{caps_of}
-use Rattle.link_pairs.proofs.Pairs.LookedUp.{arrivals_looked_up}
-use Rattle.link_waiting.specs.Idle.Waits.{since_of}
+use Rattle.link_events.proofs.Common.{◌≡◌, ◌+◌, length, Some, sym, ap, ◌∙◌, option_map, ∥∥₁_map, whole, same_peer}
+use Rattle.link_events.proofs.Common.{Message, RatedFlight, rated_messages, find_passes, in_flight, message_of}
+use Rattle.link_events.proofs.Common.{first_of, arrival_of, caps_of, arrivals_looked_up, since_of, still_rated}
+use Rattle.link_events.proofs.Common.{idle_if_may, may_launch_first, planned}
+use Rattle.std.specs.Prelude.{◌&&◌}
 use Rattle.link_waiting.proofs.Idle.IndexChanges.{departed_index}
-use Rattle.link_flights.proofs.Flights.Standing.{still_rated}
-use Rattle.link_simulation.proofs.Laws.Orderly.{idle_if_may}
-use Rattle.link_waiting.specs.Idle.Starting.{may_launch_first}
-use Rattle.link_events.specs.Steps.AsPlanned.{planned}
 use Rattle.link_events.proofs.Steps.OneEach.{one_if_so, one_joins}
 use Rattle.link_events.proofs.ledger.Ledger.depart.Goals as goal
 

@@ -1,5 +1,4 @@
-use Rattle.std.proofs.Math.Logic.{∥∥₁_map}
-use Rattle.link_pairs.specs.Pairs.CapsOf.{caps_of}
+use Rattle.link_events.proofs.Common.{∥∥₁_map, caps_of}
 use Rattle.link_events.proofs.ledger.Ledger.enlarge_units.Goals as goal
 
 pub invariant_of-self-in_default : goal.invariant_of-self-in_default

@@ -1,7 +1,5 @@
-use Rattle.std.proofs.Common.{[], ◌∷◌, ◌++◌, map, ap, ◌∙◌}
-use Rattle.std.proofs.lemmas.Result.{err_from_is_err_and}
-use Rattle.link_pairs.specs.Pairs.Messages.{message_of, ended_of, messages}
-use Rattle.link_events.specs.Steps.AsPlanned.{planned}
+use Rattle.link_events.proofs.Common.{[], ◌∷◌, ◌++◌, map, ap, ◌∙◌, err_from_is_err_and, message_of, ended_of, messages}
+use Rattle.link_events.proofs.Common.{planned}
 use Rattle.link_events.proofs.Steps.Settling.{at_once_refused, enqueues_at_once, enqueue_launch_refused}
 use Rattle.link_events.proofs.Steps.Settling.{enqueue_finish_refused, enqueues_launched}
 use Rattle.link_events.proofs.ledger.Ledger.enqueue.Goals as goal

@@ -1,13 +1,9 @@
-use Rattle.std.proofs.Common.{◌≡◌, List, [], ◌∷◌, map, sym, ap, ◌∙◌, subst, rules, length, refl}
-use Rattle.std.proofs.lemmas.Result.{err_from_is_err_and}
+use Rattle.link_events.proofs.Common.{◌≡◌, List, [], ◌∷◌, map, sym, ap, ◌∙◌, subst, rules, length, refl}
+use Rattle.link_events.proofs.Common.{err_from_is_err_and, into_iter_items, Message, message_of, ended_of, outgoing_by}
+use Rattle.link_events.proofs.Common.{planned}
 use Rattle.std.proofs.lemmas.Iterator.Adapters.{YieldsList-from_vec}
 use Rattle.std.proofs.lemmas.Iterator.Consumers.{YieldsList-end}
 use Rattle.std.specs.Vec.{vec_len}
-use Rattle.std.specs.Vec.Iter.{into_iter_items}
-use Rattle.link_simulation.specs.Simulation.Messages.{Message}
-use Rattle.link_pairs.specs.Pairs.Messages.{message_of, ended_of}
-use Rattle.link_events.specs.Steps.Outgoing.{outgoing_by}
-use Rattle.link_events.specs.Steps.AsPlanned.{planned}
 use Rattle.link_events.proofs.Steps.Batch.{given_so_far, none_behind}
 use Rattle.link_events.proofs.Steps.Standing.{StandsSo, stands_start, stands_step, stands_refused, stands_end}
 use Rattle.link_events.proofs.ledger.Ledger.enqueue_all.Goals as goal

@@ -1,9 +1,4 @@
-use Rattle.std.proofs.Common.{◌≡◌, map}
-use Rattle.std.specs.Vec.Iter.{into_iter_items}
-use Rattle.link_pairs.specs.Pairs.Messages.{ended_of}
-use Rattle.link_events.specs.Steps.Outgoing.{outgoing_by}
-use Rattle.link_events.specs.Steps.AsPlanned.{planned}
-use Rattle.link_events.specs.Steps.Marks.{before_of}
+use Rattle.link_events.proofs.Common.{◌≡◌, map, into_iter_items, ended_of, outgoing_by, planned, before_of}
 use Rattle.link_events.proofs.Steps.Standing.{StandsSo}
 use Rattle.link_events.proofs.ledger.Ledger.enqueue_all.Given as goal
 

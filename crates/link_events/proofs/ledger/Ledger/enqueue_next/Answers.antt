@@ -1,19 +1,9 @@
-use Rattle.std.proofs.Common.{Bool, ◌&&◌, [], map, sym, ap, ◌∙◌, subst, refl}
-use Rattle.std.proofs.lemmas.List.{append-nil, map-append}
-use Rattle.std.proofs.lemmas.Result.{err_from_is_err_and}
-use Rattle.link_simulation.specs.Simulation.RefusalCauses.{IsRefusedFor}
-use Rattle.link_simulation.specs.Simulation.World.{meets}
-use Rattle.link_simulation.specs.Rule.Events.{Enqueues}
-use Rattle.fair_rates.proofs.Lists.Booleans.{first_of_both, second_of_both}
-use Rattle.link_events.specs.Steps.Standing.{IsStanding}
-use Rattle.link_waiting.specs.Idle.AtRest.{is_sending}
-use Rattle.link_events.specs.Steps.AsPlanned.{planned}
-use Rattle.link_flights.specs.Flights.InFlight.{in_units}
-use Rattle.link_pairs.specs.Pairs.Messages.{message_of, ended_of}
+use Rattle.link_events.proofs.Common.{Bool, ◌&&◌, [], map, sym, ap, ◌∙◌, subst, refl, append-nil, map-append}
+use Rattle.link_events.proofs.Common.{err_from_is_err_and, IsRefusedFor, meets, Enqueues, first_of_both, second_of_both}
+use Rattle.link_events.proofs.Common.{IsStanding, is_sending, planned, in_units, message_of, ended_of, idle_if_may}
 use Rattle.link_events.proofs.Steps.Standing.{goes_waiting, goes_starting, goes_otherwise, read_positive}
 use Rattle.link_events.proofs.Steps.Standing.{read_lowest}
 use Rattle.link_events.proofs.Steps.Standing.{starts_so}
-use Rattle.link_simulation.proofs.Laws.Orderly.{idle_if_may}
 use Rattle.link_events.proofs.ledger.Ledger.enqueue_next.Goals as goal
 
 pub returns-then-has_to_wait-clause-enqueues : goal.returns-then-has_to_wait-clause-enqueues

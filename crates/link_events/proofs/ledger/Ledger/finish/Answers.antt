@@ -1,15 +1,10 @@
-use Rattle.std.proofs.Common.{◌≡◌, ◌+◌, List, [], ◌∷◌, ◌++◌, map, length, refl, sym, ap, ◌∙◌, subst, arith}
-use Rattle.std.proofs.Common.{length-append, rules}
-use Rattle.std.proofs.lemmas.Result.{err_from_is_err_and}
-use Rattle.link_simulation.specs.Simulation.Messages.{Message, same_pair}
-use Rattle.link_pairs.specs.Pairs.Messages.{message_of, ended_of, messages}
-use Rattle.link_events.specs.Steps.AsPlanned.{planned}
-use Rattle.link_simulation.specs.Rule.Events.{Finishes, all_completed, completes}
-use Rattle.link_simulation.specs.Simulation.World.{completed, goes, meets, preceded}
+use Rattle.link_events.proofs.Common.{◌≡◌, ◌+◌, List, [], ◌∷◌, ◌++◌, map, length, refl, sym, ap, ◌∙◌, subst, arith}
+use Rattle.link_events.proofs.Common.{length-append, rules, err_from_is_err_and, Message, same_pair, message_of}
+use Rattle.link_events.proofs.Common.{ended_of, messages, planned, Finishes, all_completed, completes, completed, goes}
+use Rattle.link_events.proofs.Common.{meets, preceded, map-append, length-map}
 use Rattle.link_events.proofs.Steps.SoFar.{none_so_far, step_so_far, all_so_far, refused_so_far}
 use Rattle.link_events.proofs.Steps.MessageCounts.{in_system, launch_keeps}
 use Rattle.link_events.proofs.ledger.Ledger.finish.Goals as goal
-use Rattle.std.proofs.lemmas.List.{map-append, length-map}
 
 pub loop-message-init : goal.loop-message-init
 loop-message-init g c = record { so = none_so_far _ (map ended_of c.args.ended.now.items); before = refl }

@@ -1,8 +1,4 @@
-use Rattle.std.proofs.Common.{◌≡◌, ◌+◌, map, length}
-use Rattle.link_events.specs.Steps.AsPlanned.{planned}
-use Rattle.link_events.specs.Steps.Marks.{before_of}
-use Rattle.link_pairs.specs.Pairs.Messages.{messages, ended_of}
-use Rattle.link_simulation.specs.Rule.Events.{Finishes}
+use Rattle.link_events.proofs.Common.{◌≡◌, ◌+◌, map, length, planned, before_of, messages, ended_of, Finishes}
 use Rattle.link_events.proofs.Steps.SoFar.{SoFar}
 use Rattle.link_events.proofs.Steps.MessageCounts.{in_system}
 use Rattle.link_events.proofs.ledger.Ledger.finish.Given as goal

@@ -1,10 +1,5 @@
-use Rattle.std.proofs.Common.{◌≡◌, ◌++◌, List, map, IfOk, IfErr, sym, subst}
-use Rattle.link_events.specs.declared.event.Event.{Event}
-use Rattle.link_simulation.specs.Simulation.World.{Completed, goes, meets}
-use Rattle.link_events.specs.Steps.Due.{Happens}
-use Rattle.link_simulation.specs.Simulation.RefusalCauses.{IsRefusedFor}
-use Rattle.link_events.specs.Steps.AsPlanned.{planned}
-use Rattle.link_pairs.specs.Pairs.Messages.{ended_of}
+use Rattle.link_events.proofs.Common.{◌≡◌, ◌++◌, List, map, IfOk, IfErr, sym, subst, Event, Completed, goes, meets}
+use Rattle.link_events.proofs.Common.{Happens, IsRefusedFor, planned, ended_of}
 use Rattle.link_events.proofs.ledger.Ledger.happen.Goals as goal
 
 pub returns-in-Finish-clause-happens : goal.returns-in-Finish-clause-happens

@@ -1,6 +1,4 @@
-use Rattle.std.proofs.Common.{Bool, ◌&&◌, sym, ap, ◌∙◌}
-use Rattle.link_events.specs.Steps.AsPlanned.{planned}
-use Rattle.link_waiting.specs.Idle.AtRest.{is_sending}
+use Rattle.link_events.proofs.Common.{Bool, ◌&&◌, sym, ap, ◌∙◌, planned, is_sending}
 use Rattle.link_events.proofs.ledger.Ledger.has_to_wait.Goals as goal
 
 pub returns-then-self : goal.returns-then-self

@@ -1,4 +1,4 @@
-use Rattle.std.proofs.Common.{◌∙◌}
+use Rattle.link_events.proofs.Common.{◌∙◌}
 use Rattle.link_events.proofs.ledger.Ledger.idle_since.Goals as goal
 
 pub returns : goal.returns

@@ -1,7 +1,4 @@
-use Rattle.std.proofs.Common.{ap, sym, ◌∙◌}
-use Rattle.link_events.specs.Steps.AsPlanned.{planned}
-use Rattle.link_pairs.proofs.Pairs.LookedUp.{arrivals_looked_up}
-use Rattle.link_waiting.specs.Idle.Waits.{since_of, has_come}
+use Rattle.link_events.proofs.Common.{ap, sym, ◌∙◌, planned, arrivals_looked_up, since_of, has_come}
 use Rattle.link_waiting.proofs.Idle.FirstStart.{ready_from}
 use Rattle.link_events.proofs.ledger.Ledger.is_ready.Goals as goal
 

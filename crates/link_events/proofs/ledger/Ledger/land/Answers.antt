@@ -1,5 +1,4 @@
-use Rattle.link_pairs.specs.Pairs.Messages.{message_of}
-use Rattle.link_events.specs.Steps.AsPlanned.{planned}
+use Rattle.link_events.proofs.Common.{message_of, planned}
 use Rattle.link_events.proofs.Steps.Finishing.{landed_so}
 use Rattle.link_events.proofs.ledger.Ledger.land.Goals as goal
 

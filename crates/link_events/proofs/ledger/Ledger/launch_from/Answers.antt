@@ -1,13 +1,6 @@
-use Rattle.std.proofs.Common.{List, sym, ◌∙◌, subst, arith}
-use Rattle.std.specs.declared.sync.Arc.{Arc}
-use Rattle.std.specs.declared.alloc.Global.{Global}
+use Rattle.link_events.proofs.Common.{List, sym, ◌∙◌, subst, arith, Arc, Global, goes, meets, Planned, Launches}
+use Rattle.link_events.proofs.Common.{first_of, planned, messages}
 use Rattle.link_pairs.specs.declared.message.Message as code
-use Rattle.link_simulation.specs.Simulation.World.{goes, meets}
-use Rattle.link_simulation.specs.Rule.Planned.{Planned}
-use Rattle.link_simulation.specs.Rule.Events.{Launches}
-use Rattle.link_pairs.specs.Pairs.Entries.{first_of}
-use Rattle.link_events.specs.Steps.AsPlanned.{planned}
-use Rattle.link_pairs.specs.Pairs.Messages.{messages}
 use Rattle.link_simulation.proofs.Simulation.RefusalCauses.{memory_refuses}
 use Rattle.link_waiting.proofs.Idle.Starting.{not_started, no_more_ids, launched_so}
 use Rattle.link_events.proofs.Steps.Through.{idle_first, launched_through}

@@ -1,13 +1,5 @@
-use Rattle.std.proofs.Common.{map, ◌∙◌}
-use Rattle.std.proofs.lemmas.Bool.{and_from}
-use Rattle.link_pairs.specs.Pairs.Messages.{message_of, messages}
-use Rattle.link_simulation.specs.Rule.Events.{Launches, with_queued}
-use Rattle.link_simulation.specs.Rule.Planned.{rated_messages}
-use Rattle.link_simulation.specs.Simulation.Messages.{Message}
-use Rattle.link_simulation.specs.Simulation.RefusalCauses.{IsRefusedFor}
-use Rattle.link_simulation.specs.Simulation.World.{goes, meets}
-use Rattle.link_simulation.proofs.Simulation.Queue.{any_like}
-use Rattle.link_events.specs.Steps.AsPlanned.{planned}
+use Rattle.link_events.proofs.Common.{map, ◌∙◌, and_from, message_of, messages, Launches, with_queued, rated_messages}
+use Rattle.link_events.proofs.Common.{Message, IsRefusedFor, goes, meets, any_like, planned}
 use Rattle.link_events.proofs.Steps.Settling.{if_ok, if_err, of_message}
 use Rattle.link_events.proofs.ledger.Ledger.launch_sent.Goals as goal
 

@@ -1,16 +1,7 @@
-use Rattle.std.proofs.Common.{not, sym, ap, ◌∙◌, refl, subst, inl, inr}
-use Rattle.std.specs.List.{filter}
-use Rattle.link_simulation.specs.Rule.Planned.{Planned, is_spent, drained_to}
-use Rattle.link_pairs.specs.Pairs.CapsOf.{caps_of}
-use Rattle.link_pairs.specs.Pairs.PeerCaps.{egress_of, ingress_of}
-use Rattle.link_pairs.specs.Pairs.Messages.{messages}
-use Rattle.link_flights.specs.Flights.InFlight.{in_flight}
-use Rattle.link_flights.specs.Flights.Rated.{HadFairRates}
-use Rattle.link_events.specs.Steps.AsPlanned.{planned}
-use Rattle.link_events.specs.Steps.Landing.{since_of_first}
+use Rattle.link_events.proofs.Common.{not, sym, ap, ◌∙◌, refl, subst, inl, inr, filter, Planned, is_spent, drained_to}
+use Rattle.link_events.proofs.Common.{caps_of, egress_of, ingress_of, messages, in_flight, HadFairRates, planned}
+use Rattle.link_events.proofs.Common.{since_of_first, arrival_of, of_pairs}
 use Rattle.link_events.proofs.Steps.Landing.{leaves_landing, since_alike}
-use Rattle.link_pairs.specs.Pairs.Entries.{arrival_of}
-use Rattle.link_waiting.specs.Idle.AtRest.{of_pairs}
 use Rattle.link_events.proofs.ledger.Ledger.leave_landing_at.Goals as goal
 
 pub leave_landing-left-requires-clause-rated : goal.leave_landing-left-requires-clause-rated

@@ -1,15 +1,6 @@
-use Rattle.std.proofs.Common.{◌≡◌, ◌∷◌, ◌++◌, [], true, List, sym, ap, ◌∙◌, subst}
-use Rattle.std.proofs.lemmas.List.{map-append}
-use Rattle.std.proofs.Math.Logic.{∥∥₁_map}
-use Rattle.link_simulation.specs.Simulation.Messages.{Message}
-use Rattle.link_simulation.specs.Simulation.Rates.{is_unlimited}
-use Rattle.link_simulation.specs.Rule.Planned.{Planned}
-use Rattle.link_simulation.specs.Rule.Events.{launched}
-use Rattle.link_simulation.specs.Rule.Leaving.{Leaves}
-use Rattle.link_flights.specs.Flights.Rated.{HadFairRates}
-use Rattle.link_pairs.specs.Pairs.Messages.{message_of, messages}
-use Rattle.link_events.specs.Steps.AsPlanned.{planned}
-use Rattle.link_events.specs.Steps.Through.{gone_through}
+use Rattle.link_events.proofs.Common.{◌≡◌, ◌∷◌, ◌++◌, [], true, List, sym, ap, ◌∙◌, subst, map-append, ∥∥₁_map, Message}
+use Rattle.link_events.proofs.Common.{is_unlimited, Planned, launched, Leaves, HadFairRates, message_of, messages}
+use Rattle.link_events.proofs.Common.{planned, gone_through}
 use Rattle.link_events.proofs.Steps.Through.{is_free, leaves_through, had_through}
 use Rattle.link_events.proofs.ledger.Ledger.let_through.Given.{Over}
 use Rattle.link_events.proofs.ledger.Ledger.let_through.Goals as goal

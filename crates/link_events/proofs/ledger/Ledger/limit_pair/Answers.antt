@@ -1,12 +1,5 @@
-use Rattle.std.proofs.Common.{true, refl, sym, ◌∙◌}
-use Rattle.std.proofs.Math.Logic.{∥∥₁_map}
-use Rattle.std.proofs.lemmas.Bool.{false≢true}
-use Rattle.link_waiting.specs.Idle.Waits.{since_of}
-use Rattle.link_waiting.proofs.Idle.IndexChanges.{arrived_index}
-use Rattle.link_pairs.specs.Pairs.PeerCaps.{egress_of, ingress_of}
-use Rattle.link_pairs.specs.Pairs.CapsOf.{caps_of}
-use Rattle.link_flights.specs.Flights.InFlight.{in_flight}
-use Rattle.link_flights.proofs.Flights.Loosened.{rated_under_new}
+use Rattle.link_events.proofs.Common.{true, refl, sym, ◌∙◌, ∥∥₁_map, false≢true, since_of, arrived_index, egress_of}
+use Rattle.link_events.proofs.Common.{ingress_of, caps_of, in_flight, rated_under_new}
 use Rattle.link_events.proofs.Steps.Marks.{in_flight_still}
 use Rattle.link_events.proofs.Steps.NewCaps.{sent_by_it, about_sender, leaves_others_alone, not_off}
 use Rattle.link_events.proofs.ledger.Ledger.limit_pair.Goals.{then-stale, else-stale}

@@ -1,10 +1,7 @@
-use Rattle.std.proofs.Common.{true, refl, sym, ◌∙◌, inl, inr}
-use Rattle.std.proofs.Math.Logic.{∥∥₁_map}
-use Rattle.std.proofs.lemmas.Bool.{false≢true, or_cases}
-use Rattle.fair_rates.specs.Sides.Subjects.{same_peer}
-use Rattle.link_pairs.specs.Pairs.Entries.{link_of, arrival_of}
-use Rattle.link_pairs.specs.Pairs.CapsOf.{caps_of}
-use Rattle.link_flights.proofs.Flights.Loosened.{rated_under_new}
+use Rattle.link_events.proofs.Common.{true, refl, sym, ◌∙◌, inl, inr, ∥∥₁_map, false≢true, same_peer, arrival_of}
+use Rattle.link_events.proofs.Common.{caps_of, rated_under_new}
+use Rattle.std.proofs.lemmas.Bool.{or_cases}
+use Rattle.link_pairs.specs.Pairs.Entries.{link_of}
 use Rattle.link_events.proofs.Steps.Marks.{in_flight_still}
 use Rattle.link_events.proofs.Steps.NewCaps.{of_peer, about_peer, leaves_alone, not_off}
 use Rattle.link_events.proofs.ledger.Ledger.limit_peer.Goals.{then-stale, else-stale}

@@ -1,7 +1,4 @@
-use Rattle.std.proofs.Common.{sym, ap, ◌∙◌}
-use Rattle.link_events.specs.Steps.AsPlanned.{planned}
-use Rattle.link_pairs.proofs.Pairs.LookedUp.{arrivals_looked_up}
-use Rattle.link_waiting.specs.Idle.Waits.{has_come}
+use Rattle.link_events.proofs.Common.{sym, ap, ◌∙◌, planned, arrivals_looked_up, has_come}
 use Rattle.link_waiting.proofs.Idle.DueMessages.{may_first}
 use Rattle.link_events.proofs.ledger.Ledger.may_launch.Goals as goal
 

@@ -1,9 +1,7 @@
-use Rattle.std.proofs.Common.{◌≡◌, true, false, Option, None, Some, option_map, refl, sym, ap, ◌∙◌, rules}
+use Rattle.link_events.proofs.Common.{◌≡◌, true, false, Option, None, Some, refl, sym, ap, ◌∙◌, rules, first_moment}
+use Rattle.link_events.proofs.Common.{message_of, arrival_of, planned}
+use Rattle.std.proofs.Common.{option_map}
 use Rattle.std.specs.Prelude.{is_some, nat_le}
-use Rattle.link_waiting.specs.Idle.FirstMoment.{first_moment}
-use Rattle.link_pairs.specs.Pairs.Messages.{message_of}
-use Rattle.link_pairs.specs.Pairs.Entries.{arrival_of}
-use Rattle.link_events.specs.Steps.AsPlanned.{planned}
 use Rattle.link_waiting.proofs.Idle.Starting.{may_start_is}
 use Rattle.link_events.proofs.ledger.Ledger.may_start.Goals as goal
 

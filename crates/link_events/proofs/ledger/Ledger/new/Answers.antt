@@ -1,4 +1,4 @@
-use Rattle.std.proofs.Common.{refl}
+use Rattle.link_events.proofs.Common.{refl}
 use Rattle.link_events.proofs.ledger.Ledger.new.Goals as goal
 
 pub returns-clause-planned : goal.returns-clause-planned

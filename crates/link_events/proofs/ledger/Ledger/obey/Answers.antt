@@ -1,12 +1,6 @@
-use Rattle.std.proofs.Common.{map, subst}
-use Rattle.std.proofs.lemmas.Result.{err_from_is_err_and}
+use Rattle.link_events.proofs.Common.{map, subst, err_from_is_err_and, Message, goes, Enqueues, ended_of, planned}
 use Rattle.link_simulation.specs.Simulation.Calls.{call_enqueue, limited_by, linked_by}
-use Rattle.link_simulation.specs.Simulation.Messages.{Message}
-use Rattle.link_simulation.specs.Simulation.World.{goes}
-use Rattle.link_simulation.specs.Rule.Events.{Enqueues}
 use Rattle.link_simulation.specs.Rule.Refusals.{MayBeRefused}
-use Rattle.link_pairs.specs.Pairs.Messages.{ended_of}
-use Rattle.link_events.specs.Steps.AsPlanned.{planned}
 use Rattle.link_events.proofs.Steps.Limits.{limits_refused, rebalances_on}
 use Rattle.link_events.proofs.ledger.Ledger.obey.Goals as goal
 use Rattle.link_events.proofs.ledger.Ledger.obey.Goals.{in-Limit+in_ok-limit_peer-in-Limit+in_ok-ended-in-Limit}

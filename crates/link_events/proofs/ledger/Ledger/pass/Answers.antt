@@ -1,4 +1,4 @@
-use Rattle.link_events.specs.Steps.AsPlanned.{planned}
+use Rattle.link_events.proofs.Common.{planned}
 use Rattle.link_events.proofs.Steps.Advancing.{rests}
 use Rattle.link_events.proofs.ledger.Ledger.pass.Goals as goal
 

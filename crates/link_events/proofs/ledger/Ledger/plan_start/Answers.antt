@@ -1,9 +1,5 @@
-use Rattle.std.proofs.Common.{◌≡◌, ◌≤◌, rules}
-use Rattle.std.specs.Prelude.{max, option_map, IfSome}
-use Rattle.link_simulation.specs.Simulation.World.{last_moment}
-use Rattle.link_events.specs.Steps.AsPlanned.{planned}
-use Rattle.link_pairs.proofs.Pairs.LookedUp.{arrivals_looked_up}
-use Rattle.link_waiting.specs.Idle.Waits.{since_of}
+use Rattle.link_events.proofs.Common.{◌≡◌, ◌≤◌, rules, option_map, last_moment, planned, arrivals_looked_up, since_of}
+use Rattle.std.specs.Prelude.{max, IfSome}
 use Rattle.link_waiting.proofs.Idle.FirstStart.{looks_so}
 use Rattle.link_events.proofs.ledger.Ledger.plan_start.Goals as goal
 

@@ -1,4 +1,4 @@
-use Rattle.std.proofs.Common.{sym, ap, ◌∙◌}
+use Rattle.link_events.proofs.Common.{sym, ap, ◌∙◌}
 use Rattle.link_events.specs.Steps.Marks.{Before}
 use Rattle.link_events.proofs.Steps.Marks.{same_ledger}
 use Rattle.link_events.proofs.ledger.Ledger.put_back.Goals as goal

@@ -1,14 +1,7 @@
-use Rattle.std.proofs.Common.{sym, ap, ◌∙◌}
-use Rattle.std.proofs.lemmas.Bool.{and_from}
-use Rattle.link_simulation.specs.Simulation.Messages.{with_link}
+use Rattle.link_events.proofs.Common.{sym, ap, ◌∙◌, and_from, with_link, in_flight, message_of, arrivals_looked_up}
+use Rattle.link_events.proofs.Common.{of_pairs, since_of, rested_is, busy_none}
 use Rattle.link_simulation.proofs.Rule.SamePlanned.{peer_turned}
-use Rattle.link_flights.specs.Flights.InFlight.{in_flight}
-use Rattle.link_pairs.specs.Pairs.Messages.{message_of}
-use Rattle.link_pairs.proofs.Pairs.LookedUp.{arrivals_looked_up}
-use Rattle.link_waiting.specs.Idle.AtRest.{of_pairs}
-use Rattle.link_waiting.specs.Idle.Waits.{since_of}
-use Rattle.link_waiting.proofs.Idle.Moved.{rested_is}
-use Rattle.link_waiting.proofs.Idle.IndexChanges.{queued_index, busy_none, link_none}
+use Rattle.link_waiting.proofs.Idle.IndexChanges.{queued_index, link_none}
 use Rattle.link_events.proofs.ledger.Ledger.queue_up.Goals as goal
 
 pub invariant_of-self-then-is_busy : goal.invariant_of-self-then-is_busy

@@ -1,13 +1,7 @@
-use Rattle.std.proofs.Common.{Some, sym, ap, ◌∙◌, subst}
-use Rattle.link_simulation.specs.Simulation.Messages.{with_link}
-use Rattle.link_waiting.specs.Idle.AtRest.{of_pairs}
-use Rattle.link_waiting.specs.Idle.Waits.{since_of}
-use Rattle.link_waiting.proofs.Idle.Moved.{rested_is, raised_arrival}
-use Rattle.link_waiting.proofs.Idle.IndexChanges.{raised_index, raised_none, arrived_index, busy_none}
-use Rattle.link_flights.specs.Flights.InFlight.{in_flight}
-use Rattle.link_flights.specs.Flights.Rated.{WereRatedUnder}
-use Rattle.link_pairs.specs.Pairs.CapsOf.{caps_of}
-use Rattle.link_pairs.proofs.Pairs.LookedUp.{arrivals_looked_up}
+use Rattle.link_events.proofs.Common.{Some, sym, ap, ◌∙◌, subst, with_link, of_pairs, since_of, rested_is}
+use Rattle.link_events.proofs.Common.{arrived_index, busy_none, in_flight, WereRatedUnder, caps_of, arrivals_looked_up}
+use Rattle.link_waiting.proofs.Idle.Moved.{raised_arrival}
+use Rattle.link_waiting.proofs.Idle.IndexChanges.{raised_index, raised_none}
 use Rattle.link_events.proofs.ledger.Ledger.raise.Goals as goal
 
 pub invariant_of-self : goal.invariant_of-self

@@ -1,26 +1,16 @@
-use Rattle.std.proofs.Common.{◌≡◌, ◌≢◌, length, not, true, sym, ap, ap₂, ◌∙◌, subst, All}
-use Rattle.std.proofs.Common.{Result, Ok, Err, OnOk}
-use Rattle.std.specs.List.{AllZip}
-use Rattle.std.proofs.lemmas.Bool.{false≢true, eq-eqb}
-use Rattle.fair_rates.specs.Sides.Caps.{Caps}
-use Rattle.link_simulation.specs.Simulation.Messages.{OneForEachPair}
-use Rattle.link_simulation.specs.Rule.Events.{Accounts}
-use Rattle.link_simulation.specs.Rule.Planned.{Planned, rated_messages, drained_to, is_spent}
-use Rattle.link_flights.specs.Flights.Flight.{UnitFlight, flights_at}
-use Rattle.link_flights.specs.Flights.InFlight.{in_flight, in_units}
-use Rattle.link_flights.specs.Flights.Rated.{AreFairlyRated, IsFloorOf, IsRatedFrom, is_out, are_limited}
-use Rattle.link_flights.specs.Flights.Rated.{rated_ones}
-use Rattle.link_pairs.specs.Pairs.CapsOf.{caps_of}
+use Rattle.link_events.proofs.Common.{◌≡◌, length, not, true, sym, ap, ap₂, ◌∙◌, subst, Result, Ok, Err, OnOk, AllZip}
+use Rattle.link_events.proofs.Common.{false≢true, eq-eqb, Caps, OneForEachPair, Accounts, Planned, rated_messages}
+use Rattle.link_events.proofs.Common.{drained_to, is_spent, UnitFlight, flights_at, in_flight, in_units, AreFairlyRated}
+use Rattle.link_events.proofs.Common.{IsFloorOf, is_out, rated_ones, caps_of, ∥∥₁_elim, ∥∥₁_map, props, left_updated}
+use Rattle.link_events.proofs.Common.{since_of, same_flights_index}
+use Rattle.std.proofs.Common.{◌≢◌, All}
+use Rattle.link_flights.specs.Flights.Rated.{IsRatedFrom, are_limited}
 use Rattle.link_flights.proofs.Flights.Accounted.{all_have_rates, rated_limited}
 use Rattle.link_flights.proofs.Flights.Rated.{rated_under}
 use Rattle.link_pairs.proofs.Pairs.LookedUp.{looked_up}
-use Rattle.std.proofs.Math.Logic.{∥∥₁_elim, ∥∥₁_map}
-use Rattle.std.proofs.Props.{props}
 use Rattle.link_flights.proofs.Flights.Accounts.{accounts_so, some_units_left}
-use Rattle.link_flights.proofs.Flights.Joining.{left_limited, left_updated}
+use Rattle.link_flights.proofs.Flights.Joining.{left_limited}
 use Rattle.link_flights.proofs.Flights.Standing.{messages_read, messages_kept}
-use Rattle.link_waiting.specs.Idle.Waits.{since_of}
-use Rattle.link_waiting.proofs.Idle.IndexChanges.{same_flights_index}
 use Rattle.link_events.proofs.Steps.OneEach.{one_if_so}
 use Rattle.link_events.proofs.ledger.Ledger.rate.Goals as goal
 use Rattle.link_events.proofs.ledger.Ledger.rate.Goals.{then-were_fair, else-were_fair}

@@ -1,21 +1,8 @@
-use Rattle.std.proofs.Common.{[], refl, sym, ◌∙◌, subst, List}
-use Rattle.std.proofs.lemmas.Result.{err_from_is_err_and}
-use Rattle.std.specs.declared.sync.Arc.{Arc}
-use Rattle.std.specs.declared.alloc.Global.{Global}
-use Rattle.fair_rates.proofs.Lists.Booleans.{by_bool}
-use Rattle.link_simulation.specs.Simulation.Messages.{Message}
-use Rattle.link_simulation.specs.Simulation.World.{goes, meets}
-use Rattle.link_simulation.specs.Rule.Planned.{Planned, next_of}
-use Rattle.link_simulation.specs.Rule.Events.{Launches, landed, launched}
-use Rattle.link_simulation.specs.Rule.Leaving.{Leaves}
-use Rattle.link_simulation.proofs.Rule.Following.{account_of}
-use Rattle.link_simulation.proofs.Simulation.RefusalCauses.{refused_memory}
+use Rattle.link_events.proofs.Common.{[], refl, sym, ◌∙◌, subst, List, err_from_is_err_and, Arc, Global, by_bool}
+use Rattle.link_events.proofs.Common.{Message, goes, meets, Planned, next_of, Launches, landed, launched, Leaves}
+use Rattle.link_events.proofs.Common.{account_of, refused_memory, caps_of, message_of, messages, in_units, HadFairRates}
+use Rattle.link_events.proofs.Common.{planned}
 use Rattle.link_pairs.specs.declared.message.Message as code
-use Rattle.link_pairs.specs.Pairs.CapsOf.{caps_of}
-use Rattle.link_pairs.specs.Pairs.Messages.{message_of, messages}
-use Rattle.link_flights.specs.Flights.InFlight.{in_units}
-use Rattle.link_flights.specs.Flights.Rated.{HadFairRates}
-use Rattle.link_events.specs.Steps.AsPlanned.{planned}
 use Rattle.link_events.proofs.Steps.RatedWithNext.{leaves_landed, idle_rated, launched_rated, refused_rated}
 use Rattle.link_events.proofs.Steps.RatedWithNext.{leaves_started, started_rated}
 use Rattle.link_events.proofs.Steps.Settling.{if_ok, if_err}

@@ -1,6 +1,4 @@
-use Rattle.link_events.specs.Steps.AsPlanned.{planned}
-use Rattle.link_pairs.proofs.Pairs.LookedUp.{arrivals_looked_up}
-use Rattle.link_waiting.specs.Idle.Waits.{since_of}
+use Rattle.link_events.proofs.Common.{planned, arrivals_looked_up, since_of}
 use Rattle.link_waiting.proofs.Idle.DueMessages.{ready_so}
 use Rattle.link_events.proofs.Steps.Settling.{if_ok_both}
 use Rattle.link_events.proofs.ledger.Ledger.ready.Goals as goal

@@ -1,10 +1,5 @@
-use Rattle.std.proofs.Common.{◌++◌, map, ap, sym, ◌∙◌, subst}
-use Rattle.std.proofs.lemmas.Result.{err_from_is_err_and}
-use Rattle.link_simulation.specs.Simulation.World.{goes}
-use Rattle.link_simulation.specs.Rule.Planned.{Planned}
-use Rattle.link_simulation.specs.Rule.Events.{Rebalances}
-use Rattle.link_events.specs.Steps.AsPlanned.{planned}
-use Rattle.link_pairs.specs.Pairs.Messages.{ended_of}
+use Rattle.link_events.proofs.Common.{◌++◌, map, ap, sym, ◌∙◌, subst, err_from_is_err_and, goes, Planned, Rebalances}
+use Rattle.link_events.proofs.Common.{planned, ended_of}
 use Rattle.link_events.proofs.Steps.Settling.{rebalance_refused, rebalances_settled, rebalances_looked}
 use Rattle.link_events.proofs.Steps.MessageCounts.{none_flies, some_fly}
 use Rattle.link_events.proofs.ledger.Ledger.rebalance.Goals as goal

@@ -1,7 +1,4 @@
-use Rattle.std.proofs.Common.{map}
-use Rattle.std.proofs.lemmas.Result.{err_from_is_err_and}
-use Rattle.link_pairs.specs.Pairs.Messages.{messages, ended_of}
-use Rattle.link_events.specs.Steps.AsPlanned.{planned}
+use Rattle.link_events.proofs.Common.{map, err_from_is_err_and, messages, ended_of, planned}
 use Rattle.link_events.proofs.Steps.SettledFirst.{settles_all, settles_refused}
 use Rattle.link_events.proofs.ledger.Ledger.settle.Goals as goal
 

@@ -1,11 +1,6 @@
-use Rattle.std.proofs.Common.{List, ◌∷◌, ◌++◌, [], drop, map, sym, ap, ◌∙◌, subst}
-use Rattle.std.proofs.lemmas.List.{map-append}
-use Rattle.std.proofs.lemmas.Result.{err_from_is_err_and}
-use Rattle.link_simulation.specs.Simulation.Messages.{Message}
-use Rattle.link_simulation.specs.Simulation.World.{completion_of}
-use Rattle.link_simulation.specs.Rule.Leaving.{Leaves}
-use Rattle.link_pairs.specs.Pairs.Messages.{message_of, messages, ended_of}
-use Rattle.link_events.specs.Steps.AsPlanned.{planned}
+use Rattle.link_events.proofs.Common.{List, ◌∷◌, ◌++◌, [], drop, map, sym, ap, ◌∙◌, subst, map-append}
+use Rattle.link_events.proofs.Common.{err_from_is_err_and, Message, completion_of, Leaves, message_of, messages}
+use Rattle.link_events.proofs.Common.{ended_of, planned}
 use Rattle.link_events.proofs.Steps.Landing.{no_message, none_leaves, first_lands}
 use Rattle.link_events.proofs.Steps.SettledFirst.{first_and_others, others_and_more}
 use Rattle.link_events.proofs.Steps.SettledFirst.{settles_none, stopped_first, refused_landing, settles_others}

@@ -1,18 +1,9 @@
-use Rattle.std.proofs.Common.{◌≡◌, ◌+◌, [], ◌∷◌, ◌++◌, length, Some, sym, ap, ◌∙◌, rules}
-use Rattle.std.proofs.Math.Logic.{∥∥₁_map}
-use Rattle.fair_rates.specs.Numbers.Amount.{whole}
-use Rattle.link_simulation.specs.Simulation.Messages.{Message}
-use Rattle.link_simulation.specs.Rule.Planned.{RatedFlight, rated_messages}
+use Rattle.link_events.proofs.Common.{◌≡◌, ◌+◌, [], ◌∷◌, ◌++◌, length, Some, sym, ap, ◌∙◌, rules, ∥∥₁_map, whole}
+use Rattle.link_events.proofs.Common.{Message, RatedFlight, rated_messages, in_flight, message_of, arrival_of, caps_of}
+use Rattle.link_events.proofs.Common.{arrivals_looked_up, since_of, still_rated}
 use Rattle.link_pairs.specs.declared.message.Message as code
-use Rattle.link_flights.specs.Flights.InFlight.{in_flight}
-use Rattle.link_pairs.specs.Pairs.Messages.{message_of}
-use Rattle.link_pairs.specs.Pairs.Entries.{arrival_of}
-use Rattle.link_pairs.specs.Pairs.CapsOf.{caps_of}
-use Rattle.link_pairs.proofs.Pairs.LookedUp.{arrivals_looked_up}
-use Rattle.link_waiting.specs.Idle.Waits.{since_of}
 use Rattle.link_waiting.proofs.Idle.IndexChanges.{started_index}
 use Rattle.link_waiting.proofs.Idle.Starting.{without_joined}
-use Rattle.link_flights.proofs.Flights.Standing.{still_rated}
 use Rattle.link_events.proofs.Steps.OneEach.{one_if_so, one_joins}
 use Rattle.link_events.proofs.ledger.Ledger.start.Goals as goal
 

@@ -1,10 +1,5 @@
-use Rattle.std.proofs.Common.{arith}
-use Rattle.std.specs.Prelude.{is_none}
-use Rattle.fair_rates.proofs.Lists.Booleans.{second_of_both}
-use Rattle.link_simulation.proofs.Laws.Orderly.{idle_if_may}
-use Rattle.link_pairs.specs.Pairs.Entries.{first_of}
-use Rattle.link_pairs.specs.Pairs.Messages.{message_of, messages}
-use Rattle.link_events.specs.Steps.AsPlanned.{planned}
+use Rattle.link_events.proofs.Common.{arith, is_none, second_of_both, idle_if_may, first_of, message_of, messages}
+use Rattle.link_events.proofs.Common.{planned}
 use Rattle.link_waiting.proofs.Idle.Starting.{started_so, no_id_left}
 use Rattle.link_events.proofs.ledger.Ledger.start_at_once.Goals as goal
 

@@ -1,6 +1,4 @@
-use Rattle.std.proofs.Common.{sym, ap, ◌∙◌}
-use Rattle.std.specs.Prelude.{option_map}
-use Rattle.link_pairs.specs.Pairs.Messages.{message_of}
+use Rattle.link_events.proofs.Common.{sym, ap, ◌∙◌, option_map, message_of}
 use Rattle.link_events.proofs.Steps.Starting.{starts_next}
 use Rattle.link_events.proofs.ledger.Ledger.start_next.Goals as goal
 

@@ -1,13 +1,6 @@
-use Rattle.std.proofs.Common.{◌+◌, refl, sym, ap, ◌∙◌}
-use Rattle.std.specs.Prelude.{option_map}
-use Rattle.link_simulation.specs.Simulation.Messages.{with_link}
-use Rattle.link_flights.specs.Flights.InFlight.{in_flight}
-use Rattle.link_pairs.specs.Pairs.Messages.{message_of}
-use Rattle.link_pairs.proofs.Pairs.LookedUp.{arrivals_looked_up}
-use Rattle.link_waiting.specs.Idle.Waits.{since_of}
+use Rattle.link_events.proofs.Common.{◌+◌, refl, sym, ap, ◌∙◌, option_map, with_link, in_flight, message_of}
+use Rattle.link_events.proofs.Common.{arrivals_looked_up, since_of, rested_is, planned}
 use Rattle.link_waiting.proofs.Idle.IndexChanges.{taken_index}
-use Rattle.link_waiting.proofs.Idle.Moved.{rested_is}
-use Rattle.link_events.specs.Steps.AsPlanned.{planned}
 use Rattle.link_events.proofs.Steps.Through.{taken_is}
 use Rattle.link_events.proofs.ledger.Ledger.take_through.Goals as goal
 

@@ -1,16 +1,7 @@
-use Rattle.std.proofs.Common.{sym, subst}
-use Rattle.link_pairs.specs.Pairs.Messages.{message_of}
-use Rattle.link_waiting.specs.Idle.AtRest.{of_pairs}
-use Rattle.link_waiting.specs.Idle.Index.{IsIndexOf}
-use Rattle.link_flights.specs.Flights.InFlight.{in_flight}
-use Rattle.link_pairs.specs.Pairs.Entries.{arrival_of}
-use Rattle.link_events.specs.Steps.AsPlanned.{planned}
-use Rattle.link_pairs.specs.Pairs.CapsOf.{caps_of}
-use Rattle.link_simulation.specs.Rule.Events.{PlansStart}
-use Rattle.link_pairs.proofs.Pairs.LookedUp.{arrivals_looked_up}
+use Rattle.link_events.proofs.Common.{sym, subst, message_of, of_pairs, IsIndexOf, in_flight, arrival_of, planned}
+use Rattle.link_events.proofs.Common.{caps_of, PlansStart, arrivals_looked_up, since_of}
 use Rattle.link_events.proofs.Steps.OnlyWaiting.{enqueue_waits}
 use Rattle.link_waiting.proofs.Idle.IndexChanges.{waited_index}
-use Rattle.link_waiting.specs.Idle.Waits.{since_of}
 use Rattle.link_events.proofs.ledger.Ledger.wait.Goals as goal
 
 pub returns-clause-enqueues : goal.returns-clause-enqueues

@@ -1,15 +1,7 @@
-use Rattle.std.proofs.Common.{map, List, [], Option, refl, sym, subst, ◌∙◌}
-use Rattle.std.specs.List.{AllZip}
-use Rattle.std.proofs.lemmas.Result.{err_from_is_err_and}
-use Rattle.link_pairs.specs.declared.pair.PeerPair.{PeerPair}
-use Rattle.link_waiting.specs.Idle.PairsOfMessages.{NamesPairOf}
-use Rattle.link_simulation.specs.Simulation.Messages.{Message}
-use Rattle.link_simulation.specs.Simulation.World.{goes, meets}
-use Rattle.link_simulation.specs.Rule.Planned.{Planned, next_of}
-use Rattle.link_simulation.specs.Rule.Events.{Launches, Finishes, WakesEach, all_started, no_start, no_finish, starts_one}
-use Rattle.link_simulation.specs.Simulation.RefusalCauses.{IsRefusedFor}
-use Rattle.link_events.specs.Steps.AsPlanned.{planned}
-use Rattle.link_pairs.specs.Pairs.Messages.{messages, ended_of}
+use Rattle.link_events.proofs.Common.{map, List, [], Option, refl, sym, subst, ◌∙◌, AllZip, err_from_is_err_and}
+use Rattle.link_events.proofs.Common.{PeerPair, NamesPairOf, Message, goes, meets, Planned, next_of, Launches, Finishes}
+use Rattle.link_events.proofs.Common.{WakesEach, all_started, no_start, no_finish, starts_one, IsRefusedFor, planned}
+use Rattle.link_events.proofs.Common.{messages, ended_of}
 use Rattle.link_waiting.specs.Idle.Starting.{ready_messages}
 use Rattle.link_events.proofs.Steps.Finishing.{next_at, none_at}
 use Rattle.link_events.proofs.Steps.SoFar.{none_so_far, step_so_far, all_so_far, refused_so_far}

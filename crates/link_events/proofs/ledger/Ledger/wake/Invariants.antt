@@ -1,8 +1,4 @@
-use Rattle.std.proofs.Common.{◌≡◌, map}
-use Rattle.link_events.specs.Steps.AsPlanned.{planned}
-use Rattle.link_events.specs.Steps.Marks.{before_of}
-use Rattle.link_simulation.specs.Rule.Events.{Wakes}
-use Rattle.link_pairs.specs.Pairs.Messages.{ended_of}
+use Rattle.link_events.proofs.Common.{◌≡◌, map, planned, before_of, Wakes, ended_of}
 use Rattle.link_events.proofs.Steps.Finishing.{WakesAt}
 use Rattle.link_events.proofs.ledger.Ledger.wake.Given as goal
 

@@ -1,5 +1,4 @@
-use Rattle.link_flights.proofs.Common.{◌∣◌, subst, IsGcd}
-use Rattle.std.proofs.lemmas.Nat.Gcd.{dvd_trans}
+use Rattle.link_flights.proofs.Common.{◌∣◌, subst, IsGcd, dvd_trans}
 use Rattle.link_flights.proofs.Flights.LargerUnits.{divides_whole}
 use Rattle.link_flights.proofs.flight.Flight.factor_of.Goals as goal
 

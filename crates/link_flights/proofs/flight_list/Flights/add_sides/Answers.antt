@@ -2,9 +2,8 @@ use Rattle.link_flights.proofs.Common.{◌≡◌, ◌<◌, ◌+◌, ◌++◌, �
 use Rattle.link_flights.proofs.Common.{slice_get, length, map, sym, ap, ◌∙◌, subst, arith, Contains, All, IfSome}
 use Rattle.link_flights.proofs.Common.{option_map, ◌-◌, ◌*◌, map-append, slice_get-get_or, limits, side_of, caps_of}
 use Rattle.link_flights.proofs.Common.{Pair, looked_up, Flight, is_of, places_of, flight_at, in_units, left_caps}
-use Rattle.link_flights.proofs.Common.{flows_of, flow_sent, end_subject, kept_load, uses_end, IsSideOf}
+use Rattle.link_flights.proofs.Common.{flows_of, flow_sent, end_subject, kept_load, uses_end, IsSideOf, places_below}
 use Rattle.std.proofs.lemmas.List.{with_items_is}
-use Rattle.fair_rates.proofs.Lists.Places.{places_below}
 use Rattle.link_flights.proofs.Flights.AllSides.{HaveAdded, of_left, cap_left, end_kind, side_there, none_there, side_added, sides_added}
 use Rattle.link_flights.proofs.Flights.Sides.{place_is_of, flow_at, as_many, limited_itself, uses_if_limited}
 use Rattle.link_flights.proofs.flight_list.Flights.add_sides.Goals as goal

@@ -1,7 +1,6 @@
 use Rattle.link_flights.proofs.Common.{◌≡◌, ◌+◌, ◌-◌, Bool, true, false, Some, slice_get, sym, ap, ◌∙◌, subst}
 use Rattle.link_flights.proofs.Common.{get_or_from_slice_get, same_Some, side_of, Flight, is_of, places_of, flight_at}
-use Rattle.link_flights.proofs.Common.{flow_sent, uses_end, end_subject}
-use Rattle.link_flights.specs.Flights.Sides.{IsCounted}
+use Rattle.link_flights.proofs.Common.{flow_sent, uses_end, end_subject, IsCounted}
 use Rattle.link_flights.proofs.Flights.Sides.{count_passed, count_user, count_rate, kept_rate}
 use Rattle.link_flights.proofs.Flights.Numbered.{kept_unlisted}
 use Rattle.link_flights.proofs.Flights.Sides.{place_is_of}

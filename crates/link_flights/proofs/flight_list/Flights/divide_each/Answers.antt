@@ -1,6 +1,6 @@
 use Rattle.link_flights.proofs.Common.{◌≡◌, ◌+◌, ◌<◌, ◌≤◌, not, ◌||◌, nat_le, get_or, length, refl, sym, ap, ◌∙◌, subst}
-use Rattle.link_flights.proofs.Common.{arith, get_or_default, IsChangedUpTo, IsCountedBy}
-use Rattle.fair_rates.proofs.Lists.InPlace.{unchanged, one_more, all_changed}
+use Rattle.link_flights.proofs.Common.{arith, get_or_default, IsChangedUpTo, IsCountedBy, unchanged, one_more}
+use Rattle.link_flights.proofs.Common.{all_changed}
 use Rattle.link_flights.proofs.Flights.Flight.{is_past, all_there, changed_length}
 use Rattle.link_flights.proofs.flight_list.Flights.divide_each.Goals as goal
 

@@ -1,6 +1,6 @@
 use Rattle.link_flights.proofs.Common.{◌≡◌, ◌+◌, ◌<◌, ◌≤◌, false, get_or, length, refl, sym, ap, ◌∙◌, subst, inl, inr}
-use Rattle.link_flights.proofs.Common.{◌⊎◌, arith, list_all, get_or_default, IsChangedUpTo, flight_at}
-use Rattle.fair_rates.proofs.Lists.InPlace.{unchanged, all_changed}
+use Rattle.link_flights.proofs.Common.{◌⊎◌, arith, list_all, get_or_default, IsChangedUpTo, flight_at, unchanged}
+use Rattle.link_flights.proofs.Common.{all_changed}
 use Rattle.link_flights.proofs.Flights.Flight.{IsBrought, is_past, changed_length, next_brought, next_stands}
 use Rattle.link_flights.proofs.Flights.Flight.{all_drained, all_past, all_timed}
 use Rattle.link_flights.proofs.Flights.Settled.{counted_from}

@@ -1,5 +1,4 @@
-use Rattle.link_flights.proofs.Common.{◌≡◌, All, true, take, has_both}
-use Rattle.link_flights.specs.Flights.Components.{AllNewTouch}
+use Rattle.link_flights.proofs.Common.{◌≡◌, All, true, take, has_both, AllNewTouch}
 use Rattle.link_flights.proofs.Flights.Search.{AllTouchFrom}
 use Rattle.link_flights.proofs.flight_list.Flights.join_touched.Given as goal
 

@@ -1,4 +1,5 @@
-use Rattle.std.specs.Prelude.{◌≤◌, IfSome, MatchOption}
+use Rattle.link_flights.proofs.Common.{MatchOption}
+use Rattle.std.specs.Prelude.{◌≤◌, IfSome}
 use Rattle.link_flights.proofs.flight_list.Flights.level.Given as goal
 
 abbrev pub invariant-loop-at : goal.invariant-loop-at

@@ -1,8 +1,7 @@
 use Rattle.link_flights.proofs.Common.{◌+◌, ◌∙◌, ◌<◌, ◌≤◌, ◌⊎◌, [], length, All, Contains, refl, sym, ap, subst, arith}
-use Rattle.link_flights.proofs.Common.{append-nil, take_all, AreAllListed, AreTouched}
+use Rattle.link_flights.proofs.Common.{append-nil, take_all, AreAllListed, AreTouched, AreListed, IsTouched, SharesAt}
+use Rattle.link_flights.proofs.Common.{All-nil}
 use Rattle.link_pairs.specs.declared.message.Message.{Message}
-use Rattle.link_flights.specs.Flights.Components.{AreListed, IsTouched, SharesAt}
-use Rattle.std.proofs.lemmas.List.Elements.{All-nil}
 use Rattle.link_flights.proofs.Flights.Search.{HasListedUpTo, all_listed_more, touched_with}
 use Rattle.link_flights.proofs.flight_list.Flights.list_joined.Goals as goal
 

@@ -1,6 +1,6 @@
-use Rattle.link_flights.proofs.Common.{All, Contains, ◌⊎◌, ◌≡◌, sym, ◌∙◌, subst, arith, Recipient}
+use Rattle.link_flights.proofs.Common.{All, Contains, ◌⊎◌, ◌≡◌, sym, ◌∙◌, subst, arith, Recipient, StartsWith}
+use Rattle.link_flights.proofs.Common.{AreListedAt, SharesEndAt}
 use Rattle.link_pairs.specs.declared.message.Message.{Message}
-use Rattle.link_flights.specs.Flights.Components.{StartsWith, AreListedAt, SharesEndAt}
 use Rattle.link_flights.proofs.Flights.Search.{HasListedBoth, both_listed, all_listed_next, first_listed, touched_with, starts_on}
 use Rattle.link_flights.proofs.flight_list.Flights.list_joining.Goals as goal
 

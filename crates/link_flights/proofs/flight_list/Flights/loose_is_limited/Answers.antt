@@ -1,8 +1,5 @@
 use Rattle.link_flights.proofs.Common.{rules, ◌∙◌, sym, ap, not, list_all-map, list_all, is_unlimited, message_of}
-use Rattle.link_flights.proofs.Common.{caps_of}
-use Rattle.std.proofs.Common.{tests}
-use Rattle.std.proofs.lemmas.Iterator.{YieldsList-from_slice}
-use Rattle.std.proofs.lemmas.Iterator.Search.{all_from_yields_List}
+use Rattle.link_flights.proofs.Common.{caps_of, tests, YieldsList-from_slice, all_from_yields_List}
 use Rattle.link_flights.proofs.flight_list.Flights.loose_is_limited.Goals as goal
 
 pub returns : goal.returns

@@ -1,9 +1,7 @@
-use Rattle.link_flights.proofs.Common.{rules, ◌≡◌, ◌≤◌, ◌*◌, IfSome, All, [], sym, ap, ap₂, ◌∙◌, subst, arith}
-use Rattle.link_flights.proofs.Common.{AllZip, product, last_moment, caps_of, looked_up, UnitFlight}
-use Rattle.link_flights.proofs.Common.{flights_at, AreTimed, in_units, rates_found, rates_of_levels, rerated}
-use Rattle.link_flights.proofs.Common.{IsRatedFrom}
+use Rattle.link_flights.proofs.Common.{rules, ◌≡◌, ◌≤◌, ◌*◌, IfSome, All, [], sym, ap, ap₂, ◌∙◌, subst, arith, AllZip}
+use Rattle.link_flights.proofs.Common.{product, last_moment, caps_of, looked_up, UnitFlight, flights_at, AreTimed}
+use Rattle.link_flights.proofs.Common.{in_units, rates_found, rates_of_levels, rerated, IsRatedFrom, true≢false}
 use Rattle.std.specs.Prelude.{◌≢◌}
-use Rattle.std.proofs.lemmas.Bool.{true≢false}
 use Rattle.link_flights.proofs.Flights.Components.{found_each, whole_rerated}
 use Rattle.link_flights.proofs.Flights.ComponentFlows.{closed_whole}
 use Rattle.link_flights.proofs.Flights.Numbered.{anew_in_order, anew_within}

@@ -1,9 +1,6 @@
 use Rattle.link_flights.proofs.Common.{◌≡◌, ◌∷◌, ◌∙◌, [], sym, ap, subst, slice_index, unwrap_or, get_or_default}
 use Rattle.link_flights.proofs.Common.{IsFair, sides_under, is_delivered, caps_of, message_of, looked_up, Flight}
-use Rattle.link_flights.proofs.Common.{flow_sent}
-use Rattle.fair_rates.specs.declared.bandwidth.FlowCaps.{FlowCaps}
-use Rattle.fair_rates.proofs.Filling.Alone.{parts_alone_fair}
-use Rattle.link_flights.specs.Flights.Rated.{AreFairFor}
+use Rattle.link_flights.proofs.Common.{flow_sent, FlowCaps, parts_alone_fair, AreFairFor}
 use Rattle.link_flights.proofs.Flights.Alone.{alone_fair}
 use Rattle.link_flights.proofs.flight_list.Flights.rate_alone.Goals as goal
 

@@ -1,5 +1,4 @@
-use Rattle.link_flights.proofs.Common.{rules, ◌≡◌, ◌∷◌, ◌&&◌, [], true, nat_le, ap, caps_of}
-use Rattle.link_flights.proofs.Common.{AreRatedBeside}
+use Rattle.link_flights.proofs.Common.{rules, ◌≡◌, ◌∷◌, ◌&&◌, [], true, nat_le, ap, caps_of, AreRatedBeside}
 use Rattle.link_flights.proofs.flight_list.Flights.rate_only.Goals as goal
 
 pub set_rates-requires-clause-one_each : goal.set_rates-requires-clause-one_each

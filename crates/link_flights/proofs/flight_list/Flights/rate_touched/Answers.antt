@@ -1,7 +1,6 @@
 use Rattle.link_flights.proofs.Common.{rules, arith, ◌≡◌, [], true, refl, sym, ap, ◌∙◌, subst, nat_le, list_all}
-use Rattle.link_flights.proofs.Common.{nil_from_length, caps_of, in_units, AreRatedBeside, rates_found}
-use Rattle.link_flights.proofs.Common.{rates_of_levels, rerated, product, IsFair, slice_index, sides_under, left_caps}
-use Rattle.link_flights.proofs.Common.{flows_of}
+use Rattle.link_flights.proofs.Common.{nil_from_length, caps_of, in_units, AreRatedBeside, rates_found, rates_of_levels}
+use Rattle.link_flights.proofs.Common.{rerated, product, IsFair, slice_index, sides_under, left_caps, flows_of}
 use Rattle.std.proofs.lemmas.Bool.Decides.{nat_tests}
 use Rattle.std.proofs.lemmas.Grind.{common_steps}
 use Rattle.link_flights.proofs.Flights.Components.{found_each}

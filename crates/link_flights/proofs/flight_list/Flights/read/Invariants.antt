@@ -1,5 +1,4 @@
-use Rattle.link_flights.proofs.Common.{take, AllZip, in_flight}
-use Rattle.link_flights.specs.Flights.Readings.{IsReadAs}
+use Rattle.link_flights.proofs.Common.{take, AllZip, in_flight, IsReadAs}
 use Rattle.link_flights.proofs.flight_list.Flights.read.Given as goal
 
 abbrev pub invariant-loop-at : goal.invariant-loop-at

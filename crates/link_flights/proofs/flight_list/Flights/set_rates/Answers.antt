@@ -1,8 +1,7 @@
 use Rattle.link_flights.proofs.Common.{◌≡◌, ◌+◌, ◌*◌, None, get_or, length, refl, sym, ap, ◌∙◌, subst, arith}
-use Rattle.link_flights.proofs.Common.{length-map, product, parts_of_level, flight_at, flights_at}
-use Rattle.link_flights.proofs.Common.{rates_of_levels, IsReratedAt}
+use Rattle.link_flights.proofs.Common.{length-map, product, parts_of_level, flight_at, flights_at, rates_of_levels}
+use Rattle.link_flights.proofs.Common.{IsReratedAt, IsCountedAt}
 use Rattle.std.proofs.Math.ListN.{get_or-map}
-use Rattle.link_flights.specs.Flights.Rated.{IsCountedAt}
 use Rattle.link_flights.proofs.Flights.Rerating.{none_rerated, something_left, has_rate, one_rerated}
 use Rattle.link_flights.proofs.Flights.Rerating.{all_rerated, timed_set, all_kept, one_counted, by_one, to_end}
 use Rattle.link_flights.proofs.Flights.Rerating.{next_in, none_more, stands_within, stands_here}

@@ -1,8 +1,7 @@
 use Rattle.link_flights.proofs.Common.{◌≡◌, ◌-◌, ◌*◌, true, Some, sym, ap, ◌∙◌, subst, option_map, arith, Contains}
 use Rattle.link_flights.proofs.Common.{get_or_from_slice_get, slice_get_within, cap_of, side_of, caps_of, Flight, is_of}
 use Rattle.link_flights.proofs.Common.{flight_at, flights_at, flow_sent, uses_end, end_subject, kept_load, IsNextPlace}
-use Rattle.link_flights.proofs.Common.{share}
-use Rattle.std.proofs.lemmas.Bool.{true≢false}
+use Rattle.link_flights.proofs.Common.{share, true≢false}
 use Rattle.link_flights.proofs.Flights.AllSides.{cap_left}
 use Rattle.link_flights.proofs.Flights.Places.{one_there}
 use Rattle.link_flights.proofs.Flights.Sides.{HasCounted, what_is_listed, counting_starts, next_within, next_shares, counted_here}

@@ -1,6 +1,5 @@
 use Rattle.link_flights.proofs.Common.{◌<◌, All, map, length, sym, ap, ◌∙◌, subst, side_of, caps_of, looked_up}
-use Rattle.link_flights.proofs.Common.{in_units, left_caps, flows_of, end_subject, Origin}
-use Rattle.link_flights.specs.Flights.Sides.{AddsSides}
+use Rattle.link_flights.proofs.Common.{in_units, left_caps, flows_of, end_subject, Origin, AddsSides}
 use Rattle.link_flights.proofs.Flights.AllSides.{of_left, are_all}
 use Rattle.link_flights.proofs.Flights.Sides.{places_within}
 use Rattle.link_flights.proofs.flight_list.Flights.sides_of.Goals as goal

@@ -1,6 +1,7 @@
-use Rattle.link_flights.proofs.Common.{◌≡◌, ◌-◌, Bool, false, take, refl, All, sym, subst, arith, All-append}
-use Rattle.std.proofs.Common.{replicate, vec_len}
-use Rattle.std.proofs.lemmas.List.Elements.{All-take, All-replicate}
+use Rattle.link_flights.proofs.Common.{◌≡◌, ◌-◌, Bool, false, take, refl, All, sym, subst, arith, All-append, replicate}
+use Rattle.link_flights.proofs.Common.{All-take}
+use Rattle.std.proofs.Common.{vec_len}
+use Rattle.std.proofs.lemmas.List.Elements.{All-replicate}
 use Rattle.link_flights.proofs.Flights.Noted.{nowhere_noted}
 use Rattle.link_flights.proofs.notes.Notes.take.Goals as goal
 

@@ -1,5 +1,5 @@
-use Rattle.link_flights.proofs.Common.{arith, ◌≡◌, ◌<◌, Some, Contains, get_or, slice_get, length, sym, ap}
-use Rattle.link_flights.proofs.Common.{◌∙◌, subst, slice_get_within, slice_get-get_or, get_or_from_slice_get}
+use Rattle.link_flights.proofs.Common.{arith, ◌≡◌, ◌<◌, Some, Contains, get_or, slice_get, length, sym, ap, ◌∙◌, subst}
+use Rattle.link_flights.proofs.Common.{slice_get_within, slice_get-get_or, get_or_from_slice_get}
 use Rattle.link_flights.proofs.Flights.Numbered.{unlisted}
 use Rattle.link_flights.proofs.numbers.Numbers.number.Goals as goal
 

@@ -1,7 +1,7 @@
 use Rattle.link_flights.proofs.Common.{◌≡◌, refl, sym, ap, ◌∙◌, cond, [], false, slice_set, get_or, items_of, IsRow}
+use Rattle.link_flights.proofs.Common.{with_item}
 use Rattle.std.proofs.lemmas.List.{map-set}
 use Rattle.std.proofs.lemmas.List.Elements.{All-set}
-use Rattle.row_table.specs.Rows.{with_item}
 use Rattle.link_flights.proofs.Flights.Rows.{on_ok, on_err, taken_back, changed, row_changed, kept, not_given_up, row_seen, of_row, IsAt}
 use Rattle.link_flights.proofs.table.Table.set.Given.{Over}
 use Rattle.link_flights.proofs.table.Table.set.Goals as goal

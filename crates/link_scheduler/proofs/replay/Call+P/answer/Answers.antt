@@ -1,8 +1,5 @@
-use Rattle.link_events.specs.Steps.AsPlanned.{planned}
-use Rattle.link_simulation.specs.Simulation.Replies.{reply_refused}
-use Rattle.link_scheduler.specs.Calls.Replay.{reply_of}
+use Rattle.link_scheduler.proofs.Common.{planned, reply_refused, reply_of, same_itself}
 use Rattle.link_scheduler.proofs.Calls.Replay.{reply_same, answered_by_rule, refused_by_rule}
-use Rattle.link_simulation.proofs.Rule.SamePlanned.{same_itself}
 use Rattle.link_scheduler.proofs.replay.Call+P.answer.Goals as goal
 
 pub returns-in-Err-make-clause-reply : goal.returns-in-Err-make-clause-reply

@@ -1,6 +1,5 @@
-use Rattle.std.proofs.Common.{refl, sym}
-use Rattle.link_simulation.specs.Rule.SamePlanned.{same_limit, same_limit_link, same_enqueue, same_enqueue_all}
-use Rattle.link_simulation.specs.Rule.SamePlanned.{same_advance, same_next}
+use Rattle.link_scheduler.proofs.Common.{refl, sym, same_limit, same_limit_link, same_enqueue, same_enqueue_all}
+use Rattle.link_scheduler.proofs.Common.{same_advance, same_next}
 use Rattle.link_scheduler.proofs.replay.Call+P.copy.Goals as goal
 use Rattle.link_scheduler.proofs.replay.Call+P.copy.Goals.{in-Limit+in_ok-copy_of-in-Limit}
 use Rattle.link_scheduler.proofs.replay.Call+P.copy.Goals.{in-LimitLink+in_ok-copy_of-in-LimitLink+in_ok-copy_of-in-LimitLink-2}

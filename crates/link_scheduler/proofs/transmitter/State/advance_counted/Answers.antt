@@ -1,11 +1,6 @@
-use Rattle.std.proofs.Common.{[], map, ap, refl}
-use Rattle.link_simulation.specs.Simulation.Calls.{call_advance}
-use Rattle.link_events.specs.Steps.AsPlanned.{planned}
-use Rattle.link_pairs.specs.Pairs.Messages.{completed_by}
-use Rattle.link_pairs.proofs.Pairs.LookedUp.{looked_up, arrivals_looked_up}
-use Rattle.link_simulation.proofs.Rule.SamePlanned.{same_itself}
+use Rattle.link_scheduler.proofs.Common.{[], map, ap, refl, call_advance, planned, completed_by, looked_up}
+use Rattle.link_scheduler.proofs.Common.{arrivals_looked_up, same_itself, if_ok}
 use Rattle.link_scheduler.proofs.Calls.Answered.{rested, right_after, orderly_after, made_after, counted_after, few_after}
-use Rattle.link_events.proofs.Steps.Settling.{if_ok}
 use Rattle.link_scheduler.proofs.Calls.Promises.{split_on, within_caps_on}
 use Rattle.link_scheduler.proofs.transmitter.State.advance_counted.Goals as goal
 

@@ -1,11 +1,8 @@
-use Rattle.std.proofs.Common.{◌≡◌, ◌≢◌, [], map, length, refl, ap, ◌∙◌, rules, arith, sym}
-use Rattle.std.proofs.lemmas.List.{length-map, nil_from_length}
+use Rattle.link_scheduler.proofs.Common.{◌≡◌, ◌≢◌, [], map, length, refl, ap, ◌∙◌, rules, arith, sym, length-map}
+use Rattle.link_scheduler.proofs.Common.{planned, completed_by, same_itself, call_enqueue_all}
+use Rattle.std.proofs.lemmas.List.{nil_from_length}
 use Rattle.std.proofs.lemmas.Result.{err_from_is_err_and}
-use Rattle.link_events.specs.Steps.AsPlanned.{planned}
 use Rattle.link_events.specs.Steps.Outgoing.{outgoing_by}
-use Rattle.link_pairs.specs.Pairs.Messages.{completed_by}
-use Rattle.link_simulation.proofs.Rule.SamePlanned.{same_itself}
-use Rattle.link_simulation.specs.Simulation.Calls.{call_enqueue_all}
 use Rattle.link_scheduler.proofs.Calls.Answered.{made_after}
 use Rattle.link_scheduler.proofs.Calls.OneByOne.{each_promised, some_refused, none_answered}
 use Rattle.link_scheduler.proofs.transmitter.State.enqueue_all.Goals as goal

@@ -1,13 +1,11 @@
-use Rattle.std.proofs.Common.{◌<◌, ◌^◌, map, rules, arith}
-use Rattle.link_events.specs.Steps.AsPlanned.{planned}
+use Rattle.link_scheduler.proofs.Common.{◌<◌, ◌^◌, map, rules, arith, planned, completed_by, looked_up}
+use Rattle.link_scheduler.proofs.Common.{arrivals_looked_up, if_ok}
 use Rattle.link_events.specs.Steps.Changes.{call_at}
 use Rattle.link_events.proofs.Steps.Changes.{moment_at}
-use Rattle.link_pairs.specs.Pairs.Messages.{completed_by}
-use Rattle.link_pairs.proofs.Pairs.LookedUp.{looked_up, arrivals_looked_up}
 use Rattle.link_scheduler.proofs.Calls.Answered.{made_after}
 use Rattle.link_scheduler.proofs.Calls.Concluded.{can_be_put_back, concluded, same_state}
 use Rattle.link_scheduler.proofs.Calls.Concluded.{on_err_map}
-use Rattle.link_events.proofs.Steps.Settling.{if_ok, if_err}
+use Rattle.link_events.proofs.Steps.Settling.{if_err}
 use Rattle.link_scheduler.proofs.Calls.Promises.{cause_of}
 use Rattle.link_scheduler.proofs.transmitter.State.make.Goals as goal
 

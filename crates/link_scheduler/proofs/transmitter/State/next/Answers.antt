@@ -1,4 +1,4 @@
-use Rattle.link_events.specs.Steps.AsPlanned.{planned}
+use Rattle.link_scheduler.proofs.Common.{planned}
 use Rattle.link_scheduler.proofs.Calls.Promises.{next_simulated}
 use Rattle.link_scheduler.proofs.transmitter.State.next.Goals as goal
 

@@ -1,5 +1,4 @@
-use Rattle.std.proofs.Common.{refl, arith}
-use Rattle.std.proofs.lemmas.List.{length-map}
+use Rattle.link_scheduler.proofs.Common.{refl, arith, length-map}
 use Rattle.link_flights.specs.Flights.Flight.{flight_at}
 use Rattle.link_flights.specs.Flights.InFlight.{in_units}
 use Rattle.link_flights.specs.Flights.RatedFlights.{rated_flight_of}

@@ -1,8 +1,5 @@
-use Rattle.std.proofs.Common.{sym, subst}
-use Rattle.link_simulation.specs.Rule.Planned.{IsPlanned}
-use Rattle.link_events.specs.Steps.AsPlanned.{planned}
+use Rattle.link_scheduler.proofs.Common.{sym, subst, IsPlanned, planned, looked_up, arrivals_looked_up}
 use Rattle.link_simulation.proofs.Laws.MostEvents.{new_is_planned}
-use Rattle.link_pairs.proofs.Pairs.LookedUp.{looked_up, arrivals_looked_up}
 use Rattle.link_scheduler.proofs.Calls.Promises.{new_one_stands, new_one_in_range, new_one_orderly}
 use Rattle.link_scheduler.proofs.transmitter.State.with_payload.Goals as goal
 

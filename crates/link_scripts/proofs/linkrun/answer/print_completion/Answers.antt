@@ -1,7 +1,4 @@
-use Rattle.std.proofs.Common.{◌≡◌, ◌∙◌, subst, OnOk}
-use Rattle.std.specs.Io.KnownBytes.{Appends}
-use Rattle.link_pairs.specs.Pairs.Messages.{completed_of}
-use Rattle.link_scripts.specs.Answer.{done_line}
+use Rattle.link_scripts.proofs.Common.{◌≡◌, ◌∙◌, subst, OnOk, Appends, completed_of, done_line}
 use Rattle.link_scripts.proofs.Printing.{done_from_end}
 use Rattle.link_scripts.proofs.linkrun.answer.print_completion.Goals as goal
 

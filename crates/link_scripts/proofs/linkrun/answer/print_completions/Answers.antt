@@ -1,5 +1,4 @@
-use Rattle.std.proofs.Common.{◌≡◌, ◌+◌, ◌∷◌, ◌++◌, [], take, rules}
-use Rattle.std.proofs.lemmas.List.{take_more}
+use Rattle.link_scripts.proofs.Common.{◌≡◌, ◌+◌, ◌∷◌, ◌++◌, [], take, rules, take_more}
 use Rattle.link_scripts.proofs.Printing.{next_done}
 use Rattle.link_scripts.proofs.linkrun.answer.print_completions.Goals as goal
 

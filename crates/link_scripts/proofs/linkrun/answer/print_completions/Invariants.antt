@@ -1,7 +1,4 @@
-use Rattle.std.proofs.Common.{map, take}
-use Rattle.std.specs.Io.KnownBytes.{Appends}
-use Rattle.link_pairs.specs.Pairs.Messages.{completed_of}
-use Rattle.link_scripts.specs.Answer.{done_text}
+use Rattle.link_scripts.proofs.Common.{map, take, Appends, completed_of, done_text}
 use Rattle.link_scripts.proofs.linkrun.answer.print_completions.Given as goal
 
 -- the lines of the completions so far are printed

@@ -1,6 +1,4 @@
-use Rattle.std.proofs.Common.{take}
-use Rattle.std.specs.Io.KnownBytes.{Appends}
-use Rattle.link_scripts.specs.Answer.{rates_text}
+use Rattle.link_scripts.proofs.Common.{take, Appends, rates_text}
 use Rattle.link_scripts.proofs.linkrun.answer.print_each.Given as goal
 
 -- the lines of the rates so far are printed

@@ -1,7 +1,4 @@
-use Rattle.std.proofs.Common.{map}
-use Rattle.std.specs.Io.KnownBytes.{Appends}
-use Rattle.std.specs.Map.Iter.{deref_pair}
-use Rattle.link_scripts.specs.Answer.{rates_text}
+use Rattle.link_scripts.proofs.Common.{map, Appends, deref_pair, rates_text}
 use Rattle.link_scripts.proofs.linkrun.answer.print_rates.Given as goal
 
 -- the lines of the entries so far are printed

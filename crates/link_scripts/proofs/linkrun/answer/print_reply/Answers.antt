@@ -1,9 +1,5 @@
-use Rattle.std.proofs.Common.{ap, sym, subst, ◌∙◌, map}
+use Rattle.link_scripts.proofs.Common.{ap, sym, subst, ◌∙◌, map, Appends, completed_of, reply_of, done_text, reply_text}
 use Rattle.std.proofs.lemmas.Result.{on_ok_weaker}
-use Rattle.std.specs.Io.KnownBytes.{Appends}
-use Rattle.link_pairs.specs.Pairs.Messages.{completed_of}
-use Rattle.link_scheduler.specs.Calls.Replay.{reply_of}
-use Rattle.link_scripts.specs.Answer.{done_text, reply_text}
 use Rattle.link_scripts.proofs.linkrun.answer.print_reply.Goals as goal
 
 pub returns-in-Done : goal.returns-in-Done

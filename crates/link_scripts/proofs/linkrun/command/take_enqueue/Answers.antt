@@ -1,4 +1,4 @@
-use Rattle.link_scripts.specs.Script.{number_word, IsNumberInRange}
+use Rattle.link_scripts.proofs.Common.{number_word, IsNumberInRange}
 use Rattle.link_scripts.proofs.Columns.{takes_both, takes_one, takes_none, word_then, AreIn, length_words, AreLengthIn}
 use Rattle.link_scripts.proofs.Columns.{latency_words, IsLatencyIn, flag_words, IsFlag, takes_enqueue, takes_no_enqueue}
 use Rattle.link_scripts.proofs.linkrun.command.take_enqueue.Goals as goal

@@ -1,6 +1,5 @@
-use Rattle.std.proofs.Common.{◌≡◌, map, take}
+use Rattle.link_scripts.proofs.Common.{◌≡◌, map, take, zeroed}
 use Rattle.link_events.specs.Steps.Outgoing.{outgoing}
-use Rattle.link_scripts.specs.Schedule.{zeroed}
 use Rattle.link_scripts.proofs.linkrun.fill.fill_all.Given as goal
 
 -- the messages so far

@@ -1,6 +1,6 @@
-use Rattle.std.proofs.Common.{◌≡◌, ◌++◌, ◌∷◌, ◌+◌, drop, subst, rules, IfSome}
+use Rattle.link_scripts.proofs.Common.{◌≡◌, ◌++◌, ◌∷◌, ◌+◌, drop, subst, rules, IsLineAhead}
+use Rattle.std.proofs.Common.{IfSome}
 use Rattle.std.specs.Io.Buffered.{reader_buffer}
-use Rattle.link_scripts.specs.Lines.{IsLineAhead}
 use Rattle.link_scripts.proofs.Reading.{front_of_ahead}
 use Rattle.link_scripts.proofs.linkrun.line.next_line.Goals as goal
 

@@ -1,4 +1,4 @@
-use Rattle.std.proofs.Common.{rules, ap, arith}
+use Rattle.link_scripts.proofs.Common.{rules, ap, arith}
 use Rattle.link_scripts.proofs.Reading.{one_line, front_of_known, front_of_long_known}
 use Rattle.link_scripts.proofs.linkrun.line.read_line.Goals as goal
 

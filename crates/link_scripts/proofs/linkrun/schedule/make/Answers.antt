@@ -1,6 +1,5 @@
-use Rattle.std.proofs.Common.{ℕ, IfOk, IfErr, subst}
-use Rattle.link_scheduler.specs.Calls.Replay.{IsAnswered, MayRefuseCall}
-use Rattle.link_simulation.specs.Simulation.Calls.{Call}
+use Rattle.link_scripts.proofs.Common.{ℕ, IfOk, IfErr, subst, MayRefuseCall, Call}
+use Rattle.link_scheduler.specs.Calls.Replay.{IsAnswered}
 use Rattle.link_scripts.proofs.linkrun.schedule.make.Goals as goal
 
 pub returns-clause-answer : goal.returns-clause-answer

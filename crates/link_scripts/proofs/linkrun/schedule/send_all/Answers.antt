@@ -1,10 +1,6 @@
-use Rattle.std.proofs.Common.{List, map, subst}
-use Rattle.std.proofs.lemmas.Result.{err_from_is_err_and}
-use Rattle.std.specs.Ordering.{nat_cmp}
-use Rattle.link_pairs.specs.Pairs.Messages.{completed_of}
-use Rattle.link_simulation.specs.Simulation.Calls.{call_enqueue, call_enqueue_all}
-use Rattle.link_simulation.specs.Simulation.Messages.{Message}
-use Rattle.link_scheduler.specs.Calls.State.{planned_of, Makes, MakesEach, Refuses}
+use Rattle.link_scripts.proofs.Common.{List, map, subst, err_from_is_err_and, nat_cmp, completed_of, call_enqueue}
+use Rattle.link_scripts.proofs.Common.{call_enqueue_all, Message, planned_of, MakesEach, Refuses}
+use Rattle.link_scheduler.specs.Calls.State.{Makes}
 use Rattle.link_scripts.proofs.linkrun.schedule.send_all.Goals as goal
 
 pub returns-clause-one_by_one : goal.returns-clause-one_by_one

@@ -1,7 +1,4 @@
-use Rattle.std.proofs.Common.{◌∙◌}
-use Rattle.std.specs.Ordering.{nat_cmp}
-use Rattle.std.specs.BTreeMap.{get}
-use Rattle.link_pairs.specs.Pairs.Entries.{pair_cmp}
+use Rattle.link_scripts.proofs.Common.{◌∙◌, nat_cmp, get, pair_cmp}
 use Rattle.link_scripts.proofs.LinkCaps.{with_one_link}
 use Rattle.link_scripts.proofs.linkrun.session.set_link.Goals as goal
 

@@ -1,5 +1,4 @@
-use Rattle.std.proofs.Common.{◌≡◌, ◌<◌, ◌≤◌, length, get_or, arith}
-use Rattle.std.proofs.lemmas.Grind.{common_steps}
+use Rattle.link_scripts.proofs.Common.{◌≡◌, ◌<◌, ◌≤◌, length, get_or, arith, common_steps}
 use Rattle.link_scripts.proofs.Numerals.{spelled, no_number_empty, no_zero_in_front}
 use Rattle.link_scripts.proofs.linkrun.word.number.Goals as goal
 

@@ -1,5 +1,4 @@
-use Rattle.std.proofs.Common.{◌≡◌, ◌+◌, ◌*◌, get_or, subst, arith}
-use Rattle.std.specs.Char.{digit_value}
+use Rattle.link_scripts.proofs.Common.{◌≡◌, ◌+◌, ◌*◌, get_or, subst, arith, digit_value}
 use Rattle.link_scripts.proofs.Digits.{AreRead, none_read, all_read, one_more, no_digit, value-ge}
 use Rattle.link_scripts.proofs.linkrun.word.value_of_digits.Goals as goal
 

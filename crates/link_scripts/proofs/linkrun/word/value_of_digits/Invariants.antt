@@ -1,4 +1,4 @@
-use Rattle.std.proofs.Common.{◌^◌, ◌<◌}
+use Rattle.link_scripts.proofs.Common.{◌^◌, ◌<◌}
 use Rattle.link_scripts.proofs.Digits.{AreRead}
 use Rattle.link_scripts.proofs.linkrun.word.value_of_digits.Given as goal
 

@@ -1,6 +1,4 @@
-use Rattle.std.proofs.Common.{◌≡◌, ◌≤◌, length, get_or, sym, arith, rules}
-use Rattle.std.specs.Str.{IsUtf8}
-use Rattle.std.proofs.lemmas.Grind.{common_steps}
+use Rattle.link_scripts.proofs.Common.{◌≡◌, ◌≤◌, length, get_or, sym, arith, rules, IsUtf8, common_steps}
 use Rattle.link_scripts.proofs.Numerals.{parsed, no_sign, no_zero_in_front, unless_text}
 use Rattle.link_scripts.proofs.linkrun.word.wide_number.Goals as goal
 

@@ -1,4 +1,4 @@
-use Rattle.std.proofs.Common.{rules, ◌≡◌, Some}
+use Rattle.link_traces.proofs.Common.{rules, ◌≡◌, Some}
 use Rattle.link_scripts.specs.declared.linkrun.command.Command.TheVariants as commands
 use Rattle.link_traces.proofs.linkcheck.asked.call.Goals as goal
 

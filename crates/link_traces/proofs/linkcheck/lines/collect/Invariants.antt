@@ -1,4 +1,4 @@
-use Rattle.std.specs.Io.KnownBytes.{Consumes}
+use Rattle.link_traces.proofs.Common.{Consumes}
 use Rattle.link_traces.proofs.linkcheck.lines.collect.Given as goal
 
 -- what was collected was taken

@@ -1,5 +1,5 @@
-use Rattle.std.proofs.Common.{rules, ◌≡◌, take, [], subst}
-use Rattle.std.specs.Io.KnownBytes.{Consumes}
+use Rattle.link_traces.proofs.Common.{rules, ◌≡◌, [], subst, Consumes}
+use Rattle.std.proofs.Common.{take}
 use Rattle.link_traces.proofs.Reading.{kept_consumes}
 use Rattle.link_traces.proofs.linkcheck.lines.next_byte.Goals as goal
 

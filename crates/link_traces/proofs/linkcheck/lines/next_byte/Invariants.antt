@@ -1,4 +1,4 @@
-use Rattle.std.specs.Io.KnownBytes.{Keeps}
+use Rattle.link_traces.proofs.Common.{Keeps}
 use Rattle.link_traces.proofs.linkcheck.lines.next_byte.Given as goal
 
 -- a read that was interrupted took nothing

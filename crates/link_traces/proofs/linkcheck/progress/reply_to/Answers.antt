@@ -1,15 +1,7 @@
-use Rattle.std.proofs.Common.{ℕ, subst}
-use Rattle.std.proofs.lemmas.Cmp.{nat_cmp_total}
-use Rattle.std.specs.Ordering.{nat_cmp}
+use Rattle.link_traces.proofs.Common.{ℕ, subst, nat_cmp_total, nat_cmp, reply_of, IsReplyTo, planned_of, StandsFor}
+use Rattle.link_traces.proofs.Common.{Call, IsInTurn, reply_refused, World, IsSimulatedReply}
 use Rattle.link_scheduler.proofs.Calls.Replay.{refused_by_rule}
-use Rattle.link_scheduler.specs.Calls.Replay.{reply_of, IsReplyTo}
-use Rattle.link_scheduler.specs.Calls.State.{planned_of}
-use Rattle.link_simulation.specs.Rule.StandsFor.{StandsFor}
-use Rattle.link_simulation.specs.Simulation.Calls.{Call, IsInTurn}
-use Rattle.link_simulation.specs.Simulation.Replies.{reply_refused}
-use Rattle.link_simulation.specs.Simulation.World.{World}
 use Rattle.link_traces.proofs.Replying.{answered_is_simulated, refused_is_answered}
-use Rattle.link_traces.specs.Turns.{IsSimulatedReply}
 use Rattle.link_traces.proofs.linkcheck.progress.reply_to.Goals as goal
 
 pub returns-in-Err-make-clause-by_rule : goal.returns-in-Err-make-clause-by_rule

@@ -1,6 +1,6 @@
 use Rattle.link_waiting.proofs.Common.{rules, List, ap, ◌∙◌, is_lt, PeerPair, pair_cmp, pair_total, live, Told}
-use Rattle.link_waiting.proofs.Common.{has_come, since_of}
-use Rattle.std.proofs.lemmas.List.Sorted.{ranks_by, answers_always}
+use Rattle.link_waiting.proofs.Common.{has_come, since_of, ranks_by}
+use Rattle.std.proofs.lemmas.List.Sorted.{answers_always}
 use Rattle.link_waiting.proofs.Idle.View.{in_order, told_are}
 use Rattle.link_waiting.proofs.Idle.Ready.{keys_named, keys_few, ascends}
 use Rattle.link_waiting.proofs.waiting.Waiting.ready.Goals as goal

@@ -1,6 +1,4 @@
-use Rattle.std.proofs.Common.{ℕ, List, refl, Ok, Err}
-use Rattle.link_pairs.specs.declared.completion.Completion.{Completion}
-use Rattle.p2p_simulated_c.specs.declared.opened.Opened.{Opened}
+use Rattle.p2p_simulated_c.proofs.Common.{ℕ, List, refl, Ok, Err, Completion, Opened}
 use Rattle.p2p_simulated_c.proofs.Ending.{ended, same_plan}
 use Rattle.p2p_simulated_c.proofs.opened.Opened.advance_counted.Goals as goal
 

@@ -1,6 +1,6 @@
-use Rattle.std.proofs.Common.{◌≡◌, ◌-◌, length, min, drop, get_or, ap, sym, ◌∙◌, arith}
-use Rattle.std.proofs.lemmas.List.{length-map, length-drop, get_or-map, get_or-drop}
-use Rattle.p2p_simulated_c.specs.Completions.{records_from}
+use Rattle.p2p_simulated_c.proofs.Common.{◌≡◌, ◌-◌, length, min, drop, get_or, ap, sym, ◌∙◌, arith, length-map}
+use Rattle.p2p_simulated_c.proofs.Common.{get_or-map, records_from}
+use Rattle.std.proofs.lemmas.List.{length-drop, get_or-drop}
 use Rattle.p2p_simulated_c.specs.Records.{done_of}
 use Rattle.p2p_simulated_c.proofs.Copying.{all_written, one_written}
 use Rattle.p2p_simulated_c.proofs.opened.Opened.completions.Goals as goal

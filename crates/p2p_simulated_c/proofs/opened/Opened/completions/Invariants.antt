@@ -1,5 +1,4 @@
-use Rattle.std.proofs.Common.{◌≡◌, ◌++◌, take, drop}
-use Rattle.p2p_simulated_c.specs.Completions.{records_from}
+use Rattle.p2p_simulated_c.proofs.Common.{◌≡◌, ◌++◌, take, drop, records_from}
 use Rattle.p2p_simulated_c.proofs.opened.Opened.completions.Given as goal
 
 abbrev pub invariant-loop-index : goal.invariant-loop-index

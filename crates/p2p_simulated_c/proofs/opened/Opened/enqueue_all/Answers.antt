@@ -1,8 +1,5 @@
-use Rattle.std.proofs.Common.{List, IfOk, IfErr, refl, subst}
-use Rattle.link_scheduler.specs.Calls.State.{IsMade, IsRefused}
-use Rattle.link_simulation.specs.Simulation.Calls.{call_enqueue_all}
+use Rattle.p2p_simulated_c.proofs.Common.{List, IfOk, IfErr, refl, subst, IsMade, IsRefused, call_enqueue_all, Opened}
 use Rattle.link_simulation.specs.Simulation.Messages.{Message}
-use Rattle.p2p_simulated_c.specs.declared.opened.Opened.{Opened}
 use Rattle.p2p_simulated_c.proofs.Ending.{ended, same_plan}
 use Rattle.p2p_simulated_c.proofs.opened.Opened.enqueue_all.Goals as goal
 

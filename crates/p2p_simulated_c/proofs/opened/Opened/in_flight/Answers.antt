@@ -1,6 +1,4 @@
-use Rattle.std.proofs.Common.{inl, map, refl, ap, ◌∙◌}
-use Rattle.p2p_simulated_c.specs.Flights.{flight_of}
-use Rattle.p2p_simulated_c.specs.Written.{written}
+use Rattle.p2p_simulated_c.proofs.Common.{inl, map, refl, ap, ◌∙◌, flight_of, written}
 use Rattle.p2p_simulated_c.proofs.opened.Opened.in_flight.Goals as goal
 
 pub returns-in-Ok : goal.returns-in-Ok

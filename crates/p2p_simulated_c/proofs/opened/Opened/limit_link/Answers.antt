@@ -1,5 +1,4 @@
-use Rattle.std.proofs.Common.{refl}
-use Rattle.p2p_simulated_c.specs.declared.opened.Opened.{Opened}
+use Rattle.p2p_simulated_c.proofs.Common.{refl, Opened}
 use Rattle.p2p_simulated_c.proofs.Ending.{ended, same_plan}
 use Rattle.p2p_simulated_c.proofs.opened.Opened.limit_link.Goals as goal
 

@@ -1,8 +1,7 @@
-use Rattle.std.proofs.Common.{◌≡◌, [], length, min, drop, slice_get, ap, sym, ◌∙◌, arith}
-use Rattle.std.proofs.lemmas.List.{drop_all}
+use Rattle.p2p_simulated_c.proofs.Common.{◌≡◌, [], length, min, drop, ap, sym, ◌∙◌, arith, drop_all, written}
+use Rattle.std.proofs.Common.{slice_get}
 use Rattle.std.proofs.lemmas.Option.{slice_get_past, slice_get_read}
 use Rattle.p2p_simulated_c.specs.Completions.{completed_bytes}
-use Rattle.p2p_simulated_c.specs.Written.{written}
 use Rattle.p2p_simulated_c.proofs.Copying.{none_written}
 use Rattle.p2p_simulated_c.proofs.opened.Opened.message.Goals as goal
 

@@ -1,12 +1,12 @@
 -- A place may go to another thread: what it owns may, and any thread may give its memory back.
 use mir.Raw.{raw}
 use denote.Memory.{lone}
-use denote.RawPtr.{Ptr}
+use Rattle.p2p_simulated_c.proofs.Common.{Ptr, shape, Option, None}
 use denote.Struct.Struct.{exits_of}
-use denote.Struct.Owning.{shape, fields, to}
+use denote.Struct.Owning.{fields, to}
 use denote.Param.Send.{IsSend, AllSend, owning_send, struct_send, sendable}
 use base.Shift.{Keyless}
-use Rattle.std.specs.Prelude.{Option, Some, None}
+use Rattle.std.specs.Prelude.{Some}
 use Rattle.std.specs.Global.{Global}
 use Rattle.std.proofs.Crossing as heap
 use Rattle.std_alloc.proofs.SendSync.{quiet, lies}

@@ -1,30 +1,17 @@
 -- Two fields are moved into the place, and what they own goes with them.
 use mathlib.Core.Path.{refl, sym, subst}
 use mathlib.Core.List.{List, [], ◌∷◌, ◌++◌}
-use seplogic.Ra.Ura.{Ura}
-use mir.Val.{Val}
-use base.Fml.{ftrue, fsep}
-use base.Logic.{SProp, ent, emp, id⊢}
-use contract.Monad.{Fun}
-use contract.Running.{tables, tables_of}
-use prog.Wp.{WpFn, Tables}
-use prog.Memory.{Memory}
-use prog.Routine.{Routine}
-use sound.WpLaws.{WpFn-mono}
-use types.Logic.{Logic}
-use types.Part.{whole, sub, agg}
-use types.Run.{stop, fld, no_more, and_then, of_opd, returns, enter}
-use types.ByLocal.{alloc_all, pass_all, free_all, look_at, get, get_in, sets}
-use types.Kit.{Item, ‵, raw, ◌⊛◌, ◌$◌, ◌∵◌, !, qed, by, move, drop, use1, join, split, fsplit, fjoin, suffices, done}
-use denote.Exit.{yes}
-use denote.Signature.{type_at}
-use denote.Steps.{nothing}
-use denote.Triple.Spec.{triple_of}
-use denote.Triple.Table.{entered}
-use denote.Triple.Walked.{says, Stays, stay_dropped, walk_of, ends_at, Goes-dropped, walk_Meets}
+use Rattle.p2p_simulated_c.proofs.Common.{Ura, Val, ftrue, fsep, SProp, ent, emp, id⊢, Fun, tables, WpFn, Tables}
+use Rattle.p2p_simulated_c.proofs.Common.{Memory, Routine, WpFn-mono, Logic, whole, sub, agg, stop, fld, no_more}
+use Rattle.p2p_simulated_c.proofs.Common.{and_then, of_opd, returns, enter, alloc_all, pass_all, free_all, look_at}
+use Rattle.p2p_simulated_c.proofs.Common.{get_in, sets, Item, ‵, raw, ◌⊛◌, ◌$◌, ◌∵◌, !, qed, by, move, use1, join}
+use Rattle.p2p_simulated_c.proofs.Common.{split, fsplit, fjoin, suffices, done, yes, type_at, nothing, triple_of}
+use Rattle.p2p_simulated_c.proofs.Common.{entered, says, Stays, stay_dropped, walk_of, ends_at, Goes-dropped}
+use Rattle.p2p_simulated_c.proofs.Common.{walk_Meets, D, B, word, box_typed, box_out, box_in}
+use contract.Running.{tables_of}
+use types.ByLocal.{get}
+use types.Kit.{drop}
 use Rattle.std.specs.Prelude.{Some}
-use Rattle.std_alloc.proofs.BoxSteps.Form.{D, B, word, box_typed}
-use Rattle.std_alloc.proofs.BoxSteps.Steps.{box_out, box_in}
 use Rattle.p2p_simulated_c.proofs.Boxed.{Boxed, of_unboxed}
 use Rattle.p2p_simulated_c.specs.contracts.place.Place.of as F
 use Rattle.p2p_simulated_c.specs.contracts.place.Place.of.Key.{name as #of}

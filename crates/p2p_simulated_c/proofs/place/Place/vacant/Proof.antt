@@ -1,39 +1,24 @@
 -- A null pointer is put into the place, which owns nothing but its handle.
-use lib.Dec.{T}
+use Rattle.p2p_simulated_c.proofs.Common.{T, Ura, Val, vstruct, has_ty, WT, ftrue, fsep, SProp, ent, emp, id⊢, Fun}
+use Rattle.p2p_simulated_c.proofs.Common.{tables, WpFn, Tables, Memory, Routine, WpFn-mono, Logic, agg, no_more}
+use Rattle.p2p_simulated_c.proofs.Common.{and_then, returns, enter, alloc_all, pass_all, free_all, look_at, sets, Item}
+use Rattle.p2p_simulated_c.proofs.Common.{‵, raw, ◌⊛◌, ◌$◌, ◌∵◌, !, qed, by, move, use1, join, split, fsplit, fjoin}
+use Rattle.p2p_simulated_c.proofs.Common.{feq_i, suffices, done, yes, null_ptr, type_at, nothing, shape, triple_of}
+use Rattle.p2p_simulated_c.proofs.Common.{entered, says, Stays, stay_dropped, walk_of, ends_at, Goes-dropped}
+use Rattle.p2p_simulated_c.proofs.Common.{walk_Meets, handle_tells, None, P}
 use mathlib.Core.Path.{refl, sym, subst}
 use mathlib.Core.List.{List, [], ◌∷◌, ◌++◌}
-use seplogic.Ra.Ura.{Ura}
-use mir.Val.{Val, vnull, vstruct, vcons, vnil, has_ty, WT}
-use base.Fml.{ftrue, fsep}
-use base.Logic.{SProp, ent, emp, id⊢}
-use contract.Monad.{Fun}
-use contract.Running.{tables, tables_of}
-use prog.Wp.{WpFn, Tables}
-use prog.Memory.{Memory}
-use prog.Routine.{Routine}
-use sound.WpLaws.{WpFn-mono}
-use types.Logic.{Logic}
-use types.Part.{agg}
-use types.Run.{lit, no_more, and_then, returns, enter}
-use types.ByLocal.{alloc_all, pass_all, free_all, look_at, get, sets}
-use types.Kit.{Item, ‵, raw, ◌⊛◌, ◌$◌, ◌∵◌, !, qed, by, move, drop, use1, join, split, fsplit, fjoin, feq_i, fpack}
-use types.Kit.{suffices, done}
+use mir.Val.{vnull, vcons, vnil}
+use contract.Running.{tables_of}
+use types.Run.{lit}
+use types.ByLocal.{get}
+use types.Kit.{drop, fpack}
 use denote.Builtin.{RawPtr}
-use denote.Exit.{yes}
 use denote.Param.{layout}
 use denote.RattleType.{Valss}
-use denote.RawPtr.{null_ptr}
-use denote.Signature.{type_at}
-use denote.Steps.{nothing}
 use denote.Struct.Struct.{within}
-use denote.Struct.Owning.{shape}
-use denote.Triple.Spec.{triple_of}
-use denote.Triple.Table.{entered}
-use denote.Triple.Walked.{says, Stays, stay_dropped, walk_of, ends_at, Goes-dropped, walk_Meets}
-use Rattle.core.proofs.alloc.Calls.{handle_tells}
 use Rattle.std.proofs.Common.{lit<}
-use Rattle.std.specs.Prelude.{None}
-use Rattle.std_alloc.proofs.BoxSteps.Form.{P, owning}
+use Rattle.std_alloc.proofs.BoxSteps.Form.{owning}
 use Rattle.std_alloc.proofs.ResultValues.{and_tt}
 use Rattle.std_heap.specs.contracts.Global as Heap
 use Rattle.p2p_simulated_c.proofs.Boxed.{Boxed, of_heap}

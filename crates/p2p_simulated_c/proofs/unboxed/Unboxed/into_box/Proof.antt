@@ -1,41 +1,23 @@
 -- The two fields are moved out, and `Box::from_raw` is called on them; what they own is what it asks for.
-use lib.Dec.{T}
+use Rattle.p2p_simulated_c.proofs.Common.{T, Ura, Val, has_ty, WT, inst_fn, Fn, ftrue, fsep, flft, SProp, ent, id⊢, ◌⊑◌}
+use Rattle.p2p_simulated_c.proofs.Common.{Fun, fact, tables, WpFn, Tables, Memory, Routine, fm_of, WpFn-mono, Logic}
+use Rattle.p2p_simulated_c.proofs.Common.{whole, sub, stop, fld, no_more, and_then, of_opd, returns, enter, alloc_all}
+use Rattle.p2p_simulated_c.proofs.Common.{pass_all, free_all, look_at, get_in, sets, Item, ‵, raw, ◌⊛◌, some, later}
+use Rattle.p2p_simulated_c.proofs.Common.{◌$◌, ◌∵◌, !, qed, by, move, use1, join, split, split3, pick, rewrite, fsplit}
+use Rattle.p2p_simulated_c.proofs.Common.{fjoin, feq_i, suffices, await, done, no, RattleType, block_ptr, plain, heard}
+use Rattle.p2p_simulated_c.proofs.Common.{nothing, only, Ended, Clauses, triple_of, Triple, Contract, entered, says}
+use Rattle.p2p_simulated_c.proofs.Common.{Stays, stay_dropped, walk_of, ends_at, walk_Meets, token, Goes-blank}
+use Rattle.p2p_simulated_c.proofs.Common.{box_owns, Bx, D, R, P, B, word, box_typed, box_out, box_in}
 use mathlib.Core.Path.{◌≡◌, refl, sym, subst, ap}
 use mathlib.Core.List.{List, [], ◌∷◌, ◌++◌}
-use seplogic.Ra.Ura.{Ura}
-use mir.Val.{Val, vptr, has_ty, WT}
-use mir.MapTy.{inst_fn}
-use mir.Syntax.{Fn, Body, place, copy, assign, rv_opd, seq, return}
-use base.Fml.{ftrue, fsep, flft}
-use base.Logic.{SProp, ent, id⊢}
-use contract.BorrowLft.{◌⊑◌}
-use contract.Monad.{Fun, fact}
-use contract.Running.{tables, tables_of}
-use prog.Wp.{WpFn, Tables}
-use prog.Memory.{Memory}
-use prog.Routine.{Routine}
-use sound.WpLaws.{fm_of, WpFn-mono}
-use types.Logic.{Logic}
-use types.Part.{whole, sub}
-use types.Run.{stop, fld, no_more, and_then, of_opd, returns, enter, first, blocks, exec}
-use types.ByLocal.{alloc_all, pass_all, free_all, look_at, get, get_in, sets, lands_last, env}
-use types.Kit.{Item, at_ret, ‵, raw, ◌⊛◌, some, later, ◌$◌, ◌∵◌, !, qed, by, move, drop, use1, join, split, split3}
-use types.Kit.{pick, rewrite, fsplit, fjoin, feq_i, suffices, await, done}
-use denote.Exit.{no}
-use denote.RattleType.{RattleType}
-use denote.RawPtr.{block_ptr}
-use denote.Signature.{plain}
-use denote.Steps.{heard, nothing, only}
+use mir.Val.{vptr}
+use mir.Syntax.{Body, place, copy, assign, rv_opd, seq, return}
+use contract.Running.{tables_of}
+use types.Run.{first, blocks, exec}
+use types.ByLocal.{get, lands_last, env}
+use types.Kit.{at_ret, drop}
 use denote.Triple.Call.{calls_at_last}
-use denote.Triple.Clauses.{Ended, Clauses}
-use denote.Triple.Spec.{triple_of}
-use denote.Triple.Statement.{Triple, Contract}
-use denote.Triple.Table.{entered}
-use denote.Triple.Walked.{says, Stays, stay_dropped, walk_of, ends_at, walk_Meets}
-use Rattle.core.proofs.alloc.Calls.{token, Goes-blank}
-use Rattle.std_alloc.specs.Box.Ownership.{box_owns}
-use Rattle.std_alloc.proofs.BoxSteps.Form.{Bx, D, R, P, B, args, box_ty, word, box_typed}
-use Rattle.std_alloc.proofs.BoxSteps.Steps.{box_out, box_in}
+use Rattle.std_alloc.proofs.BoxSteps.Form.{args, box_ty}
 use Rattle.std_alloc.specs.contracts.boxed.Box.from_raw as FromRaw
 use Rattle.std_alloc.proofs.boxed.Box.from_raw.Met as from_raw
 use Rattle.std_alloc.proofs.boxed.Box.from_raw.Symbol as from_raw_symbol

@@ -1,43 +1,30 @@
 -- `Box::into_raw_with_allocator` is called, and the pointer and the allocator that it answers own what the box owned.
 use mathlib.Core.Path.{◌≡◌, refl, sym, subst, ap, ◌∙◌}
 use mathlib.Core.List.{List, [], ◌∷◌, ◌++◌}
-use seplogic.Ra.Ura.{Ura}
+use Rattle.p2p_simulated_c.proofs.Common.{Ura, Val, vstruct, inst_fn, Fn, dnil, ftrue, fsep, flft, SProp, ent, id⊢, ◌⊑◌}
+use Rattle.p2p_simulated_c.proofs.Common.{Fun, fact, tables, WpFn, Tables, Memory, Routine, fm_of, WpFn-mono, Logic}
+use Rattle.p2p_simulated_c.proofs.Common.{whole, sub, agg, stop, fld, no_more, and_then, of_opd, returns, enter}
+use Rattle.p2p_simulated_c.proofs.Common.{alloc_all, pass_all, free_all, look_at, get_in, sets, Item, ‵, raw, ◌⊛◌, some}
+use Rattle.p2p_simulated_c.proofs.Common.{later, ◌$◌, ◌∵◌, !, qed, by, move, use1, join, split, split3, pick, rewrite}
+use Rattle.p2p_simulated_c.proofs.Common.{fsplit, fjoin, suffices, await, done, no, RattleType, Ptr, block_ptr}
+use Rattle.p2p_simulated_c.proofs.Common.{null_ptr, plain, heard, nothing, only, Ended, Clauses, triple_of, Triple}
+use Rattle.p2p_simulated_c.proofs.Common.{Contract, entered, says, Stays, stay_dropped, walk_of, ends_at, walk_Meets}
+use Rattle.p2p_simulated_c.proofs.Common.{token, handle_tells, Goes-blank, box_owns, Bx, D, R, P, B, word, box_typed}
+use Rattle.p2p_simulated_c.proofs.Common.{box_out, box_in}
 use mir.Raw.{raw as bare}
-use mir.Val.{Val, vstruct, of_list}
-use mir.MapTy.{inst_fn}
-use mir.Syntax.{Fn, Args, Dict, a_type, dcons, dnil}
-use base.Fml.{ftrue, fsep, flft}
-use base.Logic.{SProp, ent, id⊢, never, fst∗}
-use contract.BorrowLft.{◌⊑◌}
-use contract.Monad.{Fun, fact}
-use contract.Running.{tables, tables_of}
-use prog.Wp.{WpFn, Tables}
-use prog.Memory.{Memory}
-use prog.Routine.{Routine}
-use sound.WpLaws.{fm_of, WpFn-mono}
-use types.Logic.{Logic, sem}
-use types.Part.{whole, sub, agg}
-use types.Run.{stop, fld, no_more, and_then, of_opd, returns, enter}
-use types.ByLocal.{alloc_all, pass_all, free_all, look_at, get, get_in, sets, lands_as}
-use types.Kit.{Item, ‵, raw, ◌⊛◌, some, later, ◌$◌, ◌∵◌, !, qed, by, move, drop, use1, join, split, split3, pick}
-use types.Kit.{rewrite, fsplit, fjoin, fpick, feq_l, suffices, await, done}
-use denote.Exit.{no}
+use mir.Val.{of_list}
+use mir.Syntax.{Args, Dict, a_type, dcons}
+use base.Logic.{never, fst∗}
+use contract.Running.{tables_of}
+use types.Logic.{sem}
+use types.ByLocal.{get, lands_as}
+use types.Kit.{drop}
+use types.Kit.{fpick, feq_l}
 use denote.Param.{bounded}
-use denote.RattleType.{RattleType}
-use denote.RawPtr.{Ptr, RawPtr, block_ptr, null_ptr, ptr_val, in_a_block}
-use denote.Signature.{plain}
-use denote.Steps.{heard, nothing, only}
+use denote.RawPtr.{RawPtr, ptr_val, in_a_block}
 use denote.Struct.Tuple.{Tuple}
 use denote.Triple.Call.{calls_at}
-use denote.Triple.Clauses.{Ended, Clauses}
-use denote.Triple.Spec.{triple_of}
-use denote.Triple.Statement.{Triple, Contract}
-use denote.Triple.Table.{entered}
-use denote.Triple.Walked.{says, Stays, stay_dropped, walk_of, ends_at, walk_Meets}
-use Rattle.core.proofs.alloc.Calls.{token, handle_tells, Goes-blank}
-use Rattle.std_alloc.specs.Box.Ownership.{box_owns}
-use Rattle.std_alloc.proofs.BoxSteps.Form.{Bx, D, τ, R, P, B, word, box_typed}
-use Rattle.std_alloc.proofs.BoxSteps.Steps.{box_out, box_in}
+use Rattle.std_alloc.proofs.BoxSteps.Form.{τ}
 use Rattle.std_alloc.specs.contracts.boxed.Box.into_raw_with_allocator as IntoRaw
 use Rattle.std_alloc.proofs.boxed.Box.into_raw_with_allocator.Met as into_raw
 use Rattle.std_alloc.proofs.boxed.Box.into_raw_with_allocator.Symbol as into_raw_symbol

@@ -1,5 +1,4 @@
-use Rattle.std.proofs.lemmas.Grind.{common_steps}
-use Rattle.row_table.proofs.Common.{[], ◌∷◌, ◌++◌, ap, ◌∙◌, arith}
+use Rattle.row_table.proofs.Common.{common_steps, [], ◌∷◌, ◌++◌, ap, ◌∙◌, arith}
 use Rattle.row_table.proofs.Slots.{live_append}
 use Rattle.row_table.proofs.Finding.{stands_added, on_ok, on_all}
 use Rattle.row_table.proofs.parts.Parts.add_row.Goals as goal

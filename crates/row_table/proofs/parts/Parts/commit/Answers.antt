@@ -1,7 +1,5 @@
-use Rattle.std.proofs.lemmas.Grind.{common_steps}
-use Rattle.row_table.proofs.Common.{◌≡◌, ◌≤◌, ◌∙◌, map, Some, List, Option, refl, sym, subst, ap, length, arith}
-use Rattle.row_table.proofs.Common.{vec_capacity, live, filled_from, moment_of, Finds, Row, Parts}
-use Rattle.std.proofs.lemmas.List.{length-map}
+use Rattle.row_table.proofs.Common.{common_steps, ◌≡◌, ◌≤◌, ◌∙◌, map, Some, List, Option, refl, sym, subst, ap, length}
+use Rattle.row_table.proofs.Common.{arith, vec_capacity, live, filled_from, moment_of, Finds, Row, Parts, length-map}
 use Rattle.row_table.proofs.Slots.{live_filter, live_whole, length-live, room_for}
 use Rattle.row_table.proofs.Finding.{found_closed, stands_whole, marked_now}
 use Rattle.row_table.proofs.parts.Parts.commit.Given as given

@@ -1,5 +1,4 @@
-use Rattle.std.proofs.lemmas.Grind.{common_steps}
-use Rattle.row_table.proofs.Common.{sym, arith}
+use Rattle.row_table.proofs.Common.{common_steps, sym, arith}
 use Rattle.row_table.proofs.Finding.{found_taken}
 use Rattle.row_table.proofs.Popping.{none_there, found_empty, filled_none, filled_rest}
 use Rattle.row_table.proofs.parts.Parts.forget.Goals as goal

@@ -1,5 +1,4 @@
-use Rattle.std.proofs.lemmas.Grind.{common_steps}
-use Rattle.row_table.proofs.Common.{◌≡◌, [], ◌∷◌, ◌++◌, refl, subst, arith, Parts, SlotVersions}
+use Rattle.row_table.proofs.Common.{common_steps, ◌≡◌, [], ◌∷◌, ◌++◌, refl, subst, arith, Parts, SlotVersions}
 use Rattle.row_table.proofs.Popping.{sent_gone, received_gone, live_popped, stands_popped}
 use Rattle.row_table.proofs.parts.Parts.pop.Goals as goal
 

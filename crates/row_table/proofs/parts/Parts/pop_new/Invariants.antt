@@ -1,5 +1,4 @@
-use Rattle.row_table.proofs.Common.{◌≡◌, ◌++◌, length, live, Stands, Marked}
-use Rattle.std.proofs.Common.{reverse}
+use Rattle.row_table.proofs.Common.{◌≡◌, ◌++◌, length, live, Stands, Marked, reverse}
 use Rattle.row_table.proofs.parts.Parts.pop_new.Given as goal
 
 abbrev pub invariant-loop-self : goal.invariant-loop-self

@@ -1,5 +1,4 @@
-use Rattle.row_table.proofs.Common.{◌≡◌, ◌++◌, live, Stands, Marked}
-use Rattle.std.proofs.Common.{reverse}
+use Rattle.row_table.proofs.Common.{◌≡◌, ◌++◌, live, Stands, Marked, reverse}
 use Rattle.row_table.proofs.parts.Parts.push_all.Given as goal
 
 abbrev pub invariant-loop-row : goal.invariant-loop-row

@@ -1,5 +1,4 @@
-use Rattle.std.proofs.lemmas.Grind.{common_steps}
-use Rattle.row_table.proofs.Common.{refl, Row, arith}
+use Rattle.row_table.proofs.Common.{common_steps, refl, Row, arith}
 use Rattle.row_table.proofs.Slots.{IsSlot, slot_at, held_at, live_changed}
 use Rattle.row_table.proofs.Finding.{stands_changed, with_owners}
 use Rattle.row_table.proofs.parts.Parts.set.Given as given

@@ -1,6 +1,4 @@
-use Rattle.std.proofs.lemmas.Grind.{common_steps}
-use Rattle.row_table.proofs.Common.{arith}
-use Rattle.std.proofs.lemmas.Option.{slice_get_read}
+use Rattle.row_table.proofs.Common.{common_steps, arith, slice_get_read}
 use Rattle.row_table.proofs.Slots.{len-filled, length-filled, slot_at, slot_holds}
 use Rattle.row_table.proofs.parts.Parts.slot_at.Goals as goal
 

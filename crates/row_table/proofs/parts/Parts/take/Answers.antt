@@ -1,5 +1,4 @@
-use Rattle.std.proofs.lemmas.Grind.{common_steps}
-use Rattle.row_table.proofs.Common.{arith}
+use Rattle.row_table.proofs.Common.{common_steps, arith}
 use Rattle.row_table.proofs.Slots.{slot_at, live_taken}
 use Rattle.row_table.proofs.Finding.{stands_taken}
 use Rattle.row_table.proofs.parts.Parts.take.Goals as goal

@@ -1,5 +1,4 @@
-use Rattle.std.proofs.lemmas.Grind.{common_steps}
-use Rattle.row_table.proofs.Common.{get_or_from_slice_get, arith}
+use Rattle.row_table.proofs.Common.{common_steps, get_or_from_slice_get, arith}
 use Rattle.row_table.proofs.Leaving.{emptied_within, held_still}
 use Rattle.row_table.proofs.slot_list.Slots.at.Goals as goal
 

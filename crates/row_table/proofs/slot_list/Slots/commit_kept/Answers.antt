@@ -1,5 +1,4 @@
-use Rattle.row_table.proofs.Common.{◌∙◌, List, Option, ap, filter, SlotVersions, emptied, Row}
-use Rattle.std.proofs.Common.{rules}
+use Rattle.row_table.proofs.Common.{◌∙◌, List, Option, ap, filter, SlotVersions, emptied, Row, rules}
 use Rattle.std.specs.Option.{is_some}
 use Rattle.std.proofs.lemmas.Fn.{filter_same}
 use Rattle.row_table.proofs.Leaving.{left_unsaved}

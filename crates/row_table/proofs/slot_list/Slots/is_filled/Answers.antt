@@ -1,5 +1,4 @@
-use Rattle.std.proofs.lemmas.Grind.{common_steps}
-use Rattle.row_table.proofs.Common.{arith, get_or_from_slice_get}
+use Rattle.row_table.proofs.Common.{common_steps, arith, get_or_from_slice_get}
 use Rattle.row_table.proofs.Leaving.{length_emptied, held_behind}
 use Rattle.row_table.proofs.slot_list.Slots.is_filled.Goals as goal
 

@@ -1,5 +1,4 @@
-use Rattle.std.proofs.lemmas.Grind.{common_steps}
-use Rattle.row_table.proofs.Common.{arith}
+use Rattle.row_table.proofs.Common.{common_steps, arith}
 use Rattle.row_table.proofs.Leaving.{length_emptied}
 use Rattle.row_table.proofs.slot_list.Slots.len.Goals as goal
 

@@ -1,6 +1,4 @@
-use Rattle.std.proofs.lemmas.Grind.{common_steps}
-use Rattle.row_table.proofs.Common.{All, arith}
-use Rattle.row_table.specs.Slots.{IsLeft}
+use Rattle.row_table.proofs.Common.{common_steps, All, arith, IsLeft}
 use Rattle.row_table.proofs.Leaving.{length_emptied, emptied_append, left_popped, left_within}
 use Rattle.row_table.proofs.slot_list.Slots.pop.Given as given
 use Rattle.row_table.proofs.slot_list.Slots.pop.Goals as goal

@@ -1,5 +1,4 @@
-use Rattle.std.proofs.lemmas.Grind.{common_steps}
-use Rattle.row_table.proofs.Common.{arith}
+use Rattle.row_table.proofs.Common.{common_steps, arith}
 use Rattle.row_table.proofs.Leaving.{emptied_append, left_pushed, left_within}
 use Rattle.row_table.proofs.slot_list.Slots.push.Goals as goal
 

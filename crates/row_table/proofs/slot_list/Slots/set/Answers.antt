@@ -1,5 +1,4 @@
-use Rattle.std.proofs.lemmas.Grind.{common_steps}
-use Rattle.row_table.proofs.Common.{arith}
+use Rattle.row_table.proofs.Common.{common_steps, arith}
 use Rattle.row_table.proofs.Leaving.{emptied_within, emptied_set, left_changed}
 use Rattle.row_table.proofs.slot_list.Slots.set.Goals as goal
 

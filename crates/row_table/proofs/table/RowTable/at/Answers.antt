@@ -1,5 +1,4 @@
-use Rattle.std.proofs.lemmas.Grind.{common_steps}
-use Rattle.row_table.proofs.Common.{arith}
+use Rattle.row_table.proofs.Common.{common_steps, arith}
 use Rattle.row_table.proofs.Slots.{slot_at, held_at}
 use Rattle.row_table.proofs.table.RowTable.at.Goals as goal
 

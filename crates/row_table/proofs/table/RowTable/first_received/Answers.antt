@@ -1,5 +1,4 @@
-use Rattle.row_table.proofs.Common.{None, subst, arith, Versions, IsNext, Row}
-use Rattle.row_table.specs.Rows.{is_received_by}
+use Rattle.row_table.proofs.Common.{None, subst, arith, Versions, IsNext, Row, is_received_by}
 use Rattle.row_table.proofs.Nexts.{from_first, next_of_owner, next_place, next_within, stands_if}
 use Rattle.row_table.proofs.table.RowTable.first_received.Goals as goal
 

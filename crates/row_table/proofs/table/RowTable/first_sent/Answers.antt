@@ -1,5 +1,4 @@
-use Rattle.row_table.proofs.Common.{None, subst, arith, Versions, IsNext, Row}
-use Rattle.row_table.specs.Rows.{is_sent_by}
+use Rattle.row_table.proofs.Common.{None, subst, arith, Versions, IsNext, Row, is_sent_by}
 use Rattle.row_table.proofs.Nexts.{from_first, next_of_owner, next_place, next_within, stands_if}
 use Rattle.row_table.proofs.table.RowTable.first_sent.Goals as goal
 

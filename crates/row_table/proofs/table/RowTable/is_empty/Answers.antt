@@ -1,5 +1,4 @@
-use Rattle.row_table.proofs.Common.{length, ap, ◌∙◌, Versions}
-use Rattle.std.proofs.Common.{◌==◌}
+use Rattle.row_table.proofs.Common.{length, ap, ◌∙◌, Versions, ◌==◌}
 use Rattle.row_table.proofs.Slots.{len-filled}
 use Rattle.row_table.proofs.table.RowTable.is_empty.Goals as goal
 

@@ -1,6 +1,4 @@
-use Rattle.row_table.proofs.Common.{◌≡◌, subst, Versions, is_due_by}
-use Rattle.std.specs.List.{list_any}
-use Rattle.row_table.specs.Rows.{has_come}
+use Rattle.row_table.proofs.Common.{◌≡◌, subst, Versions, is_due_by, list_any, has_come}
 use Rattle.row_table.proofs.Nexts.{least_of_live}
 use Rattle.row_table.proofs.table.RowTable.least.Goals as goal
 

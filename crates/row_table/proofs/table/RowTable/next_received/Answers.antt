@@ -1,7 +1,5 @@
-use Rattle.std.proofs.lemmas.Grind.{common_steps}
-use Rattle.row_table.proofs.Common.{◌≡◌, ℕ, suc, slice_get, subst, sym, ap, ◌∙◌, Versions, IsNext, receiver_of, Row}
-use Rattle.row_table.proofs.Common.{arith}
-use Rattle.row_table.specs.Rows.{is_received_by}
+use Rattle.row_table.proofs.Common.{common_steps, ◌≡◌, ℕ, suc, slice_get, subst, sym, ap, ◌∙◌, Versions, IsNext}
+use Rattle.row_table.proofs.Common.{receiver_of, Row, arith, is_received_by}
 use Rattle.row_table.proofs.Slots.{IsSlot, slot_at, held_at, some_same}
 use Rattle.row_table.proofs.Nexts.{from_behind, next_of_owner, next_place, next_within}
 use Rattle.row_table.proofs.table.RowTable.next_received.Given as given

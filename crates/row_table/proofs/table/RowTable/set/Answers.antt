@@ -1,6 +1,5 @@
-use Rattle.row_table.proofs.Common.{slice_get, slice_set, sym, ap, ◌∙◌, Versions}
+use Rattle.row_table.proofs.Common.{slice_get, slice_set, sym, ap, ◌∙◌, Versions, with_item}
 use Rattle.chains.proofs.Views.{done}
-use Rattle.row_table.specs.Rows.{with_item}
 use Rattle.row_table.proofs.table.RowTable.set.Goals as goal
 
 pub returns-clause-now : goal.returns-clause-now

@@ -1,12 +1,9 @@
 use Rattle.fair_routes.proofs.Common.{◌≡◌, ◌<◌, ℕ, List, map, sym, ap, ap₂, ◌∙◌, subst, Some, AllZip, zip, IsNumbered}
-use Rattle.fair_routes.proofs.Common.{IsWeightRefusal}
+use Rattle.fair_routes.proofs.Common.{IsWeightRefusal, keys, values, AllPairs, told_routes, told_weights, AreRatesTold}
+use Rattle.fair_routes.proofs.Common.{MayRefuseTold, IsWeightedAllocation}
 use Rattle.std.proofs.Common.{Vec, Global}
-use Rattle.std.specs.BTreeMap.{keys, values}
-use Rattle.std.specs.List.{AllPairs}
 use Rattle.std.proofs.lemmas.List.Kept.{AllPairs-from_increasing}
 use Rattle.std.proofs.lemmas.Map.Keys.{IsStrictlyIncreasing-from_sorted}
-use Rattle.fair_routes.specs.Network.Told.{told_routes, told_weights, AreRatesTold, MayRefuseTold}
-use Rattle.fair_routes.specs.Network.Weights.{IsWeightedAllocation}
 use Rattle.fair_routes.proofs.Network.Told.{rates_told, refusal_told}
 use Rattle.fair_routes.proofs.routes.network.Network.rates.Goals as goal
 

@@ -1,6 +1,5 @@
 use Rattle.fair_routes.proofs.Common.{ℕ, ◌*◌, ◌<◌, Option, None, length, map, sym, ◌∙◌, arith, option_map, get_or-map}
-use Rattle.fair_routes.proofs.Common.{length-map}
-use Rattle.std.proofs.lemmas.List.{ext_get_or}
+use Rattle.fair_routes.proofs.Common.{length-map, ext_get_or}
 use Rattle.fair_routes.proofs.routes.weighted.rising.multiply_each.Goals as goal
 
 pub returns : goal.returns

@@ -1,8 +1,6 @@
 use Rattle.fair_routes.proofs.Common.{◌≡◌, ℕ, ◌*◌, ◌<◌, ◌++◌, [], ◌∷◌, List, Option, None, length, get_or, inl, inr}
 use Rattle.fair_routes.proofs.Common.{refl, ap, sym, ◌∙◌, arith, option_map, unwrap_or, cases_lt, get_or_default}
-use Rattle.fair_routes.proofs.Common.{at_level, frozen_in, weight_at}
-use Rattle.std.proofs.Common.{length-append}
-use Rattle.std.proofs.lemmas.List.{get_or_past}
+use Rattle.fair_routes.proofs.Common.{at_level, frozen_in, weight_at, length-append, get_or_past}
 use Rattle.fair_routes.proofs.Network.Rising.{pushed}
 use Rattle.fair_routes.proofs.routes.weighted.rising.weigh.Goals as goal
 

@@ -1,5 +1,5 @@
 use Rattle.fair_routes.proofs.Common.{◌≡◌, ℕ, ◌*◌, ◌<◌, length, option_map, slice_index, at_level, frozen_in, weight_at}
-use Rattle.fair_rates.specs.Filling.FairParts.{level_at}
+use Rattle.fair_routes.proofs.Common.{level_at}
 use Rattle.fair_routes.proofs.routes.weighted.rising.weigh.Given as goal
 
 abbrev pub invariant-loop-flow : goal.invariant-loop-flow

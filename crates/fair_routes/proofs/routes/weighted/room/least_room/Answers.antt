@@ -1,8 +1,7 @@
 use Rattle.fair_routes.proofs.Common.{◌≡◌, ℕ, ◌<◌, ◌^◌, Option, length, map, sum_by, take, ◌∙◌, subst, sym, arith}
-use Rattle.fair_routes.proofs.Common.{take_all, length-map, Side, side_of, frozen_in, weight_at}
-use Rattle.std.proofs.lemmas.List.{length-take-le}
+use Rattle.fair_routes.proofs.Common.{take_all, length-map, Side, side_of, frozen_in, weight_at, length-take-le}
+use Rattle.fair_routes.proofs.Common.{all_unmapped}
 use Rattle.fair_routes.specs.declared.routes.sides.LinkSide as declared
-use Rattle.fair_rates.proofs.Fairness.MappedSides.{all_unmapped}
 use Rattle.fair_routes.proofs.Network.Rising.{IsLeastOf, least_more}
 use Rattle.fair_routes.proofs.Network.Users.{mapped_more}
 use Rattle.fair_routes.proofs.routes.weighted.room.least_room.Goals as goal

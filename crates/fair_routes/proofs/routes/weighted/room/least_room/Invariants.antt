@@ -1,5 +1,4 @@
-use Rattle.fair_routes.proofs.Common.{map, take, side_of, frozen_in, AreAllHeld, HasLeastRoom}
-use Rattle.std.specs.Prelude.{MatchOption}
+use Rattle.fair_routes.proofs.Common.{map, take, side_of, frozen_in, AreAllHeld, HasLeastRoom, MatchOption}
 use Rattle.fair_routes.proofs.routes.weighted.room.least_room.Given as goal
 
 abbrev pub invariant-loop-place : goal.invariant-loop-place

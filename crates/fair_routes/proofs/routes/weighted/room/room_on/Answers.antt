@@ -1,9 +1,9 @@
 use Rattle.fair_routes.proofs.Common.{◌≡◌, ℕ, ◌-◌, ◌*◌, ◌<◌, ◌≤◌, ◌^◌, All, None, sum_by, get_or, length, ap, ◌∙◌}
 use Rattle.fair_routes.proofs.Common.{subst, sym, arith, unwrap_or, is_none, take_all, get_or_default, at_level}
-use Rattle.fair_routes.proofs.Common.{frozen_in, rising_weight, weight_at}
+use Rattle.fair_routes.proofs.Common.{frozen_in, rising_weight, weight_at, sum_by_more}
 use Rattle.std.proofs.Common.{mul_comm}
 use Rattle.std.specs.Prelude.{cond}
-use Rattle.std.proofs.lemmas.List.Sums.{sum_by_more, sum_by_more_le_part}
+use Rattle.std.proofs.lemmas.List.Sums.{sum_by_more_le_part}
 use Rattle.fair_routes.proofs.Network.Rising.{no_more_weight}
 use Rattle.fair_routes.proofs.routes.weighted.room.room_on.Goals as goal
 

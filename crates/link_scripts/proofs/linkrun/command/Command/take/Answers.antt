@@ -1,5 +1,4 @@
-use Rattle.std.proofs.Common.{rules}
-use Rattle.std.specs.Str.{IsUtf8}
+use Rattle.link_scripts.proofs.Common.{rules, IsUtf8}
 use Rattle.link_scripts.specs.Words.{words_left}
 use Rattle.link_scripts.proofs.Wording.{takes_no_text}
 use Rattle.link_scripts.proofs.linkrun.command.Command.take.Goals as goal

@@ -1,9 +1,7 @@
-use Rattle.std.proofs.Common.{rules}
-use Rattle.link_scripts.specs.Script.{IsCapInRange, IsSmallCapInRange}
+use Rattle.link_scripts.proofs.Common.{rules, IsCapInRange, IsSmallCapInRange, number_word, IsNumberInRange}
 use Rattle.link_scripts.proofs.Columns.{takes_both, takes_one, takes_none, cap_words, two_caps, AreCapsIn, takes_link}
 use Rattle.link_scripts.proofs.Columns.{takes_no_link, takes_limit, takes_no_limit, takes_limit_link}
 use Rattle.link_scripts.proofs.Columns.{takes_no_limit_link, word_then, AreIn}
-use Rattle.link_scripts.specs.Script.{number_word, IsNumberInRange}
 use Rattle.link_scripts.proofs.linkrun.command.Command.take_named.Goals as goal
 
 pub returns-in_err-number-in-link-2 : goal.returns-in_err-number-in-link-2

@@ -1,4 +1,4 @@
-use Rattle.std.proofs.Common.{rules}
+use Rattle.link_scripts.proofs.Common.{rules}
 use Rattle.link_scripts.proofs.Columns.{takes_both, takes_one, takes_hop, takes_no_hop, takes_weighing}
 use Rattle.link_scripts.proofs.linkrun.command.Command.take_of_network.Goals as goal
 

@@ -1,4 +1,4 @@
-use Rattle.std.proofs.Common.{◌≡◌, ◌+◌, ◌-◌, arith, rules}
+use Rattle.link_scripts.proofs.Common.{◌≡◌, ◌+◌, ◌-◌, arith, rules}
 use Rattle.std.proofs.lemmas.Fmt.{length-decimal-le}
 use Rattle.std.proofs.lemmas.List.{drop-set}
 use Rattle.link_scripts.proofs.linkrun.ending.Ending.put_number.Goals as goal

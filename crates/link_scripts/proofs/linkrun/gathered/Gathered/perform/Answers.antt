@@ -1,6 +1,4 @@
-use Rattle.std.proofs.Common.{ℕ, List, refl, subst}
-use Rattle.link_simulation.specs.Simulation.Calls.{Call}
-use Rattle.link_scripts.specs.Gathered.{PrintsInTurn}
+use Rattle.link_scripts.proofs.Common.{ℕ, List, refl, subst, Call, PrintsInTurn}
 use Rattle.link_scripts.proofs.Turns.{gathered_alone, performed_and_printed}
 use Rattle.link_scripts.proofs.linkrun.gathered.Gathered.perform.Goals as goal
 

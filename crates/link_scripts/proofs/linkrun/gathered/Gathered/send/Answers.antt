@@ -1,7 +1,4 @@
-use Rattle.std.proofs.Common.{ℕ, List, subst}
-use Rattle.link_events.specs.declared.outgoing.Outgoing.{Outgoing}
-use Rattle.link_scripts.specs.Gathered.{gathered_calls}
-use Rattle.link_scripts.specs.Schedule.{zeroed_sends, AnswersEach}
+use Rattle.link_scripts.proofs.Common.{ℕ, List, subst, Outgoing, gathered_calls, zeroed_sends, AnswersEach}
 use Rattle.link_scripts.proofs.InTurn.{sent_and_printed, prints_from}
 use Rattle.link_scripts.proofs.linkrun.gathered.Gathered.send.Goals as goal
 use Rattle.link_scripts.proofs.linkrun.gathered.Gathered.send.Goals.{then-len-gt1+in_default, else-len-gt1}

@@ -1,7 +1,4 @@
-use Rattle.std.proofs.Common.{take}
-use Rattle.link_scripts.specs.Gathered.{PrintsInTurn}
-use Rattle.link_scripts.specs.Schedule.{zeroed_sends}
-use Rattle.link_scripts.specs.Session.{SaysSame}
+use Rattle.link_scripts.proofs.Common.{take, PrintsInTurn, zeroed_sends, SaysSame}
 use Rattle.link_scripts.proofs.linkrun.gathered.Gathered.send_each.Given as goal
 
 -- the messages so far are sent, and their answers are printed

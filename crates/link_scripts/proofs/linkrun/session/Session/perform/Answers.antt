@@ -1,5 +1,4 @@
-use Rattle.std.proofs.Common.{refl}
-use Rattle.std.proofs.lemmas.Result.{err_from_is_err_and}
+use Rattle.link_scripts.proofs.Common.{refl, err_from_is_err_and}
 use Rattle.link_scripts.proofs.linkrun.session.Session.perform.Goals as goal
 
 pub returns-in_err-reply-in-Schedule-clause-kept : goal.returns-in_err-reply-in-Schedule-clause-kept

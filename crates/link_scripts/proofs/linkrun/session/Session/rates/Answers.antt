@@ -1,9 +1,8 @@
-use Rattle.std.proofs.Common.{of_calls, rules}
+use Rattle.link_scripts.proofs.Common.{rules, nat_cmp, get}
+use Rattle.std.proofs.Common.{of_calls}
 use Rattle.fair_rates.proofs.Sides.Callable.{callable_on_each, callable_on_each_pair}
 use Rattle.link_scripts.proofs.CapAnswers.{rates_if_ok, refused_if_err}
 use Rattle.link_scripts.specs.Session.{said_caps}
-use Rattle.std.specs.Ordering.{nat_cmp}
-use Rattle.std.specs.BTreeMap.{get}
 use Rattle.link_scripts.proofs.linkrun.session.Session.rates.Goals as goal
 
 pub allocate_linked-requires-clause-egress : goal.allocate_linked-requires-clause-egress

@@ -1,4 +1,4 @@
-use Rattle.std.proofs.Common.{◌≡◌, codes, arith, rules}
+use Rattle.link_scripts.proofs.Common.{◌≡◌, codes, arith, rules}
 use Rattle.link_scripts.proofs.Wording.{one_byte, takes_no_cap}
 use Rattle.link_scripts.proofs.linkrun.word.Words.cap.Goals as goal
 

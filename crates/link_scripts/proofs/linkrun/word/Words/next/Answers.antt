@@ -1,6 +1,6 @@
-use Rattle.std.proofs.Common.{◌≡◌, ◌+◌, ◌∷◌, ap, sym, ◌∙◌, arith, rules, take, Some}
+use Rattle.link_scripts.proofs.Common.{◌≡◌, ◌+◌, ◌∷◌, ap, sym, ◌∙◌, arith, rules, take, Some, parts_of}
 use Rattle.std.proofs.lemmas.List.{take_rest}
-use Rattle.link_scripts.specs.Words.{parts_of, parts_in}
+use Rattle.link_scripts.specs.Words.{parts_in}
 use Rattle.link_scripts.proofs.Splitting.{one_byte_more, only_part, first_part}
 use Rattle.link_scripts.proofs.linkrun.word.Words.next.Goals as goal
 

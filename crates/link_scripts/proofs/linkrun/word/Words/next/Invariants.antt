@@ -1,4 +1,4 @@
-use Rattle.std.proofs.Common.{take}
+use Rattle.link_scripts.proofs.Common.{take}
 use Rattle.link_scripts.proofs.Splitting.{LackSpaces}
 use Rattle.link_scripts.proofs.linkrun.word.Words.next.Given as goal
 

@@ -1,4 +1,4 @@
-use Rattle.std.proofs.Common.{rules}
+use Rattle.link_scripts.proofs.Common.{rules}
 use Rattle.link_scripts.proofs.Columns.{narrow_cap, wide_cap, no_cap}
 use Rattle.link_scripts.proofs.linkrun.word.Words.small_cap.Goals as goal
 

@@ -1,6 +1,4 @@
-use Rattle.std.proofs.Common.{All}
-use Rattle.link_scripts.specs.Script.{IsCallOfScriptInRange}
-use Rattle.link_traces.specs.Batches.{batch_calls, IsFront}
+use Rattle.link_traces.proofs.Common.{All, IsCallOfScriptInRange, batch_calls, IsFront}
 use Rattle.link_traces.proofs.linkcheck.batch.Batch.gather.Given as goal
 
 -- what is gathered stands in front, and is in range

@@ -1,5 +1,4 @@
-use Rattle.std.proofs.Common.{rules, ◌≡◌, ◌++◌, ◌∷◌, []}
-use Rattle.link_traces.specs.Batches.{batch_calls}
+use Rattle.link_traces.proofs.Common.{rules, ◌≡◌, ◌++◌, ◌∷◌, [], batch_calls}
 use Rattle.link_traces.proofs.Batching.{front_more, in_range_more}
 use Rattle.link_traces.proofs.linkcheck.batch.Batch.gather_one.Goals as goal
 

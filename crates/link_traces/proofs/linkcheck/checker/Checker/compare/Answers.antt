@@ -1,5 +1,4 @@
-use Rattle.std.proofs.Common.{refl, sym, subst, ap, ◌∙◌}
-use Rattle.link_traces.specs.Progress.{IsTold}
+use Rattle.link_traces.proofs.Common.{refl, sym, subst, ap, ◌∙◌, IsTold}
 use Rattle.link_traces.proofs.linkcheck.checker.Checker.compare.Goals as goal
 
 pub returns-then-hear-clause-goes_on : goal.returns-then-hear-clause-goes_on

@@ -1,5 +1,4 @@
-use Rattle.std.proofs.Common.{◌≡◌, None, ap, sym, ◌∙◌, refl, ◌≤◌, subst}
-use Rattle.link_traces.specs.declared.linkcheck.report.Verdict.TheVariants.{Within}
+use Rattle.link_traces.proofs.Common.{◌≡◌, None, ap, sym, ◌∙◌, refl, ◌≤◌, subst, Within}
 use Rattle.link_traces.proofs.Tracing.{is_headed, agrees_is_not_within, least_is_within}
 use Rattle.link_traces.proofs.linkcheck.checker.Checker.conclude.Goals as goal
 use Rattle.link_traces.proofs.linkcheck.checker.Checker.conclude.Goals.{in-None, in-Some}

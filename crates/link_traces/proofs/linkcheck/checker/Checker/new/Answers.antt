@@ -1,4 +1,4 @@
-use Rattle.std.proofs.Common.{[], refl}
+use Rattle.link_traces.proofs.Common.{[], refl}
 use Rattle.link_traces.proofs.linkcheck.checker.Checker.new.Goals as goal
 
 pub returns-clause-new : goal.returns-clause-new

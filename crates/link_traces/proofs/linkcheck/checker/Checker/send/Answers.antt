@@ -1,4 +1,4 @@
-use Rattle.std.proofs.Common.{rules, ◌≡◌, ◌<◌, arith, refl}
+use Rattle.link_traces.proofs.Common.{rules, ◌≡◌, ◌<◌, arith, refl}
 use Rattle.link_traces.proofs.Batching.{batch_goes_on}
 use Rattle.link_traces.proofs.linkcheck.checker.Checker.send.Goals as goal
 

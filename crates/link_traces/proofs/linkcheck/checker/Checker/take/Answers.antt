@@ -1,5 +1,4 @@
-use Rattle.std.proofs.Common.{◌≡◌, ◌++◌, ◌∷◌, [], IfSome, arith, refl, sym, subst, ◌∙◌}
-use Rattle.link_traces.specs.Trace.{tolerance_line}
+use Rattle.link_traces.proofs.Common.{◌≡◌, ◌++◌, ◌∷◌, [], IfSome, arith, refl, sym, subst, ◌∙◌, tolerance_line}
 use Rattle.link_traces.proofs.Tracing.{goes_on, sets_tolerance}
 use Rattle.link_traces.proofs.linkcheck.checker.Checker.take.Goals as goal
 

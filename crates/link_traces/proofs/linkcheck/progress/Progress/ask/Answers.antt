@@ -1,6 +1,4 @@
-use Rattle.std.proofs.Common.{refl, ap, ◌∙◌, ◌++◌}
-use Rattle.link_scheduler.specs.Calls.Replay.{reply_of}
-use Rattle.link_scripts.specs.Answer.{reply_text}
+use Rattle.link_traces.proofs.Common.{refl, ap, ◌∙◌, ◌++◌, reply_of, reply_text}
 use Rattle.link_traces.proofs.Tracing.{asked}
 use Rattle.link_traces.proofs.linkcheck.progress.Progress.ask.Goals as goal
 

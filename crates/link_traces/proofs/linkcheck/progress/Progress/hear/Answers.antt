@@ -1,4 +1,4 @@
-use Rattle.std.proofs.Common.{rules, ◌≡◌, [], ◌∷◌, ◌++◌, drop, refl, sym, ap, ◌∙◌, append_assoc}
+use Rattle.link_traces.proofs.Common.{rules, ◌≡◌, [], ◌∷◌, ◌++◌, drop, refl, sym, ap, ◌∙◌, append_assoc}
 use Rattle.link_traces.proofs.Tracing.{heard}
 use Rattle.link_traces.proofs.linkcheck.progress.Progress.hear.Goals as goal
 

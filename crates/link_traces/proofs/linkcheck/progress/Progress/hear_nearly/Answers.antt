@@ -1,4 +1,4 @@
-use Rattle.std.proofs.Common.{[], ◌∷◌, ◌++◌, drop, refl, sym, ◌∙◌, append_assoc}
+use Rattle.link_traces.proofs.Common.{[], ◌∷◌, ◌++◌, drop, refl, sym, ◌∙◌, append_assoc}
 use Rattle.link_traces.proofs.Tracing.{heard, some_is_not_none}
 use Rattle.link_traces.proofs.linkcheck.progress.Progress.hear_nearly.Goals as goal
 

@@ -1,4 +1,4 @@
-use Rattle.std.proofs.Common.{refl}
+use Rattle.link_traces.proofs.Common.{refl}
 use Rattle.link_traces.proofs.Tracing.{told_nothing}
 use Rattle.link_traces.proofs.linkcheck.progress.Progress.new.Goals as goal
 

@@ -1,6 +1,4 @@
-use Rattle.std.proofs.Common.{rules, List, ℕ, refl, subst}
-use Rattle.link_events.specs.declared.outgoing.Outgoing.{Outgoing}
-use Rattle.link_scripts.specs.Schedule.{zeroed_sends, AnswersEach}
+use Rattle.link_traces.proofs.Common.{rules, List, ℕ, refl, subst, Outgoing, zeroed_sends, AnswersEach}
 use Rattle.link_traces.proofs.Batching.{sent, still_told}
 use Rattle.link_traces.proofs.linkcheck.progress.Progress.send.Goals as goal
 

@@ -1,8 +1,4 @@
-use Rattle.std.proofs.Common.{rules, ◌≡◌, None}
-use Rattle.std.proofs.lemmas.Cmp.{nat_cmp_total}
-use Rattle.std.specs.Ordering.{nat_cmp}
-use Rattle.link_scheduler.specs.Calls.State.{planned_of}
-use Rattle.link_simulation.specs.Simulation.Calls.{call_enqueue}
+use Rattle.link_traces.proofs.Common.{rules, ◌≡◌, None, nat_cmp_total, nat_cmp, planned_of, call_enqueue}
 use Rattle.link_traces.proofs.Replying.{timely_is_in_turn}
 use Rattle.link_traces.proofs.Batching.{timely_of}
 use Rattle.link_traces.proofs.linkcheck.progress.Progress.sends_in_turn.Goals as goal

@@ -1,7 +1,4 @@
-use Rattle.std.proofs.lemmas.Cmp.{nat_cmp_total}
-use Rattle.std.specs.Ordering.{nat_cmp}
-use Rattle.link_scheduler.specs.Calls.State.{planned_of}
-use Rattle.link_scripts.specs.Schedule.{world_call}
+use Rattle.link_traces.proofs.Common.{nat_cmp_total, nat_cmp, planned_of, world_call}
 use Rattle.link_traces.proofs.Replying.{timely_is_in_turn}
 use Rattle.link_traces.proofs.linkcheck.progress.Progress.turn.Goals as goal
 

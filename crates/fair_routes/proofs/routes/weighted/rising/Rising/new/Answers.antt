@@ -1,5 +1,5 @@
 use Rattle.fair_routes.proofs.Common.{[], ◌∷◌, ◌≡◌, ◌++◌, ℕ, List, Option, None, ap, ◌∙◌, replicate, arith}
-use Rattle.std.proofs.lemmas.List.{replicate-append-replicate}
+use Rattle.fair_routes.proofs.Common.{replicate-append-replicate}
 use Rattle.fair_routes.proofs.routes.weighted.rising.Rising.new.Goals as goal
 
 pub loop-preserved : goal.loop-preserved
