@@ -26,7 +26,8 @@ OWN = {
     "bytes": b"enqueue 0 1 2 0 67108864 5 1\nlimit 0 1 1 1\nenqueue 0 1 2 0 65536 5 1\nlimit 1 1 - -\nnext\n",
 }
 TESTS = ["refusals::calls_with_little_memory", "refusals::lists_with_little_memory", "rates::rates_with_little_memory",
-         "quiet::rests_with_little_memory", "parts::sums_with_little_memory", "parts::rows_with_little_memory"]
+         "quiet::rests_with_little_memory", "parts::sums_with_little_memory", "parts::rows_with_little_memory",
+         "parts::caps_with_little_memory", "parts::arrivals_with_little_memory"]
 
 
 class Program:

@@ -1,5 +1,8 @@
-//! Numbers and rows of owners, where an allocation for them may be refused.
+//! Numbers, rows of owners, and what is known of peers and pairs, where an allocation for them may be refused.
 use chains::Chains;
+use fair_rates::error::Error;
+use link_pairs::known_pairs::Pairs;
+use link_pairs::peers::Peers;
 use natural::Natural;
 use std::alloc::{AllocError, Global};
 use std::process::Abort;
@@ -73,5 +76,41 @@ fn take_four(rt: &(impl Abort + AllocGlobal)) -> Result<(), AllocError> {
 fn rows_with_little_memory(rt: HostRuntime) {
     if take_four(&rt).is_err() {
         take_four(&rt).expect(&rt, "no rows once more");
+    }
+}
+
+/// The cap, if it was set.
+fn cap_set(set: Result<(), Error>, cap: u128) -> Option<u128> {
+    set.ok().map(|()| cap)
+}
+
+/// Two peers are limited, each or not.
+fn limit_two(rt: &(impl Abort + AllocGlobal)) {
+    let mut peers = Peers::<u64>::new(rt.alloc());
+    let first = cap_set(peers.set(&1, Some(10), None), 10);
+    let second = cap_set(peers.set(&2, Some(20), None), 20);
+    assert_eq!(rt; [peers.egress(&1), peers.egress(&2)], [first, second]);
+}
+
+/// For `make hostile`: some allocation may be refused.
+#[test]
+fn caps_with_little_memory(rt: HostRuntime) {
+    limit_two(&rt);
+}
+
+/// The last arrival of a pair is told as it is raised.
+fn raise_twice(rt: &(impl Abort + AllocGlobal)) -> Result<(), Error> {
+    let mut pairs = Pairs::<u64>::new(rt.alloc());
+    let told = [pairs.raise(&1, &2, 5)?, pairs.raise(&1, &2, 9)?];
+    assert_eq!(rt; told, [None, Some(5)]);
+    assert_eq!(rt; pairs.last_arrival(&1, &2), Some(9));
+    Ok(())
+}
+
+/// For `make hostile`: some allocation may be refused.
+#[test]
+fn arrivals_with_little_memory(rt: HostRuntime) {
+    if raise_twice(&rt).is_err() {
+        raise_twice(&rt).expect(&rt, "no last arrival once more");
     }
 }
