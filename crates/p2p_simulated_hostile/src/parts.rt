@@ -50,12 +50,21 @@ fn owner(chains: &Chains, row: usize) -> Option<usize> {
     }
 }
 
+/// A row goes, if it stands in a chain.
+fn take(chains: &mut Chains, row: usize) -> Result<(), AllocError> {
+    if row >= chains.rows() {
+        return Ok(());
+    }
+    match chains.owner(row) {
+        Some(owner) => chains.take(owner, row),
+        None => Ok(()),
+    }
+}
+
 /// The first rows go, so many of them.
 fn take_first(chains: &mut Chains, count: usize) -> Result<(), AllocError> {
     for row in 0..count {
-        if let Some(owner) = owner(chains, row) {
-            chains.take(owner, row)?;
-        }
+        take(chains, row)?;
     }
     Ok(())
 }
