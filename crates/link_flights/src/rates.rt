@@ -17,7 +17,7 @@ ghost use Rattle.link_flights.specs.Flights.InFlight.{in_units, in_flight, loose
 ghost use Rattle.link_flights.specs.Flights.Rated.{WereRated, AreFairOn, HaveFairRates, sent_messages};
 ghost use Rattle.link_flights.specs.Flights.Rated.{rerated, rates_found, AreOthersTimed, IsReratedAt};
 ghost use Rattle.link_flights.specs.Flights.Rated.{AreFairFor, GivesBeside, rates_of_levels};
-ghost use Rattle.link_flights.specs.Flights.Rated.{AreKeptBut, IsCountedAt};
+ghost use Rattle.link_flights.specs.Flights.Rated.{AreKeptBut, IsCountedAt, ArePartRated};
 ghost use Rattle.link_flights.specs.declared.flight.Flight.{Flight as AnyFlight};
 
 use crate::component::Component;
@@ -124,21 +124,46 @@ impl<P: Peer> Flights<P> {
             return self.rate_one(peers, pairs, were_rated);
         }
         if were_rated {
-            let mut noted = self.notes.take(self.alloc, self.list.len())?;
-            let mut rooms = self.notes.take_rooms(self.alloc);
-            let near = self.notes.take_near(self.alloc);
-            let touched = self.touched(done, peers, pairs, &mut noted, near)?;
-            self.notes.give_back(noted, &touched.near);
-            let found = self.rate_touched(&touched, peers, pairs, &mut rooms)?;
-            self.notes.keep_rooms(rooms);
-            let whole = touched.whole;
-            self.notes.keep_near(touched.into_near());
-            if let Some(found) = found {
-                let unsearched = self.spared_after(whole, found);
+            if let Some(unsearched) = self.rate_part(done, peers, pairs)? {
                 return Ok(self.settle(unsearched));
             }
         }
         self.rate_all(peers, pairs, were_rated)
+    }
+
+    /// Gives those that are touched their fair rates from the last account on, beside those that others keep, and
+    /// answers how many accounts more are made without a search. None where rates are to be given to all: then all
+    /// stays as it was.
+    fn rate_part(
+        &mut self,
+        done: &VecDeque<Arc<Message<P>>>,
+        peers: &Peers<P>,
+        pairs: &Pairs<P>,
+    ) -> Result<Option<usize>, Error>
+        requires left { All (λ u. u.left ≢ 0) (in_units self.old) }
+        requires updated { All (λ u. u.updated ≡ self.old.at) (in_units self.old) }
+        requires before { ∥ WereRated P.cmp (caps_of P.cmp peers.now.entries pairs.now.entries) self.old.scale
+            (in_units self.old) (messages done.now.items) (loose_in self.old) self.old.floor ∥₁ }
+        requires timed { AreTimed self.old.list.items }
+        requires one_each { OneForEachPair P.cmp (sent_messages (in_units self.old)) }
+        ensures given { IfOk result (ArePartRated P.cmp (caps_of P.cmp peers.now.entries pairs.now.entries)
+            self.old self.new) }
+        ensures before { self.new.list.before ≡ self.old.list.before }
+        ensures refused { IfErr result (λ e. e ≡ Error.OutOfMemory) }
+    {
+        let mut noted = self.notes.take(self.alloc, self.list.len())?;
+        let mut rooms = self.notes.take_rooms(self.alloc);
+        let near = self.notes.take_near(self.alloc);
+        let touched = self.touched(done, peers, pairs, &mut noted, near)?;
+        self.notes.give_back(noted, &touched.near);
+        let found = self.rate_touched(&touched, peers, pairs, &mut rooms)?;
+        self.notes.keep_rooms(rooms);
+        let whole = touched.whole;
+        self.notes.keep_near(touched.into_near());
+        match found {
+            Some(found) => Ok(Some(self.spared_after(whole, found))),
+            None => Ok(None),
+        }
     }
 
     /// Gives the only one its fair rate from the last account on: the least of its caps. Answers the moment at which

@@ -230,6 +230,14 @@ pub record HaveFairRates {P : Type 0} {a : _} {b : _} {c : _} (cmp : P → P →
   pub fair : AreFairlyRated cmp caps new.scale (in_units new)
   pub timed : AreTimed new.list.items
 
+-- where a number is told, each has its fair rate, and all but so many are as they were; where none is, all are as they
+-- were
+abbrev pub ArePartRated : {P : Type 0} {a : _} {b : _} {c : _} → (P → P → Ordering) → Caps P
+    → Flights P a b c → Flights P a b c → Option ℕ → Type 0
+ArePartRated cmp caps old new None = (new.list ≡ old.list) × (new.scale ≡ old.scale) × (new.at ≡ old.at)
+ArePartRated cmp caps old new (Some unsearched) =
+    HaveFairRates cmp caps old new × AreKeptBut new.rated_anew old.list.items new.list.items
+
 -- those that have got a rate and are not of the component are timed
 abbrev pub AreOthersTimed : {P : Type 0} → (P → P → Ordering) → Component P → List (Flight P) → Type 0
 AreOthersTimed {P} cmp component fs = (i : ℕ) (f : Flight P) → slice_get fs i ≡ Some f

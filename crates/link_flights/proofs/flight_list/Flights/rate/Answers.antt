@@ -1,8 +1,8 @@
 use Rattle.link_flights.proofs.Common.{rules, ◌≤◌, ◌∙◌, IfSome, sym, ap, subst, arith, list_all, last_moment, caps_of}
-use Rattle.link_flights.proofs.Common.{looked_up, Flight, in_units}
-use Rattle.link_flights.specs.Flights.Rated.{GivesBeside}
+use Rattle.link_flights.proofs.Common.{Flight, in_units}
+use Rattle.link_flights.specs.Flights.Rated.{ArePartRated}
 use Rattle.link_flights.proofs.Flights.Alone.{none_there, none_given}
-use Rattle.link_flights.proofs.Flights.RatesGiven.{beside_given, still_given}
+use Rattle.link_flights.proofs.Flights.RatesGiven.{still_given}
 use Rattle.link_flights.proofs.Flights.Rerating.{first_finish_is}
 use Rattle.link_flights.proofs.Flights.Settled.{all_have_got}
 use Rattle.link_flights.proofs.flight_list.Flights.rate.Goals as goal
@@ -43,18 +43,10 @@ returns-then-is_empty-clause-finish g c =
 
 pub settle-requires-in-Some : goal.settle-requires-in-Some
 settle-requires-in-Some g c =
-    let cmp = g.P.Ord.cmp in
     let old = c.args.self.now in
-    let caps = caps_of cmp c.args.peers.now.entries c.args.pairs.now.entries in
-    let component = c.in_ok-touched.touched in
-    let mid = c.rate_touched.new.self in
-    let r = (subst (GivesBeside cmp caps component _ mid) c.in-Some.is c.in_ok-found.ensures.gives).0 in
-    let h =
-    beside_given cmp caps component _ mid r g.met.P.Ord.total
-    (looked_up cmp g.met.P.Ord.total c.args.peers.now.entries c.args.pairs.now.entries) c.args.done.now.items
-    c.in_ok-touched.ensures.closed c.in_ok-touched.ensures.loose (c.requires.before c.if-were_rated.true)
-    c.in_ok-touched.ensures.level
-    c.requires.updated in
+    let caps = caps_of g.P.Ord.cmp c.args.peers.now.entries c.args.pairs.now.entries in
+    let mid = c.rate_part.new.self in
+    let h = (subst (ArePartRated g.P.Ord.cmp caps old mid) c.in-Some.is c.in_ok-unsearched.ensures.given).0 in
     record { rated = all_have_got old.at h.times mid.at (in_units old) mid.list.items h.each }
 
 pub returns-in-Some-clause-rated : goal.returns-in-Some-clause-rated
@@ -62,18 +54,10 @@ returns-in-Some-clause-rated g c =
     let cmp = g.P.Ord.cmp in
     let old = c.args.self.now in
     let caps = caps_of cmp c.args.peers.now.entries c.args.pairs.now.entries in
-    let component = c.in_ok-touched.touched in
-    let mid = c.rate_touched.new.self in
-    let r = (subst (GivesBeside cmp caps component _ mid) c.in-Some.is c.in_ok-found.ensures.gives).0 in
-    let h =
-    beside_given cmp caps component _ mid r g.met.P.Ord.total
-    (looked_up cmp g.met.P.Ord.total c.args.peers.now.entries c.args.pairs.now.entries) c.args.done.now.items
-    c.in_ok-touched.ensures.closed c.in_ok-touched.ensures.loose (c.requires.before c.if-were_rated.true)
-    c.in_ok-touched.ensures.level
-    c.requires.updated in
+    let mid = c.rate_part.new.self in
+    let h = (subst (ArePartRated cmp caps old mid) c.in-Some.is c.in_ok-unsearched.ensures.given).0 in
     let e = c.settle-in-Some.ensures in
-    let last = c.settle-in-Some.new.self in
-    let k = still_given cmp caps _ mid last e.list e.scale e.at h in
+    let k = still_given cmp caps old mid c.settle-in-Some.new.self e.list e.scale e.at h in
     record {
       times = k.times;
       scale = k.scale;
@@ -88,18 +72,11 @@ returns-in-Some-clause-finish g c =
     let cmp = g.P.Ord.cmp in
     let old = c.args.self.now in
     let caps = caps_of cmp c.args.peers.now.entries c.args.pairs.now.entries in
-    let component = c.in_ok-touched.touched in
-    let mid = c.rate_touched.new.self in
-    let r = (subst (GivesBeside cmp caps component _ mid) c.in-Some.is c.in_ok-found.ensures.gives).0 in
-    let h =
-    beside_given cmp caps component _ mid r g.met.P.Ord.total
-    (looked_up cmp g.met.P.Ord.total c.args.peers.now.entries c.args.pairs.now.entries) c.args.done.now.items
-    c.in_ok-touched.ensures.closed c.in_ok-touched.ensures.loose (c.requires.before c.if-were_rated.true)
-    c.in_ok-touched.ensures.level
-    c.requires.updated in
+    let mid = c.rate_part.new.self in
+    let h = (subst (ArePartRated cmp caps old mid) c.in-Some.is c.in_ok-unsearched.ensures.given).0 in
     let e = c.settle-in-Some.ensures in
     let last = c.settle-in-Some.new.self in
-    let k = still_given cmp caps _ mid last e.list e.scale e.at h in
+    let k = still_given cmp caps old mid last e.list e.scale e.at h in
     let fits : IfSome c.settle-in-Some.result (λ t. t ≤ last_moment) = search rules in
-    let here : last.at ≤ last_moment = omega (arith, e.at, r.at, c.requires.moment) in
-    first_finish_is cmp caps _ last k c.requires.left here c.settle-in-Some.result e.finish fits
+    let here : last.at ≤ last_moment = omega (arith, e.at, h.at, c.requires.moment) in
+    first_finish_is cmp caps old last k c.requires.left here c.settle-in-Some.result e.finish fits

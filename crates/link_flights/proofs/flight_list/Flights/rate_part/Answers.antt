@@ -1,0 +1,37 @@
+use Rattle.link_flights.proofs.Common.{ap, subst, caps_of, looked_up}
+use Rattle.link_flights.specs.Flights.Rated.{GivesBeside}
+use Rattle.link_flights.proofs.Flights.RatesGiven.{beside_given}
+use Rattle.link_flights.proofs.flight_list.Flights.rate_part.Goals as goal
+
+pub returns-in-Some-clause-given : goal.returns-in-Some-clause-given
+returns-in-Some-clause-given g c =
+    let cmp = g.P.Ord.cmp in
+    let peers = c.args.peers.now.entries in
+    let pairs = c.args.pairs.now.entries in
+    let caps = caps_of cmp peers pairs in
+    let component = c.in_ok-touched.touched in
+    let mid = c.rate_touched.new.self in
+    let r = subst (GivesBeside cmp caps component _ mid) c.in-Some.is c.in_ok-found.ensures.gives in
+    let touched = c.in_ok-touched.ensures in
+    let h =
+    beside_given cmp caps component _ mid r.0 g.met.P.Ord.total (looked_up cmp g.met.P.Ord.total peers pairs)
+    c.args.done.now.items touched.closed touched.loose c.requires.before touched.level c.requires.updated in (
+      record {
+        times = h.times;
+        scale = h.scale;
+        at = h.at;
+        each = h.each;
+        fair = h.fair;
+        timed = h.timed;
+      },
+      r.1,
+    )
+
+pub returns-in-None-clause-given : goal.returns-in-None-clause-given
+returns-in-None-clause-given g c =
+    let cmp = g.P.Ord.cmp in
+    let caps = caps_of cmp c.args.peers.now.entries c.args.pairs.now.entries in
+    let same =
+    subst (GivesBeside cmp caps c.in_ok-touched.touched _ c.rate_touched.new.self) c.in-None.is
+    c.in_ok-found.ensures.gives in
+    (ap (λ f. f.list) same, ap (λ f. f.scale) same, ap (λ f. f.at) same)
