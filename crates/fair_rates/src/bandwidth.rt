@@ -24,7 +24,7 @@ use crate::peer::Peer;
 use crate::ratio::Ratio;
 pub use alone::parts_alone;
 pub use equality::rates_are_equal_by_value;
-pub use filling::fair_parts as fair_parts_on;
+pub use filling::{Room, fair_parts as fair_parts_on, fair_parts_in};
 pub use parts::FairParts;
 pub use sides::Side;
 use std::alloc::Global;

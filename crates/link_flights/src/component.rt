@@ -46,6 +46,9 @@ const FEW_LISTED: usize = 16;
 
 const LISTED_PART: usize = 16;
 
+/// Where more than so many have started since the last account, no level is looked for when all is touched.
+const FEW_NEW: usize = 4;
+
 /// The senders and the receivers of some messages, or all of them. A message in flight whose rate is
 /// below the level goes on as it is.
 pub(crate) struct Component<P> {
@@ -92,17 +95,18 @@ impl<P: Peer> Component<P> {
         })
     }
 
-    /// All senders and all receivers, and no level.
-    pub(crate) fn whole(alloc: Global) -> Component<P>
+    /// All senders and all receivers, and no level. Nothing is listed; the room for that is given.
+    pub(crate) fn whole(alloc: Global, mut near: Vec<usize>) -> Component<P>
         ensures whole { result.whole ≡ true }
         ensures level { result.level ≡ 0 }
         ensures near { result.near.items ≡ [] }
     {
+        near.clear();
         Component {
             whole: true,
             level: Natural::from_u64(alloc, 0),
             joined: Vec::new(alloc),
-            near: Vec::new(alloc),
+            near,
         }
     }
 
@@ -208,25 +212,6 @@ fn receives_any<P: Peer>(peer: &P, messages: &[Arc<Message<P>>]) -> bool
         .any(|message| peer.cmp(&message.recipient).is_eq())
 }
 
-/// How many go from the sender of a message, and how many to its receiver.
-#[derive(Drop)]
-struct Sharing {
-    sent: u64,
-    received: u64,
-}
-
-impl Sharing {
-    /// Counts one more, if it shares an end with the message.
-    fn count<P: Peer>(&mut self, message: &Message<P>, one: &Message<P>) {
-        if message.origin.cmp(&one.origin).is_eq() {
-            self.sent = self.sent.saturating_add(1);
-        }
-        if message.recipient.cmp(&one.recipient).is_eq() {
-            self.received = self.received.saturating_add(1);
-        }
-    }
-}
-
 /// The less of two levels. The first may be missing.
 fn lesser(one: Option<Natural>, other: Natural) -> Natural
     ensures no_more { IfSome one (λ level. result ≤ level) }
@@ -239,8 +224,8 @@ fn lesser(one: Option<Natural>, other: Natural) -> Natural
 }
 
 impl<P: Peer> Flights<P> {
-    /// The component of the messages that are done or loose, and of those that have got no rate yet. None
-    /// where it is large. What it has an end of is listed in room that is given.
+    /// The component of the messages that are done or loose, and of those that have got no rate yet, or all that is
+    /// in flight where it is large. What it has an end of is listed in room that is given.
     pub(crate) fn component(
         &self,
         done: &VecDeque<Arc<Message<P>>>,
@@ -248,41 +233,51 @@ impl<P: Peer> Flights<P> {
         pairs: &Pairs<P>,
         noted: &mut Vec<bool>,
         room: Vec<usize>,
-    ) -> Result<Option<Component<P>>, Error>
+    ) -> Result<Component<P>, Error>
         requires none { AreNoted [] noted.old.items }
         requires each { length noted.old.items ≡ length self.now.list.items }
-        ensures part { IfOk result (λ found. IfSome found (λ component. component.whole ≡ false)) }
-        ensures closed { IfOk result (λ found. IfSome found (λ component.
-            is_closed P.cmp component done.now.items (in_units self.now) ≡ true)) }
-        ensures loose { IfOk result (λ found. IfSome found (λ component.
-            All (λ m. has_both P.cmp component m ≡ true) self.now.loose)) }
-        ensures level { IfOk result (λ found. IfSome found (λ component.
-            IfSome self.now.floor (λ floor. component.level ≤ floor))) }
-        ensures near { IfOk result (λ found. IfSome found (λ component.
-            AreNear P.cmp component component.near.items self.now.list.items)) }
-        ensures suited { IfOk result (λ found. IfSome found (λ component.
-            AreSuited P.cmp component component.near.items self.now.list.items)) }
-        ensures noted { IfOk result (λ found. IfSome found (λ component.
-            AreNoted component.near.items noted.new.items)) }
+        ensures closed { IfOk result (λ component.
+            is_closed P.cmp component done.now.items (in_units self.now) ≡ true) }
+        ensures loose { IfOk result (λ component. All (λ m. has_both P.cmp component m ≡ true) self.now.loose) }
+        ensures level { IfOk result (λ component. IfSome self.now.floor (λ floor. component.level ≤ floor)) }
+        ensures near { IfOk result (λ component. component.whole ≡ false
+            → AreNear P.cmp component component.near.items self.now.list.items) }
+        ensures noted { IfOk result (λ component. AreNoted component.near.items noted.new.items) }
         ensures refused { IfErr result (λ e. e ≡ Error.OutOfMemory) }
     {
         let mut component = Component::new(self.alloc, room)?;
         self.join_touched(done, &mut component)?;
-        if !self.grow(&mut component, peers, pairs, noted)? {
-            return Ok(None);
+        if self.grow(&mut component, peers, pairs, noted)? {
+            return Ok(component);
         }
-        Ok(Some(component))
+        self.all_touched(peers, pairs, noted, component.into_near())
+    }
+
+    /// All that is in flight, from a level on where few are new. None is noted any more.
+    pub(crate) fn all_touched(
+        &self,
+        peers: &Peers<P>,
+        pairs: &Pairs<P>,
+        noted: &mut Vec<bool>,
+        room: Vec<usize>,
+    ) -> Result<Component<P>, Error>
+        ensures whole { IfOk result (λ all. all.whole ≡ true) }
+        ensures level { IfOk result (λ all. IfSome self.now.floor (λ floor. all.level ≤ floor)) }
+        ensures noted { IfOk result (λ all. AreNoted all.near.items noted.new.items) }
+        ensures refused { IfErr result (λ e. e ≡ Error.OutOfMemory) }
+    {
+        noted.clear();
+        let mut all = Component::whole(self.alloc, room);
+        if self.list.len() - self.settled <= FEW_NEW {
+            all.level = self.level(peers, pairs)?;
+        }
+        Ok(all)
     }
 
     /// A level below which what goes on keeps its rate: the least rate of what is done or loose, or the least
     /// share of a cap for what is new or loose, if that is less. It is no more than any of what is done had; the
     /// rest is a guess, which the rates that are found have to reach.
-    pub(crate) fn level(
-        &self,
-        component: &Component<P>,
-        peers: &Peers<P>,
-        pairs: &Pairs<P>,
-    ) -> Result<Natural, Error>
+    pub(crate) fn level(&self, peers: &Peers<P>, pairs: &Pairs<P>) -> Result<Natural, Error>
         ensures level { IfOk result (λ level. IfSome self.now.floor (λ floor. level ≤ floor)) }
         ensures refused { IfErr result (λ e. e ≡ Error.OutOfMemory) }
     {
@@ -291,11 +286,11 @@ impl<P: Peer> Flights<P> {
             None => None,
         };
         for at in self.settled..self.list.len() {
-            let share = self.share_of(&self.list.at(at).message, component, peers, pairs)?;
+            let share = self.share_of(&self.list.at(at).message, peers, pairs)?;
             level = Some(lesser(level, share));
         }
         for message in self.loose.as_slice() {
-            let share = self.share_of(message, component, peers, pairs)?;
+            let share = self.share_of(message, peers, pairs)?;
             level = Some(lesser(level, share));
         }
         Ok(level.unwrap_or(Natural::from_u64(self.alloc, 0)))
@@ -306,13 +301,13 @@ impl<P: Peer> Flights<P> {
     fn share_of(
         &self,
         message: &Message<P>,
-        component: &Component<P>,
         peers: &Peers<P>,
         pairs: &Pairs<P>,
     ) -> Result<Natural, Error>
         ensures refused { IfErr result (λ e. e ≡ Error.OutOfMemory) }
     {
-        let Sharing { sent, received } = self.count_sharing(message, component);
+        let sent = self.count_sharing(End::Origin, message);
+        let received = self.count_sharing(End::Recipient, message);
         if sent <= 1 && received <= 1 {
             return Ok(Natural::from_u64(self.alloc, 0));
         }
@@ -325,24 +320,15 @@ impl<P: Peer> Flights<P> {
         Ok(least_part(share, link).unwrap_or(Natural::from_u64(self.alloc, 0)))
     }
 
-    /// How many in flight share an end with the message. They are listed, or the component has all.
-    fn count_sharing(&self, message: &Message<P>, component: &Component<P>) -> Sharing {
-        let mut sharing = Sharing {
-            sent: 0,
-            received: 0,
-        };
-        if component.whole {
-            for at in 0..self.list.len() {
-                sharing.count(message, &self.list.at(at).message);
-            }
-        } else {
-            for at in &component.near {
-                if let Some(one) = self.list.get(*at) {
-                    sharing.count(message, &one.message);
-                }
-            }
+    /// How many in flight share that end with the message.
+    fn count_sharing(&self, end: End, message: &Message<P>) -> u64 {
+        let mut count: u64 = 0;
+        let mut next = self.list.first_at(end, message);
+        while let Some(at) = next {
+            count = count.saturating_add(1);
+            next = self.list.next_at(end, at);
         }
-        sharing
+        count
     }
 
     /// One of so many even parts of a cap, rounded down, in units. None where there is no cap.
@@ -410,7 +396,7 @@ impl<P: Peer> Flights<P> {
             return Ok(false);
         }
         self.list_joined(component, noted)?;
-        component.level = self.level(component, peers, pairs)?;
+        component.level = self.level(peers, pairs)?;
         let mut next = component.joined.len();
         if !self.join_near(component)? {
             return Ok(false);

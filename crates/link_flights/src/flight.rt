@@ -2,8 +2,6 @@
 ghost use Rattle.std.specs.Int.{IsGcd};
 ghost use Rattle.std.specs.Prelude.{◌≡◌, ◌≢◌, ◌*◌, ◌/◌, ◌<◌, ◌==◌, IfOk, IfErr, OnOk, true, false, not, nat_le};
 ghost use Rattle.fair_rates.specs.Fairness.Exists.{product};
-ghost use Rattle.link_flights.specs.Flights.Flight.{left_by, flight_at, has_come, IsTimed, IsFinishOf};
-ghost use Rattle.link_flights.specs.Flights.LargerUnits.{IsFactorOf, IsCountedBy};
 ghost use Prim.Native.Nat.{◌∣◌};
 
 use fair_rates::error::Error;
@@ -16,6 +14,9 @@ use std::sync::Arc;
 /// messages in flight share.
 pub(crate) struct Flight<P> {
     pub(crate) message: Arc<Message<P>>,
+    /// As its message has it, at hand.
+    pub(crate) should_deliver: bool,
+    ghost as_sent: { should_deliver ≡ message.value.should_deliver },
     /// Whether an account has given it a rate since its start.
     pub(crate) rated: bool,
     /// The moment from which on nothing is left, if there is one up to the last moment.
@@ -35,6 +36,7 @@ impl<P: Drop> Drop for Flight<P> {
     fn drop(self) {
         let Flight {
             message,
+            should_deliver: _,
             rated: _,
             finish: _,
             since: _,
@@ -49,6 +51,9 @@ impl<P: Drop> Drop for Flight<P> {
 }
 
 impl<P: Peer> Flight<P> {
+    ghost use Rattle.link_flights.specs.Flights.Flight.{left_by, flight_at, has_come, IsTimed, IsFinishOf};
+    ghost use Rattle.link_flights.specs.Flights.LargerUnits.{IsFactorOf, IsCountedBy};
+
     /// Whether nothing is left at that moment.
     pub(crate) fn is_spent_at(&self, now: u64) -> bool
         ensures { result ≡ (left_by now self.now == 0) }
@@ -109,6 +114,7 @@ impl<P: Peer> Flight<P> {
         Ok(Flight {
             id: self.id,
             message: self.message.clone()?,
+            should_deliver: self.should_deliver,
             left: self.left_at(at)?,
             rate: self.rate.clone()?,
             since: now,
@@ -145,10 +151,11 @@ impl<P: Peer> Flight<P> {
     {
         let mut left = self.left_at(now)?;
         grow(&mut left, growth)?;
-        let finish = finish_of(&left, rate, now);
+        let finish = Self::finish_of(&left, rate, now);
         Ok(Flight {
             id: self.id,
             message: self.message.clone()?,
+            should_deliver: self.should_deliver,
             left,
             rate: rate.clone()?,
             since: now,
@@ -180,12 +187,23 @@ impl<P: Peer> Flight<P> {
         Ok(Flight {
             id: self.id,
             message: self.message.clone()?,
+            should_deliver: self.should_deliver,
             left,
             rate,
             since: self.since,
             finish: self.finish,
             rated: self.rated,
         })
+    }
+
+    /// The moment from which on nothing is left, up to the last moment, if so much drains from `now` on
+    /// at that rate.
+    fn finish_of(left: &Natural, rate: &Natural, now: u64) -> Option<u64>
+        requires { left.now ≢ 0 }
+        ensures { IsFinishOf left.now rate.now now result }
+    {
+        let time = left.least_multiple(rate)?;
+        now.checked_add(time)
     }
 }
 
@@ -214,14 +232,4 @@ pub(crate) fn grow(units: &mut Natural, growth: &[u64]) -> Result<(), Error>
         units.multiply(*factor)?;
     }
     Ok(())
-}
-
-/// The moment from which on nothing is left, up to the last moment, if so much drains from `now` on
-/// at that rate.
-fn finish_of(left: &Natural, rate: &Natural, now: u64) -> Option<u64>
-    requires { left.now ≢ 0 }
-    ensures { IsFinishOf left.now rate.now now result }
-{
-    let time = left.least_multiple(rate)?;
-    now.checked_add(time)
 }

@@ -157,9 +157,11 @@ impl<P: Peer> Flights<P> {
     {
         let units = message.bytes.len() as u128 * UNITS_A_BYTE;
         let left = self.scale.product(units)?;
+        let should_deliver = message.should_deliver;
         let flight = Flight {
             id,
             message,
+            should_deliver,
             left,
             rate: Natural::from_u64(self.alloc, 0),
             since: now,

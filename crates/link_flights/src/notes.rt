@@ -3,6 +3,7 @@ ghost use Rattle.std.specs.Prelude.{◌≡◌, [], length, All, IfOk, IfErr};
 ghost use Rattle.link_flights.specs.Flights.Components.{AreNoted};
 
 use crate::numbers::Numbers;
+use fair_rates::bandwidth::{Room, Side};
 use fair_rates::error::Error;
 use std::alloc::Global;
 use std::marker::Model;
@@ -36,6 +37,10 @@ pub(crate) struct Rooms {
     pub(crate) users: Vec<usize>,
     /// For whether each that is rated has a side.
     pub(crate) has_side: Vec<bool>,
+    /// For sides.
+    pub(crate) sides: Vec<Side>,
+    /// For filling.
+    pub(crate) filling: Room,
 }
 
 impl Drop for Rooms {
@@ -47,11 +52,15 @@ impl Drop for Rooms {
             numbers,
             users,
             has_side,
+            sides,
+            filling,
         } = self;
         drop(places);
         drop(numbers);
         drop(users);
         drop(has_side);
+        drop(sides);
+        drop(filling);
     }
 }
 
@@ -63,6 +72,8 @@ impl Rooms {
             numbers: Vec::new(alloc),
             users: Vec::new(alloc),
             has_side: Vec::new(alloc),
+            sides: Vec::new(alloc),
+            filling: Room::new(alloc),
         }
     }
 

@@ -26,7 +26,7 @@ use crate::flight_list::Flights;
 use crate::loose::Loose;
 use crate::notes::Rooms;
 use crate::numbers::Numbers;
-use fair_rates::bandwidth::{FairParts, FlowCaps, fair_parts_on, parts_alone};
+use fair_rates::bandwidth::{FairParts, FlowCaps, fair_parts_in, parts_alone};
 use fair_rates::error::Error;
 use fair_rates::peer::Peer;
 use link_pairs::known_pairs::Pairs;
@@ -43,9 +43,6 @@ const SPARED: usize = 3;
 
 /// No search is spared where less than this part of all in flight was rated anew.
 const PART: usize = 4;
-
-/// Where more than so many have started since the last account, no level is looked for.
-const FEW_NEW: usize = 4;
 
 /// Where so many are in flight, or more, and all were touched, a search would mostly join too much.
 const MANY: usize = 56;
@@ -212,29 +209,25 @@ impl<P: Peer> Flights<P> {
         ensures before { self.new.list.before ≡ self.old.list.before }
         ensures refused { IfErr result (λ e. e ≡ Error.OutOfMemory) }
     {
-        let all = Component::whole(self.alloc);
+        let all = Component::whole(self.alloc, Vec::new(self.alloc));
         let mut rooms = self.notes.take_rooms(self.alloc);
-        let list = mem::replace(&mut rooms.places, Vec::new(self.alloc));
-        let places = self.places_rated(&all, list)?;
-        let lent = mem::replace(&mut rooms.numbers, Vec::new(self.alloc));
-        let numbers = Numbers::of(places, lent, self.list.len())?;
-        let rates = self.rates_at(&all, &numbers, peers, pairs, &mut rooms.has_side)?;
-        let (places, room) = numbers.into_parts();
-        rooms.numbers = room;
+        let numbers = self.numbers_rated(&all, &mut rooms)?;
+        let rates = self.rates_at(&all, &numbers, peers, pairs, &mut rooms)?;
         let mut scale = self.scale.clone()?;
         grow(&mut scale, &rates.growth)?;
         self.set_rates(
             &all,
-            &places,
+            numbers.places(),
             &rates.levels,
             &rates.level_of,
             &rates.growth,
             were_timed,
         )?;
-        rooms.places = places;
-        self.notes.keep_rooms(rooms);
         self.scale = scale;
         self.stood = stood_after(self.stood, &rates.growth);
+        rooms.keep(numbers);
+        rooms.filling.keep(rates);
+        self.notes.keep_rooms(rooms);
         let unsearched = self.spared_after(true, 0);
         Ok(self.settle(unsearched))
     }
@@ -280,31 +273,69 @@ impl<P: Peer> Flights<P> {
         ensures before { self.new.list.before ≡ self.old.list.before }
         ensures refused { IfErr result (λ e. e ≡ Error.OutOfMemory) }
     {
-        let list = mem::replace(&mut rooms.places, Vec::new(self.alloc));
-        let places = self.places_rated(touched, list)?;
-        if places.is_empty() {
-            rooms.places = places;
-            self.rated_anew = 0;
-            return Ok(Some(0));
+        let numbers = self.numbers_rated(touched, rooms)?;
+        let found = self.rate_numbered(touched, &numbers, peers, pairs, rooms);
+        rooms.keep(numbers);
+        found
+    }
+
+    /// The same for those that are rated, which have numbers.
+    fn rate_numbered(
+        &mut self,
+        touched: &Component<P>,
+        numbers: &Numbers,
+        peers: &Peers<P>,
+        pairs: &Pairs<P>,
+        rooms: &mut Rooms,
+    ) -> Result<Option<usize>, Error>
+        requires places { numbers.now ≡ places_of (λ f. is_of P.cmp touched.now (flight_at 0 f)) 0 self.old.list.items }
+        requires suited { list_all (suits P.cmp touched.now) (in_units self.old) ≡ true }
+        requires left { All (λ u. u.left ≢ 0) (in_units self.old) }
+        requires timed { AreTimed self.old.list.items }
+        requires one_each { OneForEachPair P.cmp (sent_messages (in_units self.old)) }
+        ensures gives { IfOk result (GivesBeside P.cmp (caps_of P.cmp peers.now.entries pairs.now.entries)
+            touched.now self.old self.new) }
+        ensures before { self.new.list.before ≡ self.old.list.before }
+        ensures refused { IfErr result (λ e. e ≡ Error.OutOfMemory) }
+    {
+        match *numbers.places() {
+            [] => {
+                self.rated_anew = 0;
+                Ok(Some(0))
+            }
+            [only] => self.rate_only(touched, only, numbers, peers, pairs, &mut rooms.users),
+            _ => self.rate_some(touched, numbers, peers, pairs, rooms),
         }
-        let lent = mem::replace(&mut rooms.numbers, Vec::new(self.alloc));
-        let numbers = Numbers::of(places, lent, self.list.len())?;
-        if let [only] = *numbers.places() {
-            let users = &mut rooms.users;
-            let found = self.rate_only(touched, only, &numbers, peers, pairs, users);
-            rooms.keep(numbers);
-            return found;
-        }
-        let part = self.rates_at(touched, &numbers, peers, pairs, &mut rooms.has_side)?;
+    }
+
+    /// The same for several.
+    fn rate_some(
+        &mut self,
+        touched: &Component<P>,
+        numbers: &Numbers,
+        peers: &Peers<P>,
+        pairs: &Pairs<P>,
+        rooms: &mut Rooms,
+    ) -> Result<Option<usize>, Error>
+        requires places { numbers.now ≡ places_of (λ f. is_of P.cmp touched.now (flight_at 0 f)) 0 self.old.list.items }
+        requires suited { list_all (suits P.cmp touched.now) (in_units self.old) ≡ true }
+        requires left { All (λ u. u.left ≢ 0) (in_units self.old) }
+        requires timed { AreTimed self.old.list.items }
+        requires one_each { OneForEachPair P.cmp (sent_messages (in_units self.old)) }
+        ensures gives { IfOk result (GivesBeside P.cmp (caps_of P.cmp peers.now.entries pairs.now.entries)
+            touched.now self.old self.new) }
+        ensures before { self.new.list.before ≡ self.old.list.before }
+        ensures refused { IfErr result (λ e. e ≡ Error.OutOfMemory) }
+    {
+        let part = self.rates_at(touched, numbers, peers, pairs, rooms)?;
         if !part.growth.is_empty() || !all_reach(&part, &touched.level) {
-            rooms.keep(numbers);
+            rooms.filling.keep(part);
             return Ok(None);
         }
         let places = numbers.places();
         self.set_rates(touched, places, &part.levels, &part.level_of, &[], true)?;
-        let found = places.len();
-        rooms.keep(numbers);
-        Ok(Some(found))
+        rooms.filling.keep(part);
+        Ok(Some(places.len()))
     }
 
     /// The same where only the one at that place is touched and rated anew. What the others leave of its caps is whole
@@ -374,17 +405,10 @@ impl<P: Peer> Flights<P> {
         ensures noted { IfOk result (λ touched. AreNoted touched.near.items noted.new.items) }
         ensures refused { IfErr result (λ e. e ≡ Error.OutOfMemory) }
     {
-        if self.unsearched == 0 {
-            if let Some(component) = self.component(done, peers, pairs, noted, near)? {
-                return Ok(component);
-            }
+        if self.unsearched > 0 {
+            return self.all_touched(peers, pairs, noted, near);
         }
-        noted.clear();
-        let mut all = Component::whole(self.alloc);
-        if self.list.len() - self.settled <= FEW_NEW {
-            all.level = self.level(&all, peers, pairs)?;
-        }
-        Ok(all)
+        self.component(done, peers, pairs, noted, near)
     }
 
     /// How many accounts more are made without a search, after one at which all were touched or a
@@ -439,15 +463,30 @@ impl<P: Peer> Flights<P> {
         Ok(places)
     }
 
+    /// Those of the component that are rated anew have numbers, in room that is lent.
+    fn numbers_rated(&self, component: &Component<P>, rooms: &mut Rooms) -> Result<Numbers, Error>
+        requires near { component.now.whole ≡ false
+            → AreNear P.cmp component.now component.now.near.items self.now.list.items }
+        requires suited { list_all (suits P.cmp component.now) (in_units self.now) ≡ true }
+        ensures places { IfOk result (λ numbers. numbers
+            ≡ places_of (λ f. is_of P.cmp component.now (flight_at 0 f)) 0 self.now.list.items) }
+        ensures refused { IfErr result (λ e. e ≡ Error.OutOfMemory) }
+    {
+        let list = mem::replace(&mut rooms.places, Vec::new(self.alloc));
+        let places = self.places_rated(component, list)?;
+        let lent = mem::replace(&mut rooms.numbers, Vec::new(self.alloc));
+        Numbers::of(places, lent, self.list.len())
+    }
+
     /// The fair rates of those of the component that are rated anew, at these places, under what the others leave
-    /// of the caps. Who has a side is noted in room that is lent.
+    /// of the caps. They are found in room that is lent.
     fn rates_at(
         &self,
         component: &Component<P>,
         numbers: &Numbers,
         peers: &Peers<P>,
         pairs: &Pairs<P>,
-        has_side: &mut Vec<bool>,
+        rooms: &mut Rooms,
     ) -> Result<FairParts, Error>
         requires places { numbers.now ≡ places_of (λ f. is_of P.cmp component.now (flight_at 0 f)) 0 self.now.list.items }
         requires suited { list_all (suits P.cmp component.now) (in_units self.now) ≡ true }
@@ -456,8 +495,13 @@ impl<P: Peer> Flights<P> {
             self.now.scale component.now (in_units self.now)) }
         ensures refused { IfErr result (λ e. e ≡ Error.OutOfMemory) }
     {
-        let sides = self.sides_of(component, numbers, peers, pairs, has_side)?;
-        Ok(fair_parts_on(self.alloc, numbers.places().len(), sides)?)
+        let list = mem::replace(&mut rooms.sides, Vec::new(self.alloc));
+        let mut sides =
+            self.sides_of(component, numbers, peers, pairs, &mut rooms.has_side, list)?;
+        let count = numbers.places().len();
+        let found = fair_parts_in(self.alloc, &mut rooms.filling, count, &mut sides)?;
+        rooms.sides = sides;
+        Ok(found)
     }
 
     /// Gives those at these places, of a component, the rates of their levels from the last account on. What is left

@@ -3,7 +3,7 @@
 //! A side is found by its chain, from one of its users on: the others there that are rated anew use it, too, and
 //! what all others take, which keep their rates, is taken from its cap.
 ghost use Rattle.std.specs.Prelude.{◌≡◌, ◌<◌, ◌*◌, ℕ, ◌+◌, ◌∷◌, [], true, cond, None, Some, ◌⊎◌};
-ghost use Rattle.std.specs.Prelude.{All, AllPairs, Contains, IfOk, IfErr, IfSome, OnOk, List, length, map, slice_get};
+ghost use Rattle.std.specs.Prelude.{All, AllPairs, Contains, IfOk, IfErr, IfSome, OnOk, List, length, map, slice_get, slice_index_or};
 ghost use Rattle.std.specs.Prelude.{false, replicate};
 ghost use Rattle.std.specs.List.{list_all};
 ghost use Rattle.fair_rates.specs.Fairness.UnderCaps.{cap_of};
@@ -36,20 +36,6 @@ use link_pairs::message::Message;
 use link_pairs::peers::Peers;
 use natural::Natural;
 use std::mem;
-
-/// For so many sides there is room at first. Where more are rated, they mostly share sides.
-const FEW_SIDES: usize = 64;
-
-/// Whether the message uses what there is of a cap at that end: what is dropped takes nothing of what its recipient
-/// may receive.
-fn uses<P: Peer>(end: End, message: &Message<P>) -> bool
-    ensures { result ≡ uses_end P.cmp end message.now }
-{
-    match end {
-        End::Origin => true,
-        End::Recipient => message.is_delivered(),
-    }
-}
 
 /// The cap at that end of the message.
 fn cap_at<P: Peer>(end: End, message: &Message<P>, peers: &Peers<P>) -> Option<u128>
@@ -97,7 +83,8 @@ fn least(one: Option<Natural>, other: Option<Natural>) -> Option<Natural>
 
 impl<P: Peer> Flights<P> {
     /// The sides of those of the component that are rated anew, at these places, with what the others leave of their
-    /// caps, in units. A user is a number among these. Who has a side is noted in room that is lent.
+    /// caps, in units. A user is a number among these. Who has a side is noted in room that is lent, and they are
+    /// listed in room that is given.
     pub(crate) fn sides_of(
         &self,
         component: &Component<P>,
@@ -105,6 +92,7 @@ impl<P: Peer> Flights<P> {
         peers: &Peers<P>,
         pairs: &Pairs<P>,
         has_side: &mut Vec<bool>,
+        mut sides: Vec<Side>,
     ) -> Result<Vec<Side>, Error>
         requires places { numbers.now ≡ places_of (λ f. is_of P.cmp component.now (flight_at 0 f)) 0 self.now.list.items }
         requires suited { list_all (suits P.cmp component.now) (in_units self.now) ≡ true }
@@ -114,8 +102,7 @@ impl<P: Peer> Flights<P> {
             (in_units self.now)) (flows_of P.cmp component.now (in_units self.now)) (map side_of sides.items)) }
         ensures refused { IfErr result (λ e. e ≡ Error.OutOfMemory) }
     {
-        let places = numbers.places();
-        let mut sides = Vec::with_capacity(self.alloc, FEW_SIDES.min(2 * places.len()))?;
+        sides.clear();
         self.add_sides(End::Origin, component, numbers, peers, has_side, &mut sides)?;
         self.add_sides(
             End::Recipient,
@@ -125,7 +112,7 @@ impl<P: Peer> Flights<P> {
             has_side,
             &mut sides,
         )?;
-        self.add_links(places, pairs, &mut sides)?;
+        self.add_links(numbers.places(), pairs, &mut sides)?;
         Ok(sides)
     }
 
@@ -231,6 +218,20 @@ impl<P: Peer> Flights<P> {
         Ok(())
     }
 
+    /// Whether the one at that place uses what there is of a cap at that end: what is dropped takes nothing of what its
+    /// recipient may receive.
+    #[inline(always)]
+    fn uses(&self, end: End, at: usize) -> bool
+        requires { at < length self.now.list.items }
+        ensures { (d : AnyFlight P)
+            → result ≡ uses_end P.cmp end (slice_index_or self.now.list.items at d).message.value }
+    {
+        match end {
+            End::Origin => true,
+            End::Recipient => self.list.is_delivered(at),
+        }
+    }
+
     /// The side at one end of the one at that place, which is rated anew, if it uses one. It takes the room for its
     /// users.
     fn side_at(
@@ -257,10 +258,10 @@ impl<P: Peer> Flights<P> {
             → cap_of (caps_of P.cmp peers.now.entries pairs) (end_subject end (flow_sent P.cmp one.message.value)) ≡ None) }
         ensures refused { IfErr result (λ e. e ≡ Error.OutOfMemory) }
     {
-        let message = &self.list.at(at).message;
-        if !uses(end, message) {
+        if !self.uses(end, at) {
             return Ok(None);
         }
+        let message = &self.list.at(at).message;
         let Some(cap) = cap_at(end, message, peers) else {
             return Ok(None);
         };
@@ -298,15 +299,14 @@ impl<P: Peer> Flights<P> {
             (side_of side.new)) }
         ensures refused { IfErr result (λ e. e ≡ Error.OutOfMemory) }
     {
-        let one = self.list.at(at);
-        if !uses(end, &one.message) {
+        if !self.uses(end, at) {
             return Ok(());
         }
         if let Some(number) = numbers.number(at) {
             side.users.push(number)?;
             return Ok(());
         }
-        side.cap.subtract(&one.rate);
+        side.cap.subtract(&self.list.at(at).rate);
         Ok(())
     }
 

@@ -4,6 +4,8 @@ ghost use Rattle.std.specs.Prelude.{slice_get, slice_set, slice_index_or, option
 ghost use Rattle.std.specs.List.{remove, list_any};
 ghost use Rattle.link_flights.specs.declared.flight.Flight.{Flight as AnyFlight};
 ghost use Rattle.fair_rates.specs.Sides.Subjects.{same_peer};
+ghost use Rattle.link_simulation.specs.Simulation.Messages.{is_delivered};
+ghost use Rattle.link_pairs.specs.Pairs.Messages.{message_of};
 ghost use Rattle.link_flights.specs.Flights.Flight.{has_come};
 ghost use Rattle.link_flights.specs.Flights.InFlight.{IsNextPlace};
 ghost use Rattle.link_flights.specs.Flights.Table.{share};
@@ -156,6 +158,17 @@ impl<P: Peer> Table<P> {
     {
         let row = self.rows.at(at);
         (row.sender, row.receiver)
+    }
+
+    /// Whether the one at that place is delivered. Its row tells, so its message is not looked at.
+    #[inline(always)]
+    pub(crate) fn is_delivered(&self, at: usize) -> bool
+        requires { at < length self.now.items }
+        ensures { (d : AnyFlight P)
+            → result ≡ is_delivered P.cmp (message_of (slice_index_or self.now.items at d).message.value) }
+    {
+        let row = self.rows.at(at);
+        row.item.should_deliver && row.sender != row.receiver
     }
 
     /// One more is in flight, behind all others.

@@ -26,14 +26,50 @@ use share::whole_share;
 use std::alloc::{AllocError, Global};
 use std::cmp::Reverse;
 use std::collections::BinaryHeap;
+use std::mem;
 
-/// The sides that have users, before any is frozen, in their order.
-fn open_list(alloc: Global, sides: Vec<Side>) -> Result<Vec<Reverse<OpenSide>>, AllocError>
-    ensures opened { IfOk result (λ opens. AreOpened sides.items opens.items) }
-    ensures count { IfOk result (λ opens. length opens.items ≤ length sides.items) }
+/// Lists that filling needs, kept from one filling to the next. What they hold says nothing.
+pub struct Room {
+    opens: Vec<Reverse<OpenSide>>,
+    found: FairParts,
+}
+
+impl Drop for Room {
+    /// Lets go of its lists.
+    #[inline(always)]
+    fn drop(self) {
+        let Room { opens, found } = self;
+        drop(opens);
+        drop(found);
+    }
+}
+
+impl Room {
+    /// No room yet.
+    pub fn new(alloc: Global) -> Room {
+        Room {
+            opens: Vec::new(alloc),
+            found: FairParts::none(alloc),
+        }
+    }
+
+    /// The lists of what was found are kept, once it is not needed any more.
+    pub fn keep(&mut self, found: FairParts) {
+        self.found = found;
+    }
+}
+
+/// The sides that have users, before any is frozen, in their order. They are listed in room that is given.
+fn open_list(
+    mut opens: Vec<Reverse<OpenSide>>,
+    sides: &mut Vec<Side>,
+) -> Result<Vec<Reverse<OpenSide>>, AllocError>
+    ensures opened { IfOk result (λ opens. AreOpened sides.old.items opens.items) }
+    ensures count { IfOk result (λ opens. length opens.items ≤ length sides.old.items) }
 {
-    let mut opens = Vec::with_capacity(alloc, sides.len())?;
-    for side in sides {
+    opens.clear();
+    opens.reserve(sides.len())?;
+    for side in sides.drain(..) {
         let Side {
             cap: slack,
             users: rising,
@@ -46,12 +82,15 @@ fn open_list(alloc: Global, sides: Vec<Side>) -> Result<Vec<Reverse<OpenSide>>, 
 }
 
 /// The same by their shares.
-fn open_sides(alloc: Global, sides: Vec<Side>) -> Result<BinaryHeap<Reverse<OpenSide>>, AllocError>
-    ensures opened { IfOk result (λ queue. AreOpened sides.items (heap_items queue)) }
+fn open_sides(
+    opens: Vec<Reverse<OpenSide>>,
+    sides: &mut Vec<Side>,
+) -> Result<BinaryHeap<Reverse<OpenSide>>, AllocError>
+    ensures opened { IfOk result (λ queue. AreOpened sides.old.items (heap_items queue)) }
     ensures order { IfOk result (λ queue. IsHeap queue_cmp (heap_items queue)) }
-    ensures count { IfOk result (λ queue. heap_len queue ≤ length sides.items) }
+    ensures count { IfOk result (λ queue. heap_len queue ≤ length sides.old.items) }
 {
-    Ok(BinaryHeap::from(open_list(alloc, sides)?))
+    Ok(BinaryHeap::from(open_list(opens, sides)?))
 }
 
 /// Takes out the side with the least share, once all its frozen users are counted.
@@ -116,12 +155,31 @@ fn grown_sides(
 /// # Errors
 ///
 /// `AllocError` where memory was refused.
-pub fn fair_parts(alloc: Global, count: usize, sides: Vec<Side>) -> Result<FairParts, AllocError>
+pub fn fair_parts(alloc: Global, count: usize, mut sides: Vec<Side>) -> Result<FairParts, AllocError>
     requires users { All (λ side. All (λ flow. flow < count) side.users.items) sides.items }
     ensures { IfOk result (λ found. AreFilled (map side_of sides.items) count found) }
 {
-    let mut queue = open_sides(alloc, sides)?;
-    let mut found = FairParts::new(alloc, count)?;
+    fair_parts_in(alloc, &mut Room::new(alloc), count, &mut sides)
+}
+
+/// As [`fair_parts`], in room that is kept from call to call. The sides are taken out of their list.
+///
+/// # Errors
+///
+/// `AllocError` where memory was refused.
+pub fn fair_parts_in(
+    alloc: Global,
+    room: &mut Room,
+    count: usize,
+    sides: &mut Vec<Side>,
+) -> Result<FairParts, AllocError>
+    requires users { All (λ side. All (λ flow. flow < count) side.users.items) sides.old.items }
+    ensures { IfOk result (λ found. AreFilled (map side_of sides.old.items) count found) }
+{
+    let opens = mem::replace(&mut room.opens, Vec::new(alloc));
+    let before = mem::replace(&mut room.found, FairParts::none(alloc));
+    let mut queue = open_sides(opens, sides)?;
+    let mut found = before.anew(alloc, count)?;
     while let Some(side) = next_side(&mut queue, &found.levels, &found.level_of)? {
         let OpenSide { slack, rising, .. } = side;
         let share = whole_share(alloc, slack, rising.len() as u64)?;
@@ -129,5 +187,6 @@ pub fn fair_parts(alloc: Global, count: usize, sides: Vec<Side>) -> Result<FairP
         queue = grown_sides(alloc, queue, share.factor)?;
         found.freeze(&rising, share.parts)?;
     }
+    room.opens = queue.into_vec();
     Ok(found)
 }

@@ -29,18 +29,39 @@ pub struct FairParts {
 }
 
 impl FairParts {
-    /// No flow has a level, and a part is a unit of the caps.
-    pub(crate) fn new(alloc: Global, count: usize) -> Result<FairParts, AllocError>
+    /// No flow.
+    pub(crate) fn none(alloc: Global) -> FairParts {
+        FairParts {
+            scale: Natural::from_u64(alloc, 1),
+            growth: Vec::new(alloc),
+            levels: Vec::new(alloc),
+            level_of: Vec::new(alloc),
+        }
+    }
+
+    /// So many flows, of which none has a level, and a part is a unit of the caps. The lists take the room of these.
+    pub(crate) fn anew(self, alloc: Global, count: usize) -> Result<FairParts, AllocError>
         ensures scale { IfOk result (λ found. found.scale ≡ 1) }
         ensures growth { IfOk result (λ found. found.growth.items ≡ []) }
         ensures levels { IfOk result (λ found. found.levels.items ≡ []) }
         ensures level_of { IfOk result (λ found. found.level_of.items ≡ replicate count None) }
     {
+        let FairParts {
+            scale,
+            mut growth,
+            mut levels,
+            mut level_of,
+        } = self;
+        drop(scale);
+        growth.clear();
+        levels.clear();
+        level_of.clear();
+        level_of.resize(count, None)?;
         Ok(FairParts {
             scale: Natural::from_u64(alloc, 1),
-            growth: Vec::new(alloc),
-            levels: Vec::new(alloc),
-            level_of: vec![in alloc; None; count]?,
+            growth,
+            levels,
+            level_of,
         })
     }
 

@@ -13,11 +13,16 @@ use Rattle.std.proofs.lemmas.List.{take-map, drop-map}
 use Rattle.std.proofs.lemmas.List.Elements.{All-head, All-tail, All-drop}
 use Rattle.std.proofs.lemmas.List.Folds.{list_any_none}
 use Rattle.peer_numbers.specs.Peers.{IsWithPeer}
+use Rattle.std.specs.Prelude.{not}
+use Rattle.std.proofs.lemmas.Option.{same_Some}
+use Rattle.std.proofs.lemmas.Cmp.{eq_by_cmp_equiv}
 use Rattle.peer_numbers.proofs.Peers.{same_number, other_peer}
 use Rattle.row_table.specs.Rows.{Versions, IsNext, passes, is_sent_by, is_received_by}
 use Rattle.row_table.specs.Rows.{has_come as row_has_come}
 use Rattle.row_table.specs.declared.row.Row.{Row}
 use Rattle.link_pairs.specs.declared.message.Message.{Message}
+use Rattle.link_pairs.specs.Pairs.Messages.{message_of}
+use Rattle.link_simulation.specs.Simulation.Messages.{is_delivered}
 use Rattle.link_flights.specs.Flights.Rows.{line_of}
 
 -- ---- rows and their items
@@ -306,6 +311,25 @@ module _ {P : Type 0} (given_up : Bool) (rows : Versions (Flight P)) (line : Lin
         (subst
         (λ (one : Flight P). IsNextPlace (is_sharing end one.message.value) (items_of rows.now) (suc at) next)
         (sym (here.0.item_or d)) found))
+
+    -- whether one is delivered, as its row tells
+    pub row_delivered : (at : ℕ) → at < length line.items → (row : Row (Flight P)) → slice_get rows.now at ≡ Some row
+        → (d : Flight P) → (row.item.should_deliver && not (eqb row.sender row.receiver))
+        ≡ is_delivered cmp (message_of (get_or line.items at d).message.value)
+    row_delivered at low row got d =
+        let here = row_seen at low in
+        let r = of_row (IsRow cmp peers) rows.now at here.1 here.0 all in
+        let m = here.0.row.item.message.value in
+        let item : get_or line.items at d ≡ here.0.row.item =
+        ap (λ items. get_or items at d) (sym (kept (not_given_up at low))) ∙ here.0.item_or d in
+        let told : (here.0.row.item.should_deliver && not (eqb here.0.row.sender here.0.row.receiver))
+        ≡ is_delivered cmp (message_of m) =
+        ap₂ (λ a b. a && not b) here.0.row.item.as_sent
+        (same_number cmp total peers m.recipient m.origin here.0.row.receiver here.0.row.sender r.receiver r.sender
+        ∙ (eq_by_cmp_equiv total).symm m.recipient m.origin) in
+        ap (λ (it : Row (Flight P)). it.item.should_deliver && not (eqb it.sender it.receiver))
+        (same_Some row here.0.row (sym got ∙ here.0.get))
+        ∙ told ∙ ap (λ (one : Flight P). is_delivered cmp (message_of one.message.value)) (sym item)
 
 -- ---- rows that come, change and leave
 

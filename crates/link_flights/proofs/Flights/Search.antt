@@ -76,6 +76,19 @@ abbrev pub behind : {X : Type 0} → List X → Option ℕ → ℕ
 behind xs None = 0
 behind xs (Some at) = length xs - at
 
+-- what comes next stands in the list
+pub next_is_inside : {X : Type 0} (test : X → Bool) (xs : List X) (from : ℕ) (next : Option ℕ)
+    → IsNextPlace test xs from next → IfSome next (λ at. at < length xs)
+next_is_inside test xs from None is = tt
+next_is_inside test xs from (Some at) is = is.high
+
+-- and fewer stand there and behind it
+pub fewer_ahead : {X : Type 0} (test : X → Bool) (xs : List X) (at : ℕ) (next following : Option ℕ) → next ≡ Some at
+    → at < length xs → IsNextPlace test xs (at + 1) following → behind xs following < behind xs next
+fewer_ahead test xs at next None is within ahead = omega (arith, within, ap (behind xs) is)
+fewer_ahead test xs at next (Some to) is within ahead =
+    omega (arith, within, ap (behind xs) is, ahead.low, ahead.high)
+
 module _ {P : Type 0} (cmp : P → P → Ordering) where
   -- ---- an end of each of those that have come
 

@@ -1,14 +1,16 @@
-use Rattle.fair_rates.proofs.Common.{◌∷◌, ◌++◌, [], subst, sym, length-append, arith, Reverse, common_steps, OpenSide}
+use Rattle.fair_rates.proofs.Common.{◌∷◌, ◌++◌, [], ap, ◌∙◌, length, subst, sym, length-append, arith, Reverse, common_steps, OpenSide}
 use Rattle.fair_rates.proofs.Common.{AreOpened}
 use Rattle.fair_rates.specs.declared.bandwidth.sides.Side.{Side}
 use Rattle.fair_rates.proofs.Filling.Queue.{opened_none, opened_more, opened_without, put_last}
 use Rattle.fair_rates.proofs.bandwidth.filling.open_list.Goals as goal
 
 pub loop-side-init : goal.loop-side-init
-loop-side-init c = record {
-  opened = subst (AreOpened []) (sym c.in_ok-opens.ensures.items) opened_none;
-  count = omega (arith, c.in_ok-opens.ensures.len);
-}
+loop-side-init c =
+    let none = c.reserve.ensures.items ∙ c.clear.ensures.items in
+    record {
+      opened = subst (AreOpened []) (sym none) opened_none;
+      count = omega (arith, ap length none);
+    }
 
 pub loop-side-preserved-in-Continue-branch-2 : goal.loop-side-preserved-in-Continue-branch-2
 loop-side-preserved-in-Continue-branch-2 c =

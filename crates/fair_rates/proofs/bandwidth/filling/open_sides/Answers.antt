@@ -4,5 +4,5 @@ use Rattle.fair_rates.proofs.bandwidth.filling.open_sides.Goals as goal
 
 pub returns-clause-opened : goal.returns-clause-opened
 returns-clause-opened c =
-    opened_permuted c.args.sides.items c.in_ok-open_list.field-0.items (heap_items c.from.result) c.from.ensures.1
+    opened_permuted c.args.sides.now.items c.in_ok-open_list.field-0.items (heap_items c.from.result) c.from.ensures.1
     c.in_ok-open_list.ensures.opened

@@ -1,16 +1,18 @@
-use Rattle.link_flights.proofs.Common.{◌∙◌}
+use Rattle.link_flights.proofs.Common.{◌∙◌, in_units}
+use Rattle.std.proofs.lemmas.Result.{IfOk-weaker}
+use Rattle.link_flights.proofs.Flights.ComponentFlows.{closed_whole}
 use Rattle.link_flights.proofs.Flights.Search.{all_listed, closed_if_near, near_if_listed}
 use Rattle.link_flights.proofs.Flights.Search.{still_has_all, still_has_messages, still_touches_new}
 use Rattle.link_flights.proofs.flight_list.Flights.component.Goals as goal
 
-pub returns-clause-closed : goal.returns-clause-closed
-returns-clause-closed g c =
+pub returns-then-branch-clause-closed : goal.returns-then-branch-clause-closed
+returns-then-branch-clause-closed g c =
     let self = c.args.self.now in
     let mid = c.join_touched.new.component in
     let found = c.grow.new.component in
     let touched = c.in_ok-join_touched.ensures in
     let joined = c.in_ok-grow.ensures.joined in
-    let walked = c.in_ok-grow.ensures.walked c.if-not-branch.false in
+    let walked = c.in_ok-grow.ensures.walked c.if-branch.true in
     closed_if_near g.P.Ord.cmp found g.met.P.Ord.total
     (c.grow.ensures.whole ∙ c.join_touched.ensures.whole ∙ c.in_ok-component.ensures.part)
     found.near.items c.args.done.now.items self.at self.settled self.list.items
@@ -19,19 +21,22 @@ returns-clause-closed g c =
     (still_touches_new g.P.Ord.cmp mid found joined c.grow.ensures.whole self.settled self.list.items touched.new)
     (all_listed g.P.Ord.cmp found self.list.items walked) walked.suited
 
-pub returns-clause-near : goal.returns-clause-near
-returns-clause-near g c =
+pub returns-then-branch-clause-near : goal.returns-then-branch-clause-near
+returns-then-branch-clause-near g c part =
     let found = c.grow.new.component in
     let list = c.args.self.now.list.items in
-    let walked = c.in_ok-grow.ensures.walked c.if-not-branch.false in
+    let walked = c.in_ok-grow.ensures.walked c.if-branch.true in
     near_if_listed g.P.Ord.cmp g.met.P.Ord.total found
     (c.grow.ensures.whole ∙ c.join_touched.ensures.whole ∙ c.in_ok-component.ensures.part) list
-    (all_listed g.P.Ord.cmp found list walked) (c.in_ok-grow.ensures.order c.if-not-branch.false) walked.touched
+    (all_listed g.P.Ord.cmp found list walked) (c.in_ok-grow.ensures.order c.if-branch.true) walked.touched
 
-pub returns-clause-loose : goal.returns-clause-loose
-returns-clause-loose g c =
+pub returns-then-branch-clause-loose : goal.returns-then-branch-clause-loose
+returns-then-branch-clause-loose g c =
     still_has_messages g.P.Ord.cmp c.join_touched.new.component c.grow.new.component c.in_ok-grow.ensures.joined
     c.grow.ensures.whole c.args.self.now.loose c.in_ok-join_touched.ensures.loose
 
-pub returns-clause-suited : goal.returns-clause-suited
-returns-clause-suited g c = (c.in_ok-grow.ensures.walked c.if-not-branch.false).suited
+pub returns-clause-closed : goal.returns-clause-closed
+returns-clause-closed g c =
+    IfOk-weaker c.all_touched.result _ _
+    (λ all whole. closed_whole g.P.Ord.cmp all whole c.args.done.now.items (in_units c.args.self.now))
+    c.all_touched.ensures.whole

@@ -10,10 +10,9 @@ pub returns-then-not-uses-clause-counted : goal.returns-then-not-uses-clause-cou
 returns-then-not-uses-clause-counted g c m one all there shares h =
     let cmp = g.P.Ord.cmp in
     let self = c.args.self.now in
-    let is : c.at-one.result.now ≡ one =
-    c.at-one.ensures ∙ get_or_from_slice_get self.list.items c.args.at one c.at-one.result.now there in
     let uses : uses_end cmp c.args.end one.message.value ≡ false =
-    sym (c.uses.ensures ∙ ap (uses_end cmp c.args.end) (c.deref.ensures ∙ ap (λ (f : Flight _). f.message.value) is))
+    sym (c.uses.ensures one ∙ ap (λ (f : Flight _). uses_end cmp c.args.end f.message.value)
+    (get_or_from_slice_get self.list.items c.args.at one one there))
     ∙ c.if-not-uses.true in
     count_passed cmp c.args.end c.args.component.now self.at self.list.items m one all c.args.at there shares
     (side_of c.args.side.now) uses h
@@ -24,10 +23,9 @@ returns-in-Some-clause-counted g c m one all there shares h =
     let self = c.args.self.now in
     let component = c.args.component.now in
     let side = side_of c.args.side.now in
-    let is : c.at-one.result.now ≡ one =
-    c.at-one.ensures ∙ get_or_from_slice_get self.list.items c.args.at one c.at-one.result.now there in
     let uses : uses_end cmp c.args.end one.message.value ≡ true =
-    sym (c.uses.ensures ∙ ap (uses_end cmp c.args.end) (c.deref.ensures ∙ ap (λ (f : Flight _). f.message.value) is))
+    sym (c.uses.ensures one ∙ ap (λ (f : Flight _). uses_end cmp c.args.end f.message.value)
+    (get_or_from_slice_get self.list.items c.args.at one one there))
     ∙ c.if-not-uses.false in
     let rated : Flight g.row.P.Denot → Bool = λ f. is_of cmp component (flight_at 0 f) in
     let number = c.in-Some.number in
@@ -46,15 +44,16 @@ returns-clause-counted g c m one all there shares h =
     let self = c.args.self.now in
     let component = c.args.component.now in
     let side = side_of c.args.side.now in
-    let is : c.at-one.result.now ≡ one =
-    c.at-one.ensures ∙ get_or_from_slice_get self.list.items c.args.at one c.at-one.result.now there in
+    let is : c.at.result.now ≡ one =
+    c.at.ensures ∙ get_or_from_slice_get self.list.items c.args.at one c.at.result.now there in
     let uses : uses_end cmp c.args.end one.message.value ≡ true =
-    sym (c.uses.ensures ∙ ap (uses_end cmp c.args.end) (c.deref.ensures ∙ ap (λ (f : Flight _). f.message.value) is))
+    sym (c.uses.ensures one ∙ ap (λ (f : Flight _). uses_end cmp c.args.end f.message.value)
+    (get_or_from_slice_get self.list.items c.args.at one one there))
     ∙ c.if-not-uses.false in
     let kept =
     kept_unlisted cmp component self.list.items c.args.numbers.now c.requires.places self.at c.requires.suited c.args.at one
     there (c.requires.near one there uses) (c.number.ensures.none c.in_default.is) in
-    let rate : (flight_at self.at one).rate ≡ c.at-one.result.now.rate =
+    let rate : (flight_at self.at one).rate ≡ c.at.result.now.rate =
     kept_rate component one kept.1 ∙ ap (λ (f : Flight _). f.rate) (sym is) in
     count_rate cmp c.args.end component self.at self.list.items m one all c.args.at there shares side uses kept.0
     c.subtract.new.self (c.subtract.ensures.value ∙ ap (λ n. side.cap - n) (sym rate)) h

@@ -1,23 +1,10 @@
-use Rattle.link_flights.proofs.Common.{◌≡◌, ◌++◌, ◌∷◌, [], ◌*◌, length, Some, None, false, refl, sym, ap, ◌∙◌, subst}
+use Rattle.link_flights.proofs.Common.{◌≡◌, ◌++◌, ◌∷◌, [], ◌*◌, length, Some, false, refl, sym, ap, ◌∙◌, subst}
 use Rattle.link_flights.proofs.Common.{map-append, billion, whole, Flight, message_of, UnitFlight, flight_at}
 use Rattle.link_flights.proofs.Common.{flights_at, AreTimed, rated_flight_of, sending_of, in_flight, in_units}
 use Rattle.link_flights.proofs.Flights.Standing.{timed_with}
 use Rattle.link_flights.proofs.Flights.Units.{units_of_bytes, no_units}
 use Rattle.link_flights.proofs.flight_list.Flights.push.Goals as goal
 use Rattle.link_flights.proofs.flight_list.Flights.push.Goals.{After-self-in_default-1}
-
--- what is in flight from now on
-abbrev started : (g : _) (c : After-self-in_default-1 g) → Flight g.row.P.Denot
-started g c =
-    record {
-      id = c.args.id;
-      message = c.args.message;
-      left = c.in_ok-left.left;
-      rate = c.from_u64.result;
-      since = c.args.now;
-      finish = None;
-      rated = false;
-    }
 
 -- as it is kept
 abbrev unit_of : (g : _) (c : After-self-in_default-1 g) → UnitFlight g.row.P.Denot
@@ -37,7 +24,7 @@ joins_so g c =
     let old = c.args.self.now in
     ap (flights_at old.at) c.in_default.ensures.items
     ∙ map-append (λ (f : Flight g.row.P.Denot). flight_at old.at f) old.list.items
-    (started g c ∷ [])
+    (_ ∷ [])
 
 -- as it is read
 read_so : (g : _) (c : After-self-in_default-1 g) → rated_flight_of c.args.self.now.scale (unit_of g c)
@@ -73,7 +60,7 @@ pub returns-clause-timed : goal.returns-clause-timed
 returns-clause-timed g c =
     λ timed.
     subst AreTimed (sym c.in_default.ensures.items)
-    (timed_with c.args.self.now.list.items (started g c) refl timed)
+    (timed_with c.args.self.now.list.items _ refl timed)
 
 pub returns-clause-joined : goal.returns-clause-joined
 returns-clause-joined g c =

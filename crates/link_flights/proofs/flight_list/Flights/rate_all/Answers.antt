@@ -4,31 +4,20 @@ use Rattle.link_flights.proofs.Common.{in_units, rates_found, rates_of_levels, r
 use Rattle.std.specs.Prelude.{◌≢◌}
 use Rattle.link_flights.proofs.Flights.Components.{found_each, whole_rerated}
 use Rattle.link_flights.proofs.Flights.ComponentFlows.{closed_whole}
-use Rattle.link_flights.proofs.Flights.Numbered.{anew_in_order, anew_within}
 use Rattle.link_flights.proofs.Flights.RatesGiven.{whole_given, left_given}
 use Rattle.link_flights.proofs.Flights.Rerating.{first_finish_is}
 use Rattle.link_flights.proofs.Flights.Settled.{all_have_got}
 use Rattle.link_flights.proofs.flight_list.Flights.rate_all.Goals as goal
 
-pub places_rated-requires : goal.places_rated-requires
-places_rated-requires g c = record {
+pub numbers_rated-requires : goal.numbers_rated-requires
+numbers_rated-requires g c = record {
   near = λ part. absurd (true≢false (sym c.whole-all.ensures.whole ∙ part));
   suited = closed_whole g.P.Ord.cmp c.whole-all.result c.whole-all.ensures.whole [] (in_units c.args.self.now);
 }
 
-pub of-requires : goal.of-requires
-of-requires g c =
-    let cmp = g.P.Ord.cmp in
-    let list = c.args.self.now.list.items in
-    record {
-      order = anew_in_order cmp c.whole-all.result list c.in_ok-places.places.items c.in_ok-places.ensures.places;
-      within = anew_within cmp c.whole-all.result list c.in_ok-places.places.items c.in_ok-places.ensures.places
-          c.len.result c.len.ensures;
-    }
-
 pub rates_at-requires : goal.rates_at-requires
 rates_at-requires g c = record {
-  places = c.in_ok-numbers.ensures.places ∙ c.in_ok-places.ensures.places;
+  places = c.in_ok-numbers.ensures.places;
   suited = closed_whole g.P.Ord.cmp c.whole-all.result c.whole-all.ensures.whole [] (in_units c.args.self.now);
   one_each = c.requires.one_each;
 }
@@ -37,7 +26,7 @@ pub set_rates-requires-clause-left : goal.set_rates-requires-clause-left
 set_rates-requires-clause-left g c =
     let old = c.args.self.now in
     subst (λ growth. All (λ (u : UnitFlight g.row.P.Denot). u.left * product growth ≢ 0) (in_units old))
-    (sym c.deref-5.ensures.value)
+    (sym c.deref-4.ensures.value)
     (left_given g.P.Ord.cmp (caps_of g.P.Ord.cmp c.args.peers.now.entries c.args.pairs.now.entries) c.whole-all.result
     c.in_ok-rates.rates old.scale (in_units old) c.in_ok-rates.ensures.fair c.requires.left)
 
@@ -51,13 +40,13 @@ settle-requires g c =
     let fair = c.in_ok-rates.ensures.fair in
     let mid = c.set_rates.new.self in
     let times = product rates.growth.items in
-    let same : rates_of_levels c.deref-3.result.now c.deref-4.result.now ≡ rates_found rates =
-    ap (λ ls. rates_of_levels ls c.deref-4.result.now) c.deref-3.ensures.value
-    ∙ ap (rates_of_levels rates.levels.items) c.deref-4.ensures.value in
+    let same : rates_of_levels c.deref-2.result.now c.deref-3.result.now ≡ rates_found rates =
+    ap (λ ls. rates_of_levels ls c.deref-3.result.now) c.deref-2.ensures.value
+    ∙ ap (rates_of_levels rates.levels.items) c.deref-3.ensures.value in
     let given : in_units mid ≡ rerated cmp all old.at times (rates_found rates) (in_units old) =
     c.in_ok-set_rates.ensures.rerated
-    ∙ ap (λ ns. rerated cmp all old.at (product ns) (rates_of_levels c.deref-3.result.now c.deref-4.result.now)
-    (in_units old)) c.deref-5.ensures.value
+    ∙ ap (λ ns. rerated cmp all old.at (product ns) (rates_of_levels c.deref-2.result.now c.deref-3.result.now)
+    (in_units old)) c.deref-4.ensures.value
     ∙ ap (λ rs. rerated cmp all old.at times rs (in_units old)) same in
     let each : AllZip (IsRatedFrom old.at times) (in_units old) (in_units mid) =
     subst (AllZip (IsRatedFrom old.at times) (in_units old)) (sym given)
@@ -75,13 +64,13 @@ returns-clause-rated g c =
     let fair = c.in_ok-rates.ensures.fair in
     let mid = c.set_rates.new.self in
     let times = product rates.growth.items in
-    let same : rates_of_levels c.deref-3.result.now c.deref-4.result.now ≡ rates_found rates =
-    ap (λ ls. rates_of_levels ls c.deref-4.result.now) c.deref-3.ensures.value
-    ∙ ap (rates_of_levels rates.levels.items) c.deref-4.ensures.value in
+    let same : rates_of_levels c.deref-2.result.now c.deref-3.result.now ≡ rates_found rates =
+    ap (λ ls. rates_of_levels ls c.deref-3.result.now) c.deref-2.ensures.value
+    ∙ ap (rates_of_levels rates.levels.items) c.deref-3.ensures.value in
     let given : in_units mid ≡ rerated cmp all old.at times (rates_found rates) (in_units old) =
     c.in_ok-set_rates.ensures.rerated
-    ∙ ap (λ ns. rerated cmp all old.at (product ns) (rates_of_levels c.deref-3.result.now c.deref-4.result.now)
-    (in_units old)) c.deref-5.ensures.value
+    ∙ ap (λ ns. rerated cmp all old.at (product ns) (rates_of_levels c.deref-2.result.now c.deref-3.result.now)
+    (in_units old)) c.deref-4.ensures.value
     ∙ ap (λ rs. rerated cmp all old.at times rs (in_units old)) same in
     let e = c.settle.ensures in
     let last = c.settle.new.self in
@@ -112,13 +101,13 @@ returns-clause-finish g c =
     let fair = c.in_ok-rates.ensures.fair in
     let mid = c.set_rates.new.self in
     let times = product rates.growth.items in
-    let same : rates_of_levels c.deref-3.result.now c.deref-4.result.now ≡ rates_found rates =
-    ap (λ ls. rates_of_levels ls c.deref-4.result.now) c.deref-3.ensures.value
-    ∙ ap (rates_of_levels rates.levels.items) c.deref-4.ensures.value in
+    let same : rates_of_levels c.deref-2.result.now c.deref-3.result.now ≡ rates_found rates =
+    ap (λ ls. rates_of_levels ls c.deref-3.result.now) c.deref-2.ensures.value
+    ∙ ap (rates_of_levels rates.levels.items) c.deref-3.ensures.value in
     let given : in_units mid ≡ rerated cmp all old.at times (rates_found rates) (in_units old) =
     c.in_ok-set_rates.ensures.rerated
-    ∙ ap (λ ns. rerated cmp all old.at (product ns) (rates_of_levels c.deref-3.result.now c.deref-4.result.now)
-    (in_units old)) c.deref-5.ensures.value
+    ∙ ap (λ ns. rerated cmp all old.at (product ns) (rates_of_levels c.deref-2.result.now c.deref-3.result.now)
+    (in_units old)) c.deref-4.ensures.value
     ∙ ap (λ rs. rerated cmp all old.at times rs (in_units old)) same in
     let e = c.settle.ensures in
     let last = c.settle.new.self in

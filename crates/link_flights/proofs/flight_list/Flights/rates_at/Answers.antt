@@ -8,8 +8,8 @@ use Rattle.link_flights.proofs.Flights.Components.{fair_alike}
 use Rattle.link_flights.proofs.Flights.Sides.{as_many}
 use Rattle.link_flights.proofs.flight_list.Flights.rates_at.Goals as goal
 
-pub fair_parts-requires : goal.fair_parts-requires
-fair_parts-requires g c = record {
+pub fair_parts_in-requires : goal.fair_parts_in-requires
+fair_parts_in-requires g c = record {
   users = λ k d low i e within.
       let cmp = g.P.Ord.cmp in
       let self = c.args.self.now in
@@ -22,7 +22,7 @@ fair_parts-requires g c = record {
       let below : get_or side.users.items i e < length flows =
       subst (All (λ user. user < length flows)) (sym d.users)
       (places_below (limits cmp d.subject) flows (length flows) (omega arith)) i e within in
-      omega (arith, below, as_many cmp component self.list.items self.at, ap length (c.places.ensures ∙ c.requires.places));
+      omega (arith, below, as_many cmp component self.list.items self.at, ap length (c.places-count.ensures ∙ c.requires.places));
 }
 
 pub returns-clause-fair : goal.returns-clause-fair
@@ -36,11 +36,11 @@ returns-clause-fair g c =
     let pairs = c.args.pairs.now.entries in
     let caps = caps_of cmp peers pairs in
     let of = of_left cmp order caps (looked_up cmp order peers pairs) self.scale component us in
-    let found = c.in_ok-fair_parts.field-0 in
-    let filled = c.in_ok-fair_parts.ensures in
+    let found = c.in_ok-found.found in
+    let filled = c.in_ok-found.ensures in
     record {
       grown = filled.grown;
-      one_each = filled.one_each ∙ ap length (c.places.ensures ∙ c.requires.places) ∙ sym (as_many cmp component self.list.items self.at)
+      one_each = filled.one_each ∙ ap length (c.places-count.ensures ∙ c.requires.places) ∙ sym (as_many cmp component self.list.items self.at)
           ∙ length-map (those_of cmp component us) (flow_in_flight cmp);
       fair = fair_of_members cmp order (left_caps cmp caps self.scale component us) of (flows_of cmp component us)
           (map side_of c.in_ok-sides.sides.items) c.in_ok-sides.ensures.sides found.scale (slice_index (rates_found found))

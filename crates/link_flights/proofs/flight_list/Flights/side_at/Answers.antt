@@ -8,6 +8,14 @@ use Rattle.link_flights.proofs.Flights.Sides.{HasCounted, what_is_listed, counti
 use Rattle.link_flights.proofs.Flights.Sides.{counts_on, counted_all, fewer_to_count, near_one}
 use Rattle.link_flights.proofs.flight_list.Flights.side_at.Goals as goal
 
+pub uses-requires : goal.uses-requires
+uses-requires g c =
+    let cmp = g.P.Ord.cmp in
+    let self = c.args.self.now in
+    let x = what_is_listed (λ (f : Flight g.row.P.Denot). is_of cmp c.args.component.now (flight_at 0 f)) self.list.items c.args.at
+    (subst (λ ps. Contains ps c.args.at) c.requires.places c.requires.at) in
+    slice_get_within self.list.items c.args.at x.0 x.1
+
 pub at-requires : goal.at-requires
 at-requires g c =
     let cmp = g.P.Ord.cmp in
@@ -20,10 +28,8 @@ pub returns-then-not-uses-clause-none : goal.returns-then-not-uses-clause-none
 returns-then-not-uses-clause-none g c none one pairs there uses =
     let cmp = g.P.Ord.cmp in
     let self = c.args.self.now in
-    let is : c.at.result.now ≡ one =
-    c.at.ensures ∙ get_or_from_slice_get self.list.items c.args.at one c.at.result.now there in
-    absurd (true≢false (sym uses ∙ sym (ap (uses_end cmp c.args.end) (c.deref.ensures ∙ ap (λ (f : Flight _). f.message.value) is))
-    ∙ sym c.uses.ensures ∙ c.if-not-uses.true))
+    absurd (true≢false (sym uses ∙ sym (c.uses.ensures one ∙ ap (λ (f : Flight _). uses_end cmp c.args.end f.message.value)
+    (get_or_from_slice_get self.list.items c.args.at one one there)) ∙ c.if-not-uses.true))
 
 pub returns-in_default-clause-none : goal.returns-in_default-clause-none
 returns-in_default-clause-none g c none one pairs there uses =
@@ -32,7 +38,7 @@ returns-in_default-clause-none g c none one pairs there uses =
     let is : c.at.result.now ≡ one =
     c.at.ensures ∙ get_or_from_slice_get self.list.items c.args.at one c.at.result.now there in
     ap (λ m. cap_of (caps_of cmp c.args.peers.now.entries pairs) (end_subject c.args.end (flow_sent cmp m)))
-    (sym (c.deref-2.ensures ∙ ap (λ (f : Flight _). f.message.value) is))
+    (sym (c.deref.ensures ∙ ap (λ (f : Flight _). f.message.value) is))
     ∙ sym (c.cap_at.ensures pairs) ∙ c.in_default.is
 
 pub loop-next-init : goal.loop-next-init
@@ -42,8 +48,8 @@ loop-next-init g c one there =
     let all = c.in_ok-cap.cap in
     let is : c.at.result.now ≡ one =
     c.at.ensures ∙ get_or_from_slice_get self.list.items c.args.at one c.at.result.now there in
-    let m : c.deref-3.result.now ≡ one.message.value =
-    c.deref-3.ensures ∙ ap (λ (f : Flight _). f.message.value) is in
+    let m : c.deref-2.result.now ≡ one.message.value =
+    c.deref-2.ensures ∙ ap (λ (f : Flight _). f.message.value) is in
     subst (λ users. HasCounted cmp c.args.end one.message.value c.args.component.now self.at self.list.items all
     c.first_at-next.result (record { cap = all; users = users })) (sym c.clear.ensures.items)
     (counting_starts cmp c.args.end one.message.value c.args.component.now self.at self.list.items all c.first_at-next.result
@@ -78,10 +84,9 @@ count_one-requires-clause-near g c other found uses_too =
     let next = c.loop-next.next in
     let side = side_of c.loop-next.side in
     let h = c.loop-next.invariant x.0 x.1 in
-    let is : c.at.result.now ≡ x.0 =
-    c.at.ensures ∙ get_or_from_slice_get self.list.items c.args.at x.0 c.at.result.now x.1 in
     let uses : uses_end cmp end m ≡ true =
-    sym (c.uses.ensures ∙ ap (uses_end cmp end) (c.deref.ensures ∙ ap (λ (f : Flight _). f.message.value) is))
+    sym (c.uses.ensures x.0 ∙ ap (λ (f : Flight _). uses_end cmp end f.message.value)
+    (get_or_from_slice_get self.list.items c.args.at x.0 x.0 x.1))
     ∙ c.if-not-uses.false in
     near_one cmp g.met.P.Ord.total component self.at self.list.items c.requires.suited end c.args.at x.0 x.1 x.2 uses other
     uses_too
@@ -154,7 +159,7 @@ returns-clause-side g c one pairs there =
     c.at.ensures ∙ get_or_from_slice_get self.list.items c.args.at one c.at.result.now there in
     let has : cap_of caps s ≡ Some c.in-Some.cap =
     ap (λ m. cap_of caps (end_subject end (flow_sent cmp m)))
-    (sym (c.deref-2.ensures ∙ ap (λ (f : Flight _). f.message.value) is))
+    (sym (c.deref.ensures ∙ ap (λ (f : Flight _). f.message.value) is))
     ∙ sym (c.cap_at.ensures pairs) ∙ c.in-Some.is in
     let counted =
     counted_all cmp end m component self.at self.list.items all c.loop-next.next side (c.loop-next.invariant one there)
@@ -171,7 +176,6 @@ pub returns-clause-uses : goal.returns-clause-uses
 returns-clause-uses g c one there =
     let cmp = g.P.Ord.cmp in
     let self = c.args.self.now in
-    let is : c.at.result.now ≡ one =
-    c.at.ensures ∙ get_or_from_slice_get self.list.items c.args.at one c.at.result.now there in
-    sym (c.uses.ensures ∙ ap (uses_end cmp c.args.end) (c.deref.ensures ∙ ap (λ (f : Flight _). f.message.value) is))
+    sym (c.uses.ensures one ∙ ap (λ (f : Flight _). uses_end cmp c.args.end f.message.value)
+    (get_or_from_slice_get self.list.items c.args.at one one there))
     ∙ c.if-not-uses.false

@@ -6,7 +6,7 @@ use Rattle.link_flights.proofs.flight_list.Flights.sides_of.Goals as goal
 
 pub add_links-requires-clause-within : goal.add_links-requires-clause-within
 add_links-requires-clause-within g c =
-    subst (All (λ at. at < length c.args.self.now.list.items)) (sym (c.places-places.ensures ∙ c.requires.places))
+    subst (All (λ at. at < length c.args.self.now.list.items)) (sym (c.places.ensures ∙ c.requires.places))
     (places_within g.P.Ord.cmp c.args.component.now c.args.self.now.list.items)
 
 pub returns-clause-sides : goal.returns-clause-sides
@@ -24,6 +24,6 @@ returns-clause-sides g c =
     (map side_of c.add_sides.new.sides.items) (map side_of c.add_sides-2.new.sides.items)
     (map side_of c.add_links.new.sides.items)
     (subst (λ l. AddsSides cmp (left_caps cmp caps self.scale component us) (flows_of cmp component us) (end_subject Origin)
-    l (map side_of c.add_sides.new.sides.items)) (ap (map side_of) c.in_ok-sides.ensures.items)
+    l (map side_of c.add_sides.new.sides.items)) (ap (map side_of) c.clear.ensures.items)
     (c.in_ok-add_sides.ensures.adds pairs))
-    (c.in_ok-add_sides-2.ensures.adds pairs) (c.in_ok-add_links.ensures.adds component peers (c.places-places.ensures ∙ c.requires.places))
+    (c.in_ok-add_sides-2.ensures.adds pairs) (c.in_ok-add_links.ensures.adds component peers (c.places.ensures ∙ c.requires.places))

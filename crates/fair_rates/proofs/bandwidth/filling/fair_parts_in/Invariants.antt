@@ -1,6 +1,6 @@
 use Rattle.fair_rates.proofs.Common.{◌≡◌, ◌+◌, ◌<◌, ◌≤◌, All, length, map, heap_items, heap_len, product, side_of}
 use Rattle.fair_rates.proofs.Filling.Steps.{IsCourse}
-use Rattle.fair_rates.proofs.bandwidth.filling.fair_parts.Given as goal
+use Rattle.fair_rates.proofs.bandwidth.filling.fair_parts_in.Given as goal
 
 abbrev pub invariant-loop-found : goal.invariant-loop-found
 invariant-loop-found l = record {

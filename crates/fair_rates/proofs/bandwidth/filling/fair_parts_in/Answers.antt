@@ -7,11 +7,11 @@ use Rattle.fair_rates.specs.Filling.States.{IsLeast}
 use Rattle.fair_rates.proofs.Filling.Frozen.{some_of_if, match_some, match_none, on_some_of}
 use Rattle.fair_rates.proofs.Filling.Levels.{few_more}
 use Rattle.fair_rates.proofs.Filling.Steps.{IsCourse, IsTaken, course_none, round, limited, fair}
-use Rattle.fair_rates.proofs.bandwidth.filling.fair_parts.Goals as goal
+use Rattle.fair_rates.proofs.bandwidth.filling.fair_parts_in.Goals as goal
 
 pub loop-found-init : goal.loop-found-init
 loop-found-init c =
-    let sides : List Side = map side_of c.args.sides.items in
+    let sides : List Side = map side_of c.args.sides.now.items in
     let opens = heap_items c.in_ok-queue.queue in
     let new = c.in_ok-found.ensures in
     let found = c.in_ok-found.found in
@@ -42,7 +42,7 @@ freeze-requires c =
 
 pub loop-found-preserved : goal.loop-found-preserved
 loop-found-preserved c =
-    let sides : List Side = map side_of c.args.sides.items in
+    let sides : List Side = map side_of c.args.sides.now.items in
     let found = c.loop-found.found in
     let levels = found.levels.items in
     let level_of = found.level_of.items in
@@ -118,7 +118,7 @@ loop-found-preserved c =
 
 pub returns : goal.returns
 returns c =
-    let sides : List Side = map side_of c.args.sides.items in
+    let sides : List Side = map side_of c.args.sides.now.items in
     let found = c.loop-found.found in
     let levels = found.levels.items in
     let level_of = found.level_of.items in
@@ -151,5 +151,5 @@ returns c =
       };
       rising = course.rising;
       reached = course.reached;
-      few = omega (arith, inv.few, length-map c.args.sides.items side_of);
+      few = omega (arith, inv.few, length-map c.args.sides.now.items side_of);
     }
