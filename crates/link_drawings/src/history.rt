@@ -111,11 +111,16 @@ impl History {
         let begin = self.first.unwrap_or(0);
         let first = options.from.unwrap_or(begin);
         let last = options.until.unwrap_or(self.end(begin)).max(first);
-        let to = last.min(self.now);
+        self.go_on(last.min(self.now))?;
+        Ok((first, last))
+    }
+
+    /// What is in flight goes on up to that moment.
+    fn go_on(&mut self, to: u64) -> Result<(), Error> {
         for track in self.tracks.values_mut() {
             track.go_on(to)?;
         }
-        Ok((first, last))
+        Ok(())
     }
 
     /// The last moment of the picture. Where a message is still in flight at the last call, that is

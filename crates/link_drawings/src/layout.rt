@@ -62,7 +62,7 @@ impl Drop for Layout {
 }
 
 /// How many rows are left out.
-#[derive(Clone, Copy, Debug, PartialEq, Eq)]
+#[derive(Clone, Copy, PartialEq, Eq)]
 pub(crate) struct Left {
     pub(crate) caps: usize,
     pub(crate) peers: usize,

@@ -9,7 +9,7 @@ use std::alloc::Global;
 const BILLION: u128 = 1_000_000_000;
 
 /// A message. Moments are in nanoseconds since the start.
-#[derive(Debug, Drop)]
+#[derive(Clone, Copy)]
 pub(crate) struct Sent {
     pub(crate) channel: u64,
     pub(crate) length: usize,
@@ -23,7 +23,7 @@ pub(crate) struct Sent {
 }
 
 /// A time in which one message was in flight at one rate.
-#[derive(Clone, Copy, Debug, PartialEq, Eq)]
+#[derive(Clone, Copy)]
 pub(crate) struct Piece {
     /// The place of the message in its pair.
     pub(crate) message: usize,
@@ -75,7 +75,7 @@ impl Seen {
 }
 
 /// What is known of the first message that is not done.
-#[derive(Clone, Copy, Debug)]
+#[derive(Clone, Copy)]
 struct Head {
     seen: u64,
     /// In millionths of a byte, at the moment `seen`.
@@ -85,7 +85,6 @@ struct Head {
 }
 
 /// The messages of an ordered pair, in order of enqueue.
-#[derive(Debug)]
 pub(crate) struct Track {
     pub(crate) messages: Vec<Sent>,
     pub(crate) pieces: Vec<Piece>,
