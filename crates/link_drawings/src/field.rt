@@ -32,6 +32,22 @@ pub(crate) enum Field {
 }
 
 impl Field {
+    /// A whole number, if there is one.
+    pub(crate) fn whole(number: Option<u64>) -> Field {
+        match number {
+            Some(number) => Field::Whole(number),
+            None => Field::None,
+        }
+    }
+
+    /// Whether something holds, where that is known.
+    pub(crate) fn flag(holds: Option<bool>) -> Field {
+        match holds {
+            Some(holds) => Field::Flag(holds),
+            None => Field::None,
+        }
+    }
+
     /// Writes it without quotes.
     fn write(self, ink: &mut Ink) {
         match self {
@@ -107,9 +123,7 @@ impl Line {
     pub(crate) fn begin(ink: &mut Ink, lines: Lines, names: &'static [&'static str]) -> Line {
         if lines == Lines::Csv {
             for (place, name) in names.iter().enumerate() {
-                if place > 0 {
-                    ink.text(",");
-                }
+                ink.text(if place == 0 { "" } else { "," });
                 ink.text(name);
             }
             ink.text("\n");
@@ -127,20 +141,24 @@ impl Line {
         self.count = place.saturating_add(1);
         match self.lines {
             Lines::Csv => {
-                if place > 0 {
-                    ink.text(",");
-                }
+                ink.text(if place == 0 { "" } else { "," });
                 field.write(ink);
             }
             Lines::Json => {
-                ink.text(if place == 0 { "{\"" } else { ",\"" });
-                if let Some(name) = self.names.get(place) {
-                    ink.text(name);
-                }
-                ink.text("\":");
+                self.name(ink, place);
                 field.write_json(ink);
             }
         }
+    }
+
+    /// The name of the value at that place, in an object of JSON.
+    fn name(&self, ink: &mut Ink, place: usize) {
+        ink.text(if place == 0 { "{\"" } else { ",\"" });
+        ink.text(match self.names.get(place) {
+            Some(name) => name,
+            None => "",
+        });
+        ink.text("\":");
     }
 
     /// A rate, as a fraction and with nine places.

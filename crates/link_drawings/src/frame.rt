@@ -67,11 +67,14 @@ impl Frame {
 
     /// The columns that have a part of a time, which is in the picture.
     pub(crate) fn columns_of(&self, from: u64, to: u64) -> Range<usize> {
-        if to <= from {
-            return 0..0;
-        }
+        let first = self.column(from);
         let last = self.column(to.saturating_sub(1));
-        self.column(from)..last.saturating_add(1)
+        let end = if to <= from {
+            0
+        } else {
+            last.saturating_add(1)
+        };
+        first..end
     }
 
     /// The moment at which a column begins.

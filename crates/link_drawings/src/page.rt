@@ -75,13 +75,7 @@ fn write_cap(ink: &mut Ink, history: &History, frame: Frame, board: &mut Board, 
     if sum_up(board, history, frame, side).is_err() {
         ink.refuse();
     }
-    let (kind, origin, recipient) = match side {
-        Side::Egress(peer) => ("{k:\"s\",a:\"", peer, peer),
-        Side::Ingress(peer) => ("{k:\"r\",a:\"", peer, peer),
-        Side::Link(origin, recipient) => ("{k:\"l\",a:\"", origin, recipient),
-    };
-    ink.put(kind, origin);
-    ink.put("\",b:\"", recipient);
+    write_kind(ink, side);
     ink.text("\",v:[");
     if let Some(caps) = history.caps.get(&side) {
         write_values(ink, frame, caps);
@@ -91,6 +85,17 @@ fn write_cap(ink: &mut Ink, history: &History, frame: Frame, board: &mut Board, 
     ink.text("],f:[");
     write_held(ink, frame, board);
     ink.text("]},\n");
+}
+
+/// What a cap is for.
+fn write_kind(ink: &mut Ink, side: Side) {
+    let (kind, origin, recipient) = match side {
+        Side::Egress(peer) => ("{k:\"s\",a:\"", peer, peer),
+        Side::Ingress(peer) => ("{k:\"r\",a:\"", peer, peer),
+        Side::Link(origin, recipient) => ("{k:\"l\",a:\"", origin, recipient),
+    };
+    ink.put(kind, origin);
+    ink.put("\",b:\"", recipient);
 }
 
 /// From when on there is which cap.
@@ -166,10 +171,7 @@ fn write_pairs(ink: &mut Ink, history: &History, layout: &Layout, board: &mut Bo
     for pair in &layout.pairs {
         if let Some(track) = history.tracks.get(pair) {
             write_pair(ink, layout, board, *pair, track);
-            for message in track.messages.iter().take(room) {
-                write_message(ink, layout.frame.first(), message);
-            }
-            ink.text("]},\n");
+            write_messages(ink, layout.frame.first(), track, room);
             room = room.saturating_sub(track.messages.len());
         }
     }
@@ -207,6 +209,14 @@ fn write_pieces(ink: &mut Ink, frame: Frame, track: &Track, should_deliver: bool
             ink.text(",");
         }
     }
+}
+
+/// The first messages of a pair, no more than so many.
+fn write_messages(ink: &mut Ink, first: u64, track: &Track, most: usize) {
+    for message in track.messages.iter().take(most) {
+        write_message(ink, first, message);
+    }
+    ink.text("]},\n");
 }
 
 /// A message: channel, length, and its moments from the first one that is shown on.

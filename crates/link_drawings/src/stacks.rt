@@ -36,11 +36,16 @@ pub(crate) fn draw_cap(
     ink.side(side);
     ink.text(": use of its cap</title></path>\n");
     for quarter in 1u64..5 {
-        ink.put("<path class=\"u", quarter);
-        ink.text("\" d=\"");
-        mark_quarter(ink, frame, board, quarter, band.foot, band.height);
-        ink.text("\"/>\n");
+        draw_quarter(ink, frame, board, quarter, band);
     }
+}
+
+/// The columns in which a cap is full for that quarter of the time.
+fn draw_quarter(ink: &mut Ink, frame: Frame, board: &Board, quarter: u64, band: Band) {
+    ink.put("<path class=\"u", quarter);
+    ink.text("\" d=\"");
+    mark_quarter(ink, frame, board, quarter, band.foot, band.height);
+    ink.text("\"/>\n");
 }
 
 /// The band of a row, whose top and pitch are those.
@@ -144,14 +149,26 @@ fn draw_stack(
         if side.holds(pair.0, pair.1) && !track.pieces.is_empty() {
             board.rise();
             board.add(frame, &track.pieces, side.holds_dropped());
-            ink.put("<path class=\"p", track.shade as u64);
-            ink.text("\" d=\"");
-            fill_between(ink, frame, board, band);
-            ink.text("\"><title>");
-            ink.pair(pair.0, pair.1);
-            ink.text("</title></path>\n");
+            draw_layer(ink, frame, board, band, *pair, track.shade);
         }
     }
+}
+
+/// The rates of a pair above those of the pairs before it.
+fn draw_layer(
+    ink: &mut Ink,
+    frame: Frame,
+    board: &Board,
+    band: Band,
+    pair: (u64, u64),
+    shade: usize,
+) {
+    ink.put("<path class=\"p", shade as u64);
+    ink.text("\" d=\"");
+    fill_between(ink, frame, board, band);
+    ink.text("\"><title>");
+    ink.pair(pair.0, pair.1);
+    ink.text("</title></path>\n");
 }
 
 /// The caps of the side as a line, where it is in the row.

@@ -132,15 +132,20 @@ fn write_messages<W: Write>(
     let mut sheet = Line::begin(ink, lines, MESSAGES);
     for (pair, track) in &history.tracks {
         if options.shows_pair(pair.0, pair.1) {
-            for message in &track.messages {
-                if shows_message(options, message) {
-                    write_message(ink, &mut sheet, *pair, message);
-                }
-            }
+            write_sent(ink, &mut sheet, options, *pair, track);
             ink.write_to(out)?;
         }
     }
     Ok(())
+}
+
+/// A line for each message of a pair.
+fn write_sent(ink: &mut Ink, sheet: &mut Line, options: &Options, pair: (u64, u64), track: &Track) {
+    for message in &track.messages {
+        if shows_message(options, message) {
+            write_message(ink, sheet, pair, message);
+        }
+    }
 }
 
 /// The line of a message.
@@ -175,15 +180,26 @@ fn write_rates<W: Write>(
     let mut sheet = Line::begin(ink, lines, RATES);
     for (pair, track) in &history.tracks {
         if options.shows_pair(pair.0, pair.1) {
-            for (place, piece) in track.pieces.iter().enumerate() {
-                if shows(options, piece.from, piece.to) {
-                    write_rate(ink, &mut sheet, *pair, track, place, *piece);
-                }
-            }
+            write_pieces(ink, &mut sheet, options, *pair, track);
             ink.write_to(out)?;
         }
     }
     Ok(())
+}
+
+/// A line for each time in which a message of a pair has one rate.
+fn write_pieces(
+    ink: &mut Ink,
+    sheet: &mut Line,
+    options: &Options,
+    pair: (u64, u64),
+    track: &Track,
+) {
+    for (place, piece) in track.pieces.iter().enumerate() {
+        if shows(options, piece.from, piece.to) {
+            write_rate(ink, sheet, pair, track, place, *piece);
+        }
+    }
 }
 
 /// The line of a rate.
@@ -252,32 +268,25 @@ fn write_uses(
 
 /// The line of the use of a cap.
 fn write_use(ink: &mut Ink, sheet: &mut Line, side: Side, used: &Used) {
-    let (name, origin, recipient) = match side {
-        Side::Egress(peer) => ("egress", Field::Whole(peer), Field::None),
-        Side::Ingress(peer) => ("ingress", Field::None, Field::Whole(peer)),
-        Side::Link(origin, recipient) => ("link", Field::Whole(origin), Field::Whole(recipient)),
-    };
-    sheet.put(ink, Field::Word(name));
-    sheet.put(ink, origin);
-    sheet.put(ink, recipient);
+    write_side(ink, sheet, side);
     sheet.put_moment(ink, Some(used.from));
     sheet.put_moment(ink, Some(used.to));
-    sheet.put(
-        ink,
-        match used.cap {
-            Some(cap) => Field::Whole(cap as u64),
-            None => Field::None,
-        },
-    );
+    sheet.put(ink, Field::whole(used.cap.map(|cap| cap as u64)));
     sheet.put_rate(ink, used.sum);
-    sheet.put(
-        ink,
-        match used.is_full() {
-            Some(is_full) => Field::Flag(is_full),
-            None => Field::None,
-        },
-    );
+    sheet.put(ink, Field::flag(used.is_full()));
     sheet.end(ink);
+}
+
+/// What a cap holds for, and for whom.
+fn write_side(ink: &mut Ink, sheet: &mut Line, side: Side) {
+    let (name, origin, recipient) = match side {
+        Side::Egress(peer) => ("egress", Some(peer), None),
+        Side::Ingress(peer) => ("ingress", None, Some(peer)),
+        Side::Link(origin, recipient) => ("link", Some(origin), Some(recipient)),
+    };
+    sheet.put(ink, Field::Word(name));
+    sheet.put(ink, Field::whole(origin));
+    sheet.put(ink, Field::whole(recipient));
 }
 
 /// A line for all messages that arrive, and one for those of each channel.
@@ -326,16 +335,26 @@ fn latencies(history: &History, options: &Options) -> Result<Vec<(u64, u64)>, Er
     let mut found = Vec::new(history.alloc());
     for (pair, track) in &history.tracks {
         if options.shows_pair(pair.0, pair.1) {
-            for message in &track.messages {
-                if shows_message(options, message) {
-                    if let Some(time) = latency(message) {
-                        found.push((message.channel, time))?;
-                    }
-                }
-            }
+            note_latencies(&mut found, options, track)?;
         }
     }
     Ok(found)
+}
+
+/// Notes the channel and the latency of each message of a pair that arrives.
+fn note_latencies(
+    found: &mut Vec<(u64, u64)>,
+    options: &Options,
+    track: &Track,
+) -> Result<(), Error> {
+    for message in &track.messages {
+        if shows_message(options, message) {
+            if let Some(time) = latency(message) {
+                found.push((message.channel, time))?;
+            }
+        }
+    }
+    Ok(())
 }
 
 /// The line of the latencies of a channel, which are in order.
