@@ -35,11 +35,9 @@ impl Board {
 
     /// All is zero.
     pub(crate) fn clear(&mut self) {
-        set_all(&mut self.low, 0);
-        set_all(&mut self.high, 0);
-        for time in self.held.iter_mut() {
-            *time = 0;
-        }
+        self.low.fill(0);
+        self.high.fill(0);
+        self.held.fill(0);
     }
 
     /// What was the upper rate is the lower one, too.
@@ -61,33 +59,20 @@ impl Board {
 
     /// The upper rates grow by that one for a time.
     pub(crate) fn spread(&mut self, frame: Frame, from: u64, to: u64, rate: u128) {
-        let (from, to) = frame.cut(from, to);
-        if to <= from || rate == 0 {
+        if rate == 0 {
             return;
         }
-        let first = frame.column(from);
-        let last = frame.column(to.saturating_sub(1));
-        for column in first..last.saturating_add(1) {
-            if let Some(high) = self.high.get_mut(column) {
-                *high = high.saturating_add(share(frame, column, from, to, rate));
-            }
+        let (from, to) = frame.cut(from, to);
+        for column in frame.columns_of(from, to) {
+            raise(&mut self.high, column, share(frame, column, from, to, rate));
         }
     }
 
     /// Something is so for a time.
     pub(crate) fn hold(&mut self, frame: Frame, from: u64, to: u64) {
         let (from, to) = frame.cut(from, to);
-        if to <= from {
-            return;
-        }
-        let first = frame.column(from);
-        let last = frame.column(to.saturating_sub(1));
-        for column in first..last.saturating_add(1) {
-            if let Some(held) = self.held.get_mut(column) {
-                let begin = frame.edge(column).max(from);
-                let end = frame.edge(column.saturating_add(1)).min(to);
-                *held = held.saturating_add(end.saturating_sub(begin));
-            }
+        for column in frame.columns_of(from, to) {
+            lengthen(&mut self.held, column, overlap(frame, column, from, to));
         }
     }
 
@@ -108,7 +93,7 @@ fn share(frame: Frame, column: usize, from: u64, to: u64, rate: u128) -> u128 {
     if from <= begin && end <= to {
         return rate;
     }
-    let over = u128::from(end.min(to).saturating_sub(begin.max(from)));
+    let over = u128::from(overlap(frame, column, from, to));
     let all = u128::from(end.saturating_sub(begin)).max(1);
     match rate.checked_mul(over) {
         Some(times) => times / all,
@@ -116,9 +101,23 @@ fn share(frame: Frame, column: usize, from: u64, to: u64, rate: u128) -> u128 {
     }
 }
 
-/// Sets all numbers to that one.
-fn set_all(numbers: &mut [u128], to: u128) {
-    for number in numbers.iter_mut() {
-        *number = to;
+/// How much of a time is in a column.
+fn overlap(frame: Frame, column: usize, from: u64, to: u64) -> u64 {
+    let begin = frame.edge(column).max(from);
+    let end = frame.edge(column.saturating_add(1)).min(to);
+    end.saturating_sub(begin)
+}
+
+/// The rate of a column grows.
+fn raise(rates: &mut [u128], column: usize, more: u128) {
+    if let Some(rate) = rates.get_mut(column) {
+        *rate = rate.saturating_add(more);
+    }
+}
+
+/// What is so in a column is so for longer.
+fn lengthen(times: &mut [u64], column: usize, more: u64) {
+    if let Some(time) = times.get_mut(column) {
+        *time = time.saturating_add(more);
     }
 }

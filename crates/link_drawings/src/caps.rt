@@ -32,7 +32,7 @@ impl Side {
 }
 
 /// A cap from a moment on, in bytes a second. None is no cap.
-#[derive(Clone, Copy, Debug, PartialEq, Eq)]
+#[derive(Clone, Copy)]
 pub(crate) struct Cap {
     pub(crate) from: u64,
     pub(crate) cap: Option<usize>,

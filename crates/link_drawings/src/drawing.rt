@@ -2,9 +2,11 @@
 
 use crate::board::Board;
 use crate::history::History;
+use crate::ink::Ink;
 use crate::layout::Layout;
 use crate::options::{Form, Options};
 use crate::{page, picture, table};
+use fair_rates::error::Error;
 use std::alloc::Global;
 use std::io;
 use std::io::{ErrorKind, Write};
@@ -18,26 +20,27 @@ pub fn draw<W: Write>(
     options: &Options,
     time: (u64, u64),
 ) -> io::Result<()> {
-    match options.form {
-        Form::Table(table, lines) => table::write(out, history, options, table, lines),
-        _ => draw_picture(alloc, out, history, options, time),
+    let mut ink = Ink::new(alloc);
+    if let Form::Table(table, lines) = options.form {
+        table::write(out, &mut ink, history, options, table, lines)?;
+    } else if draw_picture(&mut ink, history, options, time).is_err() {
+        ink.refuse();
     }
+    ink.write_to(out)
 }
 
 /// Draws the picture of a run.
-fn draw_picture<W: Write>(
-    alloc: Global,
-    out: &mut W,
+fn draw_picture(
+    ink: &mut Ink,
     history: &History,
     options: &Options,
     time: (u64, u64),
-) -> io::Result<()> {
-    let Ok(layout) = Layout::new(history, options, time) else {
-        return Err(io::Error::from(ErrorKind::OutOfMemory));
-    };
-    let mut board = Board::new(alloc, layout.frame.columns())?;
+) -> Result<(), Error> {
+    let layout = Layout::new(history, options, time)?;
+    let mut board = Board::new(history.alloc(), layout.frame.columns())?;
     match options.form {
-        Form::Page => page::write(out, history, options, &layout, &mut board),
-        _ => picture::draw(out, history, options, &layout, &mut board),
+        Form::Page => page::write(ink, history, options, &layout, &mut board),
+        _ => picture::draw(ink, history, options, &layout, &mut board),
     }
+    Ok(())
 }

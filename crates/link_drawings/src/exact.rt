@@ -5,9 +5,10 @@ use crate::history::History;
 use crate::track::Track;
 use fair_rates::error::Error;
 use fair_rates::ratio::Ratio;
+use std::alloc::Global;
 
 /// What changes, in the order in which it counts where it does so at one moment.
-#[derive(Clone, Copy, Debug, PartialEq, Eq, PartialOrd, Ord)]
+#[derive(Clone, Copy, PartialEq, Eq, PartialOrd, Ord)]
 enum Kind {
     Ends,
     Cap,
@@ -16,7 +17,7 @@ enum Kind {
 
 /// A rate that begins or ends at a moment, or a cap that changes. A rate that is not known exactly
 /// is none.
-#[derive(Clone, Copy, Debug)]
+#[derive(Clone, Copy)]
 struct Change {
     moment: u64,
     kind: Kind,
@@ -24,7 +25,7 @@ struct Change {
 }
 
 /// A time in which the use of a cap stays.
-#[derive(Clone, Copy, Debug)]
+#[derive(Clone, Copy)]
 pub(crate) struct Used {
     pub(crate) from: u64,
     pub(crate) to: u64,
@@ -46,16 +47,36 @@ impl Used {
 /// The use of the cap of a side, in order of time, where something is in flight on it.
 pub(crate) fn uses(history: &History, side: Side) -> Result<Vec<Used>, Error> {
     let alloc = history.alloc();
-    let mut made = Vec::new(alloc);
-    let Some(caps) = history.caps.get(&side) else {
-        return Ok(made);
-    };
-    let mut changes = Vec::new(alloc);
+    match history.caps.get(&side) {
+        Some(caps) => {
+            let changes = changes(history, side, caps)?;
+            sweep(alloc, &changes, caps)
+        }
+        None => Ok(Vec::new(alloc)),
+    }
+}
+
+/// What changes for a side with these caps, in order of time.
+fn changes(history: &History, side: Side, caps: &[Cap]) -> Result<Vec<Change>, Error> {
+    let mut changes = Vec::new(history.alloc());
+    note_all(&mut changes, history, side)?;
+    note_caps(&mut changes, caps)?;
+    changes.sort_unstable_by_key(|change| (change.moment, change.kind));
+    Ok(changes)
+}
+
+/// Notes when the rates of all that share the cap of a side begin and end.
+fn note_all(changes: &mut Vec<Change>, history: &History, side: Side) -> Result<(), Error> {
     for (pair, track) in &history.tracks {
         if side.holds(pair.0, pair.1) {
-            note_changes(&mut changes, track, side)?;
+            note_changes(changes, track, side)?;
         }
     }
+    Ok(())
+}
+
+/// Notes when the cap changes.
+fn note_caps(changes: &mut Vec<Change>, caps: &[Cap]) -> Result<(), Error> {
     for cap in caps {
         changes.push(Change {
             moment: cap.from,
@@ -63,9 +84,7 @@ pub(crate) fn uses(history: &History, side: Side) -> Result<Vec<Used>, Error> {
             rate: None,
         })?;
     }
-    changes.sort_unstable_by_key(|change| (change.moment, change.kind));
-    sweep(&mut made, &changes, caps)?;
-    Ok(made)
+    Ok(())
 }
 
 /// Notes when the rates of a pair begin and end.
@@ -92,7 +111,8 @@ fn note_changes(changes: &mut Vec<Change>, track: &Track, side: Side) -> Result<
 }
 
 /// Goes through the changes in order of time.
-fn sweep(made: &mut Vec<Used>, changes: &[Change], caps: &[Cap]) -> Result<(), Error> {
+fn sweep(alloc: Global, changes: &[Change], caps: &[Cap]) -> Result<Vec<Used>, Error> {
+    let mut made = Vec::new(alloc);
     let mut state = Sum::new();
     let mut at = 0u64;
     let mut place = 0usize;
@@ -120,11 +140,11 @@ fn sweep(made: &mut Vec<Used>, changes: &[Change], caps: &[Cap]) -> Result<(), E
             }
         }
     }
-    Ok(())
+    Ok(made)
 }
 
 /// The sum of the rates of what is in flight.
-#[derive(Clone, Copy, Debug)]
+#[derive(Clone, Copy)]
 struct Sum {
     flights: u64,
     /// None where it is not known.

@@ -1,8 +1,7 @@
 //! Lines of a table, as CSV or as JSON.
 
+use crate::ink::Ink;
 use fair_rates::ratio::Ratio;
-use std::io::Write;
-use std::{fmt, io};
 
 /// How the lines of a table are written.
 #[derive(Clone, Copy, Debug, PartialEq, Eq)]
@@ -17,7 +16,7 @@ pub enum Lines {
 const PLACES: u32 = 9;
 
 /// A value of a table.
-#[derive(Clone, Copy, Debug)]
+#[derive(Clone, Copy)]
 pub(crate) enum Field {
     /// There is none.
     None,
@@ -32,43 +31,65 @@ pub(crate) enum Field {
     Flag(bool),
 }
 
-impl fmt::Display for Field {
-    fn fmt<W: fmt::Write>(&self, f: &mut fmt::Formatter<W>) -> fmt::Result {
+impl Field {
+    /// A whole number, if there is one.
+    pub(crate) fn whole(number: Option<u64>) -> Field {
+        match number {
+            Some(number) => Field::Whole(number),
+            None => Field::None,
+        }
+    }
+
+    /// Whether something holds, where that is known.
+    pub(crate) fn flag(holds: Option<bool>) -> Field {
+        match holds {
+            Some(holds) => Field::Flag(holds),
+            None => Field::None,
+        }
+    }
+
+    /// Writes it without quotes.
+    fn write(self, ink: &mut Ink) {
         match self {
-            Field::None => Ok(()),
-            Field::Word(word) => write!(f, "{word}"),
-            Field::Whole(number) => write!(f, "{number}"),
-            Field::Seconds(time) => {
-                let whole = *time / 1_000_000_000;
-                let rest = *time % 1_000_000_000;
-                write!(f, "{whole}.{rest:09}")
+            Field::None => {}
+            Field::Word(word) => ink.text(word),
+            Field::Whole(number) => ink.put("", number),
+            Field::Seconds(time) => ink.put_seconds(time),
+            Field::Fraction(numerator, denominator) => {
+                ink.put_large("", numerator);
+                ink.put_large("/", denominator);
             }
-            Field::Fraction(numerator, denominator) => write!(f, "{numerator}/{denominator}"),
-            Field::Decimal(numerator, denominator) => write_decimal(f, *numerator, *denominator),
-            Field::Flag(holds) => {
-                let digit = u8::from(*holds);
-                write!(f, "{digit}")
+            Field::Decimal(numerator, denominator) => write_decimal(ink, numerator, denominator),
+            Field::Flag(holds) => ink.text(if holds { "1" } else { "0" }),
+        }
+    }
+
+    /// Writes it as a value of JSON.
+    fn write_json(self, ink: &mut Ink) {
+        match self {
+            Field::None => ink.text("null"),
+            Field::Word(_) | Field::Fraction(_, _) => {
+                ink.text("\"");
+                self.write(ink);
+                ink.text("\"");
             }
+            Field::Flag(holds) => ink.flag("", holds),
+            _ => self.write(ink),
         }
     }
 }
 
 /// A fraction with nine places, rounded down.
-fn write_decimal<W: fmt::Write>(
-    f: &mut fmt::Formatter<W>,
-    numerator: u128,
-    denominator: u128,
-) -> fmt::Result {
+fn write_decimal(ink: &mut Ink, numerator: u128, denominator: u128) {
     let denominator = denominator.max(1);
-    let whole = numerator / denominator;
-    write!(f, "{whole}.")?;
+    ink.put_large("", numerator / denominator);
+    ink.text(".");
     let mut rest = numerator % denominator;
     for _ in 0..PLACES {
         let (digit, next) = next_digit(rest, denominator);
-        write!(f, "{digit}")?;
+        ink.put("", u64::from(digit));
         rest = next;
     }
-    Ok(())
 }
 
 /// The next digit of `rest / denominator`, and what is left of ten times the rest: found by adding
@@ -89,7 +110,7 @@ fn next_digit(rest: u128, denominator: u128) -> (u8, u128) {
 }
 
 /// A line that is being written.
-#[derive(Clone, Copy, Debug)]
+#[derive(Clone, Copy)]
 pub(crate) struct Line {
     lines: Lines,
     names: &'static [&'static str],
@@ -99,96 +120,76 @@ pub(crate) struct Line {
 
 impl Line {
     /// The first line. For CSV the names of the columns stand before it.
-    pub(crate) fn begin<W: Write>(
-        out: &mut W,
-        lines: Lines,
-        names: &'static [&'static str],
-    ) -> io::Result<Line> {
+    pub(crate) fn begin(ink: &mut Ink, lines: Lines, names: &'static [&'static str]) -> Line {
         if lines == Lines::Csv {
             for (place, name) in names.iter().enumerate() {
-                let comma = if place == 0 { "" } else { "," };
-                write!(out, "{comma}{name}")?;
+                ink.text(if place == 0 { "" } else { "," });
+                ink.text(name);
             }
-            writeln!(out)?;
+            ink.text("\n");
         }
-        Ok(Line {
+        Line {
             lines,
             names,
             count: 0,
-        })
+        }
     }
 
     /// One more value.
-    pub(crate) fn put<W: Write>(&mut self, out: &mut W, field: Field) -> io::Result<()> {
+    pub(crate) fn put(&mut self, ink: &mut Ink, field: Field) {
         let place = self.count;
         self.count = place.saturating_add(1);
         match self.lines {
             Lines::Csv => {
-                let comma = if place == 0 { "" } else { "," };
-                write!(out, "{comma}{field}")
+                ink.text(if place == 0 { "" } else { "," });
+                field.write(ink);
             }
             Lines::Json => {
-                let open = if place == 0 { "{" } else { "," };
-                let name = match self.names.get(place) {
-                    Some(name) => *name,
-                    None => "",
-                };
-                write!(out, "{open}\"{name}\":")?;
-                match field {
-                    Field::None => out.write_all(b"null"),
-                    Field::Word(_) | Field::Fraction(_, _) => write!(out, "\"{field}\""),
-                    Field::Flag(true) => out.write_all(b"true"),
-                    Field::Flag(false) => out.write_all(b"false"),
-                    _ => write!(out, "{field}"),
-                }
+                self.name(ink, place);
+                field.write_json(ink);
             }
         }
+    }
+
+    /// The name of the value at that place, in an object of JSON.
+    fn name(&self, ink: &mut Ink, place: usize) {
+        ink.text(if place == 0 { "{\"" } else { ",\"" });
+        ink.text(match self.names.get(place) {
+            Some(name) => name,
+            None => "",
+        });
+        ink.text("\":");
     }
 
     /// A rate, as a fraction and with nine places.
-    pub(crate) fn put_rate<W: Write>(
-        &mut self,
-        out: &mut W,
-        rate: Option<Ratio>,
-    ) -> io::Result<()> {
-        match rate {
-            Some(rate) => {
-                let numerator = rate.numerator();
-                let denominator = rate.denominator();
-                self.put(out, Field::Fraction(numerator, denominator))?;
-                self.put(out, Field::Decimal(numerator, denominator))
-            }
-            None => {
-                self.put(out, Field::None)?;
-                self.put(out, Field::None)
-            }
-        }
+    pub(crate) fn put_rate(&mut self, ink: &mut Ink, rate: Option<Ratio>) {
+        let (fraction, decimal) = match rate {
+            Some(rate) => (
+                Field::Fraction(rate.numerator(), rate.denominator()),
+                Field::Decimal(rate.numerator(), rate.denominator()),
+            ),
+            None => (Field::None, Field::None),
+        };
+        self.put(ink, fraction);
+        self.put(ink, decimal);
     }
 
     /// A moment or a time, in nanoseconds and in seconds.
-    pub(crate) fn put_moment<W: Write>(
-        &mut self,
-        out: &mut W,
-        moment: Option<u64>,
-    ) -> io::Result<()> {
-        match moment {
-            Some(moment) => {
-                self.put(out, Field::Whole(moment))?;
-                self.put(out, Field::Seconds(moment))
-            }
-            None => {
-                self.put(out, Field::None)?;
-                self.put(out, Field::None)
-            }
-        }
+    pub(crate) fn put_moment(&mut self, ink: &mut Ink, moment: Option<u64>) {
+        let (whole, seconds) = match moment {
+            Some(moment) => (Field::Whole(moment), Field::Seconds(moment)),
+            None => (Field::None, Field::None),
+        };
+        self.put(ink, whole);
+        self.put(ink, seconds);
     }
 
     /// The end of the line. The next value is the first of another.
-    pub(crate) fn end<W: Write>(&mut self, out: &mut W) -> io::Result<()> {
+    pub(crate) fn end(&mut self, ink: &mut Ink) {
         self.count = 0;
         match self.lines {
-            Lines::Csv => writeln!(out),
-            Lines::Json => writeln!(out, "}}"),
+            Lines::Csv => ink.text("\n"),
+            Lines::Json => ink.text("}\n"),
         }
     }
 }

@@ -1,5 +1,7 @@
 //! Where moments stand in a picture.
 
+use std::ops::Range;
+
 /// How wide the picture is. Two units are a pixel at 1000 pixels.
 pub(crate) const WIDTH: u64 = 2000;
 
@@ -10,7 +12,7 @@ pub(crate) const LEFT: u64 = 240;
 pub(crate) const SPAN: u64 = 1600;
 
 /// The time of a picture, and how finely it is drawn: in so many columns.
-#[derive(Clone, Copy, Debug, PartialEq, Eq)]
+#[derive(Clone, Copy)]
 pub(crate) struct Frame {
     first: u64,
     last: u64,
@@ -61,6 +63,18 @@ impl Frame {
         let passed = moment.saturating_sub(self.first);
         let column = part(passed, self.columns, self.time());
         column.min(self.columns.saturating_sub(1)) as usize
+    }
+
+    /// The columns that have a part of a time, which is in the picture.
+    pub(crate) fn columns_of(&self, from: u64, to: u64) -> Range<usize> {
+        let first = self.column(from);
+        let last = self.column(to.saturating_sub(1));
+        let end = if to <= from {
+            0
+        } else {
+            last.saturating_add(1)
+        };
+        first..end
     }
 
     /// The moment at which a column begins.

@@ -1,13 +1,12 @@
 //! The head of a picture: styles, title and legends.
 
 use crate::caps::Side;
-use crate::frame::LEFT;
+use crate::frame::{Frame, LEFT};
 use crate::history::History;
-use crate::labels::{Count, Marked, Moment, letters};
+use crate::ink::Ink;
+use crate::labels::letters;
 use crate::layout::Layout;
 use crate::options::Options;
-use std::io;
-use std::io::Write;
 
 /// The most pairs that a legend names.
 const MOST_NAMED: usize = 12;
@@ -46,34 +45,36 @@ pub(crate) const LEGEND: &str =
 <text x="1490" y="112">is full, half of the time and all</text>"#;
 
 /// The title, and what the run has.
-pub(crate) fn draw_title<W: Write>(
-    out: &mut W,
-    history: &History,
-    options: &Options,
-    layout: &Layout,
-) -> io::Result<()> {
+pub(crate) fn draw_title(ink: &mut Ink, history: &History, options: &Options, frame: Frame) {
     let title = match front(options.title.as_str()) {
-        "" => Marked("Run of a script"),
-        title => Marked(title),
+        "" => "Run of a script",
+        title => title,
     };
-    writeln!(out, "<title>{title}</title>")?;
-    writeln!(
-        out,
-        "<text class=\"c\" x=\"{LEFT}\" y=\"38\">{title}</text>"
-    )?;
-    let messages = Count(history.messages as u64, "message");
-    let pairs = Count(history.tracks.len() as u64, "ordered pair");
-    let first = Moment(layout.frame.first());
-    let last = Moment(layout.frame.last());
-    write!(
-        out,
-        "<text x=\"{LEFT}\" y=\"72\">{messages} of {pairs}, {first} to {last}"
-    )?;
+    ink.text("<title>");
+    ink.marked(title);
+    ink.put("</title>\n<text class=\"c\" x=\"", LEFT);
+    ink.text("\" y=\"38\">");
+    ink.marked(title);
+    ink.text("</text>\n");
+    draw_contents(ink, history, frame);
+}
+
+/// How much the run has.
+fn draw_contents(ink: &mut Ink, history: &History, frame: Frame) {
+    ink.put("<text x=\"", LEFT);
+    ink.text("\" y=\"72\">");
+    ink.count(history.messages as u64, "message");
+    ink.text(" of ");
+    ink.count(history.tracks.len() as u64, "ordered pair");
+    ink.text(", ");
+    ink.moment(frame.first());
+    ink.text(" to ");
+    ink.moment(frame.last());
     if history.refused > 0 {
-        let refused = Count(history.refused, "refused call");
-        write!(out, "; {refused}")?;
+        ink.text("; ");
+        ink.count(history.refused, "refused call");
     }
-    writeln!(out, "</text>")
+    ink.text("</text>\n");
 }
 
 /// The front of a text that is too long for a line.
@@ -97,37 +98,32 @@ pub(crate) fn legend_height(history: &History, layout: &Layout) -> u64 {
 }
 
 /// Which colour each pair has, where they are few.
-pub(crate) fn draw_pair_legend<W: Write>(
-    out: &mut W,
-    history: &History,
-    layout: &Layout,
-) -> io::Result<()> {
+pub(crate) fn draw_pair_legend(ink: &mut Ink, history: &History, layout: &Layout) {
     if legend_height(history, layout) == 0 {
-        return Ok(());
+        return;
     }
     let mut x = LEFT;
     for pair in &layout.pairs {
         if let Some(track) = history.tracks.get(pair) {
-            let shade = track.shade;
-            let (origin, recipient) = *pair;
-            let width = letters(Side::Link(origin, recipient))
+            let width = letters(Side::Link(pair.0, pair.1))
                 .saturating_mul(13)
                 .saturating_add(56);
             if x.saturating_add(width) > 1960 {
-                return Ok(());
+                return;
             }
-            let end = x.saturating_add(24);
-            let text = x.saturating_add(32);
-            write!(
-                out,
-                "<path class=\"p{shade}\" d=\"M{x} 154V134H{end}V154z\"/>"
-            )?;
-            writeln!(
-                out,
-                "<text x=\"{text}\" y=\"152\">{origin} → {recipient}</text>"
-            )?;
+            draw_colour(ink, x, *pair, track.shade);
             x = x.saturating_add(width);
         }
     }
-    Ok(())
+}
+
+/// The colour of a pair, at that place of the legend.
+fn draw_colour(ink: &mut Ink, x: u64, pair: (u64, u64), shade: usize) {
+    ink.put("<path class=\"p", shade as u64);
+    ink.put("\" d=\"M", x);
+    ink.put(" 154V134H", x.saturating_add(24));
+    ink.put("V154z\"/><text x=\"", x.saturating_add(32));
+    ink.text("\" y=\"152\">");
+    ink.pair(pair.0, pair.1);
+    ink.text("</text>\n");
 }

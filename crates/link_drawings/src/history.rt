@@ -111,11 +111,16 @@ impl History {
         let begin = self.first.unwrap_or(0);
         let first = options.from.unwrap_or(begin);
         let last = options.until.unwrap_or(self.end(begin)).max(first);
-        let to = last.min(self.now);
+        self.go_on(last.min(self.now))?;
+        Ok((first, last))
+    }
+
+    /// What is in flight goes on up to that moment.
+    fn go_on(&mut self, to: u64) -> Result<(), Error> {
         for track in self.tracks.values_mut() {
             track.go_on(to)?;
         }
-        Ok((first, last))
+        Ok(())
     }
 
     /// The last moment of the picture. Where a message is still in flight at the last call, that is
@@ -140,9 +145,6 @@ impl History {
         length: usize,
         should_deliver: bool,
     ) -> Result<(), Error> {
-        let alloc = self.alloc;
-        let keeps_readings = self.keeps_readings;
-        let shade = self.tracks.len() % SHADES;
         let sent = Sent {
             channel,
             length,
@@ -153,14 +155,18 @@ impl History {
             deliver_at: None,
         };
         self.messages = self.messages.saturating_add(1);
-        let track = self
-            .tracks
-            .entry(pair)?
-            .or_insert(Track::new(alloc, keeps_readings, shade));
-        if track.is_idle() {
-            self.busy = self.busy.saturating_add(1);
-        }
-        track.enqueue(sent)
+        let track = self.track_of(pair)?;
+        let was_idle = track.is_idle();
+        track.enqueue(sent)?;
+        self.busy = self.busy.saturating_add(usize::from(was_idle));
+        Ok(())
+    }
+
+    /// The messages of a pair, of which there are none where it sends for the first time.
+    fn track_of(&mut self, pair: (u64, u64)) -> Result<&mut Track, Error> {
+        let shade = self.tracks.len() % SHADES;
+        let track = Track::new(self.alloc, self.keeps_readings, shade);
+        Ok(self.tracks.entry(pair)?.or_insert(track))
     }
 
     /// Something is asked now.
@@ -224,10 +230,14 @@ impl History {
         if cap.is_none() && self.caps.get(&side).is_none() {
             return Ok(());
         }
-        let alloc = self.alloc;
         let from = self.now;
-        let caps = self.caps.entry(side)?.or_insert(Vec::new(alloc));
-        caps.push(Cap { from, cap })?;
+        self.caps_of(side)?.push(Cap { from, cap })?;
         Ok(())
+    }
+
+    /// The caps of a side, of which there are none where it is capped for the first time.
+    fn caps_of(&mut self, side: Side) -> Result<&mut Vec<Cap>, Error> {
+        let caps = Vec::new(self.alloc);
+        Ok(self.caps.entry(side)?.or_insert(caps))
     }
 }

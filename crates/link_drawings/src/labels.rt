@@ -2,33 +2,127 @@
 
 use crate::caps::Side;
 use crate::history::MILLION;
-use std::fmt;
+use crate::ink::Ink;
 
-/// A number and its unit, to three places, with no zeros at its end.
-#[derive(Clone, Copy, Debug)]
-struct Amount {
-    parts: u128,
-    unit: u128,
-    name: &'static str,
+impl Ink {
+    /// A number and its unit, to three places, with no zeros at its end.
+    fn amount(&mut self, parts: u128, unit: u128, name: &str) {
+        let unit = unit.max(1);
+        self.put_large("", parts / unit);
+        self.places(thousandths(parts % unit, unit), 100);
+        self.text(" ");
+        self.text(name);
+    }
+
+    /// The places behind the point, with no zeros at their end. The first of them tells how many
+    /// times the rest has that tenth.
+    fn places(&mut self, rest: u128, tenth: u128) {
+        if rest == 0 {
+            return;
+        }
+        self.text(".");
+        let mut rest = rest;
+        let mut part = tenth;
+        for _ in 0..9 {
+            if rest > 0 {
+                self.put_large("", rest / part.max(1));
+                rest %= part.max(1);
+                part /= 10;
+            }
+        }
+    }
+
+    /// A moment or a time in nanoseconds, in the greatest unit that it fills.
+    pub(crate) fn moment(&mut self, time: u64) {
+        if time == 0 {
+            self.text("0 s");
+            return;
+        }
+        let (unit, name) = unit_of(time);
+        self.amount(u128::from(time), u128::from(unit), name);
+    }
+
+    /// A moment in nanoseconds, in the unit that suits the greatest moment of its axis.
+    pub(crate) fn tick(&mut self, moment: u64, greatest: u64) {
+        let (unit, name) = unit_of(greatest);
+        let unit = unit.max(1);
+        self.put("", moment / unit);
+        self.places(u128::from(moment % unit), u128::from(unit / 10));
+        self.text(" ");
+        self.text(name);
+    }
+
+    /// A rate in millionths of a byte a second, in the greatest unit that it fills.
+    pub(crate) fn pace(&mut self, rate: u128) {
+        self.size(rate);
+        self.text("/s");
+    }
+
+    /// Millionths of a byte, in the greatest unit that they fill.
+    pub(crate) fn size(&mut self, parts: u128) {
+        let (unit, name) = if parts >= 1_000_000_000 * MILLION {
+            (1_000_000_000 * MILLION, "GB")
+        } else if parts >= 1_000_000 * MILLION {
+            (1_000_000 * MILLION, "MB")
+        } else if parts >= 1000 * MILLION {
+            (1000 * MILLION, "kB")
+        } else {
+            (MILLION, "B")
+        };
+        self.amount(parts, unit, name);
+    }
+
+    /// What a cap holds for.
+    pub(crate) fn side(&mut self, side: Side) {
+        match side {
+            Side::Egress(peer) => {
+                self.put("", peer);
+                self.text(" sends");
+            }
+            Side::Ingress(peer) => {
+                self.put("", peer);
+                self.text(" receives");
+            }
+            Side::Link(origin, recipient) => self.pair(origin, recipient),
+        }
+    }
+
+    /// An ordered pair.
+    pub(crate) fn pair(&mut self, origin: u64, recipient: u64) {
+        self.put("", origin);
+        self.put(" → ", recipient);
+    }
+
+    /// So many of something: `1 message`, `2 messages`.
+    pub(crate) fn count(&mut self, count: u64, word: &str) {
+        self.put("", count);
+        self.text(" ");
+        self.text(word);
+        if count != 1 {
+            self.text("s");
+        }
+    }
+
+    /// A text that stands in a file of marks, as SVG and HTML are.
+    pub(crate) fn marked(&mut self, text: &str) {
+        for letter in text.chars() {
+            match mark_of(letter) {
+                Some(mark) => self.text(mark),
+                None => self.letter(letter),
+            }
+        }
+    }
 }
 
-impl fmt::Display for Amount {
-    fn fmt<W: fmt::Write>(&self, f: &mut fmt::Formatter<W>) -> fmt::Result {
-        let unit = self.unit.max(1);
-        let name = self.name;
-        let whole = self.parts / unit;
-        let places = thousandths(self.parts % unit, unit);
-        if places == 0 {
-            write!(f, "{whole} {name}")
-        } else if places % 100 == 0 {
-            let places = places / 100;
-            write!(f, "{whole}.{places} {name}")
-        } else if places % 10 == 0 {
-            let places = places / 10;
-            write!(f, "{whole}.{places:02} {name}")
-        } else {
-            write!(f, "{whole}.{places:03} {name}")
-        }
+/// What stands for a letter in a file of marks; none where it stands for itself.
+fn mark_of(letter: char) -> Option<&'static str> {
+    match letter {
+        '<' => Some("&lt;"),
+        '>' => Some("&gt;"),
+        '&' => Some("&amp;"),
+        '"' => Some("&quot;"),
+        other if other.is_control() => Some(" "),
+        _ => None,
     }
 }
 
@@ -37,23 +131,6 @@ fn thousandths(rest: u128, unit: u128) -> u128 {
     match rest.checked_mul(1000) {
         Some(times) => times / unit.max(1),
         None => rest / (unit / 1000).max(1),
-    }
-}
-
-/// A moment or a time in nanoseconds, in the greatest unit that it fills.
-#[derive(Clone, Copy, Debug)]
-pub(crate) struct Moment(pub(crate) u64);
-
-impl fmt::Display for Moment {
-    fn fmt<W: fmt::Write>(&self, f: &mut fmt::Formatter<W>) -> fmt::Result {
-        if self.0 == 0 {
-            return f.write_str("0 s");
-        }
-        let (unit, name) = unit_of(self.0);
-        let parts = u128::from(self.0);
-        let unit = u128::from(unit);
-        let amount = Amount { parts, unit, name };
-        write!(f, "{amount}")
     }
 }
 
@@ -67,115 +144,6 @@ fn unit_of(time: u64) -> (u64, &'static str) {
         (1000, "µs")
     } else {
         (1, "ns")
-    }
-}
-
-/// A moment in nanoseconds, in the unit that suits the greatest moment of its axis.
-#[derive(Clone, Copy, Debug)]
-pub(crate) struct Tick {
-    pub(crate) moment: u64,
-    pub(crate) greatest: u64,
-}
-
-impl fmt::Display for Tick {
-    fn fmt<W: fmt::Write>(&self, f: &mut fmt::Formatter<W>) -> fmt::Result {
-        let (unit, name) = unit_of(self.greatest);
-        let whole = self.moment / unit.max(1);
-        let rest = self.moment % unit.max(1);
-        if rest == 0 {
-            return write!(f, "{whole} {name}");
-        }
-        write!(f, "{whole}.")?;
-        let mut rest = rest;
-        let mut part = unit / 10;
-        for _ in 0..9 {
-            if rest > 0 {
-                let digit = rest / part.max(1);
-                write!(f, "{digit}")?;
-                rest %= part.max(1);
-                part /= 10;
-            }
-        }
-        write!(f, " {name}")
-    }
-}
-
-/// A rate in millionths of a byte a second, in the greatest unit that it fills.
-#[derive(Clone, Copy, Debug)]
-pub(crate) struct Pace(pub(crate) u128);
-
-impl fmt::Display for Pace {
-    fn fmt<W: fmt::Write>(&self, f: &mut fmt::Formatter<W>) -> fmt::Result {
-        let size = Size(self.0);
-        write!(f, "{size}/s")
-    }
-}
-
-/// Millionths of a byte, in the greatest unit that they fill.
-#[derive(Clone, Copy, Debug)]
-pub(crate) struct Size(pub(crate) u128);
-
-impl fmt::Display for Size {
-    fn fmt<W: fmt::Write>(&self, f: &mut fmt::Formatter<W>) -> fmt::Result {
-        let parts = self.0;
-        let (unit, name) = if parts >= 1_000_000_000 * MILLION {
-            (1_000_000_000 * MILLION, "GB")
-        } else if parts >= 1_000_000 * MILLION {
-            (1_000_000 * MILLION, "MB")
-        } else if parts >= 1000 * MILLION {
-            (1000 * MILLION, "kB")
-        } else {
-            (MILLION, "B")
-        };
-        let amount = Amount { parts, unit, name };
-        write!(f, "{amount}")
-    }
-}
-
-/// What a cap holds for.
-impl fmt::Display for Side {
-    fn fmt<W: fmt::Write>(&self, f: &mut fmt::Formatter<W>) -> fmt::Result {
-        match self {
-            Side::Egress(peer) => write!(f, "{peer} sends"),
-            Side::Ingress(peer) => write!(f, "{peer} receives"),
-            Side::Link(origin, recipient) => write!(f, "{origin} → {recipient}"),
-        }
-    }
-}
-
-/// So many of something: `1 message`, `2 messages`.
-#[derive(Clone, Copy, Debug)]
-pub(crate) struct Count(pub(crate) u64, pub(crate) &'static str);
-
-impl fmt::Display for Count {
-    fn fmt<W: fmt::Write>(&self, f: &mut fmt::Formatter<W>) -> fmt::Result {
-        let count = self.0;
-        let word = self.1;
-        if count == 1 {
-            write!(f, "1 {word}")
-        } else {
-            write!(f, "{count} {word}s")
-        }
-    }
-}
-
-/// A text that stands in a file of marks, as SVG and HTML are.
-#[derive(Clone, Copy, Debug)]
-pub(crate) struct Marked<'a>(pub(crate) &'a str);
-
-impl fmt::Display for Marked<'_> {
-    fn fmt<W: fmt::Write>(&self, f: &mut fmt::Formatter<W>) -> fmt::Result {
-        for letter in self.0.chars() {
-            match letter {
-                '<' => f.write_str("&lt;")?,
-                '>' => f.write_str("&gt;")?,
-                '&' => f.write_str("&amp;")?,
-                '"' => f.write_str("&quot;")?,
-                other if other.is_control() => f.write_str(" ")?,
-                other => write!(f, "{other}")?,
-            }
-        }
-        Ok(())
     }
 }
 

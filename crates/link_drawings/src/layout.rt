@@ -62,7 +62,7 @@ impl Drop for Layout {
 }
 
 /// How many rows are left out.
-#[derive(Clone, Copy, Debug, PartialEq, Eq)]
+#[derive(Clone, Copy, PartialEq, Eq)]
 pub(crate) struct Left {
     pub(crate) caps: usize,
     pub(crate) peers: usize,
@@ -122,6 +122,26 @@ impl Layout {
         options: &Options,
         sides: &mut BTreeSet<Side>,
     ) -> Result<(), Error> {
+        let mut found = self.find_pairs(history, options, sides)?;
+        self.more.pairs = found.len().saturating_sub(MOST_PAIRS);
+        if self.more.pairs > 0 {
+            found.sort_unstable_by(|a, b| b.0.cmp(&a.0));
+            found.truncate(MOST_PAIRS);
+        }
+        for (_, origin, recipient) in &found {
+            self.pairs.push((*origin, *recipient))?;
+        }
+        self.pairs.sort_unstable();
+        Ok(())
+    }
+
+    /// The pairs in which something happens, each with how much it sends.
+    fn find_pairs(
+        &mut self,
+        history: &History,
+        options: &Options,
+        sides: &mut BTreeSet<Side>,
+    ) -> Result<Vec<(u128, u64, u64)>, Error> {
         let mut found = Vec::new(history.alloc());
         for (pair, track) in &history.tracks {
             let (origin, recipient) = *pair;
@@ -134,16 +154,7 @@ impl Layout {
                 }
             }
         }
-        self.more.pairs = found.len().saturating_sub(MOST_PAIRS);
-        if self.more.pairs > 0 {
-            found.sort_unstable_by(|a, b| b.0.cmp(&a.0));
-            found.truncate(MOST_PAIRS);
-        }
-        for (_, origin, recipient) in &found {
-            self.pairs.push((*origin, *recipient))?;
-        }
-        self.pairs.sort_unstable();
-        Ok(())
+        Ok(found)
     }
 
     /// The capped sides on which something is sent.
@@ -174,15 +185,7 @@ impl Layout {
         options: &Options,
         sides: &BTreeSet<Side>,
     ) -> Result<(), Error> {
-        let mut found = Vec::new(alloc);
-        for side in sides {
-            match side {
-                Side::Egress(peer) => found.push((*peer, *side))?,
-                Side::Ingress(peer) => found.push((*peer, *side))?,
-                Side::Link(_, _) => {}
-            }
-        }
-        found.sort_unstable();
+        let found = sides_of_peers(alloc, sides)?;
         for (peer, side) in &found {
             if options.shows(*peer) {
                 if self.peers.len() < MOST_SIDES {
@@ -214,6 +217,18 @@ impl Layout {
 /// How far so many rows are apart that are to be so high in all.
 fn pitch(rows: usize, all: u64, least: u64, most: u64) -> u64 {
     (all / (rows as u64).max(1)).max(least).min(most)
+}
+
+/// What peers send and receive, by peer.
+fn sides_of_peers(alloc: Global, sides: &BTreeSet<Side>) -> Result<Vec<(u64, Side)>, Error> {
+    let mut found = Vec::new(alloc);
+    for side in sides {
+        if let Side::Egress(peer) | Side::Ingress(peer) = side {
+            found.push((*peer, *side))?;
+        }
+    }
+    found.sort_unstable();
+    Ok(found)
 }
 
 /// Whether there is a message in the time that is shown.

@@ -9,6 +9,7 @@ pub mod field;
 mod frame;
 mod head;
 pub mod history;
+mod ink;
 mod labels;
 mod layout;
 pub mod options;

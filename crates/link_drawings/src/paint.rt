@@ -2,11 +2,10 @@
 
 use crate::board::Board;
 use crate::frame::Frame;
-use std::io;
-use std::io::Write;
+use crate::ink::Ink;
 
 /// A band of a picture in which rates are heights.
-#[derive(Clone, Copy, Debug)]
+#[derive(Clone, Copy)]
 pub(crate) struct Band {
     /// Where its foot stands.
     pub(crate) foot: u64,
@@ -30,100 +29,82 @@ impl Band {
 }
 
 /// The parts of a path that fill the columns up to the upper rates.
-pub(crate) fn fill<W: Write>(
-    out: &mut W,
-    frame: Frame,
-    board: &Board,
-    band: Band,
-) -> io::Result<()> {
+pub(crate) fn fill(ink: &mut Ink, frame: Frame, board: &Board, band: Band) {
     let mut height = 0u64;
     for (column, rate) in board.high.iter().enumerate() {
         let up = band.up(*rate);
         if up != height {
-            turn(out, frame.x(column), band.foot, height, up)?;
+            turn(ink, frame.x(column), band.foot, height, up);
             height = up;
         }
     }
     if height > 0 {
-        turn(out, frame.x(frame.columns()), band.foot, height, 0)?;
+        turn(ink, frame.x(frame.columns()), band.foot, height, 0);
     }
-    Ok(())
 }
 
 /// An area goes on with another height from there.
-fn turn<W: Write>(out: &mut W, x: u64, foot: u64, before: u64, after: u64) -> io::Result<()> {
-    let top = foot.saturating_sub(after);
+fn turn(ink: &mut Ink, x: u64, foot: u64, before: u64, after: u64) {
     if before == 0 {
-        write!(out, "M{x} {foot}V{top}")
-    } else if after == 0 {
-        write!(out, "H{x}V{foot}z")
+        ink.put("M", x);
+        ink.put(" ", foot);
     } else {
-        write!(out, "H{x}V{top}")
+        ink.put("H", x);
+    }
+    ink.put("V", foot.saturating_sub(after));
+    if before > 0 && after == 0 {
+        ink.text("z");
     }
 }
 
 /// The parts of a path that fill the columns from the lower to the upper rates.
-pub(crate) fn fill_between<W: Write>(
-    out: &mut W,
-    frame: Frame,
-    board: &Board,
-    band: Band,
-) -> io::Result<()> {
+pub(crate) fn fill_between(ink: &mut Ink, frame: Frame, board: &Board, band: Band) {
     let mut begin = 0usize;
     let mut run = (0u64, 0u64);
     for (column, (low, high)) in board.low.iter().zip(board.high.iter()).enumerate() {
         let next = (band.up(*low), band.up(*high));
         if next != run {
-            fill_run(out, frame.x(begin), frame.x(column), run, band.foot)?;
+            fill_run(ink, frame.x(begin), frame.x(column), run, band.foot);
             begin = column;
             run = next;
         }
     }
     let end = frame.x(frame.columns());
-    fill_run(out, frame.x(begin), end, run, band.foot)
+    fill_run(ink, frame.x(begin), end, run, band.foot);
 }
 
 /// A part of a path: from the lower to the upper height.
-fn fill_run<W: Write>(
-    out: &mut W,
-    from: u64,
-    to: u64,
-    run: (u64, u64),
-    foot: u64,
-) -> io::Result<()> {
-    if run.1 <= run.0 {
-        return Ok(());
-    }
+fn fill_run(ink: &mut Ink, from: u64, to: u64, run: (u64, u64), foot: u64) {
     let begin = foot.saturating_sub(run.0);
     let height = run.1.saturating_sub(run.0);
-    block(out, (from, to), begin, height)
+    block(ink, (from, to), begin, height);
 }
 
 /// A part of a path: an area of that height above its foot.
-pub(crate) fn block<W: Write>(
-    out: &mut W,
-    run: (u64, u64),
-    foot: u64,
-    height: u64,
-) -> io::Result<()> {
+pub(crate) fn block(ink: &mut Ink, run: (u64, u64), foot: u64, height: u64) {
     let (from, to) = run;
     if to <= from || height == 0 {
-        return Ok(());
+        return;
     }
     let width = to.saturating_sub(from);
-    write!(out, "M{from} {foot}v-{height}h{width}v{height}z")
+    ink.put("M", from);
+    ink.put(" ", foot);
+    ink.put("v-", height);
+    ink.put("h", width);
+    ink.put("v", height);
+    ink.text("z");
 }
 
 /// The parts of a path that lie on the columns in which what is held lasts for that quarter of the
 /// time: from more than `quarter - 1` quarters up to `quarter` of them.
-pub(crate) fn mark_quarter<W: Write>(
-    out: &mut W,
+pub(crate) fn mark_quarter(
+    ink: &mut Ink,
     frame: Frame,
     board: &Board,
     quarter: u64,
     foot: u64,
     height: u64,
-) -> io::Result<()> {
+) {
     let mut begin: Option<usize> = None;
     for (column, held) in board.held.iter().enumerate() {
         let holds = quarter_of(frame, column, *held) == quarter;
@@ -135,7 +116,7 @@ pub(crate) fn mark_quarter<W: Write>(
             }
             Some(first) => {
                 if !holds {
-                    block(out, (frame.x(first), frame.x(column)), foot, height)?;
+                    block(ink, (frame.x(first), frame.x(column)), foot, height);
                     begin = None;
                 }
             }
@@ -143,9 +124,8 @@ pub(crate) fn mark_quarter<W: Write>(
     }
     if let Some(first) = begin {
         let end = frame.x(frame.columns());
-        block(out, (frame.x(first), end), foot, height)?;
+        block(ink, (frame.x(first), end), foot, height);
     }
-    Ok(())
 }
 
 /// How many quarters of a column are held, rounded up.
@@ -158,15 +138,16 @@ pub(crate) fn quarter_of(frame: Frame, column: usize, held: u64) -> u64 {
 }
 
 /// A part of a path: a level line.
-pub(crate) fn line<W: Write>(out: &mut W, from: u64, to: u64, height: u64) -> io::Result<()> {
-    if to <= from {
-        return Ok(());
+pub(crate) fn line(ink: &mut Ink, from: u64, to: u64, height: u64) {
+    if from < to {
+        ink.put("M", from);
+        ink.put(" ", height);
+        ink.put("H", to);
     }
-    write!(out, "M{from} {height}H{to}")
 }
 
 /// Level lines of one height, which join where they meet.
-#[derive(Clone, Copy, Debug)]
+#[derive(Clone, Copy)]
 pub(crate) struct Lines {
     height: u64,
     from: u64,
@@ -184,19 +165,18 @@ impl Lines {
     }
 
     /// One more line, which begins no earlier than those before.
-    pub(crate) fn add<W: Write>(&mut self, out: &mut W, from: u64, to: u64) -> io::Result<()> {
+    pub(crate) fn add(&mut self, ink: &mut Ink, from: u64, to: u64) {
         if from <= self.to {
             self.to = self.to.max(to);
-            return Ok(());
+            return;
         }
-        self.end(out)?;
+        self.end(ink);
         self.from = from;
         self.to = to;
-        Ok(())
     }
 
     /// Draws what is left.
-    pub(crate) fn end<W: Write>(&self, out: &mut W) -> io::Result<()> {
-        line(out, self.from, self.to, self.height)
+    pub(crate) fn end(&self, ink: &mut Ink) {
+        line(ink, self.from, self.to, self.height);
     }
 }

@@ -4,17 +4,16 @@ use crate::board::Board;
 use crate::caps::Side;
 use crate::frame::{Frame, LEFT, SPAN};
 use crate::history::MILLION;
-use crate::labels::{Count, Moment, Size, letters};
+use crate::ink::Ink;
+use crate::labels::letters;
 use crate::paint::{Band, Lines, block, fill, line};
 use crate::track::{Sent, Track};
-use std::io;
-use std::io::Write;
 
 /// Rows that are at least so far apart have a name each, and lines of messages beside each other.
 pub(crate) const WIDE_ROW: u64 = 40;
 
 /// Where the row of a pair stands.
-#[derive(Clone, Copy, Debug)]
+#[derive(Clone, Copy)]
 pub(crate) struct Row {
     pub(crate) top: u64,
     pub(crate) pitch: u64,
@@ -52,93 +51,104 @@ impl Row {
         }
         (place % 4) as u64 * (self.margin() / 4)
     }
+
+    /// How large the mark is with which a message ends.
+    fn end_size(&self) -> u64 {
+        (self.margin() / 2).clamp(2, 8)
+    }
 }
 
 /// Draws the row of a pair.
-pub(crate) fn draw_pair<W: Write>(
-    out: &mut W,
+pub(crate) fn draw_pair(
+    ink: &mut Ink,
     frame: Frame,
     board: &mut Board,
     row: Row,
     pair: (u64, u64),
     track: &Track,
-) -> io::Result<()> {
-    let band = row.band();
-    let shade = track.shade;
-    draw_row(out, row, pair, track)?;
+) {
+    draw_row(ink, row, pair, track);
     board.clear();
     board.add(frame, &track.pieces, true);
-    write!(out, "<path class=\"p{shade}\" d=\"")?;
-    fill(out, frame, board, band)?;
-    draw_instants(out, frame, band, track)?;
-    writeln!(out, "\"/>")?;
-    draw_stalls(out, frame, band, track)?;
-    draw_waiting(out, frame, row, track)?;
-    draw_latency(out, frame, row, track)?;
-    draw_ends(out, frame, row, track)?;
+    ink.put("<path class=\"p", track.shade as u64);
+    ink.text("\" d=\"");
+    fill(ink, frame, board, row.band());
+    draw_instants(ink, frame, row.band(), track);
+    ink.text("\"/>\n");
+    draw_stalls(ink, frame, row.band(), track);
+    draw_waiting(ink, frame, row, track);
+    draw_latency(ink, frame, row, track);
+    draw_arrivals(ink, frame, row, track);
+    draw_drops(ink, frame, row, track);
     if row.is_detailed {
         for message in &track.messages {
-            draw_hover(out, frame, row, pair, message)?;
+            draw_hover(ink, frame, row, pair, message);
         }
     }
-    Ok(())
 }
 
 /// What is told of a pair where one points at its row, and its foot.
-fn draw_row<W: Write>(out: &mut W, row: Row, pair: (u64, u64), track: &Track) -> io::Result<()> {
-    let (origin, recipient) = pair;
-    let count = Count(track.messages.len() as u64, "message");
+fn draw_row(ink: &mut Ink, row: Row, pair: (u64, u64), track: &Track) {
+    ink.put("<rect class=\"m\" x=\"0\" y=\"", row.top);
+    ink.put("\" width=\"2000\" height=\"", row.pitch);
+    ink.text("\">");
+    tell_all(ink, pair, track);
+    ink.text("</rect>\n");
+    if row.pitch >= WIDE_ROW {
+        draw_foot(ink, row.band().foot);
+    }
+}
+
+/// How many messages a pair has, and of what size.
+fn tell_all(ink: &mut Ink, pair: (u64, u64), track: &Track) {
     let mut all = 0u128;
     for message in &track.messages {
         all = all.saturating_add(message.length as u128);
     }
-    let size = Size(all.saturating_mul(MILLION));
-    let top = row.top;
-    let pitch = row.pitch;
-    write!(
-        out,
-        "<rect class=\"m\" x=\"0\" y=\"{top}\" width=\"2000\" height=\"{pitch}\">"
-    )?;
-    writeln!(
-        out,
-        "<title>{origin} → {recipient}: {count}, {size}</title></rect>"
-    )?;
-    if pitch < WIDE_ROW {
-        return Ok(());
-    }
-    let foot = row.band().foot;
-    let right = LEFT.saturating_add(SPAN);
-    writeln!(out, "<path class=\"f\" d=\"M{LEFT} {foot}H{right}\"/>")
+    ink.text("<title>");
+    ink.pair(pair.0, pair.1);
+    ink.text(": ");
+    ink.count(track.messages.len() as u64, "message");
+    ink.text(", ");
+    ink.size(all.saturating_mul(MILLION));
+    ink.text("</title>");
+}
+
+/// The foot of a row.
+pub(crate) fn draw_foot(ink: &mut Ink, foot: u64) {
+    ink.put("<path class=\"f\" d=\"M", LEFT);
+    ink.put(" ", foot);
+    ink.put("H", LEFT.saturating_add(SPAN));
+    ink.text("\"/>\n");
 }
 
 /// A name at the left of a row whose middle is there, made narrower where it is long.
-pub(crate) fn draw_name<W: Write>(
-    out: &mut W,
-    side: Side,
-    middle: u64,
-    pitch: u64,
-) -> io::Result<()> {
-    let y = middle.saturating_add(7);
-    let x = LEFT.saturating_sub(14);
-    let class = if pitch < 24 { "n i" } else { "n" };
-    write!(out, "<text x=\"{x}\" y=\"{y}\" class=\"{class}\"")?;
+pub(crate) fn draw_name(ink: &mut Ink, side: Side, middle: u64, pitch: u64) {
+    ink.put("<text x=\"", LEFT.saturating_sub(14));
+    ink.put("\" y=\"", middle.saturating_add(7));
+    ink.text(if pitch < 24 {
+        "\" class=\"n i\""
+    } else {
+        "\" class=\"n\""
+    });
     if letters(side) > 17 {
-        out.write_all(b" textLength=\"220\" lengthAdjust=\"spacingAndGlyphs\"")?;
+        ink.text(" textLength=\"220\" lengthAdjust=\"spacingAndGlyphs\"");
     }
-    writeln!(out, ">{side}</text>")
+    ink.text(">");
+    ink.side(side);
+    ink.text("</text>\n");
 }
 
 /// Blocks for messages that take no time to send.
-fn draw_instants<W: Write>(out: &mut W, frame: Frame, band: Band, track: &Track) -> io::Result<()> {
+fn draw_instants(ink: &mut Ink, frame: Frame, band: Band, track: &Track) {
     for message in &track.messages {
         if let (Some(start), Some(done)) = (message.start, message.done) {
             if start == done && shows(frame, start, done) {
                 let x = frame.at(start);
-                block(out, (x, x.saturating_add(2)), band.foot, band.height)?;
+                block(ink, (x, x.saturating_add(2)), band.foot, band.height);
             }
         }
     }
-    Ok(())
 }
 
 /// Whether a time is partly in the picture.
@@ -147,27 +157,26 @@ fn shows(frame: Frame, from: u64, to: u64) -> bool {
 }
 
 /// The times in which a message is in flight and nothing of it is sent.
-fn draw_stalls<W: Write>(out: &mut W, frame: Frame, band: Band, track: &Track) -> io::Result<()> {
+fn draw_stalls(ink: &mut Ink, frame: Frame, band: Band, track: &Track) {
     let mut is_open = false;
     for piece in &track.pieces {
         if piece.rate == 0 && shows(frame, piece.from, piece.to) {
             if !is_open {
-                out.write_all(b"<path class=\"s\" d=\"")?;
+                ink.text("<path class=\"s\" d=\"");
                 is_open = true;
             }
             let x = frame.at(piece.from);
             let end = frame.at(piece.to).max(x.saturating_add(2));
-            block(out, (x, end), band.foot, band.height)?;
+            block(ink, (x, end), band.foot, band.height);
         }
     }
     if is_open {
-        writeln!(out, "\"><title>stalls: a rate of 0</title></path>")?;
+        ink.text("\"><title>stalls: a rate of 0</title></path>\n");
     }
-    Ok(())
 }
 
 /// The times in which messages wait: lines below the foot.
-fn draw_waiting<W: Write>(out: &mut W, frame: Frame, row: Row, track: &Track) -> io::Result<()> {
+fn draw_waiting(ink: &mut Ink, frame: Frame, row: Row, track: &Track) {
     let margin = row.margin();
     let height = row
         .band()
@@ -175,124 +184,142 @@ fn draw_waiting<W: Write>(out: &mut W, frame: Frame, row: Row, track: &Track) ->
         .saturating_add(margin.div_ceil(2))
         .saturating_sub(row.lane(1));
     let mut lines = Lines::new(height);
-    out.write_all(b"<path class=\"w\" d=\"")?;
+    ink.text("<path class=\"w\" d=\"");
     for (place, message) in track.messages.iter().enumerate() {
         let start = message.start.unwrap_or(frame.last());
         if start > message.enqueued && shows(frame, message.enqueued, start) {
             let from = frame.at(message.enqueued);
             let to = frame.at(start);
             if row.pitch < WIDE_ROW {
-                lines.add(out, from, to)?;
+                lines.add(ink, from, to);
             } else {
-                line(out, from, to, height.saturating_add(row.lane(place)))?;
+                line(ink, from, to, height.saturating_add(row.lane(place)));
             }
         }
     }
-    lines.end(out)?;
-    writeln!(out, "\"/>")
+    lines.end(ink);
+    ink.text("\"/>\n");
 }
 
 /// The times in which messages are under way, done and not yet there: lines above the rates.
-fn draw_latency<W: Write>(out: &mut W, frame: Frame, row: Row, track: &Track) -> io::Result<()> {
+fn draw_latency(ink: &mut Ink, frame: Frame, row: Row, track: &Track) {
     let height = row.top.saturating_add(row.margin().div_ceil(3));
     let mut lines = Lines::new(height);
-    out.write_all(b"<path class=\"l\" d=\"")?;
+    ink.text("<path class=\"l\" d=\"");
     for (place, message) in track.messages.iter().enumerate() {
         if let (Some(done), Some(arrives)) = (message.done, message.deliver_at) {
             if arrives > done && shows(frame, done, arrives) {
                 let from = frame.at(done);
                 let to = frame.at(arrives);
                 if row.pitch < WIDE_ROW {
-                    lines.add(out, from, to)?;
+                    lines.add(ink, from, to);
                 } else {
-                    line(out, from, to, height.saturating_add(row.lane(place)))?;
+                    line(ink, from, to, height.saturating_add(row.lane(place)));
                 }
             }
         }
     }
-    lines.end(out)?;
-    writeln!(out, "\"/>")
+    lines.end(ink);
+    ink.text("\"/>\n");
 }
 
-/// Where messages arrive, and where they are dropped.
-fn draw_ends<W: Write>(out: &mut W, frame: Frame, row: Row, track: &Track) -> io::Result<()> {
-    let size = (row.margin() / 2).clamp(2, 8);
+/// Where messages arrive.
+fn draw_arrivals(ink: &mut Ink, frame: Frame, row: Row, track: &Track) {
     let mut before = 0u64;
-    out.write_all(b"<path class=\"a\" d=\"")?;
+    ink.text("<path class=\"a\" d=\"");
     for (place, message) in track.messages.iter().enumerate() {
         if let Some(arrives) = message.deliver_at {
             let x = frame.at(arrives);
             if x != before && shows(frame, arrives, arrives) {
-                let y = row.top.saturating_add(row.lane(place));
-                write!(out, "M{x} {y}v{size}")?;
+                ink.put("M", x);
+                ink.put(" ", row.top.saturating_add(row.lane(place)));
+                ink.put("v", row.end_size());
                 before = if row.pitch < WIDE_ROW { x } else { 0 };
             }
         }
     }
-    out.write_all(b"\"/>\n<path class=\"d\" d=\"")?;
+    ink.text("\"/>\n");
+}
+
+/// Where messages are dropped.
+fn draw_drops(ink: &mut Ink, frame: Frame, row: Row, track: &Track) {
+    ink.text("<path class=\"d\" d=\"");
     for message in &track.messages {
         if let (Some(done), None) = (message.done, message.deliver_at) {
             if shows(frame, done, done) {
-                let x = frame.at(done).saturating_sub(size / 2);
-                let y = row.top.saturating_add(1);
-                write!(out, "M{x} {y}l{size} {size}m0-{size}l-{size} {size}")?;
+                draw_cross(ink, frame.at(done), row.top, row.end_size());
             }
         }
     }
-    writeln!(out, "\"/>")
+    ink.text("\"/>\n");
+}
+
+/// A part of a path: a cross of that size below the top.
+fn draw_cross(ink: &mut Ink, x: u64, top: u64, size: u64) {
+    ink.put("M", x.saturating_sub(size / 2));
+    ink.put(" ", top.saturating_add(1));
+    ink.put("l", size);
+    ink.put(" ", size);
+    ink.put("m0-", size);
+    ink.put("l-", size);
+    ink.put(" ", size);
 }
 
 /// What is told of a message where one points at it.
-fn draw_hover<W: Write>(
-    out: &mut W,
-    frame: Frame,
-    row: Row,
-    pair: (u64, u64),
-    message: &Sent,
-) -> io::Result<()> {
+fn draw_hover(ink: &mut Ink, frame: Frame, row: Row, pair: (u64, u64), message: &Sent) {
     let Some(start) = message.start else {
-        return Ok(());
+        return;
     };
     let end = message.done.unwrap_or(frame.last());
     if !shows(frame, start, end) {
-        return Ok(());
+        return;
     }
-    let band = row.band();
     let x = frame.at(start);
     let width = frame.at(end).saturating_sub(x).max(2);
-    let y = band.foot.saturating_sub(band.height);
-    let height = band.height;
-    let (origin, recipient) = pair;
-    let channel = message.channel;
-    let size = Size((message.length as u128).saturating_mul(MILLION));
-    let class = if row.pitch < WIDE_ROW { "m" } else { "m e" };
-    write!(
-        out,
-        "<rect class=\"{class}\" x=\"{x}\" y=\"{y}\" width=\"{width}\" height=\"{height}\"><title>"
-    )?;
-    write!(out, "{origin} → {recipient}, channel {channel}: {size}\n")?;
-    write_moments(out, message, if row.is_exact { Some(start) } else { None })?;
-    writeln!(out, "</title></rect>")
+    draw_area(ink, row, x, width);
+    ink.text("<title>");
+    ink.pair(pair.0, pair.1);
+    ink.put(", channel ", message.channel);
+    ink.text(": ");
+    ink.size((message.length as u128).saturating_mul(MILLION));
+    ink.text("\n");
+    tell_moments(ink, message, if row.is_exact { Some(start) } else { None });
+    ink.text("</title></rect>\n");
+}
+
+/// The area of a message in the band of its row, which is not closed yet.
+fn draw_area(ink: &mut Ink, row: Row, x: u64, width: u64) {
+    let band = row.band();
+    ink.text(if row.pitch < WIDE_ROW {
+        "<rect class=\"m\""
+    } else {
+        "<rect class=\"m e\""
+    });
+    ink.put(" x=\"", x);
+    ink.put("\" y=\"", band.foot.saturating_sub(band.height));
+    ink.put("\" width=\"", width);
+    ink.put("\" height=\"", band.height);
+    ink.text("\">");
 }
 
 /// When the message was enqueued, starts, where that is known, is done and arrives.
-fn write_moments<W: Write>(out: &mut W, message: &Sent, start: Option<u64>) -> io::Result<()> {
-    let enqueued = Moment(message.enqueued);
-    write!(out, "enqueued {enqueued}")?;
+fn tell_moments(ink: &mut Ink, message: &Sent, start: Option<u64>) {
+    ink.text("enqueued ");
+    ink.moment(message.enqueued);
     if let Some(start) = start {
-        let start = Moment(start);
-        write!(out, ", starts {start}")?;
+        ink.text(", starts ");
+        ink.moment(start);
     }
     let Some(done) = message.done else {
-        return Ok(());
+        return;
     };
-    let done = Moment(done);
-    write!(out, ", done {done}")?;
+    ink.text(", done ");
+    ink.moment(done);
     match message.deliver_at {
         Some(arrives) => {
-            let arrives = Moment(arrives);
-            write!(out, ", arrives {arrives}")
+            ink.text(", arrives ");
+            ink.moment(arrives);
         }
-        None => out.write_all(b", dropped"),
+        None => ink.text(", dropped"),
     }
 }

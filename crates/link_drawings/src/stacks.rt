@@ -4,11 +4,11 @@ use crate::board::Board;
 use crate::caps::{Cap, Side};
 use crate::frame::{Frame, LEFT, SPAN};
 use crate::history::History;
-use crate::labels::Pace;
+use crate::ink::Ink;
 use crate::paint::{Band, fill, fill_between, line, mark_quarter};
-use crate::sums::Stretch;
-use std::io;
-use std::io::Write;
+use crate::rows::draw_foot;
+use crate::sums::{Stretch, stretches};
+use fair_rates::error::Error;
 
 /// Parts of a whole cap.
 const WHOLE: u128 = 1_000_000;
@@ -17,44 +17,69 @@ const WHOLE: u128 = 1_000_000;
 const STACKED: u64 = 16;
 
 /// Draws the row of a cap, whose top is there: how much of it is used, and when it is full.
-pub(crate) fn draw_cap<W: Write>(
-    out: &mut W,
+pub(crate) fn draw_cap(
+    ink: &mut Ink,
     history: &History,
     frame: Frame,
     board: &mut Board,
     place: (u64, u64),
     side: Side,
-    stretches: &[Stretch],
-) -> io::Result<()> {
+) {
+    let band = band_at(place, WHOLE);
+    if sum_up(board, history, frame, side).is_err() {
+        ink.refuse();
+    }
+    draw_foot(ink, band.foot);
+    ink.text("<path class=\"z\" d=\"");
+    fill(ink, frame, board, band);
+    ink.text("\"><title>");
+    ink.side(side);
+    ink.text(": use of its cap</title></path>\n");
+    for quarter in 1u64..5 {
+        draw_quarter(ink, frame, board, quarter, band);
+    }
+}
+
+/// The columns in which a cap is full for that quarter of the time.
+fn draw_quarter(ink: &mut Ink, frame: Frame, board: &Board, quarter: u64, band: Band) {
+    ink.put("<path class=\"u", quarter);
+    ink.text("\" d=\"");
+    mark_quarter(ink, frame, board, quarter, band.foot, band.height);
+    ink.text("\"/>\n");
+}
+
+/// The band of a row, whose top and pitch are those.
+fn band_at(place: (u64, u64), full: u128) -> Band {
     let (top, pitch) = place;
-    let band = Band {
+    Band {
         foot: top.saturating_add(pitch).saturating_sub(2),
         height: pitch.saturating_sub(4),
-        full: WHOLE,
-    };
-    sum_up(board, history, frame, stretches);
-    draw_foot(out, band.foot)?;
-    out.write_all(b"<path class=\"z\" d=\"")?;
-    fill(out, frame, board, band)?;
-    writeln!(out, "\"><title>{side}: use of its cap</title></path>")?;
-    for quarter in 1u64..5 {
-        write!(out, "<path class=\"u{quarter}\" d=\"")?;
-        mark_quarter(out, frame, board, quarter, band.foot, band.height)?;
-        writeln!(out, "\"/>")?;
+        full,
+    }
+}
+
+/// The use of a cap in each column, and for how long it is full.
+pub(crate) fn sum_up(
+    board: &mut Board,
+    history: &History,
+    frame: Frame,
+    side: Side,
+) -> Result<(), Error> {
+    let list = stretches(history, side)?;
+    board.clear();
+    for stretch in &list {
+        add_use(board, history, frame, *stretch);
     }
     Ok(())
 }
 
-/// The use of a cap in each column, and for how long it is full.
-pub(crate) fn sum_up(board: &mut Board, history: &History, frame: Frame, stretches: &[Stretch]) {
-    board.clear();
-    for stretch in stretches {
-        if let Some(cap) = stretch.cap {
-            let used = share(stretch.rate, cap);
-            board.spread(frame, stretch.from, stretch.to, used);
-            if stretch.is_full(history.short(cap)) {
-                board.hold(frame, stretch.from, stretch.to);
-            }
+/// The use of a cap for a time.
+fn add_use(board: &mut Board, history: &History, frame: Frame, stretch: Stretch) {
+    if let Some(cap) = stretch.cap {
+        let used = share(stretch.rate, cap);
+        board.spread(frame, stretch.from, stretch.to, used);
+        if stretch.is_full(history.short(cap)) {
+            board.hold(frame, stretch.from, stretch.to);
         }
     }
 }
@@ -80,8 +105,8 @@ pub(crate) fn add_side(board: &mut Board, history: &History, frame: Frame, side:
 }
 
 /// Draws the row of what a peer sends or receives, whose top is there.
-pub(crate) fn draw_peer<W: Write>(
-    out: &mut W,
+pub(crate) fn draw_peer(
+    ink: &mut Ink,
     history: &History,
     frame: Frame,
     board: &mut Board,
@@ -89,61 +114,66 @@ pub(crate) fn draw_peer<W: Write>(
     side: Side,
     full: u128,
     is_detailed: bool,
-) -> io::Result<()> {
-    let (top, pitch) = place;
-    let band = Band {
-        foot: top.saturating_add(pitch).saturating_sub(2),
-        height: pitch.saturating_sub(4),
-        full,
-    };
-    draw_foot(out, band.foot)?;
-    if is_detailed && pitch >= STACKED {
-        draw_stack(out, history, frame, board, band, side)?;
+) {
+    let band = band_at(place, full);
+    let is_high = place.1 >= STACKED;
+    draw_foot(ink, band.foot);
+    if is_detailed && is_high {
+        draw_stack(ink, history, frame, board, band, side);
     } else {
         add_side(board, history, frame, side);
-        out.write_all(b"<path class=\"z\" d=\"")?;
-        fill(out, frame, board, band)?;
-        writeln!(out, "\"><title>{side}</title></path>")?;
+        ink.text("<path class=\"z\" d=\"");
+        fill(ink, frame, board, band);
+        ink.text("\"><title>");
+        ink.side(side);
+        ink.text("</title></path>\n");
     }
-    match history.caps.get(&side) {
-        Some(caps) if pitch >= STACKED => draw_caps(out, frame, band, caps),
-        _ => Ok(()),
+    if is_high {
+        if let Some(caps) = history.caps.get(&side) {
+            draw_caps(ink, frame, band, caps);
+        }
     }
-}
-
-/// The foot of a row.
-fn draw_foot<W: Write>(out: &mut W, foot: u64) -> io::Result<()> {
-    let right = LEFT.saturating_add(SPAN);
-    writeln!(out, "<path class=\"f\" d=\"M{LEFT} {foot}H{right}\"/>")
 }
 
 /// The rates of the pairs, one above the other.
-fn draw_stack<W: Write>(
-    out: &mut W,
+fn draw_stack(
+    ink: &mut Ink,
     history: &History,
     frame: Frame,
     board: &mut Board,
     band: Band,
     side: Side,
-) -> io::Result<()> {
+) {
     board.clear();
     for (pair, track) in &history.tracks {
         if side.holds(pair.0, pair.1) && !track.pieces.is_empty() {
             board.rise();
             board.add(frame, &track.pieces, side.holds_dropped());
-            let (origin, recipient) = *pair;
-            let shade = track.shade;
-            write!(out, "<path class=\"p{shade}\" d=\"")?;
-            fill_between(out, frame, board, band)?;
-            writeln!(out, "\"><title>{origin} → {recipient}</title></path>")?;
+            draw_layer(ink, frame, board, band, *pair, track.shade);
         }
     }
-    Ok(())
+}
+
+/// The rates of a pair above those of the pairs before it.
+fn draw_layer(
+    ink: &mut Ink,
+    frame: Frame,
+    board: &Board,
+    band: Band,
+    pair: (u64, u64),
+    shade: usize,
+) {
+    ink.put("<path class=\"p", shade as u64);
+    ink.text("\" d=\"");
+    fill_between(ink, frame, board, band);
+    ink.text("\"><title>");
+    ink.pair(pair.0, pair.1);
+    ink.text("</title></path>\n");
 }
 
 /// The caps of the side as a line, where it is in the row.
-fn draw_caps<W: Write>(out: &mut W, frame: Frame, band: Band, caps: &[Cap]) -> io::Result<()> {
-    out.write_all(b"<path class=\"k\" d=\"")?;
+fn draw_caps(ink: &mut Ink, frame: Frame, band: Band, caps: &[Cap]) {
+    ink.text("<path class=\"k\" d=\"");
     for (place, cap) in caps.iter().enumerate() {
         let end = match caps.get(place.saturating_add(1)) {
             Some(next) => next.from,
@@ -152,46 +182,36 @@ fn draw_caps<W: Write>(out: &mut W, frame: Frame, band: Band, caps: &[Cap]) -> i
         if let Some(rate) = cap.rate() {
             if rate <= band.full && end >= frame.first() {
                 let height = band.foot.saturating_sub(band.up(rate));
-                line(out, frame.at(cap.from), frame.at(end), height)?;
+                line(ink, frame.at(cap.from), frame.at(end), height);
             }
         }
     }
-    writeln!(out, "\"/>")
+    ink.text("\"/>\n");
 }
 
 /// The cap at the right of its row: what it is, or that it changes.
-pub(crate) fn draw_cap_name<W: Write>(
-    out: &mut W,
-    caps: &[Cap],
-    middle: u64,
-    pitch: u64,
-) -> io::Result<()> {
-    let y = middle.saturating_add(7);
-    let x = LEFT.saturating_add(SPAN).saturating_add(10);
-    let class = if pitch < 24 { "i" } else { "r" };
-    let mut first = None;
-    let mut changes = false;
-    for cap in caps {
-        if first.is_some() && first != Some(cap.cap) {
-            changes = true;
-        }
-        first = Some(cap.cap);
+pub(crate) fn draw_cap_name(ink: &mut Ink, caps: &[Cap], middle: u64, pitch: u64) {
+    ink.put("<text x=\"", LEFT.saturating_add(SPAN).saturating_add(10));
+    ink.put("\" y=\"", middle.saturating_add(7));
+    ink.text(if pitch < 24 {
+        "\" class=\"i\">"
+    } else {
+        "\" class=\"r\">"
+    });
+    match only_rate(caps) {
+        Some(rate) => ink.pace(rate),
+        None => ink.text("changes"),
     }
-    write!(out, "<text x=\"{x}\" y=\"{y}\" class=\"{class}\">")?;
-    match first_rate(caps) {
-        Some(rate) if !changes => {
-            let pace = Pace(rate);
-            write!(out, "{pace}")?;
-        }
-        _ => out.write_all(b"changes")?,
-    }
-    writeln!(out, "</text>")
+    ink.text("</text>\n");
 }
 
-/// The first of the caps, in millionths of a byte a second.
-fn first_rate(caps: &[Cap]) -> Option<u128> {
-    match caps.first() {
-        Some(cap) => cap.rate(),
-        None => None,
+/// The rate of the caps, in millionths of a byte a second, where all are one.
+fn only_rate(caps: &[Cap]) -> Option<u128> {
+    let first = caps.first()?;
+    for cap in caps {
+        if cap.cap != first.cap {
+            return None;
+        }
     }
+    first.rate()
 }

@@ -4,9 +4,10 @@ use crate::caps::{Cap, Side};
 use crate::history::{History, MILLION};
 use crate::track::Track;
 use fair_rates::error::Error;
+use std::alloc::Global;
 
 /// A rate that changes at a moment, in millionths of a byte a second.
-#[derive(Clone, Copy, Debug, PartialEq, Eq, PartialOrd, Ord)]
+#[derive(Clone, Copy, PartialEq, Eq, PartialOrd, Ord)]
 struct Change {
     moment: u64,
     more: u128,
@@ -14,7 +15,7 @@ struct Change {
 }
 
 /// A time in which the sum of the rates stays, and the cap, in millionths of a byte a second.
-#[derive(Clone, Copy, Debug, PartialEq, Eq)]
+#[derive(Clone, Copy)]
 pub(crate) struct Stretch {
     pub(crate) from: u64,
     pub(crate) to: u64,
@@ -35,20 +36,32 @@ impl Stretch {
 /// The stretches of a capped side in which something is sent, in order of time.
 pub(crate) fn stretches(history: &History, side: Side) -> Result<Vec<Stretch>, Error> {
     let alloc = history.alloc();
-    let mut made = Vec::new(alloc);
-    let Some(caps) = history.caps.get(&side) else {
-        return Ok(made);
-    };
-    let mut changes = Vec::new(alloc);
-    for (pair, track) in &history.tracks {
-        if side.holds(pair.0, pair.1) {
-            note_changes(&mut changes, track, side)?;
+    match history.caps.get(&side) {
+        Some(caps) => {
+            let changes = changes(history, side, caps)?;
+            sweep(alloc, &changes, caps)
         }
+        None => Ok(Vec::new(alloc)),
     }
+}
+
+/// What changes for a side with these caps, in order of time.
+fn changes(history: &History, side: Side, caps: &[Cap]) -> Result<Vec<Change>, Error> {
+    let mut changes = Vec::new(history.alloc());
+    note_all(&mut changes, history, side)?;
     note_caps(&mut changes, caps)?;
     changes.sort_unstable();
-    sweep(&mut made, &changes, caps)?;
-    Ok(made)
+    Ok(changes)
+}
+
+/// Notes when the rates of all that share the cap of a side change.
+fn note_all(changes: &mut Vec<Change>, history: &History, side: Side) -> Result<(), Error> {
+    for (pair, track) in &history.tracks {
+        if side.holds(pair.0, pair.1) {
+            note_changes(changes, track, side)?;
+        }
+    }
+    Ok(())
 }
 
 /// Notes when the rates of a pair change.
@@ -83,7 +96,8 @@ fn note_caps(changes: &mut Vec<Change>, caps: &[Cap]) -> Result<(), Error> {
 }
 
 /// Goes through the changes in order of time.
-fn sweep(made: &mut Vec<Stretch>, changes: &[Change], caps: &[Cap]) -> Result<(), Error> {
+fn sweep(alloc: Global, changes: &[Change], caps: &[Cap]) -> Result<Vec<Stretch>, Error> {
+    let mut made = Vec::new(alloc);
     let mut rate = 0u128;
     let mut at = 0u64;
     let mut place = 0usize;
@@ -108,7 +122,7 @@ fn sweep(made: &mut Vec<Stretch>, changes: &[Change], caps: &[Cap]) -> Result<()
             }
         }
     }
-    Ok(())
+    Ok(made)
 }
 
 impl Cap {

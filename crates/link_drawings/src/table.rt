@@ -4,11 +4,12 @@ use crate::caps::Side;
 use crate::exact::{Used, uses};
 use crate::field::{Field, Line, Lines};
 use crate::history::History;
+use crate::ink::Ink;
 use crate::options::Options;
 use crate::track::{Piece, Sent, Track};
 use fair_rates::error::Error;
 use std::io;
-use std::io::{ErrorKind, Write};
+use std::io::Write;
 
 /// What a table has.
 #[derive(Clone, Copy, Debug, PartialEq, Eq)]
@@ -85,19 +86,23 @@ const LATENCIES: &[&str] = &[
     "greatest_s",
 ];
 
-/// Writes a table.
+/// Writes a table. What `ink` still has at the end is its last part.
 pub(crate) fn write<W: Write>(
     out: &mut W,
+    ink: &mut Ink,
     history: &History,
     options: &Options,
     table: Table,
     lines: Lines,
 ) -> io::Result<()> {
     match table {
-        Table::Messages => write_messages(out, history, options, lines),
-        Table::Rates => write_rates(out, history, options, lines),
-        Table::Caps => write_caps(out, history, options, lines),
-        Table::Latencies => write_latencies(out, history, options, lines),
+        Table::Messages => write_messages(out, ink, history, options, lines),
+        Table::Rates => write_rates(out, ink, history, options, lines),
+        Table::Caps => write_caps(out, ink, history, options, lines),
+        Table::Latencies => {
+            write_latencies(ink, history, options, lines);
+            Ok(())
+        }
     }
 }
 
@@ -119,42 +124,44 @@ fn shows_message(options: &Options, message: &Sent) -> bool {
 /// A line for each message, by pair, in order of enqueue.
 fn write_messages<W: Write>(
     out: &mut W,
+    ink: &mut Ink,
     history: &History,
     options: &Options,
     lines: Lines,
 ) -> io::Result<()> {
-    let mut sheet = Line::begin(out, lines, MESSAGES)?;
+    let mut sheet = Line::begin(ink, lines, MESSAGES);
     for (pair, track) in &history.tracks {
         if options.shows_pair(pair.0, pair.1) {
-            for message in &track.messages {
-                if shows_message(options, message) {
-                    write_message(out, &mut sheet, *pair, message)?;
-                }
-            }
+            write_sent(ink, &mut sheet, options, *pair, track);
+            ink.write_to(out)?;
         }
     }
     Ok(())
 }
 
+/// A line for each message of a pair.
+fn write_sent(ink: &mut Ink, sheet: &mut Line, options: &Options, pair: (u64, u64), track: &Track) {
+    for message in &track.messages {
+        if shows_message(options, message) {
+            write_message(ink, sheet, pair, message);
+        }
+    }
+}
+
 /// The line of a message.
-fn write_message<W: Write>(
-    out: &mut W,
-    sheet: &mut Line,
-    pair: (u64, u64),
-    message: &Sent,
-) -> io::Result<()> {
-    sheet.put(out, Field::Whole(pair.0))?;
-    sheet.put(out, Field::Whole(pair.1))?;
-    sheet.put(out, Field::Whole(message.channel))?;
-    sheet.put(out, Field::Whole(message.length as u64))?;
-    sheet.put_moment(out, Some(message.enqueued))?;
-    sheet.put_moment(out, message.start)?;
-    sheet.put_moment(out, message.done)?;
-    sheet.put_moment(out, message.deliver_at)?;
+fn write_message(ink: &mut Ink, sheet: &mut Line, pair: (u64, u64), message: &Sent) {
+    sheet.put(ink, Field::Whole(pair.0));
+    sheet.put(ink, Field::Whole(pair.1));
+    sheet.put(ink, Field::Whole(message.channel));
+    sheet.put(ink, Field::Whole(message.length as u64));
+    sheet.put_moment(ink, Some(message.enqueued));
+    sheet.put_moment(ink, message.start);
+    sheet.put_moment(ink, message.done);
+    sheet.put_moment(ink, message.deliver_at);
     let is_dropped = message.done.is_some() && message.deliver_at.is_none();
-    sheet.put(out, Field::Flag(is_dropped))?;
-    sheet.put_moment(out, latency(message))?;
-    sheet.end(out)
+    sheet.put(ink, Field::Flag(is_dropped));
+    sheet.put_moment(ink, latency(message));
+    sheet.end(ink);
 }
 
 /// The time from the enqueue of a message to its arrival.
@@ -165,122 +172,139 @@ fn latency(message: &Sent) -> Option<u64> {
 /// A line for each time in which a message has one rate.
 fn write_rates<W: Write>(
     out: &mut W,
+    ink: &mut Ink,
     history: &History,
     options: &Options,
     lines: Lines,
 ) -> io::Result<()> {
-    let mut sheet = Line::begin(out, lines, RATES)?;
+    let mut sheet = Line::begin(ink, lines, RATES);
     for (pair, track) in &history.tracks {
         if options.shows_pair(pair.0, pair.1) {
-            for (place, piece) in track.pieces.iter().enumerate() {
-                if shows(options, piece.from, piece.to) {
-                    write_rate(out, &mut sheet, *pair, track, place, *piece)?;
-                }
-            }
+            write_pieces(ink, &mut sheet, options, *pair, track);
+            ink.write_to(out)?;
         }
     }
     Ok(())
 }
 
+/// A line for each time in which a message of a pair has one rate.
+fn write_pieces(
+    ink: &mut Ink,
+    sheet: &mut Line,
+    options: &Options,
+    pair: (u64, u64),
+    track: &Track,
+) {
+    for (place, piece) in track.pieces.iter().enumerate() {
+        if shows(options, piece.from, piece.to) {
+            write_rate(ink, sheet, pair, track, place, *piece);
+        }
+    }
+}
+
 /// The line of a rate.
-fn write_rate<W: Write>(
-    out: &mut W,
+fn write_rate(
+    ink: &mut Ink,
     sheet: &mut Line,
     pair: (u64, u64),
     track: &Track,
     place: usize,
     piece: Piece,
-) -> io::Result<()> {
+) {
     let channel = match track.messages.get(piece.message) {
         Some(message) => Field::Whole(message.channel),
         None => Field::None,
     };
-    sheet.put(out, Field::Whole(pair.0))?;
-    sheet.put(out, Field::Whole(pair.1))?;
-    sheet.put(out, channel)?;
-    sheet.put_moment(out, Some(piece.from))?;
-    sheet.put_moment(out, Some(piece.to))?;
-    match track.reading(place) {
-        Some(reading) => {
-            sheet.put_rate(out, Some(reading.amount))?;
-            sheet.put(out, Field::Flag(reading.is_exact))?;
-        }
-        None => {
-            sheet.put_rate(out, None)?;
-            sheet.put(out, Field::Flag(false))?;
-        }
-    }
-    sheet.end(out)
+    sheet.put(ink, Field::Whole(pair.0));
+    sheet.put(ink, Field::Whole(pair.1));
+    sheet.put(ink, channel);
+    sheet.put_moment(ink, Some(piece.from));
+    sheet.put_moment(ink, Some(piece.to));
+    let (rate, is_exact) = match track.reading(place) {
+        Some(reading) => (Some(reading.amount), reading.is_exact),
+        None => (None, false),
+    };
+    sheet.put_rate(ink, rate);
+    sheet.put(ink, Field::Flag(is_exact));
+    sheet.end(ink);
 }
 
 /// A line for each time in which the use of a cap stays.
 fn write_caps<W: Write>(
     out: &mut W,
+    ink: &mut Ink,
     history: &History,
     options: &Options,
     lines: Lines,
 ) -> io::Result<()> {
-    let mut sheet = Line::begin(out, lines, CAPS)?;
+    let mut sheet = Line::begin(ink, lines, CAPS);
     for (side, _) in &history.caps {
         if options.shows_side(*side) {
-            let Ok(list) = uses(history, *side) else {
-                return Err(io::Error::from(ErrorKind::OutOfMemory));
-            };
-            for used in &list {
-                if shows(options, used.from, used.to) {
-                    write_use(out, &mut sheet, *side, used)?;
-                }
+            if write_uses(ink, &mut sheet, history, options, *side).is_err() {
+                ink.refuse();
             }
+            ink.write_to(out)?;
+        }
+    }
+    Ok(())
+}
+
+/// The lines of the cap of a side.
+fn write_uses(
+    ink: &mut Ink,
+    sheet: &mut Line,
+    history: &History,
+    options: &Options,
+    side: Side,
+) -> Result<(), Error> {
+    let list = uses(history, side)?;
+    for used in &list {
+        if shows(options, used.from, used.to) {
+            write_use(ink, sheet, side, used);
         }
     }
     Ok(())
 }
 
 /// The line of the use of a cap.
-fn write_use<W: Write>(out: &mut W, sheet: &mut Line, side: Side, used: &Used) -> io::Result<()> {
+fn write_use(ink: &mut Ink, sheet: &mut Line, side: Side, used: &Used) {
+    write_side(ink, sheet, side);
+    sheet.put_moment(ink, Some(used.from));
+    sheet.put_moment(ink, Some(used.to));
+    sheet.put(ink, Field::whole(used.cap.map(|cap| cap as u64)));
+    sheet.put_rate(ink, used.sum);
+    sheet.put(ink, Field::flag(used.is_full()));
+    sheet.end(ink);
+}
+
+/// What a cap holds for, and for whom.
+fn write_side(ink: &mut Ink, sheet: &mut Line, side: Side) {
     let (name, origin, recipient) = match side {
-        Side::Egress(peer) => ("egress", Field::Whole(peer), Field::None),
-        Side::Ingress(peer) => ("ingress", Field::None, Field::Whole(peer)),
-        Side::Link(origin, recipient) => ("link", Field::Whole(origin), Field::Whole(recipient)),
+        Side::Egress(peer) => ("egress", Some(peer), None),
+        Side::Ingress(peer) => ("ingress", None, Some(peer)),
+        Side::Link(origin, recipient) => ("link", Some(origin), Some(recipient)),
     };
-    sheet.put(out, Field::Word(name))?;
-    sheet.put(out, origin)?;
-    sheet.put(out, recipient)?;
-    sheet.put_moment(out, Some(used.from))?;
-    sheet.put_moment(out, Some(used.to))?;
-    sheet.put(
-        out,
-        match used.cap {
-            Some(cap) => Field::Whole(cap as u64),
-            None => Field::None,
-        },
-    )?;
-    sheet.put_rate(out, used.sum)?;
-    sheet.put(
-        out,
-        match used.is_full() {
-            Some(is_full) => Field::Flag(is_full),
-            None => Field::None,
-        },
-    )?;
-    sheet.end(out)
+    sheet.put(ink, Field::Word(name));
+    sheet.put(ink, Field::whole(origin));
+    sheet.put(ink, Field::whole(recipient));
 }
 
 /// A line for all messages that arrive, and one for those of each channel.
-fn write_latencies<W: Write>(
-    out: &mut W,
-    history: &History,
-    options: &Options,
-    lines: Lines,
-) -> io::Result<()> {
-    let mut sheet = Line::begin(out, lines, LATENCIES)?;
+fn write_latencies(ink: &mut Ink, history: &History, options: &Options, lines: Lines) {
+    let mut sheet = Line::begin(ink, lines, LATENCIES);
     let Ok(mut found) = latencies(history, options) else {
-        return Err(io::Error::from(ErrorKind::OutOfMemory));
+        ink.refuse();
+        return;
     };
     found.sort_unstable_by_key(|one| one.1);
-    write_quantiles(out, &mut sheet, Field::Word("all"), &found)?;
+    write_quantiles(ink, &mut sheet, Field::Word("all"), &found);
     found.sort_unstable();
-    let mut rest = found.as_slice();
+    write_channels(ink, &mut sheet, &found);
+}
+
+/// A line for the messages of each channel, which are in order.
+fn write_channels(ink: &mut Ink, sheet: &mut Line, found: &[(u64, u64)]) {
+    let mut rest = found;
     for _ in 0..found.len() {
         let Some((channel, _)) = rest.first() else {
             break;
@@ -289,10 +313,9 @@ fn write_latencies<W: Write>(
         let Some((these, others)) = rest.split_at_checked(count) else {
             break;
         };
-        write_quantiles(out, &mut sheet, Field::Whole(*channel), these)?;
+        write_quantiles(ink, sheet, Field::Whole(*channel), these);
         rest = others;
     }
-    Ok(())
 }
 
 /// How many at the front are of that channel.
@@ -312,35 +335,40 @@ fn latencies(history: &History, options: &Options) -> Result<Vec<(u64, u64)>, Er
     let mut found = Vec::new(history.alloc());
     for (pair, track) in &history.tracks {
         if options.shows_pair(pair.0, pair.1) {
-            for message in &track.messages {
-                if shows_message(options, message) {
-                    if let Some(time) = latency(message) {
-                        found.push((message.channel, time))?;
-                    }
-                }
-            }
+            note_latencies(&mut found, options, track)?;
         }
     }
     Ok(found)
 }
 
+/// Notes the channel and the latency of each message of a pair that arrives.
+fn note_latencies(
+    found: &mut Vec<(u64, u64)>,
+    options: &Options,
+    track: &Track,
+) -> Result<(), Error> {
+    for message in &track.messages {
+        if shows_message(options, message) {
+            if let Some(time) = latency(message) {
+                found.push((message.channel, time))?;
+            }
+        }
+    }
+    Ok(())
+}
+
 /// The line of the latencies of a channel, which are in order.
-fn write_quantiles<W: Write>(
-    out: &mut W,
-    sheet: &mut Line,
-    channel: Field,
-    found: &[(u64, u64)],
-) -> io::Result<()> {
-    sheet.put(out, channel)?;
-    sheet.put(out, Field::Whole(found.len() as u64))?;
+fn write_quantiles(ink: &mut Ink, sheet: &mut Line, channel: Field, found: &[(u64, u64)]) {
+    sheet.put(ink, channel);
+    sheet.put(ink, Field::Whole(found.len() as u64));
     for percent in [0u64, 50, 90, 99, 100] {
         let time = match found.get(rank(found.len(), percent)) {
             Some(one) => Some(one.1),
             None => None,
         };
-        sheet.put_moment(out, time)?;
+        sheet.put_moment(ink, time);
     }
-    sheet.end(out)
+    sheet.end(ink);
 }
 
 /// The place, in order, of the first number that so many per cent of all do not exceed.

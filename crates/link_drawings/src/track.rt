@@ -9,7 +9,7 @@ use std::alloc::Global;
 const BILLION: u128 = 1_000_000_000;
 
 /// A message. Moments are in nanoseconds since the start.
-#[derive(Debug, Drop)]
+#[derive(Clone, Copy)]
 pub(crate) struct Sent {
     pub(crate) channel: u64,
     pub(crate) length: usize,
@@ -23,7 +23,7 @@ pub(crate) struct Sent {
 }
 
 /// A time in which one message was in flight at one rate.
-#[derive(Clone, Copy, Debug, PartialEq, Eq)]
+#[derive(Clone, Copy)]
 pub(crate) struct Piece {
     /// The place of the message in its pair.
     pub(crate) message: usize,
@@ -75,7 +75,7 @@ impl Seen {
 }
 
 /// What is known of the first message that is not done.
-#[derive(Clone, Copy, Debug)]
+#[derive(Clone, Copy)]
 struct Head {
     seen: u64,
     /// In millionths of a byte, at the moment `seen`.
@@ -84,8 +84,21 @@ struct Head {
     rate: Option<(u128, FullRate)>,
 }
 
+impl Head {
+    /// The rate that it had up to that moment, at which so much is left, and that in full where it
+    /// is known; none where nothing of it was sent.
+    fn passed(&self, to: u64, left: u128, is_exact: bool) -> Option<(u128, Option<FullRate>)> {
+        let sent = self.left.saturating_sub(left);
+        let mean = pace(sent, to.saturating_sub(self.seen));
+        match self.rate {
+            Some((rate, reading)) => Some((if is_exact { rate } else { mean }, Some(reading))),
+            None if mean > 0 && !is_exact => Some((mean, None)),
+            None => None,
+        }
+    }
+}
+
 /// The messages of an ordered pair, in order of enqueue.
-#[derive(Debug)]
 pub(crate) struct Track {
     pub(crate) messages: Vec<Sent>,
     pub(crate) pieces: Vec<Piece>,
@@ -229,16 +242,8 @@ impl Track {
         if to <= head.seen {
             return Ok(());
         }
-        if is_exact {
-            return match head.rate {
-                Some((rate, reading)) => self.send(head.seen, to, rate, Some(reading)),
-                None => Ok(()),
-            };
-        }
-        let rate = pace(head.left.saturating_sub(left), to.saturating_sub(head.seen));
-        match head.rate {
-            Some((_, reading)) => self.send(head.seen, to, rate, Some(reading)),
-            None if rate > 0 => self.send(head.seen, to, rate, None),
+        match head.passed(to, left, is_exact) {
+            Some((rate, reading)) => self.send(head.seen, to, rate, reading),
             None => Ok(()),
         }
     }
@@ -251,33 +256,52 @@ impl Track {
         rate: u128,
         reading: Option<FullRate>,
     ) -> Result<(), Error> {
-        let message = self.done;
-        if let Some(last) = self.pieces.last_mut() {
-            if last.message == message && last.to == from && last.rate == rate {
-                let is_same = match self.readings.last() {
-                    Some(before) => *before == reading,
-                    None => true,
-                };
-                if is_same {
-                    last.to = to;
-                    return Ok(());
-                }
-            }
+        if self.goes_on(from, rate, reading) {
+            self.lengthen(to);
+            return Ok(());
         }
+        let message = self.done;
         let should_deliver = match self.messages.get(message) {
             Some(sent) => sent.should_deliver,
             None => false,
         };
-        if self.keeps_readings {
-            self.readings.push(reading)?;
-        }
-        self.pieces.push(Piece {
+        let piece = Piece {
             message,
             from,
             to,
             rate,
             should_deliver,
-        })?;
+        };
+        self.add(piece, reading)
+    }
+
+    /// Whether the last piece is of the first message that is not done, up to that moment, and at
+    /// that rate.
+    fn goes_on(&self, from: u64, rate: u128, reading: Option<FullRate>) -> bool {
+        let is_last = match self.pieces.last() {
+            Some(last) => last.message == self.done && last.to == from && last.rate == rate,
+            None => false,
+        };
+        let is_same = match self.readings.last() {
+            Some(before) => *before == reading,
+            None => true,
+        };
+        is_last && is_same
+    }
+
+    /// The last piece goes on up to that moment.
+    fn lengthen(&mut self, to: u64) {
+        if let Some(last) = self.pieces.last_mut() {
+            last.to = to;
+        }
+    }
+
+    /// One more piece.
+    fn add(&mut self, piece: Piece, reading: Option<FullRate>) -> Result<(), Error> {
+        if self.keeps_readings {
+            self.readings.push(reading)?;
+        }
+        self.pieces.push(piece)?;
         Ok(())
     }
 }

@@ -7,7 +7,7 @@ mod plain;
 mod sizes;
 mod wide;
 
-use self::network::{Cap, Side, egress_cap, have_links, ingress_cap, link_cap};
+use self::network::{Cap, Side, egress_cap, has_rate, have_links, ingress_cap, link_cap};
 use crate::same::same;
 use fair_rates::bandwidth::{
     Flow, Rate, allocate, allocate_counted, allocate_linked, allocate_linked_counted,
@@ -121,7 +121,7 @@ fn expect(rt: &impl Abort, rates: &BTreeMap<u64, Rate>, wanted: &[Wanted]) -> Re
             )?),
             None => Rate::Unlimited,
         };
-        assert_eq!(rt; rates.get(id).copied(), Some(rate), "flow {id}");
+        has_rate(rt, rates, *id, rate);
     }
     Ok(())
 }

@@ -1,7 +1,7 @@
 -- A flow of some weight as so many flows of weight one.
 use Rattle.fair_routes.proofs.Common.{rules, ◌≡◌, ◌==◌, ℕ, zero, suc, ◌+◌, ◌*◌, ◌<◌, ◌≤◌, List, [], Bool, true, false}
 use Rattle.fair_routes.proofs.Common.{cond, All, Contains, Option, Some, length, map, get_or, sum_by, inl, inr, refl}
-use Rattle.fair_routes.proofs.Common.{sym, ap, ◌∙◌, subst, arith, slice_get, list_any, eqb-true, eqb_tells, length-map}
+use Rattle.fair_routes.proofs.Common.{sym, ap, ◌∙◌, subst, arith, slice_get, eqb-true, eqb_tells, length-map}
 use Rattle.fair_routes.proofs.Common.{get_or_default, sum_by-cons, slice_get-get_or, slice_get-map}
 use Rattle.fair_routes.proofs.Common.{get_or_from_slice_get, Side, IsLimited, IsFair, IsRateOf, places_from, Rate}
 use Rattle.fair_routes.proofs.Common.{Unlimited, Finite, listed_on, listed_from, in_map, in_from_contains}

@@ -1,7 +1,7 @@
 -- Flows in another order.
 use Rattle.fair_routes.proofs.Common.{rules, ◌≡◌, ℕ, suc, ◌+◌, ◌<◌, List, [], ◌∷◌, Bool, true, false, cond, Option}
 use Rattle.fair_routes.proofs.Common.{Some, map, length, get_or, All, Contains, sum_by, refl, sym, ap, ◌∙◌, subst}
-use Rattle.fair_routes.proofs.Common.{arith, slice_get, list_any, length-map, get_or-map, get_or_default, All-contains}
+use Rattle.fair_routes.proofs.Common.{arith, slice_get, length-map, get_or-map, get_or_default, All-contains}
 use Rattle.fair_routes.proofs.Common.{sum_by-cons, slice_get-get_or, slice_get-map, get_or_from_slice_get, Side}
 use Rattle.fair_routes.proofs.Common.{IsRateOf, places_from, Unlimited, in_map, in_from_contains, contains_from_in}
 use Rattle.fair_routes.proofs.Common.{from_map, any_passes, routes_at, has_link, users_of, sides_over, common_steps}

@@ -36,9 +36,14 @@ fn by_flow(
 ) -> Result<Vec<Rate>, Fail> {
     let mut list = Vec::new(alloc);
     for flow in flows {
-        list.push(rates.get(&flow.id).copied().ok_or("no rate")?)?;
+        list.push(rate_of(flow, rates)?)?;
     }
     Ok(list)
+}
+
+/// The rate of a flow.
+fn rate_of(flow: &Flow<u64>, rates: &BTreeMap<u64, Rate>) -> Result<Rate, Fail> {
+    Ok(rates.get(&flow.id).copied().ok_or("no rate")?)
 }
 
 /// What the judge says of an answer. A refusal, which is for a number, is not judged.
@@ -60,6 +65,11 @@ fn verdict_on(
     }
 }
 
+/// The judge does not find the list of that number unfair.
+fn not_unfair(rt: &impl Abort, verdict: Verdict, number: u64) {
+    assert_ne!(rt; verdict, Verdict::Unfair, "list {number}");
+}
+
 /// How many of 300 lists the judge finds fair, where it finds none unfair.
 fn count_fair(rt: &(impl Abort + AllocGlobal), kind: &Kind) -> Result<u64, Fail> {
     let mut chance = Chance(1);
@@ -73,7 +83,7 @@ fn count_fair(rt: &(impl Abort + AllocGlobal), kind: &Kind) -> Result<u64, Fail>
             plan(rt.alloc(), &network)
         };
         let verdict = verdict_on(rt, &network, answer)?;
-        assert_ne!(rt; verdict, Verdict::Unfair, "list {number}");
+        not_unfair(rt, verdict, number);
         if verdict == Verdict::Fair {
             fair = fair.saturating_add(1);
         }
@@ -81,18 +91,26 @@ fn count_fair(rt: &(impl Abort + AllocGlobal), kind: &Kind) -> Result<u64, Fail>
     Ok(fair)
 }
 
+/// It is so in most of 300 lists.
+fn most(rt: &impl Abort, lists: u64) {
+    assert!(rt; lists > 200, "{lists} of 300");
+}
+
 #[test]
 fn answers_are_fair(rt: HostRuntime) -> Result<(), Fail> {
     same(&rt, &(count_fair(&rt, &SMALL)?), &300);
-    let fair = count_fair(&rt, &WIDE)?;
-    assert!(rt; fair > 200, "{fair} of 300 judged");
+    most(&rt, count_fair(&rt, &WIDE)?);
     let linked = Kind {
         linked: true,
         ..WIDE
     };
-    let fair = count_fair(&rt, &linked)?;
-    assert!(rt; fair > 200, "{fair} of 300 judged");
+    most(&rt, count_fair(&rt, &linked)?);
     Ok(())
+}
+
+/// The judge says that of these rates.
+fn expect_verdict(rt: &impl Abort, network: &Network, rates: &[Rate], wanted: Verdict) {
+    assert_eq!(rt; judge(network, rates), wanted, "{rates:?}");
 }
 
 /// The judge tells unfair rates of three flows under a cap of 9, of which one is held to 1.
@@ -111,11 +129,7 @@ fn the_judge_tells(rt: HostRuntime) -> Result<(), Fail> {
         (3, 3, 3, Verdict::Unfair),
     ] {
         let rates = [finite(first, 1)?, finite(second, 1)?, finite(third, 1)?];
-        assert_eq!(rt;
-            judge(&network, &rates),
-            verdict,
-            "{first} {second} {third}"
-        );
+        expect_verdict(&rt, &network, &rates, verdict);
     }
     let free = [finite(1, 1)?, finite(8, 1)?, Rate::Unlimited];
     same(&rt, &judge(&network, &free), &Verdict::Unfair);
@@ -162,7 +176,7 @@ fn agree(rt: &(impl Abort + AllocGlobal), network: &Network) -> Result<bool, Fai
         }
         (Ok(filled), Err(error)) => {
             same(rt, &error, &Error::NumberTooLarge);
-            assert!(rt; !fit(network, &filled.rates));
+            same(rt, &fit(network, &filled.rates), &false);
             Ok(false)
         }
         (Err(_), _) => Ok(false),
@@ -190,15 +204,13 @@ fn a_plain_planner_agrees(rt: HostRuntime) -> Result<(), Fail> {
     };
     same(&rt, &(count_agreed(&rt, &SMALL)?), &300);
     same(&rt, &(count_agreed(&rt, &repeated)?), &300);
-    let agreed = count_agreed(&rt, &WIDE)?;
-    assert!(rt; agreed > 200, "{agreed} of 300");
+    most(&rt, count_agreed(&rt, &WIDE)?);
     let linked = Kind {
         linked: true,
         repeated: true,
         ..WIDE
     };
-    let agreed = count_agreed(&rt, &linked)?;
-    assert!(rt; agreed > 200, "{agreed} of 300");
+    most(&rt, count_agreed(&rt, &linked)?);
     Ok(())
 }
 

@@ -10,7 +10,7 @@ pub struct Chance(pub u64);
 
 impl Chance {
     fn next(&mut self) -> u64 {
-        self.0 = self.0 % 2147483647 * 48271 % 2147483647;
+        self.0 = (self.0 % 2147483647).wrapping_mul(48271) % 2147483647;
         self.0
     }
 

@@ -1,5 +1,5 @@
 //! Many flows of one origin, planned by the calls that count no rounds.
-use super::network::{Cap, Side, finite, sent};
+use super::network::{Cap, Side, finite, has_rate, sent};
 use super::{linked_rates, rates};
 use crate::same::same;
 use fair_rates::bandwidth::{Flow, Rate};
@@ -22,8 +22,36 @@ fn expect(rt: &impl Abort, rates: &BTreeMap<u64, Rate>, flows: u64, first: Rate,
     same(rt, &(rates.len() as u64), &flows);
     same(rt, &rates.get(&0).copied(), &Some(first));
     for id in 1..flows {
-        assert_eq!(rt; rates.get(&id).copied(), Some(other), "flow {id}");
+        has_rate(rt, rates, id, other);
     }
+}
+
+/// So are the rates of the flows, without links.
+fn expect_plainly(
+    rt: &(impl Abort + AllocGlobal),
+    fan: &[Flow<u64>],
+    caps: &[Cap],
+    flows: u64,
+    first: Rate,
+    other: Rate,
+) -> Result<(), Fail> {
+    let rates = rates(rt.alloc(), fan, caps)?;
+    expect(rt, &rates, flows, first, other);
+    Ok(())
+}
+
+/// The same with links.
+fn expect_linked(
+    rt: &(impl Abort + AllocGlobal),
+    fan: &[Flow<u64>],
+    caps: &[Cap],
+    flows: u64,
+    first: Rate,
+    other: Rate,
+) -> Result<(), Fail> {
+    let rates = linked_rates(rt.alloc(), fan, caps)?;
+    expect(rt, &rates, flows, first, other);
+    Ok(())
 }
 
 /// Peer 1 may send so much.
@@ -34,14 +62,8 @@ fn a_cap_is_shared_by_any_number_of_flows(rt: HostRuntime) -> Result<(), Fail> {
     for flows in [5u64, 16, 17, 100, 2000] {
         let share = finite(1_000_000, flows as u128)?;
         let fan = fan(rt.alloc(), flows)?;
-        expect(&rt, &rates(rt.alloc(), &fan, &EGRESS)?, flows, share, share);
-        expect(
-            &rt,
-            &linked_rates(rt.alloc(), &fan, &EGRESS)?,
-            flows,
-            share,
-            share,
-        );
+        expect_plainly(&rt, &fan, &EGRESS, flows, share, share)?;
+        expect_linked(&rt, &fan, &EGRESS, flows, share, share)?;
     }
     Ok(())
 }
@@ -59,20 +81,8 @@ fn what_one_flow_leaves_is_shared_by_the_others(rt: HostRuntime) -> Result<(), F
     for (flows, others) in [(5u64, 4u128), (16, 15), (17, 16), (100, 99), (2000, 1999)] {
         let share = finite(999_990, others)?;
         let fan = fan(rt.alloc(), flows)?;
-        expect(
-            &rt,
-            &rates(rt.alloc(), &fan, &HELD_BY_INGRESS)?,
-            flows,
-            own,
-            share,
-        );
-        expect(
-            &rt,
-            &linked_rates(rt.alloc(), &fan, &HELD_BY_LINK)?,
-            flows,
-            own,
-            share,
-        );
+        expect_plainly(&rt, &fan, &HELD_BY_INGRESS, flows, own, share)?;
+        expect_linked(&rt, &fan, &HELD_BY_LINK, flows, own, share)?;
     }
     Ok(())
 }

@@ -45,10 +45,18 @@ pub struct Network<'a> {
 }
 
 /// The rates by id, and the number of rounds.
-#[derive(Drop)]
 pub struct Planned {
     pub rates: BTreeMap<u64, Rate>,
     pub rounds: u128,
+}
+
+impl Drop for Planned {
+    /// Lets go of what it holds.
+    #[inline(always)]
+    fn drop(self) {
+        let Planned { rates, rounds: _ } = self;
+        drop(rates);
+    }
 }
 
 /// A flow that is delivered.
@@ -118,6 +126,11 @@ pub fn finite(num: u128, den: u128) -> Result<Rate, Fail> {
     Ok(Rate::Finite(Ratio::new(num, den).ok_or("a denominator of zero")?))
 }
 
+/// The rate of an id is that.
+pub fn has_rate(rt: &impl Abort, rates: &BTreeMap<u64, Rate>, id: u64, wanted: Rate) {
+    assert_eq!(rt; rates.get(&id).copied(), Some(wanted), "flow {id}");
+}
+
 /// The rate of an id is this fraction.
 pub fn expect_rate(
     rt: &impl Abort,
@@ -126,10 +139,6 @@ pub fn expect_rate(
     num: u128,
     den: u128,
 ) -> Result<(), Fail> {
-    assert_eq!(rt;
-        planned.rates.get(&id).copied(),
-        Some(finite(num, den)?),
-        "flow {id}"
-    );
+    has_rate(rt, &planned.rates, id, finite(num, den)?);
     Ok(())
 }

@@ -110,10 +110,18 @@ pub fn judge(network: &Network, rates: &[Rate]) -> Verdict {
 }
 
 /// The rates of a plain planner, one for each flow, and its rounds.
-#[derive(Drop)]
 pub struct Filled {
     pub rates: Vec<Rate>,
     pub rounds: u64,
+}
+
+impl Drop for Filled {
+    /// Lets go of what it holds.
+    #[inline(always)]
+    fn drop(self) {
+        let Filled { rates, rounds: _ } = self;
+        drop(rates);
+    }
 }
 
 /// What is left of a side for each of its flows that have no rate yet, or `None` where all have.

@@ -1,4 +1,4 @@
-use Rattle.fair_routes.proofs.Common.{◌≡◌, ◌++◌, ◌∷◌, ℕ, List, [], map, sym, ap, ◌∙◌, subst, map-append, AllZip}
+use Rattle.fair_routes.proofs.Common.{◌++◌, ◌∷◌, ℕ, List, [], map, sym, ap, ◌∙◌, subst, map-append, AllZip}
 use Rattle.fair_routes.proofs.Common.{IsNumbered, deref}
 use Rattle.std.proofs.Common.{Vec, Global}
 use Rattle.fair_rates.proofs.Lists.Zips.{zip-push}

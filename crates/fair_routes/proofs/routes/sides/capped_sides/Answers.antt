@@ -1,4 +1,4 @@
-use Rattle.fair_routes.proofs.Common.{◌≡◌, ◌<◌, ℕ, List, Some, None, length, get_or, sym, refl, ap, subst, ◌∙◌, arith}
+use Rattle.fair_routes.proofs.Common.{◌≡◌, ◌<◌, ℕ, List, None, length, get_or, sym, refl, ap, subst, ◌∙◌, arith}
 use Rattle.fair_routes.proofs.Common.{common_steps, vec_len}
 use Rattle.std.proofs.lemmas.Bool.Decides.{nat_tests}
 use Rattle.fair_routes.specs.declared.routes.sides.LinkSide as declared

@@ -1,7 +1,7 @@
-use Rattle.fair_routes.proofs.Common.{◌≡◌, ◌<◌, ◌≤◌, ◌++◌, ◌+◌, ℕ, List, [], ◌∷◌, Some, All, length, map, take, sym, ap}
-use Rattle.fair_routes.proofs.Common.{◌∙◌, subst, arith, slice_get, Global, Vec, length-map, take_all, All-nil}
+use Rattle.fair_routes.proofs.Common.{◌≡◌, ◌<◌, ◌≤◌, ◌+◌, ℕ, List, Some, All, length, map, take, sym, ap}
+use Rattle.fair_routes.proofs.Common.{◌∙◌, subst, arith, Global, Vec, length-map, take_all, All-nil}
 use Rattle.fair_routes.proofs.Common.{All-push, slice_get-map, slice_get-get_or, if_err, AreListed, AreUsers}
-use Rattle.fair_routes.proofs.Common.{with_items, length-take-le, with_items_is, HasJoined, IsNoLink}
+use Rattle.fair_routes.proofs.Common.{length-take-le, with_items_is, HasJoined, IsNoLink}
 use Rattle.fair_routes.proofs.Network.Users.{users_none, users_more, users_below, mapped_more, no_link}
 use Rattle.fair_routes.proofs.routes.sides.users.Goals as goal
 

@@ -1,4 +1,4 @@
-use Rattle.fair_routes.proofs.Common.{◌≡◌, ◌<◌, ◌^◌, length, map, sum_by, get_or, take, inl, inr, refl, ap, ◌∙◌, subst}
+use Rattle.fair_routes.proofs.Common.{◌<◌, ◌^◌, length, map, sum_by, take, inl, inr, refl, ap, ◌∙◌, subst}
 use Rattle.fair_routes.proofs.Common.{sym, arith, take_all, get_or-map, length-map, cases_lt, All-push, Side, side_of}
 use Rattle.fair_routes.proofs.Common.{weight_at, HaveLittleWeight}
 use Rattle.fair_routes.proofs.Network.Users.{mapped_more}

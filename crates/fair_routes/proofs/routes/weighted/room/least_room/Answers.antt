@@ -1,4 +1,4 @@
-use Rattle.fair_routes.proofs.Common.{◌≡◌, ℕ, ◌<◌, ◌^◌, Option, length, map, sum_by, take, ◌∙◌, subst, sym, arith}
+use Rattle.fair_routes.proofs.Common.{ℕ, ◌<◌, ◌^◌, Option, length, map, sum_by, take, ◌∙◌, subst, sym, arith}
 use Rattle.fair_routes.proofs.Common.{take_all, length-map, Side, side_of, frozen_in, weight_at, length-take-le}
 use Rattle.fair_routes.proofs.Common.{all_unmapped}
 use Rattle.fair_routes.specs.declared.routes.sides.LinkSide as declared
