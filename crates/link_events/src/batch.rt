@@ -1,13 +1,13 @@
 //! A list of messages that are sent at one moment, with one account for those that only start.
-ghost use Rattle.std.specs.Prelude.{◌≡◌, ◌++◌, ◌<◌, true, false, map, List, IfOk, IfErr, OnOk, ◌&&◌};
-ghost use Rattle.link_simulation.specs.Simulation.World.{Completed, goes, meets};
+ghost use Rattle.std.specs.Prelude.{◌≡◌, ◌<◌, true, false, map, IfOk, IfErr, OnOk, ◌&&◌};
+ghost use Rattle.link_simulation.specs.Simulation.World.{goes, meets};
 ghost use Rattle.link_simulation.specs.Simulation.RefusalCauses.{IsRefusedFor};
 ghost use Rattle.link_simulation.specs.Rule.Planned.{Planned as AnyPlanned};
-ghost use Rattle.link_simulation.specs.Rule.Events.{Enqueues};
 ghost use Rattle.link_simulation.specs.Rule.Events.{EnqueuesEach};
 ghost use Rattle.link_pairs.specs.Pairs.Messages.{message_of, ended_of};
 ghost use Rattle.link_events.specs.Steps.Outgoing.{outgoing_by};
 ghost use Rattle.link_events.specs.Steps.Standing.{OnlyStarts, IsStanding, is_accounted, does_start, standing_after};
+ghost use Rattle.link_events.specs.Steps.Standing.{SendsFrom, MayRefuseFrom};
 ghost use Rattle.link_events.specs.Steps.Standing.{IsIdle};
 
 use crate::ledger::Ledger;
@@ -85,16 +85,12 @@ impl<P: Peer> Ledger<P> {
         standing: Standing,
         ended: &mut Vec<Ended<P>>,
     ) -> Result<Standing, Error>
-        ensures enqueues { IfOk result (λ next. (w : AnyPlanned P) →
-            IsStanding P.cmp now standing (planned P.cmp self.old) w →
-            (cs : List (Completed P)) × (v : AnyPlanned P)
-            × (map ended_of ended.new.items ≡ map ended_of ended.old.items ++ cs)
-            × Enqueues P.cmp now (message_of message) w (goes cs v)
-            × IsStanding P.cmp now next (planned P.cmp self.new) v) }
+        ensures enqueues { IfOk result (λ next. SendsFrom P.cmp now (message_of message) standing
+            (planned P.cmp self.old) (map ended_of ended.old.items) next (planned P.cmp self.new)
+            (map ended_of ended.new.items)) }
         ensures before { before_of self.new ≡ before_of self.old }
-        ensures refused { IfErr result (λ e. (w : AnyPlanned P) →
-            IsStanding P.cmp now standing (planned P.cmp self.old) w →
-            IsRefusedFor (λ fault. Enqueues P.cmp now (message_of message) w (meets fault)) e) }
+        ensures refused { IfErr result (MayRefuseFrom P.cmp now (message_of message) standing
+            (planned P.cmp self.old)) }
     {
         if self.has_to_wait(&message.origin, &message.recipient) {
             self.wait(now, message)?;
@@ -105,6 +101,26 @@ impl<P: Peer> Ledger<P> {
             self.plan_start(now);
             return Ok(Standing::Due);
         }
+        self.enqueue_caught_up(now, message, standing, ended)
+    }
+
+    /// The next message is sent once the account that is due is made, if one is. It does not have to
+    /// wait.
+    fn enqueue_caught_up(
+        &mut self,
+        now: u64,
+        message: Message<P>,
+        standing: Standing,
+        ended: &mut Vec<Ended<P>>,
+    ) -> Result<Standing, Error>
+        requires { IsIdle P.cmp (planned P.cmp self.old) message.origin message.recipient }
+        ensures enqueues { IfOk result (λ next. SendsFrom P.cmp now (message_of message) standing
+            (planned P.cmp self.old) (map ended_of ended.old.items) next (planned P.cmp self.new)
+            (map ended_of ended.new.items)) }
+        ensures before { before_of self.new ≡ before_of self.old }
+        ensures refused { IfErr result (MayRefuseFrom P.cmp now (message_of message) standing
+            (planned P.cmp self.old)) }
+    {
         self.catch_up(now, standing)?;
         let starts = self.starts_at_once(&message, now);
         let mut more = self.enqueue(now, message, false)?;

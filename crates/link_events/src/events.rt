@@ -255,12 +255,12 @@ impl<P: Peer> Ledger<P> {
         ensures refused { IfErr result (IsRefusedFor
             (λ fault. Rebalances P.cmp now (planned P.cmp self.old).caps (planned P.cmp self.old) (meets fault))) }
     {
-        let mut ended = Vec::new(self.alloc);
         if self.flights.is_empty() {
             self.plan_start(now);
-        } else {
-            self.settle(now, &mut ended)?;
+            return Ok(Vec::new(self.alloc));
         }
+        let mut ended = Vec::new(self.alloc);
+        self.settle(now, &mut ended)?;
         Ok(ended)
     }
 

@@ -1,5 +1,5 @@
 //! An account at a finish, and the first of what is done with it.
-ghost use Rattle.std.specs.Prelude.{◌≡◌, ◌⊎◌, [], ◌++◌, List, map, true, false, IfOk, IfErr, OnOk};
+ghost use Rattle.std.specs.Prelude.{◌≡◌, ◌⊎◌, [], ◌∷◌, ◌++◌, List, map, true, false, IfOk, IfErr, OnOk};
 ghost use Rattle.link_simulation.specs.Simulation.Messages.{Message as AnyMessage};
 ghost use Rattle.link_simulation.specs.Simulation.World.{Completed, Course, goes, meets, completion_of, completed};
 ghost use Rattle.link_simulation.specs.Simulation.World.{is_late, preceded};
@@ -12,6 +12,7 @@ ghost use Rattle.link_pairs.specs.Pairs.CapsOf.{caps_of};
 ghost use Rattle.link_waiting.specs.Idle.Index.{idle_from as idle_since};
 ghost use Rattle.link_waiting.specs.Idle.AtRest.{is_sending};
 ghost use Rattle.link_flights.specs.Flights.Rated.{HadFairRates};
+ghost use Rattle.link_events.specs.Steps.Landing.{AccountsWithNext};
 ghost use Rattle.link_events.specs.Steps.Starting.{WouldStay, StartsNext};
 
 use crate::leave::Left;
@@ -23,6 +24,32 @@ use link_pairs::completion::Ended;
 use link_pairs::message::Message;
 use std::collections::VecDeque;
 use std::sync::Arc;
+
+/// The first message of a queue completes, if there is one, and more messages join the end of the
+/// queue. Answers what is left of it.
+fn complete_first<P: Peer>(
+    mut queue: VecDeque<Arc<Message<P>>>,
+    mut more: VecDeque<Arc<Message<P>>>,
+    now: u64,
+    deliver_at: Option<u64>,
+    ended: &mut Vec<Ended<P>>,
+) -> Result<VecDeque<Arc<Message<P>>>, Error>
+    ensures completes { IfOk result (λ rest. (m : AnyMessage P) (ms : List (AnyMessage P))
+        → messages queue.items ≡ m ∷ ms → (messages rest.items ≡ ms ++ messages more.items)
+        × (map ended_of ended.new.items ≡ map ended_of ended.old.items ++ completion_of m now deliver_at ∷ [])) }
+    ensures refused { IfErr result (λ e. e ≡ Error.OutOfMemory) }
+{
+    let Some(message) = queue.pop_front() else {
+        return Ok(more);
+    };
+    ended.push(Ended {
+        message,
+        done_at: now,
+        deliver_at,
+    })?;
+    queue.append(&mut more)?;
+    Ok(queue)
+}
 
 impl<P: Peer> Ledger<P> {
     ghost use Rattle.link_events.specs.Steps.AsPlanned.{planned};
@@ -95,6 +122,37 @@ impl<P: Peer> Ledger<P> {
         Ok(true)
     }
 
+    /// The next message of the pair starts, if it may from the moment `since` on and would stay in
+    /// flight, and those in flight get their fair rates, once some have left with the message, which has
+    /// landed. Answers whether it starts.
+    fn rate_starting_next(
+        &mut self,
+        message: &Message<P>,
+        since: Option<u64>,
+        done: &VecDeque<Arc<Message<P>>>,
+        were_fair: bool,
+        now: u64,
+    ) -> Result<bool, Error>
+        requires stale { self.old.stale ≡ true }
+        requires moment { self.old.flights.at ≡ now }
+        requires left { (old here : AnyPlanned P) × (leavers : List (AnyMessage P)) × Leaves P.cmp now old leavers here
+            × (planned P.cmp self.old ≡ landed_with P.cmp now here (message_of message.now)) }
+        requires idle { since ≡ idle_since P.cmp (planned P.cmp self.old) message.now.origin message.now.recipient }
+        requires fair { were_fair ≡ true → ∥ HadFairRates P.cmp
+            (caps_of P.cmp self.old.peers.entries self.old.pairs.entries) self.old.flights (messages done.now.items) ∥₁ }
+        ensures starts { IfOk result (λ starts. starts ≡ true → AccountsWithNext P.cmp now (planned P.cmp self.old)
+            (message_of message.now) (goes [] (planned P.cmp self.new))) }
+        ensures waits { IfOk result (λ starts. starts ≡ false → (old : AnyPlanned P) (leavers : List (AnyMessage P))
+            → Leaves P.cmp now old leavers (planned P.cmp self.old)
+            → Accounts P.cmp now old leavers (planned P.cmp self.new)) }
+        ensures before { before_of self.new ≡ before_of self.old }
+        ensures refused { IfErr result (λ e. e ≡ Error.OutOfMemory) }
+    {
+        let starts = self.start_next(since, &message.origin, &message.recipient, now)?;
+        self.rate(now, done, were_fair)?;
+        Ok(starts)
+    }
+
     /// Those in flight get their fair rates, once some have left with the message, which has landed, and
     /// the next of its pair starts, if it may from the moment `since` on. What is done then is answered.
     fn rate_with_next(
@@ -112,12 +170,8 @@ impl<P: Peer> Ledger<P> {
         requires idle { since ≡ idle_since P.cmp (planned P.cmp self.old) message.now.origin message.now.recipient }
         requires fair { were_fair ≡ true → ∥ HadFairRates P.cmp
             (caps_of P.cmp self.old.peers.entries self.old.pairs.entries) self.old.flights (messages done.now.items) ∥₁ }
-        ensures launches { IfOk result (λ more. (old here : AnyPlanned P) (leavers : List (AnyMessage P))
-            → Leaves P.cmp now old leavers here
-            → planned P.cmp self.old ≡ landed_with P.cmp now here (message_of message.now)
-            → (mid : AnyPlanned P) × Accounts P.cmp now old leavers mid
-            × Launches P.cmp now (landed_with P.cmp now mid (message_of message.now))
-            (next_of P.cmp mid (message_of message.now)) (goes (messages more.items) (planned P.cmp self.new))) }
+        ensures launches { IfOk result (λ more. AccountsWithNext P.cmp now (planned P.cmp self.old)
+            (message_of message.now) (goes (messages more.items) (planned P.cmp self.new))) }
         ensures before { before_of self.new ≡ before_of self.old }
         ensures refused { IfErr result (λ e. (old here : AnyPlanned P) (leavers : List (AnyMessage P))
             → Leaves P.cmp now old leavers here
@@ -126,8 +180,7 @@ impl<P: Peer> Ledger<P> {
             × IsRefusedFor (λ fault. Launches P.cmp now (landed_with P.cmp now mid (message_of message.now))
             (next_of P.cmp mid (message_of message.now)) (meets fault)) e) }
     {
-        let starts = self.start_next(since, &message.origin, &message.recipient, now)?;
-        self.rate(now, done, were_fair)?;
+        let starts = self.rate_starting_next(message, since, done, were_fair, now)?;
         if starts {
             return Ok(VecDeque::new(self.alloc));
         }
@@ -152,26 +205,16 @@ impl<P: Peer> Ledger<P> {
     {
         let (left, were_fair) = self.leave_landing_at(now)?;
         let Left {
-            done: mut queue,
+            done: queue,
             deliver_at,
             since,
         } = left;
-        let message = match queue.front() {
-            Some(first) => first.clone()?,
-            None => {
-                self.rate(now, &queue, were_fair)?;
-                return Ok(queue);
-            }
+        let Some(first) = queue.front() else {
+            self.rate(now, &queue, were_fair)?;
+            return Ok(queue);
         };
-        let mut more = self.rate_with_next(&message, since, &queue, were_fair, now)?;
-        queue.pop_front();
-        queue.append(&mut more)?;
-        ended.push(Ended {
-            message,
-            done_at: now,
-            deliver_at,
-        })?;
-        Ok(queue)
+        let more = self.rate_with_next(first, since, &queue, were_fair, now)?;
+        complete_first(queue, more, now, deliver_at, ended)
     }
 
     /// An account, and the finishes of what left.

@@ -1,8 +1,8 @@
 //! A list of calls on a new scheduler, and what each is answered.
-ghost use Rattle.std.specs.Prelude.{◌≡◌, ◌≢◌, true, length, map, [], ◌∷◌, IfOk, IfErr, OnErr};
+ghost use Rattle.std.specs.Prelude.{◌≡◌, ◌≢◌, true, length, map, [], ◌∷◌, ◌++◌, IfOk, IfErr, OnOk, OnErr};
 ghost use Rattle.std.specs.List.{AllZip};
 ghost use Rattle.fair_rates.specs.Sides.Subjects.{same_peer};
-ghost use Rattle.link_simulation.specs.Simulation.Messages.{SameMessage};
+ghost use Rattle.link_simulation.specs.Simulation.Messages.{SameMessage, Message as AnyMessage};
 ghost use Rattle.link_simulation.specs.Simulation.World.{new_world};
 ghost use Rattle.link_simulation.specs.Simulation.Calls.{call_next};
 ghost use Rattle.link_simulation.specs.Laws.Isolation.{InTime};
@@ -258,9 +258,20 @@ fn copies_of<P: Peer>(alloc: Global, messages: &[Outgoing<P>]) -> Result<Vec<Out
 {
     let mut copies = Vec::with_capacity(alloc, messages.len())?;
     for one in messages {
-        copies.push(copy_message(one)?)?;
+        add_copy(&mut copies, one)?;
     }
     Ok(copies)
+}
+
+/// Puts the same message behind others.
+fn add_copy<P: Peer>(copies: &mut Vec<Outgoing<P>>, one: &Outgoing<P>) -> Result<(), Error>
+    ensures added { OnOk result ((copy : AnyMessage P)
+        × (map outgoing copies.new.items ≡ map outgoing copies.old.items ++ copy ∷ [])
+        × SameMessage P.cmp (outgoing one.now) copy) }
+    ensures refused { IfErr result (λ e. e ≡ Error.OutOfMemory) }
+{
+    copies.push(copy_message(one)?)?;
+    Ok(())
 }
 
 /// An equal peer.

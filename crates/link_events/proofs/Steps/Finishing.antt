@@ -1,6 +1,6 @@
 -- The finishes of a queue and the starts of pairs, one after another.
-use Rattle.link_events.proofs.Common.{◌≡◌, ℕ, suc, ◌+◌, ◌<◌, ◌≤◌, List, [], ◌∷◌, ◌++◌, length, Bool, true, false}
-use Rattle.link_events.proofs.Common.{if◌then◌else◌, Some, None, refl, sym, ap, ◌∙◌, subst, arith, append_assoc, get_or}
+use Rattle.link_events.proofs.Common.{◌≡◌, ℕ, suc, ◌+◌, ◌<◌, ◌≤◌, List, [], ◌∷◌, length, Bool, true, false}
+use Rattle.link_events.proofs.Common.{if◌then◌else◌, Some, None, refl, sym, ap, ◌∙◌, subst, arith, get_or}
 use Rattle.link_events.proofs.Common.{drop, ◌⊎◌, inl, inr, drop-cons, then_some, find, AllZip, Ordering, IsTotalOrder}
 use Rattle.link_events.proofs.Common.{and_from, Error, MomentTooLate, OutOfMemory, PeerPair, NamesPairOf, same_peer}
 use Rattle.link_events.proofs.Common.{first_of, Message, same_pair, Completed, Course, meets, is_late, arrival, Planned}

@@ -1,7 +1,7 @@
 -- An account, and the first of those that left with it.
 use Rattle.link_events.proofs.Common.{◌≡◌, ℕ, ◌<◌, List, [], ◌∷◌, ◌++◌, length, true, false, ◌⊎◌, inl, inr, get_or}
 use Rattle.link_events.proofs.Common.{drop, drop-cons, append_assoc, Result, Ok, Err, IfOk, IfErr, refl, sym, ap, ◌∙◌}
-use Rattle.link_events.proofs.Common.{subst, Global, Ordering, Arc, IsTotalOrder, append-nil, map-append, Error}
+use Rattle.link_events.proofs.Common.{subst, Global, Ordering, Arc, IsTotalOrder, append-nil, Error}
 use Rattle.link_events.proofs.Common.{OutOfMemory, MomentTooLate, message_of, messages, Message, Completed, Course}
 use Rattle.link_events.proofs.Common.{goes, meets, is_late, completed, preceded, IsRefusedFor, Planned, next_of, Leaves}
 use Rattle.link_events.proofs.Common.{Accounts, Launches, landed, Finishes, late, stopped, Settles, settling}
@@ -9,6 +9,17 @@ use Rattle.link_events.proofs.Common.{account_of, preceded_none, refused_more, r
 use Rattle.link_pairs.specs.declared.message.Message as code
 use Rattle.link_events.specs.Steps.Landing.{LandsLate}
 use Rattle.link_simulation.proofs.Rule.Following.{settles_first}
+
+-- two lists that are one have the same first message, and the same others
+pub same_first : {P : Type 0} {m n : Message P} {ms ns : List (Message P)} → m ∷ ms ≡ n ∷ ns → m ≡ n
+same_first e = cc
+
+pub same_others : {P : Type 0} {m n : Message P} {ms ns : List (Message P)} → m ∷ ms ≡ n ∷ ns → ms ≡ ns
+same_others e = cc
+
+-- a list of none has no first message
+pub no_first : {P : Type 0} {m : Message P} {ms : List (Message P)} → [] ≡ m ∷ ms → ⊥
+no_first e = cc
 
 -- the messages of a queue that has a first one are that one and the others
 pub first_and_others : {P : Type 0} (queue : List (Arc (code.Message P) Global)) (first : Arc (code.Message P) Global)
@@ -19,14 +30,6 @@ first_and_others {P} queue first m some is same =
     ap messages (drop-cons queue 0 first some)
     ∙ ap (λ (r : Arc (code.Message P) Global). message_of r.value ∷ messages (drop 1 queue)) (sym is)
     ∙ ap (λ (x : code.Message P). message_of x ∷ messages (drop 1 queue)) (sym same)
-
--- the messages of what is left of a queue, with more at its end
-pub others_and_more : {P : Type 0} (queue rest more joined : List (Arc (code.Message P) Global))
-    → rest ≡ drop 1 queue → joined ≡ rest ++ more → messages joined ≡ messages (drop 1 queue) ++ messages more
-others_and_more {P} queue rest more joined is joins =
-    ap messages joins
-    ∙ map-append (λ (r : Arc (code.Message P) Global). message_of r.value) rest more
-    ∙ ap (λ (l : List (Arc (code.Message P) Global)). messages l ++ messages more) is
 
 module _ {P : Type 0} (cmp : P → P → Ordering) where
   -- this came out, and the finishes of a queue settle what is left

@@ -2,9 +2,9 @@
 use Rattle.std.specs.Prelude.{◌≡◌, ℕ, false, true, List, [], ◌∷◌, Option, None}
 use Rattle.std.specs.declared.cmp.Ordering.{Ordering}
 use Rattle.link_simulation.specs.Simulation.Messages.{Message}
-use Rattle.link_simulation.specs.Simulation.World.{is_late, arrival, completed, completion_of}
-use Rattle.link_simulation.specs.Rule.Planned.{Planned}
-use Rattle.link_simulation.specs.Rule.Events.{landed}
+use Rattle.link_simulation.specs.Simulation.World.{Course, is_late, arrival, completed, completion_of}
+use Rattle.link_simulation.specs.Rule.Planned.{Planned, next_of}
+use Rattle.link_simulation.specs.Rule.Events.{Accounts, Launches, landed}
 use Rattle.link_simulation.specs.Rule.Leaving.{Leaves}
 use Rattle.link_pairs.specs.Pairs.Entries.{raised_at}
 use Rattle.link_waiting.specs.Idle.Index.{idle_from}
@@ -68,3 +68,11 @@ pub record LandsLate {P : Type 0} (cmp : P → P → Ordering) (t : ℕ) (old : 
   pub here : Planned P
   pub leaves : Leaves cmp t old (first ∷ others) here
   pub late : is_late cmp t first ≡ true
+
+-- the message has landed at `there`. Whatever left before, and from where: it leaves at an account, and the turn of the
+-- next message of the pair, once the message has landed, has that course
+abbrev pub AccountsWithNext : {P : Type 0} → (P → P → Ordering) → ℕ → Planned P → Message P
+    → Course (Message P) (Planned P) → Type 0
+AccountsWithNext {P} cmp t there m course = (old here : Planned P) (leavers : List (Message P))
+    → Leaves cmp t old leavers here → there ≡ landed cmp t here m
+    → (mid : Planned P) × Accounts cmp t old leavers mid × Launches cmp t (landed cmp t mid m) (next_of cmp mid m) course

@@ -1,13 +1,15 @@
 -- How a planned world on the way through a list of messages stands for the one that the event rule speaks of.
-use Rattle.std.specs.Prelude.{◌≡◌, ◌≢◌, ℕ, ◌<◌, ◌&&◌, [], Bool, true, false, length, is_none}
+use Rattle.std.specs.Prelude.{◌≡◌, ◌≢◌, ℕ, ◌<◌, ◌&&◌, List, [], ◌++◌, Bool, true, false, length, is_none}
 use Rattle.std.specs.declared.cmp.Ordering.{Ordering}
+use Rattle.fair_rates.specs.declared.error.Error.{Error}
 use Rattle.link_events.specs.declared.batch.Standing.{Standing}
 use Rattle.link_events.specs.declared.batch.Standing.TheVariants.{Open, Accounted, Due}
 use Rattle.link_simulation.specs.Simulation.Messages.{Message}
 use Rattle.link_simulation.specs.Simulation.Rates.{is_unlimited}
-use Rattle.link_simulation.specs.Simulation.World.{last_moment}
+use Rattle.link_simulation.specs.Simulation.RefusalCauses.{IsRefusedFor}
+use Rattle.link_simulation.specs.Simulation.World.{Completed, goes, meets, last_moment}
 use Rattle.link_simulation.specs.Rule.Planned.{Planned, next_of, may_launch}
-use Rattle.link_simulation.specs.Rule.Events.{Accounts}
+use Rattle.link_simulation.specs.Rule.Events.{Accounts, Enqueues}
 use Rattle.link_waiting.specs.Idle.AtRest.{is_sending}
 
 -- whether an account was made
@@ -34,6 +36,19 @@ module _ {P : Type 0} (cmp : P → P → Ordering) where
   IsStanding now Open here w = w ≡ here
   IsStanding now Accounted here w = (w ≡ here) × Accounts cmp now here [] here
   IsStanding now Due here w = Accounts cmp now here [] w
+
+  -- from each world that `here` stands for a message is sent: what completes comes out behind what came out, and `new`
+  -- stands for the world that is reached
+  abbrev pub SendsFrom : ℕ → Message P → Standing → Planned P → List (Completed P) → Standing → Planned P
+      → List (Completed P) → Type 0
+  SendsFrom now m standing here out next new more = (w : Planned P) → IsStanding now standing here w
+      → (cs : List (Completed P)) × (v : Planned P) × (more ≡ out ++ cs) × Enqueues cmp now m w (goes cs v)
+      × IsStanding now next new v
+
+  -- and from each it may be refused so
+  abbrev pub MayRefuseFrom : ℕ → Message P → Standing → Planned P → Error → Type 0
+  MayRefuseFrom now m standing here why = (w : Planned P) → IsStanding now standing here w
+      → IsRefusedFor (λ fault. Enqueues cmp now m w (meets fault)) why
 
   -- where limits hold, no message from the one peer to the other is in flight
   abbrev pub IsIdle : Planned P → P → P → Type 0

@@ -15,19 +15,17 @@ loop-one-preserved g c =
     let sent : map outgoing (take (c.loop-one.one-index + 1) c.args.messages.now)
     ≡ map outgoing before ++ outgoing c.one-item.result ∷ [] =
     ap (map outgoing) more ∙ map-append outgoing before (c.one-item.result ∷ []) in
-    let copied : map outgoing c.push.new.self.items
-    ≡ map outgoing c.loop-one.copies.items ++ outgoing c.in_ok-copy_message.field-0 ∷ [] =
-    ap (map outgoing) c.in_ok-push.ensures.items
-    ∙ map-append outgoing c.loop-one.copies.items (c.in_ok-copy_message.field-0 ∷ []) in
+    let one = c.in_ok-add_copy.ensures.added in
     subst
-    (λ (ms : List (Message g.row.P.Denot)). AllZip (SameMessage g.P.Ord.cmp) ms (map outgoing c.push.new.self.items))
+    (λ (ms : List (Message g.row.P.Denot)). AllZip (SameMessage g.P.Ord.cmp) ms
+    (map outgoing c.add_copy.new.copies.items))
     (sym sent)
     (subst
     (λ (ns : List (Message g.row.P.Denot)). AllZip (SameMessage g.P.Ord.cmp)
     (map outgoing before ++ outgoing c.one-item.result ∷ []) ns)
-    (sym copied)
+    (sym one.1)
     (zip-push (SameMessage g.P.Ord.cmp) (map outgoing before) (map outgoing c.loop-one.copies.items)
-    (outgoing c.one-item.result) (outgoing c.in_ok-copy_message.field-0) c.loop-one.invariant c.in_ok-copy_message.ensures.same))
+    (outgoing c.one-item.result) one.0 c.loop-one.invariant one.2))
 
 pub returns-clause-same : goal.returns-clause-same
 returns-clause-same g c =

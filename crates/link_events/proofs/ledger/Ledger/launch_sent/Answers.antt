@@ -1,4 +1,4 @@
-use Rattle.link_events.proofs.Common.{map, ◌∙◌, and_from, message_of, messages, Launches, with_queued, rated_messages}
+use Rattle.link_events.proofs.Common.{◌∙◌, and_from, message_of, messages, Launches, with_queued, rated_messages}
 use Rattle.link_events.proofs.Common.{Message, IsRefusedFor, goes, meets, any_like, planned}
 use Rattle.link_events.proofs.Steps.Settling.{if_ok, if_err, of_message}
 use Rattle.link_events.proofs.ledger.Ledger.launch_sent.Goals as goal

@@ -1,9 +1,15 @@
-use Rattle.link_events.proofs.Common.{◌++◌, map, ap, sym, ◌∙◌, subst, err_from_is_err_and, goes, Planned, Rebalances}
-use Rattle.link_events.proofs.Common.{planned, ended_of}
+use Rattle.link_events.proofs.Common.{◌++◌, map, ap, sym, ◌∙◌, err_from_is_err_and, Planned, planned, ended_of}
 use Rattle.link_events.proofs.Steps.Settling.{rebalance_refused, rebalances_settled, rebalances_looked}
 use Rattle.link_events.proofs.Steps.MessageCounts.{none_flies, some_fly}
 use Rattle.link_events.proofs.ledger.Ledger.rebalance.Goals as goal
-use Rattle.link_events.proofs.ledger.Ledger.rebalance.Goals.{then-is_empty, else-is_empty+in_ok-settle}
+
+pub returns-then-is_empty-clause-rebalances : goal.returns-then-is_empty-clause-rebalances
+returns-then-is_empty-clause-rebalances g c =
+    let flights = c.args.self.now.flights in
+    rebalances_looked g.P.Ord.cmp c.args.now (planned g.P.Ord.cmp c.args.self.now)
+    (planned g.P.Ord.cmp c.plan_start.new.self) (map ended_of c.new.result.items) c.requires
+    (none_flies flights.scale flights.at flights.list.items (sym c.is_empty.ensures ∙ c.if-is_empty.true))
+    c.plan_start.ensures.plans (ap (map ended_of) c.new.ensures.items)
 
 pub returns-in_err-settle-clause-refused : goal.returns-in_err-settle-clause-refused
 returns-in_err-settle-clause-refused g c =
@@ -16,23 +22,9 @@ returns-in_err-settle-clause-refused g c =
 pub returns-clause-rebalances : goal.returns-clause-rebalances
 returns-clause-rebalances g c =
     let p : Planned g.row.P.Denot = planned g.P.Ord.cmp c.args.self.now in
-    let out = map ended_of c.if-is_empty.ended.items in
-    elim c.if-is_empty.branch [
-      | then-is_empty w ↦ subst (λ (q : Planned g.row.P.Denot). Rebalances g.P.Ord.cmp c.args.now p.caps p (goes out q))
-          (sym (ap (planned g.P.Ord.cmp) w.self-is))
-          (rebalances_looked g.P.Ord.cmp c.args.now p (planned g.P.Ord.cmp w.plan_start.new.self) out c.requires
-          (none_flies c.args.self.now.flights.scale c.args.self.now.flights.at c.args.self.now.flights.list.items
-          (sym c.is_empty.ensures ∙ w.if-is_empty.true))
-          w.plan_start.ensures.plans
-          (ap (λ v. map ended_of v.items) w.ended-is ∙ ap (map ended_of) c.new-ended.ensures.items))
-      | else-is_empty+in_ok-settle w ↦ subst
-          (λ (q : Planned g.row.P.Denot). Rebalances g.P.Ord.cmp c.args.now p.caps p (goes out q))
-          (sym (ap (planned g.P.Ord.cmp) w.self-is))
-          (rebalances_settled g.P.Ord.cmp c.args.now p (planned g.P.Ord.cmp w.settle.new.self)
-          w.in_ok-settle.ensures.settles.0 out c.requires
-          (some_fly c.args.self.now.flights.scale c.args.self.now.flights.at c.args.self.now.flights.list.items
-          (sym c.is_empty.ensures ∙ w.if-is_empty.false))
-          w.in_ok-settle.ensures.settles.2
-          (ap (λ v. map ended_of v.items) w.ended-is ∙ w.in_ok-settle.ensures.settles.1
-          ∙ ap (λ l. map ended_of l ++ w.in_ok-settle.ensures.settles.0) c.new-ended.ensures.items))
-    ]
+    let flights = c.args.self.now.flights in
+    let settled = c.in_ok-settle.ensures.settles in
+    rebalances_settled g.P.Ord.cmp c.args.now p (planned g.P.Ord.cmp c.settle.new.self) settled.0
+    (map ended_of c.settle.new.ended.items) c.requires
+    (some_fly flights.scale flights.at flights.list.items (sym c.is_empty.ensures ∙ c.if-is_empty.false))
+    settled.2 (settled.1 ∙ ap (λ l. map ended_of l ++ settled.0) c.new-ended.ensures.items)

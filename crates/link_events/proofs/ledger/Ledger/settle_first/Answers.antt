@@ -1,9 +1,10 @@
-use Rattle.link_events.proofs.Common.{List, ◌∷◌, ◌++◌, [], drop, map, sym, ap, ◌∙◌, subst, map-append}
-use Rattle.link_events.proofs.Common.{err_from_is_err_and, Message, completion_of, Leaves, message_of, messages}
-use Rattle.link_events.proofs.Common.{ended_of, planned}
+use Rattle.link_events.proofs.Common.{List, ◌∷◌, ◌++◌, [], drop, map, sym, ap, ◌∙◌, subst, err_from_is_err_and}
+use Rattle.link_events.proofs.Common.{Message, Leaves, Settles, meets, message_of, messages, ended_of, planned}
+use Rattle.link_simulation.proofs.Simulation.RefusalCauses.{memory_refuses}
 use Rattle.link_events.proofs.Steps.Landing.{no_message, none_leaves, first_lands}
-use Rattle.link_events.proofs.Steps.SettledFirst.{first_and_others, others_and_more}
+use Rattle.link_events.proofs.Steps.SettledFirst.{first_and_others}
 use Rattle.link_events.proofs.Steps.SettledFirst.{settles_none, stopped_first, refused_landing, settles_others}
+use Rattle.link_events.proofs.Steps.Settling.{if_ok}
 use Rattle.link_events.proofs.ledger.Ledger.settle_first.Goals as goal
 
 pub rate-requires-clause-leaves : goal.rate-requires-clause-leaves
@@ -13,19 +14,19 @@ rate-requires-clause-leaves g c = (
   none_leaves g.P.Ord.cmp c.args.now (planned g.P.Ord.cmp c.args.self.now)
       (planned g.P.Ord.cmp c.leave_landing_at.new.self) (messages c.in_ok-left.left.done.items)
       c.in_ok-left.left.deliver_at c.in_ok-left.left.since
-      (no_message c.in_ok-left.left.done.items c.in-None.ensures.item.3) c.in_ok-left.ensures.lands,
+      (no_message c.in_ok-left.left.done.items c.in_default.ensures.item.3) c.in_ok-left.ensures.lands,
 )
 
-pub returns-in-None-clause-settles : goal.returns-in-None-clause-settles
-returns-in-None-clause-settles g c =
+pub returns-in_default-clause-settles : goal.returns-in_default-clause-settles
+returns-in_default-clause-settles g c =
     let old = planned g.P.Ord.cmp c.args.self.now in
     let queue = messages c.in_ok-left.left.done.items in
     settles_none g.P.Ord.cmp c.args.now old (planned g.P.Ord.cmp c.rate.new.self) queue
     (map ended_of c.args.ended.now.items)
-    (c.in_ok-rate-in-None.ensures.accounts old queue
+    (c.in_ok-rate.ensures.accounts old queue
     (none_leaves g.P.Ord.cmp c.args.now old (planned g.P.Ord.cmp c.leave_landing_at.new.self) queue
     c.in_ok-left.left.deliver_at c.in_ok-left.left.since
-    (no_message c.in_ok-left.left.done.items c.in-None.ensures.item.3) c.in_ok-left.ensures.lands))
+    (no_message c.in_ok-left.left.done.items c.in_default.ensures.item.3) c.in_ok-left.ensures.lands))
 
 pub returns-in_err-left-clause-refused : goal.returns-in_err-left-clause-refused
 returns-in_err-left-clause-refused g c =
@@ -41,7 +42,7 @@ returns-in_err-more-clause-refused g c =
     let queue = c.in_ok-left.left.done.items in
     let m = message_of c.deref.result.now in
     let first = first_and_others queue c.in-Some.first.now c.deref.result.now c.in-Some.ensures.item.3.0
-    c.in-Some.ensures.lookup (c.deref.ensures ∙ c.in_ok-message-in-Some.ensures.cases) in
+    c.in-Some.ensures.lookup c.deref.ensures in
     let lands =
     first_lands g.P.Ord.cmp c.args.now old (planned g.P.Ord.cmp c.leave_landing_at.new.self) m
     (messages (drop 1 queue)) (messages queue) c.in_ok-left.left.deliver_at c.in_ok-left.left.since first
@@ -59,7 +60,7 @@ returns-clause-settles g c =
     let queue = c.in_ok-left.left.done.items in
     let m = message_of c.deref.result.now in
     let first = first_and_others queue c.in-Some.first.now c.deref.result.now c.in-Some.ensures.item.3.0
-    c.in-Some.ensures.lookup (c.deref.ensures ∙ c.in_ok-message-in-Some.ensures.cases) in
+    c.in-Some.ensures.lookup c.deref.ensures in
     let lands =
     first_lands g.P.Ord.cmp c.args.now old (planned g.P.Ord.cmp c.leave_landing_at.new.self) m
     (messages (drop 1 queue)) (messages queue) c.in_ok-left.left.deliver_at c.in_ok-left.left.since first
@@ -67,20 +68,18 @@ returns-clause-settles g c =
     let leaves : Leaves g.P.Ord.cmp c.args.now old (messages queue) lands.here =
     subst (λ (l : List (Message g.row.P.Denot)). Leaves g.P.Ord.cmp c.args.now old l lands.here) (sym first)
     lands.leaves in
-    let others =
-    others_and_more queue c.pop_front.new.self.items c.in_ok-more.more.items
-    c.append.new.self.items c.pop_front.ensures.rest c.in_ok-append.ensures.items in
-    let completion =
-    ap (λ n. completion_of (message_of n) c.args.now c.in_ok-left.left.deliver_at) (sym c.deref.ensures)
-    ∙ lands.completion in
-    let out =
-    ap (map ended_of) c.in_ok-push.ensures.items
-    ∙ map-append ended_of c.args.ended.now.items
-    (record { message = c.in_ok-message-in-Some.message; done_at = c.args.now; deliver_at = c.in_ok-left.left.deliver_at } ∷ [])
-    ∙ ap (λ x. map ended_of c.args.ended.now.items ++ x ∷ []) completion in
+    if_ok c.complete_first.result (λ rest completes.
+    let done = completes m (messages (drop 1 queue)) first in
     settles_others g.P.Ord.cmp g.met.P.Ord.total c.args.now old
     (planned g.P.Ord.cmp c.rate_with_next.new.self) m
     (messages queue) (messages (drop 1 queue))
-    (messages c.in_ok-more.more.items) (messages c.append.new.self.items) (map ended_of c.args.ended.now.items)
-    (map ended_of c.push.new.self.items) first others out lands.in_time
-    (c.in_ok-more.ensures.launches old lands.here (messages queue) leaves lands.lands)
+    (messages c.in_ok-more.more.items) (messages rest.items) (map ended_of c.args.ended.now.items)
+    (map ended_of c.complete_first.new.ended.items) first done.0
+    (done.1 ∙ ap (λ x. map ended_of c.args.ended.now.items ++ x ∷ []) lands.completion) lands.in_time
+    (c.in_ok-more.ensures.launches old lands.here (messages queue) leaves lands.lands))
+    c.complete_first.ensures.completes
+
+pub returns-clause-refused : goal.returns-clause-refused
+returns-clause-refused g c =
+    memory_refuses (λ fault. Settles g.P.Ord.cmp c.args.now (planned g.P.Ord.cmp c.args.self.now) (meets fault))
+    c.complete_first.result c.complete_first.ensures.refused

@@ -1,0 +1,22 @@
+use Rattle.link_events.proofs.Common.{map, goes, Planned, ended_of, planned}
+use Rattle.link_simulation.specs.Simulation.Calls.{linked_by}
+use Rattle.link_events.proofs.Steps.Limits.{limits_refused, rebalances_on}
+use Rattle.link_events.proofs.Steps.Settling.{if_ok, if_err}
+use Rattle.link_events.proofs.ledger.Ledger.limit_link.Goals as goal
+
+pub returns-clause-rebalances : goal.returns-clause-rebalances
+returns-clause-rebalances g c =
+    let old = planned g.P.Ord.cmp c.args.self.now in
+    let new : Planned g.row.P.Denot = planned g.P.Ord.cmp c.rebalance.new.self in
+    if_ok c.rebalance.result (λ ended h. rebalances_on g.P.Ord.cmp c.args.now
+    (linked_by g.P.Ord.cmp old.caps c.args.origin.now c.args.recipient.now c.args.cap) old
+    (planned g.P.Ord.cmp c.limit_pair.new.self) c.in_ok-limit_pair.ensures.limited (goes (map ended_of ended.items) new) h)
+    c.rebalance.ensures.rebalances
+
+pub returns-clause-refused : goal.returns-clause-refused
+returns-clause-refused g c =
+    let old = planned g.P.Ord.cmp c.args.self.now in
+    if_err c.rebalance.result (λ e h. limits_refused g.P.Ord.cmp c.args.now
+    (linked_by g.P.Ord.cmp old.caps c.args.origin.now c.args.recipient.now c.args.cap) old
+    (planned g.P.Ord.cmp c.limit_pair.new.self) c.in_ok-limit_pair.ensures.limited e h)
+    c.rebalance.ensures.refused
