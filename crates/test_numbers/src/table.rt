@@ -24,10 +24,16 @@ pub fn all_hold<C: Case>(
     same(rt, &table.lines().count(), &lines);
     for line in table.lines() {
         let mut words = line.split_whitespace();
-        assert!(rt; C::holds(rt.alloc(), &mut words)?, "{line}");
-        assert!(rt; words.next().is_none(), "too many words: {line}");
+        let holds = C::holds(rt.alloc(), &mut words)?;
+        expect_case(rt, line, holds, words.next().is_none());
     }
     Ok(())
+}
+
+/// The case of a line holds, and has no word behind it.
+fn expect_case(rt: &impl Abort, line: &str, holds: bool, is_whole: bool) {
+    assert!(rt; holds, "{line}");
+    assert!(rt; is_whole, "too many words: {line}");
 }
 
 /// The next word.
