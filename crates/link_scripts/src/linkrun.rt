@@ -1,6 +1,7 @@
 //! Scripts of flows and caps, run line by line.
-ghost use Rattle.std.specs.Prelude.{◌≡◌, Some, IfOk};
+ghost use Rattle.std.specs.Prelude.{◌≡◌, ◌<◌, Some, IfOk, IfSome, length};
 ghost use Rattle.link_scripts.specs.BadLines.{Blames};
+ghost use Rattle.link_scripts.specs.Lines.{IsLengthOf};
 ghost use Rattle.link_scripts.specs.Outcome.{status_of, outcome_text, CountsFromOne};
 
 pub mod answer;
@@ -143,23 +144,55 @@ fn run_lines<R: Read, W: Write + Drop>(
     let mut number = 0u64;
     for _ in 0..u128::MAX {
         number = number.saturating_add(1);
-        let ahead = line::length_ahead(input);
-        if ahead.is_none() {
-            gathered.send(session, output)?;
-        }
-        let end = line::next_line(input, ahead, output, line)?;
-        if end == LineEnd::TooLong {
-            return Ok(Outcome::BadLine(number));
-        }
-        if !line.is_empty() {
-            let Some(command) = Command::parse(line) else {
-                return Ok(Outcome::BadLine(number));
-            };
-            gathered.perform(session, output, command)?;
-        }
-        if end == LineEnd::Input {
-            return Ok(Outcome::Whole);
+        if let Some(outcome) = run_line(session, gathered, input, output, line, number)? {
+            return Ok(outcome);
         }
     }
     Ok(Outcome::InputOutput)
+}
+
+/// Runs the next line, which has that number. Answers the outcome, if the run ends with it.
+fn run_line<R: Read, W: Write + Drop>(
+    session: &mut Session,
+    gathered: &mut Gathered,
+    input: &mut BufReader<R>,
+    output: &mut BufWriter<W>,
+    line: &mut Vec<u8>,
+    number: u64,
+) -> io::Result<Option<Outcome>>
+    requires { 0 < number }
+    ensures counted { IfOk result (λ outcome. IfSome outcome CountsFromOne) }
+    ensures bad { IfOk result (λ outcome. IfSome outcome (λ outcome. Blames outcome line.new.items)) }
+{
+    let end = read_next(session, gathered, input, output, line)?;
+    if end == LineEnd::TooLong {
+        return Ok(Some(Outcome::BadLine(number)));
+    }
+    if !line.is_empty() {
+        let Some(command) = Command::parse(line) else {
+            return Ok(Some(Outcome::BadLine(number)));
+        };
+        gathered.perform(session, output, command)?;
+    }
+    if end == LineEnd::Input {
+        return Ok(Some(Outcome::Whole));
+    }
+    Ok(None)
+}
+
+/// Reads the next line. What is gathered is sent before `input` is asked for more.
+fn read_next<R: Read, W: Write + Drop>(
+    session: &mut Session,
+    gathered: &mut Gathered,
+    input: &mut BufReader<R>,
+    output: &mut BufWriter<W>,
+    line: &mut Vec<u8>,
+) -> io::Result<LineEnd>
+    ensures length { IfOk result (λ end. IsLengthOf end (length line.new.items)) }
+{
+    let ahead = line::length_ahead(input);
+    if ahead.is_none() {
+        gathered.send(session, output)?;
+    }
+    line::next_line(input, ahead, output, line)
 }
