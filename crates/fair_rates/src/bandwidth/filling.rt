@@ -155,7 +155,11 @@ fn grown_sides(
 /// # Errors
 ///
 /// `AllocError` where memory was refused.
-pub fn fair_parts(alloc: Global, count: usize, mut sides: Vec<Side>) -> Result<FairParts, AllocError>
+pub fn fair_parts(
+    alloc: Global,
+    count: usize,
+    mut sides: Vec<Side>,
+) -> Result<FairParts, AllocError>
     requires users { All (λ side. All (λ flow. flow < count) side.users.items) sides.items }
     ensures { IfOk result (λ found. AreFilled (map side_of sides.items) count found) }
 {

@@ -38,4 +38,3 @@ returns-clause-gives g c =
       at = e.at;
       timed = e.timed;
     } in (rated, e.kept)
-
