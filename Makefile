@@ -40,13 +40,10 @@ bin/networks: FORCE
 
 # The gate: every proof from nothing, the edits that must fail, the tests and the program. What stood in out/ before, it
 # puts back: the libraries of a gate before this one, which have no stamp, go first, so that those of this one stay. So do
-# packages, since they have a link, which the gate does not take. What all others rest on is proved first, by all
-# processors: once they have others to prove, each proof gets one. What it proved is kept, so the second run does not
-# prove it again.
+# packages, since they have a link, which the gate does not take.
 test:
 	@rm -rf bin/dist
 	@for rlib in crates/*/out/rlib; do [ -e $$rlib/stamp ] || rm -rf $$rlib; done
-	rt ci fair_rates
 	rt ci
 
 # Runs each example and compares what it prints: scripts, the partner that asks line by line, networks, traces and
