@@ -7,7 +7,7 @@
 //!
 //! All numbers are whole parts of one unit of the caps. Where the least share is not whole, the scale
 //! grows, and all that is kept with it.
-ghost use Rattle.std.specs.Prelude.{◌≡◌, ◌<◌, ◌≤◌, ℕ, IfOk, IfSome, OnSome, MatchOption, Option, All, List};
+ghost use Rattle.std.specs.Prelude.{◌≡◌, ◌<◌, ◌≤◌, ℕ, IfOk, IfSome, OnOk, OnSome, MatchOption, Option, All, List, []};
 ghost use Rattle.std.specs.Prelude.{◌∷◌, map, length};
 ghost use Rattle.std.specs.BinaryHeap.{heap_items, heap_len, IsHeap};
 ghost use Rattle.fair_rates.specs.Sides.SideOf.{side_of};
@@ -66,6 +66,7 @@ fn open_list(
 ) -> Result<Vec<Reverse<OpenSide>>, AllocError>
     ensures opened { IfOk result (λ opens. AreOpened sides.old.items opens.items) }
     ensures count { IfOk result (λ opens. length opens.items ≤ length sides.old.items) }
+    ensures taken { OnOk result (sides.new.items ≡ []) }
 {
     opens.clear();
     opens.reserve(sides.len())?;
@@ -89,6 +90,7 @@ fn open_sides(
     ensures opened { IfOk result (λ queue. AreOpened sides.old.items (heap_items queue)) }
     ensures order { IfOk result (λ queue. IsHeap queue_cmp (heap_items queue)) }
     ensures count { IfOk result (λ queue. heap_len queue ≤ length sides.old.items) }
+    ensures taken { OnOk result (sides.new.items ≡ []) }
 {
     Ok(BinaryHeap::from(open_list(opens, sides)?))
 }
@@ -166,11 +168,12 @@ pub fn fair_parts(
     fair_parts_in(alloc, &mut Room::new(alloc), count, &mut sides)
 }
 
-/// As [`fair_parts`], in room that is kept from call to call. The sides are taken out of their list.
+/// As [`fair_parts`], in room that is kept from call to call. The sides are taken out of their list, which keeps its own
+/// room.
 ///
 /// # Errors
 ///
-/// `AllocError` where memory was refused.
+/// `AllocError` where memory was refused. Of the sides then nothing is said; the room can be used again.
 pub fn fair_parts_in(
     alloc: Global,
     room: &mut Room,
@@ -178,7 +181,8 @@ pub fn fair_parts_in(
     sides: &mut Vec<Side>,
 ) -> Result<FairParts, AllocError>
     requires users { All (λ side. All (λ flow. flow < count) side.users.items) sides.old.items }
-    ensures { IfOk result (λ found. AreFilled (map side_of sides.old.items) count found) }
+    ensures filled { IfOk result (λ found. AreFilled (map side_of sides.old.items) count found) }
+    ensures taken { OnOk result (sides.new.items ≡ []) }
 {
     let opens = mem::replace(&mut room.opens, Vec::new(alloc));
     let before = mem::replace(&mut room.found, FairParts::none(alloc));

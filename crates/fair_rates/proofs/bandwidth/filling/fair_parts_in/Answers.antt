@@ -116,8 +116,8 @@ loop-found-preserved c =
           );
     }
 
-pub returns : goal.returns
-returns c =
+pub returns-clause-filled : goal.returns-clause-filled
+returns-clause-filled c =
     let sides : List Side = map side_of c.args.sides.now.items in
     let found = c.loop-found.found in
     let levels = found.levels.items in

@@ -37,7 +37,7 @@ returns-clause-fair g c =
     let caps = caps_of cmp peers pairs in
     let of = of_left cmp order caps (looked_up cmp order peers pairs) self.scale component us in
     let found = c.in_ok-found.found in
-    let filled = c.in_ok-found.ensures in
+    let filled = c.in_ok-found.ensures.filled in
     record {
       grown = filled.grown;
       one_each = filled.one_each ∙ ap length (c.places-count.ensures ∙ c.requires.places) ∙ sym (as_many cmp component self.list.items self.at)
