@@ -1,6 +1,6 @@
 //! Why the program ends early.
 
-use fair_rates::error::Error;
+use fairness::error::Error;
 use std::io;
 
 /// Why the program ends early.

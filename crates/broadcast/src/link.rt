@@ -6,7 +6,7 @@ ghost use Rattle.broadcast.specs.Links.{IsLinkOf, message_over};
 
 use crate::chance::Chance;
 use bytes::Bytes;
-use fair_rates::error::Error;
+use fairness::error::Error;
 use link_scheduler::transmitter::Outgoing;
 use std::alloc::Global;
 

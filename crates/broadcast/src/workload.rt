@@ -6,7 +6,7 @@ ghost use Rattle.broadcast.specs.Links.{IsVoteOver};
 use crate::chance::Chance;
 use crate::link::{Link, draw_links};
 use bytes::Bytes;
-use fair_rates::error::Error;
+use fairness::error::Error;
 use link_scheduler::transmitter::Outgoing;
 use std::alloc::Global;
 

@@ -1,6 +1,6 @@
-pub mod Fairness
+pub use Rattle.fairness.specs.Fairness
+pub use Rattle.fairness.specs.Lists
+pub use Rattle.fairness.specs.Numbers
+pub use Rattle.fairness.specs.Refusals
 pub mod Filling
-pub mod Lists
-pub mod Numbers
-pub mod Refusals
 pub mod Sides

@@ -1,26 +1,26 @@
 -- The names that most proofs of this crate cite, passed on from one place. Declares nothing.
-pub use Rattle.fair_rates.proofs.Fairness.MappedSides.{listed_from, listed_on, all_unmapped}
-pub use Rattle.fair_rates.proofs.Fairness.OneAllocation.{same_amounts, worth_too}
-pub use Rattle.fair_rates.proofs.Fairness.SameSides.{fairness_is_of_the_set}
-pub use Rattle.fair_rates.proofs.Filling.Frozen.{if_err, none_or_some, not_some, some_is, at_none}
+pub use Rattle.fairness.proofs.Fairness.MappedSides.{listed_from, listed_on, all_unmapped}
+pub use Rattle.fairness.proofs.Fairness.OneAllocation.{same_amounts, worth_too}
+pub use Rattle.fairness.proofs.Fairness.SameSides.{fairness_is_of_the_set}
+pub use Rattle.fairness.proofs.Filling.Frozen.{if_err, none_or_some, not_some, some_is, at_none}
 pub use Rattle.fair_rates.proofs.Filling.Growing.{AreScaled}
-pub use Rattle.fair_rates.proofs.Filling.States.{IsFilledTo}
-pub use Rattle.fair_rates.proofs.Lists.Members.{In, any_passes, contains_from_in, from_map, in_from_contains, in_left}
-pub use Rattle.fair_rates.proofs.Lists.Members.{in_map, in_right, any_fails, in_either, in_get, get_in, get_from_map}
-pub use Rattle.fair_rates.proofs.Lists.Places.{places_alike, place_here, passes_here, below_length, places_below}
-pub use Rattle.fair_rates.proofs.Lists.SumOrder.{All-from_contains, sum_by-scaled}
-pub use Rattle.fair_rates.proofs.Lists.Sums.{sum_by_same}
-pub use Rattle.fair_rates.specs.Fairness.Exists.{product}
-pub use Rattle.fair_rates.specs.Fairness.Fair.{IsFair, IsLimited, Side, load}
-pub use Rattle.fair_rates.specs.Fairness.Laws.{HaveUsersBelow, AreTheSameSides}
-pub use Rattle.fair_rates.specs.Fairness.Rates.{AreFairRates, IsRateOf, HasDifferentRates}
+pub use Rattle.fairness.proofs.Filling.States.{IsFilledTo}
+pub use Rattle.fairness.proofs.Lists.Members.{In, any_passes, contains_from_in, from_map, in_from_contains, in_left}
+pub use Rattle.fairness.proofs.Lists.Members.{in_map, in_right, any_fails, in_either, in_get, get_in, get_from_map}
+pub use Rattle.fairness.proofs.Lists.Places.{places_alike, place_here, passes_here, below_length, places_below}
+pub use Rattle.fairness.proofs.Lists.SumOrder.{All-from_contains, sum_by-scaled}
+pub use Rattle.fairness.proofs.Lists.Sums.{sum_by_same}
+pub use Rattle.fairness.specs.Fairness.Exists.{product}
+pub use Rattle.fairness.specs.Fairness.Fair.{IsFair, IsLimited, Side, load}
+pub use Rattle.fairness.specs.Fairness.Laws.{HaveUsersBelow, AreTheSameSides}
+pub use Rattle.fairness.specs.Fairness.Rates.{AreFairRates, IsRateOf, HasDifferentRates}
 pub use Rattle.fair_rates.specs.Filling.FairParts.{level_at}
-pub use Rattle.fair_rates.specs.Filling.States.{at_level}
-pub use Rattle.fair_rates.specs.Lists.Places.{places_from}
-pub use Rattle.fair_rates.specs.Numbers.Ratio.{IsWorth}
-pub use Rattle.fair_rates.specs.declared.bandwidth.Rate.{Rate}
-pub use Rattle.fair_rates.specs.declared.bandwidth.Rate.TheVariants.{Finite, Unlimited}
-pub use Rattle.fair_rates.specs.declared.ratio.Ratio.{Ratio}
+pub use Rattle.fairness.specs.Filling.Frozen.{at_level}
+pub use Rattle.fairness.specs.Lists.Places.{places_from}
+pub use Rattle.fairness.specs.Numbers.Ratio.{IsWorth}
+pub use Rattle.fairness.specs.declared.bandwidth.Rate.{Rate}
+pub use Rattle.fairness.specs.declared.bandwidth.Rate.TheVariants.{Finite, Unlimited}
+pub use Rattle.fairness.specs.declared.ratio.Ratio.{Ratio}
 pub use Rattle.fair_routes.specs.Network.Laws.{IsLinkSide, routes_at, rates_at}
 pub use Rattle.fair_routes.specs.Network.Rising.{AreAllHeld, HasFrozen, HasLeastRoom, frozen_in, rising_weight}
 pub use Rattle.fair_routes.specs.Network.Rising.{slack_of, AreFilledByWeight}

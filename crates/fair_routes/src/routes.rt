@@ -12,7 +12,8 @@ mod sides;
 pub mod weighted;
 
 pub use error::RouteError;
-use fair_rates::bandwidth::{Rate, fair_parts_on};
+use fair_rates::bandwidth::fair_parts_on;
+use fairness::bandwidth::Rate;
 use std::alloc::Global;
 pub use weighted::{WeightError, allocate_weighted_routes};
 

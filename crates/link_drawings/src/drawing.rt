@@ -6,7 +6,7 @@ use crate::ink::Ink;
 use crate::layout::Layout;
 use crate::options::{Form, Options};
 use crate::{page, picture, table};
-use fair_rates::error::Error;
+use fairness::error::Error;
 use std::alloc::Global;
 use std::io;
 use std::io::{ErrorKind, Write};

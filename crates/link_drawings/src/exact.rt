@@ -3,8 +3,8 @@
 use crate::caps::{Cap, Side};
 use crate::history::History;
 use crate::track::Track;
-use fair_rates::error::Error;
-use fair_rates::ratio::Ratio;
+use fairness::error::Error;
+use fairness::ratio::Ratio;
 use std::alloc::Global;
 
 /// What changes, in the order in which it counts where it does so at one moment.

@@ -1,7 +1,7 @@
 //! Lines of a table, as CSV or as JSON.
 
 use crate::ink::Ink;
-use fair_rates::ratio::Ratio;
+use fairness::ratio::Ratio;
 
 /// How the lines of a table are written.
 #[derive(Clone, Copy, Debug, PartialEq, Eq)]

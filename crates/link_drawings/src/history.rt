@@ -3,7 +3,7 @@
 use crate::caps::{Cap, Side};
 use crate::options::Options;
 use crate::track::{Seen, Sent, Track};
-use fair_rates::error::Error;
+use fairness::error::Error;
 use std::alloc::Global;
 use std::collections::BTreeMap;
 

@@ -5,7 +5,7 @@ use crate::frame::{Frame, SPAN};
 use crate::history::History;
 use crate::options::Options;
 use crate::track::Track;
-use fair_rates::error::Error;
+use fairness::error::Error;
 use std::alloc::Global;
 use std::collections::BTreeSet;
 

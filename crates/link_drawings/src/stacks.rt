@@ -8,7 +8,7 @@ use crate::ink::Ink;
 use crate::paint::{Band, fill, fill_between, line, mark_quarter};
 use crate::rows::draw_foot;
 use crate::sums::{Stretch, stretches};
-use fair_rates::error::Error;
+use fairness::error::Error;
 
 /// Parts of a whole cap.
 const WHOLE: u128 = 1_000_000;

@@ -3,7 +3,7 @@
 use crate::caps::{Cap, Side};
 use crate::history::{History, MILLION};
 use crate::track::Track;
-use fair_rates::error::Error;
+use fairness::error::Error;
 use std::alloc::Global;
 
 /// A rate that changes at a moment, in millionths of a byte a second.

@@ -7,7 +7,7 @@ use crate::history::History;
 use crate::ink::Ink;
 use crate::options::Options;
 use crate::track::{Piece, Sent, Track};
-use fair_rates::error::Error;
+use fairness::error::Error;
 use std::io;
 use std::io::Write;
 

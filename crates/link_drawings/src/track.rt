@@ -1,8 +1,8 @@
 //! What became of the messages of one ordered pair.
 
 use crate::history::MILLION;
-use fair_rates::error::Error;
-use fair_rates::ratio::Ratio;
+use fairness::error::Error;
+use fairness::ratio::Ratio;
 use std::alloc::Global;
 
 /// Nanoseconds in a second.

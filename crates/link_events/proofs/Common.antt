@@ -1,12 +1,12 @@
 -- The names that most proofs of this crate cite, passed on from one place. Declares nothing.
-pub use Rattle.fair_rates.proofs.Lists.Booleans.{by_bool, second_of_both, first_of_both}
-pub use Rattle.fair_rates.proofs.Lists.Each.{Each}
-pub use Rattle.fair_rates.specs.Lists.WithoutFirst.{without_first}
-pub use Rattle.fair_rates.specs.Numbers.Amount.{whole}
-pub use Rattle.fair_rates.specs.Sides.Caps.{Caps}
-pub use Rattle.fair_rates.specs.Sides.Subjects.{same_peer}
-pub use Rattle.fair_rates.specs.declared.error.Error.{Error}
-pub use Rattle.fair_rates.specs.declared.error.Error.TheVariants.{MomentTooLate, OutOfMemory}
+pub use Rattle.fairness.proofs.Lists.Booleans.{by_bool, second_of_both, first_of_both}
+pub use Rattle.fairness.proofs.Lists.Each.{Each}
+pub use Rattle.fairness.specs.Lists.WithoutFirst.{without_first}
+pub use Rattle.fairness.specs.Numbers.Amount.{whole}
+pub use Rattle.fairness.specs.Sides.Caps.{Caps}
+pub use Rattle.fairness.specs.Sides.Subjects.{same_peer}
+pub use Rattle.fairness.specs.declared.error.Error.{Error}
+pub use Rattle.fairness.specs.declared.error.Error.TheVariants.{MomentTooLate, OutOfMemory}
 pub use Rattle.link_events.specs.Steps.AsPlanned.{planned}
 pub use Rattle.link_events.specs.Steps.Due.{Happens, IsDue}
 pub use Rattle.link_events.specs.Steps.Landing.{since_of_first, FirstLands}

@@ -13,8 +13,8 @@ ghost use Rattle.link_events.specs.Steps.Outgoing.{outgoing_by};
 use crate::change::Change;
 use crate::ledger::Ledger;
 use crate::outgoing::Outgoing;
-use fair_rates::error::Error;
-use fair_rates::peer::Peer;
+use fairness::error::Error;
+use fairness::peer::Peer;
 use link_pairs::completion::{Completion, Ended, answers_of};
 use link_pairs::contents::Payload;
 

@@ -12,8 +12,8 @@ ghost use Rattle.link_events.specs.Steps.Standing.{IsIdle};
 
 use crate::ledger::Ledger;
 use crate::outgoing::Outgoing;
-use fair_rates::error::Error;
-use fair_rates::peer::Peer;
+use fairness::error::Error;
+use fairness::peer::Peer;
 use link_pairs::completion::Ended;
 use link_pairs::contents::Payload;
 use link_pairs::message::Message;

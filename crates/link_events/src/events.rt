@@ -16,8 +16,8 @@ ghost use Rattle.link_events.specs.Steps.Due.{IsDue, Happens};
 
 use crate::event::Event;
 use crate::ledger::Ledger;
-use fair_rates::error::Error;
-use fair_rates::peer::Peer;
+use fairness::error::Error;
+use fairness::peer::Peer;
 use link_pairs::completion::Ended;
 use link_pairs::known_pairs::later_of;
 use link_pairs::message::Message;

@@ -14,8 +14,8 @@ ghost use Rattle.link_events.specs.Steps.Parting.{IsParted, done_by};
 ghost use Rattle.link_events.specs.Steps.Landing.{FirstLands, IsFirstLate, since_of_first};
 
 use crate::readiness::tell_all;
-use fair_rates::error::Error;
-use fair_rates::peer::Peer;
+use fairness::error::Error;
+use fairness::peer::Peer;
 use link_flights::flight_list::Flights;
 use link_pairs::known_pairs::Pairs;
 use link_pairs::message::Message;

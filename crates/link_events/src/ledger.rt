@@ -9,8 +9,8 @@ ghost use Rattle.link_flights.specs.Flights.Rated.{WereRatedUnder};
 ghost use Rattle.link_simulation.specs.Rule.Planned.{rated_messages};
 ghost use Rattle.link_simulation.specs.Simulation.Messages.{OneForEachPair};
 
-use fair_rates::error::Error;
-use fair_rates::peer::Peer;
+use fairness::error::Error;
+use fairness::peer::Peer;
 use link_flights::flight_list::Flights;
 use link_pairs::known_pairs::Pairs;
 use link_pairs::peers::Peers;

@@ -12,8 +12,8 @@ ghost use Rattle.link_waiting.specs.Idle.Index.{idle_from as idle_since};
 
 use crate::ledger::Ledger;
 use crate::marks::give_up;
-use fair_rates::error::Error;
-use fair_rates::peer::Peer;
+use fairness::error::Error;
+use fairness::peer::Peer;
 use link_pairs::known_pairs::later_of;
 use link_pairs::message::Message;
 use link_pairs::pair::PeerPair;

@@ -6,8 +6,8 @@ ghost use Rattle.link_waiting.specs.Idle.AtRest.{of_pairs};
 ghost use Rattle.link_pairs.specs.Pairs.Messages.{messages};
 ghost use Rattle.link_events.specs.Steps.Landing.{since_of_first};
 
-use fair_rates::error::Error;
-use fair_rates::peer::Peer;
+use fairness::error::Error;
+use fairness::peer::Peer;
 use link_pairs::known_pairs::Pairs;
 use link_pairs::message::Message;
 use link_waiting::waiting::Waiting;

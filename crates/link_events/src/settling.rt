@@ -17,8 +17,8 @@ ghost use Rattle.link_events.specs.Steps.Starting.{WouldStay, StartsNext};
 
 use crate::leave::Left;
 use crate::ledger::Ledger;
-use fair_rates::error::Error;
-use fair_rates::peer::Peer;
+use fairness::error::Error;
+use fairness::peer::Peer;
 use link_flights::account::is_unlimited;
 use link_pairs::completion::Ended;
 use link_pairs::message::Message;

@@ -1,7 +1,7 @@
 //! Messages that are done as they start: they are never in flight.
 ghost use Rattle.std.specs.Prelude.{◌≡◌, ◌<◌, ◌&&◌, true, false, Some, option_map, IfOk, IfErr, OnOk};
-ghost use Rattle.fair_rates.specs.Lists.WithoutFirst.{without_first};
-ghost use Rattle.fair_rates.specs.Sides.Subjects.{same_peer};
+ghost use Rattle.fairness.specs.Lists.WithoutFirst.{without_first};
+ghost use Rattle.fairness.specs.Sides.Subjects.{same_peer};
 ghost use Rattle.link_simulation.specs.Simulation.Messages.{Message as AnyMessage, with_link};
 ghost use Rattle.link_simulation.specs.Rule.Events.{Accounts, launched};
 ghost use Rattle.link_pairs.specs.Pairs.Messages.{message_of, messages};
@@ -13,8 +13,8 @@ ghost use Rattle.link_events.specs.Steps.Through.{FirstIsUnlimited, gone_through
 
 use crate::ledger::Ledger;
 use crate::marks::give_up;
-use fair_rates::error::Error;
-use fair_rates::peer::Peer;
+use fairness::error::Error;
+use fairness::peer::Peer;
 use link_flights::account::is_unlimited;
 use link_pairs::message::Message;
 use link_waiting::waiting::Waiting;

@@ -1,31 +1,31 @@
 -- The names that most proofs of this crate cite, passed on from one place. Declares nothing.
 pub use Prim.Native.Nat.{◌∣◌}
-pub use Rattle.fair_rates.proofs.Fairness.SameSides.{still_fair}
-pub use Rattle.fair_rates.proofs.Fairness.Sharing.{AreShared, shared_from, total}
+pub use Rattle.fairness.proofs.Fairness.SameSides.{still_fair}
+pub use Rattle.fairness.proofs.Fairness.Sharing.{AreShared, shared_from, total}
 pub use Rattle.fair_rates.proofs.Filling.Alone.{parts_alone_fair}
-pub use Rattle.fair_rates.proofs.Lists.Booleans.{by_bool, first_of_both, second_of_both}
-pub use Rattle.fair_rates.proofs.Lists.InPlace.{IsChangedUpTo, one_more, unchanged, all_changed}
-pub use Rattle.fair_rates.proofs.Lists.Members.{In, all_pass, all_passed, contains_from_in, from_filter, from_map}
-pub use Rattle.fair_rates.proofs.Lists.Members.{get_from_map, get_in, in_either, in_filter, in_from_contains, in_get}
-pub use Rattle.fair_rates.proofs.Lists.Members.{in_left, in_map, in_right}
-pub use Rattle.fair_rates.proofs.Lists.Places.{places_below}
-pub use Rattle.fair_rates.proofs.Lists.Sorted.{get_or-seam}
-pub use Rattle.fair_rates.proofs.Lists.SumOrder.{All-from_contains}
-pub use Rattle.fair_rates.proofs.Numbers.Draining.{product_none}
-pub use Rattle.fair_rates.proofs.Sides.EqualSubjects.{same_peer_itself, one_cap, same_limits}
-pub use Rattle.fair_rates.specs.Fairness.Exists.{product}
-pub use Rattle.fair_rates.specs.Fairness.Fair.{IsFair, Side, load}
-pub use Rattle.fair_rates.specs.Fairness.UnderCaps.{AreOfPeers, cap_of, limits, sides_under}
+pub use Rattle.fairness.proofs.Lists.Booleans.{by_bool, first_of_both, second_of_both}
+pub use Rattle.fairness.proofs.Lists.InPlace.{IsChangedUpTo, one_more, unchanged, all_changed}
+pub use Rattle.fairness.proofs.Lists.Members.{In, all_pass, all_passed, contains_from_in, from_filter, from_map}
+pub use Rattle.fairness.proofs.Lists.Members.{get_from_map, get_in, in_either, in_filter, in_from_contains, in_get}
+pub use Rattle.fairness.proofs.Lists.Members.{in_left, in_map, in_right}
+pub use Rattle.fairness.proofs.Lists.Places.{places_below}
+pub use Rattle.fairness.proofs.Lists.Sorted.{get_or-seam}
+pub use Rattle.fairness.proofs.Lists.SumOrder.{All-from_contains}
+pub use Rattle.fairness.proofs.Numbers.Draining.{product_none}
+pub use Rattle.fairness.proofs.Sides.EqualSubjects.{same_peer_itself, one_cap, same_limits}
+pub use Rattle.fairness.specs.Fairness.Exists.{product}
+pub use Rattle.fairness.specs.Fairness.Fair.{IsFair, Side, load}
+pub use Rattle.fairness.specs.Fairness.UnderCaps.{AreOfPeers, cap_of, limits, sides_under}
 pub use Rattle.fair_rates.specs.Filling.FairParts.{parts_of_level, flow_parts}
-pub use Rattle.fair_rates.specs.Lists.Places.{places_from}
-pub use Rattle.fair_rates.specs.Numbers.Amount.{billion, gcd, whole, Amount}
-pub use Rattle.fair_rates.specs.Numbers.Gcd.{gcd-IsGcd, gcd-mod}
-pub use Rattle.fair_rates.specs.Numbers.LowestTerms.{reduced_alike, reduced_scaled, IsScaled, reduced_scales}
-pub use Rattle.fair_rates.specs.Sides.Caps.{Caps}
+pub use Rattle.fairness.specs.Lists.Places.{places_from}
+pub use Rattle.fairness.specs.Numbers.Amount.{billion, gcd, whole, Amount}
+pub use Rattle.fairness.specs.Numbers.Gcd.{gcd-IsGcd, gcd-mod}
+pub use Rattle.fairness.specs.Numbers.LowestTerms.{reduced_alike, reduced_scaled, IsScaled, reduced_scales}
+pub use Rattle.fairness.specs.Sides.Caps.{Caps}
 pub use Rattle.fair_rates.specs.Sides.SideOf.{side_of}
-pub use Rattle.fair_rates.specs.Sides.Subjects.{Subject, received_by, same_peer, sent_between, sent_by, same_subject}
-pub use Rattle.fair_rates.specs.declared.bandwidth.Flow.{Flow}
-pub use Rattle.fair_rates.specs.declared.bandwidth.FlowCaps.{FlowCaps}
+pub use Rattle.fairness.specs.Sides.Subjects.{Subject, received_by, same_peer, sent_between, sent_by, same_subject}
+pub use Rattle.fairness.specs.declared.bandwidth.Flow.{Flow}
+pub use Rattle.fairness.specs.declared.bandwidth.FlowCaps.{FlowCaps}
 pub use Rattle.fair_rates.specs.declared.bandwidth.parts.FairParts.{FairParts}
 pub use Rattle.link_flights.specs.Flights.Components.{AreAllListed, AreNoted, AreSuited, AreTouched, Ascends, has_both}
 pub use Rattle.link_flights.specs.Flights.Components.{is_closed, is_of, is_receiver, is_sender, keeps, places_of, suits}
@@ -94,4 +94,4 @@ pub use Rattle.std.specs.Prelude.{slice_index, unwrap_or, MatchOption}
 pub use Rattle.std.specs.declared.alloc.Global.{Global}
 pub use Rattle.std.specs.declared.cmp.Ordering.{Ordering}
 pub use Rattle.std.specs.declared.sync.Arc.{Arc}
-unfoldable pub use Rattle.fair_rates.specs.Numbers.Amount.{reduced}
+unfoldable pub use Rattle.fairness.specs.Numbers.Amount.{reduced}

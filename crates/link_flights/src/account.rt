@@ -12,8 +12,8 @@ ghost use Rattle.link_pairs.specs.Pairs.CapsOf.{caps_of};
 ghost use Rattle.link_simulation.specs.Simulation.Rates.{is_unlimited as is_free};
 
 use crate::flight_list::Flights;
-use fair_rates::error::Error;
-use fair_rates::peer::Peer;
+use fairness::error::Error;
+use fairness::peer::Peer;
 use link_pairs::known_pairs::Pairs;
 use link_pairs::message::Message;
 use link_pairs::peers::Peers;

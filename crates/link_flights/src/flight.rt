@@ -1,11 +1,11 @@
 //! A message in flight.
 ghost use Rattle.std.specs.Int.{IsGcd};
 ghost use Rattle.std.specs.Prelude.{◌≡◌, ◌≢◌, ◌*◌, ◌/◌, ◌<◌, ◌==◌, IfOk, IfErr, OnOk, true, false, not, nat_le};
-ghost use Rattle.fair_rates.specs.Fairness.Exists.{product};
+ghost use Rattle.fairness.specs.Fairness.Exists.{product};
 ghost use Prim.Native.Nat.{◌∣◌};
 
-use fair_rates::error::Error;
-use fair_rates::peer::Peer;
+use fairness::error::Error;
+use fairness::peer::Peer;
 use link_pairs::message::Message;
 use natural::Natural;
 use std::sync::Arc;

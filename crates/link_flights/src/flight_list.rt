@@ -4,14 +4,14 @@ ghost use Rattle.std.specs.Prelude.{length, nat_le, slice_index_or, slice_set, I
 ghost use Rattle.std.specs.List.{list_all, list_any};
 ghost use Rattle.link_flights.specs.declared.flight.Flight.{Flight as AnyFlight};
 ghost use Rattle.link_flights.specs.Flights.Flight.{HaveRates};
-ghost use Rattle.fair_rates.specs.Sides.Subjects.{same_peer};
+ghost use Rattle.fairness.specs.Sides.Subjects.{same_peer};
 
 use crate::flight::Flight;
 use crate::loose::Loose;
 use crate::notes::Notes;
 use crate::table::Table;
-use fair_rates::error::Error;
-use fair_rates::peer::Peer;
+use fairness::error::Error;
+use fairness::peer::Peer;
 use link_pairs::message::Message;
 use natural::Natural;
 use std::alloc::{AllocError, Global};
@@ -84,7 +84,7 @@ impl<P: Peer> Drop for Flights<P> {
 }
 
 impl<P: Peer> Flights<P> {
-    ghost use Rattle.fair_rates.specs.Numbers.Amount.{whole};
+    ghost use Rattle.fairness.specs.Numbers.Amount.{whole};
     ghost use Rattle.link_simulation.specs.Rule.Planned.{RatedFlight, rated_messages};
     ghost use Rattle.link_pairs.specs.Pairs.Messages.{message_of};
     ghost use Rattle.link_flights.specs.Flights.Flight.{AreTimed, has_come};

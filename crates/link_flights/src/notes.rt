@@ -4,7 +4,7 @@ ghost use Rattle.link_flights.specs.Flights.Components.{AreNoted};
 
 use crate::numbers::Numbers;
 use fair_rates::bandwidth::{Room, Side};
-use fair_rates::error::Error;
+use fairness::error::Error;
 use std::alloc::Global;
 use std::marker::Model;
 use std::mem;

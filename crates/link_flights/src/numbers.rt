@@ -3,7 +3,7 @@ ghost use Rattle.std.specs.Prelude.{◌≡◌, ℕ, ◌<◌, None, Some, All, If
 ghost use Rattle.std.specs.List.{AllPairs};
 ghost use Rattle.link_flights.specs.Flights.Components.{AreNumbered};
 
-use fair_rates::error::Error;
+use fairness::error::Error;
 use std::alloc::Global;
 use std::marker::Model;
 

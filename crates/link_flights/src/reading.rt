@@ -2,16 +2,16 @@
 ghost use Rattle.std.specs.Prelude.{◌≡◌, ◌<◌, IfOk, IfErr};
 ghost use Rattle.std.specs.List.{AllZip};
 ghost use Rattle.std.specs.declared.cmp.Ordering.TheVariants.{Equal};
-ghost use Rattle.fair_rates.specs.Numbers.Amount.{reduced};
+ghost use Rattle.fairness.specs.Numbers.Amount.{reduced};
 ghost use Rattle.link_flights.specs.Flights.Flight.{flight_at};
 ghost use Rattle.link_flights.specs.Flights.Readings.{IsReadingOf};
 
 use crate::flight::Flight;
 use crate::flight_list::Flights;
 use crate::fraction::read_fraction;
-use fair_rates::error::Error;
-use fair_rates::peer::Peer;
-use fair_rates::ratio::Ratio;
+use fairness::error::Error;
+use fairness::peer::Peer;
+use fairness::ratio::Ratio;
 use natural::Natural;
 use std::sync::Arc;
 

@@ -3,7 +3,7 @@ ghost use Rattle.std.specs.Prelude.{◌≡◌, ℕ, ◌+◌, ◌<◌, ◌==◌, 
 ghost use Rattle.std.specs.Prelude.{slice_get, slice_set, slice_index_or, option_map, IfErr, OnOk, OnErr};
 ghost use Rattle.std.specs.List.{remove, list_any};
 ghost use Rattle.link_flights.specs.declared.flight.Flight.{Flight as AnyFlight};
-ghost use Rattle.fair_rates.specs.Sides.Subjects.{same_peer};
+ghost use Rattle.fairness.specs.Sides.Subjects.{same_peer};
 ghost use Rattle.link_simulation.specs.Simulation.Messages.{is_delivered};
 ghost use Rattle.link_pairs.specs.Pairs.Messages.{message_of};
 ghost use Rattle.link_flights.specs.Flights.Flight.{has_come};
@@ -14,8 +14,8 @@ ghost use Rattle.link_flights.specs.Flights.Rows.{items_of, AreKept};
 ghost use Rattle.row_table.specs.Rows.{is_sent_by, is_received_by};
 
 use crate::flight::Flight;
-use fair_rates::error::Error;
-use fair_rates::peer::Peer;
+use fairness::error::Error;
+use fairness::peer::Peer;
 use link_pairs::message::Message;
 use peer_numbers::PeerNumbers;
 use row_table::RowTable;

@@ -1,14 +1,14 @@
 //! Larger units for what is in flight, once smaller ones are needed no more.
 ghost use Rattle.std.specs.Prelude.{◌≡◌, ◌/◌, ◌<◌, [], IfErr, OnOk};
-ghost use Rattle.fair_rates.specs.Sides.Caps.{Caps as AnyCaps};
+ghost use Rattle.fairness.specs.Sides.Caps.{Caps as AnyCaps};
 ghost use Rattle.link_flights.specs.Flights.InFlight.{in_flight};
 ghost use Rattle.link_flights.specs.Flights.LargerUnits.{IsCommonFactor, AreCountedBy};
 ghost use Rattle.link_flights.specs.Flights.Rated.{WereRatedUnder};
 
 use crate::flight::common_factor;
 use crate::flight_list::Flights;
-use fair_rates::error::Error;
-use fair_rates::peer::Peer;
+use fairness::error::Error;
+use fairness::peer::Peer;
 
 /// The least common multiple of the numbers up to 46, the most that 64 bits hold. Units grow by factors of it.
 const FACTORS: u64 = 9_419_588_158_802_421_600;

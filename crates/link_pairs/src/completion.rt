@@ -8,8 +8,8 @@ ghost use Rattle.link_pairs.specs.Pairs.Messages.{completed_by, ended_of};
 use crate::contents::Payload;
 use crate::message::Message;
 use bytes::Bytes;
-use fair_rates::error::Error;
-use fair_rates::peer::Peer;
+use fairness::error::Error;
+use fairness::peer::Peer;
 use std::alloc::Global;
 use std::sync::Arc;
 

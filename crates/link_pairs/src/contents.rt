@@ -3,7 +3,7 @@ ghost use Rattle.std.specs.Prelude.{◌≡◌, ◌+◌, ◌++◌, ◌-◌, ◌<�
 ghost use Rattle.std.specs.Prelude.{length, replicate, IfOk, IfErr};
 
 use bytes::Bytes;
-use fair_rates::error::Error;
+use fairness::error::Error;
 use std::alloc::{AllocError, Global};
 use std::marker::Model;
 

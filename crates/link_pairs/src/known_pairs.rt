@@ -8,8 +8,8 @@ ghost use Rattle.link_pairs.specs.Pairs.Entries.{AreInNumbers};
 ghost use Rattle.link_pairs.specs.Pairs.Room.{IsStillKnown};
 
 use crate::room::fill_up_to;
-use fair_rates::error::Error;
-use fair_rates::peer::Peer;
+use fairness::error::Error;
+use fairness::peer::Peer;
 use peer_numbers::PairNumbers;
 use std::alloc::Global;
 use std::marker::Model;

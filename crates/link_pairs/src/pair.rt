@@ -1,9 +1,9 @@
 //! An ordered pair of peers.
 ghost use Rattle.std.specs.Prelude.{◌≡◌, true, IfOk, IfErr};
-ghost use Rattle.fair_rates.specs.Sides.Subjects.{same_peer};
+ghost use Rattle.fairness.specs.Sides.Subjects.{same_peer};
 
-use fair_rates::error::Error;
-use fair_rates::peer::Peer;
+use fairness::error::Error;
+use fairness::peer::Peer;
 
 /// An ordered pair of peers.
 #[derive(Drop)]

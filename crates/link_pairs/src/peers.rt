@@ -3,8 +3,8 @@ ghost use Rattle.std.specs.Prelude.{◌≡◌, ◌<◌, ◌^◌, [], OnOk, OnErr
 ghost use Rattle.std.specs.Option.{option_and_then};
 
 use crate::room::fill_up_to;
-use fair_rates::error::Error;
-use fair_rates::peer::Peer;
+use fairness::error::Error;
+use fairness::peer::Peer;
 use peer_numbers::PeerNumbers;
 use std::alloc::Global;
 use std::marker::Model;

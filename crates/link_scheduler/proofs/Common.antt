@@ -1,6 +1,6 @@
 -- The names that most proofs of this crate cite, passed on from one place. Declares nothing.
-pub use Rattle.fair_rates.specs.Numbers.Amount.{Amount}
-pub use Rattle.fair_rates.specs.declared.error.Error.{Error}
+pub use Rattle.fairness.specs.Numbers.Amount.{Amount}
+pub use Rattle.fairness.specs.declared.error.Error.{Error}
 pub use Rattle.link_events.proofs.Steps.Settling.{if_ok}
 pub use Rattle.link_events.specs.Steps.Answered.{IsAnswered}
 pub use Rattle.link_events.specs.Steps.AsPlanned.{planned}

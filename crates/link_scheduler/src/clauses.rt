@@ -6,10 +6,10 @@ ghost use Rattle.std.specs.Prelude.{◌≡◌, ◌↔◌, ℕ, ◌+◌, ◌-◌,
 ghost use Rattle.std.specs.Prelude.{map, true, Bool, Option, Some, None};
 ghost use Rattle.std.specs.List.{AllZip};
 ghost use Rattle.std.specs.declared.cmp.Ordering.TheVariants.{Equal};
-ghost use Rattle.fair_rates.specs.Numbers.Amount.{Amount, whole};
-ghost use Rattle.fair_rates.specs.Numbers.Ratio.{amount_of};
-ghost use Rattle.fair_rates.specs.declared.error.Error.{Error as AnyError};
-ghost use Rattle.fair_rates.specs.declared.error.Error.TheVariants.{OutOfMemory, NumberTooLarge};
+ghost use Rattle.fairness.specs.Numbers.Amount.{Amount, whole};
+ghost use Rattle.fairness.specs.Numbers.Ratio.{amount_of};
+ghost use Rattle.fairness.specs.declared.error.Error.{Error as AnyError};
+ghost use Rattle.fairness.specs.declared.error.Error.TheVariants.{OutOfMemory, NumberTooLarge};
 ghost use Rattle.link_pairs.specs.Pairs.Messages.{completed_of};
 ghost use Rattle.link_flights.specs.Flights.Readings.{HasShortTerms, IsGreatestWhole, IsReadingOf, IsReadAs};
 ghost use Rattle.link_scheduler.specs.Calls.State.{planned_of, Makes, Refuses, IsNew, IsAdvanced, IsCounted};
@@ -32,7 +32,7 @@ ghost use Rattle.link_simulation.specs.Rule.StandsFor.{StandsFor};
 ghost use Rattle.link_simulation.specs.Simulation.Time.{NextIs};
 
 use crate::transmitter::{Completion, State};
-use fair_rates::peer::Peer;
+use fairness::peer::Peer;
 
 /// A call that is made has the one course of the event rule. In the simulation it has the one course from each world in
 /// which it comes in turn. After it as many messages are done, in flight and waiting as there were before, with its

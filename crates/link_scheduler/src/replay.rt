@@ -1,7 +1,7 @@
 //! A list of calls on a new scheduler, and what each is answered.
 ghost use Rattle.std.specs.Prelude.{◌≡◌, ◌≢◌, true, length, map, [], ◌∷◌, ◌++◌, IfOk, IfErr, OnOk, OnErr};
 ghost use Rattle.std.specs.List.{AllZip};
-ghost use Rattle.fair_rates.specs.Sides.Subjects.{same_peer};
+ghost use Rattle.fairness.specs.Sides.Subjects.{same_peer};
 ghost use Rattle.link_simulation.specs.Simulation.Messages.{SameMessage, Message as AnyMessage};
 ghost use Rattle.link_simulation.specs.Simulation.World.{new_world};
 ghost use Rattle.link_simulation.specs.Simulation.Calls.{call_next};
@@ -19,8 +19,8 @@ ghost use Rattle.link_scheduler.specs.Calls.Replay.{call_by, call_of, reply_of, 
 
 use crate::transmitter::{Completion, Outgoing, Payload, State};
 use bytes::Bytes;
-use fair_rates::error::Error;
-use fair_rates::peer::Peer;
+use fairness::error::Error;
+use fairness::peer::Peer;
 use std::alloc::Global;
 
 /// A call of a scheduler, with its arguments: see the functions of `State`.

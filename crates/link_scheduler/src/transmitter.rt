@@ -9,8 +9,8 @@ ghost use Rattle.link_simulation.specs.Simulation.Messages.{CapsAlike, PairsAlik
 ghost use Rattle.link_simulation.specs.Rule.Planned.{IsPlanned};
 
 use bytes::Bytes;
-use fair_rates::error::Error;
-use fair_rates::peer::Peer;
+use fairness::error::Error;
+use fairness::peer::Peer;
 use link_events::change::Change;
 use link_events::ledger::Ledger;
 pub use link_events::outgoing::Outgoing;

@@ -2,14 +2,14 @@
 use Rattle.link_scripts.proofs.Common.{◌≡◌, ℕ, List, Option, Result, Ok, Err, IfOk, IfErr, inl, inr, subst, nat_cmp}
 use Rattle.link_scripts.proofs.Common.{Flow, Rate, Error, OutOfMemory, Calls, PairCalls}
 use Rattle.std.proofs.Common.{◌⊎◌}
-use Rattle.fair_rates.specs.declared.error.Error.TheVariants.{NumberTooLarge}
-use Rattle.fair_rates.specs.Fairness.Allocation.{IsFairUnderCaps}
-use Rattle.fair_rates.specs.Sides.Answers.{States, origins, recipients, pairs}
-use Rattle.fair_rates.specs.Sides.Caps.{Caps}
-use Rattle.fair_rates.specs.Fairness.UnderCaps.{AnswerBy, IsFairById}
-use Rattle.fair_rates.specs.Refusals.TooLarge.{AreTooLarge, AreTooLargeUnderCaps, IsTooLarge}
+use Rattle.fairness.specs.declared.error.Error.TheVariants.{NumberTooLarge}
+use Rattle.fairness.specs.Fairness.Allocation.{IsFairUnderCaps}
+use Rattle.fairness.specs.Sides.Answers.{States, origins, recipients, pairs}
+use Rattle.fairness.specs.Sides.Caps.{Caps}
+use Rattle.fairness.specs.Fairness.UnderCaps.{AnswerBy, IsFairById}
+use Rattle.fairness.specs.Refusals.TooLarge.{AreTooLarge, AreTooLargeUnderCaps, IsTooLarge}
 use Rattle.link_scripts.proofs.LookingUp.{LooksUp, LooksUpPairs}
-use Rattle.fair_rates.proofs.Sides.Answers.{answers_if_unchanged, pair_answers_if_unchanged}
+use Rattle.fairness.proofs.Sides.Answers.{answers_if_unchanged, pair_answers_if_unchanged}
 
 module _ {E I L : Type 0} (egress : Calls E ℕ) (ingress : Calls I ℕ) (link : PairCalls L ℕ) (e : E) (i : I) (l : L)
     (under : Caps ℕ)

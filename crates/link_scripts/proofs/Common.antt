@@ -1,9 +1,9 @@
 -- The names that most proofs of this crate cite, passed on from one place. Declares nothing.
-pub use Rattle.fair_rates.specs.Sides.Answers.{Calls, PairCalls}
-pub use Rattle.fair_rates.specs.declared.bandwidth.Flow.{Flow}
-pub use Rattle.fair_rates.specs.declared.bandwidth.Rate.{Rate}
-pub use Rattle.fair_rates.specs.declared.error.Error.{Error}
-pub use Rattle.fair_rates.specs.declared.error.Error.TheVariants.{OutOfMemory}
+pub use Rattle.fairness.specs.Sides.Answers.{Calls, PairCalls}
+pub use Rattle.fairness.specs.declared.bandwidth.Flow.{Flow}
+pub use Rattle.fairness.specs.declared.bandwidth.Rate.{Rate}
+pub use Rattle.fairness.specs.declared.error.Error.{Error}
+pub use Rattle.fairness.specs.declared.error.Error.TheVariants.{OutOfMemory}
 pub use Rattle.link_events.specs.declared.outgoing.Outgoing.{Outgoing}
 pub use Rattle.link_pairs.specs.Pairs.Entries.{pair_cmp}
 pub use Rattle.link_pairs.specs.Pairs.Messages.{completed_of}

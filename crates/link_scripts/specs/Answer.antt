@@ -1,10 +1,10 @@
 -- What a script prints.
 use Rattle.std.specs.Prelude.{ℕ, List, [], ◌∷◌, ◌++◌, length, Option, Some, None, codes, decimal}
 use Rattle.std.specs.List.{flat_map}
-use Rattle.fair_rates.specs.declared.bandwidth.Rate.{Rate}
-use Rattle.fair_rates.specs.declared.bandwidth.Rate.TheVariants.{Unlimited, Finite}
-use Rattle.fair_rates.specs.declared.error.Error.{Error}
-use Rattle.fair_rates.specs.Refusals.ErrorTexts.{refusal_number, refusal_text}
+use Rattle.fairness.specs.declared.bandwidth.Rate.{Rate}
+use Rattle.fairness.specs.declared.bandwidth.Rate.TheVariants.{Unlimited, Finite}
+use Rattle.fairness.specs.declared.error.Error.{Error}
+use Rattle.fairness.specs.Refusals.ErrorTexts.{refusal_number, refusal_text}
 use Rattle.link_scripts.specs.declared.linkrun.answer.Answer.{Answer}
 use Rattle.link_scripts.specs.declared.linkrun.answer.Answer.TheVariants as answers
 use Rattle.link_scheduler.specs.Calls.Replay.{reply_of}

@@ -2,21 +2,21 @@
 use Rattle.std.specs.Prelude.{◌≡◌, ◌⊎◌, ℕ, ◌==◌, ◌&&◌, List, [], ◌∷◌, ◌++◌, Option, if◌then◌else◌}
 use Rattle.std.specs.Ordering.{nat_cmp}
 use Rattle.std.specs.BTreeMap.{get}
-use Rattle.fair_rates.specs.declared.bandwidth.Flow.{Flow}
-use Rattle.fair_rates.specs.declared.error.Error.{Error}
-use Rattle.fair_rates.specs.declared.error.Error.TheVariants.{OutOfMemory, NumberTooLarge}
+use Rattle.fairness.specs.declared.bandwidth.Flow.{Flow}
+use Rattle.fairness.specs.declared.error.Error.{Error}
+use Rattle.fairness.specs.declared.error.Error.TheVariants.{OutOfMemory, NumberTooLarge}
 use Rattle.link_scripts.specs.declared.linkrun.answer.Answer.{Answer}
 use Rattle.link_scripts.specs.declared.linkrun.answer.Answer.TheVariants as answers
 use Rattle.link_scripts.specs.declared.linkrun.command.Command.{Command}
 use Rattle.link_scripts.specs.declared.linkrun.command.Command.TheVariants as commands
 use Rattle.link_scripts.specs.declared.linkrun.session.Session.{Session}
-use Rattle.fair_rates.specs.Sides.Caps.{Caps}
+use Rattle.fairness.specs.Sides.Caps.{Caps}
 use Rattle.link_pairs.specs.Pairs.Entries.{pair_cmp}
-use Rattle.fair_rates.specs.Fairness.UnderCaps.{IsFairById}
+use Rattle.fairness.specs.Fairness.UnderCaps.{IsFairById}
 use Rattle.link_scripts.specs.Schedule.{world_call, AnswersCall}
 use Rattle.link_scheduler.specs.Calls.Replay.{MayRefuseCall}
 use Rattle.link_scheduler.specs.Calls.State.{planned_of}
-use Rattle.fair_rates.specs.Refusals.TooLarge.{AreTooLarge}
+use Rattle.fairness.specs.Refusals.TooLarge.{AreTooLarge}
 use Rattle.std.specs.Int.NonZero.{non_zero_u64_get}
 use Rattle.fair_routes.specs.Network.Told.{IsToldTheSame, IsToldLink, IsToldCap, IsToldWeight, AreRatesTold, MayRefuseTold}
 use Rattle.fair_routes.specs.declared.routes.network.Network.{Network}

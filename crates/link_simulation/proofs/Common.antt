@@ -18,25 +18,25 @@ pub use Rattle.std.specs.Ordering.{is_eq, is_lt, nat_cmp}
 pub use Rattle.std.specs.Prelude.{IfSome, if◌then◌else◌, is_none, max, nat_le, nat_lt, slice_get, ⊤, ◌&&◌, ◌==◌, ◌||◌}
 pub use Rattle.std.specs.declared.cmp.Ordering.{Ordering}
 pub use Rattle.std.specs.declared.cmp.Ordering.TheVariants.{Equal, Greater, Less}
-pub use Rattle.fair_rates.proofs.Lists.Booleans.{by_bool}
-pub use Rattle.fair_rates.proofs.Lists.Each.{Each, all_of_each, each_filtered, each_joined, each_map}
-pub use Rattle.fair_rates.proofs.Lists.Filters.{filter_stronger, filter_swap, find_from_any, length-without_first}
-pub use Rattle.fair_rates.proofs.Lists.Members.{In}
-pub use Rattle.fair_rates.proofs.Lists.SumOrder.{All-from_contains}
-pub use Rattle.fair_rates.proofs.Lists.Zips.{zip-append, zip-filter, zip-length, zip-same, zip_chain}
-pub use Rattle.fair_rates.proofs.Sides.Subjects.{peer_sym}
-pub use Rattle.fair_rates.specs.Fairness.Fair.{IsFair, Side, load}
-pub use Rattle.fair_rates.specs.Fairness.Laws.{IsAtMost}
-pub use Rattle.fair_rates.specs.Fairness.Part.{flagged}
-pub use Rattle.fair_rates.specs.Lists.Places.{places_from}
-pub use Rattle.fair_rates.specs.Lists.WithoutFirst.{without_first}
-pub use Rattle.fair_rates.specs.Numbers.Amount.{Amount, billion, drained, plus, whole}
-unfoldable pub use Rattle.fair_rates.specs.Numbers.Amount.{gcd_within, reduced}
-pub use Rattle.fair_rates.specs.Numbers.LowestTerms.{reduced_positive}
-pub use Rattle.fair_rates.specs.Sides.Subjects.{same_peer}
-pub use Rattle.fair_rates.specs.declared.error.Error.{Error}
-pub use Rattle.fair_rates.specs.declared.error.Error.TheVariants.{FlowIdsUsedUp, MomentTooLate, NumberTooLarge}
-pub use Rattle.fair_rates.specs.declared.error.Error.TheVariants.{OutOfMemory}
+pub use Rattle.fairness.proofs.Lists.Booleans.{by_bool}
+pub use Rattle.fairness.proofs.Lists.Each.{Each, all_of_each, each_filtered, each_joined, each_map}
+pub use Rattle.fairness.proofs.Lists.Filters.{filter_stronger, filter_swap, find_from_any, length-without_first}
+pub use Rattle.fairness.proofs.Lists.Members.{In}
+pub use Rattle.fairness.proofs.Lists.SumOrder.{All-from_contains}
+pub use Rattle.fairness.proofs.Lists.Zips.{zip-append, zip-filter, zip-length, zip-same, zip_chain}
+pub use Rattle.fairness.proofs.Sides.Subjects.{peer_sym}
+pub use Rattle.fairness.specs.Fairness.Fair.{IsFair, Side, load}
+pub use Rattle.fairness.specs.Fairness.Laws.{IsAtMost}
+pub use Rattle.fairness.specs.Fairness.Part.{flagged}
+pub use Rattle.fairness.specs.Lists.Places.{places_from}
+pub use Rattle.fairness.specs.Lists.WithoutFirst.{without_first}
+pub use Rattle.fairness.specs.Numbers.Amount.{Amount, billion, drained, plus, whole}
+unfoldable pub use Rattle.fairness.specs.Numbers.Amount.{gcd_within, reduced}
+pub use Rattle.fairness.specs.Numbers.LowestTerms.{reduced_positive}
+pub use Rattle.fairness.specs.Sides.Subjects.{same_peer}
+pub use Rattle.fairness.specs.declared.error.Error.{Error}
+pub use Rattle.fairness.specs.declared.error.Error.TheVariants.{FlowIdsUsedUp, MomentTooLate, NumberTooLarge}
+pub use Rattle.fairness.specs.declared.error.Error.TheVariants.{OutOfMemory}
 pub use Rattle.link_simulation.specs.Examples.Rows.{a_byte_a_nanosecond, arrives, calls_of_a_late_list, dropped}
 pub use Rattle.link_simulation.specs.Examples.Rows.{is_gone, message}
 pub use Rattle.link_simulation.specs.Laws.Conserved.{IsConserved, held_of, of_pair}

@@ -1,12 +1,12 @@
 -- The names that most proofs of this crate cite, passed on from one place. Declares nothing.
 pub use Rattle.chains.specs.Chains.{Rows}
-pub use Rattle.fair_rates.proofs.Lists.Booleans.{by_bool, first_of_both, second_of_both}
-pub use Rattle.fair_rates.proofs.Lists.Each.{Each, all_of_each, each_map, each_of_all, each_without, each_find}
-pub use Rattle.fair_rates.proofs.Lists.Sorted.{list_all-mono}
-pub use Rattle.fair_rates.proofs.Sides.EqualSubjects.{same_peer_itself}
-pub use Rattle.fair_rates.specs.Lists.Sorted.{are_ascending}
-pub use Rattle.fair_rates.specs.Lists.WithoutFirst.{without_first}
-pub use Rattle.fair_rates.specs.Sides.Subjects.{same_peer}
+pub use Rattle.fairness.proofs.Lists.Booleans.{by_bool, first_of_both, second_of_both}
+pub use Rattle.fairness.proofs.Lists.Each.{Each, all_of_each, each_map, each_of_all, each_without, each_find}
+pub use Rattle.fairness.proofs.Lists.Sorted.{list_all-mono}
+pub use Rattle.fairness.proofs.Sides.EqualSubjects.{same_peer_itself}
+pub use Rattle.fairness.specs.Lists.Sorted.{are_ascending}
+pub use Rattle.fairness.specs.Lists.WithoutFirst.{without_first}
+pub use Rattle.fairness.specs.Sides.Subjects.{same_peer}
 pub use Rattle.least_moment.specs.Moments.{IsDue}
 pub use Rattle.link_pairs.proofs.Pairs.PairOrder.{pair_total, is_eq-then}
 pub use Rattle.link_pairs.specs.Pairs.Entries.{first_of, pair_cmp, Pair, arrival_of, raised_at}

@@ -2,7 +2,7 @@
 ghost use Rattle.std.specs.Prelude.{◌≡◌, ℕ, ◌<◌, ◌≤◌, ◌++◌, ◌∷◌, [], Some, None, length, option_map};
 ghost use Rattle.std.specs.Prelude.{is_none, count_by, slice_index_or, IfOk, IfErr, IsSome, IfSome, IfNone, OnOk, IsTrue};
 ghost use Rattle.std.specs.List.{find, AllZip};
-ghost use Rattle.fair_rates.specs.Lists.WithoutFirst.{without_first};
+ghost use Rattle.fairness.specs.Lists.WithoutFirst.{without_first};
 ghost use Rattle.link_pairs.specs.Pairs.Messages.{message_of};
 ghost use Rattle.link_waiting.specs.Idle.PairsOfMessages.{NamesPairOf};
 ghost use Rattle.link_waiting.specs.Idle.FirstMoment.{first_moment};
@@ -12,8 +12,8 @@ ghost use Rattle.link_waiting.specs.Idle.Waits.{due_below};
 
 use crate::moment::ready_moment;
 use chains::Chains;
-use fair_rates::error::Error;
-use fair_rates::peer::Peer;
+use fairness::error::Error;
+use fairness::peer::Peer;
 use least_moment::Moments;
 use link_pairs::message::Message;
 use link_pairs::pair::PeerPair;

@@ -3,9 +3,9 @@ ghost use Rattle.std.specs.Prelude.{◌≡◌, ◌↔◌, ◌&&◌, ◌++◌, �
 ghost use Rattle.std.specs.Prelude.{map, option_map, All, IfOk, IfErr, OnOk, OnErr};
 ghost use Rattle.std.specs.List.{list_any};
 ghost use Rattle.std.specs.Option.{option_and_then};
-ghost use Rattle.fair_rates.specs.Lists.Sorted.{are_ascending};
-ghost use Rattle.fair_rates.specs.Lists.WithoutFirst.{without_first};
-ghost use Rattle.fair_rates.specs.Sides.Subjects.{same_peer};
+ghost use Rattle.fairness.specs.Lists.Sorted.{are_ascending};
+ghost use Rattle.fairness.specs.Lists.WithoutFirst.{without_first};
+ghost use Rattle.fairness.specs.Sides.Subjects.{same_peer};
 ghost use Rattle.link_simulation.specs.Simulation.Messages.{with_link};
 ghost use Rattle.link_simulation.specs.Rule.Planned.{queued, AreInPairOrder};
 ghost use Rattle.link_pairs.specs.Pairs.Messages.{message_of};
@@ -15,8 +15,8 @@ ghost use Rattle.link_waiting.specs.Idle.Slots.{live, is_of, has_number, AreNumb
 ghost use Rattle.link_waiting.specs.Idle.Waits.{none_waits, since_of, has_come, pair_of_key};
 
 use crate::slots::{Slot, Slots};
-use fair_rates::error::Error;
-use fair_rates::peer::Peer;
+use fairness::error::Error;
+use fairness::peer::Peer;
 use link_pairs::message::Message;
 use link_pairs::pair::PeerPair;
 use peer_numbers::PairNumbers;

@@ -1,6 +1,6 @@
 //! What is printed of a network.
-use fair_rates::bandwidth::Rate;
 use fair_routes::routes::{RouteError, WeightError};
+use fairness::bandwidth::Rate;
 use std::io;
 use std::io::Write;
 

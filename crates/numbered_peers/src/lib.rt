@@ -7,7 +7,7 @@ ghost use Rattle.std.specs.Cmp.Rules.{comparing};
 ghost use Rattle.std.specs.Ordering.{nat_cmp, on, flip_args, as_partial_cmp};
 ghost use Rattle.std.specs.Prelude.{◌≡◌, ℕ, IfSome, Some, min};
 
-use fair_rates::peer::Peer;
+use fairness::peer::Peer;
 use std::cmp::Ordering;
 
 /// A peer that goes by a small number.

@@ -1,3 +1,3 @@
 -- What callers cite in their proofs: that closures may be called, and that they answer by caps.
-pub use Rattle.fair_rates.proofs.Sides.Callable.{callable_on_each, callable_on_each_pair}
-pub use Rattle.fair_rates.proofs.Sides.Answers.{answers_if_unchanged, pair_answers_if_unchanged}
+pub use Rattle.fairness.proofs.Sides.Callable.{callable_on_each, callable_on_each_pair}
+pub use Rattle.fairness.proofs.Sides.Answers.{answers_if_unchanged, pair_answers_if_unchanged}

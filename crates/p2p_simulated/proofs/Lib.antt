@@ -1,2 +1,2 @@
 pub mod Callers
-pub use Rattle.fair_rates.proofs.Sides.Callable
+pub use Rattle.fairness.proofs.Sides.Callable

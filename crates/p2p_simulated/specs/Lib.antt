@@ -1,9 +1,9 @@
-pub use Rattle.fair_rates.specs.Fairness
-pub use Rattle.fair_rates.specs.Numbers
+pub use Rattle.fairness.specs.Fairness
+pub use Rattle.fairness.specs.Numbers
 pub use Rattle.fair_rates.specs.Sides
 pub use Rattle.fair_rates.specs.Filling
-pub use Rattle.fair_rates.specs.Lists
-pub use Rattle.fair_rates.specs.Refusals
+pub use Rattle.fairness.specs.Lists
+pub use Rattle.fairness.specs.Refusals
 pub use Rattle.fair_routes.specs.Network
 pub use Rattle.link_simulation.specs.Laws
 pub use Rattle.link_simulation.specs.Simulation

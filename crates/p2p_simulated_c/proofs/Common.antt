@@ -1,8 +1,8 @@
 -- The names that most proofs of this crate cite, passed on from one place. Declares nothing.
 pub use Rattle.core.proofs.alloc.Calls.{handle_tells, token, Goes-blank}
-pub use Rattle.fair_rates.specs.declared.bandwidth.Rate.{Rate}
-pub use Rattle.fair_rates.specs.declared.error.Error.{Error}
-pub use Rattle.fair_rates.specs.declared.error.Error.TheVariants.{OutOfMemory, NumberTooLarge}
+pub use Rattle.fairness.specs.declared.bandwidth.Rate.{Rate}
+pub use Rattle.fairness.specs.declared.error.Error.{Error}
+pub use Rattle.fairness.specs.declared.error.Error.TheVariants.{OutOfMemory, NumberTooLarge}
 pub use Rattle.link_pairs.specs.Pairs.Entries.{pair_cmp}
 pub use Rattle.link_pairs.specs.declared.completion.Completion.{Completion}
 pub use Rattle.link_scheduler.specs.Calls.State.{IsMade, IsRefused, planned_of}

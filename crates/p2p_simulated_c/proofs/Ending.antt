@@ -4,10 +4,10 @@ use Rattle.p2p_simulated_c.proofs.Common.{subst, ◌∙◌, IsMade, IsRefused, p
 use Rattle.p2p_simulated_c.proofs.Common.{OutOfMemory, NumberTooLarge, Completion, Opened}
 use Rattle.std.proofs.Common.{Option, Result, OnErr}
 use Rattle.std.proofs.Common.{MatchResult}
-use Rattle.fair_rates.specs.Refusals.ErrorTexts.{refusal_number}
+use Rattle.fairness.specs.Refusals.ErrorTexts.{refusal_number}
 use Rattle.link_scheduler.specs.Calls.State.{IsAdvanced}
-use Rattle.fair_rates.specs.declared.error.Error.TheVariants.{MomentTooLate}
-use Rattle.fair_rates.specs.declared.error.Error.TheVariants.{FlowIdsUsedUp}
+use Rattle.fairness.specs.declared.error.Error.TheVariants.{MomentTooLate}
+use Rattle.fairness.specs.declared.error.Error.TheVariants.{FlowIdsUsedUp}
 use Rattle.p2p_simulated_c.specs.Asked.{OnHandle, at_open, Ended, Advanced}
 
 -- a refusal has a number above zero

@@ -7,15 +7,15 @@ use Rattle.std.proofs.Common.{◌⊎◌, ◌&&◌}
 use Rattle.std.proofs.Common.{Option, None}
 use Rattle.std.specs.Cmp.{tied_then, unsigned_tied}
 use Rattle.std.specs.Ordering.{is_eq}
-use Rattle.fair_rates.specs.Fairness.Allocation.{IsCountedAllocation}
-use Rattle.fair_rates.specs.Sides.Answers.{Answered, Calls, PairCalls, States}
-use Rattle.fair_rates.specs.Sides.Caps.{Caps}
-use Rattle.fair_rates.specs.Fairness.UnderCaps.{AnswerBy, AnswersAreThoseOfTheCaps}
-use Rattle.fair_rates.specs.Fairness.Rates.{AreFairRates, or_else}
-use Rattle.fair_rates.specs.Sides.Subjects.{sides_of}
-use Rattle.fair_rates.specs.Refusals.FairRatesFit.{FairRatesFit}
-use Rattle.fair_rates.specs.Refusals.TooLarge.{HasLargeAnswer, HasLargeRate, IsTooLarge}
-use Rattle.fair_rates.specs.declared.bandwidth.Flow.{Flow}
+use Rattle.fairness.specs.Fairness.Allocation.{IsCountedAllocation}
+use Rattle.fairness.specs.Sides.Answers.{Answered, Calls, PairCalls, States}
+use Rattle.fairness.specs.Sides.Caps.{Caps}
+use Rattle.fairness.specs.Fairness.UnderCaps.{AnswerBy, AnswersAreThoseOfTheCaps}
+use Rattle.fairness.specs.Fairness.Rates.{AreFairRates, or_else}
+use Rattle.fairness.specs.Sides.Subjects.{sides_of}
+use Rattle.fairness.specs.Refusals.FairRatesFit.{FairRatesFit}
+use Rattle.fairness.specs.Refusals.TooLarge.{HasLargeAnswer, HasLargeRate, IsTooLarge}
+use Rattle.fairness.specs.declared.bandwidth.Flow.{Flow}
 use Rattle.p2p_simulated_c.specs.Records.{value_of}
 use Rattle.p2p_simulated_c.specs.declared.planner.Caps as planner
 use Rattle.p2p_simulated_c.specs.declared.records.LinkCap.{LinkCap}

@@ -1,9 +1,9 @@
 -- What a call through C does to the scheduler that the handle has, if it is open.
 use Rattle.std.specs.Prelude.{◌≡◌, ◌⊎◌, ℕ, length, Option, Some, None}
-use Rattle.fair_rates.specs.Refusals.ErrorTexts.{refusal_number}
+use Rattle.fairness.specs.Refusals.ErrorTexts.{refusal_number}
 use Rattle.link_scheduler.specs.Calls.State.{IsMade, IsRefused, IsAdvanced, IsCounted, planned_of}
 use Rattle.link_simulation.specs.Simulation.Calls.{Call, moment_of}
-use Rattle.fair_rates.specs.declared.error.Error.{Error}
+use Rattle.fairness.specs.declared.error.Error.{Error}
 use Rattle.p2p_simulated_c.specs.declared.opened.Opened.{Opened}
 
 -- a handle that is not open stays so, and the call answers so; an open one stays open, and the call does this to the

@@ -1,16 +1,16 @@
 -- What a plan is: flows and caps as C lists them, and what is answered for them.
 use Rattle.std.specs.Prelude.{◌≡◌, ◌⊎◌, ℕ, ◌==◌, ◌&&◌, cond, List, [], ◌∷◌, map, Option, Some, None}
 use Rattle.std.specs.Ordering.{nat_cmp}
-use Rattle.fair_rates.specs.Sides.Caps.{Caps}
-use Rattle.fair_rates.specs.Fairness.UnderCaps.{IsFairById}
-use Rattle.fair_rates.specs.Fairness.Rates.{HasDifferentRates, or_else}
-use Rattle.fair_rates.specs.Refusals.ErrorTexts.{refusal_number}
-use Rattle.fair_rates.specs.Refusals.TooLarge.{AreTooLarge}
-use Rattle.fair_rates.specs.declared.bandwidth.Flow.{Flow}
-use Rattle.fair_rates.specs.declared.bandwidth.Rate.{Rate}
-use Rattle.fair_rates.specs.declared.bandwidth.Rate.TheVariants.{Unlimited, Finite}
-use Rattle.fair_rates.specs.declared.error.Error.{Error}
-use Rattle.fair_rates.specs.declared.error.Error.TheVariants.{OutOfMemory, NumberTooLarge}
+use Rattle.fairness.specs.Sides.Caps.{Caps}
+use Rattle.fairness.specs.Fairness.UnderCaps.{IsFairById}
+use Rattle.fairness.specs.Fairness.Rates.{HasDifferentRates, or_else}
+use Rattle.fairness.specs.Refusals.ErrorTexts.{refusal_number}
+use Rattle.fairness.specs.Refusals.TooLarge.{AreTooLarge}
+use Rattle.fairness.specs.declared.bandwidth.Flow.{Flow}
+use Rattle.fairness.specs.declared.bandwidth.Rate.{Rate}
+use Rattle.fairness.specs.declared.bandwidth.Rate.TheVariants.{Unlimited, Finite}
+use Rattle.fairness.specs.declared.error.Error.{Error}
+use Rattle.fairness.specs.declared.error.Error.TheVariants.{OutOfMemory, NumberTooLarge}
 use Rattle.p2p_simulated_c.specs.declared.records.LinkCap.{LinkCap}
 use Rattle.p2p_simulated_c.specs.declared.records.PeerCap.{PeerCap}
 use Rattle.p2p_simulated_c.specs.declared.records.PlanFlow.{PlanFlow}

@@ -2,7 +2,7 @@
 use Rattle.std.specs.Prelude.{ℕ}
 use Rattle.std.specs.BTreeMap.{get}
 use Rattle.std.specs.Ordering.{nat_cmp}
-use Rattle.fair_rates.specs.Sides.Caps as caps
+use Rattle.fairness.specs.Sides.Caps as caps
 use Rattle.link_pairs.specs.Pairs.Entries.{pair_cmp}
 use Rattle.p2p_simulated_c.specs.declared.planner.Caps.{Caps}
 

@@ -3,8 +3,8 @@ use Rattle.std.specs.Prelude.{◌≡◌, ◌⊎◌, ◌==◌, ℕ, ◌<◌, ◌�
 use Rattle.std.specs.List.{filter, range_with_len}
 use Rattle.std.specs.declared.alloc.Global.{Global}
 use Rattle.std.specs.declared.vec.Vec.{Vec}
-use Rattle.fair_rates.specs.Refusals.ErrorTexts.{refusal_number}
-use Rattle.fair_rates.specs.declared.bandwidth.Rate.{Rate}
+use Rattle.fairness.specs.Refusals.ErrorTexts.{refusal_number}
+use Rattle.fairness.specs.declared.bandwidth.Rate.{Rate}
 use Rattle.fair_routes.specs.Network.Weights.{IsWeightRefusal, IsWeightedAllocation}
 use Rattle.fair_routes.specs.declared.routes.error.RouteError.TheVariants.{Refused, NoSuchLink}
 use Rattle.fair_routes.specs.declared.routes.weighted.error.WeightError.{WeightError}

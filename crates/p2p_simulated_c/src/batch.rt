@@ -10,7 +10,7 @@ use super::opened::Opened;
 use super::records::Parcel;
 use super::status::{CLOSED, OUT_OF_MEMORY};
 use bytes::Bytes;
-use fair_rates::error::Error;
+use fairness::error::Error;
 use link_scheduler::transmitter::{Contents, Outgoing, Payload};
 use std::alloc::Global;
 

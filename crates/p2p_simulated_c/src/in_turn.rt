@@ -1,7 +1,7 @@
 //! Whether a call would come in its turn.
 ghost use Rattle.std.specs.Prelude.{◌≡◌, ℕ, Bool, Some, map};
 ghost use Rattle.std.specs.Ordering.{nat_cmp};
-ghost use Rattle.fair_rates.specs.declared.error.Error.{Error as AnyError};
+ghost use Rattle.fairness.specs.declared.error.Error.{Error as AnyError};
 ghost use Rattle.link_pairs.specs.Pairs.Messages.{completed_of};
 ghost use Rattle.link_scheduler.specs.Calls.State.{planned_of};
 ghost use Rattle.link_simulation.specs.Rule.Simulated.{IsRun};

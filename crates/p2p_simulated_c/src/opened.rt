@@ -1,6 +1,6 @@
 //! A scheduler that is open, with what its last call completed.
 ghost use Rattle.std.specs.Prelude.{◌≡◌, [], length, min, drop, replicate, IfOk, IfErr, MatchResult};
-ghost use Rattle.fair_rates.specs.Refusals.ErrorTexts.{refusal_number};
+ghost use Rattle.fairness.specs.Refusals.ErrorTexts.{refusal_number};
 ghost use Rattle.link_scheduler.specs.Calls.State.{IsNew, IsNextOf};
 ghost use Rattle.link_events.specs.Steps.Outgoing.{sent};
 ghost use Rattle.link_simulation.specs.Simulation.Calls.{call_limit, call_limit_link, call_enqueue, call_advance};
@@ -12,7 +12,7 @@ ghost use Rattle.p2p_simulated_c.specs.Written.{written};
 use super::records::{Done, Moment, Wide};
 use super::status::{MADE, OUT_OF_MEMORY, number_of};
 use bytes::Bytes;
-use fair_rates::error::Error;
+use fairness::error::Error;
 use link_scheduler::transmitter::{Completion, Contents, Payload, State};
 use std::alloc::Global;
 

@@ -3,10 +3,10 @@ ghost use Rattle.std.specs.Prelude.{◌≡◌, ◌⊎◌, ℕ, map, IfOk, IfErr}
 ghost use Rattle.std.specs.BTreeMap.{get};
 ghost use Rattle.std.specs.Fn.{CalledAt, TakesAt, CalledAtTwo, TakesAtTwo};
 ghost use Rattle.std.specs.Ordering.{nat_cmp};
-ghost use Rattle.fair_rates.specs.Sides.Answers.{CallableOnEach, CallableOnEachPair, origins, recipients, pairs};
-ghost use Rattle.fair_rates.specs.Sides.Caps.{Caps as CapsOf};
+ghost use Rattle.fairness.specs.Sides.Answers.{CallableOnEach, CallableOnEachPair, origins, recipients, pairs};
+ghost use Rattle.fairness.specs.Sides.Caps.{Caps as CapsOf};
 ghost use Rattle.link_pairs.specs.Pairs.Entries.{pair_cmp};
-ghost use Rattle.fair_rates.specs.Fairness.UnderCaps.{AnswerBy};
+ghost use Rattle.fairness.specs.Fairness.UnderCaps.{AnswerBy};
 ghost use Rattle.p2p_simulated_c.specs.Plan.{IsPlan, IsPlanned, MayRefusePlan, caps_of_records, flow_of};
 ghost use Rattle.p2p_simulated_c.specs.Plan.{link_cap, peer_cap, rates_of};
 ghost use Rattle.p2p_simulated_c.specs.Planning.{caps_in};
@@ -15,9 +15,10 @@ ghost use Rattle.p2p_simulated_c.specs.Written.{written};
 
 use super::records::{LinkCap, PeerCap, PlanFlow, PlanRate, Wide};
 use super::status::{MADE, number_of};
-use fair_rates::bandwidth::laws::answers_are_those_of_the_caps;
-use fair_rates::bandwidth::{Flow, Rate, allocate_linked_counted};
-use fair_rates::error::Error;
+use fair_rates::bandwidth::allocate_linked_counted;
+use fairness::bandwidth::laws::answers_are_those_of_the_caps;
+use fairness::bandwidth::{Flow, Rate};
+use fairness::error::Error;
 use std::alloc::Global;
 use std::collections::BTreeMap;
 

@@ -5,7 +5,7 @@ ghost use Rattle.p2p_simulated_c.specs.Flights.{amount_read, flight_of};
 ghost use Rattle.p2p_simulated_c.specs.Plan.{flow_of, record_of_rate};
 ghost use Rattle.p2p_simulated_c.specs.Records.{cap_of_record, moment_of_record, of_moment, value_of, wide_of, done_of};
 
-use fair_rates::bandwidth::{Flow, Rate};
+use fairness::bandwidth::{Flow, Rate};
 use link_scheduler::transmitter::{Completion, Contents, InFlight, Reading};
 
 /// A cap in bytes a second, or none where `is_some` is 0.

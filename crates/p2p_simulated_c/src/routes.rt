@@ -9,8 +9,8 @@ ghost use Rattle.p2p_simulated_c.specs.Written.{written};
 
 use super::records::{PlanRate, Wide};
 use super::status::{MADE, number_of};
-use fair_rates::bandwidth::Rate;
 use fair_routes::routes::{RouteError, WeightError, allocate_weighted_routes};
+use fairness::bandwidth::Rate;
 use std::alloc::{AllocError, Global};
 
 /// Some link has no entry in the list of caps.

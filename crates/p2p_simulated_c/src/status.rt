@@ -1,8 +1,8 @@
 //! The number with which a call ends.
 ghost use Rattle.std.specs.Prelude.{◌≡◌};
-ghost use Rattle.fair_rates.specs.Refusals.ErrorTexts.{refusal_number};
+ghost use Rattle.fairness.specs.Refusals.ErrorTexts.{refusal_number};
 
-use fair_rates::error::Error;
+use fairness::error::Error;
 
 /// The call was made.
 pub const MADE: u32 = 0;

@@ -5,7 +5,7 @@
 //! row in each line.
 use crate::peers::{Fuse, Numbered};
 use bytes::Bytes;
-use fair_rates::error::Error;
+use fairness::error::Error;
 use link_scheduler::replay::{Call, Reply, replay};
 use link_scheduler::transmitter::{Completion, State};
 use std::alloc::{AllocError, Global};

@@ -2,7 +2,7 @@
 //! ample memory none is refused.
 use crate::calls::{contents, done_of, fuse_of, make, replayed};
 use crate::peers::{Fuse, Name, Numbered};
-use fair_rates::error::Error;
+use fairness::error::Error;
 use link_scheduler::replay::{Call, Reply};
 use link_scheduler::transmitter::{Completion, State};
 use std::alloc::{AllocError, Global};

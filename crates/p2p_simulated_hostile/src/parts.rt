@@ -1,6 +1,6 @@
 //! Numbers, rows of owners, and what is known of peers and pairs, where an allocation for them may be refused.
 use chains::Chains;
-use fair_rates::error::Error;
+use fairness::error::Error;
 use link_pairs::known_pairs::Pairs;
 use link_pairs::peers::Peers;
 use natural::Natural;

@@ -1,5 +1,5 @@
 //! Peers whose clones can be refused.
-use fair_rates::peer::Peer;
+use fairness::peer::Peer;
 use std::alloc::{AllocError, Global};
 use std::cell::Cell;
 use std::rc::Rc;

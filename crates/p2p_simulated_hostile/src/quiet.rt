@@ -1,7 +1,7 @@
 //! Advances that meet nothing: they take no memory and clone no peer, so they are never refused.
 use crate::calls::{contents, fuse_of, make};
 use crate::peers::{Fuse, Name, Numbered};
-use fair_rates::error::Error;
+use fairness::error::Error;
 use link_scheduler::replay::{Call, Reply};
 use link_scheduler::transmitter::State;
 use std::alloc::{AllocError, Global};

@@ -1,9 +1,10 @@
 //! Rates, where an allocation for them may be refused.
 use crate::calls::fuse_of;
 use crate::peers::{Fuse, Name, Numbered};
-use fair_rates::bandwidth::{Flow, Rate, allocate};
-use fair_rates::error::Error;
-use fair_rates::ratio::Ratio;
+use fair_rates::bandwidth::allocate;
+use fairness::bandwidth::{Flow, Rate};
+use fairness::error::Error;
+use fairness::ratio::Ratio;
 use std::alloc::{AllocError, Global};
 use std::cell::RefCell;
 use std::collections::BTreeMap;

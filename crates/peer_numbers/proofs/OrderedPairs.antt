@@ -16,8 +16,8 @@ use Rattle.std.proofs.lemmas.List.{length-map, map-append, append_assoc}
 use Rattle.std.proofs.lemmas.List.Elements.{All-head, All-tail, All-push, All-weaker}
 use Rattle.std.proofs.lemmas.List.Quantifiers.{position-Some}
 use Rattle.std.proofs.lemmas.Option.{slice_get-get_or}
-use Rattle.fair_rates.proofs.Lists.Sorted.{is_eq_equal}
-use Rattle.fair_rates.specs.Sides.Subjects.{same_peer}
+use Rattle.fairness.proofs.Lists.Sorted.{is_eq_equal}
+use Rattle.fairness.specs.Sides.Subjects.{same_peer}
 use Rattle.peer_numbers.specs.declared.pairs.Ends.{Ends}
 use Rattle.peer_numbers.specs.Peers.{number_of, IsWithPeer}
 use Rattle.peer_numbers.specs.Pairs.{is_pair_of, number_of_pair, IsWithPair, both, listed_pairs, IsFirstPlace, AreEnds, ArePairsNumbered}

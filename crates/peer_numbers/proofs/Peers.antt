@@ -13,10 +13,10 @@ use Rattle.std.proofs.lemmas.Grind.{common_steps}
 use Rattle.std.proofs.lemmas.Bool.{eqb-false}
 use Rattle.std.proofs.lemmas.Cmp.{eq_by_cmp_equiv, tied_back}
 use Rattle.std.proofs.lemmas.List.Quantifiers.{position-Some}
-use Rattle.fair_rates.proofs.Lists.Sorted.{is_eq_equal}
+use Rattle.fairness.proofs.Lists.Sorted.{is_eq_equal}
 use Rattle.std.proofs.lemmas.List.Folds.{position_or_len_push}
 use Rattle.std.proofs.lemmas.List.Sums.{prefix_len-le-length}
-use Rattle.fair_rates.specs.Sides.Subjects.{same_peer}
+use Rattle.fairness.specs.Sides.Subjects.{same_peer}
 use Rattle.peer_numbers.specs.Peers.{number_of, IsWithPeer, AreNumbered}
 
 -- ---- places

@@ -1,5 +1,5 @@
 //! Guesses at the numbers of peers, by what they tell of themselves.
-use fair_rates::peer::Peer;
+use fairness::peer::Peer;
 use std::alloc::Global;
 
 /// There is room for at least so many guesses, once there is one.

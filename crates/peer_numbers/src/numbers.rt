@@ -3,8 +3,8 @@ ghost use Rattle.std.specs.Prelude.{◌≡◌, [], length, Some, IfSome, IfOk, I
 ghost use Rattle.peer_numbers.specs.Peers.{number_of, IsWithPeer};
 
 use crate::hints::Hints;
-use fair_rates::error::Error;
-use fair_rates::peer::Peer;
+use fairness::error::Error;
+use fairness::peer::Peer;
 use std::alloc::Global;
 use std::collections::BTreeMap;
 use std::marker::Model;

@@ -3,8 +3,8 @@ ghost use Rattle.std.specs.Prelude.{◌≡◌, [], length, Some, IfOk, IfErr, On
 ghost use Rattle.peer_numbers.specs.Pairs.{number_of_pair, IsWithPair};
 
 use crate::numbers::PeerNumbers;
-use fair_rates::error::Error;
-use fair_rates::peer::Peer;
+use fairness::error::Error;
+use fairness::peer::Peer;
 use std::alloc::Global;
 use std::marker::Model;
 

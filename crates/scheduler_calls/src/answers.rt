@@ -1,7 +1,7 @@
 //! What a call is answered, compared with what was wanted.
 use crate::calls::Parcel;
-use fair_rates::error::Error;
-use fair_rates::peer::Peer;
+use fairness::error::Error;
+use fairness::peer::Peer;
 use link_scheduler::replay::{Call, Reply};
 use link_scheduler::transmitter::{Completion, State};
 use numbered_peers::Numbered;

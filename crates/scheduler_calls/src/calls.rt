@@ -1,7 +1,7 @@
 //! A list of calls, made by itself and all of them by `replay`.
 use crate::answers::{Arrival, Counts, Wanted, answer, are_counted, is_wanted};
 use bytes::Bytes;
-use fair_rates::error::Error;
+use fairness::error::Error;
 use link_scheduler::replay::{Call, replay};
 use link_scheduler::transmitter::{Outgoing, State};
 use numbered_peers::Numbered;

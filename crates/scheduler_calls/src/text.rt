@@ -19,7 +19,7 @@
 //! a cap that there is not is `-`. `ms` and `s` after a number are milliseconds and seconds, `last` is
 //! the last moment, and `+` and `-` stand between two of these.
 use crate::calls::{Calls, Parcel};
-use fair_rates::error::Error;
+use fairness::error::Error;
 use numbered_peers::Numbered;
 use std::str::SplitWhitespace;
 use std::test::Fail;

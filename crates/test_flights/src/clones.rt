@@ -1,7 +1,7 @@
 //! How many peers a call clones.
 use crate::same::same;
-use fair_rates::error::Error;
-use fair_rates::peer::Peer;
+use fairness::error::Error;
+use fairness::peer::Peer;
 use link_scheduler::transmitter::{Completion, State};
 use scheduler_calls::calls::contents;
 use scheduler_calls::text::MILLI;

@@ -1,7 +1,7 @@
 //! Calls between two peers, beside much that is kept of others.
 use crate::same::same;
 use bytes::Bytes;
-use fair_rates::error::Error;
+use fairness::error::Error;
 use link_scheduler::transmitter::{Completion, State};
 use scheduler_calls::calls::contents;
 use scheduler_calls::text::MILLI;

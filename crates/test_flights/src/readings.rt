@@ -1,6 +1,6 @@
 //! What is in flight, and how it is read.
 use crate::same::same;
-use fair_rates::ratio::Ratio;
+use fairness::ratio::Ratio;
 use link_scheduler::transmitter::{InFlight, State};
 use scheduler_calls::calls::{Calls, Parcel, bytes_from};
 use std::alloc::Global;

@@ -6,9 +6,9 @@ use super::table::{
     Case, Words, all_hold, number, number_of, order, truth, wide_number, wide_number_of, word,
 };
 use crate::same::same;
-use fair_rates::bandwidth::{Flow, Rate, duration, transfer};
-use fair_rates::error::Error;
-use fair_rates::ratio::Ratio;
+use fairness::bandwidth::{Flow, Rate, duration, transfer};
+use fairness::error::Error;
+use fairness::ratio::Ratio;
 use std::alloc::Global;
 use std::hash::{DefaultHasher, Hash, Hasher};
 use std::test::Fail;

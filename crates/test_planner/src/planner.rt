@@ -9,11 +9,10 @@ mod wide;
 
 use self::network::{Cap, Side, egress_cap, has_rate, have_links, ingress_cap, link_cap};
 use crate::same::same;
-use fair_rates::bandwidth::{
-    Flow, Rate, allocate, allocate_counted, allocate_linked, allocate_linked_counted,
-};
-use fair_rates::error::Error;
-use fair_rates::ratio::Ratio;
+use fair_rates::bandwidth::{allocate, allocate_counted, allocate_linked, allocate_linked_counted};
+use fairness::bandwidth::{Flow, Rate};
+use fairness::error::Error;
+use fairness::ratio::Ratio;
 use numbered_peers::{Backward, Marked, Numbered};
 use std::alloc::{AllocFailed, Global};
 use std::cell::RefCell;

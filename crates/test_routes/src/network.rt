@@ -1,8 +1,8 @@
 //! Networks that are told bit by bit, against values worked out by hand.
 use crate::same::same;
 use crate::text;
-use fair_rates::error::Error;
 use fair_routes::routes::network::Network;
+use fairness::error::Error;
 use std::alloc::Global;
 use std::num::NonZeroU64;
 use std::process::Abort;

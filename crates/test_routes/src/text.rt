@@ -1,6 +1,6 @@
 //! Rates as text: a rate is `N`, `N/D` or `unlimited`, semicolons part them, and `none` is no rate.
-use fair_rates::bandwidth::Rate;
-use fair_rates::ratio::Ratio;
+use fairness::bandwidth::Rate;
+use fairness::ratio::Ratio;
 use std::alloc::Global;
 use std::test::Fail;
 

@@ -1,8 +1,8 @@
 //! Rates over routes by weight, against values worked out by hand.
 use crate::same::same;
 use crate::text;
-use fair_rates::error::Error;
 use fair_routes::routes::{RouteError, WeightError, allocate_routes, allocate_weighted_routes};
+use fairness::error::Error;
 use std::alloc::Global;
 use std::process::Abort;
 use std::test::Fail;

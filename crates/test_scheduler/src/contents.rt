@@ -1,7 +1,7 @@
 //! Messages that are known by their length, alone or behind bytes.
 use crate::same::same;
 use bytes::Bytes;
-use fair_rates::error::Error;
+use fairness::error::Error;
 use link_scheduler::transmitter::{Completion, Contents, Outgoing, Payload, State};
 use std::alloc::Global;
 use std::process::Abort;

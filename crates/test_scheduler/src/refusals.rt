@@ -1,7 +1,7 @@
 //! Calls that are refused, and the calls after them.
 ghost use Rattle.std.specs.Prelude.{nat_lt, if◌then◌else◌, ◌-◌};
 
-use fair_rates::peer::Peer;
+use fairness::peer::Peer;
 use numbered_peers::Numbered;
 use scheduler_calls::calls::{Calls, Parcel, bytes_from};
 use scheduler_calls::text::{play, play_list};

@@ -4,9 +4,9 @@ use Rattle.fair_rates.proofs.Common.{length-map, Ordering, Flow, Rate, IsAllocat
 use Rattle.fair_rates.proofs.Common.{AnswerInOrder, side_of, HaveUsersBelow, AreFairRates, HasDifferentRates, last_rate}
 use Rattle.fair_rates.proofs.Common.{sides_of, rules}
 use Rattle.fair_rates.specs.declared.bandwidth.sides.Side as declared_side
-use Rattle.fair_rates.specs.Fairness.Allocation.{IsCountedAllocation}
-use Rattle.fair_rates.proofs.Sides.UserCounts.{HaveDistinctUsers}
-use Rattle.fair_rates.proofs.Fairness.Allocation.{the_allocation}
+use Rattle.fairness.specs.Fairness.Allocation.{IsCountedAllocation}
+use Rattle.fairness.proofs.Sides.UserCounts.{HaveDistinctUsers}
+use Rattle.fairness.proofs.Fairness.Allocation.{the_allocation}
 use Rattle.fair_rates.proofs.Refusals.Promise.{distinct_sides, users_below_sides, twelfths, whole_of_sixteen}
 
 -- fair rates on the sides that were registered are the allocation

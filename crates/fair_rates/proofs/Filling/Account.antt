@@ -9,8 +9,8 @@ use Rattle.std.proofs.Common.{le_of_mul-le-mul_right}
 use Rattle.std.specs.Prelude.{swap_remove}
 use Rattle.std.proofs.lemmas.List.Sorted.{IsPermutation-pop_more, IsPermutation-swap_remove, sum_by-IsPermutation}
 use Rattle.std.proofs.lemmas.List.Sums.{sum_by-append}
-use Rattle.fair_rates.proofs.Filling.Frozen.{none_or_some, some_is, at_some, at_none, at_any}
-use Rattle.fair_rates.proofs.Lists.Sums.{sum_by_same}
+use Rattle.fairness.proofs.Filling.Frozen.{none_or_some, some_is, at_some, at_none, at_any}
+use Rattle.fairness.proofs.Lists.Sums.{sum_by_same}
 
 -- ---- of a share
 

@@ -4,11 +4,11 @@ use Rattle.fair_rates.proofs.Common.{refl, sym, ap, subst, ◌∙◌, arith, mul
 use Rattle.fair_rates.proofs.Common.{unwrap_or, Ordering, All-nil, All-cons, All-map, All-weaker, All-contains, Side}
 use Rattle.fair_rates.proofs.Common.{Uses, IsWithinCaps, HasBottleneck, IsFair, load, sides_under, Caps, Flow, rules}
 use Rattle.fair_rates.proofs.Common.{common_steps}
-use Rattle.fair_rates.specs.Sides.Alone.{least_cap_of}
-use Rattle.fair_rates.specs.declared.bandwidth.FlowCaps.{FlowCaps}
-use Rattle.fair_rates.proofs.Lists.Different.{in_one}
-use Rattle.fair_rates.proofs.Lists.Members.{in_from_contains, contains_from_in, in_map}
-use Rattle.fair_rates.proofs.Sides.Alone.{side_alone, sides_alone, caps_of, IsLeast, IsLeastOf, least_cap_is}
+use Rattle.fairness.specs.Sides.Alone.{least_cap_of}
+use Rattle.fairness.specs.declared.bandwidth.FlowCaps.{FlowCaps}
+use Rattle.fairness.proofs.Lists.Different.{in_one}
+use Rattle.fairness.proofs.Lists.Members.{in_from_contains, contains_from_in, in_map}
+use Rattle.fairness.proofs.Sides.Alone.{side_alone, sides_alone, caps_of, IsLeast, IsLeastOf, least_cap_is}
 
 -- ---- what is fair
 

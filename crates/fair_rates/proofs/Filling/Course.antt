@@ -6,13 +6,13 @@ use Rattle.fair_rates.proofs.Common.{Contains-permutation, IsPermutation-sym, Si
 use Rattle.fair_rates.proofs.Common.{IsWithinSlack, HaveNoMore, KeepsAccount, IsOpen, IsCovered, IsQueue, AreAbove}
 use Rattle.fair_rates.proofs.Common.{OpenSide, rules}
 use Rattle.std.proofs.Common.{le_of_mul-le-mul_right}
-use Rattle.fair_rates.proofs.Lists.SumOrder.{All-from_contains}
+use Rattle.fairness.proofs.Lists.SumOrder.{All-from_contains}
 use Rattle.fair_rates.proofs.Filling.Account.{has_room, is_full}
-use Rattle.fair_rates.proofs.Filling.Frozen.{some_value, some_is, at_some, at_any}
+use Rattle.fairness.proofs.Filling.Frozen.{some_value, some_is, at_some, at_any}
 use Rattle.fair_rates.proofs.Filling.Queue.{first_or_later}
-use Rattle.fair_rates.proofs.Filling.Rounds.{next}
-use Rattle.fair_rates.proofs.Filling.States.{IsFilledTo}
-use Rattle.fair_rates.proofs.Lists.Sums.{sum_by_same}
+use Rattle.fairness.proofs.Filling.Rounds.{next}
+use Rattle.fairness.proofs.Filling.States.{IsFilledTo}
+use Rattle.fairness.proofs.Lists.Sums.{sum_by_same}
 
 -- each of these users is frozen at the level now, and nothing else changes
 pub record Freezes (users : List ℕ) (before after : ℕ → Option ℕ) (level : ℕ) : Type 0 where

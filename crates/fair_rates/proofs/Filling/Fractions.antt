@@ -7,7 +7,7 @@ use Rattle.std.proofs.Common.{◌%◌}
 use Rattle.std.proofs.Math.Nat.{div-mul_cancel}
 use Rattle.std.proofs.lemmas.List.{take_more}
 use Rattle.std.proofs.lemmas.Nat.Gcd.{dvd_refl}
-use Rattle.fair_rates.specs.Numbers.LowestTerms.{coprime_parts, IsReduced-part, IsReduced-mul, IsReduced-swap}
+use Rattle.fairness.specs.Numbers.LowestTerms.{coprime_parts, IsReduced-part, IsReduced-mul, IsReduced-swap}
 use Rattle.fair_rates.proofs.Filling.Share.{quotient_positive}
 
 -- ---- products

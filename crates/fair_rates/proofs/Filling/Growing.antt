@@ -7,9 +7,9 @@ use Rattle.fair_rates.proofs.Common.{Contains-permutation, Side, load, at_level,
 use Rattle.fair_rates.proofs.Common.{IsOpen, IsCovered, IsQueue, AreGrown, OpenSide, rules}
 use Rattle.std.proofs.lemmas.List.Elements.{All-contains_itself}
 use Rattle.fair_rates.specs.Filling.States.{IsGrown}
-use Rattle.fair_rates.proofs.Lists.SumOrder.{sum_by-scaled}
-use Rattle.fair_rates.proofs.Filling.States.{IsFilledTo}
-use Rattle.fair_rates.proofs.Lists.Sums.{sum_by_same}
+use Rattle.fairness.proofs.Lists.SumOrder.{sum_by-scaled}
+use Rattle.fairness.proofs.Filling.States.{IsFilledTo}
+use Rattle.fairness.proofs.Lists.Sums.{sum_by_same}
 use Rattle.fair_rates.proofs.Filling.Queue.{is_first, is_later}
 
 -- ---- one open side after another

@@ -12,7 +12,7 @@ use Rattle.std.proofs.lemmas.List.{take_more}
 use Rattle.std.proofs.lemmas.List.Quantifiers.{all_pairs_push}
 use Rattle.fair_rates.specs.Filling.States.{AreInside}
 use Rattle.fair_rates.proofs.Filling.Course.{Freezes}
-use Rattle.fair_rates.proofs.Filling.Frozen.{some_of_if}
+use Rattle.fairness.proofs.Filling.Frozen.{some_of_if}
 use Rattle.fair_rates.proofs.Filling.Growing.{AreScaled}
 
 -- a flow with a level is frozen at its parts

@@ -13,7 +13,7 @@ use Rattle.std.proofs.lemmas.List.Elements.{All-from_recursion, Contains-append_
 use Rattle.std.proofs.lemmas.List.Sorted.{IsPermutation-push_more}
 use Rattle.fair_rates.specs.declared.bandwidth.sides.Side as declared
 use Rattle.fair_rates.proofs.Filling.Account.{account_start}
-use Rattle.fair_rates.proofs.Lists.SumOrder.{All-from_contains}
+use Rattle.fairness.proofs.Lists.SumOrder.{All-from_contains}
 
 -- ---- lists
 

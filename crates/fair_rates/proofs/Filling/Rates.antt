@@ -8,7 +8,7 @@ use Rattle.std.proofs.lemmas.List.{get_or_push}
 use Rattle.fair_rates.specs.Filling.FairParts.{parts_of_level, AreRatesAt, HasLargeLevel}
 use Rattle.fair_rates.specs.Filling.States.{AreFilled}
 use Rattle.fair_rates.specs.declared.bandwidth.parts.FairParts.{FairParts}
-use Rattle.fair_rates.proofs.Filling.Frozen.{not_some, some_is}
+use Rattle.fairness.proofs.Filling.Frozen.{not_some, some_is}
 
 zero_ratio : Ratio
 zero_ratio = record { numerator = 0; denominator = 1; positive = omega arith; reduced = whole_IsReduced 0 }

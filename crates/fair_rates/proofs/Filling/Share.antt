@@ -3,7 +3,7 @@ use Rattle.fair_rates.proofs.Common.{◌∣◌, ◌≡◌, ℕ, zero, suc, ◌+�
 use Rattle.fair_rates.proofs.Common.{dvd-mul_right, dvd-mul_left, mul-sub, gcd, gcd-pos, gcd-IsGcd}
 use Rattle.std.proofs.lemmas.Nat.Gcd.{le_of_dvd}
 use Rattle.std.proofs.Math.Nat.{dvd_of_mul-dvd-mul_right}
-use Rattle.fair_rates.specs.Numbers.Gcd.{gcd-scaled}
+use Rattle.fairness.specs.Numbers.Gcd.{gcd-scaled}
 
 -- what is left of a number above zero when it is divided by a divisor
 pub quotient_positive : (n by quotient : ℕ) → 0 < n → quotient * by ≡ n → 0 < quotient

@@ -14,13 +14,13 @@ use Rattle.fair_rates.specs.Filling.FairParts.{parts_of_level}
 use Rattle.fair_rates.specs.Filling.States.{AreInside, IsLeast}
 use Rattle.fair_rates.proofs.Filling.Account.{risers_have_no_more}
 use Rattle.fair_rates.proofs.Filling.Course.{Freezes, queue_on, no_more_on, filled_on, share_within}
-use Rattle.fair_rates.proofs.Filling.Frozen.{none_or_some}
+use Rattle.fairness.proofs.Filling.Frozen.{none_or_some}
 use Rattle.fair_rates.proofs.Filling.Growing.{AreScaled, grown_first, still_rise, filled_scaled, queue_grown}
 use Rattle.fair_rates.proofs.Filling.Growing.{no_more_grown, least_grown, users_grown}
 use Rattle.fair_rates.proofs.Filling.Levels.{frozen_there, top_scaled, rising_scaled, frozen_scaled, inside_scaled}
 use Rattle.fair_rates.proofs.Filling.Levels.{freezes, inside_on, rising_on, reached_on}
-use Rattle.fair_rates.proofs.Filling.Rounds.{start, end, fair_same}
-use Rattle.fair_rates.proofs.Filling.States.{IsFilledTo}
+use Rattle.fairness.proofs.Filling.Rounds.{start, end, fair_same}
+use Rattle.fairness.proofs.Filling.States.{IsFilledTo}
 
 -- each level is of some flow
 abbrev pub AreReached : List ℕ → List (Option ℕ) → Type 0

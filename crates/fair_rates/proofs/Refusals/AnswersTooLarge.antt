@@ -5,9 +5,9 @@ use Rattle.fair_rates.proofs.Common.{All-weaker, All-contains, Answered, Calls, 
 use Rattle.fair_rates.proofs.Common.{side_of, Side, Ask, asks_of_one, asks_from, sides_after, sides_of, FairRatesFit}
 use Rattle.fair_rates.proofs.Common.{HasLargeRate, IsTooLarge, Flow, rules}
 use Rattle.std.proofs.lemmas.List.Elements.{All-contains_itself}
-use Rattle.fair_rates.specs.Refusals.TooLarge.{IsAnswer, HasLargeAnswer}
+use Rattle.fairness.specs.Refusals.TooLarge.{IsAnswer, HasLargeAnswer}
 use Rattle.fair_rates.specs.declared.bandwidth.sides.Side as declared_side
-use Rattle.fair_rates.proofs.Refusals.Fitting.{large_does_not_fit}
+use Rattle.fairness.proofs.Refusals.Fitting.{large_does_not_fit}
 use Rattle.fair_rates.proofs.Refusals.Promise.{distinct_sides, users_below_sides, too_many_or_large}
 
 -- ---- the caps of the sides were answered

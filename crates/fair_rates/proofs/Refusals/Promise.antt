@@ -7,10 +7,10 @@ use Rattle.std.proofs.Common.{mul-le-mul}
 use Rattle.std.proofs.Math.Nat.{lt_of_le_of_lt}
 use Rattle.std.specs.Prelude.{map}
 use Rattle.fair_rates.specs.declared.bandwidth.sides.Side as declared_side
-use Rattle.fair_rates.proofs.Fairness.Denominators.{denominator_of, of_four, of_sixteen, at_most}
-use Rattle.fair_rates.proofs.Filling.FairPartsExist.{fair_parts}
-use Rattle.fair_rates.proofs.Fairness.WholeRates.{whole_rates}
-use Rattle.fair_rates.proofs.Sides.UserCounts.{AreDistinct, HaveDistinctUsers}
+use Rattle.fairness.proofs.Fairness.Denominators.{denominator_of, of_four, of_sixteen, at_most}
+use Rattle.fairness.proofs.Filling.FairPartsExist.{fair_parts}
+use Rattle.fairness.proofs.Fairness.WholeRates.{whole_rates}
+use Rattle.fairness.proofs.Sides.UserCounts.{AreDistinct, HaveDistinctUsers}
 
 -- ---- sixteen flows
 

@@ -8,7 +8,7 @@ use Rattle.fair_rates.proofs.Common.{Registers, rules, common_steps}
 use Rattle.std.proofs.Common.{add-one, drop-cons}
 use Rattle.std.proofs.Math.Seq.{take-suc}
 use Rattle.std.proofs.lemmas.Fn.{FoldsTo-push}
-use Rattle.fair_rates.specs.Sides.Answers.{origins}
+use Rattle.fairness.specs.Sides.Answers.{origins}
 
 -- what one flow more asks for stands at the end
 asks_from-push : {P : Type 0} (n m : ℕ) (answered : List (Answered P)) (a : Answered P) → m ≡ n + length answered

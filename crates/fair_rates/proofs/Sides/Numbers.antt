@@ -7,10 +7,10 @@ use Rattle.std.specs.List.{HoldsAt}
 use Rattle.std.specs.List.Sorted.{IsNonDecreasingBy}
 use Rattle.std.specs.Ordering.{ordering_index}
 use Rattle.std.proofs.lemmas.Map.{lookup-insert, none_passes_from_lookup}
-use Rattle.fair_rates.specs.Lists.Sorted.{are_ascending, value_at, IsPlace}
+use Rattle.fairness.specs.Lists.Sorted.{are_ascending, value_at, IsPlace}
 use Rattle.fair_rates.specs.Sides.Numbers.{number_in, AreInOrder}
 use Rattle.fair_rates.specs.declared.bandwidth.numbers.Numbers.{Numbers}
-use Rattle.fair_rates.proofs.Lists.Sorted.{searched, value_there, at_gap, ascending_insert_at}
+use Rattle.fairness.proofs.Lists.Sorted.{searched, value_there, at_gap, ascending_insert_at}
 
 least_index : (o : Ordering) → ordering_index o ≤ ordering_index Less → o ≡ Less
 least_index Less h = refl

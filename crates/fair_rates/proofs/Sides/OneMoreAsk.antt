@@ -6,9 +6,9 @@ use Rattle.fair_rates.proofs.Common.{sides_after, rules}
 use Rattle.std.proofs.Common.{◌||◌}
 use Rattle.std.proofs.lemmas.List.Elements.{filter-append}
 use Rattle.std.proofs.lemmas.List.Folds.{list_any-append}
-use Rattle.fair_rates.proofs.Lists.Booleans.{second_of_both}
+use Rattle.fairness.proofs.Lists.Booleans.{second_of_both}
 use Rattle.fair_rates.specs.Sides.Registry.{subjects_after}
-use Rattle.fair_rates.proofs.Sides.Subjects.{same_symm, same_congr}
+use Rattle.fairness.proofs.Sides.Subjects.{same_symm, same_congr}
 
 -- a side and its subject
 pub record Share (P : Type 0) : Type 0 where

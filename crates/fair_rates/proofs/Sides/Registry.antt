@@ -17,7 +17,7 @@ use Rattle.fair_rates.specs.Sides.Numbers.{number_in, HaveNone}
 use Rattle.fair_rates.specs.declared.bandwidth.numbers.Numbers.{Numbers}
 use Rattle.fair_rates.specs.declared.bandwidth.sides.Side as declared_side
 use Rattle.fair_rates.proofs.Sides.Numbers.{numbers_agree}
-use Rattle.fair_rates.proofs.Sides.Subjects.{same_symm, same_congr}
+use Rattle.fairness.proofs.Sides.Subjects.{same_symm, same_congr}
 use Rattle.fair_rates.proofs.Sides.OneMoreAsk.{Share, limit_of, shares_after, opened_share, is_side_of, with_user}
 use Rattle.fair_rates.proofs.Sides.OneMoreAsk.{limits_are, subjects_are, shares_push}
 

@@ -7,8 +7,8 @@ use Rattle.fair_rates.proofs.Common.{is_open, opened, sides_after, sides_of, rul
 use Rattle.std.specs.Prelude.{All}
 use Rattle.std.proofs.lemmas.List.Elements.{All-filter, filter_passes}
 use Rattle.fair_rates.specs.declared.bandwidth.sides.Side as declared_side
-use Rattle.fair_rates.proofs.Lists.AllPairs.{EachLater}
-use Rattle.fair_rates.proofs.Sides.Subjects.{same_congr}
+use Rattle.fairness.proofs.Lists.AllPairs.{EachLater}
+use Rattle.fairness.proofs.Sides.Subjects.{same_congr}
 
 -- each number is below all later ones
 abbrev pub Rises : List ℕ → Type 0

@@ -1,15 +1,15 @@
 -- Fair rates as whole parts of one unit of the caps. Equal rates share a level.
 use Rattle.std.specs.Prelude.{◌≡◌, ◌↔◌, ℕ, ◌<◌, List, All, length, Option, Some, None, IsSome, IfSome}
 use Rattle.std.specs.Prelude.{slice_index, slice_index_or}
-use Rattle.fair_rates.specs.Fairness.Exists.{product}
-use Rattle.fair_rates.specs.Numbers.Amount.{parts_over}
-use Rattle.fair_rates.specs.Fairness.Fair.{Side, IsLimited, IsFair}
-use Rattle.fair_rates.specs.Numbers.Fits.{ReducedFits}
-use Rattle.fair_rates.specs.Numbers.Ratio.{IsWorth}
-use Rattle.fair_rates.specs.declared.bandwidth.Rate.{Rate}
-use Rattle.fair_rates.specs.declared.bandwidth.Rate.TheVariants.{Unlimited, Finite}
+use Rattle.fairness.specs.Fairness.Exists.{product}
+use Rattle.fairness.specs.Numbers.Amount.{parts_over}
+use Rattle.fairness.specs.Fairness.Fair.{Side, IsLimited, IsFair}
+use Rattle.fairness.specs.Numbers.Fits.{ReducedFits}
+use Rattle.fairness.specs.Numbers.Ratio.{IsWorth}
+use Rattle.fairness.specs.declared.bandwidth.Rate.{Rate}
+use Rattle.fairness.specs.declared.bandwidth.Rate.TheVariants.{Unlimited, Finite}
 use Rattle.fair_rates.specs.declared.bandwidth.parts.FairParts.{FairParts}
-use Rattle.fair_rates.specs.declared.ratio.Ratio.{Ratio}
+use Rattle.fairness.specs.declared.ratio.Ratio.{Ratio}
 
 -- the place of a flow's level among the levels, if it has one
 abbrev pub level_at : List (Option ℕ) → ℕ → Option ℕ

@@ -3,13 +3,14 @@
 -- a flow that still rises.
 use Rattle.std.specs.Prelude.{◌≡◌, ◌≢◌, ℕ, ◌+◌, ◌-◌, ◌*◌, ◌<◌, ◌≤◌, ◌⊎◌, List, []}
 use Rattle.std.specs.Prelude.{◌∷◌, ◌++◌, All, AllPairs, Contains, length, map, sum_by, IsPermutation, Option, Some}
-use Rattle.std.specs.Prelude.{None, IsSome, IfSome, slice_index, unwrap_or, option_map}
+use Rattle.std.specs.Prelude.{IfSome, slice_index, option_map}
 use Rattle.std.specs.BinaryHeap.{IsHeap}
 use Rattle.std.specs.declared.cmp.Ordering.{Ordering}
 use Rattle.std.specs.declared.cmp.Reverse.{Reverse}
-use Rattle.fair_rates.specs.Fairness.Fair.{Side}
+use Rattle.fairness.specs.Fairness.Fair.{Side}
 use Rattle.fair_rates.specs.Filling.FairParts.{level_at, AreFairPartsOn}
-use Rattle.fair_rates.specs.Numbers.Fraction.{fraction_cmp}
+use Rattle.fairness.specs.Filling.Frozen.{at_level, AllRise, AllFrozen}
+use Rattle.fairness.specs.Numbers.Fraction.{fraction_cmp}
 use Rattle.fair_rates.specs.Sides.SideOf.{side_of}
 use Rattle.fair_rates.specs.declared.bandwidth.filling.open.OpenSide.{OpenSide}
 use Rattle.fair_rates.specs.declared.bandwidth.parts.FairParts.{FairParts}
@@ -20,18 +21,6 @@ use Rattle.fair_rates.specs.declared.bandwidth.sides.Side as declared
 -- at how many parts a flow is frozen, if it is: those of its level
 abbrev pub frozen_at : List ℕ → List (Option ℕ) → ℕ → Option ℕ
 frozen_at levels level_of flow = option_map (slice_index levels) (level_at level_of flow)
-
--- what each flow has: the parts at which it is frozen, or else the level
-abbrev pub at_level : (ℕ → Option ℕ) → ℕ → ℕ → ℕ
-at_level frozen level flow = unwrap_or (frozen flow) level
-
--- none of these users is frozen
-abbrev pub AllRise : (ℕ → Option ℕ) → List ℕ → Type 0
-AllRise frozen users = All (λ flow. frozen flow ≡ None) users
-
--- all of them are frozen
-abbrev pub AllFrozen : (ℕ → Option ℕ) → List ℕ → Type 0
-AllFrozen frozen users = All (λ flow. IsSome (frozen flow)) users
 
 -- the places of the flows' levels are places of levels
 abbrev pub AreInside : List ℕ → List (Option ℕ) → Type 0
@@ -118,10 +107,6 @@ pub record IsLeast (frozen : ℕ → Option ℕ) (next : OpenSide) (opens : List
   pub rise : AllRise frozen next.rising.items
   pub least : All (λ open_side. next.slack * length open_side.0.rising.items
       ≤ open_side.0.slack * length next.rising.items) opens
-
--- all users of all sides are frozen
-abbrev pub AllFilled : List Side → (ℕ → Option ℕ) → Type 0
-AllFilled sides frozen = All (λ side. AllFrozen frozen side.users) sides
 
 -- the same open side at so many times the scale
 pub record IsGrown (factor : ℕ) (old new : OpenSide) : Type 0 where

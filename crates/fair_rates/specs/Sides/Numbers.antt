@@ -3,7 +3,7 @@ use Rattle.std.specs.Prelude.{◌≡◌, ℕ, Bool, true, Option, None, map}
 use Rattle.std.specs.Option.{option_or}
 use Rattle.std.specs.Map.{lookup}
 use Rattle.std.specs.declared.cmp.Ordering.{Ordering}
-use Rattle.fair_rates.specs.Lists.Sorted.{are_ascending}
+use Rattle.fairness.specs.Lists.Sorted.{are_ascending}
 use Rattle.fair_rates.specs.declared.bandwidth.numbers.Numbers.{Numbers}
 
 module _ {K : Type 0} where

@@ -5,10 +5,10 @@ use denote.Ref.{Bor}
 use Rattle.std.specs.Ordering.{ordering_then}
 use Rattle.std.specs.List.{HoldsAt}
 use Rattle.std.specs.declared.cmp.Ordering.{Ordering}
-use Rattle.fair_rates.specs.Sides.Subjects.{Subject, sent_by, received_by, sent_between, Ask, same_peer, same_subject}
-use Rattle.fair_rates.specs.Sides.Subjects.{is_open, opened, sides_after}
+use Rattle.fairness.specs.Sides.Subjects.{Subject, sent_by, received_by, sent_between, Ask, same_peer, same_subject}
+use Rattle.fairness.specs.Sides.Subjects.{is_open, opened, sides_after}
 use Rattle.fair_rates.specs.Sides.SideOf.{side_of}
-use Rattle.fair_rates.specs.Lists.Sorted.{IsGap}
+use Rattle.fairness.specs.Lists.Sorted.{IsGap}
 use Rattle.fair_rates.specs.Sides.Numbers.{number_in, AreInOrder}
 use Rattle.fair_rates.specs.declared.bandwidth.sides.Registry.{Registry}
 use Rattle.fair_rates.specs.declared.bandwidth.sides.Side as declared_side

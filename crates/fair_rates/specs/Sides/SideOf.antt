@@ -1,5 +1,5 @@
 -- How a side in the code is read.
-use Rattle.fair_rates.specs.Fairness.Fair.{Side}
+use Rattle.fairness.specs.Fairness.Fair.{Side}
 use Rattle.fair_rates.specs.declared.bandwidth.sides.Side as declared
 
 -- a side in the code

@@ -1,9 +1,9 @@
 //! The fair rate of a flow alone. No other shares its sides, so there is nothing to fill.
 ghost use Rattle.std.specs.Prelude.{◌≡◌, ◌*◌, IfOk, IfErr, option_map};
-ghost use Rattle.fair_rates.specs.Sides.Alone.{least_of, least_cap_of};
+ghost use Rattle.fairness.specs.Sides.Alone.{least_of, least_cap_of};
 
-use crate::bandwidth::FlowCaps;
-use crate::error::Error;
+use fairness::bandwidth::FlowCaps;
+use fairness::error::Error;
 use natural::Natural;
 
 /// The less of two caps. `None` stands for no cap.

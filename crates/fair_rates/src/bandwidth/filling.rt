@@ -11,9 +11,10 @@ ghost use Rattle.std.specs.Prelude.{◌≡◌, ◌<◌, ◌≤◌, ℕ, IfOk, If
 ghost use Rattle.std.specs.Prelude.{◌∷◌, map, length};
 ghost use Rattle.std.specs.BinaryHeap.{heap_items, heap_len, IsHeap};
 ghost use Rattle.fair_rates.specs.Sides.SideOf.{side_of};
-ghost use Rattle.fair_rates.specs.Fairness.Fair.{Side as WholeSide};
+ghost use Rattle.fairness.specs.Fairness.Fair.{Side as WholeSide};
 ghost use Rattle.fair_rates.specs.Filling.States.{frozen_at, AreInside, AreAbove, IsQueue, IsShareQueue, IsLeast};
-ghost use Rattle.fair_rates.specs.Filling.States.{AllFilled, AreOpened, AreGrown, AreFilled, queue_cmp};
+ghost use Rattle.fairness.specs.Filling.Frozen.{AllFilled};
+ghost use Rattle.fair_rates.specs.Filling.States.{AreOpened, AreGrown, AreFilled, queue_cmp};
 
 mod open;
 mod share;

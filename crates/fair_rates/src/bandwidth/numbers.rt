@@ -1,7 +1,7 @@
 //! Keys with a number each.
 ghost use Rattle.std.specs.Prelude.{◌≡◌, true, None, Some, IfSome, IfOk, IfErr, OnOk, cond};
 ghost use Rattle.std.specs.Ordering.{is_eq};
-ghost use Rattle.fair_rates.specs.Lists.Sorted.{IsPlace, IsGap};
+ghost use Rattle.fairness.specs.Lists.Sorted.{IsPlace, IsGap};
 ghost use Rattle.fair_rates.specs.Sides.Numbers.{number_in, HaveNone, AreInOrder};
 
 use std::alloc::{AllocError, Global};

@@ -1,17 +1,17 @@
 //! Fair rates as whole parts.
 ghost use Rattle.std.specs.Prelude.{◌≡◌, ℕ, ◌*◌, ◌<◌, ◌⊎◌, IfOk, IfErr, OnOk, All, Contains, Some, None, [], map};
 ghost use Rattle.std.specs.Prelude.{length, replicate};
-ghost use Rattle.fair_rates.specs.Numbers.Amount.{parts_over};
-ghost use Rattle.fair_rates.specs.Fairness.Exists.{product};
+ghost use Rattle.fairness.specs.Numbers.Amount.{parts_over};
+ghost use Rattle.fairness.specs.Fairness.Exists.{product};
 ghost use Rattle.fair_rates.specs.Filling.FairParts.{level_at, AreRatesAt, HasLargeLevel, AreLevelRates};
 ghost use Rattle.fair_rates.specs.Filling.States.{AreInside, IsRaised, AreAtTop};
-ghost use Rattle.fair_rates.specs.Numbers.Fits.{ReducedFits};
-ghost use Rattle.fair_rates.specs.Numbers.Ratio.{IsWorth};
+ghost use Rattle.fairness.specs.Numbers.Fits.{ReducedFits};
+ghost use Rattle.fairness.specs.Numbers.Ratio.{IsWorth};
 
-use crate::bandwidth::Rate;
-use crate::error::Error;
-use crate::ratio::Ratio;
-use crate::ratio::numbers::gcd_of_narrow;
+use fairness::bandwidth::Rate;
+use fairness::error::Error;
+use fairness::ratio::Ratio;
+use fairness::ratio::numbers::gcd_of_narrow;
 use natural::Natural;
 use std::alloc::{AllocError, Global};
 

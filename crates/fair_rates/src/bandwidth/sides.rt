@@ -2,18 +2,18 @@
 ghost use Rattle.std.specs.Prelude.{◌≡◌, OnOk, ◌<◌, [], ◌∷◌, List, Some, IfOk, IfSome, IfErr, map, All, AllPairs, length};
 ghost use Rattle.std.specs.Prelude.{Option, None, true};
 ghost use Rattle.std.specs.Fn.{CalledAt, TakesAt, CalledAtTwo, TakesAtTwo};
-ghost use Rattle.fair_rates.specs.Sides.Answers.{Answered, AnswerInOrder, CallableOnEach, CallableOnEachPair, origins};
-ghost use Rattle.fair_rates.specs.Sides.Answers.{CalledIfDelivered};
-ghost use Rattle.fair_rates.specs.Sides.Answers.{recipients, pairs};
-ghost use Rattle.fair_rates.specs.Sides.Subjects.{sides_of, asks_of_one};
-ghost use Rattle.fair_rates.specs.Sides.Subjects.{sent_between};
+ghost use Rattle.fairness.specs.Sides.Answers.{Answered, AnswerInOrder, CallableOnEach, CallableOnEachPair, origins};
+ghost use Rattle.fairness.specs.Sides.Answers.{CalledIfDelivered};
+ghost use Rattle.fairness.specs.Sides.Answers.{recipients, pairs};
+ghost use Rattle.fairness.specs.Sides.Subjects.{sides_of, asks_of_one};
+ghost use Rattle.fairness.specs.Sides.Subjects.{sent_between};
 ghost use Rattle.fair_rates.specs.Sides.SideOf.{side_of};
 ghost use Rattle.fair_rates.specs.Sides.Registry.{FindsSides, IsGapFor, Registers, number_of, subject_of};
 
 use crate::bandwidth::numbers::{Found, Numbers};
-use crate::bandwidth::{Flow, FlowCaps};
-use crate::error::Error;
-use crate::peer::Peer;
+use fairness::bandwidth::{Flow, FlowCaps};
+use fairness::error::Error;
+use fairness::peer::Peer;
 use natural::Natural;
 use std::alloc::{AllocError, Global};
 

@@ -3,11 +3,11 @@ use Rattle.fair_routes.proofs.Common.{◌≡◌, ℕ, zero, suc, ◌^◌, ◌<�
 use Rattle.fair_routes.proofs.Common.{Contains, Option, Some, None, inl, inr, sym, ap, subst, arith, length-map, Side}
 use Rattle.fair_routes.proofs.Common.{AreFairRates, Rate, sides_over, AreListed, common_steps, HasDifferentRates}
 use Rattle.fair_routes.proofs.Common.{all_unmapped}
-use Rattle.fair_rates.specs.Refusals.TooLarge.{HasLargeRate}
+use Rattle.fairness.specs.Refusals.TooLarge.{HasLargeRate}
 use Rattle.fair_rates.specs.Sides.SideOf.{side_of}
 use Rattle.fair_rates.specs.declared.bandwidth.sides.Side as declared
-use Rattle.fair_rates.proofs.Fairness.Allocation.{the_allocation}
-use Rattle.fair_rates.proofs.Refusals.Fitting.{large_does_not_fit}
+use Rattle.fairness.proofs.Fairness.Allocation.{the_allocation}
+use Rattle.fairness.proofs.Refusals.Fitting.{large_does_not_fit}
 use Rattle.fair_rates.proofs.Refusals.Promise.{twelfths, whole_of_sixteen, too_many_or_large}
 use Rattle.fair_routes.specs.Network.Allocation.{IsAllocated, IsCounted, HasLargeCap, AreTooLarge}
 use Rattle.fair_routes.proofs.Network.LinkSides.{link_side, users_are_flows, users_are_distinct}

@@ -6,8 +6,8 @@ use Rattle.fair_routes.proofs.Common.{in_left, in_right, contains_from_in, any_p
 use Rattle.fair_routes.proofs.Common.{sides_from, sides_over, common_steps, any_fails}
 use Rattle.std.specs.List.{filter}
 use Rattle.std.proofs.lemmas.List.{append_assoc}
-use Rattle.fair_rates.specs.Fairness.Part.{flagged, is_in, place_in, sides_in}
-use Rattle.fair_rates.proofs.Fairness.Apart.{flows_apart_are_fair, place_in-suc}
+use Rattle.fairness.specs.Fairness.Part.{flagged, is_in, place_in, sides_in}
+use Rattle.fairness.proofs.Fairness.Apart.{flows_apart_are_fair, place_in-suc}
 use Rattle.fair_routes.specs.Network.Laws.{RoutesApartAreFair}
 use Rattle.fair_routes.proofs.Network.Sides.{some_user, no_user}
 

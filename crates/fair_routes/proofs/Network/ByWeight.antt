@@ -11,10 +11,10 @@ use Rattle.fair_routes.proofs.Common.{slack_of}
 use Rattle.std.proofs.Common.{le_of_mul-le-mul_right}
 use Rattle.std.proofs.lemmas.List.Folds.{sum_by-replicate}
 use Rattle.std.proofs.lemmas.List.Sums.{sum_by-append}
-use Rattle.fair_rates.proofs.Filling.Frozen.{at_some}
+use Rattle.fairness.proofs.Filling.Frozen.{at_some}
 use Rattle.fair_rates.proofs.Filling.Growing.{filled_scaled, none_scaled}
-use Rattle.fair_rates.proofs.Filling.Rounds.{end, next}
-use Rattle.fair_rates.proofs.Filling.States.{IsFilledBy}
+use Rattle.fairness.proofs.Filling.Rounds.{end, next}
+use Rattle.fairness.proofs.Filling.States.{IsFilledBy}
 use Rattle.fair_routes.proofs.Network.Rising.{all_multiplied}
 
 -- ---- as often as their weights say

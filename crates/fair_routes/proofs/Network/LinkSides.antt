@@ -5,8 +5,8 @@ use Rattle.fair_routes.proofs.Common.{HaveUsersBelow, In, in_left, in_right, in_
 use Rattle.fair_routes.proofs.Common.{All-from_contains, IsLinkSide, has_link, users_of, side_of_link, sides_from}
 use Rattle.fair_routes.proofs.Common.{sides_over, common_steps, rules, in_either, places_below}
 use Rattle.std.proofs.Common.{◌≢◌, AllPairs}
-use Rattle.fair_rates.specs.Fairness.Exists.{HaveDistinctUsers}
-use Rattle.fair_rates.proofs.Lists.Places.{places_apart}
+use Rattle.fairness.specs.Fairness.Exists.{HaveDistinctUsers}
+use Rattle.fairness.proofs.Lists.Places.{places_apart}
 use Rattle.fair_routes.specs.Network.Laws.{SidesAreOfTheLinks}
 
 -- the side is that of a link from that one on

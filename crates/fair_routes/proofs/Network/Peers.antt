@@ -6,11 +6,11 @@ use Rattle.fair_routes.proofs.Common.{IsLinkSide, has_link, users_of, sides_over
 use Rattle.fair_routes.proofs.Common.{fairness_is_of_the_set}
 use Rattle.std.specs.Cmp.{IsTotalOrder}
 use Rattle.std.specs.declared.cmp.Ordering.{Ordering}
-use Rattle.fair_rates.specs.Fairness.UnderCaps.{AreOfPeers, IsCappedSide, limits, sides_under}
-use Rattle.fair_rates.specs.Sides.Caps.{Caps}
-use Rattle.fair_rates.specs.Sides.Subjects.{Subject, sent_by, received_by, sent_between}
-use Rattle.fair_rates.specs.declared.bandwidth.Flow.{Flow}
-use Rattle.fair_rates.proofs.Sides.CapSides.{sides_are_of_the_caps}
+use Rattle.fairness.specs.Fairness.UnderCaps.{AreOfPeers, IsCappedSide, limits, sides_under}
+use Rattle.fairness.specs.Sides.Caps.{Caps}
+use Rattle.fairness.specs.Sides.Subjects.{Subject, sent_by, received_by, sent_between}
+use Rattle.fairness.specs.declared.bandwidth.Flow.{Flow}
+use Rattle.fairness.proofs.Sides.CapSides.{sides_are_of_the_caps}
 use Rattle.fair_routes.specs.Network.Laws.{AreLinks, route_of, LinkedIsOverThreeLinks}
 use Rattle.fair_routes.proofs.Network.LinkSides.{link_side, side_listed}
 use Rattle.fair_routes.proofs.Network.Said.{found}

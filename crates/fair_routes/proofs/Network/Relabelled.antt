@@ -3,7 +3,7 @@
 use Rattle.fair_routes.proofs.Common.{rules, ◌≡◌, ℕ, ◌*◌, ◌<◌, ◌≤◌, List, Contains, sym, ap, ◌∙◌, arith, All-contains}
 use Rattle.fair_routes.proofs.Common.{Side, load, IsLimited, IsFair, HaveUsersBelow, IsRateOf, Rate, Unlimited, Finite}
 use Rattle.fair_routes.proofs.Common.{All-from_contains}
-use Rattle.fair_rates.specs.Fairness.Fair.{HasBottleneck}
+use Rattle.fairness.specs.Fairness.Fair.{HasBottleneck}
 
 -- `of` says which old flow a new one is. A new side is an old one: its cap and its load are the same, and its users are
 -- those of the new flows that use the old side

@@ -14,7 +14,7 @@ use Rattle.fair_routes.specs.Network.Laws.{OrderOfFlowsDoesNotMatter}
 use Rattle.fair_routes.proofs.Network.LinkSides.{link_side, side_listed, users_are_flows}
 use Rattle.fair_routes.proofs.Network.Relabelled.{IsTheSide, AreRelabelled, relabelled_fair, relabelled_rate}
 use Rattle.fair_routes.proofs.Network.Said.{found}
-use Rattle.fair_rates.proofs.Fairness.Apart.{sum_by-agree}
+use Rattle.fairness.proofs.Fairness.Apart.{sum_by-agree}
 
 -- ---- sums over the places that pass
 

@@ -10,7 +10,7 @@ use Rattle.std.proofs.Math.ListN.{length-set, get_or-map as get_or_map}
 use Rattle.std.proofs.lemmas.List.Elements.{All-weaker, Contains-push, Contains-append_left}
 use Rattle.std.proofs.lemmas.List.Sums.{sum_by-set}
 use Rattle.fair_routes.specs.Network.Rising.{IsLesser}
-use Rattle.fair_rates.proofs.Filling.LeastShare.{at_most_trans}
+use Rattle.fairness.proofs.Filling.LeastShare.{at_most_trans}
 
 -- nobody was to be held
 pub frozen_none : (parts : List (Option ℕ)) (share : ℕ) → HasFrozen [] parts parts share

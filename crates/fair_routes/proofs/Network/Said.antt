@@ -5,7 +5,7 @@ use Rattle.fair_routes.proofs.Common.{from_map, places_alike, IsLinkSide, has_li
 use Rattle.fair_routes.proofs.Common.{sides_over, arith, common_steps, eq-eqb, rules, AreTheSameSides}
 use Rattle.fair_routes.proofs.Common.{fairness_is_of_the_set, any_fails}
 use Rattle.std.proofs.lemmas.Bool.{false≢true}
-use Rattle.fair_rates.proofs.Lists.Members.{some_or_none}
+use Rattle.fairness.proofs.Lists.Members.{some_or_none}
 use Rattle.fair_routes.specs.Network.Laws.{HaveTheSameLinks, RoutesAreSetsOfLinks, AreRenamed}
 use Rattle.fair_routes.specs.Network.Laws.{OrderOfLinksDoesNotMatter}
 use Rattle.fair_routes.proofs.Network.LinkSides.{link_side, side_listed}

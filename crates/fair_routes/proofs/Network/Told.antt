@@ -18,7 +18,7 @@ use Rattle.std.specs.Result.{result_ok}
 use Rattle.std.proofs.lemmas.List.Elements.{All-cons, All-append}
 use Rattle.std.proofs.lemmas.List.Sorted.{searched}
 use Rattle.std.proofs.lemmas.Slice.Zip.{firsts-zip, seconds-zip}
-use Rattle.fair_rates.proofs.Lists.Zips.{zip-length}
+use Rattle.fairness.proofs.Lists.Zips.{zip-length}
 use Rattle.fair_routes.specs.Network.Told.{told_weight, told_sides}
 use Rattle.fair_routes.specs.Network.Told.{error_of}
 use Rattle.fair_routes.specs.Network.Weights.{HasMuchWeight}

@@ -6,7 +6,7 @@ use Rattle.fair_routes.proofs.Common.{IsLimited, HaveUsersBelow, IsRateOf, Rate,
 use Rattle.fair_routes.proofs.Common.{listed_from, sum_by_same, All-from_contains, routes_at, sides_over, weight_at}
 use Rattle.fair_routes.proofs.Common.{as_often, weighted, by_weight, AreWeightedRates, All-head, AreTheSameSides}
 use Rattle.fair_routes.proofs.Common.{rates_at}
-use Rattle.fair_rates.proofs.Fairness.SameSides.{still_fair}
+use Rattle.fairness.proofs.Fairness.SameSides.{still_fair}
 use Rattle.fair_routes.specs.Network.WeightLaws.{WeightsOfOneChangeNothing, OrderOfLinksDoesNotMatterByWeight}
 use Rattle.fair_routes.specs.Network.WeightLaws.{OrderOfFlowsDoesNotMatterByWeight, weights_at}
 use Rattle.fair_routes.proofs.Network.ByWeight.{sum_often, uses_often, often_uses}

@@ -5,12 +5,12 @@ use Rattle.fair_routes.proofs.Common.{slice_get-get_or, slice_get_within, get_or
 use Rattle.fair_routes.proofs.Common.{IsFair, HaveUsersBelow, IsRateOf, Rate, Unlimited, Finite, Ratio, listed_from}
 use Rattle.fair_routes.proofs.Common.{sum_by-scaled, weight_at, weighted, as_often, by_weight, AreWeightedRates}
 use Rattle.fair_routes.proofs.Common.{common_steps}
-use Rattle.fair_rates.specs.Fairness.Fair.{IsWithinCaps}
-use Rattle.fair_rates.specs.Fairness.Laws.{HasRate}
-use Rattle.fair_rates.proofs.Lists.SumOrder.{sum_by-under, at_most_or_more}
+use Rattle.fairness.specs.Fairness.Fair.{IsWithinCaps}
+use Rattle.fairness.specs.Fairness.Laws.{HasRate}
+use Rattle.fairness.proofs.Lists.SumOrder.{sum_by-under, at_most_or_more}
 use Rattle.fair_routes.specs.Network.WeightLaws.{RatesByWeightAreMaxMin}
 use Rattle.fair_routes.proofs.Network.ByWeight.{sum_often, uses_often, often_uses, some_weight, limited_wide}
-use Rattle.fair_rates.proofs.Fairness.MaxMin.{at_most_by_parts, below_by_parts, above_by_parts}
+use Rattle.fairness.proofs.Fairness.MaxMin.{at_most_by_parts, below_by_parts, above_by_parts}
 
 -- ---- amounts
 

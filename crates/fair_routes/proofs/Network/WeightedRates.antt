@@ -8,20 +8,20 @@ use Rattle.fair_routes.proofs.Common.{All-from_contains, frozen_in, weight_at, w
 use Rattle.fair_routes.proofs.Common.{AreWeightedRates, common_steps, rules, ext_get_or, level_at, IsWorth}
 use Rattle.fair_routes.proofs.Common.{same_amounts, worth_too, at_none, AreFilledByWeight, HasLargeWeightedRate}
 use Rattle.std.proofs.Common.{IfSome}
-use Rattle.fair_rates.specs.Fairness.Laws.{UsesClosedSide, AreZeroWhereClosed}
+use Rattle.fairness.specs.Fairness.Laws.{UsesClosedSide, AreZeroWhereClosed}
 use Rattle.fair_rates.specs.Filling.FairParts.{IsRateAt, AreRatesAt, HasLargeLevel}
 use Rattle.fair_rates.specs.Filling.States.{AreInside}
-use Rattle.fair_rates.specs.Numbers.Amount.{Amount, parts_over}
-use Rattle.fair_rates.specs.Numbers.Fits.{ReducedFits}
-use Rattle.fair_rates.specs.Numbers.LowestTerms.{whole_IsReduced}
+use Rattle.fairness.specs.Numbers.Amount.{Amount, parts_over}
+use Rattle.fairness.specs.Numbers.Fits.{ReducedFits}
+use Rattle.fairness.specs.Numbers.LowestTerms.{whole_IsReduced}
 use Rattle.fair_rates.specs.declared.bandwidth.parts.FairParts.{FairParts}
-use Rattle.fair_rates.proofs.Lists.SumOrder.{sum_by-zero}
-use Rattle.fair_rates.proofs.Numbers.Ratio.{one_ratio, worth_is_reduced}
+use Rattle.fairness.proofs.Lists.SumOrder.{sum_by-zero}
+use Rattle.fairness.proofs.Numbers.Ratio.{one_ratio, worth_is_reduced}
 use Rattle.fair_routes.specs.Network.Rising.{AreWeighed}
 use Rattle.fair_routes.specs.Network.Weights.{IsTheOnlyWeighted}
 use Rattle.fair_routes.specs.declared.routes.weighted.rising.Rising.{Rising}
 use Rattle.fair_routes.proofs.Network.ByWeight.{limited_wide, uses_often, often_uses, some_weight}
-use Rattle.fair_rates.proofs.Fairness.ClosedSides.{member_at_most}
+use Rattle.fairness.proofs.Fairness.ClosedSides.{member_at_most}
 
 zero_ratio : Ratio
 zero_ratio = record { numerator = 0; denominator = 1; positive = omega arith; reduced = whole_IsReduced 0 }

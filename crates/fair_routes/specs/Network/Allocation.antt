@@ -1,11 +1,11 @@
 -- What is allocated to flows over routes, and when they are refused.
 use Rattle.std.specs.Prelude.{◌≡◌, ◌⊎◌, ℕ, ◌^◌, ◌<◌, ◌≤◌, List, length, Option, Some, Contains}
-use Rattle.fair_rates.specs.declared.bandwidth.Rate.{Rate}
-use Rattle.fair_rates.specs.declared.error.Error.TheVariants.{OutOfMemory, NumberTooLarge}
-use Rattle.fair_rates.specs.Fairness.Laws.{IsTheOnlyFair, AreMaxMin, AreZeroWhereClosed}
-use Rattle.fair_rates.specs.Fairness.Rates.{AreFairRates, HasDifferentRates}
-use Rattle.fair_rates.specs.Refusals.FairRatesFit.{FairRatesFit, AreWholeOver}
-use Rattle.fair_rates.specs.Refusals.TooLarge.{HasLargeRate}
+use Rattle.fairness.specs.declared.bandwidth.Rate.{Rate}
+use Rattle.fairness.specs.declared.error.Error.TheVariants.{OutOfMemory, NumberTooLarge}
+use Rattle.fairness.specs.Fairness.Laws.{IsTheOnlyFair, AreMaxMin, AreZeroWhereClosed}
+use Rattle.fairness.specs.Fairness.Rates.{AreFairRates, HasDifferentRates}
+use Rattle.fairness.specs.Refusals.FairRatesFit.{FairRatesFit, AreWholeOver}
+use Rattle.fairness.specs.Refusals.TooLarge.{HasLargeRate}
 use Rattle.fair_routes.specs.Network.Sides.{sides_over, AreListed, IsUnlisted}
 use Rattle.fair_routes.specs.declared.routes.error.RouteError.{RouteError}
 use Rattle.fair_routes.specs.declared.routes.error.RouteError.TheVariants.{Refused, NoSuchLink}

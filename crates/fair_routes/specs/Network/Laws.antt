@@ -4,16 +4,16 @@ use Rattle.std.specs.Prelude.{map, slice_index_or}
 use Rattle.std.specs.List.{AllZip, list_any, range_with_len}
 use Rattle.std.specs.List.Sorted.{IsPermutation}
 use Rattle.std.specs.declared.cmp.Ordering.{Ordering}
-use Rattle.fair_rates.specs.Fairness.Fair.{Side}
-use Rattle.fair_rates.specs.Fairness.Part.{flagged, SharesNoSide}
-use Rattle.fair_rates.specs.Fairness.Rates.{AreFairRates}
-use Rattle.fair_rates.specs.Fairness.UnderCaps.{AreOfPeers, AreFairUnder, cap_of}
-use Rattle.fair_rates.specs.Numbers.Ratio.{IsWorth}
-use Rattle.fair_rates.specs.Sides.Caps.{Caps}
-use Rattle.fair_rates.specs.Sides.Subjects.{Subject, sent_by, received_by, sent_between, same_subject}
-use Rattle.fair_rates.specs.declared.bandwidth.Flow.{Flow}
-use Rattle.fair_rates.specs.declared.bandwidth.Rate.{Rate}
-use Rattle.fair_rates.specs.declared.bandwidth.Rate.TheVariants.{Unlimited, Finite}
+use Rattle.fairness.specs.Fairness.Fair.{Side}
+use Rattle.fairness.specs.Fairness.Part.{flagged, SharesNoSide}
+use Rattle.fairness.specs.Fairness.Rates.{AreFairRates}
+use Rattle.fairness.specs.Fairness.UnderCaps.{AreOfPeers, AreFairUnder, cap_of}
+use Rattle.fairness.specs.Numbers.Ratio.{IsWorth}
+use Rattle.fairness.specs.Sides.Caps.{Caps}
+use Rattle.fairness.specs.Sides.Subjects.{Subject, sent_by, received_by, sent_between, same_subject}
+use Rattle.fairness.specs.declared.bandwidth.Flow.{Flow}
+use Rattle.fairness.specs.declared.bandwidth.Rate.{Rate}
+use Rattle.fairness.specs.declared.bandwidth.Rate.TheVariants.{Unlimited, Finite}
 use Rattle.fair_routes.specs.Network.Sides.{has_link, users_of, sides_over}
 
 -- the cap of a link, if it has one

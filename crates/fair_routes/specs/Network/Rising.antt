@@ -3,10 +3,10 @@
 use Rattle.std.specs.Prelude.{◌≡◌, ◌↔◌, ◌⊎◌, ℕ, ◌-◌, ◌*◌, ◌<◌, ◌≤◌, List, All, Contains, Option, Some, None, IsSome}
 use Rattle.std.specs.Prelude.{MatchOption, cond, count_by, length, map, option_map, slice_index, slice_index_or, sum_by}
 use Rattle.std.specs.Option.{is_none}
-use Rattle.fair_rates.specs.Fairness.Exists.{product}
-use Rattle.fair_rates.specs.Fairness.Fair.{Side, IsLimited, IsFair}
+use Rattle.fairness.specs.Fairness.Exists.{product}
+use Rattle.fairness.specs.Fairness.Fair.{Side, IsLimited, IsFair}
 use Rattle.fair_rates.specs.Filling.FairParts.{level_at}
-use Rattle.fair_rates.specs.Filling.States.{at_level}
+use Rattle.fairness.specs.Filling.Frozen.{at_level}
 use Rattle.fair_rates.specs.declared.bandwidth.parts.FairParts.{FairParts}
 use Rattle.fair_routes.specs.Network.Weights.{weight_at, weighted}
 use Rattle.fair_routes.specs.declared.routes.weighted.rising.Rising.{Rising}

@@ -3,8 +3,8 @@
 use Rattle.std.specs.Prelude.{ℕ, ◌+◌, ◌<◌, ◌==◌, Bool, cond, List, [], ◌∷◌, ◌++◌, Option, Some, None, All, Contains}
 use Rattle.std.specs.Prelude.{slice_get, ◌≡◌, ◌≤◌}
 use Rattle.std.specs.List.{list_any}
-use Rattle.fair_rates.specs.Fairness.Fair.{Side}
-use Rattle.fair_rates.specs.Lists.Places.{places_from}
+use Rattle.fairness.specs.Fairness.Fair.{Side}
+use Rattle.fairness.specs.Lists.Places.{places_from}
 use Rattle.fair_routes.specs.declared.routes.sides.LinkSide.{LinkSide}
 
 -- a side in the code

@@ -6,10 +6,10 @@ use Rattle.std.specs.BTreeMap.{get, keys, values}
 use Rattle.std.specs.Int.NonZero.{non_zero_u64_get}
 use Rattle.std.specs.List.{flat_map}
 use Rattle.std.specs.Ordering.{nat_cmp}
-use Rattle.fair_rates.specs.Fairness.Fair.{Side}
-use Rattle.fair_rates.specs.declared.bandwidth.Rate.{Rate}
-use Rattle.fair_rates.specs.declared.error.Error.{Error}
-use Rattle.fair_rates.specs.declared.error.Error.TheVariants.{OutOfMemory, NumberTooLarge}
+use Rattle.fairness.specs.Fairness.Fair.{Side}
+use Rattle.fairness.specs.declared.bandwidth.Rate.{Rate}
+use Rattle.fairness.specs.declared.error.Error.{Error}
+use Rattle.fairness.specs.declared.error.Error.TheVariants.{OutOfMemory, NumberTooLarge}
 use Rattle.fair_routes.specs.Network.Sides.{has_link, side_of_link}
 use Rattle.fair_routes.specs.Network.Weights.{AreWeightedRates, HasLargeWeightedRate, HasMuchWeight}
 use Rattle.fair_routes.specs.declared.routes.error.RouteError.TheVariants.{Refused, NoSuchLink}

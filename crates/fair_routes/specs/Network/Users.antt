@@ -3,7 +3,7 @@ use Rattle.std.specs.Prelude.{◌≡◌, ◌==◌, ℕ, ◌<◌, ◌≤◌, List
 use Rattle.std.specs.Prelude.{slice_index_or}
 use Rattle.std.specs.declared.alloc.Global.{Global}
 use Rattle.std.specs.declared.vec.Vec.{Vec}
-use Rattle.fair_rates.specs.declared.error.Error.TheVariants.{OutOfMemory}
+use Rattle.fairness.specs.declared.error.Error.TheVariants.{OutOfMemory}
 use Rattle.fair_routes.specs.Network.Sides.{has_link, users_of, IsUnlisted}
 use Rattle.fair_routes.specs.declared.routes.error.RouteError.{RouteError}
 use Rattle.fair_routes.specs.declared.routes.error.RouteError.TheVariants.{Refused, NoSuchLink}

@@ -3,15 +3,15 @@ use Rattle.std.specs.Prelude.{◌↔◌, ◌==◌, ℕ, ◌<◌, List, Option, A
 use Rattle.std.specs.Prelude.{replicate, slice_index, slice_index_or, sum_by}
 use Rattle.std.specs.List.{range_with_len}
 use Rattle.std.specs.List.Sorted.{IsPermutation}
-use Rattle.fair_rates.specs.Fairness.Fair.{IsLimited, IsFair}
-use Rattle.fair_rates.specs.Fairness.Laws.{HaveUsersBelow}
-use Rattle.fair_rates.specs.Fairness.Rates.{AreFairRates}
-use Rattle.fair_rates.specs.Lists.Places.{places_from}
-use Rattle.fair_rates.specs.Numbers.Amount.{parts_over}
-use Rattle.fair_rates.specs.Numbers.Ratio.{IsWorth}
-use Rattle.fair_rates.specs.declared.bandwidth.Rate.{Rate}
-use Rattle.fair_rates.specs.declared.bandwidth.Rate.TheVariants.{Unlimited, Finite}
-use Rattle.fair_rates.specs.Fairness.Fair.{Side}
+use Rattle.fairness.specs.Fairness.Fair.{IsLimited, IsFair}
+use Rattle.fairness.specs.Fairness.Laws.{HaveUsersBelow}
+use Rattle.fairness.specs.Fairness.Rates.{AreFairRates}
+use Rattle.fairness.specs.Lists.Places.{places_from}
+use Rattle.fairness.specs.Numbers.Amount.{parts_over}
+use Rattle.fairness.specs.Numbers.Ratio.{IsWorth}
+use Rattle.fairness.specs.declared.bandwidth.Rate.{Rate}
+use Rattle.fairness.specs.declared.bandwidth.Rate.TheVariants.{Unlimited, Finite}
+use Rattle.fairness.specs.Fairness.Fair.{Side}
 use Rattle.fair_routes.specs.Network.Laws.{AreRenamed, routes_at, rates_at}
 use Rattle.fair_routes.specs.Network.Sides.{sides_over}
 use Rattle.fair_routes.specs.Network.Weights.{as_often, AreWeights, AreWeightedRates, AreMaxMinByWeight}

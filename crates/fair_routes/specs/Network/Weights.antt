@@ -3,15 +3,15 @@
 use Rattle.std.specs.Prelude.{◌≡◌, ◌≢◌, ◌⊎◌, ℕ, ◌*◌, ◌^◌, ◌<◌, ◌≤◌, List, [], ◌∷◌, ◌++◌}
 use Rattle.std.specs.Prelude.{All, Contains, Option, Some}
 use Rattle.std.specs.Prelude.{length, map, replicate, slice_get, slice_index, slice_index_or, sum_by}
-use Rattle.fair_rates.specs.declared.bandwidth.Rate.{Rate}
-use Rattle.fair_rates.specs.declared.error.Error.TheVariants.{OutOfMemory, NumberTooLarge}
-use Rattle.fair_rates.specs.Fairness.Fair.{Side, IsLimited, IsWithinCaps, IsFair}
-use Rattle.fair_rates.specs.Fairness.Laws.{AreZeroWhereClosed, HasRate, IsLess, IsAtMost}
-use Rattle.fair_rates.specs.Fairness.Rates.{IsRateOf}
-use Rattle.fair_rates.specs.Numbers.Amount.{Amount, parts_over}
-use Rattle.fair_rates.specs.Numbers.Fits.{ReducedFits}
-use Rattle.fair_rates.specs.Numbers.Ratio.{amount_of}
-use Rattle.fair_rates.specs.declared.ratio.Ratio.{Ratio}
+use Rattle.fairness.specs.declared.bandwidth.Rate.{Rate}
+use Rattle.fairness.specs.declared.error.Error.TheVariants.{OutOfMemory, NumberTooLarge}
+use Rattle.fairness.specs.Fairness.Fair.{Side, IsLimited, IsWithinCaps, IsFair}
+use Rattle.fairness.specs.Fairness.Laws.{AreZeroWhereClosed, HasRate, IsLess, IsAtMost}
+use Rattle.fairness.specs.Fairness.Rates.{IsRateOf}
+use Rattle.fairness.specs.Numbers.Amount.{Amount, parts_over}
+use Rattle.fairness.specs.Numbers.Fits.{ReducedFits}
+use Rattle.fairness.specs.Numbers.Ratio.{amount_of}
+use Rattle.fairness.specs.declared.ratio.Ratio.{Ratio}
 use Rattle.fair_routes.specs.Network.Sides.{sides_over, AreListed, IsUnlisted}
 use Rattle.fair_routes.specs.declared.routes.error.RouteError.TheVariants.{Refused, NoSuchLink}
 use Rattle.fair_routes.specs.declared.routes.weighted.error.WeightError.{WeightError}

@@ -1,9 +1,9 @@
 //! Why flows over routes were refused.
 ghost use Rattle.std.specs.Prelude.{◌≡◌};
-ghost use Rattle.fair_rates.specs.declared.error.Error.TheVariants.{OutOfMemory};
+ghost use Rattle.fairness.specs.declared.error.Error.TheVariants.{OutOfMemory};
 ghost use Rattle.fair_routes.specs.declared.routes.error.RouteError.TheVariants.{Refused};
 
-use fair_rates::error::Error;
+use fairness::error::Error;
 use std::alloc::{AllocError, AllocFailed};
 
 /// Why flows over routes were refused. What was given stays as it is.

@@ -2,12 +2,12 @@
 //!
 //! Each function here states a law and does nothing. The laws are about the words in which
 //! [`allocate_routes`](super::allocate_routes) says what it answers: `AreFairRates` of a list of rates,
-//! on the sides of the links. What holds of fair rates on any sides is in `bandwidth::laws` of `fair_rates`.
+//! on the sides of the links. What holds of fair rates on any sides is in `bandwidth::laws` of `fairness`.
 ghost use Rattle.fair_routes.specs.Network.Laws.{SidesAreOfTheLinks, RoutesAreSetsOfLinks};
 ghost use Rattle.fair_routes.specs.Network.Laws.{OrderOfLinksDoesNotMatter, OrderOfFlowsDoesNotMatter};
 ghost use Rattle.fair_routes.specs.Network.Laws.{RoutesApartAreFair, AloneIsTheLeastCap, LinkedIsOverThreeLinks};
 
-use fair_rates::peer::Peer;
+use fairness::peer::Peer;
 
 /// Each link that has a cap and that some flow uses makes a side, and its users are all flows that use it.
 pub fn sides_are_of_the_links()

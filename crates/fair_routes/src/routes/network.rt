@@ -10,8 +10,8 @@ ghost use Rattle.fair_routes.specs.Network.Told.{with_one, IsNumbered, error_of}
 
 use crate::routes::RouteError;
 use crate::routes::weighted::{WeightError, allocate_weighted_routes};
-use fair_rates::bandwidth::Rate;
-use fair_rates::error::Error;
+use fairness::bandwidth::Rate;
+use fairness::error::Error;
 use std::alloc::{AllocError, Global};
 use std::collections::BTreeMap;
 use std::num::NonZeroU64;

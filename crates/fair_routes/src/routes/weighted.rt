@@ -15,7 +15,7 @@ mod room;
 
 use crate::routes::sides::{LinkSide, link_sides};
 pub use error::WeightError;
-use fair_rates::bandwidth::Rate;
+use fairness::bandwidth::Rate;
 use rising::{Rising, freeze, weigh};
 use room::{least_room, share_of};
 use std::alloc::{AllocError, Global};

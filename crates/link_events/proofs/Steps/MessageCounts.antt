@@ -7,7 +7,7 @@ use Rattle.link_events.proofs.Common.{drained_to, is_spent, Accounts, Launches, 
 use Rattle.link_events.proofs.Common.{launched, pair_itself}
 use Rattle.std.proofs.lemmas.List.Filters.{length-filter_both}
 use Rattle.link_flights.specs.declared.flight.Flight.{Flight}
-use Rattle.fair_rates.proofs.Lists.Zips.{zip-length}
+use Rattle.fairness.proofs.Lists.Zips.{zip-length}
 
 pub length-without : {X : Type 0} (f g : X → Bool) (y : X) (xs : List X) → find f xs ≡ Some y → g y ≡ true
     → length (without_first g xs) + 1 ≡ length xs

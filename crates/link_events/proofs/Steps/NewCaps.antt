@@ -5,9 +5,9 @@ use Rattle.link_events.proofs.Common.{first_of_both, second_of_both, Message, is
 use Rattle.link_events.proofs.Common.{UnitFlight}
 use Rattle.std.proofs.Common.{is_none}
 use Rattle.std.proofs.lemmas.Cmp.{eq_by_cmp_equiv}
-use Rattle.fair_rates.specs.Fairness.UnderCaps.{cap_of, limits}
-use Rattle.fair_rates.specs.Sides.Caps.{with_cap, with_link}
-use Rattle.fair_rates.specs.Sides.Subjects.{Subject, sent_by, received_by, sent_between}
+use Rattle.fairness.specs.Fairness.UnderCaps.{cap_of, limits}
+use Rattle.fairness.specs.Sides.Caps.{with_cap, with_link}
+use Rattle.fairness.specs.Sides.Subjects.{Subject, sent_by, received_by, sent_between}
 use Rattle.link_flights.specs.Flights.Sides.{flow_in_flight}
 
 pub not_off : (b : Bool) → not b ≡ false → b ≡ true

@@ -5,8 +5,8 @@ use Rattle.link_events.proofs.Common.{same_pair, Completed, goes, meets, Planned
 use Rattle.link_events.proofs.Common.{PlansStart, Enqueues, launched, with_queued, AreLowest, IsStanding, UnitFlight}
 use Rattle.link_events.proofs.Common.{sending_of, is_sending, IsRefusedFor, Error}
 use Rattle.std.specs.Prelude.{◌&&◌}
-use Rattle.fair_rates.specs.Numbers.Amount.{billion}
-use Rattle.fair_rates.specs.Numbers.LowestTerms.{reduced_positive}
+use Rattle.fairness.specs.Numbers.Amount.{billion}
+use Rattle.fairness.specs.Numbers.LowestTerms.{reduced_positive}
 use Rattle.link_events.specs.declared.batch.Standing.{Standing}
 use Rattle.link_events.specs.declared.batch.Standing.TheVariants.{Open, Accounted, Due}
 use Rattle.link_simulation.proofs.Rule.OneAccount.{ArePositive, IsAccountedAt, accounted, enqueue_accounted}

@@ -11,7 +11,7 @@ use Rattle.std.specs.Prelude.{◌||◌, ◌&&◌, Some, Option}
 use Rattle.std.proofs.lemmas.List.Elements.{filter-append}
 use Rattle.std.proofs.Math.Bool.{or-true}
 use Rattle.link_pairs.specs.declared.message.Message as code
-use Rattle.fair_rates.proofs.Lists.Members.{in_from_contains, in_either, contains_from_in}
+use Rattle.fairness.proofs.Lists.Members.{in_from_contains, in_either, contains_from_in}
 use Rattle.link_flights.specs.Flights.Rated.{sent_messages}
 use Rattle.link_flights.specs.Flights.RatedFlights.{rated_flight_of}
 use Rattle.link_events.specs.Steps.Through.{FirstIsUnlimited}

@@ -2,7 +2,7 @@
 use Rattle.std.specs.Prelude.{◌≡◌, ℕ, Bool, true, not, List}
 use Rattle.std.specs.List.{filter}
 use Rattle.std.specs.declared.cmp.Ordering.{Ordering}
-use Rattle.fair_rates.specs.Sides.Caps.{Caps}
+use Rattle.fairness.specs.Sides.Caps.{Caps}
 use Rattle.link_simulation.specs.Simulation.Messages.{Message, OneForEachPair}
 use Rattle.link_simulation.specs.Rule.Planned.{rated_messages, drained_to, is_spent}
 use Rattle.link_flights.specs.declared.flight_list.Flights.{Flights}

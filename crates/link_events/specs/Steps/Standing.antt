@@ -1,7 +1,7 @@
 -- How a planned world on the way through a list of messages stands for the one that the event rule speaks of.
 use Rattle.std.specs.Prelude.{◌≡◌, ◌≢◌, ℕ, ◌<◌, ◌&&◌, List, [], ◌++◌, Bool, true, false, length, is_none}
 use Rattle.std.specs.declared.cmp.Ordering.{Ordering}
-use Rattle.fair_rates.specs.declared.error.Error.{Error}
+use Rattle.fairness.specs.declared.error.Error.{Error}
 use Rattle.link_events.specs.declared.batch.Standing.{Standing}
 use Rattle.link_events.specs.declared.batch.Standing.TheVariants.{Open, Accounted, Due}
 use Rattle.link_simulation.specs.Simulation.Messages.{Message}

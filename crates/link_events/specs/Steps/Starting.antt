@@ -1,7 +1,7 @@
 -- The next message of a pair starts, and stays in flight at the account that follows.
 use Rattle.std.specs.Prelude.{◌≡◌, ◌≢◌, ℕ, ◌<◌, List, length, Some, true, false}
 use Rattle.std.specs.declared.cmp.Ordering.{Ordering}
-use Rattle.fair_rates.specs.Numbers.Amount.{whole}
+use Rattle.fairness.specs.Numbers.Amount.{whole}
 use Rattle.link_simulation.specs.Simulation.Messages.{Message}
 use Rattle.link_simulation.specs.Simulation.Rates.{is_unlimited}
 use Rattle.link_simulation.specs.Simulation.World.{last_moment}

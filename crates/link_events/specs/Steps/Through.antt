@@ -1,7 +1,7 @@
 -- A message that waits is done as it starts, and so is never in flight.
 use Rattle.std.specs.Prelude.{◌≡◌, ◌+◌, true, Some}
 use Rattle.std.specs.declared.cmp.Ordering.{Ordering}
-use Rattle.fair_rates.specs.Lists.WithoutFirst.{without_first}
+use Rattle.fairness.specs.Lists.WithoutFirst.{without_first}
 use Rattle.link_simulation.specs.Simulation.Messages.{Message, same_pair}
 use Rattle.link_simulation.specs.Simulation.Rates.{is_unlimited}
 use Rattle.link_simulation.specs.Rule.Planned.{Planned}

@@ -12,9 +12,9 @@ use Rattle.link_flights.proofs.Common.{same_peer_itself, message_of, Component, 
 use Rattle.link_flights.proofs.Common.{UnitFlight, sent_messages, flow_in_flight, end_subject, link_subject, kept_load}
 use Rattle.link_flights.proofs.Common.{left_of, left_caps, flows_of, IsSideOf, replicate, flow_parts, same_subject}
 use Rattle.link_flights.proofs.Common.{one_cap, same_limits, AddsSides}
-use Rattle.fair_rates.specs.Fairness.UnderCaps.{IsCappedSide}
-use Rattle.fair_rates.proofs.Lists.Members.{none_passes, any_fails}
-use Rattle.fair_rates.proofs.Lists.Places.{passes_here}
+use Rattle.fairness.specs.Fairness.UnderCaps.{IsCappedSide}
+use Rattle.fairness.proofs.Lists.Members.{none_passes, any_fails}
+use Rattle.fairness.proofs.Lists.Places.{passes_here}
 use Rattle.link_simulation.specs.Simulation.Messages.{OneForEachPair, same_pair}
 use Rattle.link_flights.specs.Flights.Sides.{HasSide, AreAllSides}
 use Rattle.link_flights.proofs.Flights.InFlight.{filter_yes, filter_no}

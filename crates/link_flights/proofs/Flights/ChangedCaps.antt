@@ -3,7 +3,7 @@
 use Rattle.link_flights.proofs.Common.{◌≡◌, ℕ, ◌*◌, ◌≤◌, Bool, true, false, not, List, Some, refl, sym, ap, ◌∙◌, ◌⊎◌}
 use Rattle.link_flights.proofs.Common.{inl, inr, arith, filter, Ordering, false≢true, cases_lt, Flow, cap_of, limits}
 use Rattle.link_flights.proofs.Common.{Caps, Subject, AreShared, by_bool, In, from_filter, total}
-use Rattle.fair_rates.proofs.Fairness.Sharing.{IsCapped, IsHeldAmong, total_none, total_same, total_at_most}
+use Rattle.fairness.proofs.Fairness.Sharing.{IsCapped, IsHeldAmong, total_none, total_same, total_at_most}
 
 pub not_not : (b : Bool) → not b ≡ true → b ≡ false
 not_not true h = absurd (false≢true h)

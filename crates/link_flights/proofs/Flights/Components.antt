@@ -14,8 +14,8 @@ use Rattle.link_flights.proofs.Common.{rated_anew, AreFairlyRated, WereRated, Is
 use Rattle.link_flights.proofs.Common.{flow_in_flight, by_bool, first_of_both, second_of_both, same_peer_itself}
 use Rattle.link_flights.proofs.Common.{FairParts, load, still_fair}
 use Rattle.std.specs.Prelude.{nat_le}
-use Rattle.fair_rates.specs.Fairness.Fair.{HasBottleneck}
-use Rattle.fair_rates.proofs.Fairness.Sharing.{StandsAt, fair_from}
+use Rattle.fairness.specs.Fairness.Fair.{HasBottleneck}
+use Rattle.fairness.proofs.Fairness.Sharing.{StandsAt, fair_from}
 use Rattle.link_pairs.specs.declared.message.Message as code
 use Rattle.link_flights.proofs.Flights.FairMessages.{StandsForMessage, same_sides}
 use Rattle.link_flights.proofs.Flights.InFlight.{filter_yes, filter_no}

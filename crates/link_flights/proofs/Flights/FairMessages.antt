@@ -7,13 +7,13 @@ use Rattle.link_flights.proofs.Common.{same_peer, Caps, Message, is_delivered, c
 use Rattle.link_flights.proofs.Common.{in_either, in_from_contains, contains_from_in, same_peer_itself, places_from}
 use Rattle.link_flights.proofs.Common.{same_subject, one_cap, same_limits}
 use Rattle.std.proofs.lemmas.Bool.{and_parts}
-use Rattle.fair_rates.specs.Fairness.Laws.{AreTheSameSides}
+use Rattle.fairness.specs.Fairness.Laws.{AreTheSameSides}
 use Rattle.link_simulation.specs.Simulation.Rates.{sides_for, egress_side, ingress_side, link_side}
 use Rattle.link_simulation.specs.Simulation.Rates.{capped_side}
-use Rattle.fair_rates.proofs.Sides.Subjects.{same_itself}
-use Rattle.fair_rates.proofs.Sides.CapSides.{capped_from_listed, listed_from_capped, side_of_subject}
-use Rattle.fair_rates.proofs.Lists.Members.{in_flat_map, from_flat_map}
-use Rattle.fair_rates.proofs.Lists.Places.{places_alike}
+use Rattle.fairness.proofs.Sides.Subjects.{same_itself}
+use Rattle.fairness.proofs.Sides.CapSides.{capped_from_listed, listed_from_capped, side_of_subject}
+use Rattle.fairness.proofs.Lists.Members.{in_flat_map, from_flat_map}
+use Rattle.fairness.proofs.Lists.Places.{places_alike}
 
 module _ {P : Type 0} (cmp : P → P → Ordering) where
   -- the flow is of the message's peers, by their order, and delivered as it is

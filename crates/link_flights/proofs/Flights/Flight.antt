@@ -5,7 +5,7 @@ use Rattle.link_flights.proofs.Common.{sym, ap, ◌∙◌, subst, arith, inl, in
 use Rattle.link_flights.proofs.Common.{leb-true, and_from, length-append, none-some, same_Some, first_of_both}
 use Rattle.link_flights.proofs.Common.{second_of_both, IsChangedUpTo, Flight, UnitFlight, left_by, flight_at}
 use Rattle.link_flights.proofs.Common.{flights_at, IsTimed, AreTimed, DrainsTo, set-get_or, one_more}
-use Rattle.fair_rates.proofs.Lists.Zips.{zip-length}
+use Rattle.fairness.proofs.Lists.Zips.{zip-length}
 
 -- ---- lists that change at a place
 

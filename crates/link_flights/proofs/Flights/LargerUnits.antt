@@ -14,8 +14,8 @@ use Rattle.std.proofs.Math.Nat.{mul-le-mul_left}
 use Rattle.std.proofs.Math.Nat.{mul-lt-mul_of_pos_left}
 use Rattle.std.proofs.lemmas.Nat.Gcd.{IsGcd-from_mod}
 use Rattle.std.proofs.lemmas.Bool.{lt-leb}
-use Rattle.fair_rates.proofs.Lists.Sums.{sum_by_same}
-use Rattle.fair_rates.proofs.Lists.SumOrder.{sum_by-scaled}
+use Rattle.fairness.proofs.Lists.Sums.{sum_by_same}
+use Rattle.fairness.proofs.Lists.SumOrder.{sum_by-scaled}
 use Rattle.link_pairs.specs.declared.message.Message as code
 use Rattle.link_flights.specs.Flights.LargerUnits.{IsFactorOf, IsFactorOfAll, AreCountedBy}
 use Rattle.link_flights.specs.Flights.LargerUnits.{IsCommonFactor}

@@ -7,7 +7,7 @@ use Rattle.link_flights.proofs.Common.{Flow, Component, Flight, is_of, those_of,
 use Rattle.link_flights.proofs.Common.{flights_at, rerated, left_caps, flows_of, flow_sent, flow_in_flight, FlowCaps}
 use Rattle.link_flights.proofs.Common.{parts_alone_fair}
 use Rattle.std.specs.Prelude.{option_map}
-use Rattle.fair_rates.specs.Sides.Alone.{least_cap_of}
+use Rattle.fairness.specs.Sides.Alone.{least_cap_of}
 use Rattle.link_flights.specs.Flights.Rated.{AreFairRatesBeside}
 use Rattle.link_flights.proofs.Flights.Sides.{flow_at, as_many}
 

@@ -12,9 +12,9 @@ use Rattle.link_flights.proofs.Common.{left_caps, flows_of, FairParts, product_n
 use Rattle.std.proofs.Common.{slice_index}
 use Rattle.std.specs.Prelude.{nat_le}
 use Rattle.std.proofs.Math.Logic.{∥∥₁_map}
-use Rattle.fair_rates.proofs.Fairness.Decided.{fair_if_so}
-use Rattle.fair_rates.proofs.Fairness.SharedBeside.{whole_shared}
-use Rattle.fair_rates.specs.Sides.Caps.{times_caps}
+use Rattle.fairness.proofs.Fairness.Decided.{fair_if_so}
+use Rattle.fairness.proofs.Fairness.SharedBeside.{whole_shared}
+use Rattle.fairness.specs.Sides.Caps.{times_caps}
 use Rattle.link_pairs.specs.declared.message.Message as code
 use Rattle.link_flights.specs.Flights.Rated.{AreFairOn}
 use Rattle.link_flights.proofs.Flights.AllSides.{of_left}

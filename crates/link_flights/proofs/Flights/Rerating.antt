@@ -14,7 +14,7 @@ use Rattle.link_flights.proofs.Common.{AreKeptBut, IsCountedAt}
 use Rattle.std.specs.Prelude.{IfSome, option_map}
 use Rattle.std.proofs.lemmas.List.{drop_more}
 use Rattle.std.proofs.lemmas.Map.Keys.{any_passes_from_place}
-use Rattle.fair_rates.proofs.Lists.Sorted.{set-seam}
+use Rattle.fairness.proofs.Lists.Sorted.{set-seam}
 use Rattle.link_simulation.specs.Rule.Planned.{IsSpentAt}
 use Rattle.link_pairs.specs.declared.message.Message.{Message}
 use Rattle.link_flights.specs.Flights.Rated.{AreOthersTimed}

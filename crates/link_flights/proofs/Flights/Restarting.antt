@@ -10,8 +10,8 @@ use Rattle.link_flights.proofs.Common.{in_filter, Component, messages, message_o
 use Rattle.link_flights.proofs.Common.{is_of, those_of, has_both, is_closed, rates_of, rated_ones, rerated, rated_anew}
 use Rattle.link_flights.proofs.Common.{AreFairlyRated, WereRated, kept_load, left_caps, flows_of, total}
 use Rattle.std.specs.Prelude.{nat_le}
-use Rattle.fair_rates.proofs.Fairness.Sharing.{total-cons}
-use Rattle.fair_rates.proofs.Fairness.SharedBeside.{AreSharedBeside, beside_shared, beside_left}
+use Rattle.fairness.proofs.Fairness.Sharing.{total-cons}
+use Rattle.fairness.proofs.Fairness.SharedBeside.{AreSharedBeside, beside_shared, beside_left}
 use Rattle.link_pairs.specs.declared.message.Message as code
 use Rattle.link_flights.proofs.Flights.AllSides.{of_left, cap_left}
 use Rattle.link_flights.proofs.Flights.InFlight.{filter_yes, filter_no, read_filter}

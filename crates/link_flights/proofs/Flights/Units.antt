@@ -5,9 +5,9 @@ use Rattle.link_flights.proofs.Common.{refl, sym, ap, ◌∙◌, arith, add-one,
 use Rattle.link_flights.proofs.Common.{reduced_alike, reduced_scaled, mul-sub, mul-pos, mul-zero, IsScaled}
 use Rattle.link_flights.proofs.Common.{reduced_scales, product_none}
 use Rattle.std.proofs.Math.Seq.{take-nil}
-use Rattle.fair_rates.specs.Numbers.Amount.{drained}
-use Rattle.fair_rates.specs.Numbers.LowestTerms.{reduced_positive, reduced_same, reduced_lowest, whole_IsReduced}
-use Rattle.fair_rates.proofs.Numbers.Draining.{same_difference, drained_reduced}
+use Rattle.fairness.specs.Numbers.Amount.{drained}
+use Rattle.fairness.specs.Numbers.LowestTerms.{reduced_positive, reduced_same, reduced_lowest, whole_IsReduced}
+use Rattle.fairness.proofs.Numbers.Draining.{same_difference, drained_reduced}
 
 pub units_positive : (scale : ℕ) → 0 < scale → 0 < scale * billion
 units_positive scale h = mul-pos h (omega arith)

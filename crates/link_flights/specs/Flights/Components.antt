@@ -6,7 +6,7 @@ use Rattle.std.specs.List.{filter, list_all, list_any}
 use Rattle.std.specs.declared.cmp.Ordering.{Ordering}
 use Rattle.std.specs.declared.sync.Arc.{Arc}
 use Rattle.std.specs.declared.alloc.Global.{Global}
-use Rattle.fair_rates.specs.Sides.Subjects.{same_peer}
+use Rattle.fairness.specs.Sides.Subjects.{same_peer}
 use Rattle.link_pairs.specs.declared.message.Message.{Message}
 use Rattle.link_flights.specs.Flights.Flight.{UnitFlight, flight_at}
 use Rattle.link_flights.specs.declared.flight.Flight.{Flight}

@@ -1,7 +1,7 @@
 -- What is in flight, as it is kept.
 use Rattle.std.specs.Prelude.{◌≡◌, ℕ, ◌<◌, ◌≤◌, Bool, true, false, List, [], ◌∷◌, ◌++◌, length, map, slice_index_or}
 use Rattle.std.specs.Prelude.{Option, Some, None}
-use Rattle.fair_rates.specs.Numbers.Amount.{whole}
+use Rattle.fairness.specs.Numbers.Amount.{whole}
 use Rattle.link_pairs.specs.declared.message.Message as code
 use Rattle.link_pairs.specs.Pairs.Messages.{message_of}
 use Rattle.link_flights.specs.declared.flight_list.Flights.{Flights}

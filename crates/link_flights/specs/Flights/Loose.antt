@@ -1,7 +1,7 @@
 -- Messages in flight for which a cap has changed since the last account.
 use Rattle.std.specs.Prelude.{◌≡◌, ℕ, true, Bool, Contains, slice_index_or}
 use Rattle.std.specs.declared.cmp.Ordering.{Ordering}
-use Rattle.fair_rates.specs.Sides.Subjects.{same_peer}
+use Rattle.fairness.specs.Sides.Subjects.{same_peer}
 use Rattle.link_simulation.specs.Simulation.Messages.{Message}
 use Rattle.link_pairs.specs.declared.message.Message as code
 use Rattle.link_pairs.specs.Pairs.Messages.{message_of}

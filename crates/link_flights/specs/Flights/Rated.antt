@@ -5,11 +5,11 @@ use Rattle.std.specs.Prelude.{slice_index, length, Option, Some, None, slice_get
 use Rattle.std.specs.Prelude.{◌≤◌, nat_le}
 use Rattle.std.specs.List.{filter, list_all, AllZip}
 use Rattle.std.specs.declared.cmp.Ordering.{Ordering}
-use Rattle.fair_rates.specs.Sides.Caps.{Caps}
-use Rattle.fair_rates.specs.Sides.Subjects.{Subject}
-use Rattle.fair_rates.specs.Fairness.UnderCaps.{AreOfPeers, cap_of, limits, sides_under}
-use Rattle.fair_rates.specs.Fairness.Exists.{product}
-use Rattle.fair_rates.specs.Fairness.Fair.{IsFair}
+use Rattle.fairness.specs.Sides.Caps.{Caps}
+use Rattle.fairness.specs.Sides.Subjects.{Subject}
+use Rattle.fairness.specs.Fairness.UnderCaps.{AreOfPeers, cap_of, limits, sides_under}
+use Rattle.fairness.specs.Fairness.Exists.{product}
+use Rattle.fairness.specs.Fairness.Fair.{IsFair}
 use Rattle.fair_rates.specs.declared.bandwidth.parts.FairParts.{FairParts}
 use Rattle.fair_rates.specs.Filling.FairParts.{parts_of_level}
 use Rattle.link_simulation.specs.Simulation.Messages.{Message}

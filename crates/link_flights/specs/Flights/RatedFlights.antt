@@ -2,7 +2,7 @@
 use Rattle.std.specs.Prelude.{ℕ, List, map}
 use Rattle.std.specs.Prelude.{Some, ◌*◌}
 use Rattle.link_flights.specs.Flights.Flight.{UnitFlight}
-use Rattle.fair_rates.specs.Numbers.Amount.{reduced, billion}
+use Rattle.fairness.specs.Numbers.Amount.{reduced, billion}
 use Rattle.link_pairs.specs.Pairs.Messages.{message_of}
 use Rattle.link_simulation.specs.Rule.Planned.{RatedFlight}
 

@@ -3,12 +3,12 @@ use Rattle.std.specs.Prelude.{◌≡◌, ◌↔◌, ◌⊎◌, ℕ, ◌-◌, ◌
 use Rattle.std.specs.Prelude.{Option, Some, option_map, slice_get}
 use Rattle.std.specs.List.{filter}
 use Rattle.std.specs.declared.cmp.Ordering.{Ordering}
-use Rattle.fair_rates.specs.declared.bandwidth.Flow.{Flow}
-use Rattle.fair_rates.specs.Fairness.Fair.{Side}
-use Rattle.fair_rates.specs.Fairness.UnderCaps.{cap_of, limits, IsCappedSide}
-use Rattle.fair_rates.specs.Lists.Places.{places_from}
-use Rattle.fair_rates.specs.Sides.Caps.{Caps}
-use Rattle.fair_rates.specs.Sides.Subjects.{Subject, sent_by, received_by, sent_between}
+use Rattle.fairness.specs.declared.bandwidth.Flow.{Flow}
+use Rattle.fairness.specs.Fairness.Fair.{Side}
+use Rattle.fairness.specs.Fairness.UnderCaps.{cap_of, limits, IsCappedSide}
+use Rattle.fairness.specs.Lists.Places.{places_from}
+use Rattle.fairness.specs.Sides.Caps.{Caps}
+use Rattle.fairness.specs.Sides.Subjects.{Subject, sent_by, received_by, sent_between}
 use Rattle.link_simulation.specs.Simulation.Messages.{is_delivered}
 use Rattle.link_pairs.specs.declared.message.Message.{Message}
 use Rattle.link_pairs.specs.Pairs.Messages.{message_of}

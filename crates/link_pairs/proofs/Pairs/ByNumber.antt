@@ -11,8 +11,8 @@ use Rattle.std.proofs.lemmas.Cmp.{eq_by_cmp_equiv}
 use Rattle.std.proofs.lemmas.Bool.{eqb-false}
 use Rattle.std.proofs.lemmas.List.{append-nil, append_assoc, length-replicate, replicate-append-replicate}
 use Rattle.std.proofs.lemmas.Bool.Decides.{nat_tests}
-use Rattle.fair_rates.specs.Lists.Sorted.{value_at}
-use Rattle.fair_rates.specs.Sides.Subjects.{same_peer}
+use Rattle.fairness.specs.Lists.Sorted.{value_at}
+use Rattle.fairness.specs.Sides.Subjects.{same_peer}
 use Rattle.peer_numbers.specs.Peers.{number_of}
 use Rattle.link_pairs.specs.Pairs.Room.{IsFilledUp}
 use Rattle.peer_numbers.proofs.Peers.{same_number, other_peer}

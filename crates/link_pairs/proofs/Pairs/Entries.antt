@@ -4,13 +4,13 @@ use Rattle.std.specs.declared.cmp.Ordering.{Ordering}
 use Rattle.std.specs.Ordering.{is_eq}
 use Rattle.std.specs.Cmp.{IsTotalOrder}
 use Rattle.std.proofs.lemmas.Bool.{and_from}
-use Rattle.fair_rates.proofs.Lists.Booleans.{by_bool, first_of_both, second_of_both}
-use Rattle.fair_rates.specs.Lists.Sorted.{value_at}
-use Rattle.fair_rates.specs.Sides.Subjects.{same_peer}
+use Rattle.fairness.proofs.Lists.Booleans.{by_bool, first_of_both, second_of_both}
+use Rattle.fairness.specs.Lists.Sorted.{value_at}
+use Rattle.fairness.specs.Sides.Subjects.{same_peer}
 use Rattle.link_simulation.specs.Simulation.Messages.{with_link, PairsAlike}
 use Rattle.link_simulation.specs.Simulation.World.{later_of}
 use Rattle.link_pairs.specs.Pairs.Entries.{Pair, pair_cmp, key_of, link_of, arrival_of, raised_at}
-use Rattle.fair_rates.proofs.Lists.Sorted.{is_eq_equal, value_respects}
+use Rattle.fairness.proofs.Lists.Sorted.{is_eq_equal, value_respects}
 use Rattle.link_pairs.proofs.Pairs.PairOrder.{pair_total, is_eq-then}
 
 module _ {P : Type 0} (cmp : P → P → Ordering) (total : IsTotalOrder cmp) where

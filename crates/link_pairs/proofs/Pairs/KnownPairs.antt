@@ -9,8 +9,8 @@ use Rattle.std.specs.declared.cmp.Ordering.{Ordering}
 use Rattle.std.proofs.lemmas.List.Elements.{All-head, All-tail, All-append, All-replicate}
 use Rattle.std.proofs.lemmas.Option.{slice_get_within}
 use Rattle.undo_list.specs.Versions.{Versions}
-use Rattle.fair_rates.proofs.Lists.Sorted.{either}
-use Rattle.fair_rates.specs.Lists.Sorted.{value_at}
+use Rattle.fairness.proofs.Lists.Sorted.{either}
+use Rattle.fairness.specs.Lists.Sorted.{value_at}
 use Rattle.link_simulation.specs.Simulation.Messages.{with_link, PairsAlike}
 use Rattle.peer_numbers.specs.Pairs.{number_of_pair, is_pair_of, IsWithPair}
 use Rattle.peer_numbers.proofs.OrderedPairs.{number_of_pair-is, number_below}

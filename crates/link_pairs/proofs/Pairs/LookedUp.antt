@@ -2,8 +2,8 @@
 use Rattle.std.proofs.Common.{List, None}
 use Rattle.std.specs.Cmp.{IsTotalOrder}
 use Rattle.std.specs.declared.cmp.Ordering.{Ordering}
-use Rattle.fair_rates.specs.Fairness.UnderCaps.{AreOfPeers}
-use Rattle.fair_rates.proofs.Lists.Sorted.{is_eq_equal, value_respects}
+use Rattle.fairness.specs.Fairness.UnderCaps.{AreOfPeers}
+use Rattle.fairness.proofs.Lists.Sorted.{is_eq_equal, value_respects}
 use Rattle.link_simulation.specs.Simulation.Messages.{PairsAlike}
 use Rattle.link_pairs.specs.Pairs.PeerCaps.{PeerCaps}
 use Rattle.link_pairs.specs.Pairs.Entries.{Pair, arrival_of}

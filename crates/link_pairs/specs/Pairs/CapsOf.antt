@@ -1,7 +1,7 @@
 -- The caps that are kept, as caps by peer and by ordered pair.
 use Rattle.std.specs.Prelude.{List}
 use Rattle.std.specs.declared.cmp.Ordering.{Ordering}
-use Rattle.fair_rates.specs.Sides.Caps.{Caps}
+use Rattle.fairness.specs.Sides.Caps.{Caps}
 use Rattle.link_pairs.specs.Pairs.PeerCaps.{PeerCaps, egress_of, ingress_of}
 use Rattle.link_pairs.specs.Pairs.Entries.{Pair, link_of}
 

@@ -5,10 +5,10 @@ use Rattle.std.specs.declared.cmp.Ordering.{Ordering}
 use Rattle.std.specs.Ordering.{ordering_then}
 use Rattle.undo_list.specs.Versions.{Versions}
 use Rattle.link_pairs.specs.declared.known_pairs.Known.{Known}
-use Rattle.fair_rates.specs.Sides.Subjects.{same_peer}
+use Rattle.fairness.specs.Sides.Subjects.{same_peer}
 use Rattle.link_simulation.specs.Simulation.Messages.{Message}
 use Rattle.link_simulation.specs.Simulation.World.{later_of}
-use Rattle.fair_rates.specs.Lists.Sorted.{value_at}
+use Rattle.fairness.specs.Lists.Sorted.{value_at}
 
 -- how one pair stands to another: by origin, then by recipient
 abbrev pub pair_cmp : {P : Type 0} → (P → P → Ordering) → (P × P) → (P × P) → Ordering

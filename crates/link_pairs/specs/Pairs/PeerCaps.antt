@@ -3,7 +3,7 @@ use Rattle.std.specs.Prelude.{ℕ, ◌≤◌, List, [], ◌∷◌, length, Optio
 use Rattle.std.specs.declared.cmp.Ordering.{Ordering}
 use Rattle.undo_list.specs.Versions.{Versions}
 use Rattle.link_pairs.specs.declared.peers.Caps.{Caps}
-use Rattle.fair_rates.specs.Lists.Sorted.{value_at}
+use Rattle.fairness.specs.Lists.Sorted.{value_at}
 
 -- a peer with its caps
 pub record PeerCaps (P : Type 0) : Type 0 where

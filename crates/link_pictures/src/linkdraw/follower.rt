@@ -1,7 +1,7 @@
 //! A script that is followed.
 
 use super::budget::Budget;
-use fair_rates::error::Error;
+use fairness::error::Error;
 use link_drawings::caps::Side;
 use link_drawings::history::History;
 use link_drawings::options::Options;

@@ -5,7 +5,7 @@ use Rattle.link_scheduler.proofs.Common.{call_enqueue_all, Planned, Obeys, IsSam
 use Rattle.link_scheduler.proofs.Common.{obeys_orderly, obeys_same, same_turned, same_chain, course_went, IsAnswered}
 use Rattle.std.proofs.Common.{inl, inr}
 use Rattle.std.specs.Bool.{⊤}
-use Rattle.fair_rates.specs.declared.error.Error.TheVariants.{OutOfMemory, NumberTooLarge, MomentTooLate, FlowIdsUsedUp}
+use Rattle.fairness.specs.declared.error.Error.TheVariants.{OutOfMemory, NumberTooLarge, MomentTooLate, FlowIdsUsedUp}
 use Rattle.link_simulation.specs.Simulation.Replies.{SameCompletion}
 use Rattle.link_simulation.specs.Simulation.RefusalCauses.{IsRefusedFor}
 use Rattle.link_simulation.specs.Simulation.World.{Course, meets, preceded}

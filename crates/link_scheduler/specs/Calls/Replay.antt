@@ -7,7 +7,7 @@ use Rattle.link_scheduler.specs.declared.replay.Call.TheVariants as calls
 use Rattle.link_scheduler.specs.declared.replay.Reply as reply_code
 use Rattle.link_scheduler.specs.declared.replay.Reply.TheVariants as replies
 use Rattle.link_scheduler.specs.declared.transmitter.State.{State}
-use Rattle.fair_rates.specs.declared.error.Error.{Error}
+use Rattle.fairness.specs.declared.error.Error.{Error}
 use Rattle.link_scheduler.specs.Calls.State.{IsMadeBy, IsRefused, IsNextOf}
 use Rattle.link_events.specs.Steps.Outgoing.{outgoing_by}
 use Rattle.link_pairs.specs.Pairs.Messages.{completed_by}

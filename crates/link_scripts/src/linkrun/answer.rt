@@ -5,11 +5,11 @@ ghost use Rattle.link_scripts.specs.Answer.{rate_line, rates_text, done_line, do
 ghost use Rattle.link_scripts.specs.Answer.{answer_text, reply_text, refusal_line};
 ghost use Rattle.link_scheduler.specs.Calls.Replay.{reply_of};
 ghost use Rattle.link_pairs.specs.Pairs.Messages.{completed_of};
-ghost use Rattle.fair_rates.specs.Refusals.ErrorTexts.{refusal_number};
+ghost use Rattle.fairness.specs.Refusals.ErrorTexts.{refusal_number};
 
 use crate::linkrun::ending::Ending;
-use fair_rates::bandwidth::Rate;
-use fair_rates::error::Error;
+use fairness::bandwidth::Rate;
+use fairness::error::Error;
 use link_scheduler::replay::Reply;
 use link_scheduler::transmitter::{Completion, Contents};
 use std::collections::BTreeMap;

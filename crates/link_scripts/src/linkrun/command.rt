@@ -5,7 +5,7 @@ ghost use Rattle.link_scripts.specs.Script.{IsFlowInRange};
 ghost use Rattle.link_scripts.specs.Words.{words_left};
 
 use crate::linkrun::word::Words;
-use fair_rates::bandwidth::Flow;
+use fairness::bandwidth::Flow;
 use link_scheduler::replay::Call;
 use std::num::NonZeroU64;
 

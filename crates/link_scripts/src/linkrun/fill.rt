@@ -5,7 +5,7 @@ ghost use Rattle.link_events.specs.Steps.Outgoing.{outgoing};
 ghost use Rattle.link_simulation.specs.Simulation.Calls.{call_next};
 ghost use Rattle.link_scripts.specs.Schedule.{world_call, zeroed};
 
-use fair_rates::error::Error;
+use fairness::error::Error;
 use link_scheduler::replay::Call;
 use link_scheduler::transmitter::{Contents, Outgoing};
 use std::alloc::Global;

@@ -6,7 +6,7 @@ ghost use Rattle.link_scheduler.specs.Calls.State.{planned_of};
 ghost use Rattle.link_simulation.specs.Simulation.Calls.{call_enqueue_all};
 
 use crate::linkrun::fill::{fill, fill_all};
-use fair_rates::error::Error;
+use fairness::error::Error;
 use link_scheduler::replay::{Call, Reply};
 use link_scheduler::transmitter::{Contents, Outgoing, State};
 use std::alloc::Global;

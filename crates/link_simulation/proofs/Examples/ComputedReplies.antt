@@ -14,7 +14,7 @@ use Rattle.link_simulation.proofs.Common.{moment_of, Runs, IsInTurn, Reply, repl
 use Rattle.link_simulation.proofs.Common.{SameCompletion, Faults, Agrees, MayRefuse, by_bool}
 use Rattle.std.specs.List.{list_all}
 use Rattle.std.proofs.lemmas.List.Elements.{All-cons}
-use Rattle.fair_rates.specs.Fairness.Fair.{HasBottleneck}
+use Rattle.fairness.specs.Fairness.Fair.{HasBottleneck}
 use Rattle.link_simulation.proofs.Rule.Limit.{no_sides}
 
 -- ---- lists

@@ -4,7 +4,7 @@ use Rattle.link_simulation.proofs.Common.{eqb-true, Amount, drained, whole, redu
 use Rattle.link_simulation.proofs.Common.{World, IsQuiet, flows, NextIs, comes_next, drifted, message, by_bool}
 use Rattle.std.proofs.Common.{lit≤}
 use Rattle.link_simulation.specs.Examples.Rows.{flying}
-use Rattle.fair_rates.proofs.Numbers.Draining.{spent_if_covers, covers_if_spent}
+use Rattle.fairness.proofs.Numbers.Draining.{spent_if_covers, covers_if_spent}
 use Rattle.link_simulation.proofs.Examples.ComputedReplies.{fair_if_so}
 use Rattle.link_simulation.proofs.Simulation.Stretch.{stretch, drifts_on}
 

@@ -10,8 +10,8 @@ use Rattle.link_simulation.proofs.Common.{quiet_tick, Ticks, NextIs, comes_next,
 use Rattle.std.proofs.Common.{le_refl, ◌↔◌}
 use Rattle.std.proofs.lemmas.Bool.{ne_eqb}
 use Rattle.link_simulation.specs.Laws.Alone.{IsTimeFor, IsLeastCap, MayGoAlone, IsDoneAfter}
-use Rattle.fair_rates.specs.Numbers.LowestTerms.{reduced_lowest, whole_IsReduced}
-use Rattle.fair_rates.proofs.Numbers.Draining.{spent_from_least}
+use Rattle.fairness.specs.Numbers.LowestTerms.{reduced_lowest, whole_IsReduced}
+use Rattle.fairness.proofs.Numbers.Draining.{spent_from_least}
 use Rattle.link_simulation.proofs.Simulation.AlikeMessages.{same_itself, pair_itself}
 use Rattle.link_simulation.proofs.Simulation.Continuing.{rates_exist}
 use Rattle.link_simulation.proofs.Rule.FinishEvent.{settle_quiet, ticks_quiet, ticks_through}

@@ -2,7 +2,7 @@
 use Rattle.link_simulation.proofs.Common.{◌≡◌, ℕ, ◌+◌, ◌-◌, ◌*◌, ◌<◌, ◌≤◌, ap, arith, mul-pos, IsAtMost, plus, Amount}
 use Rattle.link_simulation.proofs.Common.{billion, drained, reduced, whole, reduced_positive}
 use Rattle.std.proofs.Math.Nat.{mul-le-mul_left, mul-le-mul_right, le_of_mul-le-mul_right}
-use Rattle.fair_rates.specs.Numbers.LowestTerms.{reduced_worth, IsScaled, reduced_scales}
+use Rattle.fairness.specs.Numbers.LowestTerms.{reduced_worth, IsScaled, reduced_scales}
 
 -- the sum of a and over per is more than the other side
 abbrev pub share : ℕ → ℕ → Amount

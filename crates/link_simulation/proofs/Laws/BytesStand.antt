@@ -8,7 +8,7 @@ use Rattle.link_simulation.proofs.Common.{StandsFor, IsSameFlight, GoesByRule, z
 use Rattle.link_simulation.specs.Laws.Bytes.{bytes_from, left_from, waiting_from, allowance}
 use Rattle.link_simulation.specs.Rule.Simulated.{KeepsToCaps}
 use Rattle.link_simulation.proofs.Simulation.AlikeMessages.{same_itself, pairs_alike, message_itself}
-use Rattle.fair_rates.proofs.Lists.Filters.{length-filter}
+use Rattle.fairness.proofs.Lists.Filters.{length-filter}
 use Rattle.link_simulation.proofs.Laws.Bytes.{advance_loses}
 use Rattle.link_simulation.proofs.Rule.Simulated.{calls_simulated, sound_of_stands, none_waits}
 

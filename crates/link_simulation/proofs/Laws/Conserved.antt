@@ -20,7 +20,7 @@ use Rattle.link_simulation.proofs.Simulation.Queue.{find_passes, any_like}
 use Rattle.link_simulation.proofs.Simulation.SettlingEnds.{find_like}
 use Rattle.link_simulation.proofs.Rule.Launch.{rest_of, head_of, head_found, waits_without}
 use Rattle.link_simulation.proofs.Rule.Enqueue.{queued_last}
-use Rattle.fair_rates.proofs.Lists.Members.{filter_nothing}
+use Rattle.fairness.proofs.Lists.Members.{filter_nothing}
 use Rattle.link_simulation.proofs.Laws.Orderly.{drained_messages, stayed_messages, any_of_fewer, IsSteady, steady}
 use Rattle.link_simulation.proofs.Laws.Orderly.{idle_if_may, launched_steady, account_orderly, launch_orderly}
 use Rattle.link_simulation.proofs.Laws.Orderly.{landed_orderly, finish_orderly, wake_orderly, settle_orderly}

@@ -15,7 +15,7 @@ use Rattle.link_simulation.specs.Laws.Isolation.{AnswersInTurn, AreApart, IsApar
 use Rattle.link_simulation.specs.Laws.Isolation.{answers_in_turn, inside_alone, is_kept, kept_calls, kept_completions}
 use Rattle.link_simulation.specs.Laws.Isolation.{no_calls_in_turn, without_others}
 use Rattle.link_simulation.proofs.Laws.PartRates.{fair_part, at_egress, at_ingress, at_link, SharesNoSide}
-use Rattle.fair_rates.proofs.Lists.Members.{contains_from_in}
+use Rattle.fairness.proofs.Lists.Members.{contains_from_in}
 use Rattle.link_simulation.proofs.Simulation.SettlingEnds.{ends_and_then, ends_cond, each_ends, NoneDone, settle_rests}
 use Rattle.link_simulation.proofs.Simulation.FilteredFronts.{find_kept, none_kept}
 use Rattle.link_simulation.proofs.Simulation.Split.{ticks_on}

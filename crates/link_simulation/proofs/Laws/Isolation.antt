@@ -17,8 +17,8 @@ use Rattle.link_simulation.proofs.Laws.Bytes.{wake_none, wake_first, ready_is_fi
 use Rattle.link_simulation.proofs.Simulation.FilteredFronts.{first_kept, first_dropped, none_kept, find_kept, any_kept}
 use Rattle.link_simulation.proofs.Simulation.FilteredFronts.{filter_swap, fronts_kept, least_kept}
 use Rattle.link_simulation.proofs.Simulation.PairOrder.{least_none}
-use Rattle.fair_rates.proofs.Lists.Each.{each_find, each_without}
-use Rattle.fair_rates.proofs.Lists.Filters.{none_long}
+use Rattle.fairness.proofs.Lists.Each.{each_find, each_without}
+use Rattle.fairness.proofs.Lists.Filters.{none_long}
 use Rattle.link_simulation.proofs.Simulation.QuietInstants.{settle_nothing}
 
 module _ {P : Type 0} (cmp : P → P → Ordering) (order : IsTotalOrder cmp) (inside : P → Bool)

@@ -15,7 +15,7 @@ use Rattle.link_simulation.proofs.Common.{finish_stops, start_stops, launched, O
 use Rattle.link_simulation.proofs.Common.{one_stops, enqueues_one, In, Each, zip-length, by_bool}
 use Rattle.link_simulation.specs.Laws.MostEvents.{most_events}
 use Rattle.link_simulation.specs.Rule.Planned.{IsPlanned}
-use Rattle.fair_rates.proofs.Lists.Members.{in_filter}
+use Rattle.fairness.proofs.Lists.Members.{in_filter}
 use Rattle.link_simulation.proofs.Simulation.SettlingEnds.{find_like, length_without}
 use Rattle.link_simulation.proofs.Simulation.Queue.{find_passes, pair_sym}
 use Rattle.link_simulation.proofs.Laws.Bytes.{each_filter}

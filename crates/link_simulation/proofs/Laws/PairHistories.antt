@@ -17,7 +17,7 @@ use Rattle.link_simulation.proofs.Simulation.Queue.{by_option}
 use Rattle.link_simulation.proofs.Simulation.SettlingEnds.{find_like}
 use Rattle.link_simulation.proofs.Laws.Bytes.{wake_none, each_least, each_filter}
 use Rattle.link_simulation.proofs.Simulation.OtherPairs.{fronts_are_first}
-use Rattle.fair_rates.proofs.Lists.Members.{filter_nothing}
+use Rattle.fairness.proofs.Lists.Members.{filter_nothing}
 use Rattle.link_simulation.proofs.Simulation.Sound.{raised_peerwise}
 
 -- ---- lists

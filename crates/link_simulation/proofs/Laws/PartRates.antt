@@ -6,11 +6,11 @@ use Rattle.link_simulation.proofs.Common.{All-contains, Side, load, IsFair, flag
 use Rattle.link_simulation.proofs.Common.{same_pair, is_delivered, AreFair, Parts, capped_sides, sides_for, rates_from}
 use Rattle.link_simulation.proofs.Common.{is_unlimited, All-from_contains, In, places_from, rules, by_bool}
 use Rattle.std.proofs.lemmas.List.Sums.{sum_by-cons}
-use Rattle.fair_rates.specs.Fairness.Fair.{IsLimited, HasBottleneck}
+use Rattle.fairness.specs.Fairness.Fair.{IsLimited, HasBottleneck}
 use Rattle.link_simulation.specs.Simulation.Rates.{capped_side}
-use Rattle.fair_rates.proofs.Lists.Members.{in_from_contains, contains_from_in, in_either, in_filter, from_filter}
-use Rattle.fair_rates.proofs.Lists.Members.{in_get, from_flat_map, in_flat_map}
-use Rattle.fair_rates.proofs.Lists.Places.{place_here, passes_here}
+use Rattle.fairness.proofs.Lists.Members.{in_from_contains, contains_from_in, in_either, in_filter, from_filter}
+use Rattle.fairness.proofs.Lists.Members.{in_get, from_flat_map, in_flat_map}
+use Rattle.fairness.proofs.Lists.Places.{place_here, passes_here}
 
 -- which of the caps makes a side
 pub data Kind : Type 0 where

@@ -9,7 +9,7 @@ use Rattle.link_simulation.proofs.Common.{Follows, IsSameFlight, Tallies, leavin
 use Rattle.link_simulation.proofs.Simulation.LowestTerms.{drained_by_lowest, drained_none}
 use Rattle.link_simulation.proofs.Simulation.Queue.{any_filter}
 use Rattle.link_simulation.proofs.Simulation.AlikeMessages.{unlimited_alike}
-use Rattle.fair_rates.proofs.Lists.Each.{each_at}
+use Rattle.fairness.proofs.Lists.Each.{each_at}
 use Rattle.link_simulation.proofs.Simulation.Rates.{all_rated}
 
 -- ---- lists

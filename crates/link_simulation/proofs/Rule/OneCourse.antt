@@ -13,7 +13,7 @@ use Rattle.link_simulation.proofs.Common.{no_finish, starts_one, Wakes, Settles,
 use Rattle.link_simulation.proofs.Common.{some_sending, Enqueues, at_once, no_launch, launches, Advances, no_more}
 use Rattle.link_simulation.proofs.Common.{at_finish, at_start, finish_stops, start_stops, Obeys, EnqueuesEach}
 use Rattle.link_simulation.proofs.Common.{all_enqueued, one_stops, enqueues_one}
-use Rattle.fair_rates.specs.Numbers.LowestTerms.{reduced_same}
+use Rattle.fairness.specs.Numbers.LowestTerms.{reduced_same}
 use Rattle.link_simulation.proofs.Simulation.AlikeMessages.{same_itself}
 use Rattle.link_simulation.proofs.Simulation.Rates.{Match, rates_match}
 

@@ -10,7 +10,7 @@ use Rattle.link_simulation.proofs.Common.{Settles, settling, Rebalances, none_se
 use Rattle.link_simulation.proofs.Common.{no_launch, launches, completed_at_once, with_queued, Advances, no_more}
 use Rattle.link_simulation.proofs.Common.{at_finish, at_start, finish_stops, start_stops, launched, landed, Each}
 use Rattle.link_simulation.proofs.Common.{each_joined, each_map, each_filtered}
-use Rattle.fair_rates.proofs.Lists.Each.{each_find, each_without}
+use Rattle.fairness.proofs.Lists.Each.{each_find, each_without}
 use Rattle.link_simulation.proofs.Simulation.SettlingEnds.{find_like, length_without}
 use Rattle.link_simulation.proofs.Simulation.Queue.{find_passes}
 

@@ -12,7 +12,7 @@ use Rattle.std.proofs.lemmas.List.{length-append}
 use Rattle.std.proofs.lemmas.List.Elements.{All-head}
 use Rattle.link_simulation.specs.Rule.Range.{AreInRange, IsCallInRange}
 use Rattle.link_simulation.specs.Laws.Replies.{RefusesForMemoryAlone}
-use Rattle.fair_rates.proofs.Lists.Each.{each_of_all, all_of_both}
+use Rattle.fairness.proofs.Lists.Each.{each_of_all, all_of_both}
 use Rattle.link_simulation.proofs.Laws.PairCompletions.{enqueued_split}
 use Rattle.link_simulation.proofs.Rule.Range.{Holds, IsNear, IsNearFlight, GoesWell, rebalances_well, enqueues_well}
 use Rattle.link_simulation.proofs.Rule.Range.{advances_well, goes_on}

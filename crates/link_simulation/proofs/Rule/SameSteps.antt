@@ -8,7 +8,7 @@ use Rattle.link_simulation.proofs.Common.{RatedFlight, IsLeastMoment, SomeSpentA
 use Rattle.link_simulation.proofs.Common.{rated_messages, left_at, drained_to, next_of, queued, may_launch, is_spent}
 use Rattle.link_simulation.proofs.Common.{launched, landed, with_queued, completed_at_once, IsSameRatedFlight}
 use Rattle.link_simulation.proofs.Common.{IsSamePlanned, Amount, whole, zip-filter, zip-append}
-use Rattle.fair_rates.proofs.Lists.Zips.{zip-if}
+use Rattle.fairness.proofs.Lists.Zips.{zip-if}
 use Rattle.link_simulation.proofs.Simulation.InOrder.{before_alike}
 use Rattle.link_simulation.specs.Rule.SamePlanned.{IsSameCourse}
 use Rattle.link_simulation.proofs.Simulation.AlikeMessages.{peers_alike, pairs_alike, message_itself, any_alike}

@@ -15,7 +15,7 @@ use Rattle.link_simulation.proofs.Simulation.Queue.{over_state, settles_as_queue
 use Rattle.link_simulation.proofs.Simulation.AlikeMessages.{delivered_alike, peers_alike}
 use Rattle.link_simulation.proofs.Rule.Accounts.{leavers_alike, account_follows}
 use Rattle.link_simulation.proofs.Simulation.SettlingEnds.{settle_rests}
-use Rattle.fair_rates.proofs.Lists.Filters.{length-filter}
+use Rattle.fairness.proofs.Lists.Filters.{length-filter}
 
 -- ---- lists
 

@@ -7,7 +7,7 @@ use Rattle.link_simulation.proofs.Common.{sides_for, rates_from, egress_side, in
 use Rattle.link_simulation.proofs.Simulation.Queue.{peer_like, both_alike}
 use Rattle.std.proofs.lemmas.Cmp.{tied_itself}
 use Rattle.link_simulation.specs.Simulation.Rates.{capped_side}
-use Rattle.fair_rates.proofs.Lists.Places.{places_alike}
+use Rattle.fairness.proofs.Lists.Places.{places_alike}
 
 module _ {P : Type 0} (cmp : P → P → Ordering) (order : IsTotalOrder cmp) where
   pub same_itself : (p : P) → same_peer cmp p p ≡ true

@@ -7,8 +7,8 @@ use Rattle.link_simulation.proofs.Common.{Message, Caps, Parts, AreFair, capped_
 use Rattle.link_simulation.proofs.Common.{no_time, quiet_tick, Ticks, no_tick, one_tick, tick_faults, NextIs}
 use Rattle.link_simulation.proofs.Common.{never_comes, comes_next, drifted}
 use Rattle.std.proofs.Common.{le_refl}
-use Rattle.fair_rates.proofs.Fairness.Denominators.{denominator_of}
-use Rattle.fair_rates.proofs.Filling.FairPartsExist.{fair_parts}
+use Rattle.fairness.proofs.Fairness.Denominators.{denominator_of}
+use Rattle.fairness.proofs.Filling.FairPartsExist.{fair_parts}
 use Rattle.link_simulation.proofs.Simulation.AlikeMessages.{same_itself}
 use Rattle.link_simulation.proofs.Simulation.QuietInstants.{next_moment, passes_end_at}
 use Rattle.link_simulation.proofs.Simulation.SideUsers.{users_below, users_distinct}

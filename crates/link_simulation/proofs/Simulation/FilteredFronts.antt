@@ -8,7 +8,7 @@ use Rattle.std.specs.Ordering.{ordering_reverse}
 use Rattle.std.proofs.lemmas.Cmp.{alike_right}
 use Rattle.link_simulation.proofs.Simulation.PairOrder.{pair_cmp, pairs_total, least_none, not_before_itself}
 use Rattle.link_simulation.proofs.Simulation.PairOrder.{not_before_back}
-use Rattle.fair_rates.proofs.Lists.Sorted.{is_lt_less}
+use Rattle.fairness.proofs.Lists.Sorted.{is_lt_less}
 use Rattle.std.proofs.lemmas.Bool.{false_from_ne_true}
 use Rattle.link_simulation.proofs.Laws.Bytes.{each_filter, each_least}
 

@@ -3,8 +3,8 @@ use Rattle.link_simulation.proofs.Common.{◌≡◌, ℕ, zero, suc, ◌+◌, �
 use Rattle.link_simulation.proofs.Common.{Option, IfSome, mul-pos, Amount, billion, drained, reduced, whole, IsLowest}
 use Rattle.link_simulation.proofs.Common.{drained_by, reduced_positive}
 use Rattle.std.proofs.Math.Nat.{mul_comm, mul-le-mul_right}
-use Rattle.fair_rates.specs.Numbers.LowestTerms.{IsScaled, reduced_scales, reduced_scaled, reduced_alike}
-use Rattle.fair_rates.proofs.Numbers.Draining.{drained_twice, spent_if_covers, covers_if_spent}
+use Rattle.fairness.specs.Numbers.LowestTerms.{IsScaled, reduced_scales, reduced_scaled, reduced_alike}
+use Rattle.fairness.proofs.Numbers.Draining.{drained_twice, spent_if_covers, covers_if_spent}
 
 pub reduced_lowest : (n d : ℕ) → 0 < d → IsLowest (reduced n d)
 reduced_lowest n d h =

@@ -2,7 +2,7 @@
 use Rattle.link_simulation.proofs.Common.{◌≡◌, ℕ, suc, ◌*◌, ◌<◌, List, [], ◌∷◌, length, Option, Some, None, refl, sym}
 use Rattle.link_simulation.proofs.Common.{ap, ◌∙◌, arith, true, Ordering, same_peer, Amount, drained, Flight, World}
 use Rattle.link_simulation.proofs.Common.{flows, Parts, drained_by, rate_of, ArePositive, Drains, drain_each}
-use Rattle.fair_rates.specs.Numbers.LowestTerms.{reduced_same}
+use Rattle.fairness.specs.Numbers.LowestTerms.{reduced_same}
 use Rattle.link_simulation.proofs.Simulation.Rates.{Match, one_each, rates_match}
 
 module _ {P : Type 0} (cmp : P → P → Ordering) where

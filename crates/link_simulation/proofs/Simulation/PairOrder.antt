@@ -10,7 +10,7 @@ use Rattle.std.proofs.lemmas.Cmp.{on_total, tied_itself}
 use Rattle.link_simulation.specs.Simulation.Pass.{IsBeforeEach, IsByPair, by_pair, insert_by_pair}
 use Rattle.link_simulation.proofs.Simulation.OtherPairs.{each_more}
 use Rattle.link_simulation.proofs.Simulation.AlikeMessages.{pair_itself}
-use Rattle.fair_rates.proofs.Lists.Sorted.{is_lt_less}
+use Rattle.fairness.proofs.Lists.Sorted.{is_lt_less}
 
 lt_turned : (r : Ordering) → is_lt (ordering_reverse r) ≡ is_gt r
 lt_turned Less = refl

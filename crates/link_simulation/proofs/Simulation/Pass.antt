@@ -15,7 +15,7 @@ use Rattle.link_simulation.proofs.Simulation.OtherPairs.{each_more, each_of, fin
 use Rattle.link_simulation.proofs.Simulation.OtherPairs.{pair_other, ends_more, fronts_are_first, ready_without}
 use Rattle.link_simulation.proofs.Simulation.OtherPairs.{start_settles, any_none}
 use Rattle.link_simulation.proofs.Simulation.AlikeMessages.{pair_itself}
-use Rattle.fair_rates.proofs.Lists.Filters.{none_long}
+use Rattle.fairness.proofs.Lists.Filters.{none_long}
 use Rattle.link_simulation.proofs.Simulation.PairOrder.{apart_if_before, least_none, least_is, found_in, as_each}
 use Rattle.link_simulation.proofs.Simulation.PairOrder.{find_nowhere, find_by_pair, ordered_by_pair}
 

@@ -9,7 +9,7 @@ use Rattle.link_simulation.proofs.Common.{start, start_next, is_late, completed,
 use Rattle.link_simulation.proofs.Common.{out_of_waiting, joined, launch_then, finish_within, Message, OneForEachPair}
 use Rattle.link_simulation.proofs.Common.{same_pair, FlowIdsUsedUp, MomentTooLate, by_bool}
 use Rattle.std.proofs.lemmas.List.{append-nil}
-use Rattle.fair_rates.proofs.Lists.Sorted.{is_eq_equal}
+use Rattle.fairness.proofs.Lists.Sorted.{is_eq_equal}
 
 -- ---- courses
 

@@ -5,9 +5,9 @@ use Rattle.link_simulation.proofs.Common.{◌||◌, slice_get, is_none, if◌the
 use Rattle.link_simulation.proofs.Common.{Contains-append_left, Contains-append_right, Side, same_peer, Message, Caps}
 use Rattle.link_simulation.proofs.Common.{is_delivered, Parts, sides_for, capped_sides, is_unlimited, rates_from}
 use Rattle.link_simulation.proofs.Common.{AreFair, egress_side, ingress_side, link_side, places_from, by_bool}
-use Rattle.fair_rates.specs.Fairness.Fair.{IsLimited}
-use Rattle.fair_rates.proofs.Fairness.OneAllocation.{same_amounts}
-use Rattle.fair_rates.proofs.Lists.Places.{place_here}
+use Rattle.fairness.specs.Fairness.Fair.{IsLimited}
+use Rattle.fairness.proofs.Fairness.OneAllocation.{same_amounts}
+use Rattle.fairness.proofs.Lists.Places.{place_here}
 
 -- ---- lists
 

@@ -4,9 +4,9 @@ use Rattle.link_simulation.proofs.Common.{IsTotalOrder, Side, same_peer, Message
 use Rattle.link_simulation.proofs.Common.{All-from_contains}
 use Rattle.std.specs.Prelude.{◌≢◌}
 use Rattle.std.specs.List.{AllPairs}
-use Rattle.fair_rates.specs.Fairness.Laws.{HaveUsersBelow}
-use Rattle.fair_rates.proofs.Lists.Places.{places_apart, places_below}
-use Rattle.fair_rates.proofs.Sides.UserCounts.{HaveDistinctUsers}
+use Rattle.fairness.specs.Fairness.Laws.{HaveUsersBelow}
+use Rattle.fairness.proofs.Lists.Places.{places_apart, places_below}
+use Rattle.fairness.proofs.Sides.UserCounts.{HaveDistinctUsers}
 use Rattle.link_simulation.proofs.Laws.PartRates.{Kind, cap_at, side_at, from_sides}
 
 module _ {P : Type 0} (cmp : P → P → Ordering) (order : IsTotalOrder cmp)

@@ -3,7 +3,7 @@ use Rattle.link_simulation.proofs.Common.{◌≡◌, ℕ, zero, suc, ◌+◌, �
 use Rattle.link_simulation.proofs.Common.{refl, ap, subst, arith, add-one, Ordering, Amount, reduced, reduced_positive}
 use Rattle.link_simulation.proofs.Common.{Flight, IsQuiet, World, flows, AreFair, Parts, drained_by, rate_of}
 use Rattle.link_simulation.proofs.Common.{ArePositive, Drains, Passes, drain_each, drifted, no_time, quiet_tick}
-use Rattle.fair_rates.proofs.Numbers.Draining.{drained_twice}
+use Rattle.fairness.proofs.Numbers.Draining.{drained_twice}
 
 module _ {P : Type 0} (cmp : P → P → Ordering) where
   pub drained_at_twice : (per : ℕ) (rate : Option ℕ) (a b : ℕ) (left : Amount) → 0 < per → 0 < left.den

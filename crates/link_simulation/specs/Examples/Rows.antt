@@ -8,9 +8,9 @@ use Rattle.link_simulation.specs.Simulation.World.{World, Completed, completion_
 use Rattle.link_simulation.specs.Simulation.Calls.{Call, call_limit, call_limit_link, call_enqueue, call_advance}
 use Rattle.link_simulation.specs.Simulation.Calls.{call_enqueue_all, call_next, limited_by}
 use Rattle.link_simulation.specs.Simulation.Replies.{Reply, reply_done, reply_next, reply_refused}
-use Rattle.fair_rates.specs.declared.error.Error.TheVariants.{OutOfMemory, MomentTooLate}
+use Rattle.fairness.specs.declared.error.Error.TheVariants.{OutOfMemory, MomentTooLate}
 use Rattle.link_simulation.specs.Rule.Planned.{RatedFlight, Planned, new_planned}
-use Rattle.fair_rates.specs.Numbers.Amount.{Amount, whole}
+use Rattle.fairness.specs.Numbers.Amount.{Amount, whole}
 
 -- an order by which all peers are equal
 abbrev pub all_equal : ℕ → ℕ → Ordering

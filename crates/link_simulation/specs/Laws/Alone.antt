@@ -1,8 +1,8 @@
 -- One message alone under caps.
 use Rattle.std.specs.Prelude.{◌≡◌, ℕ, ◌+◌, ◌<◌, ◌≤◌, [], ◌∷◌, All, Contains, true, Some}
 use Rattle.std.specs.declared.cmp.Ordering.{Ordering}
-use Rattle.fair_rates.specs.Numbers.Amount.{whole, IsLeastTime}
-use Rattle.fair_rates.specs.Fairness.Fair.{Side}
+use Rattle.fairness.specs.Numbers.Amount.{whole, IsLeastTime}
+use Rattle.fairness.specs.Fairness.Fair.{Side}
 use Rattle.link_simulation.specs.Simulation.Messages.{Message, Caps}
 use Rattle.link_simulation.specs.Simulation.Rates.{capped_sides}
 use Rattle.link_simulation.specs.Simulation.World.{World, goes, completed, is_in_order, last_moment}

@@ -3,10 +3,10 @@ use Rattle.std.specs.Prelude.{◌≡◌, ◌≢◌, ℕ, ◌+◌, ◌<◌, ◌�
 use Rattle.std.specs.Prelude.{false, not, ◌&&◌, cond, if◌then◌else◌, Option, Some, None, nat_lt, IfSome}
 use Rattle.std.specs.List.{filter, AllZip}
 use Rattle.std.specs.declared.cmp.Ordering.{Ordering}
-use Rattle.fair_rates.specs.Lists.WithoutFirst.{without_first}
-use Rattle.fair_rates.specs.declared.error.Error.{Error}
-use Rattle.fair_rates.specs.declared.error.Error.TheVariants.{MomentTooLate, FlowIdsUsedUp}
-use Rattle.fair_rates.specs.Numbers.Amount.{whole}
+use Rattle.fairness.specs.Lists.WithoutFirst.{without_first}
+use Rattle.fairness.specs.declared.error.Error.{Error}
+use Rattle.fairness.specs.declared.error.Error.TheVariants.{MomentTooLate, FlowIdsUsedUp}
+use Rattle.fairness.specs.Numbers.Amount.{whole}
 use Rattle.link_simulation.specs.Simulation.Messages.{Message, Caps, same_pair}
 use Rattle.link_simulation.specs.Simulation.Rates.{Parts, rate_of, AreFair}
 use Rattle.link_simulation.specs.Simulation.World.{Completed, completion_of, Course, goes, meets, last_moment, preceded}

@@ -3,7 +3,7 @@ use Rattle.std.specs.Prelude.{⊤, ◌≡◌, ℕ, ◌+◌, ◌-◌, ◌≤◌, 
 use Rattle.std.specs.Prelude.{◌&&◌, ◌||◌, if◌then◌else◌, Option, Some, None, ◌==◌, MatchOption, slice_get}
 use Rattle.std.specs.List.{find, list_any, AllZip}
 use Rattle.std.specs.declared.cmp.Ordering.{Ordering}
-use Rattle.fair_rates.specs.Numbers.Amount.{Amount}
+use Rattle.fairness.specs.Numbers.Amount.{Amount}
 use Rattle.link_simulation.specs.Simulation.Messages.{Message, Caps, no_caps, same_pair, pair_before}
 use Rattle.link_simulation.specs.Simulation.Rates.{Parts, rate_of, drained_by, is_unlimited, AreFair}
 use Rattle.link_simulation.specs.Simulation.World.{last_moment, is_in_order}

@@ -2,7 +2,7 @@
 use Rattle.std.specs.Prelude.{◌≡◌, ⊤, List, [], ◌∷◌}
 use Rattle.std.specs.List.{AllZip}
 use Rattle.std.specs.declared.cmp.Ordering.{Ordering}
-use Rattle.fair_rates.specs.declared.error.Error.{Error}
+use Rattle.fairness.specs.declared.error.Error.{Error}
 use Rattle.link_simulation.specs.Simulation.RefusalCauses.{IsRefusedFor}
 use Rattle.link_simulation.specs.Simulation.World.{Completed, goes, meets}
 use Rattle.link_simulation.specs.Simulation.Calls.{Call, call_next}

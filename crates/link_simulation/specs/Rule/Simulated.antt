@@ -2,10 +2,10 @@
 use Rattle.std.specs.Prelude.{◌≡◌, ℕ, ◌-◌, ◌<◌, ◌≤◌, List, ◌++◌, Option, Some, IfSome}
 use Rattle.std.specs.List.{AllZip}
 use Rattle.std.specs.declared.cmp.Ordering.{Ordering}
-use Rattle.fair_rates.specs.declared.error.Error.{Error}
-use Rattle.fair_rates.specs.declared.error.Error.TheVariants.{OutOfMemory}
-use Rattle.fair_rates.specs.Numbers.Amount.{plus}
-use Rattle.fair_rates.specs.Fairness.Laws.{IsAtMost}
+use Rattle.fairness.specs.declared.error.Error.{Error}
+use Rattle.fairness.specs.declared.error.Error.TheVariants.{OutOfMemory}
+use Rattle.fairness.specs.Numbers.Amount.{plus}
+use Rattle.fairness.specs.Fairness.Laws.{IsAtMost}
 use Rattle.link_simulation.specs.Simulation.RefusalCauses.{IsRefusedFor}
 use Rattle.link_simulation.specs.Simulation.World.{World, Completed, goes}
 use Rattle.link_simulation.specs.Simulation.Time.{NextIs}

@@ -2,7 +2,7 @@
 use Rattle.std.specs.Prelude.{◌≡◌, ⊤, ℕ, ◌+◌, ◌-◌, ◌<◌, ◌≤◌, List, [], ◌∷◌, ◌++◌, true, ◌&&◌}
 use Rattle.std.specs.Prelude.{cond, if◌then◌else◌, Option, Some, None, nat_lt, IfSome}
 use Rattle.std.specs.declared.cmp.Ordering.{Ordering}
-use Rattle.fair_rates.specs.declared.error.Error.TheVariants.{MomentTooLate}
+use Rattle.fairness.specs.declared.error.Error.TheVariants.{MomentTooLate}
 use Rattle.link_simulation.specs.Simulation.Messages.{Message, Caps, with_cap, with_link}
 use Rattle.link_simulation.specs.Simulation.World.{World, Completed, completion_of, Course, goes, meets, last_moment}
 use Rattle.link_simulation.specs.Simulation.World.{and_then}

@@ -3,8 +3,8 @@ use Rattle.std.specs.Prelude.{◌≡◌, ⊤, ℕ, List, [], ◌∷◌, Bool, tr
 use Rattle.std.specs.List.{list_any}
 use Rattle.std.specs.declared.cmp.Ordering.{Ordering}
 use Rattle.std.specs.Ordering.{is_lt, ordering_then}
-pub use Rattle.fair_rates.specs.Sides.Caps.{Caps, no_caps, with_cap, with_link, AnswerAlike, PairsAlike, CapsAlike}
-use Rattle.fair_rates.specs.Sides.Subjects.{same_peer}
+pub use Rattle.fairness.specs.Sides.Caps.{Caps, no_caps, with_cap, with_link, AnswerAlike, PairsAlike, CapsAlike}
+use Rattle.fairness.specs.Sides.Subjects.{same_peer}
 
 -- what one peer sends to another; its latency is in nanoseconds
 pub record Message (P : Type 0) : Type 0 where

@@ -3,8 +3,8 @@
 use Rattle.std.specs.Prelude.{ℕ, zero, suc, ◌+◌, List, [], ◌∷◌, ◌++◌, not, cond, Option, Some, None, nat_le}
 use Rattle.std.specs.List.{filter}
 use Rattle.std.specs.declared.cmp.Ordering.{Ordering}
-use Rattle.fair_rates.specs.Lists.WithoutFirst.{without_first}
-use Rattle.fair_rates.specs.declared.error.Error.TheVariants.{MomentTooLate, FlowIdsUsedUp}
+use Rattle.fairness.specs.Lists.WithoutFirst.{without_first}
+use Rattle.fairness.specs.declared.error.Error.TheVariants.{MomentTooLate, FlowIdsUsedUp}
 use Rattle.link_simulation.specs.Simulation.Messages.{Message, same_pair}
 use Rattle.link_simulation.specs.Simulation.World.{World, Flight, Completed, Course, goes, meets, last_moment, preceded}
 use Rattle.link_simulation.specs.Simulation.World.{raised, may_start, first_waiting, is_done, arrival, is_late}

@@ -3,11 +3,11 @@ use Rattle.std.specs.Prelude.{◌≡◌, ℕ, ◌+◌, ◌<◌, List, [], ◌∷
 use Rattle.std.specs.Prelude.{if◌then◌else◌, Option, Some, None, is_none}
 use Rattle.std.specs.List.{flat_map}
 use Rattle.std.specs.declared.cmp.Ordering.{Ordering}
-use Rattle.fair_rates.specs.Numbers.Amount.{Amount, whole, reduced, drained}
-use Rattle.fair_rates.specs.Fairness.Fair.{Side, IsFair}
-use Rattle.fair_rates.specs.Sides.Subjects.{same_peer}
+use Rattle.fairness.specs.Numbers.Amount.{Amount, whole, reduced, drained}
+use Rattle.fairness.specs.Fairness.Fair.{Side, IsFair}
+use Rattle.fairness.specs.Sides.Subjects.{same_peer}
 use Rattle.link_simulation.specs.Simulation.Messages.{Message, Caps, is_delivered}
-use Rattle.fair_rates.specs.Lists.Places.{places_from}
+use Rattle.fairness.specs.Lists.Places.{places_from}
 
 -- the rates of messages in parts, so many of which are one byte a second; none is a rate without limit
 abbrev pub Parts : Type 0

@@ -2,9 +2,9 @@
 use Rattle.std.specs.Prelude.{◌≡◌, ⊤, ℕ, List, [], ◌∷◌, true, Option, Some}
 use Rattle.std.specs.List.{AllZip}
 use Rattle.std.specs.declared.cmp.Ordering.{Ordering}
-use Rattle.fair_rates.specs.declared.error.Error.{Error}
+use Rattle.fairness.specs.declared.error.Error.{Error}
 use Rattle.link_simulation.specs.Simulation.RefusalCauses.{IsRefusedFor}
-use Rattle.fair_rates.specs.Sides.Subjects.{same_peer}
+use Rattle.fairness.specs.Sides.Subjects.{same_peer}
 use Rattle.link_simulation.specs.Simulation.World.{World, Completed, goes, meets}
 use Rattle.link_simulation.specs.Simulation.Time.{NextIs}
 use Rattle.link_simulation.specs.Simulation.Calls.{Call}

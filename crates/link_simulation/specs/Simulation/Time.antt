@@ -2,7 +2,7 @@
 use Rattle.std.specs.Prelude.{⊤, ◌≡◌, ℕ, zero, suc, ◌+◌, ◌-◌, ◌<◌, ◌≤◌, List, [], ◌∷◌, false, Option}
 use Rattle.std.specs.Prelude.{Some, None}
 use Rattle.std.specs.declared.cmp.Ordering.{Ordering}
-use Rattle.fair_rates.specs.declared.error.Error.{Error}
+use Rattle.fairness.specs.declared.error.Error.{Error}
 use Rattle.link_simulation.specs.Simulation.Messages.{CapsAlike, PairsAlike, OneForEachPair}
 use Rattle.link_simulation.specs.Simulation.Rates.{Parts, rate_of, drained_by, AreFair}
 use Rattle.link_simulation.specs.Simulation.World.{World, Flight, Completed, Course, goes, meets, last_moment, preceded}

@@ -7,8 +7,8 @@ ghost use Rattle.link_simulation.specs.Simulation.World.{new_world};
 ghost use Rattle.link_simulation.specs.Simulation.Calls.{call_limit, call_limit_link, call_enqueue, call_advance};
 ghost use Rattle.link_simulation.specs.Simulation.Calls.{call_enqueue_all, call_next};
 ghost use Rattle.link_simulation.specs.Simulation.Replies.{reply_done, reply_next, reply_refused, Agrees};
-ghost use Rattle.fair_rates.specs.declared.error.Error.TheVariants.{OutOfMemory, NumberTooLarge};
-ghost use Rattle.fair_rates.specs.declared.error.Error.TheVariants.{MomentTooLate, FlowIdsUsedUp};
+ghost use Rattle.fairness.specs.declared.error.Error.TheVariants.{OutOfMemory, NumberTooLarge};
+ghost use Rattle.fairness.specs.declared.error.Error.TheVariants.{MomentTooLate, FlowIdsUsedUp};
 ghost use Rattle.link_simulation.specs.Examples.Rows.{message, dropped, arrives, is_gone, a_byte_a_nanosecond};
 ghost use Rattle.link_simulation.specs.Examples.Rows.{calls_of_a_late_list};
 

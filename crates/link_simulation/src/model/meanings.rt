@@ -5,9 +5,9 @@ ghost use Rattle.std.specs.Prelude.{◌≡◌, ℕ, ◌+◌, ◌-◌, ◌*◌, �
 ghost use Rattle.std.specs.Prelude.{◌∷◌, Bool, true, Option, Some, None, nat_lt, take};
 ghost use Rattle.std.specs.List.{AllZip, filter};
 ghost use Rattle.std.specs.Ordering.{nat_cmp};
-ghost use Rattle.fair_rates.specs.Numbers.Amount.{Amount, whole, parts_over};
-ghost use Rattle.fair_rates.specs.declared.error.Error.{Error as AnyError};
-ghost use Rattle.fair_rates.specs.declared.error.Error.TheVariants.{NumberTooLarge, MomentTooLate, FlowIdsUsedUp};
+ghost use Rattle.fairness.specs.Numbers.Amount.{Amount, whole, parts_over};
+ghost use Rattle.fairness.specs.declared.error.Error.{Error as AnyError};
+ghost use Rattle.fairness.specs.declared.error.Error.TheVariants.{NumberTooLarge, MomentTooLate, FlowIdsUsedUp};
 ghost use Rattle.link_simulation.specs.Laws.Alone.{IsTimeFor, IsLeastCap, MayGoAlone, IsDoneAfter};
 ghost use Rattle.link_simulation.specs.Simulation.World.{World, Completed, new_world, completed, completion_of, goes};
 ghost use Rattle.link_simulation.specs.Simulation.World.{flight_of, EndsWith};

@@ -9,7 +9,7 @@ ghost use Rattle.link_simulation.specs.Simulation.Calls.{call_limit, call_limit_
 ghost use Rattle.link_simulation.specs.Simulation.Calls.{call_next};
 ghost use Rattle.link_simulation.specs.Simulation.Replies.{reply_done, reply_next, reply_refused};
 ghost use Rattle.link_simulation.specs.Rule.Refusals.{Obeyed};
-ghost use Rattle.fair_rates.specs.declared.error.Error.TheVariants.{MomentTooLate, FlowIdsUsedUp};
+ghost use Rattle.fairness.specs.declared.error.Error.TheVariants.{MomentTooLate, FlowIdsUsedUp};
 ghost use Rattle.link_simulation.specs.Examples.Rows.{message, dropped, arrives, is_gone, a_byte_a_nanosecond};
 ghost use Rattle.link_simulation.specs.Examples.Rows.{calls_of_a_follower, replies_of_a_follower};
 ghost use Rattle.link_simulation.specs.Examples.Rows.{calls_of_a_list, replies_of_a_list};

@@ -3,9 +3,9 @@
 ghost use Rattle.std.specs.Prelude.{◌≡◌, ℕ, ◌-◌, Bool, Contains, List, [], ◌∷◌, Some, map};
 ghost use Rattle.std.specs.Ordering.{nat_cmp};
 ghost use Rattle.std.specs.List.{filter};
-ghost use Rattle.fair_rates.specs.Numbers.Amount.{plus};
-ghost use Rattle.fair_rates.specs.Fairness.Laws.{IsAtMost};
-ghost use Rattle.fair_rates.specs.Fairness.Part.{flagged};
+ghost use Rattle.fairness.specs.Numbers.Amount.{plus};
+ghost use Rattle.fairness.specs.Fairness.Laws.{IsAtMost};
+ghost use Rattle.fairness.specs.Fairness.Part.{flagged};
 ghost use Rattle.link_simulation.specs.Simulation.Messages.{Message, Caps};
 ghost use Rattle.link_simulation.specs.Simulation.Rates.{Parts, AreFair};
 ghost use Rattle.link_simulation.specs.Simulation.World.{World, new_world, Completed, goes};

@@ -1,8 +1,8 @@
 //! Planned worlds that are the same up to equal peers.
 ghost use Rattle.std.specs.Prelude.{◌≡◌, ⊤, ◌∷◌, [], List};
 ghost use Rattle.std.specs.Ordering.{nat_cmp};
-ghost use Rattle.fair_rates.specs.declared.error.Error.{Error as AnyError};
-ghost use Rattle.fair_rates.specs.declared.error.Error.TheVariants.{MomentTooLate, FlowIdsUsedUp};
+ghost use Rattle.fairness.specs.declared.error.Error.{Error as AnyError};
+ghost use Rattle.fairness.specs.declared.error.Error.TheVariants.{MomentTooLate, FlowIdsUsedUp};
 ghost use Rattle.link_simulation.specs.Simulation.World.{World, Completed, Course, goes, meets, new_world};
 ghost use Rattle.link_simulation.specs.Simulation.Calls.{Call};
 ghost use Rattle.link_simulation.specs.Simulation.Replies.{Reply};

@@ -1,6 +1,6 @@
 //! What a call that goes by the event rule, or is refused by it, does in the simulation.
 ghost use Rattle.std.specs.Prelude.{◌≡◌, ℕ, ◌<◌, ◌≤◌, List, ◌∷◌, Some, IfSome};
-ghost use Rattle.fair_rates.specs.declared.error.Error.{Error as AnyError};
+ghost use Rattle.fairness.specs.declared.error.Error.{Error as AnyError};
 ghost use Rattle.link_simulation.specs.Simulation.Messages.{Message};
 ghost use Rattle.link_simulation.specs.Simulation.World.{World, Completed, last_moment, new_world, IsQuiet, Course};
 ghost use Rattle.link_simulation.specs.Simulation.World.{goes, preceded};

@@ -21,7 +21,7 @@ use crate::linkcheck::difference::off_by;
 use crate::linkcheck::in_turn::OutOfTurn;
 use crate::linkcheck::lines::NEWLINE;
 use crate::linkcheck::{Fault, in_turn};
-use fair_rates::error::Error;
+use fairness::error::Error;
 use link_scheduler::replay::{Call, Reply};
 use link_scheduler::transmitter::{Contents, State};
 use link_scripts::linkrun::fill::fill;

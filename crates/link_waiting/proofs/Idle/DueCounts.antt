@@ -6,7 +6,7 @@ use Rattle.link_waiting.proofs.Common.{first_of_both, second_of_both, get_or, li
 use Rattle.link_waiting.proofs.Common.{list_all-mono}
 use Rattle.std.proofs.lemmas.Cmp.{tied_itself, alike_right}
 use Rattle.std.proofs.lemmas.List.Sorted.{sorted_far}
-use Rattle.fair_rates.proofs.Lists.Sorted.{all_from_within}
+use Rattle.fairness.proofs.Lists.Sorted.{all_from_within}
 
 -- how many pass
 abbrev pub how_many : {X : Type 0} → (X → Bool) → List X → ℕ

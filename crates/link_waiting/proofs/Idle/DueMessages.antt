@@ -13,9 +13,9 @@ use Rattle.std.proofs.lemmas.Cmp.{tied_back}
 use Rattle.std.proofs.Math.Bool.{and-false}
 use Rattle.link_simulation.specs.Simulation.World.{fronts}
 use Rattle.link_waiting.specs.Idle.Starting.{ready_messages}
-use Rattle.fair_rates.proofs.Sides.Subjects.{peer_sym}
-use Rattle.fair_rates.proofs.Lists.Sorted.{is_eq_equal}
-use Rattle.fair_rates.proofs.Lists.Zips.{zip_weaker}
+use Rattle.fairness.proofs.Sides.Subjects.{peer_sym}
+use Rattle.fairness.proofs.Lists.Sorted.{is_eq_equal}
+use Rattle.fairness.proofs.Lists.Zips.{zip_weaker}
 use Rattle.link_waiting.proofs.Idle.DueCounts.{how_many, same_many, never_many, filter_many}
 use Rattle.link_waiting.proofs.Idle.DueCounts.{is_rising, of_key, rising_same}
 use Rattle.link_waiting.proofs.Idle.FirstStart.{may_from}

@@ -11,7 +11,7 @@ use Rattle.link_waiting.proofs.Common.{is_eq-then, pair_of_key}
 use Rattle.std.specs.List.{sum_by}
 use Rattle.std.specs.List.Sorted.{IsPermutation}
 use Rattle.std.proofs.lemmas.List.Sorted.{sum_by-IsPermutation}
-use Rattle.fair_rates.proofs.Lists.Sorted.{is_lt_less}
+use Rattle.fairness.proofs.Lists.Sorted.{is_lt_less}
 use Rattle.least_moment.specs.Moments.{IsLeast}
 use Rattle.link_simulation.proofs.Simulation.AlikeMessages.{pair_itself}
 use Rattle.link_waiting.proofs.Idle.Due.{comes, has_come_if, come, due_comes, each_due, many_due, any_many}

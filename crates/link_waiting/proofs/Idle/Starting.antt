@@ -7,9 +7,9 @@ use Rattle.link_waiting.proofs.Common.{same_peer, first_moment, first_of, Messag
 use Rattle.link_waiting.proofs.Common.{same_peer_itself, Planned, rated_messages, may_launch, queued, may_launch_first}
 use Rattle.link_waiting.proofs.Common.{find_passes, pair_like, last_moment, with_queued, any_like}
 use Rattle.std.proofs.Common.{IfOk}
-use Rattle.fair_rates.specs.declared.error.Error.{Error}
-use Rattle.fair_rates.specs.declared.error.Error.TheVariants.{FlowIdsUsedUp}
-use Rattle.fair_rates.specs.Numbers.Amount.{whole}
+use Rattle.fairness.specs.declared.error.Error.{Error}
+use Rattle.fairness.specs.declared.error.Error.TheVariants.{FlowIdsUsedUp}
+use Rattle.fairness.specs.Numbers.Amount.{whole}
 use Rattle.link_simulation.specs.Simulation.World.{goes, meets, is_in_order}
 use Rattle.link_simulation.specs.Rule.Events.{Launches, nothing_waits, too_early, no_id, starts, Accounts, launched}
 

@@ -1,10 +1,10 @@
 -- When idle pairs may start.
 use Rattle.std.specs.Prelude.{◌≡◌, ℕ, ◌+◌, ◌&&◌, [], ◌∷◌, ◌++◌, length, Some}
 use Rattle.std.specs.declared.cmp.Ordering.{Ordering}
-use Rattle.fair_rates.specs.Lists.WithoutFirst.{without_first}
+use Rattle.fairness.specs.Lists.WithoutFirst.{without_first}
 use Rattle.link_pairs.specs.Pairs.Entries.{first_of}
-use Rattle.fair_rates.specs.Numbers.Amount.{whole}
-use Rattle.fair_rates.specs.Sides.Subjects.{same_peer}
+use Rattle.fairness.specs.Numbers.Amount.{whole}
+use Rattle.fairness.specs.Sides.Subjects.{same_peer}
 use Rattle.link_simulation.specs.Simulation.Messages.{Message}
 use Rattle.link_simulation.specs.Rule.Planned.{Planned}
 

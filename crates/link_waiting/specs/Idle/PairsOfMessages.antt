@@ -2,7 +2,7 @@
 use Rattle.std.specs.Prelude.{◌≡◌, true}
 use Rattle.std.specs.declared.cmp.Ordering.{Ordering}
 use Rattle.link_pairs.specs.declared.pair.PeerPair.{PeerPair}
-use Rattle.fair_rates.specs.Sides.Subjects.{same_peer}
+use Rattle.fairness.specs.Sides.Subjects.{same_peer}
 use Rattle.link_simulation.specs.Simulation.Messages.{Message}
 
 -- the message is of that ordered pair

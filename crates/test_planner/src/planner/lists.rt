@@ -1,6 +1,6 @@
 //! Lists of flows and caps in a fixed order that looks like none.
 use super::network::{Cap, Network, Side};
-use fair_rates::bandwidth::Flow;
+use fairness::bandwidth::Flow;
 use std::alloc::Global;
 use std::test::Fail;
 

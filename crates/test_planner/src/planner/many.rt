@@ -2,7 +2,7 @@
 use super::network::{Cap, Side, finite, has_rate, sent};
 use super::{linked_rates, rates};
 use crate::same::same;
-use fair_rates::bandwidth::{Flow, Rate};
+use fairness::bandwidth::{Flow, Rate};
 use std::alloc::Global;
 use std::collections::BTreeMap;
 use std::process::Abort;

@@ -1,8 +1,8 @@
 //! Flows between numbered peers under caps that never change, for the tests of the planner.
 use super::{counted_rates, linked_counted_rates};
-use fair_rates::bandwidth::{Flow, Rate};
-use fair_rates::error::Error;
-use fair_rates::ratio::Ratio;
+use fairness::bandwidth::{Flow, Rate};
+use fairness::error::Error;
+use fairness::ratio::Ratio;
 use numbered_peers::Numbered;
 use std::alloc::Global;
 use std::collections::BTreeMap;

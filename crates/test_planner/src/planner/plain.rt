@@ -1,8 +1,8 @@
 //! A plain judge of rates, and a plain planner.
 use super::network::{Cap, Network, Side};
-use fair_rates::bandwidth::{Flow, Rate};
-use fair_rates::error::Error;
-use fair_rates::ratio::Ratio;
+use fairness::bandwidth::{Flow, Rate};
+use fairness::error::Error;
+use fairness::ratio::Ratio;
 use std::alloc::Global;
 
 /// What the judge finds.

@@ -1,8 +1,8 @@
 //! Many flows: which rates fit in fractions of 128 bits, and which do not.
 use super::network::{Cap, Network, Planned, Side, expect_rate, plan, plan_linked, sent};
 use crate::same::same;
-use fair_rates::bandwidth::Flow;
-use fair_rates::error::Error;
+use fairness::bandwidth::Flow;
+use fairness::error::Error;
 use std::alloc::Global;
 use std::process::Abort;
 use std::test::Fail;

@@ -1,7 +1,7 @@
 //! Rates next to 2^128.
 use super::network::{Cap, Network, Planned, Side, expect_rate, plan, plan_linked, sent};
 use crate::same::same;
-use fair_rates::error::Error;
+use fairness::error::Error;
 use std::process::Abort;
 use std::test::Fail;
 

@@ -2,9 +2,9 @@ use Rattle.fair_rates.proofs.Common.{rules, nat_cmp}
 use Rattle.std.proofs.Common.{of_calls}
 use Rattle.std.specs.BTreeMap.{get}
 use Rattle.std.proofs.lemmas.Result.{IfOk-weaker}
-use Rattle.fair_rates.proofs.Fairness.AnswersUnderCaps.{fair_under_caps, refused_under_caps}
-use Rattle.fair_rates.proofs.Sides.Callable.{callable_on_each_pair}
-use Rattle.fair_rates.proofs.Sides.NoLinks.{counted_without_links, refused_without_links}
+use Rattle.fairness.proofs.Fairness.AnswersUnderCaps.{fair_under_caps, refused_under_caps}
+use Rattle.fairness.proofs.Sides.Callable.{callable_on_each_pair}
+use Rattle.fairness.proofs.Sides.NoLinks.{counted_without_links, refused_without_links}
 use Rattle.fair_rates.proofs.bandwidth.allocate_counted.Goals as goal
 
 pub allocate_linked_counted-requires-clause-link : goal.allocate_linked_counted-requires-clause-link

@@ -1,9 +1,9 @@
 use Rattle.fair_rates.proofs.Common.{◌≡◌, length, inl, inr, subst, sym, ap, ◌∙◌, arith, common_steps, length-map}
 use Rattle.fair_rates.proofs.Common.{side_of, HasDifferentRates, last_rate}
 use Rattle.fair_rates.proofs.Fairness.AllocatedRates.{counted}
-use Rattle.fair_rates.proofs.Fairness.Allocation.{allocates_under_caps}
-use Rattle.fair_rates.proofs.Fairness.AnswersUnderCaps.{refused_under_caps}
-use Rattle.fair_rates.proofs.Filling.Frozen.{if_err}
+use Rattle.fairness.proofs.Fairness.Allocation.{allocates_under_caps}
+use Rattle.fairness.proofs.Fairness.AnswersUnderCaps.{refused_under_caps}
+use Rattle.fairness.proofs.Filling.Frozen.{if_err}
 use Rattle.fair_rates.proofs.Filling.Rates.{rates_are_fair, rates_are_different, large_rate}
 use Rattle.fair_rates.proofs.Refusals.AnswersTooLarge.{too_large}
 use Rattle.fair_rates.proofs.bandwidth.allocate_linked_counted.Goals as goal

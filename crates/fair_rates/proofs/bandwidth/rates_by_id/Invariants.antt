@@ -2,7 +2,7 @@ use Rattle.fair_rates.proofs.Common.{◌≡◌, ℕ, nat_cmp, last_rate}
 use Rattle.std.specs.BTreeMap.{get}
 use Rattle.std.specs.Iterator.Adapters.{zip_first, zip_second}
 use Rattle.std.specs.Slice.Iter.{iter_rest}
-use Rattle.fair_rates.specs.Fairness.Rates.{or_else}
+use Rattle.fairness.specs.Fairness.Rates.{or_else}
 use Rattle.fair_rates.proofs.bandwidth.rates_by_id.Given as goal
 
 abbrev pub invariant-loop-flow : goal.invariant-loop-flow

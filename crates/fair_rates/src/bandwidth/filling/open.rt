@@ -3,8 +3,8 @@ ghost use Rattle.std.specs.Prelude.{◌≡◌, ◌*◌, ◌/◌, ◌^◌, ◌<�
 ghost use Rattle.std.specs.Cmp.{partial_equiv_from_equiv, eq_by_cmp_equiv, partial_order_from_total};
 ghost use Rattle.std.specs.Ordering.{eq_by_cmp};
 ghost use Rattle.std.proofs.Common.{refl};
-ghost use Rattle.fair_rates.specs.Numbers.Fraction.{fraction_cmp};
-ghost use Rattle.fair_rates.specs.Numbers.FractionOrder.{fraction_total};
+ghost use Rattle.fairness.specs.Numbers.Fraction.{fraction_cmp};
+ghost use Rattle.fairness.specs.Numbers.FractionOrder.{fraction_total};
 
 use natural::Natural;
 use std::alloc::AllocError;
@@ -73,8 +73,9 @@ impl Ord for OpenSide {
 
 impl OpenSide {
     ghost use Rattle.std.specs.Prelude.{◌≡◌, ℕ, ◌⊎◌, All, IfSome, IfOk, MatchOption};
-    ghost use Rattle.fair_rates.specs.Fairness.Fair.{Side as WholeSide};
-    ghost use Rattle.fair_rates.specs.Filling.States.{frozen_at, AllRise, AllFrozen, AreInside, HaveNoMore};
+    ghost use Rattle.fairness.specs.Fairness.Fair.{Side as WholeSide};
+    ghost use Rattle.fairness.specs.Filling.Frozen.{AllRise, AllFrozen};
+    ghost use Rattle.fair_rates.specs.Filling.States.{frozen_at, AreInside, HaveNoMore};
     ghost use Rattle.fair_rates.specs.Filling.States.{IsWithinSlack};
     ghost use Rattle.fair_rates.specs.Filling.States.{KeepsAccount, IsGrown};
 

@@ -1,11 +1,11 @@
 //! Why flows with weights were refused.
 ghost use Rattle.std.specs.Prelude.{◌≡◌};
-ghost use Rattle.fair_rates.specs.declared.error.Error.TheVariants.{OutOfMemory};
+ghost use Rattle.fairness.specs.declared.error.Error.TheVariants.{OutOfMemory};
 ghost use Rattle.fair_routes.specs.declared.routes.error.RouteError.TheVariants.{Refused};
 ghost use Rattle.fair_routes.specs.declared.routes.weighted.error.WeightError.TheVariants.{Routes};
 
 use crate::routes::RouteError;
-use fair_rates::error::Error;
+use fairness::error::Error;
 use std::alloc::{AllocError, AllocFailed};
 
 /// Why flows with weights were refused. What was given stays as it is.

@@ -1,7 +1,7 @@
 //! What each one of weight has while the flows rise.
 ghost use Rattle.std.specs.Prelude.{◌≡◌, ◌*◌, ◌<◌, ℕ, [], None, IfOk, OnOk, All, length, map, replicate};
 ghost use Rattle.std.specs.Prelude.{Some, option_map, unwrap_or};
-ghost use Rattle.fair_rates.specs.Fairness.Exists.{product as product_of};
+ghost use Rattle.fairness.specs.Fairness.Exists.{product as product_of};
 ghost use Rattle.fair_routes.specs.Network.Rising.{AreWeighed, HasFrozen};
 
 use fair_rates::bandwidth::FairParts;

@@ -2,14 +2,14 @@ use Rattle.link_events.proofs.Common.{◌≡◌, ℕ, not, map, Result, Ok, Err,
 use Rattle.link_events.proofs.Common.{AllZip, Ordering, Flights, drained_to, is_spent, rated_messages, in_flight}
 use Rattle.link_events.proofs.Common.{in_units, is_out, IsFloorOf, AreFairlyRated, rated_ones, sending_of, messages}
 use Rattle.link_events.proofs.Common.{message_of, caps_of, ∥∥₁_map}
-use Rattle.fair_rates.proofs.Lists.Zips.{zip_weaker}
+use Rattle.fairness.proofs.Lists.Zips.{zip_weaker}
 use Rattle.link_flights.specs.Flights.Flight.{DrainsTo}
 use Rattle.link_flights.specs.Flights.InFlight.{loose_in}
 use Rattle.link_flights.specs.Flights.Rated.{IsAsRated, ArePartedBy}
 use Rattle.link_flights.specs.Flights.Rated.{DifferWhereLoose}
 use Rattle.link_flights.proofs.Flights.Rated.{drained_as_rated, drained_sending, still_fair_after, still_limited, still_differ}
 use Rattle.link_flights.proofs.Flights.Rated.{limited_if_so, timed_if_so}
-use Rattle.fair_rates.proofs.Lists.Members.{In, from_filter}
+use Rattle.fairness.proofs.Lists.Members.{In, from_filter}
 use Rattle.link_flights.proofs.Flights.Rated.{out_as_read, stay_as_read}
 use Rattle.link_events.proofs.Steps.OneEach.{one_if_so, one_stays}
 use Rattle.link_events.proofs.leave.part.Goals as goal

@@ -1,5 +1,5 @@
 use Rattle.link_flights.proofs.Common.{◌≡◌, ◌∙◌, sym, arith, subst, IsGcd, gcd, gcd-mod, gcd-IsGcd}
-use Rattle.fair_rates.specs.Numbers.Gcd.{gcd-zero}
+use Rattle.fairness.specs.Numbers.Gcd.{gcd-zero}
 use Rattle.link_flights.proofs.flight.common_factor.Goals as goal
 
 pub loop-rest-preserved : goal.loop-rest-preserved

@@ -4,7 +4,7 @@ use Rattle.std.proofs.lemmas.List.{map-append, take_more}
 use Rattle.std.proofs.Math.Seq.{take-length}
 use Rattle.link_simulation.specs.Simulation.World.{Completed}
 use Rattle.link_simulation.specs.Simulation.Replies.{SameCompletion}
-use Rattle.fair_rates.proofs.Lists.Zips.{zip-push}
+use Rattle.fairness.proofs.Lists.Zips.{zip-push}
 use Rattle.link_pairs.specs.declared.completion.Ended.{Ended}
 use Rattle.link_pairs.specs.Pairs.Messages.{completed_by, ended_of}
 use Rattle.link_pairs.proofs.completion.answers_of.Goals as goal

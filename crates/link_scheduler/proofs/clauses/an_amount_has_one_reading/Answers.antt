@@ -1,7 +1,7 @@
 use Rattle.link_scheduler.proofs.Common.{◌≡◌, ℕ, refl, ap, ◌∙◌, arith, Amount}
 use Rattle.std.proofs.Common.{Bool, true, false}
-use Rattle.fair_rates.specs.Numbers.Amount.{whole}
-use Rattle.fair_rates.specs.Numbers.Ratio.{amount_of}
+use Rattle.fairness.specs.Numbers.Amount.{whole}
+use Rattle.fairness.specs.Numbers.Ratio.{amount_of}
 use Rattle.link_flights.specs.Flights.Readings.{IsGreatestWhole}
 use Rattle.link_scheduler.proofs.clauses.an_amount_has_one_reading.Goals as goal
 

@@ -2,7 +2,7 @@ use Rattle.link_scheduler.proofs.Common.{◌≡◌, ◌+◌, ℕ, List, [], ◌�
 use Rattle.link_scheduler.proofs.Common.{arith, AllZip, map-append, Message, SameMessage, outgoing}
 use Rattle.std.proofs.lemmas.List.{take_more}
 use Rattle.std.proofs.Math.Seq.{take-length}
-use Rattle.fair_rates.proofs.Lists.Zips.{zip-push}
+use Rattle.fairness.proofs.Lists.Zips.{zip-push}
 use Rattle.link_events.specs.declared.outgoing.Outgoing.{Outgoing}
 use Rattle.link_scheduler.proofs.replay.copies_of.Goals as goal
 

@@ -1,5 +1,5 @@
 use Rattle.std.proofs.Common.{of_calls}
-use Rattle.fair_rates.proofs.Sides.Callable.{callable_on_each}
+use Rattle.fairness.proofs.Sides.Callable.{callable_on_each}
 use Rattle.p2p_simulated_hostile.proofs.rates.plan.Goals as goal
 
 pub allocate-requires-clause-egress : goal.allocate-requires-clause-egress

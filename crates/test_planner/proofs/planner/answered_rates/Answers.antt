@@ -1,5 +1,5 @@
 use Rattle.std.proofs.Common.{of_calls}
-use Rattle.fair_rates.proofs.Sides.Callable.{callable_on_each, callable_on_each_pair}
+use Rattle.fairness.proofs.Sides.Callable.{callable_on_each, callable_on_each_pair}
 use Rattle.test_planner.proofs.planner.answered_rates.Goals as goal
 
 pub allocate_linked-requires-clause-egress : goal.allocate_linked-requires-clause-egress

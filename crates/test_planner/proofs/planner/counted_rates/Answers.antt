@@ -1,5 +1,5 @@
 use Rattle.std.proofs.Common.{of_calls}
-use Rattle.fair_rates.proofs.Sides.Callable.{callable_on_each}
+use Rattle.fairness.proofs.Sides.Callable.{callable_on_each}
 use Rattle.test_planner.proofs.planner.counted_rates.Goals as goal
 
 pub allocate_counted-requires-clause-egress : goal.allocate_counted-requires-clause-egress

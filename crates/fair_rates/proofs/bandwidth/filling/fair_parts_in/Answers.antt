@@ -4,7 +4,7 @@ use Rattle.fair_rates.proofs.Common.{frozen_at, top, IsQueue, IsShareQueue, AreA
 use Rattle.fair_rates.proofs.Common.{flow_parts, side_of, OpenSide}
 use Rattle.std.proofs.lemmas.List.{length-replicate}
 use Rattle.fair_rates.specs.Filling.States.{IsLeast}
-use Rattle.fair_rates.proofs.Filling.Frozen.{some_of_if, match_some, match_none, on_some_of}
+use Rattle.fairness.proofs.Filling.Frozen.{some_of_if, match_some, match_none, on_some_of}
 use Rattle.fair_rates.proofs.Filling.Levels.{few_more}
 use Rattle.fair_rates.proofs.Filling.Steps.{IsCourse, IsTaken, course_none, round, limited, fair}
 use Rattle.fair_rates.proofs.bandwidth.filling.fair_parts_in.Goals as goal

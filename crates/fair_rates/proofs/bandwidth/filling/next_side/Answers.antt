@@ -3,7 +3,7 @@ use Rattle.fair_rates.proofs.Common.{Reverse, common_steps, All-tail, All-weaker
 use Rattle.fair_rates.proofs.Common.{IsWithinSlack, OpenSide}
 use Rattle.std.proofs.lemmas.List.Sorted.{sum_by_popped, sum_by_pushed}
 use Rattle.fair_rates.proofs.Filling.Account.{risers_have_no_more}
-use Rattle.fair_rates.proofs.Filling.Frozen.{match_none}
+use Rattle.fairness.proofs.Filling.Frozen.{match_none}
 use Rattle.fair_rates.proofs.Filling.Queue.{queue_permuted, queue_counted, queue_filled, all_filled, sound_popped}
 use Rattle.fair_rates.proofs.Filling.Queue.{sound_pushed, above_counted, least_first}
 use Rattle.fair_rates.proofs.bandwidth.filling.next_side.Goals as goal

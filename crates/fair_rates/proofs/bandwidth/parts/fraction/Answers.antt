@@ -5,7 +5,7 @@ use Rattle.std.specs.Prelude.{◌↔◌}
 use Rattle.fair_rates.proofs.Filling.Fractions.{product_next, product_positive, shared_is, shared_positive}
 use Rattle.fair_rates.proofs.Filling.Fractions.{rest_positive, lowest_next, worth_next, large_numerator}
 use Rattle.fair_rates.proofs.Filling.Fractions.{large_denominator}
-use Rattle.fair_rates.proofs.Filling.Frozen.{none_by, ok_by, not_some, if_err, some_of_if}
+use Rattle.fairness.proofs.Filling.Frozen.{none_by, ok_by, not_some, if_err, some_of_if}
 use Rattle.fair_rates.proofs.bandwidth.parts.fraction.Goals as goal
 
 pub loop-factor-init : goal.loop-factor-init

@@ -1,6 +1,6 @@
 use Rattle.fair_rates.proofs.Common.{refl, [], ◌∙◌, ◌≡◌, arith, take, ◌<◌, CalledAt, TakesAt, CalledAtTwo, TakesAtTwo}
 use Rattle.fair_rates.proofs.Common.{take_all, Answered}
-use Rattle.fair_rates.proofs.Lists.AllPairs.{AllPairs-from_later}
+use Rattle.fairness.proofs.Lists.AllPairs.{AllPairs-from_later}
 use Rattle.fair_rates.proofs.Sides.Registry.{finds_sides}
 use Rattle.fair_rates.proofs.Sides.FlowByFlow.{passed, origin_next, recipient_next, pair_next}
 use Rattle.fair_rates.proofs.Sides.Users.{users_of}

@@ -1,6 +1,6 @@
 use Rattle.fair_rates.proofs.Common.{drop, CalledAt, TakesAt, CalledAtTwo, TakesAtTwo, CallableOnEach}
 use Rattle.fair_rates.proofs.Common.{CallableOnEachPair, recipients, pairs}
-use Rattle.fair_rates.specs.Sides.Answers.{origins}
+use Rattle.fairness.specs.Sides.Answers.{origins}
 use Rattle.fair_rates.proofs.Sides.FlowByFlow.{Passed}
 use Rattle.fair_rates.proofs.bandwidth.sides.sides.Given as goal
 

@@ -1,7 +1,7 @@
 use Rattle.fair_routes.proofs.Common.{◌++◌, ◌∷◌, ℕ, List, [], map, sym, ap, ◌∙◌, subst, map-append, AllZip}
 use Rattle.fair_routes.proofs.Common.{IsNumbered, deref}
 use Rattle.std.proofs.Common.{Vec, Global}
-use Rattle.fair_rates.proofs.Lists.Zips.{zip-push}
+use Rattle.fairness.proofs.Lists.Zips.{zip-push}
 use Rattle.fair_routes.proofs.routes.network.numbered_routes.Goals as goal
 
 abbrev items : Vec ℕ Global → List ℕ

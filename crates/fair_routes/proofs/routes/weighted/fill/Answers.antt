@@ -5,8 +5,8 @@ use Rattle.fair_routes.proofs.Common.{product, Side, side_of, IsFilledTo, frozen
 use Rattle.fair_routes.proofs.Common.{HasFrozen, weighted, Room, with_items, get_or_past, with_items_is}
 use Rattle.std.proofs.Math.Nat.{mul-pos}
 use Rattle.fair_routes.specs.declared.routes.sides.LinkSide as declared
-use Rattle.fair_rates.proofs.Filling.Frozen.{match_some, match_none}
-use Rattle.fair_rates.proofs.Filling.Rounds.{start}
+use Rattle.fairness.proofs.Filling.Frozen.{match_some, match_none}
+use Rattle.fairness.proofs.Filling.Rounds.{start}
 use Rattle.fair_routes.proofs.Network.ByWeight.{round_on, fewer_rise, fair_at_end, limited_at_end}
 use Rattle.fair_routes.proofs.routes.weighted.fill.Goals as goal
 

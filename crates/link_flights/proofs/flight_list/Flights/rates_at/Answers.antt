@@ -2,7 +2,7 @@ use Rattle.link_flights.proofs.Common.{◌<◌, All, map, length, sym, ap, ◌�
 use Rattle.link_flights.proofs.Common.{slice_get-get_or, limits, contains_from_in, in_map, in_get, side_of, caps_of}
 use Rattle.link_flights.proofs.Common.{looked_up, in_units, left_caps, flows_of, flow_in_flight, length-map, those_of}
 use Rattle.link_flights.proofs.Common.{rates_found, places_below, flow_parts}
-use Rattle.fair_rates.proofs.Fairness.ByMembers.{fair_of_members}
+use Rattle.fairness.proofs.Fairness.ByMembers.{fair_of_members}
 use Rattle.link_flights.proofs.Flights.AllSides.{of_left, parts_found}
 use Rattle.link_flights.proofs.Flights.Components.{fair_alike}
 use Rattle.link_flights.proofs.Flights.Sides.{as_many}

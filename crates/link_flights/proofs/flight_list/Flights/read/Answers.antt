@@ -1,6 +1,6 @@
 use Rattle.link_flights.proofs.Common.{◌≡◌, ◌<◌, length, get_or, sym, subst, arith, reduced, RatedFlight, flight_at}
 use Rattle.link_flights.proofs.Common.{rated_flight_of, in_flight, IsReadAs, IsReadingOf}
-use Rattle.fair_rates.proofs.Lists.Copied.{copied_more, copied_all}
+use Rattle.fairness.proofs.Lists.Copied.{copied_more, copied_all}
 use Rattle.link_flights.proofs.Flights.Standing.{length_in_flight, there_in_flight}
 use Rattle.link_flights.proofs.flight_list.Flights.read.Goals as goal
 

@@ -1,7 +1,7 @@
 use Rattle.link_waiting.proofs.Common.{◌≡◌, ℕ, ◌+◌, ◌<◌, Option, Some, IfSome, List, [], ◌∷◌, ◌++◌, length, arith, sym}
 use Rattle.link_waiting.proofs.Common.{subst, find, AllZip, unwrap_or, message_of, PeerPair, NamesPairOf, Waiter}
 use Rattle.link_waiting.proofs.Common.{waiter_of, live, has_pair, due_below, IsDue}
-use Rattle.fair_rates.proofs.Lists.Zips.{zip-push}
+use Rattle.fairness.proofs.Lists.Zips.{zip-push}
 use Rattle.link_pairs.specs.declared.message.Message.{Message}
 use Rattle.link_waiting.proofs.Idle.Due.{up_to_next, due_of_next, one_and_next}
 use Rattle.link_waiting.proofs.slots.Slots.due.Given.{Over}

@@ -1,7 +1,7 @@
 use Rattle.std.proofs.Common.{of_calls, rules}
 use Rattle.p2p_simulated_c.proofs.Common.{IfOk-weaker, IfErr-weaker, caps_in}
-use Rattle.fair_rates.proofs.Sides.Answers.{answers_if_unchanged, pair_answers_if_unchanged}
-use Rattle.fair_rates.proofs.Sides.Callable.{callable_on_each, callable_on_each_pair}
+use Rattle.fairness.proofs.Sides.Answers.{answers_if_unchanged, pair_answers_if_unchanged}
+use Rattle.fairness.proofs.Sides.Callable.{callable_on_each, callable_on_each_pair}
 use Rattle.p2p_simulated_c.proofs.planner.Caps.rates.Goals as goal
 
 -- the closures may be called

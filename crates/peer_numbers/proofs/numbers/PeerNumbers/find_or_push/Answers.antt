@@ -1,7 +1,7 @@
 use Rattle.std.proofs.Common.{rules, ◌≡◌, ◌++◌, ◌∷◌, [], cond, length, None, Some, subst, ap, sym, ◌∙◌}
 use Rattle.std.specs.declared.cmp.Ordering.TheVariants.{Equal}
 use Rattle.std.specs.Map.{lookup}
-use Rattle.fair_rates.specs.Sides.Subjects.{same_peer}
+use Rattle.fairness.specs.Sides.Subjects.{same_peer}
 use Rattle.peer_numbers.specs.Peers.{number_of, AreNumbered}
 use Rattle.peer_numbers.proofs.Peers.{more, number_of-last}
 use Rattle.peer_numbers.proofs.numbers.PeerNumbers.find_or_push.Given.{Over}

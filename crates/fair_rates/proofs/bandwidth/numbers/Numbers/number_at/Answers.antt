@@ -1,7 +1,7 @@
 use Rattle.fair_rates.proofs.Common.{◌≡◌, ◌<◌, Some, ap, sym, ◌∙◌, get_or, length, arith, lookup, option_or, is_eq}
 use Rattle.fair_rates.proofs.Common.{Equal, get_or_default}
 use Rattle.std.proofs.lemmas.Bool.{ltb-true}
-use Rattle.fair_rates.proofs.Lists.Sorted.{is_eq_equal}
+use Rattle.fairness.proofs.Lists.Sorted.{is_eq_equal}
 use Rattle.fair_rates.proofs.Sides.Numbers.{at_place, stands}
 use Rattle.fair_rates.proofs.bandwidth.numbers.Numbers.number_at.Goals as goal
 

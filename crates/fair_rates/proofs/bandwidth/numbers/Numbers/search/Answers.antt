@@ -1,7 +1,7 @@
 use Rattle.fair_rates.proofs.Common.{◌≡◌, ◌+◌, ◌-◌, length, rules, arith, subst, sym, ap, ◌∙◌, common_steps, is_lt}
 use Rattle.fair_rates.proofs.Common.{IsGap}
 use Rattle.std.proofs.lemmas.List.Sorted.{answers_always}
-use Rattle.fair_rates.proofs.Lists.Sorted.{searched, is_lt_less}
+use Rattle.fairness.proofs.Lists.Sorted.{searched, is_lt_less}
 use Rattle.fair_rates.proofs.Sides.Numbers.{after_last}
 use Rattle.fair_rates.proofs.bandwidth.numbers.Numbers.search.Goals as goal
 

@@ -1,6 +1,6 @@
 use Rattle.fair_rates.proofs.Common.{ap, ◌∙◌, product}
 use Rattle.fair_rates.proofs.Filling.Fractions.{product_push}
-use Rattle.fair_rates.proofs.Filling.Frozen.{on_ok}
+use Rattle.fairness.proofs.Filling.Frozen.{on_ok}
 use Rattle.fair_rates.proofs.bandwidth.parts.FairParts.grow.Goals as goal
 
 pub returns-clause-growth : goal.returns-clause-growth

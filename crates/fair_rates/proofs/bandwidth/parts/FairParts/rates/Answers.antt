@@ -1,6 +1,6 @@
 use Rattle.fair_rates.proofs.Common.{◌<◌, ◌∷◌, [], ℕ, None, length, get_or, subst, sym, ap, ◌∙◌, arith}
 use Rattle.fair_rates.proofs.Common.{length-append, get_or_default, IsRateAt, level_at, Rate, Finite}
-use Rattle.fair_rates.proofs.Filling.Frozen.{some_of_if}
+use Rattle.fairness.proofs.Filling.Frozen.{some_of_if}
 use Rattle.fair_rates.proofs.Filling.Rates.{rated_push}
 use Rattle.fair_rates.proofs.bandwidth.parts.FairParts.rates.Goals as goal
 use Rattle.fair_rates.proofs.bandwidth.parts.FairParts.rates.Goals.{in-Some, in-None}

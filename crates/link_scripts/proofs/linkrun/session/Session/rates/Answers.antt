@@ -1,6 +1,6 @@
 use Rattle.link_scripts.proofs.Common.{rules, nat_cmp, get}
 use Rattle.std.proofs.Common.{of_calls}
-use Rattle.fair_rates.proofs.Sides.Callable.{callable_on_each, callable_on_each_pair}
+use Rattle.fairness.proofs.Sides.Callable.{callable_on_each, callable_on_each_pair}
 use Rattle.link_scripts.proofs.CapAnswers.{rates_if_ok, refused_if_err}
 use Rattle.link_scripts.specs.Session.{said_caps}
 use Rattle.link_scripts.proofs.linkrun.session.Session.rates.Goals as goal

@@ -2,7 +2,7 @@ use Rattle.fair_rates.proofs.Common.{◌≡◌, ◌≢◌, ℕ, ◌+◌, ◌*◌
 use Rattle.fair_rates.proofs.Common.{sym, subst, common_steps, All-weaker, get_or_default, level_at, frozen_at}
 use Rattle.fair_rates.proofs.Common.{at_level}
 use Rattle.fair_rates.proofs.Filling.Account.{still_within, account_more, all_counted, rest_of}
-use Rattle.fair_rates.proofs.Filling.Frozen.{at_some, some_of_if}
+use Rattle.fairness.proofs.Filling.Frozen.{at_some, some_of_if}
 use Rattle.fair_rates.proofs.Filling.Levels.{frozen_there}
 use Rattle.fair_rates.proofs.bandwidth.filling.open.OpenSide.count_frozen.Goals as goal
 

@@ -1,7 +1,7 @@
 use Rattle.fair_rates.proofs.Common.{◌≡◌, ℕ, ◌*◌, ◌/◌, ◌^◌, length, ap, ap₂, sym, ◌∙◌, arith, common_steps, nat_cmp}
 use Rattle.fair_rates.proofs.Common.{OpenSide}
 use Rattle.std.proofs.lemmas.Nat.{pow_pos}
-use Rattle.fair_rates.specs.Numbers.FractionOrder.{by_wholes_times}
+use Rattle.fairness.specs.Numbers.FractionOrder.{by_wholes_times}
 use Rattle.fair_rates.proofs.bandwidth.filling.open.OpenSideOrd.cmp.Goals as goal
 
 pub returns-then-self-other-2 : goal.returns-then-self-other-2

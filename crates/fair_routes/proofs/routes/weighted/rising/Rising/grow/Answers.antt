@@ -1,6 +1,6 @@
 use Rattle.fair_routes.proofs.Common.{ap, ◌∙◌, product}
 use Rattle.fair_rates.proofs.Filling.Fractions.{product_push}
-use Rattle.fair_rates.proofs.Filling.Frozen.{on_ok}
+use Rattle.fairness.proofs.Filling.Frozen.{on_ok}
 use Rattle.fair_routes.proofs.Network.Rising.{multiplied_once}
 use Rattle.fair_routes.proofs.routes.weighted.rising.Rising.grow.Goals as goal
 

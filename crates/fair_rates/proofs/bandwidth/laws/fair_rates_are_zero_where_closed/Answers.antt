@@ -1,5 +1,0 @@
-use Rattle.fair_rates.proofs.Fairness.ClosedSides.{fair_rates_are_zero_where_closed}
-use Rattle.fair_rates.proofs.bandwidth.laws.fair_rates_are_zero_where_closed.Goals as goal
-
-pub returns : goal.returns
-returns c = fair_rates_are_zero_where_closed

@@ -1,5 +1,0 @@
-use Rattle.fair_rates.proofs.Fairness.Apart.{flows_apart_are_fair}
-use Rattle.fair_rates.proofs.bandwidth.laws.flows_apart_are_fair_alone.Goals as goal
-
-pub returns : goal.returns
-returns c = flows_apart_are_fair

@@ -1,5 +1,0 @@
-use Rattle.fair_rates.proofs.Common.{arith, whole_IsReduced}
-use Rattle.fair_rates.proofs.ratio.Ratio.from_whole.Goals as goal
-
-pub invariant_of-result : goal.invariant_of-result
-invariant_of-result c = record { positive = omega arith; reduced = whole_IsReduced c.args.n }

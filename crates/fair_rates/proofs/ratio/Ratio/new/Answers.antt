@@ -1,6 +1,0 @@
-use Rattle.fair_rates.proofs.Common.{arith}
-use Rattle.fair_rates.proofs.Numbers.Fits.{worth_if_reduced}
-use Rattle.fair_rates.proofs.ratio.Ratio.new.Goals as goal
-
-pub returns-clause-value : goal.returns-clause-value
-returns-clause-value c = worth_if_reduced _ _ (omega arith) c.lowest.ensures

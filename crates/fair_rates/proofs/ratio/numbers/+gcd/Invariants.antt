@@ -1,4 +1,0 @@
-use Rattle.fair_rates.proofs.ratio.numbers.+gcd.Given as goal
-
-abbrev pub decreases-gcd : goal.decreases-gcd
-decreases-gcd l = l.b

@@ -1,8 +1,0 @@
-use Rattle.fair_rates.proofs.Common.{◌≡◌, gcd}
-use Rattle.fair_rates.proofs.ratio.numbers.gcd_of_narrow.Given as goal
-
-abbrev pub invariant-loop-rest : goal.invariant-loop-rest
-invariant-loop-rest l = gcd l.last l.rest ≡ gcd l.fn.a l.fn.b
-
-abbrev pub decreases-loop-rest : goal.decreases-loop-rest
-decreases-loop-rest l = l.rest

@@ -1,0 +1,6 @@
+pub mod Fairness
+pub mod Filling
+pub mod Lists
+pub mod Numbers
+pub mod Refusals
+pub mod Sides

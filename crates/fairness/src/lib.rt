@@ -1,0 +1,7 @@
+//! What fair rates are: exact fractions, rates, the sides that caps make, and the laws of max-min fairness.
+#![tactic(auto)]
+
+pub mod bandwidth;
+pub mod error;
+pub mod peer;
+pub mod ratio;
