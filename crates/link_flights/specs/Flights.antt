@@ -4,6 +4,7 @@ pub mod Flight
 pub mod InFlight
 pub mod LargerUnits
 pub mod Loose
+pub mod Rate
 pub mod Rated
 pub mod RatedFlights
 pub mod Readings

@@ -122,11 +122,11 @@ impl<P: Peer> Flights<P> {
         let one = self.list.at(at);
         if one.rated {
             let lower = match &self.floor {
-                Some(floor) => one.rate < *floor,
+                Some(floor) => one.rate.number() < floor,
                 None => true,
             };
             if lower {
-                self.floor = Some(one.rate.clone()?);
+                self.floor = Some(one.rate.number().clone()?);
             }
         }
         Ok(())

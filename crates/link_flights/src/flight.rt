@@ -4,10 +4,12 @@ ghost use Rattle.std.specs.Prelude.{◌≡◌, ◌≢◌, ◌*◌, ◌/◌, ◌<
 ghost use Rattle.fairness.specs.Fairness.Exists.{product};
 ghost use Prim.Native.Nat.{◌∣◌};
 
+use crate::rate::Rate;
 use fairness::error::Error;
 use fairness::peer::Peer;
 use link_pairs::message::Message;
 use natural::Natural;
+use std::alloc::Global;
 use std::sync::Arc;
 
 /// A message in flight. What is left, and the rate, are whole numbers of the units that all
@@ -23,7 +25,7 @@ pub(crate) struct Flight<P> {
     pub(crate) finish: Option<u64>,
     pub(crate) since: u64,
     /// The units that drain in a nanosecond from then on.
-    pub(crate) rate: Natural,
+    pub(crate) rate: Rate,
     /// Its flow id.
     pub(crate) id: u64,
     /// The units that were left at the moment `since`.
@@ -59,7 +61,9 @@ impl<P: Peer> Flight<P> {
         ensures { result ≡ (left_by now self.now == 0) }
     {
         let elapsed = now.saturating_sub(self.since);
-        self.left.compare_times(1, &self.rate, elapsed).is_le()
+        self.left
+            .compare_times(1, self.rate.number(), elapsed)
+            .is_le()
     }
 
     /// Whether it is kept as it stands at an account at `now`, where time does not go back: it has a
@@ -75,7 +79,7 @@ impl<P: Peer> Flight<P> {
     pub(crate) fn is_below(&self, level: &Natural) -> bool
         ensures { result ≡ not (nat_le level.now self.now.rate) }
     {
-        self.rate < *level
+        self.rate.number() < level
     }
 
     /// Whether its finish has come at that moment.
@@ -95,7 +99,7 @@ impl<P: Peer> Flight<P> {
     {
         let mut left = self.left.clone()?;
         if self.rated {
-            left.sub_times(&self.rate, now.saturating_sub(self.since));
+            left.sub_times(self.rate.number(), now.saturating_sub(self.since));
         }
         Ok(left)
     }
@@ -124,21 +128,16 @@ impl<P: Peer> Flight<P> {
     }
 
     /// Whether it has that rate.
-    pub(crate) fn goes_on(&self, rate: &Natural) -> bool
+    pub(crate) fn goes_on(&self, rate: &Rate) -> bool
         ensures rated { result ≡ true → self.now.rated ≡ true }
         ensures rate { result ≡ true → self.now.rate ≡ rate.now }
     {
-        self.rated && self.rate == *rate
+        self.rated && self.rate.number() == rate.number()
     }
 
     /// The same message at that rate from `now` on, the moment of an account.
     /// What is left counts in smaller units, of which so many times as many are needed.
-    pub(crate) fn rerated(
-        &self,
-        rate: &Natural,
-        growth: &[u64],
-        now: u64,
-    ) -> Result<Flight<P>, Error>
+    pub(crate) fn rerated(&self, rate: &Rate, growth: &[u64], now: u64) -> Result<Flight<P>, Error>
         requires { (flight_at now self.now).left * product growth.now ≢ 0 }
         ensures id { IfOk result (λ one. one.id ≡ self.now.id) }
         ensures message { IfOk result (λ one. one.message.value ≡ self.now.message.value) }
@@ -151,7 +150,7 @@ impl<P: Peer> Flight<P> {
     {
         let mut left = self.left_at(now)?;
         grow(&mut left, growth)?;
-        let finish = Self::finish_of(&left, rate, now);
+        let finish = Self::finish_of(&left, rate.number(), now);
         Ok(Flight {
             id: self.id,
             message: self.message.clone()?,
@@ -171,25 +170,25 @@ impl<P: Peer> Flight<P> {
         ensures factor { IsFactorOf self.now result }
     {
         let shared = common_factor(most, self.left.remainder(most));
-        common_factor(shared, self.rate.remainder(shared))
+        common_factor(shared, self.rate.number().remainder(shared))
     }
 
     /// The same message, counted in units so many times as large.
-    pub(crate) fn counted_by(&self, by: u64) -> Result<Flight<P>, Error>
+    pub(crate) fn counted_by(&self, alloc: Global, by: u64) -> Result<Flight<P>, Error>
         requires { 0 < by }
         ensures counted { IfOk result (IsCountedBy by self.now) }
         ensures refused { IfErr result (λ e. e ≡ Error.OutOfMemory) }
     {
         let mut left = self.left.clone()?;
         left.divide(by);
-        let mut rate = self.rate.clone()?;
+        let mut rate = self.rate.number().clone()?;
         rate.divide(by);
         Ok(Flight {
             id: self.id,
             message: self.message.clone()?,
             should_deliver: self.should_deliver,
             left,
-            rate,
+            rate: Rate::of(alloc, rate)?,
             since: self.since,
             finish: self.finish,
             rated: self.rated,

@@ -9,6 +9,7 @@ ghost use Rattle.fairness.specs.Sides.Subjects.{same_peer};
 use crate::flight::Flight;
 use crate::loose::Loose;
 use crate::notes::Notes;
+use crate::rate::Rate;
 use crate::table::Table;
 use fairness::error::Error;
 use fairness::peer::Peer;
@@ -163,7 +164,7 @@ impl<P: Peer> Flights<P> {
             message,
             should_deliver,
             left,
-            rate: Natural::from_u64(self.alloc, 0),
+            rate: Rate::zero(self.alloc),
             since: now,
             finish: None,
             rated: false,

@@ -14,6 +14,7 @@ mod fraction;
 pub mod loose;
 mod notes;
 mod numbers;
+mod rate;
 mod rates;
 pub mod reading;
 mod sides;

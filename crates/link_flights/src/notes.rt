@@ -3,6 +3,7 @@ ghost use Rattle.std.specs.Prelude.{◌≡◌, [], length, All, IfOk, IfErr};
 ghost use Rattle.link_flights.specs.Flights.Components.{AreNoted};
 
 use crate::numbers::Numbers;
+use crate::rate::Rate;
 use fair_rates::bandwidth::{Room, Side};
 use fairness::error::Error;
 use std::alloc::Global;
@@ -39,6 +40,8 @@ pub(crate) struct Rooms {
     pub(crate) has_side: Vec<bool>,
     /// For sides.
     pub(crate) sides: Vec<Side>,
+    /// For the rates that are given.
+    pub(crate) rates: Vec<Rate>,
     /// For filling.
     pub(crate) filling: Room,
 }
@@ -53,6 +56,7 @@ impl Drop for Rooms {
             users,
             has_side,
             sides,
+            rates,
             filling,
         } = self;
         drop(places);
@@ -60,6 +64,7 @@ impl Drop for Rooms {
         drop(users);
         drop(has_side);
         drop(sides);
+        drop(rates);
         drop(filling);
     }
 }
@@ -73,8 +78,14 @@ impl Rooms {
             users: Vec::new(alloc),
             has_side: Vec::new(alloc),
             sides: Vec::new(alloc),
+            rates: Vec::new(alloc),
             filling: Room::new(alloc),
         }
+    }
+
+    /// Room for the rates that are given. It is taken out until it is kept again.
+    pub(crate) fn take_rates(&mut self, alloc: Global) -> Vec<Rate> {
+        mem::replace(&mut self.rates, Vec::new(alloc))
     }
 
     /// The room of places and of their numbers is kept.

@@ -26,6 +26,7 @@ use crate::flight_list::Flights;
 use crate::loose::Loose;
 use crate::notes::Rooms;
 use crate::numbers::Numbers;
+use crate::rate::{Rate, rates_of};
 use fair_rates::bandwidth::{FairParts, fair_parts_in, parts_alone};
 use fairness::bandwidth::FlowCaps;
 use fairness::error::Error;
@@ -48,13 +49,13 @@ const PART: usize = 4;
 /// Where so many are in flight, or more, and all were touched, a search would mostly join too much.
 const MANY: usize = 56;
 
-/// The level at that place, or what stands for none.
-fn level_at<'a>(levels: &'a [Natural], place: Option<usize>, none: &'a Natural) -> &'a Natural
+/// The rate at that place, or what stands for none.
+fn rate_at<'a>(rates: &'a [Rate], place: Option<usize>, none: &'a Rate) -> &'a Rate
     requires { none.now ≡ 0 }
-    ensures { result.now ≡ parts_of_level levels.now place }
+    ensures { result.now ≡ parts_of_level rates.now place }
 {
     match place {
-        Some(place) => levels.get(place).unwrap_or(none),
+        Some(place) => rates.get(place).unwrap_or(none),
         None => none,
     }
 }
@@ -216,16 +217,18 @@ impl<P: Peer> Flights<P> {
         let rates = self.rates_at(&all, &numbers, peers, pairs, &mut rooms)?;
         let mut scale = self.scale.clone()?;
         grow(&mut scale, &rates.growth)?;
+        let given = rates_of(self.alloc, &rates.levels, rooms.take_rates(self.alloc))?;
         self.set_rates(
             &all,
             numbers.places(),
-            &rates.levels,
+            &given,
             &rates.level_of,
             &rates.growth,
             were_timed,
         )?;
         self.scale = scale;
         self.stood = stood_after(self.stood, &rates.growth);
+        rooms.rates = given;
         rooms.keep(numbers);
         rooms.filling.keep(rates);
         self.notes.keep_rooms(rooms);
@@ -334,7 +337,9 @@ impl<P: Peer> Flights<P> {
             return Ok(None);
         }
         let places = numbers.places();
-        self.set_rates(touched, places, &part.levels, &part.level_of, &[], true)?;
+        let given = rates_of(self.alloc, &part.levels, rooms.take_rates(self.alloc))?;
+        self.set_rates(touched, places, &given, &part.level_of, &[], true)?;
+        rooms.rates = given;
         rooms.filling.keep(part);
         Ok(Some(places.len()))
     }
@@ -363,14 +368,15 @@ impl<P: Peer> Flights<P> {
     {
         let level = self.left_for(touched, at, numbers, peers, pairs, users)?;
         if touched.level <= level {
-            self.set_rates(touched, numbers.places(), &[level], &[Some(0)], &[], true)?;
+            let rate = Rate::of(self.alloc, level)?;
+            self.set_rates(touched, numbers.places(), &[rate], &[Some(0)], &[], true)?;
             return Ok(Some(1));
         }
         Ok(None)
     }
 
     /// The fair rate of the one at that place alone, and none at all where no cap holds for it.
-    fn rate_alone(&self, at: usize, peers: &Peers<P>, pairs: &Pairs<P>) -> Result<Natural, Error>
+    fn rate_alone(&self, at: usize, peers: &Peers<P>, pairs: &Pairs<P>) -> Result<Rate, Error>
         requires place { at < length self.now.list.items }
         ensures fair { IfOk result (λ parts. (d : AnyFlight P)
             → AreFairFor P.cmp (caps_of P.cmp peers.now.entries pairs.now.entries) self.now.scale
@@ -383,8 +389,10 @@ impl<P: Peer> Flights<P> {
             ingress: peers.ingress(&message.recipient),
             link: pairs.cap(&message.origin, &message.recipient),
         };
-        let rate = parts_alone(&caps, message.is_delivered(), &self.scale)?;
-        Ok(rate.unwrap_or(Natural::from_u64(self.alloc, 0)))
+        let least = parts_alone(&caps, message.is_delivered(), &self.scale)?;
+        let none = Natural::from_u64(self.alloc, 0);
+        let rate = Rate::of(self.alloc, least.unwrap_or(none))?;
+        Ok(rate)
     }
 
     /// What is touched: the component of what is done, loose or new, or all from a level on.
@@ -510,7 +518,7 @@ impl<P: Peer> Flights<P> {
         &mut self,
         component: &Component<P>,
         places: &[usize],
-        levels: &[Natural],
+        levels: &[Rate],
         level_of: &[Option<usize>],
         growth: &[u64],
         were_timed: bool,
@@ -532,9 +540,9 @@ impl<P: Peer> Flights<P> {
         ensures refused { IfErr result (λ e. e ≡ Error.OutOfMemory) }
     {
         self.rated_anew = 0;
-        let none = Natural::from_u64(self.alloc, 0);
+        let none = Rate::zero(self.alloc);
         for number in 0..places.len() {
-            let rate = level_at(levels, level_of[number], &none);
+            let rate = rate_at(levels, level_of[number], &none);
             self.rerate(places[number], rate, growth, were_timed)?;
         }
         Ok(())
@@ -545,7 +553,7 @@ impl<P: Peer> Flights<P> {
     fn rerate(
         &mut self,
         at: usize,
-        rate: &Natural,
+        rate: &Rate,
         growth: &[u64],
         were_timed: bool,
     ) -> Result<(), Error>
@@ -570,7 +578,7 @@ impl<P: Peer> Flights<P> {
     }
 
     /// A message at that rate stands at that place, in the place of the one that is there.
-    fn put_rerated(&mut self, at: usize, rate: &Natural, growth: &[u64]) -> Result<(), Error>
+    fn put_rerated(&mut self, at: usize, rate: &Rate, growth: &[u64]) -> Result<(), Error>
         requires place { at < length self.old.list.items }
         requires left { (d : AnyFlight P) → (flight_at self.old.at
             (slice_index_or self.old.list.items at d)).left * product growth.now ≢ 0 }

@@ -99,7 +99,7 @@ fn read_rate<P: Peer>(flight: &Flight<P>, scale: &Natural) -> Result<Reading, Er
     ensures refused { IfErr result (λ e. e ≡ Error.OutOfMemory) }
 {
     if flight.rated {
-        return read_fraction(&flight.rate, scale);
+        return read_fraction(flight.rate.number(), scale);
     }
     Ok(Reading {
         amount: Ratio::zero(),

@@ -306,7 +306,7 @@ impl<P: Peer> Flights<P> {
             side.users.push(number)?;
             return Ok(());
         }
-        side.cap.subtract(&self.list.at(at).rate);
+        side.cap.subtract(self.list.at(at).rate.number());
         Ok(())
     }
 

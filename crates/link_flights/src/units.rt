@@ -83,7 +83,7 @@ impl<P: Peer> Flights<P> {
         ensures refused { IfErr result (λ e. e ≡ Error.OutOfMemory) }
     {
         for at in 0..self.list.len() {
-            let one = self.list.at(at).counted_by(by)?;
+            let one = self.list.at(at).counted_by(self.alloc, by)?;
             self.put(at, one)?;
         }
         Ok(())

@@ -17,6 +17,6 @@ returns-clause-factor g c =
     record {
       some = c.common_factor.ensures.some;
       left = dvd_trans by c.common_factor.ensures.greatest.0 of_left;
-      rate = divides_whole shared f.rate by
-          (subst (λ n. IsGcd shared n by) c.remainder-2.ensures c.common_factor.ensures.greatest);
+      rate = subst (λ rate. by ∣ rate) {x = c.number.result.now} {y = f.rate} c.number.ensures (divides_whole shared c.number.result.now by
+          (subst (λ n. IsGcd shared n by) c.remainder-2.ensures c.common_factor.ensures.greatest));
     }

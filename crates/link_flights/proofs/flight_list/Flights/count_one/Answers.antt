@@ -56,4 +56,4 @@ returns-clause-counted g c m one all there shares h =
     let rate : (flight_at self.at one).rate ≡ c.at.result.now.rate =
     kept_rate component one kept.1 ∙ ap (λ (f : Flight _). f.rate) (sym is) in
     count_rate cmp c.args.end component self.at self.list.items m one all c.args.at there shares side uses kept.0
-    c.subtract.new.self (c.subtract.ensures.value ∙ ap (λ n. side.cap - n) (sym rate)) h
+    c.subtract.new.self (c.subtract.ensures.value ∙ ap (λ n. side.cap - n) (c.number-2.ensures ∙ sym rate)) h

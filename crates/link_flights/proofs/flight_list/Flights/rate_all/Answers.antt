@@ -26,7 +26,7 @@ pub set_rates-requires-clause-left : goal.set_rates-requires-clause-left
 set_rates-requires-clause-left g c =
     let old = c.args.self.now in
     subst (λ growth. All (λ (u : UnitFlight g.row.P.Denot). u.left * product growth ≢ 0) (in_units old))
-    (sym c.deref-4.ensures.value)
+    (sym c.deref-5.ensures.value)
     (left_given g.P.Ord.cmp (caps_of g.P.Ord.cmp c.args.peers.now.entries c.args.pairs.now.entries) c.whole-all.result
     c.in_ok-rates.rates old.scale (in_units old) c.in_ok-rates.ensures.fair c.requires.left)
 
@@ -40,13 +40,14 @@ settle-requires g c =
     let fair = c.in_ok-rates.ensures.fair in
     let mid = c.set_rates.new.self in
     let times = product rates.growth.items in
-    let same : rates_of_levels c.deref-2.result.now c.deref-3.result.now ≡ rates_found rates =
-    ap (λ ls. rates_of_levels ls c.deref-3.result.now) c.deref-2.ensures.value
-    ∙ ap (rates_of_levels rates.levels.items) c.deref-3.ensures.value in
+    let same : rates_of_levels c.deref-3.result.now c.deref-4.result.now ≡ rates_found rates =
+    ap (λ ls. rates_of_levels ls c.deref-4.result.now)
+    (c.deref-3.ensures.value ∙ c.in_ok-given.ensures.rates ∙ c.deref-2.ensures.value)
+    ∙ ap (rates_of_levels rates.levels.items) c.deref-4.ensures.value in
     let given : in_units mid ≡ rerated cmp all old.at times (rates_found rates) (in_units old) =
     c.in_ok-set_rates.ensures.rerated
-    ∙ ap (λ ns. rerated cmp all old.at (product ns) (rates_of_levels c.deref-2.result.now c.deref-3.result.now)
-    (in_units old)) c.deref-4.ensures.value
+    ∙ ap (λ ns. rerated cmp all old.at (product ns) (rates_of_levels c.deref-3.result.now c.deref-4.result.now)
+    (in_units old)) c.deref-5.ensures.value
     ∙ ap (λ rs. rerated cmp all old.at times rs (in_units old)) same in
     let each : AllZip (IsRatedFrom old.at times) (in_units old) (in_units mid) =
     subst (AllZip (IsRatedFrom old.at times) (in_units old)) (sym given)
@@ -64,13 +65,14 @@ returns-clause-rated g c =
     let fair = c.in_ok-rates.ensures.fair in
     let mid = c.set_rates.new.self in
     let times = product rates.growth.items in
-    let same : rates_of_levels c.deref-2.result.now c.deref-3.result.now ≡ rates_found rates =
-    ap (λ ls. rates_of_levels ls c.deref-3.result.now) c.deref-2.ensures.value
-    ∙ ap (rates_of_levels rates.levels.items) c.deref-3.ensures.value in
+    let same : rates_of_levels c.deref-3.result.now c.deref-4.result.now ≡ rates_found rates =
+    ap (λ ls. rates_of_levels ls c.deref-4.result.now)
+    (c.deref-3.ensures.value ∙ c.in_ok-given.ensures.rates ∙ c.deref-2.ensures.value)
+    ∙ ap (rates_of_levels rates.levels.items) c.deref-4.ensures.value in
     let given : in_units mid ≡ rerated cmp all old.at times (rates_found rates) (in_units old) =
     c.in_ok-set_rates.ensures.rerated
-    ∙ ap (λ ns. rerated cmp all old.at (product ns) (rates_of_levels c.deref-2.result.now c.deref-3.result.now)
-    (in_units old)) c.deref-4.ensures.value
+    ∙ ap (λ ns. rerated cmp all old.at (product ns) (rates_of_levels c.deref-3.result.now c.deref-4.result.now)
+    (in_units old)) c.deref-5.ensures.value
     ∙ ap (λ rs. rerated cmp all old.at times rs (in_units old)) same in
     let e = c.settle.ensures in
     let last = c.settle.new.self in
@@ -101,13 +103,14 @@ returns-clause-finish g c =
     let fair = c.in_ok-rates.ensures.fair in
     let mid = c.set_rates.new.self in
     let times = product rates.growth.items in
-    let same : rates_of_levels c.deref-2.result.now c.deref-3.result.now ≡ rates_found rates =
-    ap (λ ls. rates_of_levels ls c.deref-3.result.now) c.deref-2.ensures.value
-    ∙ ap (rates_of_levels rates.levels.items) c.deref-3.ensures.value in
+    let same : rates_of_levels c.deref-3.result.now c.deref-4.result.now ≡ rates_found rates =
+    ap (λ ls. rates_of_levels ls c.deref-4.result.now)
+    (c.deref-3.ensures.value ∙ c.in_ok-given.ensures.rates ∙ c.deref-2.ensures.value)
+    ∙ ap (rates_of_levels rates.levels.items) c.deref-4.ensures.value in
     let given : in_units mid ≡ rerated cmp all old.at times (rates_found rates) (in_units old) =
     c.in_ok-set_rates.ensures.rerated
-    ∙ ap (λ ns. rerated cmp all old.at (product ns) (rates_of_levels c.deref-2.result.now c.deref-3.result.now)
-    (in_units old)) c.deref-4.ensures.value
+    ∙ ap (λ ns. rerated cmp all old.at (product ns) (rates_of_levels c.deref-3.result.now c.deref-4.result.now)
+    (in_units old)) c.deref-5.ensures.value
     ∙ ap (λ rs. rerated cmp all old.at times rs (in_units old)) same in
     let e = c.settle.ensures in
     let last = c.settle.new.self in

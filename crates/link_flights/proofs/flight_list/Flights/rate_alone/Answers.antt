@@ -12,9 +12,10 @@ returns-clause-fair g c d =
     let of = looked_up cmp g.met.P.Ord.total c.args.peers.now.entries c.args.pairs.now.entries in
     let m = c.at.result.now.message.value in
     let parts = c.unwrap_or.result in
+    let is : parts ≡ c.in_ok-rate.rate = sym c.in_ok-rate.ensures.value in
     let own : FlowCaps = record { egress = c.egress.result; ingress = c.ingress.result; link = c.cap.result } in
-    let none : unwrap_or c.in_ok-rate.rate 0 ≡ parts =
-    sym (c.unwrap_or.ensures ∙ ap (unwrap_or c.in_ok-rate.rate) c.from_u64.ensures) in
+    let none : unwrap_or c.in_ok-least.least 0 ≡ parts =
+    sym (c.unwrap_or.ensures ∙ ap (unwrap_or c.in_ok-least.least) c.from_u64-none.ensures) in
     let fair : IsFair (sides_under cmp caps (flow_sent cmp m ∷ [])) self.scale (slice_index (parts ∷ [])) =
     subst (λ n. IsFair (sides_under cmp caps (flow_sent cmp m ∷ [])) self.scale (slice_index (n ∷ []))) none
     (parts_alone_fair self.scale self.scaled cmp caps (flow_sent cmp m) own c.is_delivered.result
@@ -23,8 +24,8 @@ returns-clause-fair g c d =
     (c.cap.ensures.cap ∙ ap (λ n. caps.link n.origin c.deref-4.result.now.recipient) c.deref-3.ensures
     ∙ ap (λ n. caps.link m.origin n.recipient) c.deref-4.ensures)
     (c.is_delivered.ensures ∙ ap (λ n. is_delivered cmp (message_of n)) c.deref-5.ensures)
-    c.in_ok-rate.rate c.in_ok-rate.ensures.least) in
+    c.in_ok-least.least c.in_ok-least.ensures.least) in
     subst
-    (λ (f : Flight g.row.P.Denot). AreFairFor cmp caps self.scale (message_of f.message.value ∷ []) (parts ∷ []))
+    (λ (f : Flight g.row.P.Denot). AreFairFor cmp caps self.scale (message_of f.message.value ∷ []) (c.in_ok-rate.rate ∷ []))
     (c.at.ensures ∙ get_or_default self.list.items c.args.at c.at.result.now d c.requires.place)
-    (alone_fair cmp g.met.P.Ord.total caps of m self.scale parts fair)
+    (subst (λ n. AreFairFor cmp caps self.scale (message_of m ∷ []) (n ∷ [])) is (alone_fair cmp g.met.P.Ord.total caps of m self.scale parts fair))

@@ -1,4 +1,5 @@
-use Rattle.link_flights.proofs.Common.{rules, ◌≡◌, ◌∷◌, ◌&&◌, [], true, nat_le, ap, caps_of, AreRatedBeside}
+use Rattle.link_flights.proofs.Common.{rules, ◌≡◌, ◌∷◌, ◌&&◌, [], true, nat_le, ap, ◌∙◌, caps_of, in_units}
+use Rattle.link_flights.proofs.Common.{AreRatedBeside, rerated}
 use Rattle.link_flights.proofs.flight_list.Flights.rate_only.Goals as goal
 
 pub set_rates-requires-clause-one_each : goal.set_rates-requires-clause-one_each
@@ -16,7 +17,8 @@ returns-then-le-clause-gives g c =
       rates = c.in_ok-level.level ∷ [];
       fair = c.in_ok-level.ensures.fair;
       reach = ap (λ b. b && true) reach;
-      given = e.rerated;
+      given = e.rerated
+          ∙ ap (λ rate. rerated cmp component self.at 1 (rate ∷ []) (in_units self)) c.in_ok-rate.ensures.value;
       scale = e.scale;
       at = e.at;
       timed = e.timed;

@@ -18,9 +18,10 @@ returns-clause-gives g c =
     (grind (arith, common_steps, nat_tests, c.is_empty.ensures, c.if-not-is_empty.false, part.growth.ok.0)) in
     let reach : list_all (λ rate. nat_le component.level rate) (rates_found part) ≡ true =
     search rules in
-    let same : rates_of_levels c.deref.result.now c.deref-2.result.now ≡ rates_found part =
-    ap (λ ls. rates_of_levels ls c.deref-2.result.now) c.deref.ensures.value
-    ∙ ap (rates_of_levels part.levels.items) c.deref-2.ensures.value in
+    let same : rates_of_levels c.deref-2.result.now c.deref-3.result.now ≡ rates_found part =
+    ap (λ ls. rates_of_levels ls c.deref-3.result.now)
+    (c.deref-2.ensures.value ∙ c.in_ok-given.ensures.rates ∙ c.deref.ensures.value)
+    ∙ ap (rates_of_levels part.levels.items) c.deref-3.ensures.value in
     let fair = c.in_ok-part.ensures.fair in
     let rated : AreRatedBeside cmp (caps_of cmp c.args.peers.now.entries c.args.pairs.now.entries) component old
     c.set_rates.new.self = record {

@@ -91,9 +91,9 @@ loop-number-preserved g c =
     let so_far = c.loop-number.self in
     let now = c.rerate.new.self in
     let new = now.list.items in
-    let is_rate = c.level_at-rate.result.now in
+    let is_rate = c.rate_at-rate.result.now in
     let rate : is_rate ≡ get_or rates number 0 =
-    c.level_at-rate.ensures ∙ sym (get_or-map (parts_of_level levels) level_of number None) in
+    c.rate_at-rate.ensures ∙ sym (get_or-map (parts_of_level levels) level_of number None) in
     let put : IsReratedAt old.at n.at growth is_rate so_far.list.items new =
     subst (λ m. IsReratedAt m n.at growth is_rate so_far.list.items new) h.at
     (subst (λ m. IsReratedAt so_far.at m growth is_rate so_far.list.items new) place c.in_ok-rerate.ensures.rerated) in
