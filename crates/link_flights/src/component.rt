@@ -19,6 +19,7 @@ ghost use Rattle.link_flights.specs.Flights.Table.{share};
 
 use crate::flight::Flight;
 use crate::flight_list::Flights;
+use crate::space::Space;
 use crate::table::End;
 use fairness::error::Error;
 use fairness::peer::Peer;
@@ -79,39 +80,40 @@ impl<P: Drop> Drop for Component<P> {
 }
 
 impl<P: Peer> Component<P> {
-    /// No sender, no receiver, and no level. What it has an end of is listed in room that is given.
-    fn new(alloc: Global, mut near: Vec<usize>) -> Result<Component<P>, Error>
+    /// No sender, no receiver, and no level. What joins and what is near is listed in room that is given.
+    fn new(alloc: Global, space: Space<P>) -> Result<Component<P>, Error>
         ensures part { IfOk result (λ component. component.whole ≡ false) }
         ensures joined { IfOk result (λ component. component.joined.items ≡ []) }
         ensures near { IfOk result (λ component. component.near.items ≡ []) }
         ensures refused { IfErr result (λ e. e ≡ Error.OutOfMemory) }
     {
-        near.clear();
+        let (mut joined, near) = space.into_lists();
+        joined.reserve(FEW_JOINED)?;
         Ok(Component {
             whole: false,
             level: Natural::from_u64(alloc, 0),
-            joined: Vec::with_capacity(alloc, FEW_JOINED)?,
+            joined,
             near,
         })
     }
 
     /// All senders and all receivers, and no level. Nothing is listed; the room for that is given.
-    pub(crate) fn whole(alloc: Global, mut near: Vec<usize>) -> Component<P>
+    pub(crate) fn whole(alloc: Global, space: Space<P>) -> Component<P>
         ensures whole { result.whole ≡ true }
         ensures level { result.level ≡ 0 }
         ensures near { result.near.items ≡ [] }
     {
-        near.clear();
+        let (joined, near) = space.into_lists();
         Component {
             whole: true,
             level: Natural::from_u64(alloc, 0),
-            joined: Vec::new(alloc),
+            joined,
             near,
         }
     }
 
-    /// The room in which places were listed.
-    pub(crate) fn into_near(self) -> Vec<usize> {
+    /// The room of its lists. Messages are let go.
+    pub(crate) fn into_space(self) -> Space<P> {
         let Component {
             whole: _,
             level,
@@ -119,8 +121,7 @@ impl<P: Peer> Component<P> {
             near,
         } = self;
         drop(level);
-        drop(joined);
-        near
+        Space::of(joined, near)
     }
 
     /// Whether the peer is one of the senders.
@@ -225,14 +226,14 @@ fn lesser(one: Option<Natural>, other: Natural) -> Natural
 
 impl<P: Peer> Flights<P> {
     /// The component of the messages that are done or loose, and of those that have got no rate yet, or all that is
-    /// in flight where it is large. What it has an end of is listed in room that is given.
+    /// in flight where it is large. What joins and what is near is listed in room that is given.
     pub(crate) fn component(
         &self,
         done: &VecDeque<Arc<Message<P>>>,
         peers: &Peers<P>,
         pairs: &Pairs<P>,
         noted: &mut Vec<bool>,
-        room: Vec<usize>,
+        space: Space<P>,
     ) -> Result<Component<P>, Error>
         requires none { AreNoted [] noted.old.items }
         requires each { length noted.old.items ≡ length self.now.list.items }
@@ -245,12 +246,12 @@ impl<P: Peer> Flights<P> {
         ensures noted { IfOk result (λ component. AreNoted component.near.items noted.new.items) }
         ensures refused { IfErr result (λ e. e ≡ Error.OutOfMemory) }
     {
-        let mut component = Component::new(self.alloc, room)?;
+        let mut component = Component::new(self.alloc, space)?;
         self.join_touched(done, &mut component)?;
         if self.grow(&mut component, peers, pairs, noted)? {
             return Ok(component);
         }
-        self.all_touched(peers, pairs, noted, component.into_near())
+        self.all_touched(peers, pairs, noted, component.into_space())
     }
 
     /// All that is in flight, from a level on where few are new. None is noted any more.
@@ -259,7 +260,7 @@ impl<P: Peer> Flights<P> {
         peers: &Peers<P>,
         pairs: &Pairs<P>,
         noted: &mut Vec<bool>,
-        room: Vec<usize>,
+        space: Space<P>,
     ) -> Result<Component<P>, Error>
         ensures whole { IfOk result (λ all. all.whole ≡ true) }
         ensures level { IfOk result (λ all. IfSome self.now.floor (λ floor. all.level ≤ floor)) }
@@ -267,7 +268,7 @@ impl<P: Peer> Flights<P> {
         ensures refused { IfErr result (λ e. e ≡ Error.OutOfMemory) }
     {
         noted.clear();
-        let mut all = Component::whole(self.alloc, room);
+        let mut all = Component::whole(self.alloc, space);
         if self.list.len() - self.settled <= FEW_NEW {
             all.level = self.level(peers, pairs)?;
         }

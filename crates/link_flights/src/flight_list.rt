@@ -10,6 +10,7 @@ use crate::flight::Flight;
 use crate::loose::Loose;
 use crate::notes::Notes;
 use crate::rate::Rate;
+use crate::space::Space;
 use crate::table::Table;
 use fairness::error::Error;
 use fairness::peer::Peer;
@@ -52,6 +53,8 @@ pub struct Flights<P: Peer> {
     pub(crate) stood: usize,
     /// Room for what a search notes.
     pub(crate) notes: Notes,
+    /// Room for what a search lists.
+    pub(crate) space: Space<P>,
 
     pub ghost past: { list_all (λ one. not one.rated || nat_le one.since at) list.items ≡ true },
     pub ghost scaled: { 0 < scale },
@@ -75,12 +78,14 @@ impl<P: Peer> Drop for Flights<P> {
             unsearched: _,
             stood: _,
             notes,
+            space,
         } = self;
         drop(list);
         drop(scale);
         drop(floor);
         drop(loose);
         drop(notes);
+        drop(space);
     }
 }
 
@@ -111,6 +116,7 @@ impl<P: Peer> Flights<P> {
             unsearched: 0,
             stood: 0,
             notes: Notes::new(alloc),
+            space: Space::new(alloc),
         }
     }
 

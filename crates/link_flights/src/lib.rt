@@ -18,5 +18,6 @@ mod rate;
 mod rates;
 pub mod reading;
 mod sides;
+mod space;
 pub mod table;
 mod units;

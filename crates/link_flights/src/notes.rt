@@ -13,7 +13,6 @@ use std::mem;
 /// Room for a note of each place. Between events no place is noted, so callers see nothing of it.
 pub(crate) struct Notes {
     noted: Vec<bool>,
-    near: Vec<usize>,
     rooms: Rooms,
 }
 
@@ -21,9 +20,8 @@ impl Drop for Notes {
     /// Lets go of what it holds.
     #[inline(always)]
     fn drop(self) {
-        let Notes { noted, near, rooms } = self;
+        let Notes { noted, rooms } = self;
         drop(noted);
-        drop(near);
         drop(rooms);
     }
 }
@@ -111,7 +109,6 @@ impl Notes {
     pub(crate) fn new(alloc: Global) -> Notes {
         Notes {
             noted: Vec::new(alloc),
-            near: Vec::new(alloc),
             rooms: Rooms::new(alloc),
         }
     }
@@ -124,16 +121,6 @@ impl Notes {
     /// Room for lists is kept.
     pub(crate) fn keep_rooms(&mut self, rooms: Rooms) {
         self.rooms = rooms;
-    }
-
-    /// Room for the places of a component. It is taken out until it is kept again.
-    pub(crate) fn take_near(&mut self, alloc: Global) -> Vec<usize> {
-        mem::replace(&mut self.near, Vec::new(alloc))
-    }
-
-    /// Room for the places of a component is kept.
-    pub(crate) fn keep_near(&mut self, near: Vec<usize>) {
-        self.near = near;
     }
 
     /// Room for so many places, of which none is noted. It is taken out until it is given back.

@@ -27,6 +27,7 @@ use crate::loose::Loose;
 use crate::notes::Rooms;
 use crate::numbers::Numbers;
 use crate::rate::{Rate, rates_of};
+use crate::space::Space;
 use fair_rates::bandwidth::{FairParts, fair_parts_in, parts_alone};
 use fairness::bandwidth::FlowCaps;
 use fairness::error::Error;
@@ -116,18 +117,45 @@ impl<P: Peer> Flights<P> {
         ensures before { self.new.list.before ≡ self.old.list.before }
         ensures refused { IfErr result (λ e. e ≡ Error.OutOfMemory) }
     {
+        let unsearched = self.give_rates(peers, pairs, done, were_rated)?;
+        Ok(self.settle(unsearched))
+    }
+
+    /// Gives each its fair rate from the last account on, and answers how many accounts more are made without a search.
+    fn give_rates(
+        &mut self,
+        peers: &Peers<P>,
+        pairs: &Pairs<P>,
+        done: &VecDeque<Arc<Message<P>>>,
+        were_rated: bool,
+    ) -> Result<usize, Error>
+        requires left { All (λ u. u.left ≢ 0) (in_units self.old) }
+        requires updated { All (λ u. u.updated ≡ self.old.at) (in_units self.old) }
+        requires before { were_rated ≡ true
+            → ∥ WereRated P.cmp (caps_of P.cmp peers.now.entries pairs.now.entries) self.old.scale (in_units self.old)
+            (messages done.now.items) (loose_in self.old) self.old.floor ∥₁ }
+        requires timed { were_rated ≡ true → AreTimed self.old.list.items }
+        requires one_each { OneForEachPair P.cmp (sent_messages (in_units self.old)) }
+        ensures rated { OnOk result (HaveFairRates P.cmp (caps_of P.cmp peers.now.entries pairs.now.entries)
+            self.old self.new) }
+        ensures kept { OnOk result (AreKeptBut self.new.rated_anew self.old.list.items self.new.list.items) }
+        ensures before { self.new.list.before ≡ self.old.list.before }
+        ensures refused { IfErr result (λ e. e ≡ Error.OutOfMemory) }
+    {
         if self.list.is_empty() {
-            return Ok(self.settle(0));
+            return Ok(0);
         }
         if self.list.len() == 1 {
-            return self.rate_one(peers, pairs, were_rated);
+            self.rate_one(peers, pairs, were_rated)?;
+            return Ok(0);
         }
         if were_rated {
             if let Some(unsearched) = self.rate_part(done, peers, pairs)? {
-                return Ok(self.settle(unsearched));
+                return Ok(unsearched);
             }
         }
-        self.rate_all(peers, pairs, were_rated)
+        self.rate_all(peers, pairs, were_rated)?;
+        Ok(self.spared_after(true, 0))
     }
 
     /// Gives those that are touched their fair rates from the last account on, beside those that others keep, and
@@ -152,66 +180,58 @@ impl<P: Peer> Flights<P> {
     {
         let mut noted = self.notes.take(self.alloc, self.list.len())?;
         let mut rooms = self.notes.take_rooms(self.alloc);
-        let near = self.notes.take_near(self.alloc);
-        let touched = self.touched(done, peers, pairs, &mut noted, near)?;
+        let space = mem::replace(&mut self.space, Space::new(self.alloc));
+        let touched = self.touched(done, peers, pairs, &mut noted, space)?;
         self.notes.give_back(noted, &touched.near);
         let found = self.rate_touched(&touched, peers, pairs, &mut rooms)?;
         self.notes.keep_rooms(rooms);
         let whole = touched.whole;
-        self.notes.keep_near(touched.into_near());
+        self.space = touched.into_space();
         match found {
             Some(found) => Ok(Some(self.spared_after(whole, found))),
             None => Ok(None),
         }
     }
 
-    /// Gives the only one its fair rate from the last account on: the least of its caps. Answers the moment at which
-    /// nothing is left of it.
+    /// Gives the only one its fair rate from the last account on: the least of its caps.
     fn rate_one(
         &mut self,
         peers: &Peers<P>,
         pairs: &Pairs<P>,
         were_timed: bool,
-    ) -> Result<Option<u64>, Error>
+    ) -> Result<(), Error>
         requires one { length self.old.list.items ≡ 1 }
-        requires moment { self.old.at ≤ last_moment }
         requires left { All (λ u. u.left ≢ 0) (in_units self.old) }
         requires timed { were_timed ≡ true → AreTimed self.old.list.items }
         ensures rated { OnOk result (HaveFairRates P.cmp (caps_of P.cmp peers.now.entries pairs.now.entries)
             self.old self.new) }
         ensures kept { OnOk result (AreKeptBut self.new.rated_anew self.old.list.items self.new.list.items) }
-        ensures finish { IfOk result (IsLeastMoment (λ s. SomeSpentAt (in_flight self.new) s)) }
-        ensures loose { OnOk result (self.new.loose ≡ []) }
         ensures before { self.new.list.before ≡ self.old.list.before }
         ensures refused { IfErr result (λ e. e ≡ Error.OutOfMemory) }
     {
         let rate = self.rate_alone(0, peers, pairs)?;
         self.rated_anew = 0;
         self.rerate(0, &rate, &[], were_timed)?;
-        Ok(self.settle(0))
+        Ok(())
     }
 
-    /// Gives all of them their fair rates from the last account on. Answers the first moment at which
-    /// nothing is left of one.
+    /// Gives all of them their fair rates from the last account on.
     fn rate_all(
         &mut self,
         peers: &Peers<P>,
         pairs: &Pairs<P>,
         were_timed: bool,
-    ) -> Result<Option<u64>, Error>
-        requires moment { self.old.at ≤ last_moment }
+    ) -> Result<(), Error>
         requires left { All (λ u. u.left ≢ 0) (in_units self.old) }
         requires timed { were_timed ≡ true → AreTimed self.old.list.items }
         requires one_each { OneForEachPair P.cmp (sent_messages (in_units self.old)) }
         ensures rated { OnOk result (HaveFairRates P.cmp (caps_of P.cmp peers.now.entries pairs.now.entries)
             self.old self.new) }
         ensures kept { OnOk result (AreKeptBut self.new.rated_anew self.old.list.items self.new.list.items) }
-        ensures finish { IfOk result (IsLeastMoment (λ s. SomeSpentAt (in_flight self.new) s)) }
-        ensures loose { OnOk result (self.new.loose ≡ []) }
         ensures before { self.new.list.before ≡ self.old.list.before }
         ensures refused { IfErr result (λ e. e ≡ Error.OutOfMemory) }
     {
-        let all = Component::whole(self.alloc, Vec::new(self.alloc));
+        let all = Component::whole(self.alloc, Space::new(self.alloc));
         let mut rooms = self.notes.take_rooms(self.alloc);
         let numbers = self.numbers_rated(&all, &mut rooms)?;
         let rates = self.rates_at(&all, &numbers, peers, pairs, &mut rooms)?;
@@ -232,8 +252,7 @@ impl<P: Peer> Flights<P> {
         rooms.keep(numbers);
         rooms.filling.keep(rates);
         self.notes.keep_rooms(rooms);
-        let unsearched = self.spared_after(true, 0);
-        Ok(self.settle(unsearched))
+        Ok(())
     }
 
     /// Notes that all have got rates, that nothing is loose any more, and that so many accounts more are made without a
@@ -402,7 +421,7 @@ impl<P: Peer> Flights<P> {
         peers: &Peers<P>,
         pairs: &Pairs<P>,
         noted: &mut Vec<bool>,
-        near: Vec<usize>,
+        space: Space<P>,
     ) -> Result<Component<P>, Error>
         requires none { AreNoted [] noted.old.items }
         requires each { length noted.old.items ≡ length self.now.list.items }
@@ -415,9 +434,9 @@ impl<P: Peer> Flights<P> {
         ensures refused { IfErr result (λ e. e ≡ Error.OutOfMemory) }
     {
         if self.unsearched > 0 {
-            return self.all_touched(peers, pairs, noted, near);
+            return self.all_touched(peers, pairs, noted, space);
         }
-        self.component(done, peers, pairs, noted, near)
+        self.component(done, peers, pairs, noted, space)
     }
 
     /// How many accounts more are made without a search, after one at which all were touched or a

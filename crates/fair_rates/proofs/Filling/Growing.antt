@@ -3,7 +3,7 @@ use Rattle.fair_rates.proofs.Common.{◌∙◌, ◌≡◌, ℕ, ◌*◌, ◌<◌
 use Rattle.fair_rates.proofs.Common.{sum_by, Option, Some, None, IsSome, refl, sym, ap, subst, arith, mul-le-mul_right}
 use Rattle.fair_rates.proofs.Common.{IsPermutation, option_map, unwrap_or, Reverse, All-cons, All-push, All-weaker}
 use Rattle.fair_rates.proofs.Common.{All-contains, Contains-append_left, Contains-push, All-permutation}
-use Rattle.fair_rates.proofs.Common.{Contains-permutation, Side, load, at_level, AllRise, HaveNoMore, KeepsAccount}
+use Rattle.fair_rates.proofs.Common.{Contains-permutation, All-nil, Side, load, at_level, AllRise, HaveNoMore, KeepsAccount}
 use Rattle.fair_rates.proofs.Common.{IsOpen, IsCovered, IsQueue, AreGrown, OpenSide, rules}
 use Rattle.std.proofs.lemmas.List.Elements.{All-contains_itself}
 use Rattle.fair_rates.specs.Filling.States.{IsGrown}
@@ -13,6 +13,14 @@ use Rattle.fairness.proofs.Lists.Sums.{sum_by_same}
 use Rattle.fair_rates.proofs.Filling.Queue.{is_first, is_later}
 
 -- ---- one open side after another
+
+-- none are none
+pub grown_none : (factor : ℕ) (opens : List (Reverse OpenSide)) → IsPermutation [] opens → AreGrown factor [] opens
+grown_none factor opens perm = record {
+  each = All-permutation (λ b. (a : Reverse OpenSide) × Contains [] a × IsGrown factor a.0 b.0) [] opens perm
+      (All-nil (λ b. (a : Reverse OpenSide) × Contains [] a × IsGrown factor a.0 b.0));
+  all = All-nil (λ a. (b : Reverse OpenSide) × Contains opens b × IsGrown factor a.0 b.0);
+}
 
 -- at once the scale all are themselves
 pub grown_once : (factor : ℕ) (opens : List (Reverse OpenSide)) → factor ≡ 1 → AreGrown factor opens opens

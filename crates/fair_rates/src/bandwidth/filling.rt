@@ -32,6 +32,7 @@ use std::mem;
 /// Lists that filling needs, kept from one filling to the next. What they hold says nothing.
 pub struct Room {
     opens: Vec<Reverse<OpenSide>>,
+    spare: Vec<Reverse<OpenSide>>,
     found: FairParts,
 }
 
@@ -39,8 +40,13 @@ impl Drop for Room {
     /// Lets go of its lists.
     #[inline(always)]
     fn drop(self) {
-        let Room { opens, found } = self;
+        let Room {
+            opens,
+            spare,
+            found,
+        } = self;
         drop(opens);
+        drop(spare);
         drop(found);
     }
 }
@@ -50,6 +56,7 @@ impl Room {
     pub fn new(alloc: Global) -> Room {
         Room {
             opens: Vec::new(alloc),
+            spare: Vec::new(alloc),
             found: FairParts::none(alloc),
         }
     }
@@ -131,11 +138,11 @@ fn next_side(
     Ok(None)
 }
 
-/// The same sides at a scale so many times as great.
+/// The same sides at a scale so many times as great. They are listed in room that is lent, which gets that of the others.
 fn grown_sides(
-    alloc: Global,
     queue: BinaryHeap<Reverse<OpenSide>>,
     factor: u64,
+    spare: &mut Vec<Reverse<OpenSide>>,
 ) -> Result<BinaryHeap<Reverse<OpenSide>>, AllocError>
     requires { IsHeap queue_cmp (heap_items queue) }
     ensures grown { IfOk result (λ grown. AreGrown factor (heap_items queue) (heap_items grown)) }
@@ -145,8 +152,9 @@ fn grown_sides(
     if factor == 1 {
         return Ok(queue);
     }
-    let mut grown = BinaryHeap::with_capacity(alloc, queue.len())?;
-    for Reverse(side) in queue.into_vec() {
+    spare.clear();
+    let mut grown = BinaryHeap::from(mem::replace(spare, queue.into_vec()));
+    for Reverse(side) in spare.drain(..) {
         grown.push(Reverse(side.grown(factor)?))?;
     }
     Ok(grown)
@@ -193,7 +201,7 @@ pub fn fair_parts_in(
         let OpenSide { slack, rising, .. } = side;
         let share = whole_share(alloc, slack, rising.len() as u64)?;
         found.grow(share.factor)?;
-        queue = grown_sides(alloc, queue, share.factor)?;
+        queue = grown_sides(queue, share.factor, &mut room.spare)?;
         found.freeze(&rising, share.parts)?;
     }
     room.opens = queue.into_vec();

@@ -1,12 +1,10 @@
-use Rattle.link_flights.proofs.Common.{rules, ◌≡◌, ◌≤◌, ◌*◌, IfSome, All, [], sym, ap, ap₂, ◌∙◌, subst, arith, AllZip}
-use Rattle.link_flights.proofs.Common.{product, last_moment, caps_of, looked_up, UnitFlight, flights_at, AreTimed}
-use Rattle.link_flights.proofs.Common.{in_units, rates_found, rates_of_levels, rerated, IsRatedFrom, true≢false}
+use Rattle.std.proofs.Math.Nat.{mul-pos}
+use Rattle.link_flights.proofs.Common.{◌≡◌, ◌*◌, ◌<◌, All, [], sym, ap, ap₂, ◌∙◌, subst, product, caps_of}
+use Rattle.link_flights.proofs.Common.{looked_up, UnitFlight, in_units, rates_found, rates_of_levels, rerated}
+use Rattle.link_flights.proofs.Common.{true≢false}
 use Rattle.std.specs.Prelude.{◌≢◌}
-use Rattle.link_flights.proofs.Flights.Components.{found_each, whole_rerated}
 use Rattle.link_flights.proofs.Flights.ComponentFlows.{closed_whole}
 use Rattle.link_flights.proofs.Flights.RatesGiven.{whole_given, left_given}
-use Rattle.link_flights.proofs.Flights.Rerating.{first_finish_is}
-use Rattle.link_flights.proofs.Flights.Settled.{all_have_got}
 use Rattle.link_flights.proofs.flight_list.Flights.rate_all.Goals as goal
 
 pub numbers_rated-requires : goal.numbers_rated-requires
@@ -30,31 +28,6 @@ set_rates-requires-clause-left g c =
     (left_given g.P.Ord.cmp (caps_of g.P.Ord.cmp c.args.peers.now.entries c.args.pairs.now.entries) c.whole-all.result
     c.in_ok-rates.rates old.scale (in_units old) c.in_ok-rates.ensures.fair c.requires.left)
 
-pub settle-requires : goal.settle-requires
-settle-requires g c =
-    let cmp = g.P.Ord.cmp in
-    let old = c.args.self.now in
-    let caps = caps_of cmp c.args.peers.now.entries c.args.pairs.now.entries in
-    let all = c.whole-all.result in
-    let rates = c.in_ok-rates.rates in
-    let fair = c.in_ok-rates.ensures.fair in
-    let mid = c.set_rates.new.self in
-    let times = product rates.growth.items in
-    let same : rates_of_levels c.deref-3.result.now c.deref-4.result.now ≡ rates_found rates =
-    ap (λ ls. rates_of_levels ls c.deref-4.result.now)
-    (c.deref-3.ensures.value ∙ c.in_ok-given.ensures.rates ∙ c.deref-2.ensures.value)
-    ∙ ap (rates_of_levels rates.levels.items) c.deref-4.ensures.value in
-    let given : in_units mid ≡ rerated cmp all old.at times (rates_found rates) (in_units old) =
-    c.in_ok-set_rates.ensures.rerated
-    ∙ ap (λ ns. rerated cmp all old.at (product ns) (rates_of_levels c.deref-3.result.now c.deref-4.result.now)
-    (in_units old)) c.deref-5.ensures.value
-    ∙ ap (λ rs. rerated cmp all old.at times rs (in_units old)) same in
-    let each : AllZip (IsRatedFrom old.at times) (in_units old) (in_units mid) =
-    subst (AllZip (IsRatedFrom old.at times) (in_units old)) (sym given)
-    (whole_rerated cmp all c.whole-all.ensures.whole c.whole-all.ensures.level old.at times (rates_found rates)
-    (in_units old) (found_each cmp all caps old.scale (in_units old) rates fair.one_each)) in
-    record { rated = all_have_got old.at times mid.at (in_units old) mid.list.items each }
-
 pub returns-clause-rated : goal.returns-clause-rated
 returns-clause-rated g c =
     let cmp = g.P.Ord.cmp in
@@ -62,28 +35,26 @@ returns-clause-rated g c =
     let caps = caps_of cmp c.args.peers.now.entries c.args.pairs.now.entries in
     let all = c.whole-all.result in
     let rates = c.in_ok-rates.rates in
-    let fair = c.in_ok-rates.ensures.fair in
-    let mid = c.set_rates.new.self in
+    let e = c.in_ok-set_rates.ensures in
     let times = product rates.growth.items in
     let same : rates_of_levels c.deref-3.result.now c.deref-4.result.now ≡ rates_found rates =
     ap (λ ls. rates_of_levels ls c.deref-4.result.now)
     (c.deref-3.ensures.value ∙ c.in_ok-given.ensures.rates ∙ c.deref-2.ensures.value)
     ∙ ap (rates_of_levels rates.levels.items) c.deref-4.ensures.value in
-    let given : in_units mid ≡ rerated cmp all old.at times (rates_found rates) (in_units old) =
-    c.in_ok-set_rates.ensures.rerated
+    let given : in_units c.set_rates.new.self ≡ rerated cmp all old.at times (rates_found rates) (in_units old) =
+    e.rerated
     ∙ ap (λ ns. rerated cmp all old.at (product ns) (rates_of_levels c.deref-3.result.now c.deref-4.result.now)
     (in_units old)) c.deref-5.ensures.value
     ∙ ap (λ rs. rerated cmp all old.at times rs (in_units old)) same in
-    let e = c.settle.ensures in
-    let last = c.settle.new.self in
-    let units : in_units last ≡ in_units mid =
-    ap (λ n. flights_at n last.list.items) e.at ∙ ap (flights_at mid.at) e.list in
+    let fair = c.in_ok-rates.ensures.fair in
+    let grown : c.grow.new.units ≡ old.scale * times =
+    c.in_ok-grow.ensures.grown ∙ ap₂ (λ n ns. n * product ns) c.in_ok-scale.ensures.value c.deref.ensures.value in
+    let scaled : 0 < c.grow.new.units =
+    subst (λ n. 0 < n) (sym grown) (mul-pos old.scaled (subst (λ n. 0 < n) fair.grown fair.fair.some_part)) in
     let h =
-    whole_given cmp caps all rates old last g.met.P.Ord.total
-    (looked_up cmp g.met.P.Ord.total c.args.peers.now.entries c.args.pairs.now.entries) old.scaled fair (units ∙ given)
-    (e.scale ∙ c.in_ok-grow.ensures.grown ∙ ap₂ (λ n ns. n * product ns) c.in_ok-scale.ensures.value c.deref.ensures.value)
-    (e.at ∙ c.in_ok-set_rates.ensures.at)
-    (subst AreTimed (sym e.list) c.in_ok-set_rates.ensures.timed) c.whole-all.ensures.whole c.whole-all.ensures.level in
+    whole_given cmp caps all rates old (record c.set_rates.new.self { scale = c.grow.new.units; scaled = scaled })
+    g.met.P.Ord.total (looked_up cmp g.met.P.Ord.total c.args.peers.now.entries c.args.pairs.now.entries) old.scaled
+    fair given grown e.at e.timed c.whole-all.ensures.whole c.whole-all.ensures.level in
     record {
       times = h.times;
       scale = h.scale;
@@ -92,36 +63,3 @@ returns-clause-rated g c =
       fair = h.fair;
       timed = h.timed;
     }
-
-pub returns-clause-finish : goal.returns-clause-finish
-returns-clause-finish g c =
-    let cmp = g.P.Ord.cmp in
-    let old = c.args.self.now in
-    let caps = caps_of cmp c.args.peers.now.entries c.args.pairs.now.entries in
-    let all = c.whole-all.result in
-    let rates = c.in_ok-rates.rates in
-    let fair = c.in_ok-rates.ensures.fair in
-    let mid = c.set_rates.new.self in
-    let times = product rates.growth.items in
-    let same : rates_of_levels c.deref-3.result.now c.deref-4.result.now ≡ rates_found rates =
-    ap (λ ls. rates_of_levels ls c.deref-4.result.now)
-    (c.deref-3.ensures.value ∙ c.in_ok-given.ensures.rates ∙ c.deref-2.ensures.value)
-    ∙ ap (rates_of_levels rates.levels.items) c.deref-4.ensures.value in
-    let given : in_units mid ≡ rerated cmp all old.at times (rates_found rates) (in_units old) =
-    c.in_ok-set_rates.ensures.rerated
-    ∙ ap (λ ns. rerated cmp all old.at (product ns) (rates_of_levels c.deref-3.result.now c.deref-4.result.now)
-    (in_units old)) c.deref-5.ensures.value
-    ∙ ap (λ rs. rerated cmp all old.at times rs (in_units old)) same in
-    let e = c.settle.ensures in
-    let last = c.settle.new.self in
-    let units : in_units last ≡ in_units mid =
-    ap (λ n. flights_at n last.list.items) e.at ∙ ap (flights_at mid.at) e.list in
-    let h =
-    whole_given cmp caps all rates old last g.met.P.Ord.total
-    (looked_up cmp g.met.P.Ord.total c.args.peers.now.entries c.args.pairs.now.entries) old.scaled fair (units ∙ given)
-    (e.scale ∙ c.in_ok-grow.ensures.grown ∙ ap₂ (λ n ns. n * product ns) c.in_ok-scale.ensures.value c.deref.ensures.value)
-    (e.at ∙ c.in_ok-set_rates.ensures.at)
-    (subst AreTimed (sym e.list) c.in_ok-set_rates.ensures.timed) c.whole-all.ensures.whole c.whole-all.ensures.level in
-    let fits : IfSome c.settle.result (λ t. t ≤ last_moment) = search rules in
-    let here : last.at ≤ last_moment = omega (arith, e.at, c.in_ok-set_rates.ensures.at, c.requires.moment) in
-    first_finish_is cmp caps old last h c.requires.left here c.settle.result e.finish fits

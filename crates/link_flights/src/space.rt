@@ -1,0 +1,59 @@
+//! Room for the lists of a component, which is kept from one event to the next.
+ghost use Rattle.std.specs.Prelude.{◌≡◌, []};
+
+use link_pairs::message::Message;
+use std::alloc::Global;
+use std::marker::Model;
+use std::sync::Arc;
+
+/// Room for the lists of a component. What they hold says nothing, so callers see nothing of it.
+pub(crate) struct Space<P> {
+    joined: Vec<Arc<Message<P>>>,
+    near: Vec<usize>,
+}
+
+impl<P: Drop> Drop for Space<P> {
+    /// Lets go of what it holds.
+    #[inline(always)]
+    fn drop(self) {
+        let Space { joined, near } = self;
+        drop(joined);
+        drop(near);
+    }
+}
+
+impl<P> Model for Space<P> {
+    ghost Value = { Unit {0} };
+
+    ghost view = { λ space. tt };
+}
+
+impl<P: Drop> Space<P> {
+    /// No room yet.
+    pub(crate) fn new(alloc: Global) -> Space<P> {
+        Space {
+            joined: Vec::new(alloc),
+            near: Vec::new(alloc),
+        }
+    }
+
+    /// The room of these lists. What stands in the first is let go.
+    pub(crate) fn of(mut joined: Vec<Arc<Message<P>>>, near: Vec<usize>) -> Space<P> {
+        joined.clear();
+        Space { joined, near }
+    }
+
+    /// The lists, in which nothing stands any more.
+    pub(crate) fn into_lists(self) -> (Vec<Arc<Message<P>>>, Vec<usize>)
+        ensures joined { result.0.items ≡ [] }
+        ensures near { result.1.items ≡ [] }
+    {
+        let Space {
+            mut joined,
+            mut near,
+        } = self;
+        joined.clear();
+        near.clear();
+        (joined, near)
+    }
+}
