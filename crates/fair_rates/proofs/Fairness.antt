@@ -1,2 +1,2 @@
--- The laws of max-min fairness.
+-- That what the planner answers is what is promised of it.
 pub mod AllocatedRates

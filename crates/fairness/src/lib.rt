@@ -3,5 +3,6 @@
 
 pub mod bandwidth;
 pub mod error;
+pub mod lowest_terms;
 pub mod peer;
 pub mod ratio;

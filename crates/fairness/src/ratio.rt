@@ -6,7 +6,8 @@ ghost use Rattle.fairness.specs.Numbers.Fraction.{IsReduced, fraction_cmp};
 ghost use Rattle.fairness.specs.Numbers.FractionOrder.{fraction_total, fraction_cmp-Equal};
 
 mod laws;
-pub mod numbers;
+pub(crate) mod lowest;
+pub(crate) mod numbers;
 
 pub use laws::{
     comparisons_are_by_value, each_value_has_one_fraction, hashes_read_the_whole_value,
@@ -100,18 +101,6 @@ impl Ratio {
         Ratio {
             numerator: quotient(num, divisor),
             denominator: quotient(den, divisor),
-        }
-    }
-
-    /// `num / den`, which is in lowest terms.
-    pub fn from_lowest(num: u128, den: u128) -> Ratio
-        requires positive { 0 < den }
-        requires lowest { IsReduced num den }
-        ensures { amount_of result ≡ record { num = num; den = den } }
-    {
-        Ratio {
-            numerator: num,
-            denominator: den,
         }
     }
 

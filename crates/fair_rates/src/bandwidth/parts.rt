@@ -10,8 +10,8 @@ ghost use Rattle.fairness.specs.Numbers.Ratio.{IsWorth};
 
 use fairness::bandwidth::Rate;
 use fairness::error::Error;
+use fairness::lowest_terms::{from_lowest, gcd_of_narrow};
 use fairness::ratio::Ratio;
-use fairness::ratio::numbers::gcd_of_narrow;
 use natural::Natural;
 use std::alloc::{AllocError, Global};
 
@@ -178,5 +178,5 @@ fn fraction(alloc: Global, parts: &Natural, factors: &[u64]) -> Result<Ratio, Er
     }
     let numerator = numerator.to_u128().ok_or(Error::NumberTooLarge)?;
     let denominator = denominator.to_u128().ok_or(Error::NumberTooLarge)?;
-    Ok(Ratio::from_lowest(numerator, denominator))
+    Ok(from_lowest(numerator, denominator))
 }

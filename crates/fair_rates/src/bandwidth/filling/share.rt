@@ -1,7 +1,7 @@
 //! The share of a side, in whole parts.
 ghost use Rattle.std.specs.Prelude.{◌≡◌, ◌*◌, ◌<◌, ◌≤◌, ℕ, IfOk};
 
-use fairness::ratio::numbers::gcd_of_narrow;
+use fairness::lowest_terms::gcd_of_narrow;
 use natural::Natural;
 use std::alloc::{AllocError, Global};
 
