@@ -42,6 +42,10 @@ const MOST_JOINED: usize = 48;
 /// more, it mostly joins too many.
 const MOST_NEAR: usize = 56;
 
+/// Where more than so many have an end for each message that joins, it mostly joins nearly all: then a smaller part of
+/// all in flight is too much.
+const DENSE: usize = 8;
+
 /// So many places are sorted, and so large a part of all; more are read off what is noted of each place.
 const FEW_LISTED: usize = 16;
 
@@ -190,7 +194,12 @@ impl<P: Peer> Component<P> {
     fn is_large(&self, in_flight: usize) -> bool
         ensures { result ≡ false → length self.now.joined.items ≤ MOST_JOINED + in_flight }
     {
-        let part = in_flight / 2;
+        let is_dense = self.near.len() / DENSE > self.joined.len();
+        let part = if is_dense {
+            in_flight / 8
+        } else {
+            in_flight / 2
+        };
         self.joined.len() > MOST_JOINED.max(part) || self.near.len() > MOST_NEAR.max(part)
     }
 }

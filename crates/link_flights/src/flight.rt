@@ -13,19 +13,19 @@ use std::alloc::Global;
 use std::sync::Arc;
 
 /// A message in flight. What is left, and the rate, are whole numbers of the units that all
-/// messages in flight share.
+/// messages in flight share. What is looked at of each that shares an end with another stands first.
 pub(crate) struct Flight<P> {
-    pub(crate) message: Arc<Message<P>>,
     /// As its message has it, at hand.
     pub(crate) should_deliver: bool,
-    ghost as_sent: { should_deliver ≡ message.value.should_deliver },
     /// Whether an account has given it a rate since its start.
     pub(crate) rated: bool,
+    /// The units that drain in a nanosecond from then on.
+    pub(crate) rate: Rate,
+    pub(crate) message: Arc<Message<P>>,
+    ghost as_sent: { should_deliver ≡ message.value.should_deliver },
     /// The moment from which on nothing is left, if there is one up to the last moment.
     pub(crate) finish: Option<u64>,
     pub(crate) since: u64,
-    /// The units that drain in a nanosecond from then on.
-    pub(crate) rate: Rate,
     /// Its flow id.
     pub(crate) id: u64,
     /// The units that were left at the moment `since`.

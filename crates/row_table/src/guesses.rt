@@ -2,15 +2,16 @@
 
 use std::alloc::{AllocError, Global};
 
-/// A note of each slot: at which place it stands among those that hold a row.
+/// A note of each slot: at which place it stands among those that hold a row. A note takes little room, so that many of
+/// them stand in a fast cache.
 ///
 /// As a row leaves, those behind it move up. So that this takes little time where there are many slots, the notes
 /// stand in blocks, and what the later blocks have moved up is noted once for each.
 #[derive(Drop)]
 pub(crate) struct Guesses {
-    notes: Vec<usize>,
+    notes: Vec<u32>,
     // How far the slots of each block have moved up since they were noted.
-    moved: Vec<usize>,
+    moved: Vec<u32>,
 }
 
 /// So many notes are a block.
@@ -29,7 +30,7 @@ impl Guesses {
     #[inline(always)]
     pub(crate) fn place(&self, slot: usize) -> usize {
         match (self.notes.get(slot), self.moved.get(slot / BLOCK)) {
-            (Some(note), Some(moved)) => note.wrapping_sub(*moved),
+            (Some(note), Some(moved)) => note.wrapping_sub(*moved) as usize,
             _ => 0,
         }
     }
@@ -41,7 +42,7 @@ impl Guesses {
             self.moved.push(0)?;
         }
         let moved = self.moved.get(block).copied().unwrap_or(0);
-        self.notes.push(place.wrapping_add(moved))?;
+        self.notes.push(short(place).wrapping_add(moved))?;
         Ok(())
     }
 
@@ -74,8 +75,14 @@ impl Guesses {
         }
         for place in 0..filled.len() {
             if let Some(note) = self.notes.get_mut(filled[place]) {
-                *note = place;
+                *note = short(place);
             }
         }
     }
+}
+
+/// The place, in half the room. Past 2^32 it is no place, so that the guess is wrong.
+#[inline(always)]
+fn short(place: usize) -> u32 {
+    u32::try_from(place).unwrap_or(u32::MAX)
 }

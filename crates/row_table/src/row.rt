@@ -3,8 +3,8 @@
 /// An item, with the owners who send and receive it, which are numbers, and a moment, if it has one.
 #[derive(Drop)]
 pub struct Row<T> {
-    pub item: T,
     pub sender: usize,
     pub receiver: usize,
+    pub item: T,
     pub moment: Option<u64>,
 }
