@@ -1,7 +1,0 @@
-//! Tests of the rates of flows.
-#![tactic(auto)]
-
-#[cfg(test)]
-mod planner;
-#[cfg(test)]
-mod same;

@@ -1,0 +1,4 @@
+//! Natural numbers and fractions.
+mod naturals;
+mod ratios;
+mod table;
