@@ -42,8 +42,8 @@ impl Board {
 
     /// What was the upper rate is the lower one, too.
     pub(crate) fn rise(&mut self) {
-        for (low, high) in self.low.iter_mut().zip(self.high.iter()) {
-            *low = *high;
+        if self.low.len() == self.high.len() {
+            self.low.copy_from_slice(&self.high);
         }
     }
 

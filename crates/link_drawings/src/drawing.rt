@@ -37,7 +37,7 @@ fn draw_picture(
     time: (u64, u64),
 ) -> Result<(), Error> {
     let layout = Layout::new(history, options, time)?;
-    let mut board = Board::new(history.alloc(), layout.frame.columns())?;
+    let mut board = Board::new(history.alloc, layout.frame.columns())?;
     match options.form {
         Form::Page => page::write(ink, history, options, &layout, &mut board),
         _ => picture::draw(ink, history, options, &layout, &mut board),

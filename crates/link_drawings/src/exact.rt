@@ -44,25 +44,13 @@ impl Used {
     }
 }
 
-/// The use of the cap of a side, in order of time, where something is in flight on it.
-pub(crate) fn uses(history: &History, side: Side) -> Result<Vec<Used>, Error> {
-    let alloc = history.alloc();
-    match history.caps.get(&side) {
-        Some(caps) => {
-            let changes = changes(history, side, caps)?;
-            sweep(alloc, &changes, caps)
-        }
-        None => Ok(Vec::new(alloc)),
-    }
-}
-
-/// What changes for a side with these caps, in order of time.
-fn changes(history: &History, side: Side, caps: &[Cap]) -> Result<Vec<Change>, Error> {
-    let mut changes = Vec::new(history.alloc());
+/// The use of the caps of a side, in order of time, where something is in flight on it.
+pub(crate) fn uses(history: &History, side: Side, caps: &[Cap]) -> Result<Vec<Used>, Error> {
+    let mut changes = Vec::new(history.alloc);
     note_all(&mut changes, history, side)?;
     note_caps(&mut changes, caps)?;
     changes.sort_unstable_by_key(|change| (change.moment, change.kind));
-    Ok(changes)
+    sweep(history.alloc, &changes, caps)
 }
 
 /// Notes when the rates of all that share the cap of a side begin and end.

@@ -14,8 +14,8 @@ pub(crate) const SPAN: u64 = 1600;
 /// The time of a picture, and how finely it is drawn: in so many columns.
 #[derive(Clone, Copy)]
 pub(crate) struct Frame {
-    first: u64,
-    last: u64,
+    pub(crate) first: u64,
+    pub(crate) last: u64,
     columns: u64,
 }
 
@@ -35,14 +35,6 @@ impl Frame {
     /// How many columns there are.
     pub(crate) fn columns(&self) -> usize {
         self.columns as usize
-    }
-
-    pub(crate) fn first(&self) -> u64 {
-        self.first
-    }
-
-    pub(crate) fn last(&self) -> u64 {
-        self.last
     }
 
     /// How long the picture is. It is never zero.

@@ -52,8 +52,7 @@ pub(crate) fn draw_title(ink: &mut Ink, history: &History, options: &Options, fr
     };
     ink.text("<title>");
     ink.marked(title);
-    ink.put("</title>\n<text class=\"c\" x=\"", LEFT);
-    ink.text("\" y=\"38\">");
+    ink.put_all("</title>\n<text class=\"c\" x=\"{}\" y=\"38\">", &[LEFT]);
     ink.marked(title);
     ink.text("</text>\n");
     draw_contents(ink, history, frame);
@@ -61,18 +60,13 @@ pub(crate) fn draw_title(ink: &mut Ink, history: &History, options: &Options, fr
 
 /// How much the run has.
 fn draw_contents(ink: &mut Ink, history: &History, frame: Frame) {
-    ink.put("<text x=\"", LEFT);
-    ink.text("\" y=\"72\">");
-    ink.count(history.messages as u64, "message");
-    ink.text(" of ");
-    ink.count(history.tracks.len() as u64, "ordered pair");
-    ink.text(", ");
-    ink.moment(frame.first());
-    ink.text(" to ");
-    ink.moment(frame.last());
+    ink.put_all("<text x=\"{}\" y=\"72\">", &[LEFT]);
+    ink.count("", history.messages as u64, "message");
+    ink.count(" of ", history.tracks.len() as u64, "ordered pair");
+    ink.moment(", ", frame.first);
+    ink.moment(" to ", frame.last);
     if history.refused > 0 {
-        ink.text("; ");
-        ink.count(history.refused, "refused call");
+        ink.count("; ", history.refused, "refused call");
     }
     ink.text("</text>\n");
 }
@@ -119,11 +113,8 @@ pub(crate) fn draw_pair_legend(ink: &mut Ink, history: &History, layout: &Layout
 
 /// The colour of a pair, at that place of the legend.
 fn draw_colour(ink: &mut Ink, x: u64, pair: (u64, u64), shade: usize) {
-    ink.put("<path class=\"p", shade as u64);
-    ink.put("\" d=\"M", x);
-    ink.put(" 154V134H", x.saturating_add(24));
-    ink.put("V154z\"/><text x=\"", x.saturating_add(32));
-    ink.text("\" y=\"152\">");
-    ink.pair(pair.0, pair.1);
-    ink.text("</text>\n");
+    let (end, name) = (x.saturating_add(24), x.saturating_add(32));
+    let text = "<path class=\"p{}\" d=\"M{} 154V134H{}V154z\"/><text x=\"{}\" y=\"152\">";
+    ink.put_all(text, &[shade as u64, x, end, name]);
+    ink.put_all("{} → {}</text>\n", &[pair.0, pair.1]);
 }

@@ -19,7 +19,8 @@ const LATER_PART: u64 = 4;
 /// What happened in a run, up to a moment. Who runs it tells it what happens; moments are in
 /// nanoseconds since the start.
 pub struct History {
-    alloc: Global,
+    /// Where memory comes from.
+    pub(crate) alloc: Global,
     first: Option<u64>,
     now: u64,
     /// The last moment at which something was asked, started, was done or arrives.
@@ -75,11 +76,6 @@ impl History {
             refused: 0,
             is_exact: true,
         }
-    }
-
-    /// Where memory comes from.
-    pub(crate) fn alloc(&self) -> Global {
-        self.alloc
     }
 
     /// The moment to which time has gone on.

@@ -62,6 +62,18 @@ impl Ink {
         }
     }
 
+    /// A text in which each `{}` stands for the next of the numbers.
+    pub(crate) fn put_all(&mut self, text: &str, numbers: &[u64]) {
+        let mut rest = text;
+        for number in numbers {
+            if let Some((before, after)) = rest.split_once("{}") {
+                self.put(before, *number);
+                rest = after;
+            }
+        }
+        self.text(rest);
+    }
+
     /// A text, and whether something holds behind it.
     pub(crate) fn flag(&mut self, text: &str, holds: bool) {
         self.text(text);

@@ -32,8 +32,9 @@ impl Ink {
         }
     }
 
-    /// A moment or a time in nanoseconds, in the greatest unit that it fills.
-    pub(crate) fn moment(&mut self, time: u64) {
+    /// A text, and behind it a moment or a time in nanoseconds, in the greatest unit that it fills.
+    pub(crate) fn moment(&mut self, text: &str, time: u64) {
+        self.text(text);
         if time == 0 {
             self.text("0 s");
             return;
@@ -89,13 +90,12 @@ impl Ink {
 
     /// An ordered pair.
     pub(crate) fn pair(&mut self, origin: u64, recipient: u64) {
-        self.put("", origin);
-        self.put(" → ", recipient);
+        self.put_all("{} → {}", &[origin, recipient]);
     }
 
-    /// So many of something: `1 message`, `2 messages`.
-    pub(crate) fn count(&mut self, count: u64, word: &str) {
-        self.put("", count);
+    /// A text, and so many of something behind it: `1 message`, `2 messages`.
+    pub(crate) fn count(&mut self, text: &str, count: u64, word: &str) {
+        self.put(text, count);
         self.text(" ");
         self.text(word);
         if count != 1 {

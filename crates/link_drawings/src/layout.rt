@@ -83,7 +83,7 @@ impl Layout {
         options: &Options,
         time: (u64, u64),
     ) -> Result<Layout, Error> {
-        let alloc = history.alloc();
+        let alloc = history.alloc;
         let mut layout = Layout {
             frame: Frame::new(time.0, time.1, 1),
             is_detailed: false,
@@ -142,7 +142,7 @@ impl Layout {
         options: &Options,
         sides: &mut BTreeSet<Side>,
     ) -> Result<Vec<(u128, u64, u64)>, Error> {
-        let mut found = Vec::new(history.alloc());
+        let mut found = Vec::new(history.alloc);
         for (pair, track) in &history.tracks {
             let (origin, recipient) = *pair;
             if options.shows_pair(origin, recipient) {
@@ -239,7 +239,7 @@ fn happens(frame: Frame, track: &Track) -> bool {
             (Some(done), None) => done,
             _ => u64::MAX,
         };
-        if message.enqueued <= frame.last() && end >= frame.first() {
+        if message.enqueued <= frame.last && end >= frame.first {
             return true;
         }
     }

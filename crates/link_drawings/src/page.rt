@@ -26,7 +26,9 @@ pub(crate) fn write(
     write_title(ink, options);
     write_head(ink, history, layout);
     for side in &layout.caps {
-        write_cap(ink, history, layout.frame, board, *side);
+        if let Some(caps) = history.caps.get(side) {
+            write_cap(ink, history, layout.frame, board, *side, caps);
+        }
     }
     ink.text("],sides:[\n");
     if !layout.is_detailed {
@@ -36,9 +38,8 @@ pub(crate) fn write(
     }
     ink.text("],pairs:[\n");
     write_pairs(ink, history, layout, board);
-    ink.put("],idle:", layout.idle.pairs as u64);
-    ink.put(",more:", layout.more.pairs as u64);
-    ink.text("};\n");
+    let left_out = [layout.idle.pairs as u64, layout.more.pairs as u64];
+    ink.put_all("],idle:{},more:{}};\n", &left_out);
     ink.text(SCRIPT);
     ink.text("</script></body></html>\n");
 }
@@ -61,9 +62,9 @@ fn write_title(ink: &mut Ink, options: &Options) {
 
 /// What holds for all of the run.
 fn write_head(ink: &mut Ink, history: &History, layout: &Layout) {
-    ink.put("const D={first:", layout.frame.first());
-    ink.put(",last:", layout.frame.last());
-    ink.put(",cols:", layout.frame.columns() as u64);
+    let frame = layout.frame;
+    let text = "const D={first:{},last:{},cols:{}";
+    ink.put_all(text, &[frame.first, frame.last, frame.columns() as u64]);
     ink.flag(",told:", layout.is_detailed);
     ink.put(",refused:", history.refused);
     ink.flag(",exact:", history.is_exact);
@@ -71,15 +72,20 @@ fn write_head(ink: &mut Ink, history: &History, layout: &Layout) {
 }
 
 /// A cap: what it is for, its values, how much of it is used, and what part of the time it is full.
-fn write_cap(ink: &mut Ink, history: &History, frame: Frame, board: &mut Board, side: Side) {
-    if sum_up(board, history, frame, side).is_err() {
+fn write_cap(
+    ink: &mut Ink,
+    history: &History,
+    frame: Frame,
+    board: &mut Board,
+    side: Side,
+    caps: &[Cap],
+) {
+    if sum_up(board, history, frame, side, caps).is_err() {
         ink.refuse();
     }
     write_kind(ink, side);
     ink.text("\",v:[");
-    if let Some(caps) = history.caps.get(&side) {
-        write_values(ink, frame, caps);
-    }
+    write_values(ink, frame, caps);
     ink.text("],u:[");
     write_steps(ink, &board.high, 1000);
     ink.text("],f:[");
@@ -101,7 +107,7 @@ fn write_kind(ink: &mut Ink, side: Side) {
 /// From when on there is which cap.
 fn write_values(ink: &mut Ink, frame: Frame, caps: &[Cap]) {
     for cap in caps {
-        ink.put("", cap.from.saturating_sub(frame.first()));
+        ink.put("", cap.from.saturating_sub(frame.first));
         match cap.cap {
             Some(cap) => ink.put(",", cap as u64),
             None => ink.text(",null"),
@@ -143,11 +149,15 @@ fn write_steps(ink: &mut Ink, values: &[u128], parts: u128) {
 /// One step.
 fn write_step(ink: &mut Ink, from: usize, to: usize, value: u128) {
     if value > 0 && from < to {
-        ink.put("", from as u64);
-        ink.put(",", to as u64);
-        ink.put_large(",", value);
-        ink.text(",");
+        write_value(ink, from as u64, to as u64, value);
     }
+}
+
+/// From when to when something has a value, and the value.
+fn write_value(ink: &mut Ink, from: u64, to: u64, value: u128) {
+    ink.put_all("{},{}", &[from, to]);
+    ink.put_large(",", value);
+    ink.text(",");
 }
 
 /// For what part of the time a cap is full, by column, in quarters.
@@ -171,7 +181,7 @@ fn write_pairs(ink: &mut Ink, history: &History, layout: &Layout, board: &mut Bo
     for pair in &layout.pairs {
         if let Some(track) = history.tracks.get(pair) {
             write_pair(ink, layout, board, *pair, track);
-            write_messages(ink, layout.frame.first(), track, room);
+            write_messages(ink, layout.frame.first, track, room);
             room = room.saturating_sub(track.messages.len());
         }
     }
@@ -180,10 +190,8 @@ fn write_pairs(ink: &mut Ink, history: &History, layout: &Layout, board: &mut Bo
 /// A pair and its rates, up to its messages.
 fn write_pair(ink: &mut Ink, layout: &Layout, board: &mut Board, pair: (u64, u64), track: &Track) {
     let frame = layout.frame;
-    ink.put("{a:\"", pair.0);
-    ink.put("\",b:\"", pair.1);
-    ink.put("\",c:", track.shade as u64);
-    ink.text(",r:[");
+    let text = "{a:\"{}\",b:\"{}\",c:{},r:[";
+    ink.put_all(text, &[pair.0, pair.1, track.shade as u64]);
     if layout.is_detailed {
         write_pieces(ink, frame, track, true);
         ink.text("],x:[");
@@ -203,10 +211,9 @@ fn write_pieces(ink: &mut Ink, frame: Frame, track: &Track, should_deliver: bool
     for piece in &track.pieces {
         let (from, to) = frame.cut(piece.from, piece.to);
         if piece.should_deliver == should_deliver && from < to {
-            ink.put("", from.saturating_sub(frame.first()));
-            ink.put(",", to.saturating_sub(frame.first()));
-            ink.put_large(",", piece.rate);
-            ink.text(",");
+            let from = from.saturating_sub(frame.first);
+            let to = to.saturating_sub(frame.first);
+            write_value(ink, from, to, piece.rate);
         }
     }
 }
@@ -221,8 +228,7 @@ fn write_messages(ink: &mut Ink, first: u64, track: &Track, most: usize) {
 
 /// A message: channel, length, and its moments from the first one that is shown on.
 fn write_message(ink: &mut Ink, first: u64, message: &Sent) {
-    ink.put("", message.channel);
-    ink.put(",", message.length as u64);
+    ink.put_all("{},{}", &[message.channel, message.length as u64]);
     write_moment(ink, first, Some(message.enqueued));
     write_moment(ink, first, message.start);
     write_moment(ink, first, message.done);

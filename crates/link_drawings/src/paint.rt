@@ -45,15 +45,13 @@ pub(crate) fn fill(ink: &mut Ink, frame: Frame, board: &Board, band: Band) {
 
 /// An area goes on with another height from there.
 fn turn(ink: &mut Ink, x: u64, foot: u64, before: u64, after: u64) {
+    let height = foot.saturating_sub(after);
     if before == 0 {
-        ink.put("M", x);
-        ink.put(" ", foot);
+        ink.put_all("M{} {}V{}", &[x, foot, height]);
+    } else if after == 0 {
+        ink.put_all("H{}V{}z", &[x, height]);
     } else {
-        ink.put("H", x);
-    }
-    ink.put("V", foot.saturating_sub(after));
-    if before > 0 && after == 0 {
-        ink.text("z");
+        ink.put_all("H{}V{}", &[x, height]);
     }
 }
 
@@ -61,8 +59,12 @@ fn turn(ink: &mut Ink, x: u64, foot: u64, before: u64, after: u64) {
 pub(crate) fn fill_between(ink: &mut Ink, frame: Frame, board: &Board, band: Band) {
     let mut begin = 0usize;
     let mut run = (0u64, 0u64);
-    for (column, (low, high)) in board.low.iter().zip(board.high.iter()).enumerate() {
-        let next = (band.up(*low), band.up(*high));
+    for (column, high) in board.high.iter().enumerate() {
+        let low = match board.low.get(column) {
+            Some(low) => *low,
+            None => 0,
+        };
+        let next = (band.up(low), band.up(*high));
         if next != run {
             fill_run(ink, frame.x(begin), frame.x(column), run, band.foot);
             begin = column;
@@ -87,12 +89,7 @@ pub(crate) fn block(ink: &mut Ink, run: (u64, u64), foot: u64, height: u64) {
         return;
     }
     let width = to.saturating_sub(from);
-    ink.put("M", from);
-    ink.put(" ", foot);
-    ink.put("v-", height);
-    ink.put("h", width);
-    ink.put("v", height);
-    ink.text("z");
+    ink.put_all("M{} {}v-{}h{}v{}z", &[from, foot, height, width, height]);
 }
 
 /// The parts of a path that lie on the columns in which what is held lasts for that quarter of the
@@ -140,9 +137,7 @@ pub(crate) fn quarter_of(frame: Frame, column: usize, held: u64) -> u64 {
 /// A part of a path: a level line.
 pub(crate) fn line(ink: &mut Ink, from: u64, to: u64, height: u64) {
     if from < to {
-        ink.put("M", from);
-        ink.put(" ", height);
-        ink.put("H", to);
+        ink.put_all("M{} {}H{}", &[from, height, to]);
     }
 }
 

@@ -58,23 +58,20 @@ fn part(rows: usize, pitch: u64) -> u64 {
 /// The head of the file, with the styles.
 fn open(ink: &mut Ink, height: u64) {
     ink.text("<svg xmlns=\"http://www.w3.org/2000/svg\" width=\"100%\" ");
-    ink.put("viewBox=\"0 0 ", WIDTH);
-    ink.put(" ", height);
-    ink.text("\">\n");
+    ink.put_all("viewBox=\"0 0 {} {}\">\n", &[WIDTH, height]);
     ink.text(STYLE);
-    ink.put("\n<rect class=\"b\" width=\"", WIDTH);
-    ink.put("\" height=\"", height);
-    ink.text("\"/>\n");
+    let text = "\n<rect class=\"b\" width=\"{}\" height=\"{}\"/>\n";
+    ink.put_all(text, &[WIDTH, height]);
 }
 
 /// The marks of time, from the head to the foot, and the name of the axis.
 fn draw_axis(ink: &mut Ink, frame: Frame, top: u64, foot: u64) {
-    let letters = digits(frame.last()).saturating_add(5);
+    let letters = digits(frame.last).saturating_add(5);
     let most = (SPAN / letters.saturating_mul(14).max(1)).clamp(1, 8);
-    let step = tick_step(frame.last().saturating_sub(frame.first()), most);
-    let mut moment = frame.first().div_ceil(step.max(1)).saturating_mul(step);
+    let step = tick_step(frame.last.saturating_sub(frame.first), most);
+    let mut moment = frame.first.div_ceil(step.max(1)).saturating_mul(step);
     for _ in 0..12 {
-        if moment > frame.last() {
+        if moment > frame.last {
             break;
         }
         draw_mark(ink, frame, moment, top, foot);
@@ -83,35 +80,33 @@ fn draw_axis(ink: &mut Ink, frame: Frame, top: u64, foot: u64) {
         };
         moment = next;
     }
-    ink.put("<text class=\"t\" x=\"", LEFT.saturating_add(SPAN / 2));
-    ink.put("\" y=\"", foot.saturating_add(58));
-    ink.text("\">time since the start</text>\n");
+    let text = "<text class=\"t\" x=\"{}\" y=\"{}\">time since the start</text>\n";
+    ink.put_all(
+        text,
+        &[LEFT.saturating_add(SPAN / 2), foot.saturating_add(58)],
+    );
 }
 
 /// The mark of a moment, from the head to the foot.
 fn draw_mark(ink: &mut Ink, frame: Frame, moment: u64, top: u64, foot: u64) {
-    ink.put("<path class=\"g\" d=\"M", frame.at(moment));
-    ink.put(" ", top);
-    ink.put("V", foot);
-    ink.text("\"/>\n");
+    let text = "<path class=\"g\" d=\"M{} {}V{}\"/>\n";
+    ink.put_all(text, &[frame.at(moment), top, foot]);
     name_mark(ink, frame, moment, top.saturating_sub(14));
     name_mark(ink, frame, moment, foot.saturating_add(28));
 }
 
 /// The name of a moment, at that height.
 fn name_mark(ink: &mut Ink, frame: Frame, moment: u64, y: u64) {
-    ink.put("<text class=\"t\" x=\"", frame.at(moment));
-    ink.put("\" y=\"", y);
-    ink.text("\">");
-    ink.tick(moment, frame.last());
+    let text = "<text class=\"t\" x=\"{}\" y=\"{}\">";
+    ink.put_all(text, &[frame.at(moment), y]);
+    ink.tick(moment, frame.last);
     ink.text("</text>\n");
 }
 
 /// Names a part, whose top is there, and answers where its rows begin.
 fn draw_part(ink: &mut Ink, top: u64, name: &str, full: Option<u128>) -> u64 {
-    ink.put("<text class=\"h\" x=\"", LEFT);
-    ink.put("\" y=\"", top.saturating_add(34));
-    ink.text("\">");
+    let text = "<text class=\"h\" x=\"{}\" y=\"{}\">";
+    ink.put_all(text, &[LEFT, top.saturating_add(34)]);
     ink.text(name);
     if let Some(full) = full {
         ink.text(" (full height: ");
@@ -131,16 +126,17 @@ fn draw_caps(ink: &mut Ink, history: &History, layout: &Layout, board: &mut Boar
     let pitch = layout.cap_pitch();
     let mut named = 0u64;
     for side in &layout.caps {
-        draw_cap(ink, history, layout.frame, board, (top, pitch), *side);
-        if top >= named {
-            let middle = top.saturating_add(pitch / 2);
-            draw_name(ink, *side, middle, pitch);
-            if let Some(caps) = history.caps.get(side) {
+        if let Some(caps) = history.caps.get(side) {
+            let place = (top, pitch);
+            draw_cap(ink, history, layout.frame, board, place, *side, caps);
+            if top >= named {
+                let middle = top.saturating_add(pitch / 2);
+                draw_name(ink, *side, middle, pitch);
                 draw_cap_name(ink, caps, middle, pitch);
+                named = top.saturating_add(NAMES).saturating_sub(2);
             }
-            named = top.saturating_add(NAMES).saturating_sub(2);
+            top = top.saturating_add(pitch);
         }
-        top = top.saturating_add(pitch);
     }
 }
 
@@ -248,37 +244,31 @@ fn draw_notes(ink: &mut Ink, history: &History, layout: &Layout, foot: u64) {
         y = y.saturating_add(30);
     }
     if !history.is_exact {
-        begin_note(ink, y);
-        ink.text("A rate is a mean over a few events; ");
+        begin_note(ink, y, "A rate is a mean over a few events; ");
         ink.text("a cap counts as full where it is for all of these.</text>\n");
     }
 }
 
-/// Where a note begins.
-fn begin_note(ink: &mut Ink, y: u64) {
-    ink.put("<text x=\"", LEFT);
-    ink.put("\" y=\"", y);
-    ink.text("\">");
+/// The begin of a note, at that height.
+fn begin_note(ink: &mut Ink, y: u64, text: &str) {
+    ink.put_all("<text x=\"{}\" y=\"{}\">", &[LEFT, y]);
+    ink.text(text);
 }
 
 /// How many rows are left out since nothing happens there.
 fn draw_idle(ink: &mut Ink, layout: &Layout, y: u64) {
-    begin_note(ink, y);
-    ink.text("Left out, since nothing happens there: ");
-    ink.count(layout.idle.caps as u64, "cap");
-    ink.text(", ");
-    ink.count(layout.idle.pairs as u64, "pair");
+    begin_note(ink, y, "Left out, since nothing happens there: ");
+    ink.count("", layout.idle.caps as u64, "cap");
+    ink.count(", ", layout.idle.pairs as u64, "pair");
     ink.text(".</text>\n");
 }
 
 /// How many rows are left out for want of room.
 fn draw_more(ink: &mut Ink, layout: &Layout, y: u64) {
-    begin_note(ink, y);
-    ink.text("Left out for want of room (--peers shows those of some): ");
-    ink.count(layout.more.caps as u64, "cap");
-    ink.text(", ");
-    ink.count(layout.more.peers as u64, "row");
-    ink.text(" of peers, and ");
-    ink.count(layout.more.pairs as u64, "pair");
+    let text = "Left out for want of room (--peers shows those of some): ";
+    begin_note(ink, y, text);
+    ink.count("", layout.more.caps as u64, "cap");
+    ink.count(", ", layout.more.peers as u64, "row");
+    ink.count(" of peers, and ", layout.more.pairs as u64, "pair");
     ink.text(" that send least.</text>\n");
 }

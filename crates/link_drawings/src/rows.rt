@@ -70,8 +70,7 @@ pub(crate) fn draw_pair(
     draw_row(ink, row, pair, track);
     board.clear();
     board.add(frame, &track.pieces, true);
-    ink.put("<path class=\"p", track.shade as u64);
-    ink.text("\" d=\"");
+    ink.put_all("<path class=\"p{}\" d=\"", &[track.shade as u64]);
     fill(ink, frame, board, row.band());
     draw_instants(ink, frame, row.band(), track);
     ink.text("\"/>\n");
@@ -89,9 +88,8 @@ pub(crate) fn draw_pair(
 
 /// What is told of a pair where one points at its row, and its foot.
 fn draw_row(ink: &mut Ink, row: Row, pair: (u64, u64), track: &Track) {
-    ink.put("<rect class=\"m\" x=\"0\" y=\"", row.top);
-    ink.put("\" width=\"2000\" height=\"", row.pitch);
-    ink.text("\">");
+    let text = "<rect class=\"m\" x=\"0\" y=\"{}\" width=\"2000\" height=\"{}\">";
+    ink.put_all(text, &[row.top, row.pitch]);
     tell_all(ink, pair, track);
     ink.text("</rect>\n");
     if row.pitch >= WIDE_ROW {
@@ -105,10 +103,8 @@ fn tell_all(ink: &mut Ink, pair: (u64, u64), track: &Track) {
     for message in &track.messages {
         all = all.saturating_add(message.length as u128);
     }
-    ink.text("<title>");
-    ink.pair(pair.0, pair.1);
-    ink.text(": ");
-    ink.count(track.messages.len() as u64, "message");
+    ink.put_all("<title>{} → {}", &[pair.0, pair.1]);
+    ink.count(": ", track.messages.len() as u64, "message");
     ink.text(", ");
     ink.size(all.saturating_mul(MILLION));
     ink.text("</title>");
@@ -116,21 +112,18 @@ fn tell_all(ink: &mut Ink, pair: (u64, u64), track: &Track) {
 
 /// The foot of a row.
 pub(crate) fn draw_foot(ink: &mut Ink, foot: u64) {
-    ink.put("<path class=\"f\" d=\"M", LEFT);
-    ink.put(" ", foot);
-    ink.put("H", LEFT.saturating_add(SPAN));
-    ink.text("\"/>\n");
+    let end = LEFT.saturating_add(SPAN);
+    ink.put_all("<path class=\"f\" d=\"M{} {}H{}\"/>\n", &[LEFT, foot, end]);
 }
 
 /// A name at the left of a row whose middle is there, made narrower where it is long.
 pub(crate) fn draw_name(ink: &mut Ink, side: Side, middle: u64, pitch: u64) {
-    ink.put("<text x=\"", LEFT.saturating_sub(14));
-    ink.put("\" y=\"", middle.saturating_add(7));
-    ink.text(if pitch < 24 {
-        "\" class=\"n i\""
+    let text = if pitch < 24 {
+        "<text x=\"{}\" y=\"{}\" class=\"n i\""
     } else {
-        "\" class=\"n\""
-    });
+        "<text x=\"{}\" y=\"{}\" class=\"n\""
+    };
+    ink.put_all(text, &[LEFT.saturating_sub(14), middle.saturating_add(7)]);
     if letters(side) > 17 {
         ink.text(" textLength=\"220\" lengthAdjust=\"spacingAndGlyphs\"");
     }
@@ -153,7 +146,7 @@ fn draw_instants(ink: &mut Ink, frame: Frame, band: Band, track: &Track) {
 
 /// Whether a time is partly in the picture.
 fn shows(frame: Frame, from: u64, to: u64) -> bool {
-    from <= frame.last() && to >= frame.first()
+    from <= frame.last && to >= frame.first
 }
 
 /// The times in which a message is in flight and nothing of it is sent.
@@ -186,7 +179,7 @@ fn draw_waiting(ink: &mut Ink, frame: Frame, row: Row, track: &Track) {
     let mut lines = Lines::new(height);
     ink.text("<path class=\"w\" d=\"");
     for (place, message) in track.messages.iter().enumerate() {
-        let start = message.start.unwrap_or(frame.last());
+        let start = message.start.unwrap_or(frame.last);
         if start > message.enqueued && shows(frame, message.enqueued, start) {
             let from = frame.at(message.enqueued);
             let to = frame.at(start);
@@ -231,9 +224,8 @@ fn draw_arrivals(ink: &mut Ink, frame: Frame, row: Row, track: &Track) {
         if let Some(arrives) = message.deliver_at {
             let x = frame.at(arrives);
             if x != before && shows(frame, arrives, arrives) {
-                ink.put("M", x);
-                ink.put(" ", row.top.saturating_add(row.lane(place)));
-                ink.put("v", row.end_size());
+                let y = row.top.saturating_add(row.lane(place));
+                ink.put_all("M{} {}v{}", &[x, y, row.end_size()]);
                 before = if row.pitch < WIDE_ROW { x } else { 0 };
             }
         }
@@ -256,13 +248,10 @@ fn draw_drops(ink: &mut Ink, frame: Frame, row: Row, track: &Track) {
 
 /// A part of a path: a cross of that size below the top.
 fn draw_cross(ink: &mut Ink, x: u64, top: u64, size: u64) {
-    ink.put("M", x.saturating_sub(size / 2));
-    ink.put(" ", top.saturating_add(1));
-    ink.put("l", size);
-    ink.put(" ", size);
-    ink.put("m0-", size);
-    ink.put("l-", size);
-    ink.put(" ", size);
+    let x = x.saturating_sub(size / 2);
+    let y = top.saturating_add(1);
+    let text = "M{} {}l{} {}m0-{}l-{} {}";
+    ink.put_all(text, &[x, y, size, size, size, size, size]);
 }
 
 /// What is told of a message where one points at it.
@@ -270,19 +259,16 @@ fn draw_hover(ink: &mut Ink, frame: Frame, row: Row, pair: (u64, u64), message: 
     let Some(start) = message.start else {
         return;
     };
-    let end = message.done.unwrap_or(frame.last());
+    let end = message.done.unwrap_or(frame.last);
     if !shows(frame, start, end) {
         return;
     }
     let x = frame.at(start);
     let width = frame.at(end).saturating_sub(x).max(2);
     draw_area(ink, row, x, width);
-    ink.text("<title>");
-    ink.pair(pair.0, pair.1);
-    ink.put(", channel ", message.channel);
-    ink.text(": ");
+    let text = "<title>{} → {}, channel {}: ";
+    ink.put_all(text, &[pair.0, pair.1, message.channel]);
     ink.size((message.length as u128).saturating_mul(MILLION));
-    ink.text("\n");
     tell_moments(ink, message, if row.is_exact { Some(start) } else { None });
     ink.text("</title></rect>\n");
 }
@@ -295,31 +281,23 @@ fn draw_area(ink: &mut Ink, row: Row, x: u64, width: u64) {
     } else {
         "<rect class=\"m e\""
     });
-    ink.put(" x=\"", x);
-    ink.put("\" y=\"", band.foot.saturating_sub(band.height));
-    ink.put("\" width=\"", width);
-    ink.put("\" height=\"", band.height);
-    ink.text("\">");
+    let y = band.foot.saturating_sub(band.height);
+    let text = " x=\"{}\" y=\"{}\" width=\"{}\" height=\"{}\">";
+    ink.put_all(text, &[x, y, width, band.height]);
 }
 
-/// When the message was enqueued, starts, where that is known, is done and arrives.
+/// When the message was enqueued, starts, where that is known, is done and arrives, on a new line.
 fn tell_moments(ink: &mut Ink, message: &Sent, start: Option<u64>) {
-    ink.text("enqueued ");
-    ink.moment(message.enqueued);
+    ink.moment("\nenqueued ", message.enqueued);
     if let Some(start) = start {
-        ink.text(", starts ");
-        ink.moment(start);
+        ink.moment(", starts ", start);
     }
     let Some(done) = message.done else {
         return;
     };
-    ink.text(", done ");
-    ink.moment(done);
+    ink.moment(", done ", done);
     match message.deliver_at {
-        Some(arrives) => {
-            ink.text(", arrives ");
-            ink.moment(arrives);
-        }
+        Some(arrives) => ink.moment(", arrives ", arrives),
         None => ink.text(", dropped"),
     }
 }

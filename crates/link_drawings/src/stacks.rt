@@ -24,26 +24,31 @@ pub(crate) fn draw_cap(
     board: &mut Board,
     place: (u64, u64),
     side: Side,
+    caps: &[Cap],
 ) {
     let band = band_at(place, WHOLE);
-    if sum_up(board, history, frame, side).is_err() {
+    if sum_up(board, history, frame, side, caps).is_err() {
         ink.refuse();
     }
     draw_foot(ink, band.foot);
-    ink.text("<path class=\"z\" d=\"");
-    fill(ink, frame, board, band);
-    ink.text("\"><title>");
-    ink.side(side);
+    draw_sum(ink, frame, board, band, side);
     ink.text(": use of its cap</title></path>\n");
     for quarter in 1u64..5 {
         draw_quarter(ink, frame, board, quarter, band);
     }
 }
 
+/// All of a side as one area, up to the end of its name.
+fn draw_sum(ink: &mut Ink, frame: Frame, board: &Board, band: Band, side: Side) {
+    ink.text("<path class=\"z\" d=\"");
+    fill(ink, frame, board, band);
+    ink.text("\"><title>");
+    ink.side(side);
+}
+
 /// The columns in which a cap is full for that quarter of the time.
 fn draw_quarter(ink: &mut Ink, frame: Frame, board: &Board, quarter: u64, band: Band) {
-    ink.put("<path class=\"u", quarter);
-    ink.text("\" d=\"");
+    ink.put_all("<path class=\"u{}\" d=\"", &[quarter]);
     mark_quarter(ink, frame, board, quarter, band.foot, band.height);
     ink.text("\"/>\n");
 }
@@ -64,8 +69,9 @@ pub(crate) fn sum_up(
     history: &History,
     frame: Frame,
     side: Side,
+    caps: &[Cap],
 ) -> Result<(), Error> {
-    let list = stretches(history, side)?;
+    let list = stretches(history, side, caps)?;
     board.clear();
     for stretch in &list {
         add_use(board, history, frame, *stretch);
@@ -122,10 +128,7 @@ pub(crate) fn draw_peer(
         draw_stack(ink, history, frame, board, band, side);
     } else {
         add_side(board, history, frame, side);
-        ink.text("<path class=\"z\" d=\"");
-        fill(ink, frame, board, band);
-        ink.text("\"><title>");
-        ink.side(side);
+        draw_sum(ink, frame, board, band, side);
         ink.text("</title></path>\n");
     }
     if is_high {
@@ -163,12 +166,10 @@ fn draw_layer(
     pair: (u64, u64),
     shade: usize,
 ) {
-    ink.put("<path class=\"p", shade as u64);
-    ink.text("\" d=\"");
+    ink.put_all("<path class=\"p{}\" d=\"", &[shade as u64]);
     fill_between(ink, frame, board, band);
-    ink.text("\"><title>");
-    ink.pair(pair.0, pair.1);
-    ink.text("</title></path>\n");
+    let text = "\"><title>{} → {}</title></path>\n";
+    ink.put_all(text, &[pair.0, pair.1]);
 }
 
 /// The caps of the side as a line, where it is in the row.
@@ -177,10 +178,10 @@ fn draw_caps(ink: &mut Ink, frame: Frame, band: Band, caps: &[Cap]) {
     for (place, cap) in caps.iter().enumerate() {
         let end = match caps.get(place.saturating_add(1)) {
             Some(next) => next.from,
-            None => frame.last(),
+            None => frame.last,
         };
         if let Some(rate) = cap.rate() {
-            if rate <= band.full && end >= frame.first() {
+            if rate <= band.full && end >= frame.first {
                 let height = band.foot.saturating_sub(band.up(rate));
                 line(ink, frame.at(cap.from), frame.at(end), height);
             }
@@ -191,13 +192,13 @@ fn draw_caps(ink: &mut Ink, frame: Frame, band: Band, caps: &[Cap]) {
 
 /// The cap at the right of its row: what it is, or that it changes.
 pub(crate) fn draw_cap_name(ink: &mut Ink, caps: &[Cap], middle: u64, pitch: u64) {
-    ink.put("<text x=\"", LEFT.saturating_add(SPAN).saturating_add(10));
-    ink.put("\" y=\"", middle.saturating_add(7));
-    ink.text(if pitch < 24 {
-        "\" class=\"i\">"
+    let x = LEFT.saturating_add(SPAN).saturating_add(10);
+    let text = if pitch < 24 {
+        "<text x=\"{}\" y=\"{}\" class=\"i\">"
     } else {
-        "\" class=\"r\">"
-    });
+        "<text x=\"{}\" y=\"{}\" class=\"r\">"
+    };
+    ink.put_all(text, &[x, middle.saturating_add(7)]);
     match only_rate(caps) {
         Some(rate) => ink.pace(rate),
         None => ink.text("changes"),

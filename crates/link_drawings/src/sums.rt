@@ -33,25 +33,17 @@ impl Stretch {
     }
 }
 
-/// The stretches of a capped side in which something is sent, in order of time.
-pub(crate) fn stretches(history: &History, side: Side) -> Result<Vec<Stretch>, Error> {
-    let alloc = history.alloc();
-    match history.caps.get(&side) {
-        Some(caps) => {
-            let changes = changes(history, side, caps)?;
-            sweep(alloc, &changes, caps)
-        }
-        None => Ok(Vec::new(alloc)),
-    }
-}
-
-/// What changes for a side with these caps, in order of time.
-fn changes(history: &History, side: Side, caps: &[Cap]) -> Result<Vec<Change>, Error> {
-    let mut changes = Vec::new(history.alloc());
+/// The stretches of a side with these caps in which something is sent, in order of time.
+pub(crate) fn stretches(
+    history: &History,
+    side: Side,
+    caps: &[Cap],
+) -> Result<Vec<Stretch>, Error> {
+    let mut changes = Vec::new(history.alloc);
     note_all(&mut changes, history, side)?;
     note_caps(&mut changes, caps)?;
     changes.sort_unstable();
-    Ok(changes)
+    sweep(history.alloc, &changes, caps)
 }
 
 /// Notes when the rates of all that share the cap of a side change.

@@ -1,6 +1,6 @@
 //! What happened in a run, as tables.
 
-use crate::caps::Side;
+use crate::caps::{Cap, Side};
 use crate::exact::{Used, uses};
 use crate::field::{Field, Line, Lines};
 use crate::history::History;
@@ -95,12 +95,21 @@ pub(crate) fn write<W: Write>(
     table: Table,
     lines: Lines,
 ) -> io::Result<()> {
+    let names = match table {
+        Table::Messages => MESSAGES,
+        Table::Rates => RATES,
+        Table::Caps => CAPS,
+        Table::Latencies => LATENCIES,
+    };
+    let mut sheet = Line::begin(ink, lines, names);
     match table {
-        Table::Messages => write_messages(out, ink, history, options, lines),
-        Table::Rates => write_rates(out, ink, history, options, lines),
-        Table::Caps => write_caps(out, ink, history, options, lines),
+        Table::Messages | Table::Rates => {
+            let with_rates = table == Table::Rates;
+            write_pairs(out, ink, &mut sheet, history, options, with_rates)
+        }
+        Table::Caps => write_caps(out, ink, &mut sheet, history, options),
         Table::Latencies => {
-            write_latencies(ink, history, options, lines);
+            write_latencies(ink, &mut sheet, history, options);
             Ok(())
         }
     }
@@ -121,18 +130,22 @@ fn shows_message(options: &Options, message: &Sent) -> bool {
     shows(options, message.enqueued, end)
 }
 
-/// A line for each message, by pair, in order of enqueue.
-fn write_messages<W: Write>(
+/// The lines of the messages of each pair, in order of enqueue, or those of its rates.
+fn write_pairs<W: Write>(
     out: &mut W,
     ink: &mut Ink,
+    sheet: &mut Line,
     history: &History,
     options: &Options,
-    lines: Lines,
+    with_rates: bool,
 ) -> io::Result<()> {
-    let mut sheet = Line::begin(ink, lines, MESSAGES);
     for (pair, track) in &history.tracks {
         if options.shows_pair(pair.0, pair.1) {
-            write_sent(ink, &mut sheet, options, *pair, track);
+            if with_rates {
+                write_pieces(ink, sheet, options, *pair, track);
+            } else {
+                write_sent(ink, sheet, options, *pair, track);
+            }
             ink.write_to(out)?;
         }
     }
@@ -167,24 +180,6 @@ fn write_message(ink: &mut Ink, sheet: &mut Line, pair: (u64, u64), message: &Se
 /// The time from the enqueue of a message to its arrival.
 fn latency(message: &Sent) -> Option<u64> {
     message.deliver_at?.checked_sub(message.enqueued)
-}
-
-/// A line for each time in which a message has one rate.
-fn write_rates<W: Write>(
-    out: &mut W,
-    ink: &mut Ink,
-    history: &History,
-    options: &Options,
-    lines: Lines,
-) -> io::Result<()> {
-    let mut sheet = Line::begin(ink, lines, RATES);
-    for (pair, track) in &history.tracks {
-        if options.shows_pair(pair.0, pair.1) {
-            write_pieces(ink, &mut sheet, options, *pair, track);
-            ink.write_to(out)?;
-        }
-    }
-    Ok(())
 }
 
 /// A line for each time in which a message of a pair has one rate.
@@ -233,14 +228,13 @@ fn write_rate(
 fn write_caps<W: Write>(
     out: &mut W,
     ink: &mut Ink,
+    sheet: &mut Line,
     history: &History,
     options: &Options,
-    lines: Lines,
 ) -> io::Result<()> {
-    let mut sheet = Line::begin(ink, lines, CAPS);
-    for (side, _) in &history.caps {
+    for (side, caps) in &history.caps {
         if options.shows_side(*side) {
-            if write_uses(ink, &mut sheet, history, options, *side).is_err() {
+            if write_uses(ink, sheet, history, options, *side, caps).is_err() {
                 ink.refuse();
             }
             ink.write_to(out)?;
@@ -249,15 +243,16 @@ fn write_caps<W: Write>(
     Ok(())
 }
 
-/// The lines of the cap of a side.
+/// The lines of the caps of a side.
 fn write_uses(
     ink: &mut Ink,
     sheet: &mut Line,
     history: &History,
     options: &Options,
     side: Side,
+    caps: &[Cap],
 ) -> Result<(), Error> {
-    let list = uses(history, side)?;
+    let list = uses(history, side, caps)?;
     for used in &list {
         if shows(options, used.from, used.to) {
             write_use(ink, sheet, side, used);
@@ -271,7 +266,11 @@ fn write_use(ink: &mut Ink, sheet: &mut Line, side: Side, used: &Used) {
     write_side(ink, sheet, side);
     sheet.put_moment(ink, Some(used.from));
     sheet.put_moment(ink, Some(used.to));
-    sheet.put(ink, Field::whole(used.cap.map(|cap| cap as u64)));
+    let cap = match used.cap {
+        Some(cap) => Field::Whole(cap as u64),
+        None => Field::None,
+    };
+    sheet.put(ink, cap);
     sheet.put_rate(ink, used.sum);
     sheet.put(ink, Field::flag(used.is_full()));
     sheet.end(ink);
@@ -290,16 +289,15 @@ fn write_side(ink: &mut Ink, sheet: &mut Line, side: Side) {
 }
 
 /// A line for all messages that arrive, and one for those of each channel.
-fn write_latencies(ink: &mut Ink, history: &History, options: &Options, lines: Lines) {
-    let mut sheet = Line::begin(ink, lines, LATENCIES);
+fn write_latencies(ink: &mut Ink, sheet: &mut Line, history: &History, options: &Options) {
     let Ok(mut found) = latencies(history, options) else {
         ink.refuse();
         return;
     };
     found.sort_unstable_by_key(|one| one.1);
-    write_quantiles(ink, &mut sheet, Field::Word("all"), &found);
+    write_quantiles(ink, sheet, Field::Word("all"), &found);
     found.sort_unstable();
-    write_channels(ink, &mut sheet, &found);
+    write_channels(ink, sheet, &found);
 }
 
 /// A line for the messages of each channel, which are in order.
@@ -332,7 +330,7 @@ fn front(found: &[(u64, u64)], channel: u64) -> usize {
 
 /// The channel and the latency of each message that arrives.
 fn latencies(history: &History, options: &Options) -> Result<Vec<(u64, u64)>, Error> {
-    let mut found = Vec::new(history.alloc());
+    let mut found = Vec::new(history.alloc);
     for (pair, track) in &history.tracks {
         if options.shows_pair(pair.0, pair.1) {
             note_latencies(&mut found, options, track)?;
