@@ -64,7 +64,9 @@ impl Board {
         }
         let (from, to) = frame.cut(from, to);
         for column in frame.columns_of(from, to) {
-            raise(&mut self.high, column, share(frame, column, from, to, rate));
+            if let Some(mean) = self.high.get_mut(column) {
+                *mean = mean.saturating_add(share(frame, column, from, to, rate));
+            }
         }
     }
 
@@ -72,7 +74,9 @@ impl Board {
     pub(crate) fn hold(&mut self, frame: Frame, from: u64, to: u64) {
         let (from, to) = frame.cut(from, to);
         for column in frame.columns_of(from, to) {
-            lengthen(&mut self.held, column, overlap(frame, column, from, to));
+            if let Some(time) = self.held.get_mut(column) {
+                *time = time.saturating_add(overlap(frame, column, from, to));
+            }
         }
     }
 
@@ -93,8 +97,8 @@ fn share(frame: Frame, column: usize, from: u64, to: u64, rate: u128) -> u128 {
     if from <= begin && end <= to {
         return rate;
     }
-    let over = u128::from(overlap(frame, column, from, to));
-    let all = u128::from(end.saturating_sub(begin)).max(1);
+    let over = overlap(frame, column, from, to) as u128;
+    let all = (end.saturating_sub(begin) as u128).max(1);
     match rate.checked_mul(over) {
         Some(times) => times / all,
         None => (rate / all).saturating_mul(over),
@@ -106,18 +110,4 @@ fn overlap(frame: Frame, column: usize, from: u64, to: u64) -> u64 {
     let begin = frame.edge(column).max(from);
     let end = frame.edge(column.saturating_add(1)).min(to);
     end.saturating_sub(begin)
-}
-
-/// The rate of a column grows.
-fn raise(rates: &mut [u128], column: usize, more: u128) {
-    if let Some(rate) = rates.get_mut(column) {
-        *rate = rate.saturating_add(more);
-    }
-}
-
-/// What is so in a column is so for longer.
-fn lengthen(times: &mut [u64], column: usize, more: u64) {
-    if let Some(time) = times.get_mut(column) {
-        *time = time.saturating_add(more);
-    }
 }

@@ -47,24 +47,23 @@ impl Used {
 /// The use of the caps of a side, in order of time, where something is in flight on it.
 pub(crate) fn uses(history: &History, side: Side, caps: &[Cap]) -> Result<Vec<Used>, Error> {
     let mut changes = Vec::new(history.alloc);
-    note_all(&mut changes, history, side)?;
-    note_caps(&mut changes, caps)?;
+    note_all(&mut changes, history, side, caps)?;
     changes.sort_unstable_by_key(|change| (change.moment, change.kind));
     sweep(history.alloc, &changes, caps)
 }
 
-/// Notes when the rates of all that share the cap of a side begin and end.
-fn note_all(changes: &mut Vec<Change>, history: &History, side: Side) -> Result<(), Error> {
+/// Notes when the rates of all that share the cap of a side begin and end, and when the cap changes.
+fn note_all(
+    changes: &mut Vec<Change>,
+    history: &History,
+    side: Side,
+    caps: &[Cap],
+) -> Result<(), Error> {
     for (pair, track) in &history.tracks {
         if side.holds(pair.0, pair.1) {
             note_changes(changes, track, side)?;
         }
     }
-    Ok(())
-}
-
-/// Notes when the cap changes.
-fn note_caps(changes: &mut Vec<Change>, caps: &[Cap]) -> Result<(), Error> {
     for cap in caps {
         changes.push(Change {
             moment: cap.from,

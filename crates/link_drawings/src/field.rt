@@ -87,7 +87,7 @@ fn write_decimal(ink: &mut Ink, numerator: u128, denominator: u128) {
     let mut rest = numerator % denominator;
     for _ in 0..PLACES {
         let (digit, next) = next_digit(rest, denominator);
-        ink.put("", u64::from(digit));
+        ink.put("", digit as u64);
         rest = next;
     }
 }
@@ -174,14 +174,23 @@ impl Line {
         self.put(ink, decimal);
     }
 
-    /// A moment or a time, in nanoseconds and in seconds.
-    pub(crate) fn put_moment(&mut self, ink: &mut Ink, moment: Option<u64>) {
-        let (whole, seconds) = match moment {
-            Some(moment) => (Field::Whole(moment), Field::Seconds(moment)),
-            None => (Field::None, Field::None),
-        };
-        self.put(ink, whole);
-        self.put(ink, seconds);
+    /// Whole numbers, where there are some.
+    pub(crate) fn put_numbers(&mut self, ink: &mut Ink, numbers: &[Option<u64>]) {
+        for number in numbers {
+            self.put(ink, Field::whole(*number));
+        }
+    }
+
+    /// Moments or times, each in nanoseconds and in seconds.
+    pub(crate) fn put_moments(&mut self, ink: &mut Ink, moments: &[Option<u64>]) {
+        for moment in moments {
+            let (whole, seconds) = match *moment {
+                Some(moment) => (Field::Whole(moment), Field::Seconds(moment)),
+                None => (Field::None, Field::None),
+            };
+            self.put(ink, whole);
+            self.put(ink, seconds);
+        }
     }
 
     /// The end of the line. The next value is the first of another.

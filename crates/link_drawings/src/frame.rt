@@ -11,6 +11,9 @@ pub(crate) const LEFT: u64 = 240;
 /// How far time goes from there.
 pub(crate) const SPAN: u64 = 1600;
 
+/// Where time ends.
+pub(crate) const RIGHT: u64 = LEFT + SPAN;
+
 /// The time of a picture, and how finely it is drawn: in so many columns.
 #[derive(Clone, Copy)]
 pub(crate) struct Frame {
@@ -72,8 +75,8 @@ impl Frame {
     /// The moment at which a column begins.
     pub(crate) fn edge(&self, column: usize) -> u64 {
         let columns = self.columns.max(1);
-        let times = u128::from(self.time()).saturating_mul(column as u128);
-        let passed = times.div_ceil(u128::from(columns));
+        let times = (self.time() as u128).saturating_mul(column as u128);
+        let passed = times.div_ceil(columns as u128);
         let passed = u64::try_from(passed).unwrap_or(u64::MAX);
         self.first.saturating_add(passed).min(self.last)
     }
@@ -97,8 +100,8 @@ fn part(count: u64, whole: u64, all: u64) -> u64 {
     match count.checked_mul(whole) {
         Some(times) => times / all,
         None => {
-            let times = u128::from(count).saturating_mul(u128::from(whole));
-            u64::try_from(times / u128::from(all)).unwrap_or(u64::MAX)
+            let times = (count as u128).saturating_mul(whole as u128);
+            u64::try_from(times / all as u128).unwrap_or(u64::MAX)
         }
     }
 }

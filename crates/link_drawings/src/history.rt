@@ -107,16 +107,11 @@ impl History {
         let begin = self.first.unwrap_or(0);
         let first = options.from.unwrap_or(begin);
         let last = options.until.unwrap_or(self.end(begin)).max(first);
-        self.go_on(last.min(self.now))?;
-        Ok((first, last))
-    }
-
-    /// What is in flight goes on up to that moment.
-    fn go_on(&mut self, to: u64) -> Result<(), Error> {
+        let to = last.min(self.now);
         for track in self.tracks.values_mut() {
             track.go_on(to)?;
         }
-        Ok(())
+        Ok((first, last))
     }
 
     /// The last moment of the picture. Where a message is still in flight at the last call, that is
@@ -151,18 +146,13 @@ impl History {
             deliver_at: None,
         };
         self.messages = self.messages.saturating_add(1);
-        let track = self.track_of(pair)?;
+        let shade = self.tracks.len() % SHADES;
+        let track = Track::new(self.alloc, self.keeps_readings, shade);
+        let track = self.tracks.entry(pair)?.or_insert(track);
         let was_idle = track.is_idle();
         track.enqueue(sent)?;
         self.busy = self.busy.saturating_add(usize::from(was_idle));
         Ok(())
-    }
-
-    /// The messages of a pair, of which there are none where it sends for the first time.
-    fn track_of(&mut self, pair: (u64, u64)) -> Result<&mut Track, Error> {
-        let shade = self.tracks.len() % SHADES;
-        let track = Track::new(self.alloc, self.keeps_readings, shade);
-        Ok(self.tracks.entry(pair)?.or_insert(track))
     }
 
     /// Something is asked now.
@@ -227,13 +217,11 @@ impl History {
             return Ok(());
         }
         let from = self.now;
-        self.caps_of(side)?.push(Cap { from, cap })?;
-        Ok(())
-    }
-
-    /// The caps of a side, of which there are none where it is capped for the first time.
-    fn caps_of(&mut self, side: Side) -> Result<&mut Vec<Cap>, Error> {
         let caps = Vec::new(self.alloc);
-        Ok(self.caps.entry(side)?.or_insert(caps))
+        self.caps
+            .entry(side)?
+            .or_insert(caps)
+            .push(Cap { from, cap })?;
+        Ok(())
     }
 }

@@ -40,7 +40,7 @@ impl Ink {
             return;
         }
         let (unit, name) = unit_of(time);
-        self.amount(u128::from(time), u128::from(unit), name);
+        self.amount(time as u128, unit as u128, name);
     }
 
     /// A moment in nanoseconds, in the unit that suits the greatest moment of its axis.
@@ -48,7 +48,7 @@ impl Ink {
         let (unit, name) = unit_of(greatest);
         let unit = unit.max(1);
         self.put("", moment / unit);
-        self.places(u128::from(moment % unit), u128::from(unit / 10));
+        self.places((moment % unit) as u128, (unit / 10) as u128);
         self.text(" ");
         self.text(name);
     }

@@ -44,20 +44,17 @@ impl Drop for Layout {
     #[inline(always)]
     fn drop(self) {
         let Layout {
-            frame,
+            frame: _,
             is_detailed: _,
             caps,
             peers,
             pairs,
-            idle,
-            more,
+            idle: _,
+            more: _,
         } = self;
-        drop(frame);
         drop(caps);
         drop(peers);
         drop(pairs);
-        drop(idle);
-        drop(more);
     }
 }
 
@@ -122,7 +119,8 @@ impl Layout {
         options: &Options,
         sides: &mut BTreeSet<Side>,
     ) -> Result<(), Error> {
-        let mut found = self.find_pairs(history, options, sides)?;
+        let mut found = Vec::new(history.alloc);
+        self.find_pairs(history, options, sides, &mut found)?;
         self.more.pairs = found.len().saturating_sub(MOST_PAIRS);
         if self.more.pairs > 0 {
             found.sort_unstable_by(|a, b| b.0.cmp(&a.0));
@@ -135,14 +133,14 @@ impl Layout {
         Ok(())
     }
 
-    /// The pairs in which something happens, each with how much it sends.
+    /// Finds the pairs in which something happens, each with how much it sends.
     fn find_pairs(
         &mut self,
         history: &History,
         options: &Options,
         sides: &mut BTreeSet<Side>,
-    ) -> Result<Vec<(u128, u64, u64)>, Error> {
-        let mut found = Vec::new(history.alloc);
+        found: &mut Vec<(u128, u64, u64)>,
+    ) -> Result<(), Error> {
         for (pair, track) in &history.tracks {
             let (origin, recipient) = *pair;
             if options.shows_pair(origin, recipient) {
@@ -154,7 +152,7 @@ impl Layout {
                 }
             }
         }
-        Ok(found)
+        Ok(())
     }
 
     /// The capped sides on which something is sent.
@@ -178,22 +176,26 @@ impl Layout {
         Ok(())
     }
 
-    /// What each peer sends and receives, if anything.
+    /// What each peer sends and receives, if anything, by peer.
     fn add_peers(
         &mut self,
         alloc: Global,
         options: &Options,
         sides: &BTreeSet<Side>,
     ) -> Result<(), Error> {
-        let found = sides_of_peers(alloc, sides)?;
-        for (peer, side) in &found {
-            if options.shows(*peer) {
-                if self.peers.len() < MOST_SIDES {
-                    self.peers.push(*side)?;
-                } else {
-                    self.more.peers = self.more.peers.saturating_add(1);
+        let mut found = Vec::new(alloc);
+        for side in sides {
+            if let Side::Egress(peer) | Side::Ingress(peer) = side {
+                if options.shows(*peer) {
+                    found.push((*peer, *side))?;
                 }
             }
+        }
+        found.sort_unstable();
+        self.more.peers = found.len().saturating_sub(MOST_SIDES);
+        found.truncate(MOST_SIDES);
+        for (_, side) in &found {
+            self.peers.push(*side)?;
         }
         Ok(())
     }
@@ -219,18 +221,6 @@ fn pitch(rows: usize, all: u64, least: u64, most: u64) -> u64 {
     (all / (rows as u64).max(1)).max(least).min(most)
 }
 
-/// What peers send and receive, by peer.
-fn sides_of_peers(alloc: Global, sides: &BTreeSet<Side>) -> Result<Vec<(u64, Side)>, Error> {
-    let mut found = Vec::new(alloc);
-    for side in sides {
-        if let Side::Egress(peer) | Side::Ingress(peer) = side {
-            found.push((*peer, *side))?;
-        }
-    }
-    found.sort_unstable();
-    Ok(found)
-}
-
 /// Whether there is a message in the time that is shown.
 fn happens(frame: Frame, track: &Track) -> bool {
     for message in &track.messages {
@@ -251,7 +241,7 @@ fn sent(frame: Frame, track: &Track) -> u128 {
     let mut all = 0u128;
     for piece in &track.pieces {
         let (from, to) = frame.cut(piece.from, piece.to);
-        let time = u128::from(to.saturating_sub(from));
+        let time = to.saturating_sub(from) as u128;
         all = all.saturating_add(piece.rate.saturating_mul(time));
     }
     all

@@ -96,12 +96,11 @@ fn write_cap(
 /// What a cap is for.
 fn write_kind(ink: &mut Ink, side: Side) {
     let (kind, origin, recipient) = match side {
-        Side::Egress(peer) => ("{k:\"s\",a:\"", peer, peer),
-        Side::Ingress(peer) => ("{k:\"r\",a:\"", peer, peer),
-        Side::Link(origin, recipient) => ("{k:\"l\",a:\"", origin, recipient),
+        Side::Egress(peer) => ("{k:\"s\",a:\"{}\",b:\"{}", peer, peer),
+        Side::Ingress(peer) => ("{k:\"r\",a:\"{}\",b:\"{}", peer, peer),
+        Side::Link(origin, recipient) => ("{k:\"l\",a:\"{}\",b:\"{}", origin, recipient),
     };
-    ink.put(kind, origin);
-    ink.put("\",b:\"", recipient);
+    ink.put_all(kind, &[origin, recipient]);
 }
 
 /// From when on there is which cap.
@@ -167,12 +166,12 @@ fn write_held(ink: &mut Ink, frame: Frame, board: &Board) {
     for (column, held) in board.held.iter().enumerate() {
         let quarters = quarter_of(frame, column, *held);
         if quarters != run {
-            write_step(ink, begin, column, u128::from(run));
+            write_step(ink, begin, column, run as u128);
             begin = column;
             run = quarters;
         }
     }
-    write_step(ink, begin, board.held.len(), u128::from(run));
+    write_step(ink, begin, board.held.len(), run as u128);
 }
 
 /// The pairs, with messages while there is room for them.

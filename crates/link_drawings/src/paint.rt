@@ -18,13 +18,13 @@ impl Band {
     /// How high a rate stands above the foot. What is not zero is not zero there.
     pub(crate) fn up(&self, rate: u128) -> u64 {
         let full = self.full.max(1);
-        let height = u128::from(self.height);
+        let height = self.height as u128;
         let up = match rate.checked_mul(height) {
             Some(times) => times / full,
             None => rate / (full / height.max(1)).max(1),
         };
         let up = u64::try_from(up).unwrap_or(u64::MAX).min(self.height);
-        up.max(u64::from(rate > 0))
+        up.max((rate > 0) as u64)
     }
 }
 
@@ -129,8 +129,8 @@ pub(crate) fn mark_quarter(
 pub(crate) fn quarter_of(frame: Frame, column: usize, held: u64) -> u64 {
     let begin = frame.edge(column);
     let end = frame.edge(column.saturating_add(1));
-    let all = u128::from(end.saturating_sub(begin)).max(1);
-    let quarters = u128::from(held).saturating_mul(4).div_ceil(all);
+    let all = (end.saturating_sub(begin) as u128).max(1);
+    let quarters = (held as u128).saturating_mul(4).div_ceil(all);
     u64::try_from(quarters).unwrap_or(4).min(4)
 }
 
@@ -144,7 +144,7 @@ pub(crate) fn line(ink: &mut Ink, from: u64, to: u64, height: u64) {
 /// Level lines of one height, which join where they meet.
 #[derive(Clone, Copy)]
 pub(crate) struct Lines {
-    height: u64,
+    pub(crate) height: u64,
     from: u64,
     to: u64,
 }

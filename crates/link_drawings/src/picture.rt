@@ -81,10 +81,7 @@ fn draw_axis(ink: &mut Ink, frame: Frame, top: u64, foot: u64) {
         moment = next;
     }
     let text = "<text class=\"t\" x=\"{}\" y=\"{}\">time since the start</text>\n";
-    ink.put_all(
-        text,
-        &[LEFT.saturating_add(SPAN / 2), foot.saturating_add(58)],
-    );
+    ink.put_all(text, &[LEFT + SPAN / 2, foot.saturating_add(58)]);
 }
 
 /// The mark of a moment, from the head to the foot.

@@ -2,7 +2,7 @@
 
 use crate::board::Board;
 use crate::caps::Side;
-use crate::frame::{Frame, LEFT, SPAN};
+use crate::frame::{Frame, LEFT, RIGHT};
 use crate::history::MILLION;
 use crate::ink::Ink;
 use crate::labels::letters;
@@ -67,14 +67,15 @@ pub(crate) fn draw_pair(
     pair: (u64, u64),
     track: &Track,
 ) {
+    let band = row.band();
     draw_row(ink, row, pair, track);
     board.clear();
     board.add(frame, &track.pieces, true);
     ink.put_all("<path class=\"p{}\" d=\"", &[track.shade as u64]);
-    fill(ink, frame, board, row.band());
-    draw_instants(ink, frame, row.band(), track);
+    fill(ink, frame, board, band);
+    draw_instants(ink, frame, band, track);
     ink.text("\"/>\n");
-    draw_stalls(ink, frame, row.band(), track);
+    draw_stalls(ink, frame, band, track);
     draw_waiting(ink, frame, row, track);
     draw_latency(ink, frame, row, track);
     draw_arrivals(ink, frame, row, track);
@@ -112,8 +113,8 @@ fn tell_all(ink: &mut Ink, pair: (u64, u64), track: &Track) {
 
 /// The foot of a row.
 pub(crate) fn draw_foot(ink: &mut Ink, foot: u64) {
-    let end = LEFT.saturating_add(SPAN);
-    ink.put_all("<path class=\"f\" d=\"M{} {}H{}\"/>\n", &[LEFT, foot, end]);
+    let text = "<path class=\"f\" d=\"M{} {}H{}\"/>\n";
+    ink.put_all(text, &[LEFT, foot, RIGHT]);
 }
 
 /// A name at the left of a row whose middle is there, made narrower where it is long.
@@ -123,7 +124,7 @@ pub(crate) fn draw_name(ink: &mut Ink, side: Side, middle: u64, pitch: u64) {
     } else {
         "<text x=\"{}\" y=\"{}\" class=\"n\""
     };
-    ink.put_all(text, &[LEFT.saturating_sub(14), middle.saturating_add(7)]);
+    ink.put_all(text, &[LEFT - 14, middle.saturating_add(7)]);
     if letters(side) > 17 {
         ink.text(" textLength=\"220\" lengthAdjust=\"spacingAndGlyphs\"");
     }
@@ -180,15 +181,14 @@ fn draw_waiting(ink: &mut Ink, frame: Frame, row: Row, track: &Track) {
     ink.text("<path class=\"w\" d=\"");
     for (place, message) in track.messages.iter().enumerate() {
         let start = message.start.unwrap_or(frame.last);
-        if start > message.enqueued && shows(frame, message.enqueued, start) {
-            let from = frame.at(message.enqueued);
-            let to = frame.at(start);
-            if row.pitch < WIDE_ROW {
-                lines.add(ink, from, to);
-            } else {
-                line(ink, from, to, height.saturating_add(row.lane(place)));
-            }
-        }
+        draw_time(
+            ink,
+            frame,
+            row,
+            &mut lines,
+            place,
+            (message.enqueued, start),
+        );
     }
     lines.end(ink);
     ink.text("\"/>\n");
@@ -201,19 +201,31 @@ fn draw_latency(ink: &mut Ink, frame: Frame, row: Row, track: &Track) {
     ink.text("<path class=\"l\" d=\"");
     for (place, message) in track.messages.iter().enumerate() {
         if let (Some(done), Some(arrives)) = (message.done, message.deliver_at) {
-            if arrives > done && shows(frame, done, arrives) {
-                let from = frame.at(done);
-                let to = frame.at(arrives);
-                if row.pitch < WIDE_ROW {
-                    lines.add(ink, from, to);
-                } else {
-                    line(ink, from, to, height.saturating_add(row.lane(place)));
-                }
-            }
+            draw_time(ink, frame, row, &mut lines, place, (done, arrives));
         }
     }
     lines.end(ink);
     ink.text("\"/>\n");
+}
+
+/// The line of a message for a time. In a narrow row it joins those before it.
+fn draw_time(
+    ink: &mut Ink,
+    frame: Frame,
+    row: Row,
+    lines: &mut Lines,
+    place: usize,
+    time: (u64, u64),
+) {
+    let (begin, end) = time;
+    if begin < end && shows(frame, begin, end) {
+        let (from, to) = (frame.at(begin), frame.at(end));
+        if row.pitch < WIDE_ROW {
+            lines.add(ink, from, to);
+        } else {
+            line(ink, from, to, lines.height.saturating_add(row.lane(place)));
+        }
+    }
 }
 
 /// Where messages arrive.

@@ -2,7 +2,7 @@
 
 use crate::board::Board;
 use crate::caps::{Cap, Side};
-use crate::frame::{Frame, LEFT, SPAN};
+use crate::frame::{Frame, RIGHT};
 use crate::history::History;
 use crate::ink::Ink;
 use crate::paint::{Band, fill, fill_between, line, mark_quarter};
@@ -192,13 +192,12 @@ fn draw_caps(ink: &mut Ink, frame: Frame, band: Band, caps: &[Cap]) {
 
 /// The cap at the right of its row: what it is, or that it changes.
 pub(crate) fn draw_cap_name(ink: &mut Ink, caps: &[Cap], middle: u64, pitch: u64) {
-    let x = LEFT.saturating_add(SPAN).saturating_add(10);
     let text = if pitch < 24 {
         "<text x=\"{}\" y=\"{}\" class=\"i\">"
     } else {
         "<text x=\"{}\" y=\"{}\" class=\"r\">"
     };
-    ink.put_all(text, &[x, middle.saturating_add(7)]);
+    ink.put_all(text, &[RIGHT + 10, middle.saturating_add(7)]);
     match only_rate(caps) {
         Some(rate) => ink.pace(rate),
         None => ink.text("changes"),

@@ -6,13 +6,8 @@ use crate::track::Track;
 use fairness::error::Error;
 use std::alloc::Global;
 
-/// A rate that changes at a moment, in millionths of a byte a second.
-#[derive(Clone, Copy, PartialEq, Eq, PartialOrd, Ord)]
-struct Change {
-    moment: u64,
-    more: u128,
-    less: u128,
-}
+/// A moment, and by how much the rates grow and shrink at it, in millionths of a byte a second.
+type Change = (u64, u128, u128);
 
 /// A time in which the sum of the rates stays, and the cap, in millionths of a byte a second.
 #[derive(Clone, Copy)]
@@ -40,18 +35,25 @@ pub(crate) fn stretches(
     caps: &[Cap],
 ) -> Result<Vec<Stretch>, Error> {
     let mut changes = Vec::new(history.alloc);
-    note_all(&mut changes, history, side)?;
-    note_caps(&mut changes, caps)?;
+    note_all(&mut changes, history, side, caps)?;
     changes.sort_unstable();
     sweep(history.alloc, &changes, caps)
 }
 
-/// Notes when the rates of all that share the cap of a side change.
-fn note_all(changes: &mut Vec<Change>, history: &History, side: Side) -> Result<(), Error> {
+/// Notes when the rates of all that share the cap of a side change, and when the cap does.
+fn note_all(
+    changes: &mut Vec<Change>,
+    history: &History,
+    side: Side,
+    caps: &[Cap],
+) -> Result<(), Error> {
     for (pair, track) in &history.tracks {
         if side.holds(pair.0, pair.1) {
             note_changes(changes, track, side)?;
         }
+    }
+    for cap in caps {
+        changes.push((cap.from, 0, 0))?;
     }
     Ok(())
 }
@@ -60,29 +62,9 @@ fn note_all(changes: &mut Vec<Change>, history: &History, side: Side) -> Result<
 fn note_changes(changes: &mut Vec<Change>, track: &Track, side: Side) -> Result<(), Error> {
     for piece in &track.pieces {
         if piece.rate > 0 && (piece.should_deliver || side.holds_dropped()) {
-            changes.push(Change {
-                moment: piece.from,
-                more: piece.rate,
-                less: 0,
-            })?;
-            changes.push(Change {
-                moment: piece.to,
-                more: 0,
-                less: piece.rate,
-            })?;
+            changes.push((piece.from, piece.rate, 0))?;
+            changes.push((piece.to, 0, piece.rate))?;
         }
-    }
-    Ok(())
-}
-
-/// Notes when the cap changes.
-fn note_caps(changes: &mut Vec<Change>, caps: &[Cap]) -> Result<(), Error> {
-    for cap in caps {
-        changes.push(Change {
-            moment: cap.from,
-            more: 0,
-            less: 0,
-        })?;
     }
     Ok(())
 }
@@ -94,19 +76,19 @@ fn sweep(alloc: Global, changes: &[Change], caps: &[Cap]) -> Result<Vec<Stretch>
     let mut at = 0u64;
     let mut place = 0usize;
     let mut cap = None;
-    for change in changes {
-        if change.moment > at {
+    for (moment, more, less) in changes {
+        if *moment > at {
             if rate > 0 {
                 made.push(Stretch {
                     from: at,
-                    to: change.moment,
+                    to: *moment,
                     rate,
                     cap,
                 })?;
             }
-            at = change.moment;
+            at = *moment;
         }
-        rate = rate.saturating_add(change.more).saturating_sub(change.less);
+        rate = rate.saturating_add(*more).saturating_sub(*less);
         if let Some(next) = caps.get(place) {
             if next.from <= at {
                 cap = next.rate();

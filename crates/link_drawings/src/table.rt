@@ -163,17 +163,14 @@ fn write_sent(ink: &mut Ink, sheet: &mut Line, options: &Options, pair: (u64, u6
 
 /// The line of a message.
 fn write_message(ink: &mut Ink, sheet: &mut Line, pair: (u64, u64), message: &Sent) {
-    sheet.put(ink, Field::Whole(pair.0));
-    sheet.put(ink, Field::Whole(pair.1));
-    sheet.put(ink, Field::Whole(message.channel));
-    sheet.put(ink, Field::Whole(message.length as u64));
-    sheet.put_moment(ink, Some(message.enqueued));
-    sheet.put_moment(ink, message.start);
-    sheet.put_moment(ink, message.done);
-    sheet.put_moment(ink, message.deliver_at);
+    let length = message.length as u64;
+    let (channel, enqueued) = (Some(message.channel), Some(message.enqueued));
+    let (start, done, arrives) = (message.start, message.done, message.deliver_at);
+    sheet.put_numbers(ink, &[Some(pair.0), Some(pair.1), channel, Some(length)]);
+    sheet.put_moments(ink, &[enqueued, start, done, arrives]);
     let is_dropped = message.done.is_some() && message.deliver_at.is_none();
     sheet.put(ink, Field::Flag(is_dropped));
-    sheet.put_moment(ink, latency(message));
+    sheet.put_moments(ink, &[latency(message)]);
     sheet.end(ink);
 }
 
@@ -207,14 +204,11 @@ fn write_rate(
     piece: Piece,
 ) {
     let channel = match track.messages.get(piece.message) {
-        Some(message) => Field::Whole(message.channel),
-        None => Field::None,
+        Some(message) => Some(message.channel),
+        None => None,
     };
-    sheet.put(ink, Field::Whole(pair.0));
-    sheet.put(ink, Field::Whole(pair.1));
-    sheet.put(ink, channel);
-    sheet.put_moment(ink, Some(piece.from));
-    sheet.put_moment(ink, Some(piece.to));
+    sheet.put_numbers(ink, &[Some(pair.0), Some(pair.1), channel]);
+    sheet.put_moments(ink, &[Some(piece.from), Some(piece.to)]);
     let (rate, is_exact) = match track.reading(place) {
         Some(reading) => (Some(reading.amount), reading.is_exact),
         None => (None, false),
@@ -264,13 +258,12 @@ fn write_uses(
 /// The line of the use of a cap.
 fn write_use(ink: &mut Ink, sheet: &mut Line, side: Side, used: &Used) {
     write_side(ink, sheet, side);
-    sheet.put_moment(ink, Some(used.from));
-    sheet.put_moment(ink, Some(used.to));
+    sheet.put_moments(ink, &[Some(used.from), Some(used.to)]);
     let cap = match used.cap {
-        Some(cap) => Field::Whole(cap as u64),
-        None => Field::None,
+        Some(cap) => Some(cap as u64),
+        None => None,
     };
-    sheet.put(ink, cap);
+    sheet.put_numbers(ink, &[cap]);
     sheet.put_rate(ink, used.sum);
     sheet.put(ink, Field::flag(used.is_full()));
     sheet.end(ink);
@@ -284,16 +277,15 @@ fn write_side(ink: &mut Ink, sheet: &mut Line, side: Side) {
         Side::Link(origin, recipient) => ("link", Some(origin), Some(recipient)),
     };
     sheet.put(ink, Field::Word(name));
-    sheet.put(ink, Field::whole(origin));
-    sheet.put(ink, Field::whole(recipient));
+    sheet.put_numbers(ink, &[origin, recipient]);
 }
 
 /// A line for all messages that arrive, and one for those of each channel.
 fn write_latencies(ink: &mut Ink, sheet: &mut Line, history: &History, options: &Options) {
-    let Ok(mut found) = latencies(history, options) else {
+    let mut found = Vec::new(history.alloc);
+    if note_all(&mut found, history, options).is_err() {
         ink.refuse();
-        return;
-    };
+    }
     found.sort_unstable_by_key(|one| one.1);
     write_quantiles(ink, sheet, Field::Word("all"), &found);
     found.sort_unstable();
@@ -328,15 +320,18 @@ fn front(found: &[(u64, u64)], channel: u64) -> usize {
     count
 }
 
-/// The channel and the latency of each message that arrives.
-fn latencies(history: &History, options: &Options) -> Result<Vec<(u64, u64)>, Error> {
-    let mut found = Vec::new(history.alloc);
+/// Notes the channel and the latency of each message that arrives.
+fn note_all(
+    found: &mut Vec<(u64, u64)>,
+    history: &History,
+    options: &Options,
+) -> Result<(), Error> {
     for (pair, track) in &history.tracks {
         if options.shows_pair(pair.0, pair.1) {
-            note_latencies(&mut found, options, track)?;
+            note_latencies(found, options, track)?;
         }
     }
-    Ok(found)
+    Ok(())
 }
 
 /// Notes the channel and the latency of each message of a pair that arrives.
@@ -364,14 +359,14 @@ fn write_quantiles(ink: &mut Ink, sheet: &mut Line, channel: Field, found: &[(u6
             Some(one) => Some(one.1),
             None => None,
         };
-        sheet.put_moment(ink, time);
+        sheet.put_moments(ink, &[time]);
     }
     sheet.end(ink);
 }
 
 /// The place, in order, of the first number that so many per cent of all do not exceed.
 fn rank(count: usize, percent: u64) -> usize {
-    let parts = (count as u128).saturating_mul(u128::from(percent));
+    let parts = (count as u128).saturating_mul(percent as u128);
     let place = parts.div_ceil(100).saturating_sub(1);
     usize::try_from(place).unwrap_or(usize::MAX)
 }

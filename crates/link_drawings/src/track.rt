@@ -60,7 +60,7 @@ impl Seen {
     /// A message of which so many bytes were left at the moment `since`, looked up now.
     pub fn new(now: u64, since: u64, left: Ratio, full: FullRate) -> Seen {
         let rate = millionths(full.amount);
-        let passed = u128::from(now.saturating_sub(since));
+        let passed = now.saturating_sub(since) as u128;
         let sent = match rate.checked_mul(passed) {
             Some(times) => times / BILLION,
             None => (rate / BILLION).saturating_mul(passed),
@@ -123,12 +123,11 @@ impl Drop for Track {
             keeps_readings: _,
             shade: _,
             done: _,
-            head,
+            head: _,
         } = self;
         drop(messages);
         drop(pieces);
         drop(readings);
-        drop(head);
     }
 }
 
@@ -257,7 +256,9 @@ impl Track {
         reading: Option<FullRate>,
     ) -> Result<(), Error> {
         if self.goes_on(from, rate, reading) {
-            self.lengthen(to);
+            if let Some(last) = self.pieces.last_mut() {
+                last.to = to;
+            }
             return Ok(());
         }
         let message = self.done;
@@ -289,13 +290,6 @@ impl Track {
         is_last && is_same
     }
 
-    /// The last piece goes on up to that moment.
-    fn lengthen(&mut self, to: u64) {
-        if let Some(last) = self.pieces.last_mut() {
-            last.to = to;
-        }
-    }
-
     /// One more piece.
     fn add(&mut self, piece: Piece, reading: Option<FullRate>) -> Result<(), Error> {
         if self.keeps_readings {
@@ -308,7 +302,7 @@ impl Track {
 
 /// So many millionths of a byte in so many nanoseconds, in millionths of a byte a second.
 fn pace(sent: u128, time: u64) -> u128 {
-    let time = u128::from(time).max(1);
+    let time = (time as u128).max(1);
     match sent.checked_mul(BILLION) {
         Some(times) => times / time,
         None => (sent / time).saturating_mul(BILLION),
