@@ -37,8 +37,6 @@ pub use Rattle.fairness.specs.Sides.Subjects.{same_peer}
 pub use Rattle.fairness.specs.declared.error.Error.{Error}
 pub use Rattle.fairness.specs.declared.error.Error.TheVariants.{FlowIdsUsedUp, MomentTooLate, NumberTooLarge}
 pub use Rattle.fairness.specs.declared.error.Error.TheVariants.{OutOfMemory}
-pub use Rattle.link_simulation.specs.Examples.Rows.{a_byte_a_nanosecond, arrives, calls_of_a_late_list, dropped}
-pub use Rattle.link_simulation.specs.Examples.Rows.{is_gone, message}
 pub use Rattle.link_simulation.specs.Laws.Conserved.{IsConserved, held_of, of_pair}
 pub use Rattle.link_simulation.specs.Laws.Isolation.{Answers, InTime, call_answers, no_calls}
 pub use Rattle.link_simulation.specs.Laws.Orderly.{IsOrderly}

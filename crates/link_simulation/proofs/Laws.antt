@@ -1,6 +1,5 @@
 -- The laws: order, bytes, isolation, conservation, few events.
 pub mod AdvanceOnward
-pub mod Alone
 pub mod AmountOrder
 pub mod Bytes
 pub mod BytesStand
@@ -8,8 +7,6 @@ pub mod Conserved
 pub mod ConservedAlike
 pub mod ConservedCount
 pub mod ConservedSoFar
-pub mod DoneAlone
-pub mod FewerEvents
 pub mod IsolatedCalls
 pub mod IsolatedTime
 pub mod Isolation

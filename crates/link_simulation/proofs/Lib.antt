@@ -1,5 +1,4 @@
-pub mod Examples
 pub mod Laws
 pub mod Rule
 pub mod Simulation
-mod Common
+pub mod Common

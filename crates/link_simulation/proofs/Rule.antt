@@ -9,9 +9,7 @@ pub mod FinishEvent
 pub mod Following
 pub mod Launch
 pub mod Limit
-pub mod NewInRange
 pub mod NextEvent
-pub mod NoNumbers
 pub mod Obeys
 pub mod OneAccount
 pub mod OneCourse

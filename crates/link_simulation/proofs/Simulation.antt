@@ -21,5 +21,4 @@ pub mod SettlingEnds
 pub mod SideUsers
 pub mod Sound
 pub mod Split
-pub mod StepsEnough
 pub mod Stretch

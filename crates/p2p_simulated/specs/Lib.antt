@@ -8,7 +8,7 @@ pub use Rattle.fair_routes.specs.Network
 pub use Rattle.link_simulation.specs.Laws
 pub use Rattle.link_simulation.specs.Simulation
 pub use Rattle.link_simulation.specs.Rule
-pub use Rattle.link_simulation.specs.Examples
+pub use Rattle.link_laws.specs.Examples
 pub use Rattle.link_scheduler.specs.Calls
 pub use Rattle.link_events.specs.Steps
 pub use Rattle.link_flights.specs.Flights

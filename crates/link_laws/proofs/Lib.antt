@@ -1,0 +1,4 @@
+mod Examples
+mod Laws
+mod Rule
+mod Simulation

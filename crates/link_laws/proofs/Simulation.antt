@@ -1,0 +1,2 @@
+-- What holds of the simulation, for laws alone.
+pub mod StepsEnough

@@ -1,0 +1,12 @@
+use Rattle.link_simulation.proofs.Common.{nat_cmp, nat_cmp_total, reduced, gcd_within}
+use Rattle.link_laws.proofs.Examples.ComputedReplies.{evenly}
+use Rattle.link_laws.proofs.Examples.ComputedDifferences.{never_agree}
+use Rattle.link_laws.proofs.model.differences.a_missing_next_event_does_not_agree.Goals as goal
+
+pub returns-clause-missing : goal.returns-clause-missing
+unfolding reduced gcd_within
+returns-clause-missing c = search (never_agree nat_cmp nat_cmp_total (evenly 1_000_000_000) 20 0)
+
+pub returns-clause-made_up : goal.returns-clause-made_up
+unfolding reduced gcd_within
+returns-clause-made_up c = search (never_agree nat_cmp nat_cmp_total (evenly 1_000_000_000) 20 0)

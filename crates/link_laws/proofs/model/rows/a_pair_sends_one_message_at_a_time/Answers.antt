@@ -1,0 +1,7 @@
+use Rattle.link_simulation.proofs.Common.{nat_cmp, nat_cmp_total, reduced, gcd_within}
+use Rattle.link_laws.proofs.Examples.ComputedReplies.{held, replied_so, evenly}
+use Rattle.link_laws.proofs.model.rows.a_pair_sends_one_message_at_a_time.Goals as goal
+
+pub returns : goal.returns
+unfolding reduced gcd_within
+returns c = held (search (replied_so nat_cmp nat_cmp_total (evenly 1_000_000_000) 20))

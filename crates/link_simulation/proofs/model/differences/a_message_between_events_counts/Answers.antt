@@ -1,8 +1,0 @@
-use Rattle.link_simulation.proofs.Common.{nat_cmp, nat_cmp_total, reduced, gcd_within}
-use Rattle.link_simulation.proofs.Examples.ComputedReplies.{evenly}
-use Rattle.link_simulation.proofs.Examples.ComputedDifferences.{never_agree}
-use Rattle.link_simulation.proofs.model.differences.a_message_between_events_counts.Goals as goal
-
-pub returns : goal.returns
-unfolding reduced gcd_within
-returns c = search (never_agree nat_cmp nat_cmp_total (evenly 1_000_000_000) 20 0)

@@ -1,4 +1,0 @@
-use Rattle.link_simulation.proofs.model.meanings.a_course_ends_with_what_holds_there.Goals as goal
-
-pub returns : goal.returns
-returns g c law cs w h = h

@@ -1,5 +1,0 @@
-use Rattle.link_simulation.proofs.Examples.LongRow.{slow_next}
-use Rattle.link_simulation.proofs.model.rows.a_slow_message_takes_long.Goals as goal
-
-pub returns : goal.returns
-returns c = slow_next

@@ -1,7 +1,0 @@
-use Rattle.link_simulation.proofs.Common.{nat_cmp, nat_cmp_total, reduced, gcd_within}
-use Rattle.link_simulation.proofs.Examples.ComputedReplies.{held, replied_so, evenly}
-use Rattle.link_simulation.proofs.model.rows.starts_come_in_the_order_of_pairs.Goals as goal
-
-pub returns : goal.returns
-unfolding reduced gcd_within
-returns c = held (search (replied_so nat_cmp nat_cmp_total (evenly 1_000_000_000) 20))

@@ -1,7 +1,0 @@
-use Rattle.link_simulation.proofs.Common.{nat_cmp, nat_cmp_total, reduced, gcd_within}
-use Rattle.link_simulation.proofs.Examples.ComputedRule.{no_hint, obeyed_so, shared}
-use Rattle.link_simulation.proofs.model.rule.a_missed_start_is_planned_anew.Goals as goal
-
-pub returns : goal.returns
-unfolding reduced gcd_within
-returns c = search (obeyed_so nat_cmp nat_cmp_total (shared 1_000_000_000) no_hint 20)
