@@ -184,6 +184,7 @@ impl<P: Peer> Flights<P> {
     }
 
     /// The flight stands at that place from now on, in the place of one of the same message.
+    #[inline(always)]
     pub(crate) fn put(&mut self, at: usize, flight: Flight<P>) -> Result<(), Error>
         requires place { at < length self.old.list.items }
         requires past { (not flight.rated || nat_le flight.since self.old.at) ≡ true }

@@ -186,6 +186,7 @@ impl<P: Peer> Table<P> {
     }
 
     /// Another flight of the same message stands at that place from now on.
+    #[inline(always)]
     pub(crate) fn set(&mut self, at: usize, one: Flight<P>) -> Result<(), Error>
         requires place { at < length self.old.items }
         requires message { (d : AnyFlight P)

@@ -197,6 +197,7 @@ impl<T: Drop> Parts<T> {
     }
 
     /// A row gets another item and another moment. Where memory is refused, part of that is done.
+    #[inline(always)]
     pub(crate) fn set(&mut self, at: usize, item: T, moment: Option<u64>) -> Result<(), AllocError>
         requires within { at < length (live self.old.slots.items) }
         requires stands { Stands self.old }

@@ -117,6 +117,7 @@ impl<T: Drop> Slots<T> {
     }
 
     /// Another row comes to stand in a slot that holds one. Where memory is refused, the slots stay.
+    #[inline(always)]
     pub(crate) fn set(&mut self, slot: usize, row: Row<T>) -> Result<(), AllocError>
         requires { IsSome (held self.old.items slot) }
         ensures items { self.new.items ≡

@@ -123,6 +123,7 @@ impl<T: Drop> RowTable<T> {
     /// # Errors
     ///
     /// `AllocError` where memory is refused. All is taken back to the mark.
+    #[inline(always)]
     pub fn set(&mut self, at: usize, item: T, moment: Option<u64>) -> Result<(), AllocError>
         requires { at < length self.old.now }
         ensures now { (row : Row T) → slice_get self.old.now at ≡ Some row →
