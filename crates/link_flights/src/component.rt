@@ -11,8 +11,8 @@ ghost use Rattle.fairness.specs.Sides.Subjects.{same_peer};
 ghost use Rattle.link_flights.specs.Flights.Components.{is_sender, is_receiver, keeps, is_of, has_both, touches};
 ghost use Rattle.link_flights.specs.Flights.Components.{is_closed, AreNear};
 ghost use Rattle.link_flights.specs.Flights.Components.{StartsWith, AreStillListed, AreNoted};
-ghost use Rattle.link_flights.specs.Flights.Components.{AreListed, AreListedAt, AreAllListed, AllNewTouch, place_of};
-ghost use Rattle.link_flights.specs.Flights.Components.{IsSuited, AreSuited, AreTouched, SharesAt, SharesEndAt, Ascends, IsWalked};
+ghost use Rattle.link_flights.specs.Flights.Components.{AreListedAt, AreAllListed, AllNewTouch, place_of};
+ghost use Rattle.link_flights.specs.Flights.Components.{IsSuited, AreSuited, SharesEndAt, Ascends, IsWalked};
 ghost use Rattle.link_flights.specs.Flights.Flight.{flight_at};
 ghost use Rattle.link_flights.specs.Flights.InFlight.{in_units};
 ghost use Rattle.link_flights.specs.Flights.Table.{share};
@@ -405,12 +405,8 @@ impl<P: Peer> Flights<P> {
         if component.is_large(self.list.len()) {
             return Ok(false);
         }
-        self.list_joined(component, noted)?;
         component.level = self.level(peers, pairs)?;
-        let mut next = component.joined.len();
-        if !self.join_near(component)? {
-            return Ok(false);
-        }
+        let mut next = 0;
         while next < component.joined.len() {
             self.list_joining(next, component, noted)?;
             if component.is_large(self.list.len()) {
@@ -420,98 +416,6 @@ impl<P: Peer> Flights<P> {
         }
         put_in_order(&mut component.near, noted)?;
         Ok(true)
-    }
-
-    /// Lists the places of those in flight that share an end with one of the messages that have joined.
-    fn list_joined(&self, component: &mut Component<P>, noted: &mut Vec<bool>) -> Result<(), Error>
-        requires none { component.old.near.items ≡ [] }
-        requires noted { AreNoted component.old.near.items noted.old.items }
-        requires each { length noted.old.items ≡ length self.now.list.items }
-        ensures listed { OnOk result
-            (AreAllListed P.cmp component.new.joined.items component.new.near.items self.now.list.items) }
-        ensures noted { OnOk result (AreNoted component.new.near.items noted.new.items) }
-        ensures each { length noted.new.items ≡ length noted.old.items }
-        ensures touched { OnOk result
-            (AreTouched P.cmp component.new component.new.near.items self.now.list.items) }
-        ensures joined { component.new.joined.items ≡ component.old.joined.items }
-        ensures level { component.new.level ≡ component.old.level }
-        ensures whole { component.new.whole ≡ component.old.whole }
-        ensures refused { IfErr result (λ e. e ≡ Error.OutOfMemory) }
-    {
-        for number in 0..component.joined.len() {
-            self.list_sharing(&component.joined[number], &mut component.near, noted)?;
-        }
-        Ok(())
-    }
-
-    /// Lists the places of those in flight that share an end with the message.
-    fn list_sharing(
-        &self,
-        message: &Message<P>,
-        near: &mut Vec<usize>,
-        noted: &mut Vec<bool>,
-    ) -> Result<(), Error>
-        requires noted { AreNoted near.old.items noted.old.items }
-        requires each { length noted.old.items ≡ length self.now.list.items }
-        ensures listed { OnOk result (AreListed P.cmp message.now near.new.items self.now.list.items) }
-        ensures more { OnOk result (AreStillListed near.old.items near.new.items) }
-        ensures only { OnOk result (All (λ p. Contains near.old.items p
-            ⊎ SharesAt P.cmp message.now self.now.list.items p) near.new.items) }
-        ensures noted { OnOk result (AreNoted near.new.items noted.new.items) }
-        ensures each { length noted.new.items ≡ length noted.old.items }
-        ensures refused { IfErr result (λ e. e ≡ Error.OutOfMemory) }
-    {
-        self.list_end(End::Origin, message, near, noted)?;
-        self.list_end(End::Recipient, message, near, noted)?;
-        Ok(())
-    }
-
-    /// Lists the places of those in flight that share that end with the message.
-    fn list_end(
-        &self,
-        end: End,
-        message: &Message<P>,
-        near: &mut Vec<usize>,
-        noted: &mut Vec<bool>,
-    ) -> Result<(), Error>
-        requires noted { AreNoted near.old.items noted.old.items }
-        requires each { length noted.old.items ≡ length self.now.list.items }
-        ensures listed { OnOk result (AreListedAt P.cmp end message.now near.new.items self.now.list.items) }
-        ensures more { OnOk result (AreStillListed near.old.items near.new.items) }
-        ensures only { OnOk result (All (λ p. Contains near.old.items p
-            ⊎ SharesEndAt P.cmp end message.now self.now.list.items p) near.new.items) }
-        ensures noted { OnOk result (AreNoted near.new.items noted.new.items) }
-        ensures each { length noted.new.items ≡ length noted.old.items }
-        ensures refused { IfErr result (λ e. e ≡ Error.OutOfMemory) }
-    {
-        let mut next = self.list.first_at(end, message);
-        while let Some(at) = next {
-            list(near, noted, at)?;
-            next = self.list.next_at(end, at);
-        }
-        Ok(())
-    }
-
-    /// Takes in the ends of those listed that keep no rate, as long as it is not large. Answers whether
-    /// it has both ends of each of these: not where it is large.
-    fn join_near(&self, component: &mut Component<P>) -> Result<bool, Error>
-        ensures suited { IfOk result (λ all. all ≡ true →
-            AreSuited P.cmp component.new component.new.near.items self.now.list.items) }
-        ensures few { IfOk result (λ all. all ≡ true
-            → length component.new.joined.items ≤ MOST_JOINED + length self.now.list.items) }
-        ensures joined { OnOk result (StartsWith component.old.joined.items component.new.joined.items) }
-        ensures near { component.new.near.items ≡ component.old.near.items }
-        ensures level { component.new.level ≡ component.old.level }
-        ensures whole { component.new.whole ≡ component.old.whole }
-        ensures refused { IfErr result (λ e. e ≡ Error.OutOfMemory) }
-    {
-        for number in 0..component.near.len() {
-            if component.is_large(self.list.len()) {
-                return Ok(false);
-            }
-            self.join_one(component.near[number], component)?;
-        }
-        Ok(!component.is_large(self.list.len()))
     }
 
     /// Takes in the ends of the one at that place, if it keeps no rate.

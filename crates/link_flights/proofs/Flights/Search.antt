@@ -428,39 +428,6 @@ module _ {P : Type 0} (cmp : P → P → Ordering) where
     pub level : new.level ≡ old.level
     pub whole : new.whole ≡ old.whole
 
-  -- it has both ends of the first so many of those listed that keep no rate
-  pub record HasJoinedUpTo (list : List (Flight P)) (n : ℕ) (old new : Component P) : Type 0 where
-    pub suited : AreSuited cmp new (take n new.near.items) list
-    pub joined : StartsWith old.joined.items new.joined.items
-    pub near : new.near.items ≡ old.near.items
-    pub level : new.level ≡ old.level
-    pub whole : new.whole ≡ old.whole
-
-  -- and of one more
-  pub joined_one : (list : List (Flight P)) (n : ℕ) (old mid new : Component P)
-      → HasJoinedUpTo list n old mid → StartsWith mid.joined.items new.joined.items
-      → new.near.items ≡ mid.near.items → new.level ≡ mid.level → new.whole ≡ mid.whole → n < length mid.near.items
-      → (at : ℕ) → at ≡ get_or mid.near.items n at → IsSuited cmp new list at → HasJoinedUpTo list (n + 1) old new
-  joined_one list n old mid new so_far joined near level whole inside at here one = record {
-    suited =
-        subst (λ places. AreSuited cmp new (take (n + 1) places) list) (sym near)
-        (All-more (IsSuited cmp new list) mid.near.items n at inside
-        (still_suited mid new joined whole level list (take n mid.near.items) so_far.suited)
-        (subst (IsSuited cmp new list) here one));
-    joined = starts_on old.joined.items mid.joined.items new.joined.items so_far.joined joined;
-    near = near ∙ so_far.near;
-    level = level ∙ so_far.level;
-    whole = whole ∙ so_far.whole;
-  }
-
-  -- so many of the messages that are joined have listed those that share an end with them
-  pub record HasListedUpTo (list : List (Flight P)) (n : ℕ) (old new : Component P) : Type 0 where
-    pub listed : AreAllListed cmp (take n new.joined.items) new.near.items list
-    pub touched : AreTouched cmp new new.near.items list
-    pub joined : new.joined.items ≡ old.joined.items
-    pub level : new.level ≡ old.level
-    pub whole : new.whole ≡ old.whole
-
   -- so many of them were looked through, and no more than may have joined
   pub record HasGrown (list : List (Flight P)) (floor : Option ℕ) (n : ℕ) (old new : Component P)
       : Type 0 where
