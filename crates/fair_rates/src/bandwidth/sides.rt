@@ -329,33 +329,6 @@ where
     }
 }
 
-/// What the closures answer for a flow.
-fn caps_of<P, E, I, L>(
-    flow: &Flow<P>,
-    egress_cap: &mut E,
-    ingress_cap: &mut I,
-    link_cap: &mut L,
-) -> FlowCaps
-where
-    P: Peer,
-    E: FnMut(&P) -> Option<u128>,
-    I: FnMut(&P) -> Option<u128>,
-    L: FnMut(&P, &P) -> Option<u128>,
-    requires egress { TakesAt E.FnMut egress_cap.old flow.now.origin }
-    requires ingress { flow.now.delivered ≡ true → TakesAt I.FnMut ingress_cap.old flow.now.recipient }
-    requires link { TakesAtTwo L.FnMut link_cap.old flow.now.origin flow.now.recipient }
-    ensures egress { CalledAt E.FnMut egress_cap.old flow.now.origin result.egress egress_cap.new }
-    ensures ingress { CalledIfDelivered (CalledAt I.FnMut) flow.now.delivered ingress_cap.old flow.now.recipient
-        result.ingress ingress_cap.new }
-    ensures link { CalledAtTwo L.FnMut link_cap.old flow.now.origin flow.now.recipient result.link link_cap.new }
-{
-    FlowCaps {
-        egress: egress_cap(&flow.origin),
-        ingress: ingress_of(flow, ingress_cap),
-        link: link_cap(&flow.origin, &flow.recipient),
-    }
-}
-
 /// The sides of the flows, in the order in which they come into being.
 pub(crate) fn sides<P, E, I, L>(
     alloc: Global,
@@ -384,7 +357,14 @@ where
     let mut registry = Registry::new(alloc, flows.len())?;
     let mut expected = FIRST;
     for (place, flow) in flows.iter().enumerate() {
-        let caps = caps_of(flow, &mut egress_cap, &mut ingress_cap, &mut link_cap);
+        let egress = egress_cap(&flow.origin);
+        let ingress = ingress_of(flow, &mut ingress_cap);
+        let link = link_cap(&flow.origin, &flow.recipient);
+        let caps = FlowCaps {
+            egress,
+            ingress,
+            link,
+        };
         expected = register_flow(alloc, &mut registry, place, flow, expected, caps)?.next();
     }
     Ok(registry.sides)

@@ -23,22 +23,26 @@ loop-place-preserved g c =
     let n = c.loop-place.place in
     let flow = c.index-flows-place.result in
     let inv = c.loop-place.invariant in
-    let called = c.caps_of-caps in
     let a : Answered g.row.P.Denot = record {
       flow = flow;
-      egress = called.result.egress;
-      ingress = called.result.ingress;
-      link = called.result.link;
+      egress = c.egress_cap-egress.result;
+      ingress = c.ingress_of-ingress.result;
+      link = c.link_cap-link.result;
     } in
+    let egress_call : CalledAt g.E.FnMut c.loop-place.egress_cap flow.origin a.egress c.egress_cap-egress.new.self =
+    record { shown = _; shows = refl; called = c.egress_cap-egress.ensures } in
+    let link_call : CalledAtTwo g.L.FnMut c.loop-place.link_cap flow.origin flow.recipient a.link
+    c.link_cap-link.new.self =
+    record { first = _; second = _; shows = (refl, refl); called = c.link_cap-link.ensures } in
     record {
       egress = (origin_next (TakesAt g.E.FnMut) (CalledAt g.E.FnMut) c.loop-place.egress_cap c.args.flows.now n flow
-          (omega arith) c.index-flows-place.is inv.egress).1 _ _ called.ensures.egress;
+          (omega arith) c.index-flows-place.is inv.egress).1 _ _ egress_call;
       ingress =
           recipient_next (TakesAt g.I.FnMut) (CalledAt g.I.FnMut) c.loop-place.ingress_cap c.args.flows.now n flow
-          (omega arith) c.index-flows-place.is inv.ingress a.ingress called.new.ingress_cap
-          called.ensures.ingress;
+          (omega arith) c.index-flows-place.is inv.ingress a.ingress c.ingress_of-ingress.new.ingress_cap
+          c.ingress_of-ingress.ensures;
       link = (pair_next (TakesAtTwo g.L.FnMut) (CalledAtTwo g.L.FnMut) c.loop-place.link_cap c.args.flows.now n flow
-          (omega arith) c.index-flows-place.is inv.link).1 _ _ called.ensures.link;
+          (omega arith) c.index-flows-place.is inv.link).1 _ _ link_call;
       passed =
           passed g.P.Ord.cmp (CalledAt g.E.FnMut) (CalledAt g.I.FnMut) (CalledAtTwo g.L.FnMut) n a
           c.loop-place.registry c.register_flow.new.registry c.in_ok-register_flow.ensures.registers
@@ -48,12 +52,12 @@ loop-place-preserved g c =
             ingress = c.loop-place.ingress_cap;
             link = c.loop-place.link_cap;
           }) (record {
-            egress = called.new.egress_cap;
-            ingress = called.new.ingress_cap;
-            link = called.new.link_cap;
+            egress = c.egress_cap-egress.new.self;
+            ingress = c.ingress_of-ingress.new.ingress_cap;
+            link = c.link_cap-link.new.self;
           })
           inv.passed (omega arith) c.index-flows-place.is
-          (record { origin = called.ensures.egress; recipient = called.ensures.ingress; pair = called.ensures.link });
+          (record { origin = egress_call; recipient = c.ingress_of-ingress.ensures; pair = link_call });
     }
 
 pub returns-clause-sides : goal.returns-clause-sides
