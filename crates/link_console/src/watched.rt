@@ -1,7 +1,7 @@
 //! A reader that tells on the way how far a run is.
 ghost use Rattle.std.specs.Prelude.{◌≡◌, ◌<◌, IfSome, length};
 
-use link_scheduler::replay::Call;
+use link_scheduler::call::Call;
 use link_scripts::linkrun::command::Command;
 use std::io;
 use std::io::{Read, Write};

@@ -4,7 +4,7 @@ ghost use Rattle.link_console.specs.Note.{HasText};
 ghost use Rattle.link_scripts.specs.BadLines.{IsBad};
 ghost use Rattle.link_scripts.specs.Script.{line_of, IsCallOfScriptInRange};
 ghost use Rattle.link_scripts.specs.declared.linkrun.command.Command.TheVariants as commands;
-ghost use Rattle.link_scheduler.specs.declared.replay.Call.{Call};
+ghost use Rattle.link_scheduler.specs.declared.call.Call.{Call};
 
 use crate::forms;
 use crate::forms::Kind;

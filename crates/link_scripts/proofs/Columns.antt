@@ -3,7 +3,7 @@ use Rattle.link_scripts.proofs.Common.{◌≡◌, ℕ, ◌^◌, ◌<◌, ◌≤�
 use Rattle.link_scripts.proofs.Common.{None, Some, codes, refl, sym, ap, ap₂, ◌∙◌, subst, arith, eq-eqb, Command, Takes}
 use Rattle.link_scripts.proofs.Common.{number_word, cap_word, flag_word, command_words, IsNumberInRange, IsCapInRange}
 use Rattle.link_scripts.proofs.Common.{IsSmallCapInRange, IsCommandInRange, weight_word, IsWeightInRange, NonZeroU64}
-use Rattle.link_scheduler.specs.declared.replay.Call.TheVariants as calls
+use Rattle.link_scheduler.specs.declared.call.Call.TheVariants as calls
 use Rattle.link_scripts.specs.declared.linkrun.command.Command.TheVariants as commands
 use Rattle.link_scripts.specs.declared.linkrun.command.NetworkLine.TheVariants as lines
 use Rattle.link_scripts.specs.Script.{IsLengthInRange}

@@ -7,11 +7,11 @@ use Rattle.link_scripts.proofs.Common.{MakesEach, Answer, Session, done_line, do
 use Rattle.link_scripts.proofs.Common.{answer_text, PrintsInTurn, SaysSame, KeepsPlanned, world_call, zeroed}
 use Rattle.link_scripts.proofs.Common.{zeroed_sends, AnswersEach}
 use Rattle.link_simulation.specs.Simulation.Replies.{Reply, reply_done, reply_refused}
-use Rattle.link_scheduler.specs.declared.replay.Call as script
-use Rattle.link_scheduler.specs.declared.replay.Reply as reply_code
-use Rattle.link_scheduler.specs.declared.replay.Reply.TheVariants as replies
-use Rattle.link_scheduler.specs.Calls.Replay.{IsReplyTo}
-use Rattle.link_scheduler.proofs.Calls.Replay.{answered_by_rule, refused_by_rule}
+use Rattle.link_scheduler.specs.declared.call.Call as script
+use Rattle.link_scheduler.specs.declared.call.Reply as reply_code
+use Rattle.link_scheduler.specs.declared.call.Reply.TheVariants as replies
+use Rattle.link_scheduler.specs.Calls.Replies.{IsReplyTo}
+use Rattle.link_scheduler.proofs.Calls.Replies.{answered_by_rule, refused_by_rule}
 use Rattle.link_scripts.specs.declared.linkrun.answer.Answer.TheVariants as answers
 use Rattle.link_scripts.specs.Gathered.{AnswersInTurn}
 use Rattle.link_scripts.specs.Schedule.{AnswersCall}

@@ -18,8 +18,8 @@ use Rattle.std.proofs.lemmas.List.Elements.{All-nil, All-cons}
 use Rattle.std.proofs.lemmas.List.Splits.{join_with_byte-slice_split}
 use Rattle.std.proofs.lemmas.Str.Ascii.{IsAscii-from_all}
 use Rattle.std.proofs.lemmas.Bool.{and_parts}
-use Rattle.link_scheduler.specs.declared.replay.Call.{Call}
-use Rattle.link_scheduler.specs.declared.replay.Call.TheVariants as calls
+use Rattle.link_scheduler.specs.declared.call.Call.{Call}
+use Rattle.link_scheduler.specs.declared.call.Call.TheVariants as calls
 use Rattle.link_scripts.specs.declared.linkrun.command.Command.TheVariants as commands
 use Rattle.link_scripts.specs.declared.linkrun.command.NetworkLine.TheVariants as lines
 use Rattle.link_scripts.specs.Script.{flow_words, call_words}

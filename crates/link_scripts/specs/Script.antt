@@ -5,8 +5,8 @@ use Rattle.std.specs.Int.NonZero.{non_zero_u64_get}
 use Rattle.std.specs.List.{join_with_byte}
 use Rattle.std.specs.declared.num.NonZeroU64.{NonZeroU64}
 use Rattle.fairness.specs.declared.bandwidth.Flow.{Flow}
-use Rattle.link_scheduler.specs.declared.replay.Call.{Call}
-use Rattle.link_scheduler.specs.declared.replay.Call.TheVariants as calls
+use Rattle.link_scheduler.specs.declared.call.Call.{Call}
+use Rattle.link_scheduler.specs.declared.call.Call.TheVariants as calls
 use Rattle.link_scripts.specs.declared.linkrun.command.Command.{Command}
 use Rattle.link_scripts.specs.declared.linkrun.command.Command.TheVariants as commands
 use Rattle.link_scripts.specs.declared.linkrun.command.NetworkLine.{NetworkLine}

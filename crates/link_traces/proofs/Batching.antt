@@ -11,9 +11,9 @@ use Rattle.link_traces.proofs.Common.{IsSimulatedReply}
 use Rattle.std.proofs.Common.{MatchOption}
 use Rattle.std.proofs.lemmas.List.{length-map}
 use Rattle.link_pairs.specs.Pairs.Messages.{completed_of}
-use Rattle.link_scheduler.specs.declared.replay.Call as script
-use Rattle.link_scheduler.specs.declared.replay.Reply as reply_code
-use Rattle.link_scheduler.specs.declared.replay.Reply.TheVariants as replies
+use Rattle.link_scheduler.specs.declared.call.Call as script
+use Rattle.link_scheduler.specs.declared.call.Reply as reply_code
+use Rattle.link_scheduler.specs.declared.call.Reply.TheVariants as replies
 use Rattle.link_scheduler.specs.Calls.State.{MakesEach}
 use Rattle.link_scripts.specs.Schedule.{zeroed}
 use Rattle.link_scripts.specs.Script.{line_of}

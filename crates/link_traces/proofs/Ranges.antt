@@ -3,8 +3,8 @@ use Rattle.link_traces.proofs.Common.{◌≡◌, ℕ, ◌<◌, ◌≤◌, List, 
 use Rattle.link_traces.proofs.Common.{IsCallOfScriptInRange, moment_of}
 use Rattle.std.proofs.Common.{◌^◌}
 use Rattle.std.proofs.lemmas.List.Elements.{All-head, All-tail}
-use Rattle.link_scheduler.specs.declared.replay.Call.{Call}
-use Rattle.link_scheduler.specs.declared.replay.Call.TheVariants as calls
+use Rattle.link_scheduler.specs.declared.call.Call.{Call}
+use Rattle.link_scheduler.specs.declared.call.Call.TheVariants as calls
 use Rattle.link_simulation.specs.Laws.Isolation.{InTime}
 use Rattle.link_simulation.specs.Simulation.World.{last_moment}
 

@@ -9,7 +9,7 @@ use Rattle.link_traces.proofs.Common.{IsTold, call_line, done_in, transcript_of,
 use Rattle.link_traces.proofs.Common.{Consumes, AgreesInTurn, IsSimulatedReply, reached_after}
 use Rattle.std.proofs.Common.{min}
 use Rattle.std.proofs.Common.{inl, inr, Result, Err, length-drop, drop_of_length-le}
-use Rattle.link_scheduler.specs.declared.replay.Call as script
+use Rattle.link_scheduler.specs.declared.call.Call as script
 use Rattle.link_simulation.proofs.Rule.Agreeing.{obeyed_agree}
 use Rattle.link_traces.specs.declared.linkcheck.report.Verdict.TheVariants.{Agrees}
 use Rattle.link_traces.specs.declared.linkcheck.report.Verdict.{Verdict}

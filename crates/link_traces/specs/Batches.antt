@@ -2,8 +2,8 @@
 use Rattle.std.specs.Prelude.{◌≡◌, ℕ, List, ◌++◌, drop, map}
 use Rattle.std.specs.List.{flat_map}
 use Rattle.link_events.specs.declared.outgoing.Outgoing.{Outgoing}
-use Rattle.link_scheduler.specs.declared.replay.Call.{Call}
-use Rattle.link_scheduler.specs.declared.replay.Call.TheVariants as calls
+use Rattle.link_scheduler.specs.declared.call.Call.{Call}
+use Rattle.link_scheduler.specs.declared.call.Call.TheVariants as calls
 use Rattle.link_traces.specs.declared.linkcheck.batch.Batch.{Batch}
 use Rattle.link_traces.specs.Trace.{call_line}
 

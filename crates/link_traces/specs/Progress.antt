@@ -2,7 +2,7 @@
 use Rattle.std.specs.Prelude.{◌≡◌, ℕ, List, [], ◌++◌, All, map, length, drop, None}
 use Rattle.std.specs.List.{flat_map}
 use Rattle.std.specs.Ordering.{nat_cmp}
-use Rattle.link_scheduler.specs.declared.replay.Call as script
+use Rattle.link_scheduler.specs.declared.call.Call as script
 use Rattle.link_scheduler.specs.Calls.State.{planned_of}
 use Rattle.link_scripts.specs.Schedule.{world_call}
 use Rattle.link_scripts.specs.Script.{IsCallOfScriptInRange}

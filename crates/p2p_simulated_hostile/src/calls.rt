@@ -6,7 +6,8 @@
 use crate::peers::{Fuse, Numbered};
 use bytes::Bytes;
 use fairness::error::Error;
-use link_scheduler::replay::{Call, Reply, replay};
+use link_replay::replay::replay;
+use link_scheduler::call::{Call, Reply};
 use link_scheduler::transmitter::{Completion, State};
 use std::alloc::{AllocError, Global};
 use std::cell::Cell;

@@ -3,7 +3,7 @@
 use crate::calls::{contents, done_of, fuse_of, make, replayed};
 use crate::peers::{Fuse, Name, Numbered};
 use fairness::error::Error;
-use link_scheduler::replay::{Call, Reply};
+use link_scheduler::call::{Call, Reply};
 use link_scheduler::transmitter::{Completion, State};
 use std::alloc::{AllocError, Global};
 use std::process::Abort;

@@ -2,7 +2,7 @@
 use crate::calls::{contents, fuse_of, make};
 use crate::peers::{Fuse, Name, Numbered};
 use fairness::error::Error;
-use link_scheduler::replay::{Call, Reply};
+use link_scheduler::call::{Call, Reply};
 use link_scheduler::transmitter::State;
 use std::alloc::{AllocError, Global};
 use std::process::Abort;

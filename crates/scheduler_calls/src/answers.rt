@@ -2,7 +2,7 @@
 use crate::calls::Parcel;
 use fairness::error::Error;
 use fairness::peer::Peer;
-use link_scheduler::replay::{Call, Reply};
+use link_scheduler::call::{Call, Reply};
 use link_scheduler::transmitter::{Completion, State};
 use numbered_peers::Numbered;
 

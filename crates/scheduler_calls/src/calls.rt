@@ -2,7 +2,8 @@
 use crate::answers::{Arrival, Counts, Wanted, answer, are_counted, is_wanted};
 use bytes::Bytes;
 use fairness::error::Error;
-use link_scheduler::replay::{Call, replay};
+use link_replay::replay::replay;
+use link_scheduler::call::Call;
 use link_scheduler::transmitter::{Outgoing, State};
 use numbered_peers::Numbered;
 use std::alloc::{AllocError, Global};

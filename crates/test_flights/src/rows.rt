@@ -1,5 +1,6 @@
 //! Single rules, each on a few messages.
-use link_scheduler::replay::{Call, Reply, replay};
+use link_replay::replay::replay;
+use link_scheduler::call::{Call, Reply};
 use link_scheduler::transmitter::Completion;
 use scheduler_calls::answers::are_done;
 use scheduler_calls::calls::Calls;

@@ -6,7 +6,7 @@ use link_drawings::caps::Side;
 use link_drawings::history::History;
 use link_drawings::options::Options;
 use link_drawings::track::{FullRate, Seen};
-use link_scheduler::replay::{Call, Reply};
+use link_scheduler::call::{Call, Reply};
 use link_scheduler::transmitter::{Completion, Contents, InFlight, Outgoing, State};
 use link_scripts::linkrun::command::Command;
 use link_scripts::linkrun::fill::fill;

@@ -6,7 +6,7 @@ ghost use Rattle.link_scripts.specs.Words.{words_left};
 
 use crate::linkrun::word::Words;
 use fairness::bandwidth::Flow;
-use link_scheduler::replay::Call;
+use link_scheduler::call::Call;
 use std::num::NonZeroU64;
 
 /// A command of a script.

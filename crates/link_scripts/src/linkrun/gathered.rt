@@ -6,7 +6,7 @@ ghost use Rattle.link_scripts.specs.Session.{SaysSame};
 use crate::linkrun::answer;
 use crate::linkrun::command::Command;
 use crate::linkrun::session::Session;
-use link_scheduler::replay::Call;
+use link_scheduler::call::Call;
 use link_scheduler::transmitter::Outgoing;
 use std::alloc::Global;
 use std::io;

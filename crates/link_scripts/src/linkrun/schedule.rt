@@ -1,13 +1,13 @@
 //! What a script asks of its scheduler.
 ghost use Rattle.std.specs.Prelude.{◌≡◌, map, IfOk, IfErr, OnErr};
 ghost use Rattle.link_scripts.specs.Schedule.{world_call, zeroed, zeroed_sends, AnswersEach};
-ghost use Rattle.link_scheduler.specs.Calls.Replay.{IsAnswered, MayRefuseCall};
+ghost use Rattle.link_scheduler.specs.Calls.Replies.{IsAnswered, MayRefuseCall};
 ghost use Rattle.link_scheduler.specs.Calls.State.{planned_of};
 ghost use Rattle.link_simulation.specs.Simulation.Calls.{call_enqueue_all};
 
 use crate::linkrun::fill::{fill, fill_all};
 use fairness::error::Error;
-use link_scheduler::replay::{Call, Reply};
+use link_scheduler::call::{Call, Reply};
 use link_scheduler::transmitter::{Contents, Outgoing, State};
 use std::alloc::Global;
 

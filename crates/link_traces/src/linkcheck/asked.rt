@@ -3,7 +3,7 @@ ghost use Rattle.std.specs.Prelude.{◌≡◌, ◌++◌, ◌∷◌, IfSome};
 ghost use Rattle.link_scripts.specs.Script.{line_of, IsCallOfScriptInRange};
 ghost use Rattle.link_scripts.specs.declared.linkrun.command.Command.TheVariants as commands;
 
-use link_scheduler::replay::Call;
+use link_scheduler::call::Call;
 use link_scripts::linkrun::command::Command;
 
 /// The call that a line asks.

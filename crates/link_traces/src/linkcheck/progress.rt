@@ -3,7 +3,7 @@
 ghost use Rattle.std.specs.Prelude.{◌≡◌, ◌↔◌, ◌<◌, ◌+◌, ◌++◌, ◌∷◌, ℕ, All, List, [], None, Ok};
 ghost use Rattle.std.specs.Prelude.{drop, length, false, IsTrue, IfOk, IfSome, OnOk, vec_len};
 ghost use Rattle.std.specs.Ordering.{nat_cmp};
-ghost use Rattle.link_scheduler.specs.Calls.Replay.{reply_of, IsReplyTo};
+ghost use Rattle.link_scheduler.specs.Calls.Replies.{reply_of, IsReplyTo};
 ghost use Rattle.link_scheduler.specs.Calls.State.{planned_of};
 ghost use Rattle.link_scripts.specs.Schedule.{world_call};
 ghost use Rattle.link_scripts.specs.Script.{IsCallOfScriptInRange};
@@ -22,7 +22,7 @@ use crate::linkcheck::in_turn::OutOfTurn;
 use crate::linkcheck::lines::NEWLINE;
 use crate::linkcheck::{Fault, in_turn};
 use fairness::error::Error;
-use link_scheduler::replay::{Call, Reply};
+use link_scheduler::call::{Call, Reply};
 use link_scheduler::transmitter::{Contents, State};
 use link_scripts::linkrun::fill::fill;
 use link_scripts::linkrun::{answer, schedule};

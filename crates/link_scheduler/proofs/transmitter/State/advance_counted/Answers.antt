@@ -1,5 +1,5 @@
 use Rattle.link_scheduler.proofs.Common.{[], map, ap, refl, call_advance, planned, completed_by, looked_up}
-use Rattle.link_scheduler.proofs.Common.{arrivals_looked_up, same_itself, if_ok}
+use Rattle.link_scheduler.proofs.Common.{arrivals_looked_up, if_ok}
 use Rattle.link_scheduler.proofs.Calls.Answered.{rested, right_after, orderly_after, made_after, counted_after, few_after}
 use Rattle.link_scheduler.proofs.Calls.Promises.{split_on, within_caps_on}
 use Rattle.link_scheduler.proofs.transmitter.State.advance_counted.Goals as goal

@@ -1,6 +1,6 @@
 use Rattle.link_scripts.proofs.Common.{◌≡◌, ◌≤◌, ℕ, ◌+◌, false, List, [], ◌∷◌, ◌++◌, length, get_or, take, sym, ap, ◌∙◌}
 use Rattle.link_scripts.proofs.Common.{subst, take_all, take_more, Outgoing, Call, PrintsInTurn, zeroed_sends}
-use Rattle.link_scheduler.specs.declared.replay.Call.TheVariants as calls
+use Rattle.link_scheduler.specs.declared.call.Call.TheVariants as calls
 use Rattle.link_scripts.proofs.InTurn.{sends-append, one_printed}
 use Rattle.link_scripts.proofs.Saying.{says_same_on, says_same_after_call}
 use Rattle.link_scripts.proofs.linkrun.gathered.Gathered.send_each.Goals as goal
