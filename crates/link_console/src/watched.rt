@@ -33,7 +33,6 @@ pub struct Watched<R, C, W> {
 
 impl<R: Drop, C: Drop, W: Drop> Drop for Watched<R, C, W> {
     /// Lets go of what it holds.
-    #[inline(always)]
     fn drop(self) {
         let Watched {
             input,

@@ -42,7 +42,6 @@ pub struct Ledger<P: Peer> {
 
 impl<P: Peer> Drop for Ledger<P> {
     /// Lets go of what it holds.
-    #[inline(always)]
     fn drop(self) {
         let Ledger {
             alloc: _,

@@ -69,7 +69,6 @@ pub(crate) struct Component<P> {
 
 impl<P: Drop> Drop for Component<P> {
     /// Lets go of what it holds.
-    #[inline(always)]
     fn drop(self) {
         let Component {
             whole: _,

@@ -34,7 +34,6 @@ pub(crate) struct Flight<P> {
 
 impl<P: Drop> Drop for Flight<P> {
     /// Lets go of what it holds.
-    #[inline(always)]
     fn drop(self) {
         let Flight {
             message,

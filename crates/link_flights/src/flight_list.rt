@@ -64,7 +64,6 @@ pub struct Flights<P: Peer> {
 
 impl<P: Peer> Drop for Flights<P> {
     /// Lets go of what it holds.
-    #[inline(always)]
     fn drop(self) {
         let Flights {
             alloc: _,

@@ -18,7 +18,6 @@ pub(crate) struct Notes {
 
 impl Drop for Notes {
     /// Lets go of what it holds.
-    #[inline(always)]
     fn drop(self) {
         let Notes { noted, rooms } = self;
         drop(noted);
@@ -46,7 +45,6 @@ pub(crate) struct Rooms {
 
 impl Drop for Rooms {
     /// Lets go of what it holds.
-    #[inline(always)]
     fn drop(self) {
         let Rooms {
             places,

@@ -16,7 +16,6 @@ pub(crate) struct Numbers {
 
 impl Drop for Numbers {
     /// Lets go of what it holds.
-    #[inline(always)]
     fn drop(self) {
         let Numbers { places, number_at } = self;
         drop(places);

@@ -25,7 +25,6 @@ pub(crate) struct Rate {
 
 impl Drop for Rate {
     /// Lets go of what it holds.
-    #[inline(always)]
     fn drop(self) {
         let Rate { held } = self;
         drop(held);

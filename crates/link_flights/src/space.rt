@@ -14,7 +14,6 @@ pub(crate) struct Space<P> {
 
 impl<P: Drop> Drop for Space<P> {
     /// Lets go of what it holds.
-    #[inline(always)]
     fn drop(self) {
         let Space { joined, near } = self;
         drop(joined);

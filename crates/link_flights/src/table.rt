@@ -75,7 +75,6 @@ pub struct Table<P: Peer> {
 
 impl<P: Peer> Drop for Table<P> {
     /// Lets go of what it holds.
-    #[inline(always)]
     fn drop(self) {
         let Table {
             alloc: _,

@@ -37,7 +37,6 @@ pub struct Pairs<P: Peer> {
 
 impl<P: Peer> Drop for Pairs<P> {
     /// Lets go of what it holds.
-    #[inline(always)]
     fn drop(self) {
         let Pairs {
             numbers,

@@ -79,7 +79,6 @@ pub struct State<P: Peer, M = Bytes> {
 
 impl<P: Peer, M: Drop> Drop for State<P, M> {
     /// Lets go of what it holds.
-    #[inline(always)]
     fn drop(self) {
         let State { ledger, of } = self;
         drop(ledger);

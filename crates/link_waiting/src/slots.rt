@@ -47,7 +47,6 @@ pub(crate) struct Slots<P> {
 
 impl<P: Drop> Drop for Slots<P> {
     /// Lets go of what it holds.
-    #[inline(always)]
     fn drop(self) {
         let Slots {
             slots,

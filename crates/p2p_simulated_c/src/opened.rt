@@ -27,7 +27,6 @@ pub struct Opened {
 
 impl Drop for Opened {
     /// Lets go of what it holds.
-    #[inline(always)]
     fn drop(self) {
         let Opened {
             state,

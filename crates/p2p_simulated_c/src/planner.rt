@@ -85,7 +85,6 @@ pub struct Caps {
 
 impl Drop for Caps {
     /// Lets go of what it holds.
-    #[inline(always)]
     fn drop(self) {
         let Caps {
             egress,

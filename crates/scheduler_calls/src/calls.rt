@@ -63,7 +63,6 @@ pub struct Calls<P> {
 
 impl<P: Drop> Drop for Calls<P> {
     /// Lets go of what it holds.
-    #[inline(always)]
     fn drop(self) {
         let Calls {
             alloc: _,

@@ -481,7 +481,6 @@ struct Both {
 
 impl Drop for Both {
     /// Lets go of what it holds.
-    #[inline(always)]
     fn drop(self) {
         let Both {
             table,

@@ -22,7 +22,6 @@ struct Tables {
 
 impl Drop for Tables {
     /// Lets go of what it holds.
-    #[inline(always)]
     fn drop(self) {
         let Tables { levels, moves } = self;
         drop(levels);

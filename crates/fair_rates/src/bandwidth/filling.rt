@@ -38,7 +38,6 @@ pub struct Room {
 
 impl Drop for Room {
     /// Lets go of its lists.
-    #[inline(always)]
     fn drop(self) {
         let Room {
             opens,

@@ -36,7 +36,6 @@ pub(crate) struct Numbers<K: Ord> {
 
 impl<K: Ord + Drop> Drop for Numbers<K> {
     /// Lets go of what it holds.
-    #[inline(always)]
     fn drop(self) {
         let Numbers { listed, later } = self;
         drop(listed);

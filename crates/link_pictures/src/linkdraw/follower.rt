@@ -29,7 +29,6 @@ pub(crate) struct Follower {
 
 impl Drop for Follower {
     /// Lets go of what it holds.
-    #[inline(always)]
     fn drop(self) {
         let Follower {
             alloc: _,

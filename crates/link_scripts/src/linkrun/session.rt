@@ -44,7 +44,6 @@ pub(crate) struct Session {
 
 impl Drop for Session {
     /// Lets go of what it holds.
-    #[inline(always)]
     fn drop(self) {
         let Session {
             alloc: _,

@@ -28,7 +28,6 @@ pub(crate) struct Checker {
 
 impl Drop for Checker {
     /// Lets go of what it holds.
-    #[inline(always)]
     fn drop(self) {
         let Checker {
             turns,

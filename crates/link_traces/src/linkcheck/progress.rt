@@ -49,7 +49,6 @@ pub(crate) struct Progress {
 
 impl Drop for Progress {
     /// Lets go of what it holds.
-    #[inline(always)]
     fn drop(self) {
         let Progress {
             alloc: _,

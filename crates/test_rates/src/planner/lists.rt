@@ -57,7 +57,6 @@ pub struct List {
 
 impl Drop for List {
     /// Lets go of what it holds.
-    #[inline(always)]
     fn drop(self) {
         let List { flows, caps } = self;
         drop(flows);
