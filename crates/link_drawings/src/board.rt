@@ -14,6 +14,7 @@ pub(crate) struct Board {
 
 impl Drop for Board {
     /// Lets go of what it holds.
+    #[inline(always)]
     fn drop(self) {
         let Board { low, high, held } = self;
         drop(low);

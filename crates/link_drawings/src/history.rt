@@ -40,6 +40,7 @@ pub struct History {
 
 impl Drop for History {
     /// Lets go of what it holds.
+    #[inline(always)]
     fn drop(self) {
         let History {
             alloc: _,

@@ -13,6 +13,7 @@ pub(crate) struct Ink {
 
 impl Drop for Ink {
     /// Lets go of what it holds.
+    #[inline(always)]
     fn drop(self) {
         let Ink { text, is_whole: _ } = self;
         drop(text);

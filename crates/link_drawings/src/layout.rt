@@ -41,6 +41,7 @@ pub(crate) struct Layout {
 
 impl Drop for Layout {
     /// Lets go of what it holds.
+    #[inline(always)]
     fn drop(self) {
         let Layout {
             frame: _,

@@ -114,6 +114,7 @@ pub(crate) struct Track {
 
 impl Drop for Track {
     /// Lets go of what it holds.
+    #[inline(always)]
     fn drop(self) {
         let Track {
             messages,

@@ -15,6 +15,7 @@ pub struct Contents {
 
 impl Drop for Contents {
     /// Lets go of what it holds.
+    #[inline(always)]
     fn drop(self) {
         let Contents { given, zeros: _ } = self;
         drop(given);

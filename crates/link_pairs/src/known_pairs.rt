@@ -37,6 +37,7 @@ pub struct Pairs<P: Peer> {
 
 impl<P: Peer> Drop for Pairs<P> {
     /// Lets go of what it holds.
+    #[inline(always)]
     fn drop(self) {
         let Pairs {
             numbers,

@@ -24,6 +24,7 @@ pub struct Message<P> {
 
 impl<P: Drop> Drop for Message<P> {
     /// Lets go of what it holds.
+    #[inline(always)]
     fn drop(self) {
         let Message {
             origin,

@@ -28,6 +28,7 @@ pub struct Peers<P: Peer> {
 
 impl<P: Peer> Drop for Peers<P> {
     /// Lets go of what it holds.
+    #[inline(always)]
     fn drop(self) {
         let Peers { numbers, caps } = self;
         drop(numbers);

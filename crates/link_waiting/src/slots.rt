@@ -47,6 +47,7 @@ pub(crate) struct Slots<P> {
 
 impl<P: Drop> Drop for Slots<P> {
     /// Lets go of what it holds.
+    #[inline(always)]
     fn drop(self) {
         let Slots {
             slots,

@@ -39,6 +39,7 @@ pub struct Waiting<P: Peer> {
 
 impl<P: Peer> Drop for Waiting<P> {
     /// Lets go of what it holds.
+    #[inline(always)]
     fn drop(self) {
         let Waiting {
             alloc: _,

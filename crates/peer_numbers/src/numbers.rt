@@ -21,6 +21,7 @@ pub struct PeerNumbers<P: Peer> {
 
 impl<P: Peer> Drop for PeerNumbers<P> {
     /// Lets go of what it holds.
+    #[inline(always)]
     fn drop(self) {
         let PeerNumbers {
             peers,

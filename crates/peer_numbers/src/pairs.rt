@@ -42,6 +42,7 @@ pub struct PairNumbers<P: Peer> {
 
 impl<P: Peer> Drop for PairNumbers<P> {
     /// Lets go of what it holds.
+    #[inline(always)]
     fn drop(self) {
         let PairNumbers { peers, ends } = self;
         drop(peers);

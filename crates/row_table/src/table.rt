@@ -25,6 +25,7 @@ pub struct RowTable<T> {
 
 impl<T: Drop> Drop for RowTable<T> {
     /// Lets go of what it holds.
+    #[inline(always)]
     fn drop(self) {
         let RowTable { parts } = self;
         drop(parts);

@@ -63,6 +63,7 @@ pub struct Calls<P> {
 
 impl<P: Drop> Drop for Calls<P> {
     /// Lets go of what it holds.
+    #[inline(always)]
     fn drop(self) {
         let Calls {
             alloc: _,

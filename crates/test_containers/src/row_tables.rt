@@ -481,6 +481,7 @@ struct Both {
 
 impl Drop for Both {
     /// Lets go of what it holds.
+    #[inline(always)]
     fn drop(self) {
         let Both {
             table,

@@ -22,6 +22,7 @@ struct Tables {
 
 impl Drop for Tables {
     /// Lets go of what it holds.
+    #[inline(always)]
     fn drop(self) {
         let Tables { levels, moves } = self;
         drop(levels);

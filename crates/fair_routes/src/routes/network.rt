@@ -33,6 +33,7 @@ pub struct Network {
 
 impl Drop for Network {
     /// Lets go of what it holds.
+    #[inline(always)]
     fn drop(self) {
         let Network {
             alloc: _,

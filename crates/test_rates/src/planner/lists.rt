@@ -57,6 +57,7 @@ pub struct List {
 
 impl Drop for List {
     /// Lets go of what it holds.
+    #[inline(always)]
     fn drop(self) {
         let List { flows, caps } = self;
         drop(flows);

@@ -52,6 +52,7 @@ pub struct Planned {
 
 impl Drop for Planned {
     /// Lets go of what it holds.
+    #[inline(always)]
     fn drop(self) {
         let Planned { rates, rounds: _ } = self;
         drop(rates);

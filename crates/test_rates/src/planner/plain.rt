@@ -117,6 +117,7 @@ pub struct Filled {
 
 impl Drop for Filled {
     /// Lets go of what it holds.
+    #[inline(always)]
     fn drop(self) {
         let Filled { rates, rounds: _ } = self;
         drop(rates);
