@@ -1,4 +1,4 @@
-use Rattle.link_flights.proofs.Common.{[], ◌≡◌, ℕ, ◌≤◌, ◌+◌, All, length, refl, sym, ◌∙◌, subst, arith}
+use Rattle.link_flights.proofs.Common.{[], ℕ, ◌≤◌, ◌+◌, All, length, refl, sym, ◌∙◌, subst, arith}
 use Rattle.link_flights.proofs.Common.{append-nil, take_all, All-nil, AreAllListed, AreListed, AreNoted, IsTouched}
 use Rattle.std.specs.Prelude.{IfSome}
 use Rattle.link_flights.specs.Flights.Components.{IsSuited}
@@ -66,4 +66,3 @@ pub returns-clause-noted : goal.returns-clause-noted
 returns-clause-noted g c all =
     noted_in_order c.loop-next.component.near.items c.put_in_order.new.places.items c.loop-next.noted.items
     c.loop-next.invariant.1 c.in_ok-put_in_order.ensures.still c.in_ok-put_in_order.ensures.only
-
