@@ -12,6 +12,16 @@ loop-place-init g c = record {
   passed = record { answered = []; count = refl; flows_are = refl; calls = refl; registered = c.requires.none };
 }
 
+pub egress_cap-egress-requires : goal.egress_cap-egress-requires
+egress_cap-egress-requires g c =
+    (origin_next (TakesAt g.E.FnMut) (CalledAt g.E.FnMut) c.loop-place.egress_cap c.args.flows.now c.loop-place.place
+    c.index-flows-place.result (omega arith) c.index-flows-place.is c.loop-place.invariant.egress).0 _ refl
+
+pub link_cap-link-requires : goal.link_cap-link-requires
+link_cap-link-requires g c =
+    (pair_next (TakesAtTwo g.L.FnMut) (CalledAtTwo g.L.FnMut) c.loop-place.link_cap c.args.flows.now c.loop-place.place
+    c.index-flows-place.result (omega arith) c.index-flows-place.is c.loop-place.invariant.link).0 _ _ refl refl
+
 pub register_flow-requires : goal.register_flow-requires
 register_flow-requires g c =
     finds_sides g.P.Ord.cmp g.met.P.Ord.total _ c.loop-place.registry c.loop-place.invariant.passed.registered
