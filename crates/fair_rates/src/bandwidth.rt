@@ -85,13 +85,8 @@ where
         → AreTooLargeUnderCaps P.cmp (CalledAt E.FnMut) (CalledAt I.FnMut) NoLink
         (record { egress = egress_cap; ingress = ingress_cap; link = tt }) flows.now) }
 {
-    allocate_linked(
-        alloc,
-        flows,
-        egress_cap,
-        ingress_cap,
-        |_origin, _recipient| None,
-    )
+    let (rates, _rounds) = allocate_counted(alloc, flows, egress_cap, ingress_cap)?;
+    Ok(rates)
 }
 
 /// The max-min fair rate of each flow, by its id, where also links have caps.
