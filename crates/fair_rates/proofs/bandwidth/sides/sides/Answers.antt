@@ -1,4 +1,4 @@
-use Rattle.fair_rates.proofs.Common.{◌∙◌, ◌≡◌, arith, ap, length, length-map, ◌<◌}
+use Rattle.fair_rates.proofs.Common.{arith, ap, length, length-map, ◌<◌}
 use Rattle.fairness.proofs.Lists.AllPairs.{AllPairs-from_later}
 use Rattle.fair_rates.proofs.Sides.Users.{users_of}
 use Rattle.fair_rates.proofs.bandwidth.sides.sides.Goals as goal
