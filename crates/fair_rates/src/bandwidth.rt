@@ -1,5 +1,5 @@
 //! Who sends how fast.
-ghost use Rattle.std.specs.Prelude.{◌≡◌, ◌⊎◌, ℕ, IfOk, IfErr};
+ghost use Rattle.std.specs.Prelude.{◌≡◌, ◌<◌, ◌⊎◌, ℕ, IfOk, IfErr, All, length, map};
 ghost use Rattle.std.specs.Fn.{CalledAt, TakesAt, CalledAtTwo, TakesAtTwo};
 ghost use Rattle.std.specs.Ordering.{nat_cmp};
 ghost use Rattle.std.specs.BTreeMap.{get};
@@ -7,7 +7,9 @@ ghost use Rattle.fairness.specs.Sides.Answers.{NoLink, CallableOnEach, CallableO
 ghost use Rattle.fairness.specs.Sides.Answers.{pairs};
 ghost use Rattle.fairness.specs.Fairness.Allocation.{IsAllocation, IsCountedAllocation, IsFairUnderCaps};
 ghost use Rattle.fairness.specs.Fairness.Rates.{last_rate};
-ghost use Rattle.fairness.specs.Refusals.TooLarge.{IsTooLarge, AreTooLargeUnderCaps};
+ghost use Rattle.fairness.specs.Refusals.TooLarge.{HasLargeRate, IsTooLarge, AreTooLargeUnderCaps};
+ghost use Rattle.fair_rates.specs.Filling.CountedRates.{AreCountedRates};
+ghost use Rattle.fair_rates.specs.Sides.SideOf.{side_of};
 
 mod alone;
 mod filling;
@@ -83,13 +85,8 @@ where
         → AreTooLargeUnderCaps P.cmp (CalledAt E.FnMut) (CalledAt I.FnMut) NoLink
         (record { egress = egress_cap; ingress = ingress_cap; link = tt }) flows.now) }
 {
-    allocate_linked(
-        alloc,
-        flows,
-        egress_cap,
-        ingress_cap,
-        |_origin, _recipient| None,
-    )
+    let (rates, _rounds) = allocate_counted(alloc, flows, egress_cap, ingress_cap)?;
+    Ok(rates)
 }
 
 /// The max-min fair rate of each flow, by its id, where also links have caps.
@@ -190,9 +187,9 @@ where
 pub fn allocate_linked_counted<P, E, I, L>(
     alloc: Global,
     flows: &[Flow<P>],
-    egress_cap: E,
-    ingress_cap: I,
-    link_cap: L,
+    mut egress_cap: E,
+    mut ingress_cap: I,
+    mut link_cap: L,
 ) -> Result<(BTreeMap<u64, Rate>, u128), Error>
 where
     P: Peer,
@@ -216,7 +213,28 @@ where
         → AreTooLargeUnderCaps P.cmp (CalledAt E.FnMut) (CalledAt I.FnMut) (CalledAtTwo L.FnMut)
         (record { egress = egress_cap; ingress = ingress_cap; link = link_cap }) flows.now) }
 {
-    let sides = sides::sides(alloc, flows, egress_cap, ingress_cap, link_cap)?;
+    let sides = sides::sides(
+        alloc,
+        flows,
+        &mut egress_cap,
+        &mut ingress_cap,
+        &mut link_cap,
+    )?;
+    rates_on(alloc, flows, sides)
+}
+
+/// The max-min fair rates of the flows on the sides, by their ids, with the number of rounds of filling.
+fn rates_on<P>(
+    alloc: Global,
+    flows: &[Flow<P>],
+    sides: Vec<Side>,
+) -> Result<(BTreeMap<u64, Rate>, u128), Error>
+    requires users { All (λ side. All (λ flow. flow < length flows.now) side.users.items) sides.items }
+    ensures counted { IfOk result (λ counted.
+        AreCountedRates (map side_of sides.items) flows.now (get nat_cmp counted.0) counted.1) }
+    ensures refused { IfErr result (λ e. (e ≡ Error.OutOfMemory)
+        ⊎ ((e ≡ Error.NumberTooLarge) × HasLargeRate (map side_of sides.items))) }
+{
     let found = filling::fair_parts(alloc, flows.len(), sides)?;
     let rates = found.rates(alloc)?;
     let by_id = rates_by_id(alloc, flows, &rates)?;

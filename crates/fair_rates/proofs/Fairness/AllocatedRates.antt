@@ -1,10 +1,11 @@
 -- What is answered is the allocation.
-use Rattle.fair_rates.proofs.Common.{◌≡◌, ℕ, ◌<◌, ◌≤◌, List, length, map, Option, All, AllPairs, sym, ap, ◌∙◌, arith}
-use Rattle.fair_rates.proofs.Common.{length-map, Ordering, Flow, Rate, IsAllocation, Calls, PairCalls, States, Answered}
-use Rattle.fair_rates.proofs.Common.{AnswerInOrder, side_of, HaveUsersBelow, AreFairRates, HasDifferentRates, last_rate}
+use Rattle.fair_rates.proofs.Common.{◌≡◌, ℕ, ◌<◌, ◌≤◌, List, length, map, Option, All, AllPairs, subst}
+use Rattle.fair_rates.proofs.Common.{Ordering, Flow, Rate, IsAllocation, Calls, PairCalls, States, Answered}
+use Rattle.fair_rates.proofs.Common.{AnswerInOrder, side_of, HaveUsersBelow, AreFairRates, last_rate}
 use Rattle.fair_rates.proofs.Common.{sides_of, rules}
 use Rattle.fair_rates.specs.declared.bandwidth.sides.Side as declared_side
 use Rattle.fairness.specs.Fairness.Allocation.{IsCountedAllocation}
+use Rattle.fair_rates.specs.Filling.CountedRates.{AreCountedRates}
 use Rattle.fairness.proofs.Sides.UserCounts.{HaveDistinctUsers}
 use Rattle.fairness.proofs.Fairness.Allocation.{the_allocation}
 use Rattle.fair_rates.proofs.Refusals.Promise.{distinct_sides, users_below_sides, twelfths, whole_of_sixteen}
@@ -39,19 +40,17 @@ allocated cmp egress ingress link first flows rate_of answered sides rates in_or
 -- and the rounds are counted
 pub counted : {P E I L : Type 0} (cmp : P → P → Ordering) (egress : Calls E P) (ingress : Calls I P)
     (link : PairCalls L P) (first : States E I L) (flows : List (Flow P)) (rate_of : ℕ → Option Rate) (rounds : ℕ)
-    → (answered : List (Answered P)) (sides : List declared_side.Side) (rates : List Rate)
+    → (answered : List (Answered P)) (sides : List declared_side.Side)
     → AnswerInOrder egress ingress link first flows answered → map side_of sides ≡ sides_of cmp answered
     → All (λ side. All (λ flow. flow < length flows) side.users.items) sides
     → All (λ side. AllPairs (λ a b. a < b) side.users.items) sides
-    → AreFairRates (map side_of sides) (length flows) rates → HasDifferentRates rates rounds → rounds ≤ length sides
-    → ((id : ℕ) → rate_of id ≡ last_rate id flows rates)
+    → AreCountedRates (map side_of sides) flows rate_of rounds
     → IsCountedAllocation cmp egress ingress link first flows rate_of rounds
 unfolding allocated
-counted cmp egress ingress link first flows rate_of rounds answered sides rates in_order registered below rise filled
-    different few by_id =
-    let many : length (sides_of cmp answered) ≡ length sides = ap length (sym registered) ∙ length-map sides side_of in
-    record {
-      allocation = search (rules, allocated);
-      different = different;
-      few = omega (arith, many, few);
-    }
+counted cmp egress ingress link first flows rate_of rounds answered sides in_order registered below rise found = record {
+  allocation =
+      allocated cmp egress ingress link first flows rate_of answered sides found.rates in_order registered below rise
+      found.fair found.by_id;
+  different = found.different;
+  few = subst (λ s. rounds ≤ length s) registered found.few;
+}

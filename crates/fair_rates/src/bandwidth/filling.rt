@@ -193,9 +193,9 @@ pub fn fair_parts_in(
     ensures taken { OnOk result (sides.new.items ≡ []) }
 {
     let opens = mem::replace(&mut room.opens, Vec::new(alloc));
-    let before = mem::replace(&mut room.found, FairParts::none(alloc));
     let mut queue = open_sides(opens, sides)?;
-    let mut found = before.anew(alloc, count)?;
+    let found = &mut room.found;
+    found.renew(alloc, count)?;
     while let Some(side) = next_side(&mut queue, &found.levels, &found.level_of)? {
         let OpenSide { slack, rising, .. } = side;
         let share = whole_share(alloc, slack, rising.len() as u64)?;
@@ -204,5 +204,5 @@ pub fn fair_parts_in(
         found.freeze(&rising, share.parts)?;
     }
     room.opens = queue.into_vec();
-    Ok(found)
+    Ok(mem::replace(found, FairParts::none(alloc)))
 }

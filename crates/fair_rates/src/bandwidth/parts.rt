@@ -39,30 +39,18 @@ impl FairParts {
         }
     }
 
-    /// So many flows, of which none has a level, and a part is a unit of the caps. The lists take the room of these.
-    pub(crate) fn anew(self, alloc: Global, count: usize) -> Result<FairParts, AllocError>
-        ensures scale { IfOk result (λ found. found.scale ≡ 1) }
-        ensures growth { IfOk result (λ found. found.growth.items ≡ []) }
-        ensures levels { IfOk result (λ found. found.levels.items ≡ []) }
-        ensures level_of { IfOk result (λ found. found.level_of.items ≡ replicate count None) }
+    /// Begins anew with so many flows, of which none has a level, and a part is a unit of the caps.
+    pub(crate) fn renew(&mut self, alloc: Global, count: usize) -> Result<(), AllocError>
+        ensures scale { OnOk result (self.new.scale ≡ 1) }
+        ensures growth { OnOk result (self.new.growth.items ≡ []) }
+        ensures levels { OnOk result (self.new.levels.items ≡ []) }
+        ensures level_of { OnOk result (self.new.level_of.items ≡ replicate count None) }
     {
-        let FairParts {
-            scale,
-            mut growth,
-            mut levels,
-            mut level_of,
-        } = self;
-        drop(scale);
-        growth.clear();
-        levels.clear();
-        level_of.clear();
-        level_of.resize(count, None)?;
-        Ok(FairParts {
-            scale: Natural::from_u64(alloc, 1),
-            growth,
-            levels,
-            level_of,
-        })
+        self.scale = Natural::from_u64(alloc, 1);
+        self.growth.clear();
+        self.levels.clear();
+        self.level_of.clear();
+        self.level_of.resize(count, None)
     }
 
     /// Multiplies the scale, and all parts with it.

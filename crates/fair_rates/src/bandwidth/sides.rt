@@ -5,10 +5,10 @@ ghost use Rattle.std.specs.Fn.{CalledAt, TakesAt, CalledAtTwo, TakesAtTwo};
 ghost use Rattle.fairness.specs.Sides.Answers.{Answered, AnswerInOrder, CallableOnEach, CallableOnEachPair, origins};
 ghost use Rattle.fairness.specs.Sides.Answers.{CalledIfDelivered};
 ghost use Rattle.fairness.specs.Sides.Answers.{recipients, pairs};
-ghost use Rattle.fairness.specs.Sides.Subjects.{sides_of, asks_of_one};
+ghost use Rattle.fairness.specs.Sides.Subjects.{sides_of, asks_of_one, asks_from};
 ghost use Rattle.fairness.specs.Sides.Subjects.{sent_between};
 ghost use Rattle.fair_rates.specs.Sides.SideOf.{side_of};
-ghost use Rattle.fair_rates.specs.Sides.Registry.{FindsSides, IsGapFor, Registers, number_of, subject_of};
+ghost use Rattle.fair_rates.specs.Sides.Registry.{FindsSides, IsGapFor, IsRegistryOf, Registers, number_of, subject_of};
 
 use crate::bandwidth::numbers::{Found, Numbers};
 use fairness::bandwidth::{Flow, FlowCaps};
@@ -329,25 +329,64 @@ where
     }
 }
 
+/// Asks the closures flow by flow, and registers what each flow asks for.
+fn register_all<'a, P, E, I, L>(
+    alloc: Global,
+    registry: &mut Registry<'a, P>,
+    flows: &'a [Flow<P>],
+    egress_cap: &mut E,
+    ingress_cap: &mut I,
+    link_cap: &mut L,
+) -> Result<(), Error>
+where
+    P: Peer,
+    E: FnMut(&P) -> Option<u128>,
+    I: FnMut(&P) -> Option<u128>,
+    L: FnMut(&P, &P) -> Option<u128>,
+    requires none { IsRegistryOf P.cmp [] registry.old }
+    requires egress { CallableOnEach (TakesAt E.FnMut) (CalledAt E.FnMut) egress_cap.old (origins flows.now) }
+    requires ingress { CallableOnEach (TakesAt I.FnMut) (CalledAt I.FnMut) ingress_cap.old (recipients flows.now) }
+    requires link { CallableOnEachPair (TakesAtTwo L.FnMut) (CalledAtTwo L.FnMut) link_cap.old (pairs flows.now) }
+    ensures registered { OnOk result ((answered : List (Answered P))
+        × AnswerInOrder (CalledAt E.FnMut) (CalledAt I.FnMut) (CalledAtTwo L.FnMut)
+        (record { egress = egress_cap.old; ingress = ingress_cap.old; link = link_cap.old }) flows.now answered
+        × IsRegistryOf P.cmp (asks_from 0 answered) registry.new) }
+    ensures refused { IfErr result (λ e. e ≡ Error.OutOfMemory) }
+{
+    let mut expected = FIRST;
+    for (place, flow) in flows.iter().enumerate() {
+        let egress = egress_cap(&flow.origin);
+        let ingress = ingress_of(flow, ingress_cap);
+        let link = link_cap(&flow.origin, &flow.recipient);
+        let caps = FlowCaps {
+            egress,
+            ingress,
+            link,
+        };
+        expected = register_flow(alloc, registry, place, flow, expected, caps)?.next();
+    }
+    Ok(())
+}
+
 /// The sides of the flows, in the order in which they come into being.
 pub(crate) fn sides<P, E, I, L>(
     alloc: Global,
     flows: &[Flow<P>],
-    mut egress_cap: E,
-    mut ingress_cap: I,
-    mut link_cap: L,
+    egress_cap: &mut E,
+    ingress_cap: &mut I,
+    link_cap: &mut L,
 ) -> Result<Vec<Side>, Error>
 where
     P: Peer,
     E: FnMut(&P) -> Option<u128>,
     I: FnMut(&P) -> Option<u128>,
     L: FnMut(&P, &P) -> Option<u128>,
-    requires egress { CallableOnEach (TakesAt E.FnMut) (CalledAt E.FnMut) egress_cap (origins flows.now) }
-    requires ingress { CallableOnEach (TakesAt I.FnMut) (CalledAt I.FnMut) ingress_cap (recipients flows.now) }
-    requires link { CallableOnEachPair (TakesAtTwo L.FnMut) (CalledAtTwo L.FnMut) link_cap (pairs flows.now) }
+    requires egress { CallableOnEach (TakesAt E.FnMut) (CalledAt E.FnMut) egress_cap.old (origins flows.now) }
+    requires ingress { CallableOnEach (TakesAt I.FnMut) (CalledAt I.FnMut) ingress_cap.old (recipients flows.now) }
+    requires link { CallableOnEachPair (TakesAtTwo L.FnMut) (CalledAtTwo L.FnMut) link_cap.old (pairs flows.now) }
     ensures sides { IfOk result (λ sides. (answered : List (Answered P))
         × AnswerInOrder (CalledAt E.FnMut) (CalledAt I.FnMut) (CalledAtTwo L.FnMut)
-        (record { egress = egress_cap; ingress = ingress_cap; link = link_cap }) flows.now answered
+        (record { egress = egress_cap.old; ingress = ingress_cap.old; link = link_cap.old }) flows.now answered
         × (map side_of sides.items ≡ sides_of P.cmp answered)) }
     ensures users_are_flows { IfOk result (λ sides. All
         (λ side. All (λ flow. flow < length flows.now) side.users.items) sides.items) }
@@ -355,17 +394,13 @@ where
     ensures refused { IfErr result (λ e. e ≡ Error.OutOfMemory) }
 {
     let mut registry = Registry::new(alloc, flows.len())?;
-    let mut expected = FIRST;
-    for (place, flow) in flows.iter().enumerate() {
-        let egress = egress_cap(&flow.origin);
-        let ingress = ingress_of(flow, &mut ingress_cap);
-        let link = link_cap(&flow.origin, &flow.recipient);
-        let caps = FlowCaps {
-            egress,
-            ingress,
-            link,
-        };
-        expected = register_flow(alloc, &mut registry, place, flow, expected, caps)?.next();
-    }
+    register_all(
+        alloc,
+        &mut registry,
+        flows,
+        egress_cap,
+        ingress_cap,
+        link_cap,
+    )?;
     Ok(registry.sides)
 }

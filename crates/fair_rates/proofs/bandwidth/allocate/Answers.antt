@@ -1,26 +1,22 @@
-use Rattle.fair_rates.proofs.Common.{rules}
-use Rattle.std.proofs.Common.{of_calls}
-use Rattle.std.proofs.lemmas.Result.{IfOk-weaker}
-use Rattle.fairness.proofs.Sides.Callable.{callable_on_each_pair}
-use Rattle.fairness.proofs.Fairness.AnswersUnderCaps.{fair_under_caps, refused_under_caps}
-use Rattle.fairness.proofs.Sides.NoLinks.{without_links, refused_without_links}
+use Rattle.fair_rates.proofs.Common.{inl, inr, ◌∙◌}
+use Rattle.fairness.proofs.Fairness.AnswersUnderCaps.{refused_under_caps}
+use Rattle.fairness.proofs.Filling.Frozen.{if_err}
 use Rattle.fair_rates.proofs.bandwidth.allocate.Goals as goal
 
-pub allocate_linked-requires-clause-link : goal.allocate_linked-requires-clause-link
-allocate_linked-requires-clause-link g c = search (of_calls, callable_on_each_pair)
+pub returns-in_err-rates-clause-refused : goal.returns-in_err-rates-clause-refused
+returns-in_err-rates-clause-refused g c =
+    if_err _ _ c.from_residual.result c.from_residual.ensures.1
+    (λ e is. elim c.in_err-rates.ensures.refused [
+      | inl memory ↦ inl (is ∙ memory)
+      | inr large ↦ inr (is ∙ large.0, large.1)
+    ])
+
+pub returns-in_err-rates-clause-refused_under_caps : goal.returns-in_err-rates-clause-refused_under_caps
+returns-in_err-rates-clause-refused_under_caps g c =
+    refused_under_caps g.P.Ord.cmp _ _ _ _ _ c.from_residual.result (returns-in_err-rates-clause-refused g c)
 
 pub returns-clause-fair : goal.returns-clause-fair
-returns-clause-fair g c =
-    IfOk-weaker c.allocate_linked.result _ _
-    (λ rates h. without_links _ _ _ (λ l p q a l' k. search rules) g.P.Ord.cmp _ _ _ h) c.allocate_linked.ensures.fair
-
-pub returns-clause-refused : goal.returns-clause-refused
-returns-clause-refused g c =
-    refused_without_links _ _ _ (λ l p q a l' k. search rules) g.P.Ord.cmp _ _ c.allocate_linked.result
-    c.allocate_linked.ensures.refused
+returns-clause-fair g c = c.in_ok-rates.ensures.counted.allocation
 
 pub returns-clause-under_caps : goal.returns-clause-under_caps
-returns-clause-under_caps g c = fair_under_caps g.P.Ord.cmp _ _ _ _ _ _ _ (returns-clause-fair g c)
-
-pub returns-clause-refused_under_caps : goal.returns-clause-refused_under_caps
-returns-clause-refused_under_caps g c = refused_under_caps g.P.Ord.cmp _ _ _ _ _ _ (returns-clause-refused g c)
+returns-clause-under_caps g c = c.in_ok-rates.ensures.under_caps

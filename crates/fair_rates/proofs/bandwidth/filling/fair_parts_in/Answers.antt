@@ -3,18 +3,18 @@ use Rattle.fair_rates.proofs.Common.{arith, ◌∙◌, heap_items, common_steps,
 use Rattle.fair_rates.proofs.Common.{frozen_at, top, IsQueue, IsShareQueue, AreAbove, AllFilled, IsRaised, AreAtTop}
 use Rattle.fair_rates.proofs.Common.{flow_parts, side_of, OpenSide}
 use Rattle.std.proofs.lemmas.List.{length-replicate}
-use Rattle.fair_rates.specs.Filling.States.{IsLeast}
+use Rattle.fair_rates.specs.Filling.States.{AreFilled, IsLeast}
 use Rattle.fairness.proofs.Filling.Frozen.{some_of_if, match_some, match_none, on_some_of}
 use Rattle.fair_rates.proofs.Filling.Levels.{few_more}
 use Rattle.fair_rates.proofs.Filling.Steps.{IsCourse, IsTaken, course_none, round, limited, fair}
 use Rattle.fair_rates.proofs.bandwidth.filling.fair_parts_in.Goals as goal
 
-pub loop-found-init : goal.loop-found-init
-loop-found-init c =
+pub loop-queue-init : goal.loop-queue-init
+loop-queue-init c =
     let sides : List Side = map side_of c.args.sides.now.items in
     let opens = heap_items c.in_ok-queue.queue in
-    let new = c.in_ok-found.ensures in
-    let found = c.in_ok-found.found in
+    let new = c.in_ok-renew.ensures in
+    let found = c.renew.new.self in
     let opened = c.in_ok-queue.ensures.opened in
     let course =
     course_none sides 1 c.args.count opens (omega arith) opened.queue
@@ -31,28 +31,28 @@ loop-found-init c =
 
 pub freeze-requires : goal.freeze-requires
 freeze-requires c =
-    let found = c.loop-found.found in
-    let E = c.deref-in-loop-found.result.now in
-    let same = ap length (c.deref-in-loop-found.ensures.value ∙ sym c.in_ok-grow.ensures.level_of) in
+    let found = c.loop-queue.found in
+    let E = c.deref-in-loop-queue.result.now in
+    let same = ap length (c.deref-in-loop-queue.ensures.value ∙ sym c.in_ok-grow.ensures.level_of) in
     let users =
     some_of_if (λ (s : OpenSide). All (λ flow. flow < length E) s.rising.items) c.in_ok-side.field-0
     c.in_ok-side.ensures.users c.in-Some.side c.in-Some.is in
     subst (λ n. All (λ flow. flow < n) c.deref-in-Some.result.now) same
     (subst (All (λ flow. flow < length E)) (sym c.deref-in-Some.ensures.value) users)
 
-pub loop-found-preserved : goal.loop-found-preserved
-loop-found-preserved c =
+pub loop-queue-preserved : goal.loop-queue-preserved
+loop-queue-preserved c =
     let sides : List Side = map side_of c.args.sides.now.items in
-    let found = c.loop-found.found in
+    let found = c.loop-queue.found in
     let levels = found.levels.items in
     let level_of = found.level_of.items in
     let times = product found.growth.items in
-    let course = c.loop-found.invariant.course in
+    let course = c.loop-queue.invariant.course in
     let D = c.deref.result.now in
-    let E = c.deref-in-loop-found.result.now in
+    let E = c.deref-in-loop-queue.result.now in
     let d : D ≡ levels = c.deref.ensures.value in
-    let e : E ≡ level_of = c.deref-in-loop-found.ensures.value in
-    let old = heap_items c.loop-found.queue in
+    let e : E ≡ level_of = c.deref-in-loop-queue.ensures.value in
+    let old = heap_items c.loop-queue.queue in
     let side : OpenSide = c.in-Some.side in
     let rest = heap_items c.next_side.new.queue in
     let opens = heap_items c.in_ok-queue-2.queue in
@@ -100,11 +100,11 @@ loop-found-preserved c =
     at_top in
     record {
       course = subst (λ n. IsCourse sides n after later opens) (sym growth) on;
-      grown = omega (arith, scale, ap (λ n. n * share.factor) c.loop-found.invariant.grown, growth);
+      grown = omega (arith, scale, ap (λ n. n * share.factor) c.loop-queue.invariant.grown, growth);
       factors =
           subst (All (λ n. 0 < n)) (sym c.in_ok-freeze.ensures.growth)
-          (c.in_ok-grow.ensures.factors c.loop-found.invariant.factors);
-      one_each = at_top.one_each ∙ c.loop-found.invariant.one_each;
+          (c.in_ok-grow.ensures.factors c.loop-queue.invariant.factors);
+      one_each = at_top.one_each ∙ c.loop-queue.invariant.one_each;
       few =
           omega (
             arith,
@@ -112,24 +112,24 @@ loop-found-preserved c =
             length-map levels (λ (parts : ℕ). parts * share.factor),
             c.in_ok-queue-2.ensures.count,
             fewer,
-            c.loop-found.invariant.few,
+            c.loop-queue.invariant.few,
           );
     }
 
 pub returns-clause-filled : goal.returns-clause-filled
 returns-clause-filled c =
     let sides : List Side = map side_of c.args.sides.now.items in
-    let found = c.loop-found.found in
+    let found = c.loop-queue.found in
     let levels = found.levels.items in
     let level_of = found.level_of.items in
-    let inv = c.loop-found.invariant in
+    let inv = c.loop-queue.invariant in
     let times = product found.growth.items in
     let course = inv.course in
     let D = c.deref.result.now in
-    let E = c.deref-in-loop-found.result.now in
+    let E = c.deref-in-loop-queue.result.now in
     let d : D ≡ levels = c.deref.ensures.value in
-    let e : E ≡ level_of = c.deref-in-loop-found.ensures.value in
-    let old = heap_items c.loop-found.queue in
+    let e : E ≡ level_of = c.deref-in-loop-queue.ensures.value in
+    let old = heap_items c.loop-queue.queue in
     let rest = heap_items c.next_side.new.queue in
     let queue : IsQueue sides times (frozen_at D E) old =
     subst (λ xs. IsQueue sides times (frozen_at xs E) old) (sym d)
@@ -138,7 +138,7 @@ returns-clause-filled c =
     (record { 0 = s } ∷ rest)) c.in_ok-side.field-0 (c.in_ok-side.ensures.queue sides times queue) c.in_default.is in
     let ended : AllFilled sides (frozen_at levels level_of) =
     subst (λ xs. AllFilled sides (frozen_at xs level_of)) d (subst (λ xs. AllFilled sides (frozen_at D xs)) e there) in
-    record {
+    subst (AreFilled sides c.args.count) (sym c.replace.ensures.value) (record {
       parts = record {
         grown = inv.grown;
         factors = inv.factors;
@@ -152,4 +152,4 @@ returns-clause-filled c =
       rising = course.rising;
       reached = course.reached;
       few = omega (arith, inv.few, length-map c.args.sides.now.items side_of);
-    }
+    })

@@ -2,8 +2,8 @@ use Rattle.fair_rates.proofs.Common.{◌≡◌, ◌+◌, ◌<◌, ◌≤◌, All
 use Rattle.fair_rates.proofs.Filling.Steps.{IsCourse}
 use Rattle.fair_rates.proofs.bandwidth.filling.fair_parts_in.Given as goal
 
-abbrev pub invariant-loop-found : goal.invariant-loop-found
-invariant-loop-found l = record {
+abbrev pub invariant-loop-queue : goal.invariant-loop-queue
+invariant-loop-queue l = record {
   course : IsCourse (map side_of l.fn.sides.items) (product l.found.growth.items) l.found.levels.items
       l.found.level_of.items (heap_items l.queue);
   grown : l.found.scale ≡ product l.found.growth.items;
@@ -12,5 +12,5 @@ invariant-loop-found l = record {
   few : length l.found.levels.items + heap_len l.queue ≤ length l.fn.sides.items;
 }
 
-abbrev pub decreases-loop-found : goal.decreases-loop-found
-decreases-loop-found l = heap_len l.queue
+abbrev pub decreases-loop-queue : goal.decreases-loop-queue
+decreases-loop-queue l = heap_len l.queue

@@ -2,7 +2,7 @@ use Rattle.fair_rates.proofs.Common.{drop, CalledAt, TakesAt, CalledAtTwo, Takes
 use Rattle.fair_rates.proofs.Common.{CallableOnEachPair, recipients, pairs}
 use Rattle.fairness.specs.Sides.Answers.{origins}
 use Rattle.fair_rates.proofs.Sides.FlowByFlow.{Passed}
-use Rattle.fair_rates.proofs.bandwidth.sides.sides.Given as goal
+use Rattle.fair_rates.proofs.bandwidth.sides.register_all.Given as goal
 
 abbrev pub invariant-loop-place : goal.invariant-loop-place
 invariant-loop-place g l = record {
