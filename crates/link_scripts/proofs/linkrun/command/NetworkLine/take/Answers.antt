@@ -1,6 +1,6 @@
 use Rattle.link_scripts.proofs.Common.{rules}
 use Rattle.link_scripts.proofs.Columns.{takes_both, takes_one, takes_hop, takes_no_hop, takes_weighing}
-use Rattle.link_scripts.proofs.linkrun.command.Command.take_of_network.Goals as goal
+use Rattle.link_scripts.proofs.linkrun.command.NetworkLine.take.Goals as goal
 
 pub returns-in_err-number-in-hop-2 : goal.returns-in_err-number-in-hop-2
 returns-in_err-number-in-hop-2 c =
