@@ -1,7 +1,8 @@
 -- Words that are taken column by column.
 use Rattle.link_scripts.proofs.Common.{◌≡◌, ℕ, ◌^◌, ◌<◌, ◌≤◌, Bool, true, false, ◌&&◌, eqb, List, [], ◌∷◌, ◌++◌, Option}
 use Rattle.std.specs.Option.{option_map}
-use Rattle.link_scripts.proofs.Common.{◌≢◌, IfSome, None, Some, codes, refl, sym, ap, ap₂, ◌∙◌, subst, arith, eq-eqb, Command, Takes}
+use Rattle.link_scripts.proofs.Common.{None, Some, codes, refl, sym, ap, ap₂, ◌∙◌, subst, arith, eq-eqb, Command, Takes}
+use Rattle.link_scripts.proofs.Common.{◌≢◌, IfSome}
 use Rattle.link_scripts.proofs.Common.{number_word, cap_word, flag_word, command_words, IsNumberInRange, IsCapInRange}
 use Rattle.link_scripts.proofs.Common.{IsSmallCapInRange, IsCommandInRange, weight_word, IsWeightInRange, NonZeroU64}
 use Rattle.link_scheduler.specs.declared.replay.Call.TheVariants as calls
@@ -149,35 +150,21 @@ module _ {V X : Type 0} (words_of : V → List (List ℕ)) (InRange : V → Type
         sym named ∙ said ∙ ap (λ c. words_of c ++ rest) one.1 ∙ ap (λ ws. ws ++ rest) (spelled x) in
         (x, one.1, in_range, cc all)
 
-    pub takes_command : {w2 : List (List ℕ)} {x : X} → Takes words S w1 (Some x) w2
-        → Takes words_of InRange w0 (Some (of x)) w2
-    takes_command {w2} {x} takes =
-        record {
-          taken = (
-            named ∙ ap (λ ws. name ∷ ws) takes.taken.0 ∙ ap (λ ws. ws ++ w2) (sym (spelled x)),
-            back x takes.taken.1,
-          );
-          missed = missed;
-        }
+    -- so one is taken where those words are, and none where they are not
+    pub takes_command : {w2 : List (List ℕ)} (answer : Option X) → Takes words S w1 answer w2
+        → Takes words_of InRange w0 (option_map of answer) w2
+    takes_command {w2} answer takes = record { taken = taken answer takes.taken; missed = missed }
       where
-        missed : (v : V) (rest : List (List ℕ)) → InRange v → w0 ≡ words_of v ++ rest
-            → Some (of x) ≡ Some v
-        missed v rest range said =
-            let b = behind v rest range said in
-            let same : Some x ≡ Some b.0 = takes.missed b.0 rest b.2 b.3 in
-            let is : x ≡ b.0 = cc same in
-            ap (λ y. Some (of y)) is ∙ ap Some (sym b.1)
+        taken : (a : Option X) → IfSome a (λ x. (w1 ≡ words x ++ w2) × S x)
+            → IfSome (option_map of a) (λ v. (w0 ≡ words_of v ++ w2) × InRange v)
+        taken None is = tt
+        taken (Some x) is =
+            (named ∙ ap (λ ws. name ∷ ws) is.0 ∙ ap (λ ws. ws ++ w2) (sym (spelled x)), back x is.1)
 
-    pub takes_no_command : {w2 : List (List ℕ)} → Takes words S w1 None w2
-        → Takes words_of InRange w0 None w2
-    takes_no_command {w2} takes = record { taken = tt; missed = missed }
-      where
-        missed : (v : V) (rest : List (List ℕ)) → InRange v → w0 ≡ words_of v ++ rest
-            → None ≡ Some v
+        missed : (v : V) (rest : List (List ℕ)) → InRange v → w0 ≡ words_of v ++ rest → option_map of answer ≡ Some v
         missed v rest range said =
             let b = behind v rest range said in
-            let none : None ≡ Some b.0 = takes.missed b.0 rest b.2 b.3 in
-            absurd (cc none)
+            ap (option_map of) (takes.missed b.0 rest b.2 b.3) ∙ ap Some (sym b.1)
 
 -- ---- a cap of a link, and the limits of a peer and of a link
 
@@ -355,62 +342,33 @@ only_enqueue (commands.Schedule (calls.Advance now)) ws rest range said =
 only_enqueue (commands.Schedule calls.Next) ws rest range said =
     absurd (apart (codes "enqueue") (codes "next") ws _ refl said)
 
+-- the columns behind the word are a command, and where some column is missing there is none
 module _ {w1 w2 : List (List ℕ)} where
-  -- the columns of a message behind the word are its command, and where some column is missing there is none
-  pub takes_enqueue : {m : MessageColumns} → Takes message_words IsMessageIn w1 (Some m) w2
-      → Takes command_words IsCommandInRange (codes "enqueue" ∷ w1) (Some (enqueue_of m)) w2
-  takes_enqueue takes =
-      takes_command command_words IsCommandInRange (codes "enqueue") message_words IsMessageIn enqueue_of (λ m. refl) into_columns of_columns
-      only_enqueue refl takes
+  pub takes_enqueue : (answer : Option MessageColumns) → Takes message_words IsMessageIn w1 answer w2
+      → Takes command_words IsCommandInRange (codes "enqueue" ∷ w1) (option_map enqueue_of answer) w2
+  takes_enqueue =
+      takes_command command_words IsCommandInRange (codes "enqueue") message_words IsMessageIn enqueue_of (λ m. refl)
+      into_columns of_columns only_enqueue refl
 
-  pub takes_no_enqueue : Takes message_words IsMessageIn w1 None w2
-      → Takes command_words IsCommandInRange (codes "enqueue" ∷ w1) None w2
-  takes_no_enqueue takes =
-      takes_no_command command_words IsCommandInRange (codes "enqueue") message_words IsMessageIn enqueue_of (λ m. refl) into_columns of_columns
-      only_enqueue refl takes
+  pub takes_link : (answer : Option (ℕ × (ℕ × Option ℕ))) → Takes link_words (IsLinkIn IsCapInRange) w1 answer w2
+      → Takes command_words IsCommandInRange (codes "link" ∷ w1) (option_map link_of answer) w2
+  takes_link =
+      takes_command command_words IsCommandInRange (codes "link") link_words (IsLinkIn IsCapInRange) link_of (λ x. refl)
+      (λ x r. (r.0, (r.1, r.2))) (λ x r. (r.0, r.1.0, r.1.1)) only_link refl
 
-module _ {w1 w2 : List (List ℕ)} where
-  -- the columns behind the word are a command
-  pub takes_link : {x : ℕ × (ℕ × Option ℕ)}
-      → Takes link_words (IsLinkIn IsCapInRange) w1 (Some x) w2
-      → Takes command_words IsCommandInRange (codes "link" ∷ w1) (Some (link_of x)) w2
-  takes_link takes =
-      takes_command command_words IsCommandInRange (codes "link") link_words (IsLinkIn IsCapInRange) link_of (λ x. refl) (λ x r. (r.0, (r.1, r.2)))
-      (λ x r. (r.0, r.1.0, r.1.1)) only_link refl takes
+  pub takes_limit : (answer : Option (ℕ × (ℕ × (Option ℕ × Option ℕ)))) → Takes limit_words IsLimitIn w1 answer w2
+      → Takes command_words IsCommandInRange (codes "limit" ∷ w1) (option_map limit_of answer) w2
+  takes_limit =
+      takes_command command_words IsCommandInRange (codes "limit") limit_words IsLimitIn limit_of (λ x. refl)
+      (λ x r. (r.0, (r.1, (r.2, r.3)))) (λ x r. (r.0, r.1.0, r.1.1.0, r.1.1.1)) only_limit refl
 
-  pub takes_limit : {x : ℕ × (ℕ × (Option ℕ × Option ℕ))}
-      → Takes limit_words IsLimitIn w1 (Some x) w2 → Takes command_words IsCommandInRange (codes "limit" ∷ w1) (Some (limit_of x)) w2
-  takes_limit takes =
-      takes_command command_words IsCommandInRange (codes "limit") limit_words IsLimitIn limit_of (λ x. refl) (λ x r. (r.0, (r.1, (r.2, r.3))))
-      (λ x r. (r.0, r.1.0, r.1.1.0, r.1.1.1)) only_limit refl takes
-
-  pub takes_limit_link : {x : ℕ × (ℕ × (ℕ × Option ℕ))}
-      → Takes (word_then number_word link_words) (AreIn IsNumberInRange (IsLinkIn IsSmallCapInRange)) w1 (Some x) w2
-      → Takes command_words IsCommandInRange (codes "limitlink" ∷ w1) (Some (limit_link_of x)) w2
-  takes_limit_link takes =
+  pub takes_limit_link : (answer : Option (ℕ × (ℕ × (ℕ × Option ℕ))))
+      → Takes (word_then number_word link_words) (AreIn IsNumberInRange (IsLinkIn IsSmallCapInRange)) w1 answer w2
+      → Takes command_words IsCommandInRange (codes "limitlink" ∷ w1) (option_map limit_link_of answer) w2
+  takes_limit_link =
       takes_command command_words IsCommandInRange (codes "limitlink") (word_then number_word link_words)
       (AreIn IsNumberInRange (IsLinkIn IsSmallCapInRange)) limit_link_of (λ x. refl) (λ x r. (r.0, (r.1, (r.2, r.3))))
-      (λ x r. (r.0, r.1.0, r.1.1.0, r.1.1.1)) only_limit_link refl takes
-
-  -- and where some column is missing there is none
-  pub takes_no_link : Takes link_words (IsLinkIn IsCapInRange) w1 None w2
-      → Takes command_words IsCommandInRange (codes "link" ∷ w1) None w2
-  takes_no_link takes =
-      takes_no_command command_words IsCommandInRange (codes "link") link_words (IsLinkIn IsCapInRange) link_of (λ x. refl) (λ x r. (r.0, (r.1, r.2)))
-      (λ x r. (r.0, r.1.0, r.1.1)) only_link refl takes
-
-  pub takes_no_limit : Takes limit_words IsLimitIn w1 None w2
-      → Takes command_words IsCommandInRange (codes "limit" ∷ w1) None w2
-  takes_no_limit takes =
-      takes_no_command command_words IsCommandInRange (codes "limit") limit_words IsLimitIn limit_of (λ x. refl) (λ x r. (r.0, (r.1, (r.2, r.3))))
-      (λ x r. (r.0, r.1.0, r.1.1.0, r.1.1.1)) only_limit refl takes
-
-  pub takes_no_limit_link : Takes (word_then number_word link_words) (AreIn IsNumberInRange (IsLinkIn IsSmallCapInRange)) w1 None w2
-      → Takes command_words IsCommandInRange (codes "limitlink" ∷ w1) None w2
-  takes_no_limit_link takes =
-      takes_no_command command_words IsCommandInRange (codes "limitlink") (word_then number_word link_words)
-      (AreIn IsNumberInRange (IsLinkIn IsSmallCapInRange)) limit_link_of (λ x. refl) (λ x r. (r.0, (r.1, (r.2, r.3))))
-      (λ x r. (r.0, r.1.0, r.1.1.0, r.1.1.1)) only_limit_link refl takes
+      (λ x r. (r.0, r.1.0, r.1.1.0, r.1.1.1)) only_limit_link refl
 
 -- ---- a hop, and a weight
 
@@ -449,24 +407,18 @@ only_weight (lines.Hop flow link) ws rest range said = absurd (apart (codes "wei
 only_weight (lines.Cap link cap) ws rest range said = absurd (apart (codes "weight") (codes "cap") ws _ refl said)
 
 module _ {w0 w1 w2 : List (List ℕ)} where
-  pub takes_hop : {x : ℕ × ℕ} → w0 ≡ codes "hop" ∷ w1 → Takes hop_words IsHopIn w1 (Some x) w2
-      → Takes network_words IsNetworkLineInRange w0 (Some (hop_of x)) w2
-  takes_hop named takes =
-      takes_command network_words IsNetworkLineInRange (codes "hop") hop_words IsHopIn hop_of (λ x. refl) (λ x r. (r.0, r.1)) (λ x r. (r.0, r.1)) only_hop
-      named takes
+  pub takes_hop : w0 ≡ codes "hop" ∷ w1 → (answer : Option (ℕ × ℕ)) → Takes hop_words IsHopIn w1 answer w2
+      → Takes network_words IsNetworkLineInRange w0 (option_map hop_of answer) w2
+  takes_hop named =
+      takes_command network_words IsNetworkLineInRange (codes "hop") hop_words IsHopIn hop_of (λ x. refl)
+      (λ x r. (r.0, r.1)) (λ x r. (r.0, r.1)) only_hop named
 
-  pub takes_no_hop : w0 ≡ codes "hop" ∷ w1 → Takes hop_words IsHopIn w1 None w2
-      → Takes network_words IsNetworkLineInRange w0 None w2
-  takes_no_hop named takes =
-      takes_no_command network_words IsNetworkLineInRange (codes "hop") hop_words IsHopIn hop_of (λ x. refl) (λ x r. (r.0, r.1)) (λ x r. (r.0, r.1))
-      only_hop named takes
-
-  pub takes_weighing : {x : ℕ × NonZeroU64} → w0 ≡ codes "weight" ∷ w1
-      → Takes weighing_words IsWeighingIn w1 (Some x) w2
-      → Takes network_words IsNetworkLineInRange w0 (Some (weighing_of x)) w2
-  takes_weighing named takes =
-      takes_command network_words IsNetworkLineInRange (codes "weight") weighing_words IsWeighingIn weighing_of (λ x. refl) (λ x r. (r.0, r.1))
-      (λ x r. (r.0, r.1)) only_weight named takes
+  pub takes_weighing : w0 ≡ codes "weight" ∷ w1 → (answer : Option (ℕ × NonZeroU64))
+      → Takes weighing_words IsWeighingIn w1 answer w2
+      → Takes network_words IsNetworkLineInRange w0 (option_map weighing_of answer) w2
+  takes_weighing named =
+      takes_command network_words IsNetworkLineInRange (codes "weight") weighing_words IsWeighingIn weighing_of
+      (λ x. refl) (λ x r. (r.0, r.1)) (λ x r. (r.0, r.1)) only_weight named
 
 -- ---- a line about a network
 
@@ -480,20 +432,32 @@ pub only_network : {name : List ℕ} → name ≢ codes "enqueue" → name ≢ c
     → AreOfName command_words IsCommandInRange name commands.Network
 only_network _ _ _ _ _ _ _ _ _ _ _ (commands.Network line) ws rest range said = (line, refl)
 only_network _ _ flow _ _ _ _ _ _ _ _ (commands.Flow f) ws rest range said = absurd (flow (first_word said))
-only_network _ _ _ egress _ _ _ _ _ _ _ (commands.Egress peer cap) ws rest range said = absurd (egress (first_word said))
-only_network _ _ _ _ ingress _ _ _ _ _ _ (commands.Ingress peer cap) ws rest range said = absurd (ingress (first_word said))
-only_network _ _ _ _ _ link _ _ _ _ _ (commands.Link origin recipient cap) ws rest range said = absurd (link (first_word said))
+only_network _ _ _ egress _ _ _ _ _ _ _ (commands.Egress peer cap) ws rest range said =
+    absurd (egress (first_word said))
+only_network _ _ _ _ ingress _ _ _ _ _ _ (commands.Ingress peer cap) ws rest range said =
+    absurd (ingress (first_word said))
+only_network _ _ _ _ _ link _ _ _ _ _ (commands.Link origin recipient cap) ws rest range said =
+    absurd (link (first_word said))
 only_network _ _ _ _ _ _ rates _ _ _ _ commands.Rates ws rest range said = absurd (rates (first_word said))
 only_network _ _ _ _ _ _ _ _ _ _ routes commands.Routes ws rest range said = absurd (routes (first_word said))
-only_network _ _ _ _ _ _ _ limit _ _ _ (commands.Schedule (calls.Limit now peer egress_cap ingress_cap)) ws rest range said = absurd (limit (first_word said))
-only_network _ _ _ _ _ _ _ _ limitlink _ _ (commands.Schedule (calls.LimitLink now origin recipient cap)) ws rest range said = absurd (limitlink (first_word said))
-only_network enqueue _ _ _ _ _ _ _ _ _ _ (commands.Schedule (calls.Enqueue now origin recipient channel length latency should_deliver)) ws rest range said = absurd (enqueue (first_word said))
+only_network _ _ _ _ _ _ _ limit _ _ _ (commands.Schedule (calls.Limit now peer egress_cap ingress_cap))
+    ws rest range said =
+    absurd (limit (first_word said))
+only_network _ _ _ _ _ _ _ _ limitlink _ _ (commands.Schedule (calls.LimitLink now origin recipient cap))
+    ws rest range said =
+    absurd (limitlink (first_word said))
+only_network enqueue _ _ _ _ _ _ _ _ _ _ (commands.Schedule (calls.Enqueue now origin recipient channel length latency should_deliver))
+    ws rest range said =
+    absurd (enqueue (first_word said))
 only_network _ _ _ _ _ _ _ _ _ _ _ (commands.Schedule (calls.EnqueueAll now messages)) ws rest range said = absurd range
-only_network _ advance _ _ _ _ _ _ _ _ _ (commands.Schedule (calls.Advance now)) ws rest range said = absurd (advance (first_word said))
-only_network _ _ _ _ _ _ _ _ _ next _ (commands.Schedule calls.Next) ws rest range said = absurd (next (first_word said))
+only_network _ advance _ _ _ _ _ _ _ _ _ (commands.Schedule (calls.Advance now)) ws rest range said =
+    absurd (advance (first_word said))
+only_network _ _ _ _ _ _ _ _ _ next _ (commands.Schedule calls.Next) ws rest range said =
+    absurd (next (first_word said))
 
 -- so the command is what the line about a network is, if it is one
-pub takes_network : {name : List ℕ} {w1 w2 : List (List ℕ)} → AreOfName command_words IsCommandInRange name commands.Network
+pub takes_network : {name : List ℕ} {w1 w2 : List (List ℕ)}
+    → AreOfName command_words IsCommandInRange name commands.Network
     → (answer : Option NetworkLine) → Takes network_words IsNetworkLineInRange (name ∷ w1) answer w2
     → Takes command_words IsCommandInRange (name ∷ w1) (option_map commands.Network answer) w2
 takes_network {name} {w1} {w2} only answer takes = record { taken = taken answer takes.taken; missed = missed }

@@ -4,13 +4,17 @@ use Rattle.link_scripts.proofs.linkrun.command.Command.take_named.Goals as goal
 
 pub returns-in_err-take-in_default : goal.returns-in_err-take-in_default
 returns-in_err-take-in_default c =
+    let d = c.in_default in
     rw c.from_residual-in_err-take-in_default.ensures
     (takes_network
-    (only_network c.requires c.in_default.not-advance c.in_default.not-flow c.in_default.not-egress c.in_default.not-ingress c.in_default.not-link c.in_default.not-rates c.in_default.not-limit c.in_default.not-limitlink c.in_default.not-next c.in_default.not-routes)
+    (only_network c.requires d.not-advance d.not-flow d.not-egress d.not-ingress d.not-link d.not-rates d.not-limit
+    d.not-limitlink d.not-next d.not-routes)
     None c.in_err-take-in_default.ensures)
 
 pub returns-in_ok-take-in_default : goal.returns-in_ok-take-in_default
 returns-in_ok-take-in_default c =
+    let d = c.in_default in
     takes_network
-    (only_network c.requires c.in_default.not-advance c.in_default.not-flow c.in_default.not-egress c.in_default.not-ingress c.in_default.not-link c.in_default.not-rates c.in_default.not-limit c.in_default.not-limitlink c.in_default.not-next c.in_default.not-routes)
+    (only_network c.requires d.not-advance d.not-flow d.not-egress d.not-ingress d.not-link d.not-rates d.not-limit
+    d.not-limitlink d.not-next d.not-routes)
     (Some c.in_ok-take-in_default.field-0) c.in_ok-take-in_default.ensures
