@@ -72,7 +72,7 @@ pub(crate) const COMMANDS: &str =
     "flow, egress, ingress, link, rates, hop, cap, weight, routes, limit, limitlink, enqueue, advance or next";
 
 /// The columns of the lines of a script that say no moment, by their first words.
-const OF_SCRIPTS: [(&str, &str); 10] = [
+const SCRIPT_LINES: [(&str, &str); 10] = [
     ("flow", "ID ORIGIN RECIPIENT D"),
     ("egress", "PEER CAP"),
     ("ingress", "PEER CAP"),
@@ -86,7 +86,7 @@ const OF_SCRIPTS: [(&str, &str); 10] = [
 ];
 
 /// The columns of the calls with a moment, by their first words.
-const OF_CALLS: [(&str, &str); 4] = [
+const CALL_LINES: [(&str, &str); 4] = [
     ("limit", "NOW PEER EGRESS INGRESS"),
     ("limitlink", "NOW ORIGIN RECIPIENT CAP"),
     ("enqueue", "NOW ORIGIN RECIPIENT CHANNEL LENGTH LATENCY D"),
@@ -94,7 +94,7 @@ const OF_CALLS: [(&str, &str); 4] = [
 ];
 
 /// The columns of the lines of a trace that say no call, by their first words, but for `refused`.
-const OF_ANSWERS: [(&str, &str); 3] = [
+const ANSWER_LINES: [(&str, &str); 3] = [
     ("done", "ORIGIN RECIPIENT CHANNEL LENGTH AT"),
     ("next", "AT"),
     ("tolerance", "N"),
@@ -102,7 +102,7 @@ const OF_ANSWERS: [(&str, &str); 3] = [
 
 /// The columns of a line of a script by its first word.
 pub(crate) fn of_command(first: &[u8]) -> Option<&'static str> {
-    find(&OF_SCRIPTS, first).or(find(&OF_CALLS, first))
+    find(&SCRIPT_LINES, first).or(find(&CALL_LINES, first))
 }
 
 /// The first words of the lines of a trace.
@@ -110,7 +110,7 @@ pub(crate) const OF_TRACES: &str = "limit, limitlink, enqueue, advance, next, do
 
 /// The columns of a line of a trace by its first word, but for `refused`.
 pub(crate) fn of_trace(first: &[u8]) -> Option<&'static str> {
-    find(&OF_ANSWERS, first).or(find(&OF_CALLS, first))
+    find(&ANSWER_LINES, first).or(find(&CALL_LINES, first))
 }
 
 /// What a table has beside a word.
