@@ -1,10 +1,9 @@
 -- Words that are taken column by column.
 use Rattle.link_scripts.proofs.Common.{◌≡◌, ℕ, ◌^◌, ◌<◌, ◌≤◌, Bool, true, false, ◌&&◌, eqb, List, [], ◌∷◌, ◌++◌, Option}
-use Rattle.std.specs.Option.{option_map}
 use Rattle.link_scripts.proofs.Common.{None, Some, codes, refl, sym, ap, ap₂, ◌∙◌, subst, arith, eq-eqb, Command, Takes}
-use Rattle.link_scripts.proofs.Common.{◌≢◌, IfSome}
 use Rattle.link_scripts.proofs.Common.{number_word, cap_word, flag_word, command_words, IsNumberInRange, IsCapInRange}
 use Rattle.link_scripts.proofs.Common.{IsSmallCapInRange, IsCommandInRange, weight_word, IsWeightInRange, NonZeroU64}
+use Rattle.std.specs.Option.{IfSome, option_map}
 use Rattle.link_scheduler.specs.declared.replay.Call.TheVariants as calls
 use Rattle.link_scripts.specs.declared.linkrun.command.Command.TheVariants as commands
 use Rattle.link_scripts.specs.declared.linkrun.command.NetworkLine.TheVariants as lines
@@ -419,60 +418,3 @@ module _ {w0 w1 w2 : List (List ℕ)} where
   takes_weighing named =
       takes_command network_words IsNetworkLineInRange (codes "weight") weighing_words IsWeighingIn weighing_of
       (λ x. refl) (λ x r. (r.0, r.1)) (λ x r. (r.0, r.1)) only_weight named
-
--- ---- a line about a network
-
-first_word : {v w : List ℕ} {ws rest : List (List ℕ)} → v ∷ ws ≡ w ∷ rest → v ≡ w
-first_word same = cc same
-
--- what begins with another word than those of the other commands is a line about a network
-pub only_network : {name : List ℕ} → name ≢ codes "enqueue" → name ≢ codes "advance" → name ≢ codes "flow"
-    → name ≢ codes "egress" → name ≢ codes "ingress" → name ≢ codes "link" → name ≢ codes "rates"
-    → name ≢ codes "limit" → name ≢ codes "limitlink" → name ≢ codes "next" → name ≢ codes "routes"
-    → AreOfName command_words IsCommandInRange name commands.Network
-only_network _ _ _ _ _ _ _ _ _ _ _ (commands.Network line) ws rest range said = (line, refl)
-only_network _ _ flow _ _ _ _ _ _ _ _ (commands.Flow f) ws rest range said = absurd (flow (first_word said))
-only_network _ _ _ egress _ _ _ _ _ _ _ (commands.Egress peer cap) ws rest range said =
-    absurd (egress (first_word said))
-only_network _ _ _ _ ingress _ _ _ _ _ _ (commands.Ingress peer cap) ws rest range said =
-    absurd (ingress (first_word said))
-only_network _ _ _ _ _ link _ _ _ _ _ (commands.Link origin recipient cap) ws rest range said =
-    absurd (link (first_word said))
-only_network _ _ _ _ _ _ rates _ _ _ _ commands.Rates ws rest range said = absurd (rates (first_word said))
-only_network _ _ _ _ _ _ _ _ _ _ routes commands.Routes ws rest range said = absurd (routes (first_word said))
-only_network _ _ _ _ _ _ _ limit _ _ _ (commands.Schedule (calls.Limit now peer egress_cap ingress_cap))
-    ws rest range said =
-    absurd (limit (first_word said))
-only_network _ _ _ _ _ _ _ _ limitlink _ _ (commands.Schedule (calls.LimitLink now origin recipient cap))
-    ws rest range said =
-    absurd (limitlink (first_word said))
-only_network enqueue _ _ _ _ _ _ _ _ _ _ (commands.Schedule (calls.Enqueue now origin recipient channel length latency should_deliver))
-    ws rest range said =
-    absurd (enqueue (first_word said))
-only_network _ _ _ _ _ _ _ _ _ _ _ (commands.Schedule (calls.EnqueueAll now messages)) ws rest range said = absurd range
-only_network _ advance _ _ _ _ _ _ _ _ _ (commands.Schedule (calls.Advance now)) ws rest range said =
-    absurd (advance (first_word said))
-only_network _ _ _ _ _ _ _ _ _ next _ (commands.Schedule calls.Next) ws rest range said =
-    absurd (next (first_word said))
-
--- so the command is what the line about a network is, if it is one
-pub takes_network : {name : List ℕ} {w1 w2 : List (List ℕ)}
-    → AreOfName command_words IsCommandInRange name commands.Network
-    → (answer : Option NetworkLine) → Takes network_words IsNetworkLineInRange (name ∷ w1) answer w2
-    → Takes command_words IsCommandInRange (name ∷ w1) (option_map commands.Network answer) w2
-takes_network {name} {w1} {w2} only answer takes = record { taken = taken answer takes.taken; missed = missed }
-  where
-    taken : (a : Option NetworkLine)
-        → IfSome a (λ v. (name ∷ w1 ≡ network_words v ++ w2) × IsNetworkLineInRange v)
-        → IfSome (option_map commands.Network a) (λ v. (name ∷ w1 ≡ command_words v ++ w2) × IsCommandInRange v)
-    taken None is = tt
-    taken (Some line) is = is
-
-    missed : (v : Command) (rest : List (List ℕ)) → IsCommandInRange v → name ∷ w1 ≡ command_words v ++ rest
-        → option_map commands.Network answer ≡ Some v
-    missed v rest range said =
-        let one = only v w1 rest range said in
-        let in_range : IsNetworkLineInRange one.0 = subst IsCommandInRange one.1 range in
-        let line_said : name ∷ w1 ≡ network_words one.0 ++ rest =
-        said ∙ ap (λ c. command_words c ++ rest) one.1 in
-        ap (option_map commands.Network) (takes.missed one.0 rest in_range line_said) ∙ ap Some (sym one.1)
