@@ -19,33 +19,14 @@ pub(crate) enum Kind {
 }
 
 impl Kind {
-    /// What stands in the column of that name, in lines with that first word.
+    /// What stands in the column of that name, in lines with that first word. A message that is
+    /// sent has a length that scripts allow, and caps of the scheduler have 64 bits.
     pub(crate) fn of(first: &[u8], column: &[u8]) -> Kind {
-        match column {
-            b"D" => Kind::Flag,
-            b"LENGTH" => Kind::of_length(first),
-            b"EGRESS" | b"INGRESS" | b"AT" => Kind::Small,
-            b"CAP" => Kind::of_cap(first),
-            b"WEIGHT" => Kind::Weight,
-            _ => Kind::Number,
-        }
-    }
-
-    /// A message that is sent has a length that scripts allow.
-    fn of_length(first: &[u8]) -> Kind {
-        if first == b"enqueue".as_slice() {
-            Kind::Length
-        } else {
-            Kind::Number
-        }
-    }
-
-    /// Caps of the scheduler have 64 bits.
-    fn of_cap(first: &[u8]) -> Kind {
-        if first == b"limitlink".as_slice() {
-            Kind::Small
-        } else {
-            Kind::Wide
+        match find(&KINDS, column) {
+            Some(Kind::Length) if first == b"done".as_slice() => Kind::Number,
+            Some(Kind::Wide) if first == b"limitlink".as_slice() => Kind::Small,
+            Some(kind) => kind,
+            None => Kind::Number,
         }
     }
 
@@ -75,33 +56,53 @@ impl Kind {
     }
 }
 
+/// The columns in which other things than numbers of 64 bits stand.
+const KINDS: [(&str, Kind); 7] = [
+    ("D", Kind::Flag),
+    ("LENGTH", Kind::Length),
+    ("EGRESS", Kind::Small),
+    ("INGRESS", Kind::Small),
+    ("AT", Kind::Small),
+    ("CAP", Kind::Wide),
+    ("WEIGHT", Kind::Weight),
+];
+
 /// The first words of the lines of a script.
 pub(crate) const COMMANDS: &str =
     "flow, egress, ingress, link, rates, hop, cap, weight, routes, limit, limitlink, enqueue, advance or next";
 
+/// The columns of the lines of a script that say no moment, by their first words.
+const SCRIPT_LINES: [(&str, &str); 10] = [
+    ("flow", "ID ORIGIN RECIPIENT D"),
+    ("egress", "PEER CAP"),
+    ("ingress", "PEER CAP"),
+    ("link", "ORIGIN RECIPIENT CAP"),
+    ("rates", ""),
+    ("hop", "FLOW LINK"),
+    ("cap", "LINK CAP"),
+    ("weight", "FLOW WEIGHT"),
+    ("routes", ""),
+    ("next", ""),
+];
+
+/// The columns of the calls with a moment, by their first words.
+const CALL_LINES: [(&str, &str); 4] = [
+    ("limit", "NOW PEER EGRESS INGRESS"),
+    ("limitlink", "NOW ORIGIN RECIPIENT CAP"),
+    ("enqueue", "NOW ORIGIN RECIPIENT CHANNEL LENGTH LATENCY D"),
+    ("advance", "NOW"),
+];
+
+/// The columns of the lines of a trace that say no call, by their first words, but for `refused`.
+const ANSWER_LINES: [(&str, &str); 3] = [
+    ("done", "ORIGIN RECIPIENT CHANNEL LENGTH AT"),
+    ("next", "AT"),
+    ("tolerance", "N"),
+];
+
 /// The columns of a line of a script by its first word.
 pub(crate) fn of_command(first: &[u8]) -> Option<&'static str> {
-    match first {
-        b"flow" => Some("ID ORIGIN RECIPIENT D"),
-        b"egress" | b"ingress" => Some("PEER CAP"),
-        b"link" => Some("ORIGIN RECIPIENT CAP"),
-        b"rates" | b"routes" | b"next" => Some(""),
-        b"hop" => Some("FLOW LINK"),
-        b"cap" => Some("LINK CAP"),
-        b"weight" => Some("FLOW WEIGHT"),
-        _ => of_call(first),
-    }
-}
-
-/// The columns of a call with a moment by its first word.
-fn of_call(first: &[u8]) -> Option<&'static str> {
-    match first {
-        b"limit" => Some("NOW PEER EGRESS INGRESS"),
-        b"limitlink" => Some("NOW ORIGIN RECIPIENT CAP"),
-        b"enqueue" => Some("NOW ORIGIN RECIPIENT CHANNEL LENGTH LATENCY D"),
-        b"advance" => Some("NOW"),
-        _ => None,
-    }
+    find(&SCRIPT_LINES, first).or(find(&CALL_LINES, first))
 }
 
 /// The first words of the lines of a trace.
@@ -109,10 +110,15 @@ pub(crate) const OF_TRACES: &str = "limit, limitlink, enqueue, advance, next, do
 
 /// The columns of a line of a trace by its first word, but for `refused`.
 pub(crate) fn of_trace(first: &[u8]) -> Option<&'static str> {
-    match first {
-        b"done" => Some("ORIGIN RECIPIENT CHANNEL LENGTH AT"),
-        b"next" => Some("AT"),
-        b"tolerance" => Some("N"),
-        _ => of_call(first),
+    find(&ANSWER_LINES, first).or(find(&CALL_LINES, first))
+}
+
+/// What a table has beside a word.
+fn find<T: Copy>(table: &[(&str, T)], word: &[u8]) -> Option<T> {
+    for (name, found) in table {
+        if name.as_bytes() == word {
+            return Some(*found);
+        }
     }
+    None
 }

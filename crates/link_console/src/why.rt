@@ -13,6 +13,14 @@ use link_scripts::linkrun::command::Command;
 use link_scripts::linkrun::line::MOST_READ;
 use link_scripts::linkrun::word::Words;
 
+/// What `linkrun` prints for a command that is refused.
+const REFUSALS: [&[u8]; 4] = [
+    b"refused 1 out of memory",
+    b"refused 2 number too large",
+    b"refused 3 moment too late",
+    b"refused 4 flow ids used up",
+];
+
 /// Why a line of a script is bad, or `None` where it is not: it is a command's, or empty.
 ///
 /// The note says at which column, counted in bytes from 1, what was looked for, and what is there.
@@ -131,14 +139,7 @@ fn of_answer(line: &[u8]) -> Option<Note>
 fn of_refusal(line: &[u8]) -> Option<Note>
     ensures { IfSome result HasText }
 {
-    let is_good = matches!(
-        line,
-        b"refused 1 out of memory"
-            | b"refused 2 number too large"
-            | b"refused 3 moment too late"
-            | b"refused 4 flow ids used up"
-    );
-    if is_good {
+    if REFUSALS.contains(&line) {
         return None;
     }
     let mut note = Note::at(1);

@@ -3,10 +3,12 @@ use Rattle.link_scripts.proofs.Common.{◌≡◌, ℕ, ◌^◌, ◌<◌, ◌≤�
 use Rattle.link_scripts.proofs.Common.{None, Some, codes, refl, sym, ap, ap₂, ◌∙◌, subst, arith, eq-eqb, Command, Takes}
 use Rattle.link_scripts.proofs.Common.{number_word, cap_word, flag_word, command_words, IsNumberInRange, IsCapInRange}
 use Rattle.link_scripts.proofs.Common.{IsSmallCapInRange, IsCommandInRange, weight_word, IsWeightInRange, NonZeroU64}
+use Rattle.std.specs.Option.{IfSome, option_map}
 use Rattle.link_scheduler.specs.declared.call.Call.TheVariants as calls
 use Rattle.link_scripts.specs.declared.linkrun.command.Command.TheVariants as commands
 use Rattle.link_scripts.specs.declared.linkrun.command.NetworkLine.TheVariants as lines
-use Rattle.link_scripts.specs.Script.{IsLengthInRange}
+use Rattle.link_scripts.specs.Script.{IsLengthInRange, network_words, IsNetworkLineInRange}
+use Rattle.link_scripts.specs.declared.linkrun.command.NetworkLine.{NetworkLine}
 
 -- one word was taken, or no value in range stands there
 abbrev pub TakesWord : {A : Type 0} → (A → List ℕ) → (A → Type 0) → List (List ℕ) → Option A → List (List ℕ) → Type 0
@@ -124,58 +126,44 @@ message_words =
 abbrev IsMessageIn : MessageColumns → Type 0
 IsMessageIn = AreIn IsNumberInRange (AreIn IsNumberInRange (AreIn IsNumberInRange (AreIn IsNumberInRange AreLengthIn)))
 
--- ---- a command behind its first word
+-- ---- a command behind its first word, or a line about a network
 
--- a command that a line says begins with that word only if it is one of those
-abbrev pub AreOfName : {X : Type 0} → List ℕ → (X → Command) → Type 0
-AreOfName {X} name of =
-    (v : Command) (ws rest : List (List ℕ)) → IsCommandInRange v → name ∷ ws ≡ command_words v ++ rest
-    → (x : X) × (v ≡ of x)
+-- what a line says begins with that word only if it is one of those
+abbrev pub AreOfName : {V X : Type 0} → (V → List (List ℕ)) → (V → Type 0) → List ℕ → (X → V) → Type 0
+AreOfName {V} {X} words_of InRange name of =
+    (v : V) (ws rest : List (List ℕ)) → InRange v → name ∷ ws ≡ words_of v ++ rest → (x : X) × (v ≡ of x)
 
-module _ {X : Type 0} (name : List ℕ) (words : X → List (List ℕ)) (S : X → Type 0) (of : X → Command)
-    (spelled : (x : X) → command_words (of x) ≡ name ∷ words x) (into : (x : X) → IsCommandInRange (of x) → S x)
-    (back : (x : X) → S x → IsCommandInRange (of x)) (only : AreOfName name of) where
+module _ {V X : Type 0} (words_of : V → List (List ℕ)) (InRange : V → Type 0) (name : List ℕ)
+    (words : X → List (List ℕ)) (S : X → Type 0) (of : X → V) (spelled : (x : X) → words_of (of x) ≡ name ∷ words x)
+    (into : (x : X) → InRange (of x) → S x) (back : (x : X) → S x → InRange (of x))
+    (only : AreOfName words_of InRange name of) where
   module _ {w0 w1 : List (List ℕ)} (named : w0 ≡ name ∷ w1) where
-    -- what stands behind the word, where a command is said
-    behind : (v : Command) (rest : List (List ℕ)) → IsCommandInRange v → w0 ≡ command_words v ++ rest
+    -- what stands behind the word, where one is said
+    behind : (v : V) (rest : List (List ℕ)) → InRange v → w0 ≡ words_of v ++ rest
         → (x : X) × (v ≡ of x) × S x × (w1 ≡ words x ++ rest)
     behind v rest range said =
         let one = only v w1 rest range (sym named ∙ said) in
         let x = one.0 in
-        let in_range = into x (subst IsCommandInRange one.1 range) in
+        let in_range = into x (subst InRange one.1 range) in
         let all : name ∷ w1 ≡ (name ∷ words x) ++ rest =
-        sym named ∙ said ∙ ap (λ c. command_words c ++ rest) one.1 ∙ ap (λ ws. ws ++ rest) (spelled x) in
+        sym named ∙ said ∙ ap (λ c. words_of c ++ rest) one.1 ∙ ap (λ ws. ws ++ rest) (spelled x) in
         (x, one.1, in_range, cc all)
 
-    pub takes_command : {w2 : List (List ℕ)} {x : X} → Takes words S w1 (Some x) w2
-        → Takes command_words IsCommandInRange w0 (Some (of x)) w2
-    takes_command {w2} {x} takes =
-        record {
-          taken = (
-            named ∙ ap (λ ws. name ∷ ws) takes.taken.0 ∙ ap (λ ws. ws ++ w2) (sym (spelled x)),
-            back x takes.taken.1,
-          );
-          missed = missed;
-        }
+    -- so one is taken where those words are, and none where they are not
+    pub takes_command : {w2 : List (List ℕ)} (answer : Option X) → Takes words S w1 answer w2
+        → Takes words_of InRange w0 (option_map of answer) w2
+    takes_command {w2} answer takes = record { taken = taken answer takes.taken; missed = missed }
       where
-        missed : (v : Command) (rest : List (List ℕ)) → IsCommandInRange v → w0 ≡ command_words v ++ rest
-            → Some (of x) ≡ Some v
-        missed v rest range said =
-            let b = behind v rest range said in
-            let same : Some x ≡ Some b.0 = takes.missed b.0 rest b.2 b.3 in
-            let is : x ≡ b.0 = cc same in
-            ap (λ y. Some (of y)) is ∙ ap Some (sym b.1)
+        taken : (a : Option X) → IfSome a (λ x. (w1 ≡ words x ++ w2) × S x)
+            → IfSome (option_map of a) (λ v. (w0 ≡ words_of v ++ w2) × InRange v)
+        taken None is = tt
+        taken (Some x) is =
+            (named ∙ ap (λ ws. name ∷ ws) is.0 ∙ ap (λ ws. ws ++ w2) (sym (spelled x)), back x is.1)
 
-    pub takes_no_command : {w2 : List (List ℕ)} → Takes words S w1 None w2
-        → Takes command_words IsCommandInRange w0 None w2
-    takes_no_command {w2} takes = record { taken = tt; missed = missed }
-      where
-        missed : (v : Command) (rest : List (List ℕ)) → IsCommandInRange v → w0 ≡ command_words v ++ rest
-            → None ≡ Some v
+        missed : (v : V) (rest : List (List ℕ)) → InRange v → w0 ≡ words_of v ++ rest → option_map of answer ≡ Some v
         missed v rest range said =
             let b = behind v rest range said in
-            let none : None ≡ Some b.0 = takes.missed b.0 rest b.2 b.3 in
-            absurd (cc none)
+            ap (option_map of) (takes.missed b.0 rest b.2 b.3) ∙ ap Some (sym b.1)
 
 -- ---- a cap of a link, and the limits of a peer and of a link
 
@@ -233,7 +221,7 @@ limit_link_of x = commands.Schedule (calls.LimitLink x.0 x.1.0 x.1.1.0 x.1.1.1)
 abbrev enqueue_of : MessageColumns → Command
 enqueue_of m = commands.Schedule (calls.Enqueue m.0 m.1.0 m.1.1.0 m.1.1.1.0 m.1.1.1.1.0 m.1.1.1.1.1.0 m.1.1.1.1.1.1)
 
-only_link : AreOfName (codes "link") link_of
+only_link : AreOfName command_words IsCommandInRange (codes "link") link_of
 only_link (commands.Link origin recipient cap) ws rest range said = ((origin, (recipient, cap)), refl)
 only_link (commands.Flow f) ws rest range said = absurd (apart (codes "link") (codes "flow") ws _ refl said)
 only_link (commands.Egress peer cap) ws rest range said = absurd (apart (codes "link") (codes "egress") ws _ refl said)
@@ -260,7 +248,7 @@ only_link (commands.Schedule (calls.Advance now)) ws rest range said =
 only_link (commands.Schedule calls.Next) ws rest range said =
     absurd (apart (codes "link") (codes "next") ws _ refl said)
 
-only_limit : AreOfName (codes "limit") limit_of
+only_limit : AreOfName command_words IsCommandInRange (codes "limit") limit_of
 only_limit (commands.Schedule (calls.Limit now peer egress ingress)) ws rest range said =
     ((now, (peer, (egress, ingress))), refl)
 only_limit (commands.Flow f) ws rest range said = absurd (apart (codes "limit") (codes "flow") ws _ refl said)
@@ -289,7 +277,7 @@ only_limit (commands.Schedule (calls.Advance now)) ws rest range said =
 only_limit (commands.Schedule calls.Next) ws rest range said =
     absurd (apart (codes "limit") (codes "next") ws _ refl said)
 
-only_limit_link : AreOfName (codes "limitlink") limit_link_of
+only_limit_link : AreOfName command_words IsCommandInRange (codes "limitlink") limit_link_of
 only_limit_link (commands.Schedule (calls.LimitLink now origin recipient cap)) ws rest range said =
     ((now, (origin, (recipient, cap))), refl)
 only_limit_link (commands.Flow f) ws rest range said = absurd (apart (codes "limitlink") (codes "flow") ws _ refl said)
@@ -324,7 +312,7 @@ into_columns m r = (r.0, (r.1, (r.2, (r.3, (r.4, (r.5, tt))))))
 of_columns : (m : MessageColumns) → IsMessageIn m → IsCommandInRange (enqueue_of m)
 of_columns m r = (r.0, r.1.0, r.1.1.0, r.1.1.1.0, r.1.1.1.1.0, r.1.1.1.1.1.0)
 
-only_enqueue : AreOfName (codes "enqueue") enqueue_of
+only_enqueue : AreOfName command_words IsCommandInRange (codes "enqueue") enqueue_of
 only_enqueue (commands.Schedule (calls.Enqueue now origin recipient channel length latency should_deliver)) ws rest
     range said =
     ((now, (origin, (recipient, (channel, (length, (latency, should_deliver)))))), refl)
@@ -353,63 +341,33 @@ only_enqueue (commands.Schedule (calls.Advance now)) ws rest range said =
 only_enqueue (commands.Schedule calls.Next) ws rest range said =
     absurd (apart (codes "enqueue") (codes "next") ws _ refl said)
 
+-- the columns behind the word are a command, and where some column is missing there is none
 module _ {w1 w2 : List (List ℕ)} where
-  -- the columns of a message behind the word are its command, and where some column is missing there is none
-  pub takes_enqueue : {m : MessageColumns} → Takes message_words IsMessageIn w1 (Some m) w2
-      → Takes command_words IsCommandInRange (codes "enqueue" ∷ w1) (Some (enqueue_of m)) w2
-  takes_enqueue takes =
-      takes_command (codes "enqueue") message_words IsMessageIn enqueue_of (λ m. refl) into_columns of_columns
-      only_enqueue refl takes
+  pub takes_enqueue : (answer : Option MessageColumns) → Takes message_words IsMessageIn w1 answer w2
+      → Takes command_words IsCommandInRange (codes "enqueue" ∷ w1) (option_map enqueue_of answer) w2
+  takes_enqueue =
+      takes_command command_words IsCommandInRange (codes "enqueue") message_words IsMessageIn enqueue_of (λ m. refl)
+      into_columns of_columns only_enqueue refl
 
-  pub takes_no_enqueue : Takes message_words IsMessageIn w1 None w2
-      → Takes command_words IsCommandInRange (codes "enqueue" ∷ w1) None w2
-  takes_no_enqueue takes =
-      takes_no_command (codes "enqueue") message_words IsMessageIn enqueue_of (λ m. refl) into_columns of_columns
-      only_enqueue refl takes
+  pub takes_link : (answer : Option (ℕ × (ℕ × Option ℕ))) → Takes link_words (IsLinkIn IsCapInRange) w1 answer w2
+      → Takes command_words IsCommandInRange (codes "link" ∷ w1) (option_map link_of answer) w2
+  takes_link =
+      takes_command command_words IsCommandInRange (codes "link") link_words (IsLinkIn IsCapInRange) link_of (λ x. refl)
+      (λ x r. (r.0, (r.1, r.2))) (λ x r. (r.0, r.1.0, r.1.1)) only_link refl
 
-module _ {w0 w1 w2 : List (List ℕ)} where
-  -- the columns behind the word are a command
-  pub takes_link : {x : ℕ × (ℕ × Option ℕ)} → w0 ≡ codes "link" ∷ w1
-      → Takes link_words (IsLinkIn IsCapInRange) w1 (Some x) w2
-      → Takes command_words IsCommandInRange w0 (Some (link_of x)) w2
-  takes_link named takes =
-      takes_command (codes "link") link_words (IsLinkIn IsCapInRange) link_of (λ x. refl) (λ x r. (r.0, (r.1, r.2)))
-      (λ x r. (r.0, r.1.0, r.1.1)) only_link named takes
+  pub takes_limit : (answer : Option (ℕ × (ℕ × (Option ℕ × Option ℕ)))) → Takes limit_words IsLimitIn w1 answer w2
+      → Takes command_words IsCommandInRange (codes "limit" ∷ w1) (option_map limit_of answer) w2
+  takes_limit =
+      takes_command command_words IsCommandInRange (codes "limit") limit_words IsLimitIn limit_of (λ x. refl)
+      (λ x r. (r.0, (r.1, (r.2, r.3)))) (λ x r. (r.0, r.1.0, r.1.1.0, r.1.1.1)) only_limit refl
 
-  pub takes_limit : {x : ℕ × (ℕ × (Option ℕ × Option ℕ))} → w0 ≡ codes "limit" ∷ w1
-      → Takes limit_words IsLimitIn w1 (Some x) w2 → Takes command_words IsCommandInRange w0 (Some (limit_of x)) w2
-  takes_limit named takes =
-      takes_command (codes "limit") limit_words IsLimitIn limit_of (λ x. refl) (λ x r. (r.0, (r.1, (r.2, r.3))))
-      (λ x r. (r.0, r.1.0, r.1.1.0, r.1.1.1)) only_limit named takes
-
-  pub takes_limit_link : {x : ℕ × (ℕ × (ℕ × Option ℕ))} → w0 ≡ codes "limitlink" ∷ w1
-      → Takes (word_then number_word link_words) (AreIn IsNumberInRange (IsLinkIn IsSmallCapInRange)) w1 (Some x) w2
-      → Takes command_words IsCommandInRange w0 (Some (limit_link_of x)) w2
-  takes_limit_link named takes =
-      takes_command (codes "limitlink") (word_then number_word link_words)
+  pub takes_limit_link : (answer : Option (ℕ × (ℕ × (ℕ × Option ℕ))))
+      → Takes (word_then number_word link_words) (AreIn IsNumberInRange (IsLinkIn IsSmallCapInRange)) w1 answer w2
+      → Takes command_words IsCommandInRange (codes "limitlink" ∷ w1) (option_map limit_link_of answer) w2
+  takes_limit_link =
+      takes_command command_words IsCommandInRange (codes "limitlink") (word_then number_word link_words)
       (AreIn IsNumberInRange (IsLinkIn IsSmallCapInRange)) limit_link_of (λ x. refl) (λ x r. (r.0, (r.1, (r.2, r.3))))
-      (λ x r. (r.0, r.1.0, r.1.1.0, r.1.1.1)) only_limit_link named takes
-
-  -- and where some column is missing there is none
-  pub takes_no_link : w0 ≡ codes "link" ∷ w1 → Takes link_words (IsLinkIn IsCapInRange) w1 None w2
-      → Takes command_words IsCommandInRange w0 None w2
-  takes_no_link named takes =
-      takes_no_command (codes "link") link_words (IsLinkIn IsCapInRange) link_of (λ x. refl) (λ x r. (r.0, (r.1, r.2)))
-      (λ x r. (r.0, r.1.0, r.1.1)) only_link named takes
-
-  pub takes_no_limit : w0 ≡ codes "limit" ∷ w1 → Takes limit_words IsLimitIn w1 None w2
-      → Takes command_words IsCommandInRange w0 None w2
-  takes_no_limit named takes =
-      takes_no_command (codes "limit") limit_words IsLimitIn limit_of (λ x. refl) (λ x r. (r.0, (r.1, (r.2, r.3))))
-      (λ x r. (r.0, r.1.0, r.1.1.0, r.1.1.1)) only_limit named takes
-
-  pub takes_no_limit_link : w0 ≡ codes "limitlink" ∷ w1
-      → Takes (word_then number_word link_words) (AreIn IsNumberInRange (IsLinkIn IsSmallCapInRange)) w1 None w2
-      → Takes command_words IsCommandInRange w0 None w2
-  takes_no_limit_link named takes =
-      takes_no_command (codes "limitlink") (word_then number_word link_words)
-      (AreIn IsNumberInRange (IsLinkIn IsSmallCapInRange)) limit_link_of (λ x. refl) (λ x r. (r.0, (r.1, (r.2, r.3))))
-      (λ x r. (r.0, r.1.0, r.1.1.0, r.1.1.1)) only_limit_link named takes
+      (λ x r. (r.0, r.1.0, r.1.1.0, r.1.1.1)) only_limit_link refl
 
 -- ---- a hop, and a weight
 
@@ -431,88 +389,32 @@ weighing_words = word_then number_word weight_words
 abbrev pub IsWeighingIn : ℕ × NonZeroU64 → Type 0
 IsWeighingIn = AreIn IsNumberInRange IsWeightInRange
 
-abbrev hop_of : ℕ × ℕ → Command
-hop_of x = commands.Network (lines.Hop x.0 x.1)
+abbrev hop_of : ℕ × ℕ → NetworkLine
+hop_of x = lines.Hop x.0 x.1
 
-abbrev weighing_of : ℕ × NonZeroU64 → Command
-weighing_of x = commands.Network (lines.Weight x.0 x.1)
+abbrev weighing_of : ℕ × NonZeroU64 → NetworkLine
+weighing_of x = lines.Weight x.0 x.1
 
-only_hop : AreOfName (codes "hop") hop_of
-only_hop (commands.Network (lines.Hop flow link)) ws rest range said = ((flow, link), refl)
-only_hop (commands.Flow f) ws rest range said =
-    absurd (apart (codes "hop") (codes "flow") ws _ refl said)
-only_hop (commands.Egress peer cap) ws rest range said =
-    absurd (apart (codes "hop") (codes "egress") ws _ refl said)
-only_hop (commands.Ingress peer cap) ws rest range said =
-    absurd (apart (codes "hop") (codes "ingress") ws _ refl said)
-only_hop (commands.Link origin recipient cap) ws rest range said =
-    absurd (apart (codes "hop") (codes "link") ws _ refl said)
-only_hop commands.Rates ws rest range said =
-    absurd (apart (codes "hop") (codes "rates") ws _ refl said)
-only_hop (commands.Network (lines.Cap at cap)) ws rest range said =
-    absurd (apart (codes "hop") (codes "cap") ws _ refl said)
-only_hop (commands.Network (lines.Weight flow weight)) ws rest range said =
-    absurd (apart (codes "hop") (codes "weight") ws _ refl said)
-only_hop commands.Routes ws rest range said =
-    absurd (apart (codes "hop") (codes "routes") ws _ refl said)
-only_hop (commands.Schedule (calls.Limit now peer egress ingress)) ws rest range said =
-    absurd (apart (codes "hop") (codes "limit") ws _ refl said)
-only_hop (commands.Schedule (calls.LimitLink now origin recipient cap)) ws rest range said =
-    absurd (apart (codes "hop") (codes "limitlink") ws _ refl said)
-only_hop (commands.Schedule (calls.Enqueue now origin recipient channel length latency should_deliver)) ws rest range said =
-    absurd (apart (codes "hop") (codes "enqueue") ws _ refl said)
-only_hop (commands.Schedule (calls.EnqueueAll now messages)) ws rest range said = absurd range
-only_hop (commands.Schedule (calls.Advance now)) ws rest range said =
-    absurd (apart (codes "hop") (codes "advance") ws _ refl said)
-only_hop (commands.Schedule calls.Next) ws rest range said =
-    absurd (apart (codes "hop") (codes "next") ws _ refl said)
+only_hop : AreOfName network_words IsNetworkLineInRange (codes "hop") hop_of
+only_hop (lines.Hop flow link) ws rest range said = ((flow, link), refl)
+only_hop (lines.Cap link cap) ws rest range said = absurd (apart (codes "hop") (codes "cap") ws _ refl said)
+only_hop (lines.Weight flow weight) ws rest range said = absurd (apart (codes "hop") (codes "weight") ws _ refl said)
 
-only_weight : AreOfName (codes "weight") weighing_of
-only_weight (commands.Network (lines.Weight flow weight)) ws rest range said = ((flow, weight), refl)
-only_weight (commands.Flow f) ws rest range said =
-    absurd (apart (codes "weight") (codes "flow") ws _ refl said)
-only_weight (commands.Egress peer cap) ws rest range said =
-    absurd (apart (codes "weight") (codes "egress") ws _ refl said)
-only_weight (commands.Ingress peer cap) ws rest range said =
-    absurd (apart (codes "weight") (codes "ingress") ws _ refl said)
-only_weight (commands.Link origin recipient cap) ws rest range said =
-    absurd (apart (codes "weight") (codes "link") ws _ refl said)
-only_weight commands.Rates ws rest range said =
-    absurd (apart (codes "weight") (codes "rates") ws _ refl said)
-only_weight (commands.Network (lines.Hop flow link)) ws rest range said =
-    absurd (apart (codes "weight") (codes "hop") ws _ refl said)
-only_weight (commands.Network (lines.Cap at cap)) ws rest range said =
-    absurd (apart (codes "weight") (codes "cap") ws _ refl said)
-only_weight commands.Routes ws rest range said =
-    absurd (apart (codes "weight") (codes "routes") ws _ refl said)
-only_weight (commands.Schedule (calls.Limit now peer egress ingress)) ws rest range said =
-    absurd (apart (codes "weight") (codes "limit") ws _ refl said)
-only_weight (commands.Schedule (calls.LimitLink now origin recipient cap)) ws rest range said =
-    absurd (apart (codes "weight") (codes "limitlink") ws _ refl said)
-only_weight (commands.Schedule (calls.Enqueue now origin recipient channel length latency should_deliver)) ws rest range said =
-    absurd (apart (codes "weight") (codes "enqueue") ws _ refl said)
-only_weight (commands.Schedule (calls.EnqueueAll now messages)) ws rest range said = absurd range
-only_weight (commands.Schedule (calls.Advance now)) ws rest range said =
-    absurd (apart (codes "weight") (codes "advance") ws _ refl said)
-only_weight (commands.Schedule calls.Next) ws rest range said =
-    absurd (apart (codes "weight") (codes "next") ws _ refl said)
+only_weight : AreOfName network_words IsNetworkLineInRange (codes "weight") weighing_of
+only_weight (lines.Weight flow weight) ws rest range said = ((flow, weight), refl)
+only_weight (lines.Hop flow link) ws rest range said = absurd (apart (codes "weight") (codes "hop") ws _ refl said)
+only_weight (lines.Cap link cap) ws rest range said = absurd (apart (codes "weight") (codes "cap") ws _ refl said)
 
 module _ {w0 w1 w2 : List (List ℕ)} where
-  pub takes_hop : {x : ℕ × ℕ} → w0 ≡ codes "hop" ∷ w1 → Takes hop_words IsHopIn w1 (Some x) w2
-      → Takes command_words IsCommandInRange w0 (Some (hop_of x)) w2
-  takes_hop named takes =
-      takes_command (codes "hop") hop_words IsHopIn hop_of (λ x. refl) (λ x r. (r.0, r.1)) (λ x r. (r.0, r.1)) only_hop
-      named takes
+  pub takes_hop : w0 ≡ codes "hop" ∷ w1 → (answer : Option (ℕ × ℕ)) → Takes hop_words IsHopIn w1 answer w2
+      → Takes network_words IsNetworkLineInRange w0 (option_map hop_of answer) w2
+  takes_hop named =
+      takes_command network_words IsNetworkLineInRange (codes "hop") hop_words IsHopIn hop_of (λ x. refl)
+      (λ x r. (r.0, r.1)) (λ x r. (r.0, r.1)) only_hop named
 
-  pub takes_no_hop : w0 ≡ codes "hop" ∷ w1 → Takes hop_words IsHopIn w1 None w2
-      → Takes command_words IsCommandInRange w0 None w2
-  takes_no_hop named takes =
-      takes_no_command (codes "hop") hop_words IsHopIn hop_of (λ x. refl) (λ x r. (r.0, r.1)) (λ x r. (r.0, r.1))
-      only_hop named takes
-
-  pub takes_weighing : {x : ℕ × NonZeroU64} → w0 ≡ codes "weight" ∷ w1
-      → Takes weighing_words IsWeighingIn w1 (Some x) w2
-      → Takes command_words IsCommandInRange w0 (Some (weighing_of x)) w2
-  takes_weighing named takes =
-      takes_command (codes "weight") weighing_words IsWeighingIn weighing_of (λ x. refl) (λ x r. (r.0, r.1))
-      (λ x r. (r.0, r.1)) only_weight named takes
+  pub takes_weighing : w0 ≡ codes "weight" ∷ w1 → (answer : Option (ℕ × NonZeroU64))
+      → Takes weighing_words IsWeighingIn w1 answer w2
+      → Takes network_words IsNetworkLineInRange w0 (option_map weighing_of answer) w2
+  takes_weighing named =
+      takes_command network_words IsNetworkLineInRange (codes "weight") weighing_words IsWeighingIn weighing_of
+      (λ x. refl) (λ x r. (r.0, r.1)) (λ x r. (r.0, r.1)) only_weight named

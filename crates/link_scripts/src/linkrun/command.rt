@@ -1,7 +1,7 @@
 //! The commands of a script.
 ghost use Rattle.std.specs.Prelude.{◌≡◌, ◌≢◌, ◌↔◌, ◌∷◌, Some, codes};
 ghost use Rattle.link_scripts.specs.Script.{Takes, line_of, command_words, flow_words, IsCommandInRange};
-ghost use Rattle.link_scripts.specs.Script.{IsFlowInRange};
+ghost use Rattle.link_scripts.specs.Script.{IsFlowInRange, network_words, IsNetworkLineInRange};
 ghost use Rattle.link_scripts.specs.Words.{words_left};
 
 use crate::linkrun::word::Words;
@@ -95,58 +95,36 @@ impl Command {
                 peer: words.number()?,
                 cap: words.cap()?,
             }),
-            "link" => Some(Command::Link {
-                origin: words.number()?,
-                recipient: words.number()?,
-                cap: words.cap()?,
-            }),
+            "link" => take_link(words),
             "rates" => Some(Command::Rates),
-            "limit" => Some(Command::Schedule(Call::Limit {
-                now: words.number()?,
-                peer: words.number()?,
-                egress: words.small_cap()?,
-                ingress: words.small_cap()?,
-            })),
-            "limitlink" => Some(Command::Schedule(Call::LimitLink {
-                now: words.number()?,
-                origin: words.number()?,
-                recipient: words.number()?,
-                cap: words.small_cap()?,
-            })),
+            "limit" => take_limit(words),
+            "limitlink" => take_limit_link(words),
             "next" => Some(Command::Schedule(Call::Next)),
-            _ => Command::take_of_network(name, words),
+            "routes" => Some(Command::Routes),
+            _ => Some(Command::Network(NetworkLine::take(name, words)?)),
         }
     }
+}
 
-    /// Takes the words of a command about a network after its name.
-    fn take_of_network(name: &str, words: &mut Words<'_>) -> Option<Command>
-        requires enqueue { name.now ≢ codes "enqueue" }
-        requires advance { name.now ≢ codes "advance" }
-        requires flow { name.now ≢ codes "flow" }
-        requires egress { name.now ≢ codes "egress" }
-        requires ingress { name.now ≢ codes "ingress" }
-        requires link { name.now ≢ codes "link" }
-        requires rates { name.now ≢ codes "rates" }
-        requires limit { name.now ≢ codes "limit" }
-        requires limitlink { name.now ≢ codes "limitlink" }
-        requires next { name.now ≢ codes "next" }
-        ensures { Takes command_words IsCommandInRange (name.now ∷ words_left words.old) result
+impl NetworkLine {
+    /// Takes the words of a line about a network after its name.
+    fn take(name: &str, words: &mut Words<'_>) -> Option<NetworkLine>
+        ensures { Takes network_words IsNetworkLineInRange (name.now ∷ words_left words.old) result
             (words_left words.new) }
     {
         match name {
-            "hop" => Some(Command::Network(NetworkLine::Hop {
+            "hop" => Some(NetworkLine::Hop {
                 flow: words.number()?,
                 link: words.number()?,
-            })),
-            "cap" => Some(Command::Network(NetworkLine::Cap {
+            }),
+            "cap" => Some(NetworkLine::Cap {
                 link: words.number()?,
                 cap: words.cap()?,
-            })),
-            "weight" => Some(Command::Network(NetworkLine::Weight {
+            }),
+            "weight" => Some(NetworkLine::Weight {
                 flow: words.number()?,
                 weight: words.weight()?,
-            })),
-            "routes" => Some(Command::Routes),
+            }),
             _ => None,
         }
     }
@@ -177,5 +155,43 @@ fn take_enqueue(words: &mut Words<'_>) -> Option<Command>
         message: words.length()?,
         latency: words.number()?,
         should_deliver: words.flag()?,
+    }))
+}
+
+/// Takes the words of a `link` after that word.
+fn take_link(words: &mut Words<'_>) -> Option<Command>
+    ensures { Takes command_words IsCommandInRange (codes "link" ∷ words_left words.old) result
+        (words_left words.new) }
+{
+    Some(Command::Link {
+        origin: words.number()?,
+        recipient: words.number()?,
+        cap: words.cap()?,
+    })
+}
+
+/// Takes the words of a `limit` after that word.
+fn take_limit(words: &mut Words<'_>) -> Option<Command>
+    ensures { Takes command_words IsCommandInRange (codes "limit" ∷ words_left words.old) result
+        (words_left words.new) }
+{
+    Some(Command::Schedule(Call::Limit {
+        now: words.number()?,
+        peer: words.number()?,
+        egress: words.small_cap()?,
+        ingress: words.small_cap()?,
+    }))
+}
+
+/// Takes the words of a `limitlink` after that word.
+fn take_limit_link(words: &mut Words<'_>) -> Option<Command>
+    ensures { Takes command_words IsCommandInRange (codes "limitlink" ∷ words_left words.old) result
+        (words_left words.new) }
+{
+    Some(Command::Schedule(Call::LimitLink {
+        now: words.number()?,
+        origin: words.number()?,
+        recipient: words.number()?,
+        cap: words.small_cap()?,
     }))
 }

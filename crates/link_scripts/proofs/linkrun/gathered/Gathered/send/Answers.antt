@@ -1,5 +1,6 @@
 use Rattle.link_scripts.proofs.Common.{ℕ, List, subst, Outgoing, gathered_calls, zeroed_sends, AnswersEach}
 use Rattle.link_scripts.proofs.InTurn.{sent_and_printed, prints_from}
+use Rattle.link_scripts.proofs.Saying.{says_same_on}
 use Rattle.link_scripts.proofs.linkrun.gathered.Gathered.send.Goals as goal
 use Rattle.link_scripts.proofs.linkrun.gathered.Gathered.send.Goals.{then-len-gt1+in_default, else-len-gt1}
 
@@ -21,4 +22,23 @@ returns-clause-printed g c = elim c.if-len-gt1.branch [
       (g.W.Write.contents c.send_each.new.output) c.args.session.now (gathered_calls c.args.self.now)
       w.in_default.ensures.kept (rw w.session-is at c.in_ok-send_each.ensures.printed)
   | else-len-gt1 w ↦ rw w.session-is at c.in_ok-send_each.ensures.printed
+]
+
+pub returns-in-Ok-clause-said : goal.returns-in-Ok-clause-said
+returns-in-Ok-clause-said g c = c.send_all.ensures.said
+
+pub returns-in_err-send_each-clause-said : goal.returns-in_err-send_each-clause-said
+returns-in_err-send_each-clause-said g c = elim c.if-len-gt1.branch [
+  | then-len-gt1+in_default w ↦
+      says_same_on c.args.session.now w.send_all.new.self c.send_each.new.session w.send_all.ensures.said
+      (rw w.session-is at c.send_each.ensures.said)
+  | else-len-gt1 w ↦ rw w.session-is at c.send_each.ensures.said
+]
+
+pub returns-clause-said : goal.returns-clause-said
+returns-clause-said g c = elim c.if-len-gt1.branch [
+  | then-len-gt1+in_default w ↦
+      says_same_on c.args.session.now w.send_all.new.self c.send_each.new.session w.send_all.ensures.said
+      (rw w.session-is at c.send_each.ensures.said)
+  | else-len-gt1 w ↦ rw w.session-is at c.send_each.ensures.said
 ]
