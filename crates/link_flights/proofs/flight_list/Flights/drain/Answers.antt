@@ -1,7 +1,7 @@
 use Rattle.link_flights.proofs.Common.{◌≡◌, ◌+◌, ◌<◌, ◌≤◌, false, get_or, length, refl, sym, ap, ◌∙◌, subst, inl, inr}
 use Rattle.link_flights.proofs.Common.{◌⊎◌, arith, list_all, get_or_default, IsChangedUpTo, flight_at, unchanged}
 use Rattle.link_flights.proofs.Common.{all_changed}
-use Rattle.link_flights.proofs.Flights.Flight.{IsBrought, is_past, changed_length, next_brought, next_stands}
+use Rattle.link_flights.proofs.Flights.Flight.{IsBrought, is_past, changed_length, is_brought, next_brought, next_stands}
 use Rattle.link_flights.proofs.Flights.Flight.{all_drained, all_past, all_timed}
 use Rattle.link_flights.proofs.Flights.Settled.{counted_from}
 use Rattle.link_flights.proofs.flight_list.Flights.drain.Goals as goal
@@ -31,6 +31,32 @@ loop-at-init g c =
       refl,
       refl,
     )
+
+pub put-requires-clause-place : goal.put-requires-clause-place
+put-requires-clause-place g c =
+    omega (
+      arith,
+      changed_length (IsBrought c.args.self.now.at c.args.now) c.args.self.now.list.items c.loop-at.self.list.items
+          c.loop-at.at c.loop-at.invariant.0,
+    )
+
+pub put-requires-clause-past : goal.put-requires-clause-past
+put-requires-clause-past g c =
+    let e = c.in_ok-one.ensures in
+    (is_brought c.loop-at.self.at c.args.now c.at-one.result.now c.in_ok-one.one (elim c.then-goes_back-2.branch [
+      | then-goes_back-2-via-then-goes_back-2 v ↦ inl (omega (arith, v.if-goes_back-2.true, c.loop-at.invariant.1))
+      | then-goes_back-2-via-else-goes_back-2+then-not-stands_at v ↦ inr
+          (v.stands_at.ensures.unrated v.if-not-stands_at.true)
+    ]) e.id e.message e.left e.rate e.since e.rated).past_at
+
+pub put-requires-clause-still_rated : goal.put-requires-clause-still_rated
+put-requires-clause-still_rated g c d rated =
+    c.in_ok-one.ensures.rated ∙ ap (λ f. f.rated) (c.at-one.ensures ∙ get_or_default c.loop-at.self.list.items c.loop-at.at c.at-one.result.now d
+    (put-requires-clause-place g c)) ∙ rated
+
+pub put-requires-clause-message : goal.put-requires-clause-message
+put-requires-clause-message g c d = c.in_ok-one.ensures.message ∙ ap (λ f. f.message.value) (c.at-one.ensures ∙ get_or_default c.loop-at.self.list.items c.loop-at.at c.at-one.result.now d
+    (put-requires-clause-place g c))
 
 pub loop-at-preserved : goal.loop-at-preserved
 loop-at-preserved g c =
