@@ -15,36 +15,38 @@ try:
 
 bin/linkrun: FORCE
 	@mkdir -p bin
-	cd crates/linkrun && rt run < /dev/null > /dev/null
+	cd crates/linkrun && rt run --jobs 2 < /dev/null > /dev/null
 	cp crates/linkrun/out/linkrun bin/linkrun
 
 bin/linkcheck: FORCE
 	@mkdir -p bin
-	cd crates/linkcheck && rt run < /dev/null > /dev/null
+	cd crates/linkcheck && rt run --jobs 2 < /dev/null > /dev/null
 	cp crates/linkcheck/out/linkcheck bin/linkcheck
 
 bin/linkdraw: FORCE
 	@mkdir -p bin
-	cd crates/linkdraw && rt run < /dev/null > /dev/null
+	cd crates/linkdraw && rt run --jobs 2 < /dev/null > /dev/null
 	cp crates/linkdraw/out/linkdraw bin/linkdraw
 
 bin/broadcast: FORCE
 	@mkdir -p bin
-	cd crates/broadcast && rt run -- 2 > /dev/null
+	cd crates/broadcast && rt run --jobs 2 -- 2 > /dev/null
 	cp crates/broadcast/out/broadcast bin/broadcast
 
 bin/networks: FORCE
 	@mkdir -p bin
-	cd crates/networks && rt run > /dev/null
+	cd crates/networks && rt run --jobs 2 > /dev/null
 	cp crates/networks/out/networks bin/networks
 
 # The gate: every proof from nothing, the edits that must fail, the tests and the program. What stood in out/ before, it
 # puts back: the libraries of a gate before this one, which have no stamp, go first, so that those of this one stay. So do
-# packages, since they have a link, which the gate does not take.
+# packages, since they have a link, which the gate does not take. What it leaves is as new as the gate, also where it was
+# kept from one before: so the bindings take it.
 test:
 	@rm -rf bin/dist
 	@for rlib in crates/*/out/rlib; do [ -e $$rlib/stamp ] || rm -rf $$rlib; done
 	rt ci
+	@touch crates/*/out/rlib/*.rlib/format
 
 # Runs each example and compares what it prints: scripts, the partner that asks line by line, networks, traces and
 # pictures.
@@ -110,7 +112,7 @@ hostile: bin/refuse.so $(if $(over),,bin/linkrun hostile_tests)
 	python3 tests/hostile.py crates/linkrun/out/linkrun bin/refuse.so crates/p2p_simulated_hostile/out/p2p_simulated_hostile_tests
 
 hostile_tests:
-	cd crates/p2p_simulated_hostile && rt test > /dev/null
+	cd crates/p2p_simulated_hostile && rt test --jobs 2 > /dev/null
 
 # Whether the documents name only what there is.
 names:
