@@ -46,7 +46,7 @@ test:
 	@rm -rf bin/dist
 	@for rlib in crates/*/out/rlib; do [ -e $$rlib/stamp ] || rm -rf $$rlib; done
 	rt ci
-	@touch crates/*/out/rlib/*.rlib/format
+	@touch -c crates/*/out/rlib/*.rlib/format
 
 # Runs each example and compares what it prints: scripts, the partner that asks line by line, networks, traces and
 # pictures.
