@@ -2,7 +2,7 @@
 pub use Rattle.fairness.specs.Numbers.Amount.{Amount}
 pub use Rattle.fairness.specs.declared.error.Error.{Error}
 pub use Rattle.link_events.specs.Steps.Outgoing.{outgoing}
-pub use Rattle.link_scheduler.specs.Calls.Replies.{reply_of, call_of}
+pub use Rattle.link_scheduler.specs.Calls.Replay.{reply_of, call_of}
 pub use Rattle.link_scheduler.specs.Calls.State.{planned_of}
 pub use Rattle.link_simulation.proofs.Rule.SameCourses.{obeys_same}
 pub use Rattle.link_simulation.proofs.Rule.SamePlanned.{same_itself, same_turned, same_chain}

@@ -7,7 +7,7 @@ ghost use Rattle.link_simulation.specs.Simulation.Calls.{call_next};
 ghost use Rattle.link_simulation.specs.Laws.Isolation.{InTime};
 ghost use Rattle.link_simulation.specs.Rule.SamePlanned.{IsSameCall};
 ghost use Rattle.link_events.specs.Steps.Outgoing.{outgoing};
-ghost use Rattle.link_scheduler.specs.Calls.Replies.{call_of};
+ghost use Rattle.link_scheduler.specs.Calls.Replay.{call_of};
 
 use bytes::Bytes;
 use fairness::error::Error;
@@ -17,7 +17,7 @@ use link_scheduler::transmitter::Outgoing;
 use std::alloc::Global;
 
 /// The same call, its peers cloned. It shares the bytes.
-pub fn copy<P: Peer>(call: &Call<P>, alloc: Global) -> Result<Call<P>, Error>
+pub(crate) fn copy<P: Peer>(call: &Call<P>, alloc: Global) -> Result<Call<P>, Error>
     ensures in_time { InTime (call_of call.now ∷ []) }
     ensures same { IfOk result (λ copy. IsSameCall P.cmp (call_of call.now) (call_of copy)) }
     ensures refused { IfErr result (λ e. (e ≡ Error.OutOfMemory) × (call_of call.now ≢ call_next)) }

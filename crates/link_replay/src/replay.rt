@@ -9,7 +9,7 @@ ghost use Rattle.link_scheduler.specs.Calls.State.{planned_of};
 ghost use Rattle.link_simulation.specs.Laws.Conserved.{AreConserved};
 ghost use Rattle.link_simulation.specs.Laws.Replies.{AlwaysSoFar, RefusesForMemoryAlone, CompletePairsInOrder};
 ghost use Rattle.link_simulation.specs.Laws.Replies.{IsolateSets};
-ghost use Rattle.link_scheduler.specs.Calls.Replies.{call_of, reply_of, IsReplyTo};
+ghost use Rattle.link_scheduler.specs.Calls.Replay.{call_of, reply_of, IsReplyTo};
 
 use crate::copies::copy;
 use fairness::error::Error;

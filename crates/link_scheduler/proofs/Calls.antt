@@ -3,4 +3,4 @@ pub mod Answered
 pub mod Concluded
 pub mod OneByOne
 pub mod Promises
-pub mod Replies
+pub mod Replay

@@ -1,3 +1,3 @@
 -- How a scheduler and its calls are read, and what they promise.
-pub mod Replies
+pub mod Replay
 pub mod State

@@ -1,7 +1,7 @@
 //! A call of a scheduler as a value, what it is answered, and how it is made.
 ghost use Rattle.std.specs.Prelude.{◌≡◌, IfOk, IfErr, OnErr};
 ghost use Rattle.link_scheduler.specs.Calls.State.{planned_of};
-ghost use Rattle.link_scheduler.specs.Calls.Replies.{call_by, IsAnsweredBy, MayRefuseCall};
+ghost use Rattle.link_scheduler.specs.Calls.Replay.{call_by, IsAnsweredBy, MayRefuseCall};
 
 use crate::transmitter::{Completion, Outgoing, Payload, State};
 use bytes::Bytes;

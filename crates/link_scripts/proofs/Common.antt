@@ -7,7 +7,7 @@ pub use Rattle.fairness.specs.declared.error.Error.TheVariants.{OutOfMemory}
 pub use Rattle.link_events.specs.declared.outgoing.Outgoing.{Outgoing}
 pub use Rattle.link_pairs.specs.Pairs.Entries.{pair_cmp}
 pub use Rattle.link_pairs.specs.Pairs.Messages.{completed_of}
-pub use Rattle.link_scheduler.specs.Calls.Replies.{MayRefuseCall, reply_of}
+pub use Rattle.link_scheduler.specs.Calls.Replay.{MayRefuseCall, reply_of}
 pub use Rattle.link_scheduler.specs.Calls.State.{planned_of, MakesEach, Refuses}
 pub use Rattle.link_scripts.specs.Answer.{done_text, done_line, rates_text, reply_text, refusal_line, answer_text}
 pub use Rattle.link_scripts.specs.Gathered.{PrintsInTurn, gathered_calls}

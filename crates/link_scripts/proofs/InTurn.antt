@@ -10,8 +10,8 @@ use Rattle.link_simulation.specs.Simulation.Replies.{Reply, reply_done, reply_re
 use Rattle.link_scheduler.specs.declared.call.Call as script
 use Rattle.link_scheduler.specs.declared.call.Reply as reply_code
 use Rattle.link_scheduler.specs.declared.call.Reply.TheVariants as replies
-use Rattle.link_scheduler.specs.Calls.Replies.{IsReplyTo}
-use Rattle.link_scheduler.proofs.Calls.Replies.{answered_by_rule, refused_by_rule}
+use Rattle.link_scheduler.specs.Calls.Replay.{IsReplyTo}
+use Rattle.link_scheduler.proofs.Calls.Replay.{answered_by_rule, refused_by_rule}
 use Rattle.link_scripts.specs.declared.linkrun.answer.Answer.TheVariants as answers
 use Rattle.link_scripts.specs.Gathered.{AnswersInTurn}
 use Rattle.link_scripts.specs.Schedule.{AnswersCall}

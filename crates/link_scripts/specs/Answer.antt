@@ -7,7 +7,7 @@ use Rattle.fairness.specs.declared.error.Error.{Error}
 use Rattle.fairness.specs.Refusals.ErrorTexts.{refusal_number, refusal_text}
 use Rattle.link_scripts.specs.declared.linkrun.answer.Answer.{Answer}
 use Rattle.link_scripts.specs.declared.linkrun.answer.Answer.TheVariants as answers
-use Rattle.link_scheduler.specs.Calls.Replies.{reply_of}
+use Rattle.link_scheduler.specs.Calls.Replay.{reply_of}
 use Rattle.link_simulation.specs.Simulation.World.{Completed}
 use Rattle.link_simulation.specs.Simulation.Replies.{Reply, reply_done, reply_next, reply_refused}
 

@@ -11,7 +11,7 @@ use Rattle.link_scripts.specs.declared.linkrun.session.Session.{Session}
 use Rattle.link_scripts.specs.Answer.{answer_text, reply_text, refusal_line}
 use Rattle.link_scripts.specs.Schedule.{world_call, zeroed_sends}
 use Rattle.link_scripts.specs.Session.{SaysSame, KeepsPlanned, SaysAfter, AnswersTo, MayRefuseCommand}
-use Rattle.link_scheduler.specs.Calls.Replies.{IsReplyTo}
+use Rattle.link_scheduler.specs.Calls.Replay.{IsReplyTo}
 use Rattle.link_scheduler.specs.Calls.State.{planned_of}
 use Rattle.link_simulation.specs.Rule.Planned.{Planned}
 use Rattle.link_simulation.specs.Simulation.Calls.{Call}

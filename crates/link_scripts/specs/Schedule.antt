@@ -9,7 +9,7 @@ use Rattle.link_scheduler.specs.declared.call.Reply.TheVariants as replies
 use Rattle.link_scheduler.specs.declared.transmitter.State.{State}
 use Rattle.link_events.specs.declared.outgoing.Outgoing.{Outgoing}
 use Rattle.link_events.specs.Steps.Outgoing.{sent}
-use Rattle.link_scheduler.specs.Calls.Replies.{IsAnswered}
+use Rattle.link_scheduler.specs.Calls.Replay.{IsAnswered}
 use Rattle.link_scheduler.specs.Calls.State.{AreMade}
 use Rattle.link_simulation.specs.Simulation.Calls.{Call, call_limit, call_limit_link, call_enqueue, call_advance}
 use Rattle.link_simulation.specs.Simulation.Calls.{call_enqueue_all, call_next}

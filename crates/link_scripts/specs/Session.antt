@@ -14,7 +14,7 @@ use Rattle.fairness.specs.Sides.Caps.{Caps}
 use Rattle.link_pairs.specs.Pairs.Entries.{pair_cmp}
 use Rattle.fairness.specs.Fairness.UnderCaps.{IsFairById}
 use Rattle.link_scripts.specs.Schedule.{world_call, AnswersCall}
-use Rattle.link_scheduler.specs.Calls.Replies.{MayRefuseCall}
+use Rattle.link_scheduler.specs.Calls.Replay.{MayRefuseCall}
 use Rattle.link_scheduler.specs.Calls.State.{planned_of}
 use Rattle.fairness.specs.Refusals.TooLarge.{AreTooLarge}
 use Rattle.std.specs.Int.NonZero.{non_zero_u64_get}

@@ -1,7 +1,7 @@
 -- The names that most proofs of this crate cite, passed on from one place. Declares nothing.
 pub use Rattle.link_events.specs.declared.outgoing.Outgoing.{Outgoing}
-pub use Rattle.link_scheduler.proofs.Calls.Replies.{one_more}
-pub use Rattle.link_scheduler.specs.Calls.Replies.{reply_of, IsReplyTo}
+pub use Rattle.link_scheduler.proofs.Calls.Replay.{one_more}
+pub use Rattle.link_scheduler.specs.Calls.Replay.{reply_of, IsReplyTo}
 pub use Rattle.link_scheduler.specs.Calls.State.{planned_of, Makes}
 pub use Rattle.link_scripts.specs.Answer.{reply_text}
 pub use Rattle.link_scripts.specs.Schedule.{world_call, zeroed_sends, AnswersEach}

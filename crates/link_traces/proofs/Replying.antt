@@ -13,7 +13,7 @@ use Rattle.fairness.specs.declared.error.Error.TheVariants.{OutOfMemory, NumberT
 use Rattle.link_scheduler.specs.declared.call.Reply as reply_code
 use Rattle.link_scheduler.specs.declared.call.Reply.TheVariants as replies
 use Rattle.link_scheduler.specs.declared.transmitter.State.{State}
-use Rattle.link_scheduler.specs.Calls.Replies.{IsAnswered, MayRefuseCall}
+use Rattle.link_scheduler.specs.Calls.Replay.{IsAnswered, MayRefuseCall}
 use Rattle.link_scheduler.specs.Calls.State.{Refuses}
 use Rattle.link_simulation.specs.Rule.Simulated.{MeetsFault, IsNextInSimulation, IsRun}
 use Rattle.link_simulation.proofs.Rule.OneMeaning.{one_next}

@@ -1,7 +1,7 @@
 //! A list of calls whose replies are those of the simulation.
 ghost use Rattle.std.specs.Prelude.{map, IfOk};
 ghost use Rattle.std.specs.Ordering.{nat_cmp};
-ghost use Rattle.p2p_simulated.specs.Calls.Replies.{reply_of};
+ghost use Rattle.p2p_simulated.specs.Calls.Replay.{reply_of};
 ghost use Rattle.p2p_simulated.specs.Simulation.World.{new_world};
 ghost use Rattle.p2p_simulated.specs.Simulation.Replies.{Agrees};
 ghost use Rattle.uses.specs.Lists.{one_message};

@@ -14,8 +14,8 @@ use Rattle.link_simulation.specs.Rule.SamePlanned.{IsSameCall}
 use Rattle.link_simulation.proofs.Rule.SamePlanned.{peer_turned, message_turned, zip_turned}
 use Rattle.link_simulation.proofs.Rule.Agreeing.{all_trans}
 use Rattle.link_simulation.proofs.Rule.SameRefusals.{refused_same}
-use Rattle.link_scheduler.specs.Calls.Replies.{IsReplyTo}
-use Rattle.link_scheduler.proofs.Calls.Replies.{one_more}
+use Rattle.link_scheduler.specs.Calls.Replay.{IsReplyTo}
+use Rattle.link_scheduler.proofs.Calls.Replay.{one_more}
 
 module _ {P : Type 0} (cmp : P → P → Ordering) (order : IsTotalOrder cmp) where
   -- ---- the same call

@@ -3,7 +3,7 @@ ghost use Rattle.std.specs.Prelude.{◌≡◌, map, IfOk, IfErr, OnOk};
 ghost use Rattle.std.specs.Io.KnownBytes.{Appends};
 ghost use Rattle.link_scripts.specs.Answer.{rate_line, rates_text, done_line, done_text, next_line};
 ghost use Rattle.link_scripts.specs.Answer.{answer_text, reply_text, refusal_line};
-ghost use Rattle.link_scheduler.specs.Calls.Replies.{reply_of};
+ghost use Rattle.link_scheduler.specs.Calls.Replay.{reply_of};
 ghost use Rattle.link_pairs.specs.Pairs.Messages.{completed_of};
 ghost use Rattle.fairness.specs.Refusals.ErrorTexts.{refusal_number};
 

@@ -1,6 +1,6 @@
 //! The calls of a script, with zero bytes in the place of lengths.
 ghost use Rattle.std.specs.Prelude.{◌≡◌, ◌≢◌, map, IfOk, IfErr};
-ghost use Rattle.link_scheduler.specs.Calls.Replies.{call_of};
+ghost use Rattle.link_scheduler.specs.Calls.Replay.{call_of};
 ghost use Rattle.link_events.specs.Steps.Outgoing.{outgoing};
 ghost use Rattle.link_simulation.specs.Simulation.Calls.{call_next};
 ghost use Rattle.link_scripts.specs.Schedule.{world_call, zeroed};

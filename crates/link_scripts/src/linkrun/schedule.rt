@@ -1,7 +1,7 @@
 //! What a script asks of its scheduler.
 ghost use Rattle.std.specs.Prelude.{◌≡◌, map, IfOk, IfErr, OnErr};
 ghost use Rattle.link_scripts.specs.Schedule.{world_call, zeroed, zeroed_sends, AnswersEach};
-ghost use Rattle.link_scheduler.specs.Calls.Replies.{IsAnswered, MayRefuseCall};
+ghost use Rattle.link_scheduler.specs.Calls.Replay.{IsAnswered, MayRefuseCall};
 ghost use Rattle.link_scheduler.specs.Calls.State.{planned_of};
 ghost use Rattle.link_simulation.specs.Simulation.Calls.{call_enqueue_all};
 

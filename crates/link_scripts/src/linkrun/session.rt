@@ -7,7 +7,7 @@ ghost use Rattle.link_pairs.specs.Pairs.Entries.{pair_cmp};
 ghost use Rattle.fairness.specs.Fairness.UnderCaps.{IsFairById};
 ghost use Rattle.fairness.specs.Refusals.TooLarge.{AreTooLarge};
 ghost use Rattle.fair_routes.specs.Network.Told.{IsToldNothing, IsToldTheSame};
-ghost use Rattle.link_scheduler.specs.Calls.Replies.{IsAnswered, MayRefuseCall};
+ghost use Rattle.link_scheduler.specs.Calls.Replay.{IsAnswered, MayRefuseCall};
 ghost use Rattle.link_scheduler.specs.Calls.State.{planned_of};
 ghost use Rattle.link_scripts.specs.Schedule.{zeroed, zeroed_sends, AnswersEach};
 ghost use Rattle.link_scripts.specs.Session.{Says, SaysSame, KeepsPlanned, SaysAfter, AnswersTo, MayRefuseCommand};

@@ -1,7 +1,7 @@
 //! Messages that lines send at one moment and that the trace says are answered with nothing, gathered
 //! so that they are sent at once.
 ghost use Rattle.std.specs.Prelude.{◌≡◌, ◌++◌, ◌∷◌, All, [], None, false, drop, IsTrue, IfSome};
-ghost use Rattle.link_scheduler.specs.Calls.Replies.{reply_of};
+ghost use Rattle.link_scheduler.specs.Calls.Replay.{reply_of};
 ghost use Rattle.link_simulation.specs.Simulation.Replies.{reply_done};
 ghost use Rattle.link_scripts.specs.Script.{IsCallOfScriptInRange};
 ghost use Rattle.link_traces.specs.Batches.{batch_calls, IsFront};

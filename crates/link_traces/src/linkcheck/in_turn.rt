@@ -1,6 +1,6 @@
 //! Calls out of turn.
 ghost use Rattle.std.specs.Prelude.{◌≡◌, ◌<◌, ◌≤◌, IfSome, MatchOption};
-ghost use Rattle.link_scheduler.specs.Calls.Replies.{reply_of};
+ghost use Rattle.link_scheduler.specs.Calls.Replay.{reply_of};
 ghost use Rattle.link_scripts.specs.Schedule.{world_call};
 ghost use Rattle.link_traces.specs.Turns.{IsTimely, reached_after};
 

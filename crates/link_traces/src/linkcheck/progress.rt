@@ -3,7 +3,7 @@
 ghost use Rattle.std.specs.Prelude.{◌≡◌, ◌↔◌, ◌<◌, ◌+◌, ◌++◌, ◌∷◌, ℕ, All, List, [], None, Ok};
 ghost use Rattle.std.specs.Prelude.{drop, length, false, IsTrue, IfOk, IfSome, OnOk, vec_len};
 ghost use Rattle.std.specs.Ordering.{nat_cmp};
-ghost use Rattle.link_scheduler.specs.Calls.Replies.{reply_of, IsReplyTo};
+ghost use Rattle.link_scheduler.specs.Calls.Replay.{reply_of, IsReplyTo};
 ghost use Rattle.link_scheduler.specs.Calls.State.{planned_of};
 ghost use Rattle.link_scripts.specs.Schedule.{world_call};
 ghost use Rattle.link_scripts.specs.Script.{IsCallOfScriptInRange};

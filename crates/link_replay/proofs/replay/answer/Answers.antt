@@ -1,5 +1,5 @@
 use Rattle.link_replay.proofs.Common.{planned_of, reply_refused, reply_of, same_itself}
-use Rattle.link_scheduler.proofs.Calls.Replies.{answered_by_rule, refused_by_rule}
+use Rattle.link_scheduler.proofs.Calls.Replay.{answered_by_rule, refused_by_rule}
 use Rattle.link_replay.proofs.Calls.Replay.{reply_same}
 use Rattle.link_replay.proofs.replay.answer.Goals as goal
 

@@ -1,5 +1,5 @@
 use Rattle.link_scripts.proofs.Common.{ℕ, IfOk, IfErr, subst, MayRefuseCall, Call}
-use Rattle.link_scheduler.specs.Calls.Replies.{IsAnswered}
+use Rattle.link_scheduler.specs.Calls.Replay.{IsAnswered}
 use Rattle.link_scripts.proofs.linkrun.schedule.make.Goals as goal
 
 pub returns-clause-answer : goal.returns-clause-answer

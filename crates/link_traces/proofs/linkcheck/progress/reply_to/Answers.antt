@@ -1,6 +1,6 @@
 use Rattle.link_traces.proofs.Common.{ℕ, subst, nat_cmp_total, nat_cmp, reply_of, IsReplyTo, planned_of, StandsFor}
 use Rattle.link_traces.proofs.Common.{Call, IsInTurn, reply_refused, World, IsSimulatedReply}
-use Rattle.link_scheduler.proofs.Calls.Replies.{refused_by_rule}
+use Rattle.link_scheduler.proofs.Calls.Replay.{refused_by_rule}
 use Rattle.link_traces.proofs.Replying.{answered_is_simulated, refused_is_answered}
 use Rattle.link_traces.proofs.linkcheck.progress.reply_to.Goals as goal
 

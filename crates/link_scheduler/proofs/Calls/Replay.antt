@@ -7,7 +7,7 @@ use Rattle.link_simulation.specs.Rule.Refusals.{Obeyed}
 use Rattle.link_simulation.proofs.Rule.SameRefusals.{obeyed_same}
 use Rattle.link_scheduler.specs.declared.call.Reply as reply_code
 use Rattle.link_scheduler.specs.declared.call.Reply.TheVariants as replies
-use Rattle.link_scheduler.specs.Calls.Replies.{IsAnswered, MayRefuseCall, IsReplyTo, reply_of}
+use Rattle.link_scheduler.specs.Calls.Replay.{IsAnswered, MayRefuseCall, IsReplyTo, reply_of}
 
 module _ {P : Type 0} (cmp : P → P → Ordering) (order : IsTotalOrder cmp) where
   -- a reply, and those after it
