@@ -19,6 +19,7 @@ ghost use Rattle.link_flights.specs.Flights.Table.{share};
 
 use crate::flight::Flight;
 use crate::flight_list::Flights;
+use crate::rate::Rate;
 use crate::space::Space;
 use crate::table::End;
 use fairness::error::Error;
@@ -59,7 +60,7 @@ const FEW_NEW: usize = 4;
 pub(crate) struct Component<P> {
     pub(crate) whole: bool,
     /// In units.
-    pub(crate) level: Natural,
+    pub(crate) level: Rate,
     /// Its senders and receivers are those of these.
     pub(crate) joined: Vec<Arc<Message<P>>>,
     /// The places of those in flight of which it has an end, in order of start, once they are known.
@@ -94,7 +95,7 @@ impl<P: Peer> Component<P> {
         joined.reserve(FEW_JOINED)?;
         Ok(Component {
             whole: false,
-            level: Natural::from_u64(alloc, 0),
+            level: Rate::zero(alloc),
             joined,
             near,
         })
@@ -109,7 +110,7 @@ impl<P: Peer> Component<P> {
         let (joined, near) = space.into_lists();
         Component {
             whole: true,
-            level: Natural::from_u64(alloc, 0),
+            level: Rate::zero(alloc),
             joined,
             near,
         }
@@ -286,7 +287,7 @@ impl<P: Peer> Flights<P> {
     /// A level below which what goes on keeps its rate: the least rate of what is done or loose, or the least
     /// share of a cap for what is new or loose, if that is less. It is no more than any of what is done had; the
     /// rest is a guess, which the rates that are found have to reach.
-    pub(crate) fn level(&self, peers: &Peers<P>, pairs: &Pairs<P>) -> Result<Natural, Error>
+    pub(crate) fn level(&self, peers: &Peers<P>, pairs: &Pairs<P>) -> Result<Rate, Error>
         ensures level { IfOk result (λ level. IfSome self.now.floor (λ floor. level ≤ floor)) }
         ensures refused { IfErr result (λ e. e ≡ Error.OutOfMemory) }
     {
@@ -302,7 +303,10 @@ impl<P: Peer> Flights<P> {
             let share = self.share_of(message, peers, pairs)?;
             level = Some(lesser(level, share));
         }
-        Ok(level.unwrap_or(Natural::from_u64(self.alloc, 0)))
+        match level {
+            Some(level) => Rate::of(self.alloc, level),
+            None => Ok(Rate::zero(self.alloc)),
+        }
     }
 
     /// The least share of a cap that the message would have, if the cap were shared evenly. Zero

@@ -75,10 +75,11 @@ impl<P: Peer> Flight<P> {
     }
 
     /// Whether less than the level drains in a nanosecond at its rate.
-    pub(crate) fn is_below(&self, level: &Natural) -> bool
+    #[inline(always)]
+    pub(crate) fn is_below(&self, level: &Rate) -> bool
         ensures { result ≡ not (nat_le level.now self.now.rate) }
     {
-        self.rate.number() < level
+        self.rate.is_below(level)
     }
 
     /// Whether its finish has come at that moment.
@@ -131,7 +132,7 @@ impl<P: Peer> Flight<P> {
         ensures rated { result ≡ true → self.now.rated ≡ true }
         ensures rate { result ≡ true → self.now.rate ≡ rate.now }
     {
-        self.rated && self.rate.number() == rate.number()
+        self.rated && self.rate.is(rate)
     }
 
     /// The same message at that rate from `now` on, the moment of an account.

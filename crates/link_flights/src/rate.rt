@@ -1,5 +1,5 @@
 //! How fast a message in flight drains.
-ghost use Rattle.std.specs.Prelude.{◌≡◌, IfOk, IfErr};
+ghost use Rattle.std.specs.Prelude.{◌≡◌, ◌/◌, ◌^◌, ◌*◌, IfOk, IfErr, true, not, nat_le};
 
 use fairness::error::Error;
 use natural::Natural;
@@ -7,12 +7,22 @@ use std::alloc::{AllocError, Global};
 use std::marker::Model;
 use std::sync::Arc;
 
+/// A large number, with its highest limbs at hand.
+#[derive(Drop)]
+pub(crate) struct Large {
+    number: Natural,
+    // What is left of it without so many of its lowest limbs.
+    highest: u128,
+    shift: usize,
+    ghost leads: { highest ≡ number / 2 ^ (64 * shift) },
+}
+
 /// Where the number stands.
 #[derive(Drop)]
 pub(crate) enum Held {
     InPlace(Natural),
     /// With all that have their rate from the same level.
-    Shared(Arc<Natural>),
+    Shared(Arc<Large>),
 }
 
 /// The units that drain in a nanosecond. In contracts it is that number.
@@ -75,7 +85,13 @@ impl Rate {
         let held = if number.is_small() {
             Held::InPlace(number)
         } else {
-            Held::Shared(Arc::new(alloc, number)?)
+            let (highest, shift) = number.highest_limbs();
+            let large = Large {
+                number,
+                highest,
+                shift,
+            };
+            Held::Shared(Arc::new(alloc, large)?)
         };
         Ok(Rate { held })
     }
@@ -87,8 +103,34 @@ impl Rate {
     {
         match &self.held {
             Held::InPlace(number) => number,
-            Held::Shared(number) => number,
+            Held::Shared(large) => &large.number,
         }
+    }
+
+    /// Whether it is less than another. Large ones are compared by their highest limbs, where these tell.
+    #[inline(always)]
+    pub(crate) fn is_below(&self, other: &Rate) -> bool
+        ensures { result ≡ not (nat_le other.now self.now) }
+    {
+        if let (Held::Shared(one), Held::Shared(other)) = (&self.held, &other.held) {
+            if one.shift == other.shift && one.highest != other.highest {
+                return one.highest < other.highest;
+            }
+        }
+        self.number() < other.number()
+    }
+
+    /// Whether it is seen to be another. Large ones of which the highest limbs differ are not.
+    #[inline(always)]
+    pub(crate) fn is(&self, other: &Rate) -> bool
+        ensures { result ≡ true → self.now ≡ other.now }
+    {
+        if let (Held::Shared(one), Held::Shared(other)) = (&self.held, &other.held) {
+            if one.highest != other.highest {
+                return false;
+            }
+        }
+        self.number() == other.number()
     }
 }
 

@@ -351,7 +351,7 @@ impl<P: Peer> Flights<P> {
         ensures refused { IfErr result (λ e. e ≡ Error.OutOfMemory) }
     {
         let part = self.rates_at(touched, numbers, peers, pairs, rooms)?;
-        if !part.growth.is_empty() || !all_reach(&part, &touched.level) {
+        if !part.growth.is_empty() || !all_reach(&part, touched.level.number()) {
             rooms.filling.keep(part);
             return Ok(None);
         }
@@ -386,7 +386,7 @@ impl<P: Peer> Flights<P> {
         ensures refused { IfErr result (λ e. e ≡ Error.OutOfMemory) }
     {
         let level = self.left_for(touched, at, numbers, peers, pairs, users)?;
-        if touched.level <= level {
+        if *touched.level.number() <= level {
             let rate = Rate::of(self.alloc, level)?;
             self.set_rates(touched, numbers.places(), &[rate], &[Some(0)], &[], true)?;
             return Ok(Some(1));

@@ -6,4 +6,4 @@ use Rattle.link_flights.specs.declared.rate.Held.TheVariants.{InPlace, Shared}
 -- the number, wherever it stands
 abbrev pub number_of : Held → ℕ
 number_of (InPlace number) = number
-number_of (Shared number) = number.value
+number_of (Shared large) = large.value.number
