@@ -1,5 +1,5 @@
 -- When lines are not bad.
-use Rattle.std.proofs.Common.{◌≡◌, ◌⊎◌, ℕ, ◌<◌, ◌≤◌, List, length, inl, inr, arith}
+use Rattle.std.proofs.Common.{◌≡◌, ℕ, ◌≤◌, List, length, inl, inr, arith}
 use Rattle.link_scripts.specs.BadLines.{IsBad}
 use Rattle.link_scripts.specs.Script.{line_of, IsCommandInRange}
 use Rattle.link_scripts.specs.declared.linkrun.command.Command.{Command}

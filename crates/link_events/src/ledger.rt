@@ -12,6 +12,7 @@ ghost use Rattle.link_simulation.specs.Simulation.Messages.{OneForEachPair};
 use fairness::error::Error;
 use fairness::peer::Peer;
 use link_flights::flight_list::Flights;
+use link_flights::notes::Rooms;
 use link_pairs::known_pairs::Pairs;
 use link_pairs::peers::Peers;
 use link_waiting::waiting::Waiting;
@@ -32,6 +33,8 @@ pub struct Ledger<P: Peer> {
     pub(crate) finish: Option<u64>,
     /// The moment at which a waiting message starts next.
     pub(crate) start: Option<u64>,
+    /// Room for what an event needs to find rates.
+    pub(crate) rooms: Rooms<P>,
     /// Whether all have to be rated at the next account: it was refused, or what a changed cap was about is limited no more.
     pub(crate) stale: bool,
     pub ghost indexed: { IsIndexOf P.cmp (of_pairs P.cmp pairs.entries waiting.messages
@@ -53,12 +56,14 @@ impl<P: Peer> Drop for Ledger<P> {
             next_id: _,
             finish: _,
             start: _,
+            rooms,
             stale: _,
         } = self;
         drop(peers);
         drop(pairs);
         drop(waiting);
         drop(flights);
+        drop(rooms);
     }
 }
 
@@ -83,6 +88,7 @@ impl<P: Peer> Ledger<P> {
             next_id: first,
             finish: None,
             start: None,
+            rooms: Rooms::new(alloc),
             stale: true,
         }
     }

@@ -132,7 +132,9 @@ impl<P: Peer> Ledger<P> {
     {
         let stay_fair = were_fair && !self.flights.is_empty();
         self.flights.renew_units();
-        let rated = self.flights.rate(&self.peers, &self.pairs, done, stay_fair);
+        let rated = self
+            .flights
+            .rate(&self.peers, &self.pairs, done, stay_fair, &mut self.rooms);
         match rated {
             Ok(finish) => {
                 self.finish = finish;

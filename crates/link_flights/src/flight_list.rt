@@ -8,9 +8,7 @@ ghost use Rattle.fairness.specs.Sides.Subjects.{same_peer};
 
 use crate::flight::Flight;
 use crate::loose::Loose;
-use crate::notes::Notes;
 use crate::rate::Rate;
-use crate::space::Space;
 use crate::table::Table;
 use fairness::error::Error;
 use fairness::peer::Peer;
@@ -51,10 +49,6 @@ pub struct Flights<P: Peer> {
     pub(crate) unsearched: usize,
     /// At so many accounts in a row the scale has not grown. Only time hangs on it.
     pub(crate) stood: usize,
-    /// Room for what a search notes.
-    pub(crate) notes: Notes,
-    /// Room for what a search lists.
-    pub(crate) space: Space<P>,
 
     pub ghost past: { list_all (λ one. not one.rated || nat_le one.since at) list.items ≡ true },
     pub ghost scaled: { 0 < scale },
@@ -76,15 +70,11 @@ impl<P: Peer> Drop for Flights<P> {
             settled: _,
             unsearched: _,
             stood: _,
-            notes,
-            space,
         } = self;
         drop(list);
         drop(scale);
         drop(floor);
         drop(loose);
-        drop(notes);
-        drop(space);
     }
 }
 
@@ -114,8 +104,6 @@ impl<P: Peer> Flights<P> {
             settled: 0,
             unsearched: 0,
             stood: 0,
-            notes: Notes::new(alloc),
-            space: Space::new(alloc),
         }
     }
 

@@ -12,7 +12,7 @@ mod flight;
 pub mod flight_list;
 mod fraction;
 pub mod loose;
-mod notes;
+pub mod notes;
 mod numbers;
 mod rate;
 mod rates;

@@ -1,9 +1,10 @@
-//! Notes of places, and lists of them, for which room is kept from one event to the next.
+//! Room for what an event needs, which is kept from one event to the next.
 ghost use Rattle.std.specs.Prelude.{◌≡◌, [], length, All, IfOk, IfErr};
 ghost use Rattle.link_flights.specs.Flights.Components.{AreNoted};
 
 use crate::numbers::Numbers;
 use crate::rate::Rate;
+use crate::space::Space;
 use fair_rates::bandwidth::{Room, Side};
 use fairness::error::Error;
 use std::alloc::Global;
@@ -13,20 +14,22 @@ use std::mem;
 /// Room for a note of each place. Between events no place is noted, so callers see nothing of it.
 pub(crate) struct Notes {
     noted: Vec<bool>,
-    rooms: Rooms,
 }
 
 impl Drop for Notes {
     /// Lets go of what it holds.
     fn drop(self) {
-        let Notes { noted, rooms } = self;
+        let Notes { noted } = self;
         drop(noted);
-        drop(rooms);
     }
 }
 
-/// Room for lists of places and of numbers. What they hold says nothing.
-pub(crate) struct Rooms {
+/// Room for what an event needs to find rates. What it holds says nothing, so callers see nothing of it.
+pub struct Rooms<P> {
+    /// For notes of places.
+    pub(crate) notes: Notes,
+    /// For what a search lists.
+    pub(crate) space: Space<P>,
     /// For the places that are rated.
     pub(crate) places: Vec<usize>,
     /// For the number of each place.
@@ -43,10 +46,12 @@ pub(crate) struct Rooms {
     pub(crate) filling: Room,
 }
 
-impl Drop for Rooms {
+impl<P: Drop> Drop for Rooms<P> {
     /// Lets go of what it holds.
     fn drop(self) {
         let Rooms {
+            notes,
+            space,
             places,
             numbers,
             users,
@@ -55,6 +60,8 @@ impl Drop for Rooms {
             rates,
             filling,
         } = self;
+        drop(notes);
+        drop(space);
         drop(places);
         drop(numbers);
         drop(users);
@@ -65,10 +72,18 @@ impl Drop for Rooms {
     }
 }
 
-impl Rooms {
+impl<P> Model for Rooms<P> {
+    ghost Value = { Unit {0} };
+
+    ghost view = { λ rooms. tt };
+}
+
+impl<P: Drop> Rooms<P> {
     /// No room yet.
-    pub(crate) fn new(alloc: Global) -> Rooms {
+    pub fn new(alloc: Global) -> Rooms<P> {
         Rooms {
+            notes: Notes::new(alloc),
+            space: Space::new(alloc),
             places: Vec::new(alloc),
             numbers: Vec::new(alloc),
             users: Vec::new(alloc),
@@ -107,18 +122,7 @@ impl Notes {
     pub(crate) fn new(alloc: Global) -> Notes {
         Notes {
             noted: Vec::new(alloc),
-            rooms: Rooms::new(alloc),
         }
-    }
-
-    /// Room for lists. It is taken out until it is kept again.
-    pub(crate) fn take_rooms(&mut self, alloc: Global) -> Rooms {
-        mem::replace(&mut self.rooms, Rooms::new(alloc))
-    }
-
-    /// Room for lists is kept.
-    pub(crate) fn keep_rooms(&mut self, rooms: Rooms) {
-        self.rooms = rooms;
     }
 
     /// Room for so many places, of which none is noted. It is taken out until it is given back.

@@ -100,6 +100,7 @@ impl<P: Peer> Flights<P> {
         pairs: &Pairs<P>,
         done: &VecDeque<Arc<Message<P>>>,
         were_rated: bool,
+        rooms: &mut Rooms<P>,
     ) -> Result<Option<u64>, Error>
         requires moment { self.old.at ≤ last_moment }
         requires left { All (λ u. u.left ≢ 0) (in_units self.old) }
@@ -117,7 +118,7 @@ impl<P: Peer> Flights<P> {
         ensures before { self.new.list.before ≡ self.old.list.before }
         ensures refused { IfErr result (λ e. e ≡ Error.OutOfMemory) }
     {
-        let unsearched = self.give_rates(peers, pairs, done, were_rated)?;
+        let unsearched = self.give_rates(peers, pairs, done, were_rated, rooms)?;
         Ok(self.settle(unsearched))
     }
 
@@ -128,6 +129,7 @@ impl<P: Peer> Flights<P> {
         pairs: &Pairs<P>,
         done: &VecDeque<Arc<Message<P>>>,
         were_rated: bool,
+        rooms: &mut Rooms<P>,
     ) -> Result<usize, Error>
         requires left { All (λ u. u.left ≢ 0) (in_units self.old) }
         requires updated { All (λ u. u.updated ≡ self.old.at) (in_units self.old) }
@@ -150,11 +152,11 @@ impl<P: Peer> Flights<P> {
             return Ok(0);
         }
         if were_rated {
-            if let Some(unsearched) = self.rate_part(done, peers, pairs)? {
+            if let Some(unsearched) = self.rate_part(done, peers, pairs, rooms)? {
                 return Ok(unsearched);
             }
         }
-        self.rate_all(peers, pairs, were_rated)?;
+        self.rate_all(peers, pairs, were_rated, rooms)?;
         Ok(self.spared_after(true, 0))
     }
 
@@ -166,6 +168,7 @@ impl<P: Peer> Flights<P> {
         done: &VecDeque<Arc<Message<P>>>,
         peers: &Peers<P>,
         pairs: &Pairs<P>,
+        rooms: &mut Rooms<P>,
     ) -> Result<Option<usize>, Error>
         requires left { All (λ u. u.left ≢ 0) (in_units self.old) }
         requires updated { All (λ u. u.updated ≡ self.old.at) (in_units self.old) }
@@ -178,19 +181,17 @@ impl<P: Peer> Flights<P> {
         ensures before { self.new.list.before ≡ self.old.list.before }
         ensures refused { IfErr result (λ e. e ≡ Error.OutOfMemory) }
     {
-        let mut noted = self.notes.take(self.alloc, self.list.len())?;
-        let mut rooms = self.notes.take_rooms(self.alloc);
-        let space = mem::replace(&mut self.space, Space::new(self.alloc));
+        let mut noted = rooms.notes.take(self.alloc, self.list.len())?;
+        let space = mem::replace(&mut rooms.space, Space::new(self.alloc));
         let touched = self.touched(done, peers, pairs, &mut noted, space)?;
-        self.notes.give_back(noted, &touched.near);
-        let found = self.rate_touched(&touched, peers, pairs, &mut rooms)?;
-        self.notes.keep_rooms(rooms);
+        rooms.notes.give_back(noted, &touched.near);
+        let found = self.rate_touched(&touched, peers, pairs, rooms)?;
         let whole = touched.whole;
-        self.space = touched.into_space();
-        match found {
-            Some(found) => Ok(Some(self.spared_after(whole, found))),
-            None => Ok(None),
-        }
+        rooms.space = touched.into_space();
+        let Some(found) = found else {
+            return Ok(None);
+        };
+        Ok(Some(self.spared_after(whole, found)))
     }
 
     /// Gives the only one its fair rate from the last account on: the least of its caps.
@@ -221,6 +222,7 @@ impl<P: Peer> Flights<P> {
         peers: &Peers<P>,
         pairs: &Pairs<P>,
         were_timed: bool,
+        rooms: &mut Rooms<P>,
     ) -> Result<(), Error>
         requires left { All (λ u. u.left ≢ 0) (in_units self.old) }
         requires timed { were_timed ≡ true → AreTimed self.old.list.items }
@@ -232,9 +234,8 @@ impl<P: Peer> Flights<P> {
         ensures refused { IfErr result (λ e. e ≡ Error.OutOfMemory) }
     {
         let all = Component::whole(self.alloc, Space::new(self.alloc));
-        let mut rooms = self.notes.take_rooms(self.alloc);
-        let numbers = self.numbers_rated(&all, &mut rooms)?;
-        let rates = self.rates_at(&all, &numbers, peers, pairs, &mut rooms)?;
+        let numbers = self.numbers_rated(&all, rooms)?;
+        let rates = self.rates_at(&all, &numbers, peers, pairs, rooms)?;
         let mut scale = self.scale.clone()?;
         grow(&mut scale, &rates.growth)?;
         let given = rates_of(self.alloc, &rates.levels, rooms.take_rates(self.alloc))?;
@@ -251,7 +252,6 @@ impl<P: Peer> Flights<P> {
         rooms.rates = given;
         rooms.keep(numbers);
         rooms.filling.keep(rates);
-        self.notes.keep_rooms(rooms);
         Ok(())
     }
 
@@ -283,7 +283,7 @@ impl<P: Peer> Flights<P> {
         touched: &Component<P>,
         peers: &Peers<P>,
         pairs: &Pairs<P>,
-        rooms: &mut Rooms,
+        rooms: &mut Rooms<P>,
     ) -> Result<Option<usize>, Error>
         requires near { touched.now.whole ≡ false
             → AreNear P.cmp touched.now touched.now.near.items self.old.list.items }
@@ -309,7 +309,7 @@ impl<P: Peer> Flights<P> {
         numbers: &Numbers,
         peers: &Peers<P>,
         pairs: &Pairs<P>,
-        rooms: &mut Rooms,
+        rooms: &mut Rooms<P>,
     ) -> Result<Option<usize>, Error>
         requires places { numbers.now ≡ places_of (λ f. is_of P.cmp touched.now (flight_at 0 f)) 0 self.old.list.items }
         requires suited { list_all (suits P.cmp touched.now) (in_units self.old) ≡ true }
@@ -338,7 +338,7 @@ impl<P: Peer> Flights<P> {
         numbers: &Numbers,
         peers: &Peers<P>,
         pairs: &Pairs<P>,
-        rooms: &mut Rooms,
+        rooms: &mut Rooms<P>,
     ) -> Result<Option<usize>, Error>
         requires places { numbers.now ≡ places_of (λ f. is_of P.cmp touched.now (flight_at 0 f)) 0 self.old.list.items }
         requires suited { list_all (suits P.cmp touched.now) (in_units self.old) ≡ true }
@@ -492,7 +492,11 @@ impl<P: Peer> Flights<P> {
     }
 
     /// Those of the component that are rated anew have numbers, in room that is lent.
-    fn numbers_rated(&self, component: &Component<P>, rooms: &mut Rooms) -> Result<Numbers, Error>
+    fn numbers_rated(
+        &self,
+        component: &Component<P>,
+        rooms: &mut Rooms<P>,
+    ) -> Result<Numbers, Error>
         requires near { component.now.whole ≡ false
             → AreNear P.cmp component.now component.now.near.items self.now.list.items }
         requires suited { list_all (suits P.cmp component.now) (in_units self.now) ≡ true }
@@ -514,7 +518,7 @@ impl<P: Peer> Flights<P> {
         numbers: &Numbers,
         peers: &Peers<P>,
         pairs: &Pairs<P>,
-        rooms: &mut Rooms,
+        rooms: &mut Rooms<P>,
     ) -> Result<FairParts, Error>
         requires places { numbers.now ≡ places_of (λ f. is_of P.cmp component.now (flight_at 0 f)) 0 self.now.list.items }
         requires suited { list_all (suits P.cmp component.now) (in_units self.now) ≡ true }

@@ -36,6 +36,7 @@ same_ledger {P} {a} old new peers pairs waiting flights limited next_id finish s
   next_id = next_id i;
   finish = finish i;
   start = start i;
+  rooms = tt;
   stale = stale i;
   indexed =
       is_prop→PathP

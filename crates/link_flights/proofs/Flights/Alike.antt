@@ -22,8 +22,6 @@ same_flights one other alloc list scale at floor loose counted settled unsearche
   settled = settled i;
   unsearched = unsearched i;
   stood = stood i;
-  notes = tt;
-  space = tt;
   past = prop→path_p
       (λ j. list_all (λ f. not f.rated || nat_le f.since (at j)) (list j).items ≡ true) (hlevel Bool-set) one.past
       other.past i;

@@ -1,4 +1,4 @@
-use Rattle.std.proofs.Common.{◌≤◌, ℕ, slice_index, replicate, arith, rules, ◌≡◌}
+use Rattle.std.proofs.Common.{◌≡◌, slice_index, replicate, arith}
 use Rattle.std.proofs.lemmas.List.{get_or-replicate}
 use Rattle.link_console.proofs.note.Note.new.Goals as goal
 

@@ -3,8 +3,8 @@ use Rattle.link_flights.specs.Flights.Rated.{GivesBeside}
 use Rattle.link_flights.proofs.Flights.RatesGiven.{beside_given}
 use Rattle.link_flights.proofs.flight_list.Flights.rate_part.Goals as goal
 
-pub returns-in-Some-clause-given : goal.returns-in-Some-clause-given
-returns-in-Some-clause-given g c =
+pub returns-clause-given : goal.returns-clause-given
+returns-clause-given g c =
     let cmp = g.P.Ord.cmp in
     let peers = c.args.peers.now.entries in
     let pairs = c.args.pairs.now.entries in
@@ -27,11 +27,11 @@ returns-in-Some-clause-given g c =
       r.1,
     )
 
-pub returns-in-None-clause-given : goal.returns-in-None-clause-given
-returns-in-None-clause-given g c =
+pub returns-in_default-clause-given : goal.returns-in_default-clause-given
+returns-in_default-clause-given g c =
     let cmp = g.P.Ord.cmp in
     let caps = caps_of cmp c.args.peers.now.entries c.args.pairs.now.entries in
     let same =
-    subst (GivesBeside cmp caps c.in_ok-touched.touched _ c.rate_touched.new.self) c.in-None.is
+    subst (GivesBeside cmp caps c.in_ok-touched.touched _ c.rate_touched.new.self) c.in_default.is
     c.in_ok-found.ensures.gives in
     (ap (λ f. f.list) same, ap (λ f. f.scale) same, ap (λ f. f.at) same)
