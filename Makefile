@@ -1,9 +1,6 @@
 # `rt` is the command of the Rattle kit.
 script = examples/left_over.link
 seconds = 60
-# So many processes prove a library, or a test. Each reads its lemmas anew, so that more than two take more processor time, and
-# hardly less time (docs/DECISIONS.md).
-jobs = 2
 
 .PHONY: run try test examples pictures looks bindings dist install bench simgrid networks hostile hostile_tests names torture clean
 
@@ -18,27 +15,27 @@ try:
 
 bin/linkrun: FORCE
 	@mkdir -p bin
-	cd crates/linkrun && rt run --jobs $(jobs) < /dev/null > /dev/null
+	cd crates/linkrun && rt run < /dev/null > /dev/null
 	cp crates/linkrun/out/linkrun bin/linkrun
 
 bin/linkcheck: FORCE
 	@mkdir -p bin
-	cd crates/linkcheck && rt run --jobs $(jobs) < /dev/null > /dev/null
+	cd crates/linkcheck && rt run < /dev/null > /dev/null
 	cp crates/linkcheck/out/linkcheck bin/linkcheck
 
 bin/linkdraw: FORCE
 	@mkdir -p bin
-	cd crates/linkdraw && rt run --jobs $(jobs) < /dev/null > /dev/null
+	cd crates/linkdraw && rt run < /dev/null > /dev/null
 	cp crates/linkdraw/out/linkdraw bin/linkdraw
 
 bin/broadcast: FORCE
 	@mkdir -p bin
-	cd crates/broadcast && rt run --jobs $(jobs) -- 2 > /dev/null
+	cd crates/broadcast && rt run -- 2 > /dev/null
 	cp crates/broadcast/out/broadcast bin/broadcast
 
 bin/networks: FORCE
 	@mkdir -p bin
-	cd crates/networks && rt run --jobs $(jobs) > /dev/null
+	cd crates/networks && rt run > /dev/null
 	cp crates/networks/out/networks bin/networks
 
 # The gate: every proof from nothing, the edits that must fail, the tests and the program. What stood in out/ before, it
@@ -115,7 +112,7 @@ hostile: bin/refuse.so $(if $(over),,bin/linkrun hostile_tests)
 	python3 tests/hostile.py crates/linkrun/out/linkrun bin/refuse.so crates/p2p_simulated_hostile/out/p2p_simulated_hostile_tests
 
 hostile_tests:
-	cd crates/p2p_simulated_hostile && rt test --jobs $(jobs) > /dev/null
+	cd crates/p2p_simulated_hostile && rt test > /dev/null
 
 # Whether the documents name only what there is.
 names:
