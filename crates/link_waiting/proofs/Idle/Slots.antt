@@ -3,9 +3,8 @@ use Rattle.link_waiting.proofs.Common.{◌≡◌, ℕ, zero, suc, ◌+◌, ◌<�
 use Rattle.link_waiting.proofs.Common.{length, map, refl, Option, Some, None, is_some, zero-add, sym, ap, ◌∙◌, arith}
 use Rattle.link_waiting.proofs.Common.{slice_get, slice_set, subst, IfSome, is_none, slice_index_or, filter, find}
 use Rattle.link_waiting.proofs.Common.{option_or, eq-eqb, eqb-true, find-append, sum_by-cons, get_or_from_slice_get}
-use Rattle.link_waiting.proofs.Common.{by_bool, each_of_all, without_first, Slot, Waiter, waiter_of, live, has_pair}
-use Rattle.link_waiting.proofs.Common.{with_since, HaveRoom, IsFirstSlot, IfNone, sum_by-append, slice_get_within}
-use Rattle.link_waiting.proofs.Common.{each_find, pair_in}
+use Rattle.link_waiting.proofs.Common.{by_bool, each_of_all, without_first, Slot, waiter_of, live, has_pair}
+use Rattle.link_waiting.proofs.Common.{AreTold, IsFirstSlot, IfNone, sum_by-append, slice_get_within, each_find, pair_in}
 use Rattle.std.specs.Prelude.{option_map}
 use Rattle.std.specs.List.{count_by}
 use Rattle.std.proofs.lemmas.List.Elements.{filter_map-append}
@@ -65,30 +64,6 @@ module _ {P : Type 0} where
 
   pub live_append : (slots more : List (Option (Slot P))) → live (slots ++ more) ≡ live slots ++ live more
   live_append = filter_map-append (option_map waiter_of)
-
-  told_seam : (test : Waiter P → Bool) (moment : Option ℕ) (xs : List (Waiter P)) (x : Waiter P) (ys : List (Waiter P))
-      → find test xs ≡ None → test x ≡ true
-      → with_since test moment (xs ++ x ∷ ys) ≡ xs ++ record x { since = moment } ∷ ys
-  told_seam test moment [] x ys none is =
-      ap (λ b. cond b (record x { since = moment } ∷ ys) (x ∷ with_since test moment ys)) is
-  told_seam test moment (z ∷ xs) x ys none is = by (test z) none (λ e. told_seam test moment xs x ys e is)
-    where
-      by : (b : Bool) → cond b (Some z) (find test xs) ≡ None
-          → (find test xs ≡ None → with_since test moment (xs ++ x ∷ ys) ≡ xs ++ record x { since = moment } ∷ ys)
-          → cond b (record z { since = moment } ∷ (xs ++ x ∷ ys)) (z ∷ with_since test moment (xs ++ x ∷ ys))
-          ≡ z ∷ (xs ++ record x { since = moment } ∷ ys)
-      by true e ih = cc
-      by false e ih = ap (λ l. z ∷ l) (ih e)
-
-  pub told_missing : (test : Waiter P → Bool) (moment : Option ℕ) (xs : List (Waiter P)) → find test xs ≡ None
-      → with_since test moment xs ≡ xs
-  told_missing test moment [] none = refl
-  told_missing test moment (z ∷ xs) none = by (test z) none (told_missing test moment xs)
-    where
-      by : (b : Bool) → cond b (Some z) (find test xs) ≡ None → (find test xs ≡ None → with_since test moment xs ≡ xs)
-          → cond b (record z { since = moment } ∷ xs) (z ∷ with_since test moment xs) ≡ z ∷ xs
-      by true e ih = cc
-      by false e ih = ap (λ l. z ∷ l) (ih e)
 
   -- ---- the first slot of a pair
 
@@ -158,36 +133,18 @@ module _ {P : Type 0} where
       set_there one = ap (λ l. slice_set l at one) first.split
           ∙ set_seam first.before (Some first.slot) one first.after at first.is_at
 
-      -- the number of its pair is less than what all are less than
-      pub room_of : (room : ℕ) → HaveRoom room (live slots) → pair < room
-      room_of room h =
-          subst (λ n. n < room) (eqb-true first.slot.pair pair first.same)
-          (each_find (λ w. w.pair < room) (has_pair pair) (live slots) (waiter_of first.slot)
-          (each_of_all (λ w. w.pair < room) (live slots) h) found)
+      -- there is a place for the pair
+      pub room_of : (sinces : List (Option ℕ)) → AreTold sinces (live slots) → pair < length sinces
+      room_of sinces told =
+          subst (λ n. n < length sinces) (eqb-true first.slot.pair pair first.same)
+          (each_find (λ w. w.pair < length sinces) (has_pair pair) (live slots) (waiter_of first.slot)
+          (each_of_all (λ w. w.pair < length sinces) (live slots) told.room) found)
 
       -- it is empty
       pub live_taken : live (slice_set slots at None) ≡ without_first (has_pair pair) (live slots)
       live_taken = ap live (set_there None) ∙ live_append first.before (None ∷ first.after)
           ∙ sym (ap (without_first (has_pair pair)) live_split
           ∙ without_seam (has_pair pair) (live first.before) (waiter_of first.slot) (live first.after) first.others first.same)
-
-      -- another moment is told of it
-      pub live_told : (moment : Option ℕ) (slot : Slot P)
-          → waiter_of slot ≡ record (waiter_of first.slot) { since = moment }
-          → live (slice_set slots at (Some slot)) ≡ with_since (has_pair pair) moment (live slots)
-      live_told moment slot e = ap live (set_there (Some slot)) ∙ live_append first.before (Some slot ∷ first.after)
-          ∙ ap (λ w. live first.before ++ w ∷ live first.after) e
-          ∙ sym (ap (with_since (has_pair pair) moment) live_split
-          ∙ told_seam (has_pair pair) moment (live first.before) (waiter_of first.slot) (live first.after) first.others
-          first.same)
-
-      -- the same moment is told of it
-      pub told_still : (moment : Option ℕ) → first.slot.since ≡ moment → live slots ≡ with_since (has_pair pair) moment (live slots)
-      told_still moment e = live_split
-          ∙ ap (λ since. live first.before ++ record (waiter_of first.slot) { since = since } ∷ live first.after) e
-          ∙ sym (ap (with_since (has_pair pair) moment) live_split
-          ∙ told_seam (has_pair pair) moment (live first.before) (waiter_of first.slot) (live first.after) first.others
-          first.same)
 
   -- ---- gaps
 
@@ -224,11 +181,6 @@ module _ {P : Type 0} where
     pub gaps_taken : count_by is_none (slice_set slots at None) ≡ count_by is_none slots + 1
     gaps_taken =
         let set = sum_by-set gap slots at None None low in
-        omega (arith, set, was)
-
-    pub gaps_told : (new : Slot P) → count_by is_none (slice_set slots at (Some new)) ≡ count_by is_none slots
-    gaps_told new =
-        let set = sum_by-set gap slots at (Some new) None low in
         omega (arith, set, was)
 
   -- where no slot is empty
