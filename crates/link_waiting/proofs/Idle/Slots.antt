@@ -5,15 +5,14 @@ use Rattle.link_waiting.proofs.Common.{slice_get, slice_set, subst, IfSome, is_n
 use Rattle.link_waiting.proofs.Common.{option_or, eq-eqb, eqb-true, find-append, sum_by-cons, get_or_from_slice_get}
 use Rattle.link_waiting.proofs.Common.{by_bool, each_of_all, without_first, Slot, waiter_of, live, has_pair}
 use Rattle.link_waiting.proofs.Common.{AreTold, IsFirstSlot, IfNone, sum_by-append, slice_get_within, each_find, pair_in}
+use Rattle.link_waiting.proofs.Common.{same_Some}
 use Rattle.std.specs.Prelude.{option_map}
 use Rattle.std.specs.List.{count_by}
+use Rattle.std.proofs.lemmas.List.{set_at}
 use Rattle.std.proofs.lemmas.List.Elements.{filter_map-append}
 use Rattle.std.proofs.Math.ListN.{get_or-map}
 use Rattle.std.proofs.lemmas.List.Sums.{sum_by-set}
 use Rattle.chains.specs.Places.{IsFirst}
-
-pub some_same : (a b : ℕ) → Some a ≡ Some b → a ≡ b
-some_same a b e = cc
 
 -- ---- lists
 
@@ -44,13 +43,6 @@ module _ {X : Type 0} (test : X → Bool) where
       by true e ih = cc
       by false e ih = ap (λ l. z ∷ l) (ih e)
 
-set_seam : {X : Type 0} (xs : List X) (x y : X) (ys : List X) (at : ℕ) → at ≡ length xs
-    → slice_set (xs ++ x ∷ ys) at y ≡ xs ++ y ∷ ys
-set_seam [] x y ys zero e = refl
-set_seam [] x y ys (suc at) e = absurd (omega (arith, e))
-set_seam (z ∷ xs) x y ys zero e = absurd (omega (arith, e))
-set_seam (z ∷ xs) x y ys (suc at) e = ap (λ l. z ∷ l) (set_seam xs x y ys at (omega (arith, e)))
-
 get_seam : {X : Type 0} (xs : List X) (x : X) (ys : List X) (at : ℕ) → at ≡ length xs
     → slice_get (xs ++ x ∷ ys) at ≡ Some x
 get_seam [] x ys zero e = refl
@@ -69,7 +61,7 @@ module _ {P : Type 0} where
 
   module _ (pair : ℕ) where
     passes : (slot : Slot P) → pair_in (Some slot) ≡ Some pair → has_pair pair (waiter_of slot) ≡ true
-    passes slot e = eq-eqb slot.pair pair (some_same slot.pair pair e)
+    passes slot e = eq-eqb slot.pair pair (same_Some slot.pair pair e)
 
     fails : (slot : Slot P) → (pair_in (Some slot) ≡ Some pair → ⊥) → has_pair pair (waiter_of slot) ≡ false
     fails slot never = by_bool (has_pair pair (waiter_of slot))
@@ -131,7 +123,7 @@ module _ {P : Type 0} where
 
       set_there : (one : Option (Slot P)) → slice_set slots at one ≡ first.before ++ one ∷ first.after
       set_there one = ap (λ l. slice_set l at one) first.split
-          ∙ set_seam first.before (Some first.slot) one first.after at first.is_at
+          ∙ set_at first.before (Some first.slot) first.after one at (sym first.is_at)
 
       -- there is a place for the pair
       pub room_of : (sinces : List (Option ℕ)) → AreTold sinces (live slots) → pair < length sinces

@@ -1,5 +1,5 @@
 -- What is told of pairs, as callers see it.
-use Rattle.link_waiting.proofs.Common.{◌≡◌, ℕ, true, cond, ◌&&◌, List, map, Option, Some, None, refl, sym}
+use Rattle.link_waiting.proofs.Common.{◌≡◌, ℕ, Bool, true, cond, ◌&&◌, List, map, Option, Some, None, refl, sym}
 use Rattle.link_waiting.proofs.Common.{ap, ◌∙◌, subst, find, option_and_then, option_map, Ordering, IsTotalOrder}
 use Rattle.link_waiting.proofs.Common.{eqb-true, by_bool, find_passes, same_peer, with_link, pair_like, pair_sym}
 use Rattle.link_waiting.proofs.Common.{number_of_pair, Waiter, has_pair, has_number, is_of, AreNumbered, AreTold}
@@ -53,7 +53,7 @@ module _ {P : Type 0} (cmp : P → P → Ordering) (sinces : List (Option ℕ)) 
       pub since_missing : (o r : P) → AreAlike (is_of cmp o r) (has_number None) ws
           → since_in ≡ with_link cmp since_in o r None
       since_missing o r alike = fun_ext (λ p. fun_ext (λ q. by_bool (same_peer cmp o p && same_peer cmp r q)
-          (λ e. since_alike p q None (subst (λ test. AreAlike test (has_number None) ws) (same_test p q e) alike)
+          (λ e. since_alike p q None (subst (λ (test : Waiter P → Bool). AreAlike test (has_number None) ws) (same_test p q e) alike)
           ∙ sym (ap (λ b. cond b None (since_in p q)) e))
           (λ e. sym (ap (λ b. cond b None (since_in p q)) e))))
         where
@@ -69,7 +69,7 @@ module _ {P : Type 0} (cmp : P → P → Ordering) (order : IsTotalOrder cmp) (p
   pub since_same : ((at : ℕ) → moment_at new at ≡ moment_at old at) → since_in cmp new more ≡ since_in cmp old ws
   since_same same = fun_ext (λ p. fun_ext (λ q.
       since_numbered cmp new more told order pairs all_numbered p q
-      ∙ ap (λ moments. option_and_then moments (number_of_pair cmp pairs p q)) (fun_ext same)
+      ∙ ap (λ (moments : ℕ → Option ℕ). option_and_then moments (number_of_pair cmp pairs p q)) (fun_ext same)
       ∙ sym (since_numbered cmp old ws was order pairs numbered p q)))
 
   -- where another moment is told of a pair

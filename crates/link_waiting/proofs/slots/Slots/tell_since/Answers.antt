@@ -1,11 +1,9 @@
 use Rattle.link_waiting.proofs.Common.{◌≡◌, Some, None, refl, sym, ap, ◌∙◌, option_map, first_moment, Waiter, Slot}
 use Rattle.link_pairs.specs.declared.message.Message.{Message}
+use Rattle.link_waiting.proofs.Common.{same_Some}
 use Rattle.link_waiting.proofs.Idle.Slots.{found, held_there}
 use Rattle.link_waiting.proofs.Idle.Stands.{stands_told, pair_low, told_already}
 use Rattle.link_waiting.proofs.slots.Slots.tell_since.Goals as goal
-
-same : {X : Type 0} (a b : X) → Some a ≡ Some b → a ≡ b
-same a b e = cc
 
 pub returns-in_default-clause-told : goal.returns-in_default-clause-told
 returns-in_default-clause-told g c =
@@ -21,7 +19,7 @@ returns-clause-answer g c =
     let items = c.args.self.now.slots.items in
     let first = c.in-Some.ensures.some in
     let slot : c.slot.result.now ≡ first.slot =
-    same _ _ (sym c.slot.ensures ∙ held_there c.args.pair items c.in-Some.at first) in
+    same_Some _ _ (sym c.slot.ensures ∙ held_there c.args.pair items c.in-Some.at first) in
     ap Some c.ready_moment.ensures
     ∙ ap (λ (m : Message g.row.P.Denot). Some (first_moment c.args.last_arrival m.latency)) c.deref.ensures
     ∙ ap (λ (s : Slot g.row.P.Denot). Some (first_moment c.args.last_arrival s.message.value.latency)) slot
@@ -30,5 +28,5 @@ returns-clause-answer g c =
 
 pub returns-clause-stands : goal.returns-clause-stands
 returns-clause-stands g c =
-    stands_told c.args.self.now _ c.requires.stands c.args.pair c.in-Some.at c.in-Some.ensures.some c.since refl refl
+    stands_told c.args.self.now _ c.requires.stands c.args.pair c.in-Some.at c.in-Some.ensures.some (Some c.ready_moment.result) refl refl
     c.in_ok-tell.ensures.told c.tell.ensures.long c.in_ok-tell.ensures.moments refl
