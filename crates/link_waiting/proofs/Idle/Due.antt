@@ -115,8 +115,7 @@ module _ {P : Type 0} (now : ℕ) (sinces : List (Option ℕ)) (ws : List (Waite
           let here = first ∙ ap (λ b. cond b (cond (is_due room) 1 0) 0) is ∙ ap (λ n. cond (is_due n) 1 0) same in
           (λ low. omega (arith, all, here, rest.1 (omega (arith, same))), λ high. absurd (omega (arith, high, same))))
           (λ not. let apart : room ≡ pair → ⊥ = λ same. (let no : true ≡ false = sym (eq-eqb room pair same) ∙ not in cc) in
-          let here = first ∙ ap (λ b. cond b (cond (is_due room) 1 0) 0) not in
-          (
+          let here = first ∙ ap (λ b. cond b (cond (is_due room) 1 0) 0) not in (
             λ low. omega (arith, all, here, rest.0 (omega (arith, low, apart))),
             λ high. omega (arith, all, here, rest.1 (omega (arith, high))),
           ))
