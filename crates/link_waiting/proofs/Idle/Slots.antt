@@ -26,22 +26,11 @@ module _ {X : Type 0} (test : X → Bool) where
   without_seam : (xs : List X) (x : X) (ys : List X) → find test xs ≡ None → test x ≡ true
       → without_first test (xs ++ x ∷ ys) ≡ xs ++ ys
   without_seam [] x ys none is = ap (λ b. cond b ys (x ∷ without_first test ys)) is
-  without_seam (z ∷ xs) x ys none is = by (test z) none (λ e. without_seam xs x ys e is)
-    where
-      by : (b : Bool) → cond b (Some z) (find test xs) ≡ None
-          → (find test xs ≡ None → without_first test (xs ++ x ∷ ys) ≡ xs ++ ys)
-          → cond b (xs ++ x ∷ ys) (z ∷ without_first test (xs ++ x ∷ ys)) ≡ z ∷ (xs ++ ys)
-      by true e ih = cc
-      by false e ih = ap (λ l. z ∷ l) (ih e)
+  without_seam (z ∷ xs) x ys none is = grind (arith, (without_seam xs x ys))
 
   pub without_missing : (xs : List X) → find test xs ≡ None → without_first test xs ≡ xs
   without_missing [] none = refl
-  without_missing (z ∷ xs) none = by (test z) none (without_missing xs)
-    where
-      by : (b : Bool) → cond b (Some z) (find test xs) ≡ None → (find test xs ≡ None → without_first test xs ≡ xs)
-          → cond b xs (z ∷ without_first test xs) ≡ z ∷ xs
-      by true e ih = cc
-      by false e ih = ap (λ l. z ∷ l) (ih e)
+  without_missing (z ∷ xs) none = grind (arith, (without_missing xs))
 
 get_seam : {X : Type 0} (xs : List X) (x : X) (ys : List X) (at : ℕ) → at ≡ length xs
     → slice_get (xs ++ x ∷ ys) at ≡ Some x

@@ -8,6 +8,7 @@ use Rattle.link_waiting.proofs.Common.{All-weaker, All-push, Slots, pair_in, Sta
 use Rattle.std.proofs.Common.{All}
 use Rattle.std.specs.List.{count_by}
 use Rattle.std.proofs.lemmas.Grind.{get_or-set_at}
+use Rattle.std.proofs.lemmas.Bool.Decides.{nat_tests}
 use Rattle.std.proofs.lemmas.List.{map-set, map-append, get_or-set_other}
 use Rattle.link_waiting.proofs.Idle.Slots.{there, found, live_append, live_taken, live_whole, gaps_added, gaps_taken}
 use Rattle.link_waiting.proofs.Idle.Slots.{gaps_whole, pairs_whole, room_of}
@@ -31,20 +32,11 @@ told_already sinces pair moment told at = by_bool (at == pair)
     (λ not. sym (ap (λ b. cond b moment (moment_at sinces at)) not))
 
 module _ {P : Type 0} where
-  -- no message is of two pairs
-  apart : (pair other : ℕ) → (other == pair) ≡ false → (w : Waiter P) → has_pair pair w ≡ true → has_pair other w ≡ false
-  apart pair other not w is = by_bool (has_pair other w)
-      (λ h. let no : true ≡ false = sym (eq-eqb other pair (sym (eqb-true w.pair other h) ∙ eqb-true w.pair pair is)) ∙ not in cc)
-      (λ h. h)
-
+  -- the first one of another pair stays
   find_past : (pair other : ℕ) → (other == pair) ≡ false → (ws : List (Waiter P))
       → find (has_pair other) (without_first (has_pair pair) ws) ≡ find (has_pair other) ws
   find_past pair other not [] = refl
-  find_past pair other not (w ∷ ws) = by_bool (has_pair pair w)
-      (λ is. ap (λ b. find (has_pair other) (cond b ws (w ∷ without_first (has_pair pair) ws))) is
-      ∙ sym (ap (λ b. cond b (Some w) (find (has_pair other) ws)) (apart pair other not w is)))
-      (λ no. ap (λ b. find (has_pair other) (cond b ws (w ∷ without_first (has_pair pair) ws))) no
-      ∙ ap (λ o. cond (has_pair other w) (Some w) o) (find_past pair other not ws))
+  find_past pair other not (w ∷ ws) = grind (arith, nat_tests, (find_past pair other not ws))
 
   module _ (old new : List (Option ℕ)) (ws : List (Waiter P)) (told : AreTold old ws) where
     told_added : (w : Waiter P) → ((at : ℕ) → moment_at new at ≡ moment_at old at) → length old ≤ length new
