@@ -17,19 +17,12 @@ use Rattle.link_waiting.proofs.Idle.Slots.{gaps_whole, pairs_whole, room_of}
 
 pub told_at : (sinces : List (Option ℕ)) (pair : ℕ) (moment : Option ℕ) → pair < length sinces
     → IsToldAnew pair moment sinces (slice_set sinces pair moment)
-told_at sinces pair moment low at = by_bool (at == pair)
-    (λ is. get_or-set_at sinces pair at moment None (eqb-true at pair is) low
-    ∙ sym (ap (λ b. cond b moment (moment_at sinces at)) is))
-    (λ not. get_or-set_other sinces pair at moment None
-    (λ same. let no : true ≡ false = sym (eq-eqb at pair same) ∙ not in cc)
-    ∙ sym (ap (λ b. cond b moment (moment_at sinces at)) not))
+told_at sinces pair moment low at = grind (arith, nat_tests, get_or-set_at, get_or-set_other)
 
 -- that is told already
 pub told_already : (sinces : List (Option ℕ)) (pair : ℕ) (moment : Option ℕ) → moment_at sinces pair ≡ moment
     → IsToldAnew pair moment sinces sinces
-told_already sinces pair moment told at = by_bool (at == pair)
-    (λ is. ap (moment_at sinces) (eqb-true at pair is) ∙ told ∙ sym (ap (λ b. cond b moment (moment_at sinces at)) is))
-    (λ not. sym (ap (λ b. cond b moment (moment_at sinces at)) not))
+told_already sinces pair moment told at = grind (arith, nat_tests)
 
 module _ {P : Type 0} where
   -- the first one of another pair stays
@@ -56,10 +49,7 @@ module _ {P : Type 0} where
         → (find (has_pair pair) ws ≡ None → moment ≡ None) → AreTold new ws
     told_anew pair moment anew long some = record {
       room = subst (λ n. All (λ (w : Waiter P). w.pair < n) ws) (sym long) told.room;
-      only = λ other none. anew other ∙ by_bool (other == pair)
-          (λ is. ap (λ b. cond b moment (moment_at old other)) is
-          ∙ some (ap (λ n. find (has_pair n) ws) (sym (eqb-true other pair is)) ∙ none))
-          (λ not. ap (λ b. cond b moment (moment_at old other)) not ∙ told.only other none);
+      only = λ other none. grind (arith, nat_tests, anew other, told.only other, some);
     }
 
   told_taken : (sinces : List (Option ℕ)) (ws : List (Waiter P)) (pair : ℕ) → AreTold sinces ws → moment_at sinces pair ≡ None
@@ -67,9 +57,7 @@ module _ {P : Type 0} where
   told_taken sinces ws pair told none = record {
     room = all_of_each (λ w. w.pair < length sinces) _
         (each_without (λ w. w.pair < length sinces) (has_pair pair) ws (each_of_all (λ w. w.pair < length sinces) ws told.room));
-    only = λ other gone. by_bool (other == pair)
-        (λ is. ap (moment_at sinces) (eqb-true other pair is) ∙ none)
-        (λ not. told.only other (sym (find_past pair other not ws) ∙ gone));
+    only = λ other gone. grind (arith, nat_tests, told.only other, find_past pair other);
   }
 
 -- ---- one change
