@@ -8,10 +8,10 @@ use Rattle.link_waiting.proofs.Common.{AreTold, IsFirstSlot, IfNone, sum_by-appe
 use Rattle.link_waiting.proofs.Common.{same_Some}
 use Rattle.std.specs.Prelude.{option_map}
 use Rattle.std.specs.List.{count_by}
-use Rattle.std.proofs.lemmas.List.{set_at}
+use Rattle.std.proofs.lemmas.List.{set_at, get_or_at}
 use Rattle.std.proofs.lemmas.List.Elements.{filter_map-append}
 use Rattle.std.proofs.Math.ListN.{get_or-map}
-use Rattle.std.proofs.lemmas.List.Sums.{sum_by-set}
+use Rattle.std.proofs.lemmas.Bool.Decides.{nat_tests}
 use Rattle.chains.specs.Places.{IsFirst}
 
 -- ---- lists
@@ -32,13 +32,6 @@ module _ {X : Type 0} (test : X → Bool) where
   without_missing [] none = refl
   without_missing (z ∷ xs) none = grind (arith, (without_missing xs))
 
-get_seam : {X : Type 0} (xs : List X) (x : X) (ys : List X) (at : ℕ) → at ≡ length xs
-    → slice_get (xs ++ x ∷ ys) at ≡ Some x
-get_seam [] x ys zero e = refl
-get_seam [] x ys (suc at) e = absurd (omega (arith, e))
-get_seam (z ∷ xs) x ys zero e = absurd (omega (arith, e))
-get_seam (z ∷ xs) x ys (suc at) e = get_seam xs x ys at (omega (arith, e))
-
 module _ {P : Type 0} where
   abbrev held : List (Option (Slot P)) → ℕ → Option (Slot P)
   held slots at = slice_index_or slots at None
@@ -46,23 +39,18 @@ module _ {P : Type 0} where
   pub live_append : (slots more : List (Option (Slot P))) → live (slots ++ more) ≡ live slots ++ live more
   live_append = filter_map-append (option_map waiter_of)
 
+  abbrev gap : Option (Slot P) → ℕ
+  gap one = cond (is_none one) 1 0
+
   -- ---- the first slot of a pair
 
   module _ (pair : ℕ) where
-    passes : (slot : Slot P) → pair_in (Some slot) ≡ Some pair → has_pair pair (waiter_of slot) ≡ true
-    passes slot e = eq-eqb slot.pair pair (same_Some slot.pair pair e)
-
-    fails : (slot : Slot P) → (pair_in (Some slot) ≡ Some pair → ⊥) → has_pair pair (waiter_of slot) ≡ false
-    fails slot never = by_bool (has_pair pair (waiter_of slot))
-        (λ is. absurd (never (ap Some (eqb-true slot.pair pair is)))) (λ other. other)
-
     none_stands : (slots : List (Option (Slot P))) → ((at : ℕ) → pair_in (held slots at) ≡ Some pair → ⊥)
         → find (has_pair pair) (live slots) ≡ None
     none_stands [] never = refl
     none_stands (None ∷ slots) never = none_stands slots (λ at. never (suc at))
     none_stands (Some slot ∷ slots) never =
-        ap (λ b. cond b (Some (waiter_of slot)) (find (has_pair pair) (live slots))) (fails slot (never zero))
-        ∙ none_stands slots (λ at. never (suc at))
+        grind (arith, nat_tests, never zero, (none_stands slots (λ at. never (suc at))))
 
     first_stands : (slots : List (Option (Slot P))) (at : ℕ)
         → ((other : ℕ) → other < at → pair_in (held slots other) ≡ Some pair → ⊥)
@@ -76,7 +64,7 @@ module _ {P : Type 0} where
       split = refl;
       is_at = refl;
       others = refl;
-      same = passes slot there;
+      same = eq-eqb slot.pair pair (same_Some slot.pair pair there);
     }
     first_stands (one ∷ slots) (suc at) never there =
         let rest = first_stands slots at (λ other low. never (suc other) (omega (arith, low))) there in
@@ -94,14 +82,12 @@ module _ {P : Type 0} where
             → find (has_pair pair) (live before) ≡ None → find (has_pair pair) (live (one ∷ before)) ≡ None
         before_it None before never others = others
         before_it (Some slot) before never others =
-            ap (λ b. cond b (Some (waiter_of slot)) (find (has_pair pair) (live before))) (fails slot never) ∙ others
+            grind (arith, nat_tests, never, others)
 
     module _ (slots : List (Option (Slot P))) (at : ℕ) (first : IsFirstSlot pair slots at) where
-      pub there : slice_get slots at ≡ Some (Some first.slot)
-      there = ap (λ l. slice_get l at) first.split ∙ get_seam first.before (Some first.slot) first.after at first.is_at
-
       pub held_there : slice_index_or slots at None ≡ Some first.slot
-      held_there = get_or_from_slice_get slots at (Some first.slot) None there
+      held_there = ap (λ l. slice_index_or l at None) first.split
+          ∙ get_or_at first.before (Some first.slot) first.after None at (sym first.is_at)
 
       live_split : live slots ≡ live first.before ++ waiter_of first.slot ∷ live first.after
       live_split = ap live first.split ∙ live_append first.before (Some first.slot ∷ first.after)
@@ -127,10 +113,18 @@ module _ {P : Type 0} where
           ∙ sym (ap (without_first (has_pair pair)) live_split
           ∙ without_seam (has_pair pair) (live first.before) (waiter_of first.slot) (live first.after) first.others first.same)
 
-  -- ---- gaps
+      pub gaps_taken : count_by is_none (slice_set slots at None) ≡ count_by is_none slots + 1
+      gaps_taken = omega (
+        arith,
+        ap (count_by is_none) (set_there None),
+        ap (count_by is_none) first.split,
+        sum_by-append gap first.before (None ∷ first.after),
+        sum_by-append gap first.before (Some first.slot ∷ first.after),
+        sum_by-cons gap None first.after,
+        sum_by-cons gap (Some first.slot) first.after,
+      )
 
-  abbrev gap : Option (Slot P) → ℕ
-  gap one = cond (is_none one) 1 0
+  -- ---- gaps
 
   pub gaps_and_live : (slots : List (Option (Slot P))) → count_by is_none slots + length (live slots) ≡ length slots
   gaps_and_live [] = refl
@@ -151,18 +145,6 @@ module _ {P : Type 0} where
       let more : count_by is_none (slots ++ Some slot ∷ []) ≡ count_by is_none slots + 0
       = sum_by-append gap slots (Some slot ∷ []) in
       omega (arith, more)
-
-  module _ (slots : List (Option (Slot P))) (at : ℕ) (slot : Slot P) (e : slice_get slots at ≡ Some (Some slot)) where
-    low : at < length slots
-    low = slice_get_within slots at (Some slot) e
-
-    was : gap (slice_index_or slots at None) ≡ 0
-    was = ap gap (get_or_from_slice_get slots at (Some slot) None e)
-
-    pub gaps_taken : count_by is_none (slice_set slots at None) ≡ count_by is_none slots + 1
-    gaps_taken =
-        let set = sum_by-set gap slots at None None low in
-        omega (arith, set, was)
 
   -- where no slot is empty
   pub live_whole : (slots : List (Option (Slot P))) → live (filter is_some slots) ≡ live slots

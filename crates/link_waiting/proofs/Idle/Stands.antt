@@ -10,7 +10,7 @@ use Rattle.std.specs.List.{count_by}
 use Rattle.std.proofs.lemmas.Grind.{get_or-set_at}
 use Rattle.std.proofs.lemmas.Bool.Decides.{nat_tests}
 use Rattle.std.proofs.lemmas.List.{map-set, map-append, get_or-set_other}
-use Rattle.link_waiting.proofs.Idle.Slots.{there, found, live_append, live_taken, live_whole, gaps_added, gaps_taken}
+use Rattle.link_waiting.proofs.Idle.Slots.{found, live_append, live_taken, live_whole, gaps_added, gaps_taken}
 use Rattle.link_waiting.proofs.Idle.Slots.{gaps_whole, pairs_whole, room_of}
 
 -- ---- what is told
@@ -101,7 +101,7 @@ module _ {P : Type 0} (slots new : Slots P) (stands : Stands slots) where
           (λ none. refl))
           (anew pair ∙ ap (λ b. cond b None (moment_at slots.sinces.items pair)) (eq-eqb pair pair refl)));
       moments = moments;
-      gaps = gaps ∙ ap (λ n. n + 1) stands.gaps ∙ sym (gaps_taken items at first.slot (there pair items at first))
+      gaps = gaps ∙ ap (λ n. n + 1) stands.gaps ∙ sym (gaps_taken pair items at first)
           ∙ ap (count_by is_none) (sym is);
     }
 
