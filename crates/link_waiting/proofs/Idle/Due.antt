@@ -134,10 +134,4 @@ module _ {P : Type 0} (now : ℕ) (sinces : List (Option ℕ)) (ws : List (Waite
 pub any_many : {X : Type 0} (test : X → Bool) (xs : List X) (b : Bool) → count_by test xs ≡ cond b 1 0 → list_any test xs ≡ b
 any_many test [] true is = absurd (omega (arith, is))
 any_many test [] false is = refl
-any_many test (x ∷ xs) b is = by (test x) b (sym (sum_by-cons (λ x. cond (test x) 1 0) x xs) ∙ is) (any_many test xs b)
-  where
-    by : (t b : Bool) → cond t 1 0 + count_by test xs ≡ cond b 1 0 → (count_by test xs ≡ cond b 1 0 → list_any test xs ≡ b)
-        → (t || list_any test xs) ≡ b
-    by true true e ih = refl
-    by true false e ih = absurd (omega (arith, e))
-    by false b e ih = ih (sym (zero-add (count_by test xs)) ∙ e)
+any_many test (x ∷ xs) b is = grind (arith, is, sum_by-cons (λ x. cond (test x) 1 0) x xs, (any_many test xs b))

@@ -26,28 +26,16 @@ or_assoc false b c = refl
 module _ {X : Type 0} (test : X → Bool) where
   find_filter : (xs : List X) → find test xs ≡ slice_get (filter test xs) 0
   find_filter [] = refl
-  find_filter (x ∷ xs) = by (test x) (find_filter xs)
-    where
-      by : (b : Bool) → find test xs ≡ slice_get (filter test xs) 0
-          → cond b (Some x) (find test xs) ≡ slice_get (cond b (x ∷ filter test xs) (filter test xs)) 0
-      by true ih = refl
-      by false ih = ih
+  find_filter (x ∷ xs) = grind (arith, (find_filter xs))
 
   without_none : (xs : List X) → list_any test xs ≡ false → without_first test xs ≡ xs
   without_none [] none = refl
-  without_none (x ∷ xs) none =
-      let parts : (test x ≡ false) × (list_any test xs ≡ false) = or_parts (test x) (list_any test xs) none in
-      ap (λ b. cond b xs (x ∷ without_first test xs)) parts.0 ∙ ap (λ l. x ∷ l) (without_none xs parts.1)
+  without_none (x ∷ xs) none = grind (arith, or_parts, (without_none xs))
 
 pub find_map : {X Y : Type 0} (test : Y → Bool) (f : X → Y) (xs : List X)
     → find test (map f xs) ≡ option_map f (find (λ x. test (f x)) xs)
 find_map test f [] = refl
-find_map {X} {Y} test f (x ∷ xs) = by (test (f x)) (find_map test f xs)
-  where
-    by : (b : Bool) → find test (map f xs) ≡ option_map f (find (λ x. test (f x)) xs)
-        → cond b (Some (f x)) (find test (map f xs)) ≡ option_map f (cond b (Some x) (find (λ x. test (f x)) xs))
-    by true ih = refl
-    by false ih = ih
+find_map test f (x ∷ xs) = grind (arith, (find_map test f xs))
 
 module _ {P : Type 0} (cmp : P → P → Ordering) (order : IsTotalOrder cmp) where
   -- those that waited before, and then these
@@ -107,12 +95,7 @@ module _ {P : Type 0} (cmp : P → P → Ordering) (order : IsTotalOrder cmp) wh
 
     any_joined : (m : Message P) (ms : List (Message P)) → list_any of (queued cmp m ms) ≡ (list_any of ms || of m)
     any_joined m [] = or_swap (of m) false
-    any_joined m (n ∷ ns) = by (pair_before cmp m n) (any_joined m ns)
-      where
-        by : (b : Bool) → list_any of (queued cmp m ns) ≡ (list_any of ns || of m)
-            → list_any of (cond b (m ∷ n ∷ ns) (n ∷ queued cmp m ns)) ≡ ((of n || list_any of ns) || of m)
-        by true ih = or_swap (of m) (of n || list_any of ns)
-        by false ih = ap (λ b. of n || b) ih ∙ sym (or_assoc (of n) (list_any of ns) (of m))
+    any_joined m (n ∷ ns) = grind (arith, or_swap, or_assoc, (any_joined m ns))
 
     -- it stays behind the others
     without_stays : (m : Message P) (ms : List (Message P)) → AreInPairOrder cmp ms → list_any of ms ≡ true
@@ -194,12 +177,7 @@ module _ {P : Type 0} (cmp : P → P → Ordering) (order : IsTotalOrder cmp) wh
 module _ {P : Type 0} (cmp : P → P → Ordering) where
   one_queued : (m : Message P) (ms : List (Message P)) → length (queued cmp m ms) ≡ suc (length ms)
   one_queued m [] = refl
-  one_queued m (n ∷ ns) = by (pair_before cmp m n) (one_queued m ns)
-    where
-      by : (b : Bool) → length (queued cmp m ns) ≡ suc (length ns)
-          → length (cond b (m ∷ n ∷ ns) (n ∷ queued cmp m ns)) ≡ suc (suc (length ns))
-      by true h = refl
-      by false h = ap suc h
+  one_queued m (n ∷ ns) = grind (arith, (one_queued m ns))
 
   all_queued : (ms : List (Message P)) (ws : List (Waiter P))
       → length (fold (λ messages waiter. queued cmp waiter.message messages) ms ws) ≡ length ms + length ws
