@@ -8,6 +8,7 @@ use Rattle.link_waiting.proofs.Common.{count_by, moment_at}
 use Rattle.std.proofs.Common.{inl, inr, add-one}
 use Rattle.std.specs.Prelude.{◌||◌}
 use Rattle.std.proofs.lemmas.Bool.{cases_lt}
+use Rattle.std.proofs.lemmas.Bool.Decides.{nat_tests}
 use Rattle.std.proofs.lemmas.List.{get_or_past}
 use Rattle.least_moment.specs.Moments.{HasCome, NoneDue, IsNextDue}
 use Rattle.link_waiting.specs.Idle.Waits.{those}
@@ -85,8 +86,7 @@ module _ {P : Type 0} (now : ℕ) (sinces : List (Option ℕ)) (ws : List (Waite
           by : (b passes : Bool) (found : Option (Waiter P)) → (b ≡ true → found ≡ None → ⊥)
               → ((w : Waiter P) → found ≡ Some w → test w ≡ passes)
               → count_by test (cond b (those found) []) ≡ cond passes (cond b 1 0) 0
-          by false true found some same = refl
-          by false false found some same = refl
+          by false passes found some same = grind (arith, nat_tests)
           by true passes None some same = absurd (some refl refl)
           by true passes (Some w) some same =
               sum_by-cons (λ w. cond (test w) 1 0) w [] ∙ ap (λ b. cond b 1 0 + 0) (same w refl) ∙ omega arith
@@ -110,15 +110,10 @@ module _ {P : Type 0} (now : ℕ) (sinces : List (Option ℕ)) (ws : List (Waite
           let first = count_first room (room == pair)
           (λ w e. each_find (λ w. test w ≡ has_pair pair w) (has_pair room) ws w alike e
           ∙ ap (λ n. n == pair) (eqb-true w.pair room (find_passes (has_pair room) w ws e))) in
-          by_bool (room == pair)
-          (λ is. let same : room ≡ pair = eqb-true room pair is in
-          let here = first ∙ ap (λ b. cond b (cond (is_due room) 1 0) 0) is ∙ ap (λ n. cond (is_due n) 1 0) same in
-          (λ low. omega (arith, all, here, rest.1 (omega (arith, same))), λ high. absurd (omega (arith, high, same))))
-          (λ not. let apart : room ≡ pair → ⊥ = λ same. (let no : true ≡ false = sym (eq-eqb room pair same) ∙ not in cc) in
-          let here = first ∙ ap (λ b. cond b (cond (is_due room) 1 0) 0) not in (
-            λ low. omega (arith, all, here, rest.0 (omega (arith, low, apart))),
-            λ high. omega (arith, all, here, rest.1 (omega (arith, high))),
-          ))
+          (
+            λ low. grind (arith, nat_tests, all, first, rest.0, rest.1),
+            λ high. grind (arith, nat_tests, all, first, rest.1),
+          )
 
       -- one of a pair is due where it is told of the pair
       pub count_due : (number : Option ℕ) → Each (λ w. test w ≡ has_number number w) ws

@@ -22,10 +22,6 @@ module _ {P : Type 0} (p q : Waiter P → Bool) where
   without_alike (w ∷ ws) h =
       ap (λ b. cond b ws (w ∷ without_first p ws)) h.0 ∙ ap (λ l. cond (q w) ws (w ∷ l)) (without_alike ws h.1)
 
-  pub any_alike : (ws : List (Waiter P)) → AreAlike ws → list_any p ws ≡ list_any q ws
-  any_alike [] h = refl
-  any_alike (w ∷ ws) h = ap (λ b. b || list_any p ws) h.0 ∙ ap (λ b. q w || b) (any_alike ws h.1)
-
 module _ {P : Type 0} where
   pub find_false : (ws : List (Waiter P)) → find (has_number None) ws ≡ None
   find_false [] = refl
