@@ -1,12 +1,11 @@
 -- The first messages of pairs of which a moment was told that has come, the pairs by their numbers up to one.
 use Rattle.link_waiting.proofs.Common.{◌≡◌, ℕ, zero, suc, ◌+◌, ◌<◌, ◌≤◌, Bool, true, false, cond, List, [], ◌∷◌, ◌++◌}
-use Rattle.link_waiting.proofs.Common.{length, refl, Option, Some, None, sym, ap, ap₂, ◌∙◌, arith, IfSome, zero-add}
-use Rattle.link_waiting.proofs.Common.{find, list_any, unwrap_or, option_and_then, le-leb, leb-true, eq-eqb, eqb-true}
+use Rattle.link_waiting.proofs.Common.{length, refl, Option, Some, None, sym, ap, ap₂, ◌∙◌, arith, IfSome}
+use Rattle.link_waiting.proofs.Common.{find, list_any, unwrap_or, option_and_then, le-leb, leb-true, eqb-true}
 use Rattle.link_waiting.proofs.Common.{append-nil, sum_by-cons, sum_by-append, by_bool, Each, each_find, find_passes}
 use Rattle.link_waiting.proofs.Common.{IsDue, Waiter, has_pair, has_number, AreTold, has_come, due_below, ◌==◌, IfNone}
 use Rattle.link_waiting.proofs.Common.{count_by, moment_at}
 use Rattle.std.proofs.Common.{inl, inr, add-one}
-use Rattle.std.specs.Prelude.{◌||◌}
 use Rattle.std.proofs.lemmas.Bool.{cases_lt}
 use Rattle.std.proofs.lemmas.Bool.Decides.{nat_tests}
 use Rattle.std.proofs.lemmas.List.{get_or_past}
@@ -109,8 +108,7 @@ module _ {P : Type 0} (now : ℕ) (sinces : List (Option ℕ)) (ws : List (Waite
           let all = count_more room in
           let first = count_first room (room == pair)
           (λ w e. each_find (λ w. test w ≡ has_pair pair w) (has_pair room) ws w alike e
-          ∙ ap (λ n. n == pair) (eqb-true w.pair room (find_passes (has_pair room) w ws e))) in
-          (
+          ∙ ap (λ n. n == pair) (eqb-true w.pair room (find_passes (has_pair room) w ws e))) in (
             λ low. grind (arith, nat_tests, all, first, rest.0, rest.1),
             λ high. grind (arith, nat_tests, all, first, rest.1),
           )

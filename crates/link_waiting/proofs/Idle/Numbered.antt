@@ -1,6 +1,6 @@
 -- The numbers of the pairs of what waits: who has the number of a pair is of it.
-use Rattle.link_waiting.proofs.Common.{◌≡◌, ℕ, Bool, cond, ◌||◌, List, [], ◌∷◌, ◌++◌, Option, Some, None}
-use Rattle.link_waiting.proofs.Common.{refl, sym, ap, ◌∙◌, find, list_any, Ordering, IsTotalOrder, Each, each_of_all}
+use Rattle.link_waiting.proofs.Common.{◌≡◌, ℕ, Bool, cond, List, [], ◌∷◌, ◌++◌, Option, Some, None}
+use Rattle.link_waiting.proofs.Common.{refl, sym, ap, ◌∙◌, find, Ordering, IsTotalOrder, Each, each_of_all}
 use Rattle.link_waiting.proofs.Common.{all_of_each, each_without, each_map, without_first, number_of_pair, Waiter}
 use Rattle.link_waiting.proofs.Common.{has_number, is_of, AreNumbered, All-weaker, All-push}
 use Rattle.peer_numbers.specs.Pairs.{IsWithPair}

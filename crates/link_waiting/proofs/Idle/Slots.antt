@@ -1,10 +1,10 @@
 -- The slots of messages that wait: what is in them, and the first slot of a pair.
-use Rattle.link_waiting.proofs.Common.{◌≡◌, ℕ, zero, suc, ◌+◌, ◌<◌, Bool, true, false, cond, List, [], ◌∷◌, ◌++◌}
+use Rattle.link_waiting.proofs.Common.{◌≡◌, ℕ, zero, suc, ◌+◌, ◌<◌, Bool, true, cond, List, [], ◌∷◌, ◌++◌}
 use Rattle.link_waiting.proofs.Common.{length, map, refl, Option, Some, None, is_some, zero-add, sym, ap, ◌∙◌, arith}
-use Rattle.link_waiting.proofs.Common.{slice_get, slice_set, subst, IfSome, is_none, slice_index_or, filter, find}
-use Rattle.link_waiting.proofs.Common.{option_or, eq-eqb, eqb-true, find-append, sum_by-cons, get_or_from_slice_get}
-use Rattle.link_waiting.proofs.Common.{by_bool, each_of_all, without_first, Slot, waiter_of, live, has_pair}
-use Rattle.link_waiting.proofs.Common.{AreTold, IsFirstSlot, IfNone, sum_by-append, slice_get_within, each_find, pair_in}
+use Rattle.link_waiting.proofs.Common.{slice_set, subst, IfSome, is_none, slice_index_or, filter, find}
+use Rattle.link_waiting.proofs.Common.{option_or, eq-eqb, eqb-true, find-append, sum_by-cons}
+use Rattle.link_waiting.proofs.Common.{each_of_all, without_first, Slot, waiter_of, live, has_pair}
+use Rattle.link_waiting.proofs.Common.{AreTold, IsFirstSlot, IfNone, sum_by-append, each_find, pair_in}
 use Rattle.link_waiting.proofs.Common.{same_Some}
 use Rattle.std.specs.Prelude.{option_map}
 use Rattle.std.specs.List.{count_by}

@@ -1,5 +1,5 @@
 -- What waits, as the messages in the order of pairs: the first of a pair, and the list without it.
-use Rattle.link_waiting.proofs.Common.{◌≡◌, Bool, true, false, cond, ◌||◌, List, [], ◌∷◌, ◌++◌, map, Some, refl, sym}
+use Rattle.link_waiting.proofs.Common.{◌≡◌, Bool, true, false, cond, ◌||◌, List, [], ◌∷◌, ◌++◌, map, refl, sym}
 use Rattle.link_waiting.proofs.Common.{ap, ◌∙◌, slice_get, suc, ◌+◌, length, arith, filter, find, fold, list_any}
 use Rattle.link_waiting.proofs.Common.{option_map, Ordering, IsTotalOrder, append-nil, by_bool, Each, each_map}
 use Rattle.link_waiting.proofs.Common.{each_without, without_first, Message, pair_before, same_pair, AreInPairOrder}
@@ -101,8 +101,13 @@ module _ {P : Type 0} (cmp : P → P → Ordering) (order : IsTotalOrder cmp) wh
         first e after = by_bool (of m)
             (λ is. let none : list_any of (n ∷ ns) ≡ false = none_of m (n ∷ ns) is after in
             let no : true ≡ false = sym any ∙ none in cc)
-            (λ other. grind (arith, e, other, queued_front m (without_first of (n ∷ ns))
-            (each_without (λ z. pair_before cmp m z ≡ true) of (n ∷ ns) after)))
+            (λ other. grind (
+              arith,
+              e,
+              other,
+              queued_front m (without_first of (n ∷ ns))
+                  (each_without (λ z. pair_before cmp m z ≡ true) of (n ∷ ns) after),
+            ))
 
     -- it is the only one
     without_it : (m : Message P) (ms : List (Message P)) → list_any of ms ≡ false → of m ≡ true
