@@ -40,7 +40,7 @@ pub use Rattle.std.proofs.lemmas.List.Elements.{All-weaker, All-push}
 pub use Rattle.std.proofs.lemmas.List.Folds.{find-append}
 pub use Rattle.std.proofs.lemmas.List.Sorted.{ranks_by}
 pub use Rattle.std.proofs.lemmas.List.Sums.{sum_by-cons, sum_by-append}
-pub use Rattle.std.proofs.lemmas.Option.{get_or_from_slice_get, same_Some, slice_get_within}
+pub use Rattle.std.proofs.lemmas.Option.{get_or_from_slice_get, same_Some}
 pub use Rattle.std.specs.Cmp.{IsTotalOrder}
 pub use Rattle.std.specs.List.{AllZip, filter, find, fold, list_any, list_all}
 pub use Rattle.std.specs.List.Sorted.{IsSortedBy}

@@ -4,8 +4,7 @@ use Rattle.link_waiting.proofs.Common.{length, map, refl, Option, Some, None, is
 use Rattle.link_waiting.proofs.Common.{slice_set, subst, IfSome, is_none, slice_index_or, filter, find}
 use Rattle.link_waiting.proofs.Common.{option_or, eq-eqb, eqb-true, find-append, sum_by-cons}
 use Rattle.link_waiting.proofs.Common.{each_of_all, without_first, Slot, waiter_of, live, has_pair}
-use Rattle.link_waiting.proofs.Common.{AreTold, IsFirstSlot, IfNone, sum_by-append, each_find, pair_in}
-use Rattle.link_waiting.proofs.Common.{same_Some}
+use Rattle.link_waiting.proofs.Common.{AreTold, IsFirstSlot, IfNone, sum_by-append, each_find, pair_in, same_Some}
 use Rattle.std.specs.Prelude.{option_map}
 use Rattle.std.specs.List.{count_by}
 use Rattle.std.proofs.lemmas.List.{set_at, get_or_at}
@@ -39,6 +38,7 @@ module _ {P : Type 0} where
   pub live_append : (slots more : List (Option (Slot P))) → live (slots ++ more) ≡ live slots ++ live more
   live_append = filter_map-append (option_map waiter_of)
 
+  -- one for an empty slot
   abbrev gap : Option (Slot P) → ℕ
   gap one = cond (is_none one) 1 0
 
@@ -81,8 +81,7 @@ module _ {P : Type 0} where
         before_it : (one : Option (Slot P)) (before : List (Option (Slot P))) → (pair_in one ≡ Some pair → ⊥)
             → find (has_pair pair) (live before) ≡ None → find (has_pair pair) (live (one ∷ before)) ≡ None
         before_it None before never others = others
-        before_it (Some slot) before never others =
-            grind (arith, nat_tests, never, others)
+        before_it (Some slot) before never others = grind (arith, nat_tests, never, others)
 
     module _ (slots : List (Option (Slot P))) (at : ℕ) (first : IsFirstSlot pair slots at) where
       pub held_there : slice_index_or slots at None ≡ Some first.slot

@@ -15,6 +15,7 @@ use Rattle.link_waiting.proofs.Idle.Slots.{gaps_whole, pairs_whole, room_of}
 
 -- ---- what is told
 
+-- the moment comes to stand there
 pub told_at : (sinces : List (Option ℕ)) (pair : ℕ) (moment : Option ℕ) → pair < length sinces
     → IsToldAnew pair moment sinces (slice_set sinces pair moment)
 told_at sinces pair moment low at = grind (arith, nat_tests, get_or-set_at, get_or-set_other)
@@ -32,19 +33,16 @@ module _ {P : Type 0} where
   find_past pair other not (w ∷ ws) = grind (arith, nat_tests, (find_past pair other not ws))
 
   module _ (old new : List (Option ℕ)) (ws : List (Waiter P)) (told : AreTold old ws) where
+    -- one more waits, and the same is told
     told_added : (w : Waiter P) → ((at : ℕ) → moment_at new at ≡ moment_at old at) → length old ≤ length new
         → w.pair < length new → AreTold new (ws ++ w ∷ [])
     told_added w same long low = record {
       room = All-push (λ w. w.pair < length new) ws w
           (All-weaker (λ w. w.pair < length old) (λ w. w.pair < length new) (λ w h. omega (arith, h, long)) ws told.room) low;
-      only = λ pair none. same pair ∙ told.only pair
-          (front (find (has_pair pair) ws) (find (has_pair pair) (w ∷ [])) (sym (find-append (has_pair pair) ws (w ∷ [])) ∙ none));
+      only = λ pair none. grind (arith, same pair, told.only pair, find-append (has_pair pair) ws (w ∷ []));
     }
-      where
-        front : (found more : Option (Waiter P)) → option_or found more ≡ None → found ≡ None
-        front None more e = refl
-        front (Some w) more e = cc
 
+    -- another moment is told of a pair of which one waits, or none
     told_anew : (pair : ℕ) (moment : Option ℕ) → IsToldAnew pair moment old new → length new ≡ length old
         → (find (has_pair pair) ws ≡ None → moment ≡ None) → AreTold new ws
     told_anew pair moment anew long some = record {
@@ -52,6 +50,7 @@ module _ {P : Type 0} where
       only = λ other none. grind (arith, nat_tests, anew other, told.only other, some);
     }
 
+  -- one less waits
   told_taken : (sinces : List (Option ℕ)) (ws : List (Waiter P)) (pair : ℕ) → AreTold sinces ws → moment_at sinces pair ≡ None
       → AreTold sinces (without_first (has_pair pair) ws)
   told_taken sinces ws pair told none = record {

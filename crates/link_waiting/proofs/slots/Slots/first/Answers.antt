@@ -1,5 +1,4 @@
-use Rattle.link_waiting.proofs.Common.{Some, sym, ap, ◌∙◌, waiter_of, Slot}
-use Rattle.link_waiting.proofs.Common.{same_Some}
+use Rattle.link_waiting.proofs.Common.{Some, sym, ap, ◌∙◌, waiter_of, Slot, same_Some}
 use Rattle.link_waiting.proofs.Idle.Slots.{found, held_there}
 use Rattle.link_waiting.proofs.slots.Slots.first.Goals as goal
 

@@ -1,7 +1,6 @@
 use Rattle.link_waiting.proofs.Common.{◌≡◌, Some, None, refl, sym, ap, ◌∙◌, option_map, message_of, Rows, Waiter, live, Slot}
-use Rattle.link_waiting.proofs.Common.{has_pair}
+use Rattle.link_waiting.proofs.Common.{has_pair, same_Some}
 use Rattle.link_pairs.specs.declared.message.Message.{Message}
-use Rattle.link_waiting.proofs.Common.{same_Some}
 use Rattle.link_waiting.proofs.Idle.Slots.{found, held_there, live_taken, without_missing}
 use Rattle.link_waiting.proofs.Idle.Stands.{stands_taken, pair_low, told_already}
 use Rattle.link_waiting.proofs.slots.Slots.take_first.Goals as goal

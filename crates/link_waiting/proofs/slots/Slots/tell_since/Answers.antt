@@ -1,6 +1,6 @@
-use Rattle.link_waiting.proofs.Common.{◌≡◌, Some, None, refl, sym, ap, ◌∙◌, option_map, first_moment, Waiter, Slot}
+use Rattle.link_waiting.proofs.Common.{◌≡◌, Some, None, refl, sym, ap, ◌∙◌, option_map, first_moment, Waiter}
+use Rattle.link_waiting.proofs.Common.{Slot, same_Some}
 use Rattle.link_pairs.specs.declared.message.Message.{Message}
-use Rattle.link_waiting.proofs.Common.{same_Some}
 use Rattle.link_waiting.proofs.Idle.Slots.{found, held_there}
 use Rattle.link_waiting.proofs.Idle.Stands.{stands_told, pair_low, told_already}
 use Rattle.link_waiting.proofs.slots.Slots.tell_since.Goals as goal
