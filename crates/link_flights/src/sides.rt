@@ -4,7 +4,7 @@
 //! what all others take, which keep their rates, is taken from its cap.
 ghost use Rattle.std.specs.Prelude.{◌≡◌, ◌<◌, ◌*◌, ℕ, ◌+◌, ◌∷◌, [], true, cond, None, Some, ◌⊎◌};
 ghost use Rattle.std.specs.Prelude.{All, AllPairs, Contains, IfOk, IfErr, IfSome, OnOk, List, length, map, slice_get, slice_index_or};
-ghost use Rattle.std.specs.Prelude.{false, replicate};
+ghost use Rattle.std.specs.Prelude.{false, replicate, option_map};
 ghost use Rattle.std.specs.List.{list_all};
 ghost use Rattle.fairness.specs.Fairness.UnderCaps.{cap_of};
 ghost use Rattle.fairness.specs.Sides.Alone.{least_of};
@@ -20,8 +20,8 @@ ghost use Rattle.link_flights.specs.Flights.Components.{is_of, suits, touches, p
 ghost use Rattle.link_flights.specs.Flights.Flight.{flight_at};
 ghost use Rattle.link_flights.specs.Flights.InFlight.{in_units};
 ghost use Rattle.link_flights.specs.Flights.Rated.{sent_messages, AreFairRatesBeside};
-ghost use Rattle.link_flights.specs.Flights.Sides.{left_caps, left_of, flows_of, IsCounted, flow_sent, uses_end, end_subject};
-ghost use Rattle.link_flights.specs.Flights.Sides.{link_subject, IsSideOf, AddsSides, AreAllSides};
+ghost use Rattle.link_flights.specs.Flights.Sides.{left_caps, left_at_end, flows_of, IsCounted, flow_sent, uses_end};
+ghost use Rattle.link_flights.specs.Flights.Sides.{end_subject, link_subject, IsSideOf, AddsSides, AreAllSides};
 ghost use Rattle.link_flights.specs.Flights.Table.{share};
 
 use crate::component::Component;
@@ -136,15 +136,47 @@ impl<P: Peer> Flights<P> {
             (left ∷ [])) }
         ensures refused { IfErr result (λ e. e ≡ Error.OutOfMemory) }
     {
+        let ends = self.left_at_ends(component, at, numbers, peers, users)?;
+        let message = &self.list.at(at).message;
+        let between = self.units_of(pairs.cap(&message.origin, &message.recipient))?;
+        let none = Natural::from_u64(self.alloc, 0);
+        Ok(least(ends, between).unwrap_or(none))
+    }
+
+    /// A cap in units, if there is one.
+    fn units_of(&self, cap: Option<u128>) -> Result<Option<Natural>, Error>
+        ensures units { IfOk result (λ units. units ≡ option_map (λ cap. cap * self.now.scale) cap) }
+        ensures refused { IfErr result (λ e. e ≡ Error.OutOfMemory) }
+    {
+        match cap {
+            Some(cap) => Ok(Some(self.scale.product(cap)?)),
+            None => Ok(None),
+        }
+    }
+
+    /// The less of what the others leave of the caps at the two ends of the one at that place, in units, if it uses any.
+    fn left_at_ends(
+        &self,
+        component: &Component<P>,
+        at: usize,
+        numbers: &Numbers,
+        peers: &Peers<P>,
+        users: &mut Vec<usize>,
+    ) -> Result<Option<Natural>, Error>
+        requires at { Contains numbers.now at }
+        requires places { numbers.now ≡ places_of (λ f. is_of P.cmp component.now (flight_at 0 f)) 0 self.now.list.items }
+        requires suited { list_all (suits P.cmp component.now) (in_units self.now) ≡ true }
+        ensures left { IfOk result (λ left. (one : AnyFlight P) (pairs : List (AnyPair P))
+            → slice_get self.now.list.items at ≡ Some one → left ≡ least_of
+            (left_at_end P.cmp (caps_of P.cmp peers.now.entries pairs) self.now.scale component.now (in_units self.now)
+            End.Origin one.message.value)
+            (left_at_end P.cmp (caps_of P.cmp peers.now.entries pairs) self.now.scale component.now (in_units self.now)
+            End.Recipient one.message.value)) }
+        ensures refused { IfErr result (λ e. e ≡ Error.OutOfMemory) }
+    {
         let sent = self.left_at(End::Origin, at, component, numbers, peers, users)?;
         let received = self.left_at(End::Recipient, at, component, numbers, peers, users)?;
-        let message = &self.list.at(at).message;
-        let between = match pairs.cap(&message.origin, &message.recipient) {
-            Some(cap) => Some(self.scale.product(cap)?),
-            None => None,
-        };
-        let none = Natural::from_u64(self.alloc, 0);
-        Ok(least(least(sent, received), between).unwrap_or(none))
+        Ok(least(sent, received))
     }
 
     /// What the others leave of the cap at one end of the one at that place, in units, if it uses one.
@@ -161,9 +193,9 @@ impl<P: Peer> Flights<P> {
         requires places { numbers.now ≡ places_of (λ f. is_of P.cmp component.now (flight_at 0 f)) 0 self.now.list.items }
         requires suited { list_all (suits P.cmp component.now) (in_units self.now) ≡ true }
         ensures left { IfOk result (λ left. (one : AnyFlight P) (pairs : List (AnyPair P))
-            → slice_get self.now.list.items at ≡ Some one → left ≡ cond (uses_end P.cmp end one.message.value)
-            (left_of P.cmp (caps_of P.cmp peers.now.entries pairs) self.now.scale component.now (in_units self.now)
-            (end_subject end (flow_sent P.cmp one.message.value))) None) }
+            → slice_get self.now.list.items at ≡ Some one → left ≡ left_at_end P.cmp
+            (caps_of P.cmp peers.now.entries pairs) self.now.scale component.now (in_units self.now) end
+            one.message.value) }
         ensures refused { IfErr result (λ e. e ≡ Error.OutOfMemory) }
     {
         match self.side_at(end, at, component, numbers, peers, users)? {

@@ -7,7 +7,7 @@ pub use Rattle.fairness.proofs.Sides.EqualSubjects.{same_peer_itself}
 pub use Rattle.fairness.specs.Lists.Sorted.{are_ascending}
 pub use Rattle.fairness.specs.Lists.WithoutFirst.{without_first}
 pub use Rattle.fairness.specs.Sides.Subjects.{same_peer}
-pub use Rattle.least_moment.specs.Moments.{IsDue}
+pub use Rattle.least_moment.specs.Moments.{IsDue, moment_at}
 pub use Rattle.link_pairs.proofs.Pairs.PairOrder.{pair_total, is_eq-then}
 pub use Rattle.link_pairs.specs.Pairs.Entries.{first_of, pair_cmp, Pair, arrival_of, raised_at}
 pub use Rattle.link_pairs.specs.Pairs.Messages.{message_of}
@@ -22,9 +22,8 @@ pub use Rattle.link_waiting.specs.Idle.AtRest.{is_sending, of_pairs}
 pub use Rattle.link_waiting.specs.Idle.FirstMoment.{first_moment}
 pub use Rattle.link_waiting.specs.Idle.Index.{IsIndexOf, idle_from}
 pub use Rattle.link_waiting.specs.Idle.PairsOfMessages.{NamesPairOf}
-pub use Rattle.link_waiting.specs.Idle.Slots.{AreNumbered, AreTold, HaveRoom, IsFirstSlot, OnlyFirsts, Waiter}
-pub use Rattle.link_waiting.specs.Idle.Slots.{has_number, has_pair, is_of, live, waiter_of, with_since, told_first}
-pub use Rattle.link_waiting.specs.Idle.Slots.{NoneTold, pair_in, Stands, Marked}
+pub use Rattle.link_waiting.specs.Idle.Slots.{AreKept, AreNumbered, AreTold, IsFirstSlot, IsToldAnew, Waiter}
+pub use Rattle.link_waiting.specs.Idle.Slots.{has_number, has_pair, is_of, live, waiter_of, pair_in, Stands, Marked}
 pub use Rattle.link_waiting.specs.Idle.Starting.{may_launch_first}
 pub use Rattle.link_waiting.specs.Idle.Waits.{Told, due_below, has_come, queue_of, since_of, told_of, waits_of}
 pub use Rattle.link_waiting.specs.Idle.Waits.{pair_of_key}
@@ -36,12 +35,12 @@ pub use Rattle.std.proofs.Common.{false, if◌then◌else◌, is_some, length, m
 pub use Rattle.std.proofs.Common.{subst, suc, sym, take, true, zero, zero-add, ℕ, ◌&&◌, ◌++◌, ◌+◌, ◌-◌, ◌<◌, ◌||◌, ◌∙◌}
 pub use Rattle.std.proofs.Common.{◌∷◌, ◌≡◌, ◌≤◌, ◌==◌, IfNone, get_or, OnOk}
 pub use Rattle.std.proofs.lemmas.Bool.{and_from, eq-eqb, eqb-true, le-leb, leb-true, or_parts}
-pub use Rattle.std.proofs.lemmas.List.{append-nil, length-set}
+pub use Rattle.std.proofs.lemmas.List.{append-nil}
 pub use Rattle.std.proofs.lemmas.List.Elements.{All-weaker, All-push}
 pub use Rattle.std.proofs.lemmas.List.Folds.{find-append}
 pub use Rattle.std.proofs.lemmas.List.Sorted.{ranks_by}
 pub use Rattle.std.proofs.lemmas.List.Sums.{sum_by-cons, sum_by-append}
-pub use Rattle.std.proofs.lemmas.Option.{get_or_from_slice_get, slice_get_within}
+pub use Rattle.std.proofs.lemmas.Option.{get_or_from_slice_get, same_Some}
 pub use Rattle.std.specs.Cmp.{IsTotalOrder}
 pub use Rattle.std.specs.List.{AllZip, filter, find, fold, list_any, list_all}
 pub use Rattle.std.specs.List.Sorted.{IsSortedBy}

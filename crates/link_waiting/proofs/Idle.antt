@@ -3,10 +3,8 @@ pub mod Due
 pub mod DueCounts
 pub mod DueMessages
 pub mod FirstStart
-pub mod Firsts
 pub mod Index
 pub mod IndexChanges
-pub mod Moments
 pub mod Moved
 pub mod Numbered
 pub mod Ready

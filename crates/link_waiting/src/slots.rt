@@ -3,11 +3,11 @@ ghost use Rattle.std.specs.Prelude.{◌≡◌, ℕ, ◌<◌, ◌≤◌, ◌++◌
 ghost use Rattle.std.specs.Prelude.{is_none, count_by, slice_index_or, IfOk, IfErr, IsSome, IfSome, IfNone, OnOk, IsTrue};
 ghost use Rattle.std.specs.List.{find, AllZip};
 ghost use Rattle.fairness.specs.Lists.WithoutFirst.{without_first};
+ghost use Rattle.least_moment.specs.Moments.{moment_at};
 ghost use Rattle.link_pairs.specs.Pairs.Messages.{message_of};
 ghost use Rattle.link_waiting.specs.Idle.PairsOfMessages.{NamesPairOf};
 ghost use Rattle.link_waiting.specs.Idle.FirstMoment.{first_moment};
-ghost use Rattle.link_waiting.specs.Idle.Slots.{live, waiter_of, has_pair, with_since, OnlyFirsts, HaveRoom, AreTold};
-ghost use Rattle.link_waiting.specs.Idle.Slots.{IsFirstSlot, Stands, Marked};
+ghost use Rattle.link_waiting.specs.Idle.Slots.{live, waiter_of, has_pair, IsFirstSlot, IsToldAnew, Stands, Marked};
 ghost use Rattle.link_waiting.specs.Idle.Waits.{due_below};
 
 use crate::moment::ready_moment;
@@ -28,8 +28,6 @@ pub(crate) struct Slot<P> {
     pub(crate) message: Arc<Message<P>>,
     // The number of its pair.
     pub(crate) pair: usize,
-    // From which moment on it may start. It is told of the first message of a pair alone.
-    pub(crate) since: Option<u64>,
 }
 
 /// The messages that wait, each in a slot, in order of `enqueue`, and how they are found. They may stand in the middle
@@ -42,6 +40,8 @@ pub(crate) struct Slots<P> {
     // The slots of each pair.
     pub(crate) chains: Chains,
     // By the number of the pair: from when on its first message may start, if it was told.
+    pub(crate) sinces: UndoList<Option<u64>>,
+    // The same again, as moments of which the least is at hand.
     pub(crate) moments: Moments,
 }
 
@@ -53,10 +53,12 @@ impl<P: Drop> Drop for Slots<P> {
             slots,
             gaps: _,
             chains,
+            sinces,
             moments,
         } = self;
         drop(slots);
         drop(chains);
+        drop(sinces);
         drop(moments);
     }
 }
@@ -83,42 +85,57 @@ fn link(chains: &mut Chains, pair: usize) -> Result<(), AllocError>
     Ok(())
 }
 
-/// There is a place for the moment of that pair. What is told stays.
-fn make_room(moments: &mut Moments, pair: usize) -> Result<(), AllocError>
-    ensures same { (at : ℕ) → slice_index_or moments.new at None ≡ slice_index_or moments.old at None }
+/// There is a place for what is told of that pair. What is told stays.
+fn make_room(
+    sinces: &mut UndoList<Option<u64>>,
+    moments: &mut Moments,
+    pair: usize,
+) -> Result<(), AllocError>
+    requires { moments.old ≡ sinces.old.items }
+    ensures same { (at : ℕ) → moment_at sinces.new.items at ≡ moment_at sinces.old.items at }
+    ensures moments { OnOk result (moments.new ≡ sinces.new.items) }
+    ensures room { OnOk result (pair < length sinces.new.items) }
+    ensures more { length sinces.old.items ≤ length sinces.new.items }
     ensures long { length moments.old ≤ length moments.new }
-    ensures room { OnOk result (pair < length moments.new) }
+    ensures before { sinces.new.before ≡ sinces.old.before }
 {
-    while moments.len() <= pair {
+    while sinces.len() <= pair {
+        sinces.push(None)?;
         moments.push(None)?;
     }
     Ok(())
 }
 
-/// Of no pair a moment is told.
-fn clear(moments: &mut Moments)
-    ensures none { (at : ℕ) → slice_index_or moments.new at None ≡ None }
+/// That moment is told of the pair, or none is.
+fn tell(
+    sinces: &mut UndoList<Option<u64>>,
+    moments: &mut Moments,
+    pair: usize,
+    moment: Option<u64>,
+) -> Result<(), AllocError>
+    requires moments { moments.old ≡ sinces.old.items }
+    requires room { pair < length sinces.old.items }
+    ensures told { OnOk result (IsToldAnew pair moment sinces.old.items sinces.new.items) }
+    ensures moments { OnOk result (moments.new ≡ sinces.new.items) }
     ensures long { length moments.new ≡ length moments.old }
+    ensures before { sinces.new.before ≡ sinces.old.before }
 {
-    for pair in 0..moments.len() {
-        moments.set(pair, None);
+    if *sinces.at(pair) == moment {
+        return Ok(());
     }
+    sinces.set(pair, moment)?;
+    moments.set(pair, moment);
+    Ok(())
 }
 
-/// Each pair has the moment of its first message again.
-fn restore<P: Peer>(moments: &mut Moments, slots: &[Option<Slot<P>>])
-    requires room { HaveRoom (length moments.old) (live slots.now) }
-    requires firsts { OnlyFirsts (live slots.now) }
-    ensures told { AreTold moments.new (live slots.now) }
-    ensures long { length moments.new ≡ length moments.old }
+/// The moments are those that are told, once these were taken back.
+fn restore(moments: &mut Moments, sinces: &[Option<u64>])
+    requires { length sinces.now ≤ length moments.old }
+    ensures { moments.new ≡ sinces.now }
 {
-    clear(moments);
-    for at in 0..slots.len() {
-        if let Some(slot) = &slots[at] {
-            if slot.since.is_some() {
-                moments.set(slot.pair, slot.since);
-            }
-        }
+    moments.truncate(sinces.len());
+    for pair in 0..sinces.len() {
+        moments.set(pair, sinces[pair]);
     }
 }
 
@@ -134,6 +151,7 @@ impl<P: Peer> Slots<P> {
             slots: UndoList::new(alloc),
             gaps: 0,
             chains: Chains::new(alloc),
+            sinces: UndoList::new(alloc),
             moments: Moments::new(alloc),
         }
     }
@@ -185,33 +203,41 @@ impl<P: Peer> Slots<P> {
         Some(self.slot(self.first_slot(pair)?))
     }
 
+    /// The moment from which on the first message that waits for a pair may start, if one was told.
+    pub(crate) fn since(&self, pair: usize) -> Option<u64>
+        ensures { result ≡ moment_at self.now.sinces.items pair }
+    {
+        *self.sinces.get(pair)?
+    }
+
     /// A message comes, as the last one of its pair. Where memory is refused, part of that is done.
     pub(crate) fn push(&mut self, message: Arc<Message<P>>, pair: usize) -> Result<(), AllocError>
         requires stands { Stands self.old }
         requires marked { Marked self.old }
         ensures now { OnOk result (live self.new.slots.items ≡ live self.old.slots.items
-            ++ record { message = message_of message.value; pair = pair; since = None } ∷ []) }
+            ++ record { message = message_of message.value; pair = pair } ∷ []) }
+        ensures told { (at : ℕ) → moment_at self.new.sinces.items at ≡ moment_at self.old.sinces.items at }
         ensures before { self.new.slots.before ≡ self.old.slots.before }
+        ensures told_before { self.new.sinces.before ≡ self.old.sinces.before }
         ensures stands { OnOk result (Stands self.new) }
         ensures marked { Marked self.new }
     {
-        self.slots.push(Some(Slot {
-            message,
-            pair,
-            since: None,
-        }))?;
+        self.slots.push(Some(Slot { message, pair }))?;
         link(&mut self.chains, pair)?;
-        make_room(&mut self.moments, pair)
+        make_room(&mut self.sinces, &mut self.moments, pair)
     }
 
-    /// The first message that waits for a pair goes. Where memory is refused, part of that is done.
+    /// The first message that waits for a pair goes, and nothing is told of the pair any more. Where memory is refused,
+    /// part of that is done.
     pub(crate) fn take_first(&mut self, pair: usize) -> Result<Option<Arc<Message<P>>>, AllocError>
         requires stands { Stands self.old }
         requires marked { Marked self.old }
         ensures taken { IfOk result (λ taken. option_map (λ m. message_of m.value) taken
             ≡ option_map (λ waiter. waiter.message) (find (has_pair pair) (live self.old.slots.items))) }
         ensures now { OnOk result (live self.new.slots.items ≡ without_first (has_pair pair) (live self.old.slots.items)) }
+        ensures told { OnOk result (IsToldAnew pair None self.old.sinces.items self.new.sinces.items) }
         ensures before { self.new.slots.before ≡ self.old.slots.before }
+        ensures told_before { self.new.sinces.before ≡ self.old.sinces.before }
         ensures stands { OnOk result (Stands self.new) }
         ensures marked { Marked self.new }
     {
@@ -221,37 +247,11 @@ impl<P: Peer> Slots<P> {
         let message = self.slot(at).message.clone()?;
         self.slots.set(at, None)?;
         self.chains.take(pair, at)?;
-        self.moments.set(pair, None);
+        tell(&mut self.sinces, &mut self.moments, pair, None)?;
         let slots = self.slots.len();
         prove!(self.gaps < slots);
         self.gaps += 1;
         Ok(Some(message))
-    }
-
-    /// Of the message in a slot, the first one of its pair, that moment is told. Where memory is refused, part of that
-    /// is done.
-    fn tell(&mut self, pair: usize, at: usize, moment: Option<u64>) -> Result<(), AllocError>
-        requires first { IsFirstSlot pair self.old.slots.items at }
-        requires stands { Stands self.old }
-        requires marked { Marked self.old }
-        ensures now { OnOk result (live self.new.slots.items ≡ with_since (has_pair pair) moment (live self.old.slots.items)) }
-        ensures before { self.new.slots.before ≡ self.old.slots.before }
-        ensures stands { OnOk result (Stands self.new) }
-        ensures marked { Marked self.new }
-    {
-        let slot = self.slot(at);
-        if slot.since == moment {
-            return Ok(());
-        }
-        let message = slot.message.clone()?;
-        let slot = Slot {
-            message,
-            pair,
-            since: moment,
-        };
-        self.slots.set(at, Some(slot))?;
-        self.moments.set(pair, moment);
-        Ok(())
     }
 
     /// A pair is idle whose last message arrives at that moment, if one does. Of its first message that waits it is told
@@ -265,9 +265,9 @@ impl<P: Peer> Slots<P> {
         requires marked { Marked self.old }
         ensures answer { IfOk result (λ since. since ≡ option_map (λ waiter. first_moment last_arrival waiter.message.latency)
             (find (has_pair pair) (live self.old.slots.items))) }
-        ensures now { IfOk result (λ since. live self.new.slots.items
-            ≡ with_since (has_pair pair) since (live self.old.slots.items)) }
-        ensures before { self.new.slots.before ≡ self.old.slots.before }
+        ensures slots { self.new.slots ≡ self.old.slots }
+        ensures told { IfOk result (λ since. IsToldAnew pair since self.old.sinces.items self.new.sinces.items) }
+        ensures told_before { self.new.sinces.before ≡ self.old.sinces.before }
         ensures stands { OnOk result (Stands self.new) }
         ensures marked { Marked self.new }
     {
@@ -275,15 +275,15 @@ impl<P: Peer> Slots<P> {
             return Ok(None);
         };
         let since = Some(ready_moment(last_arrival, self.slot(at).message.latency));
-        self.tell(pair, at, since)?;
+        tell(&mut self.sinces, &mut self.moments, pair, since)?;
         Ok(since)
     }
 
-    /// The pairs of the messages of which a moment was told that has come by now, their peers cloned.
+    /// The pairs of which a moment was told that has come by now, their peers cloned.
     pub(crate) fn due(&self, alloc: Global, now: u64) -> Result<Vec<PeerPair<P>>, Error>
         requires { Stands self.now }
         ensures due { IfOk result (λ keys. AllZip (λ key waiter. NamesPairOf P.cmp key waiter.message) keys.items
-            (due_below now (length self.now.moments) (live self.now.slots.items))) }
+            (due_below now self.now.sinces.items (length self.now.sinces.items) (live self.now.slots.items))) }
         ensures refused { IfErr result (λ e. e ≡ Error.OutOfMemory) }
     {
         let mut due = Vec::new(alloc);
@@ -315,9 +315,12 @@ impl<P: Peer> Slots<P> {
         requires { Stands self.old }
         ensures now { live self.new.slots.items ≡ live self.old.slots.items }
         ensures before { live self.new.slots.before ≡ live self.old.slots.items }
+        ensures told { self.new.sinces.items ≡ self.old.sinces.items }
+        ensures told_before { self.new.sinces.before ≡ self.old.sinces.items }
         ensures stands { Stands self.new }
         ensures marked { Marked self.new }
     {
+        self.sinces.commit();
         if self.has_many_gaps() {
             self.slots.commit_kept(|slot| slot.is_some());
             self.chains.close_gaps();
@@ -333,13 +336,15 @@ impl<P: Peer> Slots<P> {
         requires { Marked self.old }
         ensures now { self.new.slots.items ≡ self.old.slots.before }
         ensures before { self.new.slots.before ≡ self.old.slots.before }
+        ensures told { self.new.sinces.items ≡ self.old.sinces.before }
+        ensures told_before { self.new.sinces.before ≡ self.old.sinces.before }
         ensures stands { Stands self.new }
         ensures marked { Marked self.new }
     {
         self.slots.undo();
         self.chains.undo();
-        let slots = self.slots.as_slice();
-        restore(&mut self.moments, slots);
-        self.gaps = count_gaps(slots);
+        self.sinces.undo();
+        restore(&mut self.moments, self.sinces.as_slice());
+        self.gaps = count_gaps(self.slots.as_slice());
     }
 }

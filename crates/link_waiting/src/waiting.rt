@@ -1,8 +1,7 @@
 //! The messages that wait, and from when on the first of each idle pair may start.
-ghost use Rattle.std.specs.Prelude.{◌≡◌, ◌↔◌, ◌&&◌, ◌++◌, ◌∷◌, ℕ, [], true, None, length};
-ghost use Rattle.std.specs.Prelude.{map, option_map, All, IfOk, IfErr, OnOk, OnErr};
+ghost use Rattle.std.specs.Prelude.{◌≡◌, ◌↔◌, ◌&&◌, ◌++◌, ◌∷◌, ℕ, [], true, None, Some, length};
+ghost use Rattle.std.specs.Prelude.{map, option_map, All, IfOk, IfErr, IfSome, OnOk, OnErr};
 ghost use Rattle.std.specs.List.{list_any};
-ghost use Rattle.std.specs.Option.{option_and_then};
 ghost use Rattle.fairness.specs.Lists.Sorted.{are_ascending};
 ghost use Rattle.fairness.specs.Lists.WithoutFirst.{without_first};
 ghost use Rattle.fairness.specs.Sides.Subjects.{same_peer};
@@ -10,9 +9,10 @@ ghost use Rattle.link_simulation.specs.Simulation.Messages.{with_link};
 ghost use Rattle.link_simulation.specs.Rule.Planned.{queued, AreInPairOrder};
 ghost use Rattle.link_pairs.specs.Pairs.Messages.{message_of};
 ghost use Rattle.link_pairs.specs.Pairs.Entries.{first_of, pair_cmp};
+ghost use Rattle.peer_numbers.specs.Pairs.{number_of_pair};
 ghost use Rattle.link_waiting.specs.Idle.FirstMoment.{first_moment};
 ghost use Rattle.link_waiting.specs.Idle.Slots.{live, is_of, has_number, AreNumbered, Marked, AreKept};
-ghost use Rattle.link_waiting.specs.Idle.Waits.{none_waits, since_of, has_come, pair_of_key};
+ghost use Rattle.link_waiting.specs.Idle.Waits.{none_waits, since_of, told_of, has_come, pair_of_key};
 
 use crate::slots::{Slot, Slots};
 use fairness::error::Error;
@@ -71,7 +71,8 @@ fn number_in<P: Peer>(
     recipient: &P,
 ) -> Option<usize>
     requires { AreKept P.cmp pairs.now slots.now }
-    ensures { All (λ waiter. is_of P.cmp origin.now recipient.now waiter ≡ has_number result waiter)
+    ensures number { IfSome result (λ pair. number_of_pair P.cmp pairs.now origin.now recipient.now ≡ Some pair) }
+    ensures alike { All (λ waiter. is_of P.cmp origin.now recipient.now waiter ≡ has_number result waiter)
         (live slots.now.slots.items) }
 {
     if slots.is_empty() {
@@ -89,8 +90,11 @@ fn add<P: Peer>(
 ) -> Result<(), Error>
     requires { AreKept P.cmp pairs.old slots.old }
     ensures now { OnOk result ((pair : ℕ) × (live slots.new.slots.items ≡ live slots.old.slots.items
-        ++ record { message = message_of message; pair = pair; since = None } ∷ [])) }
+        ++ record { message = message_of message; pair = pair } ∷ [])) }
+    ensures told { OnOk result (since_of P.cmp (map (told_of slots.new.sinces.items) (live slots.new.slots.items))
+        ≡ since_of P.cmp (map (told_of slots.old.sinces.items) (live slots.old.slots.items))) }
     ensures before { slots.new.slots.before ≡ slots.old.slots.before }
+    ensures told_before { slots.new.sinces.before ≡ slots.old.sinces.before }
     ensures kept { OnOk result (AreKept P.cmp pairs.new slots.new) }
     ensures marked { Marked slots.new }
     ensures numbered { AreNumbered P.cmp pairs.new (live slots.new.slots.before) }
@@ -127,10 +131,8 @@ impl<P: Peer> Waiting<P> {
 
     /// The first message that waits for the pair, in its slot.
     fn slot_of(&self, origin: &P, recipient: &P) -> Option<&Slot<P>>
-        ensures message { option_map (λ slot. message_of slot.now.message.value) result
+        ensures { option_map (λ slot. message_of slot.now.message.value) result
             ≡ first_of P.cmp self.now.messages origin.now recipient.now }
-        ensures since { option_and_then (λ slot. slot.now.since) result
-            ≡ since_of P.cmp self.now.told origin.now recipient.now }
     {
         if self.given_up {
             return None;
@@ -150,7 +152,11 @@ impl<P: Peer> Waiting<P> {
     pub fn since(&self, origin: &P, recipient: &P) -> Option<u64>
         ensures { result ≡ since_of P.cmp self.now.told origin.now recipient.now }
     {
-        self.slot_of(origin, recipient)?.since
+        if self.given_up {
+            return None;
+        }
+        self.slots
+            .since(number_in(&self.pairs, &self.slots, origin, recipient)?)
     }
 
     /// The first moment from which on a message may start.

@@ -8,7 +8,7 @@ use Rattle.link_flights.proofs.Common.{get_or_from_slice_get, slice_get_within, 
 use Rattle.link_flights.proofs.Common.{second_of_both, In, get_in, in_from_contains, contains_from_in, all_passed}
 use Rattle.link_flights.proofs.Common.{Component, Flight, UnitFlight, flight_at, flights_at, HaveRates, keeps, has_both}
 use Rattle.link_flights.proofs.Common.{touches, suits, is_closed, AreSuited, AreTouched, those_near, Ascends, share}
-use Rattle.link_flights.proofs.Common.{End, Origin, Recipient, is_sender, is_receiver, AreAllListed, PassesNowhere}
+use Rattle.link_flights.proofs.Common.{length-append, End, Origin, Recipient, is_sender, is_receiver, AreAllListed, PassesNowhere}
 use Rattle.link_flights.proofs.Common.{PassesFirstAt, IsNextPlace, list_any_at, IsTouched, near_of, AreNear, SharesAt}
 use Rattle.link_flights.proofs.Common.{SharesEndAt, AreListedAt, StartsWith, AreStillListed, AreListed, AllNewTouch}
 use Rattle.std.specs.Prelude.{slice_get, Option, IfSome, nat_le}
@@ -58,6 +58,12 @@ module _ {X : Type 0} where
   pub starts_on : (xs ys zs : List X) → StartsWith xs ys → StartsWith ys zs → StartsWith xs zs
   starts_on xs ys zs (more, e) (further, f) =
       (more ++ further, f ∙ ap (λ l. l ++ further) e ∙ append_assoc xs more further)
+
+  -- and is no shorter
+  pub starts_longer : (xs ys : List X) → StartsWith xs ys → length xs ≤ length ys
+  starts_longer xs ys (more, e) =
+      let is : length ys ≡ length xs + length more = ap length e ∙ length-append xs more in
+      omega (arith, is)
 
 either : (a b : Bool) → b ≡ true → (a || b) ≡ true
 either true b h = refl

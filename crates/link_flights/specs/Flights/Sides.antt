@@ -1,6 +1,6 @@
 -- The sides of those in flight that are rated anew, each with what the others leave of its cap.
 use Rattle.std.specs.Prelude.{◌≡◌, ◌↔◌, ◌⊎◌, ℕ, ◌-◌, ◌*◌, Bool, true, not, List, map, cond, take, Contains, sum_by}
-use Rattle.std.specs.Prelude.{Option, Some, option_map, slice_get}
+use Rattle.std.specs.Prelude.{Option, Some, None, option_map, slice_get}
 use Rattle.std.specs.List.{filter}
 use Rattle.std.specs.declared.cmp.Ordering.{Ordering}
 use Rattle.fairness.specs.declared.bandwidth.Flow.{Flow}
@@ -70,6 +70,12 @@ uses_end cmp Recipient m = is_delivered cmp (message_of m)
 abbrev pub end_subject : {P : Type 0} → End → Flow P → Subject P
 end_subject Origin f = sent_by f.origin
 end_subject Recipient f = received_by f.recipient
+
+-- what the others leave of the cap at one end of a message, if it uses one
+abbrev pub left_at_end : {P : Type 0} → (P → P → Ordering) → Caps P → ℕ → Component P → List (UnitFlight P) → End
+    → Message P → Option ℕ
+left_at_end cmp caps scale component us end m =
+    cond (uses_end cmp end m) (left_of cmp caps scale component us (end_subject end (flow_sent cmp m))) None
 
 -- and what limits it between its ends
 abbrev pub link_subject : {P : Type 0} → Flow P → Subject P

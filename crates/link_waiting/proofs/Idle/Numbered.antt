@@ -1,8 +1,8 @@
 -- The numbers of the pairs of what waits: who has the number of a pair is of it.
-use Rattle.link_waiting.proofs.Common.{◌≡◌, ℕ, Bool, true, false, cond, ◌||◌, List, [], ◌∷◌, ◌++◌, Option, Some, None}
-use Rattle.link_waiting.proofs.Common.{refl, sym, ap, ◌∙◌, find, list_any, Ordering, IsTotalOrder, Each, each_of_all}
+use Rattle.link_waiting.proofs.Common.{◌≡◌, ℕ, Bool, cond, List, [], ◌∷◌, ◌++◌, Option, Some, None}
+use Rattle.link_waiting.proofs.Common.{refl, sym, ap, ◌∙◌, find, Ordering, IsTotalOrder, Each, each_of_all}
 use Rattle.link_waiting.proofs.Common.{all_of_each, each_without, each_map, without_first, number_of_pair, Waiter}
-use Rattle.link_waiting.proofs.Common.{has_number, with_since, is_of, AreNumbered, All-weaker, All-push}
+use Rattle.link_waiting.proofs.Common.{has_number, is_of, AreNumbered, All-weaker, All-push}
 use Rattle.peer_numbers.specs.Pairs.{IsWithPair}
 use Rattle.peer_numbers.proofs.OrderedPairs.{same_number, other_pair, number_stays}
 
@@ -22,32 +22,10 @@ module _ {P : Type 0} (p q : Waiter P → Bool) where
   without_alike (w ∷ ws) h =
       ap (λ b. cond b ws (w ∷ without_first p ws)) h.0 ∙ ap (λ l. cond (q w) ws (w ∷ l)) (without_alike ws h.1)
 
-  pub any_alike : (ws : List (Waiter P)) → AreAlike ws → list_any p ws ≡ list_any q ws
-  any_alike [] h = refl
-  any_alike (w ∷ ws) h = ap (λ b. b || list_any p ws) h.0 ∙ ap (λ b. q w || b) (any_alike ws h.1)
-
-  pub told_alike : (moment : Option ℕ) (ws : List (Waiter P)) → AreAlike ws
-      → with_since p moment ws ≡ with_since q moment ws
-  told_alike moment [] h = refl
-  told_alike moment (w ∷ ws) h =
-      ap (λ b. cond b (record w { since = moment } ∷ ws) (w ∷ with_since p moment ws)) h.0
-      ∙ ap (λ l. cond (q w) (record w { since = moment } ∷ ws) (w ∷ l)) (told_alike moment ws h.1)
-
 module _ {P : Type 0} where
   pub find_false : (ws : List (Waiter P)) → find (has_number None) ws ≡ None
   find_false [] = refl
   find_false (w ∷ ws) = find_false ws
-
-  pub each_told : (Q : Waiter P → Type 0) (test : Waiter P → Bool) (moment : Option ℕ)
-      → ((w : Waiter P) → Q w → Q (record w { since = moment })) → (ws : List (Waiter P)) → Each Q ws
-      → Each Q (with_since test moment ws)
-  each_told Q test moment same [] h = tt
-  each_told Q test moment same (w ∷ ws) h = by (test w) (each_told Q test moment same ws h.1)
-    where
-      by : (b : Bool) → Each Q (with_since test moment ws)
-          → Each Q (cond b (record w { since = moment } ∷ ws) (w ∷ with_since test moment ws))
-      by true ih = (same w h.0, h.1)
-      by false ih = (h.0, ih)
 
 -- ---- numbers
 
@@ -69,10 +47,6 @@ module _ {P : Type 0} (cmp : P → P → Ordering) (order : IsTotalOrder cmp) (p
   pub numbered_without : (test : Waiter P → Bool) (ws : List (Waiter P)) → AreNumbered cmp pairs ws
       → AreNumbered cmp pairs (without_first test ws)
   numbered_without test ws h = all_of_each IsNumbered _ (each_without IsNumbered test ws (each_of_all IsNumbered ws h))
-
-  pub numbered_told : (test : Waiter P → Bool) (moment : Option ℕ) (ws : List (Waiter P)) → AreNumbered cmp pairs ws
-      → AreNumbered cmp pairs (with_since test moment ws)
-  numbered_told test moment ws h = all_of_each IsNumbered _ (each_told IsNumbered test moment (λ w e. e) ws (each_of_all IsNumbered ws h))
 
   pub numbered_more : (o r : P) (new : List (P × P)) → IsWithPair cmp pairs o r new → (ws : List (Waiter P))
       → AreNumbered cmp pairs ws → AreNumbered cmp new ws

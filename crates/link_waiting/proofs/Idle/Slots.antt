@@ -1,20 +1,17 @@
 -- The slots of messages that wait: what is in them, and the first slot of a pair.
-use Rattle.link_waiting.proofs.Common.{◌≡◌, ℕ, zero, suc, ◌+◌, ◌<◌, Bool, true, false, cond, List, [], ◌∷◌, ◌++◌}
+use Rattle.link_waiting.proofs.Common.{◌≡◌, ℕ, zero, suc, ◌+◌, ◌<◌, Bool, true, cond, List, [], ◌∷◌, ◌++◌}
 use Rattle.link_waiting.proofs.Common.{length, map, refl, Option, Some, None, is_some, zero-add, sym, ap, ◌∙◌, arith}
-use Rattle.link_waiting.proofs.Common.{slice_get, slice_set, subst, IfSome, is_none, slice_index_or, filter, find}
-use Rattle.link_waiting.proofs.Common.{option_or, eq-eqb, eqb-true, find-append, sum_by-cons, get_or_from_slice_get}
-use Rattle.link_waiting.proofs.Common.{by_bool, each_of_all, without_first, Slot, Waiter, waiter_of, live, has_pair}
-use Rattle.link_waiting.proofs.Common.{with_since, HaveRoom, IsFirstSlot, IfNone, sum_by-append, slice_get_within}
-use Rattle.link_waiting.proofs.Common.{each_find, pair_in}
+use Rattle.link_waiting.proofs.Common.{slice_set, subst, IfSome, is_none, slice_index_or, filter, find}
+use Rattle.link_waiting.proofs.Common.{option_or, eq-eqb, eqb-true, find-append, sum_by-cons}
+use Rattle.link_waiting.proofs.Common.{each_of_all, without_first, Slot, waiter_of, live, has_pair}
+use Rattle.link_waiting.proofs.Common.{AreTold, IsFirstSlot, IfNone, sum_by-append, each_find, pair_in, same_Some}
 use Rattle.std.specs.Prelude.{option_map}
 use Rattle.std.specs.List.{count_by}
+use Rattle.std.proofs.lemmas.List.{set_at, get_or_at}
 use Rattle.std.proofs.lemmas.List.Elements.{filter_map-append}
 use Rattle.std.proofs.Math.ListN.{get_or-map}
-use Rattle.std.proofs.lemmas.List.Sums.{sum_by-set}
+use Rattle.std.proofs.lemmas.Bool.Decides.{nat_tests}
 use Rattle.chains.specs.Places.{IsFirst}
-
-pub some_same : (a b : ℕ) → Some a ≡ Some b → a ≡ b
-some_same a b e = cc
 
 -- ---- lists
 
@@ -28,36 +25,11 @@ module _ {X : Type 0} (test : X → Bool) where
   without_seam : (xs : List X) (x : X) (ys : List X) → find test xs ≡ None → test x ≡ true
       → without_first test (xs ++ x ∷ ys) ≡ xs ++ ys
   without_seam [] x ys none is = ap (λ b. cond b ys (x ∷ without_first test ys)) is
-  without_seam (z ∷ xs) x ys none is = by (test z) none (λ e. without_seam xs x ys e is)
-    where
-      by : (b : Bool) → cond b (Some z) (find test xs) ≡ None
-          → (find test xs ≡ None → without_first test (xs ++ x ∷ ys) ≡ xs ++ ys)
-          → cond b (xs ++ x ∷ ys) (z ∷ without_first test (xs ++ x ∷ ys)) ≡ z ∷ (xs ++ ys)
-      by true e ih = cc
-      by false e ih = ap (λ l. z ∷ l) (ih e)
+  without_seam (z ∷ xs) x ys none is = grind (arith, (without_seam xs x ys))
 
   pub without_missing : (xs : List X) → find test xs ≡ None → without_first test xs ≡ xs
   without_missing [] none = refl
-  without_missing (z ∷ xs) none = by (test z) none (without_missing xs)
-    where
-      by : (b : Bool) → cond b (Some z) (find test xs) ≡ None → (find test xs ≡ None → without_first test xs ≡ xs)
-          → cond b xs (z ∷ without_first test xs) ≡ z ∷ xs
-      by true e ih = cc
-      by false e ih = ap (λ l. z ∷ l) (ih e)
-
-set_seam : {X : Type 0} (xs : List X) (x y : X) (ys : List X) (at : ℕ) → at ≡ length xs
-    → slice_set (xs ++ x ∷ ys) at y ≡ xs ++ y ∷ ys
-set_seam [] x y ys zero e = refl
-set_seam [] x y ys (suc at) e = absurd (omega (arith, e))
-set_seam (z ∷ xs) x y ys zero e = absurd (omega (arith, e))
-set_seam (z ∷ xs) x y ys (suc at) e = ap (λ l. z ∷ l) (set_seam xs x y ys at (omega (arith, e)))
-
-get_seam : {X : Type 0} (xs : List X) (x : X) (ys : List X) (at : ℕ) → at ≡ length xs
-    → slice_get (xs ++ x ∷ ys) at ≡ Some x
-get_seam [] x ys zero e = refl
-get_seam [] x ys (suc at) e = absurd (omega (arith, e))
-get_seam (z ∷ xs) x ys zero e = absurd (omega (arith, e))
-get_seam (z ∷ xs) x ys (suc at) e = get_seam xs x ys at (omega (arith, e))
+  without_missing (z ∷ xs) none = grind (arith, (without_missing xs))
 
 module _ {P : Type 0} where
   abbrev held : List (Option (Slot P)) → ℕ → Option (Slot P)
@@ -66,47 +38,19 @@ module _ {P : Type 0} where
   pub live_append : (slots more : List (Option (Slot P))) → live (slots ++ more) ≡ live slots ++ live more
   live_append = filter_map-append (option_map waiter_of)
 
-  told_seam : (test : Waiter P → Bool) (moment : Option ℕ) (xs : List (Waiter P)) (x : Waiter P) (ys : List (Waiter P))
-      → find test xs ≡ None → test x ≡ true
-      → with_since test moment (xs ++ x ∷ ys) ≡ xs ++ record x { since = moment } ∷ ys
-  told_seam test moment [] x ys none is =
-      ap (λ b. cond b (record x { since = moment } ∷ ys) (x ∷ with_since test moment ys)) is
-  told_seam test moment (z ∷ xs) x ys none is = by (test z) none (λ e. told_seam test moment xs x ys e is)
-    where
-      by : (b : Bool) → cond b (Some z) (find test xs) ≡ None
-          → (find test xs ≡ None → with_since test moment (xs ++ x ∷ ys) ≡ xs ++ record x { since = moment } ∷ ys)
-          → cond b (record z { since = moment } ∷ (xs ++ x ∷ ys)) (z ∷ with_since test moment (xs ++ x ∷ ys))
-          ≡ z ∷ (xs ++ record x { since = moment } ∷ ys)
-      by true e ih = cc
-      by false e ih = ap (λ l. z ∷ l) (ih e)
-
-  pub told_missing : (test : Waiter P → Bool) (moment : Option ℕ) (xs : List (Waiter P)) → find test xs ≡ None
-      → with_since test moment xs ≡ xs
-  told_missing test moment [] none = refl
-  told_missing test moment (z ∷ xs) none = by (test z) none (told_missing test moment xs)
-    where
-      by : (b : Bool) → cond b (Some z) (find test xs) ≡ None → (find test xs ≡ None → with_since test moment xs ≡ xs)
-          → cond b (record z { since = moment } ∷ xs) (z ∷ with_since test moment xs) ≡ z ∷ xs
-      by true e ih = cc
-      by false e ih = ap (λ l. z ∷ l) (ih e)
+  -- one for an empty slot
+  abbrev gap : Option (Slot P) → ℕ
+  gap one = cond (is_none one) 1 0
 
   -- ---- the first slot of a pair
 
   module _ (pair : ℕ) where
-    passes : (slot : Slot P) → pair_in (Some slot) ≡ Some pair → has_pair pair (waiter_of slot) ≡ true
-    passes slot e = eq-eqb slot.pair pair (some_same slot.pair pair e)
-
-    fails : (slot : Slot P) → (pair_in (Some slot) ≡ Some pair → ⊥) → has_pair pair (waiter_of slot) ≡ false
-    fails slot never = by_bool (has_pair pair (waiter_of slot))
-        (λ is. absurd (never (ap Some (eqb-true slot.pair pair is)))) (λ other. other)
-
     none_stands : (slots : List (Option (Slot P))) → ((at : ℕ) → pair_in (held slots at) ≡ Some pair → ⊥)
         → find (has_pair pair) (live slots) ≡ None
     none_stands [] never = refl
     none_stands (None ∷ slots) never = none_stands slots (λ at. never (suc at))
     none_stands (Some slot ∷ slots) never =
-        ap (λ b. cond b (Some (waiter_of slot)) (find (has_pair pair) (live slots))) (fails slot (never zero))
-        ∙ none_stands slots (λ at. never (suc at))
+        grind (arith, nat_tests, never zero, (none_stands slots (λ at. never (suc at))))
 
     first_stands : (slots : List (Option (Slot P))) (at : ℕ)
         → ((other : ℕ) → other < at → pair_in (held slots other) ≡ Some pair → ⊥)
@@ -120,7 +64,7 @@ module _ {P : Type 0} where
       split = refl;
       is_at = refl;
       others = refl;
-      same = passes slot there;
+      same = eq-eqb slot.pair pair (same_Some slot.pair pair there);
     }
     first_stands (one ∷ slots) (suc at) never there =
         let rest = first_stands slots at (λ other low. never (suc other) (omega (arith, low))) there in
@@ -137,15 +81,12 @@ module _ {P : Type 0} where
         before_it : (one : Option (Slot P)) (before : List (Option (Slot P))) → (pair_in one ≡ Some pair → ⊥)
             → find (has_pair pair) (live before) ≡ None → find (has_pair pair) (live (one ∷ before)) ≡ None
         before_it None before never others = others
-        before_it (Some slot) before never others =
-            ap (λ b. cond b (Some (waiter_of slot)) (find (has_pair pair) (live before))) (fails slot never) ∙ others
+        before_it (Some slot) before never others = grind (arith, nat_tests, never, others)
 
     module _ (slots : List (Option (Slot P))) (at : ℕ) (first : IsFirstSlot pair slots at) where
-      pub there : slice_get slots at ≡ Some (Some first.slot)
-      there = ap (λ l. slice_get l at) first.split ∙ get_seam first.before (Some first.slot) first.after at first.is_at
-
       pub held_there : slice_index_or slots at None ≡ Some first.slot
-      held_there = get_or_from_slice_get slots at (Some first.slot) None there
+      held_there = ap (λ l. slice_index_or l at None) first.split
+          ∙ get_or_at first.before (Some first.slot) first.after None at (sym first.is_at)
 
       live_split : live slots ≡ live first.before ++ waiter_of first.slot ∷ live first.after
       live_split = ap live first.split ∙ live_append first.before (Some first.slot ∷ first.after)
@@ -156,14 +97,14 @@ module _ {P : Type 0} where
 
       set_there : (one : Option (Slot P)) → slice_set slots at one ≡ first.before ++ one ∷ first.after
       set_there one = ap (λ l. slice_set l at one) first.split
-          ∙ set_seam first.before (Some first.slot) one first.after at first.is_at
+          ∙ set_at first.before (Some first.slot) first.after one at (sym first.is_at)
 
-      -- the number of its pair is less than what all are less than
-      pub room_of : (room : ℕ) → HaveRoom room (live slots) → pair < room
-      room_of room h =
-          subst (λ n. n < room) (eqb-true first.slot.pair pair first.same)
-          (each_find (λ w. w.pair < room) (has_pair pair) (live slots) (waiter_of first.slot)
-          (each_of_all (λ w. w.pair < room) (live slots) h) found)
+      -- there is a place for the pair
+      pub room_of : (sinces : List (Option ℕ)) → AreTold sinces (live slots) → pair < length sinces
+      room_of sinces told =
+          subst (λ n. n < length sinces) (eqb-true first.slot.pair pair first.same)
+          (each_find (λ w. w.pair < length sinces) (has_pair pair) (live slots) (waiter_of first.slot)
+          (each_of_all (λ w. w.pair < length sinces) (live slots) told.room) found)
 
       -- it is empty
       pub live_taken : live (slice_set slots at None) ≡ without_first (has_pair pair) (live slots)
@@ -171,28 +112,18 @@ module _ {P : Type 0} where
           ∙ sym (ap (without_first (has_pair pair)) live_split
           ∙ without_seam (has_pair pair) (live first.before) (waiter_of first.slot) (live first.after) first.others first.same)
 
-      -- another moment is told of it
-      pub live_told : (moment : Option ℕ) (slot : Slot P)
-          → waiter_of slot ≡ record (waiter_of first.slot) { since = moment }
-          → live (slice_set slots at (Some slot)) ≡ with_since (has_pair pair) moment (live slots)
-      live_told moment slot e = ap live (set_there (Some slot)) ∙ live_append first.before (Some slot ∷ first.after)
-          ∙ ap (λ w. live first.before ++ w ∷ live first.after) e
-          ∙ sym (ap (with_since (has_pair pair) moment) live_split
-          ∙ told_seam (has_pair pair) moment (live first.before) (waiter_of first.slot) (live first.after) first.others
-          first.same)
-
-      -- the same moment is told of it
-      pub told_still : (moment : Option ℕ) → first.slot.since ≡ moment → live slots ≡ with_since (has_pair pair) moment (live slots)
-      told_still moment e = live_split
-          ∙ ap (λ since. live first.before ++ record (waiter_of first.slot) { since = since } ∷ live first.after) e
-          ∙ sym (ap (with_since (has_pair pair) moment) live_split
-          ∙ told_seam (has_pair pair) moment (live first.before) (waiter_of first.slot) (live first.after) first.others
-          first.same)
+      pub gaps_taken : count_by is_none (slice_set slots at None) ≡ count_by is_none slots + 1
+      gaps_taken = omega (
+        arith,
+        ap (count_by is_none) (set_there None),
+        ap (count_by is_none) first.split,
+        sum_by-append gap first.before (None ∷ first.after),
+        sum_by-append gap first.before (Some first.slot ∷ first.after),
+        sum_by-cons gap None first.after,
+        sum_by-cons gap (Some first.slot) first.after,
+      )
 
   -- ---- gaps
-
-  abbrev gap : Option (Slot P) → ℕ
-  gap one = cond (is_none one) 1 0
 
   pub gaps_and_live : (slots : List (Option (Slot P))) → count_by is_none slots + length (live slots) ≡ length slots
   gaps_and_live [] = refl
@@ -213,23 +144,6 @@ module _ {P : Type 0} where
       let more : count_by is_none (slots ++ Some slot ∷ []) ≡ count_by is_none slots + 0
       = sum_by-append gap slots (Some slot ∷ []) in
       omega (arith, more)
-
-  module _ (slots : List (Option (Slot P))) (at : ℕ) (slot : Slot P) (e : slice_get slots at ≡ Some (Some slot)) where
-    low : at < length slots
-    low = slice_get_within slots at (Some slot) e
-
-    was : gap (slice_index_or slots at None) ≡ 0
-    was = ap gap (get_or_from_slice_get slots at (Some slot) None e)
-
-    pub gaps_taken : count_by is_none (slice_set slots at None) ≡ count_by is_none slots + 1
-    gaps_taken =
-        let set = sum_by-set gap slots at None None low in
-        omega (arith, set, was)
-
-    pub gaps_told : (new : Slot P) → count_by is_none (slice_set slots at (Some new)) ≡ count_by is_none slots
-    gaps_told new =
-        let set = sum_by-set gap slots at (Some new) None low in
-        omega (arith, set, was)
 
   -- where no slot is empty
   pub live_whole : (slots : List (Option (Slot P))) → live (filter is_some slots) ≡ live slots

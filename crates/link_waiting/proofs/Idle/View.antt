@@ -1,37 +1,36 @@
 -- What waits in the slots, as callers see it.
-use Rattle.link_waiting.proofs.Common.{◌≡◌, ℕ, Bool, true, false, cond, List, map, Option, None, refl, sym, ap, ◌∙◌}
-use Rattle.link_waiting.proofs.Common.{subst, option_map, is_none, Result, Ok, Err, each_of_all, find, Ordering}
-use Rattle.link_waiting.proofs.Common.{IsTotalOrder, without_first, Message, same_pair, with_link, AreInPairOrder}
-use Rattle.link_waiting.proofs.Common.{first_of, Slot, Waiter, live, is_of, has_number, with_since, OnlyFirsts}
-use Rattle.link_waiting.proofs.Common.{AreNumbered, told_of, queue_of, since_of, waits_of, OnOk, Slots, Stands, Marked}
+use Rattle.link_waiting.proofs.Common.{◌≡◌, ℕ, Bool, true, false, cond, List, map, Option, Some, None, refl, sym, ap}
+use Rattle.link_waiting.proofs.Common.{◌∙◌, Result, Ok, Err, OnOk, subst, option_map, option_and_then, each_of_all, find, Ordering, IsTotalOrder}
+use Rattle.link_waiting.proofs.Common.{without_first, same_pair, with_link, AreInPairOrder, first_of, number_of_pair}
+use Rattle.link_waiting.proofs.Common.{Slot, Waiter, live, is_of, has_number, AreKept, AreNumbered, IsToldAnew, told_of}
+use Rattle.link_waiting.proofs.Common.{queue_of, since_of, waits_of, Slots, Stands, Marked, moment_at}
 use Rattle.std.proofs.Common.{All}
 use Rattle.std.specs.Result.{is_err}
-use Rattle.link_waiting.specs.Idle.Slots.{AreKept}
 use Rattle.link_waiting.specs.Idle.Waits.{Waits, AllWaits, none_waits, waits_in}
 use Rattle.link_waiting.proofs.Idle.Waiting.{in_pair_order, first_waits, without_waits, one_of}
 use Rattle.link_waiting.proofs.Idle.Numbered.{AreAlike, find_alike, without_alike}
-use Rattle.link_waiting.proofs.Idle.Told.{said, since_is, since_without, since_told}
+use Rattle.link_waiting.proofs.Idle.Told.{since_alike, since_missing, since_anew}
 
 module _ {P : Type 0} (cmp : P → P → Ordering) (given_up : Bool) (slots : Slots P) (value : AllWaits P)
     (is : waits_of cmp given_up slots ≡ value) where
   abbrev ws : List (Waiter P)
   ws = live slots.slots.items
 
+  abbrev in_all : Bool → Waits P
+  in_all b = (let now : Waits P = cond b none_waits (waits_in cmp slots.sinces.items ws) in now)
+
   module _ (up : given_up ≡ false) where
     pub messages_are : queue_of cmp ws ≡ value.messages
-    messages_are = sym (ap (λ b. (let now : Waits P = cond b none_waits (waits_in cmp ws) in now).messages) up)
-        ∙ ap (λ (v : AllWaits P). v.messages) is
+    messages_are = sym (ap (λ b. (in_all b).messages) up) ∙ ap (λ (v : AllWaits P). v.messages) is
 
-    pub told_are : map told_of ws ≡ value.told
-    told_are = sym (ap (λ b. (let now : Waits P = cond b none_waits (waits_in cmp ws) in now).told) up)
-        ∙ ap (λ (v : AllWaits P). v.told) is
+    pub told_are : map (told_of slots.sinces.items) ws ≡ value.told
+    told_are = sym (ap (λ b. (in_all b).told) up) ∙ ap (λ (v : AllWaits P). v.told) is
 
   pub in_order : IsTotalOrder cmp → AreInPairOrder cmp value.messages
   in_order order = by given_up refl
     where
       by : (b : Bool) → given_up ≡ b → AreInPairOrder cmp value.messages
-      by true e = subst (AreInPairOrder cmp) (sym (ap (λ b. (let now : Waits P = cond b none_waits (waits_in cmp ws) in now).messages) e)
-          ∙ ap (λ (v : AllWaits P). v.messages) is) tt
+      by true e = subst (AreInPairOrder cmp) (sym (ap (λ b. (in_all b).messages) e) ∙ ap (λ (v : AllWaits P). v.messages) is) tt
       by false e = subst (AreInPairOrder cmp) (messages_are e) (in_pair_order cmp order ws)
 
 module _ {P : Type 0} (cmp : P → P → Ordering) (order : IsTotalOrder cmp) (o r : P) (number : Option ℕ)
@@ -50,12 +49,6 @@ module _ {P : Type 0} (cmp : P → P → Ordering) (order : IsTotalOrder cmp) (o
       ∙ ap (option_map (λ (w : Waiter P). w.message))
       (find_alike (is_of cmp o r) (has_number number) (live slots.slots.items) each)
 
-  pub since_seen : since_of cmp value.told o r ≡ said (find (has_number number) (live slots.slots.items))
-  since_seen =
-      ap (λ told. since_of cmp told o r) (sym (told_are cmp given_up slots value is up))
-      ∙ since_is cmp (live slots.slots.items) o r
-      ∙ ap said (find_alike (is_of cmp o r) (has_number number) (live slots.slots.items) each)
-
   -- and the others
   pub rest_seen : queue_of cmp (without_first (has_number number) (live slots.slots.items))
       ≡ without_first (same_pair cmp (one_of cmp order o r)) value.messages
@@ -64,21 +57,32 @@ module _ {P : Type 0} (cmp : P → P → Ordering) (order : IsTotalOrder cmp) (o
       ∙ without_waits cmp order o r (live slots.slots.items)
       ∙ ap (without_first (same_pair cmp (one_of cmp order o r))) (messages_are cmp given_up slots value is up)
 
-  pub since_rest : OnlyFirsts (live slots.slots.items)
-      → since_of cmp (map told_of (without_first (has_number number) (live slots.slots.items)))
-      ≡ with_link cmp (since_of cmp value.told) o r None
-  since_rest firsts =
-      since_without cmp order o r number (live slots.slots.items) each firsts
-      ∙ ap (λ told. with_link cmp (since_of cmp told) o r None) (told_are cmp given_up slots value is up)
+  -- what is told of the pair
+  pub since_seen : Stands slots → option_and_then (moment_at slots.sinces.items) number ≡ since_of cmp value.told o r
+  since_seen stands =
+      sym (since_alike cmp slots.sinces.items (live slots.slots.items) stands.told o r number each)
+      ∙ ap (λ told. since_of cmp told o r) (told_are cmp given_up slots value is up)
 
-  pub since_set : (moment : Option ℕ) → (is_none (first_of cmp value.messages o r) ≡ true → moment ≡ None)
-      → since_of cmp (map told_of (with_since (has_number number) moment (live slots.slots.items)))
-      ≡ with_link cmp (since_of cmp value.told) o r moment
-  since_set moment h =
-      since_told cmp order o r number (live slots.slots.items) each moment
-      (λ none. h (ap (λ (o : Option (Message P)). is_none o) (first_seen
-      ∙ ap (option_map (λ (w : Waiter P). w.message))
-      (sym (find_alike (is_of cmp o r) (has_number number) (live slots.slots.items) each) ∙ none))))
+module _ {P : Type 0} (cmp : P → P → Ordering) (order : IsTotalOrder cmp) (pairs : List (P × P)) (o r : P)
+    (given_up : Bool) (slots : Slots P) (value : AllWaits P) (is : waits_of cmp given_up slots ≡ value)
+    (up : given_up ≡ false) (kept : AreKept cmp pairs slots) where
+  abbrev Link : (P → P → Option ℕ) → Option ℕ → Type 0
+  Link since moment = since ≡ with_link cmp (since_of cmp value.told) o r moment
+
+  -- of the pair none waits, and nothing is told
+  pub none_told : All (λ w. is_of cmp o r w ≡ has_number None w) (live slots.slots.items) → Link (since_of cmp value.told) None
+  none_told alike =
+      subst (λ told. since_of cmp told ≡ with_link cmp (since_of cmp told) o r None) (told_are cmp given_up slots value is up)
+      (since_missing cmp slots.sinces.items (live slots.slots.items) kept.stands.told order o r (each_of_all _ _ alike))
+
+  -- another moment is told of the pair
+  pub anew_told : (new : Slots P) (pair : ℕ) (moment : Option ℕ) → AreKept cmp pairs new
+      → number_of_pair cmp pairs o r ≡ Some pair → IsToldAnew pair moment slots.sinces.items new.sinces.items
+      → Link (since_of cmp (waits_of cmp given_up new).told) moment
+  anew_told new pair moment more number anew =
+      ap (since_of cmp) (sym (told_are cmp given_up new (waits_of cmp given_up new) refl up))
+      ∙ since_anew cmp order pairs slots.sinces.items new.sinces.items (live slots.slots.items) (live new.slots.items)
+      kept.stands.told kept.now more.stands.told more.now o r pair moment number anew
       ∙ ap (λ told. with_link cmp (since_of cmp told) o r moment) (told_are cmp given_up slots value is up)
 
 -- ---- what is kept

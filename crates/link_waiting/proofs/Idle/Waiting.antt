@@ -1,9 +1,10 @@
 -- What waits, as the messages in the order of pairs: the first of a pair, and the list without it.
-use Rattle.link_waiting.proofs.Common.{◌≡◌, Bool, true, false, cond, ◌||◌, List, [], ◌∷◌, ◌++◌, map, Some, refl, sym}
+use Rattle.link_waiting.proofs.Common.{◌≡◌, Bool, true, false, cond, ◌||◌, List, [], ◌∷◌, ◌++◌, map, refl, sym}
 use Rattle.link_waiting.proofs.Common.{ap, ◌∙◌, slice_get, suc, ◌+◌, length, arith, filter, find, fold, list_any}
 use Rattle.link_waiting.proofs.Common.{option_map, Ordering, IsTotalOrder, append-nil, by_bool, Each, each_map}
 use Rattle.link_waiting.proofs.Common.{each_without, without_first, Message, pair_before, same_pair, AreInPairOrder}
 use Rattle.link_waiting.proofs.Common.{queued, pair_like, first_of, Waiter, is_of, queue_of, or_parts}
+use Rattle.std.proofs.Math.Bool.{or_comm, or_assoc}
 use Rattle.std.proofs.lemmas.List.{append_assoc}
 use Rattle.std.proofs.lemmas.List.Elements.{filter-append}
 use Rattle.link_simulation.proofs.Rule.Enqueue.{queued_in_order, queued_last}
@@ -13,41 +14,19 @@ use Rattle.link_simulation.proofs.Simulation.PairOrder.{apart_if_before}
 
 -- ---- lists
 
-or_swap : (a b : Bool) → (a || b) ≡ (b || a)
-or_swap true true = refl
-or_swap true false = refl
-or_swap false true = refl
-or_swap false false = refl
-
-or_assoc : (a b c : Bool) → ((a || b) || c) ≡ (a || (b || c))
-or_assoc true b c = refl
-or_assoc false b c = refl
-
 module _ {X : Type 0} (test : X → Bool) where
   find_filter : (xs : List X) → find test xs ≡ slice_get (filter test xs) 0
   find_filter [] = refl
-  find_filter (x ∷ xs) = by (test x) (find_filter xs)
-    where
-      by : (b : Bool) → find test xs ≡ slice_get (filter test xs) 0
-          → cond b (Some x) (find test xs) ≡ slice_get (cond b (x ∷ filter test xs) (filter test xs)) 0
-      by true ih = refl
-      by false ih = ih
+  find_filter (x ∷ xs) = grind (arith, (find_filter xs))
 
   without_none : (xs : List X) → list_any test xs ≡ false → without_first test xs ≡ xs
   without_none [] none = refl
-  without_none (x ∷ xs) none =
-      let parts : (test x ≡ false) × (list_any test xs ≡ false) = or_parts (test x) (list_any test xs) none in
-      ap (λ b. cond b xs (x ∷ without_first test xs)) parts.0 ∙ ap (λ l. x ∷ l) (without_none xs parts.1)
+  without_none (x ∷ xs) none = grind (arith, or_parts, (without_none xs))
 
 pub find_map : {X Y : Type 0} (test : Y → Bool) (f : X → Y) (xs : List X)
     → find test (map f xs) ≡ option_map f (find (λ x. test (f x)) xs)
 find_map test f [] = refl
-find_map {X} {Y} test f (x ∷ xs) = by (test (f x)) (find_map test f xs)
-  where
-    by : (b : Bool) → find test (map f xs) ≡ option_map f (find (λ x. test (f x)) xs)
-        → cond b (Some (f x)) (find test (map f xs)) ≡ option_map f (cond b (Some x) (find (λ x. test (f x)) xs))
-    by true ih = refl
-    by false ih = ih
+find_map test f (x ∷ xs) = grind (arith, (find_map test f xs))
 
 module _ {P : Type 0} (cmp : P → P → Ordering) (order : IsTotalOrder cmp) where
   -- those that waited before, and then these
@@ -106,13 +85,8 @@ module _ {P : Type 0} (cmp : P → P → Ordering) (order : IsTotalOrder cmp) wh
         ap (λ b. b || list_any of ns) other ∙ none_of m ns e after.1
 
     any_joined : (m : Message P) (ms : List (Message P)) → list_any of (queued cmp m ms) ≡ (list_any of ms || of m)
-    any_joined m [] = or_swap (of m) false
-    any_joined m (n ∷ ns) = by (pair_before cmp m n) (any_joined m ns)
-      where
-        by : (b : Bool) → list_any of (queued cmp m ns) ≡ (list_any of ns || of m)
-            → list_any of (cond b (m ∷ n ∷ ns) (n ∷ queued cmp m ns)) ≡ ((of n || list_any of ns) || of m)
-        by true ih = or_swap (of m) (of n || list_any of ns)
-        by false ih = ap (λ b. of n || b) ih ∙ sym (or_assoc (of n) (list_any of ns) (of m))
+    any_joined m [] = or_comm (of m) false
+    any_joined m (n ∷ ns) = grind (arith, or_comm, or_assoc, (any_joined m ns))
 
     -- it stays behind the others
     without_stays : (m : Message P) (ms : List (Message P)) → AreInPairOrder cmp ms → list_any of ms ≡ true
@@ -120,37 +94,26 @@ module _ {P : Type 0} (cmp : P → P → Ordering) (order : IsTotalOrder cmp) wh
     without_stays m [] h any = cc
     without_stays m (n ∷ ns) h any = by_bool (pair_before cmp m n)
         (λ e. first e (all_after m n ns e h.0))
-        (λ e. ap (λ b. without_first of (cond b (m ∷ n ∷ ns) (n ∷ queued cmp m ns))) e
-        ∙ by_bool (of n)
-        (λ is. ap (λ b. cond b (queued cmp m ns) (n ∷ without_first of (queued cmp m ns))) is
-        ∙ sym (ap (λ b. queued cmp m (cond b ns (n ∷ without_first of ns))) is))
-        (λ other. ap (λ b. cond b (queued cmp m ns) (n ∷ without_first of (queued cmp m ns))) other
-        ∙ ap (λ l. n ∷ l) (without_stays m ns h.1 (sym (ap (λ b. b || list_any of ns) other) ∙ any))
-        ∙ sym (ap (λ b. queued cmp m (cond b ns (n ∷ without_first of ns))) other
-        ∙ ap (λ b. cond b (m ∷ n ∷ without_first of ns) (n ∷ queued cmp m (without_first of ns))) e)))
+        (λ e. grind (arith, e, any, (without_stays m ns h.1)))
       where
         first : pair_before cmp m n ≡ true → Each (λ z. pair_before cmp m z ≡ true) (n ∷ ns)
             → without_first of (queued cmp m (n ∷ ns)) ≡ queued cmp m (without_first of (n ∷ ns))
         first e after = by_bool (of m)
             (λ is. let none : list_any of (n ∷ ns) ≡ false = none_of m (n ∷ ns) is after in
             let no : true ≡ false = sym any ∙ none in cc)
-            (λ other. ap (λ b. without_first of (cond b (m ∷ n ∷ ns) (n ∷ queued cmp m ns))) e
-            ∙ ap (λ b. cond b (n ∷ ns) (m ∷ without_first of (n ∷ ns))) other
-            ∙ sym (queued_front m (without_first of (n ∷ ns))
-            (each_without (λ z. pair_before cmp m z ≡ true) of (n ∷ ns) after)))
+            (λ other. grind (
+              arith,
+              e,
+              other,
+              queued_front m (without_first of (n ∷ ns))
+                  (each_without (λ z. pair_before cmp m z ≡ true) of (n ∷ ns) after),
+            ))
 
     -- it is the only one
     without_it : (m : Message P) (ms : List (Message P)) → list_any of ms ≡ false → of m ≡ true
         → without_first of (queued cmp m ms) ≡ ms
     without_it m [] none is = ap (λ b. cond b [] (m ∷ [])) is
-    without_it m (n ∷ ns) none is =
-        let parts : (of n ≡ false) × (list_any of ns ≡ false) = or_parts (of n) (list_any of ns) none in
-        by_bool (pair_before cmp m n)
-        (λ e. ap (λ b. without_first of (cond b (m ∷ n ∷ ns) (n ∷ queued cmp m ns))) e
-        ∙ ap (λ b. cond b (n ∷ ns) (m ∷ without_first of (n ∷ ns))) is)
-        (λ e. ap (λ b. without_first of (cond b (m ∷ n ∷ ns) (n ∷ queued cmp m ns))) e
-        ∙ ap (λ b. cond b (queued cmp m ns) (n ∷ without_first of (queued cmp m ns))) parts.0
-        ∙ ap (λ l. n ∷ l) (without_it m ns parts.1 is))
+    without_it m (n ∷ ns) none is = grind (arith, or_parts, (without_it m ns))
 
     without_before : (ms : List (Message P)) (ws : List (Waiter P)) → AreInPairOrder cmp ms → list_any of ms ≡ true
         → without_first of (joined ms ws) ≡ joined (without_first of ms) ws
@@ -194,12 +157,7 @@ module _ {P : Type 0} (cmp : P → P → Ordering) (order : IsTotalOrder cmp) wh
 module _ {P : Type 0} (cmp : P → P → Ordering) where
   one_queued : (m : Message P) (ms : List (Message P)) → length (queued cmp m ms) ≡ suc (length ms)
   one_queued m [] = refl
-  one_queued m (n ∷ ns) = by (pair_before cmp m n) (one_queued m ns)
-    where
-      by : (b : Bool) → length (queued cmp m ns) ≡ suc (length ns)
-          → length (cond b (m ∷ n ∷ ns) (n ∷ queued cmp m ns)) ≡ suc (suc (length ns))
-      by true h = refl
-      by false h = ap suc h
+  one_queued m (n ∷ ns) = grind (arith, (one_queued m ns))
 
   all_queued : (ms : List (Message P)) (ws : List (Waiter P))
       → length (fold (λ messages waiter. queued cmp waiter.message messages) ms ws) ≡ length ms + length ws

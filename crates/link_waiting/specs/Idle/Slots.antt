@@ -1,25 +1,25 @@
--- The messages that wait, each in a slot, in order of `enqueue`; a slot is empty once its message has left.
-use Rattle.std.specs.Prelude.{⊤, ◌≡◌, ℕ, ◌<◌, ◌==◌, Bool, true, false, ◌&&◌, cond}
-use Rattle.std.specs.Prelude.{List, [], ◌∷◌, ◌++◌, length, map, All, Option, Some, None, is_none, option_map, slice_index_or}
+-- The messages that wait, each in a slot, in order of `enqueue`; a slot is empty once its message has left. And the moment
+-- from which on the first one of a pair may start, by the number of the pair.
+use Rattle.std.specs.Prelude.{◌≡◌, ℕ, ◌<◌, ◌≤◌, ◌==◌, Bool, true, false, ◌&&◌, cond}
+use Rattle.std.specs.Prelude.{List, ◌∷◌, ◌++◌, length, map, All, Option, Some, None, is_none, option_map}
 use Rattle.std.specs.List.{filter_map, find, count_by}
-use Rattle.std.specs.Option.{option_and_then}
 use Rattle.std.specs.declared.cmp.Ordering.{Ordering}
 use Rattle.fairness.specs.Sides.Subjects.{same_peer}
+use Rattle.least_moment.specs.Moments.{moment_at}
 use Rattle.link_simulation.specs.Simulation.Messages.{Message}
 use Rattle.link_pairs.specs.Pairs.Messages.{message_of}
 use Rattle.peer_numbers.specs.Pairs.{number_of_pair}
 use Rattle.link_waiting.specs.declared.slots.Slot.{Slot}
 use Rattle.link_waiting.specs.declared.slots.Slots.{Slots}
 
--- a message that waits, with the number of its pair, and the moment from which on it may start, if one was told
+-- a message that waits, with the number of its pair
 pub record Waiter (P : Type 0) : Type 0 where
   pub message : Message P
   pub pair : ℕ
-  pub since : Option ℕ
 
 module _ {P : Type 0} where
   abbrev pub waiter_of : Slot P → Waiter P
-  waiter_of slot = record { message = message_of slot.message.value; pair = slot.pair; since = slot.since }
+  waiter_of slot = record { message = message_of slot.message.value; pair = slot.pair }
 
   -- those that are in slots, in order
   abbrev pub live : List (Option (Slot P)) → List (Waiter P)
@@ -47,47 +47,27 @@ module _ {P : Type 0} where
     pub others : find (has_pair pair) (live before) ≡ None
     pub same : has_pair pair (waiter_of slot) ≡ true
 
-  -- of the first one that passes another moment is told, or none
-  abbrev pub with_since : (Waiter P → Bool) → Option ℕ → List (Waiter P) → List (Waiter P)
-  with_since test moment [] = []
-  with_since test moment (waiter ∷ more) =
-      cond (test waiter) (record waiter { since = moment } ∷ more) (waiter ∷ with_since test moment more)
+-- what is told of pairs fits what waits: there is a place for the pair of each, and nothing is told of another pair
+pub record AreTold {P : Type 0} (sinces : List (Option ℕ)) (waiters : List (Waiter P)) : Type 0 where
+  pub room : All (λ waiter. waiter.pair < length sinces) waiters
+  pub only : (pair : ℕ) → find (has_pair pair) waiters ≡ None → moment_at sinces pair ≡ None
 
-  -- the moment that is told of the first one of a pair, if one is
-  abbrev pub told_first : ℕ → List (Waiter P) → Option ℕ
-  told_first pair waiters = option_and_then (λ waiter. waiter.since) (find (has_pair pair) waiters)
-
-  -- the moments are those, by the number of the pair
-  abbrev pub AreTold : List (Option ℕ) → List (Waiter P) → Type 0
-  AreTold moments waiters = (pair : ℕ) → slice_index_or moments pair None ≡ told_first pair waiters
-
-  -- the numbers of all pairs are less than that
-  abbrev pub HaveRoom : ℕ → List (Waiter P) → Type 0
-  HaveRoom room = All (λ waiter. waiter.pair < room)
-
-  -- of none of that pair a moment is told
-  abbrev pub NoneTold : ℕ → List (Waiter P) → Type 0
-  NoneTold pair [] = ⊤
-  NoneTold pair (waiter ∷ more) = (has_pair pair waiter ≡ true → waiter.since ≡ None) × NoneTold pair more
-
-  -- a moment is told of the first one of a pair alone
-  abbrev pub OnlyFirsts : List (Waiter P) → Type 0
-  OnlyFirsts [] = ⊤
-  OnlyFirsts (waiter ∷ more) = NoneTold waiter.pair more × OnlyFirsts more
+-- that moment is told of the pair, or none is, and of the others what was
+abbrev pub IsToldAnew : ℕ → Option ℕ → List (Option ℕ) → List (Option ℕ) → Type 0
+IsToldAnew pair moment old new = (at : ℕ) → moment_at new at ≡ cond (at == pair) moment (moment_at old at)
 
 -- what is kept beside the slots fits them
 pub record Stands {P : Type 0} (slots : Slots P) : Type 0 where
   pub chains : slots.chains.now.stands ≡ map pair_in slots.slots.items
-  pub moments : AreTold slots.moments (live slots.slots.items)
-  pub room : HaveRoom (length slots.moments) (live slots.slots.items)
+  pub told : AreTold slots.sinces.items (live slots.slots.items)
+  pub moments : slots.moments ≡ slots.sinces.items
   pub gaps : slots.gaps ≡ count_by is_none slots.slots.items
-  pub firsts : OnlyFirsts (live slots.slots.items)
 
 -- and it can be made to fit those at the last mark with no memory
 pub record Marked {P : Type 0} (slots : Slots P) : Type 0 where
   pub chains : slots.chains.before.stands ≡ map pair_in slots.slots.before
-  pub room : HaveRoom (length slots.moments) (live slots.slots.before)
-  pub firsts : OnlyFirsts (live slots.slots.before)
+  pub told : AreTold slots.sinces.before (live slots.slots.before)
+  pub long : length slots.sinces.before ≤ length slots.moments
 
 module _ {P : Type 0} (cmp : P → P → Ordering) where
   -- whether it is of the ordered pair

@@ -1,11 +1,13 @@
-use Rattle.link_waiting.proofs.Common.{◌≡◌, ℕ, ◌≤◌, ◌-◌, suc, None, length, slice_index_or}
+use Rattle.link_waiting.proofs.Common.{◌≡◌, ℕ, ◌≤◌, ◌-◌, suc, length, moment_at}
 use Rattle.link_waiting.proofs.slots.make_room.Given as goal
 
-abbrev pub invariant-loop-moments : goal.invariant-loop-moments
-invariant-loop-moments l = record {
-  same : (at : ℕ) → slice_index_or l.moments at None ≡ slice_index_or l.initial.moments at None;
-  long : length l.initial.moments ≤ length l.moments;
+abbrev pub invariant-loop-sinces : goal.invariant-loop-sinces
+invariant-loop-sinces l = record {
+  same : (at : ℕ) → moment_at l.sinces.items at ≡ moment_at l.initial.sinces.items at;
+  moments : l.moments ≡ l.sinces.items;
+  more : length l.initial.sinces.items ≤ length l.sinces.items;
+  before : l.sinces.before ≡ l.initial.sinces.before;
 }
 
-abbrev pub decreases-loop-moments : goal.decreases-loop-moments
-decreases-loop-moments l = suc l.pair - length l.moments
+abbrev pub decreases-loop-sinces : goal.decreases-loop-sinces
+decreases-loop-sinces l = suc l.pair - length l.sinces.items

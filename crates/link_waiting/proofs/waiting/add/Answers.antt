@@ -1,6 +1,7 @@
-use Rattle.link_waiting.proofs.Common.{◌≡◌, Some, None, List, Option, sym, subst, message_of, Waiter, live, AreNumbered}
+use Rattle.link_waiting.proofs.Common.{◌≡◌, Some, List, Option, sym, subst, message_of, Waiter, live, AreNumbered}
 use Rattle.link_waiting.proofs.Common.{number_of_pair, Slot}
 use Rattle.link_waiting.proofs.Idle.Numbered.{numbered_more, numbered_added}
+use Rattle.link_waiting.proofs.Idle.Told.{since_same}
 use Rattle.link_pairs.specs.declared.message.Message.{Message}
 use Rattle.link_waiting.proofs.waiting.add.Given as given
 use Rattle.link_waiting.proofs.waiting.add.Goals as goal
@@ -29,17 +30,25 @@ module _ (g : given.Over) (c : goal.In_ok-push g) where
       (numbered_more g.P.Ord.cmp g.met.P.Ord.total c.args.pairs.now c.args.message.origin c.args.message.recipient
       c.add.new.self c.in_ok-pair.ensures.pairs (live c.args.slots.now.slots.before) c.requires.before)
 
+  was : AreNumbered g.P.Ord.cmp c.add.new.self (live c.args.slots.now.slots.items)
+  was = numbered_more g.P.Ord.cmp g.met.P.Ord.total c.args.pairs.now c.args.message.origin c.args.message.recipient
+      c.add.new.self c.in_ok-pair.ensures.pairs (live c.args.slots.now.slots.items) c.requires.now
+
   abbrev waiter : Waiter g.row.P.Denot
-  waiter = record { message = message_of c.in_ok-new.field-0.value; pair = c.in_ok-pair.pair; since = None }
+  waiter = record { message = message_of c.in_ok-new.field-0.value; pair = c.in_ok-pair.pair }
 
   numbered : AreNumbered g.P.Ord.cmp c.add.new.self (live c.push.new.self.slots.items)
   numbered = subst (AreNumbered g.P.Ord.cmp c.add.new.self) (sym c.in_ok-push.ensures.now)
       (numbered_added g.P.Ord.cmp g.met.P.Ord.total c.add.new.self waiter
       (subst (λ (m : Message g.row.P.Denot). number_of_pair g.P.Ord.cmp c.add.new.self m.origin m.recipient ≡ Some c.in_ok-pair.pair)
       (sym c.in_ok-new.ensures.ok) c.in_ok-pair.ensures.number)
-      (live c.args.slots.now.slots.items)
-      (numbered_more g.P.Ord.cmp g.met.P.Ord.total c.args.pairs.now c.args.message.origin c.args.message.recipient
-      c.add.new.self c.in_ok-pair.ensures.pairs (live c.args.slots.now.slots.items) c.requires.now))
+      (live c.args.slots.now.slots.items) was)
+
+pub returns-clause-told : goal.returns-clause-told
+returns-clause-told g c =
+    since_same g.P.Ord.cmp g.met.P.Ord.total c.add.new.self c.args.slots.now.sinces.items c.push.new.self.sinces.items
+    (live c.args.slots.now.slots.items) (live c.push.new.self.slots.items) c.requires.stands.told (was g c)
+    c.in_ok-push.ensures.stands.told (numbered g c) c.push.ensures.told
 
 pub returns-clause-kept : goal.returns-clause-kept
 returns-clause-kept g c = record {

@@ -6,7 +6,6 @@ use Rattle.link_flights.proofs.Flights.AllSides.{link_left}
 use Rattle.link_flights.proofs.Flights.OnlyRated.{only_beside}
 use Rattle.link_flights.proofs.Flights.Sides.{place_is_of, those_at}
 use Rattle.link_flights.proofs.flight_list.Flights.left_for.Goals as goal
-use Rattle.link_flights.proofs.flight_list.Flights.left_for.Goals.{in-Some+in_ok-product-in-Some, in-None}
 
 pub at-requires : goal.at-requires
 at-requires g c =
@@ -41,19 +40,9 @@ returns-clause-fair g c =
     let whole : left_of cmp caps self.scale component us s ≡ option_map (λ cap. cap * self.scale) c.cap.result =
     link_left cmp order caps self.scale component us c.requires.one_each 0 (flight_at self.at p.x)
     (those_at cmp component list self.at 0 c.args.at p.x placed p.there) c.cap.result (sym cap_is) in
-    let between : c.match-cap.between ≡ left_of cmp caps self.scale component us s =
-    elim c.match-cap.branch [
-      | in-Some+in_ok-product-in-Some w ↦
-          w.between-is ∙ ap Some (omega (arith, w.in_ok-product-in-Some.ensures.value))
-          ∙ sym (ap (option_map (λ cap. cap * self.scale)) w.in-Some.is) ∙ sym whole
-      | in-None w ↦ w.between-is ∙ sym (ap (option_map (λ cap. cap * self.scale)) w.in-None.is) ∙ sym whole
-    ] in
+    let between = c.in_ok-between.ensures.units ∙ sym whole in
     only_beside cmp caps self.scale component list self.at c.args.at p.x (sym c.requires.places ∙ c.requires.only) p.there
     c.unwrap_or.result
-    (c.unwrap_or.ensures ∙ ap (unwrap_or c.least-2.result) c.from_u64-none.ensures
+    (c.unwrap_or.ensures ∙ ap (unwrap_or c.least.result) c.from_u64-none.ensures
     ∙ ap (λ (o : Option ℕ). unwrap_or o 0)
-    (c.least-2.ensures
-    ∙ ap₂ least_of
-    (c.least.ensures
-    ∙ ap₂ least_of (c.in_ok-sent.ensures.left p.x pairs p.there) (c.in_ok-received.ensures.left p.x pairs p.there))
-    between))
+    (c.least.ensures ∙ ap₂ least_of (c.in_ok-ends.ensures.left p.x pairs p.there) between))

@@ -2,6 +2,7 @@ use Rattle.link_flights.proofs.Common.{All, Contains, ◌⊎◌, ◌≡◌, sym,
 use Rattle.link_flights.proofs.Common.{AreListedAt, SharesEndAt}
 use Rattle.link_pairs.specs.declared.message.Message.{Message}
 use Rattle.link_flights.proofs.Flights.Search.{HasListedBoth, both_listed, all_listed_next, first_listed, touched_with, starts_on}
+use Rattle.link_flights.proofs.Flights.Search.{starts_longer}
 use Rattle.link_flights.proofs.flight_list.Flights.list_joining.Goals as goal
 
 pub returns-clause-walked : goal.returns-clause-walked
@@ -40,3 +41,29 @@ join_new_end-requires-2-clause-before g c =
     let first = c.in_ok-join_new_end.ensures in
     first_listed g.P.Ord.cmp c.args.self.now.list.items old.joined.items mid.joined.items first.joined c.args.number
     old.near.items mid.near.items (omega (arith, c.requires.number)) c.requires.walked.listed first.more
+
+pub returns-clause-joined : goal.returns-clause-joined
+returns-clause-joined g c =
+    starts_on c.args.component.now.joined.items c.join_new_end.new.component.joined.items
+    c.join_new_end-2.new.component.joined.items c.in_ok-join_new_end.ensures.joined c.in_ok-join_new_end-2.ensures.joined
+
+pub join_new_end-requires-clause-number : goal.join_new_end-requires-clause-number
+join_new_end-requires-clause-number g c = omega (arith, c.requires.number)
+
+pub join_new_end-requires-clause-before : goal.join_new_end-requires-clause-before
+join_new_end-requires-clause-before g c = c.requires.walked.listed
+
+pub join_new_end-requires-clause-suited : goal.join_new_end-requires-clause-suited
+join_new_end-requires-clause-suited g c = c.requires.walked.suited
+
+pub join_new_end-requires-2-clause-number : goal.join_new_end-requires-2-clause-number
+join_new_end-requires-2-clause-number g c =
+    omega (
+      arith,
+      c.requires.number,
+      starts_longer c.args.component.now.joined.items
+          c.join_new_end.new.component.joined.items c.in_ok-join_new_end.ensures.joined,
+    )
+
+pub join_new_end-requires-2-clause-suited : goal.join_new_end-requires-2-clause-suited
+join_new_end-requires-2-clause-suited g c = c.in_ok-join_new_end.ensures.suited

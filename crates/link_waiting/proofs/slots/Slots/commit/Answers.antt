@@ -20,10 +20,9 @@ returns-then-has_many_gaps-clause-before g c =
 pub returns-then-has_many_gaps-clause-stands : goal.returns-then-has_many_gaps-clause-stands
 returns-then-has_many_gaps-clause-stands g c =
     stands_closed c.args.self.now _ c.requires (closed_up g c)
-    (ap (λ (rows : Rows). rows.stands) c.close_gaps.ensures.now)
-    refl refl
+    (ap (λ (rows : Rows). rows.stands) c.close_gaps.ensures.now) c.commit.ensures.items refl refl
 
 pub returns-then-has_many_gaps-clause-marked : goal.returns-then-has_many_gaps-clause-marked
 returns-then-has_many_gaps-clause-marked g c =
     marked_now _ (returns-then-has_many_gaps-clause-stands g c) c.commit_kept.ensures.before
-    (c.close_gaps.ensures.before ∙ sym c.close_gaps.ensures.now)
+    (c.close_gaps.ensures.before ∙ sym c.close_gaps.ensures.now) (c.commit.ensures.before ∙ sym c.commit.ensures.items)

@@ -17,9 +17,9 @@ loop-next-init g c =
     let ws = live slots.slots.items in
     record {
       within = next.ensures.within;
-      there = due_of_next c.args.now ws slots.moments c.requires.moments 0 next.result next.ensures.some;
+      there = due_of_next c.args.now slots.moments ws 0 next.result next.ensures.some;
       named = subst (Named g c.new-due.result.items)
-          (sym (up_to_next c.args.now ws slots.moments c.requires.moments 0 next.result (omega arith)
+          (sym (up_to_next c.args.now slots.moments ws 0 next.result (omega arith)
           next.ensures.within next.ensures.some next.ensures.none))
           (subst (λ keys. Named g keys []) (sym c.new-due.ensures.items) tt);
     }
@@ -36,9 +36,9 @@ module _ (g : Over) (c : goal.After-next_due-next-in-Some g) where
   there = subst (λ (next : Option ℕ). IfSome next (IsDue c.args.self.now.moments c.args.now)) c.in-Some.is
       c.loop-next.invariant.there
 
-  before : Named g c.loop-next.due.items (due_below c.args.now c.in-Some.pair ws)
+  before : Named g c.loop-next.due.items (due_below c.args.now c.args.self.now.moments c.in-Some.pair ws)
   before = subst (λ (next : Option ℕ). Named g c.loop-next.due.items
-      (due_below c.args.now (unwrap_or next (length c.args.self.now.moments)) ws)) c.in-Some.is
+      (due_below c.args.now c.args.self.now.moments (unwrap_or next (length c.args.self.now.moments)) ws)) c.in-Some.is
       c.loop-next.invariant.named
 
   found : find (has_pair c.in-Some.pair) ws ≡ Some (waiter_of c.in-Some-first.slot.now)
@@ -56,20 +56,21 @@ loop-next-preserved g c =
     let w = waiter_of c.in-Some-first.slot.now in
     record {
       within = next.ensures.within;
-      there = due_of_next c.args.now (ws g c) slots.moments c.requires.moments (c.in-Some.pair + 1) next.result
-          next.ensures.some;
+      there = due_of_next c.args.now slots.moments (ws g c) (c.in-Some.pair + 1) next.result next.ensures.some;
       named = subst (Named g c.push.new.self.items)
-          (sym (one_and_next c.args.now (ws g c) slots.moments c.requires.moments c.in-Some.pair w
+          (sym (one_and_next c.args.now slots.moments (ws g c) c.in-Some.pair w
           next.result (low g c) (found g c) (there g c) next.ensures.within next.ensures.some next.ensures.none))
-          (subst (λ keys. Named g keys (due_below c.args.now c.in-Some.pair (ws g c) ++ w ∷ []))
+          (subst (λ keys. Named g keys (due_below c.args.now slots.moments c.in-Some.pair (ws g c) ++ w ∷ []))
           (sym c.in_ok-push.ensures.items)
           (zip-push (λ key waiter. NamesPairOf g.P.Ord.cmp key waiter.message) c.loop-next.due.items
-          (due_below c.args.now c.in-Some.pair (ws g c)) c.in_ok-new.field-0 w (before g c) (names g c)));
+          (due_below c.args.now slots.moments c.in-Some.pair (ws g c)) c.in_ok-new.field-0 w (before g c) (names g c)));
     }
 
 pub returns-clause-due : goal.returns-clause-due
 returns-clause-due g c =
     let slots = c.args.self.now in
-    subst (λ (next : Option ℕ). Named g c.loop-next.due.items
-    (due_below c.args.now (unwrap_or next (length slots.moments)) (live slots.slots.items))) c.in_default.is
-    c.loop-next.invariant.named
+    subst (λ (moments : List (Option ℕ)). Named g c.loop-next.due.items
+    (due_below c.args.now moments (length moments) (live slots.slots.items))) c.requires.moments
+    (subst (λ (next : Option ℕ). Named g c.loop-next.due.items
+    (due_below c.args.now slots.moments (unwrap_or next (length slots.moments)) (live slots.slots.items))) c.in_default.is
+    c.loop-next.invariant.named)

@@ -6,7 +6,7 @@ invariant-loop-next g l = record {
   within : IfSome l.next (λ at. at < length l.self.moments);
   there : IfSome l.next (IsDue l.self.moments l.now);
   named : AllZip (λ key waiter. NamesPairOf g.P.Ord.cmp key waiter.message) l.due.items
-      (due_below l.now (unwrap_or l.next (length l.self.moments)) (live l.self.slots.items));
+      (due_below l.now l.self.moments (unwrap_or l.next (length l.self.moments)) (live l.self.slots.items));
 }
 
 abbrev pub decreases-loop-next : goal.decreases-loop-next

@@ -1,9 +1,6 @@
-use Rattle.link_waiting.proofs.Common.{◌≡◌, Some, sym, ap, ◌∙◌, waiter_of, Slot}
+use Rattle.link_waiting.proofs.Common.{Some, sym, ap, ◌∙◌, waiter_of, Slot, same_Some}
 use Rattle.link_waiting.proofs.Idle.Slots.{found, held_there}
 use Rattle.link_waiting.proofs.slots.Slots.first.Goals as goal
-
-same : {X : Type 0} (a b : X) → Some a ≡ Some b → a ≡ b
-same a b e = cc
 
 pub returns : goal.returns
 returns g c =
@@ -11,5 +8,5 @@ returns g c =
     let at = c.in_ok-first_slot.field-0 in
     let first = c.in_ok-first_slot.ensures.some in
     ap (λ (slot : Slot g.row.P.Denot). Some (waiter_of slot))
-    (same c.slot.result.now first.slot (sym c.slot.ensures ∙ held_there c.args.pair items at first))
+    (same_Some c.slot.result.now first.slot (sym c.slot.ensures ∙ held_there c.args.pair items at first))
     ∙ sym (found c.args.pair items at first)

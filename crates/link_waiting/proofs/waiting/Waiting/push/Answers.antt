@@ -1,7 +1,5 @@
-use Rattle.link_waiting.proofs.Common.{List, None, map, refl, sym, ap, ◌∙◌, Waiter, live, AreNumbered, message_of}
-use Rattle.link_waiting.proofs.Common.{since_of, told_of, waits_of}
+use Rattle.link_waiting.proofs.Common.{refl, sym, ap, ◌∙◌, live, AreNumbered, since_of, waits_of}
 use Rattle.link_waiting.proofs.Idle.View.{kept_back, on_ok, told_are}
-use Rattle.link_waiting.proofs.Idle.Told.{since_added}
 use Rattle.link_waiting.proofs.waiting.Waiting.push.Given as given
 use Rattle.link_waiting.proofs.waiting.Waiting.push.Goals as goal
 use Rattle.link_waiting.proofs.waiting.Waiting.push.Goals.{then-self-via-then-self, then-self-via-else-self+then-is_err}
@@ -21,12 +19,9 @@ invariant_of-self-then-self g c =
 pub returns-clause-since : goal.returns-clause-since
 returns-clause-since g c =
     let inside = c.self.inside in
-    let added = on_ok c.add.result (sym c.if-is_err.ensures.value) c.add.ensures.now in
     ap (since_of g.P.Ord.cmp)
     (sym (told_are g.P.Ord.cmp inside.given_up c.add.new.slots (waits_of g.P.Ord.cmp inside.given_up c.add.new.slots) refl
     c.if-self.false))
-    ∙ ap (λ (ws : List (Waiter g.row.P.Denot)). since_of g.P.Ord.cmp (map told_of ws)) added.1
-    ∙ since_added g.P.Ord.cmp (live inside.slots.slots.items)
-    (record { message = message_of c.args.message; pair = added.0; since = None }) refl
+    ∙ on_ok c.add.result (sym c.if-is_err.ensures.value) c.add.ensures.told
     ∙ ap (since_of g.P.Ord.cmp)
     (told_are g.P.Ord.cmp inside.given_up inside.slots c.args.self.now c.self.view_is c.if-self.false)
