@@ -19,7 +19,7 @@ mod sides;
 
 pub use alone::parts_alone;
 pub use fairness::bandwidth::{
-    Flow, FlowCaps, Rate, draining_splits, duration, laws, nothing_is_left_from_the_least_time_on,
+    Flow, FlowCaps, Rate, draining_splits, duration, nothing_is_left_from_the_least_time_on,
     rates_are_equal_by_value, there_is_one_duration, there_is_one_least_time, transfer,
 };
 use fairness::error::Error;

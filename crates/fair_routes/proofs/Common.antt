@@ -5,9 +5,9 @@ pub use Rattle.fairness.proofs.Fairness.SameSides.{fairness_is_of_the_set}
 pub use Rattle.fairness.proofs.Filling.Frozen.{if_err, none_or_some, not_some, some_is, at_none}
 pub use Rattle.fair_rates.proofs.Filling.Growing.{AreScaled}
 pub use Rattle.fairness.proofs.Filling.States.{IsFilledTo}
-pub use Rattle.fairness.proofs.Lists.Members.{In, any_passes, contains_from_in, from_map, in_from_contains, in_left}
-pub use Rattle.fairness.proofs.Lists.Members.{in_map, in_right, any_fails, in_either, in_get, get_in, get_from_map}
-pub use Rattle.fairness.proofs.Lists.Places.{places_alike, place_here, passes_here, below_length, places_below}
+pub use Rattle.fairness.proofs.Lists.Members.{In, contains_from_in, from_map, in_from_contains, in_left}
+pub use Rattle.fairness.proofs.Lists.Members.{in_right, any_fails, in_either}
+pub use Rattle.fairness.proofs.Lists.Places.{places_alike, places_below}
 pub use Rattle.fairness.proofs.Lists.SumOrder.{All-from_contains, sum_by-scaled}
 pub use Rattle.fairness.proofs.Lists.Sums.{sum_by_same}
 pub use Rattle.fairness.specs.Fairness.Exists.{product}
@@ -21,7 +21,7 @@ pub use Rattle.fairness.specs.Numbers.Ratio.{IsWorth}
 pub use Rattle.fairness.specs.declared.bandwidth.Rate.{Rate}
 pub use Rattle.fairness.specs.declared.bandwidth.Rate.TheVariants.{Finite, Unlimited}
 pub use Rattle.fairness.specs.declared.ratio.Ratio.{Ratio}
-pub use Rattle.fair_routes.specs.Network.Laws.{IsLinkSide, routes_at, rates_at}
+pub use Rattle.fair_routes.specs.Network.Laws.{IsLinkSide}
 pub use Rattle.fair_routes.specs.Network.Rising.{AreAllHeld, HasFrozen, HasLeastRoom, frozen_in, rising_weight}
 pub use Rattle.fair_routes.specs.Network.Rising.{slack_of, AreFilledByWeight}
 pub use Rattle.fair_routes.specs.Network.Sides.{AreListed, has_link, side_of, side_of_link, sides_from, sides_over}
@@ -48,11 +48,10 @@ pub use Rattle.std.proofs.lemmas.List.{ext_get_or, replicate-append-replicate, l
 pub use Rattle.std.proofs.lemmas.List.{get_or_past}
 pub use Rattle.std.proofs.lemmas.List.Elements.{All-contains, All-map, All-nil, All-push, All-tail, All-head, All-more}
 pub use Rattle.std.proofs.lemmas.List.Folds.{list_any-append}
-pub use Rattle.std.proofs.lemmas.List.FromFn.{length-range_with_len, get_or-range_with_len}
 pub use Rattle.std.proofs.lemmas.List.Sums.{sum_by-cons, sum_by_more}
 pub use Rattle.std.proofs.lemmas.Option.{get_or_from_slice_get, slice_get-get_or, slice_get-map, slice_get_within}
 pub use Rattle.std.specs.BTreeMap.{keys, values}
-pub use Rattle.std.specs.List.{AllZip, list_any, zip, range_with_len, AllPairs}
+pub use Rattle.std.specs.List.{AllZip, list_any, zip, AllPairs}
 pub use Rattle.std.specs.Map.Iter.{deref}
 pub use Rattle.std.specs.Option.{is_none}
 pub use Rattle.std.specs.Prelude.{count_by, option_map, slice_get, slice_index, unwrap_or, ◌||◌, MatchOption}

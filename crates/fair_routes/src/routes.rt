@@ -6,7 +6,6 @@ ghost use Rattle.std.specs.Prelude.{IfOk, IfErr, map};
 ghost use Rattle.fair_routes.specs.Network.Allocation.{IsAllocated, IsCounted, IsRefusal};
 
 mod error;
-pub mod laws;
 pub mod network;
 mod sides;
 pub mod weighted;

@@ -10,13 +10,11 @@ pub use Rattle.std.proofs.Math.Nat.{le_of_mul-le-mul_right, lt_of_mul-lt-mul_rig
 pub use Rattle.std.proofs.lemmas.Bool.{and_from, and_parts, cases_eq, cases_lt, eq-eqb, eqb-true, false≢true}
 pub use Rattle.std.proofs.lemmas.Cmp.{eq_by_cmp_equiv}
 pub use Rattle.std.proofs.lemmas.Grind.{common_steps}
-pub use Rattle.std.proofs.lemmas.List.{append-nil, get_or-map}
-pub use Rattle.std.proofs.lemmas.List.{length-map, map-append}
+pub use Rattle.std.proofs.lemmas.List.{append-nil}
+pub use Rattle.std.proofs.lemmas.List.{map-append}
 pub use Rattle.std.proofs.lemmas.List.Elements.{All-append, All-cons, All-contains, All-head, All-nil}
 pub use Rattle.std.proofs.lemmas.List.Elements.{All-tail, All-weaker, Contains-append_left}
 pub use Rattle.std.proofs.lemmas.List.Elements.{Contains-append_right}
-pub use Rattle.std.proofs.lemmas.List.Sorted.{Contains-permutation, IsPermutation-refl}
-pub use Rattle.std.proofs.lemmas.List.Sorted.{IsPermutation-sym}
 pub use Rattle.std.proofs.lemmas.List.Sums.{get_or-le-sum_by, sum_by-cons}
 pub use Rattle.std.proofs.lemmas.Option.{same_Some, slice_get-map}
 pub use Rattle.std.specs.Cmp.{IsTotalOrder}
@@ -30,9 +28,8 @@ pub use Rattle.fairness.specs.Fairness.Allocation.{IsAllocation}
 pub use Rattle.fairness.specs.Fairness.Exists.{product}
 pub use Rattle.fairness.specs.Fairness.Fair.{HasBottleneck, IsFair, IsLimited, IsWithinCaps, Side, Uses, load}
 pub use Rattle.fairness.specs.Fairness.Laws.{HaveUsersBelow}
-pub use Rattle.fairness.specs.Fairness.Part.{flagged}
-pub use Rattle.fairness.specs.Fairness.Rates.{AreFairRates, HasDifferentRates, IsRateOf, last_rate}
-pub use Rattle.fairness.specs.Fairness.UnderCaps.{AreFairUnder, AreOfPeers, IsCappedSide, cap_of, limits, sides_under}
+pub use Rattle.fairness.specs.Fairness.Rates.{AreFairRates, IsRateOf, last_rate}
+pub use Rattle.fairness.specs.Fairness.UnderCaps.{AreOfPeers, IsCappedSide, cap_of, limits, sides_under}
 pub use Rattle.fairness.specs.Filling.Frozen.{at_level}
 pub use Rattle.fairness.specs.Lists.Places.{places_from}
 pub use Rattle.fairness.specs.Lists.Sorted.{IsGap}

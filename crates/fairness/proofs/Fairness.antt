@@ -1,25 +1,15 @@
 -- The laws of max-min fairness.
 pub mod Allocation
-pub mod Among
 pub mod AnswersUnderCaps
-pub mod Apart
-pub mod ById
 pub mod ByMembers
 pub mod ClosedSides
 pub mod Decided
 pub mod Denominators
-pub mod Example
-pub mod ExistUnderCaps
 pub mod LastRate
 pub mod MappedSides
 pub mod MaxMin
 pub mod OneAllocation
-pub mod Order
-pub mod Part
-pub mod Rates
 pub mod SameSides
 pub mod SharedBeside
 pub mod Sharing
-pub mod Uncapped
 pub mod WholeRates
-pub mod WithinCap

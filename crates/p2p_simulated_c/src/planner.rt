@@ -15,8 +15,8 @@ ghost use Rattle.p2p_simulated_c.specs.Written.{written};
 
 use super::records::{LinkCap, PeerCap, PlanFlow, PlanRate, Wide};
 use super::status::{MADE, number_of};
+use fair_laws::rates::answers_are_those_of_the_caps;
 use fair_rates::bandwidth::allocate_linked_counted;
-use fairness::bandwidth::laws::answers_are_those_of_the_caps;
 use fairness::bandwidth::{Flow, Rate};
 use fairness::error::Error;
 use std::alloc::Global;

@@ -9,7 +9,6 @@ ghost use Rattle.fair_routes.specs.Network.Weights.{weight_at, weighted, AreWeig
 ghost use Rattle.fair_routes.specs.Network.Weights.{IsWeightRefusal, HaveLittleWeight, HasMuchWeight};
 
 mod error;
-pub mod laws;
 mod rising;
 mod room;
 

@@ -1,0 +1,4 @@
+mod Fairness
+mod Network
+mod Refusals
+mod Common

@@ -1,5 +1,0 @@
-use Rattle.fair_routes.proofs.Network.Peers.{linked_is_over_three_links}
-use Rattle.fair_routes.proofs.routes.laws.flows_between_peers_use_three_links.Goals as goal
-
-pub returns : goal.returns
-returns g c = linked_is_over_three_links g.P.Ord.cmp g.met.P.Ord.total

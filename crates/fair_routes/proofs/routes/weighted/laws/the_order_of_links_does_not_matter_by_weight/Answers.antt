@@ -1,5 +1,0 @@
-use Rattle.fair_routes.proofs.Network.WeightLaws.{the_order_of_links_does_not_matter_by_weight}
-use Rattle.fair_routes.proofs.routes.weighted.laws.the_order_of_links_does_not_matter_by_weight.Goals as goal
-
-pub returns : goal.returns
-returns c = the_order_of_links_does_not_matter_by_weight

@@ -1,5 +1,0 @@
-use Rattle.fairness.proofs.Fairness.ExistUnderCaps.{exist_under_caps}
-use Rattle.fairness.proofs.bandwidth.laws.fair_amounts_exist_under_caps.Goals as goal
-
-pub returns : goal.returns
-returns g c = exist_under_caps g.P.Ord.cmp g.met.P.Ord.total

@@ -1,5 +1,0 @@
-use Rattle.fairness.proofs.Fairness.ClosedSides.{fair_rates_are_zero_where_closed}
-use Rattle.fairness.proofs.bandwidth.laws.fair_rates_are_zero_where_closed.Goals as goal
-
-pub returns : goal.returns
-returns c = fair_rates_are_zero_where_closed

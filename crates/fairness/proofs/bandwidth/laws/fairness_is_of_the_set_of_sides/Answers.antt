@@ -1,5 +1,0 @@
-use Rattle.fairness.proofs.Fairness.SameSides.{fairness_is_of_the_set}
-use Rattle.fairness.proofs.bandwidth.laws.fairness_is_of_the_set_of_sides.Goals as goal
-
-pub returns : goal.returns
-returns c = fairness_is_of_the_set

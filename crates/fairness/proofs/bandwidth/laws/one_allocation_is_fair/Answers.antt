@@ -1,5 +1,0 @@
-use Rattle.fairness.proofs.Fairness.OneAllocation.{one_allocation}
-use Rattle.fairness.proofs.bandwidth.laws.one_allocation_is_fair.Goals as goal
-
-pub returns : goal.returns
-returns c = one_allocation
