@@ -52,7 +52,7 @@ module _ {P : Type 0} (cmp : P → P → Ordering) (component : Component P) (wh
   receives : (p : P) → is_receiver cmp component p ≡ true
   receives p = ap (λ b. b || list_any (λ m. same_peer cmp p m.value.recipient) component.joined.items) whole
 
-  both : (m : Message P) → has_both cmp component m ≡ true
+  pub both : (m : Message P) → has_both cmp component m ≡ true
   both m = ap₂ (λ a b. a && b) (sends m.origin) (receives m.recipient)
 
   pub touched : (m : Message P) → touches cmp component m ≡ true

@@ -99,3 +99,18 @@ pub returns-clause-listed : goal.returns-clause-listed
 returns-clause-listed g c =
     walked_all g.P.Ord.cmp c.args.end c.args.message.now c.args.self.now.list.items c.loop-next.next
     c.args.component.now.near.items c.loop-next.component.near.items c.loop-next.invariant.0.walked c.in_default.is
+
+pub list-requires-clause-noted : goal.list-requires-clause-noted
+list-requires-clause-noted g c = c.loop-next.invariant.1
+
+pub returns-clause-more : goal.returns-clause-more
+returns-clause-more g c = c.loop-next.invariant.0.walked.so_far.more
+
+pub returns-clause-only : goal.returns-clause-only
+returns-clause-only g c = c.loop-next.invariant.0.walked.so_far.only
+
+pub returns-clause-noted : goal.returns-clause-noted
+returns-clause-noted g c = c.loop-next.invariant.1
+
+pub returns-clause-suited : goal.returns-clause-suited
+returns-clause-suited g c = c.loop-next.invariant.0.suited

@@ -67,3 +67,30 @@ join_new_end-requires-2-clause-number g c =
 
 pub join_new_end-requires-2-clause-suited : goal.join_new_end-requires-2-clause-suited
 join_new_end-requires-2-clause-suited g c = c.in_ok-join_new_end.ensures.suited
+
+pub join_new_end-requires-clause-noted : goal.join_new_end-requires-clause-noted
+join_new_end-requires-clause-noted g c = c.requires.noted
+
+pub join_new_end-requires-clause-each : goal.join_new_end-requires-clause-each
+join_new_end-requires-clause-each g c = c.requires.each
+
+pub join_new_end-requires-2-clause-noted : goal.join_new_end-requires-2-clause-noted
+join_new_end-requires-2-clause-noted g c = c.in_ok-join_new_end.ensures.noted
+
+pub join_new_end-requires-2-clause-each : goal.join_new_end-requires-2-clause-each
+join_new_end-requires-2-clause-each g c = c.join_new_end.ensures.each ∙ c.requires.each
+
+pub returns-clause-noted : goal.returns-clause-noted
+returns-clause-noted g c = c.in_ok-join_new_end-2.ensures.noted
+
+pub index-requires : goal.index-requires
+index-requires g c = omega (arith, c.requires.number)
+
+pub returns-clause-each : goal.returns-clause-each
+returns-clause-each g c = c.join_new_end-2.ensures.each ∙ c.join_new_end.ensures.each
+
+pub returns-clause-level : goal.returns-clause-level
+returns-clause-level g c = c.join_new_end-2.ensures.level ∙ c.join_new_end.ensures.level
+
+pub returns-clause-whole : goal.returns-clause-whole
+returns-clause-whole g c = c.join_new_end-2.ensures.whole ∙ c.join_new_end.ensures.whole
