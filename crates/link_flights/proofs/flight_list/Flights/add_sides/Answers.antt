@@ -1,12 +1,12 @@
 use Rattle.link_flights.proofs.Common.{◌≡◌, ◌<◌, ◌+◌, ◌++◌, ◌∷◌, [], inl, inr, true, Bool, Some, List, get_or}
 use Rattle.link_flights.proofs.Common.{slice_get, length, map, sym, ap, ◌∙◌, subst, arith, Contains, All, IfSome}
-use Rattle.link_flights.proofs.Common.{false, refl, true≢false, get_or_from_slice_get, slice_get_within, option_map, ◌-◌, ◌*◌, map-append, slice_get-get_or, limits, side_of, caps_of}
+use Rattle.link_flights.proofs.Common.{option_map, ◌-◌, ◌*◌, map-append, slice_get-get_or, limits, side_of, caps_of}
 use Rattle.link_flights.proofs.Common.{Pair, looked_up, Flight, is_of, places_of, flight_at, in_units, left_caps}
 use Rattle.link_flights.proofs.Common.{flows_of, flow_sent, end_subject, kept_load, uses_end, IsSideOf, places_below}
-use Rattle.std.proofs.lemmas.List.{length-replicate, with_items_is}
+use Rattle.std.proofs.lemmas.List.{with_items_is}
 use Rattle.link_flights.proofs.Flights.AllSides.{HaveAdded, of_left, cap_left, end_kind, side_there, none_there, side_added, sides_added}
 use Rattle.link_flights.proofs.Flights.Sides.{place_is_of, flow_at, as_many, limited_itself, uses_if_limited}
-use Rattle.std.proofs.lemmas.List.Elements.{All-replicate, Contains-get_or}
+use Rattle.std.proofs.lemmas.List.Elements.{Contains-get_or}
 use Rattle.link_flights.proofs.flight_list.Flights.add_sides.Goals as goal
 use Rattle.link_flights.proofs.flight_list.Flights.add_sides.Goals.{in-Some+in_ok-push, in_default}
 
@@ -172,23 +172,3 @@ side_at-requires-clause-places g c = c.requires.places
 
 pub side_at-requires-clause-suited : goal.side_at-requires-clause-suited
 side_at-requires-clause-suited g c = c.requires.suited
-
-pub loop-number-init : goal.loop-number-init
-loop-number-init g c =
-    let marks = c.forget_all.new.has_side.items in
-    let none = c.in_ok-forget_all.ensures.none in
-    let unmarked : All (λ b. b ≡ false) marks =
-    subst (All (λ b. b ≡ false)) (sym none) (All-replicate (λ b. b ≡ false) _ false refl) in
-    record {
-      added = λ pairs. record {
-        still = λ other among. among;
-        only = λ other among. inl among;
-        each = λ k is. elim is [
-          | inl below ↦ absurd (omega (arith, below))
-          | inr noted ↦
-              absurd (true≢false (sym (get_or_from_slice_get marks k true true noted)
-              ∙ unmarked k true (slice_get_within marks k true noted)))
-        ];
-      };
-      each = ap length none ∙ length-replicate _ false;
-    }

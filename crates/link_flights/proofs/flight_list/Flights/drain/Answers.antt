@@ -149,3 +149,11 @@ returns-clause-timed g c later timed =
     omega (arith, changed_length R old.list.items now.list.items c.loop-at.at c.loop-at.invariant.0) in
     all_timed old.at c.args.now old.list.items now.list.items
     (all_changed R old.list.items now.list.items c.loop-at.at c.loop-at.invariant.0 end) later timed
+
+pub at-one-requires : goal.at-one-requires
+at-one-requires g c =
+    omega (
+      arith,
+      changed_length (IsBrought c.args.self.now.at c.args.now) c.args.self.now.list.items c.loop-at.self.list.items
+          c.loop-at.at c.loop-at.invariant.0,
+    )

@@ -11,15 +11,6 @@ returns-then-shares_with_any-clause-listed g c =
     (ap (λ ms. list_any (λ m. share g.P.Ord.cmp c.args.end c.args.message.now m.value) (take c.args.number ms))
     (sym c.deref.ensures.value) ∙ sym c.if-shares_with_any.ensures)
 
-pub join_end-requires-clause-noted : goal.join_end-requires-clause-noted
-join_end-requires-clause-noted g c = c.requires.noted
-
-pub join_end-requires-clause-each : goal.join_end-requires-clause-each
-join_end-requires-clause-each g c = c.requires.each
-
-pub join_end-requires-clause-suited : goal.join_end-requires-clause-suited
-join_end-requires-clause-suited g c = c.requires.suited
-
 pub returns-then-shares_with_any-clause-more : goal.returns-then-shares_with_any-clause-more
 returns-then-shares_with_any-clause-more g c at here = here
 
