@@ -184,9 +184,10 @@ impl<P: Peer> Component<P> {
         ensures whole { self.new.whole ≡ self.old.whole }
         ensures refused { IfErr result (λ e. e ≡ Error.OutOfMemory) }
     {
-        if !self.has_both(message) {
-            self.joined.push(message.clone()?)?;
+        if self.has_both(message) {
+            return Ok(());
         }
+        self.joined.push(message.clone()?)?;
         Ok(())
     }
 

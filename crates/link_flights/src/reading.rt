@@ -81,15 +81,27 @@ fn read_one<P: Peer>(
     ensures since { IfOk result (λ r. r.since ≡ (flight_at at flight.now).updated) }
     ensures refused { IfErr result (λ e. e ≡ Error.OutOfMemory) }
 {
+    let left = read_left(flight, at, unit)?;
+    let rate = read_rate(flight, scale)?;
     let message = &flight.message;
     Ok(InFlight {
         origin: message.origin.clone_peer().ok_or(Error::OutOfMemory)?,
         recipient: message.recipient.clone_peer().ok_or(Error::OutOfMemory)?,
         channel: message.channel,
-        left: read_fraction(&flight.left_at(at)?, unit)?,
-        rate: read_rate(flight, scale)?,
+        left,
+        rate,
         since: if flight.rated { at } else { flight.since },
     })
+}
+
+/// What is left of a message in flight at the moment of the last account, of whose units `unit` are a byte.
+fn read_left<P: Peer>(flight: &Flight<P>, at: u64, unit: &Natural) -> Result<Reading, Error>
+    requires { 0 < unit.now }
+    ensures read { IfOk result (IsReadingOf (reduced (flight_at at flight.now).left unit.now)) }
+    ensures refused { IfErr result (λ e. e ≡ Error.OutOfMemory) }
+{
+    let left = flight.left_at(at)?;
+    read_fraction(&left, unit)
 }
 
 /// The rate of a message in flight, of whose units `scale` are a byte a second.

@@ -1,6 +1,6 @@
 -- Flows of messages in flight, one after another, and those of a component of all.
 use Rattle.link_flights.proofs.Common.{◌≡◌, ℕ, ◌+◌, ◌<◌, nat_le, Bool, true, false, not, ◌&&◌, ◌||◌, List, [], ◌∷◌}
-use Rattle.link_flights.proofs.Common.{◌++◌, length, take, get_or, refl, sym, ap, ap₂, ◌∙◌, arith, if◌then◌else◌}
+use Rattle.link_flights.proofs.Common.{All, All-from_contains, ◌++◌, length, take, get_or, refl, sym, ap, ap₂, ◌∙◌, arith, if◌then◌else◌}
 use Rattle.link_flights.proofs.Common.{list_all, list_any, Ordering, Arc, Global, le-leb, map-append, same_peer}
 use Rattle.link_flights.proofs.Common.{Component, Flight, keeps, is_of, those_of, is_sender, is_receiver, has_both}
 use Rattle.link_flights.proofs.Common.{touches, suits, is_closed, UnitFlight, flight_at, flights_at, take_more, near_of}
@@ -54,6 +54,9 @@ module _ {P : Type 0} (cmp : P → P → Ordering) (component : Component P) (wh
 
   pub both : (m : Message P) → has_both cmp component m ≡ true
   both m = ap₂ (λ a b. a && b) (sends m.origin) (receives m.recipient)
+
+  pub all_both : (ms : List (Message P)) → All (λ m. has_both cmp component m ≡ true) ms
+  all_both ms = All-from_contains (λ m. has_both cmp component m ≡ true) ms (λ m listed. both m)
 
   pub touched : (m : Message P) → touches cmp component m ≡ true
   touched m = ap (λ b. b || is_receiver cmp component m.recipient) (sends m.origin)

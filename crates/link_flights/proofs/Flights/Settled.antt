@@ -1,11 +1,11 @@
 -- How many messages in flight, at the beginning of the list, have got a rate.
 use Rattle.link_flights.proofs.Common.{◌≡◌, ℕ, zero, suc, ◌<◌, ◌≤◌, Bool, true, List, [], ◌∷◌, length, take, drop}
 use Rattle.link_flights.proofs.Common.{get_or, set, Some, refl, sym, ◌∙◌, arith, AllZip, list_all, remove, Ordering}
-use Rattle.link_flights.proofs.Common.{and_from, length-set, get_or_default, slice_get_read, Caps, first_of_both}
+use Rattle.link_flights.proofs.Common.{ap, ◌++◌, length-append, and_from, length-set, get_or_default, slice_get_read, Caps, first_of_both}
 use Rattle.link_flights.proofs.Common.{second_of_both, IsChangedUpTo, last_moment, Flight, UnitFlight, flight_at}
 use Rattle.link_flights.proofs.Common.{flights_at, has_come, AreTimed, HaveRates, PassesNowhere, is_out, are_limited}
 use Rattle.link_flights.proofs.Common.{rated_ones, IsRatedFrom}
-use Rattle.std.proofs.lemmas.List.{length-take-le, take-append-drop}
+use Rattle.std.proofs.lemmas.List.{length-take-le, take-append-drop, take-append-le}
 use Rattle.std.proofs.lemmas.List.Edits.{length-remove}
 use Rattle.std.specs.Prelude.{slice_get}
 use Rattle.link_flights.proofs.Flights.Done.{out_by_finish, limited_there}
@@ -67,6 +67,14 @@ module _ {P : Type 0} where
     omega (arith, h.0, length-remove fs at inside, inside, beyond),
     pass_still (λ f. f.rated) n fs at beyond h.1,
   )
+
+  -- and when others come behind all
+  pub longer_with : (n : ℕ) (fs gs : List (Flight P)) → n ≤ length fs → n ≤ length (fs ++ gs)
+  longer_with n fs gs le = omega (arith, le, length-append fs gs)
+
+  pub rates_with : (n : ℕ) (fs gs : List (Flight P)) → HaveRates n fs → HaveRates n (fs ++ gs)
+  rates_with n fs gs h =
+      (longer_with n fs gs h.0, ap (list_all (λ f. f.rated)) (take-append-le n fs gs h.0) ∙ h.1)
 
   -- ---- those that have rates are counted on
 

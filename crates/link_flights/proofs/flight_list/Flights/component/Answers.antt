@@ -1,6 +1,6 @@
-use Rattle.link_flights.proofs.Common.{get_or, ◌∙◌, sym, true≢false, in_units}
+use Rattle.link_flights.proofs.Common.{sym, ◌∙◌, true≢false, in_units}
 use Rattle.std.proofs.lemmas.Result.{IfOk-weaker}
-use Rattle.link_flights.proofs.Flights.ComponentFlows.{both, closed_whole}
+use Rattle.link_flights.proofs.Flights.ComponentFlows.{closed_whole, all_both}
 use Rattle.link_flights.proofs.Flights.Search.{all_listed, closed_if_near, near_if_listed}
 use Rattle.link_flights.proofs.Flights.Search.{still_has_all, still_has_messages, still_touches_new}
 use Rattle.link_flights.proofs.flight_list.Flights.component.Goals as goal
@@ -41,14 +41,12 @@ returns-clause-closed g c =
     (λ all whole. closed_whole g.P.Ord.cmp all whole c.args.done.now.items (in_units c.args.self.now))
     c.all_touched.ensures.whole
 
-pub grow-requires-clause-none : goal.grow-requires-clause-none
-grow-requires-clause-none g c = c.join_touched.ensures.near ∙ c.in_ok-component.ensures.near
-
-pub grow-requires-clause-noted : goal.grow-requires-clause-noted
-grow-requires-clause-noted g c = c.requires.none
-
-pub grow-requires-clause-each : goal.grow-requires-clause-each
-grow-requires-clause-each g c = c.requires.each
+pub grow-requires : goal.grow-requires
+grow-requires g c = record {
+  none = c.join_touched.ensures.near ∙ c.in_ok-component.ensures.near;
+  noted = c.requires.none;
+  each = c.requires.each;
+}
 
 pub returns-then-branch-clause-level : goal.returns-then-branch-clause-level
 returns-then-branch-clause-level g c = c.in_ok-grow.ensures.level c.if-branch.true
@@ -56,18 +54,12 @@ returns-then-branch-clause-level g c = c.in_ok-grow.ensures.level c.if-branch.tr
 pub returns-then-branch-clause-noted : goal.returns-then-branch-clause-noted
 returns-then-branch-clause-noted g c = c.in_ok-grow.ensures.noted c.if-branch.true
 
+pub returns-clause-loose : goal.returns-clause-loose
+returns-clause-loose g c =
+    IfOk-weaker c.all_touched.result _ _ (λ all whole. all_both g.P.Ord.cmp all whole c.args.self.now.loose)
+    c.all_touched.ensures.whole
+
 pub returns-clause-near : goal.returns-clause-near
 returns-clause-near g c =
     IfOk-weaker c.all_touched.result _ _ (λ all whole part. absurd (true≢false (sym whole ∙ part)))
     c.all_touched.ensures.whole
-
-pub returns-clause-level : goal.returns-clause-level
-returns-clause-level g c = c.all_touched.ensures.level
-
-pub returns-clause-noted : goal.returns-clause-noted
-returns-clause-noted g c = c.all_touched.ensures.noted
-
-pub returns-clause-loose : goal.returns-clause-loose
-returns-clause-loose g c =
-    IfOk-weaker c.all_touched.result _ _
-    (λ all whole k d low. both g.P.Ord.cmp all whole (get_or c.args.self.now.loose k d)) c.all_touched.ensures.whole

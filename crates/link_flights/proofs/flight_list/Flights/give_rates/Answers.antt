@@ -32,3 +32,25 @@ returns-in-Some-clause-rated g c =
       fair = h.fair;
       timed = h.timed;
     }
+
+pub rate_one-requires : goal.rate_one-requires
+rate_one-requires g c = record {
+  one = sym c.len.ensures ∙ c.if-len-eq1.true;
+  left = c.requires.left;
+  timed = c.requires.timed;
+}
+
+pub rate_part-requires : goal.rate_part-requires
+rate_part-requires g c = record {
+  left = c.requires.left;
+  updated = c.requires.updated;
+  before = c.requires.before c.if-were_rated.true;
+  timed = c.requires.timed c.if-were_rated.true;
+  one_each = c.requires.one_each;
+}
+
+pub returns-then-len-eq1-clause-rated : goal.returns-then-len-eq1-clause-rated
+returns-then-len-eq1-clause-rated g c = c.in_ok-rate_one.ensures.rated
+
+pub returns-then-len-eq1-clause-kept : goal.returns-then-len-eq1-clause-kept
+returns-then-len-eq1-clause-kept g c = c.in_ok-rate_one.ensures.kept

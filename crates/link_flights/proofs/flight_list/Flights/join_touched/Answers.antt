@@ -99,3 +99,9 @@ returns-clause-done g c = c.loop-at-3.invariant.0
 
 pub returns-clause-new : goal.returns-clause-new
 returns-clause-new g c = c.loop-at-3.invariant.1
+
+pub index-requires : goal.index-requires
+index-requires g c = omega (arith, c.loop-at-test.true, c.len-at-end.ensures)
+
+pub at-requires : goal.at-requires
+at-requires g c = omega (arith, c.loop-at-2-test.true, c.len-at-end-2.ensures)

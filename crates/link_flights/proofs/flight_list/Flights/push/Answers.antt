@@ -1,6 +1,10 @@
 use Rattle.link_flights.proofs.Common.{◌≡◌, ◌++◌, ◌∷◌, [], ◌*◌, length, Some, false, refl, sym, ap, ◌∙◌, subst}
+use Rattle.link_flights.proofs.Common.{List, ◌≤◌, list_all, and_from, filter-append, append-nil, HaveRates, rated_ones}
 use Rattle.link_flights.proofs.Common.{map-append, billion, whole, Flight, message_of, UnitFlight, flight_at}
 use Rattle.link_flights.proofs.Common.{flights_at, AreTimed, rated_flight_of, sending_of, in_flight, in_units}
+use Rattle.std.proofs.lemmas.List.Folds.{list_all-append}
+use Rattle.link_flights.proofs.Flights.Flight.{is_past}
+use Rattle.link_flights.proofs.Flights.Settled.{rates_with, longer_with}
 use Rattle.link_flights.proofs.Flights.Standing.{timed_with}
 use Rattle.link_flights.proofs.Flights.Units.{units_of_bytes, no_units}
 use Rattle.link_flights.proofs.flight_list.Flights.push.Goals as goal
@@ -75,3 +79,27 @@ returns-clause-joined g c =
       at = refl;
       timed = returns-clause-timed g c;
     }
+
+pub returns-clause-rated : goal.returns-clause-rated
+returns-clause-rated g c =
+    let us = in_units c.args.self.now in
+    ap rated_ones (joins_so g c) ∙ filter-append (λ u. u.rated) us (unit_of g c ∷ []) ∙ append-nil (rated_ones us)
+
+pub invariant_of-self-in_default-clause-past : goal.invariant_of-self-in_default-clause-past
+invariant_of-self-in_default-clause-past g c =
+    let old = c.args.self.now in
+    ap (list_all (is_past old.at)) c.in_default.ensures.items
+    ∙ list_all-append (is_past old.at) old.list.items (_ ∷ [])
+    ∙ and_from (list_all (is_past old.at) old.list.items) _ old.past refl
+
+pub invariant_of-self-in_default-clause-counted : goal.invariant_of-self-in_default-clause-counted
+invariant_of-self-in_default-clause-counted g c =
+    let old = c.args.self.now in
+    subst (λ (fs : List (Flight g.row.P.Denot)). old.rated_anew ≤ length fs) (sym c.in_default.ensures.items)
+    (longer_with old.rated_anew old.list.items (_ ∷ []) old.counted)
+
+pub invariant_of-self-in_default-clause-have_rates : goal.invariant_of-self-in_default-clause-have_rates
+invariant_of-self-in_default-clause-have_rates g c =
+    let old = c.args.self.now in
+    subst (HaveRates old.settled) (sym c.in_default.ensures.items)
+    (rates_with old.settled old.list.items (_ ∷ []) old.have_rates)

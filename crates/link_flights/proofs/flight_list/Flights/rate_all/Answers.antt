@@ -77,3 +77,20 @@ returns-clause-rated g c =
       fair = h.fair;
       timed = h.timed;
     }
+
+pub invariant_of-self : goal.invariant_of-self
+invariant_of-self g c =
+    let old = c.args.self.now in
+    let new = c.set_rates.new.self in
+    let fair = c.in_ok-rates.ensures.fair in
+    let grown : c.grow.new.units ≡ old.scale * product c.in_ok-rates.rates.growth.items =
+    c.in_ok-grow.ensures.grown ∙ ap₂ (λ n ns. n * product ns) c.in_ok-scale.ensures.value c.deref.ensures.value in
+    record {
+      past = new.past;
+      scaled = subst (λ n. 0 < n) (sym grown) (mul-pos old.scaled (subst (λ n. 0 < n) fair.grown fair.fair.some_part));
+      counted = new.counted;
+      have_rates = new.have_rates;
+    }
+
+pub returns-clause-kept : goal.returns-clause-kept
+returns-clause-kept g c = c.in_ok-set_rates.ensures.kept

@@ -1,4 +1,4 @@
-use Rattle.link_flights.proofs.Common.{rules, arith, ◌≡◌, [], true, ap, ◌∙◌, subst, nat_le, list_all}
+use Rattle.link_flights.proofs.Common.{arith, ◌≡◌, [], true, length, sym, ap, ◌∙◌, subst, nat_le, list_all}
 use Rattle.link_flights.proofs.Common.{nil_from_length, caps_of, in_units, AreRatedBeside, rates_found, rates_of_levels}
 use Rattle.link_flights.proofs.Common.{rerated, product, IsFair, slice_index, sides_under, left_caps, flows_of}
 use Rattle.std.proofs.lemmas.Bool.Decides.{nat_tests}
@@ -17,7 +17,8 @@ returns-clause-gives g c =
     nil_from_length part.growth.items
     (grind (arith, common_steps, nat_tests, c.is_empty.ensures, c.if-not-is_empty.false, part.growth.ok.0)) in
     let reach : list_all (λ rate. nat_le component.level rate) (rates_found part) ≡ true =
-    search rules in
+    ap (λ n. list_all (nat_le n) (rates_found part)) (sym c.number.ensures) ∙ sym c.all_reach.ensures
+    ∙ c.if-not-all_reach.false in
     let same : rates_of_levels c.deref-2.result.now c.deref-3.result.now ≡ rates_found part =
     ap (λ ls. rates_of_levels ls c.deref-3.result.now)
     (c.deref-2.ensures.value ∙ c.in_ok-given.ensures.rates ∙ c.deref.ensures.value)
@@ -39,3 +40,12 @@ returns-clause-gives g c =
       at = e.at;
       timed = e.timed;
     } in (rated, e.kept)
+
+pub set_rates-requires-clause-timed : goal.set_rates-requires-clause-timed
+set_rates-requires-clause-timed g c = λ yes. c.requires.timed
+
+pub set_rates-requires-clause-one_each : goal.set_rates-requires-clause-one_each
+set_rates-requires-clause-one_each g c = ap length c.deref-3.ensures.value ∙ c.in_ok-part.ensures.fair.one_each
+
+pub set_rates-requires-clause-others : goal.set_rates-requires-clause-others
+set_rates-requires-clause-others g c = λ i f there out. c.requires.timed i f there

@@ -1,11 +1,12 @@
 use Rattle.link_flights.proofs.Common.{◌≡◌, ◌+◌, ◌*◌, None, get_or, length, refl, sym, ap, ◌∙◌, subst, arith}
 use Rattle.link_flights.proofs.Common.{length-map, product, parts_of_level, flight_at, flights_at, rates_of_levels}
-use Rattle.link_flights.proofs.Common.{IsReratedAt, IsCountedAt}
+use Rattle.link_flights.proofs.Common.{IsReratedAt, IsCountedAt, in_units, those_of, flow_in_flight}
 use Rattle.std.proofs.Math.ListN.{get_or-map}
 use Rattle.link_flights.proofs.Flights.Rerating.{none_rerated, something_left, has_rate, one_rerated}
 use Rattle.link_flights.proofs.Flights.Rerating.{all_rerated, timed_set, all_kept, one_counted, by_one, to_end}
 use Rattle.link_flights.proofs.Flights.Rerating.{next_in, none_more, stands_within, stands_here}
 use Rattle.link_flights.proofs.Flights.Rerating.{all_to_come, rerated_to_come}
+use Rattle.link_flights.proofs.Flights.Sides.{as_many}
 use Rattle.link_flights.proofs.flight_list.Flights.set_rates.Goals as goal
 
 pub loop-number-init : goal.loop-number-init
@@ -142,3 +143,17 @@ returns-clause-timed g c =
     (omega (arith, c.loop-number-test.false, ap length c.requires.places)) in
     let all = to_end (length h.up_to.rest) h.place c.loop-number.number h.up_to refl none in
     (all_rerated all (omega arith)).timed
+
+pub rerate-requires-clause-timed : goal.rerate-requires-clause-timed
+rerate-requires-clause-timed g c = c.loop-number.invariant.0.timed
+
+pub returns-clause-counted : goal.returns-clause-counted
+returns-clause-counted g c =
+    let cmp = g.P.Ord.cmp in
+    let old = c.args.self.now in
+    let component = c.args.component.now in
+    let us = in_units old in
+    let each : length c.args.places.now ≡ length (those_of cmp component us) =
+    ap length c.requires.places ∙ sym (as_many cmp component old.list.items old.at)
+    ∙ length-map (those_of cmp component us) (flow_in_flight cmp) in
+    omega (arith, each, c.loop-number.invariant.0.counted, c.loop-number.auto.number-end)
