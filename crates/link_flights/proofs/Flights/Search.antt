@@ -7,7 +7,7 @@ use Rattle.link_flights.proofs.Common.{take_all, All-contains, All-weaker, list_
 use Rattle.link_flights.proofs.Common.{get_or_from_slice_get, slice_get_within, same_peer, by_bool, first_of_both}
 use Rattle.link_flights.proofs.Common.{second_of_both, In, get_in, in_from_contains, contains_from_in, all_passed}
 use Rattle.link_flights.proofs.Common.{Component, Flight, UnitFlight, flight_at, flights_at, HaveRates, keeps, has_both}
-use Rattle.link_flights.proofs.Common.{touches, suits, is_closed, AreSuited, AreTouched, those_near, Ascends, share}
+use Rattle.link_flights.proofs.Common.{same_peer_itself, touches, suits, is_closed, AreSuited, AreTouched, those_near, Ascends, share}
 use Rattle.link_flights.proofs.Common.{length-append, End, Origin, Recipient, is_sender, is_receiver, AreAllListed, PassesNowhere}
 use Rattle.link_flights.proofs.Common.{PassesFirstAt, IsNextPlace, list_any_at, IsTouched, near_of, AreNear, SharesAt}
 use Rattle.link_flights.proofs.Common.{SharesEndAt, AreListedAt, StartsWith, AreStillListed, AreListed, AllNewTouch}
@@ -96,6 +96,19 @@ fewer_ahead test xs at next (Some to) is within ahead =
     omega (arith, within, ap (behind xs) is, ahead.low, ahead.high)
 
 module _ {P : Type 0} (cmp : P → P → Ordering) where
+  -- what has joined last has both its ends
+  pub last_joined : IsTotalOrder cmp → (old new : Component P) (x : Arc (Message P) Global)
+      → new.joined.items ≡ old.joined.items ++ x ∷ [] → has_both cmp new x.value ≡ true
+  last_joined order old new x is =
+      let sends : Arc (Message P) Global → Bool = λ n. same_peer cmp x.value.origin n.value.origin in
+      let receives : Arc (Message P) Global → Bool = λ n. same_peer cmp x.value.recipient n.value.recipient in
+      let olds = old.joined.items in
+      and_from _ _
+      (either new.whole _ (ap (list_any sends) is ∙ list_any-append sends olds (x ∷ [])
+      ∙ either (list_any sends olds) _ (ap (λ b. b || false) (same_peer_itself cmp order x.value.origin))))
+      (either new.whole _ (ap (list_any receives) is ∙ list_any-append receives olds (x ∷ [])
+      ∙ either (list_any receives olds) _ (ap (λ b. b || false) (same_peer_itself cmp order x.value.recipient))))
+
   -- ---- an end of each of those that have come
 
   -- it has an end of each from a place up to another

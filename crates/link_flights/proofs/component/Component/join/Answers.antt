@@ -1,8 +1,18 @@
-use Rattle.link_flights.proofs.Common.{[], ◌∷◌, sym, append-nil}
+use Rattle.link_flights.proofs.Common.{[], ◌≡◌, true, sym, subst, append-nil, has_both}
+use Rattle.link_pairs.specs.declared.message.Message.{Message}
+use Rattle.link_flights.proofs.Flights.Search.{last_joined}
 use Rattle.link_flights.proofs.component.Component.join.Goals as goal
 
 pub returns-else-not-has_both-clause-joined : goal.returns-else-not-has_both-clause-joined
 returns-else-not-has_both-clause-joined g c = ([], sym (append-nil c.args.self.now.joined.items))
 
-pub returns-in_ok-push-clause-joined : goal.returns-in_ok-push-clause-joined
-returns-in_ok-push-clause-joined g c = (c.in_ok-clone.field-0 ∷ [], c.in_ok-push.ensures.items)
+pub returns-clause-has : goal.returns-clause-has
+returns-clause-has g c =
+    let cmp = g.P.Ord.cmp in
+    let old = c.args.self.now in
+    let new = record old { joined = c.push.new.self } in
+    subst (λ (m : Message g.row.P.Denot). has_both cmp new m ≡ true) c.in_ok-clone.ensures.cases
+    (last_joined cmp g.met.P.Ord.total old new c.in_ok-clone.field-0 c.in_ok-push.ensures.items)
+
+pub returns-clause-joined : goal.returns-clause-joined
+returns-clause-joined g c = (_, c.in_ok-push.ensures.items)

@@ -23,3 +23,17 @@ returns-then-le-clause-gives g c =
       at = e.at;
       timed = e.timed;
     } in (rated, e.kept)
+
+pub set_rates-requires-clause-timed : goal.set_rates-requires-clause-timed
+set_rates-requires-clause-timed g c = λ yes. c.requires.timed
+
+pub set_rates-requires-clause-others : goal.set_rates-requires-clause-others
+set_rates-requires-clause-others g c = λ i f there out. c.requires.timed i f there
+
+pub left_for-requires : goal.left_for-requires
+left_for-requires g c = record {
+  only = c.requires.only;
+  places = c.requires.places;
+  suited = c.requires.suited;
+  one_each = c.requires.one_each;
+}

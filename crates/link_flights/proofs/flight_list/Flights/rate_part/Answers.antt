@@ -1,4 +1,4 @@
-use Rattle.link_flights.proofs.Common.{ap, subst, caps_of, looked_up}
+use Rattle.link_flights.proofs.Common.{second_of_both, ap, subst, caps_of, looked_up}
 use Rattle.link_flights.specs.Flights.Rated.{GivesBeside}
 use Rattle.link_flights.proofs.Flights.RatesGiven.{beside_given}
 use Rattle.link_flights.proofs.flight_list.Flights.rate_part.Goals as goal
@@ -35,3 +35,12 @@ returns-in_default-clause-given g c =
     subst (GivesBeside cmp caps c.in_ok-touched.touched _ c.rate_touched.new.self) c.in_default.is
     c.in_ok-found.ensures.gives in
     (ap (λ f. f.list) same, ap (λ f. f.scale) same, ap (λ f. f.at) same)
+
+pub rate_touched-requires : goal.rate_touched-requires
+rate_touched-requires g c = record {
+  near = c.in_ok-touched.ensures.near;
+  suited = second_of_both _ _ c.in_ok-touched.ensures.closed;
+  left = c.requires.left;
+  timed = c.requires.timed;
+  one_each = c.requires.one_each;
+}
