@@ -1,4 +1,6 @@
+use Rattle.link_flights.proofs.Common.{◌≡◌, Some, true, slice_get, All-contains}
 use Rattle.std.proofs.lemmas.List.Sorted.{IsPermutation-sym, Contains-permutation}
+use Rattle.std.proofs.lemmas.Result.{IfOk-weaker}
 use Rattle.link_flights.proofs.component.put_in_order.Goals as goal
 
 pub returns-then-ascend-clause-still : goal.returns-then-ascend-clause-still
@@ -9,3 +11,17 @@ pub returns-then-ascend-clause-only : goal.returns-then-ascend-clause-only
 returns-then-ascend-clause-only c at here =
     Contains-permutation c.sort_unstable.new.self.items c.args.places.now.items at
     (IsPermutation-sym c.args.places.now.items c.sort_unstable.new.self.items c.sort_unstable.ensures.permutation) here
+
+pub returns-clause-still : goal.returns-clause-still
+returns-clause-still c =
+    IfOk-weaker c.list_again.result _ _
+    (λ done listed at was. listed at (All-contains (λ k. slice_get c.args.noted.now k ≡ Some true)
+    c.args.places.now.items at c.requires.noted.only was))
+    c.list_again.ensures.listed
+
+pub returns-clause-only : goal.returns-clause-only
+returns-clause-only c =
+    IfOk-weaker c.list_again.result _ _
+    (λ done only at is. c.requires.noted.listed at (All-contains (λ k. slice_get c.args.noted.now k ≡ Some true)
+    c.list_again.new.places.items at only is))
+    c.list_again.ensures.only

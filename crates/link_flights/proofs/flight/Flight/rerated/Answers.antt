@@ -1,4 +1,5 @@
 use Rattle.link_flights.proofs.Common.{◌*◌, sym, ap, ◌∙◌, subst, product}
+use Rattle.link_pairs.specs.declared.message.Message.{Message}
 use Rattle.link_flights.specs.Flights.Flight.{IsFinishOf}
 use Rattle.link_flights.proofs.flight.Flight.rerated.Goals as goal
 
@@ -18,3 +19,9 @@ pub returns-clause-timed : goal.returns-clause-timed
 returns-clause-timed g c =
     subst (λ r. IsFinishOf c.grow.new.units r c.args.now c.finish_of-finish.result)
     (c.number.ensures ∙ sym c.in_ok-clone-2.ensures.value) c.finish_of-finish.ensures
+
+pub invariant_of-result : goal.invariant_of-result
+invariant_of-result g c = record {
+  as_sent = c.args.self.now.as_sent
+      ∙ ap (λ (m : Message g.row.P.Denot). m.should_deliver) (sym c.in_ok-clone.ensures.cases);
+}
