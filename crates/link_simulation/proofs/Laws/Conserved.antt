@@ -17,7 +17,7 @@ use Rattle.link_simulation.proofs.Common.{at_finish, at_start, finish_stops, sta
 use Rattle.link_simulation.proofs.Common.{completed_at_once, Obeys, EnqueuesEach, all_enqueued, one_stops, enqueues_one}
 use Rattle.link_simulation.proofs.Common.{IsOrderly, of_pair, held_of, zip-append, common_steps, by_bool}
 use Rattle.link_simulation.proofs.Simulation.Queue.{find_passes, any_like}
-use Rattle.link_simulation.proofs.Simulation.SettlingEnds.{find_like}
+use Rattle.link_simulation.proofs.Simulation.SettlingEnds.{find_like, goes_no_fault}
 use Rattle.link_simulation.proofs.Rule.Launch.{rest_of, head_of, head_found, waits_without}
 use Rattle.link_simulation.proofs.Rule.Enqueue.{queued_last}
 use Rattle.fairness.proofs.Lists.Members.{filter_nothing}
@@ -101,7 +101,7 @@ module _ {P : Type 0} (cmp : P → P → Ordering) (order : IsTotalOrder cmp) wh
       → (k : Message P) → of_pair cmp k ms ++ held_of cmp k q ≡ held_of cmp k p
   launch_holds {p = p} nothing_waits n ms q is e h k = grind arith
   launch_holds {p = p} (too_early may) n ms q is e h k = grind arith
-  launch_holds (no_id may last) n ms q is e h k = cc
+  launch_holds (no_id may last) n ms q is e h k = absurd (goes_no_fault e)
   launch_holds {t = t} {p = p} (starts {m = m} {leavers = leavers} {new = new} may below account) n ms q is e h k =
       grind (
         arith,

@@ -16,7 +16,7 @@ use Rattle.link_simulation.proofs.Common.{one_stops, enqueues_one, In, Each, zip
 use Rattle.link_simulation.specs.Laws.MostEvents.{most_events}
 use Rattle.link_simulation.specs.Rule.Planned.{IsPlanned}
 use Rattle.fairness.proofs.Lists.Members.{in_filter}
-use Rattle.link_simulation.proofs.Simulation.SettlingEnds.{find_like, length_without}
+use Rattle.link_simulation.proofs.Simulation.SettlingEnds.{find_like, goes_no_fault, length_without}
 use Rattle.link_simulation.proofs.Simulation.Queue.{find_passes, pair_sym}
 use Rattle.link_simulation.proofs.Laws.Bytes.{each_filter}
 use Rattle.link_simulation.proofs.Simulation.OtherPairs.{fronts_are_first}
@@ -59,7 +59,7 @@ module _ {P : Type 0} (cmp : P → P → Ordering) (order : IsTotalOrder cmp) wh
       → most_events q + length ms ≤ most_events p
   launch_counts {p = p} nothing_waits k ms q is e = grind arith
   launch_counts {p = p} (too_early may) k ms q is e = grind arith
-  launch_counts (no_id may last) k ms q is e = cc
+  launch_counts (no_id may last) k ms q is e = absurd (goes_no_fault e)
   launch_counts {t = t} {p = p} (starts {m = m} {leavers = leavers} {new = new} may below account) k ms q is e =
       let counts = account_counts t (launched cmp t p m) new leavers account in
       let one : most_events (launched cmp t p m) + 1 ≡ most_events p = launched_counts t p k m is in
@@ -75,7 +75,7 @@ module _ {P : Type 0} (cmp : P → P → Ordering) (order : IsTotalOrder cmp) wh
       → may_launch cmp t p m ≡ true → c ≡ goes ms q → most_events q + length ms < most_events p
   launch_less nothing_waits k m ms q is some may e = cc
   launch_less {t = t} {p = p} (too_early {m = x} early) k m ms q is some may e = grind arith
-  launch_less (no_id first last) k m ms q is some may e = cc
+  launch_less (no_id first last) k m ms q is some may e = absurd (goes_no_fault e)
   launch_less {t = t} {p = p} (starts {m = x} {leavers = leavers} {new = new} first below account) k m ms q is some may
       e =
       let counts = account_counts t (launched cmp t p x) new leavers account in
@@ -167,7 +167,7 @@ module _ {P : Type 0} (cmp : P → P → Ordering) (order : IsTotalOrder cmp) wh
       → IsPartlyPlanned p → IsPartlyPlanned q
   launch_right {p = p} nothing_waits k ms q is e h = let same : p ≡ q = cc in subst IsPartlyPlanned same h
   launch_right {p = p} (too_early may) k ms q is e h = let same : p ≡ q = cc in subst IsPartlyPlanned same h
-  launch_right (no_id may last) k ms q is e h = cc
+  launch_right (no_id may last) k ms q is e h = absurd (goes_no_fault e)
   launch_right {t = t} {p = p} (starts {m = m} {leavers = leavers} {new = new} may below account) k ms q is e h =
       let same : new ≡ q = cc in
       let limited : new.limited ≡ p.limited = ap (λ (z : Planned P). z.limited) account.same in

@@ -15,7 +15,7 @@ use Rattle.link_simulation.proofs.Common.{one_stops, enqueues_one, IsOrderly, co
 use Rattle.link_simulation.proofs.Rule.SameSteps.{linked_by_same, limited_by_same}
 use Rattle.link_simulation.proofs.Simulation.AlikeMessages.{same_itself}
 use Rattle.link_simulation.proofs.Simulation.Queue.{one_pair_more}
-use Rattle.link_simulation.proofs.Simulation.SettlingEnds.{ends_preceded}
+use Rattle.link_simulation.proofs.Simulation.SettlingEnds.{ends_preceded, goes_no_fault}
 use Rattle.link_simulation.proofs.Simulation.Sound.{raised_peerwise}
 use Rattle.link_simulation.proofs.Rule.Limit.{no_sides}
 use Rattle.link_simulation.proofs.Rule.Launch.{pair_order_without}
@@ -96,7 +96,7 @@ module _ {P : Type 0} (cmp : P → P → Ordering) (order : IsTotalOrder cmp) wh
       → IsOrderly cmp q
   launch_orderly {p = p} nothing_waits k ms q is e h = let same : p ≡ q = cc in subst (IsOrderly cmp) same h
   launch_orderly {p = p} (too_early may) k ms q is e h = let same : p ≡ q = cc in subst (IsOrderly cmp) same h
-  launch_orderly (no_id may last) k ms q is e h = cc
+  launch_orderly (no_id may last) k ms q is e h = absurd (goes_no_fault e)
   launch_orderly {t = t} {p = p} (starts {m = m} {leavers = leavers} {new = new} may below account) k ms q is e h =
       grind (
         arith,

@@ -1,17 +1,14 @@
 -- An advance that goes by the event rule is an advance to any moment on the way and then on.
 use Rattle.link_simulation.proofs.Common.{◌≡◌, ℕ, ◌+◌, ◌-◌, ◌≤◌, List, refl, sym, subst, arith, Ordering, IsTotalOrder}
 use Rattle.link_simulation.proofs.Common.{World, Completed, Course, goes, meets, preceded, last_moment, Ticks}
-use Rattle.link_simulation.proofs.Common.{Error, call_advance, Runs, Planned, GoesByRule, IsRun}
+use Rattle.link_simulation.proofs.Common.{call_advance, Runs, Planned, GoesByRule, IsRun}
 use Rattle.link_simulation.specs.Simulation.Time.{Continues}
 use Rattle.link_simulation.specs.Rule.Simulated.{RunsInTwo, IsSplitAnywhere}
 use Rattle.link_simulation.proofs.Simulation.Split.{ticks_apart}
 use Rattle.link_simulation.proofs.Simulation.QuietInstants.{IsAt, ends_at, ticks_end_at}
+use Rattle.link_simulation.proofs.Simulation.SettlingEnds.{goes_no_fault}
 use Rattle.link_simulation.proofs.Laws.AdvanceOnward.{nothing_more, ticks_of}
 use Rattle.link_simulation.proofs.Rule.Simulated.{calls_simulated}
-
--- a course that goes meets no fault
-goes_no_fault : {X S : Type 0} {xs : List X} {s : S} {fault : Error} → goes xs s ≡ meets fault → ⊥
-goes_no_fault e = cc
 
 module _ {P : Type 0} (cmp : P → P → Ordering) (order : IsTotalOrder cmp) where
   runs_of : (w : World P) (now : ℕ) (c : Course (Completed P) (World P)) → Ticks cmp (now - w.moment) w c
@@ -36,7 +33,7 @@ module _ {P : Type 0} (cmp : P → P → Ordering) (order : IsTotalOrder cmp) wh
           → (rest : Course (Completed P) (World P)) → Ticks cmp (now - between) v rest
           → goes run.answers run.after ≡ preceded ds rest → RunsInTwo cmp w between now completions q
       by_rest run ds v first at (goes es u) ticks is = grind (arith, runs_of)
-      by_rest run ds v first at (meets fault) ticks is = absurd (goes_no_fault is)
+      by_rest run ds v first at (meets fault) ticks is = absurd (goes_no_fault (sym is))
 
       by_first : (run : IsRun cmp w (call_advance now) now completions q) (first : Course (Completed P) (World P))
           → Ticks cmp (between - w.moment) w first
@@ -44,4 +41,4 @@ module _ {P : Type 0} (cmp : P → P → Ordering) (order : IsTotalOrder cmp) wh
       by_first run (goes ds v) ticks (rest, more, is) =
           let at = ends_at cmp order (IsAt cmp order _) (goes ds v) ds v refl (ticks_end_at cmp order ticks) in
           by_rest run ds v (runs_of w between (goes ds v) ticks) (omega arith) rest more is
-      by_first run (meets fault) ticks is = absurd (goes_no_fault is)
+      by_first run (meets fault) ticks is = absurd (goes_no_fault (sym is))

@@ -14,6 +14,7 @@ use Rattle.link_simulation.proofs.Common.{nothing_waits, too_early, no_id, start
 use Rattle.link_simulation.proofs.Common.{stopped, completes, with_queued, Enqueues, at_once, no_launch, launches}
 use Rattle.link_simulation.proofs.Common.{completed_at_once, landed, rules}
 use Rattle.std.proofs.lemmas.Bool.{cases_eq}
+use Rattle.std.proofs.lemmas.Option.{none-some}
 use Rattle.link_simulation.proofs.Laws.Orderly.{drained_messages, stayed_messages}
 use Rattle.link_simulation.proofs.Rule.Accounts.{each_passes}
 use Rattle.link_simulation.proofs.Rule.BeforeNext.{filter_none}
@@ -21,7 +22,7 @@ use Rattle.link_simulation.proofs.Rule.SameSteps.{least_same}
 use Rattle.link_simulation.proofs.Simulation.InOrder.{each_in_filter}
 use Rattle.link_simulation.proofs.Simulation.Continuing.{rates_exist}
 use Rattle.link_simulation.proofs.Simulation.LowestTerms.{drained_none, drained_by_lowest, whole_lowest}
-use Rattle.link_simulation.proofs.Simulation.SettlingEnds.{ends_preceded}
+use Rattle.link_simulation.proofs.Simulation.SettlingEnds.{ends_preceded, goes_no_fault}
 
 -- ---- lists
 
@@ -151,7 +152,7 @@ module _ {P : Type 0} (cmp : P → P → Ordering) (order : IsTotalOrder cmp) wh
       → IsAccountedAt t q
   launch_accounted {t = t} {p = p} nothing_waits ms q e h = let same : p ≡ q = cc in subst (IsAccountedAt t) same h
   launch_accounted {t = t} {p = p} (too_early may) ms q e h = let same : p ≡ q = cc in subst (IsAccountedAt t) same h
-  launch_accounted (no_id may last) ms q e h = cc
+  launch_accounted (no_id may last) ms q e h = absurd (goes_no_fault e)
   launch_accounted {t = t} {p = p} (starts {m = m} {leavers = leavers} {new = new} may below account) ms q e h =
       grind (arith, common_steps, (accounted t (launched cmp t p m) new leavers account))
 
@@ -185,9 +186,9 @@ module _ {P : Type 0} (cmp : P → P → Ordering) (order : IsTotalOrder cmp) wh
   start_accounted : {t : ℕ} {p : Planned P} {o : Option (Message P)} {c : Course (Message P) (Planned P)}
       → Launches cmp t p o c → (k : Message P) → o ≡ Some k → may_launch cmp t p k ≡ true
       → (ms : List (Message P)) (q : Planned P) → c ≡ goes ms q → IsAccountedAt t q
-  start_accounted nothing_waits k is may ms q e = cc
+  start_accounted nothing_waits k is may ms q e = absurd (none-some k is)
   start_accounted {t = t} {p = p} (too_early {m = m} early) k is may ms q e = grind arith
-  start_accounted (no_id ready last) k is may ms q e = cc
+  start_accounted (no_id ready last) k is may ms q e = absurd (goes_no_fault e)
   start_accounted {t = t} {p = p} (starts {m = m} {leavers = ls} {new = new} ready below account) k is may ms q e =
       grind (arith, common_steps, (accounted t (launched cmp t p m) new ls account))
 

@@ -5,10 +5,14 @@ use Rattle.link_simulation.proofs.Common.{Some, None, refl, sym, subst, arith, l
 use Rattle.link_simulation.proofs.Common.{IsTotalOrder, without_first, Completed, Course, Flight, World, and_then}
 use Rattle.link_simulation.proofs.Common.{complete, goes, is_done, meets, preceded, settle, settle_within, start}
 use Rattle.link_simulation.proofs.Common.{start_next, EndsWith, out_of_flight, is_late, completed, Message, same_pair}
-use Rattle.link_simulation.proofs.Common.{enqueue, enqueue_each, MomentTooLate, rules, least_pair, ready, turn}
-use Rattle.link_simulation.proofs.Common.{wake_within}
+use Rattle.link_simulation.proofs.Common.{enqueue, enqueue_each, MomentTooLate, least_pair, ready, turn}
+use Rattle.link_simulation.proofs.Common.{wake_within, Error}
 use Rattle.link_simulation.proofs.Simulation.Queue.{pair_like, settle_none, settle_first, find_passes, by_option}
 use Rattle.link_simulation.proofs.Simulation.Queue.{by_option}
+
+-- a course that goes meets no fault
+pub goes_no_fault : {X S : Type 0} {xs : List X} {s : S} {fault : Error} → meets fault ≡ goes xs s → ⊥
+goes_no_fault e = cc
 
 pub ends_preceded : {X S : Type 0} (Q : S → Type 0) (xs : List X) (c : Course X S) → EndsWith Q c
     → EndsWith Q (preceded xs c)
@@ -91,7 +95,9 @@ module _ {P : Type 0} (cmp : P → P → Ordering) (order : IsTotalOrder cmp) wh
       → EndsWith Q (complete cmp t w f.message)) → (n : ℕ) (w : World P) → Q w → EndsWith Q (settle_within cmp n t w)
   settle_keeps Q t step zero w h = h
   settle_keeps Q t step (suc n) w h =
-      search (rules, settle_none, settle_first, ends_and_then, (settle_keeps Q t step n))
+      by_option (find (is_done cmp w) w.sending) (λ e. subst (EndsWith Q) (sym (settle_none cmp order n t w e)) h) (λ f e.
+      subst (EndsWith Q) (sym (settle_first cmp order n t w f e)) (ends_and_then Q Q (complete cmp t w f.message)
+      (settle_within cmp n t) (step w f e h) (settle_keeps Q t step n)))
 
   -- and what each turn keeps, waking
   pub wake_keeps : (Q : World P → Type 0) (t : ℕ)
