@@ -3,8 +3,8 @@ use Rattle.link_pairs.specs.declared.message.Message.{Message}
 use Rattle.link_flights.proofs.Flights.Search.{last_joined}
 use Rattle.link_flights.proofs.component.Component.join.Goals as goal
 
-pub returns-else-not-has_both-clause-joined : goal.returns-else-not-has_both-clause-joined
-returns-else-not-has_both-clause-joined g c = ([], sym (append-nil c.args.self.now.joined.items))
+pub returns-then-has_both-clause-joined : goal.returns-then-has_both-clause-joined
+returns-then-has_both-clause-joined g c = ([], sym (append-nil c.args.self.now.joined.items))
 
 pub returns-clause-has : goal.returns-clause-has
 returns-clause-has g c =
