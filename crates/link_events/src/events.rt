@@ -24,6 +24,7 @@ use link_pairs::message::Message;
 use link_pairs::pair::PeerPair;
 use link_waiting::moment::ready_moment;
 use std::collections::VecDeque;
+use std::ops::Deref;
 use std::sync::Arc;
 
 impl<P: Peer> Ledger<P> {
@@ -193,9 +194,10 @@ impl<P: Peer> Ledger<P> {
             IsRefusedFor (λ fault. Finishes P.cmp now (message_of message.value ∷ ms) (planned P.cmp self.old)
             (meets fault)) e) }
     {
-        let is_busy = self.flights.has(&message.origin, &message.recipient);
-        let (deliver_at, since) = self.land(&message, now, is_busy)?;
-        let more = self.launch_from(since, &message.origin, &message.recipient, now)?;
+        let contents = message.deref();
+        let is_busy = self.flights.has(&contents.origin, &contents.recipient);
+        let (deliver_at, since) = self.land(contents, now, is_busy)?;
+        let more = self.launch_from(since, &contents.origin, &contents.recipient, now)?;
         ended.push(Ended {
             message,
             done_at: now,

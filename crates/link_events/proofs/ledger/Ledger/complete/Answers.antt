@@ -1,6 +1,6 @@
 use Rattle.link_events.proofs.Common.{◌≡◌, [], ◌∷◌, ◌++◌, map, sym, ap, ◌∙◌, subst, map-append, err_from_is_err_and}
 use Rattle.link_events.proofs.Common.{IsRefusedFor, goes, meets, completion_of, completed, is_late, Launches, Finishes}
-use Rattle.link_events.proofs.Common.{landed, message_of, ended_of, messages, first_of, is_sending, planned}
+use Rattle.link_events.proofs.Common.{landed, message_of, ended_of, messages, first_of, planned}
 use Rattle.link_events.proofs.Steps.Finishing.{refused_landing, refused_launch, launches_landed}
 use Rattle.link_events.proofs.ledger.Ledger.complete.Goals as goal
 
@@ -12,8 +12,8 @@ returns-in_err-deliver_at-clause-refused g c =
     (λ ms. subst
     (λ x. IsRefusedFor (λ fault. Finishes g.P.Ord.cmp c.args.now (message_of x ∷ ms) here (meets fault))
     c.in_err-deliver_at.field-0.0)
-    c.deref-3.ensures
-    (refused_landing g.P.Ord.cmp c.args.now (message_of c.deref-3.result.now) ms here _
+    c.deref-contents.ensures
+    (refused_landing g.P.Ord.cmp c.args.now (message_of c.deref-contents.result.now) ms here _
     c.in_err-deliver_at.ensures.refused))
 
 pub returns-in_err-more-clause-refused : goal.returns-in_err-more-clause-refused
@@ -21,21 +21,20 @@ returns-in_err-more-clause-refused g c =
     let p = err_from_is_err_and c.from_residual-in_err-more.result c.from_residual-in_err-more.ensures.1 in
     let here = planned g.P.Ord.cmp c.args.self.now in
     let mid = planned g.P.Ord.cmp c.land.new.self in
-    let first =
-    ap (λ x. first_of g.P.Ord.cmp mid.waiting x.origin c.deref-5.result.now.recipient) c.deref-4.ensures
-    ∙ ap (λ x. first_of g.P.Ord.cmp mid.waiting c.args.message.value.origin x.recipient) c.deref-5.ensures in
     rw (p.1, p.2)
     (λ ms. refused_launch g.P.Ord.cmp c.args.now (message_of c.args.message.value) ms here mid
-    (ap (λ x. is_late g.P.Ord.cmp c.args.now (message_of x)) (sym c.deref-3.ensures)
+    (ap (λ x. is_late g.P.Ord.cmp c.args.now (message_of x)) (sym c.deref-contents.ensures)
     ∙ c.in_ok-deliver_at.ensures.in_time)
     (c.in_ok-deliver_at.ensures.landed
-    ∙ ap (λ x. landed g.P.Ord.cmp c.args.now here (message_of x)) c.deref-3.ensures) _
-    (subst (λ n. IsRefusedFor (λ fault. Launches g.P.Ord.cmp c.args.now mid n (meets fault)) c.in_err-more.field-0.0)
-    first c.in_err-more.ensures.refused))
+    ∙ ap (λ x. landed g.P.Ord.cmp c.args.now here (message_of x)) c.deref-contents.ensures) _
+    (subst
+    (λ x. IsRefusedFor (λ fault. Launches g.P.Ord.cmp c.args.now mid
+    (first_of g.P.Ord.cmp mid.waiting x.origin x.recipient) (meets fault)) c.in_err-more.field-0.0)
+    c.deref-contents.ensures c.in_err-more.ensures.refused))
 
 pub returns-clause-in_time : goal.returns-clause-in_time
 returns-clause-in_time g c =
-    ap (λ x. is_late g.P.Ord.cmp c.args.now (message_of x)) (sym c.deref-3.ensures)
+    ap (λ x. is_late g.P.Ord.cmp c.args.now (message_of x)) (sym c.deref-contents.ensures)
     ∙ c.in_ok-deliver_at.ensures.in_time
 
 pub returns-clause-completion : goal.returns-clause-completion
@@ -44,7 +43,7 @@ returns-clause-completion g c =
     let there : completion_of (message_of c.args.message.value) c.args.now deliver_at
     ≡ completed g.P.Ord.cmp c.args.now (message_of c.args.message.value) =
     subst (λ x. completion_of (message_of x) c.args.now deliver_at ≡ completed g.P.Ord.cmp c.args.now (message_of x))
-    c.deref-3.ensures c.in_ok-deliver_at.ensures.completion in
+    c.deref-contents.ensures c.in_ok-deliver_at.ensures.completion in
     ap (map ended_of) c.in_ok-push.ensures.items
     ∙ map-append ended_of c.args.ended.now.items (record { message = c.args.message; done_at = c.args.now; deliver_at = deliver_at } ∷ [])
     ∙ ap (λ x. map ended_of c.args.ended.now.items ++ x ∷ []) there
@@ -53,26 +52,16 @@ pub returns-clause-launches : goal.returns-clause-launches
 returns-clause-launches g c =
     let here = planned g.P.Ord.cmp c.args.self.now in
     let mid = planned g.P.Ord.cmp c.land.new.self in
-    let first =
-    ap (λ x. first_of g.P.Ord.cmp mid.waiting x.origin c.deref-5.result.now.recipient) c.deref-4.ensures
-    ∙ ap (λ x. first_of g.P.Ord.cmp mid.waiting c.args.message.value.origin x.recipient) c.deref-5.ensures in
     launches_landed g.P.Ord.cmp c.args.now (message_of c.args.message.value) here mid _
     (c.in_ok-deliver_at.ensures.landed
-    ∙ ap (λ x. landed g.P.Ord.cmp c.args.now here (message_of x)) c.deref-3.ensures)
-    (subst (λ n. Launches g.P.Ord.cmp c.args.now mid n
+    ∙ ap (λ x. landed g.P.Ord.cmp c.args.now here (message_of x)) c.deref-contents.ensures)
+    (subst
+    (λ x. Launches g.P.Ord.cmp c.args.now mid (first_of g.P.Ord.cmp mid.waiting x.origin x.recipient)
     (goes (messages c.in_ok-more.more.items) (planned g.P.Ord.cmp c.launch_from.new.self)))
-    first c.in_ok-more.ensures.launches)
+    c.deref-contents.ensures c.in_ok-more.ensures.launches)
 
 pub launch_from-requires : goal.launch_from-requires
-launch_from-requires g c =
-    rw (c.deref-4.ensures, c.deref-5.ensures, ← c.deref-3.ensures) c.in_ok-deliver_at.ensures.idle
+launch_from-requires g c = c.in_ok-deliver_at.ensures.idle
 
 pub land-requires : goal.land-requires
-land-requires g c =
-    let here = planned g.P.Ord.cmp c.args.self.now in
-    sym
-    (c.has-is_busy.ensures
-    ∙ ap (λ x. is_sending g.P.Ord.cmp here x.origin c.deref-2.result.now.recipient)
-    (c.deref.ensures ∙ sym c.deref-3.ensures)
-    ∙ ap (λ x. is_sending g.P.Ord.cmp here c.deref-3.result.now.origin x.recipient)
-    (c.deref-2.ensures ∙ sym c.deref-3.ensures))
+land-requires g c = sym c.has-is_busy.ensures
