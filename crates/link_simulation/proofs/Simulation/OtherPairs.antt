@@ -1,5 +1,5 @@
 -- What happens to one pair leaves the other pairs as they are.
-use Rattle.link_simulation.proofs.Common.{◌&&◌, is_in_order, is_late, completed, MomentTooLate, arith, ◌≡◌, ℕ, ◌+◌}
+use Rattle.link_simulation.proofs.Common.{nat_le, last_moment, FlowIdsUsedUp, ◌&&◌, is_in_order, is_late, completed, MomentTooLate, arith, ◌≡◌, ℕ, ◌+◌}
 use Rattle.link_simulation.proofs.Common.{List, [], ◌∷◌, ◌++◌, map, Bool, true, false, not, Option, Some, None, refl}
 use Rattle.link_simulation.proofs.Common.{sym, ap, ◌∙◌, ⊤, ◌||◌, ◌==◌, filter, find, list_any, Ordering, IsTotalOrder}
 use Rattle.link_simulation.proofs.Common.{list_any-append, filter-append, or_right, or_left, not-true, map-append}
@@ -176,7 +176,9 @@ module _ {P : Type 0} (cmp : P → P → Ordering) (order : IsTotalOrder cmp) wh
   -- a start changes its pair alone, which then sends
   pub start_leaves : (t : ℕ) (w : World P) (m : Message P) → EndsWith (Leaves t m w) (start cmp w m)
   unfolding started
-  start_leaves t w m = search (ends_cond, started, started_but_for, started_rests)
+  start_leaves t w m =
+      ends_cond (Leaves t m w) (nat_le last_moment w.next_id) (meets FlowIdsUsedUp) (goes [] (started w m)) tt
+      (record { others = started_but_for w m; rests = started_rests t w m })
 
   pub leaves_like : (t : ℕ) (m x : Message P) (w v u : World P) → same_pair cmp m x ≡ true → IsButFor cmp m w v
       → Leaves t x v u → Leaves t m w u
