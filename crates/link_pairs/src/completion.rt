@@ -7,6 +7,7 @@ ghost use Rattle.link_pairs.specs.Pairs.Messages.{completed_by, ended_of};
 
 use crate::contents::Payload;
 use crate::message::Message;
+use crate::pair::PeerPair;
 use bytes::Bytes;
 use fairness::error::Error;
 use fairness::peer::Peer;
@@ -46,9 +47,10 @@ impl<P: Peer> Ended<P> {
         ensures refused { IfErr result (λ e. e ≡ Error.OutOfMemory) }
     {
         let message = &self.message;
+        let PeerPair { origin, recipient } = PeerPair::new(&message.origin, &message.recipient)?;
         Ok(Completion {
-            origin: message.origin.clone_peer().ok_or(Error::OutOfMemory)?,
-            recipient: message.recipient.clone_peer().ok_or(Error::OutOfMemory)?,
+            origin,
+            recipient,
             channel: message.channel,
             message: M::of_contents(alloc, &message.bytes)?,
             done_at: self.done_at,
@@ -86,9 +88,10 @@ impl<P: Peer> Completion<P> {
         ensures deliver_at { IfOk result (λ copy. copy.deliver_at ≡ self.now.deliver_at) }
         ensures refused { IfErr result (λ e. e ≡ Error.OutOfMemory) }
     {
+        let PeerPair { origin, recipient } = PeerPair::new(&self.origin, &self.recipient)?;
         Ok(Completion {
-            origin: self.origin.clone_peer().ok_or(Error::OutOfMemory)?,
-            recipient: self.recipient.clone_peer().ok_or(Error::OutOfMemory)?,
+            origin,
+            recipient,
             channel: self.channel,
             message: self.message.slice(..)?,
             done_at: self.done_at,

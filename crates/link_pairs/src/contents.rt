@@ -86,9 +86,18 @@ impl Contents {
         ensures same { IfOk result (λ bytes. bytes ≡ self.now) }
         ensures refused { IfErr result (λ e. e ≡ Error.OutOfMemory) }
     {
-        if self.zeros == 0 {
-            return Ok(self.given.slice(..)?);
-        }
+        let bytes = if self.zeros == 0 {
+            self.given.slice(..)
+        } else {
+            self.copied(alloc)
+        };
+        Ok(bytes?)
+    }
+
+    /// A copy of all of them.
+    fn copied(&self, alloc: Global) -> Result<Bytes, AllocError>
+        ensures { IfOk result (λ bytes. bytes ≡ self.now) }
+    {
         let mut bytes = Vec::from_slice(alloc, self.given.as_slice())?;
         bytes.resize(self.len(), 0)?;
         Ok(Bytes::from_vec(bytes)?)

@@ -132,7 +132,7 @@ impl<P: Peer> Pairs<P> {
         if !self.linked {
             return None;
         }
-        self.find(origin, recipient)?.cap.map(|cap| cap as u128)
+        Some(self.find(origin, recipient)?.cap? as u128)
     }
 
     /// The moment before which no later message of the pair arrives, if there is one.

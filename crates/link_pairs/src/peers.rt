@@ -79,7 +79,7 @@ impl<P: Peer> Peers<P> {
         ensures cap { result ≡ egress_of P.cmp self.now.entries peer.now }
         ensures small { IfSome result (λ cap. cap < 2 ^ 64) }
     {
-        self.find(peer)?.egress.map(|cap| cap as u128)
+        Some(self.find(peer)?.egress? as u128)
     }
 
     /// The cap on all that the peer receives.
@@ -87,7 +87,7 @@ impl<P: Peer> Peers<P> {
         ensures cap { result ≡ ingress_of P.cmp self.now.entries peer.now }
         ensures small { IfSome result (λ cap. cap < 2 ^ 64) }
     {
-        self.find(peer)?.ingress.map(|cap| cap as u128)
+        Some(self.find(peer)?.ingress? as u128)
     }
 
     /// Sets both caps of the peer, in bytes a second; each may be none.
