@@ -1,5 +1,6 @@
 -- What happens to one pair leaves the other pairs as they are.
-use Rattle.link_simulation.proofs.Common.{nat_le, last_moment, FlowIdsUsedUp, ◌&&◌, is_in_order, is_late, completed, MomentTooLate, arith, ◌≡◌, ℕ, ◌+◌}
+use Rattle.link_simulation.proofs.Common.{nat_le, last_moment, FlowIdsUsedUp}
+use Rattle.link_simulation.proofs.Common.{◌&&◌, is_in_order, is_late, completed, MomentTooLate, arith, ◌≡◌, ℕ, ◌+◌}
 use Rattle.link_simulation.proofs.Common.{List, [], ◌∷◌, ◌++◌, map, Bool, true, false, not, Option, Some, None, refl}
 use Rattle.link_simulation.proofs.Common.{sym, ap, ◌∙◌, ⊤, ◌||◌, ◌==◌, filter, find, list_any, Ordering, IsTotalOrder}
 use Rattle.link_simulation.proofs.Common.{list_any-append, filter-append, or_right, or_left, not-true, map-append}
