@@ -31,7 +31,7 @@ pub use Rattle.link_flights.specs.Flights.Components.{AreAllListed, AreNoted, Ar
 pub use Rattle.link_flights.specs.Flights.Components.{is_closed, is_of, is_receiver, is_sender, keeps, places_of, suits}
 pub use Rattle.link_flights.specs.Flights.Components.{those_near, those_of, touches, near_of, AreNear, AreStillListed}
 pub use Rattle.link_flights.specs.Flights.Components.{IsTouched, SharesAt, SharesEndAt, AreListedAt, StartsWith}
-pub use Rattle.link_flights.specs.Flights.Components.{AreListed, AllNewTouch}
+pub use Rattle.link_flights.specs.Flights.Components.{AreListed, AllNewTouch, AreTied, AreStillTied, IsTied, has_end, have_end, joins}
 pub use Rattle.link_flights.specs.Flights.Flight.{AreTimed, DrainsTo, HaveRates, IsTimed, UnitFlight, flight_at}
 pub use Rattle.link_flights.specs.Flights.Flight.{flights_at, has_come, left_by}
 pub use Rattle.link_flights.specs.Flights.InFlight.{IsNextPlace, PassesFirstAt, PassesNowhere, in_flight, in_units}
@@ -52,6 +52,9 @@ pub use Rattle.link_flights.specs.Flights.Table.{share, Line}
 pub use Rattle.link_flights.specs.declared.component.Component.{Component}
 pub use Rattle.link_flights.specs.declared.flight.Flight.{Flight}
 pub use Rattle.link_flights.specs.declared.flight_list.Flights.{Flights}
+pub use Rattle.link_flights.specs.declared.joined.Ends.{Ends}
+pub use Rattle.link_flights.specs.declared.joined.Ends.TheVariants.{Both, Receiver, Sender}
+pub use Rattle.link_flights.specs.declared.joined.Joined.{Joined}
 pub use Rattle.link_flights.specs.declared.table.End.{End}
 pub use Rattle.link_flights.specs.declared.table.End.TheVariants.{Origin, Recipient}
 pub use Rattle.link_pairs.proofs.Pairs.ByNumber.{get_set_other, get_set_here}

@@ -4,12 +4,13 @@
 //! may get other rates, and so on from these. But a message whose rate is below a level goes on as it
 //! is, and passes nothing on: below the least rate of what is done, and below the least share that a
 //! cap leaves to each of its users with what is new, filling goes as it went before.
-ghost use Rattle.std.specs.Prelude.{◌≡◌, ℕ, ◌+◌, ◌<◌, ◌≤◌, ◌||◌, ◌⊎◌, true, false, not, [], length, take};
+ghost use Rattle.std.specs.Prelude.{◌≡◌, ℕ, ◌+◌, ◌<◌, ◌≤◌, ◌&&◌, ◌⊎◌, true, false, [], length, take};
 ghost use Rattle.std.specs.Prelude.{All, IfOk, IfErr, IfSome, OnOk, nat_le, Contains, slice_get, Some};
 ghost use Rattle.std.specs.List.{list_all, list_any};
 ghost use Rattle.fairness.specs.Sides.Subjects.{same_peer};
-ghost use Rattle.link_flights.specs.Flights.Components.{is_sender, is_receiver, keeps, is_of, has_both, touches};
-ghost use Rattle.link_flights.specs.Flights.Components.{is_closed, AreNear};
+ghost use Rattle.link_pairs.specs.Pairs.CapsOf.{caps_of};
+ghost use Rattle.link_flights.specs.Flights.Components.{has_end, have_end, joins, keeps, has_both, is_closed, AreNear};
+ghost use Rattle.link_flights.specs.Flights.Components.{AreTied, AreStillTied, HasListedEnd};
 ghost use Rattle.link_flights.specs.Flights.Components.{StartsWith, AreStillListed, AreNoted};
 ghost use Rattle.link_flights.specs.Flights.Components.{AreListedAt, AreAllListed, AllNewTouch, place_of};
 ghost use Rattle.link_flights.specs.Flights.Components.{IsSuited, AreSuited, SharesEndAt, Ascends, IsWalked};
@@ -19,6 +20,7 @@ ghost use Rattle.link_flights.specs.Flights.Table.{share};
 
 use crate::flight::Flight;
 use crate::flight_list::Flights;
+use crate::joined::Joined;
 use crate::rate::Rate;
 use crate::space::Space;
 use crate::table::End;
@@ -62,7 +64,7 @@ pub(crate) struct Component<P> {
     /// In units.
     pub(crate) level: Rate,
     /// Its senders and receivers are those of these.
-    pub(crate) joined: Vec<Arc<Message<P>>>,
+    pub(crate) joined: Vec<Joined<P>>,
     /// The places of those in flight of which it has an end, in order of start, once they are known.
     /// Of all, they are all places, and stand nowhere.
     pub(crate) near: Vec<usize>,
@@ -104,6 +106,7 @@ impl<P: Peer> Component<P> {
     /// All senders and all receivers, and no level. Nothing is listed; the room for that is given.
     pub(crate) fn whole(alloc: Global, space: Space<P>) -> Component<P>
         ensures whole { result.whole ≡ true }
+        ensures joined { result.joined.items ≡ [] }
         ensures level { result.level ≡ 0 }
         ensures near { result.near.items ≡ [] }
     {
@@ -128,18 +131,11 @@ impl<P: Peer> Component<P> {
         Space::of(joined, near)
     }
 
-    /// Whether the peer is one of the senders.
-    fn has_sender(&self, peer: &P) -> bool
-        ensures { result ≡ is_sender P.cmp self.now peer.now }
+    /// Whether it has that end of the message.
+    fn has_end(&self, end: End, message: &Message<P>) -> bool
+        ensures { result ≡ has_end P.cmp self.now end message.now.origin message.now.recipient }
     {
-        self.whole || sends_any(peer, &self.joined)
-    }
-
-    /// Whether the peer is one of the receivers.
-    fn has_receiver(&self, peer: &P) -> bool
-        ensures { result ≡ is_receiver P.cmp self.now peer.now }
-    {
-        self.whole || receives_any(peer, &self.joined)
+        self.whole || any_joins(end, message, &self.joined)
     }
 
     /// Whether the message in flight goes on at its rate.
@@ -165,20 +161,14 @@ impl<P: Peer> Component<P> {
     fn has_both(&self, message: &Message<P>) -> bool
         ensures { result ≡ has_both P.cmp self.now message.now }
     {
-        self.has_sender(&message.origin) && self.has_receiver(&message.recipient)
-    }
-
-    /// Whether it has an end of the message.
-    fn touches(&self, message: &Message<P>) -> bool
-        ensures { result ≡ touches P.cmp self.now message.now }
-    {
-        self.has_sender(&message.origin) || self.has_receiver(&message.recipient)
+        self.has_end(End::Origin, message) && self.has_end(End::Recipient, message)
     }
 
     /// Takes in the ends of the message.
-    fn join(&mut self, message: &Arc<Message<P>>) -> Result<(), Error>
+    fn join(&mut self, message: &Arc<Message<P>>, peers: &Peers<P>) -> Result<(), Error>
         ensures has { OnOk result (has_both P.cmp self.new message.now.value ≡ true) }
         ensures joined { OnOk result (StartsWith self.old.joined.items self.new.joined.items) }
+        ensures tied { OnOk result (AreStillTied (caps_of P.cmp peers.now.entries []) self.old self.new) }
         ensures near { self.new.near.items ≡ self.old.near.items }
         ensures level { self.new.level ≡ self.old.level }
         ensures whole { self.new.whole ≡ self.old.whole }
@@ -187,7 +177,7 @@ impl<P: Peer> Component<P> {
         if self.has_both(message) {
             return Ok(());
         }
-        self.joined.push(message.clone()?)?;
+        self.joined.push(Joined::of(message, peers)?)?;
         Ok(())
     }
 
@@ -203,24 +193,6 @@ impl<P: Peer> Component<P> {
         };
         self.joined.len() > MOST_JOINED.max(part) || self.near.len() > MOST_NEAR.max(part)
     }
-}
-
-/// Whether the peer sends one of the messages.
-fn sends_any<P: Peer>(peer: &P, messages: &[Arc<Message<P>>]) -> bool
-    ensures { result ≡ list_any (λ m. same_peer P.cmp peer.now m.value.origin) messages.now }
-{
-    messages
-        .iter()
-        .any(|message| peer.cmp(&message.origin).is_eq())
-}
-
-/// Whether the peer is to receive one of the messages.
-fn receives_any<P: Peer>(peer: &P, messages: &[Arc<Message<P>>]) -> bool
-    ensures { result ≡ list_any (λ m. same_peer P.cmp peer.now m.value.recipient) messages.now }
-{
-    messages
-        .iter()
-        .any(|message| peer.cmp(&message.recipient).is_eq())
 }
 
 /// The less of two levels. The first may be missing.
@@ -250,6 +222,7 @@ impl<P: Peer> Flights<P> {
         ensures closed { IfOk result (λ component.
             is_closed P.cmp component done.now.items (in_units self.now) ≡ true) }
         ensures loose { IfOk result (λ component. All (λ m. has_both P.cmp component m ≡ true) self.now.loose) }
+        ensures tied { IfOk result (λ component. AreTied (caps_of P.cmp peers.now.entries []) component) }
         ensures level { IfOk result (λ component. IfSome self.now.floor (λ floor. component.level ≤ floor)) }
         ensures near { IfOk result (λ component. component.whole ≡ false
             → AreNear P.cmp component component.near.items self.now.list.items) }
@@ -257,7 +230,7 @@ impl<P: Peer> Flights<P> {
         ensures refused { IfErr result (λ e. e ≡ Error.OutOfMemory) }
     {
         let mut component = Component::new(self.alloc, space)?;
-        self.join_touched(done, &mut component)?;
+        self.join_touched(done, peers, &mut component)?;
         if self.grow(&mut component, peers, pairs, noted)? {
             return Ok(component);
         }
@@ -273,6 +246,7 @@ impl<P: Peer> Flights<P> {
         space: Space<P>,
     ) -> Result<Component<P>, Error>
         ensures whole { IfOk result (λ all. all.whole ≡ true) }
+        ensures tied { IfOk result (λ all. AreTied (caps_of P.cmp peers.now.entries []) all) }
         ensures level { IfOk result (λ all. IfSome self.now.floor (λ floor. all.level ≤ floor)) }
         ensures noted { IfOk result (λ all. AreNoted all.near.items noted.new.items) }
         ensures refused { IfErr result (λ e. e ≡ Error.OutOfMemory) }
@@ -361,25 +335,27 @@ impl<P: Peer> Flights<P> {
     fn join_touched(
         &self,
         done: &VecDeque<Arc<Message<P>>>,
+        peers: &Peers<P>,
         component: &mut Component<P>,
     ) -> Result<(), Error>
         ensures done { OnOk result (All (λ m. has_both P.cmp component.new m.value ≡ true) done.now.items) }
         ensures loose { OnOk result (All (λ m. has_both P.cmp component.new m ≡ true) self.now.loose) }
         ensures new { OnOk result (AllNewTouch P.cmp component.new self.now.settled self.now.list.items) }
+        ensures tied { OnOk result (AreStillTied (caps_of P.cmp peers.now.entries []) component.old component.new) }
         ensures near { component.new.near.items ≡ component.old.near.items }
         ensures level { component.new.level ≡ component.old.level }
         ensures whole { component.new.whole ≡ component.old.whole }
         ensures refused { IfErr result (λ e. e ≡ Error.OutOfMemory) }
     {
         for at in 0..done.len() {
-            component.join(&done[at])?;
+            component.join(&done[at], peers)?;
         }
         for at in self.settled..self.list.len() {
-            component.join(&self.list.at(at).message)?;
+            component.join(&self.list.at(at).message, peers)?;
         }
         let loose = self.loose.as_slice();
         for at in 0..loose.len() {
-            component.join(&loose[at])?;
+            component.join(&loose[at], peers)?;
         }
         Ok(())
     }
@@ -398,6 +374,7 @@ impl<P: Peer> Flights<P> {
         requires noted { AreNoted [] noted.old.items }
         requires each { length noted.old.items ≡ length self.now.list.items }
         ensures joined { OnOk result (StartsWith component.old.joined.items component.new.joined.items) }
+        ensures tied { OnOk result (AreStillTied (caps_of P.cmp peers.now.entries []) component.old component.new) }
         ensures walked { IfOk result (λ all. all ≡ true →
             IsWalked P.cmp (length component.new.joined.items) component.new self.now.list.items) }
         ensures order { IfOk result (λ all. all ≡ true → Ascends 0 component.new.near.items) }
@@ -412,7 +389,7 @@ impl<P: Peer> Flights<P> {
         component.level = self.level(peers, pairs)?;
         let mut next = 0;
         while next < component.joined.len() {
-            self.list_joining(next, component, noted)?;
+            self.list_joining(next, peers, component, noted)?;
             if component.is_large(self.list.len()) {
                 return Ok(false);
             }
@@ -423,9 +400,15 @@ impl<P: Peer> Flights<P> {
     }
 
     /// Takes in the ends of the one at that place, if it keeps no rate.
-    fn join_one(&self, at: usize, component: &mut Component<P>) -> Result<(), Error>
+    fn join_one(
+        &self,
+        at: usize,
+        peers: &Peers<P>,
+        component: &mut Component<P>,
+    ) -> Result<(), Error>
         ensures suited { OnOk result (IsSuited P.cmp component.new self.now.list.items at) }
         ensures joined { OnOk result (StartsWith component.old.joined.items component.new.joined.items) }
+        ensures tied { OnOk result (AreStillTied (caps_of P.cmp peers.now.entries []) component.old component.new) }
         ensures near { component.new.near.items ≡ component.old.near.items }
         ensures level { component.new.level ≡ component.old.level }
         ensures whole { component.new.whole ≡ component.old.whole }
@@ -433,7 +416,7 @@ impl<P: Peer> Flights<P> {
     {
         if let Some(one) = self.list.get(at) {
             if !component.keeps(one) {
-                component.join(&one.message)?;
+                component.join(&one.message, peers)?;
             }
         }
         Ok(())
@@ -444,6 +427,7 @@ impl<P: Peer> Flights<P> {
     fn list_joining(
         &self,
         number: usize,
+        peers: &Peers<P>,
         component: &mut Component<P>,
         noted: &mut Vec<bool>,
     ) -> Result<(), Error>
@@ -455,23 +439,25 @@ impl<P: Peer> Flights<P> {
         ensures noted { OnOk result (AreNoted component.new.near.items noted.new.items) }
         ensures each { length noted.new.items ≡ length noted.old.items }
         ensures joined { OnOk result (StartsWith component.old.joined.items component.new.joined.items) }
+        ensures tied { OnOk result (AreStillTied (caps_of P.cmp peers.now.entries []) component.old component.new) }
         ensures level { component.new.level ≡ component.old.level }
         ensures whole { component.new.whole ≡ component.old.whole }
         ensures refused { IfErr result (λ e. e ≡ Error.OutOfMemory) }
     {
-        let message = component.joined[number].clone()?;
-        self.join_new_end(End::Origin, &message, number, component, noted)?;
-        self.join_new_end(End::Recipient, &message, number, component, noted)?;
+        let joined = component.joined[number].again()?;
+        self.join_new_end(End::Origin, &joined, number, peers, component, noted)?;
+        self.join_new_end(End::Recipient, &joined, number, peers, component, noted)?;
         Ok(())
     }
 
-    /// As [`Flights::join_end`], where the first so many of the messages that have joined were looked through:
-    /// what shares that end with one of these is listed.
+    /// As [`Flights::join_end`], for one that has joined, if it joins others by that end, where the first so many of those
+    /// that have joined were looked through: what they bring in is listed.
     fn join_new_end(
         &self,
         end: End,
-        message: &Message<P>,
+        joined: &Joined<P>,
         number: usize,
+        peers: &Peers<P>,
         component: &mut Component<P>,
         noted: &mut Vec<bool>,
     ) -> Result<(), Error>
@@ -481,23 +467,25 @@ impl<P: Peer> Flights<P> {
         requires noted { AreNoted component.old.near.items noted.old.items }
         requires each { length noted.old.items ≡ length self.now.list.items }
         requires suited { AreSuited P.cmp component.old component.old.near.items self.now.list.items }
-        ensures listed { OnOk result
-            (AreListedAt P.cmp end message.now component.new.near.items self.now.list.items) }
-        ensures more { OnOk result (AreStillListed component.old.near.items component.new.near.items) }
-        ensures only { OnOk result (All (λ p. Contains component.old.near.items p
-            ⊎ SharesEndAt P.cmp end message.now self.now.list.items p) component.new.near.items) }
+        ensures listed { OnOk result (HasListedEnd P.cmp end joined.now.ends joined.now.message.value self.now.list.items
+            component.old.near.items component.new.near.items) }
         ensures noted { OnOk result (AreNoted component.new.near.items noted.new.items) }
         ensures each { length noted.new.items ≡ length noted.old.items }
         ensures suited { OnOk result (AreSuited P.cmp component.new component.new.near.items self.now.list.items) }
         ensures joined { OnOk result (StartsWith component.old.joined.items component.new.joined.items) }
+        ensures tied { OnOk result (AreStillTied (caps_of P.cmp peers.now.entries []) component.old component.new) }
         ensures level { component.new.level ≡ component.old.level }
         ensures whole { component.new.whole ≡ component.old.whole }
         ensures refused { IfErr result (λ e. e ≡ Error.OutOfMemory) }
     {
-        if shares_with_any(end, message, &component.joined[..number]) {
+        if !joined.ends.have(end) {
             return Ok(());
         }
-        self.join_end(end, message, component, noted)
+        if shares_with_any(end, &joined.message, &component.joined[..number]) {
+            return Ok(());
+        }
+        self.join_end(end, &joined.message, peers, component, noted)?;
+        Ok(())
     }
 
     /// Lists the places of those in flight that share that end with the message, and takes in the ends of
@@ -506,6 +494,7 @@ impl<P: Peer> Flights<P> {
         &self,
         end: End,
         message: &Message<P>,
+        peers: &Peers<P>,
         component: &mut Component<P>,
         noted: &mut Vec<bool>,
     ) -> Result<(), Error>
@@ -521,6 +510,7 @@ impl<P: Peer> Flights<P> {
         ensures each { length noted.new.items ≡ length noted.old.items }
         ensures suited { OnOk result (AreSuited P.cmp component.new component.new.near.items self.now.list.items) }
         ensures joined { OnOk result (StartsWith component.old.joined.items component.new.joined.items) }
+        ensures tied { OnOk result (AreStillTied (caps_of P.cmp peers.now.entries []) component.old component.new) }
         ensures level { component.new.level ≡ component.old.level }
         ensures whole { component.new.whole ≡ component.old.whole }
         ensures refused { IfErr result (λ e. e ≡ Error.OutOfMemory) }
@@ -529,7 +519,7 @@ impl<P: Peer> Flights<P> {
         while let Some(at) = next {
             let is_new = list(&mut component.near, noted, at)?;
             if is_new {
-                self.join_one(at, component)?;
+                self.join_one(at, peers, component)?;
             }
             next = self.list.next_at(end, at);
         }
@@ -537,13 +527,27 @@ impl<P: Peer> Flights<P> {
     }
 }
 
-/// Whether one of the messages shares that end with the message.
-fn shares_with_any<P: Peer>(end: End, message: &Message<P>, messages: &[Arc<Message<P>>]) -> bool
-    ensures { result ≡ list_any (λ m. share P.cmp end message.now m.value) messages.now }
+/// Whether one of those that have joined brings in that end of the message.
+fn any_joins<P: Peer>(end: End, message: &Message<P>, joined: &[Joined<P>]) -> bool
+    ensures { result ≡ list_any (λ j. joins P.cmp j end message.now.origin message.now.recipient) joined.now }
+{
+    joined.iter().any(|one| one.joins(end, message))
+}
+
+/// Whether one of those that have joined joins others by that end, and shares it with the message.
+fn shares_with_any<P: Peer>(end: End, message: &Message<P>, joined: &[Joined<P>]) -> bool
+    ensures { result ≡ list_any (λ j. have_end j.ends end && share P.cmp end message.now j.message.value) joined.now }
+{
+    joined.iter().any(|one| one.ends.have(end) && share(end, message, &one.message))
+}
+
+/// Whether two messages go from one origin, or to one recipient.
+fn share<P: Peer>(end: End, message: &Message<P>, other: &Message<P>) -> bool
+    ensures { result ≡ share P.cmp end message.now other.now }
 {
     match end {
-        End::Origin => sends_any(&message.origin, messages),
-        End::Recipient => receives_any(&message.recipient, messages),
+        End::Origin => message.origin.cmp(&other.origin).is_eq(),
+        End::Recipient => message.recipient.cmp(&other.recipient).is_eq(),
     }
 }
 

@@ -11,6 +11,7 @@ mod component;
 mod flight;
 pub mod flight_list;
 mod fraction;
+mod joined;
 pub mod loose;
 pub mod notes;
 mod numbers;

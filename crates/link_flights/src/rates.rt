@@ -11,7 +11,7 @@ ghost use Rattle.link_simulation.specs.Simulation.World.{last_moment};
 ghost use Rattle.link_pairs.specs.Pairs.Messages.{messages, message_of};
 ghost use Rattle.link_pairs.specs.Pairs.CapsOf.{caps_of};
 ghost use Rattle.link_flights.specs.Flights.Components.{those_of, is_of, is_closed, has_both, suits, places_of};
-ghost use Rattle.link_flights.specs.Flights.Components.{AreNear, those_near, AreNoted};
+ghost use Rattle.link_flights.specs.Flights.Components.{AreNear, those_near, AreNoted, AreTied};
 ghost use Rattle.link_flights.specs.Flights.Flight.{AreTimed, flight_at, has_come};
 ghost use Rattle.link_flights.specs.Flights.InFlight.{in_units, in_flight, loose_in};
 ghost use Rattle.link_flights.specs.Flights.Rated.{WereRated, AreFairOn, HaveFairRates, sent_messages};
@@ -427,6 +427,7 @@ impl<P: Peer> Flights<P> {
         requires each { length noted.old.items ≡ length self.now.list.items }
         ensures closed { IfOk result (λ touched. is_closed P.cmp touched done.now.items (in_units self.now) ≡ true) }
         ensures loose { IfOk result (λ touched. All (λ m. has_both P.cmp touched m ≡ true) self.now.loose) }
+        ensures tied { IfOk result (λ touched. AreTied (caps_of P.cmp peers.now.entries []) touched) }
         ensures level { IfOk result (λ touched. IfSome self.now.floor (λ floor. touched.level ≤ floor)) }
         ensures near { IfOk result (λ touched. touched.whole ≡ false
             → AreNear P.cmp touched touched.near.items self.now.list.items) }

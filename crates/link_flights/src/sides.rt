@@ -321,8 +321,6 @@ impl<P: Peer> Flights<P> {
         requires within { at < length self.now.list.items }
         requires places { numbers.now ≡ places_of (λ f. is_of P.cmp component.now (flight_at 0 f)) 0 self.now.list.items }
         requires suited { list_all (suits P.cmp component.now) (in_units self.now) ≡ true }
-        requires near { (one : AnyFlight P) → slice_get self.now.list.items at ≡ Some one
-            → uses_end P.cmp end one.message.value ≡ true → touches P.cmp component.now one.message.value ≡ true }
         ensures counted { OnOk result ((m : AnyMessage P) (one : AnyFlight P) (all : ℕ)
             → slice_get self.now.list.items at ≡ Some one → share P.cmp end m one.message.value ≡ true
             → IsCounted P.cmp component.now self.now.at self.now.list.items (end_subject end (flow_sent P.cmp m)) all at

@@ -1,14 +1,13 @@
 //! Room for the lists of a component, which is kept from one event to the next.
 ghost use Rattle.std.specs.Prelude.{◌≡◌, []};
 
-use link_pairs::message::Message;
+use crate::joined::Joined;
 use std::alloc::Global;
 use std::marker::Model;
-use std::sync::Arc;
 
 /// Room for the lists of a component. What they hold says nothing, so callers see nothing of it.
 pub(crate) struct Space<P> {
-    joined: Vec<Arc<Message<P>>>,
+    joined: Vec<Joined<P>>,
     near: Vec<usize>,
 }
 
@@ -37,13 +36,13 @@ impl<P: Drop> Space<P> {
     }
 
     /// The room of these lists. What stands in the first is let go.
-    pub(crate) fn of(mut joined: Vec<Arc<Message<P>>>, near: Vec<usize>) -> Space<P> {
+    pub(crate) fn of(mut joined: Vec<Joined<P>>, near: Vec<usize>) -> Space<P> {
         joined.clear();
         Space { joined, near }
     }
 
     /// The lists, in which nothing stands any more.
-    pub(crate) fn into_lists(self) -> (Vec<Arc<Message<P>>>, Vec<usize>)
+    pub(crate) fn into_lists(self) -> (Vec<Joined<P>>, Vec<usize>)
         ensures joined { result.0.items ≡ [] }
         ensures near { result.1.items ≡ [] }
     {

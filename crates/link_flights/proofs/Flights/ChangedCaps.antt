@@ -12,7 +12,8 @@ not_not false h = refl
 module _ {P X : Type 0} (cmp : P → P → Ordering) (flow : X → Flow P) (parts : X → ℕ) (rated : X → Bool)
     (per level : ℕ) (was caps : Caps P) (vs : List X) (old : AreShared cmp was flow parts per vs)
     (gone : (y : X) → In vs y → rated y ≡ true → level ≤ parts y)
-    (apart : (k : X) → In vs k → rated k ≡ false → level ≤ parts k → (s : Subject P) → limits cmp s (flow k) ≡ true
+    (apart : (k : X) → In vs k → rated k ≡ false → level ≤ parts k → (s : Subject P) (cap : ℕ)
+    → cap_of caps s ≡ Some cap → limits cmp s (flow k) ≡ true
     → (y : X) → In vs y → rated y ≡ true → limits cmp s (flow y) ≡ false)
     (differ : (s : Subject P) → (cap_of was s ≡ cap_of caps s)
     ⊎ ((y : X) → In vs y → limits cmp s (flow y) ≡ true → rated y ≡ true)) where
@@ -35,7 +36,9 @@ module _ {P X : Type 0} (cmp : P → P → Ordering) (flow : X → Flow P) (part
   none_rated k h b y among r = elim (cases_lt (parts k) level) [
     | inl less ↦ by_bool (limits cmp b.by.subject (flow y))
         (λ l. absurd (omega (arith, less, gone y among r, b.greatest y among l))) (λ e. e)
-    | inr le ↦ apart k (kept k h).0 (kept k h).1 le b.by.subject b.by.limited y among r
+    | inr le ↦
+        apart k (kept k h).0 (kept k h).1 le b.by.subject b.by.cap
+        (sym (same_cap b.by.subject k h b.by.limited) ∙ b.by.capped) b.by.limited y among r
   ]
 
   within : (s : Subject P) (cap : ℕ) → cap_of caps s ≡ Some cap → total cmp caps flow parts s keep ≤ cap * per

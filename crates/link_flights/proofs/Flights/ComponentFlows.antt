@@ -1,8 +1,9 @@
 -- Flows of messages in flight, one after another, and those of a component of all.
 use Rattle.link_flights.proofs.Common.{◌≡◌, ℕ, ◌+◌, ◌<◌, nat_le, Bool, true, false, not, ◌&&◌, ◌||◌, List, [], ◌∷◌}
 use Rattle.link_flights.proofs.Common.{All, All-from_contains, ◌++◌, length, take, get_or, refl, sym, ap, ap₂, ◌∙◌, arith, if◌then◌else◌}
-use Rattle.link_flights.proofs.Common.{list_all, list_any, Ordering, Arc, Global, le-leb, map-append, same_peer}
-use Rattle.link_flights.proofs.Common.{Component, Flight, keeps, is_of, those_of, is_sender, is_receiver, has_both}
+use Rattle.link_flights.proofs.Common.{list_all, list_any, Ordering, Arc, Global, le-leb, map-append, End, Origin}
+use Rattle.link_flights.proofs.Common.{Recipient, Component, Flight, keeps, is_of, those_of, is_receiver, has_both}
+use Rattle.link_flights.proofs.Common.{has_end, joins}
 use Rattle.link_flights.proofs.Common.{touches, suits, is_closed, UnitFlight, flight_at, flights_at, take_more, near_of}
 use Rattle.link_pairs.specs.declared.message.Message.{Message}
 use Rattle.link_flights.proofs.Flights.InFlight.{filter_yes}
@@ -26,7 +27,7 @@ module _ {P : Type 0} (cmp : P → P → Ordering) (component : Component P) (wh
   pub is_of_whole : (u : UnitFlight P) → is_of cmp component u ≡ true
   is_of_whole u =
       ap
-      (λ b. (b || list_any (λ m. same_peer cmp u.message.origin m.value.origin) component.joined.items)
+      (λ b. (b || list_any (λ j. joins cmp j Origin u.message.origin u.message.recipient) component.joined.items)
       && not (keeps component u)) whole
       ∙ ap (λ n. not (u.rated && not (nat_le n u.rate))) level
       ∙ ap (λ b. not (u.rated && not b)) (le-leb 0 u.rate (omega arith)) ∙ ap not (none_and u.rated)
@@ -46,20 +47,17 @@ all_pass test passes (x ∷ xs) = ap₂ (λ a b. a && b) (passes x) (all_pass te
 
 -- a component of all senders and receivers, whatever its level
 module _ {P : Type 0} (cmp : P → P → Ordering) (component : Component P) (whole : component.whole ≡ true) where
-  sends : (p : P) → is_sender cmp component p ≡ true
-  sends p = ap (λ b. b || list_any (λ m. same_peer cmp p m.value.origin) component.joined.items) whole
-
-  receives : (p : P) → is_receiver cmp component p ≡ true
-  receives p = ap (λ b. b || list_any (λ m. same_peer cmp p m.value.recipient) component.joined.items) whole
+  has : (end : End) (p q : P) → has_end cmp component end p q ≡ true
+  has end p q = ap (λ b. b || list_any (λ j. joins cmp j end p q) component.joined.items) whole
 
   pub both : (m : Message P) → has_both cmp component m ≡ true
-  both m = ap₂ (λ a b. a && b) (sends m.origin) (receives m.recipient)
+  both m = ap₂ (λ a b. a && b) (has Origin m.origin m.recipient) (has Recipient m.origin m.recipient)
 
   pub all_both : (ms : List (Message P)) → All (λ m. has_both cmp component m ≡ true) ms
   all_both ms = All-from_contains (λ m. has_both cmp component m ≡ true) ms (λ m listed. both m)
 
   pub touched : (m : Message P) → touches cmp component m ≡ true
-  touched m = ap (λ b. b || is_receiver cmp component m.recipient) (sends m.origin)
+  touched m = ap (λ b. b || is_receiver cmp component m.origin m.recipient) (has Origin m.origin m.recipient)
 
   pub near_whole : (us : List (UnitFlight P)) → near_of cmp component us ≡ us
   near_whole [] = refl

@@ -12,7 +12,7 @@ use Rattle.link_flights.proofs.Common.{message_of, UnitFlight, is_sender, is_rec
 use Rattle.link_flights.proofs.Common.{suits, is_closed, sent_messages, rates_of, rated_ones, rates_found, rerated}
 use Rattle.link_flights.proofs.Common.{rated_anew, AreFairlyRated, WereRated, IsRatedFrom, IsNoMore, IsLoose}
 use Rattle.link_flights.proofs.Common.{flow_in_flight, by_bool, first_of_both, second_of_both, same_peer_itself}
-use Rattle.link_flights.proofs.Common.{FairParts, load, still_fair}
+use Rattle.link_flights.proofs.Common.{FairParts, load, still_fair, Joined, AreTied, IsTied, joins, have_end, Origin, Recipient}
 use Rattle.std.specs.Prelude.{nat_le}
 use Rattle.fairness.specs.Fairness.Fair.{HasBottleneck}
 use Rattle.fairness.proofs.Fairness.Sharing.{StandsAt, fair_from}
@@ -170,34 +170,34 @@ module _ {P : Type 0} (cmp : P → P → Ordering) (component : Component P) whe
 
   -- whether the flow with these parts is rated anew
   abbrev pub is_open : Share P → Bool
-  is_open x = is_sender cmp component x.flow.origin && nat_le component.level x.parts
+  is_open x = is_sender cmp component x.flow.origin x.flow.recipient && nat_le component.level x.parts
 
   -- that of a message in flight that has a rate tells whether it is of the component
   pub open_if_of : (u : UnitFlight P) → u.rated ≡ true → is_open (share_of cmp u) ≡ is_of cmp component u
   open_if_of u rated =
-      ap (λ b. is_sender cmp component u.message.origin && b)
+      ap (λ b. is_sender cmp component u.message.origin u.message.recipient && b)
       (sym (not_twice (nat_le component.level u.rate))
       ∙ ap (λ r. not (r && not (nat_le component.level u.rate))) (sym rated))
 
   -- one that has got no rate and goes from one of the senders is of it
-  of_if_new : (u : UnitFlight P) → u.rated ≡ false → is_of cmp component u ≡ is_sender cmp component u.message.origin
-  of_if_new u new = ap (λ r. is_sender cmp component u.message.origin && not (r && not (nat_le component.level u.rate)))
+  of_if_new : (u : UnitFlight P) → u.rated ≡ false → is_of cmp component u ≡ is_sender cmp component u.message.origin u.message.recipient
+  of_if_new u new = ap (λ r. is_sender cmp component u.message.origin u.message.recipient && not (r && not (nat_le component.level u.rate)))
       new
-      ∙ and_true (is_sender cmp component u.message.origin)
+      ∙ and_true (is_sender cmp component u.message.origin u.message.recipient)
     where
       and_true : (b : Bool) → (b && true) ≡ b
       and_true true = refl
       and_true false = refl
 
   -- one that is of it goes from one of the senders
-  pub sender_of : (u : UnitFlight P) → is_of cmp component u ≡ true → is_sender cmp component u.message.origin ≡ true
-  sender_of u is = first_of_both (is_sender cmp component u.message.origin) (not (keeps component u)) is
+  pub sender_of : (u : UnitFlight P) → is_of cmp component u ≡ true → is_sender cmp component u.message.origin u.message.recipient ≡ true
+  sender_of u is = first_of_both (is_sender cmp component u.message.origin u.message.recipient) (not (keeps component u)) is
 
   -- and keeps no rate
   keeps_none : (u : UnitFlight P) → is_of cmp component u ≡ true → keeps component u ≡ false
   keeps_none u is =
       sym (not_twice (keeps component u))
-      ∙ ap not (second_of_both (is_sender cmp component u.message.origin) (not (keeps component u)) is)
+      ∙ ap not (second_of_both (is_sender cmp component u.message.origin u.message.recipient) (not (keeps component u)) is)
 
   -- ---- at the rates that are given
 
@@ -376,7 +376,8 @@ module _ {P : Type 0} (cmp : P → P → Ordering) (component : Component P) whe
   module _ (whole : component.whole ≡ true) (level : component.level ≡ 0) where
     pub all_of : (u : UnitFlight P) → is_of cmp component u ≡ true
     all_of u =
-        ap₂ (λ w l. (w || list_any (λ m. same_peer cmp u.message.origin m.value.origin) component.joined.items)
+        ap₂ (λ w l.
+        (w || list_any (λ j. joins cmp j Origin u.message.origin u.message.recipient) component.joined.items)
         && not (u.rated && not (nat_le l u.rate))) whole level
         ∙ none u.rated
       where
@@ -398,61 +399,90 @@ module _ {P : Type 0} (cmp : P → P → Ordering) (component : Component P) whe
 
   -- both ends are in it or neither
   abbrev HasBothOrNone : Flow P → Type 0
-  HasBothOrNone f = is_sender cmp component f.origin ≡ is_receiver cmp component f.recipient
+  HasBothOrNone f = is_sender cmp component f.origin f.recipient ≡ is_receiver cmp component f.origin f.recipient
+
+  -- an end that is there, where that is how others are joined, or where another is
+  and_alike : (s h x y : Bool) → (s ≡ true → h ≡ true) → (s && (h || x)) ≡ (s && (h || y))
+  and_alike false h x y via = refl
+  and_alike true h x y via = ap (λ b. b || x) (via refl) ∙ sym (ap (λ b. b || y) (via refl))
 
   module _ (order : IsTotalOrder cmp) where
-    same_sender : (p q : P) → same_peer cmp p q ≡ true → is_sender cmp component p ≡ is_sender cmp component q
-    same_sender p q e = ap (λ b. component.whole || b) (each component.joined.items)
+    -- what goes between the same peers has the same ends in it
+    same_pair : (p q r s : P) → same_peer cmp p r ≡ true → same_peer cmp q s ≡ true
+        → is_sender cmp component p q ≡ is_sender cmp component r s
+    same_pair p q r s e f = ap (λ b. component.whole || b) (each component.joined.items)
       where
-        each : (ms : List (Arc (code.Message P) Global))
-            → list_any (λ m. same_peer cmp p m.value.origin) ms ≡ list_any (λ m. same_peer cmp q m.value.origin) ms
+        each : (js : List (Joined P))
+            → list_any (λ j. joins cmp j Origin p q) js ≡ list_any (λ j. joins cmp j Origin r s) js
         each [] = refl
-        each (m ∷ ms) =
-            let laws = eq_by_cmp_equiv order in ap₂ (λ a b. a || b) (laws.congr p q m.value.origin e) (each ms)
+        each (j ∷ js) =
+            let laws = eq_by_cmp_equiv order in
+            ap₂ (λ a b. a || b)
+            (ap₂ (λ a b. a && (have_end j.ends Origin || b)) (laws.congr p r j.message.value.origin e)
+            (laws.congr q s j.message.value.recipient f))
+            (each js)
 
-    same_receiver : (p q : P) → same_peer cmp p q ≡ true → is_receiver cmp component p ≡ is_receiver cmp component q
-    same_receiver p q e = ap (λ b. component.whole || b) (each component.joined.items)
-      where
-        each : (ms : List (Arc (code.Message P) Global))
-            → list_any (λ m. same_peer cmp p m.value.recipient) ms
-            ≡ list_any (λ m. same_peer cmp q m.value.recipient) ms
-        each [] = refl
-        each (m ∷ ms) =
-            let laws = eq_by_cmp_equiv order in ap₂ (λ a b. a || b) (laws.congr p q m.value.recipient e) (each ms)
+    module _ (caps : Caps P) (of : AreOfPeers cmp caps) (tied : AreTied caps component) where
+      tied_one : (j : Joined P) → In component.joined.items j → IsTied caps j
+      tied_one j h = All-contains (IsTied caps) component.joined.items j tied (contains_from_in component.joined.items j h)
 
-    -- two flows that a side limits are both of it or both not
-    pub apart : (s : Subject P) (f g : Flow P) → HasBothOrNone f → HasBothOrNone g → limits cmp s f ≡ true
-        → limits cmp s g ≡ true → is_sender cmp component f.origin ≡ is_sender cmp component g.origin
-    apart (sent_by p) f g at_f at_g lf lg = sym (same_sender p f.origin lf) ∙ same_sender p g.origin lg
-    apart (received_by p) f g at_f at_g lf lg =
-        at_f
-        ∙ sym (same_receiver p f.recipient (second_of_both f.delivered (same_peer cmp p f.recipient) lf))
-        ∙ same_receiver p g.recipient (second_of_both g.delivered (same_peer cmp p g.recipient) lg)
-        ∙ sym at_g
-    apart (sent_between p q) f g at_f at_g lf lg =
-        sym (same_sender p f.origin (first_of_both (same_peer cmp p f.origin) (same_peer cmp q f.recipient) lf))
-        ∙ same_sender p g.origin (first_of_both (same_peer cmp p g.origin) (same_peer cmp q g.recipient) lg)
+      -- where a cap holds for all that a peer sends, the end there is in it for all that the peer sends, or for none
+      same_sender : (p q r s : P) (cap : ℕ) → caps.egress p ≡ Some cap → same_peer cmp p r ≡ true
+          → is_sender cmp component p q ≡ is_sender cmp component r s
+      same_sender p q r s cap has e =
+          ap (λ b. component.whole || b) (each component.joined.items (λ j h. tied_one j h))
+        where
+          each : (js : List (Joined P)) → ((j : Joined P) → In js j → IsTied caps j)
+              → list_any (λ j. joins cmp j Origin p q) js ≡ list_any (λ j. joins cmp j Origin r s) js
+          each [] all = refl
+          each (j ∷ js) all =
+              let o = j.message.value.origin in
+              ap₂ (λ a b. a || b)
+              (and_alike (same_peer cmp p o) (have_end j.ends Origin) (same_peer cmp q j.message.value.recipient)
+              (same_peer cmp s j.message.value.recipient)
+              (λ is. (all j (inl refl)).0 cap (sym (of.egress p o is) ∙ has))
+              ∙ ap (λ b. b && (have_end j.ends Origin || same_peer cmp s j.message.value.recipient))
+              ((eq_by_cmp_equiv order).congr p r o e))
+              (each js (λ k h. all k (inr h)))
 
-    -- where a side limits one that has both ends in it, it has an end of another that the side limits
-    pub meets : (s : Subject P) (f g : Flow P) → is_sender cmp component f.origin ≡ true
-        → is_receiver cmp component f.recipient ≡ true → limits cmp s f ≡ true → limits cmp s g ≡ true
-        → (is_sender cmp component g.origin || is_receiver cmp component g.recipient) ≡ true
-    meets (sent_by p) f g sends receives lf lg =
-        ap (λ b. b || is_receiver cmp component g.recipient)
-        (sym (same_sender p g.origin lg) ∙ same_sender p f.origin lf ∙ sends)
-    meets (received_by p) f g sends receives lf lg =
-        ap (λ b. is_sender cmp component g.origin || b)
-        (sym (same_receiver p g.recipient (second_of_both g.delivered (same_peer cmp p g.recipient) lg))
-        ∙ same_receiver p f.recipient (second_of_both f.delivered (same_peer cmp p f.recipient) lf) ∙ receives)
-        ∙ or_true (is_sender cmp component g.origin)
-      where
-        or_true : (b : Bool) → (b || true) ≡ true
-        or_true true = refl
-        or_true false = refl
-    meets (sent_between p q) f g sends receives lf lg =
-        ap (λ b. b || is_receiver cmp component g.recipient)
-        (sym (same_sender p g.origin (first_of_both (same_peer cmp p g.origin) (same_peer cmp q g.recipient) lg))
-        ∙ same_sender p f.origin (first_of_both (same_peer cmp p f.origin) (same_peer cmp q f.recipient) lf) ∙ sends)
+      -- and so for all that a peer receives
+      same_receiver : (p q r s : P) (cap : ℕ) → caps.ingress q ≡ Some cap → same_peer cmp q s ≡ true
+          → is_receiver cmp component p q ≡ is_receiver cmp component r s
+      same_receiver p q r s cap has e =
+          ap (λ b. component.whole || b) (each component.joined.items (λ j h. tied_one j h))
+        where
+          each : (js : List (Joined P)) → ((j : Joined P) → In js j → IsTied caps j)
+              → list_any (λ j. joins cmp j Recipient p q) js ≡ list_any (λ j. joins cmp j Recipient r s) js
+          each [] all = refl
+          each (j ∷ js) all =
+              let o = j.message.value.recipient in
+              ap₂ (λ a b. a || b)
+              (and_alike (same_peer cmp q o) (have_end j.ends Recipient) (same_peer cmp p j.message.value.origin)
+              (same_peer cmp r j.message.value.origin)
+              (λ is. (all j (inl refl)).1 cap (sym (of.ingress q o is) ∙ has))
+              ∙ ap (λ b. b && (have_end j.ends Recipient || same_peer cmp r j.message.value.origin))
+              ((eq_by_cmp_equiv order).congr q s o e))
+              (each js (λ k h. all k (inr h)))
+
+      -- two flows that a side limits are both of it or both not
+      pub apart : (s : Subject P) (cap : ℕ) → cap_of caps s ≡ Some cap → (f g : Flow P) → HasBothOrNone f
+          → HasBothOrNone g → limits cmp s f ≡ true → limits cmp s g ≡ true
+          → is_sender cmp component f.origin f.recipient ≡ is_sender cmp component g.origin g.recipient
+      apart (sent_by p) cap has f g at_f at_g lf lg =
+          sym (same_sender p f.recipient f.origin f.recipient cap has lf)
+          ∙ same_sender p f.recipient g.origin g.recipient cap has lg
+      apart (received_by p) cap has f g at_f at_g lf lg =
+          at_f
+          ∙ sym (same_receiver f.origin p f.origin f.recipient cap has
+          (second_of_both f.delivered (same_peer cmp p f.recipient) lf))
+          ∙ same_receiver f.origin p g.origin g.recipient cap has
+          (second_of_both g.delivered (same_peer cmp p g.recipient) lg)
+          ∙ sym at_g
+      apart (sent_between p q) cap has f g at_f at_g lf lg =
+          sym (same_pair p q f.origin f.recipient (first_of_both (same_peer cmp p f.origin) _ lf)
+          (second_of_both (same_peer cmp p f.origin) _ lf))
+          ∙ same_pair p q g.origin g.recipient (first_of_both (same_peer cmp p g.origin) _ lg)
+          (second_of_both (same_peer cmp p g.origin) _ lg)
 
   module _ (done : List (Arc (code.Message P) Global)) (us : List (UnitFlight P))
       (closed : is_closed cmp component done us ≡ true) where
@@ -461,11 +491,11 @@ module _ {P : Type 0} (cmp : P → P → Ordering) (component : Component P) whe
 
     -- one that is of it has both ends in it
     pub both_of : (u : UnitFlight P) → In us u → is_of cmp component u ≡ true
-        → (is_sender cmp component u.message.origin ≡ true) × (is_receiver cmp component u.message.recipient ≡ true)
+        → (is_sender cmp component u.message.origin u.message.recipient ≡ true) × (is_receiver cmp component u.message.origin u.message.recipient ≡ true)
     both_of u h is = (
       sender_of u is,
-      given (keeps component u) (is_sender cmp component u.message.origin)
-          (is_receiver cmp component u.message.recipient) u.rated (keeps_none u is) (sender_of u is) (suits_one u h),
+      given (keeps component u) (is_sender cmp component u.message.origin u.message.recipient)
+          (is_receiver cmp component u.message.origin u.message.recipient) u.rated (keeps_none u is) (sender_of u is) (suits_one u h),
     )
       where
         given : (k a r t : Bool) → k ≡ false → a ≡ true
@@ -478,8 +508,8 @@ module _ {P : Type 0} (cmp : P → P → Ordering) (component : Component P) whe
     pub rated_outside : (u : UnitFlight P) → In us u → is_of cmp component u ≡ false → u.rated ≡ true
     rated_outside u h out =
         by_bool u.rated (λ e. e) (λ new.
-        given u.rated (nat_le component.level u.rate) (is_sender cmp component u.message.origin)
-        (is_receiver cmp component u.message.recipient) new (sym (of_if_new u new) ∙ out) (suits_one u h))
+        given u.rated (nat_le component.level u.rate) (is_sender cmp component u.message.origin u.message.recipient)
+        (is_receiver cmp component u.message.origin u.message.recipient) new (sym (of_if_new u new) ∙ out) (suits_one u h))
       where
         given : (t n a r : Bool) → t ≡ false → a ≡ false
             → ((t && not n) || (if a || r then a && r else t)) ≡ true → t ≡ true
@@ -491,10 +521,10 @@ module _ {P : Type 0} (cmp : P → P → Ordering) (component : Component P) whe
     -- one that has a rate at the level or above, and is not of it, has no end in it
     pub none_outside : (u : UnitFlight P) → In us u → is_of cmp component u ≡ false
         → nat_le component.level u.rate ≡ true
-        → (is_sender cmp component u.message.origin ≡ false) × (is_receiver cmp component u.message.recipient ≡ false)
+        → (is_sender cmp component u.message.origin u.message.recipient ≡ false) × (is_receiver cmp component u.message.origin u.message.recipient ≡ false)
     none_outside u h out high =
-        given u.rated (nat_le component.level u.rate) (is_sender cmp component u.message.origin)
-        (is_receiver cmp component u.message.recipient) high out (suits_one u h)
+        given u.rated (nat_le component.level u.rate) (is_sender cmp component u.message.origin u.message.recipient)
+        (is_receiver cmp component u.message.origin u.message.recipient) high out (suits_one u h)
       where
         given : (t n a r : Bool) → n ≡ true → (a && not (t && not n)) ≡ false
             → ((t && not n) || (if a || r then a && r else t)) ≡ true → (a ≡ false) × (r ≡ false)
@@ -529,19 +559,19 @@ module _ {P : Type 0} (cmp : P → P → Ordering) (component : Component P) whe
       -- it has both ends of one whose message it has both ends of
       ends_of_message : (u : UnitFlight P) (m : code.Message P) → message_of m ≡ message_of u.message
           → has_both cmp component m ≡ true
-          → (is_sender cmp component u.message.origin ≡ true) × (is_receiver cmp component u.message.recipient ≡ true)
+          → (is_sender cmp component u.message.origin u.message.recipient ≡ true) × (is_receiver cmp component u.message.origin u.message.recipient ≡ true)
       ends_of_message u m is has =
           let two =
           subst
-          (λ (n : Message P). (is_sender cmp component n.origin && is_receiver cmp component n.recipient) ≡ true)
+          (λ (n : Message P). (is_sender cmp component n.origin n.recipient && is_receiver cmp component n.origin n.recipient) ≡ true)
           is has in (
-            first_of_both (is_sender cmp component u.message.origin) _ two,
-            second_of_both (is_sender cmp component u.message.origin) _ two,
+            first_of_both (is_sender cmp component u.message.origin u.message.recipient) _ two,
+            second_of_both (is_sender cmp component u.message.origin u.message.recipient) _ two,
           )
 
       -- what is done has both ends in it
       both_ends : (u : UnitFlight P) → In were.before u → were.is_done u ≡ true
-          → (is_sender cmp component u.message.origin ≡ true) × (is_receiver cmp component u.message.recipient ≡ true)
+          → (is_sender cmp component u.message.origin u.message.recipient ≡ true) × (is_receiver cmp component u.message.origin u.message.recipient ≡ true)
       both_ends u h is =
           let there : In (messages done) (message_of u.message) =
           subst (λ (ms : List (Message P)). In ms (message_of u.message)) (sym were.parted.left)
@@ -553,7 +583,7 @@ module _ {P : Type 0} (cmp : P → P → Ordering) (component : Component P) whe
           (first_of_both _ (list_all (suits cmp component) us) closed) m.0 m.1)
 
       -- one whose sender it has is of it, where it has no less than the floor
-      of_above : (u : UnitFlight P) → is_sender cmp component u.message.origin ≡ true
+      of_above : (u : UnitFlight P) → is_sender cmp component u.message.origin u.message.recipient ≡ true
           → (u.rated ≡ true → IsNoMore floor u.rate) → is_of cmp component u ≡ true
       of_above u sends above = by_bool u.rated
           (λ rated.
@@ -588,7 +618,7 @@ module _ {P : Type 0} (cmp : P → P → Ordering) (component : Component P) whe
 
       -- one that is of it had both ends in it
       pub both_before : (u : UnitFlight P) → In were.before u → is_of cmp component u ≡ true
-          → (is_sender cmp component u.message.origin ≡ true) × (is_receiver cmp component u.message.recipient ≡ true)
+          → (is_sender cmp component u.message.origin u.message.recipient ≡ true) × (is_receiver cmp component u.message.origin u.message.recipient ≡ true)
       both_before u h is =
           by_bool (were.is_done u) (λ out. both_ends u h out) (λ stays. both_of u (stayed u h stays) is)
 

@@ -2,10 +2,11 @@
 use Rattle.link_flights.proofs.Common.{◌≡◌, ℕ, ◌+◌, ◌<◌, inl, inr, true, false, List, Some, All, Contains, get_or}
 use Rattle.link_flights.proofs.Common.{slice_get, slice_set, length, sym, ap, ◌∙◌, subst, arith, list_all, Ordering}
 use Rattle.link_flights.proofs.Common.{cases_lt, get_or_from_slice_get, by_bool, in_from_contains, get_in}
-use Rattle.link_flights.proofs.Common.{get_set_other, Component, Flight, is_of, keeps, places_of, suits, touches}
+use Rattle.link_flights.proofs.Common.{get_set_other, Component, Flight, is_of, places_of, suits, in_map, in_get, []}
 use Rattle.link_flights.proofs.Common.{flight_at, flights_at, AllPairs, get_set_here}
 use Rattle.link_flights.specs.Flights.Components.{AreNumbered}
-use Rattle.link_flights.proofs.Flights.Sides.{kept_if_out, place_listed, places_ascend, places_within, suited_at}
+use Rattle.link_flights.proofs.Flights.Components.{rated_outside}
+use Rattle.link_flights.proofs.Flights.Sides.{place_listed, places_ascend, places_within}
 
 -- one more of them is noted
 pub numbered_more : (places before : List ℕ) (n : ℕ) → AllPairs (λ one other. one < other) places → n < length places
@@ -47,15 +48,17 @@ module _ {P : Type 0} (cmp : P → P → Ordering) (component : Component P) (li
       subst (λ n. All (λ at. at < n) places) (sym all)
       (subst (All (λ at. at < length list)) (sym are) (places_within cmp component list))
 
-  -- one that is near, but not among them, keeps its rate
-  pub kept_unlisted : (now : ℕ) → list_all (suits cmp component) (flights_at now list) ≡ true
-      → (at : ℕ) (one : Flight P) → slice_get list at ≡ Some one → touches cmp component one.message.value ≡ true
-      → (Contains places at → ⊥)
-      → (is_of cmp component (flight_at now one) ≡ false) × (keeps component (flight_at 0 one) ≡ true)
-  kept_unlisted now suited at one there near not =
+  -- one that is not among them has got a rate
+  pub rated_unlisted : (now : ℕ) → list_all (suits cmp component) (flights_at now list) ≡ true
+      → (at : ℕ) (one : Flight P) → slice_get list at ≡ Some one → (Contains places at → ⊥)
+      → (is_of cmp component (flight_at now one) ≡ false) × (one.rated ≡ true)
+  rated_unlisted now suited at one there not =
       let out : is_of cmp component (flight_at now one) ≡ false =
       by_bool (is_of cmp component (flight_at now one))
       (λ is. absurd (not (subst (λ ps. Contains ps at) (sym are)
       (place_listed (λ (f : Flight P). is_of cmp component (flight_at 0 f)) list at one there is))))
-      (λ is. is) in
-      (out, kept_if_out cmp component (flight_at now one) (suited_at cmp component list now suited at one there) near out)
+      (λ is. is) in (
+        out,
+        rated_outside cmp component [] (flights_at now list) suited (flight_at now one)
+            (in_map (flight_at now) list one (in_get list at one there)) out,
+      )

@@ -5,7 +5,7 @@ use Rattle.link_flights.proofs.Common.{true, AllZip, filter, IsTotalOrder, Order
 use Rattle.link_flights.proofs.Common.{AreShared, shared_from, capped_sides, product, IsFair, In, all_pass}
 use Rattle.link_flights.proofs.Common.{All-from_contains, Caps, Subject, sent_by, received_by, sent_between, AreOfPeers}
 use Rattle.link_flights.proofs.Common.{cap_of, limits, sides_under, Component, messages, Flights, UnitFlight, AreTimed}
-use Rattle.link_flights.proofs.Common.{flights_at, in_units, loose_in, is_of, those_of, has_both, is_closed}
+use Rattle.link_flights.proofs.Common.{flights_at, in_units, loose_in, is_of, those_of, has_both, is_closed, AreTied}
 use Rattle.link_flights.proofs.Common.{rates_found, rerated, AreFairlyRated, WereRated, AreRatedBeside, IsRatedFrom}
 use Rattle.link_flights.proofs.Common.{HaveFairRates, sent_messages, rates_of, flow_in_flight, kept_load, left_of}
 use Rattle.link_flights.proofs.Common.{left_caps, flows_of, FairParts, product_none}
@@ -138,10 +138,11 @@ module _ {P : Type 0} (cmp : P → P → Ordering) (caps : Caps P) (component : 
       → AreRatedBeside cmp caps component old new → IsTotalOrder cmp → AreOfPeers cmp caps
       → (done : List (Arc (code.Message P) Global)) → is_closed cmp component done (in_units old) ≡ true
       → All (λ m. has_both cmp component m ≡ true) old.loose
+      → AreTied caps component
       → ∥ WereRated cmp caps old.scale (in_units old) (messages done) (loose_in old) old.floor ∥₁
       → IfSome old.floor (λ f. component.level ≤ f)
       → All (λ u. u.updated ≡ old.at) (in_units old) → HaveFairRates cmp caps old new
-  beside_given old new r order of done closed loose were low updated =
+  beside_given old new r order of done closed loose tied were low updated =
       let us = in_units old in
       let reached = all_pass (λ rate. nat_le component.level rate) r.rates r.reach in
       let each : AllZip (IsRatedFrom old.at 1) us (rerated cmp component old.at 1 r.rates us) =
@@ -150,8 +151,8 @@ module _ {P : Type 0} (cmp : P → P → Ordering) (caps : Caps P) (component : 
       fair_if_so (capped_sides cmp caps (sent_messages (rerated cmp component old.at 1 r.rates us))) old.scale
       (slice_index (rates_of (rerated cmp component old.at 1 r.rates us)))
       (∥∥₁_map were (λ w.
-      restart_fair cmp component done old.loose us closed loose order caps of old.scale old.floor w low old.at 1 r.rates
-      r.fair.one_each reached r.fair.fair)) in
+      restart_fair cmp component done old.loose us closed loose order caps of old.scale old.floor w tied low old.at 1
+      r.rates r.fair.one_each reached r.fair.fair)) in
       record {
         times = 1;
         scale = omega (arith, r.scale);

@@ -8,7 +8,7 @@ use Rattle.link_flights.proofs.Common.{sum_by-cons, IsFair, AreOfPeers, limits, 
 use Rattle.link_flights.proofs.Common.{Flow, AreShared, shared_from, by_bool, second_of_both, In, from_map, from_filter}
 use Rattle.link_flights.proofs.Common.{in_filter, Component, messages, message_of, UnitFlight, is_sender, is_receiver}
 use Rattle.link_flights.proofs.Common.{is_of, those_of, has_both, is_closed, rates_of, rated_ones, rerated, rated_anew}
-use Rattle.link_flights.proofs.Common.{AreFairlyRated, WereRated, kept_load, left_caps, flows_of, total}
+use Rattle.link_flights.proofs.Common.{AreFairlyRated, WereRated, kept_load, left_caps, flows_of, total, AreTied}
 use Rattle.std.specs.Prelude.{nat_le}
 use Rattle.fairness.proofs.Fairness.Sharing.{total-cons}
 use Rattle.fairness.proofs.Fairness.SharedBeside.{AreSharedBeside, beside_shared, beside_left}
@@ -126,6 +126,7 @@ module _ {P : Type 0} (cmp : P → P → Ordering) (component : Component P) whe
       (closed : is_closed cmp component done us ≡ true) (all_loose : All (λ m. has_both cmp component m ≡ true) loose)
       (order : IsTotalOrder cmp) (caps : Caps P) (of : AreOfPeers cmp caps) (scale : ℕ) (floor : Option ℕ)
       (were : WereRated cmp caps scale us (messages done) (map (λ m. message_of m) loose) floor)
+      (tied : AreTied caps component)
       (low : IfSome floor (λ f. component.level ≤ f)) (now times : ℕ) (rates : List ℕ)
       (one_each : length rates ≡ length (those_of cmp component us))
       (reach : (rate : ℕ) → In rates rate → nat_le component.level rate ≡ true) where
@@ -162,24 +163,24 @@ module _ {P : Type 0} (cmp : P → P → Ordering) (component : Component P) whe
 
     -- then it has both ends in it
     both_now : (v : UnitFlight P) → In news v → is_of cmp component v ≡ true
-        → (is_sender cmp component v.message.origin ≡ true) × (is_receiver cmp component v.message.recipient ≡ true)
+        → (is_sender cmp component v.message.origin v.message.recipient ≡ true) × (is_receiver cmp component v.message.origin v.message.recipient ≡ true)
     both_now v h is =
         let c = comes cmp component now times rates us one_each v h in
         subst
-        (λ (m : code.Message P). (is_sender cmp component m.origin ≡ true)
-        × (is_receiver cmp component m.recipient ≡ true))
+        (λ (m : code.Message P). (is_sender cmp component m.origin m.recipient ≡ true)
+        × (is_receiver cmp component m.origin m.recipient ≡ true))
         (sym c.message) (both_of cmp component done us closed c.u c.among (sym (of_now v h) ∙ is))
 
     -- one that keeps a rate at the level or above has no end in it
     none_now : (v : UnitFlight P) → In news v → is_of cmp component v ≡ false → component.level ≤ v.rate
-        → (is_sender cmp component v.message.origin ≡ false) × (is_receiver cmp component v.message.recipient ≡ false)
+        → (is_sender cmp component v.message.origin v.message.recipient ≡ false) × (is_receiver cmp component v.message.origin v.message.recipient ≡ false)
     none_now v h out high =
         let c = comes cmp component now times rates us one_each v h in
         let was : is_of cmp component c.u ≡ false = sym (of_now v h) ∙ out in
         let same : v ≡ c.u = c.as_it_was was in
         subst
-        (λ (w : UnitFlight P). (is_sender cmp component w.message.origin ≡ false)
-        × (is_receiver cmp component w.message.recipient ≡ false))
+        (λ (w : UnitFlight P). (is_sender cmp component w.message.origin w.message.recipient ≡ false)
+        × (is_receiver cmp component w.message.origin w.message.recipient ≡ false))
         (sym same)
         (none_outside cmp component done us closed c.u c.among was
         (ap (λ (w : UnitFlight P). nat_le component.level w.rate) (sym same) ∙ le-leb component.level v.rate high))
@@ -213,55 +214,56 @@ module _ {P : Type 0} (cmp : P → P → Ordering) (component : Component P) whe
 
     -- both ends of one that is rated anew, now and before
     both_of_share : (x : Share P) → In (shares cmp news) x → rated x ≡ true
-        → (is_sender cmp component x.flow.origin ≡ true) × (is_receiver cmp component x.flow.recipient ≡ true)
+        → (is_sender cmp component x.flow.origin x.flow.recipient ≡ true) × (is_receiver cmp component x.flow.origin x.flow.recipient ≡ true)
     both_of_share x h on =
         let w = whose news x h in
         subst
-        (λ (y : Share P). (is_sender cmp component y.flow.origin ≡ true)
-        × (is_receiver cmp component y.flow.recipient ≡ true))
+        (λ (y : Share P). (is_sender cmp component y.flow.origin y.flow.recipient ≡ true)
+        × (is_receiver cmp component y.flow.origin y.flow.recipient ≡ true))
         w.2
         (both_now w.0 w.1
         (sym (open_if_of cmp component w.0 (now_rated w.0 w.1)) ∙ ap rated w.2 ∙ on))
 
     both_of_old : (x : Share P) → In (shares cmp olds) x → rated x ≡ true
-        → (is_sender cmp component x.flow.origin ≡ true) × (is_receiver cmp component x.flow.recipient ≡ true)
+        → (is_sender cmp component x.flow.origin x.flow.recipient ≡ true) × (is_receiver cmp component x.flow.origin x.flow.recipient ≡ true)
     both_of_old x h on =
         let w = whose olds x h in
         let o = old_rated w.0 w.1 in
         subst
-        (λ (y : Share P). (is_sender cmp component y.flow.origin ≡ true)
-        × (is_receiver cmp component y.flow.recipient ≡ true))
+        (λ (y : Share P). (is_sender cmp component y.flow.origin y.flow.recipient ≡ true)
+        × (is_receiver cmp component y.flow.origin y.flow.recipient ≡ true))
         w.2
         (both_before cmp component done us closed caps scale floor loose all_loose were low w.0 o.0
         (sym (open_if_of cmp component w.0 o.1) ∙ ap rated w.2 ∙ on))
 
     none_of_share : (x : Share P) → In (shares cmp news) x → rated x ≡ false → component.level ≤ x.parts
-        → (is_sender cmp component x.flow.origin ≡ false) × (is_receiver cmp component x.flow.recipient ≡ false)
+        → (is_sender cmp component x.flow.origin x.flow.recipient ≡ false) × (is_receiver cmp component x.flow.origin x.flow.recipient ≡ false)
     none_of_share x h off high =
         let w = whose news x h in
         subst
-        (λ (y : Share P). (is_sender cmp component y.flow.origin ≡ false)
-        × (is_receiver cmp component y.flow.recipient ≡ false))
+        (λ (y : Share P). (is_sender cmp component y.flow.origin y.flow.recipient ≡ false)
+        × (is_receiver cmp component y.flow.origin y.flow.recipient ≡ false))
         w.2
         (none_now w.0 w.1
         (sym (open_if_of cmp component w.0 (now_rated w.0 w.1)) ∙ ap rated w.2 ∙ off)
         (subst (λ n. component.level ≤ n) (ap (λ (y : Share P). y.parts) (sym w.2)) high))
 
-    -- a side does not limit both one without an end in it and one with both
-    never_both : (s : Subject P) (k x : Share P)
-        → (is_sender cmp component k.flow.origin ≡ false) × (is_receiver cmp component k.flow.recipient ≡ false)
-        → (is_sender cmp component x.flow.origin ≡ true) × (is_receiver cmp component x.flow.recipient ≡ true)
+    -- a side with a cap does not limit both one without an end in it and one with both
+    never_both : (s : Subject P) (cap : ℕ) → cap_of caps s ≡ Some cap → (k x : Share P)
+        → (is_sender cmp component k.flow.origin k.flow.recipient ≡ false) × (is_receiver cmp component k.flow.origin k.flow.recipient ≡ false)
+        → (is_sender cmp component x.flow.origin x.flow.recipient ≡ true) × (is_receiver cmp component x.flow.origin x.flow.recipient ≡ true)
         → limits cmp s k.flow ≡ true → limits cmp s x.flow ≡ false
-    never_both s k x none both l = by_bool (limits cmp s x.flow)
+    never_both s cap has k x none both l = by_bool (limits cmp s x.flow)
         (λ m. absurd (false≢true
         (sym none.0
-        ∙ apart cmp component order s k.flow x.flow (none.0 ∙ sym none.1) (both.0 ∙ sym both.1) l m ∙ both.0)))
+        ∙ apart cmp component order caps of tied s cap has k.flow x.flow (none.0 ∙ sym none.1) (both.0 ∙ sym both.1) l m
+        ∙ both.0)))
         (λ e. e)
 
     reaches : (x : Share P) → rated x ≡ true → component.level ≤ x.parts
     reaches x on =
         leb-true component.level x.parts
-        (second_of_both (is_sender cmp component x.flow.origin) (nat_le component.level x.parts) on)
+        (second_of_both (is_sender cmp component x.flow.origin x.flow.recipient) (nat_le component.level x.parts) on)
 
     old_shared : AreFairShares cmp order were.was were.of_peers scale (shares cmp olds)
     old_shared = shared cmp order were.was were.of_peers scale olds were.fair
@@ -292,8 +294,8 @@ module _ {P : Type 0} (cmp : P → P → Ordering) (component : Component P) whe
     kept_shared =
         kept_alone cmp flow_of parts_of rated scale component.level were.was caps (shares cmp olds) old_shared
         (λ y h on. reaches y on)
-        (λ k h off high s l y hy on.
-        never_both s k y (none_of_share k (still_there k h off) off high) (both_of_old y hy on) l)
+        (λ k h off high s cap has l y hy on.
+        never_both s cap has k y (none_of_share k (still_there k h off) off high) (both_of_old y hy on) l)
         differ
 
     same_twice : filter (λ x. not (rated x)) kept_olds ≡ filter (λ x. not (rated x)) (shares cmp news)
@@ -304,7 +306,7 @@ module _ {P : Type 0} (cmp : P → P → Ordering) (component : Component P) whe
         → ((x : Share P) → In (shares cmp news) x → rated x ≡ true → limits cmp s x.flow ≡ false)
         × ((y : Share P) → In kept_olds y → rated y ≡ true → limits cmp s y.flow ≡ false)
     kept_apart k h off high s cap has l = (
-      λ x hx on. never_both s k x (none_of_share k h off high) (both_of_share x hx on) l,
+      λ x hx on. never_both s cap has k x (none_of_share k h off high) (both_of_share x hx on) l,
       λ y hy on. absurd (false≢true (sym (not_not (rated y)
           (from_filter (λ x. not (rated x)) (shares cmp olds) y hy).1) ∙ on)),
     )

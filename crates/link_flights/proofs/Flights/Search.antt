@@ -11,6 +11,8 @@ use Rattle.link_flights.proofs.Common.{same_peer_itself, touches, suits, is_clos
 use Rattle.link_flights.proofs.Common.{length-append, End, Origin, Recipient, is_sender, is_receiver, AreAllListed, PassesNowhere}
 use Rattle.link_flights.proofs.Common.{PassesFirstAt, IsNextPlace, list_any_at, IsTouched, near_of, AreNear, SharesAt}
 use Rattle.link_flights.proofs.Common.{SharesEndAt, AreListedAt, StartsWith, AreStillListed, AreListed, AllNewTouch}
+use Rattle.link_flights.specs.Flights.Components.{HasListedEnd}
+use Rattle.link_flights.proofs.Common.{Both, Ends, Joined, Receiver, Sender, has_end, have_end, joins}
 use Rattle.std.specs.Prelude.{slice_get, Option, IfSome, nat_le}
 use Rattle.std.specs.declared.vec.Vec.{Vec}
 use Rattle.std.proofs.lemmas.Bool.{or_cases}
@@ -96,18 +98,28 @@ fewer_ahead test xs at next (Some to) is within ahead =
     omega (arith, within, ap (behind xs) is, ahead.low, ahead.high)
 
 module _ {P : Type 0} (cmp : P → P → Ordering) where
+  -- one that has joined brings in both its own ends
+  joins_itself : IsTotalOrder cmp → (j : Joined P) (end : End)
+      → joins cmp j end j.message.value.origin j.message.value.recipient ≡ true
+  joins_itself order j Origin =
+      and_from _ _ (same_peer_itself cmp order j.message.value.origin)
+      (either (have_end j.ends Origin) _ (same_peer_itself cmp order j.message.value.recipient))
+  joins_itself order j Recipient =
+      and_from _ _ (same_peer_itself cmp order j.message.value.recipient)
+      (either (have_end j.ends Recipient) _ (same_peer_itself cmp order j.message.value.origin))
+
   -- what has joined last has both its ends
-  pub last_joined : IsTotalOrder cmp → (old new : Component P) (x : Arc (Message P) Global)
-      → new.joined.items ≡ old.joined.items ++ x ∷ [] → has_both cmp new x.value ≡ true
-  last_joined order old new x is =
-      let sends : Arc (Message P) Global → Bool = λ n. same_peer cmp x.value.origin n.value.origin in
-      let receives : Arc (Message P) Global → Bool = λ n. same_peer cmp x.value.recipient n.value.recipient in
-      let olds = old.joined.items in
-      and_from _ _
-      (either new.whole _ (ap (list_any sends) is ∙ list_any-append sends olds (x ∷ [])
-      ∙ either (list_any sends olds) _ (ap (λ b. b || false) (same_peer_itself cmp order x.value.origin))))
-      (either new.whole _ (ap (list_any receives) is ∙ list_any-append receives olds (x ∷ [])
-      ∙ either (list_any receives olds) _ (ap (λ b. b || false) (same_peer_itself cmp order x.value.recipient))))
+  pub last_joined : IsTotalOrder cmp → (old new : Component P) (j : Joined P)
+      → new.joined.items ≡ old.joined.items ++ j ∷ [] → has_both cmp new j.message.value ≡ true
+  last_joined order old new j is = and_from _ _ (has Origin) (has Recipient)
+    where
+      has : (end : End) → has_end cmp new end j.message.value.origin j.message.value.recipient ≡ true
+      has end =
+          let m = j.message.value in
+          let test : Joined P → Bool = λ k. joins cmp k end m.origin m.recipient in
+          either new.whole _
+          (ap (list_any test) is ∙ list_any-append test old.joined.items (j ∷ [])
+          ∙ either (list_any test old.joined.items) _ (ap (λ b. b || false) (joins_itself order j end)))
 
   -- ---- an end of each of those that have come
 
@@ -259,43 +271,109 @@ module _ {P : Type 0} (cmp : P → P → Ordering) where
     pub next_inside : (at : ℕ) → next ≡ Some at → at < length list
     next_inside at is = (first_there at is).high
 
-  -- each that shares an end with a message is listed, once those are that share the one and those that share the other
-  pub record HasListedBoth (m : Message P) (list : List (Flight P)) (before near : List ℕ) : Type 0 where
-    pub listed : AreListed cmp m near list
+  -- each of which one that has joined brings in an end is listed, once those are that share the one end with it by which
+  -- it joins others, and those that share the other
+  pub record HasListedBoth (j : Joined P) (list : List (Flight P)) (before near : List ℕ) : Type 0 where
+    pub listed : AreListed cmp j near list
     pub more : AreStillListed before near
-    pub only : All (λ p. Contains before p ⊎ SharesAt cmp m list p) near
+    pub only : All (λ p. Contains before p ⊎ SharesAt cmp j list p) near
 
-  pub both_listed : (m : Message P) (list : List (Flight P)) (before mid near : List ℕ)
-      → AreListedAt cmp Origin m mid list → AreStillListed before mid
-      → All (λ p. Contains before p ⊎ SharesEndAt cmp Origin m list p) mid
-      → AreListedAt cmp Recipient m near list → AreStillListed mid near
-      → All (λ p. Contains mid p ⊎ SharesEndAt cmp Recipient m list p) near
-      → HasListedBoth m list before near
-  both_listed m list before mid near sent more only received further others = record {
-    listed = λ at one there shares.
-        elim (or_cases (same_peer cmp m.origin one.message.value.origin)
-        (same_peer cmp m.recipient one.message.value.recipient) shares) [
-          | inl same ↦ further at (sent at one there same)
-          | inr same ↦ received at one there same
-        ];
-    more = λ at is. further at (more at is);
-    only = All-weaker (λ p. Contains mid p ⊎ SharesEndAt cmp Recipient m list p)
-        (λ p. Contains before p ⊎ SharesAt cmp m list p)
+  -- what it brings in shares an end with it by which it joins others
+  shares_open_end : IsTotalOrder cmp → (j : Joined P) (m : Message P) → share_an_end cmp j m ≡ true
+      → ((have_end j.ends Origin ≡ true) × (share cmp Origin j.message.value m ≡ true))
+      ⊎ ((have_end j.ends Recipient ≡ true) × (share cmp Recipient j.message.value m ≡ true))
+  shares_open_end order j m shares =
+      let laws = eq_by_cmp_equiv order in
+      let n = j.message.value in
+      by_ends j.ends refl
+      (elim (or_cases (joins cmp j Origin m.origin m.recipient) (joins cmp j Recipient m.origin m.recipient) shares) [
+        | inl sends ↦ inl (
+          laws.symm n.origin m.origin ∙ first_of_both (same_peer cmp m.origin n.origin) _ sends,
+          either_end (have_end j.ends Origin) (same_peer cmp m.recipient n.recipient)
+              (second_of_both (same_peer cmp m.origin n.origin) _ sends),
+        )
+        | inr receives ↦ inr (
+          laws.symm n.recipient m.recipient ∙ first_of_both (same_peer cmp m.recipient n.recipient) _ receives,
+          either_end (have_end j.ends Recipient) (same_peer cmp m.origin n.origin)
+              (second_of_both (same_peer cmp m.recipient n.recipient) _ receives),
+        )
+      ])
+    where
+      either_end : (h b : Bool) → (h || b) ≡ true → (h ≡ true) ⊎ (b ≡ true)
+      either_end h b is = or_cases h b is
+
+      by_ends : (ends : Ends) → j.ends ≡ ends
+          → ((share cmp Origin j.message.value m ≡ true)
+          × ((have_end j.ends Origin ≡ true) ⊎ (same_peer cmp m.recipient j.message.value.recipient ≡ true)))
+          ⊎ ((share cmp Recipient j.message.value m ≡ true)
+          × ((have_end j.ends Recipient ≡ true) ⊎ (same_peer cmp m.origin j.message.value.origin ≡ true)))
+          → ((have_end j.ends Origin ≡ true) × (share cmp Origin j.message.value m ≡ true))
+          ⊎ ((have_end j.ends Recipient ≡ true) × (share cmp Recipient j.message.value m ≡ true))
+      by_ends Both is (inl (sends, _)) = inl (ap (λ e. have_end e Origin) is, sends)
+      by_ends Both is (inr (receives, _)) = inr (ap (λ e. have_end e Recipient) is, receives)
+      by_ends Sender is (inl (sends, _)) = inl (ap (λ e. have_end e Origin) is, sends)
+      by_ends Sender is (inr (receives, inl via)) =
+          absurd (false≢true (sym (ap (λ e. have_end e Recipient) is) ∙ via))
+      by_ends Sender is (inr (receives, inr same)) = inl (
+        ap (λ e. have_end e Origin) is,
+        (eq_by_cmp_equiv order).symm j.message.value.origin m.origin ∙ same,
+      )
+      by_ends Receiver is (inl (sends, inl via)) =
+          absurd (false≢true (sym (ap (λ e. have_end e Origin) is) ∙ via))
+      by_ends Receiver is (inl (sends, inr same)) = inr (
+        ap (λ e. have_end e Recipient) is,
+        (eq_by_cmp_equiv order).symm j.message.value.recipient m.recipient ∙ same,
+      )
+      by_ends Receiver is (inr (receives, _)) = inr (ap (λ e. have_end e Recipient) is, receives)
+
+  -- what shares an end with it by which it joins others, it brings in
+  open_end_shared : IsTotalOrder cmp → (end : End) (j : Joined P) (m : Message P) → have_end j.ends end ≡ true
+      → share cmp end j.message.value m ≡ true → share_an_end cmp j m ≡ true
+  open_end_shared order Origin j m via shares =
+      or_first _ _ (and_from _ _ ((eq_by_cmp_equiv order).symm m.origin j.message.value.origin ∙ shares)
+      (or_first _ _ via))
+  open_end_shared order Recipient j m via shares =
+      or_second _ _ (and_from _ _ ((eq_by_cmp_equiv order).symm m.recipient j.message.value.recipient ∙ shares)
+      (or_first _ _ via))
+
+  pub both_listed : IsTotalOrder cmp → (j : Joined P) (list : List (Flight P)) (before mid near : List ℕ)
+      → HasListedEnd cmp Origin j.ends j.message.value list before mid
+      → HasListedEnd cmp Recipient j.ends j.message.value list mid near
+      → HasListedBoth j list before near
+  both_listed order j list before mid near sent received = record {
+    listed = λ at one there shares. elim (shares_open_end order j one.message.value shares) [
+      | inl (via, same) ↦ received.more at (sent.listed via at one there same)
+      | inr (via, same) ↦ received.listed via at one there same
+    ];
+    more = λ at is. received.more at (sent.more at is);
+    only = All-weaker
+        (λ p. Contains mid p ⊎ ((have_end j.ends Recipient ≡ true) × SharesEndAt cmp Recipient j.message.value list p))
+        (λ p. Contains before p ⊎ SharesAt cmp j list p)
         (λ p is. elim is [
-          | inl was ↦ elim (All-contains (λ p. Contains before p ⊎ SharesEndAt cmp Origin m list p) mid p only was) [
-            | inl first ↦ inl first
-            | inr shares ↦ inr (shares.0, shares.1, or_first _ _ shares.2)
-          ]
-          | inr shares ↦ inr (shares.0, shares.1, or_second _ _ shares.2)
+          | inl was ↦ elim (All-contains
+              (λ p. Contains before p
+              ⊎ ((have_end j.ends Origin ≡ true) × SharesEndAt cmp Origin j.message.value list p)) mid p sent.only was) [
+                | inl first ↦ inl first
+                | inr (via, shares) ↦ inr (
+                  shares.0,
+                  shares.1,
+                  open_end_shared order Origin j shares.0.message.value via shares.2,
+                )
+              ]
+          | inr (via, shares) ↦ inr (
+            shares.0,
+            shares.1,
+            open_end_shared order Recipient j shares.0.message.value via shares.2,
+          )
         ])
-        near others;
+        near received.only;
   }
 
   -- ---- an end of each of those that are listed
 
   -- who sends or receives still does, where more have joined
   still_any : (old new : Component P) → StartsWith old.joined.items new.joined.items → new.whole ≡ old.whole
-      → (test : Arc (Message P) Global → Bool) → (old.whole || list_any test old.joined.items) ≡ true
+      → (test : Joined P → Bool) → (old.whole || list_any test old.joined.items) ≡ true
       → (new.whole || list_any test new.joined.items) ≡ true
   still_any old new starts whole test is = elim (or_cases old.whole (list_any test old.joined.items) is) [
     | inl all ↦ or_first new.whole (list_any test new.joined.items) (whole ∙ all)
@@ -306,11 +384,11 @@ module _ {P : Type 0} (cmp : P → P → Ordering) where
   still_touches : (old new : Component P) → StartsWith old.joined.items new.joined.items → new.whole ≡ old.whole
       → (m : Message P) → touches cmp old m ≡ true → touches cmp new m ≡ true
   still_touches old new starts whole m touched =
-      elim (or_cases (is_sender cmp old m.origin) (is_receiver cmp old m.recipient) touched) [
-        | inl sends ↦ or_first (is_sender cmp new m.origin) (is_receiver cmp new m.recipient)
-            (still_any old new starts whole (λ n. same_peer cmp m.origin n.value.origin) sends)
-        | inr receives ↦ or_second (is_sender cmp new m.origin) (is_receiver cmp new m.recipient)
-            (still_any old new starts whole (λ n. same_peer cmp m.recipient n.value.recipient) receives)
+      elim (or_cases (is_sender cmp old m.origin m.recipient) (is_receiver cmp old m.origin m.recipient) touched) [
+        | inl sends ↦ or_first (is_sender cmp new m.origin m.recipient) (is_receiver cmp new m.origin m.recipient)
+            (still_any old new starts whole (λ j. joins cmp j Origin m.origin m.recipient) sends)
+        | inr receives ↦ or_second (is_sender cmp new m.origin m.recipient) (is_receiver cmp new m.origin m.recipient)
+            (still_any old new starts whole (λ j. joins cmp j Recipient m.origin m.recipient) receives)
       ]
 
   -- what was touched still is
@@ -322,40 +400,38 @@ module _ {P : Type 0} (cmp : P → P → Ordering) where
       (λ p touched. (touched.0, touched.1, still_touches old new starts whole touched.0.message.value touched.2))
       near
 
-  -- it has an end of what shares one with a message that has joined
-  shares_touches : IsTotalOrder cmp → (component : Component P) (n : ℕ) (m : Arc (Message P) Global)
-      → n < length component.joined.items → m ≡ get_or component.joined.items n m → (other : Message P)
-      → share_an_end cmp m.value other ≡ true → touches cmp component other ≡ true
-  shares_touches order component n m inside is other shares =
-      let ms = component.joined.items in
-      let found : (test : Arc (Message P) Global → Bool) → test m ≡ true → (component.whole || list_any test ms) ≡ true =
-      λ test passes. or_second component.whole (list_any test ms)
-      (list_any_at test ms n m inside (sym (ap test is) ∙ passes)) in
-      elim (or_cases (same_peer cmp m.value.origin other.origin) (same_peer cmp m.value.recipient other.recipient)
-      shares) [
-        | inl same ↦ or_first (is_sender cmp component other.origin) (is_receiver cmp component other.recipient)
-            (found (λ x. same_peer cmp other.origin x.value.origin)
-            ((eq_by_cmp_equiv order).symm other.origin m.value.origin ∙ same))
-        | inr same ↦ or_second (is_sender cmp component other.origin) (is_receiver cmp component other.recipient)
-            (found (λ x. same_peer cmp other.recipient x.value.recipient)
-            ((eq_by_cmp_equiv order).symm other.recipient m.value.recipient ∙ same))
+  -- it has an end of what one that has joined brings in an end of
+  shares_touches : (component : Component P) (n : ℕ) (j : Joined P) → n < length component.joined.items
+      → j ≡ get_or component.joined.items n j → (other : Message P) → share_an_end cmp j other ≡ true
+      → touches cmp component other ≡ true
+  shares_touches component n j inside is other shares =
+      let js = component.joined.items in
+      let found : (end : End) → joins cmp j end other.origin other.recipient ≡ true
+      → has_end cmp component end other.origin other.recipient ≡ true = λ end passes.
+      or_second component.whole (list_any (λ k. joins cmp k end other.origin other.recipient) js)
+      (list_any_at (λ k. joins cmp k end other.origin other.recipient) js n j inside
+      (sym (ap (λ k. joins cmp k end other.origin other.recipient) is) ∙ passes)) in
+      elim (or_cases (joins cmp j Origin other.origin other.recipient)
+      (joins cmp j Recipient other.origin other.recipient) shares) [
+        | inl sends ↦ or_first _ _ (found Origin sends)
+        | inr receives ↦ or_second _ _ (found Recipient receives)
       ]
 
   -- those listed are touched, where no others came but such that share an end with one that has joined
-  pub touched_with : IsTotalOrder cmp → (old new : Component P) → StartsWith old.joined.items new.joined.items
-      → new.whole ≡ old.whole → (list : List (Flight P)) (n : ℕ) (m : Arc (Message P) Global)
-      → n < length old.joined.items → m ≡ get_or old.joined.items n m → (before after : List ℕ)
-      → All (λ p. Contains before p ⊎ SharesAt cmp m.value list p) after → AreTouched cmp old before list
+  pub touched_with : (old new : Component P) → StartsWith old.joined.items new.joined.items
+      → new.whole ≡ old.whole → (list : List (Flight P)) (n : ℕ) (j : Joined P)
+      → n < length old.joined.items → j ≡ get_or old.joined.items n j → (before after : List ℕ)
+      → All (λ p. Contains before p ⊎ SharesAt cmp j list p) after → AreTouched cmp old before list
       → AreTouched cmp new after list
-  touched_with order old new starts whole list n m inside is before after only touched =
+  touched_with old new starts whole list n j inside is before after only touched =
       still_touched old new starts whole list after
-      (All-weaker (λ p. Contains before p ⊎ SharesAt cmp m.value list p) (IsTouched cmp old list)
+      (All-weaker (λ p. Contains before p ⊎ SharesAt cmp j list p) (IsTouched cmp old list)
       (λ p listed. elim listed [
         | inl was ↦ All-contains (IsTouched cmp old list) before p touched was
         | inr shares ↦ (
           shares.0,
           shares.1,
-          shares_touches order old n m inside is shares.0.message.value shares.2,
+          shares_touches old n j inside is shares.0.message.value shares.2,
         )
       ])
       after only)
@@ -367,9 +443,9 @@ module _ {P : Type 0} (cmp : P → P → Ordering) where
     still_has_both : (m : Message P) → has_both cmp old m ≡ true → has_both cmp new m ≡ true
     still_has_both m has =
         and_from _ _
-        (still_any old new starts whole (λ n. same_peer cmp m.origin n.value.origin) (first_of_both _ _ has))
-        (still_any old new starts whole (λ n. same_peer cmp m.recipient n.value.recipient)
-        (second_of_both (is_sender cmp old m.origin) (is_receiver cmp old m.recipient) has))
+        (still_any old new starts whole (λ j. joins cmp j Origin m.origin m.recipient) (first_of_both _ _ has))
+        (still_any old new starts whole (λ j. joins cmp j Recipient m.origin m.recipient)
+        (second_of_both (is_sender cmp old m.origin m.recipient) (is_receiver cmp old m.origin m.recipient) has))
 
     -- it still has both ends of each of these
     pub still_has_all : (ms : List (Arc (Message P) Global)) → All (λ m. has_both cmp old m.value ≡ true) ms
@@ -402,8 +478,8 @@ module _ {P : Type 0} (cmp : P → P → Ordering) where
         (so_far i one below there from))
         (λ one there from. subst (λ (x : Flight P). touches cmp new x.message.value ≡ true)
         (same_there list end read one is there)
-        (or_first (is_sender cmp new read.message.value.origin)
-        (is_receiver cmp new read.message.value.recipient) (first_of_both _ _ has)))
+        (or_first (is_sender cmp new read.message.value.origin read.message.value.recipient)
+        (is_receiver cmp new read.message.value.origin read.message.value.recipient) (first_of_both _ _ has)))
 
     -- what it touched it still does
     pub still_touches_new : (n : ℕ) (list : List (Flight P)) → AllNewTouch cmp old n list
@@ -457,61 +533,63 @@ module _ {P : Type 0} (cmp : P → P → Ordering) where
     pub whole : new.whole ≡ old.whole
 
   pub still_listed : (list : List (Flight P)) (before after : List ℕ) → AreStillListed before after
-      → (ms : List (Arc (Message P) Global)) → AreAllListed cmp ms before list → AreAllListed cmp ms after list
-  still_listed list before after still ms all k d below at one there shares =
+      → (js : List (Joined P)) → AreAllListed cmp js before list → AreAllListed cmp js after list
+  still_listed list before after still js all k d below at one there shares =
       still at (all k d below at one there shares)
 
   -- those of so many of the messages are listed, and of one more
-  pub all_listed_more : (list : List (Flight P)) (ms : List (Arc (Message P) Global)) (n : ℕ)
-      (before after : List ℕ) → AreAllListed cmp (take n ms) before list → n < length ms
-      → (m : Arc (Message P) Global) → m ≡ get_or ms n m → AreListed cmp m.value after list
-      → AreStillListed before after → AreAllListed cmp (take (n + 1) ms) after list
-  all_listed_more list ms n before after all inside m is listed still =
-      All-more (λ m. AreListed cmp m.value after list) ms n m inside
-      (still_listed list before after still (take n ms) all)
-      (subst (λ (x : Arc (Message P) Global). AreListed cmp x.value after list) is listed)
+  pub all_listed_more : (list : List (Flight P)) (js : List (Joined P)) (n : ℕ)
+      (before after : List ℕ) → AreAllListed cmp (take n js) before list → n < length js
+      → (j : Joined P) → j ≡ get_or js n j → AreListed cmp j after list
+      → AreStillListed before after → AreAllListed cmp (take (n + 1) js) after list
+  all_listed_more list js n before after all inside j is listed still =
+      All-more (λ j. AreListed cmp j after list) js n j inside
+      (still_listed list before after still (take n js) all)
+      (subst (λ (x : Joined P). AreListed cmp x after list) is listed)
 
   -- and where more messages have joined since
-  pub all_listed_next : (list : List (Flight P)) (ms more : List (Arc (Message P) Global))
-      → StartsWith ms more → (n : ℕ) (before after : List ℕ) → n < length ms → AreAllListed cmp (take n ms) before list
-      → AreStillListed before after → (m : Arc (Message P) Global) → m ≡ get_or ms n m
-      → AreListed cmp m.value after list → AreAllListed cmp (take (n + 1) more) after list
-  all_listed_next list ms more (rest, e) n before after inside all still m is listed =
-      subst (λ (l : List (Arc (Message P) Global)). AreAllListed cmp l after list)
-      (sym (ap (take (n + 1)) e ∙ take-append-le (n + 1) ms rest (omega (arith, inside))))
-      (all_listed_more list ms n before after all inside m is listed still)
+  pub all_listed_next : (list : List (Flight P)) (js more : List (Joined P))
+      → StartsWith js more → (n : ℕ) (before after : List ℕ) → n < length js → AreAllListed cmp (take n js) before list
+      → AreStillListed before after → (j : Joined P) → j ≡ get_or js n j
+      → AreListed cmp j after list → AreAllListed cmp (take (n + 1) more) after list
+  all_listed_next list js more (rest, e) n before after inside all still j is listed =
+      subst (λ (l : List (Joined P)). AreAllListed cmp l after list)
+      (sym (ap (take (n + 1)) e ∙ take-append-le (n + 1) js rest (omega (arith, inside))))
+      (all_listed_more list js n before after all inside j is listed still)
 
   -- once each was looked through, all are listed
   pub all_listed : (component : Component P) (list : List (Flight P))
       → IsWalked cmp (length component.joined.items) component list
       → AreAllListed cmp component.joined.items component.near.items list
   all_listed component list walked =
-      subst (λ ms. AreAllListed cmp ms component.near.items list)
+      subst (λ js. AreAllListed cmp js component.near.items list)
       (take_all (length component.joined.items) component.joined.items (omega arith)) walked.listed
 
-  ends_are_shared : (end : End) (m n : Message P) → share cmp end m n ≡ true → share_an_end cmp m n ≡ true
-  ends_are_shared Origin m n same = or_first _ _ same
-  ends_are_shared Recipient m n same = or_second _ _ same
-
-  -- what shares that end with a message is listed, once all are that share one with another that has it
+  -- what shares that end with a message is listed, once all are of which another that has it, and joins others by it,
+  -- brings in an end
   pub listed_before : IsTotalOrder cmp → (end : End) (m : Message P) (list : List (Flight P))
-      (ms : List (Arc (Message P) Global)) (near : List ℕ) → AreAllListed cmp ms near list
-      → list_any (λ n. share cmp end m n.value) ms ≡ true → AreListedAt cmp end m near list
-  listed_before order end m list ms near all any at one there shares =
-      let found = Any-from_list_any (λ n. share cmp end m n.value) ms any in
+      (js : List (Joined P)) (near : List ℕ) → AreAllListed cmp js near list
+      → list_any (λ j. have_end j.ends end && share cmp end m j.message.value) js ≡ true
+      → AreListedAt cmp end m near list
+  listed_before order end m list js near all any at one there shares =
+      let test : Joined P → Bool = λ j. have_end j.ends end && share cmp end m j.message.value in
+      let found = Any-from_list_any test js any in
       let other : Message P = one.message.value in
-      subst (λ (n : Arc (Message P) Global). share_an_end cmp n.value other ≡ true → Contains near at) found.3
+      let j = found.1 in
+      let same : share cmp end m j.message.value ≡ true = second_of_both (have_end j.ends end) _ found.4 in
+      subst (λ (k : Joined P). share_an_end cmp k other ≡ true → Contains near at) found.3
       (all found.0 found.1 found.2 at one there)
-      (ends_are_shared end found.1.value other (sym (share_alike order end m found.1.value other found.4) ∙ shares))
+      (open_end_shared order end j other (first_of_both (have_end j.ends end) _ found.4)
+      (sym (share_alike order end m j.message.value other same) ∙ shares))
 
   -- those that were looked through still are listed, where more have joined since
-  pub first_listed : (list : List (Flight P)) (ms more : List (Arc (Message P) Global)) → StartsWith ms more
-      → (n : ℕ) (before after : List ℕ) → n ≤ length ms → AreAllListed cmp (take n ms) before list
+  pub first_listed : (list : List (Flight P)) (js more : List (Joined P)) → StartsWith js more
+      → (n : ℕ) (before after : List ℕ) → n ≤ length js → AreAllListed cmp (take n js) before list
       → AreStillListed before after → AreAllListed cmp (take n more) after list
-  first_listed list ms more (rest, e) n before after inside all still =
-      subst (λ (l : List (Arc (Message P) Global)). AreAllListed cmp l after list)
-      (sym (ap (take n) e ∙ take-append-le n ms rest inside))
-      (still_listed list before after still (take n ms) all)
+  first_listed list js more (rest, e) n before after inside all still =
+      subst (λ (l : List (Joined P)). AreAllListed cmp l after list)
+      (sym (ap (take n) e ∙ take-append-le n js rest inside))
+      (still_listed list before after still (take n js) all)
 
   -- what was looked through still is, where the same places are listed in another order
   pub walked_in_order : (n : ℕ) (component : Component P) (near : Vec ℕ Global) (list : List (Flight P))
@@ -528,45 +606,50 @@ module _ {P : Type 0} (cmp : P → P → Ordering) where
       }
 
   -- one of which the component has an end is listed
-  module _ (order : IsTotalOrder cmp) (list : List (Flight P)) (near : List ℕ) (at : ℕ)
-      (one : Flight P) (there : slice_get list at ≡ Some one) where
-    by_one : (test : Message P → Bool) (ms : List (Arc (Message P) Global)) → AreAllListed cmp ms near list
-        → ((m : Message P) → test m ≡ true → share_an_end cmp m one.message.value ≡ true)
-        → list_any (λ m. test m.value) ms ≡ true → Contains near at
-    by_one test ms all shares any =
-        let found = Any-from_list_any (λ m. test m.value) ms any in
-        subst (λ (m : Arc (Message P) Global). share_an_end cmp m.value one.message.value ≡ true → Contains near at)
-        found.3 (all found.0 found.1 found.2 at one there) (shares found.1.value found.4)
+  module _ (list : List (Flight P)) (near : List ℕ) (at : ℕ) (one : Flight P)
+      (there : slice_get list at ≡ Some one) where
+    by_one : (end : End) (js : List (Joined P)) → AreAllListed cmp js near list
+        → list_any (λ j. joins cmp j end one.message.value.origin one.message.value.recipient) js ≡ true
+        → Contains near at
+    by_one end js all any =
+        let m : Message P = one.message.value in
+        let found = Any-from_list_any (λ j. joins cmp j end m.origin m.recipient) js any in
+        subst (λ (j : Joined P). share_an_end cmp j m ≡ true → Contains near at)
+        found.3 (all found.0 found.1 found.2 at one there) (by_end end found.1 found.4)
+      where
+        by_end : (end : End) (j : Joined P)
+            → joins cmp j end one.message.value.origin one.message.value.recipient ≡ true
+            → share_an_end cmp j one.message.value ≡ true
+        by_end Origin j is = or_first _ _ is
+        by_end Recipient j is = or_second _ _ is
 
     pub touched_listed : (component : Component P) → component.whole ≡ false
         → AreAllListed cmp component.joined.items near list
         → touches cmp component one.message.value ≡ true → Contains near at
     touched_listed component part all touched =
         let m : Message P = one.message.value in
-        elim (or_cases (is_sender cmp component m.origin) (is_receiver cmp component m.recipient) touched) [
-          | inl sends ↦ by_one (λ n. same_peer cmp m.origin n.origin) component.joined.items all
-              (λ n same. or_first _ _ ((eq_by_cmp_equiv order).symm n.origin m.origin ∙ same))
-              (sym (ap (λ b. b || list_any (λ n. same_peer cmp m.origin n.value.origin) component.joined.items) part)
-              ∙ sends)
-          | inr receives ↦ by_one (λ n. same_peer cmp m.recipient n.recipient) component.joined.items all
-              (λ n same. or_second _ _ ((eq_by_cmp_equiv order).symm n.recipient m.recipient ∙ same))
-              (sym (ap (λ b. b || list_any (λ n. same_peer cmp m.recipient n.value.recipient) component.joined.items)
-              part) ∙ receives)
+        let test : End → Joined P → Bool = λ end j. joins cmp j end m.origin m.recipient in
+        elim (or_cases (is_sender cmp component m.origin m.recipient) (is_receiver cmp component m.origin m.recipient)
+        touched) [
+          | inl sends ↦ by_one Origin component.joined.items all
+              (sym (ap (λ b. b || list_any (test Origin) component.joined.items) part) ∙ sends)
+          | inr receives ↦ by_one Recipient component.joined.items all
+              (sym (ap (λ b. b || list_any (test Recipient) component.joined.items) part) ∙ receives)
         ]
 
   -- so those listed in order are near, if all are listed
-  pub near_if_listed : IsTotalOrder cmp → (component : Component P) → component.whole ≡ false
+  pub near_if_listed : (component : Component P) → component.whole ≡ false
       → (list : List (Flight P)) → AreAllListed cmp component.joined.items component.near.items list
       → Ascends 0 component.near.items → AreTouched cmp component component.near.items list
       → AreNear cmp component component.near.items list
-  near_if_listed order component part list listed ascends touched =
+  near_if_listed component part list listed ascends touched =
       let near = component.near.items in
       places_are (λ f. touches cmp component f.message.value) 0 list near ascends
       (λ p among.
       let one = All-contains (IsTouched cmp component list) near p touched (contains_from_in near p among) in
       record { at = p; one = one.0; place = omega arith; there = one.1; passes = one.2 })
       (λ k one there touches. subst (In near) (omega arith)
-      (in_from_contains near k (touched_listed order list near k one there component part listed touches)))
+      (in_from_contains near k (touched_listed list near k one there component part listed touches)))
 
   -- ---- those that are near
 
@@ -608,13 +691,13 @@ module _ {P : Type 0} (cmp : P → P → Ordering) where
         ∙ either (keeps component u) u.rated rated
 
     -- it is closed, where it has what is done and suits those listed, and has an end of each that has no rate
-    pub closed_if_near : IsTotalOrder cmp → component.whole ≡ false → (near : List ℕ)
+    pub closed_if_near : component.whole ≡ false → (near : List ℕ)
         (done : List (Arc (Message P) Global)) (now settled : ℕ) (list : List (Flight P))
         → All (λ m. has_both cmp component m.value ≡ true) done → HaveRates settled list
         → AllNewTouch cmp component settled list
         → AreAllListed cmp component.joined.items near list → AreSuited cmp component near list
         → is_closed cmp component done (flights_at now list) ≡ true
-    closed_if_near order part near done now settled list has have new listed suited =
+    closed_if_near part near done now settled list has have new listed suited =
         and_from _ _
         (all_passed (λ m. has_both cmp component m.value) done
         (λ m among. All-contains (λ m. has_both cmp component m.value ≡ true) done m has (contains_from_in done m among)))
@@ -634,5 +717,5 @@ module _ {P : Type 0} (cmp : P → P → Ordering) where
             by_bool (touches cmp component f.message.value)
             (λ here. suits_touched (flight_at now f) here
             (All-contains (IsSuited cmp component list) near there.0 suited
-            (touched_listed order list near there.0 f there.1 component part listed here) f there.1))
+            (touched_listed list near there.0 f there.1 component part listed here) f there.1))
             (λ far. suits_far (flight_at now f) far (rated_there there.0 f there.1 far))

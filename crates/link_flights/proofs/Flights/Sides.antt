@@ -17,7 +17,6 @@ use Rattle.std.proofs.lemmas.Bool.{cases_eq}
 use Rattle.std.proofs.lemmas.List.Sums.{sum_by-append}
 use Rattle.link_pairs.specs.declared.message.Message.{Message}
 use Rattle.link_flights.proofs.Flights.ComponentFlows.{one_more}
-use Rattle.link_flights.proofs.Flights.Components.{both_of, meets}
 use Rattle.link_flights.proofs.Flights.InFlight.{filter_yes, filter_no, read_filter}
 use Rattle.link_flights.proofs.Flights.Places.{one_there, places_yes, places_no, places_length, fewer_places}
 use Rattle.link_flights.proofs.Flights.Search.{behind, next_shared}
@@ -498,26 +497,19 @@ module _ {P : Type 0} (cmp : P → P → Ordering) (component : Component P) (u 
       let both : has_both cmp component u.message ≡ true =
       sym (ap₂ (λ a b. a || (if b then has_both cmp component u.message else u.rated)) free near) ∙ suited in
       ap₂ (λ a b. a && not b)
-      (first_of_both (is_sender cmp component u.message.origin) _ both) free
+      (first_of_both (is_sender cmp component u.message.origin u.message.recipient) _ both) free
 
   pub out_if_kept : keeps component u ≡ true → is_of cmp component u ≡ false
-  out_if_kept kept = ap (λ b. is_sender cmp component u.message.origin && not b) kept
-      ∙ none_and (is_sender cmp component u.message.origin)
+  out_if_kept kept = ap (λ b. is_sender cmp component u.message.origin u.message.recipient && not b) kept
+      ∙ none_and (is_sender cmp component u.message.origin u.message.recipient)
     where
       none_and : (b : Bool) → (b && false) ≡ false
       none_and true = refl
       none_and false = refl
 
-  -- and one that is not keeps its rate
-  pub kept_if_out : touches cmp component u.message ≡ true → is_of cmp component u ≡ false → keeps component u ≡ true
-  kept_if_out near out =
-      by_bool (keeps component u) (λ kept. kept) (λ free. absurd (false≢true (sym out ∙ of_if_not_kept near free)))
-
--- what one drains that keeps its rate
-pub kept_rate : {P : Type 0} (component : Component P) (one : Flight P) → keeps component (flight_at 0 one) ≡ true
-    → (flight_at 0 one).rate ≡ one.rate
-kept_rate component one kept =
-    ap (λ b. if b then one.rate else 0) (first_of_both one.rated _ kept)
+-- what one drains that has got a rate
+pub rated_rate : {P : Type 0} (one : Flight P) → one.rated ≡ true → (flight_at 0 one).rate ≡ one.rate
+rated_rate one rated = ap (λ b. if b then one.rate else 0) rated
 
 -- ---- by places
 
@@ -604,27 +596,6 @@ module _ {P : Type 0} (cmp : P → P → Ordering) (end : End) (component : Comp
       rate_counted cmp component now list (end_subject end (flow_sent cmp m)) all at one there (limited true uses) out side
       h cap cap_is
 
--- ---- near one that is rated anew
-
-module _ {P : Type 0} (cmp : P → P → Ordering) (order : IsTotalOrder cmp) (component : Component P) (now : ℕ)
-    (list : List (Flight P)) (suited : list_all (suits cmp component) (flights_at now list) ≡ true) (end : End)
-    (at : ℕ) (x : Flight P) (there : slice_get list at ≡ Some x) (is : is_of cmp component (flight_at 0 x) ≡ true)
-    (uses : uses_end cmp end x.message.value ≡ true) where
-  -- one that uses the same side has an end in the component
-  pub near_one : (one : Flight P) → uses_end cmp end one.message.value ≡ true
-      → share cmp end x.message.value one.message.value ≡ true → touches cmp component one.message.value ≡ true
-  near_one one uses_too shares =
-      let both = both_of cmp component [] (flights_at now list) suited (flight_at now x)
-      (in_map (flight_at now) list x (in_get list at x there)) is in
-      let s : Subject P = end_subject end (flow_sent cmp x.message.value) in
-      meets cmp component order s (flow_sent cmp x.message.value) (flow_sent cmp one.message.value) both.0 both.1
-      (limits_at cmp end x.message.value x.message.value ∙ ap₂ (λ a b. a && b) uses (share_itself end x.message.value))
-      (limits_at cmp end x.message.value one.message.value ∙ ap₂ (λ a b. a && b) uses_too shares)
-    where
-      share_itself : (end : End) (m : Message P) → share cmp end m m ≡ true
-      share_itself Origin m = same_peer_itself cmp order m.origin
-      share_itself Recipient m = same_peer_itself cmp order m.recipient
-
 -- there is a place for each flow of those that are rated anew
 pub as_many : {P : Type 0} (cmp : P → P → Ordering) (component : Component P) (list : List (Flight P)) (now : ℕ)
     → length (flows_of cmp component (flights_at now list))
@@ -684,8 +655,8 @@ module _ {P : Type 0} (cmp : P → P → Ordering) (component : Component P) (li
   -- of each the component has an end
   has_end_if : (f : Flight P) → is_anew f ≡ true → has_end f ≡ true
   has_end_if f is =
-      ap (λ b. b || is_receiver cmp component f.message.value.recipient)
-      (first_of_both (is_sender cmp component f.message.value.origin) _ is)
+      ap (λ b. b || is_receiver cmp component f.message.value.origin f.message.value.recipient)
+      (first_of_both (is_sender cmp component f.message.value.origin f.message.value.recipient) _ is)
 
   -- they are among those of which it has an end
   pub anew_places : filter anew_there (places_of has_end 0 list) ≡ places_of is_anew 0 list

@@ -1,18 +1,23 @@
 -- What an event touches: senders and receivers of messages in flight, and the level below which rates stay.
-use Rattle.std.specs.Prelude.{◌≡◌, ℕ, suc, ◌≤◌, nat_le, Bool, true, not, ◌&&◌, ◌||◌, [], ◌∷◌, cond}
+use Rattle.std.specs.Prelude.{◌≡◌, ℕ, suc, ◌≤◌, nat_le, Bool, true, false, not, ◌&&◌, ◌||◌, [], ◌∷◌, cond}
 use Rattle.std.specs.Prelude.{if◌then◌else◌, List, take}
-use Rattle.std.specs.Prelude.{slice_get, slice_index, Some, ◌++◌, All, Contains}
+use Rattle.std.specs.Prelude.{slice_get, slice_index, Some, ◌++◌, ◌⊎◌, All, Contains}
 use Rattle.std.specs.List.{filter, list_all, list_any}
 use Rattle.std.specs.declared.cmp.Ordering.{Ordering}
 use Rattle.std.specs.declared.sync.Arc.{Arc}
 use Rattle.std.specs.declared.alloc.Global.{Global}
+use Rattle.fairness.specs.Sides.Caps.{Caps}
 use Rattle.fairness.specs.Sides.Subjects.{same_peer}
 use Rattle.link_pairs.specs.declared.message.Message.{Message}
 use Rattle.link_flights.specs.Flights.Flight.{UnitFlight, flight_at}
 use Rattle.link_flights.specs.declared.flight.Flight.{Flight}
 use Rattle.link_flights.specs.Flights.Table.{share}
 use Rattle.link_flights.specs.declared.component.Component.{Component}
+use Rattle.link_flights.specs.declared.joined.Ends.{Ends}
+use Rattle.link_flights.specs.declared.joined.Ends.TheVariants.{Both, Sender, Receiver}
+use Rattle.link_flights.specs.declared.joined.Joined.{Joined}
 use Rattle.link_flights.specs.declared.table.End.{End}
+use Rattle.link_flights.specs.declared.table.End.TheVariants.{Origin, Recipient}
 
 -- whether a message in flight goes on at its rate, which is below the level
 abbrev pub keeps : {P : Type 0} → Component P → UnitFlight P → Bool
@@ -28,31 +33,57 @@ places_of test first [] = []
 places_of test first (x ∷ xs) =
     cond (test x) (first ∷ places_of test (suc first) xs) (places_of test (suc first) xs)
 
-module _ {P : Type 0} (cmp : P → P → Ordering) where
-  -- whether the peer is one of the senders
-  abbrev pub is_sender : Component P → P → Bool
-  is_sender component p = component.whole || list_any (λ m. same_peer cmp p m.value.origin) component.joined.items
+-- whether that end is one of those by which a message joins others
+abbrev pub have_end : Ends → End → Bool
+have_end Both end = true
+have_end Sender Origin = true
+have_end Sender Recipient = false
+have_end Receiver Origin = false
+have_end Receiver Recipient = true
 
-  -- whether it is one of the receivers
-  abbrev pub is_receiver : Component P → P → Bool
-  is_receiver component p =
-      component.whole || list_any (λ m. same_peer cmp p m.value.recipient) component.joined.items
+-- wherever there is a cap on all that its sender sends, or on all that its receiver receives, one that has joined joins
+-- others by that end
+abbrev pub IsTied : {P : Type 0} → Caps P → Joined P → Type 0
+IsTied caps j =
+    ((cap : ℕ) → caps.egress j.message.value.origin ≡ Some cap → have_end j.ends Origin ≡ true)
+    × ((cap : ℕ) → caps.ingress j.message.value.recipient ≡ Some cap → have_end j.ends Recipient ≡ true)
+
+module _ {P : Type 0} (cmp : P → P → Ordering) where
+  -- whether one that has joined brings in an end of what goes from one peer to another: it has that end, too, and joins
+  -- others by it, or goes between the same peers
+  abbrev pub joins : Joined P → End → P → P → Bool
+  joins j Origin p q =
+      same_peer cmp p j.message.value.origin && (have_end j.ends Origin || same_peer cmp q j.message.value.recipient)
+  joins j Recipient p q =
+      same_peer cmp q j.message.value.recipient && (have_end j.ends Recipient || same_peer cmp p j.message.value.origin)
+
+  -- whether it has that end of what goes from one peer to another
+  abbrev pub has_end : Component P → End → P → P → Bool
+  has_end component end p q = component.whole || list_any (λ j. joins j end p q) component.joined.items
+
+  -- whether it has the end at its sender
+  abbrev pub is_sender : Component P → P → P → Bool
+  is_sender component p q = has_end component Origin p q
+
+  -- whether it has the end at its receiver
+  abbrev pub is_receiver : Component P → P → P → Bool
+  is_receiver component p q = has_end component Recipient p q
 
   -- whether it has both ends of a message
   abbrev pub has_both : Component P → Message P → Bool
-  has_both component m = is_sender component m.origin && is_receiver component m.recipient
+  has_both component m = is_sender component m.origin m.recipient && is_receiver component m.origin m.recipient
 
   -- whether it has an end of a message
   abbrev pub touches : Component P → Message P → Bool
-  touches component m = is_sender component m.origin || is_receiver component m.recipient
+  touches component m = is_sender component m.origin m.recipient || is_receiver component m.origin m.recipient
 
-  -- whether two messages go from one sender or to one receiver
-  abbrev pub share_an_end : Message P → Message P → Bool
-  share_an_end m n = same_peer cmp m.origin n.origin || same_peer cmp m.recipient n.recipient
+  -- whether one that has joined brings in an end of a message
+  abbrev pub share_an_end : Joined P → Message P → Bool
+  share_an_end j m = joins j Origin m.origin m.recipient || joins j Recipient m.origin m.recipient
 
-  -- whether a message in flight is rated anew: it goes from one of the senders, and does not keep its rate
+  -- whether a message in flight is rated anew: it has the end at its sender, and that does not keep its rate
   abbrev pub is_of : Component P → UnitFlight P → Bool
-  is_of component u = is_sender component u.message.origin && not (keeps component u)
+  is_of component u = is_sender component u.message.origin u.message.recipient && not (keeps component u)
 
   -- the messages in flight that are rated anew
   abbrev pub those_of : Component P → List (UnitFlight P) → List (UnitFlight P)
@@ -106,6 +137,14 @@ module _ {P : Type 0} (cmp : P → P → Ordering) where
 abbrev pub StartsWith : {X : Type 0} → List X → List X → Type 0
 StartsWith {X} xs ys = (more : List X) × (ys ≡ xs ++ more)
 
+-- each that has joined is tied by the caps
+abbrev pub AreTied : {P : Type 0} → Caps P → Component P → Type 0
+AreTied caps component = All (IsTied caps) component.joined.items
+
+-- where each was tied, each is
+abbrev pub AreStillTied : {P : Type 0} → Caps P → Component P → Component P → Type 0
+AreStillTied caps old new = AreTied caps old → AreTied caps new
+
 -- the places that were listed still are
 abbrev pub AreStillListed : List ℕ → List ℕ → Type 0
 AreStillListed before after = (at : ℕ) → Contains before at → Contains after at
@@ -125,11 +164,11 @@ Ascends first [] = Unit {0}
 Ascends first (p ∷ ps) = (first ≤ p) × Ascends (suc p) ps
 
 module _ {P : Type 0} (cmp : P → P → Ordering) where
-  -- the one at a place shares an end with the message
-  abbrev pub SharesAt : Message P → List (Flight P) → ℕ → Type 0
-  SharesAt m list at =
+  -- one that has joined brings in an end of the one at a place
+  abbrev pub SharesAt : Joined P → List (Flight P) → ℕ → Type 0
+  SharesAt j list at =
       (one : Flight P) × (slice_get list at ≡ Some one)
-      × (share_an_end cmp m one.message.value ≡ true)
+      × (share_an_end cmp j one.message.value ≡ true)
 
   -- the one at a place shares that end with the message
   abbrev pub SharesEndAt : End → Message P → List (Flight P) → ℕ → Type 0
@@ -142,14 +181,22 @@ module _ {P : Type 0} (cmp : P → P → Ordering) where
   AreListedAt end m near list = (at : ℕ) (one : Flight P) → slice_get list at ≡ Some one
       → share cmp end m one.message.value ≡ true → Contains near at
 
-  -- each in flight that shares an end with the message is listed
-  abbrev pub AreListed : Message P → List ℕ → List (Flight P) → Type 0
-  AreListed m near list = (at : ℕ) (one : Flight P) → slice_get list at ≡ Some one
-      → share_an_end cmp m one.message.value ≡ true → Contains near at
+  -- those that share that end with a message were listed, and no others, if that is one of the ends by which it joins
+  -- others; else none were
+  pub record HasListedEnd (end : End) (ends : Ends) (m : Message P) (list : List (Flight P)) (before near : List ℕ)
+      : Type 0 where
+    pub listed : have_end ends end ≡ true → AreListedAt end m near list
+    pub more : AreStillListed before near
+    pub only : All (λ p. Contains before p ⊎ ((have_end ends end ≡ true) × SharesEndAt end m list p)) near
 
-  -- each that shares one with any of these messages
-  abbrev pub AreAllListed : List (Arc (Message P) Global) → List ℕ → List (Flight P) → Type 0
-  AreAllListed joined near list = All (λ m. AreListed m.value near list) joined
+  -- each in flight of which one that has joined brings in an end is listed
+  abbrev pub AreListed : Joined P → List ℕ → List (Flight P) → Type 0
+  AreListed j near list = (at : ℕ) (one : Flight P) → slice_get list at ≡ Some one
+      → share_an_end cmp j one.message.value ≡ true → Contains near at
+
+  -- each of which any of these does
+  abbrev pub AreAllListed : List (Joined P) → List ℕ → List (Flight P) → Type 0
+  AreAllListed joined near list = All (λ j. AreListed j near list) joined
 
   -- the first so many of the messages that have joined were looked through: what shares an end with one is listed, with
   -- an end in the component, and with both unless it keeps its rate

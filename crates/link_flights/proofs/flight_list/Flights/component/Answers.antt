@@ -1,4 +1,4 @@
-use Rattle.link_flights.proofs.Common.{sym, ◌∙◌, true≢false, in_units}
+use Rattle.link_flights.proofs.Common.{All, All-nil, IsTied, caps_of, [], sym, subst, ◌∙◌, true≢false, in_units}
 use Rattle.std.proofs.lemmas.Result.{IfOk-weaker}
 use Rattle.link_flights.proofs.Flights.ComponentFlows.{closed_whole, all_both}
 use Rattle.link_flights.proofs.Flights.Search.{all_listed, closed_if_near, near_if_listed}
@@ -13,7 +13,7 @@ returns-then-branch-clause-closed g c =
     let touched = c.in_ok-join_touched.ensures in
     let joined = c.in_ok-grow.ensures.joined in
     let walked = c.in_ok-grow.ensures.walked c.if-branch.true in
-    closed_if_near g.P.Ord.cmp found g.met.P.Ord.total
+    closed_if_near g.P.Ord.cmp found
     (c.grow.ensures.whole ∙ c.join_touched.ensures.whole ∙ c.in_ok-component.ensures.part)
     found.near.items c.args.done.now.items self.at self.settled self.list.items
     (still_has_all g.P.Ord.cmp mid found joined c.grow.ensures.whole c.args.done.now.items touched.done)
@@ -26,7 +26,7 @@ returns-then-branch-clause-near g c part =
     let found = c.grow.new.component in
     let list = c.args.self.now.list.items in
     let walked = c.in_ok-grow.ensures.walked c.if-branch.true in
-    near_if_listed g.P.Ord.cmp g.met.P.Ord.total found
+    near_if_listed g.P.Ord.cmp found
     (c.grow.ensures.whole ∙ c.join_touched.ensures.whole ∙ c.in_ok-component.ensures.part) list
     (all_listed g.P.Ord.cmp found list walked) (c.in_ok-grow.ensures.order c.if-branch.true) walked.touched
 
@@ -63,3 +63,8 @@ pub returns-clause-near : goal.returns-clause-near
 returns-clause-near g c =
     IfOk-weaker c.all_touched.result _ _ (λ all whole part. absurd (true≢false (sym whole ∙ part)))
     c.all_touched.ensures.whole
+
+pub returns-then-branch-clause-tied : goal.returns-then-branch-clause-tied
+returns-then-branch-clause-tied g c =
+    c.in_ok-grow.ensures.tied (c.in_ok-join_touched.ensures.tied
+    (subst (All (IsTied (caps_of g.P.Ord.cmp c.args.peers.now.entries []))) (sym c.in_ok-component.ensures.joined) (All-nil _)))

@@ -1,8 +1,8 @@
 use Rattle.link_flights.proofs.Common.{◌≡◌, ◌+◌, ◌-◌, Bool, true, false, Some, slice_get, sym, ap, ◌∙◌, subst}
 use Rattle.link_flights.proofs.Common.{get_or_from_slice_get, same_Some, side_of, Flight, is_of, places_of, flight_at}
 use Rattle.link_flights.proofs.Common.{flow_sent, uses_end, end_subject, IsCounted}
-use Rattle.link_flights.proofs.Flights.Sides.{count_passed, count_user, count_rate, kept_rate}
-use Rattle.link_flights.proofs.Flights.Numbered.{kept_unlisted}
+use Rattle.link_flights.proofs.Flights.Sides.{count_passed, count_user, count_rate, rated_rate}
+use Rattle.link_flights.proofs.Flights.Numbered.{rated_unlisted}
 use Rattle.link_flights.proofs.Flights.Sides.{place_is_of}
 use Rattle.link_flights.proofs.flight_list.Flights.count_one.Goals as goal
 
@@ -50,10 +50,10 @@ returns-clause-counted g c m one all there shares h =
     sym (c.uses.ensures one ∙ ap (λ (f : Flight _). uses_end cmp c.args.end f.message.value)
     (get_or_from_slice_get self.list.items c.args.at one one there))
     ∙ c.if-not-uses.false in
-    let kept =
-    kept_unlisted cmp component self.list.items c.args.numbers.now c.requires.places self.at c.requires.suited c.args.at one
-    there (c.requires.near one there uses) (c.number.ensures.none c.in_default.is) in
+    let rated =
+    rated_unlisted cmp component self.list.items c.args.numbers.now c.requires.places self.at c.requires.suited c.args.at
+    one there (c.number.ensures.none c.in_default.is) in
     let rate : (flight_at self.at one).rate ≡ c.at.result.now.rate =
-    kept_rate component one kept.1 ∙ ap (λ (f : Flight _). f.rate) (sym is) in
-    count_rate cmp c.args.end component self.at self.list.items m one all c.args.at there shares side uses kept.0
+    rated_rate one rated.1 ∙ ap (λ (f : Flight _). f.rate) (sym is) in
+    count_rate cmp c.args.end component self.at self.list.items m one all c.args.at there shares side uses rated.0
     c.subtract.new.self (c.subtract.ensures.value ∙ ap (λ n. side.cap - n) (c.number-2.ensures ∙ sym rate)) h

@@ -16,7 +16,7 @@ loop-next-init g c =
     let grown : HasGrown g.P.Ord.cmp list c.args.self.now.floor 0 start start =
     record {
       walked = record {
-        listed = All-nil (λ m. AreListed g.P.Ord.cmp m.value old.near.items list);
+        listed = All-nil (λ j. AreListed g.P.Ord.cmp j old.near.items list);
         touched = none (IsTouched g.P.Ord.cmp start list);
         suited = none (IsSuited g.P.Ord.cmp start list);
       };
@@ -25,7 +25,7 @@ loop-next-init g c =
       level = c.in_ok-component.ensures.level;
       whole = refl;
     } in
-    (grown, subst (λ places. AreNoted places c.args.noted.now.items) (sym c.requires.none) c.requires.noted, c.requires.each)
+    (grown, subst (λ places. AreNoted places c.args.noted.now.items) (sym c.requires.none) c.requires.noted, c.requires.each, λ tied. tied)
 
 pub loop-next-preserved : goal.loop-next-preserved
 loop-next-preserved g c =
@@ -44,7 +44,7 @@ loop-next-preserved g c =
       level = subst (λ level. IfSome c.args.self.now.floor (λ floor. level ≤ floor)) (sym join.level) before.level;
       whole = join.whole ∙ before.whole;
     } in
-    (grown, more.noted, join.each ∙ c.loop-next.invariant.2)
+    (grown, more.noted, join.each ∙ c.loop-next.invariant.2, λ tied. more.tied (c.loop-next.invariant.3 tied))
 
 pub returns-clause-walked : goal.returns-clause-walked
 returns-clause-walked g c all =
@@ -119,3 +119,9 @@ returns-then-is_large-2-clause-noted g c all = absurd (false≢true all)
 
 pub returns-then-is_large-2-clause-level : goal.returns-then-is_large-2-clause-level
 returns-then-is_large-2-clause-level g c all = absurd (false≢true all)
+
+pub returns-clause-tied : goal.returns-clause-tied
+returns-clause-tied g c = c.loop-next.invariant.3
+
+pub returns-then-is_large-2-clause-tied : goal.returns-then-is_large-2-clause-tied
+returns-then-is_large-2-clause-tied g c tied = c.in_ok-list_joining.ensures.tied (c.loop-next.invariant.3 tied)

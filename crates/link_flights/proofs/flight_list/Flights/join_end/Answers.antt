@@ -1,5 +1,5 @@
 use Rattle.link_flights.proofs.Common.{◌≡◌, [], length, refl, sym, ◌∙◌, subst, arith, append-nil, AreSuited, AreNoted}
-use Rattle.link_flights.proofs.Common.{Component}
+use Rattle.link_flights.proofs.Common.{Component, AreStillTied, caps_of}
 use Rattle.link_flights.proofs.Flights.Search.{HasJoinedAll, HasWalked, none_listed, walked_more, walked_all}
 use Rattle.link_flights.proofs.Flights.Search.{fewer_behind, next_inside, starts_on, suited_with_one}
 use Rattle.link_flights.proofs.flight_list.Flights.join_end.Goals.{then-is_new+in_ok-join_one, else-is_new}
@@ -21,6 +21,7 @@ loop-next-init g c = (
   },
   c.requires.noted,
   refl,
+  λ tied. tied,
 )
 
 pub list-requires-clause-within : goal.list-requires-clause-within
@@ -60,13 +61,14 @@ loop-next-preserved g c =
     walked_more cmp end m list c.loop-next.next old.near.items mid.near.items so_far.walked
     g.met.P.Ord.total at c.in-Some.is next c.next_at-next.ensures after place.here place.others place.only in
     let each : length noted ≡ length c.args.noted.now.items = c.list.ensures.each ∙ c.loop-next.invariant.2 in
+    let Tied = AreStillTied (caps_of cmp c.args.peers.now.entries []) old in
     elim c.if-is_new.branch [
       | then-is_new+in_ok-join_one w ↦
           let new = w.join_one.new.component in
           let join = w.join_one.ensures in
           let more = w.in_ok-join_one.ensures in
           subst (λ (x : Component g.row.P.Denot). HasJoinedAll cmp end m list next old x × AreNoted x.near.items noted
-          × (length noted ≡ length c.args.noted.now.items)) (sym w.component-is) (
+          × (length noted ≡ length c.args.noted.now.items) × Tied x) (sym w.component-is) (
             record {
               walked = subst (HasWalked cmp end m list next old.near.items) (sym join.near) walked;
               suited = subst (λ places. AreSuited cmp new places list) (sym join.near)
@@ -78,11 +80,12 @@ loop-next-preserved g c =
             },
             subst (λ places. AreNoted places noted) (sym join.near) place.noted,
             each,
+            λ tied. more.tied (c.loop-next.invariant.3 tied),
           )
       | else-is_new w ↦
           let same : after ≡ mid.near.items = place.same w.if-is_new.false in
           subst (λ (x : Component g.row.P.Denot). HasJoinedAll cmp end m list next old x × AreNoted x.near.items noted
-          × (length noted ≡ length c.args.noted.now.items)) (sym w.component-is) (
+          × (length noted ≡ length c.args.noted.now.items) × Tied x) (sym w.component-is) (
             record {
               walked = walked;
               suited = subst (λ places. AreSuited cmp mid places list) (sym same) so_far.suited;
@@ -92,6 +95,7 @@ loop-next-preserved g c =
             },
             place.noted,
             each,
+            c.loop-next.invariant.3,
           )
     ]
 
@@ -114,3 +118,6 @@ returns-clause-noted g c = c.loop-next.invariant.1
 
 pub returns-clause-suited : goal.returns-clause-suited
 returns-clause-suited g c = c.loop-next.invariant.0.suited
+
+pub returns-clause-tied : goal.returns-clause-tied
+returns-clause-tied g c = c.loop-next.invariant.3

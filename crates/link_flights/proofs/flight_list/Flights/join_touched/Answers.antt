@@ -11,9 +11,10 @@ loop-at-preserved g c =
     let join = c.join.ensures in
     let more = c.in_ok-join.ensures in
     let inside : c.loop-at.at < length done = omega (arith, c.loop-at-test.true, c.len-at-end.ensures) in
-    let (all, near, level, whole) = c.loop-at.invariant in (
+    let (all, still, near, level, whole) = c.loop-at.invariant in (
       has_one_more g.P.Ord.cmp c.loop-at.component c.join.new.self more.joined join.whole done c.loop-at.at
           c.index.result.now inside c.index.ensures all more.has,
+      λ tied. more.tied (still tied),
       join.near ∙ near,
       join.level ∙ level,
       join.whole ∙ whole,
@@ -22,10 +23,11 @@ loop-at-preserved g c =
 pub loop-at-2-init : goal.loop-at-2-init
 loop-at-2-init g c =
     let done = c.args.done.now.items in
-    let (all, near, level, whole) = c.loop-at.invariant in
+    let (all, still, near, level, whole) = c.loop-at.invariant in
     let through : length done ≤ c.loop-at.at = omega (arith, c.loop-at-test.false, c.len-at-end.ensures) in (
       subst (All (λ m. has_both g.P.Ord.cmp c.loop-at.component m.value ≡ true)) (take_all c.loop-at.at done through) all,
       λ at one below there from. absurd (omega (arith, below, from)),
+      still,
       near,
       level,
       whole,
@@ -40,10 +42,11 @@ loop-at-2-preserved g c =
     let join = c.join-in-loop-at-2.ensures in
     let more = c.in_ok-join-2.ensures in
     let read = c.at.result.now in
-    let (all, touches, near, level, whole) = c.loop-at-2.invariant in (
+    let (all, touches, still, near, level, whole) = c.loop-at-2.invariant in (
       still_has_all cmp mid new more.joined join.whole c.args.done.now.items all,
       touches_one_more cmp mid new more.joined join.whole c.args.self.now.settled c.loop-at-2.at list touches read
           c.at.ensures more.has,
+      λ tied. more.tied (still tied),
       join.near ∙ near,
       join.level ∙ level,
       join.whole ∙ whole,
@@ -52,13 +55,14 @@ loop-at-2-preserved g c =
 pub loop-at-3-init : goal.loop-at-3-init
 loop-at-3-init g c =
     let list = c.args.self.now.list.items in
-    let (all, touches, near, level, whole) = c.loop-at-2.invariant in (
+    let (all, touches, still, near, level, whole) = c.loop-at-2.invariant in (
       all,
       λ at one from there.
           let below : at < c.loop-at-2.at =
           omega (arith, c.loop-at-2-test.false, c.len-at-end-2.ensures, slice_get_within list at one there) in
           touches at one below there from,
       λ k d lt. absurd (omega (arith, lt)),
+      still,
       near,
       level,
       whole,
@@ -72,11 +76,12 @@ loop-at-3-preserved g c =
     let join = c.join-in-loop-at-3.ensures in
     let more = c.in_ok-join-3.ensures in
     let loose = c.as_slice-loose.result.now in
-    let (all, touches, listed, near, level, whole) = c.loop-at-3.invariant in (
+    let (all, touches, listed, still, near, level, whole) = c.loop-at-3.invariant in (
       still_has_all cmp mid new more.joined join.whole c.args.done.now.items all,
       still_touches_new cmp mid new more.joined join.whole c.args.self.now.settled c.args.self.now.list.items touches,
       has_one_more cmp mid new more.joined join.whole loose c.loop-at-3.at
           c.index-loose-at.result (omega (arith, c.loop-at-3-test.true)) c.index-loose-at.is listed more.has,
+      λ tied. more.tied (still tied),
       join.near ∙ near,
       join.level ∙ level,
       join.whole ∙ whole,
@@ -92,7 +97,7 @@ returns-clause-loose g c =
     (subst (All (λ m. has m.value)) (take_all c.loop-at-3.at loose (omega (arith, c.loop-at-3-test.false))) listed))
 
 pub loop-at-init : goal.loop-at-init
-loop-at-init g c = (λ k d low. absurd (omega (arith, low)), refl, refl, refl)
+loop-at-init g c = (λ k d low. absurd (omega (arith, low)), λ tied. tied, refl, refl, refl)
 
 pub returns-clause-done : goal.returns-clause-done
 returns-clause-done g c = c.loop-at-3.invariant.0
@@ -105,3 +110,6 @@ index-requires g c = omega (arith, c.loop-at-test.true, c.len-at-end.ensures)
 
 pub at-requires : goal.at-requires
 at-requires g c = omega (arith, c.loop-at-2-test.true, c.len-at-end-2.ensures)
+
+pub returns-clause-tied : goal.returns-clause-tied
+returns-clause-tied g c = c.loop-at-3.invariant.3

@@ -1,4 +1,4 @@
-use Rattle.link_flights.proofs.Common.{◌≡◌, ◌*◌, Bool, Option, Some, ℕ, slice_get, sym, ap, ap₂, ◌∙◌, arith, option_map}
+use Rattle.link_flights.proofs.Common.{◌≡◌, ◌*◌, Bool, Option, Some, ℕ, slice_get, sym, ap, ap₂, ◌∙◌, option_map}
 use Rattle.link_flights.proofs.Common.{unwrap_or, get_or_from_slice_get, slice_get_within, caps_of, Flight, is_of}
 use Rattle.link_flights.proofs.Common.{places_of, flight_at, in_units, left_of, flow_sent, link_subject}
 use Rattle.fairness.specs.Sides.Alone.{least_of}

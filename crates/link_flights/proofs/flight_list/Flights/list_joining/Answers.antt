@@ -1,5 +1,5 @@
-use Rattle.link_flights.proofs.Common.{All, Contains, ◌⊎◌, ◌≡◌, sym, ◌∙◌, subst, arith, Recipient, StartsWith}
-use Rattle.link_flights.proofs.Common.{AreListedAt, SharesEndAt}
+use Rattle.link_flights.proofs.Common.{ℕ, List, ◌∙◌, subst, arith, End, Origin, Recipient, StartsWith}
+use Rattle.link_flights.specs.Flights.Components.{HasListedEnd}
 use Rattle.link_pairs.specs.declared.message.Message.{Message}
 use Rattle.link_flights.proofs.Flights.Search.{HasListedBoth, both_listed, all_listed_next, first_listed, touched_with, starts_on}
 use Rattle.link_flights.proofs.Flights.Search.{starts_longer}
@@ -15,22 +15,25 @@ returns-clause-walked g c =
     let first = c.in_ok-join_new_end.ensures in
     let second = c.in_ok-join_new_end-2.ensures in
     let walked = c.requires.walked in
-    let m = c.in_ok-message.message.value in
-    let as_read : c.deref-2.result.now ≡ c.deref.result.now = c.deref-2.ensures ∙ sym c.deref.ensures in
-    let both : HasListedBoth cmp c.index.result.now.value list old.near.items new.near.items =
-    subst (λ (x : Message g.row.P.Denot). HasListedBoth cmp x list old.near.items new.near.items)
-    (c.deref.ensures ∙ c.in_ok-message.ensures.cases)
-    (both_listed cmp c.deref.result.now list old.near.items mid.near.items new.near.items first.listed first.more
-    first.only (subst (λ (x : Message g.row.P.Denot). AreListedAt cmp Recipient x new.near.items list) as_read second.listed) second.more
-    (subst (λ (x : Message g.row.P.Denot). All (λ p. Contains mid.near.items p ⊎ SharesEndAt cmp Recipient x list p)
-    new.near.items) as_read second.only)) in
+    let j = c.index.result.now in
+    let same = c.in_ok-joined.ensures in
+    let at_end : (end : End) (before after : List ℕ)
+    → HasListedEnd cmp end c.in_ok-joined.joined.ends c.in_ok-joined.joined.message.value list before after
+    → HasListedEnd cmp end j.ends j.message.value list before after = λ end before after h.
+    subst (λ ends. HasListedEnd cmp end ends j.message.value list before after) same.ends
+    (subst (λ (m : Message g.row.P.Denot). HasListedEnd cmp end c.in_ok-joined.joined.ends m list before after)
+    same.message h) in
+    let both : HasListedBoth cmp j list old.near.items new.near.items =
+    both_listed cmp g.met.P.Ord.total j list old.near.items mid.near.items new.near.items
+    (at_end Origin old.near.items mid.near.items first.listed)
+    (at_end Recipient mid.near.items new.near.items second.listed) in
     let joined : StartsWith old.joined.items new.joined.items =
     starts_on old.joined.items mid.joined.items new.joined.items first.joined second.joined in
     record {
       listed = all_listed_next cmp list old.joined.items new.joined.items joined c.args.number old.near.items
-          new.near.items c.requires.number walked.listed both.more c.index.result.now c.index.ensures both.listed;
-      touched = touched_with cmp g.met.P.Ord.total old new joined (second.whole ∙ first.whole) list c.args.number
-          c.index.result.now c.requires.number c.index.ensures old.near.items new.near.items both.only walked.touched;
+          new.near.items c.requires.number walked.listed both.more j c.index.ensures both.listed;
+      touched = touched_with cmp old new joined (second.whole ∙ first.whole) list c.args.number j c.requires.number
+          c.index.ensures old.near.items new.near.items both.only walked.touched;
       suited = second.suited;
     }
 
@@ -40,7 +43,7 @@ join_new_end-requires-2-clause-before g c =
     let mid = c.join_new_end.new.component in
     let first = c.in_ok-join_new_end.ensures in
     first_listed g.P.Ord.cmp c.args.self.now.list.items old.joined.items mid.joined.items first.joined c.args.number
-    old.near.items mid.near.items (omega (arith, c.requires.number)) c.requires.walked.listed first.more
+    old.near.items mid.near.items (omega (arith, c.requires.number)) c.requires.walked.listed first.listed.more
 
 pub returns-clause-joined : goal.returns-clause-joined
 returns-clause-joined g c =
@@ -94,3 +97,7 @@ returns-clause-level g c = c.join_new_end-2.ensures.level ∙ c.join_new_end.ens
 
 pub returns-clause-whole : goal.returns-clause-whole
 returns-clause-whole g c = c.join_new_end-2.ensures.whole ∙ c.join_new_end.ensures.whole
+
+pub returns-clause-tied : goal.returns-clause-tied
+returns-clause-tied g c tied =
+    c.in_ok-join_new_end-2.ensures.tied (c.in_ok-join_new_end.ensures.tied tied)

@@ -1,11 +1,11 @@
-use Rattle.link_flights.proofs.Common.{◌≡◌, ◌-◌, ◌*◌, true, Some, sym, ap, ◌∙◌, subst, option_map, arith, Contains}
+use Rattle.link_flights.proofs.Common.{◌≡◌, ◌-◌, ◌*◌, Some, sym, ap, ◌∙◌, subst, option_map, arith, Contains}
 use Rattle.link_flights.proofs.Common.{get_or_from_slice_get, slice_get_within, cap_of, side_of, caps_of, Flight, is_of}
 use Rattle.link_flights.proofs.Common.{flight_at, flights_at, flow_sent, uses_end, end_subject, kept_load, IsNextPlace}
 use Rattle.link_flights.proofs.Common.{share, true≢false}
 use Rattle.link_flights.proofs.Flights.AllSides.{cap_left}
 use Rattle.link_flights.proofs.Flights.Places.{one_there}
 use Rattle.link_flights.proofs.Flights.Sides.{HasCounted, what_is_listed, counting_starts, next_within, next_shares, counted_here}
-use Rattle.link_flights.proofs.Flights.Sides.{counts_on, counted_all, fewer_to_count, near_one}
+use Rattle.link_flights.proofs.Flights.Sides.{counts_on, counted_all, fewer_to_count}
 use Rattle.link_flights.proofs.flight_list.Flights.side_at.Goals as goal
 
 pub uses-requires : goal.uses-requires
@@ -70,27 +70,6 @@ count_one-requires-clause-within g c =
     let side = side_of c.loop-next.side in
     let h = c.loop-next.invariant x.0 x.1 in
     next_within cmp end m component self.at self.list.items all next side h c.in-Some-next.at c.in-Some-next.is
-
-pub count_one-requires-clause-near : goal.count_one-requires-clause-near
-count_one-requires-clause-near g c other found uses_too =
-    let cmp = g.P.Ord.cmp in
-    let self = c.args.self.now in
-    let component = c.args.component.now in
-    let end = c.args.end in
-    let x = what_is_listed (λ (f : Flight g.row.P.Denot). is_of cmp component (flight_at 0 f)) self.list.items c.args.at
-    (subst (λ ps. Contains ps c.args.at) c.requires.places c.requires.at) in
-    let m = x.0.message.value in
-    let all = c.in_ok-cap.cap in
-    let next = c.loop-next.next in
-    let side = side_of c.loop-next.side in
-    let h = c.loop-next.invariant x.0 x.1 in
-    let uses : uses_end cmp end m ≡ true =
-    sym (c.uses.ensures x.0 ∙ ap (λ (f : Flight _). uses_end cmp end f.message.value)
-    (get_or_from_slice_get self.list.items c.args.at x.0 x.0 x.1))
-    ∙ c.if-not-uses.false in
-    near_one cmp g.met.P.Ord.total component self.at self.list.items c.requires.suited end c.args.at x.0 x.1 x.2 uses other
-    uses_too
-    (next_shares cmp end m component self.at self.list.items all next side h c.in-Some-next.at c.in-Some-next.is other found)
 
 pub next_at-next-requires : goal.next_at-next-requires
 next_at-next-requires g c =
