@@ -1,6 +1,7 @@
 //! A writer that counts the commands that were refused for want of memory.
 ghost use Rattle.std.specs.Prelude.{◌≡◌};
 
+use memchr::memchr;
 use std::io;
 use std::io::Write;
 
@@ -59,6 +60,26 @@ impl<W: Write> Tally<W> {
             self.matched = Some(matched + 1);
         }
     }
+
+    /// Takes note of bytes that were written. Behind a byte that stands otherwise than in `REFUSED`, only the next line
+    /// can tell more.
+    fn note_all(&mut self, bytes: &[u8])
+        ensures { self.new.output ≡ self.old.output }
+    {
+        let mut rest = bytes;
+        while let Some((byte, behind)) = rest.split_first() {
+            if self.matched.is_some() {
+                self.note(*byte);
+                rest = behind;
+                continue;
+            }
+            let Some(at) = memchr(NEWLINE, rest) else {
+                return;
+            };
+            self.matched = Some(0);
+            rest = &rest[at + 1..];
+        }
+    }
 }
 
 impl<W: Write> Write for Tally<W> {
@@ -66,9 +87,7 @@ impl<W: Write> Write for Tally<W> {
 
     fn write(&mut self, bytes: &[u8]) -> io::Result<usize> {
         let count = self.output.write(bytes)?;
-        for byte in &bytes[..count] {
-            self.note(*byte);
-        }
+        self.note_all(&bytes[..count]);
         Ok(count)
     }
 

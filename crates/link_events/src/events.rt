@@ -224,7 +224,9 @@ impl<P: Peer> Ledger<P> {
         while let Some(message) = queue.pop_front() {
             let mut more = self.complete(message, now, ended)?;
             queue.append(&mut more)?;
+            self.rooms.keep_queue(more);
         }
+        self.rooms.keep_queue(queue);
         self.plan_start(now);
         Ok(())
     }

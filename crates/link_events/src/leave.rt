@@ -1,5 +1,5 @@
 //! What is done leaves.
-ghost use Rattle.std.specs.Prelude.{◌≡◌, ◌≤◌, ◌⊎◌, true, IfOk, IfErr, OnOk};
+ghost use Rattle.std.specs.Prelude.{◌≡◌, ◌≤◌, ◌⊎◌, [], true, IfOk, IfErr, OnOk};
 ghost use Rattle.link_simulation.specs.Simulation.Messages.{OneForEachPair};
 ghost use Rattle.link_simulation.specs.Rule.Planned.{rated_messages};
 ghost use Rattle.link_waiting.specs.Idle.Waits.{since_of};
@@ -25,14 +25,17 @@ use std::collections::VecDeque;
 use std::ops::Deref;
 use std::sync::Arc;
 
-/// All that is in flight drains to that moment. What is done leaves, in order of start.
+/// All that is in flight drains to that moment. What is done leaves, in order of start; it is listed in room that is
+/// given.
 fn part<P: Peer>(
     now: u64,
     flights: &mut Flights<P>,
     peers: &Peers<P>,
     pairs: &Pairs<P>,
     were_fair: bool,
+    queue: VecDeque<Arc<Message<P>>>,
 ) -> Result<VecDeque<Arc<Message<P>>>, Error>
+    requires empty { queue.items ≡ [] }
     requires one_each { ∥ OneForEachPair P.cmp (rated_messages (in_flight flights.old)) ∥₁ }
     requires later { were_fair ≡ true → flights.old.at ≤ now }
     requires rated { were_fair ≡ true
@@ -44,7 +47,7 @@ fn part<P: Peer>(
     ensures refused { IfErr result (λ e. e ≡ Error.OutOfMemory) }
 {
     flights.drain(now)?;
-    flights.take_done(peers, pairs, were_fair)
+    flights.take_done(queue, peers, pairs, were_fair)
 }
 
 /// All that is in flight drains to that moment. What is done leaves, in order of start, and its
@@ -56,7 +59,9 @@ pub(crate) fn leave<P: Peer>(
     pairs: &Pairs<P>,
     waiting: &mut Waiting<P>,
     were_fair: bool,
+    queue: VecDeque<Arc<Message<P>>>,
 ) -> Result<VecDeque<Arc<Message<P>>>, Error>
+    requires empty { queue.items ≡ [] }
     requires indexed { IsIndexOf P.cmp (of_pairs P.cmp pairs.now.entries waiting.old.messages
         (in_flight flights.old)) (since_of P.cmp waiting.old.told) }
     requires one_each { ∥ OneForEachPair P.cmp (rated_messages (in_flight flights.old)) ∥₁ }
@@ -73,7 +78,7 @@ pub(crate) fn leave<P: Peer>(
     ensures waiting_before { waiting.new.before ≡ waiting.old.before }
     ensures refused { IfErr result (λ e. e ≡ Error.OutOfMemory) }
 {
-    let done = part(now, flights, peers, pairs, were_fair)?;
+    let done = part(now, flights, peers, pairs, were_fair, queue)?;
     tell_all(waiting, pairs, &done)?;
     Ok(done)
 }
@@ -119,7 +124,9 @@ pub(crate) fn leave_landing<P: Peer>(
     pairs: &mut Pairs<P>,
     waiting: &mut Waiting<P>,
     were_fair: bool,
+    queue: VecDeque<Arc<Message<P>>>,
 ) -> Result<Left<P>, Error>
+    requires empty { queue.items ≡ [] }
     requires indexed { IsIndexOf P.cmp (of_pairs P.cmp pairs.old.entries waiting.old.messages
         (in_flight flights.old)) (since_of P.cmp waiting.old.told) }
     requires one_each { ∥ OneForEachPair P.cmp (rated_messages (in_flight flights.old)) ∥₁ }
@@ -144,7 +151,7 @@ pub(crate) fn leave_landing<P: Peer>(
         × IsFirstLate P.cmp now
         (done_by P.cmp now (caps_of P.cmp peers.now.entries pairs.old.entries) flights.old))) }
 {
-    let done = part(now, flights, peers, pairs, were_fair)?;
+    let done = part(now, flights, peers, pairs, were_fair, queue)?;
     let deliver_at = land_first(now, pairs, &done)?;
     let since = tell_all(waiting, pairs, &done)?;
     Ok(Left {

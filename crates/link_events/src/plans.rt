@@ -61,6 +61,7 @@ impl<P: Peer> Ledger<P> {
     {
         let were_fair = self.were_fair_until(now);
         self.stale = true;
+        let queue = self.rooms.take_queue(self.alloc);
         let left = leave(
             now,
             &mut self.flights,
@@ -68,6 +69,7 @@ impl<P: Peer> Ledger<P> {
             &self.pairs,
             &mut self.waiting,
             were_fair,
+            queue,
         );
         match left {
             Ok(done) => Ok((done, were_fair)),
@@ -93,6 +95,7 @@ impl<P: Peer> Ledger<P> {
     {
         let were_fair = self.were_fair_until(now);
         self.stale = true;
+        let queue = self.rooms.take_queue(self.alloc);
         let left = leave_landing(
             now,
             &mut self.flights,
@@ -100,6 +103,7 @@ impl<P: Peer> Ledger<P> {
             &mut self.pairs,
             &mut self.waiting,
             were_fair,
+            queue,
         );
         match left {
             Ok(left) => Ok((left, were_fair)),

@@ -1,5 +1,5 @@
 //! What is in flight, accounted for at a moment.
-ghost use Rattle.std.specs.Prelude.{◌≡◌, ◌≢◌, ℕ, ◌+◌, ◌<◌, ◌≤◌, true, false};
+ghost use Rattle.std.specs.Prelude.{[], ◌≡◌, ◌≢◌, ℕ, ◌+◌, ◌<◌, ◌≤◌, true, false};
 ghost use Rattle.std.specs.Prelude.{length, slice_index_or, IfOk, IfErr, OnOk};
 ghost use Rattle.std.specs.List.{remove, AllZip};
 ghost use Rattle.link_flights.specs.declared.flight.Flight.{Flight as AnyFlight};
@@ -132,13 +132,15 @@ impl<P: Peer> Flights<P> {
         Ok(())
     }
 
-    /// Takes those that are done, in order of start.
+    /// Takes those that are done, in order of start. They are listed in room that is given.
     pub fn take_done(
         &mut self,
+        mut done: VecDeque<Arc<Message<P>>>,
         peers: &Peers<P>,
         pairs: &Pairs<P>,
         were_rated: bool,
     ) -> Result<VecDeque<Arc<Message<P>>>, Error>
+        requires empty { done.items ≡ [] }
         requires limited { were_rated ≡ true → are_limited P.cmp (caps_of P.cmp peers.now.entries pairs.now.entries)
             (rated_ones (in_units self.old)) ≡ true }
         requires timed { were_rated ≡ true → AreTimed self.old.list.items }
@@ -155,7 +157,6 @@ impl<P: Peer> Flights<P> {
         ensures before { self.new.list.before ≡ self.old.list.before }
         ensures refused { IfErr result (λ e. e ≡ Error.OutOfMemory) }
     {
-        let mut done = VecDeque::new(self.alloc);
         let mut at = 0;
         while let Some(next) = self.next_done(at, peers, pairs, were_rated) {
             done.push_back(self.list.at(next).message.clone()?)?;

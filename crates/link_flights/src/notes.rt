@@ -7,9 +7,12 @@ use crate::rate::Rate;
 use crate::space::Space;
 use fair_rates::bandwidth::{Room, Side};
 use fairness::error::Error;
+use link_pairs::message::Message;
 use std::alloc::Global;
+use std::collections::VecDeque;
 use std::marker::Model;
 use std::mem;
+use std::sync::Arc;
 
 /// Room for a note of each place. Between events no place is noted, so callers see nothing of it.
 pub(crate) struct Notes {
@@ -42,6 +45,8 @@ pub struct Rooms<P> {
     pub(crate) sides: Vec<Side>,
     /// For the rates that are given.
     pub(crate) rates: Vec<Rate>,
+    /// For what is done.
+    queue: VecDeque<Arc<Message<P>>>,
     /// For filling.
     pub(crate) filling: Room,
 }
@@ -58,6 +63,7 @@ impl<P: Drop> Drop for Rooms<P> {
             has_side,
             sides,
             rates,
+            queue,
             filling,
         } = self;
         drop(notes);
@@ -68,6 +74,7 @@ impl<P: Drop> Drop for Rooms<P> {
         drop(has_side);
         drop(sides);
         drop(rates);
+        drop(queue);
         drop(filling);
     }
 }
@@ -90,6 +97,7 @@ impl<P: Drop> Rooms<P> {
             has_side: Vec::new(alloc),
             sides: Vec::new(alloc),
             rates: Vec::new(alloc),
+            queue: VecDeque::new(alloc),
             filling: Room::new(alloc),
         }
     }
@@ -97,6 +105,20 @@ impl<P: Drop> Rooms<P> {
     /// Room for the rates that are given. It is taken out until it is kept again.
     pub(crate) fn take_rates(&mut self, alloc: Global) -> Vec<Rate> {
         mem::replace(&mut self.rates, Vec::new(alloc))
+    }
+
+    /// Room for what is done, with nothing in it. It is taken out until it is kept again.
+    pub fn take_queue(&mut self, alloc: Global) -> VecDeque<Arc<Message<P>>>
+        ensures { result.items ≡ [] }
+    {
+        let mut queue = mem::replace(&mut self.queue, VecDeque::new(alloc));
+        queue.clear();
+        queue
+    }
+
+    /// The room for what is done is kept. What stands in it is let go when it is taken out.
+    pub fn keep_queue(&mut self, queue: VecDeque<Arc<Message<P>>>) {
+        self.queue = queue;
     }
 
     /// The room of places and of their numbers is kept.

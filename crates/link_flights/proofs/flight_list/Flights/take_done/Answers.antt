@@ -15,7 +15,7 @@ loop-next-init g c =
     let caps = caps_of g.P.Ord.cmp c.args.peers.now.entries c.args.pairs.now.entries in
     let message = λ (f : Flight g.row.P.Denot). message_of f.message.value in
     let out = λ (f : Flight g.row.P.Denot). is_out g.P.Ord.cmp caps old.scale (flight_at old.at f) in (
-      subst (λ l. HaveLeft message out old.list.items old.list.items (messages l) 0) (sym c.new-done.ensures.items)
+      subst (λ l. HaveLeft message out old.list.items old.list.items (messages l) 0) (sym c.requires.empty)
           (none_left message out old.list.items),
       refl,
       refl,
