@@ -1,7 +1,7 @@
 //! What an event touches: those in flight whose rates may change.
 //!
 //! Where some messages are done or new, those in flight that share a sender or a receiver with them
-//! may get other rates, and so on from these. But a message whose rate is below a level goes on as it
+//! may get other rates, if there is a cap on all that it sends or receives, and so on from these. But a message whose rate is below a level goes on as it
 //! is, and passes nothing on: below the least rate of what is done, and below the least share that a
 //! cap leaves to each of its users with what is new, filling goes as it went before.
 ghost use Rattle.std.specs.Prelude.{◌≡◌, ℕ, ◌+◌, ◌<◌, ◌≤◌, ◌&&◌, ◌⊎◌, true, false, [], length, take};
@@ -23,7 +23,7 @@ use crate::flight_list::Flights;
 use crate::joined::Joined;
 use crate::rate::Rate;
 use crate::space::Space;
-use crate::table::End;
+use crate::table::{End, Table};
 use fairness::error::Error;
 use fairness::peer::Peer;
 use link_pairs::known_pairs::Pairs;
@@ -63,7 +63,7 @@ pub(crate) struct Component<P> {
     pub(crate) whole: bool,
     /// In units.
     pub(crate) level: Rate,
-    /// Its senders and receivers are those of these.
+    /// It has the ends of these, and what shares one of them by which one joins others has that, too.
     pub(crate) joined: Vec<Joined<P>>,
     /// The places of those in flight of which it has an end, in order of start, once they are known.
     /// Of all, they are all places, and stand nowhere.
@@ -165,7 +165,12 @@ impl<P: Peer> Component<P> {
     }
 
     /// Takes in the ends of the message.
-    fn join(&mut self, message: &Arc<Message<P>>, peers: &Peers<P>) -> Result<(), Error>
+    fn join(
+        &mut self,
+        message: &Arc<Message<P>>,
+        peers: &Peers<P>,
+        list: &Table<P>,
+    ) -> Result<(), Error>
         ensures has { OnOk result (has_both P.cmp self.new message.now.value ≡ true) }
         ensures joined { OnOk result (StartsWith self.old.joined.items self.new.joined.items) }
         ensures tied { OnOk result (AreStillTied (caps_of P.cmp peers.now.entries []) self.old self.new) }
@@ -177,7 +182,7 @@ impl<P: Peer> Component<P> {
         if self.has_both(message) {
             return Ok(());
         }
-        self.joined.push(Joined::of(message, peers)?)?;
+        self.joined.push(Joined::of(message, peers, list)?)?;
         Ok(())
     }
 
@@ -285,7 +290,7 @@ impl<P: Peer> Flights<P> {
     }
 
     /// The least share of a cap that the message would have, if the cap were shared evenly. Zero
-    /// where it shares no end with another.
+    /// where it shares none with another.
     fn share_of(
         &self,
         message: &Message<P>,
@@ -294,18 +299,31 @@ impl<P: Peer> Flights<P> {
     ) -> Result<Natural, Error>
         ensures refused { IfErr result (λ e. e ≡ Error.OutOfMemory) }
     {
-        let sent = self.count_sharing(End::Origin, message);
-        let received = self.count_sharing(End::Recipient, message);
+        let egress = peers.egress(&message.origin);
+        let ingress = if message.is_delivered() {
+            peers.ingress(&message.recipient)
+        } else {
+            None
+        };
+        let sent = self.count_under(egress, End::Origin, message);
+        let received = self.count_under(ingress, End::Recipient, message);
         if sent <= 1 && received <= 1 {
             return Ok(Natural::from_u64(self.alloc, 0));
         }
-        let mut share = self.part_of(peers.egress(&message.origin), sent)?;
-        if message.is_delivered() {
-            let other = self.part_of(peers.ingress(&message.recipient), received)?;
-            share = least_part(share, other);
-        }
+        let share = least_part(
+            self.part_of(egress, sent)?,
+            self.part_of(ingress, received)?,
+        );
         let link = self.part_of(pairs.cap(&message.origin, &message.recipient), 1)?;
         Ok(least_part(share, link).unwrap_or(Natural::from_u64(self.alloc, 0)))
+    }
+
+    /// How many in flight share that end with the message, if it has a cap.
+    fn count_under(&self, cap: Option<u128>, end: End, message: &Message<P>) -> u64 {
+        match cap {
+            Some(_) => self.count_sharing(end, message),
+            None => 0,
+        }
     }
 
     /// How many in flight share that end with the message.
@@ -348,14 +366,14 @@ impl<P: Peer> Flights<P> {
         ensures refused { IfErr result (λ e. e ≡ Error.OutOfMemory) }
     {
         for at in 0..done.len() {
-            component.join(&done[at], peers)?;
+            component.join(&done[at], peers, &self.list)?;
         }
         for at in self.settled..self.list.len() {
-            component.join(&self.list.at(at).message, peers)?;
+            component.join(&self.list.at(at).message, peers, &self.list)?;
         }
         let loose = self.loose.as_slice();
         for at in 0..loose.len() {
-            component.join(&loose[at], peers)?;
+            component.join(&loose[at], peers, &self.list)?;
         }
         Ok(())
     }
@@ -416,7 +434,7 @@ impl<P: Peer> Flights<P> {
     {
         if let Some(one) = self.list.get(at) {
             if !component.keeps(one) {
-                component.join(&one.message, peers)?;
+                component.join(&one.message, peers, &self.list)?;
             }
         }
         Ok(())

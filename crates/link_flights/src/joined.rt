@@ -3,7 +3,7 @@ ghost use Rattle.std.specs.Prelude.{◌≡◌, [], IfOk, IfErr};
 ghost use Rattle.link_pairs.specs.Pairs.CapsOf.{caps_of};
 ghost use Rattle.link_flights.specs.Flights.Components.{have_end, joins, IsTied};
 
-use crate::table::End;
+use crate::table::{End, Table};
 use fairness::error::Error;
 use fairness::peer::Peer;
 use link_pairs::message::Message;
@@ -11,7 +11,7 @@ use link_pairs::peers::Peers;
 use std::sync::Arc;
 
 /// The ends by which a message joins others: those with a cap, since of a cap each takes from the others. Where neither
-/// has one, its sender stands for both.
+/// has one, either stands for both.
 #[derive(Clone, Copy)]
 pub(crate) enum Ends {
     Both,
@@ -49,8 +49,13 @@ impl<P: Drop> Drop for Joined<P> {
 }
 
 impl<P: Peer> Joined<P> {
-    /// The message, which joins others by the ends that have a cap.
-    pub(crate) fn of(message: &Arc<Message<P>>, peers: &Peers<P>) -> Result<Joined<P>, Error>
+    /// The message, which joins others by the ends that have a cap. Where neither has one, it joins by its receiver if
+    /// its sender has more than one message in flight.
+    pub(crate) fn of(
+        message: &Arc<Message<P>>,
+        peers: &Peers<P>,
+        list: &Table<P>,
+    ) -> Result<Joined<P>, Error>
         ensures message { IfOk result (λ joined. joined.message.value ≡ message.now.value) }
         ensures tied { IfOk result (λ joined. IsTied (caps_of P.cmp peers.now.entries []) joined) }
         ensures refused { IfErr result (λ e. e ≡ Error.OutOfMemory) }
@@ -59,8 +64,10 @@ impl<P: Peer> Joined<P> {
         let receives = peers.ingress(&message.recipient).is_some();
         let ends = match (sends, receives) {
             (true, true) => Ends::Both,
+            (true, false) => Ends::Sender,
             (false, true) => Ends::Receiver,
-            (_, false) => Ends::Sender,
+            (false, false) if list.sends_several(message) => Ends::Receiver,
+            (false, false) => Ends::Sender,
         };
         Ok(Joined {
             message: message.clone()?,

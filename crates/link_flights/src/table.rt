@@ -261,6 +261,14 @@ impl<P: Peer> Table<P> {
         }
     }
 
+    /// Whether more than one comes from the sender of the message.
+    pub(crate) fn sends_several(&self, message: &Message<P>) -> bool {
+        match self.first_at(End::Origin, message) {
+            Some(at) => self.next_at(End::Origin, at).is_some(),
+            None => false,
+        }
+    }
+
     /// The first place behind that one at which one shares that end with the one that stands there, if there is one.
     #[inline(always)]
     pub(crate) fn next_at(&self, end: End, at: usize) -> Option<usize>
