@@ -9,6 +9,8 @@
 | `whole-N` | N flows, at most four from a peer, whose fair rates are whole, and many lines `rates` |
 | `groups-K-M` | M messages between K capped peers in groups of four, with four ordered pairs to a group |
 | `pairs-K-M` | the same between any two of the peers |
+| `uploads-K-M` | the same, where only what a peer sends is capped |
+| `clients-K-M` | M messages between K capped peers and one that has no cap, half of them from it |
 | `queue-M` | M messages of one pair wait behind a cap, and then the cap is lifted |
 | `broadcast-N` | a bench of a consensus protocol: one of N peers sends a block to all others, then all send a vote to all others, twice; all caps are equal. `crates/broadcast` does the same without a script |
 | `mixed-N` | the same under caps that differ |
@@ -121,6 +123,26 @@ def schedule(chance, peers, messages, rhythm, grouped):
     yield "next"
 
 
+def uploads(peers, messages):
+    for line in pairs(peers, messages):
+        yield line.rsplit(" ", 1)[0] + " -" if line.startswith("limit") else line
+
+
+def clients(peers, messages):
+    chance = Chance(0x2545F4914F6CDD1D + 2 * peers)
+    for peer in range(1, peers + 1):
+        yield f"limit 0 {peer} {chance.between(2**10, 2**13)} {chance.between(2**10, 2**13)}"
+    now = 0
+    for message in range(messages):
+        now += chance.below(MILLISECOND)
+        ends = (0, chance.between(1, peers))
+        origin, recipient = ends if chance.below(2) else ends[::-1]
+        yield f"advance {now}"
+        yield f"enqueue {now} {origin} {recipient} {message} {chance.below(4096)} {chance.below(100 * MILLISECOND)} 1"
+    yield f"advance {FAR}"
+    yield "next"
+
+
 def queue(messages):
     yield "limit 0 1 1000 -"
     yield from ["enqueue 0 1 2 0 100 0 1"] * messages
@@ -193,7 +215,9 @@ SCRIPTS = {
     **{f"groups-{peers}-{messages}": (groups, peers, messages)
        for peers, messages in ((4, 1000), (16, 5000), (64, 20000), (256, 20000))},
     **{f"pairs-{peers}-{messages}": (pairs, peers, messages)
-       for peers, messages in ((4, 1000), (16, 5000), (64, 2000))},
+       for peers, messages in ((4, 1000), (16, 5000), (64, 2000), (256, 20000), (1024, 20000), (4096, 40000))},
+    **{f"uploads-{peers}-{messages}": (uploads, peers, messages) for peers, messages in ((8, 20000), (64, 20000))},
+    **{f"clients-{peers}-{messages}": (clients, peers, messages) for peers, messages in ((100, 10000), (1000, 10000))},
     **{f"queue-{messages}": (queue, messages) for messages in (2000, 20000)},
     **{f"broadcast-{peers}": (broadcast, peers, False) for peers in PEERS},
     **{f"mixed-{peers}": (broadcast, peers, True) for peers in PEERS},

@@ -29,16 +29,25 @@ pub(crate) enum End {
     Recipient,
 }
 
-/// Whether a row has that sender and that receiver.
+/// Whether a row has that sender and that receiver. Those of the sender and those of the receiver are gone through side
+/// by side, to the end of the fewer.
 fn has_row<T: Drop>(rows: &RowTable<T>, sender: usize, receiver: usize) -> bool
     ensures { result ≡ list_any (λ row. is_sent_by sender row && is_received_by receiver row) rows.now.now }
 {
-    let mut next = rows.first_sent(sender);
-    while let Some(at) = next {
+    let mut sent = rows.first_sent(sender);
+    let mut received = rows.first_received(receiver);
+    while let Some(at) = sent {
         if rows.at(at).receiver == receiver {
             return true;
         }
-        next = rows.next_sent(at);
+        let Some(other) = received else {
+            return false;
+        };
+        if rows.at(other).sender == sender {
+            return true;
+        }
+        sent = rows.next_sent(at);
+        received = rows.next_received(other);
     }
     false
 }

@@ -427,12 +427,13 @@ impl<P: Peer, M: Payload> State<P, M> {
     /// got a rate and a finish of its own; all others in flight were left as they were kept.
     ///
     /// It counts work, and has no part in what is answered. Where messages start or end, or a cap of
-    /// theirs changes, those that share a sender or a receiver with them, directly or through others,
-    /// are looked for; but one that is slower than all of these were, and than the least share that one
-    /// may get, goes on as it is, and is not looked through. Where these are found, no other is rated
-    /// anew. All are rated where they are many, or few are in flight, or one loses its last cap. Where a
-    /// quarter of all or more got another rate so, all are rated at the next three events, too, as a
-    /// rule. It takes no memory, changes nothing and is never refused.
+    /// theirs changes, those that share with them a sender with a cap on what it sends, or a receiver
+    /// with one on what it receives, directly or through others, are looked for; but one that is slower
+    /// than all of these were, and than the least share that one may get, goes on as it is, and is not
+    /// looked through. Where these are found, no other is rated anew. All are rated where they are many,
+    /// or few are in flight, or one loses its last cap. Where a quarter of all or more got another rate
+    /// so, all are rated at the next three events, too, as a rule. It takes no memory, changes nothing
+    /// and is never refused.
     pub fn rated_anew(&self) -> usize
         ensures counted { result ≡ rated_at_last self.now }
         ensures at_most_all { result ≤ length (planned_of self.now).sending }

@@ -116,10 +116,10 @@ module _ {T : Type 0} (rows : List (Row T)) (sender receiver : ℕ) where
   IsPast i None = Unit {0}
   IsPast i (Some next) = i < next
 
-  -- no row of the pair stands before the next of the sender
-  pub record IsWalk (next : Option ℕ) : Type 0 where
+  -- of those with one of the ends, the next is known, and no row of the pair stands before it
+  pub record IsWalk (owned : Row T → Bool) (next : Option ℕ) : Type 0 where
     pub within : IfSome next (λ at. at < length rows)
-    pub sent : IfSome next (λ at. passes (is_sent_by sender) (slice_get rows at) ≡ true)
+    pub here : IfSome next (λ at. passes owned (slice_get rows at) ≡ true)
     pub past : (i : ℕ) → IsPast i next → passes is_between (slice_get rows i) ≡ true → ⊥
 
   -- how many rows are still ahead
@@ -127,28 +127,20 @@ module _ {T : Type 0} (rows : List (Row T)) (sender receiver : ℕ) where
   ahead None = 0
   ahead (Some at) = length rows - at
 
-  half : (o : Option (Row T)) → passes is_between o ≡ true → passes (is_sent_by sender) o ≡ true
-  half None h = h
-  half (Some row) h = first_of_both (is_sent_by sender row) _ h
+  module _ (owned : Row T → Bool) where
+    pub walk_found : (at : ℕ) (row : Row T) → IsWalk owned (Some at) → slice_get rows at ≡ Some row
+        → (owned row ≡ true → is_between row ≡ true) → list_any is_between rows ≡ true
+    walk_found at row walk get both =
+        list_any_at is_between rows at row walk.within
+        (ap is_between (get_or_from_slice_get rows at row row get)
+        ∙ both (ap (passes owned) (sym get) ∙ walk.here))
 
-  after : (from : ℕ) (next : Option ℕ) → IsNext (is_sent_by sender) rows from next → (i : ℕ) → from ≤ i → IsPast i next
-      → passes is_between (slice_get rows i) ≡ true → ⊥
-  after from None is i low p passed = is i low (half _ passed)
-  after from (Some at) is i low p passed = is.first i low p (half _ passed)
-
-  pub walk_found : (at : ℕ) (row : Row T) → IsWalk (Some at) → slice_get rows at ≡ Some row
-      → eqb row.receiver receiver ≡ true → list_any is_between rows ≡ true
-  walk_found at row walk get same =
-      list_any_at is_between rows at row walk.within
-      (ap is_between (get_or_from_slice_get rows at row row get)
-      ∙ ap₂ (λ a b. a && b) (ap (passes (is_sent_by sender)) (sym get) ∙ walk.sent) same)
-
-  pub walk_ends : IsWalk None → list_any is_between rows ≡ false
-  walk_ends walk =
-      list_any_none is_between rows
-      (λ i d within. let it = there rows i within in
-      ap is_between (it.row_or d)
-      ∙ not_true _ (λ passed. walk.past i tt (ap (passes is_between) it.get ∙ passed)))
+    pub walk_ends : IsWalk owned None → list_any is_between rows ≡ false
+    walk_ends walk =
+        list_any_none is_between rows
+        (λ i d within. let it = there rows i within in
+        ap is_between (it.row_or d)
+        ∙ not_true _ (λ passed. walk.past i tt (ap (passes is_between) it.get ∙ passed)))
 
 -- ---- rows with numbers
 
