@@ -37,6 +37,9 @@ use std::sync::Arc;
 /// So many messages a component has room for before their list has to move. Most join no more.
 const FEW_JOINED: usize = 8;
 
+/// Among so many messages that have joined one is looked for whatever its caps.
+const FEW_LOOKED: usize = 16;
+
 /// So many messages a component may join, and half of all in flight if that is more. Where there are
 /// more, it pays to rate all that is in flight.
 const MOST_JOINED: usize = 48;
@@ -164,6 +167,14 @@ impl<P: Peer> Component<P> {
         self.has_end(End::Origin, message) && self.has_end(End::Recipient, message)
     }
 
+    /// Whether it is looked whether it has both ends of a message: not where many have joined, and an end of the message
+    /// has no cap, for then only the message itself can have brought that in.
+    fn is_looked_for(&self, message: &Message<P>, peers: &Peers<P>) -> bool {
+        self.joined.len() <= FEW_LOOKED
+            || (peers.egress(&message.origin).is_some()
+                && peers.ingress(&message.recipient).is_some())
+    }
+
     /// Takes in the ends of the message.
     fn join(
         &mut self,
@@ -179,7 +190,7 @@ impl<P: Peer> Component<P> {
         ensures whole { self.new.whole ≡ self.old.whole }
         ensures refused { IfErr result (λ e. e ≡ Error.OutOfMemory) }
     {
-        if self.has_both(message) {
+        if self.is_looked_for(message, peers) && self.has_both(message) {
             return Ok(());
         }
         self.joined.push(Joined::of(message, peers, list)?)?;
