@@ -3,7 +3,7 @@ use Rattle.row_table.proofs.Common.{◌≡◌, ℕ, zero, suc, ◌<◌, ◌≤�
 use Rattle.row_table.proofs.Common.{length, map, refl, sym, ap, ◌∙◌, arith, IfSome, IfNone, slice_get, cases_lt}
 use Rattle.row_table.proofs.Common.{slice_get_within, by_cases, IsNext, is_due_by, live, held, filled_from, IsPlaceOf}
 use Rattle.row_table.proofs.Common.{moment_of, Row, ◌==◌, slice_index_or, option_map, rules, list_any, get_or-map}
-use Rattle.row_table.proofs.Common.{has_come}
+use Rattle.row_table.proofs.Common.{has_come, IsSome}
 use Rattle.std.proofs.Common.{◌||◌, eq-eqb}
 use Rattle.std.proofs.lemmas.Bool.{cases_Bool, eqb-true, le-leb, leb-true}
 use Rattle.chains.specs.Places.{IsFirst}
@@ -12,6 +12,7 @@ use Rattle.least_moment.specs.Moments.{HasCome, IsDue, moment_at, IsNextDue, Non
 use Rattle.row_table.specs.Rows.{passes}
 use Rattle.row_table.specs.Slots.{IsNextSlot}
 use Rattle.row_table.proofs.Slots.{IsSlot, slot_at, held_at, slot_of_row, slots_below, places_below, some_same}
+use Rattle.row_table.proofs.Slots.{the_entry, slot_holds, length-filled}
 
 or_true : (a b : Bool) → b ≡ true → (a || b) ≡ true
 or_true true b e = refl
@@ -75,6 +76,16 @@ pub next_within : {T : Type 0} (test : Row T → Bool) (rows : List (Row T)) (fr
 next_within test rows from None next = tt
 next_within test rows from (Some at) next = search (rules, the_row, slice_get_within)
 
+-- a place of a slot is one of the places
+pub place_within : {T : Type 0} (slots : List (Option (Row T))) (filled : List ℕ) (slot at : Option ℕ)
+    → filled ≡ filled_from slots 0 → IsPlaceOf filled slot at → IfSome at (λ at. at < length (live slots))
+place_within slots filled slot None e is = tt
+place_within slots filled None (Some at) e is = absurd is
+place_within slots filled (Some slot) (Some at) e is =
+    let low = slice_get_within filled at slot is in
+    let long = ap length e ∙ length-filled slots 0 in
+    omega (arith, low, long)
+
 -- ---- an owner's rows
 
 module _ {T : Type 0} (owner_in : Row T → ℕ) (slots : List (Option (Row T))) (stands : List (Option ℕ)) (owner : ℕ)
@@ -91,6 +102,13 @@ module _ {T : Type 0} (owner_in : Row T → ℕ) (slots : List (Option (Row T)))
   pub stand_at : (slot : ℕ) → slice_index_or stands slot None ≡ option_map owner_in (held slots slot)
   stand_at slot = ap (λ stands. slice_index_or stands slot None) e ∙ get_or-map (option_map owner_in) slots slot None
 
+  some_owner : (o : Option (Row T)) → option_map owner_in o ≡ Some owner → IsSome o
+  some_owner None e = cc
+  some_owner (Some row) e = refl
+
+  pub owner_there : (slot : ℕ) → slice_index_or stands slot None ≡ Some owner → IsSome (held slots slot)
+  owner_there slot there = some_owner (held slots slot) (sym (stand_at slot) ∙ there)
+
   pub stands_if : (slot : ℕ) → passes (λ row. owner_in row == owner) (held slots slot) ≡ true
       → slice_index_or stands slot None ≡ Some owner
   stands_if slot there = stand_at slot ∙ owner_of_passed (held slots slot) there
@@ -100,6 +118,26 @@ module _ {T : Type 0} (owner_in : Row T → ℕ) (slots : List (Option (Row T)))
       → IsFirst (λ slot. slice_index_or stands slot None ≡ Some owner) from result
       → IsNextSlot (λ row. owner_in row == owner) slots from result
   next_of_owner = search (rules, first_same, owned, stand_at, stands_if)
+
+module _ {T : Type 0} (owner_in : Row T → ℕ) (slots : List (Option (Row T))) (stands : List (Option ℕ)) (at slot : ℕ)
+    (e : stands ≡ map (option_map owner_in) slots) (is : IsSlot slots at slot) where
+  -- a row stands in the chain of its owner
+  pub stands_there : (row : Row T) → slice_get (live slots) at ≡ Some row
+      → slice_index_or stands slot None ≡ Some (owner_in row)
+  stands_there row there =
+      stand_at owner_in slots stands 0 e slot ∙ ap (option_map owner_in) (sym (held_at slots at slot is) ∙ there)
+
+  -- what stands next in that chain is a row
+  pub next_held : (next : Option ℕ)
+      → ((owner : ℕ) → slice_index_or stands slot None ≡ Some owner
+      → IfSome next (λ other. slice_index_or stands other None ≡ Some owner))
+      → IfSome next (λ other. IsSome (held slots other))
+  next_held None same = tt
+  next_held (Some next) same =
+      let row = the_entry (held slots slot) (slot_holds slots at slot is) in
+      let owner = owner_in row.0 in
+      owner_there owner_in slots stands owner e next
+      (same owner (stand_at owner_in slots stands owner e slot ∙ ap (option_map owner_in) row.1))
 
 -- ---- moments
 

@@ -177,8 +177,7 @@ impl<T: Drop> RowTable<T> {
         ensures within { IfSome result (λ next. next < length self.now.now) }
     {
         let slot = self.parts.slot_at(at);
-        let (sender, _) = self.parts.owners_in(slot);
-        self.parts.place(self.parts.index.sent.next(sender, slot))
+        self.parts.place(self.parts.index.sent.next(slot))
     }
 
     /// The first row that an owner receives.
@@ -202,9 +201,7 @@ impl<T: Drop> RowTable<T> {
         ensures within { IfSome result (λ next. next < length self.now.now) }
     {
         let slot = self.parts.slot_at(at);
-        let (_, receiver) = self.parts.owners_in(slot);
-        self.parts
-            .place(self.parts.index.received.next(receiver, slot))
+        self.parts.place(self.parts.index.received.next(slot))
     }
 
     /// The first row from that place on whose moment has come by a time.

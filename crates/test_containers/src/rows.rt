@@ -15,7 +15,7 @@ pub fn rows(alloc: Global, chains: &Chains, owner: usize) -> Result<Vec<usize>, 
     let mut at = chains.first(owner);
     while let Some(row) = at {
         rows.push(row)?;
-        at = chains.next(owner, row);
+        at = chains.next(row);
     }
     Ok(rows)
 }
@@ -31,7 +31,7 @@ pub fn weight(chains: &Chains, owner: usize, weights: &[u64]) -> Option<u64>
     let mut at = chains.first(owner);
     while let Some(row) = at {
         all = all.checked_add(weights[row])?;
-        at = chains.next(owner, row);
+        at = chains.next(row);
     }
     Some(all)
 }
