@@ -97,11 +97,11 @@ impl<P: Peer> Flight<P> {
         ensures left { IfOk result (λ left. left ≡ (flight_at now self.now).left) }
         ensures refused { IfErr result (λ e. e ≡ Error.OutOfMemory) }
     {
-        let mut left = self.left.clone()?;
-        if self.rated {
-            left.sub_times(self.rate.number(), now.saturating_sub(self.since));
+        if !self.rated {
+            return Ok(self.left.clone()?);
         }
-        Ok(left)
+        let elapsed = now.saturating_sub(self.since);
+        Ok(self.left.left_after(self.rate.number(), elapsed)?)
     }
 
     /// The same message, with what is left at the moment of the last account, and `now` in the

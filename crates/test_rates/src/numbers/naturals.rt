@@ -133,24 +133,56 @@ const DRAINED: &str = "\
     0xe27655daa05f11193ceaaf308142c8ea \
         0xf8b7d0ac84773ce0ce4cda11b43c589bb120a366f0bbe9cf42f2dc05873f9bd066080f174c96d8e2\
         5cbd0ba3a1a6bcde3a124c647e02ff05b7c1dce27f7695f56fced11d2bd8a1e6047a8387cdde8d51 0 \
-        0xe27655daa05f11193ceaaf308142c8ea true";
+        0xe27655daa05f11193ceaaf308142c8ea true
+    0x9c9c31ae2f9390af4a3cc3052800e0423eb71643ac5c72715d25341edc5fe85e427f474114d9fce \
+        0x4dfc3c3b18c1c02ca946a04e9ff35ab32cc9d354d76fd97074406663d3e1ec74 1 \
+        0x9c9c31ae2f9390aa6a78ff539be4dd77aa4d1159ad26c73e9087fed165625156fe78e103d6bb35a true
+    0x10000000000000000000000000000000000000000000000000000000000000000000000000000000\
+        00000000000000005 0xffffffffffffffffffffffffffffffffffffffffffffffffffffffffffffffff 1 \
+        0xffffffffffffffffffffffffffffffff000000000000000000000000000000000000000000000000\
+        0000000000000006 true
+    0xd755df988d8960a49903f4cb5455eb3aa5ea88f7f53019588e822f9a9b04393e89fb1806dc3fe287\
+        2a162b8dc835698d 0xd755df988d8960a49903f4cb5455eb3aa5ea88f7f53019588e822f9a9b04393e89fb1806dc3fe287\
+        2a162b8dc8356986 1 0x7 true
+    0x70aaeecb8cef81315d5428b382dab13887abe520799957b6c300ad617a256f586c26b2663b96c2c0\
+        a9393b23fb97ede570ce4cc1deb4d199 \
+        0x70aaeecb8cef81315d5428b382dab1381b1ba5b4960e55ce9476c36e9cfce8d077925b84ebd65788\
+        65304a98408287b0b802c47fd7a878c1 1 \
+        0x6c903f6be38b01e82e89e9f2dd288687f49456e14fc06b384408f08bbb156634b8cb8842070c58d8 true
+    0x7b32f03b4bbf220aa7a5d06c63479d633db9fbc48ce34f1b85c100f3197ca28b4ddf1249a551d8ed\
+        237a2 0x812edf7b27ebd0041ecf2f657d21932c4e63bdd32d8a17835736b6c19f345fcd66696d1608d5a175 1000003 \
+        0x69b279ab2142b33c5624dafcee052f961de031b0bd23bff6b6984006043d69ac498958db56dcc03 true
+    0xffffffffffffffffffffffffffffffffffffffffffffffffffffffffffffffffffffffffffffffff\
+        ffffffffffffffffffffffffffffffffffffffffffffffff \
+        0x55555555555555555555555555555555555555555555555555555555555555555555555555555555\
+        555555555555555555555555555555555555555555555555 3 0x0 true
+    0x10000000000000000000000000000000000000000000000000000000000000000000000000000000\
+        000000000000000000000000000000000 0x1 18446744073709551615 \
+        0xffffffffffffffffffffffffffffffffffffffffffffffffffffffffffffffffffffffffffffffff\
+        ffffffffffffffff0000000000000001 true
+    0x69929633dd28e21a6711600ca7052b9d451260fca83e5d8fe141d4ad2c080f4b82c8298b35c73779 \
+        0xe92564b248e4b43de860322ffc62516c89bb75e420af07e994e5e19e8b2a32bbd0fcdf45e1defb12\
+        3b9cd8e7d86806e2 2 0x0 false";
 
-/// This is left, and the answer is whether the number covered what was taken.
+/// This is left, also as a new number, and the answer is whether the number covered what was taken.
 struct Drained;
 
 impl Case for Drained {
     fn holds(alloc: Global, words: &mut Words<'_>) -> Result<bool, Fail> {
         let mut n = next_natural(alloc, words)?;
         let rate = next_natural(alloc, words)?;
-        let answer = n.sub_times(&rate, number(words)?);
-        let is_left = reads(alloc, &n, word(words)?)?;
+        let by = number(words)?;
+        let left = n.left_after(&rate, by)?;
+        let answer = n.sub_times(&rate, by);
+        let digits = word(words)?;
+        let is_left = reads(alloc, &n, digits)? && reads(alloc, &left, digits)?;
         Ok(is_left && answer == truth(words)?)
     }
 }
 
 #[test]
 fn multiples_are_drained(rt: HostRuntime) -> Result<(), Fail> {
-    all_hold::<Drained>(&rt, DRAINED, 19)
+    all_hold::<Drained>(&rt, DRAINED, 27)
 }
 
 /// A number, what is taken from it, what is left, and whether it was all there.
