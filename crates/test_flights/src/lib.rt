@@ -8,6 +8,8 @@ mod clones;
 #[cfg(test)]
 mod idle;
 #[cfg(test)]
+mod joined;
+#[cfg(test)]
 mod kept;
 #[cfg(test)]
 mod long;
