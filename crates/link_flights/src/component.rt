@@ -1,9 +1,10 @@
 //! What an event touches: those in flight whose rates may change.
 //!
 //! Where some messages are done or new, those in flight that share a sender or a receiver with them
-//! may get other rates, if there is a cap on all that it sends or receives, and so on from these. But a message whose rate is below a level goes on as it
-//! is, and passes nothing on: below the least rate of what is done, and below the least share that a
-//! cap leaves to each of its users with what is new, filling goes as it went before.
+//! may get other rates, if there is a cap on all that it sends or receives, and so on from these. But a
+//! message whose rate is below a level goes on as it is, and passes nothing on: below the least rate of
+//! what is done, and below the least share that a cap leaves to each of its users with what is new,
+//! filling goes as it went before.
 ghost use Rattle.std.specs.Prelude.{◌≡◌, ℕ, ◌+◌, ◌<◌, ◌≤◌, ◌&&◌, ◌⊎◌, true, false, [], length, take};
 ghost use Rattle.std.specs.Prelude.{All, IfOk, IfErr, IfSome, OnOk, nat_le, Contains, slice_get, Some};
 ghost use Rattle.std.specs.List.{list_all, list_any};
