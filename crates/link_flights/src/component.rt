@@ -23,8 +23,9 @@ use crate::flight::Flight;
 use crate::flight_list::Flights;
 use crate::joined::Joined;
 use crate::rate::Rate;
+use crate::seen::Seen;
 use crate::space::Space;
-use crate::table::{End, Table};
+use crate::table::{End, Owners, Table};
 use fairness::error::Error;
 use fairness::peer::Peer;
 use link_pairs::known_pairs::Pairs;
@@ -37,9 +38,6 @@ use std::sync::Arc;
 
 /// So many messages a component has room for before their list has to move. Most join no more.
 const FEW_JOINED: usize = 8;
-
-/// Among so many messages that have joined one is looked for whatever its caps.
-const FEW_LOOKED: usize = 16;
 
 /// So many messages a component may join, and half of all in flight if that is more. Where there are
 /// more, it pays to rate all that is in flight.
@@ -72,6 +70,8 @@ pub(crate) struct Component<P> {
     /// The places of those in flight of which it has an end, in order of start, once they are known.
     /// Of all, they are all places, and stand nowhere.
     pub(crate) near: Vec<usize>,
+    /// Where those that have joined are guessed to stand.
+    pub(crate) seen: Seen,
 }
 
 impl<P: Drop> Drop for Component<P> {
@@ -82,10 +82,12 @@ impl<P: Drop> Drop for Component<P> {
             level,
             joined,
             near,
+            seen,
         } = self;
         drop(level);
         drop(joined);
         drop(near);
+        drop(seen);
     }
 }
 
@@ -97,13 +99,14 @@ impl<P: Peer> Component<P> {
         ensures near { IfOk result (λ component. component.near.items ≡ []) }
         ensures refused { IfErr result (λ e. e ≡ Error.OutOfMemory) }
     {
-        let (mut joined, near) = space.into_lists();
+        let (mut joined, near, seen) = space.into_lists();
         joined.reserve(FEW_JOINED)?;
         Ok(Component {
             whole: false,
             level: Rate::zero(alloc),
             joined,
             near,
+            seen,
         })
     }
 
@@ -114,12 +117,13 @@ impl<P: Peer> Component<P> {
         ensures level { result.level ≡ 0 }
         ensures near { result.near.items ≡ [] }
     {
-        let (joined, near) = space.into_lists();
+        let (joined, near, seen) = space.into_lists();
         Component {
             whole: true,
             level: Rate::zero(alloc),
             joined,
             near,
+            seen,
         }
     }
 
@@ -130,19 +134,50 @@ impl<P: Peer> Component<P> {
             level,
             joined,
             near,
+            seen,
         } = self;
         drop(level);
-        Space::of(joined, near)
+        Space::of(joined, near, seen)
     }
 
-    /// Whether it has that end of the message.
-    fn has_end(&self, end: End, message: &Message<P>) -> bool
-        ensures { result ≡ has_end P.cmp self.now end message.now.origin message.now.recipient }
+    /// Whether it is seen to have that end of the message, whose peers have these numbers.
+    fn has_end(&self, end: End, message: &Message<P>, numbers: Owners) -> bool
+        ensures { result ≡ true → has_end P.cmp self.now end message.now.origin message.now.recipient ≡ true }
     {
-        self.whole || any_joins(end, message, &self.joined)
+        self.whole
+            || match self.seen_at(end, numbers, self.joined.len()) {
+                Some(one) => one.joins(end, message),
+                None => false,
+            }
+    }
+
+    /// Whether one of the first so many that have joined is seen to join others by that end, and to share it with
+    /// another that has joined.
+    fn was_joined(&self, end: End, other: &Joined<P>, count: usize) -> bool
+        ensures { result ≡ true → list_any (λ j. have_end j.ends end
+            && share P.cmp end other.now.message.value j.message.value) (take count self.now.joined.items) ≡ true }
+    {
+        match self.seen_at(end, other.numbers, count) {
+            Some(one) => one.ends.have(end) && share(end, &other.message, &one.message),
+            None => false,
+        }
+    }
+
+    /// One of the first so many that have joined: where one with that peer at that end is guessed to stand.
+    #[inline(always)]
+    fn seen_at(&self, end: End, numbers: Owners, count: usize) -> Option<&Joined<P>>
+        ensures { IfSome result (λ one. Contains (take count self.now.joined.items) one.now) }
+    {
+        let place = self.seen.place(end, numbers.at(end)?)?;
+        if place < count {
+            self.joined.get(place)
+        } else {
+            None
+        }
     }
 
     /// Whether the message in flight goes on at its rate.
+    #[inline(always)]
     pub(crate) fn keeps(&self, one: &Flight<P>) -> bool
         ensures { result ≡ keeps self.now (flight_at 0 one.now) }
     {
@@ -161,25 +196,11 @@ impl<P: Peer> Component<P> {
         }
     }
 
-    /// Whether it has both ends of the message.
-    fn has_both(&self, message: &Message<P>) -> bool
-        ensures { result ≡ has_both P.cmp self.now message.now }
-    {
-        self.has_end(End::Origin, message) && self.has_end(End::Recipient, message)
-    }
-
-    /// Whether it is looked whether it has both ends of a message: not where many have joined, and an end of the message
-    /// has no cap, for then only the message itself can have brought that in.
-    fn is_looked_for(&self, message: &Message<P>, peers: &Peers<P>) -> bool {
-        self.joined.len() <= FEW_LOOKED
-            || (peers.egress(&message.origin).is_some()
-                && peers.ingress(&message.recipient).is_some())
-    }
-
-    /// Takes in the ends of the message.
+    /// Takes in the ends of the message, whose peers have these numbers.
     fn join(
         &mut self,
         message: &Arc<Message<P>>,
+        numbers: Owners,
         peers: &Peers<P>,
         list: &Table<P>,
     ) -> Result<(), Error>
@@ -191,10 +212,15 @@ impl<P: Peer> Component<P> {
         ensures whole { self.new.whole ≡ self.old.whole }
         ensures refused { IfErr result (λ e. e ≡ Error.OutOfMemory) }
     {
-        if self.is_looked_for(message, peers) && self.has_both(message) {
+        let sends = self.has_end(End::Origin, message, numbers);
+        let receives = self.has_end(End::Recipient, message, numbers);
+        if sends && receives {
             return Ok(());
         }
-        self.joined.push(Joined::of(message, peers, list)?)?;
+        let place = self.joined.len();
+        self.joined
+            .push(Joined::of(message, numbers, peers, list)?)?;
+        self.seen.note(numbers, !sends, !receives, place);
         Ok(())
     }
 
@@ -378,14 +404,17 @@ impl<P: Peer> Flights<P> {
         ensures refused { IfErr result (λ e. e ≡ Error.OutOfMemory) }
     {
         for at in 0..done.len() {
-            component.join(&done[at], peers, &self.list)?;
+            let message = &done[at];
+            component.join(message, self.list.owners_of(message), peers, &self.list)?;
         }
         for at in self.settled..self.list.len() {
-            component.join(&self.list.at(at).message, peers, &self.list)?;
+            let numbers = self.list.owners_at(at);
+            component.join(&self.list.at(at).message, numbers, peers, &self.list)?;
         }
         let loose = self.loose.as_slice();
         for at in 0..loose.len() {
-            component.join(&loose[at], peers, &self.list)?;
+            let message = &loose[at];
+            component.join(message, self.list.owners_of(message), peers, &self.list)?;
         }
         Ok(())
     }
@@ -446,7 +475,7 @@ impl<P: Peer> Flights<P> {
     {
         if let Some(one) = self.list.get(at) {
             if !component.keeps(one) {
-                component.join(&one.message, peers, &self.list)?;
+                component.join(&one.message, self.list.owners_at(at), peers, &self.list)?;
             }
         }
         Ok(())
@@ -511,7 +540,7 @@ impl<P: Peer> Flights<P> {
         if !joined.ends.have(end) {
             return Ok(());
         }
-        if shares_with_any(end, &joined.message, &component.joined[..number]) {
+        if component.was_joined(end, joined, number) {
             return Ok(());
         }
         self.join_end(end, &joined.message, peers, component, noted)?;
@@ -555,20 +584,6 @@ impl<P: Peer> Flights<P> {
         }
         Ok(())
     }
-}
-
-/// Whether one of those that have joined brings in that end of the message.
-fn any_joins<P: Peer>(end: End, message: &Message<P>, joined: &[Joined<P>]) -> bool
-    ensures { result ≡ list_any (λ j. joins P.cmp j end message.now.origin message.now.recipient) joined.now }
-{
-    joined.iter().any(|one| one.joins(end, message))
-}
-
-/// Whether one of those that have joined joins others by that end, and shares it with the message.
-fn shares_with_any<P: Peer>(end: End, message: &Message<P>, joined: &[Joined<P>]) -> bool
-    ensures { result ≡ list_any (λ j. have_end j.ends end && share P.cmp end message.now j.message.value) joined.now }
-{
-    joined.iter().any(|one| one.ends.have(end) && share(end, message, &one.message))
 }
 
 /// Whether two messages go from one origin, or to one recipient.

@@ -3,7 +3,7 @@ ghost use Rattle.std.specs.Prelude.{◌≡◌, [], IfOk, IfErr};
 ghost use Rattle.link_pairs.specs.Pairs.CapsOf.{caps_of};
 ghost use Rattle.link_flights.specs.Flights.Components.{have_end, joins, IsTied};
 
-use crate::table::{End, Table};
+use crate::table::{End, Owners, Table};
 use fairness::error::Error;
 use fairness::peer::Peer;
 use link_pairs::message::Message;
@@ -37,13 +37,19 @@ impl Ends {
 pub(crate) struct Joined<P> {
     pub(crate) message: Arc<Message<P>>,
     pub(crate) ends: Ends,
+    /// The numbers of its sender and of its receiver, where these are known: by them others are guessed at.
+    pub(crate) numbers: Owners,
 }
 
 impl<P: Drop> Drop for Joined<P> {
     /// Lets go of the message.
     #[inline(always)]
     fn drop(self) {
-        let Joined { message, ends: _ } = self;
+        let Joined {
+            message,
+            ends: _,
+            numbers: _,
+        } = self;
         drop(message);
     }
 }
@@ -53,6 +59,7 @@ impl<P: Peer> Joined<P> {
     /// its sender has more than one message in flight.
     pub(crate) fn of(
         message: &Arc<Message<P>>,
+        numbers: Owners,
         peers: &Peers<P>,
         list: &Table<P>,
     ) -> Result<Joined<P>, Error>
@@ -72,6 +79,7 @@ impl<P: Peer> Joined<P> {
         Ok(Joined {
             message: message.clone()?,
             ends,
+            numbers,
         })
     }
 
@@ -84,6 +92,7 @@ impl<P: Peer> Joined<P> {
         Ok(Joined {
             message: self.message.clone()?,
             ends: self.ends,
+            numbers: self.numbers,
         })
     }
 

@@ -18,6 +18,7 @@ mod numbers;
 mod rate;
 mod rates;
 pub mod reading;
+mod seen;
 mod sides;
 mod space;
 pub mod table;

@@ -301,7 +301,7 @@ impl<P: Peer> Flights<P> {
         let mut users = mem::replace(room, Vec::new(self.alloc));
         users.clear();
         let mut side = Side { cap, users };
-        let mut next = self.list.first_at(end, message);
+        let mut next = self.list.first_beside(end, at);
         while let Some(at) = next {
             self.count_one(end, at, component, numbers, &mut side)?;
             next = self.list.next_at(end, at);

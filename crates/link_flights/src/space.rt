@@ -2,6 +2,7 @@
 ghost use Rattle.std.specs.Prelude.{◌≡◌, []};
 
 use crate::joined::Joined;
+use crate::seen::Seen;
 use std::alloc::Global;
 use std::marker::Model;
 
@@ -9,14 +10,16 @@ use std::marker::Model;
 pub(crate) struct Space<P> {
     joined: Vec<Joined<P>>,
     near: Vec<usize>,
+    seen: Seen,
 }
 
 impl<P: Drop> Drop for Space<P> {
     /// Lets go of what it holds.
     fn drop(self) {
-        let Space { joined, near } = self;
+        let Space { joined, near, seen } = self;
         drop(joined);
         drop(near);
+        drop(seen);
     }
 }
 
@@ -32,26 +35,28 @@ impl<P: Drop> Space<P> {
         Space {
             joined: Vec::new(alloc),
             near: Vec::new(alloc),
+            seen: Seen::new(alloc),
         }
     }
 
     /// The room of these lists. What stands in the first is let go.
-    pub(crate) fn of(mut joined: Vec<Joined<P>>, near: Vec<usize>) -> Space<P> {
+    pub(crate) fn of(mut joined: Vec<Joined<P>>, near: Vec<usize>, seen: Seen) -> Space<P> {
         joined.clear();
-        Space { joined, near }
+        Space { joined, near, seen }
     }
 
     /// The lists, in which nothing stands any more.
-    pub(crate) fn into_lists(self) -> (Vec<Joined<P>>, Vec<usize>)
+    pub(crate) fn into_lists(self) -> (Vec<Joined<P>>, Vec<usize>, Seen)
         ensures joined { result.0.items ≡ [] }
         ensures near { result.1.items ≡ [] }
     {
         let Space {
             mut joined,
             mut near,
+            seen,
         } = self;
         joined.clear();
         near.clear();
-        (joined, near)
+        (joined, near, seen)
     }
 }

@@ -29,6 +29,24 @@ pub(crate) enum End {
     Recipient,
 }
 
+/// The numbers of who sends and who receives a message, as far as they are known.
+#[derive(Clone, Copy)]
+pub(crate) struct Owners {
+    sender: Option<usize>,
+    receiver: Option<usize>,
+}
+
+impl Owners {
+    /// The number of the peer at that end.
+    #[inline(always)]
+    pub(crate) fn at(self, end: End) -> Option<usize> {
+        match end {
+            End::Origin => self.sender,
+            End::Recipient => self.receiver,
+        }
+    }
+}
+
 /// Whether a row has that sender and that receiver. Those of the sender and those of the receiver are gone through side
 /// by side, to the end of the fewer.
 fn has_row<T: Drop>(rows: &RowTable<T>, sender: usize, receiver: usize) -> bool
@@ -160,12 +178,23 @@ impl<P: Peer> Table<P> {
         }
     }
 
-    /// The numbers of the sender and of the receiver of the one at that place.
-    pub(crate) fn numbers_at(&self, at: usize) -> (usize, usize)
+    /// The numbers of the peers of the one at that place.
+    pub(crate) fn owners_at(&self, at: usize) -> Owners
         requires { at < length self.now.items }
     {
         let row = self.rows.at(at);
-        (row.sender, row.receiver)
+        Owners {
+            sender: Some(row.sender),
+            receiver: Some(row.receiver),
+        }
+    }
+
+    /// The numbers of the peers of a message, as far as they have any.
+    pub(crate) fn owners_of(&self, message: &Message<P>) -> Owners {
+        Owners {
+            sender: self.numbers.number(&message.origin),
+            receiver: self.numbers.number(&message.recipient),
+        }
     }
 
     /// Whether the one at that place is delivered. Its row tells, so its message is not looked at.
@@ -267,6 +296,21 @@ impl<P: Peer> Table<P> {
             End::Recipient => self
                 .rows
                 .first_received(self.numbers.number(&message.recipient)?),
+        }
+    }
+
+    /// The first place at which one shares that end with the one at that place.
+    #[inline(always)]
+    pub(crate) fn first_beside(&self, end: End, at: usize) -> Option<usize>
+        requires { at < length self.now.items }
+        ensures { (d : AnyFlight P) → IsNextPlace
+            (λ one. share P.cmp end (slice_index_or self.now.items at d).message.value one.message.value)
+            self.now.items 0 result }
+    {
+        let row = self.rows.at(at);
+        match end {
+            End::Origin => self.rows.first_sent(row.sender),
+            End::Recipient => self.rows.first_received(row.receiver),
         }
     }
 

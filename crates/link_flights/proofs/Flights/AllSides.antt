@@ -10,7 +10,7 @@ use Rattle.link_flights.proofs.Common.{second_of_both, In, in_from_contains, con
 use Rattle.link_flights.proofs.Common.{in_right, in_either, in_map, from_map, from_filter, get_from_map}
 use Rattle.link_flights.proofs.Common.{same_peer_itself, message_of, Component, End, Origin, Recipient, is_of, those_of}
 use Rattle.link_flights.proofs.Common.{UnitFlight, sent_messages, flow_in_flight, end_subject, link_subject, kept_load}
-use Rattle.link_flights.proofs.Common.{left_of, left_caps, flows_of, IsSideOf, replicate, flow_parts, same_subject}
+use Rattle.link_flights.proofs.Common.{left_of, left_caps, flows_of, IsSideOf, flow_parts, same_subject}
 use Rattle.link_flights.proofs.Common.{one_cap, same_limits, AddsSides}
 use Rattle.fairness.specs.Fairness.UnderCaps.{IsCappedSide}
 use Rattle.fairness.proofs.Lists.Members.{none_passes, any_fails}
@@ -112,21 +112,6 @@ module _ {P : Type 0} (cmp : P → P → Ordering) (order : IsTotalOrder cmp) (l
 
     abbrev HasAdded : List Side → List Side → List Bool → ℕ → Type 0
     HasAdded old new has_side number = HaveAdded cmp left flows subject old new has_side number
-
-    none_noted : (n k : ℕ) → slice_get (replicate n false) k ≡ Some true → ⊥
-    none_noted zero k is = none-some true is
-    none_noted (suc n) zero is = false≢true (same_Some false true is)
-    none_noted (suc n) (suc k) is = none_noted n k is
-
-    pub none_added : (sides : List Side) (n : ℕ) → HasAdded sides sides (replicate n false) 0
-    none_added sides n = record {
-      still = λ side h. h;
-      only = λ side h. inl h;
-      each = λ k is. elim is [
-        | inl below ↦ absurd (omega (arith, below))
-        | inr noted ↦ absurd (none_noted n k noted)
-      ];
-    }
 
     module _ (old new : List Side) (has_side : List Bool) (number : ℕ) (h : HasAdded old new has_side number) where
       next_or_before : (k : ℕ) → k < number + 1 → (k < number) ⊎ (k ≡ number)

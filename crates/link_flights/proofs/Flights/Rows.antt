@@ -1,9 +1,9 @@
 -- What is in flight as rows: what is found among rows is found among messages.
-use Rattle.link_flights.proofs.Common.{add-one, ◌+◌, ◌≡◌, ℕ, zero, suc, ◌<◌, ◌≤◌, Bool, true, false, cond, ◌&&◌, ◌||◌}
+use Rattle.link_flights.proofs.Common.{◌≡◌, ℕ, zero, suc, ◌<◌, Bool, true, false, cond, ◌&&◌, ◌||◌}
 use Rattle.link_flights.proofs.Common.{List, [], ◌∷◌, ◌++◌, length, ◌-◌, get_or, take, drop, Option, Some, None, IfSome}
 use Rattle.link_flights.proofs.Common.{All, refl, sym, ap, ap₂, subst, ◌∙◌, arith, list_any, remove, Ordering}
 use Rattle.link_flights.proofs.Common.{IsTotalOrder, map-append, length-map, All-append, All-weaker}
-use Rattle.link_flights.proofs.Common.{get_or_from_slice_get, first_of_both, same_peer, number_of, is_due_by, Flight}
+use Rattle.link_flights.proofs.Common.{get_or_from_slice_get, same_peer, number_of, is_due_by, Flight}
 use Rattle.link_flights.proofs.Common.{End, Origin, Recipient, has_come, IsNextPlace, PassesNowhere, items_of, IsRow}
 use Rattle.link_flights.proofs.Common.{share, All-take, list_any_at, number_stays, with_item, AreKept, Line}
 use Rattle.std.proofs.Common.{eqb, Result, Ok, Err, OnOk, OnErr}
@@ -284,25 +284,24 @@ module _ {P : Type 0} (given_up : Bool) (rows : Versions (Flight P)) (line : Lin
     number_at Origin row is = is.sender
     number_at Recipient row is = is.receiver
 
-    -- the next row of its owner is the next message that shares the end
-    pub next_shared : (end : End) (at : ℕ) (next : Option ℕ) → at < length line.items
+    -- the first row of the owner of one from a place on is the first message that shares the end with that
+    pub shared_from : (end : End) (at from : ℕ) (next : Option ℕ) → at < length line.items
         → ((row : Row (Flight P)) → slice_get rows.now at ≡ Some row
-        → IsNext (is_owned_by cmp total end (owner_at end row)) rows.now (suc at) next)
+        → IsNext (is_owned_by cmp total end (owner_at end row)) rows.now from next)
         → IfSome next (λ at. at < length rows.now) → (d : Flight P)
-        → IsNextPlace (is_sharing end (get_or line.items at d).message.value) line.items (at + 1) next
-    next_shared end at next low ahead within d =
+        → IsNextPlace (is_sharing end (get_or line.items at d).message.value) line.items from next
+    shared_from end at from next low ahead within d =
         let here = row_seen at low in
         let row = here.0.row in
         let m = row.item.message.value in
         let is = number_at end row (of_row (IsRow cmp peers) rows.now at here.1 here.0 all) in
         let found = next-items (is_owned_by cmp total end (owner_at end row)) (is_sharing end m) rows.now
-        (owned cmp total end peers m (owner_at end row) rows.now all is) (suc at) next (ahead row here.0.get) within in
+        (owned cmp total end peers m (owner_at end row) rows.now all is) from next (ahead row here.0.get) within in
         let same : items_of rows.now ≡ line.items = kept (not_given_up at low) in
-        rw add-one
-        (subst (λ items. IsNextPlace (is_sharing end (get_or items at d).message.value) items (suc at) next) same
+        subst (λ items. IsNextPlace (is_sharing end (get_or items at d).message.value) items from next) same
         (subst
-        (λ (one : Flight P). IsNextPlace (is_sharing end one.message.value) (items_of rows.now) (suc at) next)
-        (sym (here.0.item_or d)) found))
+        (λ (one : Flight P). IsNextPlace (is_sharing end one.message.value) (items_of rows.now) from next)
+        (sym (here.0.item_or d)) found)
 
     -- whether one is delivered, as its row tells
     pub row_delivered : (at : ℕ) → at < length line.items → (row : Row (Flight P)) → slice_get rows.now at ≡ Some row

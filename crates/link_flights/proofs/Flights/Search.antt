@@ -7,7 +7,7 @@ use Rattle.link_flights.proofs.Common.{take_all, All-contains, All-weaker, list_
 use Rattle.link_flights.proofs.Common.{get_or_from_slice_get, slice_get_within, same_peer, by_bool, first_of_both}
 use Rattle.link_flights.proofs.Common.{second_of_both, In, get_in, in_from_contains, contains_from_in, all_passed}
 use Rattle.link_flights.proofs.Common.{Component, Flight, UnitFlight, flight_at, flights_at, HaveRates, keeps, has_both}
-use Rattle.link_flights.proofs.Common.{same_peer_itself, touches, suits, is_closed, AreSuited, AreTouched, those_near, Ascends, share}
+use Rattle.link_flights.proofs.Common.{touches, suits, is_closed, AreSuited, AreTouched, those_near, Ascends, share}
 use Rattle.link_flights.proofs.Common.{length-append, End, Origin, Recipient, is_sender, is_receiver, AreAllListed, PassesNowhere}
 use Rattle.link_flights.proofs.Common.{PassesFirstAt, IsNextPlace, list_any_at, IsTouched, near_of, AreNear, SharesAt}
 use Rattle.link_flights.proofs.Common.{SharesEndAt, AreListedAt, StartsWith, AreStillListed, AreListed, AllNewTouch}
@@ -98,29 +98,6 @@ fewer_ahead test xs at next (Some to) is within ahead =
     omega (arith, within, ap (behind xs) is, ahead.low, ahead.high)
 
 module _ {P : Type 0} (cmp : P → P → Ordering) where
-  -- one that has joined brings in both its own ends
-  joins_itself : IsTotalOrder cmp → (j : Joined P) (end : End)
-      → joins cmp j end j.message.value.origin j.message.value.recipient ≡ true
-  joins_itself order j Origin =
-      and_from _ _ (same_peer_itself cmp order j.message.value.origin)
-      (either (have_end j.ends Origin) _ (same_peer_itself cmp order j.message.value.recipient))
-  joins_itself order j Recipient =
-      and_from _ _ (same_peer_itself cmp order j.message.value.recipient)
-      (either (have_end j.ends Recipient) _ (same_peer_itself cmp order j.message.value.origin))
-
-  -- what has joined last has both its ends
-  pub last_joined : IsTotalOrder cmp → (old new : Component P) (j : Joined P)
-      → new.joined.items ≡ old.joined.items ++ j ∷ [] → has_both cmp new j.message.value ≡ true
-  last_joined order old new j is = and_from _ _ (has Origin) (has Recipient)
-    where
-      has : (end : End) → has_end cmp new end j.message.value.origin j.message.value.recipient ≡ true
-      has end =
-          let m = j.message.value in
-          let test : Joined P → Bool = λ k. joins cmp k end m.origin m.recipient in
-          either new.whole _
-          (ap (list_any test) is ∙ list_any-append test old.joined.items (j ∷ [])
-          ∙ either (list_any test old.joined.items) _ (ap (λ b. b || false) (joins_itself order j end)))
-
   -- ---- an end of each of those that have come
 
   -- it has an end of each from a place up to another

@@ -122,6 +122,10 @@ module _ {X : Type 0} (test : X → Bool) where
       let p = place_is_of xs k.0 at k.1 in
       (p.x, p.there, p.passes)
 
+  -- a place that is listed is one of the list
+  pub listed_within : (xs : List X) (at : ℕ) → Contains (places_of test 0 xs) at → at < length xs
+  listed_within xs at listed = let x = what_is_listed xs at listed in slice_get_within xs at x.0 x.1
+
   -- one that passes is listed
   listed_from : (n : ℕ) (xs : List X) (at : ℕ) (x : X) → slice_get xs at ≡ Some x → test x ≡ true
       → Contains (places_of test n xs) (n + at)
@@ -636,8 +640,7 @@ module _ {P : Type 0} (cmp : P → P → Ordering) (component : Component P) (li
   pub places_within : All (λ at. at < length list) (places_of (λ f. is_of cmp component (flight_at 0 f)) 0 list)
   places_within =
       let rated : Flight P → Bool = λ f. is_of cmp component (flight_at 0 f) in
-      All-from_contains (λ at. at < length list) (places_of rated 0 list) (λ at listed.
-      let x = what_is_listed rated list at listed in slice_get_within list at x.0 x.1)
+      All-from_contains (λ at. at < length list) (places_of rated 0 list) (listed_within rated list)
 
 -- ---- the places of those that are rated anew
 

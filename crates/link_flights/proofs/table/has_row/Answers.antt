@@ -1,4 +1,4 @@
-use Rattle.link_flights.proofs.Common.{◌≡◌, ◌&&◌, true, sym, ap₂, subst, eq-eqb}
+use Rattle.link_flights.proofs.Common.{◌&&◌, sym, ap₂, subst, eq-eqb}
 use Rattle.row_table.specs.Rows.{is_sent_by, is_received_by}
 use Rattle.link_flights.proofs.Flights.Rows.{IsWalk, walk_found, walk_ends}
 use Rattle.link_flights.proofs.table.has_row.Goals as goal

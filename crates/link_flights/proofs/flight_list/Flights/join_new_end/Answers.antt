@@ -1,4 +1,4 @@
-use Rattle.link_flights.proofs.Common.{[], inl, inr, append-nil, take, sym, ap₂, ◌∙◌, ◌&&◌, list_any, share, have_end}
+use Rattle.link_flights.proofs.Common.{[], inl, inr, append-nil, take, sym, ◌∙◌, have_end}
 use Rattle.link_flights.proofs.Common.{false≢true, true, ◌≡◌, ◌⊎◌, Contains, subst, All-weaker, SharesEndAt}
 use Rattle.link_pairs.specs.declared.message.Message.{Message}
 use Rattle.link_flights.specs.Flights.Components.{HasListedEnd}
@@ -16,22 +16,20 @@ returns-then-not-have-clause-listed g c = record {
 pub returns-then-not-have-clause-joined : goal.returns-then-not-have-clause-joined
 returns-then-not-have-clause-joined g c = ([], sym (append-nil c.args.component.now.joined.items))
 
-pub returns-then-shares_with_any-clause-listed : goal.returns-then-shares_with_any-clause-listed
-returns-then-shares_with_any-clause-listed g c =
+pub returns-then-was_joined-clause-listed : goal.returns-then-was_joined-clause-listed
+returns-then-was_joined-clause-listed g c =
     let old = c.args.component.now in
     let m = c.args.joined.now.message.value in
     record {
       listed = λ via. listed_before g.P.Ord.cmp g.met.P.Ord.total c.args.end m c.args.self.now.list.items
           (take c.args.number old.joined.items) old.near.items c.requires.before
-          (ap₂ (λ n js. list_any (λ j. have_end j.ends c.args.end && share g.P.Ord.cmp c.args.end n j.message.value)
-          (take c.args.number js)) (sym c.deref.ensures) (sym c.deref-2.ensures.value)
-          ∙ sym c.if-shares_with_any.ensures);
+          (c.was_joined.ensures c.if-was_joined.true);
       more = λ at here. here;
       only = λ k d low. inl (Contains-get_or old.near.items k d low);
     }
 
-pub returns-then-shares_with_any-clause-joined : goal.returns-then-shares_with_any-clause-joined
-returns-then-shares_with_any-clause-joined g c = ([], sym (append-nil c.args.component.now.joined.items))
+pub returns-then-was_joined-clause-joined : goal.returns-then-was_joined-clause-joined
+returns-then-was_joined-clause-joined g c = ([], sym (append-nil c.args.component.now.joined.items))
 
 pub returns-clause-listed : goal.returns-clause-listed
 returns-clause-listed g c =
@@ -42,12 +40,12 @@ returns-clause-listed g c =
     let e = c.in_ok-join_end.ensures in
     let via = sym c.have.ensures ∙ c.if-not-have.false in
     let ends = c.args.joined.now.ends in
-    subst (λ (m : Message g.row.P.Denot). HasListedEnd cmp c.args.end ends m list old new) c.deref-3.ensures
+    subst (λ (m : Message g.row.P.Denot). HasListedEnd cmp c.args.end ends m list old new) c.deref.ensures
     (record {
       listed = λ is. e.listed;
       more = e.more;
-      only = All-weaker (λ p. Contains old p ⊎ SharesEndAt cmp c.args.end c.deref-3.result.now list p)
+      only = All-weaker (λ p. Contains old p ⊎ SharesEndAt cmp c.args.end c.deref.result.now list p)
           (λ p. Contains old p
-          ⊎ ((have_end ends c.args.end ≡ true) × SharesEndAt cmp c.args.end c.deref-3.result.now list p))
+          ⊎ ((have_end ends c.args.end ≡ true) × SharesEndAt cmp c.args.end c.deref.result.now list p))
           (λ p is. elim is [ inl was ↦ inl was | inr shares ↦ inr (via, shares) ]) new e.only;
     })

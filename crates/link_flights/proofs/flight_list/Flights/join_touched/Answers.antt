@@ -13,7 +13,7 @@ loop-at-preserved g c =
     let inside : c.loop-at.at < length done = omega (arith, c.loop-at-test.true, c.len-at-end.ensures) in
     let (all, still, near, level, whole) = c.loop-at.invariant in (
       has_one_more g.P.Ord.cmp c.loop-at.component c.join.new.self more.joined join.whole done c.loop-at.at
-          c.index.result.now inside c.index.ensures all more.has,
+          c.index-message.result.now inside c.index-message.ensures all more.has,
       λ tied. more.tied (still tied),
       join.near ∙ near,
       join.level ∙ level,
@@ -105,8 +105,8 @@ returns-clause-done g c = c.loop-at-3.invariant.0
 pub returns-clause-new : goal.returns-clause-new
 returns-clause-new g c = c.loop-at-3.invariant.1
 
-pub index-requires : goal.index-requires
-index-requires g c = omega (arith, c.loop-at-test.true, c.len-at-end.ensures)
+pub index-message-requires : goal.index-message-requires
+index-message-requires g c = omega (arith, c.loop-at-test.true, c.len-at-end.ensures)
 
 pub at-requires : goal.at-requires
 at-requires g c = omega (arith, c.loop-at-2-test.true, c.len-at-end-2.ensures)

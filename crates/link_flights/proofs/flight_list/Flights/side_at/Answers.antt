@@ -1,28 +1,27 @@
 use Rattle.link_flights.proofs.Common.{◌≡◌, ◌-◌, ◌*◌, Some, sym, ap, ◌∙◌, subst, option_map, arith, Contains}
-use Rattle.link_flights.proofs.Common.{get_or_from_slice_get, slice_get_within, cap_of, side_of, caps_of, Flight, is_of}
+use Rattle.link_flights.proofs.Common.{get_or_from_slice_get, cap_of, side_of, caps_of, Flight, is_of}
 use Rattle.link_flights.proofs.Common.{flight_at, flights_at, flow_sent, uses_end, end_subject, kept_load, IsNextPlace}
 use Rattle.link_flights.proofs.Common.{share, true≢false}
 use Rattle.link_flights.proofs.Flights.AllSides.{cap_left}
 use Rattle.link_flights.proofs.Flights.Places.{one_there}
-use Rattle.link_flights.proofs.Flights.Sides.{HasCounted, what_is_listed, counting_starts, next_within, next_shares, counted_here}
+use Rattle.link_flights.proofs.Flights.Sides.{HasCounted, what_is_listed, listed_within, counting_starts, next_within, next_shares, counted_here}
 use Rattle.link_flights.proofs.Flights.Sides.{counts_on, counted_all, fewer_to_count}
 use Rattle.link_flights.proofs.flight_list.Flights.side_at.Goals as goal
 
 pub uses-requires : goal.uses-requires
 uses-requires g c =
-    let cmp = g.P.Ord.cmp in
-    let self = c.args.self.now in
-    let x = what_is_listed (λ (f : Flight g.row.P.Denot). is_of cmp c.args.component.now (flight_at 0 f)) self.list.items c.args.at
-    (subst (λ ps. Contains ps c.args.at) c.requires.places c.requires.at) in
-    slice_get_within self.list.items c.args.at x.0 x.1
+    listed_within (λ (f : Flight g.row.P.Denot). is_of g.P.Ord.cmp c.args.component.now (flight_at 0 f))
+    c.args.self.now.list.items c.args.at (subst (λ ps. Contains ps c.args.at) c.requires.places c.requires.at)
+
+pub first_beside-next-requires : goal.first_beside-next-requires
+first_beside-next-requires g c =
+    listed_within (λ (f : Flight g.row.P.Denot). is_of g.P.Ord.cmp c.args.component.now (flight_at 0 f))
+    c.args.self.now.list.items c.args.at (subst (λ ps. Contains ps c.args.at) c.requires.places c.requires.at)
 
 pub at-requires : goal.at-requires
 at-requires g c =
-    let cmp = g.P.Ord.cmp in
-    let self = c.args.self.now in
-    let x = what_is_listed (λ (f : Flight g.row.P.Denot). is_of cmp c.args.component.now (flight_at 0 f)) self.list.items c.args.at
-    (subst (λ ps. Contains ps c.args.at) c.requires.places c.requires.at) in
-    slice_get_within self.list.items c.args.at x.0 x.1
+    listed_within (λ (f : Flight g.row.P.Denot). is_of g.P.Ord.cmp c.args.component.now (flight_at 0 f))
+    c.args.self.now.list.items c.args.at (subst (λ ps. Contains ps c.args.at) c.requires.places c.requires.at)
 
 pub returns-then-not-uses-clause-none : goal.returns-then-not-uses-clause-none
 returns-then-not-uses-clause-none g c none one pairs there uses =
@@ -46,15 +45,13 @@ loop-next-init g c one there =
     let cmp = g.P.Ord.cmp in
     let self = c.args.self.now in
     let all = c.in_ok-cap.cap in
-    let is : c.at.result.now ≡ one =
-    c.at.ensures ∙ get_or_from_slice_get self.list.items c.args.at one c.at.result.now there in
-    let m : c.deref-2.result.now ≡ one.message.value =
-    c.deref-2.ensures ∙ ap (λ (f : Flight _). f.message.value) is in
     subst (λ users. HasCounted cmp c.args.end one.message.value c.args.component.now self.at self.list.items all
-    c.first_at-next.result (record { cap = all; users = users })) (sym c.clear.ensures.items)
-    (counting_starts cmp c.args.end one.message.value c.args.component.now self.at self.list.items all c.first_at-next.result
-    (subst (λ n. IsNextPlace (λ other. share cmp c.args.end n other.message.value) self.list.items 0 c.first_at-next.result) m
-    c.first_at-next.ensures))
+    c.first_beside-next.result (record { cap = all; users = users })) (sym c.clear.ensures.items)
+    (counting_starts cmp c.args.end one.message.value c.args.component.now self.at self.list.items all
+    c.first_beside-next.result (subst
+    (λ (f : Flight _). IsNextPlace (λ other. share cmp c.args.end f.message.value other.message.value) self.list.items 0
+    c.first_beside-next.result) (get_or_from_slice_get self.list.items c.args.at one one there)
+    (c.first_beside-next.ensures one)))
 
 pub count_one-requires-clause-within : goal.count_one-requires-clause-within
 count_one-requires-clause-within g c =

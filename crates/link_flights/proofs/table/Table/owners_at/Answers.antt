@@ -1,5 +1,5 @@
 use Rattle.link_flights.proofs.Flights.Rows.{row_seen}
-use Rattle.link_flights.proofs.table.Table.numbers_at.Goals as goal
+use Rattle.link_flights.proofs.table.Table.owners_at.Goals as goal
 
 pub at-row-requires : goal.at-row-requires
 at-row-requires g c =
