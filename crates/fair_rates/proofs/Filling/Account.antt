@@ -60,13 +60,12 @@ module _ (side : Side) (scale : ℕ) (frozen : ℕ → Option ℕ) (slack : ℕ)
     );
   }
 
-  -- none is left: all are frozen
-  pub all_counted : length rising ≡ 0 → AllFrozen frozen side.users
-  all_counted none =
+  -- the others are frozen, too: all are
+  pub all_counted : AllFrozen frozen rising → AllFrozen frozen side.users
+  all_counted others =
       All-permutation (λ flow. IsSome (frozen flow)) (account.counted ++ rising) side.users
       (IsPermutation-sym side.users (account.counted ++ rising) account.parted)
-      (All-append (λ flow. IsSome (frozen flow)) account.counted rising account.done
-      (λ k d inside. absurd (omega (arith, none, inside))))
+      (All-append (λ flow. IsSome (frozen flow)) account.counted rising account.done others)
 
   -- what the counted users have does not depend on the level
   counted_at : (level : ℕ) → sum_by (at_level frozen level) account.counted ≡ sum_by (at_level frozen 0) account.counted

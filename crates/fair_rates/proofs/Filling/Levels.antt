@@ -9,6 +9,11 @@ use Rattle.std.proofs.Common.{get_or-set_other, get_or-set_same}
 use Rattle.std.proofs.Math.ListN.{get_or-map as get_or_map}
 use Rattle.std.proofs.Math.Nat.{mul-lt-mul_of_pos_right}
 use Rattle.std.proofs.lemmas.List.{take_more}
+use Rattle.std.proofs.lemmas.List.Sums.{get_or-le-sum_by}
+use Rattle.std.specs.Int.{from_bool}
+use Rattle.std.specs.Prelude.{not}
+use Rattle.fair_rates.proofs.Common.{Bool, true, false, is_some, IsSome, AllFrozen, sum_by}
+use Rattle.fair_rates.specs.Filling.States.{rises}
 use Rattle.std.proofs.lemmas.List.Quantifiers.{all_pairs_push}
 use Rattle.fair_rates.specs.Filling.States.{AreInside}
 use Rattle.fair_rates.proofs.Filling.Course.{Freezes}
@@ -19,6 +24,39 @@ use Rattle.fair_rates.proofs.Filling.Growing.{AreScaled}
 pub frozen_there : (levels : List ℕ) (level_of : List (Option ℕ)) (flow place : ℕ) → level_at level_of flow ≡ Some place
     → frozen_at levels level_of flow ≡ Some (slice_index levels place)
 frozen_there levels level_of flow place e = ap (option_map (slice_index levels)) e
+
+-- one rises where there is no level
+pub rises_where_none : (o : Option ℕ) (none : Bool) → is_some o ≡ not none → from_bool none ≡ rises o
+rises_where_none None true e = refl
+rises_where_none None false e = cc
+rises_where_none (Some place) true e = cc
+rises_where_none (Some place) false e = refl
+
+pub bool_small : (b : Bool) → from_bool b ≤ 1
+bool_small true = omega arith
+bool_small false = omega arith
+
+frozen_if_none : (levels : List ℕ) (o : Option ℕ) → rises o ≡ 0 → IsSome (option_map (slice_index levels) o)
+frozen_if_none levels None none = absurd (omega (arith, none))
+frozen_if_none levels (Some place) none = refl
+
+-- where none rises, each flow is frozen
+pub frozen_where_none : (levels : List ℕ) (level_of : List (Option ℕ)) → sum_by rises level_of ≡ 0 → (flow : ℕ)
+    → flow < length level_of → IsSome (frozen_at levels level_of flow)
+frozen_where_none levels level_of none flow within =
+    frozen_if_none levels (level_at level_of flow)
+    (omega (arith, none, get_or-le-sum_by rises level_of flow None within))
+
+frozen_if_some : (levels : List ℕ) (o : Option ℕ) → IsSome o → IsSome (option_map (slice_index levels) o)
+frozen_if_some levels None some = cc
+frozen_if_some levels (Some place) some = refl
+
+-- who has a level is frozen
+pub frozen_all : (levels : List ℕ) (level_of : List (Option ℕ)) (users : List ℕ)
+    → All (λ flow. IsSome (level_at level_of flow)) users → AllFrozen (frozen_at levels level_of) users
+frozen_all levels level_of users =
+    All-weaker (λ flow. IsSome (level_at level_of flow)) (λ flow. IsSome (frozen_at levels level_of flow))
+    (λ flow. frozen_if_some levels (level_at level_of flow)) users
 
 -- ---- one user after another gets the level
 

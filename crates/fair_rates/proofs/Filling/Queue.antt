@@ -12,7 +12,10 @@ use Rattle.std.proofs.lemmas.List.{map_push}
 use Rattle.std.proofs.lemmas.List.Elements.{All-from_recursion, Contains-append_cases, Contains-push_cases}
 use Rattle.std.proofs.lemmas.List.Sorted.{IsPermutation-push_more}
 use Rattle.fair_rates.specs.declared.bandwidth.sides.Side as declared
-use Rattle.fair_rates.proofs.Filling.Account.{account_start}
+use Rattle.fair_rates.proofs.Filling.Account.{account_start, all_counted}
+use Rattle.fair_rates.proofs.Common.{IsSome, mul-le-mul_right}
+use Rattle.std.proofs.Common.{le_of_mul-le-mul_right}
+use Rattle.fair_rates.specs.Filling.States.{HaveNoLessShare}
 use Rattle.fairness.proofs.Lists.SumOrder.{All-from_contains}
 
 -- ---- lists
@@ -35,6 +38,20 @@ not_less a b e = search (rules, cases_lt)
 pub least_first : (x : Reverse OpenSide) (rest : List (Reverse OpenSide)) → IsUpperBound queue_cmp x rest
     → All (λ o. x.0.slack * length o.0.rising.items ≤ o.0.slack * length x.0.rising.items) rest
 least_first x rest upper = search (rules, All-weaker, not_less, All-from_recursion)
+
+least_trans : (a n b m c k : ℕ) → 0 < m → a * m ≤ b * n → b * k ≤ c * m → a * k ≤ c * n
+least_trans a n b m c k some first second =
+    le_of_mul-le-mul_right {k = m} (omega (arith, mul-le-mul_right k first, mul-le-mul_right n second)) some
+
+-- who is no greater than the least is the least, too
+pub least_before : (x y : OpenSide) (rest : List (Reverse OpenSide))
+    → x.slack * length y.rising.items ≤ y.slack * length x.rising.items → HaveNoLessShare y rest
+    → HaveNoLessShare x rest
+least_before x y rest le least =
+    All-weaker (λ (o : Reverse OpenSide). y.slack * length o.0.rising.items ≤ o.0.slack * length y.rising.items)
+    (λ (o : Reverse OpenSide). x.slack * length o.0.rising.items ≤ o.0.slack * length x.rising.items)
+    (λ o. least_trans x.slack (length x.rising.items) y.slack (length y.rising.items) o.0.slack
+    (length o.0.rising.items) y.some le) rest least
 
 -- ---- accounts
 
@@ -96,6 +113,20 @@ module _ (scale : ℕ) (frozen : ℕ → Option ℕ) where
               account))
           | inr later ↦ inr (o, later, account)
         ]
+
+    -- all flows are frozen
+    pub filled_once_frozen : (flows : ℕ) (opens : List (Reverse OpenSide))
+        → All (λ o. All (λ flow. flow < flows) o.0.rising.items) opens
+        → ((flow : ℕ) → flow < flows → IsSome (frozen flow)) → IsQueue sides scale frozen opens → AllFilled sides frozen
+    filled_once_frozen flows opens users all queue =
+        All-weaker (IsCovered scale frozen opens) (λ side. AllFrozen frozen side.users) only sides queue.covered
+      where
+        only : (side : Side) → IsCovered scale frozen opens side → AllFrozen frozen side.users
+        only side (inl frozen_all) = frozen_all
+        only side (inr (o, c, account)) =
+            all_counted side scale frozen o.0.slack o.0.rising.items account
+            (All-weaker (λ flow. flow < flows) (λ flow. IsSome (frozen flow)) all o.0.rising.items
+            (All-contains (λ (p : Reverse OpenSide). All (λ flow. flow < flows) p.0.rising.items) opens o users c))
 
     -- no open side is left
     pub all_filled : (opens : List (Reverse OpenSide)) → length opens ≡ 0 → IsQueue sides scale frozen opens

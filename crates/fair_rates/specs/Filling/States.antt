@@ -2,7 +2,7 @@
 -- All is in whole parts, `scale` of which are one unit of the caps. `frozen` says at how many a flow stays, and None of
 -- a flow that still rises.
 use Rattle.std.specs.Prelude.{◌≡◌, ◌≢◌, ℕ, ◌+◌, ◌-◌, ◌*◌, ◌<◌, ◌≤◌, ◌⊎◌, List, []}
-use Rattle.std.specs.Prelude.{◌∷◌, ◌++◌, All, AllPairs, Contains, length, map, sum_by, IsPermutation, Option, Some}
+use Rattle.std.specs.Prelude.{◌∷◌, ◌++◌, All, AllPairs, Contains, length, map, sum_by, IsPermutation, Option, Some, None}
 use Rattle.std.specs.Prelude.{IfSome, slice_index, option_map}
 use Rattle.std.specs.BinaryHeap.{IsHeap}
 use Rattle.std.specs.declared.cmp.Ordering.{Ordering}
@@ -25,6 +25,11 @@ frozen_at levels level_of flow = option_map (slice_index levels) (level_at level
 -- the places of the flows' levels are places of levels
 abbrev pub AreInside : List ℕ → List (Option ℕ) → Type 0
 AreInside levels level_of = All (λ level. IfSome level (λ place. place < length levels)) level_of
+
+-- how many flows rise where one has that place: one, if it is none
+abbrev pub rises : Option ℕ → ℕ
+rises None = 1
+rises (Some place) = 0
 
 -- ---- levels
 
@@ -102,11 +107,15 @@ pub record IsShareQueue (flows : ℕ) (frozen : ℕ → Option ℕ) (opens : Lis
 abbrev pub AreAbove : ℕ → List (Reverse OpenSide) → Type 0
 AreAbove parts opens = All (λ open_side. IsWithinSlack parts open_side.0.slack open_side.0.rising.items) opens
 
+-- the others have no less of a share than this open side
+abbrev pub HaveNoLessShare : OpenSide → List (Reverse OpenSide) → Type 0
+HaveNoLessShare next opens = All (λ open_side. next.slack * length open_side.0.rising.items
+    ≤ open_side.0.slack * length next.rising.items) opens
+
 -- the share of this open side is no greater than those of the others, and none of its users is frozen
 pub record IsLeast (frozen : ℕ → Option ℕ) (next : OpenSide) (opens : List (Reverse OpenSide)) : Type 0 where
   pub rise : AllRise frozen next.rising.items
-  pub least : All (λ open_side. next.slack * length open_side.0.rising.items
-      ≤ open_side.0.slack * length next.rising.items) opens
+  pub least : HaveNoLessShare next opens
 
 -- the same open side at so many times the scale
 pub record IsGrown (factor : ℕ) (old new : OpenSide) : Type 0 where

@@ -3,18 +3,18 @@
 //! A side with rising users has a share: what the frozen ones leave of its cap, for each of the
 //! others. The users of the side with the least share freeze at it. A heap holds the sides by their
 //! shares. These only grow as flows freeze, so one that was reckoned before is never too much, and
-//! only the one on top is reckoned anew, if a user of its side froze since.
+//! only the one on top is reckoned anew, if a user of its side froze since. No more is done once all flows are frozen.
 //!
 //! All numbers are whole parts of one unit of the caps. Where the least share is not whole, the scale
 //! grows, and all that is kept with it.
 ghost use Rattle.std.specs.Prelude.{◌≡◌, ◌<◌, ◌≤◌, ℕ, IfOk, IfSome, OnOk, OnSome, MatchOption, Option, All, List, []};
-ghost use Rattle.std.specs.Prelude.{◌∷◌, map, length};
+ghost use Rattle.std.specs.Prelude.{◌∷◌, ◌≢◌, true, false, map, length, sum_by};
 ghost use Rattle.std.specs.BinaryHeap.{heap_items, heap_len, IsHeap};
 ghost use Rattle.fair_rates.specs.Sides.SideOf.{side_of};
 ghost use Rattle.fairness.specs.Fairness.Fair.{Side as WholeSide};
 ghost use Rattle.fair_rates.specs.Filling.States.{frozen_at, AreInside, AreAbove, IsQueue, IsShareQueue, IsLeast};
 ghost use Rattle.fairness.specs.Filling.Frozen.{AllFilled};
-ghost use Rattle.fair_rates.specs.Filling.States.{AreOpened, AreGrown, AreFilled, queue_cmp};
+ghost use Rattle.fair_rates.specs.Filling.States.{AreOpened, AreGrown, AreFilled, HaveNoLessShare, queue_cmp, rises};
 
 mod open;
 mod share;
@@ -102,12 +102,32 @@ fn open_sides(
     Ok(BinaryHeap::from(open_list(opens, sides)?))
 }
 
-/// Takes out the side with the least share, once all its frozen users are counted.
+/// Whether the share of the side, of which so many users rose before they were counted, is known to be no greater than
+/// those of the others.
+fn is_least(side: &OpenSide, before: usize, queue: &BinaryHeap<Reverse<OpenSide>>) -> bool
+    requires order { IsHeap queue_cmp (heap_items queue.now) }
+    requires was { length side.now.rising.items ≡ before → HaveNoLessShare side.now (heap_items queue.now) }
+    ensures least { result ≡ true → HaveNoLessShare side.now (heap_items queue.now) }
+    ensures fewer { result ≡ false → length side.now.rising.items ≢ before }
+{
+    if side.rising.len() == before {
+        return true;
+    }
+    match queue.peek() {
+        Some(next) => side.cmp(&next.0).is_le(),
+        None => true,
+    }
+}
+
+/// Takes out the side with the least share, once all its frozen users are counted. Where no flow is left that rises,
+/// there is none.
 fn next_side(
     queue: &mut BinaryHeap<Reverse<OpenSide>>,
+    left: usize,
     levels: &[Natural],
     level_of: &[Option<usize>],
 ) -> Result<Option<OpenSide>, AllocError>
+    requires left { left ≡ sum_by rises level_of.now }
     requires inside { AreInside levels.now level_of.now }
     requires sound { IsShareQueue (length level_of.now) (frozen_at levels.now level_of.now) (heap_items queue.old) }
     ensures sound { IfOk result (λ next. IfSome next
@@ -125,10 +145,13 @@ fn next_side(
         → AreAbove parts (heap_items queue.old) → AreAbove parts (record { 0 = side } ∷ heap_items queue.new))) }
     ensures fewer { IfOk result (λ next. OnSome next (heap_len queue.new < heap_len queue.old)) }
 {
+    if left == 0 {
+        return Ok(None);
+    }
     while let Some(Reverse(least)) = queue.pop() {
         let before = least.rising.len();
         if let Some(side) = least.count_frozen(levels, level_of) {
-            if side.rising.len() == before {
+            if is_least(&side, before, queue) {
                 return Ok(Some(side));
             }
             queue.push(Reverse(side))?;
@@ -196,12 +219,13 @@ pub fn fair_parts_in(
     let mut queue = open_sides(opens, sides)?;
     let found = &mut room.found;
     found.renew(alloc, count)?;
-    while let Some(side) = next_side(&mut queue, &found.levels, &found.level_of)? {
+    let mut left = count;
+    while let Some(side) = next_side(&mut queue, left, &found.levels, &found.level_of)? {
         let OpenSide { slack, rising, .. } = side;
         let share = whole_share(alloc, slack, rising.len() as u64)?;
         found.grow(share.factor)?;
         queue = grown_sides(queue, share.factor, &mut room.spare)?;
-        found.freeze(&rising, share.parts)?;
+        left -= found.freeze(&rising, share.parts)?;
     }
     room.opens = queue.into_vec();
     Ok(mem::replace(found, FairParts::none(alloc)))

@@ -1,10 +1,10 @@
 //! Fair rates as whole parts.
 ghost use Rattle.std.specs.Prelude.{◌≡◌, ℕ, ◌*◌, ◌<◌, ◌⊎◌, IfOk, IfErr, OnOk, All, Contains, Some, None, [], map};
-ghost use Rattle.std.specs.Prelude.{length, replicate};
+ghost use Rattle.std.specs.Prelude.{◌+◌, length, replicate, sum_by};
 ghost use Rattle.fairness.specs.Numbers.Amount.{parts_over};
 ghost use Rattle.fairness.specs.Fairness.Exists.{product};
 ghost use Rattle.fair_rates.specs.Filling.FairParts.{level_at, AreRatesAt, HasLargeLevel, AreLevelRates};
-ghost use Rattle.fair_rates.specs.Filling.States.{AreInside, IsRaised, AreAtTop};
+ghost use Rattle.fair_rates.specs.Filling.States.{AreInside, IsRaised, AreAtTop, rises};
 ghost use Rattle.fairness.specs.Numbers.Fits.{ReducedFits};
 ghost use Rattle.fairness.specs.Numbers.Ratio.{IsWorth};
 
@@ -71,21 +71,22 @@ impl FairParts {
         multiply_each(&mut self.levels, factor)
     }
 
-    /// Gives these users the level, which is the last one or a new one.
-    pub(crate) fn freeze(&mut self, users: &[usize], level: Natural) -> Result<(), AllocError>
+    /// Gives these users the level, which is the last one or a new one. Answers how many of them had none.
+    pub(crate) fn freeze(&mut self, users: &[usize], level: Natural) -> Result<usize, AllocError>
         requires { All (λ flow. flow < length self.old.level_of.items) users.now }
         ensures raised { OnOk result (IsRaised self.old.levels.items self.new.levels.items level) }
         ensures at_top { OnOk result
             (AreAtTop users.now self.old.level_of.items self.new.level_of.items self.new.levels.items) }
         ensures scale { OnOk result (self.new.scale ≡ self.old.scale) }
         ensures growth { OnOk result (self.new.growth.items ≡ self.old.growth.items) }
+        ensures fewer { IfOk result (λ fresh.
+            fresh + sum_by rises self.new.level_of.items ≡ sum_by rises self.old.level_of.items) }
     {
         if self.levels.last() != Some(&level) {
             self.levels.push(level)?;
         }
         let place = self.levels.len() - 1;
-        set_levels(&mut self.level_of, users, place);
-        Ok(())
+        Ok(set_levels(&mut self.level_of, users, place))
     }
 
     /// The rate of each flow, where the caps are in bytes a second.
@@ -139,15 +140,19 @@ fn multiply_each(numbers: &mut [Natural], factor: u64) -> Result<(), AllocError>
     Ok(())
 }
 
-/// Gives these users the level at that place.
-fn set_levels(level_of: &mut [Option<usize>], users: &[usize], place: usize)
+/// Gives these users the level at that place. Answers how many of them had none.
+fn set_levels(level_of: &mut [Option<usize>], users: &[usize], place: usize) -> usize
     requires { All (λ flow. flow < length level_of.old) users.now }
     ensures all { All (λ flow. level_at level_of.new flow ≡ Some place) users.now }
     ensures others { (flow : ℕ) → Contains users.now flow ⊎ (level_at level_of.new flow ≡ level_at level_of.old flow) }
+    ensures fewer { result + sum_by rises level_of.new ≡ sum_by rises level_of.old }
 {
+    let mut fresh = 0;
     for user in users {
+        fresh += level_of[*user].is_none() as usize;
         level_of[*user] = Some(place);
     }
+    fresh
 }
 
 /// So many parts, of which the product of the factors is one, as a fraction.

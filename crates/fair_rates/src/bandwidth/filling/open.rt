@@ -1,10 +1,11 @@
 //! A side while the flows rise.
-ghost use Rattle.std.specs.Prelude.{◌≡◌, ◌*◌, ◌/◌, ◌^◌, ◌<◌, Some, length};
+ghost use Rattle.std.specs.Prelude.{◌≡◌, ◌*◌, ◌/◌, ◌^◌, ◌<◌, All, IsSome, Some, length, true};
 ghost use Rattle.std.specs.Cmp.{partial_equiv_from_equiv, eq_by_cmp_equiv, partial_order_from_total};
 ghost use Rattle.std.specs.Ordering.{eq_by_cmp};
 ghost use Rattle.std.proofs.Common.{refl};
 ghost use Rattle.fairness.specs.Numbers.Fraction.{fraction_cmp};
 ghost use Rattle.fairness.specs.Numbers.FractionOrder.{fraction_total};
+ghost use Rattle.fair_rates.specs.Filling.FairParts.{level_at};
 
 use natural::Natural;
 use std::alloc::AllocError;
@@ -61,13 +62,12 @@ impl Ord for OpenSide {
 
     ghost matches_eq = { λ x y. refl };
 
+    #[inline(always)]
     fn cmp(&self, other: &OpenSide) -> Ordering {
         if self.shift == other.shift && self.quotient != other.quotient {
             return self.quotient.cmp(&other.quotient);
         }
-        let count = self.rising.len() as u64;
-        let other_count = other.rising.len() as u64;
-        self.slack.compare_times(other_count, &other.slack, count)
+        self.compare_shares(other)
     }
 }
 
@@ -86,7 +86,7 @@ impl OpenSide {
         ensures rising { result.rising.items ≡ rising.items }
     {
         let (highest, shift) = slack.highest_limbs();
-        let quotient = highest / rising.len() as u128;
+        let quotient = quotient(highest, rising.len() as u64);
         OpenSide {
             slack,
             rising,
@@ -95,7 +95,7 @@ impl OpenSide {
         }
     }
 
-    /// Counts the users that froze since. `None` where all are frozen now.
+    /// Counts the users that froze since. `None` where all are frozen now; then nothing needs to be reckoned.
     pub(crate) fn count_frozen(
         self,
         levels: &[Natural],
@@ -118,8 +118,13 @@ impl OpenSide {
         let OpenSide {
             mut slack,
             mut rising,
-            ..
+            shift,
+            quotient,
         } = self;
+        if are_frozen(&rising, level_of) {
+            return None;
+        }
+        let before = rising.len();
         let mut place = 0;
         while place < rising.len() {
             match level_of[rising[place]] {
@@ -133,7 +138,26 @@ impl OpenSide {
         if rising.is_empty() {
             return None;
         }
+        if rising.len() == before {
+            return Some(OpenSide {
+                slack,
+                rising,
+                shift,
+                quotient,
+            });
+        }
         Some(OpenSide::new(slack, rising))
+    }
+
+    /// How the shares compare, whatever the quotients are.
+    #[inline(never)]
+    fn compare_shares(&self, other: &OpenSide) -> Ordering
+        ensures { result ≡ fraction_cmp self.now.slack (length self.now.rising.items) other.now.slack
+            (length other.now.rising.items) }
+    {
+        let count = self.rising.len() as u64;
+        let other_count = other.rising.len() as u64;
+        self.slack.compare_times(other_count, &other.slack, count)
     }
 
     /// The same side at a scale so many times as great.
@@ -148,4 +172,29 @@ impl OpenSide {
         slack.multiply(factor)?;
         Ok(OpenSide::new(slack, rising))
     }
+}
+
+/// `n / by`. A division of 64 bits is the quicker one.
+#[inline(always)]
+fn quotient(n: u128, by: u64) -> u128
+    requires { 0 < by }
+    ensures { result ≡ n / by }
+{
+    match u64::try_from(n) {
+        Ok(n) => u128::from(n / by),
+        Err(_) => n / u128::from(by),
+    }
+}
+
+/// Whether all these users have a level.
+fn are_frozen(users: &[usize], level_of: &[Option<usize>]) -> bool
+    requires { All (λ flow. flow < length level_of.now) users.now }
+    ensures { result ≡ true → All (λ flow. IsSome (level_at level_of.now flow)) users.now }
+{
+    for user in users {
+        if level_of[*user].is_none() {
+            return false;
+        }
+    }
+    true
 }

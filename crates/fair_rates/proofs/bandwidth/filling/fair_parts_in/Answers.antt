@@ -3,6 +3,9 @@ use Rattle.fair_rates.proofs.Common.{arith, ◌∙◌, heap_items, common_steps,
 use Rattle.fair_rates.proofs.Common.{frozen_at, top, IsQueue, IsShareQueue, AreAbove, AllFilled, IsRaised, AreAtTop}
 use Rattle.fair_rates.proofs.Common.{flow_parts, side_of, OpenSide}
 use Rattle.std.proofs.lemmas.List.{length-replicate}
+use Rattle.std.proofs.lemmas.List.Folds.{sum_by-replicate}
+use Rattle.fair_rates.proofs.Common.{sum_by}
+use Rattle.fair_rates.specs.Filling.States.{rises}
 use Rattle.fair_rates.specs.Filling.States.{AreFilled, IsLeast}
 use Rattle.fairness.proofs.Filling.Frozen.{some_of_if, match_some, match_none, on_some_of}
 use Rattle.fair_rates.proofs.Filling.Levels.{few_more}
@@ -26,6 +29,7 @@ loop-queue-init c =
       grown = omega (arith, new.scale, ap product new.growth);
       factors = subst (All (λ n. 0 < n)) (sym new.growth) (All-nil (λ n. 0 < n));
       one_each = ap length new.level_of ∙ length-replicate {A = Option ℕ} c.args.count None;
+      left = omega (arith, ap (sum_by rises) new.level_of, sum_by-replicate rises c.args.count None);
       few = omega (arith, ap length new.levels, c.in_ok-queue.ensures.count);
     }
 
@@ -39,6 +43,19 @@ freeze-requires c =
     c.in_ok-side.ensures.users c.in-Some.side c.in-Some.is in
     subst (λ n. All (λ flow. flow < n) c.deref-in-Some.result.now) same
     (subst (All (λ flow. flow < length E)) (sym c.deref-in-Some.ensures.value) users)
+
+pub next_side-requires-clause-left : goal.next_side-requires-clause-left
+next_side-requires-clause-left c =
+    omega (arith, c.loop-queue.invariant.left, ap (sum_by rises) c.deref-in-loop-queue.ensures.value)
+
+pub overflow_sub-left : goal.overflow_sub-left
+overflow_sub-left c =
+    omega (
+      arith,
+      c.in_ok-left.ensures.fewer,
+      c.loop-queue.invariant.left,
+      ap (sum_by rises) c.in_ok-grow.ensures.level_of,
+    )
 
 pub loop-queue-preserved : goal.loop-queue-preserved
 loop-queue-preserved c =
@@ -83,17 +100,17 @@ loop-queue-preserved c =
     let count : c.len.result ≡ length side.rising.items = grind (arith, common_steps, c.len.ensures) in
     let whole = ap (λ n. share.parts * n) (sym count) ∙ c.in_ok-share.ensures.whole in
     let raised : IsRaised (map (λ parts. parts * share.factor) levels) after share.parts =
-    subst (λ xs. IsRaised xs after share.parts) c.in_ok-grow.ensures.levels c.in_ok-freeze.ensures.raised in
+    subst (λ xs. IsRaised xs after share.parts) c.in_ok-grow.ensures.levels c.in_ok-left.ensures.raised in
     let at_top : AreAtTop side.rising.items level_of later after =
     subst (λ xs. AreAtTop xs level_of later after) c.deref-in-Some.ensures.value
     (subst (λ xs. AreAtTop c.deref-in-Some.result.now xs later after) c.in_ok-grow.ensures.level_of
-    c.in_ok-freeze.ensures.at_top) in
+    c.in_ok-left.ensures.at_top) in
     let on =
     round sides times share.factor levels after level_of later side rest opens share.parts
     c.in_ok-share.ensures.factor old course taken c.in_ok-queue-2.ensures.grown
     c.in_ok-queue-2.ensures.order whole raised at_top in
-    let scale = c.in_ok-freeze.ensures.scale ∙ c.in_ok-grow.ensures.scale in
-    let growth = ap product c.in_ok-freeze.ensures.growth ∙ c.in_ok-grow.ensures.growth in
+    let scale = c.in_ok-left.ensures.scale ∙ c.in_ok-grow.ensures.scale in
+    let growth = ap product c.in_ok-left.ensures.growth ∙ c.in_ok-grow.ensures.growth in
     let fewer = on_some_of o next.fewer side is in
     let few =
     few_more side.rising.items (map (λ parts. parts * share.factor) levels) after level_of later share.parts raised
@@ -102,9 +119,15 @@ loop-queue-preserved c =
       course = subst (λ n. IsCourse sides n after later opens) (sym growth) on;
       grown = omega (arith, scale, ap (λ n. n * share.factor) c.loop-queue.invariant.grown, growth);
       factors =
-          subst (All (λ n. 0 < n)) (sym c.in_ok-freeze.ensures.growth)
+          subst (All (λ n. 0 < n)) (sym c.in_ok-left.ensures.growth)
           (c.in_ok-grow.ensures.factors c.loop-queue.invariant.factors);
       one_each = at_top.one_each ∙ c.loop-queue.invariant.one_each;
+      left = omega (
+        arith,
+        c.in_ok-left.ensures.fewer,
+        c.loop-queue.invariant.left,
+        ap (sum_by rises) c.in_ok-grow.ensures.level_of,
+      );
       few =
           omega (
             arith,

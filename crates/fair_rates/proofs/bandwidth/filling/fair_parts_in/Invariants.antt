@@ -1,4 +1,5 @@
-use Rattle.fair_rates.proofs.Common.{◌≡◌, ◌+◌, ◌<◌, ◌≤◌, All, length, map, heap_items, heap_len, product, side_of}
+use Rattle.fair_rates.proofs.Common.{◌≡◌, ◌+◌, ◌<◌, ◌≤◌, All, length, map, heap_items, heap_len, product, side_of, sum_by}
+use Rattle.fair_rates.specs.Filling.States.{rises}
 use Rattle.fair_rates.proofs.Filling.Steps.{IsCourse}
 use Rattle.fair_rates.proofs.bandwidth.filling.fair_parts_in.Given as goal
 
@@ -9,6 +10,7 @@ invariant-loop-queue l = record {
   grown : l.found.scale ≡ product l.found.growth.items;
   factors : All (λ factor. 0 < factor) l.found.growth.items;
   one_each : length l.found.level_of.items ≡ l.count;
+  left : l.left ≡ sum_by rises l.found.level_of.items;
   few : length l.found.levels.items + heap_len l.queue ≤ length l.fn.sides.items;
 }
 

@@ -5,7 +5,8 @@ use Rattle.std.proofs.lemmas.List.Sorted.{sum_by_popped, sum_by_pushed}
 use Rattle.fair_rates.proofs.Filling.Account.{risers_have_no_more}
 use Rattle.fairness.proofs.Filling.Frozen.{match_none}
 use Rattle.fair_rates.proofs.Filling.Queue.{queue_permuted, queue_counted, queue_filled, all_filled, sound_popped}
-use Rattle.fair_rates.proofs.Filling.Queue.{sound_pushed, above_counted, least_first}
+use Rattle.fair_rates.proofs.Filling.Queue.{sound_pushed, above_counted, least_first, filled_once_frozen}
+use Rattle.fair_rates.proofs.Filling.Levels.{frozen_where_none}
 use Rattle.fair_rates.proofs.bandwidth.filling.next_side.Goals as goal
 
 unchanged : {P : Type 0} (n m : ℕ) → (n < m) ⊎ (P × (n ≡ m)) → n ≡ m → P
@@ -16,41 +17,44 @@ fewer : {P : Type 0} (n m : ℕ) → (n < m) ⊎ (P × (n ≡ m)) → (n ≡ m �
 fewer n m (inl less) other = less
 fewer n m (inr (p, e)) other = absurd (other e)
 
-pub returns-then-len-before-clause-sound : goal.returns-then-len-before-clause-sound
-returns-then-len-before-clause-sound c =
+pub returns-then-is_least-clause-sound : goal.returns-then-is_least-clause-sound
+returns-then-is_least-clause-sound c =
     sound_popped (length c.args.level_of.now) (frozen_at c.args.levels.now c.args.level_of.now)
     (heap_items c.loop-least.queue) (heap_items c.pop.new.self) c.in-Some.field-0
     c.in-Some.ensures.permutation (c.in-Some.ensures.heap_order c.loop-least.invariant.sound.order).0
     c.loop-least.invariant.sound
 
-pub returns-then-len-before-clause-least : goal.returns-then-len-before-clause-least
-returns-then-len-before-clause-least c =
+pub is_least-requires-clause-was : goal.is_least-requires-clause-was
+is_least-requires-clause-was c same =
     let x : OpenSide = c.in-Some.field-0.0 in
     let new : OpenSide = c.in-Some-count_frozen.side in
     let rest = heap_items c.pop.new.self in
     let len : length new.rising.items ≡ length x.rising.items =
-    grind (arith, common_steps, c.if-len-before.true, c.len.ensures, c.len-before.ensures) in
+    grind (arith, common_steps, same, c.len-before.ensures) in
     let slack = unchanged {P = new.slack ≡ x.slack} (length new.rising.items) (length x.rising.items)
     c.in-Some-count_frozen.ensures.changed len in
-    record {
-      rise = c.in-Some-count_frozen.ensures.rise;
-      least =
-          All-weaker (λ (o : Reverse OpenSide). x.slack * length o.0.rising.items ≤ o.0.slack * length x.rising.items)
-          (λ o. new.slack * length o.0.rising.items ≤ o.0.slack * length new.rising.items)
-          (λ o le. omega (arith, le, ap (λ n. n * length o.0.rising.items) slack, ap (λ n. o.0.slack * n) len)) rest
-          (least_first c.in-Some.field-0 rest (c.in-Some.ensures.below_top c.loop-least.invariant.sound.order));
-    }
+    All-weaker (λ (o : Reverse OpenSide). x.slack * length o.0.rising.items ≤ o.0.slack * length x.rising.items)
+    (λ o. new.slack * length o.0.rising.items ≤ o.0.slack * length new.rising.items)
+    (λ o le. omega (arith, le, ap (λ n. n * length o.0.rising.items) slack, ap (λ n. o.0.slack * n) len)) rest
+    (least_first c.in-Some.field-0 rest (c.in-Some.ensures.below_top c.loop-least.invariant.sound.order))
 
-pub returns-then-len-before-clause-queue : goal.returns-then-len-before-clause-queue
-returns-then-len-before-clause-queue c sides scale queue =
+pub returns-then-left-eq0-clause-queue : goal.returns-then-left-eq0-clause-queue
+returns-then-left-eq0-clause-queue c sides scale queue =
+    filled_once_frozen scale (frozen_at c.args.levels.now c.args.level_of.now) sides (length c.args.level_of.now)
+    (heap_items c.args.queue.now) c.requires.sound.users
+    (frozen_where_none c.args.levels.now c.args.level_of.now
+    (omega (arith, c.requires.left, c.if-left-eq0.true))) queue
+
+pub returns-then-is_least-clause-queue : goal.returns-then-is_least-clause-queue
+returns-then-is_least-clause-queue c sides scale queue =
     let frozen = frozen_at c.args.levels.now c.args.level_of.now in
     queue_counted scale frozen sides c.in-Some.field-0 (record { 0 = c.in-Some-count_frozen.side })
     (heap_items c.pop.new.self) (λ side account. c.in-Some-count_frozen.ensures.account side scale account)
     (queue_permuted scale frozen sides (heap_items c.loop-least.queue) (c.in-Some.field-0 ∷ heap_items c.pop.new.self)
     c.in-Some.ensures.permutation (c.loop-least.invariant.queue sides scale queue))
 
-pub returns-then-len-before-clause-no_lower : goal.returns-then-len-before-clause-no_lower
-returns-then-len-before-clause-no_lower c parts above =
+pub returns-then-is_least-clause-no_lower : goal.returns-then-is_least-clause-no_lower
+returns-then-is_least-clause-no_lower c parts above =
     above_counted parts (heap_items c.loop-least.queue) (heap_items c.pop.new.self) c.in-Some.field-0
     (record { 0 = c.in-Some-count_frozen.side }) c.in-Some.ensures.permutation
     (c.in-Some-count_frozen.ensures.no_lower parts) (c.loop-least.invariant.no_lower parts above)
@@ -62,7 +66,8 @@ loop-least-smaller-in-Continue-1 c =
     let new : Reverse OpenSide = record { 0 = c.in-Some-count_frozen.side } in
     let rest = heap_items c.pop.new.self in
     let len : length new.0.rising.items ≡ length x.0.rising.items → ⊥ = λ same.
-    absurd (grind (arith, common_steps, c.if-len-before.false, c.len.ensures, c.len-before.ensures, same)) in
+    c.is_least.ensures.fewer c.if-is_least.false
+    (grind (arith, common_steps, c.len-before.ensures, same)) in
     let less = fewer (length new.0.rising.items) (length x.0.rising.items) c.in-Some-count_frozen.ensures.changed len in
     omega (
       arith,

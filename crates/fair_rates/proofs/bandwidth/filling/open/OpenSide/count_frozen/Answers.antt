@@ -1,9 +1,9 @@
 use Rattle.fair_rates.proofs.Common.{◌≡◌, ◌≢◌, ℕ, ◌+◌, ◌*◌, ◌<◌, ◌≤◌, ◌⊎◌, Some, None, length, inl, inr, arith, ◌∙◌, ap}
 use Rattle.fair_rates.proofs.Common.{sym, subst, common_steps, All-weaker, get_or_default, level_at, frozen_at}
-use Rattle.fair_rates.proofs.Common.{at_level}
+use Rattle.fair_rates.proofs.Common.{at_level, All, IsSome}
 use Rattle.fair_rates.proofs.Filling.Account.{still_within, account_more, all_counted, rest_of}
 use Rattle.fairness.proofs.Filling.Frozen.{at_some, some_of_if}
-use Rattle.fair_rates.proofs.Filling.Levels.{frozen_there}
+use Rattle.fair_rates.proofs.Filling.Levels.{frozen_there, frozen_all}
 use Rattle.fair_rates.proofs.bandwidth.filling.open.OpenSide.count_frozen.Goals as goal
 
 shorter : {P : Type 0} (n old new : ℕ) → new + 1 ≡ old → (old < n) ⊎ (P × (old ≡ n)) → new < n
@@ -65,8 +65,15 @@ loop-place-preserved-in-Some c =
       within = omega arith;
     }
 
+pub returns-then-are_frozen-clause-account : goal.returns-then-are_frozen-clause-account
+returns-then-are_frozen-clause-account c side scale account =
+    all_counted side scale (frozen_at c.args.levels.now c.args.level_of.now) c.args.self.slack
+    c.args.self.rising.items account (frozen_all c.args.levels.now c.args.level_of.now c.args.self.rising.items
+    (subst (All (λ flow. IsSome (level_at c.args.level_of.now flow))) c.deref.ensures.value
+    (c.are_frozen.ensures c.if-are_frozen.true)))
+
 pub returns-then-is_empty-clause-account : goal.returns-then-is_empty-clause-account
 returns-then-is_empty-clause-account c side scale account =
     all_counted side scale (frozen_at c.args.levels.now c.args.level_of.now) c.loop-place.slack
     c.loop-place.rising.items (c.loop-place.invariant.account side scale account)
-    (grind (arith, common_steps, c.is_empty.ensures, c.if-is_empty.true))
+    (λ k d inside. absurd (grind (arith, common_steps, c.is_empty.ensures, c.if-is_empty.true, inside)))

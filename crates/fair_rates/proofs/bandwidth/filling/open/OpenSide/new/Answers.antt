@@ -8,6 +8,6 @@ invariant_of-result c =
     record {
       some = c.requires;
       rounded =
-          (λ i. c.highest_limbs-highest.ensures.value i / count i)
+          c.quotient-quotient.ensures ∙ (λ i. c.highest_limbs-highest.ensures.value i / count i)
           ∙ div-div-eq-div-mul c.args.slack (2 ^ (64 * c.highest_limbs-highest.result.1)) (length c.args.rising.items);
     }
