@@ -529,7 +529,15 @@ impl<P: Peer> Flights<P> {
         ensures refused { IfErr result (λ e. e ≡ Error.OutOfMemory) }
     {
         let list = mem::replace(&mut rooms.sides, Vec::new(self.alloc));
-        let mut sides = self.sides_of(component, numbers, peers, pairs, &mut rooms.has_side, list)?;
+        let mut sides = self.sides_of(
+            component,
+            numbers,
+            peers,
+            pairs,
+            &mut rooms.has_side,
+            &mut rooms.filling,
+            list,
+        )?;
         let count = numbers.places().len();
         let found = fair_parts_in(self.alloc, &mut rooms.filling, count, &mut sides)?;
         rooms.sides = sides;

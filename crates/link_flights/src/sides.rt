@@ -28,7 +28,7 @@ use crate::component::Component;
 use crate::flight_list::Flights;
 use crate::numbers::Numbers;
 use crate::table::End;
-use fair_rates::bandwidth::Side;
+use fair_rates::bandwidth::{Room, Side};
 use fairness::error::Error;
 use fairness::peer::Peer;
 use link_pairs::known_pairs::Pairs;
@@ -92,6 +92,7 @@ impl<P: Peer> Flights<P> {
         peers: &Peers<P>,
         pairs: &Pairs<P>,
         has_side: &mut Vec<bool>,
+        filling: &mut Room,
         mut sides: Vec<Side>,
     ) -> Result<Vec<Side>, Error>
         requires places { numbers.now ≡ places_of (λ f. is_of P.cmp component.now (flight_at 0 f)) 0 self.now.list.items }
@@ -103,16 +104,25 @@ impl<P: Peer> Flights<P> {
         ensures refused { IfErr result (λ e. e ≡ Error.OutOfMemory) }
     {
         sides.clear();
-        self.add_sides(End::Origin, component, numbers, peers, has_side, &mut sides)?;
+        self.add_sides(
+            End::Origin,
+            component,
+            numbers,
+            peers,
+            has_side,
+            filling,
+            &mut sides,
+        )?;
         self.add_sides(
             End::Recipient,
             component,
             numbers,
             peers,
             has_side,
+            filling,
             &mut sides,
         )?;
-        self.add_links(numbers.places(), pairs, &mut sides)?;
+        self.add_links(numbers.places(), pairs, filling, &mut sides)?;
         Ok(sides)
     }
 
@@ -215,6 +225,7 @@ impl<P: Peer> Flights<P> {
         numbers: &Numbers,
         peers: &Peers<P>,
         has_side: &mut Vec<bool>,
+        filling: &mut Room,
         sides: &mut Vec<Side>,
     ) -> Result<(), Error>
         requires places { numbers.now ≡ places_of (λ f. is_of P.cmp component.now (flight_at 0 f)) 0 self.now.list.items }
@@ -227,7 +238,7 @@ impl<P: Peer> Flights<P> {
     {
         let places = numbers.places();
         forget_all(has_side, places.len())?;
-        let mut users = Vec::new(self.alloc);
+        let mut users = filling.take_list(self.alloc);
         let mut room = 0;
         for number in 0..places.len() {
             if has_side[number] {
@@ -245,8 +256,10 @@ impl<P: Peer> Flights<P> {
                 note_users(has_side, &side.users);
                 room = side.users.len();
                 sides.push(side)?;
+                users = filling.take_list(self.alloc);
             }
         }
+        filling.keep_list(users);
         Ok(())
     }
 
@@ -345,6 +358,7 @@ impl<P: Peer> Flights<P> {
         &self,
         places: &[usize],
         pairs: &Pairs<P>,
+        filling: &mut Room,
         sides: &mut Vec<Side>,
     ) -> Result<(), Error>
         requires within { All (λ at. at < length self.now.list.items) places.now }
@@ -360,7 +374,8 @@ impl<P: Peer> Flights<P> {
             let message = &self.list.at(places[number]).message;
             if let Some(cap) = pairs.cap(&message.origin, &message.recipient) {
                 let cap = self.scale.product(cap)?;
-                let users = vec![in self.alloc; number; 1]?;
+                let mut users = filling.take_list(self.alloc);
+                users.push(number)?;
                 sides.push(Side { cap, users })?;
             }
         }

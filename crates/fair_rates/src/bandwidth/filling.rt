@@ -34,6 +34,8 @@ pub struct Room {
     opens: Vec<Reverse<OpenSide>>,
     spare: Vec<Reverse<OpenSide>>,
     found: FairParts,
+    /// For the users of a side.
+    lists: Vec<Vec<usize>>,
 }
 
 impl Drop for Room {
@@ -43,10 +45,12 @@ impl Drop for Room {
             opens,
             spare,
             found,
+            lists,
         } = self;
         drop(opens);
         drop(spare);
         drop(found);
+        drop(lists);
     }
 }
 
@@ -57,12 +61,46 @@ impl Room {
             opens: Vec::new(alloc),
             spare: Vec::new(alloc),
             found: FairParts::none(alloc),
+            lists: Vec::new(alloc),
         }
+    }
+
+    /// A list for the users of a side, with none yet, in room that was kept if there is some.
+    pub fn take_list(&mut self, alloc: Global) -> Vec<usize>
+        ensures { result.items ≡ [] }
+    {
+        match self.lists.pop() {
+            Some(mut list) => {
+                list.clear();
+                list
+            }
+            None => Vec::new(alloc),
+        }
+    }
+
+    /// The room of such a list is kept.
+    pub fn keep_list(&mut self, list: Vec<usize>) {
+        keep_list(&mut self.lists, list);
     }
 
     /// The lists of what was found are kept, once it is not needed any more.
     pub fn keep(&mut self, found: FairParts) {
         self.found = found;
+    }
+}
+
+/// The room of a list of users is kept, if there is memory to note it.
+#[inline(always)]
+fn keep_list(lists: &mut Vec<Vec<usize>>, list: Vec<usize>) {
+    if lists.reserve(1).is_ok() {
+        lists.push_reserved(list);
+    }
+}
+
+/// The room of the lists of these sides is kept.
+fn keep_lists(lists: &mut Vec<Vec<usize>>, sides: &mut Vec<Reverse<OpenSide>>) {
+    for Reverse(side) in sides.drain(..) {
+        keep_list(lists, side.rising);
     }
 }
 
@@ -120,9 +158,10 @@ fn is_least(side: &OpenSide, before: usize, queue: &BinaryHeap<Reverse<OpenSide>
 }
 
 /// Takes out the side with the least share, once all its frozen users are counted. Where no flow is left that rises,
-/// there is none.
+/// there is none. Of sides that are let go the room of their lists is kept.
 fn next_side(
     queue: &mut BinaryHeap<Reverse<OpenSide>>,
+    lists: &mut Vec<Vec<usize>>,
     left: usize,
     levels: &[Natural],
     level_of: &[Option<usize>],
@@ -150,7 +189,7 @@ fn next_side(
     }
     while let Some(Reverse(least)) = queue.pop() {
         let before = least.rising.len();
-        if let Some(side) = least.count_frozen(levels, level_of) {
+        if let Some(side) = least.count_frozen(lists, levels, level_of) {
             if is_least(&side, before, queue) {
                 return Ok(Some(side));
             }
@@ -215,17 +254,20 @@ pub fn fair_parts_in(
     ensures filled { IfOk result (λ found. AreFilled (map side_of sides.old.items) count found) }
     ensures taken { OnOk result (sides.new.items ≡ []) }
 {
-    let opens = mem::replace(&mut room.opens, Vec::new(alloc));
+    let mut opens = mem::replace(&mut room.opens, Vec::new(alloc));
+    keep_lists(&mut room.lists, &mut opens);
     let mut queue = open_sides(opens, sides)?;
     let found = &mut room.found;
+    let lists = &mut room.lists;
     found.renew(alloc, count)?;
     let mut left = count;
-    while let Some(side) = next_side(&mut queue, left, &found.levels, &found.level_of)? {
+    while let Some(side) = next_side(&mut queue, lists, left, &found.levels, &found.level_of)? {
         let OpenSide { slack, rising, .. } = side;
         let share = whole_share(alloc, slack, rising.len() as u64)?;
         found.grow(share.factor)?;
         queue = grown_sides(queue, share.factor, &mut room.spare)?;
         left -= found.freeze(&rising, share.parts)?;
+        keep_list(lists, rising);
     }
     room.opens = queue.into_vec();
     Ok(mem::replace(found, FairParts::none(alloc)))

@@ -7,6 +7,7 @@ ghost use Rattle.fairness.specs.Numbers.Fraction.{fraction_cmp};
 ghost use Rattle.fairness.specs.Numbers.FractionOrder.{fraction_total};
 ghost use Rattle.fair_rates.specs.Filling.FairParts.{level_at};
 
+use super::keep_list;
 use natural::Natural;
 use std::alloc::AllocError;
 use std::cmp::Ordering;
@@ -98,6 +99,7 @@ impl OpenSide {
     /// Counts the users that froze since. `None` where all are frozen now; then nothing needs to be reckoned.
     pub(crate) fn count_frozen(
         self,
+        lists: &mut Vec<Vec<usize>>,
         levels: &[Natural],
         level_of: &[Option<usize>],
     ) -> Option<OpenSide>
@@ -122,6 +124,7 @@ impl OpenSide {
             quotient,
         } = self;
         if are_frozen(&rising, level_of) {
+            keep_list(lists, rising);
             return None;
         }
         let before = rising.len();
@@ -136,6 +139,7 @@ impl OpenSide {
             }
         }
         if rising.is_empty() {
+            keep_list(lists, rising);
             return None;
         }
         if rising.len() == before {
