@@ -7,7 +7,7 @@ use Rattle.link_flights.proofs.Flights.AllSides.{HaveAdded, of_left, cap_left, l
 use Rattle.link_flights.proofs.Flights.AllSides.{sides_added, link_side}
 use Rattle.link_flights.proofs.Flights.Sides.{place_is_of, flow_at, those_at, as_many}
 use Rattle.link_flights.proofs.flight_list.Flights.add_links.Goals as goal
-use Rattle.link_flights.proofs.flight_list.Flights.add_links.Goals.{in-Some+in_ok-cap+in_ok-users+in_ok-push, in_default}
+use Rattle.link_flights.proofs.flight_list.Flights.add_links.Goals.{in-Some+in_ok-cap+in_ok-push+in_ok-push-2, in_default}
 
 pub returns-clause-adds : goal.returns-clause-adds
 returns-clause-adds g c component peers places =
@@ -51,22 +51,22 @@ loop-number-preserved g c component peers places =
     let olds = map side_of c.args.sides.now.items in
     let sides = map side_of c.loop-number.sides.items in
     elim c.match-cap.branch [
-      | in-Some+in_ok-cap+in_ok-users+in_ok-push w ↦
+      | in-Some+in_ok-cap+in_ok-push+in_ok-push-2 w ↦
           let has : caps.link u.message.origin u.message.recipient ≡ Some w.in-Some.cap = sym cap_is ∙ w.in-Some.is in
           let pushed : map side_of c.match-cap.sides.items
-          ≡ sides ++ record { cap = w.in_ok-cap.cap; users = w.in_ok-users.users.items } ∷ [] =
-          ap (λ v. map side_of v.items) w.sides-is ∙ ap (map side_of) w.in_ok-push.ensures.items
+          ≡ sides ++ record { cap = w.in_ok-cap.cap; users = w.push.new.self.items } ∷ [] =
+          ap (λ v. map side_of v.items) w.sides-is ∙ ap (map side_of) w.in_ok-push-2.ensures.items
           ∙ map-append side_of c.loop-number.sides.items _ in
           subst (λ v. HaveAdded cmp left (flows_of cmp component us) link_subject olds v [] (number + 1)) (sym pushed)
           (side_added cmp order left of (flows_of cmp component us) link_subject (link_kind cmp) olds sides [] number before
           (flow_sent cmp p.x.message.value) there
           (and_from (same_peer cmp u.message.origin u.message.origin) (same_peer cmp u.message.recipient u.message.recipient)
           (same_peer_itself cmp order u.message.origin) (same_peer_itself cmp order u.message.recipient))
-          (record { cap = w.in_ok-cap.cap; users = w.in_ok-users.users.items })
+          (record { cap = w.in_ok-cap.cap; users = w.push.new.self.items })
           (link_side cmp order caps self.scale component us c.requires.one_each number u
           (those_at cmp component self.list.items self.at number at p.x placed p.there) w.in-Some.cap has
-          (record { cap = w.in_ok-cap.cap; users = w.in_ok-users.users.items })
-          (omega (arith, w.in_ok-cap.ensures.value)) (w.in_ok-users.ensures.items_if_clones_equal (λ y same. same)))
+          (record { cap = w.in_ok-cap.cap; users = w.push.new.self.items })
+          (omega (arith, w.in_ok-cap.ensures.value)) (w.in_ok-push.ensures.items ∙ ap (λ users. users ++ number ∷ []) w.take_list-users.ensures))
           [] (λ k marked. absurd (none-some true marked)))
       | in_default w ↦
           let m = p.x.message.value in
