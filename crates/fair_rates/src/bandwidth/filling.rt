@@ -77,7 +77,7 @@ fn open_list(
 {
     opens.clear();
     opens.reserve(sides.len())?;
-    for side in sides.drain(..) {
+    while let Some(side) = sides.pop() {
         let Side {
             cap: slack,
             users: rising,
