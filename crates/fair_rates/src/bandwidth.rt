@@ -30,6 +30,9 @@ pub use sides::Side;
 use std::alloc::Global;
 use std::collections::BTreeMap;
 
+/// So many rates are put into their map one after the other. To make it at once takes more than that for so few.
+const FEW_RATES: usize = 16;
+
 /// The max-min fair rate of each flow, by its id.
 ///
 /// The caps are in bytes a second, and `None` stands for no cap. `egress_cap` says how much a peer
@@ -250,9 +253,41 @@ fn rates_by_id<P>(
     ensures by_id { IfOk result (λ by_id. (id : ℕ) → get nat_cmp by_id id ≡ last_rate id flows.now rates.now) }
     ensures refused { IfErr result (λ e. e ≡ Error.OutOfMemory) }
 {
+    if flows.len() <= FEW_RATES {
+        inserted_by_id(alloc, flows, rates)
+    } else {
+        collected_by_id(alloc, flows, rates)
+    }
+}
+
+/// The same, put in one after the other.
+fn inserted_by_id<P>(
+    alloc: Global,
+    flows: &[Flow<P>],
+    rates: &[Rate],
+) -> Result<BTreeMap<u64, Rate>, Error>
+    ensures by_id { IfOk result (λ by_id. (id : ℕ) → get nat_cmp by_id id ≡ last_rate id flows.now rates.now) }
+    ensures refused { IfErr result (λ e. e ≡ Error.OutOfMemory) }
+{
     let mut by_id = BTreeMap::new(alloc);
     for (flow, rate) in flows.iter().zip(rates) {
         by_id.insert(flow.id, *rate)?;
     }
     Ok(by_id)
+}
+
+/// The same, listed and then made from the list at once.
+fn collected_by_id<P>(
+    alloc: Global,
+    flows: &[Flow<P>],
+    rates: &[Rate],
+) -> Result<BTreeMap<u64, Rate>, Error>
+    ensures by_id { IfOk result (λ by_id. (id : ℕ) → get nat_cmp by_id id ≡ last_rate id flows.now rates.now) }
+    ensures refused { IfErr result (λ e. e ≡ Error.OutOfMemory) }
+{
+    let mut pairs = Vec::with_capacity(alloc, flows.len())?;
+    for (flow, rate) in flows.iter().zip(rates) {
+        pairs.push((flow.id, *rate))?;
+    }
+    Ok(BTreeMap::from_iter(alloc, pairs)?)
 }

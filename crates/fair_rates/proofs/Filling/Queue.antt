@@ -1,14 +1,13 @@
 -- The queue of open sides, as the one with the least share is taken out and another put in.
 use Rattle.fair_rates.proofs.Common.{◌≡◌, ℕ, ◌*◌, ◌<◌, ◌≤◌, ◌⊎◌, inl, inr, List, [], ◌∷◌, ◌++◌, length, map, All}
 use Rattle.fair_rates.proofs.Common.{Contains, Option, refl, sym, subst, arith, IsPermutation, IsHeap, nat_cmp, is_lt}
-use Rattle.fair_rates.proofs.Common.{Reverse, cases_lt, All-nil, All-head, All-tail, All-cons, All-push, All-weaker}
-use Rattle.fair_rates.proofs.Common.{All-contains, Contains-append_left, Contains-append_right, Contains-push}
+use Rattle.fair_rates.proofs.Common.{Reverse, cases_lt, All-nil, All-head, All-tail, All-cons, All-weaker}
+use Rattle.fair_rates.proofs.Common.{All-contains, Contains-append_left, Contains-append_right}
 use Rattle.fair_rates.proofs.Common.{All-permutation, Contains-permutation, IsPermutation-refl, IsPermutation-sym, Side}
 use Rattle.fair_rates.proofs.Common.{AllFrozen, KeepsAccount, IsOpen, IsCovered, IsQueue, IsShareQueue, HaveNoMore}
 use Rattle.fair_rates.proofs.Common.{AreAbove, IsWithinSlack, AllFilled, AreOpened, queue_cmp, side_of, OpenSide, rules}
 use Rattle.std.specs.BinaryHeap.{IsUpperBound}
 use Rattle.std.specs.Prelude.{false}
-use Rattle.std.proofs.lemmas.List.{map_push}
 use Rattle.std.proofs.lemmas.List.Elements.{All-from_recursion, Contains-append_cases, Contains-push_cases}
 use Rattle.std.proofs.lemmas.List.Sorted.{IsPermutation-push_more}
 use Rattle.fair_rates.specs.declared.bandwidth.sides.Side as declared
@@ -16,7 +15,6 @@ use Rattle.fair_rates.proofs.Filling.Account.{account_start, all_counted}
 use Rattle.fair_rates.proofs.Common.{IsSome, mul-le-mul_right}
 use Rattle.std.proofs.Common.{le_of_mul-le-mul_right}
 use Rattle.fair_rates.specs.Filling.States.{HaveNoLessShare}
-use Rattle.fairness.proofs.Lists.SumOrder.{All-from_contains}
 
 -- ---- lists
 
@@ -141,27 +139,28 @@ module _ (scale : ℕ) (frozen : ℕ → Option ℕ) where
     -- ---- one side more
 
     listed_more : (side : Side) (o : Reverse OpenSide) → IsOpen sides scale frozen o
-        → IsOpen (sides ++ side ∷ []) scale frozen o
-    listed_more side o (other, listed, account) = (other, Contains-append_left sides (side ∷ []) other listed, account)
+        → IsOpen (side ∷ sides) scale frozen o
+    listed_more side o (other, listed, account) = (other, is_later side other sides listed, account)
 
     pub queue_more : (side : Side) (x : Reverse OpenSide) (opens : List (Reverse OpenSide))
         → KeepsAccount side scale frozen x.0.slack x.0.rising.items → IsQueue sides scale frozen opens
-        → IsQueue (sides ++ side ∷ []) scale frozen (x ∷ opens)
+        → IsQueue (side ∷ sides) scale frozen (x ∷ opens)
     queue_more side x opens account queue = record {
-      each = search (rules, All-cons, Contains-push, All-weaker, listed_more);
-      covered = All-push (IsCovered scale frozen (x ∷ opens)) sides side
+      each = All-cons (IsOpen (side ∷ sides) scale frozen) x opens (side, is_first side sides, account)
+          (All-weaker (IsOpen sides scale frozen) (IsOpen (side ∷ sides) scale frozen) (listed_more side) opens
+          queue.each);
+      covered = All-cons (IsCovered scale frozen (x ∷ opens)) side sides (inr (x, is_first x opens, account))
           (All-weaker (IsCovered scale frozen opens) (IsCovered scale frozen (x ∷ opens))
-          (λ other. covered_by opens (x ∷ opens) other (λ o. is_later x o opens)) sides queue.covered)
-          (inr (x, is_first x opens, account));
+          (λ other. covered_by opens (x ∷ opens) other (λ o. is_later x o opens)) sides queue.covered);
     }
 
     pub queue_without : (side : Side) (opens : List (Reverse OpenSide)) → length side.users ≡ 0
-        → IsQueue sides scale frozen opens → IsQueue (sides ++ side ∷ []) scale frozen opens
+        → IsQueue sides scale frozen opens → IsQueue (side ∷ sides) scale frozen opens
     queue_without side opens none queue = record {
-      each = search (rules, All-weaker, listed_more);
-      covered =
-          All-push (IsCovered scale frozen opens) sides side queue.covered
-          (inl (λ k d inside. absurd (omega (arith, none, inside))));
+      each = All-weaker (IsOpen sides scale frozen) (IsOpen (side ∷ sides) scale frozen) (listed_more side) opens
+          queue.each;
+      covered = All-cons (IsCovered scale frozen opens) side sides
+          (inl (λ k d inside. absurd (omega (arith, none, inside)))) queue.covered;
     }
 
 -- ---- what the code sees
@@ -225,29 +224,24 @@ module _ (sides : List declared.Side) (side : declared.Side) (opens : List (Reve
     (was : AreOpened sides opens) where
   -- one that counts nobody
   pub opened_more : {x : Reverse OpenSide} (later : List (Reverse OpenSide)) → IsPermutation (x ∷ opens) later
-      → x.0.slack ≡ side.cap → side.users.items ≡ x.0.rising.items → AreOpened (sides ++ side ∷ []) later
+      → x.0.slack ≡ side.cap → side.users.items ≡ x.0.rising.items → AreOpened (side ∷ sides) later
   opened_more {x} later perm slack users = record {
-    queue = λ frozen. subst (λ (xs : List Side). IsQueue xs 1 frozen later) (sym (map_push side_of sides side))
-        (queue_permuted 1 frozen (map side_of sides ++ side_of side ∷ []) (x ∷ opens) later perm
+    queue = λ frozen. queue_permuted 1 frozen (map side_of (side ∷ sides)) (x ∷ opens) later perm
         (queue_more 1 frozen (map side_of sides) (side_of side) x opens
         (account_start (side_of side) 1 frozen x.0.slack x.0.rising.items (omega (arith, slack)) users)
-        (was.queue frozen)));
+        (was.queue frozen));
     users = λ flows all.
         let P : Reverse OpenSide → Type 0 = λ o. All (λ flow. flow < flows) o.0.rising.items in
         let Q : declared.Side → Type 0 = λ s. All (λ flow. flow < flows) s.users.items in
-        let here : Q side = All-contains Q (sides ++ side ∷ []) side all (Contains-push sides side) in
-        All-permutation P (x ∷ opens) later perm (All-cons P x opens (subst (All (λ flow. flow < flows)) users here)
-        (was.users flows (All-from_contains Q sides
-        (λ s c. All-contains Q (sides ++ side ∷ []) s all (Contains-append_left sides (side ∷ []) s c)))));
+        All-permutation P (x ∷ opens) later perm
+        (All-cons P x opens (subst (All (λ flow. flow < flows)) users (All-head Q side sides all))
+        (was.users flows (All-tail Q side sides all)));
   }
 
   -- a side without users has no open one
-  pub opened_without : length side.users.items ≡ 0 → AreOpened (sides ++ side ∷ []) opens
+  pub opened_without : length side.users.items ≡ 0 → AreOpened (side ∷ sides) opens
   opened_without none = record {
-    queue = λ frozen. subst (λ (xs : List Side). IsQueue xs 1 frozen opens) (sym (map_push side_of sides side))
-        (queue_without 1 frozen (map side_of sides) (side_of side) opens none (was.queue frozen));
-    users = λ flows all.
-        let Q : declared.Side → Type 0 = λ s. All (λ flow. flow < flows) s.users.items in
-        was.users flows (All-from_contains Q sides
-        (λ s c. All-contains Q (sides ++ side ∷ []) s all (Contains-append_left sides (side ∷ []) s c)));
+    queue = λ frozen. queue_without 1 frozen (map side_of sides) (side_of side) opens none (was.queue frozen);
+    users = λ flows all. was.users flows (All-tail (λ (s : declared.Side). All (λ flow. flow < flows) s.users.items)
+        side sides all);
   }

@@ -115,7 +115,7 @@ fn open_list(
 {
     opens.clear();
     opens.reserve(sides.len())?;
-    for side in sides.drain(..) {
+    while let Some(side) = sides.pop() {
         let Side {
             cap: slack,
             users: rising,

@@ -49,7 +49,8 @@ impl FairParts {
         self.scale = Natural::from_u64(alloc, 1);
         self.growth.clear();
         self.levels.clear();
-        self.level_of.clear();
+        self.level_of.truncate(count);
+        self.level_of.fill(None);
         self.level_of.resize(count, None)
     }
 

@@ -1,6 +1,6 @@
 use Rattle.std.proofs.lemmas.Slice.Zip.{Zip-more, either_empty_from_Zip}
 use Rattle.fairness.proofs.Fairness.LastRate.{stored, all_stored}
-use Rattle.fair_rates.proofs.bandwidth.rates_by_id.Goals as goal
+use Rattle.fair_rates.proofs.bandwidth.inserted_by_id.Goals as goal
 
 pub loop-flow-preserved : goal.loop-flow-preserved
 loop-flow-preserved g c id =
