@@ -68,15 +68,25 @@ impl<W: Write> Tally<W> {
     {
         let mut rest = bytes;
         while let Some((byte, behind)) = rest.split_first() {
-            if self.matched.is_some() {
+            if let Some(1..) = self.matched {
                 self.note(*byte);
                 rest = behind;
                 continue;
             }
-            let Some(at) = memchr(NEWLINE, rest) else {
+            let Some(at) = memchr(REFUSED[0], rest) else {
+                self.matched = if rest.ends_with(&[NEWLINE]) {
+                    Some(0)
+                } else {
+                    None
+                };
                 return;
             };
-            self.matched = Some(0);
+            let begins = if at == 0 {
+                self.matched.is_some()
+            } else {
+                rest[at - 1] == NEWLINE
+            };
+            self.matched = if begins { Some(1) } else { None };
             rest = &rest[at + 1..];
         }
     }

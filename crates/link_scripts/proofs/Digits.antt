@@ -1,47 +1,47 @@
--- The number that digits write, read from the first to the last.
-use Rattle.link_scripts.proofs.Common.{◌≡◌, ℕ, ◌+◌, ◌*◌, ◌<◌, ◌≤◌, List, [], ◌∷◌, length, get_or, drop, refl, sym, ap}
-use Rattle.link_scripts.proofs.Common.{◌∙◌, subst, digit_value, AllDigits, digits_value, digits_value_after, drop_more}
-use Rattle.std.proofs.lemmas.List.{drop_all}
-use Rattle.link_scripts.proofs.Numerals.{value_after-ge}
+-- Digits in front of a line, read from the first on.
+use Rattle.link_scripts.proofs.Common.{◌≡◌, ℕ, ◌+◌, ◌*◌, ◌^◌, ◌<◌, ◌≤◌, List, length, get_or, take, sym, ap, ◌∙◌, subst}
+use Rattle.link_scripts.proofs.Common.{arith, digit_value, number_word, AllDigits, digits_value}
+use Rattle.std.proofs.Common.{length-take}
+use Rattle.std.specs.Fmt.{decimal}
+use Rattle.std.proofs.lemmas.Fmt.{decimal-digits_value}
+use Rattle.std.proofs.lemmas.Int.Digits.{digits_more, digits_value_more}
+use Rattle.std.proofs.lemmas.List.{get_or-take}
+use Rattle.std.proofs.lemmas.Str.Parse.{IsNumeralModel, digits_value_short, numerals_by_value, tells_digits}
+use Rattle.link_scripts.proofs.Splitting.{LackSpaces}
+use Rattle.link_scripts.proofs.Wording.{IsWord-digits, no_space}
 
--- the first i bytes of a word are digits and write n
-pub record AreRead (word : List ℕ) (i n : ℕ) : Type 0 where
-  digits : AllDigits 10 (drop i word) → AllDigits 10 word
-  rest : AllDigits 10 word → AllDigits 10 (drop i word)
-  value : digits_value_after 10 n (drop i word) ≡ digits_value 10 word
+-- so many bytes of a line are digits and write n
+abbrev pub AreRead : List ℕ → ℕ → ℕ → Type 0
+AreRead line at n = AllDigits 10 (take at line) × (n ≡ digits_value 10 (take at line))
 
--- none is read in the beginning
-pub none_read : (word : List ℕ) → AreRead word 0 0
-none_read word = record { digits = λ all. all; rest = λ all. all; value = refl }
+own : IsNumeralModel (AllDigits 10) (digits_value 10)
+own = numerals_by_value (AllDigits 10) tells_digits
 
-module _ (word : List ℕ) (i n : ℕ) (read : AreRead word i n) where
-  -- at the end the word is digits, and they write n
-  pub all_read : length word ≤ i → AllDigits 10 word × (n ≡ digits_value 10 word)
-  all_read end =
-      let none : drop i word ≡ [] = drop_all i word end in (
-        read.digits (subst (AllDigits 10) (sym none) tt),
-        ap (digits_value_after 10 n) (sym none) ∙ read.value,
-      )
+module _ (line : List ℕ) (at n : ℕ) (read : AreRead line at n) where
+  -- one digit more
+  pub one_more : at < length line → digit_value (get_or line at 0) < 10
+      → AreRead line (at + 1) (n * 10 + digit_value (get_or line at 0))
+  one_more below digit = (
+    digits_more 10 line at below read.0 digit,
+    ap (λ m. m * 10 + digit_value (get_or line at 0)) read.1 ∙ sym (digits_value_more 10 line at below),
+  )
 
-  module _ (below : i < length word) where
-    next : drop i word ≡ get_or word i 0 ∷ drop (i + 1) word
-    next = drop_more word i 0 below
+  -- few digits write a number below that power of ten
+  pub below_power : (most : ℕ) → at ≤ most → n < 10 ^ most
+  below_power most few =
+      subst (λ m. m < 10 ^ most) (sym read.1)
+      (digits_value_short own (take at line) most read.0 (omega (arith, length-take at line)))
 
-    -- one digit more
-    pub one_more : digit_value (get_or word i 0) < 10 → AreRead word (i + 1) (n * 10 + digit_value (get_or word i 0))
-    one_more digit =
-        record {
-          digits = λ all. read.digits (subst (AllDigits 10) (sym next) (digit, all));
-          rest = λ all. (subst (AllDigits 10) next (read.rest all)).1;
-          value = ap (digits_value_after 10 n) (sym next) ∙ read.value;
-        }
+  -- digits are no spaces
+  pub lack_spaces : LackSpaces (take at line)
+  lack_spaces = no_space (take at line) (IsWord-digits (take at line) read.0)
 
-    -- where the next byte is no digit, the word is not digits
-    pub no_digit : ¬ (digit_value (get_or word i 0) < 10) → ¬ (AllDigits 10 word)
-    no_digit other all = other (subst (AllDigits 10) next (read.rest all)).0
-
-    -- what the word writes is no less than what is read with one digit more
-    pub value-ge : n * 10 + digit_value (get_or word i 0) ≤ digits_value 10 word
-    value-ge =
-        subst (λ v. n * 10 + digit_value (get_or word i 0) ≤ v) (ap (digits_value_after 10 n) (sym next) ∙ read.value)
-        (value_after-ge (n * 10 + digit_value (get_or word i 0)) (drop (i + 1) word))
+  -- with no zero in front they are the word of what they write
+  pub word_read : at ≤ length line → at ≤ 19 → (0 < at) × (get_or line 0 0 ≡ 48 → at ≡ 1) → take at line ≡ number_word n
+  word_read within few plain =
+      let long : length (take at line) ≡ at = omega (arith, length-take at line) in
+      sym
+      (ap decimal read.1
+      ∙ decimal-digits_value own (take at line) read.0 (omega (arith, plain.0))
+      (λ zero. long ∙ plain.1 (sym (get_or-take at line 0 0 plain.0) ∙ zero))
+      (omega (arith, read.1, below_power 19 few)))

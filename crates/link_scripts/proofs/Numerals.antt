@@ -1,12 +1,11 @@
 -- Decimal numerals: a number is written in one way with no sign and no zero in front.
 use Rattle.link_scripts.proofs.Common.{◌≡◌, ◌↔◌, ℕ, ◌+◌, ◌*◌, ◌^◌, ◌<◌, ◌≤◌, List, [], ◌∷◌, ◌++◌, length, get_or, Some}
 use Rattle.link_scripts.proofs.Common.{Result, Ok, Err, codes, sym, ap, ◌∙◌, arith, append_assoc, append-nil}
-use Rattle.link_scripts.proofs.Common.{length-append, subst, Option, None, digit_value, IsUtf8, AllDigits, digits_value}
+use Rattle.link_scripts.proofs.Common.{length-append, subst, None, digit_value, IsUtf8, AllDigits, digits_value}
 use Rattle.link_scripts.proofs.Common.{digits_value_after, IsUtf8-from_ascii, digit_from_value}
 use Rattle.std.proofs.Common.{◌/◌, ◌%◌}
 use Rattle.std.proofs.Common.{zero-add}
 use Rattle.std.specs.Fmt.{decimal}
-use Rattle.std.specs.Option.{SomeIff}
 use Rattle.std.specs.Result.{result_ok}
 use Rattle.std.specs.Str.Parse.{ParsesUnsigned}
 use Rattle.std.proofs.lemmas.Fmt.{decimal_digit, decimal_step_wide, decimal_by_steps_wide, decimal_is_IsNumeral_wide}
@@ -117,28 +116,6 @@ parsed {E} word (Ok x) h sign plain n =
 parsed {E} word (Err e) h sign plain n = (
   (λ e. absurd (cc)),
   λ is. ap (result_ok {T = ℕ} {E = E}) (parse-decimal_wide 128 n word (Err e) is.1 (omega (arith, is.1)) is.0 h),
-)
-
--- no number is written with no digit
-pub no_number_empty : (word : List ℕ) (n : ℕ) → n < 2 ^ 128 → length word ≡ 0 → word ≡ decimal n → ⊥
-no_number_empty word n small empty is = omega (arith, ap length is, (first_digit n (omega arith)).0)
-
--- the number that digits without a zero in front write is what they are written of
-pub spelled : (word : List ℕ) (r : Option ℕ)
-    → SomeIff r (AllDigits 10 word × (digits_value 10 word < 2 ^ 64)) (digits_value 10 word) → 0 < length word
-    → (get_or word 0 0 ≡ 48 → length word ≤ 1) → (n : ℕ) → (r ≡ Some n) ↔ ((word ≡ decimal n) × (n < 2 ^ 64))
-spelled word (Some x) h some plain n =
-    let own : decimal x ≡ word =
-    ap decimal h.1 ∙ decimal-digits_value word h.0.0 some plain (omega (arith, h.0.1)) in (
-      (λ e. let same : x ≡ n = cc in (sym own ∙ ap decimal same, omega (arith, h.0.1, h.1, same))),
-      λ is. ap Some (h.1 ∙ ap (digits_value 10) is.0 ∙ (decimal_is_IsNumeral_wide n (omega (arith, is.1))).1),
-    )
-spelled word None h some plain n = (
-  (λ e. absurd (cc)),
-  λ is.
-      let numeral = decimal_is_IsNumeral_wide n (omega (arith, is.1)) in
-      let value : digits_value 10 word ≡ n = ap (digits_value 10) is.0 ∙ numeral.1 in
-      absurd (h (subst (AllDigits 10) (sym is.0) numeral.0.1, omega (arith, is.1, value))),
 )
 
 -- bytes that are no text are no number

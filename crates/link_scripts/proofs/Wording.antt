@@ -147,7 +147,7 @@ is_graphic b h =
     let low : 32 < b = ltb-true 32 b both.0 in
     (ne_eqb b 32 (λ e. omega arith), ltb-true b 128 both.1)
 
-no_space : (word : List ℕ) → IsWord word → All (λ b. eqb b 32 ≡ false) word
+pub no_space : (word : List ℕ) → IsWord word → All (λ b. eqb b 32 ≡ false) word
 no_space [] is = All-nil (λ b. eqb b 32 ≡ false)
 no_space (b ∷ word) is =
     let both = and_parts (graphic b) (list_all graphic word) is in
@@ -159,7 +159,7 @@ below_128 (b ∷ word) is =
     let both = and_parts (graphic b) (list_all graphic word) is in
     All-cons (λ b. b < 128) b word (is_graphic b both.0).1 (below_128 word both.1)
 
-IsWord-digits : (ds : List ℕ) → AllDigits 10 ds → IsWord ds
+pub IsWord-digits : (ds : List ℕ) → AllDigits 10 ds → IsWord ds
 IsWord-digits [] all = refl
 IsWord-digits (c ∷ cs) all =
     let range = digit_from_value c all.0 in
@@ -188,6 +188,13 @@ parts_of-join w [] are = slice_split_none (λ b. eqb b 32) w (no_space w are.0)
 parts_of-join w (v ∷ ws) are =
     slice_split_at (λ b. eqb b 32) w 32 (join_with_byte 32 (v ∷ ws)) (no_space w are.0) (eq-eqb 32 32 refl)
     ∙ ap (λ parts. w ∷ parts) (parts_of-join v ws are.1)
+
+-- a name and the words behind its space are the parts of the line
+pub named_parts : (name line : List ℕ) (rest : List (List ℕ)) → IsWord name → rest ≡ parts_of line
+    → name ∷ rest ≡ parts_of (name ++ 32 ∷ line)
+named_parts name line rest is behind =
+    ap (λ parts. name ∷ parts) behind
+    ∙ sym (slice_split_at (λ b. eqb b 32) name 32 line (no_space name is) (eq-eqb 32 32 refl))
 
 IsWord-small : (n : ℕ) → IsNumberInRange n → IsWord (number_word n)
 IsWord-small n small = IsWord-number n (omega (arith, small))
@@ -378,11 +385,7 @@ module _ (line : List ℕ) (before after : List (List ℕ)) (parts : before ≡ 
     λ is. answer_of answer command takes is,
   )
 
-  -- a line of which no command can be taken says none
-  pub says_none : TakesCommand None → (command : Command) → Says None command
-  says_none takes command = ((λ e. absurd (cc)), λ is. answer_of None command takes is)
-
-  -- nor does a line with parts left over
+  -- a line with parts left over says none
   pub says_less : (answer : Option Command) (word : List ℕ) (rest : List (List ℕ)) → TakesCommand answer
       → after ≡ word ∷ rest → (command : Command) → Says None command
   says_less answer word rest takes more command = (

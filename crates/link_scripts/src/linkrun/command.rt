@@ -1,5 +1,5 @@
 //! The commands of a script.
-ghost use Rattle.std.specs.Prelude.{◌≡◌, ◌≢◌, ◌↔◌, ◌∷◌, Some, codes};
+ghost use Rattle.std.specs.Prelude.{◌≡◌, ◌↔◌, ◌∷◌, ◌++◌, Some, codes};
 ghost use Rattle.link_scripts.specs.Script.{Takes, line_of, command_words, flow_words, IsCommandInRange};
 ghost use Rattle.link_scripts.specs.Script.{IsFlowInRange, network_words, IsNetworkLineInRange};
 ghost use Rattle.link_scripts.specs.Words.{words_left};
@@ -52,40 +52,76 @@ pub enum NetworkLine {
 }
 
 impl Command {
-    /// The command that a line says, where the line is of the language.
+    /// The command that a line says, where the line is of the language. The most frequent ones are looked for first.
     pub fn parse(line: &[u8]) -> Option<Command>
         ensures { (command : Command) → (result ≡ Some command)
             ↔ ((line.now ≡ line_of command) × IsCommandInRange command) }
     {
-        let mut words = Words::of(line);
-        let command = Command::take(&mut words)?;
+        match line.split_first_chunk::<8>() {
+            Some((b"enqueue ", columns)) => Command::of_enqueue(columns),
+            Some((b"advance ", columns)) => Command::of_advance(columns),
+            _ => Command::of_words(line),
+        }
+    }
+
+    /// The command that a line says which has these columns behind `enqueue` and a space.
+    #[inline(always)]
+    fn of_enqueue(columns: &[u8]) -> Option<Command>
+        ensures { (command : Command) → (result ≡ Some command)
+            ↔ ((codes "enqueue " ++ columns.now ≡ line_of command) × IsCommandInRange command) }
+    {
+        let mut words = Words::of(columns);
+        let command = take_enqueue(&mut words);
         match words.next() {
-            None => Some(command),
+            None => command,
             Some(_) => None,
         }
     }
 
-    /// Takes the words of a command. The most frequent one is looked for first.
+    /// The command that a line says which has these columns behind `advance` and a space.
+    #[inline(always)]
+    fn of_advance(columns: &[u8]) -> Option<Command>
+        ensures { (command : Command) → (result ≡ Some command)
+            ↔ ((codes "advance " ++ columns.now ≡ line_of command) × IsCommandInRange command) }
+    {
+        let mut words = Words::of(columns);
+        let command = take_advance(&mut words);
+        match words.next() {
+            None => command,
+            Some(_) => None,
+        }
+    }
+
+    /// The command that a line says, word by word.
+    #[inline(never)]
+    fn of_words(line: &[u8]) -> Option<Command>
+        ensures { (command : Command) → (result ≡ Some command)
+            ↔ ((line.now ≡ line_of command) × IsCommandInRange command) }
+    {
+        let mut words = Words::of(line);
+        let command = Command::take(&mut words);
+        match words.next() {
+            None => command,
+            Some(_) => None,
+        }
+    }
+
+    /// Takes the words of a command.
     fn take(words: &mut Words<'_>) -> Option<Command>
         ensures { Takes command_words IsCommandInRange (words_left words.old) result (words_left words.new) }
     {
         let name = words.next()?;
-        if name == b"enqueue".as_slice() {
-            return take_enqueue(words);
-        }
         Command::take_named(str::from_utf8(name).ok()?, words)
     }
 
-    /// Takes the words of another command than `enqueue` after its name.
+    /// Takes the words of a command after its name.
     fn take_named(name: &str, words: &mut Words<'_>) -> Option<Command>
-        requires { name.now ≢ codes "enqueue" }
         ensures { Takes command_words IsCommandInRange (name.now ∷ words_left words.old) result
             (words_left words.new) }
     {
         match name {
-            "advance" => Some(Command::Schedule(Call::Advance {
-                now: words.number()?,
-            })),
+            "advance" => take_advance(words),
+            "enqueue" => take_enqueue(words),
             "flow" => Some(Command::Flow(flow(words)?)),
             "egress" => Some(Command::Egress {
                 peer: words.number()?,
@@ -143,6 +179,7 @@ fn flow(words: &mut Words<'_>) -> Option<Flow<u64>>
 }
 
 /// Takes the words of an `enqueue` after that word.
+#[inline(always)]
 fn take_enqueue(words: &mut Words<'_>) -> Option<Command>
     ensures { Takes command_words IsCommandInRange (codes "enqueue" ∷ words_left words.old) result
         (words_left words.new) }
@@ -155,6 +192,17 @@ fn take_enqueue(words: &mut Words<'_>) -> Option<Command>
         message: words.length()?,
         latency: words.number()?,
         should_deliver: words.flag()?,
+    }))
+}
+
+/// Takes the words of an `advance` after that word.
+#[inline(always)]
+fn take_advance(words: &mut Words<'_>) -> Option<Command>
+    ensures { Takes command_words IsCommandInRange (codes "advance" ∷ words_left words.old) result
+        (words_left words.new) }
+{
+    Some(Command::Schedule(Call::Advance {
+        now: words.number()?,
     }))
 }
 

@@ -37,8 +37,22 @@ impl Ending {
         ensures text { ending_text self.new ≡ codes " " ++ decimal number ++ ending_text self.old }
         ensures room { self.old.start ≤ self.new.start + 21 }
     {
-        self.start = itoa::write_digits(number, &mut self.bytes, self.start) - 1;
-        self.bytes[self.start] = b' ';
+        self.put_digits(number);
+        self.put_word(b" ");
+    }
+
+    /// Puts the digits of a number in front.
+    fn put_digits(&mut self, number: u64)
+        requires { 20 ≤ self.old.start }
+        ensures text { ending_text self.new ≡ decimal number ++ ending_text self.old }
+        ensures room { self.old.start ≤ self.new.start + 20 }
+    {
+        if number < 10 {
+            self.start -= 1;
+            self.bytes[self.start] = b'0' + number as u8;
+            return;
+        }
+        self.start = itoa::write_digits(number, &mut self.bytes, self.start);
     }
 
     /// Puts a moment, or `-` where there is none, and a space before it in front.

@@ -1,7 +1,7 @@
 //! The words of a line.
-ghost use Rattle.std.specs.Prelude.{◌≡◌, ◌↔◌, ℕ, ◌^◌, ◌<◌, ◌++◌, [], ◌∷◌, Some, IfNone, option_to_list};
-ghost use Rattle.std.specs.Option.{option_copied, SomeIff};
-ghost use Rattle.std.specs.Str.Parse.{AllDigits, digits_value};
+ghost use Rattle.std.specs.Prelude.{◌≡◌, ◌↔◌, ℕ, ◌^◌, ◌<◌, ◌≤◌, ◌++◌, [], ◌∷◌, Some, IfSome, IfNone, IsTrue, length};
+ghost use Rattle.std.specs.Prelude.{option_to_list, slice_index};
+ghost use Rattle.std.specs.Option.{option_copied};
 ghost use Rattle.link_scripts.specs.Script.{Takes, number_word, cap_word, flag_word, IsNumberInRange, IsCapInRange};
 ghost use Rattle.link_scripts.specs.Script.{IsSmallCapInRange, IsLengthInRange, IsWeightInRange, weight_word};
 
@@ -9,6 +9,9 @@ use std::num::NonZeroU64;
 
 /// The most bytes that a message has.
 const MOST_LENGTH: usize = 67_108_864;
+
+/// The most digits that a number of 64 bits surely has room for.
+const MOST_DIGITS: usize = 19;
 
 /// The byte between two words.
 const SPACE: u8 = b' ';
@@ -31,6 +34,7 @@ impl<'a> Words<'a> {
     }
 
     /// Takes the next word.
+    #[inline(always)]
     pub fn next(&mut self) -> Option<&'a [u8]>
         ensures taken { words_left self.old ≡ option_to_list (option_copied result) ++ words_left self.new }
         ensures none { IfNone result (words_left self.old ≡ []) }
@@ -46,11 +50,43 @@ impl<'a> Words<'a> {
         Some(rest)
     }
 
-    /// Takes the next word, a number of 64 bits.
+    /// Takes the next word, a number of 64 bits. It is inlined where a line is read, so that what is
+    /// left of the line stays at hand.
+    #[inline(always)]
     pub fn number(&mut self) -> Option<u64>
         ensures { Takes (λ n. number_word n ∷ []) IsNumberInRange (words_left self.old) result (words_left self.new) }
     {
-        number(self.next()?)
+        match self.short_number() {
+            Some(number) => Some(number),
+            None => number(self.next()?),
+        }
+    }
+
+    /// Takes the next word if it is a number of at most 19 digits, in one pass over it.
+    #[inline(always)]
+    fn short_number(&mut self) -> Option<u64>
+        ensures taken { IfSome result (λ n. (words_left self.old ≡ number_word n ∷ words_left self.new)
+            × (n < 2 ^ 64)) }
+        ensures kept { IfNone result (words_left self.new ≡ words_left self.old) }
+    {
+        let line = self.rest?;
+        let most = line.len().min(MOST_DIGITS);
+        let mut number = 0u64;
+        for at in 0..most {
+            let Some(digit) = (line[at] as char).to_digit(10) else {
+                if line[at] != SPACE || !has_digits(line, at) {
+                    return None;
+                }
+                self.rest = Some(&line[at + 1..]);
+                return Some(number);
+            };
+            number = number * 10 + u64::from(digit);
+        }
+        if most < line.len() || !has_digits(line, most) {
+            return None;
+        }
+        self.rest = None;
+        Some(number)
     }
 
     /// Takes the next word, a cap in bytes a second or `-` for none.
@@ -75,10 +111,11 @@ impl<'a> Words<'a> {
     }
 
     /// Takes the next word, the length of a message.
+    #[inline(always)]
     pub fn length(&mut self) -> Option<usize>
         ensures { Takes (λ n. number_word n ∷ []) IsLengthInRange (words_left self.old) result (words_left self.new) }
     {
-        let length = number(self.next()?)? as usize;
+        let length = self.number()? as usize;
         if length > MOST_LENGTH {
             return None;
         }
@@ -93,6 +130,7 @@ impl<'a> Words<'a> {
     }
 
     /// Takes the next word, `0` or `1`.
+    #[inline(always)]
     pub fn flag(&mut self) -> Option<bool>
         ensures { Takes (λ flag. flag_word flag ∷ []) (λ _. Unit {0})
             (words_left self.old) result (words_left self.new) }
@@ -105,27 +143,21 @@ impl<'a> Words<'a> {
     }
 }
 
+/// Whether there are digits in front of a line, so many, and no zero in front of another one.
+#[inline(always)]
+fn has_digits(line: &[u8], count: usize) -> bool
+    requires { count ≤ length line.now }
+    ensures { IsTrue result → (0 < count) × (slice_index line.now 0 ≡ 48 → count ≡ 1) }
+{
+    count == 1 || (count > 1 && line[0] != b'0')
+}
+
 /// The number of at most 64 bits that a word is: decimal digits, with no sign, and with no zero in
 /// front of another digit.
 fn number(word: &[u8]) -> Option<u64>
     ensures { (n : ℕ) → (result ≡ Some n) ↔ ((word.now ≡ number_word n) × (n < 2 ^ 64)) }
 {
-    if word.is_empty() || (word[0] == b'0' && word.len() > 1) {
-        return None;
-    }
-    value_of_digits(word)
-}
-
-/// The number that a word of digits alone writes, where it has at most 64 bits.
-fn value_of_digits(word: &[u8]) -> Option<u64>
-    ensures { SomeIff result (AllDigits 10 word.now × (digits_value 10 word.now < 2 ^ 64)) (digits_value 10 word.now) }
-{
-    let mut number = 0u64;
-    for byte in word {
-        let digit = (*byte as char).to_digit(10)?;
-        number = number.checked_mul(10)?.checked_add(u64::from(digit))?;
-    }
-    Some(number)
+    u64::try_from(wide_number(word)?).ok()
 }
 
 /// The number of at most 128 bits that a word is, written as one of 64 bits is.
