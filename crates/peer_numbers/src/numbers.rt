@@ -101,8 +101,10 @@ impl<P: Peer> PeerNumbers<P> {
             return Ok(number);
         }
         let number = self.find_or_push(peer)?;
-        if self.hints.are_few_for(self.peers.len()) {
-            self.hints.grow(&self.peers);
+        if self.hints.are_few_for(self.peers.len()) && self.hints.grow() {
+            for (number, peer) in self.peers.iter().enumerate() {
+                self.hints.note(peer.hint(), number);
+            }
         }
         self.hints.note(peer.hint(), number);
         Ok(number)

@@ -2,42 +2,19 @@
 ghost use Rattle.std.specs.Prelude.{◌≡◌, [], length, Some, IfOk, IfErr, OnOk, OnErr};
 ghost use Rattle.peer_numbers.specs.Pairs.{number_of_pair, IsWithPair};
 
+use crate::ends::{EndNumbers, Ends};
 use crate::numbers::PeerNumbers;
 use fairness::error::Error;
 use fairness::peer::Peer;
 use std::alloc::Global;
 use std::marker::Model;
 
-/// So far apart are the hints of two origins to one recipient: a prime, so that few pairs share one.
-const ORIGIN_STEP: u64 = 1_000_003;
-
-/// The numbers of the peers of a pair.
-#[derive(Clone, Copy, PartialEq, Eq, PartialOrd, Ord)]
-struct Ends {
-    origin: usize,
-    recipient: usize,
-}
-
-impl Peer for Ends {
-    /// The numbers themselves, always.
-    fn clone_peer(&self) -> Option<Ends> {
-        Some(*self)
-    }
-
-    /// Numbers of one origin follow one another.
-    fn hint(&self) -> u64 {
-        (self.origin as u64)
-            .wrapping_mul(ORIGIN_STEP)
-            .wrapping_add(self.recipient as u64)
-    }
-}
-
 /// Ordered pairs of peers with a number each: 0, 1, 2 and so on, in the order in which they first came. A pair
 /// keeps its number. To callers it is the list of the pairs, where the number of each is its place.
 pub struct PairNumbers<P: Peer> {
     peers: PeerNumbers<P>,
     // The number of a pair is that of its ends.
-    ends: PeerNumbers<Ends>,
+    ends: EndNumbers,
 }
 
 impl<P: Peer> Drop for PairNumbers<P> {
@@ -68,7 +45,7 @@ impl<P: Peer> PairNumbers<P> {
     {
         PairNumbers {
             peers: PeerNumbers::new(alloc),
-            ends: PeerNumbers::new(alloc),
+            ends: EndNumbers::new(alloc),
         }
     }
 
@@ -86,7 +63,7 @@ impl<P: Peer> PairNumbers<P> {
     {
         let origin = self.peers.number(origin)?;
         let recipient = self.peers.number(recipient)?;
-        self.ends.number(&Ends { origin, recipient })
+        self.ends.number(Ends { origin, recipient })
     }
 
     /// The number of the pair, which gets the next one if it has none: then clones of its peers are kept.
@@ -99,11 +76,8 @@ impl<P: Peer> PairNumbers<P> {
         ensures refused { IfErr result (λ error. error ≡ Error.OutOfMemory) }
         ensures unchanged { OnErr result (self.new ≡ self.old) }
     {
-        if let Some(number) = self.number(origin, recipient) {
-            return Ok(number);
-        }
         let origin = self.peers.add(origin)?;
         let recipient = self.peers.add(recipient)?;
-        self.ends.add(&Ends { origin, recipient })
+        self.ends.add(Ends { origin, recipient })
     }
 }

@@ -3,7 +3,7 @@ use Rattle.std.proofs.lemmas.Result.{IfOk-weaker, on_ok_weaker, on_err_weaker}
 use Rattle.peer_numbers.specs.Peers.{number_of}
 use Rattle.peer_numbers.specs.Pairs.{listed_pairs, ArePairsNumbered}
 use Rattle.peer_numbers.proofs.Peers.{number_stays as number_of_peer_stays}
-use Rattle.peer_numbers.proofs.OrderedPairs.{on_err, all_stay, listed_stay, ends_by_parts, with_ends, numbered_after, number_of_ends}
+use Rattle.peer_numbers.proofs.OrderedPairs.{on_err, all_stay, listed_stay, with_ends, numbered_after, number_by_ends}
 use Rattle.peer_numbers.proofs.pairs.PairNumbers.add.Given.{Over}
 use Rattle.peer_numbers.proofs.pairs.PairNumbers.add.Goals as goal
 
@@ -51,16 +51,16 @@ origin g c =
 
 pub invariant_of-self-2 : goal.invariant_of-self-2
 invariant_of-self-2 g c =
-    numbered_after g.P.Ord.cmp g.met.P.Ord.total _ ends_by_parts c.add-2.new.self c.self.inside.ends c.add-3.new.self
+    numbered_after g.P.Ord.cmp g.met.P.Ord.total c.add-2.new.self c.self.inside.ends c.add-3.new.self
     (numbered g c) c.args.origin.now c.args.recipient.now
     (record { origin = c.in_ok-origin.origin; recipient = c.in_ok-recipient.recipient }) (origin g c)
-    c.in_ok-recipient.ensures.number c.add-3.result c.add-3.ensures.peers c.add-3.ensures.unchanged
+    c.in_ok-recipient.ensures.number c.add-3.result c.add-3.ensures.ends c.add-3.ensures.unchanged
 
 pub returns-clause-number : goal.returns-clause-number
 returns-clause-number g c =
     IfOk-weaker c.add-3.result _ _
     (λ number h.
-    number_of_ends g.P.Ord.cmp g.met.P.Ord.total _ ends_by_parts c.add-2.new.self c.add-3.new.self
+    number_by_ends g.P.Ord.cmp g.met.P.Ord.total c.add-2.new.self c.add-3.new.self
     (invariant_of-self-2 g c) c.args.origin.now c.args.recipient.now
     (record { origin = c.in_ok-origin.origin; recipient = c.in_ok-recipient.recipient }) (origin g c)
     c.in_ok-recipient.ensures.number
@@ -72,11 +72,11 @@ returns-clause-pairs g c =
     rw (← listed g c)
     (on_ok_weaker c.add-3.result
     (λ with.
-    (with_ends g.P.Ord.cmp g.met.P.Ord.total _ ends_by_parts c.add-2.new.self c.self.inside.ends c.add-3.new.self
+    (with_ends g.P.Ord.cmp g.met.P.Ord.total c.add-2.new.self c.self.inside.ends c.add-3.new.self
     (numbered g c) c.args.origin.now c.args.recipient.now
     (record { origin = c.in_ok-origin.origin; recipient = c.in_ok-recipient.recipient }) (origin g c)
     c.in_ok-recipient.ensures.number with).pairs)
-    c.add-3.ensures.peers)
+    c.add-3.ensures.ends)
 
 pub returns-clause-unchanged : goal.returns-clause-unchanged
 returns-clause-unchanged g c =
