@@ -15,6 +15,10 @@ use Rattle.peer_numbers.proofs.Peers.{position_push}
 pub eqb_flip : (a b : ℕ) → eqb a b ≡ eqb b a
 eqb_flip a b = grind (arith, nat_tests)
 
+-- ends are one with themselves
+pub itself : (e : Ends) → same_ends e e ≡ true
+itself e = grind (arith, nat_tests)
+
 -- others than the one of two that are one are others than the other
 others : (e d x : Ends) → same_ends e d ≡ true → same_ends x d ≡ false → same_ends e x ≡ false
 others e d x same other = grind (arith, nat_tests)
@@ -80,10 +84,9 @@ with_number ends new e number is with = by (list_any (same_ends e) ends) refl wi
         let long : position_or_len (same_ends e) ends ≡ length ends = fails (same_ends e) ends any in
         let past : ltb (position_or_len (same_ends e) ends) (length ends) ≡ false = grind (arith, nat_tests) in
         let none : number_of_ends ends e ≡ None =
-        ap (λ b. cond b (Some (position_or_len (same_ends e) ends)) None) past in
-        let itself : same_ends e e ≡ true = grind (arith, nat_tests) in (
+        ap (λ b. cond b (Some (position_or_len (same_ends e) ends)) None) past in (
           ap (λ list. number_of_ends list e) w ∙ position_push (same_ends e) ends e
-              ∙ ap₂ (λ found b. option_or found (cond b (Some (length ends)) None)) none itself
+              ∙ ap₂ (λ found b. option_or found (cond b (Some (length ends)) None)) none (itself e)
               ∙ ap Some (sym long ∙ sym is),
           is_with None none w,
         )

@@ -1,9 +1,9 @@
 use Rattle.std.proofs.Common.{◌≡◌, Some}
 use Rattle.peer_numbers.specs.Ends.{number_of_ends, IsWithEnds}
 use Rattle.peer_numbers.proofs.EndPlaces.{with_number}
-use Rattle.peer_numbers.proofs.ends.EndNumbers.find_or_insert.Goals as goal
+use Rattle.peer_numbers.proofs.ends.EndNumbers.add.Goals as goal
 
-told : (c : goal.After-note)
+told : (c : goal.In-Ok)
     → (number_of_ends c.insert_full.new.self.keys c.args.ends ≡ Some c.in-Ok.number)
     × IsWithEnds c.self.inside.known.keys c.args.ends c.insert_full.new.self.keys
 told c =

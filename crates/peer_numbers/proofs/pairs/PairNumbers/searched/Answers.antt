@@ -1,6 +1,6 @@
 use Rattle.std.proofs.Common.{sym, ◌∙◌, rules}
 use Rattle.peer_numbers.proofs.OrderedPairs.{number_by_ends, no_origin, no_recipient}
-use Rattle.peer_numbers.proofs.pairs.PairNumbers.number.Goals as goal
+use Rattle.peer_numbers.proofs.pairs.PairNumbers.searched.Goals as goal
 
 pub returns-in_err-origin : goal.returns-in_err-origin
 returns-in_err-origin g c =
