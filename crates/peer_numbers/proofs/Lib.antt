@@ -1,2 +1,3 @@
+pub mod EndPlaces
 pub mod OrderedPairs
 pub mod Peers

@@ -8,8 +8,7 @@ use Rattle.std.specs.List.{position, position_or_len}
 use Rattle.std.specs.Option.{option_or}
 use Rattle.std.specs.declared.cmp.Ordering.{Ordering}
 use Rattle.std.specs.declared.cmp.Ordering.TheVariants.{Less, Equal, Greater}
-use Rattle.std.specs.Ordering.{is_eq, nat_cmp, ordering_then}
-use Rattle.std.proofs.lemmas.Bool.Decides.{nat_tests}
+use Rattle.std.specs.Ordering.{is_eq, ordering_then}
 use Rattle.std.proofs.lemmas.Bool.{and_from}
 use Rattle.std.proofs.lemmas.Cmp.{on_total, then_total, tied_back}
 use Rattle.std.proofs.lemmas.List.{length-map, map-append, append_assoc}
@@ -18,9 +17,11 @@ use Rattle.std.proofs.lemmas.List.Quantifiers.{position-Some}
 use Rattle.std.proofs.lemmas.Option.{slice_get-get_or}
 use Rattle.fairness.proofs.Lists.Sorted.{is_eq_equal}
 use Rattle.fairness.specs.Sides.Subjects.{same_peer}
-use Rattle.peer_numbers.specs.declared.pairs.Ends.{Ends}
+use Rattle.peer_numbers.specs.declared.ends.Ends.{Ends}
+use Rattle.peer_numbers.specs.Ends.{same_ends, number_of_ends, IsWithEnds}
 use Rattle.peer_numbers.specs.Peers.{number_of, IsWithPeer}
 use Rattle.peer_numbers.specs.Pairs.{is_pair_of, number_of_pair, IsWithPair, both, listed_pairs, IsFirstPlace, AreEnds, ArePairsNumbered}
+use Rattle.peer_numbers.proofs.EndPlaces.{eqb_flip}
 use Rattle.peer_numbers.proofs.Peers.{position_push, number_of-same}
 use Rattle.peer_numbers.proofs.Peers.{same_number as same_number_of_peer, number_stays as number_of_peer_stays, other_peer}
 
@@ -236,17 +237,15 @@ module _ {P : Type 0} (cmp : P → P → Ordering) (total : IsTotalOrder cmp) wh
       (sym (same_number_of_peer cmp total peers o h.origin.peer e.origin d.origin origin h.origin.first))
       (sym (same_number_of_peer cmp total peers r h.recipient.peer e.recipient d.recipient recipient h.recipient.first)))
 
-  module _ (ends_cmp : Ends → Ends → Ordering)
-      (by_parts : (e d : Ends) → same_peer ends_cmp e d ≡ (eqb d.origin e.origin && eqb d.recipient e.recipient)) where
-    -- a pair has the number of its ends
-    pub number_of_ends : (peers : List P) (ends : List Ends) → ArePairsNumbered cmp peers ends → (o r : P) (e : Ends)
-        → number_of cmp peers o ≡ Some e.origin → number_of cmp peers r ≡ Some e.recipient
-        → number_of_pair cmp (listed_pairs peers ends) o r ≡ number_of ends_cmp ends e
-    number_of_ends peers ends h o r e origin recipient =
-        position_alike (is_pair_of cmp o r) (same_peer ends_cmp e) (listed_pairs peers ends) ends
-        (mapped cmp peers (is_pair_of cmp o r) (same_peer ends_cmp e)
-        (λ d are. of_ends peers o r e d are origin recipient ∙ ap (λ b. b ∷ []) (sym (by_parts e d)))
-        ends h)
+  -- a pair has the number of its ends
+  pub number_by_ends : (peers : List P) (ends : List Ends) → ArePairsNumbered cmp peers ends → (o r : P) (e : Ends)
+      → number_of cmp peers o ≡ Some e.origin → number_of cmp peers r ≡ Some e.recipient
+      → number_of_pair cmp (listed_pairs peers ends) o r ≡ number_of_ends ends e
+  number_by_ends peers ends h o r e origin recipient =
+      position_alike (is_pair_of cmp o r) (same_ends e) (listed_pairs peers ends) ends
+      (mapped cmp peers (is_pair_of cmp o r) (same_ends e) (λ d are. of_ends peers o r e d are origin recipient
+      ∙ ap₂ (λ a b. (a && b) ∷ []) (eqb_flip d.origin e.origin) (eqb_flip d.recipient e.recipient))
+      ends h)
 
   -- a peer that has no number is in no pair
   pub no_origin : (peers : List P) (ends : List Ends) → ArePairsNumbered cmp peers ends → (o r : P)
@@ -274,21 +273,9 @@ module _ {P : Type 0} (cmp : P → P → Ordering) (total : IsTotalOrder cmp) wh
       ends h)
       ∙ position_none ends)
 
--- ---- how the numbers of two pairs compare
-
-number_eq : (a b : ℕ) → is_eq (nat_cmp a b) ≡ eqb b a
-number_eq a b = grind (arith, nat_tests)
-
-pub ends_by_parts : (e d : Ends) → is_eq (ordering_then (nat_cmp e.origin d.origin) (nat_cmp e.recipient d.recipient))
-    ≡ (eqb d.origin e.origin && eqb d.recipient e.recipient)
-ends_by_parts e d =
-    is_eq-then (nat_cmp e.origin d.origin) (nat_cmp e.recipient d.recipient)
-    ∙ ap₂ (λ a b. a && b) (number_eq e.origin d.origin) (number_eq e.recipient d.recipient)
-
 -- ---- one more of the ends
 
-module _ {P : Type 0} (cmp : P → P → Ordering) (total : IsTotalOrder cmp) (ends_cmp : Ends → Ends → Ordering)
-    (by_parts : (e d : Ends) → same_peer ends_cmp e d ≡ (eqb d.origin e.origin && eqb d.recipient e.recipient)) where
+module _ {P : Type 0} (cmp : P → P → Ordering) (total : IsTotalOrder cmp) where
   -- the pairs with that of two peers
   pub record IsMorePairs (peers : List P) (ends : List Ends) (o r : P) (new : List Ends) : Type 0 where
     pub numbered : ArePairsNumbered cmp peers new
@@ -301,28 +288,24 @@ module _ {P : Type 0} (cmp : P → P → Ordering) (total : IsTotalOrder cmp) (e
       sym (same_number_of_peer cmp total peers peer first.peer number number h first.first) ∙ itself
 
   -- the next number goes to a pair that has none
-  more_pairs : (peers : List P) (ends : List Ends) → ArePairsNumbered cmp peers ends → (o r : P) (e copy : Ends)
-      → number_of cmp peers o ≡ Some e.origin → number_of cmp peers r ≡ Some e.recipient
-      → number_of ends_cmp ends e ≡ None → same_peer ends_cmp copy e ≡ true
-      → IsMorePairs peers ends o r (ends ++ copy ∷ [])
-  more_pairs peers ends h o r e copy origin recipient none same =
-      let parts : (eqb e.origin copy.origin && eqb e.recipient copy.recipient) ≡ true = sym (by_parts copy e) ∙ same in
-      let same_origin : e.origin ≡ copy.origin = grind (arith, nat_tests) in
-      let same_recipient : e.recipient ≡ copy.recipient = grind (arith, nat_tests) in
-      let o_there = first_place cmp total peers o copy.origin (origin ∙ ap Some same_origin) in
-      let r_there = first_place cmp total peers r copy.recipient (recipient ∙ ap Some same_recipient) in
-      let absent = number_of_ends cmp total ends_cmp by_parts peers ends h o r e origin recipient ∙ none in
-      let all = listed_push cmp peers ends copy o_there.peer r_there.peer o_there.there r_there.there in
+  more_pairs : (peers : List P) (ends : List Ends) → ArePairsNumbered cmp peers ends → (o r : P) (e : Ends)
+      → number_of cmp peers o ≡ Some e.origin → number_of cmp peers r ≡ Some e.recipient → number_of_ends ends e ≡ None
+      → IsMorePairs peers ends o r (ends ++ e ∷ [])
+  more_pairs peers ends h o r e origin recipient none =
+      let o_there = first_place cmp total peers o e.origin origin in
+      let r_there = first_place cmp total peers r e.recipient recipient in
+      let absent = number_by_ends cmp total peers ends h o r e origin recipient ∙ none in
+      let all = listed_push cmp peers ends e o_there.peer r_there.peer o_there.there r_there.there in
       record {
-        numbered = All-push (AreEnds cmp peers) ends copy h (record { origin = o_there; recipient = r_there });
+        numbered = All-push (AreEnds cmp peers) ends e h (record { origin = o_there; recipient = r_there });
         pairs = subst (λ (found : Option ℕ). MatchOption found
             ((one : P × P) × (is_pair_of cmp o r one ≡ true)
-            × (listed_pairs peers (ends ++ copy ∷ []) ≡ listed_pairs peers ends ++ one ∷ []))
-            (λ number. listed_pairs peers (ends ++ copy ∷ []) ≡ listed_pairs peers ends))
+            × (listed_pairs peers (ends ++ e ∷ []) ≡ listed_pairs peers ends ++ one ∷ []))
+            (λ number. listed_pairs peers (ends ++ e ∷ []) ≡ listed_pairs peers ends))
             (sym absent) (
               (o_there.peer, r_there.peer),
-              and_from (same_peer cmp o o_there.peer) (same_peer cmp r r_there.peer) (one_with peers o copy.origin (origin ∙ ap Some same_origin) o_there)
-                  (one_with peers r copy.recipient (recipient ∙ ap Some same_recipient) r_there),
+              and_from (same_peer cmp o o_there.peer) (same_peer cmp r r_there.peer) (one_with peers o e.origin origin o_there)
+                  (one_with peers r e.recipient recipient r_there),
               all,
             );
       }
@@ -340,27 +323,21 @@ module _ {P : Type 0} (cmp : P → P → Ordering) (total : IsTotalOrder cmp) (e
   }
 
   pub with_ends : (peers : List P) (ends new : List Ends) → ArePairsNumbered cmp peers ends → (o r : P) (e : Ends)
-      → number_of cmp peers o ≡ Some e.origin → number_of cmp peers r ≡ Some e.recipient
-      → IsWithPeer ends_cmp ends e new → IsMorePairs peers ends o r new
-  with_ends peers ends new h o r e origin recipient with = by (number_of ends_cmp ends e) refl with
+      → number_of cmp peers o ≡ Some e.origin → number_of cmp peers r ≡ Some e.recipient → IsWithEnds ends e new
+      → IsMorePairs peers ends o r new
+  with_ends peers ends new h o r e origin recipient with = by (number_of_ends ends e) refl with
     where
-      by : (found : Option ℕ) → number_of ends_cmp ends e ≡ found
-          → MatchOption found
-          ((copy : Ends) × (same_peer ends_cmp copy e ≡ true) × (new ≡ ends ++ copy ∷ []))
-          (λ number. new ≡ ends)
-          → IsMorePairs peers ends o r new
-      by None is w =
-          subst (IsMorePairs peers ends o r) (sym w.2)
-          (more_pairs peers ends h o r e w.0 origin recipient is w.1)
+      by : (found : Option ℕ) → number_of_ends ends e ≡ found
+          → MatchOption found (new ≡ ends ++ e ∷ []) (λ number. new ≡ ends) → IsMorePairs peers ends o r new
+      by None is w = subst (IsMorePairs peers ends o r) (sym w) (more_pairs peers ends h o r e origin recipient is)
       by (Some number) is w =
           subst (IsMorePairs peers ends o r) (sym w)
-          (same_pairs peers ends h o r number
-          (number_of_ends cmp total ends_cmp by_parts peers ends h o r e origin recipient ∙ is))
+          (same_pairs peers ends h o r number (number_by_ends cmp total peers ends h o r e origin recipient ∙ is))
 
   -- and where memory is refused none has come
   pub numbered_after : (peers : List P) (ends new : List Ends) → ArePairsNumbered cmp peers ends → (o r : P) (e : Ends)
       → number_of cmp peers o ≡ Some e.origin → number_of cmp peers r ≡ Some e.recipient
-      → {T E : Type 0} → (result : Result T E) → OnOk result (IsWithPeer ends_cmp ends e new)
+      → {T E : Type 0} → (result : Result T E) → OnOk result (IsWithEnds ends e new)
       → OnErr result (new ≡ ends) → ArePairsNumbered cmp peers new
   numbered_after peers ends new h o r e origin recipient (Ok t) with kept =
       (with_ends peers ends new h o r e origin recipient with).numbered

@@ -4,7 +4,7 @@ use Rattle.std.specs.Prelude.{Option, Some, None, MatchOption}
 use Rattle.std.specs.List.{position}
 use Rattle.std.specs.declared.cmp.Ordering.{Ordering}
 use Rattle.fairness.specs.Sides.Subjects.{same_peer}
-use Rattle.peer_numbers.specs.declared.pairs.Ends.{Ends}
+use Rattle.peer_numbers.specs.declared.ends.Ends.{Ends}
 use Rattle.peer_numbers.specs.Peers.{number_of}
 
 module _ {P : Type 0} (cmp : P → P → Ordering) where

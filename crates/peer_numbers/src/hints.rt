@@ -1,5 +1,4 @@
 //! Guesses at the numbers of peers, by what they tell of themselves.
-use fairness::peer::Peer;
 use std::alloc::Global;
 
 /// There is room for at least so many guesses, once there is one.
@@ -45,15 +44,10 @@ impl Hints {
         count > self.guesses.len() / 2
     }
 
-    /// There are twice as many guesses from now on, if there is memory, and each peer is guessed to have the number that
-    /// is its place.
-    pub(crate) fn grow<P: Peer>(&mut self, peers: &[P]) {
+    /// There are twice as many guesses from now on, if there is memory. Then each number is to be noted anew.
+    pub(crate) fn grow(&mut self) -> bool {
         let count = self.guesses.len().saturating_mul(2).max(FEW);
-        if self.guesses.resize(count, 0).is_ok() {
-            for (number, peer) in peers.iter().enumerate() {
-                self.note(peer.hint(), number);
-            }
-        }
+        self.guesses.resize(count, 0).is_ok()
     }
 
     /// Where the guess for that hint stands. How many there are is a power of two.

@@ -1,5 +1,5 @@
 //! Peers with a number each.
-ghost use Rattle.std.specs.Prelude.{◌≡◌, [], length, Some, IfSome, IfOk, IfErr, OnOk, OnErr};
+ghost use Rattle.std.specs.Prelude.{◌≡◌, [], length, true, Some, IfSome, IfOk, IfErr, OnOk, OnErr};
 ghost use Rattle.peer_numbers.specs.Peers.{number_of, IsWithPeer};
 
 use crate::hints::Hints;
@@ -64,16 +64,30 @@ impl<P: Peer> PeerNumbers<P> {
         self.peers.len()
     }
 
+    /// The peer of that number, if there is one.
+    #[inline(always)]
+    pub(crate) fn get(&self, number: usize) -> Option<&P> {
+        self.peers.get(number)
+    }
+
+    /// Whether the peer has that number. It may be guessed.
+    #[inline(always)]
+    pub(crate) fn has_number(&self, number: usize, peer: &P) -> bool
+        ensures { result ≡ true → number_of P.cmp self.now peer.now ≡ Some number }
+    {
+        match self.peers.get(number) {
+            Some(known) => known.cmp(peer).is_eq(),
+            None => false,
+        }
+    }
+
     /// The number that is guessed for the peer, if it is its number.
     #[inline(always)]
     fn guessed(&self, peer: &P) -> Option<usize>
         ensures { IfSome result (λ number. number_of P.cmp self.now peer.now ≡ Some number) }
     {
         let number = self.hints.number(peer.hint());
-        match self.peers.get(number) {
-            Some(known) if known.cmp(peer).is_eq() => Some(number),
-            _ => None,
-        }
+        self.has_number(number, peer).then_some(number)
     }
 
     /// The number of the peer, if it has one.
@@ -101,8 +115,10 @@ impl<P: Peer> PeerNumbers<P> {
             return Ok(number);
         }
         let number = self.find_or_push(peer)?;
-        if self.hints.are_few_for(self.peers.len()) {
-            self.hints.grow(&self.peers);
+        if self.hints.are_few_for(self.peers.len()) && self.hints.grow() {
+            for (number, peer) in self.peers.iter().enumerate() {
+                self.hints.note(peer.hint(), number);
+            }
         }
         self.hints.note(peer.hint(), number);
         Ok(number)

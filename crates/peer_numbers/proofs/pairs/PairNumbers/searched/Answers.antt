@@ -1,6 +1,6 @@
 use Rattle.std.proofs.Common.{sym, ◌∙◌, rules}
-use Rattle.peer_numbers.proofs.OrderedPairs.{number_of_ends, no_origin, no_recipient, ends_by_parts}
-use Rattle.peer_numbers.proofs.pairs.PairNumbers.number.Goals as goal
+use Rattle.peer_numbers.proofs.OrderedPairs.{number_by_ends, no_origin, no_recipient}
+use Rattle.peer_numbers.proofs.pairs.PairNumbers.searched.Goals as goal
 
 pub returns-in_err-origin : goal.returns-in_err-origin
 returns-in_err-origin g c =
@@ -21,7 +21,7 @@ returns g c =
     rw (← c.self.view_is)
     (c.number-3.ensures
     ∙ sym
-    (number_of_ends g.P.Ord.cmp g.met.P.Ord.total _ ends_by_parts c.self.inside.peers c.self.inside.ends c.self.invariant
+    (number_by_ends g.P.Ord.cmp g.met.P.Ord.total c.self.inside.peers c.self.inside.ends c.self.invariant
     c.args.origin.now c.args.recipient.now
     (record { origin = c.in_ok-origin.origin; recipient = c.in_ok-recipient.recipient })
     (search rules) (search rules)))
