@@ -10,11 +10,9 @@ pub use Rattle.std.proofs.Math.Nat.{le_of_mul-le-mul_right, lt_of_mul-lt-mul_rig
 pub use Rattle.std.proofs.lemmas.Bool.{and_from, and_parts, cases_eq, cases_lt, eq-eqb, eqb-true, false≢true}
 pub use Rattle.std.proofs.lemmas.Cmp.{eq_by_cmp_equiv}
 pub use Rattle.std.proofs.lemmas.Grind.{common_steps}
-pub use Rattle.std.proofs.lemmas.List.{append-nil}
-pub use Rattle.std.proofs.lemmas.List.{map-append}
-pub use Rattle.std.proofs.lemmas.List.Elements.{All-append, All-cons, All-contains, All-head, All-nil}
-pub use Rattle.std.proofs.lemmas.List.Elements.{All-tail, All-weaker, Contains-append_left}
-pub use Rattle.std.proofs.lemmas.List.Elements.{Contains-append_right}
+pub use Rattle.std.proofs.lemmas.List.{append-nil, map-append}
+pub use Rattle.std.proofs.lemmas.List.Elements.{All-append, All-cons, All-contains, All-head, All-nil, All-tail}
+pub use Rattle.std.proofs.lemmas.List.Elements.{All-weaker, Contains-append_left, Contains-append_right}
 pub use Rattle.std.proofs.lemmas.List.Sums.{get_or-le-sum_by, sum_by-cons}
 pub use Rattle.std.proofs.lemmas.Option.{same_Some, slice_get-map}
 pub use Rattle.std.specs.Cmp.{IsTotalOrder}
@@ -46,9 +44,8 @@ pub use Rattle.fairness.specs.Sides.Answers.{AnswerInOrder, Answered, CallableOn
 pub use Rattle.fairness.specs.Sides.Answers.{CalledIfDelivered, Calls, CallsFor, NoLink, PairCalls, States, pairs}
 pub use Rattle.fairness.specs.Sides.Answers.{recipients}
 pub use Rattle.fairness.specs.Sides.Caps.{Caps}
-pub use Rattle.fairness.specs.Sides.Subjects.{Ask, Subject, asks_from, is_open, is_same, opened}
-pub use Rattle.fairness.specs.Sides.Subjects.{received_by, same_peer, same_subject, sent_between, sent_by}
-pub use Rattle.fairness.specs.Sides.Subjects.{sides_after, sides_of}
+pub use Rattle.fairness.specs.Sides.Subjects.{Ask, Subject, asks_from, is_open, is_same, opened, received_by, same_peer}
+pub use Rattle.fairness.specs.Sides.Subjects.{same_subject, sent_between, sent_by, sides_after, sides_of}
 pub use Rattle.fairness.specs.declared.bandwidth.Flow.{Flow}
 pub use Rattle.fairness.specs.declared.bandwidth.Rate.{Rate}
 pub use Rattle.fairness.specs.declared.bandwidth.Rate.TheVariants.{Finite, Unlimited}

@@ -1,8 +1,7 @@
 -- A part of the flows that shares no side with the rest.
-use Rattle.fair_laws.proofs.Common.{◌≡◌, ℕ, Bool, true, List, [], ◌∷◌, map, refl, sym, ◌∙◌, subst, filter}
-use Rattle.fair_laws.proofs.Common.{IsTotalOrder, Ordering, and_parts, eq_by_cmp_equiv, All-contains, Flow, flagged}
-use Rattle.fair_laws.proofs.Common.{Subject, sent_by, received_by, sent_between, same_peer, Caps, limits}
-use Rattle.fair_laws.proofs.Common.{AreFairUnder, rules}
+use Rattle.fair_laws.proofs.Common.{◌≡◌, ℕ, Bool, true, List, [], ◌∷◌, map, refl, sym, ◌∙◌, subst, filter, IsTotalOrder}
+use Rattle.fair_laws.proofs.Common.{Ordering, and_parts, eq_by_cmp_equiv, All-contains, Flow, flagged, Subject, sent_by}
+use Rattle.fair_laws.proofs.Common.{received_by, sent_between, same_peer, Caps, limits, AreFairUnder, rules}
 use Rattle.std.proofs.Common.{subst₂}
 use Rattle.std.proofs.lemmas.Map.Steps.{list_any_congr}
 use Rattle.fairness.specs.Fairness.UnderCaps.{is_among, is_of_set, HaveBothEndsOrNone, PartIsFair}

@@ -1,15 +1,14 @@
 -- A flow of some weight as so many flows of weight one.
 use Rattle.fair_laws.proofs.Common.{rules, ◌≡◌, ◌==◌, ℕ, zero, suc, ◌+◌, ◌*◌, ◌<◌, ◌≤◌, List, [], Bool, true, false}
-use Rattle.fair_laws.proofs.Common.{cond, All, Contains, Option, Some, length, map, get_or, sum_by, inl, inr, refl}
-use Rattle.fair_laws.proofs.Common.{sym, ap, ◌∙◌, subst, arith, slice_get, eqb-true, eqb_tells, length-map}
-use Rattle.fair_laws.proofs.Common.{get_or_default, sum_by-cons, slice_get-get_or, slice_get-map}
-use Rattle.fair_laws.proofs.Common.{get_or_from_slice_get, Side, IsLimited, IsFair, IsRateOf, places_from, Rate}
-use Rattle.fair_laws.proofs.Common.{Unlimited, Finite, listed_on, listed_from, in_map, in_from_contains}
-use Rattle.fair_laws.proofs.Common.{contains_from_in, from_map, any_passes, All-from_contains, sum_by-scaled}
-use Rattle.fair_laws.proofs.Common.{sum_by_same, routes_at, has_link, users_of, sides_over, weight_at, as_often}
-use Rattle.fair_laws.proofs.Common.{weighted, by_weight, AreWeightedRates, range_with_len, length-range_with_len}
-use Rattle.fair_laws.proofs.Common.{get_or-range_with_len, same_amounts, worth_too, in_get, get_in, get_from_map}
-use Rattle.fair_laws.proofs.Common.{place_here, passes_here, below_length}
+use Rattle.fair_laws.proofs.Common.{cond, All, Contains, Option, Some, length, map, get_or, sum_by, inl, inr, refl, sym}
+use Rattle.fair_laws.proofs.Common.{ap, ◌∙◌, subst, arith, slice_get, eqb-true, eqb_tells, length-map, get_or_default}
+use Rattle.fair_laws.proofs.Common.{sum_by-cons, slice_get-get_or, slice_get-map, get_or_from_slice_get, Side}
+use Rattle.fair_laws.proofs.Common.{IsLimited, IsFair, IsRateOf, places_from, Rate, Unlimited, Finite, listed_on}
+use Rattle.fair_laws.proofs.Common.{listed_from, in_map, in_from_contains, contains_from_in, from_map, any_passes}
+use Rattle.fair_laws.proofs.Common.{All-from_contains, sum_by-scaled, sum_by_same, routes_at, has_link, users_of}
+use Rattle.fair_laws.proofs.Common.{sides_over, weight_at, as_often, weighted, by_weight, AreWeightedRates}
+use Rattle.fair_laws.proofs.Common.{range_with_len, length-range_with_len, get_or-range_with_len, same_amounts}
+use Rattle.fair_laws.proofs.Common.{worth_too, in_get, get_in, get_from_map, place_here, passes_here, below_length}
 use Rattle.std.proofs.lemmas.Bool.{cases_order}
 use Rattle.std.proofs.lemmas.List.{map-id}
 use Rattle.fair_routes.specs.Network.WeightLaws.{copies, copies_of, IsTogether, WeightsAreCopies}

@@ -1,7 +1,6 @@
 -- A rate is zero at a cap of zero, and nowhere else.
 use Rattle.fairness.proofs.Common.{◌≡◌, ℕ, ◌*◌, ◌≤◌, List, Contains, sum_by, subst, ap, arith, eq_of_mul-eq-mul_right}
-use Rattle.fairness.proofs.Common.{All-contains, get_or-le-sum_by, Finite, Side, load, IsLimited, IsFair}
-use Rattle.fairness.proofs.Common.{rules}
+use Rattle.fairness.proofs.Common.{All-contains, get_or-le-sum_by, Finite, Side, load, IsLimited, IsFair, rules}
 use Rattle.fairness.specs.Fairness.Laws.{UsesClosedSide, FairRatesAreZeroWhereClosed}
 use Rattle.fairness.proofs.Lists.SumOrder.{All-from_contains, sum_by-zero}
 use Rattle.fairness.proofs.Fairness.MaxMin.{rate_at}

@@ -1,8 +1,7 @@
 -- Sums of two amounts over one list.
-use Rattle.fairness.proofs.Common.{◌≡◌, ℕ, zero, suc, ◌*◌, ◌<◌, ◌≤◌, ◌⊎◌, inl, inr, List, [], ◌∷◌, length, get_or}
-use Rattle.fairness.proofs.Common.{All, Contains, sum_by, refl, sym, subst, arith, le_refl, cases_lt, All-cons}
-use Rattle.fairness.proofs.Common.{All-head, All-tail, All-nil, Contains-append_left, Contains-append_right}
-use Rattle.fairness.proofs.Common.{sum_by-cons, rules}
+use Rattle.fairness.proofs.Common.{◌≡◌, ℕ, zero, suc, ◌*◌, ◌<◌, ◌≤◌, ◌⊎◌, inl, inr, List, [], ◌∷◌, length, get_or, All}
+use Rattle.fairness.proofs.Common.{Contains, sum_by, refl, sym, subst, arith, le_refl, cases_lt, All-cons, All-head}
+use Rattle.fairness.proofs.Common.{All-tail, All-nil, Contains-append_left, Contains-append_right, sum_by-cons, rules}
 use Rattle.std.proofs.Common.{add-mul}
 use Rattle.std.proofs.lemmas.List.Elements.{Contains-get_or}
 

@@ -10,8 +10,7 @@ use Rattle.link_simulation.proofs.Common.{SameCompletion, Faults, MayRefuse, Agr
 use Rattle.link_simulation.proofs.Simulation.OneNext.{next_is_one}
 use Rattle.link_simulation.proofs.Simulation.OneRun.{runs_are_one}
 use Rattle.link_simulation.proofs.Simulation.Sound.{call_keeps_sound, new_world_sound}
-use Rattle.link_laws.proofs.Examples.ComputedReplies.{Shares, may_tick, may_seek, seek, next_so, course_of}
-use Rattle.link_laws.proofs.Examples.ComputedReplies.{runs_so}
+use Rattle.link_laws.proofs.Examples.ComputedReplies.{Shares, may_tick, may_seek, seek, next_so, course_of, runs_so}
 
 module _ {P : Type 0} (cmp : P → P → Ordering) (order : IsTotalOrder cmp) (plan : World P → Shares) where
   -- ---- tests

@@ -1,12 +1,12 @@
 -- What an origin still has to send goes down by no more than its egress cap lets go.
-use Rattle.link_simulation.proofs.Common.{◌||◌, ◌==◌, common_steps, sum_by, ◌≡◌, ℕ, zero, suc, ◌+◌, ◌-◌, ◌*◌, ◌<◌, ◌≤◌}
+use Rattle.link_simulation.proofs.Common.{◌||◌, common_steps, sum_by, ◌≡◌, ℕ, zero, suc, ◌+◌, ◌-◌, ◌*◌, ◌<◌, ◌≤◌}
 use Rattle.link_simulation.proofs.Common.{List, [], ◌∷◌, ◌++◌, map, length, Bool, true, false, Option, Some, None, refl}
 use Rattle.link_simulation.proofs.Common.{sym, ap, ◌∙◌, subst, arith, append-nil, if◌then◌else◌, slice_get, filter}
 use Rattle.link_simulation.proofs.Common.{find, flat_map, Ordering, IsTotalOrder, All-contains, Contains-append_left}
 use Rattle.link_simulation.proofs.Common.{Contains-append_right, mul-pos, IsAtMost, plus, Amount, billion, whole, Side}
 use Rattle.link_simulation.proofs.Common.{load, without_first, same_peer, Completed, Course, Flight, World, and_then}
-use Rattle.link_simulation.proofs.Common.{complete, first_waiting, flows, fronts, goes, instant, is_done, least_pair}
-use Rattle.link_simulation.proofs.Common.{may_start, meets, ready, settle, settle_within, start, start_next}
+use Rattle.link_simulation.proofs.Common.{complete, first_waiting, flows, goes, instant, is_done, least_pair}
+use Rattle.link_simulation.proofs.Common.{meets, ready, settle, settle_within, start, start_next}
 use Rattle.link_simulation.proofs.Common.{wake_within, EndsWith, out_of_flight, completed, flight_of, Runs}
 use Rattle.link_simulation.proofs.Common.{call_advance, Caps, Message, same_pair, rate_of, is_unlimited, rates_from}
 use Rattle.link_simulation.proofs.Common.{AreFair, Parts, capped_sides, drained_by, sides_for, ArePositive, Drains}
@@ -74,9 +74,7 @@ module _ {P : Type 0} (cmp : P → P → Ordering) (order : IsTotalOrder cmp) wh
   pub ready_is_first : (t : ℕ) (w : World P) (m : Message P) → least_pair cmp (ready cmp t w) ≡ Some m
       → find (same_pair cmp m) w.waiting ≡ Some m
   ready_is_first t w m e =
-      each_least (λ n. find (same_pair cmp n) w.waiting ≡ Some n) (ready cmp t w) m
-      (each_filter (λ n. find (same_pair cmp n) w.waiting ≡ Some n) (λ n. find (same_pair cmp n) w.waiting ≡ Some n)
-      (may_start cmp t w) (fronts cmp w.waiting) (λ n may first. first) (fronts_are_first cmp order w.waiting)) e
+      each_least _ _ m (each_filter _ _ _ _ (λ n may first. first) (fronts_are_first cmp order w.waiting)) e
 
   -- ---- what each step leaves
 
@@ -183,8 +181,7 @@ module _ {P : Type 0} (cmp : P → P → Ordering) (order : IsTotalOrder cmp) wh
 
     done_is_spent : (w : World P) (f : Flight P) → Holds w → is_done cmp w f ≡ true
         → same_peer cmp p f.message.origin ≡ true → f.left.num ≡ 0
-    done_is_spent w f h done from =
-        eqb-true f.left.num 0 (by_left (f.left.num == 0) (rw (h.egress f.message.origin from) at done))
+    done_is_spent w f h done from = eqb-true f.left.num 0 (by_left _ (rw (h.egress f.message.origin from) at done))
       where
         by_left : (b : Bool) → (b || false) ≡ true → b ≡ true
         by_left true e = refl
@@ -213,8 +210,7 @@ module _ {P : Type 0} (cmp : P → P → Ordering) (order : IsTotalOrder cmp) wh
     turn_follows : (t : ℕ) (w : World P) (m : Message P) → least_pair cmp (ready cmp t w) ≡ Some m → Holds w
         → EndsWith (Follows w) (turn cmp t w m)
     turn_follows t w m e h =
-        follows_then w (start cmp w m) (settle cmp t) (start_follows w m h (ready_is_first t w m e))
-        (λ v k. settle_within_follows (length v.sending + length v.waiting) t v k)
+        follows_then w _ _ (start_follows w m h (ready_is_first t w m e)) (λ v k. settle_within_follows _ t v k)
 
     wake_within_follows : (n t : ℕ) (w : World P) → Holds w → EndsWith (Follows w) (wake_within cmp n t w)
     wake_within_follows n t w h =
@@ -309,9 +305,7 @@ module _ {P : Type 0} (cmp : P → P → Ordering) (order : IsTotalOrder cmp) wh
         let scaled : (all * 1) * billion ≤ (cap * 1) * (d.per * billion) = omega arith in
         let end : Loses 1 w u = record {
           holds = record { positive = positive; egress = h.egress };
-          bytes = share_grows
-              (bytes_from cmp p w) (bytes_from cmp p u) (all * 1) (cap * 1) (d.per * billion) billion (mul-pos some (omega
-              arith)) scaled sums;
+          bytes = share_grows _ _ (all * 1) (cap * 1) _ billion (mul-pos some (omega arith)) scaled sums;
         } in
         grind arith
 

@@ -1,6 +1,6 @@
 -- Each call completes, sends or keeps waiting what there was of a pair and what it enqueues: none is lost or doubled,
 -- and their order stays.
-use Rattle.link_simulation.proofs.Common.{find, arith, ◌≡◌, ℕ, ◌+◌, List, [], ◌∷◌, ◌++◌, Bool, true, false, cond, not}
+use Rattle.link_simulation.proofs.Common.{arith, ◌≡◌, ℕ, ◌+◌, List, [], ◌∷◌, ◌++◌, Bool, true, false, cond, not}
 use Rattle.link_simulation.proofs.Common.{Option, Some, None, refl, sym, ap, ◌∙◌, subst, append_assoc, append-nil, ⊤}
 use Rattle.link_simulation.proofs.Common.{◌&&◌, nat_lt, if◌then◌else◌, filter, AllZip, Ordering, IsTotalOrder}
 use Rattle.link_simulation.proofs.Common.{map-append, filter-append, without_first, MomentTooLate, Message, Caps}
@@ -68,9 +68,9 @@ module _ {P : Type 0} (cmp : P → P → Ordering) (order : IsTotalOrder cmp) wh
       → (k : Message P) → held_of cmp k (launched cmp t p m) ≡ held_of cmp k p
   launched_holds t p n m found may k =
       ap (λ (ms : List (Message P)). of_pair cmp k ms ++ of_pair cmp k (without_first (same_pair cmp m) p.waiting))
-      (map-append (λ (f : RatedFlight P). f.message) p.sending _)
+      (map-append _ p.sending _)
       ∙ ap (λ (ms : List (Message P)). ms ++ of_pair cmp k (without_first (same_pair cmp m) p.waiting))
-      (filter-append (same_pair cmp k) (rated_messages p.sending) (m ∷ []))
+      (filter-append _ (rated_messages p.sending) (m ∷ []))
       ∙ ap (λ (ms : List (Message P)). (of_pair cmp k (rated_messages p.sending) ++ of_pair cmp k (m ∷ [])) ++ ms)
       (waits_without cmp order k m p.waiting) ∙ by_bool (same_pair cmp k m) (λ is. rw is (
       let none : flying ≡ [] = (rw is at own_idle) refl in
@@ -87,13 +87,12 @@ module _ {P : Type 0} (cmp : P → P → Ordering) (order : IsTotalOrder cmp) wh
       own_first : same_pair cmp k m ≡ true → waits ≡ m ∷ rest_of waits
       own_first own =
           let own_found = sym (find_like cmp order k m p.waiting own) ∙ find_like cmp order n m p.waiting
-          (find_passes (same_pair cmp n) m p.waiting found) ∙ found in
-          headed waits m (sym (head_found (same_pair cmp k) p.waiting) ∙ own_found)
+          (find_passes _ m p.waiting found) ∙ found in
+          headed waits m (sym (head_found _ p.waiting) ∙ own_found)
 
       own_idle : same_pair cmp k m ≡ true → flying ≡ []
       own_idle own =
-          filter_nothing (same_pair cmp k) (rated_messages p.sending)
-          (sym (any_like cmp order k m (rated_messages p.sending) own) ∙ idle_if_may cmp order t p m may)
+          filter_nothing (same_pair cmp k) _ (sym (any_like cmp order k m _ own) ∙ idle_if_may cmp order t p m may)
 
   launch_holds : {t : ℕ} {p : Planned P} {o : Option (Message P)} {c : Course (Message P) (Planned P)}
       → Launches cmp t p o c

@@ -24,8 +24,7 @@ module _ {P : Type 0} (cmp : P → P → Ordering) (order : IsTotalOrder cmp) wh
 
   chain : (ms ns ks : List (Message P)) → AllZip (SameMessage cmp) ms ns → AllZip (SameMessage cmp) ns ks
       → AllZip (SameMessage cmp) ms ks
-  chain ms ns ks first second =
-      zip_chain (SameMessage cmp) (SameMessage cmp) (SameMessage cmp) (message_chain cmp order) ms ns ks first second
+  chain ms ns ks first second = zip_chain _ _ _ (message_chain cmp order) ms ns ks first second
 
   of_pair_alike : (k : Message P) (ms ns : List (Message P)) → AllZip (SameMessage cmp) ms ns
       → AllZip (SameMessage cmp) (of_pair cmp k ms) (of_pair cmp k ns)
@@ -128,9 +127,8 @@ module _ {P : Type 0} (cmp : P → P → Ordering) (order : IsTotalOrder cmp) wh
   obeyed_conserved p (call ∷ calls) [] h obeyed = absurd obeyed
   obeyed_conserved p (call ∷ calls) (reply_done cs ∷ replies) h obeyed =
       let one = one_accepted p call calls cs replies obeyed in
-      let first = kept_conserved p one.after one.after (enqueued (call ∷ [])) cs one.answers
-      (call_keeps cmp order p call (goes one.answers one.after) one.obeys h) one.same
-      (λ k. itself (held_of cmp k one.after)) in
+      let first = kept_conserved p one.after one.after _ cs one.answers (call_keeps cmp order p call _ one.obeys h)
+      one.same (λ k. itself _) in
       let rest = obeyed_conserved one.after calls replies
       (obeys_orderly cmp order p one.after call one.answers one.obeys h) one.rest in
       grind (

@@ -62,8 +62,7 @@ module _ {P : Type 0} (cmp : P → P → Ordering) (order : IsTotalOrder cmp) wh
       → IsConserved cmp p messages cs q
       → length cs + length q.sending + length q.waiting ≡ length p.sending + length p.waiting + length messages
   all_counted p q messages cs a =
-      let same = as_long (length (a.done ++ (rated_messages q.sending ++ q.waiting))) _
-      ((rated_messages p.sending ++ p.waiting) ++ messages) (omega arith) alike in
+      let same = as_long (length (a.done ++ (rated_messages q.sending ++ q.waiting))) _ _ (omega arith) alike in
       let told : length cs ≡ length a.done = zip-length IsCompletionOf cs a.done a.completions_are in
       let left = length-append a.done (rated_messages q.sending ++ q.waiting) in
       let held = length-append (rated_messages q.sending) q.waiting in

@@ -2,7 +2,7 @@
 use Rattle.link_simulation.proofs.Common.{◌≡◌, ℕ, ◌+◌, ◌-◌, ◌<◌, ◌≤◌, List, [], ◌∷◌, ◌++◌, map, Bool, true, false, cond}
 use Rattle.link_simulation.proofs.Common.{Option, Some, None, refl, sym, ap, ◌∙◌, subst, arith, append-nil, ◌⊎◌, inl}
 use Rattle.link_simulation.proofs.Common.{inr, ⊤, ◌&&◌, nat_lt, if◌then◌else◌, filter, Ordering, IsTotalOrder}
-use Rattle.link_simulation.proofs.Common.{filter-append, and_parts, Completed, Course, Flight, World, and_then}
+use Rattle.link_simulation.proofs.Common.{filter-append, and_parts, Completed, Course, World, and_then}
 use Rattle.link_simulation.proofs.Common.{completion_of, first_waiting, flows, goes, last_moment, later_of, meets}
 use Rattle.link_simulation.proofs.Common.{new_world, preceded, raised, settle, start_next, EndsWith, Call, IsInTurn}
 use Rattle.link_simulation.proofs.Common.{Runs, act, call_advance, call_enqueue, call_limit, call_limit_link}
@@ -94,19 +94,17 @@ module _ {P : Type 0} (cmp : P → P → Ordering) (order : IsTotalOrder cmp) (i
 
       same_world : (queued cmp order) (Small last id w) m ≡ Small last id (queued cmp order w m)
       same_world =
-          part_alike cmp order inside alike Whole w last id (filter (λ (f : Flight P). mine f.message) w.sending)
-          (filter (λ (f : Flight P). mine f.message) w.sending) _ _ refl (sym (queued_filter w.waiting m true own))
+          part_alike cmp order inside alike Whole w last id _ _ _ _ refl (sym (queued_filter w.waiting m true own))
 
       same_next : first_waiting cmp (Small last id (queued cmp order w m)) m
           ≡ first_waiting cmp (queued cmp order w m) m
-      same_next = find_kept mine (same_pair cmp m) (w.waiting ++ m ∷ []) (λ n s. sym (alike m n s) ∙ own)
+      same_next = find_kept mine _ _ (λ n s. sym (alike m n s) ∙ own)
 
       starting : Of (start_next cmp now (queued cmp order w m) (first_waiting cmp (queued cmp order w m) m))
           (start_next cmp now (queued cmp order (Small last id w) m)
           (first_waiting cmp (queued cmp order (Small last id w) m) m))
       starting =
-          let base = start_next_mine cmp order inside alike Whole now (queued cmp order w m) m
-          (first_waiting cmp (queued cmp order w m) m) last id within own refl in
+          let base = start_next_mine cmp order inside alike Whole now _ m _ last id within own refl in
           let one = subst (λ (o : Option (Message P)). Of
           (start_next cmp now (queued cmp order w m) (first_waiting cmp (queued cmp order w m) m))
           (start_next cmp now (Small last id (queued cmp order w m)) o)) (sym same_next) base in
@@ -146,7 +144,7 @@ module _ {P : Type 0} (cmp : P → P → Ordering) (order : IsTotalOrder cmp) (i
           )
 
       at_once : Of (complete_at_once cmp now w m) (complete_at_once cmp now (Small last id w) m)
-      at_once = by_late (m.should_deliver && nat_lt last_moment (now + m.latency))
+      at_once = by_late _
 
       by_mode : (b : Bool) → Of (cond b
           (and_then (start_next cmp now (queued cmp order w m) (first_waiting cmp (queued cmp order w m) m))
@@ -155,13 +153,7 @@ module _ {P : Type 0} (cmp : P → P → Ordering) (order : IsTotalOrder cmp) (i
           (first_waiting cmp (queued cmp order (Small last id w) m) m)) (settle cmp now))
           (complete_at_once cmp now (Small last id w) m))
       by_mode true =
-          part_then cmp order inside alike Whole Any Any
-          (start_next cmp now (queued cmp order w m) (first_waiting cmp (queued cmp order w m) m))
-          (start_next cmp now (queued cmp order (Small last id w) m)
-          (first_waiting cmp (queued cmp order (Small last id w) m) m)) (settle cmp now) (settle cmp now) starting
-          (ends_any (start_next cmp now (queued cmp order w m) (first_waiting cmp (queued cmp order w m) m))) (ends_any
-          (start_next cmp now (queued cmp order (Small last id w) m)
-          (first_waiting cmp (queued cmp order (Small last id w) m) m)))
+          part_then cmp order inside alike Whole Any Any _ _ _ _ starting (ends_any _) (ends_any _)
           (λ u l i part_u r s. settle_in_part now u l i part_u)
       by_mode false = at_once
 
@@ -174,17 +166,16 @@ module _ {P : Type 0} (cmp : P → P → Ordering) (order : IsTotalOrder cmp) (i
     where
       same_world : Small last id (queued cmp order w m) ≡ Small last id w
       same_world =
-          part_alike cmp order inside alike Whole w last id (filter (λ (f : Flight P). mine f.message) w.sending)
-          (filter (λ (f : Flight P). mine f.message) w.sending) _ _ refl
-          (queued_filter w.waiting m false off ∙ append-nil (filter mine w.waiting))
+          part_alike cmp order inside alike Whole w last id _ _ _ _ refl (queued_filter w.waiting m false off ∙
+          append-nil _)
 
       starting : Of (start_next cmp now (queued cmp order w m) (first_waiting cmp (queued cmp order w m) m))
           (goes [] (Small last id w))
       starting =
           subst (λ (z : World P). Of
           (start_next cmp now (queued cmp order w m) (first_waiting cmp (queued cmp order w m) m)) (goes [] z))
-          same_world (start_next_other cmp order inside alike Whole now (queued cmp order w m) m
-          (first_waiting cmp (queued cmp order w m) m) last id (queued_within w m last id is whole) off refl)
+          same_world (start_next_other cmp order inside alike Whole now _ m
+          _ last id (queued_within w m last id is whole) off refl)
 
       raised_within : Within last id
           (record w {
@@ -203,13 +194,12 @@ module _ {P : Type 0} (cmp : P → P → Ordering) (order : IsTotalOrder cmp) (i
           (goes [] (Small last id w))
       by_late true = tt
       by_late false =
-          let nothing : [] ≡ filter (λ (c : Completed P). inside c.origin)
-          (once now m (once_at (w.last_arrival m.origin m.recipient) now m) ∷ []) =
-          rw off refl in
+          let nothing : [] ≡ filter (λ (c : Completed P). inside c.origin) (once now m
+          (once_at (w.last_arrival m.origin m.recipient) now m) ∷ []) = rw off refl in
           (last, id, raised_within, goes_alike cmp order inside alike Whole _ _ _ _ nothing refl)
 
       at_once : Of (complete_at_once cmp now w m) (goes [] (Small last id w))
-      at_once = by_late (m.should_deliver && nat_lt last_moment (now + m.latency))
+      at_once = by_late _
 
       still : and_then (goes [] (Small last id w)) (settle cmp now) ≡ goes [] (Small last id w)
       still = grind (arith, preceded_none, settle_nothing, none_kept)
@@ -218,40 +208,29 @@ module _ {P : Type 0} (cmp : P → P → Ordering) (order : IsTotalOrder cmp) (i
           (and_then (start_next cmp now (queued cmp order w m) (first_waiting cmp (queued cmp order w m) m))
           (settle cmp now)) (complete_at_once cmp now w m)) (goes [] (Small last id w))
       by_mode true =
-          subst (λ (c : Course (Completed P) (World P)). Of
-          (and_then (start_next cmp now (queued cmp order w m) (first_waiting cmp (queued cmp order w m) m))
-          (settle cmp now))
-          c)
-          still (part_then cmp order inside alike Whole Any Any
-          (start_next cmp now (queued cmp order w m) (first_waiting cmp (queued cmp order w m) m))
-          (goes [] (Small last id w)) (settle cmp now) (settle cmp now) starting
-          (ends_any (start_next cmp now (queued cmp order w m) (first_waiting cmp (queued cmp order w m) m))) tt
+          subst (λ (c : Course (Completed P) (World P)). Of (and_then (start_next cmp now (queued cmp order w m)
+          (first_waiting cmp (queued cmp order w m) m)) (settle cmp now)) c) still
+          (part_then cmp order inside alike Whole Any Any _ _ _ (settle cmp now) starting (ends_any _) tt
           (λ u l i part_u r s. settle_in_part now u l i part_u))
       by_mode false = at_once
 
   enqueue_rests : (now : ℕ) (w : World P) (m : Message P) → NoneDone cmp order w
       → EndsWith (NoneDone cmp order) (enqueue cmp now w m)
   enqueue_rests now w m h =
-      ends_cond (NoneDone cmp order) w.limited
-      (and_then (start_next cmp now (queued cmp order w m) (first_waiting cmp (queued cmp order w m) m))
-      (settle cmp now)) (complete_at_once cmp now w m) (ends_and_then Any (NoneDone cmp order)
-      (start_next cmp now (queued cmp order w m) (first_waiting cmp (queued cmp order w m) m)) (settle cmp now)
-      (ends_any (start_next cmp now (queued cmp order w m) (first_waiting cmp (queued cmp order w m) m)))
-      (λ v g. settle_rests cmp order now v))
-      (ends_cond (NoneDone cmp order) (m.should_deliver && nat_lt last_moment (now + m.latency)) (meets MomentTooLate) _
-      tt h)
+      ends_cond _ w.limited _ _ (ends_and_then Any (NoneDone cmp order) (start_next cmp now (queued cmp order w m)
+      (first_waiting cmp (queued cmp order w m) m)) (settle cmp now) (ends_any
+      (start_next cmp now (queued cmp order w m) (first_waiting cmp (queued cmp order w m) m)))
+      (λ v g. settle_rests cmp order now v)) (ends_cond (NoneDone cmp order) (m.should_deliver && nat_lt last_moment _)
+      (meets MomentTooLate) _ tt h)
 
   enqueue_moment : (now t : ℕ) (w : World P) (m : Message P) → w.moment ≡ t
       → EndsWith (λ v. v.moment ≡ t) (enqueue cmp now w m)
   enqueue_moment now t w m h =
-      ends_cond (λ v. v.moment ≡ t) w.limited
-      (and_then (start_next cmp now (queued cmp order w m) (first_waiting cmp (queued cmp order w m) m))
-      (settle cmp now)) (complete_at_once cmp now w m) (ends_and_then (λ v. v.moment ≡ t) (λ v. v.moment ≡ t)
-      (start_next cmp now (queued cmp order w m) (first_waiting cmp (queued cmp order w m) m)) (settle cmp now)
-      (start_next_moment cmp order now (queued cmp order w m) (first_waiting cmp (queued cmp order w m) m) t h)
-      (λ v g. settle_moment cmp order now v t g))
-      (ends_cond (λ v. v.moment ≡ t) (m.should_deliver && nat_lt last_moment (now + m.latency)) (meets MomentTooLate) _
-      tt h)
+      ends_cond _ w.limited _ _ (ends_and_then _ (λ v. v.moment ≡ t) (start_next cmp now (queued cmp order w m)
+      (first_waiting cmp (queued cmp order w m) m)) (settle cmp now) (start_next_moment cmp order now
+      (queued cmp order w m) (first_waiting cmp (queued cmp order w m) m) t h)
+      (λ v g. settle_moment cmp order now v t g)) (ends_cond (λ v. v.moment ≡ t)
+      (m.should_deliver && nat_lt last_moment _) (meets MomentTooLate) _ tt h)
 
   -- ---- messages are enqueued one after another
 
@@ -268,18 +247,13 @@ module _ {P : Type 0} (cmp : P → P → Ordering) (order : IsTotalOrder cmp) (i
           → Of (and_then (enqueue cmp now w m) (λ v. enqueue_each cmp now v ms))
           (enqueue_each cmp now (Small last id w) (cond b (m ∷ filter mine ms) (filter mine ms)))
       by_owner true own ih =
-          part_then cmp order inside alike Whole (NoneDone cmp order) Any (enqueue cmp now w m)
-          (enqueue cmp now (Small last id w) m) (λ v. enqueue_each cmp now v ms)
-          (λ v. enqueue_each cmp now v (filter mine ms)) (enqueue_mine now w m last id is whole.0 own)
-          (enqueue_rests now w m rests) (ends_any (enqueue cmp now (Small last id w) m))
-          (λ u l i part_u r s. ih u l i part_u r)
+          part_then cmp order inside alike Whole _ Any _ _ _ _ (enqueue_mine now w m last id is whole.0 own)
+          (enqueue_rests now w m rests) (ends_any _) (λ u l i part_u r s. ih u l i part_u r)
       by_owner false off ih =
           subst (λ (c : Course (Completed P) (World P)). Of (and_then (enqueue cmp now w m)
-          (λ v. enqueue_each cmp now v ms)) c) (preceded_none (enqueue_each cmp now (Small last id w) (filter mine ms)))
-          (part_then cmp order inside alike Whole (NoneDone cmp order) Any (enqueue cmp now w m) (goes [] _)
-          (λ v. enqueue_each cmp now v ms) (λ v. enqueue_each cmp now v (filter mine ms))
-          (enqueue_other now w m last id is rests whole.0 off) (enqueue_rests now w m rests) tt
-          (λ u l i part_u r s. ih u l i part_u r))
+          (λ v. enqueue_each cmp now v ms)) c) (preceded_none _) (part_then cmp order inside alike Whole _ Any _
+          (goes [] _) _ (λ v. enqueue_each cmp now v (filter mine ms)) (enqueue_other now w m last id is rests whole.0
+          off) (enqueue_rests now w m rests) tt (λ u l i part_u r s. ih u l i part_u r))
 
   -- ---- a call
 
@@ -356,12 +330,10 @@ module _ {P : Type 0} (cmp : P → P → Ordering) (order : IsTotalOrder cmp) (i
       → (s : World P) (last : P → P → Option ℕ) (id : ℕ) → Behind s w last id → KeepsApart inside calls → InTime calls
       → Answers cmp s (kept_calls inside calls) (kept_completions inside calls css) × NothingElse inside calls css
   isolated no_calls_in_turn s last id b apart in_time = (no_calls, tt)
-  isolated {w = w}
-      (answers_in_turn {u = u} {call = call} {now = now} {calls = calls} {cs = cs} {css = css} is_now turn runs more) s
-      last id b apart in_time =
-      let sp = split_course runs.ticked (λ v. act cmp v call) cs u (sym runs.acts) in
-      by_call (is_kept inside call) refl sp.0 sp.1 sp.2 sp.3 sp.4 sp.5
-      (λ t l i c. isolated more t l i c apart.1 in_time.1)
+  isolated {w = w} (answers_in_turn {u = u} {call = call} {now = now} {calls = calls} {cs = cs} {css = css} is_now turn
+      runs more) s last id b apart in_time =
+      let sp = split_course runs.ticked _ cs u (sym runs.acts) in
+      by_call _ refl sp.0 sp.1 sp.2 sp.3 sp.4 sp.5 (λ t l i c. isolated more t l i c apart.1 in_time.1)
     where
       by_call : (k : Bool) → is_kept inside call ≡ k → (ds : List (Completed P)) (v : World P) (es : List (Completed P))
           → runs.ticked ≡ goes ds v → act cmp v call ≡ goes es u → ds ++ es ≡ cs
@@ -375,22 +347,20 @@ module _ {P : Type 0} (cmp : P → P → Ordering) (order : IsTotalOrder cmp) (i
           let later : w.moment ≤ now = turn_later cmp order w call now is_now turn in
           let ends = ticks_end cmp order runs.ticks ds v ticked b.rests in
           let small = ticks_part cmp order inside alike Whole shares runs.ticks ds v last id ticked b.within in
-          let all = ticks_on cmp b.ticks (now - w.moment) (Small last id w) []
+          let all = ticks_on cmp b.ticks (now - w.moment) _ []
           (goes (filter (λ (c : Completed P). inside c.origin) ds) (Small small.0 small.1 v)) refl small.3 in
           let behind : w.moment ≡ s.moment + b.count = b.at in
           let count : (now - w.moment) + b.count ≡ now - s.moment = omega arith in
-          let counted = subst
-          (λ n. Ticks cmp n s (goes (filter (λ (c : Completed P). inside c.origin) ds) (Small small.0 small.1 v))) count
-          all in
-          let act_small = subst (λ (c : Course (Completed P) (World P)). Of c
-          (act cmp (Small small.0 small.1 v) (without_others inside call))) acted
-          (act_kept v call small.0 small.1 small.2 ends.1 apart.0 flagged) in
+          let counted = subst (λ n. Ticks cmp n s (goes (filter (λ (c : Completed P). inside c.origin) ds)
+          (Small small.0 small.1 v))) count all in
+          let act_small = subst (λ (c : Course (Completed P) (World P)). Of c (act cmp (Small small.0 small.1 v)
+          (without_others inside call))) acted (act_kept v call small.0 small.1 small.2 ends.1 apart.0 flagged) in
           let both = sym (filter-append (λ (c : Completed P). inside c.origin) ds es) ∙ ap
           (filter (λ (c : Completed P). inside c.origin)) join in
           let run : Runs cmp s (without_others inside call) now
           (goes (filter (λ (c : Completed P). inside c.origin) cs) (Small act_small.0 act_small.1 u)) =
           record {
-            ticked = goes (filter (λ (c : Completed P). inside c.origin) ds) (Small small.0 small.1 v);
+            ticked = goes (filter (λ (c : Completed P). inside c.origin) ds) _;
             ticks = counted;
             acts =
                 sym (ap (preceded (filter (λ (c : Completed P). inside c.origin) ds)) act_small.3
@@ -400,7 +370,7 @@ module _ {P : Type 0} (cmp : P → P → Ordering) (order : IsTotalOrder cmp) (i
           (act_rests v call ends.1) in
           let next : Behind (Small act_small.0 act_small.1 u) u act_small.0 act_small.1 =
           record { within = act_small.2; rests = rests; count = 0; ticks = no_tick; at = omega arith } in
-          let others = ih (Small act_small.0 act_small.1 u) act_small.0 act_small.1 next in
+          let others = ih _ act_small.0 act_small.1 next in
           (call_answers (same_moment call ∙ is_now) (omega arith) run others.0, (tt, others.1))
       by_call false dropped ds v es ticked acted join ih =
           let later : w.moment ≤ now = turn_later cmp order w call now is_now turn in
@@ -408,15 +378,14 @@ module _ {P : Type 0} (cmp : P → P → Ordering) (order : IsTotalOrder cmp) (i
           let low : now ≤ last_moment = in_time.0 now is_now in
           let empty : ds ≡ [] = no_event later (first_event cmp order runs.ticks ds v ticked (omega arith)) in
           let small = ticks_part cmp order inside alike Whole shares runs.ticks ds v last id ticked b.within in
-          let all = ticks_on cmp b.ticks (now - w.moment) (Small last id w) []
+          let all = ticks_on cmp b.ticks _ _ []
           (goes (filter (λ (c : Completed P). inside c.origin) ds) (Small small.0 small.1 v)) refl small.3 in
           let act_small = subst (λ (c : Course (Completed P) (World P)). Of c (goes [] (Small small.0 small.1 v))) acted
           (act_other v call small.0 small.1 small.2 ends.1 apart.0 dropped) in
           let same = act_small.3 in
           let world_same : Small small.0 small.1 v ≡ Small act_small.0 act_small.1 u = cc in
           let none_of_it : filter (λ (c : Completed P). inside c.origin) es ≡ [] = cc in
-          let quiet = ap (filter (λ (c : Completed P). inside c.origin))
-          (sym join ∙ ap (λ (xs : List (Completed P)). xs ++ es) empty) ∙ none_of_it in
+          let quiet = ap (filter _) (sym join ∙ ap (λ (xs : List (Completed P)). xs ++ es) empty) ∙ none_of_it in
           let waited = subst (λ (z : World P). Ticks cmp ((now - w.moment) + b.count) s (goes [] z)) world_same (subst
           (λ (xs : List (Completed P)). Ticks cmp ((now - w.moment) + b.count) s
           (goes (filter (λ (c : Completed P). inside c.origin) xs) (Small small.0 small.1 v))) empty all) in

@@ -65,8 +65,7 @@ module _ {P : Type 0} (cmp : P → P → Ordering) (order : IsTotalOrder cmp) (i
             subst (λ (ms : List (Message P)). AreFair cmp w.caps ms d.per (flagged (map mine (flows w)) d.rates))
             (sym (map_kept w.sending)) fair;
         world =
-            part_alike cmp order inside alike T u last id _ _ (filter mine w.waiting) (filter mine w.waiting)
-            (drain_kept d.per d.rates 1 w.sending as_many) refl;
+            part_alike cmp order inside alike T u last id _ _ _ _ (drain_kept d.per d.rates 1 w.sending as_many) refl;
       } in
       let within : Within last id u =
       record {

@@ -147,10 +147,9 @@ module _ {P : Type 0} (cmp : P → P → Ordering) (order : IsTotalOrder cmp) (i
       → find (same_pair cmp m) w.waiting ≡ o → IsPartOf (start_next cmp t w o) (goes [] (part last id w))
   start_next_other t w m None last id is off e = (last, id, is, refl)
   start_next_other t w m (Some x) last id is off e =
-      let same : same_pair cmp m x ≡ true = find_passes (same_pair cmp m) x w.waiting e in
-      by_bool (may_start cmp t w x)
-      (λ here. rw here (start_other w x last id is (find_like cmp order m x w.waiting same ∙ e)
-      (sym (alike m x same) ∙ off))) (λ here. rw here (last, id, is, refl))
+      let same : same_pair cmp m x ≡ true = find_passes _ x w.waiting e in
+      by_bool (may_start cmp t w x) (λ here. rw here (start_other w x last id is
+      (find_like cmp order m x w.waiting same ∙ e) (sym (alike m x same) ∙ off))) (λ here. rw here (last, id, is, refl))
 
   -- ---- a completion
 
@@ -245,25 +244,19 @@ module _ {P : Type 0} (cmp : P → P → Ordering) (order : IsTotalOrder cmp) (i
       → IsPartOf (and_then (complete cmp t w f.message) (settle_within cmp n t))
       (settle_within cmp k t (part last id w))
   one_settles n zero t w last id f true ih is most few e own =
-      let found = (first_kept in_flight (is_done cmp w) w.sending f e own).0 in
-      let some = some_element (is_done cmp w) f (filter in_flight w.sending) found in
+      let found = (first_kept in_flight _ w.sending f e own).0 in
+      let some = some_element _ f (filter in_flight w.sending) found in
       absurd (omega arith)
   one_settles n (suc j) t w last id f true ih is most few e own =
       let found : find (is_done cmp w) (filter in_flight w.sending) ≡ Some f =
-      (first_kept in_flight (is_done cmp w) w.sending f e own).0 in
-      subst (λ (c : Course (Completed P) (World P)). IsPartOf
-      (and_then (complete cmp t w f.message) (settle_within cmp n t)) c)
-      (sym (settle_first cmp order j t (part last id w) f found))
-      (part_then (HasAtMost cmp order n) (HasAtMost cmp order j) (complete cmp t w f.message)
-      (complete cmp t (part last id w) f.message) (settle_within cmp n t) (settle_within cmp j t)
-      (complete_mine t w f last id is e own) (complete_has cmp order t n w f e most)
-      (complete_has cmp order t j (part last id w) f found few) (ih j))
+      (first_kept in_flight _ w.sending f e own).0 in
+      subst (λ (c : Course (Completed P) (World P)). IsPartOf (and_then (complete cmp t w f.message)
+      (settle_within cmp n t)) c) (sym (settle_first cmp order j t (part last id w) f found))
+      (part_then _ _ _ _ _ (settle_within cmp j t) (complete_mine t w f last id is e own)
+      (complete_has cmp order t n w f e most) (complete_has cmp order t j _ f found few) (ih j))
   one_settles n k t w last id f false ih is most few e off =
-      subst (λ (c : Course (Completed P) (World P)). IsPartOf
-      (and_then (complete cmp t w f.message) (settle_within cmp n t)) c)
-      (preceded_none (settle_within cmp k t (part last id w)))
-      (part_then (HasAtMost cmp order n) (HasAtMost cmp order k) (complete cmp t w f.message)
-      (goes [] (part last id w)) (settle_within cmp n t) (settle_within cmp k t)
+      subst (λ (c : Course (Completed P) (World P)). IsPartOf (and_then (complete cmp t w f.message)
+      (settle_within cmp n t)) c) (preceded_none _) (part_then _ (HasAtMost cmp order k) _ _ _ (settle_within cmp k t)
       (complete_other t w f last id is e off) (complete_has cmp order t n w f e most) few (ih k))
 
   pub settle_part : (n k t : ℕ) (w : World P) (last : P → P → Option ℕ) (id : ℕ) → IsPart last id w
@@ -280,8 +273,7 @@ module _ {P : Type 0} (cmp : P → P → Ordering) (order : IsTotalOrder cmp) (i
 
   settle_within_waits : (n k t : ℕ) (w : World P) → WaitAtMost cmp order k w
       → EndsWith (WaitAtMost cmp order k) (settle_within cmp n t w)
-  settle_within_waits n k t =
-      settle_keeps cmp order (WaitAtMost cmp order k) t (λ v f e. complete_waits cmp order k t v f.message) n
+  settle_within_waits n k t = settle_keeps cmp order _ t (λ v f e. complete_waits cmp order k t v f.message) n
 
   -- ---- waking
 
@@ -302,11 +294,8 @@ module _ {P : Type 0} (cmp : P → P → Ordering) (order : IsTotalOrder cmp) (i
   settle_and_wake n k t u last id is h g ih =
       let all : ℕ = length u.sending + length u.waiting in
       let few : ℕ = length (filter in_flight u.sending) + length (filter mine u.waiting) in
-      part_then (λ v. WaitAtMost cmp order n v × NoneDone cmp order v) (WaitAtMost cmp order k) (settle cmp t u)
-      (settle cmp t (part last id u)) (wake_within cmp n t) (wake_within cmp k t)
-      (settle_part all few t u last id is (omega arith) (omega arith))
-      (ends_both (WaitAtMost cmp order n) (NoneDone cmp order) (settle cmp t u) (settle_within_waits all n t u h)
-      (settle_rests cmp order t u)) (settle_within_waits few k t (part last id u) g)
+      part_then _ _ _ _ _ (wake_within cmp k t) (settle_part all few t u last id is (omega arith) (omega arith))
+      (ends_both _ _ _ (settle_within_waits all n t u h) (settle_rests cmp order t u)) (settle_within_waits few k t _ g)
       (λ v l i part_v r s. ih k v l i part_v r.1 r.0 s)
 
   one_wakes : (n k t : ℕ) (w : World P) (last : P → P → Option ℕ) (id : ℕ) (m : Message P) (b : Bool)
@@ -315,35 +304,29 @@ module _ {P : Type 0} (cmp : P → P → Ordering) (order : IsTotalOrder cmp) (i
       → IsPartOf (and_then (start cmp w m) (λ v. and_then (settle cmp t v) (wake_within cmp n t)))
       (wake_within cmp k t (part last id w))
   one_wakes n zero t w last id m true ih is rests most few e own =
-      let least = ap (least_pair cmp) (ready_part t w last id is) ∙ least_kept cmp order mine (ready cmp t w) m e own in
-      let some = some_element (same_pair cmp m) m (filter mine w.waiting)
-      (ready_is_first cmp order t (part last id w) m least) in
+      let least = ap (least_pair cmp) (ready_part t w last id is) ∙ least_kept cmp order mine _ m e own in
+      let some = some_element (same_pair cmp m) m _ (ready_is_first cmp order t (part last id w) m least) in
       absurd (omega arith)
   one_wakes n (suc j) t w last id m true ih is rests most few e own =
-      let least = ap (least_pair cmp) (ready_part t w last id is) ∙ least_kept cmp order mine (ready cmp t w) m e own in
+      let least = ap (least_pair cmp) (ready_part t w last id is) ∙ least_kept cmp order mine _ m e own in
       let first = ready_is_first cmp order t w m e in
-      subst (λ (c : Course (Completed P) (World P)). IsPartOf
-      (and_then (start cmp w m) (λ v. and_then (settle cmp t v) (wake_within cmp n t))) c)
-      (sym (wake_first cmp order j t (part last id w) m least))
-      (part_then (WaitAtMost cmp order n) (WaitAtMost cmp order j) (start cmp w m) (start cmp (part last id w) m)
-      (λ v. and_then (settle cmp t v) (wake_within cmp n t)) (λ v. and_then (settle cmp t v) (wake_within cmp j t))
+      subst (λ (c : Course (Completed P) (World P)). IsPartOf (and_then (start cmp w m)
+      (λ v. and_then (settle cmp t v) (wake_within cmp n t))) c) (sym (wake_first cmp order j t (part last id w) m
+      least)) (part_then _ _ _ _ _ (λ v. and_then (settle cmp t v) (wake_within cmp j t))
       (start_mine w m last id is first own) (start_takes cmp order n w m m first most)
-      (start_takes cmp order j (part last id w) m m (ready_is_first cmp order t (part last id w) m least) few)
+      (start_takes cmp order j _ m m (ready_is_first cmp order t (part last id w) m least) few)
       (λ u l i part_u r s. settle_and_wake n j t u l i part_u r s ih))
   one_wakes n k t w last id m false ih is rests most few e off =
       let first = ready_is_first cmp order t w m e in
       let small : World P = part last id w in
-      let rests_here = none_kept in_flight (is_done cmp w) w.sending rests in
+      let rests_here = none_kept in_flight _ w.sending rests in
       let still = settle_nothing cmp order (length small.sending + length small.waiting) t small rests_here in
-      let same = preceded_none (and_then (settle cmp t small) (wake_within cmp k t)) ∙ ap
-      (λ (c : Course (Completed P) (World P)). and_then c (wake_within cmp k t)) still ∙ preceded_none
-      (wake_within cmp k t small) in
-      subst (λ (c : Course (Completed P) (World P)). IsPartOf
-      (and_then (start cmp w m) (λ v. and_then (settle cmp t v) (wake_within cmp n t))) c)
-      same (part_then (WaitAtMost cmp order n) (WaitAtMost cmp order k) (start cmp w m) (goes [] small)
-      (λ v. and_then (settle cmp t v) (wake_within cmp n t)) (λ v. and_then (settle cmp t v) (wake_within cmp k t))
-      (start_other w m last id is first off) (start_takes cmp order n w m m first most) few
-      (λ u l i part_u r s. settle_and_wake n k t u l i part_u r s ih))
+      let same = preceded_none _ ∙ ap (λ (c : Course (Completed P) (World P)). and_then c (wake_within cmp k t)) still ∙
+      preceded_none _ in
+      subst (λ (c : Course (Completed P) (World P)). IsPartOf (and_then (start cmp w m)
+      (λ v. and_then (settle cmp t v) (wake_within cmp n t))) c) same (part_then _ (WaitAtMost cmp order k) _ _ _
+      (λ v. and_then (settle cmp t v) (wake_within cmp k t)) (start_other w m last id is first off)
+      (start_takes cmp order n w m m first most) few (λ u l i part_u r s. settle_and_wake n k t u l i part_u r s ih))
 
   pub wake_part : (n t : ℕ) → GoesByRule n t
   wake_part zero t k w last id is rests most few = grind (arith, none_long, wake_nothing, ready_part)
@@ -359,8 +342,6 @@ module _ {P : Type 0} (cmp : P → P → Ordering) (order : IsTotalOrder cmp) (i
   instant_part w last id is =
       let all : ℕ = length w.sending + length w.waiting in
       let few : ℕ = length (filter in_flight w.sending) + length (filter mine w.waiting) in
-      part_then (NoneDone cmp order) (λ v. ⊤) (settle cmp w.moment w) (settle cmp w.moment (part last id w))
-      (λ v. wake cmp v.moment v) (λ v. wake cmp v.moment v) (settle_part all few w.moment w last id is (omega arith)
-      (omega arith)) (settle_rests cmp order w.moment w)
-      (ends_any (λ (v : World P). ⊤) (settle cmp w.moment (part last id w)) (λ v. tt))
-      (λ u l i part_u r s. wake_part (length u.waiting) u.moment (length _) u l i part_u r (omega arith) (omega arith))
+      part_then _ (λ v. ⊤) _ _ _ (λ v. wake cmp v.moment v) (settle_part all few w.moment w last id is (omega arith)
+      (omega arith)) (settle_rests cmp order w.moment w) (ends_any _ _ (λ v. tt))
+      (λ u l i part_u r s. wake_part _ u.moment (length _) u l i part_u r (omega arith) (omega arith))

@@ -100,5 +100,4 @@ module _ {P : Type 0} (cmp : P → P → Ordering) (order : IsTotalOrder cmp) wh
 
   pub new_in_turn : (calls : List (Call P)) (replies : List (Reply P)) → AreAdvancedFirst 0 calls replies
       → AreInTurn cmp (new_world 0) calls replies
-  new_in_turn calls replies first =
-      advanced_in_turn calls replies (new_world 0) 0 refl (new_stands cmp order 0).quiet first
+  new_in_turn calls replies first = advanced_in_turn calls replies _ 0 refl (new_stands cmp order 0).quiet first

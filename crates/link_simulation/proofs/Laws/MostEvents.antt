@@ -107,8 +107,7 @@ module _ {P : Type 0} (cmp : P → P → Ordering) (order : IsTotalOrder cmp) wh
   finish_counts (stopped is launch) = tt
   finish_counts {t = t} {p = p} (completes {m = m} {more = more} {q = q} {rest = rest} is launch finishes) =
       let less : most_events q + length more ≤ most_events p = launch_counts launch m more q refl refl in
-      leaves_after (most_events p) (completed cmp t m ∷ []) rest
-      (leaves_more (most_events q) (most_events p) rest (omega arith) (finish_counts finishes))
+      leaves_after _ (completed cmp t m ∷ []) rest (leaves_more _ _ rest (omega arith) (finish_counts finishes))
 
   wake_counts : {t : ℕ} {ms : List (Message P)} {p : Planned P} {c : Course (Completed P) (Planned P)}
       → WakesEach cmp t ms p c → Leaves (most_events p) c
@@ -119,8 +118,7 @@ module _ {P : Type 0} (cmp : P → P → Ordering) (order : IsTotalOrder cmp) wh
   wake_counts {p = p} (starts_one {m = m} {more = more} {q = q} {r = r} {cs = cs} {rest = rest} launch finishes wakes) =
       let less : most_events q + length more ≤ most_events p = launch_counts launch m more q refl refl in
       let after : most_events r ≤ most_events q = finish_counts finishes in
-      leaves_after (most_events p) cs rest
-      (leaves_more (most_events r) (most_events p) rest (omega arith) (wake_counts wakes))
+      leaves_after _ cs rest (leaves_more _ _ rest (omega arith) (wake_counts wakes))
 
   -- a wake that finds a pair ready starts it
   wake_less : {t : ℕ} {ms : List (Message P)} {p : Planned P} {c : Course (Completed P) (Planned P)}
@@ -250,10 +248,8 @@ module _ {P : Type 0} (cmp : P → P → Ordering) (order : IsTotalOrder cmp) wh
   wake_event : {t : ℕ} {p : Planned P} {c : Course (Completed P) (Planned P)} → Wakes cmp t p c → SomeReadyAt cmp p t
       → 0 < most_events p × Leaves (most_events p - 1) c
   wake_event {t = t} {p = p} {c = c} wakes some =
-      by_list _ (in_filter (may_launch cmp t p) (fronts cmp p.waiting) some.0 (first_in_fronts some.0 p.waiting some.1)
-      some.2) (each_filter (λ (m : Message P). find _ p.waiting ≡ Some m) (λ (m : Message P). (find _ p.waiting ≡ Some
-      m) × (may_launch cmp t p m ≡ true)) _ _ (λ m may found. (found, may)) (fronts_are_first cmp order p.waiting))
-      wakes
+      by_list _ (in_filter _ _ some.0 (first_in_fronts some.0 p.waiting some.1) some.2)
+      (each_filter _ _ _ _ (λ m may found. (found, may)) (fronts_are_first cmp order p.waiting)) wakes
     where
       by_list : (ms : List (Message P)) → In ms some.0
           → Each (λ (m : Message P). (find (same_pair cmp m) p.waiting ≡ Some m) × (may_launch cmp t p m ≡ true)) ms

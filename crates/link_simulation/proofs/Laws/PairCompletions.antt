@@ -1,11 +1,11 @@
 -- The messages of a pair complete in the order in which they were enqueued, and are delivered in it.
 use Rattle.link_simulation.proofs.Common.{preceded, EndsWith, common_steps, ◌≡◌, ℕ, suc, ◌+◌, ◌-◌, ◌≤◌, List, [], ◌∷◌}
 use Rattle.link_simulation.proofs.Common.{◌++◌, map, Bool, true, false, cond, Option, Some, None, refl, sym, ap, ◌∙◌}
-use Rattle.link_simulation.proofs.Common.{subst, arith, append_assoc, append-nil, ◌&&◌, IfSome, nat_lt, if◌then◌else◌}
+use Rattle.link_simulation.proofs.Common.{subst, arith, append_assoc, append-nil, IfSome, if◌then◌else◌}
 use Rattle.link_simulation.proofs.Common.{filter, AllZip, Ordering, IsTotalOrder, filter-append, leb-true, le-leb}
 use Rattle.link_simulation.proofs.Common.{MomentTooLate, Message, Caps, PairsAlike, same_pair, World, Flight, Completed}
-use Rattle.link_simulation.proofs.Common.{completion_of, Course, goes, meets, last_moment, and_then, is_in_order}
-use Rattle.link_simulation.proofs.Common.{later_of, new_world, raised, instant, IsSound, Drains, Ticks, no_tick}
+use Rattle.link_simulation.proofs.Common.{completion_of, Course, goes, meets, and_then, is_in_order}
+use Rattle.link_simulation.proofs.Common.{later_of, new_world, raised, IsSound, Drains, Ticks, no_tick}
 use Rattle.link_simulation.proofs.Common.{one_tick, tick_faults, Call, call_limit, call_limit_link, call_enqueue}
 use Rattle.link_simulation.proofs.Common.{call_advance, complete_at_once, act, moment_of, Runs, call_enqueue_all}
 use Rattle.link_simulation.proofs.Common.{call_next, limited_by, linked_by, enqueue, enqueue_each, enqueued, answered}
@@ -82,7 +82,7 @@ module _ {P : Type 0} (cmp : P → P → Ordering) (order : IsTotalOrder cmp) (k
       → w.sending ≡ [] → w.waiting ≡ [] → IsHistory cmp order k messages t cs w
       → GoesByRule cmp order k (messages ++ m ∷ []) t cs (complete_at_once cmp t w m)
   unfolding GoesByRule
-  at_once_goes messages t cs w m sends none_waits h = by_late (m.should_deliver && nat_lt last_moment (t + m.latency))
+  at_once_goes messages t cs w m sends none_waits h = by_late _
     where
       at : ℕ
       at = if m.should_deliver then later_of (w.last_arrival m.origin m.recipient) (t + m.latency) else t
@@ -126,31 +126,28 @@ module _ {P : Type 0} (cmp : P → P → Ordering) (order : IsTotalOrder cmp) (k
           (cond b (meets MomentTooLate) (goes (c ∷ []) after))
       by_late true = tt
       by_late false =
-          by_bool (same_pair cmp k m) (λ own.
+          by_bool _ (λ own.
           let list_is = told_more cmp order k cs c own in
           record {
             done = h.done ++ m ∷ [];
             flying = None;
             told =
                 subst (λ (xs : List (Completed P)). AllZip IsCompletionOf xs (h.done ++ m ∷ [])) (sym list_is)
-                (told_push cmp order k (told_of_k cmp order k cs) h.done c m h.told
-                (t, (if m.should_deliver then Some at else None), refl));
+                (told_push cmp order k _ h.done c m h.told (t, (if m.should_deliver then Some at else None), refl));
             in_flight =
                 ap (λ (fs : List (Flight P)). filter (same_pair cmp k) (map (λ (f : Flight P). f.message) fs)) sends;
             queue =
-                filter-append (same_pair cmp k) messages (m ∷ []) ∙ ap (λ (ms : List (Message P)). ms ++ filter
+                filter-append _ messages (m ∷ []) ∙ ap (λ (ms : List (Message P)). ms ++ filter
                 (same_pair cmp k) (m ∷ [])) all_done ∙ rw own refl ∙ sym (append-nil _) ∙ ap
                 (λ (ms : List (Message P)). (h.done ++ m ∷ []) ++ filter (same_pair cmp k) ms) (sym none_waits);
-            deliveries = subst NeverGoDown (sym list_is)
-                (deliveries_push cmp order k (last cmp order k w) (told_of_k cmp order k cs) c h.deliveries h.not_past
-                (grows own m.should_deliver));
+            deliveries = subst NeverGoDown (sym list_is) (deliveries_push cmp order k _ (told_of_k cmp order k cs) c
+                h.deliveries h.not_past (grows own m.should_deliver));
             not_past =
                 subst (λ (xs : List (Completed P)). AllNotPast cmp order k (last cmp order k after) xs) (sym list_is)
                 (subst (λ (l : Option ℕ). AllNotPast cmp order k l (told_of_k cmp order k cs ++ c ∷ []))
-                (sym (own_last own))
-                (not_past_push cmp order k (Some (later_of (last cmp order k w) at)) (told_of_k cmp order k cs) c
-                (not_past_later cmp order k (last cmp order k w) (Some (later_of (last cmp order k w) at))
-                (told_of_k cmp order k cs)
+                (sym (own_last own)) (not_past_push cmp order k (Some (later_of (last cmp order k w) at))
+                (told_of_k cmp order k cs) c (not_past_later cmp order k (last cmp order k w)
+                (Some (later_of (last cmp order k w) at)) (told_of_k cmp order k cs)
                 (λ s np. raises cmp order k (last cmp order k w) at s np) h.not_past) (reached m.should_deliver)));
             in_order = tt;
             alike = alike_too;
@@ -198,9 +195,9 @@ module _ {P : Type 0} (cmp : P → P → Ordering) (order : IsTotalOrder cmp) (k
   each_goes : (ms messages : List (Message P)) (t : ℕ) (cs : List (Completed P)) (w : World P) → IsSound cmp w
       → IsHistory cmp order k messages t cs w → GoesByRule cmp order k (messages ++ ms) t cs (enqueue_each cmp t w ms)
   unfolding GoesByRule
-  each_goes [] messages t cs w sound h = stays cmp order k (messages ++ []) t cs w (none_more messages t cs w h)
+  each_goes [] messages t cs w sound h = stays cmp order k _ t cs w (none_more messages t cs w h)
   each_goes (m ∷ ms) messages t cs w sound h =
-      by_course (enqueue cmp t w m) (act_keeps_sound cmp order (call_enqueue t m) w sound)
+      by_course _ (act_keeps_sound cmp order (call_enqueue t m) w sound)
       (enqueue_goes messages t cs w m sound h) (each_goes ms)
     where
       by_course : (c : Course (Completed P) (World P)) → EndsWith (IsSound cmp) c
@@ -210,8 +207,7 @@ module _ {P : Type 0} (cmp : P → P → Ordering) (order : IsTotalOrder cmp) (k
           → GoesByRule cmp order k (messages ++ m ∷ ms) t cs (and_then c (λ v. enqueue_each cmp t v ms))
       by_course (goes ds u) sound_u g ih =
           subst (λ (ns : List (Message P)). GoesByRule cmp order k ns t cs (preceded ds (enqueue_each cmp t u ms)))
-          (append_assoc messages (m ∷ []) ms) (goes_preceded cmp order k ((messages ++ m ∷ []) ++ ms) t cs ds _
-          (ih _ t _ u sound_u g))
+          (append_assoc messages (m ∷ []) ms) (goes_preceded cmp order k _ t cs ds _ (ih _ t _ u sound_u g))
       by_course (meets fault) sound_u g ih = tt
 
   act_goes : (messages : List (Message P)) (t : ℕ) (cs : List (Completed P)) (w : World P) (call : Call P)
@@ -231,16 +227,14 @@ module _ {P : Type 0} (cmp : P → P → Ordering) (order : IsTotalOrder cmp) (k
         arith,
         common_steps,
         (settle_goes cmp order k (messages ++ []) t cs (record w {
-          caps = linked_by cmp
-              w.caps origin recipient cap;
+          caps = linked_by cmp w.caps origin recipient cap;
           limited = true;
         }) (none_more messages t cs _ (recapped_history messages t cs w
             (linked_by cmp w.caps origin recipient cap) h))),
       )
   act_goes messages t cs w (call_enqueue s m) e sound h = grind (arith, enqueue_goes)
   act_goes messages t cs w (call_enqueue_all s ms) e sound h = grind (arith, append-nil, each_goes)
-  act_goes messages t cs w (call_advance s) e sound h =
-      stays cmp order k (messages ++ []) t cs w (none_more messages t cs w h)
+  act_goes messages t cs w (call_advance s) e sound h = stays cmp order k _ t cs w (none_more messages t cs w h)
   act_goes messages t cs w call_next e sound h = cc
 
   run_history : (messages : List (Message P)) (cs ds : List (Completed P)) (w u : World P) (call : Call P) (now : ℕ)

@@ -6,11 +6,10 @@ use Rattle.link_simulation.proofs.Common.{refl, sym, ap, ◌∙◌, subst, arith
 use Rattle.link_simulation.proofs.Common.{if◌then◌else◌, list_any, find, filter, AllZip, Ordering, IsTotalOrder}
 use Rattle.link_simulation.proofs.Common.{filter-append, map-append, leb-true, without_first, same_peer, Message}
 use Rattle.link_simulation.proofs.Common.{PairsAlike, same_pair, is_delivered, World, Flight, Completed, Course, goes}
-use Rattle.link_simulation.proofs.Common.{meets, preceded, and_then, is_in_order, later_of, flows, first_waiting}
-use Rattle.link_simulation.proofs.Common.{may_start, start, start_next, is_done, complete, settle_within, settle}
-use Rattle.link_simulation.proofs.Common.{least_pair, ready, turn, wake_within, instant, fronts, out_of_flight, is_late}
-use Rattle.link_simulation.proofs.Common.{completed, arrival, flight_of, IsCompletionOf, NeverGoDown, Each, rules}
-use Rattle.link_simulation.proofs.Common.{by_bool}
+use Rattle.link_simulation.proofs.Common.{meets, preceded, and_then, is_in_order, later_of, flows, may_start, start}
+use Rattle.link_simulation.proofs.Common.{start_next, is_done, complete, settle_within, settle, least_pair, ready, turn}
+use Rattle.link_simulation.proofs.Common.{wake_within, instant, out_of_flight, is_late, completed, arrival, flight_of}
+use Rattle.link_simulation.proofs.Common.{IsCompletionOf, NeverGoDown, Each, rules, by_bool}
 use Rattle.link_simulation.specs.Laws.PairCompletions.{NoneBefore, completes_pair}
 use Rattle.link_simulation.proofs.Simulation.Queue.{pair_like, pair_sym, find_passes, settle_none, settle_first}
 use Rattle.link_simulation.proofs.Simulation.Queue.{by_option}
@@ -268,7 +267,7 @@ module _ {P : Type 0} (cmp : P → P → Ordering) (order : IsTotalOrder cmp) (k
         → IsHistory messages t cs w → IsHistory messages t (cs ++ completed cmp t f.message ∷ []) (land w f.message)
     unfolding land
     land_history cs w f found h =
-        by_bool (same_pair cmp k f.message) (λ own. by_flying own h.flying refl h.in_flight h.queue h.in_order) (λ off.
+        by_bool _ (λ own. by_flying own h.flying refl h.in_flight h.queue h.in_order) (λ off.
         let c : Completed P = completed cmp t f.message in
         let list_is : told_of_k (cs ++ c ∷ []) ≡ told_of_k cs = told_same cs c off in
         record {
@@ -283,9 +282,8 @@ module _ {P : Type 0} (cmp : P → P → Ordering) (order : IsTotalOrder cmp) (k
               subst (λ (xs : List (Completed P)). AllNotPast (last (land w f.message)) xs) (sym list_is)
               (subst (λ (l : Option ℕ). AllNotPast l (told_of_k cs)) (sym (other_last off)) h.not_past);
           in_order =
-              by_option (h.flying) (λ is. rw is tt)
-              (λ n is. rw is (subst (λ (l : Option ℕ). is_in_order l (t + n.latency) ≡ true) (sym (other_last off))
-              (rw is at h.in_order)));
+              by_option (h.flying) (λ is. rw is tt) (λ n is. rw is (subst (λ (l : Option ℕ). is_in_order l
+              (t + n.latency) ≡ true) (sym (other_last off)) (rw is at h.in_order)));
           alike = alike_too;
           now = h.now;
         })
@@ -294,7 +292,7 @@ module _ {P : Type 0} (cmp : P → P → Ordering) (order : IsTotalOrder cmp) (k
         m = f.message
 
         alike_too : PairsAlike cmp (land w f.message).last_arrival (land w f.message).last_arrival
-        alike_too = raised_peerwise cmp order w.last_arrival f.message (arrival cmp t f.message) h.alike
+        alike_too = raised_peerwise cmp order w.last_arrival f.message _ h.alike
 
         peers_own : same_pair cmp k f.message ≡ true
             → (same_peer cmp f.message.origin k.origin && same_peer cmp f.message.recipient k.recipient) ≡ true
@@ -318,7 +316,7 @@ module _ {P : Type 0} (cmp : P → P → Ordering) (order : IsTotalOrder cmp) (k
             in_none : (fs : List (Flight P)) → find (is_done cmp w) fs ≡ Some f
                 → filter (same_pair cmp k) (map (λ (g : Flight P). g.message) fs) ≡ [] → ⊥
             in_none [] e none = cc
-            in_none (g ∷ fs) e none = by_test (is_done cmp w g) (same_pair cmp k g.message) refl e none (in_none fs)
+            in_none (g ∷ fs) e none = by_test _ _ refl e none (in_none fs)
               where
                 by_test : (b c : Bool) → same_pair cmp k g.message ≡ c
                     → cond b (Some g) (find (is_done cmp w) fs) ≡ Some f
@@ -333,8 +331,7 @@ module _ {P : Type 0} (cmp : P → P → Ordering) (order : IsTotalOrder cmp) (k
                     cc
                 by_test false false is e none ih = ih e none
         by_flying own (Some n) is one queue order_is =
-            let taken = taken_out (same_pair cmp k) (λ (g : Flight P). g.message) (is_done cmp w) f n w.sending found
-            own one in
+            let taken = taken_out _ _ (is_done cmp w) f n w.sending found own one in
             let c : Completed P = completed cmp t f.message in
             let of_pair : completes_pair cmp k c ≡ true = own in
             let list_is : told_of_k (cs ++ c ∷ []) ≡ told_of_k cs ++ c ∷ [] = told_more cs c of_pair in
@@ -355,17 +352,15 @@ module _ {P : Type 0} (cmp : P → P → Ordering) (order : IsTotalOrder cmp) (k
                   (told_push (told_of_k cs) h.done c n h.told is_of);
               in_flight = taken.1;
               queue = queue ∙ sym (append_assoc h.done (n ∷ []) (waits w));
-              deliveries = subst NeverGoDown (sym list_is)
-                  (deliveries_push (last w) (told_of_k cs) c h.deliveries h.not_past
+              deliveries = subst NeverGoDown (sym list_is) (deliveries_push (last w) _ c h.deliveries h.not_past
                   (by_bool (is_delivered cmp f.message) (λ here. rw here in_order_here) (λ here. rw here tt)));
               not_past =
                   subst (λ (xs : List (Completed P)). AllNotPast (last (land w f.message)) xs) (sym list_is)
                   (subst (λ (l : Option ℕ). AllNotPast l (told_of_k cs ++ c ∷ [])) (sym (own_last own))
                   (not_past_push (Some (later_of (last w) (arrival cmp t f.message))) (told_of_k cs) c
-                  (not_past_later (last w) (Some (later_of (last w) (arrival cmp t f.message))) (told_of_k cs)
-                  (λ s np. raises (last w) (arrival cmp t f.message) s np) h.not_past)
-                  (by_bool (is_delivered cmp f.message)
-                  (λ seen. rw seen (reaches_it (last w) (t + f.message.latency))) (λ seen. rw seen tt))));
+                  (not_past_later (last w) (Some (later_of (last w) (arrival cmp t f.message))) _
+                  (λ s np. raises (last w) _ s np) h.not_past) (by_bool (is_delivered cmp f.message)
+                  (λ seen. rw seen (reaches_it (last w) _)) (λ seen. rw seen tt))));
               in_order = tt;
               alike = alike_too;
               now = h.now;
@@ -394,10 +389,8 @@ module _ {P : Type 0} (cmp : P → P → Ordering) (order : IsTotalOrder cmp) (k
     ready_may : (w : World P) (m : Message P) → least_pair cmp (ready cmp t w) ≡ Some m
         → (find (same_pair cmp m) w.waiting ≡ Some m) × (may_start cmp t w m ≡ true)
     ready_may w m e =
-        each_least cmp order (λ (n : Message P). (find (same_pair cmp n) w.waiting ≡ Some n)
-        × (may_start cmp t w n ≡ true)) _ m (each_filter (λ (n : Message P). find _ w.waiting ≡ Some n)
-        (λ (n : Message P). (find _ w.waiting ≡ Some n) × (may_start cmp t w n ≡ true)) _ _
-        (λ n may first. (first, may)) (fronts_are_first cmp order w.waiting)) e
+        each_least cmp order (λ (n : Message P). (find _ w.waiting ≡ Some n) × (may_start cmp t w n ≡ true)) _ m
+        (each_filter _ _ _ _ (λ n may first. (first, may)) (fronts_are_first cmp order w.waiting)) e
 
     turn_goes : (cs : List (Completed P)) (w : World P) (m : Message P) → least_pair cmp (ready cmp t w) ≡ Some m
         → IsHistory messages t cs w → GoesByRule cs (turn cmp t w m)

@@ -201,11 +201,11 @@ module _ {P : Type 0} (cmp : P → P → Ordering) (caps : Caps P) where
             → HasBottleneck (capped_sides cmp caps (filter mine ms)) per own_parts i
         by_side (m, has, (k, c, is, e)) =
             let used = subst (λ (z : Side). Contains z.users (stood (map mine ms) i)) e b.uses.used in
-            let there = passes_here (uses_at k m) ms (stood _ i) (in_from_contains _ _ used) in
+            let there = passes_here _ ms (stood _ i) (in_from_contains _ _ used) in
             let same_x : Some there.0 ≡ Some x = sym there.1 ∙ stands.0 in
             let it : there.0 ≡ x = cc in
             let uses_x : uses_at k m x ≡ true = subst (λ (z : Message P). uses_at k m z ≡ true) it there.2 in
-            let own_m = apart k m x has (in_get ms (stood (map mine ms) i) x stands.0) uses_x ∙ stands.1 in
+            let own_m = apart k m x has (in_get ms _ x stands.0) uses_x ∙ stands.1 in
             let filled = subst (λ (z : Side). load parts z ≡ z.cap * per) e b.full in
             let most : All (λ other. parts other ≤ parts (stood (map mine ms) i)) (places_from 0 (uses_at k m) ms)
             = subst (λ (z : Side). All (λ other. parts other ≤ parts (stood (map mine ms) i)) z.users) e b.greatest in
@@ -213,13 +213,11 @@ module _ {P : Type 0} (cmp : P → P → Ordering) (caps : Caps P) where
               side = side_at k (filter mine ms) m c;
               uses =
                   record {
-                    listed = to_sides k (filter mine ms) m c (in_filter mine ms m has own_m) is;
-                    used = place_here (uses_at k m) (filter mine ms) i x here uses_x;
+                    listed = to_sides k _ m c (in_filter mine ms m has own_m) is;
+                    used = place_here _ _ i x here uses_x;
                   };
               full = same_load k m c has own_m ∙ filled;
-              greatest =
-                  All-from_contains (λ other. own_parts other ≤ own_parts i)
-                  (places_from 0 (uses_at k m) (filter mine ms)) (λ other has_other. greatest k m other has_other most);
+              greatest = All-from_contains _ _ (λ other has_other. greatest k m other has_other most);
             }
           where
             greatest : (k : Kind) (m : Message P) (other : ℕ)
@@ -227,11 +225,9 @@ module _ {P : Type 0} (cmp : P → P → Ordering) (caps : Caps P) where
                 → All (λ o. parts o ≤ parts (stood (map mine ms) i)) (places_from 0 (uses_at k m) ms)
                 → own_parts other ≤ own_parts i
             greatest k m other has_other most =
-                let at = passes_here (uses_at k m) (filter mine ms) other (in_from_contains _ other has_other) in
-                All-contains (λ o. parts o ≤ parts (stood (map mine ms) i)) (places_from 0 (uses_at k m) ms)
-                (stood (map mine ms) other) most
-                (place_here (uses_at k m) ms (stood (map mine ms) other) at.0 (stood_at mine ms other at.0 at.1).0
-                at.2)
+                let at = passes_here _ _ other (in_from_contains _ other has_other) in
+                All-contains (λ o. parts o ≤ parts (stood (map mine ms) i)) _ _ most
+                (place_here _ ms _ at.0 (stood_at mine ms other at.0 at.1).0 at.2)
 
     part_held : (i : ℕ) → IsLimited (capped_sides cmp caps (filter mine ms)) i
         → HasBottleneck (capped_sides cmp caps (filter mine ms)) per own_parts i

@@ -1,8 +1,8 @@
 -- Replies that agree with the simulation, to calls in turn, keep the order of each pair and isolate sets of peers.
-use Rattle.link_simulation.proofs.Common.{same_peer, arith, ◌≡◌, ℕ, zero, suc, List, [], ◌∷◌, Bool, Option, Some, None}
+use Rattle.link_simulation.proofs.Common.{arith, ◌≡◌, ℕ, zero, suc, List, [], ◌∷◌, Bool, Option, Some, None}
 use Rattle.link_simulation.proofs.Common.{refl, IfSome, filter, AllZip, Ordering, IsTotalOrder, Message, new_world}
 use Rattle.link_simulation.proofs.Common.{Completed, Call, Reply, reply_done, reply_next, reply_refused, SameCompletion}
-use Rattle.link_simulation.proofs.Common.{Agrees, made, completions_in, enqueued, answered, IsCompletionOf, NeverGoDown}
+use Rattle.link_simulation.proofs.Common.{Agrees, made, completions_in, answered, IsCompletionOf, NeverGoDown}
 use Rattle.link_simulation.proofs.Common.{InTime, Completes, zip-append, zip-filter, by_bool}
 use Rattle.link_simulation.proofs.Simulation.Queue.{both_alike}
 use Rattle.link_simulation.proofs.Simulation.AlikeMessages.{same_itself, peers_alike}
@@ -21,8 +21,7 @@ answered_alike : {X Y : Type 0} (R : X → Y → Type 0) (xss : List (List X)) (
 answered_alike R [] [] all = tt
 answered_alike R [] (ys ∷ yss) all = absurd all
 answered_alike R (xs ∷ xss) [] all = absurd all
-answered_alike R (xs ∷ xss) (ys ∷ yss) all =
-    zip-append R xs (answered xss) ys (answered yss) all.0 (answered_alike R xss yss all.1)
+answered_alike R (xs ∷ xss) (ys ∷ yss) all = zip-append R xs _ ys _ all.0 (answered_alike R xss yss all.1)
 
 none_alike : {X Y : Type 0} (R : X → Y → Type 0) (xs : List X) (ys : List Y) → AllZip R xs ys → ys ≡ [] → xs ≡ []
 none_alike R [] ys all e = refl
@@ -54,11 +53,9 @@ module _ {P : Type 0} (cmp : P → P → Ordering) (order : IsTotalOrder cmp) wh
   completes_alike : (k : Message P) (c d : Completed P) → SameCompletion cmp c d
       → completes_pair cmp k c ≡ completes_pair cmp k d
   completes_alike k c d same =
-      both_alike cmp order (same_peer cmp k.origin c.origin) (same_peer cmp k.origin d.origin)
-      (same_peer cmp k.recipient c.recipient) (same_peer cmp k.recipient d.recipient)
-      (peers_alike cmp order k.origin k.origin c.origin d.origin (same_itself cmp order k.origin) same.origin)
-      (peers_alike cmp order k.recipient k.recipient c.recipient d.recipient (same_itself cmp order k.recipient)
-      same.recipient)
+      both_alike cmp order _ _ _ _ (peers_alike cmp order k.origin k.origin c.origin d.origin
+      (same_itself cmp order k.origin) same.origin) (peers_alike cmp order k.recipient k.recipient c.recipient
+      d.recipient (same_itself cmp order k.recipient) same.recipient)
 
   completions_of : (cs ds : List (Completed P)) (ms : List (Message P)) → AllZip (SameCompletion cmp) cs ds
       → AllZip IsCompletionOf ds ms → AllZip (Completes cmp) cs ms
@@ -102,9 +99,7 @@ module _ {P : Type 0} (cmp : P → P → Ordering) (order : IsTotalOrder cmp) wh
   module _ (inside : P → Bool) (together : IsSet cmp inside) where
     alone_alike : (cs ds : List (Completed P)) → AllZip (SameCompletion cmp) cs ds
         → AllZip (SameCompletion cmp) (inside_alone inside cs) (inside_alone inside ds)
-    alone_alike cs ds same =
-        zip-filter (SameCompletion cmp) (λ c. inside c.origin) (λ c. inside c.origin)
-        (λ c d one. together c.origin d.origin one.origin) cs ds same
+    alone_alike cs ds same = zip-filter _ _ _ (λ c d one. together c.origin d.origin one.origin) cs ds same
 
     kept_alike : (calls : List (Call P)) (css dss : List (List (Completed P)))
         → AllZip (AllZip (SameCompletion cmp)) css dss

@@ -1,5 +1,5 @@
 -- An advance that goes by the event rule is an advance to any moment on the way and then on.
-use Rattle.link_simulation.proofs.Common.{◌≡◌, ℕ, ◌+◌, ◌-◌, ◌≤◌, List, refl, sym, subst, arith, Ordering, IsTotalOrder}
+use Rattle.link_simulation.proofs.Common.{◌≡◌, ℕ, ◌-◌, ◌≤◌, List, refl, sym, subst, arith, Ordering, IsTotalOrder}
 use Rattle.link_simulation.proofs.Common.{World, Completed, Course, goes, meets, preceded, last_moment, Ticks}
 use Rattle.link_simulation.proofs.Common.{call_advance, Runs, Planned, GoesByRule, IsRun}
 use Rattle.link_simulation.specs.Simulation.Time.{Continues}
@@ -18,14 +18,13 @@ module _ {P : Type 0} (cmp : P → P → Ordering) (order : IsTotalOrder cmp) wh
   pub advance_split_anywhere : (p q : Planned P) (now : ℕ) (completions : List (Completed P)) → now ≤ last_moment
       → GoesByRule cmp p (call_advance now) completions q → IsSplitAnywhere cmp p now completions q
   advance_split_anywhere p q now completions in_time go w between stands after before =
-      let run = calls_simulated cmp order p q (call_advance now) completions (λ t at. let same : now ≡ t = cc in
+      let run = calls_simulated cmp order p q _ completions (λ t at. let same : now ≡ t = cc in
       subst (λ (s : ℕ). s ≤ last_moment) same in_time) go w now (record {
         stands = stands;
         moment = refl;
         turn = omega arith;
       }) in
-      let apart = ticks_apart cmp (ticks_of cmp order w now (goes run.answers run.after) run.runs) (between - w.moment)
-      (now - between) (omega arith) in
+      let apart = ticks_apart cmp (ticks_of cmp order w now _ run.runs) _ _ (omega arith) in
       by_first run apart.0 apart.1 apart.2
     where
       by_rest : (run : IsRun cmp w (call_advance now) now completions q) (ds : List (Completed P)) (v : World P)

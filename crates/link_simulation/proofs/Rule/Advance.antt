@@ -1,5 +1,5 @@
 -- Advancing the planned world event by event is ticking the world nanosecond by nanosecond.
-use Rattle.link_simulation.proofs.Common.{IsQuiet, ◌≡◌, ℕ, zero, suc, ◌+◌, ◌-◌, ◌<◌, ◌≤◌, List, [], length, false}
+use Rattle.link_simulation.proofs.Common.{◌≡◌, ℕ, zero, suc, ◌+◌, ◌-◌, ◌<◌, ◌≤◌, List, [], length, false}
 use Rattle.link_simulation.proofs.Common.{Option, Some, None, refl, sym, ap, ◌∙◌, subst, arith, ◌⊎◌, inl, inr, IfSome}
 use Rattle.link_simulation.proofs.Common.{list_any, Ordering, IsTotalOrder, cases_lt, Completed, Course, World}
 use Rattle.link_simulation.proofs.Common.{and_then, goes, instant, is_done, last_moment, meets, preceded, ready, settle}
@@ -185,14 +185,13 @@ module _ {P : Type 0} (cmp : P → P → Ordering) (order : IsTotalOrder cmp) wh
       let first : (p.start ≡ Some e) × IfSome p.finish (λ f. e < f) = grind (arith, earlier_start) in
       let after = start_is_later p w stands e first.0 in
       let steps = gap w.moment e after.1 in
-      let u = later cmp order p w stands (suc steps.0) in
-      let follows = subst (λ (s : ℕ). Follows cmp s p u) steps.1 (follows_later cmp order p w stands (suc steps.0)) in
+      let u = later cmp order p w stands _ in
+      let follows = subst (λ (s : ℕ). Follows cmp s p u) steps.1 (follows_later cmp order p w stands _) in
       let none_done : list_any (is_done cmp u) u.sending ≡ false = grind (arith, none_done_before) in
       let way = wakes u follows none_done in
       let instant_u : instant cmp u ≡ preceded [] (wake cmp e u) = grind (arith, instant_is, settle_quiet) in
-      let ticks = joined_ticks (suc steps.0) e now w [] (wake cmp e u) way.0 (subst
-      (λ (c : Course (Completed P) (World P)). Ticks cmp (suc steps.0) w c) instant_u
-      (to_event p w stands e steps.0 steps.1 after.0 next)) way.1 in
+      let ticks = joined_ticks _ e now w [] _ way.0 (subst (λ (c : Course (Completed P) (World P)). Ticks cmp
+      (suc steps.0) w c) instant_u (to_event p w stands e steps.0 steps.1 after.0 next)) way.1 in
       let count : now - e + suc steps.0 ≡ now - w.moment = omega (arith, steps.1, after.1) in
       grind (arith, (preceded_none way.0))
 
@@ -208,10 +207,9 @@ module _ {P : Type 0} (cmp : P → P → Ordering) (order : IsTotalOrder cmp) wh
       let within : e ≤ last_moment = (spent_at_finish cmp order p w stands e finish).0 in
       let steps : (k : ℕ) × (w.moment + suc k ≡ e) = gap w.moment e after in
       let follows = subst (λ (s : ℕ). Follows cmp s p (later cmp order p w stands (suc steps.0))) steps.1
-      (follows_later cmp order p w stands (suc steps.0)) in
-      by_course steps.0 steps.1 after (to_event p w stands e steps.0 steps.1 within next)
-      (settle cmp e (later cmp order p w stands _)) refl (settles_alike cmp order event (later cmp order p w stands _)
-      (unplanned e p _ None p.start follows.tallies))
+      (follows_later cmp order p w stands _) in
+      by_course steps.0 steps.1 after (to_event p w stands e steps.0 steps.1 within next) _ refl
+      (settles_alike cmp order event _ (unplanned e p _ None p.start follows.tallies))
     where
       by_course : (k : ℕ) → w.moment + suc k ≡ e → w.moment < e
           → Ticks cmp (suc k) w (instant cmp (later cmp order p w stands (suc k)))
@@ -224,12 +222,12 @@ module _ {P : Type 0} (cmp : P → P → Ordering) (order : IsTotalOrder cmp) wh
           let instant_u = instant_is cmp order (later cmp order p w stands (suc k)) v ds
           (ap (λ (s : ℕ). settle cmp s (later cmp order p w stands (suc k))) at ∙ is) ∙ ap
           (λ (s : ℕ). preceded ds (wake cmp s v)) h.1.follows.tallies.moment in
-          let on = joined_ticks (suc k) e now w ds (wake cmp e v) way.0
+          let on = joined_ticks (suc k) e now w ds _ way.0
           (subst (λ (c : Course (Completed P) (World P)). Ticks cmp (suc k) w c) instant_u ticks) way.1 in
           let count : now - e + suc k ≡ now - w.moment = omega arith in (
             preceded ds way.0,
             subst (λ (n : ℕ). Ticks cmp n w (preceded ds way.0)) count on,
-            preceded_by cmp order (StandsNow now) cs ds course way.0 h.0 way.2,
+            preceded_by cmp order _ cs ds course way.0 h.0 way.2,
           )
 
   finish_faults : (e now : ℕ) (p : Planned P) (w : World P) (stands : StandsFor cmp p w) (fault : Error)
@@ -327,7 +325,7 @@ module _ {P : Type 0} (cmp : P → P → Ordering) (order : IsTotalOrder cmp) wh
   advances_alike {now = now} {p = p} (at_finish {q = q} {t = e} {cs = cs} {rest = more} finish next due event others)
       within =
       let ih : FromRest now q more × FromSettled now q more = advances_alike others within in
-      from_both now p (preceded cs more) within
+      from_both now p _ within
       (λ w stands le. finish_ticks e now p q w stands cs more finish next due event ih.1) (λ t v le is now_is. absurd
       (no_early_finish t e p v is finish (earlier_first p.finish p.start e t next finish now_is)))
   advances_alike {now = now} {p = p} (finish_stops {t = e} {fault = fault} finish next due event) within =
@@ -337,14 +335,12 @@ module _ {P : Type 0} (cmp : P → P → Ordering) (order : IsTotalOrder cmp) wh
   advances_alike {now = now} {p = p} (at_start {q = q} {t = e} {cs = cs} {rest = more} not_finish next due event others)
       within =
       let ih : FromRest now q more × FromSettled now q more = advances_alike others within in
-      from_both now p (preceded cs more) within
-      (λ w stands le. start_ticks e now p w stands (preceded cs more) not_finish next due
+      from_both now p _ within (λ w stands le. start_ticks e now p w stands _ not_finish next due
       (λ v follows none_done. wake_on e now p q v cs more event ih.0 follows none_done due within))
-      (λ t v le is now_is. wake_at e now p (preceded cs more) not_finish next
-      (λ u follows none_done. wake_on e now p q u cs more event ih.0 follows none_done due within) t v is now_is)
+      (λ t v le is now_is. wake_at e now p _ not_finish next (λ u follows none_done. wake_on e now p q u cs more event
+      ih.0 follows none_done due within) t v is now_is)
   advances_alike {now = now} {p = p} (start_stops {t = e} {fault = fault} not_finish next due event) within =
-      from_both now p (meets fault) within
-      (λ w stands le. start_ticks e now p w stands (meets fault) not_finish next due
-      (λ v follows none_done. wake_stops e now p v fault event follows none_done))
-      (λ t v le is now_is. wake_at e now p (meets fault) not_finish next
-      (λ u follows none_done. wake_stops e now p u fault event follows none_done) t v is now_is)
+      from_both now p (meets fault) within (λ w stands le. start_ticks e now p w stands (meets fault) not_finish next
+      due (λ v follows none_done. wake_stops e now p v fault event follows none_done))
+      (λ t v le is now_is. wake_at e now p (meets fault) not_finish next (λ u follows none_done. wake_stops e now p u
+      fault event follows none_done) t v is now_is)

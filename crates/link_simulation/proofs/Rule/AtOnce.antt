@@ -1,11 +1,10 @@
 -- Before any limit, a message completes at once in both worlds.
 use Rattle.link_simulation.proofs.Common.{arith, ◌≡◌, ℕ, ◌+◌, ◌<◌, ◌≤◌, [], ◌∷◌, Bool, true, false, cond, Option, Some}
-use Rattle.link_simulation.proofs.Common.{None, refl, ap, ◌∙◌, ◌&&◌, nat_lt, IfSome, if◌then◌else◌, list_any, Ordering}
-use Rattle.link_simulation.proofs.Common.{IsTotalOrder, Completed, Course, World, completion_of, goes, is_done}
-use Rattle.link_simulation.proofs.Common.{last_moment, later_of, meets, raised, ready, Runs, act, call_enqueue}
-use Rattle.link_simulation.proofs.Common.{complete_at_once, completed_at_once, Message, IsLeastMoment, Planned}
-use Rattle.link_simulation.proofs.Common.{SomeReadyAt, next_event, CoursesAlike, Follows, StandsFor, Tallies}
-use Rattle.link_simulation.proofs.Common.{MomentTooLate}
+use Rattle.link_simulation.proofs.Common.{None, refl, ap, ◌∙◌, IfSome, if◌then◌else◌, list_any, Ordering, IsTotalOrder}
+use Rattle.link_simulation.proofs.Common.{Completed, Course, World, completion_of, goes, is_done, last_moment, later_of}
+use Rattle.link_simulation.proofs.Common.{meets, raised, ready, Runs, act, call_enqueue, complete_at_once}
+use Rattle.link_simulation.proofs.Common.{completed_at_once, Message, IsLeastMoment, Planned, SomeReadyAt, next_event}
+use Rattle.link_simulation.proofs.Common.{CoursesAlike, Follows, StandsFor, Tallies, MomentTooLate}
 use Rattle.link_simulation.proofs.Simulation.AlikeMessages.{same_itself, message_itself}
 use Rattle.link_simulation.proofs.Rule.BeforeNext.{none_ready_at}
 use Rattle.link_simulation.proofs.Rule.Settling.{raised_alike}
@@ -26,8 +25,7 @@ module _ {P : Type 0} (cmp : P → P → Ordering) (order : IsTotalOrder cmp) wh
       → list_any (is_done cmp u) u.sending ≡ false → p.waiting ≡ [] → IsLeastMoment (SomeReadyAt cmp p) p.start
       → CoursesAlike cmp (λ q v. StandsFor cmp q v × (v.moment ≡ now)) (completed_at_once cmp now p m)
       (complete_at_once cmp now u m)
-  at_once now p u m follows none_done empty least =
-      by_late (m.should_deliver && nat_lt last_moment (now + m.latency)) arrivals
+  at_once now p u m follows none_done empty least = by_late _ arrivals
     where
       at_p : ℕ
       at_p = if m.should_deliver then later_of (p.last_arrival m.origin m.recipient) (now + m.latency) else now

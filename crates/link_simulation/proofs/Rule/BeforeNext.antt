@@ -152,19 +152,17 @@ module _ {P : Type 0} (cmp : P → P → Ordering) (order : IsTotalOrder cmp) wh
   -- where no pair is ready in the planned world, none is in the world
   pub none_ready_at : (t : ℕ) (p : Planned P) (w : World P) → Tallies cmp t p w → ¬ SomeReadyAt cmp p t
       → ready cmp t w ≡ []
-  none_ready_at t p w same none = filter_none (may_start cmp t w) (fronts cmp w.waiting)
-      (each_map (IsFront w.waiting) (λ m. may_start cmp t w m ≡ false) (fronts cmp w.waiting)
-      (λ m front. not_ready m front.0 front.1) (fronts_first w.waiting))
+  none_ready_at t p w same none = filter_none _ _ (each_map _ _ _ (λ m front. not_ready m front.0 front.1)
+      (fronts_first w.waiting))
     where
       not_ready : (m : Message P) (rest : List (Message P)) → filter (same_pair cmp m) w.waiting ≡ m ∷ rest
           → may_start cmp t w m ≡ false
       not_ready m rest e =
-          let first = first_alike (filter (same_pair cmp m) p.waiting) m rest (subst
-          (λ (ms : List (Message P)). AllZip (SameMessage cmp) (filter (same_pair cmp m) p.waiting) ms) e
-          (same.waiting m)) in
+          let first = first_alike _ m rest (subst (λ (ms : List (Message P)). AllZip (SameMessage cmp)
+          (filter (same_pair cmp m) p.waiting) ms) e (same.waiting m)) in
           let alike : may_launch cmp t p first.0 ≡ may_start cmp t w m =
           may_alike t p w first.0 m same.last_arrival (messages_alike t p.sending w.sending same.sending) first.3 in
-          by_test (may_start cmp t w m) first.0 alike (own_first m first.0 first.1 p.waiting first.2)
+          by_test _ first.0 alike (own_first m first.0 first.1 p.waiting first.2)
         where
           by_test : (b : Bool) (x : Message P) → may_launch cmp t p x ≡ b → find (same_pair cmp x) p.waiting ≡ Some x
               → b ≡ false
@@ -197,8 +195,7 @@ module _ {P : Type 0} (cmp : P → P → Ordering) (order : IsTotalOrder cmp) wh
     follows_later k = grind (arith, flights_later, flows_later, rated)
 
     none_unlimited : list_any (is_unlimited cmp w.caps) (flows w) ≡ false
-    none_unlimited =
-        unlimited_none (λ (g : Flight P). g.left.num == 0) (is_unlimited cmp w.caps) w.sending stands.quiet.none_done
+    none_unlimited = unlimited_none _ _ w.sending stands.quiet.none_done
 
     -- before the planned finish nothing is done
     pub none_done_before : (k : ℕ) → w.moment + k ≤ last_moment → IfSome p.finish (λ e. w.moment + k < e)

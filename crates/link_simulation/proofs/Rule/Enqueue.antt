@@ -122,22 +122,20 @@ module _ {P : Type 0} (cmp : P → P → Ordering) (order : IsTotalOrder cmp) wh
 
   held_after : (t : ℕ) (u : World P) (m y k : Message P) → ready cmp t u ≡ [] → same_pair cmp m y ≡ true
       → IsHeld cmp order k t (joining cmp order (waits_too u m) y) (started cmp order (waits_too u m) y)
-  held_after t u m y k none_ready pair = by_pair (same_pair cmp k y) refl (is_done cmp (waits_too u m) (flight_of y))
+  held_after t u m y k none_ready pair = by_pair _ refl _
     where
       off_m : same_pair cmp k y ≡ false → same_pair cmp k m ≡ false
       off_m e = pair_sym cmp order k m ∙ sym (pair_like cmp order m y k pair) ∙ pair_sym cmp order y k ∙ e
 
       by_pair : (a : Bool) → same_pair cmp k y ≡ a → (b : Bool) → IsHeld cmp order k t (cond b (flight_of y ∷ []) [])
           (cond b (out_of_waiting cmp (waits_too u m) y) (joined cmp (waits_too u m) y))
-      by_pair true e true = inl (or_left (same_pair cmp k y) false e)
-      by_pair true e false = inr (rested_joined cmp order k t (waits_too u m) y e)
+      by_pair true e true = inl (or_left _ false e)
+      by_pair true e false = inr (rested_joined cmp order k t _ y e)
       by_pair false e true =
-          inr (rested_other cmp order k y t (waits_too u m) (out_of_waiting cmp (waits_too u m) y) e
-          (only_taken cmp order y (waits_too u m) y (pair_itself cmp order y))
+          inr (rested_other cmp order k y t _ _ e (only_taken cmp order y _ y (pair_itself cmp order y))
           (find_without cmp order k y (waits_too u m).waiting e) (others_rest t u m k none_ready (off_m e)))
       by_pair false e false =
-          inr (rested_other cmp order k y t (waits_too u m) (joined cmp (waits_too u m) y) e
-          (only_joined cmp order y (waits_too u m) y (pair_itself cmp order y))
+          inr (rested_other cmp order k y t _ _ e (only_joined cmp order y _ y (pair_itself cmp order y))
           (find_without cmp order k y (waits_too u m).waiting e) (others_rest t u m k none_ready (off_m e)))
 
   all_rest : (t : ℕ) (u : World P) (m y : Message P) → ready cmp t u ≡ []
@@ -173,22 +171,20 @@ module _ {P : Type 0} (cmp : P → P → Ordering) (order : IsTotalOrder cmp) wh
       × EndsWith (λ v. ready cmp t v ≡ [])
       (and_then (start_next cmp t (waits_too u m) (find (same_pair cmp m) (waits_too u m).waiting)) (settle cmp t))
   joins t p u m course limits follows none_done none_ready enqueues =
-      let found = found_end (same_pair cmp m) m u.waiting (pair_itself cmp order m) in
-      by_may found.0 found.1 (may_start cmp t (waits_too u m) found.0) refl enqueues
+      let found = found_end _ m u.waiting (pair_itself cmp order m) in
+      by_may found.0 found.1 _ refl enqueues
     where
       there : Follows cmp t (record p { waiting = queued cmp m p.waiting }) (waits_too u m)
       there = grind (arith, queued_tallies)
 
       idle : NoneDone cmp order (waits_too u m)
-      idle = each_none (is_done cmp u) u.sending none_done
+      idle = each_none _ u.sending none_done
 
       abreast : (y : Message P) → find (same_pair cmp m) (u.waiting ++ m ∷ []) ≡ Some y
           → OptionsAlike (SameMessage cmp) (next_of cmp (record p { waiting = queued cmp m p.waiting }) m) (Some y)
       abreast y found =
-          subst (λ (o : Option (Message P)). OptionsAlike (SameMessage cmp)
-          (next_of cmp (record p { waiting = queued cmp m p.waiting }) m) o)
-          found
-          (next_alike cmp order t (record p { waiting = queued cmp m p.waiting }) (waits_too u m) m m there.tallies
+          subst (λ (o : Option (Message P)). OptionsAlike (SameMessage cmp) (next_of cmp
+          (record p { waiting = queued cmp m p.waiting }) m) o) found (next_alike cmp order t _ _ m m there.tallies
           (message_itself cmp order m))
 
       own_first : (y : Message P) → find (same_pair cmp m) (u.waiting ++ m ∷ []) ≡ Some y
@@ -222,39 +218,33 @@ module _ {P : Type 0} (cmp : P → P → Ordering) (order : IsTotalOrder cmp) wh
       by_may y found true may (no_launch {fault = fault} under launch) =
           let fails : start cmp (waits_too u m) y ≡ meets fault =
           start_alike cmp order launch (waits_too u m) y there idle may (own_first y found) (abreast y found) in
-          result (meets fault) (meets fault) (first_is y (meets fault) found (begins t (waits_too u m) y may ∙ fails))
-          refl tt
+          result _ (meets fault) (first_is y (meets fault) found (begins t (waits_too u m) y may ∙ fails)) refl tt
       by_may y found true may {x} (launches {leavers = leavers} {mid = mid} under launch finishes) =
           let so : StartsSo cmp order t (waits_too u m) y leavers mid =
           start_alike cmp order launch (waits_too u m) y there idle may (own_first y found) (abreast y found) in
           let alike = round_alike cmp order finishes (waits_too u m) y idle so in
-          let pair : same_pair cmp m y ≡ true = find_passes (same_pair cmp m) y (u.waiting ++ m ∷ []) found in
-          let rests = none_then cmp order t (settle cmp t (joined cmp (waits_too u m) y)) (λ k. subst
-          (λ (c : Course (Completed P) (World P)). EndsWith (IsRested cmp order k t) c)
+          let pair : same_pair cmp m y ≡ true = find_passes _ y (u.waiting ++ m ∷ []) found in
+          let rests = none_then cmp order t (settle cmp t (joined cmp (waits_too u m) y))
+          (λ k. subst (λ (c : Course (Completed P) (World P)). EndsWith (IsRested cmp order k t) c)
           (sym (round_is cmp order t (waits_too u m) y idle so.one_each)) (finish_rests cmp order k
-          (length (joined cmp (waits_too u m) y).sending + length (joined cmp (waits_too u m) y).waiting) t
-          (joining cmp order (waits_too u m) y) (started cmp order (waits_too u m) y)
+          (length (joined cmp (waits_too u m) y).sending + length (joined cmp (waits_too u m) y).waiting) t _ _
           (round_fuel cmp order (waits_too u m) y) (held_after t u m y k none_ready pair))) in
-          result (settle cmp t (joined cmp (waits_too u m) y)) x
-          (first_is y (goes [] (joined cmp (waits_too u m) y)) found (begins t (waits_too u m) y may ∙ so.starts)
-          ∙ preceded_none (settle cmp t (joined cmp (waits_too u m) y))) alike rests
+          result _ x (first_is y _ found (begins t _ y may ∙ so.starts) ∙ preceded_none _) alike rests
       by_may y found true may (at_once off) = other_mode off
       by_may y found false may (at_once off) = other_mode off
       by_may y found false may (no_launch {fault = fault} under launch) =
-          let none = stays_out launch (waits_too u m) y there may (abreast y found) in
+          let none = stays_out launch _ y there may (abreast y found) in
           cc
       by_may y found false may {x} (launches {leavers = leavers} {mid = mid} under launch finishes) =
-          let same = stays_out launch (waits_too u m) y there may (abreast y found) in
+          let same = stays_out launch _ y there may (abreast y found) in
           let no_leavers : leavers ≡ [] = cc in
           let same_mid : mid ≡ record p { waiting = queued cmp m p.waiting } = cc in
-          let still = finishes_alike cmp order finishes (length (u.waiting ++ m ∷ [])) [] (waits_too u m)
+          let still = finishes_alike cmp order finishes (length _) [] (waits_too u m)
           (subst (λ (q : Planned P). Follows cmp t q (waits_too u m)) (sym same_mid) there) idle
           (subst (λ (ms : List (Message P)). AllZip (SameMessage cmp) ms []) (sym no_leavers) tt) (omega arith) in
-          let quiet : settle cmp t (waits_too u m) ≡ goes [] (waits_too u m) =
-          settle_quiet cmp order (length u.sending + length (u.waiting ++ m ∷ [])) t (waits_too u m) none_done in
-          result (goes [] (waits_too u m)) x
-          (first_is y (goes [] (waits_too u m)) found (begins_not t (waits_too u m) y may)
-          ∙ preceded_none (settle cmp t (waits_too u m)) ∙ quiet)
+          let quiet : settle cmp t (waits_too u m) ≡ goes [] (waits_too u m) = settle_quiet cmp order _ t _ none_done in
+          result (goes [] (waits_too u m)) x (first_is y (goes [] (waits_too u m)) found
+          (begins_not t (waits_too u m) y may) ∙ preceded_none (settle cmp t (waits_too u m)) ∙ quiet)
           (subst (λ (c : Course (Completed P) (World P)). CoursesAlike cmp (IsSettled cmp t) x c)
           (no_queue cmp order (length (u.waiting ++ m ∷ [])) t (waits_too u m)) still)
           (none_then cmp order t (goes [] (waits_too u m)) (all_rest t u m y none_ready found may))

@@ -3,12 +3,11 @@ use Rattle.link_simulation.proofs.Common.{subst, ◌≡◌, ℕ, ◌+◌, ◌≤
 use Rattle.link_simulation.proofs.Common.{cond, not, Option, Some, None, refl, sym, ap, ◌∙◌, arith, nat_le, ⊤, ◌&&◌}
 use Rattle.link_simulation.proofs.Common.{filter, find, list_any, AllZip, Ordering, IsTotalOrder, not-true, map-append}
 use Rattle.link_simulation.proofs.Common.{filter-append, whole, Completed, Course, Flight, World, flows, goes, is_done}
-use Rattle.link_simulation.proofs.Common.{is_in_order, last_moment, may_start, meets, start, flight_of, Launches}
-use Rattle.link_simulation.proofs.Common.{launched, no_id, nothing_waits, starts, too_early, Message, OneForEachPair}
-use Rattle.link_simulation.proofs.Common.{SameMessage, same_pair, AreInPairOrder, Planned, next_of, Follows}
-use Rattle.link_simulation.proofs.Common.{IsSameFlight, Tallies, FlowIdsUsedUp, leb-true, le-leb, without_first}
-use Rattle.link_simulation.proofs.Common.{leaving, staying, out_of_waiting, joined, launch_then, Each, each_map}
-use Rattle.link_simulation.proofs.Common.{by_bool}
+use Rattle.link_simulation.proofs.Common.{last_moment, may_start, meets, start, flight_of, Launches, launched, no_id}
+use Rattle.link_simulation.proofs.Common.{nothing_waits, starts, too_early, Message, OneForEachPair, SameMessage}
+use Rattle.link_simulation.proofs.Common.{same_pair, AreInPairOrder, Planned, next_of, Follows, IsSameFlight, Tallies}
+use Rattle.link_simulation.proofs.Common.{FlowIdsUsedUp, leb-true, le-leb, without_first, leaving, staying}
+use Rattle.link_simulation.proofs.Common.{out_of_waiting, joined, launch_then, Each, each_map, by_bool}
 use Rattle.std.proofs.lemmas.List.{append-nil}
 use Rattle.std.proofs.lemmas.Slice.Zip.{all_zipped_more}
 use Rattle.link_simulation.proofs.Simulation.LowestTerms.{whole_lowest, drained_none}
@@ -95,11 +94,10 @@ module _ {P : Type 0} (cmp : P → P → Ordering) (order : IsTotalOrder cmp) wh
       → OptionsAlike (SameMessage cmp) (next_of cmp p m) (find (same_pair cmp n) w.waiting)
   next_alike t p w m n same alike =
       let pair : same_pair cmp m n ≡ true = rw (alike.origin, alike.recipient) refl in
-      let there = find_like cmp order m n w.waiting pair ∙ head_found (same_pair cmp m) w.waiting in
+      let there = find_like cmp order m n w.waiting pair ∙ head_found _ w.waiting in
       subst (λ (o : Option (Message P)). OptionsAlike (SameMessage cmp) o (find (same_pair cmp n) w.waiting))
       (sym (head_found _ p.waiting)) (subst (λ (o : Option (Message P)). OptionsAlike (SameMessage cmp)
-      (head_of (filter (same_pair cmp m) p.waiting)) o) (sym there) (heads_alike (SameMessage cmp) _
-      (filter _ w.waiting) (same.waiting m)))
+      (head_of (filter (same_pair cmp m) p.waiting)) o) (sym there) (heads_alike _ _ _ (same.waiting m)))
 
   -- ---- a message starts
 
@@ -247,8 +245,7 @@ module _ {P : Type 0} (cmp : P → P → Ordering) (order : IsTotalOrder cmp) wh
         fewer = omega arith;
       }
   launch_alike {t = t} {p = p} (too_early {m = x} early) w fs m (Some y) follows none is alike =
-      let not_yet : may_start cmp t w y ≡ false
-      = grind (arith, may_alike, messages_alike) in
+      let not_yet : may_start cmp t w y ≡ false = grind (arith, may_alike, messages_alike) in
       record {
         more = [];
         world = w;
@@ -264,8 +261,8 @@ module _ {P : Type 0} (cmp : P → P → Ordering) (order : IsTotalOrder cmp) wh
       follows none is alike =
       let may_too = sym (may_alike cmp order t p w x y follows.tallies.last_arrival
       (messages_alike cmp order t p.sending w.sending follows.tallies.sending) alike) ∙ may in
-      let idle = idle_from _ (is_in_order (w.last_arrival y.origin y.recipient) (t + y.latency)) may_too in
-      let own = find_like cmp order m y w.waiting (find_passes (same_pair cmp m) y w.waiting is) ∙ is in
+      let idle = idle_from _ _ may_too in
+      let own = find_like cmp order m y w.waiting (find_passes _ y w.waiting is) ∙ is in
       let tallies = launched_tallies t p w x y follows.tallies alike own idle in
       grind (
         arith,

@@ -2,7 +2,7 @@
 use Rattle.link_simulation.proofs.Common.{◌≡◌, ℕ, zero, suc, ◌+◌, ◌-◌, ◌<◌, ◌≤◌, List, [], ◌∷◌, length, true, false}
 use Rattle.link_simulation.proofs.Common.{Option, refl, sym, ap, ◌∙◌, subst, arith, IfSome, list_any, AllZip, Ordering}
 use Rattle.link_simulation.proofs.Common.{IsTotalOrder, Completed, Course, Flight, World, goes, is_done, last_moment}
-use Rattle.link_simulation.proofs.Common.{meets, new_world, ready, settle, EndsWith, Runs, act, call_limit, Call}
+use Rattle.link_simulation.proofs.Common.{meets, new_world, ready, EndsWith, Runs, act, call_limit, Call}
 use Rattle.link_simulation.proofs.Common.{rebalance, limited_by, linked_by, call_limit_link, none_sending, some_sending}
 use Rattle.link_simulation.proofs.Common.{Rebalances, Message, Caps, PairsAlike, CapsAlike, RatedFlight, Planned}
 use Rattle.link_simulation.proofs.Common.{new_planned, next_event, AreFair, rate_of, CoursesAlike, Follows}
@@ -131,22 +131,17 @@ module _ {P : Type 0} (cmp : P → P → Ordering) (order : IsTotalOrder cmp) wh
       by_case : {course : Course (Completed P) (Planned P)} → Rebalances cmp now caps p course
           → CoursesAlike cmp (λ q v. StandsFor cmp q v × (v.moment ≡ now)) course (rebalance cmp now u others)
       by_case {course} (some_sending some event) =
-          settled_rests now course (rebalance cmp now u others) within
-          (settles_alike cmp order event (rebalanced u others)
-          (recapped_tallies now p u caps others alike follows.tallies))
-          rests
+          settled_rests now course _ within (settles_alike cmp order event _ (recapped_tallies now p u caps others alike
+          follows.tallies)) rests
       by_case (none_sending {new = new} empty looks) =
           let x : World P = rebalanced u others in
           let gone : u.sending ≡ [] = none_flies now p.sending u.sending follows.tallies.sending empty in
-          let none_done : list_any (is_done cmp x) x.sending ≡ false = ap (list_any (is_done cmp x)) gone in
-          let same = settle_quiet cmp order (length x.sending + length x.waiting) now x none_done in
+          let none_done : list_any (is_done cmp x) x.sending ≡ false = ap (list_any _) gone in
+          let same = settle_quiet cmp order _ now x none_done in
           let follows_too : Follows cmp now (replanned p caps) x = grind (arith, recapped_tallies, no_sides, rate_of) in
-          let settled = looked cmp order now (replanned p caps) new x follows_too
-          (each_none (is_done cmp x) x.sending none_done) looks in
-          settled_rests now (goes [] new) (settle cmp now x) within
-          (subst (λ (c : Course (Completed P) (World P)). CoursesAlike cmp (IsSettled cmp now) (goes [] new) c)
-          (sym same) (tt, settled))
-          rests
+          let settled = looked cmp order now _ new x follows_too (each_none _ x.sending none_done) looks in
+          settled_rests now (goes [] new) _ within (subst (λ (c : Course (Completed P) (World P)). CoursesAlike cmp
+          (IsSettled cmp now) (goes [] new) c) (sym same) (tt, settled)) rests
 
   -- and so does a call that sets caps
   rebalancing : (p : Planned P) (w : World P) (now : ℕ) (call : Call P) (new : Caps P → Caps P)
@@ -171,8 +166,7 @@ module _ {P : Type 0} (cmp : P → P → Ordering) (order : IsTotalOrder cmp) wh
       → (c : Course (Completed P) (World P)) × Runs cmp w (call_limit now peer egress ingress) now c
       × CoursesAlike cmp (λ q v. StandsFor cmp q v × (v.moment ≡ now)) course c
   limits_alike p w now peer egress ingress course =
-      rebalancing p w now (call_limit now peer egress ingress) (λ caps. limited_by cmp caps peer egress ingress) course
-      (λ u. refl) (λ c d same.
+      rebalancing p w now _ _ course (λ u. refl) (λ c d same.
       record {
         egress = cap_alike c.egress d.egress peer egress same.egress;
         ingress = cap_alike c.ingress d.ingress peer ingress same.ingress;
@@ -186,8 +180,7 @@ module _ {P : Type 0} (cmp : P → P → Ordering) (order : IsTotalOrder cmp) wh
       → (c : Course (Completed P) (World P)) × Runs cmp w (call_limit_link now origin recipient cap) now c
       × CoursesAlike cmp (λ q v. StandsFor cmp q v × (v.moment ≡ now)) course c
   links_alike p w now origin recipient cap course =
-      rebalancing p w now (call_limit_link now origin recipient cap) (λ caps. linked_by cmp caps origin recipient cap)
-      course (λ u. refl) (λ c d same.
+      rebalancing p w now _ _ course (λ u. refl) (λ c d same.
       record {
         egress = same.egress;
         ingress = same.ingress;

@@ -1,7 +1,7 @@
 -- A call in its turn does in the planned world what it does in the world.
 use Rattle.link_simulation.proofs.Common.{common_steps, ◌≡◌, ℕ, ◌<◌, ◌≤◌, List, Some, subst, arith, IfSome, Ordering}
 use Rattle.link_simulation.proofs.Common.{IsTotalOrder, Message, World, Completed, Course, goes, meets, preceded}
-use Rattle.link_simulation.proofs.Common.{and_then, last_moment, act, enqueue, enqueue_each, Call, call_limit}
+use Rattle.link_simulation.proofs.Common.{and_then, last_moment, act, enqueue_each, Call, call_limit}
 use Rattle.link_simulation.proofs.Common.{call_limit_link, call_enqueue, call_advance, call_enqueue_all, call_next}
 use Rattle.link_simulation.proofs.Common.{moment_of, Runs, IsInTurn, IsBeforeNext, Planned, next_event, Enqueues}
 use Rattle.link_simulation.proofs.Common.{at_once, no_launch, launches, Obeys, EnqueuesEach, all_enqueued, one_stops}
@@ -12,7 +12,6 @@ use Rattle.link_simulation.proofs.Rule.NextEvent.{next_is_planned, advance_runs}
 use Rattle.link_simulation.proofs.Rule.Limit.{limits_alike, links_alike, reaches}
 use Rattle.link_simulation.proofs.Rule.Enqueue.{enqueues_alike}
 use Rattle.link_simulation.proofs.Rule.AtOnce.{at_once_alike}
-use Rattle.link_simulation.specs.Rule.StandsFor as stands_for
 
 module _ {P : Type 0} (cmp : P → P → Ordering) (order : IsTotalOrder cmp) where
   -- what a call leads to in the world
@@ -72,9 +71,8 @@ module _ {P : Type 0} (cmp : P → P → Ordering) (order : IsTotalOrder cmp) wh
   each_at_once {now = now} (enqueues_one {m = m} {ms = ms} {p = p} {q = q} {cs = cs} {rest = rest} one more) within v
       here =
       let f : Follows p v (call_enqueue now m) now (goes cs q) = grind (arith, any_enqueue, later_than) in
-      alike_then now cs q rest (enqueue cmp now v m) (λ u. enqueue_each cmp now u ms)
-      (subst (λ (c : Course (Completed P) (World P)). CoursesAlike cmp (StandsAt now) (goes cs q) c)
-      (acts_at_once v (call_enqueue now m) now f.0 here.1 f.1) f.2) (λ u there. each_at_once more within u there)
+      alike_then now cs q rest _ _ (subst (λ (c : Course (Completed P) (World P)). CoursesAlike cmp (StandsAt now)
+      (goes cs q) c) (acts_at_once v _ now f.0 here.1 f.1) f.2) (λ u there. each_at_once more within u there)
 
   all_enqueue : (now : ℕ) (ms : List (Message P)) (p : Planned P) (w : World P)
       (course : Course (Completed P) (Planned P)) → StandsFor cmp p w

@@ -322,8 +322,7 @@ module _ {P : Type 0} (cmp : P → P → Ordering) (order : IsTotalOrder cmp) wh
 
   starting_kept : (id t : ℕ) (m : Message P) → drained_to t (starting id t m ∷ []) ≡ starting id t m ∷ []
   starting_kept id t m =
-      drained_kept t (starting id t m ∷ [])
-      ((refl, no_time t (starting id t m) (whole 0) refl refl (omega arith) (whole_lowest (length m.bytes))), tt)
+      drained_kept t _ ((refl, no_time t (starting id t m) (whole 0) refl refl (omega arith) (whole_lowest _)), tt)
 
   -- where none of the first leaves, and the message that starts does not
   one_more_stays : (id t : ℕ) (caps : Caps P) (fs : List (RatedFlight P)) (m : Message P)
@@ -390,8 +389,7 @@ module _ {P : Type 0} (cmp : P → P → Ordering) (order : IsTotalOrder cmp) wh
       → PlansStart cmp t q (record q { start = next.start })
   planned_alike t p q next looks waiting last flying =
       record {
-        start = least_same (λ u. (t ≤ u) × SomeReadyAt cmp p u) (λ u. (t ≤ u) × SomeReadyAt cmp q u) next.start
-            (λ u h. (h.0, ready_same p q waiting last flying u h.1))
+        start = least_same _ _ next.start (λ u h. (h.0, ready_same p q waiting last flying u h.1))
             (λ u h. (h.0, ready_same q p (sym waiting) (sym last) (sym flying) u h.1)) looks.start;
         same = refl;
       }
@@ -420,9 +418,7 @@ module _ {P : Type 0} (cmp : P → P → Ordering) (order : IsTotalOrder cmp) wh
     -- what stays in flight there
     staying_there : filter (λ f. not (is_spent cmp here.caps f)) (drained_to t (fs ++ starting here.next_id t m ∷ []))
         ≡ fs ++ starting here.next_id t m ∷ []
-    staying_there =
-        all_and_one_stay here.next_id t here.caps fs m stays still
-        (none_leave t (record here { sending = fs; accounted = t; finish = o }) h)
+    staying_there = all_and_one_stay here.next_id t here.caps fs m stays still (none_leave t _ h)
 
     none_there : filter (is_spent cmp here.caps) (drained_to t (fs ++ starting here.next_id t m ∷ [])) ≡ []
     none_there = search (none_and_one_leave, still, none_leave, accounted, h)
@@ -439,18 +435,12 @@ module _ {P : Type 0} (cmp : P → P → Ordering) (order : IsTotalOrder cmp) wh
     enqueues_there x ax =
         let may_there : may_launch cmp t (record here { sending = fs; accounted = t; finish = o }) m ≡ true =
         grind (arith, flying) in
-        let launch =
-        subst (λ (first : Option (Message P)). Launches cmp t
-        (with_queued cmp (record here { sending = fs; accounted = t; finish = o }) m) first (goes [] x)) (sym found)
+        let launch = subst (λ (first : Option (Message P)). Launches cmp t (with_queued cmp
+        (record here { sending = fs; accounted = t; finish = o }) m) first (goes [] x)) (sym found)
         (starts may_there id ax) in
-        let flies = messages_stay t (launched cmp t (with_queued cmp (record here {
-          sending = fs;
-          accounted = t;
-          finish = o;
-        }) m) m) x ax ∙ map-append (λ f. f.message) fs (starting here.next_id t m ∷ []) ∙ ap (λ (ms : List
-        (Message P)). ms ++ m ∷ []) flying ∙ sym (map-append (λ f. f.message) here.sending (starting here.next_id t m
-        ∷ [])) in
-        launches limited launch (all_completed (planned_alike t (launched cmp t (with_queued cmp here m) m) x next looks
+        let flies = messages_stay t _ x ax ∙ map-append _ fs _ ∙ ap (λ (ms : List (Message P)). ms ++ m ∷ []) flying ∙
+        sym (map-append _ here.sending (starting here.next_id t m ∷ [])) in
+        launches limited launch (all_completed (planned_alike t _ x next looks
         (ap (λ (q : Planned P). q.waiting) ax.same) (ap (λ (q : Planned P). q.last_arrival) ax.same) flies))
 
     stayed_here : (x : Planned P)
@@ -461,8 +451,7 @@ module _ {P : Type 0} (cmp : P → P → Ordering) (order : IsTotalOrder cmp) wh
     stayed_here x ax =
         subst (λ (l : List (RatedFlight P)). AllZip (Stays t) l x.sending) (sym
         (one_more_stays here.next_id t here.caps here.sending m stays)) (zip_chain (Stays t) (Stays t) (Stays t)
-        (λ f g k first second. (second.0 ∙ first.0, second.1 ∙ first.1, second.2 ∙ first.2, second.3))
-        (Staying t here ++ starting here.next_id t m ∷ []) (fs ++ starting here.next_id t m ∷ []) x.sending
+        (λ f g k first second. (second.0 ∙ first.0, second.1 ∙ first.1, second.2 ∙ first.2, second.3)) _ _ x.sending
         (zip-append (Stays t) _ _ fs _ a.stayed ((refl, refl, refl, refl), tt))
         (subst (λ (l : List (RatedFlight P)). AllZip (Stays t) l x.sending) staying_there ax.stayed))
 
@@ -492,8 +481,7 @@ module _ {P : Type 0} (cmp : P → P → Ordering) (order : IsTotalOrder cmp) wh
 
     pub starts_there : Starts (record here { sending = fs; accounted = t; finish = o })
     starts_there =
-        let x =
-        account_exists t (launched cmp t (with_queued cmp (record here { sending = fs; accounted = t; finish = o }) m) m) in
+        let x = account_exists t _ in
         one_start x.0 x.1 x.2
 
   -- where the planned world w is the other one after an account at which nothing leaves, a message that starts leads to

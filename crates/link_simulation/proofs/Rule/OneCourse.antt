@@ -1,18 +1,17 @@
 -- By the event rule a call has one course, and an advance one number of events.
 use Rattle.link_simulation.proofs.Common.{common_steps, ◌≡◌, ◌≢◌, ℕ, suc, ◌+◌, ◌*◌, ◌<◌, ◌≤◌, List, [], ◌∷◌, ◌++◌, true}
-use Rattle.link_simulation.proofs.Common.{false, not, Option, Some, None, refl, sym, ap, ◌∙◌, subst, arith, ◌⊎◌, inl}
-use Rattle.link_simulation.proofs.Common.{inr, IfSome, filter, AllZip, Ordering, IsTotalOrder, Error, MomentTooLate}
-use Rattle.link_simulation.proofs.Common.{FlowIdsUsedUp, Message, Caps, Parts, rate_of, AreFair, Completed, Course}
-use Rattle.link_simulation.proofs.Common.{goes, meets, last_moment, preceded, is_late, completed, Call, call_limit}
-use Rattle.link_simulation.proofs.Common.{call_limit_link, call_enqueue, call_advance, call_enqueue_all, call_next}
-use Rattle.link_simulation.proofs.Common.{Planned, RatedFlight, IsLeastMoment, next_event, rated_messages, SomeSpentAt}
-use Rattle.link_simulation.proofs.Common.{drained_to, next_of, may_launch, is_spent, Accounts, PlansStart, launched}
-use Rattle.link_simulation.proofs.Common.{Launches, nothing_waits, too_early, no_id, starts, landed, Finishes}
-use Rattle.link_simulation.proofs.Common.{all_completed, late, stopped, completes, WakesEach, all_started, no_start}
-use Rattle.link_simulation.proofs.Common.{no_finish, starts_one, Wakes, Settles, settling, Rebalances, none_sending}
-use Rattle.link_simulation.proofs.Common.{some_sending, Enqueues, at_once, no_launch, launches, Advances, no_more}
-use Rattle.link_simulation.proofs.Common.{at_finish, at_start, finish_stops, start_stops, Obeys, EnqueuesEach}
-use Rattle.link_simulation.proofs.Common.{all_enqueued, one_stops, enqueues_one}
+use Rattle.link_simulation.proofs.Common.{false, Option, Some, None, refl, sym, ap, ◌∙◌, subst, arith, ◌⊎◌, inl, inr}
+use Rattle.link_simulation.proofs.Common.{IfSome, AllZip, Ordering, IsTotalOrder, Error, MomentTooLate, FlowIdsUsedUp}
+use Rattle.link_simulation.proofs.Common.{Message, Caps, Parts, rate_of, AreFair, Completed, Course, goes, meets}
+use Rattle.link_simulation.proofs.Common.{last_moment, preceded, is_late, completed, Call, call_limit, call_limit_link}
+use Rattle.link_simulation.proofs.Common.{call_enqueue, call_advance, call_enqueue_all, call_next, Planned, RatedFlight}
+use Rattle.link_simulation.proofs.Common.{IsLeastMoment, next_event, rated_messages, SomeSpentAt, next_of, may_launch}
+use Rattle.link_simulation.proofs.Common.{Accounts, PlansStart, launched, Launches, nothing_waits, too_early, no_id}
+use Rattle.link_simulation.proofs.Common.{starts, landed, Finishes, all_completed, late, stopped, completes, WakesEach}
+use Rattle.link_simulation.proofs.Common.{all_started, no_start, no_finish, starts_one, Wakes, Settles, settling}
+use Rattle.link_simulation.proofs.Common.{Rebalances, none_sending, some_sending, Enqueues, at_once, no_launch}
+use Rattle.link_simulation.proofs.Common.{launches, Advances, no_more, at_finish, at_start, finish_stops, start_stops}
+use Rattle.link_simulation.proofs.Common.{Obeys, EnqueuesEach, all_enqueued, one_stops, enqueues_one}
 use Rattle.fairness.specs.Numbers.LowestTerms.{reduced_same}
 use Rattle.link_simulation.proofs.Simulation.AlikeMessages.{same_itself}
 use Rattle.link_simulation.proofs.Simulation.Rates.{Match, rates_match}
@@ -82,13 +81,11 @@ module _ {P : Type 0} (cmp : P → P → Ordering) (order : IsTotalOrder cmp) wh
   account_is_one t old new other ls ms f g =
       let flows : rated_messages other.sending ≡ rated_messages new.sending = grind (arith, stays_flows) in
       let fair : AreFair cmp old.caps (rated_messages new.sending) g.per g.rates = grind arith in
-      let sending = sending_is_one t f.rates g.rates f.per g.per
-      (filter (λ h. not (is_spent cmp old.caps h)) (drained_to t old.sending)) new.sending other.sending
-      f.fair.fair.some_part g.fair.fair.some_part f.stayed g.stayed f.rated g.rated (rates_match cmp
-      (same_itself cmp order) old.caps (rated_messages new.sending) f.per g.per f.rates g.rates f.fair fair)
-      (rates_match cmp (same_itself cmp order) old.caps (rated_messages new.sending) g.per f.per g.rates f.rates fair
-      f.fair) in
-      let finish = least_is_one (SomeSpentAt new.sending) new.finish other.finish f.finish
+      let sending = sending_is_one t f.rates g.rates f.per g.per _ new.sending other.sending f.fair.fair.some_part
+      g.fair.fair.some_part f.stayed g.stayed f.rated g.rated (rates_match cmp (same_itself cmp order) old.caps _ f.per
+      g.per f.rates g.rates f.fair fair) (rates_match cmp (same_itself cmp order) old.caps _ g.per f.per g.rates f.rates
+      fair f.fair) in
+      let finish = least_is_one _ new.finish other.finish f.finish
       (subst (λ (fs : List (RatedFlight P)). IsLeastMoment (SomeSpentAt fs) other.finish) (sym sending) g.finish) in
       let here : record old { sending = new.sending; accounted = t; finish = new.finish } ≡ record old {
         sending = other.sending;
@@ -280,9 +277,8 @@ module _ {P : Type 0} (cmp : P → P → Ordering) (order : IsTotalOrder cmp) wh
   event_is_one : (now : ℕ) (p : Planned P) (t s : ℕ) (e f : Course (Completed P) (Planned P)) → EventAt now p t e
       → EventAt now p s f → e ≡ f
   event_is_one now p t s e f (inl h) (inl k) =
-      let same : s ≡ t =
-      cc in settling_is_one t (record p { finish = None }) e f h.3
-      (subst (λ (u : ℕ). Settles cmp u (record p { finish = None }) f) same k.3)
+      let same : s ≡ t = cc in settling_is_one t _ e f h.3 (subst (λ (u : ℕ). Settles cmp u (record p { finish = None })
+      f) same k.3)
   event_is_one now p t s e f (inl h) (inr k) = let same : s ≡ t = cc in absurd (k.0 (h.0 ∙ ap Some (sym same)))
   event_is_one now p t s e f (inr h) (inl k) = let same : s ≡ t = cc in absurd (h.0 (k.0 ∙ ap Some same))
   event_is_one now p t s e f (inr h) (inr k) =

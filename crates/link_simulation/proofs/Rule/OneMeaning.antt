@@ -79,9 +79,8 @@ module _ {P : Type 0} (cmp : P → P → Ordering) (order : IsTotalOrder cmp) wh
           by_fault (at, is, faults) =
               let both : Some at ≡ Some now = sym is ∙ called.moment in
               let same : at ≡ now = cc in
-              let one = runs_are_one cmp order w call now (goes cs v) (meets fault)
-              (sound_of_stands cmp order p w called.stands) runs
-              (subst (λ (t : ℕ). Runs cmp w call t (meets fault)) same faults) in
+              let one = runs_are_one cmp order w call now (goes cs v) _ (sound_of_stands cmp order p w called.stands)
+              runs (subst (λ (t : ℕ). Runs cmp w call t (meets fault)) same faults) in
               cc
 
       by_cause : (why : Error) → IsRefusedFor (MeetsFault cmp p call) why → why ≡ OutOfMemory

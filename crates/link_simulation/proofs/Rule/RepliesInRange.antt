@@ -14,7 +14,7 @@ use Rattle.link_simulation.specs.Rule.Range.{AreInRange, IsCallInRange}
 use Rattle.link_simulation.specs.Laws.Replies.{RefusesForMemoryAlone}
 use Rattle.fairness.proofs.Lists.Each.{each_of_all, all_of_both}
 use Rattle.link_simulation.proofs.Laws.PairCompletions.{enqueued_split}
-use Rattle.link_simulation.proofs.Rule.Range.{Holds, IsNear, IsNearFlight, GoesWell, rebalances_well, enqueues_well}
+use Rattle.link_simulation.proofs.Rule.Range.{Holds, IsNear, GoesWell, rebalances_well, enqueues_well}
 use Rattle.link_simulation.proofs.Rule.Range.{advances_well, goes_on}
 use Rattle.link_simulation.proofs.Rule.Stepwise.{obeyed_next, obeyed_refused, obeyed_done}
 
@@ -39,8 +39,7 @@ range_splits : {P : Type 0} (calls : List (Call P)) (call : Call P) → AreInRan
 range_splits {P} calls call range = grind (arith, all_of_both, enqueued_joined, length-append)
 
 pub new_in_range : {P : Type 0} (id : ℕ) → id < 2 ^ 64 → IsInRange {P = P} (new_planned id)
-new_in_range {P} id fits =
-    record { sending = All-nil (IsNearFlight {P = P}); waiting = All-nil (IsNear {P = P}); ids = omega arith }
+new_in_range {P} id fits = record { sending = All-nil _; waiting = All-nil _; ids = omega arith }
 
 module _ {P : Type 0} (cmp : P → P → Ordering) (order : IsTotalOrder cmp) where
   more_room : (most more : ℕ) (room : most < 2 ^ 64) (wide : more < 2 ^ 64) (p : Planned P) → most ≤ more
@@ -76,8 +75,7 @@ module _ {P : Type 0} (cmp : P → P → Ordering) (order : IsTotalOrder cmp) wh
         → Obeys cmp p call c → GoesWell cmp order most room c
     obeys_well p (call_enqueue now m) c own fits h obeys = grind (arith, enqueues_well, soon, All-head)
     obeys_well p (call_enqueue_all now ms) c own fits h obeys = search (each_well, soon, each_of_all, append-nil)
-    obeys_well p (call_advance now) c own fits h obeys =
-        advances_well cmp order most room obeys.1 (soon (call_advance now) own) h
+    obeys_well p (call_advance now) c own fits h obeys = advances_well cmp order most room obeys.1 (soon _ own) h
     obeys_well p call_next c own fits h obeys = subst (GoesWell cmp order most room) (sym obeys) h
     obeys_well p call c own fits h obeys = rebalances_well cmp order most room obeys (soon call own) h
 
@@ -87,10 +85,8 @@ module _ {P : Type 0} (cmp : P → P → Ordering) (order : IsTotalOrder cmp) wh
         → MayBeRefused cmp p call why → why ≡ OutOfMemory
     refused_for_memory p call OutOfMemory own fits h may = refl
     refused_for_memory p call NumberTooLarge own fits h may = absurd may
-    refused_for_memory p call MomentTooLate own fits h may =
-        absurd (obeys_well p call (meets MomentTooLate) own fits h may)
-    refused_for_memory p call FlowIdsUsedUp own fits h may =
-        absurd (obeys_well p call (meets FlowIdsUsedUp) own fits h may)
+    refused_for_memory p call MomentTooLate own fits h may = absurd (obeys_well p call _ own fits h may)
+    refused_for_memory p call FlowIdsUsedUp own fits h may = absurd (obeys_well p call _ own fits h may)
 
   -- ---- the range of a planned world
 

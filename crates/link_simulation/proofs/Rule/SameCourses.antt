@@ -2,10 +2,10 @@
 use Rattle.link_simulation.proofs.Common.{arith, ◌≡◌, ℕ, ◌<◌, ◌≤◌, List, [], ◌∷◌, ◌++◌, true, not, Option, Some, None}
 use Rattle.link_simulation.proofs.Common.{refl, sym, ◌∙◌, subst, IfSome, filter, AllZip, Ordering, IsTotalOrder}
 use Rattle.link_simulation.proofs.Common.{MomentTooLate, FlowIdsUsedUp, Message, Caps, CapsAlike, SameMessage, Parts}
-use Rattle.link_simulation.proofs.Common.{rate_of, Completed, Course, goes, meets, last_moment, preceded, fronts}
-use Rattle.link_simulation.proofs.Common.{completed, Call, limited_by, linked_by, SameCompletion, Planned, RatedFlight}
+use Rattle.link_simulation.proofs.Common.{rate_of, Completed, Course, goes, meets, last_moment, preceded}
+use Rattle.link_simulation.proofs.Common.{completed, Call, SameCompletion, Planned, RatedFlight}
 use Rattle.link_simulation.proofs.Common.{IsLeastMoment, SomeSpentAt, SomeReadyAt, rated_messages, drained_to, next_of}
-use Rattle.link_simulation.proofs.Common.{may_launch, is_spent, Accounts, PlansStart, Launches, nothing_waits}
+use Rattle.link_simulation.proofs.Common.{is_spent, Accounts, PlansStart, Launches, nothing_waits}
 use Rattle.link_simulation.proofs.Common.{too_early, no_id, starts, launched, landed, Finishes, all_completed, late}
 use Rattle.link_simulation.proofs.Common.{stopped, completes, WakesEach, all_started, no_start, no_finish, starts_one}
 use Rattle.link_simulation.proofs.Common.{Wakes, Settles, settling, Rebalances, none_sending, some_sending}
@@ -153,8 +153,7 @@ module _ {P : Type 0} (cmp : P → P → Ordering) (order : IsTotalOrder cmp) wh
 
   pub preceded_same : (cs ds : List (Completed P)) (x y : Course (Completed P) (Planned P))
       → AllZip (SameCompletion cmp) cs ds → IsSameCourse cmp x y → IsSameCourse cmp (preceded cs x) (preceded ds y)
-  preceded_same cs ds (goes es p) (goes fs q) all same =
-      (zip-append (SameCompletion cmp) cs es ds fs all same.0, same.1)
+  preceded_same cs ds (goes es p) (goes fs q) all same = (zip-append _ cs es ds fs all same.0, same.1)
   preceded_same cs ds (goes es p) (meets fault) all same = absurd same
   preceded_same cs ds (meets fault) (goes fs q) all same = absurd same
   preceded_same cs ds (meets fault) (meets other) all same = same
@@ -232,8 +231,7 @@ module _ {P : Type 0} (cmp : P → P → Ordering) (order : IsTotalOrder cmp) wh
 
   pub wakes_same : (t : ℕ) (p q : Planned P) (course : Course (Completed P) (Planned P)) → IsSamePlanned cmp p q
       → Wakes cmp t p course → (c : Course (Completed P) (Planned P)) × Wakes cmp t q c × IsSameCourse cmp course c
-  wakes_same t p q course same wakes =
-      wake_same wakes (filter (may_launch cmp t q) (fronts cmp q.waiting)) q same (ready_same cmp order p q same t)
+  wakes_same t p q course same wakes = wake_same wakes _ q same (ready_same cmp order p q same t)
 
   settle_same : {t : ℕ} {p : Planned P} {course : Course (Completed P) (Planned P)} → Settles cmp t p course
       → (q : Planned P) → IsSamePlanned cmp p q
@@ -370,12 +368,9 @@ module _ {P : Type 0} (cmp : P → P → Ordering) (order : IsTotalOrder cmp) wh
   obey_same (same_limit {now = now} {peer = peer} {other = other} {egress = egress} {ingress = ingress} peers) p q
       course same obeys =
       rebalance_same obeys _ q (limited_by_same cmp order p.caps q.caps peer other egress ingress same.caps peers) same
-  obey_same
-      (same_limit_link {now = now} {origin = origin} {recipient = recipient} {o = o} {r = r} {cap = cap} origins
-      recipients)
-      p q course same obeys =
-      rebalance_same obeys (linked_by cmp q.caps o r cap) q
-      (linked_by_same cmp order p.caps q.caps origin recipient o r cap same.caps origins recipients) same
+  obey_same (same_limit_link {now = now} {origin = origin} {recipient = recipient} {o = o} {r = r} {cap = cap} origins
+      recipients) p q course same obeys = rebalance_same obeys _ q (linked_by_same cmp order p.caps q.caps origin
+      recipient o r cap same.caps origins recipients) same
   obey_same (same_enqueue {now = now} {m = m} {n = n} messages) p q course same obeys =
       enqueue_same obeys n q messages same
   obey_same (same_enqueue_all {now = now} {ms = ms} {ns = ns} messages) p q course same obeys =

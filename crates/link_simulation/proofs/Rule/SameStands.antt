@@ -1,7 +1,7 @@
 -- Planned worlds that are the same up to equal peers stand for the same worlds, and are in the range alike.
-use Rattle.link_simulation.proofs.Common.{arith, ◌≡◌, ℕ, ◌<◌, ◌^◌, List, [], ◌∷◌, sym, ◌∙◌, subst, All, filter}
+use Rattle.link_simulation.proofs.Common.{arith, ◌≡◌, ℕ, ◌<◌, ◌^◌, List, [], ◌∷◌, sym, ◌∙◌, subst, All}
 use Rattle.link_simulation.proofs.Common.{list_any, AllZip, Ordering, IsTotalOrder, All-nil, Message, SameMessage}
-use Rattle.link_simulation.proofs.Common.{OneForEachPair, same_pair, pair_before, rate_of, World, Flight, Planned}
+use Rattle.link_simulation.proofs.Common.{OneForEachPair, pair_before, rate_of, World, Flight, Planned}
 use Rattle.link_simulation.proofs.Common.{RatedFlight, IsRated, AreInPairOrder, IsLeastMoment, SomeSpentAt, SomeReadyAt}
 use Rattle.link_simulation.proofs.Common.{rated_messages, IsInRange, IsSameFlight, Tallies, StandsFor}
 use Rattle.link_simulation.proofs.Common.{IsSameRatedFlight, IsSamePlanned, zip_chain, zip-filter, common_steps, rules}
@@ -88,15 +88,13 @@ module _ {P : Type 0} (cmp : P → P → Ordering) (order : IsTotalOrder cmp) wh
         follows = record {
           tallies = tallies_same w.moment p q w same back stands.follows.tallies;
           rated = rated_same p q same stands.follows.rated;
-          finish = subst (IsLeastMoment (SomeSpentAt q.sending)) same.finish
-              (least_same (SomeSpentAt p.sending) (SomeSpentAt q.sending) p.finish
+          finish = subst (IsLeastMoment (SomeSpentAt q.sending)) same.finish (least_same _ _ p.finish
               (λ t. some_spent_same cmp order p.sending q.sending t same.sending)
               (λ t. some_spent_same cmp order q.sending p.sending t back.sending) stands.follows.finish);
         };
         quiet = stands.quiet;
-        start = subst (IsLeastMoment (SomeReadyAt cmp q)) same.start
-            (least_same (SomeReadyAt cmp p) (SomeReadyAt cmp q) p.start (some_ready_same cmp order p q same)
-            (some_ready_same cmp order q p back) stands.start);
+        start = subst (IsLeastMoment (SomeReadyAt cmp q)) same.start (least_same _ _ p.start
+            (some_ready_same cmp order p q same) (some_ready_same cmp order q p back) stands.start);
       }
 
   -- ---- the range

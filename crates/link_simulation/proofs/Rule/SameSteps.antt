@@ -1,5 +1,5 @@
 -- The parts of the event rule's steps are the same on planned worlds that are the same up to equal peers.
-use Rattle.link_simulation.proofs.Common.{pair_before, arith, ◌≡◌, ℕ, zero, suc, length, ◌≤◌, List, [], ◌∷◌, Bool, true}
+use Rattle.link_simulation.proofs.Common.{arith, ◌≡◌, ℕ, zero, suc, length, ◌≤◌, List, [], ◌∷◌, Bool, true}
 use Rattle.link_simulation.proofs.Common.{not, Option, Some, None, refl, sym, ap, ◌∙◌, subst, slice_get, filter, find}
 use Rattle.link_simulation.proofs.Common.{AllZip, Ordering, IsTotalOrder, without_first, Error, same_peer, Message}
 use Rattle.link_simulation.proofs.Common.{Caps, CapsAlike, PairsAlike, SameMessage, same_pair, Completed, Course, goes}
@@ -139,9 +139,7 @@ module _ {P : Type 0} (cmp : P → P → Ordering) (order : IsTotalOrder cmp) wh
   queued_same m n [] (l ∷ ls) e all = absurd all
   queued_same m n (k ∷ ks) [] e all = absurd all
   queued_same m n (k ∷ ks) (l ∷ ls) e all =
-      zip-if (SameMessage cmp) (pair_before cmp m k) (pair_before cmp n l) (m ∷ k ∷ ks) (k ∷ queued cmp m ks)
-      (n ∷ l ∷ ls) (l ∷ queued cmp n ls) (before_alike cmp order m n k l e all.0) (e, all)
-      (all.0, queued_same m n ks ls e all.1)
+      zip-if _ _ _ _ _ _ _ (before_alike cmp order m n k l e all.0) (e, all) (all.0, queued_same m n ks ls e all.1)
 
   pub fronts_same : (ms ns : List (Message P)) → AllZip (SameMessage cmp) ms ns
       → AllZip (SameMessage cmp) (fronts cmp ms) (fronts cmp ns)
@@ -230,8 +228,7 @@ module _ {P : Type 0} (cmp : P → P → Ordering) (order : IsTotalOrder cmp) wh
 
     pub some_ready_same : (t : ℕ) → SomeReadyAt cmp p t → SomeReadyAt cmp q t
     some_ready_same t (m, own, may) =
-        by_next (next_of cmp q m) refl
-        (subst (λ (o : Option (Message P)). OptionsAlike (SameMessage cmp) o (next_of cmp q m)) own
+        by_next _ refl (subst (λ (o : Option (Message P)). OptionsAlike (SameMessage cmp) o (next_of cmp q m)) own
         (next_same m m (message_itself cmp order m)))
       where
         by_next : (o : Option (Message P)) → next_of cmp q m ≡ o → OptionsAlike (SameMessage cmp) (Some m) o

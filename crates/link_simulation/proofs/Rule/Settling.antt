@@ -10,7 +10,7 @@ use Rattle.link_simulation.proofs.Common.{OneForEachPair, PairsAlike, SameMessag
 use Rattle.link_simulation.proofs.Common.{SomeReadyAt, SameCompletion, CoursesAlike, Follows, IsSettled, Tallies}
 use Rattle.link_simulation.proofs.Common.{MomentTooLate, leaving, staying, arrived, launch_then, finish_within, Each}
 use Rattle.link_simulation.proofs.Common.{zip-append}
-use Rattle.link_simulation.proofs.Rule.Launch.{LaunchAlike, NoneDone, staying_none, next_alike, launch_alike}
+use Rattle.link_simulation.proofs.Rule.Launch.{NoneDone, staying_none, next_alike, launch_alike}
 use Rattle.link_simulation.proofs.Simulation.Queue.{over_state, settles_as_queue}
 use Rattle.link_simulation.proofs.Simulation.AlikeMessages.{delivered_alike, peers_alike}
 use Rattle.link_simulation.proofs.Rule.Accounts.{leavers_alike, account_follows}
@@ -125,9 +125,8 @@ module _ {P : Type 0} (cmp : P → P → Ordering) (order : IsTotalOrder cmp) wh
   finishes_alike {t = t} {p = p} (stopped {m = m} {fault = fault} not_late launch) (suc n) (f ∷ fs) w follows none all
       fuel =
       let there = landed_follows t p w m f.message follows all.0 in
-      let fails = launch_alike cmp order launch (arrived cmp t w f.message) fs f.message
-      (find (same_pair cmp f.message) w.waiting) there none refl (next_alike cmp order t p w m f.message follows.tallies
-      all.0) in
+      let fails = launch_alike cmp order launch _ fs f.message _ there none refl
+      (next_alike cmp order t p w m f.message follows.tallies all.0) in
       subst (λ (c : Course (Completed P) (World P)). CourseAlike t (meets fault) c)
       (sym (first_lands n t f fs w (sym (late_alike t m f.message all.0) ∙ not_late) ∙ ap
       (preceded (completed cmp t f.message ∷ [])) (fails _))) refl
@@ -136,12 +135,10 @@ module _ {P : Type 0} (cmp : P → P → Ordering) (order : IsTotalOrder cmp) wh
   finishes_alike {t = t} {p = p} (completes {m = m} {ms = ms} {more = more} {q = q} {rest = after} not_late launch rest)
       (suc n) (f ∷ fs) w follows none all fuel =
       let there = landed_follows t p w m f.message follows all.0 in
-      let on = launch_alike cmp order launch (arrived cmp t w f.message) fs f.message
-      (find (same_pair cmp f.message) w.waiting) there none refl
+      let on = launch_alike cmp order launch _ fs f.message _ there none refl
       (next_alike cmp order t p w m f.message follows.tallies all.0) in
       let leavers = subst (λ (ns : List (Message P)). AllZip (SameMessage cmp) (ms ++ more) ns)
-      (sym (map-append (λ (g : Flight P). g.message) fs on.more)) (zip-append (SameMessage cmp) ms more
-      (map (λ (g : Flight P). g.message) fs) (map (λ (g : Flight P). g.message) on.more) all.1 on.leaves) in
+      (sym (map-append (λ (g : Flight P). g.message) fs on.more)) (zip-append _ ms more _ _ all.1 on.leaves) in
       let many = length-append fs on.more in
       let enough = on.fewer in
       let ih = finishes_alike rest n (fs ++ on.more) on.world on.follows on.none leavers (omega arith) in

@@ -47,12 +47,9 @@ module _ {P : Type 0} (cmp : P → P → Ordering) (order : IsTotalOrder cmp) wh
       → EndsWith (IsRound t y w) (settle cmp t (joined cmp w y))
   round_after t w y none one found =
       subst (λ (c : Course (Completed P) (World P)). EndsWith (IsRound t y w) c) (sym (round_is t w y none one))
-      (ends_so (IsAfter cmp order y t (started cmp order w y)) (IsRound t y w) _
-      (λ v after. both v after (length_without (same_pair cmp y) y w.waiting found))
-      (finish_only cmp order y (length (joined cmp w y).sending + length (joined cmp w y).waiting) t
-      (joining cmp order w y) (started cmp order w y) (by_bool (is_done cmp w (flight_of y))
-      (λ is. rw is (pair_itself cmp order y, tt)) (λ is. rw is tt)) (round_fuel w y)
-      (rests (is_done cmp w (flight_of y)))))
+      (ends_so _ _ _ (λ v after. both v after (length_without _ y w.waiting found))
+      (finish_only cmp order y _ t _ _ (by_bool (is_done cmp w (flight_of y))
+      (λ is. rw is (pair_itself cmp order y, tt)) (λ is. rw is tt)) (round_fuel w y) (rests _)))
     where
       rests : (b : Bool) → cond b (flight_of y ∷ []) [] ≡ []
           → IsRested cmp order y t (cond b (out_of_waiting cmp w y) (joined cmp w y))
@@ -67,7 +64,7 @@ module _ {P : Type 0} (cmp : P → P → Ordering) (order : IsTotalOrder cmp) wh
           by_bool (is_done cmp w (flight_of y)) (λ seen. rw seen refl) (λ seen. rw seen refl)
           in (
             (
-              only_both cmp order y w (started cmp order w y) v
+              only_both cmp order y w _ v
                   (by_bool (is_done cmp w (flight_of y)) (λ here. rw here
                   (only_taken cmp order y w y (pair_itself cmp order y)))
                   (λ here. rw here (only_joined cmp order y w y (pair_itself cmp order y)))) after.0,
@@ -153,12 +150,11 @@ module _ {P : Type 0} (cmp : P → P → Ordering) (order : IsTotalOrder cmp) wh
       grind (arith, start, joined, wake_round, (joined cmp w picks.0), (round_alike finish w picks.0 none so))
   wakes_alike {t = t} (starts_one launch finish wakes) zero w follows none picks fuel =
       absurd (no_fuel t w picks.0 (next_is t w picks.0 picks.1) fuel)
-  wakes_alike {t = t}
-      (starts_one {m = m} {ms = ms} {more = more} {q = q} {r = r} {cs = cs} {rest = rest} launch finish wakes) (suc n) w
-      follows none picks fuel =
+  wakes_alike {t = t} (starts_one {m = m} {ms = ms} {more = more} {q = q} {r = r} {cs = cs} {rest = rest} launch finish
+      wakes) (suc n) w follows none picks fuel =
       let next : IsNext t w picks.0 = next_is t w picks.0 picks.1 in
       let so : StartsSo cmp order t w picks.0 more q = launch_starts launch w picks.0 follows none next picks.2 in
-      by_course so.starts (settle cmp t (joined cmp w picks.0)) refl (round_alike finish w picks.0 none so)
+      by_course so.starts _ refl (round_alike finish w picks.0 none so)
       (round_after t w picks.0 none so.one_each next.found) (wakes_alike wakes n)
     where
       by_course : start cmp w picks.0 ≡ goes [] (joined cmp w picks.0) → (c : Course (Completed P) (World P))
@@ -173,4 +169,4 @@ module _ {P : Type 0} (cmp : P → P → Ordering) (order : IsTotalOrder cmp) wh
           (sym (ready_after cmp order picks.0 t w v after.0)) picks.3 in
           subst (λ (c : Course (Completed P) (World P)). CoursesAlike cmp (IsWoken t) (preceded cs rest) c)
           (sym (wake_round n t w picks.0 (goes ds v) picks.1 starts e)) (preceded_by (IsWoken t) cs ds rest
-          (wake_within cmp n t v) h.0 (ih v h.1.follows (each_none _ v.sending h.1.none_done) picked (omega arith)))
+          _ h.0 (ih v h.1.follows (each_none _ v.sending h.1.none_done) picked (omega arith)))

@@ -1,5 +1,5 @@
 -- Lists of messages that are the same up to equal peers have the same sides, and so the same fair rates.
-use Rattle.link_simulation.proofs.Common.{not, sym, ◌∙◌, ◌&&◌, peer_sym, arith, ◌+◌, ◌≡◌, ℕ, List, [], ◌∷◌, Bool, true}
+use Rattle.link_simulation.proofs.Common.{not, sym, ◌∙◌, peer_sym, arith, ◌+◌, ◌≡◌, ℕ, List, [], ◌∷◌, Bool, true}
 use Rattle.link_simulation.proofs.Common.{Option, Some, None, refl, ap, if◌then◌else◌, list_any, flat_map, AllZip}
 use Rattle.link_simulation.proofs.Common.{Ordering, is_eq, IsTotalOrder, same_peer, Message, SameMessage, is_delivered}
 use Rattle.link_simulation.proofs.Common.{same_pair, Caps, CapsAlike, AreFair, Parts, capped_sides, is_unlimited}
@@ -25,9 +25,7 @@ module _ {P : Type 0} (cmp : P → P → Ordering) (order : IsTotalOrder cmp) wh
   pub pairs_alike : (m n k l : Message P) → SameMessage cmp m n → SameMessage cmp k l
       → same_pair cmp m k ≡ same_pair cmp n l
   pairs_alike m n k l f g =
-      both_alike cmp order (same_peer cmp m.origin k.origin) (same_peer cmp n.origin l.origin)
-      (same_peer cmp m.recipient k.recipient) (same_peer cmp n.recipient l.recipient)
-      (peers_alike m.origin n.origin k.origin l.origin f.origin g.origin)
+      both_alike cmp order _ _ _ _ (peers_alike m.origin n.origin k.origin l.origin f.origin g.origin)
       (peers_alike m.recipient n.recipient k.recipient l.recipient f.recipient g.recipient)
 
   pub delivered_alike : (m n : Message P) → SameMessage cmp m n → is_delivered cmp m ≡ is_delivered cmp n
@@ -60,22 +58,15 @@ module _ {P : Type 0} (cmp : P → P → Ordering) (order : IsTotalOrder cmp) wh
     egress_alike : (m n : Message P) (ms ns : List (Message P)) → SameMessage cmp m n → AllZip (SameMessage cmp) ms ns
         → egress_side cmp caps ms m ≡ egress_side cmp others ns n
     egress_alike m n ms ns e all =
-        side_alike (caps.egress m.origin) (others.egress n.origin) (λ k. same_peer cmp m.origin k.origin)
-        (λ k. same_peer cmp n.origin k.origin) ms ns (same.egress m.origin n.origin e.origin)
-        (places_alike (SameMessage cmp) (λ k. same_peer cmp m.origin k.origin) (λ k. same_peer cmp n.origin k.origin)
+        side_alike _ _ _ _ ms ns (same.egress m.origin n.origin e.origin) (places_alike _ _ _
         (λ k l f. peers_alike m.origin n.origin k.origin l.origin e.origin f.origin) 0 ms ns all)
 
     ingress_alike : (m n : Message P) (ms ns : List (Message P)) → SameMessage cmp m n → AllZip (SameMessage cmp) ms ns
         → ingress_side cmp caps ms m ≡ ingress_side cmp others ns n
     ingress_alike m n ms ns e all =
-        side_alike _ _ (λ k. is_delivered cmp k && same_peer cmp m.recipient k.recipient)
-        (λ k. is_delivered cmp k && same_peer cmp n.recipient k.recipient) ms ns
-        (if_alike (is_delivered cmp m) (is_delivered cmp n) (caps.ingress m.recipient) (others.ingress n.recipient) None
-        (delivered_alike m n e) (same.ingress m.recipient n.recipient e.recipient))
-        (places_alike _ (λ k. is_delivered cmp k && same_peer cmp m.recipient k.recipient)
-        (λ k. is_delivered cmp k && same_peer cmp n.recipient k.recipient) (λ k l f. both_alike cmp order
-        (is_delivered cmp k) (is_delivered cmp l) (same_peer cmp m.recipient k.recipient)
-        (same_peer cmp n.recipient l.recipient) (delivered_alike k l f) (peers_alike m.recipient n.recipient k.recipient
+        side_alike _ _ _ _ ms ns (if_alike _ _ _ _ None (delivered_alike m n e)
+        (same.ingress m.recipient n.recipient e.recipient)) (places_alike _ _ _
+        (λ k l f. both_alike cmp order _ _ _ _ (delivered_alike k l f) (peers_alike m.recipient n.recipient k.recipient
         l.recipient e.recipient f.recipient)) 0 ms ns all)
 
     link_alike : (m n : Message P) (ms ns : List (Message P)) → SameMessage cmp m n → AllZip (SameMessage cmp) ms ns

@@ -2,7 +2,7 @@
 use Rattle.link_simulation.proofs.Common.{common_steps, ◌≡◌, ℕ, suc, ◌+◌, ◌≤◌, List, [], ◌∷◌, ◌++◌, length, Option}
 use Rattle.link_simulation.proofs.Common.{Some, None, refl, sym, ap, ◌∙◌, subst, arith, ◌⊎◌, inl, inr, nat_le, Ordering}
 use Rattle.link_simulation.proofs.Common.{IsTotalOrder, without_first, Completed, Course, IsQuiet, World, complete}
-use Rattle.link_simulation.proofs.Common.{goes, instant, is_done, last_moment, may_start, meets, raised, settle, start}
+use Rattle.link_simulation.proofs.Common.{goes, instant, is_done, last_moment, meets, raised, settle, start}
 use Rattle.link_simulation.proofs.Common.{start_next, wake_within, EndsWith, flight_of, Message, same_pair, Drains}
 use Rattle.link_simulation.proofs.Common.{NextIs, Ticks, comes_next, never_comes, no_tick, no_time, one_tick}
 use Rattle.link_simulation.proofs.Common.{quiet_tick, tick_faults, FlowIdsUsedUp, turn, wake}
@@ -33,16 +33,13 @@ module _ {P : Type 0} (cmp : P → P → Ordering) (order : IsTotalOrder cmp) wh
 
     pub start_next_keeps : (t : ℕ) (w : World P) (o : Option (Message P)) → Q w → EndsWith Q (start_next cmp t w o)
     start_next_keeps t w None h = h
-    start_next_keeps t w (Some m) h =
-        ends_cond Q (may_start cmp t w m) (start cmp w m) (goes [] w) (start_keeps w m h) h
+    start_next_keeps t w (Some m) h = ends_cond Q _ _ (goes [] w) (start_keeps w m h) h
 
     complete_keeps : (t : ℕ) (w : World P) (m : Message P) → Q w → EndsWith Q (complete cmp t w m)
     complete_keeps t w m h = grind (arith, ends_cond, ends_preceded, start_next_keeps)
 
     pub settle_keeps : (t : ℕ) (w : World P) → Q w → EndsWith Q (settle cmp t w)
-    settle_keeps t w =
-        each_completion cmp order Q t (λ v f e k. complete_keeps t v f.message k) (length w.sending + length w.waiting)
-        w
+    settle_keeps t w = each_completion cmp order Q t (λ v f e k. complete_keeps t v f.message k) _ w
 
     turn_keeps : (t : ℕ) (w : World P) (m : Message P) → Q w → EndsWith Q (turn cmp t w m)
     turn_keeps t w m h = ends_and_then Q Q (start cmp w m) (settle cmp t) (start_keeps w m h) (settle_keeps t)

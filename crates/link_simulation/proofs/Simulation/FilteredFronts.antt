@@ -62,8 +62,7 @@ module _ {P : Type 0} (cmp : P → P → Ordering) (order : IsTotalOrder cmp) wh
 
   not_below : (k m n : Message P) → pair_before cmp n m ≡ false → pair_before cmp k n ≡ false
       → pair_before cmp k m ≡ false
-  not_below k m n h g =
-      false_from_ne_true (pair_before cmp k m) (λ t. let u : pair_before cmp k n ≡ true = before_both k m n t h in cc)
+  not_below k m n h g = false_from_ne_true _ (λ t. let u : pair_before cmp k n ≡ true = before_both k m n t h in cc)
 
   -- ---- fronts and least pairs
 
@@ -96,18 +95,17 @@ module _ {P : Type 0} (cmp : P → P → Ordering) (order : IsTotalOrder cmp) wh
   pub least_kept : (mine : Message P → Bool) (ms : List (Message P)) (x : Message P) → least_pair cmp ms ≡ Some x
       → mine x ≡ true → least_pair cmp (filter mine ms) ≡ Some x
   least_kept mine [] x e own = cc
-  least_kept mine (m ∷ ms) x e own =
-      by_rest (least_pair cmp ms) refl (λ y g h. least_kept mine ms y g h) (none_below (m ∷ ms) x e)
+  least_kept mine (m ∷ ms) x e own = by_rest _ refl (λ y g h. least_kept mine ms y g h) (none_below (m ∷ ms) x e)
     where
       keeps : (b : Bool) (n : Message P) → pair_before cmp n m ≡ true → least_pair cmp (filter mine ms) ≡ Some n
           → least_pair cmp (cond b (m ∷ filter mine ms) (filter mine ms)) ≡ Some n
-      keeps true n h g = least_is m (filter mine ms) (Some n) g ∙ (rw h refl)
+      keeps true n h g = least_is m _ (Some n) g ∙ (rw h refl)
       keeps false n h g = g
 
       first : (o : Option (Message P)) → least_pair cmp (filter mine ms) ≡ o
           → ((n : Message P) → least_pair cmp (filter mine ms) ≡ Some n → pair_before cmp n m ≡ false)
           → least_pair cmp (m ∷ filter mine ms) ≡ Some m
-      first None is h = least_is m (filter mine ms) None is
+      first None is h = least_is m _ None is
       first (Some n) is h = grind (arith, least_is)
 
       by_test : (n : Message P) (b : Bool) → pair_before cmp n m ≡ b → Some (cond b n m) ≡ Some x
@@ -118,14 +116,11 @@ module _ {P : Type 0} (cmp : P → P → Ordering) (order : IsTotalOrder cmp) wh
           let same : m ≡ x = cc in
           let here : mine m ≡ true = ap mine same ∙ own in
           let low = subst (λ (z : Message P). Each (λ k. pair_before cmp k z ≡ false) ms) (sym same) below in
-          let rest = each_filter (λ k. pair_before cmp k m ≡ false) (λ k. pair_before cmp k m ≡ false) mine ms
-          (λ k t h. h) low in
-          rw here (first (least_pair cmp (filter mine ms)) refl
-          (λ k g. each_least cmp order (λ j. pair_before cmp j m ≡ false) (filter mine ms) k rest g) ∙ ap Some same)
+          let rest = each_filter _ _ mine ms (λ k t h. h) low in
+          rw here (first _ refl (λ k g. each_least cmp order _ _ k rest g) ∙ ap Some same)
 
       by_rest : (o : Option (Message P)) → least_pair cmp ms ≡ o
           → ((y : Message P) → least_pair cmp ms ≡ Some y → mine y ≡ true → least_pair cmp (filter mine ms) ≡ Some y)
           → Each (λ k. pair_before cmp k x ≡ false) (m ∷ ms) → least_pair cmp (filter mine (m ∷ ms)) ≡ Some x
       by_rest None is ih below = grind (arith, least_is, least_none)
-      by_rest (Some n) is ih below =
-          by_test n (pair_before cmp n m) refl (sym (least_is m ms (Some n) is) ∙ e) (λ h. ih n is h) below.1
+      by_rest (Some n) is ih below = by_test n _ refl (sym (least_is m ms (Some n) is) ∙ e) (λ h. ih n is h) below.1

@@ -5,7 +5,7 @@ use Rattle.link_simulation.proofs.Common.{Ordering, IsTotalOrder, not-true, Worl
 use Rattle.link_simulation.proofs.Common.{Message, SameMessage, pair_before, same_pair, AreInPairOrder, Planned}
 use Rattle.link_simulation.proofs.Common.{SomeReadyAt, may_launch, next_of, Tallies, Each, each_map, each_filtered}
 use Rattle.link_simulation.proofs.Common.{by_bool}
-use Rattle.link_simulation.proofs.Rule.BeforeNext.{IsFront, fronts_first, first_found, may_alike, messages_alike}
+use Rattle.link_simulation.proofs.Rule.BeforeNext.{fronts_first, first_found, may_alike, messages_alike}
 use Rattle.std.proofs.lemmas.Bool.{not_from_false}
 use Rattle.link_simulation.proofs.Simulation.Queue.{pair_sym, find_passes}
 use Rattle.link_simulation.proofs.Simulation.AlikeMessages.{pair_itself, message_itself, pairs_alike}
@@ -94,8 +94,7 @@ module _ {P : Type 0} (cmp : P → P → Ordering) (order : IsTotalOrder cmp) wh
   picks_from [] [] sorted among has = refl
   picks_from [] (x ∷ xs) sorted among has = absurd among.0
   picks_from (m ∷ ms) [] sorted among has = absurd has.0
-  picks_from (m ∷ ms) (x ∷ xs) sorted among has =
-      (y, least, own, picks_from ms (filter (apart cmp order y) (x ∷ xs)) sorted.1 among_rest has_rest)
+  picks_from (m ∷ ms) (x ∷ xs) sorted among has = (y, least, own, picks_from ms _ sorted.1 among_rest has_rest)
     where
       y : Message P
       y = (least_some x xs).0
@@ -106,9 +105,8 @@ module _ {P : Type 0} (cmp : P → P → Ordering) (order : IsTotalOrder cmp) wh
       by_place : SameMessage cmp m y ⊎ IsAmong ms y → SameMessage cmp m y
       by_place (inl same) = same
       by_place (inr rest) =
-          let later = some_each (λ n. pair_before cmp m n ≡ true) (λ n. SameMessage cmp n y) ms sorted.0 rest in
-          let there = some_each (λ z. pair_before cmp z y ≡ false) (λ z. SameMessage cmp m z) (x ∷ xs)
-          (none_below cmp order (x ∷ xs) y least) has.0 in
+          let later = some_each _ _ ms sorted.0 rest in
+          let there = some_each _ _ (x ∷ xs) (none_below cmp order (x ∷ xs) y least) has.0 in
           let same = before_alike m there.0 later.0 y there.2 later.2 in
           absurd (differ (sym later.1 ∙ same ∙ there.1))
         where
@@ -116,25 +114,20 @@ module _ {P : Type 0} (cmp : P → P → Ordering) (order : IsTotalOrder cmp) wh
           differ e = cc
 
       own : SameMessage cmp m y
-      own = by_place (each_least cmp order (IsAmong (m ∷ ms)) (x ∷ xs) y among least)
+      own = by_place (each_least cmp order _ (x ∷ xs) y among least)
 
       among_rest : Each (IsAmong ms) (filter (apart cmp order y) (x ∷ xs))
-      among_rest =
-          each_map (λ z. IsAmong (m ∷ ms) z × (apart cmp order y z ≡ true)) (IsAmong ms)
-          (filter (apart cmp order y) (x ∷ xs)) (λ z k. by_head z k.0 k.1)
-          (each_filtered (IsAmong (m ∷ ms)) (apart cmp order y) (x ∷ xs) among)
+      among_rest = each_map _ _ _ (λ z k. by_head z k.0 k.1) (each_filtered _ (apart cmp order y) (x ∷ xs) among)
         where
           by_head : (z : Message P) → SameMessage cmp m z ⊎ IsAmong ms z → apart cmp order y z ≡ true → IsAmong ms z
           by_head z (inl same) off =
               let pair = sym (pairs_alike cmp order m y m z own same) ∙ pair_itself cmp order m in
-              let none : same_pair cmp y z ≡ false = not-true (same_pair cmp y z) off in
+              let none : same_pair cmp y z ≡ false = not-true _ off in
               cc
           by_head z (inr rest) off = rest
 
       has_rest : Each (HasIn (filter (apart cmp order y) (x ∷ xs))) ms
-      has_rest =
-          each_map (λ n. HasIn (x ∷ xs) n × (pair_before cmp m n ≡ true)) (HasIn (filter (apart cmp order y) (x ∷ xs)))
-          ms (λ n k. stays n k.0 k.1) (each_both (HasIn (x ∷ xs)) (λ n. pair_before cmp m n ≡ true) ms has.1 sorted.0)
+      has_rest = each_map _ _ ms (λ n k. stays n k.0 k.1) (each_both _ _ ms has.1 sorted.0)
         where
           each_both : (Q R : Message P → Type 0) (ns : List (Message P)) → Each Q ns → Each R ns
               → Each (λ n. Q n × R n) ns
@@ -143,11 +136,11 @@ module _ {P : Type 0} (cmp : P → P → Ordering) (order : IsTotalOrder cmp) wh
 
           stays : (n : Message P) → HasIn (x ∷ xs) n → pair_before cmp m n ≡ true
               → HasIn (filter (apart cmp order y) (x ∷ xs)) n
-          stays n has before = some_filtered (λ z. SameMessage cmp n z) (apart cmp order y) (x ∷ xs)
-              (some_map (λ z. SameMessage cmp n z) (λ z. SameMessage cmp n z × (apart cmp order y z ≡ true)) (x ∷ xs)
+          stays n has before = some_filtered _ _ (x ∷ xs)
+              (some_map _ _ (x ∷ xs)
               (λ z same. (
                 same,
-                not_from_false (same_pair cmp y z)
+                not_from_false _
                     (sym (pairs_alike cmp order m y n z own same) ∙ apart_if_before cmp order m n before),
               )) has)
 
@@ -178,42 +171,31 @@ module _ {P : Type 0} (cmp : P → P → Ordering) (order : IsTotalOrder cmp) wh
   pub in_ready : (t : ℕ) (p : Planned P) (w : World P) (m : Message P) → Tallies cmp t p w → next_of cmp p m ≡ Some m
       → may_launch cmp t p m ≡ true → HasIn (ready cmp t w) m
   in_ready t p w m same next may =
-      let there = alike_some (find (same_pair cmp m) w.waiting) m (subst
-      (λ (o : Option (Message P)). OptionsAlike (SameMessage cmp) o (find (same_pair cmp m) w.waiting)) next
-      (next_alike cmp order t p w m m same (message_itself cmp order m))) in
+      let there = alike_some _ m (subst (λ (o : Option (Message P)). OptionsAlike (SameMessage cmp) o
+      (find (same_pair cmp m) w.waiting)) next (next_alike cmp order t p w m m same (message_itself cmp order m))) in
       let may_too = sym (may_alike cmp order t p w m there.0 same.last_arrival
       (messages_alike cmp order t p.sending w.sending same.sending) there.2) ∙ may in
-      some_filtered (λ y. SameMessage cmp m y) (may_start cmp t w) (fronts cmp w.waiting)
-      (in_fronts (λ y. SameMessage cmp m y × (may_start cmp t w y ≡ true)) there.0 w.waiting
-      (found_own m there.0 w.waiting there.1) (there.2, may_too))
+      some_filtered _ _ _ (in_fronts _ there.0 w.waiting (found_own m there.0 w.waiting there.1) (there.2, may_too))
 
   in_launching : (t : ℕ) (p : Planned P) (w : World P) (y : Message P) → Tallies cmp t p w
       → find (same_pair cmp y) w.waiting ≡ Some y → may_start cmp t w y ≡ true
       → IsAmong (filter (may_launch cmp t p) (fronts cmp p.waiting)) y
   in_launching t p w y same next may =
-      let there = alike_some_back (next_of cmp p y) y (subst
-      (λ (o : Option (Message P)). OptionsAlike (SameMessage cmp) (next_of cmp p y) o) next
-      (next_alike cmp order t p w y y same (message_itself cmp order y))) in
+      let there = alike_some_back _ y (subst (λ (o : Option (Message P)). OptionsAlike (SameMessage cmp)
+      (next_of cmp p y) o) next (next_alike cmp order t p w y y same (message_itself cmp order y))) in
       let may_too = may_alike cmp order t p w there.0 y same.last_arrival
       (messages_alike cmp order t p.sending w.sending same.sending) there.2 ∙ may in
-      some_filtered (λ x. SameMessage cmp x y) (may_launch cmp t p) (fronts cmp p.waiting)
-      (in_fronts (λ x. SameMessage cmp x y × (may_launch cmp t p x ≡ true)) there.0 p.waiting
-      (found_own y there.0 p.waiting there.1) (there.2, may_too))
+      some_filtered _ _ _ (in_fronts _ there.0 p.waiting (found_own y there.0 p.waiting there.1) (there.2, may_too))
 
   -- the pairs that the planned world finds ready are those that the world picks, in this order
   pub picks_ready : (t : ℕ) (p : Planned P) (w : World P) → Tallies cmp t p w
       → Picks cmp order (ready cmp t w) (filter (may_launch cmp t p) (fronts cmp p.waiting))
   picks_ready t p w same =
-      picks_from (filter (may_launch cmp t p) (fronts cmp p.waiting)) (ready cmp t w)
-      (sorted_filter (may_launch cmp t p) (fronts cmp p.waiting) (fronts_sorted p.waiting same.pair_order))
-      (each_map (λ y. IsFront cmp order w.waiting y × (may_start cmp t w y ≡ true))
-      (IsAmong (filter (may_launch cmp t p) (fronts cmp p.waiting))) (ready cmp t w)
-      (λ y k. in_launching t p w y same (first_found cmp order (same_pair cmp y) y k.0.0 w.waiting k.0.1) k.1)
-      (each_filtered (IsFront cmp order w.waiting) (may_start cmp t w) (fronts cmp w.waiting)
-      (fronts_first cmp order w.waiting))) (each_map (λ m. IsFront cmp order p.waiting m
-      × (may_launch cmp t p m ≡ true)) (HasIn _) _ (λ m k. in_ready t p w m same
-      (first_found cmp order (same_pair cmp m) m k.0.0 p.waiting k.0.1) k.1)
-      (each_filtered (IsFront cmp order p.waiting) _ _ (fronts_first cmp order p.waiting)))
+      picks_from _ _ (sorted_filter _ _ (fronts_sorted p.waiting same.pair_order))
+      (each_map _ _ _ (λ y k. in_launching t p w y same (first_found cmp order _ y k.0.0 w.waiting k.0.1) k.1)
+      (each_filtered _ _ _ (fronts_first cmp order w.waiting))) (each_map _ (HasIn _) _
+      (λ m k. in_ready t p w m same (first_found cmp order _ m k.0.0 p.waiting k.0.1) k.1)
+      (each_filtered _ _ _ (fronts_first cmp order p.waiting)))
 
   -- where nothing is ready in the world, nothing is in the planned world
   pub none_ready_back : (t : ℕ) (p : Planned P) (w : World P) → Tallies cmp t p w → ready cmp t w ≡ []

@@ -9,7 +9,7 @@ use Rattle.link_simulation.proofs.Common.{completed, flight_of, Message, OneForE
 use Rattle.link_simulation.proofs.Common.{MomentTooLate, leaving, staying, out_of_waiting, joined, arrived, launch_then}
 use Rattle.link_simulation.proofs.Common.{finish_within, each_map, by_bool}
 use Rattle.link_simulation.proofs.Simulation.Queue.{any_like, find_passes, pair_sym, pair_like}
-use Rattle.link_simulation.proofs.Rule.BeforeNext.{filter_none, IsFront, fronts_first, first_found}
+use Rattle.link_simulation.proofs.Rule.BeforeNext.{filter_none, fronts_first, first_found}
 use Rattle.link_simulation.proofs.Rule.Launch.{head_found, waits_without}
 use Rattle.link_simulation.proofs.Rule.Settling.{settle_is_finish}
 use Rattle.link_simulation.proofs.Simulation.OnePair.{OnlyPair, only_arrived, only_taken, only_joined, IsRested}
@@ -70,26 +70,21 @@ module _ {P : Type 0} (cmp : P → P → Ordering) (order : IsTotalOrder cmp) (y
       (by_done (is_done cmp w (flight_of x)) fewer many held))) (λ e. rw e (ih fs w fuel (held_still e held)))
     where
       pair : same_pair cmp z x ≡ true
-      pair = find_passes (same_pair cmp z) x w.waiting is
+      pair = find_passes _ x w.waiting is
 
       fewer : length (without_first (same_pair cmp x) w.waiting) + 1 ≡ length w.waiting
-      fewer = length_without (same_pair cmp x) x w.waiting (find_like cmp order z x w.waiting pair ∙ is)
+      fewer = length_without _ x w.waiting (find_like cmp order z x w.waiting pair ∙ is)
 
       many : length (fs ++ flight_of x ∷ []) ≡ length fs + 1
-      many = length-append fs (flight_of x ∷ [])
+      many = length-append fs _
 
       y_x : same_pair cmp y x ≡ same_pair cmp y z
       y_x = pair_sym cmp order y x ∙ pair_like cmp order z x y pair ∙ pair_sym cmp order z y
 
       held_taken : (same_pair cmp y z ≡ true) ⊎ ((same_pair cmp y z ≡ false) × IsHeld t fs w)
           → IsHeld t (fs ++ flight_of x ∷ []) (out_of_waiting cmp w x)
-      held_taken (inl own) =
-          inl (any_end fs x ∙ or_right (list_any (same_pair cmp y) (map (λ (f : Flight P). f.message) fs))
-          (same_pair cmp y x || false) (or_left (same_pair cmp y x) false (y_x ∙ own)))
-      held_taken (inr (off, inl among)) =
-          inl (any_end fs x
-          ∙ or_left (list_any (same_pair cmp y) (map (λ (f : Flight P). f.message) fs)) (same_pair cmp y x || false)
-          among)
+      held_taken (inl own) = inl (any_end fs x ∙ or_right _ _ (or_left _ false (y_x ∙ own)))
+      held_taken (inr (off, inl among)) = inl (any_end fs x ∙ or_left _ _ among)
       held_taken (inr (off, inr rested)) = grind (arith, rested_other, y_x, only_taken, pair_itself, find_without)
 
       held_joined : (same_pair cmp y z ≡ true) ⊎ ((same_pair cmp y z ≡ false) × IsHeld t fs w)
@@ -97,7 +92,7 @@ module _ {P : Type 0} (cmp : P → P → Ordering) (order : IsTotalOrder cmp) (y
       held_joined (inl own) = inr (rested_joined cmp order y t w x (y_x ∙ own))
       held_joined (inr (off, inl among)) = inl among
       held_joined (inr (off, inr rested)) =
-          inr (rested_other x t w (joined cmp w x) (y_x ∙ off) (only_joined cmp order x w x (pair_itself cmp order x))
+          inr (rested_other x t w _ (y_x ∙ off) (only_joined cmp order x w x (pair_itself cmp order x))
           (find_without x w.waiting (y_x ∙ off)) rested)
 
       by_done : (b : Bool) → length (without_first (same_pair cmp x) w.waiting) + 1 ≡ length w.waiting
@@ -106,8 +101,8 @@ module _ {P : Type 0} (cmp : P → P → Ordering) (order : IsTotalOrder cmp) (y
           → EndsWith (IsRested cmp order y t)
           (cond b (finish_within cmp n t (fs ++ flight_of x ∷ []) (out_of_waiting cmp w x))
           (finish_within cmp n t fs (joined cmp w x)))
-      by_done true less more h = ih (fs ++ flight_of x ∷ []) (out_of_waiting cmp w x) (omega arith) (held_taken h)
-      by_done false less more h = ih fs (joined cmp w x) (omega arith) (held_joined h)
+      by_done true less more h = ih _ _ (omega arith) (held_taken h)
+      by_done false less more h = ih fs _ (omega arith) (held_joined h)
 
       held_still : may_start cmp t w x ≡ false
           → (same_pair cmp y z ≡ true) ⊎ ((same_pair cmp y z ≡ false) × IsHeld t fs w) → IsHeld t fs w
@@ -156,9 +151,7 @@ module _ {P : Type 0} (cmp : P → P → Ordering) (order : IsTotalOrder cmp) wh
       → IsHeld cmp order y t (leaving cmp w) (staying cmp w)
   unfolding leaving staying IsRested
   held_first t w y none =
-      by_bool (list_any (same_pair cmp y) (map (λ (f : Flight P). f.message) (filter (is_done cmp w) w.sending)))
-      (λ e. inl e) (λ e.
-      inr (λ x found.
+      by_bool _ (λ e. inl e) (λ e. inr (λ x found.
       let own : same_pair cmp y x ≡ true = find_passes (same_pair cmp y) x w.waiting found in
       let none_leaves = sym (any_map (same_pair cmp x) (λ (f : Flight P). f.message) _) ∙ any_like cmp order y x
       (map (λ (f : Flight P). f.message) _) own ∙ e in
@@ -172,8 +165,7 @@ module _ {P : Type 0} (cmp : P → P → Ordering) (order : IsTotalOrder cmp) wh
       → EndsWith (λ v. ready cmp t v ≡ []) c
   unfolding IsRested
   none_then t (goes cs v) all =
-      filter_none (may_start cmp t v) (fronts cmp v.waiting) (each_map (IsFront cmp order v.waiting)
-      (λ m. may_start cmp t v m ≡ false) _ (λ m front. all m m (first_found cmp order _ m front.0 v.waiting front.1))
+      filter_none _ _ (each_map _ _ _ (λ m front. all m m (first_found cmp order _ m front.0 v.waiting front.1))
       (fronts_first cmp order v.waiting))
   none_then t (meets fault) all = tt
 

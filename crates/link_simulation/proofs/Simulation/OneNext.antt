@@ -1,7 +1,7 @@
 -- There is at most one next event.
-use Rattle.link_simulation.proofs.Common.{◌≡◌, ℕ, zero, suc, ◌+◌, ◌-◌, ◌*◌, ◌<◌, ◌≤◌, List, [], ◌∷◌, Option, Some, None}
+use Rattle.link_simulation.proofs.Common.{◌≡◌, ℕ, zero, suc, ◌+◌, ◌-◌, ◌<◌, ◌≤◌, List, [], ◌∷◌, Option, Some, None}
 use Rattle.link_simulation.proofs.Common.{refl, ap, subst, arith, ◌⊎◌, inl, inr, Ordering, IsTotalOrder, cases_lt}
-use Rattle.link_simulation.proofs.Common.{mul-pos, Amount, billion, reduced, Flight, IsQuiet, World, last_moment, Parts}
+use Rattle.link_simulation.proofs.Common.{mul-pos, Amount, reduced, Flight, IsQuiet, World, last_moment, Parts}
 use Rattle.link_simulation.proofs.Common.{drained_by, rate_of, ArePositive, Drains, NextIs, Passes, comes_next}
 use Rattle.link_simulation.proofs.Common.{drain_each, never_comes, no_time, quiet_tick, reduced_positive}
 use Rattle.link_simulation.proofs.Simulation.OneWorld.{one_world}

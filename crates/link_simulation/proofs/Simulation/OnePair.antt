@@ -1,5 +1,5 @@
 -- Settling what one pair starts touches that pair alone, and leaves it unable to start again at that moment.
-use Rattle.link_simulation.proofs.Common.{subst, ◌||◌, not-true, ◌≡◌, ℕ, zero, suc, ◌+◌, ◌≤◌, List, [], ◌∷◌, ◌++◌}
+use Rattle.link_simulation.proofs.Common.{subst, not-true, ◌≡◌, ℕ, zero, suc, ◌+◌, ◌≤◌, List, [], ◌∷◌, ◌++◌}
 use Rattle.link_simulation.proofs.Common.{length, Bool, true, false, cond, not, Option, Some, None, refl, sym, ap, ◌∙◌}
 use Rattle.link_simulation.proofs.Common.{arith, length-append, nat_le, ◌&&◌, filter, find, list_any, Ordering}
 use Rattle.link_simulation.proofs.Common.{IsTotalOrder, map-append, list_any-append, same_peer, Completed, Course}
@@ -9,7 +9,7 @@ use Rattle.link_simulation.proofs.Common.{FlowIdsUsedUp, MomentTooLate, out_of_w
 use Rattle.link_simulation.proofs.Common.{finish_within, Each, each_map, each_joined, filter_swap, filter_stronger}
 use Rattle.link_simulation.proofs.Common.{length-without_first, or_left, or_right, without_first, by_bool}
 use Rattle.link_simulation.proofs.Simulation.Queue.{pair_like, pair_sym, find_passes}
-use Rattle.link_simulation.proofs.Rule.BeforeNext.{IsFront, fronts_first, first_found}
+use Rattle.link_simulation.proofs.Rule.BeforeNext.{fronts_first, first_found}
 use Rattle.link_simulation.proofs.Simulation.SettlingEnds.{ends_preceded, ends_cond, length_without, find_like}
 use Rattle.std.proofs.lemmas.Bool.{not-false}
 
@@ -96,11 +96,10 @@ module _ {P : Type 0} (cmp : P → P → Ordering) (order : IsTotalOrder cmp) (y
   pub rested_joined : (t : ℕ) (w : World P) (x : Message P) → same_pair cmp y x ≡ true → IsRested t (joined cmp w x)
   unfolding IsRested
   rested_joined t w x e z found =
-      let own : same_pair cmp y z ≡ true = find_passes (same_pair cmp y) z (joined cmp w x).waiting found in
+      let own : same_pair cmp y z ≡ true = find_passes _ z (joined cmp w x).waiting found in
       let pair : same_pair cmp z x ≡ true = pair_like cmp order y z x own ∙ e in
-      let sends = ap (list_any (same_pair cmp z)) (map-append (λ (g : Flight P). g.message) w.sending
-      (flight_of x ∷ [])) ∙ list_any-append (same_pair cmp z) (flows w) (x ∷ []) ∙ or_right
-      (list_any (same_pair cmp z) (flows w)) (same_pair cmp z x || false) (or_left (same_pair cmp z x) false pair) in
+      let sends = ap (list_any _) (map-append _ w.sending (flight_of x ∷ [])) ∙ list_any-append _ (flows w) (x ∷ []) ∙
+      or_right (list_any (same_pair cmp z) (flows w)) _ (or_left _ false pair) in
       rw sends refl
 
   abbrev pub IsAfter : ℕ → World P → World P → Type 0
@@ -140,7 +139,7 @@ module _ {P : Type 0} (cmp : P → P → Ordering) (order : IsTotalOrder cmp) (y
           pair = find_passes (same_pair cmp y) x w.waiting is
 
           fewer : length (without_first (same_pair cmp x) w.waiting) + 1 ≡ length w.waiting
-          fewer = length_without (same_pair cmp x) x w.waiting (find_like cmp order y x w.waiting pair ∙ is)
+          fewer = length_without _ x w.waiting (find_like cmp order y x w.waiting pair ∙ is)
 
           by_done : (b : Bool) → length (without_first (same_pair cmp x) w.waiting) + 1 ≡ length w.waiting
               → EndsWith (IsAfter t (arrived cmp t w f.message)) (cond b
@@ -149,15 +148,13 @@ module _ {P : Type 0} (cmp : P → P → Ordering) (order : IsTotalOrder cmp) (y
           by_done true less =
               let many : length (fs ++ flight_of x ∷ []) ≡ length fs + 1 = length-append fs (flight_of x ∷ []) in
               after_on t (arrived cmp t w f.message) (out_of_waiting cmp (arrived cmp t w f.message) x) _
-              (only_taken (arrived cmp t w f.message) x pair)
-              (ih (fs ++ flight_of x ∷ []) (out_of_waiting cmp (arrived cmp t w f.message) x)
-              (each_joined (λ g. same_pair cmp y g.message ≡ true) fs (flight_of x) own.1 pair) (omega arith)
-              (λ e. absurd (no_nil fs (flight_of x) e)))
+              (only_taken (arrived cmp t w f.message) x pair) (ih (fs ++ flight_of x ∷ [])
+              (out_of_waiting cmp (arrived cmp t w f.message) x) (each_joined _ fs _ own.1 pair) (omega arith)
+              (λ e. absurd (no_nil fs _ e)))
           by_done false less =
               after_on t (arrived cmp t w f.message) (joined cmp (arrived cmp t w f.message) x) _
-              (only_joined (arrived cmp t w f.message) x pair)
-              (ih fs (joined cmp (arrived cmp t w f.message) x) own.1 (omega arith)
-              (λ e. rested_joined t (arrived cmp t w f.message) x pair))
+              (only_joined (arrived cmp t w f.message) x pair) (ih fs (joined cmp (arrived cmp t w f.message) x) own.1
+              (omega arith) (λ e. rested_joined t (arrived cmp t w f.message) x pair))
 
   -- ---- who is ready afterwards
 
@@ -171,16 +168,12 @@ module _ {P : Type 0} (cmp : P → P → Ordering) (order : IsTotalOrder cmp) (y
   pub ready_after : (t : ℕ) (w v : World P) → IsAfter t w v → ready cmp t v ≡ filter apart (ready cmp t w)
   unfolding IsRested
   ready_after t w v after =
-      filter_only (may_start cmp t v) apart (fronts cmp v.waiting)
-      (each_map (IsFront cmp order v.waiting) (λ m. apart m ≡ false → may_start cmp t v m ≡ false)
-      (fronts cmp v.waiting) (λ m front. own_rested m front.0 front.1) (fronts_first cmp order v.waiting))
-      ∙ ap (filter (may_start cmp t v)) after.0.others
-      ∙ filter_where (may_start cmp t v) (may_start cmp t w) apart (fronts cmp w.waiting)
-      (λ m off. may_others t w v m after.0 off) ∙ filter_swap (may_start cmp t w) apart (fronts cmp w.waiting)
+      filter_only _ apart _ (each_map _ _ _ (λ m front. own_rested m front.0 front.1)
+      (fronts_first cmp order v.waiting)) ∙ ap (filter _) after.0.others ∙ filter_where _ _ apart _
+      (λ m off. may_others t w v m after.0 off) ∙ filter_swap _ apart _
     where
       own_rested : (m : Message P) (rest : List (Message P)) → filter (same_pair cmp m) v.waiting ≡ m ∷ rest
           → apart m ≡ false → may_start cmp t v m ≡ false
       own_rested m rest front own =
-          let pair : same_pair cmp y m ≡ true = not-false (same_pair cmp y m) own in
-          after.1 m (sym (find_like cmp order y m v.waiting pair)
-          ∙ first_found cmp order (same_pair cmp m) m rest v.waiting front)
+          let pair : same_pair cmp y m ≡ true = not-false _ own in
+          after.1 m (sym (find_like cmp order y m v.waiting pair) ∙ first_found cmp order _ m rest v.waiting front)

@@ -57,9 +57,8 @@ module _ {P : Type 0} (cmp : P → P → Ordering) (order : IsTotalOrder cmp) wh
           let world : g.0 ≡ v = one_world cmp (same_itself cmp order) w g.0 v fit.positive g.4 here in
           let same : goes g.2 g.1 ≡ goes cs u = sym g.5 ∙ ap (instant cmp) world ∙ i in
           let state : g.1 ≡ u = state_of g.2 cs g.1 u same in
-          let rests = ih g.3 (ends_at cmp order (IsFit cmp order) (instant cmp v) cs u i
-          (instant_fit cmp order v (drains_fit cmp order w v here fit)))
-          (subst (λ (x : World P). Ticks cmp n x g.3) state g.6) in
+          let rests = ih g.3 (ends_at cmp order _ _ cs u i (instant_fit cmp order v
+          (drains_fit cmp order w v here fit))) (subst (λ (x : World P). Ticks cmp n x g.3) state g.6) in
           preceded_alike cs g.2 rest g.3 (sym (outcome_of g.2 cs g.1 u same)) rests ∙ sym g.7
       by_first (inr g) ih =
           let world : g.0 ≡ v = one_world cmp (same_itself cmp order) w g.0 v fit.positive g.2 here in

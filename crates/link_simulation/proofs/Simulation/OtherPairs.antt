@@ -1,14 +1,13 @@
 -- What happens to one pair leaves the other pairs as they are.
-use Rattle.link_simulation.proofs.Common.{nat_le, last_moment, FlowIdsUsedUp}
-use Rattle.link_simulation.proofs.Common.{◌&&◌, is_in_order, is_late, completed, MomentTooLate, arith, ◌≡◌, ℕ, ◌+◌}
-use Rattle.link_simulation.proofs.Common.{List, [], ◌∷◌, ◌++◌, map, Bool, true, false, not, Option, Some, None, refl}
-use Rattle.link_simulation.proofs.Common.{sym, ap, ◌∙◌, ⊤, ◌||◌, ◌==◌, filter, find, list_any, Ordering, IsTotalOrder}
-use Rattle.link_simulation.proofs.Common.{list_any-append, filter-append, or_right, or_left, not-true, map-append}
-use Rattle.link_simulation.proofs.Common.{without_first, Completed, Course, EndsWith, Flight, World, complete}
-use Rattle.link_simulation.proofs.Common.{first_waiting, flows, fronts, goes, is_done, is_idle, may_start, meets}
-use Rattle.link_simulation.proofs.Common.{raised, ready, settle_within, start, start_next, turn, out_of_flight}
-use Rattle.link_simulation.proofs.Common.{flight_of, Message, same_pair, Caps, is_unlimited, filter_swap}
-use Rattle.link_simulation.proofs.Common.{filter_stronger, Each, each_filtered, by_bool}
+use Rattle.link_simulation.proofs.Common.{nat_le, last_moment, FlowIdsUsedUp, ◌&&◌, is_in_order, is_late, completed}
+use Rattle.link_simulation.proofs.Common.{MomentTooLate, arith, ◌≡◌, ℕ, ◌+◌, List, [], ◌∷◌, ◌++◌, map, Bool, true}
+use Rattle.link_simulation.proofs.Common.{false, not, Option, Some, None, refl, sym, ap, ◌∙◌, ⊤, ◌||◌, ◌==◌, filter}
+use Rattle.link_simulation.proofs.Common.{find, list_any, Ordering, IsTotalOrder, list_any-append, filter-append}
+use Rattle.link_simulation.proofs.Common.{or_right, or_left, not-true, map-append, without_first, Completed, Course}
+use Rattle.link_simulation.proofs.Common.{EndsWith, Flight, World, complete, first_waiting, flows, fronts, goes}
+use Rattle.link_simulation.proofs.Common.{is_done, is_idle, may_start, meets, raised, ready, settle_within, start}
+use Rattle.link_simulation.proofs.Common.{start_next, turn, out_of_flight, flight_of, Message, same_pair, Caps}
+use Rattle.link_simulation.proofs.Common.{is_unlimited, filter_swap, filter_stronger, Each, each_filtered, by_bool}
 use Rattle.std.proofs.lemmas.Map.Views.{any-filter_same}
 use Rattle.std.proofs.lemmas.Bool.{not-false}
 use Rattle.std.proofs.lemmas.List.{append-nil}
@@ -234,19 +233,16 @@ module _ {P : Type 0} (cmp : P → P → Ordering) (order : IsTotalOrder cmp) wh
       → list_any (is_done cmp w) w.sending ≡ false → find (is_done cmp v) v.sending ≡ Some f
       → same_pair cmp m f.message ≡ true
   done_of_pair m w v f a quiet e =
-      let apart = found_fails _ (λ (g : Flight P). not (same_pair cmp m g.message)) f v.sending e
-      (ap (list_any _) a.sending ∙ any_alike _ _ (filter (λ (g : Flight P). not (same_pair cmp m g.message)) w.sending)
+      let apart = found_fails _ _ f v.sending e (ap (list_any _) a.sending ∙ any_alike _ _ (filter _ w.sending)
       (λ g. done_alike w v g a.caps) ∙ any_none _ (λ (g : Flight P). not _) w.sending quiet) in
-      not-false (same_pair cmp m f.message) apart
+      not-false _ apart
 
   -- settling goes on within the pair
   pub settle_within_leaves : (n t : ℕ) (m : Message P) (w v : World P) → list_any (is_done cmp w) w.sending ≡ false
       → Leaves t m w v → EndsWith (Leaves t m w) (settle_within cmp n t v)
   settle_within_leaves n t m w v quiet =
-      settle_keeps cmp order (Leaves t m w) t (λ u f e l. ends_more (Leaves t f.message u) (Leaves t m w)
-      (complete cmp t u f.message)
-      (λ x k. leaves_like t m f.message w u x (done_of_pair m w u f l.others quiet e) l.others k)
-      (complete_leaves t u f e)) n v
+      settle_keeps cmp order _ t (λ u f e l. ends_more _ _ _ (λ x k. leaves_like t m f.message w u x
+      (done_of_pair m w u f l.others quiet e) l.others k) (complete_leaves t u f e)) n v
 
   -- a start and its settling change one pair alone, which then may not start
   pub start_settles : (t : ℕ) (w : World P) (m : Message P) → list_any (is_done cmp w) w.sending ≡ false
@@ -272,15 +268,11 @@ module _ {P : Type 0} (cmp : P → P → Ordering) (order : IsTotalOrder cmp) wh
   pub ready_without : (t : ℕ) (m : Message P) (w v : World P) → Leaves t m w v
       → ready cmp t v ≡ filter (λ n. not (same_pair cmp m n)) (ready cmp t w)
   ready_without t m w v l =
-      sym (filter_kept_each (may_start cmp t v) (λ n. not (same_pair cmp m n)) _
-      (each_more (λ (n : Message P). find _ v.waiting ≡ Some n) (λ (n : Message P). may_start cmp t v n ≡ true → not
-      _ ≡ true) (λ n e h. of_another n (same_pair cmp m n) refl e h) _ (fronts_are_first v.waiting))) ∙ ap (filter _)
-      (fronts_without m v.waiting ∙ ap (fronts cmp) l.others.waiting ∙ sym (fronts_without m w.waiting)) ∙ filter_alike
-      _ (may_start cmp t w) (filter (λ n. not _) (fronts cmp w.waiting)) (each_more
-      (λ (n : Message P). ⊤ × (not _ ≡ true)) (λ (n : Message P). may_start cmp t v n ≡ may_start cmp t w n)
-      (λ n h. may_start_alike t m n w v l.others (not-true _ h.1)) _ (each_filtered (λ (n : Message P). ⊤)
-      (λ n. not (same_pair cmp m n)) (fronts cmp w.waiting) (each_of (λ (n : Message P). ⊤) (λ n. tt) _))) ∙ filter_swap
-      (may_start cmp t w) (λ n. not _) _
+      sym (filter_kept_each _ _ _ (each_more _ _ (λ n e h. of_another n _ refl e h) _ (fronts_are_first v.waiting))) ∙
+      ap (filter _) (fronts_without m v.waiting ∙ ap (fronts cmp) l.others.waiting ∙ sym (fronts_without m w.waiting)) ∙
+      filter_alike _ _ _ (each_more _ _ (λ n h. may_start_alike t m n w v l.others (not-true _ h.1)) _
+      (each_filtered _ _ (fronts cmp w.waiting) (each_of (λ (n : Message P). ⊤) (λ n. tt) _))) ∙ filter_swap
+      (may_start cmp t w) _ _
     where
       of_another : (n : Message P) (b : Bool) → same_pair cmp m n ≡ b → find (same_pair cmp n) v.waiting ≡ Some n
           → may_start cmp t v n ≡ true → not b ≡ true

@@ -32,8 +32,7 @@ module _ {P : Type 0} (cmp : P → P → Ordering) (order : IsTotalOrder cmp) wh
   pair_cmp m n = ordering_then (cmp m.origin n.origin) (cmp m.recipient n.recipient)
 
   pub pairs_total : IsTotalOrder pair_cmp
-  pairs_total =
-      then_total (on_total (λ (m : Message P). m.origin) order) (on_total (λ (m : Message P). m.recipient) order)
+  pairs_total = then_total (on_total _ order) (on_total _ order)
 
   turned : (m n : Message P) → pair_before cmp m n ≡ is_gt (pair_cmp n m)
   turned m n = ap is_lt (pairs_total.antisymm m n) ∙ lt_turned (pair_cmp n m)
@@ -45,13 +44,11 @@ module _ {P : Type 0} (cmp : P → P → Ordering) (order : IsTotalOrder cmp) wh
   not_before_back m n e = turned n m ∙ not_gt_if_lt (pair_cmp m n) e
 
   pub apart_if_before : (m n : Message P) → pair_before cmp m n ≡ true → same_pair cmp m n ≡ false
-  apart_if_before m n e =
-      tied_then (cmp m.origin n.origin) (cmp m.recipient n.recipient) ∙ not_eq_if_lt (pair_cmp m n) e
+  apart_if_before m n e = tied_then _ _ ∙ not_eq_if_lt _ e
 
   pub before_each_other : (m n k : Message P) → pair_before cmp m n ≡ true → pair_before cmp n k ≡ true
       → pair_before cmp m k ≡ true
-  before_each_other m n k e f =
-      ap is_lt (pairs_total.trans m n k (is_lt_less (pair_cmp m n) e) (is_lt_less (pair_cmp n k) f))
+  before_each_other m n k e f = ap is_lt (pairs_total.trans m n k (is_lt_less _ e) (is_lt_less _ f))
 
   pub not_before_on : (m n k : Message P) → pair_before cmp m n ≡ false → pair_before cmp n k ≡ false
       → pair_before cmp m k ≡ false
@@ -109,7 +106,7 @@ module _ {P : Type 0} (cmp : P → P → Ordering) (order : IsTotalOrder cmp) wh
   find_inserted : (k m : Message P) (ns : List (Message P)) → find (same_pair cmp m) ns ≡ None
       → find (same_pair cmp k) (insert_by_pair cmp m ns) ≡ cond (same_pair cmp k m) (Some m) (find (same_pair cmp k) ns)
   find_inserted k m [] h = refl
-  find_inserted k m (n ∷ ns) h = by_order (pair_before cmp n m) (same_pair cmp m n) refl h (find_inserted k m ns)
+  find_inserted k m (n ∷ ns) h = by_order _ _ refl h (find_inserted k m ns)
     where
       exchanged : (a b : Bool) → same_pair cmp k m ≡ a → same_pair cmp k n ≡ b → same_pair cmp m n ≡ false
           → cond b (Some n) (cond a (Some m) (find (same_pair cmp k) ns))
@@ -126,8 +123,7 @@ module _ {P : Type 0} (cmp : P → P → Ordering) (order : IsTotalOrder cmp) wh
           ≡ cond (same_pair cmp k m) (Some m) (cond (same_pair cmp k n) (Some n) (find (same_pair cmp k) ns))
       by_order a true is none ih = cc
       by_order true false is none ih =
-          ap (λ (o : Option (Message P)). cond (same_pair cmp k n) (Some n) o) (ih none)
-          ∙ exchanged (same_pair cmp k m) (same_pair cmp k n) refl refl is
+          ap (λ (o : Option (Message P)). cond (same_pair cmp k n) (Some n) o) (ih none) ∙ exchanged _ _ refl refl is
       by_order false false is none ih = refl
 
   -- ordering finds what was there

@@ -11,7 +11,7 @@ use Rattle.link_simulation.specs.Simulation.Pass.{IsByPair, by_pair, wake_each}
 use Rattle.link_simulation.proofs.Simulation.Queue.{pair_like, pair_sym, by_option}
 use Rattle.link_simulation.proofs.Simulation.SettlingEnds.{length_without, ends_preceded, ends_and_then, ends_cond}
 use Rattle.link_simulation.proofs.Simulation.SettlingEnds.{NoneDone, settle_rests, settle_keeps}
-use Rattle.link_simulation.proofs.Simulation.OtherPairs.{each_more, each_of, find_kept, any_from_find, Leaves}
+use Rattle.link_simulation.proofs.Simulation.OtherPairs.{each_more, each_of, find_kept, any_from_find}
 use Rattle.link_simulation.proofs.Simulation.OtherPairs.{pair_other, ends_more, fronts_are_first, ready_without}
 use Rattle.link_simulation.proofs.Simulation.OtherPairs.{start_settles, any_none}
 use Rattle.link_simulation.proofs.Simulation.AlikeMessages.{pair_itself}
@@ -69,9 +69,7 @@ module _ {P : Type 0} (cmp : P → P → Ordering) (order : IsTotalOrder cmp) wh
 
   pub turn_waits : (n t : ℕ) (w : World P) (m x : Message P) → find (same_pair cmp m) w.waiting ≡ Some x
       → WaitAtMost (suc n) w → EndsWith (WaitAtMost n) (turn cmp t w m)
-  turn_waits n t w m x e h =
-      ends_and_then (WaitAtMost n) (WaitAtMost n) (start cmp w m) (settle cmp t) (start_takes n w m x e h)
-      (λ v k. settle_waits n t v k)
+  turn_waits n t w m x e h = ends_and_then _ _ _ _ (start_takes n w m x e h) (λ v k. settle_waits n t v k)
 
   pub turn_rests : (t : ℕ) (w : World P) (m : Message P) → EndsWith (NoneDone cmp order) (turn cmp t w m)
   turn_rests t w m =
@@ -121,10 +119,8 @@ module _ {P : Type 0} (cmp : P → P → Ordering) (order : IsTotalOrder cmp) wh
   pub find_without : (k m : Message P) (xs : List (Message P)) → same_pair cmp m k ≡ true
       → find (same_pair cmp k) (filter (λ n. not (same_pair cmp m n)) xs) ≡ None
   find_without k m xs e =
-      find_nowhere cmp order (same_pair cmp k) (filter (λ n. not _) xs) (each_more
-      (λ (n : Message P). ⊤ × (not _ ≡ true)) (λ (n : Message P). same_pair cmp k n ≡ false)
-      (λ n h. pair_like cmp order m k n e ∙ not-true _ h.1) _ (each_filtered (λ (n : Message P). ⊤) (λ n. not _) xs
-      (each_of (λ (n : Message P). ⊤) (λ n. tt) xs)))
+      find_nowhere cmp order _ _ (each_more _ _ (λ n h. pair_like cmp order m k n e ∙ not-true _ h.1) _
+      (each_filtered _ _ xs (each_of (λ (n : Message P). ⊤) (λ n. tt) xs)))
 
   -- the same pairs, with the same messages
   abbrev pub FindsAlike : List (Message P) → List (Message P) → Type 0
@@ -134,20 +130,18 @@ module _ {P : Type 0} (cmp : P → P → Ordering) (order : IsTotalOrder cmp) wh
   alike_without : (m : Message P) (ms rs : List (Message P)) → IsByPair cmp (m ∷ ms) → FindsAlike (m ∷ ms) rs
       → FindsAlike ms (filter (λ n. not (same_pair cmp m n)) rs)
   alike_without m ms rs h same k =
-      by_bool (same_pair cmp m k) (λ e. find_nowhere cmp order _ ms (each_more
-      (λ (n : Message P). pair_before cmp m n ≡ true) (λ (n : Message P). same_pair cmp k n ≡ false)
-      (λ n b. pair_like cmp order m k n e ∙ apart_if_before cmp order m n b) ms (as_each cmp order m ms h.0)) ∙ sym
-      (find_without k m rs e)) (λ e. grind (arith, pair_sym, find_kept, pair_other))
+      by_bool _ (λ e. find_nowhere cmp order _ ms (each_more _ _ (λ n b. pair_like cmp order m k n e ∙ apart_if_before
+      cmp order m n b) ms (as_each cmp order m ms h.0)) ∙ sym (find_without k m rs e))
+      (λ e. grind (arith, pair_sym, find_kept, pair_other))
 
   -- its first pair is the least
   least_first : (m : Message P) (ms rs : List (Message P)) → IsByPair cmp (m ∷ ms) → FindsAlike (m ∷ ms) rs
       → least_pair cmp rs ≡ Some m
   least_first m ms rs h same =
-      by_option (least_pair cmp rs) (λ e. rw e (sym (ap (find (same_pair cmp m)) (least_none cmp order rs e)) ∙ there))
+      by_option (least_pair cmp rs) (λ e. rw e (sym (ap (find _) (least_none cmp order rs e)) ∙ there))
       (λ l e. rw e (
       let least = least_is cmp order l rs e in
-      by_test l (same_pair cmp l m) (same l ∙ least.0)
-      (found_in cmp order (λ (n : Message P). pair_before cmp n l ≡ false) (same_pair cmp m) m rs least.1 there)))
+      by_test l _ (same l ∙ least.0) (found_in cmp order _ _ m rs least.1 there)))
     where
       there : find (same_pair cmp m) rs ≡ Some m
       there = sym (same m) ∙ ap (λ (b : Bool). cond b (Some m) (find (same_pair cmp m) ms)) (pair_itself cmp order m)
@@ -156,8 +150,7 @@ module _ {P : Type 0} (cmp : P → P → Ordering) (order : IsTotalOrder cmp) wh
           → pair_before cmp m l ≡ false → Some l ≡ Some m
       by_test l true e after = sym e
       by_test l false e after =
-          let yes = found_in cmp order (λ (n : Message P). pair_before cmp m n ≡ true) (same_pair cmp l) l ms
-          (as_each cmp order m ms h.0) e in
+          let yes = found_in cmp order _ _ l ms (as_each cmp order m ms h.0) e in
           cc
 
   empty_alike : (rs : List (Message P)) → FindsAlike [] rs → rs ≡ []
@@ -170,20 +163,18 @@ module _ {P : Type 0} (cmp : P → P → Ordering) (order : IsTotalOrder cmp) wh
   -- going once through any list, in the order of pairs, of those that are ready
   pub wake_within_is_pass : (n t : ℕ) (ms : List (Message P)) (w : World P) → list_any (is_done cmp w) w.sending ≡ false
       → WaitAtMost n w → IsByPair cmp ms → FindsAlike ms (ready cmp t w) → wake_within cmp n t w ≡ wake_each cmp t ms w
-  wake_within_is_pass n t [] w none h by same = wake_none n t w (empty_alike (ready cmp t w) same)
+  wake_within_is_pass n t [] w none h by same = wake_none n t w (empty_alike _ same)
   wake_within_is_pass zero t (m ∷ ms) w none h by same =
-      let e : least_pair cmp (ready cmp t w) ≡ Some m = least_first m ms (ready cmp t w) by same in
+      let e : least_pair cmp (ready cmp t w) ≡ Some m = least_first m ms _ by same in
       let f : least_pair cmp (ready cmp t w) ≡ None = ap (least_pair cmp) (ready_in_none t w (none_long w.waiting h)) in
       cc
   wake_within_is_pass (suc n) t (m ∷ ms) w none h by same =
-      let e : least_pair cmp (ready cmp t w) ≡ Some m = least_first m ms (ready cmp t w) by same in
-      let found : find (same_pair cmp m) (ready cmp t w) ≡ Some m = (least_is cmp order m (ready cmp t w) e).0 in
-      wake_first n t w m e ∙ and_then_alike (turn cmp t w m) (wake_within cmp n t) (wake_each cmp t ms)
-      (ends_more cmp order (λ (v : World P). Leaves cmp order t m w v × (NoneDone cmp order v × WaitAtMost n v))
-      (λ (v : World P). wake_within cmp n t v ≡ wake_each cmp t ms v) _ (λ v k. wake_within_is_pass n t ms v
-      (any_from_find _ v.sending k.1.0) k.1.1 by.1 (subst (FindsAlike ms) (sym (ready_without cmp order t m w v k.0))
-      (alike_without m ms _ by same))) (ends_both _ (λ (v : World P). NoneDone cmp order v × WaitAtMost n v) _
-      (start_settles cmp order t w m none) (ends_both _ _ _ (turn_rests t w m)
+      let e : least_pair cmp (ready cmp t w) ≡ Some m = least_first m ms _ by same in
+      let found : find (same_pair cmp m) (ready cmp t w) ≡ Some m = (least_is cmp order m _ e).0 in
+      wake_first n t w m e ∙ and_then_alike (turn cmp t w m) _ _ (ends_more cmp order _ _ _
+      (λ v k. wake_within_is_pass n t ms v (any_from_find _ v.sending k.1.0) k.1.1 by.1
+      (subst (FindsAlike ms) (sym (ready_without cmp order t m w v k.0)) (alike_without m ms _ by same)))
+      (ends_both _ _ _ (start_settles cmp order t w m none) (ends_both _ _ _ (turn_rests t w m)
       (turn_waits n t w m m (ready_is_front t w m m found) h))))
 
   pub wake_is_pass : (t : ℕ) (ms : List (Message P)) (w : World P) → list_any (is_done cmp w) w.sending ≡ false

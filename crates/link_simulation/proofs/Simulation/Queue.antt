@@ -5,7 +5,7 @@ use Rattle.link_simulation.proofs.Common.{subst, nat_le, ◌&&◌, filter, find,
 use Rattle.link_simulation.proofs.Common.{list_any-append, filter-append, or_from, or_parts, map-append, without_first}
 use Rattle.link_simulation.proofs.Common.{same_peer, Completed, Course, Flight, World, and_then, complete, goes}
 use Rattle.link_simulation.proofs.Common.{is_done, is_in_order, last_moment, may_start, meets, preceded, settle_within}
-use Rattle.link_simulation.proofs.Common.{start, start_next, is_late, completed, flight_of, leaving, staying, arrived}
+use Rattle.link_simulation.proofs.Common.{start, start_next, flight_of, leaving, staying, arrived}
 use Rattle.link_simulation.proofs.Common.{out_of_waiting, joined, launch_then, finish_within, Message, OneForEachPair}
 use Rattle.link_simulation.proofs.Common.{same_pair, FlowIdsUsedUp, MomentTooLate, by_bool}
 use Rattle.std.proofs.lemmas.List.{append-nil}
@@ -68,10 +68,9 @@ module _ {P : Type 0} (cmp : P → P → Ordering) (order : IsTotalOrder cmp) wh
 
   pub pair_like : (m n k : Message P) → same_pair cmp m n ≡ true → same_pair cmp n k ≡ same_pair cmp m k
   pair_like m n k e =
-      let parts = and_parts (same_peer cmp m.origin n.origin) (same_peer cmp m.recipient n.recipient) e in
-      both_alike (same_peer cmp n.origin k.origin) (same_peer cmp m.origin k.origin)
-      (same_peer cmp n.recipient k.recipient) (same_peer cmp m.recipient k.recipient)
-      (peer_like m.origin n.origin k.origin parts.0) (peer_like m.recipient n.recipient k.recipient parts.1)
+      let parts = and_parts _ _ e in
+      both_alike _ _ _ _ (peer_like m.origin n.origin k.origin parts.0) (peer_like m.recipient n.recipient k.recipient
+      parts.1)
 
   pub pair_sym : (m n : Message P) → same_pair cmp m n ≡ same_pair cmp n m
   pair_sym m n = grind arith
@@ -212,18 +211,15 @@ module _ {P : Type 0} (cmp : P → P → Ordering) (order : IsTotalOrder cmp) wh
       → over_state (staying cmp) (settle_within cmp n t w) ≡ finish_within cmp n t (leaving cmp w) (staying cmp w)
   unfolding over_state finish_within staying
   settles_as_queue zero t w one = refl
-  settles_as_queue (suc n) t w one = by_queue (leaving cmp w) refl (settles_as_queue n t)
+  settles_as_queue (suc n) t w one = by_queue _ refl (settles_as_queue n t)
     where
       by_queue : (q : List (Flight P)) → leaving cmp w ≡ q → ((u : World P) → OneForEachPair cmp (messages u.sending)
           → over_state (staying cmp) (settle_within cmp n t u) ≡ finish_within cmp n t (leaving cmp u) (staying cmp u))
           → over_state (staying cmp) (settle_within cmp (suc n) t w) ≡ finish_within cmp (suc n) t q (staying cmp w)
       by_queue [] e ih = grind (arith, settle_none, find_none, as_filter)
       by_queue (f ∷ fs) e ih =
-          let first = leaving_without (is_done cmp w) f fs w.sending (as_filter w (f ∷ fs) e) in
-          ap (over_state (staying cmp)) (settle_first n t w f first.0)
-          ∙ (late_or_not (is_late cmp t f.message) (completed cmp t f.message) _ _ (settle_within cmp n t)
-          (next_alike n t ih (record (arrived cmp t w f.message) { sending = without_first (is_done cmp w) w.sending })
-          fs (arrived cmp t (staying cmp w) f.message) f.message (find (same_pair cmp f.message) w.waiting)
-          (one_without (is_done cmp w) w.sending one) (pair_is_idle (is_done cmp w) f w.sending first.0 one)
-          (as_leaving (record (arrived cmp t w f.message) { sending = without_first (is_done cmp w) w.sending }) fs
-          first.1) (landed_alike t w f.message) refl))
+          let first = leaving_without _ f fs w.sending (as_filter w (f ∷ fs) e) in
+          ap (over_state (staying cmp)) (settle_first n t w f first.0) ∙ (late_or_not _ _ _ _ _
+          (next_alike n t ih _ fs (arrived cmp t (staying cmp w) f.message) f.message (find _ w.waiting)
+          (one_without _ w.sending one) (pair_is_idle _ f w.sending first.0 one) (as_leaving _ fs first.1)
+          (landed_alike t w f.message) refl))

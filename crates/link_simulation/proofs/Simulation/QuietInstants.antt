@@ -3,14 +3,13 @@
 use Rattle.link_simulation.proofs.Common.{common_steps, ◌≡◌, ℕ, zero, suc, ◌+◌, ◌<◌, ◌≤◌, List, [], ◌∷◌, ◌++◌, length}
 use Rattle.link_simulation.proofs.Common.{Bool, true, not, Option, Some, None, refl, ap, ◌∙◌, subst, arith, IfSome}
 use Rattle.link_simulation.proofs.Common.{filter, find, Ordering, IsTotalOrder, filter-append, Completed, Course}
-use Rattle.link_simulation.proofs.Common.{EndsWith, IsQuiet, World, and_then, complete, first_waiting, goes, instant}
-use Rattle.link_simulation.proofs.Common.{is_done, is_in_order, later_of, least_pair, raised, ready, settle}
-use Rattle.link_simulation.proofs.Common.{settle_within, start, start_next, turn, wake, wake_within, Call, Runs, act}
-use Rattle.link_simulation.proofs.Common.{call_advance, call_enqueue, call_limit, call_enqueue_all, call_next}
-use Rattle.link_simulation.proofs.Common.{complete_at_once, moment_of, limited_by, rebalance, call_limit_link}
-use Rattle.link_simulation.proofs.Common.{linked_by, enqueue, Message, same_pair, Caps, no_time, Drains, NextIs, Passes}
-use Rattle.link_simulation.proofs.Common.{Ticks, comes_next, never_comes, no_tick, one_tick, quiet_tick, tick_faults}
-use Rattle.link_simulation.proofs.Common.{find_from_any}
+use Rattle.link_simulation.proofs.Common.{EndsWith, IsQuiet, World, and_then, first_waiting, goes, instant, is_done}
+use Rattle.link_simulation.proofs.Common.{is_in_order, later_of, least_pair, raised, ready, settle, settle_within}
+use Rattle.link_simulation.proofs.Common.{start_next, turn, wake, wake_within, Call, Runs, act, call_advance}
+use Rattle.link_simulation.proofs.Common.{call_enqueue, call_limit, call_enqueue_all, call_next, complete_at_once}
+use Rattle.link_simulation.proofs.Common.{moment_of, limited_by, rebalance, call_limit_link, linked_by, enqueue}
+use Rattle.link_simulation.proofs.Common.{Message, same_pair, Caps, no_time, Drains, NextIs, Passes, Ticks, comes_next}
+use Rattle.link_simulation.proofs.Common.{never_comes, no_tick, one_tick, quiet_tick, tick_faults, find_from_any}
 use Rattle.std.proofs.lemmas.List.{append-nil}
 use Rattle.link_simulation.proofs.Simulation.Queue.{settle_none, preceded_none}
 use Rattle.link_simulation.proofs.Simulation.SettlingEnds.{ends_preceded, ends_and_then, ends_cond, each_ends}
@@ -40,16 +39,13 @@ module _ {P : Type 0} (cmp : P → P → Ordering) (order : IsTotalOrder cmp) wh
   pub settle_outlasts : (Q : World P → Type 0) → ((m : Message P) (v u : World P) → IsButFor cmp m v u → Q v → Q u)
       → (t : ℕ) (w : World P) → Q w → EndsWith Q (settle cmp t w)
   settle_outlasts Q kept t w h =
-      settle_keeps cmp order Q t
-      (λ v f e k. ends_more cmp order (Leaves cmp order t f.message v) Q (complete cmp t v f.message)
-      (λ u l. kept f.message v u l.others k) (complete_leaves cmp order t v f e))
-      (length w.sending + length w.waiting) w h
+      settle_keeps cmp order Q t (λ v f e k. ends_more cmp order _ Q _ (λ u l. kept f.message v u l.others k)
+      (complete_leaves cmp order t v f e)) _ w h
 
   pub turn_outlasts : (Q : World P → Type 0) → ((m : Message P) (v u : World P) → IsButFor cmp m v u → Q v → Q u)
       → (t : ℕ) (w : World P) (m : Message P) → Q w → EndsWith Q (turn cmp t w m)
   turn_outlasts Q kept t w m h =
-      ends_and_then Q Q (start cmp w m) (settle cmp t)
-      (ends_more cmp order (Leaves cmp order t m w) Q (start cmp w m) (λ u l. kept m w u l.others h)
+      ends_and_then Q Q _ _ (ends_more cmp order (Leaves cmp order t m w) Q _ (λ u l. kept m w u l.others h)
       (start_leaves cmp order t w m)) (λ v k. settle_outlasts Q kept t v k)
 
   at_kept : (s : ℕ) (m : Message P) (v u : World P) → IsButFor cmp m v u → IsAt s v → IsAt s u
@@ -72,8 +68,7 @@ module _ {P : Type 0} (cmp : P → P → Ordering) (order : IsTotalOrder cmp) wh
   pub instant_outlasts : (Q : World P → Type 0) → ((m : Message P) (v u : World P) → IsButFor cmp m v u → Q v → Q u)
       → (w : World P) → Q w → EndsWith Q (instant cmp w)
   instant_outlasts Q kept w h =
-      ends_and_then Q Q (settle cmp w.moment w) (λ v. wake cmp v.moment v) (settle_outlasts Q kept w.moment w h)
-      (λ v k. wake_outlasts Q kept v.moment v k)
+      ends_and_then Q Q _ _ (settle_outlasts Q kept w.moment w h) (λ v k. wake_outlasts Q kept v.moment v k)
 
   wake_stays : (t s : ℕ) (w : World P) → IsAt s w → EndsWith (IsAt s) (wake cmp t w)
   wake_stays t s w h = wake_outlasts (IsAt s) (at_kept s) t w h
@@ -180,9 +175,8 @@ module _ {P : Type 0} (cmp : P → P → Ordering) (order : IsTotalOrder cmp) wh
       → EndsWith (QuietAt now) (rebalance cmp t w caps)
   rebalance_ends_quiet now t w caps same q =
       let changed : World P = record w { caps = caps; limited = true } in
-      subst (λ (s : ℕ). EndsWith (QuietAt now) (settle cmp s changed)) same
-      (ends_both (IsQuiet cmp now) (IsAt now) (settle cmp now changed) (settle_ends_quiet now changed q.0.none_ready)
-      (settle_stays now now changed q.1))
+      subst (λ (s : ℕ). EndsWith (QuietAt now) (settle cmp s changed)) same (ends_both _ (IsAt now) _
+      (settle_ends_quiet now changed q.0.none_ready) (settle_stays now now changed q.1))
 
   pub one_ends_quiet : (t : ℕ) (w : World P) (m : Message P) → QuietAt t w → EndsWith (QuietAt t) (enqueue cmp t w m)
   one_ends_quiet t w m q =

@@ -1,12 +1,11 @@
 -- The number of messages is steps enough: settling ends with nothing done.
-use Rattle.link_simulation.proofs.Common.{◌++◌, ◌∙◌, nat_le, last_moment, may_start, flight_of, FlowIdsUsedUp, ◌≡◌, ℕ}
-use Rattle.link_simulation.proofs.Common.{zero, suc, ◌+◌, ◌≤◌, List, [], ◌∷◌, length, Bool, true, false, cond, Option}
-use Rattle.link_simulation.proofs.Common.{Some, None, refl, sym, subst, arith, length-append, find, Ordering}
-use Rattle.link_simulation.proofs.Common.{IsTotalOrder, without_first, Completed, Course, Flight, World, and_then}
-use Rattle.link_simulation.proofs.Common.{complete, goes, is_done, meets, preceded, settle, settle_within, start}
-use Rattle.link_simulation.proofs.Common.{start_next, EndsWith, out_of_flight, is_late, completed, Message, same_pair}
-use Rattle.link_simulation.proofs.Common.{enqueue, enqueue_each, MomentTooLate, least_pair, ready, turn}
-use Rattle.link_simulation.proofs.Common.{wake_within, Error}
+use Rattle.link_simulation.proofs.Common.{◌∙◌, nat_le, last_moment, flight_of, ◌≡◌, ℕ, zero, suc, ◌+◌, ◌≤◌, List, []}
+use Rattle.link_simulation.proofs.Common.{◌∷◌, length, Bool, true, false, cond, Option, Some, None, refl, sym, subst}
+use Rattle.link_simulation.proofs.Common.{arith, length-append, find, Ordering, IsTotalOrder, without_first, Completed}
+use Rattle.link_simulation.proofs.Common.{Course, Flight, World, and_then, complete, goes, is_done, meets, preceded}
+use Rattle.link_simulation.proofs.Common.{settle, settle_within, start_next, EndsWith, out_of_flight, is_late}
+use Rattle.link_simulation.proofs.Common.{completed, Message, same_pair, enqueue, enqueue_each, MomentTooLate}
+use Rattle.link_simulation.proofs.Common.{least_pair, ready, turn, wake_within, Error}
 use Rattle.link_simulation.proofs.Simulation.Queue.{pair_like, settle_none, settle_first, find_passes, by_option}
 use Rattle.link_simulation.proofs.Simulation.Queue.{by_option}
 
@@ -34,8 +33,7 @@ pub each_ends : {P : Type 0} (cmp : P → P → Ordering) (Q : World P → Type 
     → ((w : World P) (m : Message P) → Q w → EndsWith Q (enqueue cmp t w m))
     → (ms : List (Message P)) (w : World P) → Q w → EndsWith Q (enqueue_each cmp t w ms)
 each_ends cmp Q t step [] w h = h
-each_ends cmp Q t step (m ∷ ms) w h =
-    ends_and_then Q Q _ (λ v. enqueue_each cmp t v ms) (step w m h) (λ v k. each_ends cmp Q t step ms v k)
+each_ends cmp Q t step (m ∷ ms) w h = ends_and_then Q Q _ _ (step w m h) (λ v k. each_ends cmp Q t step ms v k)
 
 pub length_without : {X : Type 0} (test : X → Bool) (x : X) (xs : List X) → find test xs ≡ Some x
     → length (without_first test xs) + 1 ≡ length xs
@@ -59,11 +57,10 @@ module _ {P : Type 0} (cmp : P → P → Ordering) (order : IsTotalOrder cmp) wh
       → HasAtMost n w → EndsWith (HasAtMost n) (start_next cmp t w o)
   next_has t n w m None e h = h
   next_has t n w m (Some x) e h =
-      let same : same_pair cmp m x ≡ true = find_passes (same_pair cmp m) x w.waiting e in
-      let fewer = length_without (same_pair cmp x) x w.waiting (find_like m x w.waiting same ∙ e) in
+      let same : same_pair cmp m x ≡ true = find_passes _ x w.waiting e in
+      let fewer = length_without _ x w.waiting (find_like m x w.waiting same ∙ e) in
       let joined = length-append w.sending (flight_of x ∷ []) in
-      ends_cond (HasAtMost n) (may_start cmp t w x) (start cmp w x) (goes [] w)
-      (ends_cond (HasAtMost n) (nat_le last_moment w.next_id) (meets FlowIdsUsedUp) _ tt (omega arith)) h
+      ends_cond (HasAtMost n) _ _ (goes [] w) (ends_cond _ (nat_le last_moment w.next_id) _ _ tt (omega arith)) h
 
   pub complete_has : (t n : ℕ) (w : World P) (f : Flight P) → find (is_done cmp w) w.sending ≡ Some f
       → HasAtMost (suc n) w → EndsWith (HasAtMost n) (complete cmp t w f.message)
@@ -78,12 +75,11 @@ module _ {P : Type 0} (cmp : P → P → Ordering) (order : IsTotalOrder cmp) wh
   NoneDone v = find (is_done cmp v) v.sending ≡ None
 
   settle_within_rests : (n t : ℕ) (w : World P) → HasAtMost n w → EndsWith NoneDone (settle_within cmp n t w)
-  settle_within_rests zero t w h = find_in_none (is_done cmp w) w.sending (omega arith)
+  settle_within_rests zero t w h = find_in_none _ w.sending (omega arith)
   settle_within_rests (suc n) t w h =
-      by_option (find (is_done cmp w) w.sending) (λ e. grind (arith, settle_none)) (λ f e.
-      subst (λ (c : Course (Completed P) (World P)). EndsWith NoneDone c) (sym (settle_first cmp order n t w f e))
-      (ends_and_then (HasAtMost n) NoneDone (complete cmp t w f.message) (settle_within cmp n t)
-      (complete_has t n w f e h) (settle_within_rests n t)))
+      by_option _ (λ e. grind (arith, settle_none)) (λ f e. subst (λ (c : Course (Completed P) (World P)). EndsWith
+      NoneDone c) (sym (settle_first cmp order n t w f e)) (ends_and_then _ NoneDone _ _ (complete_has t n w f e h)
+      (settle_within_rests n t)))
 
   -- after settling, no message in flight is done
   pub settle_rests : (t : ℕ) (w : World P) → EndsWith NoneDone (settle cmp t w)

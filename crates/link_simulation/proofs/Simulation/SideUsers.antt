@@ -13,9 +13,7 @@ module _ {P : Type 0} (cmp : P → P → Ordering) (order : IsTotalOrder cmp)
     (itself : (p : P) → same_peer cmp p p ≡ true) where
   pub users_below : (caps : Caps P) (ms : List (Message P)) (n : ℕ) → length ms ≤ n
       → HaveUsersBelow n (capped_sides cmp caps ms)
-  users_below caps ms n few =
-      All-from_contains (λ side. All (λ user. user < n) side.users) (capped_sides cmp caps ms)
-      (λ s has. by_side s (from_sides cmp caps ms s has))
+  users_below caps ms n few = All-from_contains _ _ (λ s has. by_side s (from_sides cmp caps ms s has))
     where
       by_side : (s : Side) → (m : Message P) × In ms m
           × ((k : Kind) × (cap : ℕ) × (cap_at cmp caps k m ≡ Some cap) × (s ≡ side_at cmp caps k ms m cap))
@@ -24,9 +22,7 @@ module _ {P : Type 0} (cmp : P → P → Ordering) (order : IsTotalOrder cmp)
           subst (λ (z : Side). All (λ user. user < n) z.users) (sym e) (places_below _ ms n few)
 
   pub users_distinct : (caps : Caps P) (ms : List (Message P)) → HaveDistinctUsers (capped_sides cmp caps ms)
-  users_distinct caps ms =
-      All-from_contains (λ side. AllPairs (λ user other. user ≢ other) side.users) (capped_sides cmp caps ms)
-      (λ s has. by_side s (from_sides cmp caps ms s has))
+  users_distinct caps ms = All-from_contains _ _ (λ s has. by_side s (from_sides cmp caps ms s has))
     where
       by_side : (s : Side) → (m : Message P) × In ms m
           × ((k : Kind) × (cap : ℕ) × (cap_at cmp caps k m ≡ Some cap) × (s ≡ side_at cmp caps k ms m cap))

@@ -1,5 +1,5 @@
 -- Each call leads from a sound world to a sound world, and to one alone.
-use Rattle.link_simulation.proofs.Common.{◌≡◌, ℕ, ◌+◌, List, [], ◌∷◌, ◌++◌, length, Bool, true, false, cond, Option}
+use Rattle.link_simulation.proofs.Common.{◌≡◌, ℕ, ◌+◌, List, [], ◌∷◌, ◌++◌, Bool, true, false, cond, Option}
 use Rattle.link_simulation.proofs.Common.{Some, None, refl, sym, ◌∙◌, subst, arith, ⊤, ◌&&◌, nat_lt, if◌then◌else◌}
 use Rattle.link_simulation.proofs.Common.{Ordering, IsTotalOrder, map-append, not-true, without_first, same_peer}
 use Rattle.link_simulation.proofs.Common.{Completed, Course, EndsWith, Flight, IsQuiet, World, and_then, complete}
@@ -7,8 +7,8 @@ use Rattle.link_simulation.proofs.Common.{first_waiting, flows, fronts, goes, in
 use Rattle.link_simulation.proofs.Common.{later_of, least_pair, may_start, meets, new_world, raised, ready, settle}
 use Rattle.link_simulation.proofs.Common.{start, start_next, turn, wake, out_of_flight, completed, Call, Runs, act}
 use Rattle.link_simulation.proofs.Common.{call_advance, call_enqueue, call_limit, call_enqueue_all, call_next}
-use Rattle.link_simulation.proofs.Common.{complete_at_once, enqueue, rebalance, limited_by, call_limit_link, linked_by}
-use Rattle.link_simulation.proofs.Common.{Caps, Message, OneForEachPair, same_pair, CapsAlike, PairsAlike, ArePositive}
+use Rattle.link_simulation.proofs.Common.{complete_at_once, enqueue, rebalance, limited_by, call_limit_link}
+use Rattle.link_simulation.proofs.Common.{Caps, Message, OneForEachPair, CapsAlike, PairsAlike, ArePositive}
 use Rattle.link_simulation.proofs.Common.{Drains, IsSound, Ticks, no_tick, one_tick, tick_faults, MomentTooLate}
 use Rattle.link_simulation.proofs.Common.{peer_sym, each_filtered, by_bool}
 use Rattle.link_simulation.specs.Simulation.Messages.{with_cap, with_link}
@@ -72,13 +72,11 @@ module _ {P : Type 0} (cmp : P → P → Ordering) (order : IsTotalOrder cmp) wh
   ready_may_start : (t : ℕ) (w : World P) (m : Message P) → least_pair cmp (ready cmp t w) ≡ Some m
       → may_start cmp t w m ≡ true
   ready_may_start t w m e =
-      (found_in cmp order (λ (n : Message P). ⊤ × (may_start cmp t w n ≡ true)) (same_pair cmp m) m (ready cmp t w)
-      (each_filtered (λ (n : Message P). ⊤) (may_start cmp t w) (fronts cmp w.waiting)
-      (each_of (λ (n : Message P). ⊤) (λ n. tt) (fronts cmp w.waiting))) (least_is cmp order m (ready cmp t w) e).0).1
+      (found_in cmp order _ _ m _ (each_filtered _ _ _ (each_of (λ (n : Message P). ⊤) (λ n. tt)
+      (fronts cmp w.waiting))) (least_is cmp order m _ e).0).1
 
   wake_fit : (t : ℕ) (w : World P) → IsFit w → EndsWith IsFit (wake cmp t w)
-  wake_fit t w fit =
-      wake_keeps cmp order IsFit t (λ v m e k. turn_fit t v m (ready_may_start t v m e) k) (length w.waiting) w fit
+  wake_fit t w fit = wake_keeps cmp order IsFit t (λ v m e k. turn_fit t v m (ready_may_start t v m e) k) _ w fit
 
   pub instant_fit : (w : World P) → IsFit w → EndsWith IsFit (instant cmp w)
   instant_fit w fit = grind (arith, ends_and_then, settle_fit, wake_fit)
@@ -99,17 +97,15 @@ module _ {P : Type 0} (cmp : P → P → Ordering) (order : IsTotalOrder cmp) wh
 
   enqueue_fit : (t : ℕ) (w : World P) (m : Message P) → IsFit w → EndsWith IsFit (enqueue cmp t w m)
   enqueue_fit t w m fit =
-      ends_cond IsFit w.limited _ _
-      (ends_and_then IsFit IsFit (start_next cmp t (queued cmp order w m) (first_waiting cmp (queued cmp order w m) m))
-      (settle cmp t) (next_fit t (queued cmp order w m) (first_waiting cmp (queued cmp order w m) m)
-      (record { positive = fit.positive; one_each = fit.one_each })) (λ v k. settle_fit t v k))
-      (ends_cond IsFit (m.should_deliver && nat_lt last_moment (t + m.latency)) (meets MomentTooLate) _ tt
+      ends_cond IsFit w.limited _ _ (ends_and_then IsFit IsFit (start_next cmp t (queued cmp order w m)
+      (first_waiting cmp (queued cmp order w m) m)) _ (next_fit t (queued cmp order w m)
+      (first_waiting cmp (queued cmp order w m) m) (record { positive = fit.positive; one_each = fit.one_each }))
+      (λ v k. settle_fit t v k)) (ends_cond IsFit (m.should_deliver && nat_lt last_moment _) _ _ tt
       (record { positive = fit.positive; one_each = fit.one_each }))
 
   act_fit : (call : Call P) (w : World P) → IsFit w → EndsWith IsFit (act cmp w call)
-  act_fit (call_limit t peer egress ingress) w fit = rebalance_fit t w (limited_by cmp w.caps peer egress ingress) fit
-  act_fit (call_limit_link t origin recipient cap) w fit =
-      rebalance_fit t w (linked_by cmp w.caps origin recipient cap) fit
+  act_fit (call_limit t peer egress ingress) w fit = rebalance_fit t w _ fit
+  act_fit (call_limit_link t origin recipient cap) w fit = rebalance_fit t w _ fit
   act_fit (call_enqueue t m) w fit = enqueue_fit t w m fit
   act_fit (call_enqueue_all t ms) w fit = each_ends cmp IsFit t (enqueue_fit t) ms w fit
   act_fit (call_advance t) w fit = fit
@@ -168,9 +164,8 @@ module _ {P : Type 0} (cmp : P → P → Ordering) (order : IsTotalOrder cmp) wh
       by_limited false e = grind (arith, ends_cond)
 
   act_empty : (call : Call P) (w : World P) → IsEmptyAtFirst w → EndsWith IsEmptyAtFirst (act cmp w call)
-  act_empty (call_limit t peer egress ingress) w h = rebalance_empty t w (limited_by cmp w.caps peer egress ingress)
-  act_empty (call_limit_link t origin recipient cap) w h =
-      rebalance_empty t w (linked_by cmp w.caps origin recipient cap)
+  act_empty (call_limit t peer egress ingress) w h = rebalance_empty t w _
+  act_empty (call_limit_link t origin recipient cap) w h = rebalance_empty t w _
   act_empty (call_enqueue t m) w h = enqueue_empty t w m h
   act_empty (call_enqueue_all t ms) w h = each_ends cmp IsEmptyAtFirst t (enqueue_empty t) ms w h
   act_empty (call_advance t) w h = h
@@ -193,9 +188,7 @@ module _ {P : Type 0} (cmp : P → P → Ordering) (order : IsTotalOrder cmp) wh
       → (p q r s : P) → same_peer cmp p q ≡ true → same_peer cmp r s ≡ true
       → raised cmp last m at p r ≡ raised cmp last m at q s
   raised_peerwise last m at h p q r s e f =
-      by_tests (same_peer cmp m.origin p) (same_peer cmp m.origin q) (same_peer cmp m.recipient r)
-      (same_peer cmp m.recipient s) (last p r) (last q s) (peer_alike m.origin p q e)
-      (peer_alike m.recipient r s f) (h p q r s e f)
+      by_tests _ _ _ _ (last p r) (last q s) (peer_alike m.origin p q e) (peer_alike m.recipient r s f) (h p q r s e f)
     where
       by_tests : (a b c d : Bool) (x y : Option ℕ) → a ≡ b → c ≡ d → x ≡ y
           → cond (a && c) (Some (later_of x at)) x ≡ cond (b && d) (Some (later_of y at)) y
@@ -222,16 +215,12 @@ module _ {P : Type 0} (cmp : P → P → Ordering) (order : IsTotalOrder cmp) wh
   settle_peerwise t w h = search (settle_keeps, complete_peerwise)
 
   turn_peerwise : (t : ℕ) (w : World P) (m : Message P) → IsPeerwise w → EndsWith (IsPeerwise) (turn cmp t w m)
-  turn_peerwise t w m h =
-      ends_and_then (IsPeerwise) (IsPeerwise) (start cmp w m) (settle cmp t) (start_peerwise w m h)
-      (λ v k. settle_peerwise t v k)
+  turn_peerwise t w m h = ends_and_then _ _ _ _ (start_peerwise w m h) (λ v k. settle_peerwise t v k)
 
   instant_peerwise : (w : World P) → IsPeerwise w → EndsWith (IsPeerwise) (instant cmp w)
   instant_peerwise w h =
-      ends_and_then (IsPeerwise) (IsPeerwise) (settle cmp w.moment w) (λ v. wake cmp v.moment v)
-      (settle_peerwise w.moment w h)
-      (λ v k. wake_keeps cmp order (IsPeerwise) v.moment (λ u m e j. turn_peerwise v.moment u m j) (length v.waiting) v
-      k)
+      ends_and_then _ _ _ _ (settle_peerwise w.moment w h) (λ v k. wake_keeps cmp order _ v.moment
+      (λ u m e j. turn_peerwise v.moment u m j) _ v k)
 
   drains_peerwise : (w v : World P) → Drains cmp w v → IsPeerwise w → IsPeerwise v
   drains_peerwise w v d h = subst (IsPeerwise) (sym d.world) (record { caps = h.caps; last_arrival = h.last_arrival })
@@ -247,8 +236,7 @@ module _ {P : Type 0} (cmp : P → P → Ordering) (order : IsTotalOrder cmp) wh
   cap_peerwise : (caps : P → Option ℕ) (peer : P) (cap : Option ℕ)
       → ((p q : P) → same_peer cmp p q ≡ true → caps p ≡ caps q) → (p q : P) → same_peer cmp p q ≡ true
       → with_cap cmp caps peer cap p ≡ with_cap cmp caps peer cap q
-  cap_peerwise caps peer cap h p q e =
-      by_tests (same_peer cmp peer p) (same_peer cmp peer q) (caps p) (caps q) (peer_alike peer p q e) (h p q e)
+  cap_peerwise caps peer cap h p q e = by_tests _ _ (caps p) (caps q) (peer_alike peer p q e) (h p q e)
     where
       by_tests : (a b : Bool) (x y : Option ℕ) → a ≡ b → x ≡ y → cond a cap x ≡ cond b cap y
       by_tests a b x y e f = rw (e, f) refl
@@ -267,12 +255,11 @@ module _ {P : Type 0} (cmp : P → P → Ordering) (order : IsTotalOrder cmp) wh
   enqueue_peerwise : (t : ℕ) (w : World P) (m : Message P) → IsPeerwise w → EndsWith IsPeerwise (enqueue cmp t w m)
   enqueue_peerwise t w m h =
       let at : ℕ = if m.should_deliver then later_of (w.last_arrival m.origin m.recipient) (t + m.latency) else t in
-      ends_cond (IsPeerwise) w.limited _ _ (ends_and_then (IsPeerwise) (IsPeerwise)
-      (start_next cmp t (queued cmp order w m) (first_waiting cmp (queued cmp order w m) m)) (settle cmp t)
-      (next_peerwise t (queued cmp order w m) (first_waiting cmp (queued cmp order w m) m)
-      (record { caps = h.caps; last_arrival = h.last_arrival })) (λ v k. settle_peerwise t v k))
-      (ends_cond (IsPeerwise) (m.should_deliver && nat_lt last_moment (t + m.latency)) (meets MomentTooLate) _ tt
-      (landed_peerwise w w.sending m at h))
+      ends_cond _ w.limited _ _ (ends_and_then _ (IsPeerwise) (start_next cmp t (queued cmp order w m)
+      (first_waiting cmp (queued cmp order w m) m)) (settle cmp t) (next_peerwise t (queued cmp order w m)
+      (first_waiting cmp (queued cmp order w m) m) (record { caps = h.caps; last_arrival = h.last_arrival }))
+      (λ v k. settle_peerwise t v k)) (ends_cond (IsPeerwise) (m.should_deliver && nat_lt last_moment _)
+      (meets MomentTooLate) _ tt (landed_peerwise w w.sending m at h))
 
   act_peerwise : (call : Call P) (w : World P) → IsPeerwise w → EndsWith (IsPeerwise) (act cmp w call)
   act_peerwise (call_limit t peer egress ingress) w h = grind (arith, rebalance_peerwise, limited_by, cap_peerwise)
