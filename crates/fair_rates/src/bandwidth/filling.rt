@@ -29,6 +29,12 @@ use std::cmp::Reverse;
 use std::collections::BinaryHeap;
 use std::mem;
 
+/// Room for so many users of a side is kept. To fill more takes longer than to get room for them.
+const FEW_USERS: usize = 64;
+
+/// So many lists of users are kept.
+const MANY_LISTS: usize = 1024;
+
 /// Lists that filling needs, kept from one filling to the next. What they hold says nothing.
 pub struct Room {
     opens: Vec<Reverse<OpenSide>>,
@@ -89,10 +95,10 @@ impl Room {
     }
 }
 
-/// The room of a list of users is kept, if there is memory to note it.
+/// The room of a list of users is kept, unless it is large or many are, or there is no memory to note it.
 #[inline(always)]
 fn keep_list(lists: &mut Vec<Vec<usize>>, list: Vec<usize>) {
-    if lists.reserve(1).is_ok() {
+    if list.capacity() <= FEW_USERS && lists.len() < MANY_LISTS && lists.reserve(1).is_ok() {
         lists.push_reserved(list);
     }
 }
