@@ -183,11 +183,12 @@ AreWords [] = Unit {0}
 AreWords (w ∷ ws) = IsWord w × AreWords ws
 
 -- words that are joined by spaces are the parts of the line
-parts_of-join : (w : List ℕ) (ws : List (List ℕ)) → AreWords (w ∷ ws) → parts_of (join_with_byte 32 (w ∷ ws)) ≡ w ∷ ws
-parts_of-join w [] are = slice_split_none (λ b. eqb b 32) w (no_space w are.0)
-parts_of-join w (v ∷ ws) are =
+parts_of-join : (ws : List (List ℕ)) → AreWords ws → 0 < length ws → parts_of (join_with_byte 32 ws) ≡ ws
+parts_of-join [] are some = absurd (omega arith)
+parts_of-join (w ∷ []) are some = slice_split_none (λ b. eqb b 32) w (no_space w are.0)
+parts_of-join (w ∷ v ∷ ws) are some =
     slice_split_at (λ b. eqb b 32) w 32 (join_with_byte 32 (v ∷ ws)) (no_space w are.0) (eq-eqb 32 32 refl)
-    ∙ ap (λ parts. w ∷ parts) (parts_of-join v ws are.1)
+    ∙ ap (λ parts. w ∷ parts) (parts_of-join (v ∷ ws) are.1 (omega arith))
 
 -- a name and the words behind its space are the parts of the line
 pub named_parts : (name line : List ℕ) (rest : List (List ℕ)) → IsWord name → rest ≡ parts_of line
@@ -309,37 +310,10 @@ takes_no_text before after left word is no_text =
           (has_words command range) (sym is ∙ said)));
     }
 
--- the parts of the line of a call are its words
-parts_of-call : (call : Call ℕ ℕ) → IsCallOfScriptInRange call
-    → parts_of (join_with_byte 32 (call_words call)) ≡ call_words call
-parts_of-call (calls.Limit now peer egress ingress) range =
-    parts_of-join _ _ (AreWords-call (calls.Limit now peer egress ingress) range)
-parts_of-call (calls.LimitLink now origin recipient cap) range =
-    parts_of-join _ _ (AreWords-call (calls.LimitLink now origin recipient cap) range)
-parts_of-call (calls.Enqueue now origin recipient channel length latency should_deliver) range =
-    parts_of-join _ _ (AreWords-call (calls.Enqueue now origin recipient channel length latency should_deliver) range)
-parts_of-call (calls.EnqueueAll now messages) range = absurd range
-parts_of-call (calls.Advance now) range = parts_of-join _ _ (AreWords-call (calls.Advance now) range)
-parts_of-call calls.Next range = parts_of-join _ _ (AreWords-call calls.Next range)
-
 -- the parts of the line of a command are its words
 parts_of-line_of : (command : Command) → IsCommandInRange command → parts_of (line_of command) ≡ command_words command
-parts_of-line_of (commands.Flow f) range = parts_of-join _ _ (AreWords-command (commands.Flow f) range)
-parts_of-line_of (commands.Egress peer cap) range =
-    parts_of-join _ _ (AreWords-command (commands.Egress peer cap) range)
-parts_of-line_of (commands.Ingress peer cap) range =
-    parts_of-join _ _ (AreWords-command (commands.Ingress peer cap) range)
-parts_of-line_of (commands.Link origin recipient cap) range =
-    parts_of-join _ _ (AreWords-command (commands.Link origin recipient cap) range)
-parts_of-line_of commands.Rates range = parts_of-join _ _ (AreWords-command commands.Rates range)
-parts_of-line_of (commands.Network (lines.Hop flow link)) range =
-    parts_of-join _ _ (AreWords-command (commands.Network (lines.Hop flow link)) range)
-parts_of-line_of (commands.Network (lines.Cap link cap)) range =
-    parts_of-join _ _ (AreWords-command (commands.Network (lines.Cap link cap)) range)
-parts_of-line_of (commands.Network (lines.Weight flow weight)) range =
-    parts_of-join _ _ (AreWords-command (commands.Network (lines.Weight flow weight)) range)
-parts_of-line_of commands.Routes range = parts_of-join _ _ (AreWords-command commands.Routes range)
-parts_of-line_of (commands.Schedule call) range = parts_of-call call range
+parts_of-line_of command range =
+    parts_of-join (command_words command) (AreWords-command command range) (has_words command range)
 
 -- ---- what a line says
 

@@ -85,9 +85,8 @@ pub fn run<R: Read, W: Write>(alloc: Global, input: &mut R, output: &mut W) -> O
     run_keeping_line(alloc, input, output, &mut line)
 }
 
-/// Does what `run` does, and leaves in `line` the line that was read last, without its end byte, in
-/// the place of what it held. Where the outcome is `BadLine` that is the bad one, or its first 257
-/// bytes.
+/// Does what `run` does. Where the outcome is `BadLine`, the bad line is left in `line`, without its
+/// end byte, or its first 257 bytes. Else what `line` holds is of no meaning.
 pub fn run_keeping_line<R: Read, W: Write>(
     alloc: Global,
     input: &mut R,
