@@ -203,61 +203,36 @@ IsWord-small n small = IsWord-number n (omega (arith, small))
 IsWord-small_cap : (cap : Option ℕ) → IsSmallCapInRange cap → IsWord (cap_word cap)
 IsWord-small_cap cap range = IsWord-cap cap (wider cap range)
 
+-- one and more
+before : {A B : Type 0} → A → B → A × B
+before one more = (one, more)
+
 -- what calls are written with is words
 AreWords-call : (call : Call ℕ ℕ) → IsCallOfScriptInRange call → AreWords (call_words call)
-AreWords-call (calls.Limit now peer egress ingress) range = (
-  refl,
-  (
-    IsWord-small now range.0,
-    (IsWord-small peer range.1, (IsWord-small_cap egress range.2, (IsWord-small_cap ingress range.3, tt))),
-  ),
-)
-AreWords-call (calls.LimitLink now origin recipient cap) range = (
-  refl,
-  (
-    IsWord-small now range.0,
-    (IsWord-small origin range.1, (IsWord-small recipient range.2, (IsWord-small_cap cap range.3, tt))),
-  ),
-)
-AreWords-call (calls.Enqueue now origin recipient channel length latency should_deliver) range = (
-  refl,
-  (
-    IsWord-small now range.0,
-    (
-      IsWord-small origin range.1,
-      (
-        IsWord-small recipient range.2,
-        (
-          IsWord-small channel range.3,
-          (
-            IsWord-number length (omega (arith, range.4)),
-            (IsWord-small latency range.5, (IsWord-flag should_deliver, tt)),
-          ),
-        ),
-      ),
-    ),
-  ),
-)
+AreWords-call (calls.Limit now peer egress ingress) range =
+    before refl (before (IsWord-small now range.0) (before (IsWord-small peer range.1)
+    (before (IsWord-small_cap egress range.2) (before (IsWord-small_cap ingress range.3) tt))))
+AreWords-call (calls.LimitLink now origin recipient cap) range =
+    before refl (before (IsWord-small now range.0) (before (IsWord-small origin range.1)
+    (before (IsWord-small recipient range.2) (before (IsWord-small_cap cap range.3) tt))))
+AreWords-call (calls.Enqueue now origin recipient channel length latency should_deliver) range =
+    before refl (before (IsWord-small now range.0) (before (IsWord-small origin range.1)
+    (before (IsWord-small recipient range.2) (before (IsWord-small channel range.3)
+    (before (IsWord-number length (omega (arith, range.4))) (before (IsWord-small latency range.5)
+    (before (IsWord-flag should_deliver) tt)))))))
 AreWords-call (calls.EnqueueAll now messages) range = absurd range
-AreWords-call (calls.Advance now) range = (refl, (IsWord-small now range, tt))
-AreWords-call calls.Next range = (refl, tt)
+AreWords-call (calls.Advance now) range = before refl (before (IsWord-small now range) tt)
+AreWords-call calls.Next range = before refl tt
 
 -- what commands are written with is words
 AreWords-command : (command : Command) → IsCommandInRange command → AreWords (command_words command)
-AreWords-command (commands.Flow f) range = (
-  refl,
-  (
-    IsWord-number f.id (omega (arith, range.0)),
-    (
-      IsWord-number f.origin (omega (arith, range.1)),
-      (IsWord-number f.recipient (omega (arith, range.2)), (IsWord-flag f.delivered, tt)),
-    ),
-  ),
-)
+AreWords-command (commands.Flow f) range =
+    before refl (before (IsWord-small f.id range.0) (before (IsWord-small f.origin range.1)
+    (before (IsWord-small f.recipient range.2) (before (IsWord-flag f.delivered) tt))))
 AreWords-command (commands.Egress peer cap) range =
-    (refl, (IsWord-number peer (omega (arith, range.0)), (IsWord-cap cap range.1, tt)))
+    before refl (before (IsWord-small peer range.0) (before (IsWord-cap cap range.1) tt))
 AreWords-command (commands.Ingress peer cap) range =
-    (refl, (IsWord-number peer (omega (arith, range.0)), (IsWord-cap cap range.1, tt)))
+    before refl (before (IsWord-small peer range.0) (before (IsWord-cap cap range.1) tt))
 AreWords-command (commands.Link origin recipient cap) range =
     (refl, (IsWord-small origin range.0, (IsWord-small recipient range.1, (IsWord-cap cap range.2, tt))))
 AreWords-command commands.Rates range = (refl, tt)
